@@ -1,0 +1,72 @@
+-- The library and the sink in memory: what each call of theirs does.
+use Rattle.std.specs.Prelude.{◌≡◌, ◌⊎◌, ℕ, ◌+◌, ◌-◌, ◌≤◌, List, [], ◌∷◌, ◌++◌, length, take, min, Bool, ◌||◌, ◌==◌, Option, Some, None, is_some, unwrap_or, nat_lt, if◌then◌else◌, Result, Ok, Err, Vec, IsOkAnd, MatchBool}
+use Rattle.std.specs.List.{list_any}
+use Rattle.std.specs.Option.{option_map_or}
+use Rattle.std.specs.declared.alloc.Global.{Global}
+use Rattle.cop_base.specs.declared.library.FetchFault.{FetchFault}
+use Rattle.cop_base.specs.declared.library.FetchFault.TheVariants as fault
+use Rattle.cop_base.specs.Outside.{Files, file_in}
+
+-- one more, up to the greatest value of a u64
+abbrev pub counted : ℕ → ℕ
+counted n = min (n + 1) 18446744073709551615
+
+-- ---- the library
+
+pub record FilesInMemory : Type 0 where
+  pub files : Files
+  pub failing : List ℕ
+  pub calls : ℕ
+  pub faults : ℕ
+  pub misses : ℕ
+
+-- whether the next call is one of those that fail
+abbrev pub fetch_fails : FilesInMemory → Bool
+fetch_fails l = list_any (λ k. k == counted l.calls) l.failing
+
+-- what a call that does not fail answers, by the bytes of the file
+abbrev pub answers : Option (List ℕ) → ℕ → Result (Vec ℕ Global) FetchFault → Type 0
+answers None limit r = r ≡ Err fault.Missing
+answers (Some bytes) limit r = MatchBool (nat_lt limit (length bytes)) (r ≡ Err fault.TooLarge) ((r ≡ Err fault.NoMemory) ⊎ IsOkAnd r (λ v. v.items ≡ bytes))
+
+abbrev pub IsFetched : FilesInMemory → List ℕ → ℕ → Result (Vec ℕ Global) FetchFault → Type 0
+IsFetched l name limit r = MatchBool (fetch_fails l) (r ≡ Err fault.Failed) (answers (file_in l.files name) limit r)
+
+abbrev pub after_fetch : FilesInMemory → List ℕ → FilesInMemory
+after_fetch l name = record l {
+  calls = counted l.calls;
+  faults = if fetch_fails l then counted l.faults else l.faults;
+  misses = if fetch_fails l || is_some (file_in l.files name) then l.misses else counted l.misses;
+}
+
+-- ---- the sink
+
+-- a pair of `failing` is the number of a call and the number of bytes that it takes
+pub record BytesInMemory : Type 0 where
+  pub written : List ℕ
+  pub capacity : ℕ
+  pub failing : List (ℕ × ℕ)
+  pub calls : ℕ
+  pub faults : ℕ
+
+-- the bytes that the call of this number takes, if it is to fail; the first pair counts
+abbrev pub failure_in : List (ℕ × ℕ) → ℕ → Option ℕ
+failure_in [] call = None
+failure_in (f ∷ fs) call = if f.0 == call then Some f.1 else failure_in fs call
+
+abbrev pub put_failure : BytesInMemory → Option ℕ
+put_failure s = failure_in s.failing (counted s.calls)
+
+-- how many of so many bytes the next call takes
+abbrev pub taken : BytesInMemory → ℕ → ℕ
+taken s n = min (min n (s.capacity - length s.written)) (unwrap_or (put_failure s) n)
+
+abbrev pub put_fails : BytesInMemory → ℕ → Bool
+put_fails s n = is_some (put_failure s) || nat_lt (s.capacity - length s.written) n
+
+abbrev pub after_put : BytesInMemory → List ℕ → BytesInMemory
+after_put s bytes = record s {
+  written = s.written ++ take (taken s (length bytes)) bytes;
+  calls = counted s.calls;
+  faults = if put_fails s (length bytes) then counted s.faults else s.faults;
+}

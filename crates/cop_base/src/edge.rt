@@ -1,0 +1,176 @@
+//! The trusted edge: files of the runtime, and a writer. Nothing is told of what a file holds or a terminal shows, so
+//! over these two only counts can be relied on.
+
+ghost use Rattle.std.specs.Prelude.{◌≡◌, ◌≢◌, ◌+◌, ◌<◌, ◌≤◌, None, IsTrue, IfOk, IfSome, vec_len};
+ghost use Rattle.std.specs.Bool.{OnFalse};
+ghost use Rattle.cop_base.specs.Memory.{counted};
+
+use crate::library::{FetchFault, Library, count_up};
+use crate::sink::{PutFault, Sink};
+use crate::text::Text;
+use std::alloc::{AllocError, Global};
+use std::io::{ErrorKind, Read, Write};
+use std::rt::Files;
+use std::{fs, io};
+
+/// Files by their paths from the current folder.
+#[derive(Drop)]
+pub struct FileLibrary<'a, R: Files> {
+    alloc: Global,
+    runtime: &'a R,
+    faults: u64,
+    misses: u64,
+}
+
+impl<'a, R: Files> FileLibrary<'a, R> {
+    pub fn new(alloc: Global, runtime: &'a R) -> FileLibrary<'a, R>
+        ensures faults { result.faults ≡ 0 }
+        ensures misses { result.misses ≡ 0 }
+    {
+        FileLibrary {
+            alloc,
+            runtime,
+            faults: 0,
+            misses: 0,
+        }
+    }
+
+    // There is no such file.
+    fn miss(&mut self) -> FetchFault
+        ensures fault { result ≡ FetchFault.Missing }
+        ensures misses { self.new.misses ≡ counted self.old.misses }
+        ensures more { self.old.misses ≤ self.new.misses }
+        ensures faults { self.new.faults ≡ self.old.faults }
+    {
+        self.misses = count_up(self.misses);
+        FetchFault::Missing
+    }
+
+    // An error other than that there is no such file.
+    fn fail(&mut self, error: &io::Error) -> FetchFault
+        ensures no_miss { result ≢ FetchFault.Missing }
+        ensures no_limit { result ≢ FetchFault.TooLarge }
+        ensures failed { result ≡ FetchFault.Failed → self.new.faults ≡ counted self.old.faults }
+        ensures faults { self.old.faults ≤ self.new.faults }
+        ensures misses { self.new.misses ≡ self.old.misses }
+    {
+        if error.kind() == ErrorKind::OutOfMemory {
+            return FetchFault::NoMemory;
+        }
+        self.faults = count_up(self.faults);
+        FetchFault::Failed
+    }
+
+    fn fail_to_open(&mut self, error: &io::Error) -> FetchFault
+        ensures no_limit { result ≢ FetchFault.TooLarge }
+        ensures missing { result ≡ FetchFault.Missing → self.new.misses ≡ counted self.old.misses }
+        ensures failed { result ≡ FetchFault.Failed → self.new.faults ≡ counted self.old.faults }
+        ensures faults { self.old.faults ≤ self.new.faults }
+        ensures misses { self.old.misses ≤ self.new.misses }
+    {
+        if error.kind() == ErrorKind::NotFound {
+            return self.miss();
+        }
+        self.fail(error)
+    }
+}
+
+// How many bytes one read asks for.
+const PIECE: usize = 8192;
+
+// Reads the file to its end, or until more than `limit` bytes are read. Each turn takes a byte or ends.
+fn read_whole<F: Read>(alloc: Global, file: &mut F, limit: u64) -> io::Result<Option<Vec<u8>>>
+    ensures within { IfOk result (λ read. IfSome read (λ bytes. vec_len bytes ≤ limit)) }
+    ensures limited { result ≡ Ok None → limit ≢ 18446744073709551615 }
+{
+    let mut bytes = Vec::new(alloc);
+    let mut piece = [0u8; PIECE];
+    for _ in 0..u64::MAX {
+        let count = file.read(&mut piece)?;
+        if count == 0 {
+            break;
+        }
+        if exceeds(bytes.len() as u64, count as u64, limit) {
+            return Ok(None);
+        }
+        bytes.extend_from_slice(&piece[..count])?;
+    }
+    Ok(Some(bytes))
+}
+
+// Whether so many more bytes are more than the limit, which at its greatest value allows any number.
+fn exceeds(length: u64, more: u64, limit: u64) -> bool
+    requires within { length ≤ limit }
+    requires fits { length + more ≤ 18446744073709551615 }
+    ensures more { IsTrue result → (limit < length + more) × (limit ≢ 18446744073709551615) }
+    ensures within { OnFalse result (length + more ≤ limit) }
+{
+    limit - length < more
+}
+
+impl<'a, R: Files> Library for FileLibrary<'a, R> {
+    ghost holds = { λ _. None };
+
+    ghost faults = { λ l. l.faults };
+
+    ghost misses = { λ l. l.misses };
+
+    fn fetch(&mut self, name: &Text, limit: u64) -> Result<Vec<u8>, FetchFault> {
+        let Ok(path) = str::from_utf8(name.bytes()) else {
+            return Err(self.miss());
+        };
+        let mut file = match fs::open(self.runtime, path) {
+            Ok(file) => file,
+            Err(e) => return Err(self.fail_to_open(&e)),
+        };
+        match read_whole(self.alloc, &mut file, limit) {
+            Ok(Some(bytes)) => Ok(bytes),
+            Ok(None) => Err(FetchFault::TooLarge),
+            Err(e) => Err(self.fail(&e)),
+        }
+    }
+}
+
+/// A sink over a writer.
+#[derive(Drop)]
+pub struct WriteSink<W: Write + Drop> {
+    writer: W,
+    faults: u64,
+}
+
+impl<W: Write + Drop> WriteSink<W> {
+    pub fn new(writer: W) -> WriteSink<W>
+        ensures { result.faults ≡ 0 }
+    {
+        WriteSink { writer, faults: 0 }
+    }
+}
+
+// Whether all bytes were written. Each turn writes a byte or ends.
+fn write_whole<W: Write>(writer: &mut W, bytes: &[u8]) -> bool {
+    let mut rest = bytes;
+    for _ in 0..bytes.len() {
+        if rest.is_empty() {
+            break;
+        }
+        match writer.write(rest) {
+            Ok(count) if count > 0 => rest = &rest[count..],
+            _ => return false,
+        }
+    }
+    rest.is_empty()
+}
+
+impl<W: Write + Drop> Sink for WriteSink<W> {
+    ghost written = { λ _. None };
+
+    ghost faults = { λ s. s.faults };
+
+    fn put(&mut self, bytes: &[u8]) -> Result<(), PutFault> {
+        if write_whole(&mut self.writer, bytes) {
+            return Ok(());
+        }
+        self.faults = count_up(self.faults);
+        Err(PutFault::Failed)
+    }
+}

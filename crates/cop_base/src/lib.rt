@@ -1,0 +1,47 @@
+//! What every crate of the prover uses of the outside: where files are read and bytes are written, byte texts, and
+//! typed numbers.
+#![tactic(auto)]
+
+use std::alloc::{AllocError, AllocFailed};
+
+pub mod edge;
+pub mod library;
+pub mod sink;
+pub mod text;
+
+pub use edge::{FileLibrary, WriteSink};
+pub use library::{FetchFault, Library, MemLibrary};
+pub use sink::{MemSink, PutFault, Sink};
+pub use text::Text;
+
+/// There is no memory left.
+#[derive(Clone, Copy, Debug, PartialEq, Eq)]
+pub struct NoMemory;
+
+impl From<AllocError> for NoMemory {
+    ghost from_gives = { λ _ r. Unit {0} };
+
+    fn from(_error: AllocError) -> NoMemory {
+        NoMemory
+    }
+}
+
+impl<T: Drop> From<AllocFailed<T>> for NoMemory {
+    ghost from_gives = { λ _ r. Unit {0} };
+
+    fn from(_error: AllocFailed<T>) -> NoMemory {
+        NoMemory
+    }
+}
+
+/// The place of a symbol in the list of a problem's symbols, from 0.
+#[derive(Clone, Copy, Debug, PartialEq, Eq, PartialOrd, Ord, Hash)]
+pub struct SymbolId(pub u32);
+
+/// The number of a node of a formula in preorder, from 0. Terms are not counted.
+#[derive(Clone, Copy, Debug, PartialEq, Eq, PartialOrd, Ord, Hash)]
+pub struct PosId(pub u32);
+
+/// The place of a clause in a matrix, from 0.
+#[derive(Clone, Copy, Debug, PartialEq, Eq, PartialOrd, Ord, Hash)]
+pub struct ClauseId(pub u32);
