@@ -1,0 +1,4 @@
+pub mod Products
+pub mod Seeking
+pub mod SymbolEq
+pub mod Distinct

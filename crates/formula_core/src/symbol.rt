@@ -1,0 +1,112 @@
+//! The symbols of a problem.
+
+ghost use Rattle.std.specs.Prelude.{◌≡◌, ◌≢◌, ◌<◌, ◌≤◌, ◌↔◌, ◌++◌, ◌∷◌, [], List, Some, length, map, slice_get, Contains, IsTrue, IsNone, IfSome, IfOk, OnOk, OnErr};
+ghost use Rattle.calculus.specs.Problems.{are_distinct};
+ghost use Rattle.formula_core.specs.SymbolView.{the_symbol};
+
+pub use calculus::symbol::SymbolClass;
+use cop_base::{NoMemory, SymbolId, Text};
+use indexmap::IndexSet;
+use std::alloc::Global;
+use std::marker::Model;
+
+#[derive(Debug, PartialEq, Eq, Hash, Drop)]
+pub struct Symbol {
+    pub name: Text,
+    pub class: SymbolClass,
+    pub arity: u32,
+}
+
+/// Why a symbol is not added.
+#[derive(Clone, Copy, Debug, PartialEq, Eq)]
+pub enum AddFault {
+    Full,
+    NoMemory,
+}
+
+/// Distinct symbols in the order in which they were first added.
+#[derive(Drop)]
+pub struct Symbols {
+    set: IndexSet<Symbol>,
+}
+
+impl Model for Symbols {
+    ghost use Rattle.std.specs.Prelude.{List, ◌≤◌, IsTrue, length, map};
+    ghost use Rattle.calculus.specs.Problems.{are_distinct};
+    ghost use Rattle.calculus.specs.Syntax as tree;
+    ghost use Rattle.formula_core.specs.SymbolView.{the_symbol};
+
+    ghost Value = { List tree.Symbol };
+
+    ghost view = { λ s. map the_symbol s.set.keys };
+
+    ghost invariant = { λ s. (length s.set.keys ≤ 65536) × IsTrue (are_distinct (map the_symbol s.set.keys)) };
+}
+
+impl Symbols {
+    pub const MOST: usize = 65536;
+
+    pub fn new(alloc: Global) -> Symbols
+        ensures { result ≡ [] }
+    {
+        Symbols {
+            set: IndexSet::new(alloc),
+        }
+    }
+
+    pub fn len(&self) -> usize
+        ensures len { result ≡ length self.now }
+        ensures most { result ≤ 65536 }
+        ensures distinct { IsTrue (are_distinct self.now) }
+    {
+        self.set.len()
+    }
+
+    pub fn items(&self) -> &[Symbol]
+        ensures { map the_symbol result.now ≡ self.now }
+    {
+        self.set.as_slice()
+    }
+
+    pub fn get(&self, id: SymbolId) -> &Symbol
+        requires { id.0 < length self.now }
+        ensures { slice_get self.now id.0 ≡ Some (the_symbol result.now) }
+    {
+        &self.set.as_slice()[id.0 as usize]
+    }
+
+    pub fn find(&self, s: &Symbol) -> Option<SymbolId>
+        ensures place { IfSome result (λ id. slice_get self.now id.0 ≡ Some (the_symbol s.now)) }
+        ensures absent { IsNone result ↔ ¬ (Contains self.now (the_symbol s.now)) }
+    {
+        match self.set.get_full(s) {
+            Some((index, _)) => Some(SymbolId(index as u32)),
+            None => None,
+        }
+    }
+
+    /// The place of `s`, which is appended where it is new.
+    #[tactic(auto, using(crate::proofs::SymbolEq::adding))]
+    pub fn add(&mut self, s: Symbol) -> Result<SymbolId, AddFault>
+        ensures place { IfOk result (λ id. slice_get self.new id.0 ≡ Some (the_symbol s)) }
+        ensures known { Contains self.old (the_symbol s) → OnOk result (self.new ≡ self.old) }
+        ensures new { ¬ (Contains self.old (the_symbol s)) → OnOk result (self.new ≡ self.old ++ the_symbol s ∷ []) }
+
+        // `Full` comes exactly where the symbol is new and there is no room for it.
+        ensures full { (result ≡ Err AddFault.Full)
+            ↔ (¬ (Contains self.old (the_symbol s)) × (length self.old ≡ 65536)) }
+        ensures err { OnErr result (self.new ≡ self.old) }
+    {
+        if let Some(id) = self.find(&s) {
+            return Ok(id);
+        }
+        if self.len() == Self::MOST {
+            return Err(AddFault::Full);
+        }
+        let (index, _) = match self.set.insert_full(s) {
+            Ok(added) => added,
+            Err(_) => return Err(AddFault::NoMemory),
+        };
+        Ok(SymbolId(index as u32))
+    }
+}
