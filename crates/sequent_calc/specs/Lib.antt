@@ -1,0 +1,7 @@
+pub mod EntryView
+pub mod NamesView
+pub mod StepView
+pub mod DerivationView
+pub mod LeafView
+pub mod ChildrenView
+pub mod Examples

@@ -1,0 +1,141 @@
+//! The conditions of a step.
+
+ghost use Rattle.std.specs.Prelude.{◌≡◌, ◌&&◌, map};
+ghost use Rattle.calculus.specs.Calculus.{character_is_new, character_occurs, eigen_is_new, eigen_occurs, has_step, home_is, is_known, is_reachable, modal_fits, term_allowed, term_fits};
+ghost use Rattle.logic_rules.specs.MarkView.{the_character};
+ghost use Rattle.sequent_calc.specs.DerivationView.{the_names};
+ghost use Rattle.sequent_calc.specs.EntryView.{the_entry};
+ghost use Rattle.sequent_calc.specs.StepView.{the_modal, the_term_arg};
+
+use crate::entry::Entry;
+use crate::labels::{are_equal, holds_character, is_reached};
+use crate::leaf::{LeafTest, any_leaf, any_leaf_in, eigen_named};
+use crate::names::Names;
+use crate::step::{ModalArg, TermArg};
+use logic_rules::{Kind, Label, Logic, Mark, ModalPart, Problem, Shape};
+
+// Whether the arguments are just those that the kind of formula asks for. A literal without a modal part has no step.
+pub fn arguments_fit(kind: Kind, modal: &ModalArg, term: &TermArg) -> bool
+    ensures { result ≡ (modal_fits kind.modal (the_modal modal.now)
+        && term_fits kind.shape (the_term_arg term.now) && has_step kind.modal kind.shape) }
+{
+    modal_fits(kind.modal, modal) && term_fits(kind.shape, term) && has_step(kind)
+}
+
+fn modal_fits(part: ModalPart, modal: &ModalArg) -> bool
+    ensures { result ≡ modal_fits part (the_modal modal.now) }
+{
+    match (part, modal) {
+        (ModalPart::Plain, ModalArg::None)
+        | (ModalPart::Nu, ModalArg::To(_))
+        | (ModalPart::Pi, ModalArg::New(_)) => true,
+        _ => false,
+    }
+}
+
+fn term_fits(shape: Shape, term: &TermArg) -> bool
+    ensures { result ≡ term_fits shape (the_term_arg term.now) }
+{
+    match (shape, term) {
+        (Shape::Gamma, TermArg::Term(_)) | (Shape::Delta, TermArg::Name(_)) => true,
+        (Shape::Gamma, _) | (Shape::Delta, _) => false,
+        (_, TermArg::None) => true,
+        _ => false,
+    }
+}
+
+fn has_step(kind: Kind) -> bool
+    ensures { result ≡ has_step kind.modal kind.shape }
+{
+    match (kind.modal, kind.shape) {
+        (ModalPart::Plain, Shape::Literal) => false,
+        _ => true,
+    }
+}
+
+// Whether each name of the argument is listed.
+pub fn is_known(names: &Names, term: &TermArg) -> bool
+    ensures { result ≡ is_known (the_names names.now) (the_term_arg term.now) }
+{
+    match term {
+        TermArg::None => true,
+        TermArg::Term(t) => !any_leaf(&LeafTest::IsUnknown(names), t),
+        TermArg::Name(number) => eigen_named(names, *number).is_some(),
+    }
+}
+
+// Whether a nu step of the logic leads to the label that it is given.
+pub fn is_reachable(logic: Logic, from: &Label, modal: &ModalArg) -> bool
+    ensures { result ≡ is_reachable logic from.now (the_modal modal.now) }
+{
+    match modal {
+        ModalArg::To(to) => is_reached(logic, from, to),
+        ModalArg::None | ModalArg::New(_) => true,
+    }
+}
+
+// Whether the character stands in a label of the sequent, or in the home of a name that stands in a formula there.
+fn character_occurs(names: &Names, mark: Mark, sequent: &[Entry]) -> bool
+    ensures { result ≡ character_occurs (the_names names.now) (the_character mark) (map the_entry sequent.now) }
+{
+    for entry in sequent {
+        if holds_character(mark, &entry.label) {
+            return true;
+        }
+        if any_leaf_in(&LeafTest::HasInHome(names, mark), &entry.formula) {
+            return true;
+        }
+    }
+    false
+}
+
+// Whether the eigenvariable stands in a formula of the sequent.
+fn eigen_occurs(number: u32, sequent: &[Entry]) -> bool
+    ensures { result ≡ eigen_occurs number (map the_entry sequent.now) }
+{
+    for entry in sequent {
+        if any_leaf_in(&LeafTest::IsEigen(number), &entry.formula) {
+            return true;
+        }
+    }
+    false
+}
+
+// Whether the character or eigenvariable that the step brings occurs nowhere in the sequent.
+pub fn is_new(names: &Names, sequent: &[Entry], modal: &ModalArg, term: &TermArg) -> bool
+    ensures { result ≡ (character_is_new (the_names names.now) (map the_entry sequent.now) (the_modal modal.now)
+        && eigen_is_new (map the_entry sequent.now) (the_term_arg term.now)) }
+{
+    let character_is_new = match modal {
+        ModalArg::New(number) => !character_occurs(names, Mark::New(*number), sequent),
+        ModalArg::None | ModalArg::To(_) => true,
+    };
+    let eigen_is_new = match term {
+        TermArg::Name(number) => !eigen_occurs(*number, sequent),
+        TermArg::None | TermArg::Term(_) => true,
+    };
+    character_is_new && eigen_is_new
+}
+
+// Whether the home of the eigenvariable is the label of the component.
+pub fn home_is(names: &Names, at: &Label, term: &TermArg) -> bool
+    ensures { result ≡ home_is (the_names names.now) at.now (the_term_arg term.now) }
+{
+    match term {
+        TermArg::Name(number) => match eigen_named(names, *number) {
+            Some(name) => are_equal(&name.1, at),
+            None => false,
+        },
+        TermArg::None | TermArg::Term(_) => true,
+    }
+}
+
+// Whether the term of a gamma step may stand at the label of the component.
+pub fn term_allowed(problem: &Problem, names: &Names, at: &Label, term: &TermArg) -> bool
+    ensures { result ≡ term_allowed problem.now (the_names names.now) at.now (the_term_arg term.now) }
+{
+    match term {
+        TermArg::Term(t) => !any_leaf(&LeafTest::IsForbidden(problem, names, at), t),
+        TermArg::None | TermArg::Name(_) => true,
+    }
+}

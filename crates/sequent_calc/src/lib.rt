@@ -1,0 +1,24 @@
+//! The prefixed sequent calculus of classical, intuitionistic and modal first-order logic, in the uniform notation of
+//! Fitting (Proof Methods for Modal and Intuitionistic Logics) with the prefixes of Wallen (Automated Deduction in
+//! Nonclassical Logics). A derivation starts from the problem's formula, to be shown at the root.
+#![tactic(auto)]
+
+pub mod addition;
+mod atom;
+mod condition;
+pub mod derivation;
+pub mod entry;
+mod labels;
+mod leaf;
+pub mod names;
+pub mod rules;
+pub mod step;
+#[cfg(test)]
+mod tests;
+
+pub use addition::{Addition, addition_of};
+pub use derivation::Derivation;
+pub use entry::{Entry, Sequent};
+pub use names::{EigenList, Home, Names, SpareList};
+pub use rules::{ApplyFault, Children, StepFault, apply};
+pub use step::{ModalArg, Step, StepList, TermArg};

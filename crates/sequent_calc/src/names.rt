@@ -1,0 +1,110 @@
+//! The names of a derivation and where they may stand.
+
+ghost use Rattle.std.specs.Prelude.{◌≡◌, ◌++◌, ◌∷◌, [], map, OnOk, OnErr};
+ghost use Rattle.sequent_calc.specs.NamesView.{the_eigen, the_spare};
+
+use cop_base::NoMemory;
+use logic_rules::Label;
+use std::alloc::Global;
+use std::marker::Model;
+
+/// Where a spare constant lies: in every domain, or in that of one label.
+#[derive(Drop)]
+pub enum Home {
+    Anywhere,
+    At(Label),
+}
+
+/// The eigenvariables of a derivation with their homes, in rising order of numbers.
+#[derive(Drop)]
+pub struct EigenList {
+    items: Vec<(u32, Label)>,
+}
+
+impl Model for EigenList {
+    ghost use Rattle.std.specs.Prelude.{List, map};
+    ghost use Rattle.calculus.specs.Derivations as derivation;
+    ghost use Rattle.sequent_calc.specs.NamesView.{the_eigen};
+
+    ghost Value = { List derivation.EigenName };
+
+    ghost view = { λ a. map the_eigen a.items.items };
+}
+
+impl EigenList {
+    /// The list without names.
+    pub fn new(alloc: Global) -> EigenList
+        ensures { result ≡ [] }
+    {
+        EigenList {
+            items: Vec::new(alloc),
+        }
+    }
+
+    /// Adds an eigenvariable and its home at the end. Want of memory leaves the list as it was.
+    pub fn push(&mut self, item: (u32, Label)) -> Result<(), NoMemory>
+        ensures ok { OnOk result (self.new ≡ self.old ++ the_eigen item ∷ []) }
+        ensures err { OnErr result (self.new ≡ self.old) }
+    {
+        self.items.push(item)?;
+        Ok(())
+    }
+
+    /// The eigenvariables with their homes, in order.
+    pub fn items(&self) -> &[(u32, Label)]
+        ensures { map the_eigen result.now ≡ self.now }
+    {
+        self.items.as_slice()
+    }
+}
+
+/// The spare constants of a derivation with their homes, in rising order of numbers.
+#[derive(Drop)]
+pub struct SpareList {
+    items: Vec<(u32, Home)>,
+}
+
+impl Model for SpareList {
+    ghost use Rattle.std.specs.Prelude.{List, map};
+    ghost use Rattle.calculus.specs.Derivations as derivation;
+    ghost use Rattle.sequent_calc.specs.NamesView.{the_spare};
+
+    ghost Value = { List derivation.SpareName };
+
+    ghost view = { λ a. map the_spare a.items.items };
+}
+
+impl SpareList {
+    /// The list without names.
+    pub fn new(alloc: Global) -> SpareList
+        ensures { result ≡ [] }
+    {
+        SpareList {
+            items: Vec::new(alloc),
+        }
+    }
+
+    /// Adds a spare constant and its home at the end. Want of memory leaves the list as it was.
+    pub fn push(&mut self, item: (u32, Home)) -> Result<(), NoMemory>
+        ensures ok { OnOk result (self.new ≡ self.old ++ the_spare item ∷ []) }
+        ensures err { OnErr result (self.new ≡ self.old) }
+    {
+        self.items.push(item)?;
+        Ok(())
+    }
+
+    /// The spare constants with their homes, in order.
+    pub fn items(&self) -> &[(u32, Home)]
+        ensures { map the_spare result.now ≡ self.now }
+    {
+        self.items.as_slice()
+    }
+}
+
+/// The eigenvariables and spare constants that a derivation may use. Of two names of one sort with the same number the
+/// first counts.
+#[derive(Drop)]
+pub struct Names {
+    pub eigens: EigenList,
+    pub spares: SpareList,
+}

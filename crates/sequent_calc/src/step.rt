@@ -1,0 +1,89 @@
+//! The steps of a derivation.
+
+ghost use Rattle.std.specs.Prelude.{◌≡◌, ◌++◌, ◌∷◌, [], map, OnOk, OnErr};
+ghost use Rattle.sequent_calc.specs.StepView.{the_step};
+
+use cop_base::NoMemory;
+use formula_core::Term;
+use logic_rules::Label;
+use std::alloc::Global;
+use std::marker::Model;
+
+/// What a step with a modal part is given: the label of a nu step, or the number of a pi step's new character.
+#[derive(Drop)]
+pub enum ModalArg {
+    None,
+    To(Label),
+    New(u32),
+}
+
+/// What a step on a quantifier is given: the term of a gamma step, or the number of a delta step's eigenvariable.
+#[derive(Drop)]
+pub enum TermArg {
+    None,
+    Term(Term),
+    Name(u32),
+}
+
+/// A step on the open sequent. Entries have numbers from 1.
+#[derive(Drop)]
+pub enum Step {
+    /// Adds the components of an entry.
+    Use {
+        entry: u32,
+        modal: ModalArg,
+        term: TermArg,
+    },
+    /// Closes the branch by the T entry of an atom and the F entry of the same atom at the same label.
+    Axiom {
+        given: u32,
+        shown: u32,
+    },
+}
+
+/// The steps of a derivation in preorder, the first child before the second.
+#[derive(Drop)]
+pub struct StepList {
+    items: Vec<Step>,
+}
+
+impl Model for StepList {
+    ghost use Rattle.std.specs.Prelude.{List, map};
+    ghost use Rattle.calculus.specs.Derivations as derivation;
+    ghost use Rattle.calculus.specs.Codes.{term_code};
+    ghost use Rattle.std.specs.Coded.{codes};
+    ghost use Rattle.sequent_calc.specs.StepView.{the_step};
+
+    ghost Value = { List derivation.Step };
+
+    ghost coded = { Prim.hlevel (codes, term_code) };
+
+    ghost view = { λ a. map the_step a.items.items };
+}
+
+impl StepList {
+    /// The list without steps.
+    pub fn new(alloc: Global) -> StepList
+        ensures { result ≡ [] }
+    {
+        StepList {
+            items: Vec::new(alloc),
+        }
+    }
+
+    /// Adds a step at the end. Want of memory leaves the list as it was.
+    pub fn push(&mut self, item: Step) -> Result<(), NoMemory>
+        ensures ok { OnOk result (self.new ≡ self.old ++ the_step item ∷ []) }
+        ensures err { OnErr result (self.new ≡ self.old) }
+    {
+        self.items.push(item)?;
+        Ok(())
+    }
+
+    /// The steps in preorder.
+    pub fn items(&self) -> &[Step]
+        ensures { map the_step result.now ≡ self.now }
+    {
+        self.items.as_slice()
+    }
+}

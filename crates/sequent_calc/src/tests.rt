@@ -1,0 +1,349 @@
+//! Derivations that textbooks work out, and steps that break their rules.
+
+ghost use Rattle.std.specs.Prelude.{◌≡◌, ◌∷◌, [], IfOk};
+ghost use Rattle.calculus.specs.Syntax as tree;
+ghost use Rattle.formula_core.specs.FormulaView.{the_formula};
+ghost use Rattle.formula_core.specs.SymbolView.{the_symbol};
+ghost use Rattle.formula_core.specs.TermView.{the_term};
+ghost use Rattle.sequent_calc.specs.Examples.{IsExample, barcan, drinker, p, p_of, predicate, serial, twice_denied};
+
+use crate::derivation::Derivation;
+use crate::entry::{Entry, Sequent};
+use crate::names::{EigenList, Home, Names, SpareList};
+use crate::rules::{ApplyFault, Children, StepFault, apply};
+use crate::step::{ModalArg, Step, StepList, TermArg};
+use cop_base::{NoMemory, SymbolId, Text};
+use formula_core::{AddFault, Formula, Sign, Symbol, SymbolClass, Symbols, Term, Terms};
+use logic_rules::{Domains, Label, Logic, Mark, Problem, Setting};
+use std::alloc::Global;
+use std::test::Fail;
+
+// What becomes of the steps of a derivation, which are numbered from 0.
+#[derive(Clone, Copy, Debug, PartialEq, Eq)]
+enum Seen {
+    Closed,
+    Fault(usize, StepFault),
+    StillOpen,
+    AllClosed(usize),
+}
+
+// A step as a line of text gives it.
+#[derive(Clone, Copy)]
+enum Line<'a> {
+    Use(u32),
+    UseTo(u32, &'a [Mark]),
+    UseNew(u32, u32),
+    UseEigen(u32, u32),
+    UseSpare(u32, u32),
+    UseName(u32, u32),
+    Axiom(u32, u32),
+}
+
+fn predicate_symbol(alloc: Global, arity: u32) -> Result<Symbols, NoMemory>
+    ensures { IfOk result (λ s. s ≡ predicate arity ∷ []) }
+{
+    let name = Text::new(alloc, b"p")?;
+    let class = SymbolClass::Predicate;
+    let mut symbols = Symbols::new(alloc);
+    match symbols.add(Symbol { name, class, arity }) {
+        Ok(_) => Ok(symbols),
+        Err(AddFault::Full | AddFault::NoMemory) => Err(NoMemory),
+    }
+}
+
+fn problem(
+    alloc: Global,
+    logic: Logic,
+    domains: Domains,
+    formula: Formula,
+    arity: u32,
+) -> Result<Problem, NoMemory>
+    requires { IsExample logic domains (the_formula formula) arity }
+{
+    let symbols = predicate_symbol(alloc, arity)?;
+    Ok(Problem::new(Setting::new(logic, domains), formula, symbols))
+}
+
+fn plain(alloc: Global) -> Formula
+    ensures { the_formula result ≡ p }
+{
+    Formula::Atom(SymbolId(0), Terms::new(alloc))
+}
+
+fn applied(alloc: Global, t: Term) -> Result<Formula, NoMemory>
+    ensures { IfOk result (λ f. the_formula f ≡ p_of (the_term t)) }
+{
+    let mut terms = Terms::new(alloc);
+    terms.push(t)?;
+    Ok(Formula::Atom(SymbolId(0), terms))
+}
+
+fn drinker(alloc: Global) -> Result<Formula, NoMemory>
+    ensures { IfOk result (λ f. the_formula f ≡ drinker) }
+{
+    let given = Box::new(alloc, applied(alloc, Term::Var(1))?)?;
+    let shown = Box::new(alloc, applied(alloc, Term::Var(0))?)?;
+    let all = Box::new(alloc, Formula::Imp(given, shown))?;
+    let ex = Box::new(alloc, Formula::All(all))?;
+    Ok(Formula::Ex(ex))
+}
+
+fn serial(alloc: Global) -> Result<Formula, NoMemory>
+    ensures { IfOk result (λ f. the_formula f ≡ serial) }
+{
+    let given = Box::new(alloc, plain(alloc))?;
+    let shown = Box::new(alloc, plain(alloc))?;
+    let given = Box::new(alloc, Formula::Nec(given))?;
+    let shown = Box::new(alloc, Formula::Poss(shown))?;
+    Ok(Formula::Imp(given, shown))
+}
+
+fn twice_denied(alloc: Global) -> Result<Formula, NoMemory>
+    ensures { IfOk result (λ f. the_formula f ≡ twice_denied) }
+{
+    let left = Box::new(alloc, plain(alloc))?;
+    let right = Box::new(alloc, plain(alloc))?;
+    let right = Box::new(alloc, Formula::Not(right))?;
+    let either = Box::new(alloc, Formula::Or(left, right))?;
+    let denied = Box::new(alloc, Formula::Not(either))?;
+    Ok(Formula::Not(denied))
+}
+
+fn barcan(alloc: Global) -> Result<Formula, NoMemory>
+    ensures { IfOk result (λ f. the_formula f ≡ barcan) }
+{
+    let given = Box::new(alloc, applied(alloc, Term::Var(0))?)?;
+    let given = Box::new(alloc, Formula::Nec(given))?;
+    let given = Box::new(alloc, Formula::All(given))?;
+    let shown = Box::new(alloc, applied(alloc, Term::Var(0))?)?;
+    let shown = Box::new(alloc, Formula::All(shown))?;
+    let shown = Box::new(alloc, Formula::Nec(shown))?;
+    Ok(Formula::Imp(given, shown))
+}
+
+fn label(alloc: Global, marks: &[Mark]) -> Result<Label, NoMemory> {
+    let mut label = Label::new(alloc);
+    for mark in marks {
+        label.push(*mark)?;
+    }
+    Ok(label)
+}
+
+fn step(alloc: Global, line: Line) -> Result<Step, NoMemory> {
+    let (entry, modal, term) = match line {
+        Line::Use(entry) => (entry, ModalArg::None, TermArg::None),
+        Line::UseTo(entry, marks) => (entry, ModalArg::To(label(alloc, marks)?), TermArg::None),
+        Line::UseNew(entry, number) => (entry, ModalArg::New(number), TermArg::None),
+        Line::UseEigen(entry, number) => (
+            entry,
+            ModalArg::None,
+            TermArg::Term(Term::Eigen(number)),
+        ),
+        Line::UseSpare(entry, number) => (
+            entry,
+            ModalArg::None,
+            TermArg::Term(Term::Spare(number)),
+        ),
+        Line::UseName(entry, number) => (entry, ModalArg::None, TermArg::Name(number)),
+        Line::Axiom(given, shown) => return Ok(Step::Axiom { given, shown }),
+    };
+    Ok(Step::Use { entry, modal, term })
+}
+
+fn derivation(alloc: Global, names: Names, lines: &[Line]) -> Result<Derivation, NoMemory> {
+    let mut steps = StepList::new(alloc);
+    for line in lines {
+        steps.push(step(alloc, *line)?)?;
+    }
+    Ok(Derivation {
+        limit: 1,
+        names,
+        steps,
+    })
+}
+
+fn no_names(alloc: Global) -> Names {
+    Names {
+        eigens: EigenList::new(alloc),
+        spares: SpareList::new(alloc),
+    }
+}
+
+fn first_sequent(alloc: Global, problem: &Problem) -> Result<Sequent, NoMemory> {
+    let formula = problem.formula().copy(alloc)?;
+    let mut first = Sequent::new(alloc);
+    first.push(Entry {
+        sign: Sign::F,
+        formula,
+        label: Label::new(alloc),
+    })?;
+    Ok(first)
+}
+
+fn open_children(open: &mut Vec<Sequent>, children: Children) -> Result<(), NoMemory> {
+    match children {
+        Children::Closed => {}
+        Children::One(only) => open.push(only)?,
+        Children::Two(first, second) => {
+            open.push(second)?;
+            open.push(first)?;
+        }
+    }
+    Ok(())
+}
+
+// The steps in turn, each on the sequent that was opened last.
+fn fold(alloc: Global, problem: &Problem, d: &Derivation) -> Result<Seen, NoMemory> {
+    let mut open = Vec::new(alloc);
+    open.push(first_sequent(alloc, problem)?)?;
+    for (number, step) in d.steps.items().iter().enumerate() {
+        let sequent = match open.pop() {
+            Some(sequent) => sequent,
+            None => return Ok(Seen::AllClosed(number)),
+        };
+        match apply(alloc, problem, &d.names, &sequent, step) {
+            Ok(children) => open_children(&mut open, children)?,
+            Err(ApplyFault::Fault(fault)) => return Ok(Seen::Fault(number, fault)),
+            Err(ApplyFault::NoMemory) => return Err(NoMemory),
+        }
+    }
+    if open.is_empty() {
+        Ok(Seen::Closed)
+    } else {
+        Ok(Seen::StillOpen)
+    }
+}
+
+fn drinker_names(alloc: Global) -> Result<Names, NoMemory> {
+    let mut names = no_names(alloc);
+    names.eigens.push((1, Label::new(alloc)))?;
+    names.eigens.push((2, Label::new(alloc)))?;
+    names.spares.push((1, Home::Anywhere))?;
+    Ok(names)
+}
+
+// The fifth step brings the eigenvariable of this number, and the last one closes by these entries.
+fn drinker_steps(alloc: Global, number: u32, given: u32, shown: u32) -> Result<Seen, NoMemory> {
+    let lines = [
+        Line::UseSpare(1, 1),
+        Line::UseName(2, 1),
+        Line::Use(3),
+        Line::UseEigen(1, 1),
+        Line::UseName(6, number),
+        Line::Use(7),
+        Line::Axiom(given, shown),
+    ];
+    let formula = drinker(alloc)?;
+    let problem = problem(alloc, Logic::Classical, Domains::Constant, formula, 1)?;
+    fold(
+        alloc,
+        &problem,
+        &derivation(alloc, drinker_names(alloc)?, &lines)?,
+    )
+}
+
+#[test]
+fn follows_first_order_steps(rt: HostRuntime) -> Result<(), Fail> {
+    let alloc = rt.alloc();
+    assert_eq!(rt; drinker_steps(alloc, 2, 8, 5)?, Seen::Closed);
+    assert_eq!(rt;
+        drinker_steps(alloc, 1, 8, 5)?,
+        Seen::Fault(4, StepFault::NotNew)
+    );
+    assert_eq!(rt;
+        drinker_steps(alloc, 2, 8, 9)?,
+        Seen::Fault(6, StepFault::NoConnection)
+    );
+    Ok(())
+}
+
+fn serial_steps(alloc: Global) -> Result<Seen, NoMemory> {
+    let spare = [Mark::Spare(1)];
+    let lines = [
+        Line::Use(1),
+        Line::UseTo(2, &spare),
+        Line::UseTo(3, &spare),
+        Line::Axiom(4, 5),
+    ];
+    let formula = serial(alloc)?;
+    let problem = problem(alloc, Logic::D, Domains::Constant, formula, 0)?;
+    fold(
+        alloc,
+        &problem,
+        &derivation(alloc, no_names(alloc), &lines)?,
+    )
+}
+
+fn intuitionistic_steps(alloc: Global) -> Result<Seen, NoMemory> {
+    let to_first = [Mark::New(1)];
+    let to_second = [Mark::New(1), Mark::New(2)];
+    let to_third = [Mark::New(1), Mark::New(2), Mark::New(3)];
+    let lines = [
+        Line::UseNew(1, 1),
+        Line::UseTo(2, &to_first),
+        Line::Use(3),
+        Line::UseNew(5, 2),
+        Line::UseTo(2, &to_second),
+        Line::Use(7),
+        Line::UseNew(8, 3),
+        Line::UseTo(6, &to_third),
+        Line::Axiom(11, 10),
+    ];
+    let formula = twice_denied(alloc)?;
+    let problem = problem(
+        alloc,
+        Logic::Intuitionistic,
+        Domains::Cumulative,
+        formula,
+        0,
+    )?;
+    fold(
+        alloc,
+        &problem,
+        &derivation(alloc, no_names(alloc), &lines)?,
+    )
+}
+
+fn barcan_steps(alloc: Global, problem: &Problem) -> Result<Seen, NoMemory> {
+    let made = [Mark::New(1)];
+    let mut names = no_names(alloc);
+    names.eigens.push((1, label(alloc, &made)?))?;
+    let lines = [
+        Line::Use(1),
+        Line::UseNew(3, 1),
+        Line::UseName(4, 1),
+        Line::UseEigen(2, 1),
+        Line::UseTo(6, &made),
+        Line::Axiom(7, 5),
+    ];
+    fold(alloc, problem, &derivation(alloc, names, &lines)?)
+}
+
+fn cumulative_barcan(alloc: Global) -> Result<Seen, NoMemory> {
+    let formula = barcan(alloc)?;
+    barcan_steps(
+        alloc,
+        &problem(alloc, Logic::T, Domains::Cumulative, formula, 1)?,
+    )
+}
+
+fn constant_barcan(alloc: Global) -> Result<Seen, NoMemory> {
+    let formula = barcan(alloc)?;
+    barcan_steps(
+        alloc,
+        &problem(alloc, Logic::T, Domains::Constant, formula, 1)?,
+    )
+}
+
+#[test]
+fn follows_modal_steps(rt: HostRuntime) -> Result<(), Fail> {
+    let alloc = rt.alloc();
+    assert_eq!(rt; serial_steps(alloc)?, Seen::Closed);
+    assert_eq!(rt; intuitionistic_steps(alloc)?, Seen::Closed);
+    assert_eq!(rt;
+        cumulative_barcan(alloc)?,
+        Seen::Fault(3, StepFault::NotAllowed)
+    );
+    assert_eq!(rt; constant_barcan(alloc)?, Seen::Closed);
+    Ok(())
+}

@@ -1,0 +1,49 @@
+//! Ground connection tableaux. So far it has the selections that name the clauses of a matrix.
+#![tactic(auto)]
+
+ghost use Rattle.std.specs.Prelude.{◌≡◌, ◌++◌, ◌∷◌, [], IfOk, OnOk, OnErr};
+
+pub use calculus::sign::Side;
+use cop_base::NoMemory;
+use std::alloc::Global;
+use std::marker::Model;
+
+/// The sides that a clause takes at the alpha positions with two components, the outer position first. The clauses of
+/// a matrix are named by their selections.
+#[derive(Debug, Drop)]
+pub struct Selection {
+    sides: Vec<Side>,
+}
+
+impl Model for Selection {
+    ghost use Rattle.std.specs.Prelude.{List};
+    ghost use Rattle.calculus.specs.declared.sign.Side.{Side};
+
+    ghost Value = { List Side };
+
+    ghost view = { λ s. s.sides.items };
+}
+
+impl Selection {
+    pub fn new(alloc: Global) -> Selection
+        ensures { result ≡ [] }
+    {
+        Selection {
+            sides: Vec::new(alloc),
+        }
+    }
+
+    pub fn push(&mut self, item: Side) -> Result<(), NoMemory>
+        ensures ok { OnOk result (self.new ≡ self.old ++ item ∷ []) }
+        ensures err { OnErr result (self.new ≡ self.old) }
+    {
+        self.sides.push(item)?;
+        Ok(())
+    }
+
+    pub fn items(&self) -> &[Side]
+        ensures { result.now ≡ self.now }
+    {
+        self.sides.as_slice()
+    }
+}
