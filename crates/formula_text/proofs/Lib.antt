@@ -1,0 +1,13 @@
+pub mod Extending
+pub mod Knowing
+pub mod Rests
+pub mod Equations
+pub mod Numbers
+pub mod Quoted
+pub mod Places
+pub mod Marks
+pub mod Frames
+pub mod Heads
+pub mod Closings
+pub mod Apart
+pub mod Fitting

@@ -1,0 +1,7 @@
+use Rattle.std.proofs.Common.{IsTrue, take}
+use Rattle.std.specs.List.{list_all}
+use Rattle.calculus.specs.Text.{is_digit}
+use Rattle.formula_text.proofs.scan.count_digits.Given as goal
+
+abbrev pub invariant-loop-i : goal.invariant-loop-i
+invariant-loop-i l = IsTrue (list_all is_digit (take (l.i) l.text))

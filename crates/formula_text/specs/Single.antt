@@ -1,0 +1,27 @@
+-- At one place of a text there is at most one value, and different values have different texts: clauses of the readers and the writers.
+use Rattle.std.specs.Prelude.{◌≡◌, ℕ, List, IsTrue}
+use Rattle.calculus.specs.Syntax.{Symbol, Term}
+use Rattle.calculus.specs.Problems.{are_distinct}
+use Rattle.calculus.specs.Derivations.{Label}
+use Rattle.calculus.specs.DerivationText.{IsTermAt, IsLabelAt, IsNameAt, label_is_written, term_is_written}
+use Rattle.calculus.specs.Text.{label_text, name_text, term_text}
+
+abbrev pub AtMostOneName : Type 0
+AtMostOneName = (bytes : List ℕ) (from to then : ℕ) (a b : List ℕ) → IsNameAt bytes from to a → IsNameAt bytes from then b → (a ≡ b) × (to ≡ then)
+
+abbrev pub AtMostOneLabel : Type 0
+AtMostOneLabel = (bytes : List ℕ) (from to then : ℕ) (w v : Label) → IsLabelAt bytes from to w → IsLabelAt bytes from then v → (w ≡ v) × (to ≡ then)
+
+abbrev pub AtMostOneTerm : List Symbol → Type 0
+AtMostOneTerm symbols = IsTrue (are_distinct symbols) → (bytes : List ℕ) (from to then : ℕ) (t u : Term) → IsTermAt symbols bytes from to t → IsTermAt symbols bytes from then u → (t ≡ u) × (to ≡ then)
+
+-- ---- one text for one value
+
+abbrev pub NameTextsDiffer : Type 0
+NameTextsDiffer = (a b : List ℕ) → name_text a ≡ name_text b → a ≡ b
+
+abbrev pub LabelTextsDiffer : Type 0
+LabelTextsDiffer = (w v : Label) → IsTrue (label_is_written w) → IsTrue (label_is_written v) → label_text w ≡ label_text v → w ≡ v
+
+abbrev pub TermTextsDiffer : List Symbol → Type 0
+TermTextsDiffer symbols = IsTrue (are_distinct symbols) → (t u : Term) → IsTrue (term_is_written symbols t) → IsTrue (term_is_written symbols u) → term_text symbols 0 t ≡ term_text symbols 0 u → t ≡ u

@@ -1,0 +1,47 @@
+//! The canonical text of names, terms, formulas, labels and settings, after TPTP and QMLTP, and the reading of names, terms and labels.
+//!
+//! A writer appends the text, and cuts off what it appended where memory ends. A reader gives the one value whose canonical text stands
+//! at a place and ends there, and the place after it. It answers that there is none exactly where there is none, so other spellings of a
+//! value, as `f(a, b)`, `'a'` and `$$e01`, are refused.
+//!
+//! # Depth
+//! The open terms of a text stand on a stack on the heap while they are read. Writing and dropping call themselves as deep as the term
+//! is: on a stack of 8 MB writing passes at 100,000 levels and dies at 110,000, and dropping passes at 130,000 and dies at 135,000. A
+//! level takes three bytes at least, as in `f(f(a))`, so a bound on the length of an unknown text bounds its depth.
+//!
+//! # Speed
+//! Bytes a second of one processor's time, on a machine of 4 processors at a load of 13:
+//!
+//! | | reading | writing |
+//! |---|---|---|
+//! | a label of 100,000 characters, 888,896 bytes | 196 million | 276 million |
+//! | a term of 1,048,575 nodes, 2,621,436 bytes, dropping included where it is read | 12 million | 45 million |
+#![tactic(auto, using(crate::proofs::Extending::extending))]
+
+mod append;
+mod dollar;
+mod formula;
+mod label;
+mod label_reader;
+mod name;
+mod name_reader;
+mod read;
+mod scan;
+mod setting;
+mod term;
+mod term_reader;
+
+pub use append::write_number;
+pub use formula::write_formula;
+pub use label::write_label;
+pub use label_reader::read_label;
+pub use name::write_name;
+pub use name_reader::read_name;
+pub use read::TextRead;
+pub use scan::read_number;
+pub use setting::write_setting;
+pub use term::write_term;
+pub use term_reader::read_term;
+
+#[cfg(test)]
+mod tests;

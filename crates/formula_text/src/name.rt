@@ -1,0 +1,93 @@
+//! The names of symbols.
+
+ghost use Rattle.std.specs.Prelude.{◌≡◌, ◌++◌, IsTrue, OnOk, OnErr};
+ghost use Rattle.std.specs.List.{flat_map, list_all};
+ghost use Rattle.calculus.specs.Text.{escaped, is_lower, is_lower_word, is_word_byte, name_text, symbol_at, symbol_text};
+ghost use Rattle.formula_core.specs.SymbolView.{the_symbol};
+ghost use Rattle.formula_text.specs.Extends.{Extends};
+ghost use Rattle.formula_text.specs.Known.{is_named};
+ghost use Rattle.formula_text.specs.Single.{NameTextsDiffer};
+
+use crate::append::{put_byte, put_bytes, settle};
+use cop_base::{NoMemory, SymbolId};
+use formula_core::{Symbol, SymbolClass, Symbols};
+
+pub fn is_word_byte(byte: u8) -> bool
+    ensures { result ≡ is_word_byte byte }
+{
+    byte.is_ascii_alphanumeric() || byte == b'_'
+}
+
+fn are_word_bytes(bytes: &[u8]) -> bool
+    ensures { result ≡ list_all is_word_byte bytes.now }
+{
+    bytes.iter().all(|byte| is_word_byte(*byte))
+}
+
+// Whether a name is a lower-case letter, then letters, digits and `_`.
+pub fn is_lower_word(name: &[u8]) -> bool
+    ensures { result ≡ is_lower_word name.now }
+{
+    match name {
+        [] => false,
+        [first, rest @ ..] => { first.is_ascii_lowercase() && are_word_bytes(rest) }
+    }
+}
+
+// A `\` before a `'` or a `\`.
+fn append_escaped_byte(out: &mut Vec<u8>, byte: u8) -> Result<(), NoMemory>
+    ensures ok { OnOk result (out.new.items ≡ out.old.items ++ escaped byte) }
+    ensures extends { Extends out.old.items out.new.items }
+{
+    if byte == b'\'' || byte == b'\\' {
+        put_byte(out, b'\\')?;
+        return put_byte(out, byte);
+    }
+    put_byte(out, byte)
+}
+
+fn append_escaped(out: &mut Vec<u8>, name: &[u8]) -> Result<(), NoMemory>
+    ensures ok { OnOk result (out.new.items ≡ out.old.items ++ flat_map escaped name.now) }
+    ensures extends { Extends out.old.items out.new.items }
+{
+    for byte in name {
+        append_escaped_byte(out, *byte)?;
+    }
+    Ok(())
+}
+
+fn append_name(out: &mut Vec<u8>, name: &[u8]) -> Result<(), NoMemory>
+    ensures ok { OnOk result (out.new.items ≡ out.old.items ++ name_text name.now) }
+    ensures extends { Extends out.old.items out.new.items }
+{
+    if is_lower_word(name) {
+        return put_bytes(out, name);
+    }
+    put_byte(out, b'\'')?;
+    append_escaped(out, name)?;
+    put_byte(out, b'\'')
+}
+
+pub fn append_symbol(out: &mut Vec<u8>, s: &Symbol) -> Result<(), NoMemory>
+    ensures ok { OnOk result (out.new.items ≡ out.old.items ++ symbol_text (the_symbol s.now)) }
+    ensures extends { Extends out.old.items out.new.items }
+{
+    match s.class {
+        SymbolClass::Function | SymbolClass::Predicate => append_name(out, s.name.bytes()),
+        SymbolClass::Equality => put_bytes(out, s.name.bytes()),
+        SymbolClass::Truth => put_bytes(out, b"$$o"),
+    }
+}
+
+/// Appends the name of a function or predicate symbol: bare where it is a lower-case letter with letters, digits and `_` after it,
+/// else in single quotes, with a `\` before each `'` and `\`.
+pub fn write_name(out: &mut Vec<u8>, symbols: &Symbols, id: SymbolId) -> Result<(), NoMemory>
+    requires { IsTrue (is_named symbols.now id.0) }
+    ensures ok { OnOk result (out.new.items ≡ out.old.items ++ symbol_at symbols.now id.0) }
+    ensures err { OnErr result (out.new.items ≡ out.old.items) }
+    ensures apart { NameTextsDiffer }
+{
+    let kept = out.len();
+    let written = append_symbol(out, symbols.get(id));
+    settle(out, kept, written)
+}

@@ -1,0 +1,180 @@
+ghost use Rattle.std.specs.Prelude.{◌≡◌, [], IsTrue, OnOk};
+ghost use Rattle.std.specs.List.{list_all};
+ghost use Rattle.calculus.specs.DerivationText.{term_is_written};
+ghost use Rattle.calculus.specs.Problems.{are_distinct, is_name, symbol_fits};
+ghost use Rattle.formula_core.specs.TermView.{the_term};
+
+use super::*;
+use cop_base::{NoMemory, Text};
+use formula_core::{AddFault, Symbol, SymbolClass, Symbols, Term};
+use logic_rules::{Domains, Label, Logic, Mark, Setting};
+use std::alloc::Global;
+use std::test::Fail;
+
+// Whether the text is read as this name up to its end; `None` where no name is to stand there.
+fn reads_name(alloc: Global, text: &[u8], name: Option<&[u8]>) -> bool {
+    match (read_name(alloc, text, 0), name) {
+        (Ok((found, end)), Some(name)) => found.bytes() == name && end == text.len(),
+        (Err(fault), None) => fault == TextRead::None,
+        _ => false,
+    }
+}
+
+#[test]
+fn reads_names(rt: HostRuntime) -> Result<(), Fail> {
+    let alloc = rt.alloc();
+    assert!(rt; reads_name(alloc, b"p", Some(b"p")));
+    assert!(rt; reads_name(alloc, b"aZ_9", Some(b"aZ_9")));
+    assert!(rt; reads_name(alloc, b"'an idempotent'", Some(b"an idempotent")));
+    assert!(rt; reads_name(alloc, b"'it\\'s'", Some(b"it's")));
+    assert!(rt; reads_name(alloc, b"'a\\\\b'", Some(b"a\\b")));
+    assert!(rt; reads_name(alloc, b"'X'", Some(b"X")));
+    for text in [
+        b"'p'".as_slice(),
+        b"''",
+        b"X",
+        b"'a",
+        b"'a\\b'",
+        b"'a\nb'",
+        b"'X'a",
+        b"$$o",
+        b"",
+    ] {
+        assert!(rt; reads_name(alloc, text, None));
+    }
+    Ok(())
+}
+
+// Whether the text is read as a label of this many characters, and written again as it stands.
+fn reads_label(alloc: Global, text: &[u8], length: usize) -> bool {
+    let Ok((label, end)) = read_label(alloc, text, 0) else {
+        return false;
+    };
+    let mut out = Vec::new(alloc);
+    write_label(&mut out, &label).is_ok()
+        && label.items().len() == length
+        && end == text.len()
+        && out.as_slice() == text
+}
+
+#[test]
+fn reads_labels(rt: HostRuntime) -> Result<(), Fail> {
+    let alloc = rt.alloc();
+    assert!(rt; reads_label(alloc, b"[]", 0));
+    assert!(rt; reads_label(alloc, b"[$$c1]", 1));
+    assert!(rt; reads_label(alloc, b"[$$c1,$$c2,$$d4294967295]", 3));
+    for text in [
+        b"[$$c0]".as_slice(),
+        b"[$$c01]",
+        b"[$$c4294967296]",
+        b"[$$c1, $$c2]",
+        b"[$$c1,]",
+        b"[$$e1]",
+        b"[$$c1",
+        b"[]a",
+        b"",
+    ] {
+        match read_label(alloc, text, 0) {
+            Ok(_) => assert!(rt; false),
+            Err(fault) => assert_eq!(rt; fault, TextRead::None),
+        }
+    }
+    Ok(())
+}
+
+// Adds a function symbol, where it is new.
+#[tactic(auto, using(crate::proofs::Fitting::adding))]
+fn add_function(
+    symbols: &mut Symbols,
+    alloc: Global,
+    name: &[u8],
+    arity: u32,
+) -> Result<(), NoMemory>
+    requires named { IsTrue (is_name name.now) }
+    requires fits { IsTrue (list_all symbol_fits symbols.old) }
+    ensures { OnOk result (IsTrue (list_all symbol_fits symbols.new)) }
+{
+    let s = Symbol {
+        name: Text::new(alloc, name)?,
+        class: SymbolClass::Function,
+        arity,
+    };
+    match symbols.find(&s) {
+        Some(_) => Ok(()),
+        None => match symbols.add(s) {
+            Ok(_) => Ok(()),
+            Err(AddFault::Full | AddFault::NoMemory) => Err(NoMemory),
+        },
+    }
+}
+
+fn writes_term(alloc: Global, symbols: &Symbols, term: &Term, text: &[u8]) -> bool
+    requires { IsTrue (term_is_written symbols.now (the_term term.now)) }
+{
+    let mut out = Vec::new(alloc);
+    write_term(&mut out, symbols, term).is_ok() && out.as_slice() == text
+}
+
+// Whether the text begins with a term that ends at this place, and that is written again as it stands there; `None` where no term is
+// to stand there.
+fn reads_term(alloc: Global, symbols: &Symbols, text: &[u8], place: Option<usize>) -> bool
+    requires fits { IsTrue (list_all symbol_fits symbols.now) }
+    requires distinct { IsTrue (are_distinct symbols.now) }
+{
+    match (read_term(alloc, symbols, text, 0), place) {
+        (Ok((term, end)), Some(place)) => {
+            end == place && writes_term(alloc, symbols, &term, &text[..end])
+        }
+        (Err(fault), None) => fault == TextRead::None,
+        _ => false,
+    }
+}
+
+#[test]
+fn reads_terms(rt: HostRuntime) -> Result<(), Fail> {
+    let alloc = rt.alloc();
+    let mut symbols = Symbols::new(alloc);
+    add_function(&mut symbols, alloc, b"a", 0)?;
+    add_function(&mut symbols, alloc, b"b", 0)?;
+    add_function(&mut symbols, alloc, b"f", 2)?;
+    assert_eq!(rt; symbols.len(), 3);
+    for (text, place) in [
+        (b"a".as_slice(), Some(1)),
+        (b"f(a,b)", Some(6)),
+        (b"f(f(a,$$e1),b)", Some(14)),
+        (b"$$e1", Some(4)),
+        (b"$$s4294967295", Some(13)),
+        (b"a x", Some(1)),
+        (b"$$e0", None),
+        (b"$$e01", None),
+        (b"f(a, b)", None),
+        (b"f()", None),
+        (b"f(a)", None),
+        (b"f(a,b", None),
+        (b"'a'", None),
+        (b"c", None),
+        (b"a=b", None),
+        (b"", None),
+    ] {
+        assert!(rt; reads_term(alloc, &symbols, text, place));
+    }
+    Ok(())
+}
+
+#[test]
+fn writes_settings(rt: HostRuntime) -> Result<(), Fail> {
+    let alloc = rt.alloc();
+    for (logic, domains, text) in [
+        (Logic::Classical, Domains::Constant, b"classical".as_slice()),
+        (Logic::Intuitionistic, Domains::Constant, b"intuitionistic"),
+        (Logic::D, Domains::Constant, b"d constant"),
+        (Logic::T, Domains::Cumulative, b"t cumulative"),
+        (Logic::S4, Domains::Varying, b"s4 varying"),
+        (Logic::S5, Domains::Cumulative, b"s5 constant"),
+    ] {
+        let mut out = Vec::new(alloc);
+        write_setting(&mut out, Setting::new(logic, domains))?;
+        assert_eq!(rt; out.as_slice(), text);
+    }
+    Ok(())
+}
