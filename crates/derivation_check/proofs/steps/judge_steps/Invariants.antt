@@ -1,0 +1,10 @@
+use Rattle.std.proofs.Common.{◌≡◌, ◌+◌, length, map, drop}
+use Rattle.calculus.specs.Judgement.{verdict_from, verdict_on}
+use Rattle.sequent_calc.specs.DerivationView.{the_derivation, the_names}
+use Rattle.sequent_calc.specs.StepView.{the_step}
+use Rattle.derivation_check.proofs.steps.judge_steps.Given as goal
+
+abbrev pub invariant-loop-step : goal.invariant-loop-step
+invariant-loop-step l =
+    (l.line ≡ 5 + length l.d.names.eigens + length l.d.names.spares + l.step-index)
+    × (verdict_from l.problem (the_names l.d.names) l.branches (map the_step (drop l.step-index l.step-items)) l.line ≡ verdict_on l.problem (the_derivation l.d))

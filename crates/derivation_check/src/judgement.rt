@@ -1,0 +1,45 @@
+//! The judgement of bytes as a derivation of a problem.
+
+ghost use Rattle.std.specs.Prelude.{◌≡◌, IfOk};
+ghost use Rattle.calculus.specs.Judgement as judgement;
+ghost use Rattle.calculus.specs.Judgement.{IsJudgement};
+ghost use Rattle.derivation_check.specs.VerdictView.{the_verdict};
+
+use crate::steps::judge;
+use crate::verdict::Verdict;
+use calculus::fault::CheckFault;
+use cop_base::NoMemory;
+use derivation_text::{ParseFault, parse};
+use logic_rules::Problem;
+use std::alloc::Global;
+
+/// Judges bytes as the text of a derivation of the problem: faults of the text first, over the whole text, then those of
+/// the steps in their order, then whether a branch is open.
+pub fn check(alloc: Global, problem: &Problem, bytes: &[u8]) -> Result<Verdict, NoMemory>
+    ensures judgement { IfOk result (λ v. IsJudgement problem.now bytes.now (the_verdict v)) }
+
+    // There is no other judgement of these bytes.
+    ensures alone { IfOk result (λ v. (w : judgement.Verdict) → IsJudgement problem.now bytes.now w → w ≡ the_verdict v) }
+{
+    let _symbols = problem.symbols(); // the call tells that they are distinct
+    match judgement_of(alloc, problem, bytes) {
+        Ok(verdict) => Ok(verdict),
+        Err(NoMemory) => Err(NoMemory),
+    }
+}
+
+fn judgement_of(alloc: Global, problem: &Problem, bytes: &[u8]) -> Result<Verdict, NoMemory>
+    ensures { IfOk result (λ v. IsJudgement problem.now bytes.now (the_verdict v)) }
+{
+    match parse(alloc, problem, bytes) {
+        Ok(derivation) => match judge(alloc, problem, &derivation) {
+            Ok(verdict) => Ok(verdict),
+            Err(NoMemory) => Err(NoMemory),
+        },
+        Err(ParseFault::Text { line, cause }) => Ok(Verdict::Rejected {
+            line,
+            fault: CheckFault::Text(cause),
+        }),
+        Err(ParseFault::NoMemory) => Err(NoMemory),
+    }
+}

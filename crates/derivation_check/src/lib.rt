@@ -1,0 +1,12 @@
+//! The judgement of derivations by the rules of the calculus alone.
+#![tactic(auto)]
+
+mod branches;
+mod judgement;
+mod steps;
+mod verdict;
+
+pub use calculus::fault::CheckFault;
+pub use judgement::check;
+pub use steps::judge;
+pub use verdict::Verdict;

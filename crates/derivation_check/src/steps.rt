@@ -1,0 +1,113 @@
+//! The judgement of steps.
+
+ghost use Rattle.std.specs.Prelude.{◌≡◌, ◌↔◌, ℕ, ◌+◌, ◌∷◌, ◌≤◌, [], List, IfOk, length, map};
+ghost use Rattle.std.specs.Option.{option_map_or};
+ghost use Rattle.calculus.specs.Derivations as derivation;
+ghost use Rattle.calculus.specs.Derivations.{first_sequent};
+ghost use Rattle.calculus.specs.Judgement.{accepted, at_end, rejected, verdict_from, verdict_on};
+ghost use Rattle.calculus.specs.Calculus.{Derives};
+ghost use Rattle.calculus.specs.declared.fault.CheckFault.{CheckFault};
+ghost use Rattle.derivation_check.specs.Judged.{IsFirstFault};
+ghost use Rattle.derivation_check.specs.VerdictView.{the_verdict};
+ghost use Rattle.sequent_calc.specs.DerivationView.{the_derivation, the_names};
+ghost use Rattle.sequent_calc.specs.EntryView.{the_entry};
+ghost use Rattle.sequent_calc.specs.StepView.{the_step};
+
+use crate::branches::Branches;
+use crate::verdict::Verdict;
+use calculus::fault::CheckFault;
+use cop_base::NoMemory;
+use formula_core::Sign;
+use logic_rules::{Label, Problem};
+use sequent_calc::{ApplyFault, Derivation, Entry, Names, Step, addition_of};
+use std::alloc::{AllocError, Global};
+
+// The one entry that a derivation begins with.
+fn first_entry(alloc: Global, problem: &Problem) -> Result<Entry, NoMemory>
+    ensures { IfOk result (λ e. the_entry e ∷ [] ≡ first_sequent problem.now) }
+{
+    Ok(Entry {
+        sign: Sign::F,
+        formula: problem.formula().copy(alloc)?,
+        label: Label::new(alloc),
+    })
+}
+
+// Judges one step; `None` where it leads on.
+fn judge_step(
+    alloc: Global,
+    problem: &Problem,
+    names: &Names,
+    branches: &mut Branches,
+    step: &Step,
+    line: u64,
+) -> Result<Option<Verdict>, NoMemory>
+    ensures { IfOk result (λ judged. (rest : List derivation.Step) → verdict_from problem.now (the_names names.now) branches.old
+        (the_step step.now ∷ rest) line ≡ option_map_or the_verdict judged
+        (verdict_from problem.now (the_names names.now) branches.new rest (line + 1))) }
+{
+    if !branches.is_open() {
+        return Ok(Some(Verdict::Rejected {
+            line,
+            fault: CheckFault::AllClosed,
+        }));
+    }
+    match addition_of(alloc, problem, names, branches.current(), step) {
+        Ok(addition) => {
+            branches.go_on(addition)?;
+            Ok(None)
+        }
+        Err(ApplyFault::Fault(fault)) => Ok(Some(Verdict::Rejected {
+            line,
+            fault: CheckFault::Step(fault),
+        })),
+        Err(ApplyFault::NoMemory) => Err(NoMemory),
+    }
+}
+
+// The verdict where the steps have ended before this line.
+fn at_end(branches: &Branches, line: u64) -> Verdict
+    ensures { the_verdict result ≡ at_end branches.now line }
+{
+    if branches.is_open() {
+        Verdict::Rejected {
+            line,
+            fault: CheckFault::StillOpen,
+        }
+    } else {
+        Verdict::Accepted
+    }
+}
+
+// The verdict on the steps, whose first one stands in the line after those of the head and the names.
+fn judge_steps(alloc: Global, problem: &Problem, d: &Derivation) -> Result<Verdict, NoMemory>
+    requires { 5 + length d.now.names.eigens + length d.now.names.spares + length d.now.steps ≤ 18446744073709551615 }
+    ensures { IfOk result (λ v. the_verdict v ≡ verdict_on problem.now (the_derivation d.now)) }
+{
+    let mut branches = Branches::new(alloc, first_entry(alloc, problem)?)?;
+    let names = &d.names;
+    let mut line = 5 + names.eigens.items().len() as u64 + names.spares.items().len() as u64;
+    for step in d.steps.items() {
+        if let Some(verdict) = judge_step(alloc, problem, names, &mut branches, step, line)? {
+            return Ok(verdict);
+        }
+        line += 1;
+    }
+    Ok(at_end(&branches, line))
+}
+
+/// The verdict on the steps of a derivation. Lines are counted as in its text.
+pub fn judge(alloc: Global, problem: &Problem, d: &Derivation) -> Result<Verdict, NoMemory>
+    requires { 5 + length d.now.names.eigens + length d.now.names.spares + length d.now.steps ≤ 18446744073709551615 }
+    ensures verdict { IfOk result (λ v. the_verdict v ≡ verdict_on problem.now (the_derivation d.now)) }
+
+    // Acceptance says that the steps derive, and a rejection tells the first step that fails.
+    ensures derives { IfOk result (λ v. (the_verdict v ≡ accepted) ↔ Derives problem.now (the_derivation d.now)) }
+    ensures fails { IfOk result (λ v. (line : ℕ) → (fault : CheckFault) → (the_verdict v ≡ rejected line fault)
+        ↔ IsFirstFault problem.now (the_derivation d.now) line fault) }
+{
+    match judge_steps(alloc, problem, d) {
+        Ok(verdict) => Ok(verdict),
+        Err(NoMemory) => Err(NoMemory),
+    }
+}

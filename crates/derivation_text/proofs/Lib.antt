@@ -1,0 +1,11 @@
+pub mod Items
+pub mod Parts
+pub mod Args
+pub mod Printable
+pub mod BodyLaws
+pub mod LineFeeds
+pub mod Faults
+pub mod BodyFaults
+pub mod HeadFaults
+pub mod BodySteps
+pub mod Endings

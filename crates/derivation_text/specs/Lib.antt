@@ -1,0 +1,7 @@
+pub mod Written
+pub mod Spelling
+pub mod Body
+pub mod BodyView
+pub mod Reading
+pub mod Single
+pub mod Examples

@@ -1,0 +1,74 @@
+-- How far a text has been read as a derivation.
+use Rattle.std.specs.Prelude.{◌≡◌, ◌≢◌, ⊤, ℕ, ◌+◌, ◌≤◌, List, [], ◌∷◌, ◌++◌, length, map, drop, true, IsTrue, Option, Some}
+use Rattle.std.specs.List.{list_all, flat_map}
+use Rattle.calculus.specs.declared.fault.TextCause.{TextCause}
+use Rattle.calculus.specs.declared.fault.TextCause.TheVariants as cause
+use Rattle.calculus.specs.Syntax.{Problem}
+use Rattle.calculus.specs.Derivations.{Derivation}
+use Rattle.calculus.specs.DerivationText.{head_lines, is_limit, line_bytes}
+use Rattle.calculus.specs.Judgement.{IsFaulty, cause_among_names, cause_at, whole_lines}
+use Rattle.derivation_text.specs.declared.body_line.Stage.{Stage}
+use Rattle.derivation_text.specs.declared.body_line.Stage.TheVariants.{Eigens, Spares, Steps, Ended}
+use Rattle.derivation_text.specs.Body.{BodyLine, of_eigen, of_spare, of_step, last, body_line_is_written, body_line_text, names_and_steps, stage_behind}
+
+-- the `end` line, where it has been read
+abbrev pub ending : Stage → List BodyLine
+ending Ended = last ∷ []
+ending _ = []
+
+-- the lines behind the head that have been read at a stage
+abbrev pub lines_at : Stage → Derivation → List BodyLine
+lines_at stage d = names_and_steps d.names.eigens d.names.spares d.steps ++ ending stage
+
+-- which lists may be there at a stage
+abbrev pub Fits : Stage → Derivation → Type 0
+Fits (Eigens n) d = (d.names.spares ≡ []) × (d.steps ≡ [])
+Fits (Spares n) d = d.steps ≡ []
+Fits Steps d = d.steps ≢ []
+Fits Ended d = ⊤
+
+abbrev pub with_line : Derivation → BodyLine → Derivation
+with_line d (of_eigen x) = record { limit = d.limit; names = record { eigens = d.names.eigens ++ x ∷ []; spares = d.names.spares }; steps = d.steps }
+with_line d (of_spare x) = record { limit = d.limit; names = record { eigens = d.names.eigens; spares = d.names.spares ++ x ∷ [] }; steps = d.steps }
+with_line d (of_step x) = record { limit = d.limit; names = record { eigens = d.names.eigens; spares = d.names.spares }; steps = d.steps ++ x ∷ [] }
+with_line d last = record { limit = d.limit; names = record { eigens = d.names.eigens; spares = d.names.spares }; steps = d.steps }
+
+-- the lines that have been read, those of the head included
+abbrev pub lines_read : Problem → Stage → Derivation → List (List ℕ)
+lines_read P stage d = head_lines P d.limit ++ map (body_line_text P.symbols) (lines_at stage d)
+
+-- the bytes begin with these lines, and are read up to this place
+pub record AreRead (bytes : List ℕ) (lines : List (List ℕ)) (place : ℕ) : Type 0 where
+  pub within : place ≤ length bytes
+  pub whole : whole_lines bytes ≡ lines ++ whole_lines (drop place bytes)
+  pub text : bytes ≡ flat_map line_bytes lines ++ drop place bytes
+
+-- the head, with this limit, is read up to this place
+pub record IsHeadRead (P : Problem) (bytes : List ℕ) (place top : ℕ) : Type 0 where
+  pub limit : IsTrue (is_limit top)
+  pub lines : AreRead bytes (head_lines P top) place
+
+-- what has been read up to this place is the beginning of a derivation
+pub record IsReadTo (P : Problem) (bytes : List ℕ) (place : ℕ) (stage : Stage) (d : Derivation) : Type 0 where
+  pub limit : IsTrue (is_limit d.limit)
+  pub lines : AreRead bytes (lines_read P stage d) place
+  pub written : IsTrue (list_all (body_line_is_written P.symbols) (lines_at stage d))
+  pub order : stage_behind (Some (Eigens 0)) (lines_at stage d) ≡ Some stage
+  pub fits : Fits stage d
+
+-- a whole line stands at the place `from`, and `to` is the place behind its line feed
+pub record IsLineAt (bytes : List ℕ) (from to : ℕ) (line : List ℕ) : Type 0 where
+  pub within : to ≤ length bytes
+  pub whole : whole_lines (drop from bytes) ≡ line ∷ whole_lines (drop to bytes)
+  pub text : drop from bytes ≡ line ++ 10 ∷ drop to bytes
+
+-- the cause of a fault behind the head, by the next line
+abbrev pub cause_behind : Stage → Option (List ℕ) → TextCause
+cause_behind (Eigens n) next = cause_among_names true next
+cause_behind (Spares n) next = cause_among_names true next
+cause_behind Steps next = cause.Line
+cause_behind Ended next = cause.TextAfterEnd
+
+-- the bytes are no text, and this is the number and the cause of the first wrong line
+abbrev pub IsFaultOf : Problem → List ℕ → ℕ → TextCause → Type 0
+IsFaultOf P bytes line why = (n : ℕ) × (line ≡ n + 1) × IsFaulty P bytes n × (why ≡ cause_at bytes n)

@@ -1,0 +1,46 @@
+//! Reading lines of names.
+
+ghost use Rattle.std.specs.Prelude.{◌≡◌, ℕ, Err, IfOk};
+ghost use Rattle.calculus.specs.Derivations as derivation;
+ghost use Rattle.derivation_text.specs.Spelling.{IsEigen, IsSpare};
+ghost use Rattle.sequent_calc.specs.NamesView.{the_home};
+
+use crate::part_reader::{read_front_number, read_home, read_whole_label, rest_behind};
+use formula_text::TextRead;
+use logic_rules::Label;
+use sequent_calc::Home;
+use std::alloc::Global;
+
+/// The number and the home of an eigenvariable behind `name $$e`.
+pub fn read_eigen(alloc: Global, text: &[u8]) -> Result<(u32, Label), TextRead>
+    ensures ok { IfOk result (λ r. IsEigen text.now r.0 r.1) }
+    ensures none { result ≡ Err TextRead.None → (n : ℕ) (w : derivation.Label) → ¬ IsEigen text.now n w }
+{
+    let Some((n, rest)) = read_front_number(text) else {
+        return Err(TextRead::None);
+    };
+    let Some(rest) = rest_behind(rest, b" ") else {
+        return Err(TextRead::None);
+    };
+    match read_whole_label(alloc, rest) {
+        Ok(home) => Ok((n, home)),
+        Err(fault) => Err(fault),
+    }
+}
+
+/// The number and the home of a spare constant behind `name $$s`.
+pub fn read_spare(alloc: Global, text: &[u8]) -> Result<(u32, Home), TextRead>
+    ensures ok { IfOk result (λ r. IsSpare text.now r.0 (the_home r.1)) }
+    ensures none { result ≡ Err TextRead.None → (n : ℕ) (h : derivation.Home) → ¬ IsSpare text.now n h }
+{
+    let Some((n, rest)) = read_front_number(text) else {
+        return Err(TextRead::None);
+    };
+    let Some(rest) = rest_behind(rest, b" ") else {
+        return Err(TextRead::None);
+    };
+    match read_home(alloc, rest) {
+        Ok(home) => Ok((n, home)),
+        Err(fault) => Err(fault),
+    }
+}

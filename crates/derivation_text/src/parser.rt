@@ -1,0 +1,104 @@
+//! Parsing.
+
+ghost use Rattle.std.specs.Prelude.{◌≡◌, ◌≢◌, ◌+◌, ◌≤◌, [], ℕ, false, Err, IfOk, IsTrue};
+ghost use Rattle.calculus.specs.DerivationText.{IsText};
+ghost use Rattle.calculus.specs.Judgement.{IsFaulty, cause_at};
+ghost use Rattle.calculus.specs.Problems.{is_problem};
+ghost use Rattle.calculus.specs.declared.fault.TextCause.{TextCause};
+ghost use Rattle.derivation_text.specs.Reading.{IsFaultOf, IsHeadRead};
+ghost use Rattle.derivation_text.specs.Single.{AtMostOneDerivation, AtMostOneFault};
+ghost use Rattle.sequent_calc.specs.DerivationView.{the_derivation};
+
+use crate::body_line::{Stage, read_next};
+use crate::body_reader::{cause_at_end, cause_at_line, put_line};
+use crate::fault::ParseFault;
+use crate::head_reader::read_head;
+use crate::lines::line_at;
+use calculus::fault::TextCause;
+use formula_text::TextRead;
+use logic_rules::Problem;
+use sequent_calc::{Derivation, EigenList, Names, SpareList, StepList};
+use std::alloc::Global;
+
+// The derivation without names and steps.
+fn start(alloc: Global, limit: u8) -> Derivation
+    ensures limit { result.limit ≡ limit }
+    ensures eigens { result.names.eigens ≡ [] }
+    ensures spares { result.names.spares ≡ [] }
+    ensures steps { result.steps ≡ [] }
+{
+    Derivation {
+        limit,
+        names: Names {
+            eigens: EigenList::new(alloc),
+            spares: SpareList::new(alloc),
+        },
+        steps: StepList::new(alloc),
+    }
+}
+
+fn has_ended(stage: Stage, place: usize, length: usize) -> bool
+    ensures yes { IsTrue result → (stage ≡ Stage.Ended) × (place ≡ length) }
+    ensures no { result ≡ false → stage ≡ Stage.Ended → place ≢ length }
+{
+    stage == Stage::Ended && place == length
+}
+
+// The lines behind the head, which has four.
+fn read_body(
+    alloc: Global,
+    problem: &Problem,
+    bytes: &[u8],
+    from: usize,
+    limit: u8,
+) -> Result<Derivation, ParseFault>
+    requires well { IsTrue (is_problem problem.now) }
+    requires head { IsHeadRead problem.now bytes.now from limit }
+    ensures text { IfOk result (λ d. IsText problem.now (the_derivation d) bytes.now) }
+    ensures fault { (line : ℕ) (cause : TextCause) → result ≡ Err (ParseFault.Text line cause) → IsFaultOf problem.now bytes.now line cause }
+{
+    let length = bytes.len();
+    let mut d = start(alloc, limit);
+    let mut stage = Stage::Eigens(0);
+    let mut place = from;
+    let mut count = 4;
+    while let Some((text, next)) = line_at(bytes, place) {
+        let (line, after) = match read_next(alloc, problem, stage, text) {
+            Ok(found) => found,
+            Err(TextRead::None) => return Err(ParseFault::Text {
+                line: count + 1,
+                cause: cause_at_line(stage, text),
+            }),
+            Err(TextRead::NoMemory) => return Err(ParseFault::NoMemory),
+        };
+        put_line(&mut d, line)?;
+        stage = after;
+        place = next;
+        count += 1;
+    }
+    if has_ended(stage, place, length) {
+        Ok(d)
+    } else {
+        Err(ParseFault::Text {
+            line: count + 1,
+            cause: cause_at_end(stage),
+        })
+    }
+}
+
+/// The derivation of a problem whose text the bytes are, or else the number and the cause of the first wrong line.
+pub fn parse(alloc: Global, problem: &Problem, bytes: &[u8]) -> Result<Derivation, ParseFault>
+    ensures text { IfOk result (λ d. IsText problem.now (the_derivation d) bytes.now) }
+    ensures fault { (line : ℕ) (cause : TextCause) → result ≡ Err (ParseFault.Text line cause)
+        → (n : ℕ) × (line ≡ n + 1) × IsFaulty problem.now bytes.now n × (cause ≡ cause_at bytes.now n) }
+    ensures derivation { AtMostOneDerivation problem.now bytes.now }
+    ensures first { AtMostOneFault problem.now bytes.now }
+{
+    // each field tells that the problem is well formed
+    let _setting = problem.setting();
+    let (limit, from) = match read_head(alloc, problem, bytes) {
+        Ok(found) => found,
+        Err(fault) => return Err(fault),
+    };
+    read_body(alloc, problem, bytes, from, limit)
+}

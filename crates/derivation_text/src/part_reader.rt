@@ -1,0 +1,126 @@
+//! Reading the parts of a line.
+
+ghost use Rattle.std.specs.Prelude.{◌≡◌, ◌++◌, ◌∷◌, [], ℕ, List, Err, IsTrue, IsNone, IfSome, IfOk};
+ghost use Rattle.calculus.specs.Derivations as derivation;
+ghost use Rattle.calculus.specs.Syntax as tree;
+ghost use Rattle.derivation_text.specs.Spelling.{IsHome, IsLabel, IsLabelBefore, IsLimit, IsNameNumber, IsNumber, IsNumberBefore, IsTerm};
+ghost use Rattle.formula_core.specs.TermView.{the_term};
+ghost use Rattle.sequent_calc.specs.NamesView.{the_home};
+
+use formula_core::Term;
+use formula_text::{TextRead, read_label, read_number, read_term};
+use logic_rules::{Label, Problem};
+use sequent_calc::Home;
+use std::alloc::Global;
+
+/// What follows these bytes at the beginning of a text.
+pub fn rest_behind<'a>(text: &'a [u8], front: &[u8]) -> Option<&'a [u8]>
+    ensures some { IfSome result (λ r. text.now ≡ front.now ++ r.now) }
+    ensures none { IsNone result → (rest : List ℕ) → ¬ (text.now ≡ front.now ++ rest) }
+{
+    text.strip_prefix(front)
+}
+
+/// The number that a text begins with, and what follows it.
+pub fn read_front_number(text: &[u8]) -> Option<(u32, &[u8])>
+    ensures some { IfSome result (λ r. IsNumberBefore text.now r.0 r.1.now) }
+    ensures none { IsNone result → (n : ℕ) (rest : List ℕ) → ¬ IsNumberBefore text.now n rest }
+{
+    match read_number(text, 0) {
+        Some((n, to)) => Some((n, &text[to..])),
+        None => None,
+    }
+}
+
+/// A number that is the whole text.
+pub fn read_whole_number(text: &[u8]) -> Option<u32>
+    ensures some { IfSome result (λ n. IsNumber text.now n) }
+    ensures none { IsNone result → (n : ℕ) → ¬ IsNumber text.now n }
+{
+    let Some((n, rest)) = read_front_number(text) else {
+        return None;
+    };
+    if rest.is_empty() { Some(n) } else { None }
+}
+
+/// A number from 1 that is the whole text.
+pub fn read_name_number(text: &[u8]) -> Option<u32>
+    ensures some { IfSome result (λ n. IsNameNumber text.now n) }
+    ensures none { IsNone result → (n : ℕ) → ¬ IsNameNumber text.now n }
+{
+    let Some(n) = read_whole_number(text) else {
+        return None;
+    };
+    if n >= 1 { Some(n) } else { None }
+}
+
+/// A limit that is the whole text.
+pub fn read_limit(text: &[u8]) -> Option<u8>
+    ensures some { IfSome result (λ n. IsLimit text.now n) }
+    ensures none { IsNone result → (n : ℕ) → ¬ IsLimit text.now n }
+{
+    let Some(n) = read_whole_number(text) else {
+        return None;
+    };
+    if n >= 1 && n <= 200 {
+        Some(n as u8)
+    } else {
+        None
+    }
+}
+
+/// The label that a text begins with, and what follows it.
+pub fn read_front_label(alloc: Global, text: &[u8]) -> Result<(Label, &[u8]), TextRead>
+    ensures ok { IfOk result (λ r. IsLabelBefore text.now r.0 r.1.now) }
+    ensures none { result ≡ Err TextRead.None → (w : derivation.Label) (rest : List ℕ) → ¬ IsLabelBefore text.now w rest }
+{
+    match read_label(alloc, text, 0) {
+        Ok((label, to)) => Ok((label, &text[to..])),
+        Err(fault) => Err(fault),
+    }
+}
+
+/// A label that is the whole text.
+pub fn read_whole_label(alloc: Global, text: &[u8]) -> Result<Label, TextRead>
+    ensures ok { IfOk result (λ w. IsLabel text.now w) }
+    ensures none { result ≡ Err TextRead.None → (w : derivation.Label) → ¬ IsLabel text.now w }
+{
+    let (label, rest) = match read_front_label(alloc, text) {
+        Ok(found) => found,
+        Err(fault) => return Err(fault),
+    };
+    if rest.is_empty() {
+        Ok(label)
+    } else {
+        Err(TextRead::None)
+    }
+}
+
+/// A home that is the whole text.
+pub fn read_home(alloc: Global, text: &[u8]) -> Result<Home, TextRead>
+    ensures ok { IfOk result (λ h. IsHome text.now (the_home h)) }
+    ensures none { result ≡ Err TextRead.None → (h : derivation.Home) → ¬ IsHome text.now h }
+{
+    if text == b"any".as_slice() {
+        return Ok(Home::Anywhere);
+    }
+    match read_whole_label(alloc, text) {
+        Ok(label) => Ok(Home::At(label)),
+        Err(fault) => Err(fault),
+    }
+}
+
+/// A term that is the whole text.
+pub fn read_whole_term(alloc: Global, problem: &Problem, text: &[u8]) -> Result<Term, TextRead>
+    ensures ok { IfOk result (λ t. IsTerm problem.now.symbols text.now (the_term t)) }
+    ensures none { result ≡ Err TextRead.None → (t : tree.Term) → ¬ IsTerm problem.now.symbols text.now t }
+{
+    match read_term(alloc, problem.symbols(), text, 0) {
+        Ok((term, to)) => if to == text.len() {
+            Ok(term)
+        } else {
+            Err(TextRead::None)
+        },
+        Err(fault) => Err(fault),
+    }
+}

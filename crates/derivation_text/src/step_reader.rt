@@ -1,0 +1,156 @@
+//! Reading steps.
+
+ghost use Rattle.std.specs.Prelude.{◌≡◌, ◌++◌, ◌∷◌, [], ℕ, List, Err, IsTrue, IsNone, IfSome, IfOk};
+ghost use Rattle.calculus.specs.Derivations as derivation;
+ghost use Rattle.derivation_text.specs.Spelling.{AreArgs, IsLabelAndArg, IsNameNumberAndArg, IsNumberPair, IsStep, IsTermArg, IsUse};
+ghost use Rattle.sequent_calc.specs.StepView.{the_modal, the_step, the_term_arg};
+
+use crate::part_reader::{
+    read_front_label, read_front_number, read_name_number, read_whole_number, read_whole_term,
+    rest_behind,
+};
+use formula_text::TextRead;
+use logic_rules::{Label, Problem};
+use sequent_calc::{ModalArg, Step, TermArg};
+use std::alloc::Global;
+
+// The argument for a variable that is the whole text.
+fn read_term_arg(alloc: Global, problem: &Problem, text: &[u8]) -> Result<TermArg, TextRead>
+    ensures ok { IfOk result (λ t. IsTermArg problem.now.symbols text.now (the_term_arg t)) }
+    ensures none { result ≡ Err TextRead.None → (t : derivation.TermArg) → ¬ IsTermArg problem.now.symbols text.now t }
+{
+    if text.is_empty() {
+        return Ok(TermArg::None);
+    }
+    if let Some(rest) = rest_behind(text, b" term ") {
+        return match read_whole_term(alloc, problem, rest) {
+            Ok(term) => Ok(TermArg::Term(term)),
+            Err(fault) => Err(fault),
+        };
+    }
+    let Some(rest) = rest_behind(text, b" name $$e") else {
+        return Err(TextRead::None);
+    };
+    match read_name_number(rest) {
+        Some(n) => Ok(TermArg::Name(n)),
+        None => Err(TextRead::None),
+    }
+}
+
+// The label of a step and its argument for a variable.
+fn read_label_and_arg(
+    alloc: Global,
+    problem: &Problem,
+    text: &[u8],
+) -> Result<(Label, TermArg), TextRead>
+    ensures ok { IfOk result (λ r. IsLabelAndArg problem.now.symbols text.now r.0 (the_term_arg r.1)) }
+    ensures none { result ≡ Err TextRead.None → (w : derivation.Label) (t : derivation.TermArg) → ¬ IsLabelAndArg problem.now.symbols text.now w t }
+{
+    let (label, rest) = match read_front_label(alloc, text) {
+        Ok(found) => found,
+        Err(fault) => return Err(fault),
+    };
+    match read_term_arg(alloc, problem, rest) {
+        Ok(arg) => Ok((label, arg)),
+        Err(fault) => Err(fault),
+    }
+}
+
+// The number of a step's new character and its argument for a variable.
+fn read_new_and_arg(
+    alloc: Global,
+    problem: &Problem,
+    text: &[u8],
+) -> Result<(u32, TermArg), TextRead>
+    ensures ok { IfOk result (λ r. IsNameNumberAndArg problem.now.symbols text.now r.0 (the_term_arg r.1)) }
+    ensures none { result ≡ Err TextRead.None → (n : ℕ) (t : derivation.TermArg) → ¬ IsNameNumberAndArg problem.now.symbols text.now n t }
+{
+    let Some((n, rest)) = read_front_number(text) else {
+        return Err(TextRead::None);
+    };
+    if n == 0 {
+        return Err(TextRead::None);
+    }
+    match read_term_arg(alloc, problem, rest) {
+        Ok(arg) => Ok((n, arg)),
+        Err(fault) => Err(fault),
+    }
+}
+
+// The arguments of a use step.
+fn read_args(alloc: Global, problem: &Problem, text: &[u8]) -> Result<(ModalArg, TermArg), TextRead>
+    ensures ok { IfOk result (λ r. AreArgs problem.now.symbols text.now (the_modal r.0) (the_term_arg r.1)) }
+    ensures none { result ≡ Err TextRead.None → (m : derivation.ModalArg) (t : derivation.TermArg) → ¬ AreArgs problem.now.symbols text.now m t }
+{
+    if let Some(rest) = rest_behind(text, b" to ") {
+        return match read_label_and_arg(alloc, problem, rest) {
+            Ok((label, arg)) => Ok((ModalArg::To(label), arg)),
+            Err(fault) => Err(fault),
+        };
+    }
+    if let Some(rest) = rest_behind(text, b" new $$c") {
+        return match read_new_and_arg(alloc, problem, rest) {
+            Ok((n, arg)) => Ok((ModalArg::New(n), arg)),
+            Err(fault) => Err(fault),
+        };
+    }
+    match read_term_arg(alloc, problem, text) {
+        Ok(arg) => Ok((ModalArg::None, arg)),
+        Err(fault) => Err(fault),
+    }
+}
+
+// A use step behind its first word.
+fn read_use(
+    alloc: Global,
+    problem: &Problem,
+    text: &[u8],
+) -> Result<(u32, ModalArg, TermArg), TextRead>
+    ensures ok { IfOk result (λ r. IsUse problem.now.symbols text.now r.0 (the_modal r.1) (the_term_arg r.2)) }
+    ensures none { result ≡ Err TextRead.None → (n : ℕ) (m : derivation.ModalArg) (t : derivation.TermArg) → ¬ IsUse problem.now.symbols text.now n m t }
+{
+    let Some((entry, rest)) = read_front_number(text) else {
+        return Err(TextRead::None);
+    };
+    match read_args(alloc, problem, rest) {
+        Ok((modal, term)) => Ok((entry, modal, term)),
+        Err(fault) => Err(fault),
+    }
+}
+
+// Two numbers with a space between them.
+fn read_number_pair(text: &[u8]) -> Option<(u32, u32)>
+    ensures some { IfSome result (λ r. IsNumberPair text.now r.0 r.1) }
+    ensures none { IsNone result → (n k : ℕ) → ¬ IsNumberPair text.now n k }
+{
+    let Some((given, rest)) = read_front_number(text) else {
+        return None;
+    };
+    let Some(rest) = rest_behind(rest, b" ") else {
+        return None;
+    };
+    match read_whole_number(rest) {
+        Some(shown) => Some((given, shown)),
+        None => None,
+    }
+}
+
+/// The step whose line is the text.
+pub fn read_step(alloc: Global, problem: &Problem, text: &[u8]) -> Result<Step, TextRead>
+    ensures ok { IfOk result (λ x. IsStep problem.now.symbols text.now (the_step x)) }
+    ensures none { result ≡ Err TextRead.None → (x : derivation.Step) → ¬ IsStep problem.now.symbols text.now x }
+{
+    if let Some(rest) = rest_behind(text, b"use ") {
+        return match read_use(alloc, problem, rest) {
+            Ok((entry, modal, term)) => Ok(Step::Use { entry, modal, term }),
+            Err(fault) => Err(fault),
+        };
+    }
+    let Some(rest) = rest_behind(text, b"axiom ") else {
+        return Err(TextRead::None);
+    };
+    match read_number_pair(rest) {
+        Some((given, shown)) => Ok(Step::Axiom { given, shown }),
+        None => Err(TextRead::None),
+    }
+}

@@ -1,0 +1,184 @@
+//! Worked texts through the public calls.
+
+ghost use Rattle.std.specs.Prelude.{◌≡◌, ◌∷◌, [], IfOk};
+ghost use Rattle.calculus.specs.Syntax as tree;
+ghost use Rattle.derivation_text.specs.Examples.{self_implication};
+ghost use Rattle.formula_core.specs.FormulaView.{the_formula};
+ghost use Rattle.formula_core.specs.SymbolView.{the_symbol};
+
+use crate::{ParseFault, parse, print};
+use calculus::fault::TextCause;
+use cop_base::{NoMemory, SymbolId, Text};
+use formula_core::{AddFault, Formula, Symbol, SymbolClass, Symbols, Terms};
+use logic_rules::{Domains, Logic, Problem, Setting};
+use std::alloc::Global;
+use std::test::Fail;
+
+fn one_symbol(alloc: Global) -> Result<Symbols, NoMemory>
+    ensures { IfOk result (λ s. s ≡ self_implication.symbols) }
+{
+    let mut symbols = Symbols::new(alloc);
+    let name = Text::new(alloc, b"p")?;
+    match symbols.add(Symbol {
+        name,
+        class: SymbolClass::Predicate,
+        arity: 0,
+    }) {
+        Ok(_) => Ok(symbols),
+        Err(AddFault::Full | AddFault::NoMemory) => Err(NoMemory),
+    }
+}
+
+fn atom(alloc: Global) -> Formula
+    ensures { the_formula result ≡ tree.atom 0 tree.no_terms }
+{
+    Formula::Atom(SymbolId(0), Terms::new(alloc))
+}
+
+// The formula `(p => p)` in classical logic.
+fn problem(alloc: Global) -> Result<Problem, NoMemory>
+    ensures { IfOk result (λ p. p ≡ self_implication) }
+{
+    let setting = Setting::new(Logic::Classical, Domains::Constant);
+    let symbols = one_symbol(alloc)?;
+    let left = Box::new(alloc, atom(alloc))?;
+    let right = Box::new(alloc, atom(alloc))?;
+    Ok(Problem::new(setting, Formula::Imp(left, right), symbols))
+}
+
+// The fault of a text, or none where it is read as a derivation whose text it is.
+fn fault_of(alloc: Global, text: &[u8]) -> Result<Option<(u64, TextCause)>, NoMemory> {
+    let problem = problem(alloc)?;
+    match parse(alloc, &problem, text) {
+        Ok(derivation) => {
+            let printed = print(alloc, &problem, &derivation)?;
+            if printed.as_slice() == text {
+                Ok(None)
+            } else {
+                Ok(Some((0, TextCause::Line)))
+            }
+        }
+        Err(ParseFault::Text { line, cause }) => Ok(Some((line, cause))),
+        Err(ParseFault::NoMemory) => Err(NoMemory),
+    }
+}
+
+#[test]
+fn reads_and_prints(rt: HostRuntime) -> Result<(), Fail> {
+    let alloc = rt.alloc();
+    for text in [
+        b"leancop derivation 1\nlogic classical\nformula (p => p)\nlimit 1\nuse 1\naxiom 2 3\nend\n".as_slice(),
+        b"leancop derivation 1\nlogic classical\nformula (p => p)\nlimit 200\nname $$e1 []\nname $$e9 [$$c1,$$d2]\nname $$s1 any\nname $$s4294967295 []\nuse 0\nuse 3 new $$c1\nuse 4 name $$e1\nuse 6 to [$$c1]\nuse 7 to [] name $$e4294967295\naxiom 7 4294967295\nend\n",
+    ] {
+        assert_eq!(rt; fault_of(alloc, text)?, None);
+    }
+    Ok(())
+}
+
+#[test]
+fn tells_the_first_wrong_line(rt: HostRuntime) -> Result<(), Fail> {
+    let alloc = rt.alloc();
+    for (text, line, cause) in [
+        (b"".as_slice(), 1, TextCause::Version),
+        (b"leancop derivation 1", 1, TextCause::Version),
+        (b"leancop derivation 2\n", 1, TextCause::Version),
+        (
+            b"leancop derivation 1\nlogic t constant\n",
+            2,
+            TextCause::Setting,
+        ),
+        (
+            b"leancop derivation 1\nlogic classical\nformula (p => q)\n",
+            3,
+            TextCause::Formula,
+        ),
+        (
+            b"leancop derivation 1\nlogic classical\nformula (p => p)\nlimit 0\n",
+            4,
+            TextCause::Limit,
+        ),
+        (
+            b"leancop derivation 1\nlogic classical\nformula (p => p)\nlimit 201\n",
+            4,
+            TextCause::Limit,
+        ),
+        (
+            b"leancop derivation 1\nlogic classical\nformula (p => p)\nlimit 1",
+            4,
+            TextCause::Limit,
+        ),
+        (
+            b"leancop derivation 1\nlogic classical\nformula (p => p)\nlimit 1\n",
+            5,
+            TextCause::Line,
+        ),
+        (
+            b"leancop derivation 1\nlogic classical\nformula (p => p)\nlimit 1\nname $$e0 []\n",
+            5,
+            TextCause::Name,
+        ),
+        (
+            b"leancop derivation 1\nlogic classical\nformula (p => p)\nlimit 1\nname $$e2 []\nname $$e2 []\nend\n",
+            6,
+            TextCause::Name,
+        ),
+        (
+            b"leancop derivation 1\nlogic classical\nformula (p => p)\nlimit 1\nname $$s1 any\nname $$e1 []\nend\n",
+            6,
+            TextCause::Name,
+        ),
+        (
+            b"leancop derivation 1\nlogic classical\nformula (p => p)\nlimit 1\nname $$e1 []",
+            5,
+            TextCause::Line,
+        ),
+        (
+            b"leancop derivation 1\nlogic classical\nformula (p => p)\nlimit 1\nuse 1\nname $$e1 []\nend\n",
+            6,
+            TextCause::Line,
+        ),
+        (
+            b"leancop derivation 1\nlogic classical\nformula (p => p)\nlimit 1\nuse 01\nend\n",
+            5,
+            TextCause::Line,
+        ),
+        (
+            b"leancop derivation 1\nlogic classical\nformula (p => p)\nlimit 1\nuse 4294967296\nend\n",
+            5,
+            TextCause::Line,
+        ),
+        (
+            b"leancop derivation 1\nlogic classical\nformula (p => p)\nlimit 1\nuse 1 new $$c0\nend\n",
+            5,
+            TextCause::Line,
+        ),
+        (
+            b"leancop derivation 1\nlogic classical\nformula (p => p)\nlimit 1\naxiom 2  3\nend\n",
+            5,
+            TextCause::Line,
+        ),
+        (
+            b"leancop derivation 1\nlogic classical\nformula (p => p)\nlimit 1\nuse 1\n",
+            6,
+            TextCause::Line,
+        ),
+        (
+            b"leancop derivation 1\nlogic classical\nformula (p => p)\nlimit 1\nuse 1\nend",
+            6,
+            TextCause::Line,
+        ),
+        (
+            b"leancop derivation 1\nlogic classical\nformula (p => p)\nlimit 1\nuse 1\nend\nend\n",
+            7,
+            TextCause::TextAfterEnd,
+        ),
+        (
+            b"leancop derivation 1\nlogic classical\nformula (p => p)\nlimit 1\nuse 1\nend\n ",
+            7,
+            TextCause::TextAfterEnd,
+        ),
+    ] {
+        assert_eq!(rt; fault_of(alloc, text)?, Some((line, cause)));
+    }
+    Ok(())
+}
