@@ -1,0 +1,10 @@
+use Rattle.std.proofs.Common.{◌≡◌, length}
+use Rattle.calculus.specs.Text.{is_word_byte}
+use Rattle.tptp_lex.specs.Scanning.{after_run}
+use Rattle.tptp_lex.proofs.bytes.after_word.Given as goal
+
+abbrev pub invariant-loop-first : goal.invariant-loop-first
+invariant-loop-first l = after_run is_word_byte l.rest ≡ after_run is_word_byte l.bytes
+
+abbrev pub decreases-loop-first : goal.decreases-loop-first
+decreases-loop-first l = length l.rest
