@@ -1,0 +1,249 @@
+//! Branches of a derivation.
+
+ghost use Rattle.std.specs.Prelude.{◌≡◌, ◌≢◌, ◌+◌, ◌-◌, ◌++◌, ◌∷◌, [], ◌<◌, ◌≤◌, ◌^◌, ℕ, Some, None, length, take, slice_get, slice_index, IfOk, OnOk, MatchOption, IsTrue, ◌↔◌};
+ghost use Rattle.std.specs.Option.{option_map};
+ghost use Rattle.formula_core.specs.FormulaView.{the_formula};
+ghost use Rattle.propositional_convert.specs.Literals.{HasNoPair, IsAbsent, IsPair, literal, literal_in, literal_numbered, literal_of, number_in};
+ghost use Rattle.propositional_convert.specs.NodeView.{the_node};
+
+use crate::entry::Entry;
+use cop_base::NoMemory;
+use formula_core::{Formula, Sign};
+use std::alloc::Global;
+use std::marker::Model;
+
+/// The numbers of a T entry and an F entry of one atom.
+#[derive(Clone, Copy)]
+pub(crate) struct Pair {
+    pub given: usize,
+    pub shown: usize,
+}
+
+// The number of the first T entry and of the first F entry of each symbol.
+#[derive(Drop)]
+struct Numbers {
+    given: Vec<usize>,
+    shown: Vec<usize>,
+}
+
+/// The entries of a branch, whose numbers count from 1.
+#[derive(Drop)]
+pub(crate) struct Branch<'a> {
+    entries: Vec<Entry<'a>>,
+    // A number is out of date where it is past the end or its entry is no such one, so that entries can be taken off
+    // without a look at the numbers.
+    numbers: Numbers,
+}
+
+impl<'a> Model for Branch<'a> {
+    ghost use Rattle.std.specs.Prelude.{List, map};
+    ghost use Rattle.std.specs.Coded.{codes};
+    ghost use Rattle.calculus.specs.Codes.{formula_code};
+    ghost use Rattle.calculus.specs.Positions.{Node};
+    ghost use Rattle.propositional_convert.specs.Literals.{KeepsNumbers};
+    ghost use Rattle.propositional_convert.specs.NodeView.{the_node};
+
+    ghost Value = { List Node };
+
+    ghost coded = { Prim.hlevel (codes, formula_code) };
+
+    ghost view = { λ b. map the_node b.entries.items };
+
+    ghost invariant = { λ b. KeepsNumbers b.numbers.given.items b.numbers.shown.items (map the_node b.entries.items) };
+}
+
+// The number at a place, or 0 past the end.
+fn number_at(numbers: &[usize], place: usize) -> usize
+    ensures { result ≡ slice_index numbers.now place }
+{
+    match numbers.get(place) {
+        Some(number) => *number,
+        None => 0,
+    }
+}
+
+// Puts the number at the place, and 0 at the places that are new before it.
+fn put_number(numbers: &mut Vec<usize>, place: usize, number: usize) -> Result<(), NoMemory>
+    ensures here { OnOk result (slice_index numbers.new.items place ≡ number) }
+    ensures others { (p : ℕ) → p ≢ place → slice_index numbers.new.items p ≡ slice_index numbers.old.items p }
+{
+    while numbers.len() <= place {
+        numbers.push(0)?;
+    }
+    numbers[place] = number;
+    Ok(())
+}
+
+// The symbol of an atom.
+fn symbol_of(f: &Formula) -> Option<usize>
+    ensures { (s : Sign) → literal_in s (the_formula f.now) ≡ option_map (literal s) result }
+{
+    match f {
+        Formula::Atom(p, _) => Some(p.0 as usize),
+        Formula::Not(_)
+        | Formula::And(_, _)
+        | Formula::Or(_, _)
+        | Formula::Imp(_, _)
+        | Formula::All(_)
+        | Formula::Ex(_)
+        | Formula::Nec(_)
+        | Formula::Poss(_) => None,
+    }
+}
+
+fn is_literal(entry: Entry, sign: Sign, symbol: usize) -> bool
+    ensures { IsTrue result ↔ (literal_of (the_node entry.entry) ≡ Some (literal sign symbol)) }
+{
+    match symbol_of(entry.formula) {
+        Some(p) => p == symbol && entry.sign == sign,
+        None => false,
+    }
+}
+
+impl Numbers {
+    fn get(&self, sign: Sign, symbol: usize) -> usize
+        ensures { result ≡ number_in self.now.given.items self.now.shown.items sign symbol }
+    {
+        match sign {
+            Sign::T => number_at(&self.given, symbol),
+            Sign::F => number_at(&self.shown, symbol),
+        }
+    }
+
+    fn put(&mut self, sign: Sign, symbol: usize, number: usize) -> Result<(), NoMemory>
+        ensures here { OnOk result (number_in self.new.given.items self.new.shown.items sign symbol ≡ number) }
+        ensures others { (s : Sign) (p : ℕ) → (s ≡ sign → p ≢ symbol)
+            → number_in self.new.given.items self.new.shown.items s p ≡ number_in self.old.given.items self.old.shown.items s p }
+    {
+        match sign {
+            Sign::T => put_number(&mut self.given, symbol, number),
+            Sign::F => put_number(&mut self.shown, symbol, number),
+        }
+    }
+}
+
+impl<'a> Branch<'a> {
+    pub(crate) fn new(alloc: Global) -> Branch<'a>
+        ensures { result ≡ [] }
+    {
+        Branch {
+            entries: Vec::new(alloc),
+            numbers: Numbers {
+                given: Vec::new(alloc),
+                shown: Vec::new(alloc),
+            },
+        }
+    }
+
+    pub(crate) fn len(&self) -> usize
+        ensures { result ≡ length self.now }
+    {
+        self.entries.len()
+    }
+
+    pub(crate) fn entry(&self, index: usize) -> Entry<'a>
+        requires { index < length self.now }
+        ensures { slice_get self.now index ≡ Some (the_node result) }
+    {
+        self.entries[index]
+    }
+
+    /// Takes off the entries past the first `length` ones.
+    pub(crate) fn truncate(&mut self, length: usize)
+        ensures { self.new ≡ take length self.old }
+    {
+        self.entries.truncate(length);
+    }
+
+    // The number of the first entry of an atom with this sign.
+    fn find(&self, sign: Sign, symbol: usize) -> Option<usize>
+        ensures { MatchOption result (IsAbsent self.now sign symbol) (λ number. literal_numbered self.now number ≡ Some (literal sign symbol)) }
+    {
+        let number = self.numbers.get(sign, symbol);
+        if number == 0 {
+            return None;
+        }
+        if number > self.len() {
+            return None;
+        }
+        if is_literal(self.entry(number - 1), sign, symbol) {
+            Some(number)
+        } else {
+            None
+        }
+    }
+
+    /// Adds an entry, and gives the pair that it makes with an earlier one, if there is one.
+    pub(crate) fn add(&mut self, entry: Entry<'a>) -> Result<Option<Pair>, NoMemory>
+        requires { length self.old < 2 ^ 32 }
+        ensures added { OnOk result (self.new ≡ self.old ++ the_node entry.entry ∷ []) }
+        ensures pair { IfOk result (λ found. MatchOption found (HasNoPair self.old → HasNoPair self.new) (λ pair. IsPair self.new pair.given pair.shown)) }
+    {
+        match symbol_of(entry.formula) {
+            Some(symbol) => self.add_literal(entry, symbol),
+            None => {
+                self.push_other(entry)?;
+                Ok(None)
+            }
+        }
+    }
+
+    // Puts an entry that is no atom to the others.
+    fn push_other(&mut self, entry: Entry<'a>) -> Result<(), NoMemory>
+        requires { literal_of (the_node entry) ≡ None }
+        ensures { OnOk result (self.new ≡ self.old ++ the_node entry.entry ∷ []) }
+    {
+        self.entries.push(entry)?;
+        Ok(())
+    }
+
+    // Adds an entry of an atom.
+    fn add_literal(&mut self, entry: Entry<'a>, symbol: usize) -> Result<Option<Pair>, NoMemory>
+        requires literal { literal_of (the_node entry) ≡ Some (literal entry.sign symbol) }
+        requires few { length self.old < 2 ^ 32 }
+        ensures added { OnOk result (self.new ≡ self.old ++ the_node entry.entry ∷ []) }
+        ensures pair { IfOk result (λ found. MatchOption found (HasNoPair self.old → HasNoPair self.new) (λ pair. IsPair self.new pair.given pair.shown)) }
+    {
+        let number = self.len() + 1;
+        let complement = self.find(entry.sign.other(), symbol);
+        self.push_literal(entry, symbol)?;
+        match (entry.sign, complement) {
+            (_, None) => Ok(None),
+            (Sign::T, Some(shown)) => Ok(Some(Pair {
+                given: number,
+                shown,
+            })),
+            (Sign::F, Some(given)) => Ok(Some(Pair {
+                given,
+                shown: number,
+            })),
+        }
+    }
+
+    // Puts the entry of an atom to the others, and keeps its number if it is the first one.
+    fn push_literal(&mut self, entry: Entry<'a>, symbol: usize) -> Result<(), NoMemory>
+        requires literal { literal_of (the_node entry) ≡ Some (literal entry.sign symbol) }
+        requires few { length self.old < 2 ^ 32 }
+        ensures { OnOk result (self.new ≡ self.old ++ the_node entry.entry ∷ []) }
+    {
+        match self.find(entry.sign, symbol) {
+            None => self.push_first(entry, symbol),
+            Some(_) => {
+                self.entries.push(entry)?;
+                Ok(())
+            }
+        }
+    }
+
+    fn push_first(&mut self, entry: Entry<'a>, symbol: usize) -> Result<(), NoMemory>
+        requires literal { literal_of (the_node entry) ≡ Some (literal entry.sign symbol) }
+        requires absent { IsAbsent self.old entry.sign symbol }
+        requires few { length self.old < 2 ^ 32 }
+        ensures { OnOk result (self.new ≡ self.old ++ the_node entry.entry ∷ []) }
+    {
+        let number = self.len() + 1;
+        self.numbers.put(entry.sign, symbol, number)?;
+        self.entries.push(entry)?;
+        Ok(())
+    }
+}

@@ -1,0 +1,213 @@
+//! The positions of a formula and those that the clauses of a tableau reach.
+
+ghost use Rattle.std.specs.Prelude.{◌≡◌, ◌+◌, ◌++◌, ◌∷◌, [], ◌<◌, ◌≤◌, ◌^◌, ℕ, suc, length, slice_index, IsTrue, IfOk, MatchOption, ◌↔◌};
+ghost use Rattle.std.specs.List.{AllByRecursion};
+ghost use Rattle.calculus.specs.Kinds.{other};
+ghost use Rattle.calculus.specs.Positions.{node, size};
+ghost use Rattle.calculus.specs.Propositional.{is_propositional};
+ghost use Rattle.calculus.specs.declared.sign.Sign.TheVariants.{F};
+ghost use Rattle.formula_core.specs.FormulaView.{the_formula};
+ghost use Rattle.propositional_convert.specs.Marking.{IsMarked, KeepsMarks, MarksAll, MarksClause, MarksClauses};
+ghost use Rattle.propositional_convert.specs.NodeView.{ArePartsOf, AreTwo, the_node};
+ghost use Rattle.propositional_convert.specs.Parts.{Fits, HasSizes, sizes_below, sizes_of};
+
+use crate::entry::{Entry, Parts};
+use cop_base::NoMemory;
+use formula_core::{Formula, Sign};
+use std::alloc::Global;
+use tableau_core::{Selection, Side};
+
+/// The numbers of positions of the parts of a formula, and the marks of the positions that are worked off.
+#[derive(Drop)]
+pub(crate) struct Plan {
+    pub sizes: Vec<usize>,
+    pub marks: Vec<bool>,
+    ghost same_length: { length marks.items ≡ length sizes.items },
+}
+
+// Appends the sizes of the parts of the formula in preorder.
+#[cycle(sizes)]
+#[tactic(auto, using(crate::proofs::Sizes::appended))]
+fn add_sizes(sizes: &mut Vec<usize>, f: &Formula) -> Result<(), NoMemory>
+    ensures { IfOk result (λ _. sizes.new.items ≡ sizes.old.items ++ sizes_of (the_formula f.now)) }
+{
+    let start = sizes.len();
+    sizes.push(1)?;
+    add_sizes_below(sizes, f)?;
+    sizes[start] = sizes.len() - start;
+    Ok(())
+}
+
+// Appends those of its proper parts.
+#[cycle(sizes)]
+fn add_sizes_below(sizes: &mut Vec<usize>, f: &Formula) -> Result<(), NoMemory>
+    ensures { IfOk result (λ _. sizes.new.items ≡ sizes.old.items ++ sizes_below (the_formula f.now)) }
+{
+    match f {
+        Formula::Atom(_, _) => Ok(()),
+        Formula::And(a, b) | Formula::Or(a, b) | Formula::Imp(a, b) => {
+            add_sizes(sizes, a)?;
+            add_sizes(sizes, b)
+        }
+        Formula::Not(a) | Formula::All(a) | Formula::Ex(a) | Formula::Nec(a) | Formula::Poss(a) =>
+            add_sizes(sizes, a),
+    }
+}
+
+// The first side and those after it.
+fn next_side(sides: &[Side]) -> Option<(Side, &[Side])>
+    ensures { MatchOption result (sides.now ≡ []) (λ next. sides.now ≡ next.0 ∷ next.1.now) }
+{
+    match sides.split_first() {
+        None => None,
+        Some((side, rest)) => Some((*side, rest)),
+    }
+}
+
+// As many marks, none of them set.
+fn unmarked(alloc: Global, count: usize) -> Result<Vec<bool>, NoMemory>
+    ensures { IfOk result (λ marks. length marks.items ≡ count) }
+{
+    let mut marks = Vec::new(alloc);
+    for _ in 0..count {
+        marks.push(false)?;
+    }
+    Ok(marks)
+}
+
+impl Plan {
+    /// The plan by which the clauses of these selections are worked off.
+    pub(crate) fn new(
+        alloc: Global,
+        formula: &Formula,
+        selections: &[Selection],
+    ) -> Result<Plan, NoMemory>
+        requires { IsTrue (is_propositional (the_formula formula.now)) }
+        ensures sizes { IfOk result (λ plan. plan.sizes.items ≡ sizes_of (the_formula formula.now)) }
+        ensures marks { IfOk result (λ plan. MarksClauses plan.marks.items (the_formula formula.now) selections.now) }
+    {
+        let mut sizes = Vec::new(alloc);
+        add_sizes(&mut sizes, formula)?;
+        let marks = unmarked(alloc, sizes.len())?;
+        let mut plan = Plan { sizes, marks };
+        for selection in selections {
+            plan.mark_clause(formula, selection);
+        }
+        Ok(plan)
+    }
+
+    // Marks the positions that the clause of a selection reaches.
+    #[tactic(auto, using(crate::proofs::Marks::marking, crate::proofs::Sizes::sizing))]
+    fn mark_clause(&mut self, formula: &Formula, selection: &Selection)
+        requires propositional { IsTrue (is_propositional (the_formula formula.now)) }
+        requires sizes { self.old.sizes.items ≡ sizes_of (the_formula formula.now) }
+        ensures sizes { self.new.sizes.items ≡ self.old.sizes.items }
+        ensures kept { KeepsMarks self.old.marks.items self.new.marks.items }
+        ensures marked { MarksClause self.new.marks.items (the_formula formula.now) selection.now }
+    {
+        let root = Entry {
+            sign: Sign::F,
+            formula,
+            position: 0,
+        };
+        let _ = self.mark(root, selection.items());
+    }
+
+    // Marks the positions that the clause of a selection reaches from the entry on, and gives the sides that are left.
+    #[cycle(mark)]
+    fn mark<'s>(&mut self, at: Entry, sides: &'s [Side]) -> &'s [Side]
+        requires { Fits self.old.sizes.items (the_node at) }
+        ensures sizes { self.new.sizes.items ≡ self.old.sizes.items }
+        ensures kept { KeepsMarks self.old.marks.items self.new.marks.items }
+        ensures marked { MarksAll self.new.marks.items (the_node at.entry) sides.now result.now }
+    {
+        self.marks[at.position] = true;
+        match self.parts(at) {
+            Parts::Literal => sides,
+            Parts::One(part) => self.mark(part, sides),
+            Parts::Both(first, second) => match next_side(sides) {
+                None => sides,
+                Some((Side::Left, rest)) => self.mark(first, rest),
+                Some((Side::Right, rest)) => self.mark(second, rest),
+            },
+            Parts::Either(first, second) => {
+                let rest = self.mark(first, sides);
+                self.mark(second, rest)
+            }
+        }
+    }
+
+    pub(crate) fn is_marked(&self, position: usize) -> bool
+        requires { position < length self.now.sizes.items }
+        ensures { IsTrue result ↔ IsMarked self.now.marks.items position }
+    {
+        self.marks[position]
+    }
+
+    /// What a step on the entry adds to its branch.
+    pub(crate) fn parts<'a>(&self, parent: Entry<'a>) -> Parts<'a>
+        requires { Fits self.now.sizes.items (the_node parent) }
+        ensures { ArePartsOf self.now.sizes.items (the_node parent.entry) result }
+    {
+        match parent.formula {
+            Formula::Atom(_, _) => Parts::Literal,
+            Formula::Not(a) => Parts::One(Entry {
+                sign: parent.sign.other(),
+                formula: a,
+                position: parent.position + 1,
+            }),
+            Formula::And(a, b) => {
+                let (first, second) = self.pair(parent, parent.sign, a, b);
+                match parent.sign {
+                    Sign::T => Parts::Both(first, second),
+                    Sign::F => Parts::Either(first, second),
+                }
+            }
+            Formula::Or(a, b) => {
+                let (first, second) = self.pair(parent, parent.sign, a, b);
+                match parent.sign {
+                    Sign::T => Parts::Either(first, second),
+                    Sign::F => Parts::Both(first, second),
+                }
+            }
+            Formula::Imp(a, b) => {
+                let (first, second) = self.pair(parent, parent.sign.other(), a, b);
+                match parent.sign {
+                    Sign::T => Parts::Either(first, second),
+                    Sign::F => Parts::Both(first, second),
+                }
+            }
+            Formula::All(_) | Formula::Ex(_) | Formula::Nec(_) | Formula::Poss(_) => unreachable!(),
+        }
+    }
+
+    // The components a and b of the entry, the first one with the sign.
+    fn pair<'a>(
+        &self,
+        parent: Entry<'a>,
+        sign: Sign,
+        a: &'a Formula,
+        b: &'a Formula,
+    ) -> (Entry<'a>, Entry<'a>)
+        requires first { HasSizes self.now.sizes.items (parent.position + 1) (the_formula a.now) }
+        requires second { HasSizes self.now.sizes.items (parent.position + suc (size (the_formula a.now))) (the_formula b.now) }
+        ensures signs { (result.0.sign ≡ sign) × (result.1.sign ≡ parent.entry.sign) }
+        ensures formulas { (the_formula result.0.formula.now ≡ the_formula a.now) × (the_formula result.1.formula.now ≡ the_formula b.now) }
+        ensures first_place { result.0.position ≡ parent.entry.position + 1 }
+        ensures second_place { result.1.position ≡ parent.entry.position + suc (size (the_formula a.now)) }
+    {
+        let position = parent.position + 1;
+        (
+            Entry {
+                sign,
+                formula: a,
+                position,
+            },
+            Entry {
+                sign: parent.sign,
+                formula: b,
+                position: position + self.sizes[position],
+            },
+        )
+    }
+}

@@ -1,0 +1,9 @@
+//! The reading of a propositional conjecture in the syntax of TPTP.
+#![tactic(auto)]
+
+mod parser;
+mod part;
+pub mod reading;
+mod token;
+
+pub use reading::{ReadRefusal, read};

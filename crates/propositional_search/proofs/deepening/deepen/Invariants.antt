@@ -1,0 +1,5 @@
+use Rattle.tableau_core.specs.Closed.{HasClosed}
+use Rattle.propositional_search.proofs.deepening.deepen.Given as goal
+
+abbrev pub invariant-loop-below : goal.invariant-loop-below
+invariant-loop-below l = HasClosed l.problem l.below → ⊥

@@ -1,0 +1,48 @@
+-- The clauses of a signed propositional formula, by recursion on the formula.
+use Rattle.std.specs.Prelude.{ℕ, List, [], ◌∷◌, ◌++◌, map}
+use Rattle.calculus.specs.declared.sign.Sign.{Sign}
+use Rattle.calculus.specs.declared.sign.Side.{Side}
+use Rattle.calculus.specs.declared.sign.Side.TheVariants.{Left, Right}
+use Rattle.calculus.specs.declared.kind.Shape.{Shape}
+use Rattle.calculus.specs.declared.kind.Shape.TheVariants.{Beta}
+use Rattle.calculus.specs.Syntax.{Formula, atom, neg, conj, disj, imp, all, ex, box, dia}
+use Rattle.calculus.specs.Ground.{no_g_terms, GroundLiteral}
+use Rattle.calculus.specs.Kinds.{other, shape_of}
+use Rattle.calculus.specs.Instances.{ClauseInstance}
+
+-- a signed propositional atom at the empty label
+abbrev pub literal_of : Sign → ℕ → GroundLiteral
+literal_of s p = record { sign = s; symbol = p; args = no_g_terms; label = [] }
+
+-- a clause by its sides and literals
+abbrev pub clause_of : List Side → List GroundLiteral → ClauseInstance
+clause_of sides literals = record { selection = sides; values = []; literals = literals }
+
+abbrev pub after_side : Side → ClauseInstance → ClauseInstance
+after_side d i = clause_of (d ∷ i.selection) i.literals
+
+abbrev pub joined : ClauseInstance → ClauseInstance → ClauseInstance
+joined i j = clause_of (i.selection ++ j.selection) (i.literals ++ j.literals)
+
+-- each of the first joined with each of the second, the first ones outermost
+abbrev pub all_pairs : List ClauseInstance → List ClauseInstance → List ClauseInstance
+all_pairs [] ys = []
+all_pairs (x ∷ xs) ys = map (λ (y : ClauseInstance). joined x y) ys ++ all_pairs xs ys
+
+abbrev pub either_side : List ClauseInstance → List ClauseInstance → List ClauseInstance
+either_side xs ys = map (λ (x : ClauseInstance). after_side Left x) xs ++ map (λ (y : ClauseInstance). after_side Right y) ys
+
+abbrev pub clauses_of_two : Shape → List ClauseInstance → List ClauseInstance → List ClauseInstance
+clauses_of_two Beta xs ys = all_pairs xs ys
+clauses_of_two _ xs ys = either_side xs ys
+
+abbrev pub clauses_of : Formula → Sign → List ClauseInstance
+clauses_of (atom p ts) s = clause_of [] (literal_of s p ∷ []) ∷ []
+clauses_of (neg a) s = clauses_of a (other s)
+clauses_of (conj a b) s = clauses_of_two (shape_of s (conj a b)) (clauses_of a s) (clauses_of b s)
+clauses_of (disj a b) s = clauses_of_two (shape_of s (disj a b)) (clauses_of a s) (clauses_of b s)
+clauses_of (imp a b) s = clauses_of_two (shape_of s (imp a b)) (clauses_of a (other s)) (clauses_of b s)
+clauses_of (all a) s = clauses_of a s
+clauses_of (ex a) s = clauses_of a s
+clauses_of (box a) s = clauses_of a s
+clauses_of (dia a) s = clauses_of a s

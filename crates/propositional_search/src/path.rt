@@ -1,0 +1,55 @@
+//! The goals above a goal.
+
+ghost use Rattle.std.specs.Prelude.{◌≡◌};
+ghost use Rattle.std.specs.List.{list_any};
+ghost use Rattle.calculus.specs.Equality.{literal_eq, sign_eq};
+ghost use Rattle.propositional_search.specs.ClauseView.{the_literal};
+ghost use Rattle.propositional_search.specs.PathView.{the_path};
+ghost use Rattle.propositional_search.specs.Search.{complement};
+
+use crate::clause::Literal;
+use formula_core::Sign;
+
+/// A branch of a tableau, from its leaf up.
+#[derive(Clone, Copy)]
+pub enum Path<'a> {
+    Root,
+    Below(Literal, &'a Path<'a>),
+}
+
+impl<'a> Path<'a> {
+    pub fn has(&self, literal: Literal) -> bool
+        ensures { result ≡ list_any (literal_eq (the_literal literal)) (the_path self.now) }
+    {
+        match self {
+            Path::Root => false,
+            Path::Below(nearest, above) => literal.is_same(*nearest) || above.has(literal),
+        }
+    }
+}
+
+impl Literal {
+    pub fn complement(self) -> Literal
+        ensures { the_literal result ≡ complement (the_literal self) }
+    {
+        Literal {
+            sign: self.sign.other(),
+            symbol: self.symbol,
+        }
+    }
+
+    fn is_same(self, other: Literal) -> bool
+        ensures { result ≡ literal_eq (the_literal self) (the_literal other) }
+    {
+        is_same_sign(self.sign, other.sign) && self.symbol.0 == other.symbol.0
+    }
+}
+
+fn is_same_sign(a: Sign, b: Sign) -> bool
+    ensures { result ≡ sign_eq a b }
+{
+    match (a, b) {
+        (Sign::T, Sign::T) | (Sign::F, Sign::F) => true,
+        (Sign::T, Sign::F) | (Sign::F, Sign::T) => false,
+    }
+}

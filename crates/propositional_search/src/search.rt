@@ -1,0 +1,204 @@
+//! The connection search below a goal: regularity, reduction and extension, by plain recursion.
+
+ghost use Rattle.std.specs.Prelude.{◌≡◌, ℕ, ◌+◌, ◌*◌, ◌<◌, ◌∷◌, false, Contains, IfOk, length, map, remove};
+ghost use Rattle.std.specs.List.{AllByRecursion, list_any};
+ghost use Rattle.calculus.specs.Equality.{literal_eq};
+ghost use Rattle.calculus.specs.Syntax as tree;
+ghost use Rattle.propositional_search.specs.ClauseView.{the_literal};
+ghost use Rattle.propositional_search.specs.Matrix.{IsMatrix};
+ghost use Rattle.propositional_search.specs.PathView.{the_path};
+ghost use Rattle.propositional_search.specs.Places.{IsAt};
+ghost use Rattle.propositional_search.specs.Search.{Extends, GoalOutcome, GoalsOutcome, PlacesOutcome, complement, others_at};
+
+use crate::clause::Literal;
+use crate::index::Place;
+use crate::matrix::Matrix;
+use crate::noted::Noted;
+use crate::outcome::Outcome;
+use crate::path::Path;
+use cop_base::NoMemory;
+use std::alloc::Global;
+
+/// Closes each of the goals below the path, on which there is room for `left` more goals.
+#[cycle(search)]
+pub fn solve_all(
+    alloc: Global,
+    matrix: &Matrix,
+    goals: &[Literal],
+    path: &Path,
+    left: u8,
+    noted: &mut Noted,
+) -> Result<Outcome, NoMemory>
+    ensures extends { IfOk result (λ _. Extends noted.old noted.new) }
+    ensures outcome { IfOk result (λ o. (P : tree.Problem) (d : ℕ) → IsMatrix P matrix.now
+        → d ≡ left + length (the_path path.now)
+        → GoalsOutcome P matrix.now noted.new d (the_path path.now) (map the_literal goals.now) o) }
+{
+    for goal in goals {
+        match solve(alloc, matrix, *goal, path, left, noted)? {
+            Outcome::Closed => {}
+            Outcome::Limited => return Ok(Outcome::Limited),
+            Outcome::Open => return Ok(Outcome::Open),
+        }
+    }
+    Ok(Outcome::Closed)
+}
+
+// A goal that stands on its path is left; a reduction is tried before extensions.
+#[cycle(search)]
+fn solve(
+    alloc: Global,
+    matrix: &Matrix,
+    goal: Literal,
+    path: &Path,
+    left: u8,
+    noted: &mut Noted,
+) -> Result<Outcome, NoMemory>
+    ensures extends { IfOk result (λ _. Extends noted.old noted.new) }
+    ensures outcome { IfOk result (λ o. (P : tree.Problem) (d : ℕ) → IsMatrix P matrix.now
+        → d ≡ left + length (the_path path.now)
+        → GoalOutcome P matrix.now noted.new d (the_path path.now) (the_literal goal) o) }
+{
+    if path.has(goal) {
+        return Ok(Outcome::Open);
+    }
+    if path.has(goal.complement()) {
+        return Ok(Outcome::Closed);
+    }
+    extend(alloc, matrix, goal, path, left, noted)
+}
+
+#[cycle(search)]
+fn extend(
+    alloc: Global,
+    matrix: &Matrix,
+    goal: Literal,
+    path: &Path,
+    left: u8,
+    noted: &mut Noted,
+) -> Result<Outcome, NoMemory>
+    requires is_new { list_any (literal_eq (the_literal goal)) (the_path path.now) ≡ false }
+    requires not_reduced { list_any (literal_eq (complement (the_literal goal))) (the_path path.now) ≡ false }
+    ensures extends { IfOk result (λ _. Extends noted.old noted.new) }
+    ensures outcome { IfOk result (λ o. (P : tree.Problem) (d : ℕ) → IsMatrix P matrix.now
+        → d ≡ left + length (the_path path.now)
+        → GoalOutcome P matrix.now noted.new d (the_path path.now) (the_literal goal) o) }
+{
+    let places = matrix.places(goal.complement());
+    if places.is_empty() {
+        return Ok(Outcome::Open);
+    }
+    if left == 0 {
+        return Ok(Outcome::Limited);
+    }
+    let outcome = extend_among(alloc, matrix, places, goal, path, left - 1, noted)?;
+    Ok(outcome)
+}
+
+// Tries the places in turn. The path of `goal` has room for `left` more goals below it.
+#[cycle(search)]
+fn extend_among(
+    alloc: Global,
+    matrix: &Matrix,
+    places: &[Place],
+    goal: Literal,
+    path: &Path,
+    left: u8,
+    noted: &mut Noted,
+) -> Result<Outcome, NoMemory>
+    requires is_new { list_any (literal_eq (the_literal goal)) (the_path path.now) ≡ false }
+    requires sound { AllByRecursion (IsAt matrix.now (complement (the_literal goal))) places.now }
+    ensures extends { IfOk result (λ _. Extends noted.old noted.new) }
+    ensures outcome { IfOk result (λ o. (P : tree.Problem) (d : ℕ) → IsMatrix P matrix.now
+        → d ≡ left + length (the_literal goal ∷ the_path path.now)
+        → PlacesOutcome P matrix.now noted.new d (the_path path.now) (the_literal goal) places.now o) }
+{
+    let mut limited = false;
+    for place in places {
+        match extend_at(alloc, matrix, *place, goal, path, left, noted)? {
+            Outcome::Closed => return Ok(Outcome::Closed),
+            Outcome::Limited => limited = true,
+            Outcome::Open => {}
+        }
+    }
+    if limited {
+        Ok(Outcome::Limited)
+    } else {
+        Ok(Outcome::Open)
+    }
+}
+
+// Notes the clause where its other literals are closed.
+#[cycle(search)]
+fn extend_at(
+    alloc: Global,
+    matrix: &Matrix,
+    place: Place,
+    goal: Literal,
+    path: &Path,
+    left: u8,
+    noted: &mut Noted,
+) -> Result<Outcome, NoMemory>
+    requires { IsAt matrix.now (complement (the_literal goal)) place }
+    ensures extends { IfOk result (λ _. Extends noted.old noted.new) }
+    ensures noted { IfOk result (λ o. o ≡ Outcome.Closed → Contains noted.new place.clause) }
+    ensures outcome { IfOk result (λ o. (P : tree.Problem) (d : ℕ) → IsMatrix P matrix.now
+        → d ≡ left + length (the_literal goal ∷ the_path path.now)
+        → GoalsOutcome P matrix.now noted.new d (the_literal goal ∷ the_path path.now) (others_at matrix.now place) o) }
+{
+    let mark = noted.numbers().len();
+    let clause = matrix.clause(place.clause);
+    let below = Path::Below(goal, &*path);
+    let outcome = solve_others(
+        alloc,
+        matrix,
+        &clause.literals,
+        place.literal,
+        &below,
+        left,
+        noted,
+    )?;
+    match outcome {
+        Outcome::Closed => {
+            noted.add(place.clause)?;
+            Ok(Outcome::Closed)
+        }
+        Outcome::Limited => {
+            noted.truncate(mark);
+            Ok(Outcome::Limited)
+        }
+        Outcome::Open => {
+            noted.truncate(mark);
+            Ok(Outcome::Open)
+        }
+    }
+}
+
+// Closes all literals but the one at `place`.
+#[cycle(search)]
+fn solve_others(
+    alloc: Global,
+    matrix: &Matrix,
+    literals: &[Literal],
+    place: usize,
+    path: &Path,
+    left: u8,
+    noted: &mut Noted,
+) -> Result<Outcome, NoMemory>
+    requires { place < length literals.now }
+    ensures extends { IfOk result (λ _. Extends noted.old noted.new) }
+    ensures outcome { IfOk result (λ o. (P : tree.Problem) (d : ℕ) → IsMatrix P matrix.now
+        → d ≡ left + length (the_path path.now)
+        → GoalsOutcome P matrix.now noted.new d (the_path path.now) (remove (map the_literal literals.now) place) o) }
+{
+    let before = &literals[..place];
+    let after = &literals[place + 1..];
+    match solve_all(alloc, matrix, before, path, left, noted)? {
+        Outcome::Closed => {
+            let outcome = solve_all(alloc, matrix, after, path, left, noted)?;
+            Ok(outcome)
+        }
+        Outcome::Limited => Ok(Outcome::Limited),
+        Outcome::Open => Ok(Outcome::Open),
+    }
+}
