@@ -1,0 +1,4 @@
+pub mod Words
+pub mod Output
+pub mod LineView
+pub mod Run

@@ -1,0 +1,67 @@
+-- What is written for a status, and the exit status of the process.
+use Rattle.std.specs.Prelude.{ℕ, List, [], ◌++◌, codes, decimal}
+use Rattle.calculus.specs.declared.fault.CheckFault.{CheckFault}
+use Rattle.calculus.specs.declared.fault.CheckFault.TheVariants as check
+use Rattle.calculus.specs.declared.fault.StepFault.{StepFault}
+use Rattle.calculus.specs.declared.fault.StepFault.TheVariants as step
+use Rattle.calculus.specs.declared.fault.TextCause.{TextCause}
+use Rattle.calculus.specs.declared.fault.TextCause.TheVariants as cause
+use Rattle.leancop_top.specs.declared.status.Cause.{Cause}
+use Rattle.leancop_top.specs.declared.status.Cause.TheVariants.{Unsupported}
+use Rattle.leancop_top.specs.declared.status.Status.{Status}
+use Rattle.leancop_top.specs.declared.status.Status.TheVariants.{Derived, Exhausted, Accepted, Rejected, BadWords, Missing, ReadFault, WriteFault, BadProblem, MatrixTooLarge, NoMemory}
+
+abbrev pub exit_of : Status → ℕ
+exit_of (Derived d) = 0
+exit_of (Exhausted d) = 1
+exit_of Accepted = 0
+exit_of (Rejected line fault) = 8
+exit_of (BadWords n) = 5
+exit_of (Missing name) = 6
+exit_of (ReadFault name) = 6
+exit_of WriteFault = 6
+exit_of (BadProblem file offset c) = 4
+exit_of MatrixTooLarge = 4
+exit_of NoMemory = 7
+
+abbrev pub cause_text : Cause → List ℕ
+cause_text Unsupported = codes "unsupported"
+
+abbrev pub text_cause_text : TextCause → List ℕ
+text_cause_text cause.Version = codes "version"
+text_cause_text cause.Setting = codes "setting"
+text_cause_text cause.Formula = codes "formula"
+text_cause_text cause.Limit = codes "limit"
+text_cause_text cause.Name = codes "name"
+text_cause_text cause.Line = codes "line"
+text_cause_text cause.TextAfterEnd = codes "text after end"
+
+abbrev pub step_fault_text : StepFault → List ℕ
+step_fault_text step.NoEntry = codes "no entry"
+step_fault_text step.NoConnection = codes "no connection"
+step_fault_text step.WrongArguments = codes "wrong arguments"
+step_fault_text step.UnknownName = codes "unknown name"
+step_fault_text step.NotReachable = codes "not reachable"
+step_fault_text step.NotNew = codes "not new"
+step_fault_text step.WrongHome = codes "wrong home"
+step_fault_text step.NotAllowed = codes "not allowed"
+
+abbrev pub fault_text : CheckFault → List ℕ
+fault_text (check.Text c) = text_cause_text c
+fault_text (check.Step f) = step_fault_text f
+fault_text check.AllClosed = codes "all closed"
+fault_text check.StillOpen = codes "still open"
+
+-- the one line that is written. A derivation has its own text, and nothing is written for the last two
+abbrev pub status_line : Status → List ℕ
+status_line (Derived d) = []
+status_line (Exhausted d) = codes "exhausted at limit " ++ decimal d ++ codes "\n"
+status_line Accepted = codes "accepted\n"
+status_line (Rejected line fault) = codes "rejected at line " ++ decimal line ++ codes ": " ++ fault_text fault ++ codes "\n"
+status_line (BadWords n) = codes "bad word " ++ decimal n ++ codes "\n"
+status_line (Missing name) = codes "missing: " ++ name ++ codes "\n"
+status_line (ReadFault name) = codes "read fault: " ++ name ++ codes "\n"
+status_line (BadProblem file offset c) = file ++ codes ":" ++ decimal offset ++ codes ": " ++ cause_text c ++ codes "\n"
+status_line MatrixTooLarge = codes "matrix too large\n"
+status_line WriteFault = []
+status_line NoMemory = []

@@ -1,0 +1,157 @@
+//! A run of the program.
+
+ghost use Rattle.std.specs.Prelude.{◌≡◌, ◌≤◌, ℕ, List, Err, IfOk, IfErr, OnOk, OnErr, Some, map, string_bytes, take, vec_len};
+ghost use Rattle.calculus.specs.Propositional.{IsPropositional};
+ghost use Rattle.calculus.specs.Syntax as tree;
+ghost use Rattle.cop_base.specs.Outside.{Rose, with_bytes};
+ghost use Rattle.leancop_top.specs.Output.{status_line};
+ghost use Rattle.leancop_top.specs.Run.{Answers, Ends, EndsWithout, IsAnswered, IsCounted, IsCheckable, IsCutOff, IsDecided, IsJudged, IsJudgingEnd, IsProblemIn, IsProvable, IsRefused, OnAnswer};
+ghost use Rattle.leancop_top.specs.Words.{line_of};
+
+use crate::output::status_line;
+use crate::prove::{Proof, prove};
+use crate::status::{Cause, Status};
+use crate::words::{Line, line_of};
+use crate::writing::put_all;
+use cop_base::{FetchFault, Library, NoMemory, PutFault, Sink, Text};
+use derivation_check::{Verdict, check};
+use logic_rules::Problem;
+use propositional_reader::{ReadRefusal, read};
+use std::alloc::{AllocError, Global};
+
+// No problem has more bytes.
+const MOST_BYTES: u64 = 4096;
+
+// The problem that a file holds, or why there is none.
+fn read_problem<L: Library>(alloc: Global, lib: &mut L, file: &str) -> Result<Problem, Status>
+    ensures problem { IfOk result (λ p. IsProblemIn (L.holds lib.old) file.now p × IsPropositional p) }
+    ensures same_files { L.holds lib.new ≡ L.holds lib.old }
+    ensures more_faults { L.faults lib.old ≤ L.faults lib.new }
+    ensures more_misses { L.misses lib.old ≤ L.misses lib.new }
+    ensures refused { IfErr result (λ s. IsRefused (L.holds lib.old) file.now s) }
+    ensures counted { IfErr result (λ s. IsCounted (L.misses lib.old) (L.misses lib.new) (L.faults lib.old) (L.faults lib.new) s) }
+{
+    let name = match Text::new(alloc, file.as_bytes()) {
+        Ok(name) => name,
+        Err(NoMemory) => return Err(Status::NoMemory),
+    };
+    match lib.fetch(&name, MOST_BYTES) {
+        Ok(bytes) => match read(alloc, bytes.as_slice()) {
+            Ok(problem) => Ok(problem),
+            Err(ReadRefusal::Unsupported) => Err(unsupported(name)),
+            Err(ReadRefusal::NoMemory) => Err(Status::NoMemory),
+        },
+        Err(FetchFault::TooLarge) => Err(unsupported(name)),
+        Err(FetchFault::Missing) => Err(Status::Missing { name }),
+        Err(FetchFault::Failed) => Err(Status::ReadFault { name }),
+        Err(FetchFault::NoMemory) => Err(Status::NoMemory),
+    }
+}
+
+// The text of the file is of no form that is read.
+fn unsupported(file: Text) -> Status
+    ensures { result ≡ Status.BadProblem file 0 Cause.Unsupported }
+{
+    Status::BadProblem {
+        file,
+        offset: 0,
+        cause: Cause::Unsupported,
+    }
+}
+
+// The judgement of the derivation that a file holds, or why there is none.
+fn judge_file<L: Library>(alloc: Global, lib: &mut L, problem: &Problem, derivation: &str) -> Status
+    ensures ended { IsJudgingEnd (L.holds lib.old) problem.now derivation.now result }
+    ensures counted { IsCounted (L.misses lib.old) (L.misses lib.new) (L.faults lib.old) (L.faults lib.new) result }
+{
+    let name = match Text::new(alloc, derivation.as_bytes()) {
+        Ok(name) => name,
+        Err(NoMemory) => return Status::NoMemory,
+    };
+    match lib.fetch(&name, u64::MAX) {
+        Ok(bytes) => match check(alloc, problem, bytes.as_slice()) {
+            Ok(Verdict::Accepted) => Status::Accepted,
+            Ok(Verdict::Rejected { line, fault }) => Status::Rejected { line, fault },
+            Err(NoMemory) => Status::NoMemory,
+        },
+        Err(FetchFault::Missing) => Status::Missing { name },
+        Err(FetchFault::Failed) => Status::ReadFault { name },
+        Err(FetchFault::TooLarge) => unreachable!(),
+        Err(FetchFault::NoMemory) => Status::NoMemory,
+    }
+}
+
+// The proof that the words ask for, or the status that a run without one ends with.
+fn decide<L: Library>(alloc: Global, words: &[String], lib: &mut L) -> Result<Proof, Status>
+    ensures proved { IfOk result (λ p. Ends (L.holds lib.old) (line_of (map string_bytes words.now))
+        (Status.Derived p.limit) p.text.items) }
+    ensures ended { IfErr result (λ s. EndsWithout (L.holds lib.old) (line_of (map string_bytes words.now)) s) }
+    ensures counted { IfErr result (λ s. IsCounted (L.misses lib.old) (L.misses lib.new) (L.faults lib.old) (L.faults lib.new) s) }
+{
+    match line_of(words) {
+        Line::Bad { place } => Err(Status::BadWords { place }),
+        Line::Prove { file } => match read_problem(alloc, lib, file) {
+            Ok(problem) => prove(alloc, &problem),
+            Err(status) => Err(status),
+        },
+        Line::Check { file, derivation } => match read_problem(alloc, lib, file) {
+            Ok(problem) => Err(judge_file(alloc, lib, &problem, derivation)),
+            Err(status) => Err(status),
+        },
+    }
+}
+
+// A status and the bytes that are written for it.
+#[derive(Drop)]
+struct Reply {
+    status: Status,
+    output: Vec<u8>,
+}
+
+fn answer<L: Library>(alloc: Global, words: &[String], lib: &mut L) -> Result<Reply, NoMemory>
+    ensures answers { IfOk result (λ r. Answers (L.holds lib.old) (line_of (map string_bytes words.now)) r.status r.output.items) }
+    ensures counted { IfOk result (λ r. IsCounted (L.misses lib.old) (L.misses lib.new) (L.faults lib.old) (L.faults lib.new) r.status) }
+{
+    match decide(alloc, words, lib) {
+        Ok(proof) => Ok(Reply {
+            status: Status::Derived { limit: proof.limit },
+            output: proof.text,
+        }),
+        Err(Status::NoMemory) => Err(NoMemory),
+        Err(status) => {
+            let output = status_line(alloc, &status)?;
+            Ok(Reply { status, output })
+        }
+    }
+}
+
+/// Does all that the program does. `words` are the words after the program's own name. The whole output is built before
+/// the first byte is written.
+pub fn run<L: Library, K: Sink>(
+    alloc: Global,
+    words: &Vec<String>,
+    lib: &mut L,
+    out: &mut K,
+) -> Status
+    ensures answered { OnAnswer result (IsAnswered (L.holds lib.old) (line_of (map string_bytes words.now.items)) result
+        (K.written out.old) (K.written out.new)) }
+    ensures counted { IsCounted (L.misses lib.old) (L.misses lib.new) (L.faults lib.old) (L.faults lib.new) result }
+    ensures write_fault { result ≡ Status.WriteFault → Rose (K.faults out.old) (K.faults out.new) }
+    ensures cut_off { result ≡ Status.WriteFault → IsCutOff (L.holds lib.old) (line_of (map string_bytes words.now.items))
+        (K.written out.old) (K.written out.new) }
+    ensures no_memory { result ≡ Status.NoMemory → K.written out.new ≡ K.written out.old }
+
+    // Where no stream fails, a problem that the files hold is decided, unless memory ends.
+    ensures complete { ¬ Rose (L.faults lib.old) (L.faults lib.new) → ¬ Rose (K.faults out.old) (K.faults out.new)
+        → IsProvable (L.holds lib.old) (line_of (map string_bytes words.now.items)) → IsDecided result }
+    ensures judged { ¬ Rose (L.faults lib.old) (L.faults lib.new) → ¬ Rose (K.faults out.old) (K.faults out.new)
+        → IsCheckable (L.holds lib.old) (line_of (map string_bytes words.now.items)) → IsJudged result }
+{
+    match answer(alloc, words.as_slice(), lib) {
+        Ok(reply) => match put_all(out, reply.output.as_slice()) {
+            Ok(()) => reply.status,
+            Err(PutFault::Failed) => Status::WriteFault,
+        },
+        Err(NoMemory) => Status::NoMemory,
+    }
+}

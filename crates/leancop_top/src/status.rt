@@ -1,0 +1,72 @@
+//! How a run ends.
+
+ghost use Rattle.std.specs.Prelude.{◌≡◌};
+ghost use Rattle.leancop_top.specs.Output.{exit_of};
+
+use calculus::fault::CheckFault;
+use cop_base::Text;
+
+/// What is wrong with a problem file.
+#[derive(Clone, Copy, Debug, PartialEq, Eq)]
+pub enum Cause {
+    /// The text is not of a form that is read.
+    Unsupported,
+}
+
+/// How a run ended.
+#[derive(Drop)]
+pub enum Status {
+    /// A derivation was printed, whose tableau is closed within the path limit and within no smaller one.
+    Derived {
+        limit: u8,
+    },
+    /// No tableau is closed within the path limit.
+    Exhausted {
+        limit: u8,
+    },
+    /// The bytes are the text of a derivation that derives the problem's formula.
+    Accepted,
+    /// The bytes are no such text; the fault stands at this line, counted from 1.
+    Rejected {
+        line: u64,
+        fault: CheckFault,
+    },
+    /// The word at this place, counted from 1, is bad, or it is missing.
+    BadWords {
+        place: u64,
+    },
+    /// There is no file of this name.
+    Missing {
+        name: Text,
+    },
+    /// A file could not be read.
+    ReadFault {
+        name: Text,
+    },
+    /// The output could not be written.
+    WriteFault,
+    /// The file holds no problem. The offset counts bytes from 0.
+    BadProblem {
+        file: Text,
+        offset: u64,
+        cause: Cause,
+    },
+    /// The matrix has more than 100,000 clauses or 1,000,000 literals.
+    MatrixTooLarge,
+    NoMemory,
+}
+
+/// The exit status of the process.
+pub fn exit_code(status: &Status) -> u8
+    ensures { result ≡ exit_of status.now }
+{
+    match status {
+        Status::Derived { .. } | Status::Accepted => 0,
+        Status::Exhausted { .. } => 1,
+        Status::BadProblem { .. } | Status::MatrixTooLarge => 4,
+        Status::BadWords { .. } => 5,
+        Status::Missing { .. } | Status::ReadFault { .. } | Status::WriteFault => 6,
+        Status::NoMemory => 7,
+        Status::Rejected { .. } => 8,
+    }
+}
