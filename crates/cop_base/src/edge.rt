@@ -23,6 +23,7 @@ pub struct FileLibrary<'a, R: Files> {
 }
 
 impl<'a, R: Files> FileLibrary<'a, R> {
+    /// The files that `runtime` reaches. No file is opened before it is fetched.
     pub fn new(alloc: Global, runtime: &'a R) -> FileLibrary<'a, R>
         ensures faults { result.faults ≡ 0 }
         ensures misses { result.misses ≡ 0 }
@@ -139,6 +140,7 @@ pub struct WriteSink<W: Write + Drop> {
 }
 
 impl<W: Write + Drop> WriteSink<W> {
+    /// A sink that passes each put on to `writer`, without a buffer of its own.
     pub fn new(writer: W) -> WriteSink<W>
         ensures { result.faults ≡ 0 }
     {

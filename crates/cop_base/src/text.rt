@@ -26,6 +26,7 @@ impl Model for Text {
 }
 
 impl Text {
+    /// A copy of these bytes.
     pub fn new(alloc: Global, bytes: &[u8]) -> Result<Text, NoMemory>
         ensures { IfOk result (λ t. t ≡ bytes.now) }
     {

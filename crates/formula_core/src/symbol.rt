@@ -10,6 +10,7 @@ use indexmap::IndexSet;
 use std::alloc::Global;
 use std::marker::Model;
 
+/// A symbol. Two are equal where name, class and arity are.
 #[derive(Debug, PartialEq, Eq, Hash, Drop)]
 pub struct Symbol {
     pub name: Text,
@@ -20,6 +21,7 @@ pub struct Symbol {
 /// Why a symbol is not added.
 #[derive(Clone, Copy, Debug, PartialEq, Eq)]
 pub enum AddFault {
+    /// The symbol is new and there are as many as there may be.
     Full,
     NoMemory,
 }
@@ -44,6 +46,7 @@ impl Model for Symbols {
 }
 
 impl Symbols {
+    /// No list has more symbols.
     pub const MOST: usize = 65536;
 
     pub fn new(alloc: Global) -> Symbols
@@ -68,6 +71,7 @@ impl Symbols {
         self.set.as_slice()
     }
 
+    /// The symbol at a place of the list.
     pub fn get(&self, id: SymbolId) -> &Symbol
         requires { id.0 < length self.now }
         ensures { slice_get self.now id.0 ≡ Some (the_symbol result.now) }
@@ -75,6 +79,7 @@ impl Symbols {
         &self.set.as_slice()[id.0 as usize]
     }
 
+    /// The place of `s`, where it is one of the list.
     pub fn find(&self, s: &Symbol) -> Option<SymbolId>
         ensures place { IfSome result (λ id. slice_get self.now id.0 ≡ Some (the_symbol s.now)) }
         ensures absent { IsNone result ↔ ¬ (Contains self.now (the_symbol s.now)) }
