@@ -7,6 +7,8 @@ pub mod ground;
 pub mod place;
 pub mod symbol;
 pub mod term;
+#[cfg(test)]
+mod tests;
 
 pub use calculus::sign::Sign;
 pub use count::{clause_count, literal_count, nesting, node_count};
