@@ -6,3 +6,4 @@ pub mod Quoted
 pub mod Single
 pub mod Marks
 pub mod Frames
+pub mod Examples

@@ -44,4 +44,6 @@ pub use term::write_term;
 pub use term_reader::read_term;
 
 #[cfg(test)]
+mod formula_tests;
+#[cfg(test)]
 mod tests;

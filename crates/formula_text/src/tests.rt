@@ -161,6 +161,41 @@ fn reads_terms(rt: HostRuntime) -> Result<(), Fail> {
     Ok(())
 }
 
+// Whether the name of a predicate symbol is written like this, and read again.
+fn writes_name(alloc: Global, name: &[u8], text: &[u8]) -> Result<bool, NoMemory> {
+    let mut symbols = Symbols::new(alloc);
+    let added = symbols.add(Symbol {
+        name: Text::new(alloc, name)?,
+        class: SymbolClass::Predicate,
+        arity: 2,
+    });
+    let Ok(id) = added else {
+        return Err(NoMemory);
+    };
+    let mut out = Vec::new(alloc);
+    write_name(&mut out, &symbols, id)?;
+    Ok(out.as_slice() == text && reads_name(alloc, text, Some(name)))
+}
+
+#[test]
+fn writes_names(rt: HostRuntime) -> Result<(), Fail> {
+    let alloc = rt.alloc();
+    for (name, text) in [
+        (b"p".as_slice(), b"p".as_slice()),
+        (b"aZ_9", b"aZ_9"),
+        (b"P", b"'P'"),
+        (b"_p", b"'_p'"),
+        (b"9", b"'9'"),
+        (b"an idempotent", b"'an idempotent'"),
+        (b"it's", b"'it\\'s'"),
+        (b"a\\b", b"'a\\\\b'"),
+        (b"'\\'", b"'\\'\\\\\\''"),
+    ] {
+        assert!(rt; writes_name(alloc, name, text)?);
+    }
+    Ok(())
+}
+
 #[test]
 fn writes_settings(rt: HostRuntime) -> Result<(), Fail> {
     let alloc = rt.alloc();
