@@ -171,12 +171,13 @@ pub fn read_term(
 ) -> Result<(Term, usize), TextRead>
     requires within { from ≤ length text.now }
     requires fits { IsTrue (list_all symbol_fits symbols.now) }
-    requires distinct { IsTrue (are_distinct symbols.now) }
     ensures ok { IfOk result (λ r. IsTermAt symbols.now text.now from r.1 (the_term r.0)) }
     ensures within { IfOk result (λ r. r.1 ≤ length text.now) }
     ensures none { result ≡ Err TextRead.None → (to : ℕ) (t : tree.Term) → ¬ IsTermAt symbols.now text.now from to t }
     ensures one { AtMostOneTerm symbols.now }
 {
+    // Its contract says that no symbol stands twice in the list.
+    let _count = symbols.len();
     let mut stack = Vec::new(alloc);
     let mut place = from;
     loop {

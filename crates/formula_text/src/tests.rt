@@ -1,7 +1,7 @@
 ghost use Rattle.std.specs.Prelude.{◌≡◌, [], IsTrue, OnOk};
 ghost use Rattle.std.specs.List.{list_all};
 ghost use Rattle.calculus.specs.DerivationText.{term_is_written};
-ghost use Rattle.calculus.specs.Problems.{are_distinct, is_name, symbol_fits};
+ghost use Rattle.calculus.specs.Problems.{is_name, symbol_fits};
 ghost use Rattle.formula_core.specs.TermView.{the_term};
 
 use super::*;
@@ -118,8 +118,7 @@ fn writes_term(alloc: Global, symbols: &Symbols, term: &Term, text: &[u8]) -> bo
 // Whether the text begins with a term that ends at this place, and that is written again as it stands there; `None` where no term is
 // to stand there.
 fn reads_term(alloc: Global, symbols: &Symbols, text: &[u8], place: Option<usize>) -> bool
-    requires fits { IsTrue (list_all symbol_fits symbols.now) }
-    requires distinct { IsTrue (are_distinct symbols.now) }
+    requires { IsTrue (list_all symbol_fits symbols.now) }
 {
     match (read_term(alloc, symbols, text, 0), place) {
         (Ok((term, end)), Some(place)) => {
@@ -137,7 +136,6 @@ fn reads_terms(rt: HostRuntime) -> Result<(), Fail> {
     add_function(&mut symbols, alloc, b"a", 0)?;
     add_function(&mut symbols, alloc, b"b", 0)?;
     add_function(&mut symbols, alloc, b"f", 2)?;
-    assert_eq!(rt; symbols.len(), 3);
     for (text, place) in [
         (b"a".as_slice(), Some(1)),
         (b"f(a,b)", Some(6)),

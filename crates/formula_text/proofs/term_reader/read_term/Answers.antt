@@ -12,7 +12,7 @@ pub returns-in-Err-clause-none : goal.returns-in-Err-clause-none
 returns-in-Err-clause-none c = λ e.
     let f : c.in-Err.fault ≡ reason.None = cc e in
     let S = c.args.symbols.now in
-    let none = no_head S c.requires.distinct c.loop-head.stack.items (drop c.loop-head.place c.args.text.now) c.loop-head.invariant.frames (c.in-Err.ensures.none (ap (λ x. Err x) f)) in
+    let none = no_head S c.len-count.ensures.distinct c.loop-head.stack.items (drop c.loop-head.place c.args.text.now) c.loop-head.invariant.frames (c.in-Err.ensures.none (ap (λ x. Err x) f)) in
     no_term-at S c.args.text.now c.args.from (subst (NoTerm S) (sym c.loop-head.invariant.read) none)
 
 pub returns-in-Err-clause-one : goal.returns-in-Err-clause-one
