@@ -1,5 +1,6 @@
 pub mod MatrixOf
 pub mod Pairs
+pub mod Behind
 pub mod Rows
 pub mod PlaceLaws
 pub mod SearchLaws

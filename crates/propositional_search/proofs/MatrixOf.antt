@@ -25,7 +25,7 @@ use Rattle.calculus.specs.Propositional.{is_propositional, IsPropositional}
 use Rattle.calculus.proofs.EqualityLaws.{list_eq-tells, literal_eq-tells}
 use Rattle.calculus.proofs.InstanceLaws.{OnPart}
 use Rattle.propositional_search.specs.Matrix.{IsMatrix}
-use Rattle.propositional_search.specs.ClausesOf.{literal_of, clause_of, after_side, joined, all_pairs, either_side, clauses_of_two, clauses_of}
+use Rattle.propositional_search.specs.ClausesOf.{literal_of, clause_of, after_sides, joined, all_pairs, either_side, clauses_of_two, clauses_of}
 
 abbrev supply : List Side → List Value → Supply
 supply ss vs = record { sides = ss; values = vs }
@@ -33,6 +33,9 @@ supply ss vs = record { sides = ss; values = vs }
 -- the spots of a propositional formula differ in their positions alone
 abbrev spot : ℕ → Spot
 spot n = record { position = n; label = []; taken = []; env = [] }
+
+abbrev after_side : Side → ClauseInstance → ClauseInstance
+after_side d i = after_sides (d ∷ []) i
 
 -- ---- the selections of the clauses
 
@@ -162,10 +165,10 @@ one-computes : (n : ℕ) (body : Spot → Supply → Option Part) (i : ClauseIns
 one-computes n body i h = record { values = h.values; some = h.some; gives = λ rest vs. let o = body (spot (n + 1)) (supply (i.selection ++ rest) vs) in plain-part i.literals rest vs (with_turn n [] o) (turn-part i.literals rest vs n o (h.gives rest vs)) }
 
 left-computes : (n k : ℕ) (first second : Spot → Supply → Option Part) (i : ClauseInstance) → Computes (first (spot (n + 1))) i → Computes (at_modal Classical Plain (at_two Alpha k first second) (spot n)) (after_side Left i)
-left-computes n k first second i h = record { values = refl; some = h.some; gives = λ rest vs. let o = first (spot (n + 1)) (supply (i.selection ++ rest) vs) in plain-part i.literals rest vs (with_turn n [] o) (turn-part i.literals rest vs n o (h.gives rest vs)) }
+left-computes n k first second i h = record { values = h.values; some = h.some; gives = λ rest vs. let o = first (spot (n + 1)) (supply (i.selection ++ rest) vs) in plain-part i.literals rest vs (with_turn n [] o) (turn-part i.literals rest vs n o (h.gives rest vs)) }
 
 right-computes : (n k : ℕ) (first second : Spot → Supply → Option Part) (i : ClauseInstance) → Computes (second (spot (n + suc k))) i → Computes (at_modal Classical Plain (at_two Alpha k first second) (spot n)) (after_side Right i)
-right-computes n k first second i h = record { values = refl; some = h.some; gives = λ rest vs. let o = second (spot (n + suc k)) (supply (i.selection ++ rest) vs) in plain-part i.literals rest vs (with_turn n [] o) (turn-part i.literals rest vs n o (h.gives rest vs)) }
+right-computes n k first second i h = record { values = h.values; some = h.some; gives = λ rest vs. let o = second (spot (n + suc k)) (supply (i.selection ++ rest) vs) in plain-part i.literals rest vs (with_turn n [] o) (turn-part i.literals rest vs n o (h.gives rest vs)) }
 
 pair-computes : (n k : ℕ) (first second : Spot → Supply → Option Part) (i j : ClauseInstance) → Computes (first (spot (n + 1))) i → Computes (second (spot (n + suc k))) j → Computes (at_modal Classical Plain (at_two Beta k first second) (spot n)) (joined i j)
 pair-computes n k first second i j h g = record { values = refl; some = some-append i.literals j.literals h.some; gives = gives }
@@ -254,12 +257,12 @@ alpha-comes cs ds n k first second f g (Left ∷ ss) vs = plain-comes (either_si
   where
     on-left : (o : Option Part) → OnPart (Comes cs (supply ss vs)) o → OnPart (Comes (either_side cs ds) (supply (Left ∷ ss) vs)) o
     on-left None h = tt
-    on-left (Some x) h = record { clause = after_side Left h.clause; is_in = in-left (after_side Left h.clause) (map (λ (y : ClauseInstance). after_side Left y) cs) (map (λ (y : ClauseInstance). after_side Right y) ds) (in-map (λ (y : ClauseInstance). after_side Left y) h.clause cs h.is_in); values = refl; supplied = ap (λ (v : Supply). supply (Left ∷ v.sides) v.values) h.supplied; literals = h.literals }
+    on-left (Some x) h = record { clause = after_side Left h.clause; is_in = in-left (after_side Left h.clause) (map (λ (y : ClauseInstance). after_side Left y) cs) (map (λ (y : ClauseInstance). after_side Right y) ds) (in-map (λ (y : ClauseInstance). after_side Left y) h.clause cs h.is_in); values = h.values; supplied = ap (λ (v : Supply). supply (Left ∷ v.sides) v.values) h.supplied; literals = h.literals }
 alpha-comes cs ds n k first second f g (Right ∷ ss) vs = plain-comes (either_side cs ds) (supply (Right ∷ ss) vs) n (second (spot (n + suc k)) (supply ss vs)) (on-right (second (spot (n + suc k)) (supply ss vs)) (g (supply ss vs)))
   where
     on-right : (o : Option Part) → OnPart (Comes ds (supply ss vs)) o → OnPart (Comes (either_side cs ds) (supply (Right ∷ ss) vs)) o
     on-right None h = tt
-    on-right (Some x) h = record { clause = after_side Right h.clause; is_in = in-right (after_side Right h.clause) (map (λ (y : ClauseInstance). after_side Left y) cs) (map (λ (y : ClauseInstance). after_side Right y) ds) (in-map (λ (y : ClauseInstance). after_side Right y) h.clause ds h.is_in); values = refl; supplied = ap (λ (v : Supply). supply (Right ∷ v.sides) v.values) h.supplied; literals = h.literals }
+    on-right (Some x) h = record { clause = after_side Right h.clause; is_in = in-right (after_side Right h.clause) (map (λ (y : ClauseInstance). after_side Left y) cs) (map (λ (y : ClauseInstance). after_side Right y) ds) (in-map (λ (y : ClauseInstance). after_side Right y) h.clause ds h.is_in); values = h.values; supplied = ap (λ (v : Supply). supply (Right ∷ v.sides) v.values) h.supplied; literals = h.literals }
 
 joined-comes : (cs ds : List ClauseInstance) (u : Supply) (x y : Part) → Comes cs u x → Comes ds x.left_over y → Comes (all_pairs cs ds) u (join_of x y)
 joined-comes cs ds u x y h g = record {

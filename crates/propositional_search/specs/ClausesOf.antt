@@ -18,8 +18,12 @@ literal_of s p = record { sign = s; symbol = p; args = no_g_terms; label = [] }
 abbrev pub clause_of : List Side → List GroundLiteral → ClauseInstance
 clause_of sides literals = record { selection = sides; values = []; literals = literals }
 
-abbrev pub after_side : Side → ClauseInstance → ClauseInstance
-after_side d i = clause_of (d ∷ i.selection) i.literals
+abbrev pub after_sides : List Side → ClauseInstance → ClauseInstance
+after_sides ds i = record i { selection = ds ++ i.selection }
+
+-- each behind these sides
+abbrev pub behind : List Side → List ClauseInstance → List ClauseInstance
+behind ds xs = map (λ (x : ClauseInstance). after_sides ds x) xs
 
 abbrev pub joined : ClauseInstance → ClauseInstance → ClauseInstance
 joined i j = clause_of (i.selection ++ j.selection) (i.literals ++ j.literals)
@@ -30,7 +34,7 @@ all_pairs [] ys = []
 all_pairs (x ∷ xs) ys = map (λ (y : ClauseInstance). joined x y) ys ++ all_pairs xs ys
 
 abbrev pub either_side : List ClauseInstance → List ClauseInstance → List ClauseInstance
-either_side xs ys = map (λ (x : ClauseInstance). after_side Left x) xs ++ map (λ (y : ClauseInstance). after_side Right y) ys
+either_side xs ys = behind (Left ∷ []) xs ++ behind (Right ∷ []) ys
 
 abbrev pub clauses_of_two : Shape → List ClauseInstance → List ClauseInstance → List ClauseInstance
 clauses_of_two Beta xs ys = all_pairs xs ys

@@ -3,7 +3,7 @@
 ghost use Rattle.std.specs.Prelude.{◌≡◌, ◌++◌, ◌∷◌, [], IfOk, map};
 ghost use Rattle.calculus.specs.Instances.{ClauseInstance};
 ghost use Rattle.formula_core.specs.FormulaView.{the_formula};
-ghost use Rattle.propositional_search.specs.ClausesOf.{after_side, all_pairs, clause_of, clauses_of, either_side, joined, literal_of};
+ghost use Rattle.propositional_search.specs.ClausesOf.{all_pairs, behind, clause_of, clauses_of, either_side, joined, literal_of};
 ghost use Rattle.propositional_search.specs.ClauseView.{the_clause};
 
 use cop_base::{NoMemory, SymbolId};
@@ -26,94 +26,118 @@ pub struct Clause {
 }
 
 /// The clauses of `f` under `sign`, in the order of their selections. `f` is to be propositional.
-#[cycle(clauses_of)]
 pub fn clauses_of(alloc: Global, f: &Formula, sign: Sign) -> Result<Vec<Clause>, NoMemory>
     ensures { IfOk result (λ cs. map the_clause cs.items ≡ clauses_of (the_formula f.now) sign) }
 {
+    let mut all = Vec::new(alloc);
+    add_clauses(alloc, f, sign, &[], &mut all)?;
+    Ok(all)
+}
+
+// Adds the clauses of `f` under `sign`, each behind the sides `before`. Each side of a clause is written where it is to
+// stay, so that the work follows what is built.
+#[cycle(add_clauses)]
+fn add_clauses(
+    alloc: Global,
+    f: &Formula,
+    sign: Sign,
+    before: &[Side],
+    all: &mut Vec<Clause>,
+) -> Result<(), NoMemory>
+    ensures { IfOk result (λ _. map the_clause all.new.items
+        ≡ map the_clause all.old.items ++ behind before.now (clauses_of (the_formula f.now) sign)) }
+{
     match f {
-        Formula::Atom(p, _) => unit_clause(alloc, sign, *p),
-        Formula::Not(a) => clauses_of(alloc, a, sign.other()),
+        Formula::Atom(p, _) => add_unit(alloc, sign, *p, before, all),
+        Formula::Not(a) => add_clauses(alloc, a, sign.other(), before, all),
         Formula::And(a, b) => match sign {
-            Sign::T => either(alloc, a, sign, b, sign),
-            Sign::F => both(alloc, a, sign, b, sign),
+            Sign::T => add_either(alloc, a, sign, b, sign, before, all),
+            Sign::F => add_both(alloc, a, sign, b, sign, before, all),
         },
         Formula::Or(a, b) => match sign {
-            Sign::T => both(alloc, a, sign, b, sign),
-            Sign::F => either(alloc, a, sign, b, sign),
+            Sign::T => add_both(alloc, a, sign, b, sign, before, all),
+            Sign::F => add_either(alloc, a, sign, b, sign, before, all),
         },
         Formula::Imp(a, b) => match sign {
-            Sign::T => both(alloc, a, Sign::F, b, Sign::T),
-            Sign::F => either(alloc, a, Sign::T, b, Sign::F),
+            Sign::T => add_both(alloc, a, Sign::F, b, Sign::T, before, all),
+            Sign::F => add_either(alloc, a, Sign::T, b, Sign::F, before, all),
         },
         Formula::All(a) | Formula::Ex(a) | Formula::Nec(a) | Formula::Poss(a) => {
-            clauses_of(alloc, a, sign)
+            add_clauses(alloc, a, sign, before, all)
         }
     }
 }
 
-// The clauses of either part, each with its side in front.
-#[cycle(clauses_of)]
-fn either(
+// The clauses of either part, each behind its side.
+#[cycle(add_clauses)]
+fn add_either(
     alloc: Global,
     a: &Formula,
     a_sign: Sign,
     b: &Formula,
     b_sign: Sign,
-) -> Result<Vec<Clause>, NoMemory>
-    ensures { IfOk result (λ cs. map the_clause cs.items
-        ≡ either_side (clauses_of (the_formula a.now) a_sign) (clauses_of (the_formula b.now) b_sign)) }
+    before: &[Side],
+    all: &mut Vec<Clause>,
+) -> Result<(), NoMemory>
+    ensures { IfOk result (λ _. map the_clause all.new.items ≡ map the_clause all.old.items
+        ++ behind before.now (either_side (clauses_of (the_formula a.now) a_sign) (clauses_of (the_formula b.now) b_sign))) }
 {
-    let left = clauses_of(alloc, a, a_sign)?;
-    let right = clauses_of(alloc, b, b_sign)?;
-    let mut all = Vec::new(alloc);
-    push_after_side(&mut all, Side::Left, left)?;
-    push_after_side(&mut all, Side::Right, right)?;
-    Ok(all)
+    let left = and_side(alloc, before, Side::Left)?;
+    add_clauses(alloc, a, a_sign, &left, all)?;
+    let right = and_side(alloc, before, Side::Right)?;
+    add_clauses(alloc, b, b_sign, &right, all)?;
+    Ok(())
 }
 
 // A clause for each pair of one of the first part and one of the second.
-#[cycle(clauses_of)]
-fn both(
+#[cycle(add_clauses)]
+fn add_both(
     alloc: Global,
     a: &Formula,
     a_sign: Sign,
     b: &Formula,
     b_sign: Sign,
-) -> Result<Vec<Clause>, NoMemory>
-    ensures { IfOk result (λ cs. map the_clause cs.items
-        ≡ all_pairs (clauses_of (the_formula a.now) a_sign) (clauses_of (the_formula b.now) b_sign)) }
+    before: &[Side],
+    all: &mut Vec<Clause>,
+) -> Result<(), NoMemory>
+    ensures { IfOk result (λ _. map the_clause all.new.items ≡ map the_clause all.old.items
+        ++ behind before.now (all_pairs (clauses_of (the_formula a.now) a_sign) (clauses_of (the_formula b.now) b_sign))) }
 {
-    let first = clauses_of(alloc, a, a_sign)?;
-    let second = clauses_of(alloc, b, b_sign)?;
-    let mut all = Vec::new(alloc);
+    let mut first = Vec::new(alloc);
+    add_clauses(alloc, a, a_sign, before, &mut first)?;
+    let mut second = Vec::new(alloc);
+    add_clauses(alloc, b, b_sign, &[], &mut second)?;
     for clause in first.iter() {
-        push_joined(alloc, &mut all, clause, &second)?;
-    }
-    Ok(all)
-}
-
-fn unit_clause(alloc: Global, sign: Sign, symbol: SymbolId) -> Result<Vec<Clause>, NoMemory>
-    ensures { IfOk result (λ cs. map the_clause cs.items ≡ clause_of [] (literal_of sign symbol.0 ∷ []) ∷ []) }
-{
-    let mut literals = Vec::new(alloc);
-    literals.push(Literal { sign, symbol })?;
-    let mut clauses = Vec::new(alloc);
-    clauses.push(Clause {
-        sides: Vec::new(alloc),
-        literals,
-    })?;
-    Ok(clauses)
-}
-
-fn push_after_side(all: &mut Vec<Clause>, side: Side, clauses: Vec<Clause>) -> Result<(), NoMemory>
-    ensures { IfOk result (λ _. map the_clause all.new.items
-        ≡ map the_clause all.old.items ++ map (λ (c : ClauseInstance). after_side side c) (map the_clause clauses.items)) }
-{
-    for mut clause in clauses {
-        clause.sides.insert(0, side)?;
-        all.push(clause)?;
+        push_joined(alloc, all, clause, &second)?;
     }
     Ok(())
+}
+
+fn add_unit(
+    alloc: Global,
+    sign: Sign,
+    symbol: SymbolId,
+    before: &[Side],
+    all: &mut Vec<Clause>,
+) -> Result<(), NoMemory>
+    ensures { IfOk result (λ _. map the_clause all.new.items
+        ≡ map the_clause all.old.items ++ clause_of before.now (literal_of sign symbol.0 ∷ []) ∷ []) }
+{
+    let mut sides = Vec::new(alloc);
+    sides.extend_from_slice(before)?;
+    let mut literals = Vec::new(alloc);
+    literals.push(Literal { sign, symbol })?;
+    all.push(Clause { sides, literals })?;
+    Ok(())
+}
+
+fn and_side(alloc: Global, before: &[Side], side: Side) -> Result<Vec<Side>, NoMemory>
+    ensures { IfOk result (λ sides. sides.items ≡ before.now ++ side ∷ []) }
+{
+    let mut sides = Vec::new(alloc);
+    sides.extend_from_slice(before)?;
+    sides.push(side)?;
+    Ok(sides)
 }
 
 fn push_joined(
