@@ -1,6 +1,6 @@
 //! Iterative deepening (Otten's leanCoP): the least limit within which a tableau is closed.
 
-ghost use Rattle.std.specs.Prelude.{◌≡◌, ℕ, List, ◌<◌, ◌≤◌, Some, Contains, IfOk, length, map, slice_get};
+ghost use Rattle.std.specs.Prelude.{◌≡◌, ◌<◌, ◌≤◌, Some, Contains, IfOk, length, map, slice_get};
 ghost use Rattle.std.specs.List.{list_all};
 ghost use Rattle.calculus.specs.Instances.{ClauseInstance};
 ghost use Rattle.calculus.specs.Propositional.{IsPropositional};

@@ -82,13 +82,13 @@ pub fn build_matrix(alloc: Global, problem: &Problem) -> Result<Matrix, MatrixFa
 }
 
 impl Matrix {
-    pub fn len(&self) -> usize
+    pub(crate) fn len(&self) -> usize
         ensures { result ≡ length self.now }
     {
         self.clauses.len()
     }
 
-    pub fn clause(&self, number: usize) -> &Clause
+    pub(crate) fn clause(&self, number: usize) -> &Clause
         requires { number < length self.now }
         ensures { slice_get self.now number ≡ Some (the_clause result.now) }
     {
@@ -96,7 +96,7 @@ impl Matrix {
     }
 
     /// The places of a literal, by clause and then by place.
-    pub fn places(&self, literal: Literal) -> &[Place]
+    pub(crate) fn places(&self, literal: Literal) -> &[Place]
         ensures { ArePlaces self.now (the_literal literal) result.now }
     {
         self.index.places(literal)

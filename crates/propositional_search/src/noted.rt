@@ -70,10 +70,11 @@ impl Noted {
         ensures { self.new ≡ take len self.old }
     {
         'removing: while self.numbers.len() > len {
-            if let Some(number) = self.numbers.pop() {
-                if number < self.seen.len() {
-                    self.seen[number] = false;
-                }
+            let Some(number) = self.numbers.pop() else {
+                unreachable!()
+            };
+            if number < self.seen.len() {
+                self.seen[number] = false;
             }
         }
     }

@@ -2,13 +2,12 @@
 
 ghost use Rattle.std.specs.Prelude.{◌≡◌};
 ghost use Rattle.std.specs.List.{list_any};
-ghost use Rattle.calculus.specs.Equality.{literal_eq, sign_eq};
+ghost use Rattle.calculus.specs.Equality.{literal_eq};
 ghost use Rattle.propositional_search.specs.ClauseView.{the_literal};
 ghost use Rattle.propositional_search.specs.PathView.{the_path};
 ghost use Rattle.propositional_search.specs.Search.{complement};
 
 use crate::clause::Literal;
-use formula_core::Sign;
 
 /// A branch of a tableau, from its leaf up.
 #[derive(Clone, Copy)]
@@ -41,15 +40,6 @@ impl Literal {
     fn is_same(self, other: Literal) -> bool
         ensures { result ≡ literal_eq (the_literal self) (the_literal other) }
     {
-        is_same_sign(self.sign, other.sign) && self.symbol.0 == other.symbol.0
-    }
-}
-
-fn is_same_sign(a: Sign, b: Sign) -> bool
-    ensures { result ≡ sign_eq a b }
-{
-    match (a, b) {
-        (Sign::T, Sign::T) | (Sign::F, Sign::F) => true,
-        (Sign::T, Sign::F) | (Sign::F, Sign::T) => false,
+        self.sign == other.sign && self.symbol.0 == other.symbol.0
     }
 }

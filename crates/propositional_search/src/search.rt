@@ -1,6 +1,6 @@
 //! The connection search below a goal: regularity, reduction and extension, by plain recursion.
 
-ghost use Rattle.std.specs.Prelude.{◌≡◌, ℕ, ◌+◌, ◌*◌, ◌<◌, ◌∷◌, false, Contains, IfOk, length, map, remove};
+ghost use Rattle.std.specs.Prelude.{◌≡◌, ℕ, ◌+◌, ◌<◌, ◌∷◌, false, Contains, IfOk, length, map, remove};
 ghost use Rattle.std.specs.List.{AllByRecursion, list_any};
 ghost use Rattle.calculus.specs.Equality.{literal_eq};
 ghost use Rattle.calculus.specs.Syntax as tree;

@@ -4,7 +4,7 @@ ghost use Rattle.std.specs.Prelude.{◌≡◌, ◌≤◌, ◌++◌, ◌∷◌, [
 ghost use Rattle.calculus.specs.Syntax as tree;
 ghost use Rattle.formula_core.specs.FormulaView.{the_formula};
 ghost use Rattle.formula_core.specs.SymbolView.{the_symbol};
-ghost use Rattle.propositional_search.specs.Examples.{IsExample, either_often, example, predicate, two_symbols};
+ghost use Rattle.propositional_search.specs.Examples.{IsExample, either_often, predicate, two_symbols};
 
 use crate::{Answer, MatrixFault, build_matrix, deepen};
 use cop_base::{NoMemory, SymbolId, Text};
