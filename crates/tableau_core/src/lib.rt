@@ -1,7 +1,7 @@
 //! Ground connection tableaux. So far it has the selections that name the clauses of a matrix.
 #![tactic(auto)]
 
-ghost use Rattle.std.specs.Prelude.{◌≡◌, ◌++◌, ◌∷◌, [], IfOk, OnOk, OnErr};
+ghost use Rattle.std.specs.Prelude.{◌≡◌, ◌++◌, ◌∷◌, [], OnOk, OnErr};
 
 pub use calculus::sign::Side;
 use cop_base::NoMemory;
