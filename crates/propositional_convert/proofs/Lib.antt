@@ -6,3 +6,4 @@ pub mod Worked
 pub mod Complete
 pub mod Expanding
 pub mod Closing
+pub mod Examples

@@ -5,3 +5,4 @@ pub mod Branches
 pub mod Stepping
 pub mod NodeView
 pub mod Outcomes
+pub mod Examples

@@ -13,6 +13,8 @@ mod close;
 mod entry;
 mod outcome;
 mod plan;
+#[cfg(test)]
+mod tests;
 
 use branch::Branch;
 use close::close;
