@@ -25,15 +25,16 @@ use Rattle.calculus.proofs.WalkLaws.{SomeIn, Hits, pair_of_closed, none_some, so
 use Rattle.calculus.proofs.HitLaws.{Moves, plain, by_string, by_character, IsSaturated, hit}
 use Rattle.propositional_convert.specs.Parts.{placed}
 use Rattle.propositional_convert.specs.Marking.{IsMarked, spot_at, IsMarkedTurn, MarksClauses}
-use Rattle.propositional_convert.specs.Literals.{literal, literal_of, literal_at, HasNoPair}
-use Rattle.propositional_convert.specs.Branches.{StandsIn, SomeStands, HasParts, IsWorkedOff, AllFit, EndsInPair}
+use Rattle.propositional_convert.specs.Literals.{literal, literal_of, literal_at, HasLiteral, HasNoPair}
+use Rattle.propositional_convert.specs.Branches.{IsMet, SomeMet, HasParts, IsWorkedOff, AllFit, EndsInPair}
+use Rattle.propositional_convert.proofs.Holding.{held-parts}
 use Rattle.propositional_convert.proofs.Marks.{plain_modal, nu≢plain, pi≢plain}
 
--- the formula stands in the branch at the spot's position
-pub record Stands (ns : List Node) (c : Spot) (s : Sign) (f : Formula) : Type 0 where
+-- the branch meets the formula at the spot's position
+pub record Meets (ns : List Node) (c : Spot) (s : Sign) (f : Formula) : Type 0 where
   pub flat : c ≡ spot_at c.position
   pub propositional : IsTrue (is_propositional f)
-  pub stands : StandsIn ns (node c.position s f)
+  pub met : IsMet ns (node c.position s f)
 
 -- the ground literal is one of the branch
 pub record HoldsLiteral (ns : List Node) (l : GroundLiteral) : Type 0 where
@@ -49,21 +50,40 @@ moves_nowhere s f c d h (by_character e) = absurd (pi≢plain e (plain_modal s f
 abbrev AllWorked : List Bool → List Node → Type 0
 AllWorked marks ns = (i : ℕ) (n : Node) → slice_get ns i ≡ Some n → IsWorkedOff marks ns n
 
-moved : (ns : List Node) (c d : Spot) (s : Sign) (f : Formula) → Stands ns c s f → Moves Classical s f c d → Stands ns d s f
-moved ns c d s f h m = subst (λ e. Stands ns e s f) (moves_nowhere s f c d h.propositional m) h
-
-fit-at : (zs : List ℕ) (ns : List Node) (n : Node) → AllFit zs ns → StandsIn ns n → IsTrue (is_propositional n.formula)
-fit-at zs ns n fit h = (fit h.0 n h.1).propositional
+moved : (ns : List Node) (c d : Spot) (s : Sign) (f : Formula) → Meets ns c s f → Moves Classical s f c d → Meets ns d s f
+moved ns c d s f h m = subst (λ e. Meets ns e s f) (moves_nowhere s f c d h.propositional m) h
 
 flat-down : (k : ℕ) (d : Spot) → d ≡ spot_at d.position → down_by k d ≡ spot_at (d.position + k)
 flat-down k d e = ap (down_by k) e
 
-stands-down : (zs : List ℕ) (ns : List Node) (k : ℕ) (d : Spot) (a : Signed) → AllFit zs ns → d ≡ spot_at d.position → StandsIn ns (node (d.position + k) a.sign a.formula) → Stands ns (down_by k d) a.sign a.formula
-stands-down zs ns k d a fit e h = record { flat = flat-down k d e; propositional = fit-at zs ns _ fit h; stands = h }
+meets-down : (ns : List Node) (k : ℕ) (d : Spot) (a : Signed) → d ≡ spot_at d.position → IsTrue (is_propositional a.formula) → IsMet ns (node (d.position + k) a.sign a.formula) → Meets ns (down_by k d) a.sign a.formula
+meets-down ns k d a e p h = record { flat = flat-down k d e; propositional = p; met = h }
 
--- the parts of an entry that is worked off
-parts-there : (marks : List Bool) (ns : List Node) (d : Spot) (s : Sign) (f : Formula) (h : Shape) (xs : List Signed) → AllWorked marks ns → Stands ns d s f → IsMarked marks d.position → shape_of s f ≡ h → components s f ≡ xs → HasParts ns h (placed d.position xs)
-parts-there marks ns d s f h xs worked there m e q = subst (λ ys. HasParts ns h (placed d.position ys)) q (subst (λ k. HasParts ns k (placed d.position (components s f))) e (worked there.stands.0 (node d.position s f) there.stands.1 m))
+-- the components of a propositional formula
+abbrev ArePropositional : List Signed → Type 0
+ArePropositional xs = AllByRecursion (λ (a : Signed). IsTrue (is_propositional a.formula)) xs
+
+propositional-components : (s : Sign) (f : Formula) → IsTrue (is_propositional f) → ArePropositional (components s f)
+propositional-components s (atom p ts) h = (h, tt)
+propositional-components s (neg a) h = (h, tt)
+propositional-components s (conj a b) h = let both = and_parts (is_propositional a) (is_propositional b) h in (both.0, (both.1, tt))
+propositional-components s (disj a b) h = let both = and_parts (is_propositional a) (is_propositional b) h in (both.0, (both.1, tt))
+propositional-components s (imp a b) h = let both = and_parts (is_propositional a) (is_propositional b) h in (both.0, (both.1, tt))
+propositional-components s (all a) h = absurd (false≢true h)
+propositional-components s (ex a) h = absurd (false≢true h)
+propositional-components s (box a) h = absurd (false≢true h)
+propositional-components s (dia a) h = absurd (false≢true h)
+
+propositional-parts : (s : Sign) (f : Formula) (xs : List Signed) → IsTrue (is_propositional f) → components s f ≡ xs → ArePropositional xs
+propositional-parts s f xs h e = subst ArePropositional e (propositional-components s f h)
+
+-- the parts of a formula that the branch meets
+parts-met : (marks : List Bool) (ns : List Node) (q : ℕ) (s : Sign) (f : Formula) → AllWorked marks ns → IsMarked marks q → IsMet ns (node q s f) → HasParts ns (shape_of s f) (placed q (components s f))
+parts-met marks ns q s f worked m (inl h) = worked h.0 (node q s f) h.1 m
+parts-met marks ns q s f worked m (inr h) = held-parts ns q s f h
+
+parts-there : (marks : List Bool) (ns : List Node) (d : Spot) (s : Sign) (f : Formula) (h : Shape) (xs : List Signed) → AllWorked marks ns → Meets ns d s f → IsMarked marks d.position → shape_of s f ≡ h → components s f ≡ xs → HasParts ns h (placed d.position xs)
+parts-there marks ns d s f h xs worked there m e q = subst (λ ys. HasParts ns h (placed d.position ys)) q (subst (λ k. HasParts ns k (placed d.position (components s f))) e (parts-met marks ns d.position s f worked m there.met))
 
 not-quantified : (s : Sign) (f : Formula) → IsTrue (is_propositional f) → is_quantified (shape_of s f) ≡ false
 not-quantified s (atom p ts) h = refl
@@ -84,36 +104,43 @@ literal-there [] i q s p ts h = absurd (none_some h)
 literal-there (n ∷ ns) zero q s p ts h = ap literal_of (some_injective n h)
 literal-there (n ∷ ns) (suc i) q s p ts h = literal-there ns i q s p ts h
 
-saturated : (zs : List ℕ) (marks : List Bool) (ns : List Node) → AllFit zs ns → AllWorked marks ns → IsSaturated Classical (IsMarkedTurn marks) (Stands ns) (HoldsLiteral ns)
-saturated zs marks ns fit worked = record {
-  literal = λ c d s p ts h m done. record { at = h.stands.0; has = literal-there ns h.stands.0 c.position s p ts h.stands.1 };
+atom-held : (ns : List Node) (q : ℕ) (s : Sign) (p : ℕ) (ts : Terms) → IsMet ns (node q s (atom p ts)) → HasLiteral ns s p
+atom-held ns q s p ts (inl h) = (h.0, literal-there ns h.0 q s p ts h.1)
+atom-held ns q s p ts (inr h) = h
+
+saturated : (marks : List Bool) (ns : List Node) → AllWorked marks ns → IsSaturated Classical (IsMarkedTurn marks) (Meets ns) (HoldsLiteral ns)
+saturated marks ns worked = record {
+  literal = λ c d s p ts h m done. let held = atom-held ns c.position s p ts h.met in record { at = held.0; has = held.1 };
   only = λ c d s f a e q h m done.
       let there = moved ns c d s f h m in
       let parts = parts-there marks ns d s f Alpha (a ∷ []) worked there done e q in
-      stands-down zs ns 1 d a fit there.flat parts.0;
+      let each = propositional-parts s f (a ∷ []) there.propositional q in
+      meets-down ns 1 d a there.flat each.0 parts.0;
   left = λ c d s f a b e q h m done.
       let there = moved ns c d s f h m in
       let parts = parts-there marks ns d s f Alpha (a ∷ b ∷ []) worked there done e q in
-      stands-down zs ns 1 d a fit there.flat parts.0;
+      let each = propositional-parts s f (a ∷ b ∷ []) there.propositional q in
+      meets-down ns 1 d a there.flat each.0 parts.0;
   right = λ c d s f a b e q h m done.
       let there = moved ns c d s f h m in
       let parts = parts-there marks ns d s f Alpha (a ∷ b ∷ []) worked there done e q in
-      stands-down zs ns (suc (size a.formula)) d b fit there.flat parts.1.0;
+      let each = propositional-parts s f (a ∷ b ∷ []) there.propositional q in
+      meets-down ns (suc (size a.formula)) d b there.flat each.1.0 parts.1.0;
   either = λ c d s f a b e q h m done.
       let there = moved ns c d s f h m in
-      picked d a b there.flat (parts-there marks ns d s f Beta (a ∷ b ∷ []) worked there done e q);
+      picked d a b there.flat (propositional-parts s f (a ∷ b ∷ []) there.propositional q) (parts-there marks ns d s f Beta (a ∷ b ∷ []) worked there done e q);
   gamma = λ c d s f a t e q h m done. absurd (false≢true (sym (not-quantified s f h.propositional) ∙ ap is_quantified e));
   delta = λ c d s f a e q h m done. absurd (false≢true (sym (not-quantified s f h.propositional) ∙ ap is_quantified e));
 }
   where
-    picked : (d : Spot) (a b : Signed) → d ≡ spot_at d.position → SomeStands ns (placed d.position (a ∷ b ∷ [])) → Stands ns (down_by 1 d) a.sign a.formula ⊎ Stands ns (down_by (suc (size a.formula)) d) b.sign b.formula
-    picked d a b e (inl h) = inl (stands-down zs ns 1 d a fit e h)
-    picked d a b e (inr (inl h)) = inr (stands-down zs ns (suc (size a.formula)) d b fit e h)
-    picked d a b e (inr (inr h)) = absurd h
+    picked : (d : Spot) (a b : Signed) → d ≡ spot_at d.position → ArePropositional (a ∷ b ∷ []) → SomeMet ns (placed d.position (a ∷ b ∷ [])) → Meets ns (down_by 1 d) a.sign a.formula ⊎ Meets ns (down_by (suc (size a.formula)) d) b.sign b.formula
+    picked d a b e each (inl h) = inl (meets-down ns 1 d a e each.0 h)
+    picked d a b e each (inr (inl h)) = inr (meets-down ns (suc (size a.formula)) d b e each.1.0 h)
+    picked d a b e each (inr (inr h)) = absurd h
 
 -- each clause whose positions are marked has a literal on the branch
 clause-hit : (zs : List ℕ) (marks : List Bool) (ns : List Node) (f : Formula) (x : Share) → slice_get ns 0 ≡ Some (node 0 F f) → AllFit zs ns → AllWorked marks ns → Gives Classical (spot_at 0) F f x → AllByRecursion (IsMarkedTurn marks) x.turns → SomeIn (HoldsLiteral ns) x.literals
-clause-hit zs marks ns f x root fit worked g turns = hit Classical (IsMarkedTurn marks) (Stands ns) (HoldsLiteral ns) (saturated zs marks ns fit worked) (spot_at 0) F f x g turns (record { flat = refl; propositional = (fit 0 (node 0 F f) root).propositional; stands = (0, root) })
+clause-hit zs marks ns f x root fit worked g turns = hit Classical (IsMarkedTurn marks) (Meets ns) (HoldsLiteral ns) (saturated marks ns worked) (spot_at 0) F f x g turns (record { flat = refl; propositional = (fit 0 (node 0 F f) root).propositional; met = inl (0, root) })
 
 -- two complementary literals of the branch are a pair
 no-pair : (ns : List Node) (a b : GroundLiteral) → HasNoPair ns → HoldsLiteral ns a → HoldsLiteral ns b → IsTrue (are_complementary a b) → ⊥

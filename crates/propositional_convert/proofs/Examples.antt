@@ -9,7 +9,7 @@ use Rattle.calculus.specs.Ground.{GroundLiteral, no_g_terms}
 use Rattle.calculus.specs.Instances.{ClauseInstance}
 use Rattle.calculus.specs.Tableaux.{Closing, Closings, extend, no_closings, more_closings}
 use Rattle.tableau_core.specs.Closed.{IsClosedBy}
-use Rattle.propositional_convert.specs.Examples.{example, self_implication, self_implication_selections, exchange, exchange_selections, detachment, detachment_selections}
+use Rattle.propositional_convert.specs.Examples.{example, self_implication, self_implication_selections, exchange, exchange_selections, detachment, detachment_selections, idle_choice, idle_choice_selections}
 
 abbrev lit : Sign → ℕ → GroundLiteral
 lit s n = record { sign = s; symbol = n; args = no_g_terms; label = [] }
@@ -45,6 +45,16 @@ detachment_closed f sides e e' = rw (e, e') (record {
   tableau = record {
     start = clause (Right ∷ []) (lit F 1 ∷ []);
     goals = one_closing (extend (clause (Left ∷ Right ∷ []) (lit F 0 ∷ lit T 1 ∷ [])) 1 (one_closing (extend (clause (Left ∷ Left ∷ []) (lit T 0 ∷ [])) 0 no_closings)));
+  };
+  closed = refl;
+  among = ((0, omega arith, refl), ((1, omega arith, refl), ((2, omega arith, refl), tt)));
+})
+
+pub idle_choice_closed : (f : tree.Formula) (sides : List (List Side)) → f ≡ idle_choice → sides ≡ idle_choice_selections → IsClosedBy (example f) 2 sides
+idle_choice_closed f sides e e' = rw (e, e') (record {
+  tableau = record {
+    start = clause (Right ∷ []) (lit F 1 ∷ []);
+    goals = one_closing (extend (clause (Left ∷ Right ∷ Right ∷ []) (lit F 0 ∷ lit T 1 ∷ [])) 1 (one_closing (extend (clause (Left ∷ Left ∷ []) (lit T 0 ∷ [])) 0 no_closings)));
   };
   closed = refl;
   among = ((0, omega arith, refl), ((1, omega arith, refl), ((2, omega arith, refl), tt)));

@@ -1,6 +1,7 @@
 pub mod Sizes
 pub mod Marks
 pub mod Literals
+pub mod Holding
 pub mod Steps
 pub mod Worked
 pub mod Complete

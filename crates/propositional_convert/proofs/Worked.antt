@@ -9,9 +9,11 @@ use Rattle.calculus.specs.Positions.{Node, node, size}
 use Rattle.calculus.proofs.WalkLaws.{none_some, some_injective}
 use Rattle.propositional_convert.specs.Parts.{parts_of, placed, Fits}
 use Rattle.propositional_convert.specs.Marking.{IsMarked}
-use Rattle.propositional_convert.specs.Branches.{StandsIn, SomeStands, HasParts, IsWorkedOff, AllFit, weight, IsWorkedTo}
+use Rattle.propositional_convert.specs.Branches.{StandsIn, IsMet, SomeMet, HasParts, IsWorkedOff, AllFit, weight, IsWorkedTo}
 use Rattle.propositional_convert.specs.NodeView.{IsOne, AreTwo}
+use Rattle.propositional_convert.specs.Literals.{IsHeld}
 use Rattle.propositional_convert.proofs.Sizes.{size-pos}
+use Rattle.propositional_convert.proofs.Holding.{held-kept, held-parts}
 
 -- ---- entries of a longer branch
 
@@ -41,13 +43,17 @@ get-cases (m ∷ ns) ms (suc k) n h = elim (get-cases ns ms k n h) [
 stands-kept : (ns ms : List Node) (n : Node) → StandsIn ns n → StandsIn (ns ++ ms) n
 stands-kept ns ms n h = (h.0, get-kept ns ms h.0 n h.1)
 
-all-kept : (ns ms ps : List Node) → AllByRecursion (StandsIn ns) ps → AllByRecursion (StandsIn (ns ++ ms)) ps
-all-kept ns ms [] h = tt
-all-kept ns ms (p ∷ ps) h = (stands-kept ns ms p h.0, all-kept ns ms ps h.1)
+met-kept : (ns ms : List Node) (n : Node) → IsMet ns n → IsMet (ns ++ ms) n
+met-kept ns ms n (inl h) = inl (stands-kept ns ms n h)
+met-kept ns ms n (inr h) = inr (held-kept ns ms n.sign n.formula h)
 
-some-kept : (ns ms ps : List Node) → SomeStands ns ps → SomeStands (ns ++ ms) ps
+all-kept : (ns ms ps : List Node) → AllByRecursion (IsMet ns) ps → AllByRecursion (IsMet (ns ++ ms)) ps
+all-kept ns ms [] h = tt
+all-kept ns ms (p ∷ ps) h = (met-kept ns ms p h.0, all-kept ns ms ps h.1)
+
+some-kept : (ns ms ps : List Node) → SomeMet ns ps → SomeMet (ns ++ ms) ps
 some-kept ns ms [] h = elim h [ ]
-some-kept ns ms (p ∷ ps) (inl h) = inl (stands-kept ns ms p h)
+some-kept ns ms (p ∷ ps) (inl h) = inl (met-kept ns ms p h)
 some-kept ns ms (p ∷ ps) (inr h) = inr (some-kept ns ms ps h)
 
 parts-kept : (ns ms : List Node) (h : Shape) (ps : List Node) → HasParts ns h ps → HasParts (ns ++ ms) h ps
@@ -126,6 +132,9 @@ unmarked-worked marks ns n h m = absurd (h m)
 pub literal-worked : (marks : List Bool) (ns : List Node) (n : Node) → shape_of n.sign n.formula ≡ Literal → IsWorkedOff marks ns n
 literal-worked marks ns n h m = subst (λ s. HasParts ns s (parts_of n)) (sym h) tt
 
+pub held-worked : (marks : List Bool) (ns : List Node) (n : Node) → IsHeld ns n.sign n.formula → IsWorkedOff marks ns n
+held-worked marks ns n h m = held-parts ns n.position n.sign n.formula h
+
 one-part : (n a : Node) (zs : List ℕ) → IsOne zs n a → parts_of n ≡ a ∷ []
 one-part n a zs h = ap (placed n.position) h.parts ∙ (λ i. node (sym h.place i) a.sign a.formula ∷ [])
 
@@ -133,16 +142,16 @@ two-parts : (n a b : Node) (zs : List ℕ) → AreTwo zs n a b → parts_of n �
 two-parts n a b zs h = ap (placed n.position) h.parts ∙ (λ i. node (sym h.first_place i) a.sign a.formula ∷ node (sym h.second_place i) b.sign b.formula ∷ [])
 
 pub one-worked : (marks : List Bool) (ns : List Node) (n a : Node) (zs : List ℕ) → IsOne zs n a → IsWorkedOff marks (ns ++ a ∷ []) n
-one-worked marks ns n a zs h m = rw (h.shape, one-part n a zs h) ((length ns, get-seam ns a []), tt)
+one-worked marks ns n a zs h m = rw (h.shape, one-part n a zs h) (inl (length ns, get-seam ns a []), tt)
 
 second-stands : (ns : List Node) (a b : Node) → StandsIn (ns ++ a ∷ b ∷ []) b
 second-stands ns a b = (length (ns ++ a ∷ []), subst (λ l. slice_get l (length (ns ++ a ∷ [])) ≡ Some b) (append_assoc ns (a ∷ []) (b ∷ [])) (get-seam (ns ++ a ∷ []) b []))
 
 pub both-worked : (marks : List Bool) (ns : List Node) (n a b : Node) (zs : List ℕ) → shape_of n.sign n.formula ≡ Alpha → AreTwo zs n a b → IsWorkedOff marks (ns ++ a ∷ b ∷ []) n
-both-worked marks ns n a b zs shape h m = rw (shape, two-parts n a b zs h) ((length ns, get-seam ns a (b ∷ [])), (second-stands ns a b, tt))
+both-worked marks ns n a b zs shape h m = rw (shape, two-parts n a b zs h) (inl (length ns, get-seam ns a (b ∷ [])), (inl (second-stands ns a b), tt))
 
 pub first-worked : (marks : List Bool) (ns : List Node) (n a b : Node) (zs : List ℕ) → shape_of n.sign n.formula ≡ Beta → AreTwo zs n a b → IsWorkedOff marks (ns ++ a ∷ []) n
-first-worked marks ns n a b zs shape h m = rw (shape, two-parts n a b zs h) (inl (length ns, get-seam ns a []))
+first-worked marks ns n a b zs shape h m = rw (shape, two-parts n a b zs h) (inl (inl (length ns, get-seam ns a [])))
 
 pub second-worked : (marks : List Bool) (ns : List Node) (n a b : Node) (zs : List ℕ) → shape_of n.sign n.formula ≡ Beta → AreTwo zs n a b → IsWorkedOff marks (ns ++ b ∷ []) n
-second-worked marks ns n a b zs shape h m = rw (shape, two-parts n a b zs h) (inr (inl (length ns, get-seam ns b [])))
+second-worked marks ns n a b zs shape h m = rw (shape, two-parts n a b zs h) (inr (inl (inl (length ns, get-seam ns b []))))

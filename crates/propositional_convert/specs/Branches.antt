@@ -7,19 +7,23 @@ use Rattle.calculus.specs.Kinds.{shape_of}
 use Rattle.calculus.specs.Positions.{Node, size}
 use Rattle.propositional_convert.specs.Parts.{parts_of, Fits}
 use Rattle.propositional_convert.specs.Marking.{IsMarked}
-use Rattle.propositional_convert.specs.Literals.{HasNoPair}
+use Rattle.propositional_convert.specs.Literals.{HasNoPair, IsHeld}
 
 abbrev pub StandsIn : List Node → Node → Type 0
 StandsIn ns n = (k : ℕ) × (slice_get ns k ≡ Some n)
 
-abbrev pub SomeStands : List Node → List Node → Type 0
-SomeStands ns [] = ⊥
-SomeStands ns (m ∷ ms) = StandsIn ns m ⊎ SomeStands ns ms
+-- the node stands there, or the literals that are there make it hold
+abbrev pub IsMet : List Node → Node → Type 0
+IsMet ns n = StandsIn ns n ⊎ IsHeld ns n.sign n.formula
 
--- the branch has the parts of an alpha formula, or one part of a beta formula
+abbrev pub SomeMet : List Node → List Node → Type 0
+SomeMet ns [] = ⊥
+SomeMet ns (m ∷ ms) = IsMet ns m ⊎ SomeMet ns ms
+
+-- the branch meets the parts of an alpha formula, or one part of a beta formula
 abbrev pub HasParts : List Node → Shape → List Node → Type 0
-HasParts ns Alpha ms = AllByRecursion (StandsIn ns) ms
-HasParts ns Beta ms = SomeStands ns ms
+HasParts ns Alpha ms = AllByRecursion (IsMet ns) ms
+HasParts ns Beta ms = SomeMet ns ms
 HasParts ns _ ms = Unit {0}
 
 abbrev pub IsWorkedOff : List Bool → List Node → Node → Type 0

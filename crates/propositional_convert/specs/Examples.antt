@@ -47,3 +47,11 @@ detachment = tree.imp (tree.conj p (tree.imp p q)) q
 
 abbrev pub detachment_selections : List (List Side)
 detachment_selections = (Right ∷ []) ∷ (Left ∷ Right ∷ []) ∷ (Left ∷ Left ∷ []) ∷ []
+
+-- (p & ((p | q) & (p => q))) => q, whose p | q holds where p does
+abbrev pub idle_choice : tree.Formula
+idle_choice = tree.imp (tree.conj p (tree.conj (tree.disj p q) (tree.imp p q))) q
+
+-- the last one reaches p | q
+abbrev pub idle_choice_selections : List (List Side)
+idle_choice_selections = (Right ∷ []) ∷ (Left ∷ Right ∷ Right ∷ []) ∷ (Left ∷ Left ∷ []) ∷ (Left ∷ Right ∷ Left ∷ []) ∷ []

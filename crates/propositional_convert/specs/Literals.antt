@@ -1,8 +1,9 @@
 -- The literals of a branch, which is a list of nodes whose numbers count from 1.
-use Rattle.std.specs.Prelude.{◌≡◌, ℕ, zero, suc, ◌≤◌, List, Option, Some, None, option_and_then, slice_get, slice_index}
+use Rattle.std.specs.Prelude.{◌≡◌, ◌⊎◌, ℕ, zero, suc, ◌≤◌, List, Option, Some, None, option_and_then, slice_get, slice_index}
 use Rattle.calculus.specs.declared.sign.Sign.{Sign}
 use Rattle.calculus.specs.declared.sign.Sign.TheVariants.{T, F}
-use Rattle.calculus.specs.Syntax.{Formula, atom}
+use Rattle.calculus.specs.Kinds.{other}
+use Rattle.calculus.specs.Syntax.{Formula, atom, neg, conj, disj, imp, all, ex, box, dia}
 use Rattle.calculus.specs.Positions.{Node}
 
 -- an atom's symbol with a sign
@@ -27,6 +28,10 @@ literal_at ns i = option_and_then literal_of (slice_get ns i)
 abbrev pub literal_numbered : List Node → ℕ → Option Literal
 literal_numbered ns zero = None
 literal_numbered ns (suc i) = literal_at ns i
+
+-- an entry has the literal
+abbrev pub HasLiteral : List Node → Sign → ℕ → Type 0
+HasLiteral ns s p = (i : ℕ) × (literal_at ns i ≡ Some (literal s p))
 
 abbrev pub IsAbsent : List Node → Sign → ℕ → Type 0
 IsAbsent ns s p = (i : ℕ) → literal_at ns i ≡ Some (literal s p) → ⊥
@@ -55,3 +60,18 @@ pub record IsFirst (given shown : List ℕ) (ns : List Node) (s : Sign) (p i : �
 -- each literal of the branch has its number kept
 abbrev pub KeepsNumbers : List ℕ → List ℕ → List Node → Type 0
 KeepsNumbers given shown ns = (s : Sign) (p i : ℕ) → literal_at ns i ≡ Some (literal s p) → IsFirst given shown ns s p i
+
+-- the literals of the branch make the formula with this sign hold: all parts of an alpha formula, or one of a beta formula
+abbrev pub IsHeld : List Node → Sign → Formula → Type 0
+IsHeld ns s (atom p ts) = HasLiteral ns s p
+IsHeld ns s (neg a) = IsHeld ns (other s) a
+IsHeld ns T (conj a b) = IsHeld ns T a × IsHeld ns T b
+IsHeld ns F (conj a b) = IsHeld ns F a ⊎ IsHeld ns F b
+IsHeld ns T (disj a b) = IsHeld ns T a ⊎ IsHeld ns T b
+IsHeld ns F (disj a b) = IsHeld ns F a × IsHeld ns F b
+IsHeld ns T (imp a b) = IsHeld ns F a ⊎ IsHeld ns T b
+IsHeld ns F (imp a b) = IsHeld ns T a × IsHeld ns F b
+IsHeld ns s (all a) = ⊥
+IsHeld ns s (ex a) = ⊥
+IsHeld ns s (box a) = ⊥
+IsHeld ns s (dia a) = ⊥

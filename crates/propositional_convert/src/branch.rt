@@ -3,7 +3,7 @@
 ghost use Rattle.std.specs.Prelude.{◌≡◌, ◌≢◌, ◌+◌, ◌-◌, ◌++◌, ◌∷◌, [], ◌<◌, ◌≤◌, ◌^◌, ℕ, Some, None, length, take, slice_get, slice_index, IfOk, OnOk, MatchOption, IsTrue, ◌↔◌};
 ghost use Rattle.std.specs.Option.{option_map};
 ghost use Rattle.formula_core.specs.FormulaView.{the_formula};
-ghost use Rattle.propositional_convert.specs.Literals.{HasNoPair, IsAbsent, IsPair, literal, literal_in, literal_numbered, literal_of, number_in};
+ghost use Rattle.propositional_convert.specs.Literals.{HasLiteral, HasNoPair, IsAbsent, IsHeld, IsPair, literal, literal_in, literal_numbered, literal_of, number_in};
 ghost use Rattle.propositional_convert.specs.NodeView.{the_node};
 
 use crate::entry::Entry;
@@ -170,6 +170,39 @@ impl<'a> Branch<'a> {
             Some(number)
         } else {
             None
+        }
+    }
+
+    // Whether an entry is the atom with this sign.
+    fn has(&self, sign: Sign, symbol: usize) -> bool
+        ensures { IsTrue result ↔ HasLiteral self.now sign symbol }
+    {
+        match self.find(sign, symbol) {
+            Some(_) => true,
+            None => false,
+        }
+    }
+
+    /// Whether the literals of the branch make the formula with this sign hold.
+    pub(crate) fn holds(&self, sign: Sign, f: &Formula) -> bool
+        ensures { IsTrue result ↔ IsHeld self.now sign (the_formula f.now) }
+    {
+        match f {
+            Formula::Atom(p, _) => self.has(sign, p.0 as usize),
+            Formula::Not(a) => self.holds(sign.other(), a),
+            Formula::And(a, b) => match sign {
+                Sign::T => self.holds(Sign::T, a) && self.holds(Sign::T, b),
+                Sign::F => self.holds(Sign::F, a) || self.holds(Sign::F, b),
+            },
+            Formula::Or(a, b) => match sign {
+                Sign::T => self.holds(Sign::T, a) || self.holds(Sign::T, b),
+                Sign::F => self.holds(Sign::F, a) && self.holds(Sign::F, b),
+            },
+            Formula::Imp(a, b) => match sign {
+                Sign::T => self.holds(Sign::F, a) || self.holds(Sign::T, b),
+                Sign::F => self.holds(Sign::T, a) && self.holds(Sign::F, b),
+            },
+            Formula::All(_) | Formula::Ex(_) | Formula::Nec(_) | Formula::Poss(_) => false,
         }
     }
 

@@ -88,7 +88,8 @@ fn use_both<'a>(
     }
 }
 
-// Works off the entry at an index.
+// Works off the entry at an index. One that the literals of the branch make hold is left as it is: of an alpha formula the
+// branch would gain nothing, and of a beta formula one child of the fork.
 fn expand<'a>(
     plan: &Plan,
     branch: &mut Branch<'a>,
@@ -102,6 +103,9 @@ fn expand<'a>(
 {
     let entry = branch.entry(index);
     if !plan.is_marked(entry.position) {
+        return Ok(Outcome::Open);
+    }
+    if branch.holds(entry.sign, entry.formula) {
         return Ok(Outcome::Open);
     }
     match plan.parts(entry) {

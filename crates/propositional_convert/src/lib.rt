@@ -31,7 +31,9 @@ use tableau_core::Selection;
 /// and has no names.
 ///
 /// The positions that the clauses reach are worked off in the order in which they get on a branch, and a branch is closed
-/// as soon as it has an axiom (after Kreitz and Schmitt, who convert matrix proofs). The call goes as deep as a branch has
+/// as soon as it has an axiom (after Kreitz and Schmitt, who convert matrix proofs). One is left out where the literals of
+/// the branch make its formula hold: a beta formula one of whose parts is an atom that the branch has with the same sign,
+/// say, since a fork on it would give one child that has nothing new. The call goes as deep as a branch has
 /// beta positions that are reached, so the caller bounds the formula.
 pub fn convert(
     alloc: Global,

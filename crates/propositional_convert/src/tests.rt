@@ -5,7 +5,7 @@ ghost use Rattle.calculus.specs.DerivationText.{is_limit};
 ghost use Rattle.calculus.specs.Syntax as tree;
 ghost use Rattle.formula_core.specs.FormulaView.{the_formula};
 ghost use Rattle.formula_core.specs.SymbolView.{the_symbol};
-ghost use Rattle.propositional_convert.specs.Examples.{IsExample, detachment, detachment_selections, example, exchange, exchange_selections, p, predicate, q, self_implication, self_implication_selections, two_symbols};
+ghost use Rattle.propositional_convert.specs.Examples.{IsExample, detachment, detachment_selections, example, exchange, exchange_selections, idle_choice, idle_choice_selections, p, predicate, q, self_implication, self_implication_selections, two_symbols};
 ghost use Rattle.tableau_core.specs.Closed.{IsClosedBy};
 
 use crate::convert;
@@ -121,6 +121,16 @@ fn detachment(alloc: Global) -> Result<Formula, NoMemory>
     imp(alloc, given, atom_q(alloc))
 }
 
+fn idle_choice(alloc: Global) -> Result<Formula, NoMemory>
+    ensures { IfOk result (λ f. the_formula f ≡ idle_choice) }
+{
+    let choice = or(alloc, atom_p(alloc), atom_q(alloc))?;
+    let rule = imp(alloc, atom_p(alloc), atom_q(alloc))?;
+    let both = and(alloc, choice, rule)?;
+    let given = and(alloc, atom_p(alloc), both)?;
+    imp(alloc, given, atom_q(alloc))
+}
+
 fn one_side(alloc: Global, side: Side) -> Result<Selection, NoMemory>
     ensures { IfOk result (λ s. s ≡ side ∷ []) }
 {
@@ -135,6 +145,16 @@ fn two_sides(alloc: Global, first: Side, second: Side) -> Result<Selection, NoMe
     let mut selection = Selection::new(alloc);
     selection.push(first)?;
     selection.push(second)?;
+    Ok(selection)
+}
+
+fn three_sides(alloc: Global, first: Side, second: Side, third: Side) -> Result<Selection, NoMemory>
+    ensures { IfOk result (λ s. s ≡ first ∷ second ∷ third ∷ []) }
+{
+    let mut selection = Selection::new(alloc);
+    selection.push(first)?;
+    selection.push(second)?;
+    selection.push(third)?;
     Ok(selection)
 }
 
@@ -164,6 +184,17 @@ fn detachment_selections(alloc: Global) -> Result<Vec<Selection>, NoMemory>
     all.push(one_side(alloc, Side::Right)?)?;
     all.push(two_sides(alloc, Side::Left, Side::Right)?)?;
     all.push(two_sides(alloc, Side::Left, Side::Left)?)?;
+    Ok(all)
+}
+
+fn idle_choice_selections(alloc: Global) -> Result<Vec<Selection>, NoMemory>
+    ensures { IfOk result (λ all. all.items ≡ idle_choice_selections) }
+{
+    let mut all = Vec::new(alloc);
+    all.push(one_side(alloc, Side::Right)?)?;
+    all.push(three_sides(alloc, Side::Left, Side::Right, Side::Right)?)?;
+    all.push(two_sides(alloc, Side::Left, Side::Left)?)?;
+    all.push(three_sides(alloc, Side::Left, Side::Right, Side::Left)?)?;
     Ok(all)
 }
 
@@ -268,6 +299,31 @@ fn splits_an_implication_that_is_given(rt: HostRuntime) -> Result<(), Fail> {
             Line::Use(5),
             Line::Axiom(4, 6),
             Line::Axiom(6, 3),
+        ]
+        .as_slice()
+    );
+    Ok(())
+}
+
+// The sixth entry, p | q, is left as it is, because the branch has p.
+#[test]
+#[tactic(auto, using(crate::proofs::Examples::idle_choice_closed))]
+fn leaves_out_a_fork_that_the_branch_decides(rt: HostRuntime) -> Result<(), Fail> {
+    let alloc = rt.alloc();
+    let formula = idle_choice(alloc)?;
+    let selections = idle_choice_selections(alloc)?;
+    let seen = derive(alloc, formula, selections.as_slice(), 2)?;
+    assert_eq!(rt; seen.limit, 2);
+    assert!(rt; !seen.has_names);
+    assert_eq!(rt;
+        seen.lines.as_slice(),
+        [
+            Line::Use(1),
+            Line::Use(2),
+            Line::Use(5),
+            Line::Use(7),
+            Line::Axiom(4, 8),
+            Line::Axiom(8, 3),
         ]
         .as_slice()
     );

@@ -3,7 +3,7 @@ use Rattle.std.proofs.Common.{◌+◌, ◌≤◌, length, arith, add-one, sym, �
 use Rattle.std.proofs.lemmas.Bool.{false≢true}
 use Rattle.propositional_convert.specs.NodeView.{the_node}
 use Rattle.propositional_convert.proofs.Sizes.{fits-within}
-use Rattle.propositional_convert.proofs.Worked.{worked-length, unmarked-worked, literal-worked}
+use Rattle.propositional_convert.proofs.Worked.{worked-length, unmarked-worked, literal-worked, held-worked}
 use Rattle.propositional_convert.proofs.Expanding.{stays-same, used-one, used-both, used-either}
 use Rattle.propositional_convert.proofs.close.expand.Goals as goal
 
@@ -30,6 +30,9 @@ returns-in_ok-outcome-in-One c = used-one c.args.plan.now.sizes.items c.args.pla
 
 pub returns-in_ok-outcome-in-Both : goal.returns-in_ok-outcome-in-Both
 returns-in_ok-outcome-in-Both c = used-both c.args.plan.now.sizes.items c.args.plan.now.marks.items c.args.branch.now c.use_both.new.branch c.args.index (c.args.index + 1) (the_node c.entry-entry.result) (the_node c.in-Both.first) (the_node c.in-Both.second) c.args.steps.now c.use_both.new.steps c.requires.worked c.entry-entry.ensures c.requires.small c.in-Both.ensures.0 c.in-Both.ensures.1 (add-one c.args.index) c.in_ok-outcome-in-Both.outcome c.in_ok-outcome-in-Both.ensures
+
+pub returns-then-holds : goal.returns-then-holds
+returns-then-holds c = stays-same c.args.plan.now.sizes.items c.args.plan.now.marks.items c.args.branch.now c.args.index (the_node c.entry-entry.result) c.args.steps.now c.requires.worked c.entry-entry.ensures (held-worked c.args.plan.now.marks.items c.args.branch.now (the_node c.entry-entry.result) (c.holds.ensures.0 c.if-holds.true))
 
 pub returns-in_ok-push_use-in-Either : goal.returns-in_ok-push_use-in-Either
 returns-in_ok-push_use-in-Either c = used-either c.args.plan.now.sizes.items c.args.plan.now.marks.items c.args.branch.now c.args.index (c.args.index + 1) (the_node c.entry-entry.result) (the_node c.in-Either.first) (the_node c.in-Either.second) c.args.steps.now c.push_use.new.steps c.requires.worked c.entry-entry.ensures c.requires.small c.in-Either.ensures.0 c.in-Either.ensures.1 (add-one c.args.index) c.in_ok-push_use-in-Either.ensures
