@@ -1,5 +1,5 @@
 -- What a run answers, by its words and by the files that its library tells.
-use Rattle.std.specs.Prelude.{◌≡◌, ⊤, ◌-◌, ℕ, List, take, Option, None, Some, IfSome, IsSomeAnd, ◌⊎◌}
+use Rattle.std.specs.Prelude.{◌≡◌, ◌≤◌, ⊤, ◌-◌, ℕ, List, take, Option, None, Some, IfSome, IsSomeAnd, ◌⊎◌}
 use Rattle.cop_base.specs.Outside.{Files, file_in, Rose, with_bytes}
 use Rattle.calculus.specs.Syntax.{Problem}
 use Rattle.calculus.specs.Derivations.{Derivation}
@@ -44,9 +44,10 @@ pub record IsDerivation (P : Problem) (limit : ℕ) (bytes : List ℕ) : Type 0 
   pub derives : Derives P derivation
   pub text : IsText P derivation bytes
 
--- some tableau is closed within the limit and none within the one before
+-- some tableau is closed within the limit, which is at most the greatest, and none within the one before
 pub record IsDerived (P : Problem) (limit : ℕ) (bytes : List ℕ) : Type 0 where
   pub fits : FitsMatrix P
+  pub searched : limit ≤ 100
   pub closed : HasClosed P limit
   pub least : ¬ HasClosed P (limit - 1)
   pub written : IsDerivation P limit bytes
@@ -144,11 +145,12 @@ pub record IsAnswered (told : Option Files) (line : Line) (status : Status) (bef
   pub answers : Answers told line status bytes
   pub written : after ≡ with_bytes before bytes
 
--- writing failed: a prefix of the output of some status is written
-pub record IsCutOff (told : Option Files) (line : Line) (before after : Option (List ℕ)) : Type 0 where
+-- writing failed: a prefix of the output of some status, with its counts, is written
+pub record IsCutOff (told : Option Files) (line : Line) (misses misses_after faults faults_after : ℕ) (before after : Option (List ℕ)) : Type 0 where
   pub status : Status
   pub bytes : List ℕ
   pub answers : Answers told line status bytes
+  pub counted : IsCounted misses misses_after faults faults_after status
   pub length : ℕ
   pub written : after ≡ with_bytes before (take length bytes)
 

@@ -3,14 +3,14 @@
 
 #[cfg(test)]
 mod check_tests;
-pub mod output;
-pub mod program;
-pub mod prove;
-pub mod status;
+mod output;
+mod program;
+mod prove;
+mod status;
 #[cfg(test)]
 mod tests;
-pub mod words;
-pub mod writing;
+mod words;
+mod writing;
 
 pub use program::run;
 pub use status::{Cause, Status, exit_code};

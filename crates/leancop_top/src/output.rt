@@ -1,6 +1,6 @@
 //! The line that is written for a status.
 
-ghost use Rattle.std.specs.Prelude.{◌≡◌, ◌++◌, IfOk, OnOk, OnErr, codes, decimal};
+ghost use Rattle.std.specs.Prelude.{◌≡◌, ◌++◌, IfOk, codes, decimal};
 ghost use Rattle.leancop_top.specs.Output.{cause_text, fault_text, status_line, step_fault_text, text_cause_text};
 
 use crate::status::{Cause, Status};

@@ -1,9 +1,8 @@
 //! A run of the program.
 
-ghost use Rattle.std.specs.Prelude.{◌≡◌, ◌≤◌, ℕ, List, Err, IfOk, IfErr, OnOk, OnErr, Some, map, string_bytes, take, vec_len};
+ghost use Rattle.std.specs.Prelude.{◌≡◌, ◌≤◌, Err, IfOk, IfErr, map, string_bytes};
 ghost use Rattle.calculus.specs.Propositional.{IsPropositional};
-ghost use Rattle.calculus.specs.Syntax as tree;
-ghost use Rattle.cop_base.specs.Outside.{Rose, with_bytes};
+ghost use Rattle.cop_base.specs.Outside.{Rose};
 ghost use Rattle.leancop_top.specs.Output.{status_line};
 ghost use Rattle.leancop_top.specs.Run.{Answers, Ends, EndsWithout, IsAnswered, IsCounted, IsCheckable, IsCutOff, IsDecided, IsJudged, IsJudgingEnd, IsProblemIn, IsProvable, IsRefused, OnAnswer};
 ghost use Rattle.leancop_top.specs.Words.{line_of};
@@ -61,6 +60,9 @@ fn unsupported(file: Text) -> Status
 
 // The judgement of the derivation that a file holds, or why there is none.
 fn judge_file<L: Library>(alloc: Global, lib: &mut L, problem: &Problem, derivation: &str) -> Status
+    ensures same_files { L.holds lib.new ≡ L.holds lib.old }
+    ensures more_faults { L.faults lib.old ≤ L.faults lib.new }
+    ensures more_misses { L.misses lib.old ≤ L.misses lib.new }
     ensures ended { IsJudgingEnd (L.holds lib.old) problem.now derivation.now result }
     ensures counted { IsCounted (L.misses lib.old) (L.misses lib.new) (L.faults lib.old) (L.faults lib.new) result }
 {
@@ -83,6 +85,9 @@ fn judge_file<L: Library>(alloc: Global, lib: &mut L, problem: &Problem, derivat
 
 // The proof that the words ask for, or the status that a run without one ends with.
 fn decide<L: Library>(alloc: Global, words: &[String], lib: &mut L) -> Result<Proof, Status>
+    ensures same_files { L.holds lib.new ≡ L.holds lib.old }
+    ensures more_faults { L.faults lib.old ≤ L.faults lib.new }
+    ensures more_misses { L.misses lib.old ≤ L.misses lib.new }
     ensures proved { IfOk result (λ p. Ends (L.holds lib.old) (line_of (map string_bytes words.now))
         (Status.Derived p.limit) p.text.items) }
     ensures ended { IfErr result (λ s. EndsWithout (L.holds lib.old) (line_of (map string_bytes words.now)) s) }
@@ -109,6 +114,9 @@ struct Reply {
 }
 
 fn answer<L: Library>(alloc: Global, words: &[String], lib: &mut L) -> Result<Reply, NoMemory>
+    ensures same_files { L.holds lib.new ≡ L.holds lib.old }
+    ensures more_faults { L.faults lib.old ≤ L.faults lib.new }
+    ensures more_misses { L.misses lib.old ≤ L.misses lib.new }
     ensures answers { IfOk result (λ r. Answers (L.holds lib.old) (line_of (map string_bytes words.now)) r.status r.output.items) }
     ensures counted { IfOk result (λ r. IsCounted (L.misses lib.old) (L.misses lib.new) (L.faults lib.old) (L.faults lib.new) r.status) }
 {
@@ -138,8 +146,14 @@ pub fn run<L: Library, K: Sink>(
     ensures counted { IsCounted (L.misses lib.old) (L.misses lib.new) (L.faults lib.old) (L.faults lib.new) result }
     ensures write_fault { result ≡ Status.WriteFault → Rose (K.faults out.old) (K.faults out.new) }
     ensures cut_off { result ≡ Status.WriteFault → IsCutOff (L.holds lib.old) (line_of (map string_bytes words.now.items))
-        (K.written out.old) (K.written out.new) }
+        (L.misses lib.old) (L.misses lib.new) (L.faults lib.old) (L.faults lib.new) (K.written out.old) (K.written out.new) }
     ensures no_memory { result ≡ Status.NoMemory → K.written out.new ≡ K.written out.old }
+
+    // No file changes, and no count falls.
+    ensures same_files { L.holds lib.new ≡ L.holds lib.old }
+    ensures more_misses { L.misses lib.old ≤ L.misses lib.new }
+    ensures more_faults { L.faults lib.old ≤ L.faults lib.new }
+    ensures more_put_faults { K.faults out.old ≤ K.faults out.new }
 
     // Where no stream fails, a problem that the files hold is decided, unless memory ends.
     ensures complete { ¬ Rose (L.faults lib.old) (L.faults lib.new) → ¬ Rose (K.faults out.old) (K.faults out.new)

@@ -1,6 +1,6 @@
 //! The words of a run.
 
-ghost use Rattle.std.specs.Prelude.{◌≡◌, map, string_bytes, codes};
+ghost use Rattle.std.specs.Prelude.{◌≡◌, map, string_bytes};
 ghost use Rattle.leancop_top.specs.Words.{check_line, is_operand, line_of, prove_line};
 ghost use Rattle.leancop_top.specs.LineView.{the_line};
 
