@@ -1,5 +1,5 @@
 -- The reading of small texts, computed.
-use Rattle.std.proofs.Common.{◌≡◌, ℕ, suc, ◌+◌, List, [], ◌∷◌, inl, inr, refl}
+use Rattle.std.proofs.Common.{◌≡◌, ℕ, [], ◌∷◌, inl, inr, refl}
 use Rattle.std.specs.Prelude.{codes}
 use Rattle.calculus.specs.Syntax.{no_terms, atom, imp}
 use Rattle.propositional_reader.specs.Tokens.{word, arrow, Spells, nothing, a_space, a_token}

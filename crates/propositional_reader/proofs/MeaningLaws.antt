@@ -1,21 +1,21 @@
 -- The value of a tree has the formula that the tree means, and no other; and what else holds of this formula.
-use Rattle.std.proofs.Common.{◌≡◌, ◌⊎◌, ℕ, zero, suc, ◌+◌, ◌<◌, ◌≤◌, min, max, List, [], ◌∷◌, ◌++◌, map, length, Bool, true, false, ◌&&◌, ◌==◌, IsTrue, Some, slice_get, refl, sym, ◌∙◌, ap, subst, arith}
+use Rattle.std.proofs.Common.{◌≡◌, ℕ, suc, ◌+◌, ◌≤◌, min, max, List, [], ◌∷◌, ◌++◌, map, length, Bool, true, false, ◌&&◌, ◌==◌, IsTrue, refl, sym, ◌∙◌, ap, subst, arith}
 use Rattle.std.specs.List.{Contains, list_all}
 use Rattle.std.specs.Option.{option_map_or}
 use Rattle.std.proofs.lemmas.Bool.{and_from}
 use Rattle.std.proofs.lemmas.List.{length-append}
-use Rattle.calculus.specs.Syntax.{no_terms, Formula, atom, neg, conj, disj, imp, Symbol}
+use Rattle.calculus.specs.Syntax.{no_terms, Formula, atom, neg, imp, Symbol}
 use Rattle.calculus.specs.declared.setting.Logic.TheVariants.{Classical}
 use Rattle.calculus.specs.Measures.{node_count}
 use Rattle.calculus.specs.Problems.{are_distinct, formula_fits, is_atom_class}
 use Rattle.calculus.specs.Propositional.{is_propositional}
 use Rattle.propositional_reader.specs.declared.part.Chain.{Chain}
 use Rattle.propositional_reader.specs.declared.part.Chain.TheVariants.{And, Or}
-use Rattle.propositional_reader.specs.Tokens.{Token, word, open_bracket, close_bracket, arrow}
+use Rattle.propositional_reader.specs.Tokens.{close_bracket, arrow}
 use Rattle.propositional_reader.specs.Grammar.{SourceUnit, proposition, negation, bracketed, Source, single, chain, implication, SourceUnits, no_units, more_units, chain_sign, unit_tokens, source_tokens, units_tokens, unit_nesting, source_nesting, units_nesting}
 use Rattle.propositional_reader.specs.Reading.{proposition_symbol, IsBalanced, chain_formula, IsUnitFormula, IsSourceFormula, AreUnitFormulas}
 use Rattle.propositional_reader.specs.Knowing.{AllKnown}
-use Rattle.propositional_reader.specs.Values.{Value, no_value, word_value, number_of, joined_value, chain_value}
+use Rattle.propositional_reader.specs.Values.{Value, no_value, number_of, joined_value, chain_value}
 use Rattle.propositional_reader.proofs.Balance.{balanced-same, halved-balanced, balanced-map, balanced-keeps, greatest, balanced-greatest, total, balanced-total}
 use Rattle.propositional_reader.proofs.Numbers.{number-found, number-is}
 use Rattle.propositional_reader.proofs.SymbolLaws.{known-parts, known-place}

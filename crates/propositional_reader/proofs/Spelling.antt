@@ -1,10 +1,10 @@
 -- Bytes spell one list of tokens at most.
-use Rattle.std.proofs.Common.{arith, ◌≡◌, ◌≤◌, ℕ, List, [], ◌∷◌, ◌++◌, Bool, true, false, ◌&&◌, ◌||◌, ◌==◌, IsTrue, nat_le, if◌then◌else◌, refl, sym, ◌∙◌, ap, subst, length, append_assoc, append-nil}
+use Rattle.std.proofs.Common.{arith, ◌≡◌, ◌≤◌, ℕ, List, [], ◌∷◌, ◌++◌, Bool, true, false, ◌||◌, ◌==◌, IsTrue, if◌then◌else◌, refl, sym, ◌∙◌, ap, subst, length, append_assoc, append-nil}
 use Rattle.std.specs.List.{list_all}
 use Rattle.std.proofs.lemmas.Bool.{false≢true, and_parts, and_from}
 use Rattle.std.proofs.lemmas.Bool.Decides.{nat_tests}
 use Rattle.std.proofs.lemmas.List.{length-append}
-use Rattle.calculus.specs.Text.{StopsAt, is_lower, is_upper, is_digit, is_lower_word, is_word_byte}
+use Rattle.calculus.specs.Text.{is_lower, is_upper, is_digit, is_lower_word, is_word_byte}
 use Rattle.calculus.proofs.TextLaws.{cons-head, cons-tail, nil-cons, split-run}
 use Rattle.propositional_reader.specs.Reading.{words_of}
 use Rattle.propositional_reader.specs.Tokens.{Token, word, open_bracket, close_bracket, comma, dot, tilde, ampersand, bar, arrow, spelling, is_space, IsWhole, Spells, nothing, a_space, a_token, Starts}

@@ -1,5 +1,5 @@
 -- The symbols of a text.
-use Rattle.std.proofs.Common.{◌≡◌, ℕ, zero, suc, ◌+◌, ◌<◌, ◌≤◌, List, [], ◌∷◌, ◌++◌, length, Bool, true, false, ◌&&◌, ◌||◌, ◌==◌, IsTrue, ◌⊎◌, Some, slice_get, get_or, if◌then◌else◌, refl, sym, ◌∙◌, ap, subst, arith, append_assoc, append-nil, nat_le, inl, inr}
+use Rattle.std.proofs.Common.{◌≡◌, ℕ, zero, suc, ◌+◌, ◌<◌, ◌≤◌, List, [], ◌∷◌, ◌++◌, length, Bool, true, false, ◌||◌, IsTrue, ◌⊎◌, Some, slice_get, get_or, if◌then◌else◌, refl, sym, ◌∙◌, ap, subst, arith, append_assoc, inl, inr}
 use Rattle.std.specs.List.{Contains, list_all, list_any}
 use Rattle.std.proofs.lemmas.Bool.{false≢true, and_parts, and_from, or_cases}
 use Rattle.std.proofs.lemmas.Bool.Decides.{nat_tests}
@@ -12,7 +12,7 @@ use Rattle.calculus.specs.Text.{is_lower, is_lower_word, is_word_byte}
 use Rattle.calculus.proofs.EqualityLaws.{symbol_eq-tells}
 use Rattle.propositional_reader.specs.Tokens.{Token, word, open_bracket, close_bracket, comma, dot, tilde, ampersand, bar, arrow}
 use Rattle.propositional_reader.specs.Reading.{proposition_symbol, new_symbols, words_of}
-use Rattle.propositional_reader.specs.Knowing.{Knows, AllKnown, with_symbol}
+use Rattle.propositional_reader.specs.Knowing.{AllKnown, with_symbol}
 
 any-contains : (x : Symbol) (xs : List Symbol) → list_any (symbol_eq x) xs ≡ true → Contains xs x
 any-contains x [] h = absurd (false≢true h)

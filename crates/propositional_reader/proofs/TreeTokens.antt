@@ -4,8 +4,8 @@ use Rattle.std.specs.Option.{option_map}
 use Rattle.propositional_reader.specs.declared.part.Chain.{Chain}
 use Rattle.propositional_reader.specs.declared.part.Chain.TheVariants.{And, Or}
 use Rattle.propositional_reader.specs.Tokens.{Token, word, open_bracket, close_bracket, comma, dot, tilde, ampersand, bar, arrow}
-use Rattle.propositional_reader.specs.Grammar.{SourceUnit, proposition, negation, bracketed, Source, single, chain, implication, SourceUnits, no_units, more_units, chain_sign, unit_tokens, source_tokens, units_tokens}
-use Rattle.propositional_reader.specs.Machine.{Making, Before, nothing, premise, units, Level, State, state, grouped, negated_times, lengthened, as_premise, with_before, ended, begun, closed, gone_on, stepped, step, step_on, run, finished_with, finished_run, parsed}
+use Rattle.propositional_reader.specs.Grammar.{SourceUnit, proposition, negation, bracketed, Source, chain_sign, unit_tokens, source_tokens, units_tokens}
+use Rattle.propositional_reader.specs.Machine.{Before, nothing, premise, units, Level, State, state, grouped, negated_times, lengthened, as_premise, with_before, ended, begun, closed, gone_on, stepped, step, step_on, run, finished_with, finished_run, parsed}
 use Rattle.propositional_reader.proofs.Trees.{trees, chain_of, units_of}
 
 -- each unit with the sign after it

@@ -7,7 +7,7 @@ use Rattle.propositional_reader.specs.declared.part.Chain.{Chain}
 use Rattle.propositional_reader.specs.declared.part.Chain.TheVariants.{And, Or}
 use Rattle.propositional_reader.specs.Tokens.{Token, word, open_bracket, close_bracket, comma, dot, tilde, ampersand, bar, arrow}
 use Rattle.propositional_reader.specs.Grammar.{SourceUnit, proposition, negation, bracketed, Source, single, chain, implication, SourceUnits, no_units, more_units}
-use Rattle.propositional_reader.specs.Machine.{Making, Before, nothing, premise, units, Level, State, state, grouped, negated_times, lengthened, as_premise, with_before, ended, begun, closed, gone_on, stepped, step, step_on, run, finished_with, finished_run, parsed}
+use Rattle.propositional_reader.specs.Machine.{Before, nothing, premise, units, Level, State, state, grouped, negated_times, lengthened, as_premise, with_before, ended, begun, closed, gone_on, stepped, step_on, run, finished_with, finished_run, parsed}
 use Rattle.propositional_reader.specs.Values.{Value, word_value, negated_value, bracketed_value, joined_value, chain_value, number_of, values}
 use Rattle.propositional_reader.proofs.Trees.{trees, chain_of, units_of}
 

@@ -1,12 +1,11 @@
 -- The machine over the trees of the grammar answers each tree of a small nesting for its tokens.
-use Rattle.std.proofs.Common.{◌≡◌, ℕ, zero, suc, ◌+◌, ◌<◌, ◌≤◌, max, List, [], ◌∷◌, ◌++◌, Bool, true, false, Option, None, Some, nat_lt, if◌then◌else◌, refl, sym, ◌∙◌, ap, subst, arith, append_assoc, append-nil, lt-ltb}
+use Rattle.std.proofs.Common.{◌≡◌, ℕ, suc, ◌+◌, ◌<◌, ◌≤◌, List, [], ◌∷◌, ◌++◌, Bool, true, false, None, Some, nat_lt, if◌then◌else◌, refl, sym, ◌∙◌, ap, arith, append_assoc, append-nil, lt-ltb}
 use Rattle.std.specs.Option.{option_map}
 use Rattle.propositional_reader.specs.declared.part.Chain.{Chain}
 use Rattle.propositional_reader.specs.declared.part.Chain.TheVariants.{And, Or}
-use Rattle.propositional_reader.specs.Tokens.{Token, word, open_bracket, close_bracket, comma, dot, tilde, ampersand, bar, arrow}
+use Rattle.propositional_reader.specs.Tokens.{Token, close_bracket, tilde, arrow}
 use Rattle.propositional_reader.specs.Grammar.{SourceUnit, proposition, negation, bracketed, Source, single, chain, implication, SourceUnits, no_units, more_units, chain_sign, unit_tokens, source_tokens, units_tokens, unit_nesting, source_nesting, units_nesting}
-use Rattle.propositional_reader.specs.Machine.{Making, Before, nothing, premise, units, Level, State, state, grouped, negated_times, same_chain, lengthened, as_premise, with_before, ended, begun, closed, gone_on, stepped, step, step_on, run, finished, finished_run, parsed_from, parsed}
-use Rattle.propositional_reader.proofs.Steps.{run-none}
+use Rattle.propositional_reader.specs.Machine.{Making, Before, nothing, premise, units, Level, state, grouped, negated_times, same_chain, lengthened, with_before, step, run, finished_run, parsed}
 
 -- ---- units as a list
 

@@ -1,10 +1,10 @@
 -- The code's way through the tokens of a formula, over any values for units (A) and formulas (B). It is no definition to
 -- believe: `Reading` says what a text means, and the laws of the proofs tie this machine to the grammar.
 use Rattle.std.specs.Prelude.{ℕ, zero, suc, List, [], ◌∷◌, ◌++◌, Bool, true, false, Option, None, Some, nat_lt, if◌then◌else◌}
-use Rattle.std.specs.Option.{option_map, option_and_then}
+use Rattle.std.specs.Option.{option_map}
 use Rattle.propositional_reader.specs.declared.part.Chain.{Chain}
 use Rattle.propositional_reader.specs.declared.part.Chain.TheVariants.{And, Or}
-use Rattle.propositional_reader.specs.Tokens.{Token, word, open_bracket, close_bracket, comma, dot, tilde, ampersand, bar, arrow}
+use Rattle.propositional_reader.specs.Tokens.{Token, word, open_bracket, close_bracket, tilde, ampersand, bar, arrow}
 
 -- how values are made
 pub record Making (A B : Type 0) : Type 0 where

@@ -1,5 +1,5 @@
 -- What the machine makes in the program: formulas with the nesting of their text.
-use Rattle.std.specs.Prelude.{ℕ, zero, suc, ◌+◌, ◌-◌, ◌/◌, List, [], ◌∷◌, ◌++◌, length, take, drop, min, max, if◌then◌else◌}
+use Rattle.std.specs.Prelude.{ℕ, zero, suc, ◌+◌, ◌/◌, List, [], ◌∷◌, ◌++◌, length, take, drop, min, max, if◌then◌else◌}
 use Rattle.calculus.specs.Syntax.{no_terms, Formula, atom, neg, imp, Symbol}
 use Rattle.calculus.specs.Equality.{symbol_eq}
 use Rattle.propositional_reader.specs.declared.part.Chain.{Chain}

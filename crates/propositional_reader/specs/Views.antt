@@ -1,5 +1,5 @@
 -- What the program's tokens and parts stand for.
-use Rattle.std.specs.Prelude.{List, map, reverse}
+use Rattle.std.specs.Prelude.{map, reverse}
 use Rattle.std.specs.Option.{option_map}
 use Rattle.formula_core.specs.FormulaView.{the_formula}
 use Rattle.propositional_reader.specs.declared.token.Token.{Token}

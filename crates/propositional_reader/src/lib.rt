@@ -6,4 +6,4 @@ mod part;
 pub mod reading;
 mod token;
 
-pub use reading::{ReadRefusal, read};
+pub use reading::{MOST_BYTES, ReadRefusal, read};

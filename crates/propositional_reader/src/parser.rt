@@ -7,7 +7,7 @@ ghost use Rattle.propositional_reader.specs.Machine.{as_premise, begun, closed, 
 ghost use Rattle.propositional_reader.specs.Knowing.{AllKnown, Knows};
 ghost use Rattle.propositional_reader.specs.Reading.{proposition_symbol};
 ghost use Rattle.propositional_reader.specs.Values.{negated_value, number_of, values, word_value};
-ghost use Rattle.propositional_reader.specs.Views.{the_before, the_level, the_part, the_state, the_token};
+ghost use Rattle.propositional_reader.specs.Views.{the_before, the_part, the_state, the_token};
 
 use crate::part::{Chain, Part};
 use crate::reading::{ReadRefusal, proposition};
@@ -118,10 +118,10 @@ fn word(alloc: Global, symbols: &Symbols, name: &[u8]) -> Result<Part, ReadRefus
     ensures known { result ≡ Err ReadRefusal.Unsupported → ⊥ }
 {
     let symbol = proposition(alloc, name)?;
-    match symbols.find(&symbol) {
-        Some(id) => Ok(Part::word(alloc, id)),
-        None => Err(ReadRefusal::Unsupported),
-    }
+    let Some(id) = symbols.find(&symbol) else {
+        unreachable!()
+    };
+    Ok(Part::word(alloc, id))
 }
 
 // The part under so many negations.

@@ -93,10 +93,10 @@ impl Part {
             IsBalanced (joined_value (chain_formula chain)) (map the_part back) (the_part p) × (parts.new.items ≡ front)) }
     {
         if count == 1 {
-            return match parts.pop() {
-                Some(part) => Ok(part),
-                None => Err(NoMemory),
+            let Some(part) = parts.pop() else {
+                unreachable!()
             };
+            return Ok(part);
         }
         let right_count = count / 2;
         let right = Part::balanced(alloc, chain, parts, right_count)?;

@@ -47,8 +47,8 @@ impl<T: Drop> From<AllocFailed<T>> for ReadRefusal {
     }
 }
 
-/// The most bytes of a text.
-pub const MOST_BYTES: usize = 4096;
+/// The most bytes of a text that is read.
+pub const MOST_BYTES: u64 = 4096;
 
 /// The greatest nesting of the formula.
 pub const MOST_FORMULA_NESTING: u64 = 1000;
@@ -170,7 +170,7 @@ pub fn read(alloc: Global, text: &[u8]) -> Result<Problem, ReadRefusal>
     ensures unsupported { result ≡ Err ReadRefusal.Unsupported → (q : tree.Problem) → ¬ (Reads text.now q) }
     ensures propositional { IfOk result (λ p. IsPropositional p) }
 {
-    if text.len() > MOST_BYTES {
+    if text.len() as u64 > MOST_BYTES {
         return Err(ReadRefusal::Unsupported);
     }
     let tokens = tokens(alloc, text)?;

@@ -1,4 +1,4 @@
-use Rattle.std.proofs.Common.{◌∙◌, ◌-◌, length, refl, ap, map, sym}
+use Rattle.std.proofs.Common.{◌∙◌, ◌-◌, length, refl, ap, map}
 use Rattle.propositional_reader.specs.Tokens as spelled
 use Rattle.propositional_reader.specs.Views.{the_token}
 use Rattle.propositional_reader.proofs.Steps.{end-is, next-after}

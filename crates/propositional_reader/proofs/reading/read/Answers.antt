@@ -1,4 +1,4 @@
-use Rattle.std.proofs.Common.{◌≡◌, ◌≤◌, ◌∙◌, List, ap, arith, length, map, refl, subst, sym, IsTrue}
+use Rattle.std.proofs.Common.{◌≤◌, ◌∙◌, List, ap, arith, length, map, refl, subst, sym, IsTrue}
 use Rattle.std.proofs.lemmas.List.{length-map}
 use Rattle.std.proofs.lemmas.Result.{err_from_is_err_and}
 use Rattle.calculus.specs.Syntax as tree
@@ -11,7 +11,7 @@ use Rattle.logic_rules.specs.SettingView.{the_setting}
 use Rattle.propositional_reader.specs.Knowing.{AllKnown}
 use Rattle.propositional_reader.specs.Reading.{Reads}
 use Rattle.propositional_reader.specs.Views.{the_part, the_token}
-use Rattle.propositional_reader.proofs.ReadLaws.{Accepted, accepted-held, formula-length, held, made, refused-deep-held, refused-item, refused-parse-held}
+use Rattle.propositional_reader.proofs.ReadLaws.{accepted-held, formula-length, held, made, refused-deep-held, refused-item, refused-parse-held}
 use Rattle.propositional_reader.proofs.Steps.{error-passed}
 use Rattle.propositional_reader.proofs.SymbolLaws.{all-known}
 use Rattle.propositional_reader.proofs.reading.read.Goals as goal

@@ -1,4 +1,4 @@
-use Rattle.std.proofs.Common.{◌∙◌, ◌++◌, ◌∷◌, [], ap, map, refl, subst, sym}
+use Rattle.std.proofs.Common.{◌∙◌, ◌∷◌, [], ap, map, refl, subst, sym}
 use Rattle.std.proofs.lemmas.List.{map-append}
 use Rattle.propositional_reader.specs.Views.{the_token}
 use Rattle.propositional_reader.proofs.Spelling.{Scans, scans-end, scans-never, scans-space, scans-token}

@@ -1,4 +1,4 @@
-use Rattle.std.proofs.Common.{◌∙◌, ◌++◌, ◌∷◌, [], ap, refl, map, arith}
+use Rattle.std.proofs.Common.{◌∙◌, ◌∷◌, [], ap, refl, map, arith}
 use Rattle.std.proofs.lemmas.List.{map-append}
 use Rattle.propositional_reader.specs.Views.{the_before, the_part}
 use Rattle.propositional_reader.proofs.Balance.{grouped-units}

@@ -1,12 +1,12 @@
-use Rattle.std.proofs.Common.{◌∙◌, ◌/◌, refl, sym, subst, map, arith}
+use Rattle.std.proofs.Common.{◌/◌, refl, sym, subst, map, arith}
 use Rattle.propositional_reader.specs.Reading.{IsBalanced, chain_formula}
 use Rattle.propositional_reader.specs.Values.{joined_value}
 use Rattle.propositional_reader.specs.Views.{the_part}
 use Rattle.propositional_reader.proofs.Balance.{joined-one, joined-halves}
 use Rattle.propositional_reader.proofs.part.Part.+balanced.Goals as goal
 
-pub returns-in-Some-clause-balanced : goal.returns-in-Some-clause-balanced
-returns-in-Some-clause-balanced t c = λ front back e n.
+pub returns-then-count-eq1-clause-balanced : goal.returns-then-count-eq1-clause-balanced
+returns-then-count-eq1-clause-balanced t c = λ front back e n.
     joined-one the_part (joined_value (chain_formula c.args.chain)) c.args.parts.now.items c.pop.new.self.items c.in-Some.part front back c.in-Some.ensures.items e (omega arith)
 
 pub returns-clause-balanced : goal.returns-clause-balanced
