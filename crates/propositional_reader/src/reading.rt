@@ -16,12 +16,15 @@ use cop_base::{NoMemory, Text};
 use formula_core::{AddFault, Symbol, SymbolClass, Symbols, nesting};
 use logic_rules::{Domains, Logic, Problem, Setting};
 use std::alloc::{AllocError, AllocFailed, Global};
+use thiserror::Error;
 
 /// Why no problem comes of a text.
-#[derive(Clone, Copy, Debug, PartialEq, Eq)]
+#[derive(Clone, Copy, Debug, PartialEq, Eq, Error)]
 pub enum ReadRefusal {
     /// The text is not of the form that is read.
+    #[error("unsupported form")]
     Unsupported,
+    #[error("out of memory")]
     NoMemory,
 }
 
@@ -236,16 +239,16 @@ mod tests {
             ("fof ( c , conjecture , ( p ) ) . ", "0"),
             ("fof(c,conjecture,a & b & c & d & e).", "(((0&1)&2)&(3&4))"),
             ("fof(c,conjecture,~(q|(p=>q))).", "~(0|(1>0))"),
-            ("", "refused"),
-            ("fof(c,conjecture,p <=> p).", "refused"),
-            ("fof(c,conjecture,p & q | r).", "refused"),
-            ("fof(c,axiom,p).", "refused"),
-            ("fof(c,conjecture,p(a)).", "refused"),
+            ("", "unsupported form"),
+            ("fof(c,conjecture,p <=> p).", "unsupported form"),
+            ("fof(c,conjecture,p & q | r).", "unsupported form"),
+            ("fof(c,axiom,p).", "unsupported form"),
+            ("fof(c,conjecture,p(a)).", "unsupported form"),
         ] {
             let mut out = String::new(rt.alloc());
             match read(rt.alloc(), text.as_bytes()) {
                 Ok(problem) => show(&mut out, problem.formula())?,
-                Err(_) => out.push_str("refused")?,
+                Err(refusal) => write!(out, "{refusal}")?,
             }
             assert_eq!(rt; out.as_str(), shown);
         }
