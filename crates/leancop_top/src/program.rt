@@ -15,11 +15,8 @@ use crate::writing::put_all;
 use cop_base::{FetchFault, Library, NoMemory, PutFault, Sink, Text};
 use derivation_check::{Verdict, check};
 use logic_rules::Problem;
-use propositional_reader::{ReadRefusal, read};
+use propositional_reader::{MOST_BYTES, ReadRefusal, read};
 use std::alloc::{AllocError, Global};
-
-// No problem has more bytes.
-const MOST_BYTES: u64 = 4096;
 
 // The problem that a file holds, or why there is none.
 fn read_problem<L: Library>(alloc: Global, lib: &mut L, file: &str) -> Result<Problem, Status>
