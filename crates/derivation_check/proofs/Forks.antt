@@ -5,7 +5,7 @@ use Rattle.calculus.specs.Derivations.{Sequent}
 use Rattle.calculus.specs.Derivations as derivation
 use Rattle.sequent_calc.specs.declared.entry.Entry.{Entry}
 use Rattle.sequent_calc.specs.EntryView.{the_entry}
-use Rattle.derivation_check.specs.Branches.{waiting_at, waiting, open_ones, Nest}
+use Rattle.derivation_check.specs.Branches.{waiting, open_ones, Nest}
 
 pub Nest-more : (m n : ℕ) (forks : List (ℕ × Entry)) → m ≤ n → Nest m forks → Nest n forks
 Nest-more m n [] le h = tt

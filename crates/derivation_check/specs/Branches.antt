@@ -1,6 +1,6 @@
 -- The open sequents by the branch at hand and by the forks whose second branch waits: a fork keeps how long the branch was, and the
 -- entry that its second branch adds. Forks that were made later stand in front.
-use Rattle.std.specs.Prelude.{⊤, ℕ, ◌≤◌, List, [], ◌∷◌, ◌++◌, length, map, reverse, take, Bool, if◌then◌else◌}
+use Rattle.std.specs.Prelude.{⊤, ℕ, ◌≤◌, List, [], ◌∷◌, ◌++◌, take, Bool, if◌then◌else◌}
 use Rattle.calculus.specs.Derivations as derivation
 use Rattle.sequent_calc.specs.declared.entry.Entry.{Entry}
 use Rattle.sequent_calc.specs.EntryView.{the_entry}

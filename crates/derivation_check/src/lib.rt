@@ -10,3 +10,6 @@ pub use calculus::fault::CheckFault;
 pub use judgement::check;
 pub use steps::judge;
 pub use verdict::Verdict;
+
+#[cfg(test)]
+mod tests;

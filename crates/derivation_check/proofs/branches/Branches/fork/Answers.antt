@@ -1,5 +1,5 @@
 use Rattle.std.proofs.Common.{◌∙◌}
-use Rattle.derivation_check.proofs.Forks.{fork_shown, fork_nest}
+use Rattle.derivation_check.proofs.Forks.{fork_shown}
 use Rattle.derivation_check.proofs.branches.Branches.fork.Goals as goal
 
 pub returns : goal.returns
