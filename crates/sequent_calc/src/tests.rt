@@ -222,37 +222,44 @@ fn drinker_names(alloc: Global) -> Result<Names, NoMemory> {
     Ok(names)
 }
 
-// The fifth step brings the eigenvariable of this number, and the last one closes by these entries.
-fn drinker_steps(alloc: Global, number: u32, given: u32, shown: u32) -> Result<Seen, NoMemory> {
-    let lines = [
+// The fifth step brings the eigenvariable of this number, and the last ones are these.
+fn drinker_steps(alloc: Global, number: u32, last: &[Line]) -> Result<Seen, NoMemory> {
+    let mut lines = Vec::new(alloc);
+    lines.extend_from_slice(&[
         Line::UseSpare(1, 1),
         Line::UseName(2, 1),
         Line::Use(3),
         Line::UseEigen(1, 1),
         Line::UseName(6, number),
         Line::Use(7),
-        Line::Axiom(given, shown),
-    ];
+    ])?;
+    lines.extend_from_slice(last)?;
     let formula = drinker(alloc)?;
     let problem = problem(alloc, Logic::Classical, Domains::Constant, formula, 1)?;
     fold(
         alloc,
         &problem,
-        &derivation(alloc, drinker_names(alloc)?, &lines)?,
+        &derivation(alloc, drinker_names(alloc)?, lines.as_slice())?,
     )
 }
 
 #[test]
 fn follows_first_order_steps(rt: HostRuntime) -> Result<(), Fail> {
     let alloc = rt.alloc();
-    assert_eq!(rt; drinker_steps(alloc, 2, 8, 5)?, Seen::Closed);
+    let close = Line::Axiom(8, 5);
+    assert_eq!(rt; drinker_steps(alloc, 2, &[close])?, Seen::Closed);
     assert_eq!(rt;
-        drinker_steps(alloc, 1, 8, 5)?,
+        drinker_steps(alloc, 1, &[close])?,
         Seen::Fault(4, StepFault::NotNew)
     );
     assert_eq!(rt;
-        drinker_steps(alloc, 2, 8, 9)?,
+        drinker_steps(alloc, 2, &[Line::Axiom(8, 9)])?,
         Seen::Fault(6, StepFault::NoConnection)
+    );
+    assert_eq!(rt; drinker_steps(alloc, 2, &[])?, Seen::StillOpen);
+    assert_eq!(rt;
+        drinker_steps(alloc, 2, &[close, close])?,
+        Seen::AllClosed(7)
     );
     Ok(())
 }
