@@ -7,7 +7,7 @@ ghost use Rattle.calculus.specs.Derivations.{first_sequent};
 ghost use Rattle.calculus.specs.Judgement.{accepted, at_end, rejected, verdict_from, verdict_on};
 ghost use Rattle.calculus.specs.Calculus.{Derives};
 ghost use Rattle.calculus.specs.declared.fault.CheckFault.{CheckFault};
-ghost use Rattle.derivation_check.specs.Judged.{IsFirstFault};
+ghost use Rattle.derivation_check.specs.Judged.{AtMostOneReading, IsFirstFault};
 ghost use Rattle.derivation_check.specs.VerdictView.{the_verdict};
 ghost use Rattle.sequent_calc.specs.DerivationView.{the_derivation, the_names};
 ghost use Rattle.sequent_calc.specs.EntryView.{the_entry};
@@ -105,6 +105,9 @@ pub fn judge(alloc: Global, problem: &Problem, d: &Derivation) -> Result<Verdict
     ensures derives { IfOk result (λ v. (the_verdict v ≡ accepted) ↔ Derives problem.now (the_derivation d.now)) }
     ensures fails { IfOk result (λ v. (line : ℕ) → (fault : CheckFault) → (the_verdict v ≡ rejected line fault)
         ↔ IsFirstFault problem.now (the_derivation d.now) line fault) }
+
+    // From one sequent two readings of a list of steps leave the same rest.
+    ensures one_reading { AtMostOneReading problem.now (the_names d.now.names) }
 {
     match judge_steps(alloc, problem, d) {
         Ok(verdict) => Ok(verdict),
