@@ -50,11 +50,13 @@ fn limit_behind(text: &[u8], from: usize) -> Option<(u8, usize)>
 }
 
 fn setting_line(alloc: Global, problem: &Problem) -> Result<Vec<u8>, NoMemory>
-    ensures { IfOk result (λ v. v.items ≡ codes "logic " ++ setting_text problem.now.setting) }
+    ensures text { IfOk result (λ v. v.items ≡ codes "logic " ++ setting_text problem.now.setting) }
+    ensures well { IsTrue (is_problem problem.now) }
 {
+    let setting = problem.setting();
     let mut out = Vec::new(alloc);
     out.extend_from_slice(b"logic ")?;
-    write_setting(&mut out, problem.setting())?;
+    write_setting(&mut out, setting)?;
     Ok(out)
 }
 
@@ -69,17 +71,17 @@ fn formula_line(alloc: Global, problem: &Problem) -> Result<Vec<u8>, NoMemory>
 
 /// The limit and the place behind the head.
 pub fn read_head(alloc: Global, problem: &Problem, bytes: &[u8]) -> Result<(u8, usize), ParseFault>
-    requires { IsTrue (is_problem problem.now) }
     ensures ok { IfOk result (λ r. IsHeadRead problem.now bytes.now r.1 r.0) }
     ensures fault { (line : ℕ) (cause : TextCause) → result ≡ Err (ParseFault.Text line cause) → IsFaultOf problem.now bytes.now line cause }
+    ensures well { IsTrue (is_problem problem.now) }
 {
+    let setting = setting_line(alloc, problem)?;
     let Some(first) = behind_line(bytes, 0, b"leancop derivation 1") else {
         return Err(ParseFault::Text {
             line: 1,
             cause: TextCause::Version,
         });
     };
-    let setting = setting_line(alloc, problem)?;
     let Some(second) = behind_line(bytes, first, setting.as_slice()) else {
         return Err(ParseFault::Text {
             line: 2,

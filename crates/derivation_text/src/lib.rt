@@ -12,6 +12,7 @@ mod part_reader;
 mod step_reader;
 mod writer;
 
+pub use calculus::fault::TextCause;
 pub use fault::ParseFault;
 pub use parser::parse;
 pub use writer::print;

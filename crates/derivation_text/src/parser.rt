@@ -93,9 +93,8 @@ pub fn parse(alloc: Global, problem: &Problem, bytes: &[u8]) -> Result<Derivatio
         → (n : ℕ) × (line ≡ n + 1) × IsFaulty problem.now bytes.now n × (cause ≡ cause_at bytes.now n) }
     ensures derivation { AtMostOneDerivation problem.now bytes.now }
     ensures first { AtMostOneFault problem.now bytes.now }
+    ensures well { IsTrue (is_problem problem.now) }
 {
-    // each field tells that the problem is well formed
-    let _setting = problem.setting();
     let (limit, from) = match read_head(alloc, problem, bytes) {
         Ok(found) => found,
         Err(fault) => return Err(fault),

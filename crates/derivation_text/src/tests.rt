@@ -6,8 +6,7 @@ ghost use Rattle.derivation_text.specs.Examples.{self_implication};
 ghost use Rattle.formula_core.specs.FormulaView.{the_formula};
 ghost use Rattle.formula_core.specs.SymbolView.{the_symbol};
 
-use crate::{ParseFault, parse, print};
-use calculus::fault::TextCause;
+use crate::{ParseFault, TextCause, parse, print};
 use cop_base::{NoMemory, SymbolId, Text};
 use formula_core::{AddFault, Formula, Symbol, SymbolClass, Symbols, Terms};
 use logic_rules::{Domains, Logic, Problem, Setting};
