@@ -1,6 +1,6 @@
 -- The loop that works off a branch, and the children of a fork.
-use Rattle.std.proofs.Common.{◌≡◌, ℕ, zero, suc, ◌+◌, ◌<◌, ◌≤◌, ◌^◌, List, [], ◌∷◌, ◌++◌, length, take, Bool, refl, sym, ◌∙◌, ap, subst, Some, slice_get, append_assoc, append-nil, arith, length-append, add-one, IsTrue, ◌&&◌}
-use Rattle.std.specs.List.{list_all}
+use Rattle.std.proofs.Common.{◌≡◌, ◌⊎◌, inl, inr, ℕ, zero, suc, ◌+◌, ◌-◌, ◌<◌, ◌≤◌, ◌^◌, List, [], ◌∷◌, ◌++◌, length, take, Bool, refl, sym, ◌∙◌, ap, subst, Some, slice_get, append_assoc, append-nil, arith, length-append, IsTrue, ◌&&◌}
+use Rattle.std.specs.List.{list_all, range_with_len}
 use Rattle.std.proofs.lemmas.Bool.{and_from, leb-true}
 use Rattle.calculus.specs.declared.sign.Sign.TheVariants.{F}
 use Rattle.calculus.specs.declared.setting.Logic.TheVariants.{Classical}
@@ -16,12 +16,12 @@ use Rattle.calculus.specs.Positions.{Node, node, size}
 use Rattle.calculus.specs.Derivations.{Step, Derivation, first_sequent}
 use Rattle.propositional_convert.specs.Parts.{sizes_of, Fits}
 use Rattle.propositional_convert.specs.Literals.{HasNoPair}
-use Rattle.propositional_convert.specs.Branches.{IsWorkedTo, EndsInPair, Extends}
+use Rattle.propositional_convert.specs.Branches.{weight_at, IsAmong, IsTaken, IsWorkedOff, IsWorkedBut, EndsInPair, Extends}
 use Rattle.propositional_convert.specs.Stepping.{no_names, sequent_of, IsClosed, IsLed}
-use Rattle.propositional_convert.specs.Outcomes.{IsFork}
+use Rattle.propositional_convert.specs.Outcomes.{WorkOff, StaysOpen, IsFork}
 use Rattle.propositional_convert.proofs.Sizes.{length-sizes_of, size-le-node_count, whole-fits}
 use Rattle.propositional_convert.proofs.Steps.{led-closed}
-use Rattle.propositional_convert.proofs.Worked.{get-within, worked-length}
+use Rattle.propositional_convert.proofs.Worked.{new_indexes, worked-length, worked-next, next-weight}
 
 first-kept : (os : List Node) (e : Node) (ms : List Node) → slice_get ((os ++ e ∷ []) ++ ms) 0 ≡ slice_get (os ++ e ∷ []) 0
 first-kept [] e ms = refl
@@ -48,40 +48,65 @@ take-back (n ∷ ns) ms = ap (λ l. n ∷ l) (take-back ns ms)
 pub taken-back : (ns ms os : List Node) (n : ℕ) → n ≡ length ns → Extends ns ms → os ≡ take n ms → os ≡ ns
 taken-back ns ms os n e x h = h ∙ (λ i. take (e i) (x.1 i)) ∙ take-back ns x.0
 
-pub child-worked : (zs : List ℕ) (marks : List Bool) (ns os : List Node) (m : Node) (k : ℕ) → os ≡ ns → IsWorkedTo zs marks (ns ++ m ∷ []) (suc k) → IsWorkedTo zs marks (os ++ m ∷ []) (k + 1)
-child-worked zs marks ns os m k e w = subst (IsWorkedTo zs marks (os ++ m ∷ [])) (sym (add-one k)) (subst (λ l. IsWorkedTo zs marks (l ++ m ∷ []) (suc k)) (sym e) w)
+-- the indexes of the entries that were added are put to those that wait
+pub next-indexes : (ns ms added : List Node) (rest next : List ℕ) (from to : ℕ) → ms ≡ ns ++ added → from ≡ length ns → to ≡ length ms → next ≡ rest ++ range_with_len from (to - from) → next ≡ rest ++ new_indexes ns added
+next-indexes ns ms added rest next from to grown f t e =
+    let long : length ms ≡ length ns + length added = ap length grown ∙ length-append ns added in
+    let more : to - from ≡ length added = omega arith in
+    e ∙ (λ i. rest ++ range_with_len (f i) (more i))
+
+pub open-worked : (zs : List ℕ) (marks : List Bool) (ns ms : List Node) (ws : List ℕ) (i : ℕ) (rest next : List ℕ) (before after : List Step) → IsWorkedBut zs marks ns ws → IsTaken ws i rest → (o : StaysOpen zs marks ns ms i before after) → next ≡ rest ++ new_indexes ns o.added → IsWorkedBut zs marks ms next
+open-worked zs marks ns ms ws i rest next before after w t o e = subst (λ l. IsWorkedBut zs marks l next) (sym o.grown) (subst (IsWorkedBut zs marks (ns ++ o.added)) (sym e) (worked-next zs marks ns o.added ws i rest w t o.works))
+
+pub open-lighter : (zs : List ℕ) (marks : List Bool) (ns ms : List Node) (ws : List ℕ) (i : ℕ) (rest next : List ℕ) (before after : List Step) → IsWorkedBut zs marks ns ws → IsTaken ws i rest → (o : StaysOpen zs marks ns ms i before after) → next ≡ rest ++ new_indexes ns o.added → weight_at ms next < weight_at ns ws
+open-lighter zs marks ns ms ws i rest next before after w t o e = subst (λ l. weight_at l next < weight_at ns ws) (sym o.grown) (subst (λ is. weight_at (ns ++ o.added) is < weight_at ns ws) (sym e) (next-weight zs marks ns o.added ws i rest w.within t o.works))
+
+-- a child of a fork, by the other names that its branch and its list have at the call
+pub child-worked : (zs : List ℕ) (marks : List Bool) (ns os : List Node) (m : Node) (ws : List ℕ) (i : ℕ) (rest copy : List ℕ) → os ≡ ns → copy ≡ rest → IsWorkedBut zs marks ns ws → IsTaken ws i rest → WorkOff zs marks ns i (m ∷ []) → IsWorkedBut zs marks (os ++ m ∷ []) (copy ++ length os ∷ [])
+child-worked zs marks ns os m ws i rest copy e c w t o = rw (e, c) (worked-next zs marks ns (m ∷ []) ws i rest w t o)
+
+pub child-lighter : (zs : List ℕ) (marks : List Bool) (ns os : List Node) (m : Node) (ws : List ℕ) (i : ℕ) (rest copy : List ℕ) → os ≡ ns → copy ≡ rest → IsWorkedBut zs marks ns ws → IsTaken ws i rest → WorkOff zs marks ns i (m ∷ []) → weight_at (os ++ m ∷ []) (copy ++ length os ∷ []) < weight_at ns ws
+child-lighter zs marks ns os m ws i rest copy e c w t o = rw (e, c) (next-weight zs marks ns (m ∷ []) ws i rest w.within t o)
 
 pub child-ends : (zs : List ℕ) (marks : List Bool) (os : List Node) (e : Node) (ns ms : List Node) (m : Node) → ms ≡ ns → Extends (os ++ e ∷ []) ns → EndsInPair zs marks (slice_get (os ++ e ∷ []) 0) → EndsInPair zs marks (slice_get (ms ++ m ∷ []) 0)
 child-ends zs marks os e ns ms m same x h = subst (EndsInPair zs marks) (sym (ap (λ l. slice_get (l ++ m ∷ []) 0) same ∙ root-of_child os e ns m x)) h
 
 -- both children are closed
-pub fork-closed : (zs : List ℕ) (marks : List Bool) (os ns ms ts : List Node) (a b : Node) (k : ℕ) (start before after first second : List Step) → IsLed os ns start before → IsFork zs marks ns ms a b k before after → ts ≡ ms → IsClosed (ms ++ a ∷ []) after first → IsClosed (ts ++ b ∷ []) first second → IsClosed os start second
-fork-closed zs marks os ns ms ts a b k start before after first second led f same h g =
+pub fork-closed : (zs : List ℕ) (marks : List Bool) (os ns ms ts : List Node) (a b : Node) (i : ℕ) (start before after first second : List Step) → IsLed os ns start before → IsFork zs marks ns ms a b i before after → ts ≡ ms → IsClosed (ms ++ a ∷ []) after first → IsClosed (ts ++ b ∷ []) first second → IsClosed os start second
+fork-closed zs marks os ns ms ts a b i start before after first second led f same h g =
     led-closed os ns start before second led (f.forked first second (subst (λ l. IsClosed (l ++ a ∷ []) after first) f.same h) (subst (λ l. IsClosed (l ++ b ∷ []) first second) (same ∙ f.same) g))
 
--- a branch that is worked off to its end has a pair
-pub ended : (zs : List ℕ) (marks : List Bool) (os : List Node) (e : Node) (ns : List Node) (k : ℕ) → EndsInPair zs marks (slice_get (os ++ e ∷ []) 0) → Extends (os ++ e ∷ []) ns → IsWorkedTo zs marks ns k → length ns ≤ k → HasNoPair ns → ⊥
-ended zs marks os e ns k ends x w past none = ends ns (root-kept os e ns x) w.fit (λ i n h. w.worked i n (let r : i < length ns = get-within ns i n h in omega arith) h) none
+-- a branch on which no entry waits has a pair
+pub ended : (zs : List ℕ) (marks : List Bool) (os : List Node) (e : Node) (ns : List Node) (ws : List ℕ) → EndsInPair zs marks (slice_get (os ++ e ∷ []) 0) → Extends (os ++ e ∷ []) ns → IsWorkedBut zs marks ns ws → ws ≡ [] → HasNoPair ns → ⊥
+ended zs marks os e ns ws ends x w none_waits none = ends ns (root-kept os e ns x) w.fit (λ i n h. off i n (w.worked i n h)) none
+  where
+    off : (i : ℕ) (n : Node) → IsAmong ws i ⊎ IsWorkedOff marks ns n → IsWorkedOff marks ns n
+    off i n (inl waits) = absurd (subst (λ l. IsAmong l i) none_waits waits)
+    off i n (inr h) = h
 
-pub few-entries : (zs : List ℕ) (marks : List Bool) (ns : List Node) (e : Node) (k : ℕ) → IsWorkedTo zs marks (ns ++ e ∷ []) k → length zs ≤ 4000000 → length ns + 1 < 2 ^ 32
-few-entries zs marks ns e k w small = omega (arith, worked-length zs marks (ns ++ e ∷ []) k w, length-append ns (e ∷ []))
+pub few-entries : (zs : List ℕ) (marks : List Bool) (ns : List Node) (e : Node) (ws : List ℕ) → IsWorkedBut zs marks (ns ++ e ∷ []) ws → length zs ≤ 4000000 → length ns + 1 < 2 ^ 32
+few-entries zs marks ns e ws w small = omega (arith, worked-length zs marks (ns ++ e ∷ []) ws w, length-append ns (e ∷ []))
 
 pub length-one : (ns : List Node) (e : Node) → length (ns ++ e ∷ []) ≡ length ns + 1
 length-one ns e = omega (arith, length-append ns (e ∷ []))
 
 -- ---- the whole formula
 
-pub root-worked : (zs : List ℕ) (marks : List Bool) (f : Formula) → IsTrue (is_propositional f) → zs ≡ sizes_of f → IsWorkedTo zs marks (node 0 F f ∷ []) 0
+pub root-worked : (zs : List ℕ) (marks : List Bool) (f : Formula) → IsTrue (is_propositional f) → zs ≡ sizes_of f → IsWorkedBut zs marks (node 0 F f ∷ []) (0 ∷ [])
 root-worked zs marks f p e = record {
   fit = λ i n h. fit-at i n h;
-  worked = λ i n below h. absurd (omega arith);
-  reached = omega arith;
+  worked = λ i n h. waits-at i n h;
+  within = (omega arith, tt);
   room = (let l : length zs ≡ size f = ap length e ∙ length-sizes_of f in omega arith);
 }
   where
     fit-at : (i : ℕ) (n : Node) → slice_get (node 0 F f ∷ []) i ≡ Some n → Fits zs n
     fit-at zero n h = subst (Fits zs) (some_injective (node 0 F f) h) (whole-fits f zs p e)
     fit-at (suc i) n h = absurd (none_some h)
+
+    waits-at : (i : ℕ) (n : Node) → slice_get (node 0 F f ∷ []) i ≡ Some n → IsAmong (0 ∷ []) i ⊎ IsWorkedOff marks (node 0 F f ∷ []) n
+    waits-at zero n h = inl (inl refl)
+    waits-at (suc i) n h = absurd (none_some h)
 
 pub few-positions : (P : Problem) (zs : List ℕ) → IsTrue (is_problem P) → zs ≡ sizes_of P.formula → length zs ≤ 4000000
 few-positions P zs h e =

@@ -1,5 +1,5 @@
 -- What becomes of a branch when an entry is worked off, by what the entry adds.
-use Rattle.std.proofs.Common.{◌≡◌, ℕ, zero, suc, ◌+◌, ◌<◌, ◌≤◌, ◌^◌, List, [], ◌∷◌, ◌++◌, length, Bool, refl, sym, ◌∙◌, ap, subst, Some, slice_get, append-nil, arith}
+use Rattle.std.proofs.Common.{◌≡◌, ℕ, zero, suc, ◌+◌, ◌<◌, ◌≤◌, ◌^◌, List, [], ◌∷◌, ◌++◌, length, Bool, refl, sym, ◌∙◌, ap, subst, Some, slice_get, append-nil, arith, length-append}
 use Rattle.calculus.specs.declared.sign.Sign.TheVariants.{T, F}
 use Rattle.calculus.specs.declared.kind.Shape.TheVariants.{Alpha, Beta}
 use Rattle.calculus.specs.Kinds.{shape_of}
@@ -8,14 +8,14 @@ use Rattle.calculus.specs.Derivations.{Step, close}
 use Rattle.propositional_convert.specs.declared.outcome.Outcome.{Outcome}
 use Rattle.propositional_convert.specs.declared.outcome.Outcome.TheVariants.{Open, Closed, Fork}
 use Rattle.propositional_convert.specs.Literals.{Literal, literal, literal_numbered, IsPair}
-use Rattle.propositional_convert.specs.Branches.{IsWorkedOff, AllFit, weight, IsWorkedTo}
+use Rattle.propositional_convert.specs.Branches.{IsWorkedOff, AllFit, weight}
 use Rattle.propositional_convert.specs.Stepping.{plain_use, IsClosed, IsLed, IsForked}
 use Rattle.propositional_convert.specs.NodeView.{IsOne, AreTwo}
-use Rattle.propositional_convert.specs.Outcomes.{StaysOpen, IsFork, IsOutcome, IsUse}
+use Rattle.propositional_convert.specs.Outcomes.{WorkOff, StaysOpen, IsFork, IsOutcome, IsUse}
 use Rattle.propositional_convert.proofs.Literals.{literal_at-within}
 use Rattle.propositional_convert.proofs.Sizes.{size-pos}
 use Rattle.propositional_convert.proofs.Steps.{led-none, led-closed, led-one, led-both, forked, closed-by_pair}
-use Rattle.propositional_convert.proofs.Worked.{worked-length, worked-next, one-worked, both-worked, first-worked, second-worked}
+use Rattle.propositional_convert.proofs.Worked.{get-within, fit-added, one-worked, both-worked, first-worked, second-worked}
 
 pub numbered-within : (ns : List Node) (k : ℕ) (l : Literal) → literal_numbered ns k ≡ Some l → k ≤ length ns
 numbered-within ns zero l h = omega arith
@@ -28,55 +28,62 @@ pair-closed zs ns g s xs fit few pair = closed-by_pair zs ns g s xs fit pair
     (omega (arith, numbered-within ns s (literal F pair.0) pair.2))
 
 -- the branch stays as it is
-pub stays-same : (zs : List ℕ) (marks : List Bool) (ns : List Node) (k : ℕ) (n : Node) (xs : List Step) → IsWorkedTo zs marks ns k → slice_get ns k ≡ Some n → IsWorkedOff marks ns n → StaysOpen zs marks ns ns k xs xs
-stays-same zs marks ns k n xs w h done = record {
-  worked = subst (λ ms. IsWorkedTo zs marks ms (suc k)) (append-nil ns) (worked-next zs marks ns [] k n w h tt (size-pos n.formula) (subst (λ ms. IsWorkedOff marks ms n) (sym (append-nil ns)) done));
+pub stays-same : (zs : List ℕ) (marks : List Bool) (ns : List Node) (k : ℕ) (n : Node) (xs : List Step) → slice_get ns k ≡ Some n → IsWorkedOff marks ns n → StaysOpen zs marks ns ns k xs xs
+stays-same zs marks ns k n xs h done = record {
+  added = [];
+  grown = sym (append-nil ns);
+  works = record {
+    entry = n;
+    there = h;
+    fit = tt;
+    lighter = size-pos n.formula;
+    done = subst (λ ms. IsWorkedOff marks ms n) (sym (append-nil ns)) done;
+  };
   no_pair = λ p. p;
   led = led-none ns xs;
-  longer = ([], sym (append-nil ns));
 }
 
 -- the branch gets these entries, and is closed if there is a pair then
-added-outcome : (zs : List ℕ) (marks : List Bool) (ns ms added : List Node) (k number : ℕ) (before after : List Step) → number ≡ suc k → IsWorkedTo zs marks (ns ++ added) (suc k) → IsLed ns (ns ++ added) before (before ++ plain_use (suc k) ∷ []) → length zs ≤ 4000000 → (outcome : Outcome) → IsUse ns ms number added before after outcome → IsOutcome zs marks ns ms k before after outcome
-added-outcome zs marks ns ms added k number before after e w led small Open used = record {
-  worked = subst (λ l. IsWorkedTo zs marks l (suc k)) (sym used.0) w;
+added-outcome : (zs : List ℕ) (marks : List Bool) (ns ms added : List Node) (k number : ℕ) (before after : List Step) → number ≡ suc k → AllFit zs ns → WorkOff zs marks ns k added → IsLed ns (ns ++ added) before (before ++ plain_use (suc k) ∷ []) → length (ns ++ added) < 2 ^ 32 → (outcome : Outcome) → IsUse ns ms number added before after outcome → IsOutcome zs marks ns ms k before after outcome
+added-outcome zs marks ns ms added k number before after e fit w led few Open used = record {
+  added = added;
+  grown = used.0;
+  works = w;
   no_pair = used.2;
   led = subst (λ l. IsLed ns l before after) (sym used.0) (subst (IsLed ns (ns ++ added) before) (ap (λ j. before ++ plain_use j ∷ []) (sym e) ∙ sym used.1) led);
-  longer = (added, used.0);
 }
-added-outcome zs marks ns ms added k number before after e w led small Closed used =
-    let few = worked-length zs marks (ns ++ added) (suc k) w in
+added-outcome zs marks ns ms added k number before after e fit w led few Closed used =
     let pair = subst (λ l. IsPair l used.1.0 used.1.1) used.0 used.1.3 in
-    let closed = led-closed ns (ns ++ added) before (before ++ plain_use (suc k) ∷ []) ((before ++ plain_use (suc k) ∷ []) ++ close used.1.0 used.1.1 ∷ []) led (pair-closed zs (ns ++ added) used.1.0 used.1.1 (before ++ plain_use (suc k) ∷ []) w.fit (omega arith) pair) in
+    let closed = led-closed ns (ns ++ added) before (before ++ plain_use (suc k) ∷ []) ((before ++ plain_use (suc k) ∷ []) ++ close used.1.0 used.1.1 ∷ []) led (pair-closed zs (ns ++ added) used.1.0 used.1.1 (before ++ plain_use (suc k) ∷ []) (fit-added zs ns added fit w.fit) few pair) in
     ((added, used.0), subst (IsClosed ns before) (ap (λ j. (before ++ plain_use j ∷ []) ++ close used.1.0 used.1.1 ∷ []) (sym e) ∙ sym used.1.2) closed)
-added-outcome zs marks ns ms added k number before after e w led small (Fork a b) used = absurd used
+added-outcome zs marks ns ms added k number before after e fit w led few (Fork a b) used = absurd used
 
-number-small : (zs : List ℕ) (marks : List Bool) (ns : List Node) (k : ℕ) → IsWorkedTo zs marks ns k → length zs ≤ 4000000 → suc k < 2 ^ 32
-number-small zs marks ns k w small = let r : k ≤ length ns = w.reached in omega (arith, worked-length zs marks ns k w)
+number-small : (ns : List Node) (k : ℕ) (n : Node) → slice_get ns k ≡ Some n → length ns ≤ 4000000 → suc k < 2 ^ 32
+number-small ns k n h few = omega (arith, get-within ns k n h)
 
-pub used-one : (zs : List ℕ) (marks : List Bool) (ns ms : List Node) (k number : ℕ) (n a : Node) (before after : List Step) → IsWorkedTo zs marks ns k → slice_get ns k ≡ Some n → length zs ≤ 4000000 → IsOne zs n a → number ≡ suc k → (outcome : Outcome) → IsUse ns ms number (a ∷ []) before after outcome → IsOutcome zs marks ns ms k before after outcome
-used-one zs marks ns ms k number n a before after w h small one e outcome used =
+pub used-one : (zs : List ℕ) (marks : List Bool) (ns ms : List Node) (k number : ℕ) (n a : Node) (before after : List Step) → AllFit zs ns → slice_get ns k ≡ Some n → length ns ≤ 4000000 → IsOne zs n a → number ≡ suc k → (outcome : Outcome) → IsUse ns ms number (a ∷ []) before after outcome → IsOutcome zs marks ns ms k before after outcome
+used-one zs marks ns ms k number n a before after fit h few one e outcome used =
     let light : weight (a ∷ []) < size n.formula = (let s : size n.formula ≡ suc (size a.formula) = one.size_is in omega arith) in
-    added-outcome zs marks ns ms (a ∷ []) k number before after e
-    (worked-next zs marks ns (a ∷ []) k n w h (one.fit, tt) light (one-worked marks ns n a zs one))
-    (led-one ns k n a zs before (number-small zs marks ns k w small) (w.fit k n h).propositional h one)
-    small outcome used
+    added-outcome zs marks ns ms (a ∷ []) k number before after e fit
+    (record { entry = n; there = h; fit = (one.fit, tt); lighter = light; done = one-worked marks ns n a zs one })
+    (led-one ns k n a zs before (number-small ns k n h few) (fit k n h).propositional h one)
+    (omega (arith, length-append ns (a ∷ []))) outcome used
 
-pub used-both : (zs : List ℕ) (marks : List Bool) (ns ms : List Node) (k number : ℕ) (n a b : Node) (before after : List Step) → IsWorkedTo zs marks ns k → slice_get ns k ≡ Some n → length zs ≤ 4000000 → shape_of n.sign n.formula ≡ Alpha → AreTwo zs n a b → number ≡ suc k → (outcome : Outcome) → IsUse ns ms number (a ∷ b ∷ []) before after outcome → IsOutcome zs marks ns ms k before after outcome
-used-both zs marks ns ms k number n a b before after w h small shape parts e outcome used =
+pub used-both : (zs : List ℕ) (marks : List Bool) (ns ms : List Node) (k number : ℕ) (n a b : Node) (before after : List Step) → AllFit zs ns → slice_get ns k ≡ Some n → length ns ≤ 4000000 → shape_of n.sign n.formula ≡ Alpha → AreTwo zs n a b → number ≡ suc k → (outcome : Outcome) → IsUse ns ms number (a ∷ b ∷ []) before after outcome → IsOutcome zs marks ns ms k before after outcome
+used-both zs marks ns ms k number n a b before after fit h few shape parts e outcome used =
     let light : weight (a ∷ b ∷ []) < size n.formula = (let s : size n.formula ≡ suc (size a.formula + size b.formula) = parts.size_is in omega arith) in
-    added-outcome zs marks ns ms (a ∷ b ∷ []) k number before after e
-    (worked-next zs marks ns (a ∷ b ∷ []) k n w h (parts.first_fit, (parts.second_fit, tt)) light (both-worked marks ns n a b zs shape parts))
-    (led-both ns k n a b zs before (number-small zs marks ns k w small) (w.fit k n h).propositional h shape parts)
-    small outcome used
+    added-outcome zs marks ns ms (a ∷ b ∷ []) k number before after e fit
+    (record { entry = n; there = h; fit = (parts.first_fit, (parts.second_fit, tt)); lighter = light; done = both-worked marks ns n a b zs shape parts })
+    (led-both ns k n a b zs before (number-small ns k n h few) (fit k n h).propositional h shape parts)
+    (omega (arith, length-append ns (a ∷ b ∷ []))) outcome used
 
-pub used-either : (zs : List ℕ) (marks : List Bool) (ns : List Node) (k number : ℕ) (n a b : Node) (before after : List Step) → IsWorkedTo zs marks ns k → slice_get ns k ≡ Some n → length zs ≤ 4000000 → shape_of n.sign n.formula ≡ Beta → AreTwo zs n a b → number ≡ suc k → after ≡ before ++ plain_use number ∷ [] → IsFork zs marks ns ns a b k before after
-used-either zs marks ns k number n a b before after w h small shape parts e grown =
+pub used-either : (zs : List ℕ) (marks : List Bool) (ns : List Node) (k number : ℕ) (n a b : Node) (before after : List Step) → AllFit zs ns → slice_get ns k ≡ Some n → length ns ≤ 4000000 → shape_of n.sign n.formula ≡ Beta → AreTwo zs n a b → number ≡ suc k → after ≡ before ++ plain_use number ∷ [] → IsFork zs marks ns ns a b k before after
+used-either zs marks ns k number n a b before after fit h few shape parts e grown =
     let first_light : weight (a ∷ []) < size n.formula = (let s : size n.formula ≡ suc (size a.formula + size b.formula) = parts.size_is in omega arith) in
     let second_light : weight (b ∷ []) < size n.formula = (let s : size n.formula ≡ suc (size a.formula + size b.formula) = parts.size_is in omega arith) in
     record {
       same = refl;
-      first = worked-next zs marks ns (a ∷ []) k n w h (parts.first_fit, tt) first_light (first-worked marks ns n a b zs shape parts);
-      second = worked-next zs marks ns (b ∷ []) k n w h (parts.second_fit, tt) second_light (second-worked marks ns n a b zs shape parts);
-      forked = subst (IsForked ns a b before) (ap (λ j. before ++ plain_use j ∷ []) (sym e) ∙ sym grown) (forked ns k n a b zs before (number-small zs marks ns k w small) (w.fit k n h).propositional h shape parts);
+      first = record { entry = n; there = h; fit = (parts.first_fit, tt); lighter = first_light; done = first-worked marks ns n a b zs shape parts };
+      second = record { entry = n; there = h; fit = (parts.second_fit, tt); lighter = second_light; done = second-worked marks ns n a b zs shape parts };
+      forked = subst (IsForked ns a b before) (ap (λ j. before ++ plain_use j ∷ []) (sym e) ∙ sym grown) (forked ns k n a b zs before (number-small ns k n h few) (fit k n h).propositional h shape parts);
     }

@@ -1,7 +1,8 @@
--- How a branch is worked off: one entry more is, and the parts that this adds have room.
-use Rattle.std.proofs.Common.{◌≡◌, ◌⊎◌, ℕ, zero, suc, ◌+◌, ◌<◌, ◌≤◌, List, [], ◌∷◌, ◌++◌, length, drop, Bool, refl, sym, ◌∙◌, ap, subst, Some, slice_get, append_assoc, inl, inr, arith, length-append}
-use Rattle.std.specs.List.{AllByRecursion}
-use Rattle.std.proofs.lemmas.Bool.{cases_lt}
+-- How a branch is worked off: one entry that waits is, and the parts that this adds wait and have room.
+use Rattle.std.proofs.Common.{◌≡◌, ◌⊎◌, ℕ, zero, suc, ◌+◌, ◌<◌, ◌≤◌, List, [], ◌∷◌, ◌++◌, ◌-◌, length, get_or, take, drop, remove, drop-cons, Bool, refl, sym, ◌∙◌, ap, subst, Some, slice_get, append_assoc, inl, inr, arith, length-append}
+use Rattle.std.specs.List.{AllByRecursion, range_with_len}
+use Rattle.std.proofs.lemmas.List.{take-append-drop}
+use Rattle.std.proofs.lemmas.List.FromFn.{length-range_with_len}
 use Rattle.calculus.specs.declared.kind.Shape.{Shape}
 use Rattle.calculus.specs.declared.kind.Shape.TheVariants.{Alpha, Beta, Gamma, Delta, Literal}
 use Rattle.calculus.specs.Kinds.{shape_of}
@@ -9,7 +10,8 @@ use Rattle.calculus.specs.Positions.{Node, node, size}
 use Rattle.calculus.proofs.WalkLaws.{none_some, some_injective}
 use Rattle.propositional_convert.specs.Parts.{parts_of, placed, Fits}
 use Rattle.propositional_convert.specs.Marking.{IsMarked}
-use Rattle.propositional_convert.specs.Branches.{StandsIn, IsMet, SomeMet, HasParts, IsWorkedOff, AllFit, weight, IsWorkedTo}
+use Rattle.propositional_convert.specs.Branches.{StandsIn, IsMet, SomeMet, HasParts, IsWorkedOff, AllFit, weight, size_at, weight_at, IsAmong, AreWithin, IsTaken, IsWorkedBut}
+use Rattle.propositional_convert.specs.Outcomes.{WorkOff}
 use Rattle.propositional_convert.specs.NodeView.{IsOne, AreTwo}
 use Rattle.propositional_convert.specs.Literals.{IsHeld}
 use Rattle.propositional_convert.proofs.Sizes.{size-pos}
@@ -68,28 +70,119 @@ worked-kept marks ns ms n h m = parts-kept ns ms (shape_of n.sign n.formula) (pa
 
 -- ---- weights
 
-weight-append : (ns ms : List Node) → weight (ns ++ ms) ≡ weight ns + weight ms
-weight-append [] ms = omega arith
-weight-append (n ∷ ns) ms = omega (arith, weight-append ns ms)
+pub get-size : (ns : List Node) (i : ℕ) (n : Node) → slice_get ns i ≡ Some n → size_at ns i ≡ size n.formula
+get-size [] i n h = absurd (none_some h)
+get-size (m ∷ ns) zero n h = ap (λ (x : Node). size x.formula) (some_injective m h)
+get-size (m ∷ ns) (suc i) n h = get-size ns i n h
 
--- the weight from an entry on, with more entries at the end
-weight-next : (ns ms : List Node) (k : ℕ) (n : Node) → slice_get ns k ≡ Some n → weight (drop (suc k) (ns ++ ms)) + size n.formula ≡ weight (drop k ns) + weight ms
-weight-next [] ms k n h = absurd (none_some h)
-weight-next (m ∷ ns) ms zero n h = let e : size m.formula ≡ size n.formula = ap (λ (x : Node). size x.formula) (some_injective m h) in omega (arith, weight-append ns ms)
-weight-next (m ∷ ns) ms (suc k) n h = weight-next ns ms k n h
+size_at-kept : (ns ms : List Node) (i : ℕ) → i < length ns → size_at (ns ++ ms) i ≡ size_at ns i
+size_at-kept [] ms i h = absurd (omega arith)
+size_at-kept (n ∷ ns) ms zero h = refl
+size_at-kept (n ∷ ns) ms (suc i) h = size_at-kept ns ms i (omega arith)
 
-weight-long : (ns : List Node) → length ns ≤ weight ns
-weight-long [] = omega arith
-weight-long (n ∷ ns) = omega (arith, weight-long ns, size-pos n.formula)
+size_at-pos : (ns : List Node) (i : ℕ) → i < length ns → 0 < size_at ns i
+size_at-pos [] i h = absurd (omega arith)
+size_at-pos (n ∷ ns) zero h = size-pos n.formula
+size_at-pos (n ∷ ns) (suc i) h = size_at-pos ns i (omega arith)
 
-length-drop' : (k : ℕ) (ns : List Node) → length ns ≤ k + length (drop k ns)
-length-drop' zero ns = omega arith
-length-drop' (suc k) [] = omega arith
-length-drop' (suc k) (n ∷ ns) = omega (arith, length-drop' k ns)
+weight_at-append : (ns : List Node) (is js : List ℕ) → weight_at ns (is ++ js) ≡ weight_at ns is + weight_at ns js
+weight_at-append ns [] js = omega arith
+weight_at-append ns (i ∷ is) js = omega (arith, weight_at-append ns is js)
+
+weight_at-kept : (ns ms : List Node) (is : List ℕ) → AreWithin ns is → weight_at (ns ++ ms) is ≡ weight_at ns is
+weight_at-kept ns ms [] h = refl
+weight_at-kept ns ms (i ∷ is) h = omega (arith, size_at-kept ns ms i h.0, weight_at-kept ns ms is h.1)
+
+weight_at-long : (ns : List Node) (is : List ℕ) → AreWithin ns is → length is ≤ weight_at ns is
+weight_at-long ns [] h = omega arith
+weight_at-long ns (i ∷ is) h = omega (arith, size_at-pos ns i h.0, weight_at-long ns is h.1)
+
+-- the indexes of the entries that are added
+abbrev pub new_indexes : List Node → List Node → List ℕ
+new_indexes ns ms = range_with_len (length ns) (length ms)
+
+new-weight : (ns ms : List Node) → weight_at (ns ++ ms) (new_indexes ns ms) ≡ weight ms
+new-weight ns [] = refl
+new-weight ns (m ∷ ms) =
+    let here : size_at (ns ++ m ∷ ms) (length ns) ≡ size m.formula = get-size (ns ++ m ∷ ms) (length ns) m (get-seam ns m ms) in
+    let long : length (ns ++ m ∷ []) ≡ length ns + 1 = omega (arith, length-append ns (m ∷ [])) in
+    let later : weight_at (ns ++ m ∷ ms) (range_with_len (length ns + 1) (length ms)) ≡ weight ms = subst (λ k. weight_at (ns ++ m ∷ ms) (range_with_len k (length ms)) ≡ weight ms) long (subst (λ l. weight_at l (new_indexes (ns ++ m ∷ []) ms) ≡ weight ms) (append_assoc ns (m ∷ []) ms) (new-weight (ns ++ m ∷ []) ms)) in
+    omega arith
+
+-- ---- indexes
+
+among-left : (is js : List ℕ) (k : ℕ) → IsAmong is k → IsAmong (is ++ js) k
+among-left [] js k h = absurd h
+among-left (i ∷ is) js k (inl e) = inl e
+among-left (i ∷ is) js k (inr h) = inr (among-left is js k h)
+
+among-right : (is js : List ℕ) (k : ℕ) → IsAmong js k → IsAmong (is ++ js) k
+among-right [] js k h = h
+among-right (i ∷ is) js k h = inr (among-right is js k h)
+
+-- an index that waited was taken out or still waits
+among-parts : (before : List ℕ) (i : ℕ) (after : List ℕ) (k : ℕ) → IsAmong (before ++ i ∷ after) k → (i ≡ k) ⊎ IsAmong (before ++ after) k
+among-parts [] i after k h = h
+among-parts (j ∷ before) i after k (inl e) = inr (inl e)
+among-parts (j ∷ before) i after k (inr h) = elim (among-parts before i after k h) [ inl e ↦ inl e | inr g ↦ inr (inr g) ]
+
+among-taken : (old : List ℕ) (i : ℕ) (new : List ℕ) (k : ℕ) → IsTaken old i new → IsAmong old k → (i ≡ k) ⊎ IsAmong new k
+among-taken old i new k t h = subst (λ l. (i ≡ k) ⊎ IsAmong l k) (sym t.3) (among-parts t.0 i t.1 k (subst (λ l. IsAmong l k) t.2 h))
+
+among-range : (a n j : ℕ) → j < n → IsAmong (range_with_len a n) (a + j)
+among-range a zero j h = absurd (omega arith)
+among-range a (suc n) zero h = inl (omega arith)
+among-range a (suc n) (suc j) h = let e : (a + 1) + j ≡ a + suc j = omega arith in inr (subst (IsAmong (range_with_len (a + 1) n)) e (among-range (a + 1) n j (omega arith)))
+
+range-more : (n a : ℕ) → range_with_len a (suc n) ≡ range_with_len a n ++ (a + n) ∷ []
+range-more zero a = let e : a ≡ a + 0 = omega arith in ap (λ x. x ∷ []) e
+range-more (suc n) a = let e : (a + 1) + n ≡ a + suc n = omega arith in ap (λ l. a ∷ l) (range-more n (a + 1) ∙ ap (λ x. range_with_len (a + 1) n ++ x ∷ []) e)
+
+-- the numbers from a up to b + 1 are those up to b, and b
+pub range-next : (a b : ℕ) → a ≤ b → range_with_len a ((b + 1) - a) ≡ range_with_len a (b - a) ++ b ∷ []
+range-next a b h =
+    let more : (b + 1) - a ≡ suc (b - a) = omega arith in
+    let last : a + (b - a) ≡ b = omega arith in
+    ap (range_with_len a) more ∙ range-more (b - a) a ∙ ap (λ x. range_with_len a (b - a) ++ x ∷ []) last
+
+-- the number at a place is taken out
+pub taken-at : (old : List ℕ) (p i : ℕ) (new : List ℕ) → p < length old → i ≡ get_or old p i → new ≡ remove old p → IsTaken old i new
+taken-at old p i new h e r = (take p old, drop (suc p) old, sym (take-append-drop p old) ∙ ap (λ l. take p old ++ l) (drop-cons old p i h ∙ ap (λ x. x ∷ drop (suc p) old) (sym e)), r)
+
+within-kept : (ns ms : List Node) (is : List ℕ) → AreWithin ns is → AreWithin (ns ++ ms) is
+within-kept ns ms [] h = tt
+within-kept ns ms (i ∷ is) h = ((let l : i < length ns = h.0 in omega (arith, length-append ns ms)), within-kept ns ms is h.1)
+
+within-join : (ns : List Node) (is js : List ℕ) → AreWithin ns is → AreWithin ns js → AreWithin ns (is ++ js)
+within-join ns [] js h g = g
+within-join ns (i ∷ is) js h g = (h.0, within-join ns is js h.1 g)
+
+within-parts : (ns : List Node) (before : List ℕ) (i : ℕ) (after : List ℕ) → AreWithin ns (before ++ i ∷ after) → (i < length ns) × AreWithin ns (before ++ after)
+within-parts ns [] i after h = h
+within-parts ns (j ∷ before) i after h = let r = within-parts ns before i after h.1 in (r.0, (h.0, r.1))
+
+pub within-taken : (ns : List Node) (old : List ℕ) (i : ℕ) (new : List ℕ) → IsTaken old i new → AreWithin ns old → (i < length ns) × AreWithin ns new
+within-taken ns old i new t h = subst (λ l. (i < length ns) × AreWithin ns l) (sym t.3) (within-parts ns t.0 i t.1 (subst (AreWithin ns) t.2 h))
+
+within-range : (ns : List Node) (a n : ℕ) → a + n ≤ length ns → AreWithin ns (range_with_len a n)
+within-range ns a zero h = tt
+within-range ns a (suc n) h = (omega arith, within-range ns (a + 1) n (omega arith))
+
+weight-taken : (ns : List Node) (old : List ℕ) (i : ℕ) (new : List ℕ) → IsTaken old i new → weight_at ns old ≡ size_at ns i + weight_at ns new
+weight-taken ns old i new t =
+    let o : weight_at ns old ≡ weight_at ns t.0 + (size_at ns i + weight_at ns t.1) = ap (weight_at ns) t.2 ∙ weight_at-append ns t.0 (i ∷ t.1) in
+    let n : weight_at ns new ≡ weight_at ns t.0 + weight_at ns t.1 = ap (weight_at ns) t.3 ∙ weight_at-append ns t.0 t.1 in
+    omega arith
+
+length-taken : (old : List ℕ) (i : ℕ) (new : List ℕ) → IsTaken old i new → length old ≡ suc (length new)
+length-taken old i new t =
+    let o : length old ≡ length t.0 + suc (length t.1) = ap length t.2 ∙ length-append t.0 (i ∷ t.1) in
+    let n : length new ≡ length t.0 + length t.1 = ap length t.3 ∙ length-append t.0 t.1 in
+    omega arith
 
 -- there are at most as many entries as positions
-pub worked-length : (zs : List ℕ) (marks : List Bool) (ns : List Node) (k : ℕ) → IsWorkedTo zs marks ns k → length ns ≤ length zs
-worked-length zs marks ns k w = let r : k + weight (drop k ns) ≤ length zs = w.room in omega (arith, weight-long (drop k ns), length-drop' k ns)
+pub worked-length : (zs : List ℕ) (marks : List Bool) (ns : List Node) (ws : List ℕ) → IsWorkedBut zs marks ns ws → length ns ≤ length zs
+worked-length zs marks ns ws w = let r : length ns + weight_at ns ws ≤ length zs + length ws = w.room in omega (arith, weight_at-long ns ws w.within)
 
 -- ---- one entry more
 
@@ -107,21 +200,32 @@ fit-added zs ns ms old new i n h = elim (get-cases ns ms i n h) [
   | inr e ↦ fits-get zs ms e.0 n new e.2
 ]
 
-pub worked-next : (zs : List ℕ) (marks : List Bool) (ns ms : List Node) (k : ℕ) (n : Node) → IsWorkedTo zs marks ns k → slice_get ns k ≡ Some n → ListFits zs ms → weight ms < size n.formula → IsWorkedOff marks (ns ++ ms) n → IsWorkedTo zs marks (ns ++ ms) (suc k)
-worked-next zs marks ns ms k n w h fit light done = record {
-  fit = fit-added zs ns ms w.fit fit;
-  worked = λ i m below here. elim (cases_lt i k) [
-    | inl less ↦ elim (get-cases ns ms i m here) [
-      | inl e ↦ worked-kept marks ns ms m (w.worked i m less e)
-      | inr e ↦ (let q : i ≡ length ns + e.0 = e.1 in let r : k < length ns = get-within ns k n h in absurd (omega arith))
+-- what waits once an entry is worked off by these nodes
+pub next-weight : (zs : List ℕ) (marks : List Bool) (ns ms : List Node) (ws : List ℕ) (i : ℕ) (rest : List ℕ) → AreWithin ns ws → IsTaken ws i rest → WorkOff zs marks ns i ms → weight_at (ns ++ ms) (rest ++ new_indexes ns ms) < weight_at ns ws
+next-weight zs marks ns ms ws i rest h t w =
+    let lighter : weight ms < size w.entry.formula = w.lighter in
+    omega (arith, weight_at-append (ns ++ ms) rest (new_indexes ns ms), weight_at-kept ns ms rest (within-taken ns ws i rest t h).1, new-weight ns ms, weight-taken ns ws i rest t, get-size ns i w.entry w.there)
+
+pub worked-next : (zs : List ℕ) (marks : List Bool) (ns ms : List Node) (ws : List ℕ) (i : ℕ) (rest : List ℕ) → IsWorkedBut zs marks ns ws → IsTaken ws i rest → WorkOff zs marks ns i ms → IsWorkedBut zs marks (ns ++ ms) (rest ++ new_indexes ns ms)
+worked-next zs marks ns ms ws i rest w t o = record {
+  fit = fit-added zs ns ms w.fit o.fit;
+  worked = λ k m here. elim (get-cases ns ms k m here) [
+    | inl e ↦ elim (w.worked k m e) [
+      | inl waits ↦ elim (among-taken ws i rest k t waits) [
+        | inl same ↦
+            let there : Some o.entry ≡ Some m = sym o.there ∙ ap (slice_get ns) same ∙ e in
+            inr (subst (IsWorkedOff marks (ns ++ ms)) (some_injective o.entry there) o.done)
+        | inr still ↦ inl (among-left rest (new_indexes ns ms) k still)
+      ]
+      | inr off ↦ inr (worked-kept marks ns ms m off)
     ]
-    | inr past ↦
-        let same : i ≡ k = omega arith in
-        let there : Some n ≡ Some m = sym (get-kept ns ms k n h) ∙ ap (slice_get (ns ++ ms)) (sym same) ∙ here in
-        subst (IsWorkedOff marks (ns ++ ms)) (some_injective n there) done
+    | inr e ↦ inl (among-right rest (new_indexes ns ms) k (subst (IsAmong (new_indexes ns ms)) (sym e.1) (among-range (length ns) (length ms) e.0 (get-within ms e.0 m e.2))))
   ];
-  reached = omega (arith, get-within ns k n h, length-append ns ms);
-  room = (let r : k + weight (drop k ns) ≤ length zs = w.room in omega (arith, weight-next ns ms k n h));
+  within = within-join (ns ++ ms) rest (new_indexes ns ms) (within-kept ns ms rest (within-taken ns ws i rest t w.within).1) (within-range (ns ++ ms) (length ns) (length ms) (omega (arith, length-append ns ms)));
+  room = (
+      let r : length ns + weight_at ns ws ≤ length zs + length ws = w.room in
+      let lighter : weight_at (ns ++ ms) (rest ++ new_indexes ns ms) < weight_at ns ws = next-weight zs marks ns ms ws i rest w.within t o in
+      omega (arith, length-append ns ms, length-append rest (new_indexes ns ms), length-range_with_len (length ns) (length ms), length-taken ws i rest t));
 }
 
 -- ---- where an entry is worked off

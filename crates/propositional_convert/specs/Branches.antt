@@ -1,5 +1,5 @@
 -- Branches and how far they are worked off.
-use Rattle.std.specs.Prelude.{◌≡◌, ◌⊎◌, ℕ, ◌+◌, ◌<◌, ◌≤◌, List, [], ◌∷◌, ◌++◌, length, drop, Bool, Option, Some, slice_get}
+use Rattle.std.specs.Prelude.{◌≡◌, ◌⊎◌, ℕ, zero, suc, ◌+◌, ◌<◌, ◌≤◌, List, [], ◌∷◌, ◌++◌, length, Bool, Option, Some, slice_get}
 use Rattle.std.specs.List.{AllByRecursion}
 use Rattle.calculus.specs.declared.kind.Shape.{Shape}
 use Rattle.calculus.specs.declared.kind.Shape.TheVariants.{Alpha, Beta}
@@ -36,12 +36,34 @@ abbrev pub weight : List Node → ℕ
 weight [] = 0
 weight (n ∷ ns) = size n.formula + weight ns
 
--- the first k entries of the branch are worked off, and there is room for what the others can add
-pub record IsWorkedTo (sizes : List ℕ) (marks : List Bool) (ns : List Node) (k : ℕ) : Type 0 where
+-- the size of the entry with an index, and the sum of those of entries
+abbrev pub size_at : List Node → ℕ → ℕ
+size_at [] i = 0
+size_at (n ∷ ns) zero = size n.formula
+size_at (n ∷ ns) (suc i) = size_at ns i
+
+abbrev pub weight_at : List Node → List ℕ → ℕ
+weight_at ns [] = 0
+weight_at ns (i ∷ is) = size_at ns i + weight_at ns is
+
+abbrev pub IsAmong : List ℕ → ℕ → Type 0
+IsAmong [] i = ⊥
+IsAmong (j ∷ js) i = (j ≡ i) ⊎ IsAmong js i
+
+-- the indexes are those of entries
+abbrev pub AreWithin : List Node → List ℕ → Type 0
+AreWithin ns is = AllByRecursion (λ i. i < length ns) is
+
+-- the index was taken out of the list old
+abbrev pub IsTaken : List ℕ → ℕ → List ℕ → Type 0
+IsTaken old i new = (before after : List ℕ) × (old ≡ before ++ i ∷ after) × (new ≡ before ++ after)
+
+-- each entry of the branch is worked off or its index waits, and there is room for what those that wait can add
+pub record IsWorkedBut (sizes : List ℕ) (marks : List Bool) (ns : List Node) (waiting : List ℕ) : Type 0 where
   pub fit : AllFit sizes ns
-  pub worked : (i : ℕ) (n : Node) → i < k → slice_get ns i ≡ Some n → IsWorkedOff marks ns n
-  pub reached : k ≤ length ns
-  pub room : k + weight (drop k ns) ≤ length sizes
+  pub worked : (i : ℕ) (n : Node) → slice_get ns i ≡ Some n → IsAmong waiting i ⊎ IsWorkedOff marks ns n
+  pub within : AreWithin ns waiting
+  pub room : length ns + weight_at ns waiting ≤ length sizes + length waiting
 
 -- a branch with this first entry that is worked off has a pair
 abbrev pub EndsInPair : List ℕ → List Bool → Option Node → Type 0

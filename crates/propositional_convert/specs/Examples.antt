@@ -48,10 +48,17 @@ detachment = tree.imp (tree.conj p (tree.imp p q)) q
 abbrev pub detachment_selections : List (List Side)
 detachment_selections = (Right ∷ []) ∷ (Left ∷ Right ∷ []) ∷ (Left ∷ Left ∷ []) ∷ []
 
--- (p & ((p | q) & (p => q))) => q, whose p | q holds where p does
+-- (p & ((p => q) & (p | q))) => q, whose p | q holds where p does
 abbrev pub idle_choice : tree.Formula
-idle_choice = tree.imp (tree.conj p (tree.conj (tree.disj p q) (tree.imp p q))) q
+idle_choice = tree.imp (tree.conj p (tree.conj (tree.imp p q) (tree.disj p q))) q
 
 -- the last one reaches p | q
 abbrev pub idle_choice_selections : List (List Side)
-idle_choice_selections = (Right ∷ []) ∷ (Left ∷ Right ∷ Right ∷ []) ∷ (Left ∷ Left ∷ []) ∷ (Left ∷ Right ∷ Left ∷ []) ∷ []
+idle_choice_selections = (Right ∷ []) ∷ (Left ∷ Right ∷ Left ∷ []) ∷ (Left ∷ Left ∷ []) ∷ (Left ∷ Right ∷ Right ∷ []) ∷ []
+
+-- ((p => q) & (p | (p & p))) => q, where p => q has a component that fails, and p | (p & p) has none
+abbrev pub late_choice : tree.Formula
+late_choice = tree.imp (tree.conj (tree.imp p q) (tree.disj p (tree.conj p p))) q
+
+abbrev pub late_choice_selections : List (List Side)
+late_choice_selections = (Right ∷ []) ∷ (Left ∷ Left ∷ []) ∷ (Left ∷ Right ∷ Left ∷ []) ∷ []

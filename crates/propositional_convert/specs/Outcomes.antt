@@ -1,32 +1,43 @@
 -- What becomes of a branch when an entry is worked off.
-use Rattle.std.specs.Prelude.{◌≡◌, ℕ, suc, List, [], ◌∷◌, ◌++◌, Bool}
-use Rattle.calculus.specs.Positions.{Node}
+use Rattle.std.specs.Prelude.{◌≡◌, ℕ, ◌<◌, List, [], ◌∷◌, ◌++◌, Bool, Some, slice_get}
+use Rattle.std.specs.List.{AllByRecursion}
+use Rattle.calculus.specs.Positions.{Node, size}
 use Rattle.calculus.specs.Derivations.{Step, close}
 use Rattle.propositional_convert.specs.declared.outcome.Outcome.{Outcome}
 use Rattle.propositional_convert.specs.declared.outcome.Outcome.TheVariants.{Open, Closed, Fork}
 use Rattle.propositional_convert.specs.Literals.{HasNoPair, IsPair}
-use Rattle.propositional_convert.specs.Branches.{IsWorkedTo, Extends}
+use Rattle.propositional_convert.specs.Parts.{Fits}
+use Rattle.propositional_convert.specs.Branches.{IsWorkedOff, weight, Extends}
 use Rattle.propositional_convert.specs.Stepping.{IsClosed, IsLed, IsForked, plain_use}
 use Rattle.propositional_convert.specs.NodeView.{the_node}
 
+-- these nodes work off the entry with this index, and have less to be worked off than it has
+pub record WorkOff (sizes : List ℕ) (marks : List Bool) (ns : List Node) (index : ℕ) (added : List Node) : Type 0 where
+  pub entry : Node
+  pub there : slice_get ns index ≡ Some entry
+  pub fit : AllByRecursion (Fits sizes) added
+  pub lighter : weight added < size entry.formula
+  pub done : IsWorkedOff marks (ns ++ added) entry
+
 -- the branch ns has become ms, which is still open
-pub record StaysOpen (sizes : List ℕ) (marks : List Bool) (ns ms : List Node) (k : ℕ) (before after : List Step) : Type 0 where
-  pub worked : IsWorkedTo sizes marks ms (suc k)
+pub record StaysOpen (sizes : List ℕ) (marks : List Bool) (ns ms : List Node) (index : ℕ) (before after : List Step) : Type 0 where
+  pub added : List Node
+  pub grown : ms ≡ ns ++ added
+  pub works : WorkOff sizes marks ns index added
   pub no_pair : HasNoPair ns → HasNoPair ms
   pub led : IsLed ns ms before after
-  pub longer : Extends ns ms
 
-pub record IsFork (sizes : List ℕ) (marks : List Bool) (ns ms : List Node) (a b : Node) (k : ℕ) (before after : List Step) : Type 0 where
+pub record IsFork (sizes : List ℕ) (marks : List Bool) (ns ms : List Node) (a b : Node) (index : ℕ) (before after : List Step) : Type 0 where
   pub same : ms ≡ ns
-  pub first : IsWorkedTo sizes marks (ns ++ a ∷ []) (suc k)
-  pub second : IsWorkedTo sizes marks (ns ++ b ∷ []) (suc k)
+  pub first : WorkOff sizes marks ns index (a ∷ [])
+  pub second : WorkOff sizes marks ns index (b ∷ [])
   pub forked : IsForked ns a b before after
 
--- the entry after the first k ones of the branch ns was worked off
+-- the entry of the branch ns with this index was worked off
 abbrev pub IsOutcome : List ℕ → List Bool → List Node → List Node → ℕ → List Step → List Step → Outcome → Type 0
-IsOutcome sizes marks ns ms k before after Open = StaysOpen sizes marks ns ms k before after
-IsOutcome sizes marks ns ms k before after Closed = Extends ns ms × IsClosed ns before after
-IsOutcome sizes marks ns ms k before after (Fork a b) = IsFork sizes marks ns ms (the_node a) (the_node b) k before after
+IsOutcome sizes marks ns ms index before after Open = StaysOpen sizes marks ns ms index before after
+IsOutcome sizes marks ns ms index before after Closed = Extends ns ms × IsClosed ns before after
+IsOutcome sizes marks ns ms index before after (Fork a b) = IsFork sizes marks ns ms (the_node a) (the_node b) index before after
 
 -- the entry with this number was used, which added these nodes
 abbrev pub IsUse : List Node → List Node → ℕ → List Node → List Step → List Step → Outcome → Type 0

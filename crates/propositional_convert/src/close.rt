@@ -1,9 +1,12 @@
 //! Closing branches.
 
-ghost use Rattle.std.specs.Prelude.{◌≡◌, ◌+◌, ◌++◌, ◌∷◌, [], ◌<◌, ◌≤◌, ◌^◌, ℕ, suc, length, slice_get, IfOk, OnOk, MatchOption};
+ghost use Rattle.std.specs.Prelude.{◌≡◌, ◌+◌, ◌-◌, ◌++◌, ◌∷◌, [], ◌<◌, ◌≤◌, ◌^◌, ℕ, suc, length, slice_get, IfOk, OnOk, MatchOption, IsTrue, ◌↔◌};
+ghost use Rattle.std.specs.List.{range_with_len};
+ghost use Rattle.calculus.specs.Kinds.{other};
 ghost use Rattle.calculus.specs.Derivations as derivation;
-ghost use Rattle.propositional_convert.specs.Branches.{EndsInPair, Extends, IsWorkedTo};
-ghost use Rattle.propositional_convert.specs.Literals.{HasNoPair, IsPair};
+ghost use Rattle.formula_core.specs.FormulaView.{the_formula};
+ghost use Rattle.propositional_convert.specs.Branches.{AllFit, AreWithin, EndsInPair, Extends, IsTaken, IsWorkedBut};
+ghost use Rattle.propositional_convert.specs.Literals.{HasNoPair, IsHeld, IsPair};
 ghost use Rattle.propositional_convert.specs.NodeView.{the_node};
 ghost use Rattle.propositional_convert.specs.Outcomes.{IsOutcome, IsUse};
 ghost use Rattle.propositional_convert.specs.Stepping.{IsClosed, plain_use};
@@ -96,9 +99,9 @@ fn expand<'a>(
     index: usize,
     steps: &mut StepList,
 ) -> Result<Outcome<'a>, NoMemory>
-    requires worked { IsWorkedTo plan.now.sizes.items plan.now.marks.items branch.old index }
+    requires fit { AllFit plan.now.sizes.items branch.old }
     requires there { index < length branch.old }
-    requires small { length plan.now.sizes.items ≤ 4000000 }
+    requires few { length branch.old ≤ 4000000 }
     ensures { IfOk result (λ outcome. IsOutcome plan.now.sizes.items plan.now.marks.items branch.old branch.new index steps.old steps.new outcome) }
 {
     let entry = branch.entry(index);
@@ -125,40 +128,102 @@ fn expand<'a>(
     }
 }
 
-/// Closes the branch with one more entry, where the entries before `start` are worked off, and puts its steps to the
-/// others. It calls itself once for each child of a fork, so it goes as deep as a branch has forks.
+// Whether the literals of the branch refute the entry: what they would make hold has the other sign.
+fn fails(branch: &Branch, entry: Entry) -> bool
+    ensures { IsTrue result ↔ IsHeld branch.now (other entry.entry.sign) (the_formula entry.entry.formula.now) }
+{
+    branch.holds(entry.sign.other(), entry.formula)
+}
+
+// Whether work on the entry at an index would leave two branches open: it is a beta formula that does not hold, and none of
+// its components fails.
+fn splits(plan: &Plan, branch: &Branch, index: usize) -> bool
+    requires fit { AllFit plan.now.sizes.items branch.now }
+    requires there { index < length branch.now }
+{
+    let entry = branch.entry(index);
+    match plan.parts(entry) {
+        Parts::Literal | Parts::One(_) | Parts::Both(_, _) => false,
+        Parts::Either(first, second) => plan.is_marked(entry.position)
+            && !branch.holds(entry.sign, entry.formula)
+            && !fails(branch, first)
+            && !fails(branch, second),
+    }
+}
+
+// The place of the index whose entry is worked off next: the latest one that leaves at most one branch open, or else the latest.
+// The proof needs only that it is a place; the choice keeps derivations short.
+fn pick(plan: &Plan, branch: &Branch, waiting: &[usize]) -> usize
+    requires fit { AllFit plan.now.sizes.items branch.now }
+    requires within { AreWithin branch.now waiting.now }
+    requires some { 0 < length waiting.now }
+    ensures { result < length waiting.now }
+{
+    for place in (0..waiting.len()).rev() {
+        if !splits(plan, branch, waiting[place]) {
+            return place;
+        }
+    }
+    waiting.len() - 1
+}
+
+// Takes out the index that is picked.
+fn take(plan: &Plan, branch: &Branch, waiting: &mut Vec<usize>) -> Option<usize>
+    requires fit { AllFit plan.now.sizes.items branch.now }
+    requires within { AreWithin branch.now waiting.old.items }
+    ensures { MatchOption result (waiting.old.items ≡ []) (λ index. IsTaken waiting.old.items index waiting.new.items) }
+{
+    if waiting.is_empty() {
+        return None;
+    }
+    let place = pick(plan, branch, waiting.as_slice());
+    Some(waiting.remove(place))
+}
+
+// Puts the indexes from one to another to those that wait.
+fn put_indexes(waiting: &mut Vec<usize>, from: usize, to: usize) -> Result<(), NoMemory>
+    requires { from ≤ to }
+    ensures { OnOk result (waiting.new.items ≡ waiting.old.items ++ range_with_len from (to - from)) }
+{
+    for index in from..to {
+        waiting.push(index)?;
+    }
+    Ok(())
+}
+
+/// Closes the branch with one more entry, where the entries whose indexes do not wait are worked off, and puts its steps to
+/// the others. It calls itself once for each child of a fork, so it goes as deep as forks are nested.
 pub(crate) fn close<'a>(
     plan: &Plan,
     branch: &mut Branch<'a>,
+    mut waiting: Vec<usize>,
     entry: Entry<'a>,
-    start: usize,
     steps: &mut StepList,
 ) -> Result<(), NoMemory>
-    requires worked { IsWorkedTo plan.now.sizes.items plan.now.marks.items (branch.old ++ the_node entry ∷ []) start }
+    requires worked { IsWorkedBut plan.now.sizes.items plan.now.marks.items (branch.old ++ the_node entry ∷ []) (waiting.items ++ length branch.old ∷ []) }
     requires no_pair { HasNoPair branch.old }
     requires small { length plan.now.sizes.items ≤ 4000000 }
     requires ends { EndsInPair plan.now.sizes.items plan.now.marks.items (slice_get (branch.old ++ the_node entry ∷ []) 0) }
     ensures closed { OnOk result (IsClosed (branch.old ++ the_node entry.entry ∷ []) steps.old steps.new) }
     ensures longer { OnOk result (Extends branch.old branch.new) }
 {
+    waiting.push(branch.len())?;
     if let Some(pair) = branch.add(entry)? {
         push_axiom(steps, pair)?;
         return Ok(());
     }
-    let mut index = start;
-    while index < branch.len() {
+    while let Some(index) = take(plan, branch, &mut waiting) {
+        let length = branch.len();
         match expand(plan, branch, index, steps)? {
-            Outcome::Open => {}
+            Outcome::Open => put_indexes(&mut waiting, length, branch.len())?,
             Outcome::Closed => return Ok(()),
             Outcome::Fork(first, second) => {
-                let length = branch.len();
-                close(plan, branch, first, index + 1, steps)?;
+                close(plan, branch, waiting.clone()?, first, steps)?;
                 branch.truncate(length);
-                close(plan, branch, second, index + 1, steps)?;
+                close(plan, branch, waiting, second, steps)?;
                 return Ok(());
             }
         }
-        index += 1;
     }
     unreachable!()
 }

@@ -30,11 +30,15 @@ use tableau_core::Selection;
 /// A derivation of the problem by the clauses of a closed tableau, whose selections are given. It notes the path limit,
 /// and has no names.
 ///
-/// The positions that the clauses reach are worked off in the order in which they get on a branch, and a branch is closed
-/// as soon as it has an axiom (after Kreitz and Schmitt, who convert matrix proofs). One is left out where the literals of
-/// the branch make its formula hold: a beta formula one of whose parts is an atom that the branch has with the same sign,
-/// say, since a fork on it would give one child that has nothing new. The call goes as deep as a branch has
-/// beta positions that are reached, so the caller bounds the formula.
+/// The positions that the clauses reach are worked off once they are on a branch, and a branch is closed as soon as it has
+/// an axiom (after Kreitz and Schmitt, who convert matrix proofs). One is left out where the literals of the branch make its
+/// formula hold: a beta formula one of whose parts is an atom that the branch has with the same sign, say, since a fork on
+/// it would give one child that has nothing new.
+///
+/// Next comes the latest position that leaves at most one branch open: of an alpha formula, or of a beta formula one of
+/// whose parts the literals of the branch refute. So a chain of implications is followed link by link, wherever its links
+/// stand. Only where each position that is left splits the branch, the latest of them does. The call goes as deep as forks
+/// are nested, which is at most the number of beta positions that are reached, so the caller bounds the formula.
 pub fn convert(
     alloc: Global,
     problem: &Problem,
@@ -57,7 +61,8 @@ pub fn convert(
         formula,
         position: 0,
     };
-    close(&plan, &mut branch, root, 0, &mut steps)?;
+    let waiting = Vec::new(alloc);
+    close(&plan, &mut branch, waiting, root, &mut steps)?;
     let names = Names {
         eigens: EigenList::new(alloc),
         spares: SpareList::new(alloc),

@@ -5,7 +5,7 @@ ghost use Rattle.calculus.specs.DerivationText.{is_limit};
 ghost use Rattle.calculus.specs.Syntax as tree;
 ghost use Rattle.formula_core.specs.FormulaView.{the_formula};
 ghost use Rattle.formula_core.specs.SymbolView.{the_symbol};
-ghost use Rattle.propositional_convert.specs.Examples.{IsExample, detachment, detachment_selections, example, exchange, exchange_selections, idle_choice, idle_choice_selections, p, predicate, q, self_implication, self_implication_selections, two_symbols};
+ghost use Rattle.propositional_convert.specs.Examples.{IsExample, detachment, detachment_selections, example, exchange, exchange_selections, idle_choice, idle_choice_selections, late_choice, late_choice_selections, p, predicate, q, self_implication, self_implication_selections, two_symbols};
 ghost use Rattle.tableau_core.specs.Closed.{IsClosedBy};
 
 use crate::convert;
@@ -126,8 +126,18 @@ fn idle_choice(alloc: Global) -> Result<Formula, NoMemory>
 {
     let choice = or(alloc, atom_p(alloc), atom_q(alloc))?;
     let rule = imp(alloc, atom_p(alloc), atom_q(alloc))?;
-    let both = and(alloc, choice, rule)?;
+    let both = and(alloc, rule, choice)?;
     let given = and(alloc, atom_p(alloc), both)?;
+    imp(alloc, given, atom_q(alloc))
+}
+
+fn late_choice(alloc: Global) -> Result<Formula, NoMemory>
+    ensures { IfOk result (λ f. the_formula f ≡ late_choice) }
+{
+    let rule = imp(alloc, atom_p(alloc), atom_q(alloc))?;
+    let twice = and(alloc, atom_p(alloc), atom_p(alloc))?;
+    let choice = or(alloc, atom_p(alloc), twice)?;
+    let given = and(alloc, rule, choice)?;
     imp(alloc, given, atom_q(alloc))
 }
 
@@ -192,7 +202,17 @@ fn idle_choice_selections(alloc: Global) -> Result<Vec<Selection>, NoMemory>
 {
     let mut all = Vec::new(alloc);
     all.push(one_side(alloc, Side::Right)?)?;
+    all.push(three_sides(alloc, Side::Left, Side::Right, Side::Left)?)?;
+    all.push(two_sides(alloc, Side::Left, Side::Left)?)?;
     all.push(three_sides(alloc, Side::Left, Side::Right, Side::Right)?)?;
+    Ok(all)
+}
+
+fn late_choice_selections(alloc: Global) -> Result<Vec<Selection>, NoMemory>
+    ensures { IfOk result (λ all. all.items ≡ late_choice_selections) }
+{
+    let mut all = Vec::new(alloc);
+    all.push(one_side(alloc, Side::Right)?)?;
     all.push(two_sides(alloc, Side::Left, Side::Left)?)?;
     all.push(three_sides(alloc, Side::Left, Side::Right, Side::Left)?)?;
     Ok(all)
@@ -257,7 +277,8 @@ fn closes_one_branch(rt: HostRuntime) -> Result<(), Fail> {
     Ok(())
 }
 
-// The second branch begins with the entries that both have, and works the third one off again.
+// Of the second and the third entry, which wait at once, the later one comes first. It shows q and p, so that both branches of
+// p | q close at once.
 #[test]
 #[tactic(auto, using(crate::proofs::Examples::exchange_closed))]
 fn closes_both_branches(rt: HostRuntime) -> Result<(), Fail> {
@@ -271,11 +292,10 @@ fn closes_both_branches(rt: HostRuntime) -> Result<(), Fail> {
         seen.lines.as_slice(),
         [
             Line::Use(1),
+            Line::Use(3),
             Line::Use(2),
-            Line::Use(3),
-            Line::Axiom(4, 6),
-            Line::Use(3),
-            Line::Axiom(4, 5),
+            Line::Axiom(6, 5),
+            Line::Axiom(6, 4),
         ]
         .as_slice()
     );
@@ -305,7 +325,7 @@ fn splits_an_implication_that_is_given(rt: HostRuntime) -> Result<(), Fail> {
     Ok(())
 }
 
-// The sixth entry, p | q, is left as it is, because the branch has p.
+// The seventh entry, p | q, is taken first and left as it is, because the branch has p.
 #[test]
 #[tactic(auto, using(crate::proofs::Examples::idle_choice_closed))]
 fn leaves_out_a_fork_that_the_branch_decides(rt: HostRuntime) -> Result<(), Fail> {
@@ -321,9 +341,37 @@ fn leaves_out_a_fork_that_the_branch_decides(rt: HostRuntime) -> Result<(), Fail
             Line::Use(1),
             Line::Use(2),
             Line::Use(5),
-            Line::Use(7),
+            Line::Use(6),
             Line::Axiom(4, 8),
             Line::Axiom(8, 3),
+        ]
+        .as_slice()
+    );
+    Ok(())
+}
+
+// The fourth entry, p => q, comes before the fifth, p | (p & p), because q fails on the branch. On the branch that stays open
+// p fails, so the fifth one splits it no more.
+#[test]
+#[tactic(auto, using(crate::proofs::Examples::late_choice_closed))]
+fn forks_last_where_two_branches_stay_open(rt: HostRuntime) -> Result<(), Fail> {
+    let alloc = rt.alloc();
+    let formula = late_choice(alloc)?;
+    let selections = late_choice_selections(alloc)?;
+    let seen = derive(alloc, formula, selections.as_slice(), 2)?;
+    assert_eq!(rt; seen.limit, 2);
+    assert!(rt; !seen.has_names);
+    assert_eq!(rt;
+        seen.lines.as_slice(),
+        [
+            Line::Use(1),
+            Line::Use(2),
+            Line::Use(4),
+            Line::Use(5),
+            Line::Axiom(7, 6),
+            Line::Use(7),
+            Line::Axiom(8, 6),
+            Line::Axiom(6, 3),
         ]
         .as_slice()
     );

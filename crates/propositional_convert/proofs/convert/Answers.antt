@@ -1,5 +1,5 @@
 -- The branch begins with the formula, and the closed tableau shows that it ends in a pair.
-use Rattle.std.proofs.Common.{◌++◌, ◌∷◌, [], IsTrue, Some, slice_get, sym, ◌∙◌, ap, subst}
+use Rattle.std.proofs.Common.{◌++◌, ◌∷◌, [], IsTrue, Some, length, slice_get, sym, ◌∙◌, ap, subst}
 use Rattle.calculus.specs.declared.sign.Sign.TheVariants.{F}
 use Rattle.calculus.specs.Positions.{node}
 use Rattle.calculus.specs.Propositional.{is_propositional}
@@ -8,7 +8,7 @@ use Rattle.sequent_calc.specs.DerivationView.{the_derivation}
 use Rattle.propositional_convert.specs.Parts.{sizes_of}
 use Rattle.propositional_convert.specs.Marking.{MarksClauses}
 use Rattle.propositional_convert.specs.Literals.{HasNoPair}
-use Rattle.propositional_convert.specs.Branches.{EndsInPair, IsWorkedTo}
+use Rattle.propositional_convert.specs.Branches.{EndsInPair, IsWorkedBut}
 use Rattle.propositional_convert.specs.Stepping.{IsClosed}
 use Rattle.propositional_convert.proofs.Literals.{no_pair-none}
 use Rattle.propositional_convert.proofs.Closing.{root-worked, few-positions, derived, printed}
@@ -21,8 +21,9 @@ close-requires c =
     let propositional = subst (λ g. IsTrue (is_propositional g)) (sym same) c.requires.propositional.formula in
     let marked = subst (λ g. MarksClauses c.in_ok-plan.plan.marks.items g c.args.selections.now) same c.in_ok-plan.ensures.marks in
     let ends = ends_in_pair c.args.problem.now c.args.limit c.in_ok-plan.plan.sizes.items c.in_ok-plan.plan.marks.items c.args.selections.now c.requires.propositional.classical c.requires.closed marked in
+    let root = node 0 F (the_formula c.formula-formula.result.now) in
     record {
-      worked = subst (λ l. IsWorkedTo c.in_ok-plan.plan.sizes.items c.in_ok-plan.plan.marks.items (l ++ node 0 F (the_formula c.formula-formula.result.now) ∷ []) 0) (sym c.new-branch.ensures) (root-worked c.in_ok-plan.plan.sizes.items c.in_ok-plan.plan.marks.items (the_formula c.formula-formula.result.now) propositional c.in_ok-plan.ensures.sizes);
+      worked = subst (λ l. IsWorkedBut c.in_ok-plan.plan.sizes.items c.in_ok-plan.plan.marks.items (l ++ root ∷ []) (c.new-waiting.result.items ++ length l ∷ [])) (sym c.new-branch.ensures) (subst (λ ws. IsWorkedBut c.in_ok-plan.plan.sizes.items c.in_ok-plan.plan.marks.items (root ∷ []) (ws ++ 0 ∷ [])) (sym c.new-waiting.ensures.items) (root-worked c.in_ok-plan.plan.sizes.items c.in_ok-plan.plan.marks.items (the_formula c.formula-formula.result.now) propositional c.in_ok-plan.ensures.sizes));
       no_pair = subst HasNoPair (sym c.new-branch.ensures) no_pair-none;
       small = few-positions c.args.problem.now c.in_ok-plan.plan.sizes.items c.formula-formula.ensures.well (c.in_ok-plan.ensures.sizes ∙ ap sizes_of same);
       ends = subst (λ l. EndsInPair c.in_ok-plan.plan.sizes.items c.in_ok-plan.plan.marks.items (slice_get (l ++ node 0 F (the_formula c.formula-formula.result.now) ∷ []) 0)) (sym c.new-branch.ensures) (subst (λ g. EndsInPair c.in_ok-plan.plan.sizes.items c.in_ok-plan.plan.marks.items (Some (node 0 F g))) (sym same) ends);

@@ -1,38 +1,32 @@
 -- By what the entry adds.
-use Rattle.std.proofs.Common.{◌+◌, ◌≤◌, length, arith, add-one, sym, ◌∙◌}
+use Rattle.std.proofs.Common.{◌+◌, add-one, sym, ◌∙◌}
 use Rattle.std.proofs.lemmas.Bool.{false≢true}
 use Rattle.propositional_convert.specs.NodeView.{the_node}
 use Rattle.propositional_convert.proofs.Sizes.{fits-within}
-use Rattle.propositional_convert.proofs.Worked.{worked-length, unmarked-worked, literal-worked, held-worked}
+use Rattle.propositional_convert.proofs.Worked.{unmarked-worked, literal-worked, held-worked}
 use Rattle.propositional_convert.proofs.Expanding.{stays-same, used-one, used-both, used-either}
 use Rattle.propositional_convert.proofs.close.expand.Goals as goal
 
 pub is_marked-requires : goal.is_marked-requires
-is_marked-requires c = fits-within c.args.plan.now.sizes.items (the_node c.entry-entry.result) (c.requires.worked.fit c.args.index (the_node c.entry-entry.result) c.entry-entry.ensures)
+is_marked-requires c = fits-within c.args.plan.now.sizes.items (the_node c.entry-entry.result) (c.requires.fit c.args.index (the_node c.entry-entry.result) c.entry-entry.ensures)
 
 pub returns-then-not-is_marked : goal.returns-then-not-is_marked
-returns-then-not-is_marked c = stays-same c.args.plan.now.sizes.items c.args.plan.now.marks.items c.args.branch.now c.args.index (the_node c.entry-entry.result) c.args.steps.now c.requires.worked c.entry-entry.ensures (unmarked-worked c.args.plan.now.marks.items c.args.branch.now (the_node c.entry-entry.result) (λ h. false≢true (sym c.if-not-is_marked.true ∙ c.is_marked.ensures.1 h)))
+returns-then-not-is_marked c = stays-same c.args.plan.now.sizes.items c.args.plan.now.marks.items c.args.branch.now c.args.index (the_node c.entry-entry.result) c.args.steps.now c.entry-entry.ensures (unmarked-worked c.args.plan.now.marks.items c.args.branch.now (the_node c.entry-entry.result) (λ h. false≢true (sym c.if-not-is_marked.true ∙ c.is_marked.ensures.1 h)))
 
 pub parts-requires : goal.parts-requires
-parts-requires c = c.requires.worked.fit c.args.index (the_node c.entry-entry.result) c.entry-entry.ensures
-
-pub use_one-requires-clause-few : goal.use_one-requires-clause-few
-use_one-requires-clause-few c = let few : length c.args.branch.now ≤ length c.args.plan.now.sizes.items = worked-length c.args.plan.now.sizes.items c.args.plan.now.marks.items c.args.branch.now c.args.index c.requires.worked in omega arith
-
-pub use_both-requires-clause-few : goal.use_both-requires-clause-few
-use_both-requires-clause-few c = let few : length c.args.branch.now ≤ length c.args.plan.now.sizes.items = worked-length c.args.plan.now.sizes.items c.args.plan.now.marks.items c.args.branch.now c.args.index c.requires.worked in omega arith
+parts-requires c = c.requires.fit c.args.index (the_node c.entry-entry.result) c.entry-entry.ensures
 
 pub returns-in-Literal : goal.returns-in-Literal
-returns-in-Literal c = stays-same c.args.plan.now.sizes.items c.args.plan.now.marks.items c.args.branch.now c.args.index (the_node c.entry-entry.result) c.args.steps.now c.requires.worked c.entry-entry.ensures (literal-worked c.args.plan.now.marks.items c.args.branch.now (the_node c.entry-entry.result) c.in-Literal.ensures)
+returns-in-Literal c = stays-same c.args.plan.now.sizes.items c.args.plan.now.marks.items c.args.branch.now c.args.index (the_node c.entry-entry.result) c.args.steps.now c.entry-entry.ensures (literal-worked c.args.plan.now.marks.items c.args.branch.now (the_node c.entry-entry.result) c.in-Literal.ensures)
 
 pub returns-in_ok-outcome-in-One : goal.returns-in_ok-outcome-in-One
-returns-in_ok-outcome-in-One c = used-one c.args.plan.now.sizes.items c.args.plan.now.marks.items c.args.branch.now c.use_one.new.branch c.args.index (c.args.index + 1) (the_node c.entry-entry.result) (the_node c.in-One.part) c.args.steps.now c.use_one.new.steps c.requires.worked c.entry-entry.ensures c.requires.small c.in-One.ensures (add-one c.args.index) c.in_ok-outcome-in-One.outcome c.in_ok-outcome-in-One.ensures
+returns-in_ok-outcome-in-One c = used-one c.args.plan.now.sizes.items c.args.plan.now.marks.items c.args.branch.now c.use_one.new.branch c.args.index (c.args.index + 1) (the_node c.entry-entry.result) (the_node c.in-One.part) c.args.steps.now c.use_one.new.steps c.requires.fit c.entry-entry.ensures c.requires.few c.in-One.ensures (add-one c.args.index) c.in_ok-outcome-in-One.outcome c.in_ok-outcome-in-One.ensures
 
 pub returns-in_ok-outcome-in-Both : goal.returns-in_ok-outcome-in-Both
-returns-in_ok-outcome-in-Both c = used-both c.args.plan.now.sizes.items c.args.plan.now.marks.items c.args.branch.now c.use_both.new.branch c.args.index (c.args.index + 1) (the_node c.entry-entry.result) (the_node c.in-Both.first) (the_node c.in-Both.second) c.args.steps.now c.use_both.new.steps c.requires.worked c.entry-entry.ensures c.requires.small c.in-Both.ensures.0 c.in-Both.ensures.1 (add-one c.args.index) c.in_ok-outcome-in-Both.outcome c.in_ok-outcome-in-Both.ensures
+returns-in_ok-outcome-in-Both c = used-both c.args.plan.now.sizes.items c.args.plan.now.marks.items c.args.branch.now c.use_both.new.branch c.args.index (c.args.index + 1) (the_node c.entry-entry.result) (the_node c.in-Both.first) (the_node c.in-Both.second) c.args.steps.now c.use_both.new.steps c.requires.fit c.entry-entry.ensures c.requires.few c.in-Both.ensures.0 c.in-Both.ensures.1 (add-one c.args.index) c.in_ok-outcome-in-Both.outcome c.in_ok-outcome-in-Both.ensures
 
 pub returns-then-holds : goal.returns-then-holds
-returns-then-holds c = stays-same c.args.plan.now.sizes.items c.args.plan.now.marks.items c.args.branch.now c.args.index (the_node c.entry-entry.result) c.args.steps.now c.requires.worked c.entry-entry.ensures (held-worked c.args.plan.now.marks.items c.args.branch.now (the_node c.entry-entry.result) (c.holds.ensures.0 c.if-holds.true))
+returns-then-holds c = stays-same c.args.plan.now.sizes.items c.args.plan.now.marks.items c.args.branch.now c.args.index (the_node c.entry-entry.result) c.args.steps.now c.entry-entry.ensures (held-worked c.args.plan.now.marks.items c.args.branch.now (the_node c.entry-entry.result) (c.holds.ensures.0 c.if-holds.true))
 
 pub returns-in_ok-push_use-in-Either : goal.returns-in_ok-push_use-in-Either
-returns-in_ok-push_use-in-Either c = used-either c.args.plan.now.sizes.items c.args.plan.now.marks.items c.args.branch.now c.args.index (c.args.index + 1) (the_node c.entry-entry.result) (the_node c.in-Either.first) (the_node c.in-Either.second) c.args.steps.now c.push_use.new.steps c.requires.worked c.entry-entry.ensures c.requires.small c.in-Either.ensures.0 c.in-Either.ensures.1 (add-one c.args.index) c.in_ok-push_use-in-Either.ensures
+returns-in_ok-push_use-in-Either c = used-either c.args.plan.now.sizes.items c.args.plan.now.marks.items c.args.branch.now c.args.index (c.args.index + 1) (the_node c.entry-entry.result) (the_node c.in-Either.first) (the_node c.in-Either.second) c.args.steps.now c.push_use.new.steps c.requires.fit c.entry-entry.ensures c.requires.few c.in-Either.ensures.0 c.in-Either.ensures.1 (add-one c.args.index) c.in_ok-push_use-in-Either.ensures
