@@ -1,7 +1,7 @@
 //! Runs over a library and a sink in memory.
 
 use crate::{exit_code, run};
-use cop_base::{MemLibrary, MemSink, Text};
+use cop_base::{FetchFault, FileLibrary, Library, MemLibrary, MemSink, Text};
 use itoa::Buffer;
 use std::alloc::Global;
 use std::test::Fail;
@@ -230,5 +230,20 @@ fn writes_in_pieces(rt: HostRuntime) -> Result<(), Fail> {
     let (code, output) = outcome(rt.alloc(), &["prove", "m.p"], texts, &[], &[(2, 0)])?;
     assert_eq!(rt; code, 6);
     assert!(rt; output.as_slice() == &derivation.as_slice()[..4096]);
+    Ok(())
+}
+
+// A name that is not UTF-8 is that of no file, and a folder is no file that can be read.
+#[test]
+fn tells_faults_of_files(rt: HostRuntime) -> Result<(), Fail> {
+    let mut library = FileLibrary::new(rt.alloc(), &rt);
+    for (name, fault) in [
+        (b"no such file".as_slice(), FetchFault::Missing),
+        (b"\xff".as_slice(), FetchFault::Missing),
+        (b"/".as_slice(), FetchFault::Failed),
+    ] {
+        let name = Text::new(rt.alloc(), name)?;
+        assert!(rt; library.fetch(&name, 10) == Err(fault));
+    }
     Ok(())
 }
