@@ -1,8 +1,9 @@
 //! The judgement of bytes as a derivation of a problem.
 
-ghost use Rattle.std.specs.Prelude.{◌≡◌, IfOk};
+ghost use Rattle.std.specs.Prelude.{◌≡◌, IfOk, IsTrue};
 ghost use Rattle.calculus.specs.Judgement as judgement;
 ghost use Rattle.calculus.specs.Judgement.{IsJudgement};
+ghost use Rattle.calculus.specs.Problems.{is_problem};
 ghost use Rattle.derivation_check.specs.VerdictView.{the_verdict};
 
 use crate::steps::judge;
@@ -21,7 +22,6 @@ pub fn check(alloc: Global, problem: &Problem, bytes: &[u8]) -> Result<Verdict, 
     // There is no other judgement of these bytes.
     ensures alone { IfOk result (λ v. (w : judgement.Verdict) → IsJudgement problem.now bytes.now w → w ≡ the_verdict v) }
 {
-    let _symbols = problem.symbols(); // the call tells that they are distinct
     match judgement_of(alloc, problem, bytes) {
         Ok(verdict) => Ok(verdict),
         Err(NoMemory) => Err(NoMemory),
@@ -29,7 +29,8 @@ pub fn check(alloc: Global, problem: &Problem, bytes: &[u8]) -> Result<Verdict, 
 }
 
 fn judgement_of(alloc: Global, problem: &Problem, bytes: &[u8]) -> Result<Verdict, NoMemory>
-    ensures { IfOk result (λ v. IsJudgement problem.now bytes.now (the_verdict v)) }
+    ensures judgement { IfOk result (λ v. IsJudgement problem.now bytes.now (the_verdict v)) }
+    ensures well { IsTrue (is_problem problem.now) }
 {
     match parse(alloc, problem, bytes) {
         Ok(derivation) => match judge(alloc, problem, &derivation) {
