@@ -4,9 +4,11 @@ ghost use Rattle.std.specs.Prelude.{◌≡◌, ◌++◌, IfOk, codes, decimal};
 ghost use Rattle.leancop_top.specs.Output.{cause_text, fault_text, status_line, step_fault_text, text_cause_text};
 
 use crate::status::{Cause, Status};
-use calculus::fault::{CheckFault, StepFault, TextCause};
 use cop_base::{NoMemory, Text};
+use derivation_check::CheckFault;
+use derivation_text::TextCause;
 use itoa::Buffer;
+use sequent_calc::StepFault;
 use std::alloc::{AllocError, Global};
 
 /// The one line that is written for a status. A derivation has its own text, and nothing is written where writing

@@ -3,8 +3,8 @@
 ghost use Rattle.std.specs.Prelude.{◌≡◌};
 ghost use Rattle.leancop_top.specs.Output.{exit_of};
 
-use calculus::fault::CheckFault;
 use cop_base::Text;
+use derivation_check::CheckFault;
 
 /// What is wrong with a problem file.
 #[derive(Clone, Copy, Debug, PartialEq, Eq)]
