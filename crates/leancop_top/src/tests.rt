@@ -229,7 +229,8 @@ fn writes_in_pieces(rt: HostRuntime) -> Result<(), Fail> {
     let texts = (text.as_slice(), b"".as_slice());
     let (code, output) = outcome(rt.alloc(), &["prove", "m.p"], texts, &[], &[(2, 0)])?;
     assert_eq!(rt; code, 6);
-    assert!(rt; output.as_slice() == &derivation.as_slice()[..4096]);
+    assert_eq!(rt; output.len(), 4096);
+    assert!(rt; derivation.as_slice().starts_with(output.as_slice()));
     Ok(())
 }
 
