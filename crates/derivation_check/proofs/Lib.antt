@@ -1,2 +1,1 @@
 pub mod Forks
-pub mod Laws

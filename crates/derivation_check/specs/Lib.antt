@@ -1,3 +1,3 @@
 pub mod Branches
 pub mod VerdictView
-pub mod Judged
+pub mod Reading

@@ -1,9 +1,10 @@
 //! The judgement of bytes as a derivation of a problem.
 
 ghost use Rattle.std.specs.Prelude.{◌≡◌, IfOk, IsTrue};
-ghost use Rattle.calculus.specs.Judgement as judgement;
-ghost use Rattle.calculus.specs.Judgement.{IsJudgement};
+ghost use Rattle.calculus.specs.Derivations as derivation;
+ghost use Rattle.calculus.specs.Judgement.{IsJudgement, IsOnlyJudgement};
 ghost use Rattle.calculus.specs.Problems.{is_problem};
+ghost use Rattle.derivation_check.specs.Reading.{AtMostOneReading};
 ghost use Rattle.derivation_check.specs.VerdictView.{the_verdict};
 
 use crate::steps::judge;
@@ -17,10 +18,10 @@ use std::alloc::Global;
 /// Judges bytes as the text of a derivation of the problem: faults of the text first, over the whole text, then those of
 /// the steps in their order, then whether a branch is open.
 pub fn check(alloc: Global, problem: &Problem, bytes: &[u8]) -> Result<Verdict, NoMemory>
-    ensures judgement { IfOk result (λ v. IsJudgement problem.now bytes.now (the_verdict v)) }
+    ensures judgement { IfOk result (λ v. IsOnlyJudgement problem.now bytes.now (the_verdict v)) }
 
-    // There is no other judgement of these bytes.
-    ensures alone { IfOk result (λ v. (w : judgement.Verdict) → IsJudgement problem.now bytes.now w → w ≡ the_verdict v) }
+    // From one sequent two readings of a list of steps leave the same rest.
+    ensures one_reading { (names : derivation.Names) → AtMostOneReading problem.now names }
 {
     match judgement_of(alloc, problem, bytes) {
         Ok(verdict) => Ok(verdict),

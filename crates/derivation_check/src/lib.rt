@@ -8,7 +8,6 @@ mod verdict;
 
 pub use calculus::fault::CheckFault;
 pub use judgement::check;
-pub use steps::judge;
 pub use verdict::Verdict;
 
 #[cfg(test)]

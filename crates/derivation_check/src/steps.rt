@@ -1,13 +1,10 @@
 //! The judgement of steps.
 
-ghost use Rattle.std.specs.Prelude.{◌≡◌, ◌↔◌, ℕ, ◌+◌, ◌∷◌, ◌≤◌, [], List, IfOk, length, map};
+ghost use Rattle.std.specs.Prelude.{◌≡◌, ◌+◌, ◌∷◌, ◌≤◌, [], List, IfOk, length, map};
 ghost use Rattle.std.specs.Option.{option_map_or};
 ghost use Rattle.calculus.specs.Derivations as derivation;
 ghost use Rattle.calculus.specs.Derivations.{first_sequent};
-ghost use Rattle.calculus.specs.Judgement.{accepted, at_end, rejected, verdict_from, verdict_on};
-ghost use Rattle.calculus.specs.Calculus.{Derives};
-ghost use Rattle.calculus.specs.declared.fault.CheckFault.{CheckFault};
-ghost use Rattle.derivation_check.specs.Judged.{AtMostOneReading, IsFirstFault};
+ghost use Rattle.calculus.specs.Judgement.{at_end, verdict_from, verdict_on};
 ghost use Rattle.derivation_check.specs.VerdictView.{the_verdict};
 ghost use Rattle.sequent_calc.specs.DerivationView.{the_derivation, the_names};
 ghost use Rattle.sequent_calc.specs.EntryView.{the_entry};
@@ -79,8 +76,9 @@ fn at_end(branches: &Branches, line: u64) -> Verdict
     }
 }
 
-// The verdict on the steps, whose first one stands in the line after those of the head and the names.
-fn judge_steps(alloc: Global, problem: &Problem, d: &Derivation) -> Result<Verdict, NoMemory>
+/// The verdict on the steps of a derivation. Lines are counted as in its text: the first step stands in the line after those
+/// of the head and the names.
+pub fn judge(alloc: Global, problem: &Problem, d: &Derivation) -> Result<Verdict, NoMemory>
     requires { 5 + length d.now.names.eigens + length d.now.names.spares + length d.now.steps ≤ 18446744073709551615 }
     ensures { IfOk result (λ v. the_verdict v ≡ verdict_on problem.now (the_derivation d.now)) }
 {
@@ -94,23 +92,4 @@ fn judge_steps(alloc: Global, problem: &Problem, d: &Derivation) -> Result<Verdi
         line += 1;
     }
     Ok(at_end(&branches, line))
-}
-
-/// The verdict on the steps of a derivation. Lines are counted as in its text.
-pub fn judge(alloc: Global, problem: &Problem, d: &Derivation) -> Result<Verdict, NoMemory>
-    requires { 5 + length d.now.names.eigens + length d.now.names.spares + length d.now.steps ≤ 18446744073709551615 }
-    ensures verdict { IfOk result (λ v. the_verdict v ≡ verdict_on problem.now (the_derivation d.now)) }
-
-    // Acceptance says that the steps derive, and a rejection tells the first step that fails.
-    ensures derives { IfOk result (λ v. (the_verdict v ≡ accepted) ↔ Derives problem.now (the_derivation d.now)) }
-    ensures fails { IfOk result (λ v. (line : ℕ) → (fault : CheckFault) → (the_verdict v ≡ rejected line fault)
-        ↔ IsFirstFault problem.now (the_derivation d.now) line fault) }
-
-    // From one sequent two readings of a list of steps leave the same rest.
-    ensures one_reading { AtMostOneReading problem.now (the_names d.now.names) }
-{
-    match judge_steps(alloc, problem, d) {
-        Ok(verdict) => Ok(verdict),
-        Err(NoMemory) => Err(NoMemory),
-    }
 }

@@ -3,6 +3,7 @@
 ghost use Rattle.std.specs.Prelude.{◌≡◌, ◌++◌, map, IsTrue, IfOk, OnOk};
 ghost use Rattle.std.specs.List.{flat_map, list_all};
 ghost use Rattle.calculus.specs.DerivationText.{IsText, eigen_line, head_lines, home_is_written, home_text, is_printable, line_bytes, modal_is_written, modal_text, spare_line, step_is_written, step_line, term_arg_is_written, term_arg_text};
+ghost use Rattle.derivation_text.specs.Single.{AtMostOneDerivation};
 ghost use Rattle.derivation_text.specs.Written.{eigen_is_written, spare_is_written};
 ghost use Rattle.sequent_calc.specs.DerivationView.{the_derivation};
 ghost use Rattle.sequent_calc.specs.NamesView.{the_eigen, the_home, the_spare};
@@ -155,11 +156,13 @@ fn write_steps(out: &mut Vec<u8>, symbols: &Symbols, steps: &StepList) -> Result
     Ok(())
 }
 
-/// The text of a derivation that can be printed: a head of four lines, a line for each name, a line for each step, and `end`. A
-/// derivation has one text, and a text is that of one derivation.
+/// The text of a derivation that can be printed: a head of four lines, a line for each name, a line for each step, and `end`.
 pub fn print(alloc: Global, problem: &Problem, d: &Derivation) -> Result<Vec<u8>, NoMemory>
     requires { IsTrue (is_printable problem.now (the_derivation d.now)) }
-    ensures { IfOk result (λ bytes. IsText problem.now (the_derivation d.now) bytes.items) }
+    ensures text { IfOk result (λ bytes. IsText problem.now (the_derivation d.now) bytes.items) }
+
+    // They are the text of no other derivation.
+    ensures one { IfOk result (λ bytes. AtMostOneDerivation problem.now bytes.items) }
 {
     let mut out = Vec::new(alloc);
     write_head(&mut out, problem, d.limit)?;

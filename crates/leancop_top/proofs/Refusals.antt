@@ -2,7 +2,7 @@
 use Rattle.std.proofs.Common.{◌≡◌, List, ℕ, Option, None, Some, refl, sym, subst}
 use Rattle.std.specs.Prelude.{IsSomeAnd}
 use Rattle.calculus.specs.Syntax.{Problem}
-use Rattle.calculus.specs.Judgement.{Verdict, IsJudgement}
+use Rattle.calculus.specs.Judgement.{Verdict, IsOnlyJudgement}
 use Rattle.cop_base.specs.Outside.{Files, file_in}
 use Rattle.propositional_reader.specs.Reading.{Reads}
 use Rattle.leancop_top.specs.declared.status.Cause.TheVariants.{Unsupported}
@@ -26,9 +26,9 @@ refused_text told file name text seen s same read e h none =
     subst (IsRefused told file) (sym e) (same, refl, refl, holds_none told file text h' none')
 
 -- the file's bytes have the judgement of those that were fetched
-pub judged_file : (told : Option Files) (P : Problem) (derivation name : Word) (text seen : List ℕ) (v : Verdict) → name ≡ derivation → seen ≡ text → Holds told name text → IsJudgement P seen v → IsJudgedIn told P derivation v
+pub judged_file : (told : Option Files) (P : Problem) (derivation name : Word) (text seen : List ℕ) (v : Verdict) → name ≡ derivation → seen ≡ text → Holds told name text → IsOnlyJudgement P seen v → IsJudgedIn told P derivation v
 judged_file told P derivation name text seen v same read h judged = record {
   text = text;
   held = subst (λ n. Holds told n text) same h;
-  judged = subst (λ t. IsJudgement P t v) read judged;
+  judged = subst (λ t. IsOnlyJudgement P t v) read judged;
 }

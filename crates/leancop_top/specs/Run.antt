@@ -5,7 +5,7 @@ use Rattle.calculus.specs.Syntax.{Problem}
 use Rattle.calculus.specs.Derivations.{Derivation}
 use Rattle.calculus.specs.Calculus.{Derives}
 use Rattle.calculus.specs.DerivationText.{IsText}
-use Rattle.calculus.specs.Judgement.{Verdict, IsJudgement, accepted, rejected}
+use Rattle.calculus.specs.Judgement.{Verdict, IsOnlyJudgement, accepted, rejected}
 use Rattle.tableau_core.specs.Closed.{HasClosed}
 use Rattle.propositional_reader.specs.Reading.{Reads}
 use Rattle.propositional_search.specs.Matrix.{FitsMatrix}
@@ -37,12 +37,13 @@ HoldsNoProblem told file = IfSome told (λ files. IsSomeAnd (file_in files file)
 
 -- ---- the search
 
--- the bytes are the text of a derivation that derives the problem and carries the limit
+-- the bytes are the text of a derivation that derives the problem and carries the limit, and so their judgement is acceptance
 pub record IsDerivation (P : Problem) (limit : ℕ) (bytes : List ℕ) : Type 0 where
   pub derivation : Derivation
   pub carries : derivation.limit ≡ limit
   pub derives : Derives P derivation
   pub text : IsText P derivation bytes
+  pub judged : IsOnlyJudgement P bytes accepted
 
 -- some tableau is closed within the limit, which is at most the greatest, and none within the one before
 pub record IsDerived (P : Problem) (limit : ℕ) (bytes : List ℕ) : Type 0 where
@@ -86,11 +87,11 @@ IsEnd P MatrixTooLarge = ¬ FitsMatrix P
 IsEnd P NoMemory = ⊤
 IsEnd P _ = ⊥
 
--- the file's bytes have this judgement as a derivation of the problem
+-- the file's bytes have this judgement as a derivation of the problem, and no other
 pub record IsJudgedIn (told : Option Files) (P : Problem) (derivation : Word) (verdict : Verdict) : Type 0 where
   pub text : List ℕ
   pub held : Holds told derivation text
-  pub judged : IsJudgement P text verdict
+  pub judged : IsOnlyJudgement P text verdict
 
 -- why judging the derivation of a file ends with a status
 abbrev pub JudgingEnds : Option Files → Problem → Word → Status → Type 0

@@ -1,8 +1,15 @@
 use Rattle.logic_rules.proofs.ProblemFacts.{kept}
-use Rattle.calculus.proofs.JudgementLaws.{judgement-unique}
+use Rattle.calculus.proofs.JudgementLaws.{judgement-only}
+use Rattle.calculus.proofs.SequentLaws.{same_rest}
 use Rattle.derivation_check.specs.VerdictView.{the_verdict}
 use Rattle.derivation_check.proofs.judgement.check.Goals as goal
 
-pub returns-in-Ok-clause-alone : goal.returns-in-Ok-clause-alone
-returns-in-Ok-clause-alone c w h =
-    judgement-unique c.args.problem.now (kept c.args.problem.now c.judgement_of.ensures.well).distinct c.args.bytes.now w (the_verdict c.in-Ok.verdict) h c.in-Ok.ensures.judgement
+pub returns-in-Ok-clause-judgement : goal.returns-in-Ok-clause-judgement
+returns-in-Ok-clause-judgement c =
+    judgement-only c.args.problem.now (kept c.args.problem.now c.judgement_of.ensures.well).distinct c.args.bytes.now (the_verdict c.in-Ok.verdict) c.in-Ok.ensures.judgement
+
+pub returns-in-Ok-clause-one_reading : goal.returns-in-Ok-clause-one_reading
+returns-in-Ok-clause-one_reading c names s steps rest other first second = same_rest c.args.problem.now names first other second
+
+pub returns-in-Err-clause-one_reading : goal.returns-in-Err-clause-one_reading
+returns-in-Err-clause-one_reading c names s steps rest other first second = same_rest c.args.problem.now names first other second

@@ -2,7 +2,7 @@ use Rattle.std.proofs.Common.{◌≡◌, ◌+◌, length, map, drop}
 use Rattle.calculus.specs.Judgement.{verdict_from, verdict_on}
 use Rattle.sequent_calc.specs.DerivationView.{the_derivation, the_names}
 use Rattle.sequent_calc.specs.StepView.{the_step}
-use Rattle.derivation_check.proofs.steps.judge_steps.Given as goal
+use Rattle.derivation_check.proofs.steps.judge.Given as goal
 
 abbrev pub invariant-loop-step : goal.invariant-loop-step
 invariant-loop-step l =
