@@ -9,14 +9,9 @@ ghost use Rattle.formula_text.specs.Known.{is_named};
 ghost use Rattle.formula_text.specs.Single.{NameTextsDiffer};
 
 use crate::append::{put_byte, put_bytes, settle};
+use calculus::byte::{is_lower, is_word_byte};
 use cop_base::{NoMemory, SymbolId};
 use formula_core::{Symbol, SymbolClass, Symbols};
-
-pub fn is_word_byte(byte: u8) -> bool
-    ensures { result ≡ is_word_byte byte }
-{
-    byte.is_ascii_alphanumeric() || byte == b'_'
-}
 
 fn are_word_bytes(bytes: &[u8]) -> bool
     ensures { result ≡ list_all is_word_byte bytes.now }
@@ -30,7 +25,7 @@ pub fn is_lower_word(name: &[u8]) -> bool
 {
     match name {
         [] => false,
-        [first, rest @ ..] => { first.is_ascii_lowercase() && are_word_bytes(rest) }
+        [first, rest @ ..] => { is_lower(*first) && are_word_bytes(rest) }
     }
 }
 

@@ -2,14 +2,14 @@
 
 ghost use Rattle.std.specs.Prelude.{◌≡◌, ◌≢◌, ◌+◌, ◌≤◌, ◌<◌, ◌∷◌, ◌++◌, [], ℕ, List, length, drop, false, Some, None, Err, IsTrue, IfOk, OnOk, ◌↔◌};
 ghost use Rattle.calculus.specs.DerivationText.{IsNameAt};
-ghost use Rattle.calculus.specs.Problems.{is_name_byte};
 ghost use Rattle.calculus.specs.Text.{StopsAt, is_word_byte};
 ghost use Rattle.formula_text.specs.Quoted.{IsWhole, begins_lower, byte_kind, is_special, quoted_at};
 ghost use Rattle.formula_text.specs.Single.{AtMostOneName};
 
-use crate::name::{is_lower_word, is_word_byte};
+use crate::name::is_lower_word;
 use crate::read::TextRead;
 use crate::scan::{byte_at, count_word_bytes, rest_of};
+use calculus::byte::{is_lower, is_name_byte, is_word_byte};
 use cop_base::{NoMemory, Text};
 use std::alloc::{AllocFailed, Global};
 
@@ -29,12 +29,6 @@ fn is_special(byte: u8) -> bool
     ensures { result ≡ is_special byte }
 {
     byte == b'\'' || byte == b'\\'
-}
-
-fn is_name_byte(byte: u8) -> bool
-    ensures { result ≡ is_name_byte byte }
-{
-    (byte >= 32 && byte <= 126) || byte >= 128
 }
 
 // `pending` tells whether a `\` stands before the byte.
@@ -164,7 +158,7 @@ pub fn read_name(alloc: Global, text: &[u8], from: usize) -> Result<(Text, usize
 {
     match byte_at(text, from) {
         Some(b'\'') => read_quoted(alloc, text, from),
-        Some(byte) => if byte.is_ascii_lowercase() {
+        Some(byte) => if is_lower(byte) {
             read_bare(alloc, text, from)
         } else {
             Err(TextRead::None)

@@ -4,7 +4,7 @@ ghost use Rattle.std.specs.Prelude.{◌≡◌, ◌+◌, ◌^◌, ◌<◌, ◌≤
 ghost use Rattle.calculus.specs.Text.{is_digit, is_word_byte};
 ghost use Rattle.formula_text.specs.Runs.{IsRun, IsNumberAt};
 
-use crate::name::is_word_byte;
+use calculus::byte::{is_digit, is_word_byte};
 use itoa::Buffer;
 use std::str;
 
@@ -46,7 +46,7 @@ fn count_digits(text: &[u8]) -> usize
     ensures { IsRun is_digit text.now result }
 {
     for (i, byte) in text.iter().enumerate() {
-        if !byte.is_ascii_digit() {
+        if !is_digit(*byte) {
             return i;
         }
     }

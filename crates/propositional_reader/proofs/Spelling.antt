@@ -4,10 +4,10 @@ use Rattle.std.specs.List.{list_all}
 use Rattle.std.proofs.lemmas.Bool.{false≢true, and_parts, and_from}
 use Rattle.std.proofs.lemmas.Bool.Decides.{nat_tests}
 use Rattle.std.proofs.lemmas.List.{length-append}
-use Rattle.calculus.specs.Text.{is_lower, is_upper, is_digit, is_lower_word, is_word_byte}
+use Rattle.calculus.specs.Text.{is_lower, is_upper, is_digit, is_lower_word, is_space, is_word_byte}
 use Rattle.calculus.proofs.TextLaws.{cons-head, cons-tail, nil-cons, split-run}
 use Rattle.propositional_reader.specs.Reading.{words_of}
-use Rattle.propositional_reader.specs.Tokens.{Token, word, open_bracket, close_bracket, comma, dot, tilde, ampersand, bar, arrow, spelling, is_space, IsWhole, Spells, nothing, a_space, a_token, Starts}
+use Rattle.propositional_reader.specs.Tokens.{Token, word, open_bracket, close_bracket, comma, dot, tilde, ampersand, bar, arrow, spelling, IsWhole, Spells, nothing, a_space, a_token, Starts}
 
 lower-word : (b : ℕ) → is_lower b ≡ true → is_word_byte b ≡ true
 lower-word b h = by (is_lower b) h

@@ -1,6 +1,6 @@
 -- The tokens of a propositional text, and how bytes spell them.
-use Rattle.std.specs.Prelude.{◌≡◌, ⊤, ℕ, List, [], ◌∷◌, ◌++◌, Bool, ◌&&◌, ◌||◌, ◌==◌, IsTrue, nat_le, codes}
-use Rattle.calculus.specs.Text.{StopsAt, is_lower_word, is_word_byte}
+use Rattle.std.specs.Prelude.{◌≡◌, ⊤, ℕ, List, [], ◌∷◌, ◌++◌, IsTrue, codes}
+use Rattle.calculus.specs.Text.{StopsAt, is_lower_word, is_space, is_word_byte}
 
 pub data Token : Type 0 where
   word : List ℕ → Token
@@ -16,10 +16,6 @@ spelling tilde = codes "~"
 spelling ampersand = codes "&"
 spelling bar = codes "|"
 spelling arrow = codes "=>"
-
--- space, tab, line feed, vertical tab, form feed and carriage return
-abbrev pub is_space : ℕ → Bool
-is_space b = b == 32 || (nat_le 9 b && nat_le b 13)
 
 -- A word is a Lower word of TPTP, and goes on as far as it can. Of a sign nothing need be said: the longer signs of TPTP
 -- that begin with one of these are `~&` and `~|`, and no formula has its two signs side by side.

@@ -2,12 +2,13 @@
 
 ghost use Rattle.std.specs.Prelude.{◌≡◌, ◌≤◌, ◌∷◌, ℕ, List, length, take, drop, map, IsTrue, IsNone, IfSome, IfOk};
 ghost use Rattle.std.specs.List.{list_all};
-ghost use Rattle.calculus.specs.Text.{StopsAt, is_lower, is_word_byte};
+ghost use Rattle.calculus.specs.Text.{StopsAt, is_word_byte};
 ghost use Rattle.propositional_reader.specs.Tokens as spelled;
-ghost use Rattle.propositional_reader.specs.Tokens.{Spells, Starts, is_space};
+ghost use Rattle.propositional_reader.specs.Tokens.{Spells, Starts};
 ghost use Rattle.propositional_reader.specs.Views.{the_token};
 
 use crate::reading::ReadRefusal;
+use calculus::byte::{is_space, is_word_byte};
 use std::alloc::Global;
 
 #[derive(Clone, Copy)]
@@ -21,27 +22,6 @@ pub enum Token<'a> {
     And,
     Or,
     Implies,
-}
-
-fn is_space(byte: u8) -> bool
-    ensures { result ≡ is_space byte }
-{
-    byte == b' ' || (9 <= byte && byte <= 13)
-}
-
-fn is_lower(byte: u8) -> bool
-    ensures { result ≡ is_lower byte }
-{
-    b'a' <= byte && byte <= b'z'
-}
-
-fn is_word_byte(byte: u8) -> bool
-    ensures { result ≡ is_word_byte byte }
-{
-    is_lower(byte)
-        || (b'A' <= byte && byte <= b'Z')
-        || (b'0' <= byte && byte <= b'9')
-        || byte == b'_'
 }
 
 // How many bytes at the front may stand in a word.

@@ -1,9 +1,10 @@
 -- Text between quotes: the code's way takes it whole, and what it takes is one.
 use Rattle.std.proofs.Common.{◌≡◌, ◌≢◌, ℕ, List, [], ◌∷◌, ◌++◌, Bool, true, false, ◌||◌, ◌==◌, None, Some, inl, inr, ◌⊎◌, refl, sym, ◌∙◌, ap, subst, if◌then◌else◌}
 use Rattle.std.proofs.lemmas.Bool.{eqb-true, eqb-false, eq-eqb, ne_eqb}
+use Rattle.calculus.specs.Problems.{is_name_byte}
 use Rattle.calculus.proofs.TextLaws.{cons-head}
 use Rattle.tptp_lex.specs.Scanning.{after_name, after_quoted}
-use Rattle.tptp_lex.specs.Tokens.{IsQuotable, nothing, a_byte, a_quote, a_backslash, is_printable}
+use Rattle.tptp_lex.specs.Tokens.{IsQuotable, nothing, a_byte, a_quote, a_backslash}
 use Rattle.tptp_lex.proofs.Runs.{both-cons, none-some, some-is}
 
 pub quotable-over : (quote : ℕ) (bs rest : List ℕ) → (92 == quote) ≡ false → IsQuotable quote bs → after_quoted quote false (bs ++ quote ∷ rest) ≡ Some rest
@@ -35,9 +36,9 @@ quoted-split quote true (b ∷ bs) rest h = by (b == quote) (b == 92) refl refl 
     by true k e f h on = quoted-pair quote b bs rest (inl (eqb-true b quote e)) (on h)
     by false true e f h on = quoted-pair quote b bs rest (inr (eqb-true b 92 f)) (on h)
     by false false e f h on = absurd (none-some h)
-quoted-split quote false (b ∷ bs) rest h = by (b == quote) (b == 92) (is_printable b) refl refl refl h (quoted-split quote true bs rest) (quoted-split quote false bs rest)
+quoted-split quote false (b ∷ bs) rest h = by (b == quote) (b == 92) (is_name_byte b) refl refl refl h (quoted-split quote true bs rest) (quoted-split quote false bs rest)
   where
-    by : (q k p : Bool) → (b == quote) ≡ q → (b == 92) ≡ k → is_printable b ≡ p → (if q then Some bs else (if k then after_quoted quote true bs else (if p then after_quoted quote false bs else None))) ≡ Some rest
+    by : (q k p : Bool) → (b == quote) ≡ q → (b == 92) ≡ k → is_name_byte b ≡ p → (if q then Some bs else (if k then after_quoted quote true bs else (if p then after_quoted quote false bs else None))) ≡ Some rest
         → (after_quoted quote true bs ≡ Some rest → QuotedSplit quote (92 ∷ bs) rest) → (after_quoted quote false bs ≡ Some rest → QuotedSplit quote bs rest) → QuotedSplit quote (b ∷ bs) rest
     by true k p e f g h pair on = record { body = []; split = both-cons (eqb-true b quote e) (some-is h); quotable = nothing }
     by false true p e f g h pair on = subst (λ c. QuotedSplit quote (c ∷ bs) rest) (sym (eqb-true b 92 f)) (pair h)

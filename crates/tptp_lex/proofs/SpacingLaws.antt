@@ -2,10 +2,10 @@
 use Rattle.std.proofs.Common.{◌≡◌, ℕ, ◌<◌, List, [], ◌∷◌, ◌++◌, Bool, true, false, ◌==◌, None, Some, refl, sym, ◌∙◌, ap, subst, length, if◌then◌else◌, append_assoc, arith}
 use Rattle.std.proofs.lemmas.Bool.{eqb-true, eqb-false, not-false}
 use Rattle.std.proofs.lemmas.List.{length-append}
-use Rattle.calculus.specs.Text.{StopsAt}
+use Rattle.calculus.specs.Text.{StopsAt, is_space}
 use Rattle.calculus.proofs.TextLaws.{cons-head, cons-tail, nil-cons}
 use Rattle.tptp_lex.specs.Scanning.{after_block, after_run, after_slash, after_space}
-use Rattle.tptp_lex.specs.Spacing.{EndsLine, StaysOpen, Skips, done, more, SkipsOne, a_space, a_line, a_block, is_in_line, is_space}
+use Rattle.tptp_lex.specs.Spacing.{EndsLine, StaysOpen, Skips, done, more, SkipsOne, a_space, a_line, a_block, is_in_line}
 use Rattle.tptp_lex.proofs.Runs.{both-cons, none-some, run-over, run-split, some-is}
 
 -- ---- lines

@@ -4,11 +4,10 @@ use Rattle.std.specs.List.{list_all}
 use Rattle.std.specs.Option.{option_map}
 use Rattle.std.proofs.lemmas.Bool.{false≢true, and_parts, and_from, eqb-true}
 use Rattle.std.proofs.lemmas.Bool.Decides.{nat_tests}
-use Rattle.calculus.specs.Text.{is_digit, is_lower, is_lower_word, is_upper, is_word_byte}
+use Rattle.calculus.specs.Text.{is_digit, is_lower, is_lower_word, is_space, is_upper, is_word_byte}
 use Rattle.tptp_lex.specs.declared.tokens.TokenKind.{TokenKind}
 use Rattle.tptp_lex.specs.declared.tokens.TokenKind.TheVariants.{Lower, Upper, Dollar, Hash, Quoted, Distinct, Number, Sign}
 use Rattle.tptp_lex.specs.Scanning.{after_byte, after_kind, after_lower, after_name, after_number, after_number_sign, after_quoted, after_run, after_space, after_token, is_number_sign, kind_at}
-use Rattle.tptp_lex.specs.Spacing.{is_space}
 use Rattle.tptp_lex.specs.Tokens.{IsNumberSign, no_sign, plus, minus, IsToken, lower, upper, dollar, two_dollars, hash, quoted, distinct, number, sign, is_digits}
 use Rattle.tptp_lex.proofs.NumberLaws.{digit-no-sign, NumberTaken, number-over, number-split}
 use Rattle.tptp_lex.proofs.Runs.{both-cons, lower-over, lower-split, none-some, run-over, run-shorter, run-split, some-is}

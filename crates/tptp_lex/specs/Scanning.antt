@@ -2,11 +2,11 @@
 -- to believe: `Tokens` and `Spacing` say what these are, and the proofs tie this way to them.
 use Rattle.std.specs.Prelude.{ℕ, List, [], ◌∷◌, Bool, true, false, ◌&&◌, ◌||◌, ◌==◌, Option, None, Some, if◌then◌else◌}
 use Rattle.std.specs.Option.{option_map, unwrap_or}
-use Rattle.calculus.specs.Text.{is_digit, is_lower, is_upper, is_word_byte}
+use Rattle.calculus.specs.Problems.{is_name_byte}
+use Rattle.calculus.specs.Text.{is_digit, is_lower, is_space, is_upper, is_word_byte}
 use Rattle.tptp_lex.specs.declared.tokens.TokenKind.{TokenKind}
 use Rattle.tptp_lex.specs.declared.tokens.TokenKind.TheVariants.{Lower, Upper, Dollar, Hash, Quoted, Distinct, Number, Sign}
-use Rattle.tptp_lex.specs.Spacing.{is_in_line, is_space}
-use Rattle.tptp_lex.specs.Tokens.{is_printable}
+use Rattle.tptp_lex.specs.Spacing.{is_in_line}
 
 -- behind the bytes at the front that pass
 abbrev pub after_run : (ℕ → Bool) → List ℕ → List ℕ
@@ -50,7 +50,7 @@ after_quoted quote true (b ∷ bs) = if b == quote || b == 92 then after_quoted 
 after_quoted quote false (b ∷ bs) =
     if b == quote then Some bs
     else (if b == 92 then after_quoted quote true bs
-    else (if is_printable b then after_quoted quote false bs
+    else (if is_name_byte b then after_quoted quote false bs
     else None))
 
 -- behind a quoted name with at least one character

@@ -1,10 +1,7 @@
 -- What may stand between tokens and means nothing: white space and comments.
-use Rattle.std.specs.Prelude.{◌≡◌, ◌≢◌, ⊤, ℕ, List, [], ◌∷◌, ◌++◌, Bool, not, ◌||◌, ◌==◌, IsTrue}
+use Rattle.std.specs.Prelude.{◌≡◌, ◌≢◌, ⊤, ℕ, List, [], ◌∷◌, ◌++◌, Bool, not, ◌==◌, IsTrue}
 use Rattle.std.specs.List.{list_all}
-
--- space, tab, line feed, vertical tab, form feed and carriage return
-abbrev pub is_space : ℕ → Bool
-is_space b = b == 32 || b == 9 || b == 10 || b == 11 || b == 12 || b == 13
+use Rattle.calculus.specs.Text.{is_space}
 
 abbrev pub is_in_line : ℕ → Bool
 is_in_line b = not (b == 10)

@@ -1,6 +1,7 @@
 -- The tokens of TPTP: which lists of bytes are a token of each kind.
-use Rattle.std.specs.Prelude.{◌≢◌, ℕ, List, [], ◌∷◌, ◌++◌, Bool, false, not, ◌&&◌, ◌==◌, IsTrue, nat_le, codes}
+use Rattle.std.specs.Prelude.{◌≢◌, ℕ, List, [], ◌∷◌, ◌++◌, Bool, false, ◌&&◌, IsTrue, codes}
 use Rattle.std.specs.List.{list_all}
+use Rattle.calculus.specs.Problems.{is_name_byte}
 use Rattle.calculus.specs.Text.{is_digit, is_lower_word, is_upper, is_word_byte}
 use Rattle.tptp_lex.specs.declared.tokens.TokenKind.{TokenKind}
 use Rattle.tptp_lex.specs.declared.tokens.TokenKind.TheVariants.{Lower, Upper, Dollar, Hash, Quoted, Distinct, Number, Sign}
@@ -15,14 +16,10 @@ abbrev pub is_digits : List ℕ → Bool
 is_digits [] = false
 is_digits (b ∷ bs) = is_digit b && list_all is_digit bs
 
--- a byte from 32 to 126, or from 128 to 255
-abbrev pub is_printable : ℕ → Bool
-is_printable b = nat_le 32 b && not (b == 127)
-
--- What may stand between two quotes: printable bytes other than the quote and `\`, and pairs of `\` and one of these.
+-- What may stand between two quotes: the bytes of names, from 32 on and not 127, other than the quote and `\`, and pairs of `\` and one of these.
 pub data IsQuotable (quote : ℕ) : List ℕ → Type 0 where
   nothing : IsQuotable quote []
-  a_byte : (b : ℕ) (bs : List ℕ) → b ≢ quote → b ≢ 92 → IsTrue (is_printable b) → IsQuotable quote bs → IsQuotable quote (b ∷ bs)
+  a_byte : (b : ℕ) (bs : List ℕ) → b ≢ quote → b ≢ 92 → IsTrue (is_name_byte b) → IsQuotable quote bs → IsQuotable quote (b ∷ bs)
   a_quote : (bs : List ℕ) → IsQuotable quote bs → IsQuotable quote (92 ∷ quote ∷ bs)
   a_backslash : (bs : List ℕ) → IsQuotable quote bs → IsQuotable quote (92 ∷ 92 ∷ bs)
 

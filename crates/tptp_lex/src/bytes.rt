@@ -1,62 +1,19 @@
-//! Kinds of bytes, and what is left behind a run of one kind.
+//! What is left behind a byte, or behind a run of bytes of one kind.
 
-ghost use Rattle.std.specs.Prelude.{◌≡◌};
+ghost use Rattle.std.specs.Prelude.{◌≡◌, Bool, ℕ};
 ghost use Rattle.std.specs.Option.{option_copied};
-ghost use Rattle.calculus.specs.Text.{is_digit, is_lower, is_upper, is_word_byte};
 ghost use Rattle.tptp_lex.specs.Scanning.{after_byte, after_digits, after_lower, after_run};
-ghost use Rattle.tptp_lex.specs.Tokens.{is_printable};
 
-pub fn is_lower(byte: u8) -> bool
-    ensures { result ≡ is_lower byte }
-{
-    b'a' <= byte && byte <= b'z'
-}
+use calculus::byte::{is_digit, is_lower, is_word_byte};
 
-pub fn is_upper(byte: u8) -> bool
-    ensures { result ≡ is_upper byte }
-{
-    b'A' <= byte && byte <= b'Z'
-}
-
-pub fn is_digit(byte: u8) -> bool
-    ensures { result ≡ is_digit byte }
-{
-    b'0' <= byte && byte <= b'9'
-}
-
-fn is_word_byte(byte: u8) -> bool
-    ensures { result ≡ is_word_byte byte }
-{
-    is_lower(byte) || is_upper(byte) || is_digit(byte) || byte == b'_'
-}
-
-pub fn is_printable(byte: u8) -> bool
-    ensures { result ≡ is_printable byte }
-{
-    b' ' <= byte && byte != 127
-}
-
-// Behind the letters, digits and `_` at the front.
-pub fn after_word(bytes: &[u8]) -> &[u8]
-    ensures { result.now ≡ after_run is_word_byte bytes.now }
+// Behind the bytes at the front that pass the test.
+pub fn after_run(bytes: &[u8], test: fn(u8) -> bool) -> &[u8]
+    requires { IsAlwaysCallable test }
+    ensures { (p : ℕ → Bool) → ((b : ℕ) (r : Bool) → post test b r → r ≡ p b) → result.now ≡ after_run p bytes.now }
 {
     let mut rest = bytes;
     while let Some((first, after)) = rest.split_first() {
-        if !is_word_byte(*first) {
-            return rest;
-        }
-        rest = after;
-    }
-    rest
-}
-
-// Behind the digits at the front.
-fn after_run_of_digits(bytes: &[u8]) -> &[u8]
-    ensures { result.now ≡ after_run is_digit bytes.now }
-{
-    let mut rest = bytes;
-    while let Some((first, after)) = rest.split_first() {
-        if !is_digit(*first) {
+        if !test(*first) {
             return rest;
         }
         rest = after;
@@ -70,7 +27,7 @@ pub fn after_lower(bytes: &[u8]) -> Option<&[u8]>
 {
     let (first, after) = bytes.split_first()?;
     if is_lower(*first) {
-        Some(after_word(after))
+        Some(after_run(after, is_word_byte))
     } else {
         None
     }
@@ -82,7 +39,7 @@ pub fn after_digits(bytes: &[u8]) -> Option<&[u8]>
 {
     let (first, after) = bytes.split_first()?;
     if is_digit(*first) {
-        Some(after_run_of_digits(after))
+        Some(after_run(after, is_digit))
     } else {
         None
     }

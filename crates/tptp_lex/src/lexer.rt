@@ -5,12 +5,13 @@ ghost use Rattle.std.specs.Option.{option_copied};
 ghost use Rattle.tptp_lex.specs.Answers.{IsAnswer};
 ghost use Rattle.tptp_lex.specs.Scanning.{after_kind, after_token, kind_at};
 
-use crate::bytes::{after_byte, after_lower, after_word, is_digit, is_lower, is_upper};
+use crate::bytes::{after_byte, after_lower, after_run};
 use crate::numbers::{after_number, after_number_sign, is_number_sign};
 use crate::quotes::{after_name, after_quoted};
 use crate::signs::after_sign;
 use crate::spacing::after_spacing;
 use crate::tokens::{LexFault, Token, TokenKind};
+use calculus::byte::{is_digit, is_lower, is_upper, is_word_byte};
 
 // The kind of a token by its first byte.
 fn kind_at(first: u8) -> TokenKind
@@ -41,7 +42,7 @@ fn after_kind<'a>(kind: TokenKind, first: u8, after: &'a [u8], bytes: &'a [u8]) 
     ensures { option_copied result ≡ after_kind kind first after.now }
 {
     match kind {
-        TokenKind::Lower | TokenKind::Upper => Some(after_word(after)),
+        TokenKind::Lower | TokenKind::Upper => Some(after_run(after, is_word_byte)),
         TokenKind::Dollar => after_lower(after_byte(after, b'$')),
         TokenKind::Hash => after_lower(after),
         TokenKind::Quoted => after_name(after),

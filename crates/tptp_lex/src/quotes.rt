@@ -4,7 +4,7 @@ ghost use Rattle.std.specs.Prelude.{◌≡◌, false};
 ghost use Rattle.std.specs.Option.{option_copied};
 ghost use Rattle.tptp_lex.specs.Scanning.{after_name, after_quoted};
 
-use crate::bytes::is_printable;
+use calculus::byte::is_name_byte;
 
 /// Behind the closing quote.
 pub fn after_quoted(bytes: &[u8], quote: u8) -> Option<&[u8]>
@@ -23,7 +23,7 @@ pub fn after_quoted(bytes: &[u8], quote: u8) -> Option<&[u8]>
             return Some(after);
         } else if *first == b'\\' {
             escaped = true;
-        } else if !is_printable(*first) {
+        } else if !is_name_byte(*first) {
             return None;
         }
         rest = after;

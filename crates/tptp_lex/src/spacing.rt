@@ -2,27 +2,16 @@
 
 ghost use Rattle.std.specs.Prelude.{◌≡◌, ◌≤◌, None, drop, false, length};
 ghost use Rattle.std.specs.Option.{option_copied};
-ghost use Rattle.tptp_lex.specs.Scanning.{after_block, after_run, after_slash, after_space};
-ghost use Rattle.tptp_lex.specs.Spacing.{Skips, is_in_line, is_space};
+ghost use Rattle.tptp_lex.specs.Scanning.{after_block, after_slash, after_space};
+ghost use Rattle.tptp_lex.specs.Spacing.{Skips, is_in_line};
 
-fn is_space(byte: u8) -> bool
-    ensures { result ≡ is_space byte }
-{
-    byte == b' ' || byte == b'\t' || byte == b'\n' || byte == 11 || byte == 12 || byte == b'\r'
-}
+use crate::bytes::after_run;
+use calculus::byte::is_space;
 
-// Behind the line; its line feed is left.
-fn after_line(bytes: &[u8]) -> &[u8]
-    ensures { result.now ≡ after_run is_in_line bytes.now }
+fn is_in_line(byte: u8) -> bool
+    ensures { result ≡ is_in_line byte }
 {
-    let mut rest = bytes;
-    while let Some((first, after)) = rest.split_first() {
-        if *first == b'\n' {
-            return rest;
-        }
-        rest = after;
-    }
-    rest
+    byte != b'\n'
 }
 
 // Behind the first `*/`.
@@ -61,7 +50,7 @@ fn after_space(bytes: &[u8]) -> Option<&[u8]>
     if is_space(*first) {
         Some(after)
     } else if *first == b'%' {
-        Some(after_line(after))
+        Some(after_run(after, is_in_line))
     } else if *first == b'/' {
         after_slash(after)
     } else {
