@@ -1,18 +1,11 @@
-//! The lines behind the head of a derivation's text.
+//! The lines behind the head of a derivation's text, and their order.
 
-ghost use Rattle.std.specs.Prelude.{◌≡◌, ◌++◌, ◌∷◌, [], Err, IfOk, IsTrue, None, Some};
-ghost use Rattle.calculus.specs.Problems.{is_problem};
-ghost use Rattle.derivation_text.specs.Body as body;
-ghost use Rattle.derivation_text.specs.Body.{IsBodyLine, stage_after};
+ghost use Rattle.std.specs.Prelude.{◌≡◌};
+ghost use Rattle.derivation_text.specs.Body.{stage_after};
 ghost use Rattle.derivation_text.specs.BodyView.{the_body_line};
 
-use crate::name_line_reader::{read_eigen, read_spare};
-use crate::part_reader::rest_behind;
-use crate::step_reader::read_step;
-use formula_text::TextRead;
-use logic_rules::{Label, Problem};
+use logic_rules::Label;
 use sequent_calc::{Home, Step};
-use std::alloc::Global;
 
 /// A line behind the head.
 #[derive(Drop)]
@@ -33,8 +26,8 @@ pub enum Stage {
     Ended,
 }
 
-// The stage behind one line more, if it may stand there.
-fn stage_after(stage: Stage, line: &BodyLine) -> Option<Stage>
+/// The stage behind one line more, if it may stand there.
+pub fn stage_after(stage: Stage, line: &BodyLine) -> Option<Stage>
     ensures { result ≡ stage_after stage (the_body_line line.now) }
 {
     match (stage, line) {
@@ -52,52 +45,5 @@ fn stage_after(stage: Stage, line: &BodyLine) -> Option<Stage>
         ),
         (Stage::Eigens(_) | Stage::Spares(_) | Stage::Steps, BodyLine::End) => Some(Stage::Ended),
         _ => None,
-    }
-}
-
-fn read_body_line(alloc: Global, problem: &Problem, text: &[u8]) -> Result<BodyLine, TextRead>
-    ensures ok { IfOk result (λ x. IsBodyLine problem.now.symbols text.now (the_body_line x)) }
-    ensures none { result ≡ Err TextRead.None → (x : body.BodyLine) → ¬ IsBodyLine problem.now.symbols text.now x }
-{
-    if text == b"end".as_slice() {
-        return Ok(BodyLine::End);
-    }
-    if let Some(rest) = rest_behind(text, b"name $$e") {
-        return match read_eigen(alloc, rest) {
-            Ok((number, home)) => Ok(BodyLine::Eigen(number, home)),
-            Err(fault) => Err(fault),
-        };
-    }
-    if let Some(rest) = rest_behind(text, b"name $$s") {
-        return match read_spare(alloc, rest) {
-            Ok((number, home)) => Ok(BodyLine::Spare(number, home)),
-            Err(fault) => Err(fault),
-        };
-    }
-    match read_step(alloc, problem, text) {
-        Ok(step) => Ok(BodyLine::Step(step)),
-        Err(fault) => Err(fault),
-    }
-}
-
-/// The line that the text is, if it may stand at a stage, and the stage behind it.
-pub fn read_next(
-    alloc: Global,
-    problem: &Problem,
-    stage: Stage,
-    text: &[u8],
-) -> Result<(BodyLine, Stage), TextRead>
-    requires { IsTrue (is_problem problem.now) }
-    ensures ok { IfOk result (λ r. IsBodyLine problem.now.symbols text.now (the_body_line r.0)) }
-    ensures stage { IfOk result (λ r. stage_after stage (the_body_line r.0) ≡ Some r.1) }
-    ensures none { result ≡ Err TextRead.None → (x : body.BodyLine) → IsBodyLine problem.now.symbols text.now x → stage_after stage x ≡ None }
-{
-    let line = match read_body_line(alloc, problem, text) {
-        Ok(line) => line,
-        Err(fault) => return Err(fault),
-    };
-    match stage_after(stage, &line) {
-        Some(next) => Ok((line, next)),
-        None => Err(TextRead::None),
     }
 }

@@ -1,56 +1,62 @@
 //! Reading the lines behind the head.
 
-ghost use Rattle.std.specs.Prelude.{◌≡◌, OnOk};
-ghost use Rattle.calculus.specs.Judgement.{is_name_line};
+ghost use Rattle.std.specs.Prelude.{◌≡◌, Err, IfOk, IsTrue, None, Some};
+ghost use Rattle.calculus.specs.Problems.{is_problem};
+ghost use Rattle.derivation_text.specs.Body as body;
+ghost use Rattle.derivation_text.specs.Body.{IsBodyLine, stage_after};
 ghost use Rattle.derivation_text.specs.BodyView.{the_body_line};
-ghost use Rattle.derivation_text.specs.Reading.{cause_behind, with_line};
-ghost use Rattle.sequent_calc.specs.DerivationView.{the_derivation};
-ghost use Rattle.std.specs.Prelude.{Some, None};
 
-use crate::body_line::{BodyLine, Stage};
-use calculus::fault::TextCause;
-use cop_base::NoMemory;
-use sequent_calc::Derivation;
+use crate::body_line::{BodyLine, Stage, stage_after};
+use crate::name_line_reader::{read_eigen, read_spare};
+use crate::part_reader::rest_behind;
+use crate::step_reader::read_step;
+use formula_text::TextRead;
+use logic_rules::Problem;
+use std::alloc::Global;
 
-// Puts a line behind those of a derivation.
-pub fn put_line(d: &mut Derivation, line: BodyLine) -> Result<(), NoMemory>
-    ensures { OnOk result (the_derivation d.new ≡ with_line (the_derivation d.old) (the_body_line line)) }
+fn read_body_line(alloc: Global, problem: &Problem, text: &[u8]) -> Result<BodyLine, TextRead>
+    ensures ok { IfOk result (λ x. IsBodyLine problem.now.symbols text.now (the_body_line x)) }
+    ensures none { result ≡ Err TextRead.None → (x : body.BodyLine) → ¬ IsBodyLine problem.now.symbols text.now x }
 {
-    match line {
-        BodyLine::Eigen(number, home) => d.names.eigens.push((number, home)),
-        BodyLine::Spare(number, home) => d.names.spares.push((number, home)),
-        BodyLine::Step(step) => d.steps.push(step),
-        BodyLine::End => Ok(()),
+    if text == b"end".as_slice() {
+        return Ok(BodyLine::End);
+    }
+    if let Some(rest) = rest_behind(text, b"name $$e") {
+        return match read_eigen(alloc, rest) {
+            Ok((number, home)) => Ok(BodyLine::Eigen(number, home)),
+            Err(fault) => Err(fault),
+        };
+    }
+    if let Some(rest) = rest_behind(text, b"name $$s") {
+        return match read_spare(alloc, rest) {
+            Ok((number, home)) => Ok(BodyLine::Spare(number, home)),
+            Err(fault) => Err(fault),
+        };
+    }
+    match read_step(alloc, problem, text) {
+        Ok(step) => Ok(BodyLine::Step(step)),
+        Err(fault) => Err(fault),
     }
 }
 
-fn is_name_line(line: &[u8]) -> bool
-    ensures { result ≡ is_name_line line.now }
+/// The line that the text is, if it may stand at a stage, and the stage behind it.
+pub fn read_next(
+    alloc: Global,
+    problem: &Problem,
+    stage: Stage,
+    text: &[u8],
+) -> Result<(BodyLine, Stage), TextRead>
+    requires { IsTrue (is_problem problem.now) }
+    ensures ok { IfOk result (λ r. IsBodyLine problem.now.symbols text.now (the_body_line r.0)) }
+    ensures stage { IfOk result (λ r. stage_after stage (the_body_line r.0) ≡ Some r.1) }
+    ensures none { result ≡ Err TextRead.None → (x : body.BodyLine) → IsBodyLine problem.now.symbols text.now x → stage_after stage x ≡ None }
 {
-    line.starts_with(b"name ")
-}
-
-// The cause where a whole line may not stand at a stage.
-pub fn cause_at_line(stage: Stage, line: &[u8]) -> TextCause
-    ensures { result ≡ cause_behind stage (Some line.now) }
-{
-    match stage {
-        Stage::Eigens(_) | Stage::Spares(_) => if is_name_line(line) {
-            TextCause::Name
-        } else {
-            TextCause::Line
-        },
-        Stage::Steps => TextCause::Line,
-        Stage::Ended => TextCause::TextAfterEnd,
-    }
-}
-
-// The cause where no whole line follows.
-pub fn cause_at_end(stage: Stage) -> TextCause
-    ensures { result ≡ cause_behind stage None }
-{
-    match stage {
-        Stage::Eigens(_) | Stage::Spares(_) | Stage::Steps => TextCause::Line,
-        Stage::Ended => TextCause::TextAfterEnd,
+    let line = match read_body_line(alloc, problem, text) {
+        Ok(line) => line,
+        Err(fault) => return Err(fault),
+    };
+    match stage_after(stage, &line) {
+        Some(next) => Ok((line, next)),
+        None => Err(TextRead::None),
     }
 }

@@ -3,6 +3,7 @@
 
 mod body_line;
 mod body_reader;
+mod causes;
 mod fault;
 mod head_reader;
 mod lines;

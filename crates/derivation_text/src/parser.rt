@@ -1,20 +1,23 @@
 //! Parsing.
 
-ghost use Rattle.std.specs.Prelude.{◌≡◌, ◌≢◌, ◌+◌, ◌≤◌, [], ℕ, false, Err, IfOk, IsTrue};
+ghost use Rattle.std.specs.Prelude.{◌≡◌, ◌≢◌, ◌+◌, ◌≤◌, [], ℕ, false, Err, IfOk, IsTrue, OnOk};
 ghost use Rattle.calculus.specs.DerivationText.{IsText};
 ghost use Rattle.calculus.specs.Judgement.{IsFaulty, cause_at};
 ghost use Rattle.calculus.specs.Problems.{is_problem};
 ghost use Rattle.calculus.specs.declared.fault.TextCause.{TextCause};
-ghost use Rattle.derivation_text.specs.Reading.{IsFaultOf, IsHeadRead};
+ghost use Rattle.derivation_text.specs.BodyView.{the_body_line};
+ghost use Rattle.derivation_text.specs.Reading.{IsFaultOf, IsHeadRead, with_line};
 ghost use Rattle.derivation_text.specs.Single.{AtMostOneDerivation, AtMostOneFault};
 ghost use Rattle.sequent_calc.specs.DerivationView.{the_derivation};
 
-use crate::body_line::{Stage, read_next};
-use crate::body_reader::{cause_at_end, cause_at_line, put_line};
+use crate::body_line::{BodyLine, Stage};
+use crate::body_reader::read_next;
+use crate::causes::{cause_at_end, cause_at_line};
 use crate::fault::ParseFault;
 use crate::head_reader::read_head;
 use crate::lines::line_at;
 use calculus::fault::TextCause;
+use cop_base::NoMemory;
 use formula_text::TextRead;
 use logic_rules::Problem;
 use sequent_calc::{Derivation, EigenList, Names, SpareList, StepList};
@@ -34,6 +37,18 @@ fn start(alloc: Global, limit: u8) -> Derivation
             spares: SpareList::new(alloc),
         },
         steps: StepList::new(alloc),
+    }
+}
+
+// Puts a line behind those of a derivation.
+fn put_line(d: &mut Derivation, line: BodyLine) -> Result<(), NoMemory>
+    ensures { OnOk result (the_derivation d.new ≡ with_line (the_derivation d.old) (the_body_line line)) }
+{
+    match line {
+        BodyLine::Eigen(number, home) => d.names.eigens.push((number, home)),
+        BodyLine::Spare(number, home) => d.names.spares.push((number, home)),
+        BodyLine::Step(step) => d.steps.push(step),
+        BodyLine::End => Ok(()),
     }
 }
 

@@ -2,7 +2,7 @@ use Rattle.std.proofs.Common.{sym, ◌∙◌}
 use Rattle.logic_rules.proofs.ProblemFacts.{kept}
 use Rattle.derivation_text.specs.BodyView.{the_body_line}
 use Rattle.derivation_text.proofs.BodyLaws.{no-stage}
-use Rattle.derivation_text.proofs.body_line.read_next.Goals as goal
+use Rattle.derivation_text.proofs.body_reader.read_next.Goals as goal
 
 pub returns-in-None-clause-none : goal.returns-in-None-clause-none
 returns-in-None-clause-none c = λ _ x h.
