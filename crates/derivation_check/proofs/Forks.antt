@@ -5,7 +5,7 @@ use Rattle.calculus.specs.Derivations.{Sequent}
 use Rattle.calculus.specs.Derivations as derivation
 use Rattle.sequent_calc.specs.declared.entry.Entry.{Entry}
 use Rattle.sequent_calc.specs.EntryView.{the_entry}
-use Rattle.derivation_check.specs.Branches.{waiting, open_ones, Nest}
+use Rattle.derivation_check.specs.OpenSequents.{waiting, open_sequents, Nest}
 
 pub Nest-more : (m n : ℕ) (forks : List (ℕ × Entry)) → m ≤ n → Nest m forks → Nest n forks
 Nest-more m n [] le h = tt
@@ -47,18 +47,18 @@ tail_is {A} x y xs ys e = ap rest e
 none_is : {A : Type 0} (y : A) (ys : List A) → [] ≡ y ∷ ys → ⊥
 none_is y ys e = let h : 0 ≡ suc (length ys) = ap length e in omega arith
 
--- entries more on the branch at hand
-pub open_ones-add : (o : Bool) (b : Sequent) (forks : List (ℕ × Entry)) (more : Sequent) (s : Sequent) (rest : List Sequent) → Nest (length b) forks → open_ones o b forks ≡ s ∷ rest → open_ones o (b ++ more) forks ≡ (s ++ more) ∷ rest
-open_ones-add false b forks more s rest h eq = absurd (none_is s rest eq)
-open_ones-add true b forks more s rest h eq =
+-- entries more on the current branch
+pub open_sequents-add : (o : Bool) (b : Sequent) (forks : List (ℕ × Entry)) (more : Sequent) (s : Sequent) (rest : List Sequent) → Nest (length b) forks → open_sequents o b forks ≡ s ∷ rest → open_sequents o (b ++ more) forks ≡ (s ++ more) ∷ rest
+open_sequents-add false b forks more s rest h eq = absurd (none_is s rest eq)
+open_sequents-add true b forks more s rest h eq =
     let first = head_is b s (waiting b forks) rest eq in
     let others = waiting-append b more forks h ∙ tail_is b s (waiting b forks) rest eq in
     λ i. (first i ++ more) ∷ others i
 
--- a fork of the branch at hand
-pub open_ones-fork : (o : Bool) (b : Sequent) (forks : List (ℕ × Entry)) (n : ℕ) (e : derivation.Entry) (second : Entry) (s : Sequent) (rest : List Sequent) → n ≡ length b → Nest (length b) forks → open_ones o b forks ≡ s ∷ rest → open_ones o (b ++ e ∷ []) ((n, second) ∷ forks) ≡ (s ++ e ∷ []) ∷ (s ++ the_entry second ∷ []) ∷ rest
-open_ones-fork false b forks n e second s rest len h eq = absurd (none_is s rest eq)
-open_ones-fork true b forks n e second s rest len h eq =
+-- a fork of the current branch
+pub open_sequents-fork : (o : Bool) (b : Sequent) (forks : List (ℕ × Entry)) (n : ℕ) (e : derivation.Entry) (second : Entry) (s : Sequent) (rest : List Sequent) → n ≡ length b → Nest (length b) forks → open_sequents o b forks ≡ s ∷ rest → open_sequents o (b ++ e ∷ []) ((n, second) ∷ forks) ≡ (s ++ e ∷ []) ∷ (s ++ the_entry second ∷ []) ∷ rest
+open_sequents-fork false b forks n e second s rest len h eq = absurd (none_is s rest eq)
+open_sequents-fork true b forks n e second s rest len h eq =
     let first = head_is b s (waiting b forks) rest eq in
     let at : take n (b ++ e ∷ []) ≡ b = take-append-le n b (e ∷ []) (omega (arith, len)) ∙ take_all n b (omega (arith, len)) in
     let others = waiting-append b (e ∷ []) forks h ∙ tail_is b s (waiting b forks) rest eq in
@@ -72,21 +72,21 @@ reverse-last forks f = reverse-append forks (f ∷ [])
 grown_map : (branch after more : List Entry) (added : Sequent) → after ≡ branch ++ more → map the_entry more ≡ added → map the_entry after ≡ map the_entry branch ++ added
 grown_map branch after more added grown are = ap (map the_entry) grown ∙ map-append the_entry branch more ∙ ap (λ l. map the_entry branch ++ l) are
 
-pub add_shown : (o : Bool) (branch after more : List Entry) (forks : List (ℕ × Entry)) (added : Sequent) (now : List Sequent) → after ≡ branch ++ more → map the_entry more ≡ added → open_ones o (map the_entry branch) (reverse forks) ≡ now → Nest (length (map the_entry branch)) (reverse forks) → (s : Sequent) (rest : List Sequent) → now ≡ s ∷ rest → open_ones o (map the_entry after) (reverse forks) ≡ (s ++ added) ∷ rest
+pub add_shown : (o : Bool) (branch after more : List Entry) (forks : List (ℕ × Entry)) (added : Sequent) (now : List Sequent) → after ≡ branch ++ more → map the_entry more ≡ added → open_sequents o (map the_entry branch) (reverse forks) ≡ now → Nest (length (map the_entry branch)) (reverse forks) → (s : Sequent) (rest : List Sequent) → now ≡ s ∷ rest → open_sequents o (map the_entry after) (reverse forks) ≡ (s ++ added) ∷ rest
 add_shown o branch after more forks added now grown are view h s rest eq =
-    subst (λ b. open_ones o b (reverse forks) ≡ (s ++ added) ∷ rest) (sym (grown_map branch after more added grown are))
-    (open_ones-add o (map the_entry branch) (reverse forks) added s rest h (view ∙ eq))
+    subst (λ b. open_sequents o b (reverse forks) ≡ (s ++ added) ∷ rest) (sym (grown_map branch after more added grown are))
+    (open_sequents-add o (map the_entry branch) (reverse forks) added s rest h (view ∙ eq))
 
 pub add_nest : (branch after more : List Entry) (forks : List (ℕ × Entry)) (added : Sequent) → after ≡ branch ++ more → map the_entry more ≡ added → Nest (length (map the_entry branch)) (reverse forks) → Nest (length (map the_entry after)) (reverse forks)
 add_nest branch after more forks added grown are h =
     Nest-more (length (map the_entry branch)) (length (map the_entry after)) (reverse forks)
     (subst (λ b. length (map the_entry branch) ≤ length b) (sym (grown_map branch after more added grown are)) (omega (arith, length-append (map the_entry branch) added))) h
 
-pub fork_shown : (o : Bool) (branch after : List Entry) (forks more : List (ℕ × Entry)) (n : ℕ) (e second : Entry) (now : List Sequent) → n ≡ length branch → more ≡ forks ++ (n, second) ∷ [] → after ≡ branch ++ e ∷ [] → open_ones o (map the_entry branch) (reverse forks) ≡ now → Nest (length (map the_entry branch)) (reverse forks) → (s : Sequent) (rest : List Sequent) → now ≡ s ∷ rest → open_ones o (map the_entry after) (reverse more) ≡ (s ++ the_entry e ∷ []) ∷ (s ++ the_entry second ∷ []) ∷ rest
+pub fork_shown : (o : Bool) (branch after : List Entry) (forks more : List (ℕ × Entry)) (n : ℕ) (e second : Entry) (now : List Sequent) → n ≡ length branch → more ≡ forks ++ (n, second) ∷ [] → after ≡ branch ++ e ∷ [] → open_sequents o (map the_entry branch) (reverse forks) ≡ now → Nest (length (map the_entry branch)) (reverse forks) → (s : Sequent) (rest : List Sequent) → now ≡ s ∷ rest → open_sequents o (map the_entry after) (reverse more) ≡ (s ++ the_entry e ∷ []) ∷ (s ++ the_entry second ∷ []) ∷ rest
 fork_shown o branch after forks more n e second now len made grown view h s rest eq =
-    let moved : open_ones o (map the_entry branch ++ the_entry e ∷ []) ((n, second) ∷ reverse forks) ≡ (s ++ the_entry e ∷ []) ∷ (s ++ the_entry second ∷ []) ∷ rest = open_ones-fork o (map the_entry branch) (reverse forks) n (the_entry e) second s rest (len ∙ sym (length-map branch the_entry)) h (view ∙ eq) in
-    ap (λ b. open_ones o b (reverse more)) (ap (map the_entry) grown ∙ map_push the_entry branch e)
-    ∙ ap (open_ones o (map the_entry branch ++ the_entry e ∷ [])) (ap reverse made ∙ reverse-last forks (n, second))
+    let moved : open_sequents o (map the_entry branch ++ the_entry e ∷ []) ((n, second) ∷ reverse forks) ≡ (s ++ the_entry e ∷ []) ∷ (s ++ the_entry second ∷ []) ∷ rest = open_sequents-fork o (map the_entry branch) (reverse forks) n (the_entry e) second s rest (len ∙ sym (length-map branch the_entry)) h (view ∙ eq) in
+    ap (λ b. open_sequents o b (reverse more)) (ap (map the_entry) grown ∙ map_push the_entry branch e)
+    ∙ ap (open_sequents o (map the_entry branch ++ the_entry e ∷ [])) (ap reverse made ∙ reverse-last forks (n, second))
     ∙ moved
 
 pub fork_nest : (branch after : List Entry) (forks more : List (ℕ × Entry)) (n : ℕ) (e second : Entry) → n ≡ length branch → more ≡ forks ++ (n, second) ∷ [] → after ≡ branch ++ e ∷ [] → Nest (length (map the_entry branch)) (reverse forks) → Nest (length (map the_entry after)) (reverse more)
@@ -99,7 +99,7 @@ fork_nest branch after forks more n e second len made grown h =
 parts_of_last : (m n : ℕ) (forks more : List (ℕ × Entry)) (second : Entry) → more ≡ forks ++ (n, second) ∷ [] → Nest m (reverse more) → (n ≤ m) × Nest n (reverse forks)
 parts_of_last m n forks more second made h = subst (Nest m) (ap reverse made ∙ reverse-last forks (n, second)) h
 
-closed_shown : (o : Bool) (b c : Sequent) (fork : ℕ × Entry) (forks : List (ℕ × Entry)) → c ≡ take fork.0 b ++ the_entry fork.1 ∷ [] → fork.0 ≤ length b → Nest fork.0 forks → open_ones o c forks ≡ drop 1 (open_ones o b (fork ∷ forks))
+closed_shown : (o : Bool) (b c : Sequent) (fork : ℕ × Entry) (forks : List (ℕ × Entry)) → c ≡ take fork.0 b ++ the_entry fork.1 ∷ [] → fork.0 ≤ length b → Nest fork.0 forks → open_sequents o c forks ≡ drop 1 (open_sequents o b (fork ∷ forks))
 closed_shown false b c fork forks e le h = refl
 closed_shown true b c fork forks e le h =
     let others = ap (λ d. waiting d forks) e ∙ waiting-cut fork.0 b (the_entry fork.1) forks le h in
@@ -108,11 +108,11 @@ closed_shown true b c fork forks e le h =
 cut_map : (n : ℕ) (branch after : List Entry) (second : Entry) → after ≡ take n branch ++ second ∷ [] → map the_entry after ≡ take n (map the_entry branch) ++ the_entry second ∷ []
 cut_map n branch after second cut = ap (map the_entry) cut ∙ map_push the_entry (take n branch) second ∙ ap (λ l. l ++ the_entry second ∷ []) (sym (take-map the_entry n branch))
 
-pub close_shown : (o : Bool) (branch after : List Entry) (forks more : List (ℕ × Entry)) (n : ℕ) (second : Entry) (now : List Sequent) → more ≡ forks ++ (n, second) ∷ [] → after ≡ take n branch ++ second ∷ [] → open_ones o (map the_entry branch) (reverse more) ≡ now → Nest (length (map the_entry branch)) (reverse more) → open_ones o (map the_entry after) (reverse forks) ≡ drop 1 now
+pub close_shown : (o : Bool) (branch after : List Entry) (forks more : List (ℕ × Entry)) (n : ℕ) (second : Entry) (now : List Sequent) → more ≡ forks ++ (n, second) ∷ [] → after ≡ take n branch ++ second ∷ [] → open_sequents o (map the_entry branch) (reverse more) ≡ now → Nest (length (map the_entry branch)) (reverse more) → open_sequents o (map the_entry after) (reverse forks) ≡ drop 1 now
 close_shown o branch after forks more n second now made cut view h =
     let parts = parts_of_last (length (map the_entry branch)) n forks more second made h in
     closed_shown o (map the_entry branch) (map the_entry after) (n, second) (reverse forks) (cut_map n branch after second cut) parts.0 parts.1
-    ∙ ap (drop 1) (ap (open_ones o (map the_entry branch)) (sym (ap reverse made ∙ reverse-last forks (n, second))) ∙ view)
+    ∙ ap (drop 1) (ap (open_sequents o (map the_entry branch)) (sym (ap reverse made ∙ reverse-last forks (n, second))) ∙ view)
 
 pub close_nest : (branch after : List Entry) (forks more : List (ℕ × Entry)) (n : ℕ) (second : Entry) → more ≡ forks ++ (n, second) ∷ [] → after ≡ take n branch ++ second ∷ [] → Nest (length (map the_entry branch)) (reverse more) → Nest (length (map the_entry after)) (reverse forks)
 close_nest branch after forks more n second made cut h =

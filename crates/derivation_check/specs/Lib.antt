@@ -1,3 +1,3 @@
-pub mod Branches
+pub mod OpenSequents
 pub mod VerdictView
 pub mod Reading

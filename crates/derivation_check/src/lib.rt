@@ -1,8 +1,8 @@
 //! The judgement of derivations by the rules of the calculus alone.
 #![tactic(auto)]
 
-mod branches;
 mod judgement;
+mod open_sequents;
 mod steps;
 mod verdict;
 

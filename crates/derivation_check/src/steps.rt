@@ -10,7 +10,7 @@ ghost use Rattle.sequent_calc.specs.DerivationView.{the_derivation, the_names};
 ghost use Rattle.sequent_calc.specs.EntryView.{the_entry};
 ghost use Rattle.sequent_calc.specs.StepView.{the_step};
 
-use crate::branches::Branches;
+use crate::open_sequents::OpenSequents;
 use crate::verdict::Verdict;
 use calculus::fault::CheckFault;
 use cop_base::NoMemory;
@@ -35,23 +35,23 @@ fn judge_step(
     alloc: Global,
     problem: &Problem,
     names: &Names,
-    branches: &mut Branches,
+    open_sequents: &mut OpenSequents,
     step: &Step,
     line: u64,
 ) -> Result<Option<Verdict>, NoMemory>
-    ensures { IfOk result (λ judged. (rest : List derivation.Step) → verdict_from problem.now (the_names names.now) branches.old
+    ensures { IfOk result (λ judged. (rest : List derivation.Step) → verdict_from problem.now (the_names names.now) open_sequents.old
         (the_step step.now ∷ rest) line ≡ option_map_or the_verdict judged
-        (verdict_from problem.now (the_names names.now) branches.new rest (line + 1))) }
+        (verdict_from problem.now (the_names names.now) open_sequents.new rest (line + 1))) }
 {
-    if !branches.is_open() {
+    if !open_sequents.is_open() {
         return Ok(Some(Verdict::Rejected {
             line,
             fault: CheckFault::AllClosed,
         }));
     }
-    match addition_of(alloc, problem, names, branches.current(), step) {
+    match addition_of(alloc, problem, names, open_sequents.current(), step) {
         Ok(addition) => {
-            branches.go_on(addition)?;
+            open_sequents.advance(addition)?;
             Ok(None)
         }
         Err(ApplyFault::Fault(fault)) => Ok(Some(Verdict::Rejected {
@@ -63,10 +63,10 @@ fn judge_step(
 }
 
 // The verdict where the steps have ended before this line.
-fn at_end(branches: &Branches, line: u64) -> Verdict
-    ensures { the_verdict result ≡ at_end branches.now line }
+fn at_end(open_sequents: &OpenSequents, line: u64) -> Verdict
+    ensures { the_verdict result ≡ at_end open_sequents.now line }
 {
-    if branches.is_open() {
+    if open_sequents.is_open() {
         Verdict::Rejected {
             line,
             fault: CheckFault::StillOpen,
@@ -82,14 +82,14 @@ pub fn judge(alloc: Global, problem: &Problem, d: &Derivation) -> Result<Verdict
     requires { 5 + length d.now.names.eigens + length d.now.names.spares + length d.now.steps ≤ 18446744073709551615 }
     ensures { IfOk result (λ v. the_verdict v ≡ verdict_on problem.now (the_derivation d.now)) }
 {
-    let mut branches = Branches::new(alloc, first_entry(alloc, problem)?)?;
+    let mut open_sequents = OpenSequents::new(alloc, first_entry(alloc, problem)?)?;
     let names = &d.names;
     let mut line = 5 + names.eigens.items().len() as u64 + names.spares.items().len() as u64;
     for step in d.steps.items() {
-        if let Some(verdict) = judge_step(alloc, problem, names, &mut branches, step, line)? {
+        if let Some(verdict) = judge_step(alloc, problem, names, &mut open_sequents, step, line)? {
             return Ok(verdict);
         }
         line += 1;
     }
-    Ok(at_end(&branches, line))
+    Ok(at_end(&open_sequents, line))
 }

@@ -7,4 +7,4 @@ use Rattle.derivation_check.proofs.steps.judge.Given as goal
 abbrev pub invariant-loop-step : goal.invariant-loop-step
 invariant-loop-step l =
     (l.line ≡ 5 + length l.d.names.eigens + length l.d.names.spares + l.step-index)
-    × (verdict_from l.problem (the_names l.d.names) l.branches (map the_step (drop l.step-index l.step-items)) l.line ≡ verdict_on l.problem (the_derivation l.d))
+    × (verdict_from l.problem (the_names l.d.names) l.open_sequents (map the_step (drop l.step-index l.step-items)) l.line ≡ verdict_on l.problem (the_derivation l.d))

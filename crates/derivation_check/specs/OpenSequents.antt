@@ -1,4 +1,4 @@
--- The open sequents by the branch at hand and by the forks whose second branch waits: a fork keeps how long the branch was, and the
+-- The open sequents by the current branch and by the forks whose second branch waits: a fork keeps how long the branch was, and the
 -- entry that its second branch adds. Forks that were made later stand in front.
 use Rattle.std.specs.Prelude.{⊤, ℕ, ◌≤◌, List, [], ◌∷◌, ◌++◌, take, Bool, if◌then◌else◌}
 use Rattle.calculus.specs.Derivations as derivation
@@ -12,8 +12,8 @@ abbrev pub waiting : derivation.Sequent → List (ℕ × Entry) → List derivat
 waiting branch [] = []
 waiting branch (fork ∷ forks) = waiting_at branch fork ∷ waiting branch forks
 
-abbrev pub open_ones : Bool → derivation.Sequent → List (ℕ × Entry) → List derivation.Sequent
-open_ones is_open branch forks = if is_open then branch ∷ waiting branch forks else []
+abbrev pub open_sequents : Bool → derivation.Sequent → List (ℕ × Entry) → List derivation.Sequent
+open_sequents is_open branch forks = if is_open then branch ∷ waiting branch forks else []
 
 -- no fork is longer than those in front of it, and none is longer than the branch
 abbrev pub Nest : ℕ → List (ℕ × Entry) → Type 0

@@ -1,6 +1,6 @@
 use Rattle.std.proofs.Common.{◌∙◌, ◌∷◌, [], ◌++◌, ap}
 use Rattle.derivation_check.proofs.Forks.{close_shown, close_nest}
-use Rattle.derivation_check.proofs.branches.Branches.close.Goals as goal
+use Rattle.derivation_check.proofs.open_sequents.OpenSequents.close.Goals as goal
 
 pub invariant_of-self : goal.invariant_of-self
 invariant_of-self c =

@@ -12,61 +12,62 @@ use sequent_calc::{Addition, Entry, Sequent};
 use std::alloc::{AllocError, AllocFailed, Global};
 use std::marker::Model;
 
-/// The open sequents, the one at hand first. They share one branch: a sequent that waits is the beginning of the branch
+/// The open sequents, the current one first. They share one branch: a sequent that waits is the beginning of the branch
 /// up to a fork, with one entry more.
 #[derive(Drop)]
-pub struct Branches {
+pub struct OpenSequents {
     is_open: bool,
     branch: Vec<Entry>,
     forks: Vec<(usize, Entry)>,
 }
 
-impl Model for Branches {
+impl Model for OpenSequents {
     ghost use Rattle.std.specs.Prelude.{List, length, map, reverse};
     ghost use Rattle.calculus.specs.Codes.{formula_code};
     ghost use Rattle.calculus.specs.Derivations as derivation;
     ghost use Rattle.std.specs.Coded.{codes};
-    ghost use Rattle.derivation_check.specs.Branches.{Nest, open_ones};
+    ghost use Rattle.derivation_check.specs.OpenSequents.{Nest, open_sequents};
     ghost use Rattle.sequent_calc.specs.EntryView.{the_entry};
 
     ghost Value = { List derivation.Sequent };
 
     ghost coded = { Prim.hlevel (codes, formula_code) };
 
-    ghost view = { λ b. open_ones b.is_open (map the_entry b.branch.items) (reverse b.forks.items) };
+    ghost view = { λ b. open_sequents b.is_open (map the_entry b.branch.items) (reverse b.forks.items) };
 
     ghost invariant = { λ b. Nest (length (map the_entry b.branch.items)) (reverse b.forks.items) };
 }
 
-impl Branches {
+impl OpenSequents {
     /// One open sequent.
-    pub fn new(alloc: Global, first: Entry) -> Result<Branches, NoMemory>
+    pub fn new(alloc: Global, first: Entry) -> Result<OpenSequents, NoMemory>
         ensures { IfOk result (λ b. b ≡ (the_entry first ∷ []) ∷ []) }
     {
         let mut branch = Vec::new(alloc);
         branch.push(first)?;
-        Ok(Branches {
+        Ok(OpenSequents {
             is_open: true,
             branch,
             forks: Vec::new(alloc),
         })
     }
 
+    /// Whether a sequent is open still.
     pub fn is_open(&self) -> bool
         ensures { result ≡ not (is_empty self.now) }
     {
         self.is_open
     }
 
-    /// The entries of the sequent at hand.
+    /// The entries of the current sequent.
     pub fn current(&self) -> &[Entry]
         ensures { (s : derivation.Sequent) → (rest : List derivation.Sequent) → self.now ≡ s ∷ rest → map the_entry result.now ≡ s }
     {
         self.branch.as_slice()
     }
 
-    /// Closes the sequent at hand, and goes on with the one that waited last.
-    pub fn close(&mut self) -> Result<(), NoMemory>
+    // Closes the current sequent, and goes on with the one that waited last.
+    fn close(&mut self) -> Result<(), NoMemory>
         ensures ok { OnOk result (self.new ≡ drop 1 self.old) }
     {
         match self.forks.pop() {
@@ -79,7 +80,7 @@ impl Branches {
         Ok(())
     }
 
-    /// Adds entries to the sequent at hand.
+    // Adds entries to the current sequent.
     fn add_all(&mut self, entries: Sequent) -> Result<(), NoMemory>
         ensures ok { OnOk result ((s : derivation.Sequent) → (rest : List derivation.Sequent) → self.old ≡ s ∷ rest
             → self.new ≡ (s ++ entries) ∷ rest) }
@@ -89,8 +90,8 @@ impl Branches {
         Ok(())
     }
 
-    /// Splits the sequent at hand into two, each with one of the entries more.
-    pub fn fork(&mut self, first: Entry, second: Entry) -> Result<(), NoMemory>
+    // Splits the current sequent into two, each with one of the entries more.
+    fn fork(&mut self, first: Entry, second: Entry) -> Result<(), NoMemory>
         ensures ok { OnOk result ((s : derivation.Sequent) → (rest : List derivation.Sequent) → self.old ≡ s ∷ rest
             → self.new ≡ (s ++ the_entry first ∷ []) ∷ (s ++ the_entry second ∷ []) ∷ rest) }
     {
@@ -98,11 +99,9 @@ impl Branches {
         self.branch.push(first)?;
         Ok(())
     }
-}
 
-impl Branches {
-    /// Goes on with what a step adds to the sequent at hand.
-    pub fn go_on(&mut self, addition: Addition) -> Result<(), NoMemory>
+    /// Replaces the current sequent by those that a step leads to.
+    pub fn advance(&mut self, addition: Addition) -> Result<(), NoMemory>
         ensures { OnOk result ((s : derivation.Sequent) → (rest : List derivation.Sequent) → self.old ≡ s ∷ rest
             → self.new ≡ open_after (children_by s addition) rest) }
     {

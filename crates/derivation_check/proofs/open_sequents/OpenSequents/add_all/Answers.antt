@@ -1,5 +1,5 @@
 use Rattle.derivation_check.proofs.Forks.{add_shown, add_nest}
-use Rattle.derivation_check.proofs.branches.Branches.add_all.Goals as goal
+use Rattle.derivation_check.proofs.open_sequents.OpenSequents.add_all.Goals as goal
 
 pub invariant_of-self-2 : goal.invariant_of-self-2
 invariant_of-self-2 c = add_nest c.self.inside.branch.items c.append.new.self.items c.into_items-entries.result.items c.self.inside.forks.items c.args.entries c.in_ok-append.ensures.items c.into_items-entries.ensures c.self.invariant
