@@ -11,17 +11,12 @@ ghost use Rattle.sequent_calc.specs.StepView.{the_modal, the_step, the_term_arg}
 
 use cop_base::NoMemory;
 use formula_core::Symbols;
-use formula_text::{write_formula, write_label, write_number, write_setting, write_term};
+use formula_text::{
+    write_bytes, write_formula, write_label, write_number, write_setting, write_term,
+};
 use logic_rules::{Label, Problem};
 use sequent_calc::{Derivation, EigenList, Home, ModalArg, SpareList, Step, StepList, TermArg};
-use std::alloc::{AllocError, Global};
-
-fn write_bytes(out: &mut Vec<u8>, bytes: &[u8]) -> Result<(), NoMemory>
-    ensures { OnOk result (out.new.items ≡ out.old.items ++ bytes.now) }
-{
-    out.extend_from_slice(bytes)?;
-    Ok(())
-}
+use std::alloc::Global;
 
 // The four lines that stand before all names.
 fn write_head(out: &mut Vec<u8>, problem: &Problem, limit: u8) -> Result<(), NoMemory>

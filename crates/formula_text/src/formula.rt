@@ -12,7 +12,7 @@ ghost use Rattle.formula_core.specs.TermView.{the_term};
 ghost use Rattle.formula_text.specs.Extends.{Extends};
 ghost use Rattle.formula_text.specs.Known.{formula_is_known, term_is_known, terms_are_known};
 
-use crate::append::{put_byte, put_bytes, put_number, settle};
+use crate::append::{append_byte, append_bytes, append_number, undo_if_failed};
 use crate::name::append_symbol;
 use crate::term::{append_args, append_term};
 use cop_base::{NoMemory, SymbolId};
@@ -32,11 +32,11 @@ fn append_sides(
         ++ joined_text (term_text symbols.now depth (the_term left.now)) (codes " = ") (term_text symbols.now depth (the_term right.now))) }
     ensures extends { Extends out.old.items out.new.items }
 {
-    put_byte(out, b'(')?;
+    append_byte(out, b'(')?;
     append_term(out, symbols, depth, left)?;
-    put_bytes(out, b" = ")?;
+    append_bytes(out, b" = ")?;
     append_term(out, symbols, depth, right)?;
-    put_byte(out, b')')?;
+    append_byte(out, b')')?;
     Ok(())
 }
 
@@ -84,10 +84,10 @@ fn append_quantifier(out: &mut Vec<u8>, quantifier: u8, depth: u64) -> Result<()
     ensures ok { OnOk result (out.new.items ≡ out.old.items ++ quantifier ∷ (codes "[X" ++ decimal (depth + 1) ++ codes "]:")) }
     ensures extends { Extends out.old.items out.new.items }
 {
-    put_byte(out, quantifier)?;
-    put_bytes(out, b"[X")?;
-    put_number(out, depth + 1)?;
-    put_bytes(out, b"]:")
+    append_byte(out, quantifier)?;
+    append_bytes(out, b"[X")?;
+    append_number(out, depth + 1)?;
+    append_bytes(out, b"]:")
 }
 
 // Two parts with the connective between them, in round brackets.
@@ -108,11 +108,11 @@ fn append_joined(
         ++ joined_text (formula_text symbols.now d (the_formula left.now)) connective.now (formula_text symbols.now d (the_formula right.now))) }
     ensures extends { Extends out.old.items out.new.items }
 {
-    put_byte(out, b'(')?;
+    append_byte(out, b'(')?;
     append_formula(out, symbols, depth, left)?;
-    put_bytes(out, connective)?;
+    append_bytes(out, connective)?;
     append_formula(out, symbols, depth, right)?;
-    put_byte(out, b')')?;
+    append_byte(out, b')')?;
     Ok(())
 }
 
@@ -132,7 +132,7 @@ fn append_formula(
     match f {
         Formula::Atom(p, args) => append_atom(out, symbols, depth, *p, args),
         Formula::Not(a) => {
-            put_byte(out, b'~')?;
+            append_byte(out, b'~')?;
             append_formula(out, symbols, depth, a)
         }
         Formula::And(a, b) => append_joined(out, symbols, depth, a, b" & ", b),
@@ -147,11 +147,11 @@ fn append_formula(
             append_formula(out, symbols, depth + 1, a)
         }
         Formula::Nec(a) => {
-            put_bytes(out, b"#box:")?;
+            append_bytes(out, b"#box:")?;
             append_formula(out, symbols, depth, a)
         }
         Formula::Poss(a) => {
-            put_bytes(out, b"#dia:")?;
+            append_bytes(out, b"#dia:")?;
             append_formula(out, symbols, depth, a)
         }
     }
@@ -167,6 +167,6 @@ pub fn write_formula(out: &mut Vec<u8>, symbols: &Symbols, f: &Formula) -> Resul
     ensures err { OnErr result (out.new.items ≡ out.old.items) }
 {
     let kept = out.len();
-    let written = append_formula(out, symbols, 0, f);
-    settle(out, kept, written)
+    let appended = append_formula(out, symbols, 0, f);
+    undo_if_failed(out, kept, appended)
 }

@@ -8,7 +8,7 @@ ghost use Rattle.formula_text.specs.Rests.{marks_text};
 ghost use Rattle.formula_text.specs.Single.{LabelTextsDiffer};
 ghost use Rattle.logic_rules.specs.MarkView.{the_character};
 
-use crate::append::{put_byte, put_bytes, put_number, settle};
+use crate::append::{append_byte, append_bytes, append_number, undo_if_failed};
 use cop_base::NoMemory;
 use logic_rules::{Label, Mark};
 
@@ -18,12 +18,12 @@ fn append_mark(out: &mut Vec<u8>, mark: Mark) -> Result<(), NoMemory>
 {
     match mark {
         Mark::New(n) => {
-            put_bytes(out, b"$$c")?;
-            put_number(out, u64::from(n))
+            append_bytes(out, b"$$c")?;
+            append_number(out, u64::from(n))
         }
         Mark::Spare(n) => {
-            put_bytes(out, b"$$d")?;
-            put_number(out, u64::from(n))
+            append_bytes(out, b"$$d")?;
+            append_number(out, u64::from(n))
         }
     }
 }
@@ -36,7 +36,7 @@ fn append_next_mark(out: &mut Vec<u8>, first: bool, mark: Mark) -> Result<(), No
     if first {
         return append_mark(out, mark);
     }
-    put_byte(out, b',')?;
+    append_byte(out, b',')?;
     append_mark(out, mark)
 }
 
@@ -59,9 +59,9 @@ fn append_label(out: &mut Vec<u8>, label: &Label) -> Result<(), NoMemory>
     ensures ok { OnOk result (out.new.items ≡ out.old.items ++ label_text label.now) }
     ensures extends { Extends out.old.items out.new.items }
 {
-    put_byte(out, b'[')?;
+    append_byte(out, b'[')?;
     append_marks(out, label)?;
-    put_byte(out, b']')?;
+    append_byte(out, b']')?;
     Ok(())
 }
 
@@ -73,6 +73,6 @@ pub fn write_label(out: &mut Vec<u8>, label: &Label) -> Result<(), NoMemory>
     ensures apart { LabelTextsDiffer }
 {
     let kept = out.len();
-    let written = append_label(out, label);
-    settle(out, kept, written)
+    let appended = append_label(out, label);
+    undo_if_failed(out, kept, appended)
 }

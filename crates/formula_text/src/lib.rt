@@ -1,8 +1,8 @@
 //! The canonical text of names, terms, formulas, labels and settings, after TPTP and QMLTP, and the reading of names, terms and labels.
 //!
-//! A writer appends the text, and cuts off what it appended where memory ends. A reader gives the one value whose canonical text stands
-//! at a place and ends there, and the place after it. It answers that there is none exactly where there is none, so other spellings of a
-//! value, as `f(a, b)`, `'a'` and `$$e01`, are refused.
+//! `append_*` may leave a part of a text where memory ends; `write_*` takes it off again. A reader gives the one value whose canonical
+//! text stands at a place and ends there, and the place after it. It answers that there is none exactly where there is none, so other
+//! spellings of a value, as `f(a, b)`, `'a'` and `$$e01`, are refused.
 //!
 //! # Depth
 //! The open terms of a text stand on a stack on the heap while they are read: memory alone bounds their depth, and 50,000,000 levels were
@@ -33,7 +33,7 @@ mod setting;
 mod term;
 mod term_reader;
 
-pub use append::write_number;
+pub use append::{write_bytes, write_number};
 pub use formula::write_formula;
 pub use label::write_label;
 pub use label_reader::read_label;

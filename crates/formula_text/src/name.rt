@@ -8,7 +8,7 @@ ghost use Rattle.formula_text.specs.Extends.{Extends};
 ghost use Rattle.formula_text.specs.Known.{is_named};
 ghost use Rattle.formula_text.specs.Single.{NameTextsDiffer};
 
-use crate::append::{put_byte, put_bytes, settle};
+use crate::append::{append_byte, append_bytes, undo_if_failed};
 use calculus::byte::{is_lower, is_word_byte};
 use cop_base::{NoMemory, SymbolId};
 use formula_core::{Symbol, SymbolClass, Symbols};
@@ -35,10 +35,10 @@ fn append_escaped_byte(out: &mut Vec<u8>, byte: u8) -> Result<(), NoMemory>
     ensures extends { Extends out.old.items out.new.items }
 {
     if byte == b'\'' || byte == b'\\' {
-        put_byte(out, b'\\')?;
-        return put_byte(out, byte);
+        append_byte(out, b'\\')?;
+        return append_byte(out, byte);
     }
-    put_byte(out, byte)
+    append_byte(out, byte)
 }
 
 fn append_escaped(out: &mut Vec<u8>, name: &[u8]) -> Result<(), NoMemory>
@@ -56,11 +56,11 @@ fn append_name(out: &mut Vec<u8>, name: &[u8]) -> Result<(), NoMemory>
     ensures extends { Extends out.old.items out.new.items }
 {
     if is_lower_word(name) {
-        return put_bytes(out, name);
+        return append_bytes(out, name);
     }
-    put_byte(out, b'\'')?;
+    append_byte(out, b'\'')?;
     append_escaped(out, name)?;
-    put_byte(out, b'\'')
+    append_byte(out, b'\'')
 }
 
 pub fn append_symbol(out: &mut Vec<u8>, s: &Symbol) -> Result<(), NoMemory>
@@ -69,8 +69,8 @@ pub fn append_symbol(out: &mut Vec<u8>, s: &Symbol) -> Result<(), NoMemory>
 {
     match s.class {
         SymbolClass::Function | SymbolClass::Predicate => append_name(out, s.name.bytes()),
-        SymbolClass::Equality => put_bytes(out, s.name.bytes()),
-        SymbolClass::Truth => put_bytes(out, b"$$o"),
+        SymbolClass::Equality => append_bytes(out, s.name.bytes()),
+        SymbolClass::Truth => append_bytes(out, b"$$o"),
     }
 }
 
@@ -83,6 +83,6 @@ pub fn write_name(out: &mut Vec<u8>, symbols: &Symbols, id: SymbolId) -> Result<
     ensures apart { NameTextsDiffer }
 {
     let kept = out.len();
-    let written = append_symbol(out, symbols.get(id));
-    settle(out, kept, written)
+    let appended = append_symbol(out, symbols.get(id));
+    undo_if_failed(out, kept, appended)
 }

@@ -5,7 +5,7 @@ ghost use Rattle.calculus.specs.DerivationText.{domains_text, logic_text, settin
 ghost use Rattle.formula_text.specs.Extends.{Extends};
 ghost use Rattle.logic_rules.specs.SettingView.{the_setting};
 
-use crate::append::{put_bytes, settle};
+use crate::append::{append_bytes, undo_if_failed};
 use cop_base::NoMemory;
 use logic_rules::{Domains, Logic, Setting};
 
@@ -14,9 +14,9 @@ fn append_domains(out: &mut Vec<u8>, domains: Domains) -> Result<(), NoMemory>
     ensures extends { Extends out.old.items out.new.items }
 {
     match domains {
-        Domains::Constant => put_bytes(out, b" constant"),
-        Domains::Cumulative => put_bytes(out, b" cumulative"),
-        Domains::Varying => put_bytes(out, b" varying"),
+        Domains::Constant => append_bytes(out, b" constant"),
+        Domains::Cumulative => append_bytes(out, b" cumulative"),
+        Domains::Varying => append_bytes(out, b" varying"),
     }
 }
 
@@ -25,14 +25,14 @@ fn append_logic(out: &mut Vec<u8>, logic: Logic, domains: Domains) -> Result<(),
     ensures extends { Extends out.old.items out.new.items }
 {
     let name: &[u8] = match logic {
-        Logic::Classical => return put_bytes(out, b"classical"),
-        Logic::Intuitionistic => return put_bytes(out, b"intuitionistic"),
+        Logic::Classical => return append_bytes(out, b"classical"),
+        Logic::Intuitionistic => return append_bytes(out, b"intuitionistic"),
         Logic::D => b"d",
         Logic::T => b"t",
         Logic::S4 => b"s4",
         Logic::S5 => b"s5",
     };
-    put_bytes(out, name)?;
+    append_bytes(out, name)?;
     append_domains(out, domains)
 }
 
@@ -42,6 +42,6 @@ pub fn write_setting(out: &mut Vec<u8>, setting: Setting) -> Result<(), NoMemory
     ensures err { OnErr result (out.new.items ≡ out.old.items) }
 {
     let kept = out.len();
-    let written = append_logic(out, setting.logic(), setting.domains());
-    settle(out, kept, written)
+    let appended = append_logic(out, setting.logic(), setting.domains());
+    undo_if_failed(out, kept, appended)
 }

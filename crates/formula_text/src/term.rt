@@ -9,7 +9,7 @@ ghost use Rattle.formula_text.specs.Extends.{Extends};
 ghost use Rattle.formula_text.specs.Known.{term_is_known, terms_are_known};
 ghost use Rattle.formula_text.specs.Single.{TermTextsDiffer};
 
-use crate::append::{put_byte, put_bytes, put_number, settle};
+use crate::append::{append_byte, append_bytes, append_number, undo_if_failed};
 use crate::name::append_symbol;
 use cop_base::NoMemory;
 use formula_core::{Symbols, Term, Terms};
@@ -29,20 +29,20 @@ pub fn append_term(
 {
     match t {
         Term::Var(k) => {
-            put_byte(out, b'X')?;
-            put_number(out, depth.saturating_sub(u64::from(*k)))
+            append_byte(out, b'X')?;
+            append_number(out, depth.saturating_sub(u64::from(*k)))
         }
         Term::Fun(f, args) => {
             append_symbol(out, symbols.get(*f))?;
             append_args(out, symbols, depth, args)
         }
         Term::Eigen(n) => {
-            put_bytes(out, b"$$e")?;
-            put_number(out, u64::from(*n))
+            append_bytes(out, b"$$e")?;
+            append_number(out, u64::from(*n))
         }
         Term::Spare(n) => {
-            put_bytes(out, b"$$s")?;
-            put_number(out, u64::from(*n))
+            append_bytes(out, b"$$s")?;
+            append_number(out, u64::from(*n))
         }
     }
 }
@@ -69,14 +69,14 @@ pub fn append_args(
 {
     let mut first = true;
     for item in args.items() {
-        put_byte(out, separator(first))?;
+        append_byte(out, separator(first))?;
         first = false;
         append_term(out, symbols, depth, item)?;
     }
     if first {
         return Ok(());
     }
-    put_byte(out, b')')
+    append_byte(out, b')')
 }
 
 /// Appends a term without variables.
@@ -88,6 +88,6 @@ pub fn write_term(out: &mut Vec<u8>, symbols: &Symbols, t: &Term) -> Result<(), 
     ensures apart { TermTextsDiffer symbols.now }
 {
     let kept = out.len();
-    let written = append_term(out, symbols, 0, t);
-    settle(out, kept, written)
+    let appended = append_term(out, symbols, 0, t);
+    undo_if_failed(out, kept, appended)
 }

@@ -10,4 +10,4 @@ returns-clause-one c = λ d e t u. text-unique c.args.problem.now (kept c.args.p
 pub returns-clause-text : goal.returns-clause-text
 returns-clause-text c =
     text-by_steps c.args.problem.now (the_derivation c.args.d.now) _ _ _ _ _ c.requires
-    (rw c.new-out.ensures.items at c.in_ok-write_head.ensures) c.in_ok-write_eigens.ensures c.in_ok-write_spares.ensures (rw c.symbols.ensures.symbols at c.in_ok-write_steps.ensures) c.in_ok-write_bytes.ensures
+    (rw c.new-out.ensures.items at c.in_ok-write_head.ensures) c.in_ok-write_eigens.ensures c.in_ok-write_spares.ensures (rw c.symbols.ensures.symbols at c.in_ok-write_steps.ensures) c.in_ok-write_bytes.ensures.ok

@@ -6,4 +6,4 @@ use Rattle.formula_text.proofs.formula.+append_formula.Goals as goal
 pub append_joined-returns-clause-ok : goal.append_joined-returns-clause-ok
 append_joined-returns-clause-ok t c = λ d e.
     joined-by_steps _ _ _ _ _ _ (formula_text c.args.symbols.now d (the_formula c.args.left.now)) c.args.connective.now (formula_text c.args.symbols.now d (the_formula c.args.right.now))
-    c.in_ok-put_byte.ensures.ok (c.in_ok-append_formula.ensures.ok d e) c.in_ok-put_bytes.ensures.ok (c.in_ok-append_formula-2.ensures.ok d e) c.in_ok-put_byte-2.ensures.ok
+    c.in_ok-append_byte.ensures.ok (c.in_ok-append_formula.ensures.ok d e) c.in_ok-append_bytes.ensures.ok (c.in_ok-append_formula-2.ensures.ok d e) c.in_ok-append_byte-2.ensures.ok
