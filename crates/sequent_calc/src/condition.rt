@@ -14,7 +14,7 @@ use crate::names::Names;
 use crate::step::{ModalArg, TermArg};
 use logic_rules::{Kind, Label, Logic, Mark, ModalPart, Problem, Shape};
 
-// Whether the arguments are just those that the kind of formula asks for. A literal without a modal part has no step.
+/// Whether the arguments are just those that the kind of formula asks for. A literal without a modal part has no step.
 pub fn arguments_fit(kind: Kind, modal: &ModalArg, term: &TermArg) -> bool
     ensures { result ≡ (modal_fits kind.modal (the_modal modal.now)
         && term_fits kind.shape (the_term_arg term.now) && has_step kind.modal kind.shape) }
@@ -53,7 +53,7 @@ fn has_step(kind: Kind) -> bool
     }
 }
 
-// Whether each name of the argument is listed.
+/// Whether each name of the argument is listed.
 pub fn is_known(names: &Names, term: &TermArg) -> bool
     ensures { result ≡ is_known (the_names names.now) (the_term_arg term.now) }
 {
@@ -64,7 +64,7 @@ pub fn is_known(names: &Names, term: &TermArg) -> bool
     }
 }
 
-// Whether a nu step of the logic leads to the label that it is given.
+/// Whether a nu step of the logic leads to the label that it is given.
 pub fn is_reachable(logic: Logic, from: &Label, modal: &ModalArg) -> bool
     ensures { result ≡ is_reachable logic from.now (the_modal modal.now) }
 {
@@ -101,7 +101,7 @@ fn eigen_occurs(number: u32, sequent: &[Entry]) -> bool
     false
 }
 
-// Whether the character or eigenvariable that the step brings occurs nowhere in the sequent.
+/// Whether the character or eigenvariable that the step brings occurs nowhere in the sequent.
 pub fn is_new(names: &Names, sequent: &[Entry], modal: &ModalArg, term: &TermArg) -> bool
     ensures { result ≡ (character_is_new (the_names names.now) (map the_entry sequent.now) (the_modal modal.now)
         && eigen_is_new (map the_entry sequent.now) (the_term_arg term.now)) }
@@ -117,7 +117,7 @@ pub fn is_new(names: &Names, sequent: &[Entry], modal: &ModalArg, term: &TermArg
     character_is_new && eigen_is_new
 }
 
-// Whether the home of the eigenvariable is the label of the component.
+/// Whether the home of the eigenvariable is the label of the component.
 pub fn home_is(names: &Names, at: &Label, term: &TermArg) -> bool
     ensures { result ≡ home_is (the_names names.now) at.now (the_term_arg term.now) }
 {
@@ -130,7 +130,7 @@ pub fn home_is(names: &Names, at: &Label, term: &TermArg) -> bool
     }
 }
 
-// Whether the term of a gamma step may stand at the label of the component.
+/// Whether the term of a gamma step may stand at the label of the component.
 pub fn term_allowed(problem: &Problem, names: &Names, at: &Label, term: &TermArg) -> bool
     ensures { result ≡ term_allowed problem.now (the_names names.now) at.now (the_term_arg term.now) }
 {

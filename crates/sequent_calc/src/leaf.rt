@@ -31,7 +31,7 @@ pub enum LeafTest<'a> {
     IsForbidden(&'a Problem, &'a Names, &'a Label),
 }
 
-// The first name of this number.
+/// The first name of this number.
 pub fn eigen_named(names: &Names, number: u32) -> Option<&(u32, Label)>
     ensures { option_map the_eigen (option_copied result) ≡ eigen_named (the_names names.now) number }
 {

@@ -91,7 +91,8 @@ fn with_entry(alloc: Global, entries: &[Entry], last: Entry) -> Result<Sequent, 
 
 /// The open sequents that a step of a derivation leads to, or the first demand of the rules that it does not meet. The
 /// children have the entries of the sequent and those that the step adds, which stand at the end. The definition gives
-/// either children or a fault, so no step has both.
+/// either children or a fault, so no step has both. For callers that want whole sequents; `addition_of` serves those that
+/// grow a branch in place.
 pub fn apply(
     alloc: Global,
     problem: &Problem,
