@@ -1,34 +1,20 @@
 //! The judgement of steps.
 
-ghost use Rattle.std.specs.Prelude.{◌≡◌, ◌+◌, ◌∷◌, ◌≤◌, [], List, IfOk, length, map};
+ghost use Rattle.std.specs.Prelude.{◌≡◌, ◌+◌, ◌∷◌, ◌≤◌, List, IfOk, length};
 ghost use Rattle.std.specs.Option.{option_map_or};
 ghost use Rattle.calculus.specs.Derivations as derivation;
-ghost use Rattle.calculus.specs.Derivations.{first_sequent};
 ghost use Rattle.calculus.specs.Judgement.{at_end, verdict_from, verdict_on};
 ghost use Rattle.derivation_check.specs.VerdictView.{the_verdict};
 ghost use Rattle.sequent_calc.specs.DerivationView.{the_derivation, the_names};
-ghost use Rattle.sequent_calc.specs.EntryView.{the_entry};
 ghost use Rattle.sequent_calc.specs.StepView.{the_step};
 
 use crate::open_sequents::OpenSequents;
 use crate::verdict::Verdict;
 use calculus::fault::CheckFault;
 use cop_base::NoMemory;
-use formula_core::Sign;
-use logic_rules::{Label, Problem};
+use logic_rules::Problem;
 use sequent_calc::{ApplyFault, Derivation, Entry, Names, Step, addition_of};
-use std::alloc::{AllocError, Global};
-
-// The one entry that a derivation begins with.
-fn first_entry(alloc: Global, problem: &Problem) -> Result<Entry, NoMemory>
-    ensures { IfOk result (λ e. the_entry e ∷ [] ≡ first_sequent problem.now) }
-{
-    Ok(Entry {
-        sign: Sign::F,
-        formula: problem.formula().copy(alloc)?,
-        label: Label::new(alloc),
-    })
-}
+use std::alloc::Global;
 
 // Judges one step; `None` where it leads on.
 fn judge_step(
@@ -82,7 +68,7 @@ pub fn judge(alloc: Global, problem: &Problem, d: &Derivation) -> Result<Verdict
     requires { 5 + length d.now.names.eigens + length d.now.names.spares + length d.now.steps ≤ 18446744073709551615 }
     ensures { IfOk result (λ v. the_verdict v ≡ verdict_on problem.now (the_derivation d.now)) }
 {
-    let mut open_sequents = OpenSequents::new(alloc, first_entry(alloc, problem)?)?;
+    let mut open_sequents = OpenSequents::new(alloc, Entry::first(alloc, problem)?)?;
     let names = &d.names;
     let mut line = 5 + names.eigens.items().len() as u64 + names.spares.items().len() as u64;
     for step in d.steps.items() {

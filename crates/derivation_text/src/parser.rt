@@ -1,6 +1,6 @@
 //! Parsing.
 
-ghost use Rattle.std.specs.Prelude.{◌≡◌, ◌≢◌, ◌+◌, ◌≤◌, [], ℕ, false, Err, IfOk, IsTrue, OnOk};
+ghost use Rattle.std.specs.Prelude.{◌≡◌, ◌≢◌, ◌+◌, ◌≤◌, ℕ, false, Err, IfOk, IsTrue, OnOk};
 ghost use Rattle.calculus.specs.DerivationText.{IsText};
 ghost use Rattle.calculus.specs.Judgement.{IsFaulty, cause_at};
 ghost use Rattle.calculus.specs.Problems.{is_problem};
@@ -20,25 +20,8 @@ use calculus::fault::TextCause;
 use cop_base::NoMemory;
 use formula_text::TextRead;
 use logic_rules::Problem;
-use sequent_calc::{Derivation, EigenList, Names, SpareList, StepList};
+use sequent_calc::Derivation;
 use std::alloc::Global;
-
-// The derivation without names and steps.
-fn start(alloc: Global, limit: u8) -> Derivation
-    ensures limit { result.limit ≡ limit }
-    ensures eigens { result.names.eigens ≡ [] }
-    ensures spares { result.names.spares ≡ [] }
-    ensures steps { result.steps ≡ [] }
-{
-    Derivation {
-        limit,
-        names: Names {
-            eigens: EigenList::new(alloc),
-            spares: SpareList::new(alloc),
-        },
-        steps: StepList::new(alloc),
-    }
-}
 
 // Puts a line behind those of a derivation.
 fn put_line(d: &mut Derivation, line: BodyLine) -> Result<(), NoMemory>
@@ -73,7 +56,7 @@ fn read_body(
     ensures fault { (line : ℕ) (cause : TextCause) → result ≡ Err (ParseFault.Text line cause) → IsFaultOf problem.now bytes.now line cause }
 {
     let length = bytes.len();
-    let mut d = start(alloc, limit);
+    let mut d = Derivation::new(alloc, limit);
     let mut stage = Stage::Eigens(0);
     let mut place = from;
     let mut count = 4;

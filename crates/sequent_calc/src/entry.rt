@@ -1,12 +1,13 @@
 //! Labelled signed formulas, and lists of them.
 
-ghost use Rattle.std.specs.Prelude.{◌≡◌, ◌++◌, ◌∷◌, [], map, OnOk, OnErr};
+ghost use Rattle.std.specs.Prelude.{◌≡◌, ◌++◌, ◌∷◌, [], map, IfOk, OnOk, OnErr};
+ghost use Rattle.calculus.specs.Derivations.{first_sequent};
 ghost use Rattle.sequent_calc.specs.EntryView.{the_entry};
 
 use cop_base::NoMemory;
 use formula_core::{Formula, Sign};
-use logic_rules::Label;
-use std::alloc::Global;
+use logic_rules::{Label, Problem};
+use std::alloc::{AllocError, Global};
 use std::marker::Model;
 
 /// A signed formula at a label. Sign T marks what is given, F what is to be shown.
@@ -16,6 +17,19 @@ pub struct Entry {
     pub formula: Formula,
     /// The prefix in Wallen's sense: the world at which the formula is given or to be shown.
     pub label: Label,
+}
+
+impl Entry {
+    /// The one entry that a derivation of the problem begins with: its formula, to be shown at the root.
+    pub fn first(alloc: Global, problem: &Problem) -> Result<Entry, NoMemory>
+        ensures { IfOk result (λ e. the_entry e ∷ [] ≡ first_sequent problem.now) }
+    {
+        Ok(Entry {
+            sign: Sign::F,
+            formula: problem.formula().copy(alloc)?,
+            label: Label::new(alloc),
+        })
+    }
 }
 
 /// A list of entries, which steps number from 1.

@@ -108,3 +108,16 @@ pub struct Names {
     pub eigens: EigenList,
     pub spares: SpareList,
 }
+
+impl Names {
+    /// No names.
+    pub fn new(alloc: Global) -> Names
+        ensures eigens { result.eigens ≡ [] }
+        ensures spares { result.spares ≡ [] }
+    {
+        Names {
+            eigens: EigenList::new(alloc),
+            spares: SpareList::new(alloc),
+        }
+    }
+}

@@ -9,11 +9,11 @@ ghost use Rattle.sequent_calc.specs.Examples.{IsExample, barcan, drinker, p, p_o
 
 use crate::derivation::Derivation;
 use crate::entry::{Entry, Sequent};
-use crate::names::{EigenList, Home, Names, SpareList};
+use crate::names::{Home, Names};
 use crate::rules::{ApplyFault, Children, StepFault, apply};
 use crate::step::{ModalArg, Step, StepList, TermArg};
 use cop_base::{NoMemory, SymbolId, Text};
-use formula_core::{AddFault, Formula, Sign, Symbol, SymbolClass, Symbols, Term, Terms};
+use formula_core::{AddFault, Formula, Symbol, SymbolClass, Symbols, Term, Terms};
 use logic_rules::{Domains, Label, Logic, Mark, Problem, Setting};
 use std::alloc::Global;
 use std::test::Fail;
@@ -162,21 +162,9 @@ fn derivation(alloc: Global, names: Names, lines: &[Line]) -> Result<Derivation,
     })
 }
 
-fn no_names(alloc: Global) -> Names {
-    Names {
-        eigens: EigenList::new(alloc),
-        spares: SpareList::new(alloc),
-    }
-}
-
 fn first_sequent(alloc: Global, problem: &Problem) -> Result<Sequent, NoMemory> {
-    let formula = problem.formula().copy(alloc)?;
     let mut first = Sequent::new(alloc);
-    first.push(Entry {
-        sign: Sign::F,
-        formula,
-        label: Label::new(alloc),
-    })?;
+    first.push(Entry::first(alloc, problem)?)?;
     Ok(first)
 }
 
@@ -215,7 +203,7 @@ fn fold(alloc: Global, problem: &Problem, d: &Derivation) -> Result<Seen, NoMemo
 }
 
 fn drinker_names(alloc: Global) -> Result<Names, NoMemory> {
-    let mut names = no_names(alloc);
+    let mut names = Names::new(alloc);
     names.eigens.push((1, Label::new(alloc)))?;
     names.eigens.push((2, Label::new(alloc)))?;
     names.spares.push((1, Home::Anywhere))?;
@@ -277,7 +265,7 @@ fn serial_steps(alloc: Global) -> Result<Seen, NoMemory> {
     fold(
         alloc,
         &problem,
-        &derivation(alloc, no_names(alloc), &lines)?,
+        &derivation(alloc, Names::new(alloc), &lines)?,
     )
 }
 
@@ -307,13 +295,13 @@ fn intuitionistic_steps(alloc: Global) -> Result<Seen, NoMemory> {
     fold(
         alloc,
         &problem,
-        &derivation(alloc, no_names(alloc), &lines)?,
+        &derivation(alloc, Names::new(alloc), &lines)?,
     )
 }
 
 fn barcan_steps(alloc: Global, problem: &Problem) -> Result<Seen, NoMemory> {
     let made = [Mark::New(1)];
-    let mut names = no_names(alloc);
+    let mut names = Names::new(alloc);
     names.eigens.push((1, label(alloc, &made)?))?;
     let lines = [
         Line::Use(1),
