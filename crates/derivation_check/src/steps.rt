@@ -65,7 +65,7 @@ fn at_end(open_sequents: &OpenSequents, line: u64) -> Verdict
 /// The verdict on the steps of a derivation. Lines are counted as in its text: the first step stands in the line after those
 /// of the head and the names.
 pub fn judge(alloc: Global, problem: &Problem, d: &Derivation) -> Result<Verdict, NoMemory>
-    requires { 5 + length d.now.names.eigens + length d.now.names.spares + length d.now.steps ≤ 18446744073709551615 }
+    requires { 5 + length d.now.names.eigens + length d.now.names.spares + length d.now.steps ≤ u64.MAX }
     ensures { IfOk result (λ v. the_verdict v ≡ verdict_on problem.now (the_derivation d.now)) }
 {
     let mut open_sequents = OpenSequents::new(alloc, Entry::first(alloc, problem)?)?;
