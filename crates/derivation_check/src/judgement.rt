@@ -23,10 +23,8 @@ pub fn check(alloc: Global, problem: &Problem, bytes: &[u8]) -> Result<Verdict, 
     // From one sequent two readings of a list of steps leave the same rest.
     ensures one_reading { (names : derivation.Names) → AtMostOneReading problem.now names }
 {
-    match judgement_of(alloc, problem, bytes) {
-        Ok(verdict) => Ok(verdict),
-        Err(NoMemory) => Err(NoMemory),
-    }
+    let verdict = judgement_of(alloc, problem, bytes)?;
+    Ok(verdict)
 }
 
 fn judgement_of(alloc: Global, problem: &Problem, bytes: &[u8]) -> Result<Verdict, NoMemory>
@@ -34,10 +32,10 @@ fn judgement_of(alloc: Global, problem: &Problem, bytes: &[u8]) -> Result<Verdic
     ensures well { IsTrue (is_problem problem.now) }
 {
     match parse(alloc, problem, bytes) {
-        Ok(derivation) => match judge(alloc, problem, &derivation) {
-            Ok(verdict) => Ok(verdict),
-            Err(NoMemory) => Err(NoMemory),
-        },
+        Ok(derivation) => {
+            let verdict = judge(alloc, problem, &derivation)?;
+            Ok(verdict)
+        }
         Err(ParseFault::Text { line, cause }) => Ok(Verdict::Rejected {
             line,
             fault: CheckFault::Text(cause),
