@@ -22,21 +22,15 @@ fn read_body_line(alloc: Global, problem: &Problem, text: &[u8]) -> Result<BodyL
         return Ok(BodyLine::End);
     }
     if let Some(rest) = rest_behind(text, b"name $$e") {
-        return match read_eigen(alloc, rest) {
-            Ok((number, home)) => Ok(BodyLine::Eigen(number, home)),
-            Err(fault) => Err(fault),
-        };
+        let (number, home) = read_eigen(alloc, rest)?;
+        return Ok(BodyLine::Eigen(number, home));
     }
     if let Some(rest) = rest_behind(text, b"name $$s") {
-        return match read_spare(alloc, rest) {
-            Ok((number, home)) => Ok(BodyLine::Spare(number, home)),
-            Err(fault) => Err(fault),
-        };
+        let (number, home) = read_spare(alloc, rest)?;
+        return Ok(BodyLine::Spare(number, home));
     }
-    match read_step(alloc, problem, text) {
-        Ok(step) => Ok(BodyLine::Step(step)),
-        Err(fault) => Err(fault),
-    }
+    let step = read_step(alloc, problem, text)?;
+    Ok(BodyLine::Step(step))
 }
 
 /// The line that the text is, if it may stand at a stage, and the stage behind it.
@@ -51,10 +45,7 @@ pub fn read_next(
     ensures stage { IfOk result (λ r. stage_after stage (the_body_line r.0) ≡ Some r.1) }
     ensures none { result ≡ Err TextRead.None → (x : body.BodyLine) → IsBodyLine problem.now.symbols text.now x → stage_after stage x ≡ None }
 {
-    let line = match read_body_line(alloc, problem, text) {
-        Ok(line) => line,
-        Err(fault) => return Err(fault),
-    };
+    let line = read_body_line(alloc, problem, text)?;
     match stage_after(stage, &line) {
         Some(next) => Ok((line, next)),
         None => Err(TextRead::None),

@@ -23,9 +23,7 @@ fn behind_line(text: &[u8], from: usize, line: &[u8]) -> Option<usize>
     ensures some { IfSome result (λ to. IsLineAt text.now from to line.now) }
     ensures none { IsNone result → (more : List (List ℕ)) → ¬ (whole_lines (drop from text.now) ≡ line.now ∷ more) }
 {
-    let Some((found, to)) = line_at(text, from) else {
-        return None;
-    };
+    let (found, to) = line_at(text, from)?;
     if found == line { Some(to) } else { None }
 }
 
@@ -37,16 +35,10 @@ fn limit_behind(text: &[u8], from: usize) -> Option<(u8, usize)>
     ensures none { IsNone result → (n : ℕ) (more : List (List ℕ)) → IsTrue (is_limit n)
         → ¬ (whole_lines (drop from text.now) ≡ (codes "limit " ++ decimal n) ∷ more) }
 {
-    let Some((line, to)) = line_at(text, from) else {
-        return None;
-    };
-    let Some(rest) = rest_behind(line, b"limit ") else {
-        return None;
-    };
-    match read_limit(rest) {
-        Some(limit) => Some((limit, to)),
-        None => None,
-    }
+    let (line, to) = line_at(text, from)?;
+    let rest = rest_behind(line, b"limit ")?;
+    let limit = read_limit(rest)?;
+    Some((limit, to))
 }
 
 fn setting_line(alloc: Global, problem: &Problem) -> Result<Vec<u8>, NoMemory>

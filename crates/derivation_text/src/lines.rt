@@ -26,8 +26,6 @@ pub fn line_at(text: &[u8], from: usize) -> Option<(&[u8], usize)>
     ensures none { IsNone result → whole_lines (drop from text.now) ≡ [] }
 {
     let rest = &text[from..];
-    match line_feed(rest) {
-        Some(i) => Some((&rest[..i], from + i + 1)),
-        None => None,
-    }
+    let i = line_feed(rest)?;
+    Some((&rest[..i], from + i + 1))
 }

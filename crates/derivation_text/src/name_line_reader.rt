@@ -22,10 +22,8 @@ pub fn read_eigen(alloc: Global, text: &[u8]) -> Result<(u32, Label), TextRead>
     let Some(rest) = rest_behind(rest, b" ") else {
         return Err(TextRead::None);
     };
-    match read_whole_label(alloc, rest) {
-        Ok(home) => Ok((n, home)),
-        Err(fault) => Err(fault),
-    }
+    let home = read_whole_label(alloc, rest)?;
+    Ok((n, home))
 }
 
 /// The number and the home of a spare constant behind `name $$s`.
@@ -39,8 +37,6 @@ pub fn read_spare(alloc: Global, text: &[u8]) -> Result<(u32, Home), TextRead>
     let Some(rest) = rest_behind(rest, b" ") else {
         return Err(TextRead::None);
     };
-    match read_home(alloc, rest) {
-        Ok(home) => Ok((n, home)),
-        Err(fault) => Err(fault),
-    }
+    let home = read_home(alloc, rest)?;
+    Ok((n, home))
 }

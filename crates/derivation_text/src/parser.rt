@@ -93,9 +93,6 @@ pub fn parse(alloc: Global, problem: &Problem, bytes: &[u8]) -> Result<Derivatio
     ensures first { AtMostOneFault problem.now bytes.now }
     ensures well { IsTrue (is_problem problem.now) }
 {
-    let (limit, from) = match read_head(alloc, problem, bytes) {
-        Ok(found) => found,
-        Err(fault) => return Err(fault),
-    };
+    let (limit, from) = read_head(alloc, problem, bytes)?;
     read_body(alloc, problem, bytes, from, limit)
 }

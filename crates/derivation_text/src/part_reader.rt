@@ -26,10 +26,8 @@ pub fn read_front_number(text: &[u8]) -> Option<(u32, &[u8])>
     ensures some { IfSome result (λ r. IsNumberBefore text.now r.0 r.1.now) }
     ensures none { IsNone result → (n : ℕ) (rest : List ℕ) → ¬ IsNumberBefore text.now n rest }
 {
-    match read_number(text, 0) {
-        Some((n, to)) => Some((n, &text[to..])),
-        None => None,
-    }
+    let (n, to) = read_number(text, 0)?;
+    Some((n, &text[to..]))
 }
 
 /// A number that is the whole text.
@@ -37,9 +35,7 @@ pub fn read_whole_number(text: &[u8]) -> Option<u32>
     ensures some { IfSome result (λ n. IsNumber text.now n) }
     ensures none { IsNone result → (n : ℕ) → ¬ IsNumber text.now n }
 {
-    let Some((n, rest)) = read_front_number(text) else {
-        return None;
-    };
+    let (n, rest) = read_front_number(text)?;
     if rest.is_empty() { Some(n) } else { None }
 }
 
@@ -48,9 +44,7 @@ pub fn read_name_number(text: &[u8]) -> Option<u32>
     ensures some { IfSome result (λ n. IsNameNumber text.now n) }
     ensures none { IsNone result → (n : ℕ) → ¬ IsNameNumber text.now n }
 {
-    let Some(n) = read_whole_number(text) else {
-        return None;
-    };
+    let n = read_whole_number(text)?;
     if n >= 1 { Some(n) } else { None }
 }
 
@@ -59,9 +53,7 @@ pub fn read_limit(text: &[u8]) -> Option<u8>
     ensures some { IfSome result (λ n. IsLimit text.now n) }
     ensures none { IsNone result → (n : ℕ) → ¬ IsLimit text.now n }
 {
-    let Some(n) = read_whole_number(text) else {
-        return None;
-    };
+    let n = read_whole_number(text)?;
     if n >= 1 && n <= 200 {
         Some(n as u8)
     } else {
@@ -74,10 +66,8 @@ pub fn read_front_label(alloc: Global, text: &[u8]) -> Result<(Label, &[u8]), Te
     ensures ok { IfOk result (λ r. IsLabelBefore text.now r.0 r.1.now) }
     ensures none { result ≡ Err TextRead.None → (w : derivation.Label) (rest : List ℕ) → ¬ IsLabelBefore text.now w rest }
 {
-    match read_label(alloc, text, 0) {
-        Ok((label, to)) => Ok((label, &text[to..])),
-        Err(fault) => Err(fault),
-    }
+    let (label, to) = read_label(alloc, text, 0)?;
+    Ok((label, &text[to..]))
 }
 
 /// A label that is the whole text.
@@ -104,10 +94,8 @@ pub fn read_home(alloc: Global, text: &[u8]) -> Result<Home, TextRead>
     if text == b"any".as_slice() {
         return Ok(Home::Anywhere);
     }
-    match read_whole_label(alloc, text) {
-        Ok(label) => Ok(Home::At(label)),
-        Err(fault) => Err(fault),
-    }
+    let label = read_whole_label(alloc, text)?;
+    Ok(Home::At(label))
 }
 
 /// A term that is the whole text.
@@ -115,12 +103,10 @@ pub fn read_whole_term(alloc: Global, problem: &Problem, text: &[u8]) -> Result<
     ensures ok { IfOk result (λ t. IsTerm problem.now.symbols text.now (the_term t)) }
     ensures none { result ≡ Err TextRead.None → (t : tree.Term) → ¬ IsTerm problem.now.symbols text.now t }
 {
-    match read_term(alloc, problem.symbols(), text, 0) {
-        Ok((term, to)) => if to == text.len() {
-            Ok(term)
-        } else {
-            Err(TextRead::None)
-        },
-        Err(fault) => Err(fault),
+    let (term, to) = read_term(alloc, problem.symbols(), text, 0)?;
+    if to == text.len() {
+        Ok(term)
+    } else {
+        Err(TextRead::None)
     }
 }

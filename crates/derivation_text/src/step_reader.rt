@@ -23,10 +23,8 @@ fn read_term_arg(alloc: Global, problem: &Problem, text: &[u8]) -> Result<TermAr
         return Ok(TermArg::None);
     }
     if let Some(rest) = rest_behind(text, b" term ") {
-        return match read_whole_term(alloc, problem, rest) {
-            Ok(term) => Ok(TermArg::Term(term)),
-            Err(fault) => Err(fault),
-        };
+        let term = read_whole_term(alloc, problem, rest)?;
+        return Ok(TermArg::Term(term));
     }
     let Some(rest) = rest_behind(text, b" name $$e") else {
         return Err(TextRead::None);
@@ -50,10 +48,8 @@ fn read_label_and_arg(
         Ok(found) => found,
         Err(fault) => return Err(fault),
     };
-    match read_term_arg(alloc, problem, rest) {
-        Ok(arg) => Ok((label, arg)),
-        Err(fault) => Err(fault),
-    }
+    let arg = read_term_arg(alloc, problem, rest)?;
+    Ok((label, arg))
 }
 
 // The number of a step's new character and its argument for a variable.
@@ -71,10 +67,8 @@ fn read_new_and_arg(
     if n == 0 {
         return Err(TextRead::None);
     }
-    match read_term_arg(alloc, problem, rest) {
-        Ok(arg) => Ok((n, arg)),
-        Err(fault) => Err(fault),
-    }
+    let arg = read_term_arg(alloc, problem, rest)?;
+    Ok((n, arg))
 }
 
 // The arguments of a use step.
@@ -83,21 +77,15 @@ fn read_args(alloc: Global, problem: &Problem, text: &[u8]) -> Result<(ModalArg,
     ensures none { result ≡ Err TextRead.None → (m : derivation.ModalArg) (t : derivation.TermArg) → ¬ AreArgs problem.now.symbols text.now m t }
 {
     if let Some(rest) = rest_behind(text, b" to ") {
-        return match read_label_and_arg(alloc, problem, rest) {
-            Ok((label, arg)) => Ok((ModalArg::To(label), arg)),
-            Err(fault) => Err(fault),
-        };
+        let (label, arg) = read_label_and_arg(alloc, problem, rest)?;
+        return Ok((ModalArg::To(label), arg));
     }
     if let Some(rest) = rest_behind(text, b" new $$c") {
-        return match read_new_and_arg(alloc, problem, rest) {
-            Ok((n, arg)) => Ok((ModalArg::New(n), arg)),
-            Err(fault) => Err(fault),
-        };
+        let (n, arg) = read_new_and_arg(alloc, problem, rest)?;
+        return Ok((ModalArg::New(n), arg));
     }
-    match read_term_arg(alloc, problem, text) {
-        Ok(arg) => Ok((ModalArg::None, arg)),
-        Err(fault) => Err(fault),
-    }
+    let arg = read_term_arg(alloc, problem, text)?;
+    Ok((ModalArg::None, arg))
 }
 
 // A use step behind its first word.
@@ -112,10 +100,8 @@ fn read_use(
     let Some((entry, rest)) = read_front_number(text) else {
         return Err(TextRead::None);
     };
-    match read_args(alloc, problem, rest) {
-        Ok((modal, term)) => Ok((entry, modal, term)),
-        Err(fault) => Err(fault),
-    }
+    let (modal, term) = read_args(alloc, problem, rest)?;
+    Ok((entry, modal, term))
 }
 
 // Two numbers with a space between them.
@@ -123,16 +109,10 @@ fn read_number_pair(text: &[u8]) -> Option<(u32, u32)>
     ensures some { IfSome result (λ r. IsNumberPair text.now r.0 r.1) }
     ensures none { IsNone result → (n k : ℕ) → ¬ IsNumberPair text.now n k }
 {
-    let Some((given, rest)) = read_front_number(text) else {
-        return None;
-    };
-    let Some(rest) = rest_behind(rest, b" ") else {
-        return None;
-    };
-    match read_whole_number(rest) {
-        Some(shown) => Some((given, shown)),
-        None => None,
-    }
+    let (given, rest) = read_front_number(text)?;
+    let rest = rest_behind(rest, b" ")?;
+    let shown = read_whole_number(rest)?;
+    Some((given, shown))
 }
 
 /// The step whose line is the text.
@@ -141,10 +121,8 @@ pub fn read_step(alloc: Global, problem: &Problem, text: &[u8]) -> Result<Step, 
     ensures none { result ≡ Err TextRead.None → (x : derivation.Step) → ¬ IsStep problem.now.symbols text.now x }
 {
     if let Some(rest) = rest_behind(text, b"use ") {
-        return match read_use(alloc, problem, rest) {
-            Ok((entry, modal, term)) => Ok(Step::Use { entry, modal, term }),
-            Err(fault) => Err(fault),
-        };
+        let (entry, modal, term) = read_use(alloc, problem, rest)?;
+        return Ok(Step::Use { entry, modal, term });
     }
     let Some(rest) = rest_behind(text, b"axiom ") else {
         return Err(TextRead::None);

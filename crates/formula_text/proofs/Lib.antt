@@ -11,3 +11,4 @@ pub mod Heads
 pub mod Closings
 pub mod Apart
 pub mod Fitting
+pub mod Passing

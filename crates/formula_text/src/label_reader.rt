@@ -88,10 +88,7 @@ pub fn read_label(alloc: Global, text: &[u8], from: usize) -> Result<(Label, usi
     if !has_byte(text, from, b'[') {
         return Err(TextRead::None);
     }
-    let (label, to) = match read_inner(alloc, text, from + 1) {
-        Ok(found) => found,
-        Err(fault) => return Err(fault),
-    };
+    let (label, to) = read_inner(alloc, text, from + 1)?;
     if ends_at(text, to) {
         Ok((label, to))
     } else {

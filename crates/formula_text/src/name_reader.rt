@@ -122,10 +122,7 @@ fn read_quoted(alloc: Global, text: &[u8], from: usize) -> Result<(Text, usize),
     ensures within { IfOk result (λ r. r.1 ≤ length text.now) }
     ensures none { result ≡ Err TextRead.None → (to : ℕ) (name : List ℕ) → ¬ IsNameAt text.now from to name }
 {
-    let (name, to) = match read_characters(alloc, text, from + 1) {
-        Ok(found) => found,
-        Err(fault) => return Err(fault),
-    };
+    let (name, to) = read_characters(alloc, text, from + 1)?;
     if !is_whole(name.as_slice(), text, to) {
         return Err(TextRead::None);
     }

@@ -91,20 +91,15 @@ fn read_head(alloc: Global, symbols: &Symbols, text: &[u8], from: usize) -> Resu
             None => Err(TextRead::None),
         };
     }
-    let (name, end) = match read_name(alloc, text, from) {
-        Ok(found) => found,
-        Err(fault) => return Err(fault),
-    };
+    let (name, end) = read_name(alloc, text, from)?;
     if has_byte(text, end, b'(') {
         return Ok(Head::Open(name, end + 1));
     }
     if !ends_at(text, end) {
         return Err(TextRead::None);
     }
-    match function_of(symbols, name, 0) {
-        Ok(id) => Ok(Head::Whole(Term::Fun(id, Terms::new(alloc)), end)),
-        Err(fault) => Err(fault),
-    }
+    let id = function_of(symbols, name, 0)?;
+    Ok(Head::Whole(Term::Fun(id, Terms::new(alloc)), end))
 }
 
 // The term of a frame whose arguments are all read.
@@ -113,10 +108,8 @@ fn finish(symbols: &Symbols, frame: Frame) -> Result<Term, TextRead>
     ensures none { result ≡ Err TextRead.None → NoFunction symbols.now frame.name (length frame.args) }
 {
     let Frame { name, args } = frame;
-    match function_of(symbols, name, args.len()) {
-        Ok(id) => Ok(Term::Fun(id, args)),
-        Err(fault) => Err(fault),
-    }
+    let id = function_of(symbols, name, args.len())?;
+    Ok(Term::Fun(id, args))
 }
 
 // What a term behind the open ones is: an argument that others follow, or the last one of its frame, which is closed, and so on outward.
@@ -153,10 +146,7 @@ fn close_frames(
         if !ends_at(text, end) {
             return Err(TextRead::None);
         }
-        term = match finish(symbols, frame) {
-            Ok(whole) => whole,
-            Err(fault) => return Err(fault),
-        };
+        term = finish(symbols, frame)?;
     }
     Ok(Closed::Whole(term, end))
 }
@@ -181,10 +171,7 @@ pub fn read_term(
     let mut stack = Vec::new(alloc);
     let mut place = from;
     loop {
-        let head = match read_head(alloc, symbols, text, place) {
-            Ok(head) => head,
-            Err(fault) => return Err(fault),
-        };
+        let head = read_head(alloc, symbols, text, place)?;
         let (term, end) = match head {
             Head::Open(name, end) => {
                 stack.push(Frame {

@@ -6,4 +6,4 @@ use Rattle.derivation_text.proofs.body_reader.read_next.Goals as goal
 
 pub returns-in-None-clause-none : goal.returns-in-None-clause-none
 returns-in-None-clause-none c = λ _ x h.
-    no-stage c.args.problem.now.symbols (kept c.args.problem.now c.requires).distinct c.args.text.now (the_body_line c.in-Ok.line) c.args.stage c.in-Ok.ensures.ok (sym c.stage_after.ensures ∙ c.in-None.is) x h
+    no-stage c.args.problem.now.symbols (kept c.args.problem.now c.requires).distinct c.args.text.now (the_body_line c.in_ok-line.line) c.args.stage c.in_ok-line.ensures.ok (sym c.stage_after.ensures ∙ c.in-None.is) x h

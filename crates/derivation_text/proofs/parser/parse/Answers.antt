@@ -3,11 +3,11 @@ use Rattle.calculus.proofs.JudgementLaws.{faulty-unique}
 use Rattle.logic_rules.proofs.ProblemFacts.{kept}
 use Rattle.derivation_text.proofs.parser.parse.Goals as goal
 
-pub returns-in-Err-clause-derivation : goal.returns-in-Err-clause-derivation
-returns-in-Err-clause-derivation c = λ d e t u. text-unique c.args.problem.now (kept c.args.problem.now c.read_head.ensures.well).distinct d e c.args.bytes.now t u
+pub returns-in_err-limit-clause-derivation : goal.returns-in_err-limit-clause-derivation
+returns-in_err-limit-clause-derivation c = λ d e t u. text-unique c.args.problem.now (kept c.args.problem.now c.read_head.ensures.well).distinct d e c.args.bytes.now t u
 
-pub returns-in-Err-clause-first : goal.returns-in-Err-clause-first
-returns-in-Err-clause-first c = λ m n. faulty-unique c.args.problem.now c.args.bytes.now m n
+pub returns-in_err-limit-clause-first : goal.returns-in_err-limit-clause-first
+returns-in_err-limit-clause-first c = λ m n. faulty-unique c.args.problem.now c.args.bytes.now m n
 
 pub returns-clause-derivation : goal.returns-clause-derivation
 returns-clause-derivation c = λ d e t u. text-unique c.args.problem.now (kept c.args.problem.now c.read_head.ensures.well).distinct d e c.args.bytes.now t u

@@ -2,5 +2,5 @@ use Rattle.std.proofs.Common.{◌+◌, length, refl, decimal}
 use Rattle.derivation_text.proofs.Parts.{number-at}
 use Rattle.derivation_text.proofs.part_reader.read_front_number.Goals as goal
 
-pub returns-in-None-clause-none : goal.returns-in-None-clause-none
-returns-in-None-clause-none c = λ _ n rest h. c.in-None.ensures.none refl n (0 + length (decimal n)) (number-at c.args.text.now n rest h)
+pub returns-in_err-n-clause-none : goal.returns-in_err-n-clause-none
+returns-in_err-n-clause-none c = λ _ n rest h. c.in_err-n.ensures.none refl n (0 + length (decimal n)) (number-at c.args.text.now n rest h)

@@ -4,7 +4,7 @@ use Rattle.derivation_text.proofs.part_reader.read_limit.Goals as goal
 use Rattle.derivation_text.proofs.part_reader.read_limit.Goals.{else-n-ge1-via-then-n-ge1+else-n-le200, else-n-ge1-via-else-n-ge1}
 
 pub returns-else-n-ge1-clause-none : goal.returns-else-n-ge1-clause-none
-returns-else-n-ge1-clause-none c = λ _ n h. let b = limit-within c.args.text.now _ c.in-Some.ensures.some n h in elim c.else-n-ge1.branch [
+returns-else-n-ge1-clause-none c = λ _ n h. let b = limit-within c.args.text.now _ c.in_ok-n.ensures.some n h in elim c.else-n-ge1.branch [
   | else-n-ge1-via-then-n-ge1+else-n-le200 w ↦ let x = w.if-n-le200.false in absurd (omega arith)
   | else-n-ge1-via-else-n-ge1 w ↦ let x = w.if-n-ge1.false in absurd (omega arith)
 ]

@@ -1,9 +1,7 @@
-use Rattle.std.proofs.Common.{◌≡◌, Err, ap}
 use Rattle.derivation_text.proofs.Args.{no-label_and-arg}
-use Rattle.formula_text.specs.declared.read.TextRead.TheVariants as reason
+use Rattle.formula_text.proofs.Passing.{error-passed}
 use Rattle.derivation_text.proofs.step_reader.read_label_and_arg.Goals as goal
 
-pub returns-in-Err-read_term_arg-clause-none : goal.returns-in-Err-read_term_arg-clause-none
-returns-in-Err-read_term_arg-clause-none c = λ e.
-    let f : c.in-Err-read_term_arg.fault ≡ reason.None = cc e in
-    no-label_and-arg c.args.problem.now.symbols c.args.text.now _ _ c.in-Ok.ensures.ok (c.in-Err-read_term_arg.ensures.none (ap (λ x. Err x) f))
+pub returns-in_err-arg-clause-none : goal.returns-in_err-arg-clause-none
+returns-in_err-arg-clause-none c = λ e.
+    no-label_and-arg c.args.problem.now.symbols c.args.text.now _ _ c.in-Ok.ensures.ok (c.in_err-arg.ensures.none (error-passed c.from_residual.result c.in_err-arg.field-0.0 _ c.from_residual.ensures.1 e))

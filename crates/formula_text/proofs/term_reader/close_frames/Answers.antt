@@ -1,10 +1,10 @@
-use Rattle.std.proofs.Common.{◌≡◌, ◌+◌, ◌∷◌, [], ◌++◌, Err, ap, arith, drop, refl, subst, sym, ◌∙◌}
+use Rattle.std.proofs.Common.{◌≡◌, ◌+◌, ◌∷◌, [], ◌++◌, arith, drop, refl, subst, sym, ◌∙◌}
 use Rattle.std.proofs.lemmas.Bool.{false≢true}
 use Rattle.formula_core.specs.TermView.{the_term}
 use Rattle.formula_text.proofs.Closings.{further-read, further-written, none-at, one_more, out-read, read-at, whole-written, written-at}
 use Rattle.formula_text.proofs.Frames.{frames-pop, no_close_end, no_close_function, no_follower}
 use Rattle.formula_text.specs.Frames.{NoFunction}
-use Rattle.formula_text.specs.declared.read.TextRead.TheVariants as reason
+use Rattle.formula_text.proofs.Passing.{error-passed}
 use Rattle.formula_text.proofs.term_reader.close_frames.Goals as goal
 
 pub returns-then-has_byte-clause-ok : goal.returns-then-has_byte-clause-ok
@@ -41,14 +41,13 @@ returns-then-not-ends_at-clause-none c = λ _.
     (no_close_end S c.requires.distinct c.pop.new.self.items c.in-Some.frame v after (written-at S c.loop-frame.stack.items (c.pop.new.self.items ++ c.in-Some.frame ∷ []) stack c.loop-frame.invariant.frames) c.loop-frame.invariant.written
     (λ e. false≢true (sym c.if-not-ends_at.true ∙ c.ends_at.ensures.1 e)))
 
-pub returns-in-Err-clause-none : goal.returns-in-Err-clause-none
-returns-in-Err-clause-none c = λ e.
-    let f : c.in-Err.fault ≡ reason.None = cc e in
+pub returns-in_err-term-clause-none : goal.returns-in_err-term-clause-none
+returns-in_err-term-clause-none c = λ e.
     let S = c.args.symbols.now in
     let v = the_term c.loop-frame.term in
     let after = drop (c.loop-frame.end + 1) c.args.text.now in
     let stack : c.loop-frame.stack.items ≡ c.pop.new.self.items ++ c.in-Some.frame ∷ [] = c.in-Some.ensures.items in
-    let none = subst (λ n. NoFunction S c.in-Some.frame.name n) (one_more c.in-Some.frame.args c.push.new.self v c.in_ok-push.ensures.ok) (c.in-Err.ensures.none (ap (λ x. Err x) f)) in
+    let none = subst (λ n. NoFunction S c.in-Some.frame.name n) (one_more c.in-Some.frame.args c.push.new.self v c.in_ok-push.ensures.ok) (c.in_err-term.ensures.none (error-passed c.from_residual-in_err-term.result c.in_err-term.field-0.0 _ c.from_residual-in_err-term.ensures.1 e)) in
     none-at S c.loop-frame.stack.items (c.pop.new.self.items ++ c.in-Some.frame ∷ []) v (drop c.loop-frame.end c.args.text.now) (41 ∷ after) _ stack (c.has_byte-in-Some.ensures.yes c.if-not-has_byte.false) c.loop-frame.invariant.read
     (no_close_function S c.requires.distinct c.pop.new.self.items c.in-Some.frame v after (written-at S c.loop-frame.stack.items (c.pop.new.self.items ++ c.in-Some.frame ∷ []) stack c.loop-frame.invariant.frames) c.loop-frame.invariant.written none)
 
@@ -56,12 +55,12 @@ pub loop-frame-preserved : goal.loop-frame-preserved
 loop-frame-preserved c =
     let S = c.args.symbols.now in
     let v = the_term c.loop-frame.term in
-    let t = the_term c.in-Ok.whole in
+    let t = the_term c.in_ok-term.term in
     let fs = c.pop.new.self.items in
     let f = c.in-Some.frame in
     let after = drop (c.loop-frame.end + 1) c.args.text.now in
     let stack : c.loop-frame.stack.items ≡ c.pop.new.self.items ++ c.in-Some.frame ∷ [] = c.in-Some.ensures.items in
-    let known = c.in-Ok.ensures.ok in
+    let known = c.in_ok-term.ensures.ok in
     let read = read-at S c.loop-frame.stack.items (fs ++ f ∷ []) v (drop c.loop-frame.end c.args.text.now) (41 ∷ after) _ stack (c.has_byte-in-Some.ensures.yes c.if-not-has_byte.false) c.loop-frame.invariant.read in
     let written = written-at S c.loop-frame.stack.items (fs ++ f ∷ []) stack c.loop-frame.invariant.frames in
     let within = c.has_byte-in-Some.ensures.within c.if-not-has_byte.false in
