@@ -47,13 +47,13 @@ fn function_of(symbols: &Symbols, name: Text, arity: usize) -> Result<SymbolId, 
     ensures none { result ≡ Err TextRead.None → NoFunction symbols.now name arity }
 {
     // A list of 2^32 arguments fits no memory.
-    if arity > 4294967295 {
+    let Ok(arity) = u32::try_from(arity) else {
         return Err(TextRead::NoMemory);
-    }
+    };
     let symbol = Symbol {
         name,
         class: SymbolClass::Function,
-        arity: arity as u32,
+        arity,
     };
     match symbols.find(&symbol) {
         Some(id) => Ok(id),
@@ -166,7 +166,7 @@ pub fn read_term(
     ensures none { result ≡ Err TextRead.None → (to : ℕ) (t : tree.Term) → ¬ IsTermAt symbols.now text.now from to t }
     ensures one { AtMostOneTerm symbols.now }
 {
-    // Its contract says that no symbol stands twice in the list.
+    // Called for its contract alone, which says that no symbol stands twice in the list.
     let _count = symbols.len();
     let mut stack = Vec::new(alloc);
     let mut place = from;
