@@ -48,16 +48,16 @@ fn counts(f: &Formula, sign: Sign, limit: u64) -> Totals
         },
         Formula::Not(a) => counts(a, sign.other(), limit),
         Formula::And(a, b) => match sign {
-            Sign::T => joined(a, sign, b, sign, limit),
-            Sign::F => paired(a, sign, b, sign, limit),
+            Sign::T => alpha_totals(a, sign, b, sign, limit),
+            Sign::F => beta_totals(a, sign, b, sign, limit),
         },
         Formula::Or(a, b) => match sign {
-            Sign::T => paired(a, sign, b, sign, limit),
-            Sign::F => joined(a, sign, b, sign, limit),
+            Sign::T => beta_totals(a, sign, b, sign, limit),
+            Sign::F => alpha_totals(a, sign, b, sign, limit),
         },
         Formula::Imp(a, b) => match sign {
-            Sign::T => paired(a, Sign::F, b, Sign::T, limit),
-            Sign::F => joined(a, Sign::T, b, Sign::F, limit),
+            Sign::T => beta_totals(a, Sign::F, b, Sign::T, limit),
+            Sign::F => alpha_totals(a, Sign::T, b, Sign::F, limit),
         },
         Formula::All(a) | Formula::Ex(a) | Formula::Nec(a) | Formula::Poss(a) => {
             counts(a, sign, limit)
@@ -67,7 +67,7 @@ fn counts(f: &Formula, sign: Sign, limit: u64) -> Totals
 
 // The clauses of either part.
 #[cycle(counts)]
-fn joined(a: &Formula, a_sign: Sign, b: &Formula, b_sign: Sign, limit: u64) -> Totals
+fn alpha_totals(a: &Formula, a_sign: Sign, b: &Formula, b_sign: Sign, limit: u64) -> Totals
     requires { limit ≤ 2 ^ 40 }
     ensures clauses { result.clauses
         ≡ min (clause_count (the_formula a.now) a_sign + clause_count (the_formula b.now) b_sign) (limit + 1) }
@@ -84,7 +84,7 @@ fn joined(a: &Formula, a_sign: Sign, b: &Formula, b_sign: Sign, limit: u64) -> T
 
 // A clause for each pair of one of the left part and one of the right.
 #[cycle(counts)]
-fn paired(a: &Formula, a_sign: Sign, b: &Formula, b_sign: Sign, limit: u64) -> Totals
+fn beta_totals(a: &Formula, a_sign: Sign, b: &Formula, b_sign: Sign, limit: u64) -> Totals
     requires { limit ≤ 2 ^ 40 }
     ensures clauses { result.clauses
         ≡ min (clause_count (the_formula a.now) a_sign * clause_count (the_formula b.now) b_sign) (limit + 1) }

@@ -14,8 +14,8 @@ use Rattle.propositional_convert.specs.NodeView.{IsOne, AreTwo}
 use Rattle.propositional_convert.specs.Outcomes.{WorkOff, StaysOpen, IsFork, IsOutcome, IsUse}
 use Rattle.propositional_convert.proofs.Literals.{literal_at-within}
 use Rattle.propositional_convert.proofs.Sizes.{size-pos}
-use Rattle.propositional_convert.proofs.Steps.{led-none, led-closed, led-one, led-both, forked, closed-by_pair}
-use Rattle.propositional_convert.proofs.Worked.{get-within, fit-added, one-worked, both-worked, first-worked, second-worked}
+use Rattle.propositional_convert.proofs.Steps.{led-none, led-closed, led-one, led-alpha, forked, closed-by_pair}
+use Rattle.propositional_convert.proofs.Worked.{get-within, fit-added, one-worked, alpha-worked, first-worked, second-worked}
 
 pub numbered-within : (ns : List Node) (k : ℕ) (l : Literal) → literal_numbered ns k ≡ Some l → k ≤ length ns
 numbered-within ns zero l h = omega arith
@@ -69,16 +69,16 @@ used-one zs marks ns ms k number n a before after fit h few one e outcome used =
     (led-one ns k n a zs before (number-small ns k n h few) (fit k n h).propositional h one)
     (omega (arith, length-append ns (a ∷ []))) outcome used
 
-pub used-both : (zs : List ℕ) (marks : List Bool) (ns ms : List Node) (k number : ℕ) (n a b : Node) (before after : List Step) → AllFit zs ns → slice_get ns k ≡ Some n → length ns ≤ 4000000 → shape_of n.sign n.formula ≡ Alpha → AreTwo zs n a b → number ≡ suc k → (outcome : Outcome) → IsUse ns ms number (a ∷ b ∷ []) before after outcome → IsOutcome zs marks ns ms k before after outcome
-used-both zs marks ns ms k number n a b before after fit h few shape parts e outcome used =
+pub used-alpha : (zs : List ℕ) (marks : List Bool) (ns ms : List Node) (k number : ℕ) (n a b : Node) (before after : List Step) → AllFit zs ns → slice_get ns k ≡ Some n → length ns ≤ 4000000 → shape_of n.sign n.formula ≡ Alpha → AreTwo zs n a b → number ≡ suc k → (outcome : Outcome) → IsUse ns ms number (a ∷ b ∷ []) before after outcome → IsOutcome zs marks ns ms k before after outcome
+used-alpha zs marks ns ms k number n a b before after fit h few shape parts e outcome used =
     let light : weight (a ∷ b ∷ []) < size n.formula = (let s : size n.formula ≡ suc (size a.formula + size b.formula) = parts.size_is in omega arith) in
     added-outcome zs marks ns ms (a ∷ b ∷ []) k number before after e fit
-    (record { entry = n; there = h; fit = (parts.first_fit, (parts.second_fit, tt)); lighter = light; done = both-worked marks ns n a b zs shape parts })
-    (led-both ns k n a b zs before (number-small ns k n h few) (fit k n h).propositional h shape parts)
+    (record { entry = n; there = h; fit = (parts.first_fit, (parts.second_fit, tt)); lighter = light; done = alpha-worked marks ns n a b zs shape parts })
+    (led-alpha ns k n a b zs before (number-small ns k n h few) (fit k n h).propositional h shape parts)
     (omega (arith, length-append ns (a ∷ b ∷ []))) outcome used
 
-pub used-either : (zs : List ℕ) (marks : List Bool) (ns : List Node) (k number : ℕ) (n a b : Node) (before after : List Step) → AllFit zs ns → slice_get ns k ≡ Some n → length ns ≤ 4000000 → shape_of n.sign n.formula ≡ Beta → AreTwo zs n a b → number ≡ suc k → after ≡ before ++ plain_use number ∷ [] → IsFork zs marks ns ns a b k before after
-used-either zs marks ns k number n a b before after fit h few shape parts e grown =
+pub used-beta : (zs : List ℕ) (marks : List Bool) (ns : List Node) (k number : ℕ) (n a b : Node) (before after : List Step) → AllFit zs ns → slice_get ns k ≡ Some n → length ns ≤ 4000000 → shape_of n.sign n.formula ≡ Beta → AreTwo zs n a b → number ≡ suc k → after ≡ before ++ plain_use number ∷ [] → IsFork zs marks ns ns a b k before after
+used-beta zs marks ns k number n a b before after fit h few shape parts e grown =
     let first_light : weight (a ∷ []) < size n.formula = (let s : size n.formula ≡ suc (size a.formula + size b.formula) = parts.size_is in omega arith) in
     let second_light : weight (b ∷ []) < size n.formula = (let s : size n.formula ≡ suc (size a.formula + size b.formula) = parts.size_is in omega arith) in
     record {

@@ -113,28 +113,28 @@ followed-right marks c a b [] rest y us i g e = absurd cc
 followed-right marks c a b (Left ∷ sides) rest y us i g e = absurd cc
 followed-right marks c a b (Right ∷ sides) rest y us i g e = i y us g cc
 
-both-shaped : (marks : List Bool) (c : Spot) (s : Sign) (f : Formula) (a b : Signed) (sides rest : List Side) → shape_of s f ≡ Alpha → components s f ≡ a ∷ b ∷ [] → IsMarked marks c.position → Follows marks c a b sides rest → (x : Share) (unused : List Side) → Shaped Classical c s f x → sides ≡ x.sides ++ unused → AllByRecursion (IsMarkedTurn marks) x.turns × (rest ≡ unused)
-both-shaped marks c s f a b sides rest h p m i x us is_literal e = absurd (alpha≢literal h refl)
-both-shaped marks c s f a b sides rest h p m i x us (by_only q k g) e = absurd (one≢two (sym k ∙ p))
-both-shaped marks c s f a b sides rest h p m i x us (by_left {x = y} {a = a'} {b = b'} q k g) e =
+alpha-shaped : (marks : List Bool) (c : Spot) (s : Sign) (f : Formula) (a b : Signed) (sides rest : List Side) → shape_of s f ≡ Alpha → components s f ≡ a ∷ b ∷ [] → IsMarked marks c.position → Follows marks c a b sides rest → (x : Share) (unused : List Side) → Shaped Classical c s f x → sides ≡ x.sides ++ unused → AllByRecursion (IsMarkedTurn marks) x.turns × (rest ≡ unused)
+alpha-shaped marks c s f a b sides rest h p m i x us is_literal e = absurd (alpha≢literal h refl)
+alpha-shaped marks c s f a b sides rest h p m i x us (by_only q k g) e = absurd (one≢two (sym k ∙ p))
+alpha-shaped marks c s f a b sides rest h p m i x us (by_left {x = y} {a = a'} {b = b'} q k g) e =
     let r = followed-left marks c a b sides rest y us i (given-by a' a y (ap (first_of a) (sym k ∙ p)) g) e in ((m, r.0), r.1)
-both-shaped marks c s f a b sides rest h p m i x us (by_right {x = y} {a = a'} {b = b'} q k g) e =
+alpha-shaped marks c s f a b sides rest h p m i x us (by_right {x = y} {a = a'} {b = b'} q k g) e =
     let r = followed-right marks c a b sides rest y us i (given-after c a' a b' b y (ap (first_of a) (sym k ∙ p)) (ap (second_of b) (sym k ∙ p)) g) e in ((m, r.0), r.1)
-both-shaped marks c s f a b sides rest h p m i x us (by_both q k g j) e = absurd (alpha≢beta h q)
-both-shaped marks c s f a b sides rest h p m i x us (by_gamma t q k g) e = absurd (false≢true (ap is_quantified (sym h ∙ q)))
-both-shaped marks c s f a b sides rest h p m i x us (by_delta q k g) e = absurd (false≢true (ap is_quantified (sym h ∙ q)))
+alpha-shaped marks c s f a b sides rest h p m i x us (by_both q k g j) e = absurd (alpha≢beta h q)
+alpha-shaped marks c s f a b sides rest h p m i x us (by_gamma t q k g) e = absurd (false≢true (ap is_quantified (sym h ∙ q)))
+alpha-shaped marks c s f a b sides rest h p m i x us (by_delta q k g) e = absurd (false≢true (ap is_quantified (sym h ∙ q)))
 
-either-shaped : (marks first_marks : List Bool) (c : Spot) (s : Sign) (f : Formula) (a b : Signed) (sides middle rest : List Side) → shape_of s f ≡ Beta → components s f ≡ a ∷ b ∷ [] → IsMarked marks c.position → KeepsMarks first_marks marks → MarksFrom first_marks (down_by 1 c) a.sign a.formula sides middle → MarksFrom marks (down_by (suc (size a.formula)) c) b.sign b.formula middle rest → (x : Share) (unused : List Side) → Shaped Classical c s f x → sides ≡ x.sides ++ unused → AllByRecursion (IsMarkedTurn marks) x.turns × (rest ≡ unused)
-either-shaped marks first_marks c s f a b sides middle rest h p m kept i j x us is_literal e = absurd (beta≢literal h refl)
-either-shaped marks first_marks c s f a b sides middle rest h p m kept i j x us (by_only q k g) e = absurd (alpha≢beta q h)
-either-shaped marks first_marks c s f a b sides middle rest h p m kept i j x us (by_left q k g) e = absurd (alpha≢beta q h)
-either-shaped marks first_marks c s f a b sides middle rest h p m kept i j x us (by_right q k g) e = absurd (alpha≢beta q h)
-either-shaped marks first_marks c s f a b sides middle rest h p m kept i j x us (by_both {x = y} {y = z} {a = a'} {b = b'} q k g g2) e =
+beta-shaped : (marks first_marks : List Bool) (c : Spot) (s : Sign) (f : Formula) (a b : Signed) (sides middle rest : List Side) → shape_of s f ≡ Beta → components s f ≡ a ∷ b ∷ [] → IsMarked marks c.position → KeepsMarks first_marks marks → MarksFrom first_marks (down_by 1 c) a.sign a.formula sides middle → MarksFrom marks (down_by (suc (size a.formula)) c) b.sign b.formula middle rest → (x : Share) (unused : List Side) → Shaped Classical c s f x → sides ≡ x.sides ++ unused → AllByRecursion (IsMarkedTurn marks) x.turns × (rest ≡ unused)
+beta-shaped marks first_marks c s f a b sides middle rest h p m kept i j x us is_literal e = absurd (beta≢literal h refl)
+beta-shaped marks first_marks c s f a b sides middle rest h p m kept i j x us (by_only q k g) e = absurd (alpha≢beta q h)
+beta-shaped marks first_marks c s f a b sides middle rest h p m kept i j x us (by_left q k g) e = absurd (alpha≢beta q h)
+beta-shaped marks first_marks c s f a b sides middle rest h p m kept i j x us (by_right q k g) e = absurd (alpha≢beta q h)
+beta-shaped marks first_marks c s f a b sides middle rest h p m kept i j x us (by_both {x = y} {y = z} {a = a'} {b = b'} q k g g2) e =
     let first = i y (z.sides ++ us) (given-by a' a y (ap (first_of a) (sym k ∙ p)) g) (e ∙ append_assoc y.sides z.sides us) in
     let second = j z us (given-after c a' a b' b z (ap (first_of a) (sym k ∙ p)) (ap (second_of b) (sym k ∙ p)) g2) first.1 in
     ((m, AllByRecursion-join (IsMarkedTurn marks) y.turns z.turns (kept-turns first_marks marks y.turns kept first.0) second.0), second.1)
-either-shaped marks first_marks c s f a b sides middle rest h p m kept i j x us (by_gamma t q k g) e = absurd (false≢true (ap is_quantified (sym h ∙ q)))
-either-shaped marks first_marks c s f a b sides middle rest h p m kept i j x us (by_delta q k g) e = absurd (false≢true (ap is_quantified (sym h ∙ q)))
+beta-shaped marks first_marks c s f a b sides middle rest h p m kept i j x us (by_gamma t q k g) e = absurd (false≢true (ap is_quantified (sym h ∙ q)))
+beta-shaped marks first_marks c s f a b sides middle rest h p m kept i j x us (by_delta q k g) e = absurd (false≢true (ap is_quantified (sym h ∙ q)))
 
 -- ---- the turns of a node, by those of its parts
 
@@ -148,16 +148,16 @@ pub one-marks : (marks : List Bool) (zs : List ℕ) (n a : Node) (sides rest : L
 one-marks marks zs n a sides rest fit one m i x us g e = one-shaped marks (spot_at n.position) n.sign n.formula (signed a.sign a.formula) sides rest one.shape one.parts m (at-place marks a (n.position + 1) sides rest one.place i) x us (shaped _ n.sign n.formula x fit.propositional g) e
 
 pub none-marks : (marks : List Bool) (zs : List ℕ) (n a b : Node) (rest : List Side) → Fits zs n → shape_of n.sign n.formula ≡ Alpha → AreTwo zs n a b → IsMarked marks n.position → MarksAll marks n [] rest
-none-marks marks zs n a b rest fit h two m x us g e = both-shaped marks (spot_at n.position) n.sign n.formula (signed a.sign a.formula) (signed b.sign b.formula) [] rest h two.parts m tt x us (shaped _ n.sign n.formula x fit.propositional g) e
+none-marks marks zs n a b rest fit h two m x us g e = alpha-shaped marks (spot_at n.position) n.sign n.formula (signed a.sign a.formula) (signed b.sign b.formula) [] rest h two.parts m tt x us (shaped _ n.sign n.formula x fit.propositional g) e
 
 pub left-marks : (marks : List Bool) (zs : List ℕ) (n a b : Node) (sides rest : List Side) → Fits zs n → shape_of n.sign n.formula ≡ Alpha → AreTwo zs n a b → IsMarked marks n.position → MarksAll marks a sides rest → MarksAll marks n (Left ∷ sides) rest
-left-marks marks zs n a b sides rest fit h two m i x us g e = both-shaped marks (spot_at n.position) n.sign n.formula (signed a.sign a.formula) (signed b.sign b.formula) (Left ∷ sides) rest h two.parts m (at-place marks a (n.position + 1) sides rest two.first_place i) x us (shaped _ n.sign n.formula x fit.propositional g) e
+left-marks marks zs n a b sides rest fit h two m i x us g e = alpha-shaped marks (spot_at n.position) n.sign n.formula (signed a.sign a.formula) (signed b.sign b.formula) (Left ∷ sides) rest h two.parts m (at-place marks a (n.position + 1) sides rest two.first_place i) x us (shaped _ n.sign n.formula x fit.propositional g) e
 
 pub right-marks : (marks : List Bool) (zs : List ℕ) (n a b : Node) (sides rest : List Side) → Fits zs n → shape_of n.sign n.formula ≡ Alpha → AreTwo zs n a b → IsMarked marks n.position → MarksAll marks b sides rest → MarksAll marks n (Right ∷ sides) rest
-right-marks marks zs n a b sides rest fit h two m i x us g e = both-shaped marks (spot_at n.position) n.sign n.formula (signed a.sign a.formula) (signed b.sign b.formula) (Right ∷ sides) rest h two.parts m (at-place marks b (n.position + suc (size a.formula)) sides rest two.second_place i) x us (shaped _ n.sign n.formula x fit.propositional g) e
+right-marks marks zs n a b sides rest fit h two m i x us g e = alpha-shaped marks (spot_at n.position) n.sign n.formula (signed a.sign a.formula) (signed b.sign b.formula) (Right ∷ sides) rest h two.parts m (at-place marks b (n.position + suc (size a.formula)) sides rest two.second_place i) x us (shaped _ n.sign n.formula x fit.propositional g) e
 
-pub either-marks : (marks first_marks : List Bool) (zs : List ℕ) (n a b : Node) (sides middle rest : List Side) → Fits zs n → shape_of n.sign n.formula ≡ Beta → AreTwo zs n a b → IsMarked marks n.position → KeepsMarks first_marks marks → MarksAll first_marks a sides middle → MarksAll marks b middle rest → MarksAll marks n sides rest
-either-marks marks first_marks zs n a b sides middle rest fit h two m kept i j x us g e = either-shaped marks first_marks (spot_at n.position) n.sign n.formula (signed a.sign a.formula) (signed b.sign b.formula) sides middle rest h two.parts m kept (at-place first_marks a (n.position + 1) sides middle two.first_place i) (at-place marks b (n.position + suc (size a.formula)) middle rest two.second_place j) x us (shaped _ n.sign n.formula x fit.propositional g) e
+pub beta-marks : (marks first_marks : List Bool) (zs : List ℕ) (n a b : Node) (sides middle rest : List Side) → Fits zs n → shape_of n.sign n.formula ≡ Beta → AreTwo zs n a b → IsMarked marks n.position → KeepsMarks first_marks marks → MarksAll first_marks a sides middle → MarksAll marks b middle rest → MarksAll marks n sides rest
+beta-marks marks first_marks zs n a b sides middle rest fit h two m kept i j x us g e = beta-shaped marks first_marks (spot_at n.position) n.sign n.formula (signed a.sign a.formula) (signed b.sign b.formula) sides middle rest h two.parts m kept (at-place first_marks a (n.position + 1) sides middle two.first_place i) (at-place marks b (n.position + suc (size a.formula)) middle rest two.second_place j) x us (shaped _ n.sign n.formula x fit.propositional g) e
 
 -- ---- setting a mark
 

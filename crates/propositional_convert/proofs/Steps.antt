@@ -50,14 +50,14 @@ one-child P ns k n a zs c p h one' =
     ∙ use-alpha P (sequent_of ns) n c (plain_modal n.sign n.formula p) one'.shape
     ∙ (rw (one'.shape, one'.parts) (ap (λ t. Ok (one t)) (sequent-append ns (a ∷ []))))
 
-both-children : (P : Problem) (ns : List Node) (k : ℕ) (n a b : Node) (zs : List ℕ) → P.setting.logic ≡ Classical → IsTrue (is_propositional n.formula) → slice_get ns k ≡ Some n → shape_of n.sign n.formula ≡ Alpha → AreTwo zs n a b → apply P no_names (sequent_of ns) (plain_use (suc k)) ≡ Ok (one (sequent_of (ns ++ a ∷ b ∷ [])))
-both-children P ns k n a b zs c p h shape parts =
+alpha-children : (P : Problem) (ns : List Node) (k : ℕ) (n a b : Node) (zs : List ℕ) → P.setting.logic ≡ Classical → IsTrue (is_propositional n.formula) → slice_get ns k ≡ Some n → shape_of n.sign n.formula ≡ Alpha → AreTwo zs n a b → apply P no_names (sequent_of ns) (plain_use (suc k)) ≡ Ok (one (sequent_of (ns ++ a ∷ b ∷ [])))
+alpha-children P ns k n a b zs c p h shape parts =
     apply-use P ns k n h
     ∙ use-alpha P (sequent_of ns) n c (plain_modal n.sign n.formula p) shape
     ∙ (rw (shape, parts.parts) (ap (λ t. Ok (one t)) (sequent-append ns (a ∷ b ∷ []))))
 
-either-children : (P : Problem) (ns : List Node) (k : ℕ) (n a b : Node) (zs : List ℕ) → P.setting.logic ≡ Classical → IsTrue (is_propositional n.formula) → slice_get ns k ≡ Some n → shape_of n.sign n.formula ≡ Beta → AreTwo zs n a b → apply P no_names (sequent_of ns) (plain_use (suc k)) ≡ Ok (two (sequent_of (ns ++ a ∷ [])) (sequent_of (ns ++ b ∷ [])))
-either-children P ns k n a b zs c p h shape parts =
+beta-children : (P : Problem) (ns : List Node) (k : ℕ) (n a b : Node) (zs : List ℕ) → P.setting.logic ≡ Classical → IsTrue (is_propositional n.formula) → slice_get ns k ≡ Some n → shape_of n.sign n.formula ≡ Beta → AreTwo zs n a b → apply P no_names (sequent_of ns) (plain_use (suc k)) ≡ Ok (two (sequent_of (ns ++ a ∷ [])) (sequent_of (ns ++ b ∷ [])))
+beta-children P ns k n a b zs c p h shape parts =
     apply-use P ns k n h
     ∙ use-beta P (sequent_of ns) n c (plain_modal n.sign n.formula p) shape
     ∙ (rw (shape, parts.parts) (λ i. Ok (two (sequent-append ns (a ∷ []) i) (sequent-append ns (b ∷ []) i))))
@@ -103,11 +103,11 @@ led-one ns k n a zs xs w p h parts = record {
   written = use-written (suc k) w;
 }
 
-pub led-both : (ns : List Node) (k : ℕ) (n a b : Node) (zs : List ℕ) (xs : List Step) → suc k < 2 ^ 32 → IsTrue (is_propositional n.formula) → slice_get ns k ≡ Some n → shape_of n.sign n.formula ≡ Alpha → AreTwo zs n a b → IsLed ns (ns ++ a ∷ b ∷ []) xs (xs ++ plain_use (suc k) ∷ [])
-led-both ns k n a b zs xs w p h shape parts = record {
+pub led-alpha : (ns : List Node) (k : ℕ) (n a b : Node) (zs : List ℕ) (xs : List Step) → suc k < 2 ^ 32 → IsTrue (is_propositional n.formula) → slice_get ns k ≡ Some n → shape_of n.sign n.formula ≡ Alpha → AreTwo zs n a b → IsLed ns (ns ++ a ∷ b ∷ []) xs (xs ++ plain_use (suc k) ∷ [])
+led-alpha ns k n a b zs xs w p h shape parts = record {
   added = plain_use (suc k) ∷ [];
   grown = refl;
-  leads = λ P ys rest c g. single (both-children P ns k n a b zs c p h shape parts) g;
+  leads = λ P ys rest c g. single (alpha-children P ns k n a b zs c p h shape parts) g;
   written = use-written (suc k) w;
 }
 
@@ -115,7 +115,7 @@ pub forked : (ns : List Node) (k : ℕ) (n a b : Node) (zs : List ℕ) (xs : Lis
 forked ns k n a b zs xs w p h shape parts ys us f g = record {
   added = plain_use (suc k) ∷ (f.added ++ g.added);
   grown = g.grown ∙ ap (λ l. l ++ g.added) f.grown ∙ simp append_assoc;
-  closes = λ P rest c. fork (either-children P ns k n a b zs c p h shape parts) (subst (λ l. Closes P no_names (sequent_of (ns ++ a ∷ [])) l (g.added ++ rest)) (sym (append_assoc f.added g.added rest)) (f.closes P (g.added ++ rest) c)) (g.closes P rest c);
+  closes = λ P rest c. fork (beta-children P ns k n a b zs c p h shape parts) (subst (λ l. Closes P no_names (sequent_of (ns ++ a ∷ [])) l (g.added ++ rest)) (sym (append_assoc f.added g.added rest)) (f.closes P (g.added ++ rest) c)) (g.closes P rest c);
   written = λ symbols. written-join symbols (plain_use (suc k) ∷ []) (f.added ++ g.added) (use-written (suc k) w symbols) (written-join symbols f.added g.added (f.written symbols) (g.written symbols));
 }
 

@@ -251,8 +251,8 @@ one-worked marks ns n a zs h m = rw (h.shape, one-part n a zs h) (inl (length ns
 second-stands : (ns : List Node) (a b : Node) → StandsIn (ns ++ a ∷ b ∷ []) b
 second-stands ns a b = (length (ns ++ a ∷ []), subst (λ l. slice_get l (length (ns ++ a ∷ [])) ≡ Some b) (append_assoc ns (a ∷ []) (b ∷ [])) (get-seam (ns ++ a ∷ []) b []))
 
-pub both-worked : (marks : List Bool) (ns : List Node) (n a b : Node) (zs : List ℕ) → shape_of n.sign n.formula ≡ Alpha → AreTwo zs n a b → IsWorkedOff marks (ns ++ a ∷ b ∷ []) n
-both-worked marks ns n a b zs shape h m = rw (shape, two-parts n a b zs h) (inl (length ns, get-seam ns a (b ∷ [])), (inl (second-stands ns a b), tt))
+pub alpha-worked : (marks : List Bool) (ns : List Node) (n a b : Node) (zs : List ℕ) → shape_of n.sign n.formula ≡ Alpha → AreTwo zs n a b → IsWorkedOff marks (ns ++ a ∷ b ∷ []) n
+alpha-worked marks ns n a b zs shape h m = rw (shape, two-parts n a b zs h) (inl (length ns, get-seam ns a (b ∷ [])), (inl (second-stands ns a b), tt))
 
 pub first-worked : (marks : List Bool) (ns : List Node) (n a b : Node) (zs : List ℕ) → shape_of n.sign n.formula ≡ Beta → AreTwo zs n a b → IsWorkedOff marks (ns ++ a ∷ []) n
 first-worked marks ns n a b zs shape h m = rw (shape, two-parts n a b zs h) (inl (inl (length ns, get-seam ns a [])))

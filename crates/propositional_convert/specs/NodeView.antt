@@ -1,12 +1,12 @@
 -- The node that an entry stands for.
 use Rattle.std.specs.Prelude.{◌≡◌, ◌+◌, ℕ, suc, List, [], ◌∷◌}
-use Rattle.calculus.specs.declared.kind.Shape.TheVariants.{Alpha, Beta, Literal as LiteralShape}
+use Rattle.calculus.specs.declared.kind.Shape.TheVariants.{Alpha as AlphaShape, Beta as BetaShape, Literal as LiteralShape}
 use Rattle.calculus.specs.Kinds.{signed, shape_of, components}
 use Rattle.calculus.specs.Positions.{Node, node, size}
 use Rattle.formula_core.specs.FormulaView.{the_formula}
 use Rattle.propositional_convert.specs.declared.entry.Entry.{Entry}
 use Rattle.propositional_convert.specs.declared.entry.Parts.{Parts}
-use Rattle.propositional_convert.specs.declared.entry.Parts.TheVariants.{Literal, One, Both, Either}
+use Rattle.propositional_convert.specs.declared.entry.Parts.TheVariants.{Literal, One, Alpha, Beta}
 use Rattle.propositional_convert.specs.Parts.{Fits}
 
 abbrev pub the_node : Entry → Node
@@ -14,7 +14,7 @@ the_node e = node e.position e.sign (the_formula e.formula.now)
 
 -- a is the only component of the alpha node n
 pub record IsOne (sizes : List ℕ) (n a : Node) : Type 0 where
-  pub shape : shape_of n.sign n.formula ≡ Alpha
+  pub shape : shape_of n.sign n.formula ≡ AlphaShape
   pub parts : components n.sign n.formula ≡ signed a.sign a.formula ∷ []
   pub place : a.position ≡ n.position + 1
   pub fit : Fits sizes a
@@ -33,5 +33,5 @@ pub record AreTwo (sizes : List ℕ) (n a b : Node) : Type 0 where
 abbrev pub ArePartsOf : List ℕ → Node → Parts → Type 0
 ArePartsOf sizes n Literal = shape_of n.sign n.formula ≡ LiteralShape
 ArePartsOf sizes n (One a) = IsOne sizes n (the_node a)
-ArePartsOf sizes n (Both a b) = (shape_of n.sign n.formula ≡ Alpha) × AreTwo sizes n (the_node a) (the_node b)
-ArePartsOf sizes n (Either a b) = (shape_of n.sign n.formula ≡ Beta) × AreTwo sizes n (the_node a) (the_node b)
+ArePartsOf sizes n (Alpha a b) = (shape_of n.sign n.formula ≡ AlphaShape) × AreTwo sizes n (the_node a) (the_node b)
+ArePartsOf sizes n (Beta a b) = (shape_of n.sign n.formula ≡ BetaShape) × AreTwo sizes n (the_node a) (the_node b)

@@ -64,7 +64,7 @@ fn use_one<'a>(
 }
 
 // Uses an entry that adds two entries.
-fn use_both<'a>(
+fn use_alpha<'a>(
     branch: &mut Branch<'a>,
     number: usize,
     first: Entry<'a>,
@@ -117,11 +117,11 @@ fn expand<'a>(
             let outcome = use_one(branch, index + 1, part, steps)?;
             Ok(outcome)
         }
-        Parts::Both(first, second) => {
-            let outcome = use_both(branch, index + 1, first, second, steps)?;
+        Parts::Alpha(first, second) => {
+            let outcome = use_alpha(branch, index + 1, first, second, steps)?;
             Ok(outcome)
         }
-        Parts::Either(first, second) => {
+        Parts::Beta(first, second) => {
             push_use(steps, index + 1)?;
             Ok(Outcome::Fork(first, second))
         }
@@ -143,8 +143,8 @@ fn splits(plan: &Plan, branch: &Branch, index: usize) -> bool
 {
     let entry = branch.entry(index);
     match plan.parts(entry) {
-        Parts::Literal | Parts::One(_) | Parts::Both(_, _) => false,
-        Parts::Either(first, second) => plan.is_marked(entry.position)
+        Parts::Literal | Parts::One(_) | Parts::Alpha(_, _) => false,
+        Parts::Beta(first, second) => plan.is_marked(entry.position)
             && !branch.holds(entry.sign, entry.formula)
             && !fails(branch, first)
             && !fails(branch, second),

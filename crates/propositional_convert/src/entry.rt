@@ -15,6 +15,6 @@ pub(crate) struct Entry<'a> {
 pub(crate) enum Parts<'a> {
     Literal,
     One(Entry<'a>),
-    Both(Entry<'a>, Entry<'a>),
-    Either(Entry<'a>, Entry<'a>),
+    Alpha(Entry<'a>, Entry<'a>),
+    Beta(Entry<'a>, Entry<'a>),
 }

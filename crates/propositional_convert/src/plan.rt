@@ -125,12 +125,12 @@ impl Plan {
         match self.parts(at) {
             Parts::Literal => sides,
             Parts::One(part) => self.mark(part, sides),
-            Parts::Both(first, second) => match next_side(sides) {
+            Parts::Alpha(first, second) => match next_side(sides) {
                 None => sides,
                 Some((Side::Left, rest)) => self.mark(first, rest),
                 Some((Side::Right, rest)) => self.mark(second, rest),
             },
-            Parts::Either(first, second) => {
+            Parts::Beta(first, second) => {
                 let rest = self.mark(first, sides);
                 self.mark(second, rest)
             }
@@ -159,22 +159,22 @@ impl Plan {
             Formula::And(a, b) => {
                 let (first, second) = self.pair(parent, parent.sign, a, b);
                 match parent.sign {
-                    Sign::T => Parts::Both(first, second),
-                    Sign::F => Parts::Either(first, second),
+                    Sign::T => Parts::Alpha(first, second),
+                    Sign::F => Parts::Beta(first, second),
                 }
             }
             Formula::Or(a, b) => {
                 let (first, second) = self.pair(parent, parent.sign, a, b);
                 match parent.sign {
-                    Sign::T => Parts::Either(first, second),
-                    Sign::F => Parts::Both(first, second),
+                    Sign::T => Parts::Beta(first, second),
+                    Sign::F => Parts::Alpha(first, second),
                 }
             }
             Formula::Imp(a, b) => {
                 let (first, second) = self.pair(parent, parent.sign.other(), a, b);
                 match parent.sign {
-                    Sign::T => Parts::Either(first, second),
-                    Sign::F => Parts::Both(first, second),
+                    Sign::T => Parts::Beta(first, second),
+                    Sign::F => Parts::Alpha(first, second),
                 }
             }
             Formula::All(_) | Formula::Ex(_) | Formula::Nec(_) | Formula::Poss(_) => unreachable!(),

@@ -25,7 +25,7 @@ use Rattle.calculus.specs.Propositional.{is_propositional, IsPropositional}
 use Rattle.calculus.proofs.EqualityLaws.{list_eq-tells, literal_eq-tells}
 use Rattle.calculus.proofs.InstanceLaws.{OnPart}
 use Rattle.propositional_search.specs.Matrix.{IsMatrix}
-use Rattle.propositional_search.specs.ClausesOf.{literal_of, clause_of, after_sides, joined, all_pairs, either_side, clauses_of_two, clauses_of}
+use Rattle.propositional_search.specs.ClausesOf.{literal_of, clause_of, after_sides, joined, beta_clauses, alpha_clauses, clauses_of_two, clauses_of}
 
 abbrev supply : List Side → List Value → Supply
 supply ss vs = record { sides = ss; values = vs }
@@ -54,19 +54,19 @@ picks-joined : (x : ClauseInstance) (ys : List ClauseInstance) → picks (map (�
 picks-joined x [] = refl
 picks-joined x (y ∷ ys) = ap (λ zs. (x.selection ++ y.selection) ∷ zs) (picks-joined x ys)
 
-picks-pairs : (xs ys : List ClauseInstance) → picks (all_pairs xs ys) ≡ all_joined (picks xs) (picks ys)
-picks-pairs [] ys = refl
-picks-pairs (x ∷ xs) ys = picks-append (map (λ (y : ClauseInstance). joined x y) ys) (all_pairs xs ys) ∙ ap₂ ◌++◌ (picks-joined x ys) (picks-pairs xs ys)
+picks-beta : (xs ys : List ClauseInstance) → picks (beta_clauses xs ys) ≡ all_joined (picks xs) (picks ys)
+picks-beta [] ys = refl
+picks-beta (x ∷ xs) ys = picks-append (map (λ (y : ClauseInstance). joined x y) ys) (beta_clauses xs ys) ∙ ap₂ ◌++◌ (picks-joined x ys) (picks-beta xs ys)
 
-picks-either : (xs ys : List ClauseInstance) → picks (either_side xs ys) ≡ map (λ s. Left ∷ s) (picks xs) ++ map (λ s. Right ∷ s) (picks ys)
-picks-either xs ys = picks-append (map (λ (x : ClauseInstance). after_side Left x) xs) (map (λ (y : ClauseInstance). after_side Right y) ys) ∙ ap₂ ◌++◌ (picks-side Left xs) (picks-side Right ys)
+picks-alpha : (xs ys : List ClauseInstance) → picks (alpha_clauses xs ys) ≡ map (λ s. Left ∷ s) (picks xs) ++ map (λ s. Right ∷ s) (picks ys)
+picks-alpha xs ys = picks-append (map (λ (x : ClauseInstance). after_side Left x) xs) (map (λ (y : ClauseInstance). after_side Right y) ys) ∙ ap₂ ◌++◌ (picks-side Left xs) (picks-side Right ys)
 
 picks-two : (h : Shape) (xs ys : List ClauseInstance) (ss ts : List (List Side)) → picks xs ≡ ss → picks ys ≡ ts → picks (clauses_of_two h xs ys) ≡ selections_of_two h ss ts
-picks-two Beta xs ys ss ts e f = picks-pairs xs ys ∙ ap₂ all_joined e f
-picks-two Alpha xs ys ss ts e f = picks-either xs ys ∙ ap₂ (λ ls rs. map (λ s. Left ∷ s) ls ++ map (λ s. Right ∷ s) rs) e f
-picks-two Gamma xs ys ss ts e f = picks-either xs ys ∙ ap₂ (λ ls rs. map (λ s. Left ∷ s) ls ++ map (λ s. Right ∷ s) rs) e f
-picks-two Delta xs ys ss ts e f = picks-either xs ys ∙ ap₂ (λ ls rs. map (λ s. Left ∷ s) ls ++ map (λ s. Right ∷ s) rs) e f
-picks-two Literal xs ys ss ts e f = picks-either xs ys ∙ ap₂ (λ ls rs. map (λ s. Left ∷ s) ls ++ map (λ s. Right ∷ s) rs) e f
+picks-two Beta xs ys ss ts e f = picks-beta xs ys ∙ ap₂ all_joined e f
+picks-two Alpha xs ys ss ts e f = picks-alpha xs ys ∙ ap₂ (λ ls rs. map (λ s. Left ∷ s) ls ++ map (λ s. Right ∷ s) rs) e f
+picks-two Gamma xs ys ss ts e f = picks-alpha xs ys ∙ ap₂ (λ ls rs. map (λ s. Left ∷ s) ls ++ map (λ s. Right ∷ s) rs) e f
+picks-two Delta xs ys ss ts e f = picks-alpha xs ys ∙ ap₂ (λ ls rs. map (λ s. Left ∷ s) ls ++ map (λ s. Right ∷ s) rs) e f
+picks-two Literal xs ys ss ts e f = picks-alpha xs ys ∙ ap₂ (λ ls rs. map (λ s. Left ∷ s) ls ++ map (λ s. Right ∷ s) rs) e f
 
 pub picks-clauses : (f : Formula) (s : Sign) → picks (clauses_of f s) ≡ selections f s
 picks-clauses (atom p ts) s = refl
@@ -96,9 +96,9 @@ all-each : (Q R : ClauseInstance → Type 0) → ((x : ClauseInstance) → Q x �
 all-each Q R k [] h = tt
 all-each Q R k (x ∷ xs) h = (k x h.0, all-each Q R k xs h.1)
 
-all-pairs : (Q R S : ClauseInstance → Type 0) → ((x y : ClauseInstance) → Q x → R y → S (joined x y)) → (xs ys : List ClauseInstance) → AllOf Q xs → AllOf R ys → AllOf S (all_pairs xs ys)
-all-pairs Q R S k [] ys h g = tt
-all-pairs Q R S k (x ∷ xs) ys h g = all-append S (map (λ (y : ClauseInstance). joined x y) ys) (all_pairs xs ys) (all-map R S (λ (y : ClauseInstance). joined x y) (λ y. k x y h.0) ys g) (all-pairs Q R S k xs ys h.1 g)
+all-beta : (Q R S : ClauseInstance → Type 0) → ((x y : ClauseInstance) → Q x → R y → S (joined x y)) → (xs ys : List ClauseInstance) → AllOf Q xs → AllOf R ys → AllOf S (beta_clauses xs ys)
+all-beta Q R S k [] ys h g = tt
+all-beta Q R S k (x ∷ xs) ys h g = all-append S (map (λ (y : ClauseInstance). joined x y) ys) (beta_clauses xs ys) (all-map R S (λ (y : ClauseInstance). joined x y) (λ y. k x y h.0) ys g) (all-beta Q R S k xs ys h.1 g)
 
 abbrev IsIn : ClauseInstance → List ClauseInstance → Type 0
 IsIn x [] = ⊥
@@ -118,10 +118,10 @@ in-map f x [] h = elim h [ ]
 in-map f x (y ∷ xs) (inl e) = inl (ap f e)
 in-map f x (y ∷ xs) (inr h) = inr (in-map f x xs h)
 
-in-pairs : (x y : ClauseInstance) (xs ys : List ClauseInstance) → IsIn x xs → IsIn y ys → IsIn (joined x y) (all_pairs xs ys)
-in-pairs x y [] ys h g = elim h [ ]
-in-pairs x y (z ∷ xs) ys (inl e) g = in-left (joined x y) (map (λ (w : ClauseInstance). joined z w) ys) (all_pairs xs ys) (subst (λ (v : ClauseInstance). IsIn (joined v y) (map (λ (w : ClauseInstance). joined z w) ys)) e (in-map (λ (w : ClauseInstance). joined z w) y ys g))
-in-pairs x y (z ∷ xs) ys (inr h) g = in-right (joined x y) (map (λ (w : ClauseInstance). joined z w) ys) (all_pairs xs ys) (in-pairs x y xs ys h g)
+in-beta : (x y : ClauseInstance) (xs ys : List ClauseInstance) → IsIn x xs → IsIn y ys → IsIn (joined x y) (beta_clauses xs ys)
+in-beta x y [] ys h g = elim h [ ]
+in-beta x y (z ∷ xs) ys (inl e) g = in-left (joined x y) (map (λ (w : ClauseInstance). joined z w) ys) (beta_clauses xs ys) (subst (λ (v : ClauseInstance). IsIn (joined v y) (map (λ (w : ClauseInstance). joined z w) ys)) e (in-map (λ (w : ClauseInstance). joined z w) y ys g))
+in-beta x y (z ∷ xs) ys (inr h) g = in-right (joined x y) (map (λ (w : ClauseInstance). joined z w) ys) (beta_clauses xs ys) (in-beta x y xs ys h g)
 
 pub Contains-in : (x : ClauseInstance) (xs : List ClauseInstance) → IsIn x xs → Contains xs x
 Contains-in x [] h = elim h [ ]
@@ -192,7 +192,7 @@ two-computes Alpha t n k first second xs ys f g =
     all-append Q (map (λ (x : ClauseInstance). after_side Left x) xs) (map (λ (y : ClauseInstance). after_side Right y) ys)
     (all-map (Computes (first (spot (n + 1)))) Q (λ (x : ClauseInstance). after_side Left x) (left-computes n k first second) xs f)
     (all-map (Computes (second (spot (n + suc k)))) Q (λ (y : ClauseInstance). after_side Right y) (right-computes n k first second) ys g)
-two-computes Beta t n k first second xs ys f g = all-pairs (Computes (first (spot (n + 1)))) (Computes (second (spot (n + suc k)))) (Computes (at_modal Classical Plain (at_two Beta k first second) (spot n))) (pair-computes n k first second) xs ys f g
+two-computes Beta t n k first second xs ys f g = all-beta (Computes (first (spot (n + 1)))) (Computes (second (spot (n + suc k)))) (Computes (at_modal Classical Plain (at_two Beta k first second) (spot n))) (pair-computes n k first second) xs ys f g
 two-computes Gamma t n k first second xs ys f g = elim t [ ]
 two-computes Delta t n k first second xs ys f g = elim t [ ]
 two-computes Literal t n k first second xs ys f g = elim t [ ]
@@ -251,23 +251,23 @@ plain-comes cs u n (Some x) h = record { clause = h.clause; is_in = h.is_in; val
 one-comes : (cs : List ClauseInstance) (n : ℕ) (body : Spot → Supply → Option Part) → Among cs (body (spot (n + 1))) → Among cs (at_modal Classical Plain (at_one body) (spot n))
 one-comes cs n body h u = plain-comes cs u n (body (spot (n + 1)) u) (h u)
 
-alpha-comes : (cs ds : List ClauseInstance) (n k : ℕ) (first second : Spot → Supply → Option Part) → Among cs (first (spot (n + 1))) → Among ds (second (spot (n + suc k))) → (ss : List Side) (vs : List Value) → OnPart (Comes (either_side cs ds) (supply ss vs)) (at_modal Classical Plain (at_two Alpha k first second) (spot n) (supply ss vs))
+alpha-comes : (cs ds : List ClauseInstance) (n k : ℕ) (first second : Spot → Supply → Option Part) → Among cs (first (spot (n + 1))) → Among ds (second (spot (n + suc k))) → (ss : List Side) (vs : List Value) → OnPart (Comes (alpha_clauses cs ds) (supply ss vs)) (at_modal Classical Plain (at_two Alpha k first second) (spot n) (supply ss vs))
 alpha-comes cs ds n k first second f g [] vs = tt
-alpha-comes cs ds n k first second f g (Left ∷ ss) vs = plain-comes (either_side cs ds) (supply (Left ∷ ss) vs) n (first (spot (n + 1)) (supply ss vs)) (on-left (first (spot (n + 1)) (supply ss vs)) (f (supply ss vs)))
+alpha-comes cs ds n k first second f g (Left ∷ ss) vs = plain-comes (alpha_clauses cs ds) (supply (Left ∷ ss) vs) n (first (spot (n + 1)) (supply ss vs)) (on-left (first (spot (n + 1)) (supply ss vs)) (f (supply ss vs)))
   where
-    on-left : (o : Option Part) → OnPart (Comes cs (supply ss vs)) o → OnPart (Comes (either_side cs ds) (supply (Left ∷ ss) vs)) o
+    on-left : (o : Option Part) → OnPart (Comes cs (supply ss vs)) o → OnPart (Comes (alpha_clauses cs ds) (supply (Left ∷ ss) vs)) o
     on-left None h = tt
     on-left (Some x) h = record { clause = after_side Left h.clause; is_in = in-left (after_side Left h.clause) (map (λ (y : ClauseInstance). after_side Left y) cs) (map (λ (y : ClauseInstance). after_side Right y) ds) (in-map (λ (y : ClauseInstance). after_side Left y) h.clause cs h.is_in); values = h.values; supplied = ap (λ (v : Supply). supply (Left ∷ v.sides) v.values) h.supplied; literals = h.literals }
-alpha-comes cs ds n k first second f g (Right ∷ ss) vs = plain-comes (either_side cs ds) (supply (Right ∷ ss) vs) n (second (spot (n + suc k)) (supply ss vs)) (on-right (second (spot (n + suc k)) (supply ss vs)) (g (supply ss vs)))
+alpha-comes cs ds n k first second f g (Right ∷ ss) vs = plain-comes (alpha_clauses cs ds) (supply (Right ∷ ss) vs) n (second (spot (n + suc k)) (supply ss vs)) (on-right (second (spot (n + suc k)) (supply ss vs)) (g (supply ss vs)))
   where
-    on-right : (o : Option Part) → OnPart (Comes ds (supply ss vs)) o → OnPart (Comes (either_side cs ds) (supply (Right ∷ ss) vs)) o
+    on-right : (o : Option Part) → OnPart (Comes ds (supply ss vs)) o → OnPart (Comes (alpha_clauses cs ds) (supply (Right ∷ ss) vs)) o
     on-right None h = tt
     on-right (Some x) h = record { clause = after_side Right h.clause; is_in = in-right (after_side Right h.clause) (map (λ (y : ClauseInstance). after_side Left y) cs) (map (λ (y : ClauseInstance). after_side Right y) ds) (in-map (λ (y : ClauseInstance). after_side Right y) h.clause ds h.is_in); values = h.values; supplied = ap (λ (v : Supply). supply (Right ∷ v.sides) v.values) h.supplied; literals = h.literals }
 
-joined-comes : (cs ds : List ClauseInstance) (u : Supply) (x y : Part) → Comes cs u x → Comes ds x.left_over y → Comes (all_pairs cs ds) u (join_of x y)
+joined-comes : (cs ds : List ClauseInstance) (u : Supply) (x y : Part) → Comes cs u x → Comes ds x.left_over y → Comes (beta_clauses cs ds) u (join_of x y)
 joined-comes cs ds u x y h g = record {
   clause = joined h.clause g.clause;
-  is_in = in-pairs h.clause g.clause cs ds h.is_in g.is_in;
+  is_in = in-beta h.clause g.clause cs ds h.is_in g.is_in;
   values = refl;
   supplied = h.supplied
       ∙ ap (λ (v : Supply). supply (h.clause.selection ++ v.sides) v.values) g.supplied
@@ -275,15 +275,15 @@ joined-comes cs ds u x y h g = record {
   literals = ap₂ ◌++◌ h.literals g.literals;
 }
 
-beta-comes : (cs ds : List ClauseInstance) (u : Supply) (second : Supply → Option Part) → Among ds second → (o : Option Part) → OnPart (Comes cs u) o → OnPart (Comes (all_pairs cs ds) u) (option_and_then (λ (x : Part). option_map (join_of x) (second x.left_over)) o)
+beta-comes : (cs ds : List ClauseInstance) (u : Supply) (second : Supply → Option Part) → Among ds second → (o : Option Part) → OnPart (Comes cs u) o → OnPart (Comes (beta_clauses cs ds) u) (option_and_then (λ (x : Part). option_map (join_of x) (second x.left_over)) o)
 beta-comes cs ds u second g None h = tt
-beta-comes cs ds u second g (Some x) h = comes-map ds (all_pairs cs ds) x.left_over u (join_of x) (λ y k. joined-comes cs ds u x y h k) (second x.left_over) (g x.left_over)
+beta-comes cs ds u second g (Some x) h = comes-map ds (beta_clauses cs ds) x.left_over u (join_of x) (λ y k. joined-comes cs ds u x y h k) (second x.left_over) (g x.left_over)
 
 two-comes : (h : Shape) → IsTwo h → (cs ds : List ClauseInstance) (n k : ℕ) (first second : Spot → Supply → Option Part) → Among cs (first (spot (n + 1))) → Among ds (second (spot (n + suc k))) → Among (clauses_of_two h cs ds) (at_modal Classical Plain (at_two h k first second) (spot n))
 two-comes Alpha t cs ds n k first second f g u = alpha-comes cs ds n k first second f g u.sides u.values
 two-comes Beta t cs ds n k first second f g u =
     let o = option_and_then (λ (x : Part). option_map (join_of x) (second (spot (n + suc k)) x.left_over)) (first (spot (n + 1)) u) in
-    plain-comes (all_pairs cs ds) u n o (beta-comes cs ds u (second (spot (n + suc k))) g (first (spot (n + 1)) u) (f u))
+    plain-comes (beta_clauses cs ds) u n o (beta-comes cs ds u (second (spot (n + suc k))) g (first (spot (n + 1)) u) (f u))
 two-comes Gamma t cs ds n k first second f g u = elim t [ ]
 two-comes Delta t cs ds n k first second f g u = elim t [ ]
 two-comes Literal t cs ds n k first second f g u = elim t [ ]

@@ -28,17 +28,18 @@ behind ds xs = map (λ (x : ClauseInstance). after_sides ds x) xs
 abbrev pub joined : ClauseInstance → ClauseInstance → ClauseInstance
 joined i j = clause_of (i.selection ++ j.selection) (i.literals ++ j.literals)
 
--- each of the first joined with each of the second, the first ones outermost
-abbrev pub all_pairs : List ClauseInstance → List ClauseInstance → List ClauseInstance
-all_pairs [] ys = []
-all_pairs (x ∷ xs) ys = map (λ (y : ClauseInstance). joined x y) ys ++ all_pairs xs ys
+-- the clauses of a beta formula: each of its first part joined with each of its second, the first ones outermost
+abbrev pub beta_clauses : List ClauseInstance → List ClauseInstance → List ClauseInstance
+beta_clauses [] ys = []
+beta_clauses (x ∷ xs) ys = map (λ (y : ClauseInstance). joined x y) ys ++ beta_clauses xs ys
 
-abbrev pub either_side : List ClauseInstance → List ClauseInstance → List ClauseInstance
-either_side xs ys = behind (Left ∷ []) xs ++ behind (Right ∷ []) ys
+-- those of an alpha formula: the clauses of either part, each behind its side
+abbrev pub alpha_clauses : List ClauseInstance → List ClauseInstance → List ClauseInstance
+alpha_clauses xs ys = behind (Left ∷ []) xs ++ behind (Right ∷ []) ys
 
 abbrev pub clauses_of_two : Shape → List ClauseInstance → List ClauseInstance → List ClauseInstance
-clauses_of_two Beta xs ys = all_pairs xs ys
-clauses_of_two _ xs ys = either_side xs ys
+clauses_of_two Beta xs ys = beta_clauses xs ys
+clauses_of_two _ xs ys = alpha_clauses xs ys
 
 abbrev pub clauses_of : Formula → Sign → List ClauseInstance
 clauses_of (atom p ts) s = clause_of [] (literal_of s p ∷ []) ∷ []

@@ -3,7 +3,7 @@
 ghost use Rattle.std.specs.Prelude.{◌≡◌, ◌++◌, ◌∷◌, [], IfOk, map};
 ghost use Rattle.calculus.specs.Instances.{ClauseInstance};
 ghost use Rattle.formula_core.specs.FormulaView.{the_formula};
-ghost use Rattle.propositional_search.specs.ClausesOf.{all_pairs, behind, clause_of, clauses_of, either_side, joined, literal_of};
+ghost use Rattle.propositional_search.specs.ClausesOf.{alpha_clauses, behind, beta_clauses, clause_of, clauses_of, joined, literal_of};
 ghost use Rattle.propositional_search.specs.ClauseView.{the_clause};
 
 use cop_base::{NoMemory, SymbolId};
@@ -51,16 +51,16 @@ fn add_clauses(
         Formula::Atom(p, _) => add_unit(alloc, sign, *p, before, all),
         Formula::Not(a) => add_clauses(alloc, a, sign.other(), before, all),
         Formula::And(a, b) => match sign {
-            Sign::T => add_either(alloc, a, sign, b, sign, before, all),
-            Sign::F => add_both(alloc, a, sign, b, sign, before, all),
+            Sign::T => add_alpha(alloc, a, sign, b, sign, before, all),
+            Sign::F => add_beta(alloc, a, sign, b, sign, before, all),
         },
         Formula::Or(a, b) => match sign {
-            Sign::T => add_both(alloc, a, sign, b, sign, before, all),
-            Sign::F => add_either(alloc, a, sign, b, sign, before, all),
+            Sign::T => add_beta(alloc, a, sign, b, sign, before, all),
+            Sign::F => add_alpha(alloc, a, sign, b, sign, before, all),
         },
         Formula::Imp(a, b) => match sign {
-            Sign::T => add_both(alloc, a, Sign::F, b, Sign::T, before, all),
-            Sign::F => add_either(alloc, a, Sign::T, b, Sign::F, before, all),
+            Sign::T => add_beta(alloc, a, Sign::F, b, Sign::T, before, all),
+            Sign::F => add_alpha(alloc, a, Sign::T, b, Sign::F, before, all),
         },
         Formula::All(a) | Formula::Ex(a) | Formula::Nec(a) | Formula::Poss(a) => {
             add_clauses(alloc, a, sign, before, all)
@@ -70,7 +70,7 @@ fn add_clauses(
 
 // The clauses of either part, each behind its side.
 #[cycle(add_clauses)]
-fn add_either(
+fn add_alpha(
     alloc: Global,
     a: &Formula,
     a_sign: Sign,
@@ -80,7 +80,8 @@ fn add_either(
     all: &mut Vec<Clause>,
 ) -> Result<(), NoMemory>
     ensures { IfOk result (λ _. map the_clause all.new.items ≡ map the_clause all.old.items
-        ++ behind before.now (either_side (clauses_of (the_formula a.now) a_sign) (clauses_of (the_formula b.now) b_sign))) }
+        ++ behind before.now (alpha_clauses (clauses_of (the_formula a.now) a_sign)
+        (clauses_of (the_formula b.now) b_sign))) }
 {
     let left = and_side(alloc, before, Side::Left)?;
     add_clauses(alloc, a, a_sign, &left, all)?;
@@ -91,7 +92,7 @@ fn add_either(
 
 // A clause for each pair of one of the first part and one of the second.
 #[cycle(add_clauses)]
-fn add_both(
+fn add_beta(
     alloc: Global,
     a: &Formula,
     a_sign: Sign,
@@ -101,14 +102,15 @@ fn add_both(
     all: &mut Vec<Clause>,
 ) -> Result<(), NoMemory>
     ensures { IfOk result (λ _. map the_clause all.new.items ≡ map the_clause all.old.items
-        ++ behind before.now (all_pairs (clauses_of (the_formula a.now) a_sign) (clauses_of (the_formula b.now) b_sign))) }
+        ++ behind before.now (beta_clauses (clauses_of (the_formula a.now) a_sign)
+        (clauses_of (the_formula b.now) b_sign))) }
 {
     let mut first = Vec::new(alloc);
     add_clauses(alloc, a, a_sign, before, &mut first)?;
     let mut second = Vec::new(alloc);
     add_clauses(alloc, b, b_sign, &[], &mut second)?;
     for clause in first.iter() {
-        push_joined(alloc, all, clause, &second)?;
+        add_joined(alloc, all, clause, &second)?;
     }
     Ok(())
 }
@@ -140,7 +142,8 @@ fn and_side(alloc: Global, before: &[Side], side: Side) -> Result<Vec<Side>, NoM
     Ok(sides)
 }
 
-fn push_joined(
+// Adds the first clause joined with each of the seconds.
+fn add_joined(
     alloc: Global,
     all: &mut Vec<Clause>,
     first: &Clause,

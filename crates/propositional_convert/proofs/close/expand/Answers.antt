@@ -4,7 +4,7 @@ use Rattle.std.proofs.lemmas.Bool.{false≢true}
 use Rattle.propositional_convert.specs.NodeView.{the_node}
 use Rattle.propositional_convert.proofs.Sizes.{fits-within}
 use Rattle.propositional_convert.proofs.Worked.{unmarked-worked, literal-worked, held-worked}
-use Rattle.propositional_convert.proofs.Expanding.{stays-same, used-one, used-both, used-either}
+use Rattle.propositional_convert.proofs.Expanding.{stays-same, used-one, used-alpha, used-beta}
 use Rattle.propositional_convert.proofs.close.expand.Goals as goal
 
 pub is_marked-requires : goal.is_marked-requires
@@ -22,11 +22,11 @@ returns-in-Literal c = stays-same c.args.plan.now.sizes.items c.args.plan.now.ma
 pub returns-in_ok-outcome-in-One : goal.returns-in_ok-outcome-in-One
 returns-in_ok-outcome-in-One c = used-one c.args.plan.now.sizes.items c.args.plan.now.marks.items c.args.branch.now c.use_one.new.branch c.args.index (c.args.index + 1) (the_node c.entry-entry.result) (the_node c.in-One.part) c.args.steps.now c.use_one.new.steps c.requires.fit c.entry-entry.ensures c.requires.few c.in-One.ensures (add-one c.args.index) c.in_ok-outcome-in-One.outcome c.in_ok-outcome-in-One.ensures
 
-pub returns-in_ok-outcome-in-Both : goal.returns-in_ok-outcome-in-Both
-returns-in_ok-outcome-in-Both c = used-both c.args.plan.now.sizes.items c.args.plan.now.marks.items c.args.branch.now c.use_both.new.branch c.args.index (c.args.index + 1) (the_node c.entry-entry.result) (the_node c.in-Both.first) (the_node c.in-Both.second) c.args.steps.now c.use_both.new.steps c.requires.fit c.entry-entry.ensures c.requires.few c.in-Both.ensures.0 c.in-Both.ensures.1 (add-one c.args.index) c.in_ok-outcome-in-Both.outcome c.in_ok-outcome-in-Both.ensures
+pub returns-in_ok-outcome-in-Alpha : goal.returns-in_ok-outcome-in-Alpha
+returns-in_ok-outcome-in-Alpha c = used-alpha c.args.plan.now.sizes.items c.args.plan.now.marks.items c.args.branch.now c.use_alpha.new.branch c.args.index (c.args.index + 1) (the_node c.entry-entry.result) (the_node c.in-Alpha.first) (the_node c.in-Alpha.second) c.args.steps.now c.use_alpha.new.steps c.requires.fit c.entry-entry.ensures c.requires.few c.in-Alpha.ensures.0 c.in-Alpha.ensures.1 (add-one c.args.index) c.in_ok-outcome-in-Alpha.outcome c.in_ok-outcome-in-Alpha.ensures
 
 pub returns-then-holds : goal.returns-then-holds
 returns-then-holds c = stays-same c.args.plan.now.sizes.items c.args.plan.now.marks.items c.args.branch.now c.args.index (the_node c.entry-entry.result) c.args.steps.now c.entry-entry.ensures (held-worked c.args.plan.now.marks.items c.args.branch.now (the_node c.entry-entry.result) (c.holds.ensures.0 c.if-holds.true))
 
-pub returns-in_ok-push_use-in-Either : goal.returns-in_ok-push_use-in-Either
-returns-in_ok-push_use-in-Either c = used-either c.args.plan.now.sizes.items c.args.plan.now.marks.items c.args.branch.now c.args.index (c.args.index + 1) (the_node c.entry-entry.result) (the_node c.in-Either.first) (the_node c.in-Either.second) c.args.steps.now c.push_use.new.steps c.requires.fit c.entry-entry.ensures c.requires.few c.in-Either.ensures.0 c.in-Either.ensures.1 (add-one c.args.index) c.in_ok-push_use-in-Either.ensures
+pub returns-in_ok-push_use-in-Beta : goal.returns-in_ok-push_use-in-Beta
+returns-in_ok-push_use-in-Beta c = used-beta c.args.plan.now.sizes.items c.args.plan.now.marks.items c.args.branch.now c.args.index (c.args.index + 1) (the_node c.entry-entry.result) (the_node c.in-Beta.first) (the_node c.in-Beta.second) c.args.steps.now c.push_use.new.steps c.requires.fit c.entry-entry.ensures c.requires.few c.in-Beta.ensures.0 c.in-Beta.ensures.1 (add-one c.args.index) c.in_ok-push_use-in-Beta.ensures

@@ -2,26 +2,26 @@ use Rattle.std.proofs.Common.{◌∙◌, ◌++◌, [], ap, map}
 use Rattle.formula_core.specs.FormulaView.{the_formula}
 use Rattle.propositional_search.specs.ClausesOf.{behind, clauses_of}
 use Rattle.propositional_search.specs.ClauseView.{the_clause}
-use Rattle.propositional_search.proofs.Behind.{both-added, either-added}
-use Rattle.propositional_search.proofs.Pairs.{pairs-step}
+use Rattle.propositional_search.proofs.Behind.{beta-added, alpha-added}
+use Rattle.propositional_search.proofs.Pairs.{beta-step}
 use Rattle.propositional_search.proofs.clause.+add_clauses.Goals as goal
 
-pub add_either-returns : goal.add_either-returns
-add_either-returns t c =
+pub add_alpha-returns : goal.add_alpha-returns
+add_alpha-returns t c =
     let xs = clauses_of (the_formula c.args.a.now) c.args.a_sign in
     let ys = clauses_of (the_formula c.args.b.now) c.args.b_sign in
-    either-added c.args.before.now xs ys (map the_clause c.args.all.now.items) (map the_clause c.add_clauses.new.all.items) (map the_clause c.add_clauses-2.new.all.items)
+    alpha-added c.args.before.now xs ys (map the_clause c.args.all.now.items) (map the_clause c.add_clauses.new.all.items) (map the_clause c.add_clauses-2.new.all.items)
     (c.in_ok-add_clauses.ensures ∙ ap (λ ds. map the_clause c.args.all.now.items ++ behind ds xs) (c.deref.ensures.value ∙ c.in_ok-left.ensures))
     (c.in_ok-add_clauses-2.ensures ∙ ap (λ ds. map the_clause c.add_clauses.new.all.items ++ behind ds ys) (c.deref-2.ensures.value ∙ c.in_ok-right.ensures))
 
-pub add_both-loop-clause-preserved : goal.add_both-loop-clause-preserved
-add_both-loop-clause-preserved t c = pairs-step _ _ _ _ _ _ _ c.loop-clause-test.true c.clause-item.is (rw c.deref.ensures.value at c.in_ok-push_joined.ensures) c.loop-clause.invariant
+pub add_beta-loop-clause-preserved : goal.add_beta-loop-clause-preserved
+add_beta-loop-clause-preserved t c = beta-step _ _ _ _ _ _ _ c.loop-clause-test.true c.clause-item.is (rw c.deref.ensures.value at c.in_ok-add_joined.ensures) c.loop-clause.invariant
 
-pub add_both-returns : goal.add_both-returns
-add_both-returns t c =
+pub add_beta-returns : goal.add_beta-returns
+add_beta-returns t c =
     let xs = clauses_of (the_formula c.args.a.now) c.args.a_sign in
     let ys = clauses_of (the_formula c.args.b.now) c.args.b_sign in
-    both-added c.args.before.now xs ys c.deref-clause-items.result.now c.add_clauses-2.new.all.items c.loop-clause.clause-index (map the_clause c.args.all.now.items) (map the_clause c.loop-clause.all.items) c.loop-clause-test.false
+    beta-added c.args.before.now xs ys c.deref-clause-items.result.now c.add_clauses-2.new.all.items c.loop-clause.clause-index (map the_clause c.args.all.now.items) (map the_clause c.loop-clause.all.items) c.loop-clause-test.false
     (ap (map the_clause) c.deref-clause-items.ensures.value ∙ c.in_ok-add_clauses.ensures ∙ ap (λ cs. map the_clause cs ++ behind c.args.before.now xs) c.new-first.ensures.items)
     (c.in_ok-add_clauses-2.ensures ∙ ap (λ cs. map the_clause cs ++ behind [] ys) c.new-second.ensures.items)
     c.loop-clause.invariant

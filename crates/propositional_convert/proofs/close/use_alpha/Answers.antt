@@ -4,7 +4,7 @@ use Rattle.calculus.specs.Derivations as derivation
 use Rattle.propositional_convert.specs.Literals.{IsPair}
 use Rattle.propositional_convert.specs.NodeView.{the_node}
 use Rattle.propositional_convert.proofs.Literals.{pair-kept}
-use Rattle.propositional_convert.proofs.close.use_both.Goals as goal
+use Rattle.propositional_convert.proofs.close.use_alpha.Goals as goal
 
 pub returns-in_ok-push_axiom-in-Some-default : goal.returns-in_ok-push_axiom-in-Some-default
 returns-in_ok-push_axiom-in-Some-default c =
