@@ -27,7 +27,7 @@ first-kept : (os : List Node) (e : Node) (ms : List Node) → slice_get ((os ++ 
 first-kept [] e ms = refl
 first-kept (o ∷ os) e ms = refl
 
--- the first entry of a branch stays
+-- the first node of a branch stays
 pub root-kept : (os : List Node) (e : Node) (ns : List Node) → Extends (os ++ e ∷ []) ns → slice_get ns 0 ≡ slice_get (os ++ e ∷ []) 0
 root-kept os e ns x = ap (λ l. slice_get l 0) x.1 ∙ first-kept os e x.0
 
@@ -48,7 +48,7 @@ take-back (n ∷ ns) ms = ap (λ l. n ∷ l) (take-back ns ms)
 pub taken-back : (ns ms os : List Node) (n : ℕ) → n ≡ length ns → Extends ns ms → os ≡ take n ms → os ≡ ns
 taken-back ns ms os n e x h = h ∙ (λ i. take (e i) (x.1 i)) ∙ take-back ns x.0
 
--- the indexes of the entries that were added are put to those that wait
+-- the indexes of the nodes that were added are put to those that wait
 pub next-indexes : (ns ms added : List Node) (rest next : List ℕ) (from to : ℕ) → ms ≡ ns ++ added → from ≡ length ns → to ≡ length ms → next ≡ rest ++ range_with_len from (to - from) → next ≡ rest ++ new_indexes ns added
 next-indexes ns ms added rest next from to grown f t e =
     let long : length ms ≡ length ns + length added = ap length grown ∙ length-append ns added in
@@ -76,7 +76,7 @@ pub fork-closed : (zs : List ℕ) (marks : List Bool) (os ns ms ts : List Node) 
 fork-closed zs marks os ns ms ts a b i start before after first second led f same h g =
     led-closed os ns start before second led (f.forked first second (subst (λ l. IsClosed (l ++ a ∷ []) after first) f.same h) (subst (λ l. IsClosed (l ++ b ∷ []) first second) (same ∙ f.same) g))
 
--- a branch on which no entry waits has a pair
+-- a branch on which no node waits has a pair
 pub ended : (zs : List ℕ) (marks : List Bool) (os : List Node) (e : Node) (ns : List Node) (ws : List ℕ) → EndsInPair zs marks (slice_get (os ++ e ∷ []) 0) → Extends (os ++ e ∷ []) ns → IsWorkedBut zs marks ns ws → ws ≡ [] → HasNoPair ns → ⊥
 ended zs marks os e ns ws ends x w none_waits none = ends ns (root-kept os e ns x) w.fit (λ i n h. off i n (w.worked i n h)) none
   where
@@ -84,8 +84,8 @@ ended zs marks os e ns ws ends x w none_waits none = ends ns (root-kept os e ns 
     off i n (inl waits) = absurd (subst (λ l. IsAmong l i) none_waits waits)
     off i n (inr h) = h
 
-pub few-entries : (zs : List ℕ) (marks : List Bool) (ns : List Node) (e : Node) (ws : List ℕ) → IsWorkedBut zs marks (ns ++ e ∷ []) ws → length zs ≤ 4000000 → length ns + 1 < 2 ^ 32
-few-entries zs marks ns e ws w small = omega (arith, worked-length zs marks (ns ++ e ∷ []) ws w, length-append ns (e ∷ []))
+pub few-nodes : (zs : List ℕ) (marks : List Bool) (ns : List Node) (e : Node) (ws : List ℕ) → IsWorkedBut zs marks (ns ++ e ∷ []) ws → length zs ≤ 4000000 → length ns + 1 < 2 ^ 32
+few-nodes zs marks ns e ws w small = omega (arith, worked-length zs marks (ns ++ e ∷ []) ws w, length-append ns (e ∷ []))
 
 pub length-one : (ns : List Node) (e : Node) → length (ns ++ e ∷ []) ≡ length ns + 1
 length-one ns e = omega (arith, length-append ns (e ∷ []))

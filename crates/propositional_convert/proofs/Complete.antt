@@ -1,4 +1,4 @@
--- A branch that is worked off, with the whole formula as its first entry, has a pair.
+-- A branch that is worked off, with the whole formula as its first node, has a pair.
 use Rattle.std.proofs.Common.{◌≡◌, ◌⊎◌, ℕ, zero, suc, ◌+◌, List, [], ◌∷◌, ◌++◌, length, Bool, false, not, ◌&&◌, IsTrue, refl, sym, ◌∙◌, ap, subst, Some, slice_get, remove, nat_lt, ◌==◌, inl, inr}
 use Rattle.std.specs.List.{AllByRecursion, Contains, list_all}
 use Rattle.std.proofs.lemmas.Bool.{false≢true, and_parts, eqb-true}

@@ -1,4 +1,4 @@
--- Which literals a branch has after entries are added or taken off, and that their numbers stay right.
+-- Which literals a branch has after nodes are added or taken off, and that their numbers stay right.
 use Rattle.std.proofs.Common.{◌≡◌, ◌≢◌, ◌⊎◌, ℕ, zero, suc, ◌+◌, ◌-◌, ◌<◌, ◌≤◌, List, [], ◌∷◌, ◌++◌, length, take, refl, sym, ◌∙◌, ap, subst, Option, Some, None, unwrap_or, option_and_then, slice_get, inl, inr, arith, add-one}
 use Rattle.calculus.specs.declared.sign.Sign.{Sign}
 use Rattle.calculus.specs.declared.sign.Sign.TheVariants.{T, F}
@@ -21,7 +21,7 @@ pub literal_at-last : (ns : List Node) (n : Node) (ms : List Node) → literal_a
 literal_at-last [] n ms = refl
 literal_at-last (m ∷ ns) n ms = literal_at-last ns n ms
 
--- an entry of the longer branch is one of the shorter, or the last
+-- a node of the longer branch is one of the shorter, or the last
 pub record IsEarlier (ns : List Node) (i : ℕ) (l : Literal) : Type 0 where
   pub within : i < length ns
   pub has : literal_at ns i ≡ Some l
@@ -123,7 +123,7 @@ absent-past given shown ns s p number k e w i h =
     let b : f.first < length ns = literal_at-within ns f.first (literal s p) f.has in
     absurd (omega arith)
 
--- the number is that of another entry
+-- the number is that of another node
 pub absent-other : (given shown : List ℕ) (ns : List Node) (s : Sign) (p number : ℕ) → KeepsNumbers given shown ns → number_in given shown s p ≡ number → (literal_numbered ns number ≡ Some (literal s p) → ⊥) → IsAbsent ns s p
 absent-other given shown ns s p number k e wrong i h =
     let f = k s p i h in
@@ -172,9 +172,9 @@ pair-given ns n p number shown e is h = (p, numbered-last ns n number e ∙ is, 
 pub pair-shown : (ns : List Node) (n : Node) (p given number : ℕ) → number ≡ length ns + 1 → literal_of n ≡ Some (literal F p) → literal_numbered ns given ≡ Some (literal T p) → IsPair (ns ++ n ∷ []) given number
 pair-shown ns n p given number e is h = (p, numbered-kept ns (n ∷ []) given (literal T p) h, numbered-last ns n number e ∙ is)
 
-pub numbered-entry : (ns : List Node) (number : ℕ) (n : Node) → 0 < number → slice_get ns (number - 1) ≡ Some n → literal_numbered ns number ≡ literal_of n
-numbered-entry ns zero n w h = absurd (omega arith)
-numbered-entry ns (suc i) n w h = let e : suc i - 1 ≡ i = omega arith in ap (λ o. option_and_then literal_of o) (sym (ap (slice_get ns) e) ∙ h)
+pub numbered-node : (ns : List Node) (number : ℕ) (n : Node) → 0 < number → slice_get ns (number - 1) ≡ Some n → literal_numbered ns number ≡ literal_of n
+numbered-node ns zero n w h = absurd (omega arith)
+numbered-node ns (suc i) n w h = let e : suc i - 1 ≡ i = omega arith in ap (λ o. option_and_then literal_of o) (sym (ap (slice_get ns) e) ∙ h)
 
 pub pair-kept : (ns ms : List Node) (given shown : ℕ) → IsPair ns given shown → IsPair (ns ++ ms) given shown
 pair-kept ns ms given shown pair = (pair.0, numbered-kept ns ms given (literal T pair.0) pair.1, numbered-kept ns ms shown (literal F pair.0) pair.2)

@@ -1,4 +1,4 @@
--- How a branch is worked off: one entry that waits is, and the parts that this adds wait and have room.
+-- How a branch is worked off: one node that waits is, and the parts that this adds wait and have room.
 use Rattle.std.proofs.Common.{◌≡◌, ◌⊎◌, ℕ, zero, suc, ◌+◌, ◌<◌, ◌≤◌, List, [], ◌∷◌, ◌++◌, ◌-◌, length, get_or, take, drop, remove, drop-cons, Bool, refl, sym, ◌∙◌, ap, subst, Some, slice_get, append_assoc, inl, inr, arith, length-append}
 use Rattle.std.specs.List.{AllByRecursion, range_with_len}
 use Rattle.std.proofs.lemmas.List.{take-append-drop}
@@ -17,7 +17,7 @@ use Rattle.propositional_convert.specs.Literals.{IsHeld}
 use Rattle.propositional_convert.proofs.Sizes.{size-pos}
 use Rattle.propositional_convert.proofs.Holding.{held-kept, held-parts}
 
--- ---- entries of a longer branch
+-- ---- nodes of a longer branch
 
 pub get-kept : (ns ms : List Node) (k : ℕ) (n : Node) → slice_get ns k ≡ Some n → slice_get (ns ++ ms) k ≡ Some n
 get-kept [] ms k n h = absurd (none_some h)
@@ -33,7 +33,7 @@ get-seam : (ns : List Node) (n : Node) (ms : List Node) → slice_get (ns ++ n �
 get-seam [] n ms = refl
 get-seam (m ∷ ns) n ms = get-seam ns n ms
 
--- an entry of the longer branch is one of the shorter, or one of those added
+-- a node of the longer branch is one of the shorter, or one of those added
 get-cases : (ns ms : List Node) (k : ℕ) (n : Node) → slice_get (ns ++ ms) k ≡ Some n → (slice_get ns k ≡ Some n) ⊎ ((j : ℕ) × (k ≡ length ns + j) × (slice_get ms j ≡ Some n))
 get-cases [] ms k n h = inr (k, omega arith, h)
 get-cases (m ∷ ns) ms zero n h = inl h
@@ -97,7 +97,7 @@ weight_at-long : (ns : List Node) (is : List ℕ) → AreWithin ns is → length
 weight_at-long ns [] h = omega arith
 weight_at-long ns (i ∷ is) h = omega (arith, size_at-pos ns i h.0, weight_at-long ns is h.1)
 
--- the indexes of the entries that are added
+-- the indexes of the nodes that are added
 abbrev pub new_indexes : List Node → List Node → List ℕ
 new_indexes ns ms = range_with_len (length ns) (length ms)
 
@@ -180,11 +180,11 @@ length-taken old i new t =
     let n : length new ≡ length t.0 + length t.1 = ap length t.3 ∙ length-append t.0 t.1 in
     omega arith
 
--- there are at most as many entries as positions
+-- there are at most as many nodes as positions
 pub worked-length : (zs : List ℕ) (marks : List Bool) (ns : List Node) (ws : List ℕ) → IsWorkedBut zs marks ns ws → length ns ≤ length zs
 worked-length zs marks ns ws w = let r : length ns + weight_at ns ws ≤ length zs + length ws = w.room in omega (arith, weight_at-long ns ws w.within)
 
--- ---- one entry more
+-- ---- one node more
 
 abbrev pub ListFits : List ℕ → List Node → Type 0
 ListFits zs ms = AllByRecursion (Fits zs) ms
@@ -200,11 +200,11 @@ fit-added zs ns ms old new i n h = elim (get-cases ns ms i n h) [
   | inr e ↦ fits-get zs ms e.0 n new e.2
 ]
 
--- what waits once an entry is worked off by these nodes
+-- what waits once a node is worked off by these nodes
 pub next-weight : (zs : List ℕ) (marks : List Bool) (ns ms : List Node) (ws : List ℕ) (i : ℕ) (rest : List ℕ) → AreWithin ns ws → IsTaken ws i rest → WorkOff zs marks ns i ms → weight_at (ns ++ ms) (rest ++ new_indexes ns ms) < weight_at ns ws
 next-weight zs marks ns ms ws i rest h t w =
-    let lighter : weight ms < size w.entry.formula = w.lighter in
-    omega (arith, weight_at-append (ns ++ ms) rest (new_indexes ns ms), weight_at-kept ns ms rest (within-taken ns ws i rest t h).1, new-weight ns ms, weight-taken ns ws i rest t, get-size ns i w.entry w.there)
+    let lighter : weight ms < size w.node.formula = w.lighter in
+    omega (arith, weight_at-append (ns ++ ms) rest (new_indexes ns ms), weight_at-kept ns ms rest (within-taken ns ws i rest t h).1, new-weight ns ms, weight-taken ns ws i rest t, get-size ns i w.node w.there)
 
 pub worked-next : (zs : List ℕ) (marks : List Bool) (ns ms : List Node) (ws : List ℕ) (i : ℕ) (rest : List ℕ) → IsWorkedBut zs marks ns ws → IsTaken ws i rest → WorkOff zs marks ns i ms → IsWorkedBut zs marks (ns ++ ms) (rest ++ new_indexes ns ms)
 worked-next zs marks ns ms ws i rest w t o = record {
@@ -213,8 +213,8 @@ worked-next zs marks ns ms ws i rest w t o = record {
     | inl e ↦ elim (w.worked k m e) [
       | inl waits ↦ elim (among-taken ws i rest k t waits) [
         | inl same ↦
-            let there : Some o.entry ≡ Some m = sym o.there ∙ ap (slice_get ns) same ∙ e in
-            inr (subst (IsWorkedOff marks (ns ++ ms)) (some_injective o.entry there) o.done)
+            let there : Some o.node ≡ Some m = sym o.there ∙ ap (slice_get ns) same ∙ e in
+            inr (subst (IsWorkedOff marks (ns ++ ms)) (some_injective o.node there) o.done)
         | inr still ↦ inl (among-left rest (new_indexes ns ms) k still)
       ]
       | inr off ↦ inr (worked-kept marks ns ms m off)
@@ -228,7 +228,7 @@ worked-next zs marks ns ms ws i rest w t o = record {
       omega (arith, length-append ns ms, length-append rest (new_indexes ns ms), length-range_with_len (length ns) (length ms), length-taken ws i rest t));
 }
 
--- ---- where an entry is worked off
+-- ---- where a node is worked off
 
 pub unmarked-worked : (marks : List Bool) (ns : List Node) (n : Node) → (IsMarked marks n.position → ⊥) → IsWorkedOff marks ns n
 unmarked-worked marks ns n h m = absurd (h m)

@@ -36,7 +36,7 @@ abbrev pub weight : List Node → ℕ
 weight [] = 0
 weight (n ∷ ns) = size n.formula + weight ns
 
--- the size of the entry with an index, and the sum of those of entries
+-- the size of the node with an index, and the sum of those of nodes
 abbrev pub size_at : List Node → ℕ → ℕ
 size_at [] i = 0
 size_at (n ∷ ns) zero = size n.formula
@@ -50,7 +50,7 @@ abbrev pub IsAmong : List ℕ → ℕ → Type 0
 IsAmong [] i = ⊥
 IsAmong (j ∷ js) i = (j ≡ i) ⊎ IsAmong js i
 
--- the indexes are those of entries
+-- the indexes are those of nodes
 abbrev pub AreWithin : List Node → List ℕ → Type 0
 AreWithin ns is = AllByRecursion (λ i. i < length ns) is
 
@@ -58,14 +58,14 @@ AreWithin ns is = AllByRecursion (λ i. i < length ns) is
 abbrev pub IsTaken : List ℕ → ℕ → List ℕ → Type 0
 IsTaken old i new = (before after : List ℕ) × (old ≡ before ++ i ∷ after) × (new ≡ before ++ after)
 
--- each entry of the branch is worked off or its index waits, and there is room for what those that wait can add
+-- each node of the branch is worked off or its index waits, and there is room for what those that wait can add
 pub record IsWorkedBut (sizes : List ℕ) (marks : List Bool) (ns : List Node) (waiting : List ℕ) : Type 0 where
   pub fit : AllFit sizes ns
   pub worked : (i : ℕ) (n : Node) → slice_get ns i ≡ Some n → IsAmong waiting i ⊎ IsWorkedOff marks ns n
   pub within : AreWithin ns waiting
   pub room : length ns + weight_at ns waiting ≤ length sizes + length waiting
 
--- a branch with this first entry that is worked off has a pair
+-- a branch with this first node that is worked off has a pair
 abbrev pub EndsInPair : List ℕ → List Bool → Option Node → Type 0
 EndsInPair sizes marks root = (ns : List Node) → slice_get ns 0 ≡ root → AllFit sizes ns → ((i : ℕ) (n : Node) → slice_get ns i ≡ Some n → IsWorkedOff marks ns n) → HasNoPair ns → ⊥
 

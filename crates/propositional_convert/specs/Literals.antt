@@ -24,19 +24,19 @@ literal_of n = literal_in n.sign n.formula
 abbrev pub literal_at : List Node → ℕ → Option Literal
 literal_at ns i = option_and_then literal_of (slice_get ns i)
 
--- that of the entry with this number
+-- that of the node with this number
 abbrev pub literal_numbered : List Node → ℕ → Option Literal
 literal_numbered ns zero = None
 literal_numbered ns (suc i) = literal_at ns i
 
--- an entry has the literal
+-- a node has the literal
 abbrev pub HasLiteral : List Node → Sign → ℕ → Type 0
 HasLiteral ns s p = (i : ℕ) × (literal_at ns i ≡ Some (literal s p))
 
 abbrev pub IsAbsent : List Node → Sign → ℕ → Type 0
 IsAbsent ns s p = (i : ℕ) → literal_at ns i ≡ Some (literal s p) → ⊥
 
--- a T entry and an F entry of one symbol
+-- a T node and an F node of one symbol
 abbrev pub IsPair : List Node → ℕ → ℕ → Type 0
 IsPair ns given shown = (p : ℕ) × (literal_numbered ns given ≡ Some (literal T p)) × (literal_numbered ns shown ≡ Some (literal F p))
 
@@ -50,7 +50,7 @@ numbers_for F given shown = shown
 abbrev pub number_in : List ℕ → List ℕ → Sign → ℕ → ℕ
 number_in given shown s p = slice_index (numbers_for s given shown) p
 
--- the number kept for a literal is that of an entry that has it, none of those that have it being earlier
+-- the number kept for a literal is that of a node that has it, none of those that have it being earlier
 pub record IsFirst (given shown : List ℕ) (ns : List Node) (s : Sign) (p i : ℕ) : Type 0 where
   pub first : ℕ
   pub earliest : first ≤ i

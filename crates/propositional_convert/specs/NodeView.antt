@@ -1,16 +1,16 @@
--- The node that an entry stands for.
+-- The node that one of the program stands for.
 use Rattle.std.specs.Prelude.{◌≡◌, ◌+◌, ℕ, suc, List, [], ◌∷◌}
 use Rattle.calculus.specs.declared.kind.Shape.TheVariants.{Alpha as AlphaShape, Beta as BetaShape, Literal as LiteralShape}
 use Rattle.calculus.specs.Kinds.{signed, shape_of, components}
 use Rattle.calculus.specs.Positions.{Node, node, size}
 use Rattle.formula_core.specs.FormulaView.{the_formula}
-use Rattle.propositional_convert.specs.declared.entry.Entry.{Entry}
-use Rattle.propositional_convert.specs.declared.entry.Parts.{Parts}
-use Rattle.propositional_convert.specs.declared.entry.Parts.TheVariants.{Literal, One, Alpha, Beta}
+use Rattle.propositional_convert.specs.declared.node.Node as program
+use Rattle.propositional_convert.specs.declared.node.Parts.{Parts}
+use Rattle.propositional_convert.specs.declared.node.Parts.TheVariants.{Literal, One, Alpha, Beta}
 use Rattle.propositional_convert.specs.Parts.{Fits}
 
-abbrev pub the_node : Entry → Node
-the_node e = node e.position e.sign (the_formula e.formula.now)
+abbrev pub the_node : program.Node → Node
+the_node n = node n.position n.sign (the_formula n.formula.now)
 
 -- a is the only component of the alpha node n
 pub record IsOne (sizes : List ℕ) (n a : Node) : Type 0 where

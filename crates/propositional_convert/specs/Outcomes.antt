@@ -1,4 +1,4 @@
--- What becomes of a branch when an entry is worked off.
+-- What becomes of a branch when a node is worked off.
 use Rattle.std.specs.Prelude.{◌≡◌, ℕ, ◌<◌, List, [], ◌∷◌, ◌++◌, Bool, Some, slice_get}
 use Rattle.std.specs.List.{AllByRecursion}
 use Rattle.calculus.specs.Positions.{Node, size}
@@ -11,13 +11,13 @@ use Rattle.propositional_convert.specs.Branches.{IsWorkedOff, weight, Extends}
 use Rattle.propositional_convert.specs.Stepping.{IsClosed, IsLed, IsForked, plain_use}
 use Rattle.propositional_convert.specs.NodeView.{the_node}
 
--- these nodes work off the entry with this index, and have less to be worked off than it has
+-- these nodes work off the node with this index, and have less to be worked off than it has
 pub record WorkOff (sizes : List ℕ) (marks : List Bool) (ns : List Node) (index : ℕ) (added : List Node) : Type 0 where
-  pub entry : Node
-  pub there : slice_get ns index ≡ Some entry
+  pub node : Node
+  pub there : slice_get ns index ≡ Some node
   pub fit : AllByRecursion (Fits sizes) added
-  pub lighter : weight added < size entry.formula
-  pub done : IsWorkedOff marks (ns ++ added) entry
+  pub lighter : weight added < size node.formula
+  pub done : IsWorkedOff marks (ns ++ added) node
 
 -- the branch ns has become ms, which is still open
 pub record StaysOpen (sizes : List ℕ) (marks : List Bool) (ns ms : List Node) (index : ℕ) (before after : List Step) : Type 0 where
@@ -33,13 +33,13 @@ pub record IsFork (sizes : List ℕ) (marks : List Bool) (ns ms : List Node) (a 
   pub second : WorkOff sizes marks ns index (b ∷ [])
   pub forked : IsForked ns a b before after
 
--- the entry of the branch ns with this index was worked off
+-- the node of the branch ns with this index was worked off
 abbrev pub IsOutcome : List ℕ → List Bool → List Node → List Node → ℕ → List Step → List Step → Outcome → Type 0
 IsOutcome sizes marks ns ms index before after Open = StaysOpen sizes marks ns ms index before after
 IsOutcome sizes marks ns ms index before after Closed = Extends ns ms × IsClosed ns before after
 IsOutcome sizes marks ns ms index before after (Fork a b) = IsFork sizes marks ns ms (the_node a) (the_node b) index before after
 
--- the entry with this number was used, which added these nodes
+-- the node with this number was used, which added these nodes
 abbrev pub IsUse : List Node → List Node → ℕ → List Node → List Step → List Step → Outcome → Type 0
 IsUse ns ms number added before after Open = (ms ≡ ns ++ added) × (after ≡ before ++ plain_use number ∷ []) × (HasNoPair ns → HasNoPair ms)
 IsUse ns ms number added before after Closed = (ms ≡ ns ++ added) × ((given : ℕ) × (shown : ℕ) × (after ≡ (before ++ plain_use number ∷ []) ++ close given shown ∷ []) × IsPair ms given shown)

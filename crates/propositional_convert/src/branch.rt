@@ -6,31 +6,31 @@ ghost use Rattle.formula_core.specs.FormulaView.{the_formula};
 ghost use Rattle.propositional_convert.specs.Literals.{HasLiteral, HasNoPair, IsAbsent, IsHeld, IsPair, literal, literal_in, literal_numbered, literal_of, number_in};
 ghost use Rattle.propositional_convert.specs.NodeView.{the_node};
 
-use crate::entry::Entry;
+use crate::node::Node;
 use cop_base::NoMemory;
 use formula_core::{Formula, Sign};
 use std::alloc::Global;
 use std::marker::Model;
 
-/// The numbers of a T entry and an F entry of one atom.
+/// The numbers of a T node and an F node of one atom.
 #[derive(Clone, Copy)]
 pub(crate) struct Pair {
     pub given: usize,
     pub shown: usize,
 }
 
-// The number of the first T entry and of the first F entry of each symbol.
+// The number of the first T node and of the first F node of each symbol.
 #[derive(Drop)]
 struct Numbers {
     given: Vec<usize>,
     shown: Vec<usize>,
 }
 
-/// The entries of a branch, whose numbers count from 1.
+/// The nodes of a branch, whose numbers count from 1.
 #[derive(Drop)]
 pub(crate) struct Branch<'a> {
-    entries: Vec<Entry<'a>>,
-    // A number is out of date where it is past the end or its entry is no such one, so that entries can be taken off
+    nodes: Vec<Node<'a>>,
+    // A number is out of date where it is past the end or its node is no such one, so that nodes can be taken off
     // without a look at the numbers.
     numbers: Numbers,
 }
@@ -47,9 +47,9 @@ impl<'a> Model for Branch<'a> {
 
     ghost coded = { Prim.hlevel (codes, formula_code) };
 
-    ghost view = { λ b. map the_node b.entries.items };
+    ghost view = { λ b. map the_node b.nodes.items };
 
-    ghost invariant = { λ b. KeepsNumbers b.numbers.given.items b.numbers.shown.items (map the_node b.entries.items) };
+    ghost invariant = { λ b. KeepsNumbers b.numbers.given.items b.numbers.shown.items (map the_node b.nodes.items) };
 }
 
 // The number at a place, or 0 past the end.
@@ -91,11 +91,11 @@ fn symbol_of(f: &Formula) -> Option<usize>
     }
 }
 
-fn is_literal(entry: Entry, sign: Sign, symbol: usize) -> bool
-    ensures { IsTrue result ↔ (literal_of (the_node entry.entry) ≡ Some (literal sign symbol)) }
+fn is_literal(node: Node, sign: Sign, symbol: usize) -> bool
+    ensures { IsTrue result ↔ (literal_of (the_node node.entry) ≡ Some (literal sign symbol)) }
 {
-    match symbol_of(entry.formula) {
-        Some(p) => p == symbol && entry.sign == sign,
+    match symbol_of(node.formula) {
+        Some(p) => p == symbol && node.sign == sign,
         None => false,
     }
 }
@@ -127,7 +127,7 @@ impl<'a> Branch<'a> {
         ensures { result ≡ [] }
     {
         Branch {
-            entries: Vec::new(alloc),
+            nodes: Vec::new(alloc),
             numbers: Numbers {
                 given: Vec::new(alloc),
                 shown: Vec::new(alloc),
@@ -138,24 +138,24 @@ impl<'a> Branch<'a> {
     pub(crate) fn len(&self) -> usize
         ensures { result ≡ length self.now }
     {
-        self.entries.len()
+        self.nodes.len()
     }
 
-    pub(crate) fn entry(&self, index: usize) -> Entry<'a>
+    pub(crate) fn node(&self, index: usize) -> Node<'a>
         requires { index < length self.now }
         ensures { slice_get self.now index ≡ Some (the_node result) }
     {
-        self.entries[index]
+        self.nodes[index]
     }
 
-    /// Takes off the entries past the first `length` ones.
+    /// Takes off the nodes past the first `length` ones.
     pub(crate) fn truncate(&mut self, length: usize)
         ensures { self.new ≡ take length self.old }
     {
-        self.entries.truncate(length);
+        self.nodes.truncate(length);
     }
 
-    // The number of the first entry of an atom with this sign.
+    // The number of the first node of an atom with this sign.
     fn find(&self, sign: Sign, symbol: usize) -> Option<usize>
         ensures { MatchOption result (IsAbsent self.now sign symbol) (λ number. literal_numbered self.now number ≡ Some (literal sign symbol)) }
     {
@@ -166,14 +166,14 @@ impl<'a> Branch<'a> {
         if number > self.len() {
             return None;
         }
-        if is_literal(self.entry(number - 1), sign, symbol) {
+        if is_literal(self.node(number - 1), sign, symbol) {
             Some(number)
         } else {
             None
         }
     }
 
-    // Whether an entry is the atom with this sign.
+    // Whether a node is the atom with this sign.
     fn has(&self, sign: Sign, symbol: usize) -> bool
         ensures { IsTrue result ↔ HasLiteral self.now sign symbol }
     {
@@ -206,41 +206,41 @@ impl<'a> Branch<'a> {
         }
     }
 
-    /// Adds an entry, and gives the pair that it makes with an earlier one, if there is one.
-    pub(crate) fn add(&mut self, entry: Entry<'a>) -> Result<Option<Pair>, NoMemory>
+    /// Adds a node, and gives the pair that it makes with an earlier one, if there is one.
+    pub(crate) fn add(&mut self, node: Node<'a>) -> Result<Option<Pair>, NoMemory>
         requires { length self.old < 2 ^ 32 }
-        ensures added { OnOk result (self.new ≡ self.old ++ the_node entry.entry ∷ []) }
+        ensures added { OnOk result (self.new ≡ self.old ++ the_node node.entry ∷ []) }
         ensures pair { IfOk result (λ found. MatchOption found (HasNoPair self.old → HasNoPair self.new) (λ pair. IsPair self.new pair.given pair.shown)) }
     {
-        match symbol_of(entry.formula) {
-            Some(symbol) => self.add_literal(entry, symbol),
+        match symbol_of(node.formula) {
+            Some(symbol) => self.add_literal(node, symbol),
             None => {
-                self.push_other(entry)?;
+                self.push_other(node)?;
                 Ok(None)
             }
         }
     }
 
-    // Puts an entry that is no atom to the others.
-    fn push_other(&mut self, entry: Entry<'a>) -> Result<(), NoMemory>
-        requires { literal_of (the_node entry) ≡ None }
-        ensures { OnOk result (self.new ≡ self.old ++ the_node entry.entry ∷ []) }
+    // Puts a node that is no atom to the others.
+    fn push_other(&mut self, node: Node<'a>) -> Result<(), NoMemory>
+        requires { literal_of (the_node node) ≡ None }
+        ensures { OnOk result (self.new ≡ self.old ++ the_node node.entry ∷ []) }
     {
-        self.entries.push(entry)?;
+        self.nodes.push(node)?;
         Ok(())
     }
 
-    // Adds an entry of an atom.
-    fn add_literal(&mut self, entry: Entry<'a>, symbol: usize) -> Result<Option<Pair>, NoMemory>
-        requires literal { literal_of (the_node entry) ≡ Some (literal entry.sign symbol) }
+    // Adds a node of an atom.
+    fn add_literal(&mut self, node: Node<'a>, symbol: usize) -> Result<Option<Pair>, NoMemory>
+        requires literal { literal_of (the_node node) ≡ Some (literal node.sign symbol) }
         requires few { length self.old < 2 ^ 32 }
-        ensures added { OnOk result (self.new ≡ self.old ++ the_node entry.entry ∷ []) }
+        ensures added { OnOk result (self.new ≡ self.old ++ the_node node.entry ∷ []) }
         ensures pair { IfOk result (λ found. MatchOption found (HasNoPair self.old → HasNoPair self.new) (λ pair. IsPair self.new pair.given pair.shown)) }
     {
         let number = self.len() + 1;
-        let complement = self.find(entry.sign.other(), symbol);
-        self.push_literal(entry, symbol)?;
-        match (entry.sign, complement) {
+        let complement = self.find(node.sign.other(), symbol);
+        self.push_literal(node, symbol)?;
+        match (node.sign, complement) {
             (_, None) => Ok(None),
             (Sign::T, Some(shown)) => Ok(Some(Pair {
                 given: number,
@@ -253,30 +253,30 @@ impl<'a> Branch<'a> {
         }
     }
 
-    // Puts the entry of an atom to the others, and keeps its number if it is the first one.
-    fn push_literal(&mut self, entry: Entry<'a>, symbol: usize) -> Result<(), NoMemory>
-        requires literal { literal_of (the_node entry) ≡ Some (literal entry.sign symbol) }
+    // Puts the node of an atom to the others, and keeps its number if it is the first one.
+    fn push_literal(&mut self, node: Node<'a>, symbol: usize) -> Result<(), NoMemory>
+        requires literal { literal_of (the_node node) ≡ Some (literal node.sign symbol) }
         requires few { length self.old < 2 ^ 32 }
-        ensures { OnOk result (self.new ≡ self.old ++ the_node entry.entry ∷ []) }
+        ensures { OnOk result (self.new ≡ self.old ++ the_node node.entry ∷ []) }
     {
-        match self.find(entry.sign, symbol) {
-            None => self.push_first(entry, symbol),
+        match self.find(node.sign, symbol) {
+            None => self.push_first(node, symbol),
             Some(_) => {
-                self.entries.push(entry)?;
+                self.nodes.push(node)?;
                 Ok(())
             }
         }
     }
 
-    fn push_first(&mut self, entry: Entry<'a>, symbol: usize) -> Result<(), NoMemory>
-        requires literal { literal_of (the_node entry) ≡ Some (literal entry.sign symbol) }
-        requires absent { IsAbsent self.old entry.sign symbol }
+    fn push_first(&mut self, node: Node<'a>, symbol: usize) -> Result<(), NoMemory>
+        requires literal { literal_of (the_node node) ≡ Some (literal node.sign symbol) }
+        requires absent { IsAbsent self.old node.sign symbol }
         requires few { length self.old < 2 ^ 32 }
-        ensures { OnOk result (self.new ≡ self.old ++ the_node entry.entry ∷ []) }
+        ensures { OnOk result (self.new ≡ self.old ++ the_node node.entry ∷ []) }
     {
         let number = self.len() + 1;
-        self.numbers.put(entry.sign, symbol, number)?;
-        self.entries.push(entry)?;
+        self.numbers.put(node.sign, symbol, number)?;
+        self.nodes.push(node)?;
         Ok(())
     }
 }

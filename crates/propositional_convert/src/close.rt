@@ -12,7 +12,7 @@ ghost use Rattle.propositional_convert.specs.Outcomes.{IsOutcome, IsUse};
 ghost use Rattle.propositional_convert.specs.Stepping.{IsClosed, plain_use};
 
 use crate::branch::{Branch, Pair};
-use crate::entry::{Entry, Parts};
+use crate::node::{Node, Parts};
 use crate::outcome::Outcome;
 use crate::plan::Plan;
 use cop_base::NoMemory;
@@ -42,11 +42,11 @@ fn push_axiom(steps: &mut StepList, pair: Pair) -> Result<(), NoMemory>
     Ok(())
 }
 
-// Uses an entry that adds one entry.
+// Uses a node that adds one node.
 fn use_one<'a>(
     branch: &mut Branch<'a>,
     number: usize,
-    part: Entry<'a>,
+    part: Node<'a>,
     steps: &mut StepList,
 ) -> Result<Outcome<'a>, NoMemory>
     requires number { number < 2 ^ 32 }
@@ -63,12 +63,12 @@ fn use_one<'a>(
     }
 }
 
-// Uses an entry that adds two entries.
+// Uses a node that adds two nodes.
 fn use_alpha<'a>(
     branch: &mut Branch<'a>,
     number: usize,
-    first: Entry<'a>,
-    second: Entry<'a>,
+    first: Node<'a>,
+    second: Node<'a>,
     steps: &mut StepList,
 ) -> Result<Outcome<'a>, NoMemory>
     requires number { number < 2 ^ 32 }
@@ -91,7 +91,7 @@ fn use_alpha<'a>(
     }
 }
 
-// Works off the entry at an index. One that the literals of the branch make hold is left as it is: of an alpha formula the
+// Works off the node at an index. One that the literals of the branch make hold is left as it is: of an alpha formula the
 // branch would gain nothing, and of a beta formula one child of the fork.
 fn expand<'a>(
     plan: &Plan,
@@ -104,14 +104,14 @@ fn expand<'a>(
     requires few { length branch.old ≤ 4000000 }
     ensures { IfOk result (λ outcome. IsOutcome plan.now.sizes.items plan.now.marks.items branch.old branch.new index steps.old steps.new outcome) }
 {
-    let entry = branch.entry(index);
-    if !plan.is_marked(entry.position) {
+    let node = branch.node(index);
+    if !plan.is_marked(node.position) {
         return Ok(Outcome::Open);
     }
-    if branch.holds(entry.sign, entry.formula) {
+    if branch.holds(node.sign, node.formula) {
         return Ok(Outcome::Open);
     }
-    match plan.parts(entry) {
+    match plan.parts(node) {
         Parts::Literal => Ok(Outcome::Open),
         Parts::One(part) => {
             let outcome = use_one(branch, index + 1, part, steps)?;
@@ -128,30 +128,30 @@ fn expand<'a>(
     }
 }
 
-// Whether the literals of the branch refute the entry: what they would make hold has the other sign.
-fn fails(branch: &Branch, entry: Entry) -> bool
-    ensures { IsTrue result ↔ IsHeld branch.now (other entry.entry.sign) (the_formula entry.entry.formula.now) }
+// Whether the literals of the branch refute the node: what they would make hold has the other sign.
+fn fails(branch: &Branch, node: Node) -> bool
+    ensures { IsTrue result ↔ IsHeld branch.now (other node.entry.sign) (the_formula node.entry.formula.now) }
 {
-    branch.holds(entry.sign.other(), entry.formula)
+    branch.holds(node.sign.other(), node.formula)
 }
 
-// Whether work on the entry at an index would leave two branches open: it is a beta formula that does not hold, and none of
+// Whether work on the node at an index would leave two branches open: it is a beta formula that does not hold, and none of
 // its components fails.
 fn splits(plan: &Plan, branch: &Branch, index: usize) -> bool
     requires fit { AllFit plan.now.sizes.items branch.now }
     requires there { index < length branch.now }
 {
-    let entry = branch.entry(index);
-    match plan.parts(entry) {
+    let node = branch.node(index);
+    match plan.parts(node) {
         Parts::Literal | Parts::One(_) | Parts::Alpha(_, _) => false,
-        Parts::Beta(first, second) => plan.is_marked(entry.position)
-            && !branch.holds(entry.sign, entry.formula)
+        Parts::Beta(first, second) => plan.is_marked(node.position)
+            && !branch.holds(node.sign, node.formula)
             && !fails(branch, first)
             && !fails(branch, second),
     }
 }
 
-// The place of the index whose entry is worked off next: the latest one that leaves at most one branch open, or else the latest.
+// The place of the index whose node is worked off next: the latest one that leaves at most one branch open, or else the latest.
 // The proof needs only that it is a place; the choice keeps derivations short.
 fn pick(plan: &Plan, branch: &Branch, waiting: &[usize]) -> usize
     requires fit { AllFit plan.now.sizes.items branch.now }
@@ -191,24 +191,24 @@ fn put_indexes(waiting: &mut Vec<usize>, from: usize, to: usize) -> Result<(), N
     Ok(())
 }
 
-/// Closes the branch with one more entry, where the entries whose indexes do not wait are worked off, and puts its steps to
+/// Closes the branch with one more node, where the nodes whose indexes do not wait are worked off, and puts its steps to
 /// the others. It calls itself once for each child of a fork, so it goes as deep as forks are nested.
 pub(crate) fn close<'a>(
     plan: &Plan,
     branch: &mut Branch<'a>,
     mut waiting: Vec<usize>,
-    entry: Entry<'a>,
+    node: Node<'a>,
     steps: &mut StepList,
 ) -> Result<(), NoMemory>
-    requires worked { IsWorkedBut plan.now.sizes.items plan.now.marks.items (branch.old ++ the_node entry ∷ []) (waiting.items ++ length branch.old ∷ []) }
+    requires worked { IsWorkedBut plan.now.sizes.items plan.now.marks.items (branch.old ++ the_node node ∷ []) (waiting.items ++ length branch.old ∷ []) }
     requires no_pair { HasNoPair branch.old }
     requires small { length plan.now.sizes.items ≤ 4000000 }
-    requires ends { EndsInPair plan.now.sizes.items plan.now.marks.items (slice_get (branch.old ++ the_node entry ∷ []) 0) }
-    ensures closed { OnOk result (IsClosed (branch.old ++ the_node entry.entry ∷ []) steps.old steps.new) }
+    requires ends { EndsInPair plan.now.sizes.items plan.now.marks.items (slice_get (branch.old ++ the_node node ∷ []) 0) }
+    ensures closed { OnOk result (IsClosed (branch.old ++ the_node node.entry ∷ []) steps.old steps.new) }
     ensures longer { OnOk result (Extends branch.old branch.new) }
 {
     waiting.push(branch.len())?;
-    if let Some(pair) = branch.add(entry)? {
+    if let Some(pair) = branch.add(node)? {
         push_axiom(steps, pair)?;
         return Ok(());
     }

@@ -10,7 +10,7 @@ ghost use Rattle.tableau_core.specs.Closed.{IsClosedBy};
 
 mod branch;
 mod close;
-mod entry;
+mod node;
 mod outcome;
 mod plan;
 #[cfg(test)]
@@ -19,9 +19,9 @@ mod tests;
 use branch::Branch;
 use close::close;
 use cop_base::NoMemory;
-use entry::Entry;
 use formula_core::Sign;
 use logic_rules::Problem;
+use node::Node;
 use plan::Plan;
 use sequent_calc::{Derivation, EigenList, Names, SpareList, StepList};
 use std::alloc::Global;
@@ -56,7 +56,7 @@ pub fn convert(
     let plan = Plan::new(alloc, formula, selections)?;
     let mut branch = Branch::new(alloc);
     let mut steps = StepList::new(alloc);
-    let root = Entry {
+    let root = Node {
         sign: Sign::F,
         formula,
         position: 0,

@@ -1,11 +1,11 @@
 //! What becomes of a branch.
 
-use crate::entry::Entry;
+use crate::node::Node;
 
-/// What became of a branch when an entry was worked off. A fork has two children, each with one entry more.
+/// What became of a branch when a node was worked off. A fork has two children, each with one node more.
 #[derive(Clone, Copy)]
 pub(crate) enum Outcome<'a> {
     Open,
     Closed,
-    Fork(Entry<'a>, Entry<'a>),
+    Fork(Node<'a>, Node<'a>),
 }

@@ -11,7 +11,7 @@ ghost use Rattle.propositional_convert.specs.Marking.{IsMarked, KeepsMarks, Mark
 ghost use Rattle.propositional_convert.specs.NodeView.{ArePartsOf, AreTwo, the_node};
 ghost use Rattle.propositional_convert.specs.Parts.{Fits, HasSizes, sizes_below, sizes_of};
 
-use crate::entry::{Entry, Parts};
+use crate::node::{Node, Parts};
 use cop_base::NoMemory;
 use formula_core::{Formula, Sign};
 use std::alloc::Global;
@@ -105,7 +105,7 @@ impl Plan {
         ensures kept { KeepsMarks self.old.marks.items self.new.marks.items }
         ensures marked { MarksClause self.new.marks.items (the_formula formula.now) selection.now }
     {
-        let root = Entry {
+        let root = Node {
             sign: Sign::F,
             formula,
             position: 0,
@@ -113,9 +113,9 @@ impl Plan {
         let _ = self.mark(root, selection.items());
     }
 
-    // Marks the positions that the clause of a selection reaches from the entry on, and gives the sides that are left.
+    // Marks the positions that the clause of a selection reaches from the node on, and gives the sides that are left.
     #[cycle(mark)]
-    fn mark<'s>(&mut self, at: Entry, sides: &'s [Side]) -> &'s [Side]
+    fn mark<'s>(&mut self, at: Node, sides: &'s [Side]) -> &'s [Side]
         requires { Fits self.old.sizes.items (the_node at) }
         ensures sizes { self.new.sizes.items ≡ self.old.sizes.items }
         ensures kept { KeepsMarks self.old.marks.items self.new.marks.items }
@@ -144,14 +144,14 @@ impl Plan {
         self.marks[position]
     }
 
-    /// What a step on the entry adds to its branch.
-    pub(crate) fn parts<'a>(&self, parent: Entry<'a>) -> Parts<'a>
+    /// What a step on the node adds to its branch.
+    pub(crate) fn parts<'a>(&self, parent: Node<'a>) -> Parts<'a>
         requires { Fits self.now.sizes.items (the_node parent) }
         ensures { ArePartsOf self.now.sizes.items (the_node parent.entry) result }
     {
         match parent.formula {
             Formula::Atom(_, _) => Parts::Literal,
-            Formula::Not(a) => Parts::One(Entry {
+            Formula::Not(a) => Parts::One(Node {
                 sign: parent.sign.other(),
                 formula: a,
                 position: parent.position + 1,
@@ -181,14 +181,14 @@ impl Plan {
         }
     }
 
-    // The components a and b of the entry, the first one with the sign.
+    // The components a and b of the node, the first one with the sign.
     fn pair<'a>(
         &self,
-        parent: Entry<'a>,
+        parent: Node<'a>,
         sign: Sign,
         a: &'a Formula,
         b: &'a Formula,
-    ) -> (Entry<'a>, Entry<'a>)
+    ) -> (Node<'a>, Node<'a>)
         requires first { HasSizes self.now.sizes.items (parent.position + 1) (the_formula a.now) }
         requires second { HasSizes self.now.sizes.items (parent.position + suc (size (the_formula a.now))) (the_formula b.now) }
         ensures signs { (result.0.sign ≡ sign) × (result.1.sign ≡ parent.entry.sign) }
@@ -198,12 +198,12 @@ impl Plan {
     {
         let position = parent.position + 1;
         (
-            Entry {
+            Node {
                 sign,
                 formula: a,
                 position,
             },
-            Entry {
+            Node {
                 sign: parent.sign,
                 formula: b,
                 position: position + self.sizes[position],

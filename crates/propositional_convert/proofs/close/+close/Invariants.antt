@@ -1,4 +1,4 @@
--- Each round works off one entry that waits, and what it adds is smaller.
+-- Each round works off one node that waits, and what it adds is smaller.
 use Rattle.std.proofs.Common.{◌++◌, ◌∷◌, [], ◌≤◌, length}
 use Rattle.propositional_convert.specs.Branches.{Extends, IsWorkedBut, weight_at}
 use Rattle.propositional_convert.specs.Literals.{HasNoPair}
@@ -7,15 +7,15 @@ use Rattle.propositional_convert.specs.Stepping.{IsLed}
 use Rattle.propositional_convert.proofs.close.+close.Given as goal
 
 abbrev pub decreases-close : goal.decreases-close
-decreases-close l = weight_at (l.branch.now ++ the_node l.entry ∷ []) (l.waiting.items ++ length l.branch.now ∷ [])
+decreases-close l = weight_at (l.branch.now ++ the_node l.node ∷ []) (l.waiting.items ++ length l.branch.now ∷ [])
 
 abbrev pub invariant-loop-index : goal.invariant-loop-index
 invariant-loop-index l = record {
   worked : IsWorkedBut l.plan.sizes.items l.plan.marks.items l.branch l.waiting.items;
   no_pair : HasNoPair l.branch;
-  longer : Extends (l.fn.branch ++ the_node l.fn.entry ∷ []) l.branch;
-  led : IsLed (l.fn.branch ++ the_node l.fn.entry ∷ []) l.branch l.fn.steps l.steps;
-  lighter : weight_at l.branch l.waiting.items ≤ weight_at (l.fn.branch ++ the_node l.fn.entry ∷ []) (l.fn.waiting.items ++ length l.fn.branch ∷ []);
+  longer : Extends (l.fn.branch ++ the_node l.fn.node ∷ []) l.branch;
+  led : IsLed (l.fn.branch ++ the_node l.fn.node ∷ []) l.branch l.fn.steps l.steps;
+  lighter : weight_at l.branch l.waiting.items ≤ weight_at (l.fn.branch ++ the_node l.fn.node ∷ []) (l.fn.waiting.items ++ length l.fn.branch ∷ []);
 }
 
 abbrev pub decreases-loop-index : goal.decreases-loop-index

@@ -1,6 +1,6 @@
--- The entry fits.
+-- The node fits.
 use Rattle.propositional_convert.specs.NodeView.{the_node}
 use Rattle.propositional_convert.proofs.close.splits.Goals as goal
 
 pub parts-requires : goal.parts-requires
-parts-requires c = c.requires.fit c.args.index (the_node c.entry-entry.result) c.entry-entry.ensures
+parts-requires c = c.requires.fit c.args.index (the_node c.node-node.result) c.node-node.ensures

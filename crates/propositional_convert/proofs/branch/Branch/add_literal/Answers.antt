@@ -1,4 +1,4 @@
--- The new entry and the one that was found.
+-- The new node and the one that was found.
 use Rattle.std.proofs.Common.{◌+◌, Some, ap, subst, sym, ◌∙◌}
 use Rattle.calculus.specs.Kinds.{other}
 use Rattle.propositional_convert.specs.Literals.{IsPair, literal}
@@ -12,7 +12,7 @@ returns-in-T-Some-clause-pair c =
     let here = c.requires.literal ∙ ap (λ s. Some (literal s c.args.symbol)) c.in-T-Some.is-0 in
     let there = found ∙ ap (λ s. Some (literal s c.args.symbol)) (c.other.ensures ∙ ap other c.in-T-Some.is-0) in
     let number = ap (λ n. n + 1) c.len-number.ensures in
-    subst (λ ns. IsPair ns (c.len-number.result + 1) c.in-T-Some.shown) (sym c.in_ok-push_literal.ensures) (pair-given c.args.self.now (the_node c.args.entry) c.args.symbol (c.len-number.result + 1) c.in-T-Some.shown number here there)
+    subst (λ ns. IsPair ns (c.len-number.result + 1) c.in-T-Some.shown) (sym c.in_ok-push_literal.ensures) (pair-given c.args.self.now (the_node c.args.node) c.args.symbol (c.len-number.result + 1) c.in-T-Some.shown number here there)
 
 pub returns-in-F-Some-clause-pair : goal.returns-in-F-Some-clause-pair
 returns-in-F-Some-clause-pair c =
@@ -20,4 +20,4 @@ returns-in-F-Some-clause-pair c =
     let here = c.requires.literal ∙ ap (λ s. Some (literal s c.args.symbol)) c.in-F-Some.is-0 in
     let there = found ∙ ap (λ s. Some (literal s c.args.symbol)) (c.other.ensures ∙ ap other c.in-F-Some.is-0) in
     let number = ap (λ n. n + 1) c.len-number.ensures in
-    subst (λ ns. IsPair ns c.in-F-Some.given (c.len-number.result + 1)) (sym c.in_ok-push_literal.ensures) (pair-shown c.args.self.now (the_node c.args.entry) c.args.symbol c.in-F-Some.given (c.len-number.result + 1) number here there)
+    subst (λ ns. IsPair ns c.in-F-Some.given (c.len-number.result + 1)) (sym c.in_ok-push_literal.ensures) (pair-shown c.args.self.now (the_node c.args.node) c.args.symbol c.in-F-Some.given (c.len-number.result + 1) number here there)

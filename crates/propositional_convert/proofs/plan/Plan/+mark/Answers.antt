@@ -1,4 +1,4 @@
--- What is marked of the parts, and the mark of the entry itself.
+-- What is marked of the parts, and the mark of the node itself.
 use Rattle.std.proofs.Common.{◌≡◌, ◌∷◌, sym, subst}
 use Rattle.calculus.specs.declared.sign.Side.TheVariants.{Left, Right}
 use Rattle.propositional_convert.specs.Marking.{MarksAll}
