@@ -1,4 +1,4 @@
--- The loop that works off a branch, and the children of a fork.
+-- The loop that expands a branch, and the children of a fork.
 use Rattle.std.proofs.Common.{◌≡◌, ◌⊎◌, inl, inr, ℕ, zero, suc, ◌+◌, ◌-◌, ◌<◌, ◌≤◌, ◌^◌, List, [], ◌∷◌, ◌++◌, length, take, Bool, refl, sym, ◌∙◌, ap, subst, Some, slice_get, append_assoc, append-nil, arith, length-append, IsTrue, ◌&&◌}
 use Rattle.std.specs.List.{list_all, range_with_len}
 use Rattle.std.proofs.lemmas.Bool.{and_from, leb-true}
@@ -16,12 +16,12 @@ use Rattle.calculus.specs.Positions.{Node, node, size}
 use Rattle.calculus.specs.Derivations.{Step, Derivation, first_sequent}
 use Rattle.propositional_convert.specs.Parts.{sizes_of, Fits}
 use Rattle.propositional_convert.specs.Literals.{HasNoPair}
-use Rattle.propositional_convert.specs.Branches.{weight_at, IsAmong, IsTaken, IsWorkedOff, IsWorkedBut, EndsInPair, Extends}
+use Rattle.propositional_convert.specs.Branches.{weight_at, IsAmong, IsTaken, IsExpanded, IsExpandedBut, EndsInPair, Extends}
 use Rattle.propositional_convert.specs.Stepping.{no_names, sequent_of, IsClosed, IsLed}
-use Rattle.propositional_convert.specs.Outcomes.{WorkOff, StaysOpen, IsFork}
+use Rattle.propositional_convert.specs.Outcomes.{Expansion, StaysOpen, IsFork}
 use Rattle.propositional_convert.proofs.Sizes.{length-sizes_of, size-le-node_count, whole-fits}
 use Rattle.propositional_convert.proofs.Steps.{led-closed}
-use Rattle.propositional_convert.proofs.Worked.{new_indexes, worked-length, worked-next, next-weight}
+use Rattle.propositional_convert.proofs.Waiting.{new_indexes, expanded-length, expanded-next, next-weight}
 
 first-kept : (os : List Node) (e : Node) (ms : List Node) → slice_get ((os ++ e ∷ []) ++ ms) 0 ≡ slice_get (os ++ e ∷ []) 0
 first-kept [] e ms = refl
@@ -55,17 +55,17 @@ next-indexes ns ms added rest next from to grown f t e =
     let more : to - from ≡ length added = omega arith in
     e ∙ (λ i. rest ++ range_with_len (f i) (more i))
 
-pub open-worked : (zs : List ℕ) (marks : List Bool) (ns ms : List Node) (ws : List ℕ) (i : ℕ) (rest next : List ℕ) (before after : List Step) → IsWorkedBut zs marks ns ws → IsTaken ws i rest → (o : StaysOpen zs marks ns ms i before after) → next ≡ rest ++ new_indexes ns o.added → IsWorkedBut zs marks ms next
-open-worked zs marks ns ms ws i rest next before after w t o e = subst (λ l. IsWorkedBut zs marks l next) (sym o.grown) (subst (IsWorkedBut zs marks (ns ++ o.added)) (sym e) (worked-next zs marks ns o.added ws i rest w t o.works))
+pub open-expanded : (zs : List ℕ) (marks : List Bool) (ns ms : List Node) (ws : List ℕ) (i : ℕ) (rest next : List ℕ) (before after : List Step) → IsExpandedBut zs marks ns ws → IsTaken ws i rest → (o : StaysOpen zs marks ns ms i before after) → next ≡ rest ++ new_indexes ns o.added → IsExpandedBut zs marks ms next
+open-expanded zs marks ns ms ws i rest next before after w t o e = subst (λ l. IsExpandedBut zs marks l next) (sym o.grown) (subst (IsExpandedBut zs marks (ns ++ o.added)) (sym e) (expanded-next zs marks ns o.added ws i rest w t o.expansion))
 
-pub open-lighter : (zs : List ℕ) (marks : List Bool) (ns ms : List Node) (ws : List ℕ) (i : ℕ) (rest next : List ℕ) (before after : List Step) → IsWorkedBut zs marks ns ws → IsTaken ws i rest → (o : StaysOpen zs marks ns ms i before after) → next ≡ rest ++ new_indexes ns o.added → weight_at ms next < weight_at ns ws
-open-lighter zs marks ns ms ws i rest next before after w t o e = subst (λ l. weight_at l next < weight_at ns ws) (sym o.grown) (subst (λ is. weight_at (ns ++ o.added) is < weight_at ns ws) (sym e) (next-weight zs marks ns o.added ws i rest w.within t o.works))
+pub open-lighter : (zs : List ℕ) (marks : List Bool) (ns ms : List Node) (ws : List ℕ) (i : ℕ) (rest next : List ℕ) (before after : List Step) → IsExpandedBut zs marks ns ws → IsTaken ws i rest → (o : StaysOpen zs marks ns ms i before after) → next ≡ rest ++ new_indexes ns o.added → weight_at ms next < weight_at ns ws
+open-lighter zs marks ns ms ws i rest next before after w t o e = subst (λ l. weight_at l next < weight_at ns ws) (sym o.grown) (subst (λ is. weight_at (ns ++ o.added) is < weight_at ns ws) (sym e) (next-weight zs marks ns o.added ws i rest w.within t o.expansion))
 
 -- a child of a fork, by the other names that its branch and its list have at the call
-pub child-worked : (zs : List ℕ) (marks : List Bool) (ns os : List Node) (m : Node) (ws : List ℕ) (i : ℕ) (rest copy : List ℕ) → os ≡ ns → copy ≡ rest → IsWorkedBut zs marks ns ws → IsTaken ws i rest → WorkOff zs marks ns i (m ∷ []) → IsWorkedBut zs marks (os ++ m ∷ []) (copy ++ length os ∷ [])
-child-worked zs marks ns os m ws i rest copy e c w t o = rw (e, c) (worked-next zs marks ns (m ∷ []) ws i rest w t o)
+pub child-expanded : (zs : List ℕ) (marks : List Bool) (ns os : List Node) (m : Node) (ws : List ℕ) (i : ℕ) (rest copy : List ℕ) → os ≡ ns → copy ≡ rest → IsExpandedBut zs marks ns ws → IsTaken ws i rest → Expansion zs marks ns i (m ∷ []) → IsExpandedBut zs marks (os ++ m ∷ []) (copy ++ length os ∷ [])
+child-expanded zs marks ns os m ws i rest copy e c w t o = rw (e, c) (expanded-next zs marks ns (m ∷ []) ws i rest w t o)
 
-pub child-lighter : (zs : List ℕ) (marks : List Bool) (ns os : List Node) (m : Node) (ws : List ℕ) (i : ℕ) (rest copy : List ℕ) → os ≡ ns → copy ≡ rest → IsWorkedBut zs marks ns ws → IsTaken ws i rest → WorkOff zs marks ns i (m ∷ []) → weight_at (os ++ m ∷ []) (copy ++ length os ∷ []) < weight_at ns ws
+pub child-lighter : (zs : List ℕ) (marks : List Bool) (ns os : List Node) (m : Node) (ws : List ℕ) (i : ℕ) (rest copy : List ℕ) → os ≡ ns → copy ≡ rest → IsExpandedBut zs marks ns ws → IsTaken ws i rest → Expansion zs marks ns i (m ∷ []) → weight_at (os ++ m ∷ []) (copy ++ length os ∷ []) < weight_at ns ws
 child-lighter zs marks ns os m ws i rest copy e c w t o = rw (e, c) (next-weight zs marks ns (m ∷ []) ws i rest w.within t o)
 
 pub child-ends : (zs : List ℕ) (marks : List Bool) (os : List Node) (e : Node) (ns ms : List Node) (m : Node) → ms ≡ ns → Extends (os ++ e ∷ []) ns → EndsInPair zs marks (slice_get (os ++ e ∷ []) 0) → EndsInPair zs marks (slice_get (ms ++ m ∷ []) 0)
@@ -77,25 +77,25 @@ fork-closed zs marks os ns ms ts a b i start before after first second led f sam
     led-closed os ns start before second led (f.forked first second (subst (λ l. IsClosed (l ++ a ∷ []) after first) f.same h) (subst (λ l. IsClosed (l ++ b ∷ []) first second) (same ∙ f.same) g))
 
 -- a branch on which no node waits has a pair
-pub ended : (zs : List ℕ) (marks : List Bool) (os : List Node) (e : Node) (ns : List Node) (ws : List ℕ) → EndsInPair zs marks (slice_get (os ++ e ∷ []) 0) → Extends (os ++ e ∷ []) ns → IsWorkedBut zs marks ns ws → ws ≡ [] → HasNoPair ns → ⊥
-ended zs marks os e ns ws ends x w none_waits none = ends ns (root-kept os e ns x) w.fit (λ i n h. off i n (w.worked i n h)) none
+pub ended : (zs : List ℕ) (marks : List Bool) (os : List Node) (e : Node) (ns : List Node) (ws : List ℕ) → EndsInPair zs marks (slice_get (os ++ e ∷ []) 0) → Extends (os ++ e ∷ []) ns → IsExpandedBut zs marks ns ws → ws ≡ [] → HasNoPair ns → ⊥
+ended zs marks os e ns ws ends x w none_waits none = ends ns (root-kept os e ns x) w.fit (λ i n h. expanded-there i n (w.expanded i n h)) none
   where
-    off : (i : ℕ) (n : Node) → IsAmong ws i ⊎ IsWorkedOff marks ns n → IsWorkedOff marks ns n
-    off i n (inl waits) = absurd (subst (λ l. IsAmong l i) none_waits waits)
-    off i n (inr h) = h
+    expanded-there : (i : ℕ) (n : Node) → IsAmong ws i ⊎ IsExpanded marks ns n → IsExpanded marks ns n
+    expanded-there i n (inl waits) = absurd (subst (λ l. IsAmong l i) none_waits waits)
+    expanded-there i n (inr h) = h
 
-pub few-nodes : (zs : List ℕ) (marks : List Bool) (ns : List Node) (e : Node) (ws : List ℕ) → IsWorkedBut zs marks (ns ++ e ∷ []) ws → length zs ≤ 4000000 → length ns + 1 < 2 ^ 32
-few-nodes zs marks ns e ws w small = omega (arith, worked-length zs marks (ns ++ e ∷ []) ws w, length-append ns (e ∷ []))
+pub few-nodes : (zs : List ℕ) (marks : List Bool) (ns : List Node) (e : Node) (ws : List ℕ) → IsExpandedBut zs marks (ns ++ e ∷ []) ws → length zs ≤ 4000000 → length ns + 1 < 2 ^ 32
+few-nodes zs marks ns e ws w small = omega (arith, expanded-length zs marks (ns ++ e ∷ []) ws w, length-append ns (e ∷ []))
 
 pub length-one : (ns : List Node) (e : Node) → length (ns ++ e ∷ []) ≡ length ns + 1
 length-one ns e = omega (arith, length-append ns (e ∷ []))
 
 -- ---- the whole formula
 
-pub root-worked : (zs : List ℕ) (marks : List Bool) (f : Formula) → IsTrue (is_propositional f) → zs ≡ sizes_of f → IsWorkedBut zs marks (node 0 F f ∷ []) (0 ∷ [])
-root-worked zs marks f p e = record {
+pub root-expanded : (zs : List ℕ) (marks : List Bool) (f : Formula) → IsTrue (is_propositional f) → zs ≡ sizes_of f → IsExpandedBut zs marks (node 0 F f ∷ []) (0 ∷ [])
+root-expanded zs marks f p e = record {
   fit = λ i n h. fit-at i n h;
-  worked = λ i n h. waits-at i n h;
+  expanded = λ i n h. waits-at i n h;
   within = (omega arith, tt);
   room = (let l : length zs ≡ size f = ap length e ∙ length-sizes_of f in omega arith);
 }
@@ -104,7 +104,7 @@ root-worked zs marks f p e = record {
     fit-at zero n h = subst (Fits zs) (some_injective (node 0 F f) h) (whole-fits f zs p e)
     fit-at (suc i) n h = absurd (none_some h)
 
-    waits-at : (i : ℕ) (n : Node) → slice_get (node 0 F f ∷ []) i ≡ Some n → IsAmong (0 ∷ []) i ⊎ IsWorkedOff marks (node 0 F f ∷ []) n
+    waits-at : (i : ℕ) (n : Node) → slice_get (node 0 F f ∷ []) i ≡ Some n → IsAmong (0 ∷ []) i ⊎ IsExpanded marks (node 0 F f ∷ []) n
     waits-at zero n h = inl (inl refl)
     waits-at (suc i) n h = absurd (none_some h)
 

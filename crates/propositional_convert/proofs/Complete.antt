@@ -1,4 +1,4 @@
--- A branch that is worked off, with the whole formula as its first node, has a pair.
+-- A branch that is expanded, with the whole formula as its first node, has a pair.
 use Rattle.std.proofs.Common.{◌≡◌, ◌⊎◌, ℕ, zero, suc, ◌+◌, List, [], ◌∷◌, ◌++◌, length, Bool, false, not, ◌&&◌, IsTrue, refl, sym, ◌∙◌, ap, subst, Some, slice_get, remove, nat_lt, ◌==◌, inl, inr}
 use Rattle.std.specs.List.{AllByRecursion, Contains, list_all}
 use Rattle.std.proofs.lemmas.Bool.{false≢true, and_parts, eqb-true}
@@ -26,7 +26,7 @@ use Rattle.calculus.proofs.HitLaws.{Moves, plain, by_string, by_character, IsSat
 use Rattle.propositional_convert.specs.Parts.{placed}
 use Rattle.propositional_convert.specs.Marking.{IsMarked, spot_at, IsMarkedTurn, MarksClauses}
 use Rattle.propositional_convert.specs.Literals.{literal, literal_of, literal_at, HasLiteral, HasNoPair}
-use Rattle.propositional_convert.specs.Branches.{IsMet, SomeMet, HasParts, IsWorkedOff, AllFit, EndsInPair}
+use Rattle.propositional_convert.specs.Branches.{IsMet, SomeMet, HasParts, IsExpanded, AllFit, EndsInPair}
 use Rattle.propositional_convert.proofs.Holding.{held-parts}
 use Rattle.propositional_convert.proofs.Marks.{plain_modal, nu≢plain, pi≢plain}
 
@@ -46,9 +46,9 @@ moves_nowhere s f c d h (plain e) = refl
 moves_nowhere s f c d h (by_string w e q) = absurd (nu≢plain e (plain_modal s f h))
 moves_nowhere s f c d h (by_character e) = absurd (pi≢plain e (plain_modal s f h))
 
--- the branch is worked off
-abbrev AllWorked : List Bool → List Node → Type 0
-AllWorked marks ns = (i : ℕ) (n : Node) → slice_get ns i ≡ Some n → IsWorkedOff marks ns n
+-- the branch is expanded
+abbrev AllExpanded : List Bool → List Node → Type 0
+AllExpanded marks ns = (i : ℕ) (n : Node) → slice_get ns i ≡ Some n → IsExpanded marks ns n
 
 moved : (ns : List Node) (c d : Spot) (s : Sign) (f : Formula) → Meets ns c s f → Moves Classical s f c d → Meets ns d s f
 moved ns c d s f h m = subst (λ e. Meets ns e s f) (moves_nowhere s f c d h.propositional m) h
@@ -78,12 +78,12 @@ propositional-parts : (s : Sign) (f : Formula) (xs : List Signed) → IsTrue (is
 propositional-parts s f xs h e = subst ArePropositional e (propositional-components s f h)
 
 -- the parts of a formula that the branch meets
-parts-met : (marks : List Bool) (ns : List Node) (q : ℕ) (s : Sign) (f : Formula) → AllWorked marks ns → IsMarked marks q → IsMet ns (node q s f) → HasParts ns (shape_of s f) (placed q (components s f))
-parts-met marks ns q s f worked m (inl h) = worked h.0 (node q s f) h.1 m
-parts-met marks ns q s f worked m (inr h) = held-parts ns q s f h
+parts-met : (marks : List Bool) (ns : List Node) (q : ℕ) (s : Sign) (f : Formula) → AllExpanded marks ns → IsMarked marks q → IsMet ns (node q s f) → HasParts ns (shape_of s f) (placed q (components s f))
+parts-met marks ns q s f expanded m (inl h) = expanded h.0 (node q s f) h.1 m
+parts-met marks ns q s f expanded m (inr h) = held-parts ns q s f h
 
-parts-there : (marks : List Bool) (ns : List Node) (d : Spot) (s : Sign) (f : Formula) (h : Shape) (xs : List Signed) → AllWorked marks ns → Meets ns d s f → IsMarked marks d.position → shape_of s f ≡ h → components s f ≡ xs → HasParts ns h (placed d.position xs)
-parts-there marks ns d s f h xs worked there m e q = subst (λ ys. HasParts ns h (placed d.position ys)) q (subst (λ k. HasParts ns k (placed d.position (components s f))) e (parts-met marks ns d.position s f worked m there.met))
+parts-there : (marks : List Bool) (ns : List Node) (d : Spot) (s : Sign) (f : Formula) (h : Shape) (xs : List Signed) → AllExpanded marks ns → Meets ns d s f → IsMarked marks d.position → shape_of s f ≡ h → components s f ≡ xs → HasParts ns h (placed d.position xs)
+parts-there marks ns d s f h xs expanded there m e q = subst (λ ys. HasParts ns h (placed d.position ys)) q (subst (λ k. HasParts ns k (placed d.position (components s f))) e (parts-met marks ns d.position s f expanded m there.met))
 
 not-quantified : (s : Sign) (f : Formula) → IsTrue (is_propositional f) → is_quantified (shape_of s f) ≡ false
 not-quantified s (atom p ts) h = refl
@@ -108,27 +108,27 @@ atom-held : (ns : List Node) (q : ℕ) (s : Sign) (p : ℕ) (ts : Terms) → IsM
 atom-held ns q s p ts (inl h) = (h.0, literal-there ns h.0 q s p ts h.1)
 atom-held ns q s p ts (inr h) = h
 
-saturated : (marks : List Bool) (ns : List Node) → AllWorked marks ns → IsSaturated Classical (IsMarkedTurn marks) (Meets ns) (HoldsLiteral ns)
-saturated marks ns worked = record {
+saturated : (marks : List Bool) (ns : List Node) → AllExpanded marks ns → IsSaturated Classical (IsMarkedTurn marks) (Meets ns) (HoldsLiteral ns)
+saturated marks ns expanded = record {
   literal = λ c d s p ts h m done. let held = atom-held ns c.position s p ts h.met in record { at = held.0; has = held.1 };
   only = λ c d s f a e q h m done.
       let there = moved ns c d s f h m in
-      let parts = parts-there marks ns d s f Alpha (a ∷ []) worked there done e q in
+      let parts = parts-there marks ns d s f Alpha (a ∷ []) expanded there done e q in
       let each = propositional-parts s f (a ∷ []) there.propositional q in
       meets-down ns 1 d a there.flat each.0 parts.0;
   left = λ c d s f a b e q h m done.
       let there = moved ns c d s f h m in
-      let parts = parts-there marks ns d s f Alpha (a ∷ b ∷ []) worked there done e q in
+      let parts = parts-there marks ns d s f Alpha (a ∷ b ∷ []) expanded there done e q in
       let each = propositional-parts s f (a ∷ b ∷ []) there.propositional q in
       meets-down ns 1 d a there.flat each.0 parts.0;
   right = λ c d s f a b e q h m done.
       let there = moved ns c d s f h m in
-      let parts = parts-there marks ns d s f Alpha (a ∷ b ∷ []) worked there done e q in
+      let parts = parts-there marks ns d s f Alpha (a ∷ b ∷ []) expanded there done e q in
       let each = propositional-parts s f (a ∷ b ∷ []) there.propositional q in
       meets-down ns (suc (size a.formula)) d b there.flat each.1.0 parts.1.0;
   either = λ c d s f a b e q h m done.
       let there = moved ns c d s f h m in
-      picked d a b there.flat (propositional-parts s f (a ∷ b ∷ []) there.propositional q) (parts-there marks ns d s f Beta (a ∷ b ∷ []) worked there done e q);
+      picked d a b there.flat (propositional-parts s f (a ∷ b ∷ []) there.propositional q) (parts-there marks ns d s f Beta (a ∷ b ∷ []) expanded there done e q);
   gamma = λ c d s f a t e q h m done. absurd (false≢true (sym (not-quantified s f h.propositional) ∙ ap is_quantified e));
   delta = λ c d s f a e q h m done. absurd (false≢true (sym (not-quantified s f h.propositional) ∙ ap is_quantified e));
 }
@@ -139,8 +139,8 @@ saturated marks ns worked = record {
     picked d a b e each (inr (inr h)) = absurd h
 
 -- each clause whose positions are marked has a literal on the branch
-clause-hit : (zs : List ℕ) (marks : List Bool) (ns : List Node) (f : Formula) (x : Share) → slice_get ns 0 ≡ Some (node 0 F f) → AllFit zs ns → AllWorked marks ns → Gives Classical (spot_at 0) F f x → AllByRecursion (IsMarkedTurn marks) x.turns → SomeIn (HoldsLiteral ns) x.literals
-clause-hit zs marks ns f x root fit worked g turns = hit Classical (IsMarkedTurn marks) (Meets ns) (HoldsLiteral ns) (saturated marks ns worked) (spot_at 0) F f x g turns (record { flat = refl; propositional = (fit 0 (node 0 F f) root).propositional; met = inl (0, root) })
+clause-hit : (zs : List ℕ) (marks : List Bool) (ns : List Node) (f : Formula) (x : Share) → slice_get ns 0 ≡ Some (node 0 F f) → AllFit zs ns → AllExpanded marks ns → Gives Classical (spot_at 0) F f x → AllByRecursion (IsMarkedTurn marks) x.turns → SomeIn (HoldsLiteral ns) x.literals
+clause-hit zs marks ns f x root fit expanded g turns = hit Classical (IsMarkedTurn marks) (Meets ns) (HoldsLiteral ns) (saturated marks ns expanded) (spot_at 0) F f x g turns (record { flat = refl; propositional = (fit 0 (node 0 F f) root).propositional; met = inl (0, root) })
 
 -- two complementary literals of the branch are a pair
 no-pair : (ns : List Node) (a b : GroundLiteral) → HasNoPair ns → HoldsLiteral ns a → HoldsLiteral ns b → IsTrue (are_complementary a b) → ⊥
@@ -164,13 +164,13 @@ no-pair ns a b none h g e = signs a.sign b.sign refl refl
 abbrev EachAmong : List (List Side) → List ClauseInstance → Type 0
 EachAmong selections is = AllByRecursion (λ (i : ClauseInstance). Contains selections i.selection) is
 
-instance-hit : (P : Problem) (zs : List ℕ) (marks : List Bool) (ns : List Node) (selections : List (List Side)) → P.setting.logic ≡ Classical → MarksClauses marks P.formula selections → slice_get ns 0 ≡ Some (node 0 F P.formula) → AllFit zs ns → AllWorked marks ns → (i : ClauseInstance) → IsTrue (is_allowed_instance P i) → Contains selections i.selection → Hits (HoldsLiteral ns) i
-instance-hit P zs marks ns selections classical marked root fit worked i allowed among =
+instance-hit : (P : Problem) (zs : List ℕ) (marks : List Bool) (ns : List Node) (selections : List (List Side)) → P.setting.logic ≡ Classical → MarksClauses marks P.formula selections → slice_get ns 0 ≡ Some (node 0 F P.formula) → AllFit zs ns → AllExpanded marks ns → (i : ClauseInstance) → IsTrue (is_allowed_instance P i) → Contains selections i.selection → Hits (HoldsLiteral ns) i
+instance-hit P zs marks ns selections classical marked root fit expanded i allowed among =
     let x = (is_allowed_instance-exact P i).0 allowed in
     let given = subst (λ l. Gives l (spot_at 0) F P.formula x.0) classical x.1.instance.given in
     let sides : i.selection ≡ x.0.sides = ap (λ (k : ClauseInstance). k.selection) x.2 in
     let turns = marked among.0 i.selection (slice_get-get_or selections among.0 i.selection among.1 ∙ ap Some among.2) x.0 given sides in
-    subst (Hits (HoldsLiteral ns)) (sym x.2) (clause-hit zs marks ns P.formula x.0 root fit worked given turns)
+    subst (Hits (HoldsLiteral ns)) (sym x.2) (clause-hit zs marks ns P.formula x.0 root fit expanded given turns)
 
 -- each clause of a closed tableau is an allowed instance
 mutual
@@ -208,7 +208,7 @@ all-hit S P selections (i ∷ is) k h g = (k i h.0 g.0, all-hit S P selections i
 
 -- the branch of the whole formula ends in a pair
 pub ends_in_pair : (P : Problem) (d : ℕ) (zs : List ℕ) (marks : List Bool) (selections : List (List Side)) → P.setting.logic ≡ Classical → IsClosedBy P d selections → MarksClauses marks P.formula selections → EndsInPair zs marks (Some (node 0 F P.formula))
-ends_in_pair P d zs marks selections classical closed marked ns root fit worked none =
-    let hits = all-hit (HoldsLiteral ns) P selections (instances closed.tableau) (instance-hit P zs marks ns selections classical marked root fit worked) (all-allowed P d closed.tableau closed.closed) closed.among in
+ends_in_pair P d zs marks selections classical closed marked ns root fit expanded none =
+    let hits = all-hit (HoldsLiteral ns) P selections (instances closed.tableau) (instance-hit P zs marks ns selections classical marked root fit expanded) (all-allowed P d closed.tableau closed.closed) closed.among in
     let pair = pair_of_closed (HoldsLiteral ns) P d closed.tableau closed.closed hits in
     no-pair ns pair.0 pair.1 none pair.2 pair.3 pair.4

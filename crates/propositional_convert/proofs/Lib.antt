@@ -3,7 +3,7 @@ pub mod Marks
 pub mod Literals
 pub mod Holding
 pub mod Steps
-pub mod Worked
+pub mod Waiting
 pub mod Complete
 pub mod Expanding
 pub mod Closing

@@ -1,4 +1,4 @@
--- Branches and how far they are worked off.
+-- Branches and how far they are expanded.
 use Rattle.std.specs.Prelude.{◌≡◌, ◌⊎◌, ℕ, zero, suc, ◌+◌, ◌<◌, ◌≤◌, List, [], ◌∷◌, ◌++◌, length, Bool, Option, Some, slice_get}
 use Rattle.std.specs.List.{AllByRecursion}
 use Rattle.calculus.specs.declared.kind.Shape.{Shape}
@@ -26,8 +26,8 @@ HasParts ns Alpha ms = AllByRecursion (IsMet ns) ms
 HasParts ns Beta ms = SomeMet ns ms
 HasParts ns _ ms = Unit {0}
 
-abbrev pub IsWorkedOff : List Bool → List Node → Node → Type 0
-IsWorkedOff marks ns n = IsMarked marks n.position → HasParts ns (shape_of n.sign n.formula) (parts_of n)
+abbrev pub IsExpanded : List Bool → List Node → Node → Type 0
+IsExpanded marks ns n = IsMarked marks n.position → HasParts ns (shape_of n.sign n.formula) (parts_of n)
 
 abbrev pub AllFit : List ℕ → List Node → Type 0
 AllFit sizes ns = (i : ℕ) (n : Node) → slice_get ns i ≡ Some n → Fits sizes n
@@ -58,16 +58,16 @@ AreWithin ns is = AllByRecursion (λ i. i < length ns) is
 abbrev pub IsTaken : List ℕ → ℕ → List ℕ → Type 0
 IsTaken old i new = (before after : List ℕ) × (old ≡ before ++ i ∷ after) × (new ≡ before ++ after)
 
--- each node of the branch is worked off or its index waits, and there is room for what those that wait can add
-pub record IsWorkedBut (sizes : List ℕ) (marks : List Bool) (ns : List Node) (waiting : List ℕ) : Type 0 where
+-- each node of the branch is expanded or its index waits, and there is room for what those that wait can add
+pub record IsExpandedBut (sizes : List ℕ) (marks : List Bool) (ns : List Node) (waiting : List ℕ) : Type 0 where
   pub fit : AllFit sizes ns
-  pub worked : (i : ℕ) (n : Node) → slice_get ns i ≡ Some n → IsAmong waiting i ⊎ IsWorkedOff marks ns n
+  pub expanded : (i : ℕ) (n : Node) → slice_get ns i ≡ Some n → IsAmong waiting i ⊎ IsExpanded marks ns n
   pub within : AreWithin ns waiting
   pub room : length ns + weight_at ns waiting ≤ length sizes + length waiting
 
--- a branch with this first node that is worked off has a pair
+-- a branch with this first node that is expanded has a pair
 abbrev pub EndsInPair : List ℕ → List Bool → Option Node → Type 0
-EndsInPair sizes marks root = (ns : List Node) → slice_get ns 0 ≡ root → AllFit sizes ns → ((i : ℕ) (n : Node) → slice_get ns i ≡ Some n → IsWorkedOff marks ns n) → HasNoPair ns → ⊥
+EndsInPair sizes marks root = (ns : List Node) → slice_get ns 0 ≡ root → AllFit sizes ns → ((i : ℕ) (n : Node) → slice_get ns i ≡ Some n → IsExpanded marks ns n) → HasNoPair ns → ⊥
 
 abbrev pub Extends : List Node → List Node → Type 0
 Extends ns ms = (added : List Node) × (ms ≡ ns ++ added)

@@ -30,8 +30,7 @@ struct Numbers {
 #[derive(Drop)]
 pub(crate) struct Branch<'a> {
     nodes: Vec<Node<'a>>,
-    // A number is out of date where it is past the end or its node is no such one, so that nodes can be taken off
-    // without a look at the numbers.
+    // Truncation leaves the numbers alone, so one may be stale: past the end, or of another formula. `find` checks.
     numbers: Numbers,
 }
 

@@ -5,7 +5,7 @@ ghost use Rattle.std.specs.List.{range_with_len};
 ghost use Rattle.calculus.specs.Kinds.{other};
 ghost use Rattle.calculus.specs.Derivations as derivation;
 ghost use Rattle.formula_core.specs.FormulaView.{the_formula};
-ghost use Rattle.propositional_convert.specs.Branches.{AllFit, AreWithin, EndsInPair, Extends, IsTaken, IsWorkedBut};
+ghost use Rattle.propositional_convert.specs.Branches.{AllFit, AreWithin, EndsInPair, Extends, IsTaken, IsExpandedBut};
 ghost use Rattle.propositional_convert.specs.Literals.{HasNoPair, IsHeld, IsPair};
 ghost use Rattle.propositional_convert.specs.NodeView.{the_node};
 ghost use Rattle.propositional_convert.specs.Outcomes.{IsOutcome, IsUse};
@@ -91,7 +91,7 @@ fn use_alpha<'a>(
     }
 }
 
-// Works off the node at an index. One that the literals of the branch make hold is left as it is: of an alpha formula the
+// Expands the node at an index. One that the literals of the branch make hold is left as it is: of an alpha formula the
 // branch would gain nothing, and of a beta formula one child of the fork.
 fn expand<'a>(
     plan: &Plan,
@@ -128,15 +128,15 @@ fn expand<'a>(
     }
 }
 
-// Whether the literals of the branch refute the node: what they would make hold has the other sign.
+// Whether the literals of the branch refute the node: they make its formula hold with the other sign.
 fn fails(branch: &Branch, node: Node) -> bool
     ensures { IsTrue result ↔ IsHeld branch.now (other node.entry.sign) (the_formula node.entry.formula.now) }
 {
     branch.holds(node.sign.other(), node.formula)
 }
 
-// Whether work on the node at an index would leave two branches open: it is a beta formula that does not hold, and none of
-// its components fails.
+// Whether to expand the node at an index would leave two branches open: it is a beta formula that does not hold, and none
+// of its components fails.
 fn splits(plan: &Plan, branch: &Branch, index: usize) -> bool
     requires fit { AllFit plan.now.sizes.items branch.now }
     requires there { index < length branch.now }
@@ -151,8 +151,8 @@ fn splits(plan: &Plan, branch: &Branch, index: usize) -> bool
     }
 }
 
-// The place of the index whose node is worked off next: the latest one that leaves at most one branch open, or else the latest.
-// The proof needs only that it is a place; the choice keeps derivations short.
+// The place of the index whose node is expanded next: the latest one that leaves at most one branch open, or else the
+// latest. The proof needs only that it is a place; the choice keeps derivations short.
 fn pick(plan: &Plan, branch: &Branch, waiting: &[usize]) -> usize
     requires fit { AllFit plan.now.sizes.items branch.now }
     requires within { AreWithin branch.now waiting.now }
@@ -191,7 +191,7 @@ fn put_indexes(waiting: &mut Vec<usize>, from: usize, to: usize) -> Result<(), N
     Ok(())
 }
 
-/// Closes the branch with one more node, where the nodes whose indexes do not wait are worked off, and puts its steps to
+/// Closes the branch with one more node, where the nodes whose indexes do not wait are expanded, and puts its steps to
 /// the others. It calls itself once for each child of a fork, so it goes as deep as forks are nested.
 pub(crate) fn close<'a>(
     plan: &Plan,
@@ -200,7 +200,7 @@ pub(crate) fn close<'a>(
     node: Node<'a>,
     steps: &mut StepList,
 ) -> Result<(), NoMemory>
-    requires worked { IsWorkedBut plan.now.sizes.items plan.now.marks.items (branch.old ++ the_node node ∷ []) (waiting.items ++ length branch.old ∷ []) }
+    requires expanded { IsExpandedBut plan.now.sizes.items plan.now.marks.items (branch.old ++ the_node node ∷ []) (waiting.items ++ length branch.old ∷ []) }
     requires no_pair { HasNoPair branch.old }
     requires small { length plan.now.sizes.items ≤ 4000000 }
     requires ends { EndsInPair plan.now.sizes.items plan.now.marks.items (slice_get (branch.old ++ the_node node ∷ []) 0) }

@@ -30,7 +30,7 @@ use tableau_core::Selection;
 /// A derivation of the problem by the clauses of a closed tableau, whose selections are given. It notes the path limit,
 /// and has no names.
 ///
-/// The positions that the clauses reach are worked off once they are on a branch, and a branch is closed as soon as it has
+/// The positions that the clauses reach are expanded once they are on a branch, and a branch is closed as soon as it has
 /// an axiom (after Kreitz and Schmitt, who convert matrix proofs). One is left out where the literals of the branch make its
 /// formula hold: a beta formula one of whose parts is an atom that the branch has with the same sign, say, since a fork on
 /// it would give one child that has nothing new.

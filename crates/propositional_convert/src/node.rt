@@ -10,7 +10,8 @@ pub(crate) struct Node<'a> {
     pub position: usize,
 }
 
-/// What a step on a node adds to its branch: nothing, the components of an alpha formula, or one of those of a beta formula.
+/// What a step on a node adds to its branch: nothing, the components of an alpha formula, or one of those of a beta
+/// formula.
 #[derive(Clone, Copy)]
 pub(crate) enum Parts<'a> {
     Literal,

@@ -2,7 +2,7 @@
 
 use crate::node::Node;
 
-/// What became of a branch when a node was worked off. A fork has two children, each with one node more.
+/// What became of a branch when a node was expanded. A fork has two children, each with one node more.
 #[derive(Clone, Copy)]
 pub(crate) enum Outcome<'a> {
     Open,

@@ -17,7 +17,7 @@ use formula_core::{Formula, Sign};
 use std::alloc::Global;
 use tableau_core::{Selection, Side};
 
-/// The numbers of positions of the parts of a formula, and the marks of the positions that are worked off.
+/// How many positions each part of a formula has, and the marks of the positions that are to be expanded.
 #[derive(Drop)]
 pub(crate) struct Plan {
     pub sizes: Vec<usize>,
@@ -76,7 +76,7 @@ fn unmarked(alloc: Global, count: usize) -> Result<Vec<bool>, NoMemory>
 }
 
 impl Plan {
-    /// The plan by which the clauses of these selections are worked off.
+    /// The plan that marks what the clauses of these selections reach.
     pub(crate) fn new(
         alloc: Global,
         formula: &Formula,

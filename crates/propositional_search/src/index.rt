@@ -88,7 +88,7 @@ fn add(alloc: Global, rows: &mut Vec<Places>, number: usize, place: Place) -> Re
     Ok(())
 }
 
-// Empty rows up to the one of this number.
+// Adds empty rows until the one of this number is there.
 fn reach(alloc: Global, rows: &mut Vec<Places>, number: usize) -> Result<(), NoMemory>
     ensures same { IfOk result (λ _. (n : ℕ) → places_at n rows.new.items ≡ places_at n rows.old.items) }
     ensures enough { IfOk result (λ _. number < length rows.new.items) }

@@ -8,10 +8,10 @@ use Rattle.sequent_calc.specs.DerivationView.{the_derivation}
 use Rattle.propositional_convert.specs.Parts.{sizes_of}
 use Rattle.propositional_convert.specs.Marking.{MarksClauses}
 use Rattle.propositional_convert.specs.Literals.{HasNoPair}
-use Rattle.propositional_convert.specs.Branches.{EndsInPair, IsWorkedBut}
+use Rattle.propositional_convert.specs.Branches.{EndsInPair, IsExpandedBut}
 use Rattle.propositional_convert.specs.Stepping.{IsClosed}
 use Rattle.propositional_convert.proofs.Literals.{no_pair-none}
-use Rattle.propositional_convert.proofs.Closing.{root-worked, few-positions, derived, printed}
+use Rattle.propositional_convert.proofs.Closing.{root-expanded, few-positions, derived, printed}
 use Rattle.propositional_convert.proofs.Complete.{ends_in_pair}
 use Rattle.propositional_convert.proofs.convert.Goals as goal
 
@@ -23,7 +23,7 @@ close-requires c =
     let ends = ends_in_pair c.args.problem.now c.args.limit c.in_ok-plan.plan.sizes.items c.in_ok-plan.plan.marks.items c.args.selections.now c.requires.propositional.classical c.requires.closed marked in
     let root = node 0 F (the_formula c.formula-formula.result.now) in
     record {
-      worked = subst (λ l. IsWorkedBut c.in_ok-plan.plan.sizes.items c.in_ok-plan.plan.marks.items (l ++ root ∷ []) (c.new-waiting.result.items ++ length l ∷ [])) (sym c.new-branch.ensures) (subst (λ ws. IsWorkedBut c.in_ok-plan.plan.sizes.items c.in_ok-plan.plan.marks.items (root ∷ []) (ws ++ 0 ∷ [])) (sym c.new-waiting.ensures.items) (root-worked c.in_ok-plan.plan.sizes.items c.in_ok-plan.plan.marks.items (the_formula c.formula-formula.result.now) propositional c.in_ok-plan.ensures.sizes));
+      expanded = subst (λ l. IsExpandedBut c.in_ok-plan.plan.sizes.items c.in_ok-plan.plan.marks.items (l ++ root ∷ []) (c.new-waiting.result.items ++ length l ∷ [])) (sym c.new-branch.ensures) (subst (λ ws. IsExpandedBut c.in_ok-plan.plan.sizes.items c.in_ok-plan.plan.marks.items (root ∷ []) (ws ++ 0 ∷ [])) (sym c.new-waiting.ensures.items) (root-expanded c.in_ok-plan.plan.sizes.items c.in_ok-plan.plan.marks.items (the_formula c.formula-formula.result.now) propositional c.in_ok-plan.ensures.sizes));
       no_pair = subst HasNoPair (sym c.new-branch.ensures) no_pair-none;
       small = few-positions c.args.problem.now c.in_ok-plan.plan.sizes.items c.formula-formula.ensures.well (c.in_ok-plan.ensures.sizes ∙ ap sizes_of same);
       ends = subst (λ l. EndsInPair c.in_ok-plan.plan.sizes.items c.in_ok-plan.plan.marks.items (slice_get (l ++ node 0 F (the_formula c.formula-formula.result.now) ∷ []) 0)) (sym c.new-branch.ensures) (subst (λ g. EndsInPair c.in_ok-plan.plan.sizes.items c.in_ok-plan.plan.marks.items (Some (node 0 F g))) (sym same) ends);

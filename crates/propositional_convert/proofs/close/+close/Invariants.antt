@@ -1,6 +1,6 @@
--- Each round works off one node that waits, and what it adds is smaller.
+-- Each round expands one node that waits, and what it adds is smaller.
 use Rattle.std.proofs.Common.{◌++◌, ◌∷◌, [], ◌≤◌, length}
-use Rattle.propositional_convert.specs.Branches.{Extends, IsWorkedBut, weight_at}
+use Rattle.propositional_convert.specs.Branches.{Extends, IsExpandedBut, weight_at}
 use Rattle.propositional_convert.specs.Literals.{HasNoPair}
 use Rattle.propositional_convert.specs.NodeView.{the_node}
 use Rattle.propositional_convert.specs.Stepping.{IsLed}
@@ -11,7 +11,7 @@ decreases-close l = weight_at (l.branch.now ++ the_node l.node ∷ []) (l.waitin
 
 abbrev pub invariant-loop-index : goal.invariant-loop-index
 invariant-loop-index l = record {
-  worked : IsWorkedBut l.plan.sizes.items l.plan.marks.items l.branch l.waiting.items;
+  expanded : IsExpandedBut l.plan.sizes.items l.plan.marks.items l.branch l.waiting.items;
   no_pair : HasNoPair l.branch;
   longer : Extends (l.fn.branch ++ the_node l.fn.node ∷ []) l.branch;
   led : IsLed (l.fn.branch ++ the_node l.fn.node ∷ []) l.branch l.fn.steps l.steps;

@@ -1,7 +1,7 @@
 -- One index more.
 use Rattle.std.proofs.Common.{◌≡◌, ◌-◌, ◌++◌, ◌∷◌, [], ◌≤◌, arith, sym, ◌∙◌, ap, append_assoc}
 use Rattle.std.specs.List.{range_with_len}
-use Rattle.propositional_convert.proofs.Worked.{range-next}
+use Rattle.propositional_convert.proofs.Waiting.{range-next}
 use Rattle.propositional_convert.proofs.close.put_indexes.Goals as goal
 
 pub loop-index-preserved : goal.loop-index-preserved

@@ -1,6 +1,6 @@
 -- The index that was removed.
 use Rattle.std.proofs.Common.{◌<◌, length, subst}
-use Rattle.propositional_convert.proofs.Worked.{taken-at}
+use Rattle.propositional_convert.proofs.Waiting.{taken-at}
 use Rattle.propositional_convert.proofs.close.take.Goals as goal
 
 pub returns : goal.returns

@@ -1,4 +1,4 @@
--- How a branch is worked off: one node that waits is, and the parts that this adds wait and have room.
+-- How a branch is expanded: one node that waits is, and the parts that this adds wait and have room.
 use Rattle.std.proofs.Common.{◌≡◌, ◌⊎◌, ℕ, zero, suc, ◌+◌, ◌<◌, ◌≤◌, List, [], ◌∷◌, ◌++◌, ◌-◌, length, get_or, take, drop, remove, drop-cons, Bool, refl, sym, ◌∙◌, ap, subst, Some, slice_get, append_assoc, inl, inr, arith, length-append}
 use Rattle.std.specs.List.{AllByRecursion, range_with_len}
 use Rattle.std.proofs.lemmas.List.{take-append-drop}
@@ -10,8 +10,8 @@ use Rattle.calculus.specs.Positions.{Node, node, size}
 use Rattle.calculus.proofs.WalkLaws.{none_some, some_injective}
 use Rattle.propositional_convert.specs.Parts.{parts_of, placed, Fits}
 use Rattle.propositional_convert.specs.Marking.{IsMarked}
-use Rattle.propositional_convert.specs.Branches.{StandsIn, IsMet, SomeMet, HasParts, IsWorkedOff, AllFit, weight, size_at, weight_at, IsAmong, AreWithin, IsTaken, IsWorkedBut}
-use Rattle.propositional_convert.specs.Outcomes.{WorkOff}
+use Rattle.propositional_convert.specs.Branches.{StandsIn, IsMet, SomeMet, HasParts, IsExpanded, AllFit, weight, size_at, weight_at, IsAmong, AreWithin, IsTaken, IsExpandedBut}
+use Rattle.propositional_convert.specs.Outcomes.{Expansion}
 use Rattle.propositional_convert.specs.NodeView.{IsOne, AreTwo}
 use Rattle.propositional_convert.specs.Literals.{IsHeld}
 use Rattle.propositional_convert.proofs.Sizes.{size-pos}
@@ -65,8 +65,8 @@ parts-kept ns ms Gamma ps p = tt
 parts-kept ns ms Delta ps p = tt
 parts-kept ns ms Literal ps p = tt
 
-worked-kept : (marks : List Bool) (ns ms : List Node) (n : Node) → IsWorkedOff marks ns n → IsWorkedOff marks (ns ++ ms) n
-worked-kept marks ns ms n h m = parts-kept ns ms (shape_of n.sign n.formula) (parts_of n) (h m)
+expanded-kept : (marks : List Bool) (ns ms : List Node) (n : Node) → IsExpanded marks ns n → IsExpanded marks (ns ++ ms) n
+expanded-kept marks ns ms n h m = parts-kept ns ms (shape_of n.sign n.formula) (parts_of n) (h m)
 
 -- ---- weights
 
@@ -181,8 +181,8 @@ length-taken old i new t =
     omega arith
 
 -- there are at most as many nodes as positions
-pub worked-length : (zs : List ℕ) (marks : List Bool) (ns : List Node) (ws : List ℕ) → IsWorkedBut zs marks ns ws → length ns ≤ length zs
-worked-length zs marks ns ws w = let r : length ns + weight_at ns ws ≤ length zs + length ws = w.room in omega (arith, weight_at-long ns ws w.within)
+pub expanded-length : (zs : List ℕ) (marks : List Bool) (ns : List Node) (ws : List ℕ) → IsExpandedBut zs marks ns ws → length ns ≤ length zs
+expanded-length zs marks ns ws w = let r : length ns + weight_at ns ws ≤ length zs + length ws = w.room in omega (arith, weight_at-long ns ws w.within)
 
 -- ---- one node more
 
@@ -200,24 +200,24 @@ fit-added zs ns ms old new i n h = elim (get-cases ns ms i n h) [
   | inr e ↦ fits-get zs ms e.0 n new e.2
 ]
 
--- what waits once a node is worked off by these nodes
-pub next-weight : (zs : List ℕ) (marks : List Bool) (ns ms : List Node) (ws : List ℕ) (i : ℕ) (rest : List ℕ) → AreWithin ns ws → IsTaken ws i rest → WorkOff zs marks ns i ms → weight_at (ns ++ ms) (rest ++ new_indexes ns ms) < weight_at ns ws
+-- what waits once a node is expanded by these nodes
+pub next-weight : (zs : List ℕ) (marks : List Bool) (ns ms : List Node) (ws : List ℕ) (i : ℕ) (rest : List ℕ) → AreWithin ns ws → IsTaken ws i rest → Expansion zs marks ns i ms → weight_at (ns ++ ms) (rest ++ new_indexes ns ms) < weight_at ns ws
 next-weight zs marks ns ms ws i rest h t w =
     let lighter : weight ms < size w.node.formula = w.lighter in
     omega (arith, weight_at-append (ns ++ ms) rest (new_indexes ns ms), weight_at-kept ns ms rest (within-taken ns ws i rest t h).1, new-weight ns ms, weight-taken ns ws i rest t, get-size ns i w.node w.there)
 
-pub worked-next : (zs : List ℕ) (marks : List Bool) (ns ms : List Node) (ws : List ℕ) (i : ℕ) (rest : List ℕ) → IsWorkedBut zs marks ns ws → IsTaken ws i rest → WorkOff zs marks ns i ms → IsWorkedBut zs marks (ns ++ ms) (rest ++ new_indexes ns ms)
-worked-next zs marks ns ms ws i rest w t o = record {
+pub expanded-next : (zs : List ℕ) (marks : List Bool) (ns ms : List Node) (ws : List ℕ) (i : ℕ) (rest : List ℕ) → IsExpandedBut zs marks ns ws → IsTaken ws i rest → Expansion zs marks ns i ms → IsExpandedBut zs marks (ns ++ ms) (rest ++ new_indexes ns ms)
+expanded-next zs marks ns ms ws i rest w t o = record {
   fit = fit-added zs ns ms w.fit o.fit;
-  worked = λ k m here. elim (get-cases ns ms k m here) [
-    | inl e ↦ elim (w.worked k m e) [
+  expanded = λ k m here. elim (get-cases ns ms k m here) [
+    | inl e ↦ elim (w.expanded k m e) [
       | inl waits ↦ elim (among-taken ws i rest k t waits) [
         | inl same ↦
             let there : Some o.node ≡ Some m = sym o.there ∙ ap (slice_get ns) same ∙ e in
-            inr (subst (IsWorkedOff marks (ns ++ ms)) (some_injective o.node there) o.done)
+            inr (subst (IsExpanded marks (ns ++ ms)) (some_injective o.node there) o.done)
         | inr still ↦ inl (among-left rest (new_indexes ns ms) k still)
       ]
-      | inr off ↦ inr (worked-kept marks ns ms m off)
+      | inr done ↦ inr (expanded-kept marks ns ms m done)
     ]
     | inr e ↦ inl (among-right rest (new_indexes ns ms) k (subst (IsAmong (new_indexes ns ms)) (sym e.1) (among-range (length ns) (length ms) e.0 (get-within ms e.0 m e.2))))
   ];
@@ -228,16 +228,16 @@ worked-next zs marks ns ms ws i rest w t o = record {
       omega (arith, length-append ns ms, length-append rest (new_indexes ns ms), length-range_with_len (length ns) (length ms), length-taken ws i rest t));
 }
 
--- ---- where a node is worked off
+-- ---- where a node is expanded
 
-pub unmarked-worked : (marks : List Bool) (ns : List Node) (n : Node) → (IsMarked marks n.position → ⊥) → IsWorkedOff marks ns n
-unmarked-worked marks ns n h m = absurd (h m)
+pub unmarked-expanded : (marks : List Bool) (ns : List Node) (n : Node) → (IsMarked marks n.position → ⊥) → IsExpanded marks ns n
+unmarked-expanded marks ns n h m = absurd (h m)
 
-pub literal-worked : (marks : List Bool) (ns : List Node) (n : Node) → shape_of n.sign n.formula ≡ Literal → IsWorkedOff marks ns n
-literal-worked marks ns n h m = subst (λ s. HasParts ns s (parts_of n)) (sym h) tt
+pub literal-expanded : (marks : List Bool) (ns : List Node) (n : Node) → shape_of n.sign n.formula ≡ Literal → IsExpanded marks ns n
+literal-expanded marks ns n h m = subst (λ s. HasParts ns s (parts_of n)) (sym h) tt
 
-pub held-worked : (marks : List Bool) (ns : List Node) (n : Node) → IsHeld ns n.sign n.formula → IsWorkedOff marks ns n
-held-worked marks ns n h m = held-parts ns n.position n.sign n.formula h
+pub held-expanded : (marks : List Bool) (ns : List Node) (n : Node) → IsHeld ns n.sign n.formula → IsExpanded marks ns n
+held-expanded marks ns n h m = held-parts ns n.position n.sign n.formula h
 
 one-part : (n a : Node) (zs : List ℕ) → IsOne zs n a → parts_of n ≡ a ∷ []
 one-part n a zs h = ap (placed n.position) h.parts ∙ (λ i. node (sym h.place i) a.sign a.formula ∷ [])
@@ -245,17 +245,17 @@ one-part n a zs h = ap (placed n.position) h.parts ∙ (λ i. node (sym h.place 
 two-parts : (n a b : Node) (zs : List ℕ) → AreTwo zs n a b → parts_of n ≡ a ∷ b ∷ []
 two-parts n a b zs h = ap (placed n.position) h.parts ∙ (λ i. node (sym h.first_place i) a.sign a.formula ∷ node (sym h.second_place i) b.sign b.formula ∷ [])
 
-pub one-worked : (marks : List Bool) (ns : List Node) (n a : Node) (zs : List ℕ) → IsOne zs n a → IsWorkedOff marks (ns ++ a ∷ []) n
-one-worked marks ns n a zs h m = rw (h.shape, one-part n a zs h) (inl (length ns, get-seam ns a []), tt)
+pub one-expanded : (marks : List Bool) (ns : List Node) (n a : Node) (zs : List ℕ) → IsOne zs n a → IsExpanded marks (ns ++ a ∷ []) n
+one-expanded marks ns n a zs h m = rw (h.shape, one-part n a zs h) (inl (length ns, get-seam ns a []), tt)
 
 second-stands : (ns : List Node) (a b : Node) → StandsIn (ns ++ a ∷ b ∷ []) b
 second-stands ns a b = (length (ns ++ a ∷ []), subst (λ l. slice_get l (length (ns ++ a ∷ [])) ≡ Some b) (append_assoc ns (a ∷ []) (b ∷ [])) (get-seam (ns ++ a ∷ []) b []))
 
-pub alpha-worked : (marks : List Bool) (ns : List Node) (n a b : Node) (zs : List ℕ) → shape_of n.sign n.formula ≡ Alpha → AreTwo zs n a b → IsWorkedOff marks (ns ++ a ∷ b ∷ []) n
-alpha-worked marks ns n a b zs shape h m = rw (shape, two-parts n a b zs h) (inl (length ns, get-seam ns a (b ∷ [])), (inl (second-stands ns a b), tt))
+pub alpha-expanded : (marks : List Bool) (ns : List Node) (n a b : Node) (zs : List ℕ) → shape_of n.sign n.formula ≡ Alpha → AreTwo zs n a b → IsExpanded marks (ns ++ a ∷ b ∷ []) n
+alpha-expanded marks ns n a b zs shape h m = rw (shape, two-parts n a b zs h) (inl (length ns, get-seam ns a (b ∷ [])), (inl (second-stands ns a b), tt))
 
-pub first-worked : (marks : List Bool) (ns : List Node) (n a b : Node) (zs : List ℕ) → shape_of n.sign n.formula ≡ Beta → AreTwo zs n a b → IsWorkedOff marks (ns ++ a ∷ []) n
-first-worked marks ns n a b zs shape h m = rw (shape, two-parts n a b zs h) (inl (inl (length ns, get-seam ns a [])))
+pub first-expanded : (marks : List Bool) (ns : List Node) (n a b : Node) (zs : List ℕ) → shape_of n.sign n.formula ≡ Beta → AreTwo zs n a b → IsExpanded marks (ns ++ a ∷ []) n
+first-expanded marks ns n a b zs shape h m = rw (shape, two-parts n a b zs h) (inl (inl (length ns, get-seam ns a [])))
 
-pub second-worked : (marks : List Bool) (ns : List Node) (n a b : Node) (zs : List ℕ) → shape_of n.sign n.formula ≡ Beta → AreTwo zs n a b → IsWorkedOff marks (ns ++ b ∷ []) n
-second-worked marks ns n a b zs shape h m = rw (shape, two-parts n a b zs h) (inr (inl (inl (length ns, get-seam ns b []))))
+pub second-expanded : (marks : List Bool) (ns : List Node) (n a b : Node) (zs : List ℕ) → shape_of n.sign n.formula ≡ Beta → AreTwo zs n a b → IsExpanded marks (ns ++ b ∷ []) n
+second-expanded marks ns n a b zs shape h m = rw (shape, two-parts n a b zs h) (inr (inl (inl (length ns, get-seam ns b []))))
