@@ -19,11 +19,11 @@ use Rattle.calculus.proofs.GrowthLaws.{extended-parts}
 use Rattle.propositional_search.specs.Matrix.{IsMatrix}
 use Rattle.propositional_search.specs.ClauseView.{the_literal}
 use Rattle.propositional_search.specs.Places.{place_at, IsAt, ArePlaces}
-use Rattle.propositional_search.specs.Search.{complement, IsNoted, IsGoalClosed, AreGoalsClosed, IsGoalOpen, AreGoalsOpen, AreAllOpen, others_at, Extends}
+use Rattle.propositional_search.specs.Search.{complement, IsUsed, IsGoalClosed, AreGoalsClosed, IsGoalOpen, AreGoalsOpen, AreAllOpen, others_at, Extends}
 use Rattle.propositional_search.specs.declared.clause.Literal.{Literal}
 use Rattle.propositional_search.specs.declared.index.Place.{Place}
 
--- ---- noted clauses stay noted
+-- ---- used clauses stay used
 
 pub extends-none : (a : List ℕ) → Extends a a
 extends-none a = ([], sym (append-nil a))
@@ -31,19 +31,19 @@ extends-none a = ([], sym (append-nil a))
 pub extends-both : (a b c : List ℕ) → Extends a b → Extends b c → Extends a c
 extends-both a b c h g = (h.0 ++ g.0, g.1 ∙ ap (λ xs. xs ++ g.0) h.1 ∙ append_assoc a h.0 g.0)
 
-noted-more : (m : List ClauseInstance) (a b : List ℕ) → Extends a b → (is : List ClauseInstance) → AllByRecursion (IsNoted m a) is → AllByRecursion (IsNoted m b) is
-noted-more m a b h [] all = tt
-noted-more m a b h (i ∷ is) all = ((all.0.0, rw h.1 (Contains-append_left a h.0 all.0.0 all.0.1), all.0.2), noted-more m a b h is all.1)
+used-more : (m : List ClauseInstance) (a b : List ℕ) → Extends a b → (is : List ClauseInstance) → AllByRecursion (IsUsed m a) is → AllByRecursion (IsUsed m b) is
+used-more m a b h [] all = tt
+used-more m a b h (i ∷ is) all = ((all.0.0, rw h.1 (Contains-append_left a h.0 all.0.0 all.0.1), all.0.2), used-more m a b h is all.1)
 
-noted-append : (m : List ClauseInstance) (a : List ℕ) (is js : List ClauseInstance) → AllByRecursion (IsNoted m a) is → AllByRecursion (IsNoted m a) js → AllByRecursion (IsNoted m a) (is ++ js)
-noted-append m a [] js h g = g
-noted-append m a (i ∷ is) js h g = (h.0, noted-append m a is js h.1 g)
+used-append : (m : List ClauseInstance) (a : List ℕ) (is js : List ClauseInstance) → AllByRecursion (IsUsed m a) is → AllByRecursion (IsUsed m a) js → AllByRecursion (IsUsed m a) (is ++ js)
+used-append m a [] js h g = g
+used-append m a (i ∷ is) js h g = (h.0, used-append m a is js h.1 g)
 
 pub goal-more : (P : Problem) (m : List ClauseInstance) (a b : List ℕ) (d : ℕ) (path : List GroundLiteral) (goal : GroundLiteral) → Extends a b → IsGoalClosed P m a d path goal → IsGoalClosed P m b d path goal
-goal-more P m a b d path goal h c = record { closing = c.closing; closed = c.closed; among = noted-more m a b h (instances_below c.closing) c.among }
+goal-more P m a b d path goal h c = record { closing = c.closing; closed = c.closed; among = used-more m a b h (instances_below c.closing) c.among }
 
 pub goals-more : (P : Problem) (m : List ClauseInstance) (a b : List ℕ) (d : ℕ) (path goals : List GroundLiteral) → Extends a b → AreGoalsClosed P m a d path goals → AreGoalsClosed P m b d path goals
-goals-more P m a b d path goals h c = record { closings = c.closings; closed = c.closed; among = noted-more m a b h (instances_of_all c.closings) c.among }
+goals-more P m a b d path goals h c = record { closings = c.closings; closed = c.closed; among = used-more m a b h (instances_of_all c.closings) c.among }
 
 -- ---- goals in a row
 
@@ -67,7 +67,7 @@ pub goals-append : (P : Problem) (m : List ClauseInstance) (a : List ℕ) (d : �
 goals-append P m a d path xs ys h g = record {
   closings = both_closings h.closings g.closings;
   closed = both-closed P d path xs ys h.closings g.closings h.closed g.closed;
-  among = rw instances-both (noted-append m a (instances_of_all h.closings) (instances_of_all g.closings) h.among g.among);
+  among = rw instances-both (used-append m a (instances_of_all h.closings) (instances_of_all g.closings) h.among g.among);
 }
 
 pub no-goals : (P : Problem) (m : List ClauseInstance) (a : List ℕ) (d : ℕ) (path : List GroundLiteral) → AreGoalsClosed P m a d path []
@@ -77,7 +77,7 @@ one-goal : (P : Problem) (m : List ClauseInstance) (a : List ℕ) (d : ℕ) (pat
 one-goal P m a d path x h = record {
   closings = more_closings h.closing no_closings;
   closed = and_from (closes P d path x h.closing) true h.closed refl;
-  among = noted-append m a (instances_below h.closing) [] h.among tt;
+  among = used-append m a (instances_below h.closing) [] h.among tt;
 }
 
 -- one more goal is closed
@@ -217,7 +217,7 @@ allowed-at P (j ∷ m) all zero i e = let same : j ≡ i = cc in subst (λ (x : 
 allowed-at P (j ∷ m) all (suc k) i e = allowed-at P m all.1 k i e
 
 pub extended : (P : Problem) (d : ℕ) (m : List ClauseInstance) (a : List ℕ) (path : List GroundLiteral) (goal : GroundLiteral) (p : Place) → IsMatrix P m → list_any (literal_eq goal) path ≡ false → length path < d → IsAt m (complement goal) p → Contains a p.clause → AreGoalsClosed P m a d (goal ∷ path) (others_at m p) → IsGoalClosed P m a d path goal
-extended P d m a path goal p im new lt at_place noted h =
+extended P d m a path goal p im new lt at_place used h =
     let i = at_place.clause in
     let below : IsTrue (closes_all P d (goal ∷ path) (remove i.literals p.literal) h.closings) = subst (λ (goals : List GroundLiteral). IsTrue (closes_all P d (goal ∷ path) goals h.closings)) (others-are m p i at_place.is_clause) h.closed in
     record {
@@ -230,5 +230,5 @@ extended P d m a path goal p im new lt at_place noted h =
           (allowed-at P m im.allowed p.clause i at_place.is_clause))
           (complement-at goal (slice_get i.literals p.literal) at_place.is_literal))
           below;
-      among = ((p.clause, noted, at_place.is_clause), h.among);
+      among = ((p.clause, used, at_place.is_clause), h.among);
     }

@@ -16,8 +16,8 @@ use Rattle.calculus.specs.Tableaux.{Closing, Closings, reduce, extend, no_closin
 use Rattle.calculus.proofs.GrowthLaws.{closed-parts, extended-parts}
 use Rattle.tableau_core.specs.Closed.{HasClosed, IsClosedBy}
 use Rattle.propositional_search.specs.Matrix.{IsMatrix}
-use Rattle.propositional_search.specs.Search.{AreGoalsClosed, IsNoted, IsToldAt, GoalsOutcome}
-use Rattle.propositional_search.specs.Deepening.{IsClosedNoting, IsStartOpen, StartOutcome, StartsOutcome}
+use Rattle.propositional_search.specs.Search.{AreGoalsClosed, IsUsed, IsToldAt, GoalsOutcome}
+use Rattle.propositional_search.specs.Deepening.{IsClosedUsing, IsStartOpen, StartOutcome, StartsOutcome}
 use Rattle.propositional_search.specs.declared.outcome.Outcome.{Outcome}
 use Rattle.propositional_search.specs.declared.outcome.Outcome.TheVariants as outcome
 use Rattle.propositional_search.specs.ClauseView.{the_literal, the_clause}
@@ -31,8 +31,8 @@ classical-short : (P : Problem) → P.setting.logic ≡ Classical → (t : Table
 classical-short P c t = subst (λ (l : Logic). IsTrue (if has_unbounded_strings l then list_all (strings_within (total_steps P (instances t))) (instances t) else true)) (sym c) refl
 
 -- a start clause whose goals are closed
-pub started : (P : Problem) (m : List ClauseInstance) (a : List ℕ) (d k : ℕ) (i : ClauseInstance) → IsPropositional P → IsMatrix P m → slice_get m k ≡ Some i → list_all is_shown i.literals ≡ true → Contains a k → AreGoalsClosed P m a d [] i.literals → IsClosedNoting P m a d
-started P m a d k i p im e shown noted h =
+pub started : (P : Problem) (m : List ClauseInstance) (a : List ℕ) (d k : ℕ) (i : ClauseInstance) → IsPropositional P → IsMatrix P m → slice_get m k ≡ Some i → list_all is_shown i.literals ≡ true → Contains a k → AreGoalsClosed P m a d [] i.literals → IsClosedUsing P m a d
+started P m a d k i p im e shown used h =
     let t : Tableau = record { start = i; goals = h.closings } in
     record {
       tableau = t;
@@ -42,7 +42,7 @@ started P m a d k i p im e shown noted h =
           (and_from (is_allowed_instance P i) (list_all is_shown i.literals) (allowed-at P m im.allowed k i e) shown)
           h.closed)
           (classical-short P p.classical t);
-      among = ((k, noted, e), h.among);
+      among = ((k, used, e), h.among);
     }
 
 -- no clause starts a closed tableau
@@ -116,10 +116,10 @@ none-started P m d k b im past h e t = not-started P m e im (h e t (subst (λ (i
 
 -- ---- the clauses' selections
 
-pub closed-by : (P : Problem) (m : List ClauseInstance) (a : List ℕ) (d : ℕ) (s : List (List Side)) → ((i : ClauseInstance) → IsNoted m a i → Contains s i.selection) → IsClosedNoting P m a d → IsClosedBy P d s
+pub closed-by : (P : Problem) (m : List ClauseInstance) (a : List ℕ) (d : ℕ) (s : List (List Side)) → ((i : ClauseInstance) → IsUsed m a i → Contains s i.selection) → IsClosedUsing P m a d → IsClosedBy P d s
 closed-by P m a d s f h = record { tableau = h.tableau; closed = h.closed; among = among (instances h.tableau) h.among }
   where
-    among : (is : List ClauseInstance) → AllByRecursion (IsNoted m a) is → AllByRecursion (λ (i : ClauseInstance). Contains s i.selection) is
+    among : (is : List ClauseInstance) → AllByRecursion (IsUsed m a) is → AllByRecursion (λ (i : ClauseInstance). Contains s i.selection) is
     among [] all = tt
     among (i ∷ is) all = (f i all.0, among is all.1)
 
@@ -147,8 +147,8 @@ shown-clause c ls b e f g = ap (λ (ks : List Literal). list_all is_shown (map t
 
 -- ---- one more number
 
-pub noted-next : (m : List ClauseInstance) (numbers : List ℕ) (j n : ℕ) (i : ClauseInstance) (G : Type 0) → j < length numbers → (IsNoted m (take j numbers) i → G) → (slice_get m (get_or numbers j n) ≡ Some i → G) → IsNoted m (take (j + 1) numbers) i → G
-noted-next m numbers j n i G lt before here h =
+pub used-next : (m : List ClauseInstance) (numbers : List ℕ) (j n : ℕ) (i : ClauseInstance) (G : Type 0) → j < length numbers → (IsUsed m (take j numbers) i → G) → (slice_get m (get_or numbers j n) ≡ Some i → G) → IsUsed m (take (j + 1) numbers) i → G
+used-next m numbers j n i G lt before here h =
     let split : take (j + 1) numbers ≡ take j numbers ++ get_or numbers j n ∷ [] = rw add-one (take-suc numbers j n lt) in
     elim (Contains-append_cases (take j numbers) (get_or numbers j n ∷ []) h.0 (rw split at h.1)) [
       | inl c ↦ before (h.0, c, h.2)
@@ -159,5 +159,5 @@ noted-next m numbers j n i G lt before here h =
     only x k (zero, lt, e) = e
     only x k (suc n, lt, e) = absurd (omega arith)
 
-pub noted-all : (m : List ClauseInstance) (numbers : List ℕ) (j : ℕ) (i : ClauseInstance) → length numbers ≤ j → IsNoted m numbers i → IsNoted m (take j numbers) i
-noted-all m numbers j i h g = (g.0, subst (λ (ks : List ℕ). Contains ks g.0) (sym (take-past numbers j h)) g.1, g.2)
+pub used-all : (m : List ClauseInstance) (numbers : List ℕ) (j : ℕ) (i : ClauseInstance) → length numbers ≤ j → IsUsed m numbers i → IsUsed m (take j numbers) i
+used-all m numbers j i h g = (g.0, subst (λ (ks : List ℕ). Contains ks g.0) (sym (take-past numbers j h)) g.1, g.2)

@@ -6,7 +6,7 @@ use Rattle.calculus.specs.Syntax.{Problem}
 use Rattle.calculus.specs.Instances.{ClauseInstance}
 use Rattle.calculus.specs.Tableaux.{Tableau, instances, is_closed, is_shown}
 use Rattle.tableau_core.specs.Closed.{HasClosed, IsClosedBy}
-use Rattle.propositional_search.specs.Search.{AreGoalsOpen, IsNoted}
+use Rattle.propositional_search.specs.Search.{AreGoalsOpen, IsUsed}
 use Rattle.propositional_search.specs.declared.deepening.Answer.{Answer}
 use Rattle.propositional_search.specs.declared.deepening.Answer.TheVariants.{Closed, Exhausted}
 use Rattle.propositional_search.specs.declared.outcome.Outcome.{Outcome}
@@ -23,11 +23,11 @@ abbrev pub IsAnswer : Problem → ℕ → Answer → Type 0
 IsAnswer P greatest (Closed limit selections) = IsLeast P greatest limit selections.items
 IsAnswer P greatest Exhausted = HasClosed P greatest → ⊥
 
--- some tableau is closed, by clauses that are noted
-pub record IsClosedNoting (P : Problem) (m : List ClauseInstance) (noted : List ℕ) (d : ℕ) : Type 0 where
+-- some tableau is closed, by clauses that are used
+pub record IsClosedUsing (P : Problem) (m : List ClauseInstance) (used : List ℕ) (d : ℕ) : Type 0 where
   pub tableau : Tableau
   pub closed : IsTrue (is_closed P d tableau)
-  pub among : AllByRecursion (IsNoted m noted) (instances tableau)
+  pub among : AllByRecursion (IsUsed m used) (instances tableau)
 
 -- the clause starts no closed tableau
 abbrev pub IsStartOpen : Problem → ℕ → ClauseInstance → Type 0
@@ -35,11 +35,11 @@ IsStartOpen P d i = IsTrue (list_all is_shown i.literals) → AreGoalsOpen P d [
 
 -- what an outcome says of the clause of a number as a start, and of all clauses
 abbrev pub StartOutcome : Problem → List ClauseInstance → List ℕ → ℕ → ℕ → Outcome → Type 0
-StartOutcome P m noted d k outcome.Closed = IsClosedNoting P m noted d
-StartOutcome P m noted d k outcome.Limited = (i : ClauseInstance) → slice_get m k ≡ Some i → IsStartOpen P d i
-StartOutcome P m noted d k outcome.Open = (i : ClauseInstance) → slice_get m k ≡ Some i → (e : ℕ) → IsStartOpen P e i
+StartOutcome P m used d k outcome.Closed = IsClosedUsing P m used d
+StartOutcome P m used d k outcome.Limited = (i : ClauseInstance) → slice_get m k ≡ Some i → IsStartOpen P d i
+StartOutcome P m used d k outcome.Open = (i : ClauseInstance) → slice_get m k ≡ Some i → (e : ℕ) → IsStartOpen P e i
 
 abbrev pub StartsOutcome : Problem → List ClauseInstance → List ℕ → ℕ → Outcome → Type 0
-StartsOutcome P m noted d outcome.Closed = IsClosedNoting P m noted d
-StartsOutcome P m noted d outcome.Limited = HasClosed P d → ⊥
-StartsOutcome P m noted d outcome.Open = (e : ℕ) → HasClosed P e → ⊥
+StartsOutcome P m used d outcome.Closed = IsClosedUsing P m used d
+StartsOutcome P m used d outcome.Limited = HasClosed P d → ⊥
+StartsOutcome P m used d outcome.Open = (e : ℕ) → HasClosed P e → ⊥

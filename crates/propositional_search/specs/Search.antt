@@ -16,20 +16,20 @@ abbrev pub complement : GroundLiteral → GroundLiteral
 complement x = record x { sign = other x.sign }
 
 -- the clause has one of these numbers
-abbrev pub IsNoted : List ClauseInstance → List ℕ → ClauseInstance → Type 0
-IsNoted m noted i = (k : ℕ) × Contains noted k × (slice_get m k ≡ Some i)
+abbrev pub IsUsed : List ClauseInstance → List ℕ → ClauseInstance → Type 0
+IsUsed m used i = (k : ℕ) × Contains used k × (slice_get m k ≡ Some i)
 
--- the goal is closed, by clauses that are noted
-pub record IsGoalClosed (P : Problem) (m : List ClauseInstance) (noted : List ℕ) (d : ℕ) (path : List GroundLiteral) (goal : GroundLiteral) : Type 0 where
+-- the goal is closed, by clauses that are used
+pub record IsGoalClosed (P : Problem) (m : List ClauseInstance) (used : List ℕ) (d : ℕ) (path : List GroundLiteral) (goal : GroundLiteral) : Type 0 where
   pub closing : Closing
   pub closed : IsTrue (closes P d path goal closing)
-  pub among : AllByRecursion (IsNoted m noted) (instances_below closing)
+  pub among : AllByRecursion (IsUsed m used) (instances_below closing)
 
--- the goals are closed, by clauses that are noted
-pub record AreGoalsClosed (P : Problem) (m : List ClauseInstance) (noted : List ℕ) (d : ℕ) (path : List GroundLiteral) (goals : List GroundLiteral) : Type 0 where
+-- the goals are closed, by clauses that are used
+pub record AreGoalsClosed (P : Problem) (m : List ClauseInstance) (used : List ℕ) (d : ℕ) (path : List GroundLiteral) (goals : List GroundLiteral) : Type 0 where
   pub closings : Closings
   pub closed : IsTrue (closes_all P d path goals closings)
-  pub among : AllByRecursion (IsNoted m noted) (instances_of_all closings)
+  pub among : AllByRecursion (IsUsed m used) (instances_of_all closings)
 
 -- nothing closes the goal within the limit
 abbrev pub IsGoalOpen : Problem → ℕ → List GroundLiteral → GroundLiteral → Type 0
@@ -53,20 +53,20 @@ IsToldAt false d e = Unit {0}
 
 -- what an outcome says of one goal, and of several
 abbrev pub GoalOutcome : Problem → List ClauseInstance → List ℕ → ℕ → List GroundLiteral → GroundLiteral → Outcome → Type 0
-GoalOutcome P m noted d path goal Closed = IsGoalClosed P m noted d path goal
-GoalOutcome P m noted d path goal Limited = IsGoalOpen P d path goal
-GoalOutcome P m noted d path goal Open = (e : ℕ) → IsGoalOpen P e path goal
+GoalOutcome P m used d path goal Closed = IsGoalClosed P m used d path goal
+GoalOutcome P m used d path goal Limited = IsGoalOpen P d path goal
+GoalOutcome P m used d path goal Open = (e : ℕ) → IsGoalOpen P e path goal
 
 abbrev pub GoalsOutcome : Problem → List ClauseInstance → List ℕ → ℕ → List GroundLiteral → List GroundLiteral → Outcome → Type 0
-GoalsOutcome P m noted d path goals Closed = AreGoalsClosed P m noted d path goals
-GoalsOutcome P m noted d path goals Limited = AreGoalsOpen P d path goals
-GoalsOutcome P m noted d path goals Open = (e : ℕ) → AreGoalsOpen P e path goals
+GoalsOutcome P m used d path goals Closed = AreGoalsClosed P m used d path goals
+GoalsOutcome P m used d path goals Limited = AreGoalsOpen P d path goals
+GoalsOutcome P m used d path goals Open = (e : ℕ) → AreGoalsOpen P e path goals
 
 -- what an outcome says of the places at which a goal below the path may be extended
 abbrev pub PlacesOutcome : Problem → List ClauseInstance → List ℕ → ℕ → List GroundLiteral → GroundLiteral → List Place → Outcome → Type 0
-PlacesOutcome P m noted d path goal ps Closed = IsGoalClosed P m noted d path goal
-PlacesOutcome P m noted d path goal ps Limited = AreAllOpen P d (goal ∷ path) m ps
-PlacesOutcome P m noted d path goal ps Open = (e : ℕ) → AreAllOpen P e (goal ∷ path) m ps
+PlacesOutcome P m used d path goal ps Closed = IsGoalClosed P m used d path goal
+PlacesOutcome P m used d path goal ps Limited = AreAllOpen P d (goal ∷ path) m ps
+PlacesOutcome P m used d path goal ps Open = (e : ℕ) → AreAllOpen P e (goal ∷ path) m ps
 
 -- nothing is lost
 abbrev pub Extends : List ℕ → List ℕ → Type 0

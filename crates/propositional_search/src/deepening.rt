@@ -9,14 +9,14 @@ ghost use Rattle.calculus.specs.Tableaux.{is_shown};
 ghost use Rattle.propositional_search.specs.ClauseView.{the_literal};
 ghost use Rattle.propositional_search.specs.Deepening.{IsAnswer, StartOutcome, StartsOutcome};
 ghost use Rattle.propositional_search.specs.Matrix.{IsMatrix};
-ghost use Rattle.propositional_search.specs.Search.{IsNoted};
+ghost use Rattle.propositional_search.specs.Search.{IsUsed};
 
 use crate::clause::Literal;
 use crate::matrix::Matrix;
-use crate::noted::Noted;
 use crate::outcome::Outcome;
 use crate::path::Path;
 use crate::search::solve_all;
+use crate::used_clauses::UsedClauses;
 use cop_base::NoMemory;
 use formula_core::Sign;
 use logic_rules::Problem;
@@ -49,12 +49,12 @@ pub fn deepen(
     requires to_200 { greatest ≤ 200 }
     ensures { IfOk result (λ answer. IsAnswer problem.now greatest answer) }
 {
-    let mut noted = Noted::new(alloc, matrix.len())?;
+    let mut used = UsedClauses::new(alloc, matrix.len())?;
     for below in 0..greatest {
         let limit = below + 1;
-        match start(alloc, matrix, limit, &mut noted)? {
+        match start(alloc, matrix, limit, &mut used)? {
             Outcome::Closed => {
-                let selections = selections(alloc, matrix, noted.numbers())?;
+                let selections = selections(alloc, matrix, used.numbers())?;
                 return Ok(Answer::Closed { limit, selections });
             }
             Outcome::Limited => {}
@@ -65,13 +65,18 @@ pub fn deepen(
 }
 
 // Tries each clause as a start.
-fn start(alloc: Global, matrix: &Matrix, limit: u8, noted: &mut Noted) -> Result<Outcome, NoMemory>
+fn start(
+    alloc: Global,
+    matrix: &Matrix,
+    limit: u8,
+    used: &mut UsedClauses,
+) -> Result<Outcome, NoMemory>
     ensures { IfOk result (λ o. (P : tree.Problem) → IsPropositional P → IsMatrix P matrix.now
-        → StartsOutcome P matrix.now noted.new limit o) }
+        → StartsOutcome P matrix.now used.new limit o) }
 {
     let mut limited = false;
     for number in 0..matrix.len() {
-        match start_by(alloc, matrix, number, limit, noted)? {
+        match start_by(alloc, matrix, number, limit, used)? {
             Outcome::Closed => return Ok(Outcome::Closed),
             Outcome::Limited => limited = true,
             Outcome::Open => {}
@@ -90,20 +95,20 @@ fn start_by(
     matrix: &Matrix,
     number: usize,
     limit: u8,
-    noted: &mut Noted,
+    used: &mut UsedClauses,
 ) -> Result<Outcome, NoMemory>
     requires { number < length matrix.now }
     ensures { IfOk result (λ o. (P : tree.Problem) → IsPropositional P → IsMatrix P matrix.now
-        → StartOutcome P matrix.now noted.new limit number o) }
+        → StartOutcome P matrix.now used.new limit number o) }
 {
     let clause = matrix.clause(number);
     if !are_shown(&clause.literals) {
         return Ok(Outcome::Open);
     }
-    noted.truncate(0);
-    match solve_all(alloc, matrix, &clause.literals, &Path::Root, limit, noted)? {
+    used.truncate(0);
+    match solve_all(alloc, matrix, &clause.literals, &Path::Root, limit, used)? {
         Outcome::Closed => {
-            noted.add(number)?;
+            used.add(number)?;
             Ok(Outcome::Closed)
         }
         Outcome::Limited => Ok(Outcome::Limited),
@@ -125,7 +130,7 @@ fn are_shown(literals: &[Literal]) -> bool
 
 // The selections of the clauses of these numbers.
 fn selections(alloc: Global, matrix: &Matrix, numbers: &[usize]) -> Result<Vec<Selection>, NoMemory>
-    ensures { IfOk result (λ s. (i : ClauseInstance) → IsNoted matrix.now numbers.now i → Contains s.items i.selection) }
+    ensures { IfOk result (λ s. (i : ClauseInstance) → IsUsed matrix.now numbers.now i → Contains s.items i.selection) }
 {
     let mut all = Vec::new(alloc);
     for number in numbers {

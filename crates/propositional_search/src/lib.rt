@@ -5,12 +5,12 @@ mod clause;
 mod deepening;
 mod index;
 mod matrix;
-mod noted;
 mod outcome;
 mod path;
 mod search;
 #[cfg(test)]
 mod tests;
+mod used_clauses;
 
 pub use deepening::{Answer, deepen};
 pub use matrix::{Matrix, MatrixFault, build_matrix};

@@ -13,29 +13,29 @@ ghost use Rattle.propositional_search.specs.Search.{Extends, GoalOutcome, GoalsO
 use crate::clause::Literal;
 use crate::index::Place;
 use crate::matrix::Matrix;
-use crate::noted::Noted;
 use crate::outcome::Outcome;
 use crate::path::Path;
+use crate::used_clauses::UsedClauses;
 use cop_base::NoMemory;
 use std::alloc::Global;
 
-/// Closes each of the goals below the path, on which there is room for `left` more goals.
+/// Closes each of the goals below the path, on which the path limit has `room` for so many more.
 #[cycle(search)]
 pub fn solve_all(
     alloc: Global,
     matrix: &Matrix,
     goals: &[Literal],
     path: &Path,
-    left: u8,
-    noted: &mut Noted,
+    room: u8,
+    used: &mut UsedClauses,
 ) -> Result<Outcome, NoMemory>
-    ensures extends { IfOk result (λ _. Extends noted.old noted.new) }
+    ensures extends { IfOk result (λ _. Extends used.old used.new) }
     ensures outcome { IfOk result (λ o. (P : tree.Problem) (d : ℕ) → IsMatrix P matrix.now
-        → d ≡ left + length (the_path path.now)
-        → GoalsOutcome P matrix.now noted.new d (the_path path.now) (map the_literal goals.now) o) }
+        → d ≡ room + length (the_path path.now)
+        → GoalsOutcome P matrix.now used.new d (the_path path.now) (map the_literal goals.now) o) }
 {
     for goal in goals {
-        match solve(alloc, matrix, *goal, path, left, noted)? {
+        match solve(alloc, matrix, *goal, path, room, used)? {
             Outcome::Closed => {}
             Outcome::Limited => return Ok(Outcome::Limited),
             Outcome::Open => return Ok(Outcome::Open),
@@ -44,20 +44,20 @@ pub fn solve_all(
     Ok(Outcome::Closed)
 }
 
-// A goal that stands on its path is left; a reduction is tried before extensions.
+// A goal that stands on its path is given up; a reduction is tried before extensions.
 #[cycle(search)]
 fn solve(
     alloc: Global,
     matrix: &Matrix,
     goal: Literal,
     path: &Path,
-    left: u8,
-    noted: &mut Noted,
+    room: u8,
+    used: &mut UsedClauses,
 ) -> Result<Outcome, NoMemory>
-    ensures extends { IfOk result (λ _. Extends noted.old noted.new) }
+    ensures extends { IfOk result (λ _. Extends used.old used.new) }
     ensures outcome { IfOk result (λ o. (P : tree.Problem) (d : ℕ) → IsMatrix P matrix.now
-        → d ≡ left + length (the_path path.now)
-        → GoalOutcome P matrix.now noted.new d (the_path path.now) (the_literal goal) o) }
+        → d ≡ room + length (the_path path.now)
+        → GoalOutcome P matrix.now used.new d (the_path path.now) (the_literal goal) o) }
 {
     if path.has(goal) {
         return Ok(Outcome::Open);
@@ -65,7 +65,7 @@ fn solve(
     if path.has(goal.complement()) {
         return Ok(Outcome::Closed);
     }
-    extend(alloc, matrix, goal, path, left, noted)
+    extend(alloc, matrix, goal, path, room, used)
 }
 
 #[cycle(search)]
@@ -74,28 +74,28 @@ fn extend(
     matrix: &Matrix,
     goal: Literal,
     path: &Path,
-    left: u8,
-    noted: &mut Noted,
+    room: u8,
+    used: &mut UsedClauses,
 ) -> Result<Outcome, NoMemory>
     requires is_new { list_any (literal_eq (the_literal goal)) (the_path path.now) ≡ false }
     requires not_reduced { list_any (literal_eq (complement (the_literal goal))) (the_path path.now) ≡ false }
-    ensures extends { IfOk result (λ _. Extends noted.old noted.new) }
+    ensures extends { IfOk result (λ _. Extends used.old used.new) }
     ensures outcome { IfOk result (λ o. (P : tree.Problem) (d : ℕ) → IsMatrix P matrix.now
-        → d ≡ left + length (the_path path.now)
-        → GoalOutcome P matrix.now noted.new d (the_path path.now) (the_literal goal) o) }
+        → d ≡ room + length (the_path path.now)
+        → GoalOutcome P matrix.now used.new d (the_path path.now) (the_literal goal) o) }
 {
     let places = matrix.places(goal.complement());
     if places.is_empty() {
         return Ok(Outcome::Open);
     }
-    if left == 0 {
+    if room == 0 {
         return Ok(Outcome::Limited);
     }
-    let outcome = extend_among(alloc, matrix, places, goal, path, left - 1, noted)?;
+    let outcome = extend_among(alloc, matrix, places, goal, path, room - 1, used)?;
     Ok(outcome)
 }
 
-// Tries the places in turn. The path of `goal` has room for `left` more goals below it.
+// Tries the places in turn. `room` is how many goals the path limit has room for below `goal`.
 #[cycle(search)]
 fn extend_among(
     alloc: Global,
@@ -103,19 +103,19 @@ fn extend_among(
     places: &[Place],
     goal: Literal,
     path: &Path,
-    left: u8,
-    noted: &mut Noted,
+    room: u8,
+    used: &mut UsedClauses,
 ) -> Result<Outcome, NoMemory>
     requires is_new { list_any (literal_eq (the_literal goal)) (the_path path.now) ≡ false }
     requires sound { AllByRecursion (IsAt matrix.now (complement (the_literal goal))) places.now }
-    ensures extends { IfOk result (λ _. Extends noted.old noted.new) }
+    ensures extends { IfOk result (λ _. Extends used.old used.new) }
     ensures outcome { IfOk result (λ o. (P : tree.Problem) (d : ℕ) → IsMatrix P matrix.now
-        → d ≡ left + length (the_literal goal ∷ the_path path.now)
-        → PlacesOutcome P matrix.now noted.new d (the_path path.now) (the_literal goal) places.now o) }
+        → d ≡ room + length (the_literal goal ∷ the_path path.now)
+        → PlacesOutcome P matrix.now used.new d (the_path path.now) (the_literal goal) places.now o) }
 {
     let mut limited = false;
     for place in places {
-        match extend_at(alloc, matrix, *place, goal, path, left, noted)? {
+        match extend_at(alloc, matrix, *place, goal, path, room, used)? {
             Outcome::Closed => return Ok(Outcome::Closed),
             Outcome::Limited => limited = true,
             Outcome::Open => {}
@@ -128,7 +128,7 @@ fn extend_among(
     }
 }
 
-// Notes the clause where its other literals are closed.
+// The clause is used where its other literals are closed.
 #[cycle(search)]
 fn extend_at(
     alloc: Global,
@@ -136,17 +136,17 @@ fn extend_at(
     place: Place,
     goal: Literal,
     path: &Path,
-    left: u8,
-    noted: &mut Noted,
+    room: u8,
+    used: &mut UsedClauses,
 ) -> Result<Outcome, NoMemory>
     requires { IsAt matrix.now (complement (the_literal goal)) place }
-    ensures extends { IfOk result (λ _. Extends noted.old noted.new) }
-    ensures noted { IfOk result (λ o. o ≡ Outcome.Closed → Contains noted.new place.clause) }
+    ensures extends { IfOk result (λ _. Extends used.old used.new) }
+    ensures used { IfOk result (λ o. o ≡ Outcome.Closed → Contains used.new place.clause) }
     ensures outcome { IfOk result (λ o. (P : tree.Problem) (d : ℕ) → IsMatrix P matrix.now
-        → d ≡ left + length (the_literal goal ∷ the_path path.now)
-        → GoalsOutcome P matrix.now noted.new d (the_literal goal ∷ the_path path.now) (others_at matrix.now place) o) }
+        → d ≡ room + length (the_literal goal ∷ the_path path.now)
+        → GoalsOutcome P matrix.now used.new d (the_literal goal ∷ the_path path.now) (others_at matrix.now place) o) }
 {
-    let mark = noted.numbers().len();
+    let kept = used.numbers().len();
     let clause = matrix.clause(place.clause);
     let below = Path::Below(goal, &*path);
     let outcome = solve_others(
@@ -155,20 +155,20 @@ fn extend_at(
         &clause.literals,
         place.literal,
         &below,
-        left,
-        noted,
+        room,
+        used,
     )?;
     match outcome {
         Outcome::Closed => {
-            noted.add(place.clause)?;
+            used.add(place.clause)?;
             Ok(Outcome::Closed)
         }
         Outcome::Limited => {
-            noted.truncate(mark);
+            used.truncate(kept);
             Ok(Outcome::Limited)
         }
         Outcome::Open => {
-            noted.truncate(mark);
+            used.truncate(kept);
             Ok(Outcome::Open)
         }
     }
@@ -182,20 +182,20 @@ fn solve_others(
     literals: &[Literal],
     place: usize,
     path: &Path,
-    left: u8,
-    noted: &mut Noted,
+    room: u8,
+    used: &mut UsedClauses,
 ) -> Result<Outcome, NoMemory>
     requires { place < length literals.now }
-    ensures extends { IfOk result (λ _. Extends noted.old noted.new) }
+    ensures extends { IfOk result (λ _. Extends used.old used.new) }
     ensures outcome { IfOk result (λ o. (P : tree.Problem) (d : ℕ) → IsMatrix P matrix.now
-        → d ≡ left + length (the_path path.now)
-        → GoalsOutcome P matrix.now noted.new d (the_path path.now) (remove (map the_literal literals.now) place) o) }
+        → d ≡ room + length (the_path path.now)
+        → GoalsOutcome P matrix.now used.new d (the_path path.now) (remove (map the_literal literals.now) place) o) }
 {
     let before = &literals[..place];
     let after = &literals[place + 1..];
-    match solve_all(alloc, matrix, before, path, left, noted)? {
+    match solve_all(alloc, matrix, before, path, room, used)? {
         Outcome::Closed => {
-            let outcome = solve_all(alloc, matrix, after, path, left, noted)?;
+            let outcome = solve_all(alloc, matrix, after, path, room, used)?;
             Ok(outcome)
         }
         Outcome::Limited => Ok(Outcome::Limited),

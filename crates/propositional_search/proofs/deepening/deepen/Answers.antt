@@ -8,7 +8,7 @@ pub loop-below-init : goal.loop-below-init
 loop-below-init c = none-within_0 c.args.problem.now c.args.matrix.now c.requires.own_matrix
 
 pub loop-below-preserved : goal.loop-below-preserved
-loop-below-preserved c = starts-are Limited c.args.problem.now c.args.matrix.now c.start.new.noted (c.loop-below.below + 1) c.in_ok-start.field-0 c.in-Limited.is (c.in_ok-start.ensures c.args.problem.now c.requires.propositional c.requires.own_matrix)
+loop-below-preserved c = starts-are Limited c.args.problem.now c.args.matrix.now c.start.new.used (c.loop-below.below + 1) c.in_ok-start.field-0 c.in-Limited.is (c.in_ok-start.ensures c.args.problem.now c.requires.propositional c.requires.own_matrix)
 
 pub returns-in-Closed : goal.returns-in-Closed
 returns-in-Closed c =
@@ -19,7 +19,7 @@ returns-in-Closed c =
     record {
       from_one = omega arith;
       to_greatest = omega arith;
-      closed = closed-by P m c.start.new.noted limit c.in_ok-selections-in-Closed.selections.items (rw c.numbers.ensures at c.in_ok-selections-in-Closed.ensures) (starts-are Closed P m c.start.new.noted limit c.in_ok-start.field-0 c.in-Closed.is (c.in_ok-start.ensures P c.requires.propositional c.requires.own_matrix));
+      closed = closed-by P m c.start.new.used limit c.in_ok-selections-in-Closed.selections.items (rw c.numbers.ensures at c.in_ok-selections-in-Closed.ensures) (starts-are Closed P m c.start.new.used limit c.in_ok-start.field-0 c.in-Closed.is (c.in_ok-start.ensures P c.requires.propositional c.requires.own_matrix));
       none_below = subst (λ n. HasClosed P n → ⊥) below c.loop-below.invariant;
     }
 

@@ -1,6 +1,6 @@
 use Rattle.std.proofs.Common.{◌≡◌, ◌≤◌, ℕ, true, false, take, length, vec_len, slice_index_or}
 use Rattle.std.specs.List.{Contains}
-use Rattle.propositional_search.proofs.noted.Noted.truncate.Given as goal
+use Rattle.propositional_search.proofs.used_clauses.UsedClauses.truncate.Given as goal
 
 abbrev pub invariant-removing : goal.invariant-removing
 invariant-removing l = record {

@@ -7,14 +7,14 @@ use cop_base::NoMemory;
 use std::alloc::Global;
 use std::marker::Model;
 
-/// Numbers of clauses, each once, in the order in which they were noted.
+/// Numbers of clauses, each once, in the order in which they were used.
 #[derive(Drop)]
-pub struct Noted {
+pub struct UsedClauses {
     numbers: Vec<usize>,
     seen: Vec<bool>,
 }
 
-impl Model for Noted {
+impl Model for UsedClauses {
     ghost use Rattle.std.specs.Prelude.{◌≡◌, ℕ, List, Contains, true, false, slice_index_or};
 
     ghost Value = { List ℕ };
@@ -24,12 +24,12 @@ impl Model for Noted {
     ghost invariant = { λ n. (k : ℕ) → slice_index_or n.seen.items k false ≡ true → Contains n.numbers.items k };
 }
 
-impl Noted {
-    /// None of this many clauses.
-    pub fn new(alloc: Global, clauses: usize) -> Result<Noted, NoMemory>
+impl UsedClauses {
+    /// No clause, of a matrix with this many.
+    pub fn new(alloc: Global, clauses: usize) -> Result<UsedClauses, NoMemory>
         ensures { IfOk result (λ n. n ≡ []) }
     {
-        Ok(Noted {
+        Ok(UsedClauses {
             numbers: Vec::new(alloc),
             seen: vec![in alloc; false; clauses]?,
         })
@@ -43,7 +43,7 @@ impl Noted {
 
     pub fn add(&mut self, number: usize) -> Result<(), NoMemory>
         ensures extends { IfOk result (λ _. Extends self.old self.new) }
-        ensures noted { IfOk result (λ _. Contains self.new number) }
+        ensures used { IfOk result (λ _. Contains self.new number) }
     {
         if self.has(number) {
             return Ok(());
