@@ -28,7 +28,7 @@ pub goals-are : (q : Outcome) (P : Problem) (m : List ClauseInstance) (a : List 
 goals-are q P m a d path goals o e h = subst (λ (x : Outcome). GoalsOutcome P m a d path goals x) e h
 
 -- the same path in another form
-pub below-outcome : (P : Problem) (m : List ClauseInstance) (a : List ℕ) (d left : ℕ) (full path goals : List GroundLiteral) (o : Outcome) → full ≡ path → d ≡ left + length path → (d ≡ left + length full → GoalsOutcome P m a d full goals o) → GoalsOutcome P m a d path goals o
+pub below-outcome : (P : Problem) (m : List ClauseInstance) (a : List ℕ) (d room : ℕ) (full path goals : List GroundLiteral) (o : Outcome) → full ≡ path → d ≡ room + length path → (d ≡ room + length full → GoalsOutcome P m a d full goals o) → GoalsOutcome P m a d path goals o
 below-outcome P m a d room full path goals o e q h = subst (λ (xs : List GroundLiteral). GoalsOutcome P m a d xs goals o) e (h (q ∙ sym (ap (λ (xs : List GroundLiteral). room + length xs) e)))
 
 -- ---- the other literals of a clause

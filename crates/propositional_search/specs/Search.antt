@@ -1,5 +1,5 @@
 -- What a search below a path finds.
-use Rattle.std.specs.Prelude.{◌≡◌, ℕ, List, [], ◌∷◌, ◌++◌, Bool, true, false, Some, Contains, IsTrue, slice_get, remove}
+use Rattle.std.specs.Prelude.{◌≡◌, ℕ, ◌+◌, List, [], ◌∷◌, ◌++◌, length, Bool, true, false, Some, Contains, IsTrue, slice_get, remove}
 use Rattle.std.specs.List.{AllByRecursion}
 use Rattle.std.specs.Option.{option_map_or}
 use Rattle.calculus.specs.Syntax.{Problem}
@@ -7,6 +7,7 @@ use Rattle.calculus.specs.Ground.{GroundLiteral}
 use Rattle.calculus.specs.Kinds.{other}
 use Rattle.calculus.specs.Instances.{ClauseInstance}
 use Rattle.calculus.specs.Tableaux.{Closing, Closings, closes, closes_all, instances_below, instances_of_all}
+use Rattle.propositional_search.specs.Matrix.{IsMatrix}
 use Rattle.propositional_search.specs.declared.index.Place.{Place}
 use Rattle.propositional_search.specs.declared.outcome.Outcome.{Outcome}
 use Rattle.propositional_search.specs.declared.outcome.Outcome.TheVariants.{Closed, Limited, Open}
@@ -67,6 +68,16 @@ abbrev pub PlacesOutcome : Problem → List ClauseInstance → List ℕ → ℕ 
 PlacesOutcome P m used d path goal ps Closed = IsGoalClosed P m used d path goal
 PlacesOutcome P m used d path goal ps Limited = AreAllOpen P d (goal ∷ path) m ps
 PlacesOutcome P m used d path goal ps Open = (e : ℕ) → AreAllOpen P e (goal ∷ path) m ps
+
+-- the outcome is right for each problem whose matrix this is, within the limit that has room for so many goals more below the path
+abbrev pub GoalFound : List ClauseInstance → List ℕ → ℕ → List GroundLiteral → GroundLiteral → Outcome → Type 0
+GoalFound m used room path goal o = (P : Problem) (d : ℕ) → IsMatrix P m → d ≡ room + length path → GoalOutcome P m used d path goal o
+
+abbrev pub GoalsFound : List ClauseInstance → List ℕ → ℕ → List GroundLiteral → List GroundLiteral → Outcome → Type 0
+GoalsFound m used room path goals o = (P : Problem) (d : ℕ) → IsMatrix P m → d ≡ room + length path → GoalsOutcome P m used d path goals o
+
+abbrev pub PlacesFound : List ClauseInstance → List ℕ → ℕ → List GroundLiteral → GroundLiteral → List Place → Outcome → Type 0
+PlacesFound m used room path goal ps o = (P : Problem) (d : ℕ) → IsMatrix P m → d ≡ room + length (goal ∷ path) → PlacesOutcome P m used d path goal ps o
 
 -- nothing is lost
 abbrev pub Extends : List ℕ → List ℕ → Type 0

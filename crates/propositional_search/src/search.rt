@@ -1,14 +1,12 @@
 //! The connection search below a goal: regularity, reduction and extension, by plain recursion.
 
-ghost use Rattle.std.specs.Prelude.{◌≡◌, ℕ, ◌+◌, ◌<◌, ◌∷◌, false, Contains, IfOk, length, map, remove};
+ghost use Rattle.std.specs.Prelude.{◌≡◌, ◌<◌, ◌∷◌, false, Contains, IfOk, length, map, remove};
 ghost use Rattle.std.specs.List.{AllByRecursion, list_any};
 ghost use Rattle.calculus.specs.Equality.{literal_eq};
-ghost use Rattle.calculus.specs.Syntax as tree;
 ghost use Rattle.propositional_search.specs.ClauseView.{the_literal};
-ghost use Rattle.propositional_search.specs.Matrix.{IsMatrix};
 ghost use Rattle.propositional_search.specs.PathView.{the_path};
 ghost use Rattle.propositional_search.specs.Places.{IsAt};
-ghost use Rattle.propositional_search.specs.Search.{Extends, GoalOutcome, GoalsOutcome, PlacesOutcome, complement, others_at};
+ghost use Rattle.propositional_search.specs.Search.{Extends, GoalFound, GoalsFound, PlacesFound, complement, others_at};
 
 use crate::clause::Literal;
 use crate::index::Place;
@@ -30,9 +28,7 @@ pub fn solve_all(
     used: &mut UsedClauses,
 ) -> Result<Outcome, NoMemory>
     ensures extends { IfOk result (λ _. Extends used.old used.new) }
-    ensures outcome { IfOk result (λ o. (P : tree.Problem) (d : ℕ) → IsMatrix P matrix.now
-        → d ≡ room + length (the_path path.now)
-        → GoalsOutcome P matrix.now used.new d (the_path path.now) (map the_literal goals.now) o) }
+    ensures outcome { IfOk result (GoalsFound matrix.now used.new room (the_path path.now) (map the_literal goals.now)) }
 {
     for goal in goals {
         match solve(alloc, matrix, *goal, path, room, used)? {
@@ -55,9 +51,7 @@ fn solve(
     used: &mut UsedClauses,
 ) -> Result<Outcome, NoMemory>
     ensures extends { IfOk result (λ _. Extends used.old used.new) }
-    ensures outcome { IfOk result (λ o. (P : tree.Problem) (d : ℕ) → IsMatrix P matrix.now
-        → d ≡ room + length (the_path path.now)
-        → GoalOutcome P matrix.now used.new d (the_path path.now) (the_literal goal) o) }
+    ensures outcome { IfOk result (GoalFound matrix.now used.new room (the_path path.now) (the_literal goal)) }
 {
     if path.has(goal) {
         return Ok(Outcome::Open);
@@ -80,9 +74,7 @@ fn extend(
     requires is_new { list_any (literal_eq (the_literal goal)) (the_path path.now) ≡ false }
     requires not_reduced { list_any (literal_eq (complement (the_literal goal))) (the_path path.now) ≡ false }
     ensures extends { IfOk result (λ _. Extends used.old used.new) }
-    ensures outcome { IfOk result (λ o. (P : tree.Problem) (d : ℕ) → IsMatrix P matrix.now
-        → d ≡ room + length (the_path path.now)
-        → GoalOutcome P matrix.now used.new d (the_path path.now) (the_literal goal) o) }
+    ensures outcome { IfOk result (GoalFound matrix.now used.new room (the_path path.now) (the_literal goal)) }
 {
     let places = matrix.places(goal.complement());
     if places.is_empty() {
@@ -109,9 +101,7 @@ fn extend_among(
     requires is_new { list_any (literal_eq (the_literal goal)) (the_path path.now) ≡ false }
     requires sound { AllByRecursion (IsAt matrix.now (complement (the_literal goal))) places.now }
     ensures extends { IfOk result (λ _. Extends used.old used.new) }
-    ensures outcome { IfOk result (λ o. (P : tree.Problem) (d : ℕ) → IsMatrix P matrix.now
-        → d ≡ room + length (the_literal goal ∷ the_path path.now)
-        → PlacesOutcome P matrix.now used.new d (the_path path.now) (the_literal goal) places.now o) }
+    ensures outcome { IfOk result (PlacesFound matrix.now used.new room (the_path path.now) (the_literal goal) places.now) }
 {
     let mut limited = false;
     for place in places {
@@ -142,9 +132,8 @@ fn extend_at(
     requires { IsAt matrix.now (complement (the_literal goal)) place }
     ensures extends { IfOk result (λ _. Extends used.old used.new) }
     ensures used { IfOk result (λ o. o ≡ Outcome.Closed → Contains used.new place.clause) }
-    ensures outcome { IfOk result (λ o. (P : tree.Problem) (d : ℕ) → IsMatrix P matrix.now
-        → d ≡ room + length (the_literal goal ∷ the_path path.now)
-        → GoalsOutcome P matrix.now used.new d (the_literal goal ∷ the_path path.now) (others_at matrix.now place) o) }
+    ensures outcome { IfOk result (GoalsFound matrix.now used.new room (the_literal goal ∷ the_path path.now)
+        (others_at matrix.now place)) }
 {
     let kept = used.numbers().len();
     let clause = matrix.clause(place.clause);
@@ -187,9 +176,8 @@ fn solve_others(
 ) -> Result<Outcome, NoMemory>
     requires { place < length literals.now }
     ensures extends { IfOk result (λ _. Extends used.old used.new) }
-    ensures outcome { IfOk result (λ o. (P : tree.Problem) (d : ℕ) → IsMatrix P matrix.now
-        → d ≡ room + length (the_path path.now)
-        → GoalsOutcome P matrix.now used.new d (the_path path.now) (remove (map the_literal literals.now) place) o) }
+    ensures outcome { IfOk result (GoalsFound matrix.now used.new room (the_path path.now)
+        (remove (map the_literal literals.now) place)) }
 {
     let before = &literals[..place];
     let after = &literals[place + 1..];
