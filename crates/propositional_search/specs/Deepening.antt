@@ -17,11 +17,11 @@ pub record IsLeast (P : Problem) (greatest limit : ℕ) (selections : List (List
   pub from_one : 1 ≤ limit
   pub to_greatest : limit ≤ greatest
   pub closed : IsClosedBy P limit selections
-  pub none_below : HasClosed P (limit - 1) → ⊥
+  pub none_below : ¬ HasClosed P (limit - 1)
 
 abbrev pub IsAnswer : Problem → ℕ → Answer → Type 0
 IsAnswer P greatest (Closed limit selections) = IsLeast P greatest limit selections.items
-IsAnswer P greatest Exhausted = HasClosed P greatest → ⊥
+IsAnswer P greatest Exhausted = ¬ HasClosed P greatest
 
 -- some tableau is closed, by clauses that are used
 pub record IsClosedUsing (P : Problem) (m : List ClauseInstance) (used : List ℕ) (d : ℕ) : Type 0 where
@@ -41,5 +41,5 @@ StartOutcome P m used d k outcome.Open = (i : ClauseInstance) → slice_get m k 
 
 abbrev pub StartsOutcome : Problem → List ClauseInstance → List ℕ → ℕ → Outcome → Type 0
 StartsOutcome P m used d outcome.Closed = IsClosedUsing P m used d
-StartsOutcome P m used d outcome.Limited = HasClosed P d → ⊥
-StartsOutcome P m used d outcome.Open = (e : ℕ) → HasClosed P e → ⊥
+StartsOutcome P m used d outcome.Limited = ¬ HasClosed P d
+StartsOutcome P m used d outcome.Open = (e : ℕ) → ¬ HasClosed P e

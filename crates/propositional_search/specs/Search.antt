@@ -34,10 +34,10 @@ pub record AreGoalsClosed (P : Problem) (m : List ClauseInstance) (used : List �
 
 -- nothing closes the goal within the limit
 abbrev pub IsGoalOpen : Problem → ℕ → List GroundLiteral → GroundLiteral → Type 0
-IsGoalOpen P d path goal = (c : Closing) → IsTrue (closes P d path goal c) → ⊥
+IsGoalOpen P d path goal = (c : Closing) → ¬ IsTrue (closes P d path goal c)
 
 abbrev pub AreGoalsOpen : Problem → ℕ → List GroundLiteral → List GroundLiteral → Type 0
-AreGoalsOpen P d path goals = (cs : Closings) → IsTrue (closes_all P d path goals cs) → ⊥
+AreGoalsOpen P d path goals = (cs : Closings) → ¬ IsTrue (closes_all P d path goals cs)
 
 -- the other literals of the clause at a place
 abbrev pub others_at : List ClauseInstance → Place → List GroundLiteral

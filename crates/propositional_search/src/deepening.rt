@@ -26,7 +26,8 @@ use tableau_core::{Selection, Side};
 /// What a search by iterative deepening found.
 #[derive(Drop)]
 pub enum Answer {
-    /// A tableau is closed within `limit`, which is the least such limit. `selections` name its clauses.
+    /// A tableau is closed within `limit`, which is the least such limit. `selections` name its clauses, the
+    /// start clause last.
     Closed {
         limit: u8,
         selections: Vec<Selection>,

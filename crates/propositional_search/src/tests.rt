@@ -12,6 +12,7 @@ use formula_core::{AddFault, Formula, Symbol, SymbolClass, Symbols, Terms};
 use logic_rules::{Domains, Logic, Problem, Setting};
 use std::alloc::Global;
 use std::test::Fail;
+use tableau_core::Side;
 
 #[derive(Clone, Copy, Debug, PartialEq, Eq)]
 enum Seen {
@@ -51,7 +52,8 @@ fn p_and_q(alloc: Global) -> Result<Symbols, NoMemory>
     Ok(symbols)
 }
 
-fn decide(alloc: Global, formula: Formula, greatest: u8) -> Result<Seen, NoMemory>
+// What deepening answers, or None where the matrix is too large.
+fn answer(alloc: Global, formula: Formula, greatest: u8) -> Result<Option<Answer>, NoMemory>
     requires fits { IsExample (the_formula formula) }
     requires from_one { 1 ≤ greatest }
     requires to_200 { greatest ≤ 200 }
@@ -61,15 +63,27 @@ fn decide(alloc: Global, formula: Formula, greatest: u8) -> Result<Seen, NoMemor
     let problem = Problem::new(setting, formula, symbols);
     let matrix = match build_matrix(alloc, &problem) {
         Ok(matrix) => matrix,
-        Err(MatrixFault::TooLarge) => return Ok(Seen::TooLarge),
+        Err(MatrixFault::TooLarge) => return Ok(None),
         Err(MatrixFault::NoMemory) => return Err(NoMemory),
     };
-    match deepen(alloc, &problem, &matrix, greatest)? {
-        Answer::Closed {
-            limit,
-            selections: _,
-        } => Ok(Seen::Closed(limit)),
-        Answer::Exhausted => Ok(Seen::Exhausted),
+    let answer = deepen(alloc, &problem, &matrix, greatest)?;
+    Ok(Some(answer))
+}
+
+fn decide(alloc: Global, formula: Formula, greatest: u8) -> Result<Seen, NoMemory>
+    requires fits { IsExample (the_formula formula) }
+    requires from_one { 1 ≤ greatest }
+    requires to_200 { greatest ≤ 200 }
+{
+    match answer(alloc, formula, greatest)? {
+        None => Ok(Seen::TooLarge),
+        Some(
+            Answer::Closed {
+                limit,
+                selections: _,
+            },
+        ) => Ok(Seen::Closed(limit)),
+        Some(Answer::Exhausted) => Ok(Seen::Exhausted),
     }
 }
 
@@ -160,6 +174,29 @@ fn closes_at_limit_1(rt: HostRuntime) -> Result<(), Fail> {
         Seen::Closed(1)
     );
     assert_eq!(rt; decide(alloc, peirce(alloc)?, 1)?, Seen::Closed(1));
+    Ok(())
+}
+
+// A clause is used once the goals below it are closed, so the start comes last. No contract refuses further selections.
+#[test]
+fn answers_the_clauses_used(rt: HostRuntime) -> Result<(), Fail> {
+    let alloc = rt.alloc();
+    let mut found = Vec::new(alloc);
+    if let Some(
+        Answer::Closed {
+            limit: _,
+            selections,
+        },
+    ) = answer(alloc, self_implication(alloc)?, 100)?
+    {
+        for selection in selections.iter() {
+            found.push((selection.items().len(), selection.items().first().copied()))?;
+        }
+    }
+    assert_eq!(rt;
+        found.as_slice(),
+        [(1, Some(Side::Left)), (1, Some(Side::Right))].as_slice()
+    );
     Ok(())
 }
 
