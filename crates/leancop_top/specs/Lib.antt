@@ -1,4 +1,4 @@
 pub mod Words
 pub mod Output
-pub mod LineView
+pub mod CommandView
 pub mod Run

@@ -13,7 +13,7 @@ use Rattle.leancop_top.specs.declared.status.Cause.TheVariants.{Unsupported}
 use Rattle.leancop_top.specs.declared.status.Status.{Status}
 use Rattle.leancop_top.specs.declared.status.Status.TheVariants.{Derived, Exhausted, Accepted, Rejected, BadWords, Missing, ReadFault, WriteFault, BadProblem, MatrixTooLarge, NoMemory}
 use Rattle.leancop_top.specs.Output.{status_line}
-use Rattle.leancop_top.specs.Words.{Word, Line, prove, check, bad}
+use Rattle.leancop_top.specs.Words.{Word, Command, prove, check, bad}
 
 -- ---- files
 
@@ -107,7 +107,7 @@ IsJudgingEnd told P derivation NoMemory = ⊤
 IsJudgingEnd told P derivation status = JudgingEnds told P derivation status
 
 -- why a run ends with a status, and with these bytes for a derivation
-abbrev pub Ends : Option Files → Line → Status → List ℕ → Type 0
+abbrev pub Ends : Option Files → Command → Status → List ℕ → Type 0
 Ends told (prove file) status bytes = ReadingEnds told file status ⊎ ((P : Problem) × IsProblemIn told file P × SearchEnds P status bytes)
 Ends told (check file derivation) status bytes = ReadingEnds told file status ⊎ ((P : Problem) × IsProblemIn told file P × JudgingEnds told P derivation status)
 Ends told (bad place) status bytes = status ≡ BadWords place
@@ -117,8 +117,8 @@ abbrev pub IsOutput : Status → List ℕ → Type 0
 IsOutput (Derived limit) bytes = ⊤
 IsOutput status bytes = bytes ≡ status_line status
 
-pub record Answers (told : Option Files) (line : Line) (status : Status) (bytes : List ℕ) : Type 0 where
-  pub ends : Ends told line status bytes
+pub record Answers (told : Option Files) (command : Command) (status : Status) (bytes : List ℕ) : Type 0 where
+  pub ends : Ends told command status bytes
   pub output : IsOutput status bytes
 
 -- a missing file and a file that could not be read have been counted
@@ -130,9 +130,9 @@ IsCounted _ _ _ _ _ = ⊤
 -- ---- what a run ensures
 
 -- why a run ends without a derivation, where memory may end
-abbrev pub EndsWithout : Option Files → Line → Status → Type 0
-EndsWithout told line NoMemory = ⊤
-EndsWithout told line status = (bytes : List ℕ) → Ends told line status bytes
+abbrev pub EndsWithout : Option Files → Command → Status → Type 0
+EndsWithout told command NoMemory = ⊤
+EndsWithout told command status = (bytes : List ℕ) → Ends told command status bytes
 
 -- a fact for each status but the two that say nothing of the problem
 abbrev pub OnAnswer : Status → Type 0 → Type 0
@@ -141,27 +141,27 @@ OnAnswer NoMemory fact = ⊤
 OnAnswer _ fact = fact
 
 -- the output of the status is written
-pub record IsAnswered (told : Option Files) (line : Line) (status : Status) (before after : Option (List ℕ)) : Type 0 where
+pub record IsAnswered (told : Option Files) (command : Command) (status : Status) (before after : Option (List ℕ)) : Type 0 where
   pub bytes : List ℕ
-  pub answers : Answers told line status bytes
+  pub answers : Answers told command status bytes
   pub written : after ≡ with_bytes before bytes
 
 -- writing failed: a prefix of the output of some status, with its counts, is written
-pub record IsCutOff (told : Option Files) (line : Line) (misses misses_after faults faults_after : ℕ) (before after : Option (List ℕ)) : Type 0 where
+pub record IsCutOff (told : Option Files) (command : Command) (misses misses_after faults faults_after : ℕ) (before after : Option (List ℕ)) : Type 0 where
   pub status : Status
   pub bytes : List ℕ
-  pub answers : Answers told line status bytes
+  pub answers : Answers told command status bytes
   pub counted : IsCounted misses misses_after faults faults_after status
   pub length : ℕ
   pub written : after ≡ with_bytes before (take length bytes)
 
 -- the words ask for the judgement of a derivation that the files hold, of a problem that they hold
-pub record IsCheckable (told : Option Files) (line : Line) : Type 0 where
+pub record IsCheckable (told : Option Files) (command : Command) : Type 0 where
   pub files : Files
   pub tells : told ≡ Some files
   pub file : Word
   pub derivation : Word
-  pub asks : line ≡ check file derivation
+  pub asks : command ≡ check file derivation
   pub problem : Problem
   pub text : List ℕ
   pub held : file_in files file ≡ Some text
@@ -177,11 +177,11 @@ IsJudged NoMemory = ⊤
 IsJudged _ = ⊥
 
 -- the words ask for a problem that the files hold, and its matrix is small enough
-pub record IsProvable (told : Option Files) (line : Line) : Type 0 where
+pub record IsProvable (told : Option Files) (command : Command) : Type 0 where
   pub files : Files
   pub tells : told ≡ Some files
   pub file : Word
-  pub asks : line ≡ prove file
+  pub asks : command ≡ prove file
   pub problem : Problem
   pub text : List ℕ
   pub held : file_in files file ≡ Some text

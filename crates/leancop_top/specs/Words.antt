@@ -6,10 +6,10 @@ use Rattle.calculus.specs.Equality.{list_eq}
 abbrev pub Word : Type 0
 Word = List ℕ
 
-pub data Line : Type 0 where
-  prove : Word → Line
-  check : Word → Word → Line
-  bad : ℕ → Line
+pub data Command : Type 0 where
+  prove : Word → Command
+  check : Word → Word → Command
+  bad : ℕ → Command
 
 abbrev pub is : Word → Word → Bool
 is w v = list_eq ◌==◌ w v
@@ -19,18 +19,23 @@ abbrev pub is_operand : Word → Bool
 is_operand [] = false
 is_operand (b ∷ bs) = not (starts_with ◌==◌ (b ∷ bs) (codes "--"))
 
--- a bad word is told by its place, from 1, and a missing one by the place after the last
-abbrev pub prove_line : List Word → Line
-prove_line [] = bad 2
-prove_line (f ∷ []) = if is_operand f then prove f else bad 2
-prove_line (f ∷ w ∷ ws) = if is_operand f then bad 3 else bad 2
+-- `next` takes the operand in front and the words behind it. A bad or missing one is told by its place, from 1
+abbrev pub with_operand : ℕ → List Word → (Word → List Word → Command) → Command
+with_operand place [] next = bad place
+with_operand place (w ∷ ws) next = if is_operand w then next w ws else bad place
 
-abbrev pub check_line : List Word → Line
-check_line [] = bad 2
-check_line (f ∷ []) = if is_operand f then bad 3 else bad 2
-check_line (f ∷ d ∷ []) = if is_operand f then (if is_operand d then check f d else bad 3) else bad 2
-check_line (f ∷ d ∷ w ∷ ws) = if is_operand f then (if is_operand d then bad 4 else bad 3) else bad 2
+-- no word is left
+abbrev pub at_end : ℕ → List Word → Command → Command
+at_end place [] command = command
+at_end place (w ∷ ws) command = bad place
 
-abbrev pub line_of : List Word → Line
-line_of [] = bad 1
-line_of (c ∷ ws) = if is c (codes "prove") then prove_line ws else (if is c (codes "check") then check_line ws else bad 1)
+abbrev pub prove_command : List Word → Command
+prove_command ws = with_operand 2 ws (λ file rest. at_end 3 rest (prove file))
+
+abbrev pub check_command : List Word → Command
+check_command ws = with_operand 2 ws (λ file rest. with_operand 3 rest (λ derivation others.
+    at_end 4 others (check file derivation)))
+
+abbrev pub command_of : List Word → Command
+command_of [] = bad 1
+command_of (c ∷ ws) = if is c (codes "prove") then prove_command ws else (if is c (codes "check") then check_command ws else bad 1)

@@ -5,12 +5,12 @@ ghost use Rattle.calculus.specs.Propositional.{IsPropositional};
 ghost use Rattle.cop_base.specs.Outside.{Rose};
 ghost use Rattle.leancop_top.specs.Output.{status_line};
 ghost use Rattle.leancop_top.specs.Run.{Answers, Ends, EndsWithout, IsAnswered, IsCounted, IsCheckable, IsCutOff, IsDecided, IsJudged, IsJudgingEnd, IsProblemIn, IsProvable, IsRefused, OnAnswer};
-ghost use Rattle.leancop_top.specs.Words.{line_of};
+ghost use Rattle.leancop_top.specs.Words.{command_of};
 
 use crate::output::status_line;
 use crate::prove::{Proof, prove};
 use crate::status::{Cause, Status};
-use crate::words::{Line, line_of};
+use crate::words::{Command, command_of};
 use crate::writing::put_all;
 use cop_base::{FetchFault, Library, NoMemory, PutFault, Sink, Text};
 use derivation_check::{Verdict, check};
@@ -85,18 +85,18 @@ fn decide<L: Library>(alloc: Global, words: &[String], lib: &mut L) -> Result<Pr
     ensures same_files { L.holds lib.new ≡ L.holds lib.old }
     ensures more_faults { L.faults lib.old ≤ L.faults lib.new }
     ensures more_misses { L.misses lib.old ≤ L.misses lib.new }
-    ensures proved { IfOk result (λ p. Ends (L.holds lib.old) (line_of (map string_bytes words.now))
+    ensures proved { IfOk result (λ p. Ends (L.holds lib.old) (command_of (map string_bytes words.now))
         (Status.Derived p.limit) p.text.items) }
-    ensures ended { IfErr result (λ s. EndsWithout (L.holds lib.old) (line_of (map string_bytes words.now)) s) }
+    ensures ended { IfErr result (λ s. EndsWithout (L.holds lib.old) (command_of (map string_bytes words.now)) s) }
     ensures counted { IfErr result (λ s. IsCounted (L.misses lib.old) (L.misses lib.new) (L.faults lib.old) (L.faults lib.new) s) }
 {
-    match line_of(words) {
-        Line::Bad { place } => Err(Status::BadWords { place }),
-        Line::Prove { file } => match read_problem(alloc, lib, file) {
+    match command_of(words) {
+        Command::Bad { place } => Err(Status::BadWords { place }),
+        Command::Prove { file } => match read_problem(alloc, lib, file) {
             Ok(problem) => prove(alloc, &problem),
             Err(status) => Err(status),
         },
-        Line::Check { file, derivation } => match read_problem(alloc, lib, file) {
+        Command::Check { file, derivation } => match read_problem(alloc, lib, file) {
             Ok(problem) => Err(judge_file(alloc, lib, &problem, derivation)),
             Err(status) => Err(status),
         },
@@ -114,7 +114,7 @@ fn answer<L: Library>(alloc: Global, words: &[String], lib: &mut L) -> Result<Re
     ensures same_files { L.holds lib.new ≡ L.holds lib.old }
     ensures more_faults { L.faults lib.old ≤ L.faults lib.new }
     ensures more_misses { L.misses lib.old ≤ L.misses lib.new }
-    ensures answers { IfOk result (λ r. Answers (L.holds lib.old) (line_of (map string_bytes words.now)) r.status r.output.items) }
+    ensures answers { IfOk result (λ r. Answers (L.holds lib.old) (command_of (map string_bytes words.now)) r.status r.output.items) }
     ensures counted { IfOk result (λ r. IsCounted (L.misses lib.old) (L.misses lib.new) (L.faults lib.old) (L.faults lib.new) r.status) }
 {
     match decide(alloc, words, lib) {
@@ -138,11 +138,11 @@ pub fn run<L: Library, K: Sink>(
     lib: &mut L,
     out: &mut K,
 ) -> Status
-    ensures answered { OnAnswer result (IsAnswered (L.holds lib.old) (line_of (map string_bytes words.now.items)) result
+    ensures answered { OnAnswer result (IsAnswered (L.holds lib.old) (command_of (map string_bytes words.now.items)) result
         (K.written out.old) (K.written out.new)) }
     ensures counted { IsCounted (L.misses lib.old) (L.misses lib.new) (L.faults lib.old) (L.faults lib.new) result }
     ensures write_fault { result ≡ Status.WriteFault → Rose (K.faults out.old) (K.faults out.new) }
-    ensures cut_off { result ≡ Status.WriteFault → IsCutOff (L.holds lib.old) (line_of (map string_bytes words.now.items))
+    ensures cut_off { result ≡ Status.WriteFault → IsCutOff (L.holds lib.old) (command_of (map string_bytes words.now.items))
         (L.misses lib.old) (L.misses lib.new) (L.faults lib.old) (L.faults lib.new) (K.written out.old) (K.written out.new) }
     ensures no_memory { result ≡ Status.NoMemory → K.written out.new ≡ K.written out.old }
 
@@ -154,9 +154,9 @@ pub fn run<L: Library, K: Sink>(
 
     // Where no stream fails, a problem that the files hold is decided, unless memory ends.
     ensures complete { ¬ Rose (L.faults lib.old) (L.faults lib.new) → ¬ Rose (K.faults out.old) (K.faults out.new)
-        → IsProvable (L.holds lib.old) (line_of (map string_bytes words.now.items)) → IsDecided result }
+        → IsProvable (L.holds lib.old) (command_of (map string_bytes words.now.items)) → IsDecided result }
     ensures judged { ¬ Rose (L.faults lib.old) (L.faults lib.new) → ¬ Rose (K.faults out.old) (K.faults out.new)
-        → IsCheckable (L.holds lib.old) (line_of (map string_bytes words.now.items)) → IsJudged result }
+        → IsCheckable (L.holds lib.old) (command_of (map string_bytes words.now.items)) → IsJudged result }
 {
     match answer(alloc, words.as_slice(), lib) {
         Ok(reply) => match put_all(out, reply.output.as_slice()) {

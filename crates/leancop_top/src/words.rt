@@ -1,11 +1,11 @@
 //! The words of a run.
 
-ghost use Rattle.std.specs.Prelude.{◌≡◌, map, string_bytes};
-ghost use Rattle.leancop_top.specs.Words.{check_line, is_operand, line_of, prove_line};
-ghost use Rattle.leancop_top.specs.LineView.{the_line};
+ghost use Rattle.std.specs.Prelude.{◌≡◌, ◌∷◌, ℕ, IsNone, IfSome, IsTrue, map, string_bytes};
+ghost use Rattle.leancop_top.specs.Words.{bad, check_command, command_of, is_operand, prove_command, with_operand};
+ghost use Rattle.leancop_top.specs.CommandView.{the_command};
 
 /// What the words ask for, or the place of the bad or missing word, from 1.
-pub enum Line<'a> {
+pub enum Command<'a> {
     Prove { file: &'a str },
     Check { file: &'a str, derivation: &'a str },
     Bad { place: u64 },
@@ -15,69 +15,59 @@ pub enum Line<'a> {
 fn is_operand(word: &str) -> bool
     ensures { result ≡ is_operand word.now }
 {
-    !word.is_empty() && !word.as_bytes().starts_with(b"--".as_slice())
+    !word.is_empty() && !word.as_bytes().starts_with(b"--")
 }
 
-fn prove_line(operands: &[String]) -> Line<'_>
-    ensures { the_line result ≡ prove_line (map string_bytes operands.now) }
+// The operand in front, and the words behind it.
+fn take_operand(words: &[String]) -> Option<(&str, &[String])>
+    ensures taken { IfSome result (λ r. IsTrue (is_operand r.0.now)
+        × (map string_bytes words.now ≡ r.0.now ∷ map string_bytes r.1.now)) }
+    ensures none { IsNone result → (place : ℕ) (next : _)
+        → with_operand place (map string_bytes words.now) next ≡ bad place }
 {
-    match operands {
-        [] => Line::Bad { place: 2 },
-        [file, others @ ..] => {
-            let file = file.as_str();
-            if !is_operand(file) {
-                return Line::Bad { place: 2 };
-            }
-            if !others.is_empty() {
-                return Line::Bad { place: 3 };
-            }
-            Line::Prove { file }
-        }
+    match words {
+        [word, rest @ ..] if is_operand(word.as_str()) => Some((word.as_str(), rest)),
+        _ => None,
     }
 }
 
-fn check_line(operands: &[String]) -> Line<'_>
-    ensures { the_line result ≡ check_line (map string_bytes operands.now) }
+fn prove_command(operands: &[String]) -> Command<'_>
+    ensures { the_command result ≡ prove_command (map string_bytes operands.now) }
 {
-    match operands {
-        [] => Line::Bad { place: 2 },
-        [file, others @ ..] => {
-            let file = file.as_str();
-            if !is_operand(file) {
-                return Line::Bad { place: 2 };
-            }
-            match others {
-                [] => Line::Bad { place: 3 },
-                [derivation, more @ ..] => {
-                    let derivation = derivation.as_str();
-                    if !is_operand(derivation) {
-                        return Line::Bad { place: 3 };
-                    }
-                    if !more.is_empty() {
-                        return Line::Bad { place: 4 };
-                    }
-                    Line::Check { file, derivation }
-                }
-            }
-        }
+    let Some((file, rest)) = take_operand(operands) else {
+        return Command::Bad { place: 2 };
+    };
+    if !rest.is_empty() {
+        return Command::Bad { place: 3 };
     }
+    Command::Prove { file }
+}
+
+fn check_command(operands: &[String]) -> Command<'_>
+    ensures { the_command result ≡ check_command (map string_bytes operands.now) }
+{
+    let Some((file, rest)) = take_operand(operands) else {
+        return Command::Bad { place: 2 };
+    };
+    let Some((derivation, rest)) = take_operand(rest) else {
+        return Command::Bad { place: 3 };
+    };
+    if !rest.is_empty() {
+        return Command::Bad { place: 4 };
+    }
+    Command::Check { file, derivation }
 }
 
 /// Words are judged from left to right, and the first bad one is told.
-pub fn line_of(words: &[String]) -> Line<'_>
-    ensures { the_line result ≡ line_of (map string_bytes words.now) }
+pub fn command_of(words: &[String]) -> Command<'_>
+    ensures { the_command result ≡ command_of (map string_bytes words.now) }
 {
     match words {
-        [] => Line::Bad { place: 1 },
-        [command, operands @ ..] => {
-            let command = command.as_bytes();
-            if command == b"prove".as_slice() {
-                prove_line(operands)
-            } else if command == b"check".as_slice() {
-                check_line(operands)
-            } else {
-                Line::Bad { place: 1 }
-            }
-        }
+        [] => Command::Bad { place: 1 },
+        [command, operands @ ..] => match command.as_str() {
+            "prove" => prove_command(operands),
+            "check" => check_command(operands),
+            _ => Command::Bad { place: 1 },
+        },
     }
 }
