@@ -1,11 +1,11 @@
 //! A run of the program.
 
-ghost use Rattle.std.specs.Prelude.{◌≡◌, ◌≤◌, Err, IfOk, IfErr, map, string_bytes};
+ghost use Rattle.std.specs.Prelude.{◌≡◌, ◌≤◌, Err, IfOk, IfErr, Option, map, string_bytes};
 ghost use Rattle.calculus.specs.Propositional.{IsPropositional};
-ghost use Rattle.cop_base.specs.Outside.{Rose};
+ghost use Rattle.cop_base.specs.Outside.{Files, Rose};
 ghost use Rattle.leancop_top.specs.Output.{status_line};
 ghost use Rattle.leancop_top.specs.Run.{Answers, Ends, EndsWithout, IsAnswered, IsCounted, IsCheckable, IsCutOff, IsDecided, IsJudged, IsJudgingEnd, IsProblemIn, IsProvable, IsRefused, OnAnswer};
-ghost use Rattle.leancop_top.specs.Words.{command_of};
+ghost use Rattle.leancop_top.specs.Words.{check, command_of, prove};
 
 use crate::output::status_line;
 use crate::prove::{Proof, prove};
@@ -80,26 +80,31 @@ fn judge_file<L: Library>(alloc: Global, lib: &mut L, problem: &Problem, derivat
     }
 }
 
-// The proof that the words ask for, or the status that a run without one ends with.
-fn decide<L: Library>(alloc: Global, words: &[String], lib: &mut L) -> Result<Proof, Status>
+// The proof for the problem of a file, or the status that a run without one ends with.
+fn prove_file<L: Library>(alloc: Global, lib: &mut L, file: &str) -> Result<Proof, Status>
     ensures same_files { L.holds lib.new ≡ L.holds lib.old }
     ensures more_faults { L.faults lib.old ≤ L.faults lib.new }
     ensures more_misses { L.misses lib.old ≤ L.misses lib.new }
-    ensures proved { IfOk result (λ p. Ends (L.holds lib.old) (command_of (map string_bytes words.now))
-        (Status.Derived p.limit) p.text.items) }
-    ensures ended { IfErr result (λ s. EndsWithout (L.holds lib.old) (command_of (map string_bytes words.now)) s) }
+    ensures proved { IfOk result (λ p. Ends (L.holds lib.old) (prove file.now) (Status.Derived p.limit) p.text.items) }
+    ensures ended { IfErr result (λ s. EndsWithout (L.holds lib.old) (prove file.now) s) }
     ensures counted { IfErr result (λ s. IsCounted (L.misses lib.old) (L.misses lib.new) (L.faults lib.old) (L.faults lib.new) s) }
 {
-    match command_of(words) {
-        Command::Bad { place } => Err(Status::BadWords { place }),
-        Command::Prove { file } => match read_problem(alloc, lib, file) {
-            Ok(problem) => prove(alloc, &problem),
-            Err(status) => Err(status),
-        },
-        Command::Check { file, derivation } => match read_problem(alloc, lib, file) {
-            Ok(problem) => Err(judge_file(alloc, lib, &problem, derivation)),
-            Err(status) => Err(status),
-        },
+    match read_problem(alloc, lib, file) {
+        Ok(problem) => prove(alloc, &problem),
+        Err(status) => Err(status),
+    }
+}
+
+fn check_files<L: Library>(alloc: Global, lib: &mut L, file: &str, derivation: &str) -> Status
+    ensures same_files { L.holds lib.new ≡ L.holds lib.old }
+    ensures more_faults { L.faults lib.old ≤ L.faults lib.new }
+    ensures more_misses { L.misses lib.old ≤ L.misses lib.new }
+    ensures ended { EndsWithout (L.holds lib.old) (check file.now derivation.now) result }
+    ensures counted { IsCounted (L.misses lib.old) (L.misses lib.new) (L.faults lib.old) (L.faults lib.new) result }
+{
+    match read_problem(alloc, lib, file) {
+        Ok(problem) => judge_file(alloc, lib, &problem, derivation),
+        Err(status) => status,
     }
 }
 
@@ -110,6 +115,19 @@ struct Reply {
     output: Vec<u8>,
 }
 
+// The reply that has no derivation.
+fn status_reply(alloc: Global, status: Status) -> Result<Reply, NoMemory>
+    ensures same { IfOk result (λ r. r.status ≡ status) }
+    ensures answers { (told : Option Files) (command : _) → EndsWithout told command status
+        → IfOk result (λ r. Answers told command r.status r.output.items) }
+{
+    if let Status::NoMemory = status {
+        return Err(NoMemory);
+    }
+    let output = status_line(alloc, &status)?;
+    Ok(Reply { status, output })
+}
+
 fn answer<L: Library>(alloc: Global, words: &[String], lib: &mut L) -> Result<Reply, NoMemory>
     ensures same_files { L.holds lib.new ≡ L.holds lib.old }
     ensures more_faults { L.faults lib.old ≤ L.faults lib.new }
@@ -117,15 +135,17 @@ fn answer<L: Library>(alloc: Global, words: &[String], lib: &mut L) -> Result<Re
     ensures answers { IfOk result (λ r. Answers (L.holds lib.old) (command_of (map string_bytes words.now)) r.status r.output.items) }
     ensures counted { IfOk result (λ r. IsCounted (L.misses lib.old) (L.misses lib.new) (L.faults lib.old) (L.faults lib.new) r.status) }
 {
-    match decide(alloc, words, lib) {
-        Ok(proof) => Ok(Reply {
-            status: Status::Derived { limit: proof.limit },
-            output: proof.text,
-        }),
-        Err(Status::NoMemory) => Err(NoMemory),
-        Err(status) => {
-            let output = status_line(alloc, &status)?;
-            Ok(Reply { status, output })
+    match command_of(words) {
+        Command::Bad { place } => status_reply(alloc, Status::BadWords { place }),
+        Command::Prove { file } => match prove_file(alloc, lib, file) {
+            Ok(Proof { limit, text }) => Ok(Reply {
+                status: Status::Derived { limit },
+                output: text,
+            }),
+            Err(status) => status_reply(alloc, status),
+        },
+        Command::Check { file, derivation } => {
+            status_reply(alloc, check_files(alloc, lib, file, derivation))
         }
     }
 }
