@@ -61,6 +61,11 @@ pub record IsExhausted (P : Problem) (limit : ℕ) : Type 0 where
 
 -- ---- statuses
 
+-- why a run ends with a status, where memory may end
+abbrev pub OrNoMemory : (Status → Type 0) → Status → Type 0
+OrNoMemory ends NoMemory = ⊤
+OrNoMemory ends status = ends status
+
 -- why reading the problem of a file ends with a status
 abbrev pub ReadingEnds : Option Files → Word → Status → Type 0
 ReadingEnds told file (Missing name) = (name ≡ file) × Lacks told file
@@ -68,24 +73,21 @@ ReadingEnds told file (ReadFault name) = name ≡ file
 ReadingEnds told file (BadProblem name offset cause) = (name ≡ file) × (offset ≡ 0) × (cause ≡ Unsupported) × HoldsNoProblem told file
 ReadingEnds told file _ = ⊥
 
--- the same where memory may end
 abbrev pub IsRefused : Option Files → Word → Status → Type 0
-IsRefused told file NoMemory = ⊤
-IsRefused told file status = ReadingEnds told file status
+IsRefused told file = OrNoMemory (ReadingEnds told file)
 
--- why the search for a derivation of a problem ends with a status and these bytes
+-- why the search for a derivation of a problem ends with a status, and with these bytes for a derivation
+abbrev pub SearchFails : Problem → Status → Type 0
+SearchFails P (Exhausted limit) = IsExhausted P limit
+SearchFails P MatrixTooLarge = ¬ FitsMatrix P
+SearchFails P _ = ⊥
+
 abbrev pub SearchEnds : Problem → Status → List ℕ → Type 0
 SearchEnds P (Derived limit) bytes = IsDerived P limit bytes
-SearchEnds P (Exhausted limit) bytes = IsExhausted P limit
-SearchEnds P MatrixTooLarge bytes = ¬ FitsMatrix P
-SearchEnds P _ bytes = ⊥
+SearchEnds P status bytes = SearchFails P status
 
--- why it ends without a derivation, where memory may end
 abbrev pub IsEnd : Problem → Status → Type 0
-IsEnd P (Exhausted limit) = IsExhausted P limit
-IsEnd P MatrixTooLarge = ¬ FitsMatrix P
-IsEnd P NoMemory = ⊤
-IsEnd P _ = ⊥
+IsEnd P = OrNoMemory (SearchFails P)
 
 -- the file's bytes have this judgement as a derivation of the problem, and no other
 pub record IsJudgedIn (told : Option Files) (P : Problem) (derivation : Word) (verdict : Verdict) : Type 0 where
@@ -101,16 +103,18 @@ JudgingEnds told P derivation (Missing name) = (name ≡ derivation) × Lacks to
 JudgingEnds told P derivation (ReadFault name) = name ≡ derivation
 JudgingEnds told P derivation _ = ⊥
 
--- the same where memory may end
 abbrev pub IsJudgingEnd : Option Files → Problem → Word → Status → Type 0
-IsJudgingEnd told P derivation NoMemory = ⊤
-IsJudgingEnd told P derivation status = JudgingEnds told P derivation status
+IsJudgingEnd told P derivation = OrNoMemory (JudgingEnds told P derivation)
 
 -- why a run ends with a status, and with these bytes for a derivation
 abbrev pub Ends : Option Files → Command → Status → List ℕ → Type 0
 Ends told (prove file) status bytes = ReadingEnds told file status ⊎ ((P : Problem) × IsProblemIn told file P × SearchEnds P status bytes)
 Ends told (check file derivation) status bytes = ReadingEnds told file status ⊎ ((P : Problem) × IsProblemIn told file P × JudgingEnds told P derivation status)
 Ends told (bad place) status bytes = status ≡ BadWords place
+
+-- it ends without a derivation
+abbrev pub EndsWithout : Option Files → Command → Status → Type 0
+EndsWithout told command = OrNoMemory (λ status. (bytes : List ℕ) → Ends told command status bytes)
 
 -- the bytes are those that are written for a status
 abbrev pub IsOutput : Status → List ℕ → Type 0
@@ -128,11 +132,6 @@ IsCounted misses misses_after faults faults_after (ReadFault name) = Rose faults
 IsCounted _ _ _ _ _ = ⊤
 
 -- ---- what a run ensures
-
--- why a run ends without a derivation, where memory may end
-abbrev pub EndsWithout : Option Files → Command → Status → Type 0
-EndsWithout told command NoMemory = ⊤
-EndsWithout told command status = (bytes : List ℕ) → Ends told command status bytes
 
 -- a fact for each status but the two that say nothing of the problem
 abbrev pub OnAnswer : Status → Type 0 → Type 0

@@ -1,5 +1,6 @@
 -- The words of a run: a command and its operands. There are no options, so each word that begins with `--` is bad.
-use Rattle.std.specs.Prelude.{ℕ, List, [], ◌∷◌, Bool, false, not, ◌==◌, codes, if◌then◌else◌}
+use Rattle.std.specs.Prelude.{ℕ, List, [], ◌∷◌, Bool, false, not, ◌==◌, codes, map, String, string_bytes, if◌then◌else◌}
+use Rattle.std.specs.Global.{Global}
 use Rattle.std.specs.List.{starts_with}
 use Rattle.calculus.specs.Equality.{list_eq}
 
@@ -39,3 +40,7 @@ check_command ws = with_operand 2 ws (λ file rest. with_operand 3 rest (λ deri
 abbrev pub command_of : List Word → Command
 command_of [] = bad 1
 command_of (c ∷ ws) = if is c (codes "prove") then prove_command ws else (if is c (codes "check") then check_command ws else bad 1)
+
+-- what the words of a run ask for
+abbrev pub asked : List (String Global) → Command
+asked words = command_of (map string_bytes words)

@@ -1,11 +1,11 @@
 //! A run of the program.
 
-ghost use Rattle.std.specs.Prelude.{◌≡◌, ◌≤◌, Err, IfOk, IfErr, Option, map, string_bytes};
+ghost use Rattle.std.specs.Prelude.{◌≡◌, ◌≤◌, Err, IfOk, IfErr, Option};
 ghost use Rattle.calculus.specs.Propositional.{IsPropositional};
 ghost use Rattle.cop_base.specs.Outside.{Files, Rose};
 ghost use Rattle.leancop_top.specs.Output.{status_line};
 ghost use Rattle.leancop_top.specs.Run.{Answers, Ends, EndsWithout, IsAnswered, IsCounted, IsCheckable, IsCutOff, IsDecided, IsJudged, IsJudgingEnd, IsProblemIn, IsProvable, IsRefused, OnAnswer};
-ghost use Rattle.leancop_top.specs.Words.{check, command_of, prove};
+ghost use Rattle.leancop_top.specs.Words.{asked, check, prove};
 
 use crate::output::status_line;
 use crate::prove::{Proof, prove};
@@ -132,7 +132,7 @@ fn answer<L: Library>(alloc: Global, words: &[String], lib: &mut L) -> Result<Re
     ensures same_files { L.holds lib.new ≡ L.holds lib.old }
     ensures more_faults { L.faults lib.old ≤ L.faults lib.new }
     ensures more_misses { L.misses lib.old ≤ L.misses lib.new }
-    ensures answers { IfOk result (λ r. Answers (L.holds lib.old) (command_of (map string_bytes words.now)) r.status r.output.items) }
+    ensures answers { IfOk result (λ r. Answers (L.holds lib.old) (asked words.now) r.status r.output.items) }
     ensures counted { IfOk result (λ r. IsCounted (L.misses lib.old) (L.misses lib.new) (L.faults lib.old) (L.faults lib.new) r.status) }
 {
     match command_of(words) {
@@ -158,11 +158,11 @@ pub fn run<L: Library, K: Sink>(
     lib: &mut L,
     out: &mut K,
 ) -> Status
-    ensures answered { OnAnswer result (IsAnswered (L.holds lib.old) (command_of (map string_bytes words.now.items)) result
+    ensures answered { OnAnswer result (IsAnswered (L.holds lib.old) (asked words.now.items) result
         (K.written out.old) (K.written out.new)) }
     ensures counted { IsCounted (L.misses lib.old) (L.misses lib.new) (L.faults lib.old) (L.faults lib.new) result }
     ensures write_fault { result ≡ Status.WriteFault → Rose (K.faults out.old) (K.faults out.new) }
-    ensures cut_off { result ≡ Status.WriteFault → IsCutOff (L.holds lib.old) (command_of (map string_bytes words.now.items))
+    ensures cut_off { result ≡ Status.WriteFault → IsCutOff (L.holds lib.old) (asked words.now.items)
         (L.misses lib.old) (L.misses lib.new) (L.faults lib.old) (L.faults lib.new) (K.written out.old) (K.written out.new) }
     ensures no_memory { result ≡ Status.NoMemory → K.written out.new ≡ K.written out.old }
 
@@ -174,9 +174,9 @@ pub fn run<L: Library, K: Sink>(
 
     // Where no stream fails, a problem that the files hold is decided, unless memory ends.
     ensures complete { ¬ Rose (L.faults lib.old) (L.faults lib.new) → ¬ Rose (K.faults out.old) (K.faults out.new)
-        → IsProvable (L.holds lib.old) (command_of (map string_bytes words.now.items)) → IsDecided result }
+        → IsProvable (L.holds lib.old) (asked words.now.items) → IsDecided result }
     ensures judged { ¬ Rose (L.faults lib.old) (L.faults lib.new) → ¬ Rose (K.faults out.old) (K.faults out.new)
-        → IsCheckable (L.holds lib.old) (command_of (map string_bytes words.now.items)) → IsJudged result }
+        → IsCheckable (L.holds lib.old) (asked words.now.items) → IsJudged result }
 {
     match answer(alloc, words.as_slice(), lib) {
         Ok(reply) => match put_all(out, reply.output.as_slice()) {

@@ -1,7 +1,7 @@
 //! The words of a run.
 
 ghost use Rattle.std.specs.Prelude.{◌≡◌, ◌∷◌, ℕ, IsNone, IfSome, IsTrue, map, string_bytes};
-ghost use Rattle.leancop_top.specs.Words.{bad, check_command, command_of, is_operand, prove_command, with_operand};
+ghost use Rattle.leancop_top.specs.Words.{asked, bad, check_command, is_operand, prove_command, with_operand};
 ghost use Rattle.leancop_top.specs.CommandView.{the_command};
 
 /// What the words ask for, or the place of the bad or missing word, from 1.
@@ -60,7 +60,7 @@ fn check_command(operands: &[String]) -> Command<'_>
 
 /// Words are judged from left to right, and the first bad one is told.
 pub fn command_of(words: &[String]) -> Command<'_>
-    ensures { the_command result ≡ command_of (map string_bytes words.now) }
+    ensures { the_command result ≡ asked words.now }
 {
     match words {
         [] => Command::Bad { place: 1 },
