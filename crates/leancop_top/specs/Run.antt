@@ -1,12 +1,12 @@
 -- What a run answers, by its words and by the files that its library tells.
-use Rattle.std.specs.Prelude.{◌≡◌, ◌≤◌, ⊤, ◌-◌, ℕ, List, take, Option, None, Some, IfSome, IsSomeAnd, ◌⊎◌}
+use Rattle.std.specs.Prelude.{◌≡◌, ◌<◌, ◌≤◌, ⊤, ℕ, List, take, Option, None, Some, IfSome, IsSomeAnd, ◌⊎◌}
 use Rattle.cop_base.specs.Outside.{Files, file_in, Rose, with_bytes}
 use Rattle.calculus.specs.Syntax.{Problem}
 use Rattle.calculus.specs.Derivations.{Derivation}
 use Rattle.calculus.specs.Calculus.{Derives}
 use Rattle.calculus.specs.DerivationText.{IsText}
 use Rattle.calculus.specs.Judgement.{Verdict, IsOnlyJudgement, accepted, rejected}
-use Rattle.tableau_core.specs.Closed.{HasClosed}
+use Rattle.calculus.specs.Tableaux.{HasClosed}
 use Rattle.propositional_reader.specs.Reading.{Reads}
 use Rattle.propositional_search.specs.Matrix.{FitsMatrix}
 use Rattle.leancop_top.specs.declared.status.Cause.TheVariants.{Unsupported}
@@ -45,12 +45,12 @@ pub record IsDerivation (P : Problem) (limit : ℕ) (bytes : List ℕ) : Type 0 
   pub text : IsText P derivation bytes
   pub judged : IsOnlyJudgement P bytes accepted
 
--- some tableau is closed within the limit, which is at most the greatest, and none within the one before
+-- some tableau is closed within the limit, which is at most the greatest, and none within a smaller one
 pub record IsDerived (P : Problem) (limit : ℕ) (bytes : List ℕ) : Type 0 where
   pub fits : FitsMatrix P
   pub searched : limit ≤ 100
   pub closed : HasClosed P limit
-  pub least : ¬ HasClosed P (limit - 1)
+  pub least : (e : ℕ) → e < limit → ¬ HasClosed P e
   pub written : IsDerivation P limit bytes
 
 -- no tableau is closed within the greatest limit

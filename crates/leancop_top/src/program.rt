@@ -1,7 +1,9 @@
 //! A run of the program.
 
 ghost use Rattle.std.specs.Prelude.{◌≡◌, ◌≤◌, Err, IfOk, IfErr, Option};
+ghost use Rattle.calculus.specs.ComputedInstances.{ComputesInstances};
 ghost use Rattle.calculus.specs.Propositional.{IsPropositional};
+ghost use Rattle.calculus.specs.Syntax as tree;
 ghost use Rattle.cop_base.specs.Outside.{Files, Rose};
 ghost use Rattle.leancop_top.specs.Output.{status_line};
 ghost use Rattle.leancop_top.specs.Run.{Answers, Ends, EndsWithout, IsAnswered, IsCounted, IsCheckable, IsCutOff, IsDecided, IsJudged, IsJudgingEnd, IsProblemIn, IsProvable, IsRefused, OnAnswer};
@@ -152,6 +154,7 @@ fn answer<L: Library>(alloc: Global, words: &[String], lib: &mut L) -> Result<Re
 
 /// Does all that the program does. `words` are the words after the program's own name. The whole output is built before
 /// the first byte is written.
+#[tactic(auto, using(calculus::proofs::CasesLaws::computes_instances))]
 pub fn run<L: Library, K: Sink>(
     alloc: Global,
     words: &Vec<String>,
@@ -177,6 +180,9 @@ pub fn run<L: Library, K: Sink>(
         → IsProvable (L.holds lib.old) (asked words.now.items) → IsDecided result }
     ensures judged { ¬ Rose (L.faults lib.old) (L.faults lib.new) → ¬ Rose (K.faults out.old) (K.faults out.new)
         → IsCheckable (L.holds lib.old) (asked words.now.items) → IsJudged result }
+
+    // The clauses of tableaux are the instances that the rules define by cases.
+    ensures instances { (P : tree.Problem) → ComputesInstances P }
 {
     match answer(alloc, words.as_slice(), lib) {
         Ok(reply) => match put_all(out, reply.output.as_slice()) {

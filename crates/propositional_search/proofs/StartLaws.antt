@@ -12,9 +12,9 @@ use Rattle.calculus.specs.Ground.{GroundLiteral}
 use Rattle.calculus.specs.Instances.{ClauseInstance}
 use Rattle.calculus.specs.ComputedInstances.{is_allowed_instance}
 use Rattle.calculus.specs.Propositional.{IsPropositional}
-use Rattle.calculus.specs.Tableaux.{Closing, Closings, reduce, extend, no_closings, more_closings, Tableau, is_new_on, is_complement, ancestor, closes, closes_all, instances, has_unbounded_strings, strings_within, total_steps, is_short, is_shown}
+use Rattle.calculus.specs.Tableaux.{Closing, Closings, reduce, extend, no_closings, more_closings, Tableau, is_new_on, is_complement, ancestor, closes, closes_all, instances, has_unbounded_strings, strings_within, total_steps, is_short, is_shown, HasClosed}
 use Rattle.calculus.proofs.GrowthLaws.{closed-parts, extended-parts}
-use Rattle.tableau_core.specs.Closed.{HasClosed, IsClosedBy}
+use Rattle.tableau_core.specs.Closed.{IsClosedBy}
 use Rattle.propositional_search.specs.Matrix.{IsMatrix}
 use Rattle.propositional_search.specs.Search.{AreGoalsClosed, IsUsed, IsToldAt, GoalsOutcome}
 use Rattle.propositional_search.specs.Deepening.{IsClosedUsing, IsStartOpen, StartOutcome, StartsOutcome}

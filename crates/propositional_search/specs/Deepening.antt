@@ -1,11 +1,11 @@
 -- What deepening answers.
-use Rattle.std.specs.Prelude.{◌≡◌, ℕ, ◌-◌, ◌≤◌, List, [], Some, IsTrue, slice_get}
+use Rattle.std.specs.Prelude.{◌≡◌, ℕ, ◌<◌, ◌≤◌, List, [], Some, IsTrue, slice_get}
 use Rattle.std.specs.List.{list_all, AllByRecursion}
 use Rattle.calculus.specs.declared.sign.Side.{Side}
 use Rattle.calculus.specs.Syntax.{Problem}
 use Rattle.calculus.specs.Instances.{ClauseInstance}
-use Rattle.calculus.specs.Tableaux.{Tableau, instances, is_closed, is_shown}
-use Rattle.tableau_core.specs.Closed.{HasClosed, IsClosedBy}
+use Rattle.calculus.specs.Tableaux.{Tableau, instances, HasClosed, is_closed, is_shown}
+use Rattle.tableau_core.specs.Closed.{IsClosedBy}
 use Rattle.propositional_search.specs.Search.{AreGoalsOpen, IsUsed}
 use Rattle.propositional_search.specs.declared.deepening.Answer.{Answer}
 use Rattle.propositional_search.specs.declared.deepening.Answer.TheVariants.{Closed, Exhausted}
@@ -17,7 +17,7 @@ pub record IsLeast (P : Problem) (greatest limit : ℕ) (selections : List (List
   pub from_one : 1 ≤ limit
   pub to_greatest : limit ≤ greatest
   pub closed : IsClosedBy P limit selections
-  pub none_below : ¬ HasClosed P (limit - 1)
+  pub none_below : (e : ℕ) → e < limit → ¬ HasClosed P e
 
 abbrev pub IsAnswer : Problem → ℕ → Answer → Type 0
 IsAnswer P greatest (Closed limit selections) = IsLeast P greatest limit selections.items

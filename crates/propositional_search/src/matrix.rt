@@ -1,6 +1,7 @@
 //! The matrix of a propositional problem.
 
 ghost use Rattle.std.specs.Prelude.{◌≡◌, ◌<◌, Some, IfOk, IsOk, length, slice_get};
+ghost use Rattle.calculus.specs.ComputedInstances.{ComputesInstances};
 ghost use Rattle.calculus.specs.Propositional.{IsPropositional};
 ghost use Rattle.propositional_search.specs.ClauseView.{the_clause, the_literal};
 ghost use Rattle.propositional_search.specs.Matrix.{FitsMatrix, IsMatrix};
@@ -63,11 +64,15 @@ const MOST_LITERALS: u64 = 1000000;
 
 /// The matrix of a propositional problem. A matrix of more than 100,000 clauses or 1,000,000 literals is too large, which
 /// is judged before anything is built.
+#[tactic(auto, using(calculus::proofs::CasesLaws::computes_instances))]
 pub fn build_matrix(alloc: Global, problem: &Problem) -> Result<Matrix, MatrixFault>
     requires { IsPropositional problem.now }
     ensures matrix { IfOk result (λ m. IsMatrix problem.now m) }
     ensures too_large { result ≡ Err MatrixFault.TooLarge → ¬ FitsMatrix problem.now }
     ensures fits { IsOk result → FitsMatrix problem.now }
+
+    // The instances of the matrix are those that the rules define by cases.
+    ensures instances { ComputesInstances problem.now }
 {
     let formula = problem.formula();
     if clause_count(formula, Sign::F, MOST_CLAUSES) > MOST_CLAUSES {

@@ -6,11 +6,6 @@ use Rattle.calculus.specs.Syntax.{Problem}
 use Rattle.calculus.specs.Instances.{ClauseInstance}
 use Rattle.calculus.specs.Tableaux.{Tableau, instances, is_closed}
 
--- some tableau is closed within the path limit
-pub record HasClosed (P : Problem) (limit : ℕ) : Type 0 where
-  pub tableau : Tableau
-  pub closed : IsTrue (is_closed P limit tableau)
-
 -- some tableau is closed within the path limit, all of whose clauses are instances of these selections
 pub record IsClosedBy (P : Problem) (limit : ℕ) (selections : List (List Side)) : Type 0 where
   pub tableau : Tableau

@@ -10,3 +10,6 @@ returns-clause-judgement c =
 
 pub returns-clause-one_reading : goal.returns-clause-one_reading
 returns-clause-one_reading c names s steps rest other first second = same_rest c.args.problem.now names first other second
+
+pub returns-in_err-verdict-clause-one_reading : goal.returns-in_err-verdict-clause-one_reading
+returns-in_err-verdict-clause-one_reading c names s steps rest other first second = same_rest c.args.problem.now names first other second

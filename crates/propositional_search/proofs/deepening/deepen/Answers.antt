@@ -1,5 +1,6 @@
-use Rattle.std.proofs.Common.{◌≡◌, ◌+◌, ◌-◌, subst, arith}
-use Rattle.tableau_core.specs.Closed.{HasClosed}
+use Rattle.std.proofs.Common.{◌≡◌, ◌+◌, subst, arith}
+use Rattle.calculus.specs.Tableaux.{HasClosed}
+use Rattle.calculus.proofs.AnswerLaws.{closed-mono}
 use Rattle.propositional_search.specs.declared.outcome.Outcome.TheVariants.{Closed, Limited}
 use Rattle.propositional_search.proofs.StartLaws.{starts-are, none-within_0, closed-by}
 use Rattle.propositional_search.proofs.deepening.deepen.Goals as goal
@@ -15,12 +16,11 @@ returns-in-Closed c =
     let P = c.args.problem.now in
     let m = c.args.matrix.now in
     let limit = c.loop-below.below + 1 in
-    let below : c.loop-below.below ≡ limit - 1 = omega arith in
     record {
       from_one = omega arith;
       to_greatest = omega arith;
       closed = closed-by P m c.start.new.used limit c.in_ok-selections-in-Closed.selections.items (rw c.numbers.ensures at c.in_ok-selections-in-Closed.ensures) (starts-are Closed P m c.start.new.used limit c.in_ok-start.field-0 c.in-Closed.is (c.in_ok-start.ensures P c.requires.propositional c.requires.own_matrix));
-      none_below = subst (λ n. HasClosed P n → ⊥) below c.loop-below.invariant;
+      none_below = λ e less closed. c.loop-below.invariant (closed-mono P e c.loop-below.below (omega arith) closed);
     }
 
 pub returns : goal.returns

@@ -1,4 +1,4 @@
-use Rattle.tableau_core.specs.Closed.{HasClosed}
+use Rattle.calculus.specs.Tableaux.{HasClosed}
 use Rattle.propositional_search.proofs.deepening.deepen.Given as goal
 
 abbrev pub invariant-loop-below : goal.invariant-loop-below
