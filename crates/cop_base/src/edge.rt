@@ -1,8 +1,7 @@
 //! The trusted edge: files of the runtime, and a writer. Nothing is told of what a file holds or a terminal shows, so
 //! over these two only counts can be relied on.
 
-ghost use Rattle.std.specs.Prelude.{◌≡◌, ◌≢◌, ◌+◌, ◌<◌, ◌≤◌, None, IsTrue, IfOk, IfSome, vec_len};
-ghost use Rattle.std.specs.Bool.{OnFalse};
+ghost use Rattle.std.specs.Prelude.{◌≡◌, ◌≢◌, ◌+◌, ◌<◌, ◌≤◌, None, IfOk, IfSome, length, vec_len};
 ghost use Rattle.cop_base.specs.Memory.{counted};
 
 use crate::library::{FetchFault, Library, count_up};
@@ -36,7 +35,7 @@ impl<'a, R: Files> FileLibrary<'a, R> {
         }
     }
 
-    // There is no such file.
+    // Counts a missing file.
     fn miss(&mut self) -> FetchFault
         ensures fault { result ≡ FetchFault.Missing }
         ensures misses { self.new.misses ≡ counted self.old.misses }
@@ -47,7 +46,7 @@ impl<'a, R: Files> FileLibrary<'a, R> {
         FetchFault::Missing
     }
 
-    // An error other than that there is no such file.
+    // Counts a failed read; want of memory is not counted.
     fn fail(&mut self, error: &io::Error) -> FetchFault
         ensures no_miss { result ≢ FetchFault.Missing }
         ensures no_limit { result ≢ FetchFault.TooLarge }
@@ -62,6 +61,7 @@ impl<'a, R: Files> FileLibrary<'a, R> {
         FetchFault::Failed
     }
 
+    // Counts a file that cannot be opened as missing or as a failed read.
     fn fail_to_open(&mut self, error: &io::Error) -> FetchFault
         ensures no_limit { result ≢ FetchFault.TooLarge }
         ensures missing { result ≡ FetchFault.Missing → self.new.misses ≡ counted self.old.misses }
@@ -76,37 +76,20 @@ impl<'a, R: Files> FileLibrary<'a, R> {
     }
 }
 
-// How many bytes one read asks for.
-const PIECE: usize = 8192;
-
-// Reads the file to its end, or until more than `limit` bytes are read. Each turn takes a byte or ends.
+// The file to its end, or `None` where it has more than `limit` bytes.
 fn read_whole<F: Read>(alloc: Global, file: &mut F, limit: u64) -> io::Result<Option<Vec<u8>>>
     ensures within { IfOk result (λ read. IfSome read (λ bytes. vec_len bytes ≤ limit)) }
-    ensures limited { result ≡ Ok None → limit ≢ 18446744073709551615 }
+    ensures limited { result ≡ Ok None → limit ≢ u64.MAX }
+    ensures whole { IfOk result (λ read. IfSome read (λ bytes. IfSome (F.remaining file.old) (λ all. bytes.items ≡ all))) }
+    ensures more { result ≡ Ok None → IfSome (F.remaining file.old) (λ all. limit < length all) }
 {
     let mut bytes = Vec::new(alloc);
-    let mut piece = [0u8; PIECE];
-    for _ in 0..u64::MAX {
-        let count = file.read(&mut piece)?;
-        if count == 0 {
-            break;
-        }
-        if exceeds(bytes.len() as u64, count as u64, limit) {
-            return Ok(None);
-        }
-        bytes.extend_from_slice(&piece[..count])?;
+    let mut first = file.take(limit.saturating_add(1));
+    first.read_to_end(&mut bytes)?;
+    if bytes.len() as u64 > limit {
+        return Ok(None);
     }
     Ok(Some(bytes))
-}
-
-// Whether so many more bytes are more than the limit, which at its greatest value allows any number.
-fn exceeds(length: u64, more: u64, limit: u64) -> bool
-    requires within { length ≤ limit }
-    requires fits { length + more ≤ 18446744073709551615 }
-    ensures more { IsTrue result → (limit < length + more) × (limit ≢ 18446744073709551615) }
-    ensures within { OnFalse result (length + more ≤ limit) }
-{
-    limit - length < more
 }
 
 impl<'a, R: Files> Library for FileLibrary<'a, R> {
@@ -148,28 +131,13 @@ impl<W: Write + Drop> WriteSink<W> {
     }
 }
 
-// Whether all bytes were written. Each turn writes a byte or ends.
-fn write_whole<W: Write>(writer: &mut W, bytes: &[u8]) -> bool {
-    let mut rest = bytes;
-    for _ in 0..bytes.len() {
-        if rest.is_empty() {
-            break;
-        }
-        match writer.write(rest) {
-            Ok(count) if count > 0 => rest = &rest[count..],
-            _ => return false,
-        }
-    }
-    rest.is_empty()
-}
-
 impl<W: Write + Drop> Sink for WriteSink<W> {
     ghost written = { λ _. None };
 
     ghost faults = { λ s. s.faults };
 
     fn put(&mut self, bytes: &[u8]) -> Result<(), PutFault> {
-        if write_whole(&mut self.writer, bytes) {
+        if self.writer.write_all(bytes).is_ok() {
             return Ok(());
         }
         self.faults = count_up(self.faults);
