@@ -1,7 +1,6 @@
 -- The library and the sink in memory: what each call of theirs does.
-use Rattle.std.specs.Prelude.{◌≡◌, ◌⊎◌, ℕ, ◌+◌, ◌-◌, ◌≤◌, List, [], ◌∷◌, ◌++◌, length, take, min, Bool, ◌||◌, ◌==◌, Option, Some, None, is_some, unwrap_or, nat_lt, if◌then◌else◌, Result, Ok, Err, Vec, IsOkAnd, MatchBool}
+use Rattle.std.specs.Prelude.{◌≡◌, ◌⊎◌, ℕ, ◌+◌, ◌-◌, ◌^◌, List, [], ◌∷◌, ◌++◌, length, take, min, Bool, ◌||◌, ◌==◌, Option, Some, None, is_some, unwrap_or, nat_lt, if◌then◌else◌, Result, Err, Vec, IsOkAnd, MatchBool}
 use Rattle.std.specs.List.{list_any}
-use Rattle.std.specs.Option.{option_map_or}
 use Rattle.std.specs.declared.alloc.Global.{Global}
 use Rattle.cop_base.specs.declared.library.FetchFault.{FetchFault}
 use Rattle.cop_base.specs.declared.library.FetchFault.TheVariants as fault
@@ -9,7 +8,7 @@ use Rattle.cop_base.specs.Outside.{Files, file_in}
 
 -- one more, up to the greatest value of a u64
 abbrev pub counted : ℕ → ℕ
-counted n = min (n + 1) 18446744073709551615
+counted n = min (n + 1) (2 ^ 64 - 1)
 
 -- ---- the library
 

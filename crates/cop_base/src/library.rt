@@ -32,7 +32,7 @@ pub trait Library {
 
     ghost misses: { Self → ℕ };
 
-    /// The bytes of the file of this name, at most `limit` of them.
+    /// The bytes of the file of this name. A file with more than `limit` bytes is `TooLarge`.
     fn fetch(&mut self, name: &Text, limit: u64) -> Result<Vec<u8>, FetchFault>
         ensures same_files { holds self.new ≡ holds self.old }
         ensures more_faults { faults self.old ≤ faults self.new }
@@ -44,7 +44,7 @@ pub trait Library {
         ensures not_held { result ≡ Err FetchFault.Missing → IfSome (holds self.old)
             (λ files. file_in files name.now ≡ None) }
         ensures failed { result ≡ Err FetchFault.Failed → Rose (faults self.old) (faults self.new) }
-        ensures limited { result ≡ Err FetchFault.TooLarge → limit ≢ 18446744073709551615 }
+        ensures limited { result ≡ Err FetchFault.TooLarge → limit ≢ u64.MAX }
         ensures too_large { result ≡ Err FetchFault.TooLarge → IfSome (holds self.old)
             (λ files. IsSomeAnd (file_in files name.now) (λ bytes. limit < length bytes)) };
 }
@@ -139,7 +139,7 @@ impl Library for MemLibrary {
         ensures missing { result ≡ Err FetchFault.Missing → Rose self.old.misses self.new.misses }
         ensures not_held { result ≡ Err FetchFault.Missing → file_in self.old.files name.now ≡ None }
         ensures failed { result ≡ Err FetchFault.Failed → Rose self.old.faults self.new.faults }
-        ensures limited { result ≡ Err FetchFault.TooLarge → limit ≢ 18446744073709551615 }
+        ensures limited { result ≡ Err FetchFault.TooLarge → limit ≢ u64.MAX }
         ensures too_large { result ≡ Err FetchFault.TooLarge
             → IsSomeAnd (file_in self.old.files name.now) (λ bytes. limit < length bytes) }
     {
