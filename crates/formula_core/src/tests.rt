@@ -26,51 +26,38 @@ fn related(alloc: Global, a: Term, b: Term) -> Result<Formula, NoMemory> {
     Ok(Formula::Atom(SymbolId(0), terms))
 }
 
-fn and(alloc: Global, a: Formula, b: Formula) -> Result<Formula, NoMemory> {
-    let a = Box::new(alloc, a)?;
-    let b = Box::new(alloc, b)?;
-    Ok(Formula::And(a, b))
-}
-
 fn either(alloc: Global) -> Result<Formula, NoMemory> {
-    let a = Box::new(alloc, plain(alloc, 0))?;
-    let b = Box::new(alloc, plain(alloc, 1))?;
-    Ok(Formula::Or(a, b))
+    Formula::or(alloc, plain(alloc, 0), plain(alloc, 1))
 }
 
 // `p | q`, `more` + 1 times, joined by `&`.
 fn often(alloc: Global, more: u32) -> Result<Formula, NoMemory> {
     let mut all = either(alloc)?;
     for _ in 0..more {
-        all = and(alloc, all, either(alloc)?)?;
+        all = Formula::and(alloc, all, either(alloc)?)?;
     }
     Ok(all)
 }
 
 // ((p & q) & (p | q))
 fn uneven(alloc: Global) -> Result<Formula, NoMemory> {
-    let both = and(alloc, plain(alloc, 0), plain(alloc, 1))?;
-    and(alloc, both, either(alloc)?)
+    let both = Formula::and(alloc, plain(alloc, 0), plain(alloc, 1))?;
+    Formula::and(alloc, both, either(alloc)?)
 }
 
 // ((p(0,1) & ~[]p(0,e1)) > (!?p(2,f(1,3)) | <>p(0,s2))), where numbers are variables. It is the body of a quantifier.
 fn body(alloc: Global) -> Result<Formula, NoMemory> {
     let first = related(alloc, Term::Var(0), Term::Var(1))?;
     let second = related(alloc, Term::Var(0), Term::Eigen(1))?;
-    let second = Formula::Nec(Box::new(alloc, second)?);
-    let second = Formula::Not(Box::new(alloc, second)?);
-    let given = and(alloc, first, second)?;
+    let second = Formula::not(alloc, Formula::nec(alloc, second)?)?;
+    let given = Formula::and(alloc, first, second)?;
     let inner = function(alloc, 1, Term::Var(1), Term::Var(3))?;
     let third = related(alloc, Term::Var(2), inner)?;
-    let third = Formula::Ex(Box::new(alloc, third)?);
-    let third = Formula::All(Box::new(alloc, third)?);
+    let third = Formula::all(alloc, Formula::ex(alloc, third)?)?;
     let fourth = related(alloc, Term::Var(0), Term::Spare(2))?;
-    let fourth = Formula::Poss(Box::new(alloc, fourth)?);
-    let third = Box::new(alloc, third)?;
-    let fourth = Box::new(alloc, fourth)?;
-    let given = Box::new(alloc, given)?;
-    let shown = Box::new(alloc, Formula::Or(third, fourth))?;
-    Ok(Formula::Imp(given, shown))
+    let fourth = Formula::poss(alloc, fourth)?;
+    let shown = Formula::or(alloc, third, fourth)?;
+    Formula::imp(alloc, given, shown)
 }
 
 // Clauses, literals and nodes.
@@ -212,6 +199,11 @@ fn copies_and_puts(rt: HostRuntime) -> Result<(), Fail> {
     assert_eq!(rt;
         shown(alloc, &copied)?.as_str(),
         "((p(0,1)&~[]p(0,e1))>(!?p(2,f(1,3))|<>p(0,s2)))"
+    );
+    assert!(rt; body.as_atom().is_none());
+    assert_eq!(rt;
+        plain(alloc, 7).as_atom().map(|atom| atom.0),
+        Some(SymbolId(7))
     );
     let constant = Term::Fun(SymbolId(2), Terms::new(alloc));
     let put = function(alloc, 1, constant, Term::Eigen(3))?;

@@ -15,33 +15,29 @@ fn atom(alloc: Global) -> Formula {
     Formula::Atom(SymbolId(0), Terms::new(alloc))
 }
 
-fn part(alloc: Global) -> Result<Box<Formula>, NoMemory> {
-    Ok(Box::new(alloc, atom(alloc))?)
-}
-
 // Each shape, with the modal part in classical and modal logics, and in intuitionistic logic.
 #[test]
 fn tells_kinds(rt: HostRuntime) -> Result<(), Fail> {
     let alloc = rt.alloc();
-    let atom = atom(alloc);
-    let not = Formula::Not(part(alloc)?);
-    let and = Formula::And(part(alloc)?, part(alloc)?);
-    let or = Formula::Or(part(alloc)?, part(alloc)?);
-    let imp = Formula::Imp(part(alloc)?, part(alloc)?);
-    let all = Formula::All(part(alloc)?);
-    let ex = Formula::Ex(part(alloc)?);
-    let nec = Formula::Nec(part(alloc)?);
-    let poss = Formula::Poss(part(alloc)?);
+    let literal = atom(alloc);
+    let not = Formula::not(alloc, atom(alloc))?;
+    let and = Formula::and(alloc, atom(alloc), atom(alloc))?;
+    let or = Formula::or(alloc, atom(alloc), atom(alloc))?;
+    let imp = Formula::imp(alloc, atom(alloc), atom(alloc))?;
+    let all = Formula::all(alloc, atom(alloc))?;
+    let ex = Formula::ex(alloc, atom(alloc))?;
+    let nec = Formula::nec(alloc, atom(alloc))?;
+    let poss = Formula::poss(alloc, atom(alloc))?;
     for (f, sign, shape, modal, intuitionistic) in [
         (
-            &atom,
+            &literal,
             Sign::T,
             Shape::Literal,
             ModalPart::Plain,
             ModalPart::Nu,
         ),
         (
-            &atom,
+            &literal,
             Sign::F,
             Shape::Literal,
             ModalPart::Plain,
@@ -206,8 +202,8 @@ fn all_p(alloc: Global) -> Result<Formula, NoMemory>
 {
     let mut terms = Terms::new(alloc);
     terms.push(Term::Var(0))?;
-    let applied = Box::new(alloc, Formula::Atom(SymbolId(0), terms))?;
-    Ok(Formula::All(applied))
+    let formula = Formula::all(alloc, Formula::Atom(SymbolId(0), terms))?;
+    Ok(formula)
 }
 
 fn problem(

@@ -8,7 +8,7 @@ ghost use Rattle.propositional_reader.specs.Views.{the_part};
 
 use cop_base::{NoMemory, SymbolId};
 use formula_core::{Formula, Terms};
-use std::alloc::{AllocError, Global};
+use std::alloc::Global;
 
 /// What joins a chain of units.
 #[derive(Clone, Copy, Debug, PartialEq, Eq)]
@@ -38,8 +38,9 @@ impl Part {
         ensures { IfOk result (λ p. the_part p ≡ negated_value (the_part self)) }
     {
         let Part { formula, nesting } = self;
+        let formula = Formula::not(alloc, formula)?;
         Ok(Part {
-            formula: Formula::Not(Box::new(alloc, formula)?),
+            formula,
             nesting: nesting.saturating_add(1),
         })
     }
@@ -58,23 +59,17 @@ impl Part {
         ensures { IfOk result (λ p. the_part p ≡ joined_value tree.imp (the_part self) (the_part conclusion)) }
     {
         let nesting = self.nesting.max(conclusion.nesting);
-        let premise = Box::new(alloc, self.formula)?;
-        let conclusion = Box::new(alloc, conclusion.formula)?;
-        Ok(Part {
-            formula: Formula::Imp(premise, conclusion),
-            nesting,
-        })
+        let formula = Formula::imp(alloc, self.formula, conclusion.formula)?;
+        Ok(Part { formula, nesting })
     }
 
     fn joined(self, alloc: Global, chain: Chain, right: Part) -> Result<Part, NoMemory>
         ensures { IfOk result (λ p. the_part p ≡ joined_value (chain_formula chain) (the_part self) (the_part right)) }
     {
         let nesting = self.nesting.max(right.nesting);
-        let left = Box::new(alloc, self.formula)?;
-        let right = Box::new(alloc, right.formula)?;
         let formula = match chain {
-            Chain::And => Formula::And(left, right),
-            Chain::Or => Formula::Or(left, right),
+            Chain::And => Formula::and(alloc, self.formula, right.formula)?,
+            Chain::Or => Formula::or(alloc, self.formula, right.formula)?,
         };
         Ok(Part { formula, nesting })
     }
