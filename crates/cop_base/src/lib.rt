@@ -4,10 +4,10 @@
 
 use std::alloc::{AllocError, AllocFailed};
 
-pub mod edge;
-pub mod library;
-pub mod sink;
-pub mod text;
+mod edge;
+mod library;
+mod sink;
+mod text;
 
 pub use edge::{FileLibrary, WriteSink};
 pub use library::{FetchFault, Library, MemLibrary};

@@ -1,12 +1,12 @@
 //! Terms and formulas.
 #![tactic(auto)]
 
-pub mod count;
-pub mod formula;
-pub mod ground;
-pub mod place;
-pub mod symbol;
-pub mod term;
+mod count;
+mod formula;
+mod ground;
+mod place;
+mod symbol;
+mod term;
 #[cfg(test)]
 mod tests;
 

@@ -3,7 +3,7 @@
 
 mod parser;
 mod part;
-pub mod reading;
+mod reading;
 mod token;
 
 pub use reading::{MOST_BYTES, ReadRefusal, read};

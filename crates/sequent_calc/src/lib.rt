@@ -3,16 +3,16 @@
 //! Nonclassical Logics). A derivation starts from the problem's formula, to be shown at the root.
 #![tactic(auto)]
 
-pub mod addition;
+mod addition;
 mod atom;
 mod condition;
-pub mod derivation;
-pub mod entry;
+mod derivation;
+mod entry;
 mod labels;
 mod leaf;
-pub mod names;
-pub mod rules;
-pub mod step;
+mod names;
+mod rules;
+mod step;
 #[cfg(test)]
 mod tests;
 
