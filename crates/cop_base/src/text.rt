@@ -34,6 +34,7 @@ impl Text {
         Ok(Text { bytes })
     }
 
+    /// The bytes in order.
     pub fn bytes(&self) -> &[u8]
         ensures { result.now ≡ self.now }
     {

@@ -12,7 +12,7 @@ use crate::term::{Term, Terms};
 use calculus::sign::Sign;
 
 /// The clauses of the matrix of `f` under `sign`, one for each selection, or `limit` + 1 where there are more. They are
-/// counted and not built.
+/// counted and not built. `limit` is at most 2^40, so that no sum overflows.
 pub fn clause_count(f: &Formula, sign: Sign, limit: u64) -> u64
     requires { limit ≤ 2 ^ 40 }
     ensures { result ≡ min (length (selections (the_formula f.now) sign)) (limit + 1) }
@@ -20,7 +20,8 @@ pub fn clause_count(f: &Formula, sign: Sign, limit: u64) -> u64
     counts(f, sign, limit).clauses
 }
 
-/// The literals of all clauses of that matrix together, or `limit` + 1 where there are more.
+/// The literals of all clauses of that matrix together, or `limit` + 1 where there are more. `limit` is at most 2^40, so
+/// that no sum overflows.
 pub fn literal_count(f: &Formula, sign: Sign, limit: u64) -> u64
     requires { limit ≤ 2 ^ 40 }
     ensures { result
@@ -102,7 +103,8 @@ fn beta_totals(a: &Formula, a_sign: Sign, b: &Formula, b_sign: Sign, limit: u64)
     }
 }
 
-/// The nodes of `f`, terms included, or `limit` + 1 where there are more.
+/// The nodes of `f`, terms included, or `limit` + 1 where there are more. `limit` is at most 2^40, so that no sum
+/// overflows.
 pub fn node_count(f: &Formula, limit: u64) -> u64
     requires { limit ≤ 2 ^ 40 }
     ensures { result ≡ min (node_count (the_formula f.now)) (limit + 1) }

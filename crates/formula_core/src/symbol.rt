@@ -49,6 +49,7 @@ impl Symbols {
     /// No list has more symbols.
     pub const MOST: usize = 65536;
 
+    /// The empty list.
     pub fn new(alloc: Global) -> Symbols
         ensures { result ≡ [] }
     {
@@ -57,6 +58,7 @@ impl Symbols {
         }
     }
 
+    /// How many symbols there are.
     pub fn len(&self) -> usize
         ensures len { result ≡ length self.now }
         ensures most { result ≤ 65536 }
@@ -65,6 +67,7 @@ impl Symbols {
         self.set.len()
     }
 
+    /// The symbols in order.
     pub fn items(&self) -> &[Symbol]
         ensures { map the_symbol result.now ≡ self.now }
     {

@@ -1,4 +1,4 @@
-//! Ground connection tableaux. So far it has the selections that name the clauses of a matrix.
+//! Selections, which name the clauses of a matrix.
 #![tactic(auto)]
 
 ghost use Rattle.std.specs.Prelude.{◌≡◌, ◌++◌, ◌∷◌, [], OnOk, OnErr};
@@ -25,6 +25,7 @@ impl Model for Selection {
 }
 
 impl Selection {
+    /// The empty list.
     pub fn new(alloc: Global) -> Selection
         ensures { result ≡ [] }
     {
@@ -33,6 +34,7 @@ impl Selection {
         }
     }
 
+    /// Appends the item. Want of memory leaves the list as it was.
     pub fn push(&mut self, item: Side) -> Result<(), NoMemory>
         ensures ok { OnOk result (self.new ≡ self.old ++ item ∷ []) }
         ensures err { OnErr result (self.new ≡ self.old) }
@@ -41,6 +43,7 @@ impl Selection {
         Ok(())
     }
 
+    /// The items in order.
     pub fn items(&self) -> &[Side]
         ensures { result.now ≡ self.now }
     {
