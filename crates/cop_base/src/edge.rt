@@ -80,7 +80,8 @@ impl<'a, R: Files> FileLibrary<'a, R> {
 fn read_whole<F: Read>(alloc: Global, file: &mut F, limit: u64) -> io::Result<Option<Vec<u8>>>
     ensures within { IfOk result (λ read. IfSome read (λ bytes. vec_len bytes ≤ limit)) }
     ensures limited { result ≡ Ok None → limit ≢ u64.MAX }
-    ensures whole { IfOk result (λ read. IfSome read (λ bytes. IfSome (F.remaining file.old) (λ all. bytes.items ≡ all))) }
+    ensures whole { IfOk result (λ read. IfSome read (λ bytes.
+        IfSome (F.remaining file.old) (λ all. bytes.items ≡ all))) }
     ensures more { result ≡ Ok None → IfSome (F.remaining file.old) (λ all. limit < length all) }
 {
     let mut bytes = Vec::new(alloc);
