@@ -14,8 +14,8 @@ use Rattle.calculus.specs.Judgement.{IsFaulty, cause_after, cause_at, cause_amon
 use Rattle.logic_rules.proofs.ProblemFacts.{kept}
 use Rattle.derivation_text.specs.declared.body_line.Stage.{Stage}
 use Rattle.derivation_text.specs.declared.body_line.Stage.TheVariants.{Eigens, Spares, Steps, Ended}
-use Rattle.derivation_text.specs.Body.{BodyLine, last, IsBodyLine, body_line_text, body_line_is_written, stage_after, stage_behind, names_and_steps}
-use Rattle.derivation_text.specs.Reading.{Fits, IsLineAt, IsReadTo, cause_behind, ending, lines_at, lines_read}
+use Rattle.derivation_text.specs.Body.{BodyLine, last, IsBodyLine, body_line_text, body_line_is_written, stage_after, stage_after_lines, names_and_steps}
+use Rattle.derivation_text.specs.Reading.{Fits, IsLineAt, IsReadTo, cause_at_stage, ending, lines_at, lines_read}
 use Rattle.derivation_text.proofs.Args.{cut}
 use Rattle.derivation_text.proofs.BodyLaws.{body, body-begins, body-ends, body-written, lines-body, lines-of, map-append, printable-so_far, stage-append, stage-none}
 use Rattle.derivation_text.proofs.Faults.{IsBegun, faulty}
@@ -31,18 +31,18 @@ head-eq x y xs ys e = cc
 
 -- ---- lines that may follow
 
--- behind four lines of the head
-pub behind-head : (P : Problem) (e : Derivation) (m : ℕ) (ls rest : List (List ℕ)) → derivation_lines P e ≡ (head_lines P m ++ ls) ++ rest → map (body_line_text P.symbols) (body e) ≡ ls ++ rest
-behind-head P e m ls rest h =
+-- after four lines of the head
+pub after-head : (P : Problem) (e : Derivation) (m : ℕ) (ls rest : List (List ℕ)) → derivation_lines P e ≡ (head_lines P m ++ ls) ++ rest → map (body_line_text P.symbols) (body e) ≡ ls ++ rest
+after-head P e m ls rest h =
     let f = sym (lines-body P e) ∙ h ∙ append_assoc (head_lines P m) ls rest in
     tail-eq _ _ _ _ (tail-eq _ _ _ _ (tail-eq _ _ _ _ (tail-eq _ _ _ _ f)))
 
 -- a line that may not stand here is in no derivation that begins so
-pub refused : (P : Problem) → IsTrue (is_problem P) → (m : ℕ) (xs : List BodyLine) (s : Stage) → IsTrue (list_all (body_line_is_written P.symbols) xs) → stage_behind (Some (Eigens 0)) xs ≡ Some s
+pub refused : (P : Problem) → IsTrue (is_problem P) → (m : ℕ) (xs : List BodyLine) (s : Stage) → IsTrue (list_all (body_line_is_written P.symbols) xs) → stage_after_lines (Some (Eigens 0)) xs ≡ Some s
     → (l : List ℕ) → ((x : BodyLine) → IsBodyLine P.symbols l x → stage_after s x ≡ None)
     → (e : Derivation) → IsTrue (is_printable P e) → (rest : List (List ℕ)) → derivation_lines P e ≡ (head_lines P m ++ map (body_line_text P.symbols) xs) ++ l ∷ rest → ⊥
 refused P w m xs s written order l none e printable rest same =
-    let f = behind-head P e m (map (body_line_text P.symbols) xs) (l ∷ rest) same in
+    let f = after-head P e m (map (body_line_text P.symbols) xs) (l ∷ rest) same in
     let b = body-begins P.symbols (kept P w).distinct xs (body e) (l ∷ rest) written (body-written P e printable) f in
     by-next b.0 b.1 b.2 b.3
   where
@@ -51,38 +51,38 @@ refused P w m xs s written order l none e printable rest same =
     by-next (z ∷ zs) all lines hz =
         let p = and_parts (body_line_is_written P.symbols z) (list_all (body_line_is_written P.symbols) zs) hz in
         let stop = none z (record { written = p.0; same = sym (head-eq _ _ _ _ lines) }) in
-        none-some (stage_behind (Some (Eigens 0)) (body e)) Ended
-        (ap (stage_behind (Some (Eigens 0))) all ∙ stage-append (Some (Eigens 0)) xs (z ∷ zs) ∙ ap (λ o. stage_behind o (z ∷ zs)) order ∙ ap (λ o. stage_behind o zs) stop ∙ stage-none zs)
+        none-some (stage_after_lines (Some (Eigens 0)) (body e)) Ended
+        (ap (stage_after_lines (Some (Eigens 0))) all ∙ stage-append (Some (Eigens 0)) xs (z ∷ zs) ∙ ap (λ o. stage_after_lines o (z ∷ zs)) order ∙ ap (λ o. stage_after_lines o zs) stop ∙ stage-none zs)
         (body-ends P e printable)
 
 some-eq : {A : Type 0} (x y : A) → Some x ≡ Some y → x ≡ y
 some-eq x y e = cc
 
 -- where these are all lines, they end
-pub whole-ends : (P : Problem) → IsTrue (is_problem P) → (m : ℕ) (xs : List BodyLine) (s : Stage) → IsTrue (list_all (body_line_is_written P.symbols) xs) → stage_behind (Some (Eigens 0)) xs ≡ Some s
+pub whole-ends : (P : Problem) → IsTrue (is_problem P) → (m : ℕ) (xs : List BodyLine) (s : Stage) → IsTrue (list_all (body_line_is_written P.symbols) xs) → stage_after_lines (Some (Eigens 0)) xs ≡ Some s
     → (e : Derivation) → IsTrue (is_printable P e) → derivation_lines P e ≡ head_lines P m ++ map (body_line_text P.symbols) xs → s ≡ Ended
 whole-ends P w m xs s written order e printable same =
-    let f = behind-head P e m (map (body_line_text P.symbols) xs) [] (same ∙ sym (append-nil (head_lines P m ++ map (body_line_text P.symbols) xs))) in
+    let f = after-head P e m (map (body_line_text P.symbols) xs) [] (same ∙ sym (append-nil (head_lines P m ++ map (body_line_text P.symbols) xs))) in
     let b = body-begins P.symbols (kept P w).distinct xs (body e) [] written (body-written P e printable) f in
     by-rest b.0 b.1 b.2
   where
     by-rest : (zs : List BodyLine) → body e ≡ xs ++ zs → map (body_line_text P.symbols) zs ≡ [] → s ≡ Ended
-    by-rest [] all lines = some-eq s Ended (sym order ∙ ap (stage_behind (Some (Eigens 0))) (sym (append-nil xs) ∙ sym all) ∙ body-ends P e printable)
+    by-rest [] all lines = some-eq s Ended (sym order ∙ ap (stage_after_lines (Some (Eigens 0))) (sym (append-nil xs) ∙ sym all) ∙ body-ends P e printable)
     by-rest (z ∷ zs) all lines = absurd (cc)
 
 -- ---- what has been read
 
-nothing-behind : (a b r : List ℕ) → a ≡ b ++ r → a ≡ b → r ≡ []
-nothing-behind a b r e f = cut b r [] (sym e ∙ f ∙ sym (append-nil b))
+nothing-after : (a b r : List ℕ) → a ≡ b ++ r → a ≡ b → r ≡ []
+nothing-after a b r e f = cut b r [] (sym e ∙ f ∙ sym (append-nil b))
 
 printable-at : (P : Problem) (bytes : List ℕ) (place : ℕ) (s : Stage) (d : Derivation) → IsReadTo P bytes place s d → IsTrue (is_printable P d)
 printable-at P bytes place s d r =
     let b = names_and_steps d.names.eigens d.names.spares d.steps in
     let w = and_parts (list_all (body_line_is_written P.symbols) b) (list_all (body_line_is_written P.symbols) (ending s)) (sym (list_all-append (body_line_is_written P.symbols) b (ending s)) ∙ r.written) in
-    let o = reached (stage_behind (Some (Eigens 0)) b) (ending s) s (sym (stage-append (Some (Eigens 0)) b (ending s)) ∙ r.order) in
+    let o = reached (stage_after_lines (Some (Eigens 0)) b) (ending s) s (sym (stage-append (Some (Eigens 0)) b (ending s)) ∙ r.order) in
     printable-so_far P d.limit d.names.eigens d.names.spares d.steps o.0 r.limit w.0 o.1
   where
-    reached : (o : Option Stage) (xs : List BodyLine) (s : Stage) → stage_behind o xs ≡ Some s → (t : Stage) × (o ≡ Some t)
+    reached : (o : Option Stage) (xs : List BodyLine) (s : Stage) → stage_after_lines o xs ≡ Some s → (t : Stage) × (o ≡ Some t)
     reached None xs s e = absurd (none-some _ s (stage-none xs) e)
     reached (Some t) xs s e = (t, refl)
 
@@ -137,7 +137,7 @@ fault-at_line P w bytes place to s d l r here none =
     no_more (x ∷ a) b e = cc
 
     done : (e : Derivation) → IsText P e bytes → derivation_lines P e ≡ lines_read P s d → ⊥
-    done e t same = no_more l (drop to bytes) (sym here.text ∙ nothing-behind bytes (flat_map line_bytes (lines_read P s d)) (drop place bytes) r.lines.text (t.text ∙ ap (flat_map line_bytes) same))
+    done e t same = no_more l (drop to bytes) (sym here.text ∙ nothing-after bytes (flat_map line_bytes (lines_read P s d)) (drop place bytes) r.lines.text (t.text ∙ ap (flat_map line_bytes) same))
 
 -- no whole line follows, and the text has not ended as it should
 pub fault-at_end : (P : Problem) → IsTrue (is_problem P) → (bytes : List ℕ) (place : ℕ) (s : Stage) (d : Derivation) → IsReadTo P bytes place s d → whole_lines (drop place bytes) ≡ []
@@ -151,7 +151,7 @@ fault-at_end P w bytes place s d r none unfinished =
     done : (e : Derivation) → IsText P e bytes → derivation_lines P e ≡ lines_read P s d → ⊥
     done e t same = unfinished
         (whole-ends P w d.limit (lines_at s d) s r.written r.order e t.printable same)
-        (nothing-behind bytes (flat_map line_bytes (lines_read P s d)) (drop place bytes) r.lines.text (t.text ∙ ap (flat_map line_bytes) same))
+        (nothing-after bytes (flat_map line_bytes (lines_read P s d)) (drop place bytes) r.lines.text (t.text ∙ ap (flat_map line_bytes) same))
 
 -- ---- causes
 
@@ -216,21 +216,21 @@ not-names b next e = rw e refl
 all-names : (b : Bool) (next : Option (List ℕ)) → b ≡ true → cause_among_names b next ≡ cause_among_names true next
 all-names b next e = rw e refl
 
-cause-of_lines : (P : Problem) (s : Stage) (d : Derivation) (next : Option (List ℕ)) → Fits s d → cause_after (lines_read P s d) next ≡ cause_behind s next
+cause-of_lines : (P : Problem) (s : Stage) (d : Derivation) (next : Option (List ℕ)) → Fits s d → cause_after (lines_read P s d) next ≡ cause_at_stage s next
 cause-of_lines P (Eigens n) d next f = let t = texts P.symbols d in cause-open _ _ next (cause_among_names true next) t.open_end (all-names _ next (t.names ∙ ap (λ xs. list_all is_name_line (map (step_line P.symbols) xs)) f.1))
 cause-of_lines P (Spares n) d next f = let t = texts P.symbols d in cause-open _ _ next (cause_among_names true next) t.open_end (all-names _ next (t.names ∙ ap (λ xs. list_all is_name_line (map (step_line P.symbols) xs)) f))
 cause-of_lines P Steps d next f = let t = texts P.symbols d in cause-open _ _ next cause.Line t.open_end (not-names _ next (t.names ∙ some-steps P.symbols d.steps f))
 cause-of_lines P Ended d next f = let t = texts P.symbols d in cause-closed _ _ next t.closed_end
 
-item-behind : {A : Type 0} (xs ys : List A) → slice_get (xs ++ ys) (length xs) ≡ slice_get ys 0
-item-behind [] ys = refl
-item-behind (x ∷ xs) ys = item-behind xs ys
+item-after : {A : Type 0} (xs ys : List A) → slice_get (xs ++ ys) (length xs) ≡ slice_get ys 0
+item-after [] ys = refl
+item-after (x ∷ xs) ys = item-after xs ys
 
-pub cause-behind : (P : Problem) (bytes : List ℕ) (place : ℕ) (s : Stage) (d : Derivation) → IsReadTo P bytes place s d → cause_at bytes (length (lines_read P s d)) ≡ cause_behind s (slice_get (whole_lines (drop place bytes)) 0)
-cause-behind P bytes place s d r =
+pub cause-at_stage : (P : Problem) (bytes : List ℕ) (place : ℕ) (s : Stage) (d : Derivation) → IsReadTo P bytes place s d → cause_at bytes (length (lines_read P s d)) ≡ cause_at_stage s (slice_get (whole_lines (drop place bytes)) 0)
+cause-at_stage P bytes place s d r =
     let seen = lines_read P s d in
     let tail = whole_lines (drop place bytes) in
     ap (λ k. cause_after (take (length seen) k) (slice_get k (length seen))) r.lines.whole
     ∙ ap (λ k. cause_after k (slice_get (seen ++ tail) (length seen))) (take-append_seam seen tail)
-    ∙ ap (cause_after seen) (item-behind seen tail)
+    ∙ ap (cause_after seen) (item-after seen tail)
     ∙ cause-of_lines P s d (slice_get tail 0) r.fits

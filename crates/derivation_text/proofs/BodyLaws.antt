@@ -1,4 +1,4 @@
--- Lines behind the head: each has one value, and they stand in order exactly in derivations that can be printed.
+-- Lines after the head: each has one value, and they stand in order exactly in derivations that can be printed.
 use Rattle.std.proofs.Common.{◌≡◌, ℕ, List, [], ◌∷◌, ◌++◌, map, Bool, true, false, ◌&&◌, IsTrue, refl, sym, ◌∙◌, ap, append_assoc, nat_lt, codes, Option, None, Some, if◌then◌else◌}
 use Rattle.std.specs.List.{list_all}
 use Rattle.std.proofs.lemmas.Bool.{and_parts, and_from}
@@ -10,25 +10,25 @@ use Rattle.calculus.specs.DerivationText.{derivation_lines, eigen_line, head_lin
 use Rattle.calculus.proofs.DerivationTextLaws.{eigen-split, spare-split, step-split}
 use Rattle.derivation_text.specs.declared.body_line.Stage.{Stage}
 use Rattle.derivation_text.specs.declared.body_line.Stage.TheVariants.{Eigens, Spares, Steps, Ended}
-use Rattle.derivation_text.specs.Body.{BodyLine, of_eigen, of_spare, of_step, last, IsBodyLine, body_line_text, body_line_is_written, stage_after, advanced, stage_behind, names_and_steps}
+use Rattle.derivation_text.specs.Body.{BodyLine, of_eigen, of_spare, of_step, last, IsBodyLine, body_line_text, body_line_is_written, stage_after, advanced, stage_after_lines, names_and_steps}
 use Rattle.derivation_text.specs.Written.{eigen_is_written, spare_is_written}
 use Rattle.derivation_text.proofs.Args.{differ}
 use Rattle.derivation_text.proofs.Printable.{parts}
 
 -- ---- stages
 
-pub stage-append : (s : Option Stage) (xs ys : List BodyLine) → stage_behind s (xs ++ ys) ≡ stage_behind (stage_behind s xs) ys
+pub stage-append : (s : Option Stage) (xs ys : List BodyLine) → stage_after_lines s (xs ++ ys) ≡ stage_after_lines (stage_after_lines s xs) ys
 stage-append s [] ys = refl
 stage-append s (x ∷ xs) ys = stage-append (advanced s x) xs ys
 
-pub stage-none : (xs : List BodyLine) → stage_behind None xs ≡ None
+pub stage-none : (xs : List BodyLine) → stage_after_lines None xs ≡ None
 stage-none [] = refl
 stage-none (x ∷ xs) = stage-none xs
 
 none-some : (o : Option Stage) (s : Stage) → o ≡ None → o ≡ Some s → ⊥
 none-some o s e f = cc
 
-below-some : (b : Bool) (s : Stage) (xs : List BodyLine) (t : Stage) → stage_behind (if b then Some s else None) xs ≡ Some t → (b ≡ true) × (stage_behind (Some s) xs ≡ Some t)
+below-some : (b : Bool) (s : Stage) (xs : List BodyLine) (t : Stage) → stage_after_lines (if b then Some s else None) xs ≡ Some t → (b ≡ true) × (stage_after_lines (Some s) xs ≡ Some t)
 below-some true s xs t e = (refl, e)
 below-some false s xs t e = absurd (none-some _ t (stage-none xs) e)
 
@@ -38,20 +38,20 @@ eigen_numbers es = map (λ (x : EigenName). x.number) es
 abbrev pub spare_numbers : List SpareName → List ℕ
 spare_numbers ss = map (λ (x : SpareName). x.number) ss
 
-rises-eigens : (n : ℕ) (es : List EigenName) (tail : List BodyLine) (t : Stage) → stage_behind (Some (Eigens n)) (map of_eigen es ++ tail) ≡ Some t → IsTrue (rises_from n (eigen_numbers es)) × ((m : ℕ) × (stage_behind (Some (Eigens m)) tail ≡ Some t))
+rises-eigens : (n : ℕ) (es : List EigenName) (tail : List BodyLine) (t : Stage) → stage_after_lines (Some (Eigens n)) (map of_eigen es ++ tail) ≡ Some t → IsTrue (rises_from n (eigen_numbers es)) × ((m : ℕ) × (stage_after_lines (Some (Eigens m)) tail ≡ Some t))
 rises-eigens n [] tail t e = (refl, (n, e))
 rises-eigens n (x ∷ es) tail t e =
     let p = below-some (nat_lt n x.number) (Eigens x.number) (map of_eigen es ++ tail) t e in
     let r = rises-eigens x.number es tail t p.1 in
     (and_from (nat_lt n x.number) (rises_from x.number (eigen_numbers es)) p.0 r.0, r.1)
 
-rises-spares : (n : ℕ) (ss : List SpareName) (tail : List BodyLine) (t : Stage) → stage_behind (Some (Spares n)) (map of_spare ss ++ tail) ≡ Some t → IsTrue (rises_from n (spare_numbers ss))
+rises-spares : (n : ℕ) (ss : List SpareName) (tail : List BodyLine) (t : Stage) → stage_after_lines (Some (Spares n)) (map of_spare ss ++ tail) ≡ Some t → IsTrue (rises_from n (spare_numbers ss))
 rises-spares n [] tail t e = refl
 rises-spares n (x ∷ ss) tail t e =
     let p = below-some (nat_lt n x.number) (Spares x.number) (map of_spare ss ++ tail) t e in
     and_from (nat_lt n x.number) (rises_from x.number (spare_numbers ss)) p.0 (rises-spares x.number ss tail t p.1)
 
-rises-first : (m : ℕ) (ss : List SpareName) (tail : List BodyLine) (t : Stage) → stage_behind (Some (Eigens m)) (map of_spare ss ++ tail) ≡ Some t → IsTrue (rises_from 0 (spare_numbers ss))
+rises-first : (m : ℕ) (ss : List SpareName) (tail : List BodyLine) (t : Stage) → stage_after_lines (Some (Eigens m)) (map of_spare ss ++ tail) ≡ Some t → IsTrue (rises_from 0 (spare_numbers ss))
 rises-first m [] tail t e = refl
 rises-first m (x ∷ ss) tail t e =
     let p = below-some (nat_lt 0 x.number) (Spares x.number) (map of_spare ss ++ tail) t e in
@@ -70,7 +70,7 @@ written-parts S es ss xs =
     ∙ rw (map-all of_eigen (body_line_is_written S) es, map-all of_spare (body_line_is_written S) ss, map-all of_step (body_line_is_written S) xs) refl
 
 -- what has been read so far is the beginning of a derivation that can be printed
-pub printable-so_far : (P : Problem) (n : ℕ) (es : List EigenName) (ss : List SpareName) (xs : List Step) (t : Stage) → IsTrue (is_limit n) → IsTrue (list_all (body_line_is_written P.symbols) (names_and_steps es ss xs)) → stage_behind (Some (Eigens 0)) (names_and_steps es ss xs) ≡ Some t
+pub printable-so_far : (P : Problem) (n : ℕ) (es : List EigenName) (ss : List SpareName) (xs : List Step) (t : Stage) → IsTrue (is_limit n) → IsTrue (list_all (body_line_is_written P.symbols) (names_and_steps es ss xs)) → stage_after_lines (Some (Eigens 0)) (names_and_steps es ss xs) ≡ Some t
     → IsTrue (is_printable P (record { limit = n; names = record { eigens = es; spares = ss }; steps = xs }))
 printable-so_far P n es ss xs t l w e =
     let S = P.symbols in
@@ -126,28 +126,28 @@ body-written P d h =
     list_all-append (body_line_is_written S) b (last ∷ [])
     ∙ and_from (list_all (body_line_is_written S) b) (list_all (body_line_is_written S) (last ∷ [])) (written-parts S d.names.eigens d.names.spares d.steps ∙ and_from (list_all eigen_is_written d.names.eigens) (list_all spare_is_written d.names.spares && list_all (step_is_written S) d.steps) p.eigens (and_from (list_all spare_is_written d.names.spares) (list_all (step_is_written S) d.steps) p.spares p.steps)) refl
 
-steps-run : (xs : List Step) → stage_behind (Some Steps) (map of_step xs ++ last ∷ []) ≡ Some Ended
+steps-run : (xs : List Step) → stage_after_lines (Some Steps) (map of_step xs ++ last ∷ []) ≡ Some Ended
 steps-run [] = refl
 steps-run (x ∷ xs) = steps-run xs
 
-if-true : (b : Bool) (s : Stage) (xs : List BodyLine) → IsTrue b → stage_behind (if b then Some s else None) xs ≡ stage_behind (Some s) xs
+if-true : (b : Bool) (s : Stage) (xs : List BodyLine) → IsTrue b → stage_after_lines (if b then Some s else None) xs ≡ stage_after_lines (Some s) xs
 if-true b s xs h = rw h refl
 
-spares-run : (n : ℕ) (ss : List SpareName) (xs : List Step) → IsTrue (rises_from n (spare_numbers ss)) → stage_behind (Some (Spares n)) (map of_spare ss ++ (map of_step xs ++ last ∷ [])) ≡ Some Ended
+spares-run : (n : ℕ) (ss : List SpareName) (xs : List Step) → IsTrue (rises_from n (spare_numbers ss)) → stage_after_lines (Some (Spares n)) (map of_spare ss ++ (map of_step xs ++ last ∷ [])) ≡ Some Ended
 spares-run n [] [] h = refl
 spares-run n [] (x ∷ xs) h = steps-run xs
 spares-run n (s ∷ ss) xs h =
     let p = and_parts (nat_lt n s.number) (rises_from s.number (spare_numbers ss)) h in
     if-true (nat_lt n s.number) (Spares s.number) (map of_spare ss ++ (map of_step xs ++ last ∷ [])) p.0 ∙ spares-run s.number ss xs p.1
 
-first-run : (n : ℕ) (ss : List SpareName) (xs : List Step) → IsTrue (rises_from 0 (spare_numbers ss)) → stage_behind (Some (Eigens n)) (map of_spare ss ++ (map of_step xs ++ last ∷ [])) ≡ Some Ended
+first-run : (n : ℕ) (ss : List SpareName) (xs : List Step) → IsTrue (rises_from 0 (spare_numbers ss)) → stage_after_lines (Some (Eigens n)) (map of_spare ss ++ (map of_step xs ++ last ∷ [])) ≡ Some Ended
 first-run n [] [] h = refl
 first-run n [] (x ∷ xs) h = steps-run xs
 first-run n (s ∷ ss) xs h =
     let p = and_parts (nat_lt 0 s.number) (rises_from s.number (spare_numbers ss)) h in
     if-true (nat_lt 0 s.number) (Spares s.number) (map of_spare ss ++ (map of_step xs ++ last ∷ [])) p.0 ∙ spares-run s.number ss xs p.1
 
-eigens-run : (n : ℕ) (es : List EigenName) (ss : List SpareName) (xs : List Step) → IsTrue (rises_from n (eigen_numbers es)) → IsTrue (rises_from 0 (spare_numbers ss)) → stage_behind (Some (Eigens n)) (map of_eigen es ++ (map of_spare ss ++ (map of_step xs ++ last ∷ []))) ≡ Some Ended
+eigens-run : (n : ℕ) (es : List EigenName) (ss : List SpareName) (xs : List Step) → IsTrue (rises_from n (eigen_numbers es)) → IsTrue (rises_from 0 (spare_numbers ss)) → stage_after_lines (Some (Eigens n)) (map of_eigen es ++ (map of_spare ss ++ (map of_step xs ++ last ∷ []))) ≡ Some Ended
 eigens-run n [] ss xs h k = first-run n ss xs k
 eigens-run n (x ∷ es) ss xs h k =
     let p = and_parts (nat_lt n x.number) (rises_from x.number (eigen_numbers es)) h in
@@ -167,10 +167,10 @@ rising P d h =
     let q = and_parts (a && b) c (and_parts (a && b && c) e p.1).0 in
     record { eigens = (and_parts a b q.0).0; spares = q.1 }
 
-pub body-ends : (P : Problem) (d : Derivation) → IsTrue (is_printable P d) → stage_behind (Some (Eigens 0)) (body d) ≡ Some Ended
+pub body-ends : (P : Problem) (d : Derivation) → IsTrue (is_printable P d) → stage_after_lines (Some (Eigens 0)) (body d) ≡ Some Ended
 body-ends P d h =
     let r = rising P d h in
-    ap (stage_behind (Some (Eigens 0))) (append_assoc (map of_eigen d.names.eigens) (map of_spare d.names.spares ++ map of_step d.steps) (last ∷ []) ∙ ap (λ l. map of_eigen d.names.eigens ++ l) (append_assoc (map of_spare d.names.spares) (map of_step d.steps) (last ∷ [])))
+    ap (stage_after_lines (Some (Eigens 0))) (append_assoc (map of_eigen d.names.eigens) (map of_spare d.names.spares ++ map of_step d.steps) (last ∷ []) ∙ ap (λ l. map of_eigen d.names.eigens ++ l) (append_assoc (map of_spare d.names.spares) (map of_step d.steps) (last ∷ [])))
     ∙ eigens-run 0 d.names.eigens d.names.spares d.steps r.eigens r.spares
 
 -- ---- one value for a line

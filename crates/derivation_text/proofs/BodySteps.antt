@@ -8,12 +8,12 @@ use Rattle.calculus.specs.Derivations.{EigenName, SpareName, Step, Derivation}
 use Rattle.calculus.specs.DerivationText.{head_lines, is_limit, line_bytes}
 use Rattle.derivation_text.specs.declared.body_line.Stage.{Stage}
 use Rattle.derivation_text.specs.declared.body_line.Stage.TheVariants.{Eigens, Spares, Steps, Ended}
-use Rattle.derivation_text.specs.Body.{BodyLine, of_eigen, of_spare, of_step, last, IsBodyLine, body_line_text, body_line_is_written, stage_after, stage_behind, names_and_steps}
+use Rattle.derivation_text.specs.Body.{BodyLine, of_eigen, of_spare, of_step, last, IsBodyLine, body_line_text, body_line_is_written, stage_after, stage_after_lines, names_and_steps}
 use Rattle.derivation_text.specs.Reading.{AreRead, Fits, IsLineAt, IsReadTo, lines_at, lines_read, with_line}
 use Rattle.derivation_text.proofs.BodyLaws.{map-append, stage-append}
 use Rattle.derivation_text.proofs.HeadFaults.{more-read}
 
--- ---- the lists behind a line
+-- ---- the lists after a line
 
 eigen-more : (es : List EigenName) (ss : List SpareName) (xs : List Step) (y : EigenName) → ss ≡ [] → xs ≡ [] → names_and_steps (es ++ y ∷ []) ss xs ++ [] ≡ (names_and_steps es ss xs ++ []) ++ of_eigen y ∷ []
 eigen-more es ss xs y hs hx = rw (hs, hx) (simp (map-append, append_assoc, append-nil))
@@ -90,7 +90,7 @@ body-more P bytes place to s t d x l r here is e =
       limit = subst (λ n. IsTrue (is_limit n)) (same-limit d x) r.limit;
       lines = subst (λ k. AreRead bytes k to) (lines-more P s t d x l g is.same) (more-read bytes (lines_read P s d) place to l r.lines here);
       written = ap (list_all (body_line_is_written S)) g.0 ∙ list_all-append (body_line_is_written S) (lines_at s d) (x ∷ []) ∙ and_from (list_all (body_line_is_written S) (lines_at s d)) (body_line_is_written S x && true) r.written (and_from (body_line_is_written S x) true is.written refl);
-      order = ap (stage_behind (Some (Eigens 0))) g.0 ∙ stage-append (Some (Eigens 0)) (lines_at s d) (x ∷ []) ∙ ap (λ o. stage_behind o (x ∷ [])) r.order ∙ e;
+      order = ap (stage_after_lines (Some (Eigens 0))) g.0 ∙ stage-append (Some (Eigens 0)) (lines_at s d) (x ∷ []) ∙ ap (λ o. stage_after_lines o (x ∷ [])) r.order ∙ e;
       fits = g.1;
     }
 
@@ -108,10 +108,10 @@ few l tail rest bs h e =
     let m = many tail in
     omega (arith, f, m, h, length-append (flat_map line_bytes (l ∷ tail)) rest, length-append (l ++ 10 ∷ []) (flat_map line_bytes tail), length-append l (10 ∷ []))
 
-abbrev behind-first : List (List ℕ) → List (List ℕ)
-behind-first [] = []
-behind-first (l ∷ ls) = ls
+abbrev after-first : List (List ℕ) → List (List ℕ)
+after-first [] = []
+after-first (l ∷ ls) = ls
 
 -- a count of lines stays far below the number of bytes
 pub few-lines : (P : Problem) (bytes : List ℕ) (place : ℕ) (s : Stage) (d : Derivation) → IsReadTo P bytes place s d → (length (lines_read P s d) + 10) ≤ length bytes
-few-lines P bytes place s d r = few (codes "leancop derivation 1") (behind-first (lines_read P s d)) (drop place bytes) bytes (omega arith) r.lines.text
+few-lines P bytes place s d r = few (codes "leancop derivation 1") (after-first (lines_read P s d)) (drop place bytes) bytes (omega arith) r.lines.text

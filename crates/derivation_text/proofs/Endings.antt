@@ -10,8 +10,8 @@ use Rattle.calculus.specs.Judgement.{whole_lines}
 use Rattle.derivation_text.specs.declared.body_line.Stage.{Stage}
 use Rattle.derivation_text.specs.declared.body_line.Stage.TheVariants.{Ended}
 use Rattle.derivation_text.specs.Body.{BodyLine, IsBodyLine, stage_after}
-use Rattle.derivation_text.specs.Reading.{IsFaultOf, IsLineAt, IsReadTo, cause_behind, lines_read, with_line}
-use Rattle.derivation_text.proofs.BodyFaults.{cause-behind, fault-at_end, fault-at_line, text-read}
+use Rattle.derivation_text.specs.Reading.{IsFaultOf, IsLineAt, IsReadTo, cause_at_stage, lines_read, with_line}
+use Rattle.derivation_text.proofs.BodyFaults.{cause-at_stage, fault-at_end, fault-at_line, text-read}
 use Rattle.derivation_text.proofs.BodySteps.{body-more, goes-on, lines-more}
 
 pub body-step : (P : Problem) (bytes : List ℕ) (place to : ℕ) (s t : Stage) (d e : Derivation) (x : BodyLine) (l : List ℕ) (count : ℕ) → IsReadTo P bytes place s d → count ≡ length (lines_read P s d) → IsLineAt bytes place to l → IsBodyLine P.symbols l x → stage_after s x ≡ Some t → e ≡ with_line d x
@@ -25,21 +25,21 @@ body-step P bytes place to s t d e x l count r n here is after same =
     )
 
 pub body-fault_at_line : (P : Problem) → IsTrue (is_problem P) → (bytes : List ℕ) (place to : ℕ) (s : Stage) (d : Derivation) (l : List ℕ) (count : ℕ) (c : TextCause) → IsReadTo P bytes place s d → count ≡ length (lines_read P s d) → IsLineAt bytes place to l
-    → ((x : BodyLine) → IsBodyLine P.symbols l x → stage_after s x ≡ None) → c ≡ cause_behind s (Some l) → IsFaultOf P bytes (count + 1) c
+    → ((x : BodyLine) → IsBodyLine P.symbols l x → stage_after s x ≡ None) → c ≡ cause_at_stage s (Some l) → IsFaultOf P bytes (count + 1) c
 body-fault_at_line P w bytes place to s d l count c r n here none why = (
   length (lines_read P s d),
   ap (λ k. k + 1) n,
   fault-at_line P w bytes place to s d l r here none,
-  why ∙ ap (λ (ls : List (List ℕ)). cause_behind s (slice_get ls 0)) (sym here.whole) ∙ sym (cause-behind P bytes place s d r),
+  why ∙ ap (λ (ls : List (List ℕ)). cause_at_stage s (slice_get ls 0)) (sym here.whole) ∙ sym (cause-at_stage P bytes place s d r),
 )
 
 pub body-fault_at_end : (P : Problem) → IsTrue (is_problem P) → (bytes : List ℕ) (place : ℕ) (s : Stage) (d : Derivation) (count : ℕ) (c : TextCause) → IsReadTo P bytes place s d → count ≡ length (lines_read P s d) → whole_lines (drop place bytes) ≡ []
-    → (s ≡ Ended → place ≡ length bytes → ⊥) → c ≡ cause_behind s None → IsFaultOf P bytes (count + 1) c
+    → (s ≡ Ended → place ≡ length bytes → ⊥) → c ≡ cause_at_stage s None → IsFaultOf P bytes (count + 1) c
 body-fault_at_end P w bytes place s d count c r n none unfinished why = (
   length (lines_read P s d),
   ap (λ k. k + 1) n,
   fault-at_end P w bytes place s d r none (λ e left. unfinished e (let h = r.lines.within in let f = ap length left in omega (arith, h, f, length-drop place bytes))),
-  why ∙ ap (λ (ls : List (List ℕ)). cause_behind s (slice_get ls 0)) (sym none) ∙ sym (cause-behind P bytes place s d r),
+  why ∙ ap (λ (ls : List (List ℕ)). cause_at_stage s (slice_get ls 0)) (sym none) ∙ sym (cause-at_stage P bytes place s d r),
 )
 
 pub text-at_end : (P : Problem) (bytes : List ℕ) (place : ℕ) (s : Stage) (d : Derivation) → IsReadTo P bytes place s d → s ≡ Ended → place ≡ length bytes → IsText P d bytes

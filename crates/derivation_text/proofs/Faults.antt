@@ -1,4 +1,4 @@
--- The whole lines of a text, and when a text is faulty behind its right lines.
+-- The whole lines of a text, and when a text is faulty after its right lines.
 use Rattle.std.proofs.Common.{◌≡◌, ℕ, suc, ◌+◌, ◌≤◌, List, [], ◌∷◌, ◌++◌, length, take, drop, not, ◌==◌, IsTrue, refl, sym, ◌∙◌, ap, append_assoc, append-nil, add-one, arith, inl, inr, flat_map, length-append}
 use Rattle.std.specs.List.{list_all}
 use Rattle.std.proofs.lemmas.Bool.{and_parts, cases_Bool, false≢true}
@@ -50,7 +50,7 @@ pub record IsBegun (P : Problem) (seen : List (List ℕ)) : Type 0 where
   pub rest : List (List ℕ)
   pub all : derivation_lines P whose ≡ seen ++ rest
 
--- a line that both lists have behind these
+-- a line that both lists have after these
 record IsNext (seen tail lines : List (List ℕ)) : Type 0 where
   line : List ℕ
   rest : List (List ℕ)

@@ -46,7 +46,7 @@ cancel (k ∷ ks) xs ys e = cancel ks xs ys (tail-eq k k (ks ++ xs) (ks ++ ys) e
 head-eq : (x y : List ℕ) (xs ys : List (List ℕ)) → x ∷ xs ≡ y ∷ ys → x ≡ y
 head-eq x y xs ys e = cc
 
--- each derivation has a line behind these
+-- each derivation has a line after these
 pub record HasLine (P : Problem) (seen : List (List ℕ)) (d : Derivation) (line : List ℕ) : Type 0 where
   pub rest : List (List ℕ)
   pub all : derivation_lines P d ≡ seen ++ line ∷ rest

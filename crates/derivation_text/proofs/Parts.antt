@@ -10,7 +10,7 @@ use Rattle.calculus.proofs.TextLaws.{decimal-split}
 use Rattle.calculus.proofs.TermTextLaws.{small-number, label-split}
 use Rattle.calculus.proofs.ReadingLaws.{IsTermAt-unique}
 use Rattle.formula_text.specs.Runs.{IsNumberAt}
-use Rattle.formula_text.proofs.Places.{behind-text, stands-front}
+use Rattle.formula_text.proofs.Places.{after-text, stands-front}
 use Rattle.derivation_text.specs.Spelling.{IsHome, IsLabel, IsLabelBefore, IsLimit, IsNameNumber, IsNumber, IsNumberBefore, IsTerm}
 
 -- a beginning that is cut off, or is not there
@@ -27,7 +27,7 @@ pub number-at : (bytes : List ℕ) (n : ℕ) (rest : List ℕ) → IsNumberBefor
 number-at bytes n rest h = record {
   small = h.small;
   stands = stands-front bytes (decimal n) rest 0 h.all;
-  ends = subst (StopsAt is_digit) (sym (behind-text bytes (decimal n) rest 0 h.all)) h.stops;
+  ends = subst (StopsAt is_digit) (sym (after-text bytes (decimal n) rest 0 h.all)) h.stops;
 }
 
 pub number-unique : (bytes : List ℕ) (m n : ℕ) (r s : List ℕ) → IsNumberBefore bytes m r → IsNumberBefore bytes n s → (m ≡ n) × (r ≡ s)
@@ -66,7 +66,7 @@ pub label-at : (bytes : List ℕ) (w : Label) (rest : List ℕ) → IsLabelBefor
 label-at bytes w rest h = record {
   written = h.written;
   stands = stands-front bytes (label_text w) rest 0 h.all;
-  ends = subst Ends (sym (behind-text bytes (label_text w) rest 0 h.all)) h.ends;
+  ends = subst Ends (sym (after-text bytes (label_text w) rest 0 h.all)) h.ends;
 }
 
 pub label-unique : (bytes : List ℕ) (w v : Label) (r s : List ℕ) → IsLabelBefore bytes w r → IsLabelBefore bytes v s → (w ≡ v) × (r ≡ s)
@@ -92,7 +92,7 @@ term-at symbols bytes t h =
     record {
       written = h.written;
       stands = stands-front bytes (term_text symbols 0 t) [] 0 e;
-      ends = subst Ends (sym (behind-text bytes (term_text symbols 0 t) [] 0 e)) tt;
+      ends = subst Ends (sym (after-text bytes (term_text symbols 0 t) [] 0 e)) tt;
     }
 
 pub term-rest : (symbols : List Symbol) → IsTrue (are_distinct symbols) → (bytes : List ℕ) (u : Term) (to : ℕ) → IsTermAt symbols bytes 0 to u → (t : Term) → IsTerm symbols bytes t → to ≡ length bytes

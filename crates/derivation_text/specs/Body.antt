@@ -1,4 +1,4 @@
--- The lines of a derivation behind its head, as values, and the order in which they stand.
+-- The lines of a derivation after its head, as values, and the order in which they stand.
 use Rattle.std.specs.Prelude.{ℕ, List, [], ◌∷◌, ◌++◌, map, Bool, true, nat_lt, codes, Option, None, Some, if◌then◌else◌}
 use Rattle.calculus.specs.Syntax.{Symbol}
 use Rattle.calculus.specs.Derivations.{EigenName, SpareName, Step}
@@ -32,7 +32,7 @@ IsBodyLine symbols bytes x = Spells (body_line_is_written symbols x) (body_line_
 abbrev pub if_below : ℕ → ℕ → Stage → Option Stage
 if_below m n s = if nat_lt m n then Some s else None
 
--- the stage behind one line more, if it may stand there
+-- the stage after one line more, if it may stand there
 abbrev pub stage_after : Stage → BodyLine → Option Stage
 stage_after (Eigens n) (of_eigen x) = if_below n x.number (Eigens x.number)
 stage_after (Eigens n) (of_spare x) = if_below 0 x.number (Spares x.number)
@@ -49,9 +49,9 @@ abbrev pub advanced : Option Stage → BodyLine → Option Stage
 advanced None x = None
 advanced (Some s) x = stage_after s x
 
-abbrev pub stage_behind : Option Stage → List BodyLine → Option Stage
-stage_behind s [] = s
-stage_behind s (x ∷ xs) = stage_behind (advanced s x) xs
+abbrev pub stage_after_lines : Option Stage → List BodyLine → Option Stage
+stage_after_lines s [] = s
+stage_after_lines s (x ∷ xs) = stage_after_lines (advanced s x) xs
 
 abbrev pub names_and_steps : List EigenName → List SpareName → List Step → List BodyLine
 names_and_steps es ss xs = map of_eigen es ++ (map of_spare ss ++ map of_step xs)

@@ -9,14 +9,14 @@ use Rattle.calculus.specs.DerivationText.{head_lines, is_limit, line_bytes}
 use Rattle.calculus.specs.Judgement.{IsFaulty, cause_among_names, cause_at, whole_lines}
 use Rattle.derivation_text.specs.declared.body_line.Stage.{Stage}
 use Rattle.derivation_text.specs.declared.body_line.Stage.TheVariants.{Eigens, Spares, Steps, Ended}
-use Rattle.derivation_text.specs.Body.{BodyLine, of_eigen, of_spare, of_step, last, body_line_is_written, body_line_text, names_and_steps, stage_behind}
+use Rattle.derivation_text.specs.Body.{BodyLine, of_eigen, of_spare, of_step, last, body_line_is_written, body_line_text, names_and_steps, stage_after_lines}
 
 -- the `end` line, where it has been read
 abbrev pub ending : Stage → List BodyLine
 ending Ended = last ∷ []
 ending _ = []
 
--- the lines behind the head that have been read at a stage
+-- the lines after the head that have been read at a stage
 abbrev pub lines_at : Stage → Derivation → List BodyLine
 lines_at stage d = names_and_steps d.names.eigens d.names.spares d.steps ++ ending stage
 
@@ -53,21 +53,21 @@ pub record IsReadTo (P : Problem) (bytes : List ℕ) (place : ℕ) (stage : Stag
   pub limit : IsTrue (is_limit d.limit)
   pub lines : AreRead bytes (lines_read P stage d) place
   pub written : IsTrue (list_all (body_line_is_written P.symbols) (lines_at stage d))
-  pub order : stage_behind (Some (Eigens 0)) (lines_at stage d) ≡ Some stage
+  pub order : stage_after_lines (Some (Eigens 0)) (lines_at stage d) ≡ Some stage
   pub fits : Fits stage d
 
--- a whole line stands at the place `from`, and `to` is the place behind its line feed
+-- a whole line stands at the place `from`, and `to` is the place after its line feed
 pub record IsLineAt (bytes : List ℕ) (from to : ℕ) (line : List ℕ) : Type 0 where
   pub within : to ≤ length bytes
   pub whole : whole_lines (drop from bytes) ≡ line ∷ whole_lines (drop to bytes)
   pub text : drop from bytes ≡ line ++ 10 ∷ drop to bytes
 
--- the cause of a fault behind the head, by the next line
-abbrev pub cause_behind : Stage → Option (List ℕ) → TextCause
-cause_behind (Eigens n) next = cause_among_names true next
-cause_behind (Spares n) next = cause_among_names true next
-cause_behind Steps next = cause.Line
-cause_behind Ended next = cause.TextAfterEnd
+-- the cause of a fault after the head, by the next line
+abbrev pub cause_at_stage : Stage → Option (List ℕ) → TextCause
+cause_at_stage (Eigens n) next = cause_among_names true next
+cause_at_stage (Spares n) next = cause_among_names true next
+cause_at_stage Steps next = cause.Line
+cause_at_stage Ended next = cause.TextAfterEnd
 
 -- the bytes are no text, and this is the number and the cause of the first wrong line
 abbrev pub IsFaultOf : Problem → List ℕ → ℕ → TextCause → Type 0

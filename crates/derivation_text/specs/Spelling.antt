@@ -50,22 +50,22 @@ IsNameNumberAndArg symbols bytes n t = Spells (is_name_number n && term_arg_is_w
 abbrev pub AreArgs : List Symbol → List ℕ → ModalArg → TermArg → Type 0
 AreArgs symbols bytes m t = Spells (modal_is_written m && term_arg_is_written symbols t) (modal_text m ++ term_arg_text symbols t) bytes
 
--- a use step behind its first word
+-- a use step after its first word
 abbrev pub IsUse : List Symbol → List ℕ → ℕ → ModalArg → TermArg → Type 0
 IsUse symbols bytes n m t = Spells (is_number n && (modal_is_written m && term_arg_is_written symbols t)) (decimal n ++ (modal_text m ++ term_arg_text symbols t)) bytes
 
--- an axiom step behind its first word
+-- an axiom step after its first word
 abbrev pub IsNumberPair : List ℕ → ℕ → ℕ → Type 0
 IsNumberPair bytes n k = Spells (is_number n && is_number k) (decimal n ++ (32 ∷ decimal k)) bytes
 
 abbrev pub IsStep : List Symbol → List ℕ → Step → Type 0
 IsStep symbols bytes x = Spells (step_is_written symbols x) (step_line symbols x) bytes
 
--- an eigenvariable behind `name $$e`
+-- an eigenvariable after `name $$e`
 abbrev pub IsEigen : List ℕ → ℕ → Label → Type 0
 IsEigen bytes n w = Spells (is_number n && label_is_written w) (decimal n ++ (32 ∷ label_text w)) bytes
 
--- a spare constant behind `name $$s`
+-- a spare constant after `name $$s`
 abbrev pub IsSpare : List ℕ → ℕ → Home → Type 0
 IsSpare bytes n h = Spells (is_number n && home_is_written h) (decimal n ++ (32 ∷ home_text h)) bytes
 

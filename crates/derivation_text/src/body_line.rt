@@ -1,4 +1,4 @@
-//! The lines behind the head of a derivation's text, and their order.
+//! The lines after the head of a derivation's text, and their order.
 
 ghost use Rattle.std.specs.Prelude.{◌≡◌};
 ghost use Rattle.derivation_text.specs.Body.{stage_after};
@@ -7,7 +7,7 @@ ghost use Rattle.derivation_text.specs.BodyView.{the_body_line};
 use logic_rules::Label;
 use sequent_calc::{Home, Step};
 
-/// A line behind the head.
+/// A line after the head.
 #[derive(Drop)]
 pub enum BodyLine {
     Eigen(u32, Label),
@@ -16,8 +16,8 @@ pub enum BodyLine {
     End,
 }
 
-/// What the line before was: the name of an eigenvariable or of a spare constant, with its number, a step, or `end`. Behind the head
-/// it is as behind an eigenvariable of number 0.
+/// What the last line was, which decides what may follow. Names carry their number, since numbers rise; reading starts
+/// at `Eigens(0)`.
 #[derive(Clone, Copy, Debug, PartialEq, Eq)]
 pub enum Stage {
     Eigens(u32),
@@ -26,7 +26,7 @@ pub enum Stage {
     Ended,
 }
 
-/// The stage behind one line more, if it may stand there.
+/// The stage after one line more, if it may stand there.
 pub fn stage_after(stage: Stage, line: &BodyLine) -> Option<Stage>
     ensures { result ≡ stage_after stage (the_body_line line.now) }
 {

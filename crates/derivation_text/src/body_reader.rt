@@ -1,4 +1,4 @@
-//! Reading the lines behind the head.
+//! Reading the lines after the head.
 
 ghost use Rattle.std.specs.Prelude.{◌≡◌, Err, IfOk, IsTrue, None, Some};
 ghost use Rattle.calculus.specs.Problems.{is_problem};
@@ -8,7 +8,7 @@ ghost use Rattle.derivation_text.specs.BodyView.{the_body_line};
 
 use crate::body_line::{BodyLine, Stage, stage_after};
 use crate::name_line_reader::{read_eigen, read_spare};
-use crate::part_reader::rest_behind;
+use crate::part_reader::rest_after;
 use crate::step_reader::read_step;
 use formula_text::TextRead;
 use logic_rules::Problem;
@@ -21,11 +21,11 @@ fn read_body_line(alloc: Global, problem: &Problem, text: &[u8]) -> Result<BodyL
     if text == b"end".as_slice() {
         return Ok(BodyLine::End);
     }
-    if let Some(rest) = rest_behind(text, b"name $$e") {
+    if let Some(rest) = rest_after(text, b"name $$e") {
         let (number, home) = read_eigen(alloc, rest)?;
         return Ok(BodyLine::Eigen(number, home));
     }
-    if let Some(rest) = rest_behind(text, b"name $$s") {
+    if let Some(rest) = rest_after(text, b"name $$s") {
         let (number, home) = read_spare(alloc, rest)?;
         return Ok(BodyLine::Spare(number, home));
     }
@@ -33,7 +33,7 @@ fn read_body_line(alloc: Global, problem: &Problem, text: &[u8]) -> Result<BodyL
     Ok(BodyLine::Step(step))
 }
 
-/// The line that the text is, if it may stand at a stage, and the stage behind it.
+/// The line that the text is, if it may stand at a stage, and the stage after it.
 pub fn read_next(
     alloc: Global,
     problem: &Problem,

@@ -1,8 +1,8 @@
-//! The causes of faults behind the head.
+//! The causes of faults after the head.
 
 ghost use Rattle.std.specs.Prelude.{◌≡◌, None, Some};
 ghost use Rattle.calculus.specs.Judgement.{is_name_line};
-ghost use Rattle.derivation_text.specs.Reading.{cause_behind};
+ghost use Rattle.derivation_text.specs.Reading.{cause_at_stage};
 
 use crate::body_line::Stage;
 use calculus::fault::TextCause;
@@ -15,7 +15,7 @@ fn is_name_line(line: &[u8]) -> bool
 
 /// The cause where a whole line may not stand at a stage.
 pub fn cause_at_line(stage: Stage, line: &[u8]) -> TextCause
-    ensures { result ≡ cause_behind stage (Some line.now) }
+    ensures { result ≡ cause_at_stage stage (Some line.now) }
 {
     match stage {
         Stage::Eigens(_) | Stage::Spares(_) => if is_name_line(line) {
@@ -30,7 +30,7 @@ pub fn cause_at_line(stage: Stage, line: &[u8]) -> TextCause
 
 /// The cause where no whole line follows.
 pub fn cause_at_end(stage: Stage) -> TextCause
-    ensures { result ≡ cause_behind stage None }
+    ensures { result ≡ cause_at_stage stage None }
 {
     match stage {
         Stage::Eigens(_) | Stage::Spares(_) | Stage::Steps => TextCause::Line,

@@ -10,15 +10,15 @@ ghost use Rattle.derivation_text.specs.Reading.{IsHeadRead, IsLineAt, IsFaultOf}
 
 use crate::fault::ParseFault;
 use crate::lines::line_at;
-use crate::part_reader::{read_limit, rest_behind};
+use crate::part_reader::{read_limit, rest_after};
 use calculus::fault::TextCause;
 use cop_base::NoMemory;
 use formula_text::{write_formula, write_setting};
 use logic_rules::Problem;
 use std::alloc::{AllocError, Global};
 
-// The place behind a line that begins at a place.
-fn behind_line(text: &[u8], from: usize, line: &[u8]) -> Option<usize>
+// The place after a line that begins at a place.
+fn after_line(text: &[u8], from: usize, line: &[u8]) -> Option<usize>
     requires { from ≤ length text.now }
     ensures some { IfSome result (λ to. IsLineAt text.now from to line.now) }
     ensures none { IsNone result → (more : List (List ℕ)) → ¬ (whole_lines (drop from text.now) ≡ line.now ∷ more) }
@@ -27,8 +27,8 @@ fn behind_line(text: &[u8], from: usize, line: &[u8]) -> Option<usize>
     if found == line { Some(to) } else { None }
 }
 
-// The limit of a line that begins at a place, and the place behind the line.
-fn limit_behind(text: &[u8], from: usize) -> Option<(u8, usize)>
+// The limit of a line that begins at a place, and the place after the line.
+fn limit_after(text: &[u8], from: usize) -> Option<(u8, usize)>
     requires { from ≤ length text.now }
     ensures some { IfSome result (λ r. IsLineAt text.now from r.1 (codes "limit " ++ decimal r.0)) }
     ensures limit { IfSome result (λ r. IsTrue (is_limit r.0)) }
@@ -36,7 +36,7 @@ fn limit_behind(text: &[u8], from: usize) -> Option<(u8, usize)>
         → ¬ (whole_lines (drop from text.now) ≡ (codes "limit " ++ decimal n) ∷ more) }
 {
     let (line, to) = line_at(text, from)?;
-    let rest = rest_behind(line, b"limit ")?;
+    let rest = rest_after(line, b"limit ")?;
     let limit = read_limit(rest)?;
     Some((limit, to))
 }
@@ -61,33 +61,33 @@ fn formula_line(alloc: Global, problem: &Problem) -> Result<Vec<u8>, NoMemory>
     Ok(out)
 }
 
-/// The limit and the place behind the head.
+/// The limit and the place after the head.
 pub fn read_head(alloc: Global, problem: &Problem, bytes: &[u8]) -> Result<(u8, usize), ParseFault>
     ensures ok { IfOk result (λ r. IsHeadRead problem.now bytes.now r.1 r.0) }
     ensures fault { (line : ℕ) (cause : TextCause) → result ≡ Err (ParseFault.Text line cause) → IsFaultOf problem.now bytes.now line cause }
     ensures well { IsTrue (is_problem problem.now) }
 {
     let setting = setting_line(alloc, problem)?;
-    let Some(first) = behind_line(bytes, 0, b"leancop derivation 1") else {
+    let Some(first) = after_line(bytes, 0, b"leancop derivation 1") else {
         return Err(ParseFault::Text {
             line: 1,
             cause: TextCause::Version,
         });
     };
-    let Some(second) = behind_line(bytes, first, setting.as_slice()) else {
+    let Some(second) = after_line(bytes, first, setting.as_slice()) else {
         return Err(ParseFault::Text {
             line: 2,
             cause: TextCause::Setting,
         });
     };
     let formula = formula_line(alloc, problem)?;
-    let Some(third) = behind_line(bytes, second, formula.as_slice()) else {
+    let Some(third) = after_line(bytes, second, formula.as_slice()) else {
         return Err(ParseFault::Text {
             line: 3,
             cause: TextCause::Formula,
         });
     };
-    let Some((limit, end)) = limit_behind(bytes, third) else {
+    let Some((limit, end)) = limit_after(bytes, third) else {
         return Err(ParseFault::Text {
             line: 4,
             cause: TextCause::Limit,

@@ -19,7 +19,7 @@ fn line_feed(text: &[u8]) -> Option<usize>
     None
 }
 
-/// The line that begins at a place, and the place behind its line feed.
+/// The line that begins at a place, and the place after its line feed.
 pub fn line_at(text: &[u8], from: usize) -> Option<(&[u8], usize)>
     requires { from ≤ length text.now }
     ensures some { IfSome result (λ r. IsLineAt text.now from r.1 r.0.now) }

@@ -5,13 +5,13 @@ ghost use Rattle.calculus.specs.Derivations as derivation;
 ghost use Rattle.derivation_text.specs.Spelling.{IsEigen, IsSpare};
 ghost use Rattle.sequent_calc.specs.NamesView.{the_home};
 
-use crate::part_reader::{read_front_number, read_home, read_whole_label, rest_behind};
+use crate::part_reader::{read_front_number, read_home, read_whole_label, rest_after};
 use formula_text::TextRead;
 use logic_rules::Label;
 use sequent_calc::Home;
 use std::alloc::Global;
 
-/// The number and the home of an eigenvariable behind `name $$e`.
+/// The number and the home of an eigenvariable after `name $$e`.
 pub fn read_eigen(alloc: Global, text: &[u8]) -> Result<(u32, Label), TextRead>
     ensures ok { IfOk result (λ r. IsEigen text.now r.0 r.1) }
     ensures none { result ≡ Err TextRead.None → (n : ℕ) (w : derivation.Label) → ¬ IsEigen text.now n w }
@@ -19,14 +19,14 @@ pub fn read_eigen(alloc: Global, text: &[u8]) -> Result<(u32, Label), TextRead>
     let Some((n, rest)) = read_front_number(text) else {
         return Err(TextRead::None);
     };
-    let Some(rest) = rest_behind(rest, b" ") else {
+    let Some(rest) = rest_after(rest, b" ") else {
         return Err(TextRead::None);
     };
     let home = read_whole_label(alloc, rest)?;
     Ok((n, home))
 }
 
-/// The number and the home of a spare constant behind `name $$s`.
+/// The number and the home of a spare constant after `name $$s`.
 pub fn read_spare(alloc: Global, text: &[u8]) -> Result<(u32, Home), TextRead>
     ensures ok { IfOk result (λ r. IsSpare text.now r.0 (the_home r.1)) }
     ensures none { result ≡ Err TextRead.None → (n : ℕ) (h : derivation.Home) → ¬ IsSpare text.now n h }
@@ -34,7 +34,7 @@ pub fn read_spare(alloc: Global, text: &[u8]) -> Result<(u32, Home), TextRead>
     let Some((n, rest)) = read_front_number(text) else {
         return Err(TextRead::None);
     };
-    let Some(rest) = rest_behind(rest, b" ") else {
+    let Some(rest) = rest_after(rest, b" ") else {
         return Err(TextRead::None);
     };
     let home = read_home(alloc, rest)?;

@@ -23,7 +23,7 @@ use logic_rules::Problem;
 use sequent_calc::Derivation;
 use std::alloc::Global;
 
-// Puts a line behind those of a derivation.
+// Puts a line after those of a derivation.
 fn put_line(d: &mut Derivation, line: BodyLine) -> Result<(), NoMemory>
     ensures { OnOk result (the_derivation d.new ≡ with_line (the_derivation d.old) (the_body_line line)) }
 {
@@ -42,7 +42,7 @@ fn has_ended(stage: Stage, place: usize, length: usize) -> bool
     stage == Stage::Ended && place == length
 }
 
-// The lines behind the head, which has four.
+// The lines after the head, which has four.
 fn read_body(
     alloc: Global,
     problem: &Problem,

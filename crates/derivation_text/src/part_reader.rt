@@ -14,7 +14,7 @@ use sequent_calc::Home;
 use std::alloc::Global;
 
 /// What follows these bytes at the beginning of a text.
-pub fn rest_behind<'a>(text: &'a [u8], front: &[u8]) -> Option<&'a [u8]>
+pub fn rest_after<'a>(text: &'a [u8], front: &[u8]) -> Option<&'a [u8]>
     ensures some { IfSome result (λ r. text.now ≡ front.now ++ r.now) }
     ensures none { IsNone result → (rest : List ℕ) → ¬ (text.now ≡ front.now ++ rest) }
 {

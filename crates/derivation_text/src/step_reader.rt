@@ -7,7 +7,7 @@ ghost use Rattle.sequent_calc.specs.StepView.{the_modal, the_step, the_term_arg}
 
 use crate::part_reader::{
     read_front_label, read_front_number, read_name_number, read_whole_number, read_whole_term,
-    rest_behind,
+    rest_after,
 };
 use formula_text::TextRead;
 use logic_rules::{Label, Problem};
@@ -22,11 +22,11 @@ fn read_term_arg(alloc: Global, problem: &Problem, text: &[u8]) -> Result<TermAr
     if text.is_empty() {
         return Ok(TermArg::None);
     }
-    if let Some(rest) = rest_behind(text, b" term ") {
+    if let Some(rest) = rest_after(text, b" term ") {
         let term = read_whole_term(alloc, problem, rest)?;
         return Ok(TermArg::Term(term));
     }
-    let Some(rest) = rest_behind(text, b" name $$e") else {
+    let Some(rest) = rest_after(text, b" name $$e") else {
         return Err(TextRead::None);
     };
     match read_name_number(rest) {
@@ -76,11 +76,11 @@ fn read_args(alloc: Global, problem: &Problem, text: &[u8]) -> Result<(ModalArg,
     ensures ok { IfOk result (λ r. AreArgs problem.now.symbols text.now (the_modal r.0) (the_term_arg r.1)) }
     ensures none { result ≡ Err TextRead.None → (m : derivation.ModalArg) (t : derivation.TermArg) → ¬ AreArgs problem.now.symbols text.now m t }
 {
-    if let Some(rest) = rest_behind(text, b" to ") {
+    if let Some(rest) = rest_after(text, b" to ") {
         let (label, arg) = read_label_and_arg(alloc, problem, rest)?;
         return Ok((ModalArg::To(label), arg));
     }
-    if let Some(rest) = rest_behind(text, b" new $$c") {
+    if let Some(rest) = rest_after(text, b" new $$c") {
         let (n, arg) = read_new_and_arg(alloc, problem, rest)?;
         return Ok((ModalArg::New(n), arg));
     }
@@ -88,7 +88,7 @@ fn read_args(alloc: Global, problem: &Problem, text: &[u8]) -> Result<(ModalArg,
     Ok((ModalArg::None, arg))
 }
 
-// A use step behind its first word.
+// A use step after its first word.
 fn read_use(
     alloc: Global,
     problem: &Problem,
@@ -110,7 +110,7 @@ fn read_number_pair(text: &[u8]) -> Option<(u32, u32)>
     ensures none { IsNone result → (n k : ℕ) → ¬ IsNumberPair text.now n k }
 {
     let (given, rest) = read_front_number(text)?;
-    let rest = rest_behind(rest, b" ")?;
+    let rest = rest_after(rest, b" ")?;
     let shown = read_whole_number(rest)?;
     Some((given, shown))
 }
@@ -120,11 +120,11 @@ pub fn read_step(alloc: Global, problem: &Problem, text: &[u8]) -> Result<Step, 
     ensures ok { IfOk result (λ x. IsStep problem.now.symbols text.now (the_step x)) }
     ensures none { result ≡ Err TextRead.None → (x : derivation.Step) → ¬ IsStep problem.now.symbols text.now x }
 {
-    if let Some(rest) = rest_behind(text, b"use ") {
+    if let Some(rest) = rest_after(text, b"use ") {
         let (entry, modal, term) = read_use(alloc, problem, rest)?;
         return Ok(Step::Use { entry, modal, term });
     }
-    let Some(rest) = rest_behind(text, b"axiom ") else {
+    let Some(rest) = rest_after(text, b"axiom ") else {
         return Err(TextRead::None);
     };
     match read_number_pair(rest) {

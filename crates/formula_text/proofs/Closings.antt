@@ -1,4 +1,4 @@
--- What the open terms are behind a further term.
+-- What the open terms are after a further term.
 use Rattle.std.proofs.Common.{◌≡◌, ℕ, ◌+◌, ◌<◌, ◌≤◌, List, [], ◌∷◌, ◌++◌, IsTrue, append_assoc, refl, sym, ◌∙◌, ap, subst, length, drop, arith}
 use Rattle.std.proofs.lemmas.List.{length-append, length-drop}
 use Rattle.calculus.specs.Syntax.{Symbol, Term, fun}

@@ -1,4 +1,4 @@
--- A symbol that fits, behind others that fit.
+-- A symbol that fits, after others that fit.
 use Rattle.std.proofs.Common.{◌≡◌, List, [], ◌∷◌, ◌++◌, ◌&&◌, true, IsTrue, refl, ◌∙◌, subst, sym}
 use Rattle.std.specs.List.{list_all}
 use Rattle.std.proofs.lemmas.Bool.{and_from}

@@ -55,7 +55,7 @@ function-text S f n name e = ap (λ o. option_map_or (λ (s : Symbol). symbol_te
 pub contains-at : (S : List Symbol) (f : ℕ) (x : Symbol) → slice_get S f ≡ Some x → Contains S x
 contains-at S f x e = (f, slice_get_within S f x e, get_or_from_slice_get S f x x e)
 
--- ---- what stands before and behind arguments
+-- ---- what stands before and after arguments
 
 pub args-stop : (S : List Symbol) (ts : Terms) (r : List ℕ) → Ends r → StopsAt is_word_byte (args_text S 0 ts ++ r)
 args-stop S no_terms r h = ends-word r h
@@ -69,17 +69,17 @@ no-bracket : (r s : List ℕ) → Ends r → r ≡ 40 ∷ s → ⊥
 no-bracket [] s h e = nil-cons e
 no-bracket (b ∷ bs) s h e = false≢true (sym (ap is_ending (cons-head e)) ∙ h)
 
--- ---- what is left of a term behind what was read of it
+-- ---- what is left of a term after what was read of it
 
--- the next argument, those behind it, and what stands behind the term
+-- the next argument, those after it, and what stands after the term
 pub record Left (S : List Symbol) (name : List ℕ) (known : ℕ) (rest : List ℕ) : Type 0 where
   pub next : Term
   pub others : Terms
-  pub behind : List ℕ
+  pub following : List ℕ
   pub symbol : ℕ
   pub next_written : IsTrue (term_is_written S next)
-  pub text : rest ≡ term_text S 0 next ++ (more_args_text S 0 others ++ behind)
-  pub ends : Ends behind
+  pub text : rest ≡ term_text S 0 next ++ (more_args_text S 0 others ++ following)
+  pub ends : Ends following
   pub function : IsFunction S symbol name (known + suc (arity_of others))
 
 record LeftArgs (S : List Symbol) (known : ℕ) (all : ℕ) (rest r : List ℕ) : Type 0 where
@@ -132,7 +132,7 @@ left-frame S d f (fun g (more_terms u us)) rest r hf ht hr e =
     record {
       next = m.next;
       others = m.others;
-      behind = r;
+      following = r;
       symbol = g;
       next_written = m.next_written;
       text = m.text;
@@ -147,40 +147,40 @@ left-stack S d [] f t rest r hf ht hr e = left-frame S d f t rest r (and_parts (
 left-stack S d (h ∷ fs) f t rest r hf ht hr e =
     let p = and_parts (terms_are_written S (terms_tree h.args)) (frames_are_written S (fs ++ f ∷ [])) hf in
     let k = left-frame S d h t (stack_text S (fs ++ f ∷ []) ++ rest) r p.0 ht hr (sym (append_assoc (frame_text S h) (stack_text S (fs ++ f ∷ [])) rest) ∙ e) in
-    left-stack S d fs f k.next rest (more_args_text S 0 k.others ++ k.behind) p.1 k.next_written (more-ends S k.others k.behind) k.text
+    left-stack S d fs f k.next rest (more_args_text S 0 k.others ++ k.following) p.1 k.next_written (more-ends S k.others k.following) k.text
 
 -- ---- no term stands there
 
--- where none can begin behind the open ones
+-- where none can begin after the open ones
 pub no_head : (S : List Symbol) → IsTrue (are_distinct S) → (fs : List Frame) (rest : List ℕ) → IsTrue (frames_are_written S fs) → NoTerm S rest → NoTerm S (stack_text S fs ++ rest)
 no_head S d [] rest hf none = none
 no_head S d (h ∷ fs) rest hf none = λ t r ht hr e.
     let p = and_parts (terms_are_written S (terms_tree h.args)) (frames_are_written S fs) hf in
     let k = left-frame S d h t (stack_text S fs ++ rest) r p.0 ht hr (sym (append_assoc (frame_text S h) (stack_text S fs) rest) ∙ e) in
-    no_head S d fs rest p.1 none k.next (more_args_text S 0 k.others ++ k.behind) k.next_written (more-ends S k.others k.behind) k.text
+    no_head S d fs rest p.1 none k.next (more_args_text S 0 k.others ++ k.following) k.next_written (more-ends S k.others k.following) k.text
 
 -- what follows a further argument of the innermost frame
 record Follows (S : List Symbol) (name : List ℕ) (known : ℕ) (after : List ℕ) : Type 0 where
   others : Terms
-  behind : List ℕ
+  following : List ℕ
   symbol : ℕ
-  text : after ≡ more_args_text S 0 others ++ behind
-  ends : Ends behind
+  text : after ≡ more_args_text S 0 others ++ following
+  ends : Ends following
   function : IsFunction S symbol name (known + suc (arity_of others))
 
 follows : (S : List Symbol) → IsTrue (are_distinct S) → (fs : List Frame) (f : Frame) (v t : Term) (after r : List ℕ) → IsTrue (frames_are_written S (fs ++ f ∷ [])) → IsTrue (term_is_written S v) → Ends after → IsTrue (term_is_written S t) → Ends r
     → stack_text S (fs ++ f ∷ []) ++ (term_text S 0 v ++ after) ≡ term_text S 0 t ++ r → Follows S f.name (length f.args) after
 follows S d fs f v t after r hf hv ha ht hr e =
     let k = left-stack S d fs f t (term_text S 0 v ++ after) r hf ht hr e in
-    let s = term-split S d v k.next after (more_args_text S 0 k.others ++ k.behind) hv k.next_written ha (more-ends S k.others k.behind) k.text in
-    record { others = k.others; behind = k.behind; symbol = k.symbol; text = s.1; ends = k.ends; function = k.function }
+    let s = term-split S d v k.next after (more_args_text S 0 k.others ++ k.following) hv k.next_written ha (more-ends S k.others k.following) k.text in
+    record { others = k.others; following = k.following; symbol = k.symbol; text = s.1; ends = k.ends; function = k.function }
 
 -- nor where neither a comma nor a closing bracket follows
 pub no_follower : (S : List Symbol) → IsTrue (are_distinct S) → (fs : List Frame) (f : Frame) (v : Term) (after : List ℕ) → IsTrue (frames_are_written S (fs ++ f ∷ [])) → IsTrue (term_is_written S v) → Ends after
     → ((r : List ℕ) → ¬ (after ≡ 44 ∷ r)) → ((r : List ℕ) → ¬ (after ≡ 41 ∷ r)) → NoTerm S (stack_text S (fs ++ f ∷ []) ++ (term_text S 0 v ++ after))
 no_follower S d fs f v after hf hv ha comma closed = λ t r ht hr e.
     let k = follows S d fs f v t after r hf hv ha ht hr e in
-    by k.others k.behind k.text
+    by k.others k.following k.text
   where
     by : (us : Terms) (b : List ℕ) → after ≡ more_args_text S 0 us ++ b → ⊥
     by no_terms b g = closed b g
@@ -195,7 +195,7 @@ record Closes (S : List Symbol) (name : List ℕ) (n : ℕ) (after : List ℕ) :
 closes : (S : List Symbol) (name : List ℕ) (known : ℕ) (after : List ℕ) → Follows S name known (41 ∷ after) → Closes S name (known + 1) after
 closes S name known after k = by k.others k.text k.function
   where
-    by : (us : Terms) → 41 ∷ after ≡ more_args_text S 0 us ++ k.behind → IsFunction S k.symbol name (known + suc (arity_of us)) → Closes S name (known + 1) after
+    by : (us : Terms) → 41 ∷ after ≡ more_args_text S 0 us ++ k.following → IsFunction S k.symbol name (known + suc (arity_of us)) → Closes S name (known + 1) after
     by no_terms g h = record { symbol = k.symbol; ends = subst Ends (sym (cons-tail g)) k.ends; function = h }
     by (more_terms u us) g h = absurd (false≢true (ap (λ z. z == 44) (cons-head g)))
 
@@ -250,7 +250,7 @@ closed-args : (S : List Symbol) (ts : List Term) (v : Term) → args_text S 0 (t
 closed-args S [] v = refl
 closed-args S (t ∷ ts) v = ap (λ l. 40 ∷ (term_text S 0 t ++ l)) (more-push S ts v) ∙ ap (λ l. 40 ∷ l) (sym (append_assoc (term_text S 0 t) (44 ∷ args_front S ts) (term_text S 0 v ++ 41 ∷ [])))
 
--- a comma behind an argument
+-- a comma after an argument
 pub go-on : (S : List Symbol) (fs : List Frame) (f : Frame) (v : Term) (after : List ℕ) → stack_text S (fs ++ f ∷ []) ++ (term_text S 0 v ++ 44 ∷ after) ≡ stack_text S (fs ++ record { name = f.name; args = f.args ++ v ∷ [] } ∷ []) ++ after
 go-on S fs f v after =
     rw (stack-push S fs f, stack-push S fs (record { name = f.name; args = f.args ++ v ∷ [] }), args-push S f.args v)

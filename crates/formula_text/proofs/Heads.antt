@@ -12,7 +12,7 @@ use Rattle.calculus.proofs.TextLaws.{cons-tail, decimal-split, name-dollar, name
 use Rattle.calculus.proofs.TermTextLaws.{ends-digit}
 use Rattle.formula_text.proofs.Frames.{args-stop, contains-at, fun-on, named}
 use Rattle.formula_text.proofs.Numbers.{small}
-use Rattle.formula_text.proofs.Places.{behind-text, stands-front}
+use Rattle.formula_text.proofs.Places.{after-text, stands-front}
 use Rattle.formula_text.specs.Frames.{IsFunction, IsMadeAt, NoFunction}
 use Rattle.formula_text.specs.Runs.{IsNumberedAt}
 
@@ -25,13 +25,13 @@ no_numbered bytes from none to (eigen n) h =
     none (from + length (36 ∷ 36 ∷ 101 ∷ decimal n)) 101 n (record {
       written = h.whole.written;
       stands = stands-front bytes (36 ∷ 36 ∷ 101 ∷ decimal n) (drop to bytes) from h.whole.text;
-      ends = subst (StopsAt is_digit) (sym (behind-text bytes (36 ∷ 36 ∷ 101 ∷ decimal n) (drop to bytes) from h.whole.text)) (ends-digit (drop to bytes) h.whole.ends);
+      ends = subst (StopsAt is_digit) (sym (after-text bytes (36 ∷ 36 ∷ 101 ∷ decimal n) (drop to bytes) from h.whole.text)) (ends-digit (drop to bytes) h.whole.ends);
     })
 no_numbered bytes from none to (spare n) h =
     none (from + length (36 ∷ 36 ∷ 115 ∷ decimal n)) 115 n (record {
       written = h.whole.written;
       stands = stands-front bytes (36 ∷ 36 ∷ 115 ∷ decimal n) (drop to bytes) from h.whole.text;
-      ends = subst (StopsAt is_digit) (sym (behind-text bytes (36 ∷ 36 ∷ 115 ∷ decimal n) (drop to bytes) from h.whole.text)) (ends-digit (drop to bytes) h.whole.ends);
+      ends = subst (StopsAt is_digit) (sym (after-text bytes (36 ∷ 36 ∷ 115 ∷ decimal n) (drop to bytes) from h.whole.text)) (ends-digit (drop to bytes) h.whole.ends);
     })
 
 numbers : (m n : ℕ) (r s : List ℕ) → IsTrue (is_name_number m) → IsTrue (is_name_number n) → StopsAt is_digit r → StopsAt is_digit s → decimal m ++ r ≡ decimal n ++ s → r ≡ s
@@ -58,7 +58,7 @@ no_made S bytes from e none (eigen n) r ht hr g =
       whole = record {
         written = ht;
         text = (stands-front bytes (term_text S 0 (eigen n)) r from g).there;
-        ends = subst Ends (sym (behind-text bytes (term_text S 0 (eigen n)) r from g)) hr;
+        ends = subst Ends (sym (after-text bytes (term_text S 0 (eigen n)) r from g)) hr;
       };
     })
 no_made S bytes from e none (spare n) r ht hr g =
@@ -67,7 +67,7 @@ no_made S bytes from e none (spare n) r ht hr g =
       whole = record {
         written = ht;
         text = (stands-front bytes (term_text S 0 (spare n)) r from g).there;
-        ends = subst Ends (sym (behind-text bytes (term_text S 0 (spare n)) r from g)) hr;
+        ends = subst Ends (sym (after-text bytes (term_text S 0 (spare n)) r from g)) hr;
       };
     })
 
@@ -91,7 +91,7 @@ no_name S bytes from fits dollar none (fun f ts) r ht hr g =
     none (from + length (name_text x.0)) x.0 (record {
       written = function-name S f (arity_of ts) x.0 fits x.1.is;
       stands = stands-front bytes (name_text x.0) (args_text S 0 ts ++ r) from k;
-      ends = subst (StopsAt is_word_byte) (sym (behind-text bytes (name_text x.0) (args_text S 0 ts ++ r) from k)) (args-stop S ts r hr);
+      ends = subst (StopsAt is_word_byte) (sym (after-text bytes (name_text x.0) (args_text S 0 ts ++ r) from k)) (args-stop S ts r hr);
     })
 no_name S bytes from fits dollar none (eigen n) r ht hr g = dollar _ g
 no_name S bytes from fits dollar none (spare n) r ht hr g = dollar _ g

@@ -9,7 +9,7 @@ use Rattle.calculus.specs.Text.{Ends, StopsAt, is_digit, is_number, label_text, 
 use Rattle.calculus.proofs.TextLaws.{cons-head, cons-tail, decimal-split}
 use Rattle.calculus.proofs.TermTextLaws.{label-split}
 use Rattle.formula_text.proofs.Numbers.{small}
-use Rattle.formula_text.proofs.Places.{behind-text, stands-by, stands-front}
+use Rattle.formula_text.proofs.Places.{after-text, stands-by, stands-front}
 use Rattle.formula_text.proofs.Rests.{join-marks}
 use Rattle.formula_text.specs.Marks.{AreMarksAt, IsInnerAt, IsMarkAt, front_text}
 use Rattle.formula_text.specs.Rests.{marks_text, more_marks_text}
@@ -42,7 +42,7 @@ marks-push (x ∷ w) m = ap (λ l. mark_text x ++ l) (more-push w m) ∙ sym (ap
 pub written-push : (w : Label) (m : Mark) → IsTrue (label_is_written w) → IsTrue (mark_is_written m) → IsTrue (label_is_written (w ++ m ∷ []))
 written-push w m h k = list_all-append mark_is_written w (m ∷ []) ∙ and_from (label_is_written w) (mark_is_written m && true) h (and_from (mark_is_written m) true k refl)
 
--- a character and a comma behind it
+-- a character and a comma after it
 pub step-more : (bytes : List ℕ) (from place end : ℕ) (w : Label) (m : Mark) → drop from bytes ≡ front_text w ++ drop place bytes → IsMarkAt bytes place end m → drop end bytes ≡ 44 ∷ drop (end + 1) bytes
     → drop from bytes ≡ front_text (w ++ m ∷ []) ++ drop (end + 1) bytes
 step-more bytes from place end w m e h k = glue (front_text w) (mark_text m) (drop from bytes) (drop place bytes) (drop end bytes) (drop (end + 1) bytes) (front_text (w ++ m ∷ [])) e h.stands.there k (front-push w m)
@@ -80,7 +80,7 @@ more-stops : (w : Label) (r : List ℕ) → StopsAt is_digit (more_marks_text w 
 more-stops [] r = refl
 more-stops (m ∷ w) r = refl
 
--- what is left of a label behind the characters that were read
+-- what is left of a label after the characters that were read
 pub record Left (rest r : List ℕ) : Type 0 where
   pub next : Mark
   pub others : Label
@@ -107,10 +107,10 @@ no_mark bytes from place w e h none to v s =
     none (place + length (mark_text left.next)) left.next (record {
       written = left.next_written;
       stands = stands-front bytes (mark_text left.next) (more_marks_text left.others ++ 93 ∷ drop to bytes) place left.text;
-      ends = subst (StopsAt is_digit) (sym (behind-text bytes (mark_text left.next) (more_marks_text left.others ++ 93 ∷ drop to bytes) place left.text)) (more-stops left.others (drop to bytes));
+      ends = subst (StopsAt is_digit) (sym (after-text bytes (mark_text left.next) (more_marks_text left.others ++ 93 ∷ drop to bytes) place left.text)) (more-stops left.others (drop to bytes));
     })
 
--- nor where neither a comma nor a bracket stands behind a character
+-- nor where neither a comma nor a bracket stands after a character
 pub no_follower : (bytes : List ℕ) (from place end : ℕ) (w : Label) (m : Mark) → drop from bytes ≡ front_text w ++ drop place bytes → IsTrue (label_is_written w) → IsMarkAt bytes place end m
     → ((rest : List ℕ) → ¬ (drop end bytes ≡ 93 ∷ rest)) → ((rest : List ℕ) → ¬ (drop end bytes ≡ 44 ∷ rest)) → (to : ℕ) (v : Label) → ¬ AreMarksAt bytes from to v
 no_follower bytes from place end w m e h mark closed comma to v s =

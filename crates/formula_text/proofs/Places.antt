@@ -13,9 +13,9 @@ stands-by bytes t from to h k e = record {
 pub onward-drop : (bytes : List ℕ) (from k : ℕ) → drop (from + k) bytes ≡ drop k (drop from bytes)
 onward-drop bytes from k = sym (drop-drop k from bytes)
 
--- behind a text that stands at a place
-pub behind-text : (bytes t r : List ℕ) (from : ℕ) → drop from bytes ≡ t ++ r → drop (from + length t) bytes ≡ r
-behind-text bytes t r from e = onward-drop bytes from (length t) ∙ front_rest (drop from bytes) t r e
+-- after a text that stands at a place
+pub after-text : (bytes t r : List ℕ) (from : ℕ) → drop from bytes ≡ t ++ r → drop (from + length t) bytes ≡ r
+after-text bytes t r from e = onward-drop bytes from (length t) ∙ front_rest (drop from bytes) t r e
 
 pub stands-front : (bytes t r : List ℕ) (from : ℕ) → drop from bytes ≡ t ++ r → StandsAt bytes from (from + length t) t
-stands-front bytes t r from e = record { there = e ∙ ap (λ l. t ++ l) (sym (behind-text bytes t r from e)); place = refl }
+stands-front bytes t r from e = record { there = e ∙ ap (λ l. t ++ l) (sym (after-text bytes t r from e)); place = refl }

@@ -66,12 +66,12 @@ front-some b (Some p) n r e =
     (p.0, ap (λ k. let o : Option (List ℕ × List ℕ) = Some (p.0, k) in o) (ap (λ z. z.1) q), sym (ap (λ z. z.0) q))
 
 -- the Bool tells whether a `\` stands before the bytes
-abbrev behind : Bool → List ℕ → List ℕ
-behind true bs = 92 ∷ bs
-behind false bs = bs
+abbrev with_escape : Bool → List ℕ → List ℕ
+with_escape true bs = 92 ∷ bs
+with_escape false bs = bs
 
 record Reads (pending : Bool) (bs n r : List ℕ) : Type 0 where
-  text : behind pending bs ≡ flat_map escaped n ++ 39 ∷ r
+  text : with_escape pending bs ≡ flat_map escaped n ++ 39 ∷ r
   bytes : IsTrue (list_all is_name_byte n)
 
 special-name : (b : ℕ) → is_special b ≡ true → IsTrue (is_name_byte b)
@@ -139,7 +139,7 @@ quoted-name bytes from to name h begins k found whole =
     nonempty [] h k = absurd (h refl)
     nonempty (b ∷ n) h k = k
 
--- the name that stands behind a quote
+-- the name that stands after a quote
 bare-text : (a r : List ℕ) → is_lower_word a ≡ true → name_text a ++ r ≡ a ++ r
 bare-text a r h = rw h refl
 

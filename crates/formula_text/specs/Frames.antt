@@ -12,7 +12,7 @@ use Rattle.formula_text.specs.declared.term_reader.Head.TheVariants.{Open, Whole
 use Rattle.formula_text.specs.declared.term_reader.Closed.{Closed}
 use Rattle.formula_text.specs.declared.term_reader.Closed.TheVariants.{More, Whole as WholeTerm}
 
--- arguments with a comma behind each
+-- arguments with a comma after each
 abbrev pub args_front : List Symbol → List Term → List ℕ
 args_front symbols [] = []
 args_front symbols (t ∷ ts) = term_text symbols 0 t ++ 44 ∷ args_front symbols ts
@@ -61,12 +61,12 @@ abbrev pub IsHead : List Symbol → List ℕ → ℕ → Head → Type 0
 IsHead symbols bytes from (Open name end) = (drop from bytes ≡ name_text name ++ 40 ∷ drop end bytes) × (end ≤ length bytes)
 IsHead symbols bytes from (WholeHead t end) = IsWhole symbols (drop from bytes) (drop end bytes) (the_term t) × (end ≤ length bytes)
 
--- what the open terms are behind a further term: they read the same bytes
+-- what the open terms are after a further term: they read the same bytes
 abbrev pub IsClosed : List Symbol → List ℕ → List ℕ → List Frame → Closed → Type 0
 IsClosed symbols bytes read stack (More end) = (read ≡ stack_text symbols stack ++ drop end bytes) × IsTrue (frames_are_written symbols stack) × (end ≤ length bytes)
 IsClosed symbols bytes read stack (WholeTerm t end) = IsWhole symbols read (drop end bytes) (the_term t) × (end ≤ length bytes)
 
--- a further argument stands behind the place
+-- a further argument stands after the place
 abbrev pub IsFurther : ℕ → Closed → Type 0
 IsFurther place (More end) = place < end
 IsFurther place (WholeTerm t end) = ⊤

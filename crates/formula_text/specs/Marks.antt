@@ -11,7 +11,7 @@ pub record IsMarkAt (bytes : List ℕ) (from to : ℕ) (m : Mark) : Type 0 where
   pub stands : StandsAt bytes from to (mark_text m)
   pub ends : StopsAt is_digit (drop to bytes)
 
--- what stands behind the opening bracket of a label, the closing one included
+-- what stands after the opening bracket of a label, the closing one included
 pub record IsInnerAt (bytes : List ℕ) (from to : ℕ) (w : Label) : Type 0 where
   pub written : IsTrue (label_is_written w)
   pub stands : drop from bytes ≡ marks_text w true ++ 93 ∷ drop to bytes
@@ -24,7 +24,7 @@ pub record AreMarksAt (bytes : List ℕ) (from to : ℕ) (w : Label) : Type 0 wh
   pub written : IsTrue (label_is_written w)
   pub stands : drop from bytes ≡ marks_text w true ++ 93 ∷ drop to bytes
 
--- characters with a comma behind each
+-- characters with a comma after each
 abbrev pub front_text : Label → List ℕ
 front_text [] = []
 front_text (m ∷ w) = mark_text m ++ 44 ∷ front_text w

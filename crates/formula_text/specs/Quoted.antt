@@ -1,4 +1,4 @@
--- What stands behind the first quote of a quoted name.
+-- What stands after the first quote of a quoted name.
 use Rattle.std.specs.Prelude.{◌≡◌, ◌≢◌, ℕ, List, [], ◌∷◌, ◌++◌, Bool, true, false, ◌||◌, ◌==◌, Option, Some, None, if◌then◌else◌}
 use Rattle.calculus.specs.Problems.{is_name_byte}
 use Rattle.calculus.specs.Text.{StopsAt, is_lower, is_lower_word, is_word_byte}
@@ -17,7 +17,7 @@ abbrev pub with_front : List ℕ → Option (List ℕ × List ℕ) → Option (L
 with_front front None = None
 with_front front (Some p) = Some (front ++ p.0, p.1)
 
--- a byte of this kind, before bytes that give `escaped` behind a `\` and else `plain`
+-- a byte of this kind, before bytes that give `escaped` after a `\` and else `plain`
 abbrev pub after_byte : ByteKind → ℕ → List ℕ → Option (List ℕ × List ℕ) → Option (List ℕ × List ℕ) → Option (List ℕ × List ℕ)
 after_byte Character b bs escaped plain = with_front (b ∷ []) plain
 after_byte Escape b bs escaped plain = escaped

@@ -13,7 +13,7 @@ pub struct Numbered {
     pub end: usize,
 }
 
-// The letter behind two dollar signs.
+// The letter after two dollar signs.
 fn letter_at(text: &[u8], from: usize) -> Option<u8>
     requires { from ≤ length text.now }
     ensures some { IfSome result (λ l. drop from text.now ≡ 36 ∷ 36 ∷ l ∷ drop (from + 3) text.now) }

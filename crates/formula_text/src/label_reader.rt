@@ -40,7 +40,7 @@ fn read_mark(text: &[u8], from: usize) -> Option<(Mark, usize)>
     }
 }
 
-// One character or more with commas between them, and the place behind the closing bracket.
+// One character or more with commas between them, and the place after the closing bracket.
 fn read_marks(alloc: Global, text: &[u8], from: usize) -> Result<(Label, usize), TextRead>
     requires { from ≤ length text.now }
     ensures ok { IfOk result (λ r. AreMarksAt text.now from r.1 r.0) }
@@ -64,7 +64,7 @@ fn read_marks(alloc: Global, text: &[u8], from: usize) -> Result<(Label, usize),
     }
 }
 
-// What stands behind the opening bracket of a label.
+// What stands after the opening bracket of a label.
 fn read_inner(alloc: Global, text: &[u8], from: usize) -> Result<(Label, usize), TextRead>
     requires { from ≤ length text.now }
     ensures ok { IfOk result (λ r. IsInnerAt text.now from r.1 r.0) }

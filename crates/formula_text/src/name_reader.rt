@@ -73,7 +73,7 @@ fn new_text(alloc: Global, bytes: &[u8]) -> Result<Text, TextRead>
     }
 }
 
-// The characters up to the closing quote, with the pairs replaced, and the place behind it.
+// The characters up to the closing quote, with the pairs replaced, and the place after it.
 #[tactic(auto, using(crate::proofs::Quoted::quoting))]
 fn read_characters(alloc: Global, text: &[u8], from: usize) -> Result<(Vec<u8>, usize), TextRead>
     ensures ok { IfOk result (λ r. quoted_at false (drop from text.now) ≡ Some (r.0.items, drop r.1 text.now)) }

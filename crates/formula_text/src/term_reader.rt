@@ -34,7 +34,7 @@ enum Head {
     Whole(Term, usize),
 }
 
-// What stands behind a term: a comma and a further argument, or the outermost term is whole.
+// What stands after a term: a comma and a further argument, or the outermost term is whole.
 #[derive(Drop)]
 enum Closed {
     More(usize),
@@ -112,7 +112,7 @@ fn finish(symbols: &Symbols, frame: Frame) -> Result<Term, TextRead>
     Ok(Term::Fun(id, args))
 }
 
-// What a term behind the open ones is: an argument that others follow, or the last one of its frame, which is closed, and so on outward.
+// What a term after the open ones is: an argument that others follow, or the last one of its frame, which is closed, and so on outward.
 fn close_frames(
     symbols: &Symbols,
     text: &[u8],

@@ -1,7 +1,7 @@
 use Rattle.std.proofs.lemmas.Bool.Decides.{Decides-eqb}
 use Rattle.std.proofs.lemmas.Slice.Eq.{strip_prefix_is}
 use Rattle.derivation_text.proofs.Parts.{cut-off}
-use Rattle.derivation_text.proofs.part_reader.rest_behind.Goals as goal
+use Rattle.derivation_text.proofs.part_reader.rest_after.Goals as goal
 
 pub returns : goal.returns
 returns c =
