@@ -75,10 +75,7 @@ pub fn read_whole_label(alloc: Global, text: &[u8]) -> Result<Label, TextRead>
     ensures ok { IfOk result (λ w. IsLabel text.now w) }
     ensures none { result ≡ Err TextRead.None → (w : derivation.Label) → ¬ IsLabel text.now w }
 {
-    let (label, rest) = match read_front_label(alloc, text) {
-        Ok(found) => found,
-        Err(fault) => return Err(fault),
-    };
+    let (label, rest) = read_front_label(alloc, text)?;
     if rest.is_empty() {
         Ok(label)
     } else {

@@ -44,10 +44,7 @@ fn read_label_and_arg(
     ensures ok { IfOk result (λ r. IsLabelAndArg problem.now.symbols text.now r.0 (the_term_arg r.1)) }
     ensures none { result ≡ Err TextRead.None → (w : derivation.Label) (t : derivation.TermArg) → ¬ IsLabelAndArg problem.now.symbols text.now w t }
 {
-    let (label, rest) = match read_front_label(alloc, text) {
-        Ok(found) => found,
-        Err(fault) => return Err(fault),
-    };
+    let (label, rest) = read_front_label(alloc, text)?;
     let arg = read_term_arg(alloc, problem, rest)?;
     Ok((label, arg))
 }
