@@ -10,8 +10,11 @@ use crate::{ParseFault, TextCause, parse, print};
 use cop_base::{NoMemory, SymbolId, Text};
 use formula_core::{AddFault, Formula, Symbol, SymbolClass, Symbols, Terms};
 use logic_rules::{Domains, Logic, Problem, Setting};
-use std::alloc::Global;
+use std::alloc::{AllocError, Global};
 use std::test::Fail;
+
+// The first four lines of a derivation.
+const HEAD: &[u8] = b"leancop derivation 1\nlogic classical\nformula (p => p)\nlimit 1\n";
 
 fn one_symbol(alloc: Global) -> Result<Symbols, NoMemory>
     ensures { IfOk result (λ s. s ≡ self_implication.symbols) }
@@ -62,20 +65,31 @@ fn fault_of(alloc: Global, text: &[u8]) -> Result<Option<(u64, TextCause)>, NoMe
     }
 }
 
+// The fault of the text that has these lines after the head.
+fn fault_after_head(alloc: Global, lines: &[u8]) -> Result<Option<(u64, TextCause)>, NoMemory> {
+    let mut text = Vec::new(alloc);
+    text.extend_from_slice(HEAD)?;
+    text.extend_from_slice(lines)?;
+    fault_of(alloc, text.as_slice())
+}
+
 #[test]
 fn reads_and_prints(rt: HostRuntime) -> Result<(), Fail> {
     let alloc = rt.alloc();
-    for text in [
-        b"leancop derivation 1\nlogic classical\nformula (p => p)\nlimit 1\nuse 1\naxiom 2 3\nend\n".as_slice(),
-        b"leancop derivation 1\nlogic classical\nformula (p => p)\nlimit 200\nname $$e1 []\nname $$e9 [$$c1,$$d2]\nname $$s1 any\nname $$s4294967295 []\nuse 0\nuse 3 new $$c1\nuse 4 name $$e1\nuse 6 to [$$c1]\nuse 7 to [] name $$e4294967295\naxiom 7 4294967295\nend\n",
+    for lines in [
+        b"use 1\naxiom 2 3\nend\n".as_slice(),
+        b"name $$e1 []\nname $$e9 [$$c1,$$d2]\nname $$s1 any\nname $$s4294967295 []\nuse 0\nuse 3 new $$c1\nuse 4 name $$e1\nuse 6 to [$$c1]\nuse 7 to [] name $$e4294967295\naxiom 7 4294967295\nend\n",
     ] {
-        assert_eq!(rt; fault_of(alloc, text)?, None);
+        assert_eq!(rt; fault_after_head(alloc, lines)?, None);
     }
+    let most =
+        b"leancop derivation 1\nlogic classical\nformula (p => p)\nlimit 200\nend\n".as_slice();
+    assert_eq!(rt; fault_of(alloc, most)?, None);
     Ok(())
 }
 
 #[test]
-fn tells_the_first_wrong_line(rt: HostRuntime) -> Result<(), Fail> {
+fn tells_faults_of_the_head(rt: HostRuntime) -> Result<(), Fail> {
     let alloc = rt.alloc();
     for (text, line, cause) in [
         (b"".as_slice(), 1, TextCause::Version),
@@ -106,78 +120,32 @@ fn tells_the_first_wrong_line(rt: HostRuntime) -> Result<(), Fail> {
             4,
             TextCause::Limit,
         ),
-        (
-            b"leancop derivation 1\nlogic classical\nformula (p => p)\nlimit 1\n",
-            5,
-            TextCause::Line,
-        ),
-        (
-            b"leancop derivation 1\nlogic classical\nformula (p => p)\nlimit 1\nname $$e0 []\n",
-            5,
-            TextCause::Name,
-        ),
-        (
-            b"leancop derivation 1\nlogic classical\nformula (p => p)\nlimit 1\nname $$e2 []\nname $$e2 []\nend\n",
-            6,
-            TextCause::Name,
-        ),
-        (
-            b"leancop derivation 1\nlogic classical\nformula (p => p)\nlimit 1\nname $$s1 any\nname $$e1 []\nend\n",
-            6,
-            TextCause::Name,
-        ),
-        (
-            b"leancop derivation 1\nlogic classical\nformula (p => p)\nlimit 1\nname $$e1 []",
-            5,
-            TextCause::Line,
-        ),
-        (
-            b"leancop derivation 1\nlogic classical\nformula (p => p)\nlimit 1\nuse 1\nname $$e1 []\nend\n",
-            6,
-            TextCause::Line,
-        ),
-        (
-            b"leancop derivation 1\nlogic classical\nformula (p => p)\nlimit 1\nuse 01\nend\n",
-            5,
-            TextCause::Line,
-        ),
-        (
-            b"leancop derivation 1\nlogic classical\nformula (p => p)\nlimit 1\nuse 4294967296\nend\n",
-            5,
-            TextCause::Line,
-        ),
-        (
-            b"leancop derivation 1\nlogic classical\nformula (p => p)\nlimit 1\nuse 1 new $$c0\nend\n",
-            5,
-            TextCause::Line,
-        ),
-        (
-            b"leancop derivation 1\nlogic classical\nformula (p => p)\nlimit 1\naxiom 2  3\nend\n",
-            5,
-            TextCause::Line,
-        ),
-        (
-            b"leancop derivation 1\nlogic classical\nformula (p => p)\nlimit 1\nuse 1\n",
-            6,
-            TextCause::Line,
-        ),
-        (
-            b"leancop derivation 1\nlogic classical\nformula (p => p)\nlimit 1\nuse 1\nend",
-            6,
-            TextCause::Line,
-        ),
-        (
-            b"leancop derivation 1\nlogic classical\nformula (p => p)\nlimit 1\nuse 1\nend\nend\n",
-            7,
-            TextCause::TextAfterEnd,
-        ),
-        (
-            b"leancop derivation 1\nlogic classical\nformula (p => p)\nlimit 1\nuse 1\nend\n ",
-            7,
-            TextCause::TextAfterEnd,
-        ),
     ] {
         assert_eq!(rt; fault_of(alloc, text)?, Some((line, cause)));
+    }
+    Ok(())
+}
+
+#[test]
+fn tells_faults_after_the_head(rt: HostRuntime) -> Result<(), Fail> {
+    let alloc = rt.alloc();
+    for (lines, line, cause) in [
+        (b"".as_slice(), 5, TextCause::Line),
+        (b"name $$e0 []\n", 5, TextCause::Name),
+        (b"name $$e2 []\nname $$e2 []\nend\n", 6, TextCause::Name),
+        (b"name $$s1 any\nname $$e1 []\nend\n", 6, TextCause::Name),
+        (b"name $$e1 []", 5, TextCause::Line),
+        (b"use 1\nname $$e1 []\nend\n", 6, TextCause::Line),
+        (b"use 01\nend\n", 5, TextCause::Line),
+        (b"use 4294967296\nend\n", 5, TextCause::Line),
+        (b"use 1 new $$c0\nend\n", 5, TextCause::Line),
+        (b"axiom 2  3\nend\n", 5, TextCause::Line),
+        (b"use 1\n", 6, TextCause::Line),
+        (b"use 1\nend", 6, TextCause::Line),
+        (b"use 1\nend\nend\n", 7, TextCause::TextAfterEnd),
+        (b"use 1\nend\n ", 7, TextCause::TextAfterEnd),
+    ] {
+        assert_eq!(rt; fault_after_head(alloc, lines)?, Some((line, cause)));
     }
     Ok(())
 }
