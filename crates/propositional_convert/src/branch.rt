@@ -14,7 +14,7 @@ use std::marker::Model;
 
 /// The numbers of a T node and an F node of one atom.
 #[derive(Clone, Copy)]
-pub(crate) struct Pair {
+pub struct Pair {
     pub given: usize,
     pub shown: usize,
 }
@@ -28,7 +28,7 @@ struct Numbers {
 
 /// The nodes of a branch, whose numbers count from 1.
 #[derive(Drop)]
-pub(crate) struct Branch<'a> {
+pub struct Branch<'a> {
     nodes: Vec<Node<'a>>,
     // Truncation leaves the numbers alone, so one may be stale: past the end, or of another formula. `find` checks.
     numbers: Numbers,
@@ -122,7 +122,7 @@ impl Numbers {
 }
 
 impl<'a> Branch<'a> {
-    pub(crate) fn new(alloc: Global) -> Branch<'a>
+    pub fn new(alloc: Global) -> Branch<'a>
         ensures { result ≡ [] }
     {
         Branch {
@@ -134,13 +134,13 @@ impl<'a> Branch<'a> {
         }
     }
 
-    pub(crate) fn len(&self) -> usize
+    pub fn len(&self) -> usize
         ensures { result ≡ length self.now }
     {
         self.nodes.len()
     }
 
-    pub(crate) fn node(&self, index: usize) -> Node<'a>
+    pub fn node(&self, index: usize) -> Node<'a>
         requires { index < length self.now }
         ensures { slice_get self.now index ≡ Some (the_node result) }
     {
@@ -148,7 +148,7 @@ impl<'a> Branch<'a> {
     }
 
     /// Takes off the nodes past the first `length` ones.
-    pub(crate) fn truncate(&mut self, length: usize)
+    pub fn truncate(&mut self, length: usize)
         ensures { self.new ≡ take length self.old }
     {
         self.nodes.truncate(length);
@@ -183,7 +183,7 @@ impl<'a> Branch<'a> {
     }
 
     /// Whether the literals of the branch make the formula with this sign hold.
-    pub(crate) fn holds(&self, sign: Sign, f: &Formula) -> bool
+    pub fn holds(&self, sign: Sign, f: &Formula) -> bool
         ensures { IsTrue result ↔ IsHeld self.now sign (the_formula f.now) }
     {
         match f {
@@ -206,7 +206,7 @@ impl<'a> Branch<'a> {
     }
 
     /// Adds a node, and gives the pair that it makes with an earlier one, if there is one.
-    pub(crate) fn add(&mut self, node: Node<'a>) -> Result<Option<Pair>, NoMemory>
+    pub fn add(&mut self, node: Node<'a>) -> Result<Option<Pair>, NoMemory>
         requires { length self.old < 2 ^ 32 }
         ensures added { OnOk result (self.new ≡ self.old ++ the_node node.entry ∷ []) }
         ensures pair { IfOk result (λ found. MatchOption found (HasNoPair self.old → HasNoPair self.new) (λ pair. IsPair self.new pair.given pair.shown)) }

@@ -193,7 +193,7 @@ fn put_indexes(waiting: &mut Vec<usize>, from: usize, to: usize) -> Result<(), N
 
 /// Closes the branch with one more node, where the nodes whose indexes do not wait are expanded, and puts its steps to
 /// the others. It calls itself once for each child of a fork, so it goes as deep as forks are nested.
-pub(crate) fn close<'a>(
+pub fn close<'a>(
     plan: &Plan,
     branch: &mut Branch<'a>,
     mut waiting: Vec<usize>,

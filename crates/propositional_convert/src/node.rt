@@ -4,7 +4,7 @@ use formula_core::{Formula, Sign};
 
 /// A signed formula that stands at a position of the problem's formula.
 #[derive(Clone, Copy)]
-pub(crate) struct Node<'a> {
+pub struct Node<'a> {
     pub sign: Sign,
     pub formula: &'a Formula,
     pub position: usize,
@@ -13,7 +13,7 @@ pub(crate) struct Node<'a> {
 /// What a step on a node adds to its branch: nothing, the components of an alpha formula, or one of those of a beta
 /// formula.
 #[derive(Clone, Copy)]
-pub(crate) enum Parts<'a> {
+pub enum Parts<'a> {
     Literal,
     One(Node<'a>),
     Alpha(Node<'a>, Node<'a>),

@@ -4,7 +4,7 @@ use crate::node::Node;
 
 /// What became of a branch when a node was expanded. A fork has two children, each with one node more.
 #[derive(Clone, Copy)]
-pub(crate) enum Outcome<'a> {
+pub enum Outcome<'a> {
     Open,
     Closed,
     Fork(Node<'a>, Node<'a>),

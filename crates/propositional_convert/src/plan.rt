@@ -19,7 +19,7 @@ use tableau_core::{Selection, Side};
 
 /// How many positions each part of a formula has, and the marks of the positions that are to be expanded.
 #[derive(Drop)]
-pub(crate) struct Plan {
+pub struct Plan {
     pub sizes: Vec<usize>,
     pub marks: Vec<bool>,
     ghost same_length: { length marks.items ≡ length sizes.items },
@@ -64,31 +64,16 @@ fn next_side(sides: &[Side]) -> Option<(Side, &[Side])>
     }
 }
 
-// As many marks, none of them set.
-fn unmarked(alloc: Global, count: usize) -> Result<Vec<bool>, NoMemory>
-    ensures { IfOk result (λ marks. length marks.items ≡ count) }
-{
-    let mut marks = Vec::new(alloc);
-    for _ in 0..count {
-        marks.push(false)?;
-    }
-    Ok(marks)
-}
-
 impl Plan {
     /// The plan that marks what the clauses of these selections reach.
-    pub(crate) fn new(
-        alloc: Global,
-        formula: &Formula,
-        selections: &[Selection],
-    ) -> Result<Plan, NoMemory>
+    pub fn new(alloc: Global, formula: &Formula, selections: &[Selection]) -> Result<Plan, NoMemory>
         requires { IsTrue (is_propositional (the_formula formula.now)) }
         ensures sizes { IfOk result (λ plan. plan.sizes.items ≡ sizes_of (the_formula formula.now)) }
         ensures marks { IfOk result (λ plan. MarksClauses plan.marks.items (the_formula formula.now) selections.now) }
     {
         let mut sizes = Vec::new(alloc);
         add_sizes(&mut sizes, formula)?;
-        let marks = unmarked(alloc, sizes.len())?;
+        let marks = vec![in alloc; false; sizes.len()]?;
         let mut plan = Plan { sizes, marks };
         for selection in selections {
             plan.mark_clause(formula, selection);
@@ -137,7 +122,7 @@ impl Plan {
         }
     }
 
-    pub(crate) fn is_marked(&self, position: usize) -> bool
+    pub fn is_marked(&self, position: usize) -> bool
         requires { position < length self.now.sizes.items }
         ensures { IsTrue result ↔ IsMarked self.now.marks.items position }
     {
@@ -145,7 +130,7 @@ impl Plan {
     }
 
     /// What a step on the node adds to its branch.
-    pub(crate) fn parts<'a>(&self, parent: Node<'a>) -> Parts<'a>
+    pub fn parts<'a>(&self, parent: Node<'a>) -> Parts<'a>
         requires { Fits self.now.sizes.items (the_node parent) }
         ensures { ArePartsOf self.now.sizes.items (the_node parent.entry) result }
     {

@@ -58,9 +58,9 @@ impl From<NoMemory> for MatrixFault {
     }
 }
 
-const MOST_CLAUSES: u64 = 100000;
+const MAX_CLAUSES: u64 = 100000;
 
-const MOST_LITERALS: u64 = 1000000;
+const MAX_LITERALS: u64 = 1000000;
 
 /// The matrix of a propositional problem. A matrix of more than 100,000 clauses or 1,000,000 literals is too large, which
 /// is judged before anything is built.
@@ -75,10 +75,10 @@ pub fn build_matrix(alloc: Global, problem: &Problem) -> Result<Matrix, MatrixFa
     ensures instances { ComputesInstances problem.now }
 {
     let formula = problem.formula();
-    if clause_count(formula, Sign::F, MOST_CLAUSES) > MOST_CLAUSES {
+    if clause_count(formula, Sign::F, MAX_CLAUSES) > MAX_CLAUSES {
         return Err(MatrixFault::TooLarge);
     }
-    if literal_count(formula, Sign::F, MOST_LITERALS) > MOST_LITERALS {
+    if literal_count(formula, Sign::F, MAX_LITERALS) > MAX_LITERALS {
         return Err(MatrixFault::TooLarge);
     }
     let clauses = clauses_of(alloc, formula, Sign::F)?;
