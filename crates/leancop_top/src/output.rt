@@ -16,43 +16,36 @@ use std::alloc::{AllocError, Global};
 pub fn status_line(alloc: Global, status: &Status) -> Result<Vec<u8>, NoMemory>
     ensures { IfOk result (λ line. line.items ≡ status_line status.now) }
 {
+    let mut buffer = Buffer::new();
     match status {
-        Status::Exhausted { limit } => number_line(
-            alloc,
-            b"exhausted at limit ".as_slice(),
-            u64::from(*limit),
-        ),
-        Status::BadWords { place } => number_line(alloc, b"bad word ".as_slice(), *place),
-        Status::Missing { name } => name_line(alloc, b"missing: ".as_slice(), name),
-        Status::ReadFault { name } => name_line(alloc, b"read fault: ".as_slice(), name),
+        Status::Exhausted { limit } => {
+            let limit = buffer.format(*limit);
+            value_line(alloc, b"exhausted at limit ", limit.as_bytes())
+        }
+        Status::BadWords { place } => {
+            let place = buffer.format(*place);
+            value_line(alloc, b"bad word ", place.as_bytes())
+        }
+        Status::Missing { name } => value_line(alloc, b"missing: ", name.bytes()),
+        Status::ReadFault { name } => value_line(alloc, b"read fault: ", name.bytes()),
         Status::BadProblem {
             file,
             offset,
             cause,
         } => problem_line(alloc, file, *offset, *cause),
         Status::Rejected { line, fault } => rejection_line(alloc, *line, *fault),
-        Status::Accepted => Ok(Vec::from_slice(alloc, b"accepted\n".as_slice())?),
-        Status::MatrixTooLarge => Ok(Vec::from_slice(alloc, b"matrix too large\n".as_slice())?),
+        Status::Accepted => Ok(Vec::from_slice(alloc, b"accepted\n")?),
+        Status::MatrixTooLarge => Ok(Vec::from_slice(alloc, b"matrix too large\n")?),
         Status::Derived { .. } | Status::WriteFault | Status::NoMemory => Ok(Vec::new(alloc)),
     }
 }
 
-fn number_line(alloc: Global, text: &[u8], number: u64) -> Result<Vec<u8>, NoMemory>
-    ensures { IfOk result (λ line. line.items ≡ text.now ++ decimal number ++ codes "\n") }
-{
-    let mut buffer = Buffer::new();
-    let mut line = Vec::from_slice(alloc, text)?;
-    line.extend_from_slice(buffer.format(number).as_bytes())?;
-    line.extend_from_slice(b"\n".as_slice())?;
-    Ok(line)
-}
-
-fn name_line(alloc: Global, text: &[u8], name: &Text) -> Result<Vec<u8>, NoMemory>
-    ensures { IfOk result (λ line. line.items ≡ text.now ++ name.now ++ codes "\n") }
+fn value_line(alloc: Global, text: &[u8], value: &[u8]) -> Result<Vec<u8>, NoMemory>
+    ensures { IfOk result (λ line. line.items ≡ text.now ++ value.now ++ codes "\n") }
 {
     let mut line = Vec::from_slice(alloc, text)?;
-    line.extend_from_slice(name.bytes())?;
-    line.extend_from_slice(b"\n".as_slice())?;
+    line.extend_from_slice(value)?;
+    line.extend_from_slice(b"\n")?;
     Ok(line)
 }
 
@@ -62,11 +55,11 @@ fn problem_line(alloc: Global, file: &Text, offset: u64, cause: Cause) -> Result
 {
     let mut buffer = Buffer::new();
     let mut line = Vec::from_slice(alloc, file.bytes())?;
-    line.extend_from_slice(b":".as_slice())?;
+    line.extend_from_slice(b":")?;
     line.extend_from_slice(buffer.format(offset).as_bytes())?;
-    line.extend_from_slice(b": ".as_slice())?;
+    line.extend_from_slice(b": ")?;
     line.extend_from_slice(cause_text(cause))?;
-    line.extend_from_slice(b"\n".as_slice())?;
+    line.extend_from_slice(b"\n")?;
     Ok(line)
 }
 
@@ -74,7 +67,7 @@ fn cause_text(cause: Cause) -> &'static [u8]
     ensures { result.now ≡ cause_text cause }
 {
     match cause {
-        Cause::Unsupported => b"unsupported".as_slice(),
+        Cause::Unsupported => b"unsupported",
     }
 }
 
@@ -83,11 +76,11 @@ fn rejection_line(alloc: Global, number: u64, fault: CheckFault) -> Result<Vec<u
         ≡ codes "rejected at line " ++ decimal number ++ codes ": " ++ fault_text fault ++ codes "\n") }
 {
     let mut buffer = Buffer::new();
-    let mut line = Vec::from_slice(alloc, b"rejected at line ".as_slice())?;
+    let mut line = Vec::from_slice(alloc, b"rejected at line ")?;
     line.extend_from_slice(buffer.format(number).as_bytes())?;
-    line.extend_from_slice(b": ".as_slice())?;
+    line.extend_from_slice(b": ")?;
     line.extend_from_slice(fault_text(fault))?;
-    line.extend_from_slice(b"\n".as_slice())?;
+    line.extend_from_slice(b"\n")?;
     Ok(line)
 }
 
@@ -97,8 +90,8 @@ fn fault_text(fault: CheckFault) -> &'static [u8]
     match fault {
         CheckFault::Text(cause) => text_cause_text(cause),
         CheckFault::Step(fault) => step_fault_text(fault),
-        CheckFault::AllClosed => b"all closed".as_slice(),
-        CheckFault::StillOpen => b"still open".as_slice(),
+        CheckFault::AllClosed => b"all closed",
+        CheckFault::StillOpen => b"still open",
     }
 }
 
@@ -106,13 +99,13 @@ fn text_cause_text(cause: TextCause) -> &'static [u8]
     ensures { result.now ≡ text_cause_text cause }
 {
     match cause {
-        TextCause::Version => b"version".as_slice(),
-        TextCause::Setting => b"setting".as_slice(),
-        TextCause::Formula => b"formula".as_slice(),
-        TextCause::Limit => b"limit".as_slice(),
-        TextCause::Name => b"name".as_slice(),
-        TextCause::Line => b"line".as_slice(),
-        TextCause::TextAfterEnd => b"text after end".as_slice(),
+        TextCause::Version => b"version",
+        TextCause::Setting => b"setting",
+        TextCause::Formula => b"formula",
+        TextCause::Limit => b"limit",
+        TextCause::Name => b"name",
+        TextCause::Line => b"line",
+        TextCause::TextAfterEnd => b"text after end",
     }
 }
 
@@ -120,13 +113,13 @@ fn step_fault_text(fault: StepFault) -> &'static [u8]
     ensures { result.now ≡ step_fault_text fault }
 {
     match fault {
-        StepFault::NoEntry => b"no entry".as_slice(),
-        StepFault::NoConnection => b"no connection".as_slice(),
-        StepFault::WrongArguments => b"wrong arguments".as_slice(),
-        StepFault::UnknownName => b"unknown name".as_slice(),
-        StepFault::NotReachable => b"not reachable".as_slice(),
-        StepFault::NotNew => b"not new".as_slice(),
-        StepFault::WrongHome => b"wrong home".as_slice(),
-        StepFault::NotAllowed => b"not allowed".as_slice(),
+        StepFault::NoEntry => b"no entry",
+        StepFault::NoConnection => b"no connection",
+        StepFault::WrongArguments => b"wrong arguments",
+        StepFault::UnknownName => b"unknown name",
+        StepFault::NotReachable => b"not reachable",
+        StepFault::NotNew => b"not new",
+        StepFault::WrongHome => b"wrong home",
+        StepFault::NotAllowed => b"not allowed",
     }
 }

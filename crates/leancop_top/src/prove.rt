@@ -17,7 +17,7 @@ use std::alloc::{AllocError, Global};
 use tableau_core::Selection;
 
 // No greater path limit is searched.
-const GREATEST_LIMIT: u8 = 100;
+const MAX_LIMIT: u8 = 100;
 
 /// A derivation's text and the path limit that it carries.
 #[derive(Drop)]
@@ -49,16 +49,14 @@ fn search(alloc: Global, problem: &Problem, matrix: &Matrix) -> Result<Proof, St
     ensures derived { IfOk result (λ r. IsDerived problem.now r.limit r.text.items) }
     ensures ended { IfErr result (λ s. IsEnd problem.now s) }
 {
-    match deepen(alloc, problem, matrix, GREATEST_LIMIT) {
+    match deepen(alloc, problem, matrix, MAX_LIMIT) {
         Ok(Answer::Closed { limit, selections }) => {
             match print_derivation(alloc, problem, selections.as_slice(), limit) {
                 Ok(proof) => Ok(proof),
                 Err(NoMemory) => Err(Status::NoMemory),
             }
         }
-        Ok(Answer::Exhausted) => Err(Status::Exhausted {
-            limit: GREATEST_LIMIT,
-        }),
+        Ok(Answer::Exhausted) => Err(Status::Exhausted { limit: MAX_LIMIT }),
         Err(NoMemory) => Err(Status::NoMemory),
     }
 }
