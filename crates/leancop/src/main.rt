@@ -17,7 +17,7 @@ fn read_words<R: Env + AllocGlobal>(rt: &R) -> io::Result<Vec<String>> {
     Ok(words)
 }
 
-// The exit status where the words cannot be read.
+// The exit status where the words cannot be read: 6, as for other streams, or that of the end of memory.
 fn unread_code(error: &io::Error) -> u8 {
     match error.kind() {
         ErrorKind::OutOfMemory => exit_code(&Status::NoMemory),
