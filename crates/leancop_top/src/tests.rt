@@ -16,9 +16,9 @@ pub(crate) fn outcome(
     puts: &[(u64, u64)],
 ) -> Result<(u8, Vec<u8>), Fail> {
     let mut files = Vec::new(alloc);
-    let problem = Text::new(alloc, b"m.p".as_slice())?;
+    let problem = Text::new(alloc, b"m.p")?;
     files.push((problem, texts.0.to_vec(alloc)?))?;
-    let derivation = Text::new(alloc, b"d.txt".as_slice())?;
+    let derivation = Text::new(alloc, b"d.txt")?;
     files.push((derivation, texts.1.to_vec(alloc)?))?;
     let mut library = MemLibrary::new(alloc, files, fetches.to_vec(alloc)?)?;
     let mut sink = MemSink::new(alloc, 1000000, puts.to_vec(alloc)?)?;
@@ -34,7 +34,7 @@ pub(crate) fn outcome(
 fn problem(alloc: Global, conjecture: &[u8]) -> Result<Vec<u8>, Fail> {
     let mut text = b"fof(c,conjecture,".as_slice().to_vec(alloc)?;
     text.extend_from_slice(conjecture)?;
-    text.extend_from_slice(b").\n".as_slice())?;
+    text.extend_from_slice(b").\n")?;
     Ok(text)
 }
 
@@ -63,7 +63,7 @@ fn check(alloc: Global, text: &[u8], derivation: &[u8]) -> Result<(u8, Vec<u8>),
 fn disjunctions(alloc: Global, count: usize) -> Result<Vec<u8>, Fail> {
     let mut text = b"(a|b)".as_slice().to_vec(alloc)?;
     for _ in 1..count {
-        text.extend_from_slice(b" & (a|b)".as_slice())?;
+        text.extend_from_slice(b" & (a|b)")?;
     }
     Ok(text)
 }
@@ -73,13 +73,13 @@ fn chain(alloc: Global, last: usize) -> Result<Vec<u8>, Fail> {
     let mut numbers = Buffer::new();
     let mut text = b"(p0".as_slice().to_vec(alloc)?;
     for number in 0..last {
-        text.extend_from_slice(b" & (p".as_slice())?;
+        text.extend_from_slice(b" & (p")?;
         text.extend_from_slice(numbers.format(number).as_bytes())?;
-        text.extend_from_slice(b" => p".as_slice())?;
+        text.extend_from_slice(b" => p")?;
         text.extend_from_slice(numbers.format(number + 1).as_bytes())?;
         text.push(b')')?;
     }
-    text.extend_from_slice(b") => p".as_slice())?;
+    text.extend_from_slice(b") => p")?;
     text.extend_from_slice(numbers.format(last).as_bytes())?;
     Ok(text)
 }
@@ -88,104 +88,92 @@ fn chain(alloc: Global, last: usize) -> Result<Vec<u8>, Fail> {
 const PIGEONHOLE: &[u8] =
     b"fof(pigeonhole,conjecture,\n    ~((p11 | p12 | p13)\n    & (p21 | p22 | p23)\n    & (p31 | p32 | p33)\n    & (p41 | p42 | p43)\n    & ~(p11 & p21)\n    & ~(p11 & p31)\n    & ~(p11 & p41)\n    & ~(p21 & p31)\n    & ~(p21 & p41)\n    & ~(p31 & p41)\n    & ~(p12 & p22)\n    & ~(p12 & p32)\n    & ~(p12 & p42)\n    & ~(p22 & p32)\n    & ~(p22 & p42)\n    & ~(p32 & p42)\n    & ~(p13 & p23)\n    & ~(p13 & p33)\n    & ~(p13 & p43)\n    & ~(p23 & p33)\n    & ~(p23 & p43)\n    & ~(p33 & p43))).\n";
 
-#[test]
-fn prints_a_derivation(rt: HostRuntime) -> Result<(), Fail> {
-    let (code, output) = prove(rt.alloc(), b"p => p".as_slice())?;
-    assert_eq!(rt; code, 0);
-    assert!(rt;
-        output.as_slice()
-            == b"leancop derivation 1\nlogic classical\nformula (p => p)\nlimit 1\nuse 1\naxiom 2 3\nend\n".as_slice()
-    );
-    Ok(())
-}
-
 // Excluded middle, Peirce's law, and a formula with two branches.
 #[test]
 fn derives_at_the_least_limit(rt: HostRuntime) -> Result<(), Fail> {
-    let (code, output) = prove(rt.alloc(), b"p | ~p".as_slice())?;
-    assert_eq!(rt; code, 0);
-    assert!(rt;
-        output.as_slice().starts_with(
-            b"leancop derivation 1\nlogic classical\nformula (p | ~p)\nlimit 1\n".as_slice()
-        )
-    );
-    let (code, output) = prove(rt.alloc(), b"((p => q) => p) => p".as_slice())?;
-    assert_eq!(rt; code, 0);
-    assert!(rt;
-        output.as_slice().starts_with(
-            b"leancop derivation 1\nlogic classical\nformula (((p => q) => p) => p)\nlimit 1\n".as_slice()
-        )
-    );
-    let (code, output) = prove(rt.alloc(), b"(p & (p => q) & (q => r)) => r".as_slice())?;
-    assert_eq!(rt; code, 0);
-    assert!(rt;
-        output.as_slice().starts_with(
-            b"leancop derivation 1\nlogic classical\nformula (((p & (p => q)) & (q => r)) => r)\nlimit 3\n".as_slice()
-        )
-    );
+    for (conjecture, head) in [
+        (
+            b"p | ~p".as_slice(),
+            b"leancop derivation 1\nlogic classical\nformula (p | ~p)\nlimit 1\n".as_slice(),
+        ),
+        (
+            b"((p => q) => p) => p",
+            b"leancop derivation 1\nlogic classical\nformula (((p => q) => p) => p)\nlimit 1\n",
+        ),
+        (
+            b"(p & (p => q) & (q => r)) => r",
+            b"leancop derivation 1\nlogic classical\nformula (((p & (p => q)) & (q => r)) => r)\nlimit 3\n",
+        ),
+    ] {
+        let (code, output) = prove(rt.alloc(), conjecture)?;
+        assert_eq!(rt; code, 0);
+        assert!(rt; output.as_slice().starts_with(head));
+    }
     Ok(())
 }
 
-// In the second formula the only extension is irregular.
+// In the third formula the only extension is irregular.
 #[test]
-fn exhausts_the_limits(rt: HostRuntime) -> Result<(), Fail> {
-    let line = b"exhausted at limit 100\n".as_slice();
-    let (code, output) = prove(rt.alloc(), b"p".as_slice())?;
-    assert_eq!(rt; code, 1);
-    assert!(rt; output.as_slice() == line);
-    let (code, output) = prove(rt.alloc(), b"(p => p) => p".as_slice())?;
-    assert_eq!(rt; code, 1);
-    assert!(rt; output.as_slice() == line);
-    let (code, output) = prove(rt.alloc(), disjunctions(rt.alloc(), 8)?.as_slice())?;
-    assert_eq!(rt; code, 1);
-    assert!(rt; output.as_slice() == line);
+fn answers_conjectures(rt: HostRuntime) -> Result<(), Fail> {
+    for (conjecture, status, told) in [
+        (
+            b"p => p".as_slice(),
+            0,
+            b"leancop derivation 1\nlogic classical\nformula (p => p)\nlimit 1\nuse 1\naxiom 2 3\nend\n".as_slice(),
+        ),
+        (b"p", 1, b"exhausted at limit 100\n"),
+        (b"(p => p) => p", 1, b"exhausted at limit 100\n"),
+        (b"p <=> p", 4, b"m.p:0: unsupported\n"),
+    ] {
+        let (code, output) = prove(rt.alloc(), conjecture)?;
+        assert_eq!(rt; code, status);
+        assert!(rt; output.as_slice() == told);
+    }
     Ok(())
 }
 
-// 131,072 clauses, and 1,048,576 literals.
+// 256 clauses, 131,072 clauses, and 1,048,576 literals.
 #[test]
-fn refuses_a_large_matrix(rt: HostRuntime) -> Result<(), Fail> {
-    let (code, output) = prove(rt.alloc(), disjunctions(rt.alloc(), 17)?.as_slice())?;
-    assert_eq!(rt; code, 4);
-    assert!(rt; output.as_slice() == b"matrix too large\n".as_slice());
-    let (code, output) = prove(rt.alloc(), disjunctions(rt.alloc(), 16)?.as_slice())?;
-    assert_eq!(rt; code, 4);
-    assert!(rt; output.as_slice() == b"matrix too large\n".as_slice());
+fn counts_clauses_and_literals(rt: HostRuntime) -> Result<(), Fail> {
+    for (count, status, told) in [
+        (8, 1, b"exhausted at limit 100\n".as_slice()),
+        (17, 4, b"matrix too large\n"),
+        (16, 4, b"matrix too large\n"),
+    ] {
+        let (code, output) = prove(rt.alloc(), disjunctions(rt.alloc(), count)?.as_slice())?;
+        assert_eq!(rt; code, status);
+        assert!(rt; output.as_slice() == told);
+    }
     Ok(())
 }
 
+// The file m.p holds a problem, d.txt is empty, and there is no other.
 #[test]
-fn refuses_other_texts(rt: HostRuntime) -> Result<(), Fail> {
-    let (code, output) = prove(rt.alloc(), b"p <=> p".as_slice())?;
-    assert_eq!(rt; code, 4);
-    assert!(rt; output.as_slice() == b"m.p:0: unsupported\n".as_slice());
-    let (code, output) = prove_text(rt.alloc(), b"".as_slice())?;
-    assert_eq!(rt; code, 4);
-    assert!(rt; output.as_slice() == b"m.p:0: unsupported\n".as_slice());
+fn obeys_words(rt: HostRuntime) -> Result<(), Fail> {
+    let texts = (b"fof(c,conjecture,p => p).\n".as_slice(), b"".as_slice());
+    for (words, status, told) in [
+        ([].as_slice(), 5, b"bad word 1\n".as_slice()),
+        (&["show", "m.p"], 5, b"bad word 1\n"),
+        (&["prove"], 5, b"bad word 2\n"),
+        (&["prove", ""], 5, b"bad word 2\n"),
+        (&["prove", "m.p", "n.p"], 5, b"bad word 3\n"),
+        (&["check", "m.p", "--d"], 5, b"bad word 3\n"),
+        (&["check", "m.p", "d.txt", "n.p"], 5, b"bad word 4\n"),
+        (&["prove", "d.txt"], 4, b"d.txt:0: unsupported\n"),
+        (&["prove", "n.p"], 6, b"missing: n.p\n"),
+        (&["check", "m.p", "n.p"], 6, b"missing: n.p\n"),
+    ] {
+        let (code, output) = outcome(rt.alloc(), words, texts, &[], &[])?;
+        assert_eq!(rt; code, status);
+        assert!(rt; output.as_slice() == told);
+    }
     Ok(())
 }
 
-#[test]
-fn tells_bad_words(rt: HostRuntime) -> Result<(), Fail> {
-    let (code, output) = outcome(rt.alloc(), &[], (&[], &[]), &[], &[])?;
-    assert_eq!(rt; code, 5);
-    assert!(rt; output.as_slice() == b"bad word 1\n".as_slice());
-    let (code, output) = outcome(rt.alloc(), &["prove"], (&[], &[]), &[], &[])?;
-    assert_eq!(rt; code, 5);
-    assert!(rt; output.as_slice() == b"bad word 2\n".as_slice());
-    let (code, output) = outcome(rt.alloc(), &["prove", "m.p", "n.p"], (&[], &[]), &[], &[])?;
-    assert_eq!(rt; code, 5);
-    assert!(rt; output.as_slice() == b"bad word 3\n".as_slice());
-    Ok(())
-}
-
+// The first fetch fails, and then the first put after seven bytes.
 #[test]
 fn tells_faults_of_streams(rt: HostRuntime) -> Result<(), Fail> {
-    let text = b"fof(c,conjecture,p => p).\n".as_slice();
-    let texts = (text, b"".as_slice());
-    let (code, output) = outcome(rt.alloc(), &["prove", "n.p"], texts, &[], &[])?;
-    assert_eq!(rt; code, 6);
-    assert!(rt; output.as_slice() == b"missing: n.p\n".as_slice());
+    let texts = (b"fof(c,conjecture,p => p).\n".as_slice(), b"".as_slice());
     let (code, output) = outcome(rt.alloc(), &["prove", "m.p"], texts, &[1], &[])?;
     assert_eq!(rt; code, 6);
     assert!(rt; output.as_slice() == b"read fault: m.p\n".as_slice());
@@ -234,17 +222,32 @@ fn writes_in_pieces(rt: HostRuntime) -> Result<(), Fail> {
     Ok(())
 }
 
-// A name that is not UTF-8 is that of no file, and a folder is no file that can be read.
+// A name that is not UTF-8 is that of no file, a folder is no file that can be read, and the last file has more than
+// ten bytes.
 #[test]
 fn tells_faults_of_files(rt: HostRuntime) -> Result<(), Fail> {
     let mut library = FileLibrary::new(rt.alloc(), &rt);
     for (name, fault) in [
         (b"no such file".as_slice(), FetchFault::Missing),
-        (b"\xff".as_slice(), FetchFault::Missing),
-        (b"/".as_slice(), FetchFault::Failed),
+        (b"\xff", FetchFault::Missing),
+        (b"/", FetchFault::Failed),
+        (b"/proc/self/status", FetchFault::TooLarge),
     ] {
         let name = Text::new(rt.alloc(), name)?;
         assert!(rt; library.fetch(&name, 10) == Err(fault));
     }
+    Ok(())
+}
+
+// Each process has this file, and its first bytes are known.
+#[test]
+fn fetches_a_file(rt: HostRuntime) -> Result<(), Fail> {
+    let mut library = FileLibrary::new(rt.alloc(), &rt);
+    let name = Text::new(rt.alloc(), b"/proc/self/status")?;
+    let bytes = library
+        .fetch(&name, 1000000)
+        .ok()
+        .ok_or("the file is there")?;
+    assert!(rt; bytes.as_slice().starts_with(b"Name:"));
     Ok(())
 }
