@@ -1,7 +1,9 @@
 //! The trusted edge: files of the runtime, and a writer. Nothing is told of what a file holds or a terminal shows, so
 //! over these two only counts can be relied on.
 
-ghost use Rattle.std.specs.Prelude.{◌≡◌, ◌≢◌, ◌+◌, ◌<◌, ◌≤◌, None, IfOk, IfSome, length, vec_len};
+ghost use Rattle.std.specs.Prelude.{◌≡◌, ◌≢◌, ◌+◌, ◌<◌, ◌≤◌, ℕ, List, None, IfOk, IfSome, OnOk, OnErr, length, take, vec_len};
+ghost use Rattle.std.specs.Io.KnownBytes.{Appends};
+ghost use Rattle.cop_base.specs.Outside.{Rose, with_bytes};
 ghost use Rattle.cop_base.specs.Memory.{counted};
 
 use crate::library::{FetchFault, Library, count_up};
@@ -137,11 +139,20 @@ impl<W: Write + Drop> Sink for WriteSink<W> {
 
     ghost faults = { λ s. s.faults };
 
-    fn put(&mut self, bytes: &[u8]) -> Result<(), PutFault> {
-        if self.writer.write_all(bytes).is_ok() {
-            return Ok(());
+    fn put(&mut self, bytes: &[u8]) -> Result<(), PutFault>
+        // Where the writer tells its contents, they grow by the bytes.
+        ensures passed { OnOk result (Appends (W.contents self.old.writer) (W.contents self.new.writer) bytes.now) }
+        ensures more_faults { self.old.faults ≤ self.new.faults }
+        ensures ok { OnOk result (None ≡ with_bytes None bytes.now) }
+        ensures failed { OnErr result (Rose self.old.faults self.new.faults) }
+        ensures part { OnErr result ((n : ℕ) × (None ≡ with_bytes None (take n bytes.now))) }
+    {
+        match self.writer.write_all(bytes) {
+            Ok(()) => Ok(()),
+            Err(_) => {
+                self.faults = count_up(self.faults);
+                Err(PutFault::Failed)
+            }
         }
-        self.faults = count_up(self.faults);
-        Err(PutFault::Failed)
     }
 }
