@@ -156,11 +156,16 @@ fn obeys_words(rt: HostRuntime) -> Result<(), Fail> {
         (&["show", "m.p"], 5, b"bad word 1\n"),
         (&["prove"], 5, b"bad word 2\n"),
         (&["prove", ""], 5, b"bad word 2\n"),
+        (&["prove", "--limit=0"], 5, b"bad word 2\n"),
         (&["prove", "m.p", "n.p"], 5, b"bad word 3\n"),
+        (&["prove", "m.p", "--limit=0"], 5, b"bad word 3\n"),
+        (&["check"], 5, b"bad word 2\n"),
+        (&["check", "m.p"], 5, b"bad word 3\n"),
         (&["check", "m.p", "--d"], 5, b"bad word 3\n"),
         (&["check", "m.p", "d.txt", "n.p"], 5, b"bad word 4\n"),
         (&["prove", "d.txt"], 4, b"d.txt:0: unsupported\n"),
         (&["prove", "n.p"], 6, b"missing: n.p\n"),
+        (&["check", "n.p", "d.txt"], 6, b"missing: n.p\n"),
         (&["check", "m.p", "n.p"], 6, b"missing: n.p\n"),
     ] {
         let (code, output) = outcome(rt.alloc(), words, texts, &[], &[])?;
@@ -170,16 +175,21 @@ fn obeys_words(rt: HostRuntime) -> Result<(), Fail> {
     Ok(())
 }
 
-// The first fetch fails, and then the first put after seven bytes.
+// A failed fetch is not tried again, and nothing is put after a put that failed.
 #[test]
 fn tells_faults_of_streams(rt: HostRuntime) -> Result<(), Fail> {
     let texts = (b"fof(c,conjecture,p => p).\n".as_slice(), b"".as_slice());
-    let (code, output) = outcome(rt.alloc(), &["prove", "m.p"], texts, &[1], &[])?;
-    assert_eq!(rt; code, 6);
-    assert!(rt; output.as_slice() == b"read fault: m.p\n".as_slice());
-    let (code, output) = outcome(rt.alloc(), &["prove", "m.p"], texts, &[], &[(1, 7)])?;
-    assert_eq!(rt; code, 6);
-    assert!(rt; output.as_slice() == b"leancop".as_slice());
+    for (words, fetches, puts, told) in [
+        (["prove", "m.p"].as_slice(), [1].as_slice(), [].as_slice(), b"read fault: m.p\n".as_slice()),
+        (&["check", "m.p", "d.txt"], &[1], &[], b"read fault: m.p\n"),
+        (&["check", "m.p", "d.txt"], &[2], &[], b"read fault: d.txt\n"),
+        (&["prove", "m.p"], &[], &[(1, 7)], b"leancop"),
+        (&["prove", "m.p"], &[1], &[(1, 4)], b"read"),
+    ] {
+        let (code, output) = outcome(rt.alloc(), words, texts, fetches, puts)?;
+        assert_eq!(rt; code, 6);
+        assert!(rt; output.as_slice() == told);
+    }
     Ok(())
 }
 
