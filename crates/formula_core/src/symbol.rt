@@ -47,7 +47,7 @@ impl Model for Symbols {
 
 impl Symbols {
     /// No list has more symbols.
-    pub const MOST: usize = 65536;
+    pub const MAX_LEN: usize = 65536;
 
     /// The empty list.
     pub fn new(alloc: Global) -> Symbols
@@ -108,7 +108,7 @@ impl Symbols {
         if let Some(id) = self.find(&s) {
             return Ok(id);
         }
-        if self.len() == Self::MOST {
+        if self.len() == Self::MAX_LEN {
             return Err(AddFault::Full);
         }
         let (index, _) = match self.set.insert_full(s) {

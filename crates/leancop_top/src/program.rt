@@ -17,7 +17,7 @@ use crate::writing::put_all;
 use cop_base::{FetchFault, Library, NoMemory, PutFault, Sink, Text};
 use derivation_check::{Verdict, check};
 use logic_rules::Problem;
-use propositional_reader::{MOST_BYTES, ReadRefusal, read};
+use propositional_reader::{MAX_BYTES, ReadRefusal, read};
 use std::alloc::{AllocError, Global};
 
 // The problem that a file holds, or why there is none.
@@ -33,7 +33,7 @@ fn read_problem<L: Library>(alloc: Global, lib: &mut L, file: &str) -> Result<Pr
         Ok(name) => name,
         Err(NoMemory) => return Err(Status::NoMemory),
     };
-    match lib.fetch(&name, MOST_BYTES) {
+    match lib.fetch(&name, MAX_BYTES) {
         Ok(bytes) => match read(alloc, bytes.as_slice()) {
             Ok(problem) => Ok(problem),
             Err(ReadRefusal::Unsupported) => Err(unsupported(name)),

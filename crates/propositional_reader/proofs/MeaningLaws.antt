@@ -12,7 +12,7 @@ use Rattle.calculus.specs.Propositional.{is_propositional}
 use Rattle.propositional_reader.specs.declared.part.Chain.{Chain}
 use Rattle.propositional_reader.specs.declared.part.Chain.TheVariants.{And, Or}
 use Rattle.propositional_reader.specs.Tokens.{close_bracket, arrow}
-use Rattle.propositional_reader.specs.Grammar.{SourceUnit, proposition, negation, bracketed, Source, single, chain, implication, SourceUnits, no_units, more_units, chain_sign, unit_tokens, source_tokens, units_tokens, unit_nesting, source_nesting, units_nesting}
+use Rattle.propositional_reader.specs.Grammar.{SourceUnit, proposition, negation, bracketed, Source, single, chain, implication, SourceUnits, no_units, more_units, chain_connective, unit_tokens, source_tokens, units_tokens, unit_nesting, source_nesting, units_nesting}
 use Rattle.propositional_reader.specs.Reading.{proposition_symbol, IsBalanced, chain_formula, IsUnitFormula, IsSourceFormula, AreUnitFormulas}
 use Rattle.propositional_reader.specs.Knowing.{AllKnown}
 use Rattle.propositional_reader.specs.Values.{Value, no_value, number_of, joined_value, chain_value}
@@ -63,7 +63,7 @@ mutual
       let p = known-parts ss (unit_tokens u) (arrow ∷ unit_tokens v) h in
       ((unit_value ss u).formula, (unit_value ss v).formula, unit-formula ss u p.0, unit-formula ss v p.1.1, refl)
   source-formula ss (chain c u v us) h =
-      let p = known-parts ss (unit_tokens u) (chain_sign c ∷ (unit_tokens v ++ units_tokens c us)) h in
+      let p = known-parts ss (unit_tokens u) (chain_connective c ∷ (unit_tokens v ++ units_tokens c us)) h in
       let q = known-parts ss (unit_tokens v) (units_tokens c us) p.1.1 in
       ((unit_value ss u).formula, (unit_value ss v).formula, map formula_of (units_values ss us), unit-formula ss u p.0, unit-formula ss v q.0, units-formulas ss c us q.1, chain-formulas c (unit_value ss u) (unit_value ss v) (units_values ss us))
 
@@ -131,7 +131,7 @@ mutual
   source-nodes ss (chain c u v us) =
       let a = unit-nodes ss u in let b = unit-nodes ss v in let ns = units-nodes ss c us in
       let k = chain-nodes c (unit_value ss u) (unit_value ss v) (units_values ss us) in
-      omega (arith, length-append (unit_tokens u) (chain_sign c ∷ (unit_tokens v ++ units_tokens c us)), length-append (unit_tokens v) (units_tokens c us))
+      omega (arith, length-append (unit_tokens u) (chain_connective c ∷ (unit_tokens v ++ units_tokens c us)), length-append (unit_tokens v) (units_tokens c us))
 
   units-nodes : (ss : List Symbol) (c : Chain) (us : SourceUnits) → total (map node_count (map formula_of (units_values ss us))) ≤ length (units_tokens c us)
   units-nodes ss c no_units = omega arith
@@ -158,7 +158,7 @@ mutual
       let p = known-parts ss (unit_tokens u) (arrow ∷ unit_tokens v) h in
       k.on_imp (unit_value ss u).formula (unit_value ss v).formula (unit-kept ss test k u p.0) (unit-kept ss test k v p.1.1)
   source-kept ss test k (chain c u v us) h =
-      let p = known-parts ss (unit_tokens u) (chain_sign c ∷ (unit_tokens v ++ units_tokens c us)) h in
+      let p = known-parts ss (unit_tokens u) (chain_connective c ∷ (unit_tokens v ++ units_tokens c us)) h in
       let q = known-parts ss (unit_tokens v) (units_tokens c us) p.1.1 in
       let fu = (unit_value ss u).formula in let fv = (unit_value ss v).formula in let fs = map formula_of (units_values ss us) in
       balanced-keeps test (chain_formula c) (k.on_chain c) ((unit_value ss u).formula ∷ (unit_value ss v).formula ∷ map formula_of (units_values ss us)) (source_value ss (chain c u v us)).formula

@@ -4,14 +4,14 @@ use Rattle.std.specs.Option.{option_map}
 use Rattle.propositional_reader.specs.declared.part.Chain.{Chain}
 use Rattle.propositional_reader.specs.declared.part.Chain.TheVariants.{And, Or}
 use Rattle.propositional_reader.specs.Tokens.{Token, word, open_bracket, close_bracket, comma, dot, tilde, ampersand, bar, arrow}
-use Rattle.propositional_reader.specs.Grammar.{SourceUnit, proposition, negation, bracketed, Source, chain_sign, unit_tokens, source_tokens, units_tokens}
+use Rattle.propositional_reader.specs.Grammar.{SourceUnit, proposition, negation, bracketed, Source, chain_connective, unit_tokens, source_tokens, units_tokens}
 use Rattle.propositional_reader.specs.Machine.{Before, nothing, premise, units, Level, State, state, grouped, negated_times, lengthened, as_premise, with_before, ended, begun, closed, gone_on, stepped, step, step_on, run, finished_with, finished_run, parsed}
 use Rattle.propositional_reader.proofs.Trees.{trees, chain_of, units_of}
 
 -- each unit with the sign after it
 abbrev chain_front : Chain → List SourceUnit → List Token
 chain_front c [] = []
-chain_front c (u ∷ us) = unit_tokens u ++ (chain_sign c ∷ chain_front c us)
+chain_front c (u ∷ us) = unit_tokens u ++ (chain_connective c ∷ chain_front c us)
 
 abbrev before_tokens : Before SourceUnit → List Token
 before_tokens nothing = []
@@ -46,7 +46,7 @@ unfolding separated
 source-separated c u [] = sym (append-nil (unit_tokens u))
 source-separated c u (v ∷ us) = refl
 
-units-separated : (c : Chain) (us : List SourceUnit) (u : SourceUnit) → units_tokens c (units_of (us ++ u ∷ [])) ≡ chain_sign c ∷ separated c (us ++ u ∷ [])
+units-separated : (c : Chain) (us : List SourceUnit) (u : SourceUnit) → units_tokens c (units_of (us ++ u ∷ [])) ≡ chain_connective c ∷ separated c (us ++ u ∷ [])
 unfolding separated
 units-separated c [] u = refl
 units-separated c (v ∷ us) u = refl
@@ -55,8 +55,8 @@ front-separated : (c : Chain) (us : List SourceUnit) (u : SourceUnit) → separa
 unfolding separated
 front-separated c [] u = append-nil (unit_tokens u)
 front-separated c (v ∷ us) u =
-    ap (λ ts. unit_tokens v ++ ts) (units-separated c us u ∙ ap (λ ts. chain_sign c ∷ ts) (front-separated c us u))
-    ∙ sym (append_assoc (unit_tokens v) (chain_sign c ∷ chain_front c us) (unit_tokens u))
+    ap (λ ts. unit_tokens v ++ ts) (units-separated c us u ∙ ap (λ ts. chain_connective c ∷ ts) (front-separated c us u))
+    ∙ sym (append_assoc (unit_tokens v) (chain_connective c ∷ chain_front c us) (unit_tokens u))
 
 chain-tokens : (c : Chain) (us : List SourceUnit) (u : SourceUnit) → source_tokens (chain_of c (us ++ u ∷ [])) ≡ chain_front c us ++ unit_tokens u
 chain-tokens c [] u = refl
@@ -86,10 +86,10 @@ Holds : Option (State SourceUnit) → List Token → Type 0
 Holds None ts = Unit {0}
 Holds (Some s) ts = tokens_of s ≡ ts
 
-front-append : (c : Chain) (us : List SourceUnit) (u : SourceUnit) → chain_front c (us ++ u ∷ []) ≡ (chain_front c us ++ unit_tokens u) ++ chain_sign c ∷ []
+front-append : (c : Chain) (us : List SourceUnit) (u : SourceUnit) → chain_front c (us ++ u ∷ []) ≡ (chain_front c us ++ unit_tokens u) ++ chain_connective c ∷ []
 front-append c [] u = refl
 front-append c (v ∷ us) u =
-    ap (λ ts. unit_tokens v ++ (chain_sign c ∷ ts)) (front-append c us u)
+    ap (λ ts. unit_tokens v ++ (chain_connective c ∷ ts)) (front-append c us u)
     ∙ simp append_assoc
 
 moved : (xs ys zs : List Token) → xs ++ ((ys ++ zs) ++ []) ≡ (xs ++ ys) ++ zs
@@ -116,9 +116,9 @@ begun-holds outer l ampersand = tt
 begun-holds outer l bar = tt
 begun-holds outer l arrow = tt
 
-joined-holds : (c : Chain) (outer : List (Level SourceUnit)) (b : Before SourceUnit) (u : SourceUnit) → Holds (option_map (with_before outer) (lengthened b u c)) ((outer_tokens outer ++ (before_tokens b ++ unit_tokens u)) ++ chain_sign c ∷ [])
+joined-holds : (c : Chain) (outer : List (Level SourceUnit)) (b : Before SourceUnit) (u : SourceUnit) → Holds (option_map (with_before outer) (lengthened b u c)) ((outer_tokens outer ++ (before_tokens b ++ unit_tokens u)) ++ chain_connective c ∷ [])
 unfolding Holds
-joined-holds c outer nothing u = moved (outer_tokens outer) (unit_tokens u) (chain_sign c ∷ [])
+joined-holds c outer nothing u = moved (outer_tokens outer) (unit_tokens u) (chain_connective c ∷ [])
 joined-holds c outer (premise p) u = tt
 joined-holds And outer (units And us) u =
     ap (λ ts. outer_tokens outer ++ (ts ++ [])) (front-append And us u) ∙ moved (outer_tokens outer) (chain_front And us ++ unit_tokens u) (ampersand ∷ [])

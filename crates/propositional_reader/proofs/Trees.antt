@@ -4,7 +4,7 @@ use Rattle.std.specs.Option.{option_map}
 use Rattle.propositional_reader.specs.declared.part.Chain.{Chain}
 use Rattle.propositional_reader.specs.declared.part.Chain.TheVariants.{And, Or}
 use Rattle.propositional_reader.specs.Tokens.{Token, close_bracket, tilde, arrow}
-use Rattle.propositional_reader.specs.Grammar.{SourceUnit, proposition, negation, bracketed, Source, single, chain, implication, SourceUnits, no_units, more_units, chain_sign, unit_tokens, source_tokens, units_tokens, unit_nesting, source_nesting, units_nesting}
+use Rattle.propositional_reader.specs.Grammar.{SourceUnit, proposition, negation, bracketed, Source, single, chain, implication, SourceUnits, no_units, more_units, chain_connective, unit_tokens, source_tokens, units_tokens, unit_nesting, source_nesting, units_nesting}
 use Rattle.propositional_reader.specs.Machine.{Making, Before, nothing, premise, units, Level, state, grouped, negated_times, same_chain, lengthened, with_before, step, run, finished_run, parsed}
 
 -- ---- units as a list
@@ -39,7 +39,7 @@ trees = record {
 
 -- ---- each tree of a small nesting is answered
 
-sign-step : (c : Chain) (outer : List (Level SourceUnit)) (b : Before SourceUnit) (u : SourceUnit) → step trees (state outer b 0 (Some u)) (chain_sign c) ≡ option_map (with_before outer) (lengthened b u c)
+sign-step : (c : Chain) (outer : List (Level SourceUnit)) (b : Before SourceUnit) (u : SourceUnit) → step trees (state outer b 0 (Some u)) (chain_connective c) ≡ option_map (with_before outer) (lengthened b u c)
 sign-step And outer b u = refl
 sign-step Or outer b u = refl
 
@@ -51,10 +51,10 @@ lengthened-units : (c : Chain) (us : List SourceUnit) (u : SourceUnit) → lengt
 lengthened-units And us u = refl
 lengthened-units Or us u = refl
 
-sign-first : (c : Chain) (outer : List (Level SourceUnit)) (u : SourceUnit) (ts : List Token) → run trees (Some (state outer nothing 0 (Some u))) (chain_sign c ∷ ts) ≡ run trees (Some (state outer (units c (u ∷ [])) 0 None)) ts
+sign-first : (c : Chain) (outer : List (Level SourceUnit)) (u : SourceUnit) (ts : List Token) → run trees (Some (state outer nothing 0 (Some u))) (chain_connective c ∷ ts) ≡ run trees (Some (state outer (units c (u ∷ [])) 0 None)) ts
 sign-first c outer u ts = ap (λ s. run trees s ts) (sign-step c outer nothing u)
 
-sign-next : (c : Chain) (outer : List (Level SourceUnit)) (us : List SourceUnit) (u : SourceUnit) (ts : List Token) → run trees (Some (state outer (units c us) 0 (Some u))) (chain_sign c ∷ ts) ≡ run trees (Some (state outer (units c (us ++ u ∷ [])) 0 None)) ts
+sign-next : (c : Chain) (outer : List (Level SourceUnit)) (us : List SourceUnit) (u : SourceUnit) (ts : List Token) → run trees (Some (state outer (units c us) 0 (Some u))) (chain_connective c ∷ ts) ≡ run trees (Some (state outer (units c (us ++ u ∷ [])) 0 None)) ts
 sign-next c outer us u ts = ap (λ s. run trees s ts) (sign-step c outer (units c us) u ∙ ap (option_map (with_before outer)) (lengthened-units c us u))
 
 tilde-step : (outer : List (Level SourceUnit)) (b : Before SourceUnit) (n : ℕ) (ts : List Token) → n < 500 → run trees (Some (state outer b n None)) (tilde ∷ ts) ≡ run trees (Some (state outer b (suc n) None)) ts
@@ -106,8 +106,8 @@ mutual
         last = e.last;
         whole = ap (chain_of c) e.all ∙ ap (chain c u v) (units_of-units_list us);
         goes = λ rest.
-            ap (λ ts. run trees (Some (state outer nothing 0 None)) ts) (append_assoc (unit_tokens u) (chain_sign c ∷ (unit_tokens v ++ units_tokens c us)) rest)
-            ∙ run-unit u outer nothing 0 (chain_sign c ∷ ((unit_tokens v ++ units_tokens c us) ++ rest)) (omega arith)
+            ap (λ ts. run trees (Some (state outer nothing 0 None)) ts) (append_assoc (unit_tokens u) (chain_connective c ∷ (unit_tokens v ++ units_tokens c us)) rest)
+            ∙ run-unit u outer nothing 0 (chain_connective c ∷ ((unit_tokens v ++ units_tokens c us) ++ rest)) (omega arith)
             ∙ sign-first c outer u ((unit_tokens v ++ units_tokens c us) ++ rest)
             ∙ ap (λ ts. run trees (Some (state outer (units c (u ∷ [])) 0 None)) ts) (append_assoc (unit_tokens v) (units_tokens c us) rest)
             ∙ run-unit v outer (units c (u ∷ [])) 0 (units_tokens c us ++ rest) (omega arith)
@@ -123,7 +123,7 @@ mutual
         last = e.last;
         all = e.all ∙ append_assoc xs (v ∷ []) (u ∷ units_list us);
         goes = λ rest.
-            ap (λ ts. run trees (Some (state outer (units c xs) 0 (Some v))) (chain_sign c ∷ ts)) (append_assoc (unit_tokens u) (units_tokens c us) rest)
+            ap (λ ts. run trees (Some (state outer (units c xs) 0 (Some v))) (chain_connective c ∷ ts)) (append_assoc (unit_tokens u) (units_tokens c us) rest)
             ∙ sign-next c outer xs v (unit_tokens u ++ (units_tokens c us ++ rest))
             ∙ run-unit u outer (units c (xs ++ v ∷ [])) 0 (units_tokens c us ++ rest) (omega arith)
             ∙ e.goes rest;

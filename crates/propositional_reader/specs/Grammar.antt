@@ -22,9 +22,9 @@ mutual
     no_units : SourceUnits
     more_units : SourceUnit → SourceUnits → SourceUnits
 
-abbrev pub chain_sign : Chain → Token
-chain_sign And = ampersand
-chain_sign Or = bar
+abbrev pub chain_connective : Chain → Token
+chain_connective And = ampersand
+chain_connective Or = bar
 
 abbrev mutual
   pub unit_tokens : SourceUnit → List Token
@@ -34,13 +34,13 @@ abbrev mutual
 
   pub source_tokens : Source → List Token
   source_tokens (single u) = unit_tokens u
-  source_tokens (chain c u v us) = unit_tokens u ++ (chain_sign c ∷ (unit_tokens v ++ units_tokens c us))
+  source_tokens (chain c u v us) = unit_tokens u ++ (chain_connective c ∷ (unit_tokens v ++ units_tokens c us))
   source_tokens (implication u v) = unit_tokens u ++ (arrow ∷ unit_tokens v)
 
-  -- each unit with the sign before it
+  -- each unit with the connective before it
   pub units_tokens : Chain → SourceUnits → List Token
   units_tokens c no_units = []
-  units_tokens c (more_units u us) = chain_sign c ∷ (unit_tokens u ++ units_tokens c us)
+  units_tokens c (more_units u us) = chain_connective c ∷ (unit_tokens u ++ units_tokens c us)
 
 -- the item of a conjecture with these tokens
 abbrev pub item_tokens : List ℕ → List Token → List Token

@@ -6,4 +6,4 @@ mod part;
 mod reading;
 mod token;
 
-pub use reading::{MOST_BYTES, ReadRefusal, read};
+pub use reading::{MAX_BYTES, ReadRefusal, read};

@@ -18,7 +18,7 @@ use std::alloc::Global;
 use std::mem;
 
 /// The greatest nesting of a token.
-pub const MOST_NESTING: u32 = 500;
+pub const MAX_NESTING: u32 = 500;
 
 // What stands in a bracket before the unit that comes next.
 #[derive(Drop)]
@@ -26,7 +26,7 @@ enum Before {
     Nothing,
     // A unit, and the arrow after it.
     Premise(Part),
-    // Units that each have the sign of the chain after them.
+    // Units, each followed by the connective of the chain.
     Units(Chain, Vec<Part>),
 }
 
@@ -101,8 +101,8 @@ impl Level {
     }
 }
 
-// The tokens so far: the levels outside, the innermost last, the level at hand, and the unit that ended last, unless one
-// is to come.
+// The state after the tokens so far: the open brackets, innermost last, the current one, and the unit that ended last;
+// there is none where a unit must come next.
 #[derive(Drop)]
 struct Parser {
     outer: Vec<Level>,
@@ -187,7 +187,7 @@ impl Parser {
             × (the_state self.new ≡ state (the_state self.old).outer (the_before self.old.level.before) (suc self.old.level.negations) None)) }
         ensures unsupported { result ≡ Err ReadRefusal.Unsupported → 500 ≤ self.old.level.negations }
     {
-        if self.level.negations >= MOST_NESTING {
+        if self.level.negations >= MAX_NESTING {
             return Err(ReadRefusal::Unsupported);
         }
         self.level.negations += 1;

@@ -10,7 +10,7 @@ ghost use Rattle.propositional_reader.specs.Reading.{Reads, new_symbols, proposi
 ghost use Rattle.propositional_reader.specs.Tokens as spelled;
 ghost use Rattle.propositional_reader.specs.Views.{the_token};
 
-use crate::parser::{MOST_NESTING, parse};
+use crate::parser::{MAX_NESTING, parse};
 use crate::token::{Token, tokens};
 use cop_base::{NoMemory, Text};
 use formula_core::{AddFault, Symbol, SymbolClass, Symbols, nesting};
@@ -51,10 +51,10 @@ impl<T: Drop> From<AllocFailed<T>> for ReadRefusal {
 }
 
 /// The most bytes of a text that is read.
-pub const MOST_BYTES: u64 = 4096;
+pub const MAX_BYTES: u64 = 4096;
 
 /// The greatest nesting of the formula.
-pub const MOST_FORMULA_NESTING: u64 = 1000;
+pub const MAX_FORMULA_NESTING: u64 = 1000;
 
 /// The proposition of this name.
 pub fn proposition(alloc: Global, name: &[u8]) -> Result<Symbol, NoMemory>
@@ -173,7 +173,7 @@ pub fn read(alloc: Global, text: &[u8]) -> Result<Problem, ReadRefusal>
     ensures unsupported { result ≡ Err ReadRefusal.Unsupported → (q : tree.Problem) → ¬ (Reads text.now q) }
     ensures propositional { IfOk result (λ p. IsPropositional p) }
 {
-    if text.len() as u64 > MOST_BYTES {
+    if text.len() as u64 > MAX_BYTES {
         return Err(ReadRefusal::Unsupported);
     }
     let tokens = tokens(alloc, text)?;
@@ -182,10 +182,10 @@ pub fn read(alloc: Global, text: &[u8]) -> Result<Problem, ReadRefusal>
     };
     let symbols = propositions(alloc, formula)?;
     let part = parse(alloc, &symbols, formula)?;
-    if part.nesting > MOST_NESTING {
+    if part.nesting > MAX_NESTING {
         return Err(ReadRefusal::Unsupported);
     }
-    if nesting(&part.formula) > MOST_FORMULA_NESTING {
+    if nesting(&part.formula) > MAX_FORMULA_NESTING {
         return Err(ReadRefusal::Unsupported);
     }
     let setting = Setting::new(Logic::Classical, Domains::Constant);

@@ -40,15 +40,15 @@ returns-in_err-part-clause-unsupported c = λ u.
     (omega arith) c.in_ok-tokens.ensures.found (ap (map the_token) c.deref.ensures.value) c.in-Some.ensures.found.1 c.in_ok-symbols.ensures c.symbols.view_is c.symbols.invariant.1)
     c.in_ok-symbols.ensures (c.in_err-part.ensures.unsupported (error-passed c.from_residual-in_err-part.result p.0 c.in_err-part.field-0.0 _ p.1 p.2 u))
 
-pub returns-then-part-gt-MOST_NESTING-clause-unsupported : goal.returns-then-part-gt-MOST_NESTING-clause-unsupported
-returns-then-part-gt-MOST_NESTING-clause-unsupported c = λ u.
+pub returns-then-part-gt-MAX_NESTING-clause-unsupported : goal.returns-then-part-gt-MAX_NESTING-clause-unsupported
+returns-then-part-gt-MAX_NESTING-clause-unsupported c = λ u.
     refused-deep-held c.args.text.now (map the_token c.in-Some.formula.now) c.in_ok-symbols.symbols (the_part c.in_ok-part.part)
     (held c.args.text.now (map the_token c.in_ok-tokens.tokens.items) (map the_token c.deref.result.now) (map the_token c.in-Some.formula.now) c.in_ok-symbols.symbols (map the_symbol c.symbols.inside.set.keys) c.in-Some.ensures.found.0
     (omega arith) c.in_ok-tokens.ensures.found (ap (map the_token) c.deref.ensures.value) c.in-Some.ensures.found.1 c.in_ok-symbols.ensures c.symbols.view_is c.symbols.invariant.1)
     c.in_ok-symbols.ensures c.in_ok-part.ensures.ok (λ a b. absurd (omega arith))
 
-pub returns-then-nesting-gt-MOST_FORMULA_NESTING-clause-unsupported : goal.returns-then-nesting-gt-MOST_FORMULA_NESTING-clause-unsupported
-returns-then-nesting-gt-MOST_FORMULA_NESTING-clause-unsupported c = λ u.
+pub returns-then-nesting-gt-MAX_FORMULA_NESTING-clause-unsupported : goal.returns-then-nesting-gt-MAX_FORMULA_NESTING-clause-unsupported
+returns-then-nesting-gt-MAX_FORMULA_NESTING-clause-unsupported c = λ u.
     refused-deep-held c.args.text.now (map the_token c.in-Some.formula.now) c.in_ok-symbols.symbols (the_part c.in_ok-part.part)
     (held c.args.text.now (map the_token c.in_ok-tokens.tokens.items) (map the_token c.deref.result.now) (map the_token c.in-Some.formula.now) c.in_ok-symbols.symbols (map the_symbol c.symbols.inside.set.keys) c.in-Some.ensures.found.0
     (omega arith) c.in_ok-tokens.ensures.found (ap (map the_token) c.deref.ensures.value) c.in-Some.ensures.found.1 c.in_ok-symbols.ensures c.symbols.view_is c.symbols.invariant.1)

@@ -13,5 +13,5 @@ returns-clause-place c =
 pub invariant_of-self-2 : goal.invariant_of-self-2
 invariant_of-self-2 c =
     let e : length c.args.self.now ≡ length c.self.inside.set.keys = ap length (sym c.self.view_is) ∙ length-map c.self.inside.set.keys the_symbol in
-    let h : length c.self.inside.set.keys ≢ 65536 = λ k. c.if-len-eq-MOST.false (c.len.ensures.len ∙ e ∙ k) in
+    let h : length c.self.inside.set.keys ≢ 65536 = λ k. c.if-len-eq-MAX_LEN.false (c.len.ensures.len ∙ e ∙ k) in
     (still_most c.in-Ok.added.1 (length c.self.inside.set.keys) (length c.insert_full.new.self.keys) c.in-Ok.ensures.len c.self.invariant.0 h, are_distinct-insert_key _ _ _ c.args.s c.self.view_is (c.in_default.ensures.absent.0 refl) c.in-Ok.ensures.keys c.self.invariant.1)
