@@ -77,52 +77,43 @@ fn applied(alloc: Global, t: Term) -> Result<Formula, NoMemory>
 fn self_implication(alloc: Global) -> Result<Formula, NoMemory>
     ensures { IfOk result (λ f. the_formula f ≡ tree.imp p p) }
 {
-    let given = Box::new(alloc, plain(alloc))?;
-    let shown = Box::new(alloc, plain(alloc))?;
-    Ok(Formula::Imp(given, shown))
+    Formula::imp(alloc, plain(alloc), plain(alloc))
 }
 
 fn drinker(alloc: Global) -> Result<Formula, NoMemory>
     ensures { IfOk result (λ f. the_formula f ≡ drinker) }
 {
-    let given = Box::new(alloc, applied(alloc, Term::Var(1))?)?;
-    let shown = Box::new(alloc, applied(alloc, Term::Var(0))?)?;
-    let all = Box::new(alloc, Formula::Imp(given, shown))?;
-    let ex = Box::new(alloc, Formula::All(all))?;
-    Ok(Formula::Ex(ex))
+    let given = applied(alloc, Term::Var(1))?;
+    let shown = applied(alloc, Term::Var(0))?;
+    let every = Formula::all(alloc, Formula::imp(alloc, given, shown)?)?;
+    Formula::ex(alloc, every)
 }
 
 fn serial(alloc: Global) -> Result<Formula, NoMemory>
     ensures { IfOk result (λ f. the_formula f ≡ serial) }
 {
-    let given = Box::new(alloc, plain(alloc))?;
-    let shown = Box::new(alloc, plain(alloc))?;
-    let given = Box::new(alloc, Formula::Nec(given))?;
-    let shown = Box::new(alloc, Formula::Poss(shown))?;
-    Ok(Formula::Imp(given, shown))
+    let given = Formula::nec(alloc, plain(alloc))?;
+    let shown = Formula::poss(alloc, plain(alloc))?;
+    Formula::imp(alloc, given, shown)
 }
 
 fn twice_denied(alloc: Global) -> Result<Formula, NoMemory>
     ensures { IfOk result (λ f. the_formula f ≡ twice_denied) }
 {
-    let left = Box::new(alloc, plain(alloc))?;
-    let right = Box::new(alloc, plain(alloc))?;
-    let right = Box::new(alloc, Formula::Not(right))?;
-    let either = Box::new(alloc, Formula::Or(left, right))?;
-    let denied = Box::new(alloc, Formula::Not(either))?;
-    Ok(Formula::Not(denied))
+    let right = Formula::not(alloc, plain(alloc))?;
+    let either = Formula::or(alloc, plain(alloc), right)?;
+    let denied = Formula::not(alloc, either)?;
+    Formula::not(alloc, denied)
 }
 
 fn barcan(alloc: Global) -> Result<Formula, NoMemory>
     ensures { IfOk result (λ f. the_formula f ≡ barcan) }
 {
-    let given = Box::new(alloc, applied(alloc, Term::Var(0))?)?;
-    let given = Box::new(alloc, Formula::Nec(given))?;
-    let given = Box::new(alloc, Formula::All(given))?;
-    let shown = Box::new(alloc, applied(alloc, Term::Var(0))?)?;
-    let shown = Box::new(alloc, Formula::All(shown))?;
-    let shown = Box::new(alloc, Formula::Nec(shown))?;
-    Ok(Formula::Imp(given, shown))
+    let boxed = Formula::nec(alloc, applied(alloc, Term::Var(0))?)?;
+    let given = Formula::all(alloc, boxed)?;
+    let every = Formula::all(alloc, applied(alloc, Term::Var(0))?)?;
+    let shown = Formula::nec(alloc, every)?;
+    Formula::imp(alloc, given, shown)
 }
 
 fn problem_of(alloc: Global, example: Example) -> Result<Problem, NoMemory> {

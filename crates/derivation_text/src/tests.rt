@@ -43,9 +43,8 @@ fn problem(alloc: Global) -> Result<Problem, NoMemory>
 {
     let setting = Setting::new(Logic::Classical, Domains::Constant);
     let symbols = one_symbol(alloc)?;
-    let left = Box::new(alloc, atom(alloc))?;
-    let right = Box::new(alloc, atom(alloc))?;
-    Ok(Problem::new(setting, Formula::Imp(left, right), symbols))
+    let formula = Formula::imp(alloc, atom(alloc), atom(alloc))?;
+    Ok(Problem::new(setting, formula, symbols))
 }
 
 // The fault of a text, or none where it is read as a derivation whose text it is.

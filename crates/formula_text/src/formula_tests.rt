@@ -76,105 +76,60 @@ fn equation(alloc: Global, left: Term, right: Term) -> Result<Formula, NoMemory>
     Ok(Formula::Atom(SymbolId(0), terms))
 }
 
-fn not(alloc: Global, a: Formula) -> Result<Formula, NoMemory>
-    ensures { IfOk result (λ f. the_formula f ≡ tree.neg (the_formula a)) }
-{
-    let a = Box::new(alloc, a)?;
-    Ok(Formula::Not(a))
-}
-
-fn and(alloc: Global, a: Formula, b: Formula) -> Result<Formula, NoMemory>
-    ensures { IfOk result (λ f. the_formula f ≡ tree.conj (the_formula a) (the_formula b)) }
-{
-    let a = Box::new(alloc, a)?;
-    let b = Box::new(alloc, b)?;
-    Ok(Formula::And(a, b))
-}
-
-fn imp(alloc: Global, a: Formula, b: Formula) -> Result<Formula, NoMemory>
-    ensures { IfOk result (λ f. the_formula f ≡ tree.imp (the_formula a) (the_formula b)) }
-{
-    let a = Box::new(alloc, a)?;
-    let b = Box::new(alloc, b)?;
-    Ok(Formula::Imp(a, b))
-}
-
-fn all(alloc: Global, a: Formula) -> Result<Formula, NoMemory>
-    ensures { IfOk result (λ f. the_formula f ≡ tree.all (the_formula a)) }
-{
-    let a = Box::new(alloc, a)?;
-    Ok(Formula::All(a))
-}
-
-fn ex(alloc: Global, a: Formula) -> Result<Formula, NoMemory>
-    ensures { IfOk result (λ f. the_formula f ≡ tree.ex (the_formula a)) }
-{
-    let a = Box::new(alloc, a)?;
-    Ok(Formula::Ex(a))
-}
-
-fn nec(alloc: Global, a: Formula) -> Result<Formula, NoMemory>
-    ensures { IfOk result (λ f. the_formula f ≡ tree.box (the_formula a)) }
-{
-    let a = Box::new(alloc, a)?;
-    Ok(Formula::Nec(a))
-}
-
 fn drinker(alloc: Global) -> Result<Formula, NoMemory>
     ensures { IfOk result (λ f. the_formula f ≡ drinker) }
 {
     let given = applied(alloc, 6, Term::Var(1))?;
     let shown = applied(alloc, 6, Term::Var(0))?;
-    let inner = all(alloc, imp(alloc, given, shown)?)?;
-    let f = ex(alloc, inner)?;
+    let inner = Formula::all(alloc, Formula::imp(alloc, given, shown)?)?;
+    let f = Formula::ex(alloc, inner)?;
     Ok(f)
 }
 
 fn serial(alloc: Global) -> Result<Formula, NoMemory>
     ensures { IfOk result (λ f. the_formula f ≡ serial) }
 {
-    let given = nec(alloc, plain(alloc))?;
-    let shown = Formula::Poss(Box::new(alloc, plain(alloc))?);
-    let f = imp(alloc, given, shown)?;
+    let given = Formula::nec(alloc, plain(alloc))?;
+    let shown = Formula::poss(alloc, plain(alloc))?;
+    let f = Formula::imp(alloc, given, shown)?;
     Ok(f)
 }
 
 fn every_box(alloc: Global) -> Result<Formula, NoMemory>
     ensures { IfOk result (λ f. the_formula f ≡ every_box) }
 {
-    let inner = nec(alloc, applied(alloc, 4, Term::Var(0))?)?;
-    let f = all(alloc, inner)?;
+    let inner = Formula::nec(alloc, applied(alloc, 4, Term::Var(0))?)?;
+    let f = Formula::all(alloc, inner)?;
     Ok(f)
 }
 
 fn some_world(alloc: Global) -> Result<Formula, NoMemory>
     ensures { IfOk result (λ f. the_formula f ≡ some_world) }
 {
-    let inner = ex(alloc, applied(alloc, 4, Term::Var(0))?)?;
-    let shown = nec(alloc, inner)?;
-    let shown = imp(alloc, every_box(alloc)?, shown)?;
+    let inner = Formula::ex(alloc, applied(alloc, 4, Term::Var(0))?)?;
+    let shown = Formula::nec(alloc, inner)?;
+    let shown = Formula::imp(alloc, every_box(alloc)?, shown)?;
     let given = applied(alloc, 5, constant(alloc, 1))?;
-    let f = imp(alloc, given, shown)?;
+    let f = Formula::imp(alloc, given, shown)?;
     Ok(f)
 }
 
 fn twice_denied(alloc: Global) -> Result<Formula, NoMemory>
     ensures { IfOk result (λ f. the_formula f ≡ twice_denied) }
 {
-    let right = not(alloc, plain(alloc))?;
-    let left = Box::new(alloc, plain(alloc))?;
-    let right = Box::new(alloc, right)?;
-    let denied = not(alloc, Formula::Or(left, right))?;
-    let f = not(alloc, denied)?;
+    let right = Formula::not(alloc, plain(alloc))?;
+    let either = Formula::or(alloc, plain(alloc), right)?;
+    let denied = Formula::not(alloc, either)?;
+    let f = Formula::not(alloc, denied)?;
     Ok(f)
 }
 
 fn barcan(alloc: Global) -> Result<Formula, NoMemory>
     ensures { IfOk result (λ f. the_formula f ≡ barcan) }
 {
-    let inner = all(alloc, applied(alloc, 4, Term::Var(0))?)?;
-    let shown = nec(alloc, inner)?;
-    let f = imp(alloc, every_box(alloc)?, shown)?;
+    let inner = Formula::all(alloc, applied(alloc, 4, Term::Var(0))?)?;
+    let shown = Formula::nec(alloc, inner)?;
+    let f = Formula::imp(alloc, every_box(alloc)?, shown)?;
     Ok(f)
 }
 
@@ -191,8 +146,8 @@ fn symmetric(alloc: Global) -> Result<Formula, NoMemory>
 {
     let given = equal(alloc, 1, 0)?;
     let shown = equal(alloc, 0, 1)?;
-    let inner = all(alloc, imp(alloc, given, shown)?)?;
-    let f = all(alloc, inner)?;
+    let inner = Formula::all(alloc, Formula::imp(alloc, given, shown)?)?;
+    let f = Formula::all(alloc, inner)?;
     Ok(f)
 }
 
@@ -202,10 +157,10 @@ fn transitive(alloc: Global) -> Result<Formula, NoMemory>
     let first = equal(alloc, 2, 1)?;
     let second = equal(alloc, 1, 0)?;
     let shown = equal(alloc, 2, 0)?;
-    let given = and(alloc, first, second)?;
-    let inner = all(alloc, imp(alloc, given, shown)?)?;
-    let inner = all(alloc, inner)?;
-    let f = all(alloc, inner)?;
+    let given = Formula::and(alloc, first, second)?;
+    let inner = Formula::all(alloc, Formula::imp(alloc, given, shown)?)?;
+    let inner = Formula::all(alloc, inner)?;
+    let f = Formula::all(alloc, inner)?;
     Ok(f)
 }
 
@@ -215,9 +170,9 @@ fn replaced(alloc: Global) -> Result<Formula, NoMemory>
     let same = equal(alloc, 1, 0)?;
     let first = applied(alloc, 4, Term::Var(1))?;
     let second = applied(alloc, 4, Term::Var(0))?;
-    let given = and(alloc, same, first)?;
-    let inner = all(alloc, imp(alloc, given, second)?)?;
-    let f = all(alloc, inner)?;
+    let given = Formula::and(alloc, same, first)?;
+    let inner = Formula::all(alloc, Formula::imp(alloc, given, second)?)?;
+    let f = Formula::all(alloc, inner)?;
     Ok(f)
 }
 
@@ -225,9 +180,9 @@ fn replaced(alloc: Global) -> Result<Formula, NoMemory>
 fn equivalence(alloc: Global) -> Result<Formula, NoMemory>
     ensures { IfOk result (λ f. the_formula f ≡ equivalence) }
 {
-    let reflexive = all(alloc, equal(alloc, 0, 0)?)?;
-    let two = and(alloc, reflexive, symmetric(alloc)?)?;
-    let f = and(alloc, two, transitive(alloc)?)?;
+    let reflexive = Formula::all(alloc, equal(alloc, 0, 0)?)?;
+    let two = Formula::and(alloc, reflexive, symmetric(alloc)?)?;
+    let f = Formula::and(alloc, two, transitive(alloc)?)?;
     Ok(f)
 }
 
@@ -235,12 +190,12 @@ fn equal_terms(alloc: Global) -> Result<Formula, NoMemory>
     ensures { IfOk result (λ f. the_formula f ≡ equal_terms) }
 {
     let same = equation(alloc, constant(alloc, 1), constant(alloc, 2))?;
-    let given = and(alloc, replaced(alloc)?, same)?;
+    let given = Formula::and(alloc, replaced(alloc)?, same)?;
     let holds = applied(alloc, 4, constant(alloc, 1))?;
-    let given = and(alloc, given, holds)?;
-    let given = and(alloc, equivalence(alloc)?, given)?;
+    let given = Formula::and(alloc, given, holds)?;
+    let given = Formula::and(alloc, equivalence(alloc)?, given)?;
     let shown = applied(alloc, 4, constant(alloc, 2))?;
-    let f = imp(alloc, given, shown)?;
+    let f = Formula::imp(alloc, given, shown)?;
     Ok(f)
 }
 

@@ -75,70 +75,46 @@ fn atom_q(alloc: Global) -> Formula
     Formula::Atom(SymbolId(1), Terms::new(alloc))
 }
 
-fn imp(alloc: Global, a: Formula, b: Formula) -> Result<Formula, NoMemory>
-    ensures { IfOk result (λ f. the_formula f ≡ tree.imp (the_formula a) (the_formula b)) }
-{
-    let a = Box::new(alloc, a)?;
-    let b = Box::new(alloc, b)?;
-    Ok(Formula::Imp(a, b))
-}
-
-fn or(alloc: Global, a: Formula, b: Formula) -> Result<Formula, NoMemory>
-    ensures { IfOk result (λ f. the_formula f ≡ tree.disj (the_formula a) (the_formula b)) }
-{
-    let a = Box::new(alloc, a)?;
-    let b = Box::new(alloc, b)?;
-    Ok(Formula::Or(a, b))
-}
-
-fn and(alloc: Global, a: Formula, b: Formula) -> Result<Formula, NoMemory>
-    ensures { IfOk result (λ f. the_formula f ≡ tree.conj (the_formula a) (the_formula b)) }
-{
-    let a = Box::new(alloc, a)?;
-    let b = Box::new(alloc, b)?;
-    Ok(Formula::And(a, b))
-}
-
 fn self_implication(alloc: Global) -> Result<Formula, NoMemory>
     ensures { IfOk result (λ f. the_formula f ≡ self_implication) }
 {
-    imp(alloc, atom_p(alloc), atom_p(alloc))
+    Formula::imp(alloc, atom_p(alloc), atom_p(alloc))
 }
 
 fn exchange(alloc: Global) -> Result<Formula, NoMemory>
     ensures { IfOk result (λ f. the_formula f ≡ exchange) }
 {
-    let given = or(alloc, atom_p(alloc), atom_q(alloc))?;
-    let shown = or(alloc, atom_q(alloc), atom_p(alloc))?;
-    imp(alloc, given, shown)
+    let given = Formula::or(alloc, atom_p(alloc), atom_q(alloc))?;
+    let shown = Formula::or(alloc, atom_q(alloc), atom_p(alloc))?;
+    Formula::imp(alloc, given, shown)
 }
 
 fn detachment(alloc: Global) -> Result<Formula, NoMemory>
     ensures { IfOk result (λ f. the_formula f ≡ detachment) }
 {
-    let rule = imp(alloc, atom_p(alloc), atom_q(alloc))?;
-    let given = and(alloc, atom_p(alloc), rule)?;
-    imp(alloc, given, atom_q(alloc))
+    let rule = Formula::imp(alloc, atom_p(alloc), atom_q(alloc))?;
+    let given = Formula::and(alloc, atom_p(alloc), rule)?;
+    Formula::imp(alloc, given, atom_q(alloc))
 }
 
 fn idle_choice(alloc: Global) -> Result<Formula, NoMemory>
     ensures { IfOk result (λ f. the_formula f ≡ idle_choice) }
 {
-    let choice = or(alloc, atom_p(alloc), atom_q(alloc))?;
-    let rule = imp(alloc, atom_p(alloc), atom_q(alloc))?;
-    let both = and(alloc, rule, choice)?;
-    let given = and(alloc, atom_p(alloc), both)?;
-    imp(alloc, given, atom_q(alloc))
+    let choice = Formula::or(alloc, atom_p(alloc), atom_q(alloc))?;
+    let rule = Formula::imp(alloc, atom_p(alloc), atom_q(alloc))?;
+    let both = Formula::and(alloc, rule, choice)?;
+    let given = Formula::and(alloc, atom_p(alloc), both)?;
+    Formula::imp(alloc, given, atom_q(alloc))
 }
 
 fn late_choice(alloc: Global) -> Result<Formula, NoMemory>
     ensures { IfOk result (λ f. the_formula f ≡ late_choice) }
 {
-    let rule = imp(alloc, atom_p(alloc), atom_q(alloc))?;
-    let twice = and(alloc, atom_p(alloc), atom_p(alloc))?;
-    let choice = or(alloc, atom_p(alloc), twice)?;
-    let given = and(alloc, rule, choice)?;
-    imp(alloc, given, atom_q(alloc))
+    let rule = Formula::imp(alloc, atom_p(alloc), atom_q(alloc))?;
+    let twice = Formula::and(alloc, atom_p(alloc), atom_p(alloc))?;
+    let choice = Formula::or(alloc, atom_p(alloc), twice)?;
+    let given = Formula::and(alloc, rule, choice)?;
+    Formula::imp(alloc, given, atom_q(alloc))
 }
 
 fn one_side(alloc: Global, side: Side) -> Result<Selection, NoMemory>

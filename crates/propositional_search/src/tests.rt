@@ -93,51 +93,27 @@ fn atom(alloc: Global, symbol: u32) -> Formula
     Formula::Atom(SymbolId(symbol), Terms::new(alloc))
 }
 
-fn imp(alloc: Global, a: Formula, b: Formula) -> Result<Formula, NoMemory>
-    ensures { IfOk result (λ f. the_formula f ≡ tree.imp (the_formula a) (the_formula b)) }
-{
-    let a = Box::new(alloc, a)?;
-    let b = Box::new(alloc, b)?;
-    Ok(Formula::Imp(a, b))
-}
-
-fn or(alloc: Global, a: Formula, b: Formula) -> Result<Formula, NoMemory>
-    ensures { IfOk result (λ f. the_formula f ≡ tree.disj (the_formula a) (the_formula b)) }
-{
-    let a = Box::new(alloc, a)?;
-    let b = Box::new(alloc, b)?;
-    Ok(Formula::Or(a, b))
-}
-
-fn and(alloc: Global, a: Formula, b: Formula) -> Result<Formula, NoMemory>
-    ensures { IfOk result (λ f. the_formula f ≡ tree.conj (the_formula a) (the_formula b)) }
-{
-    let a = Box::new(alloc, a)?;
-    let b = Box::new(alloc, b)?;
-    Ok(Formula::And(a, b))
-}
-
 fn self_implication(alloc: Global) -> Result<Formula, NoMemory>
     ensures { IfOk result (λ f. the_formula f ≡ tree.imp (tree.atom 0 tree.no_terms) (tree.atom 0 tree.no_terms)) }
 {
-    imp(alloc, atom(alloc, 0), atom(alloc, 0))
+    Formula::imp(alloc, atom(alloc, 0), atom(alloc, 0))
 }
 
 fn excluded_middle(alloc: Global) -> Result<Formula, NoMemory>
     ensures { IfOk result (λ f. the_formula f
         ≡ tree.disj (tree.atom 0 tree.no_terms) (tree.neg (tree.atom 0 tree.no_terms))) }
 {
-    let denied = Box::new(alloc, atom(alloc, 0))?;
-    or(alloc, atom(alloc, 0), Formula::Not(denied))
+    let denied = Formula::not(alloc, atom(alloc, 0))?;
+    Formula::or(alloc, atom(alloc, 0), denied)
 }
 
 fn peirce(alloc: Global) -> Result<Formula, NoMemory>
     ensures { IfOk result (λ f. the_formula f ≡ tree.imp (tree.imp (tree.imp (tree.atom 0 tree.no_terms)
         (tree.atom 1 tree.no_terms)) (tree.atom 0 tree.no_terms)) (tree.atom 0 tree.no_terms)) }
 {
-    let first = imp(alloc, atom(alloc, 0), atom(alloc, 1))?;
-    let second = imp(alloc, first, atom(alloc, 0))?;
-    imp(alloc, second, atom(alloc, 0))
+    let first = Formula::imp(alloc, atom(alloc, 0), atom(alloc, 1))?;
+    let second = Formula::imp(alloc, first, atom(alloc, 0))?;
+    Formula::imp(alloc, second, atom(alloc, 0))
 }
 
 // Its only extension meets its own goal again.
@@ -145,20 +121,20 @@ fn irregular(alloc: Global) -> Result<Formula, NoMemory>
     ensures { IfOk result (λ f. the_formula f ≡ tree.imp (tree.imp (tree.atom 0 tree.no_terms)
         (tree.atom 0 tree.no_terms)) (tree.atom 0 tree.no_terms)) }
 {
-    let first = imp(alloc, atom(alloc, 0), atom(alloc, 0))?;
-    imp(alloc, first, atom(alloc, 0))
+    let first = Formula::imp(alloc, atom(alloc, 0), atom(alloc, 0))?;
+    Formula::imp(alloc, first, atom(alloc, 0))
 }
 
 // `p | q`, `more` + 1 times, joined by `&`.
 fn often(alloc: Global, more: u32) -> Result<Formula, NoMemory>
     ensures { IfOk result (λ f. the_formula f ≡ either_often more) }
 {
-    let either = or(alloc, atom(alloc, 0), atom(alloc, 1))?;
+    let either = Formula::or(alloc, atom(alloc, 0), atom(alloc, 1))?;
     if more == 0 {
         return Ok(either);
     }
     let fewer = often(alloc, more - 1)?;
-    let all = and(alloc, fewer, either)?;
+    let all = Formula::and(alloc, fewer, either)?;
     Ok(all)
 }
 
