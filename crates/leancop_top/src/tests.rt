@@ -180,9 +180,19 @@ fn obeys_words(rt: HostRuntime) -> Result<(), Fail> {
 fn tells_faults_of_streams(rt: HostRuntime) -> Result<(), Fail> {
     let texts = (b"fof(c,conjecture,p => p).\n".as_slice(), b"".as_slice());
     for (words, fetches, puts, told) in [
-        (["prove", "m.p"].as_slice(), [1].as_slice(), [].as_slice(), b"read fault: m.p\n".as_slice()),
+        (
+            ["prove", "m.p"].as_slice(),
+            [1].as_slice(),
+            [].as_slice(),
+            b"read fault: m.p\n".as_slice(),
+        ),
         (&["check", "m.p", "d.txt"], &[1], &[], b"read fault: m.p\n"),
-        (&["check", "m.p", "d.txt"], &[2], &[], b"read fault: d.txt\n"),
+        (
+            &["check", "m.p", "d.txt"],
+            &[2],
+            &[],
+            b"read fault: d.txt\n",
+        ),
         (&["prove", "m.p"], &[], &[(1, 7)], b"leancop"),
         (&["prove", "m.p"], &[1], &[(1, 4)], b"read"),
     ] {

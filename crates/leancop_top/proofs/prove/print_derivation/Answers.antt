@@ -7,11 +7,13 @@ pub returns : goal.returns
 returns c =
     let d = the_derivation c.in_ok-derivation.derivation in
     let derives = c.in_ok-derivation.ensures.derives in
-    let text = c.in_ok-text.ensures.text in
-    (refl, record {
-      derivation = d;
-      carries = c.in_ok-derivation.ensures.limit;
-      derives = derives;
-      text = text;
-      judged = accepted-only c.args.problem.now c.in_ok-text.text.items d text derives c.in_ok-text.ensures.one;
-    })
+    let text = c.in_ok-text.ensures.text in (
+      refl,
+      record {
+        derivation = d;
+        carries = c.in_ok-derivation.ensures.limit;
+        derives = derives;
+        text = text;
+        judged = accepted-only c.args.problem.now c.in_ok-text.text.items d text derives c.in_ok-text.ensures.one;
+      },
+    )
