@@ -86,7 +86,7 @@ after_number_end bs = if begins_with 47 bs then after_part 47 bs else after_expo
 abbrev pub after_number : List ℕ → Option (List ℕ)
 after_number bs = option_map after_number_end (after_digits bs)
 
--- ( ) [ ] , . : ? & |
+-- the signs of one byte with which no longer sign begins
 abbrev pub is_single : ℕ → Bool
 is_single b = b == 40 || b == 41 || b == 91 || b == 93 || b == 44 || b == 46 || b == 58 || b == 63 || b == 38 || b == 124
 
