@@ -28,6 +28,19 @@ pub mod DerivationTextLaws
 pub mod JudgementLaws
 -- stores
 pub mod StoreLaws
+-- soundness in finite structures
+pub mod MemberLaws
+pub mod StructureLaws
+pub mod WorldLaws
+pub mod NamedTruth
+pub mod SignedTruth
+pub mod Interpretations
+pub mod Extensions
+pub mod StepSoundness
+pub mod SoundnessLaws
+pub mod TautologyLaws
+pub mod PersistenceLaws
+pub mod TranslationLaws
 -- examples that compute
 mod TableauExamples
 mod SpaceExamples
@@ -38,5 +51,6 @@ mod CutExamples
 mod CasesExamples
 mod LabelExamples
 mod StructureExamples
+mod SoundnessExamples
 mod SparesExamples
 mod Stress

@@ -49,7 +49,7 @@ children-extend P names s x c e = subst (OnOkChildren (ChildrenExtend s)) e (app
 
 -- ---- what a step brings is new
 
-abbrev AreMet : List Condition → Type 0
+abbrev pub AreMet : List Condition → Type 0
 AreMet [] = Unit {0}
 AreMet (d ∷ ds) = (d.met ≡ true) × AreMet ds
 
@@ -57,9 +57,17 @@ met_by : (d : Condition) (ds : List Condition) (b c : Children) → (first_fault
 met_by d ds b c rest true e h = (e, rest (rw e at h))
 met_by d ds b c rest false e h = let h' : Err d.fault ≡ Ok c = rw e at h in cc
 
-are_met : (ds : List Condition) (b c : Children) → first_fault ds b ≡ Ok c → AreMet ds
+pub are_met : (ds : List Condition) (b c : Children) → first_fault ds b ≡ Ok c → AreMet ds
 are_met [] b c h = tt
 are_met (d ∷ ds) b c h = met_by d ds b c (are_met ds b c) d.met refl h
+
+-- and then the step has the children that it was to have
+pub met-children : (ds : List Condition) (b c : Children) → first_fault ds b ≡ Ok c → b ≡ c
+met-children [] b c h = cc
+met-children (d ∷ ds) b c h = elim (cases_Bool d.met) [
+  | inl e ↦ met-children ds b c (rw e at h)
+  | inr e ↦ let h' : Err d.fault ≡ Ok c = rw e at h in cc
+]
 
 character-fresh : (names : Names) (s : Sequent) (m : ModalArg) → character_is_new names s m ≡ true → IsCharacterFresh names s m
 character-fresh names s no_modal h = tt

@@ -38,6 +38,7 @@ pub mod Stores
 pub mod Systems
 -- meaning, and the way into S4
 pub mod Structures
+pub mod Soundness
 pub mod Translation
 -- the lists inside trees as lists, and what models of program types need
 pub mod Lists

@@ -4,6 +4,7 @@ ghost use Rattle.std.specs.Prelude.{◌≡◌, IfOk, IsTrue};
 ghost use Rattle.calculus.specs.Derivations as derivation;
 ghost use Rattle.calculus.specs.Judgement.{IsJudgement, IsOnlyJudgement};
 ghost use Rattle.calculus.specs.Problems.{is_problem};
+ghost use Rattle.calculus.specs.Soundness.{IsSound, IsTrueInStructures};
 ghost use Rattle.derivation_check.specs.Reading.{AtMostOneReading};
 ghost use Rattle.derivation_check.specs.VerdictView.{the_verdict};
 
@@ -22,6 +23,10 @@ pub fn check(alloc: Global, problem: &Problem, bytes: &[u8]) -> Result<Verdict, 
 
     // From one sequent two readings of a list of steps leave the same rest.
     ensures one_reading { (names : derivation.Names) → AtMostOneReading problem.now names }
+
+    // A formula that is false at the root of a finite structure has no derivation; what is accepted is true in each.
+    ensures sound { IsSound problem.now }
+    ensures valid { IfOk result (λ v. v ≡ Verdict.Accepted → IsTrueInStructures problem.now) }
 {
     let verdict = judgement_of(alloc, problem, bytes)?;
     Ok(verdict)

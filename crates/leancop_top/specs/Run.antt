@@ -6,6 +6,8 @@ use Rattle.calculus.specs.Derivations.{Derivation}
 use Rattle.calculus.specs.Calculus.{Derives}
 use Rattle.calculus.specs.DerivationText.{IsText}
 use Rattle.calculus.specs.Judgement.{Verdict, IsOnlyJudgement, accepted, rejected}
+use Rattle.calculus.specs.Propositional.{IsTautology}
+use Rattle.calculus.specs.Soundness.{IsTrueInStructures}
 use Rattle.calculus.specs.Tableaux.{HasClosed}
 use Rattle.propositional_reader.specs.Reading.{Reads}
 use Rattle.propositional_search.specs.Matrix.{FitsMatrix}
@@ -37,6 +39,11 @@ HoldsNoProblem told file = IfSome told (λ files. IsSomeAnd (file_in files file)
 
 -- ---- the search
 
+-- the formula is true in each finite structure of the setting, and a tautology
+pub record IsValid (P : Problem) : Type 0 where
+  pub true_in_structures : IsTrueInStructures P
+  pub tautology : IsTautology P
+
 -- the bytes are the text of a derivation that derives the problem and carries the limit, and so their judgement is acceptance
 pub record IsDerivation (P : Problem) (limit : ℕ) (bytes : List ℕ) : Type 0 where
   pub derivation : Derivation
@@ -44,6 +51,7 @@ pub record IsDerivation (P : Problem) (limit : ℕ) (bytes : List ℕ) : Type 0 
   pub derives : Derives P derivation
   pub text : IsText P derivation bytes
   pub judged : IsOnlyJudgement P bytes accepted
+  pub valid : IsValid P
 
 -- some tableau is closed within the limit, which is at most the greatest, and none within a smaller one
 pub record IsDerived (P : Problem) (limit : ℕ) (bytes : List ℕ) : Type 0 where
@@ -97,7 +105,7 @@ pub record IsJudgedIn (told : Option Files) (P : Problem) (derivation : Word) (v
 
 -- why judging the derivation of a file ends with a status
 abbrev pub JudgingEnds : Option Files → Problem → Word → Status → Type 0
-JudgingEnds told P derivation Accepted = IsJudgedIn told P derivation accepted
+JudgingEnds told P derivation Accepted = IsJudgedIn told P derivation accepted × IsValid P
 JudgingEnds told P derivation (Rejected line fault) = IsJudgedIn told P derivation (rejected line fault)
 JudgingEnds told P derivation (Missing name) = (name ≡ derivation) × Lacks told derivation
 JudgingEnds told P derivation (ReadFault name) = name ≡ derivation

@@ -1,8 +1,10 @@
 //! A run of the program.
 
-ghost use Rattle.std.specs.Prelude.{◌≡◌, ◌≤◌, Err, IfOk, IfErr, Option};
+ghost use Rattle.std.specs.Prelude.{◌≡◌, ◌≤◌, Err, IfOk, IfErr, IsTrue, Option};
 ghost use Rattle.calculus.specs.ComputedInstances.{ComputesInstances};
+ghost use Rattle.calculus.specs.Problems.{is_problem};
 ghost use Rattle.calculus.specs.Propositional.{IsPropositional};
+ghost use Rattle.calculus.specs.Soundness.{IsSound};
 ghost use Rattle.calculus.specs.Syntax as tree;
 ghost use Rattle.cop_base.specs.Outside.{Files, Rose};
 ghost use Rattle.leancop_top.specs.Output.{status_line};
@@ -59,6 +61,7 @@ fn unsupported(file: Text) -> Status
 
 // The judgement of the derivation that a file holds, or why there is none.
 fn judge_file<L: Library>(alloc: Global, lib: &mut L, problem: &Problem, derivation: &str) -> Status
+    requires { IsPropositional problem.now }
     ensures same_files { L.holds lib.new ≡ L.holds lib.old }
     ensures more_faults { L.faults lib.old ≤ L.faults lib.new }
     ensures more_misses { L.misses lib.old ≤ L.misses lib.new }
@@ -69,6 +72,7 @@ fn judge_file<L: Library>(alloc: Global, lib: &mut L, problem: &Problem, derivat
         Ok(name) => name,
         Err(NoMemory) => return Status::NoMemory,
     };
+    let _symbols = problem.symbols(); // tells that it is a problem
     match lib.fetch(&name, u64::MAX) {
         Ok(bytes) => match check(alloc, problem, bytes.as_slice()) {
             Ok(Verdict::Accepted) => Status::Accepted,
@@ -154,7 +158,7 @@ fn answer<L: Library>(alloc: Global, words: &[String], lib: &mut L) -> Result<Re
 
 /// Does all that the program does. `words` are the words after the program's own name. The whole output is built before
 /// the first byte is written.
-#[tactic(auto, using(calculus::proofs::CasesLaws::computes_instances))]
+#[tactic(auto, using(calculus::proofs::CasesLaws::computes_instances, calculus::proofs::SoundnessLaws::sound))]
 pub fn run<L: Library, K: Sink>(
     alloc: Global,
     words: &Vec<String>,
@@ -180,6 +184,9 @@ pub fn run<L: Library, K: Sink>(
         → IsProvable (L.holds lib.old) (asked words.now.items) → IsDecided result }
     ensures judged { ¬ Rose (L.faults lib.old) (L.faults lib.new) → ¬ Rose (K.faults out.old) (K.faults out.new)
         → IsCheckable (L.holds lib.old) (asked words.now.items) → IsJudged result }
+
+    // A formula that is false at the root of a finite structure of its setting has no derivation, in any logic.
+    ensures sound { (P : tree.Problem) → IsTrue (is_problem P) → IsSound P }
 
     // The clauses of tableaux are the instances that the rules define by cases.
     ensures instances { (P : tree.Problem) → ComputesInstances P }

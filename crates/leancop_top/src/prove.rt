@@ -39,6 +39,7 @@ fn print_derivation(
 {
     let derivation = convert(alloc, problem, selections, limit)?;
     let text = print(alloc, problem, &derivation)?;
+    let _symbols = problem.symbols(); // tells that it is a problem
     Ok(Proof { limit, text })
 }
 

@@ -1,5 +1,7 @@
 use Rattle.std.proofs.Common.{refl}
 use Rattle.calculus.proofs.JudgementLaws.{accepted-only}
+use Rattle.calculus.proofs.SoundnessLaws.{derived-true}
+use Rattle.calculus.proofs.TautologyLaws.{tautology}
 use Rattle.sequent_calc.specs.DerivationView.{the_derivation}
 use Rattle.leancop_top.proofs.prove.print_derivation.Goals as goal
 
@@ -7,7 +9,9 @@ pub returns : goal.returns
 returns c =
     let d = the_derivation c.in_ok-derivation.derivation in
     let derives = c.in_ok-derivation.ensures.derives in
-    let text = c.in_ok-text.ensures.text in (
+    let text = c.in_ok-text.ensures.text in
+    let well = c.symbols-symbols.ensures.well in
+    let true_in = derived-true c.args.problem.now well d text.printable derives in (
       refl,
       record {
         derivation = d;
@@ -15,5 +19,6 @@ returns c =
         derives = derives;
         text = text;
         judged = accepted-only c.args.problem.now c.in_ok-text.text.items d text derives c.in_ok-text.ensures.one;
+        valid = record { true_in_structures = true_in; tautology = tautology c.args.problem.now well c.requires.propositional true_in };
       },
     )
