@@ -18,8 +18,31 @@ pub mod LimitLaws
 pub mod SpaceLaws
 pub mod AnswerLaws
 pub mod CutLaws
+-- conversion of tableaux
+pub mod Members
+pub mod NameLaws
+pub mod PlaceLaws
+pub mod AgendaLaws
+pub mod SortedTurns
+pub mod NumberLaws
+pub mod NumberedLaws
+pub mod WorkLaws
+pub mod ClosedLaws
+pub mod PutLaws
+pub mod ExpandLaws
+pub mod BranchLaws
+pub mod FreshLaws
+pub mod UseLaws
+pub mod NextLaws
+pub mod EndLaws
+pub mod WholeLaws
+pub mod MadeLaws
+pub mod RunLaws
+pub mod ShortLaws
+pub mod WrittenLaws
 -- derivations and texts
 pub mod SequentLaws
+pub mod OpenLaws
 pub mod VerdictLaws
 pub mod TextLaws
 pub mod TermTextLaws
@@ -49,6 +72,7 @@ mod SystemExamples
 mod OtherExamples
 mod CutExamples
 mod CasesExamples
+mod ConversionExamples
 mod LabelExamples
 mod StructureExamples
 mod SoundnessExamples

@@ -24,8 +24,10 @@ pub mod Counting
 pub mod Space
 pub mod Cut
 pub mod Turns
+pub mod Numbering
 -- the sequent calculus
 pub mod Derivations
+pub mod Branches
 pub mod Substitution
 pub mod Calculus
 pub mod StepFacts

@@ -1,0 +1,4 @@
+pub mod TurnView
+pub mod NameView
+pub mod NamedView
+pub mod Order

@@ -1,0 +1,5 @@
+pub mod Conversion
+pub mod SpotView
+pub mod PastView
+pub mod NodeView
+pub mod MadeView
