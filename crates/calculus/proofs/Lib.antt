@@ -78,3 +78,8 @@ mod StructureExamples
 mod SoundnessExamples
 mod SparesExamples
 mod Stress
+pub mod PlaceLists
+pub mod BindingLaws
+pub mod SolutionLaws
+pub mod WeightLaws
+pub mod PatternLaws

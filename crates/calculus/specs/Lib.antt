@@ -46,3 +46,5 @@ pub mod Translation
 pub mod Lists
 pub mod Sizes
 pub mod Codes
+pub mod Bindings
+pub mod Patterns

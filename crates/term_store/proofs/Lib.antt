@@ -1,0 +1,5 @@
+pub mod WellLaws
+pub mod SlotLaws
+pub mod StoreFacts
+pub mod MarkLaws
+pub mod CopyLaws

@@ -1,0 +1,11 @@
+pub mod Room
+pub mod StoreView
+pub mod Slots
+pub mod Shown
+pub mod Built
+pub mod PatternView
+pub mod PatternFalls
+pub mod Copying
+pub mod RefView
+pub mod ClauseView
+pub mod TemplateView

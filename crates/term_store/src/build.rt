@@ -1,0 +1,70 @@
+//! Cells that are built of others.
+
+ghost use Rattle.std.specs.Prelude.{◌≡◌, ◌≤◌, ◌<◌, ◌+◌, ◌++◌, ◌∷◌, [], IfOk, IsTrue, OnErr, OnOk, length};
+ghost use Rattle.calculus.specs.declared.sort.Sort.TheVariants.{MarkSort};
+ghost use Rattle.calculus.specs.Bindings.{IsSound, KeepsMarks, with_cell};
+ghost use Rattle.calculus.specs.Patterns.{Grows};
+ghost use Rattle.calculus.specs.Stores.{Store, parts_fit, string_cell};
+ghost use Rattle.term_store.specs.Built.{named_cell, named_content, places_from, with_variables};
+ghost use Rattle.term_store.specs.Room.{KeepsRoom};
+
+use crate::cell::{Content, Name, Ref, Slot};
+use crate::slots::put;
+use crate::store::Store;
+use calculus::sort::Sort;
+use cop_base::NoMemory;
+use std::alloc::Global;
+
+// How many parts all cells can have: a place has 32 bits.
+const PART_PLACES: usize = 4294967295;
+
+fn content_of(name: Name, parts: u32) -> Content
+    ensures { result ≡ named_content name parts }
+{
+    match name {
+        Name::Fun(f) => Content::Fun(f, parts),
+        Name::Eigen(p) => Content::Eigen(p, parts),
+        Name::New(p) => Content::New(p, parts),
+        Name::Marks => Content::Marks(parts),
+    }
+}
+
+impl Store {
+    // A built cell with these parts. Want of memory leaves the store as it was.
+    pub(crate) fn build(&mut self, name: Name, parts: &[u32]) -> Result<Ref, NoMemory>
+        requires { IsTrue (parts_fit self.old.store (named_cell name parts.now)) }
+        ensures place { IfOk result (λ r. r.0 ≡ length self.old.store.cells) }
+        ensures ok { OnOk result (self.new.store ≡ with_cell (named_cell name parts.now) self.old.store) }
+        ensures err { OnErr result (self.new.store ≡ self.old.store) }
+        ensures grows { Grows self.old.store self.new.store }
+        ensures marks { KeepsMarks self.old.store self.new.store }
+        ensures room { KeepsRoom self.old self.new }
+    {
+        self.reserve(1)?;
+        if parts.len() > PART_PLACES - self.parts.len() {
+            return Err(NoMemory);
+        }
+        let content = content_of(name, parts.len() as u32);
+        let start = self.parts.len() as u32;
+        self.parts.extend_from_slice(parts)?;
+        let place = self.cells.len() as u32;
+        put(&mut self.cells, Slot { content, start });
+        Ok(Ref(place))
+    }
+
+    /// A built string of so many new mark variables. Want of memory may leave some variables behind.
+    pub fn marks(&mut self, alloc: Global, n: u32) -> Result<Ref, NoMemory>
+        ensures place { IfOk result (λ r. r.0 ≡ length self.old.store.cells + n) }
+        ensures ok { OnOk result (self.new.store ≡ with_cell (string_cell (places_from (length self.old.store.cells) n)) (with_variables n MarkSort self.old.store)) }
+        ensures marks { KeepsMarks self.old.store self.new.store }
+        ensures room { KeepsRoom self.old self.new }
+    {
+        let mut variables = Vec::new(alloc);
+        for _i in 0..n {
+            self.reserve(1)?;
+            variables.push(self.fresh(Sort::MarkSort).0)?;
+        }
+        let string = self.build(Name::Marks, &variables)?;
+        Ok(string)
+    }
+}

@@ -1,0 +1,54 @@
+//! Cells and what names them.
+
+use calculus::sort::Sort;
+use cop_base::{PosId, SymbolId};
+
+/// Names a cell of a store by its place.
+#[derive(Clone, Copy, Debug, PartialEq, Eq)]
+pub struct Ref(pub u32);
+
+/// A moment in the life of a store, to which it can be brought back: how many cells and how many entries of the trail it
+/// had.
+#[derive(Clone, Copy, Debug)]
+pub struct TrailMark {
+    pub(crate) cells: usize,
+    pub(crate) entries: usize,
+}
+
+/// What stands at the end of a cell's bindings: an unbound variable, a term or mark of this name, or a string.
+#[derive(Clone, Copy, Debug)]
+pub enum Head {
+    Open(Sort),
+    Fun(SymbolId),
+    Eigen(PosId),
+    New(PosId),
+    Marks,
+}
+
+// The kind and the name of a built cell.
+#[derive(Clone, Copy, Debug)]
+pub(crate) enum Name {
+    Fun(SymbolId),
+    Eigen(PosId),
+    New(PosId),
+    Marks,
+}
+
+// What a cell holds; a built cell has this number of parts.
+#[derive(Clone, Copy, Debug)]
+pub(crate) enum Content {
+    Open(Sort),
+    Bound(Sort, Ref),
+    Fun(SymbolId, u32),
+    Eigen(PosId, u32),
+    New(PosId, u32),
+    Marks(u32),
+}
+
+// A cell, and where its parts begin in the list of all parts. A variable has no parts, and its start tells how long that
+// list was when the cell was made, so that the list can be cut back with the cells.
+#[derive(Clone, Copy, Debug)]
+pub(crate) struct Slot {
+    pub(crate) content: Content,
+    pub(crate) start: u32,
+}

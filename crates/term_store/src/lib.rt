@@ -1,0 +1,23 @@
+//! Stores of variables with bindings and a trail, as in Prolog machines.
+#![tactic(auto)]
+
+mod build;
+mod cell;
+mod clause;
+mod copy;
+mod copy_clause;
+mod pattern;
+mod slots;
+mod store;
+#[cfg(test)]
+mod tests;
+
+pub use calculus::sign::Sign;
+pub use calculus::sort::Sort;
+pub use cell::{Head, Ref, TrailMark};
+pub use clause::{
+    CellAtom, CellAtomList, CopiedClause, GammaList, GammaUse, PatternAtom, PatternAtomList,
+    PatternGamma, PatternGammaList, Prefix, RefList, SortList, Template,
+};
+pub use pattern::{Pattern, Patterns};
+pub use store::Store;

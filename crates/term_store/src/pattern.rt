@@ -1,0 +1,72 @@
+//! Patterns of terms and marks.
+
+ghost use Rattle.std.specs.Prelude.{◌≡◌, ◌++◌, ◌∷◌, [], OnErr, OnOk, map};
+ghost use Rattle.term_store.specs.PatternView.{the_pattern};
+
+use cop_base::{NoMemory, PosId, SymbolId};
+use std::alloc::Global;
+use std::marker::Model;
+
+/// A term or mark with numbered variables.
+#[derive(Drop)]
+#[cycle(pattern)]
+pub enum Pattern {
+    Var(u32),
+    Fun(SymbolId, Patterns),
+    Eigen(PosId, Patterns),
+    New(PosId, Patterns),
+}
+
+/// Patterns in order: parts, arguments, or the marks and strings of a label.
+#[derive(Drop)]
+#[cycle(pattern)]
+pub struct Patterns {
+    items: Vec<Pattern>,
+}
+
+impl Model for Patterns {
+    ghost use Rattle.std.specs.Prelude.{List, map};
+    ghost use Rattle.calculus.specs.Patterns as tree;
+    ghost use Rattle.calculus.specs.Patterns.{pattern_list_code, pattern_list_size};
+
+    ghost Value = { List tree.Pattern };
+
+    ghost coded = { pattern_list_code };
+
+    ghost use Rattle.term_store.specs.PatternView.{the_pattern};
+
+    ghost view = { λ a. map the_pattern a.items.items };
+
+    ghost size = { pattern_list_size };
+
+    ghost use Rattle.term_store.specs.PatternFalls.{most-deep-Pattern-le-size};
+
+    ghost size_decreases = { λ a _. most-deep-Pattern-le-size a.items.items };
+}
+
+impl Patterns {
+    /// The empty list.
+    pub fn new(alloc: Global) -> Patterns
+        ensures { result ≡ [] }
+    {
+        Patterns {
+            items: Vec::new(alloc),
+        }
+    }
+
+    /// Appends the item. Want of memory leaves the list as it was.
+    pub fn push(&mut self, item: Pattern) -> Result<(), NoMemory>
+        ensures ok { OnOk result (self.new ≡ self.old ++ the_pattern item ∷ []) }
+        ensures err { OnErr result (self.new ≡ self.old) }
+    {
+        self.items.push(item)?;
+        Ok(())
+    }
+
+    /// The items in order.
+    pub fn items(&self) -> &[Pattern]
+        ensures { map the_pattern result.now ≡ self.now }
+    {
+        self.items.as_slice()
+    }
+}

@@ -1,0 +1,240 @@
+//! The store.
+
+ghost use Rattle.std.specs.Prelude.{◌≡◌, ◌≤◌, ◌<◌, ◌+◌, ◌++◌, ◌∷◌, [], false, MatchOption, OnOk, length, slice_get, vec_len, vec_capacity};
+ghost use Rattle.calculus.specs.Bindings.{EndsIn, IsEnd, IsSound, KeepsEarlier, KeepsMarks, MayBind, with_binding, with_cell};
+ghost use Rattle.calculus.specs.Stores.{Cell, EndsAt, HasNoCycle, IsGood, cut_at, is_bound, parts_of, variable};
+ghost use Rattle.term_store.specs.Room.{KeepsRoom, spare};
+ghost use Rattle.term_store.specs.Shown.{Shows, head_of};
+ghost use Rattle.term_store.specs.StoreView.{the_mark};
+
+use crate::cell::{Content, Head, Ref, Slot, TrailMark};
+use crate::slots::{bind_slot, cut, put, unbind};
+use calculus::sort::Sort;
+use cop_base::NoMemory;
+use std::alloc::Global;
+use std::marker::Model;
+
+// How many cells a store can have: a place has 32 bits.
+const PLACES: usize = 4294967296;
+
+/// Cells with bindings. The trail names the bound cells in the order of binding, so that they can be unbound again.
+/// `fresh` and `bind` need no memory while there is spare room.
+#[derive(Drop)]
+pub struct Store {
+    pub(crate) cells: Vec<Slot>,
+    // The parts of the built cells, cell by cell.
+    pub(crate) parts: Vec<u32>,
+    pub(crate) trail: Vec<u32>,
+}
+
+impl Model for Store {
+    ghost use Rattle.std.specs.Prelude.{min, vec_capacity};
+    ghost use Rattle.term_store.specs.Room.{TermStore};
+
+    ghost Value = { TermStore };
+
+    ghost use Rattle.term_store.specs.StoreView.{IsWell, the_store};
+
+    ghost view = { λ s. record {
+      store = the_store s.cells.items s.parts.items s.trail.items;
+      cell_room = min (vec_capacity s.cells) 4294967296;
+      trail_room = vec_capacity s.trail;
+    } };
+
+    ghost invariant = { λ s. IsWell s.cells.items s.parts.items s.trail.items };
+}
+
+impl Store {
+    /// An empty store.
+    pub fn new(alloc: Global) -> Store
+        ensures { result.store ≡ record { cells = []; trail = [] } }
+    {
+        Store {
+            cells: Vec::new(alloc),
+            parts: Vec::new(alloc),
+            trail: Vec::new(alloc),
+        }
+    }
+
+    /// How many calls of `fresh` and `bind` need no memory.
+    pub fn spare(&self) -> usize
+        ensures { result ≡ spare self.now }
+    {
+        let cells = self.cells.capacity().min(PLACES) - self.cells.len();
+        let trail = self.trail.capacity() - self.trail.len();
+        cells.min(trail)
+    }
+
+    /// How many cells there are, with those that are spare.
+    pub fn size(&self) -> usize
+        ensures size { result ≡ length self.now.store.cells + spare self.now }
+        ensures no_cycle { HasNoCycle self.now.store }
+        ensures well { IsSound self.now.store }
+    {
+        self.cells.len() + self.spare()
+    }
+
+    /// Makes room for so many calls of `fresh` and `bind`.
+    pub fn reserve(&mut self, n: usize) -> Result<(), NoMemory>
+        ensures ok { OnOk result (n ≤ spare self.new) }
+        ensures store { self.new.store ≡ self.old.store }
+        ensures room { KeepsRoom self.old self.new }
+    {
+        if n > PLACES - self.cells.len() {
+            return Err(NoMemory);
+        }
+        self.cells.try_reserve(n)?;
+        self.trail.try_reserve(n)?;
+        Ok(())
+    }
+
+    /// A new variable.
+    pub fn fresh(&mut self, sort: Sort) -> Ref
+        requires { 0 < spare self.old }
+        ensures place { result.0 ≡ length self.old.store.cells }
+        ensures store { self.new.store ≡ with_cell (variable sort None) self.old.store }
+        ensures room { KeepsRoom self.old self.new }
+        ensures marks { KeepsMarks self.old.store self.new.store }
+        ensures well { IsSound self.new.store }
+    {
+        let place = self.cells.len() as u32;
+        let start = self.parts.len() as u32;
+        put(
+            &mut self.cells,
+            Slot {
+                content: Content::Open(sort),
+                start,
+            },
+        );
+        Ref(place)
+    }
+}
+
+impl Store {
+    /// Binds the unbound variable.
+    pub fn bind(&mut self, v: Ref, to: Ref)
+        requires spare { 0 < spare self.old }
+        requires may { MayBind self.old.store v.0 to.0 }
+        ensures store { self.new.store ≡ with_binding v.0 to.0 self.old.store }
+        ensures room { KeepsRoom self.old self.new }
+        ensures marks { KeepsMarks self.old.store self.new.store }
+        ensures well { IsSound self.new.store }
+    {
+        bind_slot(&mut self.cells, v.0 as usize, to);
+        put(&mut self.trail, v.0);
+    }
+
+    /// This moment.
+    pub fn mark(&self) -> TrailMark
+        ensures good { IsGood (the_mark result) self.now.store }
+        ensures whole { cut_at (the_mark result) self.now.store ≡ self.now.store }
+        ensures well { IsSound self.now.store }
+    {
+        TrailMark {
+            cells: self.cells.len(),
+            entries: self.trail.len(),
+        }
+    }
+
+    /// Back to the moment: the bindings since then are taken back, and the cells since then are gone.
+    pub fn undo(&mut self, m: TrailMark)
+        requires { IsGood (the_mark m) self.old.store }
+        ensures store { self.new.store ≡ cut_at (the_mark m) self.old.store }
+        ensures room { KeepsRoom self.old self.new }
+        ensures spare { spare self.old ≤ spare self.new }
+        ensures marks { KeepsEarlier (the_mark m) self.old.store self.new.store }
+        ensures well { IsSound self.new.store }
+    {
+        unbind(&mut self.cells, &mut self.trail, m.entries);
+        cut(&mut self.cells, &mut self.parts, m.cells);
+    }
+
+    // What the cell holds.
+    fn content(&self, r: Ref) -> Content
+        requires { r.0 < length self.now.store.cells }
+        ensures shows { Shows self.now.store r.0 result }
+        ensures well { IsSound self.now.store }
+    {
+        self.cells[r.0 as usize].content
+    }
+
+    // What the cell is bound to, if it is bound.
+    fn next(&self, r: Ref) -> Option<Ref>
+        requires { r.0 < length self.now.store.cells }
+        ensures next { MatchOption result (IsEnd self.now.store r.0) (λ to. (sort : Sort) × (slice_get self.now.store.cells r.0 ≡ Some (variable sort (Some to.0)))) }
+        ensures well { IsSound self.now.store }
+    {
+        match self.content(r) {
+            Content::Bound(_, to) => Some(to),
+            Content::Open(_) => None,
+            Content::Fun(_, _) => None,
+            Content::Eigen(_, _) => None,
+            Content::New(_, _) => None,
+            Content::Marks(_) => None,
+        }
+    }
+
+    /// The cell at which the bindings of this one end.
+    pub fn walk(&self, r: Ref) -> Ref
+        requires { r.0 < length self.now.store.cells }
+        ensures ends { EndsAt self.now.store r.0 result.0 }
+        ensures within { result.0 < length self.now.store.cells }
+        ensures well { IsSound self.now.store }
+    {
+        let mut end = r;
+        while let Some(to) = self.next(end) {
+            end = to;
+        }
+        end
+    }
+
+    /// What stands at the end of the bindings.
+    pub fn head(&self, r: Ref) -> Head
+        requires { r.0 < length self.now.store.cells }
+        ensures { EndsIn self.now.store r.0 (λ c. head_of c ≡ result) }
+    {
+        match self.content(self.walk(r)) {
+            Content::Open(sort) => Head::Open(sort),
+            Content::Bound(sort, _) => Head::Open(sort),
+            Content::Fun(f, _) => Head::Fun(f),
+            Content::Eigen(p, _) => Head::Eigen(p),
+            Content::New(p, _) => Head::New(p),
+            Content::Marks(_) => Head::Marks,
+        }
+    }
+
+    /// How many parts there are at the end of the bindings.
+    pub fn parts(&self, r: Ref) -> u32
+        requires { r.0 < length self.now.store.cells }
+        ensures count { EndsIn self.now.store r.0 (λ c. result ≡ length (parts_of c)) }
+        ensures well { IsSound self.now.store }
+    {
+        match self.content(self.walk(r)) {
+            Content::Open(_) => 0,
+            Content::Bound(_, _) => 0,
+            Content::Fun(_, parts) => parts,
+            Content::Eigen(_, parts) => parts,
+            Content::New(_, parts) => parts,
+            Content::Marks(parts) => parts,
+        }
+    }
+
+    // The part of this number of a built cell.
+    fn part_at(&self, end: Ref, i: u32) -> Ref
+        requires { (c : Cell) × (slice_get self.now.store.cells end.0 ≡ Some c) × (is_bound c ≡ false) × (i < length (parts_of c)) }
+        ensures part { (c : Cell) × (slice_get self.now.store.cells end.0 ≡ Some c) × (slice_get (parts_of c) i ≡ Some result.0) }
+        ensures within { result.0 < length self.now.store.cells }
+    {
+        let start = self.cells[end.0 as usize].start as usize;
+        Ref(self.parts[start + i as usize])
+    }
+
+    /// The part of this number, from 0, at the end of the bindings.
+    pub fn part(&self, r: Ref, i: u32) -> Ref
+        requires { EndsIn self.now.store r.0 (λ c. i < length (parts_of c)) }
+        ensures part { EndsIn self.now.store r.0 (λ c. slice_get (parts_of c) i ≡ Some result.0) }
+        ensures within { result.0 < length self.now.store.cells }
+    {
+        self.part_at(self.walk(r), i)
+    }
+}

@@ -1,0 +1,85 @@
+-- What the steps of unification say of the ground solutions of a store.
+use Rattle.std.specs.Prelude.{◌≡◌, ◌⊎◌, ◌<◌, ◌++◌, ◌==◌, ℕ, List, [], ◌∷◌, length, Bool, true, false, None, Some, slice_get, IsTrue}
+use Rattle.calculus.specs.declared.sort.Sort.{Sort}
+use Rattle.calculus.specs.declared.sort.Sort.TheVariants.{TermSort, MarkSort, StringSort}
+use Rattle.calculus.specs.Stores.{Cell, variable, Store, parts_of, has_sort_at, OccursIn, EndsAt, Solution, Solves}
+use Rattle.calculus.specs.Bindings.{IsEnd, SolvesPairs, part_pairs, are_alike}
+use Rattle.term_store.specs.declared.cell.Head.{Head}
+use Rattle.term_store.specs.declared.cell.Head.TheVariants.{Open, Fun, Eigen, New, Marks}
+use Rattle.term_unify.specs.declared.compare.Step.{Step}
+use Rattle.term_unify.specs.declared.compare.Step.TheVariants as step
+use Rattle.term_unify.specs.declared.solve.Next.{Next}
+use Rattle.term_unify.specs.declared.solve.Next.TheVariants as next
+
+abbrev pub head_sort : Head → Sort
+head_sort (Open sort) = sort
+head_sort (Fun f) = TermSort
+head_sort (Eigen p) = TermSort
+head_sort (New p) = MarkSort
+head_sort Marks = StringSort
+
+abbrev pub is_open_head : Head → Bool
+is_open_head (Open sort) = true
+is_open_head (Fun f) = false
+is_open_head (Eigen p) = false
+is_open_head (New p) = false
+is_open_head Marks = false
+
+-- built cells of one kind and name
+abbrev pub same_name : Head → Head → Bool
+same_name (Fun f) (Fun g) = f.0 == g.0
+same_name (Eigen p) (Eigen q) = p.0 == q.0
+same_name (New p) (New q) = p.0 == q.0
+same_name Marks Marks = true
+same_name _ _ = false
+
+-- v is an unbound variable, and r another cell of its sort at which bindings end
+pub record IsBinding (s : Store) (v r : ℕ) : Type 0 where
+  pub sort : Sort
+  pub open_cell : slice_get s.cells v ≡ Some (variable sort None)
+  pub same_sort : IsTrue (has_sort_at s sort r)
+  pub end : IsEnd s r
+  pub other : ¬ (v ≡ r)
+
+-- built cells of one name and number of parts
+pub record AreBuilt (s : Store) (a b : ℕ) : Type 0 where
+  pub left : Cell
+  pub right : Cell
+  pub left_at : slice_get s.cells a ≡ Some left
+  pub right_at : slice_get s.cells b ≡ Some right
+  pub alike : are_alike left right ≡ true
+
+-- what a pair of cells comes to
+abbrev pub IsStep : Store → ℕ → ℕ → Step → Type 0
+IsStep s a b step.Same = (σ : Solution) → Solves s σ → σ a ≡ σ b
+IsStep s a b step.Apart = (σ : Solution) → Solves s σ → ¬ (σ a ≡ σ b)
+IsStep s a b (step.Bind v r) = IsBinding s v.0 r.0 × ((σ : Solution) → Solves s σ → (σ a ≡ σ b → σ v.0 ≡ σ r.0) × (σ v.0 ≡ σ r.0 → σ a ≡ σ b))
+IsStep s a b (step.Parts c d) = AreBuilt s c.0 d.0 × EndsAt s a c.0 × EndsAt s b d.0
+
+-- the pairs of the parts of a and b came to the others
+abbrev pub AddsParts : Store → ℕ → ℕ → List (ℕ × ℕ) → List (ℕ × ℕ) → Type 0
+AddsParts s a b before after = (c d : Cell) → slice_get s.cells a ≡ Some c → slice_get s.cells b ≡ Some d → after ≡ before ++ part_pairs (parts_of c) (parts_of d)
+
+-- each side of each pair is a cell
+abbrev pub AreCells : Store → List (ℕ × ℕ) → Type 0
+AreCells s [] = Unit {0}
+AreCells s (p ∷ ps) = (p.0 < length s.cells) × (p.1 < length s.cells) × AreCells s ps
+
+-- what pairs come to: each solution solves them, none does, or those do that make v and r equal and solve the other pairs
+abbrev pub IsNext : Store → List (ℕ × ℕ) → List (ℕ × ℕ) → Next → Type 0
+IsNext s ps qs next.Done = (σ : Solution) → Solves s σ → SolvesPairs σ ps
+IsNext s ps qs next.Apart = (σ : Solution) → Solves s σ → ¬ SolvesPairs σ ps
+IsNext s ps qs (next.Bind v r) = IsBinding s v.0 r.0 × ((σ : Solution) → Solves s σ → (SolvesPairs σ ps → (σ v.0 ≡ σ r.0) × SolvesPairs σ qs) × ((σ v.0 ≡ σ r.0) × SolvesPairs σ qs → SolvesPairs σ ps))
+
+-- v occurs in one of the cells
+abbrev pub OccursAmong : Store → ℕ → List ℕ → Type 0
+OccursAmong s v [] = ⊥
+OccursAmong s v (r ∷ rs) = OccursIn s v r ⊎ OccursAmong s v rs
+
+abbrev pub AreAllCells : Store → List ℕ → Type 0
+AreAllCells s [] = Unit {0}
+AreAllCells s (r ∷ rs) = (r < length s.cells) × AreAllCells s rs
+
+-- the ground solutions after are those before that solve the pairs
+abbrev pub SolvesAll : Store → Store → List (ℕ × ℕ) → Type 0
+SolvesAll before after ps = (σ : Solution) → (Solves after σ → Solves before σ × SolvesPairs σ ps) × (Solves before σ × SolvesPairs σ ps → Solves after σ)

@@ -1,0 +1,10 @@
+//! Unification of terms, marks and strings over a store.
+#![tactic(auto)]
+
+mod check;
+mod compare;
+mod solve;
+#[cfg(test)]
+mod tests;
+
+pub use solve::{Unifier, unify};

@@ -1,0 +1,126 @@
+//! Unification.
+
+ghost use Rattle.std.specs.Prelude.{◌≡◌, ◌<◌, ◌≤◌, IfOk, OnErr, OnOk, false, length, map, true};
+ghost use Rattle.calculus.specs.Bindings.{AreApart, BindsOnly, IsSound, KeepsMarks, SolvesPairs, Unifies};
+ghost use Rattle.calculus.specs.Stores.{Solution, Solves};
+ghost use Rattle.term_store.specs.Room.{KeepsRoom};
+ghost use Rattle.term_unify.specs.PairView.{the_pair};
+ghost use Rattle.term_unify.specs.Steps.{AreCells, IsNext, SolvesAll};
+
+use crate::check::occurs;
+use crate::compare::{Step, compare, push_parts};
+use cop_base::NoMemory;
+use std::alloc::Global;
+use term_store::{Ref, Store};
+
+// What pairs come to: all are equal, one cannot be, or an unbound variable and a cell are to be equal beside those that
+// are left.
+enum Next {
+    Done,
+    Apart,
+    Bind(Ref, Ref),
+}
+
+// Goes on until there is something to bind.
+fn next_binding(store: &Store, pairs: &mut Vec<(Ref, Ref)>) -> Result<Next, NoMemory>
+    requires { AreCells store.now.store (map the_pair pairs.old.items) }
+    ensures next { IfOk result (IsNext store.now.store (map the_pair pairs.old.items) (map the_pair pairs.new.items)) }
+    ensures cells { OnOk result (AreCells store.now.store (map the_pair pairs.new.items)) }
+{
+    while let Some((a, b)) = pairs.pop() {
+        match compare(store, a, b) {
+            Step::Same => {}
+            Step::Apart => return Ok(Next::Apart),
+            Step::Bind(v, to) => return Ok(Next::Bind(v, to)),
+            Step::Parts(left, right) => push_parts(store, left, right, pairs)?,
+        }
+    }
+    Ok(Next::Done)
+}
+
+// Binds until all pairs are equal. Otherwise it leaves some bindings behind.
+fn solve_pairs(
+    store: &mut Store,
+    pairs: &mut Vec<(Ref, Ref)>,
+    places: &mut Vec<Ref>,
+) -> Result<bool, NoMemory>
+    requires { AreCells store.old.store (map the_pair pairs.old.items) }
+    ensures solved { IfOk result (λ equal. equal ≡ true → SolvesAll store.old.store store.new.store (map the_pair pairs.old.items)) }
+    ensures apart { IfOk result (λ equal. equal ≡ false → (σ : Solution) → Solves store.old.store σ → ¬ SolvesPairs σ (map the_pair pairs.old.items)) }
+    ensures marks { KeepsMarks store.old.store store.new.store }
+    ensures binds { BindsOnly store.old.store store.new.store }
+    ensures room { KeepsRoom store.old store.new }
+    ensures well { IsSound store.new.store }
+{
+    let _start = store.mark();
+    loop {
+        match next_binding(store, pairs)? {
+            Next::Done => return Ok(true),
+            Next::Apart => return Ok(false),
+            Next::Bind(v, to) => {
+                if occurs(store, v, to, places)? {
+                    return Ok(false);
+                }
+                store.reserve(1)?;
+                store.bind(v, to);
+            }
+        }
+    }
+}
+
+/// Unification, with room for its work that is used again from call to call.
+#[derive(Drop)]
+pub struct Unifier {
+    pairs: Vec<(Ref, Ref)>,
+    places: Vec<Ref>,
+}
+
+impl Unifier {
+    /// A unifier without room.
+    pub fn new(alloc: Global) -> Unifier {
+        Unifier {
+            pairs: Vec::new(alloc),
+            places: Vec::new(alloc),
+        }
+    }
+
+    /// Binds variables so that both cells are equal, where they can be: the answer is true exactly where some ground
+    /// solution of the store makes them equal, and then the ground solutions of the new store are exactly those.
+    /// Otherwise, and for want of memory, the store is as before.
+    pub fn unify(&mut self, store: &mut Store, a: Ref, b: Ref) -> Result<bool, NoMemory>
+        requires left { a.0 < length store.old.store.cells }
+        requires right { b.0 < length store.old.store.cells }
+        ensures unifies { IfOk result (λ equal. equal ≡ true → Unifies a.0 b.0 store.old.store store.new.store) }
+        ensures apart { IfOk result (λ equal. equal ≡ false → AreApart a.0 b.0 store.old.store) }
+        ensures unchanged { IfOk result (λ equal. equal ≡ false → store.new.store ≡ store.old.store) }
+        ensures no_memory { OnErr result (store.new.store ≡ store.old.store) }
+        ensures marks { KeepsMarks store.old.store store.new.store }
+        ensures binds { BindsOnly store.old.store store.new.store }
+        ensures room { KeepsRoom store.old store.new }
+    {
+        let start = store.mark();
+        self.pairs.clear();
+        self.pairs.push((a, b))?;
+        let answer = solve_pairs(store, &mut self.pairs, &mut self.places);
+        if let Ok(true) = answer {
+            return answer;
+        }
+        store.undo(start);
+        answer
+    }
+}
+
+/// One call of `Unifier::unify`.
+pub fn unify(alloc: Global, store: &mut Store, a: Ref, b: Ref) -> Result<bool, NoMemory>
+    requires left { a.0 < length store.old.store.cells }
+    requires right { b.0 < length store.old.store.cells }
+    ensures unifies { IfOk result (λ equal. equal ≡ true → Unifies a.0 b.0 store.old.store store.new.store) }
+    ensures apart { IfOk result (λ equal. equal ≡ false → AreApart a.0 b.0 store.old.store) }
+    ensures unchanged { IfOk result (λ equal. equal ≡ false → store.new.store ≡ store.old.store) }
+    ensures no_memory { OnErr result (store.new.store ≡ store.old.store) }
+    ensures marks { KeepsMarks store.old.store store.new.store }
+    ensures binds { BindsOnly store.old.store store.new.store }
+    ensures room { KeepsRoom store.old store.new }
+{
+    Unifier::new(alloc).unify(store, a, b)
+}
