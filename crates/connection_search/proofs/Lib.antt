@@ -1,0 +1,43 @@
+-- growth by one more choice, and images
+pub mod LastChoice
+pub mod ImageLaws
+pub mod BelowLaws
+-- lifting
+pub mod StepLaws
+pub mod ExtensionLaws
+pub mod MeetingLaws
+-- own spares
+pub mod SpareLaws
+pub mod GeneralLaws
+pub mod ClassicalLaws
+pub mod RegularLaws
+-- closed tableaux
+pub mod ClosedLaws
+pub mod EndLaws
+-- the depth-first visit
+pub mod ExploreLaws
+pub mod EarlyLaws
+pub mod BeginningLaws
+pub mod NextLaws
+pub mod DeepenLaws
+-- templates
+pub mod TemplateLaws
+pub mod TemplateExists
+pub mod ClassicalTemplates
+pub mod RankLaws
+pub mod BuildingLaws
+pub mod UnifyLaws
+pub mod ClassicalSteps
+pub mod ChoiceLaws
+-- the loop
+pub mod SearchSteps
+pub mod StackLaws
+pub mod SameLaws
+-- examples that compute
+mod TemplateExamples
+pub mod MatrixStart
+-- lists without open goals
+pub mod WholeLaws
+-- labels
+pub mod LabelLaws
+pub mod BuiltClassical

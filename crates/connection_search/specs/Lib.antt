@@ -1,0 +1,21 @@
+-- what clause templates mean
+pub mod Templates
+-- states of the search, and what its steps ask of the store
+pub mod States
+pub mod Steps
+pub mod Regular
+pub mod Joined
+-- how far a search has come
+pub mod Exploring
+-- the matrix
+pub mod Matrix
+-- the choices of a goal
+pub mod Goals
+-- the template of a selection, computed
+pub mod TemplateOf
+-- how a template is copied
+pub mod Building
+-- the explicit stack
+pub mod Stack
+-- the loop's invariant
+pub mod Searching

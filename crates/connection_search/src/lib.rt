@@ -1,0 +1,2 @@
+//! The connection search: so far its definitions and laws.
+#![tactic(auto)]
