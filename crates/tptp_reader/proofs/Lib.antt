@@ -1,0 +1,28 @@
+-- the stack of what is expected: derivations, and that a step is the only way on
+pub mod Deriving
+-- the tokens of a text, in one way
+pub mod PlaceLaws
+-- the tokens of each tree are derived, so a token without a step cannot follow
+pub mod TreesDerive
+pub mod FollowLaws
+-- a text has at most one fault
+pub mod FaultLaws
+-- tokens have at most one tree, and say one list of items
+pub mod TreeLaws
+pub mod ItemLaws
+-- a text has one reading, and so has a formula in a text
+pub mod OneReading
+-- what is derived are the tokens of trees, so a token with a step can follow
+pub mod Forms
+pub mod FormulaForms
+pub mod ItemForms
+pub mod Derived
+pub mod ExactLaws
+pub mod StackLaws
+pub mod LiftLaws
+-- each text has a reading
+pub mod Lexing
+pub mod Deciding
+pub mod Totality
+-- worked examples
+mod Examples
