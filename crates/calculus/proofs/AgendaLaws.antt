@@ -187,7 +187,7 @@ ComesBefore y x = (value_list_size y.values < value_list_size x.values) ⊎ ((va
 abbrev pub IsInOrder : List Turn → Type 0
 IsInOrder agenda = (i j : ℕ) (x y : Turn) → slice_get agenda i ≡ Some x → slice_get agenda j ≡ Some y → i < j → ComesBefore y x → ⊥
 
-not-before_itself : (x : Turn) → ComesBefore x x → ⊥
+pub not-before_itself : (x : Turn) → ComesBefore x x → ⊥
 not-before_itself x (inl lt) = absurd (omega arith)
 not-before_itself x (inr p) = let lt = p.1 in absurd (omega arith)
 
@@ -276,7 +276,7 @@ parent-same P t x y w p h =
     let values : y.values ≡ p.above.values = h.values ∙ fits-taken P.setting.logic w.before x.values w.from.taken vs.0 w.from.label (length y.values) whole fits ∙ sym p.values in
     λ i. turn (sym position i) (sym values i)
 
-parent-above : (P : Problem) (t : Tableau) (x y : Turn) (w : Work P (TurnOf P t) Anything Anything x) → HasParent P (TurnOf P t) w.before w.from → IsParent P y x → IsAbove P t y x
+pub parent-above : (P : Problem) (t : Tableau) (x y : Turn) (w : Work P (TurnOf P t) Anything Anything x) → HasParent P (TurnOf P t) w.before w.from → IsParent P y x → IsAbove P t y x
 parent-above P t x y w (inl e) h = absurd (root-parent P t x y w e h)
 parent-above P t x y w (inr p) h =
     let same = parent-same P t x y w p h in

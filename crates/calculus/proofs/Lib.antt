@@ -39,6 +39,20 @@ pub mod WholeLaws
 pub mod MadeLaws
 pub mod RunLaws
 pub mod ShortLaws
+pub mod TaskLaws
+pub mod SpanLaws
+pub mod FollowLaws
+pub mod PartLaws
+pub mod LedLaws
+pub mod SegmentLaws
+pub mod LeadLaws
+pub mod LeadEnds
+pub mod ShortConversion
+pub mod LeadingLaws
+pub mod LoopLaws
+pub mod LoopMeasures
+pub mod AheadLaws
+pub mod LedConversion
 pub mod WrittenLaws
 -- derivations and texts
 pub mod SequentLaws

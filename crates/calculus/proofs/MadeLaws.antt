@@ -33,19 +33,19 @@ use Rattle.calculus.proofs.WholeLaws.{KindOf, literal_kind, only_kind, pair_kind
 
 -- ---- past the modal part
 
-front_same : (xs ys zs : List Value) → xs ++ ys ≡ xs ++ zs → ys ≡ zs
+pub front_same : (xs ys zs : List Value) → xs ++ ys ≡ xs ++ zs → ys ≡ zs
 front_same [] ys zs e = e
 front_same (x ∷ xs) ys zs e = front_same xs ys zs (let tail : xs ++ ys ≡ xs ++ zs = cc in tail)
 
-past-right : (num : Name → ℕ) (l : Logic) (s : Sign) (f : Formula) (c d : Spot) (m : Moves l s f c d) (own r : List Value) → c.taken ++ own ≡ d.taken ++ r → past_modal num l (modal_of l s f) c own ≡ record { spot = d; arg = modal_arg num l s f c d m; rest = r }
+pub past-right : (num : Name → ℕ) (l : Logic) (s : Sign) (f : Formula) (c d : Spot) (m : Moves l s f c d) (own r : List Value) → c.taken ++ own ≡ d.taken ++ r → past_modal num l (modal_of l s f) c own ≡ record { spot = d; arg = modal_arg num l s f c d m; rest = r }
 past-right num l s f c d (plain e) own r h = let same = front_same c.taken own r h in rw (e, same) refl
 past-right num l s f c d (by_string w e g) own r h = let same : own ≡ steps w ∷ r = front_same c.taken own (steps w ∷ r) (h ∙ append_assoc c.taken (steps w ∷ []) r) in rw (e, same) refl
 past-right num l s f c d (by_character e) own r h = let same = front_same c.taken own r h in rw (e, same) refl
 
-made-by : (num : Name → ℕ) (l : Logic) (c : Spot) (s : Sign) (f : Formula) (own : List Value) (h : Shape) (q : Past) → shape_of s f ≡ h → past_modal num l (modal_of l s f) c own ≡ q → made num l c s f own ≡ made_shape num h (modal_of l s f) q s f
+pub made-by : (num : Name → ℕ) (l : Logic) (c : Spot) (s : Sign) (f : Formula) (own : List Value) (h : Shape) (q : Past) → shape_of s f ≡ h → past_modal num l (modal_of l s f) c own ≡ q → made num l c s f own ≡ made_shape num h (modal_of l s f) q s f
 made-by num l c s f own h q e p = λ i. made_shape num (e i) (modal_of l s f) (p i) s f
 
-literal-made : (m : ModalPart) (q : Past) (s : Sign) (f : Formula) (p : ℕ) (ts : Terms) → (m ≡ Plain → ⊥) → f ≡ atom p ts → made_literal m q s f ≡ grows q.arg no_term (landed q.spot s p ts ∷ [])
+pub literal-made : (m : ModalPart) (q : Past) (s : Sign) (f : Formula) (p : ℕ) (ts : Terms) → (m ≡ Plain → ⊥) → f ≡ atom p ts → made_literal m q s f ≡ grows q.arg no_term (landed q.spot s p ts ∷ [])
 literal-made Plain q s f p ts n e = absurd (n refl)
 literal-made Nu q s f p ts n e = ap (λ g. made_literal Nu q s g) e
 literal-made Pi q s f p ts n e = ap (λ g. made_literal Pi q s g) e

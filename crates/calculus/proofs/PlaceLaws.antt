@@ -231,10 +231,10 @@ moves-position l s f c d (by_string w e g) = refl
 moves-position l s f c d (by_character e) = refl
 
 -- the turn here, as the parent of the components
-parent-here : (P : Problem) (T : Turn → Type 0) (before : List Node) (d : Spot) (s : Sign) (f : Formula) (vs : List Value) → Turned P before d s f → T (turn d.position vs) → (e : Spot) → d.position < e.position → e.taken ≡ vs → HasParent P T (before ++ node d.position s f ∷ []) e
+pub parent-here : (P : Problem) (T : Turn → Type 0) (before : List Node) (d : Spot) (s : Sign) (f : Formula) (vs : List Value) → Turned P before d s f → T (turn d.position vs) → (e : Spot) → d.position < e.position → e.taken ≡ vs → HasParent P T (before ++ node d.position s f ∷ []) e
 parent-here P T before d s f vs h t e lt q = inr (record { above = turn d.position vs; among = t; way = way-here P before d s f h.halfway.in_way; lower = lt; values = sym q })
 
-at_logic : (l : Logic) (P : Problem) → P.setting.logic ≡ l → (s : Sign) (f : Formula) (c d : Spot) → Moves l s f c d → Moves P.setting.logic s f c d
+pub at_logic : (l : Logic) (P : Problem) → P.setting.logic ≡ l → (s : Sign) (f : Formula) (c d : Spot) → Moves l s f c d → Moves P.setting.logic s f c d
 at_logic l P same s f c d m = subst (λ k. Moves k s f c d) (sym same) m
 
 all-push : (V : Value → Type 0) (vs : List Value) (v : Value) → AllByRecursion V vs → V v → AllByRecursion V (vs ++ v ∷ [])

@@ -164,11 +164,11 @@ module _ (P : Problem) (t : Tableau) (names : List Name) where
       (d, open-none P d h.open_ones, and_from (is_limit limit && names_are_written lines) (list_all (step_is_written P.symbols) steps) (and_from (is_limit limit) (names_are_written lines) within (names-written P t names numbering long)) h.written, refl, refl, refl)
 
   module _ (d : ℕ) (shut : IsTrue (is_closed P d t)) (numbering : IsNumbering P t names) (long : IsTrue (is_number (length names))) where
-    work_of : (done : List Turn) (x : Turn) → IsReady P t done x → Work P (TurnOf P t) (Allowed P) (Admitted P) x
+    pub work_of : (done : List Turn) (x : Turn) → IsReady P t done x → Work P (TurnOf P t) (Allowed P) (Admitted P) x
     work_of done x ready = closed-works P d t shut x ready.here
 
     -- an item that the turn works on is its signed formula
-    own_item : (b : Branch) (x : Turn) (ready : IsReady P t b.done x) → IsGood b → (i : Item) → Among b.items i → (own : List Value) → WorksOn x i own → i ≡ item (work_of b.done x ready).from (work_of b.done x ready).sign (work_of b.done x ready).formula
+    pub own_item : (b : Branch) (x : Turn) (ready : IsReady P t b.done x) → IsGood b → (i : Item) → Among b.items i → (own : List Value) → WorksOn x i own → i ≡ item (work_of b.done x ready).from (work_of b.done x ready).sign (work_of b.done x ready).formula
     own_item b x ready g i h own on =
         let w = work_of b.done x ready in
         let place = (g.branch.each i h).place on.0 in

@@ -56,7 +56,7 @@ mentions-none P d t shut none x h n k =
     in_values : AllByRecursion (λ v. NoneIntroduced (names_of_value v)) x.values → NoneIntroduced (flat_map names_of_value x.values)
     in_values all m q = let r = among-joined names_of_value x.values m q in among-all (λ v. NoneIntroduced (names_of_value v)) x.values r.0 all r.1 m r.2
 
-introduced-is : (P : Problem) (z : Turn) (n : Name) → Among (names_introduced P z) n → is_introduced n ≡ true
+pub introduced-is : (P : Problem) (z : Turn) (n : Name) → Among (names_introduced P z) n → is_introduced n ≡ true
 introduced-is P z n h = elim (introduced-cases P z n h) [ inl e ↦ ap is_introduced e.1 | inr e ↦ ap is_introduced e.1 ]
 
 -- so turns whose parents are done are complete, in any order

@@ -49,11 +49,11 @@ slice_get-All S (y ∷ ys) zero x h e = subst S (some_injective y e) h.0
 slice_get-All S (y ∷ ys) (suc k) x h e = slice_get-All S ys k x h.1 e
 
 -- a complement of the goal in S, where the option's value is in S
-pair_from : (S : GroundLiteral → Type 0) (goal : GroundLiteral) (o : Option GroundLiteral) → S goal → ((x : GroundLiteral) → o ≡ Some x → S x) → IsTrue (is_complement goal o) → HasPair S
+pub pair_from : (S : GroundLiteral → Type 0) (goal : GroundLiteral) (o : Option GroundLiteral) → S goal → ((x : GroundLiteral) → o ≡ Some x → S x) → IsTrue (is_complement goal o) → HasPair S
 pair_from S goal None g h e = absurd (false≢true e)
 pair_from S goal (Some x) g h e = (goal, x, g, h x refl, e)
 
-ancestor-All : (S : GroundLiteral → Type 0) (path : List GroundLiteral) (up : ℕ) (x : GroundLiteral) → AllByRecursion S path → ancestor path up ≡ Some x → S x
+pub ancestor-All : (S : GroundLiteral → Type 0) (path : List GroundLiteral) (up : ℕ) (x : GroundLiteral) → AllByRecursion S path → ancestor path up ≡ Some x → S x
 ancestor-All S path zero x h e = absurd (none_some e)
 ancestor-All S path (suc k) x h e = slice_get-All S path k x h e
 

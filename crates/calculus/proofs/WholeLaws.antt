@@ -84,7 +84,7 @@ seek c (j ∷ js) = elim (cases_Bool (is_here c j)) [
   ]
 ]
 
-self_here : (c : Spot) (s : Sign) (f : Formula) → is_here c (item c s f) ≡ true
+pub self_here : (c : Spot) (s : Sign) (f : Formula) → is_here c (item c s f) ≡ true
 self_here c s f = and_from (c.position == c.position) (list_eq value_eq c.taken c.taken) ((nat_eq-tells c.position c.position).1 refl) ((list_eq-tells value_eq value_eq-tells c.taken c.taken).1 refl)
 
 -- what is found is what the turn works on
@@ -119,7 +119,7 @@ Closable P names s = (rest : List Step) → (xs : List Step) × Closes P names s
 written-cons : (P : Problem) (x : Step) (xs : List Step) → step_is_written P.symbols x ≡ true → AreWritten P xs → AreWritten P (x ∷ xs)
 written-cons P x xs h g = and_from (step_is_written P.symbols x) (list_all (step_is_written P.symbols) xs) h g
 
-number-within : (bound k n : ℕ) → IsTrue (is_number bound) → k < n → n ≤ bound → is_number (suc k) ≡ true
+pub number-within : (bound k n : ℕ) → IsTrue (is_number bound) → k < n → n ≤ bound → is_number (suc k) ≡ true
 number-within bound k n small lt le = let b = ltb-true bound 4294967296 small in lt-ltb (suc k) 4294967296 (omega arith)
 
 module _ (P : Problem) (t : Tableau) (d : ℕ) (shut : IsTrue (is_closed P d t)) (names : List Name) (numbering : IsNumbering P t names) (long : IsTrue (is_number (length names))) (bound : ℕ) (small : IsTrue (is_number bound)) where

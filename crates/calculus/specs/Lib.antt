@@ -28,6 +28,7 @@ pub mod Numbering
 -- the sequent calculus
 pub mod Derivations
 pub mod Branches
+pub mod Leading
 pub mod Substitution
 pub mod Calculus
 pub mod StepFacts
