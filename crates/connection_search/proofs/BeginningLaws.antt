@@ -36,14 +36,14 @@ growth-append P (extension i place) cs ks = refl
 
 -- ---- beginnings
 
-record SplitAt (gs : List GroundChoice) (p more : List Choice) : Type 0 where
-  first : List GroundChoice
-  second : List GroundChoice
-  all_of_them : gs ≡ first ++ second
-  first_names : choices_of first ≡ p
-  second_names : choices_of second ≡ more
+pub record SplitAt (gs : List GroundChoice) (p more : List Choice) : Type 0 where
+  pub first : List GroundChoice
+  pub second : List GroundChoice
+  pub all_of_them : gs ≡ first ++ second
+  pub first_names : choices_of first ≡ p
+  pub second_names : choices_of second ≡ more
 
-split-at : (gs : List GroundChoice) (p more : List Choice) → choices_of gs ≡ p ++ more → SplitAt gs p more
+pub split-at : (gs : List GroundChoice) (p more : List Choice) → choices_of gs ≡ p ++ more → SplitAt gs p more
 split-at gs [] more e = record { first = []; second = gs; all_of_them = refl; first_names = refl; second_names = e }
 split-at [] (x ∷ p) more e = cc e
 split-at (g ∷ gs) (x ∷ p) more e =

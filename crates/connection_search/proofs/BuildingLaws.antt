@@ -21,7 +21,7 @@ use Rattle.connection_search.proofs.ImageLaws.{values-agree}
 
 -- ---- values of cells have their sorts
 
-holds-sort : (σ : Solution) (n : ℕ) (c : Cell) → CellHolds σ n c → IsTrue (has_sort (sort_of c) (σ n))
+pub holds-sort : (σ : Solution) (n : ℕ) (c : Cell) → CellHolds σ n c → IsTrue (has_sort (sort_of c) (σ n))
 holds-sort σ n (variable sort None) h = h
 holds-sort σ n (variable sort (Some r)) h = h.0
 holds-sort σ n (fun_cell f rs) h = ap (has_sort TermSort) h.2
@@ -34,25 +34,25 @@ solved-sorted s σ h sort r k =
     let t = cell-sorted s sort r k in
     subst (λ x. IsTrue (has_sort x (σ r))) (sym (sort-same sort (sort_of t.0) t.2)) (holds-sort σ r t.0 (h r t.0 t.1))
 
-solved-valued : (s : Store) (σ : Solution) → Solves s σ → (r : ℕ) → IsTrue (has_value_sort_at s r) → IsTrue (has_sort TermSort (σ r) || has_sort StringSort (σ r))
+pub solved-valued : (s : Store) (σ : Solution) → Solves s σ → (r : ℕ) → IsTrue (has_value_sort_at s r) → IsTrue (has_sort TermSort (σ r) || has_sort StringSort (σ r))
 solved-valued s σ h r k = or-both (has_sort_at s TermSort r) (has_sort_at s StringSort r) (has_sort TermSort (σ r)) (has_sort StringSort (σ r)) (solved-sorted s σ h TermSort r) (solved-sorted s σ h StringSort r) k
 
 -- ---- one cell more
 
 -- σ with the value v at the cell n
-abbrev put : ℕ → CellValue → Solution → Solution
+abbrev pub put : ℕ → CellValue → Solution → Solution
 put n v σ r = if r == n then v else σ r
 
-put-other : (n : ℕ) (v : CellValue) (σ : Solution) (r : ℕ) → r < n → put n v σ r ≡ σ r
+pub put-other : (n : ℕ) (v : CellValue) (σ : Solution) (r : ℕ) → r < n → put n v σ r ≡ σ r
 put-other n v σ r l = elim (cases_Bool (r == n)) [
   | inl e ↦ absurd (let q = eqb-true r n e in omega (arith, q, l))
   | inr e ↦ rw e refl
 ]
 
-put-here : (n : ℕ) (v : CellValue) (σ : Solution) → put n v σ n ≡ v
+pub put-here : (n : ℕ) (v : CellValue) (σ : Solution) → put n v σ n ≡ v
 put-here n v σ = rw (eq-eqb n n refl) refl
 
-get-more : {A : Type 0} (xs : List A) (y : A) (r : ℕ) (x : A) → slice_get (xs ++ y ∷ []) r ≡ Some x → (slice_get xs r ≡ Some x) ⊎ ((r ≡ length xs) × (y ≡ x))
+pub get-more : {A : Type 0} (xs : List A) (y : A) (r : ℕ) (x : A) → slice_get (xs ++ y ∷ []) r ≡ Some x → (slice_get xs r ≡ Some x) ⊎ ((r ≡ length xs) × (y ≡ x))
 get-more [] y zero x e = let q : y ≡ x = cc e in inr (refl, q)
 get-more [] y (suc r) x e = cc e
 get-more (z ∷ xs) y zero x e = inl e
@@ -63,7 +63,7 @@ get-kept [] ys r x e = cc e
 get-kept (z ∷ xs) ys zero x e = e
 get-kept (z ∷ xs) ys (suc r) x e = get-kept xs ys r x e
 
-get-last : {A : Type 0} (xs : List A) (y : A) → slice_get (xs ++ y ∷ []) (length xs) ≡ Some y
+pub get-last : {A : Type 0} (xs : List A) (y : A) → slice_get (xs ++ y ∷ []) (length xs) ≡ Some y
 get-last [] y = refl
 get-last (x ∷ xs) y = get-last xs y
 
@@ -113,23 +113,23 @@ fits-below s (new_cell x rs) f k p = valued-below s k (all-at (has_value_sort_at
 fits-below s (string_cell rs) f k p = let t = cell-sorted s MarkSort k (all-at (has_sort_at s MarkSort) rs p.0 k f p.1) in slice_get_within s.cells k t.0 t.1
 
 -- the old cells hold by a solution with one value more
-old-hold : (s : Store) → IsTrue (is_store s) → (σ : Solution) → Solves s σ → (v : CellValue) → Solves s (put (length s.cells) v σ)
+pub old-hold : (s : Store) → IsTrue (is_store s) → (σ : Solution) → Solves s σ → (v : CellValue) → Solves s (put (length s.cells) v σ)
 old-hold s h σ k v r c e =
     let n = length s.cells in
     holds-moved σ (put n v σ) r c (sym (put-other n v σ r (slice_get_within s.cells r c e))) (λ j p. sym (put-other n v σ j (fits-below s c (cell-fits s h r c e) j p))) (k r c e)
 
-agree-put : (n : ℕ) (v : CellValue) (σ : Solution) → Agree n σ (put n v σ)
+pub agree-put : (n : ℕ) (v : CellValue) (σ : Solution) → Agree n σ (put n v σ)
 agree-put n v σ r l = sym (put-other n v σ r (ltb-true r n l))
 
 -- one variable more
-variable-added : (s : Store) → IsTrue (is_store s) → (sort : Sort) (v : CellValue) → IsTrue (has_sort sort v) → (σ : Solution) → Solves s σ → Solves (plus_cell (variable sort None) s) (put (length s.cells) v σ)
+pub variable-added : (s : Store) → IsTrue (is_store s) → (sort : Sort) (v : CellValue) → IsTrue (has_sort sort v) → (σ : Solution) → Solves s σ → Solves (plus_cell (variable sort None) s) (put (length s.cells) v σ)
 variable-added s h sort v t σ k r c e = elim (get-more s.cells (variable sort None) r c e) [
   | inl old ↦ old-hold s h σ k v r c old
   | inr new ↦ (let at : put (length s.cells) v σ r ≡ v = ap (put (length s.cells) v σ) new.0 ∙ put-here (length s.cells) v σ in subst (CellHolds (put (length s.cells) v σ) r) new.1 (subst (λ x. IsTrue (has_sort sort x)) (sym at) t))
 ]
 
 -- one built cell more
-built-added : (s : Store) → IsTrue (is_store s) → (c : Cell) → IsTrue (parts_fit s c) → IsTrue (is_built c) → (σ : Solution) → Solves s σ → Solves (plus_cell c s) (put (length s.cells) (own_cell σ (length s.cells) c) σ)
+pub built-added : (s : Store) → IsTrue (is_store s) → (c : Cell) → IsTrue (parts_fit s c) → IsTrue (is_built c) → (σ : Solution) → Solves s σ → Solves (plus_cell c s) (put (length s.cells) (own_cell σ (length s.cells) c) σ)
 built-added s h c f b σ k r d e =
     let n = length s.cells in
     let v = own_cell σ n c in
@@ -143,15 +143,15 @@ built-added s h c f b σ k r d e =
     ]
 
 -- fewer cells are solved by what solves more
-fewer-solved : (s : Store) (c : Cell) (σ : Solution) → Solves (plus_cell c s) σ → Solves s σ
+pub fewer-solved : (s : Store) (c : Cell) (σ : Solution) → Solves (plus_cell c s) σ → Solves s σ
 fewer-solved s c σ h r d e = h r d (get-kept s.cells (c ∷ []) r d e)
 
 -- ---- built cells, one by one
 
-agree-both : (m n : ℕ) (σ τ ρ : Solution) → m ≤ n → Agree m σ τ → Agree n τ ρ → Agree m σ ρ
+pub agree-both : (m n : ℕ) (σ τ ρ : Solution) → m ≤ n → Agree m σ τ → Agree n τ ρ → Agree m σ ρ
 agree-both m n σ τ ρ l a b r k = a r k ∙ b r (let q : r < m = ltb-true r m k in lt-ltb r n (omega (arith, q, l)))
 
-length-plus : (c : Cell) (s : Store) → length (plus_cell c s).cells ≡ length s.cells + 1
+pub length-plus : (c : Cell) (s : Store) → length (plus_cell c s).cells ≡ length s.cells + 1
 length-plus c s = length-append s.cells (c ∷ [])
 
 pub adds-longer : (s t : Store) → AddsBuilt s t → length s.cells ≤ length t.cells
@@ -177,11 +177,11 @@ abbrev pub AreStores : List Sort → Store → Type 0
 AreStores [] s = IsTrue (is_store s)
 AreStores (sort ∷ sorts) s = IsTrue (is_store s) × AreStores sorts (plus_cell (variable sort None) s)
 
-variables-longer : (sorts : List Sort) (s : Store) → length s.cells ≤ length (plus_variables sorts s).cells
+pub variables-longer : (sorts : List Sort) (s : Store) → length s.cells ≤ length (plus_variables sorts s).cells
 variables-longer [] s = omega arith
 variables-longer (sort ∷ sorts) s = let l = variables-longer sorts (plus_cell (variable sort None) s) in let e = length-plus (variable sort None) s in omega (arith, l, e)
 
-variables-back : (sorts : List Sort) (s : Store) (σ : Solution) → Solves (plus_variables sorts s) σ → Solves s σ
+pub variables-back : (sorts : List Sort) (s : Store) (σ : Solution) → Solves (plus_variables sorts s) σ → Solves s σ
 variables-back [] s σ h = h
 variables-back (sort ∷ sorts) s σ h = fewer-solved s (variable sort None) σ (variables-back sorts (plus_cell (variable sort None) s) σ h)
 
@@ -197,7 +197,7 @@ places-below : (n m : ℕ) (sorts : List Sort) → n + length sorts ≤ m → Is
 places-below n m [] l = refl
 places-below n m (sort ∷ sorts) l = and_from (nat_lt n m) (names_below m (places_of (suc n) sorts)) (lt-ltb n m (omega (arith, l))) (places-below (suc n) m sorts (omega (arith, l)))
 
-length-variables : (sorts : List Sort) (s : Store) → length (plus_variables sorts s).cells ≡ length s.cells + length sorts
+pub length-variables : (sorts : List Sort) (s : Store) → length (plus_variables sorts s).cells ≡ length s.cells + length sorts
 length-variables [] s = omega arith
 length-variables (sort ∷ sorts) s = let k = length-variables sorts (plus_cell (variable sort None) s) in let e = length-plus (variable sort None) s in omega (arith, k, e)
 
@@ -244,15 +244,15 @@ value-back (a_term t) h = refl
 value-back (a_mark m) h = absurd (false≢true h)
 value-back (a_string w) h = ap a_string (marks_list-marks_tree w)
 
-abbrev AreValueCells : Solution → List ℕ → Type 0
+abbrev pub AreValueCells : Solution → List ℕ → Type 0
 AreValueCells σ rs = IsTrue (list_all (λ r. is_value_cell (σ r)) rs)
 
 -- the variable in front stands in the store
-variables-front : (sorts : List Sort) (s : Store) (r : ℕ) (c : Cell) → slice_get s.cells r ≡ Some c → slice_get (plus_variables sorts s).cells r ≡ Some c
+pub variables-front : (sorts : List Sort) (s : Store) (r : ℕ) (c : Cell) → slice_get s.cells r ≡ Some c → slice_get (plus_variables sorts s).cells r ≡ Some c
 variables-front [] s r c e = e
 variables-front (sort ∷ sorts) s r c e = variables-front sorts (plus_cell (variable sort None) s) r c (get-kept s.cells (variable sort None ∷ []) r c e)
 
-variables-sorted : (sorts : List Sort) (s : Store) (n : ℕ) → n ≡ length s.cells → IsTrue (list_all is_variable_sort sorts) → (σ : Solution) → Solves (plus_variables sorts s) σ → IsTrue (have_sorts sorts (values_by σ (places_of n sorts))) × AreValueCells σ (places_of n sorts)
+pub variables-sorted : (sorts : List Sort) (s : Store) (n : ℕ) → n ≡ length s.cells → IsTrue (list_all is_variable_sort sorts) → (σ : Solution) → Solves (plus_variables sorts s) σ → IsTrue (have_sorts sorts (values_by σ (places_of n sorts))) × AreValueCells σ (places_of n sorts)
 variables-sorted [] s n e k σ h = (refl, refl)
 variables-sorted (sort ∷ sorts) s n e k σ h =
     let p = and_parts (is_variable_sort sort) (list_all is_variable_sort sorts) k in
@@ -308,7 +308,7 @@ mutual
   built-values s σ h variables k no_patterns rs b = ap (λ xs. values_tree (values_by σ xs)) b
   built-values s σ h variables k (more_patterns p ps) rs (r, qs, e, b, c) = ap (λ xs. values_tree (values_by σ xs)) e ∙ ap₂ (λ v vs. more_values (as_value v) vs) (built-value s σ h variables k p r b) (built-values s σ h variables k ps qs c)
 
-built-label : (s : Store) (σ : Solution) → Solves s σ → (variables : List ℕ) → AreValueCells σ variables → (ps : Patterns) (rs : List ℕ) → AreBuilt s variables ps rs → label_by σ rs ≡ pattern_label (values_by σ variables) ps
+pub built-label : (s : Store) (σ : Solution) → Solves s σ → (variables : List ℕ) → AreValueCells σ variables → (ps : Patterns) (rs : List ℕ) → AreBuilt s variables ps rs → label_by σ rs ≡ pattern_label (values_by σ variables) ps
 built-label s σ h variables k no_patterns rs b = ap (label_by σ) b
 built-label s σ h variables k (more_patterns p ps) rs (r, qs, e, b, c) = ap (label_by σ) e ∙ ap₂ (λ v w. as_label v ++ w) (built-value s σ h variables k p r b) (built-label s σ h variables k ps qs c)
 
@@ -340,7 +340,7 @@ head-by_cells old new t p b stores sorts adds built = record {
     mid : Store
     mid = plus_variables t.sorts old
 
-value-cell : (v : CellValue) → IsTrue (has_sort TermSort v || has_sort StringSort v) → IsTrue (is_value_cell v)
+pub value-cell : (v : CellValue) → IsTrue (has_sort TermSort v || has_sort StringSort v) → IsTrue (is_value_cell v)
 value-cell (a_term t) h = refl
 value-cell (a_mark m) h = absurd (false≢true h)
 value-cell (a_string w) h = refl

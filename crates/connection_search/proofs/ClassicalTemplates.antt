@@ -239,7 +239,7 @@ classical-atoms P ss (a ∷ xs) h g =
     (and_from (are_classical_patterns P a.args) (has_no_patterns a.label) (classical-terms P ss a.args pa.0 qa.0) pa.1)
     (classical-atoms P ss xs p.1 q.1)
 
-proper-by : (P : Problem) (xs : List GroundLiteral) (o : Option Part) → OnPart (Good P) o → IsTrue (option_map_or (λ (x : Part). list_eq literal_eq x.literals xs) o false) → IsTrue (list_all (literal_is_proper P) xs)
+pub proper-by : (P : Problem) (xs : List GroundLiteral) (o : Option Part) → OnPart (Good P) o → IsTrue (option_map_or (λ (x : Part). list_eq literal_eq x.literals xs) o false) → IsTrue (list_all (literal_is_proper P) xs)
 proper-by P xs None g h = absurd (false≢true h)
 proper-by P xs (Some x) g h = subst (λ ys. IsTrue (list_all (literal_is_proper P) ys)) ((list_eq-tells literal_eq literal_eq-tells x.literals xs).0 h) g.literals
 

@@ -45,7 +45,7 @@ early-by P d (m ∷ spent) p h l n = (
   early-by P d spent p h.1 l.1 n,
 )
 
-early-none : (P : Problem) (d : ℕ) (spent : List Member) → AllByRecursion (IsMemberAt P d) spent → ¬ HasClosed P d → AllByRecursion (IsEarly P d) spent
+pub early-none : (P : Problem) (d : ℕ) (spent : List Member) → AllByRecursion (IsMemberAt P d) spent → ¬ HasClosed P d → AllByRecursion (IsEarly P d) spent
 early-none P d [] h n = tt
 early-none P d (m ∷ spent) h n = (record { member = h.0.member; limit = h.0.limit; before = λ t c. absurd (n (record { tableau = t; closed = c })) }, early-none P d spent h.1 n)
 

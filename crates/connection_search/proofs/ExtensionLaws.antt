@@ -95,7 +95,7 @@ reduced_state s cs gs every ds up = record { store = s; choices = cs ++ reductio
 
 -- ---- extension
 
-extension-grown : (P : Problem) (σ : Solution) (g : CellGoal) (gs every : List CellGoal) (ds : List ℕ) (i : CellClause) (place : ℕ) → IsTrue (is_instance P (clause_at σ i)) → IsTrue (is_opposite (literal_by σ g.literal) (slice_get (map (literal_by σ) i.literals) place)) → grow_once P (extension (clause_at σ i) place) (growth_at σ (record { open_goals = g ∷ gs; all_goals = every; depths = ds })) ≡ Some (growth_at σ (extended g gs i place (record { open_goals = g ∷ gs; all_goals = every; depths = ds })))
+pub extension-grown : (P : Problem) (σ : Solution) (g : CellGoal) (gs every : List CellGoal) (ds : List ℕ) (i : CellClause) (place : ℕ) → IsTrue (is_instance P (clause_at σ i)) → IsTrue (is_opposite (literal_by σ g.literal) (slice_get (map (literal_by σ) i.literals) place)) → grow_once P (extension (clause_at σ i) place) (growth_at σ (record { open_goals = g ∷ gs; all_goals = every; depths = ds })) ≡ Some (growth_at σ (extended g gs i place (record { open_goals = g ∷ gs; all_goals = every; depths = ds })))
 extension-grown P σ g gs every ds i place inst opp =
     let new = new_cell_goals g i place in
     let image = new_goals-image σ g i place in

@@ -50,7 +50,7 @@ values-at-first σ k ks w us e = by (σ k) (values_at σ ks) refl refl e
     by (a_string x) None f g h = cc h
     by (a_mark m) o f g h = cc h
 
-value-parts : (σ : Solution) (r : ℕ) (rs : List ℕ) (vs : Values) → values_at σ (r ∷ rs) ≡ Some vs → ValueParts σ r rs vs
+pub value-parts : (σ : Solution) (r : ℕ) (rs : List ℕ) (vs : Values) → values_at σ (r ∷ rs) ≡ Some vs → ValueParts σ r rs vs
 value-parts σ r rs vs e = by (σ r) (values_at σ rs) refl refl e
   where
     by : (v : CellValue) (o : Option Values) → σ r ≡ v → values_at σ rs ≡ o → cons_value v o ≡ Some vs → ValueParts σ r rs vs
@@ -64,14 +64,14 @@ value-parts σ r rs vs e = by (σ r) (values_at σ rs) refl refl e
     by (a_string w) None f g h = cc h
     by (a_mark m) o f g h = cc h
 
-record MarkParts (σ : Solution) (r : ℕ) (rs : List ℕ) (w : List GroundMark) : Type 0 where
-  first : GroundMark
-  rest : List GroundMark
-  is_first : σ r ≡ a_mark first
-  are_rest : marks_at σ rs ≡ Some rest
-  all_of_them : w ≡ first ∷ rest
+pub record MarkParts (σ : Solution) (r : ℕ) (rs : List ℕ) (w : List GroundMark) : Type 0 where
+  pub first : GroundMark
+  pub rest : List GroundMark
+  pub is_first : σ r ≡ a_mark first
+  pub are_rest : marks_at σ rs ≡ Some rest
+  pub all_of_them : w ≡ first ∷ rest
 
-mark-parts : (σ : Solution) (r : ℕ) (rs : List ℕ) (w : List GroundMark) → marks_at σ (r ∷ rs) ≡ Some w → MarkParts σ r rs w
+pub mark-parts : (σ : Solution) (r : ℕ) (rs : List ℕ) (w : List GroundMark) → marks_at σ (r ∷ rs) ≡ Some w → MarkParts σ r rs w
 mark-parts σ r rs w e = by (σ r) (marks_at σ rs) refl refl e
   where
     by : (v : CellValue) (o : Option (List GroundMark)) → σ r ≡ v → marks_at σ rs ≡ o → cons_mark v o ≡ Some w → MarkParts σ r rs w
@@ -100,7 +100,7 @@ terms-carried σ τ (r ∷ rs) (k ∷ ks) ts e f h =
     let b : p.rest ≡ q.rest = cc z in
     ap₂ cons_term (h r k (0, refl) (0, refl) (p.is_first ∙ ap a_term a ∙ sym q.is_first)) (terms-carried σ τ rs ks p.rest p.are_rest (q.are_rest ∙ ap Some (sym b)) (later σ τ r k rs ks h))
 
-values-carried : (σ τ : Solution) (rs ks : List ℕ) (vs : Values) → values_at σ rs ≡ Some vs → values_at σ ks ≡ Some vs → Carries σ τ rs ks → values_at τ rs ≡ values_at τ ks
+pub values-carried : (σ τ : Solution) (rs ks : List ℕ) (vs : Values) → values_at σ rs ≡ Some vs → values_at σ ks ≡ Some vs → Carries σ τ rs ks → values_at τ rs ≡ values_at τ ks
 values-carried σ τ [] [] vs e f h = refl
 values-carried σ τ [] (k ∷ ks) vs e f h = let p = value-parts σ k ks vs f in let q : no_values ≡ vs = cc e in let z : no_values ≡ more_values p.first p.rest = q ∙ p.all_of_them in cc z
 values-carried σ τ (r ∷ rs) [] vs e f h = let p = value-parts σ r rs vs e in let q : no_values ≡ vs = cc f in let z : no_values ≡ more_values p.first p.rest = q ∙ p.all_of_them in cc z
@@ -126,7 +126,7 @@ marks-carried σ τ (r ∷ rs) (k ∷ ks) w e f h =
 
 -- ---- which kind of cell a value is from
 
-abbrev value_tag : CellValue → ℕ
+abbrev pub value_tag : CellValue → ℕ
 value_tag (a_term (g_fun f ts)) = 1
 value_tag (a_term (g_eigen p vs)) = 2
 value_tag (a_term (common k)) = 0
@@ -196,7 +196,7 @@ ended-tag b s gammas σ number h base own_from r (eigen_cell p rs) w e n = ap va
 ended-tag b s gammas σ number h base own_from r (new_cell p rs) w e n = ap value_tag (h.solves r (new_cell p rs) e).2
 ended-tag b s gammas σ number h base own_from r (string_cell rs) w e n = ap value_tag (h.solves r (string_cell rs) e).2
 
-same-some : {A : Type 0} (o p : Option A) (x y : A) → o ≡ Some x → p ≡ Some y → o ≡ p → x ≡ y
+pub same-some : {A : Type 0} (o p : Option A) (x y : A) → o ≡ Some x → p ≡ Some y → o ≡ p → x ≡ y
 same-some o p x y e f g = let z : Some x ≡ Some y = sym e ∙ g ∙ f in cc z
 
 -- two cells without bindings

@@ -41,3 +41,30 @@ pub mod WholeLaws
 -- labels
 pub mod LabelLaws
 pub mod BuiltClassical
+pub mod DistinctLaws
+pub mod AtomLaws
+pub mod SolvingLaws
+pub mod GivingLaws
+pub mod DemandLaws
+pub mod JoinedLaws
+pub mod SystemLaws
+pub mod SystemSteps
+pub mod BringsLaws
+pub mod RuleLaws
+pub mod AdmittedLaws
+pub mod LabelledEnd
+pub mod LeftLabels
+pub mod PruningLaws
+pub mod CoverLaws
+pub mod LookLaws
+pub mod HomeLaws
+pub mod HomeRanks
+pub mod OwnHomes
+pub mod NeedRanks
+pub mod SystemCells
+pub mod KeepingLaws
+pub mod LengthsLaws
+mod LengthsExamples
+pub mod LabelledBuilt
+pub mod TemplateSorts
+pub mod VariableSorts

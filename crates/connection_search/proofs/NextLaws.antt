@@ -48,10 +48,10 @@ opposite-is-some : (a : GroundLiteral) (o : Option GroundLiteral) → IsTrue (is
 opposite-is-some a None h = absurd (false≢true h)
 opposite-is-some a (Some b) h = (b, refl)
 
-abbrev grown_state : CellGoal → List CellGoal → List CellGoal → List ℕ → Solution → Growth
+abbrev pub grown_state : CellGoal → List CellGoal → List CellGoal → List ℕ → Solution → Growth
 grown_state g gs every ds σ = growth_at σ (record { open_goals = g ∷ gs; all_goals = every; depths = ds })
 
-reduction-shape : (P : Problem) (e : ℕ) (g : CellGoal) (gs every : List CellGoal) (ds : List ℕ) (σ : Solution) (up : ℕ) (y : Growth) → grow_once P (reduction up) (grown_state g gs every ds σ) ≡ Some y → IsChoiceAt P e g (reduction up)
+pub reduction-shape : (P : Problem) (e : ℕ) (g : CellGoal) (gs every : List CellGoal) (ds : List ℕ) (σ : Solution) (up : ℕ) (y : Growth) → grow_once P (reduction up) (grown_state g gs every ds σ) ≡ Some y → IsChoiceAt P e g (reduction up)
 reduction-shape P e g gs every ds σ zero y h = none≢some y h
 reduction-shape P e g gs every ds σ (suc k) y h =
     let opp = (if-some (is_opposite (literal_by σ g.literal) (slice_get (map (literal_by σ) g.path) k)) _ y h).0 in
@@ -60,7 +60,7 @@ reduction-shape P e g gs every ds σ (suc k) y h =
     let parts = opposite-parts (literal_by σ g.literal) b (opposite-some (literal_by σ g.literal) (slice_get (map (literal_by σ) g.path) k) b there opp) in
     by_ancestor k a at (subst (λ (z : GroundLiteral). IsTrue (not (sign_eq g.literal.sign z.sign))) is parts.signs) (parts.symbols ∙ ap (λ (z : GroundLiteral). z.symbol) is)
 
-extension-shape : (P : Problem) (e : ℕ) (g : CellGoal) (gs every : List CellGoal) (ds : List ℕ) (σ : Solution) (j : ClauseInstance) (place : ℕ) (y : Growth) → grow_once P (extension j place) (grown_state g gs every ds σ) ≡ Some y → IsTrue (is_within e y) → IsChoiceAt P e g (extension j.selection place)
+pub extension-shape : (P : Problem) (e : ℕ) (g : CellGoal) (gs every : List CellGoal) (ds : List ℕ) (σ : Solution) (j : ClauseInstance) (place : ℕ) (y : Growth) → grow_once P (extension j place) (grown_state g gs every ds σ) ≡ Some y → IsTrue (is_within e y) → IsChoiceAt P e g (extension j.selection place)
 extension-shape P e g gs every ds σ j place y h w =
     let q = if-some (is_instance P j && is_opposite (literal_by σ g.literal) (slice_get j.literals place)) _ y h in
     let p = and_parts (is_instance P j) (is_opposite (literal_by σ g.literal) (slice_get j.literals place)) q.0 in

@@ -11,7 +11,7 @@ use Rattle.connection_search.proofs.GeneralLaws.{part-cell}
 
 -- ---- the greater of two numbers
 
-abbrev larger : ℕ → ℕ → ℕ
+abbrev pub larger : ℕ → ℕ → ℕ
 larger a b = if nat_lt a b then b else a
 
 larger-left : (a b : ℕ) → a ≤ larger a b
@@ -40,7 +40,7 @@ larger-one a b = by (nat_lt a b)
 
 -- ---- depths
 
-abbrev highest : (ℕ → ℕ) → List ℕ → ℕ
+abbrev pub highest : (ℕ → ℕ) → List ℕ → ℕ
 highest f [] = 0
 highest f (k ∷ ks) = larger (suc (f k)) (highest f ks)
 
@@ -53,13 +53,13 @@ abbrev pub depth : Store → ℕ → ℕ → ℕ
 depth s zero r = 0
 depth s (suc n) r = depth_at (depth s n) (slice_get s.cells r)
 
-part-lower : (f : ℕ → ℕ) (ks : List ℕ) (k : ℕ) → IsPart k ks → suc (f k) ≤ highest f ks
+pub part-lower : (f : ℕ → ℕ) (ks : List ℕ) (k : ℕ) → IsPart k ks → suc (f k) ≤ highest f ks
 part-lower f [] k (i, e) = cc e
 part-lower f (j ∷ ks) k (zero, e) = let q : j ≡ k = cc e in subst (λ x. suc (f x) ≤ highest f (j ∷ ks)) q (larger-left (suc (f j)) (highest f ks))
 part-lower f (j ∷ ks) k (suc i, e) = let l = part-lower f ks k (i, e) in let m = larger-right (suc (f j)) (highest f ks) in omega (arith, l, m)
 
 -- some part has the highest depth
-highest-at : (f : ℕ → ℕ) (ks : List ℕ) → (highest f ks ≡ 0) ⊎ ((k : ℕ) × IsPart k ks × (highest f ks ≡ suc (f k)))
+pub highest-at : (f : ℕ → ℕ) (ks : List ℕ) → (highest f ks ≡ 0) ⊎ ((k : ℕ) × IsPart k ks × (highest f ks ≡ suc (f k)))
 highest-at f [] = inl refl
 highest-at f (k ∷ ks) = elim (larger-one (suc (f k)) (highest f ks)) [
   | inl e ↦ inr (k, (0, refl), e)
@@ -69,7 +69,7 @@ highest-at f (k ∷ ks) = elim (larger-one (suc (f k)) (highest f ks)) [
   ]
 ]
 
-highest-same : (f g : ℕ → ℕ) (ks : List ℕ) → ((k : ℕ) → IsPart k ks → f k ≡ g k) → highest f ks ≡ highest g ks
+pub highest-same : (f g : ℕ → ℕ) (ks : List ℕ) → ((k : ℕ) → IsPart k ks → f k ≡ g k) → highest f ks ≡ highest g ks
 highest-same f g [] h = refl
 highest-same f g (k ∷ ks) h = ap₂ (λ a b. larger (suc a) b) (h k (0, refl)) (highest-same f g ks (λ j p. h j (suc p.0, p.1)))
 
@@ -101,7 +101,7 @@ chain-of s (suc n) r = by (slice_get s.cells r) refl (λ k. chain-of s n k)
       | inr w ↦ (let t = ih w.0 in (w.0 ∷ t.0, ((c, e, w.1), t.1), ap suc t.2 ∙ sym w.2))
     ]
 
-abbrev has : List ℕ → ℕ → Bool
+abbrev pub has : List ℕ → ℕ → Bool
 has ks q = list_any (eqb q) ks
 
 -- what stands on a chain occurs in its first cell
@@ -126,7 +126,7 @@ not-on s no_cycle r ks h = elim (cases_Bool (has ks r)) [
   | inr e ↦ e
 ]
 
-each-differs : (r : ℕ) (ks : List ℕ) → has ks r ≡ false → AllByRecursion (λ y. eqb r y ≡ false) ks
+pub each-differs : (r : ℕ) (ks : List ℕ) → has ks r ≡ false → AllByRecursion (λ y. eqb r y ≡ false) ks
 each-differs r [] h = tt
 each-differs r (k ∷ ks) h = (first (eqb r k) (has ks r) h, each-differs r ks (rest (eqb r k) (has ks r) h))
   where
@@ -138,7 +138,7 @@ each-differs r (k ∷ ks) h = (first (eqb r k) (has ks r) h, each-differs r ks (
     rest true b e = absurd (false≢true (sym e))
     rest false b e = e
 
-distinct-nothing : IsDistinct eqb []
+pub distinct-nothing : IsDistinct eqb []
 unfolding IsDistinct
 distinct-nothing = tt
 

@@ -78,15 +78,15 @@ same-by_spares P base s rank bound h a b ca cb e τ t =
 
 -- ---- regular trees
 
-not-any : (b : Bool) → (IsTrue b → ⊥) → not b ≡ true
+pub not-any : (b : Bool) → (IsTrue b → ⊥) → not b ≡ true
 not-any true h = absurd (h refl)
 not-any false h = refl
 
 -- an atom of a list with this image
-abbrev HasImage : Solution → GroundLiteral → List CellAtom → Type 0
+abbrev pub HasImage : Solution → GroundLiteral → List CellAtom → Type 0
 HasImage σ x atoms = (j : ℕ) × (a : CellAtom) × (slice_get atoms j ≡ Some a) × (x ≡ literal_by σ a)
 
-any-of : (σ : Solution) (x : GroundLiteral) (atoms : List CellAtom) → IsTrue (list_any (literal_eq x) (map (literal_by σ) atoms)) → HasImage σ x atoms
+pub any-of : (σ : Solution) (x : GroundLiteral) (atoms : List CellAtom) → IsTrue (list_any (literal_eq x) (map (literal_by σ) atoms)) → HasImage σ x atoms
 any-of σ x [] h = absurd (false≢true h)
 any-of σ x (a ∷ rest) h = by (literal_eq x (literal_by σ a)) refl (λ k. any-of σ x rest k) h
   where
@@ -97,7 +97,7 @@ any-of σ x (a ∷ rest) h = by (literal_eq x (literal_by σ a)) refl (λ k. any
     by true e ih k = (0, a, refl, (literal_eq-tells x (literal_by σ a)).0 e)
     by false e ih k = later (ih k)
 
-each-at : {A : Type 0} (Q : A → Type 0) (xs : List A) (j : ℕ) (x : A) → AllByRecursion Q xs → slice_get xs j ≡ Some x → Q x
+pub each-at : {A : Type 0} (Q : A → Type 0) (xs : List A) (j : ℕ) (x : A) → AllByRecursion Q xs → slice_get xs j ≡ Some x → Q x
 each-at Q [] j x h e = cc e
 each-at Q (y ∷ ys) zero x h e = let q : y ≡ x = cc e in subst Q q h.0
 each-at Q (y ∷ ys) (suc j) x h e = each-at Q ys j x h.1 e

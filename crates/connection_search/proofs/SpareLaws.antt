@@ -103,7 +103,7 @@ sort-same MarkSort StringSort h = absurd (false≢true h)
 sort-same StringSort TermSort h = absurd (false≢true h)
 sort-same StringSort MarkSort h = absurd (false≢true h)
 
-spare-sort : (sort : Sort) (r : ℕ) → IsTrue (has_sort sort (spare_of sort r))
+pub spare-sort : (sort : Sort) (r : ℕ) → IsTrue (has_sort sort (spare_of sort r))
 spare-sort TermSort r = refl
 spare-sort MarkSort r = refl
 spare-sort StringSort r = refl

@@ -18,7 +18,7 @@ use Rattle.connection_search.proofs.NextLaws.{not-start, none-deep}
 use Rattle.connection_search.proofs.ExploreLaws.{covers-drop}
 use Rattle.connection_search.proofs.EarlyLaws.{explore-lengths}
 
-none-at : (P : Problem) (c : GroundChoice) (x : Growth) → x.open_goals ≡ [] → grow_once P c x ≡ None
+pub none-at : (P : Problem) (c : GroundChoice) (x : Growth) → x.open_goals ≡ [] → grow_once P c x ≡ None
 none-at P (start i) x e = refl
 none-at P (reduction up) x e = rw e refl
 none-at P (extension i place) x e = rw e refl

@@ -19,3 +19,13 @@ pub mod Building
 pub mod Stack
 -- the loop's invariant
 pub mod Searching
+-- solving systems
+pub mod Solving
+pub mod Demanding
+pub mod StateSystems
+pub mod LabelledCells
+-- early pruning
+pub mod Pruning
+pub mod HomeCells
+-- lists of lengths
+pub mod Lengths

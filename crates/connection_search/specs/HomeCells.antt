@@ -1,0 +1,43 @@
+-- The label of a position by cells: the home of an eigenvariable whose values are cells, followed along the way to its position.
+use Rattle.std.specs.Prelude.{◌≡◌, ℕ, List, [], ◌∷◌, ◌++◌, Bool, true, false, Some, slice_get, IsTrue}
+use Rattle.calculus.specs.declared.sort.Sort.TheVariants.{TermSort, StringSort}
+use Rattle.calculus.specs.declared.setting.Logic.{Logic}
+use Rattle.calculus.specs.declared.setting.Logic.TheVariants.{S5}
+use Rattle.calculus.specs.declared.kind.Shape.{Shape}
+use Rattle.calculus.specs.declared.kind.Shape.TheVariants.{Gamma}
+use Rattle.calculus.specs.declared.kind.ModalPart.{ModalPart}
+use Rattle.calculus.specs.declared.kind.ModalPart.TheVariants.{Plain, Nu, Pi}
+use Rattle.calculus.specs.Kinds.{shape_of, modal_of}
+use Rattle.calculus.specs.Positions.{Node}
+use Rattle.calculus.specs.Stores.{new_cell, Store, has_sort_at}
+
+-- how far a way was followed: the label reached, the values taken, and those that are still there
+pub record CellReached : Type 0 where
+  pub label : List ℕ
+  pub taken : List ℕ
+  pub rest : List ℕ
+
+-- the label after one more string or mark
+abbrev pub next_label : Logic → List ℕ → ℕ → List ℕ
+next_label S5 w r = r ∷ []
+next_label _ w r = w ++ r ∷ []
+
+-- a nu position takes a string, and a pi position is named by a cell
+pub data PassesModal (l : Logic) (s : Store) (p : ℕ) : ModalPart → CellReached → CellReached → Type 0 where
+  by_plain : {c : CellReached} → PassesModal l s p Plain c c
+  by_string : (w taken rest : List ℕ) (r : ℕ) → IsTrue (has_sort_at s StringSort r) → PassesModal l s p Nu (record { label = w; taken = taken; rest = r ∷ rest }) (record { label = next_label l w r; taken = taken ++ r ∷ []; rest = rest })
+  by_mark : (w taken rest : List ℕ) (k : ℕ) → slice_get s.cells k ≡ Some (new_cell p taken) → PassesModal l s p Pi (record { label = w; taken = taken; rest = rest }) (record { label = next_label l w k; taken = taken; rest = rest })
+
+abbrev pub is_gamma_shape : Shape → Bool
+is_gamma_shape Gamma = true
+is_gamma_shape _ = false
+
+-- a gamma position takes a term
+pub data PassesShape (s : Store) : Shape → CellReached → CellReached → Type 0 where
+  by_term : (w taken rest : List ℕ) (r : ℕ) → IsTrue (has_sort_at s TermSort r) → PassesShape s Gamma (record { label = w; taken = taken; rest = r ∷ rest }) (record { label = w; taken = taken ++ r ∷ []; rest = rest })
+  by_other : {h : Shape} {c : CellReached} → is_gamma_shape h ≡ false → PassesShape s h c c
+
+-- the way leads to this label
+pub data LeadsToLabel (l : Logic) (s : Store) : List Node → CellReached → List ℕ → Type 0 where
+  ended : {c : CellReached} → LeadsToLabel l s [] c c.label
+  passed : {n : Node} {ns : List Node} {c d e : CellReached} {ks : List ℕ} → PassesModal l s n.position (modal_of l n.sign n.formula) c d → PassesShape s (shape_of n.sign n.formula) d e → LeadsToLabel l s ns e ks → LeadsToLabel l s (n ∷ ns) c ks
