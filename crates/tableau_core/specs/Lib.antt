@@ -1,1 +1,11 @@
 pub mod Closed
+pub mod LiteralView
+pub mod LiteralCodes
+pub mod InstanceView
+pub mod ClosingView
+pub mod TableauView
+pub mod ChoiceView
+pub mod ClosingLists
+pub mod ClosingCodes
+pub mod ClosingSizes
+pub mod ClosingFalls

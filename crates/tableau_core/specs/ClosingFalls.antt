@@ -1,0 +1,17 @@
+-- Each list of closings is larger than the lists inside it, so a recursion over them ends.
+use Rattle.std.specs.Prelude.{◌≤◌, max, List, [], ◌∷◌, map}
+use Rattle.std.proofs.Common.{arith}
+use denote.Param.Weighed.{most, w_this}
+use Rattle.tableau_core.specs.ClosingSizes.{closing_size, closing_list_size}
+use Rattle.tableau_core.specs.ClosingView.{the_closing}
+use Rattle.tableau_core.specs.declared.closing.Closing.{Closing}
+use Rattle.tableau_core.specs.declared.closing.Closing.TheVariants.{Reduce, Extend, the_data}
+use Rattle.tableau_core.specs.declared.closing.ClosingList.TheDeep.{deep-Closing}
+
+pub deep-Closing-le-size : (c : Closing) → deep-Closing c ≤ closing_size (the_closing c)
+deep-Closing-le-size (Reduce n) = omega arith
+deep-Closing-le-size (Extend i n cs) = omega arith
+
+pub closing-falls : (cs : List Closing) → max (most (λ t. w_this.weight the_data deep-Closing t) cs) 0 ≤ closing_list_size (map the_closing cs)
+closing-falls [] = omega arith
+closing-falls (c ∷ cs) = omega (arith, deep-Closing-le-size c, closing-falls cs)
