@@ -2,3 +2,4 @@ pub mod Products
 pub mod Seeking
 pub mod SymbolEq
 pub mod Distinct
+pub mod CountLaws

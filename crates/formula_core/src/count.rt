@@ -7,6 +7,7 @@ ghost use Rattle.calculus.specs.Measures.{nesting, node_count, term_nesting, ter
 ghost use Rattle.formula_core.specs.FormulaView.{the_formula};
 ghost use Rattle.formula_core.specs.TermView.{the_term};
 
+use crate::components::Components;
 use crate::formula::Formula;
 use crate::term::{Term, Terms};
 use calculus::sign::Sign;
@@ -36,65 +37,53 @@ struct Totals {
     literals: u64,
 }
 
-#[cycle(counts)]
+// The totals of a formula by those of its components.
+#[tactic(auto, using(crate::proofs::CountLaws::counting))]
 fn counts(f: &Formula, sign: Sign, limit: u64) -> Totals
     requires { limit ≤ 2 ^ 40 }
     ensures clauses { result.clauses ≡ min (clause_count (the_formula f.now) sign) (limit + 1) }
     ensures literals { result.literals ≡ min (literal_count (the_formula f.now) sign) (limit + 1) }
 {
-    match f {
-        Formula::Atom(_, _) => Totals {
+    match f.components(sign) {
+        Components::Literal(_, _) => Totals {
             clauses: 1,
             literals: 1,
         },
-        Formula::Not(a) => counts(a, sign.other(), limit),
-        Formula::And(a, b) => match sign {
-            Sign::T => alpha_totals(a, sign, b, sign, limit),
-            Sign::F => beta_totals(a, sign, b, sign, limit),
-        },
-        Formula::Or(a, b) => match sign {
-            Sign::T => beta_totals(a, sign, b, sign, limit),
-            Sign::F => alpha_totals(a, sign, b, sign, limit),
-        },
-        Formula::Imp(a, b) => match sign {
-            Sign::T => beta_totals(a, Sign::F, b, Sign::T, limit),
-            Sign::F => alpha_totals(a, Sign::T, b, Sign::F, limit),
-        },
-        Formula::All(a) | Formula::Ex(a) | Formula::Nec(a) | Formula::Poss(a) => {
-            counts(a, sign, limit)
+        Components::One(a) | Components::Gamma(a) | Components::Delta(a) => {
+            counts(a.formula, a.sign, limit)
+        }
+        Components::Alpha(a, b) => {
+            let left = counts(a.formula, a.sign, limit);
+            let right = counts(b.formula, b.sign, limit);
+            alpha_totals(left, right, limit)
+        }
+        Components::Beta(a, b) => {
+            let left = counts(a.formula, a.sign, limit);
+            let right = counts(b.formula, b.sign, limit);
+            beta_totals(left, right, limit)
         }
     }
 }
 
 // The clauses of either part.
-#[cycle(counts)]
-fn alpha_totals(a: &Formula, a_sign: Sign, b: &Formula, b_sign: Sign, limit: u64) -> Totals
+fn alpha_totals(left: Totals, right: Totals, limit: u64) -> Totals
     requires { limit ≤ 2 ^ 40 }
-    ensures clauses { result.clauses
-        ≡ min (clause_count (the_formula a.now) a_sign + clause_count (the_formula b.now) b_sign) (limit + 1) }
-    ensures literals { result.literals
-        ≡ min (literal_count (the_formula a.now) a_sign + literal_count (the_formula b.now) b_sign) (limit + 1) }
+    ensures clauses { result.clauses ≡ min (left.clauses + right.clauses) (limit + 1) }
+    ensures literals { result.literals ≡ min (left.literals + right.literals) (limit + 1) }
 {
-    let left = counts(a, a_sign, limit);
-    let right = counts(b, b_sign, limit);
     Totals {
-        clauses: (left.clauses + right.clauses).min(limit + 1),
-        literals: (left.literals + right.literals).min(limit + 1),
+        clauses: left.clauses.saturating_add(right.clauses).min(limit + 1),
+        literals: left.literals.saturating_add(right.literals).min(limit + 1),
     }
 }
 
 // A clause for each pair of one of the left part and one of the right.
-#[cycle(counts)]
-fn beta_totals(a: &Formula, a_sign: Sign, b: &Formula, b_sign: Sign, limit: u64) -> Totals
+fn beta_totals(left: Totals, right: Totals, limit: u64) -> Totals
     requires { limit ≤ 2 ^ 40 }
-    ensures clauses { result.clauses
-        ≡ min (clause_count (the_formula a.now) a_sign * clause_count (the_formula b.now) b_sign) (limit + 1) }
+    ensures clauses { result.clauses ≡ min (left.clauses * right.clauses) (limit + 1) }
     ensures literals { result.literals
-        ≡ min (literal_count (the_formula a.now) a_sign * clause_count (the_formula b.now) b_sign
-        + literal_count (the_formula b.now) b_sign * clause_count (the_formula a.now) a_sign) (limit + 1) }
+        ≡ min (left.literals * right.clauses + right.literals * left.clauses) (limit + 1) }
 {
-    let left = counts(a, a_sign, limit);
-    let right = counts(b, b_sign, limit);
     let from_left = left.literals.saturating_mul(right.clauses);
     let from_right = right.literals.saturating_mul(left.clauses);
     Totals {

@@ -1,6 +1,7 @@
 //! Terms and formulas.
 #![tactic(auto)]
 
+mod components;
 mod count;
 mod formula;
 mod ground;
@@ -10,7 +11,9 @@ mod term;
 #[cfg(test)]
 mod tests;
 
+pub use calculus::kind::Shape;
 pub use calculus::sign::Sign;
+pub use components::{Components, Signed};
 pub use count::{clause_count, literal_count, nesting, node_count};
 pub use formula::Formula;
 pub use ground::{GroundLabel, GroundMark, GroundTerm, GroundTerms, Value, Values};
