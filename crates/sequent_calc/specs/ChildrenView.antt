@@ -2,8 +2,6 @@
 use Rattle.std.specs.Prelude.{[], ◌∷◌, ◌++◌, Option, None, Some, Result, Ok, Err}
 use Rattle.calculus.specs.declared.fault.StepFault.{StepFault}
 use Rattle.calculus.specs.Calculus as calculus
-use Rattle.calculus.specs.declared.kind.Shape.{Shape}
-use Rattle.calculus.specs.declared.kind.Shape.TheVariants.{Beta}
 use Rattle.calculus.specs.Derivations as derivation
 use Rattle.sequent_calc.specs.EntryView.{the_entry}
 use Rattle.sequent_calc.specs.declared.rules.Children.{Children}
@@ -21,11 +19,6 @@ abbrev pub children_by : derivation.Sequent → Addition → calculus.Children
 children_by s addition.Nothing = calculus.closed
 children_by s (addition.One es) = calculus.one (s ++ es)
 children_by s (addition.Two a b) = calculus.two (s ++ the_entry a ∷ []) (s ++ the_entry b ∷ [])
-
--- two components, on one branch or on two
-abbrev pub children_of_two : Shape → derivation.Sequent → derivation.Entry → derivation.Entry → calculus.Children
-children_of_two Beta s a b = calculus.two (s ++ a ∷ []) (s ++ b ∷ [])
-children_of_two _ s a b = calculus.one (s ++ a ∷ b ∷ [])
 
 -- the children, or the fault in their place
 abbrev pub faulty : calculus.Children → Option StepFault → Result calculus.Children StepFault

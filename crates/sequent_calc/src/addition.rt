@@ -7,7 +7,7 @@ ghost use Rattle.calculus.specs.Kinds.{components, modal_of, shape_of, signed};
 ghost use Rattle.formula_core.specs.FormulaView.{the_formula};
 ghost use Rattle.calculus.specs.Calculus as calculus;
 ghost use Rattle.calculus.specs.Derivations as derivation;
-ghost use Rattle.sequent_calc.specs.ChildrenView.{children_by, children_of_two, faulty};
+ghost use Rattle.sequent_calc.specs.ChildrenView.{children_by, faulty};
 ghost use Rattle.sequent_calc.specs.DerivationView.{the_names};
 ghost use Rattle.sequent_calc.specs.EntryView.{the_entry};
 ghost use Rattle.sequent_calc.specs.StepView.{the_modal, the_step, the_term_arg};
@@ -23,8 +23,8 @@ use crate::rules::ApplyFault;
 use crate::step::{ModalArg, Step, TermArg};
 use calculus::fault::StepFault;
 use cop_base::NoMemory;
-use formula_core::{Formula, Sign, Term};
-use logic_rules::{Kind, Label, Logic, Mark, Problem, Shape, kind_of};
+use formula_core::{Components, Formula, Sign, Term};
+use logic_rules::{Kind, Label, Logic, Mark, Problem, kind_of};
 use std::alloc::{AllocError, Global};
 
 /// What a step adds to the open sequent: nothing where it closes the branch, entries, or one entry on each of two
@@ -84,49 +84,46 @@ fn one(alloc: Global, entry: Entry) -> Result<Addition, NoMemory>
     Ok(Addition::One(entries))
 }
 
-fn two(alloc: Global, shape: Shape, first: Entry, second: Entry) -> Result<Addition, NoMemory>
+fn both(alloc: Global, first: Entry, second: Entry) -> Result<Addition, NoMemory>
     ensures { IfOk result (λ a. (s : List derivation.Entry) → children_by s a
-        ≡ children_of_two shape s (the_entry first) (the_entry second)) }
+        ≡ calculus.one (s ++ the_entry first ∷ the_entry second ∷ [])) }
 {
-    match shape {
-        Shape::Beta => Ok(Addition::Two(first, second)),
-        Shape::Alpha | Shape::Gamma | Shape::Delta | Shape::Literal => {
-            let mut entries = Sequent::new(alloc);
-            entries.push(first)?;
-            entries.push(second)?;
-            Ok(Addition::One(entries))
-        }
-    }
+    let mut entries = Sequent::new(alloc);
+    entries.push(first)?;
+    entries.push(second)?;
+    Ok(Addition::One(entries))
 }
 
 // The components of an entry, at the label that the step leads to.
 fn components(
     alloc: Global,
-    shape: Shape,
     entry: &Entry,
     at: &Label,
     term: &TermArg,
 ) -> Result<Addition, NoMemory>
-    requires { shape ≡ shape_of entry.now.sign (the_formula entry.now.formula) }
-    ensures { IfOk result (λ a. (s : List derivation.Entry) → children_by s a ≡ with_components shape s at.now
+    ensures { IfOk result (λ a. (s : List derivation.Entry) → children_by s a
+        ≡ with_components (shape_of entry.now.sign (the_formula entry.now.formula)) s at.now
         (map (with_argument (the_term_arg term.now)) (components entry.now.sign (the_formula entry.now.formula)))) }
 {
-    let sign = entry.sign;
-    match &entry.formula {
-        Formula::Atom(_, _) => one(alloc, component(alloc, sign, &entry.formula, at, term)?),
-        Formula::Not(a) => one(alloc, component(alloc, sign.other(), a, at, term)?),
-        Formula::And(a, b) | Formula::Or(a, b) => {
-            let first = component(alloc, sign, a, at, term)?;
-            let second = component(alloc, sign, b, at, term)?;
-            two(alloc, shape, first, second)
+    match entry.formula.components(entry.sign) {
+        Components::Literal(_, _) => {
+            one(
+                alloc,
+                component(alloc, entry.sign, &entry.formula, at, term)?,
+            )
         }
-        Formula::Imp(a, b) => {
-            let first = component(alloc, sign.other(), a, at, term)?;
-            let second = component(alloc, sign, b, at, term)?;
-            two(alloc, shape, first, second)
+        Components::One(a) | Components::Gamma(a) | Components::Delta(a) => {
+            one(alloc, component(alloc, a.sign, a.formula, at, term)?)
         }
-        Formula::All(a) | Formula::Ex(a) | Formula::Nec(a) | Formula::Poss(a) => {
-            one(alloc, component(alloc, sign, a, at, term)?)
+        Components::Alpha(a, b) => {
+            let first = component(alloc, a.sign, a.formula, at, term)?;
+            let second = component(alloc, b.sign, b.formula, at, term)?;
+            both(alloc, first, second)
+        }
+        Components::Beta(a, b) => {
+            let first = component(alloc, a.sign, a.formula, at, term)?;
+            let second = component(alloc, b.sign, b.formula, at, term)?;
+            Ok(Addition::Two(first, second))
         }
     }
 }
@@ -191,7 +188,7 @@ fn added_by_use(
     if let Some(fault) = use_fault(problem, names, sequent, entry, modal, term, kind, &at) {
         return Err(ApplyFault::Fault(fault));
     }
-    Ok(components(alloc, kind.shape, entry, &at, term)?)
+    Ok(components(alloc, entry, &at, term)?)
 }
 
 // Whether the entries are T and F of one atom at one label.

@@ -15,16 +15,9 @@ use formula_core::{Formula, Term, Terms};
 pub fn are_same_atom(a: &Formula, b: &Formula) -> bool
     ensures { result ≡ (is_atom (the_formula a.now) && formula_eq (the_formula a.now) (the_formula b.now)) }
 {
-    match a {
-        Formula::Atom(p, ts) => is_atom_of(*p, ts, b),
-        Formula::Not(_)
-        | Formula::And(_, _)
-        | Formula::Or(_, _)
-        | Formula::Imp(_, _)
-        | Formula::All(_)
-        | Formula::Ex(_)
-        | Formula::Nec(_)
-        | Formula::Poss(_) => false,
+    match a.as_atom() {
+        Some((p, ts)) => is_atom_of(p, ts, b),
+        None => false,
     }
 }
 
@@ -32,16 +25,9 @@ pub fn are_same_atom(a: &Formula, b: &Formula) -> bool
 fn is_atom_of(p: SymbolId, ts: &Terms, f: &Formula) -> bool
     ensures { result ≡ formula_eq (tree.atom p.0 (terms_tree ts.now)) (the_formula f.now) }
 {
-    match f {
-        Formula::Atom(q, us) => p == *q && are_equal_terms(ts, us),
-        Formula::Not(_)
-        | Formula::And(_, _)
-        | Formula::Or(_, _)
-        | Formula::Imp(_, _)
-        | Formula::All(_)
-        | Formula::Ex(_)
-        | Formula::Nec(_)
-        | Formula::Poss(_) => false,
+    match f.as_atom() {
+        Some((q, us)) => p == q && are_equal_terms(ts, us),
+        None => false,
     }
 }
 
