@@ -1,3 +1,4 @@
+pub mod ByComponents
 pub mod MatrixOf
 pub mod Pairs
 pub mod Behind

@@ -7,7 +7,7 @@ ghost use Rattle.propositional_search.specs.ClausesOf.{alpha_clauses, behind, be
 ghost use Rattle.propositional_search.specs.ClauseView.{the_clause};
 
 use cop_base::{NoMemory, SymbolId};
-use formula_core::{Formula, Sign};
+use formula_core::{Components, Formula, Sign, Signed};
 use std::alloc::Global;
 use tableau_core::Side;
 
@@ -37,6 +37,7 @@ pub fn clauses_of(alloc: Global, f: &Formula, sign: Sign) -> Result<Vec<Clause>,
 // Adds the clauses of `f` under `sign`, each behind the sides `before`. Each side of a clause is written where it is to
 // stay, so that the work follows what is built.
 #[cycle(add_clauses)]
+#[tactic(auto, using(crate::proofs::ByComponents::clauses_by_components))]
 fn add_clauses(
     alloc: Global,
     f: &Formula,
@@ -47,24 +48,13 @@ fn add_clauses(
     ensures { IfOk result (λ _. map the_clause all.new.items
         ≡ map the_clause all.old.items ++ behind before.now (clauses_of (the_formula f.now) sign)) }
 {
-    match f {
-        Formula::Atom(p, _) => add_unit(alloc, sign, *p, before, all),
-        Formula::Not(a) => add_clauses(alloc, a, sign.other(), before, all),
-        Formula::And(a, b) => match sign {
-            Sign::T => add_alpha(alloc, a, sign, b, sign, before, all),
-            Sign::F => add_beta(alloc, a, sign, b, sign, before, all),
-        },
-        Formula::Or(a, b) => match sign {
-            Sign::T => add_beta(alloc, a, sign, b, sign, before, all),
-            Sign::F => add_alpha(alloc, a, sign, b, sign, before, all),
-        },
-        Formula::Imp(a, b) => match sign {
-            Sign::T => add_beta(alloc, a, Sign::F, b, Sign::T, before, all),
-            Sign::F => add_alpha(alloc, a, Sign::T, b, Sign::F, before, all),
-        },
-        Formula::All(a) | Formula::Ex(a) | Formula::Nec(a) | Formula::Poss(a) => {
-            add_clauses(alloc, a, sign, before, all)
+    match f.components(sign) {
+        Components::Literal(p, _) => add_unit(alloc, sign, p, before, all),
+        Components::One(a) | Components::Gamma(a) | Components::Delta(a) => {
+            add_clauses(alloc, a.formula, a.sign, before, all)
         }
+        Components::Alpha(a, b) => add_alpha(alloc, a, b, before, all),
+        Components::Beta(a, b) => add_beta(alloc, a, b, before, all),
     }
 }
 
@@ -72,21 +62,19 @@ fn add_clauses(
 #[cycle(add_clauses)]
 fn add_alpha(
     alloc: Global,
-    a: &Formula,
-    a_sign: Sign,
-    b: &Formula,
-    b_sign: Sign,
+    a: Signed,
+    b: Signed,
     before: &[Side],
     all: &mut Vec<Clause>,
 ) -> Result<(), NoMemory>
     ensures { IfOk result (λ _. map the_clause all.new.items ≡ map the_clause all.old.items
-        ++ behind before.now (alpha_clauses (clauses_of (the_formula a.now) a_sign)
-        (clauses_of (the_formula b.now) b_sign))) }
+        ++ behind before.now (alpha_clauses (clauses_of (the_formula a.entry.formula.now) a.entry.sign)
+        (clauses_of (the_formula b.entry.formula.now) b.entry.sign))) }
 {
     let left = and_side(alloc, before, Side::Left)?;
-    add_clauses(alloc, a, a_sign, &left, all)?;
+    add_clauses(alloc, a.formula, a.sign, &left, all)?;
     let right = and_side(alloc, before, Side::Right)?;
-    add_clauses(alloc, b, b_sign, &right, all)?;
+    add_clauses(alloc, b.formula, b.sign, &right, all)?;
     Ok(())
 }
 
@@ -94,21 +82,19 @@ fn add_alpha(
 #[cycle(add_clauses)]
 fn add_beta(
     alloc: Global,
-    a: &Formula,
-    a_sign: Sign,
-    b: &Formula,
-    b_sign: Sign,
+    a: Signed,
+    b: Signed,
     before: &[Side],
     all: &mut Vec<Clause>,
 ) -> Result<(), NoMemory>
     ensures { IfOk result (λ _. map the_clause all.new.items ≡ map the_clause all.old.items
-        ++ behind before.now (beta_clauses (clauses_of (the_formula a.now) a_sign)
-        (clauses_of (the_formula b.now) b_sign))) }
+        ++ behind before.now (beta_clauses (clauses_of (the_formula a.entry.formula.now) a.entry.sign)
+        (clauses_of (the_formula b.entry.formula.now) b.entry.sign))) }
 {
     let mut first = Vec::new(alloc);
-    add_clauses(alloc, a, a_sign, before, &mut first)?;
+    add_clauses(alloc, a.formula, a.sign, before, &mut first)?;
     let mut second = Vec::new(alloc);
-    add_clauses(alloc, b, b_sign, &[], &mut second)?;
+    add_clauses(alloc, b.formula, b.sign, &[], &mut second)?;
     for clause in first.iter() {
         add_joined(alloc, all, clause, &second)?;
     }
