@@ -8,3 +8,4 @@ pub mod Complete
 pub mod Expanding
 pub mod Closing
 pub mod Examples
+pub mod ByComponents

@@ -74,19 +74,13 @@ fn put_number(numbers: &mut Vec<usize>, place: usize, number: usize) -> Result<(
 }
 
 // The symbol of an atom.
+#[tactic(auto, using(crate::proofs::ByComponents::literals_of_atoms))]
 fn symbol_of(f: &Formula) -> Option<usize>
     ensures { (s : Sign) → literal_in s (the_formula f.now) ≡ option_map (literal s) result }
 {
-    match f {
-        Formula::Atom(p, _) => Some(p.0 as usize),
-        Formula::Not(_)
-        | Formula::And(_, _)
-        | Formula::Or(_, _)
-        | Formula::Imp(_, _)
-        | Formula::All(_)
-        | Formula::Ex(_)
-        | Formula::Nec(_)
-        | Formula::Poss(_) => None,
+    match f.as_atom() {
+        Some((p, _)) => Some(p.0 as usize),
+        None => None,
     }
 }
 

@@ -2,10 +2,11 @@
 
 ghost use Rattle.std.specs.Prelude.{◌≡◌, ◌+◌, ◌++◌, ◌∷◌, [], ◌<◌, ◌≤◌, ◌^◌, ℕ, suc, length, slice_index, IsTrue, IfOk, MatchOption, ◌↔◌};
 ghost use Rattle.std.specs.List.{AllByRecursion};
-ghost use Rattle.calculus.specs.Kinds.{other};
+ghost use Rattle.calculus.specs.Kinds.{components};
 ghost use Rattle.calculus.specs.Positions.{node, size};
 ghost use Rattle.calculus.specs.Propositional.{is_propositional};
 ghost use Rattle.calculus.specs.declared.sign.Sign.TheVariants.{F};
+ghost use Rattle.formula_core.specs.ComponentsView.{the_signed};
 ghost use Rattle.formula_core.specs.FormulaView.{the_formula};
 ghost use Rattle.propositional_convert.specs.Marking.{IsMarked, KeepsMarks, MarksAll, MarksClause, MarksClauses};
 ghost use Rattle.propositional_convert.specs.NodeView.{ArePartsOf, AreTwo, the_node};
@@ -13,7 +14,7 @@ ghost use Rattle.propositional_convert.specs.Parts.{Fits, HasSizes, sizes_below,
 
 use crate::node::{Node, Parts};
 use cop_base::NoMemory;
-use formula_core::{Formula, Sign};
+use formula_core::{Components, Formula, Sign, Signed};
 use std::alloc::Global;
 use tableau_core::{Selection, Side};
 
@@ -130,67 +131,48 @@ impl Plan {
     }
 
     /// What a step on the node adds to its branch.
+    #[tactic(auto, using(crate::proofs::ByComponents::placing))]
     pub fn parts<'a>(&self, parent: Node<'a>) -> Parts<'a>
         requires { Fits self.now.sizes.items (the_node parent) }
         ensures { ArePartsOf self.now.sizes.items (the_node parent.entry) result }
     {
-        match parent.formula {
-            Formula::Atom(_, _) => Parts::Literal,
-            Formula::Not(a) => Parts::One(Node {
-                sign: parent.sign.other(),
-                formula: a,
+        match parent.formula.components(parent.sign) {
+            Components::Literal(_, _) => Parts::Literal,
+            Components::One(a) => Parts::One(Node {
+                sign: a.sign,
+                formula: a.formula,
                 position: parent.position + 1,
             }),
-            Formula::And(a, b) => {
-                let (first, second) = self.pair(parent, parent.sign, a, b);
-                match parent.sign {
-                    Sign::T => Parts::Alpha(first, second),
-                    Sign::F => Parts::Beta(first, second),
-                }
+            Components::Alpha(a, b) => {
+                let (first, second) = self.pair(parent, a, b);
+                Parts::Alpha(first, second)
             }
-            Formula::Or(a, b) => {
-                let (first, second) = self.pair(parent, parent.sign, a, b);
-                match parent.sign {
-                    Sign::T => Parts::Beta(first, second),
-                    Sign::F => Parts::Alpha(first, second),
-                }
+            Components::Beta(a, b) => {
+                let (first, second) = self.pair(parent, a, b);
+                Parts::Beta(first, second)
             }
-            Formula::Imp(a, b) => {
-                let (first, second) = self.pair(parent, parent.sign.other(), a, b);
-                match parent.sign {
-                    Sign::T => Parts::Beta(first, second),
-                    Sign::F => Parts::Alpha(first, second),
-                }
-            }
-            Formula::All(_) | Formula::Ex(_) | Formula::Nec(_) | Formula::Poss(_) => unreachable!(),
+            Components::Gamma(_) | Components::Delta(_) => unreachable!(),
         }
     }
 
-    // The components a and b of the node, the first one with the sign.
-    fn pair<'a>(
-        &self,
-        parent: Node<'a>,
-        sign: Sign,
-        a: &'a Formula,
-        b: &'a Formula,
-    ) -> (Node<'a>, Node<'a>)
-        requires first { HasSizes self.now.sizes.items (parent.position + 1) (the_formula a.now) }
-        requires second { HasSizes self.now.sizes.items (parent.position + suc (size (the_formula a.now))) (the_formula b.now) }
-        ensures signs { (result.0.sign ≡ sign) × (result.1.sign ≡ parent.entry.sign) }
-        ensures formulas { (the_formula result.0.formula.now ≡ the_formula a.now) × (the_formula result.1.formula.now ≡ the_formula b.now) }
-        ensures first_place { result.0.position ≡ parent.entry.position + 1 }
-        ensures second_place { result.1.position ≡ parent.entry.position + suc (size (the_formula a.now)) }
+    // The components a and b of the node, at their positions.
+    #[tactic(auto, using(crate::proofs::ByComponents::placing))]
+    fn pair<'a>(&self, parent: Node<'a>, a: Signed<'a>, b: Signed<'a>) -> (Node<'a>, Node<'a>)
+        requires fits { Fits self.now.sizes.items (the_node parent) }
+        requires parts { the_signed a ∷ the_signed b ∷ [] ≡ components parent.sign (the_formula parent.formula.now) }
+        requires size { suc (size (the_formula a.formula.now) + size (the_formula b.formula.now)) ≡ size (the_formula parent.formula.now) }
+        ensures { AreTwo self.now.sizes.items (the_node parent.entry) (the_node result.0) (the_node result.1) }
     {
         let position = parent.position + 1;
         (
             Node {
-                sign,
-                formula: a,
+                sign: a.sign,
+                formula: a.formula,
                 position,
             },
             Node {
-                sign: parent.sign,
-                formula: b,
+                sign: b.sign,
+                formula: b.formula,
                 position: position + self.sizes[position],
             },
         )
