@@ -61,7 +61,7 @@ impl Symbols {
     /// How many symbols there are.
     pub fn len(&self) -> usize
         ensures len { result ≡ length self.now }
-        ensures most { result ≤ 65536 }
+        ensures most { result ≤ Self.MAX_LEN }
         ensures distinct { IsTrue (are_distinct self.now) }
     {
         self.set.len()
@@ -102,7 +102,7 @@ impl Symbols {
 
         // `Full` comes exactly where the symbol is new and there is no room for it.
         ensures full { (result ≡ Err AddFault.Full)
-            ↔ (¬ (Contains self.old (the_symbol s)) × (length self.old ≡ 65536)) }
+            ↔ (¬ (Contains self.old (the_symbol s)) × (length self.old ≡ Self.MAX_LEN)) }
         ensures err { OnErr result (self.new ≡ self.old) }
     {
         if let Some(id) = self.find(&s) {
