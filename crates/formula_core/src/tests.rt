@@ -123,23 +123,41 @@ fn symbol(alloc: Global, name: u8, class: SymbolClass) -> Result<Symbol, NoMemor
     })
 }
 
+// The place of a symbol that is added.
+fn added(symbols: &mut Symbols, alloc: Global, name: u8, class: SymbolClass) -> Result<u32, Fail> {
+    let id = symbols.add(symbol(alloc, name, class)?)?;
+    Ok(id.0)
+}
+
 #[test]
 fn numbers_symbols(rt: HostRuntime) -> Result<(), Fail> {
     let alloc = rt.alloc();
     let mut symbols = Symbols::new(alloc);
-    let first = symbols.add(symbol(alloc, b'p', SymbolClass::Predicate)?)?;
-    assert_eq!(rt; first, SymbolId(0));
-    let second = symbols.add(symbol(alloc, b'p', SymbolClass::Function)?)?;
-    assert_eq!(rt; second, SymbolId(1));
-    let again = symbols.add(symbol(alloc, b'p', SymbolClass::Predicate)?)?;
-    assert_eq!(rt; again, SymbolId(0));
-    assert_eq!(rt; symbols.len(), 2);
     assert_eq!(rt;
-        symbols.find(&symbol(alloc, b'q', SymbolClass::Function)?),
-        None
+        added(&mut symbols, alloc, b'p', SymbolClass::Predicate)?,
+        0
     );
-    assert_eq!(rt; symbols.get(SymbolId(1)).arity, 1);
+    assert_eq!(rt; added(&mut symbols, alloc, b'p', SymbolClass::Function)?, 1);
+    assert_eq!(rt;
+        added(&mut symbols, alloc, b'p', SymbolClass::Predicate)?,
+        0
+    );
+    assert_eq!(rt; symbols.len(), 2);
     assert_eq!(rt; symbols.items().len(), 2);
+    Ok(())
+}
+
+#[test]
+fn finds_symbols(rt: HostRuntime) -> Result<(), Fail> {
+    let alloc = rt.alloc();
+    let mut symbols = Symbols::new(alloc);
+    let place = added(&mut symbols, alloc, b'p', SymbolClass::Function)?;
+    assert_eq!(rt;
+        symbols.find(&symbol(alloc, b'p', SymbolClass::Function)?),
+        Some(SymbolId(place))
+    );
+    assert!(rt; (place as usize) < symbols.len());
+    assert_eq!(rt; symbols.get(SymbolId(place)).arity, 1);
     Ok(())
 }
 
