@@ -139,16 +139,24 @@ mod tests {
     use super::*;
     use std::test::Fail;
 
-    // The second put takes three bytes and fails; the fourth does not fit.
+    // A sink of nine bytes, of which the second put takes three and fails.
+    fn sink(alloc: Global) -> Result<MemSink, NoMemory> {
+        let failing = Vec::from_slice(alloc, &[(2, 3)])?;
+        MemSink::new(alloc, 9, failing)
+    }
+
+    fn is_put(sink: &mut MemSink, bytes: &[u8]) -> bool {
+        sink.put(bytes).is_ok()
+    }
+
+    // The fourth put does not fit.
     #[test]
     fn takes_what_fits(rt: HostRuntime) -> Result<(), Fail> {
-        let mut failing = Vec::new(rt.alloc());
-        failing.push((2, 3))?;
-        let mut sink = MemSink::new(rt.alloc(), 9, failing)?;
-        assert_eq!(rt; sink.put(b"abcd".as_slice()), Ok(()));
-        assert_eq!(rt; sink.put(b"efgh".as_slice()), Err(PutFault::Failed));
-        assert_eq!(rt; sink.put(b"i".as_slice()), Ok(()));
-        assert_eq!(rt; sink.put(b"jk".as_slice()), Err(PutFault::Failed));
+        let mut sink = sink(rt.alloc())?;
+        assert!(rt; is_put(&mut sink, b"abcd"));
+        assert!(rt; !is_put(&mut sink, b"efgh"));
+        assert!(rt; is_put(&mut sink, b"i"));
+        assert!(rt; !is_put(&mut sink, b"jk"));
         assert!(rt; sink.written() == b"abcdefgij".as_slice());
         Ok(())
     }
