@@ -17,7 +17,6 @@ ghost use Rattle.std.specs.Prelude.{option_copied};
 use crate::atom::are_same_atom;
 use crate::condition::{arguments_fit, home_is, is_known, is_new, is_reachable, term_allowed};
 use crate::entry::{Entry, Sequent};
-use crate::labels::{are_equal, copy_label, pi_label};
 use crate::names::Names;
 use crate::rules::ApplyFault;
 use crate::step::{ModalArg, Step, TermArg};
@@ -46,9 +45,9 @@ fn label_after(
     ensures { IfOk result (λ at. at ≡ label_after logic label.now (the_modal modal.now)) }
 {
     match modal {
-        ModalArg::None => copy_label(alloc, label),
-        ModalArg::To(to) => copy_label(alloc, to),
-        ModalArg::New(number) => pi_label(alloc, logic, label, Mark::New(*number)),
+        ModalArg::None => label.copy(alloc),
+        ModalArg::To(to) => to.copy(alloc),
+        ModalArg::New(number) => label.after_pi(alloc, logic, Mark::New(*number)),
     }
 }
 
@@ -68,7 +67,7 @@ fn component(
         TermArg::Term(t) => formula.instance(alloc, t)?,
         TermArg::Name(number) => formula.instance(alloc, &Term::Eigen(*number))?,
     };
-    let label = copy_label(alloc, at)?;
+    let label = at.copy(alloc)?;
     Ok(Entry {
         sign,
         formula,
@@ -201,7 +200,7 @@ fn connects(given: &Entry, shown: &Entry) -> bool
     given.sign == Sign::T
         && shown.sign == Sign::F
         && are_same_atom(&given.formula, &shown.formula)
-        && are_equal(&given.label, &shown.label)
+        && given.label.is_equal(&shown.label)
 }
 
 // Entries are numbered from 1.

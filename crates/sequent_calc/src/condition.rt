@@ -8,7 +8,6 @@ ghost use Rattle.sequent_calc.specs.EntryView.{the_entry};
 ghost use Rattle.sequent_calc.specs.StepView.{the_modal, the_term_arg};
 
 use crate::entry::Entry;
-use crate::labels::{are_equal, holds_character, is_reached};
 use crate::leaf::{LeafTest, any_leaf, any_leaf_in, eigen_named};
 use crate::names::Names;
 use crate::step::{ModalArg, TermArg};
@@ -69,7 +68,7 @@ pub fn is_reachable(logic: Logic, from: &Label, modal: &ModalArg) -> bool
     ensures { result ≡ is_reachable logic from.now (the_modal modal.now) }
 {
     match modal {
-        ModalArg::To(to) => is_reached(logic, from, to),
+        ModalArg::To(to) => from.reaches(logic, to),
         ModalArg::None | ModalArg::New(_) => true,
     }
 }
@@ -79,7 +78,7 @@ fn character_occurs(names: &Names, mark: Mark, sequent: &[Entry]) -> bool
     ensures { result ≡ character_occurs (the_names names.now) (the_character mark) (map the_entry sequent.now) }
 {
     for entry in sequent {
-        if holds_character(mark, &entry.label) {
+        if entry.label.holds(mark) {
             return true;
         }
         if any_leaf_in(&LeafTest::HasInHome(names, mark), &entry.formula) {
@@ -123,7 +122,7 @@ pub fn home_is(names: &Names, at: &Label, term: &TermArg) -> bool
 {
     match term {
         TermArg::Name(number) => match eigen_named(names, *number) {
-            Some(name) => are_equal(&name.1, at),
+            Some(name) => name.1.is_equal(at),
             None => false,
         },
         TermArg::None | TermArg::Term(_) => true,

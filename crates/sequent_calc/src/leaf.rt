@@ -13,7 +13,6 @@ ghost use Rattle.sequent_calc.specs.DerivationView.{the_names};
 ghost use Rattle.sequent_calc.specs.LeafView.{the_test};
 ghost use Rattle.sequent_calc.specs.NamesView.{the_eigen, the_home, the_spare};
 
-use crate::labels::{holds_character, is_home_at};
 use crate::names::{Home, Names};
 use formula_core::{Formula, Term, Terms};
 use logic_rules::{Label, Mark, Problem};
@@ -59,7 +58,7 @@ fn home_holds(mark: Mark, home: &Home) -> bool
 {
     match home {
         Home::Anywhere => false,
-        Home::At(label) => holds_character(mark, label),
+        Home::At(label) => label.holds(mark),
     }
 }
 
@@ -68,7 +67,7 @@ fn spare_allowed(problem: &Problem, home: &Home, at: &Label) -> bool
 {
     match home {
         Home::Anywhere => problem.common_spares(),
-        Home::At(label) => is_home_at(problem.setting().domains(), label, at),
+        Home::At(label) => label.is_home_at(problem.setting().domains(), at),
     }
 }
 
@@ -78,12 +77,12 @@ fn passes_eigen(test: &LeafTest, number: u32) -> bool
     match test {
         LeafTest::IsEigen(sought) => *sought == number,
         LeafTest::HasInHome(names, mark) => match eigen_named(names, number) {
-            Some(name) => holds_character(*mark, &name.1),
+            Some(name) => name.1.holds(*mark),
             None => false,
         },
         LeafTest::IsUnknown(names) => eigen_named(names, number).is_none(),
         LeafTest::IsForbidden(problem, names, label) => match eigen_named(names, number) {
-            Some(name) => !is_home_at(problem.setting().domains(), &name.1, label),
+            Some(name) => !name.1.is_home_at(problem.setting().domains(), label),
             None => true,
         },
     }

@@ -8,7 +8,6 @@ mod atom;
 mod condition;
 mod derivation;
 mod entry;
-mod labels;
 mod leaf;
 mod names;
 mod rules;

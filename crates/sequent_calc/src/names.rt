@@ -15,7 +15,8 @@ pub enum Home {
     At(Label),
 }
 
-/// The eigenvariables of a derivation with their homes, in rising order of numbers.
+/// The eigenvariables of a derivation with their homes, in the order in which they were added. Any numbers may stand
+/// here: that they rise is a demand of the text of a derivation.
 #[derive(Drop)]
 pub struct EigenList {
     items: Vec<(u32, Label)>,
@@ -58,7 +59,8 @@ impl EigenList {
     }
 }
 
-/// The spare constants of a derivation with their homes, in rising order of numbers.
+/// The spare constants of a derivation with their homes, in the order in which they were added. Any numbers may stand
+/// here: that they rise is a demand of the text of a derivation.
 #[derive(Drop)]
 pub struct SpareList {
     items: Vec<(u32, Home)>,

@@ -12,7 +12,6 @@ ghost use Rattle.sequent_calc.specs.StepView.{the_step};
 
 use crate::addition::{Addition, addition_of};
 use crate::entry::{Entry, Sequent};
-use crate::labels::copy_label;
 use crate::names::Names;
 use crate::step::Step;
 pub use calculus::fault::StepFault;
@@ -52,7 +51,7 @@ fn copy_entry(alloc: Global, entry: &Entry) -> Result<Entry, NoMemory>
     ensures { IfOk result (λ e. the_entry e ≡ the_entry entry.now) }
 {
     let formula = entry.formula.copy(alloc)?;
-    let label = copy_label(alloc, &entry.label)?;
+    let label = entry.label.copy(alloc)?;
     Ok(Entry {
         sign: entry.sign,
         formula,

@@ -4,7 +4,7 @@ use Rattle.calculus.specs.Equality.{list_eq}
 use Rattle.logic_rules.specs.MarkView.{the_character}
 use Rattle.logic_rules.proofs.LabelMaps.{list_eq-map}
 use Rattle.logic_rules.proofs.MarkEq.{mark_eq-character}
-use Rattle.sequent_calc.proofs.labels.are_equal.Goals as goal
+use Rattle.logic_rules.proofs.label.Label.is_equal.Goals as goal
 
 pub returns : goal.returns
 returns c =

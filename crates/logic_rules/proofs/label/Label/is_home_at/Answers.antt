@@ -4,7 +4,7 @@ use Rattle.calculus.specs.Labels.{home_allows}
 use Rattle.logic_rules.specs.MarkView.{the_character}
 use Rattle.logic_rules.proofs.LabelMaps.{home_allows-map}
 use Rattle.logic_rules.proofs.MarkEq.{mark_eq-character}
-use Rattle.sequent_calc.proofs.labels.is_home_at.Goals as goal
+use Rattle.logic_rules.proofs.label.Label.is_home_at.Goals as goal
 
 pub returns : goal.returns
 returns c =

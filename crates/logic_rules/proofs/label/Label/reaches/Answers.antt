@@ -4,7 +4,7 @@ use Rattle.calculus.specs.Labels.{steps_to}
 use Rattle.logic_rules.specs.MarkView.{the_character}
 use Rattle.logic_rules.proofs.LabelMaps.{steps_to-map}
 use Rattle.logic_rules.proofs.MarkEq.{mark_eq-character}
-use Rattle.sequent_calc.proofs.labels.is_reached.Goals as goal
+use Rattle.logic_rules.proofs.label.Label.reaches.Goals as goal
 
 pub returns : goal.returns
 returns c =
