@@ -1,7 +1,8 @@
-//! The trusted edge: files of the runtime, and a writer. Nothing is told of what a file holds or a terminal shows, so
-//! over these two only counts can be relied on.
+//! The trusted edge: files of the runtime, and a writer. Nothing is told of what a file holds or a
+//! terminal shows, so over these two only counts can be relied on.
 
-ghost use Rattle.std.specs.Prelude.{◌≡◌, ◌≢◌, ◌+◌, ◌<◌, ◌≤◌, ℕ, List, None, IfOk, IfSome, OnOk, OnErr, length, take, vec_len};
+ghost use Rattle.std.specs.Prelude.{◌≡◌, ◌≢◌, ◌+◌, ◌<◌, ◌≤◌, ℕ, List, None, IfOk, IfSome, OnOk};
+ghost use Rattle.std.specs.Prelude.{OnErr, length, take, vec_len};
 ghost use Rattle.std.specs.Io.KnownBytes.{Appends};
 ghost use Rattle.cop_base.specs.Outside.{Rose, with_bytes};
 ghost use Rattle.cop_base.specs.Memory.{counted};
@@ -37,7 +38,8 @@ impl<'a, R: Files> FileLibrary<'a, R> {
         }
     }
 
-    // Raises the count that the fault calls for: of a missing file, or of a failed read. Want of memory is not counted.
+    // Raises the count that the fault calls for: of a missing file, or of a failed read. Want of
+    // memory is not counted.
     fn count(&mut self, fault: FetchFault)
         ensures missing { fault ≡ FetchFault.Missing → self.new.misses ≡ counted self.old.misses }
         ensures failed { fault ≡ FetchFault.Failed → self.new.faults ≡ counted self.old.faults }
@@ -70,8 +72,9 @@ fn open_fault(error: &io::Error) -> FetchFault
     }
 }
 
-/// What a reader has left, to its end, or `None` where that is more than `limit` bytes. A fetch from a `FileLibrary`
-/// answers what this reads: std tells nothing by which its contract could name the file that was opened.
+/// What a reader has left, to its end, or `None` where that is more than `limit` bytes. A fetch
+/// from a `FileLibrary` answers what this reads: std tells nothing by which its contract could name
+/// the file that was opened.
 pub fn read_whole<F: Read>(alloc: Global, file: &mut F, limit: u64) -> io::Result<Option<Vec<u8>>>
     ensures within { IfOk result (λ read. IfSome read (λ bytes. vec_len bytes ≤ limit)) }
     ensures limited { result ≡ Ok None → limit ≢ u64.MAX }
@@ -153,7 +156,8 @@ impl<W: Write + Drop> Sink for WriteSink<W> {
 
     fn put(&mut self, bytes: &[u8]) -> Result<(), PutFault>
         // Where the writer tells its contents, they grow by the bytes.
-        ensures passed { OnOk result (Appends (W.contents self.old.writer) (W.contents self.new.writer) bytes.now) }
+        ensures passed { OnOk result
+            (Appends (W.contents self.old.writer) (W.contents self.new.writer) bytes.now) }
         ensures more_faults { self.old.faults ≤ self.new.faults }
         ensures ok { OnOk result (None ≡ with_bytes None bytes.now) }
         ensures failed { OnErr result (Rose self.old.faults self.new.faults) }

@@ -1,5 +1,3 @@
-//! The budget of a search.
-
 ghost use Rattle.std.specs.Prelude.{◌≡◌, ◌+◌, ◌<◌, ◌≤◌, ◌↔◌, IsTrue, if◌then◌else◌, nat_lt};
 
 /// How many steps may be taken, and how many were. Who spends a step takes it first.

@@ -1,5 +1,5 @@
-//! What every crate of the prover uses of the outside: where files are read and bytes are written, byte texts,
-//! typed numbers, and the budget of a search.
+//! What every crate of the prover uses of the outside: where files are read and bytes are written,
+//! byte texts, typed numbers, and the budget of a search.
 #![tactic(auto)]
 
 use std::alloc::{AllocError, AllocFailed};

@@ -2,7 +2,10 @@
 
 ghost use Rattle.std.specs.Prelude.{◌≡◌, ◌∷◌, [], ◌++◌, List, None, IfOk, Some, Ok, Err, map};
 ghost use Rattle.calculus.specs.declared.fault.StepFault.{StepFault};
-ghost use Rattle.calculus.specs.Calculus.{Children, apply, children_of, close_branch, conditions_of_use, connects, entry_at, entry_of, first_fault, label_after, use_entry, with_argument, with_components};
+ghost use Rattle.calculus.specs.Calculus.{Children, apply, children_of, close_branch};
+ghost use Rattle.calculus.specs.Calculus.{conditions_of_use, connects, entry_at, entry_of};
+ghost use Rattle.calculus.specs.Calculus.{first_fault, label_after, use_entry, with_argument};
+ghost use Rattle.calculus.specs.Calculus.{with_components};
 ghost use Rattle.calculus.specs.Kinds.{components, modal_of, shape_of, signed};
 ghost use Rattle.formula_core.specs.FormulaView.{the_formula};
 ghost use Rattle.calculus.specs.Calculus as calculus;
@@ -26,13 +29,15 @@ use formula_core::{Formula, Sign, Term};
 use logic_rules::{Kind, Label, Logic, Mark, Problem, Shape, kind_of};
 use std::alloc::{AllocError, Global};
 
-/// What a step adds to the open sequent: nothing where it closes the branch, entries, or one entry on each of two
-/// branches.
+/// What a step does to the open sequent.
 #[derive(Drop)]
 pub enum Addition {
-    Nothing,
-    One(Sequent),
-    Two(Entry, Entry),
+    /// The branch is closed.
+    Close,
+    /// The branch grows by these entries.
+    Extend(Sequent),
+    /// The branch splits in two, which grow by one entry each.
+    Fork(Entry, Entry),
 }
 
 // The label of the components.
@@ -60,7 +65,8 @@ fn component(
     term: &TermArg,
 ) -> Result<Entry, NoMemory>
     ensures { IfOk result (λ e. the_entry e
-        ≡ entry_at at.now (with_argument (the_term_arg term.now) (signed sign (the_formula formula.now)))) }
+        ≡ entry_at at.now (with_argument (the_term_arg term.now)
+        (signed sign (the_formula formula.now)))) }
 {
     let formula = match term {
         TermArg::None => formula.copy(alloc)?,
@@ -76,11 +82,12 @@ fn component(
 }
 
 fn one(alloc: Global, entry: Entry) -> Result<Addition, NoMemory>
-    ensures { IfOk result (λ a. (s : List derivation.Entry) → children_by s a ≡ calculus.one (s ++ the_entry entry ∷ [])) }
+    ensures { IfOk result (λ a. (s : List derivation.Entry) → children_by s a
+        ≡ calculus.one (s ++ the_entry entry ∷ [])) }
 {
     let mut entries = Sequent::new(alloc);
     entries.push(entry)?;
-    Ok(Addition::One(entries))
+    Ok(Addition::Extend(entries))
 }
 
 fn two(alloc: Global, shape: Shape, first: Entry, second: Entry) -> Result<Addition, NoMemory>
@@ -88,12 +95,12 @@ fn two(alloc: Global, shape: Shape, first: Entry, second: Entry) -> Result<Addit
         ≡ children_of_two shape s (the_entry first) (the_entry second)) }
 {
     match shape {
-        Shape::Beta => Ok(Addition::Two(first, second)),
+        Shape::Beta => Ok(Addition::Fork(first, second)),
         Shape::Alpha | Shape::Gamma | Shape::Delta | Shape::Literal => {
             let mut entries = Sequent::new(alloc);
             entries.push(first)?;
             entries.push(second)?;
-            Ok(Addition::One(entries))
+            Ok(Addition::Extend(entries))
         }
     }
 }
@@ -141,11 +148,15 @@ fn use_fault(
     kind: Kind,
     at: &Label,
 ) -> Option<StepFault>
-    requires modal { kind.modal ≡ modal_of problem.now.setting.logic entry.now.sign (the_formula entry.now.formula) }
+    requires modal { kind.modal
+        ≡ modal_of problem.now.setting.logic entry.now.sign (the_formula entry.now.formula) }
     requires shape { kind.shape ≡ shape_of entry.now.sign (the_formula entry.now.formula) }
-    requires label { at.now ≡ label_after problem.now.setting.logic entry.now.label (the_modal modal.now) }
-    ensures { (c : calculus.Children) → first_fault (conditions_of_use problem.now (the_names names.now)
-        (map the_entry sequent.now) (the_entry entry.now) (the_modal modal.now) (the_term_arg term.now)) c ≡ faulty c result }
+    requires label { at.now
+        ≡ label_after problem.now.setting.logic entry.now.label (the_modal modal.now) }
+    ensures { (c : calculus.Children) → first_fault
+        (conditions_of_use problem.now (the_names names.now) (map the_entry sequent.now)
+        (the_entry entry.now) (the_modal modal.now) (the_term_arg term.now)) c
+        ≡ faulty c result }
 {
     let logic = problem.setting().logic();
     if !arguments_fit(kind, modal, term) {
@@ -178,11 +189,13 @@ fn added_by_use(
     modal: &ModalArg,
     term: &TermArg,
 ) -> Result<Addition, ApplyFault>
-    ensures added { IfOk result (λ a. use_entry problem.now (the_names names.now) (map the_entry sequent.now)
+    ensures added { IfOk result (λ a. use_entry
+        problem.now (the_names names.now) (map the_entry sequent.now)
         (Some (the_entry entry.now)) (the_modal modal.now) (the_term_arg term.now)
         ≡ Ok (children_by (map the_entry sequent.now) a)) }
-    ensures fault { (f : StepFault) → result ≡ Err (ApplyFault.Fault f) → use_entry problem.now (the_names names.now)
-        (map the_entry sequent.now) (Some (the_entry entry.now)) (the_modal modal.now) (the_term_arg term.now) ≡ Err f }
+    ensures fault { (f : StepFault) → result ≡ Err (ApplyFault.Fault f)
+        → use_entry problem.now (the_names names.now) (map the_entry sequent.now)
+        (Some (the_entry entry.now)) (the_modal modal.now) (the_term_arg term.now) ≡ Err f }
 {
     let logic = problem.setting().logic();
     let kind = kind_of(logic, entry.sign, &entry.formula);
@@ -205,7 +218,8 @@ fn connects(given: &Entry, shown: &Entry) -> bool
 
 // Entries are numbered from 1.
 fn entry_of(sequent: &[Entry], number: u32) -> Option<&Entry>
-    ensures { option_map the_entry (option_copied result) ≡ entry_of (map the_entry sequent.now) number }
+    ensures { option_map the_entry (option_copied result)
+        ≡ entry_of (map the_entry sequent.now) number }
 {
     if number == 0 {
         return None;
@@ -217,8 +231,8 @@ fn entry_of(sequent: &[Entry], number: u32) -> Option<&Entry>
     Some(&sequent[place])
 }
 
-/// What a step adds to a sequent, or the first demand of the rules that it does not meet. Nothing of the sequent but the
-/// components is copied, for callers that grow a branch in place.
+/// What a step adds to a sequent, or the first demand of the rules that it does not meet. Nothing
+/// of the sequent but the components is copied, for callers that grow a branch in place.
 pub fn addition_of(
     alloc: Global,
     problem: &Problem,
@@ -226,10 +240,12 @@ pub fn addition_of(
     sequent: &[Entry],
     step: &Step,
 ) -> Result<Addition, ApplyFault>
-    ensures added { IfOk result (λ a. apply problem.now (the_names names.now) (map the_entry sequent.now)
+    ensures added { IfOk result (λ a. apply
+        problem.now (the_names names.now) (map the_entry sequent.now)
         (the_step step.now) ≡ Ok (children_by (map the_entry sequent.now) a)) }
     ensures fault { (f : StepFault) → result ≡ Err (ApplyFault.Fault f)
-        → apply problem.now (the_names names.now) (map the_entry sequent.now) (the_step step.now) ≡ Err f }
+        → apply problem.now (the_names names.now) (map the_entry sequent.now) (the_step step.now)
+        ≡ Err f }
 {
     match step {
         Step::Use { entry, modal, term } => match entry_of(sequent, *entry) {
@@ -242,7 +258,7 @@ pub fn addition_of(
         ) {
             (Some(given), Some(shown)) => {
                 if connects(given, shown) {
-                    Ok(Addition::Nothing)
+                    Ok(Addition::Close)
                 } else {
                     Err(ApplyFault::Fault(StepFault::NoConnection))
                 }

@@ -1,7 +1,9 @@
-//! The conditions of a step.
+//! What the rules demand of the arguments of a step.
 
 ghost use Rattle.std.specs.Prelude.{◌≡◌, ◌&&◌, map};
-ghost use Rattle.calculus.specs.Calculus.{character_is_new, character_occurs, eigen_is_new, eigen_occurs, has_step, home_is, is_known, is_reachable, modal_fits, term_allowed, term_fits};
+ghost use Rattle.calculus.specs.Calculus.{character_is_new, character_occurs, eigen_is_new};
+ghost use Rattle.calculus.specs.Calculus.{eigen_occurs, has_step, home_is, is_known, is_reachable};
+ghost use Rattle.calculus.specs.Calculus.{modal_fits, term_allowed, term_fits};
 ghost use Rattle.logic_rules.specs.MarkView.{the_character};
 ghost use Rattle.sequent_calc.specs.DerivationView.{the_names};
 ghost use Rattle.sequent_calc.specs.EntryView.{the_entry};
@@ -13,7 +15,8 @@ use crate::names::Names;
 use crate::step::{ModalArg, TermArg};
 use logic_rules::{Kind, Label, Logic, Mark, ModalPart, Problem, Shape};
 
-/// Whether the arguments are just those that the kind of formula asks for. A literal without a modal part has no step.
+/// Whether the arguments are just those that the kind of formula asks for. A literal without a
+/// modal part has no step.
 pub fn arguments_fit(kind: Kind, modal: &ModalArg, term: &TermArg) -> bool
     ensures { result ≡ (modal_fits kind.modal (the_modal modal.now)
         && term_fits kind.shape (the_term_arg term.now) && has_step kind.modal kind.shape) }
@@ -73,9 +76,11 @@ pub fn is_reachable(logic: Logic, from: &Label, modal: &ModalArg) -> bool
     }
 }
 
-// Whether the character stands in a label of the sequent, or in the home of a name that stands in a formula there.
-fn character_occurs(names: &Names, mark: Mark, sequent: &[Entry]) -> bool
-    ensures { result ≡ character_occurs (the_names names.now) (the_character mark) (map the_entry sequent.now) }
+// Whether the mark stands in a label of the sequent, or in the home of a name that stands in a
+// formula there.
+fn mark_occurs(names: &Names, mark: Mark, sequent: &[Entry]) -> bool
+    ensures { result
+        ≡ character_occurs (the_names names.now) (the_character mark) (map the_entry sequent.now) }
 {
     for entry in sequent {
         if entry.label.holds(mark) {
@@ -100,20 +105,21 @@ fn eigen_occurs(number: u32, sequent: &[Entry]) -> bool
     false
 }
 
-/// Whether the character or eigenvariable that the step brings occurs nowhere in the sequent.
+/// Whether the mark or eigenvariable that the step brings occurs nowhere in the sequent.
 pub fn is_new(names: &Names, sequent: &[Entry], modal: &ModalArg, term: &TermArg) -> bool
-    ensures { result ≡ (character_is_new (the_names names.now) (map the_entry sequent.now) (the_modal modal.now)
+    ensures { result
+        ≡ (character_is_new (the_names names.now) (map the_entry sequent.now) (the_modal modal.now)
         && eigen_is_new (map the_entry sequent.now) (the_term_arg term.now)) }
 {
-    let character_is_new = match modal {
-        ModalArg::New(number) => !character_occurs(names, Mark::New(*number), sequent),
+    let mark_is_new = match modal {
+        ModalArg::New(number) => !mark_occurs(names, Mark::New(*number), sequent),
         ModalArg::None | ModalArg::To(_) => true,
     };
     let eigen_is_new = match term {
         TermArg::Name(number) => !eigen_occurs(*number, sequent),
         TermArg::None | TermArg::Term(_) => true,
     };
-    character_is_new && eigen_is_new
+    mark_is_new && eigen_is_new
 }
 
 /// Whether the home of the eigenvariable is the label of the component.
@@ -131,7 +137,8 @@ pub fn home_is(names: &Names, at: &Label, term: &TermArg) -> bool
 
 /// Whether the term of a gamma step may stand at the label of the component.
 pub fn term_allowed(problem: &Problem, names: &Names, at: &Label, term: &TermArg) -> bool
-    ensures { result ≡ term_allowed problem.now (the_names names.now) at.now (the_term_arg term.now) }
+    ensures { result
+        ≡ term_allowed problem.now (the_names names.now) at.now (the_term_arg term.now) }
 {
     match term {
         TermArg::Term(t) => !any_leaf(&LeafTest::IsForbidden(problem, names, at), t),

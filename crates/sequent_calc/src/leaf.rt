@@ -1,4 +1,5 @@
-//! Tests of the leaves of terms: the variables, eigenvariables and spare constants that stand in them.
+//! Tests of the leaves of terms: the variables, eigenvariables and spare constants that stand in
+//! them.
 
 ghost use Rattle.std.specs.Prelude.{◌≡◌, option_copied};
 ghost use Rattle.std.specs.Option.{option_map};
@@ -22,7 +23,7 @@ use logic_rules::{Label, Mark, Problem};
 pub enum LeafTest<'a> {
     /// Whether it is the eigenvariable of this number.
     IsEigen(u32),
-    /// Whether the character stands in its home.
+    /// Whether the mark stands in its home.
     HasInHome(&'a Names, Mark),
     /// Whether it is a name that is not listed.
     IsUnknown(&'a Names),
@@ -32,7 +33,8 @@ pub enum LeafTest<'a> {
 
 /// The first name of this number.
 pub fn eigen_named(names: &Names, number: u32) -> Option<&(u32, Label)>
-    ensures { option_map the_eigen (option_copied result) ≡ eigen_named (the_names names.now) number }
+    ensures { option_map the_eigen (option_copied result)
+        ≡ eigen_named (the_names names.now) number }
 {
     for name in names.eigens.items() {
         if name.0 == number {
@@ -43,7 +45,8 @@ pub fn eigen_named(names: &Names, number: u32) -> Option<&(u32, Label)>
 }
 
 fn spare_named(names: &Names, number: u32) -> Option<&(u32, Home)>
-    ensures { option_map the_spare (option_copied result) ≡ spare_named (the_names names.now) number }
+    ensures { option_map the_spare (option_copied result)
+        ≡ spare_named (the_names names.now) number }
 {
     for name in names.spares.items() {
         if name.0 == number {
