@@ -185,10 +185,10 @@ pub fn run<L: Library, K: Sink>(
     ensures judged { ¬ Rose (L.faults lib.old) (L.faults lib.new) → ¬ Rose (K.faults out.old) (K.faults out.new)
         → IsCheckable (L.holds lib.old) (asked words.now.items) → IsJudged result }
 
-    // A formula that is false at the root of a finite structure of its setting has no derivation, in any logic.
+    // Laws over the definitions, which hold of them whatever the body does: what is false at the root of a finite
+    // structure of its setting has no derivation, in any logic, and the clauses of tableaux are the instances that the
+    // rules define by cases.
     ensures sound { (P : tree.Problem) → IsTrue (is_problem P) → IsSound P }
-
-    // The clauses of tableaux are the instances that the rules define by cases.
     ensures instances { (P : tree.Problem) → ComputesInstances P }
 {
     match answer(alloc, words.as_slice(), lib) {
