@@ -65,7 +65,7 @@ pub mod DerivationTextLaws
 pub mod JudgementLaws
 -- stores
 pub mod StoreLaws
--- soundness in finite structures
+-- soundness in structures
 pub mod MemberLaws
 pub mod StructureLaws
 pub mod WorldLaws
@@ -74,6 +74,7 @@ pub mod SignedTruth
 pub mod Interpretations
 pub mod Extensions
 pub mod StepSoundness
+pub mod FiniteModels
 pub mod SoundnessLaws
 pub mod TautologyLaws
 pub mod PersistenceLaws

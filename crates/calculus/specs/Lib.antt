@@ -41,6 +41,7 @@ pub mod Stores
 pub mod Systems
 -- meaning, and the way into S4
 pub mod Structures
+pub mod Models
 pub mod Soundness
 pub mod Translation
 -- the lists inside trees as lists, and what models of program types need
