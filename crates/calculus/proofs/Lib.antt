@@ -105,5 +105,6 @@ mod ConversionExamples
 mod LabelExamples
 mod StructureExamples
 mod SoundnessExamples
+mod ModelExamples
 mod SparesExamples
 mod Stress
