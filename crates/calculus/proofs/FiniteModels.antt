@@ -1,5 +1,5 @@
 -- Finite structures are structures: truth in them, which is computed, says of formulas what truth is to say.
-use Rattle.std.proofs.Common.{◌≡◌, ℕ, suc, List, [], ◌∷◌, length, Bool, true, false, not, ◌&&◌, ◌||◌, ◌==◌, IsTrue, refl, ap, subst, arith, eqb-true, eq-eqb, slice_index, nat_lt}
+use Rattle.std.proofs.Common.{◌≡◌, ℕ, suc, List, [], ◌∷◌, length, Bool, true, false, not, ◌&&◌, ◌||◌, ◌==◌, IsTrue, refl, ap, subst, arith, eqb-true, slice_index, nat_lt}
 use Rattle.std.specs.List.{list_all, list_any}
 use Rattle.std.proofs.lemmas.Bool.{false≢true, and_parts, and_from, ltb-true}
 use Rattle.calculus.specs.declared.setting.Logic.{Logic}
@@ -82,7 +82,6 @@ truth-computed l S names symbols d (dia a) h env w =
 abbrev pub model_of : Logic → Structure → Model ℕ ℕ
 model_of l S = record {
   is_world = λ w. nat_lt w (length S.successors);
-  same_world = λ w v. w == v;
   root = 0;
   reaches = λ w v. contains (successors_of S w) v;
   a_successor = λ w. first_of_list (successors_of S w);
@@ -194,8 +193,6 @@ is-model P S c =
     record {
       root = r.root;
       successors = λ w v world reached. successor-world S r w v reached;
-      equal = λ w v e. eqb-true w v e;
-      itself = λ w. eq-eqb w w refl;
       inhabited = λ w world. first-element-in P S c w world;
       relation = relation-of l l S c.relation;
       domains = domains-of P.setting.domains l S c.domains;

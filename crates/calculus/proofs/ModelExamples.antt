@@ -1,6 +1,6 @@
 -- An infinite structure: the worlds are the natural numbers in their order, the domain of w has the numbers up to w, functions have the
 -- value 0 and atoms are true. So the conditions on structures of any size are met by one that is not finite, and it refutes a formula.
-use Rattle.std.proofs.Common.{◌≡◌, ℕ, [], ◌∷◌, Bool, true, false, not, ◌&&◌, ◌||◌, ◌==◌, refl, IsTrue, arith, eqb-true, eq-eqb, nat_le}
+use Rattle.std.proofs.Common.{◌≡◌, ℕ, [], ◌∷◌, Bool, true, false, not, ◌&&◌, ◌||◌, refl, IsTrue, arith, nat_le}
 use Rattle.std.specs.Prelude.{codes}
 use Rattle.std.proofs.lemmas.Bool.{and_from, leb-true, le-leb}
 use Rattle.calculus.specs.declared.symbol.SymbolClass.TheVariants.{Predicate}
@@ -27,7 +27,6 @@ uniform (dia a) = uniform a
 abbrev line : Model ℕ ℕ
 line = record {
   is_world = λ w. true;
-  same_world = λ w v. w == v;
   root = 0;
   reaches = λ w v. nat_le w v;
   a_successor = λ w. w;
@@ -87,8 +86,6 @@ unfolding problem
 line-model = record {
   root = refl;
   successors = λ w v world reached. refl;
-  equal = λ w v e. eqb-true w v e;
-  itself = λ w. eq-eqb w w refl;
   inhabited = λ w world. least w;
   relation = (λ w world. itself w, λ w v u world first second. on w v u first second);
   domains = λ w v x world step inside. on x w v inside step;

@@ -21,7 +21,7 @@ use Rattle.calculus.specs.DerivationText.{term_arg_is_written}
 use Rattle.calculus.specs.Models.{Model, Reaches, IsIn, value_by, ForAll, HasTruth, IsModel}
 use Rattle.calculus.proofs.EqualityLaws.{sign_eq-tells, formula_eq-tells, list_eq-tells, character_eq-tells}
 use Rattle.calculus.proofs.SequentLaws.{AreMet}
-use Rattle.calculus.proofs.WorldLaws.{range_of, world_of, along-world, step-reaches, pi_start, pi-world, pi_start-reaches}
+use Rattle.calculus.proofs.WorldLaws.{range_of, world_of, along-world, step-reaches, pi-world, pi_start-reaches}
 use Rattle.calculus.proofs.NamedTruth.{truth-same, AgreeBut, truth-instance, written-has, term-in}
 use Rattle.calculus.proofs.SignedTruth.{sign_value, OnModal, Behind, modal-truth, EachSigned, EitherSigned, SignedHolds, OnShape, shape-truth}
 use Rattle.calculus.proofs.Interpretations.{Interpretation, IsCommon, Fits, HoldsAt, EachHolds, each-append, entry-holds, entry-without, names-in}
@@ -138,15 +138,15 @@ module _ {W E : Type 0} (P : Problem) (S : Model W E) (c : IsModel P S) (listed 
   behind-new s sat sign a w n outside unnamed new goal reached claim =
       let l = P.setting.logic in
       let I = sat.interpretation in
-      let from = pi_start l S I.step w in
-      let J = with_character S listed common (new_mark n) from goal I in
+      let start = pi_start-reaches l S (range_of P S c) c.relation I.step sat.fits.steps w goal reached in
+      let J = with_character S listed common (new_mark n) goal I in
       record {
         satisfied = record {
           interpretation = J;
-          fits = with_character-fits P S c listed common (new_mark n) from goal I (pi_start-reaches l S (range_of P S c) c.relation I.step sat.fits.steps w goal reached) sat.fits;
-          holds = with_character-holds l S c.truth listed common (new_mark n) from goal I s new sat.holds;
+          fits = with_character-fits P S c listed common (new_mark n) goal I sat.fits;
+          holds = with_character-holds l S c.truth listed common (new_mark n) goal I s new sat.holds;
         };
-        behind = subst (λ x. Behind S J.names a x (sign_value sign)) (sym (pi-world l S (range_of P S c) I.step w (new_mark n) goal outside)) (behind-same l S c.truth (is_in_home listed (new_mark n)) I.names J.names (λ t named apart. sym (with_character-agrees S listed common (new_mark n) from goal I t named apart)) a unnamed goal (sign_value sign) claim);
+        behind = subst (λ x. Behind S J.names a x (sign_value sign)) (sym (pi-world l S I.step w (new_mark n) goal start outside)) (behind-same l S c.truth (is_in_home listed (new_mark n)) I.names J.names (λ t named apart. sym (with_character-agrees S listed common (new_mark n) goal I t named apart)) a unnamed goal (sign_value sign) claim);
       }
 
   behind-modal : (s : Sequent) (sat : Satisfied S listed common s) (e : Entry) → ((n : ℕ) → character_occurs listed (new_mark n) s ≡ false → (holds_character (new_mark n) e.label || any_leaf_in (is_in_home listed (new_mark n)) e.formula) ≡ false) → (q : ModalPart) → OnModal S q (world_of S sat.interpretation.step e.label) (λ v. Behind S sat.interpretation.names e.formula v (sign_value e.sign)) → (m : ModalArg) → modal_fits q m ≡ true → is_reachable P.setting.logic e.label m ≡ true → character_is_new listed s m ≡ true → Reached S listed common s e.sign e.formula (label_after P.setting.logic e.label m)

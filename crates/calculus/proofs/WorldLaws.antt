@@ -22,15 +22,13 @@ world_along step x (c ∷ w) = world_along step (step c x) w
 abbrev pub world_of : {W E : Type 0} → Model W E → (Mark → W → W) → Label → W
 world_of S step w = world_along step S.root w
 
--- the root and the successors are worlds, and worlds have a test of equality
+-- the root and the successors are worlds
 pub record Range {W E : Type 0} (S : Model W E) : Type 0 where
   pub root : IsWorld S S.root
   pub successors : (w v : W) → IsWorld S w → Reaches S w v → IsWorld S v
-  pub equal : (w v : W) → S.same_world w v ≡ true → w ≡ v
-  pub itself : (w : W) → S.same_world w w ≡ true
 
 pub range_of : {W E : Type 0} (P : Problem) (S : Model W E) → IsModel P S → Range S
-range_of P S c = record { root = c.root; successors = c.successors; equal = c.equal; itself = c.itself }
+range_of P S c = record { root = c.root; successors = c.successors }
 
 -- each character leads from each world to a successor
 abbrev pub AreSteps : {W E : Type 0} → Model W E → (Mark → W → W) → Type 0
@@ -115,25 +113,23 @@ allowed-in Constant S r fit step h e w v allowed m = fit (world_of S step w) (wo
 allowed-in Cumulative S r fit step h e w v allowed m = prefix-in S r fit step h e S.root r.root w v allowed m
 allowed-in Varying S r fit step h e w v allowed m = subst (λ u. IsIn S (world_of S step u) e) (same-label w v allowed) m
 
--- ---- a new character leads from one world to another one
+-- ---- a new character leads to one world, from each world that reaches it
 
-abbrev pub with_step : {W E : Type 0} → Model W E → (Mark → W → W) → Mark → W → W → Mark → W → W
-with_step S step c from goal d x = if character_eq c d && S.same_world from x then goal else step d x
+abbrev pub with_step : {W E : Type 0} → Model W E → (Mark → W → W) → Mark → W → Mark → W → W
+with_step S step c goal d x = if character_eq c d && S.reaches x goal then goal else step d x
 
-pub with_step-steps : {W E : Type 0} (S : Model W E) → Range S → (step : Mark → W → W) (c : Mark) (from goal : W) → AreSteps S step → Reaches S from goal → AreSteps S (with_step S step c from goal)
-with_step-steps S r step c from goal h reached d x world = elim (cases_Bool (character_eq c d && S.same_world from x)) [
-  | inl e ↦
-      let same : from ≡ x = r.equal from x (and_parts (character_eq c d) (S.same_world from x) e).1 in
-      rw e (subst (λ z. Reaches S z goal) same reached)
+pub with_step-steps : {W E : Type 0} (S : Model W E) (step : Mark → W → W) (c : Mark) (goal : W) → AreSteps S step → AreSteps S (with_step S step c goal)
+with_step-steps S step c goal h d x world = elim (cases_Bool (character_eq c d && S.reaches x goal)) [
+  | inl e ↦ rw e ((and_parts (character_eq c d) (S.reaches x goal) e).1)
   | inr e ↦ rw e (h d x world)
 ]
 
 -- labels without the character keep their worlds
-pub with_step-same : {W E : Type 0} (S : Model W E) (step : Mark → W → W) (c : Mark) (from goal x : W) (w : Label) → holds_character c w ≡ false → world_along (with_step S step c from goal) x w ≡ world_along step x w
-with_step-same S step c from goal x [] h = refl
-with_step-same S step c from goal x (d ∷ w) h =
+pub with_step-same : {W E : Type 0} (S : Model W E) (step : Mark → W → W) (c : Mark) (goal x : W) (w : Label) → holds_character c w ≡ false → world_along (with_step S step c goal) x w ≡ world_along step x w
+with_step-same S step c goal x [] h = refl
+with_step-same S step c goal x (d ∷ w) h =
     let parts = or_parts (character_eq c d) (holds_character c w) h in
-    rw parts.0 (with_step-same S step c from goal (step d x) w parts.1)
+    rw parts.0 (with_step-same S step c goal (step d x) w parts.1)
 
 -- where the step begins that leads from w to the label of a pi step
 abbrev pub pi_start : {W E : Type 0} → Logic → Model W E → (Mark → W → W) → Label → W
@@ -143,22 +139,22 @@ pi_start _ S step w = world_of S step w
 self-character : (c : Mark) → character_eq c c ≡ true
 self-character c = (character_eq-tells c c).1 refl
 
-at-start : {W E : Type 0} (S : Model W E) → Range S → (step : Mark → W → W) (c : Mark) (from goal : W) → with_step S step c from goal c from ≡ goal
-at-start S r step c from goal = rw (and_from (character_eq c c) (S.same_world from from) (self-character c) (r.itself from)) refl
+at-start : {W E : Type 0} (S : Model W E) (step : Mark → W → W) (c : Mark) (from goal : W) → Reaches S from goal → with_step S step c goal c from ≡ goal
+at-start S step c from goal reached = rw (and_from (character_eq c c) (S.reaches from goal) (self-character c) reached) refl
 
-pi-more : {W E : Type 0} (S : Model W E) → Range S → (step : Mark → W → W) (w : Label) (c : Mark) (goal : W) → holds_character c w ≡ false → world_of S (with_step S step c (world_of S step w) goal) (w ++ c ∷ []) ≡ goal
-pi-more S r step w c goal h =
-    along-more (with_step S step c (world_of S step w) goal) S.root w c
-    ∙ ap (with_step S step c (world_of S step w) goal c) (with_step-same S step c (world_of S step w) goal S.root w h)
-    ∙ at-start S r step c (world_of S step w) goal
+pi-more : {W E : Type 0} (S : Model W E) (step : Mark → W → W) (w : Label) (c : Mark) (goal : W) → Reaches S (world_of S step w) goal → holds_character c w ≡ false → world_of S (with_step S step c goal) (w ++ c ∷ []) ≡ goal
+pi-more S step w c goal reached h =
+    along-more (with_step S step c goal) S.root w c
+    ∙ ap (with_step S step c goal c) (with_step-same S step c goal S.root w h)
+    ∙ at-start S step c (world_of S step w) goal reached
 
-pub pi-world : {W E : Type 0} (l : Logic) (S : Model W E) → Range S → (step : Mark → W → W) (w : Label) (c : Mark) (goal : W) → holds_character c w ≡ false → world_of S (with_step S step c (pi_start l S step w) goal) (pi_label l w c) ≡ goal
-pi-world S5 S r step w c goal h = at-start S r step c S.root goal
-pi-world Classical S r step w c goal h = pi-more S r step w c goal h
-pi-world Intuitionistic S r step w c goal h = pi-more S r step w c goal h
-pi-world D S r step w c goal h = pi-more S r step w c goal h
-pi-world LogicT S r step w c goal h = pi-more S r step w c goal h
-pi-world S4 S r step w c goal h = pi-more S r step w c goal h
+pub pi-world : {W E : Type 0} (l : Logic) (S : Model W E) (step : Mark → W → W) (w : Label) (c : Mark) (goal : W) → Reaches S (pi_start l S step w) goal → holds_character c w ≡ false → world_of S (with_step S step c goal) (pi_label l w c) ≡ goal
+pi-world S5 S step w c goal reached h = at-start S step c S.root goal reached
+pi-world Classical S step w c goal reached h = pi-more S step w c goal reached h
+pi-world Intuitionistic S step w c goal reached h = pi-more S step w c goal reached h
+pi-world D S step w c goal reached h = pi-more S step w c goal reached h
+pi-world LogicT S step w c goal reached h = pi-more S step w c goal reached h
+pi-world S4 S step w c goal reached h = pi-more S step w c goal reached h
 
 pub pi_start-reaches : {W E : Type 0} (l : Logic) (S : Model W E) → Range S → RelationFits l S → (step : Mark → W → W) → AreSteps S step → (w : Label) (goal : W) → Reaches S (world_of S step w) goal → Reaches S (pi_start l S step w) goal
 pi_start-reaches S5 S r relation step steps w goal h = relation S.root goal r.root (r.successors (world_of S step w) goal (along-world S r step steps S.root w r.root) h)

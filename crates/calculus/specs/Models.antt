@@ -1,6 +1,7 @@
 -- Kripke structures of any size, and truth in them (Kripke; Fitting and Mendelsohn). Worlds and elements are of any types, so there
 -- may be infinitely many. What a structure says is given by truth values, and truth too: for each formula, with elements for its
--- variables and names, at each world. In the finite structures of `Structures` it is computed.
+-- variables and names, at each world. Each structure of the textbooks gives such values by excluded middle, which is used nowhere
+-- here; in the finite ones of `Structures` they are computed.
 use Rattle.std.specs.Prelude.{◌≡◌, ℕ, List, [], ◌∷◌, length, Bool, true, false, not, ◌&&◌, ◌||◌, get_or, IsTrue}
 use Rattle.calculus.specs.declared.setting.Logic.{Logic}
 use Rattle.calculus.specs.declared.setting.Logic.TheVariants.{Classical, Intuitionistic, D, T as LogicT, S4, S5}
@@ -9,12 +10,10 @@ use Rattle.calculus.specs.declared.setting.Domains.TheVariants.{Constant, Cumula
 use Rattle.calculus.specs.Syntax.{Term, Terms, var, fun, eigen, spare, no_terms, more_terms, Formula, atom, neg, conj, disj, imp, all, ex, box, dia, Problem}
 use Rattle.calculus.specs.Skolem.{has_function}
 
--- `same_world` tests worlds for equality. `a_successor` is a successor of a world in D, `an_element` one of its domain; at what is
--- no world both say nothing. `element` stands for a variable that nothing binds. `holds p w xs`: the predicate p is true of these
--- elements at w
+-- `a_successor` is a successor of a world in D, `an_element` one of its domain; at what is no world both say nothing. `element` stands
+-- for a variable that nothing binds. `holds p w xs`: the predicate p is true of these elements at w
 pub record Model (W E : Type 0) : Type 0 where
   pub is_world : W → Bool
-  pub same_world : W → W → Bool
   pub root : W
   pub reaches : W → W → Bool
   pub a_successor : W → W
@@ -117,8 +116,6 @@ DomainsFit Varying M = Unit {0}
 pub record IsModel {W E : Type 0} (P : Problem) (M : Model W E) : Type 0 where
   pub root : IsWorld M M.root
   pub successors : (w v : W) → IsWorld M w → Reaches M w v → IsWorld M v
-  pub equal : (w v : W) → M.same_world w v ≡ true → w ≡ v
-  pub itself : (w : W) → M.same_world w w ≡ true
   pub inhabited : (w : W) → IsWorld M w → IsIn M w (M.an_element w)
   pub relation : RelationFits P.setting.logic M
   pub domains : DomainsFit P.setting.domains M
