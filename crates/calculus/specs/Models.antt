@@ -10,15 +10,12 @@ use Rattle.calculus.specs.declared.setting.Domains.TheVariants.{Constant, Cumula
 use Rattle.calculus.specs.Syntax.{Term, Terms, var, fun, eigen, spare, no_terms, more_terms, Formula, atom, neg, conj, disj, imp, all, ex, box, dia, Problem}
 use Rattle.calculus.specs.Skolem.{has_function}
 
--- `a_successor` is a successor of a world in D, `an_element` one of its domain; at what is no world both say nothing. `element` stands
--- for a variable that nothing binds. `holds p w xs`: the predicate p is true of these elements at w
+-- `element` stands for a variable that nothing binds. `holds p w xs`: the predicate p is true of these elements at w
 pub record Model (W E : Type 0) : Type 0 where
   pub is_world : W → Bool
   pub root : W
   pub reaches : W → W → Bool
-  pub a_successor : W → W
   pub is_in : W → E → Bool
-  pub an_element : W → E
   pub element : E
   pub value : ℕ → List E → E
   pub holds : ℕ → W → List E → Bool
@@ -100,7 +97,7 @@ IsTransitive {W} M = (w v u : W) → IsWorld M w → Reaches M w v → Reaches M
 abbrev pub RelationFits : {W E : Type 0} → Logic → Model W E → Type 0
 RelationFits {W} Classical M = IsReflexive M × ((w v : W) → IsWorld M w → IsWorld M v → w ≡ v)
 RelationFits Intuitionistic M = IsReflexive M × IsTransitive M
-RelationFits {W} D M = (w : W) → IsWorld M w → Reaches M w (M.a_successor w)
+RelationFits {W} D M = (w : W) → IsWorld M w → (v : W) × Reaches M w v
 RelationFits LogicT M = IsReflexive M
 RelationFits S4 M = IsReflexive M × IsTransitive M
 RelationFits {W} S5 M = (w v : W) → IsWorld M w → IsWorld M v → Reaches M w v
@@ -116,7 +113,7 @@ DomainsFit Varying M = Unit {0}
 pub record IsModel {W E : Type 0} (P : Problem) (M : Model W E) : Type 0 where
   pub root : IsWorld M M.root
   pub successors : (w v : W) → IsWorld M w → Reaches M w v → IsWorld M v
-  pub inhabited : (w : W) → IsWorld M w → IsIn M w (M.an_element w)
+  pub inhabited : (w : W) → IsWorld M w → (x : E) × IsIn M w x
   pub relation : RelationFits P.setting.logic M
   pub domains : DomainsFit P.setting.domains M
   pub functions : (f : ℕ) (xs : List E) → IsTrue (has_function P.symbols f (length xs)) → (w : W) → IsWorld M w → AllIn M w xs → IsIn M w (M.value f xs)
