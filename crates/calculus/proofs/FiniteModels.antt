@@ -1,4 +1,5 @@
--- Finite structures are structures: truth in them, which is computed, says of formulas what truth is to say.
+-- Finite structures are structures: truth in them, which is computed, says of formulas what truth
+-- is to say.
 use Rattle.std.proofs.Common.{◌≡◌, ℕ, suc, List, [], ◌∷◌, length, Bool, true, false, not, ◌&&◌, ◌||◌, ◌==◌, IsTrue, refl, ap, subst, arith, eqb-true, slice_index, nat_lt}
 use Rattle.std.specs.List.{list_all, list_any}
 use Rattle.std.proofs.lemmas.Bool.{false≢true, and_parts, and_from, ltb-true}

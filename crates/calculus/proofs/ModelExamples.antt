@@ -1,5 +1,6 @@
--- An infinite structure: the worlds are the natural numbers in their order, the domain of w has the numbers up to w, functions have the
--- value 0 and atoms are true. So the conditions on structures of any size are met by one that is not finite, and it refutes a formula.
+-- An infinite structure: the worlds are the natural numbers in their order, the domain of w has the
+-- numbers up to w, functions have the value 0 and atoms are true. So the conditions on structures
+-- of any size are met by one that is not finite, and it refutes a formula.
 use Rattle.std.proofs.Common.{◌≡◌, ℕ, [], ◌∷◌, Bool, true, false, not, ◌&&◌, ◌||◌, refl, IsTrue, arith, nat_le}
 use Rattle.std.specs.Prelude.{codes}
 use Rattle.std.proofs.lemmas.Bool.{and_from, leb-true, le-leb}
