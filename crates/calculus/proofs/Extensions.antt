@@ -10,54 +10,54 @@ use Rattle.calculus.specs.Calculus.{eigen_named, spare_named, holds_character, h
 use Rattle.calculus.specs.Models.{Model, IsIn, HasTruth, IsModel}
 use Rattle.calculus.proofs.WorldLaws.{world_of, AreSteps, with_step, with_step-steps, with_step-same}
 use Rattle.calculus.proofs.NamedTruth.{truth-same, AgreeBut}
-use Rattle.calculus.proofs.Interpretations.{Interpretation, InHome, Fits, EachHolds, name_element, eigen-element-in, spare-element-in}
+use Rattle.calculus.proofs.Interpretations.{Interpretation, Chosen, InHome, Fits, EachHolds, name_element, eigen-element-in, spare-element-in}
 
 -- ---- a new character. Names whose home it stands in get other elements
 
-abbrev pub with_character : {W E : Type 0} → Model W E → Names → E → Mark → W → Interpretation W E → Interpretation W E
-with_character S listed common c goal I = record {
+abbrev pub with_character : {W E : Type 0} (S : Model W E) → Chosen S → Names → E → Mark → W → Interpretation W E → Interpretation W E
+with_character S ch listed common c goal I = record {
   step = with_step S I.step c goal;
-  names = λ t. if is_in_home listed c t then name_element S listed common (with_step S I.step c goal) t else I.names t;
+  names = λ t. if is_in_home listed c t then name_element S ch.element listed common (with_step S I.step c goal) t else I.names t;
 }
 
-pub with_character-agrees : {W E : Type 0} (S : Model W E) (listed : Names) (common : E) (c : Mark) (goal : W) (I : Interpretation W E) → AgreeBut (is_in_home listed c) (with_character S listed common c goal I).names I.names
-with_character-agrees S listed common c goal I t named h = rw h refl
+pub with_character-agrees : {W E : Type 0} (S : Model W E) (ch : Chosen S) (listed : Names) (common : E) (c : Mark) (goal : W) (I : Interpretation W E) → AgreeBut (is_in_home listed c) (with_character S ch listed common c goal I).names I.names
+with_character-agrees S ch listed common c goal I t named h = rw h refl
 
 home-same : {W E : Type 0} (S : Model W E) (step : Mark → W → W) (common : E) (c : Mark) (goal : W) (h : Home) (e : E) → home_holds c h ≡ false → InHome S step common h e → InHome S (with_step S step c goal) common h e
 home-same S step common c goal anywhere e new inside = inside
 home-same S step common c goal (home_at w) e new inside = rw (with_step-same S step c goal S.root w new) inside
 
-pub with_character-fits : {W E : Type 0} (P : Problem) (S : Model W E) → IsModel P S → (listed : Names) (common : E) (c : Mark) (goal : W) (I : Interpretation W E) → Fits S listed common I → Fits S listed common (with_character S listed common c goal I)
-with_character-fits P S conditions listed common c goal I fits = record { steps = steps; names = record { eigens = eigens; spares = spares } }
+pub with_character-fits : {W E : Type 0} (P : Problem) (S : Model W E) → IsModel P S → (ch : Chosen S) (listed : Names) (common : E) (c : Mark) (goal : W) (I : Interpretation W E) → Fits S listed common I → Fits S listed common (with_character S ch listed common c goal I)
+with_character-fits P S conditions ch listed common c goal I fits = record { steps = steps; names = record { eigens = eigens; spares = spares } }
   where
     steps : AreSteps S (with_step S I.step c goal)
     steps = with_step-steps S I.step c goal fits.steps
 
-    eigens : (n : ℕ) (x : EigenName) → eigen_named listed n ≡ Some x → IsIn S (world_of S (with_step S I.step c goal) x.home) ((with_character S listed common c goal I).names (eigen n))
+    eigens : (n : ℕ) (x : EigenName) → eigen_named listed n ≡ Some x → IsIn S (world_of S (with_step S I.step c goal) x.home) ((with_character S ch listed common c goal I).names (eigen n))
     eigens n x e = elim (cases_Bool (is_in_home listed c (eigen n))) [
-      | inl h ↦ rw h (eigen-element-in P S conditions listed common (with_step S I.step c goal) steps n x e)
+      | inl h ↦ rw h (eigen-element-in P S conditions ch listed common (with_step S I.step c goal) steps n x e)
       | inr h ↦
           let new : holds_character c x.home ≡ false = subst (λ (o : Option EigenName). option_map_or (λ (y : EigenName). holds_character c y.home) o false ≡ false) e h in
           rw (h, with_step-same S I.step c goal S.root x.home new) (fits.names.eigens n x e)
     ]
 
-    spares : (n : ℕ) (x : SpareName) → spare_named listed n ≡ Some x → InHome S (with_step S I.step c goal) common x.home ((with_character S listed common c goal I).names (spare n))
+    spares : (n : ℕ) (x : SpareName) → spare_named listed n ≡ Some x → InHome S (with_step S I.step c goal) common x.home ((with_character S ch listed common c goal I).names (spare n))
     spares n x e = elim (cases_Bool (is_in_home listed c (spare n))) [
-      | inl h ↦ rw h (spare-element-in P S conditions listed common (with_step S I.step c goal) steps n x e)
+      | inl h ↦ rw h (spare-element-in P S conditions ch listed common (with_step S I.step c goal) steps n x e)
       | inr h ↦
           let new : home_holds c x.home ≡ false = subst (λ (o : Option SpareName). option_map_or (λ (y : SpareName). home_holds c y.home) o false ≡ false) e h in
           rw h (home-same S I.step common c goal x.home (I.names (spare n)) new (fits.names.spares n x e))
     ]
 
-pub with_character-holds : {W E : Type 0} (l : Logic) (S : Model W E) → HasTruth l S → (listed : Names) (common : E) (c : Mark) (goal : W) (I : Interpretation W E) (s : Sequent) → character_occurs listed c s ≡ false → EachHolds S I s → EachHolds S (with_character S listed common c goal I) s
-with_character-holds l S tells listed common c goal I [] new h = tt
-with_character-holds l S tells listed common c goal I (e ∷ s) new h =
+pub with_character-holds : {W E : Type 0} (l : Logic) (S : Model W E) → HasTruth l S → (ch : Chosen S) (listed : Names) (common : E) (c : Mark) (goal : W) (I : Interpretation W E) (s : Sequent) → character_occurs listed c s ≡ false → EachHolds S I s → EachHolds S (with_character S ch listed common c goal I) s
+with_character-holds l S tells ch listed common c goal I [] new h = tt
+with_character-holds l S tells ch listed common c goal I (e ∷ s) new h =
     let parts = or_parts (holds_character c e.label || any_leaf_in (is_in_home listed c) e.formula) (character_occurs listed c s) new in
     let apart = or_parts (holds_character c e.label) (any_leaf_in (is_in_home listed c) e.formula) parts.0 in
-    let J = with_character S listed common c goal I in
+    let J = with_character S ch listed common c goal I in
     let same_world = with_step-same S I.step c goal S.root e.label apart.0 in
-    let same_truth = truth-same l S tells (is_in_home listed c) J.names I.names (with_character-agrees S listed common c goal I) e.formula apart.1 [] (world_of S J.step e.label) in
-    (same_truth ∙ ap (S.truth I.names e.formula []) same_world ∙ h.0, with_character-holds l S tells listed common c goal I s parts.1 h.1)
+    let same_truth = truth-same l S tells (is_in_home listed c) J.names I.names (with_character-agrees S ch listed common c goal I) e.formula apart.1 [] (world_of S J.step e.label) in
+    (same_truth ∙ ap (S.truth I.names e.formula []) same_world ∙ h.0, with_character-holds l S tells ch listed common c goal I s parts.1 h.1)
 
 -- ---- a new eigenvariable
 

@@ -1,4 +1,5 @@
--- Finite structures are structures: truth in them, which is computed, says of formulas what truth is to say.
+-- Finite structures are structures: truth in them, which is computed, says of formulas what truth
+-- is to say.
 use Rattle.std.proofs.Common.{◌≡◌, ℕ, suc, List, [], ◌∷◌, length, Bool, true, false, not, ◌&&◌, ◌||◌, ◌==◌, IsTrue, refl, ap, subst, arith, eqb-true, slice_index, nat_lt}
 use Rattle.std.specs.List.{list_all, list_any}
 use Rattle.std.proofs.lemmas.Bool.{false≢true, and_parts, and_from, ltb-true}
@@ -84,9 +85,7 @@ model_of l S = record {
   is_world = λ w. nat_lt w (length S.successors);
   root = 0;
   reaches = λ w v. contains (successors_of S w) v;
-  a_successor = λ w. first_of_list (successors_of S w);
   is_in = λ w x. contains (domain_of S w) x;
-  an_element = λ w. first_element S w;
   element = 0;
   value = λ f xs. function_value S f xs;
   holds = λ p w xs. predicate_value S p w xs;
@@ -170,7 +169,7 @@ relation-of Classical m S h =
 relation-of Intuitionistic m S h =
     let parts = and_parts (is_reflexive S) (is_transitive_relation S) h in
     (λ w world. reaches-itself S parts.0 w world, λ w v u world first second. reaches-on S parts.1 w v u world first second)
-relation-of D m S h = λ w world. first-contained (successors_of S w) (each-world S (λ v. has_element (successors_of S v)) h w world)
+relation-of D m S h = λ w world. (first_of_list (successors_of S w), first-contained (successors_of S w) (each-world S (λ v. has_element (successors_of S v)) h w world))
 relation-of LogicT m S h = λ w world. reaches-itself S h w world
 relation-of S4 m S h =
     let parts = and_parts (is_reflexive S) (is_transitive_relation S) h in
@@ -193,7 +192,7 @@ is-model P S c =
     record {
       root = r.root;
       successors = λ w v world reached. successor-world S r w v reached;
-      inhabited = λ w world. first-element-in P S c w world;
+      inhabited = λ w world. (first_element S w, first-element-in P S c w world);
       relation = relation-of l l S c.relation;
       domains = domains-of P.setting.domains l S c.domains;
       functions = λ f xs h w world m. value-in P S c f xs h w world (listed-in l S w xs m);

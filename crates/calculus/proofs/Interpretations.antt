@@ -1,9 +1,9 @@
 -- Interpretations of a derivation's characters and names in a structure: which fit the list of names, and how one is extended by
 -- a new character or a new eigenvariable without changing what holds of a sequent.
-use Rattle.std.proofs.Common.{◌≡◌, ℕ, zero, suc, [], ◌∷◌, ◌++◌, Bool, true, false, not, refl, sym, subst, Option, Some, None, slice_get}
+use Rattle.std.proofs.Common.{◌≡◌, ℕ, zero, suc, [], ◌∷◌, ◌++◌, Bool, true, false, not, refl, sym, subst, Option, Some, None, slice_get, inl, inr, ◌∙◌}
 use Rattle.std.specs.List.{list_any}
 use Rattle.std.specs.Option.{option_map_or}
-use Rattle.std.proofs.lemmas.Bool.{false≢true, or_parts, not-false}
+use Rattle.std.proofs.lemmas.Bool.{false≢true, cases_Bool, or_parts, not-false}
 use Rattle.calculus.specs.declared.setting.Logic.{Logic}
 use Rattle.calculus.specs.declared.setting.Logic.TheVariants.{Classical, Intuitionistic, D, T as LogicT, S4, S5}
 use Rattle.calculus.specs.declared.setting.Domains.{Domains}
@@ -69,52 +69,68 @@ entry-without test (x ∷ s) (suc k) e g h = entry-without test s k e g (or_part
 
 -- ---- elements for names by their homes
 
-abbrev pub home_element : {W E : Type 0} → Model W E → (Mark → W → W) → E → Home → E
-home_element S step common anywhere = common
-home_element S step common (home_at w) = S.an_element (world_of S step w)
+-- an element of each domain, and a successor of each world; at what is no world they say nothing
+pub record Chosen {W E : Type 0} (S : Model W E) : Type 0 where
+  pub element : W → E
+  pub inside : (w : W) → IsWorld S w → IsIn S w (element w)
+  pub next : W → W
+  pub reached : (w : W) → IsWorld S w → Reaches S w (next w)
 
-abbrev pub name_element : {W E : Type 0} → Model W E → Names → E → (Mark → W → W) → Term → E
-name_element S listed common step (eigen n) = option_map_or (λ (x : EigenName). S.an_element (world_of S step x.home)) (eigen_named listed n) S.element
-name_element S listed common step (spare n) = option_map_or (λ (x : SpareName). home_element S step common x.home) (spare_named listed n) S.element
-name_element S listed common step _ = S.element
+abbrev pub home_element : {W E : Type 0} (S : Model W E) → (W → E) → (Mark → W → W) → E → Home → E
+home_element S pick step common anywhere = common
+home_element S pick step common (home_at w) = pick (world_of S step w)
 
-first-in : {W E : Type 0} (P : Problem) (S : Model W E) → IsModel P S → (step : Mark → W → W) → AreSteps S step → (w : Label) → IsIn S (world_of S step w) (S.an_element (world_of S step w))
-first-in P S c step h w = let r = range_of P S c in c.inhabited (world_of S step w) (along-world S r step h S.root w r.root)
+abbrev pub name_element : {W E : Type 0} → Model W E → (W → E) → Names → E → (Mark → W → W) → Term → E
+name_element S pick listed common step (eigen n) = option_map_or (λ (x : EigenName). pick (world_of S step x.home)) (eigen_named listed n) S.element
+name_element S pick listed common step (spare n) = option_map_or (λ (x : SpareName). home_element S pick step common x.home) (spare_named listed n) S.element
+name_element S pick listed common step _ = S.element
 
-home-element-in : {W E : Type 0} (P : Problem) (S : Model W E) → IsModel P S → (common : E) (step : Mark → W → W) → AreSteps S step → (h : Home) → InHome S step common h (home_element S step common h)
-home-element-in P S c common step h anywhere = refl
-home-element-in P S c common step h (home_at w) = first-in P S c step h w
+first-in : {W E : Type 0} (P : Problem) (S : Model W E) → IsModel P S → (ch : Chosen S) (step : Mark → W → W) → AreSteps S step → (w : Label) → IsIn S (world_of S step w) (ch.element (world_of S step w))
+first-in P S c ch step h w = let r = range_of P S c in ch.inside (world_of S step w) (along-world S r step h S.root w r.root)
 
-pub eigen-element-in : {W E : Type 0} (P : Problem) (S : Model W E) → IsModel P S → (listed : Names) (common : E) (step : Mark → W → W) → AreSteps S step → (n : ℕ) (x : EigenName) → eigen_named listed n ≡ Some x → IsIn S (world_of S step x.home) (name_element S listed common step (eigen n))
-eigen-element-in P S c listed common step h n x e = rw e (first-in P S c step h x.home)
+home-element-in : {W E : Type 0} (P : Problem) (S : Model W E) → IsModel P S → (ch : Chosen S) (common : E) (step : Mark → W → W) → AreSteps S step → (h : Home) → InHome S step common h (home_element S ch.element step common h)
+home-element-in P S c ch common step h anywhere = refl
+home-element-in P S c ch common step h (home_at w) = first-in P S c ch step h w
 
-pub spare-element-in : {W E : Type 0} (P : Problem) (S : Model W E) → IsModel P S → (listed : Names) (common : E) (step : Mark → W → W) → AreSteps S step → (n : ℕ) (x : SpareName) → spare_named listed n ≡ Some x → InHome S step common x.home (name_element S listed common step (spare n))
-spare-element-in P S c listed common step h n x e = rw e (home-element-in P S c common step h x.home)
+pub eigen-element-in : {W E : Type 0} (P : Problem) (S : Model W E) → IsModel P S → (ch : Chosen S) (listed : Names) (common : E) (step : Mark → W → W) → AreSteps S step → (n : ℕ) (x : EigenName) → eigen_named listed n ≡ Some x → IsIn S (world_of S step x.home) (name_element S ch.element listed common step (eigen n))
+eigen-element-in P S c ch listed common step h n x e = rw e (first-in P S c ch step h x.home)
+
+pub spare-element-in : {W E : Type 0} (P : Problem) (S : Model W E) → IsModel P S → (ch : Chosen S) (listed : Names) (common : E) (step : Mark → W → W) → AreSteps S step → (n : ℕ) (x : SpareName) → spare_named listed n ≡ Some x → InHome S step common x.home (name_element S ch.element listed common step (spare n))
+spare-element-in P S c ch listed common step h n x e = rw e (home-element-in P S c ch common step h x.home)
 
 -- ---- at first each character leads to the next world, and each name has an element of its home's domain
 
 -- a successor of each world: in D the given one, else the world itself
-abbrev pub next_world : {W E : Type 0} → Logic → Model W E → W → W
-next_world D S w = S.a_successor w
-next_world _ S w = w
+next-world : {W E : Type 0} (l : Logic) (S : Model W E) → RelationFits l S → (w : W) → IsWorld S w → (v : W) × Reaches S w v
+next-world Classical S h w world = (w, h.0 w world)
+next-world Intuitionistic S h w world = (w, h.0 w world)
+next-world D S h w world = h w world
+next-world LogicT S h w world = (w, h w world)
+next-world S4 S h w world = (w, h.0 w world)
+next-world S5 S h w world = (w, h w w world world)
 
-next-reached : {W E : Type 0} (l : Logic) (S : Model W E) → RelationFits l S → (w : W) → IsWorld S w → Reaches S w (next_world l S w)
-next-reached Classical S h w world = h.0 w world
-next-reached Intuitionistic S h w world = h.0 w world
-next-reached D S h w world = h w world
-next-reached LogicT S h w world = h w world
-next-reached S4 S h w world = h.0 w world
-next-reached S5 S h w world = h w w world world
+-- what there is for each world is chosen by a function that is right at worlds
+picked : {W E A : Type 0} (S : Model W E) (Fits : W → A → Type 0) → A → ((w : W) → IsWorld S w → (x : A) × Fits w x) → (w : W) → (x : A) × (IsWorld S w → Fits w x)
+picked S Fits other given w = elim (cases_Bool (S.is_world w)) [
+  | inl e ↦ let x = given w e in (x.0, λ world. x.1)
+  | inr e ↦ (other, λ world. absurd (false≢true (sym e ∙ world)))
+]
 
-abbrev pub first_interpretation : {W E : Type 0} → Logic → Model W E → Names → E → Interpretation W E
-first_interpretation l S listed common = record { step = λ c w. next_world l S w; names = name_element S listed common (λ c w. next_world l S w) }
+pub chosen : {W E : Type 0} (P : Problem) (S : Model W E) → IsModel P S → Chosen S
+chosen P S c =
+    let element = picked S (IsIn S) S.element c.inhabited in
+    let next = picked S (Reaches S) S.root (next-world P.setting.logic S c.relation) in
+    record { element = λ w. (element w).0; inside = λ w. (element w).1; next = λ w. (next w).0; reached = λ w. (next w).1 }
 
-pub first-fits : {W E : Type 0} (P : Problem) (S : Model W E) → IsModel P S → (listed : Names) (common : E) → Fits S listed common (first_interpretation P.setting.logic S listed common)
-first-fits P S c listed common =
-    let steps : AreSteps S (λ m w. next_world P.setting.logic S w) = λ m x world. next-reached P.setting.logic S c.relation x world in
+abbrev pub first_interpretation : {W E : Type 0} (S : Model W E) → Chosen S → Names → E → Interpretation W E
+first_interpretation S ch listed common = record { step = λ c w. ch.next w; names = name_element S ch.element listed common (λ c w. ch.next w) }
+
+pub first-fits : {W E : Type 0} (P : Problem) (S : Model W E) → IsModel P S → (ch : Chosen S) (listed : Names) (common : E) → Fits S listed common (first_interpretation S ch listed common)
+first-fits P S c ch listed common =
+    let steps : AreSteps S (λ m w. ch.next w) = λ m x world. ch.reached x world in
     record {
       steps = steps;
-      names = record { eigens = eigen-element-in P S c listed common (λ m w. next_world P.setting.logic S w) steps; spares = spare-element-in P S c listed common (λ m w. next_world P.setting.logic S w) steps };
+      names = record { eigens = eigen-element-in P S c ch listed common (λ m w. ch.next w) steps; spares = spare-element-in P S c ch listed common (λ m w. ch.next w) steps };
     }
 
 -- ---- an element that lies in every domain: a constant's value where domains vary, else one of the root's domain
@@ -122,14 +138,15 @@ first-fits P S c listed common =
 common-from_root : {W E : Type 0} (P : Problem) (S : Model W E) → IsModel P S → ((w : Label) → home_allows character_eq P.setting.domains [] w ≡ true) → (common : E) × IsCommon P S common
 common-from_root P S c everywhere =
     let r = range_of P S c in
-    (S.an_element S.root, λ exists step h w. allowed-in P.setting.domains S r c.domains step h (S.an_element S.root) [] w (everywhere w) (c.inhabited S.root r.root))
+    let first = c.inhabited S.root r.root in
+    (first.0, λ exists step h w. allowed-in P.setting.domains S r c.domains step h first.0 [] w (everywhere w) first.1)
 
 common-from_constant : {W E : Type 0} (P : Problem) (S : Model W E) → IsModel P S → P.setting.domains ≡ Varying → (b : Bool) → has_constant P ≡ b → (common : E) × IsCommon P S common
 common-from_constant P S c varies true e =
     let r = range_of P S c in
     let place = constant-place P.symbols e in
     (S.value place.0 [], λ exists step h w. c.functions place.0 [] place.1 (world_of S step w) (along-world S r step h S.root w r.root) tt)
-common-from_constant P S c varies false e = (S.an_element S.root, λ exists. absurd (none exists))
+common-from_constant P S c varies false e = (S.element, λ exists. absurd (none exists))
   where
     none : common_spares P ≡ true → ⊥
     none exists = let h : false ≡ true = rw (varies, e) at exists in false≢true h

@@ -1,5 +1,6 @@
--- An infinite structure: the worlds are the natural numbers in their order, the domain of w has the numbers up to w, functions have the
--- value 0 and atoms are true. So the conditions on structures of any size are met by one that is not finite, and it refutes a formula.
+-- An infinite structure: the worlds are the natural numbers in their order, the domain of w has the
+-- numbers up to w, functions have the value 0 and atoms are true. So the conditions on structures
+-- of any size are met by one that is not finite, and it refutes a formula.
 use Rattle.std.proofs.Common.{◌≡◌, ℕ, [], ◌∷◌, Bool, true, false, not, ◌&&◌, ◌||◌, refl, IsTrue, arith, nat_le}
 use Rattle.std.specs.Prelude.{codes}
 use Rattle.std.proofs.lemmas.Bool.{and_from, leb-true, le-leb}
@@ -29,9 +30,7 @@ line = record {
   is_world = λ w. true;
   root = 0;
   reaches = λ w v. nat_le w v;
-  a_successor = λ w. w;
   is_in = λ w x. nat_le x w;
-  an_element = λ w. 0;
   element = 0;
   value = λ f xs. 0;
   holds = λ p w xs. true;
@@ -86,7 +85,7 @@ unfolding problem
 line-model = record {
   root = refl;
   successors = λ w v world reached. refl;
-  inhabited = λ w world. least w;
+  inhabited = λ w world. (0, least w);
   relation = (λ w world. itself w, λ w v u world first second. on w v u first second);
   domains = λ w v x world step inside. on x w v inside step;
   functions = λ f xs h w world inside. least w;

@@ -17,7 +17,7 @@ use Rattle.calculus.specs.Models.{Model, IsModel}
 use Rattle.calculus.specs.Soundness.{HasNoDerivation, IsNeverAccepted, IsTrueOver, IsTrueInStructures, IsSound}
 use Rattle.calculus.proofs.SequentLaws.{are_met, met-children}
 use Rattle.calculus.proofs.StructureLaws.{conditions}
-use Rattle.calculus.proofs.Interpretations.{IsCommon, first_interpretation, first-fits, common-element, entry-holds}
+use Rattle.calculus.proofs.Interpretations.{Chosen, chosen, IsCommon, first_interpretation, first-fits, common-element, entry-holds}
 use Rattle.calculus.proofs.NamedTruth.{truth-unnamed}
 use Rattle.calculus.proofs.FiniteModels.{model_of, is-model, truth-computed}
 use Rattle.calculus.proofs.StepSoundness.{Satisfied, SomeChild, connected-apart, child-of_use}
@@ -47,13 +47,13 @@ written-rest P listed p (leaf {x = x} {rest = rest} e) h = (and_parts (p x) (lis
 written-rest P listed p (single {x = x} {xs = xs} e c) h = written-rest P listed p c (and_parts (p x) (list_all p xs) h).1
 written-rest P listed p (fork {x = x} {xs = xs} e c d) h = written-rest P listed p d (written-rest P listed p c (and_parts (p x) (list_all p xs) h).1)
 
-module _ {W E : Type 0} (P : Problem) (S : Model W E) (c : IsModel P S) (listed : Names) (common : E) (is_common : IsCommon P S common) where
+module _ {W E : Type 0} (P : Problem) (S : Model W E) (c : IsModel P S) (ch : Chosen S) (listed : Names) (common : E) (is_common : IsCommon P S common) where
   use-child : (s : Sequent) → Satisfied S listed common s → (n : ℕ) (o : Option Entry) → entry_of s n ≡ o → (m : ModalArg) (t : TermArg) → term_arg_is_written P.symbols t ≡ true → (d : Children) → use_entry P listed s o m t ≡ Ok d → SomeChild (Satisfied S listed common) d
   use-child s sat n None at m t written d h = cc
   use-child s sat n (Some e) at m t written d h =
       let place = entry-is s n e at in
       let met = are_met (conditions_of_use P listed s e m t) (children_of P.setting.logic s e m t) d h in
-      subst (SomeChild (Satisfied S listed common)) (met-children (conditions_of_use P listed s e m t) (children_of P.setting.logic s e m t) d h) (child-of_use P S c listed common is_common s sat place.0 e place.1 m t written met)
+      subst (SomeChild (Satisfied S listed common)) (met-children (conditions_of_use P listed s e m t) (children_of P.setting.logic s e m t) d h) (child-of_use P S c ch listed common is_common s sat place.0 e place.1 m t written met)
 
   -- a step that applies leaves a child whose entries hold
   step-child : (s : Sequent) → Satisfied S listed common s → (x : Step) → step_is_written P.symbols x ≡ true → (d : Children) → apply P listed s x ≡ Ok d → SomeChild (Satisfied S listed common) d
@@ -86,10 +86,10 @@ fits-problem P h =
 
 first-satisfied : {W E : Type 0} (P : Problem) → IsTrue (is_problem P) → (S : Model W E) → IsModel P S → (names : Term → E) → S.truth names P.formula [] S.root ≡ false → (listed : Names) (common : E) → Satisfied S listed common (first_sequent P)
 first-satisfied P problem S c names false_at_root listed common =
-    let I = first_interpretation P.setting.logic S listed common in
+    let I = first_interpretation S (chosen P S c) listed common in
     record {
       interpretation = I;
-      fits = first-fits P S c listed common;
+      fits = first-fits P S c (chosen P S c) listed common;
       holds = (truth-unnamed P.setting.logic S c.truth I.names names P.symbols P.formula (fits-problem P problem) S.root ∙ false_at_root, tt);
     }
 
@@ -98,7 +98,7 @@ pub false-underived : {W E : Type 0} (P : Problem) → IsTrue (is_problem P) →
 false-underived P problem M c names false_at_root d printable derives =
     let common = common-element P M c in
     let written = and_parts (is_limit d.limit && names_are_written d.names) (list_all (step_is_written P.symbols) d.steps) printable in
-    not-closed P M c d.names common.0 common.1 derives written.1 (first-satisfied P problem M c names false_at_root d.names common.0)
+    not-closed P M c (chosen P M c) d.names common.0 common.1 derives written.1 (first-satisfied P problem M c names false_at_root d.names common.0)
 
 -- what has a printable derivation is true in each structure of its setting, whatever its worlds and elements are
 pub derived-valid : (W E : Type 0) (P : Problem) → IsTrue (is_problem P) → (d : Derivation) → IsTrue (is_printable P d) → Derives P d → IsTrueOver W E P

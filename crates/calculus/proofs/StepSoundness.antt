@@ -24,7 +24,7 @@ use Rattle.calculus.proofs.SequentLaws.{AreMet}
 use Rattle.calculus.proofs.WorldLaws.{range_of, world_of, along-world, step-reaches, pi-world, pi_start-reaches}
 use Rattle.calculus.proofs.NamedTruth.{truth-same, AgreeBut, truth-instance, written-has, term-in}
 use Rattle.calculus.proofs.SignedTruth.{sign_value, OnModal, Behind, modal-truth, EachSigned, EitherSigned, SignedHolds, OnShape, shape-truth}
-use Rattle.calculus.proofs.Interpretations.{Interpretation, IsCommon, Fits, HoldsAt, EachHolds, each-append, entry-holds, entry-without, names-in}
+use Rattle.calculus.proofs.Interpretations.{Interpretation, Chosen, IsCommon, Fits, HoldsAt, EachHolds, each-append, entry-holds, entry-without, names-in}
 use Rattle.calculus.proofs.Extensions.{with_character, with_character-agrees, with_character-fits, with_character-holds, with_eigen, with_eigen-agrees, with_eigen-value, with_eigen-fits, with_eigen-holds}
 
 -- some interpretation fits, and each entry of the sequent holds in it
@@ -133,20 +133,20 @@ connected-apart S I a b h left right =
 
 -- ---- a use step
 
-module _ {W E : Type 0} (P : Problem) (S : Model W E) (c : IsModel P S) (listed : Names) (common : E) (is_common : IsCommon P S common) where
+module _ {W E : Type 0} (P : Problem) (S : Model W E) (c : IsModel P S) (ch : Chosen S) (listed : Names) (common : E) (is_common : IsCommon P S common) where
   behind-new : (s : Sequent) (sat : Satisfied S listed common s) (sign : Sign) (a : Formula) (w : Label) (n : ℕ) → holds_character (new_mark n) w ≡ false → any_leaf_in (is_in_home listed (new_mark n)) a ≡ false → character_occurs listed (new_mark n) s ≡ false → (goal : W) → Reaches S (world_of S sat.interpretation.step w) goal → Behind S sat.interpretation.names a goal (sign_value sign) → Reached S listed common s sign a (pi_label P.setting.logic w (new_mark n))
   behind-new s sat sign a w n outside unnamed new goal reached claim =
       let l = P.setting.logic in
       let I = sat.interpretation in
       let start = pi_start-reaches l S (range_of P S c) c.relation I.step sat.fits.steps w goal reached in
-      let J = with_character S listed common (new_mark n) goal I in
+      let J = with_character S ch listed common (new_mark n) goal I in
       record {
         satisfied = record {
           interpretation = J;
-          fits = with_character-fits P S c listed common (new_mark n) goal I sat.fits;
-          holds = with_character-holds l S c.truth listed common (new_mark n) goal I s new sat.holds;
+          fits = with_character-fits P S c ch listed common (new_mark n) goal I sat.fits;
+          holds = with_character-holds l S c.truth ch listed common (new_mark n) goal I s new sat.holds;
         };
-        behind = subst (λ x. Behind S J.names a x (sign_value sign)) (sym (pi-world l S I.step w (new_mark n) goal start outside)) (behind-same l S c.truth (is_in_home listed (new_mark n)) I.names J.names (λ t named apart. sym (with_character-agrees S listed common (new_mark n) goal I t named apart)) a unnamed goal (sign_value sign) claim);
+        behind = subst (λ x. Behind S J.names a x (sign_value sign)) (sym (pi-world l S I.step w (new_mark n) goal start outside)) (behind-same l S c.truth (is_in_home listed (new_mark n)) I.names J.names (λ t named apart. sym (with_character-agrees S ch listed common (new_mark n) goal I t named apart)) a unnamed goal (sign_value sign) claim);
       }
 
   behind-modal : (s : Sequent) (sat : Satisfied S listed common s) (e : Entry) → ((n : ℕ) → character_occurs listed (new_mark n) s ≡ false → (holds_character (new_mark n) e.label || any_leaf_in (is_in_home listed (new_mark n)) e.formula) ≡ false) → (q : ModalPart) → OnModal S q (world_of S sat.interpretation.step e.label) (λ v. Behind S sat.interpretation.names e.formula v (sign_value e.sign)) → (m : ModalArg) → modal_fits q m ≡ true → is_reachable P.setting.logic e.label m ≡ true → character_is_new listed s m ≡ true → Reached S listed common s e.sign e.formula (label_after P.setting.logic e.label m)

@@ -1,4 +1,5 @@
--- The definitions in reading order. `docs/READING.md` says which of them the clauses of the program rest on.
+-- The definitions in reading order. `docs/READING.md` says which of them the clauses of the program
+-- rest on.
 
 -- ==== what contracts cite
 
@@ -28,7 +29,8 @@ pub mod Ground
 pub mod Equality
 pub mod Positions
 pub mod Skolem
--- the matrix: its instances (the definition to read, and the function that computes them), its clauses, and connection tableaux
+-- the matrix: its instances (the definition to read, and the function that computes them), its
+-- clauses, and connection tableaux
 pub mod Instances
 pub mod ComputedInstances
 pub mod Clauses
