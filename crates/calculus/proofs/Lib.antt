@@ -1,3 +1,5 @@
+-- ==== laws that proofs of other crates cite
+
 -- equality, positions, clauses and orders
 pub mod EqualityLaws
 pub mod PositionLaws
@@ -8,7 +10,6 @@ pub mod OrderLaws
 pub mod SpotLaws
 pub mod InstanceLaws
 pub mod CasesLaws
-pub mod SizeLaws
 pub mod MatrixLaws
 -- tableaux, space and answer
 pub mod WalkLaws
@@ -17,7 +18,33 @@ pub mod GrowthLaws
 pub mod LimitLaws
 pub mod SpaceLaws
 pub mod AnswerLaws
-pub mod CutLaws
+-- derivations and texts
+pub mod SequentLaws
+pub mod VerdictLaws
+pub mod TextLaws
+pub mod TermTextLaws
+pub mod ReadingLaws
+pub mod DerivationTextLaws
+pub mod JudgementLaws
+-- stores, bindings and patterns
+pub mod StoreLaws
+pub mod PlaceLists
+pub mod BindingLaws
+pub mod SolutionLaws
+pub mod WeightLaws
+pub mod PatternLaws
+-- soundness: in structures of any size, of which finite ones are a case
+pub mod WorldLaws
+pub mod NamedTruth
+pub mod SignedTruth
+pub mod Interpretations
+pub mod Extensions
+pub mod StepSoundness
+pub mod MemberLaws
+pub mod StructureLaws
+pub mod FiniteModels
+pub mod SoundnessLaws
+pub mod TautologyLaws
 -- conversion of tableaux
 pub mod Members
 pub mod NameLaws
@@ -35,7 +62,14 @@ pub mod FreshLaws
 pub mod UseLaws
 pub mod NextLaws
 pub mod EndLaws
+pub mod WrittenLaws
 pub mod WholeLaws
+-- ==== laws that no other crate cites: they are to check definitions, or wait for their crate
+
+-- an instance has as many literals as its clause; a derivation that is made step by step
+pub mod SizeLaws
+pub mod OpenLaws
+-- conversion that is led by its tableau
 pub mod MadeLaws
 pub mod RunLaws
 pub mod ShortLaws
@@ -53,32 +87,13 @@ pub mod LoopLaws
 pub mod LoopMeasures
 pub mod AheadLaws
 pub mod LedConversion
-pub mod WrittenLaws
--- derivations and texts
-pub mod SequentLaws
-pub mod OpenLaws
-pub mod VerdictLaws
-pub mod TextLaws
-pub mod TermTextLaws
-pub mod ReadingLaws
-pub mod DerivationTextLaws
-pub mod JudgementLaws
--- stores
-pub mod StoreLaws
--- soundness in finite structures
-pub mod MemberLaws
-pub mod StructureLaws
-pub mod WorldLaws
-pub mod NamedTruth
-pub mod SignedTruth
-pub mod Interpretations
-pub mod Extensions
-pub mod StepSoundness
-pub mod SoundnessLaws
-pub mod TautologyLaws
+-- the search with cuts
+pub mod CutLaws
+-- intuitionistic truth stays, and is that of the translation in S4
 pub mod PersistenceLaws
 pub mod TranslationLaws
--- examples that compute
+-- ==== examples that compute
+
 mod TableauExamples
 mod SpaceExamples
 mod SequentExamples
@@ -90,10 +105,6 @@ mod ConversionExamples
 mod LabelExamples
 mod StructureExamples
 mod SoundnessExamples
+mod ModelExamples
 mod SparesExamples
 mod Stress
-pub mod PlaceLists
-pub mod BindingLaws
-pub mod SolutionLaws
-pub mod WeightLaws
-pub mod PatternLaws

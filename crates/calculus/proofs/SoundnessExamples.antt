@@ -6,7 +6,7 @@ use Rattle.calculus.specs.declared.setting.Logic.{Logic}
 use Rattle.calculus.specs.declared.setting.Logic.TheVariants.{Classical, Intuitionistic, D, T as LogicT, S4, S5}
 use Rattle.calculus.specs.declared.setting.Domains.{Domains}
 use Rattle.calculus.specs.declared.setting.Domains.TheVariants.{Constant, Cumulative, Varying}
-use Rattle.calculus.specs.Syntax.{var, no_terms, more_terms, Formula, atom, neg, imp, all, box, dia, setting_of, Problem}
+use Rattle.calculus.specs.Syntax.{var, no_terms, more_terms, Formula, atom, neg, disj, imp, all, box, dia, setting_of, Problem}
 use Rattle.calculus.specs.Structures.{Structure, truth_tables}
 use Rattle.calculus.specs.Soundness.{HasNoDerivation}
 use Rattle.calculus.proofs.SoundnessLaws.{refuted-underived}
@@ -34,6 +34,9 @@ atom_classical = refuted-underived _ refl (propositional ((0 ∷ []) ∷ []) ((0
 double_negation_intuitionistic : HasNoDerivation (problem Intuitionistic Cumulative 0 (imp (neg (neg p)) p))
 double_negation_intuitionistic = refuted-underived _ refl (propositional ((0 ∷ 1 ∷ []) ∷ (1 ∷ []) ∷ []) ((0 ∷ []) ∷ (0 ∷ []) ∷ []) ((false ∷ []) ∷ (true ∷ []) ∷ [])) refl refl
 
+excluded_middle_intuitionistic : HasNoDerivation (problem Intuitionistic Cumulative 0 (disj p (neg p)))
+excluded_middle_intuitionistic = refuted-underived _ refl (propositional ((0 ∷ 1 ∷ []) ∷ (1 ∷ []) ∷ []) ((0 ∷ []) ∷ (0 ∷ []) ∷ []) ((false ∷ []) ∷ (true ∷ []) ∷ [])) refl refl
+
 reflexive_d : HasNoDerivation (problem D Constant 0 (imp (box p) p))
 reflexive_d = refuted-underived _ refl (propositional ((1 ∷ []) ∷ (1 ∷ []) ∷ []) ((0 ∷ []) ∷ (0 ∷ []) ∷ []) ((false ∷ []) ∷ (true ∷ []) ∷ [])) refl refl
 
@@ -46,9 +49,12 @@ euclidean_s4 = refuted-underived _ refl (propositional ((0 ∷ 1 ∷ 2 ∷ []) �
 possible_s5 : HasNoDerivation (problem S5 Constant 0 (imp (dia p) (box p)))
 possible_s5 = refuted-underived _ refl (propositional ((0 ∷ 1 ∷ []) ∷ (0 ∷ 1 ∷ []) ∷ []) ((0 ∷ []) ∷ (0 ∷ []) ∷ []) ((true ∷ []) ∷ (false ∷ []) ∷ [])) refl refl
 
--- Barcan's formula where domains grow, and its converse where they vary
+-- Barcan's formula where domains grow and where they vary, and its converse where they vary
 barcan_cumulative : HasNoDerivation (problem LogicT Cumulative 1 (imp (all (box p_of_x)) (box (all p_of_x))))
 barcan_cumulative = refuted-underived _ refl (with_two_elements ((0 ∷ 1 ∷ []) ∷ (1 ∷ []) ∷ []) ((0 ∷ []) ∷ (0 ∷ 1 ∷ []) ∷ []) ((true ∷ true ∷ []) ∷ (true ∷ false ∷ []) ∷ [])) refl refl
+
+barcan_varying : HasNoDerivation (problem S4 Varying 1 (imp (all (box p_of_x)) (box (all p_of_x))))
+barcan_varying = refuted-underived _ refl (with_two_elements ((0 ∷ 1 ∷ []) ∷ (1 ∷ []) ∷ []) ((0 ∷ []) ∷ (1 ∷ []) ∷ []) ((true ∷ false ∷ []) ∷ (true ∷ false ∷ []) ∷ [])) refl refl
 
 converse_varying : HasNoDerivation (problem S5 Varying 1 (imp (box (all p_of_x)) (all (box p_of_x))))
 converse_varying = refuted-underived _ refl (with_two_elements ((0 ∷ 1 ∷ []) ∷ (0 ∷ 1 ∷ []) ∷ []) ((0 ∷ []) ∷ (1 ∷ []) ∷ []) ((true ∷ false ∷ []) ∷ (false ∷ true ∷ []) ∷ [])) refl refl

@@ -103,7 +103,7 @@ abbrev pub next_world : Logic → Structure → ℕ → ℕ
 next_world D S w = first_of_list (successors_of S w)
 next_world _ S w = w
 
-first-contained : (xs : List ℕ) → has_element xs ≡ true → contains xs (first_of_list xs) ≡ true
+pub first-contained : (xs : List ℕ) → has_element xs ≡ true → contains xs (first_of_list xs) ≡ true
 first-contained [] h = absurd (false≢true h)
 first-contained (x ∷ xs) h = or_left (x == x) (contains xs x) (eq-eqb x x refl)
 

@@ -1,5 +1,5 @@
 -- A conversion that is led by its tableau: each open branch has a task, a part of one instance that is to be followed there to its literals,
--- and what closes the branch at each of them.
+-- and what closes the branch at each of them. No contract cites this yet.
 use Rattle.std.specs.Prelude.{ℕ, zero, suc, ◌+◌, List, [], ◌∷◌, length, Bool, true, false, ◌&&◌, ◌==◌, nat_lt, if◌then◌else◌}
 use Rattle.std.specs.Option.{option_map_or}
 use Rattle.calculus.specs.declared.kind.Shape.{Shape}

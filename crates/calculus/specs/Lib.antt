@@ -1,51 +1,66 @@
--- The definitions in reading order.
+-- The definitions in reading order. `docs/READING.md` says which of them the clauses of the program
+-- rest on.
+
+-- ==== what contracts cite
+
+-- ---- what the clauses of the program are made of
 
 -- formulas and problems
 pub mod Syntax
 pub mod Measures
 pub mod Problems
 pub mod Propositional
--- ground values and tests of equality
-pub mod Ground
-pub mod Equality
--- kinds, positions, labels and names
+-- truth: finite structures, structures of any size, and what soundness says
+pub mod Structures
+pub mod Models
+pub mod Soundness
+-- kinds and labels, and the sequent calculus
 pub mod Kinds
-pub mod Positions
 pub mod Labels
-pub mod Skolem
--- the matrix: its instances (the definition to read, and the function that computes them) and its clauses
-pub mod Instances
-pub mod ComputedInstances
-pub mod Clauses
--- connection tableaux, the search space and the answer
-pub mod Tableaux
-pub mod Choices
-pub mod Counting
-pub mod Space
-pub mod Cut
-pub mod Turns
-pub mod Numbering
--- the sequent calculus
 pub mod Derivations
-pub mod Branches
-pub mod Leading
 pub mod Substitution
 pub mod Calculus
-pub mod StepFacts
 -- texts and their judgement
 pub mod Text
 pub mod DerivationText
 pub mod Judgement
--- the search's variables and label equations
+-- ground values, tests of equality, positions and names
+pub mod Ground
+pub mod Equality
+pub mod Positions
+pub mod Skolem
+-- the matrix: its instances (the definition to read, and the function that computes them), its
+-- clauses, and connection tableaux
+pub mod Instances
+pub mod ComputedInstances
+pub mod Clauses
+pub mod Tableaux
+-- ---- words between crates, of which the clauses of the program say nothing
+
+-- the connection search: choice lists and their order, and the space that deepening goes through
+pub mod Choices
+pub mod Counting
+pub mod Space
+-- the conversion of tableaux: turns and their order, numbers of names, branches
+pub mod Turns
+pub mod Numbering
+pub mod Branches
+-- the children of a step
+pub mod StepFacts
+-- the store, its bindings and clauses with places for values, and label equations
 pub mod Stores
+pub mod Bindings
 pub mod Systems
--- meaning, and the way into S4
-pub mod Structures
-pub mod Soundness
-pub mod Translation
+pub mod Patterns
 -- the lists inside trees as lists, and what models of program types need
 pub mod Lists
 pub mod Sizes
 pub mod Codes
-pub mod Bindings
-pub mod Patterns
+-- ==== what waits for its crate: laws of `proofs` speak of it, and no contract yet
+
+-- the search that does not return to solved goals
+pub mod Cut
+-- a derivation that is led by its tableau, and so is short
+pub mod Leading
+-- the way from intuitionistic logic into S4
+pub mod Translation

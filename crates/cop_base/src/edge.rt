@@ -1,7 +1,8 @@
-//! The trusted edge: files of the runtime, and a writer. Nothing is told of what a file holds or a terminal shows, so
-//! over these two only counts can be relied on.
+//! The trusted edge: files of the runtime, and a writer. Nothing is told of what a file holds or a
+//! terminal shows, so over these two only counts can be relied on.
 
-ghost use Rattle.std.specs.Prelude.{◌≡◌, ◌≢◌, ◌+◌, ◌<◌, ◌≤◌, ℕ, List, None, IfOk, IfSome, OnOk, OnErr, length, take, vec_len};
+ghost use Rattle.std.specs.Prelude.{◌≡◌, ◌≢◌, ◌+◌, ◌<◌, ◌≤◌, ℕ, List, None, IfOk, IfSome, OnOk};
+ghost use Rattle.std.specs.Prelude.{OnErr, length, take, vec_len};
 ghost use Rattle.std.specs.Io.KnownBytes.{Appends};
 ghost use Rattle.cop_base.specs.Outside.{Rose, with_bytes};
 ghost use Rattle.cop_base.specs.Memory.{counted};
@@ -37,49 +38,44 @@ impl<'a, R: Files> FileLibrary<'a, R> {
         }
     }
 
-    // Counts a missing file.
-    fn miss(&mut self) -> FetchFault
-        ensures fault { result ≡ FetchFault.Missing }
-        ensures misses { self.new.misses ≡ counted self.old.misses }
-        ensures more { self.old.misses ≤ self.new.misses }
-        ensures faults { self.new.faults ≡ self.old.faults }
-    {
-        self.misses = count_up(self.misses);
-        FetchFault::Missing
-    }
-
-    // Counts a failed read; want of memory is not counted.
-    fn fail(&mut self, error: &io::Error) -> FetchFault
-        ensures no_miss { result ≢ FetchFault.Missing }
-        ensures no_limit { result ≢ FetchFault.TooLarge }
-        ensures failed { result ≡ FetchFault.Failed → self.new.faults ≡ counted self.old.faults }
-        ensures faults { self.old.faults ≤ self.new.faults }
-        ensures misses { self.new.misses ≡ self.old.misses }
-    {
-        if error.kind() == ErrorKind::OutOfMemory {
-            return FetchFault::NoMemory;
-        }
-        self.faults = count_up(self.faults);
-        FetchFault::Failed
-    }
-
-    // Counts a file that cannot be opened as missing or as a failed read.
-    fn fail_to_open(&mut self, error: &io::Error) -> FetchFault
-        ensures no_limit { result ≢ FetchFault.TooLarge }
-        ensures missing { result ≡ FetchFault.Missing → self.new.misses ≡ counted self.old.misses }
-        ensures failed { result ≡ FetchFault.Failed → self.new.faults ≡ counted self.old.faults }
-        ensures faults { self.old.faults ≤ self.new.faults }
+    // Raises the count that the fault calls for: of a missing file, or of a failed read. Want of
+    // memory is not counted.
+    fn count(&mut self, fault: FetchFault)
+        ensures missing { fault ≡ FetchFault.Missing → self.new.misses ≡ counted self.old.misses }
+        ensures failed { fault ≡ FetchFault.Failed → self.new.faults ≡ counted self.old.faults }
         ensures misses { self.old.misses ≤ self.new.misses }
+        ensures faults { self.old.faults ≤ self.new.faults }
     {
-        if error.kind() == ErrorKind::NotFound {
-            return self.miss();
+        match fault {
+            FetchFault::Missing => self.misses = count_up(self.misses),
+            FetchFault::Failed => self.faults = count_up(self.faults),
+            FetchFault::TooLarge | FetchFault::NoMemory => {}
         }
-        self.fail(error)
     }
 }
 
-// The file to its end, or `None` where it has more than `limit` bytes.
-fn read_whole<F: Read>(alloc: Global, file: &mut F, limit: u64) -> io::Result<Option<Vec<u8>>>
+fn read_fault(error: &io::Error) -> FetchFault
+    ensures { result ≢ FetchFault.TooLarge }
+{
+    match error.kind() {
+        ErrorKind::OutOfMemory => FetchFault::NoMemory,
+        _ => FetchFault::Failed,
+    }
+}
+
+fn open_fault(error: &io::Error) -> FetchFault
+    ensures { result ≢ FetchFault.TooLarge }
+{
+    match error.kind() {
+        ErrorKind::NotFound => FetchFault::Missing,
+        _ => read_fault(error),
+    }
+}
+
+/// What a reader has left, to its end, or `None` where that is more than `limit` bytes. A fetch
+/// from a `FileLibrary` answers what this reads: std tells nothing by which its contract could name
+/// the file that was opened.
+pub fn read_whole<F: Read>(alloc: Global, file: &mut F, limit: u64) -> io::Result<Option<Vec<u8>>>
     ensures within { IfOk result (λ read. IfSome read (λ bytes. vec_len bytes ≤ limit)) }
     ensures limited { result ≡ Ok None → limit ≢ u64.MAX }
     ensures whole { IfOk result (λ read. IfSome read (λ bytes.
@@ -95,6 +91,30 @@ fn read_whole<F: Read>(alloc: Global, file: &mut F, limit: u64) -> io::Result<Op
     Ok(Some(bytes))
 }
 
+// The whole file of this name.
+fn read_file<R: Files>(
+    alloc: Global,
+    runtime: &R,
+    name: &Text,
+    limit: u64,
+) -> Result<Vec<u8>, FetchFault>
+    ensures within { IfOk result (λ bytes. vec_len bytes ≤ limit) }
+    ensures limited { result ≡ Err FetchFault.TooLarge → limit ≢ u64.MAX }
+{
+    let Ok(path) = str::from_utf8(name.bytes()) else {
+        return Err(FetchFault::Missing);
+    };
+    let mut file = match fs::open(runtime, path) {
+        Ok(file) => file,
+        Err(e) => return Err(open_fault(&e)),
+    };
+    match read_whole(alloc, &mut file, limit) {
+        Ok(Some(bytes)) => Ok(bytes),
+        Ok(None) => Err(FetchFault::TooLarge),
+        Err(e) => Err(read_fault(&e)),
+    }
+}
+
 impl<'a, R: Files> Library for FileLibrary<'a, R> {
     ghost holds = { λ _. None };
 
@@ -103,17 +123,12 @@ impl<'a, R: Files> Library for FileLibrary<'a, R> {
     ghost misses = { λ l. l.misses };
 
     fn fetch(&mut self, name: &Text, limit: u64) -> Result<Vec<u8>, FetchFault> {
-        let Ok(path) = str::from_utf8(name.bytes()) else {
-            return Err(self.miss());
-        };
-        let mut file = match fs::open(self.runtime, path) {
-            Ok(file) => file,
-            Err(e) => return Err(self.fail_to_open(&e)),
-        };
-        match read_whole(self.alloc, &mut file, limit) {
-            Ok(Some(bytes)) => Ok(bytes),
-            Ok(None) => Err(FetchFault::TooLarge),
-            Err(e) => Err(self.fail(&e)),
+        match read_file(self.alloc, self.runtime, name, limit) {
+            Ok(bytes) => Ok(bytes),
+            Err(fault) => {
+                self.count(fault);
+                Err(fault)
+            }
         }
     }
 }
@@ -141,7 +156,8 @@ impl<W: Write + Drop> Sink for WriteSink<W> {
 
     fn put(&mut self, bytes: &[u8]) -> Result<(), PutFault>
         // Where the writer tells its contents, they grow by the bytes.
-        ensures passed { OnOk result (Appends (W.contents self.old.writer) (W.contents self.new.writer) bytes.now) }
+        ensures passed { OnOk result
+            (Appends (W.contents self.old.writer) (W.contents self.new.writer) bytes.now) }
         ensures more_faults { self.old.faults ≤ self.new.faults }
         ensures ok { OnOk result (None ≡ with_bytes None bytes.now) }
         ensures failed { OnErr result (Rose self.old.faults self.new.faults) }

@@ -1,15 +1,17 @@
-//! What every crate of the prover uses of the outside: where files are read and bytes are written, byte texts, and
-//! typed numbers.
+//! What every crate of the prover uses of the outside: where files are read and bytes are written,
+//! byte texts, typed numbers, and the budget of a search.
 #![tactic(auto)]
 
 use std::alloc::{AllocError, AllocFailed};
 
 mod edge;
+mod ledger;
 mod library;
 mod sink;
 mod text;
 
-pub use edge::{FileLibrary, WriteSink};
+pub use edge::{FileLibrary, WriteSink, read_whole};
+pub use ledger::Ledger;
 pub use library::{FetchFault, Library, MemLibrary};
 pub use sink::{MemSink, PutFault, Sink};
 pub use text::Text;
@@ -35,13 +37,13 @@ impl<T: Drop> From<AllocFailed<T>> for NoMemory {
 }
 
 /// The place of a symbol in the list of a problem's symbols, from 0.
-#[derive(Clone, Copy, Debug, PartialEq, Eq, PartialOrd, Ord, Hash)]
+#[derive(Clone, Copy, Debug, PartialEq, Eq)]
 pub struct SymbolId(pub u32);
 
 /// The number of a node of a formula in preorder, from 0. Terms are not counted.
-#[derive(Clone, Copy, Debug, PartialEq, Eq, PartialOrd, Ord, Hash)]
+#[derive(Clone, Copy, Debug, PartialEq, Eq)]
 pub struct PosId(pub u32);
 
 /// The place of a clause in a matrix, from 0.
-#[derive(Clone, Copy, Debug, PartialEq, Eq, PartialOrd, Ord, Hash)]
+#[derive(Clone, Copy, Debug, PartialEq, Eq)]
 pub struct ClauseId(pub u32);

@@ -1,6 +1,7 @@
 //! Where problems and derivations are read from.
 
-ghost use Rattle.std.specs.Prelude.{◌≡◌, ◌≢◌, ◌<◌, ◌≤◌, ℕ, Option, None, Some, length, option_copied, IfSome, IsSomeAnd, IfOk, IsOkAnd, vec_len};
+ghost use Rattle.std.specs.Prelude.{◌≡◌, ◌≢◌, ◌<◌, ◌≤◌, ℕ, Option, None, Some, length};
+ghost use Rattle.std.specs.Prelude.{option_copied, IfSome, IsSomeAnd, IfOk, IsOkAnd, vec_len};
 ghost use Rattle.std.specs.Option.{option_map};
 ghost use Rattle.cop_base.specs.Outside.{Rose, Files, file_in, files_of};
 ghost use Rattle.cop_base.specs.Memory.{IsFetched, after_fetch, counted};
@@ -22,7 +23,8 @@ pub enum FetchFault {
     NoMemory,
 }
 
-/// Files by name. A count that an implementation keeps in a `u64` stays at its greatest value once it is there.
+/// Files by name. A count that an implementation keeps in a `u64` stays at its greatest value once
+/// it is there.
 pub trait Library {
     // the files, where the library tells them
     ghost holds: { Self → Option Files };
@@ -40,7 +42,8 @@ pub trait Library {
         ensures within { IfOk result (λ bytes. vec_len bytes ≤ limit) }
         ensures held { IfOk result (λ bytes. IfSome (holds self.old)
             (λ files. file_in files name.now ≡ Some bytes.items)) }
-        ensures missing { result ≡ Err FetchFault.Missing → Rose (misses self.old) (misses self.new) }
+        ensures missing { result ≡ Err FetchFault.Missing
+            → Rose (misses self.old) (misses self.new) }
         ensures not_held { result ≡ Err FetchFault.Missing → IfSome (holds self.old)
             (λ files. file_in files name.now ≡ None) }
         ensures failed { result ≡ Err FetchFault.Failed → Rose (faults self.old) (faults self.new) }
@@ -83,8 +86,8 @@ pub(crate) fn count_up(count: u64) -> u64
 }
 
 impl MemLibrary {
-    /// A library of these files; of each name the first one counts. The fetches whose numbers, from 1, stand in
-    /// `failing` fail.
+    /// A library of these files; of each name the first one counts. The fetches whose numbers, from
+    /// 1, stand in `failing` fail.
     pub fn new(
         alloc: Global,
         files: Vec<(Text, Vec<u8>)>,
@@ -111,7 +114,8 @@ impl MemLibrary {
 
 // The first file of this name.
 fn find_file<'a>(files: &'a Vec<(Text, Vec<u8>)>, name: &Text) -> Option<&'a Vec<u8>>
-    ensures { option_map (λ bytes. bytes.items) (option_copied result) ≡ file_in (files_of files.now.items) name.now }
+    ensures { option_map (λ bytes. bytes.items) (option_copied result)
+        ≡ file_in (files_of files.now.items) name.now }
 {
     for file in files.iter() {
         if file.0 == *name {
@@ -137,7 +141,8 @@ impl Library for MemLibrary {
         ensures within { IfOk result (λ bytes. vec_len bytes ≤ limit) }
         ensures held { IfOk result (λ bytes. file_in self.old.files name.now ≡ Some bytes.items) }
         ensures missing { result ≡ Err FetchFault.Missing → Rose self.old.misses self.new.misses }
-        ensures not_held { result ≡ Err FetchFault.Missing → file_in self.old.files name.now ≡ None }
+        ensures not_held { result ≡ Err FetchFault.Missing
+            → file_in self.old.files name.now ≡ None }
         ensures failed { result ≡ Err FetchFault.Failed → Rose self.old.faults self.new.faults }
         ensures limited { result ≡ Err FetchFault.TooLarge → limit ≢ u64.MAX }
         ensures too_large { result ≡ Err FetchFault.TooLarge
@@ -167,28 +172,34 @@ mod tests {
     use super::*;
     use std::test::Fail;
 
-    // The first file of a name counts, and the third fetch fails.
+    fn file(alloc: Global, name: &[u8], bytes: &[u8]) -> Result<(Text, Vec<u8>), NoMemory> {
+        let name = Text::new(alloc, name)?;
+        Ok((name, Vec::from_slice(alloc, bytes)?))
+    }
+
+    // Two files of one name; the second fetch fails.
+    fn library(alloc: Global) -> Result<MemLibrary, NoMemory> {
+        let mut files = Vec::new(alloc);
+        files.push(file(alloc, b"a", b"one")?)?;
+        files.push(file(alloc, b"a", b"two")?)?;
+        let failing = Vec::from_slice(alloc, &[2])?;
+        MemLibrary::new(alloc, files, failing)
+    }
+
+    fn is_fetched(library: &mut MemLibrary, name: &Text, bytes: &[u8]) -> bool {
+        match library.fetch(name, 3) {
+            Ok(fetched) => fetched.as_slice() == bytes,
+            Err(_) => false,
+        }
+    }
+
+    // The first file of a name counts.
     #[test]
     fn fetches_the_first_file(rt: HostRuntime) -> Result<(), Fail> {
-        let mut files = Vec::new(rt.alloc());
-        files.push((
-            Text::new(rt.alloc(), b"a")?,
-            b"one".as_slice().to_vec(rt.alloc())?,
-        ))?;
-        files.push((
-            Text::new(rt.alloc(), b"a")?,
-            b"two".as_slice().to_vec(rt.alloc())?,
-        ))?;
-        let mut failing = Vec::new(rt.alloc());
-        failing.push(3)?;
-        let mut library = MemLibrary::new(rt.alloc(), files, failing)?;
+        let mut library = library(rt.alloc())?;
         let name = Text::new(rt.alloc(), b"a")?;
-        let other = Text::new(rt.alloc(), b"b")?;
-        let bytes = library.fetch(&name, 3)?;
-        assert!(rt; bytes.as_slice() == b"one".as_slice());
-        assert!(rt; library.fetch(&name, 2).err() == Some(FetchFault::TooLarge));
-        assert!(rt; library.fetch(&name, 3).err() == Some(FetchFault::Failed));
-        assert!(rt; library.fetch(&other, 3).err() == Some(FetchFault::Missing));
+        assert!(rt; is_fetched(&mut library, &name, b"one"));
+        assert!(rt; !is_fetched(&mut library, &name, b"one"));
         Ok(())
     }
 }

@@ -1,6 +1,7 @@
 //! Where the output is written.
 
-ghost use Rattle.std.specs.Prelude.{◌≡◌, ◌+◌, ◌<◌, ◌≤◌, ℕ, Option, Some, List, [], length, take, IfOk, IfSome, OnOk, OnErr, IsErr, ◌↔◌, IsTrue, option_copied};
+ghost use Rattle.std.specs.Prelude.{◌≡◌, ◌+◌, ◌<◌, ◌≤◌, ℕ, Option, Some, List, [], length, take};
+ghost use Rattle.std.specs.Prelude.{IfOk, IfSome, OnOk, OnErr, IsErr, ◌↔◌, IsTrue, option_copied};
 ghost use Rattle.std.specs.Option.{option_map};
 ghost use Rattle.cop_base.specs.Outside.{Rose, with_bytes};
 ghost use Rattle.cop_base.specs.Memory.{after_put, counted, failure_in, put_fails};
@@ -29,7 +30,8 @@ pub trait Sink {
         ensures more_faults { faults self.old ≤ faults self.new }
         ensures ok { OnOk result (written self.new ≡ with_bytes (written self.old) bytes.now) }
         ensures failed { OnErr result (Rose (faults self.old) (faults self.new)) }
-        ensures part { OnErr result ((n : ℕ) × (written self.new ≡ with_bytes (written self.old) (take n bytes.now))) };
+        ensures part { OnErr result
+            ((n : ℕ) × (written self.new ≡ with_bytes (written self.old) (take n bytes.now))) };
 }
 
 /// A sink in memory.
@@ -72,8 +74,8 @@ fn failure(failing: &[(u64, u64)], call: u64) -> Option<u64>
 }
 
 impl MemSink {
-    /// An empty sink that takes `capacity` bytes in all, which it reserves at once. In a pair (k, n) of `failing` the
-    /// put of number k, from 1, takes n bytes, or all if fewer, and fails.
+    /// An empty sink that takes `capacity` bytes in all, which it reserves at once. In a pair (k,
+    /// n) of `failing` the put of number k, from 1, takes n bytes, or all if fewer, and fails.
     pub fn new(
         alloc: Global,
         capacity: usize,
@@ -113,9 +115,11 @@ impl Sink for MemSink {
         ensures after { self.new ≡ after_put self.old bytes.now }
         ensures fails { IsErr result ↔ IsTrue (put_fails self.old (length bytes.now)) }
         ensures more_faults { self.old.faults ≤ self.new.faults }
-        ensures ok { OnOk result (Some self.new.written ≡ with_bytes (Some self.old.written) bytes.now) }
+        ensures ok { OnOk result
+            (Some self.new.written ≡ with_bytes (Some self.old.written) bytes.now) }
         ensures failed { OnErr result (Rose self.old.faults self.new.faults) }
-        ensures part { OnErr result ((n : ℕ) × (Some self.new.written ≡ with_bytes (Some self.old.written) (take n bytes.now))) }
+        ensures part { OnErr result ((n : ℕ) ×
+            (Some self.new.written ≡ with_bytes (Some self.old.written) (take n bytes.now))) }
     {
         self.calls = count_up(self.calls);
         let fits = bytes.len().min(self.room);
@@ -139,16 +143,24 @@ mod tests {
     use super::*;
     use std::test::Fail;
 
-    // The second put takes three bytes and fails; the fourth does not fit.
+    // A sink of nine bytes, of which the second put takes three and fails.
+    fn sink(alloc: Global) -> Result<MemSink, NoMemory> {
+        let failing = Vec::from_slice(alloc, &[(2, 3)])?;
+        MemSink::new(alloc, 9, failing)
+    }
+
+    fn is_put(sink: &mut MemSink, bytes: &[u8]) -> bool {
+        sink.put(bytes).is_ok()
+    }
+
+    // The fourth put does not fit.
     #[test]
     fn takes_what_fits(rt: HostRuntime) -> Result<(), Fail> {
-        let mut failing = Vec::new(rt.alloc());
-        failing.push((2, 3))?;
-        let mut sink = MemSink::new(rt.alloc(), 9, failing)?;
-        assert_eq!(rt; sink.put(b"abcd".as_slice()), Ok(()));
-        assert_eq!(rt; sink.put(b"efgh".as_slice()), Err(PutFault::Failed));
-        assert_eq!(rt; sink.put(b"i".as_slice()), Ok(()));
-        assert_eq!(rt; sink.put(b"jk".as_slice()), Err(PutFault::Failed));
+        let mut sink = sink(rt.alloc())?;
+        assert!(rt; is_put(&mut sink, b"abcd"));
+        assert!(rt; !is_put(&mut sink, b"efgh"));
+        assert!(rt; is_put(&mut sink, b"i"));
+        assert!(rt; !is_put(&mut sink, b"jk"));
         assert!(rt; sink.written() == b"abcdefgij".as_slice());
         Ok(())
     }

@@ -16,15 +16,16 @@ use derivation_text::{ParseFault, parse};
 use logic_rules::Problem;
 use std::alloc::Global;
 
-/// Judges bytes as the text of a derivation of the problem: faults of the text first, over the whole text, then those of
-/// the steps in their order, then whether a branch is open.
+/// Judges bytes as the text of a derivation of the problem: faults of the text first, over the
+/// whole text, then those of the steps in their order, then whether a branch is open.
 pub fn check(alloc: Global, problem: &Problem, bytes: &[u8]) -> Result<Verdict, NoMemory>
     ensures judgement { IfOk result (λ v. IsOnlyJudgement problem.now bytes.now (the_verdict v)) }
 
     // From one sequent two readings of a list of steps leave the same rest.
     ensures one_reading { (names : derivation.Names) → AtMostOneReading problem.now names }
 
-    // A formula that is false at the root of a finite structure has no derivation; what is accepted is true in each.
+    // What has a derivation is true in each structure of the setting, so a formula that a finite one
+    // makes false has none; what is accepted is true in each.
     ensures sound { IsSound problem.now }
     ensures valid { IfOk result (λ v. v ≡ Verdict.Accepted → IsTrueInStructures problem.now) }
 {

@@ -1,5 +1,3 @@
-//! The open sequents of a derivation.
-
 ghost use Rattle.std.specs.Prelude.{◌≡◌, ◌∷◌, ◌++◌, [], List, IfOk, OnOk, drop, map, not};
 ghost use Rattle.calculus.specs.Derivations as derivation;
 ghost use Rattle.calculus.specs.Judgement.{open_after};
@@ -12,8 +10,8 @@ use sequent_calc::{Addition, Entry, Sequent};
 use std::alloc::{AllocError, AllocFailed, Global};
 use std::marker::Model;
 
-/// The open sequents, the current one first. They share one branch: a sequent that waits is the beginning of the branch
-/// up to a fork, with one entry more.
+/// The open sequents, the current one first. They share one branch: a sequent that waits is the
+/// beginning of the branch up to a fork, with one entry more.
 #[derive(Drop)]
 pub struct OpenSequents {
     is_open: bool,
@@ -33,7 +31,8 @@ impl Model for OpenSequents {
 
     ghost coded = { Prim.hlevel (codes, formula_code) };
 
-    ghost view = { λ b. open_sequents b.is_open (map the_entry b.branch.items) (reverse b.forks.items) };
+    ghost view = { λ b.
+        open_sequents b.is_open (map the_entry b.branch.items) (reverse b.forks.items) };
 
     ghost invariant = { λ b. Nest (length (map the_entry b.branch.items)) (reverse b.forks.items) };
 }
@@ -61,7 +60,8 @@ impl OpenSequents {
 
     /// The entries of the current sequent.
     pub fn current(&self) -> &[Entry]
-        ensures { (s : derivation.Sequent) → (rest : List derivation.Sequent) → self.now ≡ s ∷ rest → map the_entry result.now ≡ s }
+        ensures { (s : derivation.Sequent) → (rest : List derivation.Sequent) → self.now ≡ s ∷ rest
+            → map the_entry result.now ≡ s }
     {
         self.branch.as_slice()
     }
@@ -82,8 +82,8 @@ impl OpenSequents {
 
     // Adds entries to the current sequent.
     fn add_all(&mut self, entries: Sequent) -> Result<(), NoMemory>
-        ensures ok { OnOk result ((s : derivation.Sequent) → (rest : List derivation.Sequent) → self.old ≡ s ∷ rest
-            → self.new ≡ (s ++ entries) ∷ rest) }
+        ensures ok { OnOk result ((s : derivation.Sequent) → (rest : List derivation.Sequent)
+            → self.old ≡ s ∷ rest → self.new ≡ (s ++ entries) ∷ rest) }
     {
         let mut entries = entries.into_items();
         self.branch.append(&mut entries)?;
@@ -92,8 +92,8 @@ impl OpenSequents {
 
     // Splits the current sequent into two, each with one of the entries more.
     fn fork(&mut self, first: Entry, second: Entry) -> Result<(), NoMemory>
-        ensures ok { OnOk result ((s : derivation.Sequent) → (rest : List derivation.Sequent) → self.old ≡ s ∷ rest
-            → self.new ≡ (s ++ the_entry first ∷ []) ∷ (s ++ the_entry second ∷ []) ∷ rest) }
+        ensures ok { OnOk result ((s : derivation.Sequent) → (rest : List derivation.Sequent)
+            → self.old ≡ s ∷ rest → self.new ≡ (s ++ the_entry first ∷ []) ∷ (s ++ the_entry second ∷ []) ∷ rest) }
     {
         self.forks.push((self.branch.len(), second))?;
         self.branch.push(first)?;
@@ -102,13 +102,13 @@ impl OpenSequents {
 
     /// Replaces the current sequent by those that a step leads to.
     pub fn advance(&mut self, addition: Addition) -> Result<(), NoMemory>
-        ensures { OnOk result ((s : derivation.Sequent) → (rest : List derivation.Sequent) → self.old ≡ s ∷ rest
-            → self.new ≡ open_after (children_by s addition) rest) }
+        ensures { OnOk result ((s : derivation.Sequent) → (rest : List derivation.Sequent)
+            → self.old ≡ s ∷ rest → self.new ≡ open_after (children_by s addition) rest) }
     {
         match addition {
-            Addition::Nothing => self.close(),
-            Addition::One(entries) => self.add_all(entries),
-            Addition::Two(first, second) => self.fork(first, second),
+            Addition::Close => self.close(),
+            Addition::Extend(entries) => self.add_all(entries),
+            Addition::Fork(first, second) => self.fork(first, second),
         }
     }
 }

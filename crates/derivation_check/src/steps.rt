@@ -1,4 +1,4 @@
-//! The judgement of steps.
+//! The steps of a derivation one by one, until the first that breaks a rule.
 
 ghost use Rattle.std.specs.Prelude.{◌≡◌, ◌+◌, ◌∷◌, ◌≤◌, List, IfOk, length};
 ghost use Rattle.std.specs.Option.{option_map_or};
@@ -25,7 +25,8 @@ fn judge_step(
     step: &Step,
     line: u64,
 ) -> Result<Option<Verdict>, NoMemory>
-    ensures { IfOk result (λ judged. (rest : List derivation.Step) → verdict_from problem.now (the_names names.now) open_sequents.old
+    ensures { IfOk result (λ judged. (rest : List derivation.Step)
+        → verdict_from problem.now (the_names names.now) open_sequents.old
         (the_step step.now ∷ rest) line ≡ option_map_or the_verdict judged
         (verdict_from problem.now (the_names names.now) open_sequents.new rest (line + 1))) }
 {
@@ -62,8 +63,8 @@ fn at_end(open_sequents: &OpenSequents, line: u64) -> Verdict
     }
 }
 
-/// The verdict on the steps of a derivation. Lines are counted as in its text: the first step stands in the line after those
-/// of the head and the names.
+/// The verdict on the steps of a derivation. Lines are counted as in its text: the first step
+/// stands in the line after those of the head and the names.
 pub fn judge(alloc: Global, problem: &Problem, d: &Derivation) -> Result<Verdict, NoMemory>
     requires { 5 + length d.now.names.eigens + length d.now.names.spares + length d.now.steps ≤ u64.MAX }
     ensures { IfOk result (λ v. the_verdict v ≡ verdict_on problem.now (the_derivation d.now)) }

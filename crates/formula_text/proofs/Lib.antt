@@ -12,3 +12,6 @@ pub mod Closings
 pub mod Apart
 pub mod Fitting
 pub mod Passing
+pub mod TermTexts
+pub mod AtomTexts
+pub mod FormulaTexts

@@ -1,16 +1,19 @@
 //! Formulas.
 
-ghost use Rattle.std.specs.Prelude.{◌≡◌, ◌++◌, ◌∷◌, ◌+◌, ◌<◌, ◌≤◌, IsTrue, ℕ, codes, decimal, length, OnOk, OnErr};
+ghost use Rattle.std.specs.Prelude.{◌≡◌, ◌++◌, ◌∷◌, ◌+◌, ◌<◌, ◌≤◌, IsTrue, ℕ, codes, decimal};
+ghost use Rattle.std.specs.Prelude.{length, OnOk, OnErr};
 ghost use Rattle.std.specs.List.{list_all};
 ghost use Rattle.calculus.specs.declared.setting.Logic as setting;
 ghost use Rattle.calculus.specs.Lists.{terms_tree};
 ghost use Rattle.calculus.specs.Measures.{nesting};
 ghost use Rattle.calculus.specs.Problems.{formula_fits, symbol_fits};
-ghost use Rattle.calculus.specs.Text.{atom_text, equation_text, formula_text, joined_text, quantified_text, term_text};
+ghost use Rattle.calculus.specs.Text.{atom_text, equation_text, formula_text, joined_text};
+ghost use Rattle.calculus.specs.Text.{quantified_text, term_text};
 ghost use Rattle.formula_core.specs.FormulaView.{the_formula};
 ghost use Rattle.formula_core.specs.TermView.{the_term};
 ghost use Rattle.formula_text.specs.Extends.{Extends};
 ghost use Rattle.formula_text.specs.Known.{formula_is_known, term_is_known, terms_are_known};
+ghost use Rattle.formula_text.specs.Single.{FormulaTextsDiffer};
 
 use crate::append::{append_byte, append_bytes, append_number, undo_if_failed};
 use crate::name::append_symbol;
@@ -47,7 +50,8 @@ fn append_equation(
     args: &Terms,
 ) -> Result<(), NoMemory>
     requires { IsTrue (terms_are_known symbols.now (terms_tree args.now)) }
-    ensures ok { OnOk result (out.new.items ≡ out.old.items ++ equation_text symbols.now depth (terms_tree args.now)) }
+    ensures ok { OnOk result (out.new.items
+        ≡ out.old.items ++ equation_text symbols.now depth (terms_tree args.now)) }
     ensures extends { Extends out.old.items out.new.items }
 {
     match args.items() {
@@ -65,7 +69,8 @@ fn append_atom(
 ) -> Result<(), NoMemory>
     requires known { predicate.0 < length symbols.now }
     requires args_known { IsTrue (terms_are_known symbols.now (terms_tree args.now)) }
-    ensures ok { OnOk result (out.new.items ≡ out.old.items ++ atom_text symbols.now depth predicate.0 (terms_tree args.now)) }
+    ensures ok { OnOk result (out.new.items
+        ≡ out.old.items ++ atom_text symbols.now depth predicate.0 (terms_tree args.now)) }
     ensures extends { Extends out.old.items out.new.items }
 {
     let symbol = symbols.get(predicate);
@@ -81,7 +86,8 @@ fn append_atom(
 // The prefix of a quantifier that lies inside `depth` others.
 fn append_quantifier(out: &mut Vec<u8>, quantifier: u8, depth: u64) -> Result<(), NoMemory>
     requires { depth < 1100 }
-    ensures ok { OnOk result (out.new.items ≡ out.old.items ++ quantifier ∷ (codes "[X" ++ decimal (depth + 1) ++ codes "]:")) }
+    ensures ok { OnOk result (out.new.items
+        ≡ out.old.items ++ quantifier ∷ (codes "[X" ++ decimal (depth + 1) ++ codes "]:")) }
     ensures extends { Extends out.old.items out.new.items }
 {
     append_byte(out, quantifier)?;
@@ -126,7 +132,8 @@ fn append_formula(
 ) -> Result<(), NoMemory>
     requires known { IsTrue (formula_is_known symbols.now (the_formula f.now)) }
     requires shallow { depth + nesting (the_formula f.now) ≤ 1100 }
-    ensures ok { OnOk result ((d : ℕ) → depth ≡ d → out.new.items ≡ out.old.items ++ formula_text symbols.now d (the_formula f.now)) }
+    ensures ok { OnOk result ((d : ℕ) → depth ≡ d → out.new.items
+        ≡ out.old.items ++ formula_text symbols.now d (the_formula f.now)) }
     ensures extends { Extends out.old.items out.new.items }
 {
     match f {
@@ -157,14 +164,17 @@ fn append_formula(
     }
 }
 
-/// Appends a closed formula without eigenvariables and spare constants. The variable of a quantifier that lies inside k others is
-/// `X` and k + 1.
+/// Appends a closed formula without eigenvariables and spare constants. The variable of a
+/// quantifier that lies inside k others is `X` and k + 1.
 pub fn write_formula(out: &mut Vec<u8>, symbols: &Symbols, f: &Formula) -> Result<(), NoMemory>
-    requires fits { (l : setting.Logic) × IsTrue (formula_fits l symbols.now 0 (the_formula f.now)) }
+    requires fits { (l : setting.Logic)
+        × IsTrue (formula_fits l symbols.now 0 (the_formula f.now)) }
     requires names { IsTrue (list_all symbol_fits symbols.now) }
     requires shallow { nesting (the_formula f.now) ≤ 1100 }
-    ensures ok { OnOk result (out.new.items ≡ out.old.items ++ formula_text symbols.now 0 (the_formula f.now)) }
+    ensures ok { OnOk result (out.new.items
+        ≡ out.old.items ++ formula_text symbols.now 0 (the_formula f.now)) }
     ensures err { OnErr result (out.new.items ≡ out.old.items) }
+    ensures apart { FormulaTextsDiffer symbols.now }
 {
     let kept = out.len();
     let appended = append_formula(out, symbols, 0, f);

@@ -39,7 +39,7 @@ HoldsNoProblem told file = IfSome told (λ files. IsSomeAnd (file_in files file)
 
 -- ---- the search
 
--- the formula is true in each finite structure of the setting, and a tautology
+-- the formula is true in each structure of the setting, and a tautology: true whatever truth values its propositions have
 pub record IsValid (P : Problem) : Type 0 where
   pub true_in_structures : IsTrueInStructures P
   pub tautology : IsTautology P

@@ -5,8 +5,8 @@ use Rattle.calculus.specs.declared.kind.Shape.TheVariants.{Alpha, Beta}
 use Rattle.calculus.specs.Kinds.{shape_of}
 use Rattle.calculus.specs.Positions.{Node, size}
 use Rattle.calculus.specs.Derivations.{Step, close}
-use Rattle.propositional_convert.specs.declared.outcome.Outcome.{Outcome}
-use Rattle.propositional_convert.specs.declared.outcome.Outcome.TheVariants.{Open, Closed, Fork}
+use Rattle.propositional_convert.specs.declared.expanded.Expanded.{Expanded}
+use Rattle.propositional_convert.specs.declared.expanded.Expanded.TheVariants.{Open, Closed, Fork}
 use Rattle.propositional_convert.specs.Literals.{Literal, literal, literal_numbered, IsPair}
 use Rattle.propositional_convert.specs.Branches.{IsExpanded, AllFit, weight}
 use Rattle.propositional_convert.specs.Stepping.{plain_use, IsClosed, IsLed, IsForked}
@@ -44,7 +44,7 @@ stays-same zs marks ns k n xs h done = record {
 }
 
 -- the branch gets these nodes, and is closed if there is a pair then
-added-outcome : (zs : List ℕ) (marks : List Bool) (ns ms added : List Node) (k number : ℕ) (before after : List Step) → number ≡ suc k → AllFit zs ns → Expansion zs marks ns k added → IsLed ns (ns ++ added) before (before ++ plain_use (suc k) ∷ []) → length (ns ++ added) < 2 ^ 32 → (outcome : Outcome) → IsUse ns ms number added before after outcome → IsOutcome zs marks ns ms k before after outcome
+added-outcome : (zs : List ℕ) (marks : List Bool) (ns ms added : List Node) (k number : ℕ) (before after : List Step) → number ≡ suc k → AllFit zs ns → Expansion zs marks ns k added → IsLed ns (ns ++ added) before (before ++ plain_use (suc k) ∷ []) → length (ns ++ added) < 2 ^ 32 → (outcome : Expanded) → IsUse ns ms number added before after outcome → IsOutcome zs marks ns ms k before after outcome
 added-outcome zs marks ns ms added k number before after e fit w led few Open used = record {
   added = added;
   grown = used.0;
@@ -61,7 +61,7 @@ added-outcome zs marks ns ms added k number before after e fit w led few (Fork a
 number-small : (ns : List Node) (k : ℕ) (n : Node) → slice_get ns k ≡ Some n → length ns ≤ 4000000 → suc k < 2 ^ 32
 number-small ns k n h few = omega (arith, get-within ns k n h)
 
-pub used-one : (zs : List ℕ) (marks : List Bool) (ns ms : List Node) (k number : ℕ) (n a : Node) (before after : List Step) → AllFit zs ns → slice_get ns k ≡ Some n → length ns ≤ 4000000 → IsOne zs n a → number ≡ suc k → (outcome : Outcome) → IsUse ns ms number (a ∷ []) before after outcome → IsOutcome zs marks ns ms k before after outcome
+pub used-one : (zs : List ℕ) (marks : List Bool) (ns ms : List Node) (k number : ℕ) (n a : Node) (before after : List Step) → AllFit zs ns → slice_get ns k ≡ Some n → length ns ≤ 4000000 → IsOne zs n a → number ≡ suc k → (outcome : Expanded) → IsUse ns ms number (a ∷ []) before after outcome → IsOutcome zs marks ns ms k before after outcome
 used-one zs marks ns ms k number n a before after fit h few one e outcome used =
     let light : weight (a ∷ []) < size n.formula = (let s : size n.formula ≡ suc (size a.formula) = one.size_is in omega arith) in
     added-outcome zs marks ns ms (a ∷ []) k number before after e fit
@@ -69,7 +69,7 @@ used-one zs marks ns ms k number n a before after fit h few one e outcome used =
     (led-one ns k n a zs before (number-small ns k n h few) (fit k n h).propositional h one)
     (omega (arith, length-append ns (a ∷ []))) outcome used
 
-pub used-alpha : (zs : List ℕ) (marks : List Bool) (ns ms : List Node) (k number : ℕ) (n a b : Node) (before after : List Step) → AllFit zs ns → slice_get ns k ≡ Some n → length ns ≤ 4000000 → shape_of n.sign n.formula ≡ Alpha → AreTwo zs n a b → number ≡ suc k → (outcome : Outcome) → IsUse ns ms number (a ∷ b ∷ []) before after outcome → IsOutcome zs marks ns ms k before after outcome
+pub used-alpha : (zs : List ℕ) (marks : List Bool) (ns ms : List Node) (k number : ℕ) (n a b : Node) (before after : List Step) → AllFit zs ns → slice_get ns k ≡ Some n → length ns ≤ 4000000 → shape_of n.sign n.formula ≡ Alpha → AreTwo zs n a b → number ≡ suc k → (outcome : Expanded) → IsUse ns ms number (a ∷ b ∷ []) before after outcome → IsOutcome zs marks ns ms k before after outcome
 used-alpha zs marks ns ms k number n a b before after fit h few shape parts e outcome used =
     let light : weight (a ∷ b ∷ []) < size n.formula = (let s : size n.formula ≡ suc (size a.formula + size b.formula) = parts.size_is in omega arith) in
     added-outcome zs marks ns ms (a ∷ b ∷ []) k number before after e fit

@@ -3,8 +3,8 @@ use Rattle.std.specs.Prelude.{◌≡◌, ℕ, ◌<◌, List, [], ◌∷◌, ◌+
 use Rattle.std.specs.List.{AllByRecursion}
 use Rattle.calculus.specs.Positions.{Node, size}
 use Rattle.calculus.specs.Derivations.{Step, close}
-use Rattle.propositional_convert.specs.declared.outcome.Outcome.{Outcome}
-use Rattle.propositional_convert.specs.declared.outcome.Outcome.TheVariants.{Open, Closed, Fork}
+use Rattle.propositional_convert.specs.declared.expanded.Expanded.{Expanded}
+use Rattle.propositional_convert.specs.declared.expanded.Expanded.TheVariants.{Open, Closed, Fork}
 use Rattle.propositional_convert.specs.Literals.{HasNoPair, IsPair}
 use Rattle.propositional_convert.specs.Parts.{Fits}
 use Rattle.propositional_convert.specs.Branches.{IsExpanded, weight, Extends}
@@ -34,13 +34,13 @@ pub record IsFork (sizes : List ℕ) (marks : List Bool) (ns ms : List Node) (a 
   pub forked : IsForked ns a b before after
 
 -- the node of the branch ns with this index was expanded
-abbrev pub IsOutcome : List ℕ → List Bool → List Node → List Node → ℕ → List Step → List Step → Outcome → Type 0
+abbrev pub IsOutcome : List ℕ → List Bool → List Node → List Node → ℕ → List Step → List Step → Expanded → Type 0
 IsOutcome sizes marks ns ms index before after Open = StaysOpen sizes marks ns ms index before after
 IsOutcome sizes marks ns ms index before after Closed = Extends ns ms × IsClosed ns before after
 IsOutcome sizes marks ns ms index before after (Fork a b) = IsFork sizes marks ns ms (the_node a) (the_node b) index before after
 
 -- the node with this number was used, which added these nodes
-abbrev pub IsUse : List Node → List Node → ℕ → List Node → List Step → List Step → Outcome → Type 0
+abbrev pub IsUse : List Node → List Node → ℕ → List Node → List Step → List Step → Expanded → Type 0
 IsUse ns ms number added before after Open = (ms ≡ ns ++ added) × (after ≡ before ++ plain_use number ∷ []) × (HasNoPair ns → HasNoPair ms)
 IsUse ns ms number added before after Closed = (ms ≡ ns ++ added) × ((given : ℕ) × (shown : ℕ) × (after ≡ (before ++ plain_use number ∷ []) ++ close given shown ∷ []) × IsPair ms given shown)
 IsUse ns ms number added before after (Fork a b) = ⊥

@@ -12,8 +12,8 @@ ghost use Rattle.propositional_convert.specs.Outcomes.{IsOutcome, IsUse};
 ghost use Rattle.propositional_convert.specs.Stepping.{IsClosed, plain_use};
 
 use crate::branch::{Branch, Pair};
+use crate::expanded::Expanded;
 use crate::node::{Node, Parts};
-use crate::outcome::Outcome;
 use crate::plan::Plan;
 use cop_base::NoMemory;
 use sequent_calc::{ModalArg, Step, StepList, TermArg};
@@ -48,17 +48,17 @@ fn use_one<'a>(
     number: usize,
     part: Node<'a>,
     steps: &mut StepList,
-) -> Result<Outcome<'a>, NoMemory>
+) -> Result<Expanded<'a>, NoMemory>
     requires number { number < 2 ^ 32 }
     requires few { length branch.old + 2 < 2 ^ 32 }
     ensures { IfOk result (λ outcome. IsUse branch.old branch.new number (the_node part.entry ∷ []) steps.old steps.new outcome) }
 {
     push_use(steps, number)?;
     match branch.add(part)? {
-        None => Ok(Outcome::Open),
+        None => Ok(Expanded::Open),
         Some(pair) => {
             push_axiom(steps, pair)?;
-            Ok(Outcome::Closed)
+            Ok(Expanded::Closed)
         }
     }
 }
@@ -70,7 +70,7 @@ fn use_alpha<'a>(
     first: Node<'a>,
     second: Node<'a>,
     steps: &mut StepList,
-) -> Result<Outcome<'a>, NoMemory>
+) -> Result<Expanded<'a>, NoMemory>
     requires number { number < 2 ^ 32 }
     requires few { length branch.old + 2 < 2 ^ 32 }
     ensures { IfOk result (λ outcome. IsUse branch.old branch.new number (the_node first.entry ∷ the_node second.entry ∷ []) steps.old steps.new outcome) }
@@ -79,14 +79,14 @@ fn use_alpha<'a>(
     let at_first = branch.add(first)?;
     let at_second = branch.add(second)?;
     match (at_first, at_second) {
-        (None, None) => Ok(Outcome::Open),
+        (None, None) => Ok(Expanded::Open),
         (Some(pair), _) => {
             push_axiom(steps, pair)?;
-            Ok(Outcome::Closed)
+            Ok(Expanded::Closed)
         }
         (None, Some(pair)) => {
             push_axiom(steps, pair)?;
-            Ok(Outcome::Closed)
+            Ok(Expanded::Closed)
         }
     }
 }
@@ -98,7 +98,7 @@ fn expand<'a>(
     branch: &mut Branch<'a>,
     index: usize,
     steps: &mut StepList,
-) -> Result<Outcome<'a>, NoMemory>
+) -> Result<Expanded<'a>, NoMemory>
     requires fit { AllFit plan.now.sizes.items branch.old }
     requires there { index < length branch.old }
     requires few { length branch.old ≤ 4000000 }
@@ -106,13 +106,13 @@ fn expand<'a>(
 {
     let node = branch.node(index);
     if !plan.is_marked(node.position) {
-        return Ok(Outcome::Open);
+        return Ok(Expanded::Open);
     }
     if branch.holds(node.sign, node.formula) {
-        return Ok(Outcome::Open);
+        return Ok(Expanded::Open);
     }
     match plan.parts(node) {
-        Parts::Literal => Ok(Outcome::Open),
+        Parts::Literal => Ok(Expanded::Open),
         Parts::One(part) => {
             let outcome = use_one(branch, index + 1, part, steps)?;
             Ok(outcome)
@@ -123,7 +123,7 @@ fn expand<'a>(
         }
         Parts::Beta(first, second) => {
             push_use(steps, index + 1)?;
-            Ok(Outcome::Fork(first, second))
+            Ok(Expanded::Fork(first, second))
         }
     }
 }
@@ -215,9 +215,9 @@ pub fn close<'a>(
     while let Some(index) = take(plan, branch, &mut waiting) {
         let length = branch.len();
         match expand(plan, branch, index, steps)? {
-            Outcome::Open => put_indexes(&mut waiting, length, branch.len())?,
-            Outcome::Closed => return Ok(()),
-            Outcome::Fork(first, second) => {
+            Expanded::Open => put_indexes(&mut waiting, length, branch.len())?,
+            Expanded::Closed => return Ok(()),
+            Expanded::Fork(first, second) => {
                 close(plan, branch, waiting.clone()?, first, steps)?;
                 branch.truncate(length);
                 close(plan, branch, waiting, second, steps)?;

@@ -10,8 +10,8 @@ ghost use Rattle.tableau_core.specs.Closed.{IsClosedBy};
 
 mod branch;
 mod close;
+mod expanded;
 mod node;
-mod outcome;
 mod plan;
 #[cfg(test)]
 mod tests;

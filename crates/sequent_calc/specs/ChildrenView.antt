@@ -16,9 +16,9 @@ the_children (children.Two s t) = calculus.two s t
 
 -- the children of a sequent by what a step adds to it
 abbrev pub children_by : derivation.Sequent → Addition → calculus.Children
-children_by s addition.Nothing = calculus.closed
-children_by s (addition.One es) = calculus.one (s ++ es)
-children_by s (addition.Two a b) = calculus.two (s ++ the_entry a ∷ []) (s ++ the_entry b ∷ [])
+children_by s addition.Close = calculus.closed
+children_by s (addition.Extend es) = calculus.one (s ++ es)
+children_by s (addition.Fork a b) = calculus.two (s ++ the_entry a ∷ []) (s ++ the_entry b ∷ [])
 
 -- the children, or the fault in their place
 abbrev pub faulty : calculus.Children → Option StepFault → Result calculus.Children StepFault

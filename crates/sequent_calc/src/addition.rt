@@ -2,7 +2,10 @@
 
 ghost use Rattle.std.specs.Prelude.{◌≡◌, ◌∷◌, [], ◌++◌, List, None, IfOk, Some, Ok, Err, map};
 ghost use Rattle.calculus.specs.declared.fault.StepFault.{StepFault};
-ghost use Rattle.calculus.specs.Calculus.{Children, apply, children_of, close_branch, conditions_of_use, connects, entry_at, entry_of, first_fault, label_after, use_entry, with_argument, with_components};
+ghost use Rattle.calculus.specs.Calculus.{Children, apply, children_of, close_branch};
+ghost use Rattle.calculus.specs.Calculus.{conditions_of_use, connects, entry_at, entry_of};
+ghost use Rattle.calculus.specs.Calculus.{first_fault, label_after, use_entry, with_argument};
+ghost use Rattle.calculus.specs.Calculus.{with_components};
 ghost use Rattle.calculus.specs.Kinds.{components, modal_of, shape_of, signed};
 ghost use Rattle.formula_core.specs.FormulaView.{the_formula};
 ghost use Rattle.calculus.specs.Calculus as calculus;
@@ -17,7 +20,6 @@ ghost use Rattle.std.specs.Prelude.{option_copied};
 use crate::atom::are_same_atom;
 use crate::condition::{arguments_fit, home_is, is_known, is_new, is_reachable, term_allowed};
 use crate::entry::{Entry, Sequent};
-use crate::labels::{are_equal, copy_label, pi_label};
 use crate::names::Names;
 use crate::rules::ApplyFault;
 use crate::step::{ModalArg, Step, TermArg};
@@ -27,13 +29,15 @@ use formula_core::{Components, Formula, Sign, Term};
 use logic_rules::{Kind, Label, Logic, Mark, Problem, kind_of};
 use std::alloc::{AllocError, Global};
 
-/// What a step adds to the open sequent: nothing where it closes the branch, entries, or one entry on each of two
-/// branches.
+/// What a step does to the open sequent.
 #[derive(Drop)]
 pub enum Addition {
-    Nothing,
-    One(Sequent),
-    Two(Entry, Entry),
+    /// The branch is closed.
+    Close,
+    /// The branch grows by these entries.
+    Extend(Sequent),
+    /// The branch splits in two, which grow by one entry each.
+    Fork(Entry, Entry),
 }
 
 // The label of the components.
@@ -46,9 +50,9 @@ fn label_after(
     ensures { IfOk result (λ at. at ≡ label_after logic label.now (the_modal modal.now)) }
 {
     match modal {
-        ModalArg::None => copy_label(alloc, label),
-        ModalArg::To(to) => copy_label(alloc, to),
-        ModalArg::New(number) => pi_label(alloc, logic, label, Mark::New(*number)),
+        ModalArg::None => label.copy(alloc),
+        ModalArg::To(to) => to.copy(alloc),
+        ModalArg::New(number) => label.after_pi(alloc, logic, Mark::New(*number)),
     }
 }
 
@@ -61,14 +65,15 @@ fn component(
     term: &TermArg,
 ) -> Result<Entry, NoMemory>
     ensures { IfOk result (λ e. the_entry e
-        ≡ entry_at at.now (with_argument (the_term_arg term.now) (signed sign (the_formula formula.now)))) }
+        ≡ entry_at at.now (with_argument (the_term_arg term.now)
+        (signed sign (the_formula formula.now)))) }
 {
     let formula = match term {
         TermArg::None => formula.copy(alloc)?,
         TermArg::Term(t) => formula.instance(alloc, t)?,
         TermArg::Name(number) => formula.instance(alloc, &Term::Eigen(*number))?,
     };
-    let label = copy_label(alloc, at)?;
+    let label = at.copy(alloc)?;
     Ok(Entry {
         sign,
         formula,
@@ -77,11 +82,12 @@ fn component(
 }
 
 fn one(alloc: Global, entry: Entry) -> Result<Addition, NoMemory>
-    ensures { IfOk result (λ a. (s : List derivation.Entry) → children_by s a ≡ calculus.one (s ++ the_entry entry ∷ [])) }
+    ensures { IfOk result (λ a. (s : List derivation.Entry) → children_by s a
+        ≡ calculus.one (s ++ the_entry entry ∷ [])) }
 {
     let mut entries = Sequent::new(alloc);
     entries.push(entry)?;
-    Ok(Addition::One(entries))
+    Ok(Addition::Extend(entries))
 }
 
 fn both(alloc: Global, first: Entry, second: Entry) -> Result<Addition, NoMemory>
@@ -91,7 +97,7 @@ fn both(alloc: Global, first: Entry, second: Entry) -> Result<Addition, NoMemory
     let mut entries = Sequent::new(alloc);
     entries.push(first)?;
     entries.push(second)?;
-    Ok(Addition::One(entries))
+    Ok(Addition::Extend(entries))
 }
 
 // The components of an entry, at the label that the step leads to.
@@ -123,7 +129,7 @@ fn components(
         Components::Beta(a, b) => {
             let first = component(alloc, a.sign, a.formula, at, term)?;
             let second = component(alloc, b.sign, b.formula, at, term)?;
-            Ok(Addition::Two(first, second))
+            Ok(Addition::Fork(first, second))
         }
     }
 }
@@ -139,11 +145,15 @@ fn use_fault(
     kind: Kind,
     at: &Label,
 ) -> Option<StepFault>
-    requires modal { kind.modal ≡ modal_of problem.now.setting.logic entry.now.sign (the_formula entry.now.formula) }
+    requires modal { kind.modal
+        ≡ modal_of problem.now.setting.logic entry.now.sign (the_formula entry.now.formula) }
     requires shape { kind.shape ≡ shape_of entry.now.sign (the_formula entry.now.formula) }
-    requires label { at.now ≡ label_after problem.now.setting.logic entry.now.label (the_modal modal.now) }
-    ensures { (c : calculus.Children) → first_fault (conditions_of_use problem.now (the_names names.now)
-        (map the_entry sequent.now) (the_entry entry.now) (the_modal modal.now) (the_term_arg term.now)) c ≡ faulty c result }
+    requires label { at.now
+        ≡ label_after problem.now.setting.logic entry.now.label (the_modal modal.now) }
+    ensures { (c : calculus.Children) → first_fault
+        (conditions_of_use problem.now (the_names names.now) (map the_entry sequent.now)
+        (the_entry entry.now) (the_modal modal.now) (the_term_arg term.now)) c
+        ≡ faulty c result }
 {
     let logic = problem.setting().logic();
     if !arguments_fit(kind, modal, term) {
@@ -176,11 +186,13 @@ fn added_by_use(
     modal: &ModalArg,
     term: &TermArg,
 ) -> Result<Addition, ApplyFault>
-    ensures added { IfOk result (λ a. use_entry problem.now (the_names names.now) (map the_entry sequent.now)
+    ensures added { IfOk result (λ a. use_entry
+        problem.now (the_names names.now) (map the_entry sequent.now)
         (Some (the_entry entry.now)) (the_modal modal.now) (the_term_arg term.now)
         ≡ Ok (children_by (map the_entry sequent.now) a)) }
-    ensures fault { (f : StepFault) → result ≡ Err (ApplyFault.Fault f) → use_entry problem.now (the_names names.now)
-        (map the_entry sequent.now) (Some (the_entry entry.now)) (the_modal modal.now) (the_term_arg term.now) ≡ Err f }
+    ensures fault { (f : StepFault) → result ≡ Err (ApplyFault.Fault f)
+        → use_entry problem.now (the_names names.now) (map the_entry sequent.now)
+        (Some (the_entry entry.now)) (the_modal modal.now) (the_term_arg term.now) ≡ Err f }
 {
     let logic = problem.setting().logic();
     let kind = kind_of(logic, entry.sign, &entry.formula);
@@ -198,12 +210,13 @@ fn connects(given: &Entry, shown: &Entry) -> bool
     given.sign == Sign::T
         && shown.sign == Sign::F
         && are_same_atom(&given.formula, &shown.formula)
-        && are_equal(&given.label, &shown.label)
+        && given.label.is_equal(&shown.label)
 }
 
 // Entries are numbered from 1.
 fn entry_of(sequent: &[Entry], number: u32) -> Option<&Entry>
-    ensures { option_map the_entry (option_copied result) ≡ entry_of (map the_entry sequent.now) number }
+    ensures { option_map the_entry (option_copied result)
+        ≡ entry_of (map the_entry sequent.now) number }
 {
     if number == 0 {
         return None;
@@ -215,8 +228,8 @@ fn entry_of(sequent: &[Entry], number: u32) -> Option<&Entry>
     Some(&sequent[place])
 }
 
-/// What a step adds to a sequent, or the first demand of the rules that it does not meet. Nothing of the sequent but the
-/// components is copied, for callers that grow a branch in place.
+/// What a step adds to a sequent, or the first demand of the rules that it does not meet. Nothing
+/// of the sequent but the components is copied, for callers that grow a branch in place.
 pub fn addition_of(
     alloc: Global,
     problem: &Problem,
@@ -224,10 +237,12 @@ pub fn addition_of(
     sequent: &[Entry],
     step: &Step,
 ) -> Result<Addition, ApplyFault>
-    ensures added { IfOk result (λ a. apply problem.now (the_names names.now) (map the_entry sequent.now)
+    ensures added { IfOk result (λ a. apply
+        problem.now (the_names names.now) (map the_entry sequent.now)
         (the_step step.now) ≡ Ok (children_by (map the_entry sequent.now) a)) }
     ensures fault { (f : StepFault) → result ≡ Err (ApplyFault.Fault f)
-        → apply problem.now (the_names names.now) (map the_entry sequent.now) (the_step step.now) ≡ Err f }
+        → apply problem.now (the_names names.now) (map the_entry sequent.now) (the_step step.now)
+        ≡ Err f }
 {
     match step {
         Step::Use { entry, modal, term } => match entry_of(sequent, *entry) {
@@ -240,7 +255,7 @@ pub fn addition_of(
         ) {
             (Some(given), Some(shown)) => {
                 if connects(given, shown) {
-                    Ok(Addition::Nothing)
+                    Ok(Addition::Close)
                 } else {
                     Err(ApplyFault::Fault(StepFault::NoConnection))
                 }

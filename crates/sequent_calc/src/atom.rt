@@ -1,5 +1,3 @@
-//! Equality of atoms.
-
 ghost use Rattle.std.specs.Prelude.{◌≡◌, ◌&&◌};
 ghost use Rattle.calculus.specs.Calculus.{is_atom};
 ghost use Rattle.calculus.specs.Equality.{formula_eq, term_eq, terms_eq};
@@ -13,7 +11,8 @@ use formula_core::{Formula, Term, Terms};
 
 /// Whether both are the same atom.
 pub fn are_same_atom(a: &Formula, b: &Formula) -> bool
-    ensures { result ≡ (is_atom (the_formula a.now) && formula_eq (the_formula a.now) (the_formula b.now)) }
+    ensures { result
+        ≡ (is_atom (the_formula a.now) && formula_eq (the_formula a.now) (the_formula b.now)) }
 {
     match a.as_atom() {
         Some((p, ts)) => is_atom_of(p, ts, b),

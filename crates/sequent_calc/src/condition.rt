@@ -1,20 +1,22 @@
-//! The conditions of a step.
+//! What the rules demand of the arguments of a step.
 
 ghost use Rattle.std.specs.Prelude.{◌≡◌, ◌&&◌, map};
-ghost use Rattle.calculus.specs.Calculus.{character_is_new, character_occurs, eigen_is_new, eigen_occurs, has_step, home_is, is_known, is_reachable, modal_fits, term_allowed, term_fits};
+ghost use Rattle.calculus.specs.Calculus.{character_is_new, character_occurs, eigen_is_new};
+ghost use Rattle.calculus.specs.Calculus.{eigen_occurs, has_step, home_is, is_known, is_reachable};
+ghost use Rattle.calculus.specs.Calculus.{modal_fits, term_allowed, term_fits};
 ghost use Rattle.logic_rules.specs.MarkView.{the_character};
 ghost use Rattle.sequent_calc.specs.DerivationView.{the_names};
 ghost use Rattle.sequent_calc.specs.EntryView.{the_entry};
 ghost use Rattle.sequent_calc.specs.StepView.{the_modal, the_term_arg};
 
 use crate::entry::Entry;
-use crate::labels::{are_equal, holds_character, is_reached};
 use crate::leaf::{LeafTest, any_leaf, any_leaf_in, eigen_named};
 use crate::names::Names;
 use crate::step::{ModalArg, TermArg};
 use logic_rules::{Kind, Label, Logic, Mark, ModalPart, Problem, Shape};
 
-/// Whether the arguments are just those that the kind of formula asks for. A literal without a modal part has no step.
+/// Whether the arguments are just those that the kind of formula asks for. A literal without a
+/// modal part has no step.
 pub fn arguments_fit(kind: Kind, modal: &ModalArg, term: &TermArg) -> bool
     ensures { result ≡ (modal_fits kind.modal (the_modal modal.now)
         && term_fits kind.shape (the_term_arg term.now) && has_step kind.modal kind.shape) }
@@ -69,17 +71,19 @@ pub fn is_reachable(logic: Logic, from: &Label, modal: &ModalArg) -> bool
     ensures { result ≡ is_reachable logic from.now (the_modal modal.now) }
 {
     match modal {
-        ModalArg::To(to) => is_reached(logic, from, to),
+        ModalArg::To(to) => from.reaches(logic, to),
         ModalArg::None | ModalArg::New(_) => true,
     }
 }
 
-// Whether the character stands in a label of the sequent, or in the home of a name that stands in a formula there.
-fn character_occurs(names: &Names, mark: Mark, sequent: &[Entry]) -> bool
-    ensures { result ≡ character_occurs (the_names names.now) (the_character mark) (map the_entry sequent.now) }
+// Whether the mark stands in a label of the sequent, or in the home of a name that stands in a
+// formula there.
+fn mark_occurs(names: &Names, mark: Mark, sequent: &[Entry]) -> bool
+    ensures { result
+        ≡ character_occurs (the_names names.now) (the_character mark) (map the_entry sequent.now) }
 {
     for entry in sequent {
-        if holds_character(mark, &entry.label) {
+        if entry.label.holds(mark) {
             return true;
         }
         if any_leaf_in(&LeafTest::HasInHome(names, mark), &entry.formula) {
@@ -101,20 +105,21 @@ fn eigen_occurs(number: u32, sequent: &[Entry]) -> bool
     false
 }
 
-/// Whether the character or eigenvariable that the step brings occurs nowhere in the sequent.
+/// Whether the mark or eigenvariable that the step brings occurs nowhere in the sequent.
 pub fn is_new(names: &Names, sequent: &[Entry], modal: &ModalArg, term: &TermArg) -> bool
-    ensures { result ≡ (character_is_new (the_names names.now) (map the_entry sequent.now) (the_modal modal.now)
+    ensures { result
+        ≡ (character_is_new (the_names names.now) (map the_entry sequent.now) (the_modal modal.now)
         && eigen_is_new (map the_entry sequent.now) (the_term_arg term.now)) }
 {
-    let character_is_new = match modal {
-        ModalArg::New(number) => !character_occurs(names, Mark::New(*number), sequent),
+    let mark_is_new = match modal {
+        ModalArg::New(number) => !mark_occurs(names, Mark::New(*number), sequent),
         ModalArg::None | ModalArg::To(_) => true,
     };
     let eigen_is_new = match term {
         TermArg::Name(number) => !eigen_occurs(*number, sequent),
         TermArg::None | TermArg::Term(_) => true,
     };
-    character_is_new && eigen_is_new
+    mark_is_new && eigen_is_new
 }
 
 /// Whether the home of the eigenvariable is the label of the component.
@@ -123,7 +128,7 @@ pub fn home_is(names: &Names, at: &Label, term: &TermArg) -> bool
 {
     match term {
         TermArg::Name(number) => match eigen_named(names, *number) {
-            Some(name) => are_equal(&name.1, at),
+            Some(name) => name.1.is_equal(at),
             None => false,
         },
         TermArg::None | TermArg::Term(_) => true,
@@ -132,7 +137,8 @@ pub fn home_is(names: &Names, at: &Label, term: &TermArg) -> bool
 
 /// Whether the term of a gamma step may stand at the label of the component.
 pub fn term_allowed(problem: &Problem, names: &Names, at: &Label, term: &TermArg) -> bool
-    ensures { result ≡ term_allowed problem.now (the_names names.now) at.now (the_term_arg term.now) }
+    ensures { result
+        ≡ term_allowed problem.now (the_names names.now) at.now (the_term_arg term.now) }
 {
     match term {
         TermArg::Term(t) => !any_leaf(&LeafTest::IsForbidden(problem, names, at), t),

@@ -1,5 +1,3 @@
-//! Derivations.
-
 ghost use Rattle.std.specs.Prelude.{◌≡◌, []};
 
 use crate::names::Names;

@@ -20,7 +20,8 @@ pub struct Entry {
 }
 
 impl Entry {
-    /// The one entry that a derivation of the problem begins with: its formula, to be shown at the root.
+    /// The one entry that a derivation of the problem begins with: its formula, to be shown at the
+    /// root.
     pub fn first(alloc: Global, problem: &Problem) -> Result<Entry, NoMemory>
         ensures { IfOk result (λ e. the_entry e ∷ [] ≡ first_sequent problem.now) }
     {
@@ -62,7 +63,8 @@ impl Sequent {
         }
     }
 
-    /// Adds an entry at the end, which gets the next number. Want of memory leaves the sequent as it was.
+    /// Adds an entry at the end, which gets the next number. Want of memory leaves the sequent as
+    /// it was.
     pub fn push(&mut self, item: Entry) -> Result<(), NoMemory>
         ensures ok { OnOk result (self.new ≡ self.old ++ the_entry item ∷ []) }
         ensures err { OnErr result (self.new ≡ self.old) }

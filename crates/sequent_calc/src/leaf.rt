@@ -1,4 +1,5 @@
-//! Tests of the leaves of terms: the variables, eigenvariables and spare constants that stand in them.
+//! Tests of the leaves of terms: the variables, eigenvariables and spare constants that stand in
+//! them.
 
 ghost use Rattle.std.specs.Prelude.{◌≡◌, option_copied};
 ghost use Rattle.std.specs.Option.{option_map};
@@ -13,7 +14,6 @@ ghost use Rattle.sequent_calc.specs.DerivationView.{the_names};
 ghost use Rattle.sequent_calc.specs.LeafView.{the_test};
 ghost use Rattle.sequent_calc.specs.NamesView.{the_eigen, the_home, the_spare};
 
-use crate::labels::{holds_character, is_home_at};
 use crate::names::{Home, Names};
 use formula_core::{Formula, Term, Terms};
 use logic_rules::{Label, Mark, Problem};
@@ -23,7 +23,7 @@ use logic_rules::{Label, Mark, Problem};
 pub enum LeafTest<'a> {
     /// Whether it is the eigenvariable of this number.
     IsEigen(u32),
-    /// Whether the character stands in its home.
+    /// Whether the mark stands in its home.
     HasInHome(&'a Names, Mark),
     /// Whether it is a name that is not listed.
     IsUnknown(&'a Names),
@@ -33,7 +33,8 @@ pub enum LeafTest<'a> {
 
 /// The first name of this number.
 pub fn eigen_named(names: &Names, number: u32) -> Option<&(u32, Label)>
-    ensures { option_map the_eigen (option_copied result) ≡ eigen_named (the_names names.now) number }
+    ensures { option_map the_eigen (option_copied result)
+        ≡ eigen_named (the_names names.now) number }
 {
     for name in names.eigens.items() {
         if name.0 == number {
@@ -44,7 +45,8 @@ pub fn eigen_named(names: &Names, number: u32) -> Option<&(u32, Label)>
 }
 
 fn spare_named(names: &Names, number: u32) -> Option<&(u32, Home)>
-    ensures { option_map the_spare (option_copied result) ≡ spare_named (the_names names.now) number }
+    ensures { option_map the_spare (option_copied result)
+        ≡ spare_named (the_names names.now) number }
 {
     for name in names.spares.items() {
         if name.0 == number {
@@ -59,7 +61,7 @@ fn home_holds(mark: Mark, home: &Home) -> bool
 {
     match home {
         Home::Anywhere => false,
-        Home::At(label) => holds_character(mark, label),
+        Home::At(label) => label.holds(mark),
     }
 }
 
@@ -68,7 +70,7 @@ fn spare_allowed(problem: &Problem, home: &Home, at: &Label) -> bool
 {
     match home {
         Home::Anywhere => problem.common_spares(),
-        Home::At(label) => is_home_at(problem.setting().domains(), label, at),
+        Home::At(label) => label.is_home_at(problem.setting().domains(), at),
     }
 }
 
@@ -78,12 +80,12 @@ fn passes_eigen(test: &LeafTest, number: u32) -> bool
     match test {
         LeafTest::IsEigen(sought) => *sought == number,
         LeafTest::HasInHome(names, mark) => match eigen_named(names, number) {
-            Some(name) => holds_character(*mark, &name.1),
+            Some(name) => name.1.holds(*mark),
             None => false,
         },
         LeafTest::IsUnknown(names) => eigen_named(names, number).is_none(),
         LeafTest::IsForbidden(problem, names, label) => match eigen_named(names, number) {
-            Some(name) => !is_home_at(problem.setting().domains(), &name.1, label),
+            Some(name) => !name.1.is_home_at(problem.setting().domains(), label),
             None => true,
         },
     }

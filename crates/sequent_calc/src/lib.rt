@@ -1,6 +1,7 @@
-//! The prefixed sequent calculus of classical, intuitionistic and modal first-order logic, in the uniform notation of
-//! Fitting (Proof Methods for Modal and Intuitionistic Logics) with the prefixes of Wallen (Automated Deduction in
-//! Nonclassical Logics). A derivation starts from the problem's formula, to be shown at the root.
+//! The prefixed sequent calculus of classical, intuitionistic and modal first-order logic, in the
+//! uniform notation of Fitting (Proof Methods for Modal and Intuitionistic Logics) with the
+//! prefixes of Wallen (Automated Deduction in Nonclassical Logics). A derivation starts from the
+//! problem's formula, to be shown at the root.
 #![tactic(auto)]
 
 mod addition;
@@ -8,7 +9,6 @@ mod atom;
 mod condition;
 mod derivation;
 mod entry;
-mod labels;
 mod leaf;
 mod names;
 mod rules;

@@ -15,7 +15,8 @@ pub enum Home {
     At(Label),
 }
 
-/// The eigenvariables of a derivation with their homes, in rising order of numbers.
+/// The eigenvariables of a derivation with their homes, in the order in which they were added. Any
+/// numbers may stand here: that they rise is a demand of the text of a derivation.
 #[derive(Drop)]
 pub struct EigenList {
     items: Vec<(u32, Label)>,
@@ -58,7 +59,8 @@ impl EigenList {
     }
 }
 
-/// The spare constants of a derivation with their homes, in rising order of numbers.
+/// The spare constants of a derivation with their homes, in the order in which they were added. Any
+/// numbers may stand here: that they rise is a demand of the text of a derivation.
 #[derive(Drop)]
 pub struct SpareList {
     items: Vec<(u32, Home)>,
@@ -101,8 +103,8 @@ impl SpareList {
     }
 }
 
-/// The eigenvariables and spare constants that a derivation may use. Of two names of one sort with the same number the
-/// first counts.
+/// The eigenvariables and spare constants that a derivation may use. Of two names of one sort with
+/// the same number the first counts.
 #[derive(Drop)]
 pub struct Names {
     pub eigens: EigenList,

@@ -1,5 +1,3 @@
-//! The rules of the calculus.
-
 ghost use Rattle.std.specs.Prelude.{◌≡◌, ◌∷◌, [], ◌++◌, IfOk, OnOk, Ok, Err, map};
 ghost use Rattle.calculus.specs.Calculus.{apply};
 ghost use Rattle.calculus.specs.StepFacts.{ChildrenExtend, IsFresh};
@@ -12,7 +10,6 @@ ghost use Rattle.sequent_calc.specs.StepView.{the_step};
 
 use crate::addition::{Addition, addition_of};
 use crate::entry::{Entry, Sequent};
-use crate::labels::copy_label;
 use crate::names::Names;
 use crate::step::Step;
 pub use calculus::fault::StepFault;
@@ -30,7 +27,8 @@ pub enum Children {
     Two(Sequent, Sequent),
 }
 
-/// Why a step leads to no children: the first demand of the rules that it does not meet, or want of memory.
+/// Why a step leads to no children: the first demand of the rules that it does not meet, or want of
+/// memory.
 #[derive(Clone, Copy, Debug, PartialEq, Eq)]
 pub enum ApplyFault {
     Fault(StepFault),
@@ -52,7 +50,7 @@ fn copy_entry(alloc: Global, entry: &Entry) -> Result<Entry, NoMemory>
     ensures { IfOk result (λ e. the_entry e ≡ the_entry entry.now) }
 {
     let formula = entry.formula.copy(alloc)?;
-    let label = copy_label(alloc, &entry.label)?;
+    let label = entry.label.copy(alloc)?;
     Ok(Entry {
         sign: entry.sign,
         formula,
@@ -89,10 +87,10 @@ fn with_entry(alloc: Global, entries: &[Entry], last: Entry) -> Result<Sequent, 
     Ok(sequent)
 }
 
-/// The open sequents that a step of a derivation leads to, or the first demand of the rules that it does not meet. The
-/// children have the entries of the sequent and those that the step adds, which stand at the end. The definition gives
-/// either children or a fault, so no step has both. For callers that want whole sequents; `addition_of` serves those that
-/// grow a branch in place.
+/// The open sequents that a step of a derivation leads to, or the first demand of the rules that it
+/// does not meet. The children have the entries of the sequent and those that the step adds, which
+/// stand at the end. The definition gives either children or a fault, so no step has both. For
+/// callers that want whole sequents; `addition_of` serves those that grow a branch in place.
 pub fn apply(
     alloc: Global,
     problem: &Problem,
@@ -100,20 +98,22 @@ pub fn apply(
     s: &Sequent,
     step: &Step,
 ) -> Result<Children, ApplyFault>
-    ensures children { IfOk result (λ c. apply problem.now (the_names names.now) s.now (the_step step.now)
+    ensures children { IfOk result
+        (λ c. apply problem.now (the_names names.now) s.now (the_step step.now)
         ≡ Ok (the_children c)) }
     ensures fault { (f : StepFault) → result ≡ Err (ApplyFault.Fault f)
         → apply problem.now (the_names names.now) s.now (the_step step.now) ≡ Err f }
 
-    // Laws that follow from the definition: branches grow at their ends, and what a step brings is new.
+    // Laws that follow from the definition: branches grow at their ends, and what a step brings is
+    // new.
     ensures extends { IfOk result (λ c. ChildrenExtend s.now (the_children c)) }
     ensures fresh { IfOk result (λ _. IsFresh (the_names names.now) s.now (the_step step.now)) }
 {
     let entries = s.items();
     match addition_of(alloc, problem, names, entries, step)? {
-        Addition::Nothing => Ok(Children::Closed),
-        Addition::One(more) => Ok(Children::One(joined(alloc, entries, more.items())?)),
-        Addition::Two(first, second) => {
+        Addition::Close => Ok(Children::Closed),
+        Addition::Extend(more) => Ok(Children::One(joined(alloc, entries, more.items())?)),
+        Addition::Fork(first, second) => {
             let first = with_entry(alloc, entries, first)?;
             let second = with_entry(alloc, entries, second)?;
             Ok(Children::Two(first, second))

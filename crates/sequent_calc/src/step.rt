@@ -1,5 +1,3 @@
-//! The steps of a derivation.
-
 ghost use Rattle.std.specs.Prelude.{◌≡◌, ◌++◌, ◌∷◌, [], map, OnOk, OnErr};
 ghost use Rattle.sequent_calc.specs.StepView.{the_step};
 
@@ -9,7 +7,8 @@ use logic_rules::Label;
 use std::alloc::Global;
 use std::marker::Model;
 
-/// What a step with a modal part is given: the label of a nu step, or the number of a pi step's new character.
+/// What a step with a modal part is given: the label of a nu step, or the number of a pi step's new
+/// mark.
 #[derive(Drop)]
 pub enum ModalArg {
     None,
@@ -17,7 +16,8 @@ pub enum ModalArg {
     New(u32),
 }
 
-/// What a step on a quantifier is given: the term of a gamma step, or the number of a delta step's eigenvariable.
+/// What a step on a quantifier is given: the term of a gamma step, or the number of a delta step's
+/// eigenvariable.
 #[derive(Drop)]
 pub enum TermArg {
     None,
@@ -34,7 +34,8 @@ pub enum Step {
         modal: ModalArg,
         term: TermArg,
     },
-    /// Closes the branch by the T entry of an atom and the F entry of the same atom at the same label.
+    /// Closes the branch by the T entry of an atom and the F entry of the same atom at the same
+    /// label.
     Axiom {
         given: u32,
         shown: u32,

@@ -5,7 +5,8 @@ ghost use Rattle.calculus.specs.Syntax as tree;
 ghost use Rattle.formula_core.specs.FormulaView.{the_formula};
 ghost use Rattle.formula_core.specs.SymbolView.{the_symbol};
 ghost use Rattle.formula_core.specs.TermView.{the_term};
-ghost use Rattle.sequent_calc.specs.Examples.{IsExample, barcan, drinker, p, p_of, predicate, serial, twice_denied};
+ghost use Rattle.sequent_calc.specs.Examples.{IsExample, barcan, drinker, p, p_of, predicate};
+ghost use Rattle.sequent_calc.specs.Examples.{serial, twice_denied};
 
 use crate::derivation::Derivation;
 use crate::entry::{Entry, Sequent};
