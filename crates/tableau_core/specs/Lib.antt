@@ -9,3 +9,5 @@ pub mod ClosingLists
 pub mod ClosingCodes
 pub mod ClosingSizes
 pub mod ClosingFalls
+pub mod ValuesAt
+pub mod SpotView
