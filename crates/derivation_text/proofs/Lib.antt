@@ -9,3 +9,4 @@ pub mod BodyFaults
 pub mod HeadFaults
 pub mod BodySteps
 pub mod Endings
+pub mod FormulaLines

@@ -2,8 +2,12 @@
 
 ghost use Rattle.std.specs.Prelude.{◌≡◌, ◌++◌, map, IsTrue, IfOk, OnOk};
 ghost use Rattle.std.specs.List.{flat_map, list_all};
-ghost use Rattle.calculus.specs.DerivationText.{IsText, eigen_line, head_lines, home_is_written, home_text, is_printable, line_bytes, modal_is_written, modal_text, spare_line, step_is_written, step_line, term_arg_is_written, term_arg_text};
-ghost use Rattle.derivation_text.specs.Single.{AtMostOneDerivation};
+ghost use Rattle.calculus.specs.DerivationText.{IsText, eigen_line, head_lines, home_is_written};
+ghost use Rattle.calculus.specs.DerivationText.{home_text, is_printable, line_bytes};
+ghost use Rattle.calculus.specs.DerivationText.{modal_is_written, modal_text, spare_line};
+ghost use Rattle.calculus.specs.DerivationText.{step_is_written, step_line, term_arg_is_written};
+ghost use Rattle.calculus.specs.DerivationText.{term_arg_text};
+ghost use Rattle.derivation_text.specs.Single.{AtMostOneDerivation, AtMostOneFormula};
 ghost use Rattle.derivation_text.specs.Written.{eigen_is_written, spare_is_written};
 ghost use Rattle.sequent_calc.specs.DerivationView.{the_derivation};
 ghost use Rattle.sequent_calc.specs.NamesView.{the_eigen, the_home, the_spare};
@@ -20,7 +24,8 @@ use std::alloc::Global;
 
 // The four lines that stand before all names.
 fn write_head(out: &mut Vec<u8>, problem: &Problem, limit: u8) -> Result<(), NoMemory>
-    ensures { OnOk result (out.new.items ≡ out.old.items ++ flat_map line_bytes (head_lines problem.now limit)) }
+    ensures { OnOk result (out.new.items
+        ≡ out.old.items ++ flat_map line_bytes (head_lines problem.now limit)) }
 {
     write_bytes(out, b"leancop derivation 1\nlogic ")?;
     write_setting(out, problem.setting())?;
@@ -34,7 +39,8 @@ fn write_head(out: &mut Vec<u8>, problem: &Problem, limit: u8) -> Result<(), NoM
 
 fn write_eigen(out: &mut Vec<u8>, number: u32, home: &Label) -> Result<(), NoMemory>
     requires { IsTrue (eigen_is_written (the_eigen (number, home.now))) }
-    ensures { OnOk result (out.new.items ≡ out.old.items ++ line_bytes (eigen_line (the_eigen (number, home.now)))) }
+    ensures { OnOk result (out.new.items
+        ≡ out.old.items ++ line_bytes (eigen_line (the_eigen (number, home.now)))) }
 {
     write_bytes(out, b"name $$e")?;
     write_number(out, u64::from(number))?;
@@ -46,7 +52,8 @@ fn write_eigen(out: &mut Vec<u8>, number: u32, home: &Label) -> Result<(), NoMem
 
 fn write_eigens(out: &mut Vec<u8>, eigens: &EigenList) -> Result<(), NoMemory>
     requires { IsTrue (list_all eigen_is_written eigens.now) }
-    ensures { OnOk result (out.new.items ≡ out.old.items ++ flat_map line_bytes (map eigen_line eigens.now)) }
+    ensures { OnOk result (out.new.items
+        ≡ out.old.items ++ flat_map line_bytes (map eigen_line eigens.now)) }
 {
     for item in eigens.items() {
         write_eigen(out, item.0, &item.1)?;
@@ -66,7 +73,8 @@ fn write_home(out: &mut Vec<u8>, home: &Home) -> Result<(), NoMemory>
 
 fn write_spare(out: &mut Vec<u8>, number: u32, home: &Home) -> Result<(), NoMemory>
     requires { IsTrue (spare_is_written (the_spare (number, home.now))) }
-    ensures { OnOk result (out.new.items ≡ out.old.items ++ line_bytes (spare_line (the_spare (number, home.now)))) }
+    ensures { OnOk result (out.new.items
+        ≡ out.old.items ++ line_bytes (spare_line (the_spare (number, home.now)))) }
 {
     write_bytes(out, b"name $$s")?;
     write_number(out, u64::from(number))?;
@@ -78,7 +86,8 @@ fn write_spare(out: &mut Vec<u8>, number: u32, home: &Home) -> Result<(), NoMemo
 
 fn write_spares(out: &mut Vec<u8>, spares: &SpareList) -> Result<(), NoMemory>
     requires { IsTrue (list_all spare_is_written spares.now) }
-    ensures { OnOk result (out.new.items ≡ out.old.items ++ flat_map line_bytes (map spare_line spares.now)) }
+    ensures { OnOk result (out.new.items
+        ≡ out.old.items ++ flat_map line_bytes (map spare_line spares.now)) }
 {
     for item in spares.items() {
         write_spare(out, item.0, &item.1)?;
@@ -105,7 +114,8 @@ fn write_modal(out: &mut Vec<u8>, modal: &ModalArg) -> Result<(), NoMemory>
 
 fn write_term_arg(out: &mut Vec<u8>, symbols: &Symbols, arg: &TermArg) -> Result<(), NoMemory>
     requires { IsTrue (term_arg_is_written symbols.now (the_term_arg arg.now)) }
-    ensures { OnOk result (out.new.items ≡ out.old.items ++ term_arg_text symbols.now (the_term_arg arg.now)) }
+    ensures { OnOk result (out.new.items
+        ≡ out.old.items ++ term_arg_text symbols.now (the_term_arg arg.now)) }
 {
     match arg {
         TermArg::None => Ok(()),
@@ -122,7 +132,8 @@ fn write_term_arg(out: &mut Vec<u8>, symbols: &Symbols, arg: &TermArg) -> Result
 
 fn write_step(out: &mut Vec<u8>, symbols: &Symbols, step: &Step) -> Result<(), NoMemory>
     requires { IsTrue (step_is_written symbols.now (the_step step.now)) }
-    ensures { OnOk result (out.new.items ≡ out.old.items ++ step_line symbols.now (the_step step.now)) }
+    ensures { OnOk result (out.new.items
+        ≡ out.old.items ++ step_line symbols.now (the_step step.now)) }
 {
     match step {
         Step::Use { entry, modal, term } => {
@@ -142,7 +153,8 @@ fn write_step(out: &mut Vec<u8>, symbols: &Symbols, step: &Step) -> Result<(), N
 
 fn write_steps(out: &mut Vec<u8>, symbols: &Symbols, steps: &StepList) -> Result<(), NoMemory>
     requires { IsTrue (list_all (step_is_written symbols.now) steps.now) }
-    ensures { OnOk result (out.new.items ≡ out.old.items ++ flat_map line_bytes (map (step_line symbols.now) steps.now)) }
+    ensures { OnOk result (out.new.items
+        ≡ out.old.items ++ flat_map line_bytes (map (step_line symbols.now) steps.now)) }
 {
     for step in steps.items() {
         write_step(out, symbols, step)?;
@@ -151,13 +163,15 @@ fn write_steps(out: &mut Vec<u8>, symbols: &Symbols, steps: &StepList) -> Result
     Ok(())
 }
 
-/// The text of a derivation that can be printed: a head of four lines, a line for each name, a line for each step, and `end`.
+/// The text of a derivation that can be printed: a head of four lines, a line for each name, a line
+/// for each step, and `end`.
 pub fn print(alloc: Global, problem: &Problem, d: &Derivation) -> Result<Vec<u8>, NoMemory>
     requires { IsTrue (is_printable problem.now (the_derivation d.now)) }
     ensures text { IfOk result (λ bytes. IsText problem.now (the_derivation d.now) bytes.items) }
 
-    // They are the text of no other derivation.
+    // They are the text of no other derivation, and of no other formula.
     ensures one { IfOk result (λ bytes. AtMostOneDerivation problem.now bytes.items) }
+    ensures formula { IfOk result (λ bytes. AtMostOneFormula problem.now bytes.items) }
 {
     let mut out = Vec::new(alloc);
     write_head(&mut out, problem, d.limit)?;

@@ -12,7 +12,7 @@ use Rattle.formula_text.proofs.TermTexts.{cancel, differ}
 use Rattle.formula_text.proofs.AtomTexts.{atom-apart, atom-of, atoms-split, equation-apart, joined-open, same-code}
 
 module _ (S : List Symbol) (dist : IsTrue (are_distinct S)) (fit : IsTrue (list_all symbol_fits S)) where
-  formula-split : (l m : Logic) (d : ℕ) (f g : Formula) (r s : List ℕ) → d + nesting f ≤ 1100 → IsTrue (formula_fits l S d f) → IsTrue (formula_fits m S d g) → Ends r → Ends s → formula_text S d f ++ r ≡ formula_text S d g ++ s → (f ≡ g) × (r ≡ s)
+  pub formula-split : (l m : Logic) (d : ℕ) (f g : Formula) (r s : List ℕ) → d + nesting f ≤ 1100 → IsTrue (formula_fits l S d f) → IsTrue (formula_fits m S d g) → Ends r → Ends s → formula_text S d f ++ r ≡ formula_text S d g ++ s → (f ≡ g) × (r ≡ s)
   formula-split l m d (atom p ts) (atom q us) r s b hf hg hr hs e =
       let parts = and_parts (has_predicate S p (arity_of ts)) (terms_fit_in S d ts) hf in
       let others = and_parts (has_predicate S q (arity_of us)) (terms_fit_in S d us) hg in
