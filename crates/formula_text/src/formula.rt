@@ -32,7 +32,8 @@ fn append_sides(
     requires left { IsTrue (term_is_known symbols.now (the_term left.now)) }
     requires right { IsTrue (term_is_known symbols.now (the_term right.now)) }
     ensures ok { OnOk result (out.new.items ≡ out.old.items
-        ++ joined_text (term_text symbols.now depth (the_term left.now)) (codes " = ") (term_text symbols.now depth (the_term right.now))) }
+        ++ joined_text (term_text symbols.now depth (the_term left.now)) (codes " = ")
+        (term_text symbols.now depth (the_term right.now))) }
     ensures extends { Extends out.old.items out.new.items }
 {
     append_byte(out, b'(')?;
@@ -111,7 +112,8 @@ fn append_joined(
     requires left_shallow { depth + nesting (the_formula left.now) ≤ 1100 }
     requires right_shallow { depth + nesting (the_formula right.now) ≤ 1100 }
     ensures ok { OnOk result ((d : ℕ) → depth ≡ d → out.new.items ≡ out.old.items
-        ++ joined_text (formula_text symbols.now d (the_formula left.now)) connective.now (formula_text symbols.now d (the_formula right.now))) }
+        ++ joined_text (formula_text symbols.now d (the_formula left.now)) connective.now
+        (formula_text symbols.now d (the_formula right.now))) }
     ensures extends { Extends out.old.items out.new.items }
 {
     append_byte(out, b'(')?;

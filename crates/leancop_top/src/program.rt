@@ -8,7 +8,9 @@ ghost use Rattle.calculus.specs.Soundness.{IsSound};
 ghost use Rattle.calculus.specs.Syntax as tree;
 ghost use Rattle.cop_base.specs.Outside.{Files, Rose};
 ghost use Rattle.leancop_top.specs.Output.{status_line};
-ghost use Rattle.leancop_top.specs.Run.{Answers, Ends, EndsWithout, IsAnswered, IsCounted, IsCheckable, IsCutOff, IsDecided, IsJudged, IsJudgingEnd, IsProblemIn, IsProvable, IsRefused, OnAnswer};
+ghost use Rattle.leancop_top.specs.Run.{Answers, Ends, EndsWithout, IsAnswered, IsCounted};
+ghost use Rattle.leancop_top.specs.Run.{IsCheckable, IsCutOff, IsDecided, IsJudged, IsJudgingEnd};
+ghost use Rattle.leancop_top.specs.Run.{IsProblemIn, IsProvable, IsRefused, OnAnswer};
 ghost use Rattle.leancop_top.specs.Words.{asked, check, prove};
 
 use crate::output::status_line;
@@ -24,12 +26,14 @@ use std::alloc::{AllocError, Global};
 
 // The problem that a file holds, or why there is none.
 fn read_problem<L: Library>(alloc: Global, lib: &mut L, file: &str) -> Result<Problem, Status>
-    ensures problem { IfOk result (λ p. IsProblemIn (L.holds lib.old) file.now p × IsPropositional p) }
+    ensures problem { IfOk result
+        (λ p. IsProblemIn (L.holds lib.old) file.now p × IsPropositional p) }
     ensures same_files { L.holds lib.new ≡ L.holds lib.old }
     ensures more_faults { L.faults lib.old ≤ L.faults lib.new }
     ensures more_misses { L.misses lib.old ≤ L.misses lib.new }
     ensures refused { IfErr result (λ s. IsRefused (L.holds lib.old) file.now s) }
-    ensures counted { IfErr result (λ s. IsCounted (L.misses lib.old) (L.misses lib.new) (L.faults lib.old) (L.faults lib.new) s) }
+    ensures counted { IfErr result (λ s. IsCounted
+        (L.misses lib.old) (L.misses lib.new) (L.faults lib.old) (L.faults lib.new) s) }
 {
     let name = match Text::new(alloc, file.as_bytes()) {
         Ok(name) => name,
@@ -66,7 +70,8 @@ fn judge_file<L: Library>(alloc: Global, lib: &mut L, problem: &Problem, derivat
     ensures more_faults { L.faults lib.old ≤ L.faults lib.new }
     ensures more_misses { L.misses lib.old ≤ L.misses lib.new }
     ensures ended { IsJudgingEnd (L.holds lib.old) problem.now derivation.now result }
-    ensures counted { IsCounted (L.misses lib.old) (L.misses lib.new) (L.faults lib.old) (L.faults lib.new) result }
+    ensures counted { IsCounted
+        (L.misses lib.old) (L.misses lib.new) (L.faults lib.old) (L.faults lib.new) result }
 {
     let name = match Text::new(alloc, derivation.as_bytes()) {
         Ok(name) => name,
@@ -91,9 +96,11 @@ fn prove_file<L: Library>(alloc: Global, lib: &mut L, file: &str) -> Result<Proo
     ensures same_files { L.holds lib.new ≡ L.holds lib.old }
     ensures more_faults { L.faults lib.old ≤ L.faults lib.new }
     ensures more_misses { L.misses lib.old ≤ L.misses lib.new }
-    ensures proved { IfOk result (λ p. Ends (L.holds lib.old) (prove file.now) (Status.Derived p.limit) p.text.items) }
+    ensures proved { IfOk result
+        (λ p. Ends (L.holds lib.old) (prove file.now) (Status.Derived p.limit) p.text.items) }
     ensures ended { IfErr result (λ s. EndsWithout (L.holds lib.old) (prove file.now) s) }
-    ensures counted { IfErr result (λ s. IsCounted (L.misses lib.old) (L.misses lib.new) (L.faults lib.old) (L.faults lib.new) s) }
+    ensures counted { IfErr result (λ s. IsCounted
+        (L.misses lib.old) (L.misses lib.new) (L.faults lib.old) (L.faults lib.new) s) }
 {
     match read_problem(alloc, lib, file) {
         Ok(problem) => prove(alloc, &problem),
@@ -106,7 +113,8 @@ fn check_files<L: Library>(alloc: Global, lib: &mut L, file: &str, derivation: &
     ensures more_faults { L.faults lib.old ≤ L.faults lib.new }
     ensures more_misses { L.misses lib.old ≤ L.misses lib.new }
     ensures ended { EndsWithout (L.holds lib.old) (check file.now derivation.now) result }
-    ensures counted { IsCounted (L.misses lib.old) (L.misses lib.new) (L.faults lib.old) (L.faults lib.new) result }
+    ensures counted { IsCounted
+        (L.misses lib.old) (L.misses lib.new) (L.faults lib.old) (L.faults lib.new) result }
 {
     match read_problem(alloc, lib, file) {
         Ok(problem) => judge_file(alloc, lib, &problem, derivation),
@@ -138,8 +146,10 @@ fn answer<L: Library>(alloc: Global, words: &[String], lib: &mut L) -> Result<Re
     ensures same_files { L.holds lib.new ≡ L.holds lib.old }
     ensures more_faults { L.faults lib.old ≤ L.faults lib.new }
     ensures more_misses { L.misses lib.old ≤ L.misses lib.new }
-    ensures answers { IfOk result (λ r. Answers (L.holds lib.old) (asked words.now) r.status r.output.items) }
-    ensures counted { IfOk result (λ r. IsCounted (L.misses lib.old) (L.misses lib.new) (L.faults lib.old) (L.faults lib.new) r.status) }
+    ensures answers { IfOk result
+        (λ r. Answers (L.holds lib.old) (asked words.now) r.status r.output.items) }
+    ensures counted { IfOk result (λ r. IsCounted
+        (L.misses lib.old) (L.misses lib.new) (L.faults lib.old) (L.faults lib.new) r.status) }
 {
     match command_of(words) {
         Command::Bad { place } => status_reply(alloc, Status::BadWords { place }),
@@ -156,8 +166,8 @@ fn answer<L: Library>(alloc: Global, words: &[String], lib: &mut L) -> Result<Re
     }
 }
 
-/// Does all that the program does. `words` are the words after the program's own name. The whole output is built before
-/// the first byte is written.
+/// Does all that the program does. `words` are the words after the program's own name. The whole
+/// output is built before the first byte is written.
 #[tactic(auto, using(calculus::proofs::CasesLaws::computes_instances, calculus::proofs::SoundnessLaws::sound))]
 pub fn run<L: Library, K: Sink>(
     alloc: Global,
@@ -167,10 +177,13 @@ pub fn run<L: Library, K: Sink>(
 ) -> Status
     ensures answered { OnAnswer result (IsAnswered (L.holds lib.old) (asked words.now.items) result
         (K.written out.old) (K.written out.new)) }
-    ensures counted { IsCounted (L.misses lib.old) (L.misses lib.new) (L.faults lib.old) (L.faults lib.new) result }
+    ensures counted { IsCounted
+        (L.misses lib.old) (L.misses lib.new) (L.faults lib.old) (L.faults lib.new) result }
     ensures write_fault { result ≡ Status.WriteFault → Rose (K.faults out.old) (K.faults out.new) }
-    ensures cut_off { result ≡ Status.WriteFault → IsCutOff (L.holds lib.old) (asked words.now.items)
-        (L.misses lib.old) (L.misses lib.new) (L.faults lib.old) (L.faults lib.new) (K.written out.old) (K.written out.new) }
+    ensures cut_off { result ≡ Status.WriteFault → IsCutOff
+        (L.holds lib.old) (asked words.now.items)
+        (L.misses lib.old) (L.misses lib.new) (L.faults lib.old) (L.faults lib.new)
+        (K.written out.old) (K.written out.new) }
     ensures no_memory { result ≡ Status.NoMemory → K.written out.new ≡ K.written out.old }
 
     // No file changes, and no count falls.
@@ -180,15 +193,17 @@ pub fn run<L: Library, K: Sink>(
     ensures more_put_faults { K.faults out.old ≤ K.faults out.new }
 
     // Where no stream fails, a problem that the files hold is decided, unless memory ends.
-    ensures complete { ¬ Rose (L.faults lib.old) (L.faults lib.new) → ¬ Rose (K.faults out.old) (K.faults out.new)
+    ensures complete { ¬ Rose (L.faults lib.old) (L.faults lib.new)
+        → ¬ Rose (K.faults out.old) (K.faults out.new)
         → IsProvable (L.holds lib.old) (asked words.now.items) → IsDecided result }
-    ensures judged { ¬ Rose (L.faults lib.old) (L.faults lib.new) → ¬ Rose (K.faults out.old) (K.faults out.new)
+    ensures judged { ¬ Rose (L.faults lib.old) (L.faults lib.new)
+        → ¬ Rose (K.faults out.old) (K.faults out.new)
         → IsCheckable (L.holds lib.old) (asked words.now.items) → IsJudged result }
 
-    // Laws over the definitions, which hold of them whatever the body does: what has a derivation, or
-    // is accepted, is true at the root of each structure of its setting, in any logic, so a formula
-    // that a finite structure makes false has none; and the clauses of tableaux are the instances that
-    // the rules define by cases.
+    // Laws over the definitions, which hold of them whatever the body does: what has a derivation,
+    // or is accepted, is true at the root of each structure of its setting, in any logic, so a
+    // formula that a finite structure makes false has none; and the clauses of tableaux are the
+    // instances that the rules define by cases.
     ensures sound { (P : tree.Problem) → IsTrue (is_problem P) → IsSound P }
     ensures instances { (P : tree.Problem) → ComputesInstances P }
 {
