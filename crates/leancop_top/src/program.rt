@@ -200,10 +200,10 @@ pub fn run<L: Library, K: Sink>(
         → ¬ Rose (K.faults out.old) (K.faults out.new)
         → IsCheckable (L.holds lib.old) (asked words.now.items) → IsJudged result }
 
-    // Laws over the definitions, which hold of them whatever the body does: what has a derivation, or
-    // is accepted, is true at the root of each structure of its setting, in any logic, so a formula
-    // that a finite structure makes false has none; and the clauses of tableaux are the instances that
-    // the rules define by cases.
+    // Laws over the definitions, which hold of them whatever the body does: what has a derivation,
+    // or is accepted, is true at the root of each structure of its setting, in any logic, so a
+    // formula that a finite structure makes false has none; and the clauses of tableaux are the
+    // instances that the rules define by cases.
     ensures sound { (P : tree.Problem) → IsTrue (is_problem P) → IsSound P }
     ensures instances { (P : tree.Problem) → ComputesInstances P }
 {
