@@ -3,7 +3,7 @@ use Rattle.std.specs.Prelude.{◌≡◌, ◌≤◌, ℕ, List, IsTrue}
 use Rattle.calculus.specs.declared.setting.Logic.{Logic}
 use Rattle.calculus.specs.Measures.{nesting}
 use Rattle.calculus.specs.Syntax.{Symbol, Term, Formula}
-use Rattle.calculus.specs.Problems.{are_distinct, formula_fits}
+use Rattle.calculus.specs.Problems.{are_distinct, formula_fits, greatest_nesting}
 use Rattle.calculus.specs.Derivations.{Label}
 use Rattle.calculus.specs.DerivationText.{IsTermAt, IsLabelAt, IsNameAt, label_is_written, term_is_written}
 use Rattle.calculus.specs.Text.{formula_text, label_text, name_text, term_text}
@@ -30,4 +30,4 @@ TermTextsDiffer symbols = IsTrue (are_distinct symbols) → (t u : Term) → IsT
 
 -- a text with which one formula is written is that of no other
 abbrev pub FormulaTextsDiffer : List Symbol → Type 0
-FormulaTextsDiffer symbols = IsTrue (are_distinct symbols) → (l m : Logic) (f g : Formula) → IsTrue (formula_fits l symbols 0 f) → IsTrue (formula_fits m symbols 0 g) → nesting f ≤ 1100 → formula_text symbols 0 f ≡ formula_text symbols 0 g → f ≡ g
+FormulaTextsDiffer symbols = IsTrue (are_distinct symbols) → (l m : Logic) (f g : Formula) → IsTrue (formula_fits l symbols 0 f) → IsTrue (formula_fits m symbols 0 g) → nesting f ≤ greatest_nesting → formula_text symbols 0 f ≡ formula_text symbols 0 g → f ≡ g

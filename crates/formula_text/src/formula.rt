@@ -6,7 +6,7 @@ ghost use Rattle.std.specs.List.{list_all};
 ghost use Rattle.calculus.specs.declared.setting.Logic as setting;
 ghost use Rattle.calculus.specs.Lists.{terms_tree};
 ghost use Rattle.calculus.specs.Measures.{nesting};
-ghost use Rattle.calculus.specs.Problems.{formula_fits, symbol_fits};
+ghost use Rattle.calculus.specs.Problems.{formula_fits, greatest_nesting, symbol_fits};
 ghost use Rattle.calculus.specs.Text.{atom_text, equation_text, formula_text, joined_text};
 ghost use Rattle.calculus.specs.Text.{quantified_text, term_text};
 ghost use Rattle.formula_core.specs.FormulaView.{the_formula};
@@ -86,7 +86,7 @@ fn append_atom(
 
 // The prefix of a quantifier that lies inside `depth` others.
 fn append_quantifier(out: &mut Vec<u8>, quantifier: u8, depth: u64) -> Result<(), NoMemory>
-    requires { depth < 1100 }
+    requires { depth < greatest_nesting }
     ensures ok { OnOk result (out.new.items
         ≡ out.old.items ++ quantifier ∷ (codes "[X" ++ decimal (depth + 1) ++ codes "]:")) }
     ensures extends { Extends out.old.items out.new.items }
@@ -109,8 +109,8 @@ fn append_joined(
 ) -> Result<(), NoMemory>
     requires left_known { IsTrue (formula_is_known symbols.now (the_formula left.now)) }
     requires right_known { IsTrue (formula_is_known symbols.now (the_formula right.now)) }
-    requires left_shallow { depth + nesting (the_formula left.now) ≤ 1100 }
-    requires right_shallow { depth + nesting (the_formula right.now) ≤ 1100 }
+    requires left_shallow { depth + nesting (the_formula left.now) ≤ greatest_nesting }
+    requires right_shallow { depth + nesting (the_formula right.now) ≤ greatest_nesting }
     ensures ok { OnOk result ((d : ℕ) → depth ≡ d → out.new.items ≡ out.old.items
         ++ joined_text (formula_text symbols.now d (the_formula left.now)) connective.now
         (formula_text symbols.now d (the_formula right.now))) }
@@ -133,7 +133,7 @@ fn append_formula(
     f: &Formula,
 ) -> Result<(), NoMemory>
     requires known { IsTrue (formula_is_known symbols.now (the_formula f.now)) }
-    requires shallow { depth + nesting (the_formula f.now) ≤ 1100 }
+    requires shallow { depth + nesting (the_formula f.now) ≤ greatest_nesting }
     ensures ok { OnOk result ((d : ℕ) → depth ≡ d → out.new.items
         ≡ out.old.items ++ formula_text symbols.now d (the_formula f.now)) }
     ensures extends { Extends out.old.items out.new.items }
@@ -172,7 +172,7 @@ pub fn write_formula(out: &mut Vec<u8>, symbols: &Symbols, f: &Formula) -> Resul
     requires fits { (l : setting.Logic)
         × IsTrue (formula_fits l symbols.now 0 (the_formula f.now)) }
     requires names { IsTrue (list_all symbol_fits symbols.now) }
-    requires shallow { nesting (the_formula f.now) ≤ 1100 }
+    requires shallow { nesting (the_formula f.now) ≤ greatest_nesting }
     ensures ok { OnOk result (out.new.items
         ≡ out.old.items ++ formula_text symbols.now 0 (the_formula f.now)) }
     ensures err { OnErr result (out.new.items ≡ out.old.items) }

@@ -5,7 +5,7 @@ use Rattle.std.specs.Option.{option_map_or}
 use Rattle.std.specs.Str.{bytes_eq}
 use Rattle.calculus.specs.Equality.{symbol_eq}
 use Rattle.calculus.specs.Measures.{nesting, node_count}
-use Rattle.calculus.specs.Problems.{is_modal}
+use Rattle.calculus.specs.Problems.{is_modal, greatest_nodes, greatest_symbols}
 use Rattle.calculus.specs.Syntax.{Symbol, Formula, neg, conj, imp, Setting, Problem}
 use Rattle.cop_base.specs.Outside.{Files, file_in}
 use Rattle.tptp_reader.specs.Sources.{Name}
@@ -42,18 +42,12 @@ joined (a ∷ bs) (c ∷ cs) = Some (imp (balanced conj a bs) c)
 
 -- ---- limits
 
-abbrev pub greatest_symbols : ℕ
-greatest_symbols = 65536
-
 -- of an item or an axiom of equality
-abbrev pub greatest_nesting : ℕ
-greatest_nesting = 1000
-
-abbrev pub greatest_nodes : ℕ
-greatest_nodes = 4000000
+abbrev pub greatest_item_nesting : ℕ
+greatest_item_nesting = 1000
 
 abbrev pub are_flat : List Formula → Bool
-are_flat fs = list_all (λ f. nat_le (nesting f) greatest_nesting) fs
+are_flat fs = list_all (λ f. nat_le (nesting f) greatest_item_nesting) fs
 
 -- ---- problems
 
