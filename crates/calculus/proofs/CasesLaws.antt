@@ -20,16 +20,13 @@ use Rattle.calculus.specs.Positions.{size}
 use Rattle.calculus.specs.Labels.{steps_to, nu_label}
 use Rattle.calculus.specs.Skolem.{is_empty, is_admitted_value}
 use Rattle.calculus.specs.Instances.{Spot, root_spot, down_by, spot_inside, after_string, after_character, Share, literal_share, reaching, with_side, with_string, with_character, with_term, both, Gives, Shaped, by_plain, by_nu, by_pi, is_literal, by_only, by_left, by_right, by_both, by_gamma, by_delta, IsInstance, IsAllowedInstance, gamma_is_allowed, ClauseInstance, clause_instance}
-use Rattle.calculus.specs.ComputedInstances.{Supply, Part, at_modal, with_modal_step, with_turn, with_gamma, at_one, at_two, at_beta, at_gamma, at_literal, at_quantifier, join_of, part_of, if_used_up, instance_of, is_instance, is_allowed_instance, ComputesInstances}
+use Rattle.calculus.specs.ComputedInstances.{Supply, Part, at_modal, with_modal_step, with_turn, with_gamma, at_one, at_two, at_beta, at_gamma, at_literal, at_quantifier, join_of, part_of, if_used_up, instance_of, is_instance, is_allowed_instance, part_by, ComputesInstances}
 use Rattle.calculus.proofs.EqualityLaws.{list_eq-tells, literal_eq-tells}
 use Rattle.calculus.proofs.InstanceLaws.{OnPart}
 
--- the supply before a share is used up, and the part that a share is
+-- the supply before a share is used up
 abbrev pub before : Share → Supply → Supply
 before x r = record { sides = x.sides ++ r.sides; values = x.values ++ r.values }
-
-abbrev pub part_by : Share → Supply → Part
-part_by x r = record { literals = x.literals; turns = x.turns; gammas = x.gammas; nus = x.nus; pis = x.pis; left_over = r }
 
 -- ---- what the cases give is computed
 
@@ -314,4 +311,4 @@ is_allowed_instance-exact P i = (forth (instance_of P i.selection i.values) (cas
     back q = subst (λ k. IsTrue (is_allowed_instance P k)) (sym q.2) (rw (instance_of-by_cases P q.0 q.1.instance) (and_from (list_eq literal_eq q.0.literals q.0.literals) (list_all (gamma_is_allowed P) q.0.gammas) (list-self q.0.literals) q.1.allowed))
 
 pub computes_instances : (P : Problem) → ComputesInstances P
-computes_instances P = is_allowed_instance-exact P
+computes_instances P = record { whole = instance_of-exact P; given = is_instance-exact P; allowed = is_allowed_instance-exact P }
