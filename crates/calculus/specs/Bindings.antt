@@ -100,3 +100,9 @@ is_variable _ = false
 pub record BindsOnly (before after : Store) : Type 0 where
   pub same_length : length after.cells ≡ length before.cells
   pub cells : (n : ℕ) (c : Cell) → slice_get before.cells n ≡ Some c → (slice_get after.cells n ≡ Some c) ⊎ ((sort : Sort) × (r : ℕ) × (c ≡ variable sort None) × (slice_get after.cells n ≡ Some (variable sort (Some r))))
+
+-- cells came, none of them an unbound variable; what was there is as before
+pub record AddsBound (before after : Store) : Type 0 where
+  pub more : List Cell
+  pub cells : after.cells ≡ before.cells ++ more
+  pub bound : (v : ℕ) (sort : Sort) → length before.cells ≤ v → ¬ (slice_get after.cells v ≡ Some (variable sort None))
