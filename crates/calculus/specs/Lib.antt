@@ -52,6 +52,7 @@ pub mod Stores
 pub mod Bindings
 pub mod Systems
 pub mod Patterns
+pub mod Templates
 -- the lists inside trees as lists, and what models of program types need
 pub mod Lists
 pub mod Sizes

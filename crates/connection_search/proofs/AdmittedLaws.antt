@@ -25,7 +25,7 @@ use Rattle.calculus.specs.Sizes.{g_term_size, g_terms_size, mark_size, marks_siz
 use Rattle.calculus.specs.Space.{has_labels}
 use Rattle.calculus.specs.Systems.{is_label, is_gamma_cell, is_step_length}
 use Rattle.calculus.proofs.EqualityLaws.{mark_eq-tells, list_eq-tells}
-use Rattle.connection_search.specs.Templates.{as_term, as_value, as_label, is_step_value, is_choice_of_values}
+use Rattle.calculus.specs.Templates.{as_term, as_value, as_label, is_step_value, is_choice_of_values}
 use Rattle.connection_search.specs.States.{terms_by, label_by, values_by}
 use Rattle.connection_search.specs.LabelledCells.{sort_values, is_labelled_cell, AreLabelled}
 use Rattle.connection_search.proofs.SpareLaws.{IsPart, IsRanked, cell-fits, cell-sorted, all-at, or-both}

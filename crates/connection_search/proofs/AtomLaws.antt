@@ -8,7 +8,7 @@ use Rattle.calculus.specs.Ground.{GroundTerms, GroundMark, GroundLiteral, Values
 use Rattle.calculus.specs.Stores.{Cell, variable, fun_cell, eigen_cell, new_cell, string_cell, Store, sort_of, parts_of, parts_fit, has_sort_at, is_store, CellValue, a_term, a_mark, a_string, has_sort, Solution, terms_at, label_at, join_label, marks_at, values_at, cons_value, Solves}
 use Rattle.calculus.specs.Equality.{sort_eq}
 use Rattle.calculus.specs.Systems.{CellAtom, IsLiteral, is_label, is_cell_atom}
-use Rattle.connection_search.specs.Templates.{as_term, as_value, as_label}
+use Rattle.calculus.specs.Templates.{as_term, as_value, as_label}
 use Rattle.connection_search.specs.States.{terms_by, label_by, values_by, literal_by}
 use Rattle.connection_search.specs.Regular.{AreSame}
 use Rattle.connection_search.proofs.SpareLaws.{IsPart, IsRanked, cell-fits, cell-sorted}

@@ -18,7 +18,8 @@ use Rattle.calculus.specs.Systems.{is_label, is_gamma_cell, AreUses, AllAllowed,
 use Rattle.calculus.proofs.InstanceLaws.{OnPart}
 use Rattle.calculus.proofs.CasesLaws.{Cases, cases-by_instance_of}
 use Rattle.calculus.proofs.SpaceLaws.{strings-gives}
-use Rattle.connection_search.specs.Templates.{PatternGamma, Template, as_term, as_value, pattern_gamma, gammas_by, has_value_sort, have_sorts, IsTemplateOf}
+use Rattle.calculus.specs.Patterns.{PatternGamma, Template}
+use Rattle.calculus.specs.Templates.{as_term, as_value, pattern_gamma, gammas_by, has_value_sort, have_sorts, IsTemplateOf}
 use Rattle.connection_search.specs.States.{CellClause, values_by, clause_at}
 use Rattle.connection_search.specs.StateSystems.{Brings, string_cells, AreBuiltGammas}
 use Rattle.connection_search.proofs.BuildingLaws.{built-value, built-label, AreValueCells, solved-sorted}

@@ -10,7 +10,8 @@ use Rattle.calculus.specs.Ground.{GroundTerms, Value, Values, g_fun, g_eigen, no
 use Rattle.calculus.specs.Lists.{marks_list-marks_tree, marks_tree-marks_list}
 use Rattle.calculus.specs.Stores.{Cell, variable, fun_cell, eigen_cell, new_cell, string_cell, Store, parts_of, sort_of, has_sort_at, has_value_sort_at, parts_fit, is_store, CellValue, a_term, a_mark, a_string, has_sort, Solution, cons_term, terms_at, cons_value, values_at, cons_mark, marks_at, CellHolds, Solves, names_below}
 use Rattle.calculus.specs.Systems.{CellAtom}
-use Rattle.connection_search.specs.Templates.{Pattern, Patterns, p_var, p_fun, p_eigen, p_new, no_patterns, more_patterns, PatternAtom, Template, as_term, as_value, as_label, cell_value, value_of_variable, pattern_value, pattern_terms, pattern_values, pattern_label, pattern_literal, has_value_sort, have_sorts}
+use Rattle.calculus.specs.Patterns.{Pattern, Patterns, p_var, p_fun, p_eigen, p_new, no_patterns, more_patterns, patterns_tree, PatternAtom, Template}
+use Rattle.calculus.specs.Templates.{as_term, as_value, as_label, cell_value, value_of_variable, pattern_value, pattern_terms, pattern_values, pattern_label, pattern_literal, has_value_sort, have_sorts}
 use Rattle.connection_search.specs.States.{CellClause, clause_is_below, terms_by, label_by, values_by, literal_by, Agree}
 use Rattle.connection_search.specs.Steps.{IsCopy, IsHeadCopy, IsRestCopy}
 use Rattle.connection_search.specs.Building.{plus_cell, plus_variables, places_of, is_built, AddsBuilt, nothing_more, one_more, IsBuilt, AreBuilt, IsBuiltAtom, AreBuiltAtoms}
@@ -308,12 +309,12 @@ mutual
   built-values s σ h variables k no_patterns rs b = ap (λ xs. values_tree (values_by σ xs)) b
   built-values s σ h variables k (more_patterns p ps) rs (r, qs, e, b, c) = ap (λ xs. values_tree (values_by σ xs)) e ∙ ap₂ (λ v vs. more_values (as_value v) vs) (built-value s σ h variables k p r b) (built-values s σ h variables k ps qs c)
 
-pub built-label : (s : Store) (σ : Solution) → Solves s σ → (variables : List ℕ) → AreValueCells σ variables → (ps : Patterns) (rs : List ℕ) → AreBuilt s variables ps rs → label_by σ rs ≡ pattern_label (values_by σ variables) ps
-built-label s σ h variables k no_patterns rs b = ap (label_by σ) b
-built-label s σ h variables k (more_patterns p ps) rs (r, qs, e, b, c) = ap (label_by σ) e ∙ ap₂ (λ v w. as_label v ++ w) (built-value s σ h variables k p r b) (built-label s σ h variables k ps qs c)
+pub built-label : (s : Store) (σ : Solution) → Solves s σ → (variables : List ℕ) → AreValueCells σ variables → (ps : List Pattern) (rs : List ℕ) → AreBuilt s variables (patterns_tree ps) rs → label_by σ rs ≡ pattern_label (values_by σ variables) ps
+built-label s σ h variables k [] rs b = ap (label_by σ) b
+built-label s σ h variables k (p ∷ ps) rs (r, qs, e, b, c) = ap (label_by σ) e ∙ ap₂ (λ v w. as_label v ++ w) (built-value s σ h variables k p r b) (built-label s σ h variables k ps qs c)
 
 built-literal : (s : Store) (σ : Solution) → Solves s σ → (variables : List ℕ) → AreValueCells σ variables → (p : PatternAtom) (a : CellAtom) → IsBuiltAtom s variables p a → literal_by σ a ≡ pattern_literal (values_by σ variables) p
-built-literal s σ h variables k p a b = λ i. record { sign = b.sign i; symbol = b.symbol i; args = built-terms s σ h variables k p.args a.args b.args i; label = built-label s σ h variables k p.label a.label b.label i }
+built-literal s σ h variables k p a b = λ i. record { sign = b.sign i; symbol = b.symbol i; args = built-terms s σ h variables k (patterns_tree p.args) a.args b.args i; label = built-label s σ h variables k p.label a.label b.label i }
 
 built-literals : (s : Store) (σ : Solution) → Solves s σ → (variables : List ℕ) → AreValueCells σ variables → (ps : List PatternAtom) (xs : List CellAtom) → AreBuiltAtoms s variables ps xs → map (literal_by σ) xs ≡ map (λ (a : PatternAtom). pattern_literal (values_by σ variables) a) ps
 built-literals s σ h variables k [] xs b = ap (map (literal_by σ)) b
@@ -394,7 +395,7 @@ mutual
 
 -- an atom that was built before the unification is that of the template after it
 pub built_atom-kept : (before after : Store) → KeepsBuilt before after → (variables : List ℕ) (p : PatternAtom) (a : CellAtom) → IsBuiltAtom before variables p a → IsBuiltAtom after variables p a
-built_atom-kept before after k variables p a b = record { sign = b.sign; symbol = b.symbol; args = all-built-kept before after k variables p.args a.args b.args; label = all-built-kept before after k variables p.label a.label b.label }
+built_atom-kept before after k variables p a b = record { sign = b.sign; symbol = b.symbol; args = all-built-kept before after k variables (patterns_tree p.args) a.args b.args; label = all-built-kept before after k variables (patterns_tree p.label) a.label b.label }
 
 -- one cell more keeps what is built
 pub keeps-plus : (s : Store) (c : Cell) → KeepsBuilt s (plus_cell c s)

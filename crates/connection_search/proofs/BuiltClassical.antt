@@ -1,5 +1,5 @@
 -- What is built for a classical template is classical: its cells, and its atoms.
-use Rattle.std.proofs.Common.{◌≡◌, ℕ, suc, List, ◌∷◌, length, map, false, ◌&&◌, IsTrue, ◌∙◌, ap, subst, Some, option_map, slice_get, nat_le}
+use Rattle.std.proofs.Common.{◌≡◌, ℕ, suc, List, [], ◌∷◌, length, map, false, ◌&&◌, IsTrue, ◌∙◌, ap, subst, Some, option_map, slice_get, nat_le}
 use Rattle.std.specs.List.{list_all}
 use Rattle.std.specs.Option.{option_map_or}
 use Rattle.std.proofs.lemmas.Bool.{false≢true, and_parts, and_from}
@@ -10,9 +10,9 @@ use Rattle.calculus.specs.Equality.{sort_eq}
 use Rattle.calculus.specs.Skolem.{has_function, is_delta_position, fits_way, is_empty}
 use Rattle.calculus.specs.Stores.{Cell, fun_cell, eigen_cell, Store, sort_of, has_sort_at}
 use Rattle.calculus.specs.Systems.{CellAtom}
-use Rattle.connection_search.specs.Templates.{Pattern, Patterns, p_var, p_fun, p_eigen, p_new, no_patterns, more_patterns, PatternAtom}
+use Rattle.calculus.specs.Patterns.{Pattern, Patterns, p_var, p_fun, p_eigen, p_new, no_patterns, more_patterns, patterns_tree, PatternAtom}
 use Rattle.connection_search.specs.Building.{IsBuilt, AreBuilt, IsBuiltAtom}
-use Rattle.connection_search.specs.Regular.{is_classical_cell, is_own_term, is_classical_atom, number_of_patterns, spares_for, is_classical_pattern, are_classical_patterns, has_no_patterns}
+use Rattle.connection_search.specs.Regular.{is_classical_cell, is_own_term, is_classical_atom, number_of_patterns, spares_for, is_classical_pattern, are_classical_patterns}
 use Rattle.connection_search.proofs.SpareLaws.{all-at}
 
 -- ---- cells
@@ -54,12 +54,12 @@ terms-built P base s variables v (more_patterns p ps) rs h (r, qs, e, b, c) l =
     let k = and_parts (nat_le base r) (list_all (nat_le base) qs) (subst (λ xs. IsTrue (list_all (nat_le base) xs)) e l) in
     ap (list_all (is_own_term base s)) e ∙ and_from (is_own_term base s r) (list_all (is_own_term base s) qs) (and_from (nat_le base r) (has_sort_at s TermSort r) k.0 (term-built P s variables v p r q.0 b)) (terms-built P base s variables v ps qs q.1 c k.1)
 
-no-label : (s : Store) (variables : List ℕ) (ps : Patterns) (rs : List ℕ) → IsTrue (has_no_patterns ps) → AreBuilt s variables ps rs → IsTrue (is_empty rs)
-no-label s variables no_patterns rs h b = ap is_empty b
-no-label s variables (more_patterns p ps) rs h b = absurd (false≢true h)
+no-label : (s : Store) (variables : List ℕ) (ps : List Pattern) (rs : List ℕ) → IsTrue (is_empty ps) → AreBuilt s variables (patterns_tree ps) rs → IsTrue (is_empty rs)
+no-label s variables [] rs h b = ap is_empty b
+no-label s variables (p ∷ ps) rs h b = absurd (false≢true h)
 
 -- an atom that is built for a literal of a classical template, by cells from `base` on
-pub atom-built : (P : Problem) (base : ℕ) (s : Store) (variables : List ℕ) → IsTrue (list_all (has_sort_at s TermSort) variables) → (p : PatternAtom) (a : CellAtom) → IsTrue (are_classical_patterns P p.args && has_no_patterns p.label) → IsBuiltAtom s variables p a → IsTrue (list_all (nat_le base) a.args) → IsTrue (is_classical_atom base s a)
+pub atom-built : (P : Problem) (base : ℕ) (s : Store) (variables : List ℕ) → IsTrue (list_all (has_sort_at s TermSort) variables) → (p : PatternAtom) (a : CellAtom) → IsTrue (are_classical_patterns P (patterns_tree p.args) && is_empty p.label) → IsBuiltAtom s variables p a → IsTrue (list_all (nat_le base) a.args) → IsTrue (is_classical_atom base s a)
 atom-built P base s variables v p a h b l =
-    let q = and_parts (are_classical_patterns P p.args) (has_no_patterns p.label) h in
-    and_from (list_all (is_own_term base s) a.args) (is_empty a.label) (terms-built P base s variables v p.args a.args q.0 b.args l) (no-label s variables p.label a.label q.1 b.label)
+    let q = and_parts (are_classical_patterns P (patterns_tree p.args)) (is_empty p.label) h in
+    and_from (list_all (is_own_term base s) a.args) (is_empty a.label) (terms-built P base s variables v (patterns_tree p.args) a.args q.0 b.args l) (no-label s variables p.label a.label q.1 b.label)

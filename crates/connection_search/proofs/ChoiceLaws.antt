@@ -18,7 +18,8 @@ use Rattle.calculus.specs.Counting.{IsRising}
 use Rattle.calculus.specs.Systems.{CellAtom}
 use Rattle.calculus.proofs.OrderLaws.{selection_cmp_total, rising-before}
 use Rattle.calculus.proofs.SelectionLaws.{selections-rise}
-use Rattle.connection_search.specs.Templates.{PatternAtom, IsTemplateOf}
+use Rattle.calculus.specs.Patterns.{PatternAtom}
+use Rattle.calculus.specs.Templates.{IsTemplateOf}
 use Rattle.connection_search.specs.States.{CellGoal}
 use Rattle.connection_search.specs.Matrix.{MatrixClause, IsTemplateMatrix, is_about, places_among, places_from, places}
 use Rattle.connection_search.specs.Goals.{IsChoiceAt, by_ancestor, by_clause}

@@ -18,14 +18,15 @@ use Rattle.calculus.specs.Ground.{GroundTerm, Value, common, term, g_terms_list,
 use Rattle.calculus.specs.Equality.{list_eq, literal_eq}
 use Rattle.calculus.specs.Kinds.{other, shape_of}
 use Rattle.calculus.specs.Positions.{size}
-use Rattle.calculus.specs.Skolem.{has_function, is_delta_position, fits_way, is_admitted, are_admitted, is_admitted_mark, is_admitted_value, are_admitted_values}
+use Rattle.calculus.specs.Skolem.{is_empty, has_function, is_delta_position, fits_way, is_admitted, are_admitted, is_admitted_mark, is_admitted_value, are_admitted_values}
 use Rattle.calculus.specs.ComputedInstances.{Part, instance_of}
 use Rattle.calculus.specs.Stores.{a_term}
 use Rattle.calculus.proofs.EqualityLaws.{list_eq-tells, literal_eq-tells}
 use Rattle.calculus.proofs.InstanceLaws.{literal_is_proper, Good, OnPart, instance-proper}
-use Rattle.connection_search.specs.Templates.{Pattern, Patterns, p_var, p_fun, p_eigen, p_new, no_patterns, more_patterns, PatternAtom, Template, as_term, as_value, value_of_variable, pattern_value, pattern_terms, pattern_values, pattern_literal, literals_by, have_sorts, is_step_value, is_choice_of_values}
-use Rattle.connection_search.specs.TemplateOf.{patterns_tree, PatternSpot, root_pattern_spot, PatternPart, PatternBody, pattern_of, patterns_of, pattern_down, pattern_inside, of_sort, pattern_turn, pattern_atom, joined_patterns, pattern_alpha, pattern_beta, pattern_one, pattern_two, with_pattern_gamma, pattern_quantifier, pattern_part, template_by, if_sides_used, template_of}
-use Rattle.connection_search.specs.Regular.{number_of_patterns, spares_for, is_classical_pattern, are_classical_patterns, has_no_patterns, is_term_sort, IsClassicalTemplate}
+use Rattle.calculus.specs.Patterns.{Pattern, Patterns, p_var, p_fun, p_eigen, p_new, no_patterns, more_patterns, patterns_tree, PatternAtom, Template}
+use Rattle.calculus.specs.Templates.{as_term, as_value, value_of_variable, pattern_value, pattern_terms, pattern_values, pattern_literal, literals_by, have_sorts, is_step_value, is_choice_of_values}
+use Rattle.connection_search.specs.TemplateOf.{PatternSpot, root_pattern_spot, PatternPart, PatternBody, pattern_of, patterns_of, pattern_down, pattern_inside, of_sort, pattern_turn, pattern_atom, joined_patterns, pattern_alpha, pattern_beta, pattern_one, pattern_two, with_pattern_gamma, pattern_quantifier, pattern_part, template_by, if_sides_used, template_of}
+use Rattle.connection_search.specs.Regular.{number_of_patterns, spares_for, is_classical_pattern, are_classical_patterns, is_term_sort, IsClassicalTemplate}
 use Rattle.connection_search.proofs.BelowLaws.{all-join}
 use Rattle.connection_search.proofs.ClassicalLaws.{way-alike}
 use Rattle.connection_search.proofs.TemplateLaws.{template_of-right}
@@ -44,7 +45,7 @@ abbrev mutual
   none_new (more_patterns p ps) = no_new p && none_new ps
 
 abbrev is_plain_atom : PatternAtom → Bool
-is_plain_atom a = none_new a.args && has_no_patterns a.label
+is_plain_atom a = none_new (patterns_tree a.args) && is_empty a.label
 
 abbrev is_plain_part : PatternPart → Bool
 is_plain_part y = list_all is_plain_atom y.literals && list_all is_term_sort y.sorts
@@ -77,20 +78,20 @@ mutual
   term-no_new symbols d env (eigen n) h e f = absurd (false≢true f)
   term-no_new symbols d env (spare n) h e f = absurd (false≢true f)
 
-  terms-no_new : (symbols : List Symbol) (d : ℕ) (env : List Pattern) (ts : Terms) → IsTrue (list_all no_new env) → length env ≡ d → IsTrue (terms_fit_in symbols d ts) → IsTrue (none_new (patterns_of env ts))
+  terms-no_new : (symbols : List Symbol) (d : ℕ) (env : List Pattern) (ts : Terms) → IsTrue (list_all no_new env) → length env ≡ d → IsTrue (terms_fit_in symbols d ts) → IsTrue (none_new (patterns_tree (patterns_of env ts)))
   terms-no_new symbols d env no_terms h e f = refl
   terms-no_new symbols d env (more_terms t ts) h e f =
       let q = and_parts (term_fits_in symbols d t) (terms_fit_in symbols d ts) f in
-      and_from (no_new (pattern_of env t)) (none_new (patterns_of env ts)) (term-no_new symbols d env t h e q.0) (terms-no_new symbols d env ts h e q.1)
+      and_from (no_new (pattern_of env t)) (none_new (patterns_tree (patterns_of env ts))) (term-no_new symbols d env t h e q.0) (terms-no_new symbols d env ts h e q.1)
 
-no-label : (w : List Pattern) → w ≡ [] → IsTrue (has_no_patterns (patterns_tree w))
-no-label w e = ap (λ x. has_no_patterns (patterns_tree x)) e
+no-label : (w : List Pattern) → w ≡ [] → IsTrue (is_empty w)
+no-label w e = ap is_empty e
 
 atom-plain : (symbols : List Symbol) (d : ℕ) (s : Sign) (p : ℕ) (ts : Terms) → IsTrue (terms_fit_in symbols d ts) → Plainly (pattern_atom s p ts) d
 atom-plain symbols d s p ts f c ss n label env taken e =
-    and_from (is_plain_atom (record { sign = s; symbol = p; args = patterns_of c.env ts; label = patterns_tree c.label }) && true) true
-    (and_from (is_plain_atom (record { sign = s; symbol = p; args = patterns_of c.env ts; label = patterns_tree c.label })) true
-    (and_from (none_new (patterns_of c.env ts)) (has_no_patterns (patterns_tree c.label)) (terms-no_new symbols d c.env ts env e f) (no-label c.label label)) refl) refl
+    and_from (is_plain_atom (record { sign = s; symbol = p; args = patterns_of c.env ts; label = c.label }) && true) true
+    (and_from (is_plain_atom (record { sign = s; symbol = p; args = patterns_of c.env ts; label = c.label })) true
+    (and_from (none_new (patterns_tree (patterns_of c.env ts))) (is_empty c.label) (terms-no_new symbols d c.env ts env e f) (no-label c.label label)) refl) refl
 
 one-plain : (body : PatternBody) (d : ℕ) → Plainly body d → Plainly (pattern_one body) d
 one-plain body d h c ss n label env taken e = plain-map _ (λ y q. q) (body (pattern_down 1 c) ss n) (h (pattern_down 1 c) ss n label env taken e)
@@ -228,15 +229,15 @@ mutual
       let q = and_parts (is_admitted_value P (as_value (pattern_value (commons ss) p))) (are_admitted_values P (pattern_values (commons ss) ps)) h in
       and_from (is_classical_pattern P p) (are_classical_patterns P ps) (classical-pattern P ss p m.0 (value-admitted P ss p m.0 q.0)) (classical-values P ss ps m.1 q.1)
 
-classical-atoms : (P : Problem) (ss : List Sort) (xs : List PatternAtom) → IsTrue (list_all is_plain_atom xs) → IsTrue (list_all (literal_is_proper P) (map (λ (a : PatternAtom). pattern_literal (commons ss) a) xs)) → IsTrue (list_all (λ (a : PatternAtom). are_classical_patterns P a.args && has_no_patterns a.label) xs)
+classical-atoms : (P : Problem) (ss : List Sort) (xs : List PatternAtom) → IsTrue (list_all is_plain_atom xs) → IsTrue (list_all (literal_is_proper P) (map (λ (a : PatternAtom). pattern_literal (commons ss) a) xs)) → IsTrue (list_all (λ (a : PatternAtom). are_classical_patterns P (patterns_tree a.args) && is_empty a.label) xs)
 classical-atoms P ss [] h g = refl
 classical-atoms P ss (a ∷ xs) h g =
     let p = and_parts (is_plain_atom a) (list_all is_plain_atom xs) h in
-    let pa = and_parts (none_new a.args) (has_no_patterns a.label) p.0 in
+    let pa = and_parts (none_new (patterns_tree a.args)) (is_empty a.label) p.0 in
     let q = and_parts (literal_is_proper P (pattern_literal (commons ss) a)) (list_all (literal_is_proper P) (map (λ (b : PatternAtom). pattern_literal (commons ss) b) xs)) g in
-    let qa = and_parts (are_admitted P (pattern_terms (commons ss) a.args)) (list_all (is_admitted_mark P) (pattern_literal (commons ss) a).label) q.0 in
-    and_from (are_classical_patterns P a.args && has_no_patterns a.label) (list_all (λ (b : PatternAtom). are_classical_patterns P b.args && has_no_patterns b.label) xs)
-    (and_from (are_classical_patterns P a.args) (has_no_patterns a.label) (classical-terms P ss a.args pa.0 qa.0) pa.1)
+    let qa = and_parts (are_admitted P (pattern_terms (commons ss) (patterns_tree a.args))) (list_all (is_admitted_mark P) (pattern_literal (commons ss) a).label) q.0 in
+    and_from (are_classical_patterns P (patterns_tree a.args) && is_empty a.label) (list_all (λ (b : PatternAtom). are_classical_patterns P (patterns_tree b.args) && is_empty b.label) xs)
+    (and_from (are_classical_patterns P (patterns_tree a.args)) (is_empty a.label) (classical-terms P ss (patterns_tree a.args) pa.0 qa.0) pa.1)
     (classical-atoms P ss xs p.1 q.1)
 
 pub proper-by : (P : Problem) (xs : List GroundLiteral) (o : Option Part) → OnPart (Good P) o → IsTrue (option_map_or (λ (x : Part). list_eq literal_eq x.literals xs) o false) → IsTrue (list_all (literal_is_proper P) xs)

@@ -14,7 +14,8 @@ use Rattle.calculus.specs.Space.{has_labels, string_lengths}
 use Rattle.calculus.specs.Stores.{Store, Solution, names_below}
 use Rattle.calculus.specs.Systems.{System, AllAllowed, HasBoundedSolution}
 use Rattle.calculus.proofs.GrowthLaws.{closed_growth, grown-closed}
-use Rattle.connection_search.specs.Templates.{Template, is_choice_of_values, IsTemplateOf}
+use Rattle.calculus.specs.Patterns.{Template}
+use Rattle.calculus.specs.Templates.{is_choice_of_values, IsTemplateOf}
 use Rattle.connection_search.specs.States.{CellClause, CellChoice, CellGoal, State, literal_by, clause_at, choice_at, goal_at, growth_at, new_cell_goals, extended, atom_is_below, clause_is_below, choice_is_below, goal_is_below, IsGround, name_of, IsStateOf, Agree}
 use Rattle.connection_search.specs.Steps.{IsExtended, IsReduced}
 use Rattle.connection_search.specs.Goals.{IsChoiceAt}

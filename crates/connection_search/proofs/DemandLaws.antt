@@ -15,7 +15,7 @@ use Rattle.calculus.specs.Instances.{GammaUse, gamma_is_allowed}
 use Rattle.calculus.specs.Stores.{Cell, variable, fun_cell, eigen_cell, new_cell, string_cell, Store, sort_of, has_sort_at, parts_fit, is_store, CellValue, a_term, a_mark, a_string, has_sort, Solution, terms_at, cons_mark, marks_at, join_label, label_at, Solves, Holds, itself, bound, argument, GammaCell, IsHome, AreOwnSpares}
 use Rattle.calculus.specs.Systems.{System, is_label, is_gamma_cell, AreEqual, IsUse, AreUses, MeetsDemand, AreEqualNow, OwnSparesMeet, AllAllowed}
 use Rattle.calculus.proofs.EqualityLaws.{mark_eq-tells, list_eq-tells}
-use Rattle.connection_search.specs.Templates.{as_term}
+use Rattle.calculus.specs.Templates.{as_term}
 use Rattle.connection_search.specs.States.{terms_by, label_by, values_by}
 use Rattle.connection_search.specs.Demanding.{IsHomeAt, equation, StandsAt, HomesEqual, HasNoConstant, HomesAgree}
 use Rattle.connection_search.proofs.SpareLaws.{IsPart, IsRanked, cell-fits, cell-sorted, all-at, own_value, own-apart}

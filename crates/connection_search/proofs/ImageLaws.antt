@@ -7,7 +7,7 @@ use Rattle.calculus.specs.Ground.{more_g_terms}
 use Rattle.calculus.specs.Choices.{start, reduction, extension, goals_on, choices_of}
 use Rattle.calculus.specs.Stores.{Solution, names_below}
 use Rattle.calculus.specs.Systems.{CellAtom}
-use Rattle.connection_search.specs.Templates.{as_term, as_value, as_label}
+use Rattle.calculus.specs.Templates.{as_term, as_value, as_label}
 use Rattle.connection_search.specs.States.{CellClause, CellChoice, CellGoal, terms_by, label_by, values_by, literal_by, clause_at, choice_at, goal_at, cell_goals_on, new_cell_goals, atom_is_below, clause_is_below, choice_is_below, goal_is_below, name_of, Agree}
 
 -- ---- removing, and goals

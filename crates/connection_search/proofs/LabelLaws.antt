@@ -9,7 +9,7 @@ use Rattle.calculus.specs.Ground.{GroundMark, GroundLiteral}
 use Rattle.calculus.specs.Equality.{sort_eq}
 use Rattle.calculus.specs.Stores.{Cell, variable, fun_cell, eigen_cell, new_cell, string_cell, Store, sort_of, has_sort_at, parts_fit, is_store, CellValue, a_term, a_mark, a_string, has_sort, Solution, cons_mark, marks_at, terms_at, Solves}
 use Rattle.calculus.specs.Systems.{CellAtom}
-use Rattle.connection_search.specs.Templates.{as_label}
+use Rattle.calculus.specs.Templates.{as_label}
 use Rattle.connection_search.specs.States.{terms_by, label_by, literal_by}
 use Rattle.connection_search.specs.Regular.{AreSame, is_own_term}
 use Rattle.connection_search.proofs.SpareLaws.{IsPart, IsRanked, own_value, own-solves, own-apart, all-at, cell-sorted, cell-fits, terms-there}

@@ -16,7 +16,7 @@ use Rattle.calculus.specs.Stores.{Cell, Store, has_sort_at, has_value_sort_at, i
 use Rattle.calculus.specs.declared.sort.Sort.TheVariants.{TermSort, StringSort}
 use Rattle.calculus.specs.Systems.{System, is_gamma_cell, AllAllowed, AreTried, HasSolution, IsBoundedSolution, OwnSparesSolve, AreEarly}
 use Rattle.calculus.proofs.OrderLaws.{choices_cmp_total, choices_cmp-IsAntisymmetric, lengths_cmp_total}
-use Rattle.connection_search.specs.Templates.{is_choice_of_values}
+use Rattle.calculus.specs.Templates.{is_choice_of_values}
 use Rattle.connection_search.specs.States.{CellClause, CellChoice, State, values_by, choice_at, IsAdmittedAt, IsGround, IsStateOf}
 use Rattle.connection_search.specs.Exploring.{IsMemberAt, Explores}
 use Rattle.connection_search.specs.LabelledCells.{AreLabelled}

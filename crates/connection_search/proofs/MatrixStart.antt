@@ -8,7 +8,8 @@ use Rattle.calculus.specs.Syntax.{Problem}
 use Rattle.calculus.specs.Clauses.{selections}
 use Rattle.calculus.specs.Choices.{start}
 use Rattle.calculus.proofs.SelectionLaws.{selections-rise}
-use Rattle.connection_search.specs.Templates.{Template, IsTemplateOf}
+use Rattle.calculus.specs.Patterns.{Template}
+use Rattle.calculus.specs.Templates.{IsTemplateOf}
 use Rattle.connection_search.specs.TemplateOf.{template_of}
 use Rattle.connection_search.specs.Matrix.{MatrixClause, IsTemplateMatrix}
 use Rattle.connection_search.specs.Exploring.{behind, IsIn}

@@ -10,7 +10,8 @@ use Rattle.calculus.specs.Choices.{are_opposite, is_opposite}
 use Rattle.calculus.specs.Stores.{Store}
 use Rattle.calculus.specs.Systems.{CellAtom}
 use Rattle.calculus.proofs.EqualityLaws.{grounds_eq-tells}
-use Rattle.connection_search.specs.Templates.{PatternAtom, Template, pattern_literal, literals_by}
+use Rattle.calculus.specs.Patterns.{PatternAtom, Template}
+use Rattle.calculus.specs.Templates.{pattern_literal, literals_by}
 use Rattle.connection_search.specs.States.{CellClause, CellGoal, atom_is_below, clause_is_below, terms_by, values_by, literal_by}
 use Rattle.connection_search.specs.Steps.{AreUnified, Clash, IsCopy, IsExtended, CannotExtend, IsReduced, CannotReduce, IsHeadCopy, IsRestCopy}
 use Rattle.connection_search.proofs.ImageLaws.{values-agree, literal-agree}

@@ -19,7 +19,7 @@ use Rattle.calculus.specs.Stores.{Store, Solution}
 use Rattle.calculus.proofs.GrowthLaws.{closed_growth, grown-closed}
 use Rattle.calculus.proofs.CasesLaws.{is_instance-exact}
 use Rattle.calculus.proofs.MatrixLaws.{Contains-selection}
-use Rattle.connection_search.specs.Templates.{pattern_literal}
+use Rattle.calculus.specs.Templates.{pattern_literal}
 use Rattle.connection_search.specs.States.{CellChoice, CellGoal, literal_by, goal_at, growth_at, IsStateOf}
 use Rattle.connection_search.specs.Goals.{IsChoiceAt, by_ancestor, by_clause}
 use Rattle.connection_search.specs.Exploring.{BeginsWith, BeginsWithOne, IsClosedList, IsLeftList, behind, IsIn}

@@ -15,7 +15,7 @@ use Rattle.calculus.specs.Space.{is_tried_length}
 use Rattle.calculus.specs.Stores.{Cell, variable, Store, parts_of, has_sort_at, is_store, OccursIn, here, in_part, CellValue, a_term, a_mark, a_string, has_sort, Solution, terms_at, label_at, cons_term, join_label, Solves, names_below, GammaCell, IsOwnSpare, AreOwnSpares}
 use Rattle.calculus.specs.Systems.{CellAtom, Equation, Pair, System, is_label, is_equation, is_gamma_cell, is_cell_atom, is_pair, is_system, OccursInSystem, HasNoOpenString, AreEqual, IsLiteral, Differ, AreUses, MeetsDemand, bound_of, is_step_length, IsStep, AreEqualNow, AreTried, HaveLengths, IsBoundedSolution, HasSolution, OwnSparesSolve, OwnSparesMeet}
 use Rattle.calculus.proofs.EqualityLaws.{literal_eq-tells}
-use Rattle.connection_search.specs.Templates.{as_label}
+use Rattle.calculus.specs.Templates.{as_label}
 use Rattle.connection_search.specs.States.{label_by, literal_by, atom_is_below, Agree}
 use Rattle.connection_search.specs.Regular.{AreSame}
 use Rattle.connection_search.specs.Solving.{IsNarrowed, CannotEqual, CannotHave, IsSolving, IsClosedSet, HasCells}

@@ -12,7 +12,8 @@ use Rattle.calculus.specs.ComputedInstances.{is_instance}
 use Rattle.calculus.specs.Tableaux.{is_shown}
 use Rattle.calculus.specs.Choices.{start, reduction, extension, Choice, GroundChoice, choices_of, Growth, after_start, grow, growth_of, is_within, IsLive}
 use Rattle.calculus.specs.Stores.{Store, Solution, Solves, names_below}
-use Rattle.connection_search.specs.Templates.{PatternAtom, Template, pattern_literal, literals_by, have_sorts, is_choice_of_values, clause_by, IsTemplateOf}
+use Rattle.calculus.specs.Patterns.{PatternAtom, Template}
+use Rattle.calculus.specs.Templates.{pattern_literal, literals_by, have_sorts, is_choice_of_values, clause_by, IsTemplateOf}
 use Rattle.connection_search.specs.States.{CellClause, CellChoice, State, values_by, literal_by, clause_at, choice_at, growth_at, cell_goals_on, started, atom_is_below, clause_is_below, choice_is_below, goal_is_below, IsAdmittedAt, IsGround, IsStateOf, Agree}
 use Rattle.connection_search.specs.Steps.{IsCopy}
 use Rattle.connection_search.proofs.LastChoice.{none≢some}

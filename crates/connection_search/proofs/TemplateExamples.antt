@@ -8,7 +8,7 @@ use Rattle.calculus.specs.declared.setting.Logic.{Logic}
 use Rattle.calculus.specs.declared.setting.Logic.TheVariants.{Classical, S4}
 use Rattle.calculus.specs.declared.setting.Domains.TheVariants.{Constant}
 use Rattle.calculus.specs.Syntax.{Problem, Formula, atom, imp, all, ex, box, var, no_terms, more_terms}
-use Rattle.connection_search.specs.Templates.{p_var, p_eigen, p_new, no_patterns, more_patterns}
+use Rattle.calculus.specs.Patterns.{p_var, p_eigen, p_new, no_patterns, more_patterns}
 use Rattle.connection_search.specs.TemplateOf.{template_of}
 
 abbrev problem : Logic → Formula → Problem
@@ -19,10 +19,10 @@ abbrev drinker : Formula
 drinker = ex (all (imp (atom 0 (more_terms (var 1) no_terms)) (atom 0 (more_terms (var 0) no_terms))))
 
 drinker-right : template_of (problem Classical drinker) (Right ∷ []) ≡ Some (record {
-  literals = record { sign = F; symbol = 0; args = more_patterns (p_eigen 1 (more_patterns (p_var 0) no_patterns)) no_patterns; label = no_patterns } ∷ [];
-  strings = no_patterns;
+  literals = record { sign = F; symbol = 0; args = p_eigen 1 (more_patterns (p_var 0) no_patterns) ∷ []; label = [] } ∷ [];
+  strings = [];
   pis = 0;
-  gammas = record { term = p_var 0; label = no_patterns } ∷ [];
+  gammas = record { term = p_var 0; label = [] } ∷ [];
   sorts = TermSort ∷ [];
 })
 drinker-right = refl
@@ -32,8 +32,8 @@ abbrev boxes : Formula
 boxes = imp (box (atom 0 no_terms)) (box (atom 0 no_terms))
 
 boxes-left : template_of (problem S4 boxes) (Left ∷ []) ≡ Some (record {
-  literals = record { sign = T; symbol = 0; args = no_patterns; label = more_patterns (p_var 0) no_patterns } ∷ [];
-  strings = more_patterns (p_var 0) no_patterns;
+  literals = record { sign = T; symbol = 0; args = []; label = p_var 0 ∷ [] } ∷ [];
+  strings = p_var 0 ∷ [];
   pis = 0;
   gammas = [];
   sorts = StringSort ∷ [];
@@ -41,8 +41,8 @@ boxes-left : template_of (problem S4 boxes) (Left ∷ []) ≡ Some (record {
 boxes-left = refl
 
 boxes-right : template_of (problem S4 boxes) (Right ∷ []) ≡ Some (record {
-  literals = record { sign = F; symbol = 0; args = no_patterns; label = more_patterns (p_new 3 no_patterns) no_patterns } ∷ [];
-  strings = no_patterns;
+  literals = record { sign = F; symbol = 0; args = []; label = p_new 3 no_patterns ∷ [] } ∷ [];
+  strings = [];
   pis = 1;
   gammas = [];
   sorts = [];

@@ -16,8 +16,9 @@ use Rattle.calculus.specs.Syntax.{Formula, atom, neg, conj, disj, imp, all, ex, 
 use Rattle.calculus.specs.Kinds.{other, shape_of, modal_of}
 use Rattle.calculus.specs.Positions.{size}
 use Rattle.calculus.specs.Clauses.{all_joined, selections_of_two, selections}
-use Rattle.connection_search.specs.Templates.{Pattern, p_var, p_eigen, p_new, Template, IsTemplateOf}
-use Rattle.connection_search.specs.TemplateOf.{patterns_tree, PatternSpot, root_pattern_spot, PatternPart, PatternBody, pattern_down, pattern_inside, nu_patterns, pi_patterns, of_sort, one_pi_more, pattern_modal, pattern_turn, pattern_atom, joined_patterns, pattern_beta, pattern_one, pattern_two, with_pattern_gamma, pattern_quantifier, pattern_part, template_by, if_sides_used, template_of}
+use Rattle.calculus.specs.Patterns.{Pattern, p_var, p_eigen, p_new, patterns_tree, Template}
+use Rattle.calculus.specs.Templates.{IsTemplateOf}
+use Rattle.connection_search.specs.TemplateOf.{PatternSpot, root_pattern_spot, PatternPart, PatternBody, pattern_down, pattern_inside, nu_patterns, pi_patterns, of_sort, one_pi_more, pattern_modal, pattern_turn, pattern_atom, joined_patterns, pattern_beta, pattern_one, pattern_two, with_pattern_gamma, pattern_quantifier, pattern_part, template_by, if_sides_used, template_of}
 use Rattle.connection_search.proofs.TemplateLaws.{template_of-right}
 
 -- ---- a selection is read off, whatever follows it

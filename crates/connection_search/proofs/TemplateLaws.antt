@@ -29,8 +29,9 @@ use Rattle.calculus.specs.ComputedInstances.{Supply, Part, with_modal_step, at_m
 use Rattle.calculus.specs.Stores.{a_mark, a_string}
 use Rattle.calculus.specs.Systems.{is_step_length}
 use Rattle.calculus.proofs.EqualityLaws.{mark_eq-tells, list_eq-tells, literal_eq-tells}
-use Rattle.connection_search.specs.Templates.{Pattern, p_var, p_eigen, p_new, no_patterns, Template, as_term, as_value, as_label, value_of_variable, pattern_value, pattern_terms, pattern_values, pattern_label, pattern_literal, pattern_gamma, literals_by, has_value_sort, have_sorts, is_step_value, is_choice_of_values, clause_by, IsTemplateOf}
-use Rattle.connection_search.specs.TemplateOf.{patterns_tree, PatternSpot, root_pattern_spot, PatternTurn, PatternPart, PatternBody, pattern_of, patterns_of, pattern_down, pattern_inside, nu_patterns, pi_patterns, of_sort, one_pi_more, pattern_modal, pattern_turn, pattern_atom, joined_patterns, pattern_alpha, pattern_beta, pattern_one, pattern_two, with_pattern_gamma, pattern_quantifier, pattern_part, template_by, if_sides_used, template_of}
+use Rattle.calculus.specs.Patterns.{Pattern, p_var, p_eigen, p_new, no_patterns, patterns_tree, Template}
+use Rattle.calculus.specs.Templates.{as_term, as_value, as_label, value_of_variable, pattern_value, pattern_terms, pattern_values, pattern_label, pattern_literal, pattern_gamma, literals_by, has_value_sort, have_sorts, is_step_value, is_choice_of_values, clause_by, IsTemplateOf}
+use Rattle.connection_search.specs.TemplateOf.{PatternSpot, root_pattern_spot, PatternTurn, PatternPart, PatternBody, pattern_of, patterns_of, pattern_down, pattern_inside, nu_patterns, pi_patterns, of_sort, one_pi_more, pattern_modal, pattern_turn, pattern_atom, joined_patterns, pattern_alpha, pattern_beta, pattern_one, pattern_two, with_pattern_gamma, pattern_quantifier, pattern_part, template_by, if_sides_used, template_of}
 
 -- ---- images of patterns by the values of all variables
 
@@ -44,17 +45,9 @@ values-image : (vs : List Value) (ps : List Pattern) → pattern_values vs (patt
 values-image vs [] = refl
 values-image vs (p ∷ ps) = ap (more_values (value_at vs p)) (values-image vs ps)
 
-abbrev label_of_list : List Value → List Pattern → List GroundMark
-label_of_list vs [] = []
-label_of_list vs (p ∷ ps) = as_label (pattern_value vs p) ++ label_of_list vs ps
-
-label-image : (vs : List Value) (ps : List Pattern) → pattern_label vs (patterns_tree ps) ≡ label_of_list vs ps
-label-image vs [] = refl
-label-image vs (p ∷ ps) = ap (λ w. as_label (pattern_value vs p) ++ w) (label-image vs ps)
-
-label-more : (vs : List Value) (ps : List Pattern) (p : Pattern) → label_of_list vs (ps ++ p ∷ []) ≡ label_of_list vs ps ++ as_label (pattern_value vs p)
+label-more : (vs : List Value) (ps : List Pattern) (p : Pattern) → pattern_label vs (ps ++ p ∷ []) ≡ pattern_label vs ps ++ as_label (pattern_value vs p)
 label-more vs [] p = append-nil (as_label (pattern_value vs p))
-label-more vs (q ∷ ps) p = ap (λ w. as_label (pattern_value vs q) ++ w) (label-more vs ps p) ∙ sym (append_assoc (as_label (pattern_value vs q)) (label_of_list vs ps) (as_label (pattern_value vs p)))
+label-more vs (q ∷ ps) p = ap (λ w. as_label (pattern_value vs q) ++ w) (label-more vs ps p) ∙ sym (append_assoc (as_label (pattern_value vs q)) (pattern_label vs ps) (as_label (pattern_value vs p)))
 
 index-image : (f : Pattern → GroundTerm) (env : List Pattern) (k : ℕ) (d : Pattern) → f (slice_index_or env k d) ≡ slice_index_or (map f env) k (f d)
 index-image f [] k d = refl
@@ -68,12 +61,12 @@ mutual
   term-image vs env (eigen n) = refl
   term-image vs env (spare n) = refl
 
-  terms-image : (vs : List Value) (env : List Pattern) (ts : Terms) → pattern_terms vs (patterns_of env ts) ≡ grounds_of (map (term_at vs) env) ts
+  terms-image : (vs : List Value) (env : List Pattern) (ts : Terms) → pattern_terms vs (patterns_tree (patterns_of env ts)) ≡ grounds_of (map (term_at vs) env) ts
   terms-image vs env no_terms = refl
   terms-image vs env (more_terms t ts) = ap₂ more_g_terms (term-image vs env t) (terms-image vs env ts)
 
 abbrev pub spot_by : List Value → PatternSpot → Spot
-spot_by vs c = record { position = c.position; label = label_of_list vs c.label; taken = map (value_at vs) c.taken; env = map (term_at vs) c.env }
+spot_by vs c = record { position = c.position; label = pattern_label vs c.label; taken = map (value_at vs) c.taken; env = map (term_at vs) c.env }
 
 -- ---- what the sorts take of the values
 
@@ -188,20 +181,20 @@ filled-empty l vs s (Some y) = refl
 
 -- ---- labels after a step
 
-nu-image : (vs : List Value) (l : Logic) (ws : List Pattern) (p : Pattern) (w : List GroundMark) → pattern_value vs p ≡ a_string w → label_of_list vs (nu_patterns l ws p) ≡ nu_label l (label_of_list vs ws) w
-nu-image vs Classical ws p w e = label-more vs ws p ∙ ap (λ v. label_of_list vs ws ++ as_label v) e
-nu-image vs Intuitionistic ws p w e = label-more vs ws p ∙ ap (λ v. label_of_list vs ws ++ as_label v) e
-nu-image vs D ws p w e = label-more vs ws p ∙ ap (λ v. label_of_list vs ws ++ as_label v) e
-nu-image vs LogicT ws p w e = label-more vs ws p ∙ ap (λ v. label_of_list vs ws ++ as_label v) e
-nu-image vs S4 ws p w e = label-more vs ws p ∙ ap (λ v. label_of_list vs ws ++ as_label v) e
+nu-image : (vs : List Value) (l : Logic) (ws : List Pattern) (p : Pattern) (w : List GroundMark) → pattern_value vs p ≡ a_string w → pattern_label vs (nu_patterns l ws p) ≡ nu_label l (pattern_label vs ws) w
+nu-image vs Classical ws p w e = label-more vs ws p ∙ ap (λ v. pattern_label vs ws ++ as_label v) e
+nu-image vs Intuitionistic ws p w e = label-more vs ws p ∙ ap (λ v. pattern_label vs ws ++ as_label v) e
+nu-image vs D ws p w e = label-more vs ws p ∙ ap (λ v. pattern_label vs ws ++ as_label v) e
+nu-image vs LogicT ws p w e = label-more vs ws p ∙ ap (λ v. pattern_label vs ws ++ as_label v) e
+nu-image vs S4 ws p w e = label-more vs ws p ∙ ap (λ v. pattern_label vs ws ++ as_label v) e
 nu-image vs S5 ws p w e = append-nil (as_label (pattern_value vs p)) ∙ ap as_label e
 
-pi-image : (vs : List Value) (l : Logic) (ws : List Pattern) (p : Pattern) (m : GroundMark) → pattern_value vs p ≡ a_mark m → label_of_list vs (pi_patterns l ws p) ≡ pi_label l (label_of_list vs ws) m
-pi-image vs Classical ws p m e = label-more vs ws p ∙ ap (λ v. label_of_list vs ws ++ as_label v) e
-pi-image vs Intuitionistic ws p m e = label-more vs ws p ∙ ap (λ v. label_of_list vs ws ++ as_label v) e
-pi-image vs D ws p m e = label-more vs ws p ∙ ap (λ v. label_of_list vs ws ++ as_label v) e
-pi-image vs LogicT ws p m e = label-more vs ws p ∙ ap (λ v. label_of_list vs ws ++ as_label v) e
-pi-image vs S4 ws p m e = label-more vs ws p ∙ ap (λ v. label_of_list vs ws ++ as_label v) e
+pi-image : (vs : List Value) (l : Logic) (ws : List Pattern) (p : Pattern) (m : GroundMark) → pattern_value vs p ≡ a_mark m → pattern_label vs (pi_patterns l ws p) ≡ pi_label l (pattern_label vs ws) m
+pi-image vs Classical ws p m e = label-more vs ws p ∙ ap (λ v. pattern_label vs ws ++ as_label v) e
+pi-image vs Intuitionistic ws p m e = label-more vs ws p ∙ ap (λ v. pattern_label vs ws ++ as_label v) e
+pi-image vs D ws p m e = label-more vs ws p ∙ ap (λ v. pattern_label vs ws ++ as_label v) e
+pi-image vs LogicT ws p m e = label-more vs ws p ∙ ap (λ v. pattern_label vs ws ++ as_label v) e
+pi-image vs S4 ws p m e = label-more vs ws p ∙ ap (λ v. pattern_label vs ws ++ as_label v) e
 pi-image vs S5 ws p m e = append-nil (as_label (pattern_value vs p)) ∙ ap as_label e
 
 -- ---- the modal part
@@ -232,7 +225,7 @@ modal-mirrors l Nu go body k vs c ss n (steps s ∷ rest) e =
     let label = nu-image vs l c.label (p_var n) (marks_list s) (string-value vs n s d.0) in
     let taken : map (value_at vs) (c.taken ++ p_var n ∷ []) ≡ map (value_at vs) c.taken ++ steps s ∷ [] = map-append (value_at vs) c.taken (p_var n ∷ []) ∙ ap (λ v. map (value_at vs) c.taken ++ v ∷ []) (string-taken vs n s d.0) in
     let there = (λ i. go (record { position = c.position; label = sym label i; taken = sym taken i; env = map (term_at vs) c.env }) (supply ss rest)) ∙ k vs next ss (suc n) rest d.1 in
-    (λ i. if step-same l (label_of_list vs c.label) (marks_list s) i then option_map (with_modal_step Nu) (there i) else None)
+    (λ i. if step-same l (pattern_label vs c.label) (marks_list s) i then option_map (with_modal_step Nu) (there i) else None)
     ∙ sym (filled-more l vs rest (steps s) StringSort (with_modal_step Nu) (λ y. refl) (body next ss (suc n)))
 
 -- ---- the shapes
@@ -242,7 +235,7 @@ turn-filled l vs rest p ps o = sym (filled-map l vs rest (λ (y : PatternPart). 
 
 literal-mirrors : (l : Logic) (s : Sign) (p : ℕ) (ts : Terms) → Mirrors l (at_literal s p ts) (pattern_atom s p ts)
 literal-mirrors l s p ts vs c ss n rest e = λ i. Some (record {
-  literals = record { sign = s; symbol = p; args = sym (terms-image vs c.env ts) i; label = sym (label-image vs c.label) i } ∷ [];
+  literals = record { sign = s; symbol = p; args = sym (terms-image vs c.env ts) i; label = pattern_label vs c.label } ∷ [];
   turns = record { position = c.position; values = map (value_at vs) c.taken } ∷ [];
   gammas = [];
   nus = 0;
@@ -313,8 +306,8 @@ two-mirrors l Literal k first second f g a b vs c ss n rest e = refl
 
 -- ---- quantifiers
 
-gamma-filled : (l : Logic) (vs rest : List Value) (p : Pattern) (ws : List Pattern) (o : Option PatternPart) → with_gamma (term_at vs p) (label_of_list vs ws) (filled l vs rest o) ≡ filled l vs rest (option_map (with_pattern_gamma p ws) o)
-gamma-filled l vs rest p ws o = sym (filled-map l vs rest (with_pattern_gamma p ws) (λ (x : Part). record x { gammas = record { term = term_at vs p; label = label_of_list vs ws } ∷ x.gammas }) (λ y. refl) (λ y i. record (part_by vs rest y) { gammas = record { term = term_at vs p; label = label-image vs ws i } ∷ map (pattern_gamma vs) y.gammas }) o)
+gamma-filled : (l : Logic) (vs rest : List Value) (p : Pattern) (ws : List Pattern) (o : Option PatternPart) → with_gamma (term_at vs p) (pattern_label vs ws) (filled l vs rest o) ≡ filled l vs rest (option_map (with_pattern_gamma p ws) o)
+gamma-filled l vs rest p ws o = sym (filled-map l vs rest (with_pattern_gamma p ws) (λ (x : Part). record x { gammas = record { term = term_at vs p; label = pattern_label vs ws } ∷ x.gammas }) (λ y. refl) (λ y i. record (part_by vs rest y) { gammas = record { term = term_at vs p; label = pattern_label vs ws } ∷ map (pattern_gamma vs) y.gammas }) o)
 
 map-same : (o : Option Part) → option_map (λ (x : Part). x) o ≡ o
 map-same None = refl
@@ -331,8 +324,8 @@ gamma-mirrors l go body k vs c ss n (term t ∷ rest) e =
     let is_term : term_at vs (p_var n) ≡ t = ap (λ x. as_term (value_of_variable x)) d.0 in
     let is_value : value_at vs (p_var n) ≡ term t = ap (λ x. as_value (value_of_variable x)) d.0 in
     let taken : map (value_at vs) ps ≡ map (value_at vs) c.taken ++ term t ∷ [] = map-append (value_at vs) c.taken (p_var n ∷ []) ∙ ap (λ v. map (value_at vs) c.taken ++ v ∷ []) is_value in
-    (λ i. with_turn c.position (sym taken i) (with_gamma (sym is_term i) (label_of_list vs c.label) (go (record { position = c.position + 1; label = label_of_list vs c.label; taken = sym taken i; env = sym is_term i ∷ map (term_at vs) c.env }) (supply ss rest))))
-    ∙ ap (λ x. with_turn c.position (map (value_at vs) ps) (with_gamma (term_at vs (p_var n)) (label_of_list vs c.label) x)) (k vs inner ss (suc n) rest d.1)
+    (λ i. with_turn c.position (sym taken i) (with_gamma (sym is_term i) (pattern_label vs c.label) (go (record { position = c.position + 1; label = pattern_label vs c.label; taken = sym taken i; env = sym is_term i ∷ map (term_at vs) c.env }) (supply ss rest))))
+    ∙ ap (λ x. with_turn c.position (map (value_at vs) ps) (with_gamma (term_at vs (p_var n)) (pattern_label vs c.label) x)) (k vs inner ss (suc n) rest d.1)
     ∙ ap (with_turn c.position (map (value_at vs) ps)) (gamma-filled l vs rest (p_var n) c.label o)
     ∙ turn-filled l vs rest c.position ps (option_map (with_pattern_gamma (p_var n) c.label) o)
     ∙ sym (map-same (filled l vs rest (pattern_turn c.position ps (option_map (with_pattern_gamma (p_var n) c.label) o))))
@@ -341,7 +334,7 @@ gamma-mirrors l go body k vs c ss n (term t ∷ rest) e =
 delta-mirrors : (l : Logic) (go : Body) (body : PatternBody) → Mirrors l go body → Mirrors l (at_quantifier Delta go) (pattern_quantifier Delta body)
 delta-mirrors l go body k vs c ss n rest e =
     let inner = pattern_inside (p_eigen c.position (patterns_tree c.taken)) c.taken c in
-    ap (with_turn c.position (map (value_at vs) c.taken)) ((λ i. go (record { position = c.position + 1; label = label_of_list vs c.label; taken = map (value_at vs) c.taken; env = g_eigen c.position (sym (values-image vs c.taken) i) ∷ map (term_at vs) c.env }) (supply ss rest)) ∙ k vs inner ss n rest e)
+    ap (with_turn c.position (map (value_at vs) c.taken)) ((λ i. go (record { position = c.position + 1; label = pattern_label vs c.label; taken = map (value_at vs) c.taken; env = g_eigen c.position (sym (values-image vs c.taken) i) ∷ map (term_at vs) c.env }) (supply ss rest)) ∙ k vs inner ss n rest e)
     ∙ turn-filled l vs rest c.position c.taken (body inner ss n)
 
 quantifier-mirrors : (l : Logic) (h : Shape) (go : Body) (body : PatternBody) → Mirrors l go body → Mirrors l (at_quantifier h go) (pattern_quantifier h body)

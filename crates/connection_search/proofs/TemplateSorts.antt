@@ -14,7 +14,7 @@ use Rattle.calculus.specs.declared.kind.ModalPart.TheVariants.{Plain, Nu, Pi}
 use Rattle.calculus.specs.Syntax.{Formula, atom, neg, conj, disj, imp, all, ex, box, dia, Problem}
 use Rattle.calculus.specs.Kinds.{other, shape_of, modal_of}
 use Rattle.calculus.specs.Positions.{size}
-use Rattle.connection_search.specs.Templates.{Template}
+use Rattle.calculus.specs.Patterns.{Template}
 use Rattle.connection_search.specs.TemplateOf.{PatternSpot, root_pattern_spot, PatternPart, PatternBody, of_sort, pattern_modal, pattern_atom, joined_patterns, pattern_alpha, pattern_one, pattern_two, pattern_quantifier, pattern_part, template_by, if_sides_used, template_of}
 use Rattle.connection_search.proofs.BelowLaws.{all-join}
 use Rattle.connection_search.proofs.BuildingLaws.{is_variable_sort}

@@ -4,7 +4,7 @@ use Rattle.std.proofs.lemmas.Bool.{false≢true}
 use Rattle.calculus.specs.declared.sort.Sort.TheVariants.{TermSort}
 use Rattle.calculus.specs.Ground.{more_g_terms}
 use Rattle.calculus.specs.Stores.{Store, has_sort_at, CellValue, a_term, a_mark, a_string, has_sort, Solution, Solves}
-use Rattle.connection_search.specs.Templates.{as_term}
+use Rattle.calculus.specs.Templates.{as_term}
 use Rattle.connection_search.specs.States.{terms_by}
 use Rattle.connection_search.specs.Steps.{AreUnified, Clash, IsUnified}
 use Rattle.connection_search.proofs.BuildingLaws.{solved-sorted}

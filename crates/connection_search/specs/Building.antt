@@ -3,7 +3,7 @@ use Rattle.std.specs.Prelude.{◌≡◌, ℕ, suc, List, [], ◌∷◌, ◌++◌
 use Rattle.calculus.specs.declared.sort.Sort.{Sort}
 use Rattle.calculus.specs.Stores.{Cell, variable, fun_cell, eigen_cell, new_cell, Store, parts_fit, is_store}
 use Rattle.calculus.specs.Systems.{CellAtom}
-use Rattle.connection_search.specs.Templates.{Pattern, Patterns, p_var, p_fun, p_eigen, p_new, no_patterns, more_patterns, PatternAtom}
+use Rattle.calculus.specs.Patterns.{Pattern, Patterns, p_var, p_fun, p_eigen, p_new, no_patterns, more_patterns, patterns_tree, PatternAtom}
 
 abbrev pub plus_cell : Cell → Store → Store
 plus_cell c s = record s { cells = s.cells ++ c ∷ [] }
@@ -43,8 +43,8 @@ abbrev mutual
 pub record IsBuiltAtom (s : Store) (variables : List ℕ) (p : PatternAtom) (a : CellAtom) : Type 0 where
   pub sign : a.sign ≡ p.sign
   pub symbol : a.symbol ≡ p.symbol
-  pub args : AreBuilt s variables p.args a.args
-  pub label : AreBuilt s variables p.label a.label
+  pub args : AreBuilt s variables (patterns_tree p.args) a.args
+  pub label : AreBuilt s variables (patterns_tree p.label) a.label
 
 abbrev pub AreBuiltAtoms : Store → List ℕ → List PatternAtom → List CellAtom → Type 0
 AreBuiltAtoms s variables [] xs = xs ≡ []

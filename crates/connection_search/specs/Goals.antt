@@ -8,7 +8,8 @@ use Rattle.calculus.specs.Equality.{sign_eq}
 use Rattle.calculus.specs.Clauses.{selections}
 use Rattle.calculus.specs.Choices.{Choice, reduction, extension}
 use Rattle.calculus.specs.Systems.{CellAtom}
-use Rattle.connection_search.specs.Templates.{PatternAtom, Template, IsTemplateOf}
+use Rattle.calculus.specs.Patterns.{PatternAtom, Template}
+use Rattle.calculus.specs.Templates.{IsTemplateOf}
 use Rattle.connection_search.specs.States.{CellGoal}
 
 -- the template has a literal at the place with the goal's symbol and the other sign

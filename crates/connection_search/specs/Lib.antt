@@ -1,5 +1,3 @@
--- what clause templates mean
-pub mod Templates
 -- states of the search, and what its steps ask of the store
 pub mod States
 pub mod Steps

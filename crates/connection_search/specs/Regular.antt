@@ -9,7 +9,7 @@ use Rattle.calculus.specs.Skolem.{has_function, is_delta_position, fits_way, is_
 use Rattle.calculus.specs.Choices.{start, reduction, extension}
 use Rattle.calculus.specs.Stores.{Cell, variable, fun_cell, eigen_cell, new_cell, string_cell, Store, Solution, Solves, has_sort_at, parts_of}
 use Rattle.calculus.specs.Systems.{CellAtom}
-use Rattle.connection_search.specs.Templates.{Pattern, Patterns, p_var, p_fun, p_eigen, p_new, no_patterns, more_patterns, PatternAtom, Template}
+use Rattle.calculus.specs.Patterns.{Pattern, Patterns, p_var, p_fun, p_eigen, p_new, no_patterns, more_patterns, patterns_tree, PatternAtom, Template}
 use Rattle.connection_search.specs.States.{CellClause, CellChoice, CellGoal, State, literal_by}
 
 -- the same signed atom at the same label under the bindings: by each ground solution
@@ -92,17 +92,13 @@ abbrev mutual
   are_classical_patterns P no_patterns = true
   are_classical_patterns P (more_patterns p ps) = is_classical_pattern P p && are_classical_patterns P ps
 
-abbrev pub has_no_patterns : Patterns → Bool
-has_no_patterns no_patterns = true
-has_no_patterns (more_patterns p ps) = false
-
 abbrev pub is_term_sort : Sort → Bool
 is_term_sort TermSort = true
 is_term_sort _ = false
 
 -- atoms over terms at the empty label, and variables for terms
 pub record IsClassicalTemplate (P : Problem) (t : Template) : Type 0 where
-  pub literals : IsTrue (list_all (λ (a : PatternAtom). are_classical_patterns P a.args && has_no_patterns a.label) t.literals)
+  pub literals : IsTrue (list_all (λ (a : PatternAtom). are_classical_patterns P (patterns_tree a.args) && is_empty a.label) t.literals)
   pub sorts : IsTrue (list_all is_term_sort t.sorts)
 
 -- cells from the number `base` on name cells from there on

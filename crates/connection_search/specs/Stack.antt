@@ -9,7 +9,7 @@ use Rattle.calculus.specs.Choices.{Choice, reduction, extension}
 use Rattle.calculus.specs.Syntax.{Problem}
 use Rattle.calculus.specs.Stores.{Store, TrailMark, cut_at, IsGood}
 use Rattle.calculus.specs.Systems.{CellAtom}
-use Rattle.connection_search.specs.Templates.{PatternAtom}
+use Rattle.calculus.specs.Patterns.{PatternAtom}
 use Rattle.connection_search.specs.Matrix.{MatrixClause, MatrixPlace, is_about}
 use Rattle.connection_search.specs.States.{CellGoal, State, IsStateOf}
 use Rattle.connection_search.specs.Exploring.{behind}

@@ -15,11 +15,8 @@ use Rattle.calculus.specs.declared.kind.ModalPart.TheVariants.{Plain, Nu, Pi}
 use Rattle.calculus.specs.Syntax.{Term, Terms, var, fun, eigen, spare, no_terms, more_terms, Formula, atom, neg, conj, disj, imp, all, ex, box, dia, Problem}
 use Rattle.calculus.specs.Kinds.{other, shape_of, modal_of}
 use Rattle.calculus.specs.Positions.{size}
-use Rattle.connection_search.specs.Templates.{Pattern, Patterns, p_var, p_fun, p_eigen, p_new, no_patterns, more_patterns, PatternAtom, PatternGamma, Template, strings_from}
-
-abbrev pub patterns_tree : List Pattern → Patterns
-patterns_tree [] = no_patterns
-patterns_tree (p ∷ ps) = more_patterns p (patterns_tree ps)
+use Rattle.calculus.specs.Patterns.{patterns_tree, Pattern, Patterns, p_var, p_fun, p_eigen, p_new, no_patterns, more_patterns, PatternAtom, PatternGamma, Template}
+use Rattle.calculus.specs.Templates.{strings_from}
 
 -- where a signed formula stands: its position, its label, the variables on the way to it, and the patterns for the bound variables
 pub record PatternSpot : Type 0 where
@@ -53,13 +50,13 @@ PatternBody = PatternSpot → List Side → ℕ → Option PatternPart
 abbrev mutual
   pub pattern_of : List Pattern → Term → Pattern
   pattern_of env (var k) = slice_index_or env k (p_new 0 no_patterns)
-  pattern_of env (fun f ts) = p_fun f (patterns_of env ts)
+  pattern_of env (fun f ts) = p_fun f (patterns_tree (patterns_of env ts))
   pattern_of env (eigen n) = p_new 0 no_patterns
   pattern_of env (spare n) = p_new 0 no_patterns
 
-  pub patterns_of : List Pattern → Terms → Patterns
-  patterns_of env no_terms = no_patterns
-  patterns_of env (more_terms t ts) = more_patterns (pattern_of env t) (patterns_of env ts)
+  pub patterns_of : List Pattern → Terms → List Pattern
+  patterns_of env no_terms = []
+  patterns_of env (more_terms t ts) = pattern_of env t ∷ patterns_of env ts
 
 abbrev pub pattern_down : ℕ → PatternSpot → PatternSpot
 pattern_down n c = record c { position = c.position + n }
@@ -92,7 +89,7 @@ abbrev pub pattern_turn : ℕ → List Pattern → Option PatternPart → Option
 pattern_turn p vs o = option_map (λ (y : PatternPart). record y { turns = record { position = p; values = vs } ∷ y.turns }) o
 
 abbrev pub pattern_atom : Sign → ℕ → Terms → PatternBody
-pattern_atom s p ts c ss n = Some (record { literals = record { sign = s; symbol = p; args = patterns_of c.env ts; label = patterns_tree c.label } ∷ []; turns = record { position = c.position; values = c.taken } ∷ []; gammas = []; pis = 0; sorts = []; sides = ss })
+pattern_atom s p ts c ss n = Some (record { literals = record { sign = s; symbol = p; args = patterns_of c.env ts; label = c.label } ∷ []; turns = record { position = c.position; values = c.taken } ∷ []; gammas = []; pis = 0; sorts = []; sides = ss })
 
 abbrev pub joined_patterns : PatternPart → PatternPart → PatternPart
 joined_patterns x y = record { literals = x.literals ++ y.literals; turns = x.turns ++ y.turns; gammas = x.gammas ++ y.gammas; pis = x.pis + y.pis; sorts = x.sorts ++ y.sorts; sides = y.sides }
@@ -115,7 +112,7 @@ pattern_two Beta k first second c ss n = pattern_turn c.position c.taken (patter
 pattern_two _ k first second c ss n = None
 
 abbrev pub with_pattern_gamma : Pattern → List Pattern → PatternPart → PatternPart
-with_pattern_gamma p w y = record y { gammas = record { term = p; label = patterns_tree w } ∷ y.gammas }
+with_pattern_gamma p w y = record y { gammas = record { term = p; label = w } ∷ y.gammas }
 
 -- gamma puts a term variable, and delta the eigenvariable that is named by the variables on the way
 abbrev pub pattern_quantifier : Shape → PatternBody → PatternBody

@@ -2,7 +2,6 @@
 -- prefixed clauses), and the ground clauses that they stand for.
 use Rattle.std.specs.Prelude.{◌≡◌, ◌↔◌, ℕ, ◌+◌, List, [], ◌∷◌, ◌++◌, map, Bool, true, false, ◌&&◌, Option, Some, None, slice_get, length, IsTrue}
 use Rattle.std.specs.List.{list_all}
-use Rattle.calculus.specs.declared.sign.Sign.{Sign}
 use Rattle.calculus.specs.declared.sign.Side.{Side}
 use Rattle.calculus.specs.declared.sort.Sort.{Sort}
 use Rattle.calculus.specs.declared.sort.Sort.TheVariants.{TermSort, StringSort}
@@ -14,40 +13,7 @@ use Rattle.calculus.specs.Instances.{GammaUse, ClauseInstance}
 use Rattle.calculus.specs.ComputedInstances.{Part, instance_of, is_instance}
 use Rattle.calculus.specs.Stores.{CellValue, a_term, a_mark, a_string}
 use Rattle.calculus.specs.Systems.{is_step_length}
-
--- a term, mark or string over variables, which are numbered from 0. `p_eigen p ps` and `p_new p ps` name the eigenvariable and the
--- character of the position p by the values taken on the way to it
-mutual
-  pub data Pattern : Type 0 where
-    p_var : ℕ → Pattern
-    p_fun : ℕ → Patterns → Pattern
-    p_eigen : ℕ → Patterns → Pattern
-    p_new : ℕ → Patterns → Pattern
-
-  pub data Patterns : Type 0 where
-    no_patterns : Patterns
-    more_patterns : Pattern → Patterns → Patterns
-
--- a signed atom at the label that marks and strings join
-pub record PatternAtom : Type 0 where
-  pub sign : Sign
-  pub symbol : ℕ
-  pub args : Patterns
-  pub label : Patterns
-
--- a gamma term and the label of the component that it is put into
-pub record PatternGamma : Type 0 where
-  pub term : Pattern
-  pub label : Patterns
-
--- a clause over variables: its literals, the strings of its nu steps, the number of its pi steps, its gamma terms, and the sort of
--- each variable
-pub record Template : Type 0 where
-  pub literals : List PatternAtom
-  pub strings : Patterns
-  pub pis : ℕ
-  pub gammas : List PatternGamma
-  pub sorts : List Sort
+use Rattle.calculus.specs.Patterns.{Pattern, Patterns, p_var, p_fun, p_eigen, p_new, no_patterns, more_patterns, patterns_tree, PatternAtom, PatternGamma, Template}
 
 -- ---- what patterns stand for
 
@@ -92,12 +58,12 @@ abbrev mutual
   pattern_values vs (more_patterns p ps) = more_values (as_value (pattern_value vs p)) (pattern_values vs ps)
 
 -- the label that patterns join
-abbrev pub pattern_label : List Value → Patterns → List GroundMark
-pattern_label vs no_patterns = []
-pattern_label vs (more_patterns p ps) = as_label (pattern_value vs p) ++ pattern_label vs ps
+abbrev pub pattern_label : List Value → List Pattern → List GroundMark
+pattern_label vs [] = []
+pattern_label vs (p ∷ ps) = as_label (pattern_value vs p) ++ pattern_label vs ps
 
 abbrev pub pattern_literal : List Value → PatternAtom → GroundLiteral
-pattern_literal vs a = record { sign = a.sign; symbol = a.symbol; args = pattern_terms vs a.args; label = pattern_label vs a.label }
+pattern_literal vs a = record { sign = a.sign; symbol = a.symbol; args = pattern_terms vs (patterns_tree a.args); label = pattern_label vs a.label }
 
 abbrev pub pattern_gamma : List Value → PatternGamma → GammaUse
 pattern_gamma vs g = record { term = as_term (pattern_value vs g.term); label = pattern_label vs g.label }
@@ -136,9 +102,9 @@ abbrev pub clause_by : List Side → List Value → List GroundLiteral → Claus
 clause_by sides vs xs = record { selection = sides; values = vs; literals = xs }
 
 -- the numbers of the variables of sort string, in order
-abbrev pub strings_from : ℕ → List Sort → Patterns
-strings_from n [] = no_patterns
-strings_from n (StringSort ∷ ss) = more_patterns (p_var n) (strings_from (n + 1) ss)
+abbrev pub strings_from : ℕ → List Sort → List Pattern
+strings_from n [] = []
+strings_from n (StringSort ∷ ss) = p_var n ∷ strings_from (n + 1) ss
 strings_from n (_ ∷ ss) = strings_from (n + 1) ss
 
 -- the template stands for the instances of a selection, allowed or not: variables are numbered in the order of an instance's values
