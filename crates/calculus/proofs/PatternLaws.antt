@@ -1,7 +1,8 @@
 -- Patterns and their copies in a store that grows.
-use Rattle.std.proofs.Common.{◌&&◌, ◌+◌, ◌++◌, Some, ◌||◌, ◌≡◌, ℕ, zero, suc, List, [], ◌∷◌, length, Bool, true, false, None, IsTrue, refl, sym, ◌∙◌, ap, arith, append_assoc, map}
+use Rattle.std.proofs.Common.{◌&&◌, ◌+◌, ◌++◌, Some, ◌||◌, ◌≡◌, ℕ, zero, suc, List, [], ◌∷◌, length, Bool, true, false, Option, None, IsTrue, refl, sym, ◌∙◌, ap, arith, append_assoc, map}
 use Rattle.std.specs.List.{list_all}
 use Rattle.std.specs.Prelude.{slice_get}
+use Rattle.std.specs.Option.{option_map_or}
 use Rattle.std.proofs.lemmas.Bool.{false≢true, and_parts, and_from}
 use Rattle.calculus.specs.declared.sort.Sort.{Sort}
 use Rattle.calculus.specs.declared.sort.Sort.TheVariants.{TermSort, MarkSort, StringSort}
@@ -9,9 +10,9 @@ use Rattle.calculus.specs.Equality.{sort_eq}
 use Rattle.calculus.specs.Stores.{Cell, variable, fun_cell, eigen_cell, new_cell, Store, has_sort_at, has_value_sort_at, GammaCell}
 use Rattle.calculus.specs.Systems.{CellAtom, is_label, is_cell_atom, is_gamma_cell}
 use Rattle.calculus.specs.Bindings.{with_cell}
-use Rattle.calculus.specs.Patterns.{Pattern, Patterns, p_var, p_fun, p_eigen, p_new, no_patterns, more_patterns, patterns_tree, fits_in, parts_fit_in, part_sort_at, IsCopy, AreCopies, Grows, PatternAtom, PatternGamma, IsAtomCopy, IsGammaCopy, AreAtomCopies, AreGammaCopies, Template, label_fits_in, atom_fits_in, gamma_fits_in, variables_of, template_fits}
+use Rattle.calculus.specs.Patterns.{Pattern, Patterns, p_var, p_fun, p_eigen, p_new, no_patterns, more_patterns, patterns_tree, fits_in, parts_fit_in, part_sort_at, IsCopy, AreCopies, Grows, PatternAtom, PatternGamma, IsAtomCopy, IsGammaCopy, AreAtomCopies, AreGammaCopies, Template, label_fits_in, atom_fits_in, gamma_fits_in, variables_of, pattern_fits, are_term_patterns, are_value_patterns, is_label_pattern, atom_fits, gamma_fits, template_fits}
 use Rattle.calculus.proofs.PlaceLists.{get-front, all-append, all-more}
-use Rattle.calculus.proofs.BindingLaws.{sorted_cell, has_sort-from, or-more}
+use Rattle.calculus.proofs.BindingLaws.{sorted_cell, has_sort-from, or-more, sort_eq-true}
 
 pub Grows-same : (s : Store) → Grows s s
 Grows-same s = ([], sym (append_none s.cells), refl)
@@ -39,6 +40,9 @@ and-more false q r h e = e
 and-both : (p q r t : Bool) → (p ≡ true → q ≡ true) → (r ≡ true → t ≡ true) → (p && r) ≡ true → (q && t) ≡ true
 and-both true q r t h k e = rw (h refl) (k e)
 and-both false q r t h k e = absurd (false≢true e)
+
+or-left : (p q : Bool) → p ≡ true → (p || q) ≡ true
+or-left p q h = rw h refl
 
 mutual
   pub grown-fits : (s t : Store) (n : ℕ) (sort : Sort) (p : Pattern) → Grows s t → IsTrue (fits_in s n sort p) → IsTrue (fits_in t n sort p)
@@ -89,20 +93,6 @@ pub values-sorted : (s : Store) (rs : List ℕ) → IsTrue (list_all (part_sort_
 values-sorted s rs h = h
 
 -- ---- clauses
-
--- variables at another place
-mutual
-  pub moved-fits : (s t : Store) (n m : ℕ) (sort : Sort) (p : Pattern) → ((b : Sort) (k : ℕ) → IsTrue (has_sort_at s b (n + k)) → IsTrue (has_sort_at t b (m + k))) → IsTrue (fits_in s n sort p) → IsTrue (fits_in t m sort p)
-  moved-fits s t n m sort (p_var k) g h = g sort k h
-  moved-fits s t n m sort (p_fun f ps) g h = and-more (sort_eq sort TermSort) (parts_fit_in s n TermSort false ps) (parts_fit_in t m TermSort false ps) (moved-parts_fit s t n m TermSort false ps g) h
-  moved-fits s t n m sort (p_eigen f ps) g h = and-more (sort_eq sort TermSort) (parts_fit_in s n TermSort true ps) (parts_fit_in t m TermSort true ps) (moved-parts_fit s t n m TermSort true ps g) h
-  moved-fits s t n m sort (p_new f ps) g h = and-more (sort_eq sort MarkSort) (parts_fit_in s n TermSort true ps) (parts_fit_in t m TermSort true ps) (moved-parts_fit s t n m TermSort true ps g) h
-
-  pub moved-parts_fit : (s t : Store) (n m : ℕ) (b : Sort) (w : Bool) (ps : Patterns) → ((b : Sort) (k : ℕ) → IsTrue (has_sort_at s b (n + k)) → IsTrue (has_sort_at t b (m + k))) → IsTrue (parts_fit_in s n b w ps) → IsTrue (parts_fit_in t m b w ps)
-  moved-parts_fit s t n m b w no_patterns g h = refl
-  moved-parts_fit s t n m b w (more_patterns p ps) g h = and-both (fits_in s n b p || (w && fits_in s n StringSort p)) (fits_in t m b p || (w && fits_in t m StringSort p)) (parts_fit_in s n b w ps) (parts_fit_in t m b w ps)
-      (or-more (fits_in s n b p) (fits_in t m b p) (w && fits_in s n StringSort p) (w && fits_in t m StringSort p) (moved-fits s t n m b p g) (and-more w (fits_in s n StringSort p) (fits_in t m StringSort p) (moved-fits s t n m StringSort p g)))
-      (moved-parts_fit s t n m b w ps g) h
 
 pub grown-atom : (s t : Store) (n : ℕ) (a : PatternAtom) (c : CellAtom) → Grows s t → IsAtomCopy s n a c → IsAtomCopy t n a c
 grown-atom s t n a c g h = record { sign = h.sign; symbol = h.symbol; args = grown-copies s t n (patterns_tree a.args) c.args g h.args; label = grown-copies s t n (patterns_tree a.label) c.label g h.label }
@@ -163,32 +153,58 @@ variables-at s t sorts e k sort h = ap (λ cs. slice_get cs (length s.cells + k)
     mapped (x ∷ xs) zero h = let q : x ≡ sort = cc in ap (λ b. Some (variable b None)) q
     mapped (x ∷ xs) (suc k) h = mapped xs k h
 
-variables-moved : (s t : Store) (sorts : List Sort) → t.cells ≡ s.cells ++ (variables_of sorts).cells → (b : Sort) (k : ℕ) → IsTrue (has_sort_at (variables_of sorts) b (0 + k)) → IsTrue (has_sort_at t b (length s.cells + k))
-variables-moved s t sorts e b k h =
-    let w = sorted_cell (variables_of sorts) b (0 + k) h in
-    let at : slice_get (variables_of sorts).cells k ≡ Some w.0 = ap (slice_get (variables_of sorts).cells) (let q : k ≡ 0 + k = omega arith in q) ∙ w.1 in
-    has_sort-from t b (length s.cells + k) w.0 (ap (λ cs. slice_get cs (length s.cells + k)) e ∙ behind s.cells (variables_of sorts).cells k ∙ at) w.2
+-- ---- a template that fits, once its variables are in the store
+
+mutual
+  placed-fits : (t : Store) (n : ℕ) (sorts : List Sort) → ((b : Sort) (k : ℕ) → IsTrue (option_map_or (sort_eq b) (slice_get sorts k) false) → IsTrue (has_sort_at t b (n + k))) → (sort : Sort) (p : Pattern) → IsTrue (pattern_fits sorts sort p) → IsTrue (fits_in t n sort p)
+  placed-fits t n sorts g sort (p_var k) h = g sort k h
+  placed-fits t n sorts g sort (p_fun f ps) h = and-more (sort_eq sort TermSort) (are_term_patterns sorts ps) (parts_fit_in t n TermSort false ps) (placed-terms t n sorts g ps) h
+  placed-fits t n sorts g sort (p_eigen f ps) h = and-more (sort_eq sort TermSort) (are_value_patterns sorts ps) (parts_fit_in t n TermSort true ps) (placed-values t n sorts g ps) h
+  placed-fits t n sorts g sort (p_new f ps) h = and-more (sort_eq sort MarkSort) (are_value_patterns sorts ps) (parts_fit_in t n TermSort true ps) (placed-values t n sorts g ps) h
+
+  placed-terms : (t : Store) (n : ℕ) (sorts : List Sort) → ((b : Sort) (k : ℕ) → IsTrue (option_map_or (sort_eq b) (slice_get sorts k) false) → IsTrue (has_sort_at t b (n + k))) → (ps : Patterns) → IsTrue (are_term_patterns sorts ps) → IsTrue (parts_fit_in t n TermSort false ps)
+  placed-terms t n sorts g no_patterns h = refl
+  placed-terms t n sorts g (more_patterns p ps) h = and-both (pattern_fits sorts TermSort p) (fits_in t n TermSort p || (false && fits_in t n StringSort p)) (are_term_patterns sorts ps) (parts_fit_in t n TermSort false ps) (λ e. or-left (fits_in t n TermSort p) (false && fits_in t n StringSort p) (placed-fits t n sorts g TermSort p e)) (placed-terms t n sorts g ps) h
+
+  placed-values : (t : Store) (n : ℕ) (sorts : List Sort) → ((b : Sort) (k : ℕ) → IsTrue (option_map_or (sort_eq b) (slice_get sorts k) false) → IsTrue (has_sort_at t b (n + k))) → (ps : Patterns) → IsTrue (are_value_patterns sorts ps) → IsTrue (parts_fit_in t n TermSort true ps)
+  placed-values t n sorts g no_patterns h = refl
+  placed-values t n sorts g (more_patterns p ps) h = and-both (pattern_fits sorts TermSort p || pattern_fits sorts StringSort p) (fits_in t n TermSort p || (true && fits_in t n StringSort p)) (are_value_patterns sorts ps) (parts_fit_in t n TermSort true ps) (or-more (pattern_fits sorts TermSort p) (fits_in t n TermSort p) (pattern_fits sorts StringSort p) (true && fits_in t n StringSort p) (placed-fits t n sorts g TermSort p) (placed-fits t n sorts g StringSort p)) (placed-values t n sorts g ps) h
+
+-- patterns of one sort, and labels
+placed-all : (t : Store) (n : ℕ) (sorts : List Sort) → ((b : Sort) (k : ℕ) → IsTrue (option_map_or (sort_eq b) (slice_get sorts k) false) → IsTrue (has_sort_at t b (n + k))) → (b : Sort) (ps : List Pattern) → IsTrue (list_all (pattern_fits sorts b) ps) → IsTrue (parts_fit_in t n b false (patterns_tree ps))
+placed-all t n sorts g b [] h = refl
+placed-all t n sorts g b (p ∷ ps) h = and-both (pattern_fits sorts b p) (fits_in t n b p || (false && fits_in t n StringSort p)) (list_all (pattern_fits sorts b) ps) (parts_fit_in t n b false (patterns_tree ps)) (λ e. or-left (fits_in t n b p) (false && fits_in t n StringSort p) (placed-fits t n sorts g b p e)) (placed-all t n sorts g b ps) h
+
+placed-label : (t : Store) (n : ℕ) (sorts : List Sort) → ((b : Sort) (k : ℕ) → IsTrue (option_map_or (sort_eq b) (slice_get sorts k) false) → IsTrue (has_sort_at t b (n + k))) → (ps : List Pattern) → IsTrue (is_label_pattern sorts ps) → IsTrue (label_fits_in t n ps)
+placed-label t n sorts g [] h = refl
+placed-label t n sorts g (p ∷ ps) h = and-both (pattern_fits sorts MarkSort p || pattern_fits sorts StringSort p) (fits_in t n MarkSort p || (true && fits_in t n StringSort p)) (is_label_pattern sorts ps) (label_fits_in t n ps) (or-more (pattern_fits sorts MarkSort p) (fits_in t n MarkSort p) (pattern_fits sorts StringSort p) (true && fits_in t n StringSort p) (placed-fits t n sorts g MarkSort p) (placed-fits t n sorts g StringSort p)) (placed-label t n sorts g ps) h
+
+variables-placed : (s t : Store) (sorts : List Sort) → t.cells ≡ s.cells ++ (variables_of sorts).cells → (b : Sort) (k : ℕ) → IsTrue (option_map_or (sort_eq b) (slice_get sorts k) false) → IsTrue (has_sort_at t b (length s.cells + k))
+variables-placed s t sorts e b k h =
+    let w = found (slice_get sorts k) h in
+    has_sort-from t b (length s.cells + k) (variable w.0 None) (variables-at s t sorts e k w.0 w.1) (sym (sort_eq-true b w.0 w.2))
   where
-    behind : (xs ys : List Cell) (k : ℕ) → slice_get (xs ++ ys) (length xs + k) ≡ slice_get ys k
-    behind [] ys k = ap (slice_get ys) (let e : 0 + k ≡ k = omega arith in e)
-    behind (x ∷ xs) ys k = ap (slice_get (x ∷ (xs ++ ys))) (let e : suc (length xs) + k ≡ suc (length xs + k) = omega arith in e) ∙ behind xs ys k
+    found : (o : Option Sort) → IsTrue (option_map_or (sort_eq b) o false) → (sort : Sort) × (o ≡ Some sort) × IsTrue (sort_eq b sort)
+    found None h = absurd (false≢true h)
+    found (Some sort) h = (sort, refl, h)
 
 pub template-atoms : (s t : Store) (m : Template) → t.cells ≡ s.cells ++ (variables_of m.sorts).cells → IsTrue (template_fits m) → IsTrue (list_all (atom_fits_in t (length s.cells)) m.literals)
 template-atoms s t m e h =
-    let v = variables_of m.sorts in
-    let a = and_parts (list_all (atom_fits_in v 0) m.literals && parts_fit_in v 0 StringSort false (patterns_tree m.strings)) (list_all (gamma_fits_in v 0) m.gammas) h in
-    let b = and_parts (list_all (atom_fits_in v 0) m.literals) (parts_fit_in v 0 StringSort false (patterns_tree m.strings)) a.0 in
-    all-more (atom_fits_in v 0) (atom_fits_in t (length s.cells)) m.literals (λ x k. and-both (parts_fit_in v 0 TermSort false (patterns_tree x.args)) (parts_fit_in t (length s.cells) TermSort false (patterns_tree x.args)) (label_fits_in v 0 x.label) (label_fits_in t (length s.cells) x.label) (moved-parts_fit v t 0 (length s.cells) TermSort false (patterns_tree x.args) (variables-moved s t m.sorts e)) (moved-parts_fit v t 0 (length s.cells) MarkSort true (patterns_tree x.label) (variables-moved s t m.sorts e)) k) b.0
+    let n = length s.cells in
+    let g = variables-placed s t m.sorts e in
+    let a = and_parts (list_all (atom_fits m.sorts) m.literals && list_all (pattern_fits m.sorts StringSort) m.strings) (list_all (gamma_fits m.sorts) m.gammas) h in
+    let b = and_parts (list_all (atom_fits m.sorts) m.literals) (list_all (pattern_fits m.sorts StringSort) m.strings) a.0 in
+    all-more (atom_fits m.sorts) (atom_fits_in t n) m.literals (λ x k. and-both (list_all (pattern_fits m.sorts TermSort) x.args) (parts_fit_in t n TermSort false (patterns_tree x.args)) (is_label_pattern m.sorts x.label) (label_fits_in t n x.label) (placed-all t n m.sorts g TermSort x.args) (placed-label t n m.sorts g x.label) k) b.0
 
 pub template-strings : (s t : Store) (m : Template) → t.cells ≡ s.cells ++ (variables_of m.sorts).cells → IsTrue (template_fits m) → IsTrue (parts_fit_in t (length s.cells) StringSort false (patterns_tree m.strings))
 template-strings s t m e h =
-    let v = variables_of m.sorts in
-    let a = and_parts (list_all (atom_fits_in v 0) m.literals && parts_fit_in v 0 StringSort false (patterns_tree m.strings)) (list_all (gamma_fits_in v 0) m.gammas) h in
-    let b = and_parts (list_all (atom_fits_in v 0) m.literals) (parts_fit_in v 0 StringSort false (patterns_tree m.strings)) a.0 in
-    moved-parts_fit v t 0 (length s.cells) StringSort false (patterns_tree m.strings) (variables-moved s t m.sorts e) b.1
+    let a = and_parts (list_all (atom_fits m.sorts) m.literals && list_all (pattern_fits m.sorts StringSort) m.strings) (list_all (gamma_fits m.sorts) m.gammas) h in
+    let b = and_parts (list_all (atom_fits m.sorts) m.literals) (list_all (pattern_fits m.sorts StringSort) m.strings) a.0 in
+    placed-all t (length s.cells) m.sorts (variables-placed s t m.sorts e) StringSort m.strings b.1
 
 pub template-gammas : (s t : Store) (m : Template) → t.cells ≡ s.cells ++ (variables_of m.sorts).cells → IsTrue (template_fits m) → IsTrue (list_all (gamma_fits_in t (length s.cells)) m.gammas)
 template-gammas s t m e h =
-    let v = variables_of m.sorts in
-    let a = and_parts (list_all (atom_fits_in v 0) m.literals && parts_fit_in v 0 StringSort false (patterns_tree m.strings)) (list_all (gamma_fits_in v 0) m.gammas) h in
-    all-more (gamma_fits_in v 0) (gamma_fits_in t (length s.cells)) m.gammas (λ x k. and-both (fits_in v 0 TermSort x.term) (fits_in t (length s.cells) TermSort x.term) (label_fits_in v 0 x.label) (label_fits_in t (length s.cells) x.label) (moved-fits v t 0 (length s.cells) TermSort x.term (variables-moved s t m.sorts e)) (moved-parts_fit v t 0 (length s.cells) MarkSort true (patterns_tree x.label) (variables-moved s t m.sorts e)) k) a.1
+    let n = length s.cells in
+    let g = variables-placed s t m.sorts e in
+    let a = and_parts (list_all (atom_fits m.sorts) m.literals && list_all (pattern_fits m.sorts StringSort) m.strings) (list_all (gamma_fits m.sorts) m.gammas) h in
+    all-more (gamma_fits m.sorts) (gamma_fits_in t n) m.gammas (λ x k. and-both (pattern_fits m.sorts TermSort x.term) (fits_in t n TermSort x.term) (is_label_pattern m.sorts x.label) (label_fits_in t n x.label) (placed-fits t n m.sorts g TermSort x.term) (placed-label t n m.sorts g x.label) k) a.1

@@ -1,6 +1,7 @@
 -- Patterns of terms and marks with numbered variables, and their copies in a store.
 use Rattle.std.specs.Prelude.{◌≡◌, ℕ, suc, ◌+◌, List, [], ◌∷◌, ◌++◌, Bool, true, false, ◌&&◌, ◌||◌, None, Some, map, slice_get, refl}
 use Rattle.std.specs.List.{list_all}
+use Rattle.std.specs.Option.{option_map_or}
 use Rattle.calculus.specs.declared.sign.Sign.{Sign}
 use Rattle.std.specs.Coded.{Coded, coded_list}
 use base.Stored.{Gv, gnil, gnum, gcons}
@@ -90,7 +91,6 @@ pub record ClauseCells : Type 0 where
   pub pis : ℕ
   pub gammas : List GammaCell
 
--- a label joins marks and strings
 abbrev pub label_fits_in : Store → ℕ → List Pattern → Bool
 label_fits_in s n ps = parts_fit_in s n MarkSort true (patterns_tree ps)
 
@@ -104,9 +104,40 @@ gamma_fits_in s n g = fits_in s n TermSort g.term && label_fits_in s n g.label
 abbrev pub variables_of : List Sort → Store
 variables_of sorts = record { cells = map (λ sort. variable sort None) sorts; trail = [] }
 
+-- ---- fitting sorts
+
+abbrev mutual
+  -- the pattern is of this sort, where the variables have these sorts
+  pub pattern_fits : List Sort → Sort → Pattern → Bool
+  pattern_fits sorts sort (p_var k) = option_map_or (sort_eq sort) (slice_get sorts k) false
+  pattern_fits sorts sort (p_fun f ps) = sort_eq sort TermSort && are_term_patterns sorts ps
+  pattern_fits sorts sort (p_eigen p ps) = sort_eq sort TermSort && are_value_patterns sorts ps
+  pattern_fits sorts sort (p_new p ps) = sort_eq sort MarkSort && are_value_patterns sorts ps
+
+  pub are_term_patterns : List Sort → Patterns → Bool
+  are_term_patterns sorts no_patterns = true
+  are_term_patterns sorts (more_patterns p ps) = pattern_fits sorts TermSort p && are_term_patterns sorts ps
+
+  -- the values taken on a way are terms and strings
+  pub are_value_patterns : List Sort → Patterns → Bool
+  are_value_patterns sorts no_patterns = true
+  are_value_patterns sorts (more_patterns p ps) = (pattern_fits sorts TermSort p || pattern_fits sorts StringSort p) && are_value_patterns sorts ps
+
+-- a label joins marks and strings
+abbrev pub is_label_pattern : List Sort → List Pattern → Bool
+is_label_pattern sorts ps = list_all (λ p. pattern_fits sorts MarkSort p || pattern_fits sorts StringSort p) ps
+
+abbrev pub atom_fits : List Sort → PatternAtom → Bool
+atom_fits sorts a = list_all (pattern_fits sorts TermSort) a.args && is_label_pattern sorts a.label
+
+abbrev pub gamma_fits : List Sort → PatternGamma → Bool
+gamma_fits sorts g = pattern_fits sorts TermSort g.term && is_label_pattern sorts g.label
+
 -- each variable has a sort, and each pattern that of its place
 abbrev pub template_fits : Template → Bool
-template_fits t = list_all (atom_fits_in (variables_of t.sorts) 0) t.literals && parts_fit_in (variables_of t.sorts) 0 StringSort false (patterns_tree t.strings) && list_all (gamma_fits_in (variables_of t.sorts) 0) t.gammas
+template_fits t = list_all (atom_fits t.sorts) t.literals && list_all (pattern_fits t.sorts StringSort) t.strings && list_all (gamma_fits t.sorts) t.gammas
+
+-- ---- copies of a clause
 
 pub record IsAtomCopy (s : Store) (n : ℕ) (a : PatternAtom) (c : CellAtom) : Type 0 where
   pub sign : c.sign ≡ a.sign

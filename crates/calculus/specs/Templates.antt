@@ -13,7 +13,7 @@ use Rattle.calculus.specs.Instances.{GammaUse, ClauseInstance}
 use Rattle.calculus.specs.ComputedInstances.{Part, instance_of, is_instance}
 use Rattle.calculus.specs.Stores.{CellValue, a_term, a_mark, a_string}
 use Rattle.calculus.specs.Systems.{is_step_length}
-use Rattle.calculus.specs.Patterns.{Pattern, Patterns, p_var, p_fun, p_eigen, p_new, no_patterns, more_patterns, patterns_tree, PatternAtom, PatternGamma, Template}
+use Rattle.calculus.specs.Patterns.{Pattern, Patterns, p_var, p_fun, p_eigen, p_new, no_patterns, more_patterns, patterns_tree, PatternAtom, PatternGamma, Template, template_fits}
 
 -- ---- what patterns stand for
 
@@ -115,3 +115,5 @@ pub record IsTemplateOf (P : Problem) (sides : List Side) (t : Template) : Type 
   pub gammas : (vs : List Value) (x : Part) → instance_of P sides vs ≡ Some x → x.gammas ≡ gammas_by vs t
   pub pis : (vs : List Value) (x : Part) → instance_of P sides vs ≡ Some x → x.pis ≡ t.pis
   pub strings : t.strings ≡ strings_from 0 t.sorts
+  -- each variable has a sort, and each pattern that of its place
+  pub fits : IsTrue (template_fits t)

@@ -25,7 +25,7 @@ use Rattle.connection_search.specs.Matrix.{MatrixClause, IsTemplateMatrix, is_ab
 use Rattle.connection_search.specs.Goals.{IsChoiceAt, by_ancestor, by_clause}
 use Rattle.connection_search.specs.Exploring.{IsIn}
 use Rattle.connection_search.specs.Stack.{meets, reductions_from, extensions_among, extensions, selection_of, extension_at, choices_at}
-use Rattle.connection_search.proofs.TemplateLaws.{drop-next}
+use Rattle.connection_search.proofs.Dropping.{drop-next}
 
 -- ---- lists
 

@@ -254,7 +254,7 @@ template-classical P sides t c fits e = by (pattern_part P.setting.logic P.formu
     whole : (literals : IsTrue (list_all is_plain_atom t.literals)) → IsTrue (list_all is_term_sort t.sorts) → IsClassicalTemplate P t
     whole l s =
         let vs = commons t.sorts in
-        let right = template_of-right P sides t e in
+        let right = template_of-right P sides t fits e in
         let i = (right.instances vs (literals_by vs t)).1 (and_from (have_sorts t.sorts vs) (is_choice_of_values P vs) (commons-sorted t.sorts s) (commons-chosen P t.sorts), refl) in
         let proper = proper-by P (literals_by vs t) (instance_of P sides vs) (instance-proper P sides vs fits) i in
         record { literals = classical-atoms P t.sorts t.literals l proper; sorts = s }

@@ -21,6 +21,8 @@ pub mod BeginningLaws
 pub mod NextLaws
 pub mod DeepenLaws
 -- templates
+pub mod Dropping
+pub mod TemplateFits
 pub mod TemplateLaws
 pub mod TemplateExists
 pub mod ClassicalTemplates

@@ -1,10 +1,11 @@
 -- The matrix by computed templates, and the start of a search over all its clauses.
-use Rattle.std.proofs.Common.{◌≡◌, ℕ, zero, suc, List, [], ◌∷◌, map, false, ap, subst, Some, arith}
+use Rattle.std.proofs.Common.{◌≡◌, ℕ, zero, suc, List, [], ◌∷◌, map, false, IsTrue, ap, subst, Some, arith}
 use Rattle.std.specs.Prelude.{Contains}
 use Rattle.std.specs.List.{AllByRecursion}
 use Rattle.calculus.specs.declared.sign.Sign.TheVariants.{F}
 use Rattle.calculus.specs.declared.sign.Side.{Side}
 use Rattle.calculus.specs.Syntax.{Problem}
+use Rattle.calculus.specs.Problems.{formula_fits}
 use Rattle.calculus.specs.Clauses.{selections}
 use Rattle.calculus.specs.Choices.{start}
 use Rattle.calculus.proofs.SelectionLaws.{selections-rise}
@@ -22,12 +23,12 @@ use Rattle.connection_search.proofs.DeepenLaws.{starting}
 use Rattle.connection_search.proofs.SearchSteps.{search-start}
 
 -- templates that are computed for the selections in order make the matrix
-pub matrix-computed : (P : Problem) (m : List MatrixClause) → map (λ (c : MatrixClause). c.selection) m ≡ selections P.formula F → AllByRecursion (λ (c : MatrixClause). template_of P c.selection ≡ Some c.template) m → IsTemplateMatrix P m
-matrix-computed P m order computed = record { in_order = order; templates = each m computed }
+pub matrix-computed : (P : Problem) (m : List MatrixClause) → IsTrue (formula_fits P.setting.logic P.symbols 0 P.formula) → map (λ (c : MatrixClause). c.selection) m ≡ selections P.formula F → AllByRecursion (λ (c : MatrixClause). template_of P c.selection ≡ Some c.template) m → IsTemplateMatrix P m
+matrix-computed P m fits order computed = record { in_order = order; templates = each m computed }
   where
     each : (cs : List MatrixClause) → AllByRecursion (λ (c : MatrixClause). template_of P c.selection ≡ Some c.template) cs → AllByRecursion (λ (c : MatrixClause). IsTemplateOf P c.selection c.template) cs
     each [] h = tt
-    each (c ∷ cs) h = (template_of-right P c.selection c.template h.0, each cs h.1)
+    each (c ∷ cs) h = (template_of-right P c.selection c.template fits h.0, each cs h.1)
 
 contained-in : (xs : List (List Side)) (x : List Side) → Contains xs x → IsIn x xs
 contained-in [] x (k, l, e) = absurd (omega (arith, l))

@@ -1,5 +1,5 @@
 -- Each selection of a formula has a template.
-use Rattle.std.proofs.Common.{◌≡◌, ℕ, zero, suc, ◌+◌, List, [], ◌∷◌, ◌++◌, length, map, Bool, true, false, refl, sym, ◌∙◌, ap, subst, Option, Some, option_map, option_and_then, arith, append_assoc, append-nil}
+use Rattle.std.proofs.Common.{◌≡◌, ℕ, zero, suc, ◌+◌, List, [], ◌∷◌, ◌++◌, length, map, Bool, true, false, IsTrue, refl, sym, ◌∙◌, ap, subst, Option, Some, option_map, option_and_then, arith, append_assoc, append-nil}
 use Rattle.std.specs.Prelude.{Contains}
 use Rattle.std.specs.List.{AllByRecursion}
 use Rattle.calculus.specs.declared.sign.Sign.{Sign}
@@ -15,6 +15,7 @@ use Rattle.calculus.specs.declared.kind.ModalPart.TheVariants.{Plain, Nu, Pi}
 use Rattle.calculus.specs.Syntax.{Formula, atom, neg, conj, disj, imp, all, ex, box, dia, Problem}
 use Rattle.calculus.specs.Kinds.{other, shape_of, modal_of}
 use Rattle.calculus.specs.Positions.{size}
+use Rattle.calculus.specs.Problems.{formula_fits}
 use Rattle.calculus.specs.Clauses.{all_joined, selections_of_two, selections}
 use Rattle.calculus.specs.Patterns.{Pattern, p_var, p_eigen, p_new, patterns_tree, Template}
 use Rattle.calculus.specs.Templates.{IsTemplateOf}
@@ -141,10 +142,10 @@ each-contained Q (y ∷ xs) x h (zero, l, e) = subst Q e h.0
 each-contained Q (y ∷ xs) x h (suc k, l, e) = each-contained Q xs x h.1 (k, omega (arith, l), e)
 
 -- each selection has the template that is computed, and it is right
-pub template-exists : (P : Problem) (sides : List Side) → Contains (selections P.formula F) sides → (t : Template) × (template_of P sides ≡ Some t) × IsTemplateOf P sides t
-template-exists P sides h =
+pub template-exists : (P : Problem) (sides : List Side) → IsTrue (formula_fits P.setting.logic P.symbols 0 P.formula) → Contains (selections P.formula F) sides → (t : Template) × (template_of P sides ≡ Some t) × IsTemplateOf P sides t
+template-exists P sides fits h =
     let r = each-contained (IsReadBy (pattern_part P.setting.logic P.formula F)) (selections P.formula F) sides (part-read P.setting.logic P.formula F) h in
     let (y, e, s) = r root_pattern_spot [] 0 in
     let f : pattern_part P.setting.logic P.formula F root_pattern_spot sides 0 ≡ Some y = ap (λ ss. pattern_part P.setting.logic P.formula F root_pattern_spot ss 0) (sym (append-nil sides)) ∙ e in
     let q : template_of P sides ≡ Some (template_by y) = ap (option_and_then (λ (z : PatternPart). if_sides_used z z.sides)) f ∙ ap (if_sides_used y) s in
-    (template_by y, q, template_of-right P sides (template_by y) q)
+    (template_by y, q, template_of-right P sides (template_by y) fits q)

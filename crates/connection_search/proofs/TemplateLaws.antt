@@ -23,6 +23,7 @@ use Rattle.calculus.specs.Equality.{mark_eq, list_eq, literal_eq}
 use Rattle.calculus.specs.Kinds.{other, shape_of, modal_of}
 use Rattle.calculus.specs.Positions.{size}
 use Rattle.calculus.specs.Labels.{is_prefix, steps_to, nu_label, pi_label}
+use Rattle.calculus.specs.Problems.{formula_fits}
 use Rattle.calculus.specs.Skolem.{is_empty, is_admitted_value}
 use Rattle.calculus.specs.Instances.{ground_of, grounds_of, Spot, root_spot, Turn}
 use Rattle.calculus.specs.ComputedInstances.{Supply, Part, with_modal_step, at_modal, with_turn, at_literal, join_of, at_alpha, at_one, at_two, with_gamma, at_quantifier, part_of, if_used_up, instance_of, is_instance}
@@ -32,6 +33,8 @@ use Rattle.calculus.proofs.EqualityLaws.{mark_eq-tells, list_eq-tells, literal_e
 use Rattle.calculus.specs.Patterns.{Pattern, p_var, p_eigen, p_new, no_patterns, patterns_tree, Template}
 use Rattle.calculus.specs.Templates.{as_term, as_value, as_label, value_of_variable, pattern_value, pattern_terms, pattern_values, pattern_label, pattern_literal, pattern_gamma, literals_by, has_value_sort, have_sorts, is_step_value, is_choice_of_values, clause_by, IsTemplateOf}
 use Rattle.connection_search.specs.TemplateOf.{PatternSpot, root_pattern_spot, PatternTurn, PatternPart, PatternBody, pattern_of, patterns_of, pattern_down, pattern_inside, nu_patterns, pi_patterns, of_sort, one_pi_more, pattern_modal, pattern_turn, pattern_atom, joined_patterns, pattern_alpha, pattern_beta, pattern_one, pattern_two, with_pattern_gamma, pattern_quantifier, pattern_part, template_by, if_sides_used, template_of}
+use Rattle.connection_search.proofs.Dropping.{drop-next, drop-both}
+use Rattle.connection_search.proofs.TemplateFits.{template-part_fits}
 
 -- ---- images of patterns by the values of all variables
 
@@ -99,21 +102,6 @@ supply ss vs = record { sides = ss; values = vs }
 -- the body over patterns computes the body over ground values
 abbrev Mirrors : Logic → (Spot → Supply → Option Part) → PatternBody → Type 0
 Mirrors l go body = (vs : List Value) (c : PatternSpot) (ss : List Side) (n : ℕ) (rest : List Value) → drop n vs ≡ rest → go (spot_by vs c) (supply ss rest) ≡ filled l vs rest (body c ss n)
-
-pub drop-next : {A : Type 0} (n : ℕ) (vs : List A) (v : A) (rest : List A) → drop n vs ≡ v ∷ rest → (slice_get vs n ≡ Some v) × (drop (suc n) vs ≡ rest)
-drop-next zero [] v rest e = cc e
-drop-next zero (w ∷ vs) v rest e = let a : w ≡ v = cc e in let b : vs ≡ rest = cc e in (ap Some a, b)
-drop-next (suc n) [] v rest e = cc e
-drop-next (suc n) (w ∷ vs) v rest e = drop-next n vs v rest e
-
-drop-nothing : {A : Type 0} (k : ℕ) → drop {A = A} k [] ≡ []
-drop-nothing zero = refl
-drop-nothing (suc k) = refl
-
-pub drop-both : {A : Type 0} (n m : ℕ) (vs : List A) → drop (n + m) vs ≡ drop m (drop n vs)
-drop-both zero m vs = let e : 0 + m ≡ m = omega arith in ap (λ k. drop k vs) e
-drop-both (suc n) m [] = drop-nothing (suc n + m) ∙ sym (drop-nothing m)
-drop-both (suc n) m (v ∷ vs) = let e : suc n + m ≡ suc (n + m) = omega arith in ap (λ k. drop k (v ∷ vs)) e ∙ drop-both n m vs
 
 -- ---- what a step tells is the length of its string
 
@@ -393,12 +381,13 @@ instance-mirrored P sides y e sides_used vs =
     (λ i. if list_all (is_admitted_value P) vs then (ap (option_and_then if_used_up) m ∙ whole-by l vs y sides_used) i else None)
     ∙ both-tests (list_all (is_admitted_value P) vs) (takes l y.sorts vs && is_empty (drop (length y.sorts) vs)) (have_sorts y.sorts vs) (list_all (is_step_value l) vs) (takes-all l y.sorts vs) (part_by vs vs y)
 
-template-of-part : (P : Problem) (sides : List Side) (y : PatternPart) → pattern_part P.setting.logic P.formula F root_pattern_spot sides 0 ≡ Some y → y.sides ≡ [] → IsTemplateOf P sides (template_by y)
-template-of-part P sides y e sides_used = record {
+template-of-part : (P : Problem) (sides : List Side) (y : PatternPart) → IsTrue (formula_fits P.setting.logic P.symbols 0 P.formula) → pattern_part P.setting.logic P.formula F root_pattern_spot sides 0 ≡ Some y → y.sides ≡ [] → IsTemplateOf P sides (template_by y)
+template-of-part P sides y fits e sides_used = record {
   instances = λ vs xs. ((λ h. there vs xs h), (λ h. back vs xs h));
   gammas = λ vs x h. ap (λ (p : Part). p.gammas) (found vs x h);
   pis = λ vs x h. ap (λ (p : Part). p.pis) (found vs x h);
   strings = refl;
+  fits = template-part_fits P sides y fits e;
 }
   where
     tested : (vs : List Value) (b : Bool) → takes_values P y.sorts vs ≡ b → instance_of P sides vs ≡ (if b then Some (part_by vs vs y) else None)
@@ -423,11 +412,11 @@ template-of-part P sides y e sides_used = record {
     ]
 
 -- the template that is computed is right
-pub template_of-right : (P : Problem) (sides : List Side) (t : Template) → template_of P sides ≡ Some t → IsTemplateOf P sides t
-template_of-right P sides t e = by (pattern_part P.setting.logic P.formula F root_pattern_spot sides 0) refl e
+pub template_of-right : (P : Problem) (sides : List Side) (t : Template) → IsTrue (formula_fits P.setting.logic P.symbols 0 P.formula) → template_of P sides ≡ Some t → IsTemplateOf P sides t
+template_of-right P sides t fits e = by (pattern_part P.setting.logic P.formula F root_pattern_spot sides 0) refl e
   where
     used : (y : PatternPart) → pattern_part P.setting.logic P.formula F root_pattern_spot sides 0 ≡ Some y → (ss : List Side) → y.sides ≡ ss → if_sides_used y ss ≡ Some t → IsTemplateOf P sides t
-    used y f [] g h = let q : template_by y ≡ t = cc h in subst (IsTemplateOf P sides) q (template-of-part P sides y f g)
+    used y f [] g h = let q : template_by y ≡ t = cc h in subst (IsTemplateOf P sides) q (template-of-part P sides y fits f g)
     used y f (s ∷ ss) g h = cc h
 
     by : (o : Option PatternPart) → pattern_part P.setting.logic P.formula F root_pattern_spot sides 0 ≡ o → option_and_then (λ (y : PatternPart). if_sides_used y y.sides) o ≡ Some t → IsTemplateOf P sides t
