@@ -1,6 +1,7 @@
 -- What the calls of a store do to it: a cell more, a binding more; ranks, which show that the bindings have no cycle; and what unification
 -- promises of ground solutions.
-use Rattle.std.specs.Prelude.{◌≡◌, ◌⊎◌, ◌==◌, ◌&&◌, ℕ, suc, zero, ◌<◌, ◌≤◌, List, [], ◌∷◌, ◌++◌, length, Bool, true, false, Some, None, slice_get, IsTrue}
+use Rattle.std.specs.Prelude.{◌≡◌, ◌⊎◌, ◌==◌, ◌&&◌, ℕ, suc, zero, ◌<◌, ◌≤◌, List, [], ◌∷◌, ◌++◌, length, Bool, true, false, Some, None, slice_get, IsTrue, nat_le}
+use Rattle.std.specs.List.{list_all}
 use Rattle.calculus.specs.declared.sort.Sort.{Sort}
 use Rattle.calculus.specs.Stores.{Cell, variable, fun_cell, eigen_cell, new_cell, string_cell, Store, TrailMark, is_store, parts_of, has_sort_at, is_bound, OccursIn, EndsAt, cut_at, IsGood, Solution, Solves}
 
@@ -106,3 +107,12 @@ pub record AddsBound (before after : Store) : Type 0 where
   pub more : List Cell
   pub cells : after.cells ≡ before.cells ++ more
   pub bound : (v : ℕ) (sort : Sort) → length before.cells ≤ v → ¬ (slice_get after.cells v ≡ Some (variable sort None))
+
+-- what was bound occurs in a or b, and so does what it was bound to
+pub record BindsWithin (a b : ℕ) (before after : Store) : Type 0 where
+  pub bound : (v k : ℕ) (sort : Sort) → slice_get before.cells v ≡ Some (variable sort None) → slice_get after.cells v ≡ Some (variable sort (Some k)) → OccursIn before v a ⊎ OccursIn before v b
+  pub target : (v k : ℕ) (sort : Sort) → slice_get before.cells v ≡ Some (variable sort None) → slice_get after.cells v ≡ Some (variable sort (Some k)) → OccursIn before k a ⊎ OccursIn before k b
+
+-- cells from the number `base` on name cells from there on
+abbrev pub NamesFrom : ℕ → Store → Type 0
+NamesFrom base s = (n : ℕ) (c : Cell) → base ≤ n → slice_get s.cells n ≡ Some c → IsTrue (list_all (nat_le base) (parts_of c))

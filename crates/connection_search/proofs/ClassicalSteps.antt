@@ -12,9 +12,10 @@ use Rattle.calculus.specs.Skolem.{is_empty}
 use Rattle.calculus.specs.Choices.{start, reduction, extension}
 use Rattle.calculus.specs.Stores.{Cell, variable, Store, sort_of, has_sort_at, parts_of}
 use Rattle.calculus.specs.Systems.{CellAtom}
+use Rattle.calculus.specs.Bindings.{BindsOnly, NamesFrom}
 use Rattle.connection_search.specs.States.{CellClause, CellChoice, CellGoal, cell_goals_on, new_cell_goals}
 use Rattle.connection_search.specs.Building.{plus_cell, is_built}
-use Rattle.connection_search.specs.Regular.{is_classical_cell, is_classical_store, is_classical_atom, is_classical_goal, is_classical_choice, is_own_term, is_own_cell, is_classical_clause, NamesFrom}
+use Rattle.connection_search.specs.Regular.{is_classical_cell, is_classical_store, is_classical_atom, is_classical_goal, is_classical_choice, is_own_term, is_own_cell, is_classical_clause}
 use Rattle.connection_search.proofs.BelowLaws.{all-join, all-weaken, all-remove}
 use Rattle.connection_search.proofs.StepLaws.{start_state}
 use Rattle.connection_search.proofs.ExtensionLaws.{state_at, extended_state, reduced_state}
@@ -92,10 +93,6 @@ classical-reduced P base old new cs g gs every ds up rank rank' bound bound' h k
 
 -- ---- unification keeps a classical store
 
--- nothing but bindings of unbound variables came to the cells
-abbrev pub BindsOnly : Store → Store → Type 0
-BindsOnly before after = (length after.cells ≡ length before.cells) × ((n : ℕ) (c : Cell) → slice_get before.cells n ≡ Some c → (slice_get after.cells n ≡ Some c) ⊎ ((sort : Sort) × (r : ℕ) × (c ≡ variable sort None) × (slice_get after.cells n ≡ Some (variable sort (Some r)))))
-
 bound-classical : (P : Problem) (sort : Sort) (r : ℕ) → IsTrue (is_classical_cell P (variable sort None)) → IsTrue (is_classical_cell P (variable sort (Some r)))
 bound-classical P TermSort r h = refl
 bound-classical P MarkSort r h = absurd (false≢true h)
@@ -118,9 +115,9 @@ all-dropped p (suc n) (x ∷ xs) h = all-dropped p n xs (λ k y l e. h (suc k) y
 
 pub classical-binds : (P : Problem) (base : ℕ) (before after : Store) → BindsOnly before after → NamesFrom base after → IsTrue (is_classical_store P base before) → IsTrue (is_classical_store P base after)
 classical-binds P base before after b names h = all-dropped (is_own_cell P base) base after.cells (λ n d low e.
-    let (c, f) = there-is before.cells n (let l = slice_get_within after.cells n d e in let s = b.0 in omega (arith, l, s)) in
+    let (c, f) = there-is before.cells n (let l = slice_get_within after.cells n d e in let s = b.same_length in omega (arith, l, s)) in
     let k = cell-classical P base before h n c low f in
-    and_from (is_classical_cell P d) (list_all (nat_le base) (parts_of d)) (elim (b.1 n c f) [
+    and_from (is_classical_cell P d) (list_all (nat_le base) (parts_of d)) (elim (b.cells n c f) [
       | inl same ↦ subst (λ x. IsTrue (is_classical_cell P x)) (same-some (slice_get after.cells n) c d same e) k
       | inr bound ↦ subst (λ x. IsTrue (is_classical_cell P x)) (same-some (slice_get after.cells n) (variable bound.0 (Some bound.1)) d bound.3 e) (bound-classical P bound.0 bound.1 (subst (λ x. IsTrue (is_classical_cell P x)) bound.2 k))
     ]) (names n d low e))
@@ -140,7 +137,7 @@ pub terms-binds : (before after : Store) → BindsOnly before after → KeepsTer
 terms-binds before after b r h =
     let t = cell-sorted before TermSort r h in
     let is = sort-there before r t.0 t.1 in
-    elim (b.1 r t.0 t.1) [
+    elim (b.cells r t.0 t.1) [
       | inl same ↦ sort-there after r t.0 same ∙ t.2
       | inr bound ↦ sort-there after r (variable bound.0 (Some bound.1)) bound.3 ∙ sym (ap (λ c. sort_eq TermSort (sort_of c)) bound.2) ∙ t.2
     ]
@@ -156,7 +153,7 @@ terms-both s t u h g r k = g r (h r k)
 
 -- unification keeps what is built
 pub built-binds : (before after : Store) → BindsOnly before after → KeepsBuilt before after
-built-binds before after b n c built e = elim (b.1 n c e) [
+built-binds before after b n c built e = elim (b.cells n c e) [
   | inl same ↦ same
   | inr bound ↦ absurd (false≢true (sym (ap is_built bound.2) ∙ built))
 ]

@@ -46,6 +46,7 @@ pub mod BuiltClassical
 pub mod DistinctLaws
 pub mod AtomLaws
 pub mod SolvingLaws
+pub mod WithinLaws
 pub mod GivingLaws
 pub mod DemandLaws
 pub mod JoinedLaws

@@ -212,7 +212,7 @@ pub system-cells : (s : Store) (y : System) → HasCells (OccursInSystem s y) y
 system-cells s y i r e = (i, r, e, here)
 
 -- and whatever closed set has the system's cells has all that occurs there
-occurs-in-set : (In : ℕ → Type 0) (s : Store) → IsClosedSet In s → (v r : ℕ) → OccursIn s v r → In r → In v
+pub occurs-in-set : (In : ℕ → Type 0) (s : Store) → IsClosedSet In s → (v r : ℕ) → OccursIn s v r → In r → In v
 occurs-in-set In s h v r here m = m
 occurs-in-set In s h v r (in_part i {k = j} {c = c} e p more) m = occurs-in-set In s h v j more (h.names r j i c m e p)
 

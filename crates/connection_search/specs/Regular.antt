@@ -1,5 +1,5 @@
 -- Regularity of a state: two goals of a branch that are the same under the bindings.
-use Rattle.std.specs.Prelude.{◌≡◌, ℕ, suc, List, [], ◌∷◌, Bool, true, false, ◌&&◌, Some, slice_get, length, map, IsTrue, drop, nat_le, ◌≤◌}
+use Rattle.std.specs.Prelude.{◌≡◌, ℕ, suc, List, [], ◌∷◌, Bool, true, false, ◌&&◌, Some, slice_get, length, map, IsTrue, drop, nat_le}
 use Rattle.std.specs.List.{list_all, AllByRecursion}
 use Rattle.calculus.specs.declared.sort.Sort.{Sort}
 use Rattle.calculus.specs.declared.sort.Sort.TheVariants.{TermSort, MarkSort, StringSort}
@@ -100,7 +100,3 @@ is_term_sort _ = false
 pub record IsClassicalTemplate (P : Problem) (t : Template) : Type 0 where
   pub literals : IsTrue (list_all (λ (a : PatternAtom). are_classical_patterns P (patterns_tree a.args) && is_empty a.label) t.literals)
   pub sorts : IsTrue (list_all is_term_sort t.sorts)
-
--- cells from the number `base` on name cells from there on
-abbrev pub NamesFrom : ℕ → Store → Type 0
-NamesFrom base s = (n : ℕ) (c : Cell) → base ≤ n → slice_get s.cells n ≡ Some c → IsTrue (list_all (nat_le base) (parts_of c))

@@ -4,14 +4,14 @@ use Rattle.std.specs.Prelude.{IfOk, OnErr, slice_get}
 use Rattle.std.proofs.lemmas.Bool.{false≢true, and_parts}
 use Rattle.calculus.specs.declared.sort.Sort.{Sort}
 use Rattle.calculus.specs.Stores.{Cell, variable, fun_cell, eigen_cell, new_cell, string_cell, Store, parts_of, is_bound, OccursIn, here, in_part, EndsAt, stays, goes_on, Solution, Solves}
-use Rattle.calculus.specs.Bindings.{EndsIn, IsEnd, IsSound, SolvesPairs, part_pairs, are_alike, is_variable, MayBind, with_binding, BindsOnly, KeepsMarks, bind_at, bound_to, Unifies, AreApart}
+use Rattle.calculus.specs.Bindings.{EndsIn, IsEnd, IsSound, SolvesPairs, part_pairs, are_alike, is_variable, MayBind, with_binding, BindsOnly, KeepsMarks, BindsWithin, bind_at, bound_to, Unifies, AreApart}
 use Rattle.calculus.proofs.PlaceLists.{get-within}
 use Rattle.calculus.proofs.BindingLaws.{ends-once, kept, parts-within, get-bound, get-unbound, same_place, length-bind, KeepsMarks-same, KeepsMarks-both, KeepsMarks-with_binding, IsSound-with_binding}
 use Rattle.calculus.proofs.WeightLaws.{weight, weight_sum, weight_sum-none, weight_sum-more, weight_sum-append, weight-parts, weight-positive, weight-bound}
 use Rattle.calculus.proofs.SolutionLaws.{ends-same, alike-parts, SolvesPairs-join, SolvesPairs-split, Solves-bound, Solves-unbound, occurs-apart, some_solution}
 use Rattle.term_store.specs.declared.cell.Ref.{Ref}
 use Rattle.term_unify.specs.PairView.{the_pair, the_place}
-use Rattle.term_unify.specs.Steps.{AreBuilt, AddsParts, AreCells, OccursAmong, AreAllCells, SolvesAll, IsBinding}
+use Rattle.term_unify.specs.Steps.{AreBuilt, AddsParts, AreCells, OccursAmong, AreAllCells, SolvesAll, IsBinding, AreEnds, OccursInPairs, OccursBefore, BindsInPairs}
 
 pub map-last : {A B : Type 0} (f : A → B) (xs : List A) (x : A) → map f (xs ++ x ∷ []) ≡ map f xs ++ f x ∷ []
 map-last f [] x = refl
@@ -268,14 +268,51 @@ pair_cells-parts s [] qs h k = tt
 pair_cells-parts s (r ∷ rs) [] h k = tt
 pair_cells-parts s (r ∷ rs) (q ∷ qs) h k = (h.0, k.0, pair_cells-parts s rs qs h.1 k.1)
 
+-- ---- what occurs in pairs
+
+occurs-from_end : (s : Store) (v r e : ℕ) → EndsAt s r e → OccursIn s v e → OccursIn s v r
+occurs-from_end s v r e (stays f b) o = o
+occurs-from_end s v r e (goes_on f h) o = in_part 0 f refl (occurs-from_end s v _ e h o)
+
+pairs-split : (s : Store) (v : ℕ) (ps qs : List (ℕ × ℕ)) → OccursInPairs s v (ps ++ qs) → OccursInPairs s v ps ⊎ OccursInPairs s v qs
+pairs-split s v [] qs o = inr o
+pairs-split s v (p ∷ ps) qs (inl o) = inl (inl o)
+pairs-split s v (p ∷ ps) qs (inr o) = elim (pairs-split s v ps qs o) [ inl h ↦ inl (inr h) | inr h ↦ inr h ]
+
+pairs-front : (s : Store) (v : ℕ) (ps qs : List (ℕ × ℕ)) → OccursInPairs s v ps → OccursInPairs s v (ps ++ qs)
+pairs-front s v [] qs o = absurd o
+pairs-front s v (p ∷ ps) qs (inl o) = inl o
+pairs-front s v (p ∷ ps) qs (inr o) = inr (pairs-front s v ps qs o)
+
+pairs-back : (s : Store) (v : ℕ) (ps qs : List (ℕ × ℕ)) → OccursInPairs s v qs → OccursInPairs s v (ps ++ qs)
+pairs-back s v [] qs o = o
+pairs-back s v (p ∷ ps) qs o = inr (pairs-back s v ps qs o)
+
+-- parts of two cells
+pairs-of_parts : (s : Store) (v x y : ℕ) (c d : Cell) → slice_get s.cells x ≡ Some c → slice_get s.cells y ≡ Some d → OccursInPairs s v (part_pairs (parts_of c) (parts_of d)) → OccursIn s v x ⊎ OccursIn s v y
+pairs-of_parts s v x y c d e f o = by (parts_of c) (parts_of d) (λ i k p h. in_part i e p h) (λ i k p h. in_part i f p h) o
+  where
+    by : (rs qs : List ℕ) → ((i k : ℕ) → slice_get rs i ≡ Some k → OccursIn s v k → OccursIn s v x) → ((i k : ℕ) → slice_get qs i ≡ Some k → OccursIn s v k → OccursIn s v y) → OccursInPairs s v (part_pairs rs qs) → OccursIn s v x ⊎ OccursIn s v y
+    by [] qs g h o = absurd o
+    by (r ∷ rs) [] g h o = absurd o
+    by (r ∷ rs) (q ∷ qs) g h (inl (inl o)) = inl (g 0 r refl o)
+    by (r ∷ rs) (q ∷ qs) g h (inl (inr o)) = inr (h 0 q refl o)
+    by (r ∷ rs) (q ∷ qs) g h (inr o) = by rs qs (λ i k. g (suc i) k) (λ i k. h (suc i) k) o
+
 -- the pairs that are left have the solutions of the first ones
 pub record ComesTo (s : Store) (first left : List (ℕ × ℕ)) : Type 0 where
   pub cells : AreCells s left
   pub down : (σ : Solution) → Solves s σ → SolvesPairs σ first → SolvesPairs σ left
   pub up : (σ : Solution) → Solves s σ → SolvesPairs σ left → SolvesPairs σ first
+  pub occurs : OccursBefore s first left
 
 pub comes-first : (s : Store) (ps : List (ℕ × ℕ)) → AreCells s ps → ComesTo s ps ps
-comes-first s ps h = record { cells = h; down = λ σ k p. p; up = λ σ k p. p }
+comes-first s ps h = record { cells = h; down = λ σ k p. p; up = λ σ k p. p; occurs = λ v o. o }
+
+-- in the pairs before the last one, and in the last one
+comes-occurs : (s : Store) (first left rest : List (ℕ × ℕ)) (a b : ℕ) → ComesTo s first left → left ≡ rest ++ (a, b) ∷ [] → (v : ℕ) → OccursInPairs s v rest ⊎ (OccursIn s v a ⊎ OccursIn s v b) → OccursInPairs s v first
+comes-occurs s first left rest a b w e v (inl o) = w.occurs v (subst (OccursInPairs s v) (sym e) (pairs-front s v rest ((a, b) ∷ []) o))
+comes-occurs s first left rest a b w e v (inr o) = w.occurs v (subst (OccursInPairs s v) (sym e) (pairs-back s v rest ((a, b) ∷ []) (inl o)))
 
 pub comes-pair : (s : Store) (first left rest : List (ℕ × ℕ)) (a b : ℕ) → ComesTo s first left → left ≡ rest ++ (a, b) ∷ [] → (a < length s.cells) × (b < length s.cells)
 comes-pair s first left rest a b w e = let h = (pair_cells-split s rest ((a, b) ∷ []) (subst (AreCells s) e w.cells)).1 in (h.0, h.1)
@@ -291,6 +328,7 @@ comes-same s first left rest a b w e q = record {
   cells = (pair_cells-split s rest ((a, b) ∷ []) (subst (AreCells s) e w.cells)).0;
   down = λ σ h p. (comes-split s first left rest a b w e σ h p).0;
   up = λ σ h p. comes-join s first left rest a b w e σ h p (q σ h);
+  occurs = λ v o. comes-occurs s first left rest a b w e v (inl o);
 }
 
 pub comes-apart : (s : Store) (first left rest : List (ℕ × ℕ)) (a b : ℕ) → ComesTo s first left → left ≡ rest ++ (a, b) ∷ [] → ((σ : Solution) → Solves s σ → ¬ (σ a ≡ σ b)) → (σ : Solution) → Solves s σ → ¬ SolvesPairs σ first
@@ -299,6 +337,14 @@ comes-apart s first left rest a b w e q σ h p = q σ h (comes-split s first lef
 pub comes-binding : (s : Store) (first left rest : List (ℕ × ℕ)) (a b v r : ℕ) → ComesTo s first left → left ≡ rest ++ (a, b) ∷ [] → ((σ : Solution) → Solves s σ → (σ a ≡ σ b → σ v ≡ σ r) × (σ v ≡ σ r → σ a ≡ σ b)) → (σ : Solution) → Solves s σ → (SolvesPairs σ first → (σ v ≡ σ r) × SolvesPairs σ rest) × ((σ v ≡ σ r) × SolvesPairs σ rest → SolvesPairs σ first)
 comes-binding s first left rest a b v r w e q σ h =
     (λ p. let z = comes-split s first left rest a b w e σ h p in ((q σ h).0 z.1, z.0), λ p. comes-join s first left rest a b w e σ h p.1 ((q σ h).1 p.0))
+
+-- what is to be bound occurs in the pairs
+pub comes-ends : (s : Store) (first left rest : List (ℕ × ℕ)) (a b v r : ℕ) → ComesTo s first left → left ≡ rest ++ (a, b) ∷ [] → AreEnds s a b v r → OccursBefore s first ((v, r) ∷ rest)
+comes-ends s first left rest a b v r w e h k (inr o) = comes-occurs s first left rest a b w e k (inl o)
+comes-ends s first left rest a b v r w e (inl (f, g)) k (inl (inl o)) = comes-occurs s first left rest a b w e k (inr (inl (occurs-from_end s k a v f o)))
+comes-ends s first left rest a b v r w e (inl (f, g)) k (inl (inr o)) = comes-occurs s first left rest a b w e k (inr (inr (occurs-from_end s k b r g o)))
+comes-ends s first left rest a b v r w e (inr (f, g)) k (inl (inl o)) = comes-occurs s first left rest a b w e k (inr (inr (occurs-from_end s k b v f o)))
+comes-ends s first left rest a b v r w e (inr (f, g)) k (inl (inr o)) = comes-occurs s first left rest a b w e k (inr (inl (occurs-from_end s k a r g o)))
 
 pub comes-rest : (s : Store) (first left rest : List (ℕ × ℕ)) (a b : ℕ) → ComesTo s first left → left ≡ rest ++ (a, b) ∷ [] → AreCells s rest
 comes-rest s first left rest a b w e = (pair_cells-split s rest ((a, b) ∷ []) (subst (AreCells s) e w.cells)).0
@@ -316,6 +362,10 @@ comes-parts s first left rest more a b x y sound w e (u, f, g) added =
           let z = SolvesPairs-split σ rest (part_pairs (parts_of u.left) (parts_of u.right)) (subst (SolvesPairs σ) m p) in
           let q = (alike-parts s σ x y u.left u.right h u.left_at u.right_at u.alike).1 z.1 in
           comes-join s first left rest a b w e σ h z.0 (ends-same s σ a x h f ∙ q ∙ sym (ends-same s σ b y h g));
+      occurs = λ v o. comes-occurs s first left rest a b w e v (elim (pairs-split s v rest (part_pairs (parts_of u.left) (parts_of u.right)) (subst (OccursInPairs s v) m o)) [
+        | inl h ↦ inl h
+        | inr h ↦ elim (pairs-of_parts s v x y u.left u.right u.left_at u.right_at h) [ inl p ↦ inr (inl (occurs-from_end s v a x f p)) | inr p ↦ inr (inr (occurs-from_end s v b y g p)) ]
+      ]);
     }
 
 pub pairs-less : (s : Store) (left rest : List (ℕ × ℕ)) (a b : ℕ) → left ≡ rest ++ (a, b) ∷ [] → pairs_weight s rest < pairs_weight s left
@@ -391,12 +441,34 @@ pub record Unified (s t : Store) (first left : List (ℕ × ℕ)) : Type 0 where
   pub marks : KeepsMarks s t
   pub binds : BindsOnly s t
   pub sound : IsSound t
+  pub occurs : (v : ℕ) → OccursInPairs t v left → OccursInPairs s v first
+  pub within : BindsInPairs first s t
 
 pub unified-first : (s : Store) (ps : List (ℕ × ℕ)) → AreCells s ps → IsSound s → Unified s s ps ps
-unified-first s ps h w = record { cells = h; down = λ σ h p. (h, p); up = λ σ h p. (h, p); marks = KeepsMarks-same s; binds = BindsOnly-same s; sound = w }
+unified-first s ps h w = record { cells = h; down = λ σ h p. (h, p); up = λ σ h p. (h, p); marks = KeepsMarks-same s; binds = BindsOnly-same s; sound = w; occurs = λ v o. o; within = λ v k sort e f. absurd (let q : Some (variable sort None) ≡ Some (variable sort (Some k)) = sym e ∙ f in cc q) }
 
-pub unified-binding : (s t : Store) (first left rest : List (ℕ × ℕ)) (v r : ℕ) → Unified s t first left → IsBinding t v r → ((σ : Solution) → Solves t σ → (SolvesPairs σ left → (σ v ≡ σ r) × SolvesPairs σ rest) × ((σ v ≡ σ r) × SolvesPairs σ rest → SolvesPairs σ left)) → AreCells t rest → ¬ OccursIn t v r → Unified s (with_binding v r t) first rest
-unified-binding s t first left rest v r w b h cells n = record {
+-- what occurs once v is bound to r: what occurred there or in r
+occurs-bound : (t : Store) (v r k q : ℕ) (sort : Sort) → slice_get t.cells v ≡ Some (variable sort None) → OccursIn (with_binding v r t) k q → OccursIn t k q ⊎ OccursIn t k r
+occurs-bound t v r k q sort o here = inl here
+occurs-bound t v r k q sort o (in_part i {k = j} {c = c} e p h) = elim (occurs-bound t v r k j sort o h) [
+  | inr x ↦ inr x
+  | inl x ↦ elim (same_place v q) [
+    | inl m ↦
+        let at : slice_get (bind_at v r t.cells) v ≡ Some (variable sort (Some r)) = get-bound v r t.cells ∙ ap (option_map (bound_to r)) o in
+        let is : c ≡ variable sort (Some r) = let w : Some c ≡ Some (variable sort (Some r)) = sym e ∙ sym (ap (slice_get (bind_at v r t.cells)) m) ∙ at in cc in
+        inr (subst (OccursIn t k) (bound-part sort r i j c is p) x)
+    | inr m ↦ inl (in_part i (sym (get-unbound v r q t.cells m) ∙ e) p x)
+  ]
+]
+
+pairs-bound : (t : Store) (v r k : ℕ) (sort : Sort) (ps : List (ℕ × ℕ)) → slice_get t.cells v ≡ Some (variable sort None) → OccursInPairs (with_binding v r t) k ps → OccursInPairs t k ps ⊎ OccursIn t k r
+pairs-bound t v r k sort [] o h = absurd h
+pairs-bound t v r k sort (p ∷ ps) o (inl (inl h)) = elim (occurs-bound t v r k p.0 sort o h) [ inl x ↦ inl (inl (inl x)) | inr x ↦ inr x ]
+pairs-bound t v r k sort (p ∷ ps) o (inl (inr h)) = elim (occurs-bound t v r k p.1 sort o h) [ inl x ↦ inl (inl (inr x)) | inr x ↦ inr x ]
+pairs-bound t v r k sort (p ∷ ps) o (inr h) = elim (pairs-bound t v r k sort ps o h) [ inl x ↦ inl (inr x) | inr x ↦ inr x ]
+
+pub unified-binding : (s t : Store) (first left rest : List (ℕ × ℕ)) (v r : ℕ) → Unified s t first left → IsBinding t v r → ((σ : Solution) → Solves t σ → (SolvesPairs σ left → (σ v ≡ σ r) × SolvesPairs σ rest) × ((σ v ≡ σ r) × SolvesPairs σ rest → SolvesPairs σ left)) → OccursBefore t left ((v, r) ∷ rest) → AreCells t rest → ¬ OccursIn t v r → Unified s (with_binding v r t) first rest
+unified-binding s t first left rest v r w b h before cells n = record {
   cells = pair_cells-more t (with_binding v r t) rest (length-bind v r t.cells) cells;
   down = λ σ k p.
       let a = w.down σ k p in
@@ -408,6 +480,14 @@ unified-binding s t first left rest v r w b h cells n = record {
   marks = KeepsMarks-both s t (with_binding v r t) w.marks (KeepsMarks-with_binding v r t w.sound.fits (may-bind t v r b n));
   binds = BindsOnly-both s t (with_binding v r t) w.binds (BindsOnly-with_binding v r t b.sort b.open_cell);
   sound = IsSound-with_binding v r t w.sound (may-bind t v r b n);
+  occurs = λ k o. w.occurs k (before k (elim (pairs-bound t v r k b.sort rest b.open_cell o) [ inl x ↦ inr x | inr x ↦ inl (inr x) ]));
+  within = λ x k sort e f. elim (same_place v x) [
+    | inl m ↦
+        let at : slice_get (bind_at v r t.cells) v ≡ Some (variable b.sort (Some r)) = get-bound v r t.cells ∙ ap (option_map (bound_to r)) b.open_cell in
+        let is : r ≡ k = let q : Some (variable b.sort (Some r)) ≡ Some (variable sort (Some k)) = sym at ∙ ap (slice_get (bind_at v r t.cells)) m ∙ f in cc in
+        (subst (λ z. OccursInPairs s z first) m (w.occurs v (before v (inl (inl here)))), subst (λ z. OccursInPairs s z first) is (w.occurs r (before r (inl (inr here)))))
+    | inr m ↦ w.within x k sort e (sym (get-unbound v r x t.cells m) ∙ f)
+  ];
 }
 
 pub unified-done : (s t : Store) (first left : List (ℕ × ℕ)) → Unified s t first left → ((σ : Solution) → Solves t σ → SolvesPairs σ left) → SolvesAll s t first
@@ -441,6 +521,19 @@ unifies-one s t a b ps e h w =
 
 pub apart-one : (s : Store) (a b : ℕ) (ps : List (ℕ × ℕ)) → ps ≡ (a, b) ∷ [] → ((σ : Solution) → Solves s σ → ¬ SolvesPairs σ ps) → AreApart a b s
 apart-one s a b ps e h σ k q = h σ k (subst (SolvesPairs σ) (sym e) (q, tt))
+
+-- bindings in one pair
+pub within-one : (s t : Store) (a b : ℕ) (ps : List (ℕ × ℕ)) → ps ≡ (a, b) ∷ [] → BindsInPairs ps s t → BindsWithin a b s t
+within-one s t a b ps e h = record { bound = λ v k sort f g. one v (h v k sort f g).0; target = λ v k sort f g. one k (h v k sort f g).1 }
+  where
+    one : (v : ℕ) → OccursInPairs s v ps → OccursIn s v a ⊎ OccursIn s v b
+    one v o = elim (subst (OccursInPairs s v) e o) [ inl x ↦ x | inr x ↦ absurd x ]
+
+pub within-same : (s : Store) (a b : ℕ) → BindsWithin a b s s
+within-same s a b = record { bound = λ v k sort e f. absurd (none v k sort e f); target = λ v k sort e f. absurd (none v k sort e f) }
+  where
+    none : (v k : ℕ) (sort : Sort) → slice_get s.cells v ≡ Some (variable sort None) → slice_get s.cells v ≡ Some (variable sort (Some k)) → ⊥
+    none v k sort e f = let q : Some (variable sort None) ≡ Some (variable sort (Some k)) = sym e ∙ f in cc q
 
 -- what holds whatever the answer is
 pub IfOk-always : {A E : Type 0} (r : Result A E) (P : A → Type 0) → ((x : A) → P x) → IfOk r P

@@ -1,5 +1,5 @@
 -- The steps of unification over the ground solutions of a store.
-use Rattle.std.proofs.Common.{◌≡◌, ◌==◌, ◌&&◌, None, Some, length, ℕ, Bool, true, false, refl, sym, ap, ap₂, ◌∙◌, eqb-true, eq-eqb}
+use Rattle.std.proofs.Common.{inl, inr, ◌≡◌, ◌==◌, ◌&&◌, None, Some, length, ℕ, Bool, true, false, refl, sym, ap, ap₂, ◌∙◌, eqb-true, eq-eqb}
 use Rattle.std.specs.Prelude.{slice_get}
 use Rattle.std.proofs.lemmas.Bool.{false≢true, and_parts}
 use Rattle.calculus.specs.Equality.{sort_eq}
@@ -9,7 +9,7 @@ use Rattle.calculus.proofs.BindingLaws.{ends-once, ends-there, sort_eq-same, sor
 use Rattle.calculus.proofs.SolutionLaws.{ends-same, sorts-apart, equal-alike}
 use Rattle.term_store.specs.declared.cell.Head.{Head}
 use Rattle.term_store.specs.Shown.{head_of}
-use Rattle.term_unify.specs.Steps.{head_sort, is_open_head, same_name, IsBinding, AreBuilt}
+use Rattle.term_unify.specs.Steps.{head_sort, is_open_head, same_name, IsBinding, AreBuilt, AreEnds}
 
 -- the cell at the end of bindings
 pub record Ended (s : Store) (a x : ℕ) (h : Head) : Type 0 where
@@ -71,7 +71,7 @@ built-cell c h e o = by c (ap is_open_head e ∙ o)
     by (new_cell f rs) o = refl
     by (string_cell rs) o = refl
 
-pub step-left : (s : Store) (a b x y : ℕ) (h k : Head) → Ended s a x h → Ended s b y k → ¬ (x ≡ y) → sort_eq (head_sort h) (head_sort k) ≡ true → is_open_head h ≡ true → IsBinding s x y × ((σ : Solution) → Solves s σ → (σ a ≡ σ b → σ x ≡ σ y) × (σ x ≡ σ y → σ a ≡ σ b))
+pub step-left : (s : Store) (a b x y : ℕ) (h k : Head) → Ended s a x h → Ended s b y k → ¬ (x ≡ y) → sort_eq (head_sort h) (head_sort k) ≡ true → is_open_head h ≡ true → IsBinding s x y × ((σ : Solution) → Solves s σ → (σ a ≡ σ b → σ x ≡ σ y) × (σ x ≡ σ y → σ a ≡ σ b)) × AreEnds s a b x y
 step-left s a b x y h k w u n t o =
     let same = sort_eq-true (head_sort h) (head_sort k) t in (
       record {
@@ -82,13 +82,14 @@ step-left s a b x y h k w u n t o =
         other = n;
       },
       λ σ z. both-ends s σ a b x y z w.ends u.ends,
+      inl (w.ends, u.ends),
     )
 
-pub step-right : (s : Store) (a b x y : ℕ) (h k : Head) → Ended s a x h → Ended s b y k → ¬ (x ≡ y) → sort_eq (head_sort h) (head_sort k) ≡ true → is_open_head k ≡ true → IsBinding s y x × ((σ : Solution) → Solves s σ → (σ a ≡ σ b → σ y ≡ σ x) × (σ y ≡ σ x → σ a ≡ σ b))
+pub step-right : (s : Store) (a b x y : ℕ) (h k : Head) → Ended s a x h → Ended s b y k → ¬ (x ≡ y) → sort_eq (head_sort h) (head_sort k) ≡ true → is_open_head k ≡ true → IsBinding s y x × ((σ : Solution) → Solves s σ → (σ a ≡ σ b → σ y ≡ σ x) × (σ y ≡ σ x → σ a ≡ σ b)) × AreEnds s a b y x
 step-right s a b x y h k w u n t o =
     let same = sort_eq-true (head_sort h) (head_sort k) t in
     let turned = step-left s b a y x k h u w (λ q. n (sym q)) (ap (λ z. sort_eq z (head_sort h)) (sym same) ∙ sort_eq-same (head_sort h)) o in
-    (turned.0, λ σ z. let p = turned.1 σ z in (λ q. p.0 (sym q), λ q. sym (p.1 q)))
+    (turned.0, λ σ z. let p = turned.1 σ z in (λ q. p.0 (sym q), λ q. sym (p.1 q)), inr (u.ends, w.ends))
 
 two : (p : Bool) (m n : ℕ) → (p && m == n) ≡ true → (p ≡ true) × (m ≡ n)
 two p m n h = let a = and_parts p (m == n) h in (a.0, eqb-true m n a.1)

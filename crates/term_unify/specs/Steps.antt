@@ -49,11 +49,15 @@ pub record AreBuilt (s : Store) (a b : ℕ) : Type 0 where
   pub right_at : slice_get s.cells b ≡ Some right
   pub alike : are_alike left right ≡ true
 
+-- the bindings of a and b end at these cells, in one of the two orders
+abbrev pub AreEnds : Store → ℕ → ℕ → ℕ → ℕ → Type 0
+AreEnds s a b v r = (EndsAt s a v × EndsAt s b r) ⊎ (EndsAt s b v × EndsAt s a r)
+
 -- what a pair of cells comes to
 abbrev pub IsStep : Store → ℕ → ℕ → Step → Type 0
 IsStep s a b step.Same = (σ : Solution) → Solves s σ → σ a ≡ σ b
 IsStep s a b step.Apart = (σ : Solution) → Solves s σ → ¬ (σ a ≡ σ b)
-IsStep s a b (step.Bind v r) = IsBinding s v.0 r.0 × ((σ : Solution) → Solves s σ → (σ a ≡ σ b → σ v.0 ≡ σ r.0) × (σ v.0 ≡ σ r.0 → σ a ≡ σ b))
+IsStep s a b (step.Bind v r) = IsBinding s v.0 r.0 × ((σ : Solution) → Solves s σ → (σ a ≡ σ b → σ v.0 ≡ σ r.0) × (σ v.0 ≡ σ r.0 → σ a ≡ σ b)) × AreEnds s a b v.0 r.0
 IsStep s a b (step.Parts c d) = AreBuilt s c.0 d.0 × EndsAt s a c.0 × EndsAt s b d.0
 
 -- the pairs of the parts of a and b came to the others
@@ -65,11 +69,24 @@ abbrev pub AreCells : Store → List (ℕ × ℕ) → Type 0
 AreCells s [] = Unit {0}
 AreCells s (p ∷ ps) = (p.0 < length s.cells) × (p.1 < length s.cells) × AreCells s ps
 
+-- v occurs in a side of one of the pairs
+abbrev pub OccursInPairs : Store → ℕ → List (ℕ × ℕ) → Type 0
+OccursInPairs s v [] = ⊥
+OccursInPairs s v (p ∷ ps) = (OccursIn s v p.0 ⊎ OccursIn s v p.1) ⊎ OccursInPairs s v ps
+
+-- what occurs in the pairs that are left occurs in the first ones
+abbrev pub OccursBefore : Store → List (ℕ × ℕ) → List (ℕ × ℕ) → Type 0
+OccursBefore s first left = (v : ℕ) → OccursInPairs s v left → OccursInPairs s v first
+
+-- what was bound occurs in the pairs, and so does what it was bound to
+abbrev pub BindsInPairs : List (ℕ × ℕ) → Store → Store → Type 0
+BindsInPairs ps before after = (v k : ℕ) (sort : Sort) → slice_get before.cells v ≡ Some (variable sort None) → slice_get after.cells v ≡ Some (variable sort (Some k)) → OccursInPairs before v ps × OccursInPairs before k ps
+
 -- what pairs come to: each solution solves them, none does, or those do that make v and r equal and solve the other pairs
 abbrev pub IsNext : Store → List (ℕ × ℕ) → List (ℕ × ℕ) → Next → Type 0
 IsNext s ps qs next.Done = (σ : Solution) → Solves s σ → SolvesPairs σ ps
 IsNext s ps qs next.Apart = (σ : Solution) → Solves s σ → ¬ SolvesPairs σ ps
-IsNext s ps qs (next.Bind v r) = IsBinding s v.0 r.0 × ((σ : Solution) → Solves s σ → (SolvesPairs σ ps → (σ v.0 ≡ σ r.0) × SolvesPairs σ qs) × ((σ v.0 ≡ σ r.0) × SolvesPairs σ qs → SolvesPairs σ ps))
+IsNext s ps qs (next.Bind v r) = IsBinding s v.0 r.0 × ((σ : Solution) → Solves s σ → (SolvesPairs σ ps → (σ v.0 ≡ σ r.0) × SolvesPairs σ qs) × ((σ v.0 ≡ σ r.0) × SolvesPairs σ qs → SolvesPairs σ ps)) × OccursBefore s ps ((v.0, r.0) ∷ qs)
 
 -- v occurs in one of the cells
 abbrev pub OccursAmong : Store → ℕ → List ℕ → Type 0

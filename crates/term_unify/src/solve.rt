@@ -1,11 +1,11 @@
 //! Unification.
 
 ghost use Rattle.std.specs.Prelude.{◌≡◌, ◌<◌, ◌≤◌, IfOk, OnErr, OnOk, false, length, map, true};
-ghost use Rattle.calculus.specs.Bindings.{AreApart, BindsOnly, IsSound, KeepsMarks, SolvesPairs, Unifies};
+ghost use Rattle.calculus.specs.Bindings.{AreApart, BindsOnly, BindsWithin, IsSound, KeepsMarks, SolvesPairs, Unifies};
 ghost use Rattle.calculus.specs.Stores.{Solution, Solves};
 ghost use Rattle.term_store.specs.Room.{KeepsRoom};
 ghost use Rattle.term_unify.specs.PairView.{the_pair};
-ghost use Rattle.term_unify.specs.Steps.{AreCells, IsNext, SolvesAll};
+ghost use Rattle.term_unify.specs.Steps.{AreCells, BindsInPairs, IsNext, SolvesAll};
 
 use crate::check::occurs;
 use crate::compare::{Step, compare, push_parts};
@@ -49,6 +49,7 @@ fn solve_pairs(
     ensures apart { IfOk result (λ equal. equal ≡ false → (σ : Solution) → Solves store.old.store σ → ¬ SolvesPairs σ (map the_pair pairs.old.items)) }
     ensures marks { KeepsMarks store.old.store store.new.store }
     ensures binds { BindsOnly store.old.store store.new.store }
+    ensures within { BindsInPairs (map the_pair pairs.old.items) store.old.store store.new.store }
     ensures room { KeepsRoom store.old store.new }
     ensures well { IsSound store.new.store }
 {
@@ -96,6 +97,7 @@ impl Unifier {
         ensures no_memory { OnErr result (store.new.store ≡ store.old.store) }
         ensures marks { KeepsMarks store.old.store store.new.store }
         ensures binds { BindsOnly store.old.store store.new.store }
+        ensures within { BindsWithin a.0 b.0 store.old.store store.new.store }
         ensures room { KeepsRoom store.old store.new }
     {
         let start = store.mark();
@@ -120,6 +122,7 @@ pub fn unify(alloc: Global, store: &mut Store, a: Ref, b: Ref) -> Result<bool, N
     ensures no_memory { OnErr result (store.new.store ≡ store.old.store) }
     ensures marks { KeepsMarks store.old.store store.new.store }
     ensures binds { BindsOnly store.old.store store.new.store }
+    ensures within { BindsWithin a.0 b.0 store.old.store store.new.store }
     ensures room { KeepsRoom store.old store.new }
 {
     Unifier::new(alloc).unify(store, a, b)

@@ -1,6 +1,6 @@
 use Rattle.std.proofs.Common.{◌∙◌, ap, map}
 use Rattle.term_unify.specs.PairView.{the_pair}
-use Rattle.term_unify.proofs.PairLaws.{comes-apart, comes-binding, comes-pair, comes-parts, comes-rest, comes-same, map-last, pairs-less, parts-less}
+use Rattle.term_unify.proofs.PairLaws.{comes-apart, comes-binding, comes-ends, comes-pair, comes-parts, comes-rest, comes-same, map-last, pairs-less, parts-less}
 use Rattle.term_unify.proofs.solve.next_binding.Goals as goal
 
 pub compare-requires-clause-left : goal.compare-requires-clause-left
@@ -22,7 +22,11 @@ pub returns-in-Apart-clause-cells : goal.returns-in-Apart-clause-cells
 returns-in-Apart-clause-cells c = comes-rest c.args.store.now.store (map the_pair c.args.pairs.now.items) (map the_pair c.loop-a.pairs.items) (map the_pair c.pop.new.self.items) c.in-Some.a.0 c.in-Some.b.0 c.loop-a.invariant (ap (map the_pair) c.in-Some.ensures.items ∙ map-last the_pair c.pop.new.self.items (c.in-Some.a, c.in-Some.b))
 
 pub returns-in-Bind-clause-next : goal.returns-in-Bind-clause-next
-returns-in-Bind-clause-next c = (c.in-Bind.ensures.step.0, comes-binding c.args.store.now.store (map the_pair c.args.pairs.now.items) (map the_pair c.loop-a.pairs.items) (map the_pair c.pop.new.self.items) c.in-Some.a.0 c.in-Some.b.0 c.in-Bind.v.0 c.in-Bind.to.0 c.loop-a.invariant (ap (map the_pair) c.in-Some.ensures.items ∙ map-last the_pair c.pop.new.self.items (c.in-Some.a, c.in-Some.b)) c.in-Bind.ensures.step.1)
+returns-in-Bind-clause-next c = (
+  c.in-Bind.ensures.step.0,
+  comes-binding c.args.store.now.store (map the_pair c.args.pairs.now.items) (map the_pair c.loop-a.pairs.items) (map the_pair c.pop.new.self.items) c.in-Some.a.0 c.in-Some.b.0 c.in-Bind.v.0 c.in-Bind.to.0 c.loop-a.invariant (ap (map the_pair) c.in-Some.ensures.items ∙ map-last the_pair c.pop.new.self.items (c.in-Some.a, c.in-Some.b)) c.in-Bind.ensures.step.1,
+  comes-ends c.args.store.now.store (map the_pair c.args.pairs.now.items) (map the_pair c.loop-a.pairs.items) (map the_pair c.pop.new.self.items) c.in-Some.a.0 c.in-Some.b.0 c.in-Bind.v.0 c.in-Bind.to.0 c.loop-a.invariant (ap (map the_pair) c.in-Some.ensures.items ∙ map-last the_pair c.pop.new.self.items (c.in-Some.a, c.in-Some.b)) c.in-Bind.ensures.step.2,
+)
 
 pub returns-in-Bind-clause-cells : goal.returns-in-Bind-clause-cells
 returns-in-Bind-clause-cells c = comes-rest c.args.store.now.store (map the_pair c.args.pairs.now.items) (map the_pair c.loop-a.pairs.items) (map the_pair c.pop.new.self.items) c.in-Some.a.0 c.in-Some.b.0 c.loop-a.invariant (ap (map the_pair) c.in-Some.ensures.items ∙ map-last the_pair c.pop.new.self.items (c.in-Some.a, c.in-Some.b))

@@ -27,6 +27,6 @@ loop-v-preserved c =
     let before = c.loop-v.invariant.room in
     record {
       unified = subst (λ s. Unified c.args.store.now.store s (map the_pair c.args.pairs.now.items) (map the_pair c.next_binding.new.pairs.items)) (sym after)
-          (unified-binding c.args.store.now.store c.loop-v.store.store (map the_pair c.args.pairs.now.items) (map the_pair c.loop-v.pairs.items) (map the_pair c.next_binding.new.pairs.items) c.in-Bind.v.0 c.in-Bind.to.0 c.loop-v.invariant.unified b.0 b.1 c.in_ok-next_binding.ensures.cells (c.in_ok-occurs-in-Bind.ensures.no c.if-branch.false));
+          (unified-binding c.args.store.now.store c.loop-v.store.store (map the_pair c.args.pairs.now.items) (map the_pair c.loop-v.pairs.items) (map the_pair c.next_binding.new.pairs.items) c.in-Bind.v.0 c.in-Bind.to.0 c.loop-v.invariant.unified b.0 b.1 b.2 c.in_ok-next_binding.ensures.cells (c.in_ok-occurs-in-Bind.ensures.no c.if-branch.false));
       room = (omega arith, omega arith);
     }

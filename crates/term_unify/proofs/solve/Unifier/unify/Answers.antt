@@ -1,9 +1,9 @@
 use Rattle.std.proofs.Common.{◌≡◌, ◌++◌, ◌∷◌, [], ◌∙◌, ap, map, subst, sym, false}
-use Rattle.calculus.specs.Bindings.{BindsOnly, KeepsMarks}
+use Rattle.calculus.specs.Bindings.{BindsOnly, BindsWithin, KeepsMarks}
 use Rattle.calculus.proofs.BindingLaws.{KeepsMarks-same}
 use Rattle.term_store.specs.StoreView.{the_mark}
 use Rattle.term_unify.specs.PairView.{the_pair}
-use Rattle.term_unify.proofs.PairLaws.{BindsOnly-same, IfOk-always, OnErr-always, unifies-one}
+use Rattle.term_unify.proofs.PairLaws.{BindsOnly-same, IfOk-always, OnErr-always, unifies-one, within-one, within-same}
 use Rattle.term_unify.proofs.solve.Unifier.unify.Goals as goal
 
 pub returns-in-Ok-true-clause-unifies : goal.returns-in-Ok-true-clause-unifies
@@ -33,3 +33,13 @@ pub returns-clause-binds : goal.returns-clause-binds
 returns-clause-binds c =
     let back = c.undo.ensures.store ∙ (c.solve_pairs-answer.ensures.marks (the_mark c.mark-start.result) c.mark-start.ensures.good).1 ∙ c.mark-start.ensures.whole in
     subst (BindsOnly c.args.store.now.store) (sym back) (BindsOnly-same c.args.store.now.store)
+
+pub returns-in-Ok-true-clause-within : goal.returns-in-Ok-true-clause-within
+returns-in-Ok-true-clause-within c =
+    within-one c.args.store.now.store c.solve_pairs-answer.new.store.store c.args.a.0 c.args.b.0 (map the_pair c.push.new.self.items)
+    (ap (map the_pair) (c.in_ok-push.ensures.items ∙ ap (λ xs. xs ++ (c.args.a, c.args.b) ∷ []) c.clear.ensures.items)) c.solve_pairs-answer.ensures.within
+
+pub returns-clause-within : goal.returns-clause-within
+returns-clause-within c =
+    let back = c.undo.ensures.store ∙ (c.solve_pairs-answer.ensures.marks (the_mark c.mark-start.result) c.mark-start.ensures.good).1 ∙ c.mark-start.ensures.whole in
+    subst (BindsWithin c.args.a.0 c.args.b.0 c.args.store.now.store) (sym back) (within-same c.args.store.now.store c.args.a.0 c.args.b.0)
