@@ -12,11 +12,11 @@ use Rattle.calculus.proofs.SelectionLaws.{selections-rise}
 use Rattle.calculus.specs.Patterns.{Template}
 use Rattle.calculus.specs.Templates.{IsTemplateOf}
 use Rattle.connection_search.specs.TemplateOf.{template_of}
-use Rattle.connection_search.specs.Matrix.{MatrixClause, IsTemplateMatrix}
+use Rattle.connection_search.specs.Matrix.{MatrixClause, IsTemplateMatrix, all_shown}
 use Rattle.connection_search.specs.Exploring.{behind, IsIn}
 use Rattle.connection_search.specs.Searching.{IsSearch}
 use Rattle.connection_search.proofs.TemplateLaws.{template_of-right}
-use Rattle.connection_search.proofs.StepLaws.{shows_all, no-start}
+use Rattle.connection_search.proofs.StepLaws.{no-start}
 use Rattle.connection_search.proofs.BeginningLaws.{IsDead, refused}
 use Rattle.connection_search.proofs.NextLaws.{selection-in}
 use Rattle.connection_search.proofs.DeepenLaws.{starting}
@@ -40,5 +40,5 @@ pub search-start_all : (P : Problem) (d : ℕ) → IsSearch P d [] (behind [] (s
 search-start_all P d = search-start P d (selections P.formula F) (selections-rise P.formula F) (λ ss (i, e, h, s). contained-in (selections P.formula F) ss (subst (Contains (selections P.formula F)) e (selection-in P i h)))
 
 -- a clause with a literal of sign T is a dead end as a start
-pub dead-start : (P : Problem) (sides : List Side) (t : Template) → IsTemplateOf P sides t → shows_all t ≡ false → IsDead P (start sides ∷ [])
+pub dead-start : (P : Problem) (sides : List Side) (t : Template) → IsTemplateOf P sides t → all_shown t ≡ false → IsDead P (start sides ∷ [])
 dead-start P sides t h n = refused (no-start P sides t h n)

@@ -14,6 +14,7 @@ use Rattle.calculus.specs.Choices.{start, reduction, extension, Choice, GroundCh
 use Rattle.calculus.specs.Stores.{Store, Solution, Solves, names_below}
 use Rattle.calculus.specs.Patterns.{PatternAtom, Template}
 use Rattle.calculus.specs.Templates.{pattern_literal, literals_by, have_sorts, is_choice_of_values, clause_by, IsTemplateOf}
+use Rattle.connection_search.specs.Matrix.{all_shown}
 use Rattle.connection_search.specs.States.{CellClause, CellChoice, State, values_by, literal_by, clause_at, choice_at, growth_at, cell_goals_on, started, atom_is_below, clause_is_below, choice_is_below, goal_is_below, IsAdmittedAt, IsGround, IsStateOf, Agree}
 use Rattle.connection_search.specs.Steps.{IsCopy}
 use Rattle.connection_search.proofs.LastChoice.{none≢some}
@@ -104,10 +105,7 @@ grows-live P d c (gs, f) = by (growth_of P gs) refl f.grows
 abbrev pub start_state : Store → CellClause → State
 start_state s i = record { store = s; choices = start i ∷ []; growth = started i }
 
-abbrev pub shows_all : Template → Bool
-shows_all t = list_all (λ (a : PatternAtom). sign_eq a.sign F) t.literals
-
-shown-literals : (t : Template) (vs : List Value) → list_all is_shown (literals_by vs t) ≡ shows_all t
+shown-literals : (t : Template) (vs : List Value) → list_all is_shown (literals_by vs t) ≡ all_shown t
 shown-literals t vs = all-map (pattern_literal vs) is_shown t.literals
 
 -- the parts of a list with one start
@@ -126,7 +124,7 @@ one-start P sides (start j ∷ h ∷ hs) x e g = cc e
 one-start P sides (reduction up ∷ gs) x e g = none≢some x g
 one-start P sides (extension j place ∷ gs) x e g = none≢some x g
 
-pub state-started : (P : Problem) (d : ℕ) (sides : List Side) (t : Template) (old new : Store) (i : CellClause) (σ₀ : Solution) → IsTemplateOf P sides t → IsTrue (shows_all t) → IsCopy old new sides t i → Solves old σ₀ → IsStateOf P d (start sides ∷ []) (start_state new i)
+pub state-started : (P : Problem) (d : ℕ) (sides : List Side) (t : Template) (old new : Store) (i : CellClause) (σ₀ : Solution) → IsTemplateOf P sides t → IsTrue (all_shown t) → IsCopy old new sides t i → Solves old σ₀ → IsStateOf P d (start sides ∷ []) (start_state new i)
 state-started P d sides t old new i σ₀ h shown k s₀ = record {
   names = ap (λ ss. start ss ∷ []) k.selection;
   within = refl;
@@ -151,7 +149,7 @@ state-started P d sides t old new i σ₀ h shown k s₀ = record {
     goals = goals-below (length new.cells) [] i.literals refl (and_parts (names_below (length new.cells) i.values) (list_all (atom_is_below (length new.cells)) i.literals) k.names).1
 
 -- a clause with a literal of sign T starts no tree
-pub no-start : (P : Problem) (sides : List Side) (t : Template) → IsTemplateOf P sides t → shows_all t ≡ false → ¬ Grows P (start sides ∷ [])
+pub no-start : (P : Problem) (sides : List Side) (t : Template) → IsTemplateOf P sides t → all_shown t ≡ false → ¬ Grows P (start sides ∷ [])
 no-start P sides t h not_shown (gs, x, e, g) =
     let (j, is, selected, inst, all_shown) = one-start P sides gs x e g in
     let m = by-template P sides t h j selected inst in

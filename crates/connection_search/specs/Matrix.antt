@@ -1,6 +1,6 @@
 -- The matrix of a first-order problem as the search has it, and its index by symbol and sign.
 use Rattle.std.specs.Prelude.{◌≡◌, ℕ, suc, List, [], ◌∷◌, ◌++◌, map, Bool, ◌&&◌, ◌==◌, if◌then◌else◌}
-use Rattle.std.specs.List.{AllByRecursion}
+use Rattle.std.specs.List.{list_all, AllByRecursion}
 use Rattle.calculus.specs.declared.sign.Sign.{Sign}
 use Rattle.calculus.specs.declared.sign.Sign.TheVariants.{F}
 use Rattle.calculus.specs.declared.sign.Side.{Side}
@@ -19,6 +19,10 @@ pub record MatrixClause : Type 0 where
 pub record IsTemplateMatrix (P : Problem) (m : List MatrixClause) : Type 0 where
   pub in_order : map (λ (c : MatrixClause). c.selection) m ≡ selections P.formula F
   pub templates : AllByRecursion (λ (c : MatrixClause). IsTemplateOf P c.selection c.template) m
+
+-- all literals of the clause have sign F: it may be the start of a tableau
+abbrev pub all_shown : Template → Bool
+all_shown t = list_all (λ (a : PatternAtom). sign_eq a.sign F) t.literals
 
 -- a literal of the matrix, by its clause and its place there
 pub record MatrixPlace : Type 0 where
