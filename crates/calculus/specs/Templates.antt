@@ -12,7 +12,7 @@ use Rattle.calculus.specs.Skolem.{is_admitted_value}
 use Rattle.calculus.specs.Instances.{GammaUse, ClauseInstance}
 use Rattle.calculus.specs.ComputedInstances.{Part, instance_of, is_instance}
 use Rattle.calculus.specs.Stores.{CellValue, a_term, a_mark, a_string}
-use Rattle.calculus.specs.Systems.{is_step_length}
+use Rattle.calculus.specs.Labels.{is_step_length}
 use Rattle.calculus.specs.Patterns.{Pattern, Patterns, p_var, p_fun, p_eigen, p_new, no_patterns, more_patterns, patterns_tree, PatternAtom, PatternGamma, Template, template_fits}
 
 -- ---- what patterns stand for

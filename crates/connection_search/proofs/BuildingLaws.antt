@@ -12,9 +12,10 @@ use Rattle.calculus.specs.Stores.{Cell, variable, fun_cell, eigen_cell, new_cell
 use Rattle.calculus.specs.Systems.{CellAtom}
 use Rattle.calculus.specs.Patterns.{Pattern, Patterns, p_var, p_fun, p_eigen, p_new, no_patterns, more_patterns, patterns_tree, PatternAtom, Template}
 use Rattle.calculus.specs.Templates.{as_term, as_value, as_label, cell_value, value_of_variable, pattern_value, pattern_terms, pattern_values, pattern_label, pattern_literal, has_value_sort, have_sorts}
+use Rattle.calculus.specs.Bindings.{with_cell, is_variable}
 use Rattle.connection_search.specs.States.{CellClause, clause_is_below, terms_by, label_by, values_by, literal_by, Agree}
 use Rattle.connection_search.specs.Steps.{IsCopy, IsHeadCopy, IsRestCopy}
-use Rattle.connection_search.specs.Building.{plus_cell, plus_variables, places_of, is_built, AddsBuilt, nothing_more, one_more, IsBuilt, AreBuilt, IsBuiltAtom, AreBuiltAtoms}
+use Rattle.connection_search.specs.Building.{plus_variables, places_of, AddsBuilt, nothing_more, one_more, IsBuilt, AreBuilt, IsBuiltAtom, AreBuiltAtoms}
 use Rattle.connection_search.proofs.BelowLaws.{all-weaken}
 use Rattle.connection_search.proofs.SpareLaws.{IsPart, own_cell, cell-fits, cell-sorted, all-at, terms-there, values-there, marks-there, cell-alike, sort-same, or-both}
 use Rattle.connection_search.proofs.GeneralLaws.{term-parts}
@@ -97,8 +98,8 @@ holds-moved σ τ n (new_cell p rs) e h k = (k.0, sym (values-moved σ τ rs h) 
 holds-moved σ τ n (string_cell rs) e h k = (k.0, sym (marks-moved σ τ rs h) ∙ k.1, sym e ∙ k.2)
 
 -- a built cell holds the value that is built from its parts
-built-holds : (s : Store) (σ : Solution) (n : ℕ) (c : Cell) → Solves s σ → IsTrue (parts_fit s c) → IsTrue (is_built c) → σ n ≡ own_cell σ n c → CellHolds σ n c
-built-holds s σ n (variable sort b) h f k e = absurd (false≢true k)
+built-holds : (s : Store) (σ : Solution) (n : ℕ) (c : Cell) → Solves s σ → IsTrue (parts_fit s c) → is_variable c ≡ false → σ n ≡ own_cell σ n c → CellHolds σ n c
+built-holds s σ n (variable sort b) h f k e = absurd (false≢true (sym k))
 built-holds s σ n (fun_cell g rs) h f k e = (terms_by σ rs, terms-there σ rs (all-weaken (has_sort_at s TermSort) (λ x. has_sort TermSort (σ x)) (solved-sorted s σ h TermSort) rs f), e)
 built-holds s σ n (eigen_cell p rs) h f k e = (values_tree (values_by σ rs), values-there σ rs (all-weaken (has_value_sort_at s) (λ x. has_sort TermSort (σ x) || has_sort StringSort (σ x)) (solved-valued s σ h) rs f), e)
 built-holds s σ n (new_cell p rs) h f k e = (values_tree (values_by σ rs), values-there σ rs (all-weaken (has_value_sort_at s) (λ x. has_sort TermSort (σ x) || has_sort StringSort (σ x)) (solved-valued s σ h) rs f), e)
@@ -123,14 +124,14 @@ pub agree-put : (n : ℕ) (v : CellValue) (σ : Solution) → Agree n σ (put n 
 agree-put n v σ r l = sym (put-other n v σ r (ltb-true r n l))
 
 -- one variable more
-pub variable-added : (s : Store) → IsTrue (is_store s) → (sort : Sort) (v : CellValue) → IsTrue (has_sort sort v) → (σ : Solution) → Solves s σ → Solves (plus_cell (variable sort None) s) (put (length s.cells) v σ)
+pub variable-added : (s : Store) → IsTrue (is_store s) → (sort : Sort) (v : CellValue) → IsTrue (has_sort sort v) → (σ : Solution) → Solves s σ → Solves (with_cell (variable sort None) s) (put (length s.cells) v σ)
 variable-added s h sort v t σ k r c e = elim (get-more s.cells (variable sort None) r c e) [
   | inl old ↦ old-hold s h σ k v r c old
   | inr new ↦ (let at : put (length s.cells) v σ r ≡ v = ap (put (length s.cells) v σ) new.0 ∙ put-here (length s.cells) v σ in subst (CellHolds (put (length s.cells) v σ) r) new.1 (subst (λ x. IsTrue (has_sort sort x)) (sym at) t))
 ]
 
 -- one built cell more
-pub built-added : (s : Store) → IsTrue (is_store s) → (c : Cell) → IsTrue (parts_fit s c) → IsTrue (is_built c) → (σ : Solution) → Solves s σ → Solves (plus_cell c s) (put (length s.cells) (own_cell σ (length s.cells) c) σ)
+pub built-added : (s : Store) → IsTrue (is_store s) → (c : Cell) → IsTrue (parts_fit s c) → is_variable c ≡ false → (σ : Solution) → Solves s σ → Solves (with_cell c s) (put (length s.cells) (own_cell σ (length s.cells) c) σ)
 built-added s h c f b σ k r d e =
     let n = length s.cells in
     let v = own_cell σ n c in
@@ -144,7 +145,7 @@ built-added s h c f b σ k r d e =
     ]
 
 -- fewer cells are solved by what solves more
-pub fewer-solved : (s : Store) (c : Cell) (σ : Solution) → Solves (plus_cell c s) σ → Solves s σ
+pub fewer-solved : (s : Store) (c : Cell) (σ : Solution) → Solves (with_cell c s) σ → Solves s σ
 fewer-solved s c σ h r d e = h r d (get-kept s.cells (c ∷ []) r d e)
 
 -- ---- built cells, one by one
@@ -152,39 +153,39 @@ fewer-solved s c σ h r d e = h r d (get-kept s.cells (c ∷ []) r d e)
 pub agree-both : (m n : ℕ) (σ τ ρ : Solution) → m ≤ n → Agree m σ τ → Agree n τ ρ → Agree m σ ρ
 agree-both m n σ τ ρ l a b r k = a r k ∙ b r (let q : r < m = ltb-true r m k in lt-ltb r n (omega (arith, q, l)))
 
-pub length-plus : (c : Cell) (s : Store) → length (plus_cell c s).cells ≡ length s.cells + 1
+pub length-plus : (c : Cell) (s : Store) → length (with_cell c s).cells ≡ length s.cells + 1
 length-plus c s = length-append s.cells (c ∷ [])
 
 pub adds-longer : (s t : Store) → AddsBuilt s t → length s.cells ≤ length t.cells
 adds-longer s t nothing_more = omega arith
-adds-longer s t (one_more c h f b more) = let l = adds-longer (plus_cell c s) t more in let e = length-plus c s in omega (arith, l, e)
+adds-longer s t (one_more c h f b more) = let l = adds-longer (with_cell c s) t more in let e = length-plus c s in omega (arith, l, e)
 
 pub adds-back : (s t : Store) → AddsBuilt s t → (σ : Solution) → Solves t σ → Solves s σ
 adds-back s t nothing_more σ h = h
-adds-back s t (one_more c i f b more) σ h = fewer-solved s c σ (adds-back (plus_cell c s) t more σ h)
+adds-back s t (one_more c i f b more) σ h = fewer-solved s c σ (adds-back (with_cell c s) t more σ h)
 
 pub adds-forth : (s t : Store) → AddsBuilt s t → (σ : Solution) → Solves s σ → (τ : Solution) × Solves t τ × Agree (length s.cells) σ τ
 adds-forth s t nothing_more σ h = (σ, h, λ r l. refl)
 adds-forth s t (one_more c i f b more) σ h =
     let n = length s.cells in
     let v = own_cell σ n c in
-    let (τ, k, a) = adds-forth (plus_cell c s) t more (put n v σ) (built-added s i c f b σ h) in
-    (τ, k, agree-both n (length (plus_cell c s).cells) σ (put n v σ) τ (let e = length-plus c s in omega (arith, e)) (agree-put n v σ) a)
+    let (τ, k, a) = adds-forth (with_cell c s) t more (put n v σ) (built-added s i c f b σ h) in
+    (τ, k, agree-both n (length (with_cell c s).cells) σ (put n v σ) τ (let e = length-plus c s in omega (arith, e)) (agree-put n v σ) a)
 
 -- ---- variables
 
 -- the stores on the way are stores
 abbrev pub AreStores : List Sort → Store → Type 0
 AreStores [] s = IsTrue (is_store s)
-AreStores (sort ∷ sorts) s = IsTrue (is_store s) × AreStores sorts (plus_cell (variable sort None) s)
+AreStores (sort ∷ sorts) s = IsTrue (is_store s) × AreStores sorts (with_cell (variable sort None) s)
 
 pub variables-longer : (sorts : List Sort) (s : Store) → length s.cells ≤ length (plus_variables sorts s).cells
 variables-longer [] s = omega arith
-variables-longer (sort ∷ sorts) s = let l = variables-longer sorts (plus_cell (variable sort None) s) in let e = length-plus (variable sort None) s in omega (arith, l, e)
+variables-longer (sort ∷ sorts) s = let l = variables-longer sorts (with_cell (variable sort None) s) in let e = length-plus (variable sort None) s in omega (arith, l, e)
 
 pub variables-back : (sorts : List Sort) (s : Store) (σ : Solution) → Solves (plus_variables sorts s) σ → Solves s σ
 variables-back [] s σ h = h
-variables-back (sort ∷ sorts) s σ h = fewer-solved s (variable sort None) σ (variables-back sorts (plus_cell (variable sort None) s) σ h)
+variables-back (sort ∷ sorts) s σ h = fewer-solved s (variable sort None) σ (variables-back sorts (with_cell (variable sort None) s) σ h)
 
 value-sorted : (sort : Sort) (v : Value) → IsTrue (has_value_sort sort v) → IsTrue (has_sort sort (cell_value v)) × (as_value (cell_value v) ≡ v)
 value-sorted TermSort (term t) h = (refl, refl)
@@ -200,7 +201,7 @@ places-below n m (sort ∷ sorts) l = and_from (nat_lt n m) (names_below m (plac
 
 pub length-variables : (sorts : List Sort) (s : Store) → length (plus_variables sorts s).cells ≡ length s.cells + length sorts
 length-variables [] s = omega arith
-length-variables (sort ∷ sorts) s = let k = length-variables sorts (plus_cell (variable sort None) s) in let e = length-plus (variable sort None) s in omega (arith, k, e)
+length-variables (sort ∷ sorts) s = let k = length-variables sorts (with_cell (variable sort None) s) in let e = length-plus (variable sort None) s in omega (arith, k, e)
 
 -- values of the sorts for the new variables
 variables-forth : (sorts : List Sort) (s : Store) (n : ℕ) → n ≡ length s.cells → AreStores sorts s → (σ : Solution) → Solves s σ → (vs : List Value) → IsTrue (have_sorts sorts vs) → (τ : Solution) × Solves (plus_variables sorts s) τ × Agree (length s.cells) σ τ × (values_by τ (places_of n sorts) ≡ vs)
@@ -214,9 +215,9 @@ variables-forth (sort ∷ sorts) s n e h σ k (v ∷ vs) t =
     let c = variable sort None in
     let step = put m (cell_value v) σ in
     let long = length-plus c s in
-    let (τ, solved, agree, values) = variables-forth sorts (plus_cell c s) (suc n) (omega (arith, e, long)) h.1 step (variable-added s h.0 sort (cell_value v) q.0 σ k) vs p.1 in
-    let here : τ n ≡ cell_value v = sym (agree n (lt-ltb n (length (plus_cell c s).cells) (omega (arith, e, long)))) ∙ ap step e ∙ put-here m (cell_value v) σ in
-    (τ, solved, agree-both m (length (plus_cell c s).cells) σ step τ (omega (arith, long)) (agree-put m (cell_value v) σ) agree, ap₂ (λ x xs. x ∷ xs) (ap as_value here ∙ q.1) values)
+    let (τ, solved, agree, values) = variables-forth sorts (with_cell c s) (suc n) (omega (arith, e, long)) h.1 step (variable-added s h.0 sort (cell_value v) q.0 σ k) vs p.1 in
+    let here : τ n ≡ cell_value v = sym (agree n (lt-ltb n (length (with_cell c s).cells) (omega (arith, e, long)))) ∙ ap step e ∙ put-here m (cell_value v) σ in
+    (τ, solved, agree-both m (length (with_cell c s).cells) σ step τ (omega (arith, long)) (agree-put m (cell_value v) σ) agree, ap₂ (λ x xs. x ∷ xs) (ap as_value here ∙ q.1) values)
 
 -- ---- what the variables and the built cells stand for
 
@@ -251,18 +252,18 @@ AreValueCells σ rs = IsTrue (list_all (λ r. is_value_cell (σ r)) rs)
 -- the variable in front stands in the store
 pub variables-front : (sorts : List Sort) (s : Store) (r : ℕ) (c : Cell) → slice_get s.cells r ≡ Some c → slice_get (plus_variables sorts s).cells r ≡ Some c
 variables-front [] s r c e = e
-variables-front (sort ∷ sorts) s r c e = variables-front sorts (plus_cell (variable sort None) s) r c (get-kept s.cells (variable sort None ∷ []) r c e)
+variables-front (sort ∷ sorts) s r c e = variables-front sorts (with_cell (variable sort None) s) r c (get-kept s.cells (variable sort None ∷ []) r c e)
 
 pub variables-sorted : (sorts : List Sort) (s : Store) (n : ℕ) → n ≡ length s.cells → IsTrue (list_all is_variable_sort sorts) → (σ : Solution) → Solves (plus_variables sorts s) σ → IsTrue (have_sorts sorts (values_by σ (places_of n sorts))) × AreValueCells σ (places_of n sorts)
 variables-sorted [] s n e k σ h = (refl, refl)
 variables-sorted (sort ∷ sorts) s n e k σ h =
     let p = and_parts (is_variable_sort sort) (list_all is_variable_sort sorts) k in
     let c = variable sort None in
-    let at : slice_get (plus_cell c s).cells n ≡ Some c = ap (slice_get (plus_cell c s).cells) e ∙ get-last s.cells c in
-    let here = h n c (variables-front sorts (plus_cell c s) n c at) in
+    let at : slice_get (with_cell c s).cells n ≡ Some c = ap (slice_get (with_cell c s).cells) e ∙ get-last s.cells c in
+    let here = h n c (variables-front sorts (with_cell c s) n c at) in
     let v = sorted-value sort (σ n) p.0 here in
     let long = length-plus c s in
-    let rest = variables-sorted sorts (plus_cell c s) (suc n) (omega (arith, e, long)) p.1 σ h in
+    let rest = variables-sorted sorts (with_cell c s) (suc n) (omega (arith, e, long)) p.1 σ h in
     (and_from (has_value_sort sort (as_value (σ n))) (have_sorts sorts (values_by σ (places_of (suc n) sorts))) v.0 rest.0, and_from (is_value_cell (σ n)) (list_all (λ r. is_value_cell (σ r)) (places_of (suc n) sorts)) v.1 rest.1)
 
 term-values : (σ : Solution) (rs : List ℕ) (ts : GroundTerms) → terms_at σ rs ≡ Some ts → ts ≡ terms_by σ rs
@@ -380,7 +381,7 @@ copy-by_cells old new sides t i stores sorts adds selection values names built =
 
 -- no built cell changes: bindings and further cells alone came
 abbrev pub KeepsBuilt : Store → Store → Type 0
-KeepsBuilt before after = (n : ℕ) (c : Cell) → IsTrue (is_built c) → slice_get before.cells n ≡ Some c → slice_get after.cells n ≡ Some c
+KeepsBuilt before after = (n : ℕ) (c : Cell) → is_variable c ≡ false → slice_get before.cells n ≡ Some c → slice_get after.cells n ≡ Some c
 
 mutual
   pub built-kept : (before after : Store) → KeepsBuilt before after → (variables : List ℕ) (p : Pattern) (r : ℕ) → IsBuilt before variables p r → IsBuilt after variables p r
@@ -398,7 +399,7 @@ pub built_atom-kept : (before after : Store) → KeepsBuilt before after → (va
 built_atom-kept before after k variables p a b = record { sign = b.sign; symbol = b.symbol; args = all-built-kept before after k variables (patterns_tree p.args) a.args b.args; label = all-built-kept before after k variables (patterns_tree p.label) a.label b.label }
 
 -- one cell more keeps what is built
-pub keeps-plus : (s : Store) (c : Cell) → KeepsBuilt s (plus_cell c s)
+pub keeps-plus : (s : Store) (c : Cell) → KeepsBuilt s (with_cell c s)
 keeps-plus s c n d b e = get-kept s.cells (c ∷ []) n d e
 
 pub keeps-both : (s t u : Store) → KeepsBuilt s t → KeepsBuilt t u → KeepsBuilt s u

@@ -12,9 +12,8 @@ use Rattle.calculus.specs.Skolem.{is_empty}
 use Rattle.calculus.specs.Choices.{start, reduction, extension}
 use Rattle.calculus.specs.Stores.{Cell, variable, Store, sort_of, has_sort_at, parts_of}
 use Rattle.calculus.specs.Systems.{CellAtom}
-use Rattle.calculus.specs.Bindings.{BindsOnly, NamesFrom}
+use Rattle.calculus.specs.Bindings.{BindsOnly, NamesFrom, with_cell, is_variable}
 use Rattle.connection_search.specs.States.{CellClause, CellChoice, CellGoal, cell_goals_on, new_cell_goals}
-use Rattle.connection_search.specs.Building.{plus_cell, is_built}
 use Rattle.connection_search.specs.Regular.{is_classical_cell, is_classical_store, is_classical_atom, is_classical_goal, is_classical_choice, is_own_term, is_own_cell, is_classical_clause}
 use Rattle.connection_search.proofs.BelowLaws.{all-join, all-weaken, all-remove}
 use Rattle.connection_search.proofs.StepLaws.{start_state}
@@ -35,7 +34,7 @@ drop-append (suc n) [] ys l = absurd (omega (arith, l))
 drop-append (suc n) (x ∷ xs) ys l = drop-append n xs ys (omega (arith, l))
 
 -- one cell more
-pub classical-plus : (P : Problem) (base : ℕ) (s : Store) (c : Cell) → base ≤ length s.cells → IsTrue (is_classical_store P base s) → IsTrue (is_own_cell P base c) → IsTrue (is_classical_store P base (plus_cell c s))
+pub classical-plus : (P : Problem) (base : ℕ) (s : Store) (c : Cell) → base ≤ length s.cells → IsTrue (is_classical_store P base s) → IsTrue (is_own_cell P base c) → IsTrue (is_classical_store P base (with_cell c s))
 classical-plus P base s c l h k = subst (λ xs. IsTrue (list_all (is_own_cell P base) xs)) (sym (drop-append base s.cells (c ∷ []) l)) (all-join (is_own_cell P base) (drop base s.cells) (c ∷ []) h (and_from (is_own_cell P base c) true k refl))
 
 atom-kept : (base : ℕ) (old new : Store) → KeepsTerms old new → (a : CellAtom) → IsTrue (is_classical_atom base old a) → IsTrue (is_classical_atom base new a)
@@ -143,10 +142,10 @@ terms-binds before after b r h =
     ]
 
 -- one cell more keeps terms
-pub terms-plus : (s : Store) (c : Cell) → KeepsTerms s (plus_cell c s)
+pub terms-plus : (s : Store) (c : Cell) → KeepsTerms s (with_cell c s)
 terms-plus s c r h =
     let t = cell-sorted s TermSort r h in
-    sort-there (plus_cell c s) r t.0 (get-kept s.cells (c ∷ []) r t.0 t.1) ∙ t.2
+    sort-there (with_cell c s) r t.0 (get-kept s.cells (c ∷ []) r t.0 t.1) ∙ t.2
 
 pub terms-both : (s t u : Store) → KeepsTerms s t → KeepsTerms t u → KeepsTerms s u
 terms-both s t u h g r k = g r (h r k)
@@ -155,5 +154,5 @@ terms-both s t u h g r k = g r (h r k)
 pub built-binds : (before after : Store) → BindsOnly before after → KeepsBuilt before after
 built-binds before after b n c built e = elim (b.cells n c e) [
   | inl same ↦ same
-  | inr bound ↦ absurd (false≢true (sym (ap is_built bound.2) ∙ built))
+  | inr bound ↦ absurd (false≢true (sym built ∙ ap is_variable bound.2))
 ]

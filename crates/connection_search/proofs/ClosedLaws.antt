@@ -12,7 +12,8 @@ use Rattle.calculus.specs.Space.{instances_in}
 use Rattle.calculus.proofs.SpaceLaws.{instances_in-tableau}
 use Rattle.calculus.specs.Choices.{start, reduction, extension, GroundChoice, choices_below, choices_of_all, ground_choices, Goal, Growth, is_opposite, goals_on, after_start, grow_at, grow, growth_of, is_within, is_regular}
 use Rattle.calculus.proofs.GrowthLaws.{grown_at, is_new_goal, is_below}
-use Rattle.connection_search.specs.Joined.{joins_all, are_joined, closings_tree, closings_by, IsTableauBy, are_short}
+use Rattle.calculus.specs.Lists.{closings_tree}
+use Rattle.connection_search.specs.Joined.{joins_all, are_joined, closings_by, IsTableauBy, are_short}
 use Rattle.connection_search.proofs.LastChoice.{none≢some}
 use Rattle.connection_search.proofs.StepLaws.{if-some}
 use Rattle.connection_search.proofs.BelowLaws.{all-split}

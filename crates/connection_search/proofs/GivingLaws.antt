@@ -7,9 +7,10 @@ use Rattle.calculus.specs.declared.sort.Sort.TheVariants.{MarkSort}
 use Rattle.calculus.specs.Ground.{GroundMark}
 use Rattle.calculus.specs.Stores.{variable, string_cell, Store, has_sort_at, parts_fit, is_store, EndsAt, stays, goes_on, CellValue, a_term, a_mark, a_string, has_sort, Solution, cons_mark, marks_at, join_label, label_at, Solves, names_below}
 use Rattle.calculus.specs.Systems.{Equation, AreEqual, HaveLengths}
+use Rattle.calculus.specs.Bindings.{with_cell}
 use Rattle.connection_search.specs.States.{label_by, Agree}
 use Rattle.connection_search.specs.Steps.{IsUnified}
-use Rattle.connection_search.specs.Building.{plus_cell, plus_variables, places_of}
+use Rattle.connection_search.specs.Building.{plus_variables, places_of}
 use Rattle.connection_search.specs.Solving.{IsNarrowed, CannotEqual, CannotHave}
 use Rattle.connection_search.proofs.SpareLaws.{own_cell, cell-fits, marks-there}
 use Rattle.connection_search.proofs.BelowLaws.{all-weaken}
@@ -79,15 +80,15 @@ marks-forth (m ∷ w) s n e h σ k =
     let c = variable MarkSort None in
     let step = put size (a_mark m) σ in
     let long = length-plus c s in
-    let (τ, solved, agree, values) = marks-forth w (plus_cell c s) (suc n) (omega (arith, e, long)) h.1 step (variable-added s h.0 MarkSort (a_mark m) refl σ k) in
-    let here : τ n ≡ a_mark m = sym (agree n (lt-ltb n (length (plus_cell c s).cells) (omega (arith, e, long)))) ∙ ap step e ∙ put-here size (a_mark m) σ in
-    (τ, solved, agree-both size (length (plus_cell c s).cells) σ step τ (omega (arith, long)) (agree-put size (a_mark m) σ) agree, ap₂ cons_mark here values)
+    let (τ, solved, agree, values) = marks-forth w (with_cell c s) (suc n) (omega (arith, e, long)) h.1 step (variable-added s h.0 MarkSort (a_mark m) refl σ k) in
+    let here : τ n ≡ a_mark m = sym (agree n (lt-ltb n (length (with_cell c s).cells) (omega (arith, e, long)))) ∙ ap step e ∙ put-here size (a_mark m) σ in
+    (τ, solved, agree-both size (length (with_cell c s).cells) σ step τ (omega (arith, long)) (agree-put size (a_mark m) σ) agree, ap₂ cons_mark here values)
 
 abbrev MarksForth : Store → Solution → ℕ → List GroundMark → Type 0
 MarksForth old σ n w = (τ : Solution) × Solves (plus_variables (mark_sorts n) old) τ × Agree (length old.cells) σ τ × (marks_at τ (places_of (length old.cells) (mark_sorts n)) ≡ Some w)
 
 -- a string that is made equal to a new built string of n new mark variables has n characters, whatever they are
-pub length-given : (old new : Store) (r n : ℕ) → AreStores (mark_sorts n) old → IsTrue (is_store (plus_variables (mark_sorts n) old)) → IsTrue (parts_fit (plus_variables (mark_sorts n) old) (string_cell (places_of (length old.cells) (mark_sorts n)))) → IsTrue (nat_lt r (length old.cells)) → IsUnified (plus_cell (string_cell (places_of (length old.cells) (mark_sorts n))) (plus_variables (mark_sorts n) old)) new r (length (plus_variables (mark_sorts n) old).cells) → IsNarrowed old new (λ σ. HasLength σ r n)
+pub length-given : (old new : Store) (r n : ℕ) → AreStores (mark_sorts n) old → IsTrue (is_store (plus_variables (mark_sorts n) old)) → IsTrue (parts_fit (plus_variables (mark_sorts n) old) (string_cell (places_of (length old.cells) (mark_sorts n)))) → IsTrue (nat_lt r (length old.cells)) → IsUnified (with_cell (string_cell (places_of (length old.cells) (mark_sorts n))) (plus_variables (mark_sorts n) old)) new r (length (plus_variables (mark_sorts n) old).cells) → IsNarrowed old new (λ σ. HasLength σ r n)
 length-given old new r n stores store fits below u =
     let marks = places_of (length old.cells) (mark_sorts n) in
     let mid = plus_variables (mark_sorts n) old in

@@ -21,7 +21,7 @@ use Rattle.calculus.specs.Systems.{is_label}
 use Rattle.calculus.specs.Templates.{as_value, as_label}
 use Rattle.connection_search.specs.States.{label_by, values_by}
 use Rattle.connection_search.specs.Demanding.{IsHomeAt}
-use Rattle.connection_search.specs.HomeCells.{CellReached, next_label, PassesModal, by_plain, by_string, by_mark, PassesShape, by_term, by_other, is_gamma_shape, LeadsToLabel, ended, passed}
+use Rattle.connection_search.specs.HomeCells.{CellReached, PassesModal, by_plain, by_string, by_mark, PassesShape, by_term, by_other, is_gamma_shape, LeadsToLabel, ended, passed}
 use Rattle.connection_search.proofs.BuildingLaws.{solved-sorted}
 use Rattle.connection_search.proofs.AtomLaws.{values_at-by, label-append}
 use Rattle.connection_search.proofs.SolvingLaws.{label-there}
@@ -34,7 +34,7 @@ append-none : {A : Type 0} (xs : List A) → xs ++ [] ≡ xs
 append-none [] = refl
 append-none (x ∷ xs) = ap (λ ys. x ∷ ys) (append-none xs)
 
-nu-next : (l : Logic) (σ : Solution) (w : List ℕ) (r : ℕ) → nu_label l (label_by σ w) (as_label (σ r)) ≡ label_by σ (next_label l w r)
+nu-next : (l : Logic) (σ : Solution) (w : List ℕ) (r : ℕ) → nu_label l (label_by σ w) (as_label (σ r)) ≡ label_by σ (pi_label l w r)
 nu-next Classical σ w r = ap (λ v. label_by σ w ++ v) (sym (append-none (as_label (σ r)))) ∙ sym (label-append σ w (r ∷ []))
 nu-next Intuitionistic σ w r = ap (λ v. label_by σ w ++ v) (sym (append-none (as_label (σ r)))) ∙ sym (label-append σ w (r ∷ []))
 nu-next D σ w r = ap (λ v. label_by σ w ++ v) (sym (append-none (as_label (σ r)))) ∙ sym (label-append σ w (r ∷ []))
@@ -42,7 +42,7 @@ nu-next LogicT σ w r = ap (λ v. label_by σ w ++ v) (sym (append-none (as_labe
 nu-next S4 σ w r = ap (λ v. label_by σ w ++ v) (sym (append-none (as_label (σ r)))) ∙ sym (label-append σ w (r ∷ []))
 nu-next S5 σ w r = sym (append-none (as_label (σ r)))
 
-pi-next : (l : Logic) (σ : Solution) (w : List ℕ) (k : ℕ) (m : GroundMark) → σ k ≡ a_mark m → pi_label l (label_by σ w) m ≡ label_by σ (next_label l w k)
+pi-next : (l : Logic) (σ : Solution) (w : List ℕ) (k : ℕ) (m : GroundMark) → σ k ≡ a_mark m → pi_label l (label_by σ w) m ≡ label_by σ (pi_label l w k)
 pi-next Classical σ w k m e = ap (λ v. label_by σ w ++ (as_label v ++ [])) (sym e) ∙ sym (label-append σ w (k ∷ []))
 pi-next Intuitionistic σ w k m e = ap (λ v. label_by σ w ++ (as_label v ++ [])) (sym e) ∙ sym (label-append σ w (k ∷ []))
 pi-next D σ w k m e = ap (λ v. label_by σ w ++ (as_label v ++ [])) (sym e) ∙ sym (label-append σ w (k ∷ []))
@@ -65,7 +65,7 @@ modal-by l s σ h p m c d by_plain = refl
 modal-by l s σ h p m c d (by_string w taken rest r sorted) =
     let v = string-value (σ r) (solved-sorted s σ h StringSort r sorted) in
     let shown : as_value (σ r) ≡ steps (marks_tree v.0) = ap as_value v.1 in
-    let label : nu_label l (label_by σ w) (marks_list (marks_tree v.0)) ≡ label_by σ (next_label l w r) = ap (nu_label l (label_by σ w)) (marks_list-marks_tree v.0 ∙ sym (ap as_label v.1)) ∙ nu-next l σ w r in
+    let label : nu_label l (label_by σ w) (marks_list (marks_tree v.0)) ≡ label_by σ (pi_label l w r) = ap (nu_label l (label_by σ w)) (marks_list-marks_tree v.0 ∙ sym (ap as_label v.1)) ∙ nu-next l σ w r in
     let values : values_by σ taken ++ steps (marks_tree v.0) ∷ [] ≡ values_by σ (taken ++ r ∷ []) = ap (λ x. values_by σ taken ++ x ∷ []) (sym shown) ∙ sym (map-append (λ k. as_value (σ k)) taken (r ∷ [])) in
     ap (λ x. take_string l (record { label = label_by σ w; taken = values_by σ taken; rest = as_value (σ r) ∷ values_by σ rest }) (x ∷ values_by σ rest)) shown ∙ (λ i. Some (record { label = label i; taken = values i; rest = values_by σ rest }))
 modal-by l s σ h p m c d (by_mark w taken rest k e) =

@@ -10,10 +10,10 @@ use Rattle.calculus.specs.Ground.{common, g_spare_mark, no_marks, more_marks, te
 use Rattle.calculus.specs.Equality.{sort_eq}
 use Rattle.calculus.specs.Skolem.{is_delta_position, is_pi_position, fits_way}
 use Rattle.calculus.specs.Stores.{Cell, variable, fun_cell, eigen_cell, new_cell, string_cell, Store, sort_of, parts_of, has_sort_at, is_store}
+use Rattle.calculus.specs.Bindings.{with_cell}
 use Rattle.connection_search.specs.LabelledCells.{sort_values, is_labelled_cell, AreLabelled}
 use Rattle.connection_search.specs.Solving.{IsClosedSet}
 use Rattle.connection_search.proofs.SpareLaws.{IsPart}
-use Rattle.connection_search.specs.Building.{plus_cell}
 use Rattle.connection_search.proofs.GeneralLaws.{part-cell}
 use Rattle.connection_search.proofs.BuildingLaws.{get-kept, get-more}
 
@@ -124,18 +124,18 @@ some-cell s r l = each s.cells r l
 abbrev pub with_last : (ℕ → Type 0) → Store → ℕ → Type 0
 with_last Old s r = Old r ⊎ (r ≡ length s.cells)
 
-pub goes_on-plus : (P : Problem) (Old : ℕ → Type 0) (s : Store) (c : Cell) → ((r : ℕ) → Old r → r < length s.cells) → ((k : ℕ) → IsPart k (parts_of c) → Old k) → IsTrue (is_labelled_cell P (plus_cell c s) c) → GoesOn P Old (with_last Old s) s (plus_cell c s)
+pub goes_on-plus : (P : Problem) (Old : ℕ → Type 0) (s : Store) (c : Cell) → ((r : ℕ) → Old r → r < length s.cells) → ((k : ℕ) → IsPart k (parts_of c) → Old k) → IsTrue (is_labelled_cell P (with_cell c s) c) → GoesOn P Old (with_last Old s) s (with_cell c s)
 goes_on-plus P Old s c inside parts built = record {
   kept = λ r o. inl o;
   back = λ r l i. elim i [ inl o ↦ o | inr e ↦ absurd (omega (arith, l, e)) ];
   others = λ r d e. ap (option_map sort_of) (get-kept s.cells (c ∷ []) r d e);
   old_cells = λ r d o e. inl (get-kept s.cells (c ∷ []) r d e);
   new_parts = λ r k x l i e p. inl (parts k (subst (λ y. IsPart k (parts_of y)) (last r x l e) p));
-  new_built = λ r x l i e. subst (λ y. IsTrue (is_labelled_cell P (plus_cell c s) y)) (sym (last r x l e)) built;
+  new_built = λ r x l i e. subst (λ y. IsTrue (is_labelled_cell P (with_cell c s) y)) (sym (last r x l e)) built;
   below = some-cell s;
 }
   where
-    last : (r : ℕ) (x : Cell) → length s.cells ≤ r → slice_get (plus_cell c s).cells r ≡ Some x → x ≡ c
+    last : (r : ℕ) (x : Cell) → length s.cells ≤ r → slice_get (with_cell c s).cells r ≡ Some x → x ≡ c
     last r x l e = elim (get-more s.cells c r x e) [
       | inl old ↦ (let k = slice_get_within s.cells r x old in absurd (omega (arith, k, l)))
       | inr new ↦ sym new.1

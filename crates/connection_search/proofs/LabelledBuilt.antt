@@ -16,7 +16,7 @@ use Rattle.calculus.specs.Problems.{formula_fits}
 use Rattle.calculus.specs.ComputedInstances.{instance_of}
 use Rattle.calculus.specs.Space.{has_labels}
 use Rattle.calculus.specs.Stores.{Cell, fun_cell, eigen_cell, new_cell, Store, sort_of, has_sort_at, has_value_sort_at, a_mark}
-use Rattle.calculus.specs.Systems.{is_step_length}
+use Rattle.calculus.specs.Labels.{is_step_length}
 use Rattle.calculus.proofs.InstanceLaws.{literal_is_proper, instance-proper}
 use Rattle.calculus.specs.Patterns.{Pattern, Patterns, p_var, p_fun, p_eigen, p_new, no_patterns, more_patterns, Template}
 use Rattle.calculus.specs.Templates.{as_value, cell_value, value_of_variable, pattern_value, pattern_terms, pattern_values, literals_by, have_sorts, is_step_value, is_choice_of_values, IsTemplateOf}

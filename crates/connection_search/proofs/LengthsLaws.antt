@@ -227,12 +227,12 @@ sum-bounded x k (y ∷ ns) h =
 
 -- each list that is tried is one of them
 tried-between : (l : Logic) (b n : ℕ) → IsTrue (is_tried_length l b n) → IsTrue (nat_le (first_length l) n && nat_le (suc n) (first_length l + many_lengths l b))
-tried-between Classical b n h = absurd (false≢true h)
+tried-between Classical b n h = let q : n ≡ 0 = eqb-true n 0 (and_parts (n == 0) true h).0 in subst (λ m. IsTrue (nat_le 0 m && nat_le (suc m) 1)) (sym q) refl
 tried-between Intuitionistic b n h = and_from (nat_le 0 n) (nat_le (suc n) (0 + suc b)) (le-leb 0 n (omega arith)) (le-leb (suc n) (0 + suc b) (let q = leb-true n b h in omega (arith, q)))
-tried-between D b n h = let q : n ≡ 1 = eqb-true n 1 h in subst (λ m. IsTrue (nat_le 1 m && nat_le (suc m) 2)) (sym q) refl
-tried-between LogicT b n h = and_from (nat_le 0 n) (nat_le (suc n) (0 + 2)) (le-leb 0 n (omega arith)) (le-leb (suc n) (0 + 2) (let q = leb-true n 1 h in omega (arith, q)))
+tried-between D b n h = let q : n ≡ 1 = eqb-true n 1 (and_parts (n == 1) true h).0 in subst (λ m. IsTrue (nat_le 1 m && nat_le (suc m) 2)) (sym q) refl
+tried-between LogicT b n h = and_from (nat_le 0 n) (nat_le (suc n) (0 + 2)) (le-leb 0 n (omega arith)) (le-leb (suc n) (0 + 2) (let q = leb-true n 1 (and_parts (nat_le n 1) true h).0 in omega (arith, q)))
 tried-between S4 b n h = and_from (nat_le 0 n) (nat_le (suc n) (0 + suc b)) (le-leb 0 n (omega arith)) (le-leb (suc n) (0 + suc b) (let q = leb-true n b h in omega (arith, q)))
-tried-between S5 b n h = and_from (nat_le 0 n) (nat_le (suc n) (0 + 2)) (le-leb 0 n (omega arith)) (le-leb (suc n) (0 + 2) (let q = leb-true n 1 h in omega (arith, q)))
+tried-between S5 b n h = and_from (nat_le 0 n) (nat_le (suc n) (0 + 2)) (le-leb 0 n (omega arith)) (le-leb (suc n) (0 + 2) (let q = leb-true n 1 (and_parts (nat_le n 1) true h).0 in omega (arith, q)))
 
 all-between : (l : Logic) (b : ℕ) (ns : List ℕ) → IsTrue (list_all (is_tried_length l b) ns) → IsTrue (list_all (λ y. nat_le (first_length l) y && nat_le (suc y) (first_length l + many_lengths l b)) ns)
 all-between l b [] h = refl
@@ -261,10 +261,10 @@ lengths-all l y ns tried =
 between-tried : (l : Logic) (b n : ℕ) → IsTrue (has_labels l) → IsTrue (nat_le (first_length l) n && nat_le (suc n) (first_length l + many_lengths l b)) → IsTrue (is_tried_length l b n)
 between-tried Classical b n k h = absurd (false≢true k)
 between-tried Intuitionistic b n k h = let p = and_parts (nat_le 0 n) (nat_le (suc n) (0 + suc b)) h in let q = leb-true (suc n) (0 + suc b) p.1 in le-leb n b (omega (arith, q))
-between-tried D b n k h = let p = and_parts (nat_le 1 n) (nat_le (suc n) 2) h in let q = leb-true 1 n p.0 in let r = leb-true (suc n) 2 p.1 in eq-eqb n 1 (omega (arith, q, r))
-between-tried LogicT b n k h = let p = and_parts (nat_le 0 n) (nat_le (suc n) (0 + 2)) h in let q = leb-true (suc n) (0 + 2) p.1 in le-leb n 1 (omega (arith, q))
+between-tried D b n k h = let p = and_parts (nat_le 1 n) (nat_le (suc n) 2) h in let q = leb-true 1 n p.0 in let r = leb-true (suc n) 2 p.1 in and_from (n == 1) true (eq-eqb n 1 (omega (arith, q, r))) refl
+between-tried LogicT b n k h = let p = and_parts (nat_le 0 n) (nat_le (suc n) (0 + 2)) h in let q = leb-true (suc n) (0 + 2) p.1 in and_from (nat_le n 1) true (le-leb n 1 (omega (arith, q))) refl
 between-tried S4 b n k h = let p = and_parts (nat_le 0 n) (nat_le (suc n) (0 + suc b)) h in let q = leb-true (suc n) (0 + suc b) p.1 in le-leb n b (omega (arith, q))
-between-tried S5 b n k h = let p = and_parts (nat_le 0 n) (nat_le (suc n) (0 + 2)) h in let q = leb-true (suc n) (0 + 2) p.1 in le-leb n 1 (omega (arith, q))
+between-tried S5 b n k h = let p = and_parts (nat_le 0 n) (nat_le (suc n) (0 + 2)) h in let q = leb-true (suc n) (0 + 2) p.1 in and_from (nat_le n 1) true (le-leb n 1 (omega (arith, q))) refl
 
 all-tried : (l : Logic) (b : ℕ) (ns : List ℕ) → IsTrue (has_labels l) → IsTrue (list_all (λ y. nat_le (first_length l) y && nat_le (suc y) (first_length l + many_lengths l b)) ns) → IsTrue (list_all (is_tried_length l b) ns)
 all-tried l b [] k h = refl

@@ -1,6 +1,6 @@
 -- Solving a system for one list of lengths: each step keeps the solutions, a step that fails shows that there is none, and at the end own
 -- spares are one.
-use Rattle.std.proofs.Common.{◌≡◌, ℕ, zero, suc, ◌≤◌, ◌==◌, List, [], ◌∷◌, ◌++◌, length, Bool, true, false, ◌&&◌, ◌||◌, IsTrue, refl, sym, ◌∙◌, ap, ap₂, subst, Some, None, slice_get, nat_lt, inl, inr, arith, lt-ltb, ltb-true}
+use Rattle.std.proofs.Common.{◌≡◌, ℕ, zero, suc, ◌≤◌, ◌==◌, List, [], ◌∷◌, ◌++◌, length, Bool, true, false, ◌&&◌, ◌||◌, not, nat_le, IsTrue, refl, sym, ◌∙◌, ap, ap₂, subst, Some, None, slice_get, nat_lt, inl, inr, arith, lt-ltb, ltb-true}
 use Rattle.std.specs.List.{list_all, AllByRecursion}
 use Rattle.std.proofs.lemmas.Bool.{false≢true, and_parts, and_from}
 use Rattle.std.proofs.lemmas.Option.{slice_get_within}
@@ -11,9 +11,11 @@ use Rattle.calculus.specs.declared.setting.Logic.TheVariants.{Classical, Intuiti
 use Rattle.calculus.specs.Ground.{GroundLiteral, marks_tree}
 use Rattle.calculus.specs.Equality.{literal_eq}
 use Rattle.calculus.specs.Instances.{GammaUse}
+use Rattle.calculus.specs.Tableaux.{has_unbounded_strings}
 use Rattle.calculus.specs.Space.{is_tried_length}
 use Rattle.calculus.specs.Stores.{Cell, variable, Store, parts_of, has_sort_at, is_store, OccursIn, here, in_part, CellValue, a_term, a_mark, a_string, has_sort, Solution, terms_at, label_at, cons_term, join_label, Solves, names_below, GammaCell, IsOwnSpare, AreOwnSpares}
-use Rattle.calculus.specs.Systems.{CellAtom, Equation, Pair, System, is_label, is_equation, is_gamma_cell, is_cell_atom, is_pair, is_system, OccursInSystem, HasNoOpenString, AreEqual, IsLiteral, Differ, AreUses, MeetsDemand, bound_of, is_step_length, IsStep, AreEqualNow, AreTried, HaveLengths, IsBoundedSolution, HasSolution, OwnSparesSolve, OwnSparesMeet}
+use Rattle.calculus.specs.Labels.{is_step_length}
+use Rattle.calculus.specs.Systems.{CellAtom, Equation, Pair, System, is_label, is_equation, is_gamma_cell, is_cell_atom, is_pair, is_system, OccursInSystem, HasNoOpenString, AreEqual, IsLiteral, Differ, AreUses, MeetsDemand, bound_of, IsStep, AreEqualNow, AreTried, HaveLengths, IsBoundedSolution, HasSolution, OwnSparesSolve, OwnSparesMeet}
 use Rattle.calculus.proofs.EqualityLaws.{literal_eq-tells}
 use Rattle.calculus.specs.Templates.{as_label}
 use Rattle.connection_search.specs.States.{label_by, literal_by, atom_is_below, Agree}
@@ -236,12 +238,7 @@ own-distinct b In s gammas σ number h o = record {
     by TermSort false v i e k = inr (marks_tree k.0, k.2)
 
 pub tried-step : (l : Logic) (b n : ℕ) → IsTrue (is_tried_length l b n) → IsTrue (is_step_length l n)
-tried-step Classical b n h = absurd (false≢true h)
-tried-step Intuitionistic b n h = refl
-tried-step D b n h = h
-tried-step LogicT b n h = h
-tried-step S4 b n h = refl
-tried-step S5 b n h = h
+tried-step l b n h = (and_parts (is_step_length l n) (not (has_unbounded_strings l) || nat_le n b) h).0
 
 pub steps-by_lengths : (l : Logic) (b : ℕ) (σ : Solution) (rs ns : List ℕ) → IsTrue (list_all (is_tried_length l b) ns) → HaveLengths σ rs ns → AllByRecursion (IsStep l σ) rs
 steps-by_lengths l b σ [] ns h k = tt

@@ -21,6 +21,7 @@ use Rattle.connection_search.specs.States.{CellGoal, State, literal_by, choice_a
 use Rattle.connection_search.specs.Joined.{are_short, are_joined}
 use Rattle.connection_search.specs.Exploring.{IsClosedList, IsMemberAt}
 use Rattle.connection_search.specs.StateSystems.{pairs_with, pairs_of, IsTreeOf, IsSystemOf}
+use Rattle.connection_search.proofs.BelowLaws.{all-weaken}
 use Rattle.connection_search.proofs.StepLaws.{same-some}
 use Rattle.connection_search.proofs.ImageLaws.{names-image}
 use Rattle.connection_search.proofs.ClosedLaws.{IsTableauOf, closed-by_short_growth}
@@ -122,10 +123,10 @@ all-within b (i ∷ is) h = let p = split-all (λ n. nat_le n b) (lengths_in i) 
 -- lengths that are tried are short
 short-by_tried : (l : Logic) (b : ℕ) (is : List ClauseInstance) → IsTrue (list_all (is_tried_length l b) (string_lengths is)) → IsTrue (if has_unbounded_strings l then list_all (strings_within b) is else true)
 short-by_tried Classical b is h = refl
-short-by_tried Intuitionistic b is h = all-within b is h
+short-by_tried Intuitionistic b is h = all-within b is (all-weaken (is_tried_length Intuitionistic b) (λ n. nat_le n b) (λ n q. q) (string_lengths is) h)
 short-by_tried D b is h = refl
 short-by_tried LogicT b is h = refl
-short-by_tried S4 b is h = all-within b is h
+short-by_tried S4 b is h = all-within b is (all-weaken (is_tried_length S4 b) (λ n. nat_le n b) (λ n q. q) (string_lengths is) h)
 short-by_tried S5 b is h = refl
 
 -- ---- a bounded solution gives a closed tableau

@@ -19,7 +19,8 @@ use Rattle.calculus.specs.Problems.{formula_fits}
 use Rattle.calculus.specs.Clauses.{all_joined, selections_of_two, selections}
 use Rattle.calculus.specs.Patterns.{Pattern, p_var, p_eigen, p_new, patterns_tree, Template}
 use Rattle.calculus.specs.Templates.{IsTemplateOf}
-use Rattle.connection_search.specs.TemplateOf.{PatternSpot, root_pattern_spot, PatternPart, PatternBody, pattern_down, pattern_inside, nu_patterns, pi_patterns, of_sort, one_pi_more, pattern_modal, pattern_turn, pattern_atom, joined_patterns, pattern_beta, pattern_one, pattern_two, with_pattern_gamma, pattern_quantifier, pattern_part, template_by, if_sides_used, template_of}
+use Rattle.calculus.specs.Labels.{pi_label}
+use Rattle.connection_search.specs.TemplateOf.{PatternSpot, root_pattern_spot, PatternPart, PatternBody, pattern_down, pattern_inside, of_sort, one_pi_more, pattern_modal, pattern_turn, pattern_atom, joined_patterns, pattern_beta, pattern_one, pattern_two, with_pattern_gamma, pattern_quantifier, pattern_part, template_by, if_sides_used, template_of}
 use Rattle.connection_search.proofs.TemplateLaws.{template_of-right}
 
 -- ---- a selection is read off, whatever follows it
@@ -41,8 +42,8 @@ IsReadBy body ss = (c : PatternSpot) (rest : List Side) (n : ℕ) → Reads (bod
 
 modal-read : (l : Logic) (m : ModalPart) (body : PatternBody) (ss : List Side) → IsReadBy body ss → IsReadBy (pattern_modal l m body) ss
 modal-read l Plain body ss h c rest n = h c rest n
-modal-read l Nu body ss h c rest n = reads-map (of_sort StringSort) (λ y. refl) (body (record c { label = nu_patterns l c.label (p_var n); taken = c.taken ++ p_var n ∷ [] }) (ss ++ rest) (suc n)) rest (h _ rest (suc n))
-modal-read l Pi body ss h c rest n = reads-map one_pi_more (λ y. refl) (body (record c { label = pi_patterns l c.label (p_new c.position (patterns_tree c.taken)) }) (ss ++ rest) n) rest (h _ rest n)
+modal-read l Nu body ss h c rest n = reads-map (of_sort StringSort) (λ y. refl) (body (record c { label = pi_label l c.label (p_var n); taken = c.taken ++ p_var n ∷ [] }) (ss ++ rest) (suc n)) rest (h _ rest (suc n))
+modal-read l Pi body ss h c rest n = reads-map one_pi_more (λ y. refl) (body (record c { label = pi_label l c.label (p_new c.position (patterns_tree c.taken)) }) (ss ++ rest) n) rest (h _ rest n)
 
 turn-read : (p : ℕ) (ps : List Pattern) (o : Option PatternPart) (rest : List Side) → Reads o rest → Reads (pattern_turn p ps o) rest
 turn-read p ps o rest h = reads-map (λ (y : PatternPart). record y { turns = record { position = p; values = ps } ∷ y.turns }) (λ y. refl) o rest h

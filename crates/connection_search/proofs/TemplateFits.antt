@@ -23,7 +23,8 @@ use Rattle.calculus.specs.Kinds.{other, shape_of, modal_of}
 use Rattle.calculus.specs.Positions.{size}
 use Rattle.calculus.specs.Patterns.{Pattern, Patterns, p_var, p_eigen, p_new, no_patterns, patterns_tree, PatternAtom, PatternGamma, Template, pattern_fits, are_term_patterns, are_value_patterns, is_label_pattern, atom_fits, gamma_fits, template_fits}
 use Rattle.calculus.specs.Templates.{strings_from}
-use Rattle.connection_search.specs.TemplateOf.{PatternSpot, root_pattern_spot, PatternPart, PatternBody, pattern_of, patterns_of, pattern_down, pattern_inside, nu_patterns, pi_patterns, of_sort, one_pi_more, pattern_modal, pattern_turn, pattern_atom, joined_patterns, pattern_alpha, pattern_beta, pattern_one, pattern_two, with_pattern_gamma, pattern_quantifier, pattern_part, template_by, if_sides_used, template_of}
+use Rattle.calculus.specs.Labels.{pi_label}
+use Rattle.connection_search.specs.TemplateOf.{PatternSpot, root_pattern_spot, PatternPart, PatternBody, pattern_of, patterns_of, pattern_down, pattern_inside, of_sort, one_pi_more, pattern_modal, pattern_turn, pattern_atom, joined_patterns, pattern_alpha, pattern_beta, pattern_one, pattern_two, with_pattern_gamma, pattern_quantifier, pattern_part, template_by, if_sides_used, template_of}
 use Rattle.connection_search.proofs.BelowLaws.{all-join}
 use Rattle.connection_search.proofs.Dropping.{drop-next, drop-both, drop-front}
 
@@ -109,7 +110,7 @@ atom-fits symbols d s p ts f sorts c ss n w = λ more e.
 spot-label : (sorts : List Sort) (d : ℕ) (c : PatternSpot) (ws : List Pattern) → SpotFits sorts d c → IsTrue (is_label_pattern sorts ws) → SpotFits sorts d (record c { label = ws })
 spot-label sorts d c ws w h = record { label = h; taken = w.taken; env = w.env; depth = w.depth }
 
-label-more : (sorts : List Sort) (l : Logic) (ws : List Pattern) (p : Pattern) → IsTrue (is_label_pattern sorts ws) → IsTrue (pattern_fits sorts MarkSort p || pattern_fits sorts StringSort p) → IsTrue (is_label_pattern sorts (nu_patterns l ws p)) × IsTrue (is_label_pattern sorts (pi_patterns l ws p))
+label-more : (sorts : List Sort) (l : Logic) (ws : List Pattern) (p : Pattern) → IsTrue (is_label_pattern sorts ws) → IsTrue (pattern_fits sorts MarkSort p || pattern_fits sorts StringSort p) → IsTrue (is_label_pattern sorts (pi_label l ws p))
 label-more sorts l ws p h k = by l
   where
     one : IsTrue (is_label_pattern sorts (p ∷ []))
@@ -118,29 +119,29 @@ label-more sorts l ws p h k = by l
     more : IsTrue (is_label_pattern sorts (ws ++ p ∷ []))
     more = all-join (λ q. pattern_fits sorts MarkSort q || pattern_fits sorts StringSort q) ws (p ∷ []) h one
 
-    by : (l : Logic) → IsTrue (is_label_pattern sorts (nu_patterns l ws p)) × IsTrue (is_label_pattern sorts (pi_patterns l ws p))
-    by Classical = (more, more)
-    by Intuitionistic = (more, more)
-    by D = (more, more)
-    by LogicT = (more, more)
-    by S4 = (more, more)
-    by S5 = (one, one)
+    by : (l : Logic) → IsTrue (is_label_pattern sorts (pi_label l ws p))
+    by Classical = more
+    by Intuitionistic = more
+    by D = more
+    by LogicT = more
+    by S4 = more
+    by S5 = one
 
 modal-fits : (l : Logic) (m : ModalPart) (go : PatternBody) (d : ℕ) → Fits go d → Fits (pattern_modal l m go) d
 modal-fits l Plain go d h sorts c ss n w = h sorts c ss n w
 modal-fits l Nu go d h sorts c ss n w =
-    first-taken sorts n StringSort (go (record c { label = nu_patterns l c.label (p_var n); taken = c.taken ++ p_var n ∷ [] }) ss (suc n)) (λ e.
+    first-taken sorts n StringSort (go (record c { label = pi_label l c.label (p_var n); taken = c.taken ++ p_var n ∷ [] }) ss (suc n)) (λ e.
     let v = variable-sort sorts n StringSort e refl in
-    h sorts (record c { label = nu_patterns l c.label (p_var n); taken = c.taken ++ p_var n ∷ [] }) ss (suc n) (record {
-      label = (label-more sorts l c.label (p_var n) w.label (or-second (pattern_fits sorts MarkSort (p_var n)) (pattern_fits sorts StringSort (p_var n)) v)).0;
+    h sorts (record c { label = pi_label l c.label (p_var n); taken = c.taken ++ p_var n ∷ [] }) ss (suc n) (record {
+      label = (label-more sorts l c.label (p_var n) w.label (or-second (pattern_fits sorts MarkSort (p_var n)) (pattern_fits sorts StringSort (p_var n)) v));
       taken = all-join (is_value_pattern sorts) c.taken (p_var n ∷ []) w.taken (and_from (is_value_pattern sorts (p_var n)) true (or-second (pattern_fits sorts TermSort (p_var n)) (pattern_fits sorts StringSort (p_var n)) v) refl);
       env = w.env;
       depth = w.depth;
     }))
 modal-fits l Pi go d h sorts c ss n w =
     let p = p_new c.position (patterns_tree c.taken) in
-    kept sorts n one_pi_more (λ y. refl) (λ y q. q) (go (record c { label = pi_patterns l c.label p }) ss n)
-    (h sorts (record c { label = pi_patterns l c.label p }) ss n (spot-label sorts d c (pi_patterns l c.label p) w (label-more sorts l c.label p w.label (or-first (pattern_fits sorts MarkSort p) (pattern_fits sorts StringSort p) (values-tree sorts c.taken w.taken))).1))
+    kept sorts n one_pi_more (λ y. refl) (λ y q. q) (go (record c { label = pi_label l c.label p }) ss n)
+    (h sorts (record c { label = pi_label l c.label p }) ss n (spot-label sorts d c (pi_label l c.label p) w (label-more sorts l c.label p w.label (or-first (pattern_fits sorts MarkSort p) (pattern_fits sorts StringSort p) (values-tree sorts c.taken w.taken)))))
 
 spot-down : (sorts : List Sort) (d : ℕ) (c : PatternSpot) (k : ℕ) → SpotFits sorts d c → SpotFits sorts d (pattern_down k c)
 spot-down sorts d c k w = record { label = w.label; taken = w.taken; env = w.env; depth = w.depth }

@@ -22,17 +22,16 @@ use Rattle.calculus.specs.Lists.{marks_tree-marks_list}
 use Rattle.calculus.specs.Equality.{mark_eq, list_eq, literal_eq}
 use Rattle.calculus.specs.Kinds.{other, shape_of, modal_of}
 use Rattle.calculus.specs.Positions.{size}
-use Rattle.calculus.specs.Labels.{is_prefix, steps_to, nu_label, pi_label}
+use Rattle.calculus.specs.Labels.{is_prefix, steps_to, nu_label, pi_label, is_step_length}
 use Rattle.calculus.specs.Problems.{formula_fits}
 use Rattle.calculus.specs.Skolem.{is_empty, is_admitted_value}
 use Rattle.calculus.specs.Instances.{ground_of, grounds_of, Spot, root_spot, Turn}
 use Rattle.calculus.specs.ComputedInstances.{Supply, Part, with_modal_step, at_modal, with_turn, at_literal, join_of, at_alpha, at_one, at_two, with_gamma, at_quantifier, part_of, if_used_up, instance_of, is_instance}
 use Rattle.calculus.specs.Stores.{a_mark, a_string}
-use Rattle.calculus.specs.Systems.{is_step_length}
 use Rattle.calculus.proofs.EqualityLaws.{mark_eq-tells, list_eq-tells, literal_eq-tells}
 use Rattle.calculus.specs.Patterns.{Pattern, p_var, p_eigen, p_new, no_patterns, patterns_tree, Template}
 use Rattle.calculus.specs.Templates.{as_term, as_value, as_label, value_of_variable, pattern_value, pattern_terms, pattern_values, pattern_label, pattern_literal, pattern_gamma, literals_by, has_value_sort, have_sorts, is_step_value, is_choice_of_values, clause_by, IsTemplateOf}
-use Rattle.connection_search.specs.TemplateOf.{PatternSpot, root_pattern_spot, PatternTurn, PatternPart, PatternBody, pattern_of, patterns_of, pattern_down, pattern_inside, nu_patterns, pi_patterns, of_sort, one_pi_more, pattern_modal, pattern_turn, pattern_atom, joined_patterns, pattern_alpha, pattern_beta, pattern_one, pattern_two, with_pattern_gamma, pattern_quantifier, pattern_part, template_by, if_sides_used, template_of}
+use Rattle.connection_search.specs.TemplateOf.{PatternSpot, root_pattern_spot, PatternTurn, PatternPart, PatternBody, pattern_of, patterns_of, pattern_down, pattern_inside, of_sort, one_pi_more, pattern_modal, pattern_turn, pattern_atom, joined_patterns, pattern_alpha, pattern_beta, pattern_one, pattern_two, with_pattern_gamma, pattern_quantifier, pattern_part, template_by, if_sides_used, template_of}
 use Rattle.connection_search.proofs.Dropping.{drop-next, drop-both}
 use Rattle.connection_search.proofs.TemplateFits.{template-part_fits}
 
@@ -169,7 +168,7 @@ filled-empty l vs s (Some y) = refl
 
 -- ---- labels after a step
 
-nu-image : (vs : List Value) (l : Logic) (ws : List Pattern) (p : Pattern) (w : List GroundMark) → pattern_value vs p ≡ a_string w → pattern_label vs (nu_patterns l ws p) ≡ nu_label l (pattern_label vs ws) w
+nu-image : (vs : List Value) (l : Logic) (ws : List Pattern) (p : Pattern) (w : List GroundMark) → pattern_value vs p ≡ a_string w → pattern_label vs (pi_label l ws p) ≡ nu_label l (pattern_label vs ws) w
 nu-image vs Classical ws p w e = label-more vs ws p ∙ ap (λ v. pattern_label vs ws ++ as_label v) e
 nu-image vs Intuitionistic ws p w e = label-more vs ws p ∙ ap (λ v. pattern_label vs ws ++ as_label v) e
 nu-image vs D ws p w e = label-more vs ws p ∙ ap (λ v. pattern_label vs ws ++ as_label v) e
@@ -177,7 +176,7 @@ nu-image vs LogicT ws p w e = label-more vs ws p ∙ ap (λ v. pattern_label vs 
 nu-image vs S4 ws p w e = label-more vs ws p ∙ ap (λ v. pattern_label vs ws ++ as_label v) e
 nu-image vs S5 ws p w e = append-nil (as_label (pattern_value vs p)) ∙ ap as_label e
 
-pi-image : (vs : List Value) (l : Logic) (ws : List Pattern) (p : Pattern) (m : GroundMark) → pattern_value vs p ≡ a_mark m → pattern_label vs (pi_patterns l ws p) ≡ pi_label l (pattern_label vs ws) m
+pi-image : (vs : List Value) (l : Logic) (ws : List Pattern) (p : Pattern) (m : GroundMark) → pattern_value vs p ≡ a_mark m → pattern_label vs (pi_label l ws p) ≡ pi_label l (pattern_label vs ws) m
 pi-image vs Classical ws p m e = label-more vs ws p ∙ ap (λ v. pattern_label vs ws ++ as_label v) e
 pi-image vs Intuitionistic ws p m e = label-more vs ws p ∙ ap (λ v. pattern_label vs ws ++ as_label v) e
 pi-image vs D ws p m e = label-more vs ws p ∙ ap (λ v. pattern_label vs ws ++ as_label v) e
@@ -201,15 +200,15 @@ modal-mirrors l Plain go body k vs c ss n rest e = map-nothing (go (spot_by vs c
 modal-mirrors l Pi go body k vs c ss n rest e =
     let mark = g_new_mark c.position (values_tree (map (value_at vs) c.taken)) in
     let p = p_new c.position (patterns_tree c.taken) in
-    let next : PatternSpot = record c { label = pi_patterns l c.label p } in
+    let next : PatternSpot = record c { label = pi_label l c.label p } in
     let label = pi-image vs l c.label p mark (ap (λ us. a_mark (g_new_mark c.position us)) (values-image vs c.taken)) in
     ap (option_map (with_modal_step Pi)) ((λ i. go (record { position = c.position; label = sym label i; taken = map (value_at vs) c.taken; env = map (term_at vs) c.env }) (supply ss rest)) ∙ k vs next ss n rest e)
     ∙ sym (filled-map l vs rest one_pi_more (with_modal_step Pi) (λ y. refl) (λ y. refl) (body next ss n))
-modal-mirrors l Nu go body k vs c ss n [] e = sym (filled-empty l vs StringSort (body (record c { label = nu_patterns l c.label (p_var n); taken = c.taken ++ p_var n ∷ [] }) ss (suc n)))
-modal-mirrors l Nu go body k vs c ss n (term t ∷ rest) e = sym (filled-more l vs rest (term t) StringSort (with_modal_step Nu) (λ y. refl) (body (record c { label = nu_patterns l c.label (p_var n); taken = c.taken ++ p_var n ∷ [] }) ss (suc n)))
+modal-mirrors l Nu go body k vs c ss n [] e = sym (filled-empty l vs StringSort (body (record c { label = pi_label l c.label (p_var n); taken = c.taken ++ p_var n ∷ [] }) ss (suc n)))
+modal-mirrors l Nu go body k vs c ss n (term t ∷ rest) e = sym (filled-more l vs rest (term t) StringSort (with_modal_step Nu) (λ y. refl) (body (record c { label = pi_label l c.label (p_var n); taken = c.taken ++ p_var n ∷ [] }) ss (suc n)))
 modal-mirrors l Nu go body k vs c ss n (steps s ∷ rest) e =
     let d = drop-next n vs (steps s) rest e in
-    let next : PatternSpot = record c { label = nu_patterns l c.label (p_var n); taken = c.taken ++ p_var n ∷ [] } in
+    let next : PatternSpot = record c { label = pi_label l c.label (p_var n); taken = c.taken ++ p_var n ∷ [] } in
     let label = nu-image vs l c.label (p_var n) (marks_list s) (string-value vs n s d.0) in
     let taken : map (value_at vs) (c.taken ++ p_var n ∷ []) ≡ map (value_at vs) c.taken ++ steps s ∷ [] = map-append (value_at vs) c.taken (p_var n ∷ []) ∙ ap (λ v. map (value_at vs) c.taken ++ v ∷ []) (string-taken vs n s d.0) in
     let there = (λ i. go (record { position = c.position; label = sym label i; taken = sym taken i; env = map (term_at vs) c.env }) (supply ss rest)) ∙ k vs next ss (suc n) rest d.1 in

@@ -8,7 +8,8 @@ use Rattle.calculus.specs.declared.sort.Sort.TheVariants.{TermSort, MarkSort, St
 use Rattle.calculus.specs.Ground.{common, g_spare_mark, no_marks, more_marks, term, steps}
 use Rattle.calculus.specs.Equality.{sort_eq}
 use Rattle.calculus.specs.Stores.{variable, Store, sort_of, has_sort_at}
-use Rattle.connection_search.specs.Building.{plus_cell, plus_variables, places_of}
+use Rattle.calculus.specs.Bindings.{with_cell}
+use Rattle.connection_search.specs.Building.{plus_variables, places_of}
 use Rattle.connection_search.specs.LabelledCells.{sort_value}
 use Rattle.connection_search.specs.StateSystems.{string_cells}
 use Rattle.connection_search.proofs.BuildingLaws.{variables-front, get-last, length-plus}
@@ -23,11 +24,11 @@ pub variables-have : (sorts : List Sort) (s : Store) (n : ℕ) → n ≡ length 
 variables-have sorts s n e = each sorts s n e
   where
     first : (sort : Sort) (rest : List Sort) (t : Store) (m : ℕ) → m ≡ length t.cells → option_map sort_of (slice_get (plus_variables (sort ∷ rest) t).cells m) ≡ Some sort
-    first sort rest t m f = ap (option_map sort_of) (variables-front rest (plus_cell (variable sort None) t) m (variable sort None) (ap (slice_get (plus_cell (variable sort None) t).cells) f ∙ get-last t.cells (variable sort None)))
+    first sort rest t m f = ap (option_map sort_of) (variables-front rest (with_cell (variable sort None) t) m (variable sort None) (ap (slice_get (with_cell (variable sort None) t).cells) f ∙ get-last t.cells (variable sort None)))
 
     each : (xs : List Sort) (t : Store) (m : ℕ) → m ≡ length t.cells → HaveSortsAt (plus_variables xs t) xs (places_of m xs)
     each [] t m f = refl
-    each (sort ∷ xs) t m f = (m, places_of (suc m) xs, refl, first sort xs t m f, each xs (plus_cell (variable sort None) t) (suc m) (let l = length-plus (variable sort None) t in omega (arith, f, l)))
+    each (sort ∷ xs) t m f = (m, places_of (suc m) xs, refl, first sort xs t m f, each xs (with_cell (variable sort None) t) (suc m) (let l = length-plus (variable sort None) t in omega (arith, f, l)))
 
 -- a store that keeps the sorts of cells keeps these
 pub sorts-kept : (old new : Store) → ((r : ℕ) (sort : Sort) → option_map sort_of (slice_get old.cells r) ≡ Some sort → option_map sort_of (slice_get new.cells r) ≡ Some sort) → (sorts : List Sort) (rs : List ℕ) → HaveSortsAt old sorts rs → HaveSortsAt new sorts rs

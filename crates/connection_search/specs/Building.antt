@@ -2,30 +2,24 @@
 use Rattle.std.specs.Prelude.{◌≡◌, ℕ, suc, List, [], ◌∷◌, ◌++◌, Bool, true, false, Some, None, slice_get, IsTrue}
 use Rattle.calculus.specs.declared.sort.Sort.{Sort}
 use Rattle.calculus.specs.Stores.{Cell, variable, fun_cell, eigen_cell, new_cell, Store, parts_fit, is_store}
+use Rattle.calculus.specs.Bindings.{with_cell, is_variable}
 use Rattle.calculus.specs.Systems.{CellAtom}
 use Rattle.calculus.specs.Patterns.{Pattern, Patterns, p_var, p_fun, p_eigen, p_new, no_patterns, more_patterns, patterns_tree, PatternAtom}
-
-abbrev pub plus_cell : Cell → Store → Store
-plus_cell c s = record s { cells = s.cells ++ c ∷ [] }
 
 -- one unbound variable of each sort more
 abbrev pub plus_variables : List Sort → Store → Store
 plus_variables [] s = s
-plus_variables (sort ∷ sorts) s = plus_variables sorts (plus_cell (variable sort None) s)
+plus_variables (sort ∷ sorts) s = plus_variables sorts (with_cell (variable sort None) s)
 
 -- as many places from n on
 abbrev pub places_of : ℕ → List Sort → List ℕ
 places_of n [] = []
 places_of n (sort ∷ sorts) = n ∷ places_of (suc n) sorts
 
-abbrev pub is_built : Cell → Bool
-is_built (variable sort b) = false
-is_built _ = true
-
 -- built cells were added one by one, each after its parts
 pub data AddsBuilt : Store → Store → Type 0 where
   nothing_more : {s : Store} → AddsBuilt s s
-  one_more : {s t : Store} (c : Cell) → IsTrue (is_store s) → IsTrue (parts_fit s c) → IsTrue (is_built c) → AddsBuilt (plus_cell c s) t → AddsBuilt s t
+  one_more : {s t : Store} (c : Cell) → IsTrue (is_store s) → IsTrue (parts_fit s c) → is_variable c ≡ false → AddsBuilt (with_cell c s) t → AddsBuilt s t
 
 -- the cell r is the pattern over these variables
 abbrev mutual

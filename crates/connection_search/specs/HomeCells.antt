@@ -8,6 +8,7 @@ use Rattle.calculus.specs.declared.kind.Shape.TheVariants.{Gamma}
 use Rattle.calculus.specs.declared.kind.ModalPart.{ModalPart}
 use Rattle.calculus.specs.declared.kind.ModalPart.TheVariants.{Plain, Nu, Pi}
 use Rattle.calculus.specs.Kinds.{shape_of, modal_of}
+use Rattle.calculus.specs.Labels.{pi_label}
 use Rattle.calculus.specs.Positions.{Node}
 use Rattle.calculus.specs.Stores.{new_cell, Store, has_sort_at}
 
@@ -17,16 +18,11 @@ pub record CellReached : Type 0 where
   pub taken : List ℕ
   pub rest : List ℕ
 
--- the label after one more string or mark
-abbrev pub next_label : Logic → List ℕ → ℕ → List ℕ
-next_label S5 w r = r ∷ []
-next_label _ w r = w ++ r ∷ []
-
--- a nu position takes a string, and a pi position is named by a cell
+-- a nu position takes a string, and a pi position is named by a cell; either is one item more of the label
 pub data PassesModal (l : Logic) (s : Store) (p : ℕ) : ModalPart → CellReached → CellReached → Type 0 where
   by_plain : {c : CellReached} → PassesModal l s p Plain c c
-  by_string : (w taken rest : List ℕ) (r : ℕ) → IsTrue (has_sort_at s StringSort r) → PassesModal l s p Nu (record { label = w; taken = taken; rest = r ∷ rest }) (record { label = next_label l w r; taken = taken ++ r ∷ []; rest = rest })
-  by_mark : (w taken rest : List ℕ) (k : ℕ) → slice_get s.cells k ≡ Some (new_cell p taken) → PassesModal l s p Pi (record { label = w; taken = taken; rest = rest }) (record { label = next_label l w k; taken = taken; rest = rest })
+  by_string : (w taken rest : List ℕ) (r : ℕ) → IsTrue (has_sort_at s StringSort r) → PassesModal l s p Nu (record { label = w; taken = taken; rest = r ∷ rest }) (record { label = pi_label l w r; taken = taken ++ r ∷ []; rest = rest })
+  by_mark : (w taken rest : List ℕ) (k : ℕ) → slice_get s.cells k ≡ Some (new_cell p taken) → PassesModal l s p Pi (record { label = w; taken = taken; rest = rest }) (record { label = pi_label l w k; taken = taken; rest = rest })
 
 abbrev pub is_gamma_shape : Shape → Bool
 is_gamma_shape Gamma = true

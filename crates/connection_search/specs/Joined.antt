@@ -4,6 +4,7 @@ use Rattle.std.specs.List.{list_all}
 use Rattle.std.specs.Option.{option_map_or}
 use Rattle.calculus.specs.Syntax.{Problem}
 use Rattle.calculus.specs.ComputedInstances.{is_allowed_instance}
+use Rattle.calculus.specs.Lists.{closings_tree}
 use Rattle.calculus.specs.Tableaux.{is_complement, ancestor, Closing, Closings, reduce, extend, no_closings, more_closings, Tableau, has_unbounded_strings, strings_within, total_steps}
 use Rattle.calculus.specs.Space.{instances_in}
 use Rattle.calculus.specs.Choices.{start, reduction, extension, GroundChoice, Goal, Growth, after_start, grow_at}
@@ -26,10 +27,6 @@ are_joined P (start i ∷ cs) = is_allowed_instance P i && option_map_or (joins_
 are_joined P _ = false
 
 -- ---- the tableau of a list of choices
-
-abbrev pub closings_tree : List Closing → Closings
-closings_tree [] = no_closings
-closings_tree (c ∷ cs) = more_closings c (closings_tree cs)
 
 -- the closings of the goals that the choices close one after the other: an extension takes as many of those behind it as its clause has
 -- other literals

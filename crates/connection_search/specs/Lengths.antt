@@ -29,7 +29,7 @@ first_length D = 1
 first_length _ = 0
 
 abbrev pub many_lengths : Logic → ℕ → ℕ
-many_lengths Classical b = 0
+many_lengths Classical b = 1
 many_lengths Intuitionistic b = suc b
 many_lengths D b = 1
 many_lengths LogicT b = 2

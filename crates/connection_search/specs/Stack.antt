@@ -10,6 +10,7 @@ use Rattle.calculus.specs.Syntax.{Problem}
 use Rattle.calculus.specs.Stores.{Store, TrailMark, cut_at, IsGood}
 use Rattle.calculus.specs.Systems.{CellAtom}
 use Rattle.calculus.specs.Patterns.{PatternAtom}
+use Rattle.calculus.specs.Bindings.{IsEarlier}
 use Rattle.connection_search.specs.Matrix.{MatrixClause, MatrixPlace, is_about}
 use Rattle.connection_search.specs.States.{CellGoal, State, IsStateOf}
 use Rattle.connection_search.specs.Exploring.{behind}
@@ -57,10 +58,6 @@ pending_on (p ∷ ps) = behind p.choices p.untried ++ pending_on ps
 
 -- ---- what a stack keeps while one store goes on
 
--- a mark that is good stays so, with its cut
-abbrev pub KeepsMarks : Store → Store → Type 0
-KeepsMarks before after = (m : TrailMark) → IsGood m before → IsGood m after × (cut_at m after ≡ cut_at m before)
-
 -- a choice point with the state in which it was made, and the mark of the store at that time
 pub record SavedPoint : Type 0 where
   pub point : ChoicePoint
@@ -76,11 +73,7 @@ pub record IsSaved (P : Problem) (d : ℕ) (store : Store) (saved : SavedPoint) 
 abbrev pub AreSaved : Problem → ℕ → Store → List SavedPoint → Type 0
 AreSaved P d store ps = AllByRecursion (IsSaved P d store) ps
 
--- neither number of k is above that of m
-abbrev pub IsNotLater : TrailMark → TrailMark → Type 0
-IsNotLater k m = (k.cells ≤ m.cells) × (k.entries ≤ m.entries)
-
 -- the marks rise from the bottom of the stack to its top
 abbrev pub MarksRise : List SavedPoint → Type 0
 MarksRise [] = ⊤
-MarksRise (p ∷ ps) = AllByRecursion (λ (q : SavedPoint). IsNotLater q.mark p.mark) ps × MarksRise ps
+MarksRise (p ∷ ps) = AllByRecursion (λ (q : SavedPoint). IsEarlier q.mark p.mark) ps × MarksRise ps

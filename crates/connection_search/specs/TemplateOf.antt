@@ -14,6 +14,7 @@ use Rattle.calculus.specs.declared.kind.ModalPart.{ModalPart}
 use Rattle.calculus.specs.declared.kind.ModalPart.TheVariants.{Plain, Nu, Pi}
 use Rattle.calculus.specs.Syntax.{Term, Terms, var, fun, eigen, spare, no_terms, more_terms, Formula, atom, neg, conj, disj, imp, all, ex, box, dia, Problem}
 use Rattle.calculus.specs.Kinds.{other, shape_of, modal_of}
+use Rattle.calculus.specs.Labels.{pi_label}
 use Rattle.calculus.specs.Positions.{size}
 use Rattle.calculus.specs.Patterns.{patterns_tree, Pattern, Patterns, p_var, p_fun, p_eigen, p_new, no_patterns, more_patterns, PatternAtom, PatternGamma, Template}
 use Rattle.calculus.specs.Templates.{strings_from}
@@ -64,26 +65,17 @@ pattern_down n c = record c { position = c.position + n }
 abbrev pub pattern_inside : Pattern → List Pattern → PatternSpot → PatternSpot
 pattern_inside p ps c = record { position = c.position + 1; label = c.label; taken = ps; env = p ∷ c.env }
 
--- the labels after a nu step with a string and a pi step with a character
-abbrev pub nu_patterns : Logic → List Pattern → Pattern → List Pattern
-nu_patterns S5 w p = p ∷ []
-nu_patterns _ w p = w ++ p ∷ []
-
-abbrev pub pi_patterns : Logic → List Pattern → Pattern → List Pattern
-pi_patterns S5 w p = p ∷ []
-pi_patterns _ w p = w ++ p ∷ []
-
 abbrev pub of_sort : Sort → PatternPart → PatternPart
 of_sort s y = record y { sorts = s ∷ y.sorts }
 
 abbrev pub one_pi_more : PatternPart → PatternPart
 one_pi_more y = record y { pis = suc y.pis }
 
--- a nu step takes a string variable, and a pi step names a character
+-- a nu step takes a string variable, and a pi step names a character; either is one item more of the label
 abbrev pub pattern_modal : Logic → ModalPart → PatternBody → PatternBody
 pattern_modal l Plain go c ss n = go c ss n
-pattern_modal l Nu go c ss n = option_map (of_sort StringSort) (go (record c { label = nu_patterns l c.label (p_var n); taken = c.taken ++ p_var n ∷ [] }) ss (suc n))
-pattern_modal l Pi go c ss n = option_map one_pi_more (go (record c { label = pi_patterns l c.label (p_new c.position (patterns_tree c.taken)) }) ss n)
+pattern_modal l Nu go c ss n = option_map (of_sort StringSort) (go (record c { label = pi_label l c.label (p_var n); taken = c.taken ++ p_var n ∷ [] }) ss (suc n))
+pattern_modal l Pi go c ss n = option_map one_pi_more (go (record c { label = pi_label l c.label (p_new c.position (patterns_tree c.taken)) }) ss n)
 
 abbrev pub pattern_turn : ℕ → List Pattern → Option PatternPart → Option PatternPart
 pattern_turn p vs o = option_map (λ (y : PatternPart). record y { turns = record { position = p; values = vs } ∷ y.turns }) o

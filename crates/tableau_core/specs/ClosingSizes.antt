@@ -1,7 +1,7 @@
 -- The sizes of closings as trees, by which recursions over them end.
 use Rattle.std.specs.Prelude.{ℕ, suc, ◌+◌, List}
 use Rattle.calculus.specs.Tableaux.{Closing, Closings, reduce, extend, no_closings, more_closings}
-use Rattle.tableau_core.specs.ClosingLists.{closings_tree}
+use Rattle.calculus.specs.Lists.{closings_tree}
 
 abbrev mutual
   pub closing_size : Closing → ℕ

@@ -5,7 +5,6 @@ pub mod InstanceView
 pub mod ClosingView
 pub mod TableauView
 pub mod ChoiceView
-pub mod ClosingLists
 pub mod ClosingCodes
 pub mod ClosingSizes
 pub mod ClosingFalls

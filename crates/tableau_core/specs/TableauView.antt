@@ -1,6 +1,6 @@
 -- The tableaux of the calculus that those of the program stand for.
 use Rattle.calculus.specs.Tableaux as tree
-use Rattle.tableau_core.specs.ClosingLists.{closings_tree}
+use Rattle.calculus.specs.Lists.{closings_tree}
 use Rattle.tableau_core.specs.InstanceView.{the_instance}
 use Rattle.tableau_core.specs.declared.tableau.Tableau.{Tableau}
 

@@ -10,7 +10,8 @@ use Rattle.calculus.proofs.BindingLaws.{ends-once, kept, parts-within, get-bound
 use Rattle.calculus.proofs.WeightLaws.{weight, weight_sum, weight_sum-none, weight_sum-more, weight_sum-append, weight-parts, weight-positive, weight-bound}
 use Rattle.calculus.proofs.SolutionLaws.{ends-same, alike-parts, SolvesPairs-join, SolvesPairs-split, Solves-bound, Solves-unbound, occurs-apart, some_solution}
 use Rattle.term_store.specs.declared.cell.Ref.{Ref}
-use Rattle.term_unify.specs.PairView.{the_pair, the_place}
+use Rattle.term_store.specs.RefView.{the_place}
+use Rattle.term_unify.specs.PairView.{the_pair}
 use Rattle.term_unify.specs.Steps.{AreBuilt, AddsParts, AreCells, OccursAmong, AreAllCells, SolvesAll, IsBinding, AreEnds, OccursInPairs, OccursBefore, BindsInPairs}
 
 pub map-last : {A B : Type 0} (f : A → B) (xs : List A) (x : A) → map f (xs ++ x ∷ []) ≡ map f xs ++ f x ∷ []

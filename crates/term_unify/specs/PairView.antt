@@ -4,6 +4,3 @@ use Rattle.term_store.specs.declared.cell.Ref.{Ref}
 
 abbrev pub the_pair : Ref × Ref → ℕ × ℕ
 the_pair p = (p.0.0, p.1.0)
-
-abbrev pub the_place : Ref → ℕ
-the_place r = r.0

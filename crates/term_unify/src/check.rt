@@ -3,7 +3,7 @@
 ghost use Rattle.std.specs.Prelude.{◌≡◌, ◌++◌, IfOk, OnOk, Some, false, map, slice_get, true};
 ghost use Rattle.calculus.specs.Bindings.{IsEnd, IsSound};
 ghost use Rattle.calculus.specs.Stores.{Cell, OccursIn, parts_of};
-ghost use Rattle.term_unify.specs.PairView.{the_place};
+ghost use Rattle.term_store.specs.RefView.{the_place};
 
 use cop_base::NoMemory;
 use term_store::{Ref, Store};

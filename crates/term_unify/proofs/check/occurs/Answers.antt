@@ -1,7 +1,7 @@
 use Rattle.std.proofs.Common.{◌∙◌, ◌++◌, ap, map}
 use Rattle.calculus.specs.Stores.{parts_of}
 use Rattle.calculus.proofs.BindingLaws.{ends-there}
-use Rattle.term_unify.specs.PairView.{the_place}
+use Rattle.term_store.specs.RefView.{the_place}
 use Rattle.term_unify.proofs.PairLaws.{looks-found, looks-less, looks-on, looks-parts, looks-place, map-last}
 use Rattle.term_unify.proofs.check.occurs.Goals as goal
 

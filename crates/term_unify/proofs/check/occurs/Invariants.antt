@@ -1,6 +1,6 @@
 use Rattle.std.proofs.Common.{map}
 use Rattle.calculus.proofs.WeightLaws.{weight_sum}
-use Rattle.term_unify.specs.PairView.{the_place}
+use Rattle.term_store.specs.RefView.{the_place}
 use Rattle.term_unify.proofs.PairLaws.{LooksAt}
 use Rattle.term_unify.proofs.check.occurs.Given as goal
 

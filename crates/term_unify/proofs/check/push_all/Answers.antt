@@ -1,6 +1,6 @@
 use Rattle.std.proofs.Common.{◌≡◌, ◌++◌, ◌∙◌, ap, arith, map, take}
 use Rattle.calculus.specs.Stores.{parts_of}
-use Rattle.term_unify.specs.PairView.{the_place}
+use Rattle.term_store.specs.RefView.{the_place}
 use Rattle.term_unify.proofs.PairLaws.{all-added, all-done}
 use Rattle.term_unify.proofs.check.push_all.Goals as goal
 

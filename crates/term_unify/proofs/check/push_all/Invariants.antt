@@ -1,7 +1,7 @@
 use Rattle.std.proofs.Common.{◌≡◌, ◌++◌, Some, map, take}
 use Rattle.std.specs.Prelude.{slice_get}
 use Rattle.calculus.specs.Stores.{Cell, parts_of}
-use Rattle.term_unify.specs.PairView.{the_place}
+use Rattle.term_store.specs.RefView.{the_place}
 use Rattle.term_unify.proofs.check.push_all.Given as goal
 
 abbrev pub invariant-loop-i : goal.invariant-loop-i
