@@ -8,7 +8,7 @@ use Rattle.calculus.specs.declared.sort.Sort.{Sort}
 use Rattle.calculus.specs.declared.sort.Sort.TheVariants.{TermSort, MarkSort, StringSort}
 use Rattle.calculus.specs.Equality.{contains, sort_eq}
 use Rattle.calculus.specs.Stores.{is_store, trail_fits, are_distinct_cells, bound_cells, is_bound, sort_of, has_sort_at, has_value_sort_at, parts_of, parts_fit, names_below, Cell, variable, fun_cell, eigen_cell, new_cell, string_cell, Store, TrailMark, cells_bound_by, cut_at, store_is_below, IsGood, OccursIn, here, in_part, HasNoCycle, EndsAt, stays, goes_on}
-use Rattle.calculus.specs.Bindings.{with_cell, bound_to, bind_at, with_binding, MayBind, IsRanked, HasRank, KeepsMarks, KeepsEarlier, IsSound, IsEnd}
+use Rattle.calculus.specs.Bindings.{with_cell, bound_to, bind_at, with_binding, MayBind, IsRanked, HasRank, KeepsMarks, KeepsEarlier, IsWellFormed, IsEnd}
 use Rattle.calculus.proofs.PlaceLists.{all-at, all-from, all-more, get-front, get-last, get-within, take-front, contains-append, all-contained, contained}
 use Rattle.calculus.proofs.StoreLaws.{contains-take, not-below, is_store-cut_at, IsGood-cut_at, cut_at-cut_at}
 
@@ -460,14 +460,14 @@ HasRank-cut_at m s (rank, h) = (rank, λ i r k c e p. let w = cut-cell (take m.e
 pub KeepsEarlier-cut_at : (m : TrailMark) (s : Store) → KeepsEarlier m s (cut_at m s)
 KeepsEarlier-cut_at m s k e g = (IsGood-cut_at k m s e g, cut_at-cut_at k m s e)
 
-pub IsSound-cut_at : (m : TrailMark) (s : Store) → IsSound s → IsGood m s → IsSound (cut_at m s)
-IsSound-cut_at m s w g = record { fits = is_store-cut_at m s w.fits g; rank = HasRank-cut_at m s w.rank }
+pub IsWellFormed-cut_at : (m : TrailMark) (s : Store) → IsWellFormed s → IsGood m s → IsWellFormed (cut_at m s)
+IsWellFormed-cut_at m s w g = record { fits = is_store-cut_at m s w.fits g; rank = HasRank-cut_at m s w.rank }
 
-pub IsSound-with_cell : (c : Cell) (s : Store) → IsSound s → IsTrue (parts_fit s c) → is_bound c ≡ false → IsSound (with_cell c s)
-IsSound-with_cell c s w f b = record { fits = is_store-with_cell c s w.fits f b; rank = HasRank-with_cell c s w.fits f w.rank }
+pub IsWellFormed-with_cell : (c : Cell) (s : Store) → IsWellFormed s → IsTrue (parts_fit s c) → is_bound c ≡ false → IsWellFormed (with_cell c s)
+IsWellFormed-with_cell c s w f b = record { fits = is_store-with_cell c s w.fits f b; rank = HasRank-with_cell c s w.fits f w.rank }
 
-pub IsSound-with_binding : (v r : ℕ) (s : Store) → IsSound s → MayBind s v r → IsSound (with_binding v r s)
-IsSound-with_binding v r s w m = record { fits = is_store-with_binding v r s w.fits m; rank = HasRank-with_binding v r s m w.rank }
+pub IsWellFormed-with_binding : (v r : ℕ) (s : Store) → IsWellFormed s → MayBind s v r → IsWellFormed (with_binding v r s)
+IsWellFormed-with_binding v r s w m = record { fits = is_store-with_binding v r s w.fits m; rank = HasRank-with_binding v r s m w.rank }
 
 take-all : {A : Type 0} (xs : List A) → take (length xs) xs ≡ xs
 take-all [] = refl
@@ -528,5 +528,5 @@ ends-once s r v w (stays {c = c} e b) (goes_on {k = k} {sort = t} f o) = absurd 
 ends-once s r v w (goes_on {k = k} {sort = t} e o) p = ends-once s k v w o (ends-on s r k w t e p)
 
 -- what a bound cell is bound to is a cell
-pub bound-inside : (s : Store) (r k : ℕ) (sort : Sort) → IsSound s → slice_get s.cells r ≡ Some (variable sort (Some k)) → k < length s.cells
+pub bound-inside : (s : Store) (r k : ℕ) (sort : Sort) → IsWellFormed s → slice_get s.cells r ≡ Some (variable sort (Some k)) → k < length s.cells
 bound-inside s r k sort w e = parts-within s (variable sort (Some k)) 0 k ((kept s w.fits).fits r (variable sort (Some k)) e) refl

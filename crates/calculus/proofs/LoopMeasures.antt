@@ -5,12 +5,12 @@ use Rattle.calculus.specs.declared.sign.Sign.{Sign}
 use Rattle.calculus.specs.declared.setting.Logic.{Logic}
 use Rattle.calculus.specs.Syntax.{Formula, Problem}
 use Rattle.calculus.specs.Instances.{Spot, Turn, Share, Gives, Shaped, by_plain, by_nu, by_pi, is_literal, by_only, by_left, by_right, by_both, by_gamma, by_delta}
-use Rattle.calculus.specs.Derivations.{Step, ModalArg, apply_to, no_term}
+use Rattle.calculus.specs.Derivations.{Step, ModalArg, apply_to, no_term, axiom_count}
 use Rattle.calculus.specs.Tableaux.{Tableau}
 use Rattle.calculus.specs.Turns.{Name}
 use Rattle.calculus.specs.Numbering.{number_of}
 use Rattle.calculus.specs.Branches.{Made, rests, grows, splits, made}
-use Rattle.calculus.specs.Leading.{axiom_count, End, ends_cost, ends_weight, literals_among}
+use Rattle.calculus.specs.Leading.{End, ends_cost, ends_weight, literals_among}
 use Rattle.calculus.proofs.RunLaws.{Branch}
 use Rattle.calculus.proofs.TaskLaws.{count-step, count-axiom, cost-split, weight-split, length-ends}
 use Rattle.calculus.proofs.FollowLaws.{IsSingle}

@@ -10,7 +10,7 @@ use Rattle.calculus.specs.Syntax.{Problem}
 use Rattle.calculus.specs.Equality.{list_eq, value_eq}
 use Rattle.calculus.specs.Problems.{formula_fits}
 use Rattle.calculus.specs.Instances.{root_spot, Turn}
-use Rattle.calculus.specs.Derivations.{Step, apply_to, close, no_term, Derivation}
+use Rattle.calculus.specs.Derivations.{Step, apply_to, close, no_term, Derivation, axiom_count}
 use Rattle.calculus.specs.Calculus.{Derives}
 use Rattle.calculus.specs.Text.{is_number}
 use Rattle.calculus.specs.DerivationText.{is_limit, is_printable}
@@ -18,7 +18,7 @@ use Rattle.calculus.specs.Tableaux.{Tableau, is_closed}
 use Rattle.calculus.specs.Turns.{Name, turns_of_instance, closings_count, has_introduced_names}
 use Rattle.calculus.specs.Numbering.{IsNumbering, number_of, name_lines_of}
 use Rattle.calculus.specs.Branches.{Item, item, entry_of_item, entries_of, Made, rests, grows, splits, made}
-use Rattle.calculus.specs.Leading.{axiom_count, closings_weight, Task, task_cost, task_weight}
+use Rattle.calculus.specs.Leading.{closings_weight, Task, task_cost, task_weight}
 use Rattle.calculus.proofs.EqualityLaws.{list_eq-tells, value_eq-tells, nat_eq-tells}
 use Rattle.calculus.proofs.Members.{Among, at-among, among-right}
 use Rattle.calculus.proofs.HitLaws.{turn}

@@ -3,10 +3,10 @@ use Rattle.std.proofs.Common.{◌≡◌, ℕ, zero, suc, ◌+◌, ◌≤◌, ari
 use Rattle.std.proofs.lemmas.Bool.{false≢true, and_parts}
 use Rattle.calculus.specs.Syntax.{Problem}
 use Rattle.calculus.specs.Ground.{GroundLiteral}
-use Rattle.calculus.specs.Derivations.{Step, apply_to, close}
+use Rattle.calculus.specs.Derivations.{Step, apply_to, close, axiom_count}
 use Rattle.calculus.specs.Tableaux.{Closing, Closings, reduce, extend, no_closings, more_closings, Tableau, instances, instances_below, instances_of_all, are_complementary, is_complement, closes, closes_all}
 use Rattle.calculus.specs.Turns.{closing_count, closings_count}
-use Rattle.calculus.specs.Leading.{axiom_count, End, meets_path, by_closing, ends_of, ends_at, ends_cost, closing_weight, closings_weight, ends_weight}
+use Rattle.calculus.specs.Leading.{End, meets_path, by_closing, ends_of, ends_at, ends_cost, closing_weight, closings_weight, ends_weight}
 use Rattle.calculus.proofs.WalkLaws.{SomeIn, AllByRecursion-append}
 use Rattle.calculus.proofs.Members.{Among}
 use Rattle.std.specs.List.{AllByRecursion}

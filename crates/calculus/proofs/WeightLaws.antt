@@ -5,7 +5,7 @@ use Rattle.std.specs.Prelude.{slice_get}
 use Rattle.std.proofs.lemmas.Bool.{cases_Bool, false≢true}
 use Rattle.calculus.specs.declared.sort.Sort.{Sort}
 use Rattle.calculus.specs.Stores.{is_store, parts_of, Cell, variable, fun_cell, eigen_cell, new_cell, string_cell, Store}
-use Rattle.calculus.specs.Bindings.{bind_at, IsRanked, HasRank, IsSound}
+use Rattle.calculus.specs.Bindings.{bind_at, IsRanked, HasRank, IsWellFormed}
 use Rattle.calculus.proofs.BindingLaws.{kept, parts-within}
 
 -- ---- ranks that are no greater than the number of cells
@@ -161,7 +161,7 @@ open_count-bind zero r sort (string_cell rs ∷ cs) e = absurd (cc)
 open_count-bind (suc v) r sort (c ∷ cs) e = let h = open_count-bind v r sort cs e in omega arith
 
 -- a bound cell weighs more than what it is bound to
-pub weight-bound : (s : Store) → IsSound s → (r k : ℕ) (sort : Sort) → slice_get s.cells r ≡ Some (variable sort (Some k)) → weight s k < weight s r
+pub weight-bound : (s : Store) → IsWellFormed s → (r k : ℕ) (sort : Sort) → slice_get s.cells r ≡ Some (variable sort (Some k)) → weight s k < weight s r
 weight-bound s w r k sort e =
     let a = weight-parts s w.fits w.rank r (variable sort (Some k)) e in
     let b = weight_sum-more s k [] in

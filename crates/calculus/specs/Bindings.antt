@@ -46,7 +46,7 @@ abbrev pub HasRank : Store → Type 0
 HasRank s = (rank : ℕ → ℕ) × IsRanked s rank
 
 -- a store whose cells, bindings and trail are in order, and which has no cycle
-pub record IsSound (s : Store) : Type 0 where
+pub record IsWellFormed (s : Store) : Type 0 where
   pub fits : IsTrue (is_store s)
   pub rank : HasRank s
 

@@ -13,15 +13,8 @@ use Rattle.calculus.specs.declared.sign.Sign.TheVariants.{F}
 use Rattle.calculus.specs.Syntax.{Formula, Problem}
 use Rattle.calculus.specs.Ground.{GroundLiteral}
 use Rattle.calculus.specs.Instances.{Spot, root_spot, Turn, Share}
-use Rattle.calculus.specs.Derivations.{Step, apply_to, close}
 use Rattle.calculus.specs.Tableaux.{Closing, Closings, reduce, extend, no_closings, more_closings}
 use Rattle.calculus.specs.Turns.{closing_count, turns_of_instance}
-
--- the number of axiom steps
-abbrev pub axiom_count : List Step → ℕ
-axiom_count [] = 0
-axiom_count (apply_to n m u ∷ xs) = axiom_count xs
-axiom_count (close n k ∷ xs) = suc (axiom_count xs)
 
 -- what closes a branch that has come to a literal of an instance: a literal of the path, or a closing
 pub data End : Type 0 where
@@ -84,12 +77,11 @@ abbrev pub literals_among : Problem → List Turn → ℕ
 literals_among P [] = 0
 literals_among P (x ∷ xs) = (if is_literal_position P x.position then 1 else 0) + literals_among P xs
 
--- the turns at the front that stand below the position p
+-- the turns at the front whose positions have smaller numbers than p
 abbrev pub turns_before : ℕ → List Turn → ℕ
 turns_before p [] = 0
 turns_before p (x ∷ xs) = if nat_lt x.position p then suc (turns_before p xs) else 0
 
--- the turns of the agenda that are not done
 abbrev pub turn_eq : Turn → Turn → Bool
 turn_eq x y = x.position == y.position && list_eq value_eq x.values y.values
 
@@ -97,6 +89,7 @@ abbrev pub is_done : List Turn → Turn → Bool
 is_done [] y = false
 is_done (x ∷ xs) y = if turn_eq x y then true else is_done xs y
 
+-- the number of turns of the agenda that are not done
 abbrev pub undone : List Turn → List Turn → ℕ
 undone [] done = 0
 undone (x ∷ xs) done = (if is_done done x then 0 else 1) + undone xs done

@@ -85,7 +85,7 @@ pub record Template : Type 0 where
   pub sorts : List Sort
 
 -- the same over cells
-pub record ClauseCells : Type 0 where
+pub record CopiedClause : Type 0 where
   pub literals : List CellAtom
   pub strings : List ℕ
   pub pis : ℕ
@@ -158,7 +158,7 @@ AreGammaCopies s n [] cs = cs ≡ []
 AreGammaCopies s n (g ∷ gs) cs = (c : GammaCell) × (ds : List GammaCell) × (cs ≡ c ∷ ds) × IsGammaCopy s n g c × AreGammaCopies s n gs ds
 
 -- the cells are the template's clause, the variables being the cells from the place n on
-pub record IsClauseCopy (s : Store) (n : ℕ) (t : Template) (c : ClauseCells) : Type 0 where
+pub record IsClauseCopy (s : Store) (n : ℕ) (t : Template) (c : CopiedClause) : Type 0 where
   pub variables : (k : ℕ) (sort : Sort) → slice_get t.sorts k ≡ Some sort → slice_get s.cells (n + k) ≡ Some (variable sort None)
   pub literals : AreAtomCopies s n t.literals c.literals
   pub strings : AreCopies s n (patterns_tree t.strings) c.strings
@@ -166,7 +166,7 @@ pub record IsClauseCopy (s : Store) (n : ℕ) (t : Template) (c : ClauseCells) :
   pub gammas : AreGammaCopies s n t.gammas c.gammas
 
 -- each cell has the sort that its place asks for
-abbrev pub clause_fits : Store → ClauseCells → Bool
+abbrev pub clause_fits : Store → CopiedClause → Bool
 clause_fits s c = list_all (is_cell_atom s) c.literals && list_all (has_sort_at s StringSort) c.strings && list_all (is_gamma_cell s) c.gammas
 
 -- ---- what models of program types need

@@ -14,7 +14,7 @@ use Rattle.calculus.specs.Patterns.{Pattern, Patterns, p_var, p_fun, p_eigen, p_
 use Rattle.calculus.specs.Templates.{as_term, as_value, as_label, cell_value, value_of_variable, pattern_value, pattern_terms, pattern_values, pattern_label, pattern_literal, has_value_sort, have_sorts}
 use Rattle.calculus.specs.Bindings.{with_cell, is_variable}
 use Rattle.connection_search.specs.States.{CellClause, clause_is_below, terms_by, label_by, values_by, literal_by, Agree}
-use Rattle.connection_search.specs.Steps.{IsCopy, IsHeadCopy, IsRestCopy}
+use Rattle.connection_search.specs.Steps.{IsFreshClause, IsHeadCopy, IsRestCopy}
 use Rattle.connection_search.specs.Building.{plus_variables, places_of, AddsBuilt, nothing_more, one_more, IsBuilt, AreBuilt, IsBuiltAtom, AreBuiltAtoms}
 use Rattle.connection_search.proofs.BelowLaws.{all-weaken}
 use Rattle.connection_search.proofs.SpareLaws.{IsPart, own_cell, cell-fits, cell-sorted, all-at, terms-there, values-there, marks-there, cell-alike, sort-same, or-both}
@@ -358,7 +358,7 @@ rest-by_cells old new sides t i selection names adds sorted built = record {
 }
 
 -- the whole clause at once
-pub copy-by_cells : (old new : Store) (sides : List Side) (t : Template) (i : CellClause) → AreStores t.sorts old → IsTrue (list_all is_variable_sort t.sorts) → AddsBuilt (plus_variables t.sorts old) new → i.selection ≡ sides → i.values ≡ places_of (length old.cells) t.sorts → IsTrue (clause_is_below (length new.cells) i) → AreBuiltAtoms new i.values t.literals i.literals → IsCopy old new sides t i
+pub copy-by_cells : (old new : Store) (sides : List Side) (t : Template) (i : CellClause) → AreStores t.sorts old → IsTrue (list_all is_variable_sort t.sorts) → AddsBuilt (plus_variables t.sorts old) new → i.selection ≡ sides → i.values ≡ places_of (length old.cells) t.sorts → IsTrue (clause_is_below (length new.cells) i) → AreBuiltAtoms new i.values t.literals i.literals → IsFreshClause old new sides t i
 copy-by_cells old new sides t i stores sorts adds selection values names built = record {
   selection = selection;
   longer = let l = variables-longer t.sorts old in let m = adds-longer mid new adds in omega (arith, l, m);

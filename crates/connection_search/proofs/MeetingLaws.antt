@@ -13,7 +13,7 @@ use Rattle.calculus.proofs.EqualityLaws.{grounds_eq-tells}
 use Rattle.calculus.specs.Patterns.{PatternAtom, Template}
 use Rattle.calculus.specs.Templates.{pattern_literal, literals_by}
 use Rattle.connection_search.specs.States.{CellClause, CellGoal, atom_is_below, clause_is_below, terms_by, values_by, literal_by}
-use Rattle.connection_search.specs.Steps.{AreUnified, Clash, IsCopy, IsExtended, CannotExtend, IsReduced, CannotReduce, IsHeadCopy, IsRestCopy}
+use Rattle.connection_search.specs.Steps.{AreUnified, Clash, IsFreshClause, IsExtended, CannotExtend, IsReduced, CannotReduce, IsHeadCopy, IsRestCopy}
 use Rattle.connection_search.proofs.ImageLaws.{values-agree, literal-agree}
 use Rattle.connection_search.proofs.BelowLaws.{names-more}
 
@@ -49,7 +49,7 @@ literal-there f xs k x e = slice_get-map f xs k ∙ ap (option_map f) e
 -- ---- extension
 
 -- copy and unify
-pub extended-by_copy : (old mid new : Store) (sides : List Side) (t : Template) (i : CellClause) (goal b : CellAtom) (place : ℕ) → IsCopy old mid sides t i → slice_get i.literals place ≡ Some b → IsTrue (not (sign_eq goal.sign b.sign)) → goal.symbol ≡ b.symbol → AreUnified mid new goal.args b.args → IsTrue (atom_is_below (length old.cells) goal) → IsExtended old new sides t i goal place
+pub extended-by_copy : (old mid new : Store) (sides : List Side) (t : Template) (i : CellClause) (goal b : CellAtom) (place : ℕ) → IsFreshClause old mid sides t i → slice_get i.literals place ≡ Some b → IsTrue (not (sign_eq goal.sign b.sign)) → goal.symbol ≡ b.symbol → AreUnified mid new goal.args b.args → IsTrue (atom_is_below (length old.cells) goal) → IsExtended old new sides t i goal place
 extended-by_copy old mid new sides t i goal b place k at signs symbols u below = record {
   selection = k.selection;
   longer = let e = u.size in let l = k.longer in omega (arith, e, l);

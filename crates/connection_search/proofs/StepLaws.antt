@@ -16,7 +16,7 @@ use Rattle.calculus.specs.Patterns.{PatternAtom, Template}
 use Rattle.calculus.specs.Templates.{pattern_literal, literals_by, have_sorts, is_choice_of_values, clause_by, IsTemplateOf}
 use Rattle.connection_search.specs.Matrix.{all_shown}
 use Rattle.connection_search.specs.States.{CellClause, CellChoice, State, values_by, literal_by, clause_at, choice_at, growth_at, cell_goals_on, started, atom_is_below, clause_is_below, choice_is_below, goal_is_below, IsAdmittedAt, IsGround, IsStateOf, Agree}
-use Rattle.connection_search.specs.Steps.{IsCopy}
+use Rattle.connection_search.specs.Steps.{IsFreshClause}
 use Rattle.connection_search.proofs.LastChoice.{none≢some}
 use Rattle.connection_search.proofs.ImageLaws.{goals-image, names-image, values-agree}
 use Rattle.connection_search.proofs.BelowLaws.{goals-below}
@@ -124,7 +124,7 @@ one-start P sides (start j ∷ h ∷ hs) x e g = cc e
 one-start P sides (reduction up ∷ gs) x e g = none≢some x g
 one-start P sides (extension j place ∷ gs) x e g = none≢some x g
 
-pub state-started : (P : Problem) (d : ℕ) (sides : List Side) (t : Template) (old new : Store) (i : CellClause) (σ₀ : Solution) → IsTemplateOf P sides t → IsTrue (all_shown t) → IsCopy old new sides t i → Solves old σ₀ → IsStateOf P d (start sides ∷ []) (start_state new i)
+pub state-started : (P : Problem) (d : ℕ) (sides : List Side) (t : Template) (old new : Store) (i : CellClause) (σ₀ : Solution) → IsTemplateOf P sides t → IsTrue (all_shown t) → IsFreshClause old new sides t i → Solves old σ₀ → IsStateOf P d (start sides ∷ []) (start_state new i)
 state-started P d sides t old new i σ₀ h shown k s₀ = record {
   names = ap (λ ss. start ss ∷ []) k.selection;
   within = refl;

@@ -21,7 +21,7 @@ abbrev pub Clash : Store → List ℕ → List ℕ → Type 0
 Clash s xs ys = (σ : Solution) → Solves s σ → ¬ (terms_by σ xs ≡ terms_by σ ys)
 
 -- the clause i is the template with new variables, which no solution of the old store constrains
-pub record IsCopy (old new : Store) (sides : List Side) (t : Template) (i : CellClause) : Type 0 where
+pub record IsFreshClause (old new : Store) (sides : List Side) (t : Template) (i : CellClause) : Type 0 where
   pub selection : i.selection ≡ sides
   pub longer : length old.cells ≤ length new.cells
   pub names : IsTrue (clause_is_below (length new.cells) i)

@@ -7,8 +7,8 @@ use Rattle.std.proofs.lemmas.Option.{slice_get_read, slice_get-map}
 use Rattle.calculus.specs.declared.sort.Sort.{Sort}
 use Rattle.calculus.specs.Equality.{contains}
 use Rattle.calculus.specs.Stores.{Cell, variable, fun_cell, eigen_cell, new_cell, string_cell, Store, TrailMark, is_store, is_bound, cells_bound_by, cut_at, IsGood, parts_of, parts_fit, bound_cells, trail_fits, are_distinct_cells, EndsAt}
-use Rattle.calculus.specs.Bindings.{bind_at, bound_to, with_binding, MayBind, IsSound, HasRank, IsEnd, EndsIn}
-use Rattle.calculus.proofs.BindingLaws.{is_store-with_binding, HasRank-with_binding, IsSound-cut_at, kept, parts-within, ends-once, ends-there}
+use Rattle.calculus.specs.Bindings.{bind_at, bound_to, with_binding, MayBind, IsWellFormed, HasRank, IsEnd, EndsIn}
+use Rattle.calculus.proofs.BindingLaws.{is_store-with_binding, HasRank-with_binding, IsWellFormed-cut_at, kept, parts-within, ends-once, ends-there}
 use Rattle.term_store.specs.declared.cell.Ref.{Ref}
 use Rattle.term_store.specs.declared.cell.Content.{Content}
 use Rattle.term_store.specs.declared.cell.Content.TheVariants.{Open, Bound, Fun, Eigen, New, Marks}
@@ -18,7 +18,7 @@ use Rattle.term_store.specs.Shown.{Shows, ShowsCell}
 use Rattle.term_store.specs.StoreView.{the_cell, the_cell_at, the_store, part_count, IsLaid, IsWell}
 use Rattle.term_store.proofs.SlotLaws.{laid-change_at, length-change_at, count-bound, count-open}
 
-pub sound : (slots : List Slot) (parts trail : List ℕ) → IsWell slots parts trail → IsSound (the_store slots parts trail)
+pub sound : (slots : List Slot) (parts trail : List ℕ) → IsWell slots parts trail → IsWellFormed (the_store slots parts trail)
 sound slots parts trail w = record { fits = w.fits; rank = w.rank }
 
 -- ---- a binding
@@ -131,7 +131,7 @@ cut-store m slots kept parts less trail t e f g = ap₂ (λ cs t. let r : Store 
 pub well-cut : (m : TrailMark) (slots kept : List Slot) (parts less trail t : List ℕ) → IsWell slots parts trail → IsGood m (the_store slots parts trail) → kept ≡ take m.cells (slots_bound_by (take m.entries trail) 0 slots) → map (the_cell less) kept ≡ map (the_cell parts) kept → t ≡ take m.entries trail → IsLaid 0 kept (length less) → length kept ≤ length slots → length less ≤ length parts → IsWell kept less t
 well-cut m slots kept parts less trail t w good e f g laid n k =
     let same = cut-store m slots kept parts less trail t e f g in
-    let s = IsSound-cut_at m (the_store slots parts trail) (sound slots parts trail w) good in
+    let s = IsWellFormed-cut_at m (the_store slots parts trail) (sound slots parts trail w) good in
     record {
       laid = laid;
       fits = subst (λ s. IsTrue (is_store s)) (sym same) s.fits;
@@ -241,7 +241,7 @@ part-place slots parts trail r i s c h e at b l =
     by (New p n) b l = part-get n s.start i parts l
     by (Marks n) b l = part-get n s.start i parts l
 
-pub part-within : (s : Store) (r i k : ℕ) (c : Cell) → IsSound s → slice_get s.cells r ≡ Some c → slice_get (parts_of c) i ≡ Some k → k < length s.cells
+pub part-within : (s : Store) (r i k : ℕ) (c : Cell) → IsWellFormed s → slice_get s.cells r ≡ Some c → slice_get (parts_of c) i ≡ Some k → k < length s.cells
 part-within s r i k c w e p = parts-within s c i k ((kept s w.fits).fits r c e) p
 
 pub length-cells : (slots : List Slot) (parts : List ℕ) → length (map (the_cell parts) slots) ≡ length slots

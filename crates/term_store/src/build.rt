@@ -2,7 +2,7 @@
 
 ghost use Rattle.std.specs.Prelude.{◌≡◌, ◌≤◌, ◌<◌, ◌+◌, ◌++◌, ◌∷◌, [], IfOk, IsTrue, OnErr, OnOk, length};
 ghost use Rattle.calculus.specs.declared.sort.Sort.TheVariants.{MarkSort};
-ghost use Rattle.calculus.specs.Bindings.{IsSound, KeepsMarks, with_cell};
+ghost use Rattle.calculus.specs.Bindings.{IsWellFormed, KeepsMarks, with_cell};
 ghost use Rattle.calculus.specs.Patterns.{Grows};
 ghost use Rattle.calculus.specs.Stores.{Store, parts_fit, string_cell};
 ghost use Rattle.term_store.specs.Built.{named_cell, named_content, places_from, with_variables};

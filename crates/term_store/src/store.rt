@@ -1,7 +1,7 @@
 //! The store.
 
 ghost use Rattle.std.specs.Prelude.{◌≡◌, ◌≤◌, ◌<◌, ◌+◌, ◌++◌, ◌∷◌, [], false, MatchOption, OnOk, length, slice_get, vec_len, vec_capacity};
-ghost use Rattle.calculus.specs.Bindings.{EndsIn, IsEnd, IsSound, KeepsEarlier, KeepsMarks, MayBind, with_binding, with_cell};
+ghost use Rattle.calculus.specs.Bindings.{EndsIn, IsEnd, IsWellFormed, KeepsEarlier, KeepsMarks, MayBind, with_binding, with_cell};
 ghost use Rattle.calculus.specs.Stores.{Cell, EndsAt, HasNoCycle, IsGood, cut_at, is_bound, parts_of, variable};
 ghost use Rattle.term_store.specs.Room.{KeepsRoom, spare};
 ghost use Rattle.term_store.specs.Shown.{Shows, head_of};
@@ -69,7 +69,7 @@ impl Store {
     pub fn size(&self) -> usize
         ensures size { result ≡ length self.now.store.cells + spare self.now }
         ensures no_cycle { HasNoCycle self.now.store }
-        ensures well { IsSound self.now.store }
+        ensures well { IsWellFormed self.now.store }
     {
         self.cells.len() + self.spare()
     }
@@ -95,7 +95,7 @@ impl Store {
         ensures store { self.new.store ≡ with_cell (variable sort None) self.old.store }
         ensures room { KeepsRoom self.old self.new }
         ensures marks { KeepsMarks self.old.store self.new.store }
-        ensures well { IsSound self.new.store }
+        ensures well { IsWellFormed self.new.store }
     {
         let place = self.cells.len() as u32;
         let start = self.parts.len() as u32;
@@ -118,7 +118,7 @@ impl Store {
         ensures store { self.new.store ≡ with_binding v.0 to.0 self.old.store }
         ensures room { KeepsRoom self.old self.new }
         ensures marks { KeepsMarks self.old.store self.new.store }
-        ensures well { IsSound self.new.store }
+        ensures well { IsWellFormed self.new.store }
     {
         bind_slot(&mut self.cells, v.0 as usize, to);
         put(&mut self.trail, v.0);
@@ -128,7 +128,7 @@ impl Store {
     pub fn mark(&self) -> TrailMark
         ensures good { IsGood (the_mark result) self.now.store }
         ensures whole { cut_at (the_mark result) self.now.store ≡ self.now.store }
-        ensures well { IsSound self.now.store }
+        ensures well { IsWellFormed self.now.store }
     {
         TrailMark {
             cells: self.cells.len(),
@@ -143,7 +143,7 @@ impl Store {
         ensures room { KeepsRoom self.old self.new }
         ensures spare { spare self.old ≤ spare self.new }
         ensures marks { KeepsEarlier (the_mark m) self.old.store self.new.store }
-        ensures well { IsSound self.new.store }
+        ensures well { IsWellFormed self.new.store }
     {
         unbind(&mut self.cells, &mut self.trail, m.entries);
         cut(&mut self.cells, &mut self.parts, m.cells);
@@ -153,7 +153,7 @@ impl Store {
     fn content(&self, r: Ref) -> Content
         requires { r.0 < length self.now.store.cells }
         ensures shows { Shows self.now.store r.0 result }
-        ensures well { IsSound self.now.store }
+        ensures well { IsWellFormed self.now.store }
     {
         self.cells[r.0 as usize].content
     }
@@ -162,7 +162,7 @@ impl Store {
     fn next(&self, r: Ref) -> Option<Ref>
         requires { r.0 < length self.now.store.cells }
         ensures next { MatchOption result (IsEnd self.now.store r.0) (λ to. (sort : Sort) × (slice_get self.now.store.cells r.0 ≡ Some (variable sort (Some to.0)))) }
-        ensures well { IsSound self.now.store }
+        ensures well { IsWellFormed self.now.store }
     {
         match self.content(r) {
             Content::Bound(_, to) => Some(to),
@@ -179,7 +179,7 @@ impl Store {
         requires { r.0 < length self.now.store.cells }
         ensures ends { EndsAt self.now.store r.0 result.0 }
         ensures within { result.0 < length self.now.store.cells }
-        ensures well { IsSound self.now.store }
+        ensures well { IsWellFormed self.now.store }
     {
         let mut end = r;
         while let Some(to) = self.next(end) {
@@ -207,7 +207,7 @@ impl Store {
     pub fn parts(&self, r: Ref) -> u32
         requires { r.0 < length self.now.store.cells }
         ensures count { EndsIn self.now.store r.0 (λ c. result ≡ length (parts_of c)) }
-        ensures well { IsSound self.now.store }
+        ensures well { IsWellFormed self.now.store }
     {
         match self.content(self.walk(r)) {
             Content::Open(_) => 0,

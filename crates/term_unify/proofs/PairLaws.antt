@@ -4,9 +4,9 @@ use Rattle.std.specs.Prelude.{IfOk, OnErr, slice_get}
 use Rattle.std.proofs.lemmas.Bool.{false≢true, and_parts}
 use Rattle.calculus.specs.declared.sort.Sort.{Sort}
 use Rattle.calculus.specs.Stores.{Cell, variable, fun_cell, eigen_cell, new_cell, string_cell, Store, parts_of, is_bound, OccursIn, here, in_part, EndsAt, stays, goes_on, Solution, Solves}
-use Rattle.calculus.specs.Bindings.{EndsIn, IsEnd, IsSound, SolvesPairs, part_pairs, are_alike, is_variable, MayBind, with_binding, BindsOnly, KeepsMarks, BindsWithin, bind_at, bound_to, Unifies, AreApart}
+use Rattle.calculus.specs.Bindings.{EndsIn, IsEnd, IsWellFormed, SolvesPairs, part_pairs, are_alike, is_variable, MayBind, with_binding, BindsOnly, KeepsMarks, BindsWithin, bind_at, bound_to, Unifies, AreApart}
 use Rattle.calculus.proofs.PlaceLists.{get-within}
-use Rattle.calculus.proofs.BindingLaws.{ends-once, kept, parts-within, get-bound, get-unbound, same_place, length-bind, KeepsMarks-same, KeepsMarks-both, KeepsMarks-with_binding, IsSound-with_binding}
+use Rattle.calculus.proofs.BindingLaws.{ends-once, kept, parts-within, get-bound, get-unbound, same_place, length-bind, KeepsMarks-same, KeepsMarks-both, KeepsMarks-with_binding, IsWellFormed-with_binding}
 use Rattle.calculus.proofs.WeightLaws.{weight, weight_sum, weight_sum-none, weight_sum-more, weight_sum-append, weight-parts, weight-positive, weight-bound}
 use Rattle.calculus.proofs.SolutionLaws.{ends-same, alike-parts, SolvesPairs-join, SolvesPairs-split, Solves-bound, Solves-unbound, occurs-apart, some_solution}
 use Rattle.term_store.specs.declared.cell.Ref.{Ref}
@@ -177,10 +177,10 @@ cells-from : (s : Store) (rs : List ℕ) → ((i k : ℕ) → slice_get rs i ≡
 cells-from s [] h = tt
 cells-from s (r ∷ rs) h = (h 0 r refl, cells-from s rs (λ i k e. h (suc i) k e))
 
-pub parts-cells : (s : Store) (r : ℕ) (c : Cell) → IsSound s → slice_get s.cells r ≡ Some c → AreAllCells s (parts_of c)
+pub parts-cells : (s : Store) (r : ℕ) (c : Cell) → IsWellFormed s → slice_get s.cells r ≡ Some c → AreAllCells s (parts_of c)
 parts-cells s r c w e = cells-from s (parts_of c) (λ i k p. parts-within s c i k ((kept s w.fits).fits r c e) p)
 
-pub weight-ends : (s : Store) → IsSound s → (r e : ℕ) → EndsAt s r e → weight s e ≤ weight s r
+pub weight-ends : (s : Store) → IsWellFormed s → (r e : ℕ) → EndsAt s r e → weight s e ≤ weight s r
 weight-ends s w r e (stays f b) = omega arith
 weight-ends s w r e (goes_on {k = k} {sort = sort} f o) =
     let a = weight-bound s w r k sort f in
@@ -206,7 +206,7 @@ looks-found s v t r e rest rs w end q f g =
 pub looks-none : (s : Store) (v t : ℕ) (rs : List ℕ) → LooksAt s v t rs → rs ≡ [] → ¬ OccursIn s v t
 looks-none s v t rs w e o = subst (OccursAmong s v) e (w.there o)
 
-pub looks-on : (s : Store) (v t r e : ℕ) (c : Cell) (rest rs more : List ℕ) → IsSound s → LooksAt s v t rs → IsEnd s v → rs ≡ rest ++ r ∷ [] → EndsAt s r e → slice_get s.cells e ≡ Some c → ¬ (e ≡ v) → more ≡ rest ++ parts_of c → LooksAt s v t more
+pub looks-on : (s : Store) (v t r e : ℕ) (c : Cell) (rest rs more : List ℕ) → IsWellFormed s → LooksAt s v t rs → IsEnd s v → rs ≡ rest ++ r ∷ [] → EndsAt s r e → slice_get s.cells e ≡ Some c → ¬ (e ≡ v) → more ≡ rest ++ parts_of c → LooksAt s v t more
 looks-on s v t r e c rest rs more sound w end q f g n m = record {
   cells = subst (AreAllCells s) (sym m) (cells-join s rest (parts_of c) (cells-split s rest (r ∷ []) (subst (AreAllCells s) q w.cells)).0 (parts-cells s e c sound g));
   there = λ o. subst (OccursAmong s v) (sym m) (elim (among-split s v rest (r ∷ []) (subst (OccursAmong s v) q (w.there o))) [
@@ -223,10 +223,10 @@ looks-on s v t r e c rest rs more sound w end q f g n m = record {
     below e here g n = absurd (n refl)
     below e (in_part i {k = k} {c = d} h p x) g n = let same : d ≡ c = let z : Some d ≡ Some c = sym h ∙ g in cc in among-at s v (parts_of c) i k (ap (λ y. slice_get (parts_of y) i) (sym same) ∙ p) x
 
-pub looks-parts : (s : Store) (v r : ℕ) (c : Cell) (rs : List ℕ) → IsSound s → IsEnd s v → slice_get s.cells r ≡ Some c → is_bound c ≡ false → ¬ (v ≡ r) → rs ≡ parts_of c → LooksAt s v r rs
+pub looks-parts : (s : Store) (v r : ℕ) (c : Cell) (rs : List ℕ) → IsWellFormed s → IsEnd s v → slice_get s.cells r ≡ Some c → is_bound c ≡ false → ¬ (v ≡ r) → rs ≡ parts_of c → LooksAt s v r rs
 looks-parts s v r c rs sound end e b n m = looks-on s v r r r c [] (r ∷ []) rs sound (looks-first s v r (get-within s.cells r c e)) end refl (stays e b) e (λ q. n (sym q)) m
 
-pub looks-less : (s : Store) (r e : ℕ) (c : Cell) (rest rs more : List ℕ) → IsSound s → rs ≡ rest ++ r ∷ [] → EndsAt s r e → slice_get s.cells e ≡ Some c → more ≡ rest ++ parts_of c → weight_sum s more < weight_sum s rs
+pub looks-less : (s : Store) (r e : ℕ) (c : Cell) (rest rs more : List ℕ) → IsWellFormed s → rs ≡ rest ++ r ∷ [] → EndsAt s r e → slice_get s.cells e ≡ Some c → more ≡ rest ++ parts_of c → weight_sum s more < weight_sum s rs
 looks-less s r e c rest rs more sound q f g m =
     let a = weight-ends s sound r e f in
     let b = weight-parts s sound.fits sound.rank e c g in
@@ -350,7 +350,7 @@ comes-ends s first left rest a b v r w e (inr (f, g)) k (inl (inr o)) = comes-oc
 pub comes-rest : (s : Store) (first left rest : List (ℕ × ℕ)) (a b : ℕ) → ComesTo s first left → left ≡ rest ++ (a, b) ∷ [] → AreCells s rest
 comes-rest s first left rest a b w e = (pair_cells-split s rest ((a, b) ∷ []) (subst (AreCells s) e w.cells)).0
 
-pub comes-parts : (s : Store) (first left rest more : List (ℕ × ℕ)) (a b x y : ℕ) → IsSound s → ComesTo s first left → left ≡ rest ++ (a, b) ∷ [] → AreBuilt s x y × EndsAt s a x × EndsAt s b y → AddsParts s x y rest more → ComesTo s first more
+pub comes-parts : (s : Store) (first left rest more : List (ℕ × ℕ)) (a b x y : ℕ) → IsWellFormed s → ComesTo s first left → left ≡ rest ++ (a, b) ∷ [] → AreBuilt s x y × EndsAt s a x × EndsAt s b y → AddsParts s x y rest more → ComesTo s first more
 comes-parts s first left rest more a b x y sound w e (u, f, g) added =
     let m = added u.left u.right u.left_at u.right_at in
     record {
@@ -377,7 +377,7 @@ pairs-less s left rest a b e =
     let o = weight-positive s a in
     omega arith
 
-pub parts-less : (s : Store) (left rest more : List (ℕ × ℕ)) (a b x y : ℕ) → IsSound s → left ≡ rest ++ (a, b) ∷ [] → AreBuilt s x y × EndsAt s a x × EndsAt s b y → AddsParts s x y rest more → pairs_weight s more < pairs_weight s left
+pub parts-less : (s : Store) (left rest more : List (ℕ × ℕ)) (a b x y : ℕ) → IsWellFormed s → left ≡ rest ++ (a, b) ∷ [] → AreBuilt s x y × EndsAt s a x × EndsAt s b y → AddsParts s x y rest more → pairs_weight s more < pairs_weight s left
 unfolding pairs_weight pair_lefts
 parts-less s left rest more a b x y sound e (u, f, g) added =
     let m = added u.left u.right u.left_at u.right_at in
@@ -441,11 +441,11 @@ pub record Unified (s t : Store) (first left : List (ℕ × ℕ)) : Type 0 where
   pub up : (σ : Solution) → Solves t σ → SolvesPairs σ left → Solves s σ × SolvesPairs σ first
   pub marks : KeepsMarks s t
   pub binds : BindsOnly s t
-  pub sound : IsSound t
+  pub sound : IsWellFormed t
   pub occurs : (v : ℕ) → OccursInPairs t v left → OccursInPairs s v first
   pub within : BindsInPairs first s t
 
-pub unified-first : (s : Store) (ps : List (ℕ × ℕ)) → AreCells s ps → IsSound s → Unified s s ps ps
+pub unified-first : (s : Store) (ps : List (ℕ × ℕ)) → AreCells s ps → IsWellFormed s → Unified s s ps ps
 unified-first s ps h w = record { cells = h; down = λ σ h p. (h, p); up = λ σ h p. (h, p); marks = KeepsMarks-same s; binds = BindsOnly-same s; sound = w; occurs = λ v o. o; within = λ v k sort e f. absurd (let q : Some (variable sort None) ≡ Some (variable sort (Some k)) = sym e ∙ f in cc q) }
 
 -- what occurs once v is bound to r: what occurred there or in r
@@ -480,7 +480,7 @@ unified-binding s t first left rest v r w b h before cells n = record {
       w.up σ a.0 ((h σ a.0).1 (a.1, p));
   marks = KeepsMarks-both s t (with_binding v r t) w.marks (KeepsMarks-with_binding v r t w.sound.fits (may-bind t v r b n));
   binds = BindsOnly-both s t (with_binding v r t) w.binds (BindsOnly-with_binding v r t b.sort b.open_cell);
-  sound = IsSound-with_binding v r t w.sound (may-bind t v r b n);
+  sound = IsWellFormed-with_binding v r t w.sound (may-bind t v r b n);
   occurs = λ k o. w.occurs k (before k (elim (pairs-bound t v r k b.sort rest b.open_cell o) [ inl x ↦ inr x | inr x ↦ inl (inr x) ]));
   within = λ x k sort e f. elim (same_place v x) [
     | inl m ↦
@@ -515,7 +515,7 @@ unified-occurs s t first left rest v r w b h o σ k p =
     let a = w.down σ k p in
     occurs-apart t σ v r b.end.0 a.0 b.end.1 (occurs-built t v r b o) o b.other ((h σ a.0).0 a.1).0
 
-pub unifies-one : (s t : Store) (a b : ℕ) (ps : List (ℕ × ℕ)) → ps ≡ (a, b) ∷ [] → SolvesAll s t ps → IsSound t → Unifies a b s t
+pub unifies-one : (s t : Store) (a b : ℕ) (ps : List (ℕ × ℕ)) → ps ≡ (a, b) ∷ [] → SolvesAll s t ps → IsWellFormed t → Unifies a b s t
 unifies-one s t a b ps e h w =
     let h' = subst (SolvesAll s t) e h in
     (λ σ. (λ k. let p = (h' σ).0 k in (p.0, p.1.0), λ k q. (h' σ).1 (k, (q, tt))), some_solution t w.fits w.rank)

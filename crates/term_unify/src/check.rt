@@ -1,7 +1,7 @@
 //! The occurs check.
 
 ghost use Rattle.std.specs.Prelude.{◌≡◌, ◌++◌, IfOk, OnOk, Some, false, map, slice_get, true};
-ghost use Rattle.calculus.specs.Bindings.{IsEnd, IsSound};
+ghost use Rattle.calculus.specs.Bindings.{IsEnd, IsWellFormed};
 ghost use Rattle.calculus.specs.Stores.{Cell, OccursIn, parts_of};
 ghost use Rattle.term_store.specs.RefView.{the_place};
 
@@ -11,7 +11,7 @@ use term_store::{Ref, Store};
 // Appends the parts of the cell.
 fn push_all(store: &Store, r: Ref, places: &mut Vec<Ref>) -> Result<(), NoMemory>
     requires { IsEnd store.now.store r.0 }
-    ensures well { IsSound store.now.store }
+    ensures well { IsWellFormed store.now.store }
     ensures added { OnOk result ((c : Cell) → slice_get store.now.store.cells r.0 ≡ Some c
         → map the_place places.new.items ≡ map the_place places.old.items ++ parts_of c) }
 {

@@ -1,7 +1,7 @@
 //! What one pair of cells comes to.
 
 ghost use Rattle.std.specs.Prelude.{◌≡◌, ◌<◌, OnOk, length, map};
-ghost use Rattle.calculus.specs.Bindings.{IsSound};
+ghost use Rattle.calculus.specs.Bindings.{IsWellFormed};
 ghost use Rattle.calculus.specs.Equality.{sort_eq};
 ghost use Rattle.term_unify.specs.Steps.{AddsParts, AreBuilt, IsStep, head_sort, is_open_head, same_name};
 ghost use Rattle.term_unify.specs.PairView.{the_pair};
@@ -72,7 +72,7 @@ pub(crate) fn compare(store: &Store, a: Ref, b: Ref) -> Step
     requires left { a.0 < length store.now.store.cells }
     requires right { b.0 < length store.now.store.cells }
     ensures step { IsStep store.now.store a.0 b.0 result }
-    ensures well { IsSound store.now.store }
+    ensures well { IsWellFormed store.now.store }
 {
     let left = store.walk(a);
     let right = store.walk(b);

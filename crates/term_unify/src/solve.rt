@@ -1,7 +1,7 @@
 //! Unification.
 
 ghost use Rattle.std.specs.Prelude.{◌≡◌, ◌<◌, ◌≤◌, IfOk, OnErr, OnOk, false, length, map, true};
-ghost use Rattle.calculus.specs.Bindings.{AreApart, BindsOnly, BindsWithin, IsSound, KeepsMarks, SolvesPairs, Unifies};
+ghost use Rattle.calculus.specs.Bindings.{AreApart, BindsOnly, BindsWithin, IsWellFormed, KeepsMarks, SolvesPairs, Unifies};
 ghost use Rattle.calculus.specs.Stores.{Solution, Solves};
 ghost use Rattle.term_store.specs.Room.{KeepsRoom};
 ghost use Rattle.term_unify.specs.PairView.{the_pair};
@@ -51,7 +51,7 @@ fn solve_pairs(
     ensures binds { BindsOnly store.old.store store.new.store }
     ensures within { BindsInPairs (map the_pair pairs.old.items) store.old.store store.new.store }
     ensures room { KeepsRoom store.old store.new }
-    ensures well { IsSound store.new.store }
+    ensures well { IsWellFormed store.new.store }
 {
     let _start = store.mark();
     loop {

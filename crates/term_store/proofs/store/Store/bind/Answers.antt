@@ -1,6 +1,6 @@
 use Rattle.std.proofs.Common.{ap, sym, subst, ◌∙◌}
-use Rattle.calculus.specs.Bindings.{MayBind, KeepsMarks, IsSound, with_binding}
-use Rattle.calculus.proofs.BindingLaws.{KeepsMarks-with_binding, IsSound-with_binding}
+use Rattle.calculus.specs.Bindings.{MayBind, KeepsMarks, IsWellFormed, with_binding}
+use Rattle.calculus.proofs.BindingLaws.{KeepsMarks-with_binding, IsWellFormed-with_binding}
 use Rattle.term_store.proofs.StoreFacts.{bound-store, sound, well-bound}
 use Rattle.term_store.proofs.store.Store.bind.Goals as goal
 
@@ -18,11 +18,11 @@ returns-clause-store c =
 pub returns-clause-marks : goal.returns-clause-marks
 returns-clause-marks c =
     let w = sound c.self.inside.cells.items c.self.inside.parts.items c.self.inside.trail.items c.self.invariant in
-    let w' = subst IsSound (ap (λ v. v.store) c.self.view_is) w in
+    let w' = subst IsWellFormed (ap (λ v. v.store) c.self.view_is) w in
     subst (KeepsMarks c.args.self.now.store) (sym (returns-clause-store c)) (KeepsMarks-with_binding c.args.v.0 c.args.to.0 c.args.self.now.store w'.fits c.requires.may)
 
 pub returns-clause-well : goal.returns-clause-well
 returns-clause-well c =
     let w = sound c.self.inside.cells.items c.self.inside.parts.items c.self.inside.trail.items c.self.invariant in
-    let w' = subst IsSound (ap (λ v. v.store) c.self.view_is) w in
-    subst IsSound (sym (returns-clause-store c)) (IsSound-with_binding c.args.v.0 c.args.to.0 c.args.self.now.store w' c.requires.may)
+    let w' = subst IsWellFormed (ap (λ v. v.store) c.self.view_is) w in
+    subst IsWellFormed (sym (returns-clause-store c)) (IsWellFormed-with_binding c.args.v.0 c.args.to.0 c.args.self.now.store w' c.requires.may)

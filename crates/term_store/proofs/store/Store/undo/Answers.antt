@@ -1,7 +1,7 @@
 use Rattle.std.proofs.Common.{arith, ap, sym, subst, ◌∙◌}
-use Rattle.calculus.specs.Bindings.{IsSound, KeepsEarlier}
+use Rattle.calculus.specs.Bindings.{IsWellFormed, KeepsEarlier}
 use Rattle.calculus.specs.Stores.{IsGood, cut_at}
-use Rattle.calculus.proofs.BindingLaws.{IsSound-cut_at, KeepsEarlier-cut_at}
+use Rattle.calculus.proofs.BindingLaws.{IsWellFormed-cut_at, KeepsEarlier-cut_at}
 use Rattle.term_store.specs.StoreView.{the_mark}
 use Rattle.term_store.proofs.StoreFacts.{cut-store, laid-unbound, length-cells, sound, trail-alone, well-cut}
 use Rattle.term_store.proofs.store.Store.undo.Goals as goal
@@ -34,5 +34,5 @@ returns-clause-marks c = subst (KeepsEarlier (the_mark c.args.m) c.args.self.now
 
 pub returns-clause-well : goal.returns-clause-well
 returns-clause-well c =
-    let w = subst (λ v. IsSound v.store) c.self.view_is (sound c.self.inside.cells.items c.self.inside.parts.items c.self.inside.trail.items c.self.invariant) in
-    subst IsSound (sym (returns-clause-store c)) (IsSound-cut_at (the_mark c.args.m) c.args.self.now.store w c.requires)
+    let w = subst (λ v. IsWellFormed v.store) c.self.view_is (sound c.self.inside.cells.items c.self.inside.parts.items c.self.inside.trail.items c.self.invariant) in
+    subst IsWellFormed (sym (returns-clause-store c)) (IsWellFormed-cut_at (the_mark c.args.m) c.args.self.now.store w c.requires)
