@@ -73,12 +73,12 @@ module _ {T : Type 0} where
   pub written-length : (n : ℕ) (ps : List (List T)) → AreWritten n ps → length (joined ps) ≡ n
   written-length n [] w = sym w
   written-length n (p ∷ ps) w =
-      omega (arith, length-append p (joined ps), w.0, written-length (n - 1024) ps w.1)
+      omega (arith, length-append p (joined ps), w.0, written-length (n - 4096) ps w.1)
 
   -- there is a cell for each
-  pub written-fits : (n : ℕ) (ps : List (List T)) → AreWritten n ps → n ≤ length ps * 1024
+  pub written-fits : (n : ℕ) (ps : List (List T)) → AreWritten n ps → n ≤ length ps * 4096
   written-fits n [] w = omega (arith, w)
-  written-fits n (p ∷ ps) w = omega (arith, written-fits (n - 1024) ps w.1)
+  written-fits n (p ∷ ps) w = omega (arith, written-fits (n - 4096) ps w.1)
 
   none-written : (ps : List (List T)) → AreWritten 0 ps → joined ps ≡ []
   none-written [] w = refl
@@ -86,65 +86,65 @@ module _ {T : Type 0} where
   none-written ((x ∷ p) ∷ ps) w = absurd (omega (arith, w.0))
 
   -- a page has its part of the cells
-  pub place-within : (n : ℕ) (ps : List (List T)) (k o : ℕ) (page : List T) → AreWritten n ps → slice_get ps k ≡ Some page → o < 1024 → k * 1024 + o < n → o < length page
+  pub place-within : (n : ℕ) (ps : List (List T)) (k o : ℕ) (page : List T) → AreWritten n ps → slice_get ps k ≡ Some page → o < 4096 → k * 4096 + o < n → o < length page
   place-within n [] k o page w g h i = absurd (omega (arith, w, i))
   place-within n (p ∷ ps) zero o page w g h i =
       let e : p ≡ page = cc in omega (arith, w.0, ap length e, h, i)
   place-within n (p ∷ ps) (suc k) o page w g h i =
-      place-within (n - 1024) ps k o page w.1 g h (omega (arith, i))
+      place-within (n - 4096) ps k o page w.1 g h (omega (arith, i))
 
   -- or can have the next one
-  pub place-next : (n : ℕ) (ps : List (List T)) (k o : ℕ) (page : List T) → AreWritten n ps → slice_get ps k ≡ Some page → o < 1024 → k * 1024 + o ≤ n → o ≤ length page
+  pub place-next : (n : ℕ) (ps : List (List T)) (k o : ℕ) (page : List T) → AreWritten n ps → slice_get ps k ≡ Some page → o < 4096 → k * 4096 + o ≤ n → o ≤ length page
   place-next n [] k o page w g h i = absurd cc
   place-next n (p ∷ ps) zero o page w g h i =
       let e : p ≡ page = cc in omega (arith, w.0, ap length e, h, i)
   place-next n (p ∷ ps) (suc k) o page w g h i =
-      place-next (n - 1024) ps k o page w.1 g h (omega (arith, i))
+      place-next (n - 4096) ps k o page w.1 g h (omega (arith, i))
 
-  pub place-read : (n : ℕ) (ps : List (List T)) (k o : ℕ) (page : List T) → AreWritten n ps → slice_get ps k ≡ Some page → o < 1024 → k * 1024 + o < n → slice_get (joined ps) (k * 1024 + o) ≡ slice_get page o
+  pub place-read : (n : ℕ) (ps : List (List T)) (k o : ℕ) (page : List T) → AreWritten n ps → slice_get ps k ≡ Some page → o < 4096 → k * 4096 + o < n → slice_get (joined ps) (k * 4096 + o) ≡ slice_get page o
   place-read n [] k o page w g h i = absurd (omega (arith, w, i))
   place-read n (p ∷ ps) zero o page w g h i =
       let e : p ≡ page = cc in
-      let f : zero * 1024 + o ≡ o = omega arith in
+      let f : zero * 4096 + o ≡ o = omega arith in
       ap (slice_get (p ++ joined ps)) f ∙ get-left p (joined ps) o (omega (arith, w.0, h, i)) ∙ ap (λ q. slice_get q o) e
   place-read n (p ∷ ps) (suc k) o page w g h i =
-      let f : suc k * 1024 + o ≡ 1024 + (k * 1024 + o) = omega arith in
-      ap (slice_get (p ++ joined ps)) f ∙ get-right p (joined ps) 1024 (k * 1024 + o) (omega (arith, w.0, i))
-      ∙ place-read (n - 1024) ps k o page w.1 g h (omega (arith, i))
+      let f : suc k * 4096 + o ≡ 4096 + (k * 4096 + o) = omega arith in
+      ap (slice_get (p ++ joined ps)) f ∙ get-right p (joined ps) 4096 (k * 4096 + o) (omega (arith, w.0, i))
+      ∙ place-read (n - 4096) ps k o page w.1 g h (omega (arith, i))
 
   put-last : (p q : List T) (o : ℕ) (x : T) → (o < length p) ⊎ (q ≡ []) → put_at p o x ++ q ≡ put_at (p ++ q) o x
   put-last p q o x (inl h) = put-left p q o x h
   put-last p q o x (inr e) =
       ap (λ r. put_at p o x ++ r) e ∙ append-nil (put_at p o x) ∙ ap (λ r. put_at r o x) (sym (append-nil p) ∙ ap (λ r. p ++ r) (sym e))
 
-  pub place-put : (n : ℕ) (ps : List (List T)) (k o : ℕ) (page : List T) (x : T) → AreWritten n ps → slice_get ps k ≡ Some page → o < 1024 → k * 1024 + o ≤ n → joined (set ps k (put_at page o x)) ≡ put_at (joined ps) (k * 1024 + o) x
+  pub place-put : (n : ℕ) (ps : List (List T)) (k o : ℕ) (page : List T) (x : T) → AreWritten n ps → slice_get ps k ≡ Some page → o < 4096 → k * 4096 + o ≤ n → joined (set ps k (put_at page o x)) ≡ put_at (joined ps) (k * 4096 + o) x
   place-put n [] k o page x w g h i = absurd cc
   place-put n (p ∷ ps) zero o page x w g h i =
       let e : p ≡ page = cc in
-      let f : zero * 1024 + o ≡ o = omega arith in
+      let f : zero * 4096 + o ≡ o = omega arith in
       let rest : (o < length p) ⊎ (joined ps ≡ []) = elim (cases_lt o (length p)) [
         | inl l ↦ inl l
-        | inr l ↦ inr (none-written ps (subst (λ r. AreWritten r ps) (let z : n - 1024 ≡ 0 = omega (arith, w.0, l, h, i) in z) w.1))
+        | inr l ↦ inr (none-written ps (subst (λ r. AreWritten r ps) (let z : n - 4096 ≡ 0 = omega (arith, w.0, l, h, i) in z) w.1))
       ] in
       ap (λ q. put_at q o x ++ joined ps) (sym e) ∙ put-last p (joined ps) o x rest ∙ ap (λ j. put_at (p ++ joined ps) j x) (sym f)
   place-put n (p ∷ ps) (suc k) o page x w g h i =
-      let f : suc k * 1024 + o ≡ 1024 + (k * 1024 + o) = omega arith in
-      ap (λ r. p ++ r) (place-put (n - 1024) ps k o page x w.1 g h (omega (arith, i)))
-      ∙ put-right p (joined ps) 1024 (k * 1024 + o) x (omega (arith, w.0, i))
+      let f : suc k * 4096 + o ≡ 4096 + (k * 4096 + o) = omega arith in
+      ap (λ r. p ++ r) (place-put (n - 4096) ps k o page x w.1 g h (omega (arith, i)))
+      ∙ put-right p (joined ps) 4096 (k * 4096 + o) x (omega (arith, w.0, i))
       ∙ ap (λ j. put_at (p ++ joined ps) j x) (sym f)
 
-  pub written-put : (n m : ℕ) (ps : List (List T)) (k o : ℕ) (page : List T) (x : T) → AreWritten n ps → slice_get ps k ≡ Some page → o < 1024 → k * 1024 + o ≤ n → m ≡ max n (suc (k * 1024 + o)) → AreWritten m (set ps k (put_at page o x))
+  pub written-put : (n m : ℕ) (ps : List (List T)) (k o : ℕ) (page : List T) (x : T) → AreWritten n ps → slice_get ps k ≡ Some page → o < 4096 → k * 4096 + o ≤ n → m ≡ max n (suc (k * 4096 + o)) → AreWritten m (set ps k (put_at page o x))
   written-put n m [] k o page x w g h i e = absurd cc
   written-put n m (p ∷ ps) zero o page x w g h i e =
       let s : p ≡ page = cc in
       let l = length-put_at page o x (omega (arith, w.0, ap length s, h, i)) in
-      (omega (arith, l, w.0, ap length s, h, i, e), subst (λ r. AreWritten r ps) (let f : n - 1024 ≡ m - 1024 = omega (arith, e, h) in f) w.1)
+      (omega (arith, l, w.0, ap length s, h, i, e), subst (λ r. AreWritten r ps) (let f : n - 4096 ≡ m - 4096 = omega (arith, e, h) in f) w.1)
   written-put n m (p ∷ ps) (suc k) o page x w g h i e =
-      (omega (arith, w.0, i, e), written-put (n - 1024) (m - 1024) ps k o page x w.1 g h (omega (arith, i)) (omega (arith, i, e)))
+      (omega (arith, w.0, i, e), written-put (n - 4096) (m - 4096) ps k o page x w.1 g h (omega (arith, i)) (omega (arith, i, e)))
 
   pub written-more : (n c : ℕ) (ps : List (List T)) → AreWritten n ps → AreWritten n (ps ++ replicate c [])
   written-more n c [] w = subst (λ m. AreWritten {T = T} m (replicate c [])) (sym w) (none-added T c)
-  written-more n c (p ∷ ps) w = (w.0, written-more (n - 1024) c ps w.1)
+  written-more n c (p ∷ ps) w = (w.0, written-more (n - 4096) c ps w.1)
 
   pub joined-more : (c : ℕ) (ps : List (List T)) → joined (ps ++ replicate c []) ≡ joined ps
   joined-more c [] = empty-joined T c

@@ -1,6 +1,6 @@
 //! The list over its pages.
 
-ghost use Rattle.std.specs.Prelude.{◌≡◌, ◌≤◌, ◌<◌, ◌+◌, ◌-◌, ◌++◌, ◌∷◌, [], IfOk, IsOk, OnErr, OnOk, length, replicate, slice_get, slice_set, take};
+ghost use Rattle.std.specs.Prelude.{◌≡◌, ◌≤◌, ◌<◌, ◌+◌, ◌^◌, ◌++◌, ◌∷◌, [], IfOk, IsOk, OnErr, OnOk, length, replicate, slice_get, slice_set, take};
 
 use crate::page::{PAGE_CELLS, Page};
 use cop_base::NoMemory;
@@ -8,7 +8,7 @@ use std::alloc::Global;
 use std::marker::Model;
 
 // How many pages there can be, so that all cells have a number.
-const MOST_PAGES: usize = usize::MAX / 1024;
+const MOST_PAGES: usize = usize::MAX / 4096;
 
 /// A list, and room for `spare` more items. Only `reserve` takes memory.
 #[derive(Drop)]
@@ -68,14 +68,16 @@ impl<T: Copy> Cells<T> {
 
     /// How many items the list has.
     pub fn len(&self) -> usize
-        ensures { result ≡ length self.now.list }
+        ensures value { result ≡ length self.now.list }
+        ensures fits { length self.now.list + self.now.spare < 2 ^ 64 }
     {
         self.len
     }
 
     /// How many items can be pushed before the next `reserve`.
     pub fn spare(&self) -> usize
-        ensures { result ≡ self.now.spare }
+        ensures value { result ≡ self.now.spare }
+        ensures fits { length self.now.list + self.now.spare < 2 ^ 64 }
     {
         self.pages.len() * PAGE_CELLS - self.len
     }

@@ -6,3 +6,6 @@ mod cells;
 mod page;
 
 pub use cells::Cells;
+
+#[cfg(test)]
+mod tests;

@@ -8,7 +8,7 @@ use std::alloc::Global;
 use std::marker::Model;
 
 /// How many cells a page has. A power of two, so that a place is split by shifting.
-pub(crate) const PAGE_CELLS: usize = 1024;
+pub(crate) const PAGE_CELLS: usize = 4096;
 
 /// The first cells of a page, those that were written. It never takes memory once it is made.
 #[derive(Drop)]
@@ -23,7 +23,7 @@ impl<T: Copy> Model for Page<T> {
 
     ghost view = { λ p. p.cells.items };
 
-    ghost invariant = { λ p. 1024 ≤ vec_capacity p.cells };
+    ghost invariant = { λ p. 4096 ≤ vec_capacity p.cells };
 }
 
 impl<T: Copy> Page<T> {
