@@ -1,0 +1,143 @@
+//! The list over its pages.
+
+ghost use Rattle.std.specs.Prelude.{◌≡◌, ◌≤◌, ◌<◌, ◌+◌, ◌^◌, ◌++◌, ◌∷◌, [], IfOk, IsOk, OnErr, OnOk, length, replicate, slice_get, slice_set, take};
+
+use crate::page::{PAGE_CELLS, Page};
+use cop_base::NoMemory;
+use std::alloc::Global;
+use std::marker::Model;
+
+// How many pages there can be, so that all cells have a number.
+const MOST_PAGES: usize = usize::MAX / 4096;
+
+/// A list, and room for `spare` more items. Only `reserve` takes memory.
+#[derive(Drop)]
+pub struct Cells<T: Copy> {
+    // Cells past `len` hold items that were cut off.
+    pages: Vec<Page<T>>,
+    len: usize,
+}
+
+impl<T: Copy> Model for Cells<T> {
+    ghost use Rattle.cop_cells.specs.Reserved.{Reserved, reserved_code};
+
+    ghost Value = { Reserved T };
+
+    ghost coded = { reserved_code T.code };
+
+    ghost use Rattle.cop_cells.specs.Pages.{AreCells, listed, unused};
+
+    ghost view = { λ c. record {
+      list = listed c.len c.pages.items;
+      spare = unused c.len c.pages.items;
+    } };
+
+    ghost invariant = { λ c. AreCells c.len c.pages.items };
+}
+
+// Adds so many empty pages, or none where there is no memory.
+fn add_pages<T: Copy>(alloc: Global, pages: &mut Vec<Page<T>>, count: usize) -> Result<(), NoMemory>
+    ensures ok { OnOk result (pages.new.items ≡ pages.old.items ++ replicate count []) }
+    ensures err { OnErr result (pages.new.items ≡ pages.old.items) }
+{
+    let before = pages.len();
+    pages.reserve(count)?;
+    for _page in 0..count {
+        match Page::new(alloc) {
+            Ok(page) => pages.push_reserved(page),
+            Err(fault) => {
+                pages.truncate(before);
+                return Err(fault);
+            }
+        }
+    }
+    Ok(())
+}
+
+impl<T: Copy> Cells<T> {
+    /// No items, and no room.
+    pub fn new(alloc: Global) -> Cells<T>
+        ensures list { result.list ≡ [] }
+        ensures spare { result.spare ≡ 0 }
+    {
+        Cells {
+            pages: Vec::new(alloc),
+            len: 0,
+        }
+    }
+
+    /// How many items the list has.
+    pub fn len(&self) -> usize
+        ensures value { result ≡ length self.now.list }
+        ensures fits { length self.now.list + self.now.spare < 2 ^ 64 }
+    {
+        self.len
+    }
+
+    /// How many items can be pushed before the next `reserve`.
+    pub fn spare(&self) -> usize
+        ensures value { result ≡ self.now.spare }
+        ensures fits { length self.now.list + self.now.spare < 2 ^ 64 }
+    {
+        self.pages.len() * PAGE_CELLS - self.len
+    }
+
+    /// Makes room for so many more items. Where there is no memory nothing changes.
+    pub fn reserve(&mut self, n: usize) -> Result<(), NoMemory>
+        ensures list { self.new.list ≡ self.old.list }
+        ensures ok { OnOk result (n ≤ self.new.spare) }
+        ensures kept { self.old.spare ≤ self.new.spare }
+        ensures err { OnErr result (self.new.spare ≡ self.old.spare) }
+        ensures enough { n ≤ self.old.spare → IsOk result }
+        ensures enough_same { n ≤ self.old.spare → self.new.spare ≡ self.old.spare }
+    {
+        let spare = self.pages.len() * PAGE_CELLS - self.len;
+        if n <= spare {
+            return Ok(());
+        }
+        let count = (n - spare - 1) / PAGE_CELLS + 1;
+        if count > MOST_PAGES - self.pages.len() {
+            return Err(NoMemory);
+        }
+        let alloc = *self.pages.allocator();
+        add_pages(alloc, &mut self.pages, count)?;
+        Ok(())
+    }
+
+    /// Appends an item.
+    pub fn push(&mut self, item: T)
+        requires { 0 < self.old.spare }
+        ensures list { self.new.list ≡ self.old.list ++ item ∷ [] }
+        ensures spare { self.new.spare + 1 ≡ self.old.spare }
+    {
+        let place = self.len;
+        self.pages[place / PAGE_CELLS].put(place % PAGE_CELLS, item);
+        self.len = place + 1;
+    }
+
+    /// The item at this place, from 0.
+    pub fn get(&self, place: usize) -> T
+        requires { place < length self.now.list }
+        ensures { slice_get self.now.list place ≡ Some result }
+    {
+        self.pages[place / PAGE_CELLS].get(place % PAGE_CELLS)
+    }
+
+    /// Puts another item at this place.
+    pub fn set(&mut self, place: usize, item: T)
+        requires { place < length self.old.list }
+        ensures list { self.new.list ≡ slice_set self.old.list place item }
+        ensures spare { self.new.spare ≡ self.old.spare }
+    {
+        self.pages[place / PAGE_CELLS].set(place % PAGE_CELLS, item);
+    }
+
+    /// Cuts the list to its first `len` items. Their room can be used again.
+    pub fn release(&mut self, len: usize)
+        requires { len ≤ length self.old.list }
+        ensures list { self.new.list ≡ take len self.old.list }
+        ensures spare { self.new.spare + len ≡ self.old.spare + length self.old.list }
+    {
+        self.len = len;
+    }
+}

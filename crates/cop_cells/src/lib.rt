@@ -1,0 +1,11 @@
+//! A list whose items are added, read and cut off without taking memory, once there is room for
+//! them. Items stay where they are while the list grows.
+#![tactic(auto)]
+
+mod cells;
+mod page;
+
+pub use cells::Cells;
+
+#[cfg(test)]
+mod tests;
