@@ -23,6 +23,10 @@ pub mod LiftLaws
 -- each text has a reading
 pub mod Lexing
 pub mod Deciding
+-- the tokens of the program
+pub mod PieceLaws
+pub mod StackViews
+pub mod RunLaws
 pub mod Totality
 -- worked examples
 mod Examples

@@ -339,16 +339,36 @@ abbrev pub without_quote : List ℕ → List ℕ
 without_quote [] = []
 without_quote (b ∷ bs) = bs
 
-abbrev pub sign_in : List (List ℕ × Terminal) → List ℕ → Terminal
-sign_in [] w = unequal
-sign_in (s ∷ ss) w = if is_word w s.0 then s.1 else sign_in ss w
+-- signs of one byte, of two and of three
+abbrev pub single_sign : ℕ → Terminal
+single_sign b =
+    if b == 40 then open_round
+    else (if b == 41 then close_round
+    else (if b == 91 then open_square
+    else (if b == 93 then close_square
+    else (if b == 44 then comma
+    else (if b == 46 then dot
+    else (if b == 58 then colon
+    else (if b == 126 then tilde
+    else (if b == 33 then exclamation
+    else (if b == 63 then question
+    else (if b == 38 then ampersand
+    else (if b == 124 then bar
+    else equal)))))))))))
 
-abbrev pub signs : List (List ℕ × Terminal)
-signs =
-    (codes "(", open_round) ∷ (codes ")", close_round) ∷ (codes "[", open_square) ∷ (codes "]", close_square) ∷ (codes ",", comma) ∷ (codes ".", dot)
-    ∷ (codes ":", colon) ∷ (codes "~", tilde) ∷ (codes "!", exclamation) ∷ (codes "?", question) ∷ (codes "&", ampersand) ∷ (codes "|", bar)
-    ∷ (codes "=>", implies) ∷ (codes "<=", implied) ∷ (codes "<=>", equivalent) ∷ (codes "<~>", inequivalent) ∷ (codes "~|", nor) ∷ (codes "~&", nand)
-    ∷ (codes "=", equal) ∷ []
+abbrev pub double_sign : ℕ → ℕ → Terminal
+double_sign b c =
+    if b == 61 then implies
+    else (if b == 60 then implied
+    else (if b == 33 then unequal
+    else (if c == 124 then nor
+    else nand)))
+
+abbrev pub sign_of : List ℕ → Terminal
+sign_of [] = unequal
+sign_of (b ∷ []) = single_sign b
+sign_of (b ∷ c ∷ []) = double_sign b c
+sign_of (b ∷ c ∷ d ∷ bs) = if c == 61 then equivalent else inequivalent
 
 abbrev pub terminal_of : TokenKind → List ℕ → Terminal
 terminal_of Lower w = lower w
@@ -358,4 +378,4 @@ terminal_of Hash w = hash w
 terminal_of Quoted w = quoted (name_in false (without_quote w))
 terminal_of Distinct w = distinct w
 terminal_of Number w = number w
-terminal_of Sign w = sign_in signs w
+terminal_of Sign w = sign_of w

@@ -24,3 +24,9 @@ pub mod Falls
 -- ---- the code's way
 
 pub mod Expecting
+-- ---- tokens of the program
+
+pub mod TerminalView
+pub mod Pieces
+pub mod ExpectedView
+pub mod Following

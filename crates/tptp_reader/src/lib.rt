@@ -2,9 +2,13 @@
 //! where its fault is, stands in `specs/`.
 #![tactic(auto)]
 
+mod expected;
 mod fault;
+mod following;
 mod item;
+mod machine;
 mod source;
+mod terminal;
 
 pub use fault::{ReadCause, ReadFault};
 pub use item::{Item, ItemKind, ItemList, NameList, NamePlaces};
