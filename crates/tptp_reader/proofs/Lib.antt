@@ -27,6 +27,7 @@ pub mod Deciding
 pub mod PieceLaws
 pub mod StackViews
 pub mod RunLaws
+pub mod EndingLaws
 pub mod Totality
 -- worked examples
 mod Examples

@@ -55,9 +55,9 @@ pub follow-join : {text : List ℕ} {from mid to : ℕ} {ps qs : List Placed} �
 follow-join (no_token from) g = g
 follow-join {to = to} {qs = qs} (a_token from mid t x ps n k e f) g = a_token from to t x (ps ++ qs) n k e (follow-join f g)
 
-behind : (n : ℕ) (r : way.Run) (k : List ℕ) (mid : List Expected) → run_on n r ≡ Some (k, mid) → (j : List ℕ) × (r ≡ Some (j, mid)) × (k ≡ n ∷ j)
-behind n None k mid e = absurd (none-some e)
-behind n (Some q) k mid e = (q.0, ap (λ z. Some (q.0, z)) (ap (λ p. p.1) (some-is e)), sym (ap (λ p. p.0) (some-is e)))
+pub run-behind : (n : ℕ) (r : way.Run) (k : List ℕ) (mid : List Expected) → run_on n r ≡ Some (k, mid) → (j : List ℕ) × (r ≡ Some (j, mid)) × (k ≡ n ∷ j)
+run-behind n None k mid e = absurd (none-some e)
+run-behind n (Some q) k mid e = (q.0, ap (λ z. Some (q.0, z)) (ap (λ p. p.1) (some-is e)), sym (ap (λ p. p.0) (some-is e)))
 
 pub run-join : (modal : Bool) (xs ys : List Terminal) (es mid now : List Expected) (k l : List ℕ) → run modal es xs ≡ Some (k, mid) → run modal mid ys ≡ Some (l, now) → run modal es (xs ++ ys) ≡ Some (k ++ l, now)
 run-join modal [] ys es mid now k l h g =
@@ -67,7 +67,7 @@ run-join modal (x ∷ xs) ys es mid now k l h g = by (step modal es x) refl (λ 
     by : (m : way.Move) → step modal es x ≡ m → ((fs : List Expected) (j : List ℕ) → run modal fs xs ≡ Some (j, mid) → run modal fs (xs ++ ys) ≡ Some (j ++ l, now)) → run_after m (λ fs. run modal fs xs) ≡ Some (k, mid) → run_after (step modal es x) (λ fs. run modal fs (xs ++ ys)) ≡ Some (k ++ l, now)
     by None d next e = absurd (none-some e)
     by (Some q) d next e =
-        let b = behind q.0 (run modal q.1 xs) k mid e in
+        let b = run-behind q.0 (run modal q.1 xs) k mid e in
         ap (λ m. run_after m (λ fs. run modal fs (xs ++ ys))) d ∙ ap (run_on q.0) (next q.1 b.0 b.1) ∙ ap (λ z. Some (z ++ l, now)) (sym b.2)
 
 pub single-run : (modal : Bool) (es : List Expected) (x : Terminal) (n : ℕ) (fs : List Expected) → step modal es x ≡ Some (n, fs) → run modal es (x ∷ []) ≡ Some (n ∷ [], fs)
