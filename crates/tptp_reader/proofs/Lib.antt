@@ -28,6 +28,12 @@ pub mod PieceLaws
 pub mod StackViews
 pub mod RunLaws
 pub mod EndingLaws
+pub mod StandLaws
+pub mod TermReading
+pub mod AtomReading
+pub mod VariablesReading
+pub mod FormulaReading
+pub mod FormulaEnds
 pub mod Totality
 -- worked examples
 mod Examples

@@ -30,3 +30,4 @@ pub mod TerminalView
 pub mod Pieces
 pub mod ExpectedView
 pub mod Following
+pub mod Standing

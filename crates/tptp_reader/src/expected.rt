@@ -492,7 +492,8 @@ fn names_rest_parts(x: Terminal) -> Option<Parts>
     }
 }
 
-fn has_form(fixed: Fixed, x: Terminal) -> bool
+/// The token has this form.
+pub fn has_form(fixed: Fixed, x: Terminal) -> bool
     ensures { result ≡ (way.form (the_terminal x.entry) == way.form_of (the_fixed fixed)) }
 {
     match x {

@@ -5,13 +5,17 @@
 mod expected;
 mod fault;
 mod following;
+mod formula_reader;
 mod item;
 mod machine;
+mod reader;
 mod source;
+mod term_reader;
 mod terminal;
 
 pub use fault::{ReadCause, ReadFault};
 pub use item::{Item, ItemKind, ItemList, NameList, NamePlaces};
+pub use reader::read_formula;
 pub use source::{
     BinaryKind, ChainKind, Source, SourceBox, SourceList, SourceTerm, SourceTerms, TextList,
 };
