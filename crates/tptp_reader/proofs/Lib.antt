@@ -34,6 +34,7 @@ pub mod AtomReading
 pub mod VariablesReading
 pub mod FormulaReading
 pub mod FormulaEnds
+pub mod StageLaws
 pub mod Totality
 -- worked examples
 mod Examples

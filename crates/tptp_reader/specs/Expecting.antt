@@ -1,6 +1,7 @@
 -- The code's way through the tokens of a text or a formula: a stack of what is still expected. It is no definition to
 -- believe: `Grammar`, `Nesting` and `Faults` say what texts and faults are, and the proofs tie this way to them.
-use Rattle.std.specs.Prelude.{ℕ, suc, List, [], ◌∷◌, ◌++◌, Bool, true, false, ◌&&◌, ◌==◌, codes, Option, None, Some, if◌then◌else◌}
+use Rattle.std.specs.Prelude.{ℕ, suc, ◌||◌, List, [], ◌∷◌, ◌++◌, Bool, true, false, ◌&&◌, ◌==◌, codes, Option, None, Some, if◌then◌else◌}
+use Rattle.std.specs.List.{list_all}
 use Rattle.calculus.specs.Equality.{list_eq}
 use Rattle.tptp_lex.specs.Tokens.{is_digits}
 use Rattle.tptp_lex.specs.declared.tokens.TokenKind.{TokenKind}
@@ -326,6 +327,49 @@ run modal es (x ∷ xs) = run_after (step modal es x) (λ fs. run modal fs xs)
 abbrev pub all_optional : List Expected → Bool
 all_optional [] = true
 all_optional (e ∷ es) = is_optional e && all_optional es
+
+-- ---- places
+
+abbrev pub is_inner : Fixed → Bool
+is_inner a_closing = true
+is_inner a_square = true
+is_inner a_colon = true
+is_inner an_upper = true
+is_inner _ = false
+
+abbrev pub is_part : Expected → Bool
+is_part (this k d) = is_inner k
+is_part stop = false
+is_part items = false
+is_part name = false
+is_part after_body = false
+is_part first_note = false
+is_part (notes w) = false
+is_part include_rest = false
+is_part names_rest = false
+is_part _ = true
+
+abbrev pub are_parts : List Expected → Bool
+are_parts es = list_all is_part es
+
+-- parts of a formula or clause, and then what follows it
+abbrev pub is_after_body : Expected → Bool
+is_after_body after_body = true
+is_after_body _ = false
+
+abbrev pub is_in_body : List Expected → Bool
+is_in_body [] = false
+is_in_body (e ∷ es) = is_after_body e || (is_part e && is_in_body es)
+
+abbrev pub is_items : Expected → Bool
+is_items items = true
+is_items _ = false
+
+-- an item may begin, and nothing else is expected
+abbrev pub is_at_item : List Expected → Bool
+is_at_item [] = false
+is_at_item (e ∷ []) = is_items e
+is_at_item (e ∷ f ∷ es) = false
 
 -- ---- terminals from bytes
 

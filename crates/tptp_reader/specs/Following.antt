@@ -17,7 +17,7 @@ use Rattle.tptp_reader.specs.TerminalView.{the_terminal}
 use Rattle.tptp_reader.specs.Pieces.{placed}
 use Rattle.tptp_reader.specs.Expecting as way
 use Rattle.tptp_reader.specs.Grammar.{FormulaTree, is_plain, formula_tokens}
-use Rattle.tptp_reader.specs.Faults.{FormulaLanguage, FormulaCauses, AreShallow, is_stop, wrong, too_deep, HasFault}
+use Rattle.tptp_reader.specs.Faults.{Place, at_item, in_formula, elsewhere, FormulaLanguage, FormulaCauses, AreShallow, is_stop, wrong, too_deep, HasFault}
 use Rattle.tptp_reader.specs.ExpectedView.{the_expected, the_parts, the_last}
 
 -- the first of the program's parts is expected last
@@ -61,6 +61,10 @@ is_open (e ∷ es) = true
 
 abbrev pub is_shallow : ℕ → Bool
 is_shallow n = not (nat_lt 500 n)
+
+-- the place of the next token
+abbrev pub place_now : List way.Expected → Place
+place_now es = if way.is_at_item es then at_item else (if way.is_in_body es then in_formula else elsewhere)
 
 -- ---- the way over a text
 

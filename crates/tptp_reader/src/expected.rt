@@ -568,4 +568,24 @@ impl Expected {
                 | Expected::Items
         )
     }
+
+    /// A part of a formula or clause.
+    pub fn is_part(self) -> bool
+        ensures { result ≡ way.is_part (the_expected self) }
+    {
+        match self {
+            Expected::This(fixed, _) => matches!(
+                fixed,
+                Fixed::Closing | Fixed::Square | Fixed::Colon | Fixed::Upper
+            ),
+            Expected::Stop
+            | Expected::Items
+            | Expected::Name
+            | Expected::AfterBody
+            | Expected::FirstNote
+            | Expected::IncludeRest
+            | Expected::NamesRest => false,
+            _ => true,
+        }
+    }
 }

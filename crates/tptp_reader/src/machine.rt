@@ -215,4 +215,51 @@ impl Machine {
     {
         !self.in_notes && self.expected.as_slice().is_empty()
     }
+
+    /// An item may begin, and nothing else is expected.
+    pub fn is_at_item(&self) -> bool
+        ensures { result ≡ way.is_at_item (stack_now self.now) }
+    {
+        if self.in_notes {
+            return false;
+        }
+        is_item_alone(self.expected.as_slice())
+    }
+
+    /// The next token stands in a formula, or right behind it.
+    pub fn is_in_body(&self) -> bool
+        ensures { result ≡ way.is_in_body (stack_now self.now) }
+    {
+        if self.in_notes {
+            return false;
+        }
+        is_body(self.expected.as_slice())
+    }
+}
+
+fn is_item_alone(expected: &[Expected]) -> bool
+    ensures { result ≡ way.is_at_item (stack_of expected.now) }
+{
+    match expected.split_first() {
+        Some((first, above)) => above.is_empty() && matches!(*first, Expected::Items),
+        None => false,
+    }
+}
+
+// Parts of a formula, and then what follows it.
+fn is_body(expected: &[Expected]) -> bool
+    ensures { result ≡ way.is_in_body (stack_of expected.now) }
+{
+    let mut depth = expected.len();
+    while depth > 0 {
+        let part = expected[depth - 1];
+        if matches!(part, Expected::AfterBody) {
+            return true;
+        }
+        if !part.is_part() {
+            return false;
+        }
+        depth -= 1;
+    }
+    false
 }
