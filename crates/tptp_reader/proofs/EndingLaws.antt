@@ -11,7 +11,7 @@ use Rattle.tptp_reader.specs.declared.terminal.Piece.{Piece}
 use Rattle.tptp_reader.specs.Terminals.{Terminal, Placed, terminals, Follow}
 use Rattle.tptp_reader.specs.TerminalView.{the_terminal}
 use Rattle.tptp_reader.specs.Pieces.{placed}
-use Rattle.tptp_reader.specs.Faults.{Language, TextLanguage, FormulaLanguage, Causes, CanGoOn, FollowsAt, IsTooDeep, AreShallow, wrong, too_deep, HasFault, at_token, at_no_token, at_end, at_depth}
+use Rattle.tptp_reader.specs.Faults.{Language, TextLanguage, FormulaLanguage, Causes, IsWhole, CanGoOn, FollowsAt, IsTooDeep, AreShallow, wrong, too_deep, HasFault, at_token, at_no_token, at_end, at_depth}
 use Rattle.tptp_reader.specs.Expecting.{Expected, formula, stop, items, is_optional, all_optional, step, run, run_on, run_after, Run, Move}
 use Rattle.tptp_reader.specs.Following.{Ran, RanStuck, RanDeep, is_open, is_shallow}
 use Rattle.tptp_reader.proofs.FollowLaws.{IsReadBy, text-read, formula-read, follows-run, no-step}
@@ -93,18 +93,17 @@ pub no_token-fault : (modal : Bool) (L : Language) (es : List Expected) → IsFo
 no_token-fault modal L es m C text from now to offset r f =
     at_no_token r.front to offset r.there (run-shallow modal L es m.read (terminals r.front) r.nestings now r.is_run r.shallow) (m.goes (terminals r.front) r.nestings now r.is_run r.expects) f
 
-pub end-fault : (modal : Bool) (L : Language) (es : List Expected) → IsFor modal L es → (C : Causes) (text : List ℕ) (from : ℕ) (now : List Expected) (to : ℕ) → Ran modal text from es now to → OnlySpace text to → all_optional now ≡ false → HasFault text from L C (wrong (length text) Syntax)
+pub end-fault : (modal : Bool) (L : Language) (es : List Expected) → IsFor modal L es → (C : Causes) (text : List ℕ) (from : ℕ) (now : List Expected) (to : ℕ) → (r : Ran modal text from es now to) → OnlySpace text to → (IsWhole L (terminals r.front) → ⊥) → HasFault text from L C (wrong (length text) Syntax)
 end-fault modal L es m C text from now to r o n =
-    at_end r.front to r.there (run-shallow modal L es m.read (terminals r.front) r.nestings now r.is_run r.shallow) (m.goes (terminals r.front) r.nestings now r.is_run r.expects)
-    (λ w. false≢true (sym n ∙ whole-ends modal L es m.read (terminals r.front) r.nestings now r.is_run w)) o
+    at_end r.front to r.there (run-shallow modal L es m.read (terminals r.front) r.nestings now r.is_run r.shallow) (m.goes (terminals r.front) r.nestings now r.is_run r.expects) n o
 
 and-false : (b : Bool) → (b && false) ≡ false
 and-false true = refl
 and-false false = refl
 
 -- above the last token of a formula nothing else may be left out
-pub not-whole : (modal : Bool) (text : List ℕ) (from : ℕ) (now : List Expected) (to : ℕ) → Ran modal text from (formula 0 ∷ stop ∷ []) now to → all_optional now ≡ false
-not-whole modal text from now to r = by (run-bottom modal (terminals r.front) (formula 0 ∷ stop ∷ []) now r.nestings (inr (formula 0 ∷ [], refl)) r.is_run)
+pub not-whole : (modal : Bool) (text : List ℕ) (from : ℕ) (now : List Expected) (to : ℕ) (r : Ran modal text from (formula 0 ∷ stop ∷ []) now to) → IsWhole (FormulaLanguage modal) (terminals r.front) → ⊥
+not-whole modal text from now to r w = false≢true (sym (by (run-bottom modal (terminals r.front) (formula 0 ∷ stop ∷ []) now r.nestings (inr (formula 0 ∷ [], refl)) r.is_run)) ∙ whole-ends modal (FormulaLanguage modal) (formula 0 ∷ stop ∷ []) (formula-read modal) (terminals r.front) r.nestings now r.is_run w)
   where
     stays : (above : List Expected) → all_optional (above ++ stop ∷ []) ≡ false
     stays [] = refl

@@ -35,6 +35,7 @@ pub mod VariablesReading
 pub mod FormulaReading
 pub mod FormulaEnds
 pub mod StageLaws
+pub mod TextEnds
 pub mod Totality
 -- worked examples
 mod Examples

@@ -16,8 +16,8 @@ use Rattle.tptp_reader.specs.Terminals.{Terminal, close_round, close_square, Pla
 use Rattle.tptp_reader.specs.TerminalView.{the_terminal}
 use Rattle.tptp_reader.specs.Pieces.{placed}
 use Rattle.tptp_reader.specs.Expecting as way
-use Rattle.tptp_reader.specs.Grammar.{FormulaTree, is_plain, formula_tokens}
-use Rattle.tptp_reader.specs.Faults.{Place, at_item, in_formula, elsewhere, FormulaLanguage, FormulaCauses, AreShallow, is_stop, wrong, too_deep, HasFault}
+use Rattle.tptp_reader.specs.Grammar.{FormulaTree, is_plain, formula_tokens, ItemTree, item_fits, text_tokens}
+use Rattle.tptp_reader.specs.Faults.{Place, at_item, in_formula, elsewhere, TextLanguage, TextCauses, FormulaLanguage, FormulaCauses, AreShallow, is_stop, wrong, too_deep, HasFault}
 use Rattle.tptp_reader.specs.ExpectedView.{the_expected, the_parts, the_last}
 
 -- the first of the program's parts is expected last
@@ -130,3 +130,19 @@ abbrev pub IsFormulaFault : Bool → List ℕ → ℕ → ReadFault → Type 0
 IsFormulaFault modal text from (fault.At offset cause) = HasFault text from (FormulaLanguage modal) FormulaCauses (wrong offset cause)
 IsFormulaFault modal text from (fault.TooDeep offset) = HasFault text from (FormulaLanguage modal) FormulaCauses (too_deep offset)
 IsFormulaFault modal text from fault.NoMemory = Unit {0}
+
+-- The tokens of the text are those of items.
+pub record TextStands (modal : Bool) (text : List ℕ) : Type 0 where
+  pub tokens : List Placed
+  pub to : ℕ
+  pub trees : List ItemTree
+  pub there : Follow text 0 tokens to
+  pub all : OnlySpace text to
+  pub written : terminals tokens ≡ text_tokens trees
+  pub fit : IsTrue (list_all (item_fits modal) trees)
+  pub shallow : AreShallow (TextLanguage modal) (terminals tokens)
+
+abbrev pub IsTextFault : Bool → List ℕ → ReadFault → Type 0
+IsTextFault modal text (fault.At offset cause) = HasFault text 0 (TextLanguage modal) (TextCauses modal) (wrong offset cause)
+IsTextFault modal text (fault.TooDeep offset) = HasFault text 0 (TextLanguage modal) (TextCauses modal) (too_deep offset)
+IsTextFault modal text fault.NoMemory = Unit {0}

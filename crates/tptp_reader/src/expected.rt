@@ -588,4 +588,16 @@ impl Expected {
             _ => true,
         }
     }
+
+    pub fn is_after_body(self) -> bool
+        ensures { result ≡ way.is_after_body (the_expected self) }
+    {
+        matches!(self, Expected::AfterBody)
+    }
+
+    pub fn is_items(self) -> bool
+        ensures { result ≡ way.is_items (the_expected self) }
+    {
+        matches!(self, Expected::Items)
+    }
 }

@@ -2,6 +2,7 @@
 //! where its fault is, stands in `specs/`.
 #![tactic(auto)]
 
+mod checker;
 mod expected;
 mod fault;
 mod following;

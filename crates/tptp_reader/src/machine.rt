@@ -240,10 +240,10 @@ impl Machine {
 fn is_item_alone(expected: &[Expected]) -> bool
     ensures { result ≡ way.is_at_item (stack_of expected.now) }
 {
-    match expected.split_first() {
-        Some((first, above)) => above.is_empty() && matches!(*first, Expected::Items),
-        None => false,
+    if expected.len() == 1 {
+        return expected[0].is_items();
     }
+    false
 }
 
 // Parts of a formula, and then what follows it.
@@ -253,7 +253,7 @@ fn is_body(expected: &[Expected]) -> bool
     let mut depth = expected.len();
     while depth > 0 {
         let part = expected[depth - 1];
-        if matches!(part, Expected::AfterBody) {
+        if part.is_after_body() {
             return true;
         }
         if !part.is_part() {
