@@ -64,7 +64,7 @@ term-prefix (g.variable x) ts a = ap prefix_in (at-first a)
 term-prefix (g.constant w) ts a = ap prefix_in (at-first a) ∙ word-prefix w
 term-prefix (g.application w t us) ts a = ap prefix_in (at-first a) ∙ word-prefix w
 
-atom-prefix : (a : AtomTree) (ts : List Terminal) {text : List ℕ} {whole : List Placed} {to : ℕ} {p : Piece} → At text whole to p (atom_tokens a ++ ts) → prefix_in (the_terminal p.terminal) ≡ None
+pub atom-prefix : (a : AtomTree) (ts : List Terminal) {text : List ℕ} {whole : List Placed} {to : ℕ} {p : Piece} → At text whole to p (atom_tokens a ++ ts) → prefix_in (the_terminal p.terminal) ≡ None
 atom-prefix g.truth ts s = ap prefix_in (at-first s)
 atom-prefix g.falsity ts s = ap prefix_in (at-first s)
 atom-prefix (g.proposition w) ts s = ap prefix_in (at-first s) ∙ word-prefix w

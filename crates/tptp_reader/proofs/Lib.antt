@@ -36,6 +36,10 @@ pub mod FormulaReading
 pub mod FormulaEnds
 pub mod StageLaws
 pub mod TextEnds
+pub mod ClauseReading
+pub mod NotesReading
+pub mod ItemReading
+pub mod TextReading
 pub mod Totality
 -- worked examples
 mod Examples

@@ -31,3 +31,4 @@ pub mod Pieces
 pub mod ExpectedView
 pub mod Following
 pub mod Standing
+pub mod ItemStanding

@@ -1,5 +1,5 @@
 -- What the second way over the tokens of a formula reads: where a tree stands, its value, and the token behind it.
-use Rattle.std.specs.Prelude.{◌≡◌, ℕ, List, [], ◌∷◌, ◌++◌, Bool, true, false, codes, Option, None, Some, nat_lt, if◌then◌else◌}
+use Rattle.std.specs.Prelude.{◌≡◌, ℕ, List, [], ◌∷◌, ◌++◌, Bool, true, false, codes, map, Option, None, Some, nat_lt, if◌then◌else◌}
 use Rattle.tptp_reader.specs.declared.formula_reader.Prefix.{Prefix}
 use Rattle.tptp_reader.specs.declared.formula_reader.Prefix.TheVariants.{Bracket, Negation, Universal, Existential, Necessity, Possibility}
 use Rattle.tptp_reader.specs.declared.source.BinaryKind.{BinaryKind}
@@ -10,13 +10,13 @@ use Rattle.tptp_reader.specs.declared.source.Source as program
 use Rattle.tptp_reader.specs.declared.source.SourceTerm as program_term
 use Rattle.tptp_reader.specs.declared.terminal.Piece.{Piece}
 use Rattle.tptp_reader.specs.Sources as tree
-use Rattle.tptp_reader.specs.Lists.{terms_list, sources_list}
+use Rattle.tptp_reader.specs.Lists.{terms_list, sources_list, sources_tree}
 use Rattle.tptp_reader.specs.TermView.{the_source_term}
 use Rattle.tptp_reader.specs.SourceView.{the_source}
-use Rattle.tptp_reader.specs.Terminals.{Terminal, lower, upper, quoted, dollar, hash, open_round, open_square, tilde, exclamation, question, ampersand, bar, implies, implied, equivalent, inequivalent, nor, nand, equal, unequal, Placed, terminals, Follow}
+use Rattle.tptp_reader.specs.Terminals.{Terminal, lower, upper, quoted, dollar, hash, open_round, close_round, open_square, tilde, exclamation, question, ampersand, bar, implies, implied, equivalent, inequivalent, nor, nand, equal, unequal, Placed, terminals, Follow}
 use Rattle.tptp_reader.specs.Pieces.{placed}
-use Rattle.tptp_reader.specs.Grammar.{TermTree, TermTrees, AtomTree, UnitTree, UnitTrees, FormulaTree, term_tokens, terms_tokens, atom_tokens, unit_tokens, units_tokens, formula_tokens, variables_tokens, chain_token}
-use Rattle.tptp_reader.specs.Meaning.{term_of, terms_of, atom_of, unit_of, units_of, source_of}
+use Rattle.tptp_reader.specs.Grammar.{TermTree, TermTrees, AtomTree, UnitTree, UnitTrees, FormulaTree, term_tokens, terms_tokens, atom_tokens, unit_tokens, units_tokens, formula_tokens, variables_tokens, chain_token, LiteralTree, ClauseTree, literal_tokens, literals_tokens, clause_tokens}
+use Rattle.tptp_reader.specs.Meaning.{term_of, terms_of, atom_of, unit_of, units_of, source_of, literal_of, clause_of}
 use Rattle.tptp_reader.specs.Expecting.{form, is_word}
 
 -- Of the tokens `whole`, which end at the place `to`, those from p on are these.
@@ -183,3 +183,47 @@ abbrev pub ChainUpTo : List ℕ → ChainKind → tree.Source → Piece → List
 ChainUpTo text c first p read here =
     (v : UnitTree) (us : UnitTrees) (ts : List Terminal) (whole : List Placed) (to : ℕ) → At text whole to p (chain_token c ∷ (unit_tokens v ++ (units_tokens c us ++ ts))) → Leaves 11 ts
     → ChainLeft text c read here (first ∷ unit_of v ∷ sources_list (units_of us)) ts whole to
+
+-- ---- clauses
+
+-- an atom, in brackets or not
+abbrev pub unsigned_tokens : Bool → AtomTree → List Terminal
+unsigned_tokens false a = atom_tokens a
+unsigned_tokens true a = open_round ∷ (atom_tokens a ++ close_round ∷ [])
+
+abbrev pub UnsignedRead : List ℕ → Piece → program.Source × Piece → Type 0
+UnsignedRead text p r =
+    (b : Bool) (a : AtomTree) (ts : List Terminal) (whole : List Placed) (to : ℕ) → At text whole to p (unsigned_tokens b a ++ ts) → Leaves 3 ts
+    → (the_source r.0 ≡ atom_of a) × At text whole to r.1 ts
+
+abbrev pub LiteralRead : List ℕ → Piece → program.Source × Piece → Type 0
+LiteralRead text p r =
+    (l : LiteralTree) (ts : List Terminal) (whole : List Placed) (to : ℕ) → At text whole to p (literal_tokens l ++ ts) → Leaves 3 ts
+    → (the_source r.0 ≡ literal_of l) × At text whole to r.1 ts
+
+-- these formulas, and then literals with a `|` before each
+abbrev pub LiteralsRead : List ℕ → List tree.Source → Piece → List tree.Source × Piece → Type 0
+LiteralsRead text before p r =
+    (ls : List LiteralTree) (ts : List Terminal) (whole : List Placed) (to : ℕ) → At text whole to p (literals_tokens ls ++ ts) → Leaves 5 ts
+    → (r.0 ≡ before ++ map literal_of ls) × At text whole to r.1 ts
+
+-- some of them are read, and these are left
+abbrev pub LiteralsUpTo : List ℕ → List tree.Source → Piece → List tree.Source → Piece → Type 0
+LiteralsUpTo text before p read here =
+    (ls : List LiteralTree) (ts : List Terminal) (whole : List Placed) (to : ℕ) → At text whole to p (literals_tokens ls ++ ts) → Leaves 5 ts
+    → (left : List LiteralTree) × (read ++ map literal_of left ≡ before ++ map literal_of ls) × At text whole to here (literals_tokens left ++ ts)
+
+abbrev pub DisjunctionRead : List ℕ → Piece → List tree.Source × Piece → Type 0
+DisjunctionRead text p r =
+    (l : LiteralTree) (ls : List LiteralTree) (ts : List Terminal) (whole : List Placed) (to : ℕ) → At text whole to p (literal_tokens l ++ (literals_tokens ls ++ ts)) → Leaves 5 ts
+    → (r.0 ≡ map literal_of (l ∷ ls)) × At text whole to r.1 ts
+
+abbrev pub disjunction : List tree.Source → tree.Source
+disjunction [] = tree.chain Or tree.no_sources
+disjunction (s ∷ []) = s
+disjunction (s ∷ t ∷ ss) = tree.chain Or (sources_tree (s ∷ t ∷ ss))
+
+abbrev pub ClauseRead : List ℕ → Piece → program.Source × Piece → Type 0
+ClauseRead text p r =
+    (c : ClauseTree) (ts : List Terminal) (whole : List Placed) (to : ℕ) → At text whole to p (clause_tokens c ++ ts) → Leaves 11 ts
+    → (the_source r.0 ≡ clause_of c) × At text whole to r.1 ts
