@@ -66,6 +66,12 @@ with-token modal (e ∷ above) = by (filled modal e) (with-token modal above)
     by : Filled modal e → Some_token modal (above ++ stop ∷ []) → Some_token modal (e ∷ (above ++ stop ∷ []))
     by f s = add f.tokens f.nestings f.filled s
 
+-- where the last token is still expected something can follow
+pub stop-goes : (modal : Bool) (L : Language) (es : List Expected) → IsReadBy modal L es → IsWrittenBy modal L es → (inside : List Terminal) (before : List ℕ) (above : List Expected) → run modal es inside ≡ Some (before, above ++ stop ∷ []) → CanGoOn L inside
+stop-goes modal L es m w inside before above e =
+    let s = with-token modal above in
+    goes-on modal L es m inside s.first s.others (before ++ s.nestings) (w.written (inside ++ s.first ∷ s.others) (before ++ s.nestings) (run-back modal inside es (above ++ stop ∷ []) before (s.first ∷ s.others) s.nestings e s.completes))
+
 pub goes : (modal : Bool) (L : Language) (above : List Expected) → IsReadBy modal L (above ++ stop ∷ []) → IsWrittenBy modal L (above ++ stop ∷ []) → (inside : List Terminal) → Decided (CanGoOn L inside)
 goes modal L above m w inside = by (run-of modal (above ++ stop ∷ []) inside)
   where
@@ -75,10 +81,7 @@ goes modal L above m w inside = by (run-of modal (above ++ stop ∷ []) inside)
     on : (before : List ℕ) (now : List Expected) → run modal (above ++ stop ∷ []) inside ≡ Some (before, now) → Bottom now → Decided (CanGoOn L inside)
     on before now e (inl n) = inr (λ g. let f = follows-run modal L (above ++ stop ∷ []) m inside g.0 g.1.0 g.1.1 in
         none-some (sym (ap (λ z. step modal z g.0) (sym (ap (λ p. p.1) (some-is (sym e ∙ f.is_run))) ∙ n)) ∙ f.is_step))
-    on before now e (inr b) =
-        let s = with-token modal b.0 in
-        let c : Completes modal now (s.first ∷ s.others) s.nestings = subst (λ z. Completes modal z (s.first ∷ s.others) s.nestings) (sym b.1) s.completes in
-        inl (goes-on modal L (above ++ stop ∷ []) m inside s.first s.others (before ++ s.nestings) (w.written (inside ++ s.first ∷ s.others) (before ++ s.nestings) (run-back modal inside (above ++ stop ∷ []) now before (s.first ∷ s.others) s.nestings e c)))
+    on before now e (inr b) = inl (stop-goes modal L (above ++ stop ∷ []) m w inside before b.0 (e ∙ ap (λ z. Some (before, z)) b.1))
 
     by : RunOf modal (above ++ stop ∷ []) inside → Decided (CanGoOn L inside)
     by (got before now e) = on before now e (run-bottom modal inside (above ++ stop ∷ []) now before (inr (above, refl)) e)

@@ -8,20 +8,12 @@ use Rattle.tptp_reader.specs.declared.source.BinaryKind.{BinaryKind}
 use Rattle.tptp_reader.specs.Terminals.{Terminal, open_round, close_round, open_square, close_square, comma, equal, unequal}
 use Rattle.tptp_reader.specs.Grammar as g
 use Rattle.tptp_reader.specs.Grammar.{Word, plain, in_quotes, TermTree, TermTrees, AtomTree, UnitTree, FormulaTree, UnitTrees, LiteralTree, ClauseTree, NameTree, ItemTree, term_tokens, terms_tokens, atom_tokens, unit_tokens, formula_tokens, units_tokens, variables_tokens, word_token}
+pub use Rattle.tptp_reader.specs.Standing.{Arguments, no_arguments, these, arguments_tokens, Side, no_side, equals, differs, side_tokens}
 use Rattle.tptp_reader.specs.Nesting.{all_at, term_nestings, terms_nestings, atom_nestings, unit_nestings, formula_nestings, units_nestings, literal_nestings, literals_nestings, clause_nestings, text_nestings}
 use Rattle.tptp_reader.specs.Faults.{is_stop}
 use Rattle.tptp_reader.specs.Expecting.{Expected, Fixed, form, form_of, this, term, arguments, some_arguments, some_equation, equation, atom, variables, unit, formula, formula_rest, chain_rest, stop, literal, unsigned, literals_rest, clause, clause_open, clause_rest, items, name, after_body, first_note, notes, include_rest, names_rest, this_move}
 
 -- ---- what stands for each part
-
--- arguments, or nothing
-pub data Arguments : Type 0 where
-  no_arguments : Arguments
-  these : TermTree → TermTrees → Arguments
-
-abbrev pub arguments_tokens : Arguments → List Terminal
-arguments_tokens no_arguments = []
-arguments_tokens (these t us) = open_round ∷ (term_tokens t ++ terms_tokens us)
 
 abbrev pub arguments_nestings : ℕ → Arguments → List ℕ
 arguments_nestings d no_arguments = []
@@ -34,16 +26,6 @@ applied w (these t us) = g.application w t us
 abbrev pub predicated : Word → Arguments → AtomTree
 predicated w no_arguments = g.proposition w
 predicated w (these t us) = g.predication w t us
-
--- the right side of an equation, or nothing
-pub data Side : Type 0 where
-  no_side : Side
-  equals differs : TermTree → Side
-
-abbrev pub side_tokens : Side → List Terminal
-side_tokens no_side = []
-side_tokens (equals t) = equal ∷ term_tokens t
-side_tokens (differs t) = unequal ∷ term_tokens t
 
 abbrev pub side_nestings : ℕ → Side → List ℕ
 side_nestings d no_side = []

@@ -23,6 +23,23 @@ pub mod LiftLaws
 -- each text has a reading
 pub mod Lexing
 pub mod Deciding
+-- the tokens of the program
+pub mod PieceLaws
+pub mod StackViews
+pub mod RunLaws
+pub mod EndingLaws
+pub mod StandLaws
+pub mod TermReading
+pub mod AtomReading
+pub mod VariablesReading
+pub mod FormulaReading
+pub mod FormulaEnds
+pub mod StageLaws
+pub mod TextEnds
+pub mod ClauseReading
+pub mod NotesReading
+pub mod ItemReading
+pub mod TextReading
 pub mod Totality
 -- worked examples
 mod Examples

@@ -8,18 +8,18 @@ use Rattle.tptp_reader.specs.Terminals.{Terminal, lower, open_round, close_round
 use Rattle.tptp_reader.specs.Grammar.{NameTree, ItemTree, name_fits, name_token, item_fits, head_tokens, text_tokens}
 use Rattle.tptp_reader.specs.Nesting.{text_nestings}
 use Rattle.tptp_reader.specs.Faults.{Language, TextLanguage, FollowsAt, CanFollow, CanGoOn}
-use Rattle.tptp_reader.specs.Expecting.{Expected, this, a_comma, a_lower, stop, items, name, move, moved, is_optional, step, run, run_on, run_after, head_of}
+use Rattle.tptp_reader.specs.Expecting.{is_part, Expected, this, a_comma, a_lower, stop, items, name, move, moved, is_optional, step, run, run_on, run_after, head_of}
 use Rattle.tptp_reader.proofs.FollowLaws.{IsReadBy, text-read, derives-run, follows-run, no-step}
 use Rattle.tptp_reader.proofs.ExactLaws.{IsWrittenBy, text-written, step-follows}
-use Rattle.tptp_reader.proofs.StackLaws.{is_part, above-run, behind_body, items-now, name-step}
+use Rattle.tptp_reader.proofs.StackLaws.{above-run, behind_body, items-now, name-step}
 
 -- a step above the stop is one above what follows a formula in an item, with the same nesting, and the other way round
-abbrev SameStep : Bool → List Expected → Terminal → Type 0
+abbrev pub SameStep : Bool → List Expected → Terminal → Type 0
 SameStep modal above x =
     ((step modal (above ++ stop ∷ []) x ≡ None) × (step modal (above ++ behind_body) x ≡ None))
     ⊎ ((n : ℕ) × (r : List Expected) × (s : List Expected) × (step modal (above ++ stop ∷ []) x ≡ Some (n, r)) × (step modal (above ++ behind_body) x ≡ Some (n, s)))
 
-same-step : (modal : Bool) (above : List Expected) (x : Terminal) → SameStep modal above x
+pub same-step : (modal : Bool) (above : List Expected) (x : Terminal) → SameStep modal above x
 same-step modal [] comma = inr (_, _, _, refl, refl)
 same-step modal [] close_round = inr (_, _, _, refl, refl)
 same-step modal [] _ = inl (refl, refl)

@@ -1,6 +1,6 @@
 -- What is expected behind tokens that stand in a formula: parts of formulas or clauses, and then what follows a formula. So
 -- behind other tokens the stack shows that they do not.
-use Rattle.std.proofs.Common.{◌≡◌, ◌==◌, ◌⊎◌, ◌&&◌, ℕ, Bool, true, false, List, [], ◌∷◌, ◌++◌, Option, None, Some, inl, inr, refl, sym, ◌∙◌, ap, append_assoc, append-nil, subst, IsTrue}
+use Rattle.std.proofs.Common.{◌≡◌, ◌==◌, ◌⊎◌, ◌&&◌, ◌||◌, ℕ, Bool, true, false, List, [], ◌∷◌, ◌++◌, Option, None, Some, inl, inr, refl, sym, ◌∙◌, ap, append_assoc, append-nil, subst, IsTrue}
 use Rattle.std.specs.Prelude.{codes, if◌then◌else◌}
 use Rattle.std.specs.List.{list_all}
 use Rattle.std.proofs.lemmas.Bool.{and_parts, and_from, false≢true}
@@ -11,40 +11,12 @@ use Rattle.tptp_reader.specs.declared.source.ChainKind.TheVariants.{And, Or}
 use Rattle.tptp_reader.specs.Terminals.{Terminal, lower, upper, quoted, number, dollar, hash, open_round, close_round, close_square, comma, tilde, exclamation, question, ampersand, bar, implies, implied, equivalent, inequivalent, nor, nand, equal, unequal}
 use Rattle.tptp_reader.specs.Grammar.{plain, in_quotes, NameTree, word_name, number_name, name_fits, name_token, head_tokens, text_tokens}
 use Rattle.tptp_reader.specs.Faults.{Language, TextLanguage, FormulaLanguage, ClauseLanguage, StandsIn, InFormula}
-use Rattle.tptp_reader.specs.Expecting.{Expected, Fixed, an_opening, a_closing, a_square, a_comma, a_dot, a_colon, a_lower, an_upper, a_quoted, form, form_of, this, term, arguments, some_arguments, some_equation, equation, atom, variables, unit, formula, formula_rest, chain_rest, stop, literal, unsigned, literals_rest, clause, clause_open, clause_rest, items, name, after_body, first_note, notes, include_rest, names_rest, move, moved, is_optional, all_optional, step, run, run_on, run_after, before, head_of, is_word, this_move, term_move, arguments_move, some_arguments_move, equation_move, dollar_move, is_truth, atom_move, variables_move, modal_move, is_modality, unit_move, formula_rest_move, chain_rest_move, stop_move, unsigned_move, literal_move, literals_rest_move, clause_move, clause_open_move, clause_rest_move, items_move}
+use Rattle.tptp_reader.specs.Expecting.{is_part, are_parts, is_in_body, is_after_body, Expected, Fixed, an_opening, a_closing, a_square, a_comma, a_dot, a_colon, a_lower, an_upper, a_quoted, form, form_of, this, term, arguments, some_arguments, some_equation, equation, atom, variables, unit, formula, formula_rest, chain_rest, stop, literal, unsigned, literals_rest, clause, clause_open, clause_rest, items, name, after_body, first_note, notes, include_rest, names_rest, move, moved, is_optional, all_optional, step, run, run_on, run_after, before, head_of, is_word, this_move, term_move, arguments_move, some_arguments_move, equation_move, dollar_move, is_truth, atom_move, variables_move, modal_move, is_modality, unit_move, formula_rest_move, chain_rest_move, stop_move, unsigned_move, literal_move, literals_rest_move, clause_move, clause_open_move, clause_rest_move, items_move}
 use Rattle.tptp_reader.proofs.Deriving.{before-some}
 use Rattle.tptp_reader.proofs.FollowLaws.{IsReadBy, text-read, formula-read, clause-read, follows-run}
 use Rattle.tptp_reader.proofs.ExactLaws.{whole-ends}
 
 -- ---- parts of formulas and clauses
-
-abbrev pub is_inner : Fixed → Bool
-is_inner a_closing = true
-is_inner a_square = true
-is_inner a_colon = true
-is_inner an_upper = true
-is_inner _ = false
-
-abbrev pub is_part : Expected → Bool
-is_part (this k d) = is_inner k
-is_part stop = false
-is_part items = false
-is_part name = false
-is_part after_body = false
-is_part first_note = false
-is_part (notes w) = false
-is_part include_rest = false
-is_part names_rest = false
-is_part _ = true
-
-abbrev pub are_parts : List Expected → Bool
-are_parts es = list_all is_part es
-
--- parts of a formula or clause, and then what follows it
-abbrev pub is_in_body : List Expected → Bool
-is_in_body [] = false
-is_in_body (after_body ∷ es) = true
-is_in_body (e ∷ es) = is_part e && is_in_body es
 
 abbrev Keeps : (Terminal → Option (ℕ × List Expected)) → Type 0
 Keeps mv = (x : Terminal) (r : ℕ × List Expected) → mv x ≡ Some r → are_parts r.1 ≡ true
@@ -198,7 +170,7 @@ move-keeps modal _ h x r q = absurd (false≢true h)
 -- ---- the same parts above another bottom
 
 -- a step above the last part, the same above any other bottom
-record Above (modal : Bool) (bottom above : List Expected) (x : Terminal) (r : ℕ × List Expected) : Type 0 where
+pub record Above (modal : Bool) (bottom above : List Expected) (x : Terminal) (r : ℕ × List Expected) : Type 0 where
   pub next : List Expected
   pub parts : are_parts next ≡ true
   pub is_next : r.1 ≡ next ++ stop ∷ []
@@ -209,7 +181,7 @@ stop-leads comma r e = ap (λ p. p.1) (sym (some-is e))
 stop-leads close_round r e = ap (λ p. p.1) (sym (some-is e))
 stop-leads _ r e = absurd (none-some e)
 
-above-step : (modal : Bool) (bottom above : List Expected) (x : Terminal) (r : ℕ × List Expected) → are_parts above ≡ true → step modal (above ++ stop ∷ []) x ≡ Some r → (r.1 ≡ []) ⊎ Above modal bottom above x r
+pub above-step : (modal : Bool) (bottom above : List Expected) (x : Terminal) (r : ℕ × List Expected) → are_parts above ≡ true → step modal (above ++ stop ∷ []) x ≡ Some r → (r.1 ≡ []) ⊎ Above modal bottom above x r
 above-step modal bottom [] x r p e = by (stop_move x) refl e
   where
     by : (m : Option (ℕ × List Expected)) → stop_move x ≡ m → moved m false [] None ≡ Some r → (r.1 ≡ []) ⊎ Above modal bottom [] x r
@@ -390,16 +362,11 @@ head-run modal language body e n role inside f k now h =
     run-step modal (this a_comma 0 ∷ body ∷ behind_body) comma inside s5.0 now (0, body ∷ behind_body) s5.1 refl
 
 part-in-body : (e : Expected) (es : List Expected) → is_part e ≡ true → is_in_body es ≡ true → is_in_body (e ∷ es) ≡ true
-part-in-body (this k d) es h q = and_from (is_inner k) (is_in_body es) h q
-part-in-body after_body es h q = refl
-part-in-body stop es h q = absurd (false≢true h)
-part-in-body items es h q = absurd (false≢true h)
-part-in-body name es h q = absurd (false≢true h)
-part-in-body first_note es h q = absurd (false≢true h)
-part-in-body (notes w) es h q = absurd (false≢true h)
-part-in-body include_rest es h q = absurd (false≢true h)
-part-in-body names_rest es h q = absurd (false≢true h)
-part-in-body _ es h q = q
+part-in-body e es h q = by (is_after_body e) (and_from (is_part e) (is_in_body es) h q)
+  where
+    by : (b : Bool) → (is_part e && is_in_body es) ≡ true → (b || (is_part e && is_in_body es)) ≡ true
+    by true k = refl
+    by false k = k
 
 parts-in-body : (parts : List Expected) → are_parts parts ≡ true → is_in_body (parts ++ behind_body) ≡ true
 parts-in-body [] h = refl

@@ -1,6 +1,7 @@
 -- The code's way through the tokens of a text or a formula: a stack of what is still expected. It is no definition to
 -- believe: `Grammar`, `Nesting` and `Faults` say what texts and faults are, and the proofs tie this way to them.
-use Rattle.std.specs.Prelude.{ℕ, suc, List, [], ◌∷◌, ◌++◌, Bool, true, false, ◌&&◌, ◌==◌, codes, Option, None, Some, if◌then◌else◌}
+use Rattle.std.specs.Prelude.{ℕ, suc, ◌||◌, List, [], ◌∷◌, ◌++◌, Bool, true, false, ◌&&◌, ◌==◌, codes, Option, None, Some, if◌then◌else◌}
+use Rattle.std.specs.List.{list_all}
 use Rattle.calculus.specs.Equality.{list_eq}
 use Rattle.tptp_lex.specs.Tokens.{is_digits}
 use Rattle.tptp_lex.specs.declared.tokens.TokenKind.{TokenKind}
@@ -327,6 +328,49 @@ abbrev pub all_optional : List Expected → Bool
 all_optional [] = true
 all_optional (e ∷ es) = is_optional e && all_optional es
 
+-- ---- places
+
+abbrev pub is_inner : Fixed → Bool
+is_inner a_closing = true
+is_inner a_square = true
+is_inner a_colon = true
+is_inner an_upper = true
+is_inner _ = false
+
+abbrev pub is_part : Expected → Bool
+is_part (this k d) = is_inner k
+is_part stop = false
+is_part items = false
+is_part name = false
+is_part after_body = false
+is_part first_note = false
+is_part (notes w) = false
+is_part include_rest = false
+is_part names_rest = false
+is_part _ = true
+
+abbrev pub are_parts : List Expected → Bool
+are_parts es = list_all is_part es
+
+-- parts of a formula or clause, and then what follows it
+abbrev pub is_after_body : Expected → Bool
+is_after_body after_body = true
+is_after_body _ = false
+
+abbrev pub is_in_body : List Expected → Bool
+is_in_body [] = false
+is_in_body (e ∷ es) = is_after_body e || (is_part e && is_in_body es)
+
+abbrev pub is_items : Expected → Bool
+is_items items = true
+is_items _ = false
+
+-- an item may begin, and nothing else is expected
+abbrev pub is_at_item : List Expected → Bool
+is_at_item [] = false
+is_at_item (e ∷ []) = is_items e
+is_at_item (e ∷ f ∷ es) = false
+
 -- ---- terminals from bytes
 
 -- the name in quotes; the flag says that a `\` stands right before
@@ -339,16 +383,36 @@ abbrev pub without_quote : List ℕ → List ℕ
 without_quote [] = []
 without_quote (b ∷ bs) = bs
 
-abbrev pub sign_in : List (List ℕ × Terminal) → List ℕ → Terminal
-sign_in [] w = unequal
-sign_in (s ∷ ss) w = if is_word w s.0 then s.1 else sign_in ss w
+-- signs of one byte, of two and of three
+abbrev pub single_sign : ℕ → Terminal
+single_sign b =
+    if b == 40 then open_round
+    else (if b == 41 then close_round
+    else (if b == 91 then open_square
+    else (if b == 93 then close_square
+    else (if b == 44 then comma
+    else (if b == 46 then dot
+    else (if b == 58 then colon
+    else (if b == 126 then tilde
+    else (if b == 33 then exclamation
+    else (if b == 63 then question
+    else (if b == 38 then ampersand
+    else (if b == 124 then bar
+    else equal)))))))))))
 
-abbrev pub signs : List (List ℕ × Terminal)
-signs =
-    (codes "(", open_round) ∷ (codes ")", close_round) ∷ (codes "[", open_square) ∷ (codes "]", close_square) ∷ (codes ",", comma) ∷ (codes ".", dot)
-    ∷ (codes ":", colon) ∷ (codes "~", tilde) ∷ (codes "!", exclamation) ∷ (codes "?", question) ∷ (codes "&", ampersand) ∷ (codes "|", bar)
-    ∷ (codes "=>", implies) ∷ (codes "<=", implied) ∷ (codes "<=>", equivalent) ∷ (codes "<~>", inequivalent) ∷ (codes "~|", nor) ∷ (codes "~&", nand)
-    ∷ (codes "=", equal) ∷ []
+abbrev pub double_sign : ℕ → ℕ → Terminal
+double_sign b c =
+    if b == 61 then implies
+    else (if b == 60 then implied
+    else (if b == 33 then unequal
+    else (if c == 124 then nor
+    else nand)))
+
+abbrev pub sign_of : List ℕ → Terminal
+sign_of [] = unequal
+sign_of (b ∷ []) = single_sign b
+sign_of (b ∷ c ∷ []) = double_sign b c
+sign_of (b ∷ c ∷ d ∷ bs) = if c == 61 then equivalent else inequivalent
 
 abbrev pub terminal_of : TokenKind → List ℕ → Terminal
 terminal_of Lower w = lower w
@@ -358,4 +422,4 @@ terminal_of Hash w = hash w
 terminal_of Quoted w = quoted (name_in false (without_quote w))
 terminal_of Distinct w = distinct w
 terminal_of Number w = number w
-terminal_of Sign w = sign_in signs w
+terminal_of Sign w = sign_of w

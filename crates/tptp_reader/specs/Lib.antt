@@ -24,3 +24,11 @@ pub mod Falls
 -- ---- the code's way
 
 pub mod Expecting
+-- ---- tokens of the program
+
+pub mod TerminalView
+pub mod Pieces
+pub mod ExpectedView
+pub mod Following
+pub mod Standing
+pub mod ItemStanding

@@ -32,3 +32,11 @@ sources_list-sources_tree (x ∷ xs) = ap (λ ys. x ∷ ys) (sources_list-source
 
 pub sources_tree-inj : (xs ys : List Source) → sources_tree xs ≡ sources_tree ys → xs ≡ ys
 sources_tree-inj xs ys h = sym (sources_list-sources_tree xs) ∙ ap sources_list h ∙ sources_list-sources_tree ys
+
+pub terms_tree-terms_list : (ts : SourceTerms) → terms_tree (terms_list ts) ≡ ts
+terms_tree-terms_list no_terms = refl
+terms_tree-terms_list (more_terms t ts) = ap (more_terms t) (terms_tree-terms_list ts)
+
+pub sources_tree-sources_list : (ts : Sources) → sources_tree (sources_list ts) ≡ ts
+sources_tree-sources_list no_sources = refl
+sources_tree-sources_list (more_sources t ts) = ap (more_sources t) (sources_tree-sources_list ts)

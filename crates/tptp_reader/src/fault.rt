@@ -1,5 +1,7 @@
 //! Why a text is not read.
 
+use cop_base::NoMemory;
+
 /// What is wrong at the first token that cannot follow.
 #[derive(Clone, Copy, Debug, PartialEq, Eq)]
 pub enum ReadCause {
@@ -19,4 +21,15 @@ pub enum ReadFault {
     /// The token stands in more than 500 brackets, negations, quantifiers and modal operators.
     TooDeep { offset: u64 },
     NoMemory,
+}
+
+impl From<NoMemory> for ReadFault {
+    ghost use Rattle.std.specs.Prelude.{◌≡◌};
+    ghost use Rattle.tptp_reader.specs.declared.fault.ReadFault.TheVariants as fault;
+
+    ghost from_gives = { λ _ r. r ≡ fault.NoMemory };
+
+    fn from(_: NoMemory) -> ReadFault {
+        ReadFault::NoMemory
+    }
 }

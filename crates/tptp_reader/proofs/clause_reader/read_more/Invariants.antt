@@ -1,0 +1,13 @@
+use Rattle.std.proofs.Common.{◌≤◌, ◌-◌, length}
+use Rattle.tptp_reader.specs.Standing.{LiteralsUpTo}
+use Rattle.tptp_reader.proofs.clause_reader.read_more.Given as goal
+
+abbrev pub invariant-bars : goal.invariant-bars
+invariant-bars l = record {
+  read : LiteralsUpTo l.text l.fn.before l.p l.literals l.here;
+  onward : l.p.end ≤ l.here.end;
+  within : l.here.end ≤ length l.text;
+}
+
+abbrev pub decreases-bars : goal.decreases-bars
+decreases-bars l = length l.text - l.here.end

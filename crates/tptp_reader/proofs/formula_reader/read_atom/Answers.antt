@@ -1,0 +1,17 @@
+use Rattle.std.proofs.Common.{sym, ◌∙◌, ap, Some}
+use Rattle.tptp_reader.specs.TermView.{the_source_term}
+use Rattle.tptp_reader.specs.SourceView.{the_source}
+use Rattle.tptp_reader.proofs.AtomReading.{atom-true, atom-false, atom-read}
+use Rattle.tptp_reader.proofs.formula_reader.read_atom.Goals as goal
+
+pub returns-then-holds-clause-read : goal.returns-then-holds-clause-read
+returns-then-holds-clause-read c = λ a ts whole to s l.
+    atom-true a ts {p = c.args.p} {q = c.in_ok-next.next} s l (sym c.truth_of.ensures ∙ c.in-Some.is ∙ ap Some c.if-holds.true) c.in_ok-next.ensures.next
+
+pub returns-in-Some-clause-read : goal.returns-in-Some-clause-read
+returns-in-Some-clause-read c = λ a ts whole to s l.
+    atom-false a ts {p = c.args.p} {q = c.in_ok-next.next} s l (sym c.truth_of.ensures ∙ c.in-Some.is ∙ ap Some c.if-holds.false) c.in_ok-next.ensures.next
+
+pub returns-clause-read : goal.returns-clause-read
+returns-clause-read c = λ a ts whole to s l.
+    atom-read a ts {p = c.args.p} {sign = c.in_ok-left.sign} {q = c.in_ok-source.after} (the_source_term c.in_ok-left.left) (the_source c.in_ok-source.source) s l (sym c.truth_of.ensures ∙ c.in_default.is) c.in_ok-left.ensures.read c.in_ok-source.ensures.read

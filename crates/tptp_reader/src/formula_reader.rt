@@ -1,0 +1,300 @@
+//! The second way over the tokens: atoms and formulas. As in `term_reader` the tokens are known to be those of a tree, and
+//! the recursion ends within 500 levels, as the first way found no token deeper. Chains are read by loops.
+
+ghost use Rattle.std.specs.Prelude.{◌≡◌, ◌<◌, ◌≤◌, ◌==◌, IfOk, Some, length};
+ghost use Rattle.tptp_reader.specs.Expecting as way;
+ghost use Rattle.tptp_reader.specs.Standing.{AtomRead, ChainRead, FormulaRead, SideRead, UnitRead, VariablesRead, binary_in, chain_in, is_chain, prefix_in, truth_in, variable_in};
+ghost use Rattle.tptp_reader.specs.SourceView.{the_source};
+ghost use Rattle.tptp_reader.specs.TermView.{the_source_term};
+ghost use Rattle.tptp_reader.specs.TerminalView.{the_terminal};
+
+use crate::expected::{Fixed, has_form};
+use crate::source::{BinaryKind, ChainKind, Source, SourceBox, SourceList, SourceTerm, TextList};
+use crate::term_reader::{next_token, read_term};
+use crate::terminal::{Piece, Terminal};
+use cop_base::{NoMemory, Text};
+use std::alloc::{AllocFailed, Global};
+
+fn is_equal(x: Terminal) -> bool
+    ensures { result ≡ (way.form (the_terminal x.entry) == 1) }
+{
+    matches!(x, Terminal::Equal)
+}
+
+fn is_unequal(x: Terminal) -> bool
+    ensures { result ≡ (way.form (the_terminal x.entry) == 2) }
+{
+    matches!(x, Terminal::Unequal)
+}
+
+fn truth_of(x: Terminal) -> Option<bool>
+    ensures { result ≡ truth_in (the_terminal x.entry) }
+{
+    match x {
+        Terminal::Dollar(word) => Some(word == b"$true".as_slice()),
+        _ => None,
+    }
+}
+
+// An atom, or an equation with this term on its left.
+fn read_side<'a>(
+    alloc: Global,
+    text: &'a [u8],
+    left: SourceTerm,
+    sign: Piece<'a>,
+) -> Result<(Source, Piece<'a>), NoMemory>
+    requires { sign.end ≤ length text.now }
+    ensures read { IfOk result (SideRead text.now (the_source_term left) sign.entry) }
+    ensures onward { IfOk result (λ r. sign.entry.end ≤ r.1.end) }
+    ensures within { IfOk result (λ r. r.1.end ≤ length text.now) }
+{
+    if is_equal(sign.terminal) {
+        let start = next_token(text, sign.end)?;
+        let (right, after) = read_term(alloc, text, start)?;
+        return Ok((Source::Equal(left, right), after));
+    }
+    if is_unequal(sign.terminal) {
+        let start = next_token(text, sign.end)?;
+        let (right, after) = read_term(alloc, text, start)?;
+        return Ok((Source::Unequal(left, right), after));
+    }
+    match left {
+        SourceTerm::Fun(name, args) => Ok((Source::Atom(name, args), sign)),
+        SourceTerm::Var(_) => Err(NoMemory),
+    }
+}
+
+/// `$true`, `$false`, an atom or an equation.
+pub fn read_atom<'a>(
+    alloc: Global,
+    text: &'a [u8],
+    p: Piece<'a>,
+) -> Result<(Source, Piece<'a>), NoMemory>
+    requires { p.end ≤ length text.now }
+    ensures read { IfOk result (AtomRead text.now p.entry) }
+    ensures onward { IfOk result (λ r. p.entry.end < r.1.end) }
+    ensures within { IfOk result (λ r. r.1.end ≤ length text.now) }
+{
+    if let Some(holds) = truth_of(p.terminal) {
+        let next = next_token(text, p.end)?;
+        if holds {
+            return Ok((Source::True, next));
+        }
+        return Ok((Source::False, next));
+    }
+    let (left, sign) = read_term(alloc, text, p)?;
+    let (source, after) = read_side(alloc, text, left, sign)?;
+    Ok((source, after))
+}
+
+/// How a unit begins that is no atom.
+#[derive(Clone, Copy)]
+pub enum Prefix {
+    Bracket,
+    Negation,
+    Universal,
+    Existential,
+    Necessity,
+    Possibility,
+}
+
+fn prefix_of(x: Terminal) -> Option<Prefix>
+    ensures { result ≡ prefix_in (the_terminal x.entry) }
+{
+    match x {
+        Terminal::OpenRound => Some(Prefix::Bracket),
+        Terminal::Tilde => Some(Prefix::Negation),
+        Terminal::Exclamation => Some(Prefix::Universal),
+        Terminal::Question => Some(Prefix::Existential),
+        Terminal::Hash(word) => {
+            if word == b"#box".as_slice() {
+                Some(Prefix::Necessity)
+            } else {
+                Some(Prefix::Possibility)
+            }
+        }
+        _ => None,
+    }
+}
+
+fn read_variable(alloc: Global, x: Terminal) -> Result<Text, NoMemory>
+    ensures { IfOk result (λ t. variable_in (the_terminal x.entry) ≡ Some t) }
+{
+    match x {
+        Terminal::Upper(name) => Text::new(alloc, name),
+        _ => Err(NoMemory),
+    }
+}
+
+// The variables of the quantifier, and the token behind its `:`.
+fn read_variables<'a>(
+    alloc: Global,
+    text: &'a [u8],
+    p: Piece<'a>,
+) -> Result<(TextList, Piece<'a>), NoMemory>
+    requires { p.end ≤ length text.now }
+    ensures read { IfOk result (VariablesRead text.now p.entry) }
+    ensures onward { IfOk result (λ r. p.entry.end < r.1.end) }
+    ensures within { IfOk result (λ r. r.1.end ≤ length text.now) }
+{
+    let mut names = TextList::new(alloc);
+    let bracket = next_token(text, p.end)?;
+    let first = next_token(text, bracket.end)?;
+    names.push(read_variable(alloc, first.terminal)?)?;
+    let mut here = next_token(text, first.end)?;
+    loop {
+        let next = next_token(text, here.end)?;
+        if !has_form(Fixed::Comma, here.terminal) {
+            let after = next_token(text, next.end)?;
+            return Ok((names, after));
+        }
+        names.push(read_variable(alloc, next.terminal)?)?;
+        here = next_token(text, next.end)?;
+    }
+}
+
+fn chain_of(x: Terminal) -> Option<ChainKind>
+    ensures { result ≡ chain_in (the_terminal x.entry) }
+{
+    match x {
+        Terminal::Ampersand => Some(ChainKind::And),
+        Terminal::Bar => Some(ChainKind::Or),
+        _ => None,
+    }
+}
+
+fn is_chain(kind: ChainKind, x: Terminal) -> bool
+    ensures { result ≡ is_chain kind (the_terminal x.entry) }
+{
+    match x {
+        Terminal::Ampersand => matches!(kind, ChainKind::And),
+        Terminal::Bar => matches!(kind, ChainKind::Or),
+        _ => false,
+    }
+}
+
+fn binary_of(x: Terminal) -> Option<BinaryKind>
+    ensures { result ≡ binary_in (the_terminal x.entry) }
+{
+    match x {
+        Terminal::Implies => Some(BinaryKind::Imp),
+        Terminal::Implied => Some(BinaryKind::If),
+        Terminal::Equivalent => Some(BinaryKind::Iff),
+        Terminal::Inequivalent => Some(BinaryKind::Xor),
+        Terminal::Nor => Some(BinaryKind::Nor),
+        Terminal::Nand => Some(BinaryKind::Nand),
+        _ => None,
+    }
+}
+
+#[cycle(read_tree)]
+fn read_unit<'a>(
+    alloc: Global,
+    text: &'a [u8],
+    p: Piece<'a>,
+) -> Result<(Source, Piece<'a>), NoMemory>
+    requires { p.end ≤ length text.now }
+    ensures read { IfOk result (UnitRead text.now p.entry) }
+    ensures onward { IfOk result (λ r. p.entry.end < r.1.end) }
+    ensures within { IfOk result (λ r. r.1.end ≤ length text.now) }
+{
+    let Some(prefix) = prefix_of(p.terminal) else {
+        let (source, after) = read_atom(alloc, text, p)?;
+        return Ok((source, after));
+    };
+    match prefix {
+        Prefix::Bracket => {
+            let start = next_token(text, p.end)?;
+            let (source, close) = read_tree(alloc, text, start)?;
+            let after = next_token(text, close.end)?;
+            Ok((source, after))
+        }
+        Prefix::Negation => {
+            let start = next_token(text, p.end)?;
+            let (source, after) = read_unit(alloc, text, start)?;
+            let inner = SourceBox::new(alloc, source)?;
+            Ok((Source::Not(inner), after))
+        }
+        Prefix::Universal => {
+            let (names, start) = read_variables(alloc, text, p)?;
+            let (source, after) = read_unit(alloc, text, start)?;
+            let inner = SourceBox::new(alloc, source)?;
+            Ok((Source::All(names, inner), after))
+        }
+        Prefix::Existential => {
+            let (names, start) = read_variables(alloc, text, p)?;
+            let (source, after) = read_unit(alloc, text, start)?;
+            let inner = SourceBox::new(alloc, source)?;
+            Ok((Source::Ex(names, inner), after))
+        }
+        Prefix::Necessity => {
+            let colon = next_token(text, p.end)?;
+            let start = next_token(text, colon.end)?;
+            let (source, after) = read_unit(alloc, text, start)?;
+            let inner = SourceBox::new(alloc, source)?;
+            Ok((Source::Nec(inner), after))
+        }
+        Prefix::Possibility => {
+            let colon = next_token(text, p.end)?;
+            let start = next_token(text, colon.end)?;
+            let (source, after) = read_unit(alloc, text, start)?;
+            let inner = SourceBox::new(alloc, source)?;
+            Ok((Source::Poss(inner), after))
+        }
+    }
+}
+
+/// A formula, and the token behind it.
+#[cycle(read_tree)]
+pub fn read_tree<'a>(
+    alloc: Global,
+    text: &'a [u8],
+    p: Piece<'a>,
+) -> Result<(Source, Piece<'a>), NoMemory>
+    requires { p.end ≤ length text.now }
+    ensures read { IfOk result (FormulaRead text.now p.entry) }
+    ensures onward { IfOk result (λ r. p.entry.end < r.1.end) }
+    ensures within { IfOk result (λ r. r.1.end ≤ length text.now) }
+{
+    let (first, sign) = read_unit(alloc, text, p)?;
+    if let Some(kind) = chain_of(sign.terminal) {
+        let (source, after) = read_chain(alloc, text, kind, first, sign)?;
+        return Ok((source, after));
+    }
+    let Some(kind) = binary_of(sign.terminal) else {
+        return Ok((first, sign));
+    };
+    let start = next_token(text, sign.end)?;
+    let (second, after) = read_unit(alloc, text, start)?;
+    let left = SourceBox::new(alloc, first)?;
+    let right = SourceBox::new(alloc, second)?;
+    Ok((Source::Binary(kind, left, right), after))
+}
+
+// A chain, from the connective behind its first unit on.
+#[cycle(read_tree)]
+fn read_chain<'a>(
+    alloc: Global,
+    text: &'a [u8],
+    kind: ChainKind,
+    first: Source,
+    sign: Piece<'a>,
+) -> Result<(Source, Piece<'a>), NoMemory>
+    requires { sign.end ≤ length text.now }
+    ensures read { IfOk result (ChainRead text.now kind (the_source first) sign.entry) }
+    ensures onward { IfOk result (λ r. sign.entry.end < r.1.end) }
+    ensures within { IfOk result (λ r. r.1.end ≤ length text.now) }
+{
+    let mut units = SourceList::new(alloc);
+    units.push(first)?;
+    let mut here = sign;
+    loop {
+        let start = next_token(text, here.end)?;
+        let (unit, next) = read_unit(alloc, text, start)?;
+        units.push(unit)?;
+        if !is_chain(kind, next.terminal) {
+            return Ok((Source::Chain(kind, units), next));
+        }
+        here = next;
+    }
+}

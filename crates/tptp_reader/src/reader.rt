@@ -1,0 +1,95 @@
+//! The readers: a first way over the tokens finds the end, the fault or the depth, a second one builds the value.
+
+ghost use Rattle.std.specs.Prelude.{◌≡◌, ◌≤◌, ◌∷◌, [], length, IfErr, IfOk, IfSome, ℕ};
+ghost use Rattle.tptp_reader.specs.Answers.{the_formula_reading};
+ghost use Rattle.tptp_reader.specs.Faults.{formula_cause};
+ghost use Rattle.tptp_reader.specs.Following.{FormulaStands, IsFormulaFault, stack_now};
+ghost use Rattle.tptp_reader.specs.Expecting as way;
+ghost use Rattle.tptp_reader.specs.Reading.{IsFormulaReading, Outcome};
+ghost use Rattle.tptp_reader.specs.Sources as tree;
+ghost use Rattle.tptp_reader.specs.TerminalView.{the_terminal};
+
+use crate::expected::Expected;
+use crate::fault::{ReadCause, ReadFault};
+use crate::following::{Ending, follow};
+use crate::formula_reader::read_tree;
+use crate::machine::Machine;
+use crate::source::Source;
+use crate::term_reader::next_token;
+use crate::terminal::{Piece, Terminal};
+use cop_base::NoMemory;
+use std::alloc::Global;
+
+/// What is wrong with a token that cannot follow in a formula.
+pub fn formula_cause(x: Terminal) -> ReadCause
+    ensures { result ≡ formula_cause (the_terminal x.entry) }
+{
+    match x {
+        Terminal::Number(_) | Terminal::Distinct(_) => ReadCause::Unsupported,
+        Terminal::Dollar(word) => {
+            if word == b"$true".as_slice() || word == b"$false".as_slice() {
+                ReadCause::Syntax
+            } else {
+                ReadCause::Reserved
+            }
+        }
+        _ => ReadCause::Syntax,
+    }
+}
+
+// A formula and what ends it.
+fn formula_machine(alloc: Global) -> Result<Machine, NoMemory>
+    ensures { IfOk result (λ m. stack_now m ≡ way.formula 0 ∷ way.stop ∷ []) }
+{
+    let mut machine = Machine::new(alloc);
+    machine.push(Expected::Stop)?;
+    machine.push(Expected::Formula(0))?;
+    Ok(machine)
+}
+
+// The token behind the formula that begins at or after the place.
+fn find_stop(alloc: Global, text: &[u8], from: usize, modal: bool) -> Result<Piece<'_>, ReadFault>
+    requires { from ≤ length text.now }
+    ensures stands { IfOk result (FormulaStands modal text.now from) }
+    ensures fault { IfErr result (IsFormulaFault modal text.now from) }
+{
+    let mut machine = formula_machine(alloc)?;
+    let ending = follow(text, from, modal, &mut machine)?;
+    match ending {
+        Ending::Done(piece) => Ok(piece),
+        Ending::Stuck(piece) => Err(ReadFault::At {
+            offset: piece.start as u64,
+            cause: formula_cause(piece.terminal),
+        }),
+        Ending::TooDeep(offset) => Err(ReadFault::TooDeep {
+            offset: offset as u64,
+        }),
+        Ending::NoToken(offset) => Err(ReadFault::At {
+            offset: offset as u64,
+            cause: ReadCause::Syntax,
+        }),
+        Ending::End => Err(ReadFault::At {
+            offset: text.len() as u64,
+            cause: ReadCause::Syntax,
+        }),
+    }
+}
+
+/// The formula that begins with the first token at or after the place, and the offset of the token behind it. Modal
+/// operators may stand in it where `modal` says so.
+pub fn read_formula(
+    alloc: Global,
+    text: &[u8],
+    from: usize,
+    modal: bool,
+) -> Result<(Source, usize), ReadFault>
+    requires { from ≤ length text.now }
+    ensures reading { IfSome (the_formula_reading result) (λ r. IsFormulaReading modal text.now from r) }
+    ensures alone { IfSome (the_formula_reading result) (λ r. (other : Outcome (tree.Source × ℕ))
+        → IsFormulaReading modal text.now from other → other ≡ r) }
+{
+    let stop = find_stop(alloc, text, from, modal)?;
+    let first = next_token(text, from)?;
+    let (source, _) = read_tree(alloc, text, first)?;
+    Ok((source, stop.start))
+}

@@ -1,0 +1,51 @@
+//! The readers of texts.
+
+ghost use Rattle.std.specs.Prelude.{◌≡◌, IfOk, IfSome, List, false};
+ghost use Rattle.tptp_reader.specs.Answers.{the_reading};
+ghost use Rattle.tptp_reader.specs.ItemStanding.{ItemsRead};
+ghost use Rattle.tptp_reader.specs.Reading.{IsReading, Outcome};
+ghost use Rattle.tptp_reader.specs.Sources as tree;
+
+use crate::checker::check_text;
+use crate::fault::ReadFault;
+use crate::item::ItemList;
+use crate::item_reader::read_item;
+use crate::terminal::next_piece;
+use cop_base::NoMemory;
+use std::alloc::Global;
+
+// The items of a text that has been checked.
+fn build_items(alloc: Global, text: &[u8]) -> Result<ItemList, NoMemory>
+    ensures { IfOk result (ItemsRead text.now) }
+{
+    let mut items = ItemList::new(alloc);
+    let mut place = 0;
+    'items: loop {
+        let first = match next_piece(text, place) {
+            Ok(Some(piece)) => piece,
+            Ok(None) => return Ok(items),
+            Err(_) => return Ok(items),
+        };
+        let (item, dot) = read_item(alloc, text, first)?;
+        items.push(item)?;
+        place = dot.end;
+    }
+}
+
+/// The items of a text, of a modal problem or of one that is classical or intuitionistic.
+pub fn read_text(alloc: Global, text: &[u8], modal: bool) -> Result<ItemList, ReadFault>
+    ensures reading { IfSome (the_reading result) (λ r. IsReading modal text.now r) }
+    ensures alone { IfSome (the_reading result) (λ r. (other : Outcome (List tree.Item)) → IsReading modal text.now other → other ≡ r) }
+{
+    check_text(alloc, text, modal)?;
+    let items = build_items(alloc, text)?;
+    Ok(items)
+}
+
+/// The items of a text of a problem that is classical or intuitionistic.
+pub fn read_items(alloc: Global, text: &[u8]) -> Result<ItemList, ReadFault>
+    ensures reading { IfSome (the_reading result) (λ r. IsReading false text.now r) }
+    ensures alone { IfSome (the_reading result) (λ r. (other : Outcome (List tree.Item)) → IsReading false text.now other → other ≡ r) }
+{
+    read_text(alloc, text, false)
+}
