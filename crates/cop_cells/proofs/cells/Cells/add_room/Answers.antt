@@ -1,16 +1,12 @@
 use Rattle.std.proofs.Common.{arith}
 use Rattle.cop_cells.proofs.CellLaws.{cells-fit, more-cells, more-length, more-listed}
-use Rattle.cop_cells.proofs.cells.Cells.reserve.Goals as goal
-
-pub overflow_sub-spare : goal.overflow_sub-spare
-overflow_sub-spare g c =
-    omega (arith, cells-fit c.self.inside.len c.self.inside.pages.items c.self.invariant, c.self.inside.pages.ok.0, c.len.ensures)
+use Rattle.cop_cells.proofs.cells.Cells.add_room.Goals as goal
 
 pub invariant_of-self-2 : goal.invariant_of-self-2
 invariant_of-self-2 g c =
     rw c.in_ok-add_pages.ensures.ok
     (more-cells c.self.inside.len _ c.self.inside.pages.items c.self.invariant
-    (let h = c.self.invariant.numbered in omega (arith, c.if-count-len.false, c.self.inside.pages.ok.0, c.len-2.ensures)))
+    (let h = c.self.invariant.numbered in omega (arith, c.if-count-len.false, c.self.inside.pages.ok.0, c.len.ensures)))
 
 pub returns-clause-list : goal.returns-clause-list
 returns-clause-list g c =
@@ -18,6 +14,6 @@ returns-clause-list g c =
 
 pub returns-clause-ok : goal.returns-clause-ok
 returns-clause-ok g c =
-    rw c.in_ok-add_pages.ensures.ok
+    rw (c.in_ok-add_pages.ensures.ok, ← c.self.view_is)
     (rw (more-length _ c.self.inside.pages.items)
-    (omega (arith, c.if-n-spare.false, cells-fit c.self.inside.len c.self.inside.pages.items c.self.invariant, c.self.inside.pages.ok.0, c.len.ensures)))
+    (omega (arith, cells-fit c.self.inside.len c.self.inside.pages.items c.self.invariant, c.requires)))
