@@ -21,96 +21,146 @@ module _ {T : Type 0} where
     pub there : place < length pages * 4096
     pub read : page ≡ get_or pages (place / 4096) page
 
-  page-at : (pages : List (List T)) (place : ℕ) (page : List T) → IsPageOf pages place page → slice_get pages (place / 4096) ≡ Some page
-  page-at pages place page p = slice_get_read pages (length pages) (place / 4096) page refl (let h = p.there in omega arith) p.read
+  page-at : (pages : List (List T)) (place : ℕ) (page : List T) → IsPageOf pages place page
+      → slice_get pages (place / 4096) ≡ Some page
+  page-at pages place page p = slice_get_read pages (length pages) (place / 4096) page refl
+      (let h = p.there in omega arith) p.read
 
-  pub listed-length : (len : ℕ) (pages : List (List T)) → AreCells len pages → length (listed len pages) ≡ len
+  pub listed-length : (len : ℕ) (pages : List (List T)) → AreCells len pages
+      → length (listed len pages) ≡ len
   listed-length len pages c = let h = c.listed in omega (arith, length-take len (joined pages))
 
   -- each item has a cell
   pub cells-fit : (len : ℕ) (pages : List (List T)) → AreCells len pages → len ≤ length pages * 4096
-  cells-fit len pages c = let h = c.listed in omega (arith, written-fits (length (joined pages)) pages c.written)
+  cells-fit len pages c = let h = c.listed in omega
+      (arith, written-fits (length (joined pages)) pages c.written)
 
-  pub page-there : (pages : List (List T)) (count place : ℕ) → count ≡ length pages → place < length pages * 4096 → place / 4096 < count
+  pub page-there : (pages : List (List T)) (count place : ℕ) → count ≡ length pages
+      → place < length pages * 4096 → place / 4096 < count
   page-there pages count place e h = omega arith
 
-  pub cell-within : (len : ℕ) (pages : List (List T)) (place : ℕ) (page : List T) → AreCells len pages → IsPageOf pages place page → place < len → place % 4096 < length page
+  pub cell-within : (len : ℕ) (pages : List (List T)) (place : ℕ) (page : List T)
+      → AreCells len pages → IsPageOf pages place page → place < len → place % 4096 < length page
   cell-within len pages place page c p h =
       let l = c.listed in
-      place-within (length (joined pages)) pages (place / 4096) (place % 4096) page c.written (page-at pages place page p) (in_page place) (omega (arith, split place))
+      place-within (length (joined pages)) pages (place / 4096) (place % 4096) page c.written
+      (page-at pages place page p) (in_page place) (omega (arith, split place))
 
-  pub cell-next : (len : ℕ) (pages : List (List T)) (place : ℕ) (page : List T) → AreCells len pages → IsPageOf pages place page → place ≤ len → place % 4096 ≤ length page
+  pub cell-next : (len : ℕ) (pages : List (List T)) (place : ℕ) (page : List T) → AreCells len pages
+      → IsPageOf pages place page → place ≤ len → place % 4096 ≤ length page
   cell-next len pages place page c p h =
       let l = c.listed in
-      place-next (length (joined pages)) pages (place / 4096) (place % 4096) page c.written (page-at pages place page p) (in_page place) (omega (arith, split place))
+      place-next (length (joined pages)) pages (place / 4096) (place % 4096) page c.written
+      (page-at pages place page p) (in_page place) (omega (arith, split place))
 
-  pub cell-read : (len : ℕ) (pages : List (List T)) (place : ℕ) (page : List T) (x : T) → AreCells len pages → IsPageOf pages place page → place < len → slice_get page (place % 4096) ≡ Some x → slice_get (listed len pages) place ≡ Some x
+  pub cell-read : (len : ℕ) (pages : List (List T)) (place : ℕ) (page : List T) (x : T)
+      → AreCells len pages → IsPageOf pages place page → place < len
+      → slice_get page (place % 4096) ≡ Some x → slice_get (listed len pages) place ≡ Some x
   cell-read len pages place page x c p h e =
       let l = c.listed in
       get-taken (joined pages) len place h
       ∙ ap (slice_get (joined pages)) (sym (split place))
-      ∙ place-read (length (joined pages)) pages (place / 4096) (place % 4096) page c.written (page-at pages place page p) (in_page place) (omega (arith, split place))
+      ∙ place-read (length (joined pages)) pages (place / 4096) (place % 4096) page c.written
+      (page-at pages place page p) (in_page place) (omega (arith, split place))
       ∙ e
 
-  put-joined : (len : ℕ) (pages : List (List T)) (place : ℕ) (page : List T) (x : T) → AreCells len pages → IsPageOf pages place page → place ≤ len → joined (set pages (place / 4096) (put_at page (place % 4096) x)) ≡ put_at (joined pages) place x
+  put-joined : (len : ℕ) (pages : List (List T)) (place : ℕ) (page : List T) (x : T)
+      → AreCells len pages → IsPageOf pages place page → place ≤ len
+      → joined (set pages (place / 4096) (put_at page (place % 4096) x)) ≡ put_at
+      (joined pages) place x
   put-joined len pages place page x c p h =
       let l = c.listed in
-      place-put (length (joined pages)) pages (place / 4096) (place % 4096) page x c.written (page-at pages place page p) (in_page place) (omega (arith, split place))
+      place-put (length (joined pages)) pages (place / 4096) (place % 4096) page x c.written
+      (page-at pages place page p) (in_page place) (omega (arith, split place))
       ∙ ap (λ i. put_at (joined pages) i x) (split place)
 
-  pub put-cells : (len n : ℕ) (pages : List (List T)) (place : ℕ) (page : List T) (x : T) → AreCells len pages → IsPageOf pages place page → place ≤ len → n ≤ max len (place + 1) → AreCells n (set pages (place / 4096) (put_at page (place % 4096) x))
+  pub put-cells : (len n : ℕ) (pages : List (List T)) (place : ℕ) (page : List T) (x : T)
+      → AreCells len pages → IsPageOf pages place page → place ≤ len → n ≤ max len (place + 1)
+      → AreCells n (set pages (place / 4096) (put_at page (place % 4096) x))
   put-cells len n pages place page x c p h m =
       let l = c.listed in
       let after = set pages (place / 4096) (put_at page (place % 4096) x) in
       let most = max (length (joined pages)) (suc (place / 4096 * 4096 + place % 4096)) in
-      let w = written-put (length (joined pages)) most pages (place / 4096) (place % 4096) page x c.written (page-at pages place page p) (in_page place) (omega (arith, split place)) refl in
+      let w = written-put (length (joined pages)) most pages (place / 4096)
+      (place % 4096) page x c.written (page-at pages place page p) (in_page place)
+      (omega (arith, split place)) refl in
       let e = written-length most after w in
       record {
         written = subst (λ k. AreWritten k after) (sym e) w;
         listed = omega (arith, e, split place);
-        numbered = let k = c.numbered in omega (arith, length-set pages (place / 4096) (put_at page (place % 4096) x));
+        numbered = let k = c.numbered in omega
+            (arith, length-set pages (place / 4096) (put_at page (place % 4096) x));
       }
 
-  pub push-listed : (len : ℕ) (pages : List (List T)) (page : List T) (x : T) → AreCells len pages → IsPageOf pages len page → listed (len + 1) (set pages (len / 4096) (put_at page (len % 4096) x)) ≡ listed len pages ++ x ∷ []
+  pub push-listed : (len : ℕ) (pages : List (List T)) (page : List T) (x : T) → AreCells len pages
+      → IsPageOf pages len page
+      → listed (len + 1) (set pages (len / 4096)
+      (put_at page (len % 4096) x)) ≡ listed len pages ++ x ∷ []
   push-listed len pages page x c p =
-      ap (take (len + 1)) (put-joined len pages len page x c p (omega arith)) ∙ take-pushed (joined pages) len (len + 1) x refl c.listed
+      ap (take (len + 1)) (put-joined len pages len page x c p (omega arith)) ∙ take-pushed
+      (joined pages) len (len + 1) x refl c.listed
 
-  pub set-cells : (len : ℕ) (pages : List (List T)) (place : ℕ) (page : List T) (x : T) → AreCells len pages → IsPageOf pages place page → place < len → AreCells len (set pages (place / 4096) (set page (place % 4096) x))
+  pub set-cells : (len : ℕ) (pages : List (List T)) (place : ℕ) (page : List T) (x : T)
+      → AreCells len pages → IsPageOf pages place page → place < len
+      → AreCells len (set pages (place / 4096) (set page (place % 4096) x))
   set-cells len pages place page x c p h =
-      subst (λ q. AreCells len (set pages (place / 4096) q)) (put_at-set page (place % 4096) x (cell-within len pages place page c p h))
+      subst (λ q. AreCells len (set pages (place / 4096) q))
+      (put_at-set page (place % 4096) x (cell-within len pages place page c p h))
       (put-cells len len pages place page x c p (omega arith) (omega arith))
 
-  pub set-listed : (len : ℕ) (pages : List (List T)) (place : ℕ) (page : List T) (x : T) → AreCells len pages → IsPageOf pages place page → place < len → listed len (set pages (place / 4096) (set page (place % 4096) x)) ≡ set (listed len pages) place x
+  pub set-listed : (len : ℕ) (pages : List (List T)) (place : ℕ) (page : List T) (x : T)
+      → AreCells len pages → IsPageOf pages place page → place < len
+      → listed len (set pages (place / 4096) (set page (place % 4096) x)) ≡ set
+      (listed len pages) place x
   set-listed len pages place page x c p h =
       let l = c.listed in
-      ap (λ q. listed len (set pages (place / 4096) q)) (sym (put_at-set page (place % 4096) x (cell-within len pages place page c p h)))
-      ∙ ap (take len) (put-joined len pages place page x c p (omega arith) ∙ put_at-set (joined pages) place x (omega arith))
+      ap (λ q. listed len (set pages (place / 4096) q))
+      (sym (put_at-set page (place % 4096) x (cell-within len pages place page c p h)))
+      ∙ ap (take len) (put-joined len pages place page x c p (omega arith) ∙ put_at-set
+      (joined pages) place x (omega arith))
       ∙ take-set-lt len (joined pages) place x h
 
   -- empty pages at the end change nothing but the room
-  pub more-cells : (len count : ℕ) (pages : List (List T)) → AreCells len pages → (length pages + count) * 4096 < 2 ^ 64 → AreCells len (pages ++ replicate count [])
+  pub more-cells : (len count : ℕ) (pages : List (List T)) → AreCells len pages
+      → (length pages + count) * 4096 < 2 ^ 64 → AreCells len (pages ++ replicate count [])
   more-cells len count pages c h = record {
-    written = subst (λ n. AreWritten n (pages ++ replicate count [])) (ap length (sym (joined-more count pages))) (written-more (length (joined pages)) count pages c.written);
+    written = subst (λ n. AreWritten n (pages ++ replicate count []))
+        (ap length (sym (joined-more count pages)))
+        (written-more (length (joined pages)) count pages c.written);
     listed = let l = c.listed in omega (arith, ap length (joined-more count pages));
-    numbered = omega (arith, length-append pages (replicate count []), length-replicate {A = List T} count []);
+    numbered = omega (
+      arith,
+      length-append pages (replicate count []),
+      length-replicate
+          {A = List T} count [],
+    );
   }
 
-  pub more-listed : (len count : ℕ) (pages : List (List T)) → listed len (pages ++ replicate count []) ≡ listed len pages
+  pub more-listed : (len count : ℕ) (pages : List (List T))
+      → listed len (pages ++ replicate count []) ≡ listed len pages
   more-listed len count pages = ap (take len) (joined-more count pages)
 
-  pub more-length : (count : ℕ) (pages : List (List T)) → length (pages ++ replicate count []) ≡ length pages + count
-  more-length count pages = omega (arith, length-append pages (replicate count []), length-replicate {A = List T} count [])
+  pub more-length : (count : ℕ) (pages : List (List T))
+      → length (pages ++ replicate count []) ≡ length pages + count
+  more-length count pages = omega
+      (arith, length-append pages (replicate count []), length-replicate {A = List T} count [])
 
   -- a place in the list that is shown
-  pub listed-within : (len : ℕ) (pages : List (List T)) (list : List T) (place : ℕ) → AreCells len pages → listed len pages ≡ list → place < length list → place < len
+  pub listed-within : (len : ℕ) (pages : List (List T)) (list : List T) (place : ℕ)
+      → AreCells len pages → listed len pages ≡ list → place < length list → place < len
   listed-within len pages list place c e h = omega (arith, listed-length len pages c, ap length e)
 
-  pub item-there : (len : ℕ) (pages : List (List T)) (count place : ℕ) → AreCells len pages → count ≡ length pages → place < len → place / 4096 < count
-  item-there len pages count place c e h = page-there pages count place e (omega (arith, cells-fit len pages c))
+  pub item-there : (len : ℕ) (pages : List (List T)) (count place : ℕ) → AreCells len pages
+      → count ≡ length pages → place < len → place / 4096 < count
+  item-there len pages count place c e h = page-there pages count place e
+      (omega (arith, cells-fit len pages c))
 
-  pub item-page : (len : ℕ) (pages : List (List T)) (place : ℕ) (page : List T) → AreCells len pages → place < len → page ≡ get_or pages (place / 4096) page → IsPageOf pages place page
-  item-page len pages place page c h e = record { there = omega (arith, cells-fit len pages c); read = e }
+  pub item-page : (len : ℕ) (pages : List (List T)) (place : ℕ) (page : List T) → AreCells len pages
+      → place < len → page ≡ get_or pages (place / 4096) page → IsPageOf pages place page
+  item-page len pages place page c h e = record
+      { there = omega (arith, cells-fit len pages c); read = e }
 
   -- there is a cell where there is room
-  pub room-there : (len : ℕ) (pages : List (List T)) (spare : ℕ) → unused len pages ≡ spare → 0 < spare → len < length pages * 4096
+  pub room-there : (len : ℕ) (pages : List (List T)) (spare : ℕ) → unused len pages ≡ spare
+      → 0 < spare → len < length pages * 4096
   room-there len pages spare e h = omega arith

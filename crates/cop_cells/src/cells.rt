@@ -91,11 +91,24 @@ impl<T: Copy> Cells<T> {
         ensures enough { n ≤ self.old.spare → IsOk result }
         ensures enough_same { n ≤ self.old.spare → self.new.spare ≡ self.old.spare }
     {
-        let spare = self.pages.len() * PAGE_CELLS - self.len;
+        let spare = self.spare();
         if n <= spare {
             return Ok(());
         }
-        let count = (n - spare - 1) / PAGE_CELLS + 1;
+        self.add_room(n - spare)
+    }
+
+    // The part that asks for memory, apart so that the test is inlined.
+    #[cold]
+    #[inline(never)]
+    fn add_room(&mut self, more: usize) -> Result<(), NoMemory>
+        requires { 0 < more }
+        ensures list { self.new.list ≡ self.old.list }
+        ensures ok { OnOk result (self.old.spare + more ≤ self.new.spare) }
+        ensures kept { self.old.spare ≤ self.new.spare }
+        ensures err { OnErr result (self.new.spare ≡ self.old.spare) }
+    {
+        let count = (more - 1) / PAGE_CELLS + 1;
         if count > MOST_PAGES - self.pages.len() {
             return Err(NoMemory);
         }

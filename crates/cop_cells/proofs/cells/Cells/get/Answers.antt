@@ -5,21 +5,29 @@ use Rattle.cop_cells.proofs.cells.Cells.get.Goals as goal
 
 pub index-requires : goal.index-requires
 index-requires g c =
+    let len = c.self.inside.len in
     let pages = c.self.inside.pages.items in
-    let h = listed-within c.self.inside.len pages _ c.args.place c.self.invariant (ap (λ r. r.list) c.self.view_is) c.requires in
-    item-there c.self.inside.len pages _ c.args.place c.self.invariant c.self.inside.pages.ok.0 h
+    let shown = ap (λ r. r.list) c.self.view_is in
+    let h = listed-within len pages _ c.args.place c.self.invariant shown c.requires in
+    item-there len pages _ c.args.place c.self.invariant c.self.inside.pages.ok.0 h
 
 pub get-requires : goal.get-requires
 get-requires g c =
+    let len = c.self.inside.len in
     let pages = c.self.inside.pages.items in
-    let h = listed-within c.self.inside.len pages _ c.args.place c.self.invariant (ap (λ r. r.list) c.self.view_is) c.requires in
-    let p = item-page c.self.inside.len pages c.args.place c.index.result.now c.self.invariant h c.index.ensures in
-    cell-within c.self.inside.len pages c.args.place c.index.result.now c.self.invariant p h
+    let shown = ap (λ r. r.list) c.self.view_is in
+    let h = listed-within len pages _ c.args.place c.self.invariant shown c.requires in
+    let page = c.index.result.now in
+    let p = item-page len pages c.args.place page c.self.invariant h c.index.ensures in
+    cell-within len pages c.args.place page c.self.invariant p h
 
 pub returns : goal.returns
 returns g c =
+    let len = c.self.inside.len in
     let pages = c.self.inside.pages.items in
-    let h = listed-within c.self.inside.len pages _ c.args.place c.self.invariant (ap (λ r. r.list) c.self.view_is) c.requires in
-    let p = item-page c.self.inside.len pages c.args.place c.index.result.now c.self.invariant h c.index.ensures in
+    let shown = ap (λ r. r.list) c.self.view_is in
+    let h = listed-within len pages _ c.args.place c.self.invariant shown c.requires in
+    let page = c.index.result.now in
+    let p = item-page len pages c.args.place page c.self.invariant h c.index.ensures in
     ap (λ r. slice_get r.list c.args.place) (sym c.self.view_is)
-    ∙ cell-read c.self.inside.len pages c.args.place c.index.result.now c.get.result c.self.invariant p h c.get.ensures
+    ∙ cell-read len pages c.args.place page c.get.result c.self.invariant p h c.get.ensures

@@ -8,4 +8,12 @@ returns-clause-spare g c =
     let pages = c.self.inside.pages.items in
     let e = listed-length len pages c.self.invariant in
     let h = ap (λ r. length r.list) c.self.view_is in
-    omega (arith, cells-fit len pages c.self.invariant, e, h, ap (λ r. r.spare) c.self.view_is, c.requires)
+    omega (
+      arith,
+      cells-fit len pages c.self.invariant,
+      e,
+      h,
+      ap
+          (λ r. r.spare) c.self.view_is,
+      c.requires,
+    )
