@@ -6,8 +6,9 @@ ghost use Rattle.tptp_reader.specs.SourceView.{the_source};
 ghost use Rattle.tptp_reader.specs.Standing.{ClauseRead, DisjunctionRead, LiteralRead, LiteralsRead, UnsignedRead, disjunction};
 ghost use Rattle.tptp_reader.specs.TerminalView.{the_terminal};
 
-use crate::expected::{Fixed, has_form};
+use crate::expected::Fixed;
 use crate::formula_reader::read_atom;
+use crate::moves::has_form;
 use crate::source::{ChainKind, Source, SourceBox, SourceList};
 use crate::term_reader::next_token;
 use crate::terminal::{Piece, Terminal};

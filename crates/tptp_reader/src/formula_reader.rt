@@ -8,7 +8,8 @@ ghost use Rattle.tptp_reader.specs.SourceView.{the_source};
 ghost use Rattle.tptp_reader.specs.TermView.{the_source_term};
 ghost use Rattle.tptp_reader.specs.TerminalView.{the_terminal};
 
-use crate::expected::{Fixed, has_form};
+use crate::expected::Fixed;
+use crate::moves::has_form;
 use crate::source::{BinaryKind, ChainKind, Source, SourceBox, SourceList, SourceTerm, TextList};
 use crate::term_reader::{next_token, read_term};
 use crate::terminal::{Piece, Terminal};

@@ -5,9 +5,10 @@ ghost use Rattle.tptp_reader.specs.ItemStanding.{BodyRead, EndRead, FormulaItemR
 ghost use Rattle.tptp_reader.specs.TerminalView.{the_terminal};
 
 use crate::clause_reader::read_clause;
-use crate::expected::{Fixed, has_form};
+use crate::expected::Fixed;
 use crate::formula_reader::read_tree;
 use crate::item::{Item, ItemKind, NamePlaces};
+use crate::moves::has_form;
 use crate::source::Source;
 use crate::term_reader::{next_token, read_word};
 use crate::terminal::{Piece, Terminal};

@@ -11,10 +11,13 @@ mod formula_reader;
 mod item;
 mod item_reader;
 mod machine;
+mod moves;
 mod reader;
 mod source;
 mod term_reader;
 mod terminal;
+#[cfg(test)]
+mod tests;
 mod text_reader;
 
 pub use fault::{ReadCause, ReadFault};

@@ -6,7 +6,8 @@ ghost use Rattle.tptp_reader.specs.ExpectedView.{the_expected, the_last, the_par
 ghost use Rattle.tptp_reader.specs.Following.{found, closing, is_open, stack_after, stack_now, stack_of, the_bracket, told};
 ghost use Rattle.tptp_reader.specs.TerminalView.{the_terminal};
 
-use crate::expected::{Expected, Fixed, Move, Parts, next_move};
+use crate::expected::{Expected, Fixed, Move, Parts};
+use crate::moves::next_move;
 use crate::terminal::Terminal;
 use cop_base::NoMemory;
 use std::alloc::{AllocFailed, Global};

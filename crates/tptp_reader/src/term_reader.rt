@@ -9,7 +9,8 @@ ghost use Rattle.tptp_reader.specs.Standing.{ArgumentsRead, TermRead, word_in};
 ghost use Rattle.tptp_reader.specs.Terminals.{Follow};
 ghost use Rattle.tptp_reader.specs.TerminalView.{the_terminal};
 
-use crate::expected::{Fixed, has_form};
+use crate::expected::Fixed;
+use crate::moves::has_form;
 use crate::source::{SourceTerm, SourceTerms};
 use crate::terminal::{Piece, Terminal, next_piece};
 use cop_base::{NoMemory, Text};
