@@ -1,19 +1,16 @@
 -- Reading clauses on the second way.
-use Rattle.std.proofs.Common.{◌≡◌, ◌==◌, ℕ, Bool, true, false, List, [], ◌∷◌, ◌++◌, map, Some, refl, sym, ◌∙◌, ap, append_assoc, append-nil, subst, arith}
+use Rattle.std.proofs.Common.{◌≡◌, ◌==◌, ℕ, Bool, true, false, List, [], ◌∷◌, ◌++◌, map, Some, refl, sym, ◌∙◌, ap, append_assoc, append-nil, arith}
 use Rattle.std.proofs.lemmas.Bool.{false≢true}
-use Rattle.tptp_reader.specs.declared.source.ChainKind.TheVariants.{Or}
 use Rattle.tptp_reader.specs.declared.terminal.Piece.{Piece}
 use Rattle.tptp_reader.specs.Sources as tree
-use Rattle.tptp_reader.specs.Lists.{sources_tree}
 use Rattle.tptp_reader.specs.Terminals.{Terminal, open_round, close_round, tilde, bar, Placed, Follow}
 use Rattle.tptp_reader.specs.TerminalView.{the_terminal}
 use Rattle.tptp_reader.specs.Pieces.{placed}
-use Rattle.tptp_reader.specs.Grammar as g
-use Rattle.tptp_reader.specs.Grammar.{Word, plain, in_quotes, TermTree, AtomTree, LiteralTree, positive, negative, positive_bracketed, negative_bracketed, ClauseTree, bare, bracketed_clause, word_token, term_tokens, atom_tokens, literal_tokens, literals_tokens, clause_tokens}
+use Rattle.tptp_reader.specs.Grammar.{AtomTree, LiteralTree, positive, negative, positive_bracketed, negative_bracketed, ClauseTree, bare, bracketed_clause, atom_tokens, literal_tokens, literals_tokens, clause_tokens}
 use Rattle.tptp_reader.specs.Meaning.{atom_of, literal_of, disjunction_of, clause_of}
 use Rattle.tptp_reader.specs.Expecting.{form}
 use Rattle.tptp_reader.specs.Standing.{At, Leaves, prefix_in, unsigned_tokens, disjunction, LiteralsUpTo}
-use Rattle.tptp_reader.proofs.StandLaws.{at-first, at-next, at-same, leaves-some, leaves-less, leaves-behind, no-form}
+use Rattle.tptp_reader.proofs.StandLaws.{at-first, at-next, at-same, leaves-less, leaves-behind, no-form}
 use Rattle.tptp_reader.proofs.FormulaReading.{HasAtom, atom-prefix}
 use Rattle.tptp_reader.specs.declared.formula_reader.Prefix.TheVariants.{Bracket, Negation}
 use Rattle.tptp_lex.proofs.Runs.{none-some}

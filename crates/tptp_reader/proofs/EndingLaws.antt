@@ -1,6 +1,5 @@
 -- Where the first way over a text ends, there is the fault.
-use Rattle.std.proofs.Common.{◌≡◌, ◌<◌, ◌⊎◌, ◌&&◌, ℕ, Bool, true, false, not, List, [], ◌∷◌, ◌++◌, Option, None, Some, inl, inr, refl, sym, ◌∙◌, ap, subst, length, IsTrue}
-use Rattle.std.specs.Prelude.{nat_lt}
+use Rattle.std.proofs.Common.{◌≡◌, ◌&&◌, ℕ, Bool, true, false, not, List, [], ◌∷◌, ◌++◌, None, Some, inl, inr, refl, sym, ◌∙◌, ap, length}
 use Rattle.std.specs.List.{list_all}
 use Rattle.std.proofs.lemmas.Bool.{and_parts, false≢true, lt-ltb, ltb-true}
 use Rattle.tptp_lex.specs.Answers.{IsFault, OnlySpace}
@@ -8,11 +7,11 @@ use Rattle.tptp_lex.proofs.Runs.{none-some, some-is}
 use Rattle.tptp_reader.specs.declared.fault.ReadCause.{ReadCause}
 use Rattle.tptp_reader.specs.declared.fault.ReadCause.TheVariants.{Syntax}
 use Rattle.tptp_reader.specs.declared.terminal.Piece.{Piece}
-use Rattle.tptp_reader.specs.Terminals.{Terminal, Placed, terminals, Follow}
+use Rattle.tptp_reader.specs.Terminals.{Terminal, terminals}
 use Rattle.tptp_reader.specs.TerminalView.{the_terminal}
 use Rattle.tptp_reader.specs.Pieces.{placed}
-use Rattle.tptp_reader.specs.Faults.{Language, TextLanguage, FormulaLanguage, Causes, IsWhole, CanGoOn, FollowsAt, IsTooDeep, AreShallow, wrong, too_deep, HasFault, at_token, at_no_token, at_end, at_depth}
-use Rattle.tptp_reader.specs.Expecting.{Expected, formula, stop, items, is_optional, all_optional, step, run, run_on, run_after, Run, Move}
+use Rattle.tptp_reader.specs.Faults.{Language, TextLanguage, FormulaLanguage, Causes, IsWhole, CanGoOn, AreShallow, wrong, too_deep, HasFault, at_token, at_no_token, at_end, at_depth}
+use Rattle.tptp_reader.specs.Expecting.{Expected, formula, stop, items, is_optional, all_optional, step, run, run_after, Move}
 use Rattle.tptp_reader.specs.Following.{Ran, RanStuck, RanDeep, is_open, is_shallow}
 use Rattle.tptp_reader.proofs.FollowLaws.{IsReadBy, text-read, formula-read, follows-run, no-step}
 use Rattle.tptp_reader.proofs.FaultLaws.{Begins}

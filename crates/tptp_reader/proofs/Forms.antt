@@ -5,7 +5,7 @@ use Rattle.std.proofs.lemmas.Bool.{eqb-true}
 use Rattle.tptp_lex.proofs.Runs.{none-some, some-is}
 use Rattle.tptp_reader.specs.declared.source.ChainKind.{ChainKind}
 use Rattle.tptp_reader.specs.declared.source.BinaryKind.{BinaryKind}
-use Rattle.tptp_reader.specs.Terminals.{Terminal, open_round, close_round, open_square, close_square, comma, equal, unequal}
+use Rattle.tptp_reader.specs.Terminals.{Terminal, open_round, close_round, open_square, close_square, comma}
 use Rattle.tptp_reader.specs.Grammar as g
 use Rattle.tptp_reader.specs.Grammar.{Word, plain, in_quotes, TermTree, TermTrees, AtomTree, UnitTree, FormulaTree, UnitTrees, LiteralTree, ClauseTree, NameTree, ItemTree, term_tokens, terms_tokens, atom_tokens, unit_tokens, formula_tokens, units_tokens, variables_tokens, word_token}
 pub use Rattle.tptp_reader.specs.Standing.{Arguments, no_arguments, these, arguments_tokens, Side, no_side, equals, differs, side_tokens}

@@ -1,6 +1,6 @@
 -- A formula that the first way went through stands there, and the second way reads it.
-use Rattle.std.proofs.Common.{◌≡◌, ◌||◌, ℕ, Bool, true, false, List, [], ◌∷◌, ◌++◌, Option, None, Some, refl, sym, ◌∙◌, ap, subst, length, IsTrue}
-use Rattle.std.specs.Prelude.{nat_lt, Result, Ok, Err, IfSome}
+use Rattle.std.proofs.Common.{◌≡◌, ℕ, Bool, List, [], ◌∷◌, ◌++◌, Some, refl, sym, ◌∙◌, ap, subst, length, IsTrue}
+use Rattle.std.specs.Prelude.{Result, Ok, Err, IfSome}
 use Rattle.tptp_reader.specs.declared.fault.ReadCause.TheVariants.{Syntax}
 use Rattle.tptp_reader.specs.declared.following.Ending.{Ending}
 use Rattle.tptp_reader.specs.declared.following.Ending.TheVariants as ending
@@ -10,9 +10,8 @@ use Rattle.tptp_reader.specs.Sources.{Source}
 use Rattle.tptp_reader.specs.Terminals.{Terminal, comma, close_round, Placed, terminals, Follow}
 use Rattle.tptp_reader.specs.TerminalView.{the_terminal}
 use Rattle.tptp_reader.specs.Pieces.{placed}
-use Rattle.tptp_reader.specs.Grammar.{FormulaTree, formula_tokens}
-use Rattle.tptp_reader.specs.Meaning.{source_of}
-use Rattle.tptp_reader.specs.Expecting.{Expected, formula, stop, form, run, step}
+use Rattle.tptp_reader.specs.Grammar.{formula_tokens}
+use Rattle.tptp_reader.specs.Expecting.{Expected, formula, stop, run}
 use Rattle.tptp_reader.specs.Faults.{FormulaLanguage, FormulaCauses, formula_cause, is_stop, wrong, too_deep, HasFault}
 use Rattle.tptp_reader.specs.declared.fault.ReadFault.{ReadFault}
 use Rattle.tptp_reader.specs.declared.fault.ReadFault.TheVariants as fault

@@ -1,5 +1,5 @@
 -- Reading formulas on the second way.
-use Rattle.std.proofs.Common.{◌≡◌, ◌==◌, ℕ, Bool, true, false, List, [], ◌∷◌, ◌++◌, Option, None, Some, refl, sym, ◌∙◌, ap, append_assoc, subst, arith}
+use Rattle.std.proofs.Common.{◌≡◌, ℕ, true, false, List, [], ◌∷◌, ◌++◌, Option, None, Some, refl, sym, ◌∙◌, ap, append_assoc, subst, arith}
 use Rattle.std.specs.Prelude.{nat_lt}
 use Rattle.std.proofs.lemmas.Bool.{false≢true}
 use Rattle.tptp_lex.proofs.Runs.{none-some, some-is}
@@ -12,7 +12,7 @@ use Rattle.tptp_reader.specs.declared.source.ChainKind.TheVariants.{And, Or}
 use Rattle.tptp_reader.specs.declared.terminal.Piece.{Piece}
 use Rattle.tptp_reader.specs.Sources as tree
 use Rattle.tptp_reader.specs.Lists.{sources_list, sources_tree, sources_tree-sources_list}
-use Rattle.tptp_reader.specs.Terminals.{Terminal, open_round, close_round, open_square, upper, colon, ampersand, bar, implies, implied, equivalent, inequivalent, nor, nand, equal, unequal, Placed, Follow}
+use Rattle.tptp_reader.specs.Terminals.{Terminal, open_round, close_round, open_square, upper, ampersand, bar, implies, implied, equivalent, inequivalent, nor, nand, equal, unequal, Placed, Follow}
 use Rattle.tptp_reader.specs.TerminalView.{the_terminal}
 use Rattle.tptp_reader.specs.Pieces.{placed}
 use Rattle.tptp_reader.specs.Grammar as g
@@ -20,7 +20,7 @@ use Rattle.tptp_reader.specs.Grammar.{Word, plain, in_quotes, TermTree, AtomTree
 use Rattle.tptp_reader.specs.Meaning.{atom_of, unit_of, units_of, source_of}
 use Rattle.tptp_reader.specs.Expecting.{form}
 use Rattle.tptp_reader.specs.Standing.{At, Leaves, prefix_in, chain_in, is_chain, binary_in, ChainLeft}
-use Rattle.tptp_reader.proofs.StandLaws.{at-first, at-next, at-same, leaves-some, leaves-less, leaves-behind}
+use Rattle.tptp_reader.proofs.StandLaws.{at-first, at-next, at-same, leaves-less, leaves-behind}
 
 -- what calls have read
 abbrev pub HasAtom : List ℕ → Piece → tree.Source → Piece → Type 0

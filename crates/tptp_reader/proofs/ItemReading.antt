@@ -1,19 +1,19 @@
 -- Reading items on the second way.
-use Rattle.std.proofs.Common.{◌≡◌, ◌==◌, ◌+◌, ◌&&◌, ℕ, zero, suc, Bool, true, false, not, List, [], ◌∷◌, ◌++◌, map, Option, None, Some, refl, sym, ◌∙◌, ap, append_assoc, subst, length, arith, get_or}
+use Rattle.std.proofs.Common.{◌≡◌, ◌==◌, ◌+◌, ◌&&◌, ℕ, suc, Bool, true, false, not, List, [], ◌∷◌, ◌++◌, Option, None, Some, refl, sym, ◌∙◌, ap, append_assoc, subst, length, arith, get_or}
 use Rattle.std.specs.Prelude.{codes}
 use Rattle.std.proofs.lemmas.Bool.{false≢true, and_parts}
-use Rattle.std.proofs.lemmas.List.{length-append, length-map}
+use Rattle.std.proofs.lemmas.List.{length-append}
 use Rattle.tptp_lex.proofs.Runs.{none-some, some-is}
 use Rattle.tptp_reader.specs.declared.item.ItemKind.{ItemKind}
 use Rattle.tptp_reader.specs.declared.item.ItemKind.TheVariants.{Fof, Cnf, Qmf}
 use Rattle.tptp_reader.specs.declared.terminal.Piece.{Piece}
 use Rattle.tptp_reader.specs.Sources as tree
-use Rattle.tptp_reader.specs.Terminals.{Terminal, lower, quoted, number, open_round, close_round, open_square, close_square, comma, dot, Placed, terminals, offsets, Follow}
+use Rattle.tptp_reader.specs.Terminals.{Terminal, lower, quoted, open_round, close_round, open_square, close_square, comma, dot, Placed, terminals, offsets, Follow}
 use Rattle.tptp_reader.specs.TerminalView.{the_terminal}
 use Rattle.tptp_reader.specs.Pieces.{placed}
 use Rattle.tptp_reader.specs.Grammar as g
 use Rattle.tptp_reader.specs.Grammar.{plain, in_quotes, NameTree, word_name, number_name, name_token, ItemTree, fof, cnf, qmf, include, include_names, notes_tokens, notes_fit, head_tokens, end_tokens, item_fits, item_tokens, formula_tokens, clause_tokens}
-use Rattle.tptp_reader.specs.Meaning.{source_of, clause_of, name_of, offset_at, selected, item_of}
+use Rattle.tptp_reader.specs.Meaning.{clause_of, name_of, offset_at, selected, item_of}
 use Rattle.tptp_reader.specs.Expecting.{form}
 use Rattle.tptp_reader.specs.Standing.{At, Leaves, word_in}
 use Rattle.tptp_reader.specs.ItemStanding.{kind_in, name_in, BodyTree, formula_body, clause_body, body_tokens, body_of, is_clause, body_fits, EndRead, others_tokens, NamesUpTo, is_include}

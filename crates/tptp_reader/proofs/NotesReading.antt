@@ -1,14 +1,14 @@
 -- Passing over notes on the second way.
-use Rattle.std.proofs.Common.{◌≡◌, ◌==◌, ◌+◌, ◌-◌, ℕ, zero, suc, Bool, true, false, List, [], ◌∷◌, ◌++◌, Option, None, Some, refl, sym, ◌∙◌, ap, subst, length, arith}
+use Rattle.std.proofs.Common.{◌≡◌, ◌==◌, ◌+◌, ◌-◌, ℕ, Bool, true, false, List, [], ◌∷◌, ◌++◌, None, Some, refl, sym, ◌∙◌, ap, length, arith}
 use Rattle.std.proofs.lemmas.Bool.{false≢true}
 use Rattle.tptp_reader.specs.declared.terminal.Piece.{Piece}
-use Rattle.tptp_reader.specs.Terminals.{Terminal, open_round, close_round, open_square, close_square, comma, dot, Placed, Follow}
+use Rattle.tptp_reader.specs.Terminals.{Terminal, open_round, close_round, open_square, close_square, dot, Placed, Follow}
 use Rattle.tptp_reader.specs.TerminalView.{the_terminal}
 use Rattle.tptp_reader.specs.Pieces.{placed}
 use Rattle.tptp_reader.specs.Grammar as g
 use Rattle.tptp_reader.specs.Grammar.{notes_tokens, notes_fit, are_notes}
 use Rattle.tptp_reader.specs.Expecting.{form}
-use Rattle.tptp_reader.specs.Standing.{At, Leaves}
+use Rattle.tptp_reader.specs.Standing.{At}
 use Rattle.tptp_reader.specs.ItemStanding.{opens, closes_one, EndRead, NotesUpTo}
 use Rattle.tptp_reader.proofs.StandLaws.{at-first, at-next, leaves-some, leaves-behind}
 

@@ -1,8 +1,8 @@
 -- A token of the program stands where the lexer found it.
-use Rattle.std.proofs.Common.{◌≡◌, ℕ, List, [], ◌∷◌, ◌++◌, sym, ◌∙◌, ap, subst, slice_range}
+use Rattle.std.proofs.Common.{◌≡◌, ℕ, List, [], ◌∷◌, sym, ◌∙◌, ap, subst, slice_range}
 use Rattle.tptp_lex.specs.declared.tokens.Token.{Token}
 use Rattle.tptp_lex.specs.Answers.{IsNext}
-use Rattle.tptp_reader.specs.Terminals.{Terminal, Placed, Follow, no_token, a_token, kind_of_terminal, spelling}
+use Rattle.tptp_reader.specs.Terminals.{Terminal, Follow, no_token, a_token, kind_of_terminal}
 use Rattle.tptp_reader.specs.Expecting.{terminal_of}
 use Rattle.tptp_reader.proofs.PlaceLaws.{terminal_of-spelling}
 use Rattle.tptp_reader.proofs.Lexing.{said}

@@ -1,5 +1,5 @@
 -- One token more on the first way over a text.
-use Rattle.std.proofs.Common.{◌≡◌, ◌&&◌, ℕ, Bool, true, false, not, List, [], ◌∷◌, ◌++◌, Option, None, Some, refl, sym, ◌∙◌, ap, subst, IsTrue}
+use Rattle.std.proofs.Common.{◌≡◌, ◌&&◌, ℕ, Bool, true, false, not, List, [], ◌∷◌, ◌++◌, None, Some, refl, sym, ◌∙◌, ap}
 use Rattle.std.specs.Prelude.{nat_lt, if◌then◌else◌}
 use Rattle.std.specs.List.{list_all}
 use Rattle.std.proofs.lemmas.Bool.{and_from, false≢true}
@@ -9,7 +9,6 @@ use Rattle.tptp_reader.specs.Terminals.{Terminal, Placed, terminals, Follow, no_
 use Rattle.tptp_reader.specs.Expecting as way
 use Rattle.tptp_reader.specs.Expecting.{Expected, step, run, run_on, run_after}
 use Rattle.tptp_reader.specs.Following.{Ran, RanDeep, told, stack_after, is_open, is_shallow}
-use Rattle.tptp_reader.specs.declared.machine.Step.{Step}
 use Rattle.tptp_reader.specs.declared.machine.Step.TheVariants.{Onward, TooDeep, Stuck}
 use Rattle.tptp_reader.proofs.FaultLaws.{terminals-append}
 

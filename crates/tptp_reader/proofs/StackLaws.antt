@@ -2,7 +2,6 @@
 -- behind other tokens the stack shows that they do not.
 use Rattle.std.proofs.Common.{◌≡◌, ◌==◌, ◌⊎◌, ◌&&◌, ◌||◌, ℕ, Bool, true, false, List, [], ◌∷◌, ◌++◌, Option, None, Some, inl, inr, refl, sym, ◌∙◌, ap, append_assoc, append-nil, subst, IsTrue}
 use Rattle.std.specs.Prelude.{codes, if◌then◌else◌}
-use Rattle.std.specs.List.{list_all}
 use Rattle.std.proofs.lemmas.Bool.{and_parts, and_from, false≢true}
 use Rattle.std.proofs.lemmas.List.Folds.{list_all-append}
 use Rattle.tptp_lex.proofs.Runs.{none-some, some-is}
@@ -11,7 +10,7 @@ use Rattle.tptp_reader.specs.declared.source.ChainKind.TheVariants.{And, Or}
 use Rattle.tptp_reader.specs.Terminals.{Terminal, lower, upper, quoted, number, dollar, hash, open_round, close_round, close_square, comma, tilde, exclamation, question, ampersand, bar, implies, implied, equivalent, inequivalent, nor, nand, equal, unequal}
 use Rattle.tptp_reader.specs.Grammar.{plain, in_quotes, NameTree, word_name, number_name, name_fits, name_token, head_tokens, text_tokens}
 use Rattle.tptp_reader.specs.Faults.{Language, TextLanguage, FormulaLanguage, ClauseLanguage, StandsIn, InFormula}
-use Rattle.tptp_reader.specs.Expecting.{is_part, are_parts, is_in_body, is_after_body, Expected, Fixed, an_opening, a_closing, a_square, a_comma, a_dot, a_colon, a_lower, an_upper, a_quoted, form, form_of, this, term, arguments, some_arguments, some_equation, equation, atom, variables, unit, formula, formula_rest, chain_rest, stop, literal, unsigned, literals_rest, clause, clause_open, clause_rest, items, name, after_body, first_note, notes, include_rest, names_rest, move, moved, is_optional, all_optional, step, run, run_on, run_after, before, head_of, is_word, this_move, term_move, arguments_move, some_arguments_move, equation_move, dollar_move, is_truth, atom_move, variables_move, modal_move, is_modality, unit_move, formula_rest_move, chain_rest_move, stop_move, unsigned_move, literal_move, literals_rest_move, clause_move, clause_open_move, clause_rest_move, items_move}
+use Rattle.tptp_reader.specs.Expecting.{is_part, are_parts, is_in_body, is_after_body, Expected, an_opening, a_comma, a_dot, a_lower, a_quoted, form, form_of, this, term, arguments, some_arguments, some_equation, equation, atom, variables, unit, formula, formula_rest, chain_rest, stop, literal, unsigned, literals_rest, clause, clause_open, clause_rest, items, name, after_body, include_rest, move, moved, is_optional, all_optional, step, run, run_on, run_after, before, head_of, is_word, this_move, term_move, arguments_move, some_arguments_move, equation_move, dollar_move, is_truth, atom_move, variables_move, modal_move, is_modality, unit_move, formula_rest_move, chain_rest_move, stop_move, unsigned_move, literal_move, literals_rest_move, clause_move, clause_open_move, clause_rest_move, items_move}
 use Rattle.tptp_reader.proofs.Deriving.{before-some}
 use Rattle.tptp_reader.proofs.FollowLaws.{IsReadBy, text-read, formula-read, clause-read, follows-run}
 use Rattle.tptp_reader.proofs.ExactLaws.{whole-ends}

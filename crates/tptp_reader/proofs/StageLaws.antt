@@ -1,6 +1,6 @@
 -- Where a text stands behind its first tokens, by the stack of what is expected: where an item may begin, in the head of
 -- one, in its formula, or behind that. So the stack tells the place of the next token.
-use Rattle.std.proofs.Common.{◌≡◌, ◌==◌, ◌⊎◌, ◌&&◌, ◌||◌, ℕ, Bool, true, false, List, [], ◌∷◌, ◌++◌, Option, None, Some, inl, inr, refl, sym, ◌∙◌, ap, append_assoc, append-nil, subst, IsTrue}
+use Rattle.std.proofs.Common.{◌≡◌, ◌==◌, ◌⊎◌, ◌&&◌, ◌||◌, ℕ, Bool, true, false, List, [], ◌∷◌, ◌++◌, None, Some, inl, inr, refl, sym, ◌∙◌, ap, append_assoc, append-nil, subst, IsTrue}
 use Rattle.std.specs.Prelude.{codes, if◌then◌else◌}
 use Rattle.std.specs.List.{list_all}
 use Rattle.std.proofs.lemmas.Bool.{and_parts, and_from, false≢true}
@@ -9,8 +9,8 @@ use Rattle.tptp_lex.proofs.Runs.{none-some, some-is}
 use Rattle.tptp_lex.specs.Tokens.{is_digits}
 use Rattle.tptp_reader.specs.Terminals.{Terminal, lower, quoted, number, open_round, close_round, open_square, close_square, comma}
 use Rattle.tptp_reader.specs.Grammar.{plain, in_quotes, NameTree, word_name, number_name, name_fits, name_token, head_tokens, text_tokens}
-use Rattle.tptp_reader.specs.Faults.{Language, TextLanguage, FormulaLanguage, ClauseLanguage, IsWhole, StandsIn, InFormula, CanGoOn, Place, at_item, in_formula, elsewhere, IsPlace}
-use Rattle.tptp_reader.specs.Expecting.{Expected, Fixed, an_opening, a_closing, a_square, a_comma, a_dot, a_lower, a_quoted, form, form_of, this, formula, stop, clause, items, name, after_body, first_note, notes, include_rest, names_rest, Move, move, moved, is_optional, step, run, run_on, run_after, head_of, is_word, this_move, stop_move, name_move, after_body_move, word_move, items_move, notes_move, first_note_move, include_rest_move, names_rest_move, is_part, are_parts, is_after_body, is_in_body, is_items, is_at_item}
+use Rattle.tptp_reader.specs.Faults.{Language, TextLanguage, FormulaLanguage, ClauseLanguage, IsWhole, StandsIn, InFormula, at_item, in_formula, elsewhere, IsPlace}
+use Rattle.tptp_reader.specs.Expecting.{Expected, Fixed, an_opening, a_comma, a_dot, a_lower, a_quoted, form, form_of, this, formula, stop, clause, items, name, after_body, first_note, notes, include_rest, names_rest, Move, move, moved, is_optional, step, run, run_after, head_of, is_word, this_move, stop_move, name_move, after_body_move, items_move, notes_move, first_note_move, include_rest_move, names_rest_move, is_part, are_parts, is_after_body, is_in_body, is_items, is_at_item}
 use Rattle.tptp_reader.proofs.FormulaForms.{word-is}
 use Rattle.tptp_reader.proofs.FollowLaws.{IsReadBy, formula-read, clause-read}
 use Rattle.tptp_reader.proofs.ExactLaws.{IsWrittenBy, formula-written, clause-written, ends-whole, text-written}

@@ -1,10 +1,10 @@
 -- From one token to the next on the second way.
-use Rattle.std.proofs.Common.{◌≡◌, ◌==◌, ◌<◌, ◌≤◌, ℕ, Bool, true, false, List, [], ◌∷◌, ◌++◌, Option, None, Some, refl, sym, ◌∙◌, ap, append_assoc, subst, arith}
+use Rattle.std.proofs.Common.{◌≡◌, ◌==◌, ◌<◌, ◌≤◌, ℕ, Bool, true, false, List, [], ◌∷◌, ◌++◌, Some, refl, sym, ◌∙◌, ap, append_assoc, subst, arith}
 use Rattle.std.specs.Prelude.{nat_lt}
 use Rattle.std.proofs.lemmas.Bool.{eqb-true, false≢true, ltb-true}
-use Rattle.tptp_lex.proofs.Runs.{none-some, some-is}
+use Rattle.tptp_lex.proofs.Runs.{some-is}
 use Rattle.tptp_reader.specs.declared.terminal.Piece.{Piece}
-use Rattle.tptp_reader.specs.Terminals.{Terminal, lower, upper, quoted, Placed, terminals, Follow, no_token}
+use Rattle.tptp_reader.specs.Terminals.{Terminal, Placed, terminals, Follow, no_token}
 use Rattle.tptp_reader.specs.TerminalView.{the_terminal}
 use Rattle.tptp_reader.specs.Pieces.{placed}
 use Rattle.tptp_reader.specs.Grammar.{Word, plain, in_quotes, word_token}

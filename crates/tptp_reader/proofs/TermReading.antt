@@ -1,18 +1,16 @@
 -- Reading terms on the second way.
-use Rattle.std.proofs.Common.{◌≡◌, ◌==◌, ℕ, Bool, true, false, List, [], ◌∷◌, ◌++◌, Option, None, Some, refl, sym, ◌∙◌, ap, append_assoc, subst}
+use Rattle.std.proofs.Common.{◌≡◌, ◌==◌, ℕ, true, false, List, [], ◌∷◌, ◌++◌, Some, refl, sym, ◌∙◌, ap, append_assoc}
 use Rattle.std.proofs.lemmas.Bool.{false≢true}
 use Rattle.tptp_lex.proofs.Runs.{none-some}
 use Rattle.tptp_reader.specs.declared.terminal.Piece.{Piece}
-use Rattle.tptp_reader.specs.declared.source.SourceTerm.{SourceTerm}
 use Rattle.tptp_reader.specs.Sources as tree
 use Rattle.tptp_reader.specs.Lists.{terms_list, terms_tree, terms_tree-terms_list}
-use Rattle.tptp_reader.specs.TermView.{the_source_term}
-use Rattle.tptp_reader.specs.Terminals.{Terminal, upper, open_round, close_round, comma, Placed, Follow}
+use Rattle.tptp_reader.specs.Terminals.{Terminal, upper, open_round, comma, Placed, Follow}
 use Rattle.tptp_reader.specs.TerminalView.{the_terminal}
 use Rattle.tptp_reader.specs.Pieces.{placed}
 use Rattle.tptp_reader.specs.Grammar as g
 use Rattle.tptp_reader.specs.Grammar.{Word, plain, in_quotes, TermTree, TermTrees, word_token, term_tokens, terms_tokens}
-use Rattle.tptp_reader.specs.Meaning.{word_name, term_of, terms_of}
+use Rattle.tptp_reader.specs.Meaning.{term_of, terms_of}
 use Rattle.tptp_reader.specs.Expecting.{form}
 use Rattle.tptp_reader.specs.Standing.{At, Leaves, word_in, Arguments, no_arguments, these, arguments_tokens, arguments_of, ArgumentsRead, ArgumentsLeft}
 use Rattle.tptp_reader.proofs.StandLaws.{at-first, at-next, at-same, no-form, word-is}

@@ -1,15 +1,14 @@
 -- How the first way over a text of items ends: the items stand there, or there is the fault.
-use Rattle.std.proofs.Common.{◌≡◌, ℕ, Bool, true, false, List, [], ◌∷◌, ◌++◌, Option, None, Some, refl, sym, ◌∙◌, ap, subst, length}
-use Rattle.tptp_lex.specs.Answers.{OnlySpace}
+use Rattle.std.proofs.Common.{◌≡◌, ℕ, Bool, true, false, List, [], ◌∷◌, Some, refl, ◌∙◌, ap, subst, length}
 use Rattle.tptp_reader.specs.declared.fault.ReadCause.TheVariants.{Syntax}
 use Rattle.tptp_reader.specs.declared.following.Ending.{Ending}
 use Rattle.tptp_reader.specs.declared.following.Ending.TheVariants as ending
 use Rattle.tptp_reader.specs.declared.terminal.Piece.{Piece}
 use Rattle.tptp_reader.specs.Terminals.{terminals}
 use Rattle.tptp_reader.specs.TerminalView.{the_terminal}
-use Rattle.tptp_reader.specs.Expecting.{Expected, items, is_at_item, run}
+use Rattle.tptp_reader.specs.Expecting.{Expected, items, is_at_item}
 use Rattle.tptp_reader.specs.Faults.{TextLanguage, TextCauses, cause_at, wrong, too_deep, HasFault}
-use Rattle.tptp_reader.specs.Following.{Ran, HasEnding, TextStands, place_now}
+use Rattle.tptp_reader.specs.Following.{HasEnding, TextStands, place_now}
 use Rattle.tptp_reader.proofs.FollowLaws.{text-read}
 use Rattle.tptp_reader.proofs.ExactLaws.{text-written, ends-whole}
 use Rattle.tptp_reader.proofs.EndingLaws.{text-for, run-shallow, stuck-fault, deep-fault, no_token-fault, end-fault}

@@ -1,5 +1,5 @@
 -- Reading the items of a text on the second way.
-use Rattle.std.proofs.Common.{◌≡◌, ◌+◌, ◌&&◌, ℕ, zero, suc, Bool, true, false, List, [], ◌∷◌, ◌++◌, Result, Ok, Err, refl, sym, ◌∙◌, ap, append_assoc, append-nil, subst, length, drop, arith}
+use Rattle.std.proofs.Common.{◌≡◌, ◌+◌, ◌&&◌, ℕ, Bool, true, List, [], ◌∷◌, ◌++◌, Result, Ok, Err, refl, sym, ◌∙◌, ap, append_assoc, append-nil, subst, length, drop, arith}
 use Rattle.std.specs.Prelude.{IfSome}
 use Rattle.std.specs.List.{list_all}
 use Rattle.std.proofs.lemmas.Bool.{and_parts}
@@ -9,20 +9,19 @@ use Rattle.tptp_reader.specs.declared.fault.ReadFault.{ReadFault}
 use Rattle.tptp_reader.specs.declared.fault.ReadFault.TheVariants as fault
 use Rattle.tptp_reader.specs.declared.terminal.Piece.{Piece}
 use Rattle.tptp_reader.specs.Sources as tree
-use Rattle.tptp_reader.specs.Terminals.{Terminal, Placed, terminals, offsets, Follow, no_token, a_token}
+use Rattle.tptp_reader.specs.Terminals.{Terminal, Placed, terminals, offsets, Follow, no_token}
 use Rattle.tptp_reader.specs.Pieces.{placed}
 use Rattle.tptp_reader.specs.Grammar.{ItemTree, fof, cnf, qmf, include, include_names, item_fits, item_tokens, text_tokens}
-use Rattle.tptp_reader.specs.Meaning.{item_of, items_of}
-use Rattle.tptp_reader.specs.Terminals as t
+use Rattle.tptp_reader.specs.Meaning.{items_of}
 use Rattle.tptp_reader.specs.Faults.{wrong, too_deep}
-use Rattle.tptp_reader.specs.Reading.{HoldsItems, Outcome, reads, fails, IsReading}
+use Rattle.tptp_reader.specs.Reading.{Outcome, reads, fails, IsReading}
 use Rattle.tptp_reader.specs.Answers.{the_reading}
 use Rattle.tptp_reader.specs.Following.{TextStands}
 use Rattle.tptp_reader.specs.Standing.{At, Leaves}
 use Rattle.tptp_reader.specs.ItemStanding.{ItemsRead, ItemsLeft, ItemsUpTo}
 use Rattle.tptp_reader.proofs.PlaceLaws.{next-in, next-or-end, next-or-fault}
 use Rattle.tptp_reader.proofs.OneReading.{one-reading}
-use Rattle.tptp_reader.proofs.StandLaws.{leaves-some, leaves-behind}
+use Rattle.tptp_reader.proofs.StandLaws.{leaves-some}
 use Rattle.tptp_reader.proofs.FormulaEnds.{at-start}
 use Rattle.tptp_reader.proofs.ItemReading.{HasItem, offsets-append, offsets-length, terminals-length}
 

@@ -1,15 +1,15 @@
 -- Reading the variables of a quantifier on the second way.
-use Rattle.std.proofs.Common.{◌≡◌, ◌==◌, ℕ, Bool, true, false, List, [], ◌∷◌, ◌++◌, Option, None, Some, refl, sym, ◌∙◌, ap, append_assoc, append-nil}
+use Rattle.std.proofs.Common.{◌≡◌, ◌==◌, ℕ, true, false, List, [], ◌∷◌, ◌++◌, Some, refl, sym, ◌∙◌, ap, append_assoc, append-nil}
 use Rattle.std.proofs.lemmas.Bool.{false≢true}
-use Rattle.tptp_lex.proofs.Runs.{none-some, some-is}
+use Rattle.tptp_lex.proofs.Runs.{some-is}
 use Rattle.tptp_reader.specs.declared.terminal.Piece.{Piece}
-use Rattle.tptp_reader.specs.Terminals.{Terminal, upper, open_square, colon, Placed, Follow}
+use Rattle.tptp_reader.specs.Terminals.{Terminal, upper, open_square, Placed, Follow}
 use Rattle.tptp_reader.specs.TerminalView.{the_terminal}
 use Rattle.tptp_reader.specs.Pieces.{placed}
 use Rattle.tptp_reader.specs.Grammar.{variables_tokens}
 use Rattle.tptp_reader.specs.Expecting.{form}
 use Rattle.tptp_reader.specs.Standing.{At, Leaves, variable_in, VariablesUpTo}
-use Rattle.tptp_reader.proofs.StandLaws.{at-first, at-next, leaves-some, leaves-behind}
+use Rattle.tptp_reader.proofs.StandLaws.{at-first, at-next}
 
 variables-leave : (xs : List (List ℕ)) (ts : List Terminal) → Leaves 0 (variables_tokens xs ++ ts)
 variables-leave [] ts = refl

@@ -116,6 +116,10 @@ impl SourceTerms {
         ensures ok { OnOk result (self.new ≡ self.old ++ the_source_term item ∷ []) }
         ensures err { OnErr result (self.new ≡ self.old) }
     {
+        // Most lists of arguments have one.
+        if self.items.as_slice().is_empty() {
+            self.items.reserve_exact(1)?;
+        }
         self.items.push(item)?;
         Ok(())
     }

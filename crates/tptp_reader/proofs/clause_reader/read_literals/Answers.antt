@@ -1,4 +1,4 @@
-use Rattle.std.proofs.Common.{sym, ◌∙◌, ap, ◌++◌, ◌∷◌, [], List, subst}
+use Rattle.std.proofs.Common.{◌∙◌, ap, ◌++◌, ◌∷◌, [], List, subst}
 use Rattle.tptp_reader.specs.Sources as tree
 use Rattle.tptp_reader.specs.SourceView.{the_source}
 use Rattle.tptp_reader.proofs.ClauseReading.{HasMore, literals-read}

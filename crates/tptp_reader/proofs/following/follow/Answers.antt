@@ -1,7 +1,5 @@
 use Rattle.std.proofs.Common.{sym, ◌∙◌}
 use Rattle.tptp_reader.specs.Following.{stack_now}
-use Rattle.tptp_reader.specs.Expecting as way
-use Rattle.tptp_reader.specs.TerminalView.{the_terminal}
 use Rattle.tptp_reader.specs.Pieces.{placed}
 use Rattle.tptp_reader.proofs.RunLaws.{ran-none, ran-further, deep-there}
 use Rattle.tptp_reader.proofs.following.follow.Goals as goal

@@ -1,4 +1,4 @@
-use Rattle.std.proofs.Common.{sym, ◌∙◌, ap, Some, ◌++◌, ◌∷◌, [], List, subst, arith}
+use Rattle.std.proofs.Common.{sym, ◌∙◌, ap, Some, ◌∷◌, List, subst, arith}
 use Rattle.tptp_reader.specs.Sources as tree
 use Rattle.tptp_reader.specs.SourceView.{the_source}
 use Rattle.tptp_reader.specs.Meaning.{unit_of, units_of}

@@ -1,4 +1,4 @@
-use Rattle.std.proofs.Common.{◌<◌, ◌≤◌, ◌-◌, ◌*◌, ◌+◌, length}
+use Rattle.std.proofs.Common.{◌≤◌, ◌-◌, ◌*◌, ◌+◌, length}
 use Rattle.tptp_reader.specs.SourceView.{the_source}
 use Rattle.tptp_reader.specs.Standing.{ChainUpTo}
 use Rattle.tptp_reader.proofs.formula_reader.+read_tree.Given as goal

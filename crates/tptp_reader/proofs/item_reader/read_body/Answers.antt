@@ -1,4 +1,4 @@
-use Rattle.std.proofs.Common.{sym, ◌∙◌, ap, not}
+use Rattle.std.proofs.Common.{sym, ◌∙◌}
 use Rattle.tptp_reader.specs.SourceView.{the_source}
 use Rattle.tptp_reader.proofs.ItemReading.{body-clause, body-formula}
 use Rattle.tptp_reader.proofs.item_reader.read_body.Goals as goal

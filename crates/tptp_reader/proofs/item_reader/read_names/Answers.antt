@@ -1,4 +1,4 @@
-use Rattle.std.proofs.Common.{sym, ◌∙◌, ◌++◌, ◌∷◌, [], List, ℕ, subst, arith}
+use Rattle.std.proofs.Common.{sym, ◌∙◌, List, ℕ, subst, arith}
 use Rattle.tptp_reader.specs.ItemStanding.{NamesUpTo}
 use Rattle.tptp_reader.proofs.ItemReading.{names-on, names-done}
 use Rattle.tptp_reader.proofs.item_reader.read_names.Goals as goal

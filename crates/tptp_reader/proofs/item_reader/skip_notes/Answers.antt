@@ -1,4 +1,4 @@
-use Rattle.std.proofs.Common.{sym, ◌∙◌, ap, subst, arith}
+use Rattle.std.proofs.Common.{sym, ◌∙◌, subst, arith}
 use Rattle.tptp_reader.specs.ItemStanding.{NotesUpTo}
 use Rattle.tptp_reader.proofs.NotesReading.{end-bare, notes-begun, notes-opened, notes-closed, notes-passed, notes-done}
 use Rattle.tptp_reader.proofs.item_reader.skip_notes.Goals as goal

@@ -1,5 +1,3 @@
-use Rattle.std.proofs.Common.{sym, ◌∙◌, ap, subst}
-use Rattle.tptp_reader.specs.Faults.{FormulaLanguage, FormulaCauses, wrong, HasFault}
 use Rattle.tptp_reader.proofs.FormulaEnds.{found-done, found-stuck, found-deep, found-no_token, found-end}
 use Rattle.tptp_reader.proofs.reader.find_stop.Goals as goal
 

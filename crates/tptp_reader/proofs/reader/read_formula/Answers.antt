@@ -1,4 +1,4 @@
-use Rattle.std.proofs.Common.{rules, sym, ◌∙◌, ap, subst}
+use Rattle.std.proofs.Common.{rules}
 use Rattle.tptp_reader.specs.SourceView.{the_source}
 use Rattle.tptp_reader.specs.Reading.{reads}
 use Rattle.tptp_reader.proofs.FormulaEnds.{formula-alone, formula-holds}

@@ -1,4 +1,4 @@
-use Rattle.std.proofs.Common.{sym, ◌∙◌, ap, subst, arith}
+use Rattle.std.proofs.Common.{sym, ◌∙◌, ap, arith}
 use Rattle.tptp_reader.specs.TermView.{the_source_term}
 use Rattle.tptp_reader.specs.TerminalView.{the_terminal}
 use Rattle.tptp_reader.proofs.TermReading.{term-variable, term-applied, arguments-begun, arguments-on, arguments-done}

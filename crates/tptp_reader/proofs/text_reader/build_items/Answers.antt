@@ -1,4 +1,4 @@
-use Rattle.std.proofs.Common.{sym, ◌∙◌, ap, ◌++◌, ◌∷◌, [], List, subst, arith}
+use Rattle.std.proofs.Common.{sym, List, subst, arith}
 use Rattle.tptp_reader.specs.Sources as tree
 use Rattle.tptp_reader.specs.ItemView.{the_item}
 use Rattle.tptp_reader.specs.ItemStanding.{ItemsUpTo}
