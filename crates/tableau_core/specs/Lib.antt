@@ -8,5 +8,3 @@ pub mod ChoiceView
 pub mod ClosingCodes
 pub mod ClosingSizes
 pub mod ClosingFalls
-pub mod ValuesAt
-pub mod SpotView

@@ -5,9 +5,7 @@ mod choice;
 mod closing;
 mod instance;
 mod literal;
-mod pattern;
 mod selection;
-mod spot;
 mod tableau;
 
 pub use calculus::sign::Side;
