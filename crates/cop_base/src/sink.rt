@@ -154,14 +154,18 @@ mod tests {
     }
 
     // The fourth put does not fit.
+    fn takes_what_fits_in(sink: &mut MemSink) -> bool {
+        is_put(sink, b"abcd")
+            && !is_put(sink, b"efgh")
+            && is_put(sink, b"i")
+            && !is_put(sink, b"jk")
+            && sink.written() == b"abcdefgij".as_slice()
+    }
+
     #[test]
     fn takes_what_fits(rt: HostRuntime) -> Result<(), Fail> {
         let mut sink = sink(rt.alloc())?;
-        assert!(rt; is_put(&mut sink, b"abcd"));
-        assert!(rt; !is_put(&mut sink, b"efgh"));
-        assert!(rt; is_put(&mut sink, b"i"));
-        assert!(rt; !is_put(&mut sink, b"jk"));
-        assert!(rt; sink.written() == b"abcdefgij".as_slice());
+        assert!(rt; takes_what_fits_in(&mut sink));
         Ok(())
     }
 }
