@@ -7,50 +7,58 @@ use cop_base::{NoMemory, PosId, SymbolId, Text};
 use std::alloc::Global;
 use std::test::Fail;
 
-fn function(alloc: Global, symbol: u32, a: Term, b: Term) -> Result<Term, NoMemory> {
+fn pair(alloc: Global, a: Term, b: Term) -> Result<Terms, NoMemory> {
     let mut terms = Terms::new(alloc);
     terms.push(a)?;
     terms.push(b)?;
-    Ok(Term::Fun(SymbolId(symbol), terms))
+    Ok(terms)
+}
+
+fn function(alloc: Global, a: Term, b: Term) -> Result<Term, NoMemory> {
+    Ok(Term::Fun(SymbolId(1), pair(alloc, a, b)?))
+}
+
+fn related(alloc: Global, a: Term, b: Term) -> Result<Formula, NoMemory> {
+    Ok(Formula::Atom(SymbolId(0), pair(alloc, a, b)?))
 }
 
 fn plain(alloc: Global, symbol: u32) -> Formula {
     Formula::Atom(SymbolId(symbol), Terms::new(alloc))
 }
 
-// Symbol 0 with two arguments.
-fn related(alloc: Global, a: Term, b: Term) -> Result<Formula, NoMemory> {
-    let mut terms = Terms::new(alloc);
-    terms.push(a)?;
-    terms.push(b)?;
-    Ok(Formula::Atom(SymbolId(0), terms))
-}
-
-fn either(alloc: Global) -> Result<Formula, NoMemory> {
-    Formula::or(alloc, plain(alloc, 0), plain(alloc, 1))
+fn twice(alloc: Global, f: &Formula) -> Result<Formula, NoMemory> {
+    Formula::and(alloc, f.copy(alloc)?, f.copy(alloc)?)
 }
 
 // ((p | q) & (p | q)) & (p | q)
 fn three(alloc: Global) -> Result<Formula, NoMemory> {
-    let two = Formula::and(alloc, either(alloc)?, either(alloc)?)?;
-    Formula::and(alloc, two, either(alloc)?)
+    let either = Formula::or(alloc, plain(alloc, 0), plain(alloc, 1))?;
+    Formula::and(alloc, twice(alloc, &either)?, either)
 }
 
-// (p(0,1) & ~[]p(0,e1)), where numbers are variables.
+// ~[]p(0,e1), where numbers are variables.
+fn denied(alloc: Global) -> Result<Formula, NoMemory> {
+    let inner = related(alloc, Term::Var(0), Term::Eigen(1))?;
+    Formula::not(alloc, Formula::nec(alloc, inner)?)
+}
+
+// (p(0,1) & ~[]p(0,e1))
 fn given(alloc: Global) -> Result<Formula, NoMemory> {
     let first = related(alloc, Term::Var(0), Term::Var(1))?;
-    let second = related(alloc, Term::Var(0), Term::Eigen(1))?;
-    let second = Formula::not(alloc, Formula::nec(alloc, second)?)?;
-    Formula::and(alloc, first, second)
+    Formula::and(alloc, first, denied(alloc)?)
+}
+
+// !?p(2,f(1,3))
+fn bound(alloc: Global) -> Result<Formula, NoMemory> {
+    let inner = function(alloc, Term::Var(1), Term::Var(3))?;
+    let inner = related(alloc, Term::Var(2), inner)?;
+    Formula::all(alloc, Formula::ex(alloc, inner)?)
 }
 
 // (!?p(2,f(1,3)) | <>q)
 fn shown(alloc: Global) -> Result<Formula, NoMemory> {
-    let inner = function(alloc, 1, Term::Var(1), Term::Var(3))?;
-    let third = related(alloc, Term::Var(2), inner)?;
-    let third = Formula::all(alloc, Formula::ex(alloc, third)?)?;
-    let fourth = Formula::poss(alloc, plain(alloc, 1))?;
-    Formula::or(alloc, third, fourth)
+    let possible = Formula::poss(alloc, plain(alloc, 1))?;
+    Formula::or(alloc, bound(alloc)?, possible)
 }
 
 // (p(0,1) & ~[]p(0,e1)) > (!?p(2,f(1,3)) | <>q), the body of a quantifier.
@@ -58,64 +66,73 @@ fn body(alloc: Global) -> Result<Formula, NoMemory> {
     Formula::imp(alloc, given(alloc)?, shown(alloc)?)
 }
 
-// Clauses, literals and nodes.
-fn counts(f: &Formula, sign: Sign, limit: u64) -> (u64, u64, u64)
+// Whether there are so many clauses, literals and nodes.
+fn counts(f: &Formula, sign: Sign, limit: u64, clauses: u64, literals: u64, nodes: u64) -> bool
     requires { limit ≤ 2 ^ 40 }
 {
-    (
-        clause_count(f, sign, limit),
-        literal_count(f, sign, limit),
-        node_count(f, limit),
-    )
+    clause_count(f, sign, limit) == clauses
+        && literal_count(f, sign, limit) == literals
+        && node_count(f, limit) == nodes
 }
 
 // A clause of `p | q`, three times joined by `&`, has under F one literal of each part.
+fn counts_of_three(f: &Formula) -> bool {
+    counts(f, Sign::F, 100, 8, 24, 11)
+        && counts(f, Sign::F, 10, 8, 11, 11)
+        && counts(f, Sign::F, 5, 6, 6, 6)
+        && counts(f, Sign::T, 1099511627776, 3, 6, 11)
+        && nesting(f) == 4
+}
+
 #[test]
 fn counts_clauses(rt: HostRuntime) -> Result<(), Fail> {
     let three = three(rt.alloc())?;
-    assert_eq!(rt; counts(&three, Sign::F, 100), (8, 24, 11));
-    assert_eq!(rt; counts(&three, Sign::F, 10), (8, 11, 11));
-    assert_eq!(rt; counts(&three, Sign::F, 5), (6, 6, 6));
-    assert_eq!(rt; counts(&three, Sign::T, 1099511627776), (3, 6, 11));
-    assert_eq!(rt; nesting(&three), 4);
+    assert!(rt; counts_of_three(&three));
     Ok(())
 }
 
-// The symbol of the atom at a position.
-fn symbol_at(f: &Formula, position: u32) -> Option<SymbolId> {
-    match f.at(PosId(position)) {
-        Some(part) => part.as_atom().map(|atom| atom.0),
-        None => None,
+fn is_atom_at(f: &Formula, position: u32, symbol: u32) -> bool {
+    let Some(part) = f.at(PosId(position)) else {
+        return false;
+    };
+    match part.as_atom() {
+        Some((found, _)) => found.0 == symbol,
+        None => false,
     }
+}
+
+// The last position, 11, is that of q.
+fn parts_of_body(f: &Formula) -> bool {
+    is_atom_at(f, 9, 0)
+        && !is_atom_at(f, 10, 1)
+        && is_atom_at(f, 11, 1)
+        && f.at(PosId(12)).is_none()
+        && f.components(Sign::T).shape() == Shape::Beta
 }
 
 #[test]
 fn takes_apart(rt: HostRuntime) -> Result<(), Fail> {
     let body = body(rt.alloc())?;
-    assert_eq!(rt; counts(&body, Sign::F, 100), (4, 4, 20));
-    assert_eq!(rt; nesting(&body), 7);
-    assert_eq!(rt; symbol_at(&body, 9), Some(SymbolId(0)));
-    assert_eq!(rt; symbol_at(&body, 10), None);
-    assert_eq!(rt; symbol_at(&body, 11), Some(SymbolId(1)));
-    assert_eq!(rt; symbol_at(&body, 12), None);
-    assert!(rt; body.components(Sign::T).shape() == Shape::Beta);
+    assert!(rt; counts(&body, Sign::F, 100, 4, 4, 20) && nesting(&body) == 7);
+    assert!(rt; parts_of_body(&body));
     Ok(())
+}
+
+// The body with f(s2,e3) for its variable.
+fn instance_of_body(alloc: Global) -> Result<Formula, NoMemory> {
+    let put = function(alloc, Term::Spare(2), Term::Eigen(3))?;
+    body(alloc)?.instance(alloc, &put)
 }
 
 #[test]
-fn copies_and_puts(rt: HostRuntime) -> Result<(), Fail> {
-    let alloc = rt.alloc();
-    let body = body(alloc)?;
-    let copied = body.copy(alloc)?;
-    assert_eq!(rt; node_count(&copied, 100), 20);
-    let put = function(alloc, 1, Term::Spare(2), Term::Eigen(3))?;
-    let instance = body.instance(alloc, &put)?;
-    assert_eq!(rt; node_count(&instance, 100), 26);
+fn puts_terms(rt: HostRuntime) -> Result<(), Fail> {
+    let instance = instance_of_body(rt.alloc())?;
+    assert!(rt; node_count(&instance, 100) == 26);
     Ok(())
 }
 
-fn symbol(alloc: Global, name: u8, class: SymbolClass) -> Result<Symbol, NoMemory> {
-    let name = Text::new(alloc, &[name])?;
+fn symbol(alloc: Global, class: SymbolClass) -> Result<Symbol, NoMemory> {
+    let name = Text::new(alloc, b"p")?;
     Ok(Symbol {
         name,
         class,
@@ -123,97 +140,82 @@ fn symbol(alloc: Global, name: u8, class: SymbolClass) -> Result<Symbol, NoMemor
     })
 }
 
-// The place of a symbol that is added.
-fn added(symbols: &mut Symbols, alloc: Global, name: u8, class: SymbolClass) -> Result<u32, Fail> {
-    let id = symbols.add(symbol(alloc, name, class)?)?;
-    Ok(id.0)
+fn is_added_at(symbols: &mut Symbols, symbol: Symbol, place: u32) -> bool {
+    match symbols.add(symbol) {
+        Ok(id) => id.0 == place,
+        Err(_) => false,
+    }
 }
 
+fn is_at(symbols: &Symbols, symbol: &Symbol, place: u32) -> bool {
+    match symbols.find(symbol) {
+        Some(id) => id.0 == place && symbols.get(id).arity == 1,
+        None => false,
+    }
+}
+
+// A predicate and a function of one name are two symbols.
 #[test]
 fn numbers_symbols(rt: HostRuntime) -> Result<(), Fail> {
     let alloc = rt.alloc();
     let mut symbols = Symbols::new(alloc);
-    assert_eq!(rt;
-        added(&mut symbols, alloc, b'p', SymbolClass::Predicate)?,
-        0
-    );
-    assert_eq!(rt; added(&mut symbols, alloc, b'p', SymbolClass::Function)?, 1);
-    assert_eq!(rt;
-        added(&mut symbols, alloc, b'p', SymbolClass::Predicate)?,
-        0
-    );
-    assert_eq!(rt; symbols.len(), 2);
-    assert_eq!(rt; symbols.items().len(), 2);
+    assert!(rt; is_added_at(&mut symbols, symbol(alloc, SymbolClass::Predicate)?, 0));
+    assert!(rt; is_added_at(&mut symbols, symbol(alloc, SymbolClass::Function)?, 1));
+    assert!(rt; is_added_at(&mut symbols, symbol(alloc, SymbolClass::Predicate)?, 0));
+    assert!(rt; symbols.len() == 2 && symbols.items().len() == 2);
+    assert!(rt; is_at(&symbols, &symbol(alloc, SymbolClass::Function)?, 1));
     Ok(())
 }
 
-#[test]
-fn finds_symbols(rt: HostRuntime) -> Result<(), Fail> {
-    let alloc = rt.alloc();
-    let mut symbols = Symbols::new(alloc);
-    let place = added(&mut symbols, alloc, b'p', SymbolClass::Function)?;
-    assert_eq!(rt;
-        symbols.find(&symbol(alloc, b'p', SymbolClass::Function)?),
-        Some(SymbolId(place))
-    );
-    assert!(rt; (place as usize) < symbols.len());
-    assert_eq!(rt; symbols.get(SymbolId(place)).arity, 1);
-    Ok(())
-}
-
-// Whether each item is equal to the one at its own place alone.
-fn are_apart<T: PartialEq>(items: &[T], copied: &[T]) -> bool {
-    for (i, item) in items.iter().enumerate() {
-        for (k, other) in copied.iter().enumerate() {
-            if (item == other) != (i == k) {
-                return false;
-            }
-        }
-    }
-    items.len() == copied.len()
-}
-
-fn one_value(alloc: Global, number: u32) -> Result<Values, NoMemory> {
-    let mut values = Values::new(alloc);
-    values.push(Value::Term(GroundTerm::Common(number)))?;
-    Ok(values)
-}
-
-fn one_mark(alloc: Global, number: u32) -> Result<GroundLabel, NoMemory> {
+fn spare_label(alloc: Global, number: u32) -> Result<GroundLabel, NoMemory> {
     let mut label = GroundLabel::new(alloc);
     label.push(GroundMark::Spare(number))?;
     Ok(label)
 }
 
-#[test]
-fn compares_terms(rt: HostRuntime) -> Result<(), Fail> {
-    let alloc = rt.alloc();
+fn two_values(alloc: Global, number: u32) -> Result<Values, NoMemory> {
+    let mut values = Values::new(alloc);
+    values.push(Value::Term(GroundTerm::Common(0)))?;
+    values.push(Value::Steps(spare_label(alloc, number)?))?;
+    Ok(values)
+}
+
+fn new_label(alloc: Global, number: u32) -> Result<GroundLabel, NoMemory> {
+    let mut label = GroundLabel::new(alloc);
+    label.push(GroundMark::New(PosId(0), two_values(alloc, number)?))?;
+    Ok(label)
+}
+
+fn three_terms(alloc: Global, number: u32) -> Result<GroundTerms, NoMemory> {
     let mut terms = GroundTerms::new(alloc);
     terms.push(GroundTerm::Fun(SymbolId(0), GroundTerms::new(alloc)))?;
-    terms.push(GroundTerm::Eigen(PosId(0), one_value(alloc, 1)?))?;
-    terms.push(GroundTerm::Common(0))?;
-    terms.push(GroundTerm::Own(0, one_mark(alloc, 1)?))?;
-    assert!(rt; are_apart(terms.items(), terms.copy(alloc)?.items()));
-    Ok(())
+    terms.push(GroundTerm::Eigen(PosId(0), two_values(alloc, 0)?))?;
+    terms.push(GroundTerm::Own(0, new_label(alloc, number)?))?;
+    Ok(terms)
 }
 
-#[test]
-fn compares_marks(rt: HostRuntime) -> Result<(), Fail> {
-    let alloc = rt.alloc();
-    let mut marks = GroundLabel::new(alloc);
-    marks.push(GroundMark::New(PosId(0), one_value(alloc, 0)?))?;
-    marks.push(GroundMark::New(PosId(0), one_value(alloc, 1)?))?;
-    marks.push(GroundMark::Spare(0))?;
-    assert!(rt; are_apart(marks.items(), marks.copy(alloc)?.items()));
-    Ok(())
+fn parts(term: &GroundTerm) -> usize {
+    match term {
+        GroundTerm::Fun(_, args) => args.items().len(),
+        GroundTerm::Eigen(_, values) => values.items().len(),
+        GroundTerm::Common(_) => 0,
+        GroundTerm::Own(_, label) => label.items().len(),
+    }
 }
 
+fn are_three(terms: &GroundTerms) -> bool {
+    match terms.items() {
+        [first, second, third] => parts(first) == 0 && parts(second) == 2 && parts(third) == 1,
+        _ => false,
+    }
+}
+
+// The last mark of the last term makes two lists differ.
 #[test]
-fn compares_values(rt: HostRuntime) -> Result<(), Fail> {
-    let alloc = rt.alloc();
-    let mut values = one_value(alloc, 0)?;
-    values.push(Value::Steps(one_mark(alloc, 0)?))?;
-    values.push(Value::Steps(one_mark(alloc, 1)?))?;
-    assert!(rt; are_apart(values.items(), values.copy(alloc)?.items()));
+fn compares_terms(rt: HostRuntime) -> Result<(), Fail> {
+    let terms = three_terms(rt.alloc(), 0)?;
+    assert!(rt; are_three(&terms));
+    assert!(rt; terms == terms.copy(rt.alloc())?);
+    assert!(rt; terms != three_terms(rt.alloc(), 1)?);
     Ok(())
 }
