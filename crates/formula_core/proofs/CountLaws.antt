@@ -3,7 +3,7 @@ use Rattle.std.proofs.Common.{◌≡◌, ℕ, ◌+◌, ◌*◌, List, [], ◌∷
 use Rattle.calculus.specs.declared.sign.Sign.{Sign}
 use Rattle.calculus.specs.declared.sign.Sign.TheVariants.{T, F}
 use Rattle.calculus.specs.declared.kind.Shape.{Shape}
-use Rattle.calculus.specs.declared.kind.Shape.TheVariants.{Alpha, Beta, Gamma, Delta, Literal}
+use Rattle.calculus.specs.declared.kind.Shape.TheVariants.{Alpha, Beta, Literal}
 use Rattle.calculus.specs.Clauses.{clause_count, literal_count}
 use Rattle.calculus.specs.Kinds.{Signed, components, shape_of}
 use Rattle.calculus.specs.Syntax.{Formula, atom, neg, conj, disj, imp, all, ex, box, dia}
@@ -61,6 +61,14 @@ literals-by s (box a) = refl
 literals-by s (dia a) = refl
 
 pub ruleset counting = (clauses-by, literals-by)
+
+pub clauses-alpha : (s : Sign) (f : Formula) (a b : Signed) → Alpha ≡ shape_of s f → a ∷ b ∷ [] ≡ components s f
+    → clause_count f s ≡ clauses a + clauses b
+clauses-alpha s f a b h k = rw (clauses-by s f, sym h, sym k) refl
+
+pub literals-alpha : (s : Sign) (f : Formula) (a b : Signed) → Alpha ≡ shape_of s f → a ∷ b ∷ [] ≡ components s f
+    → literal_count f s ≡ literals a + literals b
+literals-alpha s f a b h k = rw (literals-by s f, sym h, sym k) refl
 
 pub clauses-beta : (s : Sign) (f : Formula) (a b : Signed) → Beta ≡ shape_of s f → a ∷ b ∷ [] ≡ components s f
     → clause_count f s ≡ clauses a * clauses b

@@ -1,4 +1,5 @@
 pub mod Products
+mod Pushed
 pub mod Seeking
 pub mod SymbolEq
 pub mod Distinct
