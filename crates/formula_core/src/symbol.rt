@@ -11,7 +11,7 @@ use std::alloc::Global;
 use std::marker::Model;
 
 /// A symbol. Two are equal where name, class and arity are.
-#[derive(Debug, PartialEq, Eq, Hash, Drop)]
+#[derive(PartialEq, Eq, Hash, Drop)]
 pub struct Symbol {
     pub name: Text,
     pub class: SymbolClass,
@@ -19,7 +19,7 @@ pub struct Symbol {
 }
 
 /// Why a symbol is not added.
-#[derive(Clone, Copy, Debug, PartialEq, Eq)]
+#[derive(Clone, Copy, PartialEq, Eq)]
 pub enum AddFault {
     /// The symbol is new and there are as many as there may be.
     Full,
