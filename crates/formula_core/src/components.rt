@@ -3,7 +3,8 @@
 ghost use Rattle.std.specs.Prelude.{◌≡◌, IfSome};
 ghost use Rattle.calculus.specs.Kinds.{components, shape_of, signed};
 ghost use Rattle.calculus.specs.Positions.{size};
-ghost use Rattle.formula_core.specs.ComponentsView.{atom_in, size_by, the_components, the_shape, the_signed};
+ghost use Rattle.formula_core.specs.ComponentsView.{atom_in, size_by, the_components, the_shape};
+ghost use Rattle.formula_core.specs.ComponentsView.{the_signed};
 ghost use Rattle.formula_core.specs.FormulaView.{the_formula};
 
 use crate::formula::Formula;

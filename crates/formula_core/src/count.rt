@@ -3,7 +3,8 @@
 ghost use Rattle.std.specs.Prelude.{◌≡◌, ◌+◌, ◌*◌, ◌≤◌, ◌^◌, length, min, sum_by};
 ghost use Rattle.calculus.specs.Clauses.{clause_count, literal_count, selections, size_from};
 ghost use Rattle.calculus.specs.Lists.{terms_tree};
-ghost use Rattle.calculus.specs.Measures.{nesting, node_count, term_nesting, term_nodes, terms_nesting, terms_nodes};
+ghost use Rattle.calculus.specs.Measures.{nesting, node_count, term_nesting, term_nodes};
+ghost use Rattle.calculus.specs.Measures.{terms_nesting, terms_nodes};
 ghost use Rattle.formula_core.specs.FormulaView.{the_formula};
 ghost use Rattle.formula_core.specs.TermView.{the_term};
 
@@ -12,8 +13,9 @@ use crate::formula::Formula;
 use crate::term::{Term, Terms};
 use calculus::sign::Sign;
 
-/// The clauses of the matrix of `f` under `sign`, one for each selection, or `limit` + 1 where there are more. They are
-/// counted and not built. `limit` is at most 2^40, so that no sum overflows.
+/// The clauses of the matrix of `f` under `sign`, one for each selection, or `limit` + 1 where
+/// there are more. They are counted and not built. `limit` is at most 2^40, so that no sum
+/// overflows.
 pub fn clause_count(f: &Formula, sign: Sign, limit: u64) -> u64
     requires { limit ≤ 2 ^ 40 }
     ensures { result ≡ min (length (selections (the_formula f.now) sign)) (limit + 1) }
@@ -21,12 +23,13 @@ pub fn clause_count(f: &Formula, sign: Sign, limit: u64) -> u64
     counts(f, sign, limit).clauses
 }
 
-/// The literals of all clauses of that matrix together, or `limit` + 1 where there are more. `limit` is at most 2^40, so
-/// that no sum overflows.
+/// The literals of all clauses of that matrix together, or `limit` + 1 where there are more.
+/// `limit` is at most 2^40, so that no sum overflows.
 pub fn literal_count(f: &Formula, sign: Sign, limit: u64) -> u64
     requires { limit ≤ 2 ^ 40 }
     ensures { result
-        ≡ min (sum_by (size_from (the_formula f.now) sign) (selections (the_formula f.now) sign)) (limit + 1) }
+        ≡ min (sum_by (size_from (the_formula f.now) sign) (selections (the_formula f.now) sign))
+        (limit + 1) }
 {
     counts(f, sign, limit).literals
 }
@@ -92,8 +95,8 @@ fn beta_totals(left: Totals, right: Totals, limit: u64) -> Totals
     }
 }
 
-/// The nodes of `f`, terms included, or `limit` + 1 where there are more. `limit` is at most 2^40, so that no sum
-/// overflows.
+/// The nodes of `f`, terms included, or `limit` + 1 where there are more. `limit` is at most 2^40,
+/// so that no sum overflows.
 pub fn node_count(f: &Formula, limit: u64) -> u64
     requires { limit ≤ 2 ^ 40 }
     ensures { result ≡ min (node_count (the_formula f.now)) (limit + 1) }

@@ -1,6 +1,8 @@
 //! The symbols of a problem.
 
-ghost use Rattle.std.specs.Prelude.{◌≡◌, ◌≢◌, ◌<◌, ◌≤◌, ◌↔◌, ◌++◌, ◌∷◌, [], List, Some, length, map, slice_get, Contains, IsTrue, IsNone, IfSome, IfOk, OnOk, OnErr};
+ghost use Rattle.std.specs.Prelude.{◌≡◌, ◌≢◌, ◌<◌, ◌≤◌, ◌↔◌, ◌++◌, ◌∷◌, [], List, Some, length};
+ghost use Rattle.std.specs.Prelude.{map, slice_get, Contains, IsTrue, IsNone, IfSome, IfOk, OnOk};
+ghost use Rattle.std.specs.Prelude.{OnErr};
 ghost use Rattle.calculus.specs.Problems.{are_distinct};
 ghost use Rattle.formula_core.specs.SymbolView.{the_symbol};
 
@@ -42,7 +44,8 @@ impl Model for Symbols {
 
     ghost view = { λ s. map the_symbol s.set.keys };
 
-    ghost invariant = { λ s. (length s.set.keys ≤ 65536) × IsTrue (are_distinct (map the_symbol s.set.keys)) };
+    ghost invariant = { λ s. (length s.set.keys ≤ 65536)
+        × IsTrue (are_distinct (map the_symbol s.set.keys)) };
 }
 
 impl Symbols {
@@ -98,7 +101,8 @@ impl Symbols {
     pub fn add(&mut self, s: Symbol) -> Result<SymbolId, AddFault>
         ensures place { IfOk result (λ id. slice_get self.new id.0 ≡ Some (the_symbol s)) }
         ensures known { Contains self.old (the_symbol s) → OnOk result (self.new ≡ self.old) }
-        ensures new { ¬ (Contains self.old (the_symbol s)) → OnOk result (self.new ≡ self.old ++ the_symbol s ∷ []) }
+        ensures new { ¬ (Contains self.old (the_symbol s))
+            → OnOk result (self.new ≡ self.old ++ the_symbol s ∷ []) }
 
         // `Full` comes exactly where the symbol is new and there is no room for it.
         ensures full { (result ≡ Err AddFault.Full)
