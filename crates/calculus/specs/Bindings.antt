@@ -3,11 +3,21 @@
 use Rattle.std.specs.Prelude.{◌≡◌, ◌⊎◌, ◌==◌, ◌&&◌, ℕ, suc, zero, ◌<◌, ◌≤◌, List, [], ◌∷◌, ◌++◌, length, Bool, true, false, Some, None, slice_get, IsTrue, nat_le}
 use Rattle.std.specs.List.{list_all}
 use Rattle.calculus.specs.declared.sort.Sort.{Sort}
-use Rattle.calculus.specs.Stores.{Cell, variable, fun_cell, eigen_cell, new_cell, string_cell, Store, TrailMark, is_store, parts_of, has_sort_at, is_bound, OccursIn, EndsAt, cut_at, IsGood, Solution, Solves}
+use Rattle.calculus.specs.Stores.{Cell, variable, fun_cell, eigen_cell, new_cell, string_cell, Store, TrailMark, is_store, parts_fit, parts_of, has_sort_at, is_bound, OccursIn, EndsAt, cut_at, IsGood, Solution, Solves}
 
 -- the store with one more cell
 abbrev pub with_cell : Cell → Store → Store
 with_cell c s = record { cells = s.cells ++ c ∷ []; trail = s.trail }
+
+-- the store with one unbound variable of each sort more
+abbrev pub with_variables_of : List Sort → Store → Store
+with_variables_of [] s = s
+with_variables_of (sort ∷ sorts) s = with_variables_of sorts (with_cell (variable sort None) s)
+
+-- so many places, the first one being n
+abbrev pub places_from : ℕ → ℕ → List ℕ
+places_from n zero = []
+places_from n (suc k) = n ∷ places_from (suc n) k
 
 abbrev pub bound_to : ℕ → Cell → Cell
 bound_to r (variable sort b) = variable sort (Some r)
@@ -97,6 +107,11 @@ abbrev pub is_variable : Cell → Bool
 is_variable (variable sort b) = true
 is_variable _ = false
 
+-- built cells came one by one, each after its parts
+pub data AddsBuilt : Store → Store → Type 0 where
+  nothing_more : {s : Store} → AddsBuilt s s
+  one_more : {s t : Store} (c : Cell) → IsTrue (is_store s) → IsTrue (parts_fit s c) → is_variable c ≡ false → AddsBuilt (with_cell c s) t → AddsBuilt s t
+
 -- nothing but bindings of unbound variables came to the cells
 pub record BindsOnly (before after : Store) : Type 0 where
   pub same_length : length after.cells ≡ length before.cells
@@ -116,3 +131,14 @@ pub record BindsWithin (a b : ℕ) (before after : Store) : Type 0 where
 -- cells from the number `base` on name cells from there on
 abbrev pub NamesFrom : ℕ → Store → Type 0
 NamesFrom base s = (n : ℕ) (c : Cell) → base ≤ n → slice_get s.cells n ≡ Some c → IsTrue (list_all (nat_le base) (parts_of c))
+
+-- built cells came, and they name these cells and one another alone: where these have the number `base` or greater ones, no cell that
+-- came names one below it
+pub record AddsOver (rs : List ℕ) (before after : Store) : Type 0 where
+  pub built : AddsBuilt before after
+  pub names : (base : ℕ) → base ≤ length before.cells → IsTrue (list_all (nat_le base) rs) → NamesFrom base before → NamesFrom base after
+
+-- what is built over these cells in a store that had n cells names these and new cells alone: it names no cell below `base`, where
+-- neither these nor the new cells are below it
+abbrev pub NamesOver : List ℕ → ℕ → (ℕ → Bool) → Type 0
+NamesOver rs n names_from = (base : ℕ) → base ≤ n → IsTrue (list_all (nat_le base) rs) → IsTrue (names_from base)

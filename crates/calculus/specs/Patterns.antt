@@ -1,5 +1,5 @@
 -- Patterns of terms and marks with numbered variables, and their copies in a store.
-use Rattle.std.specs.Prelude.{◌≡◌, ℕ, suc, ◌+◌, List, [], ◌∷◌, ◌++◌, Bool, true, false, ◌&&◌, ◌||◌, None, Some, map, slice_get, refl}
+use Rattle.std.specs.Prelude.{◌≡◌, ℕ, suc, ◌+◌, List, [], ◌∷◌, ◌++◌, Bool, true, false, ◌&&◌, ◌||◌, Some, nat_le, remove, slice_get, refl}
 use Rattle.std.specs.List.{list_all}
 use Rattle.std.specs.Option.{option_map_or}
 use Rattle.calculus.specs.declared.sign.Sign.{Sign}
@@ -8,7 +8,7 @@ use base.Stored.{Gv, gnil, gnum, gcons}
 use Rattle.calculus.specs.declared.sort.Sort.{Sort}
 use Rattle.calculus.specs.declared.sort.Sort.TheVariants.{TermSort, MarkSort, StringSort}
 use Rattle.calculus.specs.Equality.{sort_eq}
-use Rattle.calculus.specs.Stores.{Cell, variable, fun_cell, eigen_cell, new_cell, Store, has_sort_at, GammaCell}
+use Rattle.calculus.specs.Stores.{Cell, fun_cell, eigen_cell, new_cell, Store, sort_at, has_sort_at, GammaCell}
 use Rattle.calculus.specs.Systems.{CellAtom, is_cell_atom, is_gamma_cell}
 
 mutual
@@ -26,37 +26,19 @@ abbrev pub patterns_tree : List Pattern → Patterns
 patterns_tree [] = no_patterns
 patterns_tree (p ∷ ps) = more_patterns p (patterns_tree ps)
 
--- ---- fitting sorts, where the variables stand in the store from the place n on
-
-abbrev mutual
-  pub fits_in : Store → ℕ → Sort → Pattern → Bool
-  fits_in s n sort (p_var k) = has_sort_at s sort (n + k)
-  fits_in s n sort (p_fun f ps) = sort_eq sort TermSort && parts_fit_in s n TermSort false ps
-  fits_in s n sort (p_eigen p ps) = sort_eq sort TermSort && parts_fit_in s n TermSort true ps
-  fits_in s n sort (p_new p ps) = sort_eq sort MarkSort && parts_fit_in s n TermSort true ps
-
-  -- each is of this sort, or also a string
-  pub parts_fit_in : Store → ℕ → Sort → Bool → Patterns → Bool
-  parts_fit_in s n sort strings no_patterns = true
-  parts_fit_in s n sort strings (more_patterns p ps) = (fits_in s n sort p || (strings && fits_in s n StringSort p)) && parts_fit_in s n sort strings ps
-
--- of this sort, or also a string
-abbrev pub part_sort_at : Store → Sort → Bool → ℕ → Bool
-part_sort_at s sort strings r = has_sort_at s sort r || (strings && has_sort_at s StringSort r)
-
 -- ---- copies
 
--- the cell r is the pattern, the variables being the cells from the place n on
+-- the cell r is the pattern over these variables
 abbrev mutual
-  pub IsCopy : Store → ℕ → Pattern → ℕ → Type 0
-  IsCopy s n (p_var k) r = r ≡ n + k
-  IsCopy s n (p_fun f ps) r = (rs : List ℕ) × (slice_get s.cells r ≡ Some (fun_cell f rs)) × AreCopies s n ps rs
-  IsCopy s n (p_eigen p ps) r = (rs : List ℕ) × (slice_get s.cells r ≡ Some (eigen_cell p rs)) × AreCopies s n ps rs
-  IsCopy s n (p_new p ps) r = (rs : List ℕ) × (slice_get s.cells r ≡ Some (new_cell p rs)) × AreCopies s n ps rs
+  pub IsCopy : Store → List ℕ → Pattern → ℕ → Type 0
+  IsCopy s variables (p_var k) r = slice_get variables k ≡ Some r
+  IsCopy s variables (p_fun f ps) r = (rs : List ℕ) × (slice_get s.cells r ≡ Some (fun_cell f rs)) × AreCopies s variables ps rs
+  IsCopy s variables (p_eigen p ps) r = (rs : List ℕ) × (slice_get s.cells r ≡ Some (eigen_cell p rs)) × AreCopies s variables ps rs
+  IsCopy s variables (p_new p ps) r = (rs : List ℕ) × (slice_get s.cells r ≡ Some (new_cell p rs)) × AreCopies s variables ps rs
 
-  pub AreCopies : Store → ℕ → Patterns → List ℕ → Type 0
-  AreCopies s n no_patterns rs = rs ≡ []
-  AreCopies s n (more_patterns p ps) rs = (r : ℕ) × (qs : List ℕ) × (rs ≡ r ∷ qs) × IsCopy s n p r × AreCopies s n ps qs
+  pub AreCopies : Store → List ℕ → Patterns → List ℕ → Type 0
+  AreCopies s variables no_patterns rs = rs ≡ []
+  AreCopies s variables (more_patterns p ps) rs = (r : ℕ) × (qs : List ℕ) × (rs ≡ r ∷ qs) × IsCopy s variables p r × AreCopies s variables ps qs
 
 -- nothing but new cells came to the store
 abbrev pub Grows : Store → Store → Type 0
@@ -90,19 +72,6 @@ pub record CopiedClause : Type 0 where
   pub strings : List ℕ
   pub pis : ℕ
   pub gammas : List GammaCell
-
-abbrev pub label_fits_in : Store → ℕ → List Pattern → Bool
-label_fits_in s n ps = parts_fit_in s n MarkSort true (patterns_tree ps)
-
-abbrev pub atom_fits_in : Store → ℕ → PatternAtom → Bool
-atom_fits_in s n a = parts_fit_in s n TermSort false (patterns_tree a.args) && label_fits_in s n a.label
-
-abbrev pub gamma_fits_in : Store → ℕ → PatternGamma → Bool
-gamma_fits_in s n g = fits_in s n TermSort g.term && label_fits_in s n g.label
-
--- the store of the variables alone
-abbrev pub variables_of : List Sort → Store
-variables_of sorts = record { cells = map (λ sort. variable sort None) sorts; trail = [] }
 
 -- ---- fitting sorts
 
@@ -139,31 +108,49 @@ template_fits t = list_all (atom_fits t.sorts) t.literals && list_all (pattern_f
 
 -- ---- copies of a clause
 
-pub record IsAtomCopy (s : Store) (n : ℕ) (a : PatternAtom) (c : CellAtom) : Type 0 where
+pub record IsAtomCopy (s : Store) (variables : List ℕ) (a : PatternAtom) (c : CellAtom) : Type 0 where
   pub sign : c.sign ≡ a.sign
   pub symbol : c.symbol ≡ a.symbol
-  pub args : AreCopies s n (patterns_tree a.args) c.args
-  pub label : AreCopies s n (patterns_tree a.label) c.label
+  pub args : AreCopies s variables (patterns_tree a.args) c.args
+  pub label : AreCopies s variables (patterns_tree a.label) c.label
 
-pub record IsGammaCopy (s : Store) (n : ℕ) (g : PatternGamma) (c : GammaCell) : Type 0 where
-  pub term : IsCopy s n g.term c.term
-  pub label : AreCopies s n (patterns_tree g.label) c.label
+pub record IsGammaCopy (s : Store) (variables : List ℕ) (g : PatternGamma) (c : GammaCell) : Type 0 where
+  pub term : IsCopy s variables g.term c.term
+  pub label : AreCopies s variables (patterns_tree g.label) c.label
 
-abbrev pub AreAtomCopies : Store → ℕ → List PatternAtom → List CellAtom → Type 0
-AreAtomCopies s n [] cs = cs ≡ []
-AreAtomCopies s n (a ∷ others) cs = (c : CellAtom) × (ds : List CellAtom) × (cs ≡ c ∷ ds) × IsAtomCopy s n a c × AreAtomCopies s n others ds
+abbrev pub AreAtomCopies : Store → List ℕ → List PatternAtom → List CellAtom → Type 0
+AreAtomCopies s variables [] cs = cs ≡ []
+AreAtomCopies s variables (a ∷ others) cs = (c : CellAtom) × (ds : List CellAtom) × (cs ≡ c ∷ ds) × IsAtomCopy s variables a c × AreAtomCopies s variables others ds
 
-abbrev pub AreGammaCopies : Store → ℕ → List PatternGamma → List GammaCell → Type 0
-AreGammaCopies s n [] cs = cs ≡ []
-AreGammaCopies s n (g ∷ gs) cs = (c : GammaCell) × (ds : List GammaCell) × (cs ≡ c ∷ ds) × IsGammaCopy s n g c × AreGammaCopies s n gs ds
+abbrev pub AreGammaCopies : Store → List ℕ → List PatternGamma → List GammaCell → Type 0
+AreGammaCopies s variables [] cs = cs ≡ []
+AreGammaCopies s variables (g ∷ gs) cs = (c : GammaCell) × (ds : List GammaCell) × (cs ≡ c ∷ ds) × IsGammaCopy s variables g c × AreGammaCopies s variables gs ds
 
--- the cells are the template's clause, the variables being the cells from the place n on
-pub record IsClauseCopy (s : Store) (n : ℕ) (t : Template) (c : CopiedClause) : Type 0 where
-  pub variables : (k : ℕ) (sort : Sort) → slice_get t.sorts k ≡ Some sort → slice_get s.cells (n + k) ≡ Some (variable sort None)
-  pub literals : AreAtomCopies s n t.literals c.literals
-  pub strings : AreCopies s n (patterns_tree t.strings) c.strings
+-- the cells are the template's clause over these variables
+pub record IsClauseCopy (s : Store) (variables : List ℕ) (t : Template) (c : CopiedClause) : Type 0 where
+  pub literals : AreAtomCopies s variables t.literals c.literals
+  pub strings : AreCopies s variables (patterns_tree t.strings) c.strings
   pub pis : c.pis ≡ t.pis
-  pub gammas : AreGammaCopies s n t.gammas c.gammas
+  pub gammas : AreGammaCopies s variables t.gammas c.gammas
+
+-- the template without the literal at this place
+abbrev pub without_literal : ℕ → Template → Template
+without_literal place t = record t { literals = remove t.literals place }
+
+-- the cells at these places have these sorts
+abbrev pub HaveSortsAt : Store → List Sort → List ℕ → Type 0
+HaveSortsAt s [] rs = rs ≡ []
+HaveSortsAt s (sort ∷ sorts) rs = (r : ℕ) × (qs : List ℕ) × (rs ≡ r ∷ qs) × (sort_at s r ≡ Some sort) × HaveSortsAt s sorts qs
+
+-- all that it names has the number n or a greater one
+abbrev pub atom_is_from : ℕ → CellAtom → Bool
+atom_is_from n c = list_all (nat_le n) c.args && list_all (nat_le n) c.label
+
+abbrev pub gamma_is_from : ℕ → GammaCell → Bool
+gamma_is_from n g = nat_le n g.term && list_all (nat_le n) g.label
+
+abbrev pub clause_is_from : ℕ → CopiedClause → Bool
+clause_is_from n c = list_all (atom_is_from n) c.literals && list_all (nat_le n) c.strings && list_all (gamma_is_from n) c.gammas
 
 -- each cell has the sort that its place asks for
 abbrev pub clause_fits : Store → CopiedClause → Bool

@@ -18,10 +18,10 @@ use Rattle.calculus.specs.Systems.{is_label, is_gamma_cell, AreUses, AllAllowed,
 use Rattle.calculus.proofs.InstanceLaws.{OnPart}
 use Rattle.calculus.proofs.CasesLaws.{Cases, cases-by_instance_of}
 use Rattle.calculus.proofs.SpaceLaws.{strings-gives}
-use Rattle.calculus.specs.Patterns.{PatternGamma, Template}
+use Rattle.calculus.specs.Patterns.{PatternGamma, Template, AreGammaCopies}
 use Rattle.calculus.specs.Templates.{as_term, as_value, pattern_gamma, gammas_by, has_value_sort, have_sorts, IsTemplateOf}
 use Rattle.connection_search.specs.States.{CellClause, values_by, clause_at}
-use Rattle.connection_search.specs.StateSystems.{Brings, string_cells, AreBuiltGammas}
+use Rattle.connection_search.specs.StateSystems.{Brings, string_cells}
 use Rattle.connection_search.proofs.BuildingLaws.{built-value, built-label, AreValueCells, solved-sorted}
 use Rattle.connection_search.proofs.SolvingLaws.{label-there}
 use Rattle.connection_search.proofs.SystemLaws.{lengths-count}
@@ -69,9 +69,9 @@ term-value (a_mark m) h = absurd (false≢true h)
 term-value (a_string w) h = absurd (false≢true h)
 
 -- the gamma terms that were built are those of the template
-pub uses-built : (s : Store) (σ : Solution) → Solves s σ → (variables : List ℕ) → AreValueCells σ variables → (ps : List PatternGamma) (gs : List GammaCell) → IsTrue (list_all (is_gamma_cell s) gs) → AreBuiltGammas s variables ps gs → AreUses σ gs (map (λ (q : PatternGamma). pattern_gamma (values_by σ variables) q) ps)
+pub uses-built : (s : Store) (σ : Solution) → Solves s σ → (variables : List ℕ) → AreValueCells σ variables → (ps : List PatternGamma) (gs : List GammaCell) → IsTrue (list_all (is_gamma_cell s) gs) → AreGammaCopies s variables ps gs → AreUses σ gs (map (λ (q : PatternGamma). pattern_gamma (values_by σ variables) q) ps)
 uses-built s σ h variables k [] gs a b = subst (λ xs. AreUses σ xs []) (sym b) refl
-uses-built s σ h variables k (p ∷ ps) gs a (g, hs, e, t, l, more) =
+uses-built s σ h variables k (p ∷ ps) gs a (g, hs, e, b, more) =
     let c = and_parts (is_gamma_cell s g) (list_all (is_gamma_cell s) hs) (subst (λ xs. IsTrue (list_all (is_gamma_cell s) xs)) e a) in
     let q = and_parts (has_sort_at s TermSort g.term) (is_label s g.label) c.0 in
     subst (λ xs. AreUses σ xs (map (λ (q : PatternGamma). pattern_gamma (values_by σ variables) q) (p ∷ ps))) (sym e) (
@@ -79,8 +79,8 @@ uses-built s σ h variables k (p ∷ ps) gs a (g, hs, e, t, l, more) =
       map (λ (q : PatternGamma). pattern_gamma (values_by σ variables) q) ps,
       refl,
       record {
-        term = term-value (σ g.term) (solved-sorted s σ h TermSort g.term q.0) ∙ ap (λ v. a_term (as_term v)) (built-value s σ h variables k p.term g.term t);
-        label = label-there s σ h g.label q.1 ∙ ap Some (built-label s σ h variables k p.label g.label l);
+        term = term-value (σ g.term) (solved-sorted s σ h TermSort g.term q.0) ∙ ap (λ v. a_term (as_term v)) (built-value s σ h variables k p.term g.term b.term);
+        label = label-there s σ h g.label q.1 ∙ ap Some (built-label s σ h variables k p.label g.label b.label);
       },
       uses-built s σ h variables k ps hs c.1 more,
     )

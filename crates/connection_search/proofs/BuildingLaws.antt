@@ -10,12 +10,11 @@ use Rattle.calculus.specs.Ground.{GroundTerms, Value, Values, g_fun, g_eigen, no
 use Rattle.calculus.specs.Lists.{marks_list-marks_tree, marks_tree-marks_list}
 use Rattle.calculus.specs.Stores.{Cell, variable, fun_cell, eigen_cell, new_cell, string_cell, Store, parts_of, sort_of, has_sort_at, has_value_sort_at, parts_fit, is_store, CellValue, a_term, a_mark, a_string, has_sort, Solution, cons_term, terms_at, cons_value, values_at, cons_mark, marks_at, CellHolds, Solves, names_below}
 use Rattle.calculus.specs.Systems.{CellAtom}
-use Rattle.calculus.specs.Patterns.{Pattern, Patterns, p_var, p_fun, p_eigen, p_new, no_patterns, more_patterns, patterns_tree, PatternAtom, Template}
+use Rattle.calculus.specs.Patterns.{Pattern, Patterns, p_var, p_fun, p_eigen, p_new, no_patterns, more_patterns, patterns_tree, PatternAtom, Template, IsCopy, AreCopies, IsAtomCopy, AreAtomCopies}
 use Rattle.calculus.specs.Templates.{as_term, as_value, as_label, cell_value, value_of_variable, pattern_value, pattern_terms, pattern_values, pattern_label, pattern_literal, has_value_sort, have_sorts}
-use Rattle.calculus.specs.Bindings.{with_cell, is_variable}
+use Rattle.calculus.specs.Bindings.{with_cell, is_variable, with_variables_of, places_from, AddsBuilt, nothing_more, one_more}
 use Rattle.connection_search.specs.States.{CellClause, clause_is_below, terms_by, label_by, values_by, literal_by, Agree}
 use Rattle.connection_search.specs.Steps.{IsFreshClause, IsHeadCopy, IsRestCopy}
-use Rattle.connection_search.specs.Building.{plus_variables, places_of, AddsBuilt, nothing_more, one_more, IsBuilt, AreBuilt, IsBuiltAtom, AreBuiltAtoms}
 use Rattle.connection_search.proofs.BelowLaws.{all-weaken}
 use Rattle.connection_search.proofs.SpareLaws.{IsPart, own_cell, cell-fits, cell-sorted, all-at, terms-there, values-there, marks-there, cell-alike, sort-same, or-both}
 use Rattle.connection_search.proofs.GeneralLaws.{term-parts}
@@ -179,11 +178,11 @@ abbrev pub AreStores : List Sort → Store → Type 0
 AreStores [] s = IsTrue (is_store s)
 AreStores (sort ∷ sorts) s = IsTrue (is_store s) × AreStores sorts (with_cell (variable sort None) s)
 
-pub variables-longer : (sorts : List Sort) (s : Store) → length s.cells ≤ length (plus_variables sorts s).cells
+pub variables-longer : (sorts : List Sort) (s : Store) → length s.cells ≤ length (with_variables_of sorts s).cells
 variables-longer [] s = omega arith
 variables-longer (sort ∷ sorts) s = let l = variables-longer sorts (with_cell (variable sort None) s) in let e = length-plus (variable sort None) s in omega (arith, l, e)
 
-pub variables-back : (sorts : List Sort) (s : Store) (σ : Solution) → Solves (plus_variables sorts s) σ → Solves s σ
+pub variables-back : (sorts : List Sort) (s : Store) (σ : Solution) → Solves (with_variables_of sorts s) σ → Solves s σ
 variables-back [] s σ h = h
 variables-back (sort ∷ sorts) s σ h = fewer-solved s (variable sort None) σ (variables-back sorts (with_cell (variable sort None) s) σ h)
 
@@ -195,16 +194,16 @@ value-sorted MarkSort (steps w) h = absurd (false≢true h)
 value-sorted StringSort (term t) h = absurd (false≢true h)
 value-sorted StringSort (steps w) h = (refl, ap steps (marks_tree-marks_list w))
 
-places-below : (n m : ℕ) (sorts : List Sort) → n + length sorts ≤ m → IsTrue (names_below m (places_of n sorts))
+places-below : (n m : ℕ) (sorts : List Sort) → n + length sorts ≤ m → IsTrue (names_below m (places_from n (length sorts)))
 places-below n m [] l = refl
-places-below n m (sort ∷ sorts) l = and_from (nat_lt n m) (names_below m (places_of (suc n) sorts)) (lt-ltb n m (omega (arith, l))) (places-below (suc n) m sorts (omega (arith, l)))
+places-below n m (sort ∷ sorts) l = and_from (nat_lt n m) (names_below m (places_from (suc n) (length sorts))) (lt-ltb n m (omega (arith, l))) (places-below (suc n) m sorts (omega (arith, l)))
 
-pub length-variables : (sorts : List Sort) (s : Store) → length (plus_variables sorts s).cells ≡ length s.cells + length sorts
+pub length-variables : (sorts : List Sort) (s : Store) → length (with_variables_of sorts s).cells ≡ length s.cells + length sorts
 length-variables [] s = omega arith
 length-variables (sort ∷ sorts) s = let k = length-variables sorts (with_cell (variable sort None) s) in let e = length-plus (variable sort None) s in omega (arith, k, e)
 
 -- values of the sorts for the new variables
-variables-forth : (sorts : List Sort) (s : Store) (n : ℕ) → n ≡ length s.cells → AreStores sorts s → (σ : Solution) → Solves s σ → (vs : List Value) → IsTrue (have_sorts sorts vs) → (τ : Solution) × Solves (plus_variables sorts s) τ × Agree (length s.cells) σ τ × (values_by τ (places_of n sorts) ≡ vs)
+variables-forth : (sorts : List Sort) (s : Store) (n : ℕ) → n ≡ length s.cells → AreStores sorts s → (σ : Solution) → Solves s σ → (vs : List Value) → IsTrue (have_sorts sorts vs) → (τ : Solution) × Solves (with_variables_of sorts s) τ × Agree (length s.cells) σ τ × (values_by τ (places_from n (length sorts)) ≡ vs)
 variables-forth [] s n e h σ k [] t = (σ, k, (λ r l. refl), refl)
 variables-forth [] s n e h σ k (v ∷ vs) t = absurd (false≢true t)
 variables-forth (sort ∷ sorts) s n e h σ k [] t = absurd (false≢true t)
@@ -250,11 +249,11 @@ abbrev pub AreValueCells : Solution → List ℕ → Type 0
 AreValueCells σ rs = IsTrue (list_all (λ r. is_value_cell (σ r)) rs)
 
 -- the variable in front stands in the store
-pub variables-front : (sorts : List Sort) (s : Store) (r : ℕ) (c : Cell) → slice_get s.cells r ≡ Some c → slice_get (plus_variables sorts s).cells r ≡ Some c
+pub variables-front : (sorts : List Sort) (s : Store) (r : ℕ) (c : Cell) → slice_get s.cells r ≡ Some c → slice_get (with_variables_of sorts s).cells r ≡ Some c
 variables-front [] s r c e = e
 variables-front (sort ∷ sorts) s r c e = variables-front sorts (with_cell (variable sort None) s) r c (get-kept s.cells (variable sort None ∷ []) r c e)
 
-pub variables-sorted : (sorts : List Sort) (s : Store) (n : ℕ) → n ≡ length s.cells → IsTrue (list_all is_variable_sort sorts) → (σ : Solution) → Solves (plus_variables sorts s) σ → IsTrue (have_sorts sorts (values_by σ (places_of n sorts))) × AreValueCells σ (places_of n sorts)
+pub variables-sorted : (sorts : List Sort) (s : Store) (n : ℕ) → n ≡ length s.cells → IsTrue (list_all is_variable_sort sorts) → (σ : Solution) → Solves (with_variables_of sorts s) σ → IsTrue (have_sorts sorts (values_by σ (places_from n (length sorts)))) × AreValueCells σ (places_from n (length sorts))
 variables-sorted [] s n e k σ h = (refl, refl)
 variables-sorted (sort ∷ sorts) s n e k σ h =
     let p = and_parts (is_variable_sort sort) (list_all is_variable_sort sorts) k in
@@ -264,7 +263,7 @@ variables-sorted (sort ∷ sorts) s n e k σ h =
     let v = sorted-value sort (σ n) p.0 here in
     let long = length-plus c s in
     let rest = variables-sorted sorts (with_cell c s) (suc n) (omega (arith, e, long)) p.1 σ h in
-    (and_from (has_value_sort sort (as_value (σ n))) (have_sorts sorts (values_by σ (places_of (suc n) sorts))) v.0 rest.0, and_from (is_value_cell (σ n)) (list_all (λ r. is_value_cell (σ r)) (places_of (suc n) sorts)) v.1 rest.1)
+    (and_from (has_value_sort sort (as_value (σ n))) (have_sorts sorts (values_by σ (places_from (suc n) (length sorts)))) v.0 rest.0, and_from (is_value_cell (σ n)) (list_all (λ r. is_value_cell (σ r)) (places_from (suc n) (length sorts))) v.1 rest.1)
 
 term-values : (σ : Solution) (rs : List ℕ) (ts : GroundTerms) → terms_at σ rs ≡ Some ts → ts ≡ terms_by σ rs
 term-values σ [] ts e = let q : no_g_terms ≡ ts = cc e in sym q
@@ -290,7 +289,7 @@ variable-value σ variables k r h e =
 
 mutual
   -- a built cell has the value of its pattern
-  pub built-value : (s : Store) (σ : Solution) → Solves s σ → (variables : List ℕ) → AreValueCells σ variables → (p : Pattern) (r : ℕ) → IsBuilt s variables p r → σ r ≡ pattern_value (values_by σ variables) p
+  pub built-value : (s : Store) (σ : Solution) → Solves s σ → (variables : List ℕ) → AreValueCells σ variables → (p : Pattern) (r : ℕ) → IsCopy s variables p r → σ r ≡ pattern_value (values_by σ variables) p
   built-value s σ h variables k (p_var x) r b = variable-value σ variables x r k b
   built-value s σ h variables k (p_fun f ps) r (rs, e, b) =
       let (ts, at, is) = h r (fun_cell f rs) e in
@@ -302,45 +301,45 @@ mutual
       let (vs, at, is) = h r (new_cell p rs) e in
       is ∙ ap (λ us. a_mark (g_new_mark p us)) (value-values σ rs vs at ∙ built-values s σ h variables k ps rs b)
 
-  built-terms : (s : Store) (σ : Solution) → Solves s σ → (variables : List ℕ) → AreValueCells σ variables → (ps : Patterns) (rs : List ℕ) → AreBuilt s variables ps rs → terms_by σ rs ≡ pattern_terms (values_by σ variables) ps
+  built-terms : (s : Store) (σ : Solution) → Solves s σ → (variables : List ℕ) → AreValueCells σ variables → (ps : Patterns) (rs : List ℕ) → AreCopies s variables ps rs → terms_by σ rs ≡ pattern_terms (values_by σ variables) ps
   built-terms s σ h variables k no_patterns rs b = ap (terms_by σ) b
   built-terms s σ h variables k (more_patterns p ps) rs (r, qs, e, b, c) = ap (terms_by σ) e ∙ ap₂ (λ v ts. more_g_terms (as_term v) ts) (built-value s σ h variables k p r b) (built-terms s σ h variables k ps qs c)
 
-  built-values : (s : Store) (σ : Solution) → Solves s σ → (variables : List ℕ) → AreValueCells σ variables → (ps : Patterns) (rs : List ℕ) → AreBuilt s variables ps rs → values_tree (values_by σ rs) ≡ pattern_values (values_by σ variables) ps
+  built-values : (s : Store) (σ : Solution) → Solves s σ → (variables : List ℕ) → AreValueCells σ variables → (ps : Patterns) (rs : List ℕ) → AreCopies s variables ps rs → values_tree (values_by σ rs) ≡ pattern_values (values_by σ variables) ps
   built-values s σ h variables k no_patterns rs b = ap (λ xs. values_tree (values_by σ xs)) b
   built-values s σ h variables k (more_patterns p ps) rs (r, qs, e, b, c) = ap (λ xs. values_tree (values_by σ xs)) e ∙ ap₂ (λ v vs. more_values (as_value v) vs) (built-value s σ h variables k p r b) (built-values s σ h variables k ps qs c)
 
-pub built-label : (s : Store) (σ : Solution) → Solves s σ → (variables : List ℕ) → AreValueCells σ variables → (ps : List Pattern) (rs : List ℕ) → AreBuilt s variables (patterns_tree ps) rs → label_by σ rs ≡ pattern_label (values_by σ variables) ps
+pub built-label : (s : Store) (σ : Solution) → Solves s σ → (variables : List ℕ) → AreValueCells σ variables → (ps : List Pattern) (rs : List ℕ) → AreCopies s variables (patterns_tree ps) rs → label_by σ rs ≡ pattern_label (values_by σ variables) ps
 built-label s σ h variables k [] rs b = ap (label_by σ) b
 built-label s σ h variables k (p ∷ ps) rs (r, qs, e, b, c) = ap (label_by σ) e ∙ ap₂ (λ v w. as_label v ++ w) (built-value s σ h variables k p r b) (built-label s σ h variables k ps qs c)
 
-built-literal : (s : Store) (σ : Solution) → Solves s σ → (variables : List ℕ) → AreValueCells σ variables → (p : PatternAtom) (a : CellAtom) → IsBuiltAtom s variables p a → literal_by σ a ≡ pattern_literal (values_by σ variables) p
+built-literal : (s : Store) (σ : Solution) → Solves s σ → (variables : List ℕ) → AreValueCells σ variables → (p : PatternAtom) (a : CellAtom) → IsAtomCopy s variables p a → literal_by σ a ≡ pattern_literal (values_by σ variables) p
 built-literal s σ h variables k p a b = λ i. record { sign = b.sign i; symbol = b.symbol i; args = built-terms s σ h variables k (patterns_tree p.args) a.args b.args i; label = built-label s σ h variables k p.label a.label b.label i }
 
-built-literals : (s : Store) (σ : Solution) → Solves s σ → (variables : List ℕ) → AreValueCells σ variables → (ps : List PatternAtom) (xs : List CellAtom) → AreBuiltAtoms s variables ps xs → map (literal_by σ) xs ≡ map (λ (a : PatternAtom). pattern_literal (values_by σ variables) a) ps
+built-literals : (s : Store) (σ : Solution) → Solves s σ → (variables : List ℕ) → AreValueCells σ variables → (ps : List PatternAtom) (xs : List CellAtom) → AreAtomCopies s variables ps xs → map (literal_by σ) xs ≡ map (λ (a : PatternAtom). pattern_literal (values_by σ variables) a) ps
 built-literals s σ h variables k [] xs b = ap (map (literal_by σ)) b
 built-literals s σ h variables k (p ∷ ps) xs (a, ys, e, b, c) = ap (map (literal_by σ)) e ∙ ap₂ (λ y zs. y ∷ zs) (built-literal s σ h variables k p a b) (built-literals s σ h variables k ps ys c)
 
 -- ---- the laws
 
 -- the connected literal: variables, and then the cells of one literal
-pub head-by_cells : (old new : Store) (t : Template) (p : PatternAtom) (b : CellAtom) → AreStores t.sorts old → IsTrue (list_all is_variable_sort t.sorts) → AddsBuilt (plus_variables t.sorts old) new → IsBuiltAtom new (places_of (length old.cells) t.sorts) p b → IsHeadCopy old new t (places_of (length old.cells) t.sorts) p b
+pub head-by_cells : (old new : Store) (t : Template) (p : PatternAtom) (b : CellAtom) → AreStores t.sorts old → IsTrue (list_all is_variable_sort t.sorts) → AddsBuilt (with_variables_of t.sorts old) new → IsAtomCopy new (places_from (length old.cells) (length t.sorts)) p b → IsHeadCopy old new t (places_from (length old.cells) (length t.sorts)) p b
 head-by_cells old new t p b stores sorts adds built = record {
   longer = let l = variables-longer t.sorts old in let m = adds-longer mid new adds in omega (arith, l, m);
   variables_below = places-below (length old.cells) (length new.cells) t.sorts (let l = length-variables t.sorts old in let m = adds-longer mid new adds in omega (arith, l, m));
   back = λ σ h.
       let k = adds-back mid new adds σ h in
       let v = variables-sorted t.sorts old (length old.cells) refl sorts σ k in
-      (variables-back t.sorts old σ k, v.0, built-literal new σ h (places_of (length old.cells) t.sorts) v.1 p b built);
+      (variables-back t.sorts old σ k, v.0, built-literal new σ h (places_from (length old.cells) (length t.sorts)) v.1 p b built);
   forth = λ σ h vs k.
       let (τ, solved, agree, values) = variables-forth t.sorts old (length old.cells) refl stores σ h vs k in
       let (ρ, done, further) = adds-forth mid new adds τ solved in
       let l = variables-longer t.sorts old in
-      (ρ, done, agree-both (length old.cells) (length mid.cells) σ τ ρ l agree further, sym (values-agree (length mid.cells) τ ρ further (places_of (length old.cells) t.sorts) (places-below (length old.cells) (length mid.cells) t.sorts (let m = length-variables t.sorts old in omega (arith, m)))) ∙ values);
+      (ρ, done, agree-both (length old.cells) (length mid.cells) σ τ ρ l agree further, sym (values-agree (length mid.cells) τ ρ further (places_from (length old.cells) (length t.sorts)) (places-below (length old.cells) (length mid.cells) t.sorts (let m = length-variables t.sorts old in omega (arith, m)))) ∙ values);
 }
   where
     mid : Store
-    mid = plus_variables t.sorts old
+    mid = with_variables_of t.sorts old
 
 pub value-cell : (v : CellValue) → IsTrue (has_sort TermSort v || has_sort StringSort v) → IsTrue (is_value_cell v)
 value-cell (a_term t) h = refl
@@ -348,7 +347,7 @@ value-cell (a_mark m) h = absurd (false≢true h)
 value-cell (a_string w) h = refl
 
 -- the other literals: cells that are built over variables that are there
-pub rest-by_cells : (old new : Store) (sides : List Side) (t : Template) (i : CellClause) → i.selection ≡ sides → IsTrue (clause_is_below (length new.cells) i) → AddsBuilt old new → IsTrue (list_all (has_value_sort_at new) i.values) → AreBuiltAtoms new i.values t.literals i.literals → IsRestCopy old new sides t i
+pub rest-by_cells : (old new : Store) (sides : List Side) (t : Template) (i : CellClause) → i.selection ≡ sides → IsTrue (clause_is_below (length new.cells) i) → AddsBuilt old new → IsTrue (list_all (has_value_sort_at new) i.values) → AreAtomCopies new i.values t.literals i.literals → IsRestCopy old new sides t i
 rest-by_cells old new sides t i selection names adds sorted built = record {
   selection = selection;
   longer = adds-longer old new adds;
@@ -358,7 +357,7 @@ rest-by_cells old new sides t i selection names adds sorted built = record {
 }
 
 -- the whole clause at once
-pub copy-by_cells : (old new : Store) (sides : List Side) (t : Template) (i : CellClause) → AreStores t.sorts old → IsTrue (list_all is_variable_sort t.sorts) → AddsBuilt (plus_variables t.sorts old) new → i.selection ≡ sides → i.values ≡ places_of (length old.cells) t.sorts → IsTrue (clause_is_below (length new.cells) i) → AreBuiltAtoms new i.values t.literals i.literals → IsFreshClause old new sides t i
+pub copy-by_cells : (old new : Store) (sides : List Side) (t : Template) (i : CellClause) → AreStores t.sorts old → IsTrue (list_all is_variable_sort t.sorts) → AddsBuilt (with_variables_of t.sorts old) new → i.selection ≡ sides → i.values ≡ places_from (length old.cells) (length t.sorts) → IsTrue (clause_is_below (length new.cells) i) → AreAtomCopies new i.values t.literals i.literals → IsFreshClause old new sides t i
 copy-by_cells old new sides t i stores sorts adds selection values names built = record {
   selection = selection;
   longer = let l = variables-longer t.sorts old in let m = adds-longer mid new adds in omega (arith, l, m);
@@ -371,11 +370,11 @@ copy-by_cells old new sides t i stores sorts adds selection values names built =
       let (τ, solved, agree, are) = variables-forth t.sorts old (length old.cells) refl stores σ h vs k in
       let (ρ, done, further) = adds-forth mid new adds τ solved in
       let l = variables-longer t.sorts old in
-      (ρ, done, agree-both (length old.cells) (length mid.cells) σ τ ρ l agree further, ap (values_by ρ) values ∙ sym (values-agree (length mid.cells) τ ρ further (places_of (length old.cells) t.sorts) (places-below (length old.cells) (length mid.cells) t.sorts (let m = length-variables t.sorts old in omega (arith, m)))) ∙ are);
+      (ρ, done, agree-both (length old.cells) (length mid.cells) σ τ ρ l agree further, ap (values_by ρ) values ∙ sym (values-agree (length mid.cells) τ ρ further (places_from (length old.cells) (length t.sorts)) (places-below (length old.cells) (length mid.cells) t.sorts (let m = length-variables t.sorts old in omega (arith, m)))) ∙ are);
 }
   where
     mid : Store
-    mid = plus_variables t.sorts old
+    mid = with_variables_of t.sorts old
 
 -- ---- built cells stay
 
@@ -384,18 +383,18 @@ abbrev pub KeepsBuilt : Store → Store → Type 0
 KeepsBuilt before after = (n : ℕ) (c : Cell) → is_variable c ≡ false → slice_get before.cells n ≡ Some c → slice_get after.cells n ≡ Some c
 
 mutual
-  pub built-kept : (before after : Store) → KeepsBuilt before after → (variables : List ℕ) (p : Pattern) (r : ℕ) → IsBuilt before variables p r → IsBuilt after variables p r
+  pub built-kept : (before after : Store) → KeepsBuilt before after → (variables : List ℕ) (p : Pattern) (r : ℕ) → IsCopy before variables p r → IsCopy after variables p r
   built-kept before after k variables (p_var x) r b = b
   built-kept before after k variables (p_fun f ps) r (rs, e, b) = (rs, k r (fun_cell f rs) refl e, all-built-kept before after k variables ps rs b)
   built-kept before after k variables (p_eigen p ps) r (rs, e, b) = (rs, k r (eigen_cell p rs) refl e, all-built-kept before after k variables ps rs b)
   built-kept before after k variables (p_new p ps) r (rs, e, b) = (rs, k r (new_cell p rs) refl e, all-built-kept before after k variables ps rs b)
 
-  all-built-kept : (before after : Store) → KeepsBuilt before after → (variables : List ℕ) (ps : Patterns) (rs : List ℕ) → AreBuilt before variables ps rs → AreBuilt after variables ps rs
+  all-built-kept : (before after : Store) → KeepsBuilt before after → (variables : List ℕ) (ps : Patterns) (rs : List ℕ) → AreCopies before variables ps rs → AreCopies after variables ps rs
   all-built-kept before after k variables no_patterns rs b = b
   all-built-kept before after k variables (more_patterns p ps) rs (r, qs, e, b, c) = (r, qs, e, built-kept before after k variables p r b, all-built-kept before after k variables ps qs c)
 
 -- an atom that was built before the unification is that of the template after it
-pub built_atom-kept : (before after : Store) → KeepsBuilt before after → (variables : List ℕ) (p : PatternAtom) (a : CellAtom) → IsBuiltAtom before variables p a → IsBuiltAtom after variables p a
+pub built_atom-kept : (before after : Store) → KeepsBuilt before after → (variables : List ℕ) (p : PatternAtom) (a : CellAtom) → IsAtomCopy before variables p a → IsAtomCopy after variables p a
 built_atom-kept before after k variables p a b = record { sign = b.sign; symbol = b.symbol; args = all-built-kept before after k variables (patterns_tree p.args) a.args b.args; label = all-built-kept before after k variables (patterns_tree p.label) a.label b.label }
 
 -- one cell more keeps what is built

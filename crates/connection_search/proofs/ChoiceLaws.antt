@@ -21,7 +21,7 @@ use Rattle.calculus.proofs.SelectionLaws.{selections-rise}
 use Rattle.calculus.specs.Patterns.{PatternAtom}
 use Rattle.calculus.specs.Templates.{IsTemplateOf}
 use Rattle.connection_search.specs.States.{CellGoal}
-use Rattle.connection_search.specs.Matrix.{MatrixClause, IsTemplateMatrix, is_about, places_among, places_from, places}
+use Rattle.connection_search.specs.Matrix.{MatrixClause, IsTemplateMatrix, is_about, places_among, clause_places, places}
 use Rattle.connection_search.specs.Goals.{IsChoiceAt, by_ancestor, by_clause}
 use Rattle.connection_search.specs.Exploring.{IsIn}
 use Rattle.connection_search.specs.Stack.{meets, reductions_from, extensions_among, extensions, selection_of, extension_at, choices_at}
@@ -223,11 +223,11 @@ index-among m symbol sign k j sides (a ∷ xs) e = by (is_about symbol sign a) (
     by true ih = ap₂ (λ ss ys. extension ss j ∷ ys) e ih
     by false ih = ih
 
-index-from : (m : List MatrixClause) (symbol : ℕ) (sign : Sign) (k : ℕ) (cs : List MatrixClause) → drop k m ≡ cs → map (extension_at m) (places_from symbol sign k cs) ≡ extensions symbol sign cs
+index-from : (m : List MatrixClause) (symbol : ℕ) (sign : Sign) (k : ℕ) (cs : List MatrixClause) → drop k m ≡ cs → map (extension_at m) (clause_places symbol sign k cs) ≡ extensions symbol sign cs
 index-from m symbol sign k [] e = refl
 index-from m symbol sign k (c ∷ cs) e =
     let d = drop-next k m c cs e in
-    map-append (extension_at m) (places_among symbol sign k 0 c.template.literals) (places_from symbol sign (suc k) cs)
+    map-append (extension_at m) (places_among symbol sign k 0 c.template.literals) (clause_places symbol sign (suc k) cs)
     ∙ ap₂ (λ xs ys. xs ++ ys) (index-among m symbol sign k 0 c.selection c.template.literals (ap selection_of d.0)) (index-from m symbol sign (suc k) cs d.1)
 
 -- the index gives the extensions, in order

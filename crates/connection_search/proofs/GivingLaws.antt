@@ -1,5 +1,5 @@
 -- Giving strings their lengths by new mark variables, and making labels equal mark by mark.
-use Rattle.std.proofs.Common.{◌≡◌, ℕ, zero, suc, List, [], ◌∷◌, ◌++◌, length, Bool, IsTrue, refl, sym, ◌∙◌, ap, ap₂, subst, Option, Some, None, slice_get, nat_lt, arith, lt-ltb, ltb-true}
+use Rattle.std.proofs.Common.{replicate, ◌≡◌, ℕ, zero, suc, List, [], ◌∷◌, ◌++◌, length, Bool, IsTrue, refl, sym, ◌∙◌, ap, ap₂, subst, Option, Some, None, slice_get, nat_lt, arith, lt-ltb, ltb-true}
 use Rattle.std.specs.List.{list_all}
 use Rattle.std.proofs.lemmas.Bool.{false≢true, and_parts, and_from}
 use Rattle.calculus.specs.declared.sort.Sort.{Sort}
@@ -7,10 +7,10 @@ use Rattle.calculus.specs.declared.sort.Sort.TheVariants.{MarkSort}
 use Rattle.calculus.specs.Ground.{GroundMark}
 use Rattle.calculus.specs.Stores.{variable, string_cell, Store, has_sort_at, parts_fit, is_store, EndsAt, stays, goes_on, CellValue, a_term, a_mark, a_string, has_sort, Solution, cons_mark, marks_at, join_label, label_at, Solves, names_below}
 use Rattle.calculus.specs.Systems.{Equation, AreEqual, HaveLengths}
-use Rattle.calculus.specs.Bindings.{with_cell}
+use Rattle.calculus.specs.Bindings.{with_cell, with_variables_of, places_from}
+use Rattle.calculus.proofs.PatternLaws.{length-places}
 use Rattle.connection_search.specs.States.{label_by, Agree}
 use Rattle.connection_search.specs.Steps.{IsUnified}
-use Rattle.connection_search.specs.Building.{plus_variables, places_of}
 use Rattle.connection_search.specs.Solving.{IsNarrowed, CannotEqual, CannotHave}
 use Rattle.connection_search.proofs.SpareLaws.{own_cell, cell-fits, marks-there}
 use Rattle.connection_search.proofs.BelowLaws.{all-weaken}
@@ -55,25 +55,12 @@ lengths-fail-later s t r n rs ns below first h σ k q =
 
 -- ---- one string
 
--- n marks
-abbrev pub mark_sorts : ℕ → List Sort
-mark_sorts zero = []
-mark_sorts (suc n) = MarkSort ∷ mark_sorts n
-
-length-mark_sorts : (n : ℕ) → length (mark_sorts n) ≡ n
-length-mark_sorts zero = refl
-length-mark_sorts (suc n) = ap suc (length-mark_sorts n)
-
 pub length-marks : (σ : Solution) (rs : List ℕ) (w : List GroundMark) → marks_at σ rs ≡ Some w → length w ≡ length rs
 length-marks σ [] w e = let q : [] ≡ w = cc e in sym (ap length q)
 length-marks σ (r ∷ rs) w e = let p = mark-parts σ r rs w e in ap length p.all_of_them ∙ ap suc (length-marks σ rs p.rest p.are_rest)
 
-length-places : (n : ℕ) (sorts : List Sort) → length (places_of n sorts) ≡ length sorts
-length-places n [] = refl
-length-places n (sort ∷ sorts) = ap suc (length-places (suc n) sorts)
-
 -- new mark variables take any characters
-marks-forth : (w : List GroundMark) (s : Store) (n : ℕ) → n ≡ length s.cells → AreStores (mark_sorts (length w)) s → (σ : Solution) → Solves s σ → (τ : Solution) × Solves (plus_variables (mark_sorts (length w)) s) τ × Agree (length s.cells) σ τ × (marks_at τ (places_of n (mark_sorts (length w))) ≡ Some w)
+marks-forth : (w : List GroundMark) (s : Store) (n : ℕ) → n ≡ length s.cells → AreStores (replicate (length w) MarkSort) s → (σ : Solution) → Solves s σ → (τ : Solution) × Solves (with_variables_of (replicate (length w) MarkSort) s) τ × Agree (length s.cells) σ τ × (marks_at τ (places_from n (length w)) ≡ Some w)
 marks-forth [] s n e h σ k = (σ, k, (λ r l. refl), refl)
 marks-forth (m ∷ w) s n e h σ k =
     let size = length s.cells in
@@ -85,24 +72,24 @@ marks-forth (m ∷ w) s n e h σ k =
     (τ, solved, agree-both size (length (with_cell c s).cells) σ step τ (omega (arith, long)) (agree-put size (a_mark m) σ) agree, ap₂ cons_mark here values)
 
 abbrev MarksForth : Store → Solution → ℕ → List GroundMark → Type 0
-MarksForth old σ n w = (τ : Solution) × Solves (plus_variables (mark_sorts n) old) τ × Agree (length old.cells) σ τ × (marks_at τ (places_of (length old.cells) (mark_sorts n)) ≡ Some w)
+MarksForth old σ n w = (τ : Solution) × Solves (with_variables_of (replicate n MarkSort) old) τ × Agree (length old.cells) σ τ × (marks_at τ (places_from (length old.cells) n) ≡ Some w)
 
 -- a string that is made equal to a new built string of n new mark variables has n characters, whatever they are
-pub length-given : (old new : Store) (r n : ℕ) → AreStores (mark_sorts n) old → IsTrue (is_store (plus_variables (mark_sorts n) old)) → IsTrue (parts_fit (plus_variables (mark_sorts n) old) (string_cell (places_of (length old.cells) (mark_sorts n)))) → IsTrue (nat_lt r (length old.cells)) → IsUnified (with_cell (string_cell (places_of (length old.cells) (mark_sorts n))) (plus_variables (mark_sorts n) old)) new r (length (plus_variables (mark_sorts n) old).cells) → IsNarrowed old new (λ σ. HasLength σ r n)
+pub length-given : (old new : Store) (r n : ℕ) → AreStores (replicate n MarkSort) old → IsTrue (is_store (with_variables_of (replicate n MarkSort) old)) → IsTrue (parts_fit (with_variables_of (replicate n MarkSort) old) (string_cell (places_from (length old.cells) n))) → IsTrue (nat_lt r (length old.cells)) → IsUnified (with_cell (string_cell (places_from (length old.cells) n)) (with_variables_of (replicate n MarkSort) old)) new r (length (with_variables_of (replicate n MarkSort) old).cells) → IsNarrowed old new (λ σ. HasLength σ r n)
 length-given old new r n stores store fits below u =
-    let marks = places_of (length old.cells) (mark_sorts n) in
-    let mid = plus_variables (mark_sorts n) old in
+    let marks = places_from (length old.cells) n in
+    let mid = with_variables_of (replicate n MarkSort) old in
     let c = string_cell marks in
     let long = length-plus c mid in
-    let longer = variables-longer (mark_sorts n) old in
+    let longer = variables-longer (replicate n MarkSort) old in
     record {
       longer = let z = u.size in omega (arith, z, long, longer);
       back = λ σ h.
           let b = u.back σ h in
           let q = b.0 (length mid.cells) c (get-last mid.cells c) in
-          (variables-back (mark_sorts n) old σ (fewer-solved mid c σ b.0), (q.0, b.1 ∙ q.2, length-marks σ marks q.0 q.1 ∙ length-places (length old.cells) (mark_sorts n) ∙ length-mark_sorts n));
+          (variables-back (replicate n MarkSort) old σ (fewer-solved mid c σ b.0), (q.0, b.1 ∙ q.2, length-marks σ marks q.0 q.1 ∙ length-places (length old.cells) n));
       forth = λ σ h q.
-          let start = subst (λ m. MarksForth old σ m q.0) q.2 (marks-forth q.0 old (length old.cells) refl (subst (λ m. AreStores (mark_sorts m) old) (sym q.2) stores) σ h) in
+          let start = subst (λ m. MarksForth old σ m q.0) q.2 (marks-forth q.0 old (length old.cells) refl (subst (λ m. AreStores (replicate m MarkSort) old) (sym q.2) stores) σ h) in
           let (τ, solved, agree, values) = start in
           let size = length mid.cells in
           let v = own_cell τ size c in

@@ -18,9 +18,8 @@ use Rattle.calculus.specs.Space.{has_labels}
 use Rattle.calculus.specs.Stores.{Cell, fun_cell, eigen_cell, new_cell, Store, sort_of, has_sort_at, has_value_sort_at, a_mark}
 use Rattle.calculus.specs.Labels.{is_step_length}
 use Rattle.calculus.proofs.InstanceLaws.{literal_is_proper, instance-proper}
-use Rattle.calculus.specs.Patterns.{Pattern, Patterns, p_var, p_fun, p_eigen, p_new, no_patterns, more_patterns, Template}
+use Rattle.calculus.specs.Patterns.{Pattern, Patterns, p_var, p_fun, p_eigen, p_new, no_patterns, more_patterns, Template, IsCopy, AreCopies}
 use Rattle.calculus.specs.Templates.{as_value, cell_value, value_of_variable, pattern_value, pattern_terms, pattern_values, literals_by, have_sorts, is_step_value, is_choice_of_values, IsTemplateOf}
-use Rattle.connection_search.specs.Building.{IsBuilt, AreBuilt}
 use Rattle.connection_search.specs.LabelledCells.{sort_value, sort_values, is_labelled_cell}
 use Rattle.connection_search.proofs.BuildingLaws.{is_variable_sort}
 use Rattle.connection_search.proofs.AdmittedLaws.{AreAlike, way-alike, one-step}
@@ -51,7 +50,7 @@ term-alike s r c e t =
 not-valued : (s : Store) (r p : ℕ) (rs : List ℕ) → slice_get s.cells r ≡ Some (new_cell p rs) → has_value_sort_at s r ≡ false
 not-valued s r p rs e = ap (λ (o : Option Cell). option_map_or (sort_eq TermSort) (option_map sort_of o) false || option_map_or (sort_eq StringSort) (option_map sort_of o) false) e
 
-pub values-alike : (s : Store) (sorts : List Sort) (variables : List ℕ) → AreSortedBy s sorts variables → (ps : Patterns) (rs : List ℕ) → AreBuilt s variables ps rs → IsTrue (list_all (has_value_sort_at s) rs) → AreAlike (sort_values s rs) (values_list (pattern_values (spare_values sorts) ps))
+pub values-alike : (s : Store) (sorts : List Sort) (variables : List ℕ) → AreSortedBy s sorts variables → (ps : Patterns) (rs : List ℕ) → AreCopies s variables ps rs → IsTrue (list_all (has_value_sort_at s) rs) → AreAlike (sort_values s rs) (values_list (pattern_values (spare_values sorts) ps))
 values-alike s sorts variables h no_patterns rs b a = subst (λ xs. AreAlike (sort_values s xs) []) (sym b) tt
 values-alike s sorts variables h (more_patterns p ps) rs (r, qs, e, b, more) a =
     let q = and_parts (has_value_sort_at s r) (list_all (has_value_sort_at s) qs) (subst (λ xs. IsTrue (list_all (has_value_sort_at s) xs)) e a) in
@@ -60,7 +59,7 @@ values-alike s sorts variables h (more_patterns p ps) rs (r, qs, e, b, more) a =
     rest : List Value
     rest = values_list (pattern_values (spare_values sorts) ps)
 
-    one : (x : Pattern) → IsBuilt s variables x r → IsTrue (has_value_sort_at s r) → AreAlike (sort_values s qs) (values_list (pattern_values (spare_values sorts) ps)) → AreAlike (sort_value s r ∷ sort_values s qs) (as_value (pattern_value (spare_values sorts) x) ∷ values_list (pattern_values (spare_values sorts) ps))
+    one : (x : Pattern) → IsCopy s variables x r → IsTrue (has_value_sort_at s r) → AreAlike (sort_values s qs) (values_list (pattern_values (spare_values sorts) ps)) → AreAlike (sort_value s r ∷ sort_values s qs) (as_value (pattern_value (spare_values sorts) x) ∷ values_list (pattern_values (spare_values sorts) ps))
     one (p_var k) i v m = subst (λ (o : Option Value). AreAlike (sort_value s r ∷ sort_values s qs) (as_value (value_of_variable o) ∷ values_list (pattern_values (spare_values sorts) ps))) (sym (h k r i)) (alike-more (sort_value s r) (sort_values s qs) (values_list (pattern_values (spare_values sorts) ps)) m)
     one (p_fun f xs) (ks, at, built) v m = subst (λ z. AreAlike (z ∷ sort_values s qs) (as_value (pattern_value (spare_values sorts) (p_fun f xs)) ∷ values_list (pattern_values (spare_values sorts) ps))) (sym (term-alike s r (fun_cell f ks) at refl)) m
     one (p_eigen y xs) (ks, at, built) v m = subst (λ z. AreAlike (z ∷ sort_values s qs) (as_value (pattern_value (spare_values sorts) (p_eigen y xs)) ∷ values_list (pattern_values (spare_values sorts) ps))) (sym (term-alike s r (eigen_cell y ks) at refl)) m
@@ -77,7 +76,7 @@ sorts-step l s labels (r ∷ rs) = and_from (is_step_value l (sort_value s r)) (
 -- ---- the cells
 
 -- the cell of an eigenvariable that is admitted by spare values
-pub labelled-eigen : (P : Problem) (s : Store) (sorts : List Sort) (variables : List ℕ) (p : ℕ) (ps : Patterns) (rs : List ℕ) → IsTrue (has_labels P.setting.logic) → AreSortedBy s sorts variables → AreBuilt s variables ps rs → IsTrue (list_all (has_value_sort_at s) rs) → IsTrue (is_admitted_value P (as_value (pattern_value (spare_values sorts) (p_eigen p ps)))) → IsTrue (is_labelled_cell P s (eigen_cell p rs))
+pub labelled-eigen : (P : Problem) (s : Store) (sorts : List Sort) (variables : List ℕ) (p : ℕ) (ps : Patterns) (rs : List ℕ) → IsTrue (has_labels P.setting.logic) → AreSortedBy s sorts variables → AreCopies s variables ps rs → IsTrue (list_all (has_value_sort_at s) rs) → IsTrue (is_admitted_value P (as_value (pattern_value (spare_values sorts) (p_eigen p ps)))) → IsTrue (is_labelled_cell P s (eigen_cell p rs))
 labelled-eigen P s sorts variables p ps rs labels h b a good =
     let vs = pattern_values (spare_values sorts) ps in
     let q = and_parts (is_delta_position P p && fits_way P p (values_list vs)) (are_admitted_values P vs) good in
@@ -85,7 +84,7 @@ labelled-eigen P s sorts variables p ps rs labels h b a good =
     and_from (is_delta_position P p) (fits_way P p (sort_values s rs)) r.0 (way-alike P p (values_list vs) (sort_values s rs) (values-alike s sorts variables h ps rs b a) (sorts-step P.setting.logic s labels rs) r.1)
 
 -- and that of a character
-pub labelled-new : (P : Problem) (s : Store) (sorts : List Sort) (variables : List ℕ) (p : ℕ) (ps : Patterns) (rs : List ℕ) (m : GroundMark) → IsTrue (has_labels P.setting.logic) → AreSortedBy s sorts variables → AreBuilt s variables ps rs → IsTrue (list_all (has_value_sort_at s) rs) → pattern_value (spare_values sorts) (p_new p ps) ≡ a_mark m → IsTrue (is_admitted_mark P m) → IsTrue (is_labelled_cell P s (new_cell p rs))
+pub labelled-new : (P : Problem) (s : Store) (sorts : List Sort) (variables : List ℕ) (p : ℕ) (ps : Patterns) (rs : List ℕ) (m : GroundMark) → IsTrue (has_labels P.setting.logic) → AreSortedBy s sorts variables → AreCopies s variables ps rs → IsTrue (list_all (has_value_sort_at s) rs) → pattern_value (spare_values sorts) (p_new p ps) ≡ a_mark m → IsTrue (is_admitted_mark P m) → IsTrue (is_labelled_cell P s (new_cell p rs))
 labelled-new P s sorts variables p ps rs m labels h b a e good =
     let vs = pattern_values (spare_values sorts) ps in
     let same : g_new_mark p vs ≡ m = cc e in
@@ -94,13 +93,13 @@ labelled-new P s sorts variables p ps rs m labels h b a e good =
     and_from (is_pi_position P p) (fits_way P p (sort_values s rs)) r.0 (way-alike P p (values_list vs) (sort_values s rs) (values-alike s sorts variables h ps rs b a) (sorts-step P.setting.logic s labels rs) r.1)
 
 -- and that of a function symbol
-pub labelled-fun : (P : Problem) (s : Store) (sorts : List Sort) (variables : List ℕ) (f : ℕ) (ps : Patterns) (rs : List ℕ) → AreBuilt s variables ps rs → IsTrue (is_admitted_value P (as_value (pattern_value (spare_values sorts) (p_fun f ps)))) → IsTrue (is_labelled_cell P s (fun_cell f rs))
+pub labelled-fun : (P : Problem) (s : Store) (sorts : List Sort) (variables : List ℕ) (f : ℕ) (ps : Patterns) (rs : List ℕ) → AreCopies s variables ps rs → IsTrue (is_admitted_value P (as_value (pattern_value (spare_values sorts) (p_fun f ps)))) → IsTrue (is_labelled_cell P s (fun_cell f rs))
 labelled-fun P s sorts variables f ps rs b good =
     let ts = pattern_terms (spare_values sorts) ps in
     let q = and_parts (has_function P.symbols f (length (g_terms_list ts))) (are_admitted P ts) good in
     subst (λ n. IsTrue (has_function P.symbols f n)) (count ps rs b) q.0
   where
-    count : (xs : Patterns) (ks : List ℕ) → AreBuilt s variables xs ks → length (g_terms_list (pattern_terms (spare_values sorts) xs)) ≡ length ks
+    count : (xs : Patterns) (ks : List ℕ) → AreCopies s variables xs ks → length (g_terms_list (pattern_terms (spare_values sorts) xs)) ≡ length ks
     count no_patterns ks e = sym (ap length e)
     count (more_patterns x xs) ks (r, qs, e, one, more) = ap suc (count xs qs more) ∙ sym (ap length e)
 

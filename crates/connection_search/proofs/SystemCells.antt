@@ -6,7 +6,7 @@ use Rattle.calculus.specs.declared.sort.Sort.{Sort}
 use Rattle.calculus.specs.declared.sort.Sort.TheVariants.{TermSort, MarkSort, StringSort}
 use Rattle.calculus.specs.Stores.{Store, has_sort_at, GammaCell}
 use Rattle.calculus.specs.Systems.{CellAtom, Equation, Pair, System, is_label, is_equation, is_gamma_cell, is_cell_atom, is_pair, is_system, cells_of_atom, cells_of}
-use Rattle.connection_search.specs.Building.{AddsBuilt}
+use Rattle.calculus.specs.Bindings.{AddsBuilt}
 use Rattle.connection_search.specs.Solving.{IsNarrowed, HasCells}
 use Rattle.connection_search.proofs.BelowLaws.{all-weaken}
 use Rattle.connection_search.proofs.SpareLaws.{IsPart, or-both}

@@ -8,27 +8,10 @@ use Rattle.calculus.specs.declared.sort.Sort.TheVariants.{TermSort, MarkSort, St
 use Rattle.calculus.specs.Ground.{common, g_spare_mark, no_marks, more_marks, term, steps}
 use Rattle.calculus.specs.Equality.{sort_eq}
 use Rattle.calculus.specs.Stores.{variable, Store, sort_of, has_sort_at}
-use Rattle.calculus.specs.Bindings.{with_cell}
-use Rattle.connection_search.specs.Building.{plus_variables, places_of}
+use Rattle.calculus.specs.Patterns.{HaveSortsAt}
 use Rattle.connection_search.specs.LabelledCells.{sort_value}
 use Rattle.connection_search.specs.StateSystems.{string_cells}
-use Rattle.connection_search.proofs.BuildingLaws.{variables-front, get-last, length-plus}
 use Rattle.connection_search.proofs.LabelledBuilt.{spare_values, AreSortedBy}
-
--- each variable has its sort at its place
-abbrev pub HaveSortsAt : Store → List Sort → List ℕ → Type 0
-HaveSortsAt s [] rs = rs ≡ []
-HaveSortsAt s (sort ∷ sorts) rs = (r : ℕ) × (qs : List ℕ) × (rs ≡ r ∷ qs) × (option_map sort_of (slice_get s.cells r) ≡ Some sort) × HaveSortsAt s sorts qs
-
-pub variables-have : (sorts : List Sort) (s : Store) (n : ℕ) → n ≡ length s.cells → HaveSortsAt (plus_variables sorts s) sorts (places_of n sorts)
-variables-have sorts s n e = each sorts s n e
-  where
-    first : (sort : Sort) (rest : List Sort) (t : Store) (m : ℕ) → m ≡ length t.cells → option_map sort_of (slice_get (plus_variables (sort ∷ rest) t).cells m) ≡ Some sort
-    first sort rest t m f = ap (option_map sort_of) (variables-front rest (with_cell (variable sort None) t) m (variable sort None) (ap (slice_get (with_cell (variable sort None) t).cells) f ∙ get-last t.cells (variable sort None)))
-
-    each : (xs : List Sort) (t : Store) (m : ℕ) → m ≡ length t.cells → HaveSortsAt (plus_variables xs t) xs (places_of m xs)
-    each [] t m f = refl
-    each (sort ∷ xs) t m f = (m, places_of (suc m) xs, refl, first sort xs t m f, each xs (with_cell (variable sort None) t) (suc m) (let l = length-plus (variable sort None) t in omega (arith, f, l)))
 
 -- a store that keeps the sorts of cells keeps these
 pub sorts-kept : (old new : Store) → ((r : ℕ) (sort : Sort) → option_map sort_of (slice_get old.cells r) ≡ Some sort → option_map sort_of (slice_get new.cells r) ≡ Some sort) → (sorts : List Sort) (rs : List ℕ) → HaveSortsAt old sorts rs → HaveSortsAt new sorts rs

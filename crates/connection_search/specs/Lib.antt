@@ -11,8 +11,6 @@ pub mod Matrix
 pub mod Goals
 -- the template of a selection, computed
 pub mod TemplateOf
--- how a template is copied
-pub mod Building
 -- the explicit stack
 pub mod Stack
 -- the loop's invariant

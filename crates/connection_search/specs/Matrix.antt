@@ -37,10 +37,10 @@ abbrev pub places_among : ℕ → Sign → ℕ → ℕ → List PatternAtom → 
 places_among symbol sign k j [] = []
 places_among symbol sign k j (a ∷ xs) = (if is_about symbol sign a then record { clause = k; literal = j } ∷ [] else []) ++ places_among symbol sign k (suc j) xs
 
-abbrev pub places_from : ℕ → Sign → ℕ → List MatrixClause → List MatrixPlace
-places_from symbol sign k [] = []
-places_from symbol sign k (c ∷ cs) = places_among symbol sign k 0 c.template.literals ++ places_from symbol sign (suc k) cs
+abbrev pub clause_places : ℕ → Sign → ℕ → List MatrixClause → List MatrixPlace
+clause_places symbol sign k [] = []
+clause_places symbol sign k (c ∷ cs) = places_among symbol sign k 0 c.template.literals ++ clause_places symbol sign (suc k) cs
 
 -- the literals with this symbol and sign, by clause and then by place
 abbrev pub places : List MatrixClause → ℕ → Sign → List MatrixPlace
-places m symbol sign = places_from symbol sign 0 m
+places m symbol sign = clause_places symbol sign 0 m

@@ -12,8 +12,7 @@ use Rattle.calculus.specs.Space.{string_lengths, lengths_in, instances_in}
 use Rattle.calculus.specs.Stores.{Store, has_sort_at, Solution, Solves, GammaCell}
 use Rattle.calculus.specs.Systems.{CellAtom, Pair, System, is_gamma_cell, is_system, AreEqual, AreUses, MeetsDemand, AllAllowed, bound_of, HaveLengths}
 use Rattle.connection_search.specs.States.{CellClause, CellGoal, State, clause_at, choice_at, growth_at, new_cell_goals, IsGround, name_of}
-use Rattle.calculus.specs.Patterns.{patterns_tree, PatternGamma}
-use Rattle.connection_search.specs.Building.{IsBuilt, AreBuilt}
+use Rattle.calculus.specs.Patterns.{patterns_tree, PatternGamma, IsCopy, AreCopies}
 use Rattle.connection_search.specs.Joined.{are_joined}
 
 -- the pairs of a goal with the goals above it
@@ -70,8 +69,3 @@ string_cells [] rs = []
 string_cells (sort ∷ sorts) [] = []
 string_cells (StringSort ∷ sorts) (r ∷ rs) = r ∷ string_cells sorts rs
 string_cells (sort ∷ sorts) (r ∷ rs) = string_cells sorts rs
-
--- the gamma terms of the template over these variables, with their labels
-abbrev pub AreBuiltGammas : Store → List ℕ → List PatternGamma → List GammaCell → Type 0
-AreBuiltGammas s variables [] gs = gs ≡ []
-AreBuiltGammas s variables (p ∷ ps) gs = (g : GammaCell) × (hs : List GammaCell) × (gs ≡ g ∷ hs) × IsBuilt s variables p.term g.term × AreBuilt s variables (patterns_tree p.label) g.label × AreBuiltGammas s variables ps hs

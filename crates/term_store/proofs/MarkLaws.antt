@@ -1,41 +1,55 @@
 -- New mark variables and the string of them.
-use Rattle.std.proofs.Common.{List, ◌≡◌, ◌+◌, ◌++◌, ◌∷◌, [], None, Some, IsTrue, length, ℕ, zero, suc, refl, sym, ap, ◌∙◌, arith, length-append}
+use Rattle.std.proofs.Common.{List, ◌≡◌, ◌+◌, ◌++◌, ◌∷◌, [], None, Some, IsTrue, length, ℕ, zero, suc, refl, sym, ap, ◌∙◌, arith, replicate, take, get_or, ◌<◌}
+use Rattle.std.proofs.lemmas.List.{length-replicate}
 use Rattle.std.specs.Prelude.{slice_get}
 use Rattle.std.specs.List.{list_all}
+use Rattle.std.proofs.lemmas.Bool.{and_from}
 use Rattle.calculus.specs.declared.sort.Sort.{Sort}
 use Rattle.calculus.specs.declared.sort.Sort.TheVariants.{MarkSort, StringSort}
 use Rattle.calculus.specs.Stores.{variable, string_cell, Store, has_sort_at}
-use Rattle.calculus.specs.Patterns.{Grows}
-use Rattle.calculus.proofs.PatternLaws.{Grows-both, Grows-same, Grows-with_cell}
-use Rattle.calculus.specs.Bindings.{with_cell}
-use Rattle.calculus.proofs.PlaceLists.{all-append, all-more, get-end}
-use Rattle.calculus.proofs.BindingLaws.{has_sort-from, has_sort-with_cell}
-use Rattle.term_store.specs.Built.{places_from, with_variables}
+use Rattle.calculus.specs.Bindings.{with_cell, with_variables_of, places_from}
+use Rattle.calculus.proofs.PatternLaws.{Grows-variables, grown-cell, length-variables}
+use Rattle.calculus.proofs.PlaceLists.{get-end}
+use Rattle.calculus.proofs.BindingLaws.{has_sort-from}
 
-pub length-variables : (n : ℕ) (sort : Sort) (s : Store) → length (with_variables n sort s).cells ≡ length s.cells + n
-length-variables zero sort s = omega arith
-length-variables (suc n) sort s = let h = length-variables n sort s in omega (arith, length-append (with_variables n sort s).cells (variable sort None ∷ []))
+-- one variable more
+pub variables-last : (sorts : List Sort) (sort : Sort) (s : Store) → with_cell (variable sort None) (with_variables_of sorts s) ≡ with_variables_of (sorts ++ sort ∷ []) s
+variables-last [] sort s = refl
+variables-last (b ∷ sorts) sort s = variables-last sorts sort (with_cell (variable b None) s)
 
-pub more-variables : (n : ℕ) (sort : Sort) (s : Store) → with_cell (variable sort None) (with_variables n sort s) ≡ with_variables (n + 1) sort s
-more-variables n sort s = ap (λ k. with_variables k sort s) (let e : suc n ≡ n + 1 = omega arith in e)
+replicate-last : (n : ℕ) (sort : Sort) → replicate n sort ++ sort ∷ [] ≡ replicate (n + 1) sort
+replicate-last zero sort = refl
+replicate-last (suc n) sort = ap (λ xs. sort ∷ xs) (replicate-last n sort) ∙ ap (λ k. replicate k sort) (let q : suc (n + 1) ≡ suc n + 1 = omega arith in q)
+
+pub more-variables : (n : ℕ) (sort : Sort) (s : Store) → with_cell (variable sort None) (with_variables_of (replicate n sort) s) ≡ with_variables_of (replicate (n + 1) sort) s
+more-variables n sort s = variables-last (replicate n sort) sort s ∙ ap (λ xs. with_variables_of xs s) (replicate-last n sort)
 
 pub more-places : (first n : ℕ) → places_from first n ++ (first + n) ∷ [] ≡ places_from first (n + 1)
-more-places first n = ap (places_from first) (let e : suc n ≡ n + 1 = omega arith in e)
+more-places first zero = ap (λ k. k ∷ []) (let e : first + 0 ≡ first = omega arith in e)
+more-places first (suc n) = ap (λ xs. first ∷ xs) (ap (λ k. places_from (suc first) n ++ k ∷ []) (let e : first + suc n ≡ suc first + n = omega arith in e) ∙ more-places (suc first) n) ∙ ap (places_from first) (let q : suc (n + 1) ≡ suc n + 1 = omega arith in q)
 
-pub variables-fit : (n : ℕ) (sort : Sort) (s : Store) → IsTrue (list_all (has_sort_at (with_variables n sort s) sort) (places_from (length s.cells) n))
-variables-fit zero sort s = refl
-variables-fit (suc n) sort s =
-    let old = all-more (has_sort_at (with_variables n sort s) sort) (has_sort_at (with_cell (variable sort None) (with_variables n sort s)) sort) (places_from (length s.cells) n) (λ k h. has_sort-with_cell (variable sort None) (with_variables n sort s) sort k h) (variables-fit n sort s) in
-    let at : slice_get (with_cell (variable sort None) (with_variables n sort s)).cells (length s.cells + n) ≡ Some (variable sort None) = ap (slice_get (with_cell (variable sort None) (with_variables n sort s)).cells) (sym (length-variables n sort s)) ∙ get-end (with_variables n sort s).cells (variable sort None) in
-    all-append (has_sort_at (with_cell (variable sort None) (with_variables n sort s)) sort) (places_from (length s.cells) n) ((length s.cells + n) ∷ []) old
-    (rw (has_sort-from (with_cell (variable sort None) (with_variables n sort s)) sort (length s.cells + n) (variable sort None) at refl) refl)
+pub variables-fit : (n : ℕ) (sort : Sort) (s : Store) (first : ℕ) → first ≡ length s.cells → IsTrue (list_all (has_sort_at (with_variables_of (replicate n sort) s) sort) (places_from first n))
+variables-fit zero sort s first e = refl
+variables-fit (suc n) sort s first e =
+    let c = variable sort None in
+    let t = with_cell c s in
+    let u = with_variables_of (replicate n sort) t in
+    let at : slice_get t.cells first ≡ Some c = ap (slice_get t.cells) e ∙ get-end s.cells c in
+    let long = length-variables (sort ∷ []) s in
+    and_from (has_sort_at u sort first) (list_all (has_sort_at u sort) (places_from (suc first) n))
+    (has_sort-from u sort first c (grown-cell t u first c (Grows-variables (replicate n sort) t) at) refl)
+    (variables-fit n sort t (suc first) (omega (arith, e, long)))
 
--- what callers of `marks` use: nothing but cells came, and the reference names a string
-pub Grows-variables : (n : ℕ) (sort : Sort) (s : Store) → Grows s (with_variables n sort s)
-Grows-variables zero sort s = Grows-same s
-Grows-variables (suc n) sort s = Grows-both s (with_variables n sort s) (with_cell (variable sort None) (with_variables n sort s)) (Grows-variables n sort s) (Grows-with_cell (variable sort None) (with_variables n sort s))
+pub length-marks : (n : ℕ) (s : Store) → length (with_variables_of (replicate n MarkSort) s).cells ≡ length s.cells + n
+length-marks n s = length-variables (replicate n MarkSort) s ∙ ap (λ k. length s.cells + k) (length-replicate n MarkSort)
 
-pub string-sort : (n : ℕ) (s : Store) (rs : List ℕ) → IsTrue (has_sort_at (with_cell (string_cell rs) (with_variables n MarkSort s)) StringSort (length s.cells + n))
+-- what callers of `marks` use: the reference names a string
+pub string-sort : (n : ℕ) (s : Store) (rs : List ℕ) → IsTrue (has_sort_at (with_cell (string_cell rs) (with_variables_of (replicate n MarkSort) s)) StringSort (length s.cells + n))
 string-sort n s rs =
-    let t = with_variables n MarkSort s in
-    has_sort-from (with_cell (string_cell rs) t) StringSort (length s.cells + n) (string_cell rs) (ap (slice_get (with_cell (string_cell rs) t).cells) (sym (length-variables n MarkSort s)) ∙ get-end t.cells (string_cell rs)) refl
+    let t = with_variables_of (replicate n MarkSort) s in
+    has_sort-from (with_cell (string_cell rs) t) StringSort (length s.cells + n) (string_cell rs) (ap (slice_get (with_cell (string_cell rs) t).cells) (sym (length-marks n s)) ∙ get-end t.cells (string_cell rs)) refl
+
+pub take-more : (xs : List Sort) (i : ℕ) (x d : Sort) → i < length xs → x ≡ get_or xs i d → take i xs ++ x ∷ [] ≡ take (i + 1) xs
+take-more [] i x d l e = absurd (omega arith)
+take-more (y ∷ xs) zero x d l e = ap (λ z. z ∷ []) e
+take-more (y ∷ xs) (suc i) x d l e = ap (λ zs. y ∷ zs) (take-more xs i x d (omega arith) e) ∙ ap (λ k. take k (y ∷ xs)) (let q : suc (i + 1) ≡ suc i + 1 = omega arith in q)

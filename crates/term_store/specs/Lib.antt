@@ -5,6 +5,7 @@ pub mod Shown
 pub mod Built
 pub mod PatternView
 pub mod PatternFalls
+pub mod Fitting
 pub mod Copying
 pub mod RefView
 pub mod ClauseView

@@ -1,11 +1,10 @@
 //! Cells that are built of others.
 
-ghost use Rattle.std.specs.Prelude.{◌≡◌, ◌≤◌, ◌<◌, ◌+◌, ◌++◌, ◌∷◌, [], IfOk, IsTrue, OnErr, OnOk, length};
+ghost use Rattle.std.specs.Prelude.{◌≡◌, ◌≤◌, ◌<◌, ◌+◌, ◌++◌, ◌∷◌, [], IfOk, IsTrue, OnErr, OnOk, length, replicate};
 ghost use Rattle.calculus.specs.declared.sort.Sort.TheVariants.{MarkSort};
-ghost use Rattle.calculus.specs.Bindings.{IsWellFormed, KeepsMarks, with_cell};
-ghost use Rattle.calculus.specs.Patterns.{Grows};
+ghost use Rattle.calculus.specs.Bindings.{AddsOver, IsWellFormed, KeepsMarks, places_from, with_cell, with_variables_of};
 ghost use Rattle.calculus.specs.Stores.{Store, parts_fit, string_cell};
-ghost use Rattle.term_store.specs.Built.{named_cell, named_content, places_from, with_variables};
+ghost use Rattle.term_store.specs.Built.{named_cell, named_content};
 ghost use Rattle.term_store.specs.Room.{KeepsRoom};
 
 use crate::cell::{Content, Name, Ref, Slot};
@@ -13,7 +12,6 @@ use crate::slots::put;
 use crate::store::Store;
 use calculus::sort::Sort;
 use cop_base::NoMemory;
-use std::alloc::Global;
 
 // How many parts all cells can have: a place has 32 bits.
 const PART_PLACES: usize = 4294967295;
@@ -36,8 +34,7 @@ impl Store {
         ensures place { IfOk result (λ r. r.0 ≡ length self.old.store.cells) }
         ensures ok { OnOk result (self.new.store ≡ with_cell (named_cell name parts.now) self.old.store) }
         ensures err { OnErr result (self.new.store ≡ self.old.store) }
-        ensures grows { Grows self.old.store self.new.store }
-        ensures marks { KeepsMarks self.old.store self.new.store }
+        ensures adds { AddsOver parts.now self.old.store self.new.store }
         ensures room { KeepsRoom self.old self.new }
     {
         self.reserve(1)?;
@@ -52,19 +49,37 @@ impl Store {
         Ok(Ref(place))
     }
 
-    /// A built string of so many new mark variables. Want of memory may leave some variables behind.
-    pub fn marks(&mut self, alloc: Global, n: u32) -> Result<Ref, NoMemory>
+    // As `marks`. Want of memory leaves some cells behind.
+    fn add_marks(&mut self, n: u32) -> Result<Ref, NoMemory>
         ensures place { IfOk result (λ r. r.0 ≡ length self.old.store.cells + n) }
-        ensures ok { OnOk result (self.new.store ≡ with_cell (string_cell (places_from (length self.old.store.cells) n)) (with_variables n MarkSort self.old.store)) }
+        ensures ok { OnOk result (self.new.store ≡ with_cell (string_cell (places_from (length self.old.store.cells) n)) (with_variables_of (replicate n MarkSort) self.old.store)) }
         ensures marks { KeepsMarks self.old.store self.new.store }
         ensures room { KeepsRoom self.old self.new }
     {
-        let mut variables = Vec::new(alloc);
+        let mut variables = Vec::new(self.alloc);
         for _i in 0..n {
             self.reserve(1)?;
             variables.push(self.fresh(Sort::MarkSort).0)?;
         }
         let string = self.build(Name::Marks, &variables)?;
         Ok(string)
+    }
+
+    /// A built string of so many new mark variables.
+    pub fn marks(&mut self, n: u32) -> Result<Ref, NoMemory>
+        ensures place { IfOk result (λ r. r.0 ≡ length self.old.store.cells + n) }
+        ensures ok { OnOk result (self.new.store ≡ with_cell (string_cell (places_from (length self.old.store.cells) n)) (with_variables_of (replicate n MarkSort) self.old.store)) }
+        ensures err { OnErr result (self.new.store ≡ self.old.store) }
+        ensures marks { KeepsMarks self.old.store self.new.store }
+        ensures room { KeepsRoom self.old self.new }
+    {
+        let start = self.mark();
+        match self.add_marks(n) {
+            Ok(string) => Ok(string),
+            Err(NoMemory) => {
+                self.undo(start);
+                Err(NoMemory)
+            }
+        }
     }
 }

@@ -15,6 +15,13 @@ pub struct TrailMark {
     pub(crate) entries: usize,
 }
 
+/// Variables that stand side by side: the cell `first` and those behind it.
+#[derive(Clone, Copy, Debug)]
+pub struct Variables {
+    pub first: Ref,
+    pub count: u32,
+}
+
 /// What stands at the end of a cell's bindings: an unbound variable, a term or mark of this name, or a string.
 #[derive(Clone, Copy, Debug)]
 pub enum Head {

@@ -4,7 +4,7 @@ ghost use Rattle.std.specs.Prelude.{◌≡◌, ◌++◌, ◌∷◌, [], OnErr, O
 ghost use Rattle.term_store.specs.RefView.{the_place};
 ghost use Rattle.term_store.specs.ClauseView.{the_atom, the_gamma, the_pattern_atom, the_pattern_gamma};
 
-use crate::cell::Ref;
+use crate::cell::{Ref, Variables};
 use crate::pattern::{Pattern, Patterns};
 use calculus::sign::Sign;
 use calculus::sort::Sort;
@@ -336,4 +336,11 @@ pub struct CopiedClause {
     pub strings: RefList,
     pub pis: u32,
     pub gammas: GammaList,
+}
+
+/// The first literal that is copied of a clause, and the variables of all its literals.
+#[derive(Drop)]
+pub struct CopiedLiteral {
+    pub variables: Variables,
+    pub atom: CellAtom,
 }

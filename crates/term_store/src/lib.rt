@@ -6,6 +6,7 @@ mod cell;
 mod clause;
 mod copy;
 mod copy_clause;
+mod copy_lists;
 mod pattern;
 mod slots;
 mod store;
@@ -14,9 +15,9 @@ mod tests;
 
 pub use calculus::sign::Sign;
 pub use calculus::sort::Sort;
-pub use cell::{Head, Ref, TrailMark};
+pub use cell::{Head, Ref, TrailMark, Variables};
 pub use clause::{
-    CellAtom, CellAtomList, CopiedClause, GammaList, GammaUse, PatternAtom, PatternAtomList,
+    CellAtom, CellAtomList, CopiedClause, CopiedLiteral, GammaList, GammaUse, PatternAtom, PatternAtomList,
     PatternGamma, PatternGammaList, Prefix, RefList, SortList, Template,
 };
 pub use pattern::{Pattern, Patterns};

@@ -1,6 +1,6 @@
 //! The store.
 
-ghost use Rattle.std.specs.Prelude.{◌≡◌, ◌≤◌, ◌<◌, ◌+◌, ◌++◌, ◌∷◌, [], false, MatchOption, OnOk, length, slice_get, vec_len, vec_capacity};
+ghost use Rattle.std.specs.Prelude.{◌≡◌, ◌≤◌, ◌<◌, ◌+◌, ◌++◌, ◌∷◌, [], false, IsOkAnd, MatchOption, OnOk, length, slice_get, vec_len, vec_capacity};
 ghost use Rattle.calculus.specs.Bindings.{EndsIn, IsEnd, IsWellFormed, KeepsEarlier, KeepsMarks, MayBind, with_binding, with_cell};
 ghost use Rattle.calculus.specs.Stores.{Cell, EndsAt, HasNoCycle, IsGood, cut_at, is_bound, parts_of, variable};
 ghost use Rattle.term_store.specs.Room.{KeepsRoom, spare};
@@ -21,6 +21,7 @@ const PLACES: usize = 4294967296;
 /// `fresh` and `bind` need no memory while there is spare room.
 #[derive(Drop)]
 pub struct Store {
+    pub(crate) alloc: Global,
     pub(crate) cells: Vec<Slot>,
     // The parts of the built cells, cell by cell.
     pub(crate) parts: Vec<u32>,
@@ -46,14 +47,15 @@ impl Model for Store {
 
 impl Store {
     /// An empty store.
-    pub fn new(alloc: Global) -> Store
-        ensures { result.store ≡ record { cells = []; trail = [] } }
+    pub fn new(alloc: Global) -> Result<Store, NoMemory>
+        ensures { IsOkAnd result (λ s. s.store ≡ record { cells = []; trail = [] }) }
     {
-        Store {
+        Ok(Store {
+            alloc,
             cells: Vec::new(alloc),
             parts: Vec::new(alloc),
             trail: Vec::new(alloc),
-        }
+        })
     }
 
     /// How many calls of `fresh` and `bind` need no memory.

@@ -39,9 +39,9 @@ fn template(alloc: Global) -> Result<Template, NoMemory>
 fn copies_a_clause(rt: HostRuntime) -> Result<(), Fail> {
     let alloc = rt.alloc();
     let t = template(alloc)?;
-    let mut store = Store::new(alloc);
-    let first = store.copy_clause(alloc, &t)?;
-    let second = store.copy_clause(alloc, &t)?;
+    let mut store = Store::new(alloc)?;
+    let first = store.copy_clause(&t)?;
+    let second = store.copy_clause(&t)?;
     assert!(rt; first.literals.items().len() == 1);
     assert!(rt; second.literals.items().len() == 1);
     for atom in second.literals.items() {

@@ -8,18 +8,18 @@ use term_store::{Sort, Store};
 
 // Whether strings of so many new marks are unified.
 fn are_unified(alloc: Global, left: u32, right: u32) -> Result<bool, NoMemory> {
-    let mut store = Store::new(alloc);
-    let a = store.marks(alloc, left)?;
-    let b = store.marks(alloc, right)?;
+    let mut store = Store::new(alloc)?;
+    let a = store.marks(left)?;
+    let b = store.marks(right)?;
     let equal = unify(alloc, &mut store, a, b)?;
     Ok(equal)
 }
 
 // Whether a variable of this sort is unified with a string.
 fn is_unified(alloc: Global, sort: Sort) -> Result<bool, NoMemory> {
-    let mut store = Store::new(alloc);
+    let mut store = Store::new(alloc)?;
     let mut unifier = Unifier::new(alloc);
-    let a = store.marks(alloc, 2)?;
+    let a = store.marks(2)?;
     store.reserve(1)?;
     let b = store.fresh(sort);
     let equal = unifier.unify(&mut store, b, a)?;

@@ -1,11 +1,10 @@
 use Rattle.std.proofs.Common.{◌≤◌, ◌∙◌, IsTrue, ap, arith, subst, sym}
-use Rattle.calculus.specs.Stores.{parts_fit}
-use Rattle.calculus.specs.Bindings.{KeepsMarks, with_cell}
-use Rattle.calculus.specs.Patterns.{Grows}
-use Rattle.calculus.proofs.BindingLaws.{KeepsMarks-with_cell}
-use Rattle.calculus.proofs.PatternLaws.{Grows-with_cell}
+use Rattle.calculus.specs.Stores.{is_store, parts_fit}
+use Rattle.calculus.specs.Bindings.{AddsOver, with_cell}
 use Rattle.term_store.specs.Built.{named_cell}
 use Rattle.term_store.specs.Room.{spare}
+use Rattle.term_store.specs.StoreView.{the_store}
+use Rattle.term_store.proofs.OwnLaws.{names-same, over-one}
 use Rattle.term_store.proofs.StoreFacts.{length-cells}
 use Rattle.term_store.proofs.WellLaws.{built-store, well-built}
 use Rattle.term_store.proofs.store.Store.build.Goals as goal
@@ -27,8 +26,18 @@ returns-clause-ok c =
     rw (c.put.ensures.items, c.in_ok-extend_from_slice.ensures.items, c.content_of-content.ensures)
     (built-store c.self.inside.cells.items c.self.inside.parts.items c.args.parts.now c.self.inside.trail.items c.args.name _ c.self.invariant.laid (omega arith) ∙ ap (with_cell (named_cell c.args.name c.args.parts.now)) st)
 
-pub returns-clause-grows : goal.returns-clause-grows
-returns-clause-grows c = subst (Grows c.args.self.now.store) (sym (returns-clause-ok c)) (Grows-with_cell (named_cell c.args.name c.args.parts.now) c.args.self.now.store)
+pub returns-clause-adds : goal.returns-clause-adds
+returns-clause-adds c =
+    let st = ap (λ v. v.store) c.self.view_is ∙ c.in_ok-reserve.ensures.store in
+    subst (AddsOver c.args.parts.now c.args.self.now.store) (sym (returns-clause-ok c)) (over-one c.args.name c.args.parts.now c.args.self.now.store (subst (λ s. IsTrue (is_store s)) st c.self.invariant.fits) c.requires)
 
-pub returns-clause-marks : goal.returns-clause-marks
-returns-clause-marks c = subst (KeepsMarks c.args.self.now.store) (sym (returns-clause-ok c)) (KeepsMarks-with_cell (named_cell c.args.name c.args.parts.now) c.args.self.now.store)
+pub returns-in_err-reserve-clause-adds : goal.returns-in_err-reserve-clause-adds
+returns-in_err-reserve-clause-adds c = subst (AddsOver c.args.parts.now c.args.self.now.store) (sym c.in_err-reserve.ensures.store) (names-same c.args.parts.now c.args.self.now.store)
+
+pub returns-then-parts-len-clause-adds : goal.returns-then-parts-len-clause-adds
+returns-then-parts-len-clause-adds c = subst (AddsOver c.args.parts.now c.args.self.now.store) (sym c.in_ok-reserve.ensures.store) (names-same c.args.parts.now c.args.self.now.store)
+
+pub returns-in_err-extend_from_slice-clause-adds : goal.returns-in_err-extend_from_slice-clause-adds
+returns-in_err-extend_from_slice-clause-adds c =
+    let same = ap (λ ps. the_store c.self.inside.cells.items ps c.self.inside.trail.items) c.in_err-extend_from_slice.ensures.items ∙ ap (λ v. v.store) c.self.view_is ∙ c.in_ok-reserve.ensures.store in
+    subst (AddsOver c.args.parts.now c.args.self.now.store) (sym same) (names-same c.args.parts.now c.args.self.now.store)

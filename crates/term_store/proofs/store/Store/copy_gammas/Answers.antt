@@ -1,34 +1,45 @@
-use Rattle.std.proofs.Common.{◌++◌, ◌∷◌, [], IsTrue, arith, map, refl, subst, sym, take, true}
+use Rattle.std.proofs.Common.{◌++◌, ◌∷◌, [], IsTrue, arith, length, map, subst, sym, take}
 use Rattle.std.specs.List.{list_all}
-use Rattle.std.proofs.lemmas.Bool.{and_from}
-use Rattle.calculus.specs.Patterns.{AreGammaCopies, gamma_fits_in}
-use Rattle.calculus.specs.Systems.{is_gamma_cell}
-use Rattle.calculus.proofs.BindingLaws.{KeepsMarks-both}
-use Rattle.calculus.proofs.PatternLaws.{gammas-more, Grows-both, grown-gammas, grown-gamma_fits, grown-gamma_cells}
-use Rattle.calculus.proofs.PlaceLists.{all-append}
+use Rattle.calculus.proofs.PatternLaws.{Grows-built}
 use Rattle.cop_base.proofs.Items.{map-take-item}
 use Rattle.term_store.specs.ClauseView.{the_gamma, the_pattern_gamma}
+use Rattle.term_store.specs.Fitting.{gamma_fits_in}
+use Rattle.term_store.specs.RefView.{the_places}
 use Rattle.term_store.proofs.CopyLaws.{all-item}
+use Rattle.term_store.proofs.FitLaws.{grown-gamma_fits}
+use Rattle.term_store.proofs.ListLaws.{GammasCopied, gamma-more, gammas-none}
+use Rattle.term_store.proofs.OwnLaws.{names-same, over-both}
 use Rattle.term_store.proofs.store.Store.copy_gammas.Goals as goal
+
+pub loop-gamma-init : goal.loop-gamma-init
+loop-gamma-init c = record {
+  copied = subst (λ xs. GammasCopied c.args.self.now.store (the_places c.args.variables) (length c.args.self.now.store.cells) xs []) (sym c.new-copied.ensures) (gammas-none c.args.self.now.store (the_places c.args.variables) (length c.args.self.now.store.cells));
+  adds = names-same (the_places c.args.variables) c.args.self.now.store;
+  room = (omega arith, omega arith);
+}
 
 pub copy_gamma-requires : goal.copy_gamma-requires
 copy_gamma-requires c =
-    let f = subst (λ xs. IsTrue (list_all (gamma_fits_in c.args.self.now.store c.args.first) xs)) (sym c.items-gamma-items.ensures) c.requires in
-    grown-gamma_fits c.args.self.now.store c.loop-gamma.self.store c.args.first (the_pattern_gamma c.gamma-item.result) c.loop-gamma.invariant.grows
-    (all-item the_pattern_gamma (gamma_fits_in c.args.self.now.store c.args.first) c.items-gamma-items.result.now c.loop-gamma.gamma-index c.gamma-item.result c.gamma-item.result f (omega arith) c.gamma-item.is)
+    let vs = the_places c.args.variables in
+    let f = subst (λ xs. IsTrue (list_all (gamma_fits_in c.args.self.now.store vs) xs)) (sym c.items-gamma-items.ensures) c.requires in
+    grown-gamma_fits c.args.self.now.store c.loop-gamma.self.store vs (the_pattern_gamma c.gamma-item.result) (Grows-built c.args.self.now.store c.loop-gamma.self.store c.loop-gamma.invariant.adds.built)
+    (all-item the_pattern_gamma (gamma_fits_in c.args.self.now.store vs) c.items-gamma-items.result.now c.loop-gamma.gamma-index c.gamma-item.result c.gamma-item.result f (omega arith) c.gamma-item.is)
 
 pub loop-gamma-preserved : goal.loop-gamma-preserved
 loop-gamma-preserved c =
+    let vs = the_places c.args.variables in
     let one = map-take-item the_pattern_gamma c.items-gamma-items.result.now c.loop-gamma.gamma-index c.gamma-item.result c.gamma-item.result (omega arith) c.gamma-item.is in
     let a = c.loop-gamma.invariant.room in
     let b = c.in_ok-copy.ensures.room in
     record {
-      copies = subst (λ xs. AreGammaCopies c.copy_gamma.new.self.store c.args.first xs c.push.new.self) (sym one) (subst (AreGammaCopies c.copy_gamma.new.self.store c.args.first (map the_pattern_gamma (take c.loop-gamma.gamma-index c.items-gamma-items.result.now) ++ the_pattern_gamma c.gamma-item.result ∷ [])) (sym c.in_ok-push.ensures.ok)
-          (gammas-more c.copy_gamma.new.self.store c.args.first (map the_pattern_gamma (take c.loop-gamma.gamma-index c.items-gamma-items.result.now)) (the_pattern_gamma c.gamma-item.result) c.loop-gamma.copied (the_gamma c.in_ok-copy.copy)
-          (grown-gammas c.loop-gamma.self.store c.copy_gamma.new.self.store c.args.first (map the_pattern_gamma (take c.loop-gamma.gamma-index c.items-gamma-items.result.now)) c.loop-gamma.copied c.in_ok-copy.ensures.grows c.loop-gamma.invariant.copies) c.in_ok-copy.ensures.copy));
-      sorts = subst (λ xs. IsTrue (list_all (is_gamma_cell c.copy_gamma.new.self.store) xs)) (sym c.in_ok-push.ensures.ok)
-          (all-append (is_gamma_cell c.copy_gamma.new.self.store) c.loop-gamma.copied (the_gamma c.in_ok-copy.copy ∷ []) (grown-gamma_cells c.loop-gamma.self.store c.copy_gamma.new.self.store c.loop-gamma.copied c.in_ok-copy.ensures.grows c.loop-gamma.invariant.sorts) (and_from (is_gamma_cell c.copy_gamma.new.self.store (the_gamma c.in_ok-copy.copy)) true c.in_ok-copy.ensures.sorts refl));
-      grows = Grows-both c.args.self.now.store c.loop-gamma.self.store c.copy_gamma.new.self.store c.loop-gamma.invariant.grows c.in_ok-copy.ensures.grows;
-      marks = KeepsMarks-both c.args.self.now.store c.loop-gamma.self.store c.copy_gamma.new.self.store c.loop-gamma.invariant.marks c.in_ok-copy.ensures.marks;
+      copied = subst (λ xs. GammasCopied c.copy_gamma.new.self.store vs (length c.args.self.now.store.cells) c.push.new.self xs) (sym one)
+          (gamma-more c.args.self.now.store c.loop-gamma.self.store c.copy_gamma.new.self.store vs c.loop-gamma.copied c.push.new.self (map the_pattern_gamma (take c.loop-gamma.gamma-index c.items-gamma-items.result.now)) (the_pattern_gamma c.gamma-item.result) (the_gamma c.in_ok-copy.copy) c.loop-gamma.invariant.copied c.loop-gamma.invariant.adds c.in_ok-copy.ensures.adds c.in_ok-copy.ensures.copy c.in_ok-copy.ensures.sorts c.in_ok-copy.ensures.own c.in_ok-push.ensures.ok);
+      adds = over-both vs c.args.self.now.store c.loop-gamma.self.store c.copy_gamma.new.self.store c.loop-gamma.invariant.adds c.in_ok-copy.ensures.adds;
       room = (omega arith, omega arith);
     }
+
+pub returns-in_err-copy-clause-adds : goal.returns-in_err-copy-clause-adds
+returns-in_err-copy-clause-adds c = over-both (the_places c.args.variables) c.args.self.now.store c.loop-gamma.self.store c.copy_gamma.new.self.store c.loop-gamma.invariant.adds c.in_err-copy.ensures.adds
+
+pub returns-in_err-push-clause-adds : goal.returns-in_err-push-clause-adds
+returns-in_err-push-clause-adds c = over-both (the_places c.args.variables) c.args.self.now.store c.loop-gamma.self.store c.copy_gamma.new.self.store c.loop-gamma.invariant.adds c.in_ok-copy.ensures.adds

@@ -1,37 +1,14 @@
-use Rattle.std.proofs.Common.{◌+◌, ◌++◌, ◌∷◌, ◌≡◌, ◌∙◌, [], IsTrue, None, ap, ap₂, arith, length, subst, sym}
-use Rattle.std.specs.List.{list_all}
-use Rattle.calculus.specs.declared.sort.Sort.TheVariants.{MarkSort}
-use Rattle.calculus.specs.Stores.{has_sort_at, variable}
-use Rattle.calculus.specs.Bindings.{KeepsMarks, with_cell}
-use Rattle.calculus.proofs.BindingLaws.{KeepsMarks-both}
-use Rattle.term_store.specs.Built.{places_from, with_variables}
-use Rattle.term_store.proofs.MarkLaws.{length-variables, more-places, more-variables, variables-fit}
+use Rattle.std.proofs.Common.{◌≡◌, ◌∙◌, subst, sym}
+use Rattle.calculus.specs.Bindings.{KeepsMarks}
+use Rattle.calculus.proofs.BindingLaws.{KeepsMarks-same}
+use Rattle.term_store.specs.StoreView.{the_mark}
 use Rattle.term_store.proofs.store.Store.marks.Goals as goal
 
-pub loop-i-preserved : goal.loop-i-preserved
-loop-i-preserved c =
-    let s = c.args.self.now.store in
-    let reserved : c.reserve.new.self.store ≡ with_variables c.loop-i._i MarkSort s = c.in_ok-reserve.ensures.store ∙ c.loop-i.invariant.store in
-    let n : length c.reserve.new.self.store.cells ≡ length s.cells + c.loop-i._i = ap (λ x. length x.cells) reserved ∙ length-variables c.loop-i._i MarkSort s in
-    let a = c.loop-i.invariant.room in
-    let b = c.in_ok-reserve.ensures.room in
-    let d = c.fresh.ensures.room in
-    record {
-      store = c.fresh.ensures.store ∙ ap (with_cell (variable MarkSort None)) reserved ∙ more-variables c.loop-i._i MarkSort s;
-      places = c.in_ok-push.ensures.items ∙ ap₂ (λ xs x. xs ++ x ∷ []) c.loop-i.invariant.places (c.fresh.ensures.place ∙ n) ∙ more-places (length s.cells) c.loop-i._i;
-      marks = KeepsMarks-both s c.loop-i.self.store c.fresh.new.self.store c.loop-i.invariant.marks (subst (λ x. KeepsMarks x c.fresh.new.self.store) c.in_ok-reserve.ensures.store c.fresh.ensures.marks);
-      room = (omega arith, omega arith);
-    }
+pub undo-requires : goal.undo-requires
+undo-requires c = (c.add_marks.ensures.marks (the_mark c.mark-start.result) c.mark-start.ensures.good).0
 
-pub build-requires : goal.build-requires
-build-requires c =
-    let e = c.deref.ensures.value ∙ c.loop-i.invariant.places in
-    let s = c.args.self.now.store in
-    subst (λ xs. IsTrue (list_all (has_sort_at c.loop-i.self.store MarkSort) xs)) (sym e)
-    (subst (λ x. IsTrue (list_all (has_sort_at x MarkSort) (places_from (length s.cells) c.loop-i._i))) (sym c.loop-i.invariant.store) (variables-fit c.loop-i._i MarkSort s))
+pub returns-in-Err-clause-err : goal.returns-in-Err-clause-err
+returns-in-Err-clause-err c = c.undo.ensures.store ∙ (c.add_marks.ensures.marks (the_mark c.mark-start.result) c.mark-start.ensures.good).1 ∙ c.mark-start.ensures.whole
 
-pub returns-clause-place : goal.returns-clause-place
-returns-clause-place c =
-    let e = c.in_ok-string.ensures.place in
-    let n = ap (λ x. length x.cells) c.loop-i.invariant.store ∙ length-variables c.loop-i._i MarkSort c.args.self.now.store in
-    omega arith
+pub returns-in-Err-clause-marks : goal.returns-in-Err-clause-marks
+returns-in-Err-clause-marks c = subst (KeepsMarks c.args.self.now.store) (sym (returns-in-Err-clause-err c)) (KeepsMarks-same c.args.self.now.store)

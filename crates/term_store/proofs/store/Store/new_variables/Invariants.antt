@@ -1,13 +1,11 @@
-use Rattle.std.proofs.Common.{◌≡◌, ◌++◌, take}
-use Rattle.calculus.specs.Bindings.{KeepsMarks}
-use Rattle.calculus.specs.Patterns.{Grows, variables_of}
+use Rattle.std.proofs.Common.{◌≡◌, take}
+use Rattle.calculus.specs.Bindings.{KeepsMarks, with_variables_of}
 use Rattle.term_store.specs.Room.{KeepsRoom}
 use Rattle.term_store.proofs.store.Store.new_variables.Given as goal
 
 abbrev pub invariant-loop-sort : goal.invariant-loop-sort
 invariant-loop-sort l = record {
-  cells : l.self.store.cells ≡ l.initial.self.store.cells ++ (variables_of (take l.sort-index l.sort-items)).cells;
-  grows : Grows l.initial.self.store l.self.store;
+  store : l.self.store ≡ with_variables_of (take l.sort-index l.sort-items) l.initial.self.store;
   marks : KeepsMarks l.initial.self.store l.self.store;
   room : KeepsRoom l.initial.self l.self;
 }

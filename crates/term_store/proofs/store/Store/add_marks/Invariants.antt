@@ -1,13 +1,12 @@
-use Rattle.std.proofs.Common.{◌≡◌, length}
+use Rattle.std.proofs.Common.{◌≡◌, length, replicate}
 use Rattle.calculus.specs.declared.sort.Sort.TheVariants.{MarkSort}
-use Rattle.calculus.specs.Bindings.{KeepsMarks}
-use Rattle.term_store.specs.Built.{places_from, with_variables}
+use Rattle.calculus.specs.Bindings.{KeepsMarks, places_from, with_variables_of}
 use Rattle.term_store.specs.Room.{KeepsRoom}
-use Rattle.term_store.proofs.store.Store.marks.Given as goal
+use Rattle.term_store.proofs.store.Store.add_marks.Given as goal
 
 abbrev pub invariant-loop-i : goal.invariant-loop-i
 invariant-loop-i l = record {
-  store : l.self.store ≡ with_variables l._i MarkSort l.initial.self.store;
+  store : l.self.store ≡ with_variables_of (replicate l._i MarkSort) l.initial.self.store;
   places : l.variables.items ≡ places_from (length l.initial.self.store.cells) l._i;
   marks : KeepsMarks l.initial.self.store l.self.store;
   room : KeepsRoom l.initial.self l.self;

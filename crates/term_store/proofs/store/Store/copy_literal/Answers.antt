@@ -1,0 +1,14 @@
+use Rattle.std.proofs.Common.{◌≡◌, ◌∙◌, subst, sym}
+use Rattle.calculus.specs.Bindings.{KeepsMarks}
+use Rattle.calculus.proofs.BindingLaws.{KeepsMarks-same}
+use Rattle.term_store.specs.StoreView.{the_mark}
+use Rattle.term_store.proofs.store.Store.copy_literal.Goals as goal
+
+pub undo-requires : goal.undo-requires
+undo-requires c = (c.add_literal.ensures.marks (the_mark c.mark-start.result) c.mark-start.ensures.good).0
+
+pub returns-in-Err-clause-err : goal.returns-in-Err-clause-err
+returns-in-Err-clause-err c = c.undo.ensures.store ∙ (c.add_literal.ensures.marks (the_mark c.mark-start.result) c.mark-start.ensures.good).1 ∙ c.mark-start.ensures.whole
+
+pub returns-in-Err-clause-marks : goal.returns-in-Err-clause-marks
+returns-in-Err-clause-marks c = subst (KeepsMarks c.args.self.now.store) (sym (returns-in-Err-clause-err c)) (KeepsMarks-same c.args.self.now.store)
