@@ -28,6 +28,7 @@ pub mod TemplateExists
 pub mod ClassicalTemplates
 pub mod RankLaws
 pub mod BuildingLaws
+pub mod StageLaws
 pub mod UnifyLaws
 pub mod ClassicalSteps
 pub mod ChoiceLaws
