@@ -1,2 +1,0 @@
-//! The connection search: so far its definitions and laws.
-#![tactic(auto)]

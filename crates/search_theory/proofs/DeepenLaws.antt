@@ -1,0 +1,218 @@
+-- The start of a search at one limit, where a limit is left, and what deepening over the limits answers and counts.
+use Rattle.std.proofs.Common.{◌≡◌, ◌⊎◌, ℕ, zero, suc, ◌+◌, ◌*◌, ◌<◌, ◌≤◌, List, [], ◌∷◌, ◌++◌, length, map, ◌&&◌, IsTrue, refl, sym, ap, subst, Option, Some, None, slice_get, nat_lt, inl, inr, arith, IsSomeAnd, ltb-true, lt-ltb}
+use Rattle.std.specs.List.{list_all, AllByRecursion}
+use Rattle.std.proofs.lemmas.Bool.{cases_lt, and_parts, and_from}
+use Rattle.std.proofs.lemmas.List.{length-append}
+use Rattle.std.specs.Ordering.{nat_cmp, ordering_then}
+use Rattle.std.specs.Cmp.{nat_cmp_is}
+use Rattle.std.specs.declared.cmp.Ordering.TheVariants.{Less, Greater}
+use Rattle.calculus.specs.declared.sign.Side.{Side}
+use Rattle.calculus.specs.Syntax.{Problem}
+use Rattle.calculus.specs.Instances.{ClauseInstance}
+use Rattle.calculus.specs.ComputedInstances.{is_instance}
+use Rattle.calculus.specs.Tableaux.{HasClosed, is_shown}
+use Rattle.calculus.specs.Choices.{start, reduction, extension, Choice, GroundChoice, choices_of, ground_choices, selection_cmp, choice_cmp, choices_cmp, Growth, after_start, growth_of, is_within, has_depth, is_regular, IsLive, IsLeft}
+use Rattle.calculus.specs.Counting.{IsRising, MoreThan}
+use Rattle.calculus.specs.Space.{Member, with_choices, with_lengths, limit_of, IsMember, member_cmp, lengths_cmp, IsEarly, ComesNoLater, derived, exhausted, no_tableau, IsAnswer}
+use Rattle.calculus.proofs.GrowthLaws.{closed-parts, allowed-instance}
+use Rattle.calculus.proofs.LimitLaws.{none-beyond}
+use Rattle.search_theory.specs.States.{State, IsStateOf, growth_at, choice_at}
+use Rattle.search_theory.specs.Regular.{HasNoSamePair}
+use Rattle.search_theory.specs.Exploring.{BeginsWithOne, Covers, PartInOrder, IsLeftList, IsMemberAt, Explores, behind, IsIn}
+use Rattle.search_theory.proofs.BelowLaws.{all-weaken}
+use Rattle.search_theory.proofs.LastChoice.{none≢some}
+use Rattle.search_theory.proofs.StepLaws.{if-some}
+use Rattle.search_theory.proofs.SpareLaws.{own_value}
+use Rattle.search_theory.proofs.RegularLaws.{regular-by_spares, ground-by_spares}
+use Rattle.search_theory.proofs.EndLaws.{IsClassicalState}
+use Rattle.search_theory.proofs.ExploreLaws.{rising-alone, parted-siblings, parted-rising, begins-behind}
+use Rattle.search_theory.proofs.EarlyLaws.{steps-ended}
+
+-- ---- states at a greater limit
+
+cell-more : (n d e : ℕ) → d ≤ e → IsTrue (nat_lt n d) → IsTrue (nat_lt n e)
+cell-more n d e l h = let q : n < d = ltb-true n d h in lt-ltb n e (omega (arith, q, l))
+
+-- what is a state within a limit is one within each greater limit
+pub state-more : (P : Problem) (d e : ℕ) (c : List Choice) (S : State) → d ≤ e → IsStateOf P d c S → IsStateOf P e c S
+state-more P d e c S l h = record { names = h.names; within = all-weaken (λ n. nat_lt n d) (λ n. nat_lt n e) (λ n. cell-more n d e l) S.growth.depths h.within; cells = h.cells; sound = h.sound; complete = h.complete }
+
+-- ---- where the limit is left
+
+on-some : (o : Option Growth) (Q : Growth → Type 0) (x : Growth) → o ≡ Some x → Q x → IsSomeAnd o Q
+on-some o Q x e k = rw e k
+
+-- a state within d + 1 with an extension from a path of d goals and without same pairs shows that d is left
+pub left-by_state : (P : Problem) (base d : ℕ) (c : List Choice) (S : State) (rank : ℕ → ℕ) (bound : ℕ) → IsStateOf P (d + 1) c S → IsClassicalState P base S rank bound → HasNoSamePair S → IsTrue (has_depth d (growth_at (own_value S.store bound) S.growth)) → IsLeft P d
+left-by_state P base d c S rank bound h q n deep =
+    let σ = own_value S.store bound in
+    let x = growth_at σ S.growth in (
+      map (choice_at σ) S.choices,
+      on-some (growth_of P (map (choice_at σ) S.choices)) (λ y. IsTrue (is_within (d + 1) y && has_depth d y && is_regular y)) x (h.sound σ (ground-by_spares P base S rank bound q.store q.choices))
+          (and_from (is_within (d + 1) x && has_depth d x) (is_regular x) (and_from (is_within (d + 1) x) (has_depth d x) h.within deep) (regular-by_spares P base S rank bound q.store q.goals n)),
+    )
+
+-- nothing is pending: the limit is not left
+pub not-left : (P : Problem) (d : ℕ) → Covers (IsLeftList P d) [] → ¬ IsLeft P d
+not-left P d h (gs, k) = by (growth_of P gs) refl k
+  where
+    by : (o : Option Growth) → growth_of P gs ≡ o → IsSomeAnd o (λ x. IsTrue (is_within (d + 1) x && has_depth d x && is_regular x)) → ⊥
+    by None e q = elim q [ ]
+    by (Some x) e q = h (choices_of gs) (gs, x, e, q, refl)
+
+-- ---- the start
+
+abbrev pub starting : List (List Side) → List Choice
+starting [] = []
+starting (ss ∷ rest) = start ss ∷ starting rest
+
+starting-rises : (sss : List (List Side)) → IsRising selection_cmp sss → IsRising choice_cmp (starting sss)
+starting-rises [] h = tt
+starting-rises (s ∷ []) h = tt
+starting-rises (s ∷ t ∷ rest) h = (h.0, starting-rises (t ∷ rest) h.1)
+
+starting-in : (sss : List (List Side)) (ss : List Side) → IsIn ss sss → IsIn (start ss) (starting sss)
+starting-in [] ss i = let z = i.1 in cc z
+starting-in (t ∷ rest) ss i = by i.0 i.1 (starting-in rest ss)
+  where
+    by : (k : ℕ) → slice_get (t ∷ rest) k ≡ Some ss → (IsIn ss rest → IsIn (start ss) (starting rest)) → IsIn (start ss) (starting (t ∷ rest))
+    by zero e ih = let q : t ≡ ss = cc e in (0, ap (λ x. Some (start x)) q)
+    by (suc k) e ih = let r = ih (k, e) in (suc r.0, r.1)
+
+behind-parted : (p : List Choice) (xs : List Choice) → IsRising choice_cmp xs → PartInOrder (behind p xs)
+behind-parted p [] h = tt
+behind-parted p (x ∷ []) h = tt
+behind-parted p (x ∷ y ∷ xs) h = (parted-siblings p x y h.0, behind-parted p (y ∷ xs) h.1)
+
+-- the clause of a selection may start a tree
+abbrev pub MayStart : Problem → List Side → Type 0
+MayStart P ss = (i : ClauseInstance) × (i.selection ≡ ss) × IsTrue (is_instance P i) × IsTrue (list_all is_shown i.literals)
+
+-- before the first step, where the selections rise and hold each one that may start a tree
+pub explore-start : (P : Problem) (d : ℕ) (sss : List (List Side)) → IsRising selection_cmp sss → ((ss : List Side) → MayStart P ss → IsIn ss sss) → Explores P d [] (behind [] (starting sss))
+explore-start P d sss r all_in = record {
+  members = tt;
+  rising = parted-rising d (behind [] (starting sss)) (behind-parted [] (starting sss) (starting-rises sss r));
+  parted = behind-parted [] (starting sss) (starting-rises sss r);
+  covers = λ b (t, c, e).
+      let k = closed-parts P d t c in
+      let i = all_in t.start.selection (t.start, refl, allowed-instance P t.start k.allowed, k.all_shown) in
+      begins-behind [] (starting sss) (start t.start.selection) (tail (choices_of (ground_choices t))) b (starting-in sss t.start.selection i) (sym e);
+}
+  where
+    tail : List Choice → List Choice
+    tail [] = []
+    tail (x ∷ xs) = xs
+
+pub left-start : (P : Problem) (d : ℕ) (sss : List (List Side)) → ((ss : List Side) → MayStart P ss → IsIn ss sss) → Covers (IsLeftList P d) (behind [] (starting sss))
+left-start P d sss all_in b (gs, x, g, h, e) = by gs g e
+  where
+    started : (i : ClauseInstance) (o : Option Growth) → o ≡ after_start P i → ¬ (o ≡ None) → IsTrue (is_instance P i) × IsTrue (list_all is_shown i.literals)
+    started i None q n = absurd (n refl)
+    started i (Some y) q n =
+        let z = if-some (is_instance P i && list_all is_shown i.literals) _ y (sym q) in
+        and_parts (is_instance P i) (list_all is_shown i.literals) z.0
+
+    grown : (i : ClauseInstance) (cs : List GroundChoice) → growth_of P (start i ∷ cs) ≡ Some x → ¬ (after_start P i ≡ None)
+    grown i cs q none = none≢some x (rw none at q)
+
+    by : (hs : List GroundChoice) → growth_of P hs ≡ Some x → choices_of hs ≡ b → BeginsWithOne (behind [] (starting sss)) b
+    by [] q f = none≢some x q
+    by (reduction up ∷ cs) q f = none≢some x q
+    by (extension i place ∷ cs) q f = none≢some x q
+    by (start i ∷ cs) q f =
+        let s = started i (after_start P i) refl (grown i cs q) in
+        begins-behind [] (starting sss) (start i.selection) (choices_of cs) b (starting-in sss i.selection (all_in i.selection (i, refl, s.0, s.1))) (sym f)
+
+-- ---- the answer
+
+-- what the search at each limit from 1 to d found: no closed tableau, and that the limit is left
+pub record PassedTo (P : Problem) (d : ℕ) : Type 0 where
+  pub none : (e : ℕ) → 1 ≤ e → e ≤ d → ¬ HasClosed P e
+  pub left : (e : ℕ) → 1 ≤ e → e ≤ d → IsLeft P e
+
+pub passed-more : (P : Problem) (d : ℕ) → PassedTo P d → ¬ HasClosed P (suc d) → IsLeft P (suc d) → PassedTo P (suc d)
+passed-more P d h n l = record { none = λ e a b. by-none e a (same-or-less e (suc d) b); left = λ e a b. by-left e a (same-or-less e (suc d) b) }
+  where
+    same-or-less : (e f : ℕ) → e ≤ f → (e < f) ⊎ (e ≡ f)
+    same-or-less e f b = elim (cases_lt e f) [ inl l ↦ inl l | inr g ↦ inr (omega (arith, b, g)) ]
+
+    by-none : (e : ℕ) → 1 ≤ e → (e < suc d) ⊎ (e ≡ suc d) → ¬ HasClosed P e
+    by-none e a (inl l2) = h.none e a (omega (arith, l2))
+    by-none e a (inr q) = subst (λ k. ¬ HasClosed P k) (sym q) n
+
+    by-left : (e : ℕ) → 1 ≤ e → (e < suc d) ⊎ (e ≡ suc d) → IsLeft P e
+    by-left e a (inl l2) = h.left e a (omega (arith, l2))
+    by-left e a (inr q) = subst (IsLeft P) (sym q) l
+
+pub answer-derived : (P : Problem) (m d : ℕ) → PassedTo P d → suc d ≤ m → HasClosed P (suc d) → IsAnswer P m (derived (suc d))
+answer-derived P m d h l k = (omega arith, l, k, (λ e a b. h.none e a (omega (arith, b))))
+
+pub answer-no_tableau : (P : Problem) (m d : ℕ) → PassedTo P d → suc d ≤ m → ¬ HasClosed P (suc d) → ¬ IsLeft P (suc d) → IsAnswer P m (no_tableau (suc d))
+answer-no_tableau P m d h l n nl = (omega arith, l, none-beyond P (suc d) nl n m, nl, (λ e a b. h.left e a (omega (arith, b))))
+
+pub answer-exhausted : (P : Problem) (m : ℕ) → 1 ≤ m → PassedTo P m → IsAnswer P m (exhausted m)
+answer-exhausted P m l h = (refl, h.none m l (omega arith), h.left)
+
+-- ---- the count over the limits
+
+less-number : (x y : ℕ) → x < y → nat_cmp x y ≡ Less
+less-number x y l = sym (nat_cmp_is x y Less l)
+
+-- members of a lower limit come first
+pub lower-less : (m n : Member) → limit_of m < limit_of n → member_cmp m n ≡ Less
+lower-less (with_choices a c) (with_choices e b) l = ap (λ o. ordering_then o (choices_cmp c b)) (less-number a e l)
+lower-less (with_choices a c) (with_lengths e b ns) l = ap (λ o. ordering_then o (ordering_then (choices_cmp c b) Less)) (less-number a e l)
+lower-less (with_lengths a c ms) (with_choices e b) l = ap (λ o. ordering_then o (ordering_then (choices_cmp c b) Greater)) (less-number a e l)
+lower-less (with_lengths a c ms) (with_lengths e b ns) l = ap (λ o. ordering_then o (ordering_then (choices_cmp c b) (lengths_cmp ms ns))) (less-number a e l)
+
+limits-join : (d : ℕ) (xs ys : List Member) → IsRising member_cmp xs → IsRising member_cmp ys → AllByRecursion (λ m. limit_of m ≤ d) xs → AllByRecursion (λ m. d < limit_of m) ys → IsRising member_cmp (xs ++ ys)
+limits-join d [] ys r t a b = t
+limits-join d (x ∷ []) [] r t a b = tt
+limits-join d (x ∷ []) (y ∷ ys) r t a b = (lower-less x y (let l = a.0 in let m = b.0 in omega (arith, l, m)), t)
+limits-join d (x ∷ z ∷ xs) ys r t a b = (r.0, limits-join d (z ∷ xs) ys r.1 t a.1 b)
+
+all-of-both : {A : Type 0} (Q : A → Type 0) (xs ys : List A) → AllByRecursion Q xs → AllByRecursion Q ys → AllByRecursion Q (xs ++ ys)
+all-of-both Q [] ys a b = b
+all-of-both Q (x ∷ xs) ys a b = (a.0, all-of-both Q xs ys a.1 b)
+
+all-of-each : {A : Type 0} (Q R : A → Type 0) → ((x : A) → Q x → R x) → (xs : List A) → AllByRecursion Q xs → AllByRecursion R xs
+all-of-each Q R k [] h = tt
+all-of-each Q R k (x ∷ xs) h = (k x h.0, all-of-each Q R k xs h.1)
+
+-- the members for which the searches up to the limit d have spent their steps
+pub record SpentTo (P : Problem) (d : ℕ) (spent : List Member) : Type 0 where
+  pub rising : IsRising member_cmp spent
+  pub members : AllByRecursion (IsMember P d) spent
+
+pub spent-none : (P : Problem) → SpentTo P 0 []
+spent-none P = record { rising = tt; members = tt }
+
+member-more : (P : Problem) (d e : ℕ) (m : Member) → d ≤ e → IsMember P d m → IsMember P e m
+member-more P d e m l h = record { from_one = h.from_one; up_to = (let u = h.up_to in omega (arith, u, l)); reached = h.reached }
+
+-- a limit more is searched whole
+pub spent-more : (P : Problem) (d : ℕ) (spent more : List Member) (pending : List (List Choice)) → SpentTo P d spent → Explores P (suc d) more pending → SpentTo P (suc d) (spent ++ more)
+spent-more P d spent more pending h k = record {
+  rising = limits-join d spent more h.rising (rising-alone member_cmp more (map (with_choices (suc d)) pending) k.rising) (all-of-each (IsMember P d) (λ m. limit_of m ≤ d) (λ m q. q.up_to) spent h.members) (all-of-each (IsMemberAt P (suc d)) (λ m. d < limit_of m) (λ m q. let e = q.limit in omega (arith, e)) more k.members);
+  members = all-of-both (IsMember P (suc d)) spent more (all-of-each (IsMember P d) (IsMember P (suc d)) (λ m q. member-more P d (suc d) m (omega arith) q) spent h.members) (all-of-each (IsMemberAt P (suc d)) (IsMember P (suc d)) (λ m q. q.member) more k.members);
+}
+
+-- where the budget ends at the limit d + 1, more members come no later than any closed tableau than steps were spent
+pub more-than-spent : (P : Problem) (d : ℕ) (spent more : List Member) (p : List Choice) (ps : List (List Choice)) → SpentTo P d spent → Explores P (d + 1) more (p ∷ ps) → IsLive P (d + 1) p → MoreThan member_cmp (ComesNoLater P d) (length spent + length more)
+more-than-spent P d spent more p ps h k live =
+    let ended = steps-ended P (d + 1) more p ps k (omega arith) live in
+    let last = ended.0 in (
+      spent ++ last,
+      record {
+        rising = limits-join d spent last h.rising ended.1.rising (all-of-each (IsMember P d) (λ m. limit_of m ≤ d) (λ m q. q.up_to) spent h.members) (all-of-each (IsEarly P (d + 1)) (λ m. d < limit_of m) (λ m q. let e = q.limit in omega (arith, e)) last ended.1.members);
+        members = all-of-both (ComesNoLater P d) spent last (all-of-each (IsMember P d) (ComesNoLater P d) (λ m q. inl q) spent h.members) (all-of-each (IsEarly P (d + 1)) (ComesNoLater P d) (λ m q. inr q) last ended.1.members);
+      },
+      (let e = length-append spent last in let l = ended.2 in omega (arith, e, l)),
+    )
+
+-- ---- the visit ends: each visit of a list spends a step, and a list has at most c children
+
+-- (budget - used) times (c + 1), and the number of pending lists
+pub measure-falls : (left c n kids : ℕ) → kids ≤ c → left * (c + 1) + (n + kids) < suc left * (c + 1) + suc n
+measure-falls left c n kids h = let e : suc left * (c + 1) ≡ left * (c + 1) + (c + 1) = omega arith in omega (arith, e, h)

@@ -1,0 +1,103 @@
+-- The label that is followed by cells is the home of the eigenvariable, by each ground solution.
+use Rattle.std.proofs.Common.{◌≡◌, ℕ, List, [], ◌∷◌, ◌++◌, false, IsTrue, refl, sym, ◌∙◌, ap, Option, Some, option_and_then}
+use Rattle.std.specs.Option.{option_map_or}
+use Rattle.std.proofs.lemmas.Bool.{false≢true}
+use Rattle.std.proofs.lemmas.List.{map-append}
+use Rattle.calculus.specs.declared.sort.Sort.TheVariants.{TermSort, StringSort}
+use Rattle.calculus.specs.declared.setting.Logic.{Logic}
+use Rattle.calculus.specs.declared.setting.Logic.TheVariants.{Classical, Intuitionistic, D, T as LogicT, S4, S5}
+use Rattle.calculus.specs.declared.kind.Shape.{Shape}
+use Rattle.calculus.specs.declared.kind.Shape.TheVariants.{Alpha, Beta, Gamma, Delta, Literal}
+use Rattle.calculus.specs.declared.kind.ModalPart.{ModalPart}
+use Rattle.calculus.specs.Syntax.{Problem}
+use Rattle.calculus.specs.Ground.{GroundTerm, GroundMark, g_new_mark, term, steps, marks_list, marks_tree, values_tree}
+use Rattle.calculus.specs.Lists.{marks_list-marks_tree}
+use Rattle.calculus.specs.Kinds.{shape_of, modal_of}
+use Rattle.calculus.specs.Positions.{Node}
+use Rattle.calculus.specs.Labels.{nu_label, pi_label}
+use Rattle.calculus.specs.Skolem.{Reached, take_string, after_modal, take_term, after_shape, label_along, way_to}
+use Rattle.calculus.specs.Stores.{new_cell, Store, CellValue, a_term, a_mark, a_string, has_sort, Solution, Solves}
+use Rattle.calculus.specs.Systems.{is_label}
+use Rattle.calculus.specs.Templates.{as_value, as_label}
+use Rattle.search_theory.specs.States.{label_by, values_by}
+use Rattle.search_theory.specs.Demanding.{IsHomeAt}
+use Rattle.search_theory.specs.HomeCells.{CellReached, PassesModal, by_plain, by_string, by_mark, PassesShape, by_term, by_other, is_gamma_shape, LeadsToLabel, ended, passed}
+use Rattle.search_theory.proofs.BuildingLaws.{solved-sorted}
+use Rattle.search_theory.proofs.AtomLaws.{values_at-by, label-append}
+use Rattle.search_theory.proofs.SolvingLaws.{label-there}
+
+-- what the cells stand for
+abbrev reached_by : Solution → CellReached → Reached
+reached_by σ c = record { label = label_by σ c.label; taken = values_by σ c.taken; rest = values_by σ c.rest }
+
+append-none : {A : Type 0} (xs : List A) → xs ++ [] ≡ xs
+append-none [] = refl
+append-none (x ∷ xs) = ap (λ ys. x ∷ ys) (append-none xs)
+
+nu-next : (l : Logic) (σ : Solution) (w : List ℕ) (r : ℕ) → nu_label l (label_by σ w) (as_label (σ r)) ≡ label_by σ (pi_label l w r)
+nu-next Classical σ w r = ap (λ v. label_by σ w ++ v) (sym (append-none (as_label (σ r)))) ∙ sym (label-append σ w (r ∷ []))
+nu-next Intuitionistic σ w r = ap (λ v. label_by σ w ++ v) (sym (append-none (as_label (σ r)))) ∙ sym (label-append σ w (r ∷ []))
+nu-next D σ w r = ap (λ v. label_by σ w ++ v) (sym (append-none (as_label (σ r)))) ∙ sym (label-append σ w (r ∷ []))
+nu-next LogicT σ w r = ap (λ v. label_by σ w ++ v) (sym (append-none (as_label (σ r)))) ∙ sym (label-append σ w (r ∷ []))
+nu-next S4 σ w r = ap (λ v. label_by σ w ++ v) (sym (append-none (as_label (σ r)))) ∙ sym (label-append σ w (r ∷ []))
+nu-next S5 σ w r = sym (append-none (as_label (σ r)))
+
+pi-next : (l : Logic) (σ : Solution) (w : List ℕ) (k : ℕ) (m : GroundMark) → σ k ≡ a_mark m → pi_label l (label_by σ w) m ≡ label_by σ (pi_label l w k)
+pi-next Classical σ w k m e = ap (λ v. label_by σ w ++ (as_label v ++ [])) (sym e) ∙ sym (label-append σ w (k ∷ []))
+pi-next Intuitionistic σ w k m e = ap (λ v. label_by σ w ++ (as_label v ++ [])) (sym e) ∙ sym (label-append σ w (k ∷ []))
+pi-next D σ w k m e = ap (λ v. label_by σ w ++ (as_label v ++ [])) (sym e) ∙ sym (label-append σ w (k ∷ []))
+pi-next LogicT σ w k m e = ap (λ v. label_by σ w ++ (as_label v ++ [])) (sym e) ∙ sym (label-append σ w (k ∷ []))
+pi-next S4 σ w k m e = ap (λ v. label_by σ w ++ (as_label v ++ [])) (sym e) ∙ sym (label-append σ w (k ∷ []))
+pi-next S5 σ w k m e = ap (λ v. as_label v ++ []) (sym e)
+
+string-value : (v : CellValue) → IsTrue (has_sort StringSort v) → (w : List GroundMark) × (v ≡ a_string w)
+string-value (a_term t) h = absurd (false≢true h)
+string-value (a_mark m) h = absurd (false≢true h)
+string-value (a_string w) h = (w, refl)
+
+term-value : (v : CellValue) → IsTrue (has_sort TermSort v) → (t : GroundTerm) × (v ≡ a_term t)
+term-value (a_term t) h = (t, refl)
+term-value (a_mark m) h = absurd (false≢true h)
+term-value (a_string w) h = absurd (false≢true h)
+
+modal-by : (l : Logic) (s : Store) (σ : Solution) → Solves s σ → (p : ℕ) (m : ModalPart) (c d : CellReached) → PassesModal l s p m c d → after_modal l p m (reached_by σ c) ≡ Some (reached_by σ d)
+modal-by l s σ h p m c d by_plain = refl
+modal-by l s σ h p m c d (by_string w taken rest r sorted) =
+    let v = string-value (σ r) (solved-sorted s σ h StringSort r sorted) in
+    let shown : as_value (σ r) ≡ steps (marks_tree v.0) = ap as_value v.1 in
+    let label : nu_label l (label_by σ w) (marks_list (marks_tree v.0)) ≡ label_by σ (pi_label l w r) = ap (nu_label l (label_by σ w)) (marks_list-marks_tree v.0 ∙ sym (ap as_label v.1)) ∙ nu-next l σ w r in
+    let values : values_by σ taken ++ steps (marks_tree v.0) ∷ [] ≡ values_by σ (taken ++ r ∷ []) = ap (λ x. values_by σ taken ++ x ∷ []) (sym shown) ∙ sym (map-append (λ k. as_value (σ k)) taken (r ∷ [])) in
+    ap (λ x. take_string l (record { label = label_by σ w; taken = values_by σ taken; rest = as_value (σ r) ∷ values_by σ rest }) (x ∷ values_by σ rest)) shown ∙ (λ i. Some (record { label = label i; taken = values i; rest = values_by σ rest }))
+modal-by l s σ h p m c d (by_mark w taken rest k e) =
+    let q = h k (new_cell p taken) e in
+    let is : σ k ≡ a_mark (g_new_mark p (values_tree (values_by σ taken))) = q.2 ∙ ap (λ vs. a_mark (g_new_mark p vs)) (sym (values_at-by σ taken q.0 q.1)) in
+    let label = pi-next l σ w k (g_new_mark p (values_tree (values_by σ taken))) is in
+    λ i. Some (record { label = label i; taken = values_by σ taken; rest = values_by σ rest })
+
+shape-by : (s : Store) (σ : Solution) → Solves s σ → (x : Shape) (c d : CellReached) → PassesShape s x c d → after_shape x (reached_by σ c) ≡ Some (reached_by σ d)
+shape-by s σ h x c d (by_term w taken rest r sorted) =
+    let v = term-value (σ r) (solved-sorted s σ h TermSort r sorted) in
+    let shown : as_value (σ r) ≡ term v.0 = ap as_value v.1 in
+    let values : values_by σ taken ++ term v.0 ∷ [] ≡ values_by σ (taken ++ r ∷ []) = ap (λ y. values_by σ taken ++ y ∷ []) (sym shown) ∙ sym (map-append (λ k. as_value (σ k)) taken (r ∷ [])) in
+    ap (λ y. take_term (record { label = label_by σ w; taken = values_by σ taken; rest = as_value (σ r) ∷ values_by σ rest }) (y ∷ values_by σ rest)) shown ∙ (λ i. Some (record { label = label_by σ w; taken = values i; rest = values_by σ rest }))
+shape-by s σ h x c d (by_other e) = other x e (reached_by σ c)
+  where
+    other : (y : Shape) → is_gamma_shape y ≡ false → (r : Reached) → after_shape y r ≡ Some r
+    other Alpha e r = refl
+    other Beta e r = refl
+    other Delta e r = refl
+    other Literal e r = refl
+    other Gamma e r = absurd (false≢true (sym e))
+
+way-by : (l : Logic) (s : Store) (σ : Solution) → Solves s σ → (ns : List Node) (c : CellReached) (ks : List ℕ) → LeadsToLabel l s ns c ks → label_along l ns (reached_by σ c) ≡ label_by σ ks
+way-by l s σ h ns c ks ended = refl
+way-by l s σ h ns c ks (passed {n = n} {ns = rest} {c = c'} {d = d} {e = e} {ks = ks'} m x more) =
+    let first = modal-by l s σ h n.position (modal_of l n.sign n.formula) c d m in
+    let second = shape-by s σ h (shape_of n.sign n.formula) d e x in
+    ap (λ (o : Option Reached). option_map_or (λ (next : Reached). label_along l rest next) (option_and_then (after_shape (shape_of n.sign n.formula)) o) (label_by σ c.label)) first
+    ∙ ap (λ (o : Option Reached). option_map_or (λ (next : Reached). label_along l rest next) o (label_by σ c.label)) second
+    ∙ way-by l s σ h rest e ks more
+
+-- the home of an eigenvariable by its values
+pub home-by_way : (P : Problem) (s : Store) (p : ℕ) (rs ks : List ℕ) → LeadsToLabel P.setting.logic s (way_to P p) (record { label = []; taken = []; rest = rs }) ks → IsTrue (is_label s ks) → IsHomeAt P s p rs ks
+home-by_way P s p rs ks way sorted σ h = label-there s σ h ks sorted ∙ ap Some (sym (way-by P.setting.logic s σ h (way_to P p) (record { label = []; taken = []; rest = rs }) ks way))

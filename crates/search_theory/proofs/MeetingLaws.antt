@@ -1,0 +1,150 @@
+-- What copying and unification give: the steps of the search, and where there is none.
+use Rattle.std.proofs.Common.{◌≡◌, ℕ, zero, suc, ◌<◌, List, length, map, not, ◌&&◌, ◌==◌, IsTrue, sym, ◌∙◌, ap, subst, Option, Some, None, option_map, slice_get, ltb-true, lt-ltb, arith, eq-eqb, eqb-true}
+use Rattle.std.proofs.lemmas.Bool.{false≢true, and_parts, and_from}
+use Rattle.std.proofs.lemmas.Option.{slice_get-map}
+use Rattle.calculus.specs.declared.sign.Side.{Side}
+use Rattle.calculus.specs.Ground.{GroundLiteral}
+use Rattle.calculus.specs.Equality.{sign_eq, grounds_eq}
+use Rattle.calculus.specs.Tableaux.{ancestor}
+use Rattle.calculus.specs.Choices.{are_opposite, is_opposite}
+use Rattle.calculus.specs.Stores.{Store}
+use Rattle.calculus.specs.Systems.{CellAtom}
+use Rattle.calculus.proofs.EqualityLaws.{grounds_eq-tells}
+use Rattle.calculus.specs.Patterns.{PatternAtom, Template}
+use Rattle.calculus.specs.Templates.{pattern_literal, literals_by}
+use Rattle.search_theory.specs.States.{CellClause, CellGoal, atom_is_below, clause_is_below, terms_by, values_by, literal_by}
+use Rattle.search_theory.specs.Steps.{AreUnified, Clash, IsFreshClause, IsExtended, CannotExtend, IsReduced, CannotReduce, IsHeadCopy, IsRestCopy}
+use Rattle.search_theory.proofs.ImageLaws.{values-agree, literal-agree}
+use Rattle.search_theory.proofs.BelowLaws.{names-more}
+
+-- ---- opposite literals
+
+-- the signs differ, and the symbols and arguments agree
+pub record OppositeParts (a b : GroundLiteral) : Type 0 where
+  pub signs : IsTrue (not (sign_eq a.sign b.sign))
+  pub symbols : a.symbol ≡ b.symbol
+  pub args : a.args ≡ b.args
+
+pub opposite-parts : (a b : GroundLiteral) → IsTrue (are_opposite a b) → OppositeParts a b
+opposite-parts a b h =
+    let p = and_parts (not (sign_eq a.sign b.sign) && a.symbol == b.symbol) (grounds_eq a.args b.args) h in
+    let q = and_parts (not (sign_eq a.sign b.sign)) (a.symbol == b.symbol) p.0 in
+    record { signs = q.0; symbols = eqb-true a.symbol b.symbol q.1; args = (grounds_eq-tells a.args b.args).0 p.1 }
+
+pub opposite-from : (a b : GroundLiteral) → OppositeParts a b → IsTrue (are_opposite a b)
+opposite-from a b h =
+    and_from (not (sign_eq a.sign b.sign) && a.symbol == b.symbol) (grounds_eq a.args b.args)
+    (and_from (not (sign_eq a.sign b.sign)) (a.symbol == b.symbol) h.signs (eq-eqb a.symbol b.symbol h.symbols))
+    ((grounds_eq-tells a.args b.args).1 h.args)
+
+pub opposite-some : (a : GroundLiteral) (o : Option GroundLiteral) (b : GroundLiteral) → o ≡ Some b → IsTrue (is_opposite a o) → IsTrue (are_opposite a b)
+opposite-some a o b e h = rw e at h
+
+pub some-opposite : (a : GroundLiteral) (o : Option GroundLiteral) (b : GroundLiteral) → o ≡ Some b → IsTrue (are_opposite a b) → IsTrue (is_opposite a o)
+some-opposite a o b e h = rw e h
+
+pub literal-there : {A B : Type 0} (f : A → B) (xs : List A) (k : ℕ) (x : A) → slice_get xs k ≡ Some x → slice_get (map f xs) k ≡ Some (f x)
+literal-there f xs k x e = slice_get-map f xs k ∙ ap (option_map f) e
+
+-- ---- extension
+
+-- copy and unify
+pub extended-by_copy : (old mid new : Store) (sides : List Side) (t : Template) (i : CellClause) (goal b : CellAtom) (place : ℕ) → IsFreshClause old mid sides t i → slice_get i.literals place ≡ Some b → IsTrue (not (sign_eq goal.sign b.sign)) → goal.symbol ≡ b.symbol → AreUnified mid new goal.args b.args → IsTrue (atom_is_below (length old.cells) goal) → IsExtended old new sides t i goal place
+extended-by_copy old mid new sides t i goal b place k at signs symbols u below = record {
+  selection = k.selection;
+  longer = let e = u.size in let l = k.longer in omega (arith, e, l);
+  names = subst (λ n. IsTrue (clause_is_below n i)) (sym u.size) k.names;
+  back = λ σ s.
+      let v = u.back σ s in
+      let w = k.back σ v.0 in
+      (w.0, w.1, w.2, some-opposite (literal_by σ goal) (slice_get (map (literal_by σ) i.literals) place) (literal_by σ b) (literal-there (literal_by σ) i.literals place b at) (opposite-from (literal_by σ goal) (literal_by σ b) (record { signs = signs; symbols = symbols; args = v.1 })));
+  forth = λ σ s vs sorts opp.
+      let (τ, st, agree, v) = k.forth σ s vs sorts in
+      let w = k.back τ st in
+      let same = w.2 ∙ ap (λ us. literals_by us t) v in
+      let opp_b = opposite-some (literal_by σ goal) (slice_get (literals_by vs t) place) (literal_by τ b) (sym (ap (λ xs. slice_get xs place) same) ∙ literal-there (literal_by τ) i.literals place b at) opp in
+      let opp_τ = subst (λ x. IsTrue (are_opposite x (literal_by τ b))) (literal-agree (length old.cells) σ τ agree goal below) opp_b in
+      (τ, u.forth τ st (opposite-parts (literal_by τ goal) (literal_by τ b) opp_τ).args, agree, v);
+}
+
+-- copy the head, unify, and copy the rest
+pub extended-by_stages : (old mid met new : Store) (sides : List Side) (t : Template) (i : CellClause) (goal : CellAtom) (p : PatternAtom) (b : CellAtom) (place : ℕ) → IsHeadCopy old mid t i.values p b → slice_get t.literals place ≡ Some p → IsTrue (not (sign_eq goal.sign p.sign)) → goal.symbol ≡ p.symbol → AreUnified mid met goal.args b.args → IsRestCopy met new sides t i → IsTrue (atom_is_below (length old.cells) goal) → IsExtended old new sides t i goal place
+extended-by_stages old mid met new sides t i goal p b place k at signs symbols u r below = record {
+  selection = r.selection;
+  longer = let e = u.size in let l = k.longer in let m = r.longer in omega (arith, e, l, m);
+  names = r.names;
+  back = λ σ s.
+      let x = r.back σ s in
+      let v = u.back σ x.0 in
+      let w = k.back σ v.0 in
+      let there : slice_get (map (literal_by σ) i.literals) place ≡ Some (pattern_literal (values_by σ i.values) p) = ap (λ xs. slice_get xs place) x.1 ∙ literal-there (pattern_literal (values_by σ i.values)) t.literals place p at in
+      (w.0, w.1, x.1, some-opposite (literal_by σ goal) (slice_get (map (literal_by σ) i.literals) place) (pattern_literal (values_by σ i.values) p) there (opposite-from (literal_by σ goal) (pattern_literal (values_by σ i.values) p) (record { signs = signs; symbols = symbols; args = v.1 ∙ ap (λ (y : GroundLiteral). y.args) w.2 })));
+  forth = λ σ s vs sorts opp.
+      let (τ, st, agree, v) = k.forth σ s vs sorts in
+      let w = k.back τ st in
+      let same : literal_by τ b ≡ pattern_literal vs p = w.2 ∙ ap (λ us. pattern_literal us p) v in
+      let opp_p = opposite-some (literal_by σ goal) (slice_get (literals_by vs t) place) (pattern_literal vs p) (literal-there (pattern_literal vs) t.literals place p at) opp in
+      let args = (opposite-parts (literal_by σ goal) (pattern_literal vs p) opp_p).args in
+      let args_τ : terms_by τ goal.args ≡ terms_by τ b.args = sym (ap (λ (y : GroundLiteral). y.args) (literal-agree (length old.cells) σ τ agree goal below)) ∙ args ∙ sym (ap (λ (y : GroundLiteral). y.args) same) in
+      let (ρ, sr, further) = r.forth τ (u.forth τ st args_τ) in
+      let kept : values_by ρ i.values ≡ vs = sym (values-agree (length met.cells) τ ρ further i.values (names-more (length mid.cells) (length met.cells) (let e = u.size in omega (arith, e)) i.values k.variables_below)) ∙ v in
+      (ρ, sr, (λ c l. agree c l ∙ further c (let e = u.size in let m = k.longer in let q : c < length old.cells = ltb-true c (length old.cells) l in lt-ltb c (length met.cells) (omega (arith, e, m, q)))), kept);
+}
+
+-- the head does not unify
+pub cannot-extend-by_clash : (old mid : Store) (t : Template) (variables : List ℕ) (goal : CellAtom) (p : PatternAtom) (b : CellAtom) (place : ℕ) → IsHeadCopy old mid t variables p b → slice_get t.literals place ≡ Some p → Clash mid goal.args b.args → IsTrue (atom_is_below (length old.cells) goal) → CannotExtend old t goal place
+cannot-extend-by_clash old mid t variables goal p b place k at clash below σ s vs sorts opp =
+    let (τ, st, agree, v) = k.forth σ s vs sorts in
+    let w = k.back τ st in
+    let same : literal_by τ b ≡ pattern_literal vs p = w.2 ∙ ap (λ us. pattern_literal us p) v in
+    let opp_p = opposite-some (literal_by σ goal) (slice_get (literals_by vs t) place) (pattern_literal vs p) (literal-there (pattern_literal vs) t.literals place p at) opp in
+    let args = (opposite-parts (literal_by σ goal) (pattern_literal vs p) opp_p).args in
+    clash τ st (sym (ap (λ (y : GroundLiteral). y.args) (literal-agree (length old.cells) σ τ agree goal below)) ∙ args ∙ sym (ap (λ (y : GroundLiteral). y.args) same))
+
+-- the head has the same sign or another symbol
+pub cannot-extend-by_sign : (s : Store) (t : Template) (goal : CellAtom) (p : PatternAtom) (place : ℕ) → slice_get t.literals place ≡ Some p → IsTrue (sign_eq goal.sign p.sign) → CannotExtend s t goal place
+cannot-extend-by_sign s t goal p place at same σ h vs sorts opp =
+    let opp_p = opposite-some (literal_by σ goal) (slice_get (literals_by vs t) place) (pattern_literal vs p) (literal-there (pattern_literal vs) t.literals place p at) opp in
+    false≢true (sym (ap not same) ∙ (opposite-parts (literal_by σ goal) (pattern_literal vs p) opp_p).signs)
+
+pub cannot-extend-by_symbol : (s : Store) (t : Template) (goal : CellAtom) (p : PatternAtom) (place : ℕ) → slice_get t.literals place ≡ Some p → ¬ (goal.symbol ≡ p.symbol) → CannotExtend s t goal place
+cannot-extend-by_symbol s t goal p place at differs σ h vs sorts opp =
+    let opp_p = opposite-some (literal_by σ goal) (slice_get (literals_by vs t) place) (pattern_literal vs p) (literal-there (pattern_literal vs) t.literals place p at) opp in
+    differs (opposite-parts (literal_by σ goal) (pattern_literal vs p) opp_p).symbols
+
+-- there is no literal at the place
+pub cannot-extend-by_place : (s : Store) (t : Template) (goal : CellAtom) (place : ℕ) → slice_get t.literals place ≡ None → CannotExtend s t goal place
+cannot-extend-by_place s t goal place at σ h vs sorts opp =
+    let none : slice_get (literals_by vs t) place ≡ None = slice_get-map (pattern_literal vs) t.literals place ∙ ap (option_map (pattern_literal vs)) at in
+    false≢true (rw none at opp)
+
+-- ---- reduction
+
+pub ancestor-there : (f : CellAtom → GroundLiteral) (path : List CellAtom) (up : ℕ) (a : CellAtom) → slice_get path up ≡ Some a → ancestor (map f path) (suc up) ≡ Some (f a)
+ancestor-there f path up a e = literal-there f path up a e
+
+-- the ancestor of the number k + 1 is unified with the goal
+pub reduced-by_unifying : (old new : Store) (g : CellGoal) (a : CellAtom) (k : ℕ) → slice_get g.path k ≡ Some a → IsTrue (not (sign_eq g.literal.sign a.sign)) → g.literal.symbol ≡ a.symbol → AreUnified old new g.literal.args a.args → IsReduced old new g (suc k)
+reduced-by_unifying old new g a k at signs symbols u = record {
+  size = u.size;
+  back = λ σ s. let v = u.back σ s in (v.0, some-opposite (literal_by σ g.literal) (ancestor (map (literal_by σ) g.path) (suc k)) (literal_by σ a) (ancestor-there (literal_by σ) g.path k a at) (opposite-from (literal_by σ g.literal) (literal_by σ a) (record { signs = signs; symbols = symbols; args = v.1 })));
+  forth = λ σ s opp. u.forth σ s (opposite-parts (literal_by σ g.literal) (literal_by σ a) (opposite-some (literal_by σ g.literal) (ancestor (map (literal_by σ) g.path) (suc k)) (literal_by σ a) (ancestor-there (literal_by σ) g.path k a at) opp)).args;
+}
+
+pub cannot-reduce-by_clash : (s : Store) (g : CellGoal) (a : CellAtom) (k : ℕ) → slice_get g.path k ≡ Some a → Clash s g.literal.args a.args → CannotReduce s g (suc k)
+cannot-reduce-by_clash s g a k at clash σ h opp = clash σ h (opposite-parts (literal_by σ g.literal) (literal_by σ a) (opposite-some (literal_by σ g.literal) (ancestor (map (literal_by σ) g.path) (suc k)) (literal_by σ a) (ancestor-there (literal_by σ) g.path k a at) opp)).args
+
+pub cannot-reduce-by_sign : (s : Store) (g : CellGoal) (a : CellAtom) (k : ℕ) → slice_get g.path k ≡ Some a → IsTrue (sign_eq g.literal.sign a.sign) → CannotReduce s g (suc k)
+cannot-reduce-by_sign s g a k at same σ h opp = false≢true (sym (ap not same) ∙ (opposite-parts (literal_by σ g.literal) (literal_by σ a) (opposite-some (literal_by σ g.literal) (ancestor (map (literal_by σ) g.path) (suc k)) (literal_by σ a) (ancestor-there (literal_by σ) g.path k a at) opp)).signs)
+
+pub cannot-reduce-by_symbol : (s : Store) (g : CellGoal) (a : CellAtom) (k : ℕ) → slice_get g.path k ≡ Some a → ¬ (g.literal.symbol ≡ a.symbol) → CannotReduce s g (suc k)
+cannot-reduce-by_symbol s g a k at differs σ h opp = differs (opposite-parts (literal_by σ g.literal) (literal_by σ a) (opposite-some (literal_by σ g.literal) (ancestor (map (literal_by σ) g.path) (suc k)) (literal_by σ a) (ancestor-there (literal_by σ) g.path k a at) opp)).symbols
+
+-- there is no ancestor of this number
+pub cannot-reduce-by_number : (s : Store) (g : CellGoal) (k : ℕ) → slice_get g.path k ≡ None → CannotReduce s g (suc k)
+cannot-reduce-by_number s g k at σ h opp =
+    let none : ancestor (map (literal_by σ) g.path) (suc k) ≡ None = slice_get-map (literal_by σ) g.path k ∙ ap (option_map (literal_by σ)) at in
+    false≢true (rw none at opp)
+
+pub cannot-reduce-by_zero : (s : Store) (g : CellGoal) → CannotReduce s g zero
+cannot-reduce-by_zero s g σ h opp = false≢true opp

@@ -1,0 +1,70 @@
+-- Where what is bound occurs in two cells, and so does what it is bound to, sets of cells that have both cells stay closed.
+use Rattle.std.proofs.Common.{◌≡◌, ◌≤◌, ℕ, zero, suc, List, [], ◌∷◌, length, refl, sym, ◌∙◌, ap, subst, Option, None, Some, IsTrue, inl, inr, arith, ◌⊎◌, nat_le, true, ◌&&◌, le-leb, leb-true}
+use Rattle.std.specs.Prelude.{slice_get}
+use Rattle.std.specs.List.{list_all}
+use Rattle.std.proofs.lemmas.Bool.{and_from}
+use Rattle.calculus.specs.declared.sort.Sort.{Sort}
+use Rattle.calculus.specs.declared.sort.Sort.TheVariants.{StringSort}
+use Rattle.calculus.specs.Stores.{Cell, variable, Store, parts_of, OccursIn, here, in_part}
+use Rattle.calculus.specs.Bindings.{BindsOnly, BindsWithin, NamesFrom}
+use Rattle.calculus.proofs.PlaceLists.{get-within, get-there, all-at}
+use Rattle.search_theory.specs.Solving.{IsClosedSet}
+use Rattle.search_theory.proofs.SolvingLaws.{occurs-in-set}
+
+-- a cell of the new store was there before, or is a variable that was bound
+pub data BoundCell (old : Store) (n : ℕ) (c : Cell) : Type 0 where
+  stayed : slice_get old.cells n ≡ Some c → BoundCell old n c
+  was_bound : (sort : Sort) (r : ℕ) → slice_get old.cells n ≡ Some (variable sort None) → c ≡ variable sort (Some r) → BoundCell old n c
+
+some-same : {A : Type 0} (o : Option A) (x y : A) → o ≡ Some x → o ≡ Some y → x ≡ y
+some-same o x y e f = let q : Some x ≡ Some y = sym e ∙ f in cc q
+
+bound-cell : (old new : Store) (n : ℕ) (c : Cell) → BindsOnly old new → slice_get new.cells n ≡ Some c → BoundCell old n c
+bound-cell old new n c b e =
+    let (d, f) = get-there old.cells n (let l = get-within new.cells n c e in let s = b.same_length in omega (arith, l, s)) in
+    elim (b.cells n d f) [
+      | inl g ↦ stayed (f ∙ ap Some (some-same (slice_get new.cells n) d c g e))
+      | inr (sort, r, q, g) ↦ was_bound sort r (f ∙ ap Some q) (sym (some-same (slice_get new.cells n) (variable sort (Some r)) c g e))
+    ]
+
+-- what occurs in a cell from `base` on is from `base` on
+occurs-from : (base : ℕ) (s : Store) → NamesFrom base s → (v r : ℕ) → OccursIn s v r → base ≤ r → base ≤ v
+occurs-from base s h v r here l = l
+occurs-from base s h v r (in_part i {k = k} {c = c} e p more) l = occurs-from base s h v k more (leb-true base k (all-at (nat_le base) (parts_of c) i k (h r c l e) p))
+
+either : (P : Type 0) (A B : Type 0) → A ⊎ B → (A → P) → (B → P) → P
+either P A B (inl x) f g = f x
+either P A B (inr x) f g = g x
+
+-- cells from `base` on still name cells from there on
+pub names-within : (base a b : ℕ) (old new : Store) → BindsOnly old new → BindsWithin a b old new → NamesFrom base old → base ≤ a → base ≤ b → NamesFrom base new
+names-within base a b old new binds within h low_a low_b n c low e = by (bound-cell old new n c binds e)
+  where
+    by : BoundCell old n c → IsTrue (list_all (nat_le base) (parts_of c))
+    by (stayed f) = h n c low f
+    by (was_bound sort r f q) =
+        let at : slice_get new.cells n ≡ Some (variable sort (Some r)) = e ∙ ap Some q in
+        let l : base ≤ r = either (base ≤ r) (OccursIn old r a) (OccursIn old r b) (within.target n r sort f at) (λ o. occurs-from base old h r a o low_a) (λ o. occurs-from base old h r b o low_b) in
+        subst (λ d. IsTrue (list_all (nat_le base) (parts_of d))) (sym q) (and_from (nat_le base r) true (le-leb base r l) refl)
+
+-- a closed set stays closed
+pub closed-within : (In : ℕ → Type 0) (a b : ℕ) (old new : Store) → BindsOnly old new → BindsWithin a b old new → IsClosedSet In old → In a → In b → IsClosedSet In new
+closed-within In a b old new binds within h in_a in_b = record {
+  no_open_string = λ v i e. opened v i (bound-cell old new v (variable StringSort None) binds e);
+  names = λ r k j c i e p. named r k j c i e p (bound-cell old new r c binds e);
+}
+  where
+    opened : (v : ℕ) → In v → BoundCell old v (variable StringSort None) → ⊥
+    opened v i (stayed f) = h.no_open_string v i f
+    opened v i (was_bound sort r f q) = cc q
+
+    named : (r k j : ℕ) (c : Cell) → In r → slice_get new.cells r ≡ Some c → slice_get (parts_of c) j ≡ Some k → BoundCell old r c → In k
+    named r k j c i e p (stayed f) = h.names r k j c i f p
+    named r k j c i e p (was_bound sort x f q) = one j (ap (λ d. slice_get (parts_of d) j) (sym q) ∙ p)
+      where
+        target : In x
+        target = either (In x) (OccursIn old x a) (OccursIn old x b) (within.target r x sort f (e ∙ ap Some q)) (λ o. occurs-in-set In old h x a o in_a) (λ o. occurs-in-set In old h x b o in_b)
+
+        one : (j : ℕ) → slice_get (x ∷ []) j ≡ Some k → In k
+        one zero z = let same : x ≡ k = cc z in subst In same target
+        one (suc n) z = cc z

@@ -1,0 +1,79 @@
+-- The explicit stack of a search: the choices of each goal in order, the choice points, and the lists that are pending on them.
+use Rattle.std.specs.Prelude.{◌≡◌, ℕ, suc, ◌≤◌, List, [], ◌∷◌, ◌++◌, length, Bool, ⊤, not, ◌&&◌, ◌==◌, Option, Some, None, slice_get, nat_lt, if◌then◌else◌}
+use Rattle.std.specs.List.{AllByRecursion}
+use Rattle.calculus.specs.declared.sign.Sign.{Sign}
+use Rattle.calculus.specs.declared.sign.Side.{Side}
+use Rattle.calculus.specs.Equality.{sign_eq}
+use Rattle.calculus.specs.Kinds.{other}
+use Rattle.calculus.specs.Choices.{Choice, reduction, extension}
+use Rattle.calculus.specs.Syntax.{Problem}
+use Rattle.calculus.specs.Stores.{Store, TrailMark, cut_at, IsGood}
+use Rattle.calculus.specs.Systems.{CellAtom}
+use Rattle.calculus.specs.Patterns.{PatternAtom}
+use Rattle.calculus.specs.Bindings.{IsEarlier}
+use Rattle.search_theory.specs.Matrix.{MatrixClause, MatrixPlace, is_about}
+use Rattle.search_theory.specs.States.{CellGoal, State, IsStateOf}
+use Rattle.search_theory.specs.Exploring.{behind}
+
+-- the same symbol with the other sign
+abbrev pub meets : CellAtom → CellAtom → Bool
+meets g a = not (sign_eq g.sign a.sign) && g.symbol == a.symbol
+
+-- the reductions by these ancestors, the first of which has the number k
+abbrev pub reductions_from : ℕ → CellAtom → List CellAtom → List Choice
+reductions_from k g [] = []
+reductions_from k g (a ∷ path) = (if meets g a then reduction k ∷ [] else []) ++ reductions_from (suc k) g path
+
+-- the extensions by the literals of one clause with this symbol and sign, the first literal having the place j
+abbrev pub extensions_among : ℕ → Sign → List Side → ℕ → List PatternAtom → List Choice
+extensions_among symbol sign sides j [] = []
+extensions_among symbol sign sides j (a ∷ xs) = (if is_about symbol sign a then extension sides j ∷ [] else []) ++ extensions_among symbol sign sides (suc j) xs
+
+-- those by all clauses
+abbrev pub extensions : ℕ → Sign → List MatrixClause → List Choice
+extensions symbol sign [] = []
+extensions symbol sign (c ∷ cs) = extensions_among symbol sign c.selection 0 c.template.literals ++ extensions symbol sign cs
+
+abbrev pub selection_of : Option MatrixClause → List Side
+selection_of None = []
+selection_of (Some c) = c.selection
+
+-- the extension by a literal of the matrix
+abbrev pub extension_at : List MatrixClause → MatrixPlace → Choice
+extension_at m p = extension (selection_of (slice_get m p.clause)) p.literal
+
+-- the choices of a goal within the limit d, in their order
+abbrev pub choices_at : List MatrixClause → ℕ → CellGoal → List Choice
+choices_at m d g = reductions_from 1 g.literal g.path ++ (if nat_lt (length g.path) d then extensions g.literal.symbol (other g.literal.sign) m else [])
+
+-- a choice point: a list with an open goal, and the choices of the goal that were not tried yet
+pub record ChoicePoint : Type 0 where
+  pub choices : List Choice
+  pub untried : List Choice
+
+-- what is pending on a stack, the top first
+abbrev pub pending_on : List ChoicePoint → List (List Choice)
+pending_on [] = []
+pending_on (p ∷ ps) = behind p.choices p.untried ++ pending_on ps
+
+-- ---- what a stack keeps while one store goes on
+
+-- a choice point with the state in which it was made, and the mark of the store at that time
+pub record SavedPoint : Type 0 where
+  pub point : ChoicePoint
+  pub state : State
+  pub mark : TrailMark
+
+-- cutting the store back to the mark gives the state's store
+pub record IsSaved (P : Problem) (d : ℕ) (store : Store) (saved : SavedPoint) : Type 0 where
+  pub good : IsGood saved.mark store
+  pub cut : cut_at saved.mark store ≡ saved.state.store
+  pub state : IsStateOf P d saved.point.choices saved.state
+
+abbrev pub AreSaved : Problem → ℕ → Store → List SavedPoint → Type 0
+AreSaved P d store ps = AllByRecursion (IsSaved P d store) ps
+
+-- the marks rise from the bottom of the stack to its top
+abbrev pub MarksRise : List SavedPoint → Type 0
+MarksRise [] = ⊤
+MarksRise (p ∷ ps) = AllByRecursion (λ (q : SavedPoint). IsEarlier q.mark p.mark) ps × MarksRise ps

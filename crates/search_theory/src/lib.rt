@@ -1,0 +1,2 @@
+//! The theory of the connection search: definitions and laws, without code.
+#![tactic(auto)]
