@@ -1,1 +1,12 @@
 pub mod Comparing
+pub mod Places
+pub mod Environments
+pub mod WayLaws
+pub mod HomeLaws
+pub mod WalkLaws
+pub mod PathLaws
+pub mod CountLaws
+pub mod AllowanceLaws
+pub mod ReferenceLaws
+pub mod FittingLaws
+pub mod StringLaws

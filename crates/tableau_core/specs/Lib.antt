@@ -8,3 +8,12 @@ pub mod ChoiceView
 pub mod ClosingCodes
 pub mod ClosingSizes
 pub mod ClosingFalls
+pub mod ValuesAt
+pub mod SpotView
+pub mod SpotEq
+pub mod Fitting
+pub mod InsideView
+pub mod Reaching
+pub mod Walks
+pub mod PathView
+pub mod Counted

@@ -1,12 +1,22 @@
 //! Ground connection tableaux: clause instances, closings, choice lists and their order.
 #![tactic(auto)]
 
+mod admission;
+mod allowance;
+mod atom;
 mod choice;
 mod closing;
+mod count;
+mod home;
 mod instance;
 mod literal;
+mod pattern;
+mod references;
 mod selection;
+mod spot;
 mod tableau;
+mod walk;
+mod way;
 
 pub use calculus::sign::Side;
 pub use choice::{Choice, compare};

@@ -1,0 +1,12 @@
+use Rattle.std.proofs.Common.{rules, map, length, ap, sym, ◌∙◌}
+use Rattle.std.proofs.lemmas.List.{length-map}
+use Rattle.formula_core.specs.GroundView.{the_mark, the_value}
+use Rattle.tableau_core.proofs.StringLaws.{string-past, string-stays}
+use Rattle.tableau_core.proofs.way.past_string.Goals as goal
+
+pub returns-then-is_step_of : goal.returns-then-is_step_of
+returns-then-is_step_of c = let h = c.in-Some-Steps-default in
+    string-past c.args.logic (map the_value c.args.values.now) (map the_value h.rest.now) _ _ (search rules) (sym (length-map c.items.result.now the_mark) ∙ ap length c.items.ensures) (sym c.is_step_of.ensures ∙ c.if-is_step_of.true)
+
+pub returns-else-is_step_of : goal.returns-else-is_step_of
+returns-else-is_step_of c = let h = c.in-Some-Steps-default in string-stays c.args.logic (map the_value c.args.values.now) (map the_value h.rest.now) _ _ (search rules) (sym (length-map c.items.result.now the_mark) ∙ ap length c.items.ensures) (sym c.is_step_of.ensures ∙ c.if-is_step_of.false)

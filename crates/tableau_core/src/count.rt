@@ -1,0 +1,73 @@
+//! What is counted of instances.
+
+ghost use Rattle.std.specs.Prelude.{◌≡◌, map, max};
+ghost use Rattle.calculus.specs.Tableaux.{has_unbounded_strings};
+ghost use Rattle.formula_core.specs.GroundView.{the_value};
+ghost use Rattle.tableau_core.specs.Counted.{and_more, is_short_count, longest_string, string_length};
+
+use formula_core::Value;
+use logic_rules::Logic;
+
+/// The number of nu and pi steps of instances, or the largest number where there are more, and the
+/// length of their longest string.
+#[derive(Clone, Copy)]
+pub struct Count {
+    pub steps: u64,
+    pub longest: u64,
+}
+
+fn larger(a: u64, b: u64) -> u64
+    ensures { result ≡ max a b }
+{
+    if a < b { b } else { a }
+}
+
+fn string_length(value: &Value) -> u64
+    ensures { result ≡ string_length (the_value value.now) }
+{
+    match value {
+        Value::Term(_) => 0,
+        Value::Steps(string) => string.items().len() as u64,
+    }
+}
+
+/// The length of the longest string among the values.
+pub fn longest_string(values: &[Value]) -> u64
+    ensures { result ≡ longest_string (map the_value values.now) }
+{
+    let mut longest = 0;
+    for value in values {
+        longest = larger(longest, string_length(value));
+    }
+    longest
+}
+
+/// The count with so many steps more, and a string of this length.
+pub fn and_more(so_far: Count, steps: u64, longest: u64) -> Count
+    ensures { result ≡ and_more so_far steps longest }
+{
+    Count {
+        steps: so_far.steps.saturating_add(steps),
+        longest: larger(so_far.longest, longest),
+    }
+}
+
+fn has_unbounded_strings(logic: Logic) -> bool
+    ensures { result ≡ has_unbounded_strings logic }
+{
+    match logic {
+        Logic::Intuitionistic | Logic::S4 => true,
+        Logic::Classical | Logic::D | Logic::T | Logic::S5 => false,
+    }
+}
+
+/// Whether no string is longer than the number of steps, where the logic asks for it.
+pub fn is_short(logic: Logic, count: Count) -> bool
+    ensures { result ≡ is_short_count logic count }
+{
+    if has_unbounded_strings(logic) {
+        count.longest <= count.steps
+    } else {
+        true
+    }
+}

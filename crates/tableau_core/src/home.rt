@@ -1,0 +1,198 @@
+//! The homes of eigenvariables: the labels at their positions by the values in their names.
+
+ghost use Rattle.std.specs.Prelude.{◌≡◌, ℕ, ◌<◌, ◌≤◌, ◌+◌, ◌^◌, List, [], map, drop, length, IfOk, IfSome};
+ghost use Rattle.std.specs.Option.{option_map, option_map_or};
+ghost use Rattle.calculus.specs.Ground as tree;
+ghost use Rattle.calculus.specs.Kinds.{shape_of};
+ghost use Rattle.calculus.specs.Labels.{nu_label};
+ghost use Rattle.calculus.specs.Positions.{size, way_from};
+ghost use Rattle.calculus.specs.Skolem.{after_shape, label_along, label_of, take_string, take_term};
+ghost use Rattle.calculus.specs.declared.setting.Logic.{Logic as TheLogic};
+ghost use Rattle.formula_core.specs.FormulaView.{the_formula};
+ghost use Rattle.tableau_core.specs.Reaching.{reach, rest_of};
+ghost use Rattle.tableau_core.specs.SpotView.{the_mark_at};
+ghost use Rattle.tableau_core.specs.ValuesAt.{values_at};
+
+use crate::references::{copy_label, with_mark, with_string};
+use crate::spot::{MarkAt, Taken};
+use crate::way::{size, towards};
+use cop_base::{NoMemory, PosId};
+use formula_core::{Formula, GroundLabel, Sign, Value};
+use logic_rules::{Logic, ModalPart, Problem, Shape, kind_of};
+use std::alloc::Global;
+
+// The string at a place of the values.
+fn string_at<'a>(values: &[&'a Value], place: usize) -> Option<&'a GroundLabel>
+    ensures found { (l : TheLogic) (w : List tree.GroundMark) →
+        option_map (λ s. reach (nu_label l w s.now) (values_at values.now) (place + 1)) result
+        ≡ take_string l (reach w (values_at values.now) place) (drop place (values_at values.now)) }
+    ensures within { IfSome result (λ s. place < length values.now) }
+{
+    if place >= values.len() {
+        return None;
+    }
+    let value = values[place];
+    match value {
+        Value::Steps(string) => Some(string),
+        Value::Term(_) => None,
+    }
+}
+
+// How many values are taken once a term is, where one stands at the place.
+fn past_term(values: &[&Value], place: usize) -> Option<usize>
+    ensures found { (w : List tree.GroundMark) → option_map (reach w (values_at values.now)) result
+        ≡ take_term (reach w (values_at values.now) place) (drop place (values_at values.now)) }
+    ensures within { IfSome result (λ next. next ≤ length values.now) }
+{
+    if place >= values.len() {
+        return None;
+    }
+    let value = values[place];
+    match value {
+        Value::Term(_) => Some(place + 1),
+        Value::Steps(_) => None,
+    }
+}
+
+// How many values are taken past the shape's part.
+fn past_shape(shape: Shape, values: &[&Value], place: usize) -> Option<usize>
+    requires { place ≤ length values.now }
+    ensures found { (w : List tree.GroundMark) → option_map (reach w (values_at values.now)) result
+        ≡ after_shape shape (reach w (values_at values.now) place) }
+    ensures within { IfSome result (λ next. next ≤ length values.now) }
+{
+    match shape {
+        Shape::Gamma => past_term(values, place),
+        Shape::Alpha | Shape::Beta | Shape::Delta | Shape::Literal => Some(place),
+    }
+}
+
+// The label at a place below a signed formula, which stands at `position`; `taken` of the values are
+// those of the positions before it.
+#[cycle(home)]
+fn home_below<'a>(
+    alloc: Global,
+    logic: Logic,
+    sign: Sign,
+    f: &Formula,
+    place: u32,
+    position: u32,
+    values: &'a [&'a Value],
+    taken: usize,
+    label: &[MarkAt<'a>],
+) -> Result<Vec<MarkAt<'a>>, NoMemory>
+    requires small { position + size (the_formula f.now) < 2 ^ 32 }
+    requires inside { place < size (the_formula f.now) }
+    requires taken { taken ≤ length values.now }
+    ensures { IfOk result (λ w. map the_mark_at w.items
+        ≡ label_along logic (way_from position sign (the_formula f.now) place)
+        (reach (map the_mark_at label.now) (values_at values.now) taken)) }
+{
+    match kind_of(logic, sign, f).modal {
+        ModalPart::Plain => {
+            let w = home_shape(
+                alloc, logic, sign, f, place, position, values, taken, label, label,
+            )?;
+            Ok(w)
+        }
+        ModalPart::Nu => match string_at(values, taken) {
+            None => {
+                let w = copy_label(alloc, label)?;
+                Ok(w)
+            }
+            Some(string) => {
+                let moved = with_string(alloc, logic, label, string.items())?;
+                let w = home_shape(
+                    alloc,
+                    logic,
+                    sign,
+                    f,
+                    place,
+                    position,
+                    values,
+                    taken + 1,
+                    &moved,
+                    label,
+                )?;
+                Ok(w)
+            }
+        },
+        ModalPart::Pi => {
+            let before = Taken {
+                values: &values[..taken],
+            };
+            let mark = MarkAt::Made(PosId(position), before);
+            let moved = with_mark(alloc, logic, label, mark)?;
+            let w = home_shape(
+                alloc, logic, sign, f, place, position, values, taken, &moved, label,
+            )?;
+            Ok(w)
+        }
+    }
+}
+
+// The same once the modal part has led from the label `before` to this one.
+#[cycle(home)]
+fn home_shape<'a>(
+    alloc: Global,
+    logic: Logic,
+    sign: Sign,
+    f: &Formula,
+    place: u32,
+    position: u32,
+    values: &'a [&'a Value],
+    taken: usize,
+    label: &[MarkAt<'a>],
+    before: &[MarkAt<'a>],
+) -> Result<Vec<MarkAt<'a>>, NoMemory>
+    requires small { position + size (the_formula f.now) < 2 ^ 32 }
+    requires inside { place < size (the_formula f.now) }
+    requires taken { taken ≤ length values.now }
+    ensures { IfOk result (λ w. map the_mark_at w.items
+        ≡ option_map_or (label_along logic (rest_of (way_from position sign (the_formula f.now) place)))
+        (after_shape (shape_of sign (the_formula f.now))
+        (reach (map the_mark_at label.now) (values_at values.now) taken))
+        (map the_mark_at before.now)) }
+{
+    let shape = f.components(sign).shape();
+    let Some(past) = past_shape(shape, values, taken) else {
+        let w = copy_label(alloc, before)?;
+        return Ok(w);
+    };
+    if place == 0 {
+        let w = copy_label(alloc, label)?;
+        return Ok(w);
+    }
+    let next = towards(sign, f, place);
+    let w = home_below(
+        alloc,
+        logic,
+        next.sign,
+        next.formula,
+        next.place,
+        position + next.further,
+        values,
+        past,
+        label,
+    )?;
+    Ok(w)
+}
+
+/// The home of the eigenvariable of this position and these values.
+pub fn home<'a>(
+    alloc: Global,
+    problem: &Problem,
+    p: PosId,
+    values: &'a [&'a Value],
+) -> Result<Vec<MarkAt<'a>>, NoMemory>
+    ensures { IfOk result (λ w. map the_mark_at w.items ≡ label_of problem.now p.0 (values_at values.now)) }
+{
+    let f = problem.formula();
+    let root = Vec::new(alloc);
+    if p.0 >= size(f) {
+        return Ok(root);
+    }
+    let logic = problem.setting().logic();
+    let w = home_below(alloc, logic, Sign::F, f, p.0, 0, values, 0, &root)?;
+    Ok(w)
+}
