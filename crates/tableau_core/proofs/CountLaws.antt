@@ -1,7 +1,7 @@
 -- Closed goals, with what is counted of their instances.
-use Rattle.std.specs.Prelude.{◌≡◌, ℕ, zero, suc, ◌+◌, ◌<◌, max, List, [], ◌∷◌, ◌++◌, length, Bool, true, false, ◌&&◌, Option, Some, None, nat_lt, nat_le, slice_get, remove, if◌then◌else◌, map, take, drop}
-use Rattle.std.specs.List.{list_all}
+use Rattle.std.specs.Prelude.{◌≡◌, ℕ, zero, suc, ◌+◌, ◌<◌, ◌≤◌, max, List, [], ◌∷◌, ◌++◌, length, Bool, true, false, ◌&&◌, Option, Some, None, nat_lt, slice_get, remove, if◌then◌else◌, map, take, drop}
 use Rattle.std.proofs.Common.{refl, ap, sym, ◌∙◌, arith, get_or}
+use Rattle.std.proofs.lemmas.List.{length-map}
 use Rattle.std.proofs.lemmas.List.Sums.{sum_by-cons, sum_by-append}
 use Rattle.calculus.specs.ComputedInstances.{is_allowed_instance, modal_steps}
 use Rattle.calculus.specs.Ground.{GroundLiteral, Value}
@@ -44,7 +44,24 @@ removed f [] (suc k) = refl
 removed f (x ∷ xs) zero = refl
 removed f (x ∷ xs) (suc k) = ap (λ ys. f x ∷ ys) (removed f xs k)
 
-pub ruleset removing = (removed)
+drop-all : {X : Type 0} (xs : List X) (n : ℕ) → length xs ≤ n → drop n xs ≡ []
+drop-all [] zero h = refl
+drop-all [] (suc n) h = refl
+drop-all (x ∷ xs) zero h = absurd (omega arith)
+drop-all (x ∷ xs) (suc n) h = drop-all xs n (omega arith)
+
+take-more : {X : Type 0} (xs : List X) (n : ℕ) → length xs ≤ n → take n xs ≡ xs
+take-more [] zero h = refl
+take-more [] (suc n) h = refl
+take-more (x ∷ xs) zero h = absurd (omega arith)
+take-more (x ∷ xs) (suc n) h = ap (λ ys. x ∷ ys) (take-more xs n (omega arith))
+
+-- what stands before the item, then what stands after it
+pub two-parts : {X : Type 0} (f : X → GroundLiteral) (xs : List X) (k n m j : ℕ) (gs : List GroundLiteral) → j ≡ suc k → length (drop (suc k) xs) ≤ n → length (take n (drop j xs)) ≤ m → gs ≡ map f (take k xs) ++ map f (take m (take n (drop j xs))) → gs ≡ remove (map f xs) k
+two-parts f xs k n m j gs i h p e =
+    let whole : take n (drop (suc k) xs) ≡ drop (suc k) xs = take-more (drop (suc k) xs) n h in
+    let all : take m (take n (drop j xs)) ≡ drop (suc k) xs = take-more (take n (drop j xs)) m p ∙ ap (λ l. take n (drop l xs)) i ∙ whole in
+    e ∙ ap (λ ys. map f (take k xs) ++ map f ys) all ∙ removed f xs k
 
 -- a place where a complement stands is inside the list
 some-inside : (goal : GroundLiteral) (xs : List GroundLiteral) (k : ℕ) → is_complement goal (slice_get xs k) ≡ true → k < length xs
@@ -97,6 +114,10 @@ counted-both : (a b : Bool) (n m : Count) (k t w v : ℕ) → Some m ≡ counted
 counted-both true true n m k t w v e = let q = same-some m (and_more n k w) e in ap (λ x. Some x) (ap (λ x. and_more x t v) q ∙ twice n k t w v)
 counted-both true false n m k t w v e = refl
 counted-both false b n m k t w v e = cc
+
+counted-small : (b : Bool) (n m : Count) (k w : ℕ) → Some m ≡ counted b n k w → m.steps < no_more
+counted-small true n m k w e = let q : m.steps ≡ capped (n.steps + k) = ap (λ (x : Count). x.steps) (same-some m (and_more n k w) e) in omega arith
+counted-small false n m k w e = cc
 
 counted-not : (a b : Bool) (n : Count) (k t w v : ℕ) → None ≡ counted a n k w → None ≡ counted (a && b) n t v
 counted-not true b n k t w v e = cc
@@ -153,6 +174,11 @@ module _ (P : Problem) (d : ℕ) (path : List GroundLiteral) where
   unfolding closed_all
   all-none n h = counted-then n h
 
+  -- a count stays below 2^64
+  pub closed-small : (goal : GroundLiteral) (c : Closing) (n m : Count) → Some m ≡ closed_one P d path goal c n → m.steps < no_more
+  unfolding closed_one
+  closed-small goal c n m e = counted-small (closes P d path goal c) n m _ _ e
+
   and-false : (b c : Bool) → c ≡ false → (b && c) ≡ false
   and-false true c e = e
   and-false false c e = refl
@@ -167,6 +193,9 @@ module _ (P : Problem) (d : ℕ) (path : List GroundLiteral) where
   pub lengths-apart : (gs : List GroundLiteral) (cs : List Closing) (n : Count) → (length gs ≡ length cs → ⊥) → None ≡ closed_all P d path gs (closings_tree cs) n
   unfolding closed_all
   lengths-apart gs cs n h = counted-else (closes_all P d path gs (closings_tree cs)) n _ _ (closes-lengths gs cs h)
+
+  pub items-apart : {X Y : Type 0} (f : X → GroundLiteral) (g : Y → Closing) (xs : List X) (ys : List Y) (cs : List Closing) (n : Count) → (length xs ≡ length ys → ⊥) → map g ys ≡ cs → None ≡ closed_all P d path (map f xs) (closings_tree cs) n
+  items-apart f g xs ys cs n h e = lengths-apart (map f xs) cs n (λ q. h (sym (length-map xs f) ∙ q ∙ sym (ap length e) ∙ length-map ys g))
 
   -- the steps of a loop over goals and closings
   loop-step : {X Y : Type 0} (f : X → GroundLiteral) (g : Y → Closing) (xs : List X) (ys : List Y) (k : ℕ) (x a : X) (y b : Y) (n m : Count) → k < length xs → k < length ys → x ≡ get_or xs k a → y ≡ get_or ys k b → Some m ≡ closed_one P d path (f x) (g y) n → closed_all P d path (map f (drop (suc k) xs)) (closings_tree (map g (drop (suc k) ys))) m ≡ closed_all P d path (map f (drop k xs)) (closings_tree (map g (drop k ys))) n
@@ -184,13 +213,8 @@ module _ (P : Problem) (d : ℕ) (path : List GroundLiteral) where
   loop-stuck f g (u ∷ xs) (v ∷ ys) zero x a y b n h i p q e = all-stuck (f u) (map f xs) (g v) (closings_tree (map g ys)) n (e ∙ ap (λ z. closed_one P d path (f z) (g y) n) p ∙ ap (λ z. closed_one P d path (f u) (g z) n) q)
   loop-stuck f g (u ∷ xs) (v ∷ ys) (suc k) x a y b n h i p q e = loop-stuck f g xs ys k x a y b n (omega arith) (omega arith) p q e
 
-  pub loop-end : {X Y : Type 0} (f : X → GroundLiteral) (g : Y → Closing) (xs : List X) (ys : List Y) (k : ℕ) (n : Count) → length xs ≡ k → length ys ≡ k → n.steps < no_more → Some n ≡ closed_all P d path (map f (drop k xs)) (closings_tree (map g (drop k ys))) n
-  loop-end f g [] [] zero n p q h = all-none n h
-  loop-end f g [] [] (suc k) n p q h = absurd (omega arith)
-  loop-end f g [] (v ∷ ys) k n p q h = absurd (omega arith)
-  loop-end f g (u ∷ xs) [] k n p q h = absurd (omega arith)
-  loop-end f g (u ∷ xs) (v ∷ ys) zero n p q h = absurd (omega arith)
-  loop-end f g (u ∷ xs) (v ∷ ys) (suc k) n p q h = loop-end f g xs ys k n (omega arith) (omega arith) h
+  pub loop-end : {X Y : Type 0} (f : X → GroundLiteral) (g : Y → Closing) (xs : List X) (ys : List Y) (k : ℕ) (n : Count) → length xs ≤ k → length ys ≤ k → n.steps < no_more → Some n ≡ closed_all P d path (map f (drop k xs)) (closings_tree (map g (drop k ys))) n
+  loop-end f g xs ys k n p q h = all-none n h ∙ sym (ap (λ l. closed_all P d path (map f l) no_closings n) (drop-all xs k p)) ∙ sym (ap (λ l. closed_all P d path (map f (drop k xs)) (closings_tree (map g l)) n) (drop-all ys k q))
 
 -- the loop over values
 longest-step : {X : Type 0} (f : X → Value) (xs : List X) (k : ℕ) (x a : X) (n m : ℕ) → k < length xs → x ≡ get_or xs k a → m ≡ max n (string_length (f x)) → max m (longest_string (map f (drop (suc k) xs))) ≡ max n (longest_string (map f (drop k xs)))

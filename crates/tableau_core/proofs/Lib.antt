@@ -6,6 +6,7 @@ pub mod HomeLaws
 pub mod WalkLaws
 pub mod PathLaws
 pub mod CountLaws
+pub mod CloseLaws
 pub mod AllowanceLaws
 pub mod ReferenceLaws
 pub mod FittingLaws

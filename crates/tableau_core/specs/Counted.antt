@@ -1,5 +1,5 @@
 -- Closings, with what is counted of their instances.
-use Rattle.std.specs.Prelude.{ℕ, zero, ◌+◌, max, List, [], ◌∷◌, Bool, true, ◌&&◌, Option, Some, None, nat_lt, nat_le, length, slice_get, if◌then◌else◌}
+use Rattle.std.specs.Prelude.{ℕ, ◌+◌, max, List, [], ◌∷◌, Bool, true, ◌&&◌, Option, Some, None, nat_lt, nat_le, length, slice_get, if◌then◌else◌}
 use Rattle.calculus.specs.declared.setting.Logic.{Logic}
 use Rattle.calculus.specs.ComputedInstances.{is_allowed_instance, modal_steps}
 use Rattle.calculus.specs.Ground.{GroundLiteral, Value, term, steps, marks_list}

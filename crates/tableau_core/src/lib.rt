@@ -5,6 +5,7 @@ mod admission;
 mod allowance;
 mod atom;
 mod choice;
+mod closed;
 mod closing;
 mod count;
 mod home;
@@ -20,6 +21,7 @@ mod way;
 
 pub use calculus::sign::Side;
 pub use choice::{Choice, compare};
+pub use closed::is_closed;
 pub use closing::{Closing, ClosingList};
 pub use instance::ClauseInstance;
 pub use literal::{GroundLiteral, LiteralList};
