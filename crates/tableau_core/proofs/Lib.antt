@@ -11,3 +11,4 @@ pub mod AllowanceLaws
 pub mod ReferenceLaws
 pub mod FittingLaws
 pub mod StringLaws
+pub mod Examples

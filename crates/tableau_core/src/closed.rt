@@ -106,7 +106,7 @@ fn steps_if_extends(
 ) -> Result<Option<u64>, NoMemory>
     ensures { IfOk result (λ o. o
         ≡ steps_if_extends problem.now limit (literals_at path.now) (the_literal goal.now)
-            (the_instance instance.now) place) }
+        (the_instance instance.now) place) }
 {
     if !may_extend(limit, path, goal, instance.literals.items(), place) {
         return Ok(None);
@@ -135,7 +135,7 @@ fn closes<'a>(
 ) -> Result<Option<Count>, NoMemory>
     ensures { IfOk result (λ o. o
         ≡ closed_one problem.now limit (literals_at path.now) (the_literal goal.now)
-            (the_closing closing.now) so_far) }
+        (the_closing closing.now) so_far) }
 {
     match closing {
         Closing::Reduce { up } => {
@@ -177,7 +177,7 @@ fn closes_all<'a>(
 ) -> Result<Option<Count>, NoMemory>
     ensures { IfOk result (λ o. o
         ≡ closed_all problem.now limit (literals_at path.now) (literals_at goals.now)
-            (closings_tree closings.now) so_far) }
+        (closings_tree closings.now) so_far) }
 {
     let items = closings.items();
     if goals.len() != items.len() {

@@ -53,9 +53,9 @@ closes_all-loop-i-init t c = record {
 pub closes_all-loop-i-preserved : goal.closes_all-loop-i-preserved
 closes_all-loop-i-preserved t c = let x = c.index-goals-i.result in let y = c.index-items-i.result in let P = c.args.problem.now in let d = c.args.limit in let path = literals_at c.args.path.now in
     let closed = sym c.in-Some.is ∙ c.in_ok-one.ensures in record {
-  goals = loop-next P d path (λ (z : Bor GroundLiteral). the_literal z.now) the_closing c.args.goals.now c.items-items.result.now c.loop-i.i _ x x y y c.loop-i.count c.in-Some.more (omega arith) (omega arith) (omega arith) c.index-goals-i.is c.index-items-i.is closed ∙ c.loop-i.invariant.goals;
-  small = closed-small P d path (the_literal x.now) (the_closing y) c.loop-i.count c.in-Some.more closed;
-}
+      goals = loop-next P d path (λ (z : Bor GroundLiteral). the_literal z.now) the_closing c.args.goals.now c.items-items.result.now c.loop-i.i _ x x y y c.loop-i.count c.in-Some.more (omega arith) (omega arith) (omega arith) c.index-goals-i.is c.index-items-i.is closed ∙ c.loop-i.invariant.goals;
+      small = closed-small P d path (the_literal x.now) (the_closing y) c.loop-i.count c.in-Some.more closed;
+    }
 
 pub closes_all-returns : goal.closes_all-returns
 closes_all-returns t c =
