@@ -1,0 +1,7 @@
+pub mod Behind
+mod Examples
+pub mod MatrixLaws
+pub mod PartLaws
+pub mod Rows
+pub mod SizeLaws
+pub mod SizeTable

@@ -1,0 +1,6 @@
+use Rattle.std.proofs.Common.{◌≡◌, ◌++◌, drop}
+use Rattle.calculus.specs.Templates.{strings_from}
+use Rattle.matrix_build.proofs.template.strings_of.Given as goal
+
+abbrev pub invariant-loop-sort : goal.invariant-loop-sort
+invariant-loop-sort l = l.strings ++ strings_from l.n (drop l.sort-index l.sorts) ≡ strings_from 0 l.sorts

@@ -1,0 +1,9 @@
+pub mod Behind
+pub mod Examples
+pub mod Fits
+pub mod MatrixView
+pub mod PartView
+pub mod Parts
+pub mod SizedParts
+pub mod Sizes
+pub mod WayView

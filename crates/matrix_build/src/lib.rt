@@ -1,0 +1,18 @@
+//! The matrix of a problem: Skolemised clauses with prefixes, and the index of their literals.
+#![tactic(auto)]
+
+mod clause;
+mod index;
+mod matrix;
+mod part;
+mod pattern;
+mod selections;
+mod sizes;
+mod template;
+#[cfg(test)]
+mod tests;
+mod walk;
+mod way;
+
+pub use index::Place;
+pub use matrix::{Matrix, MatrixFault, build_matrix};

@@ -1,0 +1,116 @@
+//! A clause as far as it is built.
+
+ghost use Rattle.std.specs.Prelude.{◌≡◌, ◌∷◌, ◌++◌, ◌+◌, [], OnOk, IfOk, MatchOption, length};
+ghost use Rattle.calculus.specs.Lists.{terms_tree};
+ghost use Rattle.calculus.specs.Patterns.{p_var};
+ghost use Rattle.search_theory.specs.TemplateOf.{patterns_of};
+ghost use Rattle.matrix_build.specs.PartView.{the_part};
+ghost use Rattle.matrix_build.specs.Parts.{with_gamma, with_literal, with_pi, with_side, with_sort};
+
+use crate::pattern::{copy_all, patterns_of};
+use crate::way::Way;
+use calculus::sign::Side;
+use cop_base::{NoMemory, SymbolId};
+use formula_core::{Sign, Terms};
+use std::alloc::Global;
+use term_store::{
+    Pattern, PatternAtom, PatternAtomList, PatternGamma, PatternGammaList, Sort, SortList,
+};
+
+/// The literals, the gamma terms, the number of pi steps and the sorts of the variables so far,
+/// and the sides that are still to be used.
+#[derive(Drop)]
+pub(crate) struct Part<'a> {
+    pub literals: PatternAtomList,
+    pub gammas: PatternGammaList,
+    pub pis: u32,
+    pub sorts: SortList,
+    pub sides: &'a [Side],
+}
+
+// The first side and those after it.
+fn first_side(sides: &[Side]) -> Option<(Side, &[Side])>
+    ensures { MatchOption result (sides.now ≡ []) (λ next. sides.now ≡ next.0 ∷ next.1.now) }
+{
+    match sides.split_first() {
+        None => None,
+        Some((side, rest)) => Some((*side, rest)),
+    }
+}
+
+impl Part<'_> {
+    /// A variable of this sort, and its number. Numbers beyond 32 bits are beyond memory.
+    pub fn add_variable(&mut self, sort: Sort) -> Result<u32, NoMemory>
+        ensures number { IfOk result (λ n. n ≡ length (the_part self.old).sorts) }
+        ensures part { OnOk result (the_part self.new ≡ with_sort sort (the_part self.old)) }
+    {
+        let Ok(n) = u32::try_from(self.sorts.items().len()) else {
+            return Err(NoMemory);
+        };
+        self.sorts.push(sort)?;
+        Ok(n)
+    }
+
+    /// One pi step more.
+    pub fn add_pi(&mut self) -> Result<(), NoMemory>
+        ensures { OnOk result (the_part self.new ≡ with_pi (the_part self.old)) }
+    {
+        let Some(pis) = self.pis.checked_add(1) else {
+            return Err(NoMemory);
+        };
+        self.pis = pis;
+        Ok(())
+    }
+
+    /// The variable `n` as a gamma term at the label that is reached.
+    pub fn add_gamma(&mut self, alloc: Global, n: u32, way: &Way) -> Result<(), NoMemory>
+        ensures { OnOk result (the_part self.new
+            ≡ with_gamma (record { term = p_var n; label = way.now.label }) (the_part self.old)) }
+    {
+        let label = copy_all(alloc, &way.label)?;
+        let term = Pattern::Var(n);
+        self.gammas.push(PatternGamma { term, label })?;
+        Ok(())
+    }
+
+    /// A literal at the label that is reached.
+    pub fn add_literal(
+        &mut self,
+        alloc: Global,
+        sign: Sign,
+        symbol: SymbolId,
+        args: &Terms,
+        way: &Way,
+    ) -> Result<(), NoMemory>
+        ensures { OnOk result (the_part self.new ≡ with_literal (record {
+          sign = sign;
+          symbol = symbol.0;
+          args = patterns_of way.now.env (terms_tree args.now);
+          label = way.now.label;
+        }) (the_part self.old)) }
+    {
+        let args = patterns_of(alloc, &way.env, args)?;
+        let label = copy_all(alloc, &way.label)?;
+        self.literals.push(PatternAtom {
+            sign,
+            symbol,
+            args,
+            label,
+        })?;
+        Ok(())
+    }
+
+    /// Uses the next side.
+    pub fn next_side(&mut self) -> Option<Side>
+        ensures { MatchOption result ((the_part self.old).sides ≡ [])
+            (λ side. the_part self.old ≡ with_side side (the_part self.new)) }
+    {
+        match first_side(self.sides) {
+            None => None,
+            Some((side, rest)) => {
+                self.sides = rest;
+                Some(side)
+            }
+        }
+    }
+}

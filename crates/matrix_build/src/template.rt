@@ -1,0 +1,78 @@
+//! The template of a selection.
+
+ghost use Rattle.std.specs.Prelude.{◌≡◌, ◌+◌, IfOk};
+ghost use Rattle.calculus.specs.Templates.{strings_from};
+ghost use Rattle.formula_core.specs.FormulaView.{the_formula};
+ghost use Rattle.matrix_build.specs.Parts.{IsTemplateIfAny, nothing_built};
+ghost use Rattle.matrix_build.specs.PartView.{the_part};
+ghost use Rattle.matrix_build.specs.Sizes.{sizes_of};
+ghost use Rattle.term_store.specs.TemplateView.{the_template};
+
+use crate::part::Part;
+use crate::walk::Plan;
+use crate::way::Way;
+use calculus::sign::Side;
+use cop_base::NoMemory;
+use formula_core::{Formula, Sign};
+use std::alloc::Global;
+use term_store::{Pattern, PatternAtomList, PatternGammaList, Patterns, Sort, SortList, Template};
+
+// The variables of sort string, in order.
+fn strings_of(alloc: Global, sorts: &[Sort]) -> Result<Patterns, NoMemory>
+    ensures { IfOk result (λ ps. ps ≡ strings_from 0 sorts.now) }
+{
+    let mut strings = Patterns::new(alloc);
+    let mut n: u32 = 0;
+    for sort in sorts {
+        if *sort == Sort::StringSort {
+            strings.push(Pattern::Var(n))?;
+        }
+        n = next_number(n)?;
+    }
+    Ok(strings)
+}
+
+// Numbers beyond 32 bits are beyond memory.
+fn next_number(n: u32) -> Result<u32, NoMemory>
+    ensures { IfOk result (λ m. m ≡ n + 1) }
+{
+    match n.checked_add(1) {
+        Some(m) => Ok(m),
+        None => Err(NoMemory),
+    }
+}
+
+// A clause of which nothing is built.
+fn no_part(alloc: Global, sides: &[Side]) -> Part<'_>
+    ensures { the_part result ≡ nothing_built sides.now }
+{
+    Part {
+        literals: PatternAtomList::new(alloc),
+        gammas: PatternGammaList::new(alloc),
+        pis: 0,
+        sorts: SortList::new(alloc),
+        sides,
+    }
+}
+
+impl Plan {
+    /// The template of the formula's clause by these sides; where it has none nothing is said.
+    #[tactic(auto, using(crate::proofs::SizeTable::whole))]
+    pub fn template_of(&self, f: &Formula, sides: &[Side]) -> Result<Template, NoMemory>
+        requires { self.now.sizes.items ≡ sizes_of (the_formula f.now) }
+        ensures { IfOk result (λ t. IsTemplateIfAny self.now.logic (the_formula f.now) sides.now
+            (the_template t)) }
+    {
+        let mut part = no_part(self.alloc, sides);
+        let way = Way::root(self.alloc);
+        self.add_part(f, Sign::F, 0, &way, &mut part)?;
+        let strings = strings_of(self.alloc, part.sorts.items())?;
+        Ok(Template {
+            literals: part.literals,
+            strings,
+            pis: part.pis,
+            gammas: part.gammas,
+            sorts: part.sorts,
+        })
+    }
+}
