@@ -3,7 +3,8 @@
 ghost use Rattle.std.specs.Prelude.{◌≡◌, ◌<◌, ◌+◌, ◌++◌, ℕ, IfOk, length, map};
 ghost use Rattle.calculus.specs.declared.sign.Sign as declared;
 ghost use Rattle.search_theory.specs.Matrix.{places_among};
-ghost use Rattle.matrix_build.specs.MatrixView.{IsIndex, if_equal, places_at, row_of, the_clause, the_place};
+ghost use Rattle.matrix_build.specs.MatrixView.{IsIndex, if_equal, places_at, row_of};
+ghost use Rattle.matrix_build.specs.MatrixView.{the_clause, the_place};
 
 use crate::clause::Clause;
 use cop_base::{ClauseId, NoMemory, SymbolId};
@@ -106,7 +107,8 @@ fn add(alloc: Global, rows: &mut Vec<Places>, number: usize, place: Place) -> Re
 
 // Adds empty rows until the one of this number is there.
 fn reach(alloc: Global, rows: &mut Vec<Places>, number: usize) -> Result<(), NoMemory>
-    ensures same { IfOk result (λ _. (n : ℕ) → places_at n rows.new.items ≡ places_at n rows.old.items) }
+    ensures same { IfOk result (λ _. (n : ℕ) → places_at n rows.new.items
+        ≡ places_at n rows.old.items) }
     ensures enough { IfOk result (λ _. number < length rows.new.items) }
 {
     'growing: while rows.len() <= number {

@@ -55,7 +55,8 @@ fn add_alpha(
     all: &mut Vec<Selection>,
 ) -> Result<(), NoMemory>
     ensures { IfOk result (λ _. all.new.items ≡ all.old.items
-        ++ behind before.now (alpha_selections (selections (the_formula a.entry.formula.now) a.entry.sign)
+        ++ behind before.now (alpha_selections
+        (selections (the_formula a.entry.formula.now) a.entry.sign)
         (selections (the_formula b.entry.formula.now) b.entry.sign))) }
 {
     let left = and_side(alloc, before, Side::Left)?;

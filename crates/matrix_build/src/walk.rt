@@ -109,7 +109,8 @@ impl Plan {
     ) -> Result<(), NoMemory>
         requires { HasTwo self.now.sizes.items position (the_signed a) (the_signed b) }
         ensures { IfOk result (λ _. Adds (pattern_two Alpha (size (the_formula a.entry.formula.now))
-            (signed_part self.now.logic (the_signed a.entry)) (signed_part self.now.logic (the_signed b.entry)))
+            (signed_part self.now.logic (the_signed a.entry))
+            (signed_part self.now.logic (the_signed b.entry)))
             (spot_at position way.now) (the_part part.old) (the_part part.new)) }
     {
         match part.next_side() {
@@ -134,7 +135,8 @@ impl Plan {
     ) -> Result<(), NoMemory>
         requires { HasTwo self.now.sizes.items position (the_signed a) (the_signed b) }
         ensures { IfOk result (λ _. Adds (pattern_two Beta (size (the_formula a.entry.formula.now))
-            (signed_part self.now.logic (the_signed a.entry)) (signed_part self.now.logic (the_signed b.entry)))
+            (signed_part self.now.logic (the_signed a.entry))
+            (signed_part self.now.logic (the_signed b.entry)))
             (spot_at position way.now) (the_part part.old) (the_part part.new)) }
     {
         self.add_part(a.formula, a.sign, position + 1, way, part)?;
