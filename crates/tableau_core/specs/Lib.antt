@@ -17,3 +17,4 @@ pub mod Reaching
 pub mod Walks
 pub mod PathView
 pub mod Counted
+pub mod Examples

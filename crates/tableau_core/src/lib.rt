@@ -16,6 +16,8 @@ mod references;
 mod selection;
 mod spot;
 mod tableau;
+#[cfg(test)]
+mod tests;
 mod walk;
 mod way;
 
