@@ -215,7 +215,9 @@ fn are_shown(literals: &[GroundLiteral]) -> bool
     true
 }
 
-/// Whether the tableau is closed within the path limit.
+/// Whether the tableau is closed within the path limit: the rules of leanCoP (Otten) with labels.
+/// Calls nest through closings at most as deep as the limit, through the formula as deep as it is
+/// nested, and through ground terms as deep as these are.
 pub fn is_closed(alloc: Global, problem: &Problem, t: &Tableau, limit: u8) -> Result<bool, NoMemory>
     ensures { IfOk result (λ b. b ≡ is_closed problem.now limit (the_tableau t.now)) }
 {
