@@ -74,7 +74,7 @@ part-there s r n i end t l =
 
 -- ---- parts of two cells
 
-alike-unbound : (c d : Cell) → are_alike c d ≡ true → (is_bound c ≡ false) × (is_bound d ≡ false) × (length (parts_of c) ≡ length (parts_of d)) × (is_variable c ≡ false)
+pub alike-unbound : (c d : Cell) → are_alike c d ≡ true → (is_bound c ≡ false) × (is_bound d ≡ false) × (length (parts_of c) ≡ length (parts_of d)) × (is_variable c ≡ false)
 alike-unbound (variable sort b) d h = absurd (false≢true h)
 alike-unbound (fun_cell f rs) (fun_cell g qs) h = (refl, refl, eqb-true (length rs) (length qs) (and_parts (f == g) (length rs == length qs) h).1, refl)
 alike-unbound (eigen_cell f rs) (eigen_cell g qs) h = (refl, refl, eqb-true (length rs) (length qs) (and_parts (f == g) (length rs == length qs) h).1, refl)
@@ -146,30 +146,30 @@ among-at s v [] i k e o = absurd (cc)
 among-at s v (r ∷ rs) zero k e o = inl (subst (OccursIn s v) (let q : k ≡ r = cc in q) o)
 among-at s v (r ∷ rs) (suc i) k e o = inr (among-at s v rs i k e o)
 
-among-from : (s : Store) (v : ℕ) (rs : List ℕ) → OccursAmong s v rs → (i : ℕ) × (k : ℕ) × (slice_get rs i ≡ Some k) × OccursIn s v k
+pub among-from : (s : Store) (v : ℕ) (rs : List ℕ) → OccursAmong s v rs → (i : ℕ) × (k : ℕ) × (slice_get rs i ≡ Some k) × OccursIn s v k
 among-from s v [] o = absurd o
 among-from s v (r ∷ rs) (inl o) = (0, r, refl, o)
 among-from s v (r ∷ rs) (inr o) = let w = among-from s v rs o in (suc w.0, w.1, w.2, w.3)
 
-among-split : (s : Store) (v : ℕ) (rs qs : List ℕ) → OccursAmong s v (rs ++ qs) → OccursAmong s v rs ⊎ OccursAmong s v qs
+pub among-split : (s : Store) (v : ℕ) (rs qs : List ℕ) → OccursAmong s v (rs ++ qs) → OccursAmong s v rs ⊎ OccursAmong s v qs
 among-split s v [] qs o = inr o
 among-split s v (r ∷ rs) qs (inl o) = inl (inl o)
 among-split s v (r ∷ rs) qs (inr o) = elim (among-split s v rs qs o) [ inl p ↦ inl (inr p) | inr p ↦ inr p ]
 
-among-front : (s : Store) (v : ℕ) (rs qs : List ℕ) → OccursAmong s v rs → OccursAmong s v (rs ++ qs)
+pub among-front : (s : Store) (v : ℕ) (rs qs : List ℕ) → OccursAmong s v rs → OccursAmong s v (rs ++ qs)
 among-front s v [] qs o = absurd o
 among-front s v (r ∷ rs) qs (inl o) = inl o
 among-front s v (r ∷ rs) qs (inr o) = inr (among-front s v rs qs o)
 
-among-back : (s : Store) (v : ℕ) (rs qs : List ℕ) → OccursAmong s v qs → OccursAmong s v (rs ++ qs)
+pub among-back : (s : Store) (v : ℕ) (rs qs : List ℕ) → OccursAmong s v qs → OccursAmong s v (rs ++ qs)
 among-back s v [] qs o = o
 among-back s v (r ∷ rs) qs o = inr (among-back s v rs qs o)
 
-cells-split : (s : Store) (rs qs : List ℕ) → AreAllCells s (rs ++ qs) → AreAllCells s rs × AreAllCells s qs
+pub cells-split : (s : Store) (rs qs : List ℕ) → AreAllCells s (rs ++ qs) → AreAllCells s rs × AreAllCells s qs
 cells-split s [] qs h = (tt, h)
 cells-split s (r ∷ rs) qs h = let w = cells-split s rs qs h.1 in ((h.0, w.0), w.1)
 
-cells-join : (s : Store) (rs qs : List ℕ) → AreAllCells s rs → AreAllCells s qs → AreAllCells s (rs ++ qs)
+pub cells-join : (s : Store) (rs qs : List ℕ) → AreAllCells s rs → AreAllCells s qs → AreAllCells s (rs ++ qs)
 cells-join s [] qs h k = k
 cells-join s (r ∷ rs) qs h k = (h.0, cells-join s rs qs h.1 k)
 
@@ -186,45 +186,6 @@ weight-ends s w r e (goes_on {k = k} {sort = sort} f o) =
     let a = weight-bound s w r k sort f in
     let b = weight-ends s w k e o in
     omega arith
-
--- v occurs in t exactly where it occurs in one of the cells that are still to be looked at
-pub record LooksAt (s : Store) (v t : ℕ) (rs : List ℕ) : Type 0 where
-  pub cells : AreAllCells s rs
-  pub there : OccursIn s v t → OccursAmong s v rs
-  pub back : OccursAmong s v rs → OccursIn s v t
-
-pub looks-first : (s : Store) (v t : ℕ) → t < length s.cells → LooksAt s v t (t ∷ [])
-looks-first s v t h = record { cells = (h, tt); there = λ o. inl o; back = λ o. elim o [ inl p ↦ p | inr p ↦ absurd p ] }
-
-pub looks-place : (s : Store) (v t r : ℕ) (rest rs : List ℕ) → LooksAt s v t rs → rs ≡ rest ++ r ∷ [] → r < length s.cells
-looks-place s v t r rest rs w e = (cells-split s rest (r ∷ []) (subst (AreAllCells s) e w.cells)).1.0
-
-pub looks-found : (s : Store) (v t r e : ℕ) (rest rs : List ℕ) → LooksAt s v t rs → IsEnd s v → rs ≡ rest ++ r ∷ [] → EndsAt s r e → e ≡ v → OccursIn s v t
-looks-found s v t r e rest rs w end q f g =
-    w.back (subst (OccursAmong s v) (sym q) (among-back s v rest (r ∷ []) (inl ((occurs-end s v r e end f).1 (subst (OccursIn s v) (sym g) here)))))
-
-pub looks-none : (s : Store) (v t : ℕ) (rs : List ℕ) → LooksAt s v t rs → rs ≡ [] → ¬ OccursIn s v t
-looks-none s v t rs w e o = subst (OccursAmong s v) e (w.there o)
-
-pub looks-on : (s : Store) (v t r e : ℕ) (c : Cell) (rest rs more : List ℕ) → IsWellFormed s → LooksAt s v t rs → IsEnd s v → rs ≡ rest ++ r ∷ [] → EndsAt s r e → slice_get s.cells e ≡ Some c → ¬ (e ≡ v) → more ≡ rest ++ parts_of c → LooksAt s v t more
-looks-on s v t r e c rest rs more sound w end q f g n m = record {
-  cells = subst (AreAllCells s) (sym m) (cells-join s rest (parts_of c) (cells-split s rest (r ∷ []) (subst (AreAllCells s) q w.cells)).0 (parts-cells s e c sound g));
-  there = λ o. subst (OccursAmong s v) (sym m) (elim (among-split s v rest (r ∷ []) (subst (OccursAmong s v) q (w.there o))) [
-    | inl p ↦ among-front s v rest (parts_of c) p
-    | inr p ↦ elim p [ inl x ↦ among-back s v rest (parts_of c) (below e ((occurs-end s v r e end f).0 x) g n) | inr x ↦ absurd x ]
-  ]);
-  back = λ o. w.back (subst (OccursAmong s v) (sym q) (elim (among-split s v rest (parts_of c) (subst (OccursAmong s v) m o)) [
-    | inl p ↦ among-front s v rest (r ∷ []) p
-    | inr p ↦ let x = among-from s v (parts_of c) p in among-back s v rest (r ∷ []) (inl ((occurs-end s v r e end f).1 (in_part x.0 g x.2 x.3)))
-  ]));
-}
-  where
-    below : (e : ℕ) → OccursIn s v e → slice_get s.cells e ≡ Some c → ¬ (e ≡ v) → OccursAmong s v (parts_of c)
-    below e here g n = absurd (n refl)
-    below e (in_part i {k = k} {c = d} h p x) g n = let same : d ≡ c = let z : Some d ≡ Some c = sym h ∙ g in cc in among-at s v (parts_of c) i k (ap (λ y. slice_get (parts_of y) i) (sym same) ∙ p) x
-
-pub looks-parts : (s : Store) (v r : ℕ) (c : Cell) (rs : List ℕ) → IsWellFormed s → IsEnd s v → slice_get s.cells r ≡ Some c → is_bound c ≡ false → ¬ (v ≡ r) → rs ≡ parts_of c → LooksAt s v r rs
-looks-parts s v r c rs sound end e b n m = looks-on s v r r r c [] (r ∷ []) rs sound (looks-first s v r (get-within s.cells r c e)) end refl (stays e b) e (λ q. n (sym q)) m
 
 pub looks-less : (s : Store) (r e : ℕ) (c : Cell) (rest rs more : List ℕ) → IsWellFormed s → rs ≡ rest ++ r ∷ [] → EndsAt s r e → slice_get s.cells e ≡ Some c → more ≡ rest ++ parts_of c → weight_sum s more < weight_sum s rs
 looks-less s r e c rest rs more sound q f g m =
@@ -311,17 +272,17 @@ pub comes-first : (s : Store) (ps : List (ℕ × ℕ)) → AreCells s ps → Com
 comes-first s ps h = record { cells = h; down = λ σ k p. p; up = λ σ k p. p; occurs = λ v o. o }
 
 -- in the pairs before the last one, and in the last one
-comes-occurs : (s : Store) (first left rest : List (ℕ × ℕ)) (a b : ℕ) → ComesTo s first left → left ≡ rest ++ (a, b) ∷ [] → (v : ℕ) → OccursInPairs s v rest ⊎ (OccursIn s v a ⊎ OccursIn s v b) → OccursInPairs s v first
+pub comes-occurs : (s : Store) (first left rest : List (ℕ × ℕ)) (a b : ℕ) → ComesTo s first left → left ≡ rest ++ (a, b) ∷ [] → (v : ℕ) → OccursInPairs s v rest ⊎ (OccursIn s v a ⊎ OccursIn s v b) → OccursInPairs s v first
 comes-occurs s first left rest a b w e v (inl o) = w.occurs v (subst (OccursInPairs s v) (sym e) (pairs-front s v rest ((a, b) ∷ []) o))
 comes-occurs s first left rest a b w e v (inr o) = w.occurs v (subst (OccursInPairs s v) (sym e) (pairs-back s v rest ((a, b) ∷ []) (inl o)))
 
 pub comes-pair : (s : Store) (first left rest : List (ℕ × ℕ)) (a b : ℕ) → ComesTo s first left → left ≡ rest ++ (a, b) ∷ [] → (a < length s.cells) × (b < length s.cells)
 comes-pair s first left rest a b w e = let h = (pair_cells-split s rest ((a, b) ∷ []) (subst (AreCells s) e w.cells)).1 in (h.0, h.1)
 
-comes-split : (s : Store) (first left rest : List (ℕ × ℕ)) (a b : ℕ) → ComesTo s first left → left ≡ rest ++ (a, b) ∷ [] → (σ : Solution) → Solves s σ → SolvesPairs σ first → SolvesPairs σ rest × (σ a ≡ σ b)
+pub comes-split : (s : Store) (first left rest : List (ℕ × ℕ)) (a b : ℕ) → ComesTo s first left → left ≡ rest ++ (a, b) ∷ [] → (σ : Solution) → Solves s σ → SolvesPairs σ first → SolvesPairs σ rest × (σ a ≡ σ b)
 comes-split s first left rest a b w e σ h p = let z = SolvesPairs-split σ rest ((a, b) ∷ []) (subst (SolvesPairs σ) e (w.down σ h p)) in (z.0, z.1.0)
 
-comes-join : (s : Store) (first left rest : List (ℕ × ℕ)) (a b : ℕ) → ComesTo s first left → left ≡ rest ++ (a, b) ∷ [] → (σ : Solution) → Solves s σ → SolvesPairs σ rest → σ a ≡ σ b → SolvesPairs σ first
+pub comes-join : (s : Store) (first left rest : List (ℕ × ℕ)) (a b : ℕ) → ComesTo s first left → left ≡ rest ++ (a, b) ∷ [] → (σ : Solution) → Solves s σ → SolvesPairs σ rest → σ a ≡ σ b → SolvesPairs σ first
 comes-join s first left rest a b w e σ h p q = w.up σ h (subst (SolvesPairs σ) (sym e) (SolvesPairs-join σ rest ((a, b) ∷ []) p (q, tt)))
 
 pub comes-same : (s : Store) (first left rest : List (ℕ × ℕ)) (a b : ℕ) → ComesTo s first left → left ≡ rest ++ (a, b) ∷ [] → ((σ : Solution) → Solves s σ → σ a ≡ σ b) → ComesTo s first rest

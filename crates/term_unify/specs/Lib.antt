@@ -1,2 +1,3 @@
 pub mod PairView
+pub mod Visits
 pub mod Steps

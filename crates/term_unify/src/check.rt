@@ -5,6 +5,7 @@ ghost use Rattle.calculus.specs.Bindings.{IsEnd, IsWellFormed};
 ghost use Rattle.calculus.specs.Stores.{Cell, OccursIn, parts_of};
 ghost use Rattle.term_store.specs.RefView.{the_place};
 
+use crate::visited::Visited;
 use cop_base::NoMemory;
 use term_store::{Ref, Store};
 
@@ -21,9 +22,15 @@ fn push_all(store: &Store, r: Ref, places: &mut Vec<Ref>) -> Result<(), NoMemory
     Ok(())
 }
 
-// Whether the variable occurs in the other cell, under the bindings; `places` is room for the work. A cell without parts
-// needs no memory.
-pub(crate) fn occurs(store: &Store, v: Ref, r: Ref, places: &mut Vec<Ref>) -> Result<bool, NoMemory>
+// Whether the variable occurs in the other cell, under the bindings; `places` is room for the work, and `visited` for
+// the cells that were looked at. A cell without parts needs no memory.
+pub(crate) fn occurs(
+    store: &Store,
+    v: Ref,
+    r: Ref,
+    places: &mut Vec<Ref>,
+    visited: &mut Visited,
+) -> Result<bool, NoMemory>
     requires variable { IsEnd store.now.store v.0 }
     requires end { IsEnd store.now.store r.0 }
     requires other { ¬ (v.0 ≡ r.0) }
@@ -31,13 +38,16 @@ pub(crate) fn occurs(store: &Store, v: Ref, r: Ref, places: &mut Vec<Ref>) -> Re
     ensures no { IfOk result (λ found. found ≡ false → ¬ OccursIn store.now.store v.0 r.0) }
 {
     places.clear();
+    visited.clear();
     push_all(store, r, places)?;
     while let Some(place) = places.pop() {
         let end = store.walk(place);
         if end.0 == v.0 {
             return Ok(true);
         }
-        push_all(store, end, places)?;
+        if visited.visit(v.0, end.0)? {
+            push_all(store, end, places)?;
+        }
     }
     Ok(false)
 }

@@ -4,6 +4,7 @@
 mod check;
 mod compare;
 mod solve;
+mod visited;
 #[cfg(test)]
 mod tests;
 

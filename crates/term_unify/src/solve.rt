@@ -9,6 +9,7 @@ ghost use Rattle.term_unify.specs.Steps.{AreCells, BindsInPairs, IsNext, SolvesA
 
 use crate::check::occurs;
 use crate::compare::{Step, compare, push_parts};
+use crate::visited::Visited;
 use cop_base::NoMemory;
 use std::alloc::Global;
 use term_store::{Ref, Store};
@@ -21,18 +22,28 @@ enum Next {
     Bind(Ref, Ref),
 }
 
-// Goes on until there is something to bind.
-fn next_binding(store: &Store, pairs: &mut Vec<(Ref, Ref)>) -> Result<Next, NoMemory>
+// Goes on until there is something to bind. Built cells of which a pair was visited are not compared again: their parts
+// are equal where the pairs that are left are.
+fn next_binding(
+    store: &Store,
+    pairs: &mut Vec<(Ref, Ref)>,
+    visited: &mut Visited,
+) -> Result<Next, NoMemory>
     requires { AreCells store.now.store (map the_pair pairs.old.items) }
     ensures next { IfOk result (IsNext store.now.store (map the_pair pairs.old.items) (map the_pair pairs.new.items)) }
     ensures cells { OnOk result (AreCells store.now.store (map the_pair pairs.new.items)) }
 {
+    visited.clear();
     while let Some((a, b)) = pairs.pop() {
         match compare(store, a, b) {
             Step::Same => {}
             Step::Apart => return Ok(Next::Apart),
             Step::Bind(v, to) => return Ok(Next::Bind(v, to)),
-            Step::Parts(left, right) => push_parts(store, left, right, pairs)?,
+            Step::Parts(left, right) => {
+                if visited.visit(left.0, right.0)? {
+                    push_parts(store, left, right, pairs)?;
+                }
+            }
         }
     }
     Ok(Next::Done)
@@ -43,6 +54,7 @@ fn solve_pairs(
     store: &mut Store,
     pairs: &mut Vec<(Ref, Ref)>,
     places: &mut Vec<Ref>,
+    visited: &mut Visited,
 ) -> Result<bool, NoMemory>
     requires { AreCells store.old.store (map the_pair pairs.old.items) }
     ensures solved { IfOk result (λ equal. equal ≡ true → SolvesAll store.old.store store.new.store (map the_pair pairs.old.items)) }
@@ -55,11 +67,11 @@ fn solve_pairs(
 {
     let _start = store.mark();
     loop {
-        match next_binding(store, pairs)? {
+        match next_binding(store, pairs, visited)? {
             Next::Done => return Ok(true),
             Next::Apart => return Ok(false),
             Next::Bind(v, to) => {
-                if occurs(store, v, to, places)? {
+                if occurs(store, v, to, places, visited)? {
                     return Ok(false);
                 }
                 store.reserve(1)?;
@@ -74,6 +86,7 @@ fn solve_pairs(
 pub struct Unifier {
     pairs: Vec<(Ref, Ref)>,
     places: Vec<Ref>,
+    visited: Visited,
 }
 
 impl Unifier {
@@ -82,6 +95,7 @@ impl Unifier {
         Unifier {
             pairs: Vec::new(alloc),
             places: Vec::new(alloc),
+            visited: Visited::new(alloc),
         }
     }
 
@@ -103,7 +117,7 @@ impl Unifier {
         let start = store.mark();
         self.pairs.clear();
         self.pairs.push((a, b))?;
-        let answer = solve_pairs(store, &mut self.pairs, &mut self.places);
+        let answer = solve_pairs(store, &mut self.pairs, &mut self.places, &mut self.visited);
         if let Ok(true) = answer {
             return answer;
         }
