@@ -1,3 +1,4 @@
 pub mod StepLaws
 pub mod PairLaws
 pub mod VisitLaws
+pub mod DoublingLaws

@@ -6,6 +6,8 @@ mod compare;
 mod solve;
 mod visited;
 #[cfg(test)]
+mod doubling;
+#[cfg(test)]
 mod tests;
 
 pub use solve::{Unifier, unify};
