@@ -61,7 +61,6 @@ grown-atom_fits s t vs a g h = and-both (parts_fit_in s vs TermSort false (patte
 pub grown-gamma_fits : (s t : Store) (vs : List ℕ) (a : PatternGamma) → Grows s t → IsTrue (gamma_fits_in s vs a) → IsTrue (gamma_fits_in t vs a)
 grown-gamma_fits s t vs a g h = and-both (fits_in s vs TermSort a.term) (fits_in t vs TermSort a.term) (label_fits_in s vs a.label) (label_fits_in t vs a.label) (grown-fits s t vs TermSort a.term g) (grown-parts_fit s t vs MarkSort true (patterns_tree a.label) g) h
 
-
 -- ---- a template that fits, once its variables are in the store
 
 mutual

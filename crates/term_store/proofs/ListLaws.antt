@@ -74,10 +74,10 @@ pub record ClauseMade (old new : Store) (vs : List ℕ) (t : tree.Template) (c :
   pub adds : AddsOver vs old new
 
 pub clause-made : (old a b d new : Store) (vs : List ℕ) (t : tree.Template) (xs ys : List tree.PatternAtom) (none mid last : List CellAtom) (strings : List ℕ) (gammas : List GammaCell) → none ≡ []
-  → AtomsCopied a vs (length old.cells) none mid xs → AddsOver vs old a → AtomsCopied b vs (length a.cells) mid last ys → AddsOver vs a b
-  → AreCopies d vs (patterns_tree t.strings) strings → IsTrue (list_all (has_sort_at d StringSort) strings) → NamesOver vs (length b.cells) (λ base. list_all (nat_le base) strings) → AddsOver vs b d
-  → AreGammaCopies new vs t.gammas gammas → IsTrue (list_all (is_gamma_cell new) gammas) → NamesOver vs (length d.cells) (λ base. list_all (gamma_is_from base) gammas) → AddsOver vs d new
-  → ClauseMade old new vs (with_literals (xs ++ ys) t) (record { literals = last; strings = strings; pis = t.pis; gammas = gammas })
+    → AtomsCopied a vs (length old.cells) none mid xs → AddsOver vs old a → AtomsCopied b vs (length a.cells) mid last ys → AddsOver vs a b
+    → AreCopies d vs (patterns_tree t.strings) strings → IsTrue (list_all (has_sort_at d StringSort) strings) → NamesOver vs (length b.cells) (λ base. list_all (nat_le base) strings) → AddsOver vs b d
+    → AreGammaCopies new vs t.gammas gammas → IsTrue (list_all (is_gamma_cell new) gammas) → NamesOver vs (length d.cells) (λ base. list_all (gamma_is_from base) gammas) → AddsOver vs d new
+    → ClauseMade old new vs (with_literals (xs ++ ys) t) (record { literals = last; strings = strings; pis = t.pis; gammas = gammas })
 clause-made old a b d new vs t xs ys none mid last strings gammas e f fa g gb h hs ho hd k ks ko kn =
     let w = atoms-both old a b vs none mid last xs ys f fa g gb in
     let same : last ≡ w.more = w.appended ∙ ap (λ zs. zs ++ w.more) e in

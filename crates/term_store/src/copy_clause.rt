@@ -12,9 +12,7 @@ ghost use Rattle.term_store.specs.Room.{KeepsRoom};
 ghost use Rattle.term_store.specs.TemplateView.{the_clause, the_template};
 
 use crate::cell::{Ref, Variables};
-use crate::clause::{
-    CellAtomList, CopiedClause, CopiedLiteral, PatternAtom, SortList, Template,
-};
+use crate::clause::{CellAtomList, CopiedClause, CopiedLiteral, PatternAtom, SortList, Template};
 use crate::store::Store;
 use cop_base::NoMemory;
 

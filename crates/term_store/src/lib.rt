@@ -17,8 +17,8 @@ pub use calculus::sign::Sign;
 pub use calculus::sort::Sort;
 pub use cell::{Head, Ref, TrailMark, Variables};
 pub use clause::{
-    CellAtom, CellAtomList, CopiedClause, CopiedLiteral, GammaList, GammaUse, PatternAtom, PatternAtomList,
-    PatternGamma, PatternGammaList, Prefix, RefList, SortList, Template,
+    CellAtom, CellAtomList, CopiedClause, CopiedLiteral, GammaList, GammaUse, PatternAtom,
+    PatternAtomList, PatternGamma, PatternGammaList, Prefix, RefList, SortList, Template,
 };
 pub use pattern::{Pattern, Patterns};
 pub use store::Store;

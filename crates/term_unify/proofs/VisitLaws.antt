@@ -171,9 +171,9 @@ same-waits s first left rest seen a b w e q = record {
 parts-equal : (s : Store) (σ : Solution) (x y : ℕ) (u : AreBuilt s x y) (rest more : List (ℕ × ℕ)) → IsWellFormed s → Solves s σ → more ≡ rest ++ part_pairs (parts_of u.left) (parts_of u.right) → SolvesBelow s σ more (weight s x) → σ x ≡ σ y
 parts-equal s σ x y u rest more sound h m below =
     (alike-parts s σ x y u.left u.right h u.left_at u.right_at u.alike).1 (solves-from σ (part_pairs (parts_of u.left) (parts_of u.right)) (λ i p at.
-        let a = part-weight s (parts_of u.left) i p.0 (pair-left (parts_of u.left) (parts_of u.right) i p at) in
-        let b = weight-parts s sound.fits sound.rank x u.left u.left_at in
-        below (length rest + i) p (ap (λ ps. slice_get ps (length rest + i)) m ∙ get-back rest (part_pairs (parts_of u.left) (parts_of u.right)) i p at) (omega (arith, a, b))))
+    let a = part-weight s (parts_of u.left) i p.0 (pair-left (parts_of u.left) (parts_of u.right) i p at) in
+    let b = weight-parts s sound.fits sound.rank x u.left u.left_at in
+    below (length rest + i) p (ap (λ ps. slice_get ps (length rest + i)) m ∙ get-back rest (part_pairs (parts_of u.left) (parts_of u.right)) i p at) (omega (arith, a, b))))
 
 pub parts-wait : (s : Store) (first left rest more seen noted : List (ℕ × ℕ)) (a b x y : ℕ) → IsWellFormed s → Comes s first left seen → left ≡ rest ++ (a, b) ∷ [] → AreBuilt s x y × EndsAt s a x × EndsAt s b y → AddsParts s x y rest more → Notes seen noted x y → Comes s first more noted
 parts-wait s first left rest more seen noted a b x y sound w e (u, f, g) added k =
@@ -183,12 +183,12 @@ parts-wait s first left rest more seen noted a b x y sound w e (u, f, g) added k
       comes = comes-parts s first left rest more a b x y sound w.comes e (u, f, g) added;
       waits = λ c d z. elim (k c d z) [
         | inl old ↦ (λ σ h below. w.waits c d old σ h (λ i p at l. elim (get-last rest i p (a, b) (ap (λ ps. slice_get ps i) (sym e) ∙ at)) [
-            | inl before ↦ below i p (ap (λ ps. slice_get ps i) m ∙ get-front rest (part_pairs (parts_of u.left) (parts_of u.right)) i p before) l
-            | inr new ↦ (
-                let n = ap (λ (q : ℕ × ℕ). weight s q.0) new.1 in
-                let same = parts-equal s σ x y u rest more sound h m (λ j q there lower. below j q there (omega (arith, lower, less, n, l))) in
-                subst (λ q. σ q.0 ≡ σ q.1) new.1 (ends-same s σ a x h f ∙ same ∙ sym (ends-same s σ b y h g)))
-          ]))
+          | inl before ↦ below i p (ap (λ ps. slice_get ps i) m ∙ get-front rest (part_pairs (parts_of u.left) (parts_of u.right)) i p before) l
+          | inr new ↦ (
+              let n = ap (λ (q : ℕ × ℕ). weight s q.0) new.1 in
+              let same = parts-equal s σ x y u rest more sound h m (λ j q there lower. below j q there (omega (arith, lower, less, n, l))) in
+              subst (λ q. σ q.0 ≡ σ q.1) new.1 (ends-same s σ a x h f ∙ same ∙ sym (ends-same s σ b y h g)))
+        ]))
         | inr new ↦ (λ σ h below. ap σ new.0 ∙ parts-equal s σ x y u rest more sound h m (λ j q there lower. below j q there (let n = ap (weight s) new.0 in omega (arith, lower, n))) ∙ ap σ (sym new.1))
       ];
     }
@@ -198,16 +198,16 @@ pub past-waits : (s : Store) (first left rest seen noted : List (ℕ × ℕ)) (a
 past-waits s first left rest seen noted a b x y sound w e (u, f, g) z k =
     let less = weight-ends s sound a x f in
     let equal : (σ : Solution) → Solves s σ → SolvesBelow s σ rest (weight s x) → σ a ≡ σ b = λ σ h below.
-        ends-same s σ a x h f ∙ w.waits x y z σ h (λ i p at l. elim (get-last rest i p (a, b) (ap (λ ps. slice_get ps i) (sym e) ∙ at)) [
-          | inl old ↦ below i p old l
-          | inr new ↦ absurd (let n = ap (λ (q : ℕ × ℕ). weight s q.0) new.1 in omega (arith, less, n, l))
-        ]) ∙ sym (ends-same s σ b y h g) in
+    ends-same s σ a x h f ∙ w.waits x y z σ h (λ i p at l. elim (get-last rest i p (a, b) (ap (λ ps. slice_get ps i) (sym e) ∙ at)) [
+      | inl old ↦ below i p old l
+      | inr new ↦ absurd (let n = ap (λ (q : ℕ × ℕ). weight s q.0) new.1 in omega (arith, less, n, l))
+    ]) ∙ sym (ends-same s σ b y h g) in
     let rests : (c d : ℕ) → PairWaits s left c d → PairWaits s rest c d = λ c d o σ h below. o σ h (λ i p at l. elim (get-last rest i p (a, b) (ap (λ ps. slice_get ps i) (sym e) ∙ at)) [
-          | inl old ↦ below i p old l
-          | inr new ↦ (
-              let n = ap (λ (q : ℕ × ℕ). weight s q.0) new.1 in
-              subst (λ q. σ q.0 ≡ σ q.1) new.1 (equal σ h (λ j q there lower. below j q there (omega (arith, lower, less, n, l)))))
-        ]) in
+      | inl old ↦ below i p old l
+      | inr new ↦ (
+          let n = ap (λ (q : ℕ × ℕ). weight s q.0) new.1 in
+          subst (λ q. σ q.0 ≡ σ q.1) new.1 (equal σ h (λ j q there lower. below j q there (omega (arith, lower, less, n, l)))))
+    ]) in
     record {
       comes = record {
         cells = comes-rest s first left rest a b w.comes e;

@@ -43,12 +43,7 @@ fn doubled(alloc: Global) -> Result<Template, NoMemory>
 }
 
 // Binds x to a new f(y, y), and gives y.
-fn double(
-    unifier: &mut Unifier,
-    store: &mut Store,
-    t: &Template,
-    x: Ref,
-) -> Result<Ref, NoMemory>
+fn double(unifier: &mut Unifier, store: &mut Store, t: &Template, x: Ref) -> Result<Ref, NoMemory>
     requires fits { IsTrue (template_fits (the_template t.now)) }
     requires literal { 0 < length t.now.literals }
     requires cell { x.0 < length store.old.store.cells }

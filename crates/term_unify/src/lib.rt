@@ -3,11 +3,11 @@
 
 mod check;
 mod compare;
-mod solve;
-mod visited;
 #[cfg(test)]
 mod doubling;
+mod solve;
 #[cfg(test)]
 mod tests;
+mod visited;
 
 pub use solve::{Unifier, unify};
