@@ -114,4 +114,11 @@ impl ItemList {
     {
         self.items.as_slice()
     }
+
+    /// The items in order, so that their formulas can be kept.
+    pub fn into_items(self) -> Vec<Item>
+        ensures { map the_item result.items ≡ self }
+    {
+        self.items
+    }
 }
