@@ -9,7 +9,7 @@ ghost use Rattle.calculus.specs.Skolem.{are_allowed, is_allowed};
 ghost use Rattle.formula_core.specs.GroundView.{the_g_term, the_mark};
 ghost use Rattle.tableau_core.specs.SpotView.{the_mark_at};
 
-use crate::home::home;
+use crate::home::eigen_home;
 use crate::references::{given, references};
 use crate::spot::MarkAt;
 use cop_base::{NoMemory, PosId};
@@ -38,7 +38,7 @@ fn is_eigen_allowed(
         Domains::Constant => Ok(true),
         Domains::Cumulative | Domains::Varying => {
             let values = references(alloc, values.items())?;
-            let home = home(alloc, problem, p, &values)?;
+            let home = eigen_home(alloc, problem, p, &values)?;
             let allowed = is_home(problem, &home, at);
             Ok(allowed)
         }

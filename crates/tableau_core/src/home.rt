@@ -179,7 +179,7 @@ fn home_shape<'a>(
 }
 
 /// The home of the eigenvariable of this position and these values.
-pub fn home<'a>(
+pub fn eigen_home<'a>(
     alloc: Global,
     problem: &Problem,
     p: PosId,
