@@ -1,2 +1,17 @@
 pub mod Wanting
 pub mod Ordered
+pub mod Collecting
+pub mod KeepingLaws
+pub mod Arranging
+pub mod WalkByShape
+pub mod WalkTurns
+pub mod WalkSmall
+pub mod WordLaws
+pub mod PlaceLaws
+pub mod NameKeys
+pub mod MentionLaws
+pub mod NumberOrder
+pub mod GuideLaws
+pub mod ParentLaws
+pub mod Promises
+pub mod Coming

@@ -5,7 +5,7 @@ use Rattle.calculus.specs.Lists.{values_tree-inj}
 use Rattle.calculus.specs.Equality.{ground_eq, mark_eq, values_eq}
 use Rattle.calculus.proofs.EqualityLaws.{ground_eq-tells, values_eq-tells}
 
-same_tests : (a b : Bool) → (IsTrue a → IsTrue b) → (IsTrue b → IsTrue a) → a ≡ b
+pub same_tests : (a b : Bool) → (IsTrue a → IsTrue b) → (IsTrue b → IsTrue a) → a ≡ b
 same_tests true true f g = refl
 same_tests true false f g = sym (f refl)
 same_tests false true f g = g refl

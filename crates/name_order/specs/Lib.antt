@@ -2,3 +2,14 @@ pub mod TurnView
 pub mod NameView
 pub mod NamedView
 pub mod Order
+pub mod Walks
+pub mod Keeping
+pub mod Arranged
+pub mod WalkView
+pub mod Words
+pub mod Places
+pub mod PlaceView
+pub mod Mentioned
+pub mod Numbered
+pub mod Found
+pub mod Prerequisites

@@ -2,10 +2,10 @@
 use Rattle.calculus.specs.Ground as tree
 use Rattle.calculus.specs.Turns as turns
 use Rattle.formula_core.specs.GroundView.{the_g_term, the_mark}
-use Rattle.name_order.specs.declared.name.Name.{Name}
-use Rattle.name_order.specs.declared.name.Name.TheVariants as name
-use Rattle.name_order.specs.declared.name.Wanted.{Wanted}
-use Rattle.name_order.specs.declared.name.Wanted.TheVariants as wanted
+use Rattle.name_order.specs.declared.names.Name.{Name}
+use Rattle.name_order.specs.declared.names.Name.TheVariants as name
+use Rattle.name_order.specs.declared.names.Wanted.{Wanted}
+use Rattle.name_order.specs.declared.names.Wanted.TheVariants as wanted
 
 abbrev pub the_name : Name → turns.Name
 the_name (name.Term t) = turns.term_name (the_g_term t)

@@ -8,7 +8,7 @@ ghost use Rattle.formula_core.specs.GroundView.{the_g_term};
 ghost use Rattle.name_order.specs.NameView.{the_name, the_wanted};
 ghost use Rattle.name_order.specs.TurnView.{the_turn};
 
-use crate::name::{Name, Wanted, number_among};
+use crate::names::{Name, Wanted, number_among};
 use crate::turn::{Turn, TurnList};
 use cop_base::PosId;
 use formula_core::{GroundTerm, Values};

@@ -40,9 +40,10 @@ fn size_of_mark(mark: &GroundMark) -> Option<u64>
     }
 }
 
+/// The size of the label, where it fits.
 #[cycle(size_ground)]
 #[tactic(auto, using(formula_core::specs::GroundFalls::ground_falling))]
-fn size_of_label(label: &GroundLabel) -> Option<u64>
+pub fn size_of_label(label: &GroundLabel) -> Option<u64>
     ensures { IfSome result (λ n. n ≡ mark_list_size label.now) }
 {
     let mut total: u64 = 0;

@@ -2,7 +2,7 @@
 use Rattle.std.proofs.Common.{◌≡◌, ◌+◌, map, drop}
 use Rattle.calculus.specs.Numbering.{place_from}
 use Rattle.name_order.specs.NameView.{the_name, the_wanted}
-use Rattle.name_order.proofs.name.number_among.Given as goal
+use Rattle.name_order.proofs.names.number_among.Given as goal
 
 abbrev pub invariant-loop-name : goal.invariant-loop-name
 invariant-loop-name l = record {
