@@ -9,6 +9,7 @@ pub mod WalkSmall
 pub mod WordLaws
 pub mod PlaceLaws
 pub mod NameKeys
+pub mod NameSteps
 pub mod MentionLaws
 pub mod NumberOrder
 pub mod GuideLaws

@@ -9,6 +9,7 @@ pub mod WalkView
 pub mod Words
 pub mod Places
 pub mod PlaceView
+pub mod NameSetView
 pub mod Mentioned
 pub mod Numbered
 pub mod Found

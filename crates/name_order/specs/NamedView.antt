@@ -1,9 +1,13 @@
 -- What the program's numbering stands for.
-use Rattle.std.specs.Prelude.{List}
+use Rattle.std.specs.Prelude.{ℕ, List, Option}
 use Rattle.calculus.specs.Instances.{Turn}
 use Rattle.calculus.specs.Turns.{Name}
 
--- the names, numbered from 1 in their order, and the agenda
+-- the names, numbered from 1 in their order, and the agenda; by places of the agenda the turns of each instance, each turn's parent, and
+-- the turns that introduce what a turn mentions by its own values
 pub record NamedValue : Type 0 where
   pub names : List Name
   pub agenda : List Turn
+  pub order : List (List ℕ)
+  pub parents : List (Option ℕ)
+  pub waits : List (List ℕ)

@@ -3,7 +3,10 @@
 
 mod agenda;
 mod collect;
+mod guide;
 mod keys;
+mod mention;
+mod name_set;
 mod named;
 mod names;
 mod numbering;
@@ -14,5 +17,6 @@ mod turn;
 mod walk;
 mod words;
 
-pub use named::Named;
+pub use named::{Named, name};
+pub use names::Name;
 pub use turn::{Turn, TurnList};

@@ -1,24 +1,40 @@
-//! The names of a tableau by their numbers, with the agenda.
+//! The names of a tableau by their numbers, with its agenda and what leads a conversion.
 
-ghost use Rattle.std.specs.Prelude.{◌≡◌, ◌≤◌, ◌<◌, length, map};
-ghost use Rattle.calculus.specs.Numbering.{number_in};
-ghost use Rattle.calculus.specs.Turns.{term_name, mark_name};
+ghost use Rattle.std.specs.Prelude.{◌≡◌, ◌<◌, ◌^◌, ℕ, length, map, slice_get, Some, IfOk, IsTrue};
 ghost use Rattle.calculus.specs.Ground.{g_eigen, g_new_mark, g_spare_mark, values_tree};
+ghost use Rattle.calculus.specs.Numbering.{IsNumbering, NumbersTell, number_in};
+ghost use Rattle.calculus.specs.Tableaux.{is_closed};
+ghost use Rattle.calculus.specs.Turns.{IsAgenda, term_name, mark_name};
 ghost use Rattle.formula_core.specs.GroundView.{the_g_term};
 ghost use Rattle.name_order.specs.NameView.{the_name, the_wanted};
+ghost use Rattle.name_order.specs.Prerequisites.{IsOrder, ParentsTell, WaitsTell};
 ghost use Rattle.name_order.specs.TurnView.{the_turn};
+ghost use Rattle.tableau_core.specs.TableauView.{the_tableau};
 
+use crate::agenda::{arrange, keys_of};
+use crate::collect::collect;
+use crate::guide::{Numbers, order, parents, waits};
+use crate::mention::all_names;
 use crate::names::{Name, Wanted, number_among};
+use crate::numbering::in_order;
+use crate::place::all_places;
 use crate::turn::{Turn, TurnList};
-use cop_base::PosId;
+use cop_base::{NoMemory, PosId};
 use formula_core::{GroundTerm, Values};
+use logic_rules::Problem;
+use std::alloc::Global;
 use std::marker::Model;
+use tableau_core::Tableau;
 
-/// The names of a tableau, numbered from 1 in their order, and its turns in the order in which they are made.
+/// The names of a tableau, numbered from 1 in their order, and its turns in the order in which they
+/// are made. Turns are told by their places in this order, from 0.
 #[derive(Drop)]
 pub struct Named {
     names: Vec<Name>,
     agenda: TurnList,
+    order: Vec<Numbers>,
+    parents: Vec<Option<usize>>,
+    waits: Vec<Numbers>,
 }
 
 impl Model for Named {
@@ -32,9 +48,15 @@ impl Model for Named {
 
     ghost coded = { Prim.hlevel (codes, g_term_code, mark_code, value_code) };
 
-    ghost view = { λ n. record { names = map the_name n.names.items; agenda = n.agenda } };
+    ghost view = { λ n. record {
+      names = map the_name n.names.items;
+      agenda = n.agenda;
+      order = n.order.items;
+      parents = n.parents.items;
+      waits = n.waits.items;
+    } };
 
-    ghost invariant = { λ n. length n.names.items < 2 ^ 32 };
+    ghost invariant = { λ n. (length n.names.items < 2 ^ 32) × (length n.agenda < 2 ^ 32) };
 }
 
 impl Named {
@@ -72,10 +94,79 @@ impl Named {
         self.number(&Wanted::SpareMark(k))
     }
 
+    /// The names, that of number 1 first.
+    pub fn names(&self) -> &[Name]
+        ensures names { map the_name result.now ≡ self.now.names }
+        ensures few { length self.now.names < 2 ^ 32 }
+    {
+        self.names.as_slice()
+    }
+
     /// The turns in the order in which they are made.
     pub fn agenda(&self) -> &[Turn]
-        ensures { map the_turn result.now ≡ self.now.agenda }
+        ensures turns { map the_turn result.now ≡ self.now.agenda }
+        ensures few { length self.now.agenda < 2 ^ 32 }
     {
         self.agenda.items()
     }
+
+    /// The turns of an instance of the tableau in preorder, the instances being counted in preorder
+    /// from 0.
+    pub fn order(&self, instance: usize) -> &[usize]
+        requires { instance < length self.now.order }
+        ensures { slice_get self.now.order instance ≡ Some result.now }
+    {
+        self.order[instance].items()
+    }
+
+    /// The turn of which this one is a component. The root's has none.
+    pub fn parent(&self, turn: usize) -> Option<usize>
+        requires { turn < length self.now.parents }
+        ensures { slice_get self.now.parents turn ≡ Some result }
+    {
+        self.parents[turn]
+    }
+
+    /// The turns that introduce what this one mentions by its own values. Its parent waits for those
+    /// that introduce the rest.
+    pub fn waits(&self, turn: usize) -> &[usize]
+        requires { turn < length self.now.waits }
+        ensures { slice_get self.now.waits turn ≡ Some result.now }
+    {
+        self.waits[turn].items()
+    }
+}
+
+/// The numbers of the names of a tableau, and its agenda.
+pub fn name(alloc: Global, problem: &Problem, t: &Tableau) -> Result<Named, NoMemory>
+    ghost limit: { ℕ }
+    requires closed { IsTrue (is_closed problem.now limit (the_tableau t.now)) }
+    ensures numbering { IfOk result (λ n. IsNumbering problem.now (the_tableau t.now) n.names) }
+    ensures tells { IfOk result (λ n. NumbersTell problem.now (the_tableau t.now) n.names) }
+    ensures agenda { IfOk result (λ n. IsAgenda problem.now (the_tableau t.now) n.agenda) }
+    ensures order { IfOk result (λ n. IsOrder problem.now (the_tableau t.now) n.agenda n.order) }
+    ensures parents { IfOk result (λ n. ParentsTell problem.now n.agenda n.parents) }
+    ensures waits { IfOk result (λ n. WaitsTell problem.now n.agenda n.parents n.waits) }
+{
+    let lists = collect(alloc, problem, t)?;
+    let agenda = arrange(alloc, &lists)?;
+    let keys = keys_of(alloc, agenda.items())?;
+    let places = all_places(alloc, problem)?;
+    let names = in_order(alloc, all_names(alloc, problem, &places, agenda.items())?)?;
+    if names.len() > u32::MAX as usize {
+        return Err(NoMemory);
+    }
+    if agenda.items().len() > u32::MAX as usize {
+        return Err(NoMemory);
+    }
+    let order = order(alloc, &keys, &lists)?;
+    let parents = parents(alloc, &places, &keys, agenda.items())?;
+    let waits = waits(alloc, problem, &places, &keys, agenda.items())?;
+    Ok(Named {
+        names,
+        agenda,
+        order,
+        parents,
+        waits,
+    })
 }

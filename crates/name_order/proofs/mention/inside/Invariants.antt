@@ -1,0 +1,14 @@
+use Rattle.std.proofs.Common.{◌≡◌, [], map, drop}
+use Rattle.std.specs.List.{flat_map}
+use Rattle.calculus.specs.Numbering.{name_eq}
+use Rattle.name_order.specs.Keeping.{keep_all}
+use Rattle.name_order.specs.Mentioned.{names_in_turn}
+use Rattle.name_order.specs.NameSetView.{AreKeyed, the_names}
+use Rattle.name_order.specs.TurnView.{the_turn}
+use Rattle.name_order.proofs.mention.inside.Given as goal
+
+abbrev pub invariant-loop-turn : goal.invariant-loop-turn
+invariant-loop-turn l = record {
+  keyed : AreKeyed l.set;
+  kept : keep_all name_eq (the_names l.set) (flat_map names_in_turn (map the_turn (drop l.turn-index l.turns))) ≡ keep_all name_eq [] (flat_map names_in_turn (map the_turn l.turns));
+}
