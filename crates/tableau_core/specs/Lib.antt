@@ -6,14 +6,12 @@ pub mod ClosingView
 pub mod TableauView
 pub mod ChoiceView
 pub mod Closed
-
 -- ==== what models of lists need: codes and sizes
 
 pub mod LiteralCodes
 pub mod ClosingCodes
 pub mod ClosingSizes
 pub mod ClosingFalls
-
 -- ==== what only private contracts cite
 
 -- values, literals and places of an instance by reference
@@ -21,16 +19,13 @@ pub mod ValuesAt
 pub mod PathView
 pub mod SpotView
 pub mod SpotEq
-
 -- names and the ways to their positions
 pub mod Fitting
 pub mod InsideView
 pub mod Reaching
-
 -- what a walk through an instance leaves, and what is counted of a tableau
 pub mod Walks
 pub mod Counted
-
 -- ==== the problems of the tests
 
 pub mod Examples
