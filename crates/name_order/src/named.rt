@@ -139,8 +139,7 @@ impl Named {
 
 /// The numbers of the names of a tableau, and its agenda.
 pub fn name(alloc: Global, problem: &Problem, t: &Tableau) -> Result<Named, NoMemory>
-    ghost limit: { ℕ }
-    requires closed { IsTrue (is_closed problem.now limit (the_tableau t.now)) }
+    requires closed { (d : ℕ) × IsTrue (is_closed problem.now d (the_tableau t.now)) }
     ensures numbering { IfOk result (λ n. IsNumbering problem.now (the_tableau t.now) n.names) }
     ensures tells { IfOk result (λ n. NumbersTell problem.now (the_tableau t.now) n.names) }
     ensures agenda { IfOk result (λ n. IsAgenda problem.now (the_tableau t.now) n.agenda) }
