@@ -4,6 +4,7 @@ pub mod Environments
 pub mod WayLaws
 pub mod HomeLaws
 pub mod WalkLaws
+pub mod InstanceLaws
 pub mod PathLaws
 pub mod CountLaws
 pub mod CloseLaws
@@ -12,3 +13,4 @@ pub mod ReferenceLaws
 pub mod FittingLaws
 pub mod StringLaws
 pub mod Examples
+pub mod SizeLaws

@@ -15,7 +15,7 @@ pub record Inside : Type 0 where
   pub place : ℕ
 
 abbrev pub the_inside : Below → Inside
-the_inside i = record { sign = i.sign; formula = the_formula i.formula.now; further = i.further; place = i.place }
+the_inside i = record { sign = i.part.sign; formula = the_formula i.part.formula.now; further = i.further; place = i.place }
 
 -- the way from the components of a formula that stands at q to the place p below them, p being counted from the first one
 abbrev pub way_inside : ℕ → ℕ → List Signed → List Node

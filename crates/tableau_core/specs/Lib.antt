@@ -29,3 +29,5 @@ pub mod Counted
 -- ==== the problems of the tests
 
 pub mod Examples
+pub mod PartView
+pub mod Sizes

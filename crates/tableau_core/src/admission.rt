@@ -7,12 +7,12 @@ ghost use Rattle.calculus.specs.Lists.{g_terms_tree};
 ghost use Rattle.calculus.specs.Skolem.{are_admitted, are_admitted_marks, are_admitted_values, has_function, is_admitted, is_admitted_mark, is_admitted_value};
 ghost use Rattle.formula_core.specs.GroundView.{the_g_term, the_mark, the_value};
 
+use crate::sized::SizedProblem;
 use crate::way::{Maker, is_made};
 use cop_base::SymbolId;
 use formula_core::{
     GroundLabel, GroundMark, GroundTerm, GroundTerms, SymbolClass, Symbols, Value, Values,
 };
-use logic_rules::Problem;
 
 // Whether the symbol is a function symbol with so many arguments.
 fn has_function(symbols: &Symbols, f: SymbolId, count: usize) -> bool
@@ -26,7 +26,7 @@ fn has_function(symbols: &Symbols, f: SymbolId, count: usize) -> bool
 }
 
 #[cycle(admission)]
-fn is_admitted(problem: &Problem, term: &GroundTerm) -> bool
+fn is_admitted(problem: &SizedProblem, term: &GroundTerm) -> bool
     ensures { result ≡ is_admitted problem.now (the_g_term term.now) }
 {
     match term {
@@ -44,7 +44,7 @@ fn is_admitted(problem: &Problem, term: &GroundTerm) -> bool
 
 #[cycle(admission)]
 #[tactic(auto, using(formula_core::specs::GroundFalls::ground_falling))]
-fn are_admitted(problem: &Problem, terms: &GroundTerms) -> bool
+fn are_admitted(problem: &SizedProblem, terms: &GroundTerms) -> bool
     ensures { result ≡ are_admitted problem.now (g_terms_tree terms.now) }
 {
     for term in terms.items() {
@@ -56,7 +56,7 @@ fn are_admitted(problem: &Problem, terms: &GroundTerms) -> bool
 }
 
 #[cycle(admission)]
-fn is_admitted_mark(problem: &Problem, mark: &GroundMark) -> bool
+fn is_admitted_mark(problem: &SizedProblem, mark: &GroundMark) -> bool
     ensures { result ≡ is_admitted_mark problem.now (the_mark mark.now) }
 {
     match mark {
@@ -69,7 +69,7 @@ fn is_admitted_mark(problem: &Problem, mark: &GroundMark) -> bool
 
 #[cycle(admission)]
 #[tactic(auto, using(formula_core::specs::GroundFalls::ground_falling))]
-fn are_admitted_marks(problem: &Problem, label: &GroundLabel) -> bool
+fn are_admitted_marks(problem: &SizedProblem, label: &GroundLabel) -> bool
     ensures { result ≡ are_admitted_marks problem.now (marks_tree label.now) }
 {
     for mark in label.items() {
@@ -81,7 +81,7 @@ fn are_admitted_marks(problem: &Problem, label: &GroundLabel) -> bool
 }
 
 #[cycle(admission)]
-fn is_admitted_value(problem: &Problem, value: &Value) -> bool
+fn is_admitted_value(problem: &SizedProblem, value: &Value) -> bool
     ensures { result ≡ is_admitted_value problem.now (the_value value.now) }
 {
     match value {
@@ -93,7 +93,7 @@ fn is_admitted_value(problem: &Problem, value: &Value) -> bool
 /// Whether an instance may have these values.
 #[cycle(admission)]
 #[tactic(auto, using(formula_core::specs::GroundFalls::ground_falling))]
-pub fn are_admitted_values(problem: &Problem, values: &Values) -> bool
+pub fn are_admitted_values(problem: &SizedProblem, values: &Values) -> bool
     ensures { result ≡ are_admitted_values problem.now (values_tree values.now) }
 {
     for value in values.items() {

@@ -9,15 +9,16 @@ ghost use Rattle.calculus.specs.Skolem.{are_allowed, is_allowed};
 ghost use Rattle.formula_core.specs.GroundView.{the_g_term, the_mark};
 ghost use Rattle.tableau_core.specs.SpotView.{the_mark_at};
 
-use crate::home::eigen_home;
+use crate::home::home_of;
 use crate::references::{given, references};
+use crate::sized::SizedProblem;
 use crate::spot::MarkAt;
 use cop_base::{NoMemory, PosId};
 use formula_core::{GroundLabel, GroundTerm, GroundTerms, Values};
-use logic_rules::{Domains, Problem, home_allows};
+use logic_rules::{Domains, home_allows};
 use std::alloc::Global;
 
-fn is_home(problem: &Problem, home: &[MarkAt], at: &[MarkAt]) -> bool
+fn is_home(problem: &SizedProblem, home: &[MarkAt], at: &[MarkAt]) -> bool
     ensures { result ≡ home_allows mark_eq problem.now.setting.domains (map the_mark_at home.now) (map the_mark_at at.now) }
 {
     home_allows(problem.setting().domains(), home, at)
@@ -26,7 +27,7 @@ fn is_home(problem: &Problem, home: &[MarkAt], at: &[MarkAt]) -> bool
 // Whether the home of the eigenvariable allows the label. In constant domains each one does.
 fn is_eigen_allowed(
     alloc: Global,
-    problem: &Problem,
+    problem: &SizedProblem,
     at: &[MarkAt],
     p: PosId,
     values: &Values,
@@ -38,7 +39,7 @@ fn is_eigen_allowed(
         Domains::Constant => Ok(true),
         Domains::Cumulative | Domains::Varying => {
             let values = references(alloc, values.items())?;
-            let home = eigen_home(alloc, problem, p, &values)?;
+            let home = home_of(alloc, problem, p, &values)?;
             let allowed = is_home(problem, &home, at);
             Ok(allowed)
         }
@@ -47,7 +48,7 @@ fn is_eigen_allowed(
 
 fn is_own_allowed(
     alloc: Global,
-    problem: &Problem,
+    problem: &SizedProblem,
     at: &[MarkAt],
     label: &GroundLabel,
 ) -> Result<bool, NoMemory>
@@ -63,7 +64,7 @@ fn is_own_allowed(
 #[cycle(allowance)]
 pub fn is_allowed(
     alloc: Global,
-    problem: &Problem,
+    problem: &SizedProblem,
     at: &[MarkAt],
     term: &GroundTerm,
 ) -> Result<bool, NoMemory>
@@ -93,7 +94,7 @@ pub fn is_allowed(
 #[tactic(auto, using(formula_core::specs::GroundFalls::ground_falling))]
 fn are_allowed(
     alloc: Global,
-    problem: &Problem,
+    problem: &SizedProblem,
     at: &[MarkAt],
     terms: &GroundTerms,
 ) -> Result<bool, NoMemory>

@@ -16,6 +16,7 @@ use crate::closing::{Closing, ClosingList};
 use crate::count::{Count, and_more, is_short, longest_string};
 use crate::instance::ClauseInstance;
 use crate::literal::GroundLiteral;
+use crate::sized::{SizedProblem, sizes_in};
 use crate::tableau::Tableau;
 use crate::walk::steps_if_allowed;
 use cop_base::NoMemory;
@@ -97,7 +98,7 @@ fn may_extend(
 // The number of steps of an instance that extends the path.
 fn steps_if_extends(
     alloc: Global,
-    problem: &Problem,
+    problem: &SizedProblem,
     limit: u8,
     path: &[&GroundLiteral],
     goal: &GroundLiteral,
@@ -126,7 +127,7 @@ fn counted(closed: bool, so_far: Count) -> Option<Count>
 #[cycle(closed)]
 fn closes<'a>(
     alloc: Global,
-    problem: &Problem,
+    problem: &SizedProblem,
     limit: u8,
     path: &[&'a GroundLiteral],
     goal: &'a GroundLiteral,
@@ -168,7 +169,7 @@ fn closes<'a>(
 #[tactic(auto, using(crate::specs::ClosingFalls::falling))]
 fn closes_all<'a>(
     alloc: Global,
-    problem: &Problem,
+    problem: &SizedProblem,
     limit: u8,
     path: &[&'a GroundLiteral],
     goals: &[&'a GroundLiteral],
@@ -215,10 +216,13 @@ fn are_shown(literals: &[GroundLiteral]) -> bool
     true
 }
 
-/// Whether the tableau is closed within the path limit: the rules of leanCoP (Otten) with labels.
-/// Calls nest through closings at most as deep as the limit, through the formula as deep as it is
-/// nested, and through ground terms as deep as these are.
-pub fn is_closed(alloc: Global, problem: &Problem, t: &Tableau, limit: u8) -> Result<bool, NoMemory>
+// The same where the sizes of the formula's parts are known.
+fn is_closed_within(
+    alloc: Global,
+    problem: &SizedProblem,
+    t: &Tableau,
+    limit: u8,
+) -> Result<bool, NoMemory>
     ensures { IfOk result (λ b. b ≡ is_closed problem.now limit (the_tableau t.now)) }
 {
     let own = steps_if_allowed(alloc, problem, &t.start)?;
@@ -242,4 +246,17 @@ pub fn is_closed(alloc: Global, problem: &Problem, t: &Tableau, limit: u8) -> Re
             }
         }
     }
+}
+
+/// Whether the tableau is closed within the path limit: the rules of leanCoP (Otten) with labels.
+/// The work is near linear in the tableau's size times the depth of its branches and of the formula.
+/// Calls nest through closings at most as deep as the limit, through the formula as deep as it is
+/// nested, and through ground terms as deep as these are, which neither of the two bounds.
+pub fn is_closed(alloc: Global, problem: &Problem, t: &Tableau, limit: u8) -> Result<bool, NoMemory>
+    ensures { IfOk result (λ b. b ≡ is_closed problem.now limit (the_tableau t.now)) }
+{
+    let sizes = sizes_in(alloc, problem)?;
+    let sized = SizedProblem::new(problem, &sizes);
+    let closed = is_closed_within(alloc, &sized, t, limit)?;
+    Ok(closed)
 }

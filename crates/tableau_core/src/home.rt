@@ -13,11 +13,13 @@ ghost use Rattle.tableau_core.specs.Reaching.{reach, rest_of};
 ghost use Rattle.tableau_core.specs.SpotView.{the_mark_at};
 ghost use Rattle.tableau_core.specs.ValuesAt.{values_at};
 
+use crate::part::Part;
 use crate::references::{copy_label, with_mark, with_string};
+use crate::sized::{SizedProblem, sizes_in};
 use crate::spot::{MarkAt, Taken};
-use crate::way::{size, towards};
+use crate::way::towards;
 use cop_base::{NoMemory, PosId};
-use formula_core::{Formula, GroundLabel, Sign, Value};
+use formula_core::{GroundLabel, Value};
 use logic_rules::{Logic, ModalPart, Problem, Shape, kind_of};
 use std::alloc::Global;
 
@@ -73,25 +75,24 @@ fn past_shape(shape: Shape, values: &[&Value], place: usize) -> Option<usize>
 fn home_below<'a>(
     alloc: Global,
     logic: Logic,
-    sign: Sign,
-    f: &Formula,
+    part: Part,
     place: u32,
     position: u32,
     values: &'a [&'a Value],
     taken: usize,
     label: &[MarkAt<'a>],
 ) -> Result<Vec<MarkAt<'a>>, NoMemory>
-    requires small { position + size (the_formula f.now) < 2 ^ 32 }
-    requires inside { place < size (the_formula f.now) }
+    requires small { position + size (the_formula part.formula.now) < 2 ^ 32 }
+    requires inside { place < size (the_formula part.formula.now) }
     requires taken { taken ≤ length values.now }
     ensures { IfOk result (λ w. map the_mark_at w.items
-        ≡ label_along logic (way_from position sign (the_formula f.now) place)
+        ≡ label_along logic (way_from position part.entry.sign (the_formula part.entry.formula.now) place)
         (reach (map the_mark_at label.now) (values_at values.now) taken)) }
 {
-    match kind_of(logic, sign, f).modal {
+    match kind_of(logic, part.sign, part.formula).modal {
         ModalPart::Plain => {
             let w = home_shape(
-                alloc, logic, sign, f, place, position, values, taken, label, label,
+                alloc, logic, part, place, position, values, taken, label, label,
             )?;
             Ok(w)
         }
@@ -105,8 +106,7 @@ fn home_below<'a>(
                 let w = home_shape(
                     alloc,
                     logic,
-                    sign,
-                    f,
+                    part,
                     place,
                     position,
                     values,
@@ -124,7 +124,7 @@ fn home_below<'a>(
             let mark = MarkAt::Made(PosId(position), before);
             let moved = with_mark(alloc, logic, label, mark)?;
             let w = home_shape(
-                alloc, logic, sign, f, place, position, values, taken, &moved, label,
+                alloc, logic, part, place, position, values, taken, &moved, label,
             )?;
             Ok(w)
         }
@@ -136,8 +136,7 @@ fn home_below<'a>(
 fn home_shape<'a>(
     alloc: Global,
     logic: Logic,
-    sign: Sign,
-    f: &Formula,
+    part: Part,
     place: u32,
     position: u32,
     values: &'a [&'a Value],
@@ -145,16 +144,16 @@ fn home_shape<'a>(
     label: &[MarkAt<'a>],
     before: &[MarkAt<'a>],
 ) -> Result<Vec<MarkAt<'a>>, NoMemory>
-    requires small { position + size (the_formula f.now) < 2 ^ 32 }
-    requires inside { place < size (the_formula f.now) }
+    requires small { position + size (the_formula part.formula.now) < 2 ^ 32 }
+    requires inside { place < size (the_formula part.formula.now) }
     requires taken { taken ≤ length values.now }
     ensures { IfOk result (λ w. map the_mark_at w.items
-        ≡ option_map_or (label_along logic (rest_of (way_from position sign (the_formula f.now) place)))
-        (after_shape (shape_of sign (the_formula f.now))
+        ≡ option_map_or (label_along logic (rest_of (way_from position part.entry.sign (the_formula part.entry.formula.now) place)))
+        (after_shape (shape_of part.entry.sign (the_formula part.entry.formula.now))
         (reach (map the_mark_at label.now) (values_at values.now) taken))
         (map the_mark_at before.now)) }
 {
-    let shape = f.components(sign).shape();
+    let shape = part.formula.components(part.sign).shape();
     let Some(past) = past_shape(shape, values, taken) else {
         let w = copy_label(alloc, before)?;
         return Ok(w);
@@ -163,12 +162,11 @@ fn home_shape<'a>(
         let w = copy_label(alloc, label)?;
         return Ok(w);
     }
-    let next = towards(sign, f, place);
+    let next = towards(part, place);
     let w = home_below(
         alloc,
         logic,
-        next.sign,
-        next.formula,
+        next.part,
         next.place,
         position + next.further,
         values,
@@ -179,6 +177,25 @@ fn home_shape<'a>(
 }
 
 /// The home of the eigenvariable of this position and these values.
+pub fn home_of<'a>(
+    alloc: Global,
+    problem: &SizedProblem,
+    p: PosId,
+    values: &'a [&'a Value],
+) -> Result<Vec<MarkAt<'a>>, NoMemory>
+    ensures { IfOk result (λ w. map the_mark_at w.items ≡ label_of problem.now p.0 (values_at values.now)) }
+{
+    let whole = problem.whole();
+    let root = Vec::new(alloc);
+    if p.0 >= whole.size() {
+        return Ok(root);
+    }
+    let logic = problem.setting().logic();
+    let w = home_below(alloc, logic, whole, p.0, 0, values, 0, &root)?;
+    Ok(w)
+}
+
+/// The same where no sizes are known: they are made for this call.
 pub fn eigen_home<'a>(
     alloc: Global,
     problem: &Problem,
@@ -187,12 +204,8 @@ pub fn eigen_home<'a>(
 ) -> Result<Vec<MarkAt<'a>>, NoMemory>
     ensures { IfOk result (λ w. map the_mark_at w.items ≡ label_of problem.now p.0 (values_at values.now)) }
 {
-    let f = problem.formula();
-    let root = Vec::new(alloc);
-    if p.0 >= size(f) {
-        return Ok(root);
-    }
-    let logic = problem.setting().logic();
-    let w = home_below(alloc, logic, Sign::F, f, p.0, 0, values, 0, &root)?;
+    let sizes = sizes_in(alloc, problem)?;
+    let sized = SizedProblem::new(problem, &sizes);
+    let w = home_of(alloc, &sized, p, values)?;
     Ok(w)
 }

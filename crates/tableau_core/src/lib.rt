@@ -11,9 +11,13 @@ mod count;
 mod home;
 mod instance;
 mod literal;
+mod part;
+mod parts;
 mod pattern;
 mod references;
 mod selection;
+mod sized;
+mod sizes;
 mod spot;
 mod tableau;
 #[cfg(test)]

@@ -23,14 +23,17 @@ use crate::admission::are_admitted_values;
 use crate::allowance::is_allowed;
 use crate::instance::ClauseInstance;
 use crate::literal::GroundLiteral;
+use crate::part::Part;
+use crate::parts::{Parts, components_of};
 use crate::pattern::are_instances;
 use crate::references::{with_bound, with_mark, with_string, with_value};
+use crate::sized::SizedProblem;
 use crate::spot::{Bound, MarkAt, Taken, is_label};
-use crate::way::{is_step_of, size};
+use crate::way::is_step_of;
 use calculus::sign::Side;
 use cop_base::{NoMemory, PosId, SymbolId};
-use formula_core::{Components, Formula, GroundLabel, GroundTerm, Sign, Signed, Terms, Value};
-use logic_rules::{Logic, ModalPart, Problem, kind_of};
+use formula_core::{GroundLabel, GroundTerm, Sign, Terms, Value};
+use logic_rules::{Logic, ModalPart, kind_of};
 use std::alloc::Global;
 
 /// Where a part of an instance stands: its position, its label, the values taken on the way to it,
@@ -170,9 +173,9 @@ fn next_side(sides: &[Side]) -> Option<(Side, &[Side])>
 #[cycle(walk)]
 fn walk<'v>(
     alloc: Global,
-    problem: &Problem,
+    problem: &SizedProblem,
     logic: Logic,
-    a: Signed,
+    a: Part,
     spot: &Spot,
     rest: &Rest<'v>,
 ) -> Result<Option<Rest<'v>>, NoMemory>
@@ -200,9 +203,9 @@ fn walk<'v>(
 #[cycle(walk)]
 fn walk_nu<'v>(
     alloc: Global,
-    problem: &Problem,
+    problem: &SizedProblem,
     logic: Logic,
-    a: Signed,
+    a: Part,
     spot: &Spot,
     rest: &Rest<'v>,
 ) -> Result<Option<Rest<'v>>, NoMemory>
@@ -241,9 +244,9 @@ fn walk_nu<'v>(
 #[cycle(walk)]
 fn walk_pi<'v>(
     alloc: Global,
-    problem: &Problem,
+    problem: &SizedProblem,
     logic: Logic,
-    a: Signed,
+    a: Part,
     spot: &Spot,
     rest: &Rest<'v>,
 ) -> Result<Option<Rest<'v>>, NoMemory>
@@ -273,9 +276,9 @@ fn walk_pi<'v>(
 #[cycle(walk)]
 fn walk_shape<'v>(
     alloc: Global,
-    problem: &Problem,
+    problem: &SizedProblem,
     logic: Logic,
-    a: Signed,
+    a: Part,
     spot: &Spot,
     rest: &Rest<'v>,
 ) -> Result<Option<Rest<'v>>, NoMemory>
@@ -283,25 +286,25 @@ fn walk_shape<'v>(
     ensures { IfOk result (λ o. option_map the_left o
         ≡ left problem.now (shaped_by logic (shape_of a.entry.sign (the_formula a.entry.formula.now)) (components a.entry.sign (the_formula a.entry.formula.now))) (the_spot spot.now) (the_left rest.now)) }
 {
-    match a.formula.components(a.sign) {
-        Components::Literal(p, args) => Ok(past_literal(a.sign, p, args, spot, rest)),
-        Components::One(b) => {
+    match components_of(a) {
+        Parts::Literal(p, args) => Ok(past_literal(a.sign, p, args, spot, rest)),
+        Parts::One(b) => {
             let past = walk(alloc, problem, logic, b, &down_by(spot, 1), rest)?;
             Ok(past)
         }
-        Components::Alpha(b, c) => {
+        Parts::Alpha(b, c) => {
             let past = walk_alpha(alloc, problem, logic, b, c, spot, rest)?;
             Ok(past)
         }
-        Components::Beta(b, c) => {
+        Parts::Beta(b, c) => {
             let past = walk_beta(alloc, problem, logic, b, c, spot, rest)?;
             Ok(past)
         }
-        Components::Gamma(b) => {
+        Parts::Gamma(b) => {
             let past = walk_gamma(alloc, problem, logic, b, spot, rest)?;
             Ok(past)
         }
-        Components::Delta(b) => {
+        Parts::Delta(b) => {
             let past = walk_delta(alloc, problem, logic, b, spot, rest)?;
             Ok(past)
         }
@@ -312,10 +315,10 @@ fn walk_shape<'v>(
 #[cycle(walk)]
 fn walk_alpha<'v>(
     alloc: Global,
-    problem: &Problem,
+    problem: &SizedProblem,
     logic: Logic,
-    a: Signed,
-    b: Signed,
+    a: Part,
+    b: Part,
     spot: &Spot,
     rest: &Rest<'v>,
 ) -> Result<Option<Rest<'v>>, NoMemory>
@@ -338,7 +341,7 @@ fn walk_alpha<'v>(
                     Ok(past)
                 }
                 Side::Right => {
-                    let further = size(a.formula) + 1;
+                    let further = a.size() + 1;
                     let past = walk(alloc, problem, logic, b, &down_by(spot, further), &more)?;
                     Ok(past)
                 }
@@ -351,10 +354,10 @@ fn walk_alpha<'v>(
 #[cycle(walk)]
 fn walk_beta<'v>(
     alloc: Global,
-    problem: &Problem,
+    problem: &SizedProblem,
     logic: Logic,
-    a: Signed,
-    b: Signed,
+    a: Part,
+    b: Part,
     spot: &Spot,
     rest: &Rest<'v>,
 ) -> Result<Option<Rest<'v>>, NoMemory>
@@ -365,7 +368,7 @@ fn walk_beta<'v>(
     match walk(alloc, problem, logic, a, &down_by(spot, 1), rest)? {
         None => Ok(None),
         Some(more) => {
-            let further = size(a.formula) + 1;
+            let further = a.size() + 1;
             let past = walk(alloc, problem, logic, b, &down_by(spot, further), &more)?;
             Ok(past)
         }
@@ -376,9 +379,9 @@ fn walk_beta<'v>(
 #[cycle(walk)]
 fn walk_gamma<'v>(
     alloc: Global,
-    problem: &Problem,
+    problem: &SizedProblem,
     logic: Logic,
-    a: Signed,
+    a: Part,
     spot: &Spot,
     rest: &Rest<'v>,
 ) -> Result<Option<Rest<'v>>, NoMemory>
@@ -417,9 +420,9 @@ fn walk_gamma<'v>(
 #[cycle(walk)]
 fn walk_delta<'v>(
     alloc: Global,
-    problem: &Problem,
+    problem: &SizedProblem,
     logic: Logic,
-    a: Signed,
+    a: Part,
     spot: &Spot,
     rest: &Rest<'v>,
 ) -> Result<Option<Rest<'v>>, NoMemory>
@@ -465,7 +468,7 @@ fn finished(left: Option<Rest>) -> Option<u64>
 /// are more.
 pub fn steps_if_allowed(
     alloc: Global,
-    problem: &Problem,
+    problem: &SizedProblem,
     instance: &ClauseInstance,
 ) -> Result<Option<u64>, NoMemory>
     ensures { IfOk result (λ o. o ≡ steps_if_allowed problem.now (the_instance instance.now)) }
@@ -488,11 +491,8 @@ pub fn steps_if_allowed(
         literals: instance.literals.items(),
         steps: 0,
     };
-    let a = Signed {
-        sign: Sign::F,
-        formula: problem.formula(),
-    };
-    let left = walk(alloc, problem, problem.setting().logic(), a, &root, &rest)?;
+    let logic = problem.setting().logic();
+    let left = walk(alloc, problem, logic, problem.whole(), &root, &rest)?;
     let steps = finished(left);
     Ok(steps)
 }

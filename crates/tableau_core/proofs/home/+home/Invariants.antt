@@ -5,7 +5,7 @@ use Rattle.formula_core.specs.FormulaView.{the_formula}
 use Rattle.tableau_core.proofs.home.+home.Given as goal
 
 abbrev pub decreases-home_below : goal.decreases-home_below
-decreases-home_below l = 2 * size (the_formula l.f.now) + 1
+decreases-home_below l = 2 * size (the_formula l.part.formula.now) + 1
 
 abbrev pub decreases-home_shape : goal.decreases-home_shape
-decreases-home_shape l = 2 * size (the_formula l.f.now)
+decreases-home_shape l = 2 * size (the_formula l.part.formula.now)

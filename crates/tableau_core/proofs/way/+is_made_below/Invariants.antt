@@ -4,4 +4,4 @@ use Rattle.formula_core.specs.FormulaView.{the_formula}
 use Rattle.tableau_core.proofs.way.+is_made_below.Given as goal
 
 abbrev pub decreases-is_made_below : goal.decreases-is_made_below
-decreases-is_made_below l = size (the_formula l.f.now)
+decreases-is_made_below l = size (the_formula l.part.formula.now)
