@@ -8,10 +8,10 @@ use Rattle.calculus.specs.declared.setting.Logic.{Logic}
 use Rattle.calculus.specs.declared.setting.Logic.TheVariants.{Classical, Intuitionistic, D, T as LogicT, S4, S5}
 use Rattle.calculus.specs.declared.setting.Domains.{Domains}
 use Rattle.calculus.specs.declared.setting.Domains.TheVariants.{Constant, Cumulative, Varying}
-use Rattle.calculus.specs.Ground.{GroundTerm, GroundTerms, no_g_terms, more_g_terms, own, GroundMark, g_new_mark, g_spare_mark, marks_tree, Value, term, steps, values_tree, GroundLiteral}
+use Rattle.calculus.specs.Ground.{GroundTerm, no_g_terms, more_g_terms, own, GroundMark, g_new_mark, g_spare_mark, marks_tree, Value, term, steps, values_tree, GroundLiteral}
 use Rattle.calculus.specs.Instances.{ClauseInstance}
 use Rattle.calculus.specs.Syntax.{Formula, Problem, atom, neg, conj, disj, imp, all, ex, box, dia, var, no_terms, more_terms, setting_of}
-use Rattle.calculus.specs.Tableaux.{Closing, Closings, reduce, extend, no_closings, more_closings, Tableau, is_closed}
+use Rattle.calculus.specs.Tableaux.{Closing, Closings, reduce, extend, no_closings, more_closings, is_closed}
 
 abbrev problem : Logic → Domains → Formula → Problem
 problem l d f = record { setting = setting_of l d; formula = f; symbols = [] }

@@ -29,16 +29,16 @@ fn compare_side(a: Side, b: Side) -> Ordering
     }
 }
 
-fn compare_sides(a: &[Side], b: &[Side]) -> Ordering
-    ensures { result ≡ selection_cmp a.now b.now }
+fn compare_sides(s: &[Side], t: &[Side]) -> Ordering
+    ensures { result ≡ selection_cmp s.now t.now }
 {
-    for i in 0..a.len().min(b.len()) {
-        let order = compare_side(a[i], b[i]);
+    for i in 0..s.len().min(t.len()) {
+        let order = compare_side(s[i], t[i]);
         if order != Ordering::Equal {
             return order;
         }
     }
-    a.len().cmp(&b.len())
+    s.len().cmp(&t.len())
 }
 
 // A start before reductions, these before extensions; the nearest ancestor first.

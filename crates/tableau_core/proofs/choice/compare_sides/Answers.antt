@@ -4,7 +4,7 @@ use Rattle.tableau_core.proofs.Comparing.{compare-end}
 use Rattle.tableau_core.proofs.choice.compare_sides.Goals as goal
 
 pub returns : goal.returns
-returns c = let a = c.args.a.now in let b = c.args.b.now in let n = c.min-i-end.result in let i = c.loop-i.i in
+returns c = let a = c.args.s.now in let b = c.args.t.now in let n = c.min-i-end.result in let i = c.loop-i.i in
     let e : n ≡ min (length a) (length b) = c.min-i-end.ensures in
     let t : n ≤ i = c.loop-i-test.false in
     let u : i ≤ n = c.loop-i.auto.i-end in
