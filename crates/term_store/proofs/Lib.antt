@@ -6,3 +6,4 @@ pub mod FitLaws
 pub mod OwnLaws
 pub mod CopyLaws
 pub mod ListLaws
+pub mod SignatureLaws

@@ -10,3 +10,4 @@ pub mod Copying
 pub mod RefView
 pub mod ClauseView
 pub mod TemplateView
+pub mod Signatures

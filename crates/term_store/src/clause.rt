@@ -329,9 +329,10 @@ pub struct Template {
     pub sorts: SortList,
 }
 
-/// A clause by cells.
+/// A clause by cells, over these variables.
 #[derive(Drop)]
 pub struct CopiedClause {
+    pub variables: Variables,
     pub literals: CellAtomList,
     pub strings: RefList,
     pub pis: u32,

@@ -1,6 +1,6 @@
 //! Copies of clauses, at once or the connected literal first.
 
-ghost use Rattle.std.specs.Prelude.{◌≡◌, ◌<◌, ◌+◌, ◌++◌, IfOk, IsTrue, OnErr, OnOk, Some, length, map, slice_get};
+ghost use Rattle.std.specs.Prelude.{◌≡◌, ◌<◌, ◌+◌, ◌++◌, ◌&&◌, IfOk, IsTrue, OnErr, OnOk, Some, length, map, slice_get};
 ghost use Rattle.std.specs.List.{list_all};
 ghost use Rattle.calculus.specs.Bindings.{AddsBuilt, AddsOver, KeepsMarks, NamesFrom, NamesOver, places_from, with_variables_of};
 ghost use Rattle.calculus.specs.Patterns.{Grows, HaveSortsAt, IsAtomCopy, IsClauseCopy, PatternAtom as TreeAtom, atom_fits, atom_is_from, clause_fits, clause_is_from, template_fits, without_literal};
@@ -9,6 +9,7 @@ ghost use Rattle.term_store.specs.ClauseView.{the_atom, the_pattern_atom};
 ghost use Rattle.term_store.specs.Copying.{with_literals};
 ghost use Rattle.term_store.specs.RefView.{the_places};
 ghost use Rattle.term_store.specs.Room.{KeepsRoom};
+ghost use Rattle.term_store.specs.Signatures.{BuildsWithin, allows_atom, allows_template};
 ghost use Rattle.term_store.specs.TemplateView.{the_clause, the_template};
 
 use crate::cell::{Ref, Variables};
@@ -60,8 +61,10 @@ impl Store {
         requires variables { HaveSortsAt self.old.store t.now.sorts (the_places variables) }
         ensures copy { IfOk result (λ c. IsClauseCopy self.new.store (the_places variables) (with_literals (map the_pattern_atom front.now ++ map the_pattern_atom back.now) (the_template t.now)) (the_clause c)) }
         ensures sorts { IfOk result (λ c. IsTrue (clause_fits self.new.store (the_clause c))) }
+        ensures variables { IfOk result (λ c. c.variables ≡ variables) }
         ensures own { IfOk result (λ c. NamesOver (the_places variables) (length self.old.store.cells) (λ base. clause_is_from base (the_clause c))) }
         ensures adds { AddsOver (the_places variables) self.old.store self.new.store }
+        ensures within { OnOk result (BuildsWithin (λ g. allows_template g (with_literals (map the_pattern_atom front.now ++ map the_pattern_atom back.now) (the_template t.now))) self.old.store self.new.store) }
         ensures room { KeepsRoom self.old self.new }
     {
         let mut places = Vec::new(self.alloc);
@@ -71,6 +74,7 @@ impl Store {
         let strings = self.copy_refs(&t.strings, variables, &mut places)?;
         let gammas = self.copy_gammas(&t.gammas, variables, &mut places)?;
         Ok(CopiedClause {
+            variables,
             literals,
             strings,
             pis: t.pis,
@@ -83,9 +87,11 @@ impl Store {
         requires { IsTrue (template_fits (the_template t.now)) }
         ensures copy { IfOk result (λ c. IsClauseCopy self.new.store (places_from (length self.old.store.cells) (length t.now.sorts)) (the_template t.now) (the_clause c)) }
         ensures sorts { IfOk result (λ c. IsTrue (clause_fits self.new.store (the_clause c))) }
+        ensures variables { IfOk result (λ c. the_places c.variables ≡ places_from (length self.old.store.cells) (length t.now.sorts)) }
         ensures own { IfOk result (λ c. IsTrue (clause_is_from (length self.old.store.cells) (the_clause c))) }
         ensures names { OnOk result (NamesFrom (length self.old.store.cells) self.new.store) }
         ensures built { OnOk result (AddsBuilt (with_variables_of t.now.sorts self.old.store) self.new.store) }
+        ensures within { OnOk result (BuildsWithin (λ g. list_all g.sorts t.now.sorts && allows_template g (the_template t.now)) self.old.store self.new.store) }
         ensures marks { KeepsMarks self.old.store self.new.store }
         ensures room { KeepsRoom self.old self.new }
     {
@@ -99,9 +105,11 @@ impl Store {
         requires { IsTrue (template_fits (the_template t.now)) }
         ensures copy { IfOk result (λ c. IsClauseCopy self.new.store (places_from (length self.old.store.cells) (length t.now.sorts)) (the_template t.now) (the_clause c)) }
         ensures sorts { IfOk result (λ c. IsTrue (clause_fits self.new.store (the_clause c))) }
+        ensures variables { IfOk result (λ c. the_places c.variables ≡ places_from (length self.old.store.cells) (length t.now.sorts)) }
         ensures own { IfOk result (λ c. IsTrue (clause_is_from (length self.old.store.cells) (the_clause c))) }
         ensures names { OnOk result (NamesFrom (length self.old.store.cells) self.new.store) }
         ensures built { OnOk result (AddsBuilt (with_variables_of t.now.sorts self.old.store) self.new.store) }
+        ensures within { OnOk result (BuildsWithin (λ g. list_all g.sorts t.now.sorts && allows_template g (the_template t.now)) self.old.store self.new.store) }
         ensures err { OnErr result (self.new.store ≡ self.old.store) }
         ensures marks { KeepsMarks self.old.store self.new.store }
         ensures room { KeepsRoom self.old self.new }
@@ -127,6 +135,7 @@ impl Store {
         ensures own { IfOk result (λ c. IsTrue (atom_is_from (length self.old.store.cells) (the_atom c.atom))) }
         ensures names { OnOk result (NamesFrom (length self.old.store.cells) self.new.store) }
         ensures built { OnOk result (AddsBuilt (with_variables_of t.now.sorts self.old.store) self.new.store) }
+        ensures within { OnOk result ((a : TreeAtom) → slice_get t.now.literals place ≡ Some a → BuildsWithin (λ g. list_all g.sorts t.now.sorts && allows_atom g a) self.old.store self.new.store) }
         ensures marks { KeepsMarks self.old.store self.new.store }
         ensures room { KeepsRoom self.old self.new }
     {
@@ -148,6 +157,7 @@ impl Store {
         ensures own { IfOk result (λ c. IsTrue (atom_is_from (length self.old.store.cells) (the_atom c.atom))) }
         ensures names { OnOk result (NamesFrom (length self.old.store.cells) self.new.store) }
         ensures built { OnOk result (AddsBuilt (with_variables_of t.now.sorts self.old.store) self.new.store) }
+        ensures within { OnOk result ((a : TreeAtom) → slice_get t.now.literals place ≡ Some a → BuildsWithin (λ g. list_all g.sorts t.now.sorts && allows_atom g a) self.old.store self.new.store) }
         ensures err { OnErr result (self.new.store ≡ self.old.store) }
         ensures marks { KeepsMarks self.old.store self.new.store }
         ensures room { KeepsRoom self.old self.new }
@@ -174,8 +184,10 @@ impl Store {
         requires place { place < length t.now.literals }
         ensures copy { IfOk result (λ c. IsClauseCopy self.new.store (the_places variables) (without_literal place (the_template t.now)) (the_clause c)) }
         ensures sorts { IfOk result (λ c. IsTrue (clause_fits self.new.store (the_clause c))) }
+        ensures variables { IfOk result (λ c. c.variables ≡ variables) }
         ensures own { IfOk result (λ c. NamesOver (the_places variables) (length self.old.store.cells) (λ base. clause_is_from base (the_clause c))) }
         ensures adds { AddsOver (the_places variables) self.old.store self.new.store }
+        ensures within { OnOk result (BuildsWithin (λ g. allows_template g (without_literal place (the_template t.now))) self.old.store self.new.store) }
         ensures room { KeepsRoom self.old self.new }
     {
         let literals = t.literals.items();
@@ -195,8 +207,10 @@ impl Store {
         requires place { place < length t.now.literals }
         ensures copy { IfOk result (λ c. IsClauseCopy self.new.store (the_places variables) (without_literal place (the_template t.now)) (the_clause c)) }
         ensures sorts { IfOk result (λ c. IsTrue (clause_fits self.new.store (the_clause c))) }
+        ensures variables { IfOk result (λ c. c.variables ≡ variables) }
         ensures own { IfOk result (λ c. NamesOver (the_places variables) (length self.old.store.cells) (λ base. clause_is_from base (the_clause c))) }
         ensures adds { AddsOver (the_places variables) self.old.store self.new.store }
+        ensures within { OnOk result (BuildsWithin (λ g. allows_template g (without_literal place (the_template t.now))) self.old.store self.new.store) }
         ensures err { OnErr result (self.new.store ≡ self.old.store) }
         ensures marks { KeepsMarks self.old.store self.new.store }
         ensures room { KeepsRoom self.old self.new }

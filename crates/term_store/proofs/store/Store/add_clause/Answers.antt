@@ -1,5 +1,4 @@
 use Rattle.std.proofs.Common.{false, map}
-use Rattle.calculus.specs.Bindings.{AddsOver}
 use Rattle.calculus.specs.declared.sort.Sort.TheVariants.{StringSort}
 use Rattle.calculus.proofs.PatternLaws.{Grows-built}
 use Rattle.term_store.specs.ClauseView.{the_pattern_atom}
@@ -8,6 +7,7 @@ use Rattle.term_store.specs.TemplateView.{the_template}
 use Rattle.term_store.proofs.FitLaws.{have-grown, placed-atoms, sorted-alone, template-gammas, template-strings}
 use Rattle.term_store.proofs.ListLaws.{clause-made}
 use Rattle.term_store.proofs.OwnLaws.{over-both}
+use Rattle.term_store.proofs.SignatureLaws.{within-clause}
 use Rattle.term_store.proofs.store.Store.add_clause.Goals as goal
 
 pub copy_atoms-requires : goal.copy_atoms-requires
@@ -99,3 +99,6 @@ returns-clause-adds c =
     let fits = template-strings b vs (the_template c.args.t.now) (have-grown s b c.args.t.now.sorts vs (Grows-built s b over.built) c.requires.variables) c.requires.template in
     let sorted = sorted-alone d StringSort c.in_ok-strings.strings (c.in_ok-strings.ensures.sorts StringSort false fits) in
     (clause-made s c.copy_atoms.new.self.store b d c.copy_gammas.new.self.store vs (the_template c.args.t.now) (map the_pattern_atom c.args.front.now) (map the_pattern_atom c.args.back.now) c.new-literals.result c.copy_atoms.new.copied c.copy_atoms-2.new.copied c.in_ok-strings.strings c.in_ok-gammas.gammas c.new-literals.ensures c.in_ok-copy_atoms.ensures.copies c.in_ok-copy_atoms.ensures.adds c.in_ok-copy_atoms-2.ensures.copies c.in_ok-copy_atoms-2.ensures.adds c.in_ok-strings.ensures.copies sorted c.in_ok-strings.ensures.own c.in_ok-strings.ensures.adds c.in_ok-gammas.ensures.copies c.in_ok-gammas.ensures.sorts c.in_ok-gammas.ensures.own c.in_ok-gammas.ensures.adds).adds
+
+pub returns-clause-within : goal.returns-clause-within
+returns-clause-within c = within-clause c.args.self.now.store c.copy_atoms.new.self.store c.copy_atoms-2.new.self.store c.copy_refs.new.self.store c.copy_gammas.new.self.store (the_template c.args.t.now) (map the_pattern_atom c.args.front.now) (map the_pattern_atom c.args.back.now) c.in_ok-copy_atoms.ensures.within c.in_ok-copy_atoms-2.ensures.within c.in_ok-strings.ensures.within c.in_ok-gammas.ensures.within

@@ -1,4 +1,4 @@
-use Rattle.std.proofs.Common.{length}
+use Rattle.std.proofs.Common.{◌≡◌, ◌∙◌, subst, sym}
 use Rattle.calculus.specs.Patterns.{atom_is_from}
 use Rattle.calculus.proofs.BindingLaws.{KeepsMarks-both}
 use Rattle.calculus.proofs.PatternLaws.{Grows-built, KeepsMarks-built}
@@ -10,6 +10,8 @@ use Rattle.term_store.specs.TemplateView.{the_template}
 use Rattle.term_store.proofs.FitLaws.{have-grown, have-new, literals-fit, placed-atoms}
 use Rattle.term_store.proofs.ListLaws.{literal-there}
 use Rattle.term_store.proofs.OwnLaws.{names-new, own-new_variables}
+use Rattle.term_store.proofs.SignatureLaws.{within-variables}
+use Rattle.term_store.specs.Signatures.{BuildsWithin, allows_atom}
 use Rattle.term_store.proofs.store.Store.add_literal.Goals as goal
 
 pub copy_atom-requires : goal.copy_atom-requires
@@ -45,3 +47,10 @@ returns-clause-names c = names-new (the_places c.in_ok-variables.variables) c.ar
 
 pub returns-clause-marks : goal.returns-clause-marks
 returns-clause-marks c = KeepsMarks-both c.args.self.now.store c.new_variables.new.self.store c.copy_atom.new.self.store c.in_ok-variables.ensures.marks (KeepsMarks-built c.new_variables.new.self.store c.copy_atom.new.self.store c.in_ok-atom.ensures.adds.built)
+
+pub returns-clause-within : goal.returns-clause-within
+returns-clause-within c = λ a e.
+    let there = literal-there the_pattern_atom c.items.result.now c.args.t.now.literals c.args.place c.index-items-place.result c.items.ensures c.requires.place c.index-items-place.is in
+    let same : the_pattern_atom c.index-items-place.result ≡ a = cc (sym there ∙ e) in
+    within-variables (λ g. allows_atom g a) c.args.t.now.sorts c.args.self.now.store c.new_variables.new.self.store c.copy_atom.new.self.store c.in_ok-variables.ensures.ok
+    (subst (λ x. BuildsWithin (λ g. allows_atom g x) c.new_variables.new.self.store c.copy_atom.new.self.store) same c.in_ok-atom.ensures.within)

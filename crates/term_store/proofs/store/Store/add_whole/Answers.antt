@@ -2,10 +2,13 @@ use Rattle.std.proofs.Common.{length}
 use Rattle.calculus.specs.Patterns.{clause_is_from}
 use Rattle.calculus.proofs.BindingLaws.{KeepsMarks-both}
 use Rattle.calculus.proofs.PatternLaws.{KeepsMarks-built}
+use Rattle.term_store.specs.ClauseView.{the_pattern_atom}
 use Rattle.term_store.specs.RefView.{the_places}
-use Rattle.term_store.specs.TemplateView.{the_clause}
+use Rattle.term_store.specs.TemplateView.{the_clause, the_template}
 use Rattle.term_store.proofs.FitLaws.{have-new}
 use Rattle.term_store.proofs.OwnLaws.{names-new, own-new_variables}
+use Rattle.term_store.proofs.SignatureLaws.{within-variables, within-whole}
+use Rattle.term_store.specs.Signatures.{allows_template}
 use Rattle.term_store.proofs.store.Store.add_whole.Goals as goal
 
 pub add_clause-requires-clause-variables : goal.add_clause-requires-clause-variables
@@ -22,3 +25,6 @@ returns-clause-names c = names-new (the_places c.in_ok-variables.variables) c.ar
 
 pub returns-clause-marks : goal.returns-clause-marks
 returns-clause-marks c = KeepsMarks-both c.args.self.now.store c.new_variables.new.self.store c.add_clause.new.self.store c.in_ok-variables.ensures.marks (KeepsMarks-built c.new_variables.new.self.store c.add_clause.new.self.store c.in_ok-copied.ensures.adds.built)
+
+pub returns-clause-within : goal.returns-clause-within
+returns-clause-within c = within-variables (λ g. allows_template g (the_template c.args.t.now)) c.args.t.now.sorts c.args.self.now.store c.new_variables.new.self.store c.add_clause.new.self.store c.in_ok-variables.ensures.ok (within-whole the_pattern_atom c.items.result.now (the_template c.args.t.now) c.new_variables.new.self.store c.add_clause.new.self.store c.items.ensures c.in_ok-copied.ensures.within)

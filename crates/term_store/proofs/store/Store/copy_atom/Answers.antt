@@ -11,6 +11,8 @@ use Rattle.term_store.specs.Fitting.{label_fits_in, parts_fit_in}
 use Rattle.term_store.specs.RefView.{the_places}
 use Rattle.term_store.proofs.FitLaws.{grown-parts_fit, terms-sorted}
 use Rattle.term_store.proofs.OwnLaws.{over-both, own-both, own-later}
+use Rattle.term_store.proofs.SignatureLaws.{within-both}
+use Rattle.term_store.specs.Signatures.{allows_all}
 use Rattle.term_store.proofs.store.Store.copy_atom.Goals as goal
 
 pub copy_refs-requires-2 : goal.copy_refs-requires-2
@@ -48,3 +50,6 @@ returns-clause-adds c = over-both (the_places c.args.variables) c.args.self.now.
 
 pub returns-in_err-label-clause-adds : goal.returns-in_err-label-clause-adds
 returns-in_err-label-clause-adds c = over-both (the_places c.args.variables) c.args.self.now.store c.copy_refs.new.self.store c.copy_refs-2.new.self.store c.in_ok-args.ensures.adds c.in_err-label.ensures.adds
+
+pub returns-clause-within : goal.returns-clause-within
+returns-clause-within c = within-both (λ g. allows_all g (patterns_tree c.args.atom.now.args)) (λ g. allows_all g (patterns_tree c.args.atom.now.label)) c.args.self.now.store c.copy_refs.new.self.store c.copy_refs-2.new.self.store c.in_ok-args.ensures.within c.in_ok-label.ensures.within

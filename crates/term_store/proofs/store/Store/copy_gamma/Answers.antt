@@ -12,6 +12,8 @@ use Rattle.term_store.specs.PatternView.{the_pattern}
 use Rattle.term_store.specs.RefView.{the_places}
 use Rattle.term_store.proofs.FitLaws.{grown-parts_fit}
 use Rattle.term_store.proofs.OwnLaws.{over-both, own-both, own-later}
+use Rattle.term_store.proofs.SignatureLaws.{within-both}
+use Rattle.term_store.specs.Signatures.{allows, allows_all}
 use Rattle.term_store.proofs.store.Store.copy_gamma.Goals as goal
 
 pub copy_refs-requires : goal.copy_refs-requires
@@ -47,3 +49,6 @@ returns-clause-adds c = over-both (the_places c.args.variables) c.args.self.now.
 
 pub returns-in_err-label-clause-adds : goal.returns-in_err-label-clause-adds
 returns-in_err-label-clause-adds c = over-both (the_places c.args.variables) c.args.self.now.store c.copy_pattern.new.self.store c.copy_refs.new.self.store c.in_ok-term.ensures.adds c.in_err-label.ensures.adds
+
+pub returns-clause-within : goal.returns-clause-within
+returns-clause-within c = within-both (λ g. allows g (the_pattern c.args.gamma.now.term)) (λ g. allows_all g (patterns_tree c.args.gamma.now.label)) c.args.self.now.store c.copy_pattern.new.self.store c.copy_refs.new.self.store c.in_ok-term.ensures.within c.in_ok-label.ensures.within

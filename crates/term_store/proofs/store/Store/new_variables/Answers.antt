@@ -1,4 +1,4 @@
-use Rattle.std.proofs.Common.{◌+◌, ◌-◌, ◌≡◌, ◌∙◌, None, ap, ap₂, arith, get_or, length, refl, subst, take}
+use Rattle.std.proofs.Common.{◌≡◌, ◌∙◌, None, ap, ap₂, arith, get_or, length, refl, subst, take}
 use Rattle.std.proofs.lemmas.List.{take_all}
 use Rattle.calculus.specs.Bindings.{KeepsMarks, places_from, with_cell, with_variables_of}
 use Rattle.calculus.specs.declared.sort.Sort.TheVariants.{TermSort}

@@ -1,8 +1,4 @@
-use Rattle.std.proofs.Common.{ap, arith, length, subst, sym, IsTrue}
-use Rattle.std.specs.Option.{option_map_or}
-use Rattle.std.specs.Prelude.{slice_get, false}
-use Rattle.calculus.specs.Stores.{has_sort_at}
-use Rattle.term_store.specs.RefView.{the_places}
+use Rattle.std.proofs.Common.{ap, arith, length}
 use Rattle.term_store.proofs.OwnLaws.{variable-there}
 use Rattle.term_store.proofs.StoreFacts.{length-cells}
 use Rattle.term_store.proofs.store.Store.variable.Goals as goal
