@@ -34,17 +34,17 @@ use Rattle.search_theory.proofs.TemplateLaws.{template_of-right}
 -- ---- no character stands in a term
 
 abbrev mutual
-  no_new : Pattern → Bool
+  pub no_new : Pattern → Bool
   no_new (p_var k) = true
   no_new (p_fun f ps) = none_new ps
   no_new (p_eigen p ps) = none_new ps
   no_new (p_new p ps) = false
 
-  none_new : Patterns → Bool
+  pub none_new : Patterns → Bool
   none_new no_patterns = true
   none_new (more_patterns p ps) = no_new p && none_new ps
 
-abbrev is_plain_atom : PatternAtom → Bool
+abbrev pub is_plain_atom : PatternAtom → Bool
 is_plain_atom a = none_new (patterns_tree a.args) && is_empty a.label
 
 abbrev is_plain_part : PatternPart → Bool
@@ -146,17 +146,17 @@ part-plain symbols (dia a) s d h = absurd (false≢true h)
 -- ---- what is built is proper: it is so in the instance by spare constants
 
 -- a spare constant for each variable
-abbrev commons : List Sort → List Value
+abbrev pub commons : List Sort → List Value
 commons [] = []
 commons (s ∷ ss) = term (common 0) ∷ commons ss
 
-commons-sorted : (ss : List Sort) → IsTrue (list_all is_term_sort ss) → IsTrue (have_sorts ss (commons ss))
+pub commons-sorted : (ss : List Sort) → IsTrue (list_all is_term_sort ss) → IsTrue (have_sorts ss (commons ss))
 commons-sorted [] h = refl
 commons-sorted (TermSort ∷ ss) h = commons-sorted ss h
 commons-sorted (MarkSort ∷ ss) h = absurd (false≢true h)
 commons-sorted (StringSort ∷ ss) h = absurd (false≢true h)
 
-commons-chosen : (P : Problem) (ss : List Sort) → IsTrue (is_choice_of_values P (commons ss))
+pub commons-chosen : (P : Problem) (ss : List Sort) → IsTrue (is_choice_of_values P (commons ss))
 commons-chosen P ss = and_from (list_all (is_admitted_value P) (commons ss)) (list_all (is_step_value P.setting.logic) (commons ss)) (admitted ss) (stepped ss)
   where
     admitted : (xs : List Sort) → IsTrue (list_all (is_admitted_value P) (commons xs))
@@ -229,7 +229,7 @@ mutual
       let q = and_parts (is_admitted_value P (as_value (pattern_value (commons ss) p))) (are_admitted_values P (pattern_values (commons ss) ps)) h in
       and_from (is_classical_pattern P p) (are_classical_patterns P ps) (classical-pattern P ss p m.0 (value-admitted P ss p m.0 q.0)) (classical-values P ss ps m.1 q.1)
 
-classical-atoms : (P : Problem) (ss : List Sort) (xs : List PatternAtom) → IsTrue (list_all is_plain_atom xs) → IsTrue (list_all (literal_is_proper P) (map (λ (a : PatternAtom). pattern_literal (commons ss) a) xs)) → IsTrue (list_all (λ (a : PatternAtom). are_classical_patterns P (patterns_tree a.args) && is_empty a.label) xs)
+pub classical-atoms : (P : Problem) (ss : List Sort) (xs : List PatternAtom) → IsTrue (list_all is_plain_atom xs) → IsTrue (list_all (literal_is_proper P) (map (λ (a : PatternAtom). pattern_literal (commons ss) a) xs)) → IsTrue (list_all (λ (a : PatternAtom). are_classical_patterns P (patterns_tree a.args) && is_empty a.label) xs)
 classical-atoms P ss [] h g = refl
 classical-atoms P ss (a ∷ xs) h g =
     let p = and_parts (is_plain_atom a) (list_all is_plain_atom xs) h in

@@ -166,17 +166,17 @@ lower-less (with_choices a c) (with_lengths e b ns) l = ap (λ o. ordering_then 
 lower-less (with_lengths a c ms) (with_choices e b) l = ap (λ o. ordering_then o (ordering_then (choices_cmp c b) Greater)) (less-number a e l)
 lower-less (with_lengths a c ms) (with_lengths e b ns) l = ap (λ o. ordering_then o (ordering_then (choices_cmp c b) (lengths_cmp ms ns))) (less-number a e l)
 
-limits-join : (d : ℕ) (xs ys : List Member) → IsRising member_cmp xs → IsRising member_cmp ys → AllByRecursion (λ m. limit_of m ≤ d) xs → AllByRecursion (λ m. d < limit_of m) ys → IsRising member_cmp (xs ++ ys)
+pub limits-join : (d : ℕ) (xs ys : List Member) → IsRising member_cmp xs → IsRising member_cmp ys → AllByRecursion (λ m. limit_of m ≤ d) xs → AllByRecursion (λ m. d < limit_of m) ys → IsRising member_cmp (xs ++ ys)
 limits-join d [] ys r t a b = t
 limits-join d (x ∷ []) [] r t a b = tt
 limits-join d (x ∷ []) (y ∷ ys) r t a b = (lower-less x y (let l = a.0 in let m = b.0 in omega (arith, l, m)), t)
 limits-join d (x ∷ z ∷ xs) ys r t a b = (r.0, limits-join d (z ∷ xs) ys r.1 t a.1 b)
 
-all-of-both : {A : Type 0} (Q : A → Type 0) (xs ys : List A) → AllByRecursion Q xs → AllByRecursion Q ys → AllByRecursion Q (xs ++ ys)
+pub all-of-both : {A : Type 0} (Q : A → Type 0) (xs ys : List A) → AllByRecursion Q xs → AllByRecursion Q ys → AllByRecursion Q (xs ++ ys)
 all-of-both Q [] ys a b = b
 all-of-both Q (x ∷ xs) ys a b = (a.0, all-of-both Q xs ys a.1 b)
 
-all-of-each : {A : Type 0} (Q R : A → Type 0) → ((x : A) → Q x → R x) → (xs : List A) → AllByRecursion Q xs → AllByRecursion R xs
+pub all-of-each : {A : Type 0} (Q R : A → Type 0) → ((x : A) → Q x → R x) → (xs : List A) → AllByRecursion Q xs → AllByRecursion R xs
 all-of-each Q R k [] h = tt
 all-of-each Q R k (x ∷ xs) h = (k x h.0, all-of-each Q R k xs h.1)
 
@@ -188,7 +188,7 @@ pub record SpentTo (P : Problem) (d : ℕ) (spent : List Member) : Type 0 where
 pub spent-none : (P : Problem) → SpentTo P 0 []
 spent-none P = record { rising = tt; members = tt }
 
-member-more : (P : Problem) (d e : ℕ) (m : Member) → d ≤ e → IsMember P d m → IsMember P e m
+pub member-more : (P : Problem) (d e : ℕ) (m : Member) → d ≤ e → IsMember P d m → IsMember P e m
 member-more P d e m l h = record { from_one = h.from_one; up_to = (let u = h.up_to in omega (arith, u, l)); reached = h.reached }
 
 -- a limit more is searched whole

@@ -9,7 +9,7 @@ use Rattle.search_theory.specs.States.{terms_by}
 use Rattle.search_theory.specs.Steps.{AreUnified, Clash, IsUnified}
 use Rattle.search_theory.proofs.BuildingLaws.{solved-sorted}
 
-term-same : (u v : CellValue) → IsTrue (has_sort TermSort u) → IsTrue (has_sort TermSort v) → as_term u ≡ as_term v → u ≡ v
+pub term-same : (u v : CellValue) → IsTrue (has_sort TermSort u) → IsTrue (has_sort TermSort v) → as_term u ≡ as_term v → u ≡ v
 term-same (a_term x) (a_term y) f g z = ap a_term z
 term-same (a_term x) (a_mark y) f g z = absurd (false≢true g)
 term-same (a_term x) (a_string y) f g z = absurd (false≢true g)

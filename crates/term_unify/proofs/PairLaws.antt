@@ -12,7 +12,7 @@ use Rattle.calculus.proofs.SolutionLaws.{ends-same, alike-parts, SolvesPairs-joi
 use Rattle.term_store.specs.declared.cell.Ref.{Ref}
 use Rattle.term_store.specs.RefView.{the_place}
 use Rattle.term_unify.specs.PairView.{the_pair}
-use Rattle.term_unify.specs.Steps.{AreBuilt, AddsParts, AreCells, OccursAmong, AreAllCells, SolvesAll, IsBinding, AreEnds, OccursInPairs, OccursBefore, BindsInPairs}
+use Rattle.term_unify.specs.Steps.{AreBuilt, AddsParts, AreCells, DiffersBy, OccursAmong, AreAllCells, SolvesAll, IsBinding, AreEnds, OccursInPairs, OccursBefore, BindsInPairs}
 
 pub map-last : {A B : Type 0} (f : A → B) (xs : List A) (x : A) → map f (xs ++ x ∷ []) ≡ map f xs ++ f x ∷ []
 map-last f [] x = refl
@@ -496,6 +496,22 @@ within-same s a b = record { bound = λ v k sort e f. absurd (none v k sort e f)
   where
     none : (v k : ℕ) (sort : Sort) → slice_get s.cells v ≡ Some (variable sort None) → slice_get s.cells v ≡ Some (variable sort (Some k)) → ⊥
     none v k sort e f = let q : Some (variable sort None) ≡ Some (variable sort (Some k)) = sym e ∙ f in cc q
+
+-- one pair that is equal
+pub same-one : (s : Store) (a b : ℕ) (ps : List (ℕ × ℕ)) → ps ≡ (a, b) ∷ [] → ((σ : Solution) → Solves s σ → SolvesPairs σ ps) → (σ : Solution) → Solves s σ → σ a ≡ σ b
+same-one s a b ps e h σ k = (subst (SolvesPairs σ) e (h σ k)).0
+
+first-of : (s : Store) (v a b : ℕ) → OccursInPairs s v ((a, b) ∷ []) → OccursIn s v a ⊎ OccursIn s v b
+first-of s v a b (inl o) = o
+first-of s v a b (inr o) = absurd o
+
+-- one pair that a binding would make equal
+pub differs-one : (s : Store) (a b v r : ℕ) (ps qs : List (ℕ × ℕ)) → ps ≡ (a, b) ∷ [] → IsBinding s v r → ((σ : Solution) → Solves s σ → (SolvesPairs σ ps → (σ v ≡ σ r) × SolvesPairs σ qs) × ((σ v ≡ σ r) × SolvesPairs σ qs → SolvesPairs σ ps)) → OccursBefore s ps ((v, r) ∷ qs) → DiffersBy s a b v r
+differs-one s a b v r ps qs e binding h before = record {
+  binding = binding;
+  forces = λ σ k q. ((h σ k).0 (subst (SolvesPairs σ) (sym e) (q, tt))).0;
+  occurs = first-of s v a b (subst (OccursInPairs s v) e (before v (inl (inl here))));
+}
 
 -- what holds whatever the answer is
 pub IfOk-always : {A E : Type 0} (r : Result A E) (P : A → Type 0) → ((x : A) → P x) → IfOk r P

@@ -100,3 +100,13 @@ AreAllCells s (r ∷ rs) = (r < length s.cells) × AreAllCells s rs
 -- the ground solutions after are those before that solve the pairs
 abbrev pub SolvesAll : Store → Store → List (ℕ × ℕ) → Type 0
 SolvesAll before after ps = (σ : Solution) → (Solves after σ → Solves before σ × SolvesPairs σ ps) × (Solves before σ × SolvesPairs σ ps → Solves after σ)
+
+-- whatever makes a and b equal makes the unbound variable v, which occurs in them, equal to another cell r at which bindings end
+pub record DiffersBy (s : Store) (a b v r : ℕ) : Type 0 where
+  pub binding : IsBinding s v r
+  pub forces : (σ : Solution) → Solves s σ → σ a ≡ σ b → σ v ≡ σ r
+  pub occurs : OccursIn s v a ⊎ OccursIn s v b
+
+-- the bindings do not make a and b equal: no solution does, or only those that bind more
+abbrev pub AreDifferent : Store → ℕ → ℕ → Type 0
+AreDifferent s a b = ((σ : Solution) → Solves s σ → ¬ (σ a ≡ σ b)) ⊎ ((v : ℕ) × (r : ℕ) × DiffersBy s a b v r)

@@ -5,7 +5,7 @@ ghost use Rattle.calculus.specs.Bindings.{AreApart, BindsOnly, BindsWithin, IsWe
 ghost use Rattle.calculus.specs.Stores.{Solution, Solves};
 ghost use Rattle.term_store.specs.Room.{KeepsRoom};
 ghost use Rattle.term_unify.specs.PairView.{the_pair};
-ghost use Rattle.term_unify.specs.Steps.{AreCells, BindsInPairs, IsNext, SolvesAll};
+ghost use Rattle.term_unify.specs.Steps.{AreCells, AreDifferent, BindsInPairs, IsNext, SolvesAll};
 
 use crate::check::occurs;
 use crate::compare::{Step, compare, push_parts};
@@ -123,6 +123,24 @@ impl Unifier {
         }
         store.undo(start);
         answer
+    }
+}
+
+impl Unifier {
+    /// Whether the bindings make both cells equal already.
+    pub fn are_same(&mut self, store: &Store, a: Ref, b: Ref) -> Result<bool, NoMemory>
+        requires left { a.0 < length store.now.store.cells }
+        requires right { b.0 < length store.now.store.cells }
+        ensures same { IfOk result (λ same. same ≡ true → (σ : Solution) → Solves store.now.store σ → σ a.0 ≡ σ b.0) }
+        ensures different { IfOk result (λ same. same ≡ false → AreDifferent store.now.store a.0 b.0) }
+    {
+        self.pairs.clear();
+        self.pairs.push((a, b))?;
+        match next_binding(store, &mut self.pairs, &mut self.visited)? {
+            Next::Done => Ok(true),
+            Next::Apart => Ok(false),
+            Next::Bind(_, _) => Ok(false),
+        }
     }
 }
 
