@@ -1,13 +1,8 @@
 -- A list has one balanced join: the one that is computed.
-use Rattle.std.proofs.Common.{◌≡◌, ◌⊎◌, ℕ, zero, suc, ◌+◌, ◌-◌, ◌/◌, ◌≤◌, List, [], ◌∷◌, ◌++◌, length, take, drop, refl, sym, ◌∙◌, ap, subst, inl, inr, arith}
-use Rattle.std.proofs.lemmas.List.{take-append-drop, length-append, length-drop, length-take-le}
+use Rattle.std.proofs.Common.{◌≡◌, ◌⊎◌, ℕ, zero, suc, ◌+◌, ◌-◌, ◌/◌, ◌≤◌, List, [], ◌∷◌, ◌++◌, length, take, drop, refl, sym, ◌∙◌, ap, subst, inl, inr, arith, map, append_assoc}
+use Rattle.std.proofs.lemmas.List.{take-append-drop, length-append, length-drop, length-take-le, map-append, length-map}
 use Rattle.std.proofs.Math.Seq.{drop-append_seam, take-append_seam}
-use Rattle.problem_build.specs.Balance.{balanced, balanced_by}
-
--- a list of one is joined to its item; a longer one is cut into halves, the first with one item more where the number is odd
-pub data IsBalanced {A : Type 0} (join : A → A → A) : List A → A → Type 0 where
-  one : (x : A) → IsBalanced join (x ∷ []) x
-  halves : (xs ys : List A) (x y : A) → (length xs ≡ length ys) ⊎ (length xs ≡ suc (length ys)) → IsBalanced join xs x → IsBalanced join ys y → IsBalanced join (xs ++ ys) (join x y)
+use Rattle.problem_build.specs.Balance.{IsBalanced, one, halves, balanced, balanced_by}
 
 pub balanced-some : {A : Type 0} (join : A → A → A) (xs : List A) (x : A) → IsBalanced join xs x → 1 ≤ length xs
 balanced-some join _ _ (one x) = omega arith
@@ -81,3 +76,67 @@ balanced-balanced join a bs = halved-balanced a join (length bs) (a ∷ bs) (ome
 
 pub balanced-alone : {A : Type 0} (join : A → A → A) (a x : A) (bs : List A) → IsBalanced join (a ∷ bs) x → x ≡ balanced join a bs
 balanced-alone join a x bs h = balanced-is a join (a ∷ bs) x h (length bs) (omega arith)
+
+-- ---- what holds of a balanced join
+
+pub balanced-map : {A B : Type 0} (f : A → B) (join : A → A → A) (k : B → B → B) → ((x y : A) → f (join x y) ≡ k (f x) (f y)) → (xs : List A) (x : A) → IsBalanced join xs x → IsBalanced k (map f xs) (f x)
+balanced-map f join k hom _ _ (one x) = one (f x)
+balanced-map f join k hom _ _ (halves xs ys x y e p q) =
+    let a = balanced-map f join k hom xs x p in
+    let b = balanced-map f join k hom ys y q in
+    let n : (length (map f xs) ≡ length (map f ys)) ⊎ (length (map f xs) ≡ suc (length (map f ys))) = sizes (length-map xs f) (length-map ys f) e in
+    subst (λ z. IsBalanced k (map f (xs ++ ys)) z) (sym (hom x y)) (subst (λ zs. IsBalanced k zs (k (f x) (f y))) (sym (map-append f xs ys)) (halves (map f xs) (map f ys) (f x) (f y) n a b))
+  where
+    sizes : {a b c d : ℕ} → a ≡ c → b ≡ d → (c ≡ d) ⊎ (c ≡ suc d) → (a ≡ b) ⊎ (a ≡ suc b)
+    sizes p q (inl e) = inl (omega arith)
+    sizes p q (inr e) = inr (omega arith)
+
+abbrev pub total : List ℕ → ℕ
+total [] = 0
+total (n ∷ ns) = suc n + total ns
+
+total-append : (xs ys : List ℕ) → total (xs ++ ys) ≡ total xs + total ys
+total-append [] ys = omega arith
+total-append (x ∷ xs) ys = let h = total-append xs ys in omega arith
+
+pub balanced-total : (xs : List ℕ) (x : ℕ) → IsBalanced (λ a b. suc (a + b)) xs x → suc x ≡ total xs
+balanced-total _ _ (one x) = omega arith
+balanced-total _ _ (halves xs ys x y e p q) = let a = balanced-total xs x p in let b = balanced-total ys y q in omega (arith, total-append xs ys)
+
+-- a cut of the last items, and again of these
+pub joined-halves : {A V : Type 0} (f : A → V) (join : V → V → V) (items mid after : List A) (count k : ℕ) (l r : V) (front back : List A)
+    → ((fr ba : List A) → items ≡ fr ++ ba → length ba ≡ k → IsBalanced join (map f ba) r × (mid ≡ fr))
+    → ((fr ba : List A) → mid ≡ fr ++ ba → length ba ≡ count - k → IsBalanced join (map f ba) l × (after ≡ fr))
+    → k ≡ count / 2 → items ≡ front ++ back → length back ≡ count → IsBalanced join (map f back) (join l r) × (after ≡ front)
+joined-halves f join items mid after count k l r front back first second ek e n =
+    let h : ℕ = count - k in
+    let cut : take (count - k) back ++ drop (count - k) back ≡ back = take-append-drop (count - k) back in
+    let lt : length (take (count - k) back) ≡ count - k = length-take-le (count - k) back (omega arith) in
+    let ld : length (drop (count - k) back) ≡ k = length-drop (count - k) back ∙ left_over _ count k n ek in
+    let one_half = first (front ++ take (count - k) back) (drop (count - k) back) (e ∙ ap (λ ys. front ++ ys) (sym cut) ∙ sym (append_assoc front (take (count - k) back) (drop (count - k) back))) ld in
+    let other = second front (take (count - k) back) one_half.1 lt in
+    let ml : length (map f (take (count - k) back)) ≡ count - k = length-map (take (count - k) back) f ∙ lt in
+    let mr : length (map f (drop (count - k) back)) ≡ k = length-map (drop (count - k) back) f ∙ ld in
+    let sizes : (length (map f (take (count - k) back)) ≡ length (map f (drop (count - k) back))) ⊎ (length (map f (take (count - k) back)) ≡ suc (length (map f (drop (count - k) back)))) = near count k _ _ ek ml mr in
+    (subst (λ zs. IsBalanced join zs (join l r)) (sym (map-append f (take (count - k) back) (drop (count - k) back)) ∙ ap (map f) cut) (halves (map f (take (count - k) back)) (map f (drop (count - k) back)) l r sizes other.0 one_half.0), other.1)
+  where
+    left_over : (m n k : ℕ) → m ≡ n → k ≡ n / 2 → m - (n - k) ≡ k
+    left_over m n k e p = omega arith
+
+    near : (n k a b : ℕ) → k ≡ n / 2 → a ≡ n - k → b ≡ k → (a ≡ b) ⊎ (a ≡ suc b)
+    near n k a b e p q = grind arith
+
+-- the last item alone
+pub joined-one : {A V : Type 0} (f : A → V) (join : V → V → V) (items after : List A) (x : A) (front back : List A)
+    → items ≡ after ++ x ∷ [] → items ≡ front ++ back → length back ≡ 1 → IsBalanced join (map f back) (f x) × (after ≡ front)
+joined-one f join items after x front [] e k n = absurd (omega arith)
+joined-one f join items after x front (y ∷ []) e k n =
+    let same : after ++ x ∷ [] ≡ front ++ y ∷ [] = sym e ∙ k in
+    let l : length after ≡ length front = omega (arith, length-append after (x ∷ []), length-append front (y ∷ []), ap length same) in
+    let a : after ≡ front = sym (take-append_seam after (x ∷ [])) ∙ (λ i. take (l i) (same i)) ∙ take-append_seam front (y ∷ []) in
+    let b : x ∷ [] ≡ y ∷ [] = sym (drop-append_seam after (x ∷ [])) ∙ (λ i. drop (l i) (same i)) ∙ drop-append_seam front (y ∷ []) in
+    (subst (λ v. IsBalanced join (f y ∷ []) v) (ap f (sym (item-same x y b))) (one (f y)), a)
+  where
+    item-same : {A : Type 0} (x y : A) → x ∷ [] ≡ y ∷ [] → x ≡ y
+    item-same x y e = cc
+joined-one f join items after x front (y ∷ z ∷ zs) e k n = absurd (omega arith)

@@ -13,10 +13,10 @@ use Rattle.tptp_reader.specs.Sources.{Name, variable, apply, no_terms, more_term
 use Rattle.tptp_reader.specs.Reading.{Outcome, reads}
 use Rattle.problem_build.specs.declared.fault.Cause.TheVariants.{IncludeTooDeep, IncludeNameAbsent, NoFormula}
 use Rattle.problem_build.specs.Refusals.{Refusal, missing, input_too_large, bad}
-use Rattle.problem_build.specs.Walk.{Reading, Walked, bytes_walk, walk}
+use Rattle.problem_build.specs.Walk.{Reader, Walked, bytes_walk, walk}
 use Rattle.problem_build.specs.Building.{problem_in, without}
 
-abbrev table : List (List ℕ × Outcome (List Item)) → Reading
+abbrev table : List (List ℕ × Outcome (List Item)) → Reader
 table [] text = reads []
 table (e ∷ es) text = if list_eq ◌==◌ e.0 text then e.1 else table es text
 
@@ -85,7 +85,7 @@ main_items = include (codes "ax.p") (Some ((codes "b", 16) ∷ [])) 0 ∷ includ
 abbrev files_of : List ℕ → List (List ℕ × List ℕ)
 files_of main = (codes "m.p", main) ∷ (codes "ax.p", axioms_text) ∷ []
 
-abbrev reading_of : List ℕ → List Item → Reading
+abbrev reading_of : List ℕ → List Item → Reader
 reading_of main its = table ((main, reads its) ∷ (axioms_text, reads axioms) ∷ [])
 
 include-problem : shown (problem_in (reading_of main_text main_items) (files_of main_text) (codes "m.p") [] (tree.setting_of Classical Constant))

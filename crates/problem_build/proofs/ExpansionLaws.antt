@@ -19,10 +19,11 @@ use Rattle.tptp_reader.specs.declared.source.ChainKind.TheVariants.{And, Or}
 use Rattle.tptp_reader.specs.declared.source.BinaryKind.{BinaryKind}
 use Rattle.tptp_reader.specs.declared.source.BinaryKind.TheVariants.{Imp, If, Iff, Xor, Nor, Nand}
 use Rattle.tptp_reader.specs.Sources.{Name, SourceTerm, variable, apply, SourceTerms, no_terms, more_terms, Source, atom, truth, falsity, equal, unequal, not, chain, binary, for_all, exists, nec, poss, Sources, no_sources, more_sources}
-use Rattle.problem_build.specs.Expansion.{binary_formula, binary_symbols, chain_formula, closed, count, equality_atom, equality_symbol, expanded, expanded_all, expanded_term, expanded_terms, first_seen, free_in, free_in_all, free_variables, function_symbol, joined, number_of, place_of, predicate_symbol, quantified, same_name, symbols_in, symbols_in_all, term_symbols, terms_symbols, true_formula, truth_symbol, unbound, variables_in, variables_in_all}
+use Rattle.problem_build.specs.Expansion.{binary_formula, binary_symbols, chain_formula, closed, argument_count, equality_atom, equality_symbol, expanded, expanded_all, expanded_term, expanded_terms, first_seen, free_in, free_in_all, free_variables, function_symbol, joined_chain, number_of, place_of, predicate_symbol, quantified, same_name, symbols_in, symbols_in_all, term_symbols, terms_symbols, true_formula, truth_symbol, unbound, variables_in, variables_in_all}
 use Rattle.problem_build.specs.Walk.{Passed}
 use Rattle.problem_build.specs.Building.{formulas_of, symbols_of}
-use Rattle.problem_build.proofs.BalanceLaws.{IsBalanced, one, halves, balanced-balanced}
+use Rattle.problem_build.specs.Balance.{IsBalanced, one, halves}
+use Rattle.problem_build.proofs.BalanceLaws.{balanced-balanced}
 
 -- ---- tests over lists
 
@@ -55,7 +56,7 @@ within-parts same xs ys zs h = and_parts (list_all (λ x. list_any (same x) zs) 
 
 -- ---- symbols
 
-same-number : (n : ℕ) → (n == n) ≡ true
+pub same-number : (n : ℕ) → (n == n) ≡ true
 same-number n = by (eqb_tells n n)
   where
     by : (((n == n) ≡ true) × (n ≡ n)) ⊎ (((n == n) ≡ false) × (n ≢ n)) → (n == n) ≡ true
@@ -68,17 +69,17 @@ numbers a b = (eqb-true a b, λ e. subst (λ z. IsTrue (a == z)) e (same-number 
 symbol-there : (symbols : List Symbol) (s : Symbol) → IsTrue (list_any (symbol_eq s) symbols) → slice_get symbols (number_of symbols s) ≡ Some s
 symbol-there symbols s h = let p = placed (symbol_eq s) symbols h in p.there ∙ ap Some (sym ((symbol_eq-tells s p.item).0 p.passes))
 
-predicate-there : (symbols : List Symbol) (s : Symbol) → is_atom_class s.class ≡ true → IsTrue (list_any (symbol_eq s) symbols) → IsTrue (has_predicate symbols (number_of symbols s) s.arity)
+pub predicate-there : (symbols : List Symbol) (s : Symbol) → is_atom_class s.class ≡ true → IsTrue (list_any (symbol_eq s) symbols) → IsTrue (has_predicate symbols (number_of symbols s) s.arity)
 predicate-there symbols s c h =
     ap (λ o. option_map_or (λ (t : Symbol). is_atom_class t.class && t.arity == s.arity) o false) (symbol-there symbols s h) ∙ and_from (is_atom_class s.class) (s.arity == s.arity) c (same-number s.arity)
 
-function-there : (symbols : List Symbol) (f : Name) (n : ℕ) → IsTrue (list_any (symbol_eq (function_symbol f n)) symbols) → IsTrue (has_function symbols (number_of symbols (function_symbol f n)) n)
+pub function-there : (symbols : List Symbol) (f : Name) (n : ℕ) → IsTrue (list_any (symbol_eq (function_symbol f n)) symbols) → IsTrue (has_function symbols (number_of symbols (function_symbol f n)) n)
 function-there symbols f n h =
     ap (λ o. option_map_or (λ (t : Symbol). is_function t.class && t.arity == n) o false) (symbol-there symbols (function_symbol f n) h) ∙ same-number n
 
 -- ---- terms
 
-count-arity : (symbols : List Symbol) (xs : List Name) (ts : SourceTerms) → arity_of (expanded_terms symbols xs ts) ≡ count ts
+count-arity : (symbols : List Symbol) (xs : List Name) (ts : SourceTerms) → arity_of (expanded_terms symbols xs ts) ≡ argument_count ts
 count-arity symbols xs no_terms = refl
 count-arity symbols xs (more_terms t ts) = ap suc (count-arity symbols xs ts)
 
@@ -86,9 +87,9 @@ mutual
   term-fits : (t : SourceTerm) (symbols : List Symbol) (xs : List Name) → Within symbol_eq (term_symbols t) symbols → Within same_name (variables_in t) xs → IsTrue (term_fits_in symbols (length xs) (expanded_term symbols xs t))
   term-fits (variable x) symbols xs h k = let p = and_parts (list_any (same_name x) xs) true k in let q = placed (same_name x) xs p.0 in lt-ltb (place_of (same_name x) xs) (length xs) q.within
   term-fits (apply f ts) symbols xs h k =
-      let p = and_parts (list_any (symbol_eq (function_symbol f (count ts))) symbols) (list_all (λ s. list_any (symbol_eq s) symbols) (terms_symbols ts)) h in
-      and_from (has_function symbols (number_of symbols (function_symbol f (count ts))) (arity_of (expanded_terms symbols xs ts))) (terms_fit_in symbols (length xs) (expanded_terms symbols xs ts))
-      (ap (has_function symbols (number_of symbols (function_symbol f (count ts)))) (count-arity symbols xs ts) ∙ function-there symbols f (count ts) p.0) (terms-fit ts symbols xs p.1 k)
+      let p = and_parts (list_any (symbol_eq (function_symbol f (argument_count ts))) symbols) (list_all (λ s. list_any (symbol_eq s) symbols) (terms_symbols ts)) h in
+      and_from (has_function symbols (number_of symbols (function_symbol f (argument_count ts))) (arity_of (expanded_terms symbols xs ts))) (terms_fit_in symbols (length xs) (expanded_terms symbols xs ts))
+      (ap (has_function symbols (number_of symbols (function_symbol f (argument_count ts)))) (count-arity symbols xs ts) ∙ function-there symbols f (argument_count ts) p.0) (terms-fit ts symbols xs p.1 k)
 
   terms-fit : (ts : SourceTerms) (symbols : List Symbol) (xs : List Name) → Within symbol_eq (terms_symbols ts) symbols → Within same_name (variables_in_all ts) xs → IsTrue (terms_fit_in symbols (length xs) (expanded_terms symbols xs ts))
   terms-fit no_terms symbols xs h k = refl
@@ -182,7 +183,7 @@ abbrev mutual
   are_well m no_sources = true
   are_well m (more_sources a bs) = is_well m a && are_well m bs
 
-balanced-keeps : {A : Type 0} (test : A → Bool) (join : A → A → A) → ((x y : A) → IsTrue (test x) → IsTrue (test y) → IsTrue (test (join x y))) → (xs : List A) (x : A) → IsBalanced join xs x → IsTrue (list_all test xs) → IsTrue (test x)
+pub balanced-keeps : {A : Type 0} (test : A → Bool) (join : A → A → A) → ((x y : A) → IsTrue (test x) → IsTrue (test y) → IsTrue (test (join x y))) → (xs : List A) (x : A) → IsBalanced join xs x → IsTrue (list_all test xs) → IsTrue (test x)
 balanced-keeps test join kept _ _ (one x) h = (and_parts (test x) true h).0
 balanced-keeps test join kept _ _ (halves xs ys x y e p q) h =
     let parts = and_parts (list_all test xs) (list_all test ys) (sym (list_all-append test xs ys) ∙ h) in
@@ -192,7 +193,7 @@ chain-fits : (c : ChainKind) (l : Logic) (symbols : List Symbol) (d : ℕ) (a b 
 chain-fits And l symbols d a b p q = and_from (formula_fits l symbols d a) (formula_fits l symbols d b) p q
 chain-fits Or l symbols d a b p q = and_from (formula_fits l symbols d a) (formula_fits l symbols d b) p q
 
-joined-fits : (c : ChainKind) (l : Logic) (symbols : List Symbol) (d : ℕ) (a : Formula) (bs : List Formula) → IsTrue (list_all (formula_fits l symbols d) (a ∷ bs)) → IsTrue (formula_fits l symbols d (joined c symbols (a ∷ bs)))
+pub joined-fits : (c : ChainKind) (l : Logic) (symbols : List Symbol) (d : ℕ) (a : Formula) (bs : List Formula) → IsTrue (list_all (formula_fits l symbols d) (a ∷ bs)) → IsTrue (formula_fits l symbols d (joined_chain c symbols (a ∷ bs)))
 joined-fits c l symbols d a bs h = balanced-keeps (formula_fits l symbols d) (chain_formula c) (λ x y p q. chain-fits c l symbols d x y p q) (a ∷ bs) _ (balanced-balanced (chain_formula c) a bs) h
 
 binary-fits : (c : BinaryKind) (l : Logic) (symbols : List Symbol) (d : ℕ) (a b : Formula) → IsTrue (formula_fits l symbols d a) → IsTrue (formula_fits l symbols d b) → IsTrue (formula_fits l symbols d (binary_formula c a b))
@@ -211,7 +212,7 @@ binary-within Xor cs bs symbols h = within-parts symbol_eq cs bs symbols h
 binary-within Nor cs bs symbols h = within-parts symbol_eq cs bs symbols h
 binary-within Nand cs bs symbols h = within-parts symbol_eq cs bs symbols h
 
-all-fits : (l : Logic) (symbols : List Symbol) (d : ℕ) (ys : List Name) (f : Formula) → formula_fits l symbols d (quantified tree.all ys f) ≡ formula_fits l symbols (length ys + d) f
+pub all-fits : (l : Logic) (symbols : List Symbol) (d : ℕ) (ys : List Name) (f : Formula) → formula_fits l symbols d (quantified tree.all ys f) ≡ formula_fits l symbols (length ys + d) f
 all-fits l symbols d [] f = ap (λ n. formula_fits l symbols n f) (omega arith)
 all-fits l symbols d (y ∷ ys) f = all-fits l symbols (suc d) ys f ∙ ap (λ n. formula_fits l symbols n f) (omega arith)
 
@@ -228,22 +229,22 @@ true-fits l symbols d h =
     let a = and_from (has_predicate symbols (number_of symbols truth_symbol) 0) true p refl in
     and_from (has_predicate symbols (number_of symbols truth_symbol) 0 && true) (has_predicate symbols (number_of symbols truth_symbol) 0 && true) a a
 
-equality-fits : (l : Logic) (symbols : List Symbol) (d : ℕ) (s t : tree.Term) → IsTrue (list_any (symbol_eq equality_symbol) symbols) → IsTrue (term_fits_in symbols d s) → IsTrue (term_fits_in symbols d t) → IsTrue (formula_fits l symbols d (equality_atom symbols s t))
+pub equality-fits : (l : Logic) (symbols : List Symbol) (d : ℕ) (s t : tree.Term) → IsTrue (list_any (symbol_eq equality_symbol) symbols) → IsTrue (term_fits_in symbols d s) → IsTrue (term_fits_in symbols d t) → IsTrue (formula_fits l symbols d (equality_atom symbols s t))
 equality-fits l symbols d s t h p q =
     and_from (has_predicate symbols (number_of symbols equality_symbol) 2) (term_fits_in symbols d s && (term_fits_in symbols d t && true)) (predicate-there symbols equality_symbol refl h)
     (and_from (term_fits_in symbols d s) (term_fits_in symbols d t && true) p (and_from (term_fits_in symbols d t) true q refl))
 
-bound-within : (ys bound xs : List Name) → Within same_name bound xs → Within same_name (ys ++ bound) (reverse ys ++ xs)
+bound-within : (ys bound xs : List Name) → Within same_name bound xs → Within same_name (bound ++ ys) (reverse ys ++ xs)
 bound-within ys bound xs h =
-    list_all-append (λ x. list_any (same_name x) (reverse ys ++ xs)) ys bound
-    ∙ and_from (list_all (λ x. list_any (same_name x) (reverse ys ++ xs)) ys) (list_all (λ x. list_any (same_name x) (reverse ys ++ xs)) bound) (within-turned [] ys xs) (within-more bound (reverse ys) xs h)
+    list_all-append (λ x. list_any (same_name x) (reverse ys ++ xs)) bound ys
+    ∙ and_from (list_all (λ x. list_any (same_name x) (reverse ys ++ xs)) bound) (list_all (λ x. list_any (same_name x) (reverse ys ++ xs)) ys) (within-more bound (reverse ys) xs h) (within-turned [] ys xs)
 
 mutual
   pub expanded-fits : (a : Source) (l : Logic) (symbols : List Symbol) (bound xs : List Name) → IsTrue (is_well (is_modal l) a) → Within symbol_eq (symbols_in a) symbols → Within same_name bound xs → Within same_name (free_in bound a) xs → IsTrue (formula_fits l symbols (length xs) (expanded symbols xs a))
   expanded-fits (atom p ts) l symbols bound xs w h b f =
-      let q = and_parts (list_any (symbol_eq (predicate_symbol p (count ts))) symbols) (list_all (λ s. list_any (symbol_eq s) symbols) (terms_symbols ts)) h in
-      and_from (has_predicate symbols (number_of symbols (predicate_symbol p (count ts))) (arity_of (expanded_terms symbols xs ts))) (terms_fit_in symbols (length xs) (expanded_terms symbols xs ts))
-      (ap (has_predicate symbols (number_of symbols (predicate_symbol p (count ts)))) (count-arity symbols xs ts) ∙ predicate-there symbols (predicate_symbol p (count ts)) refl q.0)
+      let q = and_parts (list_any (symbol_eq (predicate_symbol p (argument_count ts))) symbols) (list_all (λ s. list_any (symbol_eq s) symbols) (terms_symbols ts)) h in
+      and_from (has_predicate symbols (number_of symbols (predicate_symbol p (argument_count ts))) (arity_of (expanded_terms symbols xs ts))) (terms_fit_in symbols (length xs) (expanded_terms symbols xs ts))
+      (ap (has_predicate symbols (number_of symbols (predicate_symbol p (argument_count ts)))) (count-arity symbols xs ts) ∙ predicate-there symbols (predicate_symbol p (argument_count ts)) refl q.0)
       (terms-fit ts symbols xs q.1 (unbound-within bound (variables_in_all ts) xs b f))
   expanded-fits truth l symbols bound xs w h b f = true-fits l symbols (length xs) (and_parts (list_any (symbol_eq truth_symbol) symbols) true h).0
   expanded-fits falsity l symbols bound xs w h b f = true-fits l symbols (length xs) (and_parts (list_any (symbol_eq truth_symbol) symbols) true h).0
@@ -272,10 +273,10 @@ mutual
       binary-fits c l symbols (length xs) (expanded symbols xs a) (expanded symbols xs d) (expanded-fits a l symbols bound xs q.0 r.0 b v.0) (expanded-fits d l symbols bound xs q.1 r.1 b v.1)
   expanded-fits (for_all ys a) l symbols bound xs w h b f =
       all-fits l symbols (length xs) ys (expanded symbols (reverse ys ++ xs) a) ∙ ap (λ n. formula_fits l symbols n (expanded symbols (reverse ys ++ xs) a)) (turned-length ys xs)
-      ∙ expanded-fits a l symbols (ys ++ bound) (reverse ys ++ xs) w h (bound-within ys bound xs b) (within-more (free_in (ys ++ bound) a) (reverse ys) xs f)
+      ∙ expanded-fits a l symbols (bound ++ ys) (reverse ys ++ xs) w h (bound-within ys bound xs b) (within-more (free_in (bound ++ ys) a) (reverse ys) xs f)
   expanded-fits (exists ys a) l symbols bound xs w h b f =
       ex-fits l symbols (length xs) ys (expanded symbols (reverse ys ++ xs) a) ∙ ap (λ n. formula_fits l symbols n (expanded symbols (reverse ys ++ xs) a)) (turned-length ys xs)
-      ∙ expanded-fits a l symbols (ys ++ bound) (reverse ys ++ xs) w h (bound-within ys bound xs b) (within-more (free_in (ys ++ bound) a) (reverse ys) xs f)
+      ∙ expanded-fits a l symbols (bound ++ ys) (reverse ys ++ xs) w h (bound-within ys bound xs b) (within-more (free_in (bound ++ ys) a) (reverse ys) xs f)
   expanded-fits (nec a) l symbols bound xs w h b f =
       let q = and_parts (is_modal l) (is_well (is_modal l) a) w in and_from (is_modal l) (formula_fits l symbols (length xs) (expanded symbols xs a)) q.0 (expanded-fits a l symbols bound xs q.1 h b f)
   expanded-fits (poss a) l symbols bound xs w h b f =
@@ -326,21 +327,13 @@ symbol-self s = (symbol_eq-tells s s).1 refl
 pub all-seen : (ss : List Symbol) → Within symbol_eq ss (first_seen symbol_eq [] ss)
 all-seen ss = seen symbol_eq symbol-self ss []
 
--- The formulas of the items that pass fit the symbols that are numbered over them.
-pub formulas-fit : (l : Logic) (items all : List Passed) (conjectures : Bool) → IsTrue (list_all (λ (p : Passed). is_well (is_modal l) p.body) items) → Within symbol_eq (flat_map (λ (p : Passed). symbols_in p.body) items) (symbols_of all) → IsTrue (list_all (formula_fits l (symbols_of all) 0) (formulas_of conjectures (symbols_of all) items))
-formulas-fit l [] all true w h = refl
-formulas-fit l [] all false w h = refl
-formulas-fit l (p ∷ ps) all c w h =
+-- The formulas of items fit the symbols that are numbered over them, and over more items.
+pub formulas-fit : (l : Logic) (items all : List Passed) → IsTrue (list_all (λ (p : Passed). is_well (is_modal l) p.body) items)
+    → Within symbol_eq (flat_map (λ (p : Passed). symbols_in p.body) items) (symbols_of all)
+    → IsTrue (list_all (formula_fits l (symbols_of all) 0) (formulas_of (symbols_of all) items))
+formulas-fit l [] all w h = refl
+formulas-fit l (p ∷ ps) all w h =
     let q = and_parts (is_well (is_modal l) p.body) (list_all (λ (p : Passed). is_well (is_modal l) p.body) ps) w in
     let r = within-parts symbol_eq (symbols_in p.body) (flat_map (λ (p : Passed). symbols_in p.body) ps) (symbols_of all) h in
-    by c p.is_conjecture (closed-fits l (symbols_of all) p.body q.0 r.0) (formulas-fit l ps all c q.1 r.1)
-  where
-    with_one : IsTrue (formula_fits l (symbols_of all) 0 (closed (symbols_of all) p.body)) → (fs : List Formula) → IsTrue (list_all (formula_fits l (symbols_of all) 0) fs) → IsTrue (list_all (formula_fits l (symbols_of all) 0) (closed (symbols_of all) p.body ∷ fs))
-    with_one f fs g = and_from (formula_fits l (symbols_of all) 0 (closed (symbols_of all) p.body)) (list_all (formula_fits l (symbols_of all) 0) fs) f g
-
-    by : (c b : Bool) → IsTrue (formula_fits l (symbols_of all) 0 (closed (symbols_of all) p.body)) → IsTrue (list_all (formula_fits l (symbols_of all) 0) (formulas_of c (symbols_of all) ps))
-        → IsTrue (list_all (formula_fits l (symbols_of all) 0) (formulas_of c (symbols_of all) (record { is_conjecture = b; body = p.body } ∷ ps)))
-    by true true f g = with_one f (formulas_of true (symbols_of all) ps) g
-    by true false f g = g
-    by false true f g = g
-    by false false f g = with_one f (formulas_of false (symbols_of all) ps) g
+    and_from (formula_fits l (symbols_of all) 0 (closed (symbols_of all) p.body)) (list_all (formula_fits l (symbols_of all) 0) (formulas_of (symbols_of all) ps))
+    (closed-fits l (symbols_of all) p.body q.0 r.0) (formulas-fit l ps all q.1 r.1)

@@ -4,8 +4,8 @@ use Rattle.calculus.specs.declared.symbol.SymbolClass.{SymbolClass}
 use Rattle.calculus.specs.declared.symbol.SymbolClass.TheVariants.{Function, Predicate}
 use Rattle.calculus.specs.Syntax.{Symbol, Term, var, fun, Formula, atom, conj, imp, all}
 use Rattle.calculus.specs.Lists.{terms_tree}
-use Rattle.problem_build.specs.Balance.{balanced}
-use Rattle.problem_build.specs.Expansion.{equality_atom}
+use Rattle.tptp_reader.specs.declared.source.ChainKind.TheVariants.{And}
+use Rattle.problem_build.specs.Expansion.{equality_atom, joined_chain}
 
 abbrev pub for_all_times : ℕ → Formula → Formula
 for_all_times zero a = a
@@ -21,10 +21,9 @@ abbrev pub equations : List Symbol → List Term → List Term → List Formula
 equations symbols (s ∷ ss) (t ∷ ts) = equality_atom symbols s t ∷ equations symbols ss ts
 equations symbols _ _ = []
 
--- the conjunction of these, before a formula; there is at least one
-abbrev pub conjoined : List Formula → (Formula → Formula) → List Formula
-conjoined [] rest = []
-conjoined (a ∷ bs) rest = rest (balanced conj a bs) ∷ []
+-- the conjunction of these; the empty one does not come
+abbrev pub conjoined : List Symbol → List Formula → Formula
+conjoined symbols equations = joined_chain And symbols equations
 
 -- ![X1]:(X1 = X1)
 abbrev pub reflexivity : List Symbol → Formula
@@ -46,25 +45,30 @@ left_variables n = variables n n
 abbrev pub right_variables : ℕ → List Term
 right_variables n = variables 0 n
 
--- for a function symbol of this number with n arguments, n at least 1: equal arguments give equal values
-abbrev pub function_axiom : List Symbol → ℕ → ℕ → List Formula
+-- Xi = Xn+i, for i from 1 to n
+abbrev pub equal_arguments : List Symbol → ℕ → Formula
+equal_arguments symbols n = conjoined symbols (equations symbols (left_variables n) (right_variables n))
+
+-- for the function symbol of this number with n arguments: equal arguments give equal values
+abbrev pub function_axiom : List Symbol → ℕ → ℕ → Formula
 function_axiom symbols f n =
-    conjoined (equations symbols (left_variables n) (right_variables n))
-    (λ e. for_all_times (n + n) (imp e (equality_atom symbols (fun f (terms_tree (left_variables n))) (fun f (terms_tree (right_variables n))))))
+    for_all_times (n + n) (imp (equal_arguments symbols n)
+    (equality_atom symbols (fun f (terms_tree (left_variables n))) (fun f (terms_tree (right_variables n)))))
 
 -- for a predicate symbol: what holds of arguments holds of equal ones
-abbrev pub predicate_axiom : List Symbol → ℕ → ℕ → List Formula
+abbrev pub predicate_axiom : List Symbol → ℕ → ℕ → Formula
 predicate_axiom symbols p n =
-    conjoined (equations symbols (left_variables n) (right_variables n))
-    (λ e. for_all_times (n + n) (imp (conj e (atom p (terms_tree (left_variables n)))) (atom p (terms_tree (right_variables n)))))
+    for_all_times (n + n) (imp (conj (equal_arguments symbols n) (atom p (terms_tree (left_variables n))))
+    (atom p (terms_tree (right_variables n))))
 
+-- symbols without arguments have no axiom
 abbrev pub congruence_of_function : List Symbol → ℕ → SymbolClass → ℕ → List Formula
-congruence_of_function symbols k Function n = function_axiom symbols k n
-congruence_of_function symbols k _ n = []
+congruence_of_function symbols k Function (suc n) = function_axiom symbols k (suc n) ∷ []
+congruence_of_function symbols k _ _ = []
 
 abbrev pub congruence_of_predicate : List Symbol → ℕ → SymbolClass → ℕ → List Formula
-congruence_of_predicate symbols k Predicate n = predicate_axiom symbols k n
-congruence_of_predicate symbols k _ n = []
+congruence_of_predicate symbols k Predicate (suc n) = predicate_axiom symbols k (suc n) ∷ []
+congruence_of_predicate symbols k _ _ = []
 
 -- one after the other for these symbols, the first of which has the number k
 abbrev pub for_each : (ℕ → SymbolClass → ℕ → List Formula) → ℕ → List Symbol → List Formula

@@ -29,9 +29,9 @@ same_name = list_eq ◌==◌
 
 -- ---- symbols
 
-abbrev pub count : SourceTerms → ℕ
-count no_terms = 0
-count (more_terms t ts) = suc (count ts)
+abbrev pub argument_count : SourceTerms → ℕ
+argument_count no_terms = 0
+argument_count (more_terms t ts) = suc (argument_count ts)
 
 abbrev pub function_symbol : Name → ℕ → Symbol
 function_symbol name arity = record { name = name; class = Function; arity = arity }
@@ -50,7 +50,7 @@ truth_symbol = record { name = codes "$$o"; class = Truth; arity = 0 }
 abbrev mutual
   pub term_symbols : SourceTerm → List Symbol
   term_symbols (variable x) = []
-  term_symbols (apply f ts) = function_symbol f (count ts) ∷ terms_symbols ts
+  term_symbols (apply f ts) = function_symbol f (argument_count ts) ∷ terms_symbols ts
 
   pub terms_symbols : SourceTerms → List Symbol
   terms_symbols no_terms = []
@@ -62,7 +62,7 @@ binary_symbols _ left right = left ++ right
 
 abbrev mutual
   pub symbols_in : Source → List Symbol
-  symbols_in (atom p ts) = predicate_symbol p (count ts) ∷ terms_symbols ts
+  symbols_in (atom p ts) = predicate_symbol p (argument_count ts) ∷ terms_symbols ts
   symbols_in truth = truth_symbol ∷ []
   symbols_in falsity = truth_symbol ∷ []
   symbols_in (equal s t) = equality_symbol ∷ (term_symbols s ++ term_symbols t)
@@ -108,8 +108,8 @@ abbrev mutual
   free_in bound (not a) = free_in bound a
   free_in bound (chain c bs) = free_in_all bound bs
   free_in bound (binary c a b) = free_in bound a ++ free_in bound b
-  free_in bound (for_all xs a) = free_in (xs ++ bound) a
-  free_in bound (exists xs a) = free_in (xs ++ bound) a
+  free_in bound (for_all xs a) = free_in (bound ++ xs) a
+  free_in bound (exists xs a) = free_in (bound ++ xs) a
   free_in bound (nec a) = free_in bound a
   free_in bound (poss a) = free_in bound a
 
@@ -127,7 +127,7 @@ free_variables a = first_seen same_name [] (free_in [] a)
 abbrev mutual
   pub expanded_term : List Symbol → List Name → SourceTerm → Term
   expanded_term symbols xs (variable x) = tree.var (place_of (same_name x) xs)
-  expanded_term symbols xs (apply f ts) = tree.fun (number_of symbols (function_symbol f (count ts))) (expanded_terms symbols xs ts)
+  expanded_term symbols xs (apply f ts) = tree.fun (number_of symbols (function_symbol f (argument_count ts))) (expanded_terms symbols xs ts)
 
   pub expanded_terms : List Symbol → List Name → SourceTerms → Terms
   expanded_terms symbols xs no_terms = tree.no_terms
@@ -158,19 +158,19 @@ quantified q [] a = a
 quantified q (x ∷ xs) a = q (quantified q xs a)
 
 -- no text has an empty chain
-abbrev pub joined : ChainKind → List Symbol → List Formula → Formula
-joined c symbols [] = true_formula symbols
-joined c symbols (a ∷ bs) = balanced (chain_formula c) a bs
+abbrev pub joined_chain : ChainKind → List Symbol → List Formula → Formula
+joined_chain c symbols [] = true_formula symbols
+joined_chain c symbols (a ∷ bs) = balanced (chain_formula c) a bs
 
 abbrev mutual
   pub expanded : List Symbol → List Name → Source → Formula
-  expanded symbols xs (atom p ts) = tree.atom (number_of symbols (predicate_symbol p (count ts))) (expanded_terms symbols xs ts)
+  expanded symbols xs (atom p ts) = tree.atom (number_of symbols (predicate_symbol p (argument_count ts))) (expanded_terms symbols xs ts)
   expanded symbols xs truth = true_formula symbols
   expanded symbols xs falsity = tree.neg (true_formula symbols)
   expanded symbols xs (equal s t) = equality_atom symbols (expanded_term symbols xs s) (expanded_term symbols xs t)
   expanded symbols xs (unequal s t) = tree.neg (equality_atom symbols (expanded_term symbols xs s) (expanded_term symbols xs t))
   expanded symbols xs (not a) = tree.neg (expanded symbols xs a)
-  expanded symbols xs (chain c bs) = joined c symbols (expanded_all symbols xs bs)
+  expanded symbols xs (chain c bs) = joined_chain c symbols (expanded_all symbols xs bs)
   expanded symbols xs (binary c a b) = binary_formula c (expanded symbols xs a) (expanded symbols xs b)
   expanded symbols xs (for_all ys a) = quantified tree.all ys (expanded symbols (reverse ys ++ xs) a)
   expanded symbols xs (exists ys a) = quantified tree.ex ys (expanded symbols (reverse ys ++ xs) a)

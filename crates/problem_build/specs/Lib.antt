@@ -8,4 +8,14 @@ pub mod Balance
 pub mod Expansion
 pub mod EqualityAxioms
 pub mod Building
+pub mod Occurring
 pub mod Answers
+-- ---- what helpers of the program promise
+
+pub mod Outside
+pub mod Walking
+pub mod Counting
+pub mod Adding
+pub mod Quantifying
+pub mod Passing
+pub mod Measuring

@@ -41,7 +41,7 @@ go_on (Err r) next = Err r
 abbrev pub is_among : Name → List Name → Bool
 is_among name names = list_any (list_eq ◌==◌ name) names
 
--- the name is in every list that encloses the item
+-- the name is in every list that encloses the item, the outer lists first
 abbrev pub passes : List (List Name) → Name → Bool
 passes lists name = list_all (is_among name) lists
 
@@ -70,23 +70,28 @@ abbrev pub names_of : List (Name × ℕ) → List Name
 names_of [] = []
 names_of (n ∷ ns) = n.0 ∷ names_of ns
 
-abbrev pub enclosed : Option (List (Name × ℕ)) → List (List Name) → List (List Name)
-enclosed None lists = lists
-enclosed (Some names) lists = names_of names ∷ lists
+abbrev pub lists_inside : Option (List (Name × ℕ)) → List (List Name) → List (List Name)
+lists_inside None lists = lists
+lists_inside (Some names) lists = lists ++ names_of names ∷ []
 
 -- the names reached in the included file, past the include's own list
-abbrev pub past : Option (List (Name × ℕ)) → List Name → List Name
-past None reached = reached
-past (Some names) reached = filter (λ n. is_among n (names_of names)) reached
+abbrev pub past_list : Option (List (Name × ℕ)) → List Name → List Name
+past_list None reached = reached
+past_list (Some names) reached = filter (λ n. is_among n (names_of names)) reached
 
--- each name of the list is reached; else the first that is not is told
-abbrev pub all_reached : (file : Name) → List (Name × ℕ) → List Name → Result (List Name) Refusal
-all_reached file [] reached = Ok reached
-all_reached file (n ∷ ns) reached = if is_among n.0 reached then all_reached file ns reached else Err (bad file n.1 IncludeNameAbsent)
+-- the offset of the first name of the list that is not reached
+abbrev pub first_absent : List (Name × ℕ) → List Name → Option ℕ
+first_absent [] reached = None
+first_absent (n ∷ ns) reached = if is_among n.0 reached then first_absent ns reached else Some n.1
 
-abbrev pub judged : (file : Name) → Option (List (Name × ℕ)) → List Name → Result (List Name) Refusal
-judged file None reached = Ok reached
-judged file (Some names) reached = all_reached file names reached
+abbrev pub absent_in : Option (List (Name × ℕ)) → List Name → Option ℕ
+absent_in None reached = None
+absent_in (Some names) reached = first_absent names reached
+
+-- goes on unless a name is absent
+abbrev pub unless_absent : {A : Type 0} → (file : Name) → Option ℕ → Result A Refusal → Result A Refusal
+unless_absent file None next = next
+unless_absent file (Some offset) next = Err (bad file offset IncludeNameAbsent)
 
 -- ---- items and files
 
@@ -94,20 +99,20 @@ judged file (Some names) reached = all_reached file names reached
 abbrev pub FileWalk : Type 0
 FileWalk = Name → List (List Name) → Progress → Result Walked Refusal
 
-abbrev pub after : Progress → List Name → Walked
-after p names = record { progress = p; reached = names }
+abbrev pub walked : Progress → List Name → Walked
+walked p names = record { progress = p; reached = names }
 
 -- `deeper` walks over an included file; there is none where includes would be too deep
 abbrev pub items_walk : Option FileWalk → (root file : Name) → List (List Name) → List Item → Walked → Result Walked Refusal
 items_walk deeper root file lists [] w = Ok w
 items_walk deeper root file lists (formula kind name role role_at body start ∷ items) w =
     go_on (if passes lists name then passed_on file role role_at body start w.progress else Ok w.progress)
-    (λ p. items_walk deeper root file lists items (after p (w.reached ++ name ∷ [])))
+    (λ p. items_walk deeper root file lists items (walked p (w.reached ++ name ∷ [])))
 items_walk None root file lists (include included names start ∷ items) w = Err (bad file start IncludeTooDeep)
 items_walk (Some deeper) root file lists (include included names start ∷ items) w =
-    go_on (deeper (fetched_name root included) (enclosed names lists) w.progress)
-    (λ v. go_on (judged file names v.reached)
-    (λ reached. items_walk (Some deeper) root file lists items (after v.progress (w.reached ++ past names reached))))
+    go_on (deeper (fetched_name root included) (lists_inside names lists) w.progress)
+    (λ v. unless_absent file (absent_in names v.reached)
+    (items_walk (Some deeper) root file lists items (walked v.progress (w.reached ++ past_list names v.reached))))
 
 abbrev pub read_cause : ReadCause → Cause
 read_cause reading.Syntax = Syntax
@@ -117,7 +122,7 @@ read_cause reading.WrongLanguage = WrongLanguage
 
 -- what reading the bytes of a file leads to
 abbrev pub outcome_walk : Option FileWalk → (root file : Name) → List (List Name) → Progress → Outcome (List Item) → Result Walked Refusal
-outcome_walk deeper root file lists p (reads items) = items_walk deeper root file lists items (after p [])
+outcome_walk deeper root file lists p (reads items) = items_walk deeper root file lists items (walked p [])
 outcome_walk deeper root file lists p (fails (wrong offset cause)) = Err (bad file offset (read_cause cause))
 outcome_walk deeper root file lists p (fails (too_deep offset)) = Err nesting_too_deep
 
@@ -126,17 +131,17 @@ abbrev pub greatest_input : ℕ
 greatest_input = 16777216
 
 -- how a text is read
-abbrev pub Reading : Type 0
-Reading = List ℕ → Outcome (List Item)
+abbrev pub Reader : Type 0
+Reader = List ℕ → Outcome (List Item)
 
-abbrev pub bytes_walk : Reading → Option FileWalk → (root : Name) → (file : Name) → List (List Name) → Progress → Option (List ℕ) → Result Walked Refusal
+abbrev pub bytes_walk : Reader → Option FileWalk → (root : Name) → (file : Name) → List (List Name) → Progress → Option (List ℕ) → Result Walked Refusal
 bytes_walk read deeper root file lists p None = Err (missing file)
 bytes_walk read deeper root file lists p (Some bytes) =
     if nat_lt greatest_input (p.bytes + length bytes) then Err input_too_large
     else outcome_walk deeper root file lists (record p { bytes = p.bytes + length bytes }) (read bytes)
 
 -- so many includes may stand inside one another below the file
-abbrev pub file_walk : Reading → Files → (root : Name) → ℕ → FileWalk
+abbrev pub file_walk : Reader → Files → (root : Name) → ℕ → FileWalk
 file_walk read files root zero file lists p = bytes_walk read None root file lists p (file_in files file)
 file_walk read files root (suc depth) file lists p = bytes_walk read (Some (file_walk read files root depth)) root file lists p (file_in files file)
 
@@ -145,5 +150,5 @@ abbrev pub greatest_depth : ℕ
 greatest_depth = 16
 
 -- the formulas that pass, from the main file on
-abbrev pub walk : Reading → Files → (name root : Name) → Result Walked Refusal
+abbrev pub walk : Reader → Files → (name root : Name) → Result Walked Refusal
 walk read files name root = file_walk read files root greatest_depth name [] (record { bytes = 0; passed = [] })

@@ -1,6 +1,7 @@
 //! Why no problem comes of the files.
 
-use cop_base::Text;
+use cop_base::{NoMemory, Text};
+use std::alloc::{AllocError, AllocFailed};
 
 /// What is wrong in a file.
 #[derive(Clone, Copy, Debug, PartialEq, Eq)]
@@ -35,4 +36,37 @@ pub enum BuildFault {
         cause: Cause,
     },
     NoMemory,
+}
+
+impl From<NoMemory> for BuildFault {
+    ghost use Rattle.std.specs.Prelude.{◌≡◌};
+    ghost use Rattle.problem_build.specs.declared.fault.BuildFault.TheVariants as fault;
+
+    ghost from_gives = { λ _ r. r ≡ fault.NoMemory };
+
+    fn from(_error: NoMemory) -> BuildFault {
+        BuildFault::NoMemory
+    }
+}
+
+impl From<AllocError> for BuildFault {
+    ghost use Rattle.std.specs.Prelude.{◌≡◌};
+    ghost use Rattle.problem_build.specs.declared.fault.BuildFault.TheVariants as fault;
+
+    ghost from_gives = { λ _ r. r ≡ fault.NoMemory };
+
+    fn from(_error: AllocError) -> BuildFault {
+        BuildFault::NoMemory
+    }
+}
+
+impl<T: Drop> From<AllocFailed<T>> for BuildFault {
+    ghost use Rattle.std.specs.Prelude.{◌≡◌};
+    ghost use Rattle.problem_build.specs.declared.fault.BuildFault.TheVariants as fault;
+
+    ghost from_gives = { λ _ r. r ≡ fault.NoMemory };
+
+    fn from(_error: AllocFailed<T>) -> BuildFault {
+        BuildFault::NoMemory
+    }
 }

@@ -1,0 +1,315 @@
+//! The formula of an item.
+
+ghost use Rattle.std.specs.Prelude.{◌≡◌, map, reverse, IfOk, OnOk};
+ghost use Rattle.calculus.specs.Lists.{terms_tree};
+ghost use Rattle.formula_core.specs.FormulaView.{the_formula};
+ghost use Rattle.formula_core.specs.SymbolView.{the_symbol};
+ghost use Rattle.formula_core.specs.TermView.{the_term};
+ghost use Rattle.problem_build.specs.EqualityAxioms.{for_all_times};
+ghost use Rattle.problem_build.specs.Expansion.{binary_formula, closed, equality_atom, expanded, expanded_term, expanded_terms, joined_chain, number_of, place_of, same_name, true_formula};
+ghost use Rattle.problem_build.specs.Quantifying.{ex_times};
+ghost use Rattle.tptp_reader.specs.Lists.{terms_tree as source_terms};
+ghost use Rattle.tptp_reader.specs.SourceView.{the_source};
+ghost use Rattle.tptp_reader.specs.TermView.{the_source_term};
+
+use crate::chain::balanced;
+use crate::symbols::{equality_symbol, function_symbol, predicate_symbol, truth_symbol};
+use crate::variables::{free_variables, push_names};
+use cop_base::{NoMemory, SymbolId, Text};
+use formula_core::{Formula, Symbol, Symbols, Term, Terms};
+use std::alloc::{AllocError, Global};
+use tptp_reader::{BinaryKind, ChainKind, Source, SourceTerm, SourceTerms};
+
+// The number of the symbol; that of the symbols where it is none of them.
+fn number_of(symbols: &Symbols, symbol: &Symbol) -> SymbolId
+    ensures { result.0 ≡ number_of symbols.now (the_symbol symbol.now) }
+{
+    let count = symbols.len() as u32;
+    match symbols.find(symbol) {
+        Some(id) => id,
+        None => SymbolId(count),
+    }
+}
+
+// How many quantifiers stand between the variable and its own; all of them where it has none.
+fn variable_place(scope: &[Text], name: &Text) -> usize
+    ensures { result ≡ place_of (same_name name.now) (reverse scope.now) }
+{
+    let mut left = scope.len();
+    while left > 0 {
+        left -= 1;
+        if *name == scope[left] {
+            return scope.len() - 1 - left;
+        }
+    }
+    scope.len()
+}
+
+// There is no memory for more variables than 32 bits can number.
+fn variable(scope: &[Text], name: &Text) -> Result<u32, NoMemory>
+    ensures { IfOk result (λ k. k ≡ place_of (same_name name.now) (reverse scope.now)) }
+{
+    match u32::try_from(variable_place(scope, name)) {
+        Ok(place) => Ok(place),
+        Err(_) => Err(NoMemory),
+    }
+}
+
+#[cycle(term_of)]
+fn term_of(
+    alloc: Global,
+    symbols: &Symbols,
+    scope: &[Text],
+    term: &SourceTerm,
+) -> Result<Term, NoMemory>
+    ensures { IfOk result (λ t. the_term t ≡ expanded_term symbols.now (reverse scope.now) (the_source_term term.now)) }
+{
+    match term {
+        SourceTerm::Var(x) => {
+            let place = variable(scope, x)?;
+            Ok(Term::Var(place))
+        }
+        SourceTerm::Fun(f, args) => {
+            let symbol = function_symbol(alloc, f, args)?;
+            let number = number_of(symbols, &symbol);
+            let terms = terms_of(alloc, symbols, scope, args)?;
+            Ok(Term::Fun(number, terms))
+        }
+    }
+}
+
+#[cycle(term_of)]
+#[tactic(auto, using(crate::proofs::FallingLaws::falling))]
+fn terms_of(
+    alloc: Global,
+    symbols: &Symbols,
+    scope: &[Text],
+    terms: &SourceTerms,
+) -> Result<Terms, NoMemory>
+    ensures { IfOk result (λ ts. terms_tree ts ≡ expanded_terms symbols.now (reverse scope.now) (source_terms terms.now)) }
+{
+    let mut made = Terms::new(alloc);
+    for term in terms.items() {
+        let term = term_of(alloc, symbols, scope, term)?;
+        made.push(term)?;
+    }
+    Ok(made)
+}
+
+pub fn equality_atom(
+    alloc: Global,
+    symbols: &Symbols,
+    left: Term,
+    right: Term,
+) -> Result<Formula, NoMemory>
+    ensures { IfOk result (λ f. the_formula f ≡ equality_atom symbols.now (the_term left) (the_term right)) }
+{
+    let equality = equality_symbol(alloc)?;
+    let mut args = Terms::new(alloc);
+    args.push(left)?;
+    args.push(right)?;
+    Ok(Formula::Atom(number_of(symbols, &equality), args))
+}
+
+fn equation(
+    alloc: Global,
+    symbols: &Symbols,
+    scope: &[Text],
+    left: &SourceTerm,
+    right: &SourceTerm,
+) -> Result<Formula, NoMemory>
+    ensures { IfOk result (λ f. the_formula f ≡ equality_atom symbols.now
+        (expanded_term symbols.now (reverse scope.now) (the_source_term left.now))
+        (expanded_term symbols.now (reverse scope.now) (the_source_term right.now))) }
+{
+    let left = term_of(alloc, symbols, scope, left)?;
+    let right = term_of(alloc, symbols, scope, right)?;
+    let atom = equality_atom(alloc, symbols, left, right)?;
+    Ok(atom)
+}
+
+fn true_formula(alloc: Global, symbols: &Symbols) -> Result<Formula, NoMemory>
+    ensures { IfOk result (λ f. the_formula f ≡ true_formula symbols.now) }
+{
+    let truth = truth_symbol(alloc)?;
+    let number = number_of(symbols, &truth);
+    let left = Formula::Atom(number, Terms::new(alloc));
+    let right = Formula::Atom(number, Terms::new(alloc));
+    let formula = Formula::imp(alloc, left, right)?;
+    Ok(formula)
+}
+
+// Both implications.
+fn equivalence(alloc: Global, a: Formula, b: Formula) -> Result<Formula, NoMemory>
+    ensures { IfOk result (λ f. the_formula f ≡ binary_formula BinaryKind.Iff (the_formula a) (the_formula b)) }
+{
+    let a_again = a.copy(alloc)?;
+    let b_again = b.copy(alloc)?;
+    let forth = Formula::imp(alloc, a, b)?;
+    let back = Formula::imp(alloc, b_again, a_again)?;
+    let both = Formula::and(alloc, forth, back)?;
+    Ok(both)
+}
+
+fn binary_formula(
+    alloc: Global,
+    kind: BinaryKind,
+    a: Formula,
+    b: Formula,
+) -> Result<Formula, NoMemory>
+    ensures { IfOk result (λ f. the_formula f ≡ binary_formula kind (the_formula a) (the_formula b)) }
+{
+    match kind {
+        BinaryKind::Imp => Formula::imp(alloc, a, b),
+        BinaryKind::If => Formula::imp(alloc, b, a),
+        BinaryKind::Iff => equivalence(alloc, a, b),
+        BinaryKind::Xor => {
+            let both = equivalence(alloc, a, b)?;
+            Formula::not(alloc, both)
+        }
+        BinaryKind::Nor => {
+            let either = Formula::or(alloc, a, b)?;
+            Formula::not(alloc, either)
+        }
+        BinaryKind::Nand => {
+            let both = Formula::and(alloc, a, b)?;
+            Formula::not(alloc, both)
+        }
+    }
+}
+
+/// So many universal quantifiers before the formula.
+pub fn all_times(alloc: Global, count: usize, body: Formula) -> Result<Formula, NoMemory>
+    ensures { IfOk result (λ f. the_formula f ≡ for_all_times count (the_formula body)) }
+{
+    let mut formula = body;
+    for i in 0..count {
+        formula = Formula::all(alloc, formula)?;
+    }
+    Ok(formula)
+}
+
+fn ex_times(alloc: Global, count: usize, body: Formula) -> Result<Formula, NoMemory>
+    ensures { IfOk result (λ f. the_formula f ≡ ex_times count (the_formula body)) }
+{
+    let mut formula = body;
+    for i in 0..count {
+        formula = Formula::ex(alloc, formula)?;
+    }
+    Ok(formula)
+}
+
+/// The formulas joined in halves.
+pub fn joined_chain(
+    alloc: Global,
+    symbols: &Symbols,
+    kind: ChainKind,
+    formulas: Vec<Formula>,
+) -> Result<Formula, NoMemory>
+    ensures { IfOk result (λ f. the_formula f ≡ joined_chain kind symbols.now (map the_formula formulas.items)) }
+{
+    let mut formulas = formulas;
+    let count = formulas.len();
+    if count == 0 {
+        return true_formula(alloc, symbols);
+    }
+    let joined = balanced(alloc, kind, &mut formulas, count)?;
+    Ok(joined)
+}
+
+// The formula inside of quantifiers over the variables of the scope, the innermost last.
+#[tactic(auto, using(crate::proofs::FallingLaws::falling))]
+fn expand(
+    alloc: Global,
+    symbols: &Symbols,
+    scope: &mut Vec<Text>,
+    source: &Source,
+) -> Result<Formula, NoMemory>
+    ensures scope { OnOk result (scope.new.items ≡ scope.old.items) }
+    ensures expanded { IfOk result (λ f. the_formula f
+        ≡ expanded symbols.now (reverse scope.old.items) (the_source source.now)) }
+{
+    match source {
+        Source::Atom(p, args) => {
+            let symbol = predicate_symbol(alloc, p, args)?;
+            let number = number_of(symbols, &symbol);
+            let terms = terms_of(alloc, symbols, scope, args)?;
+            Ok(Formula::Atom(number, terms))
+        }
+        Source::True => {
+            let truth = true_formula(alloc, symbols)?;
+            Ok(truth)
+        }
+        Source::False => {
+            let truth = true_formula(alloc, symbols)?;
+            let formula = Formula::not(alloc, truth)?;
+            Ok(formula)
+        }
+        Source::Equal(s, t) => {
+            let formula = equation(alloc, symbols, scope, s, t)?;
+            Ok(formula)
+        }
+        Source::Unequal(s, t) => {
+            let atom = equation(alloc, symbols, scope, s, t)?;
+            let formula = Formula::not(alloc, atom)?;
+            Ok(formula)
+        }
+        Source::Not(a) => {
+            let inner = expand(alloc, symbols, scope, a.get())?;
+            let formula = Formula::not(alloc, inner)?;
+            Ok(formula)
+        }
+        Source::Nec(a) => {
+            let inner = expand(alloc, symbols, scope, a.get())?;
+            let formula = Formula::nec(alloc, inner)?;
+            Ok(formula)
+        }
+        Source::Poss(a) => {
+            let inner = expand(alloc, symbols, scope, a.get())?;
+            let formula = Formula::poss(alloc, inner)?;
+            Ok(formula)
+        }
+        Source::Binary(kind, a, b) => {
+            let left = expand(alloc, symbols, scope, a.get())?;
+            let right = expand(alloc, symbols, scope, b.get())?;
+            let formula = binary_formula(alloc, *kind, left, right)?;
+            Ok(formula)
+        }
+        Source::Chain(kind, units) => {
+            let mut formulas = Vec::new(alloc);
+            for unit in units.items() {
+                let formula = expand(alloc, symbols, scope, unit)?;
+                formulas.push(formula)?;
+            }
+            let joined = joined_chain(alloc, symbols, *kind, formulas)?;
+            Ok(joined)
+        }
+        Source::All(xs, a) => {
+            let outer = scope.len();
+            push_names(alloc, scope, xs.items())?;
+            let body = expand(alloc, symbols, scope, a.get())?;
+            scope.truncate(outer);
+            let formula = all_times(alloc, xs.items().len(), body)?;
+            Ok(formula)
+        }
+        Source::Ex(xs, a) => {
+            let outer = scope.len();
+            push_names(alloc, scope, xs.items())?;
+            let body = expand(alloc, symbols, scope, a.get())?;
+            scope.truncate(outer);
+            let formula = ex_times(alloc, xs.items().len(), body)?;
+            Ok(formula)
+        }
+    }
+}
+
+/// The formula of an item, with universal quantifiers for its free variables round it.
+pub fn closed(alloc: Global, symbols: &Symbols, source: &Source) -> Result<Formula, NoMemory>
+    ensures { IfOk result (λ f. the_formula f ≡ closed symbols.now (the_source source.now)) }
+{
+    let mut scope = free_variables(alloc, source)?;
+    let count = scope.len();
+    let body = expand(alloc, symbols, &mut scope, source)?;
+    let formula = all_times(alloc, count, body)?;
+    Ok(formula)
+}

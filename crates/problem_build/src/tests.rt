@@ -1,0 +1,251 @@
+use super::*;
+use cop_base::{MemLibrary, NoMemory, Text};
+use formula_core::{Formula, Symbols, Term, Terms};
+use logic_rules::{Domains, Logic, Problem, Setting};
+use std::alloc::Global;
+use std::test::Fail;
+
+fn text(alloc: Global, bytes: &[u8]) -> Result<Text, NoMemory> {
+    Text::new(alloc, bytes)
+}
+
+// The files by name and content.
+fn library(alloc: Global, files: &[(&str, &str)]) -> Result<MemLibrary, Fail> {
+    let mut held = Vec::new(alloc);
+    for (name, content) in files {
+        let name = text(alloc, name.as_bytes())?;
+        held.push((name, Vec::from_slice(alloc, content.as_bytes())?))?;
+    }
+    let library = MemLibrary::new(alloc, held, Vec::new(alloc))?;
+    Ok(library)
+}
+
+fn show_symbol(out: &mut String, symbols: &Symbols, number: u32) -> Result<(), Fail> {
+    for byte in symbols.items()[number as usize].name.bytes() {
+        out.push(char::from(*byte))?;
+    }
+    Ok(())
+}
+
+fn show_term(out: &mut String, symbols: &Symbols, term: &Term) -> Result<(), Fail> {
+    match term {
+        Term::Var(k) => write!(out, "{k}")?,
+        Term::Fun(f, args) => {
+            show_symbol(out, symbols, f.0)?;
+            show_terms(out, symbols, args)?;
+        }
+        _ => out.push('?')?,
+    }
+    Ok(())
+}
+
+fn show_terms(out: &mut String, symbols: &Symbols, terms: &Terms) -> Result<(), Fail> {
+    for term in terms.items() {
+        out.push(' ')?;
+        show_term(out, symbols, term)?;
+    }
+    Ok(())
+}
+
+fn show_pair(
+    out: &mut String,
+    symbols: &Symbols,
+    sign: char,
+    a: &Formula,
+    b: &Formula,
+) -> Result<(), Fail> {
+    out.push('(')?;
+    show(out, symbols, a)?;
+    out.push(sign)?;
+    show(out, symbols, b)?;
+    out.push(')')?;
+    Ok(())
+}
+
+fn show_one(out: &mut String, symbols: &Symbols, sign: char, a: &Formula) -> Result<(), Fail> {
+    out.push(sign)?;
+    show(out, symbols, a)
+}
+
+// The formula with its variables as numbers.
+fn show(out: &mut String, symbols: &Symbols, f: &Formula) -> Result<(), Fail> {
+    match f {
+        Formula::Atom(p, args) => {
+            show_symbol(out, symbols, p.0)?;
+            show_terms(out, symbols, args)
+        }
+        Formula::Not(a) => show_one(out, symbols, '~', a),
+        Formula::And(a, b) => show_pair(out, symbols, '&', a, b),
+        Formula::Or(a, b) => show_pair(out, symbols, '|', a, b),
+        Formula::Imp(a, b) => show_pair(out, symbols, '>', a, b),
+        Formula::All(a) => show_one(out, symbols, '!', a),
+        Formula::Ex(a) => show_one(out, symbols, '?', a),
+        Formula::Nec(a) => show_one(out, symbols, '#', a),
+        Formula::Poss(a) => show_one(out, symbols, '*', a),
+    }
+}
+
+fn show_fault(out: &mut String, fault: &BuildFault) -> Result<(), Fail> {
+    match fault {
+        BuildFault::Missing { name } => {
+            out.push_str("missing ")?;
+            for byte in name.bytes() {
+                out.push(char::from(*byte))?;
+            }
+        }
+        BuildFault::Failed { .. } => out.push_str("failed")?,
+        BuildFault::InputTooLarge => out.push_str("input too large")?,
+        BuildFault::NestingTooDeep => out.push_str("nesting too deep")?,
+        BuildFault::FormulaTooLarge => out.push_str("formula too large")?,
+        BuildFault::TooManySymbols => out.push_str("too many symbols")?,
+        BuildFault::Bad {
+            file,
+            offset,
+            cause,
+        } => {
+            for byte in file.bytes() {
+                out.push(char::from(*byte))?;
+            }
+            write!(out, ":{offset} {cause:?}")?;
+        }
+        BuildFault::NoMemory => out.push_str("no memory")?,
+    }
+    Ok(())
+}
+
+// What `build` answers for the file m.p among these.
+fn answer(alloc: Global, files: &[(&str, &str)], root: &str, logic: Logic) -> Result<String, Fail> {
+    let mut library = library(alloc, files)?;
+    let name = text(alloc, b"m.p")?;
+    let root = text(alloc, root.as_bytes())?;
+    let setting = Setting::new(logic, Domains::Constant);
+    let mut out = String::new(alloc);
+    match build(alloc, &mut library, &name, &root, setting) {
+        Ok(problem) => show(&mut out, problem.symbols(), problem.formula())?,
+        Err(fault) => show_fault(&mut out, &fault)?,
+    }
+    Ok(out)
+}
+
+#[test]
+fn builds_the_formula(rt: HostRuntime) -> Result<(), Fail> {
+    let equality = "fof(e,axiom,a = b).\nfof(f,axiom,p(a)).\nfof(c,conjecture,p(b)).\n";
+    for (logic, content, shown) in [
+        (Logic::Classical, "fof(c,conjecture,p => p).\n", "(p>p)"),
+        (
+            Logic::Classical,
+            equality,
+            "((((!= 0 0&!!(= 1 0>= 0 1))&!!!((= 2 1&= 1 0)>= 2 0))&((!!((= 1 0&p 1)>p 0)&= a b)&p a))>p b)",
+        ),
+        (
+            Logic::T,
+            "qmf(e,axiom,a = b). qmf(c,conjecture,#box: p(b)).",
+            "(= a b>#p b)",
+        ),
+        (Logic::Classical, "fof(a,axiom,p <= q).", "~(q>p)"),
+        (
+            Logic::Classical,
+            "fof(c,conjecture,q(Y,X) => p(X)).",
+            "!!(q 1 0>p 0)",
+        ),
+        (
+            Logic::Classical,
+            "fof(c,conjecture,![X]: ?[X]: p(X)).",
+            "!?p 0",
+        ),
+        (
+            Logic::Classical,
+            "fof(c,conjecture,p <~> $true).",
+            "~((p>($$o>$$o))&(($$o>$$o)>p))",
+        ),
+        (
+            Logic::Classical,
+            "cnf(c,axiom,p(X) | ~q(Y) | r | X != f(Y)).",
+            "~(((!= 0 0&!!(= 1 0>= 0 1))&(!!!((= 2 1&= 1 0)>= 2 0)&!!(= 1 0>= f 1 f 0)))&((!!((= 1 0&p 1)>p 0)&!!((= 1 0&q 1)>q 0))&!!((p 1|~q 0)|(r|~= 1 f 0))))",
+        ),
+    ] {
+        let out = answer(rt.alloc(), &[("m.p", content)], "", logic)?;
+        assert_eq!(rt; out.as_str(), shown);
+    }
+    Ok(())
+}
+
+const AXIOMS: &str = "fof(a,axiom,p). fof(b,axiom,p => q).\n";
+
+#[test]
+fn walks_over_includes(rt: HostRuntime) -> Result<(), Fail> {
+    for (root, content, shown) in [
+        (
+            "",
+            "include('ax.p',[b]).\ninclude('ax.p').\nfof(c,conjecture,q).\n",
+            "((((p>q)&p)&(p>q))>q)",
+        ),
+        ("", "include('none.p').", "missing none.p"),
+        ("", "include('ax.p',[z]).", "m.p:16 IncludeNameAbsent"),
+        ("", "include('m.p').", "m.p:0 IncludeTooDeep"),
+        ("", "include('mid.p',[x]).", "m.p:17 IncludeNameAbsent"),
+        ("", "include('mid.p',[y]).", "~y"),
+        ("", "include('low.p',[x]).", "~x"),
+        ("lib", "include('a.p').", "~r"),
+        ("lib", "include('/a.p').", "missing /a.p"),
+    ] {
+        let files = [
+            ("m.p", content),
+            ("ax.p", AXIOMS),
+            ("mid.p", "include('low.p',[y])."),
+            ("low.p", "fof(x,axiom,x). fof(y,axiom,y). fof(z,plain,z)."),
+            ("lib/a.p", "fof(r,axiom,r)."),
+        ];
+        let out = answer(rt.alloc(), &files, root, Logic::Classical)?;
+        assert_eq!(rt; out.as_str(), shown, "at {content}");
+    }
+    Ok(())
+}
+
+#[test]
+fn tells_refusals(rt: HostRuntime) -> Result<(), Fail> {
+    for (content, shown) in [
+        ("fof(c,conjecture,p & q | r).\n", "m.p:23 Syntax"),
+        ("fof(c,conjecture,p(1)).\n", "m.p:19 Unsupported"),
+        ("fof(c,conjecture,$$p).\n", "m.p:17 Reserved"),
+        ("qmf(c,conjecture,p).\n", "m.p:0 WrongLanguage"),
+        (
+            "fof(c,conjecture,p).\nfof(d,conjecture,q).\n",
+            "m.p:21 SecondConjecture",
+        ),
+        ("fof(a,plain,p).", "m.p:6 UnknownRole"),
+        ("", "m.p:0 NoFormula"),
+        ("  \n", "m.p:3 NoFormula"),
+    ] {
+        let out = answer(rt.alloc(), &[("m.p", content)], "", Logic::Classical)?;
+        assert_eq!(rt; out.as_str(), shown, "at {content}");
+    }
+    Ok(())
+}
+
+// `p <=> (p <=> ( .. p))` with so many signs.
+fn equivalences(alloc: Global, count: usize) -> Result<String, Fail> {
+    let mut content = String::from_str(alloc, "fof(c,conjecture,")?;
+    for _ in 0..count {
+        content.push_str("(p <=> ")?;
+    }
+    content.push('p')?;
+    for _ in 0..count {
+        content.push(')')?;
+    }
+    content.push_str(").")?;
+    Ok(content)
+}
+
+#[test]
+fn keeps_to_the_limits(rt: HostRuntime) -> Result<(), Fail> {
+    let content = equivalences(rt.alloc(), 20)?;
+    let out = answer(
+        rt.alloc(),
+        &[("m.p", content.as_str())],
+        "",
+        Logic::Classical,
+    )?;
+    assert_eq!(rt; out.as_str(), "formula too large");
+    Ok(())
+}
