@@ -1,87 +1,122 @@
 -- A problem that the files hold is decided, where no stream fails and memory does not end.
-use Rattle.std.proofs.Common.{◌≡◌, ◌⊎◌, List, ℕ, Option, None, Some, sym, ◌∙◌, subst, inl, inr}
+use Rattle.std.proofs.Common.{◌≡◌, List, ℕ, Option, None, Some, Result, Ok, Err, refl, subst, inl, inr}
 use Rattle.std.specs.Prelude.{IfSome, IsSomeAnd}
 use Rattle.calculus.specs.Syntax.{Problem}
+use Rattle.calculus.specs.Propositional.{IsPropositional}
 use Rattle.cop_base.specs.Outside.{Files, file_in, Rose}
-use Rattle.propositional_reader.specs.Reading.{Reads}
-use Rattle.leancop_top.specs.declared.status.Status.{Status}
-use Rattle.leancop_top.specs.declared.status.Status.TheVariants.{Derived, Exhausted, Accepted, Rejected, BadWords, Missing, ReadFault, WriteFault, BadProblem, MatrixTooLarge, NoMemory}
-use Rattle.leancop_top.specs.Words.{Word, Command}
+use Rattle.problem_build.specs.Refusals.{Refusal, missing, input_too_large, nesting_too_deep}
+use Rattle.problem_build.specs.Refusals.{formula_too_large, too_many_symbols, bad as bad_problem}
 use Rattle.propositional_search.specs.Matrix.{FitsMatrix}
-use Rattle.leancop_top.specs.Run.{Ends, IsCheckable, IsJudged, JudgingEnds, IsCounted, IsDecided, IsProvable, IsProblemIn, Lacks, HoldsNoProblem, SearchEnds, ReadingEnds}
+use Rattle.leancop_top.specs.declared.status.Status.{Status}
+use Rattle.leancop_top.specs.declared.status.Status.TheVariants.{Derived, Exhausted, Accepted}
+use Rattle.leancop_top.specs.declared.status.Status.TheVariants.{Rejected, BadWords, Missing}
+use Rattle.leancop_top.specs.declared.status.Status.TheVariants.{ReadFault, WriteFault, BadProblem}
+use Rattle.leancop_top.specs.declared.status.Status.TheVariants.{InputTooLarge, NestingTooDeep}
+use Rattle.leancop_top.specs.declared.status.Status.TheVariants.{FormulaTooLarge, TooManySymbols}
+use Rattle.leancop_top.specs.declared.status.Status.TheVariants.{MatrixTooLarge, NoMemory}
+use Rattle.leancop_top.specs.Words.{Word, ProblemFile, Command}
+use Rattle.leancop_top.specs.Run.{Ends, IsCheckable, IsCounted, IsDecided, IsJudged, IsProvable}
+use Rattle.leancop_top.specs.Run.{IsRead, JudgingEnds, Lacks, ProvingEnds, Reading, ReadingEnds}
+use Rattle.leancop_top.specs.Run.{SearchEnds}
 
 none-some : (text : List ℕ) (o : Option (List ℕ)) → o ≡ Some text → o ≡ None → ⊥
 none-some text o e k = absurd (cc)
 
-some-same : (x y : List ℕ) → Some x ≡ Some y → x ≡ y
-some-same x y e = cc
+same-ok : (P Q : Problem) (a b : Result Problem Refusal) → a ≡ Ok P → b ≡ Ok Q → a ≡ b → P ≡ Q
+same-ok P Q a b h k e = cc
+
+ok-err : (P : Problem) (r : Refusal) (a b : Result Problem Refusal) → a ≡ Ok P → b ≡ Err r → a ≡ b → ⊥
+ok-err P r a b h k e = absurd (cc)
 
 -- a file that is held is not lacking
 not_lacking : (told : Option Files) (files : Files) (file : Word) (text : List ℕ) → told ≡ Some files → file_in files file ≡ Some text → Lacks told file → ⊥
 not_lacking told files file text t held h = none-some text (file_in files file) held (subst (λ o. IfSome o (λ fs. file_in fs file ≡ None)) t h)
 
--- a file that holds a problem does not hold none
-not_none : (told : Option Files) (files : Files) (file : Word) (text : List ℕ) (P : Problem) → told ≡ Some files → file_in files file ≡ Some text → Reads text P → HoldsNoProblem told file → ⊥
-not_none told files file text P t held read h =
-    let there = subst (λ o. IfSome o (λ fs. IsSomeAnd (file_in fs file) (λ x. (Q : Problem) → ¬ Reads x Q))) t h in
-    let none = subst (λ o. IsSomeAnd o (λ x. (Q : Problem) → ¬ Reads x Q)) held there in
-    none P read
+-- ---- the files hold the problem P
 
--- two problems of one file are the same
-same_problem : (told : Option Files) (files : Files) (file : Word) (text : List ℕ) (P Q : Problem) → told ≡ Some files → file_in files file ≡ Some text → Reads text P → IsProblemIn told file Q → P ≡ Q
-same_problem told files file text P Q t held read q =
-    let there = subst (λ o. IfSome o (λ fs. file_in fs file ≡ Some q.text)) t q.held in
-    let same : text ≡ q.text = some-same text q.text (sym held ∙ there) in
-    q.alone P (subst (λ x. Reads x P) same read)
+-- what is read is this problem
+read_is : (told : Option Files) (files : Files) (p : ProblemFile) (P : Problem) (r : Result Problem Refusal) → told ≡ Some files → Reading files p (Ok P) → IsRead told p r → Ok P ≡ r
+read_is told files p P r t read h =
+    subst (λ o. IfSome o (λ fs. (other : Result Problem Refusal) → Reading fs p other → other ≡ r)) t h.alone (Ok P) read
 
--- an end that neither reading nor searching gives
-neither : (told : Option Files) (file : Word) (status : Status) (bytes : List ℕ) → (ReadingEnds told file status → ⊥) → ((Q : Problem) → IsProblemIn told file Q → SearchEnds Q status bytes → ⊥) → ReadingEnds told file status ⊎ ((P : Problem) × IsProblemIn told file P × SearchEnds P status bytes) → ⊥
-neither told file status bytes reading searching h = elim h [ inl r ↦ reading r | inr q ↦ searching q.0 q.1 q.2 ]
+not_refused : (told : Option Files) (files : Files) (p : ProblemFile) (P : Problem) → told ≡ Some files → Reading files p (Ok P) → (o : Option Refusal) → IsSomeAnd o (λ r. IsRead told p (Err r)) → ⊥
+not_refused told files p P t read None h = h
+not_refused told files p P t read (Some r) h = ok-err P r (Ok P) (Err r) refl refl (read_is told files p P (Err r) t read h)
+
+-- where no fault was counted, reading does not end the run
+not_ended : (told : Option Files) (files : Files) (p : ProblemFile) (P : Problem) → told ≡ Some files → Reading files p (Ok P) → (m n f g : ℕ) (status : Status) → IsCounted m n f g status → ¬ Rose f g → ReadingEnds told p status → ⊥
+not_ended told files p P t read m n f g (Derived d) counted quiet h = not_refused told files p P t read None h
+not_ended told files p P t read m n f g (Exhausted d) counted quiet h = not_refused told files p P t read None h
+not_ended told files p P t read m n f g Accepted counted quiet h = not_refused told files p P t read None h
+not_ended told files p P t read m n f g (Rejected at fault) counted quiet h = not_refused told files p P t read None h
+not_ended told files p P t read m n f g (BadWords place) counted quiet h = not_refused told files p P t read None h
+not_ended told files p P t read m n f g (Missing name) counted quiet h = not_refused told files p P t read (Some (missing name)) h
+not_ended told files p P t read m n f g (ReadFault name) counted quiet h = quiet counted
+not_ended told files p P t read m n f g WriteFault counted quiet h = not_refused told files p P t read None h
+not_ended told files p P t read m n f g (BadProblem name offset cause) counted quiet h = not_refused told files p P t read (Some (bad_problem name offset cause)) h
+not_ended told files p P t read m n f g InputTooLarge counted quiet h = not_refused told files p P t read (Some input_too_large) h
+not_ended told files p P t read m n f g NestingTooDeep counted quiet h = not_refused told files p P t read (Some nesting_too_deep) h
+not_ended told files p P t read m n f g FormulaTooLarge counted quiet h = not_refused told files p P t read (Some formula_too_large) h
+not_ended told files p P t read m n f g TooManySymbols counted quiet h = not_refused told files p P t read (Some too_many_symbols) h
+not_ended told files p P t read m n f g MatrixTooLarge counted quiet h = not_refused told files p P t read None h
+not_ended told files p P t read m n f g NoMemory counted quiet h = not_refused told files p P t read None h
+
+-- ---- the search
+
+searched : (P : Problem) → FitsMatrix P → (status : Status) (bytes : List ℕ) → SearchEnds P status bytes → IsDecided status
+searched P fits (Derived d) bytes h = tt
+searched P fits (Exhausted d) bytes h = tt
+searched P fits Accepted bytes h = absurd (h)
+searched P fits (Rejected at fault) bytes h = absurd (h)
+searched P fits (BadWords place) bytes h = absurd (h)
+searched P fits (Missing name) bytes h = absurd (h)
+searched P fits (ReadFault name) bytes h = absurd (h)
+searched P fits WriteFault bytes h = absurd (h)
+searched P fits (BadProblem name offset cause) bytes h = absurd (h)
+searched P fits InputTooLarge bytes h = absurd (h)
+searched P fits NestingTooDeep bytes h = absurd (h)
+searched P fits FormulaTooLarge bytes h = absurd (h)
+searched P fits TooManySymbols bytes h = absurd (h)
+searched P fits MatrixTooLarge bytes h = absurd (h fits)
+searched P fits NoMemory bytes h = tt
+
+proved : (file : Word) (P : Problem) → IsPropositional P → FitsMatrix P → (status : Status) (bytes : List ℕ) → ProvingEnds file P status bytes → IsDecided status
+proved file P propositional fits status bytes h = elim h [
+  | inl s ↦ searched P fits status bytes s.1
+  | inr u ↦ absurd (u.0 propositional)
+]
 
 pub decided : (told : Option Files) (command : Command) (status : Status) (bytes : List ℕ) (m n f g : ℕ) → Ends told command status bytes → IsCounted m n f g status → ¬ Rose f g → IsProvable told command → IsDecided status
-decided told command (Derived d) bytes m n f g ends counted quiet p = tt
-decided told command (Exhausted d) bytes m n f g ends counted quiet p = tt
-decided told command NoMemory bytes m n f g ends counted quiet p = tt
-decided told command (ReadFault name) bytes m n f g ends counted quiet p = quiet counted
-decided told command WriteFault bytes m n f g ends counted quiet p =
-    neither told p.file WriteFault bytes (λ h. h) (λ Q q h. h) (subst (λ l. Ends told l WriteFault bytes) p.asks ends)
-decided told command Accepted bytes m n f g ends counted quiet p =
-    neither told p.file Accepted bytes (λ h. h) (λ Q q h. h) (subst (λ l. Ends told l Accepted bytes) p.asks ends)
-decided told command (Rejected at fault) bytes m n f g ends counted quiet p =
-    neither told p.file (Rejected at fault) bytes (λ h. h) (λ Q q h. h) (subst (λ l. Ends told l (Rejected at fault) bytes) p.asks ends)
-decided told command (BadWords place) bytes m n f g ends counted quiet p =
-    neither told p.file (BadWords place) bytes (λ h. h) (λ Q q h. h) (subst (λ l. Ends told l (BadWords place) bytes) p.asks ends)
-decided told command (Missing name) bytes m n f g ends counted quiet p =
-    neither told p.file (Missing name) bytes (λ h. not_lacking told p.files p.file p.text p.tells p.held h.1) (λ Q q h. h) (subst (λ l. Ends told l (Missing name) bytes) p.asks ends)
-decided told command (BadProblem name offset cause) bytes m n f g ends counted quiet p =
-    neither told p.file (BadProblem name offset cause) bytes (λ h. not_none told p.files p.file p.text p.problem p.tells p.held p.read h.3) (λ Q q h. h) (subst (λ l. Ends told l (BadProblem name offset cause) bytes) p.asks ends)
-decided told command MatrixTooLarge bytes m n f g ends counted quiet p =
-    neither told p.file MatrixTooLarge bytes (λ h. h) (λ Q q large. large (subst FitsMatrix (same_problem told p.files p.file p.text p.problem Q p.tells p.held p.read q) p.fits)) (subst (λ l. Ends told l MatrixTooLarge bytes) p.asks ends)
+decided told command status bytes m n f g ends counted quiet p =
+    elim (subst (λ l. Ends told l status bytes) p.asks ends) [
+      | inl r ↦ absurd (not_ended told p.files p.asked p.problem p.tells p.read m n f g status counted quiet r)
+      | inr q ↦
+          let same : p.problem ≡ q.0 = same-ok p.problem q.0 (Ok p.problem) (Ok q.0) refl refl (read_is told p.files p.asked p.problem (Ok q.0) p.tells p.read q.1) in
+          proved p.asked.name q.0 (subst IsPropositional same p.propositional) (subst FitsMatrix same p.fits) status bytes q.2
+    ]
 
--- ---- the same of a judgement
+-- ---- the judgement
 
-neither_judged : (told : Option Files) (file derivation : Word) (status : Status) → (ReadingEnds told file status → ⊥) → ((Q : Problem) → IsProblemIn told file Q → JudgingEnds told Q derivation status → ⊥) → ReadingEnds told file status ⊎ ((P : Problem) × IsProblemIn told file P × JudgingEnds told P derivation status) → ⊥
-neither_judged told file derivation status reading judging h = elim h [ inl r ↦ reading r | inr q ↦ judging q.0 q.1 q.2 ]
+judging : (told : Option Files) (files : Files) (P : Problem) (derivation : Word) (given : List ℕ) → told ≡ Some files → file_in files derivation ≡ Some given → (m n f g : ℕ) (status : Status) → IsCounted m n f g status → ¬ Rose f g → JudgingEnds told P derivation status → IsJudged status
+judging told files P derivation given t held m n f g (Derived d) counted quiet h = absurd h
+judging told files P derivation given t held m n f g (Exhausted d) counted quiet h = absurd h
+judging told files P derivation given t held m n f g Accepted counted quiet h = tt
+judging told files P derivation given t held m n f g (Rejected at fault) counted quiet h = tt
+judging told files P derivation given t held m n f g (BadWords place) counted quiet h = absurd h
+judging told files P derivation given t held m n f g (Missing name) counted quiet h = absurd (not_lacking told files derivation given t held h.1)
+judging told files P derivation given t held m n f g (ReadFault name) counted quiet h = absurd (quiet counted)
+judging told files P derivation given t held m n f g WriteFault counted quiet h = absurd h
+judging told files P derivation given t held m n f g (BadProblem name offset cause) counted quiet h = absurd h
+judging told files P derivation given t held m n f g InputTooLarge counted quiet h = absurd h
+judging told files P derivation given t held m n f g NestingTooDeep counted quiet h = absurd h
+judging told files P derivation given t held m n f g FormulaTooLarge counted quiet h = absurd h
+judging told files P derivation given t held m n f g TooManySymbols counted quiet h = absurd h
+judging told files P derivation given t held m n f g MatrixTooLarge counted quiet h = absurd h
+judging told files P derivation given t held m n f g NoMemory counted quiet h = tt
 
 pub judged : (told : Option Files) (command : Command) (status : Status) (bytes : List ℕ) (m n f g : ℕ) → Ends told command status bytes → IsCounted m n f g status → ¬ Rose f g → IsCheckable told command → IsJudged status
-judged told command Accepted bytes m n f g ends counted quiet p = tt
-judged told command (Rejected at fault) bytes m n f g ends counted quiet p = tt
-judged told command NoMemory bytes m n f g ends counted quiet p = tt
-judged told command (ReadFault name) bytes m n f g ends counted quiet p = quiet counted
-judged told command WriteFault bytes m n f g ends counted quiet p =
-    neither_judged told p.file p.derivation WriteFault (λ h. h) (λ Q q h. h) (subst (λ l. Ends told l WriteFault bytes) p.asks ends)
-judged told command (Derived d) bytes m n f g ends counted quiet p =
-    neither_judged told p.file p.derivation (Derived d) (λ h. h) (λ Q q h. h) (subst (λ l. Ends told l (Derived d) bytes) p.asks ends)
-judged told command (Exhausted d) bytes m n f g ends counted quiet p =
-    neither_judged told p.file p.derivation (Exhausted d) (λ h. h) (λ Q q h. h) (subst (λ l. Ends told l (Exhausted d) bytes) p.asks ends)
-judged told command MatrixTooLarge bytes m n f g ends counted quiet p =
-    neither_judged told p.file p.derivation MatrixTooLarge (λ h. h) (λ Q q h. h) (subst (λ l. Ends told l MatrixTooLarge bytes) p.asks ends)
-judged told command (BadWords place) bytes m n f g ends counted quiet p =
-    neither_judged told p.file p.derivation (BadWords place) (λ h. h) (λ Q q h. h) (subst (λ l. Ends told l (BadWords place) bytes) p.asks ends)
-judged told command (Missing name) bytes m n f g ends counted quiet p =
-    neither_judged told p.file p.derivation (Missing name)
-    (λ h. not_lacking told p.files p.file p.text p.tells p.held h.1)
-    (λ Q q h. not_lacking told p.files p.derivation p.bytes p.tells p.given h.1)
-    (subst (λ l. Ends told l (Missing name) bytes) p.asks ends)
-judged told command (BadProblem name offset cause) bytes m n f g ends counted quiet p =
-    neither_judged told p.file p.derivation (BadProblem name offset cause) (λ h. not_none told p.files p.file p.text p.problem p.tells p.held p.read h.3) (λ Q q h. h) (subst (λ l. Ends told l (BadProblem name offset cause) bytes) p.asks ends)
+judged told command status bytes m n f g ends counted quiet p =
+    elim (subst (λ l. Ends told l status bytes) p.asks ends) [
+      | inl r ↦ absurd (not_ended told p.files p.asked p.problem p.tells p.read m n f g status counted quiet r)
+      | inr q ↦ judging told p.files q.0 p.derivation p.bytes p.tells p.given m n f g status counted quiet q.2
+    ]

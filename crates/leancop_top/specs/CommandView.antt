@@ -1,9 +1,35 @@
--- The command of the definitions that a command of the program stands for.
+-- The values of the definitions that those of the program stand for.
+use Rattle.std.specs.Option.{option_map}
+use Rattle.logic_rules.specs.SettingView.{the_setting}
 use Rattle.leancop_top.specs.Words as words
 use Rattle.leancop_top.specs.declared.words.Command.{Command}
 use Rattle.leancop_top.specs.declared.words.Command.TheVariants.{Prove, Check, Bad}
+use Rattle.leancop_top.specs.declared.words.Given.{Given}
+use Rattle.leancop_top.specs.declared.words.Part.{Part}
+use Rattle.leancop_top.specs.declared.words.Part.TheVariants.{Operand, Root, Logic, Domains}
+use Rattle.leancop_top.specs.declared.words.ProblemFile.{ProblemFile}
+
+abbrev pub the_problem_file : ProblemFile → words.ProblemFile
+the_problem_file p =
+    record { name = p.name.now; root = p.root.now; setting = the_setting p.setting }
 
 abbrev pub the_command : Command → words.Command
-the_command (Prove file) = words.prove file.now
-the_command (Check file derivation) = words.check file.now derivation.now
+the_command (Prove problem) = words.prove (the_problem_file problem)
+the_command (Check problem derivation) = words.check (the_problem_file problem) derivation.now
 the_command (Bad place) = words.bad place
+
+abbrev pub the_part : Part → words.Part
+the_part (Operand w) = words.operand w.now
+the_part (Root w) = words.root w.now
+the_part (Logic l) = words.logic l
+the_part (Domains d) = words.domains d
+
+abbrev pub the_given : Given → words.Given
+the_given g = record {
+  file = option_map (λ w. w.now) g.file;
+  derivation = option_map (λ w. w.now) g.derivation;
+  root = option_map (λ w. w.now) g.root;
+  logic = g.logic;
+  domains = g.domains;
+  domains_at = g.domains_at;
+}

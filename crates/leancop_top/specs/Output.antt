@@ -6,10 +6,10 @@ use Rattle.calculus.specs.declared.fault.StepFault.{StepFault}
 use Rattle.calculus.specs.declared.fault.StepFault.TheVariants as step
 use Rattle.calculus.specs.declared.fault.TextCause.{TextCause}
 use Rattle.calculus.specs.declared.fault.TextCause.TheVariants as cause
-use Rattle.leancop_top.specs.declared.status.Cause.{Cause}
-use Rattle.leancop_top.specs.declared.status.Cause.TheVariants.{Unsupported}
+use Rattle.problem_build.specs.declared.fault.Cause.{Cause}
+use Rattle.problem_build.specs.declared.fault.Cause.TheVariants.{Syntax, Unsupported, Reserved, WrongLanguage, SecondConjecture, UnknownRole, IncludeTooDeep, IncludeNameAbsent, NoFormula}
 use Rattle.leancop_top.specs.declared.status.Status.{Status}
-use Rattle.leancop_top.specs.declared.status.Status.TheVariants.{Derived, Exhausted, Accepted, Rejected, BadWords, Missing, ReadFault, WriteFault, BadProblem, MatrixTooLarge, NoMemory}
+use Rattle.leancop_top.specs.declared.status.Status.TheVariants.{Derived, Exhausted, Accepted, Rejected, BadWords, Missing, ReadFault, WriteFault, BadProblem, InputTooLarge, NestingTooDeep, FormulaTooLarge, TooManySymbols, MatrixTooLarge, NoMemory}
 
 abbrev pub exit_of : Status → ℕ
 exit_of (Derived d) = 0
@@ -21,11 +21,23 @@ exit_of (Missing name) = 6
 exit_of (ReadFault name) = 6
 exit_of WriteFault = 6
 exit_of (BadProblem file offset c) = 4
+exit_of InputTooLarge = 4
+exit_of NestingTooDeep = 4
+exit_of FormulaTooLarge = 4
+exit_of TooManySymbols = 4
 exit_of MatrixTooLarge = 4
 exit_of NoMemory = 7
 
 abbrev pub cause_text : Cause → List ℕ
+cause_text Syntax = codes "syntax"
 cause_text Unsupported = codes "unsupported"
+cause_text Reserved = codes "reserved word"
+cause_text WrongLanguage = codes "wrong language"
+cause_text SecondConjecture = codes "second conjecture"
+cause_text UnknownRole = codes "unknown role"
+cause_text IncludeTooDeep = codes "include too deep"
+cause_text IncludeNameAbsent = codes "include name absent"
+cause_text NoFormula = codes "no formula"
 
 abbrev pub text_cause_text : TextCause → List ℕ
 text_cause_text cause.Version = codes "version"
@@ -62,6 +74,10 @@ status_line (BadWords n) = codes "bad word " ++ decimal n ++ codes "\n"
 status_line (Missing name) = codes "missing: " ++ name ++ codes "\n"
 status_line (ReadFault name) = codes "read fault: " ++ name ++ codes "\n"
 status_line (BadProblem file offset c) = file ++ codes ":" ++ decimal offset ++ codes ": " ++ cause_text c ++ codes "\n"
+status_line InputTooLarge = codes "input too large\n"
+status_line NestingTooDeep = codes "nesting too deep\n"
+status_line FormulaTooLarge = codes "formula too large\n"
+status_line TooManySymbols = codes "too many symbols\n"
 status_line MatrixTooLarge = codes "matrix too large\n"
 status_line WriteFault = []
 status_line NoMemory = []

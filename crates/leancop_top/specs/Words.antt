@@ -1,45 +1,180 @@
--- The words of a run: a command and its operands. There are no options, so each word that begins with `--` is bad.
-use Rattle.std.specs.Prelude.{ℕ, List, [], ◌∷◌, Bool, false, not, ◌==◌, codes, map, String, string_bytes, if◌then◌else◌}
+-- The words of a run: a command, and its operands and options in any order.
+use Rattle.std.specs.Prelude.{ℕ, suc, List, [], ◌∷◌, Bool, true, false, ◌==◌, if◌then◌else◌}
+use Rattle.std.specs.Prelude.{Option, None, Some, codes, map, String, string_bytes}
 use Rattle.std.specs.Global.{Global}
 use Rattle.std.specs.List.{starts_with}
+use Rattle.calculus.specs.declared.setting.Domains.{Domains}
+use Rattle.calculus.specs.declared.setting.Domains.TheVariants.{Constant, Cumulative, Varying}
+use Rattle.calculus.specs.declared.setting.Logic.{Logic}
+use Rattle.calculus.specs.declared.setting.Logic.TheVariants.{Classical, Intuitionistic}
+use Rattle.calculus.specs.declared.setting.Logic.TheVariants.{D, T, S4, S5}
 use Rattle.calculus.specs.Equality.{list_eq}
+use Rattle.calculus.specs.Problems.{is_modal}
+use Rattle.calculus.specs.Syntax.{Setting, setting_of}
+use Rattle.leancop_top.specs.declared.words.Action.{Action}
+use Rattle.leancop_top.specs.declared.words.Action.TheVariants as action
 
 abbrev pub Word : Type 0
 Word = List ℕ
 
+-- ---- commands
+
+-- a problem by the name of its main file, the root of the files that it includes (empty where there
+-- is none), and the setting in which it is read
+pub record ProblemFile : Type 0 where
+  pub name : Word
+  pub root : Word
+  pub setting : Setting
+
+-- places are counted from 1
 pub data Command : Type 0 where
-  prove : Word → Command
-  check : Word → Word → Command
-  bad : ℕ → Command
+  prove : (problem : ProblemFile) → Command
+  check : (problem : ProblemFile) (derivation : Word) → Command
+  bad : (place : ℕ) → Command
+
+-- ---- the parts of a command
+
+pub data Part : Type 0 where
+  operand : Word → Part
+  root : Word → Part
+  logic : Logic → Part
+  domains : Domains → Part
 
 abbrev pub is : Word → Word → Bool
 is w v = list_eq ◌==◌ w v
 
--- a word that is not empty and no option
-abbrev pub is_operand : Word → Bool
-is_operand [] = false
-is_operand (b ∷ bs) = not (starts_with ◌==◌ (b ∷ bs) (codes "--"))
+-- what follows the front of a word, where it has this front
+abbrev pub behind : (front : Word) → Word → Option Word
+behind [] w = Some w
+behind (b ∷ bs) [] = None
+behind (b ∷ bs) (c ∷ cs) = if b == c then behind bs cs else None
 
--- `next` takes the operand in front and the words behind it. A bad or missing one is told by its place, from 1
-abbrev pub with_operand : ℕ → List Word → (Word → List Word → Command) → Command
-with_operand place [] next = bad place
-with_operand place (w ∷ ws) next = if is_operand w then next w ws else bad place
+abbrev pub on : {A B : Type 0} → Option A → (A → B) → B → B
+on None found other = other
+on (Some a) found other = found a
 
--- no word is left
-abbrev pub at_end : ℕ → List Word → Command → Command
-at_end place [] command = command
-at_end place (w ∷ ws) command = bad place
+abbrev pub logic_of : Word → Option Part
+logic_of w =
+    if is w (codes "classical") then Some (logic Classical)
+    else (if is w (codes "intuitionistic") then Some (logic Intuitionistic)
+    else (if is w (codes "d") then Some (logic D)
+    else (if is w (codes "t") then Some (logic T)
+    else (if is w (codes "s4") then Some (logic S4)
+    else (if is w (codes "s5") then Some (logic S5) else None)))))
 
-abbrev pub prove_command : List Word → Command
-prove_command ws = with_operand 2 ws (λ file rest. at_end 3 rest (prove file))
+abbrev pub domains_of : Word → Option Part
+domains_of w =
+    if is w (codes "constant") then Some (domains Constant)
+    else (if is w (codes "cumulative") then Some (domains Cumulative)
+    else (if is w (codes "varying") then Some (domains Varying) else None))
 
-abbrev pub check_command : List Word → Command
-check_command ws = with_operand 2 ws (λ file rest. with_operand 3 rest (λ derivation others.
-    at_end 4 others (check file derivation)))
+abbrev pub root_of : Word → Option Part
+root_of [] = None
+root_of (b ∷ bs) = Some (root (b ∷ bs))
+
+-- a word that is not empty and begins as no option does
+abbrev pub operand_of : Word → Option Part
+operand_of [] = None
+operand_of (b ∷ bs) =
+    if starts_with ◌==◌ (b ∷ bs) (codes "--") then None else Some (operand (b ∷ bs))
+
+abbrev pub part_of : Word → Option Part
+part_of w =
+    on (behind (codes "--root=") w) root_of (on (behind (codes "--logic=") w) logic_of
+    (on (behind (codes "--domains=") w) domains_of (operand_of w)))
+
+-- a command has this part, as far as it is built: a proof is searched for in classical logic alone
+abbrev pub has : Action → Part → Bool
+has action.Check part = true
+has action.Prove (logic Classical) = true
+has action.Prove (logic l) = false
+has action.Prove (domains d) = false
+has action.Prove part = true
+
+-- ---- what the words give
+
+-- the domains with the place of their word
+pub record Given : Type 0 where
+  pub file : Option Word
+  pub derivation : Option Word
+  pub root : Option Word
+  pub logic : Option Logic
+  pub domains : Option Domains
+  pub domains_at : ℕ
+
+abbrev pub nothing_given : Given
+nothing_given = record {
+  file = None;
+  derivation = None;
+  root = None;
+  logic = None;
+  domains = None;
+  domains_at = 0;
+}
+
+-- a part may be given once
+abbrev pub once : {A : Type 0} → Option A → Given → Option Given
+once None g = Some g
+once (Some a) g = None
+
+abbrev pub with_operand : Action → Given → Word → Option Given
+with_operand action.Prove g w = once g.file (record g { file = Some w })
+with_operand action.Check g w =
+    on g.file (λ f. once g.derivation (record g { derivation = Some w }))
+    (Some (record g { file = Some w }))
+
+abbrev pub with_part : Action → (place : ℕ) → Given → Part → Option Given
+with_part a place g (operand w) = with_operand a g w
+with_part a place g (root w) = once g.root (record g { root = Some w })
+with_part a place g (logic l) = once g.logic (record g { logic = Some l })
+with_part a place g (domains d) = once g.domains (record g { domains = Some d; domains_at = place })
+
+-- nothing where the word at this place is bad
+abbrev pub with_word : Action → (place : ℕ) → Given → Word → Option Given
+with_word a place g w =
+    on (part_of w) (λ part. if has a part then with_part a place g part else None) None
+
+-- ---- the command
+
+abbrev pub logic_in : Given → Logic
+logic_in g = on g.logic (λ l. l) Classical
+
+abbrev pub root_in : Given → Word
+root_in g = on g.root (λ r. r) []
+
+abbrev pub problem_file : Given → Word → Domains → ProblemFile
+problem_file g file d =
+    record { name = file; root = root_in g; setting = setting_of (logic_in g) d }
+
+-- domains are given in modal logics alone, and are constant where none are given
+abbrev pub settled : Given → Word → (ProblemFile → Command) → Command
+settled g file next =
+    on g.domains
+    (λ d. if is_modal (logic_in g) then next (problem_file g file d) else bad g.domains_at)
+    (next (problem_file g file Constant))
+
+-- behind the last word, whose place is the one before
+abbrev pub finished : Action → (place : ℕ) → Given → Command
+finished action.Prove place g = on g.file (λ file. settled g file prove) (bad place)
+finished action.Check place g =
+    on g.file
+    (λ file. on g.derivation (λ derivation. settled g file (λ p. check p derivation)) (bad place))
+    (bad place)
+
+-- the first bad word is told, from left to right, and a missing one behind the last
+abbrev pub command_by : Action → (place : ℕ) → Given → List Word → Command
+command_by a place g [] = finished a place g
+command_by a place g (w ∷ ws) =
+    on (with_word a place g w) (λ next. command_by a (suc place) next ws) (bad place)
+
+abbrev pub action_of : Word → Option Action
+action_of w =
+    if is w (codes "prove") then Some action.Prove
+    else (if is w (codes "check") then Some action.Check else None)
 
 abbrev pub command_of : List Word → Command
 command_of [] = bad 1
-command_of (c ∷ ws) = if is c (codes "prove") then prove_command ws else (if is c (codes "check") then check_command ws else bad 1)
+command_of (w ∷ ws) = on (action_of w) (λ a. command_by a 2 nothing_given ws) (bad 1)
 
 -- what the words of a run ask for
 abbrev pub asked : List (String Global) → Command

@@ -1,19 +1,18 @@
 //! Judgements over a library and a sink in memory.
 
-use crate::tests::outcome;
+use crate::tests::ends;
 use std::alloc::Global;
 use std::test::Fail;
 
 const DERIVATION: &[u8] =
     b"leancop derivation 1\nlogic classical\nformula (p => p)\nlimit 1\nuse 1\naxiom 2 3\nend\n";
 
-// Whether `check m.p d.txt` writes this line and ends with this status, where m.p has the conjecture p => p and d.txt
-// has the bytes of the derivation.
+// Whether `check m.p d.txt` writes this line and ends with this status, where m.p has the
+// conjecture p => p and d.txt has the bytes of the derivation.
 fn is_judged(alloc: Global, derivation: &[u8], status: u8, line: &[u8]) -> Result<bool, Fail> {
-    let problem = b"fof(c,conjecture,p => p).\n";
-    let words = ["check", "m.p", "d.txt"];
-    let (code, output) = outcome(alloc, &words, (problem, derivation), &[], &[])?;
-    Ok(code == status && output.as_slice() == line)
+    let problem = b"fof(c,conjecture,p => p).\n".as_slice();
+    let files = [("m.p", problem), ("d.txt", derivation)];
+    ends(alloc, &["check", "m.p", "d.txt"], &files, &[], status, line)
 }
 
 fn is_rejected(alloc: Global, derivation: &[u8], line: &[u8]) -> Result<bool, Fail> {
@@ -94,8 +93,8 @@ fn tells_faults_behind_the_head(rt: HostRuntime) -> Result<(), Fail> {
     Ok(())
 }
 
-// The line and the cause where the text of 82 bytes is cut to its first bytes: the line that is unfinished, or the one
-// after the last.
+// The line and the cause where the text of 82 bytes is cut to its first bytes: the line that is
+// unfinished, or the one after the last.
 fn cut_line(bytes: usize) -> &'static [u8] {
     match bytes {
         0..=20 => b"rejected at line 1: version\n",
@@ -112,6 +111,142 @@ fn cut_line(bytes: usize) -> &'static [u8] {
 fn tells_where_a_text_is_cut(rt: HostRuntime) -> Result<(), Fail> {
     for bytes in 0..DERIVATION.len() {
         assert!(rt; is_rejected(rt.alloc(), &DERIVATION[..bytes], cut_line(bytes))?);
+    }
+    Ok(())
+}
+
+// ?[X]:![Y]:(d(X) => d(Y)), in three parts; the second has lines 12 and 13, the third line 14.
+const DRINKER: [&[u8]; 4] = [
+    b"leancop derivation 1\nlogic classical\nformula ?[X1]:![X2]:(d(X1) => d(X2))\nlimit 1\nname $$e1 []\nname $$e2 []\nname $$s1 any\nuse 1 term $$s1\nuse 2 name $$e1\nuse 3\nuse 1 term $$e1\n",
+    b"use 6 name $$e2\nuse 7\n",
+    b"axiom 8 5\n",
+    b"end\n",
+];
+
+// Whether `check` with an option more writes this line, where d.txt has the four parts.
+fn is_drinker_judged(
+    alloc: Global,
+    option: &str,
+    parts: &[&[u8]],
+    status: u8,
+    line: &[u8],
+) -> Result<bool, Fail> {
+    let mut text = Vec::new(alloc);
+    for part in parts {
+        text.extend_from_slice(part)?;
+    }
+    let problem = b"fof(c,conjecture,?[X]:![Y]:(d(X) => d(Y))).\n".as_slice();
+    let files = [("m.p", problem), ("d.txt", text.as_slice())];
+    let words = ["check", "m.p", "d.txt", option];
+    ends(alloc, &words, &files, &[], status, line)
+}
+
+#[test]
+fn judges_classical_derivations(rt: HostRuntime) -> Result<(), Fail> {
+    let [head, uses, axiom, end] = DRINKER;
+    let known = b"use 6 name $$e1\nuse 7\n".as_slice();
+    let unconnected = b"axiom 8 9\n".as_slice();
+    for (option, parts, status, line) in [
+        (
+            "--logic=classical",
+            [head, uses, axiom, end].as_slice(),
+            0,
+            b"accepted\n".as_slice(),
+        ),
+        (
+            "--root=a",
+            &[head, known, axiom, end],
+            8,
+            b"rejected at line 12: not new\n",
+        ),
+        (
+            "--root=a",
+            &[head, uses, unconnected, end],
+            8,
+            b"rejected at line 14: no connection\n",
+        ),
+        (
+            "--root=a",
+            &[head, uses, end],
+            8,
+            b"rejected at line 14: still open\n",
+        ),
+        (
+            "--root=a",
+            &[head, uses, axiom, axiom, end],
+            8,
+            b"rejected at line 15: all closed\n",
+        ),
+        (
+            "--logic=intuitionistic",
+            &[head, uses, axiom, end],
+            8,
+            b"rejected at line 2: setting\n",
+        ),
+    ] {
+        assert!(rt; is_drinker_judged(rt.alloc(), option, parts, status, line)?);
+    }
+    Ok(())
+}
+
+// With constant domains the term stands at each label; with cumulative ones its home is too late.
+const CUMULATIVE: &[u8] =
+    b"leancop derivation 1\nlogic t cumulative\nformula (![X1]:#box:p(X1) => #box:![X1]:p(X1))\nlimit 1\nname $$e1 [$$c1]\nuse 1\nuse 3 new $$c1\nuse 4 name $$e1\nuse 2 term $$e1\nuse 6 to [$$c1]\naxiom 7 5\nend\n";
+
+const CONSTANT: &[u8] =
+    b"leancop derivation 1\nlogic t constant\nformula (![X1]:#box:p(X1) => #box:![X1]:p(X1))\nlimit 1\nname $$e1 [$$c1]\nuse 1\nuse 3 new $$c1\nuse 4 name $$e1\nuse 2 term $$e1\nuse 6 to [$$c1]\naxiom 7 5\nend\n";
+
+const SERIAL: &[u8] =
+    b"leancop derivation 1\nlogic d constant\nformula (#box:p => #dia:p)\nlimit 1\nuse 1\nuse 2 to [$$d1]\nuse 3 to [$$d1]\naxiom 4 5\nend\n";
+
+const NOT_NOT: &[u8] =
+    b"leancop derivation 1\nlogic intuitionistic\nformula ~~(p | ~p)\nlimit 1\nuse 1 new $$c1\nuse 2 to [$$c1]\nuse 3\nuse 5 new $$c2\nuse 2 to [$$c1,$$c2]\nuse 7\nuse 8 new $$c3\nuse 6 to [$$c1,$$c2,$$c3]\naxiom 11 10\nend\n";
+
+#[test]
+fn judges_in_the_setting_of_the_words(rt: HostRuntime) -> Result<(), Fail> {
+    let barcan = b"qmf(c,conjecture,(![X]:#box:p(X)) => #box:![X]:p(X)).\n".as_slice();
+    let serial = b"qmf(c,conjecture,(#box:p) => #dia:p).\n".as_slice();
+    let not_not = b"fof(c,conjecture,~~(p | ~p)).\n".as_slice();
+    for (options, problem, derivation, status, line) in [
+        (
+            ["--logic=d", "--domains=constant"],
+            serial,
+            SERIAL,
+            0,
+            b"accepted\n".as_slice(),
+        ),
+        (
+            ["--logic=intuitionistic", "--root=a"],
+            not_not,
+            NOT_NOT,
+            0,
+            b"accepted\n",
+        ),
+        (
+            ["--domains=cumulative", "--logic=t"],
+            barcan,
+            CUMULATIVE,
+            8,
+            b"rejected at line 9: not allowed\n",
+        ),
+        (
+            ["--logic=t", "--domains=constant"],
+            barcan,
+            CONSTANT,
+            0,
+            b"accepted\n",
+        ),
+        (
+            ["--logic=t", "--domains=varying"],
+            barcan,
+            CONSTANT,
+            8,
+            b"rejected at line 2: setting\n",
+        ),
+    ] {
+        let files = [("m.p", problem), ("d.txt", derivation)];
+        let words = ["check", options[0], options[1], "m.p", "d.txt"];
+        assert!(rt; ends(rt.alloc(), &words, &files, &[], status, line)?);
     }
     Ok(())
 }

@@ -3,9 +3,11 @@
 
 #[cfg(test)]
 mod check_tests;
+mod judging;
 mod output;
 mod program;
 mod prove;
+mod reading;
 mod status;
 #[cfg(test)]
 mod tests;

@@ -35,6 +35,10 @@ pub fn status_line(alloc: Global, status: &Status) -> Result<Vec<u8>, NoMemory>
         } => problem_line(alloc, file, *offset, *cause),
         Status::Rejected { line, fault } => rejection_line(alloc, *line, *fault),
         Status::Accepted => Ok(Vec::from_slice(alloc, b"accepted\n")?),
+        Status::InputTooLarge => Ok(Vec::from_slice(alloc, b"input too large\n")?),
+        Status::NestingTooDeep => Ok(Vec::from_slice(alloc, b"nesting too deep\n")?),
+        Status::FormulaTooLarge => Ok(Vec::from_slice(alloc, b"formula too large\n")?),
+        Status::TooManySymbols => Ok(Vec::from_slice(alloc, b"too many symbols\n")?),
         Status::MatrixTooLarge => Ok(Vec::from_slice(alloc, b"matrix too large\n")?),
         Status::Derived { .. } | Status::WriteFault | Status::NoMemory => Ok(Vec::new(alloc)),
     }
@@ -67,7 +71,15 @@ fn cause_text(cause: Cause) -> &'static [u8]
     ensures { result.now ≡ cause_text cause }
 {
     match cause {
+        Cause::Syntax => b"syntax",
         Cause::Unsupported => b"unsupported",
+        Cause::Reserved => b"reserved word",
+        Cause::WrongLanguage => b"wrong language",
+        Cause::SecondConjecture => b"second conjecture",
+        Cause::UnknownRole => b"unknown role",
+        Cause::IncludeTooDeep => b"include too deep",
+        Cause::IncludeNameAbsent => b"include name absent",
+        Cause::NoFormula => b"no formula",
     }
 }
 

@@ -3,116 +3,66 @@
 ghost use Rattle.std.specs.Prelude.{◌≡◌, ◌≤◌, Err, IfOk, IfErr, IsTrue, Option};
 ghost use Rattle.calculus.specs.ComputedInstances.{ComputesInstances};
 ghost use Rattle.calculus.specs.Problems.{is_problem};
-ghost use Rattle.calculus.specs.Propositional.{IsPropositional};
 ghost use Rattle.calculus.specs.Soundness.{IsSound};
 ghost use Rattle.calculus.specs.Syntax as tree;
 ghost use Rattle.cop_base.specs.Outside.{Files, Rose};
+ghost use Rattle.leancop_top.specs.CommandView.{the_problem_file};
 ghost use Rattle.leancop_top.specs.Output.{status_line};
-ghost use Rattle.leancop_top.specs.Run.{Answers, Ends, EndsWithout, IsAnswered, IsCounted};
-ghost use Rattle.leancop_top.specs.Run.{IsCheckable, IsCutOff, IsDecided, IsJudged, IsJudgingEnd};
-ghost use Rattle.leancop_top.specs.Run.{IsProblemIn, IsProvable, IsRefused, OnAnswer};
+ghost use Rattle.leancop_top.specs.Run.{Answers, Ends, IsAnswered, IsCounted};
+ghost use Rattle.leancop_top.specs.Run.{IsCheckable, IsCutOff, IsDecided, IsJudged};
+ghost use Rattle.leancop_top.specs.Run.{IsProvable, OnAnswer};
+ghost use Rattle.leancop_top.specs.Without.{EndsWithout};
 ghost use Rattle.leancop_top.specs.Words.{asked, check, prove};
 
+use crate::judging::judge_file;
 use crate::output::status_line;
 use crate::prove::{Proof, prove};
-use crate::status::{Cause, Status};
-use crate::words::{Command, command_of};
+use crate::reading::read_problem;
+use crate::status::Status;
+use crate::words::{Command, ProblemFile, command_of};
 use crate::writing::put_all;
-use cop_base::{FetchFault, Library, NoMemory, PutFault, Sink, Text};
-use derivation_check::{Verdict, check};
-use logic_rules::Problem;
-use propositional_reader::{MAX_BYTES, ReadRefusal, read};
+use cop_base::{Library, NoMemory, PutFault, Sink};
 use std::alloc::{AllocError, Global};
 
-// The problem that a file holds, or why there is none.
-fn read_problem<L: Library>(alloc: Global, lib: &mut L, file: &str) -> Result<Problem, Status>
-    ensures problem { IfOk result
-        (λ p. IsProblemIn (L.holds lib.old) file.now p × IsPropositional p) }
-    ensures same_files { L.holds lib.new ≡ L.holds lib.old }
-    ensures more_faults { L.faults lib.old ≤ L.faults lib.new }
-    ensures more_misses { L.misses lib.old ≤ L.misses lib.new }
-    ensures refused { IfErr result (λ s. IsRefused (L.holds lib.old) file.now s) }
-    ensures counted { IfErr result (λ s. IsCounted
-        (L.misses lib.old) (L.misses lib.new) (L.faults lib.old) (L.faults lib.new) s) }
-{
-    let name = match Text::new(alloc, file.as_bytes()) {
-        Ok(name) => name,
-        Err(NoMemory) => return Err(Status::NoMemory),
-    };
-    match lib.fetch(&name, MAX_BYTES) {
-        Ok(bytes) => match read(alloc, bytes.as_slice()) {
-            Ok(problem) => Ok(problem),
-            Err(ReadRefusal::Unsupported) => Err(unsupported(name)),
-            Err(ReadRefusal::NoMemory) => Err(Status::NoMemory),
-        },
-        Err(FetchFault::TooLarge) => Err(unsupported(name)),
-        Err(FetchFault::Missing) => Err(Status::Missing { name }),
-        Err(FetchFault::Failed) => Err(Status::ReadFault { name }),
-        Err(FetchFault::NoMemory) => Err(Status::NoMemory),
-    }
-}
-
-// The text of the file is of no form that is read.
-fn unsupported(file: Text) -> Status
-    ensures { result ≡ Status.BadProblem file 0 Cause.Unsupported }
-{
-    Status::BadProblem {
-        file,
-        offset: 0,
-        cause: Cause::Unsupported,
-    }
-}
-
-// The judgement of the derivation that a file holds, or why there is none.
-fn judge_file<L: Library>(alloc: Global, lib: &mut L, problem: &Problem, derivation: &str) -> Status
-    requires { IsPropositional problem.now }
-    ensures same_files { L.holds lib.new ≡ L.holds lib.old }
-    ensures more_faults { L.faults lib.old ≤ L.faults lib.new }
-    ensures more_misses { L.misses lib.old ≤ L.misses lib.new }
-    ensures ended { IsJudgingEnd (L.holds lib.old) problem.now derivation.now result }
-    ensures counted { IsCounted
-        (L.misses lib.old) (L.misses lib.new) (L.faults lib.old) (L.faults lib.new) result }
-{
-    let name = match Text::new(alloc, derivation.as_bytes()) {
-        Ok(name) => name,
-        Err(NoMemory) => return Status::NoMemory,
-    };
-    let _symbols = problem.symbols(); // tells that it is a problem
-    match lib.fetch(&name, u64::MAX) {
-        Ok(bytes) => match check(alloc, problem, bytes.as_slice()) {
-            Ok(Verdict::Accepted) => Status::Accepted,
-            Ok(Verdict::Rejected { line, fault }) => Status::Rejected { line, fault },
-            Err(NoMemory) => Status::NoMemory,
-        },
-        Err(FetchFault::Missing) => Status::Missing { name },
-        Err(FetchFault::Failed) => Status::ReadFault { name },
-        Err(FetchFault::TooLarge) => unreachable!(),
-        Err(FetchFault::NoMemory) => Status::NoMemory,
-    }
-}
-
 // The proof for the problem of a file, or the status that a run without one ends with.
-fn prove_file<L: Library>(alloc: Global, lib: &mut L, file: &str) -> Result<Proof, Status>
+#[tactic(auto, using(crate::proofs::Ends::read_ends_prove, crate::proofs::Ends::proved_ends, crate::proofs::Ends::proving_counted,))]
+fn prove_file<L: Library>(
+    alloc: Global,
+    lib: &mut L,
+    file: ProblemFile<'_>,
+) -> Result<Proof, Status>
     ensures same_files { L.holds lib.new ≡ L.holds lib.old }
     ensures more_faults { L.faults lib.old ≤ L.faults lib.new }
     ensures more_misses { L.misses lib.old ≤ L.misses lib.new }
     ensures proved { IfOk result
-        (λ p. Ends (L.holds lib.old) (prove file.now) (Status.Derived p.limit) p.text.items) }
-    ensures ended { IfErr result (λ s. EndsWithout (L.holds lib.old) (prove file.now) s) }
+        (λ p. Ends (L.holds lib.old) (prove (the_problem_file file.entry))
+        (Status.Derived p.limit) p.text.items) }
+    ensures ended { IfErr result
+        (λ s. EndsWithout (L.holds lib.old) (prove (the_problem_file file.entry)) s) }
     ensures counted { IfErr result (λ s. IsCounted
         (L.misses lib.old) (L.misses lib.new) (L.faults lib.old) (L.faults lib.new) s) }
 {
     match read_problem(alloc, lib, file) {
-        Ok(problem) => prove(alloc, &problem),
+        Ok(problem) => match prove(alloc, &problem, file.name) {
+            Ok(proof) => Ok(proof),
+            Err(status) => Err(status),
+        },
         Err(status) => Err(status),
     }
 }
 
-fn check_files<L: Library>(alloc: Global, lib: &mut L, file: &str, derivation: &str) -> Status
+#[tactic(auto, using(crate::proofs::Ends::read_ends_check, crate::proofs::Ends::judged_ends))]
+fn check_files<L: Library>(
+    alloc: Global,
+    lib: &mut L,
+    file: ProblemFile<'_>,
+    derivation: &str,
+) -> Status
     ensures same_files { L.holds lib.new ≡ L.holds lib.old }
     ensures more_faults { L.faults lib.old ≤ L.faults lib.new }
     ensures more_misses { L.misses lib.old ≤ L.misses lib.new }
-    ensures ended { EndsWithout (L.holds lib.old) (check file.now derivation.now) result }
+    ensures ended { EndsWithout
+        (L.holds lib.old) (check (the_problem_file file.entry) derivation.now) result }
     ensures counted { IsCounted
         (L.misses lib.old) (L.misses lib.new) (L.faults lib.old) (L.faults lib.new) result }
 {
@@ -153,16 +103,17 @@ fn answer<L: Library>(alloc: Global, words: &[String], lib: &mut L) -> Result<Re
 {
     match command_of(words) {
         Command::Bad { place } => status_reply(alloc, Status::BadWords { place }),
-        Command::Prove { file } => match prove_file(alloc, lib, file) {
+        Command::Prove { problem } => match prove_file(alloc, lib, problem) {
             Ok(Proof { limit, text }) => Ok(Reply {
                 status: Status::Derived { limit },
                 output: text,
             }),
             Err(status) => status_reply(alloc, status),
         },
-        Command::Check { file, derivation } => {
-            status_reply(alloc, check_files(alloc, lib, file, derivation))
-        }
+        Command::Check {
+            problem,
+            derivation,
+        } => status_reply(alloc, check_files(alloc, lib, problem, derivation)),
     }
 }
 

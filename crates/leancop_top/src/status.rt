@@ -6,17 +6,14 @@ ghost use Rattle.leancop_top.specs.Output.{exit_of};
 use cop_base::Text;
 use derivation_check::CheckFault;
 
-/// What is wrong with a problem file.
-#[derive(Clone, Copy, Debug, PartialEq, Eq)]
-pub enum Cause {
-    /// The text is not of a form that is read.
-    Unsupported,
-}
+/// What is wrong in a problem file.
+pub use problem_build::Cause;
 
 /// How a run ended.
 #[derive(Drop)]
 pub enum Status {
-    /// A derivation was printed, whose tableau is closed within the path limit and within no smaller one.
+    /// A derivation was printed, whose tableau is closed within the path limit and within no
+    /// smaller one.
     Derived {
         limit: u8,
     },
@@ -45,12 +42,20 @@ pub enum Status {
     },
     /// The output could not be written.
     WriteFault,
-    /// The file holds no problem. The offset counts bytes from 0.
+    /// A file of the problem is wrong at this offset, which counts bytes from 0.
     BadProblem {
         file: Text,
         offset: u64,
         cause: Cause,
     },
+    /// The problem's files have more than 16,777,216 bytes together.
+    InputTooLarge,
+    /// A token is nested deeper than 500, or a formula or axiom of equality deeper than 1,000.
+    NestingTooDeep,
+    /// The problem's formula has more than 4,000,000 nodes.
+    FormulaTooLarge,
+    /// There are more than 65,536 symbols.
+    TooManySymbols,
     /// The matrix has more than 100,000 clauses or 1,000,000 literals.
     MatrixTooLarge,
     NoMemory,
@@ -63,7 +68,12 @@ pub fn exit_code(status: &Status) -> u8
     match status {
         Status::Derived { .. } | Status::Accepted => 0,
         Status::Exhausted { .. } => 1,
-        Status::BadProblem { .. } | Status::MatrixTooLarge => 4,
+        Status::BadProblem { .. }
+        | Status::InputTooLarge
+        | Status::NestingTooDeep
+        | Status::FormulaTooLarge
+        | Status::TooManySymbols
+        | Status::MatrixTooLarge => 4,
         Status::BadWords { .. } => 5,
         Status::Missing { .. } | Status::ReadFault { .. } | Status::WriteFault => 6,
         Status::NoMemory => 7,

@@ -6,20 +6,20 @@ use itoa::Buffer;
 use std::alloc::Global;
 use std::test::Fail;
 
-// The exit status and the bytes written by a run with these words, where m.p and d.txt hold the two texts. The fetches
-// and puts in `fetches` and `puts` fail.
+// The exit status and the bytes written by a run with these words, where these are the files. The
+// fetches and puts in `fetches` and `puts` fail.
 pub(crate) fn outcome(
     alloc: Global,
     words: &[&str],
-    texts: (&[u8], &[u8]),
+    texts: &[(&str, &[u8])],
     fetches: &[u64],
     puts: &[(u64, u64)],
 ) -> Result<(u8, Vec<u8>), Fail> {
     let mut files = Vec::new(alloc);
-    let problem = Text::new(alloc, b"m.p")?;
-    files.push((problem, texts.0.to_vec(alloc)?))?;
-    let derivation = Text::new(alloc, b"d.txt")?;
-    files.push((derivation, texts.1.to_vec(alloc)?))?;
+    for (name, text) in texts {
+        let name = Text::new(alloc, name.as_bytes())?;
+        files.push((name, text.to_vec(alloc)?))?;
+    }
     let mut library = MemLibrary::new(alloc, files, fetches.to_vec(alloc)?)?;
     let mut sink = MemSink::new(alloc, 1000000, puts.to_vec(alloc)?)?;
     let mut list = Vec::new(alloc);
@@ -28,6 +28,19 @@ pub(crate) fn outcome(
     }
     let status = run(alloc, &list, &mut library, &mut sink);
     Ok((exit_code(&status), sink.written().to_vec(alloc)?))
+}
+
+// Whether a run ends with this status and writes this line, and no more.
+pub(crate) fn ends(
+    alloc: Global,
+    words: &[&str],
+    texts: &[(&str, &[u8])],
+    fetches: &[u64],
+    status: u8,
+    line: &[u8],
+) -> Result<bool, Fail> {
+    let (code, output) = outcome(alloc, words, texts, fetches, &[])?;
+    Ok(code == status && output.as_slice() == line)
 }
 
 // The text of a problem with this conjecture.
@@ -40,7 +53,7 @@ fn problem(alloc: Global, conjecture: &[u8]) -> Result<Vec<u8>, Fail> {
 
 // The outcome of `prove m.p` on the text.
 fn prove_text(alloc: Global, text: &[u8]) -> Result<(u8, Vec<u8>), Fail> {
-    outcome(alloc, &["prove", "m.p"], (text, &[]), &[], &[])
+    outcome(alloc, &["prove", "m.p"], &[("m.p", text)], &[], &[])
 }
 
 // The outcome of `prove m.p` on the conjecture.
@@ -50,13 +63,8 @@ fn prove(alloc: Global, conjecture: &[u8]) -> Result<(u8, Vec<u8>), Fail> {
 
 // The outcome of `check m.p d.txt` on the two texts.
 fn check(alloc: Global, text: &[u8], derivation: &[u8]) -> Result<(u8, Vec<u8>), Fail> {
-    outcome(
-        alloc,
-        &["check", "m.p", "d.txt"],
-        (text, derivation),
-        &[],
-        &[],
-    )
+    let files = [("m.p", text), ("d.txt", derivation)];
+    outcome(alloc, &["check", "m.p", "d.txt"], &files, &[], &[])
 }
 
 // `(a|b)` so many times, joined by `&`.
@@ -123,7 +131,8 @@ fn answers_conjectures(rt: HostRuntime) -> Result<(), Fail> {
         ),
         (b"p", 1, b"exhausted at limit 100\n"),
         (b"(p => p) => p", 1, b"exhausted at limit 100\n"),
-        (b"p <=> p", 4, b"m.p:0: unsupported\n"),
+        (b"![X]: (p => p)", 4, b"m.p:0: unsupported\n"),
+        (b"p(a) => p(a)", 4, b"m.p:0: unsupported\n"),
     ] {
         let (code, output) = prove(rt.alloc(), conjecture)?;
         assert_eq!(rt; code, status);
@@ -150,27 +159,126 @@ fn counts_clauses_and_literals(rt: HostRuntime) -> Result<(), Fail> {
 // The file m.p holds a problem, d.txt is empty, and there is no other.
 #[test]
 fn obeys_words(rt: HostRuntime) -> Result<(), Fail> {
-    let texts = (b"fof(c,conjecture,p => p).\n".as_slice(), b"".as_slice());
+    let files = [
+        ("m.p", b"fof(c,conjecture,p).\n".as_slice()),
+        ("d.txt", b""),
+    ];
     for (words, status, told) in [
         ([].as_slice(), 5, b"bad word 1\n".as_slice()),
         (&["show", "m.p"], 5, b"bad word 1\n"),
         (&["prove"], 5, b"bad word 2\n"),
         (&["prove", ""], 5, b"bad word 2\n"),
-        (&["prove", "--limit=0"], 5, b"bad word 2\n"),
+        (&["prove", "--limit=1", "m.p"], 5, b"bad word 2\n"),
         (&["prove", "m.p", "n.p"], 5, b"bad word 3\n"),
-        (&["prove", "m.p", "--limit=0"], 5, b"bad word 3\n"),
+        (&["prove", "m.p", "--domains=varying"], 5, b"bad word 3\n"),
+        (&["prove", "--logic=s4", "m.p"], 5, b"bad word 2\n"),
+        (&["prove", "--root=", "m.p"], 5, b"bad word 2\n"),
+        (
+            &["prove", "--root=a", "--root=a", "m.p"],
+            5,
+            b"bad word 3\n",
+        ),
+        (
+            &["prove", "--logic=classical", "m.p", "--root=a"],
+            1,
+            b"exhausted at limit 100\n",
+        ),
         (&["check"], 5, b"bad word 2\n"),
         (&["check", "m.p"], 5, b"bad word 3\n"),
+        (&["check", "--logic=k", "m.p"], 5, b"bad word 2\n"),
         (&["check", "m.p", "--d"], 5, b"bad word 3\n"),
         (&["check", "m.p", "d.txt", "n.p"], 5, b"bad word 4\n"),
-        (&["prove", "d.txt"], 4, b"d.txt:0: unsupported\n"),
+        (&["check", "--domains=varying", "m.p"], 5, b"bad word 4\n"),
+        (
+            &["check", "--domains=varying", "m.p", "d.txt"],
+            5,
+            b"bad word 2\n",
+        ),
+        (
+            &["check", "m.p", "--logic=t", "d.txt"],
+            4,
+            b"m.p:0: wrong language\n",
+        ),
+        (&["prove", "d.txt"], 4, b"d.txt:0: no formula\n"),
         (&["prove", "n.p"], 6, b"missing: n.p\n"),
         (&["check", "n.p", "d.txt"], 6, b"missing: n.p\n"),
         (&["check", "m.p", "n.p"], 6, b"missing: n.p\n"),
     ] {
-        let (code, output) = outcome(rt.alloc(), words, texts, &[], &[])?;
-        assert_eq!(rt; code, status);
-        assert!(rt; output.as_slice() == told);
+        assert!(rt; ends(rt.alloc(), words, &files, &[], status, told)?);
+    }
+    Ok(())
+}
+
+// The line that `prove m.p` writes for a text that is not a problem.
+#[test]
+fn tells_why_a_text_is_no_problem(rt: HostRuntime) -> Result<(), Fail> {
+    for (text, told) in [
+        (
+            b"fof(c,conjecture,p & q | r).\n".as_slice(),
+            b"m.p:23: syntax\n".as_slice(),
+        ),
+        (b"fof(c,conjecture,p(1)).\n", b"m.p:19: unsupported\n"),
+        (b"fof(c,conjecture,$$p).\n", b"m.p:17: reserved word\n"),
+        (b"qmf(c,conjecture,p).\n", b"m.p:0: wrong language\n"),
+        (
+            b"fof(c,conjecture,p).\nfof(d,conjecture,q).\n",
+            b"m.p:21: second conjecture\n",
+        ),
+        (b"fof(a,plain,p).\n", b"m.p:6: unknown role\n"),
+        (b"", b"m.p:0: no formula\n"),
+        (b"include('m.p').\n", b"m.p:0: include too deep\n"),
+        (b"include('ax.p',[z]).\n", b"m.p:16: include name absent\n"),
+    ] {
+        let files = [
+            ("m.p", text),
+            ("ax.p", b"fof(a,axiom,p). fof(b,axiom,p => q).\n"),
+        ];
+        assert!(rt; ends(rt.alloc(), &["prove", "m.p"], &files, &[], 4, told)?);
+    }
+    Ok(())
+}
+
+// The axioms of `lib/a.p` are found behind the root, and the derivation is not looked for there.
+#[test]
+fn fetches_behind_the_root(rt: HostRuntime) -> Result<(), Fail> {
+    let near = b"include('a.p').\nfof(c,conjecture,p).\n".as_slice();
+    let far = b"include('/a.p').\n".as_slice();
+    let axiom = b"fof(a,axiom,p).\n".as_slice();
+    let derivation =
+        b"leancop derivation 1\nlogic classical\nformula (p => p)\nlimit 1\nuse 1\naxiom 2 3\nend\n".as_slice();
+    for (words, main, fetches, status, told) in [
+        (
+            ["check", "--root=lib", "m.p", "d.txt"].as_slice(),
+            near,
+            [].as_slice(),
+            0,
+            b"accepted\n".as_slice(),
+        ),
+        (
+            &["prove", "--root=lib", "m.p"],
+            near,
+            &[2],
+            6,
+            b"read fault: lib/a.p\n",
+        ),
+        (
+            &["prove", "--root=lib", "m.p"],
+            far,
+            &[],
+            6,
+            b"missing: /a.p\n",
+        ),
+        (&["prove", "m.p"], near, &[], 6, b"missing: a.p\n"),
+        (
+            &["check", "--root=lib", "m.p", "e.txt"],
+            near,
+            &[],
+            6,
+            b"missing: e.txt\n",
+        ),
+    ] {
+        let files = [("m.p", main), ("lib/a.p", axiom), ("d.txt", derivation)];
+        assert!(rt; ends(rt.alloc(), words, &files, fetches, status, told)?);
     }
     Ok(())
 }
@@ -178,7 +286,10 @@ fn obeys_words(rt: HostRuntime) -> Result<(), Fail> {
 // A failed fetch is not tried again, and nothing is put after a put that failed.
 #[test]
 fn tells_faults_of_streams(rt: HostRuntime) -> Result<(), Fail> {
-    let texts = (b"fof(c,conjecture,p => p).\n".as_slice(), b"".as_slice());
+    let files = [
+        ("m.p", b"fof(c,conjecture,p => p).\n".as_slice()),
+        ("d.txt", b""),
+    ];
     for (words, fetches, puts, told) in [
         (
             ["prove", "m.p"].as_slice(),
@@ -196,7 +307,7 @@ fn tells_faults_of_streams(rt: HostRuntime) -> Result<(), Fail> {
         (&["prove", "m.p"], &[], &[(1, 7)], b"leancop"),
         (&["prove", "m.p"], &[1], &[(1, 4)], b"read"),
     ] {
-        let (code, output) = outcome(rt.alloc(), words, texts, fetches, puts)?;
+        let (code, output) = outcome(rt.alloc(), words, &files, fetches, puts)?;
         assert_eq!(rt; code, 6);
         assert!(rt; output.as_slice() == told);
     }
@@ -234,8 +345,8 @@ fn writes_in_pieces(rt: HostRuntime) -> Result<(), Fail> {
     let (code, derivation) = prove_text(rt.alloc(), text.as_slice())?;
     assert_eq!(rt; code, 0);
     assert!(rt; derivation.len() > 4096);
-    let texts = (text.as_slice(), b"".as_slice());
-    let (code, output) = outcome(rt.alloc(), &["prove", "m.p"], texts, &[], &[(2, 0)])?;
+    let files = [("m.p", text.as_slice())];
+    let (code, output) = outcome(rt.alloc(), &["prove", "m.p"], &files, &[], &[(2, 0)])?;
     assert_eq!(rt; code, 6);
     assert_eq!(rt; output.len(), 4096);
     assert!(rt; derivation.as_slice().starts_with(output.as_slice()));

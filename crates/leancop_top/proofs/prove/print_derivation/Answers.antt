@@ -19,6 +19,6 @@ returns c =
         derives = derives;
         text = text;
         judged = accepted-only c.args.problem.now c.in_ok-text.text.items d text derives c.in_ok-text.ensures.one;
-        valid = record { true_in_structures = true_in; tautology = tautology c.args.problem.now well c.requires.propositional true_in };
+        valid = record { true_in_structures = true_in; tautology = λ h. tautology c.args.problem.now well h true_in };
       },
     )
