@@ -1,6 +1,6 @@
 use super::*;
 use cop_base::{MemLibrary, NoMemory, Text};
-use formula_core::{Formula, Symbols, Term, Terms};
+use formula_core::node_count;
 use logic_rules::{Domains, Logic, Problem, Setting};
 use std::alloc::Global;
 use std::test::Fail;
@@ -20,78 +20,29 @@ fn library(alloc: Global, files: &[(&str, &str)]) -> Result<MemLibrary, Fail> {
     Ok(library)
 }
 
-fn show_symbol(out: &mut String, symbols: &Symbols, number: u32) -> Result<(), Fail> {
-    for byte in symbols.items()[number as usize].name.bytes() {
+fn show_name(out: &mut String, name: &Text) -> Result<(), Fail> {
+    for byte in name.bytes() {
         out.push(char::from(*byte))?;
     }
     Ok(())
 }
 
-fn show_term(out: &mut String, symbols: &Symbols, term: &Term) -> Result<(), Fail> {
-    match term {
-        Term::Var(k) => write!(out, "{k}")?,
-        Term::Fun(f, args) => {
-            show_symbol(out, symbols, f.0)?;
-            show_terms(out, symbols, args)?;
-        }
-        _ => out.push('?')?,
-    }
-    Ok(())
-}
-
-fn show_terms(out: &mut String, symbols: &Symbols, terms: &Terms) -> Result<(), Fail> {
-    for term in terms.items() {
+// The symbols in order, and how many nodes the formula has.
+fn show(out: &mut String, problem: &Problem) -> Result<(), Fail> {
+    for symbol in problem.symbols().items() {
+        show_name(out, &symbol.name)?;
         out.push(' ')?;
-        show_term(out, symbols, term)?;
     }
+    let nodes = node_count(problem.formula(), 4_000_000);
+    write!(out, "{nodes}")?;
     Ok(())
-}
-
-fn show_pair(
-    out: &mut String,
-    symbols: &Symbols,
-    sign: char,
-    a: &Formula,
-    b: &Formula,
-) -> Result<(), Fail> {
-    out.push('(')?;
-    show(out, symbols, a)?;
-    out.push(sign)?;
-    show(out, symbols, b)?;
-    out.push(')')?;
-    Ok(())
-}
-
-fn show_one(out: &mut String, symbols: &Symbols, sign: char, a: &Formula) -> Result<(), Fail> {
-    out.push(sign)?;
-    show(out, symbols, a)
-}
-
-// The formula with its variables as numbers.
-fn show(out: &mut String, symbols: &Symbols, f: &Formula) -> Result<(), Fail> {
-    match f {
-        Formula::Atom(p, args) => {
-            show_symbol(out, symbols, p.0)?;
-            show_terms(out, symbols, args)
-        }
-        Formula::Not(a) => show_one(out, symbols, '~', a),
-        Formula::And(a, b) => show_pair(out, symbols, '&', a, b),
-        Formula::Or(a, b) => show_pair(out, symbols, '|', a, b),
-        Formula::Imp(a, b) => show_pair(out, symbols, '>', a, b),
-        Formula::All(a) => show_one(out, symbols, '!', a),
-        Formula::Ex(a) => show_one(out, symbols, '?', a),
-        Formula::Nec(a) => show_one(out, symbols, '#', a),
-        Formula::Poss(a) => show_one(out, symbols, '*', a),
-    }
 }
 
 fn show_fault(out: &mut String, fault: &BuildFault) -> Result<(), Fail> {
     match fault {
         BuildFault::Missing { name } => {
             out.push_str("missing ")?;
-            for byte in name.bytes() {
-                out.push(char::from(*byte))?;
-            }
+            show_name(out, name)?;
         }
         BuildFault::Failed { .. } => out.push_str("failed")?,
         BuildFault::InputTooLarge => out.push_str("input too large")?,
@@ -103,9 +54,7 @@ fn show_fault(out: &mut String, fault: &BuildFault) -> Result<(), Fail> {
             offset,
             cause,
         } => {
-            for byte in file.bytes() {
-                out.push(char::from(*byte))?;
-            }
+            show_name(out, file)?;
             write!(out, ":{offset} {cause:?}")?;
         }
         BuildFault::NoMemory => out.push_str("no memory")?,
@@ -121,47 +70,43 @@ fn answer(alloc: Global, files: &[(&str, &str)], root: &str, logic: Logic) -> Re
     let setting = Setting::new(logic, Domains::Constant);
     let mut out = String::new(alloc);
     match build(alloc, &mut library, &name, &root, setting) {
-        Ok(problem) => show(&mut out, problem.symbols(), problem.formula())?,
+        Ok(problem) => show(&mut out, &problem)?,
         Err(fault) => show_fault(&mut out, &fault)?,
     }
     Ok(out)
 }
 
 #[test]
-fn builds_the_formula(rt: HostRuntime) -> Result<(), Fail> {
+fn builds_the_problem(rt: HostRuntime) -> Result<(), Fail> {
     let equality = "fof(e,axiom,a = b).\nfof(f,axiom,p(a)).\nfof(c,conjecture,p(b)).\n";
     for (logic, content, shown) in [
-        (Logic::Classical, "fof(c,conjecture,p => p).\n", "(p>p)"),
-        (
-            Logic::Classical,
-            equality,
-            "((((!= 0 0&!!(= 1 0>= 0 1))&!!!((= 2 1&= 1 0)>= 2 0))&((!!((= 1 0&p 1)>p 0)&= a b)&p a))>p b)",
-        ),
+        (Logic::Classical, "fof(c,conjecture,p => p).\n", "p 3"),
+        (Logic::Classical, equality, "= a b p 51"),
         (
             Logic::T,
             "qmf(e,axiom,a = b). qmf(c,conjecture,#box: p(b)).",
-            "(= a b>#p b)",
+            "= a b p 7",
         ),
-        (Logic::Classical, "fof(a,axiom,p <= q).", "~(q>p)"),
+        (Logic::Classical, "fof(a,axiom,p <= q).", "q p 4"),
         (
             Logic::Classical,
             "fof(c,conjecture,q(Y,X) => p(X)).",
-            "!!(q 1 0>p 0)",
+            "q p 8",
         ),
         (
             Logic::Classical,
             "fof(c,conjecture,![X]: ?[X]: p(X)).",
-            "!?p 0",
+            "p 4",
         ),
         (
             Logic::Classical,
             "fof(c,conjecture,p <~> $true).",
-            "~((p>($$o>$$o))&(($$o>$$o)>p))",
+            "p $$o 12",
         ),
         (
             Logic::Classical,
             "cnf(c,axiom,p(X) | ~q(Y) | r | X != f(Y)).",
-            "~(((!= 0 0&!!(= 1 0>= 0 1))&(!!!((= 2 1&= 1 0)>= 2 0)&!!(= 1 0>= f 1 f 0)))&((!!((= 1 0&p 1)>p 0)&!!((= 1 0&q 1)>q 0))&!!((p 1|~q 0)|(r|~= 1 f 0))))",
+            "p q r = f 83",
         ),
     ] {
         let out = answer(rt.alloc(), &[("m.p", content)], "", logic)?;
@@ -178,15 +123,15 @@ fn walks_over_includes(rt: HostRuntime) -> Result<(), Fail> {
         (
             "",
             "include('ax.p',[b]).\ninclude('ax.p').\nfof(c,conjecture,q).\n",
-            "((((p>q)&p)&(p>q))>q)",
+            "p q 11",
         ),
         ("", "include('none.p').", "missing none.p"),
         ("", "include('ax.p',[z]).", "m.p:16 IncludeNameAbsent"),
         ("", "include('m.p').", "m.p:0 IncludeTooDeep"),
         ("", "include('mid.p',[x]).", "m.p:17 IncludeNameAbsent"),
-        ("", "include('mid.p',[y]).", "~y"),
-        ("", "include('low.p',[x]).", "~x"),
-        ("lib", "include('a.p').", "~r"),
+        ("", "include('mid.p',[y]).", "y 2"),
+        ("", "include('low.p',[x]).", "x 2"),
+        ("lib", "include('a.p').", "r 2"),
         ("lib", "include('/a.p').", "missing /a.p"),
     ] {
         let files = [
