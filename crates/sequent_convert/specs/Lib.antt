@@ -3,3 +3,10 @@ pub mod SpotView
 pub mod PastView
 pub mod NodeView
 pub mod MadeView
+pub mod Numbers
+pub mod AheadView
+pub mod State
+pub mod RunView
+pub mod Pairs
+pub mod Working
+pub mod Atoms

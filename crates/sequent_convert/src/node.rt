@@ -1,6 +1,6 @@
 //! Nodes of a branch.
 
-ghost use Rattle.std.specs.Prelude.{◌≡◌, IfOk, IfSome, suc};
+ghost use Rattle.std.specs.Prelude.{◌≡◌, ◌+◌, IfOk, IfSome, suc};
 ghost use Rattle.calculus.specs.Branches.{item};
 ghost use Rattle.calculus.specs.Instances.{down_by};
 ghost use Rattle.calculus.specs.Positions.{size};
@@ -73,6 +73,22 @@ pub fn second<'a>(
                 formula: b,
                 past: false,
             }),
+            None => Err(NoMemory),
+        },
+        None => Err(NoMemory),
+    }
+}
+
+/// The position of the component behind the first one.
+pub fn second_position(position: u32, first: &Formula) -> Result<u32, NoMemory>
+    ensures { IfOk result (λ p. p ≡ position + suc (size (the_formula first.now))) }
+{
+    match positions(first) {
+        Some(n) => match n.checked_add(1) {
+            Some(further) => match position.checked_add(further) {
+                Some(second) => Ok(second),
+                None => Err(NoMemory),
+            },
             None => Err(NoMemory),
         },
         None => Err(NoMemory),
