@@ -1,0 +1,70 @@
+-- Different outermost names rule an extension out.
+use Rattle.std.proofs.Common.{◌≡◌, ℕ, zero, suc, List, [], ◌∷◌, true, false, not, eq-eqb, ◌==◌, refl, sym, ◌∙◌, ap, None, Some, slice_get}
+use Rattle.std.proofs.lemmas.Bool.{false≢true}
+use Rattle.calculus.specs.Ground.{Value, g_eigen, g_fun}
+use Rattle.calculus.specs.Patterns.{Pattern, PatternAtom, Template, p_eigen, p_fun, p_new, p_var, patterns_tree}
+use Rattle.calculus.specs.Stores.{Cell, CellHolds, Solution, Store, eigen_cell, fun_cell, new_cell, string_cell, variable}
+use Rattle.calculus.specs.Systems.{CellAtom}
+use Rattle.calculus.specs.Templates.{as_term, literals_by, pattern_literal, pattern_terms, pattern_value}
+use Rattle.calculus.proofs.SolutionLaws.{ends-same}
+use Rattle.search_theory.specs.States.{literal_by, terms_by}
+use Rattle.search_theory.specs.Steps.{CannotExtend}
+use Rattle.search_theory.proofs.MeetingLaws.{literal-there, opposite-parts, opposite-some}
+use Rattle.term_store.specs.Shown.{head_of}
+use Rattle.connection_search.specs.Heads.{HasClash, names_differ}
+
+-- equal lists have equal items
+items-equal : (σ : Solution) (vs : List Value) (rs : List ℕ) (ps : List Pattern) (k r : ℕ) (q : Pattern) → terms_by σ rs ≡ pattern_terms vs (patterns_tree ps) → slice_get rs k ≡ Some r → slice_get ps k ≡ Some q → as_term (σ r) ≡ as_term (pattern_value vs q)
+items-equal σ vs [] ps k r q e a b = let z : None ≡ Some r = a in absurd (cc z)
+items-equal σ vs (x ∷ rs) [] k r q e a b = let z : None ≡ Some q = b in absurd (cc z)
+items-equal σ vs (x ∷ rs) (y ∷ ps) zero r q e a b =
+    let here : x ≡ r = cc a in
+    let there : y ≡ q = cc b in
+    let same : as_term (σ x) ≡ as_term (pattern_value vs y) = cc e in
+    ap (λ z. as_term (σ z)) (sym here) ∙ same ∙ ap (λ z. as_term (pattern_value vs z)) there
+items-equal σ vs (x ∷ rs) (y ∷ ps) (suc k) r q e a b = let rest : terms_by σ rs ≡ pattern_terms vs (patterns_tree ps) = cc e in items-equal σ vs rs ps k r q rest a b
+
+not-self : (n : ℕ) → not (n == n) ≡ false
+not-self n = ap not (eq-eqb n n refl)
+
+differ : (m n : ℕ) → not (m == n) ≡ true → ¬ (m ≡ n)
+differ m n h e = false≢true (sym (not-self n) ∙ ap (λ k. not (k == n)) (sym e) ∙ h)
+
+-- cells and patterns with different names have different values
+values-differ : (σ : Solution) (e : ℕ) (c : Cell) (vs : List Value) (q : Pattern) → CellHolds σ e c → names_differ (head_of c) q ≡ true → ¬ (as_term (σ e) ≡ as_term (pattern_value vs q))
+values-differ σ e (variable sort b) vs q h d same = by q d
+  where
+    by : (p : Pattern) → names_differ (head_of (variable sort b)) p ≡ true → ⊥
+    by (p_var k) d = false≢true d
+    by (p_fun f ps) d = false≢true d
+    by (p_eigen f ps) d = false≢true d
+    by (p_new f ps) d = false≢true d
+values-differ σ e (fun_cell f rs) vs (p_var k) h d same = false≢true d
+values-differ σ e (fun_cell f rs) vs (p_fun g ps) (ts, is, value) d same = let z : g_fun f ts ≡ g_fun g (pattern_terms vs ps) = ap as_term (sym value) ∙ same in differ f g d (cc z)
+values-differ σ e (fun_cell f rs) vs (p_eigen g ps) (ts, is, value) d same = let z : g_fun f ts ≡ as_term (pattern_value vs (p_eigen g ps)) = ap as_term (sym value) ∙ same in cc z
+values-differ σ e (fun_cell f rs) vs (p_new g ps) h d same = false≢true d
+values-differ σ e (eigen_cell p rs) vs (p_var k) h d same = false≢true d
+values-differ σ e (eigen_cell p rs) vs (p_fun g ps) (us, is, value) d same = let z : g_eigen p us ≡ as_term (pattern_value vs (p_fun g ps)) = ap as_term (sym value) ∙ same in cc z
+values-differ σ e (eigen_cell p rs) vs (p_eigen g ps) (us, is, value) d same = let z : g_eigen p us ≡ as_term (pattern_value vs (p_eigen g ps)) = ap as_term (sym value) ∙ same in differ p g d (cc z)
+values-differ σ e (eigen_cell p rs) vs (p_new g ps) h d same = false≢true d
+values-differ σ e (new_cell p rs) vs q h d same = by q d
+  where
+    by : (k : Pattern) → names_differ (head_of (new_cell p rs)) k ≡ true → ⊥
+    by (p_var k) d = false≢true d
+    by (p_fun f ps) d = false≢true d
+    by (p_eigen f ps) d = false≢true d
+    by (p_new f ps) d = false≢true d
+values-differ σ e (string_cell rs) vs q h d same = by q d
+  where
+    by : (k : Pattern) → names_differ (head_of (string_cell rs)) k ≡ true → ⊥
+    by (p_var k) d = false≢true d
+    by (p_fun f ps) d = false≢true d
+    by (p_eigen f ps) d = false≢true d
+    by (p_new f ps) d = false≢true d
+
+-- no copy of the literal can be connected
+pub cannot-extend-by_names : (s : Store) (t : Template) (goal : CellAtom) (p : PatternAtom) (place : ℕ) → slice_get t.literals place ≡ Some p → HasClash s goal p → CannotExtend s t goal place
+cannot-extend-by_names s t goal p place at (k, r, q, ea, eb, (e, c, o, stands, d)) σ solves vs sorts opposite =
+    let parts = opposite-parts (literal_by σ goal) (pattern_literal vs p) (opposite-some (literal_by σ goal) (slice_get (literals_by vs t) place) (pattern_literal vs p) (literal-there (pattern_literal vs) t.literals place p at) opposite) in
+    let same = items-equal σ vs goal.args p.args k r q parts.args ea eb in
+    values-differ σ e c vs q (solves e c stands) d (ap as_term (sym (ends-same s σ r e solves o)) ∙ same)

@@ -1,0 +1,35 @@
+use Rattle.std.proofs.Common.{[], arith}
+use Rattle.connection_search.proofs.searching.search.Goals as goal
+
+pub returns-in_err-store-clause-count : goal.returns-in_err-store-clause-count
+returns-in_err-store-clause-count c = ([], record { rising = tt; members = tt }, omega arith)
+
+pub returns-in_err-store-clause-rises : goal.returns-in_err-store-clause-rises
+returns-in_err-store-clause-rises c = omega arith
+
+pub search_in-requires-clause-classical : goal.search_in-requires-clause-classical
+search_in-requires-clause-classical c = c.requires.classical
+
+pub search_in-requires-clause-matrix : goal.search_in-requires-clause-matrix
+search_in-requires-clause-matrix c = c.requires.matrix
+
+pub search_in-requires-clause-from_one : goal.search_in-requires-clause-from_one
+search_in-requires-clause-from_one c = c.requires.from_one
+
+pub search_in-requires-clause-to_200 : goal.search_in-requires-clause-to_200
+search_in-requires-clause-to_200 c = c.requires.to_200
+
+pub returns-clause-outcome : goal.returns-clause-outcome
+returns-clause-outcome c = c.search_in.ensures.outcome
+
+pub returns-clause-steps : goal.returns-clause-steps
+returns-clause-steps c = c.search_in.ensures.steps
+
+pub returns-clause-count : goal.returns-clause-count
+returns-clause-count c = c.search_in.ensures.count
+
+pub returns-clause-rises : goal.returns-clause-rises
+returns-clause-rises c = c.search_in.ensures.rises
+
+pub returns-clause-budget : goal.returns-clause-budget
+returns-clause-budget c = c.search_in.ensures.budget

@@ -1,0 +1,153 @@
+use Rattle.std.proofs.Common.{◌<◌, ◌++◌, ◌∷◌, [], ℕ, List, arith, subst, sym}
+use Rattle.calculus.specs.Choices.{Choice}
+use Rattle.calculus.specs.Syntax.{Problem}
+use Rattle.connection_search.specs.Exploring.{AreAbove, IsExploring, IsSpace}
+use Rattle.connection_search.specs.Weights.{work_left}
+use Rattle.connection_search.proofs.MoveLaws.{goal-here}
+use Rattle.connection_search.proofs.StackedLaws.{above-next, above-rest, moment-back, moment-both, moment-kept}
+use Rattle.connection_search.proofs.TryingLaws.{back-at, dropped-falls, if_on, last-good, lighter-some, next-falls, none-at, room-both, tried-at, trying-made, trying-refused, visit-falls}
+use Rattle.connection_search.proofs.VisitLaws.{counted}
+use Rattle.connection_search.proofs.space.Space.try_next.Goals as goal
+
+pub return_to-requires : goal.return_to-requires
+return_to-requires c = let (P, base, later, begun, space, e) = c.requires in
+    last-good P c.args.self.now.matrix.now base c.args.self.now.limit c.args.store.now.store c.args.work.now.tree.steps.items c.args.work.now.tree.goals.items c.args.points.now.items c.args.last later begun c.args.ledger.now.used c.args.left.now e
+
+pub next-requires : goal.next-requires
+next-requires c = let (P, base, later, begun, space, e) = c.requires in
+    let b = back-at P c.args.self.now.matrix.now base c.args.self.now.limit c.args.store.now.store c.return_to.new.store.store c.args.work.now.tree.steps.items c.return_to.new.tree.steps.items c.args.work.now.tree.goals.items c.return_to.new.tree.goals.items c.args.points.now.items c.args.last later begun c.args.ledger.now.used c.args.left.now e c.return_to.ensures.store c.return_to.ensures.steps c.return_to.ensures.goals in
+    (c.args.self.now.limit, b.goal, b.untried, goal-here P c.args.self.now.matrix.now base c.args.self.now.limit b.choices c.return_to.new.store.store c.return_to.new.tree.steps.items c.return_to.new.tree.goals.items c.args.last.goal b.goal b.at, b.has)
+
+pub returns-in_err-choice-clause-counted : goal.returns-in_err-choice-clause-counted
+returns-in_err-choice-clause-counted c = λ P base later begun space e.
+    counted P c.args.self.now.limit (e.pending ++ later) begun c.args.ledger.now.used c.args.left.now e.searched
+
+pub returns-in_err-choice-clause-moment : goal.returns-in_err-choice-clause-moment
+returns-in_err-choice-clause-moment c = λ k g a. moment-back k c.args.points.now.items c.args.last c.args.store.now.store c.return_to.new.store.store g a c.return_to.ensures.marks
+
+pub returns-in_err-choice-clause-room : goal.returns-in_err-choice-clause-room
+returns-in_err-choice-clause-room c = c.return_to.ensures.room
+
+pub returns-in_err-push-clause-counted : goal.returns-in_err-push-clause-counted
+returns-in_err-push-clause-counted c = λ P base later begun space e.
+    counted P c.args.self.now.limit (e.pending ++ later) begun c.args.ledger.now.used c.args.left.now e.searched
+
+pub returns-in_err-push-clause-moment : goal.returns-in_err-push-clause-moment
+returns-in_err-push-clause-moment c = λ k g a. moment-back k c.args.points.now.items c.args.last c.args.store.now.store c.return_to.new.store.store g a c.return_to.ensures.marks
+
+pub returns-in_err-push-clause-room : goal.returns-in_err-push-clause-room
+returns-in_err-push-clause-room c = c.return_to.ensures.room
+
+pub returns-in-None-clause-on : goal.returns-in-None-clause-on
+returns-in-None-clause-on c = λ P base later begun space e.
+    none-at P c.args.self.now.matrix.now base c.args.self.now.limit c.args.store.now.store c.return_to.new.store.store c.args.work.now.tree.steps.items c.return_to.new.tree.steps.items c.args.work.now.tree.goals.items c.return_to.new.tree.goals.items c.args.points.now.items c.args.last c.next.new.self later begun c.args.ledger.now.used c.args.left.now _ c.return_to.ensures.store c.return_to.ensures.steps c.return_to.ensures.goals c.in_ok-choice.ensures.next c.in-None.is e
+
+pub returns-in-None-clause-counted : goal.returns-in-None-clause-counted
+returns-in-None-clause-counted c = λ P base later begun space e.
+    counted P c.args.self.now.limit (e.pending ++ later) begun c.args.ledger.now.used c.args.left.now e.searched
+
+pub returns-in-None-clause-falls : goal.returns-in-None-clause-falls
+returns-in-None-clause-falls c = dropped-falls c.args.ledger.now.budget c.args.ledger.now.used c.args.points.now.items c.args.last
+
+pub returns-in-None-clause-above : goal.returns-in-None-clause-above
+returns-in-None-clause-above c = λ k g a. above-rest k c.args.points.now.items c.args.last a
+
+pub returns-in-None-clause-moment : goal.returns-in-None-clause-moment
+returns-in-None-clause-moment c = λ k g a. moment-back k c.args.points.now.items c.args.last c.args.store.now.store c.return_to.new.store.store g a c.return_to.ensures.marks
+
+pub returns-in-None-clause-room : goal.returns-in-None-clause-room
+returns-in-None-clause-room c = c.return_to.ensures.room
+
+pub make-requires : goal.make-requires
+make-requires c = let (P, base, later, begun, space, e) = c.requires in
+    let t = tried-at P c.args.self.now.matrix.now base c.args.self.now.limit c.args.store.now.store c.return_to.new.store.store c.args.work.now.tree.steps.items c.return_to.new.tree.steps.items c.args.work.now.tree.goals.items c.return_to.new.tree.goals.items c.args.points.now.items c.push.new.self.items c.args.last c.next.new.self later begun c.args.ledger.now.used c.args.left.now _ c.in-Some.choice c.return_to.ensures.store c.return_to.ensures.steps c.return_to.ensures.goals c.in_ok-push.ensures.items c.in_ok-choice.ensures.same c.in_ok-choice.ensures.next c.in-Some.is e in
+    (P, base, c.args.self.now.limit, t.choices, t.at_goal, space.matrix, t.at, t.move)
+
+pub returns-in_err-make-clause-counted : goal.returns-in_err-make-clause-counted
+returns-in_err-make-clause-counted c = λ P base later begun space e.
+    counted P c.args.self.now.limit (e.pending ++ later) begun c.args.ledger.now.used c.args.left.now e.searched
+
+pub returns-in_err-make-clause-moment : goal.returns-in_err-make-clause-moment
+returns-in_err-make-clause-moment c = λ k g a. moment-kept k c.args.points.now.items c.args.last c.args.store.now.store c.return_to.new.store.store c.make.new.store.store g a c.return_to.ensures.marks c.make.ensures.marks
+
+pub returns-in_err-make-clause-room : goal.returns-in_err-make-clause-room
+returns-in_err-make-clause-room c = room-both c.args.store.now c.return_to.new.store c.make.new.store c.return_to.ensures.room c.make.ensures.room
+
+pub returns-then-not-branch-clause-on : goal.returns-then-not-branch-clause-on
+returns-then-not-branch-clause-on c = λ P base later begun space e.
+    let t = tried-at P c.args.self.now.matrix.now base c.args.self.now.limit c.args.store.now.store c.return_to.new.store.store c.args.work.now.tree.steps.items c.return_to.new.tree.steps.items c.args.work.now.tree.goals.items c.return_to.new.tree.goals.items c.args.points.now.items c.push.new.self.items c.args.last c.next.new.self later begun c.args.ledger.now.used c.args.left.now _ c.in-Some.choice c.return_to.ensures.store c.return_to.ensures.steps c.return_to.ensures.goals c.in_ok-push.ensures.items c.in_ok-choice.ensures.same c.in_ok-choice.ensures.next c.in-Some.is e in
+    trying-refused P c.args.self.now.matrix.now base c.args.self.now.limit c.return_to.new.store.store c.make.new.store.store c.return_to.new.tree.steps.items c.make.new.self.tree.steps.items c.return_to.new.tree.goals.items c.make.new.self.tree.goals.items c.push.new.self.items later begun c.args.ledger.now.used c.args.left.now c.next.new.self.goal c.in-Some.choice t c.make.ensures.marks c.in_ok-make.ensures.kept (c.in_ok-make.ensures.refused c.if-not-branch.true P base c.args.self.now.limit t.choices t.at_goal space.matrix t.at t.move)
+
+pub returns-then-not-branch-clause-counted : goal.returns-then-not-branch-clause-counted
+returns-then-not-branch-clause-counted c = λ P base later begun space e.
+    counted P c.args.self.now.limit (e.pending ++ later) begun c.args.ledger.now.used c.args.left.now e.searched
+
+pub returns-then-not-branch-clause-falls : goal.returns-then-not-branch-clause-falls
+returns-then-not-branch-clause-falls c = subst (λ ps. work_left c.args.ledger.now.budget c.args.ledger.now.used ps < work_left c.args.ledger.now.budget c.args.ledger.now.used (c.args.points.now.items ++ c.args.last ∷ [])) (sym c.in_ok-push.ensures.items) (next-falls c.args.ledger.now.budget c.args.ledger.now.used c.args.points.now.items c.args.last c.next.new.self (lighter-some c.args.last c.next.new.self _ c.in-Some.choice c.in_ok-choice.ensures.falls c.in-Some.is))
+
+pub returns-then-not-branch-clause-above : goal.returns-then-not-branch-clause-above
+returns-then-not-branch-clause-above c = λ k g a. subst (λ ps. AreAbove k ps) (sym c.in_ok-push.ensures.items) (above-next k c.args.points.now.items c.args.last c.next.new.self c.in_ok-choice.ensures.same a)
+
+pub returns-then-not-branch-clause-moment : goal.returns-then-not-branch-clause-moment
+returns-then-not-branch-clause-moment c = λ k g a. moment-kept k c.args.points.now.items c.args.last c.args.store.now.store c.return_to.new.store.store c.make.new.store.store g a c.return_to.ensures.marks c.make.ensures.marks
+
+pub returns-then-not-branch-clause-room : goal.returns-then-not-branch-clause-room
+returns-then-not-branch-clause-room c = room-both c.args.store.now c.return_to.new.store c.make.new.store c.return_to.ensures.room c.make.ensures.room
+
+pub visit-requires : goal.visit-requires
+visit-requires c = let (P, base, later, begun, space, e) = c.requires in
+    let t = tried-at P c.args.self.now.matrix.now base c.args.self.now.limit c.args.store.now.store c.return_to.new.store.store c.args.work.now.tree.steps.items c.return_to.new.tree.steps.items c.args.work.now.tree.goals.items c.return_to.new.tree.goals.items c.args.points.now.items c.push.new.self.items c.args.last c.next.new.self later begun c.args.ledger.now.used c.args.left.now _ c.in-Some.choice c.return_to.ensures.store c.return_to.ensures.steps c.return_to.ensures.goals c.in_ok-push.ensures.items c.in_ok-choice.ensures.same c.in_ok-choice.ensures.next c.in-Some.is e in
+    (P, base, later, begun, space, trying-made P c.args.self.now.matrix.now base c.args.self.now.limit c.return_to.new.store.store c.make.new.store.store c.return_to.new.tree.steps.items c.make.new.self.tree.steps.items c.return_to.new.tree.goals.items c.make.new.self.tree.goals.items c.make.new.self.tree.open c.push.new.self.items later begun c.args.ledger.now.used c.args.left.now c.next.new.self.goal c.in-Some.choice t c.make.ensures.marks c.in_ok-make.ensures.kept (c.in_ok-make.ensures.made c.if-not-branch.false P base c.args.self.now.limit t.choices t.at_goal space.matrix t.at t.move))
+
+pub returns-in_err-visit-clause-counted : goal.returns-in_err-visit-clause-counted
+returns-in_err-visit-clause-counted c = λ P base later begun space e.
+    let t = tried-at P c.args.self.now.matrix.now base c.args.self.now.limit c.args.store.now.store c.return_to.new.store.store c.args.work.now.tree.steps.items c.return_to.new.tree.steps.items c.args.work.now.tree.goals.items c.return_to.new.tree.goals.items c.args.points.now.items c.push.new.self.items c.args.last c.next.new.self later begun c.args.ledger.now.used c.args.left.now _ c.in-Some.choice c.return_to.ensures.store c.return_to.ensures.steps c.return_to.ensures.goals c.in_ok-push.ensures.items c.in_ok-choice.ensures.same c.in_ok-choice.ensures.next c.in-Some.is e in
+    c.visit.ensures.counted P base later begun space (trying-made P c.args.self.now.matrix.now base c.args.self.now.limit c.return_to.new.store.store c.make.new.store.store c.return_to.new.tree.steps.items c.make.new.self.tree.steps.items c.return_to.new.tree.goals.items c.make.new.self.tree.goals.items c.make.new.self.tree.open c.push.new.self.items later begun c.args.ledger.now.used c.args.left.now c.next.new.self.goal c.in-Some.choice t c.make.ensures.marks c.in_ok-make.ensures.kept (c.in_ok-make.ensures.made c.if-not-branch.false P base c.args.self.now.limit t.choices t.at_goal space.matrix t.at t.move))
+
+pub returns-in_err-visit-clause-budget : goal.returns-in_err-visit-clause-budget
+returns-in_err-visit-clause-budget c = c.visit.ensures.budget
+
+pub returns-in_err-visit-clause-moment : goal.returns-in_err-visit-clause-moment
+returns-in_err-visit-clause-moment c = λ k g a.
+    let m = moment-kept k c.args.points.now.items c.args.last c.args.store.now.store c.return_to.new.store.store c.make.new.store.store g a c.return_to.ensures.marks c.make.ensures.marks in
+    moment-both k c.args.store.now.store c.make.new.store.store c.visit.new.store.store m (c.visit.ensures.marks k m.0)
+
+pub returns-in_err-visit-clause-room : goal.returns-in_err-visit-clause-room
+returns-in_err-visit-clause-room c = room-both c.args.store.now c.make.new.store c.visit.new.store (room-both c.args.store.now c.return_to.new.store c.make.new.store c.return_to.ensures.room c.make.ensures.room) c.visit.ensures.room
+
+pub returns-clause-on : goal.returns-clause-on
+returns-clause-on c = if_on _ _ ((P : Problem) (base : ℕ) (later : List (List Choice)) (begun : ℕ) → IsSpace P c.args.self.now.matrix.now c.args.self.now.limit → IsExploring P c.args.self.now.matrix.now base c.args.self.now.limit c.args.store.now.store c.args.work.now.tree.steps.items c.args.work.now.tree.goals.items (c.args.points.now.items ++ c.args.last ∷ []) later begun c.args.ledger.now.used c.args.left.now → IsExploring P c.args.self.now.matrix.now base c.args.self.now.limit c.visit.new.store.store c.visit.new.work.tree.steps.items c.visit.new.work.tree.goals.items c.visit.new.points.items later begun c.visit.new.ledger.used c.visit.new.left) c.in_ok-visit.ensures.on (λ f P base later begun space e.
+    let t = tried-at P c.args.self.now.matrix.now base c.args.self.now.limit c.args.store.now.store c.return_to.new.store.store c.args.work.now.tree.steps.items c.return_to.new.tree.steps.items c.args.work.now.tree.goals.items c.return_to.new.tree.goals.items c.args.points.now.items c.push.new.self.items c.args.last c.next.new.self later begun c.args.ledger.now.used c.args.left.now _ c.in-Some.choice c.return_to.ensures.store c.return_to.ensures.steps c.return_to.ensures.goals c.in_ok-push.ensures.items c.in_ok-choice.ensures.same c.in_ok-choice.ensures.next c.in-Some.is e in
+    f P base later begun space (trying-made P c.args.self.now.matrix.now base c.args.self.now.limit c.return_to.new.store.store c.make.new.store.store c.return_to.new.tree.steps.items c.make.new.self.tree.steps.items c.return_to.new.tree.goals.items c.make.new.self.tree.goals.items c.make.new.self.tree.open c.push.new.self.items later begun c.args.ledger.now.used c.args.left.now c.next.new.self.goal c.in-Some.choice t c.make.ensures.marks c.in_ok-make.ensures.kept (c.in_ok-make.ensures.made c.if-not-branch.false P base c.args.self.now.limit t.choices t.at_goal space.matrix t.at t.move)))
+
+pub returns-clause-end : goal.returns-clause-end
+returns-clause-end c = λ P base later begun space e.
+    let t = tried-at P c.args.self.now.matrix.now base c.args.self.now.limit c.args.store.now.store c.return_to.new.store.store c.args.work.now.tree.steps.items c.return_to.new.tree.steps.items c.args.work.now.tree.goals.items c.return_to.new.tree.goals.items c.args.points.now.items c.push.new.self.items c.args.last c.next.new.self later begun c.args.ledger.now.used c.args.left.now _ c.in-Some.choice c.return_to.ensures.store c.return_to.ensures.steps c.return_to.ensures.goals c.in_ok-push.ensures.items c.in_ok-choice.ensures.same c.in_ok-choice.ensures.next c.in-Some.is e in
+    c.in_ok-visit.ensures.end P base later begun space (trying-made P c.args.self.now.matrix.now base c.args.self.now.limit c.return_to.new.store.store c.make.new.store.store c.return_to.new.tree.steps.items c.make.new.self.tree.steps.items c.return_to.new.tree.goals.items c.make.new.self.tree.goals.items c.make.new.self.tree.open c.push.new.self.items later begun c.args.ledger.now.used c.args.left.now c.next.new.self.goal c.in-Some.choice t c.make.ensures.marks c.in_ok-make.ensures.kept (c.in_ok-make.ensures.made c.if-not-branch.false P base c.args.self.now.limit t.choices t.at_goal space.matrix t.at t.move))
+
+pub returns-clause-counted : goal.returns-clause-counted
+returns-clause-counted c = λ P base later begun space e.
+    let t = tried-at P c.args.self.now.matrix.now base c.args.self.now.limit c.args.store.now.store c.return_to.new.store.store c.args.work.now.tree.steps.items c.return_to.new.tree.steps.items c.args.work.now.tree.goals.items c.return_to.new.tree.goals.items c.args.points.now.items c.push.new.self.items c.args.last c.next.new.self later begun c.args.ledger.now.used c.args.left.now _ c.in-Some.choice c.return_to.ensures.store c.return_to.ensures.steps c.return_to.ensures.goals c.in_ok-push.ensures.items c.in_ok-choice.ensures.same c.in_ok-choice.ensures.next c.in-Some.is e in
+    c.visit.ensures.counted P base later begun space (trying-made P c.args.self.now.matrix.now base c.args.self.now.limit c.return_to.new.store.store c.make.new.store.store c.return_to.new.tree.steps.items c.make.new.self.tree.steps.items c.return_to.new.tree.goals.items c.make.new.self.tree.goals.items c.make.new.self.tree.open c.push.new.self.items later begun c.args.ledger.now.used c.args.left.now c.next.new.self.goal c.in-Some.choice t c.make.ensures.marks c.in_ok-make.ensures.kept (c.in_ok-make.ensures.made c.if-not-branch.false P base c.args.self.now.limit t.choices t.at_goal space.matrix t.at t.move))
+
+pub returns-clause-budget : goal.returns-clause-budget
+returns-clause-budget c = c.visit.ensures.budget
+
+pub returns-clause-falls : goal.returns-clause-falls
+returns-clause-falls c = if_on _ _ _ c.in_ok-visit.ensures.points (λ pushed.
+    let l = c.visit.new.ledger.in_budget in
+    let b = c.visit.ensures.budget in
+    visit-falls c.args.ledger.now.budget c.args.ledger.now.used c.visit.new.ledger.used c.args.points.now.items c.push.new.self.items c.visit.new.points.items c.args.last c.next.new.self pushed c.in_ok-push.ensures.items (omega (arith, l, b)) (lighter-some c.args.last c.next.new.self _ c.in-Some.choice c.in_ok-choice.ensures.falls c.in-Some.is))
+
+pub returns-clause-above : goal.returns-clause-above
+returns-clause-above c = λ k g a.
+    let m = moment-kept k c.args.points.now.items c.args.last c.args.store.now.store c.return_to.new.store.store c.make.new.store.store g a c.return_to.ensures.marks c.make.ensures.marks in
+    c.in_ok-visit.ensures.above k m.0 (subst (λ ps. AreAbove k ps) (sym c.in_ok-push.ensures.items) (above-next k c.args.points.now.items c.args.last c.next.new.self c.in_ok-choice.ensures.same a))
+
+pub returns-clause-moment : goal.returns-clause-moment
+returns-clause-moment c = λ k g a.
+    let m = moment-kept k c.args.points.now.items c.args.last c.args.store.now.store c.return_to.new.store.store c.make.new.store.store g a c.return_to.ensures.marks c.make.ensures.marks in
+    moment-both k c.args.store.now.store c.make.new.store.store c.visit.new.store.store m (c.visit.ensures.marks k m.0)
+
+pub returns-clause-room : goal.returns-clause-room
+returns-clause-room c = room-both c.args.store.now c.make.new.store c.visit.new.store (room-both c.args.store.now c.return_to.new.store c.make.new.store c.return_to.ensures.room c.make.ensures.room) c.visit.ensures.room

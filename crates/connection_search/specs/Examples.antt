@@ -1,0 +1,43 @@
+-- Problems that the tests build, over a predicate p, a constant a and a function f.
+use Rattle.std.specs.Prelude.{ℕ, zero, suc, List, [], ◌∷◌, IsTrue, codes}
+use Rattle.calculus.specs.declared.symbol.SymbolClass.{SymbolClass}
+use Rattle.calculus.specs.declared.symbol.SymbolClass.TheVariants.{Function, Predicate}
+use Rattle.calculus.specs.declared.setting.Domains.TheVariants.{Constant}
+use Rattle.calculus.specs.declared.setting.Logic.TheVariants.{Classical}
+use Rattle.calculus.specs.Problems.{is_problem}
+use Rattle.calculus.specs.Syntax as tree
+
+abbrev pub named : List ℕ → SymbolClass → ℕ → tree.Symbol
+named name class arity = record { name = name; class = class; arity = arity }
+
+abbrev pub symbols : List tree.Symbol
+symbols = named (codes "p") Predicate 1 ∷ named (codes "a") Function 0 ∷ named (codes "f") Function 1 ∷ []
+
+abbrev pub example : tree.Formula → tree.Problem
+example f = record { setting = tree.setting_of Classical Constant; formula = f; symbols = symbols }
+
+abbrev pub IsExample : tree.Formula → Type 0
+IsExample f = IsTrue (is_problem (example f))
+
+abbrev pub p_of : tree.Term → tree.Formula
+p_of t = tree.atom 0 (tree.more_terms t tree.no_terms)
+
+-- ?[X]:![Y]:(p(X) => p(Y))
+abbrev pub drinker : tree.Formula
+drinker = tree.ex (tree.all (tree.imp (p_of (tree.var 1)) (p_of (tree.var 0))))
+
+-- ?[X]:p(X) => ![X]:p(X)
+abbrev pub converse : tree.Formula
+converse = tree.imp (tree.ex (p_of (tree.var 0))) (tree.all (p_of (tree.var 0)))
+
+abbrev pub f_of : tree.Term → tree.Term
+f_of t = tree.fun 2 (tree.more_terms t tree.no_terms)
+
+-- the constant inside so many applications of f
+abbrev pub nested : ℕ → tree.Term
+nested zero = tree.fun 1 tree.no_terms
+nested (suc k) = f_of (nested k)
+
+-- p(a) and ![X]:(p(X) => p(f(X))) => p of this term
+abbrev pub chain : ℕ → tree.Formula
+chain k = tree.imp (tree.conj (p_of (nested zero)) (tree.all (tree.imp (p_of (tree.var 0)) (p_of (f_of (tree.var 0)))))) (p_of (nested k))

@@ -1,0 +1,89 @@
+-- States of the classical search, and the program's tree that stands for one.
+use Rattle.std.specs.Prelude.{◌≡◌, ◌==◌, ◌+◌, ℕ, suc, List, [], ◌∷◌, ◌++◌, ◌≤◌, length, not, Bool, true, false, Option, Some, slice_get, nat_lt, IsTrue}
+use Rattle.std.specs.List.{list_all, list_any}
+use Rattle.calculus.specs.declared.setting.Logic.TheVariants.{Classical}
+use Rattle.calculus.specs.declared.sign.Side.{Side}
+use Rattle.calculus.specs.Bindings.{IsWellFormed, NamesFrom}
+use Rattle.calculus.specs.Choices.{Choice, IsLeft, extension}
+use Rattle.calculus.specs.Equality.{sign_eq}
+use Rattle.calculus.specs.Patterns.{PatternAtom}
+use Rattle.calculus.specs.Problems.{formula_fits}
+use Rattle.calculus.specs.Stores.{Store}
+use Rattle.calculus.specs.Syntax.{Problem}
+use Rattle.calculus.specs.Systems.{CellAtom}
+use Rattle.search_theory.proofs.BeginningLaws.{IsDead}
+use Rattle.search_theory.specs.Goals.{IsChoiceAt}
+use Rattle.search_theory.specs.Matrix.{IsTemplateMatrix, MatrixClause, MatrixPlace}
+use Rattle.search_theory.specs.Regular.{is_classical_choice, is_classical_goal, is_classical_store}
+use Rattle.search_theory.specs.States.{CellChoice, CellGoal, CellGrowth, IsStateOf, State}
+use Rattle.connection_search.specs.Trees.{IsTree, atom_at}
+use Rattle.connection_search.specs.declared.tree.Goal.{Goal}
+use Rattle.connection_search.specs.declared.tree.Step.{Step}
+
+-- a state over cells from the number `base` on, which are the search's own
+pub record IsRunning (P : Problem) (base d : ℕ) (c : List Choice) (S : State) : Type 0 where
+  pub state : IsStateOf P d c S
+  pub well : IsWellFormed S.store
+  pub from : base ≤ length S.store.cells
+  pub names : NamesFrom base S.store
+  pub cells : IsTrue (is_classical_store P base S.store)
+  pub open_goals : IsTrue (list_all (is_classical_goal base S.store) S.growth.open_goals)
+  pub goals : IsTrue (list_all (is_classical_goal base S.store) S.growth.all_goals)
+  pub choices : IsTrue (list_all (is_classical_choice base S.store) S.choices)
+
+-- the program's store and tree stand for such a state
+pub record IsAt (P : Problem) (m : List MatrixClause) (base d : ℕ) (c : List Choice) (s : Store) (steps : List Step) (goals : List Goal) (first : Option ℕ) (cs : List CellChoice) (x : CellGrowth) : Type 0 where
+  pub running : IsRunning P base d c (record { store = s; choices = cs; growth = x })
+  pub tree : IsTree m steps goals first cs x
+
+-- the matrix is that of a classical problem
+pub record IsClassicalMatrix (P : Problem) (m : List MatrixClause) : Type 0 where
+  pub classical : P.setting.logic ≡ Classical
+  pub fits : IsTrue (formula_fits P.setting.logic P.symbols 0 P.formula)
+  pub matrix : IsTemplateMatrix P m
+
+-- they stand for some such state
+abbrev pub StandsFor : Problem → List MatrixClause → ℕ → ℕ → List Choice → Store → List Step → List Goal → Option ℕ → Type 0
+StandsFor P m base d c s steps goals first = (cs : List CellChoice) × (x : CellGrowth) × IsAt P m base d c s steps goals first cs x
+
+-- the same, where an extension was made from a path of n goals
+abbrev pub StandsDeep : Problem → List MatrixClause → ℕ → ℕ → List Choice → Store → List Step → List Goal → Option ℕ → ℕ → Type 0
+StandsDeep P m base d c s steps goals first n = (cs : List CellChoice) × (x : CellGrowth) × IsAt P m base d c s steps goals first cs x × IsTrue (list_any (λ k. k == n) x.depths)
+
+-- they stand for a state whose leftmost open goal is g, which has this number
+pub record IsAtGoal (P : Problem) (m : List MatrixClause) (base d : ℕ) (c : List Choice) (s : Store) (steps : List Step) (goals : List Goal) (goal : ℕ) (g : CellGoal) : Type 0 where
+  pub made : List CellChoice
+  pub behind : List CellGoal
+  pub every : List CellGoal
+  pub depths : List ℕ
+  pub at : IsAt P m base d c s steps goals (Some goal) made (record { open_goals = g ∷ behind; all_goals = every; depths = depths })
+
+-- the ancestor of this number is this goal, which has the goal's symbol and the other sign
+pub record ReducesBy (steps : List Step) (goals : List Goal) (g : CellGoal) (up ancestor : ℕ) : Type 0 where
+  pub number : ℕ
+  pub is_number : up ≡ suc number
+  pub atom : CellAtom
+  pub on_path : slice_get g.path number ≡ Some atom
+  pub goal : Goal
+  pub stands : slice_get goals ancestor ≡ Some goal
+  pub is_atom : atom_at steps goal ≡ Some atom
+  pub signs : IsTrue (not (sign_eq g.literal.sign atom.sign))
+  pub symbols : g.literal.symbol ≡ atom.symbol
+
+-- the literal at the place has the goal's symbol and the other sign, and the path has room for an extension
+pub record ExtendsBy (m : List MatrixClause) (d : ℕ) (g : CellGoal) (p : MatrixPlace) : Type 0 where
+  pub deep : IsTrue (nat_lt (length g.path) d)
+  pub limit : d ≤ 201
+  pub clause : MatrixClause
+  pub stands : slice_get m p.clause ≡ Some clause
+  pub literal : PatternAtom
+  pub there : slice_get clause.template.literals p.literal ≡ Some literal
+  pub signs : IsTrue (not (sign_eq g.literal.sign literal.sign))
+  pub symbols : g.literal.symbol ≡ literal.symbol
+
+-- where it was not known whether the limit is left, what is found of it at the goal: that it is, or that no extension of a path with as
+-- many goals as the limit gives a regular tree
+pub record IsLeftFound (P : Problem) (d : ℕ) (c : List Choice) (g : CellGoal) (known left : Bool) : Type 0 where
+  pub is_left : left ≡ true → known ≡ false → IsLeft P d
+  pub unknown : left ≡ false → known ≡ false
+  pub dead : left ≡ false → length g.path ≡ d → (sides : List Side) (place : ℕ) → IsChoiceAt P (d + 1) g (extension sides place) → IsDead P (c ++ extension sides place ∷ [])

@@ -1,0 +1,107 @@
+-- What the program's tree stands for: its choices, and its goals with their paths and the list of those that are open, which are linked
+-- through the list of all goals.
+use Rattle.std.specs.Prelude.{◌≡◌, ◌<◌, ◌≤◌, ◌+◌, ◌++◌, ℕ, zero, suc, List, [], ◌∷◌, drop, map, take, length, Option, None, Some, slice_get, ⊤}
+use Rattle.std.specs.List.{AllByRecursion}
+use Rattle.calculus.specs.Choices.{start, reduction, extension}
+use Rattle.calculus.specs.Systems.{CellAtom}
+use Rattle.search_theory.specs.Matrix.{MatrixClause}
+use Rattle.search_theory.specs.Stack.{selection_of}
+use Rattle.search_theory.specs.States.{CellClause, CellChoice, CellGoal, CellGrowth}
+use Rattle.term_store.specs.ClauseView.{the_atom}
+use Rattle.term_store.specs.RefView.{the_places}
+use Rattle.connection_search.specs.declared.tree.Copied.{Copied}
+use Rattle.connection_search.specs.declared.tree.Goal.{Goal}
+use Rattle.connection_search.specs.declared.tree.Step.{Step}
+use Rattle.connection_search.specs.declared.tree.Step.TheVariants.{Start, Reduce, Extend}
+
+-- ---- choices
+
+-- the list with one item more at a place
+abbrev pub inserted : {A : Type 0} → ℕ → A → List A → List A
+inserted place x xs = take place xs ++ x ∷ drop place xs
+
+-- the copied clause with these literals
+abbrev pub clause_with : List MatrixClause → Copied → List CellAtom → CellClause
+clause_with m c literals = record {
+  selection = selection_of (slice_get m c.clause.0);
+  values = the_places c.copy.variables;
+  literals = literals;
+}
+
+abbrev pub the_step : List MatrixClause → Step → CellChoice
+the_step m (Start c) = start (clause_with m c c.copy.literals)
+the_step m (Reduce up) = reduction up
+the_step m (Extend c place atom) = extension (clause_with m c (inserted place (the_atom atom) c.copy.literals)) place
+
+-- ---- goals
+
+-- the literals of the goals that the step gave
+abbrev pub goals_of : Step → List CellAtom
+goals_of (Start c) = c.copy.literals
+goals_of (Reduce up) = []
+goals_of (Extend c place atom) = c.copy.literals
+
+abbrev pub atom_in : ℕ → Option Step → Option CellAtom
+atom_in literal None = None
+atom_in literal (Some s) = slice_get (goals_of s) literal
+
+abbrev pub atom_at : List Step → Goal → Option CellAtom
+atom_at steps g = atom_in g.literal (slice_get steps g.step)
+
+-- the goals from this one upwards have these literals
+abbrev pub IsPath : List Step → List Goal → Option ℕ → List CellAtom → Type 0
+IsPath steps goals k [] = k ≡ None
+IsPath steps goals k (a ∷ path) = (i : ℕ) × (g : Goal) × (k ≡ Some i) × (slice_get goals i ≡ Some g) × (atom_at steps g ≡ Some a) × IsPath steps goals g.above path
+
+-- the program's goal is this one
+pub record IsGoal (steps : List Step) (goals : List Goal) (g : Goal) (x : CellGoal) : Type 0 where
+  pub literal : atom_at steps g ≡ Some x.literal
+  pub path : IsPath steps goals g.above x.path
+  pub depth : g.depth ≡ length x.path
+
+-- the goal of this number is this one
+pub record IsGoalAt (steps : List Step) (goals : List Goal) (i : ℕ) (x : CellGoal) : Type 0 where
+  pub goal : Goal
+  pub stands : slice_get goals i ≡ Some goal
+  pub is_goal : IsGoal steps goals goal x
+
+-- the goals that are open from this one on
+abbrev pub AreOpen : List Step → List Goal → Option ℕ → List CellGoal → Type 0
+AreOpen steps goals k [] = k ≡ None
+AreOpen steps goals k (x ∷ xs) = (i : ℕ) × (g : Goal) × (k ≡ Some i) × (slice_get goals i ≡ Some g) × IsGoal steps goals g x × AreOpen steps goals g.behind xs
+
+-- the goals `some` of all these goals
+abbrev pub AreGoals : List Step → List Goal → List Goal → List CellGoal → Type 0
+AreGoals steps goals [] xs = xs ≡ []
+AreGoals steps goals (g ∷ some) xs = (x : CellGoal) × (ys : List CellGoal) × (xs ≡ x ∷ ys) × IsGoal steps goals g x × AreGoals steps goals some ys
+
+-- the step's clause is one of the matrix, and its connected literal has a place there
+abbrev pub IsBuiltStep : List MatrixClause → Step → Type 0
+IsBuiltStep m (Start c) = c.clause.0 < length m
+IsBuiltStep m (Reduce up) = ⊤
+IsBuiltStep m (Extend c place atom) = (c.clause.0 < length m) × (place ≤ length c.copy.literals)
+
+-- the tree stands for these choices and this growth
+pub record IsTree (m : List MatrixClause) (steps : List Step) (all : List Goal) (first : Option ℕ) (choices : List CellChoice) (x : CellGrowth) : Type 0 where
+  pub made : map (the_step m) steps ≡ choices
+  pub built : AllByRecursion (IsBuiltStep m) steps
+  pub goals : AreGoals steps all all x.all_goals
+  pub open_goals : AreOpen steps all first x.open_goals
+
+-- choices and goals came behind those that were there
+abbrev pub KeepsTree : List Step → List Goal → List Step → List Goal → Type 0
+KeepsTree steps goals after all = ((more : List Step) × (after ≡ steps ++ more)) × ((others : List Goal) × (all ≡ goals ++ others))
+
+-- ---- goals that come
+
+-- the goal that is open from the literal j on, of which `left` are left: the goals of the clause begin with the number `first`
+abbrev pub link_from : ℕ → Option ℕ → ℕ → ℕ → Option ℕ
+link_from first behind j zero = behind
+link_from first behind j (suc left) = Some (first + j)
+
+-- the goals of the literals from j on, of which `left` are left
+abbrev pub fresh_goals : ℕ → ℕ → Option ℕ → Option ℕ → ℕ → ℕ → ℕ → List Goal
+fresh_goals step first above behind depth j zero = []
+fresh_goals step first above behind depth j (suc left) =
+    record { step = step; literal = j; above = above; behind = link_from first behind (suc j) left; depth = depth }
+    ∷ fresh_goals step first above behind depth (suc j) left

@@ -1,0 +1,146 @@
+//! Unifying and comparing atoms.
+
+ghost use Rattle.std.specs.Prelude.{◌≡◌, ◌<◌, ◌&&◌, ◌==◌, ℕ, Some, IfOk, IsTrue};
+ghost use Rattle.std.specs.Prelude.{false, length, map, not, slice_get, true, nat_le};
+ghost use Rattle.std.specs.List.{list_all};
+ghost use Rattle.calculus.specs.declared.sort.Sort.TheVariants.{TermSort};
+ghost use Rattle.calculus.specs.Bindings.{BindsOnly, KeepsMarks, NamesFrom};
+ghost use Rattle.calculus.specs.Equality.{sign_eq};
+ghost use Rattle.calculus.specs.Kinds as kinds;
+ghost use Rattle.calculus.specs.Stores.{Solution, Solves, has_sort_at, names_below};
+ghost use Rattle.calculus.specs.Syntax.{Problem};
+ghost use Rattle.connection_search.specs.Sameness.{DifferAt};
+ghost use Rattle.search_theory.specs.Regular.{AreSame, is_classical_atom, is_classical_store};
+ghost use Rattle.search_theory.specs.Stack as stack;
+ghost use Rattle.search_theory.specs.States.{terms_by};
+ghost use Rattle.search_theory.specs.Steps.{AreUnified, Clash};
+ghost use Rattle.term_store.specs.ClauseView.{the_atom};
+ghost use Rattle.term_store.specs.RefView.{the_place};
+ghost use Rattle.term_store.specs.Room.{KeepsRoom};
+
+use calculus::sign::Sign;
+use cop_base::NoMemory;
+use term_store::{CellAtom, Ref, Store};
+use term_unify::Unifier;
+
+pub(crate) fn are_same_sign(a: Sign, b: Sign) -> bool
+    ensures { result ≡ sign_eq a b }
+{
+    match (a, b) {
+        (Sign::T, Sign::T) | (Sign::F, Sign::F) => true,
+        (Sign::T, Sign::F) | (Sign::F, Sign::T) => false,
+    }
+}
+
+pub(crate) fn other(sign: Sign) -> Sign
+    ensures { result ≡ kinds.other sign }
+{
+    match sign {
+        Sign::T => Sign::F,
+        Sign::F => Sign::T,
+    }
+}
+
+/// Whether symbol and signs let the two be connected.
+pub(crate) fn meets(goal: &CellAtom, atom: &CellAtom) -> bool
+    ensures { result ≡ stack.meets (the_atom goal.now) (the_atom atom.now) }
+{
+    !are_same_sign(goal.sign, atom.sign) && goal.symbol.0 == atom.symbol.0
+}
+
+// The reference at the place.
+pub(crate) fn reference_at(refs: &[Ref], i: usize) -> Ref
+    requires { i < length refs.now }
+    ensures { slice_get (map the_place refs.now) i ≡ Some result.0 }
+{
+    refs[i]
+}
+
+/// Binds so that the lists of terms are equal. Where they cannot be, some bindings may be left.
+pub(crate) fn unify_all(
+    unifier: &mut Unifier,
+    store: &mut Store,
+    xs: &[Ref],
+    ys: &[Ref],
+) -> Result<bool, NoMemory>
+    requires left { IsTrue (list_all (has_sort_at store.old.store TermSort)
+        (map the_place xs.now)) }
+    requires right { IsTrue (list_all (has_sort_at store.old.store TermSort)
+        (map the_place ys.now)) }
+    ensures unified { IfOk result (λ equal. equal ≡ true
+        → AreUnified store.old.store store.new.store (map the_place xs.now)
+        (map the_place ys.now)) }
+    ensures clash { IfOk result (λ equal. equal ≡ false
+        → Clash store.old.store (map the_place xs.now) (map the_place ys.now)) }
+    ensures marks { KeepsMarks store.old.store store.new.store }
+    ensures binds { BindsOnly store.old.store store.new.store }
+    ensures names { (base : ℕ) → NamesFrom base store.old.store
+        → IsTrue (list_all (nat_le base) (map the_place xs.now))
+        → IsTrue (list_all (nat_le base) (map the_place ys.now))
+        → NamesFrom base store.new.store }
+    ensures room { KeepsRoom store.old store.new }
+{
+    if xs.len() != ys.len() {
+        return Ok(false);
+    }
+    for i in 0..xs.len() {
+        if !unifier.unify(store, reference_at(xs, i), reference_at(ys, i))? {
+            return Ok(false);
+        }
+    }
+    Ok(true)
+}
+
+// Whether the bindings make the lists of terms equal.
+fn are_same_terms(
+    unifier: &mut Unifier,
+    store: &Store,
+    xs: &[Ref],
+    ys: &[Ref],
+) -> Result<bool, NoMemory>
+    requires left { IsTrue (names_below (length store.now.store.cells) (map the_place xs.now)) }
+    requires right { IsTrue (names_below (length store.now.store.cells) (map the_place ys.now)) }
+    ensures same { IfOk result (λ same. same ≡ true → (σ : Solution) → Solves store.now.store σ
+        → terms_by σ (map the_place xs.now) ≡ terms_by σ (map the_place ys.now)) }
+    ensures different { IfOk result (λ same. same ≡ false
+        → DifferAt store.now.store (map the_place xs.now) (map the_place ys.now)) }
+{
+    if xs.len() != ys.len() {
+        return Ok(false);
+    }
+    for i in 0..xs.len() {
+        if !unifier.are_same(store, reference_at(xs, i), reference_at(ys, i))? {
+            return Ok(false);
+        }
+    }
+    Ok(true)
+}
+
+/// Whether the bindings make the two the same signed atom.
+pub(crate) fn are_same(
+    unifier: &mut Unifier,
+    store: &Store,
+    a: &CellAtom,
+    b: &CellAtom,
+) -> Result<bool, NoMemory>
+    requires left { IsTrue (names_below (length store.now.store.cells) (the_atom a.now).args) }
+    requires right { IsTrue (names_below (length store.now.store.cells) (the_atom b.now).args) }
+    ensures same { IfOk result (λ same. same ≡ true
+        → (the_atom a.now).label ≡ (the_atom b.now).label
+        → AreSame store.now.store (the_atom a.now) (the_atom b.now)) }
+    ensures different { IfOk result (λ same. same ≡ false → (P : Problem) (base : ℕ)
+        → IsTrue (is_classical_store P base store.now.store)
+        → IsTrue (is_classical_atom base store.now.store (the_atom a.now))
+        → IsTrue (is_classical_atom base store.now.store (the_atom b.now))
+        → ¬ AreSame store.now.store (the_atom a.now) (the_atom b.now)) }
+{
+    let _now = store.mark();
+    if !are_same_sign(a.sign, b.sign) {
+        return Ok(false);
+    }
+    if a.symbol.0 != b.symbol.0 {
+        return Ok(false);
+    }
+    let same = are_same_terms(unifier, store, a.args.items(), b.args.items())?;
+    Ok(same)
+}

@@ -1,0 +1,60 @@
+//! Deepening on the path limit.
+
+ghost use Rattle.std.specs.Prelude.{◌≡◌, ◌≤◌, ◌-◌, IfOk};
+ghost use Rattle.calculus.specs.declared.setting.Logic.TheVariants.{Classical};
+ghost use Rattle.search_theory.specs.Matrix.{IsTemplateMatrix};
+ghost use Rattle.connection_search.specs.Outcomes.{IfEnded, IsDeepAnswer};
+
+use crate::searching::{Outcome, search};
+use cop_base::{Ledger, NoMemory};
+use logic_rules::Problem;
+use matrix_build::Matrix;
+use std::alloc::Global;
+use tableau_core::Tableau;
+
+/// What deepening answers.
+#[derive(Drop)]
+pub enum Answer {
+    /// The least limit within which a tableau is closed, and such a tableau.
+    Closed { limit: u8, tableau: Tableau },
+    /// No tableau is closed within the greatest limit, and each limit up to it is left.
+    Exhausted { limit: u8 },
+    /// No tableau is closed within any limit, and this is the first one that is not left.
+    NoTableau { limit: u8 },
+    /// The budget is used up; this is the last limit that was searched whole, or 0.
+    Steps { limit: u8 },
+}
+
+/// Searches the limits from 1 to `max_limit` (leanCoP's iterative deepening), over the problem's own
+/// matrix. A limit that is not left ends the matter.
+pub fn deepen(
+    alloc: Global,
+    problem: &Problem,
+    matrix: &Matrix,
+    max_limit: u8,
+    ledger: &mut Ledger,
+) -> Result<Answer, NoMemory>
+    requires classical { problem.now.setting.logic ≡ Classical }
+    requires matrix { IsTemplateMatrix problem.now matrix.now }
+    requires from_one { 1 ≤ max_limit }
+    requires to_200 { max_limit ≤ 200 }
+    ensures answer { IfOk result
+        (IsDeepAnswer problem.now max_limit (ledger.old.budget - ledger.old.used)) }
+    ensures ended { IfOk result (λ a. IfEnded a (ledger.new.used ≡ ledger.new.budget)) }
+    ensures rises { ledger.old.used ≤ ledger.new.used }
+    ensures budget { ledger.new.budget ≡ ledger.old.budget }
+{
+    for passed in 0..max_limit {
+        let limit = passed + 1;
+        match search(alloc, problem, matrix, limit, ledger)? {
+            Outcome::Closed(tableau) => return Ok(Answer::Closed { limit, tableau }),
+            Outcome::Steps => return Ok(Answer::Steps { limit: passed }),
+            Outcome::Empty { left } => {
+                if !left {
+                    return Ok(Answer::NoTableau { limit });
+                }
+            }
+        }
+    }
+    Ok(Answer::Exhausted { limit: max_limit })
+}

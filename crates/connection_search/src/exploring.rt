@@ -1,0 +1,209 @@
+//! The loop of the search: a stack of choice points, all of whose choices are tried in order.
+
+ghost use Rattle.std.specs.Prelude.{◌≡◌, ◌<◌, ◌++◌, ◌∷◌, [], ℕ, IfOk, List, OnOk};
+ghost use Rattle.calculus.specs.Bindings.{KeepsMarks};
+ghost use Rattle.calculus.specs.Choices.{Choice};
+ghost use Rattle.calculus.specs.Stores.{IsGood, TrailMark};
+ghost use Rattle.calculus.specs.Syntax.{Problem};
+ghost use Rattle.term_store.specs.Room.{KeepsRoom};
+ghost use Rattle.connection_search.specs.Exploring.{AreAbove, ArePushed, IfOn, IsCounted, IsEnd};
+ghost use Rattle.connection_search.specs.Exploring.{IsExploring, IsSearched, IsSpace, IsVisiting};
+ghost use Rattle.connection_search.specs.Exploring.{KeepsMoment};
+ghost use Rattle.connection_search.specs.Weights.{work_left};
+
+use crate::moves::Work;
+use crate::point::Point;
+use crate::reading::tableau_of;
+use crate::space::Space;
+use cop_base::{Ledger, NoMemory};
+use tableau_core::Tableau;
+use term_store::Store;
+
+/// What a list of choices came to.
+pub(crate) enum Visit {
+    On,
+    Closed(Tableau),
+    Steps,
+}
+
+impl Space<'_> {
+    // Spends a step for the list of choices. A list without open goals is judged here: it is closed
+    // where no goal is the same as one above it.
+    pub(crate) fn visit(
+        &self,
+        ledger: &mut Ledger,
+        store: &mut Store,
+        work: &mut Work,
+        points: &mut Vec<Point>,
+        left: &mut bool,
+    ) -> Result<Visit, NoMemory>
+        requires { (P : Problem) × (base : ℕ) × (later : List (List Choice)) × (begun : ℕ)
+            × IsSpace P self.now.matrix.now self.now.limit
+            × IsVisiting P self.now.matrix.now base self.now.limit store.old.store
+            work.old.tree.steps.items work.old.tree.goals.items work.old.tree.open
+            points.old.items later begun ledger.old.used left.old }
+        ensures on { IfOk result (λ v. IfOn v ((P : Problem) (base : ℕ)
+            (later : List (List Choice)) (begun : ℕ)
+            → IsSpace P self.now.matrix.now self.now.limit
+            → IsVisiting P self.now.matrix.now base self.now.limit store.old.store
+            work.old.tree.steps.items work.old.tree.goals.items work.old.tree.open
+            points.old.items later begun ledger.old.used left.old
+            → IsExploring P self.now.matrix.now base self.now.limit store.new.store
+            work.new.tree.steps.items work.new.tree.goals.items
+            points.new.items later begun ledger.new.used left.new)) }
+        ensures end { IfOk result (λ v. (P : Problem) (base : ℕ)
+            (later : List (List Choice)) (begun : ℕ)
+            → IsSpace P self.now.matrix.now self.now.limit
+            → IsVisiting P self.now.matrix.now base self.now.limit store.old.store
+            work.old.tree.steps.items work.old.tree.goals.items work.old.tree.open
+            points.old.items later begun ledger.old.used left.old
+            → IsEnd P self.now.limit begun ledger.new.used ledger.new.budget v) }
+        ensures counted { (P : Problem) (base : ℕ) (later : List (List Choice)) (begun : ℕ)
+            → IsSpace P self.now.matrix.now self.now.limit
+            → IsVisiting P self.now.matrix.now base self.now.limit store.old.store
+            work.old.tree.steps.items work.old.tree.goals.items work.old.tree.open
+            points.old.items later begun ledger.old.used left.old
+            → IsCounted P self.now.limit begun ledger.new.used }
+        ensures budget { ledger.new.budget ≡ ledger.old.budget }
+        ensures points { IfOk result (λ v. IfOn v
+            (ArePushed points.old.items points.new.items ledger.old.used ledger.new.used)) }
+        ensures above { OnOk result ((k : TrailMark) → IsGood k store.old.store
+            → AreAbove k points.old.items → AreAbove k points.new.items) }
+        ensures marks { KeepsMarks store.old.store store.new.store }
+        ensures room { KeepsRoom store.old store.new }
+    {
+        match work.tree.open {
+            None => {
+                if !work.is_regular(store)? {
+                    return Ok(Visit::On);
+                }
+                if !ledger.take() {
+                    return Ok(Visit::Steps);
+                }
+                let tableau = tableau_of(work.alloc, store, self.matrix, &work.tree)?;
+                Ok(Visit::Closed(tableau))
+            }
+            Some(goal) => {
+                if !ledger.take() {
+                    return Ok(Visit::Steps);
+                }
+                let point = Point::new(store, self.matrix, &work.tree, goal, self.limit);
+                *left = self.is_left(store, work, goal, *left)?;
+                points.push(point)?;
+                Ok(Visit::On)
+            }
+        }
+    }
+
+    // Goes back to the last choice point, makes its next choice and visits what came of it. The
+    // point stays where a choice was left.
+    fn try_next(
+        &self,
+        ledger: &mut Ledger,
+        store: &mut Store,
+        work: &mut Work,
+        points: &mut Vec<Point>,
+        left: &mut bool,
+        last: Point,
+    ) -> Result<Visit, NoMemory>
+        requires { (P : Problem) × (base : ℕ) × (later : List (List Choice)) × (begun : ℕ)
+            × IsSpace P self.now.matrix.now self.now.limit
+            × IsExploring P self.now.matrix.now base self.now.limit store.old.store
+            work.old.tree.steps.items work.old.tree.goals.items
+            (points.old.items ++ last ∷ []) later begun ledger.old.used left.old }
+        ensures on { IfOk result (λ v. IfOn v ((P : Problem) (base : ℕ)
+            (later : List (List Choice)) (begun : ℕ)
+            → IsSpace P self.now.matrix.now self.now.limit
+            → IsExploring P self.now.matrix.now base self.now.limit store.old.store
+            work.old.tree.steps.items work.old.tree.goals.items
+            (points.old.items ++ last ∷ []) later begun ledger.old.used left.old
+            → IsExploring P self.now.matrix.now base self.now.limit store.new.store
+            work.new.tree.steps.items work.new.tree.goals.items
+            points.new.items later begun ledger.new.used left.new)) }
+        ensures end { IfOk result (λ v. (P : Problem) (base : ℕ)
+            (later : List (List Choice)) (begun : ℕ)
+            → IsSpace P self.now.matrix.now self.now.limit
+            → IsExploring P self.now.matrix.now base self.now.limit store.old.store
+            work.old.tree.steps.items work.old.tree.goals.items
+            (points.old.items ++ last ∷ []) later begun ledger.old.used left.old
+            → IsEnd P self.now.limit begun ledger.new.used ledger.new.budget v) }
+        ensures counted { (P : Problem) (base : ℕ) (later : List (List Choice)) (begun : ℕ)
+            → IsSpace P self.now.matrix.now self.now.limit
+            → IsExploring P self.now.matrix.now base self.now.limit store.old.store
+            work.old.tree.steps.items work.old.tree.goals.items
+            (points.old.items ++ last ∷ []) later begun ledger.old.used left.old
+            → IsCounted P self.now.limit begun ledger.new.used }
+        ensures budget { ledger.new.budget ≡ ledger.old.budget }
+        ensures falls { IfOk result (λ v. IfOn v (
+            work_left ledger.old.budget ledger.new.used points.new.items
+            < work_left ledger.old.budget ledger.old.used (points.old.items ++ last ∷ []))) }
+        ensures above { OnOk result ((k : TrailMark) → IsGood k store.old.store
+            → AreAbove k (points.old.items ++ last ∷ []) → AreAbove k points.new.items) }
+        ensures moment { (k : TrailMark) → IsGood k store.old.store
+            → AreAbove k (points.old.items ++ last ∷ [])
+            → KeepsMoment k store.old.store store.new.store }
+        ensures room { KeepsRoom store.old store.new }
+    {
+        last.return_to(store, &mut work.tree);
+        let mut point = last;
+        let choice = match point.next(self.matrix, &work.tree)? {
+            Some(choice) => choice,
+            None => return Ok(Visit::On),
+        };
+        points.push(point)?;
+        if !work.make(store, self.matrix, point.goal, choice)? {
+            return Ok(Visit::On);
+        }
+        let visit = self.visit(ledger, store, work, points, left)?;
+        Ok(visit)
+    }
+
+    // Tries all choices of the choice points.
+    pub(crate) fn explore(
+        &self,
+        ledger: &mut Ledger,
+        store: &mut Store,
+        work: &mut Work,
+        points: &mut Vec<Point>,
+        left: &mut bool,
+    ) -> Result<Visit, NoMemory>
+        requires { (P : Problem) × (base : ℕ) × (later : List (List Choice)) × (begun : ℕ)
+            × IsSpace P self.now.matrix.now self.now.limit
+            × IsExploring P self.now.matrix.now base self.now.limit store.old.store
+            work.old.tree.steps.items work.old.tree.goals.items
+            points.old.items later begun ledger.old.used left.old }
+        ensures on { IfOk result (λ v. IfOn v ((P : Problem) (base : ℕ)
+            (later : List (List Choice)) (begun : ℕ)
+            → IsSpace P self.now.matrix.now self.now.limit
+            → IsExploring P self.now.matrix.now base self.now.limit store.old.store
+            work.old.tree.steps.items work.old.tree.goals.items
+            points.old.items later begun ledger.old.used left.old
+            → IsSearched P self.now.limit later begun ledger.new.used left.new)) }
+        ensures end { IfOk result (λ v. (P : Problem) (base : ℕ)
+            (later : List (List Choice)) (begun : ℕ)
+            → IsSpace P self.now.matrix.now self.now.limit
+            → IsExploring P self.now.matrix.now base self.now.limit store.old.store
+            work.old.tree.steps.items work.old.tree.goals.items
+            points.old.items later begun ledger.old.used left.old
+            → IsEnd P self.now.limit begun ledger.new.used ledger.new.budget v) }
+        ensures counted { (P : Problem) (base : ℕ) (later : List (List Choice)) (begun : ℕ)
+            → IsSpace P self.now.matrix.now self.now.limit
+            → IsExploring P self.now.matrix.now base self.now.limit store.old.store
+            work.old.tree.steps.items work.old.tree.goals.items
+            points.old.items later begun ledger.old.used left.old
+            → IsCounted P self.now.limit begun ledger.new.used }
+        ensures budget { ledger.new.budget ≡ ledger.old.budget }
+        ensures moment { (k : TrailMark) → IsGood k store.old.store → AreAbove k points.old.items
+            → KeepsMoment k store.old.store store.new.store }
+        ensures room { KeepsRoom store.old store.new }
+    {
+        while let Some(point) = points.pop() {
+            match self.try_next(ledger, store, work, points, left, point)? {
+                Visit::On => {}
+                Visit::Closed(tableau) => return Ok(Visit::Closed(tableau)),
+                Visit::Steps => return Ok(Visit::Steps),
+            }
+        }
+        Ok(Visit::On)
+    }
+}

@@ -1,0 +1,20 @@
+//! The connection search with a budget, and deepening on the path limit.
+#![tactic(auto)]
+
+mod atoms;
+mod deepening;
+mod exploring;
+mod heads;
+mod moves;
+mod point;
+mod reading;
+mod regular;
+mod searching;
+mod space;
+mod terms;
+#[cfg(test)]
+mod tests;
+mod tree;
+
+pub use deepening::{Answer, deepen};
+pub use searching::{Outcome, search, search_in};

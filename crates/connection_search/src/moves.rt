@@ -1,0 +1,295 @@
+//! Start, reduction and extension.
+
+ghost use Rattle.std.specs.Prelude.{◌≡◌, ◌<◌, ◌++◌, ◌∷◌, [], ℕ, List, IfOk, IsTrue};
+ghost use Rattle.std.specs.Prelude.{OnOk, Some, drop, false, length, option_map, slice_get, true};
+ghost use Rattle.std.specs.List.{AllByRecursion};
+ghost use Rattle.calculus.specs.Bindings.{KeepsMarks};
+ghost use Rattle.calculus.specs.Choices.{Choice, reduction, start};
+ghost use Rattle.calculus.specs.Syntax.{Problem};
+ghost use Rattle.matrix_build.specs.MatrixView.{the_place};
+ghost use Rattle.search_theory.proofs.BeginningLaws.{IsDead};
+ghost use Rattle.search_theory.specs.Matrix.{MatrixClause, all_shown};
+ghost use Rattle.search_theory.specs.Regular.{HasNoSamePair};
+ghost use Rattle.search_theory.specs.Stack.{extension_at, selection_of};
+ghost use Rattle.search_theory.specs.States.{CellChoice, CellGoal, CellGrowth};
+ghost use Rattle.term_store.specs.Room.{KeepsRoom};
+ghost use Rattle.connection_search.specs.Points.{IsMoveAt, the_move};
+ghost use Rattle.connection_search.specs.Running.{ExtendsBy, IsAt, IsAtGoal, IsClassicalMatrix};
+ghost use Rattle.connection_search.specs.Running.{ReducesBy, StandsDeep, StandsFor};
+ghost use Rattle.connection_search.specs.Trees.{KeepsTree};
+
+use crate::atoms::unify_all;
+use crate::heads::has_clash;
+use crate::point::Move;
+use crate::regular::{are_new_from, is_new};
+use crate::tree::{Copied, Tree};
+use cop_base::{ClauseId, NoMemory};
+use matrix_build::{Matrix, Place};
+use std::alloc::Global;
+use term_store::Store;
+use term_unify::Unifier;
+
+/// What a search works on: the store's bindings, and the tree over its cells.
+#[derive(Drop)]
+pub(crate) struct Work {
+    pub alloc: Global,
+    pub tree: Tree,
+    pub unifier: Unifier,
+}
+
+impl Work {
+    pub fn new(alloc: Global) -> Work
+        ensures steps { result.tree.steps.items ≡ [] }
+        ensures goals { result.tree.goals.items ≡ [] }
+    {
+        Work {
+            alloc,
+            tree: Tree::new(alloc),
+            unifier: Unifier::new(alloc),
+        }
+    }
+
+    /// Starts a tree with the clause.
+    pub fn start(
+        &mut self,
+        store: &mut Store,
+        matrix: &Matrix,
+        clause: ClauseId,
+    ) -> Result<(), NoMemory>
+        requires matrix { (P : Problem) × IsClassicalMatrix P matrix.now }
+        requires clause { clause.0 < length matrix.now }
+        requires steps { self.old.tree.steps.items ≡ [] }
+        requires goals { self.old.tree.goals.items ≡ [] }
+        ensures started { OnOk result ((P : Problem) (d : ℕ) → IsClassicalMatrix P matrix.now
+            → option_map (λ (x : MatrixClause). all_shown x.template)
+            (slice_get matrix.now clause.0) ≡ Some true
+            → StandsFor P matrix.now (length store.old.store.cells) d
+            (start (selection_of (slice_get matrix.now clause.0)) ∷ [])
+            store.new.store self.new.tree.steps.items self.new.tree.goals.items
+            self.new.tree.open) }
+        ensures marks { KeepsMarks store.old.store store.new.store }
+        ensures room { KeepsRoom store.old store.new }
+    {
+        let _before = store.mark();
+        let copy = store.copy_clause(matrix.template(clause))?;
+        let _after = store.mark();
+        self.tree.start(Copied { clause, copy })?;
+        Ok(())
+    }
+
+    fn reduce(
+        &mut self,
+        store: &mut Store,
+        goal: usize,
+        up: u32,
+        ancestor: usize,
+    ) -> Result<bool, NoMemory>
+        requires { (P : Problem) × (m : List MatrixClause) × (base : ℕ) × (d : ℕ)
+            × (c : List Choice) × (g : CellGoal)
+            × IsAtGoal P m base d c store.old.store self.old.tree.steps.items
+            self.old.tree.goals.items goal g
+            × ReducesBy self.old.tree.steps.items self.old.tree.goals.items g up ancestor }
+        ensures made { IfOk result (λ made. made ≡ true
+            → (P : Problem) (m : List MatrixClause) (base d : ℕ) (c : List Choice) (g : CellGoal)
+            → IsAtGoal P m base d c store.old.store self.old.tree.steps.items
+            self.old.tree.goals.items goal g
+            → ReducesBy self.old.tree.steps.items self.old.tree.goals.items g up ancestor
+            → StandsFor P m base d (c ++ reduction up ∷ []) store.new.store
+            self.new.tree.steps.items self.new.tree.goals.items self.new.tree.open) }
+        ensures refused { IfOk result (λ made. made ≡ false
+            → (P : Problem) (m : List MatrixClause) (base d : ℕ) (c : List Choice) (g : CellGoal)
+            → IsAtGoal P m base d c store.old.store self.old.tree.steps.items
+            self.old.tree.goals.items goal g
+            → ReducesBy self.old.tree.steps.items self.old.tree.goals.items g up ancestor
+            → IsDead P (c ++ reduction up ∷ [])) }
+        ensures kept { OnOk result (KeepsTree self.old.tree.steps.items self.old.tree.goals.items
+            self.new.tree.steps.items self.new.tree.goals.items) }
+        ensures marks { KeepsMarks store.old.store store.new.store }
+        ensures room { KeepsRoom store.old store.new }
+    {
+        let xs = self.tree.atom(goal).args.items();
+        let ys = self.tree.atom(ancestor).args.items();
+        if !unify_all(&mut self.unifier, store, xs, ys)? {
+            return Ok(false);
+        }
+        let _met = store.mark();
+        self.tree.reduce(goal, up)?;
+        let new = self.is_leftmost_new(store)?;
+        Ok(new)
+    }
+
+    /// Extends the goal by the literal at the place, which has its symbol and the other sign.
+    pub fn extend(
+        &mut self,
+        store: &mut Store,
+        matrix: &Matrix,
+        goal: usize,
+        place: Place,
+    ) -> Result<bool, NoMemory>
+        requires { (P : Problem) × (base : ℕ) × (d : ℕ) × (c : List Choice) × (g : CellGoal)
+            × IsClassicalMatrix P matrix.now
+            × IsAtGoal P matrix.now base d c store.old.store self.old.tree.steps.items
+            self.old.tree.goals.items goal g
+            × ExtendsBy matrix.now d g (the_place place) }
+        ensures made { IfOk result (λ made. made ≡ true
+            → (P : Problem) (base d : ℕ) (c : List Choice) (g : CellGoal)
+            → IsClassicalMatrix P matrix.now
+            → IsAtGoal P matrix.now base d c store.old.store self.old.tree.steps.items
+            self.old.tree.goals.items goal g
+            → ExtendsBy matrix.now d g (the_place place)
+            → StandsFor P matrix.now base d (c ++ extension_at matrix.now (the_place place) ∷ [])
+            store.new.store self.new.tree.steps.items self.new.tree.goals.items
+            self.new.tree.open) }
+        ensures deep { IfOk result (λ made. made ≡ true
+            → (P : Problem) (base d : ℕ) (c : List Choice) (g : CellGoal)
+            → IsClassicalMatrix P matrix.now
+            → IsAtGoal P matrix.now base d c store.old.store self.old.tree.steps.items
+            self.old.tree.goals.items goal g
+            → ExtendsBy matrix.now d g (the_place place)
+            → StandsDeep P matrix.now base d (c ++ extension_at matrix.now (the_place place) ∷ [])
+            store.new.store self.new.tree.steps.items self.new.tree.goals.items self.new.tree.open
+            (length g.path)) }
+        ensures refused { IfOk result (λ made. made ≡ false
+            → (P : Problem) (base d : ℕ) (c : List Choice) (g : CellGoal)
+            → IsClassicalMatrix P matrix.now
+            → IsAtGoal P matrix.now base d c store.old.store self.old.tree.steps.items
+            self.old.tree.goals.items goal g
+            → ExtendsBy matrix.now d g (the_place place)
+            → IsDead P (c ++ extension_at matrix.now (the_place place) ∷ [])) }
+        ensures kept { OnOk result (KeepsTree self.old.tree.steps.items self.old.tree.goals.items
+            self.new.tree.steps.items self.new.tree.goals.items) }
+        ensures marks { KeepsMarks store.old.store store.new.store }
+        ensures room { KeepsRoom store.old store.new }
+    {
+        let _before = store.mark();
+        let template = matrix.template(place.clause);
+        let at = place.literal as usize;
+        if has_clash(store, self.tree.atom(goal), &template.literals.items()[at]) {
+            return Ok(false);
+        }
+        let head = store.copy_literal(template, at)?;
+        let terms = self.tree.atom(goal).args.items();
+        if !unify_all(&mut self.unifier, store, terms, head.atom.args.items())? {
+            return Ok(false);
+        }
+        let copy = store.copy_rest(template, head.variables, at)?;
+        let _after = store.mark();
+        let copied = Copied {
+            clause: place.clause,
+            copy,
+        };
+        let first = self.tree.goals.len();
+        self.tree.extend(goal, copied, place.literal, head.atom)?;
+        let regular = self.is_regular_from(store, first)?;
+        Ok(regular)
+    }
+
+    // Whether the leftmost open goal is the same as none above it.
+    fn is_leftmost_new(&mut self, store: &Store) -> Result<bool, NoMemory>
+        requires { (P : Problem) × (m : List MatrixClause) × (base : ℕ) × (d : ℕ)
+            × (c : List Choice)
+            × StandsFor P m base d c store.now.store self.old.tree.steps.items
+            self.old.tree.goals.items self.old.tree.open }
+        ensures repeated { IfOk result (λ new. new ≡ false
+            → (P : Problem) (m : List MatrixClause) (base d : ℕ) (c : List Choice)
+            → StandsFor P m base d c store.now.store self.old.tree.steps.items
+            self.old.tree.goals.items self.old.tree.open → IsDead P c) }
+        ensures tree { self.new.tree ≡ self.old.tree }
+    {
+        match self.tree.open {
+            None => Ok(true),
+            Some(next) => {
+                let new = is_new(&mut self.unifier, store, &self.tree, next)?;
+                Ok(new)
+            }
+        }
+    }
+
+    // Whether the goals from this number on and the leftmost open goal are the same as none above
+    // them.
+    fn is_regular_from(&mut self, store: &Store, first: usize) -> Result<bool, NoMemory>
+        requires { (P : Problem) × (m : List MatrixClause) × (base : ℕ) × (d : ℕ)
+            × (c : List Choice)
+            × StandsFor P m base d c store.now.store self.old.tree.steps.items
+            self.old.tree.goals.items self.old.tree.open }
+        ensures repeated { IfOk result (λ new. new ≡ false
+            → (P : Problem) (m : List MatrixClause) (base d : ℕ) (c : List Choice)
+            → StandsFor P m base d c store.now.store self.old.tree.steps.items
+            self.old.tree.goals.items self.old.tree.open → IsDead P c) }
+        ensures tree { self.new.tree ≡ self.old.tree }
+    {
+        if first < self.tree.goals.len() {
+            let new = are_new_from(&mut self.unifier, store, &self.tree, first)?;
+            return Ok(new);
+        }
+        let new = self.is_leftmost_new(store)?;
+        Ok(new)
+    }
+
+    /// Makes the choice at the goal, where it can be made.
+    pub fn make(
+        &mut self,
+        store: &mut Store,
+        matrix: &Matrix,
+        goal: usize,
+        choice: Move,
+    ) -> Result<bool, NoMemory>
+        requires { (P : Problem) × (base : ℕ) × (d : ℕ) × (c : List Choice) × (g : CellGoal)
+            × IsClassicalMatrix P matrix.now
+            × IsAtGoal P matrix.now base d c store.old.store self.old.tree.steps.items
+            self.old.tree.goals.items goal g
+            × IsMoveAt matrix.now d self.old.tree.steps.items self.old.tree.goals.items g choice }
+        ensures made { IfOk result (λ made. made ≡ true
+            → (P : Problem) (base d : ℕ) (c : List Choice) (g : CellGoal)
+            → IsClassicalMatrix P matrix.now
+            → IsAtGoal P matrix.now base d c store.old.store self.old.tree.steps.items
+            self.old.tree.goals.items goal g
+            → IsMoveAt matrix.now d self.old.tree.steps.items self.old.tree.goals.items g choice
+            → StandsFor P matrix.now base d (c ++ the_move matrix.now choice ∷ []) store.new.store
+            self.new.tree.steps.items self.new.tree.goals.items self.new.tree.open) }
+        ensures refused { IfOk result (λ made. made ≡ false
+            → (P : Problem) (base d : ℕ) (c : List Choice) (g : CellGoal)
+            → IsClassicalMatrix P matrix.now
+            → IsAtGoal P matrix.now base d c store.old.store self.old.tree.steps.items
+            self.old.tree.goals.items goal g
+            → IsMoveAt matrix.now d self.old.tree.steps.items self.old.tree.goals.items g choice
+            → IsDead P (c ++ the_move matrix.now choice ∷ [])) }
+        ensures kept { OnOk result (KeepsTree self.old.tree.steps.items self.old.tree.goals.items
+            self.new.tree.steps.items self.new.tree.goals.items) }
+        ensures marks { KeepsMarks store.old.store store.new.store }
+        ensures room { KeepsRoom store.old store.new }
+    {
+        match choice {
+            Move::Reduce(up, ancestor) => {
+                let made = self.reduce(store, goal, up, ancestor)?;
+                Ok(made)
+            }
+            Move::Extend(place) => {
+                let made = self.extend(store, matrix, goal, place)?;
+                Ok(made)
+            }
+        }
+    }
+
+    /// Whether no goal is the same as one above it.
+    pub fn is_regular(&mut self, store: &Store) -> Result<bool, NoMemory>
+        requires { (P : Problem) × (m : List MatrixClause) × (base : ℕ) × (d : ℕ)
+            × (c : List Choice)
+            × StandsFor P m base d c store.now.store self.old.tree.steps.items
+            self.old.tree.goals.items self.old.tree.open }
+        ensures new { IfOk result (λ new. new ≡ true
+            → (P : Problem) (m : List MatrixClause) (base d : ℕ) (c : List Choice)
+            (cs : List CellChoice) (x : CellGrowth)
+            → IsAt P m base d c store.now.store self.old.tree.steps.items self.old.tree.goals.items
+            self.old.tree.open cs x
+            → HasNoSamePair (record { store = store.now.store; choices = cs; growth = x })) }
+        ensures repeated { IfOk result (λ new. new ≡ false
+            → (P : Problem) (m : List MatrixClause) (base d : ℕ) (c : List Choice)
+            → StandsFor P m base d c store.now.store self.old.tree.steps.items
+            self.old.tree.goals.items self.old.tree.open → IsDead P c) }
+        ensures tree { self.new.tree ≡ self.old.tree }
+    {
+        let new = are_new_from(&mut self.unifier, store, &self.tree, 0)?;
+        Ok(new)
+    }
+}

@@ -1,0 +1,76 @@
+//! Regularity: no goal is the same as one above it.
+
+ghost use Rattle.std.specs.Prelude.{◌≡◌, ℕ, List, IfOk, IsTrue, drop, false, length, true};
+ghost use Rattle.std.specs.List.{AllByRecursion, list_all};
+ghost use Rattle.calculus.specs.Syntax.{Problem};
+ghost use Rattle.search_theory.specs.Regular.{IsNewGoal, is_classical_goal, is_classical_store};
+ghost use Rattle.search_theory.specs.States.{CellGoal, goal_is_below};
+ghost use Rattle.connection_search.specs.Sameness.{AnyRepeated, IsRepeated};
+ghost use Rattle.connection_search.specs.Trees.{AreGoals, IsGoalAt};
+
+use crate::atoms::are_same;
+use crate::tree::Tree;
+use cop_base::NoMemory;
+use term_store::Store;
+use term_unify::Unifier;
+
+/// Whether the goal is the same as none above it, under the bindings.
+pub(crate) fn is_new(
+    unifier: &mut Unifier,
+    store: &Store,
+    tree: &Tree,
+    goal: usize,
+) -> Result<bool, NoMemory>
+    requires { (x : CellGoal) × IsGoalAt tree.now.steps.items tree.now.goals.items goal x
+        × IsTrue (goal_is_below (length store.now.store.cells) x) }
+    ensures new { IfOk result (λ new. new ≡ true → (P : Problem) (base : ℕ) (x : CellGoal)
+        → IsGoalAt tree.now.steps.items tree.now.goals.items goal x
+        → IsTrue (is_classical_store P base store.now.store)
+        → IsTrue (is_classical_goal base store.now.store x) → IsNewGoal store.now.store x) }
+    ensures repeated { IfOk result (λ new. new ≡ false → (base : ℕ) (x : CellGoal)
+        → IsGoalAt tree.now.steps.items tree.now.goals.items goal x
+        → IsTrue (is_classical_goal base store.now.store x) → IsRepeated store.now.store x) }
+{
+    let at = tree.goals[goal];
+    let mut above = at.above;
+    for _i in 0..at.depth {
+        match above {
+            None => return Ok(true),
+            Some(ancestor) => {
+                if are_same(unifier, store, tree.atom(goal), tree.atom(ancestor))? {
+                    return Ok(false);
+                }
+                above = tree.goals[ancestor].above;
+            }
+        }
+    }
+    Ok(true)
+}
+
+/// Whether this holds of the goals from this number on.
+pub(crate) fn are_new_from(
+    unifier: &mut Unifier,
+    store: &Store,
+    tree: &Tree,
+    first: usize,
+) -> Result<bool, NoMemory>
+    requires { (xs : List CellGoal)
+        × AreGoals tree.now.steps.items tree.now.goals.items tree.now.goals.items xs
+        × IsTrue (list_all (goal_is_below (length store.now.store.cells)) xs) }
+    ensures new { IfOk result (λ new. new ≡ true → (P : Problem) (base : ℕ) (xs : List CellGoal)
+        → AreGoals tree.now.steps.items tree.now.goals.items tree.now.goals.items xs
+        → IsTrue (is_classical_store P base store.now.store)
+        → IsTrue (list_all (is_classical_goal base store.now.store) xs)
+        → AllByRecursion (IsNewGoal store.now.store) (drop first xs)) }
+    ensures repeated { IfOk result (λ new. new ≡ false → (base : ℕ) (xs : List CellGoal)
+        → AreGoals tree.now.steps.items tree.now.goals.items tree.now.goals.items xs
+        → IsTrue (list_all (is_classical_goal base store.now.store) xs)
+        → AnyRepeated store.now.store xs) }
+{
+    for goal in first..tree.goals.len() {
+        if !is_new(unifier, store, tree, goal)? {
+            return Ok(false);
+        }
+    }
+    Ok(true)
+}

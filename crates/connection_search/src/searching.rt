@@ -1,0 +1,243 @@
+//! The search at one path limit.
+
+ghost use Rattle.std.specs.Prelude.{◌≡◌, ◌≤◌, ◌<◌, ◌-◌, ◌∷◌, [], ℕ, IfOk, List, OnOk, length, slice_get};
+ghost use Rattle.calculus.specs.Bindings.{KeepsMarks};
+ghost use Rattle.calculus.specs.Choices.{Choice, start};
+ghost use Rattle.calculus.specs.Counting.{AtLeastMany, MoreThan};
+ghost use Rattle.calculus.specs.Space.{IsEarly, member_cmp};
+ghost use Rattle.calculus.specs.Syntax.{Problem};
+ghost use Rattle.calculus.specs.declared.setting.Logic.TheVariants.{Classical};
+ghost use Rattle.search_theory.specs.Matrix.{IsTemplateMatrix};
+ghost use Rattle.search_theory.specs.Stack.{selection_of};
+ghost use Rattle.term_store.specs.Room.{KeepsRoom, spare};
+ghost use Rattle.connection_search.specs.Exploring.{IfOn, IsCounted, IsEnd, IsSearched, IsSpace, IsVisiting};
+ghost use Rattle.connection_search.specs.Outcomes.{IfSteps, IsOutcome};
+
+use crate::exploring::Visit;
+use crate::moves::Work;
+use crate::space::Space;
+use cop_base::{ClauseId, Ledger, NoMemory};
+use logic_rules::Problem;
+use matrix_build::Matrix;
+use std::alloc::Global;
+use tableau_core::Tableau;
+use term_store::Store;
+
+/// What a search at one limit answers.
+#[derive(Drop)]
+pub enum Outcome {
+    /// A tableau that is closed within the limit.
+    Closed(Tableau),
+    /// There is none; `left` tells whether the limit stopped the search.
+    Empty { left: bool },
+    /// The budget is used up.
+    Steps,
+}
+
+// The number of a clause. Numbers beyond 32 bits are beyond memory.
+fn clause_id(number: usize) -> Result<ClauseId, NoMemory>
+    ensures { IfOk result (λ c. c.0 ≡ number) }
+{
+    match u32::try_from(number) {
+        Ok(n) => Ok(ClauseId(n)),
+        Err(_) => Err(NoMemory),
+    }
+}
+
+impl Space<'_> {
+    // Searches all that begins with the choices made so far.
+    fn search_from(
+        &self,
+        ledger: &mut Ledger,
+        store: &mut Store,
+        work: &mut Work,
+        left: &mut bool,
+    ) -> Result<Visit, NoMemory>
+        requires { (P : Problem) × (base : ℕ) × (later : List (List Choice)) × (begun : ℕ)
+            × IsSpace P self.now.matrix.now self.now.limit
+            × IsVisiting P self.now.matrix.now base self.now.limit store.old.store
+            work.old.tree.steps.items work.old.tree.goals.items work.old.tree.open
+            [] later begun ledger.old.used left.old }
+        ensures on { IfOk result (λ v. IfOn v ((P : Problem) (base : ℕ)
+            (later : List (List Choice)) (begun : ℕ)
+            → IsSpace P self.now.matrix.now self.now.limit
+            → IsVisiting P self.now.matrix.now base self.now.limit store.old.store
+            work.old.tree.steps.items work.old.tree.goals.items work.old.tree.open
+            [] later begun ledger.old.used left.old
+            → IsSearched P self.now.limit later begun ledger.new.used left.new)) }
+        ensures end { IfOk result (λ v. (P : Problem) (base : ℕ)
+            (later : List (List Choice)) (begun : ℕ)
+            → IsSpace P self.now.matrix.now self.now.limit
+            → IsVisiting P self.now.matrix.now base self.now.limit store.old.store
+            work.old.tree.steps.items work.old.tree.goals.items work.old.tree.open
+            [] later begun ledger.old.used left.old
+            → IsEnd P self.now.limit begun ledger.new.used ledger.new.budget v) }
+        ensures counted { (P : Problem) (base : ℕ)
+            (later : List (List Choice)) (begun : ℕ)
+            → IsSpace P self.now.matrix.now self.now.limit
+            → IsVisiting P self.now.matrix.now base self.now.limit store.old.store
+            work.old.tree.steps.items work.old.tree.goals.items work.old.tree.open
+            [] later begun ledger.old.used left.old
+            → IsCounted P self.now.limit begun ledger.new.used }
+        ensures budget { ledger.new.budget ≡ ledger.old.budget }
+        ensures marks { KeepsMarks store.old.store store.new.store }
+        ensures room { KeepsRoom store.old store.new }
+    {
+        let mut points = Vec::new(work.alloc);
+        match self.visit(ledger, store, work, &mut points, left)? {
+            Visit::On => {
+                let found = self.explore(ledger, store, work, &mut points, left)?;
+                Ok(found)
+            }
+            Visit::Closed(tableau) => Ok(Visit::Closed(tableau)),
+            Visit::Steps => Ok(Visit::Steps),
+        }
+    }
+
+    // Searches all that begins with the clause, which may have a literal of sign T.
+    fn start_with(
+        &self,
+        ledger: &mut Ledger,
+        store: &mut Store,
+        work: &mut Work,
+        clause: ClauseId,
+        left: &mut bool,
+    ) -> Result<Visit, NoMemory>
+        requires searched { (P : Problem) × (later : List (List Choice)) × (begun : ℕ)
+            × IsSpace P self.now.matrix.now self.now.limit
+            × IsSearched P self.now.limit
+            ((start (selection_of (slice_get self.now.matrix.now clause.0)) ∷ []) ∷ later)
+            begun ledger.old.used left.old }
+        requires clause { clause.0 < length self.now.matrix.now }
+        requires steps { work.old.tree.steps.items ≡ [] }
+        requires goals { work.old.tree.goals.items ≡ [] }
+        ensures on { IfOk result (λ v. IfOn v ((P : Problem) (later : List (List Choice)) (begun : ℕ)
+            → IsSpace P self.now.matrix.now self.now.limit
+            → IsSearched P self.now.limit
+            ((start (selection_of (slice_get self.now.matrix.now clause.0)) ∷ []) ∷ later)
+            begun ledger.old.used left.old
+            → IsSearched P self.now.limit later begun ledger.new.used left.new)) }
+        ensures end { IfOk result (λ v. (P : Problem) (later : List (List Choice)) (begun : ℕ)
+            → IsSpace P self.now.matrix.now self.now.limit
+            → IsSearched P self.now.limit
+            ((start (selection_of (slice_get self.now.matrix.now clause.0)) ∷ []) ∷ later)
+            begun ledger.old.used left.old
+            → IsEnd P self.now.limit begun ledger.new.used ledger.new.budget v) }
+        ensures counted { (P : Problem) (later : List (List Choice)) (begun : ℕ)
+            → IsSpace P self.now.matrix.now self.now.limit
+            → IsSearched P self.now.limit
+            ((start (selection_of (slice_get self.now.matrix.now clause.0)) ∷ []) ∷ later)
+            begun ledger.old.used left.old
+            → IsCounted P self.now.limit begun ledger.new.used }
+        ensures budget { ledger.new.budget ≡ ledger.old.budget }
+        ensures store { OnOk result (store.new.store ≡ store.old.store) }
+        ensures steps { OnOk result (work.new.tree.steps.items ≡ []) }
+        ensures goals { OnOk result (work.new.tree.goals.items ≡ []) }
+        ensures marks { KeepsMarks store.old.store store.new.store }
+        ensures room { KeepsRoom store.old store.new }
+    {
+        let starts = self.matrix.is_start(clause);
+        if !starts {
+            return Ok(Visit::On);
+        }
+        let mark = store.mark();
+        work.start(store, self.matrix, clause)?;
+        let found = self.search_from(ledger, store, work, left)?;
+        store.undo(mark);
+        work.tree.cut(0, 0, None);
+        Ok(found)
+    }
+
+    // Searches all, clause after clause.
+    fn run(
+        &self,
+        alloc: Global,
+        ledger: &mut Ledger,
+        store: &mut Store,
+    ) -> Result<Outcome, NoMemory>
+        requires { (P : Problem) × IsSpace P self.now.matrix.now self.now.limit }
+        ensures outcome { IfOk result (λ o. (P : Problem)
+            → IsSpace P self.now.matrix.now self.now.limit → IsOutcome P self.now.limit o) }
+        ensures steps { IfOk result (λ o. IfSteps o ((P : Problem)
+            → IsSpace P self.now.matrix.now self.now.limit
+            → (ledger.new.used ≡ ledger.new.budget)
+            × MoreThan member_cmp (IsEarly P self.now.limit) (ledger.new.used - ledger.old.used))) }
+        ensures counted { (P : Problem) → IsSpace P self.now.matrix.now self.now.limit
+            → IsCounted P self.now.limit ledger.old.used ledger.new.used }
+        ensures budget { ledger.new.budget ≡ ledger.old.budget }
+        ensures store { OnOk result (store.new.store ≡ store.old.store) }
+        ensures marks { KeepsMarks store.old.store store.new.store }
+        ensures room { KeepsRoom store.old store.new }
+    {
+        let mut work = Work::new(alloc);
+        let mut left = false;
+        for number in 0..self.matrix.len() {
+            let clause = clause_id(number)?;
+            match self.start_with(ledger, store, &mut work, clause, &mut left)? {
+                Visit::On => {}
+                Visit::Closed(tableau) => return Ok(Outcome::Closed(tableau)),
+                Visit::Steps => return Ok(Outcome::Steps),
+            }
+        }
+        Ok(Outcome::Empty { left })
+    }
+}
+
+/// Searches for a tableau that is closed within the limit, over new cells of the store, which are
+/// given back.
+pub fn search_in(
+    alloc: Global,
+    problem: &Problem,
+    matrix: &Matrix,
+    limit: u8,
+    ledger: &mut Ledger,
+    store: &mut Store,
+) -> Result<Outcome, NoMemory>
+    requires classical { problem.now.setting.logic ≡ Classical }
+    requires matrix { IsTemplateMatrix problem.now matrix.now }
+    requires from_one { 1 ≤ limit }
+    requires to_200 { limit ≤ 200 }
+    ensures outcome { IfOk result (IsOutcome problem.now limit) }
+    ensures steps { IfOk result (λ o. IfSteps o ((ledger.new.used ≡ ledger.new.budget)
+        × MoreThan member_cmp (IsEarly problem.now limit) (ledger.old.budget - ledger.old.used))) }
+    ensures count { AtLeastMany member_cmp (IsEarly problem.now limit)
+        (ledger.new.used - ledger.old.used) }
+    ensures rises { ledger.old.used ≤ ledger.new.used }
+    ensures budget { ledger.new.budget ≡ ledger.old.budget }
+    ensures store { store.new.store ≡ store.old.store }
+    ensures spare { spare store.old ≤ spare store.new }
+{
+    let _setting = problem.setting();
+    let start = store.mark();
+    let space = Space {
+        matrix,
+        limit: limit as usize,
+    };
+    let outcome = space.run(alloc, ledger, store);
+    store.undo(start);
+    outcome
+}
+
+/// Searches for a tableau that is closed within the limit, over the problem's own matrix.
+pub fn search(
+    alloc: Global,
+    problem: &Problem,
+    matrix: &Matrix,
+    limit: u8,
+    ledger: &mut Ledger,
+) -> Result<Outcome, NoMemory>
+    requires classical { problem.now.setting.logic ≡ Classical }
+    requires matrix { IsTemplateMatrix problem.now matrix.now }
+    requires from_one { 1 ≤ limit }
+    requires to_200 { limit ≤ 200 }
+    ensures outcome { IfOk result (IsOutcome problem.now limit) }
+    ensures steps { IfOk result (λ o. IfSteps o ((ledger.new.used ≡ ledger.new.budget)
+        × MoreThan member_cmp (IsEarly problem.now limit) (ledger.old.budget - ledger.old.used))) }
+    ensures count { AtLeastMany member_cmp (IsEarly problem.now limit)
+        (ledger.new.used - ledger.old.used) }
+    ensures rises { ledger.old.used ≤ ledger.new.used }
+    ensures budget { ledger.new.budget ≡ ledger.old.budget }
+{
+    let mut store = Store::new(alloc)?;
+    search_in(alloc, problem, matrix, limit, ledger, &mut store)
+}

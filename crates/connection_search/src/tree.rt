@@ -1,0 +1,212 @@
+//! The tree that the choices made so far have grown.
+
+ghost use Rattle.std.specs.Prelude.{◌≡◌, ◌<◌, ◌≤◌, ◌+◌, ◌-◌, ◌^◌, ◌++◌, ◌∷◌, []};
+ghost use Rattle.std.specs.Prelude.{ℕ, List, None, Some, OnOk, map, slice_get, length, take};
+ghost use Rattle.calculus.specs.Choices.{reduction, start};
+ghost use Rattle.search_theory.specs.Matrix.{MatrixClause};
+ghost use Rattle.search_theory.specs.States.{CellChoice, CellGoal, extended, reduced, started};
+ghost use Rattle.calculus.specs.Systems as cells;
+ghost use Rattle.term_store.specs.ClauseView.{the_atom};
+ghost use Rattle.connection_search.specs.Trees.{IsTree, KeepsTree, atom_at, clause_with};
+ghost use Rattle.connection_search.specs.Trees.{fresh_goals, goals_of, inserted, link_from};
+ghost use Rattle.connection_search.specs.Trees.{the_step};
+
+use cop_base::{ClauseId, NoMemory};
+use std::alloc::Global;
+use term_store::{CellAtom, CopiedClause};
+
+/// A clause that was copied into the store. Its goals are the literals of the copy, which lacks the
+/// connected one.
+#[derive(Drop)]
+pub(crate) struct Copied {
+    pub clause: ClauseId,
+    pub copy: CopiedClause,
+}
+
+/// A choice that was made at the leftmost open goal.
+#[derive(Drop)]
+pub(crate) enum Step {
+    Start(Copied),
+    /// By the ancestor of this number, the nearest having number 1.
+    Reduce(u32),
+    /// By the literal at this place of the clause, which is the atom.
+    Extend(Copied, u32, CellAtom),
+}
+
+/// A goal: a literal of a step's clause. Paths and the list of open goals are linked through the
+/// list of all goals, so that going back is cutting that list.
+#[derive(Clone, Copy)]
+pub(crate) struct Goal {
+    pub step: usize,
+    pub literal: usize,
+    /// The goal above it on its branch.
+    pub above: Option<usize>,
+    /// The goal that is open behind it.
+    pub behind: Option<usize>,
+    /// How many goals are above it.
+    pub depth: usize,
+}
+
+/// The choices made, the goals so far, and the leftmost open goal.
+#[derive(Drop)]
+pub(crate) struct Tree {
+    pub steps: Vec<Step>,
+    pub goals: Vec<Goal>,
+    pub open: Option<usize>,
+}
+
+// The literals of the goals that the step gave.
+fn goals_of(step: &Step) -> &[CellAtom]
+    ensures { map the_atom result.now ≡ goals_of step.now }
+{
+    match step {
+        Step::Start(copied) => copied.copy.literals.items(),
+        Step::Reduce(_) => &[],
+        Step::Extend(copied, _, _) => copied.copy.literals.items(),
+    }
+}
+
+// The goal that is open from the literal j of so many on, whose goals begin with the number
+// `first`.
+fn link(first: usize, behind: Option<usize>, j: usize, count: usize) -> Option<usize>
+    requires within { j ≤ count }
+    requires fits { first + count < 2 ^ 64 }
+    ensures { result ≡ link_from first behind j (count - j) }
+{
+    if j == count {
+        return behind;
+    }
+    Some(first + j)
+}
+
+impl Tree {
+    /// No choice, and no goal.
+    pub fn new(alloc: Global) -> Tree
+        ensures steps { result.steps.items ≡ [] }
+        ensures goals { result.goals.items ≡ [] }
+        ensures open { result.open ≡ None }
+    {
+        Tree {
+            steps: Vec::new(alloc),
+            goals: Vec::new(alloc),
+            open: None,
+        }
+    }
+
+    /// The signed atom of a goal.
+    pub fn atom(&self, goal: usize) -> &CellAtom
+        requires { (g : Goal) × (a : cells.CellAtom)
+            × (slice_get self.now.goals.items goal ≡ Some g)
+            × (atom_at self.now.steps.items g ≡ Some a) }
+        ensures { (g : Goal) → slice_get self.now.goals.items goal ≡ Some g
+            → atom_at self.now.steps.items g ≡ Some (the_atom result.now) }
+    {
+        let at = self.goals[goal];
+        &goals_of(&self.steps[at.step])[at.literal]
+    }
+
+    /// Back to so many choices and goals, when `first` was the leftmost open goal.
+    pub fn cut(&mut self, steps: usize, goals: usize, first: Option<usize>)
+        ensures steps { self.new.steps.items ≡ take steps self.old.steps.items }
+        ensures goals { self.new.goals.items ≡ take goals self.old.goals.items }
+        ensures first { self.new.open ≡ first }
+    {
+        self.steps.truncate(steps);
+        self.goals.truncate(goals);
+        self.open = first;
+    }
+
+    // Adds a choice, with the goals of its clause below `above` and before `behind`.
+    fn grow(
+        &mut self,
+        step: Step,
+        above: Option<usize>,
+        behind: Option<usize>,
+        depth: usize,
+    ) -> Result<(), NoMemory>
+        ensures steps { OnOk result (self.new.steps.items ≡ self.old.steps.items ++ step ∷ []) }
+        ensures goals { OnOk result (self.new.goals.items ≡ self.old.goals.items
+            ++ fresh_goals (length self.old.steps.items) (length self.old.goals.items) above behind
+            depth 0 (length (goals_of step))) }
+        ensures first { OnOk result (self.new.open
+            ≡ link_from (length self.old.goals.items) behind 0 (length (goals_of step))) }
+    {
+        let count = goals_of(&step).len();
+        let first = self.goals.len();
+        let number = self.steps.len();
+        self.steps.push(step)?;
+        for literal in 0..count {
+            let next = link(first, behind, literal + 1, count);
+            self.goals.push(Goal {
+                step: number,
+                literal,
+                above,
+                behind: next,
+                depth,
+            })?;
+        }
+        self.open = link(first, behind, 0, count);
+        Ok(())
+    }
+
+    /// Starts a tree, where there is none.
+    pub fn start(&mut self, copied: Copied) -> Result<(), NoMemory>
+        requires steps { self.old.steps.items ≡ [] }
+        requires goals { self.old.goals.items ≡ [] }
+        ensures { OnOk result ((m : List MatrixClause) → copied.clause.0 < length m
+            → IsTree m self.new.steps.items self.new.goals.items self.new.open
+            (start (clause_with m copied copied.copy.literals) ∷ [])
+            (started (clause_with m copied copied.copy.literals))) }
+    {
+        self.grow(Step::Start(copied), None, None, 0)?;
+        Ok(())
+    }
+
+    /// Closes the leftmost open goal by the ancestor of this number.
+    pub fn reduce(&mut self, goal: usize, up: u32) -> Result<(), NoMemory>
+        requires { goal < length self.old.goals.items }
+        ensures kept { OnOk result (KeepsTree self.old.steps.items self.old.goals.items
+            self.new.steps.items self.new.goals.items) }
+        ensures tree { OnOk result ((m : List MatrixClause) (cs : List CellChoice) (g : CellGoal)
+            (gs every : List CellGoal) (ds : List ℕ)
+            → IsTree m self.old.steps.items self.old.goals.items (Some goal) cs
+            (record { open_goals = g ∷ gs; all_goals = every; depths = ds })
+            → IsTree m self.new.steps.items self.new.goals.items self.new.open
+            (cs ++ reduction up ∷ [])
+            (reduced gs (record { open_goals = g ∷ gs; all_goals = every; depths = ds }))) }
+    {
+        self.steps.push(Step::Reduce(up))?;
+        self.open = self.goals[goal].behind;
+        Ok(())
+    }
+
+    /// Extends the leftmost open goal by the literal at this place of a clause, which is the atom.
+    pub fn extend(
+        &mut self,
+        goal: usize,
+        copied: Copied,
+        place: u32,
+        atom: CellAtom,
+    ) -> Result<(), NoMemory>
+        requires goal { goal < length self.old.goals.items }
+        requires room { (g : Goal) → slice_get self.old.goals.items goal ≡ Some g → g.depth ≤ 200 }
+        requires place { place ≤ length copied.copy.literals }
+        ensures kept { OnOk result (KeepsTree self.old.steps.items self.old.goals.items
+            self.new.steps.items self.new.goals.items) }
+        ensures tree { OnOk result ((m : List MatrixClause) (cs : List CellChoice) (g : CellGoal)
+            (gs every : List CellGoal) (ds : List ℕ)
+            → copied.clause.0 < length m
+            → IsTree m self.old.steps.items self.old.goals.items (Some goal) cs
+            (record { open_goals = g ∷ gs; all_goals = every; depths = ds })
+            → IsTree m self.new.steps.items self.new.goals.items self.new.open
+            (cs ++ the_step m (Step.Extend copied place atom) ∷ [])
+            (extended g gs (clause_with m copied
+            (inserted place (the_atom atom) copied.copy.literals)) place
+            (record { open_goals = g ∷ gs; all_goals = every; depths = ds }))) }
+    {
+        let at = self.goals[goal];
+        let step = Step::Extend(copied, place, atom);
+        self.grow(step, Some(goal), at.behind, at.depth + 1)?;
+        Ok(())
+    }
+}
