@@ -4,19 +4,24 @@
 mod ahead;
 mod axiom;
 mod branch;
+mod closing;
 mod done;
 mod entry;
+mod expansion;
+mod following;
 mod literals;
 mod make;
 mod names;
 mod node;
 mod numbered;
+mod parts;
 mod past;
 mod run;
 mod source;
 mod spot;
 #[cfg(test)]
 mod tests;
+mod turns;
 
 ghost use Rattle.std.specs.Prelude.{◌≡◌, ◌≤◌, ◌++◌, IfOk, OnOk, IsTrue, false};
 ghost use Rattle.calculus.specs.DerivationText.{is_limit};

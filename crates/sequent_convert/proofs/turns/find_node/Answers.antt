@@ -2,7 +2,7 @@ use Rattle.std.proofs.Common.{arith}
 use Rattle.sequent_convert.specs.RunView.{the_source}
 use Rattle.sequent_convert.proofs.NodeLaws.{find-some, find-none}
 use Rattle.sequent_convert.proofs.StateLaws.{agenda-length}
-use Rattle.sequent_convert.proofs.run.find_node.Goals as goal
+use Rattle.sequent_convert.proofs.turns.find_node.Goals as goal
 
 pub returns-in-None : goal.returns-in-None
 returns-in-None c =

@@ -1,7 +1,7 @@
 use Rattle.std.proofs.Common.{sym, subst, inl, inr, arith}
 use Rattle.sequent_convert.specs.RunView.{the_source}
 use Rattle.sequent_convert.specs.State.{IsAwaitedBy}
-use Rattle.sequent_convert.proofs.run.next_turn.Goals as goal
+use Rattle.sequent_convert.proofs.turns.next_turn.Goals as goal
 
 pub loop-earlier-preserved : goal.loop-earlier-preserved
 loop-earlier-preserved c =

@@ -12,7 +12,7 @@ use Rattle.sequent_convert.specs.declared.node.Node.{Node}
 use Rattle.sequent_convert.specs.RunView.{the_source}
 use Rattle.sequent_convert.proofs.NodeLaws.{made-there}
 use Rattle.sequent_convert.proofs.StateLaws.{agenda-length, own-part}
-use Rattle.sequent_convert.proofs.run.made_at.Goals as goal
+use Rattle.sequent_convert.proofs.turns.made_at.Goals as goal
 
 pub returns : goal.returns
 returns c =

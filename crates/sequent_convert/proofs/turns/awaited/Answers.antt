@@ -3,7 +3,7 @@ use Rattle.sequent_convert.specs.RunView.{the_source}
 use Rattle.sequent_convert.specs.State.{IsAwaitedBy}
 use Rattle.sequent_convert.proofs.AwaitedLaws.{not-there, item-in, waits-step, awaits-all}
 use Rattle.sequent_convert.proofs.ComingLaws.{awaited-before}
-use Rattle.sequent_convert.proofs.run.awaited.Goals as goal
+use Rattle.sequent_convert.proofs.turns.awaited.Goals as goal
 
 pub returns-then-not-has : goal.returns-then-not-has
 returns-then-not-has c =

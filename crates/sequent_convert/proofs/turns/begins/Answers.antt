@@ -5,7 +5,7 @@ use Rattle.sequent_convert.specs.State.{Begins}
 use Rattle.sequent_convert.specs.declared.node.Node.{Node}
 use Rattle.sequent_convert.proofs.NodeLaws.{works-there, begins-head, head-in}
 use Rattle.sequent_convert.proofs.StateLaws.{agenda-length}
-use Rattle.sequent_convert.proofs.run.begins.Goals as goal
+use Rattle.sequent_convert.proofs.turns.begins.Goals as goal
 
 pub returns-then-place-nodes : goal.returns-then-place-nodes
 returns-then-place-nodes c =
