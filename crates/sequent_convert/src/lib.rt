@@ -7,6 +7,10 @@ mod branch;
 mod closing;
 mod done;
 mod entry;
+#[cfg(test)]
+mod example_problems;
+#[cfg(test)]
+mod example_tableaux;
 mod expansion;
 mod following;
 mod literals;

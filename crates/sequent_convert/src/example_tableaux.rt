@@ -1,0 +1,226 @@
+//! Tableaux of the tests, by arrays that tell their names and instances.
+
+use cop_base::{NoMemory, PosId, SymbolId};
+use formula_core::{GroundLabel, GroundMark, GroundTerm, GroundTerms, Sign, Value, Values};
+use std::alloc::Global;
+use tableau_core::{
+    ClauseInstance, Closing, ClosingList, GroundLiteral, LiteralList, Selection, Side, Tableau,
+};
+
+// A value: the empty string, or by its place a character or a term of the case.
+#[derive(Clone, Copy)]
+pub(crate) enum ValueIs {
+    Stay,
+    Step(usize),
+    Term(usize),
+}
+
+// A character, by the position and the value that name it.
+#[derive(Clone, Copy)]
+pub(crate) enum MarkIs {
+    New(u32, Option<ValueIs>),
+    Spare(u32),
+}
+
+// A term. A spare constant of its own label has the label of all characters of the case.
+#[derive(Clone, Copy)]
+pub(crate) enum TermIs {
+    Common(u32),
+    Own(u32),
+    Eigen(u32, Option<ValueIs>),
+}
+
+// A literal of p with its argument, if it has one. Its label has the characters from a place on to
+// another one.
+#[derive(Clone, Copy)]
+pub(crate) struct LiteralIs {
+    sign: Sign,
+    argument: Option<usize>,
+    from: usize,
+    to: usize,
+}
+
+pub(crate) fn given(argument: Option<usize>, from: usize, to: usize) -> LiteralIs {
+    LiteralIs {
+        sign: Sign::T,
+        argument,
+        from,
+        to,
+    }
+}
+
+pub(crate) fn shown(argument: Option<usize>, from: usize, to: usize) -> LiteralIs {
+    LiteralIs {
+        sign: Sign::F,
+        argument,
+        from,
+        to,
+    }
+}
+
+#[derive(Clone, Copy)]
+pub(crate) struct InstanceIs<'a> {
+    pub side: Side,
+    pub values: &'a [ValueIs],
+    pub literals: &'a [LiteralIs],
+}
+
+// A tableau whose start clause has its goals closed by one instance each, by its first literal.
+#[derive(Clone, Copy)]
+pub(crate) struct Case<'a> {
+    pub marks: &'a [MarkIs],
+    pub terms: &'a [TermIs],
+    pub start: InstanceIs<'a>,
+    pub goals: &'a [InstanceIs<'a>],
+}
+
+#[derive(Drop)]
+struct Ground {
+    marks: Vec<GroundMark>,
+    terms: Vec<GroundTerm>,
+}
+
+fn label(alloc: Global, ground: &Ground, from: usize, to: usize) -> Result<GroundLabel, NoMemory> {
+    let mut label = GroundLabel::new(alloc);
+    for place in from..to {
+        if let Some(mark) = ground.marks.get(place) {
+            label.push(mark.copy(alloc)?)?;
+        }
+    }
+    Ok(label)
+}
+
+fn term(alloc: Global, ground: &Ground, place: usize) -> Result<GroundTerm, NoMemory> {
+    match ground.terms.get(place) {
+        Some(term) => term.copy(alloc),
+        None => Err(NoMemory),
+    }
+}
+
+fn value(alloc: Global, ground: &Ground, v: ValueIs) -> Result<Value, NoMemory> {
+    match v {
+        ValueIs::Stay => Ok(Value::Steps(GroundLabel::new(alloc))),
+        ValueIs::Step(place) => {
+            let string = label(alloc, ground, place, place.saturating_add(1))?;
+            Ok(Value::Steps(string))
+        }
+        ValueIs::Term(place) => Ok(Value::Term(term(alloc, ground, place)?)),
+    }
+}
+
+fn values(alloc: Global, ground: &Ground, all: &[ValueIs]) -> Result<Values, NoMemory> {
+    let mut values = Values::new(alloc);
+    for v in all {
+        values.push(value(alloc, ground, *v)?)?;
+    }
+    Ok(values)
+}
+
+fn taken(alloc: Global, ground: &Ground, v: Option<ValueIs>) -> Result<Values, NoMemory> {
+    match v {
+        Some(v) => values(alloc, ground, &[v]),
+        None => Ok(Values::new(alloc)),
+    }
+}
+
+fn mark_of(alloc: Global, ground: &Ground, mark: MarkIs) -> Result<GroundMark, NoMemory> {
+    match mark {
+        MarkIs::New(p, v) => Ok(GroundMark::New(PosId(p), taken(alloc, ground, v)?)),
+        MarkIs::Spare(k) => Ok(GroundMark::Spare(k)),
+    }
+}
+
+fn term_of(alloc: Global, ground: &Ground, term: TermIs) -> Result<GroundTerm, NoMemory> {
+    match term {
+        TermIs::Common(k) => Ok(GroundTerm::Common(k)),
+        TermIs::Own(k) => {
+            let label = label(alloc, ground, 0, ground.marks.len())?;
+            Ok(GroundTerm::Own(k, label))
+        }
+        TermIs::Eigen(p, v) => Ok(GroundTerm::Eigen(PosId(p), taken(alloc, ground, v)?)),
+    }
+}
+
+fn ground_of(alloc: Global, case: &Case) -> Result<Ground, NoMemory> {
+    let mut ground = Ground {
+        marks: Vec::new(alloc),
+        terms: Vec::new(alloc),
+    };
+    for mark in case.marks {
+        let next = mark_of(alloc, &ground, *mark)?;
+        ground.marks.push(next)?;
+    }
+    for term in case.terms {
+        let next = term_of(alloc, &ground, *term)?;
+        ground.terms.push(next)?;
+    }
+    Ok(ground)
+}
+
+fn arguments(
+    alloc: Global,
+    ground: &Ground,
+    argument: Option<usize>,
+) -> Result<GroundTerms, NoMemory> {
+    let mut args = GroundTerms::new(alloc);
+    if let Some(place) = argument {
+        args.push(term(alloc, ground, place)?)?;
+    }
+    Ok(args)
+}
+
+fn literal(alloc: Global, ground: &Ground, l: LiteralIs) -> Result<GroundLiteral, NoMemory> {
+    let args = arguments(alloc, ground, l.argument)?;
+    let label = label(alloc, ground, l.from, l.to)?;
+    Ok(GroundLiteral {
+        sign: l.sign,
+        symbol: SymbolId(0),
+        args,
+        label,
+    })
+}
+
+fn literals(alloc: Global, ground: &Ground, all: &[LiteralIs]) -> Result<LiteralList, NoMemory> {
+    let mut literals = LiteralList::new(alloc);
+    for l in all {
+        literals.push(literal(alloc, ground, *l)?)?;
+    }
+    Ok(literals)
+}
+
+fn selection(alloc: Global, side: Side) -> Result<Selection, NoMemory> {
+    let mut selection = Selection::new(alloc);
+    selection.push(side)?;
+    Ok(selection)
+}
+
+fn instance(alloc: Global, ground: &Ground, i: &InstanceIs) -> Result<ClauseInstance, NoMemory> {
+    let selection = selection(alloc, i.side)?;
+    let values = values(alloc, ground, i.values)?;
+    let literals = literals(alloc, ground, i.literals)?;
+    Ok(ClauseInstance {
+        selection,
+        values,
+        literals,
+    })
+}
+
+fn goals(alloc: Global, ground: &Ground, all: &[InstanceIs]) -> Result<ClosingList, NoMemory> {
+    let mut closings = ClosingList::new(alloc);
+    for i in all {
+        let instance = instance(alloc, ground, i)?;
+        closings.push(Closing::Extend {
+            instance,
+            literal: 0,
+            goals: ClosingList::new(alloc),
+        })?;
+    }
+    Ok(closings)
+}
+
+pub(crate) fn tableau(alloc: Global, case: &Case) -> Result<Tableau, NoMemory> {
+    let ground = ground_of(alloc, case)?;
+    let start = instance(alloc, &ground, &case.start)?;
+    let goals = goals(alloc, &ground, case.goals)?;
+    Ok(Tableau { start, goals })
+}
