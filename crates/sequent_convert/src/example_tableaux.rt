@@ -30,39 +30,55 @@ pub(crate) enum TermIs {
     Eigen(u32, Option<ValueIs>),
 }
 
-// A literal of p with its argument, if it has one. Its label has the characters from a place on to
-// another one.
+// The places from one on to another one.
 #[derive(Clone, Copy)]
-pub(crate) struct LiteralIs {
-    sign: Sign,
-    argument: Option<usize>,
+pub(crate) struct Places {
     from: usize,
     to: usize,
 }
 
-pub(crate) fn given(argument: Option<usize>, from: usize, to: usize) -> LiteralIs {
+pub(crate) fn from_to(from: usize, to: usize) -> Places {
+    Places { from, to }
+}
+
+// A literal of p with its argument, if it has one. Its label has the characters at some places.
+#[derive(Clone, Copy)]
+pub(crate) struct LiteralIs {
+    sign: Sign,
+    argument: Option<usize>,
+    label: Places,
+}
+
+pub(crate) fn given(argument: Option<usize>, label: Places) -> LiteralIs {
     LiteralIs {
         sign: Sign::T,
         argument,
-        from,
-        to,
+        label,
     }
 }
 
-pub(crate) fn shown(argument: Option<usize>, from: usize, to: usize) -> LiteralIs {
+pub(crate) fn shown(argument: Option<usize>, label: Places) -> LiteralIs {
     LiteralIs {
         sign: Sign::F,
         argument,
-        from,
-        to,
+        label,
     }
 }
 
+// An instance with the values and the literals at some places.
 #[derive(Clone, Copy)]
-pub(crate) struct InstanceIs<'a> {
-    pub side: Side,
-    pub values: &'a [ValueIs],
-    pub literals: &'a [LiteralIs],
+pub(crate) struct InstanceIs {
+    side: Side,
+    values: Places,
+    literals: Places,
+}
+
+pub(crate) fn instance_of(side: Side, values: Places, literals: Places) -> InstanceIs {
+    InstanceIs {
+        side,
+        values,
+        literals,
+    }
 }
 
 // A tableau whose start clause has its goals closed by one instance each, by its first literal.
@@ -70,8 +86,10 @@ pub(crate) struct InstanceIs<'a> {
 pub(crate) struct Case<'a> {
     pub marks: &'a [MarkIs],
     pub terms: &'a [TermIs],
-    pub start: InstanceIs<'a>,
-    pub goals: &'a [InstanceIs<'a>],
+    pub values: &'a [ValueIs],
+    pub literals: &'a [LiteralIs],
+    pub start: InstanceIs,
+    pub goals: &'a [InstanceIs],
 }
 
 #[derive(Drop)]
@@ -80,9 +98,9 @@ struct Ground {
     terms: Vec<GroundTerm>,
 }
 
-fn label(alloc: Global, ground: &Ground, from: usize, to: usize) -> Result<GroundLabel, NoMemory> {
+fn label(alloc: Global, ground: &Ground, places: Places) -> Result<GroundLabel, NoMemory> {
     let mut label = GroundLabel::new(alloc);
-    for place in from..to {
+    for place in places.from..places.to {
         if let Some(mark) = ground.marks.get(place) {
             label.push(mark.copy(alloc)?)?;
         }
@@ -101,24 +119,31 @@ fn value(alloc: Global, ground: &Ground, v: ValueIs) -> Result<Value, NoMemory> 
     match v {
         ValueIs::Stay => Ok(Value::Steps(GroundLabel::new(alloc))),
         ValueIs::Step(place) => {
-            let string = label(alloc, ground, place, place.saturating_add(1))?;
+            let string = label(alloc, ground, from_to(place, place.saturating_add(1)))?;
             Ok(Value::Steps(string))
         }
         ValueIs::Term(place) => Ok(Value::Term(term(alloc, ground, place)?)),
     }
 }
 
-fn values(alloc: Global, ground: &Ground, all: &[ValueIs]) -> Result<Values, NoMemory> {
+fn values(
+    alloc: Global,
+    ground: &Ground,
+    all: &[ValueIs],
+    places: Places,
+) -> Result<Values, NoMemory> {
     let mut values = Values::new(alloc);
-    for v in all {
-        values.push(value(alloc, ground, *v)?)?;
+    for place in places.from..places.to {
+        if let Some(v) = all.get(place) {
+            values.push(value(alloc, ground, *v)?)?;
+        }
     }
     Ok(values)
 }
 
 fn taken(alloc: Global, ground: &Ground, v: Option<ValueIs>) -> Result<Values, NoMemory> {
     match v {
-        Some(v) => values(alloc, ground, &[v]),
+        Some(v) => values(alloc, ground, &[v], from_to(0, 1)),
         None => Ok(Values::new(alloc)),
     }
 }
@@ -134,7 +159,7 @@ fn term_of(alloc: Global, ground: &Ground, term: TermIs) -> Result<GroundTerm, N
     match term {
         TermIs::Common(k) => Ok(GroundTerm::Common(k)),
         TermIs::Own(k) => {
-            let label = label(alloc, ground, 0, ground.marks.len())?;
+            let label = label(alloc, ground, from_to(0, ground.marks.len()))?;
             Ok(GroundTerm::Own(k, label))
         }
         TermIs::Eigen(p, v) => Ok(GroundTerm::Eigen(PosId(p), taken(alloc, ground, v)?)),
@@ -171,7 +196,7 @@ fn arguments(
 
 fn literal(alloc: Global, ground: &Ground, l: LiteralIs) -> Result<GroundLiteral, NoMemory> {
     let args = arguments(alloc, ground, l.argument)?;
-    let label = label(alloc, ground, l.from, l.to)?;
+    let label = label(alloc, ground, l.label)?;
     Ok(GroundLiteral {
         sign: l.sign,
         symbol: SymbolId(0),
@@ -180,10 +205,17 @@ fn literal(alloc: Global, ground: &Ground, l: LiteralIs) -> Result<GroundLiteral
     })
 }
 
-fn literals(alloc: Global, ground: &Ground, all: &[LiteralIs]) -> Result<LiteralList, NoMemory> {
+fn literals(
+    alloc: Global,
+    ground: &Ground,
+    all: &[LiteralIs],
+    places: Places,
+) -> Result<LiteralList, NoMemory> {
     let mut literals = LiteralList::new(alloc);
-    for l in all {
-        literals.push(literal(alloc, ground, *l)?)?;
+    for place in places.from..places.to {
+        if let Some(l) = all.get(place) {
+            literals.push(literal(alloc, ground, *l)?)?;
+        }
     }
     Ok(literals)
 }
@@ -194,10 +226,15 @@ fn selection(alloc: Global, side: Side) -> Result<Selection, NoMemory> {
     Ok(selection)
 }
 
-fn instance(alloc: Global, ground: &Ground, i: &InstanceIs) -> Result<ClauseInstance, NoMemory> {
+fn instance(
+    alloc: Global,
+    ground: &Ground,
+    case: &Case,
+    i: InstanceIs,
+) -> Result<ClauseInstance, NoMemory> {
     let selection = selection(alloc, i.side)?;
-    let values = values(alloc, ground, i.values)?;
-    let literals = literals(alloc, ground, i.literals)?;
+    let values = values(alloc, ground, case.values, i.values)?;
+    let literals = literals(alloc, ground, case.literals, i.literals)?;
     Ok(ClauseInstance {
         selection,
         values,
@@ -205,10 +242,10 @@ fn instance(alloc: Global, ground: &Ground, i: &InstanceIs) -> Result<ClauseInst
     })
 }
 
-fn goals(alloc: Global, ground: &Ground, all: &[InstanceIs]) -> Result<ClosingList, NoMemory> {
+fn goals(alloc: Global, ground: &Ground, case: &Case) -> Result<ClosingList, NoMemory> {
     let mut closings = ClosingList::new(alloc);
-    for i in all {
-        let instance = instance(alloc, ground, i)?;
+    for goal in case.goals {
+        let instance = instance(alloc, ground, case, *goal)?;
         closings.push(Closing::Extend {
             instance,
             literal: 0,
@@ -220,7 +257,7 @@ fn goals(alloc: Global, ground: &Ground, all: &[InstanceIs]) -> Result<ClosingLi
 
 pub(crate) fn tableau(alloc: Global, case: &Case) -> Result<Tableau, NoMemory> {
     let ground = ground_of(alloc, case)?;
-    let start = instance(alloc, &ground, &case.start)?;
-    let goals = goals(alloc, &ground, case.goals)?;
+    let start = instance(alloc, &ground, case, case.start)?;
+    let goals = goals(alloc, &ground, case)?;
     Ok(Tableau { start, goals })
 }

@@ -4,7 +4,9 @@ use crate::convert;
 use crate::example_problems::{
     both_worlds_problem, boxed_drinker_problem, serial_problem, twice_denied_problem,
 };
-use crate::example_tableaux::{Case, InstanceIs, MarkIs, TermIs, ValueIs, given, shown, tableau};
+use crate::example_tableaux::{
+    Case, MarkIs, TermIs, ValueIs, from_to, given, instance_of, shown, tableau,
+};
 use cop_base::NoMemory;
 use logic_rules::Problem;
 use sequent_calc::{ApplyFault, Children, Derivation, Entry, Names, Sequent, Step, apply};
@@ -82,16 +84,10 @@ fn serial_converts(alloc: Global) -> Result<bool, NoMemory> {
     let case = Case {
         marks: &[MarkIs::Spare(1)],
         terms: &[],
-        start: InstanceIs {
-            side: Side::Right,
-            values: &[ValueIs::Step(0)],
-            literals: &[shown(None, 0, 1)],
-        },
-        goals: &[InstanceIs {
-            side: Side::Left,
-            values: &[ValueIs::Step(0)],
-            literals: &[given(None, 0, 1)],
-        }],
+        values: &[ValueIs::Step(0)],
+        literals: &[shown(None, from_to(0, 1)), given(None, from_to(0, 1))],
+        start: instance_of(Side::Right, from_to(0, 1), from_to(0, 1)),
+        goals: &[instance_of(Side::Left, from_to(0, 1), from_to(1, 2))],
     };
     converts(alloc, &problem, &case, 4)
 }
@@ -107,16 +103,10 @@ fn twice_denied_converts(alloc: Global) -> Result<bool, NoMemory> {
             MarkIs::New(3, Some(ValueIs::Step(1))),
         ],
         terms: &[],
-        start: InstanceIs {
-            side: Side::Left,
-            values: &[ValueIs::Step(1)],
-            literals: &[shown(None, 0, 3)],
-        },
-        goals: &[InstanceIs {
-            side: Side::Right,
-            values: &[ValueIs::Stay, ValueIs::Step(2)],
-            literals: &[given(None, 0, 3)],
-        }],
+        values: &[ValueIs::Step(1), ValueIs::Stay, ValueIs::Step(2)],
+        literals: &[shown(None, from_to(0, 3)), given(None, from_to(0, 3))],
+        start: instance_of(Side::Left, from_to(0, 1), from_to(0, 1)),
+        goals: &[instance_of(Side::Right, from_to(1, 3), from_to(1, 2))],
     };
     converts(alloc, &problem, &case, 7)
 }
@@ -127,16 +117,10 @@ fn boxed_drinker_converts(alloc: Global) -> Result<bool, NoMemory> {
     let case = Case {
         marks: &[MarkIs::New(0, None)],
         terms: &[TermIs::Own(0), TermIs::Eigen(2, Some(ValueIs::Term(0)))],
-        start: InstanceIs {
-            side: Side::Right,
-            values: &[ValueIs::Term(0)],
-            literals: &[shown(Some(1), 0, 1)],
-        },
-        goals: &[InstanceIs {
-            side: Side::Left,
-            values: &[ValueIs::Term(1)],
-            literals: &[given(Some(1), 0, 1)],
-        }],
+        values: &[ValueIs::Term(0), ValueIs::Term(1)],
+        literals: &[shown(Some(1), from_to(0, 1)), given(Some(1), from_to(0, 1))],
+        start: instance_of(Side::Right, from_to(0, 1), from_to(0, 1)),
+        goals: &[instance_of(Side::Left, from_to(1, 2), from_to(1, 2))],
     };
     converts(alloc, &problem, &case, 8)
 }
@@ -152,22 +136,24 @@ fn both_worlds_convert(alloc: Global) -> Result<bool, NoMemory> {
             TermIs::Eigen(10, None),
             TermIs::Common(0),
         ],
-        start: InstanceIs {
-            side: Side::Right,
-            values: &[],
-            literals: &[shown(Some(0), 0, 1), shown(Some(1), 1, 2)],
-        },
+        values: &[
+            ValueIs::Step(0),
+            ValueIs::Term(0),
+            ValueIs::Term(1),
+            ValueIs::Step(1),
+            ValueIs::Term(1),
+            ValueIs::Term(2),
+        ],
+        literals: &[
+            shown(Some(0), from_to(0, 1)),
+            shown(Some(1), from_to(1, 2)),
+            given(Some(0), from_to(0, 1)),
+            given(Some(1), from_to(1, 2)),
+        ],
+        start: instance_of(Side::Right, from_to(0, 0), from_to(0, 2)),
         goals: &[
-            InstanceIs {
-                side: Side::Left,
-                values: &[ValueIs::Step(0), ValueIs::Term(0), ValueIs::Term(1)],
-                literals: &[given(Some(0), 0, 1)],
-            },
-            InstanceIs {
-                side: Side::Left,
-                values: &[ValueIs::Step(1), ValueIs::Term(1), ValueIs::Term(2)],
-                literals: &[given(Some(1), 1, 2)],
-            },
+            instance_of(Side::Left, from_to(0, 3), from_to(2, 3)),
+            instance_of(Side::Left, from_to(3, 6), from_to(3, 4)),
         ],
     };
     converts(alloc, &problem, &case, 14)
