@@ -3,6 +3,7 @@ pub mod OneProblem
 -- a list has one balanced join
 pub mod BalanceLaws
 pub mod AddingLaws
+pub mod NameSetLaws
 pub mod ExpandingLaws
 pub mod FallingLaws
 pub mod ListLaws

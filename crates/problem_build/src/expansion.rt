@@ -13,8 +13,9 @@ ghost use Rattle.tptp_reader.specs.SourceView.{the_source};
 ghost use Rattle.tptp_reader.specs.TermView.{the_source_term};
 
 use crate::chain::balanced;
+use crate::name_set::push_names;
 use crate::symbols::{equality_symbol, function_symbol, predicate_symbol, truth_symbol};
-use crate::variables::{free_variables, push_names};
+use crate::variables::free_variables;
 use cop_base::{NoMemory, SymbolId, Text};
 use formula_core::{Formula, Symbol, Symbols, Term, Terms};
 use std::alloc::{AllocError, Global};
@@ -307,7 +308,8 @@ fn expand(
 pub fn closed(alloc: Global, symbols: &Symbols, source: &Source) -> Result<Formula, NoMemory>
     ensures { IfOk result (λ f. the_formula f ≡ closed symbols.now (the_source source.now)) }
 {
-    let mut scope = free_variables(alloc, source)?;
+    let free = free_variables(alloc, source)?;
+    let mut scope = free.names(alloc)?;
     let count = scope.len();
     let body = expand(alloc, symbols, &mut scope, source)?;
     let formula = all_times(alloc, count, body)?;

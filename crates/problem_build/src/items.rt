@@ -97,7 +97,7 @@ fn closed_nodes(alloc: Global, body: &Source) -> Result<Option<u64>, NoMemory>
         return Ok(None);
     }
     let free = free_variables(alloc, body)?;
-    let count = free.as_slice().len() as u64;
+    let count = free.len() as u64;
     if inner.saturating_add(count) > MAX_NESTING {
         return Ok(None);
     }

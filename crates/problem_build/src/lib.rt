@@ -9,9 +9,11 @@ mod expansion;
 mod fault;
 mod faults;
 mod items;
+mod name_set;
 mod names;
 mod passed;
 mod progress;
+mod selection;
 mod symbols;
 #[cfg(test)]
 mod tests;

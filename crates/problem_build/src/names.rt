@@ -4,59 +4,50 @@ ghost use Rattle.std.specs.Prelude.{◌≡◌, ◌++◌, ◌∷◌, [], map, IfO
 ghost use Rattle.std.specs.List.{filter};
 ghost use Rattle.problem_build.specs.Walk.{fetched_name, first_absent, is_among, names_of, passes};
 
+use crate::name_set::{NameSet, set_of};
+use crate::selection::Selection;
 use cop_base::{NoMemory, Text};
 use std::alloc::{AllocError, Global};
-use tptp_reader::NamePlaces;
-
-/// Whether the name stands in the list.
-pub fn is_listed(name: &Text, list: &NamePlaces) -> bool
-    ensures { result ≡ is_among name.now (names_of list.now) }
-{
-    for item in list.items() {
-        if *name == item.0 {
-            return true;
-        }
-    }
-    false
-}
 
 /// Whether the name stands in each of the lists.
-pub fn passes(lists: &[NamePlaces], name: &Text) -> bool
+pub fn passes(lists: &[Selection], name: &Text) -> bool
     ensures { result ≡ passes (map names_of lists.now) name.now }
 {
     for list in lists {
-        if !is_listed(name, list) {
+        if !list.lists(name) {
             return false;
         }
     }
     true
 }
 
-fn is_reached(name: &Text, reached: &[Text]) -> bool
-    ensures { result ≡ is_among name.now reached.now }
+// The offset of the first name that is not in the set.
+fn first_outside(places: &[(Text, u64)], reached: &NameSet) -> Option<u64>
+    ensures { result ≡ first_absent places.now reached.now }
 {
-    for item in reached {
-        if *name == *item {
-            return true;
-        }
-    }
-    false
-}
-
-/// The offset of the first name of the list that is not among the reached ones.
-pub fn first_absent(list: &NamePlaces, reached: &[Text]) -> Option<u64>
-    ensures { result ≡ first_absent list.now reached.now }
-{
-    for item in list.items() {
-        if !is_reached(&item.0, reached) {
+    for item in places {
+        if !reached.contains(&item.0) {
             return Some(item.1);
         }
     }
     None
 }
 
+/// The offset of the first name of the list that is not among the reached ones.
+pub fn first_absent(
+    alloc: Global,
+    list: &Selection,
+    reached: &[Text],
+) -> Result<Option<u64>, NoMemory>
+    ensures { IfOk result (λ a. a ≡ first_absent list.now reached.now) }
+{
+    let reached = set_of(alloc, reached)?;
+    let absent = first_outside(list.places(), &reached);
+    Ok(absent)
+}
+
 /// The names that stand in the list, in order.
-pub fn listed(alloc: Global, names: Vec<Text>, list: &NamePlaces) -> Result<Vec<Text>, NoMemory>
+pub fn listed(alloc: Global, names: Vec<Text>, list: &Selection) -> Result<Vec<Text>, NoMemory>
     ensures { IfOk result (λ kept. kept.items ≡ filter (λ n. is_among n (names_of list.now)) names.items) }
 {
     let mut names = names;
@@ -68,11 +59,11 @@ pub fn listed(alloc: Global, names: Vec<Text>, list: &NamePlaces) -> Result<Vec<
     Ok(kept)
 }
 
-fn keep_listed(kept: &mut Vec<Text>, name: Text, list: &NamePlaces) -> Result<(), NoMemory>
+fn keep_listed(kept: &mut Vec<Text>, name: Text, list: &Selection) -> Result<(), NoMemory>
     ensures { OnOk result (kept.new.items
         ≡ kept.old.items ++ filter (λ n. is_among n (names_of list.now)) (name ∷ [])) }
 {
-    if is_listed(&name, list) {
+    if list.lists(&name) {
         kept.push(name)?;
     }
     Ok(())

@@ -3,9 +3,9 @@
 ghost use Rattle.std.specs.Prelude.{◌≤◌};
 
 use crate::passed::Passed;
+use crate::selection::Selection;
 use cop_base::Text;
 use std::alloc::Global;
-use tptp_reader::NamePlaces;
 
 /// What the whole walk goes by: whether the problem is modal, and the root of included files.
 #[derive(Drop)]
@@ -21,6 +21,6 @@ pub(crate) struct WalkRules {
 pub(crate) struct Walk {
     pub(crate) bytes: u64,
     pub(crate) passed: Vec<Passed>,
-    pub(crate) lists: Vec<NamePlaces>,
+    pub(crate) lists: Vec<Selection>,
     ghost within: { bytes ≤ 16777216 },
 }

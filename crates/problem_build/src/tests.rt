@@ -194,3 +194,32 @@ fn keeps_to_the_limits(rt: HostRuntime) -> Result<(), Fail> {
     assert_eq!(rt; out.as_str(), "formula too large");
     Ok(())
 }
+
+// An atom of so many different variables.
+fn atom_of(alloc: Global, count: usize) -> Result<String, Fail> {
+    let mut content = String::from_str(alloc, "fof(c,conjecture,p(X")?;
+    for i in 1..count {
+        write!(content, ",X{i}")?;
+    }
+    content.push_str(")).")?;
+    Ok(content)
+}
+
+#[test]
+fn closes_free_variables(rt: HostRuntime) -> Result<(), Fail> {
+    for (count, shown) in [
+        (998, "p 1997"),
+        (999, "nesting too deep"),
+        (1001, "nesting too deep"),
+    ] {
+        let content = atom_of(rt.alloc(), count)?;
+        let out = answer(
+            rt.alloc(),
+            &[("m.p", content.as_str())],
+            "",
+            Logic::Classical,
+        )?;
+        assert_eq!(rt; out.as_str(), shown);
+    }
+    Ok(())
+}

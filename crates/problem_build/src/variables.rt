@@ -1,44 +1,30 @@
 //! The free variables of formulas.
 
 ghost use Rattle.std.specs.Prelude.{◌≡◌, ◌++◌, ◌∷◌, [], IfOk, OnOk};
-ghost use Rattle.std.specs.List.{list_any};
 ghost use Rattle.problem_build.specs.Adding.{with_new};
 ghost use Rattle.problem_build.specs.Expansion.{free_in, free_variables, same_name, unbound, variables_in, variables_in_all};
 ghost use Rattle.tptp_reader.specs.Lists.{terms_tree};
 ghost use Rattle.tptp_reader.specs.SourceView.{the_source};
 ghost use Rattle.tptp_reader.specs.TermView.{the_source_term};
 
+use crate::name_set::{NameSet, is_among, push_names};
 use cop_base::{NoMemory, Text};
 use std::alloc::Global;
 use tptp_reader::{Source, SourceTerm, SourceTerms};
 
-fn is_among(name: &Text, names: &[Text]) -> bool
-    ensures { result ≡ list_any (same_name name.now) names.now }
-{
-    for item in names {
-        if *name == *item {
-            return true;
-        }
-    }
-    false
-}
-
 fn add_variable(
     alloc: Global,
     bound: &[Text],
-    found: &mut Vec<Text>,
+    found: &mut NameSet,
     name: &Text,
 ) -> Result<(), NoMemory>
-    ensures { OnOk result (found.new.items ≡ with_new same_name found.old.items (unbound bound.now (name.now ∷ []))) }
+    ensures { OnOk result (found.new ≡ with_new same_name found.old (unbound bound.now (name.now ∷ []))) }
 {
     if is_among(name, bound) {
         return Ok(());
     }
-    if is_among(name, found) {
-        return Ok(());
-    }
     let name = Text::new(alloc, name.bytes())?;
-    found.push(name)?;
+    found.add(name)?;
     Ok(())
 }
 
@@ -46,11 +32,11 @@ fn add_variable(
 fn add_of_term(
     alloc: Global,
     bound: &[Text],
-    found: &mut Vec<Text>,
+    found: &mut NameSet,
     term: &SourceTerm,
 ) -> Result<(), NoMemory>
-    ensures { OnOk result (found.new.items
-        ≡ with_new same_name found.old.items (unbound bound.now (variables_in (the_source_term term.now)))) }
+    ensures { OnOk result (found.new
+        ≡ with_new same_name found.old (unbound bound.now (variables_in (the_source_term term.now)))) }
 {
     match term {
         SourceTerm::Var(x) => add_variable(alloc, bound, found, x),
@@ -63,11 +49,11 @@ fn add_of_term(
 fn add_of_terms(
     alloc: Global,
     bound: &[Text],
-    found: &mut Vec<Text>,
+    found: &mut NameSet,
     terms: &SourceTerms,
 ) -> Result<(), NoMemory>
-    ensures { OnOk result (found.new.items
-        ≡ with_new same_name found.old.items (unbound bound.now (variables_in_all (terms_tree terms.now)))) }
+    ensures { OnOk result (found.new
+        ≡ with_new same_name found.old (unbound bound.now (variables_in_all (terms_tree terms.now)))) }
 {
     for term in terms.items() {
         add_of_term(alloc, bound, found, term)?;
@@ -78,26 +64,15 @@ fn add_of_terms(
 fn add_of_equation(
     alloc: Global,
     bound: &[Text],
-    found: &mut Vec<Text>,
+    found: &mut NameSet,
     left: &SourceTerm,
     right: &SourceTerm,
 ) -> Result<(), NoMemory>
-    ensures { OnOk result (found.new.items ≡ with_new same_name found.old.items (unbound bound.now
+    ensures { OnOk result (found.new ≡ with_new same_name found.old (unbound bound.now
         (variables_in (the_source_term left.now) ++ variables_in (the_source_term right.now)))) }
 {
     add_of_term(alloc, bound, found, left)?;
     add_of_term(alloc, bound, found, right)?;
-    Ok(())
-}
-
-/// Appends copies of the names.
-pub fn push_names(alloc: Global, names: &mut Vec<Text>, more: &[Text]) -> Result<(), NoMemory>
-    ensures { OnOk result (names.new.items ≡ names.old.items ++ more.now) }
-{
-    for name in more {
-        let name = Text::new(alloc, name.bytes())?;
-        names.push(name)?;
-    }
     Ok(())
 }
 
@@ -106,12 +81,12 @@ pub fn push_names(alloc: Global, names: &mut Vec<Text>, more: &[Text]) -> Result
 fn add_free(
     alloc: Global,
     bound: &mut Vec<Text>,
-    found: &mut Vec<Text>,
+    found: &mut NameSet,
     source: &Source,
 ) -> Result<(), NoMemory>
     ensures bound { OnOk result (bound.new.items ≡ bound.old.items) }
-    ensures found { OnOk result (found.new.items
-        ≡ with_new same_name found.old.items (free_in bound.old.items (the_source source.now))) }
+    ensures found { OnOk result (found.new
+        ≡ with_new same_name found.old (free_in bound.old.items (the_source source.now))) }
 {
     match source {
         Source::Atom(_, args) => add_of_terms(alloc, bound, found, args),
@@ -141,11 +116,11 @@ fn add_free(
 }
 
 /// The free variables of the formula, each once, in the order of their first free places.
-pub fn free_variables(alloc: Global, source: &Source) -> Result<Vec<Text>, NoMemory>
-    ensures { IfOk result (λ xs. xs.items ≡ free_variables (the_source source.now)) }
+pub fn free_variables(alloc: Global, source: &Source) -> Result<NameSet, NoMemory>
+    ensures { IfOk result (λ xs. xs ≡ free_variables (the_source source.now)) }
 {
     let mut bound = Vec::new(alloc);
-    let mut found = Vec::new(alloc);
+    let mut found = NameSet::new(alloc);
     add_free(alloc, &mut bound, &mut found, source)?;
     Ok(found)
 }

@@ -1,6 +1,6 @@
 //! The walk over a file and the files that it includes.
 
-ghost use Rattle.std.specs.Prelude.{◌≡◌, ◌≤◌, ◌++◌, ◌∷◌, [], List, Bool, true, is_some, map, reverse, length, IfOk, IfErr, IfSome, OnOk, OnErr, IsTrue, if◌then◌else◌};
+ghost use Rattle.std.specs.Prelude.{◌≡◌, ◌<◌, ◌≤◌, ◌++◌, ◌∷◌, [], List, Bool, true, is_some, map, reverse, length, IfOk, IfErr, IfSome, OnOk, OnErr, IsTrue, if◌then◌else◌};
 ghost use Rattle.std.specs.Prelude.{Result, Ok, Err, None, Some, false, ℕ, ◌+◌};
 ghost use Rattle.std.specs.List.{list_all, list_any};
 ghost use Rattle.std.specs.Option.{option_map_or};
@@ -21,9 +21,10 @@ use crate::faults::{bad, failed, missing, unread};
 use crate::names::{append_names, fetched_name, first_absent, listed, passes};
 use crate::passed::{Passed, WalkedFiles};
 use crate::progress::{Walk, WalkRules};
+use crate::selection::Selection;
 use cop_base::{FetchFault, Library, NoMemory, Text};
 use std::alloc::{AllocError, AllocFailed, Global};
-use tptp_reader::{Item, NameList, NamePlaces, Source, read_text};
+use tptp_reader::{Item, NameList, Source, read_text};
 
 /// The most bytes of all files together.
 const MAX_INPUT: u64 = 16_777_216;
@@ -152,27 +153,50 @@ fn read_file<L: Library>(
 }
 
 // Puts the list of an include inside the others, and tells whether there is one.
-fn enter(lists: &mut Vec<NamePlaces>, names: NameList) -> Result<bool, NoMemory>
+fn enter(alloc: Global, lists: &mut Vec<Selection>, names: NameList) -> Result<bool, NoMemory>
     ensures told { IfOk result (λ b. b ≡ is_some names) }
     ensures entered { OnOk result (lists.new.items ≡ with_list names lists.old.items) }
 {
     let Some(list) = names else {
         return Ok(false);
     };
-    lists.push(list)?;
+    let selection = Selection::new(alloc, list)?;
+    lists.push(selection)?;
     Ok(true)
+}
+
+// Judges the names of a list, and adds those that it lets through to the names that are reached.
+fn select(
+    alloc: Global,
+    list: &Selection,
+    file: &Text,
+    inner: Vec<Text>,
+    reached: &mut Vec<Text>,
+) -> Result<(), BuildFault>
+    ensures inside { IfErr result (λ f. is_inside f ≡ true) }
+    ensures taken { OnOk result (reached.new.items ≡ reached.old.items ++ past_list (Some list.now) inner.items) }
+    ensures selected { IsSelected file.now (first_absent list.now inner.items) result }
+{
+    let absent = first_absent(alloc, list, &inner)?;
+    if let Some(offset) = absent {
+        return Err(bad(alloc, file, offset, Cause::IncludeNameAbsent));
+    }
+    let more = listed(alloc, inner, list)?;
+    append_names(reached, more)?;
+    Ok(())
 }
 
 // Takes the innermost list off, if the include has one. Its names are judged, and those that it
 // lets through are reached.
 fn leave(
     alloc: Global,
-    lists: &mut Vec<NamePlaces>,
+    lists: &mut Vec<Selection>,
     is_list: bool,
     file: &Text,
     inner: Vec<Text>,
     reached: &mut Vec<Text>,
 ) -> Result<(), BuildFault>
+    requires entered { is_list ≡ true → 0 < length lists.now.items }
     ensures inside { IfErr result (λ f. is_inside f ≡ true) }
     ensures all_kept { is_list ≡ false → OnOk result (lists.new.items ≡ lists.old.items) }
     ensures all_taken { is_list ≡ false → OnOk result (reached.new.items ≡ reached.old.items ++ inner.items) }
@@ -191,14 +215,9 @@ fn leave(
         return Ok(());
     }
     let Some(list) = lists.pop() else {
-        return Err(BuildFault::NoMemory);
+        unreachable!()
     };
-    if let Some(offset) = first_absent(&list, &inner) {
-        return Err(bad(alloc, file, offset, Cause::IncludeNameAbsent));
-    }
-    let more = listed(alloc, inner, &list)?;
-    append_names(reached, more)?;
-    Ok(())
+    select(alloc, &list, file, inner, reached)
 }
 
 // Walks over an item, the names that are reached in it being added to those before.
@@ -277,7 +296,7 @@ fn walk_include<L: Library>(
         return Err(bad(rules.alloc, file, start, Cause::IncludeTooDeep));
     }
     let fetched = fetched_name(rules.alloc, &rules.root, &included)?;
-    let is_list = enter(&mut walk.lists, names)?;
+    let is_list = enter(rules.alloc, &mut walk.lists, names)?;
     let inner = walk_file(rules, walk, lib, &fetched, depth - 1)?;
     leave(rules.alloc, &mut walk.lists, is_list, file, inner, reached)?;
     Ok(())

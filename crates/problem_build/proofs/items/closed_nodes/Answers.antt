@@ -9,11 +9,11 @@ returns-then-inner-gt-MAX_NESTING c = λ symbols.
 
 pub returns-then-saturating_add-gt-MAX_NESTING : goal.returns-then-saturating_add-gt-MAX_NESTING
 returns-then-saturating_add-gt-MAX_NESTING c = λ symbols.
-    nodes-deep_free symbols (the_source c.args.body.now) c.in_ok-inner.inner (length c.as_slice.result.now) c.in_ok-inner.ensures
-    (ap length (c.as_slice.ensures.value ∙ c.in_ok-free.ensures)) (omega (arith, c.saturating_add.ensures, c.if-saturating_add-gt-MAX_NESTING.true))
+    nodes-deep_free symbols (the_source c.args.body.now) c.in_ok-inner.inner c.len-count.result c.in_ok-inner.ensures
+    (c.len-count.ensures ∙ ap length c.in_ok-free.ensures) (omega (arith, c.saturating_add.ensures, c.if-saturating_add-gt-MAX_NESTING.true))
 
 pub returns : goal.returns
 returns c = λ symbols.
-    nodes-flat symbols (the_source c.args.body.now) c.in_ok-inner.inner (length c.as_slice.result.now) c.nodes_of.result c.sum.result c.in_ok-inner.ensures
-    (omega arith) (ap length (c.as_slice.ensures.value ∙ c.in_ok-free.ensures)) (omega (arith, c.saturating_add.ensures, c.if-saturating_add-gt-MAX_NESTING.false))
+    nodes-flat symbols (the_source c.args.body.now) c.in_ok-inner.inner c.len-count.result c.nodes_of.result c.sum.result c.in_ok-inner.ensures
+    (omega arith) (c.len-count.ensures ∙ ap length c.in_ok-free.ensures) (omega (arith, c.saturating_add.ensures, c.if-saturating_add-gt-MAX_NESTING.false))
     c.nodes_of.ensures (omega (arith, c.sum.ensures))

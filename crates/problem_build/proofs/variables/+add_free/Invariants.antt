@@ -9,8 +9,8 @@ use Rattle.problem_build.proofs.variables.+add_free.Given as goal
 abbrev pub invariant-loop-unit : goal.invariant-loop-unit
 invariant-loop-unit l =
     (l.bound.items ≡ l.fn.bound.items)
-    × (with_new same_name l.found.items (free_in_all l.fn.bound.items (sources_tree (map the_source (drop l.unit-index l.unit-items))))
-    ≡ with_new same_name l.fn.found.items (free_in_all l.fn.bound.items (sources_tree (map the_source l.unit-items))))
+    × (with_new same_name l.found (free_in_all l.fn.bound.items (sources_tree (map the_source (drop l.unit-index l.unit-items))))
+    ≡ with_new same_name l.fn.found (free_in_all l.fn.bound.items (sources_tree (map the_source l.unit-items))))
 
 abbrev pub decreases-add_free : goal.decreases-add_free
 decreases-add_free l = source_size (the_source l.source.now)

@@ -8,8 +8,8 @@ use Rattle.problem_build.proofs.variables.+add_of_term.Given as goal
 
 abbrev pub invariant-add_of_terms-loop-term : goal.invariant-add_of_terms-loop-term
 invariant-add_of_terms-loop-term l =
-    with_new same_name l.found.items (unbound l.bound (variables_in_all (terms_tree (map the_source_term (drop l.term-index l.term-items)))))
-    ≡ with_new same_name l.fn.found.items (unbound l.bound (variables_in_all (terms_tree l.terms)))
+    with_new same_name l.found (unbound l.bound (variables_in_all (terms_tree (map the_source_term (drop l.term-index l.term-items)))))
+    ≡ with_new same_name l.fn.found (unbound l.bound (variables_in_all (terms_tree l.terms)))
 
 abbrev pub decreases-add_of_term : goal.decreases-add_of_term
 decreases-add_of_term l = term_size (the_source_term l.term.now)

@@ -6,6 +6,7 @@ use Rattle.problem_build.specs.Passing.{item_passes}
 use Rattle.problem_build.specs.Walk.{names_of, walked}
 use Rattle.problem_build.specs.Walking.{EndsIn, GoesOn, file_outcomes, items_outcomes, lists_of, pending_items, progress_of}
 use Rattle.problem_build.proofs.IncludeLaws.{file-included, left-reached, left-selected}
+use Rattle.problem_build.proofs.NameSetLaws.{one-entered}
 use Rattle.problem_build.proofs.StepLaws.{both-told, led, no-items, step-ends, stopped, turns-end}
 use Rattle.problem_build.proofs.WalkLaws.{goes-ends, goes-goes, include-absent, include-ends, include-goes}
 use Rattle.problem_build.proofs.walk.+walk.Goals as goal
@@ -44,6 +45,12 @@ walk_file-returns-clause-leads g t c =
     (subst (λ ls. GoesOn (items_outcomes read files c.args.rules.now.root c.args.name.now c.args.depth (map names_of ls) items (progress_of opened) []) (λ _. Ok (walked (progress_of after) reached))) c.in_ok-items.ensures.kept (k read x)))
 
 -- ---- includes
+
+pub walk_include-leave-requires : goal.walk_include-leave-requires
+walk_include-leave-requires g t c = record {
+  entered = one-entered c.args.names c.in_ok-is_list.is_list c.args.walk.now.lists.items c.walk_file.new.walk.lists.items c.in_ok-is_list.ensures.told
+      (c.in_ok-inner.ensures.kept ∙ c.in_ok-is_list.ensures.entered);
+}
 
 pub walk_include-returns-in_err-inner-clause-steps : goal.walk_include-returns-in_err-inner-clause-steps
 walk_include-returns-in_err-inner-clause-steps g t c =

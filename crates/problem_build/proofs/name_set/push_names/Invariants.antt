@@ -1,5 +1,5 @@
 use Rattle.std.proofs.Common.{◌≡◌, ◌++◌, take}
-use Rattle.problem_build.proofs.variables.push_names.Given as goal
+use Rattle.problem_build.proofs.name_set.push_names.Given as goal
 
 abbrev pub invariant-loop-name : goal.invariant-loop-name
 invariant-loop-name l = l.names.items ≡ l.fn.names.items ++ take l.name-index l.more
