@@ -2,19 +2,24 @@
 use Rattle.std.specs.Option.{option_map}
 use Rattle.logic_rules.specs.SettingView.{the_setting}
 use Rattle.leancop_top.specs.Words as words
+use Rattle.leancop_top.specs.declared.words.Bounds.{Bounds}
 use Rattle.leancop_top.specs.declared.words.Command.{Command}
 use Rattle.leancop_top.specs.declared.words.Command.TheVariants.{Prove, Check, Bad}
 use Rattle.leancop_top.specs.declared.words.Given.{Given}
 use Rattle.leancop_top.specs.declared.words.Part.{Part}
-use Rattle.leancop_top.specs.declared.words.Part.TheVariants.{Operand, Root, Logic, Domains}
+use Rattle.leancop_top.specs.declared.words.Part.TheVariants.{Operand, Root, Logic, Domains, Limit, Steps}
+use Rattle.leancop_top.specs.declared.words.PathLimit.{PathLimit}
 use Rattle.leancop_top.specs.declared.words.ProblemFile.{ProblemFile}
 
 abbrev pub the_problem_file : ProblemFile → words.ProblemFile
 the_problem_file p =
     record { name = p.name.now; root = p.root.now; setting = the_setting p.setting }
 
+abbrev pub the_bounds : Bounds → words.Bounds
+the_bounds b = record { limit = b.limit.number; steps = b.steps }
+
 abbrev pub the_command : Command → words.Command
-the_command (Prove problem) = words.prove (the_problem_file problem)
+the_command (Prove problem bounds) = words.prove (the_problem_file problem) (the_bounds bounds)
 the_command (Check problem derivation) = words.check (the_problem_file problem) derivation.now
 the_command (Bad place) = words.bad place
 
@@ -23,6 +28,8 @@ the_part (Operand w) = words.operand w.now
 the_part (Root w) = words.root w.now
 the_part (Logic l) = words.logic l
 the_part (Domains d) = words.domains d
+the_part (Limit n) = words.limit n.number
+the_part (Steps n) = words.steps n
 
 abbrev pub the_given : Given → words.Given
 the_given g = record {
@@ -32,4 +39,6 @@ the_given g = record {
   logic = g.logic;
   domains = g.domains;
   domains_at = g.domains_at;
+  limit = option_map (λ n. n.number) g.limit;
+  steps = g.steps;
 }

@@ -9,11 +9,13 @@ use Rattle.calculus.specs.declared.fault.TextCause.TheVariants as cause
 use Rattle.problem_build.specs.declared.fault.Cause.{Cause}
 use Rattle.problem_build.specs.declared.fault.Cause.TheVariants.{Syntax, Unsupported, Reserved, WrongLanguage, SecondConjecture, UnknownRole, IncludeTooDeep, IncludeNameAbsent, NoFormula}
 use Rattle.leancop_top.specs.declared.status.Status.{Status}
-use Rattle.leancop_top.specs.declared.status.Status.TheVariants.{Derived, Exhausted, Accepted, Rejected, BadWords, Missing, ReadFault, WriteFault, BadProblem, InputTooLarge, NestingTooDeep, FormulaTooLarge, TooManySymbols, MatrixTooLarge, NoMemory}
+use Rattle.leancop_top.specs.declared.status.Status.TheVariants.{Derived, Exhausted, NoTableau, StepsEnded, Accepted, Rejected, BadWords, Missing, ReadFault, WriteFault, BadProblem, InputTooLarge, NestingTooDeep, FormulaTooLarge, TooManySymbols, MatrixTooLarge, NoMemory}
 
 abbrev pub exit_of : Status → ℕ
 exit_of (Derived d) = 0
 exit_of (Exhausted d) = 1
+exit_of (NoTableau d) = 2
+exit_of (StepsEnded d n) = 3
 exit_of Accepted = 0
 exit_of (Rejected line fault) = 8
 exit_of (BadWords n) = 5
@@ -68,6 +70,8 @@ fault_text check.StillOpen = codes "still open"
 abbrev pub status_line : Status → List ℕ
 status_line (Derived d) = []
 status_line (Exhausted d) = codes "exhausted at limit " ++ decimal d ++ codes "\n"
+status_line (NoTableau d) = codes "no tableau at limit " ++ decimal d ++ codes "\n"
+status_line (StepsEnded d n) = codes "steps ended after limit " ++ decimal d ++ codes " at " ++ decimal n ++ codes " steps\n"
 status_line Accepted = codes "accepted\n"
 status_line (Rejected line fault) = codes "rejected at line " ++ decimal line ++ codes ": " ++ fault_text fault ++ codes "\n"
 status_line (BadWords n) = codes "bad word " ++ decimal n ++ codes "\n"

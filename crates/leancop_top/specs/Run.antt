@@ -10,20 +10,24 @@ use Rattle.calculus.specs.Judgement.{Verdict, IsOnlyJudgement, accepted, rejecte
 use Rattle.calculus.specs.Propositional.{IsPropositional, IsTautology}
 use Rattle.calculus.specs.Soundness.{IsTrueInStructures}
 use Rattle.calculus.specs.Tableaux.{HasClosed}
+use Rattle.calculus.specs.Choices.{IsLeft}
+use Rattle.calculus.specs.Counting.{AtMostMany, MoreThan}
+use Rattle.calculus.specs.Space.{Answer, IsAnswer, derived, exhausted, no_tableau}
+use Rattle.calculus.specs.Space.{ComesNoLater, IsMember, member_cmp}
+use Rattle.matrix_build.specs.Fits.{FitsMatrix}
 use Rattle.problem_build.specs.Building.{IsProblemOf, WalkFetches}
 use Rattle.problem_build.specs.Refusals.{Refusal, missing, input_too_large, nesting_too_deep}
 use Rattle.problem_build.specs.Refusals.{formula_too_large, too_many_symbols, bad as bad_problem}
-use Rattle.problem_build.specs.declared.fault.Cause.TheVariants.{Unsupported}
-use Rattle.propositional_search.specs.Matrix.{FitsMatrix}
 use Rattle.leancop_top.specs.declared.status.Status.{Status}
-use Rattle.leancop_top.specs.declared.status.Status.TheVariants.{Derived, Exhausted, Accepted}
+use Rattle.leancop_top.specs.declared.status.Status.TheVariants.{Derived, Exhausted, NoTableau}
+use Rattle.leancop_top.specs.declared.status.Status.TheVariants.{StepsEnded, Accepted}
 use Rattle.leancop_top.specs.declared.status.Status.TheVariants.{Rejected, BadWords, Missing}
 use Rattle.leancop_top.specs.declared.status.Status.TheVariants.{ReadFault, WriteFault, BadProblem}
 use Rattle.leancop_top.specs.declared.status.Status.TheVariants.{InputTooLarge, NestingTooDeep}
 use Rattle.leancop_top.specs.declared.status.Status.TheVariants.{FormulaTooLarge, TooManySymbols}
 use Rattle.leancop_top.specs.declared.status.Status.TheVariants.{MatrixTooLarge, NoMemory}
 use Rattle.leancop_top.specs.Output.{status_line}
-use Rattle.leancop_top.specs.Words.{Word, ProblemFile, Command, prove, check, bad}
+use Rattle.leancop_top.specs.Words.{Word, ProblemFile, Bounds, Command, prove, check, bad}
 
 -- ---- files
 
@@ -82,34 +86,50 @@ pub record IsDerivation (P : Problem) (limit : ℕ) (bytes : List ℕ) : Type 0 
   pub judged : IsOnlyJudgement P bytes accepted
   pub valid : IsValid P
 
--- some tableau is closed within the limit, which is at most the greatest, and none within a smaller
--- one
-pub record IsDerived (P : Problem) (limit : ℕ) (bytes : List ℕ) : Type 0 where
+-- what deepening on the path limit answers, up to the greatest limit that was asked for; a problem
+-- has no other answer
+pub record IsOnlyAnswer (P : Problem) (b : Bounds) (answer : Answer) : Type 0 where
+  pub answers : IsAnswer P b.limit answer
+  pub alone : (other : Answer) → IsAnswer P b.limit other → other ≡ answer
+
+-- some tableau is closed within the limit, and none within a smaller one
+pub record IsDerived (P : Problem) (b : Bounds) (limit : ℕ) (bytes : List ℕ) : Type 0 where
   pub fits : FitsMatrix P
-  pub searched : limit ≤ 100
-  pub closed : HasClosed P limit
+  pub answer : IsOnlyAnswer P b (derived limit)
   pub least : (e : ℕ) → e < limit → ¬ HasClosed P e
   pub written : IsDerivation P limit bytes
 
--- no tableau is closed within the greatest limit
-pub record IsExhausted (P : Problem) (limit : ℕ) : Type 0 where
+-- no tableau is closed within the greatest limit, and each limit up to it is left
+pub record IsExhausted (P : Problem) (b : Bounds) (limit : ℕ) : Type 0 where
   pub fits : FitsMatrix P
-  pub greatest : limit ≡ 100
-  pub none : ¬ HasClosed P 100
+  pub answer : IsOnlyAnswer P b (exhausted limit)
+
+-- the limit is the least one that is not left, and no tableau is closed within any limit at all
+pub record IsNoTableau (P : Problem) (b : Bounds) (limit : ℕ) : Type 0 where
+  pub fits : FitsMatrix P
+  pub answer : IsOnlyAnswer P b (no_tableau limit)
+  pub never : (e : ℕ) → ¬ HasClosed P e
+
+-- the budget was `steps`; each limit up to this one is left, and no tableau is closed within it;
+-- and more than `steps` members of the space up to the next limit come no later in the search than
+-- any closed tableau
+pub record IsStepsEnded (P : Problem) (b : Bounds) (limit steps : ℕ) : Type 0 where
+  pub fits : FitsMatrix P
+  pub budget : steps ≡ b.steps
+  pub below : limit < b.limit
+  pub left : (e : ℕ) → 1 ≤ e → e ≤ limit → IsLeft P e
+  pub none : ¬ HasClosed P limit
+  pub more : MoreThan member_cmp (ComesNoLater P limit) steps
 
 -- why the search for a derivation of a problem ends with a status, and with these bytes for a
 -- derivation
-abbrev pub SearchEnds : Problem → Status → List ℕ → Type 0
-SearchEnds P (Derived limit) bytes = IsDerived P limit bytes
-SearchEnds P (Exhausted limit) bytes = IsExhausted P limit
-SearchEnds P MatrixTooLarge bytes = ¬ FitsMatrix P
-SearchEnds P _ bytes = ⊥
-
--- so far there is a search for propositional problems alone
-abbrev pub ProvingEnds : Word → Problem → Status → List ℕ → Type 0
-ProvingEnds file P status bytes =
-    (IsPropositional P × SearchEnds P status bytes)
-    ⊎ (¬ IsPropositional P × (status ≡ BadProblem file 0 Unsupported))
+abbrev pub SearchEnds : Problem → Bounds → Status → List ℕ → Type 0
+SearchEnds P b (Derived limit) bytes = IsDerived P b limit bytes
+SearchEnds P b (Exhausted limit) bytes = IsExhausted P b limit
+SearchEnds P b (NoTableau limit) bytes = IsNoTableau P b limit
+SearchEnds P b (StepsEnded limit steps) bytes = IsStepsEnded P b limit steps
+SearchEnds P b MatrixTooLarge bytes = ¬ FitsMatrix P
+SearchEnds P b _ bytes = ⊥
 
 -- ---- the judgement
 
@@ -133,9 +153,9 @@ JudgingEnds told P derivation _ = ⊥
 
 -- why a run ends with a status, and with these bytes for a derivation
 abbrev pub Ends : Option Files → Command → Status → List ℕ → Type 0
-Ends told (prove p) status bytes =
+Ends told (prove p b) status bytes =
     ReadingEnds told p status
-    ⊎ ((P : Problem) × IsRead told p (Ok P) × ProvingEnds p.name P status bytes)
+    ⊎ ((P : Problem) × IsRead told p (Ok P) × SearchEnds P b status bytes)
 Ends told (check p derivation) status bytes =
     ReadingEnds told p status
     ⊎ ((P : Problem) × IsRead told p (Ok P) × JudgingEnds told P derivation status)
@@ -201,20 +221,30 @@ IsJudged (Rejected line fault) = ⊤
 IsJudged NoMemory = ⊤
 IsJudged _ = ⊥
 
--- the words ask for a problem that the files hold, it is propositional, and its matrix is small
--- enough
+-- the limit at which the search is decided
+abbrev pub limit_of : Answer → ℕ
+limit_of (derived d) = d
+limit_of (exhausted d) = d
+limit_of (no_tableau d) = d
+
+-- the words ask for a problem that the files hold, its matrix is small enough, and the budget is at
+-- least the number of members of the space up to the limit of the answer
 pub record IsProvable (told : Option Files) (command : Command) : Type 0 where
   pub files : Files
   pub tells : told ≡ Some files
   pub asked : ProblemFile
-  pub asks : command ≡ prove asked
+  pub bounds : Bounds
+  pub asks : command ≡ prove asked bounds
   pub problem : Problem
   pub read : Reading files asked (Ok problem)
-  pub propositional : IsPropositional problem
   pub fits : FitsMatrix problem
+  pub answer : Answer
+  pub answers : IsAnswer problem bounds.limit answer
+  pub enough : AtMostMany member_cmp (IsMember problem (limit_of answer)) bounds.steps
 
 abbrev pub IsDecided : Status → Type 0
 IsDecided (Derived limit) = ⊤
 IsDecided (Exhausted limit) = ⊤
+IsDecided (NoTableau limit) = ⊤
 IsDecided NoMemory = ⊤
 IsDecided _ = ⊥

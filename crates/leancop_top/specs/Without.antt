@@ -4,19 +4,15 @@ use Rattle.cop_base.specs.Outside.{Files}
 use Rattle.calculus.specs.Syntax.{Problem}
 use Rattle.leancop_top.specs.declared.status.Status.{Status}
 use Rattle.leancop_top.specs.declared.status.Status.TheVariants.{NoMemory}
-use Rattle.leancop_top.specs.Words.{Word, Command}
-use Rattle.leancop_top.specs.Run.{Ends, ProvingEnds, SearchEnds}
+use Rattle.leancop_top.specs.Words.{Bounds, Command}
+use Rattle.leancop_top.specs.Run.{Ends, SearchEnds}
 
 abbrev pub OrNoMemory : (Status → Type 0) → Status → Type 0
 OrNoMemory ends NoMemory = ⊤
 OrNoMemory ends status = ends status
 
-abbrev pub SearchEndsWithout : Problem → Status → Type 0
-SearchEndsWithout P = OrNoMemory (λ status. (bytes : List ℕ) → SearchEnds P status bytes)
-
-abbrev pub ProvingEndsWithout : Word → Problem → Status → Type 0
-ProvingEndsWithout file P =
-    OrNoMemory (λ status. (bytes : List ℕ) → ProvingEnds file P status bytes)
+abbrev pub SearchEndsWithout : Problem → Bounds → Status → Type 0
+SearchEndsWithout P b = OrNoMemory (λ status. (bytes : List ℕ) → SearchEnds P b status bytes)
 
 abbrev pub EndsWithout : Option Files → Command → Status → Type 0
 EndsWithout told command = OrNoMemory (λ status. (bytes : List ℕ) → Ends told command status bytes)

@@ -1,8 +1,10 @@
 -- The words of a run: a command, and its operands and options in any order.
 use Rattle.std.specs.Prelude.{ℕ, suc, List, [], ◌∷◌, Bool, true, false, ◌==◌, if◌then◌else◌}
-use Rattle.std.specs.Prelude.{Option, None, Some, codes, map, String, string_bytes}
+use Rattle.std.specs.Prelude.{◌&&◌, Option, None, Some, codes, decimal, map, nat_le, String}
+use Rattle.std.specs.Prelude.{string_bytes}
 use Rattle.std.specs.Global.{Global}
 use Rattle.std.specs.List.{starts_with}
+use Rattle.std.specs.Str.Parse.{digits_value}
 use Rattle.calculus.specs.declared.setting.Domains.{Domains}
 use Rattle.calculus.specs.declared.setting.Domains.TheVariants.{Constant, Cumulative, Varying}
 use Rattle.calculus.specs.declared.setting.Logic.{Logic}
@@ -26,9 +28,14 @@ pub record ProblemFile : Type 0 where
   pub root : Word
   pub setting : Setting
 
+-- how far a search goes: the greatest path limit, and the budget of steps
+pub record Bounds : Type 0 where
+  pub limit : ℕ
+  pub steps : ℕ
+
 -- places are counted from 1
 pub data Command : Type 0 where
-  prove : (problem : ProblemFile) → Command
+  prove : (problem : ProblemFile) (bounds : Bounds) → Command
   check : (problem : ProblemFile) (derivation : Word) → Command
   bad : (place : ℕ) → Command
 
@@ -39,6 +46,8 @@ pub data Part : Type 0 where
   root : Word → Part
   logic : Logic → Part
   domains : Domains → Part
+  limit : ℕ → Part
+  steps : ℕ → Part
 
 abbrev pub is : Word → Word → Bool
 is w v = list_eq ◌==◌ w v
@@ -72,6 +81,18 @@ abbrev pub root_of : Word → Option Part
 root_of [] = None
 root_of (b ∷ bs) = Some (root (b ∷ bs))
 
+-- a number from 1, in decimal without sign and without leading zeros
+abbrev pub number_of : (most : ℕ) → Word → Option ℕ
+number_of most w =
+    let n = digits_value 10 w in
+    if is w (decimal n) && nat_le 1 n && nat_le n most then Some n else None
+
+abbrev pub limit_of : Word → Option Part
+limit_of w = on (number_of 200 w) (λ n. Some (limit n)) None
+
+abbrev pub steps_of : Word → Option Part
+steps_of w = on (number_of 1099511627776 w) (λ n. Some (steps n)) None
+
 -- a word that is not empty and begins as no option does
 abbrev pub operand_of : Word → Option Part
 operand_of [] = None
@@ -81,10 +102,13 @@ operand_of (b ∷ bs) =
 abbrev pub part_of : Word → Option Part
 part_of w =
     on (behind (codes "--root=") w) root_of (on (behind (codes "--logic=") w) logic_of
-    (on (behind (codes "--domains=") w) domains_of (operand_of w)))
+    (on (behind (codes "--domains=") w) domains_of (on (behind (codes "--limit=") w) limit_of
+    (on (behind (codes "--steps=") w) steps_of (operand_of w)))))
 
 -- a command has this part, as far as it is built: a proof is searched for in classical logic alone
 abbrev pub has : Action → Part → Bool
+has action.Check (limit n) = false
+has action.Check (steps n) = false
 has action.Check part = true
 has action.Prove (logic Classical) = true
 has action.Prove (logic l) = false
@@ -101,6 +125,8 @@ pub record Given : Type 0 where
   pub logic : Option Logic
   pub domains : Option Domains
   pub domains_at : ℕ
+  pub limit : Option ℕ
+  pub steps : Option ℕ
 
 abbrev pub nothing_given : Given
 nothing_given = record {
@@ -110,6 +136,8 @@ nothing_given = record {
   logic = None;
   domains = None;
   domains_at = 0;
+  limit = None;
+  steps = None;
 }
 
 -- a part may be given once
@@ -128,6 +156,8 @@ with_part a place g (operand w) = with_operand a g w
 with_part a place g (root w) = once g.root (record g { root = Some w })
 with_part a place g (logic l) = once g.logic (record g { logic = Some l })
 with_part a place g (domains d) = once g.domains (record g { domains = Some d; domains_at = place })
+with_part a place g (limit n) = once g.limit (record g { limit = Some n })
+with_part a place g (steps n) = once g.steps (record g { steps = Some n })
 
 -- nothing where the word at this place is bad
 abbrev pub with_word : Action → (place : ℕ) → Given → Word → Option Given
@@ -142,6 +172,9 @@ logic_in g = on g.logic (λ l. l) Classical
 abbrev pub root_in : Given → Word
 root_in g = on g.root (λ r. r) []
 
+abbrev pub bounds_in : Given → Bounds
+bounds_in g = record { limit = on g.limit (λ n. n) 100; steps = on g.steps (λ n. n) 10000000 }
+
 abbrev pub problem_file : Given → Word → Domains → ProblemFile
 problem_file g file d =
     record { name = file; root = root_in g; setting = setting_of (logic_in g) d }
@@ -155,7 +188,8 @@ settled g file next =
 
 -- behind the last word, whose place is the one before
 abbrev pub finished : Action → (place : ℕ) → Given → Command
-finished action.Prove place g = on g.file (λ file. settled g file prove) (bad place)
+finished action.Prove place g =
+    on g.file (λ file. settled g file (λ p. prove p (bounds_in g))) (bad place)
 finished action.Check place g =
     on g.file
     (λ file. on g.derivation (λ derivation. settled g file (λ p. check p derivation)) (bad place))
