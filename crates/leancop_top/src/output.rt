@@ -22,6 +22,11 @@ pub fn status_line(alloc: Global, status: &Status) -> Result<Vec<u8>, NoMemory>
             let limit = buffer.format(*limit);
             value_line(alloc, b"exhausted at limit ", limit.as_bytes())
         }
+        Status::NoTableau { limit } => {
+            let limit = buffer.format(*limit);
+            value_line(alloc, b"no tableau at limit ", limit.as_bytes())
+        }
+        Status::StepsEnded { limit, steps } => steps_line(alloc, *limit, *steps),
         Status::BadWords { place } => {
             let place = buffer.format(*place);
             value_line(alloc, b"bad word ", place.as_bytes())
@@ -50,6 +55,20 @@ fn value_line(alloc: Global, text: &[u8], value: &[u8]) -> Result<Vec<u8>, NoMem
     let mut line = Vec::from_slice(alloc, text)?;
     line.extend_from_slice(value)?;
     line.extend_from_slice(b"\n")?;
+    Ok(line)
+}
+
+fn steps_line(alloc: Global, limit: u8, steps: u64) -> Result<Vec<u8>, NoMemory>
+    ensures { IfOk result (λ line. line.items
+        ≡ codes "steps ended after limit " ++ decimal limit ++ codes " at " ++ decimal steps
+            ++ codes " steps\n") }
+{
+    let mut buffer = Buffer::new();
+    let mut line = Vec::from_slice(alloc, b"steps ended after limit ")?;
+    line.extend_from_slice(buffer.format(limit).as_bytes())?;
+    line.extend_from_slice(b" at ")?;
+    line.extend_from_slice(buffer.format(steps).as_bytes())?;
+    line.extend_from_slice(b" steps\n")?;
     Ok(line)
 }
 

@@ -6,7 +6,7 @@ ghost use Rattle.calculus.specs.Problems.{is_problem};
 ghost use Rattle.calculus.specs.Soundness.{IsSound};
 ghost use Rattle.calculus.specs.Syntax as tree;
 ghost use Rattle.cop_base.specs.Outside.{Files, Rose};
-ghost use Rattle.leancop_top.specs.CommandView.{the_problem_file};
+ghost use Rattle.leancop_top.specs.CommandView.{the_bounds, the_problem_file};
 ghost use Rattle.leancop_top.specs.Output.{status_line};
 ghost use Rattle.leancop_top.specs.Run.{Answers, Ends, IsAnswered, IsCounted};
 ghost use Rattle.leancop_top.specs.Run.{IsCheckable, IsCutOff, IsDecided, IsJudged};
@@ -19,7 +19,7 @@ use crate::output::status_line;
 use crate::prove::{Proof, prove};
 use crate::reading::read_problem;
 use crate::status::Status;
-use crate::words::{Command, ProblemFile, command_of};
+use crate::words::{Bounds, Command, ProblemFile, command_of};
 use crate::writing::put_all;
 use cop_base::{Library, NoMemory, PutFault, Sink};
 use std::alloc::{AllocError, Global};
@@ -30,20 +30,21 @@ fn prove_file<L: Library>(
     alloc: Global,
     lib: &mut L,
     file: ProblemFile<'_>,
+    bounds: Bounds,
 ) -> Result<Proof, Status>
     ensures same_files { L.holds lib.new ≡ L.holds lib.old }
     ensures more_faults { L.faults lib.old ≤ L.faults lib.new }
     ensures more_misses { L.misses lib.old ≤ L.misses lib.new }
     ensures proved { IfOk result
-        (λ p. Ends (L.holds lib.old) (prove (the_problem_file file.entry))
+        (λ p. Ends (L.holds lib.old) (prove (the_problem_file file.entry) (the_bounds bounds))
         (Status.Derived p.limit) p.text.items) }
     ensures ended { IfErr result
-        (λ s. EndsWithout (L.holds lib.old) (prove (the_problem_file file.entry)) s) }
+        (λ s. EndsWithout (L.holds lib.old) (prove (the_problem_file file.entry) (the_bounds bounds)) s) }
     ensures counted { IfErr result (λ s. IsCounted
         (L.misses lib.old) (L.misses lib.new) (L.faults lib.old) (L.faults lib.new) s) }
 {
     match read_problem(alloc, lib, file) {
-        Ok(problem) => match prove(alloc, &problem, file.name) {
+        Ok(problem) => match prove(alloc, &problem, bounds) {
             Ok(proof) => Ok(proof),
             Err(status) => Err(status),
         },
@@ -103,7 +104,7 @@ fn answer<L: Library>(alloc: Global, words: &[String], lib: &mut L) -> Result<Re
 {
     match command_of(words) {
         Command::Bad { place } => status_reply(alloc, Status::BadWords { place }),
-        Command::Prove { problem } => match prove_file(alloc, lib, problem) {
+        Command::Prove { problem, bounds } => match prove_file(alloc, lib, problem, bounds) {
             Ok(Proof { limit, text }) => Ok(Reply {
                 status: Status::Derived { limit },
                 output: text,

@@ -1,28 +1,27 @@
 //! The search for a derivation of a problem.
 
-ghost use Rattle.std.specs.Prelude.{◌≡◌, ℕ, IfOk, IfErr, IsTrue, false};
+ghost use Rattle.std.specs.Prelude.{◌≡◌, IfOk, IfErr, IsTrue};
+ghost use Rattle.calculus.specs.declared.setting.Logic.TheVariants.{Classical};
 ghost use Rattle.calculus.specs.DerivationText.{is_limit};
-ghost use Rattle.calculus.specs.Lists.{terms_tree};
-ghost use Rattle.calculus.specs.Propositional.{IsPropositional, is_propositional};
-ghost use Rattle.calculus.specs.Syntax as tree;
-ghost use Rattle.formula_core.specs.FormulaView.{the_formula};
-ghost use Rattle.leancop_top.specs.Run.{IsDerivation, IsDerived, ProvingEnds};
-ghost use Rattle.leancop_top.specs.Without.{ProvingEndsWithout, SearchEndsWithout};
-ghost use Rattle.propositional_search.specs.Matrix.{FitsMatrix, IsMatrix};
-ghost use Rattle.tableau_core.specs.Closed.{IsClosedBy};
+ghost use Rattle.calculus.specs.Tableaux.{is_closed};
+ghost use Rattle.leancop_top.specs.CommandView.{the_bounds};
+ghost use Rattle.leancop_top.specs.Run.{IsDerivation, IsDerived};
+ghost use Rattle.leancop_top.specs.Without.{IsFound, SearchEndsWithout};
+ghost use Rattle.sequent_convert.specs.Conversion.{IsConverted};
+ghost use Rattle.sequent_calc.specs.DerivationView.{the_derivation};
+ghost use Rattle.tableau_core.specs.TableauView.{the_tableau};
 
-use crate::status::{Cause, Status};
-use cop_base::{NoMemory, Text};
+use crate::status::Status;
+use crate::words::Bounds;
+use connection_search::{Answer, deepen};
+use cop_base::{Ledger, NoMemory};
 use derivation_text::print;
-use formula_core::{Formula, Terms};
-use logic_rules::{Logic, Problem};
-use propositional_convert::convert;
-use propositional_search::{Answer, Matrix, MatrixFault, build_matrix, deepen};
-use std::alloc::{AllocError, Global};
-use tableau_core::Selection;
-
-// No greater path limit is searched.
-const MAX_LIMIT: u8 = 100;
+use logic_rules::Problem;
+use matrix_build::{MatrixFault, build_matrix};
+use sequent_calc::Derivation;
+use sequent_convert::convert;
+use std::alloc::Global;
+use tableau_core::Tableau;
 
 /// A derivation's text and the path limit that it carries.
 #[derive(Drop)]
@@ -31,106 +30,71 @@ pub struct Proof {
     pub text: Vec<u8>,
 }
 
-// Whether an atom with these arguments is propositional.
-fn are_none(args: &Terms) -> bool
-    ensures { (p : ℕ) → result ≡ is_propositional (tree.atom p (terms_tree args.now)) }
-{
-    args.len() == 0
-}
-
-// Whether the formula has no quantifier, no modal operator and no term.
-fn is_propositional(f: &Formula) -> bool
-    ensures { result ≡ is_propositional (the_formula f.now) }
-{
-    match f {
-        Formula::Atom(_, args) => are_none(args),
-        Formula::Not(a) => is_propositional(a),
-        Formula::And(a, b) | Formula::Or(a, b) | Formula::Imp(a, b) => {
-            is_propositional(a) && is_propositional(b)
-        }
-        Formula::All(_) | Formula::Ex(_) | Formula::Nec(_) | Formula::Poss(_) => false,
-    }
-}
-
-// Whether there is a search for the problem.
-fn is_searchable(problem: &Problem) -> bool
-    ensures yes { IsTrue result → IsPropositional problem.now }
-    ensures no { result ≡ false → ¬ IsPropositional problem.now }
-{
-    match problem.setting().logic() {
-        Logic::Classical => is_propositional(problem.formula()),
-        Logic::Intuitionistic | Logic::D | Logic::T | Logic::S4 | Logic::S5 => false,
-    }
-}
-
-fn print_derivation(
-    alloc: Global,
-    problem: &Problem,
-    selections: &[Selection],
+// A tableau and the least path limit within which one is closed.
+#[derive(Drop)]
+struct Found {
     limit: u8,
-) -> Result<Proof, NoMemory>
-    requires propositional { IsPropositional problem.now }
-    requires closed { IsClosedBy problem.now limit selections.now }
-    requires limit { IsTrue (is_limit limit) }
-    ensures { IfOk result (λ r. (r.limit ≡ limit) × IsDerivation problem.now limit r.text.items) }
+    tableau: Tableau,
+}
+
+// Builds the matrix and searches the path limits from 1 on. The matrix is given back here.
+fn search(alloc: Global, problem: &Problem, bounds: Bounds) -> Result<Found, Status>
+    requires classical { problem.now.setting.logic ≡ Classical }
+    ensures found { IfOk result
+        (λ f. IsFound problem.now (the_bounds bounds) f.limit (the_tableau f.tableau)) }
+    ensures ended { IfErr result (λ s. SearchEndsWithout problem.now (the_bounds bounds) s) }
 {
-    let derivation = convert(alloc, problem, selections, limit)?;
+    let matrix = match build_matrix(alloc, problem) {
+        Ok(matrix) => matrix,
+        Err(MatrixFault::TooLarge) => return Err(Status::MatrixTooLarge),
+        Err(MatrixFault::NoMemory) => return Err(Status::NoMemory),
+    };
+    let steps = bounds.steps;
+    let mut ledger = Ledger::new(steps);
+    match deepen(alloc, problem, &matrix, bounds.limit.number, &mut ledger) {
+        Ok(Answer::Closed { limit, tableau }) => Ok(Found { limit, tableau }),
+        Ok(Answer::Exhausted { limit }) => Err(Status::Exhausted { limit }),
+        Ok(Answer::NoTableau { limit }) => Err(Status::NoTableau { limit }),
+        Ok(Answer::Steps { limit }) => Err(Status::StepsEnded { limit, steps }),
+        Err(NoMemory) => Err(Status::NoMemory),
+    }
+}
+
+// Gives the tableau back, which may be large, before the derivation is printed.
+fn derive(alloc: Global, problem: &Problem, found: Found) -> Result<Derivation, NoMemory>
+    requires closed { IsTrue (is_closed problem.now found.limit (the_tableau found.tableau)) }
+    requires limit { IsTrue (is_limit found.limit) }
+    ensures { IfOk result (λ d. IsConverted problem.now found.limit (the_derivation d)) }
+{
+    convert(alloc, problem, &found.tableau, found.limit)
+}
+
+fn print_derivation(alloc: Global, problem: &Problem, found: Found) -> Result<Proof, NoMemory>
+    requires closed { IsTrue (is_closed problem.now found.limit (the_tableau found.tableau)) }
+    requires limit { IsTrue (is_limit found.limit) }
+    ensures { IfOk result
+        (λ r. (r.limit ≡ found.limit) × IsDerivation problem.now found.limit r.text.items) }
+{
+    let limit = found.limit;
+    let derivation = derive(alloc, problem, found)?;
     let text = print(alloc, problem, &derivation)?;
     let _symbols = problem.symbols(); // tells that it is a problem
     Ok(Proof { limit, text })
 }
 
-fn search(alloc: Global, problem: &Problem, matrix: &Matrix) -> Result<Proof, Status>
-    requires propositional { IsPropositional problem.now }
-    requires own_matrix { IsMatrix problem.now matrix.now }
-    requires fits { FitsMatrix problem.now }
-    ensures derived { IfOk result (λ r. IsDerived problem.now r.limit r.text.items) }
-    ensures ended { IfErr result (λ s. SearchEndsWithout problem.now s) }
-{
-    match deepen(alloc, problem, matrix, MAX_LIMIT) {
-        Ok(Answer::Closed { limit, selections }) => {
-            match print_derivation(alloc, problem, selections.as_slice(), limit) {
-                Ok(proof) => Ok(proof),
-                Err(NoMemory) => Err(Status::NoMemory),
-            }
-        }
-        Ok(Answer::Exhausted) => Err(Status::Exhausted { limit: MAX_LIMIT }),
-        Err(NoMemory) => Err(Status::NoMemory),
-    }
-}
-
-// Searches the path limits from 1 on for a closed tableau, and converts it to a derivation.
-fn prove_propositional(alloc: Global, problem: &Problem) -> Result<Proof, Status>
-    requires { IsPropositional problem.now }
-    ensures derived { IfOk result (λ r. IsDerived problem.now r.limit r.text.items) }
-    ensures ended { IfErr result (λ s. SearchEndsWithout problem.now s) }
-{
-    match build_matrix(alloc, problem) {
-        Ok(matrix) => search(alloc, problem, &matrix),
-        Err(MatrixFault::TooLarge) => Err(Status::MatrixTooLarge),
-        Err(MatrixFault::NoMemory) => Err(Status::NoMemory),
-    }
-}
-
-/// The derivation of a problem of this file; so far propositional problems alone are searched.
-#[tactic(auto, using(crate::proofs::Ends::searched_ends, crate::proofs::Ends::unsupported_ends,))]
-pub fn prove(alloc: Global, problem: &Problem, file: &str) -> Result<Proof, Status>
+/// The derivation of a problem, or why there is none.
+pub fn prove(alloc: Global, problem: &Problem, bounds: Bounds) -> Result<Proof, Status>
+    requires classical { problem.now.setting.logic ≡ Classical }
     ensures derived { IfOk result
-        (λ r. ProvingEnds file.now problem.now (Status.Derived r.limit) r.text.items) }
-    ensures ended { IfErr result (λ s. ProvingEndsWithout file.now problem.now s) }
+        (λ r. IsDerived problem.now (the_bounds bounds) r.limit r.text.items) }
+    ensures ended { IfErr result (λ s. SearchEndsWithout problem.now (the_bounds bounds) s) }
 {
-    if is_searchable(problem) {
-        return match prove_propositional(alloc, problem) {
-            Ok(proof) => Ok(proof),
-            Err(status) => Err(status),
-        };
-    }
-    match Text::new(alloc, file.as_bytes()) {
-        Ok(file) => Err(Status::BadProblem {
-            file,
-            offset: 0,
-            cause: Cause::Unsupported,
-        }),
+    let found = match search(alloc, problem, bounds) {
+        Ok(found) => found,
+        Err(status) => return Err(status),
+    };
+    match print_derivation(alloc, problem, found) {
+        Ok(proof) => Ok(proof),
         Err(NoMemory) => Err(Status::NoMemory),
     }
 }

@@ -17,9 +17,18 @@ pub enum Status {
     Derived {
         limit: u8,
     },
-    /// No tableau is closed within the path limit.
+    /// No tableau is closed within the path limit, the greatest that was asked for.
     Exhausted {
         limit: u8,
+    },
+    /// No tableau is closed within any path limit, which was seen at this one.
+    NoTableau {
+        limit: u8,
+    },
+    /// The budget of steps was used up; this is the last path limit that was searched whole, or 0.
+    StepsEnded {
+        limit: u8,
+        steps: u64,
     },
     /// The bytes are the text of a derivation that derives the problem's formula.
     Accepted,
@@ -68,6 +77,8 @@ pub fn exit_code(status: &Status) -> u8
     match status {
         Status::Derived { .. } | Status::Accepted => 0,
         Status::Exhausted { .. } => 1,
+        Status::NoTableau { .. } => 2,
+        Status::StepsEnded { .. } => 3,
         Status::BadProblem { .. }
         | Status::InputTooLarge
         | Status::NestingTooDeep

@@ -96,7 +96,7 @@ fn chain(alloc: Global, last: usize) -> Result<Vec<u8>, Fail> {
 const PIGEONHOLE: &[u8] =
     b"fof(pigeonhole,conjecture,\n    ~((p11 | p12 | p13)\n    & (p21 | p22 | p23)\n    & (p31 | p32 | p33)\n    & (p41 | p42 | p43)\n    & ~(p11 & p21)\n    & ~(p11 & p31)\n    & ~(p11 & p41)\n    & ~(p21 & p31)\n    & ~(p21 & p41)\n    & ~(p31 & p41)\n    & ~(p12 & p22)\n    & ~(p12 & p32)\n    & ~(p12 & p42)\n    & ~(p22 & p32)\n    & ~(p22 & p42)\n    & ~(p32 & p42)\n    & ~(p13 & p23)\n    & ~(p13 & p33)\n    & ~(p13 & p43)\n    & ~(p23 & p33)\n    & ~(p23 & p43)\n    & ~(p33 & p43))).\n";
 
-// Excluded middle, Peirce's law, and a formula with two branches.
+// Excluded middle, Peirce's law, a formula with two branches, and the drinker.
 #[test]
 fn derives_at_the_least_limit(rt: HostRuntime) -> Result<(), Fail> {
     for (conjecture, head) in [
@@ -112,6 +112,10 @@ fn derives_at_the_least_limit(rt: HostRuntime) -> Result<(), Fail> {
             b"(p & (p => q) & (q => r)) => r",
             b"leancop derivation 1\nlogic classical\nformula (((p & (p => q)) & (q => r)) => r)\nlimit 3\n",
         ),
+        (
+            b"?[X]:![Y]:(d(X) => d(Y))",
+            b"leancop derivation 1\nlogic classical\nformula ?[X1]:![X2]:(d(X1) => d(X2))\nlimit 1\n",
+        ),
     ] {
         let (code, output) = prove(rt.alloc(), conjecture)?;
         assert_eq!(rt; code, 0);
@@ -120,23 +124,42 @@ fn derives_at_the_least_limit(rt: HostRuntime) -> Result<(), Fail> {
     Ok(())
 }
 
-// In the third formula the only extension is irregular.
+// In the third formula the only extension is irregular, and in the fourth no term makes both goals
+// equal. The fifth asks for ever longer paths.
 #[test]
 fn answers_conjectures(rt: HostRuntime) -> Result<(), Fail> {
-    for (conjecture, status, told) in [
+    for (conjecture, option, status, told) in [
         (
             b"p => p".as_slice(),
+            "--limit=1",
             0,
             b"leancop derivation 1\nlogic classical\nformula (p => p)\nlimit 1\nuse 1\naxiom 2 3\nend\n".as_slice(),
         ),
-        (b"p", 1, b"exhausted at limit 100\n"),
-        (b"(p => p) => p", 1, b"exhausted at limit 100\n"),
-        (b"![X]: (p => p)", 4, b"m.p:0: unsupported\n"),
-        (b"p(a) => p(a)", 4, b"m.p:0: unsupported\n"),
+        (b"p", "--limit=1", 2, b"no tableau at limit 1\n"),
+        (b"(p => p) => p", "--limit=200", 2, b"no tableau at limit 1\n"),
+        (
+            b"(![X]:?[Y]:r(X,Y)) => ?[Y]:![X]:r(X,Y)",
+            "--logic=classical",
+            2,
+            b"no tableau at limit 1\n",
+        ),
+        (
+            b"(![X]:(p(f(X)) => p(X))) => p(a)",
+            "--limit=3",
+            1,
+            b"exhausted at limit 3\n",
+        ),
+        (
+            b"?[X]:![Y]:(d(X) => d(Y))",
+            "--steps=1",
+            3,
+            b"steps ended after limit 0 at 1 steps\n",
+        ),
     ] {
-        let (code, output) = prove(rt.alloc(), conjecture)?;
-        assert_eq!(rt; code, status);
-        assert!(rt; output.as_slice() == told);
+        let text = problem(rt.alloc(), conjecture)?;
+        let files = [("m.p", text.as_slice())];
+        let words = ["prove", option, "m.p"];
+        assert!(rt; ends(rt.alloc(), &words, &files, &[], status, told)?);
     }
     Ok(())
 }
@@ -145,7 +168,7 @@ fn answers_conjectures(rt: HostRuntime) -> Result<(), Fail> {
 #[test]
 fn counts_clauses_and_literals(rt: HostRuntime) -> Result<(), Fail> {
     for (count, status, told) in [
-        (8, 1, b"exhausted at limit 100\n".as_slice()),
+        (8, 2, b"no tableau at limit 1\n".as_slice()),
         (17, 4, b"matrix too large\n"),
         (16, 4, b"matrix too large\n"),
     ] {
@@ -168,7 +191,15 @@ fn obeys_words(rt: HostRuntime) -> Result<(), Fail> {
         (&["show", "m.p"], 5, b"bad word 1\n"),
         (&["prove"], 5, b"bad word 2\n"),
         (&["prove", ""], 5, b"bad word 2\n"),
-        (&["prove", "--limit=1", "m.p"], 5, b"bad word 2\n"),
+        (&["prove", "--limit=0", "m.p"], 5, b"bad word 2\n"),
+        (&["prove", "--limit=201", "m.p"], 5, b"bad word 2\n"),
+        (&["prove", "--steps=01", "m.p"], 5, b"bad word 2\n"),
+        (&["prove", "--limit=5", "--limit=6"], 5, b"bad word 3\n"),
+        (
+            &["prove", "--steps=1099511627777", "m.p"],
+            5,
+            b"bad word 2\n",
+        ),
         (&["prove", "m.p", "n.p"], 5, b"bad word 3\n"),
         (&["prove", "m.p", "--domains=varying"], 5, b"bad word 3\n"),
         (&["prove", "--logic=s4", "m.p"], 5, b"bad word 2\n"),
@@ -179,10 +210,16 @@ fn obeys_words(rt: HostRuntime) -> Result<(), Fail> {
             b"bad word 3\n",
         ),
         (
-            &["prove", "--logic=classical", "m.p", "--root=a"],
-            1,
-            b"exhausted at limit 100\n",
+            &["prove", "--logic=classical", "m.p", "--limit=200"],
+            2,
+            b"no tableau at limit 1\n",
         ),
+        (
+            &["prove", "m.p", "--root=a", "--steps=1099511627776"],
+            2,
+            b"no tableau at limit 1\n",
+        ),
+        (&["check", "m.p", "d.txt", "--limit=1"], 5, b"bad word 4\n"),
         (&["check"], 5, b"bad word 2\n"),
         (&["check", "m.p"], 5, b"bad word 3\n"),
         (&["check", "--logic=k", "m.p"], 5, b"bad word 2\n"),

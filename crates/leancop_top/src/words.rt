@@ -1,30 +1,49 @@
 //! The words of a run.
 
-ghost use Rattle.std.specs.Prelude.{◌≡◌, IfErr, IfOk, map, string_bytes};
+ghost use Rattle.std.specs.Prelude.{◌≡◌, ◌≤◌, IfErr, IfOk, IfSome, map, string_bytes};
 ghost use Rattle.std.specs.Option.{option_map};
 ghost use Rattle.calculus.specs.Problems.{is_modal};
-ghost use Rattle.leancop_top.specs.CommandView.{the_command, the_given, the_part, the_problem_file};
+ghost use Rattle.leancop_top.specs.CommandView.{
+  the_bounds,
+  the_command,
+  the_given,
+  the_part,
+  the_problem_file,
+};
 ghost use Rattle.leancop_top.specs.Words.{
   action_of,
   asked,
   bad,
   behind,
+  bounds_in,
   command_by,
   domains_of,
   finished,
   has,
+  limit_of,
   logic_of,
   nothing_given,
+  number_of,
   operand_of,
   part_of,
   root_of,
   settled,
+  steps_of,
   with_operand,
   with_part,
   with_word,
 };
 
+use itoa::Buffer;
 use logic_rules::{Domains, Logic, Setting};
+
+// No greater path limit can be asked for, and this one is searched to where none is.
+const MAX_LIMIT: u64 = 200;
+const USUAL_LIMIT: u8 = 100;
+
+// The same of the budget of steps.
+const MAX_STEPS: u64 = 1 << 40;
+const USUAL_STEPS: u64 = 10_000_000;
 
 /// A problem by the name of its main file, the root of the files that it includes (empty where
 /// there is none), and the setting in which it is read.
@@ -35,10 +54,26 @@ pub struct ProblemFile<'a> {
     pub setting: Setting,
 }
 
+/// A path limit that can be searched.
+#[derive(Clone, Copy)]
+pub struct PathLimit {
+    pub number: u8,
+    pub ghost from_one: { 1 ≤ number },
+    pub ghost to_200: { number ≤ 200 },
+}
+
+/// How far a search goes: the greatest path limit, and the budget of steps.
+#[derive(Clone, Copy)]
+pub struct Bounds {
+    pub limit: PathLimit,
+    pub steps: u64,
+}
+
 /// What the words ask for, or the place of the bad or missing word, from 1.
 pub enum Command<'a> {
     Prove {
         problem: ProblemFile<'a>,
+        bounds: Bounds,
     },
     Check {
         problem: ProblemFile<'a>,
@@ -62,6 +97,8 @@ pub enum Part<'a> {
     Root(&'a str),
     Logic(Logic),
     Domains(Domains),
+    Limit(PathLimit),
+    Steps(u64),
 }
 
 // What the words so far give; the place is that of the word of the domains.
@@ -73,6 +110,8 @@ pub struct Given<'a> {
     logic: Option<Logic>,
     domains: Option<Domains>,
     domains_at: u64,
+    limit: Option<PathLimit>,
+    steps: Option<u64>,
 }
 
 // What follows the front of a word.
@@ -119,6 +158,44 @@ fn root_of(value: &str) -> Option<Part<'_>>
     }
 }
 
+// A number from 1, as it is written without sign and without leading zeros.
+fn number_of(most: u64, value: &str) -> Option<u64>
+    ensures number { result ≡ number_of most value.now }
+    ensures from_one { IfSome result (λ n. 1 ≤ n) }
+    ensures to_most { IfSome result (λ n. n ≤ most) }
+{
+    let Ok(number) = value.parse::<u64>() else {
+        return None;
+    };
+    let mut buffer = Buffer::new();
+    let is_plain = buffer.format(number).as_bytes() == value.as_bytes();
+    if is_plain && 1 <= number && number <= most {
+        Some(number)
+    } else {
+        None
+    }
+}
+
+fn limit_of(value: &str) -> Option<Part<'_>>
+    ensures { option_map the_part result ≡ limit_of value.now }
+{
+    match number_of(MAX_LIMIT, value) {
+        Some(number) => Some(Part::Limit(PathLimit {
+            number: number as u8,
+        })),
+        None => None,
+    }
+}
+
+fn steps_of(value: &str) -> Option<Part<'_>>
+    ensures { option_map the_part result ≡ steps_of value.now }
+{
+    match number_of(MAX_STEPS, value) {
+        Some(number) => Some(Part::Steps(number)),
+        None => None,
+    }
+}
+
 fn operand_of(word: &str) -> Option<Part<'_>>
     ensures { option_map the_part result ≡ operand_of word.now }
 {
@@ -138,8 +215,14 @@ fn part_of(word: &str) -> Option<Part<'_>>
     if let Some(value) = behind("--logic=", word) {
         return logic_of(value);
     }
-    match behind("--domains=", word) {
-        Some(value) => domains_of(value),
+    if let Some(value) = behind("--domains=", word) {
+        return domains_of(value);
+    }
+    if let Some(value) = behind("--limit=", word) {
+        return limit_of(value);
+    }
+    match behind("--steps=", word) {
+        Some(value) => steps_of(value),
         None => operand_of(word),
     }
 }
@@ -149,9 +232,11 @@ fn has(action: Action, part: Part<'_>) -> bool
     ensures { result ≡ has action (the_part part.entry) }
 {
     match (action, part) {
-        (Action::Check, _) | (Action::Prove, Part::Operand(_) | Part::Root(_)) => true,
-        (Action::Prove, Part::Logic(Logic::Classical)) => true,
-        (Action::Prove, Part::Logic(_) | Part::Domains(_)) => false,
+        (Action::Check, Part::Limit(_) | Part::Steps(_)) => false,
+        (Action::Check, _) => true,
+        (Action::Prove, Part::Logic(logic)) => logic == Logic::Classical,
+        (Action::Prove, Part::Domains(_)) => false,
+        (Action::Prove, _) => true,
     }
 }
 
@@ -181,6 +266,8 @@ fn with_part<'a>(action: Action, place: u64, given: Given<'a>, part: Part<'a>) -
             given.domains = Some(domains);
             given.domains_at = place;
         }
+        Part::Limit(limit) if given.limit.is_none() => given.limit = Some(limit),
+        Part::Steps(steps) if given.steps.is_none() => given.steps = Some(steps),
         _ => return None,
     }
     Some(given)
@@ -225,6 +312,17 @@ fn settled<'a>(given: Given<'a>, file: &'a str) -> Result<ProblemFile<'a>, u64>
     })
 }
 
+fn bounds_in(given: Given<'_>) -> Bounds
+    ensures { the_bounds result ≡ bounds_in (the_given given.entry) }
+{
+    Bounds {
+        limit: given.limit.unwrap_or(PathLimit {
+            number: USUAL_LIMIT,
+        }),
+        steps: given.steps.unwrap_or(USUAL_STEPS),
+    }
+}
+
 // Behind the last word; the place is the next one.
 fn finished(action: Action, place: u64, given: Given<'_>) -> Command<'_>
     ensures { the_command result ≡ finished action place (the_given given.entry) }
@@ -241,7 +339,10 @@ fn finished(action: Action, place: u64, given: Given<'_>) -> Command<'_>
                 problem,
                 derivation,
             },
-            _ => Command::Prove { problem },
+            _ => Command::Prove {
+                problem,
+                bounds: bounds_in(given),
+            },
         },
         Err(place) => Command::Bad { place },
     }
@@ -264,6 +365,8 @@ const NOTHING_GIVEN: Given<'static> = Given {
     logic: None,
     domains: None,
     domains_at: 0,
+    limit: None,
+    steps: None,
 };
 
 // The words behind the command, of which the first stands at place 2.
