@@ -2,22 +2,25 @@
 use Rattle.std.proofs.Common.{◌≡◌, List, ℕ, Option, None, Some, Result, Ok, Err, refl, subst, inl, inr}
 use Rattle.std.specs.Prelude.{IfSome, IsSomeAnd}
 use Rattle.calculus.specs.Syntax.{Problem}
-use Rattle.calculus.specs.Propositional.{IsPropositional}
+use Rattle.calculus.specs.Counting.{AtMostMany}
+use Rattle.calculus.specs.Space.{Answer, IsAnswer, IsMember, member_cmp}
 use Rattle.cop_base.specs.Outside.{Files, file_in, Rose}
 use Rattle.problem_build.specs.Refusals.{Refusal, missing, input_too_large, nesting_too_deep}
 use Rattle.problem_build.specs.Refusals.{formula_too_large, too_many_symbols, bad as bad_problem}
-use Rattle.propositional_search.specs.Matrix.{FitsMatrix}
+use Rattle.matrix_build.specs.Fits.{FitsMatrix}
+use Rattle.leancop_top.proofs.Budgets.{not_steps_ended}
 use Rattle.leancop_top.specs.declared.status.Status.{Status}
-use Rattle.leancop_top.specs.declared.status.Status.TheVariants.{Derived, Exhausted, Accepted}
+use Rattle.leancop_top.specs.declared.status.Status.TheVariants.{Derived, Exhausted, NoTableau}
+use Rattle.leancop_top.specs.declared.status.Status.TheVariants.{StepsEnded, Accepted}
 use Rattle.leancop_top.specs.declared.status.Status.TheVariants.{Rejected, BadWords, Missing}
 use Rattle.leancop_top.specs.declared.status.Status.TheVariants.{ReadFault, WriteFault, BadProblem}
 use Rattle.leancop_top.specs.declared.status.Status.TheVariants.{InputTooLarge, NestingTooDeep}
 use Rattle.leancop_top.specs.declared.status.Status.TheVariants.{FormulaTooLarge, TooManySymbols}
 use Rattle.leancop_top.specs.declared.status.Status.TheVariants.{MatrixTooLarge, NoMemory}
-use Rattle.leancop_top.specs.Words.{Word, ProblemFile, Command}
+use Rattle.leancop_top.specs.Words.{Word, ProblemFile, Bounds, Command}
 use Rattle.leancop_top.specs.Run.{Ends, IsCheckable, IsCounted, IsDecided, IsJudged, IsProvable}
-use Rattle.leancop_top.specs.Run.{IsRead, JudgingEnds, Lacks, ProvingEnds, Reading, ReadingEnds}
-use Rattle.leancop_top.specs.Run.{SearchEnds}
+use Rattle.leancop_top.specs.Run.{IsRead, JudgingEnds, Lacks, Reading, ReadingEnds, SearchEnds}
+use Rattle.leancop_top.specs.Run.{limit_of}
 
 none-some : (text : List ℕ) (o : Option (List ℕ)) → o ≡ Some text → o ≡ None → ⊥
 none-some text o e k = absurd (cc)
@@ -47,6 +50,8 @@ not_refused told files p P t read (Some r) h = ok-err P r (Ok P) (Err r) refl re
 not_ended : (told : Option Files) (files : Files) (p : ProblemFile) (P : Problem) → told ≡ Some files → Reading files p (Ok P) → (m n f g : ℕ) (status : Status) → IsCounted m n f g status → ¬ Rose f g → ReadingEnds told p status → ⊥
 not_ended told files p P t read m n f g (Derived d) counted quiet h = not_refused told files p P t read None h
 not_ended told files p P t read m n f g (Exhausted d) counted quiet h = not_refused told files p P t read None h
+not_ended told files p P t read m n f g (NoTableau d) counted quiet h = not_refused told files p P t read None h
+not_ended told files p P t read m n f g (StepsEnded d steps) counted quiet h = not_refused told files p P t read None h
 not_ended told files p P t read m n f g Accepted counted quiet h = not_refused told files p P t read None h
 not_ended told files p P t read m n f g (Rejected at fault) counted quiet h = not_refused told files p P t read None h
 not_ended told files p P t read m n f g (BadWords place) counted quiet h = not_refused told files p P t read None h
@@ -63,28 +68,28 @@ not_ended told files p P t read m n f g NoMemory counted quiet h = not_refused t
 
 -- ---- the search
 
-searched : (P : Problem) → FitsMatrix P → (status : Status) (bytes : List ℕ) → SearchEnds P status bytes → IsDecided status
-searched P fits (Derived d) bytes h = tt
-searched P fits (Exhausted d) bytes h = tt
-searched P fits Accepted bytes h = absurd (h)
-searched P fits (Rejected at fault) bytes h = absurd (h)
-searched P fits (BadWords place) bytes h = absurd (h)
-searched P fits (Missing name) bytes h = absurd (h)
-searched P fits (ReadFault name) bytes h = absurd (h)
-searched P fits WriteFault bytes h = absurd (h)
-searched P fits (BadProblem name offset cause) bytes h = absurd (h)
-searched P fits InputTooLarge bytes h = absurd (h)
-searched P fits NestingTooDeep bytes h = absurd (h)
-searched P fits FormulaTooLarge bytes h = absurd (h)
-searched P fits TooManySymbols bytes h = absurd (h)
-searched P fits MatrixTooLarge bytes h = absurd (h fits)
-searched P fits NoMemory bytes h = tt
+-- the budget is enough for the problem
+abbrev IsEnough : Problem → Bounds → Type 0
+IsEnough P b = (a : Answer) × IsAnswer P b.limit a × AtMostMany member_cmp (IsMember P (limit_of a)) b.steps
 
-proved : (file : Word) (P : Problem) → IsPropositional P → FitsMatrix P → (status : Status) (bytes : List ℕ) → ProvingEnds file P status bytes → IsDecided status
-proved file P propositional fits status bytes h = elim h [
-  | inl s ↦ searched P fits status bytes s.1
-  | inr u ↦ absurd (u.0 propositional)
-]
+searched : (P : Problem) (b : Bounds) → FitsMatrix P → IsEnough P b → (status : Status) (bytes : List ℕ) → SearchEnds P b status bytes → IsDecided status
+searched P b fits e (Derived d) bytes h = tt
+searched P b fits e (Exhausted d) bytes h = tt
+searched P b fits e (NoTableau d) bytes h = tt
+searched P b fits e (StepsEnded d steps) bytes h = absurd (not_steps_ended P b d steps e.0 e.1.0 e.1.1 h)
+searched P b fits e Accepted bytes h = absurd (h)
+searched P b fits e (Rejected at fault) bytes h = absurd (h)
+searched P b fits e (BadWords place) bytes h = absurd (h)
+searched P b fits e (Missing name) bytes h = absurd (h)
+searched P b fits e (ReadFault name) bytes h = absurd (h)
+searched P b fits e WriteFault bytes h = absurd (h)
+searched P b fits e (BadProblem name offset cause) bytes h = absurd (h)
+searched P b fits e InputTooLarge bytes h = absurd (h)
+searched P b fits e NestingTooDeep bytes h = absurd (h)
+searched P b fits e FormulaTooLarge bytes h = absurd (h)
+searched P b fits e TooManySymbols bytes h = absurd (h)
+searched P b fits e MatrixTooLarge bytes h = absurd (h fits)
+searched P b fits e NoMemory bytes h = tt
 
 pub decided : (told : Option Files) (command : Command) (status : Status) (bytes : List ℕ) (m n f g : ℕ) → Ends told command status bytes → IsCounted m n f g status → ¬ Rose f g → IsProvable told command → IsDecided status
 decided told command status bytes m n f g ends counted quiet p =
@@ -92,7 +97,7 @@ decided told command status bytes m n f g ends counted quiet p =
       | inl r ↦ absurd (not_ended told p.files p.asked p.problem p.tells p.read m n f g status counted quiet r)
       | inr q ↦
           let same : p.problem ≡ q.0 = same-ok p.problem q.0 (Ok p.problem) (Ok q.0) refl refl (read_is told p.files p.asked p.problem (Ok q.0) p.tells p.read q.1) in
-          proved p.asked.name q.0 (subst IsPropositional same p.propositional) (subst FitsMatrix same p.fits) status bytes q.2
+          searched q.0 p.bounds (subst FitsMatrix same p.fits) (subst (λ P. IsEnough P p.bounds) same (p.answer, p.answers, p.enough)) status bytes q.2
     ]
 
 -- ---- the judgement
@@ -100,6 +105,8 @@ decided told command status bytes m n f g ends counted quiet p =
 judging : (told : Option Files) (files : Files) (P : Problem) (derivation : Word) (given : List ℕ) → told ≡ Some files → file_in files derivation ≡ Some given → (m n f g : ℕ) (status : Status) → IsCounted m n f g status → ¬ Rose f g → JudgingEnds told P derivation status → IsJudged status
 judging told files P derivation given t held m n f g (Derived d) counted quiet h = absurd h
 judging told files P derivation given t held m n f g (Exhausted d) counted quiet h = absurd h
+judging told files P derivation given t held m n f g (NoTableau d) counted quiet h = absurd h
+judging told files P derivation given t held m n f g (StepsEnded d steps) counted quiet h = absurd h
 judging told files P derivation given t held m n f g Accepted counted quiet h = tt
 judging told files P derivation given t held m n f g (Rejected at fault) counted quiet h = tt
 judging told files P derivation given t held m n f g (BadWords place) counted quiet h = absurd h

@@ -1,6 +1,10 @@
 pub mod Pieces
 pub mod WordLaws
-pub mod PropositionLaws
+pub mod NumberLaws
+pub mod ClassicalWords
+pub mod LimitLaws
+pub mod Budgets
+pub mod Searches
 pub mod Refusals
 pub mod Ends
 pub mod Complete

@@ -5,6 +5,7 @@ ghost use Rattle.calculus.specs.ComputedInstances.{ComputesInstances};
 ghost use Rattle.calculus.specs.Problems.{is_problem};
 ghost use Rattle.calculus.specs.Soundness.{IsSound};
 ghost use Rattle.calculus.specs.Syntax as tree;
+ghost use Rattle.calculus.specs.declared.setting.Logic.TheVariants.{Classical};
 ghost use Rattle.cop_base.specs.Outside.{Files, Rose};
 ghost use Rattle.leancop_top.specs.CommandView.{the_bounds, the_problem_file};
 ghost use Rattle.leancop_top.specs.Output.{status_line};
@@ -25,13 +26,14 @@ use cop_base::{Library, NoMemory, PutFault, Sink};
 use std::alloc::{AllocError, Global};
 
 // The proof for the problem of a file, or the status that a run without one ends with.
-#[tactic(auto, using(crate::proofs::Ends::read_ends_prove, crate::proofs::Ends::proved_ends, crate::proofs::Ends::proving_counted,))]
+#[tactic(auto, using(crate::proofs::Ends::read_ends_prove, crate::proofs::Ends::searched_ends, crate::proofs::Ends::searching_counted,))]
 fn prove_file<L: Library>(
     alloc: Global,
     lib: &mut L,
     file: ProblemFile<'_>,
     bounds: Bounds,
 ) -> Result<Proof, Status>
+    requires classical { (the_problem_file file.entry).setting.logic ≡ Classical }
     ensures same_files { L.holds lib.new ≡ L.holds lib.old }
     ensures more_faults { L.faults lib.old ≤ L.faults lib.new }
     ensures more_misses { L.misses lib.old ≤ L.misses lib.new }

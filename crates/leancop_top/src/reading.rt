@@ -3,6 +3,7 @@
 ghost use Rattle.std.specs.Prelude.{◌≡◌, ◌≤◌, IfErr, IfOk, Ok};
 ghost use Rattle.leancop_top.specs.CommandView.{the_problem_file};
 ghost use Rattle.leancop_top.specs.FaultView.{status_of};
+ghost use Rattle.logic_rules.specs.SettingView.{the_setting};
 ghost use Rattle.leancop_top.specs.Run.{IsCounted, IsRead, ReadingEnds};
 ghost use Rattle.leancop_top.specs.Without.{OrNoMemory};
 
@@ -44,6 +45,7 @@ pub fn read_problem<L: Library>(
 ) -> Result<Problem, Status>
     ensures problem { IfOk result
         (λ p. IsRead (L.holds lib.old) (the_problem_file file.entry) (Ok p)) }
+    ensures setting { IfOk result (λ p. p.setting ≡ the_setting file.setting) }
     ensures same_files { L.holds lib.new ≡ L.holds lib.old }
     ensures more_faults { L.faults lib.old ≤ L.faults lib.new }
     ensures more_misses { L.misses lib.old ≤ L.misses lib.new }

@@ -1,6 +1,7 @@
 //! The words of a run.
 
-ghost use Rattle.std.specs.Prelude.{◌≡◌, ◌≤◌, IfErr, IfOk, IfSome, map, string_bytes};
+ghost use Rattle.std.specs.Prelude.{◌≡◌, ◌<◌, ◌≤◌, ◌^◌, ℕ, IfErr, IfOk, IfSome, IsNone};
+ghost use Rattle.std.specs.Prelude.{decimal, map, string_bytes};
 ghost use Rattle.std.specs.Option.{option_map};
 ghost use Rattle.calculus.specs.Problems.{is_modal};
 ghost use Rattle.leancop_top.specs.CommandView.{
@@ -158,21 +159,30 @@ fn root_of(value: &str) -> Option<Part<'_>>
     }
 }
 
-// A number from 1, as it is written without sign and without leading zeros.
-fn number_of(most: u64, value: &str) -> Option<u64>
-    ensures number { result ≡ number_of most value.now }
-    ensures from_one { IfSome result (λ n. 1 ≤ n) }
-    ensures to_most { IfSome result (λ n. n ≤ most) }
+// The number that is written in just these bytes, without sign and without leading zeros.
+fn plain_number(value: &str) -> Option<u64>
+    ensures some { IfSome result (λ n. value.now ≡ decimal n) }
+    ensures none { IsNone result → (n : ℕ) → n < 2 ^ 64 → ¬ (value.now ≡ decimal n) }
 {
     let Ok(number) = value.parse::<u64>() else {
         return None;
     };
     let mut buffer = Buffer::new();
-    let is_plain = buffer.format(number).as_bytes() == value.as_bytes();
-    if is_plain && 1 <= number && number <= most {
+    if buffer.format(number).as_bytes() == value.as_bytes() {
         Some(number)
     } else {
         None
+    }
+}
+
+fn number_of(most: u64, value: &str) -> Option<u64>
+    ensures number { result ≡ number_of most value.now }
+    ensures from_one { IfSome result (λ n. 1 ≤ n) }
+    ensures to_most { IfSome result (λ n. n ≤ most) }
+{
+    match plain_number(value) {
+        Some(number) if 1 <= number && number <= most => Some(number),
+        _ => None,
     }
 }
 

@@ -1,0 +1,43 @@
+-- What deepening answers is what ends the search.
+use Rattle.std.proofs.Common.{◌≡◌, ℕ, ◌-◌, ◌≤◌, List, IsTrue, sym, subst, arith, nat_le}
+use Rattle.std.proofs.lemmas.Bool.{and_from, le-leb}
+use Rattle.calculus.specs.Syntax.{Problem}
+use Rattle.calculus.specs.Choices.{IsLeft}
+use Rattle.calculus.specs.DerivationText.{is_limit}
+use Rattle.calculus.specs.Space.{Answer, IsAnswer}
+use Rattle.calculus.proofs.AnswerLaws.{answer-unique}
+use Rattle.connection_search.specs.Outcomes.{IsDeepAnswer}
+use Rattle.connection_search.specs.declared.deepening.Answer.TheVariants as deep
+use Rattle.matrix_build.specs.Fits.{FitsMatrix}
+use Rattle.tableau_core.specs.TableauView.{the_tableau}
+use Rattle.leancop_top.proofs.LimitLaws.{none_below, none_within}
+use Rattle.leancop_top.specs.Words.{Bounds}
+use Rattle.leancop_top.specs.Run.{IsDerivation, IsDerived, IsExhausted, IsNoTableau, IsOnlyAnswer}
+use Rattle.leancop_top.specs.Run.{IsStepsEnded}
+use Rattle.leancop_top.specs.Without.{IsFound}
+
+only : (P : Problem) (b : Bounds) (a : Answer) → IsAnswer P b.limit a → IsOnlyAnswer P b a
+only P b a h = record { answers = h; alone = λ other g. answer-unique P b.limit other a g h }
+
+pub found : (P : Problem) (b : Bounds) (n d : ℕ) (t : _) → FitsMatrix P → IsDeepAnswer P b.limit n (deep.Closed d t) → IsFound P b d (the_tableau t)
+found P b n d t fits h = record { fits = fits; answer = only P b _ h.0; least = none_below P d h.0.3; closed = h.1 }
+
+pub exhausted-ends : (P : Problem) (b : Bounds) (n d : ℕ) → FitsMatrix P → IsDeepAnswer P b.limit n (deep.Exhausted d) → IsExhausted P b d
+exhausted-ends P b n d fits h = record { fits = fits; answer = only P b _ h }
+
+pub no_tableau-ends : (P : Problem) (b : Bounds) (n d : ℕ) → FitsMatrix P → IsDeepAnswer P b.limit n (deep.NoTableau d) → IsNoTableau P b d
+no_tableau-ends P b n d fits h = record { fits = fits; answer = only P b _ h.0; never = h.1 }
+
+-- nothing was used of the budget before
+pub steps-ends : (P : Problem) (b : Bounds) (n d : ℕ) → FitsMatrix P → n ≡ b.steps → IsDeepAnswer P b.limit n (deep.Steps d) → IsStepsEnded P b d n
+steps-ends P b n d fits same h = record {
+  fits = fits;
+  budget = same;
+  below = h.0;
+  left = h.1.left;
+  none = none_within P d h.1.none;
+  more = h.2;
+}
+
+pub limit-written : (P : Problem) (b : Bounds) (d : ℕ) → b.limit ≤ 200 → IsAnswer P b.limit (Rattle.calculus.specs.Space.derived d) → IsTrue (is_limit d)
+limit-written P b d most h = and_from (nat_le 1 d) (nat_le d 200) (le-leb 1 d h.0) (le-leb d 200 (omega (arith, h.1, most)))
