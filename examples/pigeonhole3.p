@@ -1,3 +1,5 @@
+% Four pigeons do not fit into three holes, where pij says that pigeon i is in hole j. `leancop prove`
+% answers a derivation at limit 8.
 fof(pigeonhole,conjecture,
     ~((p11 | p12 | p13)
     & (p21 | p22 | p23)

@@ -76,14 +76,16 @@ word-classical place g (Some part) next l e = part-classical place g part next l
 
 -- ---- all words
 
-mutual
-  proving-classical : (ws : List Word) (place : ℕ) (g : Given) (p : ProblemFile) (b : Bounds) → logic_in g ≡ Classical → command_by action.Prove place g ws ≡ prove p b → IsClassical p
-  proving-classical [] place g p b l e = finished-classical place g g.file p b l e
-  proving-classical (w ∷ ws) place g p b l e = next-classical ws place g w (with_word action.Prove place g w) p b l refl e
+next-classical : (place : ℕ) (g : Given) (w : Word) (o : Option Given) (rest : Given → Command) (p : ProblemFile) (b : Bounds) → ((next : Given) → with_word action.Prove place g w ≡ Some next → rest next ≡ prove p b → IsClassical p) → with_word action.Prove place g w ≡ o → on o rest (bad place) ≡ prove p b → IsClassical p
+next-classical place g w None rest p b h r e = absurd (bad-prove place p b e)
+next-classical place g w (Some next) rest p b h r e = h next r e
 
-  next-classical : (ws : List Word) (place : ℕ) (g : Given) (w : Word) (o : Option Given) (p : ProblemFile) (b : Bounds) → logic_in g ≡ Classical → with_word action.Prove place g w ≡ o → on o (λ next. command_by action.Prove (suc place) next ws) (bad place) ≡ prove p b → IsClassical p
-  next-classical ws place g w None p b l r e = absurd (bad-prove place p b e)
-  next-classical ws place g w (Some next) p b l r e = proving-classical ws (suc place) next p b (word-classical place g (part_of w) next l r) e
+proving-classical : (ws : List Word) (place : ℕ) (g : Given) (p : ProblemFile) (b : Bounds) → logic_in g ≡ Classical → command_by action.Prove place g ws ≡ prove p b → IsClassical p
+proving-classical [] place g p b l e = finished-classical place g g.file p b l e
+proving-classical (w ∷ ws) place g p b l e =
+    next-classical place g w (with_word action.Prove place g w) (λ next. command_by action.Prove (suc place) next ws) p b
+    (λ next r k. proving-classical ws (suc place) next p b (word-classical place g (part_of w) next l r) k)
+    refl e
 
 -- ---- a judgement is no proof
 
@@ -103,14 +105,13 @@ finished-check : (place : ℕ) (g : Given) (file : Option Word) (p : ProblemFile
 finished-check place g None p b e = bad-prove place p b e
 finished-check place g (Some f) p b e = derivation-check place g f g.derivation p b e
 
-mutual
-  judging-check : (ws : List Word) (place : ℕ) (g : Given) (p : ProblemFile) (b : Bounds) → command_by action.Check place g ws ≡ prove p b → ⊥
-  judging-check [] place g p b e = finished-check place g g.file p b e
-  judging-check (w ∷ ws) place g p b e = next-check ws place (with_word action.Check place g w) p b e
+next-check : (place : ℕ) (o : Option Given) (rest : Given → Command) (p : ProblemFile) (b : Bounds) → ((next : Given) → rest next ≡ prove p b → ⊥) → on o rest (bad place) ≡ prove p b → ⊥
+next-check place None rest p b h e = bad-prove place p b e
+next-check place (Some next) rest p b h e = h next e
 
-  next-check : (ws : List Word) (place : ℕ) (o : Option Given) (p : ProblemFile) (b : Bounds) → on o (λ next. command_by action.Check (suc place) next ws) (bad place) ≡ prove p b → ⊥
-  next-check ws place None p b e = bad-prove place p b e
-  next-check ws place (Some next) p b e = judging-check ws (suc place) next p b e
+judging-check : (ws : List Word) (place : ℕ) (g : Given) (p : ProblemFile) (b : Bounds) → command_by action.Check place g ws ≡ prove p b → ⊥
+judging-check [] place g p b e = finished-check place g g.file p b e
+judging-check (w ∷ ws) place g p b e = next-check place (with_word action.Check place g w) (λ next. command_by action.Check (suc place) next ws) p b (λ next k. judging-check ws (suc place) next p b k) e
 
 -- ---- the command
 

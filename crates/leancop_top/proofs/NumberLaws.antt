@@ -50,3 +50,9 @@ number-none most w h none = if-not (is w (decimal (digits_value 10 w)) && nat_le
         let inner = and_parts (is w (decimal n)) (nat_le 1 n) outer.0 in
         let to : n ≤ most = leb-true n most outer.1 in
         none n (omega (arith, to, h)) ((is-tells w (decimal n)).0 inner.0) (leb-true 1 n inner.1) to
+
+-- a number that is too great, or 0, is none
+pub number-outside : (most n : ℕ) (w : Word) → most < 2 ^ 64 → n < 2 ^ 64 → w ≡ decimal n → (1 ≤ n → n ≤ most → ⊥) → number_of most w ≡ None
+number-outside most n w h small e outside = number-none most w h (λ m k f from to.
+    let same : m ≡ n = sym (decimal_is_IsNumeral m k).1 ∙ ap (digits_value 10) (sym f ∙ e) ∙ (decimal_is_IsNumeral n small).1 in
+    outside (omega (arith, same, from)) (omega (arith, same, to)))

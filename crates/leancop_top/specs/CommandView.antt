@@ -2,13 +2,13 @@
 use Rattle.std.specs.Option.{option_map}
 use Rattle.logic_rules.specs.SettingView.{the_setting}
 use Rattle.leancop_top.specs.Words as words
-use Rattle.leancop_top.specs.declared.words.Bounds.{Bounds}
+use Rattle.leancop_top.specs.declared.bounds.Bounds.{Bounds}
 use Rattle.leancop_top.specs.declared.words.Command.{Command}
 use Rattle.leancop_top.specs.declared.words.Command.TheVariants.{Prove, Check, Bad}
 use Rattle.leancop_top.specs.declared.words.Given.{Given}
 use Rattle.leancop_top.specs.declared.words.Part.{Part}
 use Rattle.leancop_top.specs.declared.words.Part.TheVariants.{Operand, Root, Logic, Domains, Limit, Steps}
-use Rattle.leancop_top.specs.declared.words.PathLimit.{PathLimit}
+use Rattle.leancop_top.specs.declared.bounds.PathLimit.{PathLimit}
 use Rattle.leancop_top.specs.declared.words.ProblemFile.{ProblemFile}
 
 abbrev pub the_problem_file : ProblemFile → words.ProblemFile

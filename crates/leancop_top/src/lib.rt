@@ -1,6 +1,7 @@
 //! The commands of the prover.
 #![tactic(auto)]
 
+mod bounds;
 #[cfg(test)]
 mod check_tests;
 mod judging;

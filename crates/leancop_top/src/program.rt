@@ -15,12 +15,13 @@ ghost use Rattle.leancop_top.specs.Run.{IsProvable, OnAnswer};
 ghost use Rattle.leancop_top.specs.Without.{EndsWithout};
 ghost use Rattle.leancop_top.specs.Words.{asked, check, prove};
 
+use crate::bounds::Bounds;
 use crate::judging::judge_file;
 use crate::output::status_line;
 use crate::prove::{Proof, prove};
 use crate::reading::read_problem;
 use crate::status::Status;
-use crate::words::{Bounds, Command, ProblemFile, command_of};
+use crate::words::{Command, ProblemFile, command_of};
 use crate::writing::put_all;
 use cop_base::{Library, NoMemory, PutFault, Sink};
 use std::alloc::{AllocError, Global};

@@ -11,8 +11,8 @@ ghost use Rattle.sequent_convert.specs.Conversion.{IsConverted};
 ghost use Rattle.sequent_calc.specs.DerivationView.{the_derivation};
 ghost use Rattle.tableau_core.specs.TableauView.{the_tableau};
 
+use crate::bounds::Bounds;
 use crate::status::Status;
-use crate::words::Bounds;
 use connection_search::{Answer, deepen};
 use cop_base::{Ledger, NoMemory};
 use derivation_text::print;

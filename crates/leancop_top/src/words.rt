@@ -35,6 +35,7 @@ ghost use Rattle.leancop_top.specs.Words.{
   with_word,
 };
 
+use crate::bounds::{Bounds, PathLimit};
 use itoa::Buffer;
 use logic_rules::{Domains, Logic, Setting};
 
@@ -53,21 +54,6 @@ pub struct ProblemFile<'a> {
     pub name: &'a str,
     pub root: &'a str,
     pub setting: Setting,
-}
-
-/// A path limit that can be searched.
-#[derive(Clone, Copy)]
-pub struct PathLimit {
-    pub number: u8,
-    pub ghost from_one: { 1 ≤ number },
-    pub ghost to_200: { number ≤ 200 },
-}
-
-/// How far a search goes: the greatest path limit, and the budget of steps.
-#[derive(Clone, Copy)]
-pub struct Bounds {
-    pub limit: PathLimit,
-    pub steps: u64,
 }
 
 /// What the words ask for, or the place of the bad or missing word, from 1.
@@ -162,6 +148,7 @@ fn root_of(value: &str) -> Option<Part<'_>>
 // The number that is written in just these bytes, without sign and without leading zeros.
 fn plain_number(value: &str) -> Option<u64>
     ensures some { IfSome result (λ n. value.now ≡ decimal n) }
+    ensures small { IfSome result (λ n. n < 2 ^ 64) }
     ensures none { IsNone result → (n : ℕ) → n < 2 ^ 64 → ¬ (value.now ≡ decimal n) }
 {
     let Ok(number) = value.parse::<u64>() else {

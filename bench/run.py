@@ -1,0 +1,129 @@
+#!/usr/bin/env python3
+"""bench/run.py [options]
+Runs the built program over problems whose status is known, one after the other, and prints how many are solved in which time.
+  --program=FILE     the program (crates/leancop/out/leancop, which ./leancop builds)
+  --problems=FOLDER  a folder with an index.tsv: file, theorem or non-theorem, source, parted by tabs (bench/problems)
+  --root=FOLDER      the folder of included files (the one of the problem)
+  --filter=RE        problems whose file matches
+  --time=S           processor seconds for a problem (10)
+  --steps=N          the budget (1099511627776)
+  --baseline         the same calculus in Prolog (baseline.pl) beside it, where swipl is installed
+  --speed            steps in a second alone, of both, on problems that do not end
+Answers: T a derivation, which `check` accepts; N no tableau; x exhausted, or steps ended; r refused; . out of time; ? other.
+A `!` after an answer: it contradicts the status."""
+import collections, math, os, re, resource, shutil, subprocess, sys, tempfile, threading
+
+HERE = os.path.dirname(os.path.abspath(__file__))
+options = dict((a[2:] + "=1").split("=")[:2] for a in sys.argv[1:] if a.startswith("--"))
+if "help" in options or any(not a.startswith("--") for a in sys.argv[1:]):
+    sys.exit(__doc__)
+PROGRAM = os.path.abspath(options.get("program", os.path.join(HERE, "../crates/leancop/out/leancop")))
+PROBLEMS = os.path.abspath(options.get("problems", os.path.join(HERE, "problems")))
+LIMIT = float(options.get("time", 10))
+STEPS = options.get("steps", "1099511627776")
+HAS_PROLOG = shutil.which("swipl") is not None
+SPEED = ["fam/grpeq_rinv.p", "fam/set_distr.p", "pel/p34.p", "fam/debruijn_n3.p"]
+TIMES = [0.1, 1, 10]
+Problem = collections.namedtuple("Problem", "file status")
+Run = collections.namedtuple("Run", "code output seconds kilobytes")
+
+
+def run(command, folder, limit):
+    """A process with its processor time; the code is None where its time ran out."""
+    def bound():
+        resource.setrlimit(resource.RLIMIT_CPU, (math.ceil(limit), math.ceil(limit) + 1))
+    with tempfile.TemporaryFile() as out:
+        p = subprocess.Popen(command, cwd=folder, stdin=subprocess.DEVNULL, stdout=out, stderr=subprocess.DEVNULL, preexec_fn=bound)
+        timer = threading.Timer(3 * limit + 1, p.kill)
+        timer.start()
+        _, status, use = os.wait4(p.pid, 0)
+        timer.cancel()
+        p.returncode = os.waitstatus_to_exitcode(status)
+        out.seek(0)
+        code = p.returncode if p.returncode >= 0 else None
+        return Run(code, out.read().decode("latin-1"), use.ru_utime + use.ru_stime, use.ru_maxrss)
+
+
+def place(problem):
+    full = os.path.join(PROBLEMS, problem.file)
+    return os.path.basename(full), os.path.dirname(full)
+
+
+def words(command, problem, *more):
+    name, folder = place(problem)
+    return [PROGRAM, command, "--root=" + os.path.abspath(options.get("root", folder)), name, *more]
+
+
+def prove(problem):
+    name, folder = place(problem)
+    got = run(words("prove", problem, "--limit=200", "--steps=" + STEPS), folder, LIMIT)
+    answer = {0: "T", 1: "x", 2: "N", 3: "x", 4: "r", None: "."}.get(got.code, "?")
+    if answer == "T":
+        with tempfile.NamedTemporaryFile("w", encoding="latin-1") as derivation:
+            derivation.write(got.output)
+            derivation.flush()
+            judged = run(words("check", problem, derivation.name), folder, 60)
+        if judged.output != "accepted\n":
+            answer = "?"
+    return answer, got
+
+
+def prove_in_prolog(problem):
+    name, folder = place(problem)
+    command = ["swipl", "-O", "--stack_limit=4g", os.path.join(HERE, "baseline.pl"), name, "--logic=classical", "--root=" + os.path.abspath(options.get("root", folder)), "--time=%g" % LIMIT]
+    got = run(command, folder, LIMIT + 1)
+    return {"Theorem": "T", "NoTableau": "N", "Exhausted": "x", "Timeout": "."}.get(got.output.split(" ")[0], "." if got.code is None else "?"), got
+
+
+def is_right(problem, answer):
+    return (answer, problem.status) in [("T", "theorem"), ("N", "non-theorem")]
+
+
+def is_wrong(problem, answer):
+    return (answer, problem.status) in [("N", "theorem"), ("T", "non-theorem")]
+
+
+def read_problems():
+    with open(os.path.join(PROBLEMS, "index.tsv")) as index:
+        rows = [line.rstrip("\n").split("\t") for line in index if not line.startswith("#")]
+    return [Problem(r[0], r[1]) for r in rows if re.search(options.get("filter", ""), r[0])]
+
+
+def solve(problems):
+    provers = [("leancop", prove)] + ([("prolog", prove_in_prolog)] if "baseline" in options and HAS_PROLOG else [])
+    seen = {name: [] for name, _ in provers}
+    for problem in problems:
+        line = "%-26s %-12s" % (problem.file, problem.status)
+        for name, prover in provers:
+            answer, got = prover(problem)
+            seen[name].append((problem, answer, got))
+            line += "  %s%s %7.2f s %7d kB" % (answer, "!" if is_wrong(problem, answer) else " ", got.seconds, got.kilobytes)
+        print(line, flush=True)
+    print("\n| prover | solved of %d in %s s | exhausted or steps ended | out of time | refused | other | wrong |" % (len(problems), ", ".join("%g" % t for t in TIMES)))
+    print("|---|---|---|---|---|---|---|")
+    for name, answers in seen.items():
+        solved = ", ".join(str(sum(is_right(p, a) and g.seconds <= t for p, a, g in answers)) for t in TIMES)
+        counts = [sum(a == letter for _, a, _ in answers) for letter in "x.r?"]
+        print("| %s | %s | %d | %d | %d | %d | %d |" % (name, solved, *counts, sum(is_wrong(p, a) for p, a, _ in answers)))
+
+
+def measure_speed(problems):
+    print("| problem | leancop, steps a second | Prolog, steps a second | ratio |\n|---|---|---|---|")
+    for problem in [p for p in problems if p.file in SPEED]:
+        name, folder = place(problem)
+        got = run(words("prove", problem, "--limit=200", "--steps=1000000"), folder, 60)
+        ended = re.search(r"at (\d+) steps", got.output)
+        mine = int(ended.group(1)) / max(got.seconds, 1e-3) if ended else None
+        other = None
+        if HAS_PROLOG:
+            told = re.search(r"steps=(\d+) kept=\d+ cpu=([\d.]+)", prove_in_prolog(problem)[1].output)
+            other = int(told.group(1)) / max(float(told.group(2)), 1e-3) if told else None
+        show = lambda x: "%.0f" % x if x else "-"
+        print("| %s | %s | %s | %s |" % (problem.file, show(mine), show(other), "%.2f" % (mine / other) if mine and other else "-"), flush=True)
+
+
+if __name__ == "__main__":
+    if "speed" in options:
+        measure_speed(read_problems())
+    else:
+        solve(read_problems())
