@@ -1,9 +1,0 @@
-pub mod Matrix
-pub mod ClausesOf
-pub mod ClauseView
-pub mod Places
-pub mod Codes
-pub mod Search
-pub mod PathView
-pub mod Deepening
-pub mod Examples
