@@ -1,14 +1,15 @@
 -- What deepening answers is what ends the search.
-use Rattle.std.proofs.Common.{◌≡◌, ℕ, ◌-◌, ◌≤◌, List, IsTrue, sym, subst, arith, nat_le}
+use Rattle.std.proofs.Common.{◌≡◌, ℕ, ◌-◌, ◌≤◌, List, IsTrue, refl, sym, subst, arith, nat_le}
 use Rattle.std.proofs.lemmas.Bool.{and_from, le-leb}
 use Rattle.calculus.specs.Syntax.{Problem}
-use Rattle.calculus.specs.Choices.{IsLeft}
+use Rattle.calculus.specs.Counting.{MoreThan}
 use Rattle.calculus.specs.DerivationText.{is_limit}
-use Rattle.calculus.specs.Space.{Answer, IsAnswer}
+use Rattle.calculus.specs.Space.{Answer, IsAnswer, derived, ComesNoLater, member_cmp}
 use Rattle.calculus.proofs.AnswerLaws.{answer-unique}
 use Rattle.connection_search.specs.Outcomes.{IsDeepAnswer}
 use Rattle.connection_search.specs.declared.deepening.Answer.TheVariants as deep
 use Rattle.matrix_build.specs.Fits.{FitsMatrix}
+use Rattle.calculus.specs.Tableaux.{Tableau}
 use Rattle.tableau_core.specs.TableauView.{the_tableau}
 use Rattle.leancop_top.proofs.LimitLaws.{none_below, none_within}
 use Rattle.leancop_top.specs.Words.{Bounds}
@@ -29,15 +30,19 @@ pub no_tableau-ends : (P : Problem) (b : Bounds) (n d : ℕ) → FitsMatrix P �
 no_tableau-ends P b n d fits h = record { fits = fits; answer = only P b _ h.0; never = h.1 }
 
 -- nothing was used of the budget before
-pub steps-ends : (P : Problem) (b : Bounds) (n d : ℕ) → FitsMatrix P → n ≡ b.steps → IsDeepAnswer P b.limit n (deep.Steps d) → IsStepsEnded P b d n
+pub steps-ends : (P : Problem) (b : Bounds) (n d : ℕ) → FitsMatrix P → n ≡ b.steps → IsDeepAnswer P b.limit n (deep.Steps d) → IsStepsEnded P b d b.steps
 steps-ends P b n d fits same h = record {
   fits = fits;
-  budget = same;
+  budget = refl;
   below = h.0;
   left = h.1.left;
   none = none_within P d h.1.none;
-  more = h.2;
+  more = subst (MoreThan member_cmp (ComesNoLater P d)) same h.2;
 }
 
-pub limit-written : (P : Problem) (b : Bounds) (d : ℕ) → b.limit ≤ 200 → IsAnswer P b.limit (Rattle.calculus.specs.Space.derived d) → IsTrue (is_limit d)
+pub limit-written : (P : Problem) (b : Bounds) (d : ℕ) → b.limit ≤ 200 → IsAnswer P b.limit (derived d) → IsTrue (is_limit d)
 limit-written P b d most h = and_from (nat_le 1 d) (nat_le d 200) (le-leb 1 d h.0) (le-leb d 200 (omega (arith, h.1, most)))
+
+pub derived-by : (P : Problem) (b : Bounds) (d n : ℕ) (t : Tableau) (bytes : List ℕ) → IsFound P b d t → (n ≡ d) × IsDerivation P d bytes → IsDerived P b n bytes
+derived-by P b d n t bytes f h =
+    subst (λ k. IsDerived P b k bytes) (sym h.0) (record { fits = f.fits; answer = f.answer; least = f.least; written = h.1 })

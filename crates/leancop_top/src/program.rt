@@ -34,7 +34,7 @@ fn prove_file<L: Library>(
     file: ProblemFile<'_>,
     bounds: Bounds,
 ) -> Result<Proof, Status>
-    requires classical { (the_problem_file file.entry).setting.logic ≡ Classical }
+    requires classical { (the_problem_file file).setting.logic ≡ Classical }
     ensures same_files { L.holds lib.new ≡ L.holds lib.old }
     ensures more_faults { L.faults lib.old ≤ L.faults lib.new }
     ensures more_misses { L.misses lib.old ≤ L.misses lib.new }

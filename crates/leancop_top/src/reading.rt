@@ -45,7 +45,7 @@ pub fn read_problem<L: Library>(
 ) -> Result<Problem, Status>
     ensures problem { IfOk result
         (λ p. IsRead (L.holds lib.old) (the_problem_file file.entry) (Ok p)) }
-    ensures setting { IfOk result (λ p. p.setting ≡ the_setting file.setting) }
+    ensures setting { IfOk result (λ p. p.setting ≡ the_setting file.entry.setting) }
     ensures same_files { L.holds lib.new ≡ L.holds lib.old }
     ensures more_faults { L.faults lib.old ≤ L.faults lib.new }
     ensures more_misses { L.misses lib.old ≤ L.misses lib.new }

@@ -8,17 +8,17 @@ use Rattle.leancop_top.proofs.prove.print_derivation.Goals as goal
 pub returns : goal.returns
 returns c =
     let d = the_derivation c.in_ok-derivation.derivation in
-    let derives = c.in_ok-derivation.ensures.derives in
+    let converted = c.in_ok-derivation.ensures in
     let text = c.in_ok-text.ensures.text in
     let well = c.symbols-symbols.ensures.well in
-    let true_in = derived-true c.args.problem.now well d text.printable derives in (
+    let true_in = derived-true c.args.problem.now well d text.printable converted.derives in (
       refl,
       record {
         derivation = d;
-        carries = c.in_ok-derivation.ensures.limit;
-        derives = derives;
+        carries = converted.carries;
+        derives = converted.derives;
         text = text;
-        judged = accepted-only c.args.problem.now c.in_ok-text.text.items d text derives c.in_ok-text.ensures.one;
+        judged = accepted-only c.args.problem.now c.in_ok-text.text.items d text converted.derives c.in_ok-text.ensures.one;
         valid = record { true_in_structures = true_in; tautology = λ h. tautology c.args.problem.now well h true_in };
       },
     )
