@@ -34,7 +34,7 @@ record IsPassed (P : Problem) (d : ℕ) : Type 0 where
 behind : (P : Problem) (m d : ℕ) → d < m → IsPassed P d → (a : Answer) → IsAnswer P m a → d + 1 ≤ limit_of a
 behind P m d less p (derived e) h = elim (cases_lt d e) [
   | inl after ↦ omega arith
-  | inr before ↦ absurd (p.none (closed-mono P e d before h.2.0))
+  | inr before ↦ absurd (p.none (closed-mono P e d before h.2))
 ]
 behind P m d less p (exhausted e) h = omega (arith, h.0)
 behind P m d less p (no_tableau e) h = elim (cases_lt d e) [

@@ -76,7 +76,7 @@ searched : (P : Problem) (b : Bounds) → FitsMatrix P → IsEnough P b → (sta
 searched P b fits e (Derived d) bytes h = tt
 searched P b fits e (Exhausted d) bytes h = tt
 searched P b fits e (NoTableau d) bytes h = tt
-searched P b fits e (StepsEnded d steps) bytes h = absurd (not_steps_ended P b d steps e.0 e.1.0 e.1.1 h)
+searched P b fits e (StepsEnded d steps) bytes h = absurd (not_steps_ended P b d steps e.0 e.1 e.2 h)
 searched P b fits e Accepted bytes h = absurd (h)
 searched P b fits e (Rejected at fault) bytes h = absurd (h)
 searched P b fits e (BadWords place) bytes h = absurd (h)
