@@ -61,7 +61,7 @@ fn value_line(alloc: Global, text: &[u8], value: &[u8]) -> Result<Vec<u8>, NoMem
 fn steps_line(alloc: Global, limit: u8, steps: u64) -> Result<Vec<u8>, NoMemory>
     ensures { IfOk result (λ line. line.items
         ≡ codes "steps ended after limit " ++ decimal limit ++ codes " at " ++ decimal steps
-            ++ codes " steps\n") }
+        ++ codes " steps\n") }
 {
     let mut buffer = Buffer::new();
     let mut line = Vec::from_slice(alloc, b"steps ended after limit ")?;

@@ -136,7 +136,12 @@ fn answers_conjectures(rt: HostRuntime) -> Result<(), Fail> {
             b"leancop derivation 1\nlogic classical\nformula (p => p)\nlimit 1\nuse 1\naxiom 2 3\nend\n".as_slice(),
         ),
         (b"p", "--limit=1", 2, b"no tableau at limit 1\n"),
-        (b"(p => p) => p", "--limit=200", 2, b"no tableau at limit 1\n"),
+        (
+            b"(p => p) => p",
+            "--limit=200",
+            2,
+            b"no tableau at limit 1\n",
+        ),
         (
             b"(![X]:?[Y]:r(X,Y)) => ?[Y]:![X]:r(X,Y)",
             "--logic=classical",

@@ -39,12 +39,14 @@ use crate::bounds::{Bounds, PathLimit};
 use itoa::Buffer;
 use logic_rules::{Domains, Logic, Setting};
 
-// No greater path limit can be asked for, and this one is searched to where none is.
+// The greatest path limit and the greatest budget that can be asked for.
 const MAX_LIMIT: u64 = 200;
+
+const MAX_STEPS: u64 = 1 << 40;
+
+// The path limit and the budget where none is asked for.
 const USUAL_LIMIT: u8 = 100;
 
-// The same of the budget of steps.
-const MAX_STEPS: u64 = 1 << 40;
 const USUAL_STEPS: u64 = 10_000_000;
 
 /// A problem by the name of its main file, the root of the files that it includes (empty where
