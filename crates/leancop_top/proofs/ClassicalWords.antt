@@ -9,7 +9,7 @@ use Rattle.calculus.specs.declared.setting.Logic.{Logic}
 use Rattle.calculus.specs.declared.setting.Logic.TheVariants.{Classical, Intuitionistic, D, T, S4, S5}
 use Rattle.leancop_top.specs.declared.words.Action.{Action}
 use Rattle.leancop_top.specs.declared.words.Action.TheVariants as action
-use Rattle.leancop_top.specs.Words.{Bounds, Command, Given, Part, ProblemFile, Word, action_of, asked, bad, bounds_in, check, command_by, command_of, domains, has, limit, logic, logic_in, nothing_given, on, once, operand, part_of, problem_file, prove, root, settled, steps, with_part, with_word}
+use Rattle.leancop_top.specs.Words.{Bounds, Command, Given, Part, ProblemFile, Word, action_of, asked, bad, bounds_in, check, command_by, command_of, domains, finished, has, limit, logic, logic_in, nothing_given, on, once, operand, part_of, problem_file, prove, root, settled, steps, with_part, with_word}
 
 abbrev IsClassical : ProblemFile → Type 0
 IsClassical p = p.setting.logic ≡ Classical

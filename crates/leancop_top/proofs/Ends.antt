@@ -1,5 +1,5 @@
 -- What ends reading, proving or judging ends the run.
-use Rattle.std.proofs.Common.{List, [], ℕ, Option, Ok, inl, inr}
+use Rattle.std.proofs.Common.{◌≡◌, List, [], ℕ, Option, Ok, refl, sym, subst, inl, inr}
 use Rattle.calculus.specs.Syntax.{Problem}
 use Rattle.cop_base.specs.Outside.{Files}
 use Rattle.leancop_top.specs.declared.status.Status.{Status}

@@ -1,5 +1,5 @@
 -- What deepening answers is what ends the search.
-use Rattle.std.proofs.Common.{◌≡◌, ℕ, ◌≤◌, List, IsTrue, refl, sym, subst, arith, nat_le}
+use Rattle.std.proofs.Common.{◌≡◌, ℕ, ◌-◌, ◌≤◌, List, IsTrue, refl, sym, subst, arith, nat_le}
 use Rattle.std.proofs.lemmas.Bool.{and_from, le-leb}
 use Rattle.calculus.specs.Syntax.{Problem}
 use Rattle.calculus.specs.Counting.{MoreThan}

@@ -8,6 +8,7 @@ use Rattle.leancop_top.specs.declared.words.Command.TheVariants.{Prove, Check, B
 use Rattle.leancop_top.specs.declared.words.Given.{Given}
 use Rattle.leancop_top.specs.declared.words.Part.{Part}
 use Rattle.leancop_top.specs.declared.words.Part.TheVariants.{Operand, Root, Logic, Domains, Limit, Steps}
+use Rattle.leancop_top.specs.declared.bounds.PathLimit.{PathLimit}
 use Rattle.leancop_top.specs.declared.words.ProblemFile.{ProblemFile}
 
 abbrev pub the_problem_file : ProblemFile → words.ProblemFile

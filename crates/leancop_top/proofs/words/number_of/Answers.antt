@@ -1,5 +1,5 @@
-use Rattle.std.proofs.Common.{arith, sym}
-use Rattle.leancop_top.proofs.NumberLaws.{number-outside, number-some}
+use Rattle.std.proofs.Common.{◌≤◌, arith, sym}
+use Rattle.leancop_top.proofs.NumberLaws.{number-none, number-outside, number-some}
 use Rattle.leancop_top.proofs.words.number_of.Goals as goal
 
 pub returns-in-Some-clause-number : goal.returns-in-Some-clause-number
