@@ -25,12 +25,14 @@ impl Visited {
         }
     }
 
-    // Forgets all visits.
+    // Forgets all visits. Emptying a set goes over the room that it keeps, so an empty one is left.
     pub(crate) fn clear(&mut self)
         ensures { (x : ℕ) (y : ℕ) → was_seen self.new.pairs.keys x y ≡ false }
     {
         self.visits = 0;
-        self.pairs.clear();
+        if !self.pairs.is_empty() {
+            self.pairs.clear();
+        }
     }
 
     // Whether the pair is to be visited: it is not known that it was.
