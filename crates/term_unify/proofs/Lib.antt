@@ -1,4 +1,5 @@
 pub mod StepLaws
 pub mod PairLaws
+pub mod OnePairLaws
 pub mod VisitLaws
 pub mod DoublingLaws

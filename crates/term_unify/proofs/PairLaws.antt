@@ -232,7 +232,7 @@ pair_cells-parts s (r ∷ rs) (q ∷ qs) h k = (h.0, k.0, pair_cells-parts s rs 
 
 -- ---- what occurs in pairs
 
-occurs-from_end : (s : Store) (v r e : ℕ) → EndsAt s r e → OccursIn s v e → OccursIn s v r
+pub occurs-from_end : (s : Store) (v r e : ℕ) → EndsAt s r e → OccursIn s v e → OccursIn s v r
 occurs-from_end s v r e (stays f b) o = o
 occurs-from_end s v r e (goes_on f h) o = in_part 0 f refl (occurs-from_end s v _ e h o)
 
@@ -406,8 +406,11 @@ pub record Unified (s t : Store) (first left : List (ℕ × ℕ)) : Type 0 where
   pub occurs : (v : ℕ) → OccursInPairs t v left → OccursInPairs s v first
   pub within : BindsInPairs first s t
 
+pub BindsInPairs-same : (ps : List (ℕ × ℕ)) (s : Store) → BindsInPairs ps s s
+BindsInPairs-same ps s = λ v k sort e f. absurd (let q : Some (variable sort None) ≡ Some (variable sort (Some k)) = sym e ∙ f in cc q)
+
 pub unified-first : (s : Store) (ps : List (ℕ × ℕ)) → AreCells s ps → IsWellFormed s → Unified s s ps ps
-unified-first s ps h w = record { cells = h; down = λ σ h p. (h, p); up = λ σ h p. (h, p); marks = KeepsMarks-same s; binds = BindsOnly-same s; sound = w; occurs = λ v o. o; within = λ v k sort e f. absurd (let q : Some (variable sort None) ≡ Some (variable sort (Some k)) = sym e ∙ f in cc q) }
+unified-first s ps h w = record { cells = h; down = λ σ h p. (h, p); up = λ σ h p. (h, p); marks = KeepsMarks-same s; binds = BindsOnly-same s; sound = w; occurs = λ v o. o; within = BindsInPairs-same ps s }
 
 -- what occurs once v is bound to r: what occurred there or in r
 occurs-bound : (t : Store) (v r k q : ℕ) (sort : Sort) → slice_get t.cells v ≡ Some (variable sort None) → OccursIn (with_binding v r t) k q → OccursIn t k q ⊎ OccursIn t k r
@@ -458,7 +461,7 @@ unified-done s t first left w h σ = (λ k. w.up σ k (h σ k), λ p. (w.down σ
 pub unified-apart : (s t : Store) (first left : List (ℕ × ℕ)) → Unified s t first left → ((σ : Solution) → Solves t σ → ¬ SolvesPairs σ left) → (σ : Solution) → Solves s σ → ¬ SolvesPairs σ first
 unified-apart s t first left w h σ k p = let a = w.down σ k p in h σ a.0 a.1
 
-occurs-built : (s : Store) (v r : ℕ) (b : IsBinding s v r) → OccursIn s v r → is_variable b.end.0 ≡ false
+pub occurs-built : (s : Store) (v r : ℕ) (b : IsBinding s v r) → OccursIn s v r → is_variable b.end.0 ≡ false
 occurs-built s v r b here = absurd (b.other refl)
 occurs-built s v r b (in_part i {k = k} {c = c} e p o) = by b.end.0 b.end.2 (let q : c ≡ b.end.0 = let w : Some c ≡ Some b.end.0 = sym e ∙ b.end.1 in cc in ap (λ x. slice_get (parts_of x) i) (sym q) ∙ p)
   where
@@ -475,43 +478,6 @@ pub unified-occurs : (s t : Store) (first left rest : List (ℕ × ℕ)) (v r : 
 unified-occurs s t first left rest v r w b h o σ k p =
     let a = w.down σ k p in
     occurs-apart t σ v r b.end.0 a.0 b.end.1 (occurs-built t v r b o) o b.other ((h σ a.0).0 a.1).0
-
-pub unifies-one : (s t : Store) (a b : ℕ) (ps : List (ℕ × ℕ)) → ps ≡ (a, b) ∷ [] → SolvesAll s t ps → IsWellFormed t → Unifies a b s t
-unifies-one s t a b ps e h w =
-    let h' = subst (SolvesAll s t) e h in
-    (λ σ. (λ k. let p = (h' σ).0 k in (p.0, p.1.0), λ k q. (h' σ).1 (k, (q, tt))), some_solution t w.fits w.rank)
-
-pub apart-one : (s : Store) (a b : ℕ) (ps : List (ℕ × ℕ)) → ps ≡ (a, b) ∷ [] → ((σ : Solution) → Solves s σ → ¬ SolvesPairs σ ps) → AreApart a b s
-apart-one s a b ps e h σ k q = h σ k (subst (SolvesPairs σ) (sym e) (q, tt))
-
--- bindings in one pair
-pub within-one : (s t : Store) (a b : ℕ) (ps : List (ℕ × ℕ)) → ps ≡ (a, b) ∷ [] → BindsInPairs ps s t → BindsWithin a b s t
-within-one s t a b ps e h = record { bound = λ v k sort f g. one v (h v k sort f g).0; target = λ v k sort f g. one k (h v k sort f g).1 }
-  where
-    one : (v : ℕ) → OccursInPairs s v ps → OccursIn s v a ⊎ OccursIn s v b
-    one v o = elim (subst (OccursInPairs s v) e o) [ inl x ↦ x | inr x ↦ absurd x ]
-
-pub within-same : (s : Store) (a b : ℕ) → BindsWithin a b s s
-within-same s a b = record { bound = λ v k sort e f. absurd (none v k sort e f); target = λ v k sort e f. absurd (none v k sort e f) }
-  where
-    none : (v k : ℕ) (sort : Sort) → slice_get s.cells v ≡ Some (variable sort None) → slice_get s.cells v ≡ Some (variable sort (Some k)) → ⊥
-    none v k sort e f = let q : Some (variable sort None) ≡ Some (variable sort (Some k)) = sym e ∙ f in cc q
-
--- one pair that is equal
-pub same-one : (s : Store) (a b : ℕ) (ps : List (ℕ × ℕ)) → ps ≡ (a, b) ∷ [] → ((σ : Solution) → Solves s σ → SolvesPairs σ ps) → (σ : Solution) → Solves s σ → σ a ≡ σ b
-same-one s a b ps e h σ k = (subst (SolvesPairs σ) e (h σ k)).0
-
-first-of : (s : Store) (v a b : ℕ) → OccursInPairs s v ((a, b) ∷ []) → OccursIn s v a ⊎ OccursIn s v b
-first-of s v a b (inl o) = o
-first-of s v a b (inr o) = absurd o
-
--- one pair that a binding would make equal
-pub differs-one : (s : Store) (a b v r : ℕ) (ps qs : List (ℕ × ℕ)) → ps ≡ (a, b) ∷ [] → IsBinding s v r → ((σ : Solution) → Solves s σ → (SolvesPairs σ ps → (σ v ≡ σ r) × SolvesPairs σ qs) × ((σ v ≡ σ r) × SolvesPairs σ qs → SolvesPairs σ ps)) → OccursBefore s ps ((v, r) ∷ qs) → DiffersBy s a b v r
-differs-one s a b v r ps qs e binding h before = record {
-  binding = binding;
-  forces = λ σ k q. ((h σ k).0 (subst (SolvesPairs σ) (sym e) (q, tt))).0;
-  occurs = first-of s v a b (subst (OccursInPairs s v) e (before v (inl (inl here))));
-}
 
 -- what holds whatever the answer is
 pub IfOk-always : {A E : Type 0} (r : Result A E) (P : A → Type 0) → ((x : A) → P x) → IfOk r P

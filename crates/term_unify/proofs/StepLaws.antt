@@ -38,7 +38,7 @@ ended-sort : (s : Store) (a x : ℕ) (h : Head) (w : Ended s a x h) → sort_of 
 ended-sort s a x h w = sym (head_sort-of w.cell) ∙ ap head_sort w.shows
 
 -- both ways between the cells and the ends of their bindings
-both-ends : (s : Store) (σ : Solution) (a b x y : ℕ) → Solves s σ → EndsAt s a x → EndsAt s b y → (σ a ≡ σ b → σ x ≡ σ y) × (σ x ≡ σ y → σ a ≡ σ b)
+pub both-ends : (s : Store) (σ : Solution) (a b x y : ℕ) → Solves s σ → EndsAt s a x → EndsAt s b y → (σ a ≡ σ b → σ x ≡ σ y) × (σ x ≡ σ y → σ a ≡ σ b)
 both-ends s σ a b x y h e f = (λ q. sym (ends-same s σ a x h e) ∙ q ∙ ends-same s σ b y h f, λ q. ends-same s σ a x h e ∙ q ∙ sym (ends-same s σ b y h f))
 
 pub step-same : (s : Store) (a b x y : ℕ) → EndsAt s a x → EndsAt s b y → x ≡ y → (σ : Solution) → Solves s σ → σ a ≡ σ b

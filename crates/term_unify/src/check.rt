@@ -23,7 +23,7 @@ fn push_all(store: &Store, r: Ref, places: &mut Vec<Ref>) -> Result<(), NoMemory
 }
 
 // Whether the variable occurs in the other cell, under the bindings; `places` is room for the work, and `visited` for
-// the cells that were looked at. A cell without parts needs no memory.
+// the cells that were looked at; a cell without parts needs neither.
 pub(crate) fn occurs(
     store: &Store,
     v: Ref,
@@ -37,6 +37,9 @@ pub(crate) fn occurs(
     ensures yes { IfOk result (λ found. found ≡ true → OccursIn store.now.store v.0 r.0) }
     ensures no { IfOk result (λ found. found ≡ false → ¬ OccursIn store.now.store v.0 r.0) }
 {
+    if store.parts(r) == 0 {
+        return Ok(false);
+    }
     places.clear();
     visited.clear();
     push_all(store, r, places)?;

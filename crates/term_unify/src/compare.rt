@@ -107,7 +107,9 @@ pub(crate) fn push_parts(
     pairs: &mut Vec<(Ref, Ref)>,
 ) -> Result<(), NoMemory>
     requires { AreBuilt store.now.store a.0 b.0 }
-    ensures { OnOk result (AddsParts store.now.store a.0 b.0 (map the_pair pairs.old.items) (map the_pair pairs.new.items)) }
+    ensures well { IsWellFormed store.now.store }
+    ensures added { OnOk result (AddsParts store.now.store a.0 b.0 (map the_pair pairs.old.items)
+        (map the_pair pairs.new.items)) }
 {
     for i in 0..store.parts(a) {
         pairs.push((store.part(a, i), store.part(b, i)))?;

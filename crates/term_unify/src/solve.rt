@@ -5,7 +5,7 @@ ghost use Rattle.calculus.specs.Bindings.{AreApart, BindsOnly, BindsWithin, IsWe
 ghost use Rattle.calculus.specs.Stores.{Solution, Solves};
 ghost use Rattle.term_store.specs.Room.{KeepsRoom};
 ghost use Rattle.term_unify.specs.PairView.{the_pair};
-ghost use Rattle.term_unify.specs.Steps.{AreCells, AreDifferent, BindsInPairs, IsNext, SolvesAll};
+ghost use Rattle.term_unify.specs.Steps.{AreBuilt, AreCells, AreDifferent, BindsInPairs, IsNext, SolvesAll};
 
 use crate::check::occurs;
 use crate::compare::{Step, compare, push_parts};
@@ -81,6 +81,35 @@ fn solve_pairs(
     }
 }
 
+// As `solve_pairs`, but otherwise the store is as before.
+fn unify_pairs(
+    store: &mut Store,
+    pairs: &mut Vec<(Ref, Ref)>,
+    places: &mut Vec<Ref>,
+    visited: &mut Visited,
+) -> Result<bool, NoMemory>
+    requires { AreCells store.old.store (map the_pair pairs.old.items) }
+    ensures solved { IfOk result (λ equal. equal ≡ true
+        → SolvesAll store.old.store store.new.store (map the_pair pairs.old.items)) }
+    ensures apart { IfOk result (λ equal. equal ≡ false → (σ : Solution)
+        → Solves store.old.store σ → ¬ SolvesPairs σ (map the_pair pairs.old.items)) }
+    ensures unchanged { IfOk result (λ equal. equal ≡ false → store.new.store ≡ store.old.store) }
+    ensures no_memory { OnErr result (store.new.store ≡ store.old.store) }
+    ensures marks { KeepsMarks store.old.store store.new.store }
+    ensures binds { BindsOnly store.old.store store.new.store }
+    ensures within { BindsInPairs (map the_pair pairs.old.items) store.old.store store.new.store }
+    ensures room { KeepsRoom store.old store.new }
+    ensures well { IsWellFormed store.new.store }
+{
+    let start = store.mark();
+    let answer = solve_pairs(store, pairs, places, visited);
+    if let Ok(true) = answer {
+        return answer;
+    }
+    store.undo(start);
+    answer
+}
+
 /// Unification, with room for its work that is used again from call to call.
 #[derive(Drop)]
 pub struct Unifier {
@@ -114,15 +143,42 @@ impl Unifier {
         ensures within { BindsWithin a.0 b.0 store.old.store store.new.store }
         ensures room { KeepsRoom store.old store.new }
     {
-        let start = store.mark();
-        self.pairs.clear();
-        self.pairs.push((a, b))?;
-        let answer = solve_pairs(store, &mut self.pairs, &mut self.places, &mut self.visited);
-        if let Ok(true) = answer {
-            return answer;
+        match compare(store, a, b) {
+            Step::Same => Ok(true),
+            Step::Apart => Ok(false),
+            Step::Bind(v, to) => {
+                if occurs(store, v, to, &mut self.places, &mut self.visited)? {
+                    return Ok(false);
+                }
+                store.reserve(1)?;
+                store.bind(v, to);
+                Ok(true)
+            }
+            Step::Parts(left, right) => {
+                let equal = self.unify_parts(store, left, right)?;
+                Ok(equal)
+            }
         }
-        store.undo(start);
-        answer
+    }
+
+    // As `unify`, of built cells that are alike.
+    fn unify_parts(&mut self, store: &mut Store, a: Ref, b: Ref) -> Result<bool, NoMemory>
+        requires { AreBuilt store.old.store a.0 b.0 }
+        ensures unifies { IfOk result (λ equal. equal ≡ true
+            → Unifies a.0 b.0 store.old.store store.new.store) }
+        ensures apart { IfOk result (λ equal. equal ≡ false → AreApart a.0 b.0 store.old.store) }
+        ensures unchanged { IfOk result (λ equal. equal ≡ false
+            → store.new.store ≡ store.old.store) }
+        ensures no_memory { OnErr result (store.new.store ≡ store.old.store) }
+        ensures marks { KeepsMarks store.old.store store.new.store }
+        ensures binds { BindsOnly store.old.store store.new.store }
+        ensures within { BindsWithin a.0 b.0 store.old.store store.new.store }
+        ensures room { KeepsRoom store.old store.new }
+    {
+        self.pairs.clear();
+        push_parts(store, a, b, &mut self.pairs)?;
+        let equal = unify_pairs(store, &mut self.pairs, &mut self.places, &mut self.visited)?;
+        Ok(equal)
     }
 }
 
@@ -134,8 +190,27 @@ impl Unifier {
         ensures same { IfOk result (λ same. same ≡ true → (σ : Solution) → Solves store.now.store σ → σ a.0 ≡ σ b.0) }
         ensures different { IfOk result (λ same. same ≡ false → AreDifferent store.now.store a.0 b.0) }
     {
+        match compare(store, a, b) {
+            Step::Same => Ok(true),
+            Step::Apart => Ok(false),
+            Step::Bind(_, _) => Ok(false),
+            Step::Parts(left, right) => {
+                let same = self.have_same_parts(store, left, right)?;
+                Ok(same)
+            }
+        }
+    }
+
+    // As `are_same`, of built cells that are alike.
+    fn have_same_parts(&mut self, store: &Store, a: Ref, b: Ref) -> Result<bool, NoMemory>
+        requires { AreBuilt store.now.store a.0 b.0 }
+        ensures same { IfOk result (λ same. same ≡ true → (σ : Solution) → Solves store.now.store σ
+            → σ a.0 ≡ σ b.0) }
+        ensures different { IfOk result (λ same. same ≡ false
+            → AreDifferent store.now.store a.0 b.0) }
+    {
         self.pairs.clear();
-        self.pairs.push((a, b))?;
+        push_parts(store, a, b, &mut self.pairs)?;
         match next_binding(store, &mut self.pairs, &mut self.visited)? {
             Next::Done => Ok(true),
             Next::Apart => Ok(false),

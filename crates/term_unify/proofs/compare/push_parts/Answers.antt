@@ -13,8 +13,8 @@ loop-i-preserved c = λ d e f g.
     ap (map the_pair) c.in_ok-push.ensures.items
     ∙ pairs-added c.args.store.now.store c.args.a.0 c.args.b.0 c.loop-i.i d e c.part.result c.part-in-loop-i.result c.loop-i.pairs.items c.args.pairs.now.items c.requires f g c.part.ensures.part c.part-in-loop-i.ensures.part (c.loop-i.invariant d e f g)
 
-pub returns : goal.returns
-returns c = λ d e f g.
+pub returns-clause-added : goal.returns-clause-added
+returns-clause-added c = λ d e f g.
     let q : c.loop-i.i ≡ c.parts-i-end.result = omega arith in
     c.loop-i.invariant d e f g ∙ ap (λ n. map the_pair c.args.pairs.now.items ++ part_pairs (take n (parts_of d)) (take n (parts_of e))) q
     ∙ ap (λ xs. map the_pair c.args.pairs.now.items ++ xs) (pairs-done c.args.store.now.store c.args.a.0 c.args.b.0 c.parts-i-end.result d e c.requires f g c.parts-i-end.ensures.count)

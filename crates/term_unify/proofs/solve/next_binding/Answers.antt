@@ -33,10 +33,10 @@ pub returns-in-Bind-clause-cells : goal.returns-in-Bind-clause-cells
 returns-in-Bind-clause-cells c = comes-rest c.args.store.now.store (map the_pair c.args.pairs.now.items) (map the_pair c.loop-a.pairs.items) (map the_pair c.pop.new.self.items) c.in-Some.a.0 c.in-Some.b.0 c.loop-a.invariant.comes (ap (map the_pair) c.in-Some.ensures.items ∙ map-last the_pair c.pop.new.self.items (c.in-Some.a, c.in-Some.b))
 
 pub loop-a-smaller-in-Continue-branch-2 : goal.loop-a-smaller-in-Continue-branch-2
-loop-a-smaller-in-Continue-branch-2 c = parts-less c.args.store.now.store (map the_pair c.loop-a.pairs.items) (map the_pair c.pop.new.self.items) (map the_pair c.push_parts.new.pairs.items) c.in-Some.a.0 c.in-Some.b.0 c.in-Parts.left.0 c.in-Parts.right.0 c.in-Parts.ensures.well (ap (map the_pair) c.in-Some.ensures.items ∙ map-last the_pair c.pop.new.self.items (c.in-Some.a, c.in-Some.b)) c.in-Parts.ensures.step c.in_ok-push_parts-in-Parts.ensures
+loop-a-smaller-in-Continue-branch-2 c = parts-less c.args.store.now.store (map the_pair c.loop-a.pairs.items) (map the_pair c.pop.new.self.items) (map the_pair c.push_parts.new.pairs.items) c.in-Some.a.0 c.in-Some.b.0 c.in-Parts.left.0 c.in-Parts.right.0 c.in-Parts.ensures.well (ap (map the_pair) c.in-Some.ensures.items ∙ map-last the_pair c.pop.new.self.items (c.in-Some.a, c.in-Some.b)) c.in-Parts.ensures.step c.in_ok-push_parts-in-Parts.ensures.added
 
 pub loop-a-preserved-in-Continue-branch-2 : goal.loop-a-preserved-in-Continue-branch-2
-loop-a-preserved-in-Continue-branch-2 c = parts-wait c.args.store.now.store (map the_pair c.args.pairs.now.items) (map the_pair c.loop-a.pairs.items) (map the_pair c.pop.new.self.items) (map the_pair c.push_parts.new.pairs.items) c.loop-a.visited.pairs.keys c.visit.new.self.pairs.keys c.in-Some.a.0 c.in-Some.b.0 c.in-Parts.left.0 c.in-Parts.right.0 c.in-Parts.ensures.well c.loop-a.invariant (ap (map the_pair) c.in-Some.ensures.items ∙ map-last the_pair c.pop.new.self.items (c.in-Some.a, c.in-Some.b)) c.in-Parts.ensures.step c.in_ok-push_parts-in-Parts.ensures c.in_ok-visit-in-Parts.ensures.noted
+loop-a-preserved-in-Continue-branch-2 c = parts-wait c.args.store.now.store (map the_pair c.args.pairs.now.items) (map the_pair c.loop-a.pairs.items) (map the_pair c.pop.new.self.items) (map the_pair c.push_parts.new.pairs.items) c.loop-a.visited.pairs.keys c.visit.new.self.pairs.keys c.in-Some.a.0 c.in-Some.b.0 c.in-Parts.left.0 c.in-Parts.right.0 c.in-Parts.ensures.well c.loop-a.invariant (ap (map the_pair) c.in-Some.ensures.items ∙ map-last the_pair c.pop.new.self.items (c.in-Some.a, c.in-Some.b)) c.in-Parts.ensures.step c.in_ok-push_parts-in-Parts.ensures.added c.in_ok-visit-in-Parts.ensures.noted
 
 pub loop-a-smaller : goal.loop-a-smaller
 loop-a-smaller c = pairs-less c.args.store.now.store (map the_pair c.loop-a.pairs.items) (map the_pair c.pop.new.self.items) c.in-Some.a.0 c.in-Some.b.0 (ap (map the_pair) c.in-Some.ensures.items ∙ map-last the_pair c.pop.new.self.items (c.in-Some.a, c.in-Some.b))

@@ -1,45 +1,28 @@
-use Rattle.std.proofs.Common.{◌≡◌, ◌++◌, ◌∷◌, [], ◌∙◌, ap, map, subst, sym, false}
-use Rattle.calculus.specs.Bindings.{BindsOnly, BindsWithin, KeepsMarks}
-use Rattle.calculus.proofs.BindingLaws.{KeepsMarks-same}
-use Rattle.term_store.specs.StoreView.{the_mark}
-use Rattle.term_unify.specs.PairView.{the_pair}
-use Rattle.term_unify.proofs.PairLaws.{BindsOnly-same, IfOk-always, OnErr-always, unifies-one, within-one, within-same}
+use Rattle.std.proofs.Common.{◌≡◌, ◌∙◌, ap}
+use Rattle.calculus.specs.Bindings.{with_binding}
+use Rattle.term_unify.proofs.OnePairLaws.{apart-ends, binds-pair, occurs-pair, unifies-ends, unifies-same, within-ends}
 use Rattle.term_unify.proofs.solve.Unifier.unify.Goals as goal
 
-pub returns-in-Ok-true-clause-unifies : goal.returns-in-Ok-true-clause-unifies
-returns-in-Ok-true-clause-unifies c = λ t.
-    unifies-one c.args.store.now.store c.solve_pairs-answer.new.store.store c.args.a.0 c.args.b.0 (map the_pair c.push.new.self.items)
-    (ap (map the_pair) (c.in_ok-push.ensures.items ∙ ap (λ xs. xs ++ (c.args.a, c.args.b) ∷ []) c.clear.ensures.items)) (c.in-Ok-true.ensures.solved t) c.in-Ok-true.ensures.well
+pub returns-in-Same-clause-unifies : goal.returns-in-Same-clause-unifies
+returns-in-Same-clause-unifies c = λ t. unifies-same c.args.store.now.store c.args.a.0 c.args.b.0 c.in-Same.ensures.well c.in-Same.ensures.step
 
-pub undo-requires : goal.undo-requires
-undo-requires c = (c.solve_pairs-answer.ensures.marks (the_mark c.mark-start.result) c.mark-start.ensures.good).0
+pub returns-then-branch-clause-apart : goal.returns-then-branch-clause-apart
+returns-then-branch-clause-apart c = λ t. occurs-pair c.args.store.now.store c.args.a.0 c.args.b.0 c.in-Bind.v c.in-Bind.to c.in-Bind.ensures.step (c.in_ok-occurs-in-Bind.ensures.yes c.if-branch.true)
 
-pub returns-clause-unchanged : goal.returns-clause-unchanged
-returns-clause-unchanged c =
-    let back : c.undo.new.self.store ≡ c.args.store.now.store = c.undo.ensures.store ∙ (c.solve_pairs-answer.ensures.marks (the_mark c.mark-start.result) c.mark-start.ensures.good).1 ∙ c.mark-start.ensures.whole in
-    IfOk-always c.match-answer.answer (λ e. e ≡ false → c.undo.new.self.store ≡ c.args.store.now.store) (λ e f. back)
+pub returns-in_ok-reserve-in-Bind-clause-unifies : goal.returns-in_ok-reserve-in-Bind-clause-unifies
+returns-in_ok-reserve-in-Bind-clause-unifies c = λ t. (binds-pair c.args.store.now.store c.bind.new.self.store c.args.a.0 c.args.b.0 c.in-Bind.v c.in-Bind.to c.in-Bind.ensures.well c.requires.left c.requires.right c.in-Bind.ensures.step (c.in_ok-occurs-in-Bind.ensures.no c.if-branch.false) (c.bind.ensures.store ∙ ap (with_binding c.in-Bind.v.0 c.in-Bind.to.0) c.in_ok-reserve-in-Bind.ensures.store)).0
 
-pub returns-clause-no_memory : goal.returns-clause-no_memory
-returns-clause-no_memory c =
-    let back : c.undo.new.self.store ≡ c.args.store.now.store = c.undo.ensures.store ∙ (c.solve_pairs-answer.ensures.marks (the_mark c.mark-start.result) c.mark-start.ensures.good).1 ∙ c.mark-start.ensures.whole in
-    OnErr-always c.match-answer.answer (c.undo.new.self.store ≡ c.args.store.now.store) back
+pub returns-in_ok-reserve-in-Bind-clause-binds : goal.returns-in_ok-reserve-in-Bind-clause-binds
+returns-in_ok-reserve-in-Bind-clause-binds c = (binds-pair c.args.store.now.store c.bind.new.self.store c.args.a.0 c.args.b.0 c.in-Bind.v c.in-Bind.to c.in-Bind.ensures.well c.requires.left c.requires.right c.in-Bind.ensures.step (c.in_ok-occurs-in-Bind.ensures.no c.if-branch.false) (c.bind.ensures.store ∙ ap (with_binding c.in-Bind.v.0 c.in-Bind.to.0) c.in_ok-reserve-in-Bind.ensures.store)).1
 
-pub returns-clause-marks : goal.returns-clause-marks
-returns-clause-marks c =
-    let back = c.undo.ensures.store ∙ (c.solve_pairs-answer.ensures.marks (the_mark c.mark-start.result) c.mark-start.ensures.good).1 ∙ c.mark-start.ensures.whole in
-    subst (KeepsMarks c.args.store.now.store) (sym back) (KeepsMarks-same c.args.store.now.store)
+pub returns-in_ok-reserve-in-Bind-clause-within : goal.returns-in_ok-reserve-in-Bind-clause-within
+returns-in_ok-reserve-in-Bind-clause-within c = (binds-pair c.args.store.now.store c.bind.new.self.store c.args.a.0 c.args.b.0 c.in-Bind.v c.in-Bind.to c.in-Bind.ensures.well c.requires.left c.requires.right c.in-Bind.ensures.step (c.in_ok-occurs-in-Bind.ensures.no c.if-branch.false) (c.bind.ensures.store ∙ ap (with_binding c.in-Bind.v.0 c.in-Bind.to.0) c.in_ok-reserve-in-Bind.ensures.store)).2
 
-pub returns-clause-binds : goal.returns-clause-binds
-returns-clause-binds c =
-    let back = c.undo.ensures.store ∙ (c.solve_pairs-answer.ensures.marks (the_mark c.mark-start.result) c.mark-start.ensures.good).1 ∙ c.mark-start.ensures.whole in
-    subst (BindsOnly c.args.store.now.store) (sym back) (BindsOnly-same c.args.store.now.store)
+pub returns-in_ok-equal-in-Parts-clause-unifies : goal.returns-in_ok-equal-in-Parts-clause-unifies
+returns-in_ok-equal-in-Parts-clause-unifies c = λ t. unifies-ends c.args.store.now.store c.unify_parts.new.store.store c.args.a.0 c.args.b.0 c.in-Parts.left.0 c.in-Parts.right.0 c.in-Parts.ensures.step (c.in_ok-equal-in-Parts.ensures.unifies t)
 
-pub returns-in-Ok-true-clause-within : goal.returns-in-Ok-true-clause-within
-returns-in-Ok-true-clause-within c =
-    within-one c.args.store.now.store c.solve_pairs-answer.new.store.store c.args.a.0 c.args.b.0 (map the_pair c.push.new.self.items)
-    (ap (map the_pair) (c.in_ok-push.ensures.items ∙ ap (λ xs. xs ++ (c.args.a, c.args.b) ∷ []) c.clear.ensures.items)) c.solve_pairs-answer.ensures.within
+pub returns-in_ok-equal-in-Parts-clause-apart : goal.returns-in_ok-equal-in-Parts-clause-apart
+returns-in_ok-equal-in-Parts-clause-apart c = λ t. apart-ends c.args.store.now.store c.args.a.0 c.args.b.0 c.in-Parts.left.0 c.in-Parts.right.0 c.in-Parts.ensures.step (c.in_ok-equal-in-Parts.ensures.apart t)
 
-pub returns-clause-within : goal.returns-clause-within
-returns-clause-within c =
-    let back = c.undo.ensures.store ∙ (c.solve_pairs-answer.ensures.marks (the_mark c.mark-start.result) c.mark-start.ensures.good).1 ∙ c.mark-start.ensures.whole in
-    subst (BindsWithin c.args.a.0 c.args.b.0 c.args.store.now.store) (sym back) (within-same c.args.store.now.store c.args.a.0 c.args.b.0)
+pub returns-in_ok-equal-in-Parts-clause-within : goal.returns-in_ok-equal-in-Parts-clause-within
+returns-in_ok-equal-in-Parts-clause-within c = within-ends c.args.store.now.store c.unify_parts.new.store.store c.args.a.0 c.args.b.0 c.in-Parts.left.0 c.in-Parts.right.0 c.in-Parts.ensures.step c.unify_parts.ensures.within
