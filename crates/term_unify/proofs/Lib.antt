@@ -2,4 +2,5 @@ pub mod StepLaws
 pub mod PairLaws
 pub mod OnePairLaws
 pub mod VisitLaws
+pub mod InnerLaws
 pub mod DoublingLaws

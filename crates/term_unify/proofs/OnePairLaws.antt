@@ -1,15 +1,15 @@
 -- One pair of cells: what holds of the ends of their bindings, or of the pairs of their parts, holds of the pair.
-use Rattle.std.proofs.Common.{◌⊎◌, ◌≡◌, ◌<◌, ◌++◌, ◌∷◌, [], None, Some, length, ℕ, List, refl, sym, ap, ◌∙◌, subst, inl, inr}
+use Rattle.std.proofs.Common.{◌⊎◌, ◌≡◌, ◌<◌, ◌∷◌, [], None, Some, length, ℕ, List, refl, sym, ◌∙◌, subst, inl, inr}
 use Rattle.std.specs.Prelude.{slice_get}
 use Rattle.calculus.specs.declared.sort.Sort.{Sort}
-use Rattle.calculus.specs.Stores.{Cell, variable, Store, parts_of, OccursIn, here, EndsAt, stays, Solution, Solves}
-use Rattle.calculus.specs.Bindings.{IsWellFormed, SolvesPairs, part_pairs, with_binding, BindsOnly, BindsWithin, Unifies, AreApart}
+use Rattle.calculus.specs.Stores.{variable, Store, OccursIn, here, EndsAt, stays, Solution, Solves}
+use Rattle.calculus.specs.Bindings.{IsWellFormed, SolvesPairs, with_binding, BindsOnly, BindsWithin, Unifies, AreApart}
 use Rattle.calculus.proofs.PlaceLists.{get-within}
 use Rattle.calculus.proofs.SolutionLaws.{occurs-apart, some_solution}
 use Rattle.term_store.specs.declared.cell.Ref.{Ref}
 use Rattle.term_unify.specs.declared.compare.Step.TheVariants as step
-use Rattle.term_unify.specs.Steps.{AreBuilt, AddsParts, AreCells, AreDifferent, BindsInPairs, DiffersBy, IsBinding, IsStep, OccursBefore, OccursInPairs, SolvesAll}
-use Rattle.term_unify.proofs.PairLaws.{ComesTo, Unified, alike-unbound, comes-binding, comes-ends, comes-first, comes-parts, occurs-built, occurs-from_end, unified-binding, unified-done, unified-first}
+use Rattle.term_unify.specs.Steps.{AreBuilt, AddsParts, AreDifferent, BindsInPairs, DiffersBy, IsBinding, IsStep, OccursBefore, OccursInPairs, SolvesAll}
+use Rattle.term_unify.proofs.PairLaws.{ComesTo, alike-unbound, comes-binding, comes-ends, comes-first, comes-parts, occurs-built, occurs-from_end, unified-binding, unified-done, unified-first}
 use Rattle.term_unify.proofs.StepLaws.{both-ends}
 
 -- ---- a list of one pair

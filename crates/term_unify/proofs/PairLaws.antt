@@ -4,21 +4,20 @@ use Rattle.std.specs.Prelude.{IfOk, OnErr, slice_get}
 use Rattle.std.proofs.lemmas.Bool.{false≢true, and_parts}
 use Rattle.calculus.specs.declared.sort.Sort.{Sort}
 use Rattle.calculus.specs.Stores.{Cell, variable, fun_cell, eigen_cell, new_cell, string_cell, Store, parts_of, is_bound, OccursIn, here, in_part, EndsAt, stays, goes_on, Solution, Solves}
-use Rattle.calculus.specs.Bindings.{EndsIn, IsEnd, IsWellFormed, SolvesPairs, part_pairs, are_alike, is_variable, MayBind, with_binding, BindsOnly, KeepsMarks, BindsWithin, bind_at, bound_to, Unifies, AreApart}
+use Rattle.calculus.specs.Bindings.{EndsIn, IsEnd, IsWellFormed, SolvesPairs, part_pairs, are_alike, is_variable, MayBind, with_binding, BindsOnly, KeepsMarks, bind_at, bound_to}
 use Rattle.calculus.proofs.PlaceLists.{get-within}
 use Rattle.calculus.proofs.BindingLaws.{ends-once, kept, parts-within, get-bound, get-unbound, same_place, length-bind, KeepsMarks-same, KeepsMarks-both, KeepsMarks-with_binding, IsWellFormed-with_binding}
 use Rattle.calculus.proofs.WeightLaws.{weight, weight_sum, weight_sum-none, weight_sum-more, weight_sum-append, weight-parts, weight-positive, weight-bound}
-use Rattle.calculus.proofs.SolutionLaws.{ends-same, alike-parts, SolvesPairs-join, SolvesPairs-split, Solves-bound, Solves-unbound, occurs-apart, some_solution}
+use Rattle.calculus.proofs.SolutionLaws.{ends-same, alike-parts, SolvesPairs-join, SolvesPairs-split, Solves-bound, Solves-unbound, occurs-apart}
 use Rattle.term_store.specs.declared.cell.Ref.{Ref}
-use Rattle.term_store.specs.RefView.{the_place}
 use Rattle.term_unify.specs.PairView.{the_pair}
-use Rattle.term_unify.specs.Steps.{AreBuilt, AddsParts, AreCells, DiffersBy, OccursAmong, AreAllCells, SolvesAll, IsBinding, AreEnds, OccursInPairs, OccursBefore, BindsInPairs}
+use Rattle.term_unify.specs.Steps.{AreBuilt, AddsParts, AreCells, OccursAmong, AreAllCells, SolvesAll, IsBinding, AreEnds, OccursInPairs, OccursBefore, BindsInPairs}
 
 pub map-last : {A B : Type 0} (f : A → B) (xs : List A) (x : A) → map f (xs ++ x ∷ []) ≡ map f xs ++ f x ∷ []
 map-last f [] x = refl
 map-last f (y ∷ xs) x = ap (λ zs. f y ∷ zs) (map-last f xs x)
 
-take-more : (i : ℕ) (xs : List ℕ) (x : ℕ) → slice_get xs i ≡ Some x → take (i + 1) xs ≡ take i xs ++ x ∷ []
+pub take-more : (i : ℕ) (xs : List ℕ) (x : ℕ) → slice_get xs i ≡ Some x → take (i + 1) xs ≡ take i xs ++ x ∷ []
 take-more i xs x e = ap (λ n. take n xs) (let p : i + 1 ≡ suc i = omega arith in p) ∙ by i xs e
   where
     by : (i : ℕ) (xs : List ℕ) → slice_get xs i ≡ Some x → take (suc i) xs ≡ take i xs ++ x ∷ []
@@ -52,13 +51,6 @@ told s r c P e b (v, d, f, g, p) =
 
 pub tells : (s : Store) (r : ℕ) (c : Cell) (P : Cell → Type 0) → slice_get s.cells r ≡ Some c → is_bound c ≡ false → P c → EndsIn s r P
 tells s r c P e b p = (r, c, stays e b, e, p)
-
--- one part more
-pub all-added : (s : Store) (r i p : ℕ) (c : Cell) (ref : Ref) (items before : List Ref) → slice_get s.cells r ≡ Some c → IsEnd s r → EndsIn s r (λ d. slice_get (parts_of d) i ≡ Some ref.0) → map the_place items ≡ map the_place before ++ take i (parts_of c) → map the_place (items ++ ref ∷ []) ≡ map the_place before ++ take (i + 1) (parts_of c)
-all-added s r i p c ref items before e end t h =
-    let b : is_bound c ≡ false = let q : end.0 ≡ c = let w : Some end.0 ≡ Some c = sym end.1 ∙ e in cc in ap is_bound (sym q) ∙ end.2 in
-    let at = told s r c (λ d. slice_get (parts_of d) i ≡ Some ref.0) e b t in
-    map-last the_place items ref ∙ ap (λ xs. xs ++ ref.0 ∷ []) h ∙ append_assoc (map the_place before) (take i (parts_of c)) (ref.0 ∷ []) ∙ ap (λ xs. map the_place before ++ xs) (sym (take-more i (parts_of c) ref.0 at))
 
 -- all parts
 pub all-done : (s : Store) (r n : ℕ) (c : Cell) → slice_get s.cells r ≡ Some c → IsEnd s r → EndsIn s r (λ d. n ≡ length (parts_of d)) → take n (parts_of c) ≡ parts_of c

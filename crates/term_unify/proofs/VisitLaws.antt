@@ -2,16 +2,16 @@
 use Rattle.std.proofs.Common.{◌⊎◌, ◌≡◌, ◌≤◌, ◌<◌, ◌+◌, ◌++◌, ◌∷◌, [], Some, length, ℕ, zero, suc, List, true, false, refl, sym, ap, ◌∙◌, subst, arith, inl, inr}
 use Rattle.std.specs.Prelude.{slice_get}
 use Rattle.std.proofs.lemmas.Bool.{false≢true}
-use Rattle.calculus.specs.Stores.{Cell, Store, parts_of, is_bound, OccursIn, here, in_part, EndsAt, stays, Solution, Solves}
+use Rattle.calculus.specs.Stores.{Cell, Store, parts_of, OccursIn, here, in_part, EndsAt, Solution, Solves}
 use Rattle.calculus.specs.Bindings.{IsEnd, IsWellFormed, SolvesPairs, part_pairs}
-use Rattle.calculus.proofs.PlaceLists.{get-front, get-last, get-within}
+use Rattle.calculus.proofs.PlaceLists.{get-front, get-last}
 use Rattle.calculus.proofs.SolutionLaws.{ends-same, alike-parts}
 use Rattle.calculus.proofs.WeightLaws.{weight, weight_sum, weight_sum-more, weight_sum-append, weight-parts, weight-positive}
 use Rattle.term_unify.specs.Steps.{AreBuilt, AddsParts, AreAllCells, OccursAmong}
 use Rattle.term_unify.specs.Visits.{was_seen}
-use Rattle.term_unify.proofs.PairLaws.{ComesTo, among-back, among-front, among-from, among-split, cells-join, cells-split, comes-first, comes-join, comes-occurs, comes-parts, comes-rest, comes-same, comes-split, occurs-end, parts-cells, weight-ends}
+use Rattle.term_unify.proofs.PairLaws.{ComesTo, among-back, among-front, among-from, among-split, cells-join, cells-split, comes-join, comes-occurs, comes-parts, comes-rest, comes-same, comes-split, occurs-end, parts-cells, weight-ends}
 
-get-back : {A : Type 0} (xs ys : List A) (i : ℕ) (y : A) → slice_get ys i ≡ Some y → slice_get (xs ++ ys) (length xs + i) ≡ Some y
+pub get-back : {A : Type 0} (xs ys : List A) (i : ℕ) (y : A) → slice_get ys i ≡ Some y → slice_get (xs ++ ys) (length xs + i) ≡ Some y
 get-back [] ys i y e = ap (slice_get ys) (let q : 0 + i ≡ i = omega arith in q) ∙ e
 get-back (x ∷ xs) ys i y e = ap (slice_get (x ∷ (xs ++ ys))) (let q : suc (length xs) + i ≡ suc (length xs + i) = omega arith in q) ∙ get-back xs ys i y e
 
@@ -73,13 +73,6 @@ passed s v r e m rest rs sound end q f w (i, x, at, o, l) = elim (get-last rest 
 -- what was noted is the visited cell, or was noted before
 abbrev pub Notes : List (ℕ × ℕ) → List (ℕ × ℕ) → ℕ → ℕ → Type 0
 Notes before after a b = (x y : ℕ) → was_seen after x y ≡ true → (was_seen before x y ≡ true) ⊎ ((x ≡ a) × (y ≡ b))
-
-pub looks-place : (s : Store) (v t r : ℕ) (rest rs : List ℕ) (seen : List (ℕ × ℕ)) → Looks s v t rs seen → rs ≡ rest ++ r ∷ [] → r < length s.cells
-looks-place s v t r rest rs seen w e = (cells-split s rest (r ∷ []) (subst (AreAllCells s) e w.cells)).1.0
-
-pub looks-found : (s : Store) (v t r e : ℕ) (rest rs : List ℕ) (seen : List (ℕ × ℕ)) → Looks s v t rs seen → IsEnd s v → rs ≡ rest ++ r ∷ [] → EndsAt s r e → e ≡ v → OccursIn s v t
-looks-found s v t r e rest rs seen w end q f g =
-    w.back (subst (OccursAmong s v) (sym q) (among-back s v rest (r ∷ []) (inl ((occurs-end s v r e end f).1 (subst (OccursIn s v) (sym g) here)))))
 
 pub looks-none : (s : Store) (v t : ℕ) (rs : List ℕ) (seen : List (ℕ × ℕ)) → Looks s v t rs seen → rs ≡ [] → ¬ OccursIn s v t
 looks-none s v t rs seen w e o = let (i, x, at, p, l) = w.first o in absurd (let z : slice_get [] i ≡ Some x = ap (λ xs. slice_get xs i) (sym e) ∙ at in cc z)

@@ -93,6 +93,15 @@ abbrev pub OccursAmong : Store → ℕ → List ℕ → Type 0
 OccursAmong s v [] = ⊥
 OccursAmong s v (r ∷ rs) = OccursIn s v r ⊎ OccursAmong s v rs
 
+-- qs are the ends of the bindings of some of rs, in their order, and none of them is v; in the others of rs v does not occur
+abbrev pub AreInner : Store → ℕ → List ℕ → List ℕ → Type 0
+AreInner s v [] qs = qs ≡ []
+AreInner s v (r ∷ rs) qs = ((¬ OccursIn s v r) × AreInner s v rs qs) ⊎ ((e : ℕ) × (more : List ℕ) × (qs ≡ e ∷ more) × EndsAt s r e × (¬ (e ≡ v)) × AreInner s v rs more)
+
+-- the ends of the parts of r in which v may occur came to the others
+abbrev pub AddsInner : Store → ℕ → ℕ → List ℕ → List ℕ → Type 0
+AddsInner s v r before after = (c : Cell) → slice_get s.cells r ≡ Some c → (qs : List ℕ) × (after ≡ before ++ qs) × AreInner s v (parts_of c) qs
+
 abbrev pub AreAllCells : Store → List ℕ → Type 0
 AreAllCells s [] = Unit {0}
 AreAllCells s (r ∷ rs) = (r < length s.cells) × AreAllCells s rs

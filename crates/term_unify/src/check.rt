@@ -1,25 +1,34 @@
 //! The occurs check.
 
-ghost use Rattle.std.specs.Prelude.{◌≡◌, ◌++◌, IfOk, OnOk, Some, false, map, slice_get, true};
+ghost use Rattle.std.specs.Prelude.{◌≡◌, IfOk, false, map, true};
 ghost use Rattle.calculus.specs.Bindings.{IsEnd, IsWellFormed};
-ghost use Rattle.calculus.specs.Stores.{Cell, OccursIn, parts_of};
+ghost use Rattle.calculus.specs.Stores.{OccursIn};
 ghost use Rattle.term_store.specs.RefView.{the_place};
+ghost use Rattle.term_unify.specs.Steps.{AddsInner};
 
 use crate::visited::Visited;
 use cop_base::NoMemory;
 use term_store::{Ref, Store};
 
-// Appends the parts of the cell.
-fn push_all(store: &Store, r: Ref, places: &mut Vec<Ref>) -> Result<(), NoMemory>
-    requires { IsEnd store.now.store r.0 }
+// Whether a part of the cell is the variable. If none is, the parts that have parts are appended.
+fn push_inner(store: &Store, v: Ref, r: Ref, places: &mut Vec<Ref>) -> Result<bool, NoMemory>
+    requires variable { IsEnd store.now.store v.0 }
+    requires end { IsEnd store.now.store r.0 }
     ensures well { IsWellFormed store.now.store }
-    ensures added { OnOk result ((c : Cell) → slice_get store.now.store.cells r.0 ≡ Some c
-        → map the_place places.new.items ≡ map the_place places.old.items ++ parts_of c) }
+    ensures found { IfOk result (λ found. found ≡ true → OccursIn store.now.store v.0 r.0) }
+    ensures added { IfOk result (λ found. found ≡ false → AddsInner store.now.store v.0 r.0
+        (map the_place places.old.items) (map the_place places.new.items)) }
 {
     for i in 0..store.parts(r) {
-        places.push(store.part(r, i))?;
+        let part = store.walk(store.part(r, i));
+        if part.0 == v.0 {
+            return Ok(true);
+        }
+        if store.parts(part) != 0 {
+            places.push(part)?;
+        }
     }
-    Ok(())
+    Ok(false)
 }
 
 // Whether the variable occurs in the other cell, under the bindings; `places` is room for the work, and `visited` for
@@ -42,14 +51,14 @@ pub(crate) fn occurs(
     }
     places.clear();
     visited.clear();
-    push_all(store, r, places)?;
+    if push_inner(store, v, r, places)? {
+        return Ok(true);
+    }
     while let Some(place) = places.pop() {
-        let end = store.walk(place);
-        if end.0 == v.0 {
-            return Ok(true);
-        }
-        if visited.visit(v.0, end.0)? {
-            push_all(store, end, places)?;
+        if visited.visit(v.0, place.0)? {
+            if push_inner(store, v, place, places)? {
+                return Ok(true);
+            }
         }
     }
     Ok(false)
