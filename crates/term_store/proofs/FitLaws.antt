@@ -1,5 +1,5 @@
 -- Patterns of a sort in a store that grows, and templates whose variables are in the store.
-use Rattle.std.proofs.Common.{◌&&◌, ◌+◌, ◌++◌, Some, ◌||◌, ◌≡◌, ℕ, zero, suc, List, [], ◌∷◌, length, Bool, true, false, Option, None, IsTrue, refl, sym, ◌∙◌, ap, subst, option_map}
+use Rattle.std.proofs.Common.{◌&&◌, ◌++◌, Some, ◌||◌, ◌≡◌, ℕ, zero, suc, List, [], ◌∷◌, length, Bool, true, false, Option, None, IsTrue, refl, sym, ◌∙◌, ap, subst, option_map}
 use Rattle.std.specs.List.{list_all}
 use Rattle.std.specs.Prelude.{slice_get}
 use Rattle.std.specs.Option.{option_map_or}

@@ -1,5 +1,5 @@
 -- Copies of lists: one atom more, one gamma term more, and one list behind another.
-use Rattle.std.proofs.Common.{◌≡◌, ◌≤◌, ◌++◌, ◌∷◌, ◌&&◌, [], IsTrue, length, ℕ, List, true, refl, sym, ap, ◌∙◌, subst, append_assoc, nat_le, map, take, drop, ◌-◌, ◌+◌, ◌<◌, zero, suc, Bool, Some, option_map, slice_get, slice_index_or, ap₂, arith}
+use Rattle.std.proofs.Common.{◌≡◌, ◌++◌, ◌∷◌, ◌&&◌, [], IsTrue, length, ℕ, List, true, refl, sym, ap, ◌∙◌, subst, append_assoc, nat_le, map, take, drop, ◌-◌, ◌+◌, ◌<◌, zero, suc, Bool, Some, option_map, slice_get, slice_index_or, ap₂, arith}
 use Rattle.std.specs.List.{list_all}
 use Rattle.std.specs.Prelude.{remove}
 use Rattle.std.proofs.lemmas.Bool.{and_from, and_parts}

@@ -1,12 +1,12 @@
 -- Built cells that name variables and one another alone.
-use Rattle.std.proofs.Common.{◌≡◌, ◌≤◌, ◌<◌, ◌+◌, ◌++◌, ◌∷◌, ◌&&◌, [], Some, None, IsTrue, length, ℕ, zero, suc, List, Bool, true, false, refl, sym, ap, ◌∙◌, subst, arith, inl, inr, append_assoc, length-append, nat_le, le-leb}
+use Rattle.std.proofs.Common.{◌≡◌, ◌≤◌, ◌<◌, ◌+◌, ◌++◌, ◌∷◌, ◌&&◌, [], Some, None, IsTrue, length, ℕ, zero, suc, List, Bool, false, refl, sym, ap, ◌∙◌, subst, arith, inl, inr, length-append, nat_le, le-leb}
 use Rattle.std.specs.Prelude.{slice_get}
 use Rattle.std.specs.List.{list_all}
 use Rattle.std.specs.Option.{option_map_or}
 use Rattle.std.proofs.lemmas.Bool.{false≢true, and_from}
 use Rattle.calculus.specs.declared.sort.Sort.{Sort}
 use Rattle.calculus.specs.Stores.{Cell, variable, Store, parts_of, parts_fit, is_store, has_sort_at}
-use Rattle.calculus.specs.Bindings.{with_cell, with_variables_of, places_from, is_variable, AddsBuilt, nothing_more, one_more, NamesFrom, AddsOver, NamesOver}
+use Rattle.calculus.specs.Bindings.{with_cell, with_variables_of, places_from, is_variable, nothing_more, one_more, NamesFrom, AddsOver, NamesOver}
 use Rattle.calculus.specs.Patterns.{Grows}
 use Rattle.calculus.proofs.PlaceLists.{get-last, get-within, all-append}
 use Rattle.calculus.proofs.BindingLaws.{sorted_cell}

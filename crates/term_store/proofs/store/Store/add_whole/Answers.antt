@@ -1,4 +1,3 @@
-use Rattle.std.proofs.Common.{length}
 use Rattle.calculus.specs.Patterns.{clause_is_from}
 use Rattle.calculus.proofs.BindingLaws.{KeepsMarks-both}
 use Rattle.calculus.proofs.PatternLaws.{KeepsMarks-built}

@@ -1,4 +1,4 @@
-use Rattle.std.proofs.Common.{◌≡◌, ◌∙◌, subst, sym}
+use Rattle.std.proofs.Common.{◌∙◌, subst, sym}
 use Rattle.calculus.specs.Bindings.{KeepsMarks}
 use Rattle.calculus.proofs.BindingLaws.{KeepsMarks-same}
 use Rattle.term_store.specs.StoreView.{the_mark}
