@@ -1,5 +1,6 @@
 -- Changes of the list of slots, and what the calculus sees of them.
-use Rattle.std.proofs.Common.{◌≡◌, ◌≤◌, ◌<◌, ◌+◌, ◌++◌, ◌∷◌, ◌==◌, ◌||◌, [], IsTrue, length, ℕ, zero, suc, List, Bool, true, false, map, take, refl, sym, ap, ap₂, ◌∙◌, subst, arith, slice_index_or, slice_set, inl, inr, eqb-true, eq-eqb, if◌then◌else◌, not}
+use Rattle.std.proofs.Common.{◌≡◌, ◌≤◌, ◌<◌, ◌+◌, ◌++◌, ◌∷◌, ◌==◌, ◌||◌, [], Some, IsTrue, length, ℕ, zero, suc, List, Bool, true, false, map, take, refl, sym, ap, ap₂, ◌∙◌, subst, arith, slice_set, inl, inr, eqb-true, eq-eqb, if◌then◌else◌, not}
+use Rattle.std.specs.Prelude.{slice_get}
 use Rattle.std.proofs.lemmas.Bool.{cases_Bool, false≢true, and_parts}
 use Rattle.calculus.specs.Equality.{contains}
 use Rattle.calculus.specs.Stores.{Cell, is_bound, trail_fits, are_distinct_cells}
@@ -12,11 +13,6 @@ use Rattle.term_store.specs.declared.cell.Content.TheVariants.{Open, Bound, Fun,
 use Rattle.term_store.specs.declared.cell.Slot.{Slot}
 use Rattle.term_store.specs.Slots.{bound_content, open_content, change_at, slots_bound_by}
 use Rattle.term_store.specs.StoreView.{the_cell, the_cell_at, the_store, part_count, IsLaid}
-
-pub change_at-set : (f : Content → Content) (v : ℕ) (slots : List Slot) (d : Slot) → v < length slots → slice_set slots v (record { content = f (slice_index_or slots v d).content; start = (slice_index_or slots v d).start }) ≡ change_at f v slots
-change_at-set f v [] d h = absurd (omega arith)
-change_at-set f zero (s ∷ slots) d h = refl
-change_at-set f (suc v) (s ∷ slots) d h = ap (λ ss. s ∷ ss) (change_at-set f v slots d (omega arith))
 
 pub length-change_at : (f : Content → Content) (v : ℕ) (slots : List Slot) → length (change_at f v slots) ≡ length slots
 length-change_at f v [] = refl
@@ -166,7 +162,16 @@ pub unbind-place : (slots now : List Slot) (trail items t : List ℕ) (v k : ℕ
 unbind-place slots now trail items t v k h e f g = let w = unbind-last slots trail t k v h (sym f ∙ g) in let n = unbind-length items slots now e in omega arith
 
 -- a slot whose content was read, changed and written back
-pub change_at-read : (f : Content → Content) (v : ℕ) (slots : List Slot) (k : Content) (s t : Slot) → v < length slots → s ≡ slice_index_or slots v s → t ≡ slice_index_or slots v t → k ≡ f s.content → slice_set slots v (record { content = k; start = t.start }) ≡ change_at f v slots
-change_at-read f v [] k s t h a b e = absurd (omega arith)
-change_at-read f zero (r ∷ slots) k s t h a b e = ap₂ (λ c n. let q : Slot = record { content = c; start = n } in q ∷ slots) (e ∙ ap (λ x. f x.content) a) (ap (λ x. x.start) b)
-change_at-read f (suc v) (r ∷ slots) k s t h a b e = ap (λ ss. r ∷ ss) (change_at-read f v slots k s t (omega arith) a b e)
+pub change_at-read : (f : Content → Content) (v : ℕ) (slots : List Slot) (k : Content) (s : Slot) → slice_get slots v ≡ Some s → k ≡ f s.content → slice_set slots v (record { content = k; start = s.start }) ≡ change_at f v slots
+change_at-read f v [] k s a e = absurd (cc)
+change_at-read f zero (r ∷ slots) k s a e =
+    let same : s ≡ r = cc in
+    ap₂ (λ c n. let q : Slot = record { content = c; start = n } in q ∷ slots) (e ∙ ap (λ x. f x.content) same) (ap (λ x. x.start) same)
+change_at-read f (suc v) (r ∷ slots) k s a e = ap (λ ss. r ∷ ss) (change_at-read f v slots k s a e)
+
+-- the last item, behind those before it
+pub take-last : (xs : List ℕ) (n v : ℕ) → slice_get xs n ≡ Some v → length xs ≡ n + 1 → xs ≡ take n xs ++ v ∷ []
+take-last [] n v e l = absurd (cc)
+take-last (x ∷ []) zero v e l = let same : x ≡ v = cc in ap (λ y. y ∷ []) same
+take-last (x ∷ y ∷ xs) zero v e l = absurd (omega arith)
+take-last (x ∷ xs) (suc n) v e l = ap (λ ys. x ∷ ys) (take-last xs n v e (omega arith))

@@ -3,7 +3,8 @@ use Rattle.std.proofs.Common.{◌≡◌, ◌≤◌, ◌<◌, ◌+◌, ◌++◌, 
 use Rattle.std.specs.Prelude.{slice_get}
 use Rattle.std.specs.List.{list_all}
 use Rattle.std.proofs.lemmas.Bool.{false≢true, and_parts}
-use Rattle.std.proofs.lemmas.Option.{slice_get_read, slice_get-map}
+use Rattle.std.proofs.lemmas.List.{length-take-le}
+use Rattle.std.proofs.lemmas.Option.{slice_get-map}
 use Rattle.calculus.specs.declared.sort.Sort.{Sort}
 use Rattle.calculus.specs.Equality.{contains}
 use Rattle.calculus.specs.Stores.{Cell, variable, fun_cell, eigen_cell, new_cell, string_cell, Store, TrailMark, is_store, is_bound, cells_bound_by, cut_at, IsGood, parts_of, parts_fit, bound_cells, trail_fits, are_distinct_cells, EndsAt}
@@ -140,18 +141,13 @@ well-cut m slots kept parts less trail t w good e f g laid n k =
       part_places = let a = w.part_places in omega arith;
     }
 
-length-take : (k : ℕ) (xs : List ℕ) → k ≤ length xs → length (take k xs) ≡ k
-length-take zero xs h = refl
-length-take (suc k) [] h = absurd (omega arith)
-length-take (suc k) (x ∷ xs) h = let e = length-take k xs (omega arith) in ap suc e
+pub cut-laid : (slots : List Slot) (parts : List ℕ) (k : ℕ) (s : Slot) → IsLaid 0 slots (length parts) → slice_get slots k ≡ Some s → IsLaid 0 (take k slots) (length (take s.start parts))
+cut-laid slots parts k s l e =
+    let w = laid-cut k 0 slots (length parts) s l e in
+    subst (IsLaid 0 (take k slots)) (sym (length-take-le s.start parts w.1)) w.0
 
-pub cut-laid : (slots : List Slot) (parts : List ℕ) (k : ℕ) (s : Slot) → IsLaid 0 slots (length parts) → k < length slots → s ≡ slice_index_or slots k s → IsLaid 0 (take k slots) (length (take s.start parts))
-cut-laid slots parts k s l h e =
-    let w = laid-cut k 0 slots (length parts) s l (slice_get_read slots (length slots) k s refl h e) in
-    subst (IsLaid 0 (take k slots)) (sym (length-take s.start parts w.1)) w.0
-
-pub cut-kept : (slots : List Slot) (parts : List ℕ) (k : ℕ) (s : Slot) → IsLaid 0 slots (length parts) → k < length slots → s ≡ slice_index_or slots k s → map (the_cell (take s.start parts)) (take k slots) ≡ map (the_cell parts) (take k slots)
-cut-kept slots parts k s l h e = cells-cut_parts 0 s.start (take k slots) parts (laid-cut k 0 slots (length parts) s l (slice_get_read slots (length slots) k s refl h e)).0
+pub cut-kept : (slots : List Slot) (parts : List ℕ) (k : ℕ) (s : Slot) → IsLaid 0 slots (length parts) → slice_get slots k ≡ Some s → map (the_cell (take s.start parts)) (take k slots) ≡ map (the_cell parts) (take k slots)
+cut-kept slots parts k s l e = cells-cut_parts 0 s.start (take k slots) parts (laid-cut k 0 slots (length parts) s l e).0
 
 -- ---- the trail does not know parts
 
@@ -194,9 +190,8 @@ length-part zero zero parts h = refl
 length-part (suc n) zero [] h = absurd (omega arith)
 length-part (suc n) zero (p ∷ parts) h = let e = length-part n zero parts (omega arith) in ap suc e
 
-pub shows-at : (slots : List Slot) (parts trail : List ℕ) (r : ℕ) (s : Slot) → IsWell slots parts trail → r < length slots → s ≡ slice_index_or slots r s → Shows (the_store slots parts trail) r s.content
-shows-at slots parts trail r s w h e =
-    let at = slice_get_read slots (length slots) r s refl h e in
+pub shows-at : (slots : List Slot) (parts trail : List ℕ) (r : ℕ) (s : Slot) → IsWell slots parts trail → slice_get slots r ≡ Some s → Shows (the_store slots parts trail) r s.content
+shows-at slots parts trail r s w at =
     let l = laid-at 0 slots (length parts) r s w.laid at in
     (the_cell parts s, slice_get-map (the_cell parts) slots r ∙ ap (option_map (the_cell parts)) at, by s.content l)
   where
@@ -226,9 +221,9 @@ part-get (suc n) zero (suc i) (p ∷ parts) h =
     (omega arith, λ q e. w.1 q (e ∙ ap (λ k. slice_index_or (p ∷ parts) k q) (let same : 0 + suc i ≡ suc (0 + i) = omega arith in same)))
 
 -- the place of a part in the list of parts
-pub part-place : (slots : List Slot) (parts trail : List ℕ) (r i : ℕ) (s : Slot) (c : Cell) → r < length slots → s ≡ slice_index_or slots r s → slice_get (the_store slots parts trail).cells r ≡ Some c → is_bound c ≡ false → i < length (parts_of c) → (s.start + i < length parts) × ((p : ℕ) → p ≡ slice_index_or parts (s.start + i) p → slice_get (parts_of c) i ≡ Some p)
-part-place slots parts trail r i s c h e at b l =
-    let there : slice_get (map (the_cell parts) slots) r ≡ Some (the_cell parts s) = slice_get-map (the_cell parts) slots r ∙ ap (option_map (the_cell parts)) (slice_get_read slots (length slots) r s refl h e) in
+pub part-place : (slots : List Slot) (parts trail : List ℕ) (r i : ℕ) (s : Slot) (c : Cell) → slice_get slots r ≡ Some s → slice_get (the_store slots parts trail).cells r ≡ Some c → is_bound c ≡ false → i < length (parts_of c) → (s.start + i < length parts) × ((p : ℕ) → p ≡ slice_index_or parts (s.start + i) p → slice_get (parts_of c) i ≡ Some p)
+part-place slots parts trail r i s c e at b l =
+    let there : slice_get (map (the_cell parts) slots) r ≡ Some (the_cell parts s) = slice_get-map (the_cell parts) slots r ∙ ap (option_map (the_cell parts)) e in
     let same : the_cell parts s ≡ c = let q : Some (the_cell parts s) ≡ Some c = sym there ∙ at in cc in
     subst (λ x. (s.start + i < length parts) × ((p : ℕ) → p ≡ slice_index_or parts (s.start + i) p → slice_get (parts_of x) i ≡ Some p)) same
     (by s.content (subst (λ x. is_bound x ≡ false) (sym same) b) (subst (λ x. i < length (parts_of x)) (sym same) l))

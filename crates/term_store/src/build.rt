@@ -8,7 +8,6 @@ ghost use Rattle.term_store.specs.Built.{named_cell, named_content};
 ghost use Rattle.term_store.specs.Room.{KeepsRoom};
 
 use crate::cell::{Content, Name, Ref, Slot};
-use crate::slots::put;
 use crate::store::Store;
 use calculus::sort::Sort;
 use cop_base::NoMemory;
@@ -45,7 +44,7 @@ impl Store {
         let start = self.parts.len() as u32;
         self.parts.extend_from_slice(parts)?;
         let place = self.cells.len() as u32;
-        put(&mut self.cells, Slot { content, start });
+        self.cells.push(Slot { content, start });
         Ok(Ref(place))
     }
 

@@ -1,6 +1,6 @@
 //! The store.
 
-ghost use Rattle.std.specs.Prelude.{◌≡◌, ◌≤◌, ◌<◌, ◌+◌, ◌++◌, ◌∷◌, [], false, IsOkAnd, MatchOption, OnOk, length, slice_get, vec_len, vec_capacity};
+ghost use Rattle.std.specs.Prelude.{◌≡◌, ◌≤◌, ◌<◌, ◌+◌, ◌++◌, ◌∷◌, [], false, IsOkAnd, MatchOption, OnOk, length, slice_get};
 ghost use Rattle.calculus.specs.Bindings.{EndsIn, IsEnd, IsWellFormed, KeepsEarlier, KeepsMarks, MayBind, with_binding, with_cell};
 ghost use Rattle.calculus.specs.Stores.{Cell, EndsAt, HasNoCycle, IsGood, cut_at, is_bound, parts_of, variable};
 ghost use Rattle.term_store.specs.Room.{KeepsRoom, spare};
@@ -8,9 +8,10 @@ ghost use Rattle.term_store.specs.Shown.{Shows, head_of};
 ghost use Rattle.term_store.specs.StoreView.{the_mark};
 
 use crate::cell::{Content, Head, Ref, Slot, TrailMark};
-use crate::slots::{bind_slot, cut, put, unbind};
+use crate::slots::{bind_slot, cut, unbind};
 use calculus::sort::Sort;
 use cop_base::NoMemory;
+use cop_cells::Cells;
 use std::alloc::Global;
 use std::marker::Model;
 
@@ -22,14 +23,14 @@ const PLACES: usize = 4294967296;
 #[derive(Drop)]
 pub struct Store {
     pub(crate) alloc: Global,
-    pub(crate) cells: Vec<Slot>,
+    pub(crate) cells: Cells<Slot>,
     // The parts of the built cells, cell by cell.
     pub(crate) parts: Vec<u32>,
-    pub(crate) trail: Vec<u32>,
+    pub(crate) trail: Cells<u32>,
 }
 
 impl Model for Store {
-    ghost use Rattle.std.specs.Prelude.{min, vec_capacity};
+    ghost use Rattle.std.specs.Prelude.{◌+◌, length, min};
     ghost use Rattle.term_store.specs.Room.{TermStore};
 
     ghost Value = { TermStore };
@@ -37,12 +38,12 @@ impl Model for Store {
     ghost use Rattle.term_store.specs.StoreView.{IsWell, the_store};
 
     ghost view = { λ s. record {
-      store = the_store s.cells.items s.parts.items s.trail.items;
-      cell_room = min (vec_capacity s.cells) 4294967296;
-      trail_room = vec_capacity s.trail;
+      store = the_store s.cells.list s.parts.items s.trail.list;
+      cell_room = min (length s.cells.list + s.cells.spare) 4294967296;
+      trail_room = length s.trail.list + s.trail.spare;
     } };
 
-    ghost invariant = { λ s. IsWell s.cells.items s.parts.items s.trail.items };
+    ghost invariant = { λ s. IsWell s.cells.list s.parts.items s.trail.list };
 }
 
 impl Store {
@@ -52,9 +53,9 @@ impl Store {
     {
         Ok(Store {
             alloc,
-            cells: Vec::new(alloc),
+            cells: Cells::new(alloc),
             parts: Vec::new(alloc),
-            trail: Vec::new(alloc),
+            trail: Cells::new(alloc),
         })
     }
 
@@ -62,9 +63,8 @@ impl Store {
     pub fn spare(&self) -> usize
         ensures { result ≡ spare self.now }
     {
-        let cells = self.cells.capacity().min(PLACES) - self.cells.len();
-        let trail = self.trail.capacity() - self.trail.len();
-        cells.min(trail)
+        let cells = self.cells.spare().min(PLACES - self.cells.len());
+        cells.min(self.trail.spare())
     }
 
     /// How many cells there are, with those that are spare.
@@ -85,8 +85,8 @@ impl Store {
         if n > PLACES - self.cells.len() {
             return Err(NoMemory);
         }
-        self.cells.try_reserve(n)?;
-        self.trail.try_reserve(n)?;
+        self.cells.reserve(n)?;
+        self.trail.reserve(n)?;
         Ok(())
     }
 
@@ -101,13 +101,10 @@ impl Store {
     {
         let place = self.cells.len() as u32;
         let start = self.parts.len() as u32;
-        put(
-            &mut self.cells,
-            Slot {
-                content: Content::Open(sort),
-                start,
-            },
-        );
+        self.cells.push(Slot {
+            content: Content::Open(sort),
+            start,
+        });
         Ref(place)
     }
 }
@@ -123,7 +120,7 @@ impl Store {
         ensures well { IsWellFormed self.new.store }
     {
         bind_slot(&mut self.cells, v.0 as usize, to);
-        put(&mut self.trail, v.0);
+        self.trail.push(v.0);
     }
 
     /// This moment.
@@ -157,7 +154,7 @@ impl Store {
         ensures shows { Shows self.now.store r.0 result }
         ensures well { IsWellFormed self.now.store }
     {
-        self.cells[r.0 as usize].content
+        self.cells.get(r.0 as usize).content
     }
 
     // What the cell is bound to, if it is bound.
@@ -227,7 +224,7 @@ impl Store {
         ensures part { (c : Cell) × (slice_get self.now.store.cells end.0 ≡ Some c) × (slice_get (parts_of c) i ≡ Some result.0) }
         ensures within { result.0 < length self.now.store.cells }
     {
-        let start = self.cells[end.0 as usize].start as usize;
+        let start = self.cells.get(end.0 as usize).start as usize;
         Ref(self.parts[start + i as usize])
     }
 

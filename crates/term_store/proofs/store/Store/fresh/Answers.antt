@@ -6,14 +6,12 @@ use Rattle.term_store.proofs.store.Store.fresh.Goals as goal
 
 pub invariant_of-self : goal.invariant_of-self
 invariant_of-self c =
-    let l = length-cells c.self.inside.cells.items c.self.inside.parts.items in
-    let n = c.self.inside.cells.ok.0 in
+    let l = length-cells c.self.inside.cells.list c.self.inside.parts.items in
     let room = subst (λ v. 0 < spare v) (sym c.self.view_is) c.requires in
-    rw c.put.ensures.items (well-open _ _ _ c.args.sort _ c.self.invariant (omega arith) (omega arith))
+    rw c.push.ensures.list (well-open _ _ _ c.args.sort _ c.self.invariant (omega arith) (omega arith))
 
 pub returns-clause-well : goal.returns-clause-well
 returns-clause-well c =
-    let l = length-cells c.self.inside.cells.items c.self.inside.parts.items in
-    let n = c.self.inside.cells.ok.0 in
+    let l = length-cells c.self.inside.cells.list c.self.inside.parts.items in
     let room = subst (λ v. 0 < spare v) (sym c.self.view_is) c.requires in
-    rw c.put.ensures.items (sound _ _ _ (well-open _ _ _ c.args.sort _ c.self.invariant (omega arith) (omega arith)))
+    rw c.push.ensures.list (sound _ _ _ (well-open _ _ _ c.args.sort _ c.self.invariant (omega arith) (omega arith)))
