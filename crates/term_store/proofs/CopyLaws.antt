@@ -2,6 +2,7 @@
 use Rattle.std.proofs.Common.{◌≡◌, ◌≤◌, ◌<◌, ◌+◌, ◌++◌, ◌∷◌, ◌&&◌, ◌||◌, [], Some, IsTrue, length, ℕ, zero, suc, List, Bool, true, false, map, take, drop, refl, sym, ap, ◌∙◌, subst, arith, inl, inr, get_or, append_assoc, length-append, ◌-◌, nat_le}
 use Rattle.std.specs.Prelude.{slice_get}
 use Rattle.std.specs.List.{list_all}
+use Rattle.std.proofs.lemmas.List.{take_all}
 use Rattle.std.proofs.lemmas.Bool.{cases_Bool, false≢true, and_parts, and_from}
 use Rattle.calculus.specs.declared.sort.Sort.{Sort}
 use Rattle.calculus.specs.declared.sort.Sort.TheVariants.{TermSort, MarkSort, StringSort}
@@ -86,6 +87,18 @@ copied-more s t u vs before items after ps p r w g h k m o e = record {
       part_sorts-more u b v w.more r (grown-part_sorts t u b v w.more h (w.sorts b v a.0)) (part-sorted s u vs b v p r (λ sort q. m sort (grown-fits s t vs sort p g q)) a.1);
   own = λ base l f. all-append (nat_le base) w.more (r ∷ []) (w.own base l f) (and_from (nat_le base r) true (o base (let q = length-grown s t g in omega (arith, l, q)) f) refl);
 }
+
+-- the references are copies of the patterns
+pub record RefsCopied (s t : Store) (vs rs : List ℕ) (ps : List tree.Pattern) : Type 0 where
+  pub copies : AreCopies t vs (patterns_tree ps) rs
+  pub sorts : (b : Sort) (w : Bool) → IsTrue (parts_fit_in s vs b w (patterns_tree ps)) → IsTrue (list_all (part_sort_at t b w) rs)
+  pub own : NamesOver vs (length s.cells) (λ base. list_all (nat_le base) rs)
+
+-- all items were copied into a new list
+pub refs-copied : (s t : Store) (vs rs : List ℕ) (items : List Pattern) (ps : List tree.Pattern) (n : ℕ) → length items ≤ n → map the_pattern items ≡ ps → Copied s t vs [] rs (map the_pattern (take n items)) → RefsCopied s t vs rs ps
+refs-copied s t vs rs items ps n l e w =
+    subst (RefsCopied s t vs rs) (ap (map the_pattern) (take_all n items l) ∙ e)
+    (subst (λ xs. RefsCopied s t vs xs (map the_pattern (take n items))) (sym w.places) (record { copies = w.copies; sorts = w.sorts; own = w.own }))
 
 -- ---- built cells of a name
 

@@ -1,6 +1,6 @@
 //! Clauses as patterns and as cells.
 
-ghost use Rattle.std.specs.Prelude.{◌≡◌, ◌++◌, ◌∷◌, [], OnErr, OnOk, map};
+ghost use Rattle.std.specs.Prelude.{◌≡◌, ◌++◌, ◌∷◌, [], IfOk, OnErr, OnOk, map};
 ghost use Rattle.term_store.specs.RefView.{the_place};
 ghost use Rattle.term_store.specs.ClauseView.{the_atom, the_gamma, the_pattern_atom, the_pattern_gamma};
 
@@ -36,6 +36,14 @@ impl RefList {
         RefList {
             items: Vec::new(alloc),
         }
+    }
+
+    /// The empty list, with room for so many items.
+    pub fn with_capacity(alloc: Global, count: usize) -> Result<RefList, NoMemory>
+        ensures { IfOk result (λ list. list ≡ []) }
+    {
+        let items = Vec::with_capacity(alloc, count)?;
+        Ok(RefList { items })
     }
 
     /// Appends the item. Want of memory leaves the list as it was.
@@ -94,6 +102,14 @@ impl CellAtomList {
         }
     }
 
+    /// The empty list, with room for so many items.
+    pub fn with_capacity(alloc: Global, count: usize) -> Result<CellAtomList, NoMemory>
+        ensures { IfOk result (λ list. list ≡ []) }
+    {
+        let items = Vec::with_capacity(alloc, count)?;
+        Ok(CellAtomList { items })
+    }
+
     /// Appends the item. Want of memory leaves the list as it was.
     pub fn push(&mut self, item: CellAtom) -> Result<(), NoMemory>
         ensures ok { OnOk result (self.new ≡ self.old ++ the_atom item ∷ []) }
@@ -143,6 +159,14 @@ impl GammaList {
         GammaList {
             items: Vec::new(alloc),
         }
+    }
+
+    /// The empty list, with room for so many items.
+    pub fn with_capacity(alloc: Global, count: usize) -> Result<GammaList, NoMemory>
+        ensures { IfOk result (λ list. list ≡ []) }
+    {
+        let items = Vec::with_capacity(alloc, count)?;
+        Ok(GammaList { items })
     }
 
     /// Appends the item. Want of memory leaves the list as it was.

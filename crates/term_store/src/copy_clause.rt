@@ -68,7 +68,8 @@ impl Store {
         ensures room { KeepsRoom self.old self.new }
     {
         let mut places = Vec::new(self.alloc);
-        let mut literals = CellAtomList::new(self.alloc);
+        let count = front.len() + back.len();
+        let mut literals = CellAtomList::with_capacity(self.alloc, count)?;
         self.copy_atoms(front, variables, &mut places, &mut literals)?;
         self.copy_atoms(back, variables, &mut places, &mut literals)?;
         let strings = self.copy_refs(&t.strings, variables, &mut places)?;

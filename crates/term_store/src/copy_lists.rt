@@ -13,7 +13,7 @@ ghost use Rattle.term_store.specs.RefView.{the_places};
 ghost use Rattle.term_store.specs.Room.{KeepsRoom};
 ghost use Rattle.term_store.specs.Signatures.{BuildsWithin, allows_all, allows_atom, allows_gamma};
 
-use crate::cell::{Ref, Variables};
+use crate::cell::Variables;
 use crate::clause::{
     CellAtom, CellAtomList, GammaList, GammaUse, PatternAtom, PatternGamma, PatternGammaList,
     RefList,
@@ -21,21 +21,10 @@ use crate::clause::{
 use crate::pattern::Patterns;
 use crate::store::Store;
 use cop_base::NoMemory;
-use std::alloc::Global;
-
-// The references to these places.
-fn refs_of(alloc: Global, places: &[u32]) -> Result<RefList, NoMemory>
-    ensures { IfOk result (λ refs. refs ≡ places.now) }
-{
-    let mut refs = RefList::new(alloc);
-    for place in places {
-        refs.push(Ref(*place))?;
-    }
-    Ok(refs)
-}
 
 impl Store {
-    // Copies of the patterns; `places` is room for the work.
+    // Copies of the patterns; `places` is a stack for the parts of the patterns that are being
+    // copied.
     pub(crate) fn copy_refs(
         &mut self,
         patterns: &Patterns,
@@ -50,9 +39,12 @@ impl Store {
         ensures within { OnOk result (BuildsWithin (λ g. allows_all g (patterns_tree patterns.now)) self.old.store self.new.store) }
         ensures room { KeepsRoom self.old self.new }
     {
-        places.clear();
-        self.copy_parts(patterns, variables, places)?;
-        let refs = refs_of(self.alloc, places)?;
+        let count = patterns.items().len();
+        let mut refs = RefList::with_capacity(self.alloc, count)?;
+        for part in patterns.items() {
+            let copied = self.copy_pattern(part, variables, places)?;
+            refs.push(copied)?;
+        }
         Ok(refs)
     }
 
@@ -134,7 +126,7 @@ impl Store {
         ensures within { OnOk result (BuildsWithin (λ g. list_all (allows_gamma g) gammas.now) self.old.store self.new.store) }
         ensures room { KeepsRoom self.old self.new }
     {
-        let mut copied = GammaList::new(self.alloc);
+        let mut copied = GammaList::with_capacity(self.alloc, gammas.items().len())?;
         for gamma in gammas.items() {
             let copy = self.copy_gamma(gamma, variables, places)?;
             copied.push(copy)?;

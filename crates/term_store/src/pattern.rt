@@ -1,6 +1,6 @@
 //! Patterns of terms and marks.
 
-ghost use Rattle.std.specs.Prelude.{◌≡◌, ◌++◌, ◌∷◌, [], OnErr, OnOk, map};
+ghost use Rattle.std.specs.Prelude.{◌≡◌, ◌++◌, ◌∷◌, [], IfOk, OnErr, OnOk, map};
 ghost use Rattle.term_store.specs.PatternView.{the_pattern};
 
 use cop_base::{NoMemory, PosId, SymbolId};
@@ -52,6 +52,14 @@ impl Patterns {
         Patterns {
             items: Vec::new(alloc),
         }
+    }
+
+    /// The empty list, with room for so many items.
+    pub fn with_capacity(alloc: Global, count: usize) -> Result<Patterns, NoMemory>
+        ensures { IfOk result (λ list. list ≡ []) }
+    {
+        let items = Vec::with_capacity(alloc, count)?;
+        Ok(Patterns { items })
     }
 
     /// Appends the item. Want of memory leaves the list as it was.

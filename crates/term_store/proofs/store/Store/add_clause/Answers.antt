@@ -6,7 +6,7 @@ use Rattle.term_store.specs.RefView.{the_places}
 use Rattle.term_store.specs.TemplateView.{the_template}
 use Rattle.term_store.proofs.FitLaws.{have-grown, placed-atoms, sorted-alone, template-gammas, template-strings}
 use Rattle.term_store.proofs.ListLaws.{clause-made}
-use Rattle.term_store.proofs.OwnLaws.{over-both}
+use Rattle.term_store.proofs.OwnLaws.{names-same, over-both}
 use Rattle.term_store.proofs.SignatureLaws.{within-clause}
 use Rattle.term_store.proofs.store.Store.add_clause.Goals as goal
 
@@ -19,6 +19,9 @@ copy_atoms-requires-2 c =
     let s = c.args.self.now.store in
     let a = c.copy_atoms.new.self.store in
     placed-atoms a vs c.args.t.now.sorts (have-grown s a c.args.t.now.sorts vs (Grows-built s a c.in_ok-copy_atoms.ensures.adds.built) c.requires.variables) (map the_pattern_atom c.args.back.now) c.requires.back
+
+pub returns-in_err-literals-clause-adds : goal.returns-in_err-literals-clause-adds
+returns-in_err-literals-clause-adds c = names-same (the_places c.args.variables) c.args.self.now.store
 
 pub returns-in_err-copy_atoms-2-clause-adds : goal.returns-in_err-copy_atoms-2-clause-adds
 returns-in_err-copy_atoms-2-clause-adds c = over-both (the_places c.args.variables) c.args.self.now.store c.copy_atoms.new.self.store c.copy_atoms-2.new.self.store c.in_ok-copy_atoms.ensures.adds c.in_err-copy_atoms-2.ensures.adds
@@ -65,7 +68,7 @@ returns-clause-copy c =
     let over = over-both vs s c.copy_atoms.new.self.store b c.in_ok-copy_atoms.ensures.adds c.in_ok-copy_atoms-2.ensures.adds in
     let fits = template-strings b vs (the_template c.args.t.now) (have-grown s b c.args.t.now.sorts vs (Grows-built s b over.built) c.requires.variables) c.requires.template in
     let sorted = sorted-alone d StringSort c.in_ok-strings.strings (c.in_ok-strings.ensures.sorts StringSort false fits) in
-    (clause-made s c.copy_atoms.new.self.store b d c.copy_gammas.new.self.store vs (the_template c.args.t.now) (map the_pattern_atom c.args.front.now) (map the_pattern_atom c.args.back.now) c.new-literals.result c.copy_atoms.new.copied c.copy_atoms-2.new.copied c.in_ok-strings.strings c.in_ok-gammas.gammas c.new-literals.ensures c.in_ok-copy_atoms.ensures.copies c.in_ok-copy_atoms.ensures.adds c.in_ok-copy_atoms-2.ensures.copies c.in_ok-copy_atoms-2.ensures.adds c.in_ok-strings.ensures.copies sorted c.in_ok-strings.ensures.own c.in_ok-strings.ensures.adds c.in_ok-gammas.ensures.copies c.in_ok-gammas.ensures.sorts c.in_ok-gammas.ensures.own c.in_ok-gammas.ensures.adds).copy
+    (clause-made s c.copy_atoms.new.self.store b d c.copy_gammas.new.self.store vs (the_template c.args.t.now) (map the_pattern_atom c.args.front.now) (map the_pattern_atom c.args.back.now) c.in_ok-literals.literals c.copy_atoms.new.copied c.copy_atoms-2.new.copied c.in_ok-strings.strings c.in_ok-gammas.gammas c.in_ok-literals.ensures c.in_ok-copy_atoms.ensures.copies c.in_ok-copy_atoms.ensures.adds c.in_ok-copy_atoms-2.ensures.copies c.in_ok-copy_atoms-2.ensures.adds c.in_ok-strings.ensures.copies sorted c.in_ok-strings.ensures.own c.in_ok-strings.ensures.adds c.in_ok-gammas.ensures.copies c.in_ok-gammas.ensures.sorts c.in_ok-gammas.ensures.own c.in_ok-gammas.ensures.adds).copy
 
 pub returns-clause-sorts : goal.returns-clause-sorts
 returns-clause-sorts c =
@@ -76,7 +79,7 @@ returns-clause-sorts c =
     let over = over-both vs s c.copy_atoms.new.self.store b c.in_ok-copy_atoms.ensures.adds c.in_ok-copy_atoms-2.ensures.adds in
     let fits = template-strings b vs (the_template c.args.t.now) (have-grown s b c.args.t.now.sorts vs (Grows-built s b over.built) c.requires.variables) c.requires.template in
     let sorted = sorted-alone d StringSort c.in_ok-strings.strings (c.in_ok-strings.ensures.sorts StringSort false fits) in
-    (clause-made s c.copy_atoms.new.self.store b d c.copy_gammas.new.self.store vs (the_template c.args.t.now) (map the_pattern_atom c.args.front.now) (map the_pattern_atom c.args.back.now) c.new-literals.result c.copy_atoms.new.copied c.copy_atoms-2.new.copied c.in_ok-strings.strings c.in_ok-gammas.gammas c.new-literals.ensures c.in_ok-copy_atoms.ensures.copies c.in_ok-copy_atoms.ensures.adds c.in_ok-copy_atoms-2.ensures.copies c.in_ok-copy_atoms-2.ensures.adds c.in_ok-strings.ensures.copies sorted c.in_ok-strings.ensures.own c.in_ok-strings.ensures.adds c.in_ok-gammas.ensures.copies c.in_ok-gammas.ensures.sorts c.in_ok-gammas.ensures.own c.in_ok-gammas.ensures.adds).sorts
+    (clause-made s c.copy_atoms.new.self.store b d c.copy_gammas.new.self.store vs (the_template c.args.t.now) (map the_pattern_atom c.args.front.now) (map the_pattern_atom c.args.back.now) c.in_ok-literals.literals c.copy_atoms.new.copied c.copy_atoms-2.new.copied c.in_ok-strings.strings c.in_ok-gammas.gammas c.in_ok-literals.ensures c.in_ok-copy_atoms.ensures.copies c.in_ok-copy_atoms.ensures.adds c.in_ok-copy_atoms-2.ensures.copies c.in_ok-copy_atoms-2.ensures.adds c.in_ok-strings.ensures.copies sorted c.in_ok-strings.ensures.own c.in_ok-strings.ensures.adds c.in_ok-gammas.ensures.copies c.in_ok-gammas.ensures.sorts c.in_ok-gammas.ensures.own c.in_ok-gammas.ensures.adds).sorts
 
 pub returns-clause-own : goal.returns-clause-own
 returns-clause-own c =
@@ -87,7 +90,7 @@ returns-clause-own c =
     let over = over-both vs s c.copy_atoms.new.self.store b c.in_ok-copy_atoms.ensures.adds c.in_ok-copy_atoms-2.ensures.adds in
     let fits = template-strings b vs (the_template c.args.t.now) (have-grown s b c.args.t.now.sorts vs (Grows-built s b over.built) c.requires.variables) c.requires.template in
     let sorted = sorted-alone d StringSort c.in_ok-strings.strings (c.in_ok-strings.ensures.sorts StringSort false fits) in
-    (clause-made s c.copy_atoms.new.self.store b d c.copy_gammas.new.self.store vs (the_template c.args.t.now) (map the_pattern_atom c.args.front.now) (map the_pattern_atom c.args.back.now) c.new-literals.result c.copy_atoms.new.copied c.copy_atoms-2.new.copied c.in_ok-strings.strings c.in_ok-gammas.gammas c.new-literals.ensures c.in_ok-copy_atoms.ensures.copies c.in_ok-copy_atoms.ensures.adds c.in_ok-copy_atoms-2.ensures.copies c.in_ok-copy_atoms-2.ensures.adds c.in_ok-strings.ensures.copies sorted c.in_ok-strings.ensures.own c.in_ok-strings.ensures.adds c.in_ok-gammas.ensures.copies c.in_ok-gammas.ensures.sorts c.in_ok-gammas.ensures.own c.in_ok-gammas.ensures.adds).own
+    (clause-made s c.copy_atoms.new.self.store b d c.copy_gammas.new.self.store vs (the_template c.args.t.now) (map the_pattern_atom c.args.front.now) (map the_pattern_atom c.args.back.now) c.in_ok-literals.literals c.copy_atoms.new.copied c.copy_atoms-2.new.copied c.in_ok-strings.strings c.in_ok-gammas.gammas c.in_ok-literals.ensures c.in_ok-copy_atoms.ensures.copies c.in_ok-copy_atoms.ensures.adds c.in_ok-copy_atoms-2.ensures.copies c.in_ok-copy_atoms-2.ensures.adds c.in_ok-strings.ensures.copies sorted c.in_ok-strings.ensures.own c.in_ok-strings.ensures.adds c.in_ok-gammas.ensures.copies c.in_ok-gammas.ensures.sorts c.in_ok-gammas.ensures.own c.in_ok-gammas.ensures.adds).own
 
 pub returns-clause-adds : goal.returns-clause-adds
 returns-clause-adds c =
@@ -98,7 +101,7 @@ returns-clause-adds c =
     let over = over-both vs s c.copy_atoms.new.self.store b c.in_ok-copy_atoms.ensures.adds c.in_ok-copy_atoms-2.ensures.adds in
     let fits = template-strings b vs (the_template c.args.t.now) (have-grown s b c.args.t.now.sorts vs (Grows-built s b over.built) c.requires.variables) c.requires.template in
     let sorted = sorted-alone d StringSort c.in_ok-strings.strings (c.in_ok-strings.ensures.sorts StringSort false fits) in
-    (clause-made s c.copy_atoms.new.self.store b d c.copy_gammas.new.self.store vs (the_template c.args.t.now) (map the_pattern_atom c.args.front.now) (map the_pattern_atom c.args.back.now) c.new-literals.result c.copy_atoms.new.copied c.copy_atoms-2.new.copied c.in_ok-strings.strings c.in_ok-gammas.gammas c.new-literals.ensures c.in_ok-copy_atoms.ensures.copies c.in_ok-copy_atoms.ensures.adds c.in_ok-copy_atoms-2.ensures.copies c.in_ok-copy_atoms-2.ensures.adds c.in_ok-strings.ensures.copies sorted c.in_ok-strings.ensures.own c.in_ok-strings.ensures.adds c.in_ok-gammas.ensures.copies c.in_ok-gammas.ensures.sorts c.in_ok-gammas.ensures.own c.in_ok-gammas.ensures.adds).adds
+    (clause-made s c.copy_atoms.new.self.store b d c.copy_gammas.new.self.store vs (the_template c.args.t.now) (map the_pattern_atom c.args.front.now) (map the_pattern_atom c.args.back.now) c.in_ok-literals.literals c.copy_atoms.new.copied c.copy_atoms-2.new.copied c.in_ok-strings.strings c.in_ok-gammas.gammas c.in_ok-literals.ensures c.in_ok-copy_atoms.ensures.copies c.in_ok-copy_atoms.ensures.adds c.in_ok-copy_atoms-2.ensures.copies c.in_ok-copy_atoms-2.ensures.adds c.in_ok-strings.ensures.copies sorted c.in_ok-strings.ensures.own c.in_ok-strings.ensures.adds c.in_ok-gammas.ensures.copies c.in_ok-gammas.ensures.sorts c.in_ok-gammas.ensures.own c.in_ok-gammas.ensures.adds).adds
 
 pub returns-clause-within : goal.returns-clause-within
 returns-clause-within c = within-clause c.args.self.now.store c.copy_atoms.new.self.store c.copy_atoms-2.new.self.store c.copy_refs.new.self.store c.copy_gammas.new.self.store (the_template c.args.t.now) (map the_pattern_atom c.args.front.now) (map the_pattern_atom c.args.back.now) c.in_ok-copy_atoms.ensures.within c.in_ok-copy_atoms-2.ensures.within c.in_ok-strings.ensures.within c.in_ok-gammas.ensures.within

@@ -16,7 +16,7 @@ use Rattle.term_store.proofs.store.Store.copy_gammas.Goals as goal
 
 pub loop-gamma-init : goal.loop-gamma-init
 loop-gamma-init c = record {
-  copied = subst (λ xs. GammasCopied c.args.self.now.store (the_places c.args.variables) (length c.args.self.now.store.cells) xs []) (sym c.new-copied.ensures) (gammas-none c.args.self.now.store (the_places c.args.variables) (length c.args.self.now.store.cells));
+  copied = subst (λ xs. GammasCopied c.args.self.now.store (the_places c.args.variables) (length c.args.self.now.store.cells) xs []) (sym c.in_ok-copied.ensures) (gammas-none c.args.self.now.store (the_places c.args.variables) (length c.args.self.now.store.cells));
   adds = names-same (the_places c.args.variables) c.args.self.now.store;
   within = λ g base h k. k;
   room = (omega arith, omega arith);
@@ -43,6 +43,9 @@ loop-gamma-preserved c =
           (within-item allows_gamma (map the_pattern_gamma (take c.loop-gamma.gamma-index c.items-gamma-items.result.now)) (the_pattern_gamma c.gamma-item.result) c.args.self.now.store c.loop-gamma.self.store c.copy_gamma.new.self.store c.loop-gamma.invariant.within c.in_ok-copy.ensures.within);
       room = (omega arith, omega arith);
     }
+
+pub returns-in_err-copied-clause-adds : goal.returns-in_err-copied-clause-adds
+returns-in_err-copied-clause-adds c = names-same (the_places c.args.variables) c.args.self.now.store
 
 pub returns-in_err-copy-clause-adds : goal.returns-in_err-copy-clause-adds
 returns-in_err-copy-clause-adds c = over-both (the_places c.args.variables) c.args.self.now.store c.loop-gamma.self.store c.copy_gamma.new.self.store c.loop-gamma.invariant.adds c.in_err-copy.ensures.adds
