@@ -31,7 +31,7 @@ pub(crate) fn copy(alloc: Global, pattern: &Pattern) -> Result<Pattern, NoMemory
 pub(crate) fn copy_all(alloc: Global, patterns: &Patterns) -> Result<Patterns, NoMemory>
     ensures { IfOk result (λ ps. ps ≡ patterns.now) }
 {
-    let mut copied = Patterns::new(alloc);
+    let mut copied = Patterns::with_capacity(alloc, patterns.items().len())?;
     for item in patterns.items() {
         copied.push(copy(alloc, item)?)?;
     }
@@ -46,7 +46,8 @@ pub(crate) fn followed(
 ) -> Result<Patterns, NoMemory>
     ensures { IfOk result (λ ps. ps ≡ patterns.now ++ the_pattern last ∷ []) }
 {
-    let mut all = copy_all(alloc, patterns)?;
+    let mut all = Patterns::with_capacity(alloc, patterns.items().len() + 1)?;
+    append(alloc, &mut all, patterns)?;
     all.push(last)?;
     Ok(all)
 }
@@ -55,7 +56,7 @@ pub(crate) fn followed(
 pub(crate) fn led(alloc: Global, first: Pattern, patterns: &Patterns) -> Result<Patterns, NoMemory>
     ensures { IfOk result (λ ps. ps ≡ the_pattern first ∷ patterns.now) }
 {
-    let mut all = Patterns::new(alloc);
+    let mut all = Patterns::with_capacity(alloc, patterns.items().len() + 1)?;
     all.push(first)?;
     append(alloc, &mut all, patterns)?;
     Ok(all)
@@ -112,7 +113,7 @@ pub(crate) fn patterns_of(
 ) -> Result<Patterns, NoMemory>
     ensures { IfOk result (λ ps. ps ≡ patterns_of env.now (terms_tree terms.now)) }
 {
-    let mut all = Patterns::new(alloc);
+    let mut all = Patterns::with_capacity(alloc, terms.items().len())?;
     for term in terms.items() {
         all.push(pattern_of(alloc, env, term)?)?;
     }
