@@ -101,8 +101,9 @@ fn clauses_of(alloc: Global, logic: Logic, formula: &Formula) -> Result<Vec<Clau
         logic,
         sizes,
     };
-    let mut clauses = Vec::new(alloc);
-    for selection in selections(alloc, formula, Sign::F)? {
+    let selections = selections(alloc, formula, Sign::F)?;
+    let mut clauses = Vec::with_capacity(alloc, selections.len())?;
+    for selection in selections {
         let template = plan.template_of(formula, selection.items())?;
         clauses.push(Clause {
             selection,

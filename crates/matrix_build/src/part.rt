@@ -100,6 +100,14 @@ impl Part<'_> {
         Ok(())
     }
 
+    /// Gives back the room that no literal and no gamma term has.
+    pub fn shrink_to_fit(&mut self)
+        ensures { the_part self.new ≡ the_part self.old }
+    {
+        self.literals.shrink_to_fit();
+        self.gammas.shrink_to_fit();
+    }
+
     /// Uses the next side.
     pub fn next_side(&mut self) -> Option<Side>
         ensures { MatchOption result ((the_part self.old).sides ≡ [])

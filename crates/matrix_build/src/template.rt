@@ -66,6 +66,7 @@ impl Plan {
         let mut part = no_part(self.alloc, sides);
         let way = Way::root(self.alloc);
         self.add_part(f, Sign::F, 0, &way, &mut part)?;
+        part.shrink_to_fit();
         let strings = strings_of(self.alloc, part.sorts.items())?;
         Ok(Template {
             literals: part.literals,

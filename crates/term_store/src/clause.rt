@@ -236,6 +236,13 @@ impl PatternAtomList {
         Ok(())
     }
 
+    /// Gives back the room that no item has.
+    pub fn shrink_to_fit(&mut self)
+        ensures { self.new ≡ self.old }
+    {
+        self.items.shrink_to_fit();
+    }
+
     /// The items in order.
     pub fn items(&self) -> &[PatternAtom]
         ensures { map the_pattern_atom result.now ≡ self.now }
@@ -290,6 +297,13 @@ impl PatternGammaList {
     {
         self.items.push(item)?;
         Ok(())
+    }
+
+    /// Gives back the room that no item has.
+    pub fn shrink_to_fit(&mut self)
+        ensures { self.new ≡ self.old }
+    {
+        self.items.shrink_to_fit();
     }
 
     /// The items in order.
