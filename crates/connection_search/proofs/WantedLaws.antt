@@ -305,11 +305,11 @@ pub pushed : (items : List program.GroundTerm) (t : program.GroundTerm) → reve
 pushed items t = ap reverse (map-last the_g_term items t) ∙ reverse-last (map the_g_term items) (the_g_term t)
 
 -- one part more is wanted
-pub part-wanted : (s : Store) (r i : ℕ) (c : Cell) (ref : Ref) (items before : List Task) → slice_get s.cells r ≡ Some c → IsEnd s r → EndsIn s r (λ d. slice_get (parts_of d) i ≡ Some ref.0) → map the_task items ≡ map the_task before ++ map cell_term (take i (parts_of c)) → map the_task (items ++ task.Cell ref ∷ []) ≡ map the_task before ++ map cell_term (take (i + 1) (parts_of c))
-part-wanted s r i c ref items before e end t h =
+pub part-wanted : (s : Store) (r i : ℕ) (c : Cell) (ref : Ref) (levels : ℕ) (items before : List Task) → slice_get s.cells r ≡ Some c → IsEnd s r → EndsIn s r (λ d. slice_get (parts_of d) i ≡ Some ref.0) → map the_task items ≡ map the_task before ++ map cell_term (take i (parts_of c)) → map the_task (items ++ task.Cell ref levels ∷ []) ≡ map the_task before ++ map cell_term (take (i + 1) (parts_of c))
+part-wanted s r i c ref levels items before e end t h =
     let b : is_bound c ≡ false = let q : end.0 ≡ c = let w : Some end.0 ≡ Some c = sym end.1 ∙ e in cc w in ap is_bound (sym q) ∙ end.2 in
     let at = told s r c (λ d. slice_get (parts_of d) i ≡ Some ref.0) e b t in
-    map-last the_task items (task.Cell ref) ∙ ap (λ xs. xs ++ cell_term ref.0 ∷ []) h ∙ append_assoc (map the_task before) (map cell_term (take i (parts_of c))) (cell_term ref.0 ∷ []) ∙ ap (λ xs. map the_task before ++ xs) (sym (ap (map cell_term) (take-next i (parts_of c) ref.0 at) ∙ map-last cell_term (take i (parts_of c)) ref.0))
+    map-last the_task items (task.Cell ref levels) ∙ ap (λ xs. xs ++ cell_term ref.0 ∷ []) h ∙ append_assoc (map the_task before) (map cell_term (take i (parts_of c))) (cell_term ref.0 ∷ []) ∙ ap (λ xs. map the_task before ++ xs) (sym (ap (map cell_term) (take-next i (parts_of c) ref.0 at) ∙ map-last cell_term (take i (parts_of c)) ref.0))
   where
     take-next : (i : ℕ) (xs : List ℕ) (x : ℕ) → slice_get xs i ≡ Some x → take (i + 1) xs ≡ take i xs ++ x ∷ []
     take-next i xs x e = ap (λ n. take n xs) (let p : i + 1 ≡ suc i = omega arith in p) ∙ by i xs e

@@ -15,7 +15,7 @@ pub data Wanted : Type 0 where
   function_of eigenvariable_of : ℕ → ℕ → Wanted
 
 abbrev pub the_task : Task → Wanted
-the_task (task.Cell r) = cell_term r.0
+the_task (task.Cell r levels) = cell_term r.0
 the_task (task.Fun f n) = function_of f.0 n
 the_task (task.Eigen p n) = eigenvariable_of p.0 n
 

@@ -15,30 +15,45 @@ use formula_core::{GroundTerm, GroundTerms, Value, Values};
 use std::alloc::Global;
 use term_store::{Head, Ref, Store};
 
-// What is to be done: the term of a cell is wanted, or a term of so many terms that are done.
+// How many levels a ground term may have. Copying a term, comparing it and letting it go are calls
+// within calls, one for each level, so a term that nests much deeper overflows the stack. Beyond this
+// number the answer is that there is no memory for the term.
+const DEEPEST: u32 = 10000;
+
+// What is to be done: the term of a cell is wanted, which may have so many levels, or a term of so
+// many terms that are done.
 #[derive(Drop)]
 enum Task {
-    Cell(Ref),
+    Cell(Ref, u32),
     Fun(SymbolId, u32),
     Eigen(PosId, u32),
 }
 
-// Asks for the terms of the parts of a cell.
-fn want_parts(store: &Store, r: Ref, tasks: &mut Vec<Task>) -> Result<(), NoMemory>
+// Asks for the terms of the parts of a cell, which may have so many levels.
+fn want_parts(store: &Store, r: Ref, levels: u32, tasks: &mut Vec<Task>) -> Result<(), NoMemory>
     requires { IsEnd store.now.store r.0 }
     ensures { OnOk result ((c : Cell) → slice_get store.now.store.cells r.0 ≡ Some c
         → map the_task tasks.new.items ≡ map the_task tasks.old.items ++ map cell_term (parts_of c)) }
 {
     for i in 0..store.parts(r) {
-        tasks.push(Task::Cell(store.part(r, i)))?;
+        tasks.push(Task::Cell(store.part(r, i), levels))?;
     }
     Ok(())
 }
 
-// Asks for the term of a cell: a spare is done at once.
+// One level less, where there is one.
+fn level_below(levels: u32) -> Result<u32, NoMemory> {
+    match levels.checked_sub(1) {
+        Some(below) => Ok(below),
+        None => Err(NoMemory),
+    }
+}
+
+// Asks for the term of a cell, which may have so many levels: a spare is done at once.
 fn want(
     store: &Store,
     r: Ref,
+    levels: u32,
     tasks: &mut Vec<Task>,
     done: &mut Vec<GroundTerm>,
 ) -> Result<(), NoMemory>
@@ -51,13 +66,15 @@ fn want(
     let end = store.walk(r);
     match store.head(end) {
         Head::Fun(f) => {
+            let below = level_below(levels)?;
             tasks.push(Task::Fun(f, store.parts(end)))?;
-            want_parts(store, end, tasks)?;
+            want_parts(store, end, below, tasks)?;
             Ok(())
         }
         Head::Eigen(p) => {
+            let below = level_below(levels)?;
             tasks.push(Task::Eigen(p, store.parts(end)))?;
-            want_parts(store, end, tasks)?;
+            want_parts(store, end, below, tasks)?;
             Ok(())
         }
         Head::Open(_) => {
@@ -125,7 +142,7 @@ fn perform(
         (map the_task tasks.new.items) (map the_g_term done.new.items)) }
 {
     match task {
-        Task::Cell(r) => want(store, r, tasks, done)?,
+        Task::Cell(r, levels) => want(store, r, levels, tasks, done)?,
         Task::Fun(f, count) => {
             let args = take_terms(alloc, done, count)?;
             done.push(GroundTerm::Fun(f, args))?;
@@ -138,7 +155,7 @@ fn perform(
     Ok(())
 }
 
-/// The ground term of the cell.
+/// The ground term of the cell, where it has at most `DEEPEST` levels.
 pub(crate) fn own_term(alloc: Global, store: &Store, r: Ref) -> Result<GroundTerm, NoMemory>
     requires { r.0 < length store.now.store.cells }
     ensures { IfOk result (λ t. (P : Problem) (base : ℕ) (σ : Solution)
@@ -149,7 +166,7 @@ pub(crate) fn own_term(alloc: Global, store: &Store, r: Ref) -> Result<GroundTer
     let _now = store.mark();
     let mut tasks = Vec::new(alloc);
     let mut done = Vec::new(alloc);
-    tasks.push(Task::Cell(r))?;
+    tasks.push(Task::Cell(r, DEEPEST))?;
     while let Some(task) = tasks.pop() {
         perform(alloc, store, task, &mut tasks, &mut done)?;
     }

@@ -6,7 +6,7 @@ use Rattle.connection_search.proofs.WantedLaws.{part-wanted}
 use Rattle.connection_search.proofs.terms.want_parts.Goals as goal
 
 pub loop-i-preserved : goal.loop-i-preserved
-loop-i-preserved c = λ d e. ap (map the_task) c.in_ok-push.ensures.items ∙ part-wanted c.args.store.now.store c.args.r.0 c.loop-i.i d c.part.result c.loop-i.tasks.items c.args.tasks.now.items e c.requires c.part.ensures.part (c.loop-i.invariant d e)
+loop-i-preserved c = λ d e. ap (map the_task) c.in_ok-push.ensures.items ∙ part-wanted c.args.store.now.store c.args.r.0 c.loop-i.i d c.part.result c.args.levels c.loop-i.tasks.items c.args.tasks.now.items e c.requires c.part.ensures.part (c.loop-i.invariant d e)
 
 pub returns : goal.returns
 returns c = λ d e.
