@@ -2,6 +2,7 @@
 pub mod Places
 pub mod Stacks
 -- unifying and comparing atoms
+pub mod NewBindingLaws
 pub mod UnifyingLaws
 pub mod SamenessLaws
 pub mod HeadLaws

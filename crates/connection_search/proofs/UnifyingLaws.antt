@@ -37,6 +37,10 @@ unified-start s xs ys = record { rest = λ new h. h; apart = λ h. h; binds = Bi
 one : (s t : Store) (a b : ℕ) → Unifies a b s t → BindsOnly s t → IsUnified s t a b
 one s t a b u binds = record { size = binds.same_length; back = λ σ h. (u.0 σ).0 h; forth = λ σ h e. (u.0 σ).1 h e }
 
+-- the cells of a copy name one another alone, also where a pair was bound in part or could not be
+pub names-after : (old mid new : Store) (xs ys : List ℕ) (i a b : ℕ) → UnifiedTo old mid xs ys i → slice_get xs i ≡ Some a → slice_get ys i ≡ Some b → BindsOnly mid new → BindsWithin a b mid new → (base : ℕ) → NamesFrom base old → IsTrue (list_all (nat_le base) xs) → IsTrue (list_all (nat_le base) ys) → NamesFrom base new
+names-after old mid new xs ys i a b h ea eb binds within base n l r = names-within base a b mid new binds within (h.names base n l r) (leb-true base a (all-at (nat_le base) xs i a l ea)) (leb-true base b (all-at (nat_le base) ys i b r eb))
+
 -- the pair at the place is unified
 pub unified-next : (old mid new : Store) (xs ys : List ℕ) (i a b : ℕ) → UnifiedTo old mid xs ys i → slice_get xs i ≡ Some a → slice_get ys i ≡ Some b → IsTrue (list_all (has_sort_at old TermSort) xs) → IsTrue (list_all (has_sort_at old TermSort) ys) → Unifies a b mid new → BindsOnly mid new → BindsWithin a b mid new → KeepsMarks mid new → UnifiedTo old new xs ys (i + 1)
 unified-next old mid new xs ys i a b h ea eb tx ty u binds within marks = record {
@@ -44,7 +48,7 @@ unified-next old mid new xs ys i a b h ea eb tx ty u binds within marks = record
   apart = λ k. h.apart (subst (λ us. Clash mid us (drop i ys)) (sym (drop-there xs i a ea)) (subst (λ vs. Clash mid (a ∷ drop (suc i) xs) vs) (sym (drop-there ys i b eb)) (clash-later mid new a b (drop (suc i) xs) (drop (suc i) ys) sa sb (one mid new a b u binds) (subst (λ n. Clash new (drop n xs) (drop n ys)) more k))));
   binds = BindsOnly-both old mid new h.binds binds;
   marks = KeepsMarks-both old mid new h.marks marks;
-  names = λ base n l r. names-within base a b mid new binds within (h.names base n l r) (leb-true base a (all-at (nat_le base) xs i a l ea)) (leb-true base b (all-at (nat_le base) ys i b r eb));
+  names = names-after old mid new xs ys i a b h ea eb binds within;
 }
   where
     more : i + 1 ≡ suc i

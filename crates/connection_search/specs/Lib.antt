@@ -1,5 +1,7 @@
 -- the tree of a search as the program has it
 pub mod Trees
+-- binding new variables
+pub mod NewBindings
 -- comparing atoms and goals
 pub mod Sameness
 pub mod Heads

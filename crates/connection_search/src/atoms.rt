@@ -9,6 +9,7 @@ ghost use Rattle.calculus.specs.Equality.{sign_eq};
 ghost use Rattle.calculus.specs.Kinds as kinds;
 ghost use Rattle.calculus.specs.Stores.{Solution, Solves, has_sort_at, names_below};
 ghost use Rattle.calculus.specs.Syntax.{Problem};
+ghost use Rattle.connection_search.specs.NewBindings.{IsClosedBelow};
 ghost use Rattle.connection_search.specs.Sameness.{DifferAt};
 ghost use Rattle.search_theory.specs.Regular.{AreSame, is_classical_atom, is_classical_store};
 ghost use Rattle.search_theory.specs.Stack as stack;
@@ -18,6 +19,7 @@ ghost use Rattle.term_store.specs.ClauseView.{the_atom};
 ghost use Rattle.term_store.specs.RefView.{the_place};
 ghost use Rattle.term_store.specs.Room.{KeepsRoom};
 
+use crate::pair::unify_pair;
 use calculus::sign::Sign;
 use cop_base::NoMemory;
 use term_store::{CellAtom, Ref, Store};
@@ -56,10 +58,12 @@ pub(crate) fn reference_at(refs: &[Ref], i: usize) -> Ref
     refs[i]
 }
 
-/// Binds so that the lists of terms are equal. Where they cannot be, some bindings may be left.
+/// Binds so that the lists of terms are equal. Where they cannot be, some bindings may be left. Cells
+/// below the number name such cells alone.
 pub(crate) fn unify_all(
     unifier: &mut Unifier,
     store: &mut Store,
+    below: usize,
     xs: &[Ref],
     ys: &[Ref],
 ) -> Result<bool, NoMemory>
@@ -67,6 +71,7 @@ pub(crate) fn unify_all(
         (map the_place xs.now)) }
     requires right { IsTrue (list_all (has_sort_at store.old.store TermSort)
         (map the_place ys.now)) }
+    requires closed { IsClosedBelow below store.old.store }
     ensures unified { IfOk result (λ equal. equal ≡ true
         → AreUnified store.old.store store.new.store (map the_place xs.now)
         (map the_place ys.now)) }
@@ -83,9 +88,17 @@ pub(crate) fn unify_all(
     if xs.len() != ys.len() {
         return Ok(false);
     }
+    let mut closed = below;
     for i in 0..xs.len() {
-        if !unifier.unify(store, reference_at(xs, i), reference_at(ys, i))? {
-            return Ok(false);
+        match unify_pair(
+            unifier,
+            store,
+            closed,
+            reference_at(xs, i),
+            reference_at(ys, i),
+        )? {
+            Some(number) => closed = number,
+            None => return Ok(false),
         }
     }
     Ok(true)

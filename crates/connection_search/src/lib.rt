@@ -6,6 +6,7 @@ mod deepening;
 mod exploring;
 mod heads;
 mod moves;
+mod pair;
 mod point;
 mod reading;
 mod regular;

@@ -109,7 +109,7 @@ impl Work {
     {
         let xs = self.tree.atom(goal).args.items();
         let ys = self.tree.atom(ancestor).args.items();
-        if !unify_all(&mut self.unifier, store, xs, ys)? {
+        if !unify_all(&mut self.unifier, store, 0, xs, ys)? {
             return Ok(false);
         }
         let _met = store.mark();
@@ -167,9 +167,11 @@ impl Work {
         if has_clash(store, self.tree.atom(goal), &template.literals.items()[at]) {
             return Ok(false);
         }
+        let cells = store.size() - store.spare();
         let head = store.copy_literal(template, at)?;
         let terms = self.tree.atom(goal).args.items();
-        if !unify_all(&mut self.unifier, store, terms, head.atom.args.items())? {
+        let literal = head.atom.args.items();
+        if !unify_all(&mut self.unifier, store, cells, terms, literal)? {
             return Ok(false);
         }
         let copy = store.copy_rest(template, head.variables, at)?;

@@ -1,6 +1,7 @@
 use Rattle.std.proofs.Common.{map}
 use Rattle.term_store.specs.RefView.{the_place}
 use Rattle.term_store.specs.Room.{KeepsRoom}
+use Rattle.connection_search.specs.NewBindings.{IsClosedBelow}
 use Rattle.connection_search.proofs.UnifyingLaws.{UnifiedTo}
 use Rattle.connection_search.proofs.atoms.unify_all.Given as goal
 
@@ -8,4 +9,5 @@ abbrev pub invariant-loop-i : goal.invariant-loop-i
 invariant-loop-i l = record {
   unified : UnifiedTo l.initial.store.store l.store.store (map the_place l.xs) (map the_place l.ys) l.i;
   room : KeepsRoom l.initial.store l.store;
+  closed : IsClosedBelow l.closed l.store.store;
 }

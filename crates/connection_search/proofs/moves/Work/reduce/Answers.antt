@@ -5,7 +5,11 @@ use Rattle.term_store.specs.RefView.{the_place}
 use Rattle.connection_search.specs.Running.{StandsFor}
 use Rattle.connection_search.specs.declared.tree.Tree.{Tree}
 use Rattle.connection_search.proofs.MoveLaws.{ancestor-sorted, ancestor-terms, at-reduced, goal-sorted, goal-terms, goal-within, reduction-refused}
+use Rattle.connection_search.proofs.NewBindingLaws.{closed-none}
 use Rattle.connection_search.proofs.moves.Work.reduce.Goals as goal
+
+pub unify_all-requires-clause-closed : goal.unify_all-requires-clause-closed
+unify_all-requires-clause-closed c = closed-none c.args.store.now.store
 
 pub unify_all-requires-clause-left : goal.unify_all-requires-clause-left
 unify_all-requires-clause-left c = goal-sorted c.requires.0 c.requires.1 c.requires.2 c.requires.3 c.requires.4 c.args.store.now.store c.args.self.now.tree.steps.items c.args.self.now.tree.goals.items c.args.goal c.requires.5 (map the_place c.items-xs.result.now) c.requires.6 (goal-terms c.requires.0 c.requires.1 c.requires.2 c.requires.3 c.requires.4 c.args.store.now.store c.args.self.now.tree.steps.items c.args.self.now.tree.goals.items c.args.goal c.requires.5 (the_atom c.atom.result.now) (map the_place c.items-xs.result.now) c.requires.6 c.atom.ensures c.items-xs.ensures)
