@@ -1,4 +1,4 @@
-//! Reading terms. The frames of the terms that are open stand on a stack of their own, so a term may be as deep as memory allows.
+//! Reading terms. The frames of the terms that are open stand on a stack of their own, which has a greatest height.
 
 ghost use Rattle.std.specs.Prelude.{◌≡◌, ◌≤◌, ◌++◌, ℕ, length, drop, Err, IsTrue, IsNone, IfSome, IfOk};
 ghost use Rattle.std.specs.List.{list_all};
@@ -19,6 +19,10 @@ use crate::scan::has_byte;
 use cop_base::{NoMemory, SymbolId, Text};
 use formula_core::{Symbol, SymbolClass, Symbols, Term, Terms};
 use std::alloc::{AllocFailed, Global};
+
+// How many terms may be open at a place. A term is copied, compared and let go by calls that go
+// down its levels, so this keeps what is read within the stack of the machine.
+const MOST_OPEN_TERMS: usize = 20_000;
 
 // A term whose arguments are being read.
 #[derive(Drop)]
@@ -152,7 +156,7 @@ fn close_frames(
 }
 
 /// The term without variables whose canonical text stands at a place and is followed by an ending byte or by the end, and the place
-/// after it.
+/// after it. For a term that is nested in more than 20,000 others the answer is that there is no memory.
 pub fn read_term(
     alloc: Global,
     symbols: &Symbols,
@@ -174,6 +178,9 @@ pub fn read_term(
         let head = read_head(alloc, symbols, text, place)?;
         let (term, end) = match head {
             Head::Open(name, end) => {
+                if stack.len() >= MOST_OPEN_TERMS {
+                    return Err(TextRead::NoMemory);
+                }
                 stack.push(Frame {
                     name,
                     args: Terms::new(alloc),

@@ -159,6 +159,45 @@ fn reads_terms(rt: HostRuntime) -> Result<(), Fail> {
     Ok(())
 }
 
+fn nested_text(alloc: Global, levels: usize) -> Result<Vec<u8>, NoMemory> {
+    let mut text = Vec::new(alloc);
+    for _ in 0..levels {
+        text.extend_from_slice(b"f(")?;
+    }
+    text.push(b'a')?;
+    for _ in 0..levels {
+        text.push(b')')?;
+    }
+    Ok(text)
+}
+
+// What reading a constant inside of this many terms stops at.
+fn nested_fault(
+    alloc: Global,
+    symbols: &Symbols,
+    levels: usize,
+) -> Result<Option<TextRead>, NoMemory>
+    requires { IsTrue (list_all symbol_fits symbols.now) }
+{
+    let text = nested_text(alloc, levels)?;
+    Ok(read_term(alloc, symbols, text.as_slice(), 0).err())
+}
+
+#[test]
+fn stops_at_deep_terms(rt: HostRuntime) -> Result<(), Fail> {
+    let alloc = rt.alloc();
+    let mut symbols = Symbols::new(alloc);
+    add_function(&mut symbols, alloc, b"a", 0)?;
+    add_function(&mut symbols, alloc, b"f", 1)?;
+    // A test has less stack than the program, where terms of 20,000 levels are let go.
+    assert_eq!(rt; nested_fault(alloc, &symbols, 1_000)?, None);
+    assert_eq!(rt;
+        nested_fault(alloc, &symbols, 20_001)?,
+        Some(TextRead::NoMemory)
+    );
+    Ok(())
+}
+
 // Whether the name of a predicate symbol is written like this, and read again.
 fn writes_name(alloc: Global, name: &[u8], text: &[u8]) -> Result<bool, NoMemory> {
     let mut symbols = Symbols::new(alloc);

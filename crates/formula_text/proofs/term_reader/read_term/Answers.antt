@@ -59,3 +59,6 @@ loop-stack-smaller c =
 
 pub returns-in-Err-clause-one : goal.returns-in-Err-clause-one
 returns-in-Err-clause-one c = IsTermAt-unique c.args.symbols.now
+
+pub returns-then-len-ge-MOST_OPEN_TERMS-clause-one : goal.returns-then-len-ge-MOST_OPEN_TERMS-clause-one
+returns-then-len-ge-MOST_OPEN_TERMS-clause-one c = IsTermAt-unique c.args.symbols.now
