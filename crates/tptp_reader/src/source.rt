@@ -116,8 +116,8 @@ impl SourceTerms {
         ensures ok { OnOk result (self.new ≡ self.old ++ the_source_term item ∷ []) }
         ensures err { OnErr result (self.new ≡ self.old) }
     {
-        // Most lists of arguments have one.
-        if self.items.as_slice().is_empty() {
+        // Most lists of arguments are short.
+        if self.items.as_slice().len() < 3 {
             self.items.reserve_exact(1)?;
         }
         self.items.push(item)?;
@@ -231,6 +231,10 @@ impl SourceList {
         ensures ok { OnOk result (self.new ≡ self.old ++ the_source item ∷ []) }
         ensures err { OnErr result (self.new ≡ self.old) }
     {
+        // Most chains have two formulas.
+        if self.items.as_slice().is_empty() {
+            self.items.reserve_exact(2)?;
+        }
         self.items.push(item)?;
         Ok(())
     }
