@@ -3,6 +3,7 @@ use Rattle.std.specs.Prelude.{◌≡◌, ◌+◌, ℕ, List, [], ◌∷◌, ◌+
 use Rattle.std.specs.List.{flat_map, list_all}
 use Rattle.tptp_lex.specs.Answers.{OnlySpace}
 use Rattle.tptp_reader.specs.declared.item.Item.{Item}
+use Rattle.tptp_reader.specs.declared.item_reader.Head.{Head}
 use Rattle.tptp_reader.specs.declared.item.ItemKind.{ItemKind}
 use Rattle.tptp_reader.specs.declared.item.ItemKind.TheVariants.{Fof, Cnf, Qmf}
 use Rattle.tptp_reader.specs.declared.source.Source as program
@@ -15,7 +16,9 @@ use Rattle.tptp_reader.specs.Grammar as g
 use Rattle.tptp_reader.specs.Grammar.{FormulaTree, ClauseTree, NameTree, ItemTree, formula_tokens, clause_tokens, name_token, notes_tokens, notes_fit, item_tokens}
 use Rattle.tptp_reader.specs.Meaning.{source_of, clause_of, name_of, offset_at, selected, item_of, items_of}
 use Rattle.tptp_reader.specs.Expecting.{is_word}
-use Rattle.tptp_reader.specs.Standing.{At, Leaves}
+use Rattle.tptp_reader.specs.Standing.{At, Leaves, word_in}
+use Rattle.tptp_reader.specs.Pieces.{placed}
+use Rattle.tptp_reader.specs.TerminalView.{the_terminal}
 
 -- the kind of an item with a formula
 abbrev pub kind_in : Terminal → Option ItemKind
@@ -79,7 +82,28 @@ NotesUpTo text p depth here =
     (notes : List Terminal) → notes_fit (Some notes) ≡ true → (ts : List Terminal) (whole : List Placed) (to : ℕ) → At text whole to p (comma ∷ (notes ++ (close_round ∷ dot ∷ ts)))
     → (waiting : List Bool) × (left : List Terminal) × (length waiting ≡ depth) × (g.closes waiting left ≡ true) × At text whole to here (left ++ (close_round ∷ dot ∷ ts))
 
+-- the formula or clause of an item, and the dot
+abbrev pub RestRead : List ℕ → ItemKind → Piece → program.Source × Piece → Type 0
+RestRead text kind p r = (after : Piece) × BodyRead text kind p (r.0, after) × EndRead text after r.1
+
 -- ---- items
+
+-- an item up to its formula
+pub record HeadRead (text : List ℕ) (p : Piece) (h : Head) : Type 0 where
+  pub bracket : Piece
+  pub name_at : Piece
+  pub comma_at : Piece
+  pub role_at : Piece
+  pub second : Piece
+  pub to_bracket : Follow text p.end (placed bracket ∷ []) bracket.end
+  pub to_name : Follow text bracket.end (placed name_at ∷ []) name_at.end
+  pub named : name_in (the_terminal name_at.terminal) ≡ Some h.name
+  pub to_comma : Follow text name_at.end (placed comma_at ∷ []) comma_at.end
+  pub to_role : Follow text comma_at.end (placed role_at ∷ []) role_at.end
+  pub has_role : word_in (the_terminal role_at.terminal) ≡ Some h.role
+  pub to_second : Follow text role_at.end (placed second ∷ []) second.end
+  pub to_body : Follow text second.end (placed h.body ∷ []) h.body.end
+  pub placed_role : role_at.start ≡ h.role_at
 
 abbrev pub FormulaItemRead : List ℕ → ItemKind → Piece → Item × Piece → Type 0
 FormulaItemRead text kind p r =
@@ -105,6 +129,11 @@ NamesUpTo text p read here =
     → length whole ≡ k + length (name_token n ∷ (others_tokens ns ++ (close_square ∷ ts)))
     → (m : NameTree) × (ms : List NameTree) × (j : ℕ) × (read ++ selected (offsets whole) j (m ∷ ms) ≡ selected (offsets whole) k (n ∷ ns)) × At text whole to here (name_token m ∷ (others_tokens ms ++ (close_square ∷ ts)))
     × (length whole ≡ j + length (name_token m ∷ (others_tokens ms ++ (close_square ∷ ts))))
+
+-- the names of an include from their bracket on, and the dot
+abbrev pub SelectedRead : List ℕ → Piece → List (List ℕ × ℕ) × Piece → Type 0
+SelectedRead text p r =
+    (first square close : Piece) × Follow text p.end (placed first ∷ []) first.end × NamesRead text first (r.0, square) × Follow text square.end (placed close ∷ []) close.end × Follow text close.end (placed r.1 ∷ []) r.1.end
 
 abbrev pub is_include : ItemTree → Bool
 is_include (g.include file) = true

@@ -104,6 +104,14 @@ SideRead text left p r =
     (s : Side) (ts : List Terminal) (whole : List Placed) (to : ℕ) → At text whole to p (side_tokens s ++ ts) → Leaves 3 ts
     → (the_source r.0 ≡ atom_with s left) × At text whole to r.1 ts
 
+-- the right side of an equation, behind its sign
+abbrev pub RightRead : List ℕ → Piece → program_term.SourceTerm × Piece → Type 0
+RightRead text sign r = (start : Piece) × Follow text sign.end (placed start ∷ []) start.end × TermRead text start r
+
+-- the same formula, and the token behind what closes it
+abbrev pub Followed : List ℕ → tree.Source → Piece → program.Source × Piece → Type 0
+Followed text source close r = (the_source r.0 ≡ source) × Follow text close.end (placed r.1 ∷ []) r.1.end
+
 abbrev pub AtomRead : List ℕ → Piece → program.Source × Piece → Type 0
 AtomRead text p r =
     (a : AtomTree) (ts : List Terminal) (whole : List Placed) (to : ℕ) → At text whole to p (atom_tokens a ++ ts) → Leaves 3 ts
@@ -141,6 +149,12 @@ UnitRead text p r =
     (u : UnitTree) (ts : List Terminal) (whole : List Placed) (to : ℕ) → At text whole to p (unit_tokens u ++ ts) → Leaves 3 ts
     → (the_source r.0 ≡ unit_of u) × At text whole to r.1 ts
 
+-- a unit inside of another one
+abbrev pub InnerRead : List ℕ → Piece → tree.Source × Piece → Type 0
+InnerRead text p r =
+    (u : UnitTree) (ts : List Terminal) (whole : List Placed) (to : ℕ) → At text whole to p (unit_tokens u ++ ts) → Leaves 3 ts
+    → (r.0 ≡ unit_of u) × At text whole to r.1 ts
+
 abbrev pub FormulaRead : List ℕ → Piece → program.Source × Piece → Type 0
 FormulaRead text p r =
     (f : FormulaTree) (ts : List Terminal) (whole : List Placed) (to : ℕ) → At text whole to p (formula_tokens f ++ ts) → Leaves 11 ts
@@ -165,6 +179,11 @@ binary_in inequivalent = Some Xor
 binary_in nor = Some Nor
 binary_in nand = Some Nand
 binary_in _ = None
+
+-- a formula of two units from the connective behind the first one on
+abbrev pub BinaryRead : List ℕ → BinaryKind → tree.Source → Piece → program.Source × Piece → Type 0
+BinaryRead text c first p r =
+    (start : Piece) × (second : tree.Source) × Follow text p.end (placed start ∷ []) start.end × InnerRead text start (second, r.1) × (the_source r.0 ≡ tree.binary c first second)
 
 -- a chain from the connective behind its first unit on
 abbrev pub ChainRead : List ℕ → ChainKind → tree.Source → Piece → program.Source × Piece → Type 0
@@ -227,3 +246,8 @@ abbrev pub ClauseRead : List ℕ → Piece → program.Source × Piece → Type 
 ClauseRead text p r =
     (c : ClauseTree) (ts : List Terminal) (whole : List Placed) (to : ℕ) → At text whole to p (clause_tokens c ++ ts) → Leaves 11 ts
     → (the_source r.0 ≡ clause_of c) × At text whole to r.1 ts
+
+-- the literals of a clause that stands, or whose first atom stands, in brackets
+abbrev pub OpenedRead : List ℕ → Piece → List tree.Source × Piece → Type 0
+OpenedRead text p r =
+    (start close sign : Piece) × (firsts : List tree.Source) × Follow text p.end (placed start ∷ []) start.end × DisjunctionRead text start (firsts, close) × Follow text close.end (placed sign ∷ []) sign.end × LiteralsRead text firsts sign r

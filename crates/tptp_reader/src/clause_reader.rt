@@ -3,11 +3,11 @@
 ghost use Rattle.std.specs.Prelude.{◌≡◌, ◌<◌, ◌≤◌, ◌==◌, IfOk, IfSome, length};
 ghost use Rattle.tptp_reader.specs.Expecting as way;
 ghost use Rattle.tptp_reader.specs.SourceView.{the_source};
-ghost use Rattle.tptp_reader.specs.Standing.{ClauseRead, DisjunctionRead, LiteralRead, LiteralsRead, UnsignedRead, disjunction};
+ghost use Rattle.tptp_reader.specs.Standing.{ClauseRead, DisjunctionRead, LiteralRead, LiteralsRead, OpenedRead, UnsignedRead, disjunction};
 ghost use Rattle.tptp_reader.specs.TerminalView.{the_terminal};
 
 use crate::expected::Fixed;
-use crate::formula_reader::read_atom;
+use crate::formula_reader::{followed, read_atom};
 use crate::moves::has_form;
 use crate::source::{ChainKind, Source, SourceBox, SourceList};
 use crate::term_reader::next_token;
@@ -39,13 +39,11 @@ fn read_unsigned<'a>(
     ensures within { IfOk result (λ r. r.1.end ≤ length text.now) }
 {
     if !has_form(Fixed::Opening, p.terminal) {
-        let (source, after) = read_atom(alloc, text, p)?;
-        return Ok((source, after));
+        return read_atom(alloc, text, p);
     }
     let start = next_token(text, p.end)?;
     let (source, close) = read_atom(alloc, text, start)?;
-    let after = next_token(text, close.end)?;
-    Ok((source, after))
+    followed(text, source, close)
 }
 
 fn read_literal<'a>(
@@ -59,8 +57,7 @@ fn read_literal<'a>(
     ensures within { IfOk result (λ r. r.1.end ≤ length text.now) }
 {
     if !is_tilde(p.terminal) {
-        let (source, after) = read_unsigned(alloc, text, p)?;
-        return Ok((source, after));
+        return read_unsigned(alloc, text, p);
     }
     let start = next_token(text, p.end)?;
     let (source, after) = read_unsigned(alloc, text, start)?;
@@ -104,8 +101,25 @@ fn read_literals<'a>(
     let (literal, sign) = read_literal(alloc, text, p)?;
     let mut literals = SourceList::new(alloc);
     literals.push(literal)?;
-    let (all, after) = read_more(alloc, text, literals, sign)?;
-    Ok((all, after))
+    read_more(alloc, text, literals, sign)
+}
+
+// Literals behind a `(`, and those behind a `)`: the whole clause stands in brackets, or the atom
+// of its first literal does.
+fn read_opened<'a>(
+    alloc: Global,
+    text: &'a [u8],
+    p: Piece<'a>,
+) -> Result<(SourceList, Piece<'a>), NoMemory>
+    requires { p.end ≤ length text.now }
+    ensures read { IfOk result (OpenedRead text.now p.entry) }
+    ensures onward { IfOk result (λ r. p.entry.end < r.1.end) }
+    ensures within { IfOk result (λ r. r.1.end ≤ length text.now) }
+{
+    let start = next_token(text, p.end)?;
+    let (first, close) = read_literals(alloc, text, start)?;
+    let sign = next_token(text, close.end)?;
+    read_more(alloc, text, first, sign)
 }
 
 // One literal alone is the clause.
@@ -130,18 +144,14 @@ pub fn read_clause<'a>(
     ensures onward { IfOk result (λ r. p.entry.end < r.1.end) }
     ensures within { IfOk result (λ r. r.1.end ≤ length text.now) }
 {
-    if !has_form(Fixed::Opening, p.terminal) {
-        let (literals, after) = read_literals(alloc, text, p)?;
+    if has_form(Fixed::Opening, p.terminal) {
+        let (literals, after) = read_opened(alloc, text, p)?;
         return match joined(literals) {
             Some(source) => Ok((source, after)),
             None => Err(NoMemory),
         };
     }
-    // The whole clause stands in brackets, or the atom of its first literal does.
-    let start = next_token(text, p.end)?;
-    let (first, close) = read_literals(alloc, text, start)?;
-    let sign = next_token(text, close.end)?;
-    let (literals, after) = read_more(alloc, text, first, sign)?;
+    let (literals, after) = read_literals(alloc, text, p)?;
     match joined(literals) {
         Some(source) => Ok((source, after)),
         None => Err(NoMemory),

@@ -1,9 +1,10 @@
 //! The second way over the tokens: atoms and formulas. As in `term_reader` the tokens are known to be those of a tree, and
 //! the recursion ends within 500 levels, as the first way found no token deeper. Chains are read by loops.
 
-ghost use Rattle.std.specs.Prelude.{◌≡◌, ◌<◌, ◌≤◌, ◌==◌, IfOk, Some, length};
+ghost use Rattle.std.specs.Prelude.{◌≡◌, ◌<◌, ◌≤◌, ◌==◌, ◌++◌, ◌∷◌, [], List, ℕ, IfOk, OnOk, Some, length};
 ghost use Rattle.tptp_reader.specs.Expecting as way;
-ghost use Rattle.tptp_reader.specs.Standing.{AtomRead, ChainRead, FormulaRead, SideRead, UnitRead, VariablesRead, binary_in, chain_in, is_chain, prefix_in, truth_in, variable_in};
+ghost use Rattle.tptp_reader.specs.Standing.{AtomRead, BinaryRead, ChainRead, Followed, FormulaRead, InnerRead, RightRead, SideRead, UnitRead, VariablesRead, binary_in, chain_in, is_chain, prefix_in, truth_in, variable_in};
+ghost use Rattle.tptp_reader.specs.declared.formula_reader.Prefix.TheVariants as prefix;
 ghost use Rattle.tptp_reader.specs.SourceView.{the_source};
 ghost use Rattle.tptp_reader.specs.TermView.{the_source_term};
 ghost use Rattle.tptp_reader.specs.TerminalView.{the_terminal};
@@ -37,6 +38,21 @@ fn truth_of(x: Terminal) -> Option<bool>
     }
 }
 
+// The right side of an equation, from its sign on.
+fn read_right<'a>(
+    alloc: Global,
+    text: &'a [u8],
+    sign: Piece<'a>,
+) -> Result<(SourceTerm, Piece<'a>), NoMemory>
+    requires { sign.end ≤ length text.now }
+    ensures read { IfOk result (RightRead text.now sign.entry) }
+    ensures onward { IfOk result (λ r. sign.entry.end ≤ r.1.end) }
+    ensures within { IfOk result (λ r. r.1.end ≤ length text.now) }
+{
+    let start = next_token(text, sign.end)?;
+    read_term(alloc, text, start)
+}
+
 // An atom, or an equation with this term on its left.
 fn read_side<'a>(
     alloc: Global,
@@ -50,13 +66,11 @@ fn read_side<'a>(
     ensures within { IfOk result (λ r. r.1.end ≤ length text.now) }
 {
     if is_equal(sign.terminal) {
-        let start = next_token(text, sign.end)?;
-        let (right, after) = read_term(alloc, text, start)?;
+        let (right, after) = read_right(alloc, text, sign)?;
         return Ok((Source::Equal(left, right), after));
     }
     if is_unequal(sign.terminal) {
-        let start = next_token(text, sign.end)?;
-        let (right, after) = read_term(alloc, text, start)?;
+        let (right, after) = read_right(alloc, text, sign)?;
         return Ok((Source::Unequal(left, right), after));
     }
     match left {
@@ -84,7 +98,21 @@ pub fn read_atom<'a>(
         return Ok((Source::False, next));
     }
     let (left, sign) = read_term(alloc, text, p)?;
-    let (source, after) = read_side(alloc, text, left, sign)?;
+    read_side(alloc, text, left, sign)
+}
+
+/// The formula, and the token behind what closes it.
+pub fn followed<'a>(
+    text: &'a [u8],
+    source: Source,
+    close: Piece<'a>,
+) -> Result<(Source, Piece<'a>), NoMemory>
+    requires { close.end ≤ length text.now }
+    ensures read { IfOk result (Followed text.now (the_source source) close.entry) }
+    ensures onward { IfOk result (λ r. close.entry.end < r.1.end) }
+    ensures within { IfOk result (λ r. r.1.end ≤ length text.now) }
+{
+    let after = next_token(text, close.end)?;
     Ok((source, after))
 }
 
@@ -127,6 +155,15 @@ fn read_variable(alloc: Global, x: Terminal) -> Result<Text, NoMemory>
     }
 }
 
+fn push_variable(alloc: Global, names: &mut TextList, x: Terminal) -> Result<(), NoMemory>
+    ensures { OnOk result ((t : List ℕ) × (variable_in (the_terminal x.entry) ≡ Some t)
+        × (names.new ≡ names.old ++ t ∷ [])) }
+{
+    let name = read_variable(alloc, x)?;
+    names.push(name)?;
+    Ok(())
+}
+
 // The variables of the quantifier, and the token behind its `:`.
 fn read_variables<'a>(
     alloc: Global,
@@ -141,7 +178,7 @@ fn read_variables<'a>(
     let mut names = TextList::new(alloc);
     let bracket = next_token(text, p.end)?;
     let first = next_token(text, bracket.end)?;
-    names.push(read_variable(alloc, first.terminal)?)?;
+    push_variable(alloc, &mut names, first.terminal)?;
     let mut here = next_token(text, first.end)?;
     loop {
         let next = next_token(text, here.end)?;
@@ -149,7 +186,7 @@ fn read_variables<'a>(
             let after = next_token(text, next.end)?;
             return Ok((names, after));
         }
-        names.push(read_variable(alloc, next.terminal)?)?;
+        push_variable(alloc, &mut names, next.terminal)?;
         here = next_token(text, next.end)?;
     }
 }
@@ -200,49 +237,137 @@ fn read_unit<'a>(
     ensures within { IfOk result (λ r. r.1.end ≤ length text.now) }
 {
     let Some(prefix) = prefix_of(p.terminal) else {
-        let (source, after) = read_atom(alloc, text, p)?;
-        return Ok((source, after));
+        return read_atom(alloc, text, p);
     };
     match prefix {
-        Prefix::Bracket => {
-            let start = next_token(text, p.end)?;
-            let (source, close) = read_tree(alloc, text, start)?;
-            let after = next_token(text, close.end)?;
-            Ok((source, after))
-        }
-        Prefix::Negation => {
-            let start = next_token(text, p.end)?;
-            let (source, after) = read_unit(alloc, text, start)?;
-            let inner = SourceBox::new(alloc, source)?;
-            Ok((Source::Not(inner), after))
-        }
-        Prefix::Universal => {
-            let (names, start) = read_variables(alloc, text, p)?;
-            let (source, after) = read_unit(alloc, text, start)?;
-            let inner = SourceBox::new(alloc, source)?;
-            Ok((Source::All(names, inner), after))
-        }
-        Prefix::Existential => {
-            let (names, start) = read_variables(alloc, text, p)?;
-            let (source, after) = read_unit(alloc, text, start)?;
-            let inner = SourceBox::new(alloc, source)?;
-            Ok((Source::Ex(names, inner), after))
-        }
-        Prefix::Necessity => {
-            let colon = next_token(text, p.end)?;
-            let start = next_token(text, colon.end)?;
-            let (source, after) = read_unit(alloc, text, start)?;
-            let inner = SourceBox::new(alloc, source)?;
-            Ok((Source::Nec(inner), after))
-        }
-        Prefix::Possibility => {
-            let colon = next_token(text, p.end)?;
-            let start = next_token(text, colon.end)?;
-            let (source, after) = read_unit(alloc, text, start)?;
-            let inner = SourceBox::new(alloc, source)?;
-            Ok((Source::Poss(inner), after))
-        }
+        Prefix::Bracket => read_bracketed(alloc, text, p),
+        Prefix::Negation => read_negation(alloc, text, p),
+        Prefix::Universal => read_universal(alloc, text, p),
+        Prefix::Existential => read_existential(alloc, text, p),
+        Prefix::Necessity => read_necessity(alloc, text, p),
+        Prefix::Possibility => read_possibility(alloc, text, p),
     }
+}
+
+#[cycle(read_tree)]
+fn read_bracketed<'a>(
+    alloc: Global,
+    text: &'a [u8],
+    p: Piece<'a>,
+) -> Result<(Source, Piece<'a>), NoMemory>
+    requires within { p.end ≤ length text.now }
+    requires prefix { prefix_in (the_terminal p.terminal) ≡ Some prefix.Bracket }
+    ensures read { IfOk result (UnitRead text.now p.entry) }
+    ensures onward { IfOk result (λ r. p.entry.end < r.1.end) }
+    ensures within { IfOk result (λ r. r.1.end ≤ length text.now) }
+{
+    let start = next_token(text, p.end)?;
+    let (source, close) = read_tree(alloc, text, start)?;
+    followed(text, source, close)
+}
+
+// A unit inside of another one.
+#[cycle(read_tree)]
+fn read_inner<'a>(
+    alloc: Global,
+    text: &'a [u8],
+    p: Piece<'a>,
+) -> Result<(SourceBox, Piece<'a>), NoMemory>
+    requires { p.end ≤ length text.now }
+    ensures read { IfOk result (InnerRead text.now p.entry) }
+    ensures onward { IfOk result (λ r. p.entry.end < r.1.end) }
+    ensures within { IfOk result (λ r. r.1.end ≤ length text.now) }
+{
+    let (source, after) = read_unit(alloc, text, p)?;
+    let inner = SourceBox::new(alloc, source)?;
+    Ok((inner, after))
+}
+
+#[cycle(read_tree)]
+fn read_negation<'a>(
+    alloc: Global,
+    text: &'a [u8],
+    p: Piece<'a>,
+) -> Result<(Source, Piece<'a>), NoMemory>
+    requires within { p.end ≤ length text.now }
+    requires prefix { prefix_in (the_terminal p.terminal) ≡ Some prefix.Negation }
+    ensures read { IfOk result (UnitRead text.now p.entry) }
+    ensures onward { IfOk result (λ r. p.entry.end < r.1.end) }
+    ensures within { IfOk result (λ r. r.1.end ≤ length text.now) }
+{
+    let start = next_token(text, p.end)?;
+    let (inner, after) = read_inner(alloc, text, start)?;
+    Ok((Source::Not(inner), after))
+}
+
+#[cycle(read_tree)]
+fn read_universal<'a>(
+    alloc: Global,
+    text: &'a [u8],
+    p: Piece<'a>,
+) -> Result<(Source, Piece<'a>), NoMemory>
+    requires within { p.end ≤ length text.now }
+    requires prefix { prefix_in (the_terminal p.terminal) ≡ Some prefix.Universal }
+    ensures read { IfOk result (UnitRead text.now p.entry) }
+    ensures onward { IfOk result (λ r. p.entry.end < r.1.end) }
+    ensures within { IfOk result (λ r. r.1.end ≤ length text.now) }
+{
+    let (names, start) = read_variables(alloc, text, p)?;
+    let (inner, after) = read_inner(alloc, text, start)?;
+    Ok((Source::All(names, inner), after))
+}
+
+#[cycle(read_tree)]
+fn read_existential<'a>(
+    alloc: Global,
+    text: &'a [u8],
+    p: Piece<'a>,
+) -> Result<(Source, Piece<'a>), NoMemory>
+    requires within { p.end ≤ length text.now }
+    requires prefix { prefix_in (the_terminal p.terminal) ≡ Some prefix.Existential }
+    ensures read { IfOk result (UnitRead text.now p.entry) }
+    ensures onward { IfOk result (λ r. p.entry.end < r.1.end) }
+    ensures within { IfOk result (λ r. r.1.end ≤ length text.now) }
+{
+    let (names, start) = read_variables(alloc, text, p)?;
+    let (inner, after) = read_inner(alloc, text, start)?;
+    Ok((Source::Ex(names, inner), after))
+}
+
+#[cycle(read_tree)]
+fn read_necessity<'a>(
+    alloc: Global,
+    text: &'a [u8],
+    p: Piece<'a>,
+) -> Result<(Source, Piece<'a>), NoMemory>
+    requires within { p.end ≤ length text.now }
+    requires prefix { prefix_in (the_terminal p.terminal) ≡ Some prefix.Necessity }
+    ensures read { IfOk result (UnitRead text.now p.entry) }
+    ensures onward { IfOk result (λ r. p.entry.end < r.1.end) }
+    ensures within { IfOk result (λ r. r.1.end ≤ length text.now) }
+{
+    let colon = next_token(text, p.end)?;
+    let start = next_token(text, colon.end)?;
+    let (inner, after) = read_inner(alloc, text, start)?;
+    Ok((Source::Nec(inner), after))
+}
+
+#[cycle(read_tree)]
+fn read_possibility<'a>(
+    alloc: Global,
+    text: &'a [u8],
+    p: Piece<'a>,
+) -> Result<(Source, Piece<'a>), NoMemory>
+    requires within { p.end ≤ length text.now }
+    requires prefix { prefix_in (the_terminal p.terminal) ≡ Some prefix.Possibility }
+    ensures read { IfOk result (UnitRead text.now p.entry) }
+    ensures onward { IfOk result (λ r. p.entry.end < r.1.end) }
+    ensures within { IfOk result (λ r. r.1.end ≤ length text.now) }
+{
+    let colon = next_token(text, p.end)?;
+    let start = next_token(text, colon.end)?;
+    let (inner, after) = read_inner(alloc, text, start)?;
+    Ok((Source::Poss(inner), after))
 }
 
 /// A formula, and the token behind it.
@@ -259,16 +384,31 @@ pub fn read_tree<'a>(
 {
     let (first, sign) = read_unit(alloc, text, p)?;
     if let Some(kind) = chain_of(sign.terminal) {
-        let (source, after) = read_chain(alloc, text, kind, first, sign)?;
-        return Ok((source, after));
+        return read_chain(alloc, text, kind, first, sign);
     }
-    let Some(kind) = binary_of(sign.terminal) else {
-        return Ok((first, sign));
-    };
-    let start = next_token(text, sign.end)?;
-    let (second, after) = read_unit(alloc, text, start)?;
+    match binary_of(sign.terminal) {
+        Some(kind) => read_binary(alloc, text, kind, first, sign),
+        None => Ok((first, sign)),
+    }
+}
+
+// A formula of two units, from the connective behind the first one on.
+#[cycle(read_tree)]
+fn read_binary<'a>(
+    alloc: Global,
+    text: &'a [u8],
+    kind: BinaryKind,
+    first: Source,
+    sign: Piece<'a>,
+) -> Result<(Source, Piece<'a>), NoMemory>
+    requires { sign.end ≤ length text.now }
+    ensures read { IfOk result (BinaryRead text.now kind (the_source first) sign.entry) }
+    ensures onward { IfOk result (λ r. sign.entry.end < r.1.end) }
+    ensures within { IfOk result (λ r. r.1.end ≤ length text.now) }
+{
     let left = SourceBox::new(alloc, first)?;
-    let right = SourceBox::new(alloc, second)?;
+    let start = next_token(text, sign.end)?;
+    let (right, after) = read_inner(alloc, text, start)?;
     Ok((Source::Binary(kind, left, right), after))
 }
 

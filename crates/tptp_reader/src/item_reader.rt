@@ -1,7 +1,8 @@
 //! The second way over the tokens: items.
 
 ghost use Rattle.std.specs.Prelude.{◌≡◌, ◌+◌, ◌<◌, ◌≤◌, IfOk, Some, length};
-ghost use Rattle.tptp_reader.specs.ItemStanding.{BodyRead, EndRead, FormulaItemRead, IncludeRead, ItemRead, NamesRead, closes_one, is_clause, kind_in, name_in, opens};
+ghost use Rattle.tptp_reader.specs.ItemStanding.{BodyRead, EndRead, FormulaItemRead, HeadRead, IncludeRead, ItemRead, NamesRead, RestRead, SelectedRead, closes_one, is_clause, kind_in, name_in, opens};
+ghost use Rattle.tptp_reader.specs.SourceView.{the_source};
 ghost use Rattle.tptp_reader.specs.TerminalView.{the_terminal};
 
 use crate::clause_reader::read_clause;
@@ -71,11 +72,9 @@ fn read_body<'a>(
     ensures within { IfOk result (λ r. r.1.end ≤ length text.now) }
 {
     if is_clause(kind) {
-        let (source, after) = read_clause(alloc, text, p)?;
-        return Ok((source, after));
+        return read_clause(alloc, text, p);
     }
-    let (source, after) = read_tree(alloc, text, p)?;
-    Ok((source, after))
+    read_tree(alloc, text, p)
 }
 
 fn is_opening(x: Terminal) -> bool
@@ -123,6 +122,70 @@ fn skip_notes<'a>(text: &'a [u8], p: Piece<'a>) -> Result<Piece<'a>, NoMemory>
     }
 }
 
+// The formula, and the dot behind what follows it.
+fn ended<'a>(
+    text: &'a [u8],
+    source: Source,
+    after: Piece<'a>,
+) -> Result<(Source, Piece<'a>), NoMemory>
+    requires { after.end ≤ length text.now }
+    ensures read { IfOk result (λ r. (the_source r.0 ≡ the_source source)
+        × EndRead text.now after.entry r.1) }
+    ensures onward { IfOk result (λ r. after.entry.end < r.1.end) }
+    ensures within { IfOk result (λ r. r.1.end ≤ length text.now) }
+{
+    let dot = skip_notes(text, after)?;
+    Ok((source, dot))
+}
+
+// The formula or clause of an item, and the dot.
+fn read_rest<'a>(
+    alloc: Global,
+    text: &'a [u8],
+    kind: ItemKind,
+    p: Piece<'a>,
+) -> Result<(Source, Piece<'a>), NoMemory>
+    requires { p.end ≤ length text.now }
+    ensures read { IfOk result (RestRead text.now kind p.entry) }
+    ensures onward { IfOk result (λ r. p.entry.end < r.1.end) }
+    ensures within { IfOk result (λ r. r.1.end ≤ length text.now) }
+{
+    let (source, after) = read_body(alloc, text, kind, p)?;
+    ended(text, source, after)
+}
+
+/// An item up to its formula: its name and role, with the offset of the role, and the first token
+/// of the formula.
+#[derive(Drop)]
+pub struct Head<'a> {
+    name: Text,
+    role: Text,
+    role_at: u64,
+    body: Piece<'a>,
+}
+
+fn read_head<'a>(alloc: Global, text: &'a [u8], p: Piece<'a>) -> Result<Head<'a>, NoMemory>
+    requires { p.end ≤ length text.now }
+    ensures read { IfOk result (HeadRead text.now p.entry) }
+    ensures onward { IfOk result (λ h. p.entry.end < h.body.end) }
+    ensures within { IfOk result (λ h. h.body.end ≤ length text.now) }
+{
+    let bracket = next_token(text, p.end)?;
+    let name_at = next_token(text, bracket.end)?;
+    let comma = next_token(text, name_at.end)?;
+    let role_at = next_token(text, comma.end)?;
+    let second = next_token(text, role_at.end)?;
+    let body = next_token(text, second.end)?;
+    let name = read_name(alloc, name_at.terminal)?;
+    let role = read_word(alloc, role_at.terminal)?;
+    Ok(Head {
+        name,
+        role,
+        role_at: role_at.start as u64,
+        body,
+    })
+}
+
 // An item with a formula; its last token is the dot.
 fn read_formula_item<'a>(
     alloc: Global,
@@ -135,21 +198,13 @@ fn read_formula_item<'a>(
     ensures onward { IfOk result (λ r. p.entry.end < r.1.end) }
     ensures within { IfOk result (λ r. r.1.end ≤ length text.now) }
 {
-    let bracket = next_token(text, p.end)?;
-    let name_at = next_token(text, bracket.end)?;
-    let name = read_name(alloc, name_at.terminal)?;
-    let comma = next_token(text, name_at.end)?;
-    let role_at = next_token(text, comma.end)?;
-    let role = read_word(alloc, role_at.terminal)?;
-    let second = next_token(text, role_at.end)?;
-    let start = next_token(text, second.end)?;
-    let (body, after) = read_body(alloc, text, kind, start)?;
-    let dot = skip_notes(text, after)?;
+    let head = read_head(alloc, text, p)?;
+    let (body, dot) = read_rest(alloc, text, kind, head.body)?;
     let item = Item::Formula {
         kind,
-        name,
-        role,
-        role_at: role_at.start as u64,
+        name: head.name,
+        role: head.role,
+        role_at: head.role_at,
         body,
         start: p.start as u64,
     };
@@ -180,6 +235,24 @@ fn read_names<'a>(
     }
 }
 
+// The names of an include, from their `[` on, and its dot.
+fn read_selected<'a>(
+    alloc: Global,
+    text: &'a [u8],
+    p: Piece<'a>,
+) -> Result<(NamePlaces, Piece<'a>), NoMemory>
+    requires { p.end ≤ length text.now }
+    ensures read { IfOk result (SelectedRead text.now p.entry) }
+    ensures onward { IfOk result (λ r. p.entry.end < r.1.end) }
+    ensures within { IfOk result (λ r. r.1.end ≤ length text.now) }
+{
+    let first = next_token(text, p.end)?;
+    let (names, square) = read_names(alloc, text, first)?;
+    let close = next_token(text, square.end)?;
+    let dot = next_token(text, close.end)?;
+    Ok((names, dot))
+}
+
 // An include; its last token is the dot.
 fn read_include<'a>(
     alloc: Global,
@@ -193,10 +266,10 @@ fn read_include<'a>(
 {
     let bracket = next_token(text, p.end)?;
     let file_at = next_token(text, bracket.end)?;
-    let file = read_word(alloc, file_at.terminal)?;
     let sign = next_token(text, file_at.end)?;
-    let start = p.start as u64;
     let next = next_token(text, sign.end)?;
+    let file = read_word(alloc, file_at.terminal)?;
+    let start = p.start as u64;
     if !has_form(Fixed::Comma, sign.terminal) {
         let item = Item::Include {
             file,
@@ -205,10 +278,7 @@ fn read_include<'a>(
         };
         return Ok((item, next));
     }
-    let first = next_token(text, next.end)?;
-    let (names, square) = read_names(alloc, text, first)?;
-    let close = next_token(text, square.end)?;
-    let dot = next_token(text, close.end)?;
+    let (names, dot) = read_selected(alloc, text, next)?;
     let item = Item::Include {
         file,
         names: Some(names),
@@ -229,13 +299,7 @@ pub fn read_item<'a>(
     ensures within { IfOk result (λ r. r.1.end ≤ length text.now) }
 {
     match kind_of(p.terminal) {
-        Some(kind) => {
-            let (item, dot) = read_formula_item(alloc, text, kind, p)?;
-            Ok((item, dot))
-        }
-        None => {
-            let (item, dot) = read_include(alloc, text, p)?;
-            Ok((item, dot))
-        }
+        Some(kind) => read_formula_item(alloc, text, kind, p),
+        None => read_include(alloc, text, p),
     }
 }

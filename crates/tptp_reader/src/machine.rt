@@ -79,14 +79,24 @@ impl Machine {
         Ok(())
     }
 
+    // This part, the dot behind it, and further items.
+    fn push_end(&mut self, last: Expected) -> Result<(), NoMemory>
+        ensures pushed { OnOk result (stack_of self.new.expected.items
+            ≡ the_expected last ∷ way.this way.a_dot 0 ∷ way.items
+            ∷ stack_of self.old.expected.items) }
+        ensures notes { self.new.in_notes ≡ self.old.in_notes }
+    {
+        self.push(Expected::Items)?;
+        self.push(Expected::This(Fixed::Dot, 0))?;
+        self.push(last)
+    }
+
     // An item from behind its first word on.
     fn push_head(&mut self, body: Expected) -> Result<(), NoMemory>
         ensures pushed { OnOk result (stack_of self.new.expected.items ≡ way.head_of (the_expected body) ++ stack_of self.old.expected.items) }
         ensures notes { self.new.in_notes ≡ self.old.in_notes }
     {
-        self.push(Expected::Items)?;
-        self.push(Expected::This(Fixed::Dot, 0))?;
-        self.push(Expected::AfterBody)?;
+        self.push_end(Expected::AfterBody)?;
         self.push(body)?;
         self.push(Expected::This(Fixed::Comma, 0))?;
         self.push(Expected::This(Fixed::Lower, 0))?;
@@ -100,9 +110,7 @@ impl Machine {
         ensures pushed { OnOk result (stack_of self.new.expected.items ≡ the_parts Parts.Include ++ stack_of self.old.expected.items) }
         ensures notes { self.new.in_notes ≡ self.old.in_notes }
     {
-        self.push(Expected::Items)?;
-        self.push(Expected::This(Fixed::Dot, 0))?;
-        self.push(Expected::IncludeRest)?;
+        self.push_end(Expected::IncludeRest)?;
         self.push(Expected::This(Fixed::Quoted, 0))?;
         self.push(Expected::This(Fixed::Opening, 0))
     }

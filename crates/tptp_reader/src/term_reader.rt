@@ -76,13 +76,13 @@ pub fn read_term<'a>(
     ensures within { IfOk result (λ r. r.1.end ≤ length text.now) }
 {
     if let Terminal::Upper(name) = p.terminal {
-        let name = Text::new(alloc, name)?;
         let next = next_token(text, p.end)?;
+        let name = Text::new(alloc, name)?;
         return Ok((SourceTerm::Var(name), next));
     }
-    let name = read_word(alloc, p.terminal)?;
     let next = next_token(text, p.end)?;
     let (args, after) = read_arguments(alloc, text, next)?;
+    let name = read_word(alloc, p.terminal)?;
     Ok((SourceTerm::Fun(name, args), after))
 }
 

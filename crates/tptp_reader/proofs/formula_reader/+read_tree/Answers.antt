@@ -1,52 +1,90 @@
-use Rattle.std.proofs.Common.{sym, ◌∙◌, ap, Some, ◌∷◌, List, subst, arith}
+use Rattle.std.proofs.Common.{sym, ◌∙◌, ap, ◌∷◌, ◌<◌, List, subst, arith}
+use Rattle.std.proofs.lemmas.Result.{IfOk-weaker}
 use Rattle.tptp_reader.specs.Sources as tree
 use Rattle.tptp_reader.specs.SourceView.{the_source}
 use Rattle.tptp_reader.specs.Meaning.{unit_of, units_of}
 use Rattle.tptp_reader.specs.Lists.{sources_list}
-use Rattle.tptp_reader.specs.Standing.{ChainLeft}
+use Rattle.tptp_reader.specs.Standing.{AtomRead, BinaryRead, ChainLeft, ChainRead, Followed, FormulaRead, UnitRead}
 use Rattle.tptp_reader.proofs.FormulaReading.{unit-atom, unit-bracket, unit-negation, unit-universal, unit-existential, unit-necessity, unit-possibility, formula-single, formula-chain, formula-binary, chain-on, chain-done}
 use Rattle.tptp_reader.proofs.formula_reader.+read_tree.Goals as goal
 
 pub read_unit-returns-in_default-clause-read : goal.read_unit-returns-in_default-clause-read
-read_unit-returns-in_default-clause-read m c = λ u ts whole to a l.
-    unit-atom u ts (the_source c.in_ok-source.source) a l (sym c.prefix_of.ensures ∙ c.in_default.is) c.in_ok-source.ensures.read
+read_unit-returns-in_default-clause-read m c =
+    IfOk-weaker c.read_atom.result (AtomRead c.args.text.now c.args.p) (UnitRead c.args.text.now c.args.p)
+    (λ r h. λ u ts whole to a l. unit-atom u ts (the_source r.0) a l (sym c.prefix_of.ensures ∙ c.in_default.is) h)
+    c.read_atom.ensures.read
 
-pub read_unit-returns-in_ok-after-in-Bracket-clause-read : goal.read_unit-returns-in_ok-after-in-Bracket-clause-read
-read_unit-returns-in_ok-after-in-Bracket-clause-read m c = λ u ts whole to a l.
-    unit-bracket u ts c.in_ok-start-in-Bracket.start c.in_ok-source-in-Bracket.close (the_source c.in_ok-source-in-Bracket.source) a l (sym c.prefix_of.ensures ∙ c.in-Some.is ∙ ap Some c.in-Bracket.is) c.in_ok-start-in-Bracket.ensures.next c.in_ok-source-in-Bracket.ensures.read c.in_ok-after-in-Bracket.ensures.next
+pub read_bracketed-returns-clause-read : goal.read_bracketed-returns-clause-read
+read_bracketed-returns-clause-read m c =
+    IfOk-weaker c.followed.result (Followed c.args.text.now (the_source c.in_ok-source.source) c.in_ok-source.close) (UnitRead c.args.text.now c.args.p)
+    (λ r h. λ u ts whole to a l.
+    let d = unit-bracket u ts c.in_ok-start.start c.in_ok-source.close (the_source c.in_ok-source.source) a l c.requires.prefix c.in_ok-start.ensures.next c.in_ok-source.ensures.read h.1 in
+    (h.0 ∙ d.0, d.1))
+    c.followed.ensures.read
 
-pub read_unit-returns-in_ok-inner-in-Negation-clause-read : goal.read_unit-returns-in_ok-inner-in-Negation-clause-read
-read_unit-returns-in_ok-inner-in-Negation-clause-read m c = λ u ts whole to a l.
-    rw c.in_ok-inner-in-Negation.ensures (unit-negation u ts c.in_ok-start-in-Negation.start (the_source c.in_ok-source-in-Negation.source) a l (sym c.prefix_of.ensures ∙ c.in-Some.is ∙ ap Some c.in-Negation.is) c.in_ok-start-in-Negation.ensures.next c.in_ok-source-in-Negation.ensures.read)
+pub read_bracketed-returns-clause-onward : goal.read_bracketed-returns-clause-onward
+read_bracketed-returns-clause-onward m c =
+    IfOk-weaker c.followed.result (λ r. c.in_ok-source.close.end < r.1.end) (λ r. c.args.p.end < r.1.end)
+    (λ r h. omega (arith, h, c.in_ok-start.ensures.onward, c.in_ok-source.ensures.onward))
+    c.followed.ensures.onward
 
-pub read_unit-returns-in_ok-inner-in-Universal-clause-read : goal.read_unit-returns-in_ok-inner-in-Universal-clause-read
-read_unit-returns-in_ok-inner-in-Universal-clause-read m c = λ u ts whole to a l.
-    rw c.in_ok-inner-in-Universal.ensures (unit-universal u ts c.in_ok-names-in-Universal.start c.in_ok-names-in-Universal.names (the_source c.in_ok-source-in-Universal.source) a l (sym c.prefix_of.ensures ∙ c.in-Some.is ∙ ap Some c.in-Universal.is) c.in_ok-names-in-Universal.ensures.read c.in_ok-source-in-Universal.ensures.read)
+pub read_inner-returns-clause-read : goal.read_inner-returns-clause-read
+read_inner-returns-clause-read m c = λ u ts whole to a l. rw c.in_ok-inner.ensures (c.in_ok-source.ensures.read u ts whole to a l)
 
-pub read_unit-returns-in_ok-inner-in-Existential-clause-read : goal.read_unit-returns-in_ok-inner-in-Existential-clause-read
-read_unit-returns-in_ok-inner-in-Existential-clause-read m c = λ u ts whole to a l.
-    rw c.in_ok-inner-in-Existential.ensures (unit-existential u ts c.in_ok-names-in-Existential.start c.in_ok-names-in-Existential.names (the_source c.in_ok-source-in-Existential.source) a l (sym c.prefix_of.ensures ∙ c.in-Some.is ∙ ap Some c.in-Existential.is) c.in_ok-names-in-Existential.ensures.read c.in_ok-source-in-Existential.ensures.read)
+pub read_negation-returns-clause-read : goal.read_negation-returns-clause-read
+read_negation-returns-clause-read m c = λ u ts whole to a l.
+    unit-negation u ts c.in_ok-start.start c.in_ok-inner.inner a l c.requires.prefix c.in_ok-start.ensures.next c.in_ok-inner.ensures.read
 
-pub read_unit-returns-in_ok-inner-in-Necessity-clause-read : goal.read_unit-returns-in_ok-inner-in-Necessity-clause-read
-read_unit-returns-in_ok-inner-in-Necessity-clause-read m c = λ u ts whole to a l.
-    rw c.in_ok-inner-in-Necessity.ensures (unit-necessity u ts c.in_ok-colon-in-Necessity.colon c.in_ok-start-in-Necessity.start (the_source c.in_ok-source-in-Necessity.source) a l (sym c.prefix_of.ensures ∙ c.in-Some.is ∙ ap Some c.in-Necessity.is) c.in_ok-colon-in-Necessity.ensures.next c.in_ok-start-in-Necessity.ensures.next c.in_ok-source-in-Necessity.ensures.read)
+pub read_universal-returns-clause-read : goal.read_universal-returns-clause-read
+read_universal-returns-clause-read m c = λ u ts whole to a l.
+    unit-universal u ts c.in_ok-names.start c.in_ok-names.names c.in_ok-inner.inner a l c.requires.prefix c.in_ok-names.ensures.read c.in_ok-inner.ensures.read
 
-pub read_unit-returns-in_ok-inner-in-Possibility-clause-read : goal.read_unit-returns-in_ok-inner-in-Possibility-clause-read
-read_unit-returns-in_ok-inner-in-Possibility-clause-read m c = λ u ts whole to a l.
-    rw c.in_ok-inner-in-Possibility.ensures (unit-possibility u ts c.in_ok-colon-in-Possibility.colon c.in_ok-start-in-Possibility.start (the_source c.in_ok-source-in-Possibility.source) a l (sym c.prefix_of.ensures ∙ c.in-Some.is ∙ ap Some c.in-Possibility.is) c.in_ok-colon-in-Possibility.ensures.next c.in_ok-start-in-Possibility.ensures.next c.in_ok-source-in-Possibility.ensures.read)
+pub read_existential-returns-clause-read : goal.read_existential-returns-clause-read
+read_existential-returns-clause-read m c = λ u ts whole to a l.
+    unit-existential u ts c.in_ok-names.start c.in_ok-names.names c.in_ok-inner.inner a l c.requires.prefix c.in_ok-names.ensures.read c.in_ok-inner.ensures.read
+
+pub read_necessity-returns-clause-read : goal.read_necessity-returns-clause-read
+read_necessity-returns-clause-read m c = λ u ts whole to a l.
+    unit-necessity u ts c.in_ok-colon.colon c.in_ok-start.start c.in_ok-inner.inner a l c.requires.prefix c.in_ok-colon.ensures.next c.in_ok-start.ensures.next c.in_ok-inner.ensures.read
+
+pub read_possibility-returns-clause-read : goal.read_possibility-returns-clause-read
+read_possibility-returns-clause-read m c = λ u ts whole to a l.
+    unit-possibility u ts c.in_ok-colon.colon c.in_ok-start.start c.in_ok-inner.inner a l c.requires.prefix c.in_ok-colon.ensures.next c.in_ok-start.ensures.next c.in_ok-inner.ensures.read
 
 pub read_tree-returns-in-Some-clause-read : goal.read_tree-returns-in-Some-clause-read
-read_tree-returns-in-Some-clause-read m c = λ f ts whole to a l.
-    formula-chain f ts c.in_ok-first.sign (the_source c.in_ok-first.first) (the_source c.in_ok-source.source) c.in-Some.kind a l c.in_ok-first.ensures.read (sym c.chain_of.ensures ∙ c.in-Some.is) c.in_ok-source.ensures.read
+read_tree-returns-in-Some-clause-read m c =
+    IfOk-weaker c.read_chain.result (ChainRead c.args.text.now c.in-Some.kind (the_source c.in_ok-first.first) c.in_ok-first.sign) (FormulaRead c.args.text.now c.args.p)
+    (λ r h. λ f ts whole to a l.
+    formula-chain f ts c.in_ok-first.sign (the_source c.in_ok-first.first) (the_source r.0) c.in-Some.kind a l c.in_ok-first.ensures.read (sym c.chain_of.ensures ∙ c.in-Some.is) h)
+    c.read_chain.ensures.read
 
-pub read_tree-returns-in_default-binary_of-clause-read : goal.read_tree-returns-in_default-binary_of-clause-read
-read_tree-returns-in_default-binary_of-clause-read m c = λ f ts whole to a l.
-    formula-single f ts (the_source c.in_ok-first.first) a l c.in_ok-first.ensures.read (sym c.chain_of.ensures ∙ c.in_default.is) (sym c.binary_of.ensures ∙ c.in_default-binary_of.is)
+pub read_tree-returns-in-Some-clause-onward : goal.read_tree-returns-in-Some-clause-onward
+read_tree-returns-in-Some-clause-onward m c =
+    IfOk-weaker c.read_chain.result (λ r. c.in_ok-first.sign.end < r.1.end) (λ r. c.args.p.end < r.1.end)
+    (λ r h. omega (arith, h, c.in_ok-first.ensures.onward))
+    c.read_chain.ensures.onward
 
-pub read_tree-returns-clause-read : goal.read_tree-returns-clause-read
-read_tree-returns-clause-read m c = λ f ts whole to a l.
-    rw (c.in_ok-left.ensures, c.in_ok-right.ensures)
-    (formula-binary f ts c.in_ok-first.sign c.in_ok-start.start (the_source c.in_ok-first.first) (the_source c.in_ok-second.second) c.in-Some-binary_of.kind a l c.in_ok-first.ensures.read (sym c.chain_of.ensures ∙ c.in_default.is) (sym c.binary_of.ensures ∙ c.in-Some-binary_of.is) c.in_ok-start.ensures.next c.in_ok-second.ensures.read)
+pub read_tree-returns-in-Some-binary_of-clause-read : goal.read_tree-returns-in-Some-binary_of-clause-read
+read_tree-returns-in-Some-binary_of-clause-read m c =
+    IfOk-weaker c.read_binary.result (BinaryRead c.args.text.now c.in-Some-binary_of.kind (the_source c.in_ok-first.first) c.in_ok-first.sign) (FormulaRead c.args.text.now c.args.p)
+    (λ r h. λ f ts whole to a l.
+    let d = formula-binary f ts c.in_ok-first.sign h.0 (the_source c.in_ok-first.first) h.1 c.in-Some-binary_of.kind a l c.in_ok-first.ensures.read (sym c.chain_of.ensures ∙ c.in_default.is) (sym c.binary_of.ensures ∙ c.in-Some-binary_of.is) h.2 h.3 in
+    (h.4 ∙ d.0, d.1))
+    c.read_binary.ensures.read
+
+pub read_tree-returns-in-Some-binary_of-clause-onward : goal.read_tree-returns-in-Some-binary_of-clause-onward
+read_tree-returns-in-Some-binary_of-clause-onward m c =
+    IfOk-weaker c.read_binary.result (λ r. c.in_ok-first.sign.end < r.1.end) (λ r. c.args.p.end < r.1.end)
+    (λ r h. omega (arith, h, c.in_ok-first.ensures.onward))
+    c.read_binary.ensures.onward
+
+pub read_tree-returns-in-None-clause-read : goal.read_tree-returns-in-None-clause-read
+read_tree-returns-in-None-clause-read m c = λ f ts whole to a l.
+    formula-single f ts (the_source c.in_ok-first.first) a l c.in_ok-first.ensures.read (sym c.chain_of.ensures ∙ c.in_default.is) (sym c.binary_of.ensures ∙ c.in-None.is)
+
+pub read_binary-returns-clause-read : goal.read_binary-returns-clause-read
+read_binary-returns-clause-read m c =
+    (c.in_ok-start.start, c.in_ok-right.right, c.in_ok-start.ensures.next, c.in_ok-right.ensures.read, ap (λ z. tree.binary c.args.kind z c.in_ok-right.right) c.in_ok-left.ensures)
 
 pub read_chain-loop-units-preserved : goal.read_chain-loop-units-preserved
 read_chain-loop-units-preserved m c = record {

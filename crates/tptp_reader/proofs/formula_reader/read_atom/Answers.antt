@@ -1,4 +1,6 @@
-use Rattle.std.proofs.Common.{sym, ◌∙◌, ap, Some}
+use Rattle.std.proofs.Common.{sym, ◌∙◌, ◌<◌, ◌≤◌, ap, Some, arith}
+use Rattle.std.proofs.lemmas.Result.{IfOk-weaker}
+use Rattle.tptp_reader.specs.Standing.{AtomRead, SideRead}
 use Rattle.tptp_reader.specs.TermView.{the_source_term}
 use Rattle.tptp_reader.specs.SourceView.{the_source}
 use Rattle.tptp_reader.proofs.AtomReading.{atom-true, atom-false, atom-read}
@@ -13,5 +15,14 @@ returns-in-Some-clause-read c = λ a ts whole to s l.
     atom-false a ts {p = c.args.p} {q = c.in_ok-next.next} s l (sym c.truth_of.ensures ∙ c.in-Some.is ∙ ap Some c.if-holds.false) c.in_ok-next.ensures.next
 
 pub returns-clause-read : goal.returns-clause-read
-returns-clause-read c = λ a ts whole to s l.
-    atom-read a ts {p = c.args.p} {sign = c.in_ok-left.sign} {q = c.in_ok-source.after} (the_source_term c.in_ok-left.left) (the_source c.in_ok-source.source) s l (sym c.truth_of.ensures ∙ c.in_default.is) c.in_ok-left.ensures.read c.in_ok-source.ensures.read
+returns-clause-read c =
+    IfOk-weaker c.read_side.result (SideRead c.args.text.now (the_source_term c.in_ok-left.left) c.in_ok-left.sign) (AtomRead c.args.text.now c.args.p)
+    (λ r h. λ a ts whole to s l.
+    atom-read a ts {p = c.args.p} {sign = c.in_ok-left.sign} {q = r.1} (the_source_term c.in_ok-left.left) (the_source r.0) s l (sym c.truth_of.ensures ∙ c.in_default.is) c.in_ok-left.ensures.read h)
+    c.read_side.ensures.read
+
+pub returns-clause-onward : goal.returns-clause-onward
+returns-clause-onward c =
+    IfOk-weaker c.read_side.result (λ r. c.in_ok-left.sign.end ≤ r.1.end) (λ r. c.args.p.end < r.1.end)
+    (λ r h. omega (arith, h, c.in_ok-left.ensures.onward))
+    c.read_side.ensures.onward

@@ -5,8 +5,10 @@ use Rattle.tptp_reader.proofs.formula_reader.read_variables.Goals as goal
 
 pub loop-names-init : goal.loop-names-init
 loop-names-init c = record {
-  read = subst (λ (z : List (List ℕ)). VariablesUpTo c.args.text.now c.args.p z c.in_ok-here.here) (sym (c.in_ok-push.ensures.ok ∙ ap (λ z. z ++ c.in_ok-read_variable.field-0 ∷ []) c.new-names.ensures))
-      (variables-begun c.args.p c.in_ok-bracket.bracket c.in_ok-first.first c.in_ok-here.here c.in_ok-read_variable.field-0 c.in_ok-bracket.ensures.next c.in_ok-first.ensures.next c.in_ok-read_variable.ensures c.in_ok-here.ensures.next);
+  read =
+      let q = c.in_ok-push_variable.ensures in
+      subst (λ (z : List (List ℕ)). VariablesUpTo c.args.text.now c.args.p z c.in_ok-here.here) (sym (q.2 ∙ ap (λ z. z ++ q.0 ∷ []) c.new-names.ensures))
+      (variables-begun c.args.p c.in_ok-bracket.bracket c.in_ok-first.first c.in_ok-here.here q.0 c.in_ok-bracket.ensures.next c.in_ok-first.ensures.next q.1 c.in_ok-here.ensures.next);
   onward = omega (arith, c.in_ok-bracket.ensures.onward, c.in_ok-first.ensures.onward, c.in_ok-here.ensures.onward);
   within = c.in_ok-here.ensures.within;
 }
@@ -17,8 +19,10 @@ returns-then-not-has_form-clause-read c =
 
 pub loop-names-preserved : goal.loop-names-preserved
 loop-names-preserved c = record {
-  read = subst (λ (z : List (List ℕ)). VariablesUpTo c.args.text.now c.args.p z c.in_ok-here-2.here) (sym c.in_ok-push-2.ensures.ok)
-      (variables-on c.args.p c.loop-names.here c.in_ok-next.next c.in_ok-here-2.here c.loop-names.names c.in_ok-read_variable-2.field-0 c.loop-names.invariant.read (sym c.has_form.ensures ∙ c.if-not-has_form.false) c.in_ok-next.ensures.next c.in_ok-read_variable-2.ensures c.in_ok-here-2.ensures.next);
+  read =
+      let q = c.in_ok-push_variable-2.ensures in
+      subst (λ (z : List (List ℕ)). VariablesUpTo c.args.text.now c.args.p z c.in_ok-here-2.here) (sym q.2)
+      (variables-on c.args.p c.loop-names.here c.in_ok-next.next c.in_ok-here-2.here c.loop-names.names q.0 c.loop-names.invariant.read (sym c.has_form.ensures ∙ c.if-not-has_form.false) c.in_ok-next.ensures.next q.1 c.in_ok-here-2.ensures.next);
   onward = omega (arith, c.loop-names.invariant.onward, c.in_ok-next.ensures.onward, c.in_ok-here-2.ensures.onward);
   within = c.in_ok-here-2.ensures.within;
 }

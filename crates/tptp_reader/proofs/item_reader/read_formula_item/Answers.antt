@@ -1,8 +1,12 @@
+use Rattle.std.proofs.Common.{sym}
 use Rattle.tptp_reader.specs.SourceView.{the_source}
 use Rattle.tptp_reader.proofs.ItemReading.{formula-item}
 use Rattle.tptp_reader.proofs.item_reader.read_formula_item.Goals as goal
 
 pub returns-clause-read : goal.returns-clause-read
 returns-clause-read c =
-    formula-item c.args.kind c.args.p c.in_ok-bracket.bracket c.in_ok-name_at.name_at c.in_ok-comma.comma c.in_ok-role_at.role_at c.in_ok-second.second c.in_ok-start.start c.in_ok-body.after c.in_ok-dot.dot c.in_ok-name.name c.in_ok-role.role (the_source c.in_ok-body.body)
-    c.in_ok-bracket.ensures.next c.in_ok-name_at.ensures.next c.in_ok-name.ensures c.in_ok-comma.ensures.next c.in_ok-role_at.ensures.next c.in_ok-role.ensures c.in_ok-second.ensures.next c.in_ok-start.ensures.next c.in_ok-body.ensures.read c.in_ok-dot.ensures.read
+    let h = c.in_ok-head.ensures.read in
+    let d = c.in_ok-body.ensures.read in
+    rw (sym h.placed_role)
+    (formula-item c.args.kind c.args.p h.bracket h.name_at h.comma_at h.role_at h.second c.in_ok-head.head.body d.0 c.in_ok-body.dot c.in_ok-head.head.name c.in_ok-head.head.role (the_source c.in_ok-body.body)
+    h.to_bracket h.to_name h.named h.to_comma h.to_role h.has_role h.to_second h.to_body d.1 d.2)
