@@ -50,6 +50,9 @@ step-sorts s a b x y h k w u n σ o q =
     let t : head_sort h ≡ head_sort k = sym (ended-sort s a x h w) ∙ same ∙ ended-sort s b y k u in
     false≢true (sym n ∙ ap (sort_eq (head_sort h)) (sym t) ∙ sort_eq-same (head_sort h))
 
+pub step-sorts_right : (s : Store) (a b x y : ℕ) (h k : Head) → Ended s a x h → Ended s b y k → sort_eq (head_sort k) (head_sort h) ≡ false → (σ : Solution) → Solves s σ → ¬ (σ a ≡ σ b)
+step-sorts_right s a b x y h k w u n σ o q = step-sorts s b a y x k h u w n σ o (sym q)
+
 open-cell : (c : Cell) (h : Head) → is_bound c ≡ false → head_of c ≡ h → is_open_head h ≡ true → c ≡ variable (head_sort h) None
 open-cell c h b e o = by c b (ap is_open_head e ∙ o) ∙ ap (λ t. variable t None) (sym (head_sort-of c) ∙ ap head_sort e)
   where
@@ -85,10 +88,9 @@ step-left s a b x y h k w u n t o =
       inl (w.ends, u.ends),
     )
 
-pub step-right : (s : Store) (a b x y : ℕ) (h k : Head) → Ended s a x h → Ended s b y k → ¬ (x ≡ y) → sort_eq (head_sort h) (head_sort k) ≡ true → is_open_head k ≡ true → IsBinding s y x × ((σ : Solution) → Solves s σ → (σ a ≡ σ b → σ y ≡ σ x) × (σ y ≡ σ x → σ a ≡ σ b)) × AreEnds s a b y x
+pub step-right : (s : Store) (a b x y : ℕ) (h k : Head) → Ended s a x h → Ended s b y k → ¬ (x ≡ y) → sort_eq (head_sort k) (head_sort h) ≡ true → is_open_head k ≡ true → IsBinding s y x × ((σ : Solution) → Solves s σ → (σ a ≡ σ b → σ y ≡ σ x) × (σ y ≡ σ x → σ a ≡ σ b)) × AreEnds s a b y x
 step-right s a b x y h k w u n t o =
-    let same = sort_eq-true (head_sort h) (head_sort k) t in
-    let turned = step-left s b a y x k h u w (λ q. n (sym q)) (ap (λ z. sort_eq z (head_sort h)) (sym same) ∙ sort_eq-same (head_sort h)) o in
+    let turned = step-left s b a y x k h u w (λ q. n (sym q)) t o in
     (turned.0, λ σ z. let p = turned.1 σ z in (λ q. p.0 (sym q), λ q. sym (p.1 q)), inr (u.ends, w.ends))
 
 two : (p : Bool) (m n : ℕ) → (p && m == n) ≡ true → (p ≡ true) × (m ≡ n)

@@ -81,13 +81,16 @@ pub(crate) fn compare(store: &Store, a: Ref, b: Ref) -> Step
     }
     let left_head = store.head(left);
     let right_head = store.head(right);
-    if !are_same_sort(sort_of_head(left_head), sort_of_head(right_head)) {
-        return Step::Apart;
-    }
     if is_open(left_head) {
+        if !are_same_sort(sort_of_head(left_head), sort_of_head(right_head)) {
+            return Step::Apart;
+        }
         return Step::Bind(left, right);
     }
     if is_open(right_head) {
+        if !are_same_sort(sort_of_head(right_head), sort_of_head(left_head)) {
+            return Step::Apart;
+        }
         return Step::Bind(right, left);
     }
     if !have_same_name(left_head, right_head) {
