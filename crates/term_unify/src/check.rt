@@ -11,6 +11,7 @@ use cop_base::NoMemory;
 use term_store::{Ref, Store};
 
 // Whether a part of the cell is the variable. If none is, the parts that have parts are appended.
+#[inline(always)]
 fn push_inner(store: &Store, v: Ref, r: Ref, places: &mut Vec<Ref>) -> Result<bool, NoMemory>
     requires variable { IsEnd store.now.store v.0 }
     requires end { IsEnd store.now.store r.0 }

@@ -68,6 +68,7 @@ fn have_same_name(a: Head, b: Head) -> bool
 }
 
 // Looks at the ends of the bindings.
+#[inline(always)]
 pub(crate) fn compare(store: &Store, a: Ref, b: Ref) -> Step
     requires left { a.0 < length store.now.store.cells }
     requires right { b.0 < length store.now.store.cells }
