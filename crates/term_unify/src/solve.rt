@@ -5,7 +5,8 @@ ghost use Rattle.calculus.specs.Bindings.{AreApart, BindsOnly, BindsWithin, IsWe
 ghost use Rattle.calculus.specs.Stores.{Solution, Solves};
 ghost use Rattle.term_store.specs.Room.{KeepsRoom};
 ghost use Rattle.term_unify.specs.PairView.{the_pair};
-ghost use Rattle.term_unify.specs.Steps.{AreBuilt, AreCells, AreDifferent, BindsInPairs, IsNext, SolvesAll};
+ghost use Rattle.term_unify.specs.Steps.{AreBuilt, AreCells, AreDifferent};
+ghost use Rattle.term_unify.specs.Steps.{BindsInPairs, IsNext, SolvesAll};
 
 use crate::check::occurs;
 use crate::compare::{Step, compare, push_parts};
