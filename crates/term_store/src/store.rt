@@ -1,8 +1,8 @@
 //! The store.
 
-ghost use Rattle.std.specs.Prelude.{◌≡◌, ◌≤◌, ◌<◌, ◌+◌, ◌++◌, ◌∷◌, [], false, IsOkAnd, MatchOption, OnOk, length, slice_get};
+ghost use Rattle.std.specs.Prelude.{◌≡◌, ◌≤◌, ◌<◌, ◌+◌, ◌++◌, ◌∷◌, [], false, IsOkAnd, MatchOption, OnOk, length, slice_get, ℕ};
 ghost use Rattle.calculus.specs.Bindings.{EndsIn, IsEnd, IsWellFormed, KeepsEarlier, KeepsMarks, MayBind, with_binding, with_cell};
-ghost use Rattle.calculus.specs.Stores.{Cell, EndsAt, HasNoCycle, IsGood, cut_at, is_bound, parts_of, variable};
+ghost use Rattle.calculus.specs.Stores.{Cell, EndsAt, HasNoCycle, IsGood, Store as TreeStore, cut_at, is_bound, parts_of, variable};
 ghost use Rattle.term_store.specs.Room.{KeepsRoom, spare};
 ghost use Rattle.term_store.specs.Shown.{Shows, head_of};
 ghost use Rattle.term_store.specs.StoreView.{the_mark};
@@ -17,6 +17,29 @@ use std::marker::Model;
 
 // How many cells a store can have: a place has 32 bits.
 const PLACES: usize = 4294967296;
+
+// A cell at which bindings end, and what it holds.
+#[derive(Clone, Copy)]
+struct End {
+    place: Ref,
+    content: Content,
+}
+
+// What a cell with this content is bound to, if it is bound.
+fn target(content: Content) -> Option<Ref>
+    ensures { MatchOption result ((s : TreeStore) (v : ℕ) → Shows s v content → IsEnd s v)
+        (λ to. (s : TreeStore) (v : ℕ) → Shows s v content
+        → (sort : Sort) × (slice_get s.cells v ≡ Some (variable sort (Some to.0)))) }
+{
+    match content {
+        Content::Bound(_, to) => Some(to),
+        Content::Open(_) => None,
+        Content::Fun(_, _) => None,
+        Content::Eigen(_, _) => None,
+        Content::New(_, _) => None,
+        Content::Marks(_) => None,
+    }
+}
 
 /// Cells with bindings. The trail names the bound cells in the order of binding, so that they can be unbound again.
 /// `fresh` and `bind` need no memory while there is spare room.
@@ -157,20 +180,22 @@ impl Store {
         self.cells.get(r.0 as usize).content
     }
 
-    // What the cell is bound to, if it is bound.
-    fn next(&self, r: Ref) -> Option<Ref>
+    // The cell at which the bindings of this one end, and what it holds. Each cell on the way is
+    // looked up once.
+    fn end(&self, r: Ref) -> End
         requires { r.0 < length self.now.store.cells }
-        ensures next { MatchOption result (IsEnd self.now.store r.0) (λ to. (sort : Sort) × (slice_get self.now.store.cells r.0 ≡ Some (variable sort (Some to.0)))) }
+        ensures ends { EndsAt self.now.store r.0 result.place.0 }
+        ensures shows { Shows self.now.store result.place.0 result.content }
+        ensures within { result.place.0 < length self.now.store.cells }
         ensures well { IsWellFormed self.now.store }
     {
-        match self.content(r) {
-            Content::Bound(_, to) => Some(to),
-            Content::Open(_) => None,
-            Content::Fun(_, _) => None,
-            Content::Eigen(_, _) => None,
-            Content::New(_, _) => None,
-            Content::Marks(_) => None,
+        let mut place = r;
+        let mut content = self.content(r);
+        while let Some(to) = target(content) {
+            place = to;
+            content = self.content(to);
         }
+        End { place, content }
     }
 
     /// The cell at which the bindings of this one end.
@@ -180,11 +205,7 @@ impl Store {
         ensures within { result.0 < length self.now.store.cells }
         ensures well { IsWellFormed self.now.store }
     {
-        let mut end = r;
-        while let Some(to) = self.next(end) {
-            end = to;
-        }
-        end
+        self.end(r).place
     }
 
     /// What stands at the end of the bindings.
@@ -192,7 +213,7 @@ impl Store {
         requires { r.0 < length self.now.store.cells }
         ensures { EndsIn self.now.store r.0 (λ c. head_of c ≡ result) }
     {
-        match self.content(self.walk(r)) {
+        match self.end(r).content {
             Content::Open(sort) => Head::Open(sort),
             Content::Bound(sort, _) => Head::Open(sort),
             Content::Fun(f, _) => Head::Fun(f),
@@ -208,7 +229,7 @@ impl Store {
         ensures count { EndsIn self.now.store r.0 (λ c. result ≡ length (parts_of c)) }
         ensures well { IsWellFormed self.now.store }
     {
-        match self.content(self.walk(r)) {
+        match self.end(r).content {
             Content::Open(_) => 0,
             Content::Bound(_, _) => 0,
             Content::Fun(_, parts) => parts,
