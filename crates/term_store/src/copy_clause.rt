@@ -36,8 +36,8 @@ impl Store {
         ensures room { KeepsRoom self.old self.new }
     {
         let first = self.next_place()?;
+        self.reserve(sorts.items().len())?;
         for sort in sorts.items() {
-            self.reserve(1)?;
             let _variable = self.fresh(*sort);
         }
         let end = self.next_place()?;

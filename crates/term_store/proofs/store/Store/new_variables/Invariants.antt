@@ -1,6 +1,6 @@
-use Rattle.std.proofs.Common.{◌≡◌, take}
+use Rattle.std.proofs.Common.{◌≡◌, ◌≤◌, ◌+◌, length, take}
 use Rattle.calculus.specs.Bindings.{KeepsMarks, with_variables_of}
-use Rattle.term_store.specs.Room.{KeepsRoom}
+use Rattle.term_store.specs.Room.{KeepsRoom, spare}
 use Rattle.term_store.proofs.store.Store.new_variables.Given as goal
 
 abbrev pub invariant-loop-sort : goal.invariant-loop-sort
@@ -8,4 +8,5 @@ invariant-loop-sort l = record {
   store : l.self.store ≡ with_variables_of (take l.sort-index l.sort-items) l.initial.self.store;
   marks : KeepsMarks l.initial.self.store l.self.store;
   room : KeepsRoom l.initial.self l.self;
+  spare : length l.sort-items ≤ l.sort-index + spare l.self;
 }
