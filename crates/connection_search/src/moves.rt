@@ -164,12 +164,13 @@ impl Work {
         let _before = store.mark();
         let template = matrix.template(place.clause);
         let at = place.literal as usize;
-        if has_clash(store, self.tree.atom(goal), &template.literals.items()[at]) {
+        let signed = self.tree.atom(goal);
+        if has_clash(store, signed, &template.literals.items()[at]) {
             return Ok(false);
         }
         let cells = store.size() - store.spare();
         let head = store.copy_literal(template, at)?;
-        let terms = self.tree.atom(goal).args.items();
+        let terms = signed.args.items();
         let literal = head.atom.args.items();
         if !unify_all(&mut self.unifier, store, cells, terms, literal)? {
             return Ok(false);

@@ -32,12 +32,13 @@ pub(crate) fn is_new(
         → IsTrue (is_classical_goal base store.now.store x) → IsRepeated store.now.store x) }
 {
     let at = tree.goals[goal];
+    let signed = tree.atom(goal);
     let mut above = at.above;
     for _i in 0..at.depth {
         match above {
             None => return Ok(true),
             Some(ancestor) => {
-                if are_same(unifier, store, tree.atom(goal), tree.atom(ancestor))? {
+                if are_same(unifier, store, signed, tree.atom(ancestor))? {
                     return Ok(false);
                 }
                 above = tree.goals[ancestor].above;

@@ -7,19 +7,19 @@ use Rattle.connection_search.proofs.regular.is_new.Goals as goal
 pub returns-in-None-clause-new : goal.returns-in-None-clause-new
 returns-in-None-clause-new c = λ t P base x g q h. seen-none c.args.store.now.store c.args.tree.now.steps.items c.args.tree.now.goals.items c.args.goal c.loop-i.above c.loop-i._i c.in-None.is c.loop-i.invariant P base x g q h
 
-pub atom-requires-in-Some : goal.atom-requires-in-Some
-atom-requires-in-Some c =
+pub atom-requires : goal.atom-requires
+atom-requires c =
     let w = seen-ancestor c.args.store.now.store c.args.tree.now.steps.items c.args.tree.now.goals.items c.args.goal c.in-Some.ancestor c.loop-i._i c.requires.0 (seen-at c.args.store.now.store c.args.tree.now.steps.items c.args.tree.now.goals.items c.args.goal c.loop-i.above c.in-Some.ancestor c.loop-i._i c.in-Some.is c.loop-i.invariant) c.requires.1 in
     (w.goal, w.atom, w.stands, w.is_atom)
 
 pub are_same-requires-clause-right : goal.are_same-requires-clause-right
 are_same-requires-clause-right c =
     let w = seen-ancestor c.args.store.now.store c.args.tree.now.steps.items c.args.tree.now.goals.items c.args.goal c.in-Some.ancestor c.loop-i._i c.requires.0 (seen-at c.args.store.now.store c.args.tree.now.steps.items c.args.tree.now.goals.items c.args.goal c.loop-i.above c.in-Some.ancestor c.loop-i._i c.in-Some.is c.loop-i.invariant) c.requires.1 in
-    ancestor-below (length c.args.store.now.store.cells) c.args.tree.now.steps.items c.args.tree.now.goals.items c.requires.0 c.in-Some.ancestor c.loop-i._i _ w c.requires.2 c.atom-in-Some.ensures
+    ancestor-below (length c.args.store.now.store.cells) c.args.tree.now.steps.items c.args.tree.now.goals.items c.requires.0 c.in-Some.ancestor c.loop-i._i _ w c.requires.2 c.atom.ensures
 
 pub returns-then-branch-clause-repeated : goal.returns-then-branch-clause-repeated
 returns-then-branch-clause-repeated c = λ t base x g q.
-    seen-repeated c.args.store.now.store c.args.tree.now.steps.items c.args.tree.now.goals.items c.args.goal c.in-Some.ancestor c.loop-i._i _ _ (seen-at c.args.store.now.store c.args.tree.now.steps.items c.args.tree.now.goals.items c.args.goal c.loop-i.above c.in-Some.ancestor c.loop-i._i c.in-Some.is c.loop-i.invariant) c.atom.ensures c.atom-in-Some.ensures (c.in_ok-are_same-in-Some.ensures.same c.if-branch.true) base x g q
+    seen-repeated c.args.store.now.store c.args.tree.now.steps.items c.args.tree.now.goals.items c.args.goal c.in-Some.ancestor c.loop-i._i _ _ (seen-at c.args.store.now.store c.args.tree.now.steps.items c.args.tree.now.goals.items c.args.goal c.loop-i.above c.in-Some.ancestor c.loop-i._i c.in-Some.is c.loop-i.invariant) c.atom-signed.ensures c.atom.ensures (c.in_ok-are_same-in-Some.ensures.same c.if-branch.true) base x g q
 
 pub index-requires : goal.index-requires
 index-requires c =
@@ -32,7 +32,7 @@ pub loop-i-preserved : goal.loop-i-preserved
 loop-i-preserved c =
     let h = seen-at c.args.store.now.store c.args.tree.now.steps.items c.args.tree.now.goals.items c.args.goal c.loop-i.above c.in-Some.ancestor c.loop-i._i c.in-Some.is c.loop-i.invariant in
     let w = seen-ancestor c.args.store.now.store c.args.tree.now.steps.items c.args.tree.now.goals.items c.args.goal c.in-Some.ancestor c.loop-i._i c.requires.0 h c.requires.1 in
-    seen-next c.args.store.now.store c.args.tree.now.steps.items c.args.tree.now.goals.items c.args.goal c.in-Some.ancestor c.loop-i._i c.index.result.now _ _ h (read-there c.args.tree.now.goals.items c.in-Some.ancestor c.index.result.now w.goal w.stands c.index.ensures) c.atom.ensures c.atom-in-Some.ensures (c.in_ok-are_same-in-Some.ensures.different c.if-branch.false)
+    seen-next c.args.store.now.store c.args.tree.now.steps.items c.args.tree.now.goals.items c.args.goal c.in-Some.ancestor c.loop-i._i c.index.result.now _ _ h (read-there c.args.tree.now.goals.items c.in-Some.ancestor c.index.result.now w.goal w.stands c.index.ensures) c.atom-signed.ensures c.atom.ensures (c.in_ok-are_same-in-Some.ensures.different c.if-branch.false)
 
 pub returns-clause-new : goal.returns-clause-new
 returns-clause-new c = λ t P base x g q h.
