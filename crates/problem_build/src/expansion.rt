@@ -309,7 +309,7 @@ pub fn closed(alloc: Global, symbols: &Symbols, source: &Source) -> Result<Formu
     ensures { IfOk result (λ f. the_formula f ≡ closed symbols.now (the_source source.now)) }
 {
     let free = free_variables(alloc, source)?;
-    let mut scope = free.names(alloc)?;
+    let mut scope = free.into_names(alloc)?;
     let count = scope.len();
     let body = expand(alloc, symbols, &mut scope, source)?;
     let formula = all_times(alloc, count, body)?;

@@ -27,21 +27,27 @@ pub fn is_among(name: &Text, names: &[Text]) -> bool
     false
 }
 
-// Appends the name where it is new.
-fn add_name(few: &mut Vec<Text>, more: &mut IndexSet<Text>, name: Text) -> Result<(), NoMemory>
+// Appends a copy of the name where it is new.
+fn add_name(
+    alloc: Global,
+    few: &mut Vec<Text>,
+    more: &mut IndexSet<Text>,
+    name: &Text,
+) -> Result<(), NoMemory>
     ensures { OnOk result (few.new.items ++ more.new.keys
-        ≡ with_new same_name (few.old.items ++ more.old.keys) (name ∷ [])) }
+        ≡ with_new same_name (few.old.items ++ more.old.keys) (name.now ∷ [])) }
 {
-    if is_among(&name, few) {
+    if is_among(name, few) {
         return Ok(());
     }
+    let copy = Text::new(alloc, name.bytes())?;
     if few.len() < FEW {
         if more.len() == 0 {
-            few.push(name)?;
+            few.push(copy)?;
             return Ok(());
         }
     }
-    more.insert(name)?;
+    more.insert(copy)?;
     Ok(())
 }
 
@@ -87,19 +93,18 @@ impl NameSet {
         self.more.contains(name)
     }
 
-    /// Appends the name where it is new.
-    pub fn add(&mut self, name: Text) -> Result<(), NoMemory>
-        ensures { OnOk result (self.new ≡ with_new same_name self.old (name ∷ [])) }
+    /// Appends a copy of the name where it is new.
+    pub fn add(&mut self, alloc: Global, name: &Text) -> Result<(), NoMemory>
+        ensures { OnOk result (self.new ≡ with_new same_name self.old (name.now ∷ [])) }
     {
-        add_name(&mut self.few, &mut self.more, name)
+        add_name(alloc, &mut self.few, &mut self.more, name)
     }
 
-    /// Copies of the names in order.
-    pub fn names(&self, alloc: Global) -> Result<Vec<Text>, NoMemory>
-        ensures { IfOk result (λ names. names.items ≡ self.now) }
+    /// The names in order.
+    pub fn into_names(self, alloc: Global) -> Result<Vec<Text>, NoMemory>
+        ensures { IfOk result (λ names. names.items ≡ self) }
     {
-        let mut names = Vec::new(alloc);
-        push_names(alloc, &mut names, &self.few)?;
+        let mut names = self.few;
         push_names(alloc, &mut names, self.more.as_slice())?;
         Ok(names)
     }
@@ -122,8 +127,7 @@ pub fn set_of(alloc: Global, names: &[Text]) -> Result<NameSet, NoMemory>
 {
     let mut set = NameSet::new(alloc);
     for name in names {
-        let copy = Text::new(alloc, name.bytes())?;
-        set.add(copy)?;
+        set.add(alloc, name)?;
     }
     Ok(set)
 }
@@ -134,8 +138,7 @@ pub fn set_of_places(alloc: Global, places: &[(Text, u64)]) -> Result<NameSet, N
 {
     let mut set = NameSet::new(alloc);
     for item in places {
-        let name = Text::new(alloc, item.0.bytes())?;
-        set.add(name)?;
+        set.add(alloc, &item.0)?;
     }
     Ok(set)
 }

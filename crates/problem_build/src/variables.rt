@@ -23,8 +23,7 @@ fn add_variable(
     if is_among(name, bound) {
         return Ok(());
     }
-    let name = Text::new(alloc, name.bytes())?;
-    found.add(name)?;
+    found.add(alloc, name)?;
     Ok(())
 }
 

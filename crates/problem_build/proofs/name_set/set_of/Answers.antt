@@ -1,4 +1,4 @@
-use Rattle.std.proofs.Common.{◌∙◌, ◌∷◌, [], ap, arith}
+use Rattle.std.proofs.Common.{ap, arith}
 use Rattle.problem_build.specs.Adding.{with_new}
 use Rattle.problem_build.specs.Expansion.{same_name}
 use Rattle.problem_build.proofs.NameSetLaws.{names-end, names-next}
@@ -10,7 +10,7 @@ loop-name-init c = ap (λ s. with_new same_name s c.args.names.now) c.new-set.en
 pub loop-name-preserved : goal.loop-name-preserved
 loop-name-preserved c =
     names-next c.args.names.now c.loop-name.name-index c.name-item.result c.loop-name.set c.add.new.self _ (omega arith) c.name-item.is
-    (c.in_ok-add.ensures ∙ ap (λ y. with_new same_name c.loop-name.set (y ∷ [])) (c.in_ok-copy.ensures ∙ c.bytes.ensures)) c.loop-name.invariant
+    c.in_ok-add.ensures c.loop-name.invariant
 
 pub returns : goal.returns
 returns c = names-end c.args.names.now c.loop-name.set c.loop-name.name-index (omega arith) c.loop-name.invariant

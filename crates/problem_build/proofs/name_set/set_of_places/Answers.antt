@@ -1,4 +1,4 @@
-use Rattle.std.proofs.Common.{◌∙◌, ◌∷◌, [], ap, arith}
+use Rattle.std.proofs.Common.{ap, arith}
 use Rattle.problem_build.specs.Adding.{with_new}
 use Rattle.problem_build.specs.Expansion.{same_name}
 use Rattle.problem_build.specs.Walk.{names_of}
@@ -11,7 +11,7 @@ loop-item-init c = ap (λ s. with_new same_name s (names_of c.args.places.now)) 
 pub loop-item-preserved : goal.loop-item-preserved
 loop-item-preserved c =
     places-next c.args.places.now c.loop-item.item-index c.item-item.result c.loop-item.set c.add.new.self _ (omega arith) c.item-item.is
-    (c.in_ok-add.ensures ∙ ap (λ y. with_new same_name c.loop-item.set (y ∷ [])) (c.in_ok-name.ensures ∙ c.bytes.ensures)) c.loop-item.invariant
+    c.in_ok-add.ensures c.loop-item.invariant
 
 pub returns : goal.returns
 returns c = places-end c.args.places.now c.loop-item.set c.loop-item.item-index (omega arith) c.loop-item.invariant
