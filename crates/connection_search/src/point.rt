@@ -140,7 +140,6 @@ impl Point {
         ensures places { (self.new.next ≡ self.old.next) × (self.new.end ≡ self.old.end) }
     {
         let depth = tree.goals[self.goal].depth;
-        let signed = tree.atom(self.goal);
         for _i in 0..depth {
             match self.above {
                 None => return Ok(None),
@@ -148,7 +147,7 @@ impl Point {
                     let number = next_number(self.up)?;
                     self.up = number;
                     self.above = tree.goals[ancestor].above;
-                    if meets(signed, tree.atom(ancestor)) {
+                    if meets(tree.atom(self.goal), tree.atom(ancestor)) {
                         return Ok(Some(Move::Reduce(number, ancestor)));
                     }
                 }
