@@ -1,6 +1,6 @@
 //! Ground terms by own spares: each unbound variable stands for a spare constant of its own.
 
-ghost use Rattle.std.specs.Prelude.{◌≡◌, ◌<◌, ◌++◌, ◌∷◌, ℕ, List, Some, IfOk, IsTrue, OnOk, drop, length, map, reverse, slice_get, take};
+ghost use Rattle.std.specs.Prelude.{◌≡◌, ◌<◌, ◌+◌, ◌++◌, ◌∷◌, ℕ, List, Some, IfOk, IsTrue, OnOk, drop, length, map, reverse, slice_get, take};
 ghost use Rattle.calculus.specs.Bindings.{IsEnd, IsWellFormed};
 ghost use Rattle.calculus.specs.Ground as tree;
 ghost use Rattle.calculus.specs.Stores.{Cell, Solution, parts_of};
@@ -42,7 +42,9 @@ fn want_parts(store: &Store, r: Ref, levels: u32, tasks: &mut Vec<Task>) -> Resu
 }
 
 // One level less, where there is one.
-fn level_below(levels: u32) -> Result<u32, NoMemory> {
+fn level_below(levels: u32) -> Result<u32, NoMemory>
+    ensures { IfOk result (λ below. below + 1 ≡ levels) }
+{
     match levels.checked_sub(1) {
         Some(below) => Ok(below),
         None => Err(NoMemory),
