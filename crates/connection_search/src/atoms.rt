@@ -58,8 +58,8 @@ pub(crate) fn reference_at(refs: &[Ref], i: usize) -> Ref
     refs[i]
 }
 
-/// Binds so that the lists of terms are equal. Where they cannot be, some bindings may be left. Cells
-/// below the number name such cells alone.
+/// Binds so that the lists of terms are equal. Where they cannot be, some bindings may be left.
+/// Cells below the number name such cells alone.
 pub(crate) fn unify_all(
     unifier: &mut Unifier,
     store: &mut Store,

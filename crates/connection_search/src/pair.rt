@@ -1,5 +1,5 @@
-//! Unifying one pair of terms. A variable that came last is bound to what was there before it without
-//! a look for it: it cannot occur there.
+//! Unifying one pair of terms. A variable that came last is bound to what was there before it
+//! without a look for it: it cannot occur there.
 
 ghost use Rattle.std.specs.Prelude.{◌≡◌, ◌<◌, IfOk, MatchOption, OnOk, length, true, ⊤};
 ghost use Rattle.calculus.specs.declared.sort.Sort.TheVariants.{TermSort};
@@ -47,8 +47,8 @@ fn is_open(head: Head) -> bool
     }
 }
 
-// The end of y, where it is an unbound variable of a number from `below` on, and that of x, where it
-// has a smaller number.
+// The end of y, where it is an unbound variable of a number from `below` on, and that of x, where
+// it has a smaller number.
 fn new_binding(store: &Store, below: usize, x: Ref, y: Ref) -> Option<(Ref, Ref)>
     requires left { x.0 < length store.now.store.cells }
     requires right { y.0 < length store.now.store.cells }

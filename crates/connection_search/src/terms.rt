@@ -16,8 +16,8 @@ use std::alloc::Global;
 use term_store::{Head, Ref, Store};
 
 // How many levels a ground term may have. Copying a term, comparing it and letting it go are calls
-// within calls, one for each level, so a term that nests much deeper overflows the stack. Beyond this
-// number the answer is that there is no memory for the term.
+// within calls, one for each level, so a term that nests much deeper overflows the stack. Beyond
+// this number the answer is that there is no memory for the term.
 const DEEPEST: u32 = 10000;
 
 // What is to be done: the term of a cell is wanted, which may have so many levels, or a term of so
