@@ -19,9 +19,9 @@ use crate::walk::values_at;
 use crate::words::turn_words;
 use cop_base::NoMemory;
 use formula_core::{GroundMark, GroundTerm, Value};
-use logic_rules::Problem;
 use std::alloc::Global;
 use std::marker::Model;
+use tableau_core::SizedProblem;
 
 /// Places of the agenda.
 #[derive(Drop)]
@@ -187,7 +187,7 @@ fn introducers(
 // The places of the turns that introduce what the turn mentions by its own values.
 fn waits_of(
     alloc: Global,
-    problem: &Problem,
+    problem: &SizedProblem,
     places: &[Place],
     keys: &Keys,
     turn: &Turn,
@@ -205,7 +205,7 @@ fn waits_of(
 /// For each turn the places of those that introduce what it mentions by its own values.
 pub fn waits(
     alloc: Global,
-    problem: &Problem,
+    problem: &SizedProblem,
     places: &[Place],
     keys: &Keys,
     agenda: &[Turn],

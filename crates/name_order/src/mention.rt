@@ -21,9 +21,8 @@ use crate::place::{Place, is_delta, is_pi};
 use crate::turn::Turn;
 use cop_base::{NoMemory, PosId};
 use formula_core::{GroundMark, GroundTerm, Value, Values};
-use logic_rules::Problem;
 use std::alloc::Global;
-use tableau_core::{MarkAt, Taken, eigen_home};
+use tableau_core::{MarkAt, SizedProblem, Taken, eigen_home};
 
 // The values, by reference.
 fn references<'a>(alloc: Global, values: &'a [Value]) -> Result<Vec<&'a Value>, NoMemory>
@@ -84,7 +83,7 @@ fn add_label_at(alloc: Global, label: &[MarkAt], set: &mut NameSet) -> Result<()
 #[tactic(auto, using(crate::proofs::MentionLaws::home_names))]
 fn add_home(
     alloc: Global,
-    problem: &Problem,
+    problem: &SizedProblem,
     position: PosId,
     values: &Values,
     set: &mut NameSet,
@@ -104,7 +103,7 @@ fn add_home(
 #[tactic(auto, using(crate::proofs::NameKeys::name_keys))]
 fn add_with_home(
     alloc: Global,
-    problem: &Problem,
+    problem: &SizedProblem,
     name: &Name,
     set: &mut NameSet,
 ) -> Result<(), NoMemory>
@@ -132,7 +131,7 @@ fn add_with_home(
 #[tactic(auto, using(crate::proofs::Arranging::arranging))]
 fn add_with_homes(
     alloc: Global,
-    problem: &Problem,
+    problem: &SizedProblem,
     names: &[Name],
     set: &mut NameSet,
 ) -> Result<(), NoMemory>
@@ -148,7 +147,11 @@ fn add_with_homes(
 }
 
 /// The names that a turn with these values mentions, each once.
-pub fn mentioned(alloc: Global, problem: &Problem, values: &[Value]) -> Result<NameSet, NoMemory>
+pub fn mentioned(
+    alloc: Global,
+    problem: &SizedProblem,
+    values: &[Value],
+) -> Result<NameSet, NoMemory>
     ensures { IfOk result (λ set. the_names set
         ≡ keep_all name_eq [] (mentioned_in problem.now (map the_value values.now))) }
 {
@@ -236,7 +239,7 @@ fn inside(alloc: Global, turns: &[Turn]) -> Result<NameSet, NoMemory>
 #[tactic(auto, using(crate::proofs::Arranging::arranging))]
 pub fn all_names(
     alloc: Global,
-    problem: &Problem,
+    problem: &SizedProblem,
     places: &[Place],
     turns: &[Turn],
 ) -> Result<Vec<Name>, NoMemory>

@@ -24,7 +24,7 @@ use formula_core::{GroundTerm, Values};
 use logic_rules::Problem;
 use std::alloc::Global;
 use std::marker::Model;
-use tableau_core::Tableau;
+use tableau_core::{SizedProblem, Tableau};
 
 /// The names of a tableau, numbered from 1 in their order, and its turns in the order in which they
 /// are made. Turns are told by their places in this order, from 0.
@@ -147,11 +147,12 @@ pub fn name(alloc: Global, problem: &Problem, t: &Tableau) -> Result<Named, NoMe
     ensures parents { IfOk result (λ n. ParentsTell problem.now n.agenda n.parents) }
     ensures waits { IfOk result (λ n. WaitsTell problem.now n.agenda n.parents n.waits) }
 {
+    let sized = SizedProblem::new(alloc, problem)?;
     let lists = collect(alloc, problem, t)?;
     let agenda = arrange(alloc, &lists)?;
     let keys = keys_of(alloc, agenda.items())?;
     let places = all_places(alloc, problem)?;
-    let names = in_order(alloc, all_names(alloc, problem, &places, agenda.items())?)?;
+    let names = in_order(alloc, all_names(alloc, &sized, &places, agenda.items())?)?;
     if names.len() > u32::MAX as usize {
         return Err(NoMemory);
     }
@@ -160,7 +161,7 @@ pub fn name(alloc: Global, problem: &Problem, t: &Tableau) -> Result<Named, NoMe
     }
     let order = order(alloc, &keys, &lists)?;
     let parents = parents(alloc, &places, &keys, agenda.items())?;
-    let waits = waits(alloc, problem, &places, &keys, agenda.items())?;
+    let waits = waits(alloc, &sized, &places, &keys, agenda.items())?;
     Ok(Named {
         names,
         agenda,

@@ -49,7 +49,7 @@ use run::Run;
 use sequent_calc::{Derivation, StepList};
 use source::Source;
 use std::alloc::Global;
-use tableau_core::Tableau;
+use tableau_core::{SizedProblem, Tableau};
 
 // Whether there is an atom at each position, in preorder.
 fn put_atoms(f: &Formula, atoms: &mut Vec<bool>) -> Result<(), NoMemory>
@@ -103,7 +103,8 @@ pub fn convert(
         → axiom_count d.steps ≤ closings_count (the_tableau t.now).goals) }
 {
     let named = name(alloc, problem, t)?;
-    let names = name_lines(alloc, problem, &named)?;
+    let sized = SizedProblem::new(alloc, problem)?;
+    let names = name_lines(alloc, &sized, &named)?;
     let mut atoms = Vec::new(alloc);
     put_atoms(problem.formula(), &mut atoms)?;
     let source = Source {

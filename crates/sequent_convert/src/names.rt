@@ -13,11 +13,11 @@ ghost use Rattle.tableau_core.specs.ValuesAt.{values_at};
 use crate::numbered::{label_of, mark_of};
 use cop_base::{NoMemory, PosId};
 use formula_core::{GroundLabel, GroundTerm, Value, Values};
-use logic_rules::{Label, Mark, Problem};
+use logic_rules::{Label, Mark};
 use name_order::{Name, Named};
 use sequent_calc::{Home, Names};
 use std::alloc::Global;
-use tableau_core::{MarkAt, Taken, eigen_home};
+use tableau_core::{MarkAt, SizedProblem, Taken, eigen_home};
 
 // The values, by reference.
 fn references<'a>(alloc: Global, values: &'a [Value]) -> Result<Vec<&'a Value>, NoMemory>
@@ -65,7 +65,7 @@ fn label_at(alloc: Global, named: &Named, marks: &[MarkAt]) -> Result<Label, NoM
 // The home of an eigenvariable.
 fn home_of(
     alloc: Global,
-    problem: &Problem,
+    problem: &SizedProblem,
     named: &Named,
     position: PosId,
     values: &Values,
@@ -90,7 +90,7 @@ fn own_home(alloc: Global, named: &Named, label: &GroundLabel) -> Result<Label, 
 #[tactic(auto, using(crate::proofs::NameLines::lines))]
 fn add_name(
     alloc: Global,
-    problem: &Problem,
+    problem: &SizedProblem,
     named: &Named,
     name: &Name,
     names: &mut Names,
@@ -121,7 +121,7 @@ fn add_name(
 
 /// The names of a tableau by their numbers, the eigenvariables and the spare constants with their homes.
 #[tactic(auto, using(crate::proofs::NameLines::lines))]
-pub fn name_lines(alloc: Global, problem: &Problem, named: &Named) -> Result<Names, NoMemory>
+pub fn name_lines(alloc: Global, problem: &SizedProblem, named: &Named) -> Result<Names, NoMemory>
     ensures lines { IfOk result (λ n. the_names n ≡ name_lines_of (number_of named.now.names) problem.now named.now.names) }
     ensures few { length named.now.names < 2 ^ 32 }
 {

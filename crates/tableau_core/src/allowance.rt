@@ -9,7 +9,7 @@ ghost use Rattle.calculus.specs.Skolem.{are_allowed, is_allowed};
 ghost use Rattle.formula_core.specs.GroundView.{the_g_term, the_mark};
 ghost use Rattle.tableau_core.specs.SpotView.{the_mark_at};
 
-use crate::home::home_of;
+use crate::home::eigen_home;
 use crate::references::{given, references};
 use crate::sized::SizedProblem;
 use crate::spot::MarkAt;
@@ -39,7 +39,7 @@ fn is_eigen_allowed(
         Domains::Constant => Ok(true),
         Domains::Cumulative | Domains::Varying => {
             let values = references(alloc, values.items())?;
-            let home = home_of(alloc, problem, p, &values)?;
+            let home = eigen_home(alloc, problem, p, &values)?;
             let allowed = is_home(problem, &home, at);
             Ok(allowed)
         }

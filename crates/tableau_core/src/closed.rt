@@ -16,7 +16,7 @@ use crate::closing::{Closing, ClosingList};
 use crate::count::{Count, and_more, is_short, longest_string};
 use crate::instance::ClauseInstance;
 use crate::literal::GroundLiteral;
-use crate::sized::{SizedProblem, sizes_in};
+use crate::sized::SizedProblem;
 use crate::tableau::Tableau;
 use crate::walk::steps_if_allowed;
 use cop_base::NoMemory;
@@ -255,8 +255,7 @@ fn is_closed_within(
 pub fn is_closed(alloc: Global, problem: &Problem, t: &Tableau, limit: u8) -> Result<bool, NoMemory>
     ensures { IfOk result (λ b. b ≡ is_closed problem.now limit (the_tableau t.now)) }
 {
-    let sizes = sizes_in(alloc, problem)?;
-    let sized = SizedProblem::new(problem, &sizes);
+    let sized = SizedProblem::new(alloc, problem)?;
     let closed = is_closed_within(alloc, &sized, t, limit)?;
     Ok(closed)
 }

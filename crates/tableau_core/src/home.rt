@@ -15,12 +15,12 @@ ghost use Rattle.tableau_core.specs.ValuesAt.{values_at};
 
 use crate::part::Part;
 use crate::references::{copy_label, with_mark, with_string};
-use crate::sized::{SizedProblem, sizes_in};
+use crate::sized::SizedProblem;
 use crate::spot::{MarkAt, Taken};
 use crate::way::towards;
 use cop_base::{NoMemory, PosId};
 use formula_core::{GroundLabel, Value};
-use logic_rules::{Logic, ModalPart, Problem, Shape, kind_of};
+use logic_rules::{Logic, ModalPart, Shape, kind_of};
 use std::alloc::Global;
 
 // The string at a place of the values.
@@ -177,7 +177,7 @@ fn home_shape<'a>(
 }
 
 /// The home of the eigenvariable of this position and these values.
-pub fn home_of<'a>(
+pub fn eigen_home<'a>(
     alloc: Global,
     problem: &SizedProblem,
     p: PosId,
@@ -192,20 +192,5 @@ pub fn home_of<'a>(
     }
     let logic = problem.setting().logic();
     let w = home_below(alloc, logic, whole, p.0, 0, values, 0, &root)?;
-    Ok(w)
-}
-
-/// The same where no sizes are known: they are made for this call.
-pub fn eigen_home<'a>(
-    alloc: Global,
-    problem: &Problem,
-    p: PosId,
-    values: &'a [&'a Value],
-) -> Result<Vec<MarkAt<'a>>, NoMemory>
-    ensures { IfOk result (λ w. map the_mark_at w.items ≡ label_of problem.now p.0 (values_at values.now)) }
-{
-    let sizes = sizes_in(alloc, problem)?;
-    let sized = SizedProblem::new(problem, &sizes);
-    let w = home_of(alloc, &sized, p, values)?;
     Ok(w)
 }

@@ -33,5 +33,6 @@ pub use home::eigen_home;
 pub use instance::ClauseInstance;
 pub use literal::{GroundLiteral, LiteralList};
 pub use selection::Selection;
+pub use sized::SizedProblem;
 pub use spot::{MarkAt, Taken};
 pub use tableau::Tableau;

@@ -21,7 +21,7 @@ use std::marker::Model;
 #[derive(Drop)]
 pub struct SizedProblem<'a> {
     problem: &'a Problem,
-    sizes: &'a [u32],
+    sizes: Vec<u32>,
 }
 
 impl<'a> Model for SizedProblem<'a> {
@@ -37,15 +37,16 @@ impl<'a> Model for SizedProblem<'a> {
 
     ghost view = { λ p. p.problem.now };
 
-    ghost invariant = { λ p. p.sizes.now ≡ sizes_of p.problem.now.formula };
+    ghost invariant = { λ p. p.sizes.items ≡ sizes_of p.problem.now.formula };
 }
 
 impl<'a> SizedProblem<'a> {
-    pub fn new(problem: &'a Problem, sizes: &'a [u32]) -> SizedProblem<'a>
-        requires { sizes.now ≡ sizes_of problem.now.formula }
-        ensures { result ≡ problem.now }
+    /// Makes the sizes, which takes time linear in the formula.
+    pub fn new(alloc: Global, problem: &'a Problem) -> Result<SizedProblem<'a>, NoMemory>
+        ensures { IfOk result (λ p. p ≡ problem.now) }
     {
-        SizedProblem { problem, sizes }
+        let sizes = sizes_of(alloc, problem.formula())?;
+        Ok(SizedProblem { problem, sizes })
     }
 
     pub fn setting(&self) -> Setting
@@ -76,15 +77,7 @@ impl<'a> SizedProblem<'a> {
         Part {
             sign: Sign::F,
             formula: self.problem.formula(),
-            sizes: self.sizes,
+            sizes: self.sizes.as_slice(),
         }
     }
-}
-
-/// The sizes of the parts of the problem's formula in preorder.
-pub fn sizes_in(alloc: Global, problem: &Problem) -> Result<Vec<u32>, NoMemory>
-    ensures { IfOk result (λ v. v.items ≡ sizes_of problem.now.formula) }
-{
-    let sizes = sizes_of(alloc, problem.formula())?;
-    Ok(sizes)
 }

@@ -2,6 +2,7 @@ use Rattle.std.proofs.Common.{◌≡◌, List, [], map, subst, ap, sym, ◌∙�
 use Rattle.std.specs.List.{AllByRecursion}
 use Rattle.calculus.specs.Instances.{Turn}
 use Rattle.calculus.specs.Numbering.{name_eq}
+use Rattle.calculus.specs.Syntax.{Problem}
 use Rattle.calculus.proofs.NumberLaws.{numbers-tell}
 use Rattle.name_order.specs.Arranged.{IsArranged, joined}
 use Rattle.name_order.specs.Found.{find_in, parent_in, waits_in}
@@ -28,14 +29,14 @@ pub returns-clause-numbering : goal.returns-clause-numbering
 returns-clause-numbering c =
     let moved = arranged c.deref.result.now c.in_ok-lists.lists.items c.in_ok-agenda.agenda c.deref.ensures.value c.in_ok-agenda.ensures in
     let agenda = the-agenda c.args.problem.now c.requires.closed.0 (the_tableau c.args.t.now) c.requires.closed.1 c.in_ok-lists.lists.items c.in_ok-agenda.agenda c.in_ok-lists.ensures moved in
-    let all = c.in_ok-all_names.ensures ∙ ap (λ ps. keep_all name_eq [] (gathered c.args.problem.now (the_places ps) (map the_turn c.items-2.result.now))) c.deref-2.ensures.value ∙ ap (λ ts. keep_all name_eq [] (gathered c.args.problem.now (the_places c.in_ok-places.places.items) ts)) c.items-2.ensures in
+    let all = c.in_ok-all_names.ensures ∙ ap (λ (P : Problem). keep_all name_eq [] (gathered P (the_places c.deref-2.result.now) (map the_turn c.items-2.result.now))) c.in_ok-sized.ensures ∙ ap (λ ps. keep_all name_eq [] (gathered c.args.problem.now (the_places ps) (map the_turn c.items-2.result.now))) c.deref-2.ensures.value ∙ ap (λ ts. keep_all name_eq [] (gathered c.args.problem.now (the_places c.in_ok-places.places.items) ts)) c.items-2.ensures in
     the-numbering c.args.problem.now (the_tableau c.args.t.now) c.in_ok-agenda.agenda (the_places c.in_ok-places.places.items) (map the_name c.in_ok-all_names.field-0.items) (map the_name c.in_ok-names.names.items) agenda c.in_ok-places.ensures all c.in_ok-names.ensures
 
 pub returns-clause-tells : goal.returns-clause-tells
 returns-clause-tells c =
     let moved = arranged c.deref.result.now c.in_ok-lists.lists.items c.in_ok-agenda.agenda c.deref.ensures.value c.in_ok-agenda.ensures in
     let agenda = the-agenda c.args.problem.now c.requires.closed.0 (the_tableau c.args.t.now) c.requires.closed.1 c.in_ok-lists.lists.items c.in_ok-agenda.agenda c.in_ok-lists.ensures moved in
-    let all = c.in_ok-all_names.ensures ∙ ap (λ ps. keep_all name_eq [] (gathered c.args.problem.now (the_places ps) (map the_turn c.items-2.result.now))) c.deref-2.ensures.value ∙ ap (λ ts. keep_all name_eq [] (gathered c.args.problem.now (the_places c.in_ok-places.places.items) ts)) c.items-2.ensures in
+    let all = c.in_ok-all_names.ensures ∙ ap (λ (P : Problem). keep_all name_eq [] (gathered P (the_places c.deref-2.result.now) (map the_turn c.items-2.result.now))) c.in_ok-sized.ensures ∙ ap (λ ps. keep_all name_eq [] (gathered c.args.problem.now (the_places ps) (map the_turn c.items-2.result.now))) c.deref-2.ensures.value ∙ ap (λ ts. keep_all name_eq [] (gathered c.args.problem.now (the_places c.in_ok-places.places.items) ts)) c.items-2.ensures in
     numbers-tell c.args.problem.now (the_tableau c.args.t.now) (map the_name c.in_ok-names.names.items) (the-numbering c.args.problem.now (the_tableau c.args.t.now) c.in_ok-agenda.agenda (the_places c.in_ok-places.places.items) (map the_name c.in_ok-all_names.field-0.items) (map the_name c.in_ok-names.names.items) agenda c.in_ok-places.ensures all c.in_ok-names.ensures)
 
 pub returns-clause-agenda : goal.returns-clause-agenda
@@ -63,5 +64,5 @@ returns-clause-waits c =
     let moved = arranged c.deref.result.now c.in_ok-lists.lists.items c.in_ok-agenda.agenda c.deref.ensures.value c.in_ok-agenda.ensures in
     let agenda = the-agenda c.args.problem.now c.requires.closed.0 (the_tableau c.args.t.now) c.requires.closed.1 c.in_ok-lists.lists.items c.in_ok-agenda.agenda c.in_ok-lists.ensures moved in
     let parents = c.in_ok-parents.ensures ∙ ap (λ ps. map (parent_in (the_places ps) c.in_ok-keys.keys) (map the_turn c.items-4.result.now)) c.deref-4.ensures.value ∙ ap (map (parent_in (the_places c.in_ok-places.places.items) c.in_ok-keys.keys)) c.items-4.ensures in
-    let waits = c.in_ok-waits.ensures ∙ ap (λ ps. map (waits_in c.args.problem.now (the_places ps) c.in_ok-keys.keys) (map the_turn c.items-5.result.now)) c.deref-5.ensures.value ∙ ap (map (waits_in c.args.problem.now (the_places c.in_ok-places.places.items) c.in_ok-keys.keys)) c.items-5.ensures in
+    let waits = c.in_ok-waits.ensures ∙ ap (λ (P : Problem). map (waits_in P (the_places c.deref-5.result.now) c.in_ok-keys.keys) (map the_turn c.items-5.result.now)) c.in_ok-sized.ensures ∙ ap (λ ps. map (waits_in c.args.problem.now (the_places ps) c.in_ok-keys.keys) (map the_turn c.items-5.result.now)) c.deref-5.ensures.value ∙ ap (map (waits_in c.args.problem.now (the_places c.in_ok-places.places.items) c.in_ok-keys.keys)) c.items-5.ensures in
     the-waits c.args.problem.now (the_tableau c.args.t.now) c.in_ok-lists.lists.items c.in_ok-agenda.agenda c.in_ok-keys.keys (the_places c.in_ok-places.places.items) c.in_ok-parents.parents.items c.in_ok-waits.waits.items agenda moved keyed c.in_ok-places.ensures parents waits

@@ -4,8 +4,5 @@ use Rattle.calculus.specs.Tableaux.{is_closed}
 use Rattle.tableau_core.specs.TableauView.{the_tableau}
 use Rattle.tableau_core.proofs.closed.is_closed.Goals as goal
 
-pub new-sized-requires : goal.new-sized-requires
-new-sized-requires c = c.deref.ensures.value ∙ c.in_ok-sizes.ensures
-
 pub returns : goal.returns
-returns c = c.in_ok-closed.ensures ∙ ap (λ (P : Problem). is_closed P c.args.limit (the_tableau c.args.t.now)) c.new-sized.ensures
+returns c = c.in_ok-closed.ensures ∙ ap (λ (P : Problem). is_closed P c.args.limit (the_tableau c.args.t.now)) c.in_ok-sized.ensures

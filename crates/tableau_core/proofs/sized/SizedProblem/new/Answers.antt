@@ -1,11 +1,7 @@
-use Rattle.std.proofs.Common.{ap, arith, ◌∙◌}
+use Rattle.std.proofs.Common.{ap, arith}
 use Rattle.calculus.specs.Positions.{size}
-use Rattle.tableau_core.specs.Sizes.{sizes_of}
 use Rattle.tableau_core.proofs.FittingLaws.{few-positions}
-use Rattle.tableau_core.proofs.sized.sizes_in.Goals as goal
+use Rattle.tableau_core.proofs.sized.SizedProblem.new.Goals as goal
 
 pub sizes_of-requires : goal.sizes_of-requires
 sizes_of-requires c = let few = few-positions c.args.problem.now c.formula.ensures.well in omega (arith, few, ap size c.formula.ensures.formula)
-
-pub returns : goal.returns
-returns c = c.in_ok-sizes.ensures ∙ ap sizes_of c.formula.ensures.formula
