@@ -16,3 +16,4 @@ pub mod GuideLaws
 pub mod ParentLaws
 pub mod Promises
 pub mod Coming
+pub mod DigestLaws

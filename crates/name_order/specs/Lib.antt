@@ -14,3 +14,5 @@ pub mod Mentioned
 pub mod Numbered
 pub mod Found
 pub mod Prerequisites
+pub mod Digests
+pub mod DigestView

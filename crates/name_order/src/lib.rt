@@ -3,8 +3,10 @@
 
 mod agenda;
 mod collect;
+mod digest;
 mod guide;
 mod keys;
+mod look_up;
 mod mention;
 mod name_set;
 mod named;

@@ -14,13 +14,15 @@ ghost use Rattle.tableau_core.specs.TableauView.{the_tableau};
 use crate::agenda::{arrange, keys_of};
 use crate::collect::collect;
 use crate::guide::{Numbers, order, parents, waits};
+use crate::look_up::{digests_of, number_by};
 use crate::mention::all_names;
-use crate::names::{Name, Wanted, number_among};
+use crate::names::{Name, Wanted};
 use crate::numbering::in_order;
 use crate::place::all_places;
 use crate::turn::{Turn, TurnList};
 use cop_base::{NoMemory, PosId};
 use formula_core::{GroundTerm, Values};
+use indexmap::IndexSet;
 use logic_rules::Problem;
 use std::alloc::Global;
 use std::marker::Model;
@@ -31,6 +33,7 @@ use tableau_core::{SizedProblem, Tableau};
 #[derive(Drop)]
 pub struct Named {
     names: Vec<Name>,
+    digests: Option<IndexSet<u64>>,
     agenda: TurnList,
     order: Vec<Numbers>,
     parents: Vec<Option<usize>>,
@@ -41,6 +44,7 @@ impl Model for Named {
     ghost use Rattle.std.specs.Prelude.{map, length, ◌<◌, ◌^◌};
     ghost use Rattle.calculus.specs.Codes.{g_term_code, mark_code, value_code};
     ghost use Rattle.std.specs.Coded.{codes};
+    ghost use Rattle.name_order.specs.DigestView.{AreDigests};
     ghost use Rattle.name_order.specs.NameView.{the_name};
     ghost use Rattle.name_order.specs.NamedView.{NamedValue};
 
@@ -56,14 +60,14 @@ impl Model for Named {
       waits = n.waits.items;
     } };
 
-    ghost invariant = { λ n. (length n.names.items < 2 ^ 32) × (length n.agenda < 2 ^ 32) };
+    ghost invariant = { λ n. (length n.names.items < 2 ^ 32) × (length n.agenda < 2 ^ 32) × (AreDigests (map the_name n.names.items) n.digests) };
 }
 
 impl Named {
     fn number(&self, wanted: &Wanted) -> Option<u32>
         ensures { result ≡ number_in self.now.names (the_wanted wanted.now) }
     {
-        number_among(self.names.as_slice(), wanted)
+        number_by(self.names.as_slice(), &self.digests, wanted)
     }
 
     /// The number of the eigenvariable of a delta position by the values taken on the way to it.
@@ -159,11 +163,13 @@ pub fn name(alloc: Global, problem: &Problem, t: &Tableau) -> Result<Named, NoMe
     if agenda.items().len() > u32::MAX as usize {
         return Err(NoMemory);
     }
+    let digests = digests_of(alloc, names.as_slice())?;
     let order = order(alloc, &keys, &lists)?;
     let parents = parents(alloc, &places, &keys, agenda.items())?;
     let waits = waits(alloc, &sized, &places, &keys, agenda.items())?;
     Ok(Named {
         names,
+        digests,
         agenda,
         order,
         parents,
