@@ -5,7 +5,6 @@ pub mod InstanceView
 pub mod ClosingView
 pub mod TableauView
 pub mod ChoiceView
-pub mod Closed
 -- ==== what models of lists need: codes and sizes
 
 pub mod LiteralCodes
