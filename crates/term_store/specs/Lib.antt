@@ -10,4 +10,7 @@ pub mod Copying
 pub mod RefView
 pub mod ClauseView
 pub mod TemplateView
+-- systems of equations and demands
+pub mod SystemView
+pub mod Asking
 pub mod Signatures

@@ -7,9 +7,11 @@ mod clause;
 mod copy;
 mod copy_clause;
 mod copy_lists;
+mod demand;
 mod pattern;
 mod slots;
 mod store;
+mod system;
 #[cfg(test)]
 mod tests;
 
@@ -20,5 +22,7 @@ pub use clause::{
     CellAtom, CellAtomList, CopiedClause, CopiedLiteral, GammaList, GammaUse, PatternAtom,
     PatternAtomList, PatternGamma, PatternGammaList, Prefix, RefList, SortList, Template,
 };
+pub use demand::Demand;
 pub use pattern::{Pattern, Patterns};
 pub use store::Store;
+pub use system::{Equation, EquationList, PairList, System};

@@ -1,0 +1,41 @@
+//! What a domain condition asks of gamma terms.
+
+ghost use Rattle.std.specs.Prelude.{◌≡◌, Bool, IfOk, IfSome, IsTrue, List, None, OnErr};
+ghost use Rattle.calculus.specs.Bindings.{AddsBuilt, KeepsMarks};
+ghost use Rattle.calculus.specs.Instances as instances;
+ghost use Rattle.calculus.specs.Systems.{HasBuiltStrings, HasNoOpenString, IsDemandEquation};
+ghost use Rattle.calculus.specs.Systems.{OwnSparesMeet, is_system};
+ghost use Rattle.term_store.specs.Asking.{Asks};
+ghost use Rattle.term_store.specs.Room.{KeepsRoom};
+ghost use Rattle.term_store.specs.SystemView.{the_equation, the_system};
+
+use crate::store::Store;
+use crate::system::{Equation, System};
+use cop_base::NoMemory;
+
+/// A condition on gamma terms and their labels, told by equations between labels, one at a time.
+pub trait Demand {
+    // whether the condition holds for the ground gamma terms and their labels
+    ghost holds_for: { Self → List instances.GammaUse → Bool };
+
+    // whether spare constants of every domain exist
+    ghost common: { Self → Bool };
+
+    /// An equation that the condition forces and that does not hold yet. None is left only where
+    /// giving each unbound variable its own spare meets the condition. It may add built cells, and
+    /// binds nothing. Want of memory leaves the store as it was.
+    fn next(&mut self, store: &mut Store, system: &System) -> Result<Option<Equation>, NoMemory>
+        requires fits { IsTrue (is_system store.old.store (the_system system.now)) }
+        requires built { HasBuiltStrings store.old.store (the_system system.now) }
+        requires no_string { HasNoOpenString store.old.store (the_system system.now) }
+        ensures equation { IfOk result (λ o. IfSome o (λ e. IsDemandEquation (Asks (holds_for self.old))
+            store.new.store (the_system system.now) (the_equation e))) }
+        ensures none { IfOk result (λ o. o ≡ None → OwnSparesMeet (common self.old)
+            (Asks (holds_for self.old)) store.new.store (the_system system.now)) }
+        ensures adds { AddsBuilt store.old.store store.new.store }
+        ensures err { OnErr result (store.new.store ≡ store.old.store) }
+        ensures marks { KeepsMarks store.old.store store.new.store }
+        ensures room { KeepsRoom store.old store.new }
+        ensures same { holds_for self.new ≡ holds_for self.old }
+        ensures same_common { common self.new ≡ common self.old };
+}
