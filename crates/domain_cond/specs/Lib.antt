@@ -1,0 +1,2 @@
+-- a problem and a system that the tests build
+pub mod Examples

@@ -1,0 +1,8 @@
+//! Domain conditions: what constant, cumulative and varying domains ask of gamma terms.
+#![tactic(auto)]
+
+mod constant;
+#[cfg(test)]
+mod tests;
+
+pub use constant::ConstantDemand;
