@@ -1,0 +1,114 @@
+-- Labels become lists of marks item by item.
+use Rattle.std.proofs.Common.{◌≡◌, ◌⊎◌, ℕ, zero, suc, ◌+◌, ◌≤◌, List, [], ◌∷◌, ◌++◌, drop, length, map, Bool, true, false, ◌||◌, IsTrue, refl, sym, ◌∙◌, ap, subst, Option, None, Some, slice_get, inl, inr, arith, append_assoc}
+use Rattle.std.specs.List.{list_all}
+use Rattle.std.proofs.lemmas.Bool.{false≢true}
+use Rattle.calculus.specs.declared.sort.Sort.{Sort}
+use Rattle.calculus.specs.declared.sort.Sort.TheVariants.{TermSort, MarkSort, StringSort}
+use Rattle.calculus.specs.Bindings.{EndsIn, IsEnd}
+use Rattle.calculus.specs.Stores.{Cell, Store, fun_cell, eigen_cell, new_cell, string_cell, variable, is_bound, has_sort_at, is_store, OccursIn, here, in_part, EndsAt, stays, goes_on, Solution, Solves, join_label, label_at}
+use Rattle.calculus.specs.Systems.{has_label_sort_at, is_label, IsOpenString}
+use Rattle.calculus.proofs.BindingLaws.{has_sort-from}
+use Rattle.calculus.proofs.PlaceLists.{all-at}
+use Rattle.term_store.specs.Shown.{head_of}
+use Rattle.term_store.specs.declared.cell.Head.{Head}
+use Rattle.term_store.specs.declared.cell.Head.TheVariants.{Open}
+use Rattle.term_unify.proofs.PairLaws.{told}
+use Rattle.search_theory.proofs.GivingLaws.{IsFlat, flat-mark, flat-none, flat-string, joined-mark, ends-same}
+use Rattle.search_theory.proofs.BuildingLaws.{solved-sorted}
+use Rattle.prefix_split.specs.Flat.{IsFlatItem, IsStringOf}
+use Rattle.prefix_split.specs.Later.{HasNoString, HasNoStringIn}
+use Rattle.prefix_split.proofs.LaterLaws.{no_string-part}
+use Rattle.prefix_split.proofs.LengthLaws.{ends-sorted}
+use Rattle.prefix_split.proofs.ListItems.{drop-end, drop-there}
+
+-- ---- where bindings end
+
+pub ends-label : (s : Store) (r v : ℕ) → IsTrue (is_store s) → EndsAt s r v → IsTrue (has_label_sort_at s r) → IsTrue (has_label_sort_at s v)
+ends-label s r v h ends k = by (has_sort_at s MarkSort r) refl k
+  where
+    or-right : (a b : Bool) → IsTrue b → IsTrue (a || b)
+    or-right true b h = refl
+    or-right false b h = h
+
+    or-left : (a b : Bool) → IsTrue a → IsTrue (a || b)
+    or-left true b h = refl
+    or-left false b h = absurd (false≢true h)
+
+    by : (t : Bool) → has_sort_at s MarkSort r ≡ t → IsTrue (t || has_sort_at s StringSort r) → IsTrue (has_label_sort_at s v)
+    by true e x = or-left (has_sort_at s MarkSort v) (has_sort_at s StringSort v) (ends-sorted s MarkSort r v h ends e)
+    by false e x = or-right (has_sort_at s MarkSort v) (has_sort_at s StringSort v) (ends-sorted s StringSort r v h ends x)
+
+pub ends-occurs : (s : Store) (r v : ℕ) → EndsAt s r v → OccursIn s v r
+ends-occurs s r v (stays e b) = here
+ends-occurs s r v (goes_on e more) = in_part 0 e refl (ends-occurs s _ v more)
+
+pub ends-free : (s : Store) (r v : ℕ) → EndsAt s r v → HasNoStringIn s r → HasNoStringIn s v
+ends-free s r v ends h = no_string-part s r v h (ends-occurs s r v ends)
+
+-- what is unbound there is a mark
+pub open-mark : (s : Store) (v : ℕ) (head : Head) (sort : Sort) → IsEnd s v → IsTrue (has_label_sort_at s v) → HasNoStringIn s v → EndsIn s v (λ c. head_of c ≡ head) → head ≡ Open sort → IsTrue (has_sort_at s MarkSort v)
+open-mark s v head sort (c, e, b) l free t q = by c e b (told s v c (λ d. head_of d ≡ head) e b t ∙ q)
+  where
+    by : (d : Cell) → slice_get s.cells v ≡ Some d → is_bound d ≡ false → head_of d ≡ Open sort → IsTrue (has_sort_at s MarkSort v)
+    by (variable MarkSort None) f u h = has_sort-from s MarkSort v (variable MarkSort None) f refl
+    by (variable StringSort None) f u h = absurd (free v f here)
+    by (variable TermSort None) f u h = absurd (false≢true (rw f at l))
+    by (variable x (Some k)) f u h = absurd (false≢true (sym u))
+    by (fun_cell g rs) f u h = cc h
+    by (eigen_cell g rs) f u h = cc h
+    by (new_cell g rs) f u h = cc h
+    by (string_cell rs) f u h = cc h
+
+-- ---- one item
+
+flat-item : (s : Store) (w : ℕ) (ks ws ms : List ℕ) → IsTrue (is_store s) → IsFlatItem s w ks → IsFlat s ws ms → IsFlat s (w ∷ ws) (ks ++ ms)
+flat-item s w ks ws ms h (v, ends, inl (e, sort)) f =
+    let one = flat-mark s v ws ms sort f in
+    subst (λ xs. IsFlat s (w ∷ ws) (xs ++ ms)) (sym e) (record { sorted = one.sorted; same = λ σ t. ap (λ x. join_label x (label_at σ ws)) (ends-same s w v ends σ t) ∙ one.same σ t })
+flat-item s w ks ws ms h (v, ends, inr e) f = flat-string s w v ks ws ms h ends e f
+
+item-free : (s : Store) (w : ℕ) (ks : List ℕ) → IsFlatItem s w ks → HasNoStringIn s w → HasNoString s ks
+item-free s w ks (v, ends, inl (e, sort)) h x i r o p c = by i (ap (λ xs. slice_get xs i) (sym e) ∙ p)
+  where
+    by : (i : ℕ) → slice_get (v ∷ []) i ≡ Some r → ⊥
+    by zero q = let z : v ≡ r = cc q in ends-free s w v ends h x o (subst (OccursIn s x) (sym z) c)
+    by (suc i) q = cc q
+item-free s w ks (v, ends, inr e) h x i r o p c = ends-free s w v ends h x o (in_part i e p c)
+
+free-both : (s : Store) (xs ys : List ℕ) → HasNoString s xs → HasNoString s ys → HasNoString s (xs ++ ys)
+free-both s [] ys a b v i r o e c = b v i r o e c
+free-both s (x ∷ xs) ys a b v zero r o e c = a v 0 r o e c
+free-both s (x ∷ xs) ys a b v (suc i) r o e c = free-both s xs ys (λ w j q z f d. a w (suc j) q z f d) b v i r o e c
+
+-- ---- all items
+
+-- these are the marks of the items before the place i
+pub record IsFlatTo (s : Store) (ws ms : List ℕ) (i : ℕ) : Type 0 where
+  pub rest : (ks : List ℕ) → IsFlat s (drop i ws) ks → IsFlat s ws (ms ++ ks)
+  pub free : HasNoString s ms
+
+pub flat-start : (s : Store) (ws : List ℕ) → IsFlatTo s ws [] 0
+flat-start s ws = record { rest = λ ks h. h; free = λ v i r o e c. cc e }
+
+pub flat-more : (s : Store) (ws ms after ks : List ℕ) (i w : ℕ) → IsTrue (is_store s) → HasNoString s ws → IsFlatTo s ws ms i → slice_get ws i ≡ Some w → after ≡ ms ++ ks → IsFlatItem s w ks → IsFlatTo s ws after (i + 1)
+flat-more s ws ms after ks i w h free t e joined item = record {
+  rest = λ us f. subst (IsFlat s ws) (sym (append_assoc ms ks us) ∙ ap (λ xs. xs ++ us) (sym joined)) (t.rest (ks ++ us) (subst (λ xs. IsFlat s xs (ks ++ us)) (sym (drop-there ws i w e)) (flat-item s w ks (drop (suc i) ws) us h item (subst (λ n. IsFlat s (drop n ws) us) more f))));
+  free = subst (HasNoString s) (sym joined) (free-both s ms ks t.free (item-free s w ks item (λ v o c. free v i w o e c)));
+}
+  where
+    more : i + 1 ≡ suc i
+    more = omega arith
+
+append-none : (xs : List ℕ) → xs ++ [] ≡ xs
+append-none [] = refl
+append-none (x ∷ xs) = ap (λ ys. x ∷ ys) (append-none xs)
+
+pub flat-all : (s : Store) (ws ms : List ℕ) (i : ℕ) → IsFlatTo s ws ms i → length ws ≤ i → IsFlat s ws ms
+flat-all s ws ms i t l = subst (IsFlat s ws) (append-none ms) (t.rest [] (subst (λ xs. IsFlat s xs []) (sym (drop-end ws i l)) (flat-none s)))
+
+-- the item at a place
+pub item-sorted : (s : Store) (ws : List ℕ) (i w : ℕ) → IsTrue (is_label s ws) → slice_get ws i ≡ Some w → IsTrue (has_label_sort_at s w)
+item-sorted s ws i w h e = all-at (has_label_sort_at s) ws i w h e
+
+pub item-clean : (s : Store) (ws : List ℕ) (i w : ℕ) → HasNoString s ws → slice_get ws i ≡ Some w → HasNoStringIn s w
+item-clean s ws i w h e v o c = h v i w o e c

@@ -1,0 +1,40 @@
+-- Items of lists by their places.
+use Rattle.std.proofs.Common.{◌≡◌, ℕ, zero, suc, ◌<◌, ◌≤◌, List, [], ◌∷◌, ◌++◌, drop, length, Bool, IsTrue, refl, ap, ◌∙◌, Option, None, Some, slice_get, arith}
+use Rattle.std.specs.List.{list_all, flat_map}
+use Rattle.std.proofs.lemmas.Bool.{and_parts}
+
+-- the items from a place on begin with the item there
+pub drop-there : {A : Type 0} (xs : List A) (i : ℕ) (x : A) → slice_get xs i ≡ Some x → drop i xs ≡ x ∷ drop (suc i) xs
+drop-there [] i x e = let q : None ≡ Some x = e in cc q
+drop-there (y ∷ xs) zero x e = let q : y ≡ x = cc e in ap (λ z. z ∷ xs) q
+drop-there (y ∷ xs) (suc i) x e = drop-there xs i x e
+
+-- nothing is from the end on
+pub drop-end : {A : Type 0} (xs : List A) (i : ℕ) → length xs ≤ i → drop i xs ≡ []
+drop-end [] zero l = refl
+drop-end [] (suc i) l = refl
+drop-end (y ∷ xs) zero l = absurd (omega (arith, l))
+drop-end (y ∷ xs) (suc i) l = drop-end xs i (omega (arith, l))
+
+pub all-drop : {A : Type 0} (p : A → Bool) (i : ℕ) (xs : List A) → IsTrue (list_all p xs) → IsTrue (list_all p (drop i xs))
+all-drop p zero xs h = h
+all-drop p (suc i) [] h = refl
+all-drop p (suc i) (x ∷ xs) h = all-drop p i xs (and_parts (p x) (list_all p xs) h).1
+
+-- an item of joined lists is an item of one of them, and conversely
+abbrev pub IsItem : ℕ → List ℕ → Type 0
+IsItem k xs = (i : ℕ) × (slice_get xs i ≡ Some k)
+
+pub item-left : (k : ℕ) (xs ys : List ℕ) → IsItem k xs → IsItem k (xs ++ ys)
+item-left k [] ys p = let z = p.1 in cc z
+item-left k (x ∷ xs) ys (zero, e) = (zero, e)
+item-left k (x ∷ xs) ys (suc i, e) = let q = item-left k xs ys (i, e) in (suc q.0, q.1)
+
+pub item-right : (k : ℕ) (xs ys : List ℕ) → IsItem k ys → IsItem k (xs ++ ys)
+item-right k [] ys p = p
+item-right k (x ∷ xs) ys p = let q = item-right k xs ys p in (suc q.0, q.1)
+
+pub item-flat : {A : Type 0} (f : A → List ℕ) (xs : List A) (j : ℕ) (x : A) (k : ℕ) → slice_get xs j ≡ Some x → IsItem k (f x) → IsItem k (flat_map f xs)
+item-flat f [] j x k e p = cc e
+item-flat f (y ∷ ys) zero x k e p = let q : y ≡ x = cc e in item-left k (f y) (flat_map f ys) (p.0, ap (λ z. slice_get (f z) p.0) q ∙ p.1)
+item-flat f (y ∷ ys) (suc j) x k e p = item-right k (f y) (flat_map f ys) (item-flat f ys j x k e p)

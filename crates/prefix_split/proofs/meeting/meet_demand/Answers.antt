@@ -1,0 +1,82 @@
+use Rattle.std.proofs.Common.{◌∙◌, ap₂, arith, subst, sym}
+use Rattle.calculus.specs.Systems.{AreEqual, IsDemandEquation}
+use Rattle.term_store.specs.Asking.{Asks}
+use Rattle.term_store.specs.SystemView.{the_equation, the_system}
+use Rattle.search_theory.specs.Solving.{CannotEqual, IsNarrowed}
+use Rattle.prefix_split.specs.Flat.{equated}
+use Rattle.prefix_split.specs.Later.{HasNoString}
+use Rattle.prefix_split.proofs.LaterLaws.{later-both}
+use Rattle.prefix_split.proofs.MeetingLaws.{fewer-open, forced-added, meeting-added, meeting-never, meeting-next, open-later, sides-free, system-later}
+use Rattle.prefix_split.proofs.meeting.meet_demand.Goals as goal
+
+pub next-requires-clause-fits : goal.next-requires-clause-fits
+next-requires-clause-fits g c = system-later c.args.store.now.store c.loop-e.store.store (the_system c.args.system.now) c.loop-e.invariant.meeting.later c.requires.fits
+
+pub next-requires-clause-no_string : goal.next-requires-clause-no_string
+next-requires-clause-no_string g c = open-later c.args.store.now.store c.loop-e.store.store (the_system c.args.system.now) c.loop-e.invariant.meeting.later c.requires.fits c.requires.free
+
+pub make_equal-requires-clause-free_left : goal.make_equal-requires-clause-free_left
+make_equal-requires-clause-free_left g c =
+    let t = c.next.new.store.store in
+    let y = the_system c.args.system.now in
+    let d : IsDemandEquation (Asks (g.M.Demand.holds_for c.loop-e.more)) t y (the_equation c.in-Some.e) = rw c.in-Some.is at c.in_ok-e.ensures.equation in
+    subst (HasNoString t) (sym c.items.ensures) (sides-free (Asks (g.M.Demand.holds_for c.loop-e.more)) t y (the_equation c.in-Some.e) d).0
+
+pub make_equal-requires-clause-free_right : goal.make_equal-requires-clause-free_right
+make_equal-requires-clause-free_right g c =
+    let t = c.next.new.store.store in
+    let y = the_system c.args.system.now in
+    let d : IsDemandEquation (Asks (g.M.Demand.holds_for c.loop-e.more)) t y (the_equation c.in-Some.e) = rw c.in-Some.is at c.in_ok-e.ensures.equation in
+    subst (HasNoString t) (sym c.items-in-Some.ensures) (sides-free (Asks (g.M.Demand.holds_for c.loop-e.more)) t y (the_equation c.in-Some.e) d).1
+
+pub returns-in_err-make_equal-clause-later : goal.returns-in_err-make_equal-clause-later
+returns-in_err-make_equal-clause-later g c =
+    let m = meeting-added (Asks (g.M.Demand.holds_for c.args.more.now)) (the_system c.args.system.now) c.args.store.now.store c.loop-e.store.store c.next.new.store.store c.loop-e.invariant.meeting c.next.ensures.adds in
+    later-both c.args.store.now.store c.next.new.store.store c.make_equal.new.store.store m.later c.make_equal.ensures.later
+
+pub returns-then-not-branch-clause-never : goal.returns-then-not-branch-clause-never
+returns-then-not-branch-clause-never g c = λ q.
+    let t = c.next.new.store.store in
+    let y = the_system c.args.system.now in
+    let d : IsDemandEquation (Asks (g.M.Demand.holds_for c.loop-e.more)) t y (the_equation c.in-Some.e) = rw c.in-Some.is at c.in_ok-e.ensures.equation in
+    let m = meeting-added (Asks (g.M.Demand.holds_for c.args.more.now)) y c.args.store.now.store c.loop-e.store.store t c.loop-e.invariant.meeting c.next.ensures.adds in
+    meeting-never (Asks (g.M.Demand.holds_for c.args.more.now)) y c.args.store.now.store t (the_equation c.in-Some.e) c.requires.fits m
+    (subst (λ f. IsDemandEquation (Asks f) t y (the_equation c.in-Some.e)) c.loop-e.invariant.same d)
+    (subst (CannotEqual t) (ap₂ equated c.items.ensures c.items-in-Some.ensures) (c.in_ok-make_equal.ensures.never c.if-not-branch.true))
+
+pub returns-then-not-branch-clause-later : goal.returns-then-not-branch-clause-later
+returns-then-not-branch-clause-later g c =
+    let m = meeting-added (Asks (g.M.Demand.holds_for c.args.more.now)) (the_system c.args.system.now) c.args.store.now.store c.loop-e.store.store c.next.new.store.store c.loop-e.invariant.meeting c.next.ensures.adds in
+    later-both c.args.store.now.store c.next.new.store.store c.make_equal.new.store.store m.later c.make_equal.ensures.later
+
+pub loop-e-smaller : goal.loop-e-smaller
+loop-e-smaller g c =
+    let t = c.next.new.store.store in
+    let y = the_system c.args.system.now in
+    let d : IsDemandEquation (Asks (g.M.Demand.holds_for c.loop-e.more)) t y (the_equation c.in-Some.e) = rw c.in-Some.is at c.in_ok-e.ensures.equation in
+    fewer-open c.loop-e.store.store t c.make_equal.new.store.store (the_equation c.in-Some.e) c.next.ensures.adds c.make_equal.ensures.binds
+    (subst (λ x. IsNarrowed t c.make_equal.new.store.store (λ σ. AreEqual σ x)) (ap₂ equated c.items.ensures c.items-in-Some.ensures) (c.in_ok-make_equal.ensures.made c.if-not-branch.false)) d.unequal
+
+pub loop-e-preserved : goal.loop-e-preserved
+loop-e-preserved g c =
+    let t = c.next.new.store.store in
+    let y = the_system c.args.system.now in
+    let d : IsDemandEquation (Asks (g.M.Demand.holds_for c.loop-e.more)) t y (the_equation c.in-Some.e) = rw c.in-Some.is at c.in_ok-e.ensures.equation in
+    let m = meeting-added (Asks (g.M.Demand.holds_for c.args.more.now)) y c.args.store.now.store c.loop-e.store.store t c.loop-e.invariant.meeting c.next.ensures.adds in
+    let a = c.loop-e.invariant.room in
+    let b = c.next.ensures.room in
+    let k = c.make_equal.ensures.room in
+    record {
+      meeting = meeting-next (Asks (g.M.Demand.holds_for c.args.more.now)) y c.args.store.now.store t c.make_equal.new.store.store (the_equation c.in-Some.e) c.requires.fits m
+          (subst (λ f. IsDemandEquation (Asks f) t y (the_equation c.in-Some.e)) c.loop-e.invariant.same d)
+          (subst (λ x. IsNarrowed t c.make_equal.new.store.store (λ σ. AreEqual σ x)) (ap₂ equated c.items.ensures c.items-in-Some.ensures) (c.in_ok-make_equal.ensures.made c.if-not-branch.false)) c.make_equal.ensures.later;
+      same = c.next.ensures.same ∙ c.loop-e.invariant.same;
+      same_common = c.next.ensures.same_common ∙ c.loop-e.invariant.same_common;
+      room = (omega (arith, a, b, k), omega (arith, a, b, k));
+    }
+
+pub returns-clause-forced : goal.returns-clause-forced
+returns-clause-forced g c = λ q. forced-added (Asks (g.M.Demand.holds_for c.args.more.now)) (the_system c.args.system.now) c.args.store.now.store c.loop-e.store.store c.next.new.store.store c.loop-e.invariant.meeting.forced c.next.ensures.adds
+
+pub returns-clause-later : goal.returns-clause-later
+returns-clause-later g c = (meeting-added (Asks (g.M.Demand.holds_for c.args.more.now)) (the_system c.args.system.now) c.args.store.now.store c.loop-e.store.store c.next.new.store.store c.loop-e.invariant.meeting c.next.ensures.adds).later

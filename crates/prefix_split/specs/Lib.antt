@@ -1,0 +1,14 @@
+-- what each step keeps of a store
+pub mod Later
+-- lengths of strings
+pub mod Giving
+-- labels as lists of marks
+pub mod Flat
+-- cells, labels and goals that are the same
+pub mod Same
+-- what meeting a demand does
+pub mod Meeting
+-- one list of lengths
+pub mod Trying
+-- what the tests hand over
+pub mod Examples

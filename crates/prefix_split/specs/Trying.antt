@@ -1,0 +1,9 @@
+-- One list of lengths.
+use Rattle.std.specs.Prelude.{ℕ, List}
+use Rattle.std.specs.List.{AllByRecursion}
+use Rattle.calculus.specs.Stores.{Solution}
+use Rattle.calculus.specs.Systems.{System, AreEqual, HaveLengths}
+
+-- the strings have these lengths, and the equations hold
+abbrev pub IsSetTo : System → List ℕ → Solution → Type 0
+IsSetTo y ns σ = HaveLengths σ y.strings ns × AllByRecursion (AreEqual σ) y.equations

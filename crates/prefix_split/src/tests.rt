@@ -1,0 +1,54 @@
+//! A system that asks nothing.
+
+ghost use Rattle.std.specs.Prelude.{◌≡◌, true};
+ghost use Rattle.term_store.specs.SystemView.{the_system};
+ghost use Rattle.prefix_split.specs.Examples.{any_uses, nothing_asked};
+
+use super::*;
+use calculus::setting::Logic;
+use cop_base::NoMemory;
+use std::alloc::Global;
+use std::test::Fail;
+use term_store::{Demand, Equation, EquationList, GammaList, PairList, RefList, Store, System};
+
+// Asks nothing of gamma terms.
+#[derive(Drop)]
+struct NoCondition {}
+
+impl Demand for NoCondition {
+    ghost holds_for = { λ d. any_uses };
+
+    ghost common = { λ d. true };
+
+    fn next(&mut self, store: &mut Store, _system: &System) -> Result<Option<Equation>, NoMemory> {
+        let _now = store.mark();
+        Ok(None)
+    }
+}
+
+fn system(alloc: Global) -> System
+    ensures { the_system result ≡ nothing_asked }
+{
+    System {
+        equations: EquationList::new(alloc),
+        strings: RefList::new(alloc),
+        pis: 0,
+        gammas: GammaList::new(alloc),
+        pairs: PairList::new(alloc),
+    }
+}
+
+// Whether the system that asks nothing has a solution.
+fn is_solved(alloc: Global) -> Result<bool, NoMemory> {
+    let system = system(alloc);
+    let mut store = Store::new(alloc)?;
+    let mut demand = NoCondition {};
+    let found = solve_lengths(alloc, &mut store, Logic::D, &system, &mut demand, &[])?;
+    Ok(found)
+}
+
+#[test]
+fn nothing_asked_is_solved(rt: HostRuntime) -> Result<(), Fail> {
+    assert!(rt; is_solved(rt.alloc())?);
+    Ok(())
+}
