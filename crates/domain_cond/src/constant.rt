@@ -8,7 +8,8 @@ ghost use Rattle.calculus.specs.Skolem.{common_spares};
 
 use cop_base::NoMemory;
 use logic_rules::Problem;
-use term_store::{Demand, Equation, Store, System};
+use std::alloc::Global;
+use term_store::{Demand, Equation, HomeList, Store, System};
 
 /// Constant domains ask nothing: each term may stand at each label.
 #[derive(Drop)]
@@ -35,5 +36,14 @@ impl Demand for ConstantDemand<'_> {
     fn next(&mut self, store: &mut Store, _system: &System) -> Result<Option<Equation>, NoMemory> {
         let _now = store.mark();
         Ok(None)
+    }
+
+    fn homes(
+        &self,
+        alloc: Global,
+        _store: &mut Store,
+        _system: &System,
+    ) -> Result<HomeList, NoMemory> {
+        Ok(HomeList::new(alloc))
     }
 }

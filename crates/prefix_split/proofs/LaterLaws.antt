@@ -10,6 +10,7 @@ use Rattle.calculus.proofs.BindingLaws.{KeepsMarks-both, KeepsMarks-same, has_so
 use Rattle.calculus.proofs.PatternLaws.{Grows-built, KeepsMarks-built, grown-cell, grown-sort}
 use Rattle.calculus.proofs.PlaceLists.{get-there, get-within}
 use Rattle.search_theory.proofs.BuildingLaws.{adds-longer}
+use Rattle.term_unify.proofs.FlatLaws.{no_string-part}
 use Rattle.prefix_split.specs.Later.{IsBuiltString, HasNoStringIn, IsLater}
 
 some-same : {A : Type 0} (o : Option A) (x y : A) → o ≡ Some x → o ≡ Some y → x ≡ y
@@ -148,14 +149,6 @@ later-targets s t b free marks = record {
   ];
   marks = marks;
 }
-
--- what occurs in a cell without unbound strings is such a cell
-pub no_string-part : (s : Store) (a k : ℕ) → HasNoStringIn s a → OccursIn s k a → HasNoStringIn s k
-no_string-part s a k h o v e w = h v e (join a o w)
-  where
-    join : (a : ℕ) → OccursIn s k a → OccursIn s v k → OccursIn s v a
-    join a here w = w
-    join a (in_part i e p more) w = in_part i e p (join _ more w)
 
 -- two cells without unbound strings were unified
 pub later-unified : (s t : Store) (a b : ℕ) → BindsOnly s t → BindsWithin a b s t → HasNoStringIn s a → HasNoStringIn s b → KeepsMarks s t → IsLater s t

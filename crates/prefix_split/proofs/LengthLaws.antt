@@ -15,6 +15,7 @@ use Rattle.calculus.proofs.PlaceLists.{all-at, get-end, get-last, get-there, get
 use Rattle.calculus.proofs.SolutionLaws.{Solves-bound, Solves-unbound, ends-same}
 use Rattle.term_store.proofs.MarkLaws.{length-marks, variables-fit}
 use Rattle.term_unify.proofs.PairLaws.{BindsOnly-with_binding, told}
+pub use Rattle.term_unify.proofs.FlatLaws.{ends-sorted}
 use Rattle.search_theory.specs.Solving.{CannotHave, IsNarrowed}
 use Rattle.search_theory.specs.Steps.{IsUnified}
 use Rattle.search_theory.proofs.BelowLaws.{all-weaken}
@@ -190,13 +191,6 @@ pub given-bound : (n : ℕ) (s : Store) (r v : ℕ) → IsTrue (is_store s) → 
 given-bound n s r v h ends e l = subst (λ p. IsGiven s (with_binding v p (with_string n s)) r n) (top-is n s) (given-top n s r v h ends e l)
 
 -- ---- a string that is built
-
-pub ends-sorted : (s : Store) (sort : Sort) (r v : ℕ) → IsTrue (is_store s) → EndsAt s r v → IsTrue (has_sort_at s sort r) → IsTrue (has_sort_at s sort v)
-ends-sorted s sort r v h (stays e b) k = k
-ends-sorted s sort r v h (goes_on {k = j} {sort = x} e more) k =
-    let (c, f, q) = sorted_cell s sort r k in
-    let same : x ≡ sort = ap sort_of (some-same (slice_get s.cells r) (variable x (Some j)) c e f) ∙ q in
-    ends-sorted s sort j v h more (subst (λ y. IsTrue (has_sort_at s y j)) same ((kept s h).fits r (variable x (Some j)) e))
 
 pub sorted-within : (s : Store) (sort : Sort) (r : ℕ) → IsTrue (has_sort_at s sort r) → r < length s.cells
 sorted-within s sort r h = let (c, e, q) = sorted_cell s sort r h in get-within s.cells r c e

@@ -1,7 +1,6 @@
 pub mod ListItems
 pub mod LaterLaws
 pub mod LengthLaws
-pub mod FlatLaws
 pub mod EqualLaws
 pub mod SameLaws
 pub mod MeetingLaws

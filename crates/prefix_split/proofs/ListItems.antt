@@ -1,20 +1,8 @@
 -- Items of lists by their places.
-use Rattle.std.proofs.Common.{◌≡◌, ℕ, zero, suc, ◌<◌, ◌≤◌, List, [], ◌∷◌, ◌++◌, drop, length, Bool, IsTrue, refl, ap, ◌∙◌, Option, None, Some, slice_get, arith}
+use Rattle.std.proofs.Common.{◌≡◌, ℕ, zero, suc, List, [], ◌∷◌, ◌++◌, drop, Bool, IsTrue, refl, ap, ◌∙◌, Some, slice_get}
 use Rattle.std.specs.List.{list_all, flat_map}
 use Rattle.std.proofs.lemmas.Bool.{and_parts}
-
--- the items from a place on begin with the item there
-pub drop-there : {A : Type 0} (xs : List A) (i : ℕ) (x : A) → slice_get xs i ≡ Some x → drop i xs ≡ x ∷ drop (suc i) xs
-drop-there [] i x e = let q : None ≡ Some x = e in cc q
-drop-there (y ∷ xs) zero x e = let q : y ≡ x = cc e in ap (λ z. z ∷ xs) q
-drop-there (y ∷ xs) (suc i) x e = drop-there xs i x e
-
--- nothing is from the end on
-pub drop-end : {A : Type 0} (xs : List A) (i : ℕ) → length xs ≤ i → drop i xs ≡ []
-drop-end [] zero l = refl
-drop-end [] (suc i) l = refl
-drop-end (y ∷ xs) zero l = absurd (omega (arith, l))
-drop-end (y ∷ xs) (suc i) l = drop-end xs i (omega (arith, l))
+pub use Rattle.term_unify.proofs.ListItems.{drop-end, drop-there}
 
 pub all-drop : {A : Type 0} (p : A → Bool) (i : ℕ) (xs : List A) → IsTrue (list_all p xs) → IsTrue (list_all p (drop i xs))
 all-drop p zero xs h = h

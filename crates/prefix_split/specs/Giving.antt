@@ -2,18 +2,16 @@
 use Rattle.std.specs.Prelude.{◌≡◌, ℕ, List, length, Some, None, slice_get}
 use Rattle.calculus.specs.declared.sort.Sort.TheVariants.{StringSort}
 use Rattle.calculus.specs.Ground.{GroundMark}
-use Rattle.calculus.specs.Stores.{Store, variable, string_cell, Solution, a_string}
+use Rattle.calculus.specs.Stores.{Store, variable, Solution, a_string}
 use Rattle.search_theory.specs.Solving.{IsNarrowed}
 use Rattle.prefix_split.specs.Later.{IsBuiltString}
+pub use Rattle.term_unify.specs.Flat.{IsBuiltEnd}
 
 abbrev pub HasLength : Solution → ℕ → ℕ → Type 0
 HasLength σ r n = (w : List GroundMark) × (σ r ≡ a_string w) × (length w ≡ n)
 
 abbrev pub IsUnboundString : Store → ℕ → Type 0
 IsUnboundString s v = slice_get s.cells v ≡ Some (variable StringSort None)
-
-abbrev pub IsBuiltEnd : Store → ℕ → Type 0
-IsBuiltEnd s v = (rs : List ℕ) × (slice_get s.cells v ≡ Some (string_cell rs))
 
 -- the new store is the old one with this length for the string
 pub record IsGiven (old new : Store) (r n : ℕ) : Type 0 where

@@ -4,18 +4,11 @@ use Rattle.calculus.specs.declared.sort.Sort.{Sort}
 use Rattle.calculus.specs.Bindings.{KeepsMarks}
 use Rattle.calculus.specs.Stores.{Store, variable, string_cell, has_sort_at, OccursIn, EndsAt}
 use Rattle.calculus.specs.Systems.{IsOpenString}
+pub use Rattle.term_unify.specs.Flat.{HasNoString, HasNoStringIn}
 
 -- the bindings of the cell end at a built string
 abbrev pub IsBuiltString : Store → ℕ → Type 0
 IsBuiltString s r = (v : ℕ) × (rs : List ℕ) × EndsAt s r v × (slice_get s.cells v ≡ Some (string_cell rs))
-
--- no unbound string occurs in the cell
-abbrev pub HasNoStringIn : Store → ℕ → Type 0
-HasNoStringIn s r = (v : ℕ) → IsOpenString s v → ¬ OccursIn s v r
-
--- nor in the cells of the list
-abbrev pub HasNoString : Store → List ℕ → Type 0
-HasNoString s rs = (v i r : ℕ) → IsOpenString s v → slice_get rs i ≡ Some r → ¬ OccursIn s v r
 
 -- cells have the sorts that they had, bindings and built strings stay, and an unbound string that occurs in an old cell occurred there before
 pub record IsLater (old new : Store) : Type 0 where

@@ -2,9 +2,9 @@
 pub mod Later
 -- lengths of strings
 pub mod Giving
--- labels as lists of marks
-pub mod Flat
--- cells, labels and goals that are the same
+-- equations of two labels
+pub mod Equated
+-- goals that are the same
 pub mod Same
 -- what meeting a demand does
 pub mod Meeting

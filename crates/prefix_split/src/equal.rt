@@ -12,15 +12,14 @@ ghost use Rattle.search_theory.proofs.GivingLaws.{NeverSame, SameMarks};
 ghost use Rattle.term_store.specs.RefView.{the_place};
 ghost use Rattle.term_store.specs.Room.{KeepsRoom};
 ghost use Rattle.term_store.specs.SystemView.{the_equation};
-ghost use Rattle.prefix_split.specs.Flat.{equated};
+ghost use Rattle.prefix_split.specs.Equated.{equated};
 ghost use Rattle.prefix_split.specs.Later.{HasNoString, IsLater};
 
-use crate::flat::flat_label;
 use crate::places::{equation_at, reference_at};
 use cop_base::NoMemory;
 use std::alloc::Global;
 use term_store::{Equation, Ref, Store};
-use term_unify::Unifier;
+use term_unify::{Unifier, flat_label};
 
 // Binds so that the marks are the same. Where they cannot be, some bindings may be left.
 fn unify_marks(

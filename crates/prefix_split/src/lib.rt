@@ -2,7 +2,6 @@
 #![tactic(auto)]
 
 mod equal;
-mod flat;
 mod lengths;
 mod meeting;
 mod places;

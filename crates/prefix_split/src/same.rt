@@ -1,25 +1,22 @@
 //! Goals of one branch that the bindings make the same.
 
 ghost use Rattle.std.specs.Prelude.{◌≡◌, ℕ, List, Some, IfOk, IsTrue, false};
-ghost use Rattle.std.specs.Prelude.{length, map, slice_get, true};
+ghost use Rattle.std.specs.Prelude.{map, slice_get, true};
 ghost use Rattle.std.specs.List.{AllByRecursion, list_all};
 ghost use Rattle.calculus.specs.Equality.{sign_eq};
-ghost use Rattle.calculus.specs.Stores.{Solution, Solves, names_below};
-ghost use Rattle.calculus.specs.Systems.{is_cell_atom, is_label, is_pair};
+ghost use Rattle.calculus.specs.Systems.{is_cell_atom, is_pair};
 ghost use Rattle.calculus.specs.Systems as tree;
 ghost use Rattle.search_theory.specs.Regular.{AreSame};
 ghost use Rattle.term_store.specs.ClauseView.{the_atom};
-ghost use Rattle.term_store.specs.RefView.{the_place};
 ghost use Rattle.term_store.specs.SystemView.{the_pair};
 ghost use Rattle.prefix_split.specs.Later.{HasNoString};
-ghost use Rattle.prefix_split.specs.Same.{AreSameCells, AreSameLabels, DifferAt, DifferNow};
+ghost use Rattle.prefix_split.specs.Same.{DifferNow};
 
-use crate::flat::flat_label;
-use crate::places::{pair_at, reference_at};
+use crate::places::pair_at;
 use cop_base::NoMemory;
 use std::alloc::Global;
-use term_store::{CellAtom, Ref, Sign, Store};
-use term_unify::Unifier;
+use term_store::{CellAtom, Sign, Store};
+use term_unify::{Unifier, are_same_cells, are_same_labels};
 
 fn are_same_sign(a: Sign, b: Sign) -> bool
     ensures { result ≡ sign_eq a b }
@@ -28,55 +25,6 @@ fn are_same_sign(a: Sign, b: Sign) -> bool
         (Sign::T, Sign::T) | (Sign::F, Sign::F) => true,
         (Sign::T, Sign::F) | (Sign::F, Sign::T) => false,
     }
-}
-
-// Whether the bindings make the cells of both lists equal, one by one.
-fn are_same_cells(
-    unifier: &mut Unifier,
-    store: &Store,
-    xs: &[Ref],
-    ys: &[Ref],
-) -> Result<bool, NoMemory>
-    requires left { IsTrue (names_below (length store.now.store.cells) (map the_place xs.now)) }
-    requires right { IsTrue (names_below (length store.now.store.cells) (map the_place ys.now)) }
-    ensures same { IfOk result (λ same. same ≡ true
-        → AreSameCells store.now.store (map the_place xs.now) (map the_place ys.now)) }
-    ensures different { IfOk result (λ same. same ≡ false
-        → DifferAt store.now.store (map the_place xs.now) (map the_place ys.now)) }
-{
-    if xs.len() != ys.len() {
-        return Ok(false);
-    }
-    for i in 0..xs.len() {
-        if !unifier.are_same(store, reference_at(xs, i), reference_at(ys, i))? {
-            return Ok(false);
-        }
-    }
-    Ok(true)
-}
-
-// Whether the bindings make both labels equal.
-fn are_same_labels(
-    alloc: Global,
-    unifier: &mut Unifier,
-    store: &Store,
-    left: &[Ref],
-    right: &[Ref],
-) -> Result<bool, NoMemory>
-    requires left { IsTrue (is_label store.now.store (map the_place left.now)) }
-    requires right { IsTrue (is_label store.now.store (map the_place right.now)) }
-    requires free_left { HasNoString store.now.store (map the_place left.now) }
-    requires free_right { HasNoString store.now.store (map the_place right.now) }
-    ensures same { IfOk result (λ same. same ≡ true
-        → AreSameLabels store.now.store (map the_place left.now) (map the_place right.now)) }
-    ensures different { IfOk result (λ same. same ≡ false
-        → ¬ AreSameLabels store.now.store (map the_place left.now) (map the_place right.now)) }
-{
-    let _now = store.mark();
-    let xs = flat_label(alloc, store, left)?;
-    let ys = flat_label(alloc, store, right)?;
-    let same = are_same_cells(unifier, store, &xs, &ys)?;
-    Ok(same)
 }
 
 // Whether the bindings make the two the same signed atom at one label.

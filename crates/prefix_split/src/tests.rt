@@ -9,7 +9,9 @@ use calculus::setting::Logic;
 use cop_base::NoMemory;
 use std::alloc::Global;
 use std::test::Fail;
-use term_store::{Demand, Equation, EquationList, GammaList, PairList, RefList, Store, System};
+use term_store::{
+    Demand, Equation, EquationList, GammaList, HomeList, PairList, RefList, Store, System,
+};
 
 // Asks nothing of gamma terms.
 #[derive(Drop)]
@@ -23,6 +25,15 @@ impl Demand for NoCondition {
     fn next(&mut self, store: &mut Store, _system: &System) -> Result<Option<Equation>, NoMemory> {
         let _now = store.mark();
         Ok(None)
+    }
+
+    fn homes(
+        &self,
+        alloc: Global,
+        _store: &mut Store,
+        _system: &System,
+    ) -> Result<HomeList, NoMemory> {
+        Ok(HomeList::new(alloc))
     }
 }
 

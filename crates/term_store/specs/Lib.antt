@@ -14,3 +14,7 @@ pub mod TemplateView
 pub mod SystemView
 pub mod Asking
 pub mod Signatures
+-- labels that are beginnings of others
+pub mod Homes
+-- those of the program
+pub mod HomeView

@@ -3,15 +3,20 @@
 ghost use Rattle.std.specs.Prelude.{◌≡◌, Bool, IfOk, IfSome, IsTrue, List, None, OnErr};
 ghost use Rattle.calculus.specs.Bindings.{AddsBuilt, KeepsMarks};
 ghost use Rattle.calculus.specs.Instances as instances;
+ghost use Rattle.calculus.specs.Stores.{Solution, Solves};
 ghost use Rattle.calculus.specs.Systems.{HasBuiltStrings, HasNoOpenString, IsDemandEquation};
-ghost use Rattle.calculus.specs.Systems.{OwnSparesMeet, is_system};
+ghost use Rattle.calculus.specs.Systems.{MeetsDemand, OwnSparesMeet, is_system};
+ghost use Rattle.std.specs.List.{AllByRecursion, list_all};
 ghost use Rattle.term_store.specs.Asking.{Asks};
+ghost use Rattle.term_store.specs.Homes.{BeginsLabel, is_home};
 ghost use Rattle.term_store.specs.Room.{KeepsRoom};
 ghost use Rattle.term_store.specs.SystemView.{the_equation, the_system};
 
+use crate::home::HomeList;
 use crate::store::Store;
 use crate::system::{Equation, System};
 use cop_base::NoMemory;
+use std::alloc::Global;
 
 /// A condition on gamma terms and their labels, told by equations between labels, one at a time.
 pub trait Demand {
@@ -38,4 +43,22 @@ pub trait Demand {
         ensures room { KeepsRoom store.old store.new }
         ensures same { holds_for self.new ≡ holds_for self.old }
         ensures same_common { common self.new ≡ common self.old };
+
+    /// The labels that the condition forces to be beginnings of others, whatever the strings are.
+    /// It may add built cells, and binds nothing. Want of memory leaves the store as it was.
+    fn homes(
+        &self,
+        alloc: Global,
+        store: &mut Store,
+        system: &System,
+    ) -> Result<HomeList, NoMemory>
+        requires fits { IsTrue (is_system store.old.store (the_system system.now)) }
+        ensures labels { IfOk result (λ hs. IsTrue (list_all (is_home store.new.store) hs)) }
+        ensures forced { IfOk result (λ hs. (σ : Solution) → Solves store.new.store σ
+            → MeetsDemand (Asks (holds_for self.now)) (the_system system.now) σ
+            → AllByRecursion (BeginsLabel σ) hs) }
+        ensures adds { AddsBuilt store.old.store store.new.store }
+        ensures err { OnErr result (store.new.store ≡ store.old.store) }
+        ensures marks { KeepsMarks store.old.store store.new.store }
+        ensures room { KeepsRoom store.old store.new };
 }

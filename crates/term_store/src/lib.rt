@@ -8,6 +8,7 @@ mod copy;
 mod copy_clause;
 mod copy_lists;
 mod demand;
+mod home;
 mod pattern;
 mod slots;
 mod store;
@@ -23,6 +24,7 @@ pub use clause::{
     PatternAtomList, PatternGamma, PatternGammaList, Prefix, RefList, SortList, Template,
 };
 pub use demand::Demand;
+pub use home::{Home, HomeList};
 pub use pattern::{Pattern, Patterns};
 pub use store::Store;
 pub use system::{Equation, EquationList, PairList, System};

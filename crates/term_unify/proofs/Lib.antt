@@ -4,3 +4,6 @@ pub mod OnePairLaws
 pub mod VisitLaws
 pub mod InnerLaws
 pub mod DoublingLaws
+pub mod ListItems
+pub mod FlatLaws
+pub mod SameLaws

@@ -1,3 +1,5 @@
 pub mod PairView
 pub mod Visits
 pub mod Steps
+pub mod Flat
+pub mod Same

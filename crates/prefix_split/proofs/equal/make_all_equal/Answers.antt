@@ -4,7 +4,7 @@ use Rattle.calculus.specs.Systems.{AreEqual, is_label}
 use Rattle.term_store.specs.RefView.{the_place}
 use Rattle.term_store.specs.SystemView.{the_equation}
 use Rattle.search_theory.specs.Solving.{CannotEqual, IsNarrowed}
-use Rattle.prefix_split.specs.Flat.{equated}
+use Rattle.prefix_split.specs.Equated.{equated}
 use Rattle.prefix_split.specs.Later.{HasNoString}
 use Rattle.prefix_split.proofs.EqualLaws.{equation-at, free-later, label-at, made-all, made-next, made-start, never-made}
 use Rattle.prefix_split.proofs.LaterLaws.{later-both}

@@ -6,7 +6,7 @@ use Rattle.search_theory.specs.Solving.{IsNarrowed}
 use Rattle.term_store.specs.RefView.{the_place}
 use Rattle.term_unify.proofs.PairLaws.{BindsOnly-same}
 use Rattle.search_theory.proofs.GivingLaws.{NeverSame, SameMarks, equation-made, equation-never}
-use Rattle.prefix_split.specs.Flat.{equated}
+use Rattle.prefix_split.specs.Equated.{equated}
 use Rattle.prefix_split.proofs.LaterLaws.{later-same}
 use Rattle.prefix_split.proofs.equal.make_equal.Goals as goal
 

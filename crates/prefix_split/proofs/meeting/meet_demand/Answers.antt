@@ -3,7 +3,7 @@ use Rattle.calculus.specs.Systems.{AreEqual, IsDemandEquation}
 use Rattle.term_store.specs.Asking.{Asks}
 use Rattle.term_store.specs.SystemView.{the_equation, the_system}
 use Rattle.search_theory.specs.Solving.{CannotEqual, IsNarrowed}
-use Rattle.prefix_split.specs.Flat.{equated}
+use Rattle.prefix_split.specs.Equated.{equated}
 use Rattle.prefix_split.specs.Later.{HasNoString}
 use Rattle.prefix_split.proofs.LaterLaws.{later-both}
 use Rattle.prefix_split.proofs.MeetingLaws.{fewer-open, forced-added, meeting-added, meeting-never, meeting-next, open-later, sides-free, system-later}

@@ -4,7 +4,7 @@ use Rattle.calculus.specs.Systems.{is_label}
 use Rattle.term_store.specs.ClauseView.{the_atom}
 use Rattle.term_store.specs.RefView.{the_place}
 use Rattle.prefix_split.specs.Later.{HasNoString}
-use Rattle.prefix_split.specs.Same.{AreSameCells, AreSameLabels, DifferAt}
+use Rattle.term_unify.specs.Same.{AreSameCells, AreSameLabels, DifferAt}
 use Rattle.prefix_split.proofs.SameLaws.{args-below, args-differ, atom-label, atoms-same, labels-apart, signs-differ, symbols-differ}
 use Rattle.prefix_split.proofs.same.are_same.Goals as goal
 

@@ -2,8 +2,8 @@ use Rattle.std.proofs.Common.{◌∷◌, [], ◌∙◌, ap, inl, inr, map, refl}
 use Rattle.calculus.proofs.BindingLaws.{ends-there}
 use Rattle.term_store.specs.RefView.{the_place}
 use Rattle.term_unify.proofs.PairLaws.{map-last}
-use Rattle.prefix_split.proofs.FlatLaws.{ends-free, ends-label}
-use Rattle.prefix_split.proofs.flat.push_flat.Goals as goal
+use Rattle.term_unify.proofs.FlatLaws.{ends-free, ends-label}
+use Rattle.term_unify.proofs.flat.push_flat.Goals as goal
 
 pub is_string-requires-clause-end : goal.is_string-requires-clause-end
 is_string-requires-clause-end c = ends-there c.args.store.now.store c.args.item.0 c.walk-end.result.0 c.walk-end.ensures.ends

@@ -1,11 +1,11 @@
 use Rattle.std.proofs.Common.{IsTrue, length, map, subst, sym}
 use Rattle.calculus.specs.Stores.{names_below}
-use Rattle.prefix_split.specs.Same.{AreSameCells, DifferAt}
+use Rattle.term_unify.specs.Same.{AreSameCells, DifferAt}
 use Rattle.calculus.specs.declared.sort.Sort.TheVariants.{MarkSort}
 use Rattle.term_store.specs.RefView.{the_place}
 use Rattle.search_theory.proofs.SolvingLaws.{all-below}
-use Rattle.prefix_split.proofs.SameLaws.{labels-differ, labels-same}
-use Rattle.prefix_split.proofs.same.are_same_labels.Goals as goal
+use Rattle.term_unify.proofs.SameLaws.{labels-differ, labels-same}
+use Rattle.term_unify.proofs.same.are_same_labels.Goals as goal
 
 pub are_same_cells-requires-clause-left : goal.are_same_cells-requires-clause-left
 are_same_cells-requires-clause-left c = subst (λ xs. IsTrue (names_below (length c.args.store.now.store.cells) (map the_place xs))) (sym c.deref.ensures.value) (all-below c.args.store.now.store MarkSort (map the_place c.in_ok-xs.xs.items) c.in_ok-xs.ensures.flat.sorted)

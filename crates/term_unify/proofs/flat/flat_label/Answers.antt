@@ -1,8 +1,8 @@
 use Rattle.std.proofs.Common.{◌≡◌, [], arith, map, subst, sym}
 use Rattle.std.proofs.lemmas.List.{length-map}
 use Rattle.term_store.specs.RefView.{the_place}
-use Rattle.prefix_split.proofs.FlatLaws.{IsFlatTo, flat-all, flat-more, flat-start, item-clean, item-sorted}
-use Rattle.prefix_split.proofs.flat.flat_label.Goals as goal
+use Rattle.term_unify.proofs.FlatLaws.{IsFlatTo, flat-all, flat-more, flat-start, item-clean, item-sorted}
+use Rattle.term_unify.proofs.flat.flat_label.Goals as goal
 
 pub loop-i-init : goal.loop-i-init
 loop-i-init c =

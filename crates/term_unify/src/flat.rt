@@ -1,20 +1,25 @@
 //! Labels as lists of marks.
 
-ghost use Rattle.std.specs.Prelude.{◌≡◌, ◌++◌, ℕ, List, IfOk, IsTrue, OnOk, false, map, true};
+ghost use Rattle.std.specs.Prelude.{◌≡◌, ◌<◌, ◌++◌, ℕ, List, IfOk, IsTrue, OnOk, Some, false};
+ghost use Rattle.std.specs.Prelude.{length, map, slice_get, true};
 ghost use Rattle.calculus.specs.declared.sort.Sort.TheVariants.{MarkSort};
 ghost use Rattle.calculus.specs.Bindings.{IsEnd};
 ghost use Rattle.calculus.specs.Stores.{has_sort_at};
 ghost use Rattle.calculus.specs.Systems.{has_label_sort_at, is_label};
 ghost use Rattle.search_theory.proofs.GivingLaws.{IsFlat};
 ghost use Rattle.term_store.specs.RefView.{the_place};
-ghost use Rattle.prefix_split.specs.Flat.{IsFlatItem, IsStringOf};
-ghost use Rattle.prefix_split.specs.Giving.{IsBuiltEnd};
-ghost use Rattle.prefix_split.specs.Later.{HasNoString, HasNoStringIn};
+ghost use Rattle.term_unify.specs.Flat.{HasNoString, HasNoStringIn, IsBuiltEnd, IsFlatItem, IsStringOf};
 
-use crate::places::reference_at;
 use cop_base::NoMemory;
 use std::alloc::Global;
 use term_store::{Head, Ref, Store};
+
+pub(crate) fn reference_at(refs: &[Ref], i: usize) -> Ref
+    requires { i < length refs.now }
+    ensures { slice_get (map the_place refs.now) i ≡ Some result.0 }
+{
+    refs[i]
+}
 
 // Whether a string stands at the end of bindings; otherwise it is a mark.
 fn is_string(store: &Store, end: Ref) -> bool
@@ -62,8 +67,8 @@ fn push_flat(store: &Store, item: Ref, marks: &mut Vec<Ref>) -> Result<(), NoMem
     Ok(())
 }
 
-// The label as a list of marks.
-pub(crate) fn flat_label(alloc: Global, store: &Store, label: &[Ref]) -> Result<Vec<Ref>, NoMemory>
+/// The label as a list of marks: strings give theirs. No unbound string may occur in it.
+pub fn flat_label(alloc: Global, store: &Store, label: &[Ref]) -> Result<Vec<Ref>, NoMemory>
     requires label { IsTrue (is_label store.now.store (map the_place label.now)) }
     requires free { HasNoString store.now.store (map the_place label.now) }
     ensures flat { IfOk result (λ marks. IsFlat store.now.store (map the_place label.now)

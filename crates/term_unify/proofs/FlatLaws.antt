@@ -1,27 +1,44 @@
 -- Labels become lists of marks item by item.
-use Rattle.std.proofs.Common.{◌≡◌, ◌⊎◌, ℕ, zero, suc, ◌+◌, ◌≤◌, List, [], ◌∷◌, ◌++◌, drop, length, map, Bool, true, false, ◌||◌, IsTrue, refl, sym, ◌∙◌, ap, subst, Option, None, Some, slice_get, inl, inr, arith, append_assoc}
+use Rattle.std.proofs.Common.{◌≡◌, ◌⊎◌, ℕ, zero, suc, ◌+◌, ◌≤◌, List, [], ◌∷◌, ◌++◌, drop, length, map, take, Bool, true, false, ◌||◌, IsTrue, refl, sym, ◌∙◌, ap, subst, Option, None, Some, slice_get, inl, inr, arith, append_assoc}
 use Rattle.std.specs.List.{list_all}
 use Rattle.std.proofs.lemmas.Bool.{false≢true}
 use Rattle.calculus.specs.declared.sort.Sort.{Sort}
 use Rattle.calculus.specs.declared.sort.Sort.TheVariants.{TermSort, MarkSort, StringSort}
 use Rattle.calculus.specs.Bindings.{EndsIn, IsEnd}
-use Rattle.calculus.specs.Stores.{Cell, Store, fun_cell, eigen_cell, new_cell, string_cell, variable, is_bound, has_sort_at, is_store, OccursIn, here, in_part, EndsAt, stays, goes_on, Solution, Solves, join_label, label_at}
+use Rattle.calculus.specs.Stores.{Cell, Store, fun_cell, eigen_cell, new_cell, string_cell, variable, parts_of, is_bound, sort_of, has_sort_at, is_store, OccursIn, here, in_part, EndsAt, stays, goes_on, Solution, Solves, join_label, label_at}
 use Rattle.calculus.specs.Systems.{has_label_sort_at, is_label, IsOpenString}
-use Rattle.calculus.proofs.BindingLaws.{has_sort-from}
+use Rattle.calculus.proofs.BindingLaws.{has_sort-from, kept, sorted_cell}
 use Rattle.calculus.proofs.PlaceLists.{all-at}
+use Rattle.term_store.specs.RefView.{the_place}
 use Rattle.term_store.specs.Shown.{head_of}
 use Rattle.term_store.specs.declared.cell.Head.{Head}
+use Rattle.term_store.specs.declared.cell.Ref.{Ref}
 use Rattle.term_store.specs.declared.cell.Head.TheVariants.{Open}
-use Rattle.term_unify.proofs.PairLaws.{told}
+use Rattle.term_unify.proofs.PairLaws.{map-last, take-more, told}
 use Rattle.search_theory.proofs.GivingLaws.{IsFlat, flat-mark, flat-none, flat-string, joined-mark, ends-same}
 use Rattle.search_theory.proofs.BuildingLaws.{solved-sorted}
-use Rattle.prefix_split.specs.Flat.{IsFlatItem, IsStringOf}
-use Rattle.prefix_split.specs.Later.{HasNoString, HasNoStringIn}
-use Rattle.prefix_split.proofs.LaterLaws.{no_string-part}
-use Rattle.prefix_split.proofs.LengthLaws.{ends-sorted}
-use Rattle.prefix_split.proofs.ListItems.{drop-end, drop-there}
+use Rattle.term_unify.specs.Flat.{HasNoString, HasNoStringIn, IsFlatItem, IsStringOf}
+use Rattle.term_unify.proofs.ListItems.{drop-end, drop-there}
 
 -- ---- where bindings end
+
+-- what occurs in a cell without unbound strings is such a cell
+pub no_string-part : (s : Store) (a k : ℕ) → HasNoStringIn s a → OccursIn s k a → HasNoStringIn s k
+no_string-part s a k h o v e w = h v e (join a o w)
+  where
+    join : (a : ℕ) → OccursIn s k a → OccursIn s v k → OccursIn s v a
+    join a here w = w
+    join a (in_part i e p more) w = in_part i e p (join _ more w)
+
+some-same : {A : Type 0} (o : Option A) (x y : A) → o ≡ Some x → o ≡ Some y → x ≡ y
+some-same o x y e f = let q : Some x ≡ Some y = sym e ∙ f in cc q
+
+pub ends-sorted : (s : Store) (sort : Sort) (r v : ℕ) → IsTrue (is_store s) → EndsAt s r v → IsTrue (has_sort_at s sort r) → IsTrue (has_sort_at s sort v)
+ends-sorted s sort r v h (stays e b) k = k
+ends-sorted s sort r v h (goes_on {k = j} {sort = x} e more) k =
+    let (c, f, q) = sorted_cell s sort r k in
+    let same : x ≡ sort = ap sort_of (some-same (slice_get s.cells r) (variable x (Some j)) c e f) ∙ q in
+    ends-sorted s sort j v h more (subst (λ y. IsTrue (has_sort_at s y j)) same ((kept s h).fits r (variable x (Some j)) e))
 
 pub ends-label : (s : Store) (r v : ℕ) → IsTrue (is_store s) → EndsAt s r v → IsTrue (has_label_sort_at s r) → IsTrue (has_label_sort_at s v)
 ends-label s r v h ends k = by (has_sort_at s MarkSort r) refl k
@@ -58,6 +75,14 @@ open-mark s v head sort (c, e, b) l free t q = by c e b (told s v c (λ d. head_
     by (eigen_cell g rs) f u h = cc h
     by (new_cell g rs) f u h = cc h
     by (string_cell rs) f u h = cc h
+
+-- ---- the marks of a string, one by one
+
+pub all-added : (s : Store) (r i : ℕ) (c : Cell) (ref : Ref) (items before : List Ref) → slice_get s.cells r ≡ Some c → IsEnd s r → EndsIn s r (λ d. slice_get (parts_of d) i ≡ Some ref.0) → map the_place items ≡ map the_place before ++ take i (parts_of c) → map the_place (items ++ ref ∷ []) ≡ map the_place before ++ take (i + 1) (parts_of c)
+all-added s r i c ref items before e end t h =
+    let b : is_bound c ≡ false = let q : end.0 ≡ c = let w : Some end.0 ≡ Some c = sym end.1 ∙ e in cc in ap is_bound (sym q) ∙ end.2 in
+    let at = told s r c (λ d. slice_get (parts_of d) i ≡ Some ref.0) e b t in
+    map-last the_place items ref ∙ ap (λ xs. xs ++ ref.0 ∷ []) h ∙ append_assoc (map the_place before) (take i (parts_of c)) (ref.0 ∷ []) ∙ ap (λ xs. map the_place before ++ xs) (sym (take-more i (parts_of c) ref.0 at))
 
 -- ---- one item
 

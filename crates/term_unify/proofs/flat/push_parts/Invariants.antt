@@ -2,7 +2,7 @@ use Rattle.std.proofs.Common.{◌≡◌, ◌++◌, Some, map, take}
 use Rattle.std.specs.Prelude.{slice_get}
 use Rattle.calculus.specs.Stores.{Cell, parts_of}
 use Rattle.term_store.specs.RefView.{the_place}
-use Rattle.prefix_split.proofs.flat.push_parts.Given as goal
+use Rattle.term_unify.proofs.flat.push_parts.Given as goal
 
 abbrev pub invariant-loop-i : goal.invariant-loop-i
 invariant-loop-i l = (c : Cell) → slice_get l.store.store.cells l.end.0 ≡ Some c

@@ -1,8 +1,8 @@
 use Rattle.std.proofs.Common.{arith, inl, inr, length, map}
 use Rattle.std.proofs.lemmas.List.{length-map}
 use Rattle.term_store.specs.RefView.{the_place}
-use Rattle.prefix_split.proofs.SameLaws.{mapped-differ, place-below, same-cells, same-next, same-start}
-use Rattle.prefix_split.proofs.same.are_same_cells.Goals as goal
+use Rattle.term_unify.proofs.SameLaws.{mapped-differ, place-below, same-cells, same-next, same-start}
+use Rattle.term_unify.proofs.same.are_same_cells.Goals as goal
 
 pub returns-then-xs-ys-clause-different : goal.returns-then-xs-ys-clause-different
 returns-then-xs-ys-clause-different c = λ e. inl (mapped-differ c.args.xs.now c.args.ys.now c.if-xs-ys.true)

@@ -1,13 +1,14 @@
 use Rattle.std.proofs.Common.{◌≡◌, ◌++◌, ◌∙◌, ap, arith, map, take}
 use Rattle.calculus.specs.Stores.{parts_of, string_cell}
 use Rattle.term_store.specs.RefView.{the_place}
-use Rattle.term_unify.proofs.PairLaws.{all-added, all-done}
-use Rattle.prefix_split.proofs.flat.push_parts.Goals as goal
+use Rattle.term_unify.proofs.FlatLaws.{all-added}
+use Rattle.term_unify.proofs.PairLaws.{all-done}
+use Rattle.term_unify.proofs.flat.push_parts.Goals as goal
 
 pub loop-i-preserved : goal.loop-i-preserved
 loop-i-preserved c = λ d e.
     ap (map the_place) c.in_ok-push.ensures.items
-    ∙ all-added c.args.store.now.store c.args.end.0 c.loop-i.i 0 d c.part.result c.loop-i.marks.items c.args.marks.now.items e c.requires c.part.ensures.part (c.loop-i.invariant d e)
+    ∙ all-added c.args.store.now.store c.args.end.0 c.loop-i.i d c.part.result c.loop-i.marks.items c.args.marks.now.items e c.requires c.part.ensures.part (c.loop-i.invariant d e)
 
 pub returns : goal.returns
 returns c = λ ks e.
