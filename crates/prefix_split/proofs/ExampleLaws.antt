@@ -1,9 +1,8 @@
 -- What the tests hand over.
-use Rattle.std.proofs.Common.{◌≡◌, suc, [], length, true, IsTrue, refl, sym, subst}
-use Rattle.calculus.specs.declared.setting.Logic.TheVariants.{D}
+use Rattle.std.proofs.Common.{◌≡◌, suc, length, true, IsTrue, refl, sym, subst}
 use Rattle.calculus.specs.Bindings.{IsWellFormed}
 use Rattle.calculus.specs.Stores.{Store}
-use Rattle.calculus.specs.Systems.{AreTried, NamesItsStrings, OwnSparesMeet, System, is_system}
+use Rattle.calculus.specs.Systems.{NamesItsStrings, OwnSparesMeet, System, is_system}
 use Rattle.calculus.proofs.BindingLaws.{HasNoCycle-rank}
 use Rattle.term_store.specs.Asking.{Asks}
 use Rattle.search_theory.proofs.DemandLaws.{homes-constant, met-common}
@@ -23,6 +22,3 @@ nothing-fits s y e = subst (λ z. IsTrue (is_system s z)) (sym e) refl
 
 pub nothing-named : (s : Store) (y : System) → y ≡ nothing_asked → NamesItsStrings s y
 nothing-named s y e = subst (NamesItsStrings s) (sym e) (λ v o w. (let q = w.2 in cc q))
-
-pub nothing-tried : (y : System) → y ≡ nothing_asked → AreTried D y []
-nothing-tried y e = subst (λ z. AreTried D z []) (sym e) refl

@@ -6,3 +6,5 @@ pub mod SameLaws
 pub mod MeetingLaws
 pub mod TryingLaws
 pub mod ExampleLaws
+pub mod LengthListLaws
+pub mod SearchLaws

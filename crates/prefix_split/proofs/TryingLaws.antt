@@ -1,14 +1,13 @@
 -- One list of lengths: what each step that fails shows, and what is found at the end.
-use Rattle.std.proofs.Common.{◌≡◌, ℕ, suc, ◌≤◌, List, [], ◌∷◌, length, Bool, true, false, not, ◌==◌, eqb-true, IsTrue, refl, sym, ◌∙◌, ap, subst, Option, Some, None, slice_get, arith}
-use Rattle.std.specs.List.{list_all, AllByRecursion}
-use Rattle.std.proofs.lemmas.Bool.{and_parts, false≢true}
+use Rattle.std.proofs.Common.{◌≡◌, ℕ, suc, List, [], ◌∷◌, length, Bool, true, false, not, IsTrue, refl, sym, ◌∙◌, ap, Option, Some, None, slice_get, arith}
+use Rattle.std.specs.List.{AllByRecursion}
+use Rattle.std.proofs.lemmas.Bool.{false≢true}
 use Rattle.calculus.specs.declared.setting.Logic.{Logic}
 use Rattle.calculus.specs.declared.sort.Sort.TheVariants.{StringSort}
 use Rattle.calculus.specs.Bindings.{IsWellFormed}
 use Rattle.calculus.specs.Instances.{GammaUse}
-use Rattle.calculus.specs.Stores.{Cell, variable, string_cell, Store, EndsAt, stays, goes_on, Solution, Solves}
-use Rattle.calculus.specs.Systems.{Equation, Pair, System, AreEqual, AreEqualNow, AreTried, HasBuiltStrings, HasNoOpenString, HasSolution, HaveLengths, IsOpenString, MeetsDemand, NamesItsStrings, OccursInSystem, OwnSparesMeet, OwnSparesSolve, bound_of, is_equation, is_system}
-use Rattle.calculus.specs.Space.{is_tried_length}
+use Rattle.calculus.specs.Stores.{variable, string_cell, Store, EndsAt, stays, goes_on, Solution, Solves}
+use Rattle.calculus.specs.Systems.{Equation, Pair, System, AreEqual, AreEqualNow, AreTried, HasBuiltStrings, HasNoOpenString, HasSolution, HaveLengths, IsOpenString, MeetsDemand, NamesItsStrings, OccursInSystem, OwnSparesMeet, OwnSparesSolve, is_system}
 use Rattle.calculus.proofs.BindingLaws.{HasNoCycle-rank, ends-once}
 use Rattle.search_theory.specs.Regular.{AreSame}
 use Rattle.search_theory.specs.Solving.{CannotHave, IsNarrowed, IsSolving}
@@ -16,7 +15,7 @@ use Rattle.search_theory.proofs.BuildingLaws.{agree-both}
 use Rattle.search_theory.proofs.RankLaws.{rank_of, ranked-by_no_cycle}
 use Rattle.search_theory.proofs.SolvingLaws.{carried, found, none-by_pair, system-cells, system-parts, system-set}
 use Rattle.search_theory.proofs.SystemCells.{pairs-in}
-use Rattle.prefix_split.specs.Later.{IsBuiltString, IsLater}
+use Rattle.prefix_split.specs.Later.{IsLater}
 use Rattle.prefix_split.specs.Meeting.{IsForced}
 use Rattle.prefix_split.specs.Same.{DifferNow}
 use Rattle.prefix_split.specs.Trying.{IsSetTo}
@@ -115,7 +114,3 @@ not-true false e = refl
 pub not-false : (b : Bool) → not b ≡ false → b ≡ true
 not-false true e = refl
 not-false false e = absurd (false≢true (sym e))
-
--- a list that is tried has a number for each string
-pub tried-count : (l : Logic) (y : System) (ns : List ℕ) → AreTried l y ns → length ns ≡ length y.strings
-tried-count l y ns h = eqb-true (length ns) (length y.strings) (and_parts (length ns == length y.strings) (list_all (is_tried_length l (bound_of y)) ns) h).0

@@ -12,3 +12,7 @@ pub mod Meeting
 pub mod Trying
 -- what the tests hand over
 pub mod Examples
+-- lists of lengths in order
+pub mod LengthLists
+-- the search through them
+pub mod LengthSearch

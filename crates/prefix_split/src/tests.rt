@@ -6,7 +6,7 @@ ghost use Rattle.prefix_split.specs.Examples.{any_uses, nothing_asked};
 
 use super::*;
 use calculus::setting::Logic;
-use cop_base::NoMemory;
+use cop_base::{Ledger, NoMemory};
 use std::alloc::Global;
 use std::test::Fail;
 use term_store::{
@@ -49,17 +49,26 @@ fn system(alloc: Global) -> System
     }
 }
 
-// Whether the system that asks nothing has a solution.
-fn is_solved(alloc: Global) -> Result<bool, NoMemory> {
+// What solving the system that asks nothing comes to within so many steps.
+fn solved(alloc: Global, budget: u64) -> Result<Solved, NoMemory> {
     let system = system(alloc);
     let mut store = Store::new(alloc)?;
     let mut demand = NoCondition {};
-    let found = solve_lengths(alloc, &mut store, Logic::D, &system, &mut demand, &[])?;
-    Ok(found)
+    let mut ledger = Ledger::new(budget);
+    let answer = solve(
+        alloc,
+        &mut store,
+        Logic::S4,
+        &system,
+        &mut demand,
+        &mut ledger,
+    )?;
+    Ok(answer)
 }
 
 #[test]
-fn nothing_asked_is_solved(rt: HostRuntime) -> Result<(), Fail> {
-    assert!(rt; is_solved(rt.alloc())?);
+fn one_step_solves_what_asks_nothing(rt: HostRuntime) -> Result<(), Fail> {
+    assert!(rt; solved(rt.alloc(), 1)? == Solved::Found);
+    assert!(rt; solved(rt.alloc(), 0)? == Solved::Steps);
     Ok(())
 }

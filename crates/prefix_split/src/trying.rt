@@ -92,7 +92,7 @@ fn try_lengths<M: Demand>(
 }
 
 // The same, but the store is as before where there is no solution, and for want of memory.
-fn try_or_undo<M: Demand>(
+pub(crate) fn try_or_undo<M: Demand>(
     alloc: Global,
     unifier: &mut Unifier,
     store: &mut Store,
@@ -128,39 +128,4 @@ fn try_or_undo<M: Demand>(
     }
     store.undo(start);
     found
-}
-
-/// Whether the system has a solution whose strings have these lengths. Then it leaves bindings by
-/// which giving each unbound variable its own spare is one. Otherwise, and for want of memory, the
-/// store is as before.
-pub fn solve_lengths<M: Demand>(
-    alloc: Global,
-    store: &mut Store,
-    logic: Logic,
-    system: &System,
-    more: &mut M,
-    lengths: &[u32],
-) -> Result<bool, NoMemory>
-    requires fits { IsTrue (is_system store.old.store (the_system system.now)) }
-    requires named { NamesItsStrings store.old.store (the_system system.now) }
-    requires tried { AreTried logic (the_system system.now) lengths.now }
-    ensures found { IfOk result (λ found. found ≡ true
-        → OwnSparesSolve (M.common more.old) logic (Asks (M.holds_for more.old))
-        store.new.store (the_system system.now)) }
-    ensures back { IfOk result (λ found. found ≡ true → (σ : Solution)
-        → Solves store.new.store σ → Solves store.old.store σ) }
-    ensures none { IfOk result (λ found. found ≡ false
-        → ¬ HasSolution logic (Asks (M.holds_for more.old)) store.old.store
-        (the_system system.now) lengths.now) }
-    ensures unchanged { IfOk result (λ found. found ≡ false
-        → store.new.store ≡ store.old.store) }
-    ensures err { OnErr result (store.new.store ≡ store.old.store) }
-    ensures marks { KeepsMarks store.old.store store.new.store }
-    ensures room { KeepsRoom store.old store.new }
-    ensures same { M.holds_for more.new ≡ M.holds_for more.old }
-    ensures same_common { M.common more.new ≡ M.common more.old }
-{
-    let mut unifier = Unifier::new(alloc);
-    let found = try_or_undo(alloc, &mut unifier, store, logic, system, more, lengths)?;
-    Ok(found)
 }

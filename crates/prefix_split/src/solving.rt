@@ -1,0 +1,99 @@
+//! Solving a system for all lists of string lengths in their order.
+
+ghost use Rattle.std.specs.Prelude.{◌≡◌, ◌+◌, ◌-◌, IfOk, IsTrue, OnErr, false, true};
+ghost use Rattle.calculus.specs.Bindings.{KeepsMarks};
+ghost use Rattle.calculus.specs.Counting.{MoreThan};
+ghost use Rattle.calculus.specs.Space.{has_labels, lengths_cmp};
+ghost use Rattle.calculus.specs.Stores.{Solution, Solves};
+ghost use Rattle.calculus.specs.Systems.{AreEarly, HasBoundedSolution, NamesItsStrings};
+ghost use Rattle.calculus.specs.Systems.{OwnSparesSolve, is_system};
+ghost use Rattle.term_store.specs.Asking.{Asks};
+ghost use Rattle.term_store.specs.Room.{KeepsRoom};
+ghost use Rattle.term_store.specs.SystemView.{the_system};
+ghost use Rattle.prefix_split.specs.LengthSearch.{IsCounted};
+
+use crate::next_lengths::{first_lengths, next_lengths, range_of};
+use crate::trying::try_or_undo;
+use calculus::setting::Logic;
+use cop_base::{Ledger, NoMemory};
+use std::alloc::Global;
+use term_store::{Demand, Store, System};
+use term_unify::Unifier;
+
+/// What solving a system comes to.
+#[derive(Clone, Copy, PartialEq, Eq)]
+pub enum Solved {
+    /// Giving each unbound variable its own spare is a bounded solution.
+    Found,
+    /// There is no bounded solution.
+    None,
+    /// The budget is used.
+    Steps,
+}
+
+// Takes a step, if one is left.
+fn take_step(ledger: &mut Ledger) -> bool
+    ensures taken { result ≡ true → ledger.new.used ≡ ledger.old.used + 1 }
+    ensures same { result ≡ false → ledger.new.used ≡ ledger.old.used }
+    ensures full { result ≡ false → ledger.old.used ≡ ledger.new.budget }
+    ensures budget { ledger.new.budget ≡ ledger.old.budget }
+{
+    ledger.take()
+}
+
+/// Solves a system: equations between labels, together with what the demand asks of gamma terms and
+/// with pairs of goals that must differ (the prefix unification of Otten and Kreitz, with strings
+/// of bounded length). Lists of string lengths are tried by their sum, then lexicographically, with
+/// one step for each. After every answer but `Found`, and for want of memory, the store is as
+/// before.
+pub fn solve<M: Demand>(
+    alloc: Global,
+    store: &mut Store,
+    logic: Logic,
+    system: &System,
+    more: &mut M,
+    ledger: &mut Ledger,
+) -> Result<Solved, NoMemory>
+    requires fits { IsTrue (is_system store.old.store (the_system system.now)) }
+    requires named { NamesItsStrings store.old.store (the_system system.now) }
+    requires labels { IsTrue (has_labels logic) }
+    ensures found { IfOk result (λ a. a ≡ Solved.Found → OwnSparesSolve (M.common more.old) logic
+        (Asks (M.holds_for more.old)) store.new.store (the_system system.now)) }
+    ensures back { IfOk result (λ a. a ≡ Solved.Found → (σ : Solution)
+        → Solves store.new.store σ → Solves store.old.store σ) }
+    ensures none { IfOk result (λ a. a ≡ Solved.None → ¬ HasBoundedSolution logic
+        (Asks (M.holds_for more.old)) store.old.store (the_system system.now)) }
+    ensures steps { IfOk result (λ a. a ≡ Solved.Steps → ledger.new.used ≡ ledger.new.budget) }
+    ensures more_early { IfOk result (λ a. a ≡ Solved.Steps → MoreThan lengths_cmp
+        (AreEarly logic (Asks (M.holds_for more.old)) store.old.store (the_system system.now))
+        (ledger.new.budget - ledger.old.used)) }
+    ensures counted { IsCounted logic (Asks (M.holds_for more.old)) store.old.store
+        (the_system system.now) ledger.old.used ledger.new.used }
+    ensures unchanged { IfOk result (λ a. ¬ (a ≡ Solved.Found)
+        → store.new.store ≡ store.old.store) }
+    ensures err { OnErr result (store.new.store ≡ store.old.store) }
+    ensures marks { KeepsMarks store.old.store store.new.store }
+    ensures room { KeepsRoom store.old store.new }
+    ensures budget { ledger.new.budget ≡ ledger.old.budget }
+    ensures same { M.holds_for more.new ≡ M.holds_for more.old }
+    ensures same_common { M.common more.new ≡ M.common more.old }
+{
+    let range = range_of(logic, system)?;
+    let mut lengths = first_lengths(alloc, range, system.strings.items().len() as u32)?;
+    if !take_step(ledger) {
+        return Ok(Solved::Steps);
+    }
+    let mut unifier = Unifier::new(alloc);
+    loop {
+        let found = try_or_undo(alloc, &mut unifier, store, logic, system, more, &lengths)?;
+        if found {
+            return Ok(Solved::Found);
+        }
+        if !next_lengths(&mut lengths, range)? {
+            return Ok(Solved::None);
+        }
+        if !take_step(ledger) {
+            return Ok(Solved::Steps);
+        }
+    }
+}
