@@ -1,16 +1,17 @@
 //! Cells that are built of others.
 
-ghost use Rattle.std.specs.Prelude.{◌≡◌, ◌≤◌, ◌<◌, ◌+◌, ◌++◌, ◌∷◌, [], IfOk, IsTrue, OnErr, OnOk, length, replicate};
+ghost use Rattle.std.specs.Prelude.{◌≡◌, ◌≤◌, ◌<◌, ◌+◌, ◌++◌, ◌∷◌, [], IfOk, IsTrue, OnErr, OnOk, length, map, replicate};
 ghost use Rattle.calculus.specs.declared.sort.Sort.TheVariants.{MarkSort};
-ghost use Rattle.calculus.specs.Bindings.{AddsOver, IsWellFormed, KeepsMarks, places_from, with_cell, with_variables_of};
-ghost use Rattle.calculus.specs.Stores.{Store, parts_fit, string_cell};
+ghost use Rattle.calculus.specs.Bindings.{AddsBuilt, AddsOver, IsWellFormed, KeepsMarks, places_from, with_cell, with_variables_of};
+ghost use Rattle.calculus.specs.Stores.{Store, new_cell, parts_fit, string_cell};
 ghost use Rattle.term_store.specs.Built.{named_cell, named_content};
+ghost use Rattle.term_store.specs.RefView.{the_place};
 ghost use Rattle.term_store.specs.Room.{KeepsRoom};
 
 use crate::cell::{Content, Name, Ref, Slot};
 use crate::store::Store;
 use calculus::sort::Sort;
-use cop_base::NoMemory;
+use cop_base::{NoMemory, PosId};
 
 // How many parts all cells can have: a place has 32 bits.
 const PART_PLACES: usize = 4294967295;
@@ -46,6 +47,24 @@ impl Store {
         let place = self.cells.len() as u32;
         self.cells.push(Slot { content, start });
         Ok(Ref(place))
+    }
+
+    /// A mark of the position by these values: terms and strings.
+    pub fn new_mark(&mut self, p: PosId, values: &[Ref]) -> Result<Ref, NoMemory>
+        requires { IsTrue (parts_fit self.old.store (new_cell p.0 (map the_place values.now))) }
+        ensures place { IfOk result (λ r. r.0 ≡ length self.old.store.cells) }
+        ensures ok { OnOk result (self.new.store
+            ≡ with_cell (new_cell p.0 (map the_place values.now)) self.old.store) }
+        ensures err { OnErr result (self.new.store ≡ self.old.store) }
+        ensures adds { AddsBuilt self.old.store self.new.store }
+        ensures room { KeepsRoom self.old self.new }
+    {
+        let mut parts = Vec::new(self.alloc);
+        for value in values {
+            parts.push(value.0)?;
+        }
+        let mark = self.build(Name::New(p), &parts)?;
+        Ok(mark)
     }
 
     // As `marks`. Want of memory leaves some cells behind.
