@@ -126,7 +126,7 @@ met-gamma P y σ (us, are, allowed) j g at = by y.gammas us j are allowed at
 
 -- ---- equations that the conditions force
 
-prefix-take : (h w : List GroundMark) → IsTrue (is_prefix mark_eq h w) → h ≡ take (length h) w
+pub prefix-take : (h w : List GroundMark) → IsTrue (is_prefix mark_eq h w) → h ≡ take (length h) w
 prefix-take [] w k = refl
 prefix-take (m ∷ h) [] k = absurd (false≢true k)
 prefix-take (m ∷ h) (n ∷ w) k = let p = and_parts (mark_eq m n) (is_prefix mark_eq h w) k in ap₂ (λ x xs. x ∷ xs) ((mark_eq-tells m n).0 p.0) (prefix-take h w p.1)
@@ -139,16 +139,16 @@ forced-varying P s y σ d h m j e p g rs ks at held cell home =
     let same : label_of P p (values_by σ rs) ≡ w = (list_eq-tells mark_eq mark_eq-tells (label_of P p (values_by σ rs)) w).0 (subst (λ x. IsTrue (home_allows mark_eq x (label_of P p (values_by σ rs)) w)) d k) in
     (w, home σ h ∙ ap Some same, label)
 
-take-marks : (σ : Solution) (n : ℕ) (ms : List ℕ) (w : List GroundMark) → marks_at σ ms ≡ Some w → marks_at σ (take n ms) ≡ Some (take n w)
+pub take-marks : (σ : Solution) (n : ℕ) (ms : List ℕ) (w : List GroundMark) → marks_at σ ms ≡ Some w → marks_at σ (take n ms) ≡ Some (take n w)
 take-marks σ zero ms w e = refl
 take-marks σ (suc n) [] w e = let q : [] ≡ w = cc e in ap (λ x. Some (take (suc n) x)) q
 take-marks σ (suc n) (m ∷ ms) w e = let p = mark-parts σ m ms w e in ap₂ cons_mark p.is_first (take-marks σ n ms p.rest p.are_rest) ∙ ap (λ x. Some (take (suc n) x)) (sym p.all_of_them)
 
-marks-label : (s : Store) (σ : Solution) → Solves s σ → (ms : List ℕ) → IsTrue (list_all (has_sort_at s MarkSort) ms) → label_at σ ms ≡ marks_at σ ms
+pub marks-label : (s : Store) (σ : Solution) → Solves s σ → (ms : List ℕ) → IsTrue (list_all (has_sort_at s MarkSort) ms) → label_at σ ms ≡ marks_at σ ms
 marks-label s σ h [] k = refl
 marks-label s σ h (m ∷ ms) k = let p = and_parts (has_sort_at s MarkSort m) (list_all (has_sort_at s MarkSort) ms) k in ap (join_label (σ m)) (marks-label s σ h ms p.1) ∙ joined-mark (σ m) (solved-sorted s σ h MarkSort m p.0) (marks_at σ ms)
 
-all-taken : (p : ℕ → Bool) (n : ℕ) (xs : List ℕ) → IsTrue (list_all p xs) → IsTrue (list_all p (take n xs))
+pub all-taken : (p : ℕ → Bool) (n : ℕ) (xs : List ℕ) → IsTrue (list_all p xs) → IsTrue (list_all p (take n xs))
 all-taken p zero xs h = refl
 all-taken p (suc n) [] h = refl
 all-taken p (suc n) (x ∷ xs) h = let q = and_parts (p x) (list_all p xs) h in and_from (p x) (list_all p (take n xs)) q.0 (all-taken p n xs q.1)
@@ -226,14 +226,14 @@ meets-by_stands P s rank limit y σ h ranked t cells stands = let m = each y.gam
         )
 
 -- a label already equal to another one
-now-label : (s : Store) (σ : Solution) → Solves s σ → (ks ws : List ℕ) → AreEqualNow s (equation ks ws) → label_by σ ks ≡ label_by σ ws
+pub now-label : (s : Store) (σ : Solution) → Solves s σ → (ks ws : List ℕ) → AreEqualNow s (equation ks ws) → label_by σ ks ≡ label_by σ ws
 now-label s σ h ks ws e = let (w, l, r) = e σ h in label_at-by σ ks w l ∙ sym (label_at-by σ ws w r)
 
 prefix-same : (w : List GroundMark) → IsTrue (is_prefix mark_eq w w)
 prefix-same [] = refl
 prefix-same (m ∷ w) = and_from (mark_eq m m) (is_prefix mark_eq w w) ((mark_eq-tells m m).1 refl) (prefix-same w)
 
-prefix-taken : (n : ℕ) (w : List GroundMark) → IsTrue (is_prefix mark_eq (take n w) w)
+pub prefix-taken : (n : ℕ) (w : List GroundMark) → IsTrue (is_prefix mark_eq (take n w) w)
 prefix-taken zero w = refl
 prefix-taken (suc n) [] = refl
 prefix-taken (suc n) (m ∷ w) = and_from (mark_eq m m) (is_prefix mark_eq (take n w) w) ((mark_eq-tells m m).1 refl) (prefix-taken n w)

@@ -21,14 +21,10 @@ use Rattle.calculus.specs.Systems.{is_label}
 use Rattle.calculus.specs.Templates.{as_value, as_label}
 use Rattle.search_theory.specs.States.{label_by, values_by}
 use Rattle.search_theory.specs.Demanding.{IsHomeAt}
-use Rattle.search_theory.specs.HomeCells.{CellReached, PassesModal, by_plain, by_string, by_mark, PassesShape, by_term, by_other, is_gamma_shape, LeadsToLabel, ended, passed}
+use Rattle.search_theory.specs.HomeCells.{CellReached, PassesModal, by_plain, by_string, by_mark, PassesShape, by_term, by_other, is_gamma_shape, LeadsToLabel, ended, passed, reached_by}
 use Rattle.search_theory.proofs.BuildingLaws.{solved-sorted}
 use Rattle.search_theory.proofs.AtomLaws.{values_at-by, label-append}
 use Rattle.search_theory.proofs.SolvingLaws.{label-there}
-
--- what the cells stand for
-abbrev reached_by : Solution → CellReached → Reached
-reached_by σ c = record { label = label_by σ c.label; taken = values_by σ c.taken; rest = values_by σ c.rest }
 
 append-none : {A : Type 0} (xs : List A) → xs ++ [] ≡ xs
 append-none [] = refl
@@ -50,17 +46,17 @@ pi-next LogicT σ w k m e = ap (λ v. label_by σ w ++ (as_label v ++ [])) (sym 
 pi-next S4 σ w k m e = ap (λ v. label_by σ w ++ (as_label v ++ [])) (sym e) ∙ sym (label-append σ w (k ∷ []))
 pi-next S5 σ w k m e = ap (λ v. as_label v ++ []) (sym e)
 
-string-value : (v : CellValue) → IsTrue (has_sort StringSort v) → (w : List GroundMark) × (v ≡ a_string w)
+pub string-value : (v : CellValue) → IsTrue (has_sort StringSort v) → (w : List GroundMark) × (v ≡ a_string w)
 string-value (a_term t) h = absurd (false≢true h)
 string-value (a_mark m) h = absurd (false≢true h)
 string-value (a_string w) h = (w, refl)
 
-term-value : (v : CellValue) → IsTrue (has_sort TermSort v) → (t : GroundTerm) × (v ≡ a_term t)
+pub term-value : (v : CellValue) → IsTrue (has_sort TermSort v) → (t : GroundTerm) × (v ≡ a_term t)
 term-value (a_term t) h = (t, refl)
 term-value (a_mark m) h = absurd (false≢true h)
 term-value (a_string w) h = absurd (false≢true h)
 
-modal-by : (l : Logic) (s : Store) (σ : Solution) → Solves s σ → (p : ℕ) (m : ModalPart) (c d : CellReached) → PassesModal l s p m c d → after_modal l p m (reached_by σ c) ≡ Some (reached_by σ d)
+pub modal-by : (l : Logic) (s : Store) (σ : Solution) → Solves s σ → (p : ℕ) (m : ModalPart) (c d : CellReached) → PassesModal l s p m c d → after_modal l p m (reached_by σ c) ≡ Some (reached_by σ d)
 modal-by l s σ h p m c d by_plain = refl
 modal-by l s σ h p m c d (by_string w taken rest r sorted) =
     let v = string-value (σ r) (solved-sorted s σ h StringSort r sorted) in
@@ -74,7 +70,7 @@ modal-by l s σ h p m c d (by_mark w taken rest k e) =
     let label = pi-next l σ w k (g_new_mark p (values_tree (values_by σ taken))) is in
     λ i. Some (record { label = label i; taken = values_by σ taken; rest = values_by σ rest })
 
-shape-by : (s : Store) (σ : Solution) → Solves s σ → (x : Shape) (c d : CellReached) → PassesShape s x c d → after_shape x (reached_by σ c) ≡ Some (reached_by σ d)
+pub shape-by : (s : Store) (σ : Solution) → Solves s σ → (x : Shape) (c d : CellReached) → PassesShape s x c d → after_shape x (reached_by σ c) ≡ Some (reached_by σ d)
 shape-by s σ h x c d (by_term w taken rest r sorted) =
     let v = term-value (σ r) (solved-sorted s σ h TermSort r sorted) in
     let shown : as_value (σ r) ≡ term v.0 = ap as_value v.1 in

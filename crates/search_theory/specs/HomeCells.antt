@@ -10,7 +10,9 @@ use Rattle.calculus.specs.declared.kind.ModalPart.TheVariants.{Plain, Nu, Pi}
 use Rattle.calculus.specs.Kinds.{shape_of, modal_of}
 use Rattle.calculus.specs.Labels.{pi_label}
 use Rattle.calculus.specs.Positions.{Node}
-use Rattle.calculus.specs.Stores.{new_cell, Store, has_sort_at}
+use Rattle.calculus.specs.Skolem.{Reached}
+use Rattle.calculus.specs.Stores.{new_cell, Store, has_sort_at, Solution}
+use Rattle.search_theory.specs.States.{label_by, values_by}
 
 -- how far a way was followed: the label reached, the values taken, and those that are still there
 pub record CellReached : Type 0 where
@@ -37,3 +39,7 @@ pub data PassesShape (s : Store) : Shape → CellReached → CellReached → Typ
 pub data LeadsToLabel (l : Logic) (s : Store) : List Node → CellReached → List ℕ → Type 0 where
   ended : {c : CellReached} → LeadsToLabel l s [] c c.label
   passed : {n : Node} {ns : List Node} {c d e : CellReached} {ks : List ℕ} → PassesModal l s n.position (modal_of l n.sign n.formula) c d → PassesShape s (shape_of n.sign n.formula) d e → LeadsToLabel l s ns e ks → LeadsToLabel l s (n ∷ ns) c ks
+
+-- what the cells stand for
+abbrev pub reached_by : Solution → CellReached → Reached
+reached_by σ c = record { label = label_by σ c.label; taken = values_by σ c.taken; rest = values_by σ c.rest }

@@ -1,14 +1,16 @@
 -- Labels become lists of marks item by item.
-use Rattle.std.proofs.Common.{◌≡◌, ◌⊎◌, ℕ, zero, suc, ◌+◌, ◌≤◌, List, [], ◌∷◌, ◌++◌, drop, length, map, take, Bool, true, false, ◌||◌, IsTrue, refl, sym, ◌∙◌, ap, subst, Option, None, Some, slice_get, inl, inr, arith, append_assoc}
+use Rattle.std.proofs.Common.{◌≡◌, ◌⊎◌, ℕ, zero, suc, ◌+◌, ◌<◌, ◌≤◌, List, [], ◌∷◌, ◌++◌, drop, length, map, take, Bool, true, false, ◌||◌, IsTrue, refl, sym, ◌∙◌, ap, subst, Option, None, Some, slice_get, inl, inr, arith, append_assoc}
 use Rattle.std.specs.List.{list_all}
 use Rattle.std.proofs.lemmas.Bool.{false≢true}
 use Rattle.calculus.specs.declared.sort.Sort.{Sort}
 use Rattle.calculus.specs.declared.sort.Sort.TheVariants.{TermSort, MarkSort, StringSort}
 use Rattle.calculus.specs.Bindings.{EndsIn, IsEnd}
+use Rattle.calculus.specs.Patterns.{Grows}
 use Rattle.calculus.specs.Stores.{Cell, Store, fun_cell, eigen_cell, new_cell, string_cell, variable, parts_of, is_bound, sort_of, has_sort_at, is_store, OccursIn, here, in_part, EndsAt, stays, goes_on, Solution, Solves, join_label, label_at}
 use Rattle.calculus.specs.Systems.{has_label_sort_at, is_label, IsOpenString}
-use Rattle.calculus.proofs.BindingLaws.{has_sort-from, kept, sorted_cell}
-use Rattle.calculus.proofs.PlaceLists.{all-at}
+use Rattle.calculus.proofs.BindingLaws.{has_sort-from, kept, parts-within, sorted_cell}
+use Rattle.calculus.proofs.PatternLaws.{grown-cell}
+use Rattle.calculus.proofs.PlaceLists.{all-at, get-there}
 use Rattle.term_store.specs.RefView.{the_place}
 use Rattle.term_store.specs.Shown.{head_of}
 use Rattle.term_store.specs.declared.cell.Head.{Head}
@@ -32,6 +34,23 @@ no_string-part s a k h o v e w = h v e (join a o w)
 
 some-same : {A : Type 0} (o : Option A) (x y : A) → o ≡ Some x → o ≡ Some y → x ≡ y
 some-same o x y e f = let q : Some x ≡ Some y = sym e ∙ f in cc q
+
+-- what occurs in an old cell occurred there before
+pub occurs-grown : (s t : Store) → IsTrue (is_store s) → Grows s t → (v r : ℕ) → r < length s.cells → OccursIn t v r → (v < length s.cells) × OccursIn s v r
+occurs-grown s t h g v r l here = (l, here)
+occurs-grown s t h g v r l (in_part i {k = k} {c = c} e p more) =
+    let (d, f) = get-there s.cells r l in
+    let same : d ≡ c = some-same (slice_get t.cells r) d c (grown-cell s t r d g f) e in
+    let q : slice_get (parts_of d) i ≡ Some k = ap (λ x. slice_get (parts_of x) i) same ∙ p in
+    let (w, o) = occurs-grown s t h g v k (parts-within s d i k ((kept s h).fits r d f) q) more in
+    (w, in_part i f q o)
+
+-- where no unbound string occurred, none does in a store with more cells
+pub free-grown : (s t : Store) → IsTrue (is_store s) → Grows s t → (r : ℕ) → r < length s.cells → HasNoStringIn s r → HasNoStringIn t r
+free-grown s t h g r l free v o c =
+    let (below, x) = occurs-grown s t h g v r l c in
+    let (d, f) = get-there s.cells v below in
+    free v (f ∙ ap Some (some-same (slice_get t.cells v) d (variable StringSort None) (grown-cell s t v d g f) o)) x
 
 pub ends-sorted : (s : Store) (sort : Sort) (r v : ℕ) → IsTrue (is_store s) → EndsAt s r v → IsTrue (has_sort_at s sort r) → IsTrue (has_sort_at s sort v)
 ends-sorted s sort r v h (stays e b) k = k
