@@ -1,2 +1,5 @@
 pub mod ConstantLaws
 pub mod ExampleLaws
+pub mod WayLaws
+pub mod HomeSteps
+pub mod LeafLaws

@@ -2,6 +2,8 @@
 #![tactic(auto)]
 
 mod constant;
+mod home;
+mod leaves;
 #[cfg(test)]
 mod tests;
 
