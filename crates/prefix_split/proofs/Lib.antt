@@ -8,3 +8,5 @@ pub mod TryingLaws
 pub mod ExampleLaws
 pub mod LengthListLaws
 pub mod SearchLaws
+pub mod OrderLaws
+pub mod GrowingLaws

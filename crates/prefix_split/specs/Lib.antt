@@ -16,3 +16,7 @@ pub mod Examples
 pub mod LengthLists
 -- the search through them
 pub mod LengthSearch
+-- beginnings of labels and their order
+pub mod Beginnings
+-- trees of beginnings
+pub mod Growing

@@ -2,14 +2,21 @@
 #![tactic(auto)]
 
 mod equal;
+mod growing;
+mod joining;
 mod lengths;
 mod meeting;
 mod next_lengths;
+mod node;
+mod order;
 mod places;
+mod refuting;
+mod rules;
 mod same;
 mod solving;
 #[cfg(test)]
 mod tests;
 mod trying;
 
+pub use refuting::is_refuted;
 pub use solving::{Solved, solve};

@@ -66,9 +66,18 @@ fn solved(alloc: Global, budget: u64) -> Result<Solved, NoMemory> {
     Ok(answer)
 }
 
+// Whether the order of labels refutes the system that asks nothing.
+fn is_nothing_refuted(alloc: Global) -> Result<bool, NoMemory> {
+    let system = system(alloc);
+    let store = Store::new(alloc)?;
+    let refuted = is_refuted(alloc, &store, Logic::S4, &system)?;
+    Ok(refuted)
+}
+
 #[test]
 fn one_step_solves_what_asks_nothing(rt: HostRuntime) -> Result<(), Fail> {
     assert!(rt; solved(rt.alloc(), 1)? == Solved::Found);
     assert!(rt; solved(rt.alloc(), 0)? == Solved::Steps);
+    assert!(rt; !is_nothing_refuted(rt.alloc())?);
     Ok(())
 }

@@ -1,0 +1,261 @@
+//! The tree of the beginnings of labels.
+
+ghost use Rattle.std.specs.Prelude.{◌≡◌, ◌++◌, ◌<◌, ℕ, List, IfOk, IfSome, IsTrue, length, map, true};
+ghost use Rattle.std.specs.List.{AllByRecursion};
+ghost use Rattle.calculus.specs.Bindings.{IsEnd};
+ghost use Rattle.calculus.specs.declared.sort.Sort.TheVariants.{MarkSort};
+ghost use Rattle.calculus.specs.Ground.{GroundMark};
+ghost use Rattle.calculus.specs.Stores.{Solution, Solves, has_sort_at, names_below};
+ghost use Rattle.calculus.specs.Systems.{AreEqual, IsOpenString, NamesItsStrings, is_equation};
+ghost use Rattle.calculus.specs.Systems.{is_system};
+ghost use Rattle.calculus.specs.Templates.{as_label};
+ghost use Rattle.term_store.specs.RefView.{the_place};
+ghost use Rattle.term_store.specs.SystemView.{the_equation, the_system};
+ghost use Rattle.prefix_split.specs.Beginnings.{AreValues, HasExtent, NodesFit, StepFits};
+ghost use Rattle.prefix_split.specs.Beginnings.{step_marks};
+ghost use Rattle.prefix_split.specs.Growing.{AreNamed, AreSteps, IsAsked, IsGrown, IsNamed};
+ghost use Rattle.prefix_split.specs.Growing.{IsNamedEquation, IsReached, IsTree, has_short_steps};
+ghost use Rattle.prefix_split.specs.Growing.{is_mark_head, is_open_string_head};
+
+use crate::joining::are_same_steps;
+use crate::node::{Node, Step};
+use crate::places::{equation_at, reference_at};
+use crate::rules::node_at;
+use calculus::setting::Logic;
+use calculus::sort::Sort;
+use cop_base::NoMemory;
+use term_store::{Equation, Head, Ref, Store, System};
+use term_unify::Unifier;
+
+fn has_short_steps(logic: Logic) -> bool
+    ensures { result ≡ has_short_steps logic }
+{
+    match logic {
+        Logic::Classical => true,
+        Logic::Intuitionistic => false,
+        Logic::D => true,
+        Logic::T => true,
+        Logic::S4 => false,
+        Logic::S5 => true,
+    }
+}
+
+fn is_mark_head(head: Head) -> bool
+    ensures { result ≡ is_mark_head head }
+{
+    match head {
+        Head::Open(sort) => match sort {
+            Sort::TermSort => false,
+            Sort::MarkSort => true,
+            Sort::StringSort => false,
+        },
+        Head::Fun(_) => false,
+        Head::Eigen(_) => false,
+        Head::New(_) => true,
+        Head::Marks => false,
+    }
+}
+
+fn is_open_string_head(head: Head) -> bool
+    ensures { result ≡ is_open_string_head head }
+{
+    match head {
+        Head::Open(sort) => match sort {
+            Sort::TermSort => false,
+            Sort::MarkSort => false,
+            Sort::StringSort => true,
+        },
+        Head::Fun(_) => false,
+        Head::Eigen(_) => false,
+        Head::New(_) => false,
+        Head::Marks => false,
+    }
+}
+
+fn is_mark(store: &Store, end: Ref) -> bool
+    requires { IsEnd store.now.store end.0 }
+    ensures { result ≡ true → IsTrue (has_sort_at store.now.store MarkSort end.0) }
+{
+    let found = store.head(end);
+    is_mark_head(found)
+}
+
+fn is_open_string(store: &Store, end: Ref) -> bool
+    requires { IsEnd store.now.store end.0 }
+    ensures { result ≡ true → IsOpenString store.now.store end.0 }
+{
+    let found = store.head(end);
+    is_open_string_head(found)
+}
+
+// Whether an unbound string of at most one mark stands there.
+fn is_short_string(store: &Store, logic: Logic, end: Ref) -> bool
+    requires { IsEnd store.now.store end.0 }
+    ensures short { result ≡ true → has_short_steps logic ≡ true }
+    ensures open { result ≡ true → IsOpenString store.now.store end.0 }
+{
+    if has_short_steps(logic) {
+        return is_open_string(store, end);
+    }
+    false
+}
+
+// The step by this item of a label.
+fn step_of(store: &Store, logic: Logic, system: &System, item: Ref) -> Step
+    requires within { item.0 < length store.now.store.cells }
+    requires named { IsNamed store.now.store system.now.strings item.0 }
+    ensures marks { (σ : Solution) → Solves store.now.store σ
+        → step_marks σ result ≡ as_label (σ item.0) }
+    ensures extent { (σ : Solution) → Solves store.now.store σ
+        → AreSteps logic system.now.strings σ → HasExtent σ result }
+    ensures fits { StepFits (length store.now.store.cells) result }
+{
+    let _system = system;
+    let end = store.walk(item);
+    if is_mark(store, end) {
+        return Step::Mark(end);
+    }
+    if is_short_string(store, logic, end) {
+        return Step::Short(end);
+    }
+    Step::Long(end)
+}
+
+// Whether the node goes on from this parent by this step.
+fn is_node(
+    unifier: &mut Unifier,
+    store: &Store,
+    node: Node,
+    parent: usize,
+    step: Step,
+) -> Result<bool, NoMemory>
+    requires left { StepFits (length store.now.store.cells) node.step }
+    requires right { StepFits (length store.now.store.cells) step }
+    ensures { IfOk result (λ same. same ≡ true → (node.parent ≡ parent)
+        × ((σ : Solution) → Solves store.now.store σ
+        → step_marks σ node.step ≡ step_marks σ step)) }
+{
+    if node.parent != parent {
+        return Ok(false);
+    }
+    let same = are_same_steps(unifier, store, node.step, step)?;
+    Ok(same)
+}
+
+// The node that goes on from `parent` by the step, if it is there.
+fn find(
+    unifier: &mut Unifier,
+    store: &Store,
+    nodes: &[Node],
+    parent: usize,
+    step: Step,
+) -> Result<Option<usize>, NoMemory>
+    requires nodes { NodesFit (length store.now.store.cells) nodes.now }
+    requires step { StepFits (length store.now.store.cells) step }
+    ensures { IfOk result (λ o. IfSome o (λ u. (u < length nodes.now)
+        × ((σ : Solution) (value : ℕ → List GroundMark) → Solves store.now.store σ
+        → AreValues σ value nodes.now → value u ≡ value parent ++ step_marks σ step))) }
+{
+    for u in 0..nodes.len() {
+        let node = node_at(nodes, u);
+        if is_node(unifier, store, node, parent, step)? {
+            return Ok(Some(u));
+        }
+    }
+    Ok(None)
+}
+
+// The node that goes on from `parent` by the step. It is added where it is not there yet.
+fn grow(
+    unifier: &mut Unifier,
+    store: &Store,
+    nodes: &mut Vec<Node>,
+    parent: usize,
+    step: Step,
+) -> Result<usize, NoMemory>
+    requires tree { IsTree (length store.now.store.cells) nodes.old.items }
+    requires parent { parent < length nodes.old.items }
+    requires step { StepFits (length store.now.store.cells) step }
+    ensures { IfOk result (λ u. IsGrown store.now.store nodes.old.items nodes.new.items parent
+        step u) }
+{
+    let found = find(unifier, store, nodes, parent, step)?;
+    if let Some(u) = found {
+        return Ok(u);
+    }
+    let u = nodes.len();
+    nodes.push(Node { parent, step })?;
+    Ok(u)
+}
+
+// The node of the label.
+fn reach(
+    unifier: &mut Unifier,
+    store: &Store,
+    logic: Logic,
+    system: &System,
+    nodes: &mut Vec<Node>,
+    label: &[Ref],
+) -> Result<usize, NoMemory>
+    requires tree { IsTree (length store.now.store.cells) nodes.old.items }
+    requires below { IsTrue (names_below (length store.now.store.cells) (map the_place label.now)) }
+    requires named { AreNamed store.now.store system.now.strings (map the_place label.now) }
+    ensures { IfOk result (λ u. IsReached store.now.store logic system.now.strings nodes.old.items
+        nodes.new.items (map the_place label.now) u) }
+{
+    let mut node = 0;
+    for i in 0..label.len() {
+        let step = step_of(store, logic, system, reference_at(label, i));
+        let next = grow(unifier, store, nodes, node, step)?;
+        node = next;
+    }
+    Ok(node)
+}
+
+// Adds the labels of the equation, and that they begin each other.
+fn ask_equation(
+    unifier: &mut Unifier,
+    store: &Store,
+    logic: Logic,
+    system: &System,
+    nodes: &mut Vec<Node>,
+    pairs: &mut Vec<(usize, usize)>,
+    e: &Equation,
+) -> Result<(), NoMemory>
+    requires tree { IsTree (length store.now.store.cells) nodes.old.items }
+    requires fits { IsTrue (is_equation store.now.store (the_equation e.now)) }
+    requires named { IsNamedEquation store.now.store system.now.strings (the_equation e.now) }
+    ensures { IfOk result (λ _. IsAsked store.now.store logic system.now.strings
+        (λ σ. AreEqual σ (the_equation e.now)) nodes.old.items nodes.new.items pairs.old.items
+        pairs.new.items) }
+{
+    let left = reach(unifier, store, logic, system, nodes, e.left.items())?;
+    let right = reach(unifier, store, logic, system, nodes, e.right.items())?;
+    pairs.push((left, right))?;
+    pairs.push((right, left))?;
+    Ok(())
+}
+
+// The same for all equations.
+pub(crate) fn ask_equations(
+    unifier: &mut Unifier,
+    store: &Store,
+    logic: Logic,
+    system: &System,
+    nodes: &mut Vec<Node>,
+    pairs: &mut Vec<(usize, usize)>,
+) -> Result<(), NoMemory>
+    requires tree { IsTree (length store.now.store.cells) nodes.old.items }
+    requires fits { IsTrue (is_system store.now.store (the_system system.now)) }
+    requires named { NamesItsStrings store.now.store (the_system system.now) }
+    ensures { IfOk result (λ _. IsAsked store.now.store logic system.now.strings
+        (λ σ. AllByRecursion (AreEqual σ) system.now.equations) nodes.old.items nodes.new.items
+        pairs.old.items pairs.new.items) }
+{
+    let equations = system.equations.items();
+    for i in 0..equations.len() {
+        let e = equation_at(equations, i);
+        ask_equation(unifier, store, logic, system, nodes, pairs, e)?;
+    }
+    Ok(())
+}

@@ -1,0 +1,128 @@
+//! Systems without a solution, by the order of the beginnings of labels.
+
+ghost use Rattle.std.specs.Prelude.{◌≡◌, ◌<◌, ◌∷◌, [], ℕ, List, Some, IfOk, IsTrue, length, slice_get, true};
+ghost use Rattle.std.specs.List.{AllByRecursion};
+ghost use Rattle.calculus.specs.Ground.{GroundMark};
+ghost use Rattle.calculus.specs.Stores.{Solution, Solves};
+ghost use Rattle.calculus.specs.Systems.{AreEqual, IsStep, NamesItsStrings, is_system};
+ghost use Rattle.term_store.specs.SystemView.{the_system};
+ghost use Rattle.prefix_split.specs.Beginnings.{AllBegin, AreValues, Holds, Keeps, NodesFit};
+ghost use Rattle.prefix_split.specs.Growing.{HasRoot, step_relation};
+
+use crate::growing::ask_equations;
+use crate::joining::settle;
+use crate::node::{Node, Step};
+use crate::order::{LabelOrder, Relation};
+use crate::rules::node_at;
+use calculus::setting::Logic;
+use cop_base::NoMemory;
+use std::alloc::Global;
+use term_store::{Store, System};
+use term_unify::Unifier;
+
+// How the label of a node is related to that of its parent.
+fn step_relation(step: Step) -> Relation
+    ensures { result ≡ step_relation step }
+{
+    match step {
+        Step::Root => Relation::Weak,
+        Step::Mark(_) => Relation::Strict,
+        Step::Short(_) => Relation::Weak,
+        Step::Long(_) => Relation::Weak,
+    }
+}
+
+// A label begins itself, and its parent begins it.
+fn add_node(order: &mut LabelOrder, nodes: &[Node], u: usize) -> Result<(), NoMemory>
+    requires { u < length nodes.now }
+    ensures { Keeps nodes.now order.old order.new }
+{
+    let node = node_at(nodes, u);
+    let r = step_relation(node.step);
+    order.add(u, u, Relation::Weak)?;
+    order.add(node.parent, u, r)
+}
+
+fn add_nodes(order: &mut LabelOrder, nodes: &[Node]) -> Result<(), NoMemory>
+    ensures { Keeps nodes.now order.old order.new }
+{
+    for u in 0..nodes.len() {
+        add_node(order, nodes, u)?;
+    }
+    Ok(())
+}
+
+fn pair_at(pairs: &[(usize, usize)], i: usize) -> (usize, usize)
+    requires { i < length pairs.now }
+    ensures { slice_get pairs.now i ≡ Some result }
+{
+    pairs[i]
+}
+
+// The first label of each pair begins the second one.
+fn add_pairs(order: &mut LabelOrder, pairs: &[(usize, usize)]) -> Result<(), NoMemory>
+    ensures { (value : ℕ → List GroundMark) → AllBegin value pairs.now → Holds value order.old
+        → Holds value order.new }
+{
+    for i in 0..pairs.len() {
+        let pair = pair_at(pairs, i);
+        order.add(pair.0, pair.1, Relation::Weak)?;
+    }
+    Ok(())
+}
+
+// The tree of the empty label.
+pub(crate) fn root(alloc: Global) -> Result<Vec<Node>, NoMemory>
+    ensures { IfOk result (λ nodes. HasRoot nodes.items) }
+{
+    let mut nodes = Vec::new(alloc);
+    nodes.push(Node {
+        parent: 0,
+        step: Step::Root,
+    })?;
+    Ok(nodes)
+}
+
+// The order of nodes of which the first one of each pair begins the second one.
+pub(crate) fn settled(
+    alloc: Global,
+    unifier: &mut Unifier,
+    store: &Store,
+    nodes: &[Node],
+    pairs: &[(usize, usize)],
+) -> Result<LabelOrder, NoMemory>
+    requires { NodesFit (length store.now.store.cells) nodes.now }
+    ensures { IfOk result (λ order. (σ : Solution) (value : ℕ → List GroundMark)
+        → Solves store.now.store σ → AreValues σ value nodes.now → AllBegin value pairs.now
+        → Holds value order) }
+{
+    let mut order = LabelOrder::new(alloc, nodes.len())?;
+    add_nodes(&mut order, nodes)?;
+    add_pairs(&mut order, pairs)?;
+    settle(&mut order, unifier, store, nodes)?;
+    Ok(order)
+}
+
+/// Whether the order of the beginnings of labels shows that no solution of the store, whose strings
+/// are steps of the logic, makes the equations equal: then none of any length does. Otherwise
+/// nothing is known. In T, S4 and intuitionistic logic this is most of what prefixes tell before
+/// all of them are built.
+pub fn is_refuted(
+    alloc: Global,
+    store: &Store,
+    logic: Logic,
+    system: &System,
+) -> Result<bool, NoMemory>
+    requires fits { IsTrue (is_system store.now.store (the_system system.now)) }
+    requires named { NamesItsStrings store.now.store (the_system system.now) }
+    ensures { IfOk result (λ refuted. refuted ≡ true → (σ : Solution)
+        → Solves store.now.store σ → AllByRecursion (IsStep logic σ) (the_system system.now).strings
+        → ¬ AllByRecursion (AreEqual σ) (the_system system.now).equations) }
+{
+    let mut unifier = Unifier::new(alloc);
+    let mut nodes = root(alloc)?;
+    let mut pairs = Vec::new(alloc);
+    ask_equations(&mut unifier, store, logic, system, &mut nodes, &mut pairs)?;
+    let order = settled(alloc, &mut unifier, store, &nodes, &pairs)?;
+    Ok(order.is_refuted)
+}
