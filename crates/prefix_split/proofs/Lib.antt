@@ -10,3 +10,4 @@ pub mod LengthListLaws
 pub mod SearchLaws
 pub mod OrderLaws
 pub mod GrowingLaws
+pub mod TriedLaws

@@ -10,6 +10,7 @@ mod next_lengths;
 mod node;
 mod order;
 mod places;
+mod proposing;
 mod refuting;
 mod rules;
 mod same;
