@@ -33,6 +33,7 @@ pub use home::eigen_home;
 pub use instance::ClauseInstance;
 pub use literal::{GroundLiteral, LiteralList};
 pub use part::Part;
+pub use parts::{Parts, components_of};
 pub use selection::Selection;
 pub use sized::SizedProblem;
 pub use spot::{MarkAt, Taken};

@@ -49,6 +49,12 @@ impl<'a> SizedProblem<'a> {
         Ok(SizedProblem { problem, sizes })
     }
 
+    pub fn problem(&self) -> &Problem
+        ensures { result.now ≡ self.now }
+    {
+        self.problem
+    }
+
     pub fn setting(&self) -> Setting
         ensures setting { the_setting result ≡ self.now.setting }
     {
