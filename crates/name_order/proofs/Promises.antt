@@ -42,9 +42,15 @@ all-introduced : (P : Problem) (xs : List Turn) → flat_map (introduced_in (pla
 all-introduced P [] = refl
 all-introduced P (x ∷ xs) = rw (introduced-same P x, all-introduced P xs) refl
 
-pub the-numbering : (P : Problem) (t : Tableau) (agenda : List Turn) (places : List Place) (all names : List Name) → IsAgenda P t agenda → places ≡ places_of P → all ≡ keep_all name_eq [] (gathered P places agenda) → IsOrdered all names → IsNumbering P t names
-the-numbering P t agenda places all names ag e g h =
-    let same : all ≡ keep_all name_eq [] (names_by P agenda) = g ∙ ap (λ ps. keep_all name_eq [] (gathered P ps agenda)) e ∙ ap (λ ns. keep_all name_eq [] (with_homes P (keep_all name_eq [] (flat_map names_in_turn agenda)) ++ ns)) (all-introduced P agenda) in
+-- the names in order, by the problem, the positions and the turns that they are of
+pub numbered-by : (P Q : Problem) (places : List Place) (xs ys : List Turn) (names : List Name) → P ≡ Q → places ≡ places_of Q → xs ≡ ys → IsOrdered (keep_all name_eq [] (gathered P places xs)) names → IsOrdered (keep_all name_eq [] (gathered Q (places_of Q) ys)) names
+numbered-by P Q places xs ys names e g f h =
+    let named : keep_all name_eq [] (gathered P places xs) ≡ keep_all name_eq [] (gathered Q (places_of Q) ys) = ap (λ R. keep_all name_eq [] (gathered R places xs)) e ∙ ap (λ ps. keep_all name_eq [] (gathered Q ps xs)) g ∙ ap (λ ts. keep_all name_eq [] (gathered Q (places_of Q) ts)) f in
+    subst (λ ns. IsOrdered ns names) named h
+
+pub the-numbering : (P : Problem) (t : Tableau) (agenda : List Turn) (names : List Name) → IsAgenda P t agenda → IsOrdered (keep_all name_eq [] (gathered P (places_of P) agenda)) names → IsNumbering P t names
+the-numbering P t agenda names ag h =
+    let same : keep_all name_eq [] (gathered P (places_of P) agenda) ≡ keep_all name_eq [] (names_by P agenda) = ap (λ ns. keep_all name_eq [] (with_homes P (keep_all name_eq [] (flat_map names_in_turn agenda)) ++ ns)) (all-introduced P agenda) in
     ordered-numbering P t agenda names ag (subst (λ ns. IsOrdered ns names) same h)
 
 pub the-keys : (lists : List (List Turn)) (agenda : List Turn) (keys : List (List ℕ)) → IsArranged (joined lists) agenda → keys ≡ keep_all words_eq [] (map words_of_turn agenda) → keys ≡ map words_of_turn agenda

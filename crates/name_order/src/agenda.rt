@@ -1,13 +1,17 @@
 //! The agenda: each turn once, in the order in which the turns are made.
 
-ghost use Rattle.std.specs.Prelude.{◌≡◌, [], map, IfOk};
+ghost use Rattle.std.specs.Prelude.{◌≡◌, ◌<◌, ◌^◌, [], length, map, IfOk};
 ghost use Rattle.calculus.specs.Sizes.{value_list_size};
+ghost use Rattle.calculus.specs.Tableaux.{instances};
 ghost use Rattle.name_order.specs.Arranged.{IsArranged, IsKeyed, joined};
 ghost use Rattle.name_order.specs.Keeping.{keep, keep_all, turn_eq};
 ghost use Rattle.name_order.specs.Order.{AreSized, the_turns};
 ghost use Rattle.name_order.specs.TurnView.{the_turn};
+ghost use Rattle.name_order.specs.Walks.{turns_by};
 ghost use Rattle.name_order.specs.Words.{words_eq, words_of_turn};
+ghost use Rattle.tableau_core.specs.TableauView.{the_tableau};
 
+use crate::collect::collect;
 use crate::keys::Keys;
 use crate::order::{SizedTurn, sort_turns};
 use crate::size::size_of_values;
@@ -15,6 +19,15 @@ use crate::turn::{Turn, TurnList};
 use crate::words::turn_words;
 use cop_base::NoMemory;
 use std::alloc::Global;
+use tableau_core::{SizedProblem, Tableau};
+
+/// The turns of a tableau: those of each instance, the agenda, and the keys of the agenda.
+#[derive(Drop)]
+pub struct Turns {
+    pub lists: Vec<TurnList>,
+    pub agenda: TurnList,
+    pub keys: Keys,
+}
 
 /// Turns once each, with their keys.
 #[derive(Drop)]
@@ -94,8 +107,8 @@ fn turns_of(alloc: Global, sorted: Vec<SizedTurn>) -> Result<TurnList, NoMemory>
     Ok(turns)
 }
 
-/// The turns of all lists once each, sorted by the size of their values and then by position.
-pub fn arrange(alloc: Global, lists: &[TurnList]) -> Result<TurnList, NoMemory>
+// The turns of all lists once each, sorted by the size of their values and then by position.
+fn arrange(alloc: Global, lists: &[TurnList]) -> Result<TurnList, NoMemory>
     ensures { IfOk result (λ agenda. IsArranged (joined lists.now) agenda) }
 {
     let mut kept = keep_turns(alloc, lists)?;
@@ -104,8 +117,8 @@ pub fn arrange(alloc: Global, lists: &[TurnList]) -> Result<TurnList, NoMemory>
     Ok(agenda)
 }
 
-/// The keys of the turns, in their order.
-pub fn keys_of(alloc: Global, agenda: &[Turn]) -> Result<Keys, NoMemory>
+// The keys of the turns, in their order.
+fn keys_of(alloc: Global, agenda: &[Turn]) -> Result<Keys, NoMemory>
     ensures { IfOk result (λ keys. keys ≡ keep_all words_eq [] (map words_of_turn (map the_turn agenda.now))) }
 {
     let mut keys = Keys::new(alloc);
@@ -113,4 +126,26 @@ pub fn keys_of(alloc: Global, agenda: &[Turn]) -> Result<Keys, NoMemory>
         keys.add(turn_words(alloc, turn.position.0, turn.values.items())?)?;
     }
     Ok(keys)
+}
+
+/// The turns of a tableau, and the order in which they are made.
+pub fn all_turns(alloc: Global, problem: &SizedProblem, t: &Tableau) -> Result<Turns, NoMemory>
+    ensures lists { IfOk result (λ all. all.lists.items
+        ≡ map (turns_by problem.now) (instances (the_tableau t.now))) }
+    ensures agenda { IfOk result (λ all. IsArranged (joined all.lists.items) all.agenda) }
+    ensures few { IfOk result (λ all. length all.agenda < 2 ^ 32) }
+    ensures keys { IfOk result (λ all. all.keys
+        ≡ keep_all words_eq [] (map words_of_turn all.agenda)) }
+{
+    let lists = collect(alloc, problem, t)?;
+    let agenda = arrange(alloc, &lists)?;
+    if agenda.items().len() > u32::MAX as usize {
+        return Err(NoMemory);
+    }
+    let keys = keys_of(alloc, agenda.items())?;
+    Ok(Turns {
+        lists,
+        agenda,
+        keys,
+    })
 }

@@ -10,16 +10,15 @@ ghost use Rattle.tableau_core.specs.TableauView.{the_tableau};
 use crate::turn::TurnList;
 use crate::walk::walk_instance;
 use cop_base::NoMemory;
-use logic_rules::Problem;
 use std::alloc::Global;
-use tableau_core::{Closing, ClosingList, Tableau};
+use tableau_core::{Closing, ClosingList, SizedProblem, Tableau};
 
 // Adds the turns of the instances of a closing. It is no deeper than the path limit.
 #[cycle(collect)]
 #[tactic(auto, using(crate::proofs::Collecting::collecting))]
 fn collect_below(
     alloc: Global,
-    problem: &Problem,
+    problem: &SizedProblem,
     closing: &Closing,
     lists: &mut Vec<TurnList>,
 ) -> Result<(), NoMemory>
@@ -46,7 +45,7 @@ fn collect_below(
 #[tactic(auto, using(crate::proofs::Collecting::collecting))]
 fn collect_all(
     alloc: Global,
-    problem: &Problem,
+    problem: &SizedProblem,
     closings: &ClosingList,
     lists: &mut Vec<TurnList>,
 ) -> Result<(), NoMemory>
@@ -61,7 +60,11 @@ fn collect_all(
 
 /// The turns of a tableau, a list for each instance in preorder.
 #[tactic(auto, using(crate::proofs::Collecting::collecting))]
-pub fn collect(alloc: Global, problem: &Problem, t: &Tableau) -> Result<Vec<TurnList>, NoMemory>
+pub fn collect(
+    alloc: Global,
+    problem: &SizedProblem,
+    t: &Tableau,
+) -> Result<Vec<TurnList>, NoMemory>
     ensures { IfOk result (λ lists. lists.items ≡ map (turns_by problem.now) (instances (the_tableau t.now))) }
 {
     let mut lists = Vec::new(alloc);

@@ -10,6 +10,7 @@ ghost use Rattle.name_order.specs.PlaceView.{the_places};
 ghost use Rattle.name_order.specs.TurnView.{the_turn};
 ghost use Rattle.name_order.specs.WalkView.{the_turn_at};
 
+use crate::agenda::Turns;
 use crate::keys::Keys;
 use crate::mention::mentioned;
 use crate::names::Name;
@@ -27,6 +28,14 @@ use tableau_core::SizedProblem;
 #[derive(Drop)]
 pub struct Numbers {
     items: Vec<usize>,
+}
+
+/// The turns of each instance, and each turn's parent and prerequisites.
+#[derive(Drop)]
+pub struct Guide {
+    pub order: Vec<Numbers>,
+    pub parents: Vec<Option<usize>>,
+    pub waits: Vec<Numbers>,
 }
 
 impl Model for Numbers {
@@ -115,8 +124,8 @@ fn parent_of(
     Ok(place)
 }
 
-/// The places of the turns' parents.
-pub fn parents(
+// The places of the turns' parents.
+fn parents(
     alloc: Global,
     places: &[Place],
     keys: &Keys,
@@ -202,8 +211,8 @@ fn waits_of(
     Ok(all)
 }
 
-/// For each turn the places of those that introduce what it mentions by its own values.
-pub fn waits(
+// For each turn the places of those that introduce what it mentions by its own values.
+fn waits(
     alloc: Global,
     problem: &SizedProblem,
     places: &[Place],
@@ -241,8 +250,8 @@ fn places_of(alloc: Global, keys: &Keys, turns: &[Turn]) -> Result<Numbers, NoMe
     Ok(all)
 }
 
-/// The places of the turns of each list.
-pub fn order(alloc: Global, keys: &Keys, lists: &[TurnList]) -> Result<Vec<Numbers>, NoMemory>
+// The places of the turns of each list.
+fn order(alloc: Global, keys: &Keys, lists: &[TurnList]) -> Result<Vec<Numbers>, NoMemory>
     requires known { AllByRecursion (λ ts. AllByRecursion (λ x. IsSome (find_in keys.now x)) ts) lists.now }
     ensures { IfOk result (λ all. map (map (find_in keys.now)) lists.now ≡ map (map Some) all.items) }
 {
@@ -251,4 +260,30 @@ pub fn order(alloc: Global, keys: &Keys, lists: &[TurnList]) -> Result<Vec<Numbe
         all.push(places_of(alloc, keys, list.items())?)?;
     }
     Ok(all)
+}
+
+/// What leads a conversion by the turns of its tableau.
+pub fn guide_by(
+    alloc: Global,
+    problem: &SizedProblem,
+    places: &[Place],
+    turns: &Turns,
+) -> Result<Guide, NoMemory>
+    requires known { AllByRecursion (λ ts. AllByRecursion (λ x. IsSome (find_in turns.now.keys x)) ts)
+        turns.now.lists.items }
+    ensures order { IfOk result (λ g. map (map (find_in turns.now.keys)) turns.now.lists.items
+        ≡ map (map Some) g.order.items) }
+    ensures parents { IfOk result (λ g. g.parents.items
+        ≡ map (parent_in (the_places places.now) turns.now.keys) turns.now.agenda) }
+    ensures waits { IfOk result (λ g. g.waits.items
+        ≡ map (waits_in problem.now (the_places places.now) turns.now.keys) turns.now.agenda) }
+{
+    let order = order(alloc, &turns.keys, turns.lists.as_slice())?;
+    let parents = parents(alloc, places, &turns.keys, turns.agenda.items())?;
+    let waits = waits(alloc, problem, places, &turns.keys, turns.agenda.items())?;
+    Ok(Guide {
+        order,
+        parents,
+        waits,
+    })
 }

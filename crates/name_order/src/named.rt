@@ -11,13 +11,11 @@ ghost use Rattle.name_order.specs.Prerequisites.{IsOrder, ParentsTell, WaitsTell
 ghost use Rattle.name_order.specs.TurnView.{the_turn};
 ghost use Rattle.tableau_core.specs.TableauView.{the_tableau};
 
-use crate::agenda::{arrange, keys_of};
-use crate::collect::collect;
-use crate::guide::{Numbers, order, parents, waits};
-use crate::look_up::{digests_of, number_by};
-use crate::mention::all_names;
+use crate::agenda::all_turns;
+use crate::guide::{Numbers, guide_by};
+use crate::look_up::number_by;
 use crate::names::{Name, Wanted};
-use crate::numbering::in_order;
+use crate::numbering::number_names;
 use crate::place::all_places;
 use crate::turn::{Turn, TurnList};
 use cop_base::{NoMemory, PosId};
@@ -152,27 +150,16 @@ pub fn name(alloc: Global, problem: &Problem, t: &Tableau) -> Result<Named, NoMe
     ensures waits { IfOk result (λ n. WaitsTell problem.now n.agenda n.parents n.waits) }
 {
     let sized = SizedProblem::new(alloc, problem)?;
-    let lists = collect(alloc, problem, t)?;
-    let agenda = arrange(alloc, &lists)?;
-    let keys = keys_of(alloc, agenda.items())?;
     let places = all_places(alloc, problem)?;
-    let names = in_order(alloc, all_names(alloc, &sized, &places, agenda.items())?)?;
-    if names.len() > u32::MAX as usize {
-        return Err(NoMemory);
-    }
-    if agenda.items().len() > u32::MAX as usize {
-        return Err(NoMemory);
-    }
-    let digests = digests_of(alloc, names.as_slice())?;
-    let order = order(alloc, &keys, &lists)?;
-    let parents = parents(alloc, &places, &keys, agenda.items())?;
-    let waits = waits(alloc, &sized, &places, &keys, agenda.items())?;
+    let turns = all_turns(alloc, &sized, t)?;
+    let numbered = number_names(alloc, &sized, places.as_slice(), turns.agenda.items())?;
+    let guide = guide_by(alloc, &sized, places.as_slice(), &turns)?;
     Ok(Named {
-        names,
-        digests,
-        agenda,
-        order,
-        parents,
-        waits,
+        names: numbered.names,
+        digests: numbered.digests,
+        agenda: turns.agenda,
+        order: guide.order,
+        parents: guide.parents,
+        waits: guide.waits,
     })
 }

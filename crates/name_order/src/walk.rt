@@ -11,30 +11,16 @@ ghost use Rattle.tableau_core.specs.InstanceView.{the_instance};
 
 use crate::turn::{Turn, TurnList};
 use cop_base::{NoMemory, PosId};
-use formula_core::{Components, Formula, Sign, Signed, Value, Values};
-use logic_rules::{Kind, Logic, ModalPart, Problem, Shape, kind_of};
+use formula_core::{Value, Values};
+use logic_rules::{Kind, Logic, ModalPart, Shape, kind_of};
 use std::alloc::Global;
-use tableau_core::{ClauseInstance, Side};
+use tableau_core::{ClauseInstance, Part, Parts, Side, SizedProblem, components_of};
 
 // The sides and values that are still to be used.
 #[derive(Clone, Copy)]
 struct Supply<'a> {
     sides: &'a [Side],
     values: &'a [Value],
-}
-
-/// The number of positions of a formula.
-fn size(f: &Formula) -> u32
-    requires { size (the_formula f.now) < 2 ^ 32 }
-    ensures { result ≡ size (the_formula f.now) }
-{
-    match f {
-        Formula::Atom(_, _) => 1,
-        Formula::And(a, b) | Formula::Or(a, b) | Formula::Imp(a, b) => size(a) + size(b) + 1,
-        Formula::Not(a) | Formula::All(a) | Formula::Ex(a) | Formula::Nec(a) | Formula::Poss(a) => {
-            size(a) + 1
-        }
-    }
 }
 
 /// How many values a position of this kind takes: a string, a term, or both.
@@ -110,7 +96,7 @@ fn next_sides(sides: &[Side]) -> &[Side]
 fn walk<'a>(
     alloc: Global,
     logic: Logic,
-    whole: Signed,
+    whole: Part,
     position: u32,
     taken: &Values,
     supply: Supply<'a>,
@@ -129,25 +115,25 @@ fn walk<'a>(
         sides: supply.sides,
         values: rest(supply.values, count),
     };
-    match whole.formula.components(whole.sign) {
-        Components::Literal(_, _) => Ok(left),
-        Components::One(a) => {
+    match components_of(whole) {
+        Parts::Literal(_, _) => Ok(left),
+        Parts::One(a) => {
             let left = walk(alloc, logic, a, position + 1, &taken, left, turns)?;
             Ok(left)
         }
-        Components::Gamma(a) => {
+        Parts::Gamma(a) => {
             let left = walk(alloc, logic, a, position + 1, &taken, left, turns)?;
             Ok(left)
         }
-        Components::Delta(a) => {
+        Parts::Delta(a) => {
             let left = walk(alloc, logic, a, position + 1, &taken, left, turns)?;
             Ok(left)
         }
-        Components::Alpha(a, b) => {
+        Parts::Alpha(a, b) => {
             let left = walk_alpha(alloc, logic, a, b, position, &taken, left, turns)?;
             Ok(left)
         }
-        Components::Beta(a, b) => {
+        Parts::Beta(a, b) => {
             let left = walk_beta(alloc, logic, a, b, position, &taken, left, turns)?;
             Ok(left)
         }
@@ -158,8 +144,8 @@ fn walk<'a>(
 fn walk_alpha<'a>(
     alloc: Global,
     logic: Logic,
-    a: Signed,
-    b: Signed,
+    a: Part,
+    b: Part,
     position: u32,
     taken: &Values,
     supply: Supply<'a>,
@@ -178,7 +164,7 @@ fn walk_alpha<'a>(
         values: supply.values,
     };
     if is_right(supply.sides) {
-        let second = position + 1 + size(a.formula);
+        let second = position + 1 + a.size();
         let left = walk(alloc, logic, b, second, taken, left, turns)?;
         return Ok(left);
     }
@@ -190,8 +176,8 @@ fn walk_alpha<'a>(
 fn walk_beta<'a>(
     alloc: Global,
     logic: Logic,
-    a: Signed,
-    b: Signed,
+    a: Part,
+    b: Part,
     position: u32,
     taken: &Values,
     supply: Supply<'a>,
@@ -206,16 +192,15 @@ fn walk_beta<'a>(
         supply.entry.sides.now (map the_value supply.entry.values.now))) }
 {
     let between = walk(alloc, logic, a, position + 1, taken, supply, turns)?;
-    let second = position + 1 + size(a.formula);
+    let second = position + 1 + a.size();
     let left = walk(alloc, logic, b, second, taken, between, turns)?;
     Ok(left)
 }
 
 /// Adds the turns of an instance.
-#[tactic(auto, using(crate::proofs::WalkSmall::small_problem))]
 pub fn walk_instance(
     alloc: Global,
-    problem: &Problem,
+    problem: &SizedProblem,
     instance: &ClauseInstance,
     turns: &mut TurnList,
 ) -> Result<(), NoMemory>
@@ -227,18 +212,7 @@ pub fn walk_instance(
         values: instance.values.items(),
     };
     let root = Values::new(alloc);
-    let whole = Signed {
-        sign: Sign::F,
-        formula: problem.formula(),
-    };
-    walk(
-        alloc,
-        problem.setting().logic(),
-        whole,
-        0,
-        &root,
-        supply,
-        turns,
-    )?;
+    let logic = problem.setting().logic();
+    walk(alloc, logic, problem.whole(), 0, &root, supply, turns)?;
     Ok(())
 }
