@@ -1,6 +1,6 @@
 //! Regularity: no goal is the same as one above it.
 
-ghost use Rattle.std.specs.Prelude.{◌≡◌, ℕ, List, IfOk, IsTrue, drop, false, length, true};
+ghost use Rattle.std.specs.Prelude.{◌≡◌, ℕ, List, IfOk, IsTrue, None, Some, drop, false, length, true};
 ghost use Rattle.std.specs.List.{AllByRecursion, list_all};
 ghost use Rattle.calculus.specs.Syntax.{Problem};
 ghost use Rattle.search_theory.specs.Regular.{IsNewGoal, is_classical_goal, is_classical_store};
@@ -48,7 +48,37 @@ pub(crate) fn is_new(
     Ok(true)
 }
 
-/// Whether this holds of the goals from this number on.
+/// The first goal from this number on that is the same as one above it, under the bindings.
+pub(crate) fn first_repeated(
+    unifier: &mut Unifier,
+    store: &Store,
+    tree: &Tree,
+    first: usize,
+) -> Result<Option<usize>, NoMemory>
+    requires { (xs : List CellGoal)
+        × AreGoals tree.now.steps.items tree.now.goals.items tree.now.goals.items xs
+        × IsTrue (list_all (goal_is_below (length store.now.store.cells)) xs) }
+    ensures new { IfOk result (λ found. found ≡ None → (P : Problem) (base : ℕ)
+        (xs : List CellGoal)
+        → AreGoals tree.now.steps.items tree.now.goals.items tree.now.goals.items xs
+        → IsTrue (is_classical_store P base store.now.store)
+        → IsTrue (list_all (is_classical_goal base store.now.store) xs)
+        → AllByRecursion (IsNewGoal store.now.store) (drop first xs)) }
+    ensures repeated { IfOk result (λ found. (goal : ℕ) → found ≡ Some goal → (base : ℕ)
+        (xs : List CellGoal)
+        → AreGoals tree.now.steps.items tree.now.goals.items tree.now.goals.items xs
+        → IsTrue (list_all (is_classical_goal base store.now.store) xs)
+        → AnyRepeated store.now.store xs) }
+{
+    for goal in first..tree.goals.len() {
+        if !is_new(unifier, store, tree, goal)? {
+            return Ok(Some(goal));
+        }
+    }
+    Ok(None)
+}
+
+/// Whether each goal from this number on is the same as none above it.
 pub(crate) fn are_new_from(
     unifier: &mut Unifier,
     store: &Store,
@@ -68,10 +98,9 @@ pub(crate) fn are_new_from(
         → IsTrue (list_all (is_classical_goal base store.now.store) xs)
         → AnyRepeated store.now.store xs) }
 {
-    for goal in first..tree.goals.len() {
-        if !is_new(unifier, store, tree, goal)? {
-            return Ok(false);
-        }
+    let repeated = first_repeated(unifier, store, tree, first)?;
+    match repeated {
+        None => Ok(true),
+        Some(_goal) => Ok(false),
     }
-    Ok(true)
 }

@@ -1,5 +1,5 @@
 use Rattle.connection_search.proofs.TreeLaws.{AreNewTo}
-use Rattle.connection_search.proofs.regular.are_new_from.Given as goal
+use Rattle.connection_search.proofs.regular.first_repeated.Given as goal
 
 abbrev pub invariant-loop-goal : goal.invariant-loop-goal
 invariant-loop-goal l = AreNewTo l.store.store l.tree.steps.items l.tree.goals.items l.first l.goal
