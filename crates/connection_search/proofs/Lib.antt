@@ -30,6 +30,7 @@ pub mod LeftLaws
 pub mod VisitLaws
 -- the loop over the points
 pub mod StackedLaws
+pub mod DeadLaws
 pub mod TryingLaws
 -- the search at one limit
 pub mod SearchedLaws

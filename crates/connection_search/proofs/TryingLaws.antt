@@ -27,8 +27,10 @@ use Rattle.connection_search.specs.declared.point.Move.{Move}
 use Rattle.connection_search.specs.declared.point.Point.{Point}
 use Rattle.connection_search.specs.declared.tree.Goal.{Goal}
 use Rattle.connection_search.specs.declared.tree.Step.{Step}
+use Rattle.connection_search.proofs.DeadLaws.{live-not_empty, search-dead_behind}
 use Rattle.connection_search.proofs.MoveLaws.{goal-here}
 use Rattle.connection_search.proofs.StackedLaws.{before-same, mark-itself, point-back, point-next, points-back, points-kept, untried-moved}
+use Rattle.connection_search.proofs.VisitLaws.{exploring-moved, stands-live}
 
 -- ---- back at the last point
 
@@ -89,6 +91,24 @@ none-left P m base d s steps goals points p later begun used left h e = record {
   searched = subst (λ xs. IsSearched P d (behind h.choices xs ++ (h.below ++ later)) begun used left) e h.searched;
 }
 
+-- the tree is that of a state whose leftmost open goal is the point's
+pub stands-back : (P : Problem) (m : List MatrixClause) (base d : ℕ) (s : Store) (steps : List Step) (goals : List Goal) (first : Option ℕ) (p : Point) (points : List Point) (later : List (List Choice)) (begun used : ℕ) (left : Bool) → first ≡ Some p.goal → (h : IsBackAt P m base d s steps goals p points later begun used left) → StandsFor P m base d h.choices s steps goals first
+stands-back P m base d s steps goals first p points later begun used left e h = subst (StandsFor P m base d h.choices s steps goals) (sym e) (h.at.made, record { open_goals = h.goal ∷ h.at.behind; all_goals = h.at.every; depths = h.at.depths }, h.at.at)
+
+-- the tree is irregular
+pub dead-left : (P : Problem) (m : List MatrixClause) (base d : ℕ) (s : Store) (steps : List Step) (goals : List Goal) (first : Option ℕ) (points : List Point) (p : Point) (later : List (List Choice)) (begun used : ℕ) (left : Bool) → first ≡ Some p.goal → (h : IsBackAt P m base d s steps goals p (reverse points) later begun used left) → IsDead P h.choices → IsExploring P m base d s steps goals points later begun used left
+dead-left P m base d s steps goals first points p later begun used left e h dead =
+    let live = stands-live P m base d h.choices s steps goals first (stands-back P m base d s steps goals first p (reverse points) later begun used left e h) in
+    record {
+      pending = h.below;
+      points = h.rest;
+      searched = record {
+        spent = h.searched.spent;
+        search = search-dead_behind P d h.searched.spent h.choices h.untried (h.below ++ later) left (live-not_empty P d h.choices live) dead h.searched.search;
+        count = h.searched.count;
+      };
+    }
+
 -- ---- the next choice
 
 -- this choice comes next, at a goal that stands there; the points on the stack are the last one first
@@ -142,6 +162,13 @@ none-at P m base d s t steps after goals all points p q later begun used left o 
     let b = back-at P m base d s t steps after goals all points p later begun used left h es ea eb in
     none-left P m base d t after all points p later begun used left b
     (next-none m d after all q b.goal b.untried o (next d b.goal b.untried (goal-here P m base d b.choices t after all p.goal b.goal b.at) b.has) none)
+
+-- the tree is irregular
+pub dead-at : (P : Problem) (m : List MatrixClause) (base d : ℕ) (s t : Store) (steps after now : List Step) (goals all these : List Goal) (first : Option ℕ) (points : List Point) (p : Point) (later : List (List Choice)) (begun used : ℕ) (left : Bool) → t ≡ cut_at (the_mark p.mark) s → after ≡ take p.steps steps → all ≡ take p.goals goals → first ≡ Some p.goal → now ≡ after → these ≡ all → ((P : Problem) (m : List MatrixClause) (base d : ℕ) (c : List Choice) → StandsFor P m base d c t after all first → IsDead P c) → IsExploring P m base d s steps goals (points ++ p ∷ []) later begun used left → IsExploring P m base d t now these points later begun used left
+dead-at P m base d s t steps after now goals all these first points p later begun used left es ea eb ef en et dead h =
+    let b = back-at P m base d s t steps after goals all points p later begun used left h es ea eb in
+    exploring-moved P m base d t t after now all these points later begun used left refl en et
+    (dead-left P m base d t after all first points p later begun used left ef b (dead P m base d b.choices (stands-back P m base d t after all first p (reverse points) later begun used left ef b)))
 
 not-empty : (c : List Choice) (x : Choice) → IsTrue (is_not_empty (c ++ x ∷ []))
 not-empty [] x = refl

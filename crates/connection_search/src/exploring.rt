@@ -96,7 +96,8 @@ impl Space<'_> {
     }
 
     // Goes back to the last choice point, makes its next choice and visits what came of it. The
-    // point stays where a choice was left.
+    // point stays where a choice was left, and goes where its tree is found to be irregular, since
+    // so is each tree that is grown from it.
     fn try_next(
         &self,
         ledger: &mut Ledger,
@@ -145,6 +146,9 @@ impl Space<'_> {
         ensures room { KeepsRoom store.old store.new }
     {
         last.return_to(store, &mut work.tree);
+        if work.is_found_irregular(store)? {
+            return Ok(Visit::On);
+        }
         let mut point = last;
         let choice = match point.next(self.matrix, &work.tree)? {
             Some(choice) => choice,

@@ -21,7 +21,7 @@ ghost use Rattle.connection_search.specs.Trees.{KeepsTree};
 use crate::atoms::unify_all;
 use crate::heads::has_clash;
 use crate::point::Move;
-use crate::regular::{are_new_from, is_new};
+use crate::regular::{are_new_from, first_repeated, is_new};
 use crate::tree::{Copied, Tree};
 use cop_base::{ClauseId, NoMemory};
 use matrix_build::{Matrix, Place};
@@ -29,12 +29,19 @@ use std::alloc::Global;
 use term_store::Store;
 use term_unify::Unifier;
 
+// How many choices are tried for each goal of the tree before all its goals are looked at again.
+const CHOICES_PER_GOAL: usize = 32;
+
 /// What a search works on: the store's bindings, and the tree over its cells.
 #[derive(Drop)]
 pub(crate) struct Work {
     pub alloc: Global,
     pub tree: Tree,
     pub unifier: Unifier,
+    // How many choices were tried since the last look at all goals ended.
+    tried: usize,
+    // How many goals this look has found new. Going back takes bindings away, so they stay new.
+    seen: usize,
 }
 
 impl Work {
@@ -46,6 +53,8 @@ impl Work {
             alloc,
             tree: Tree::new(alloc),
             unifier: Unifier::new(alloc),
+            tried: 0,
+            seen: 0,
         }
     }
 
@@ -294,5 +303,33 @@ impl Work {
     {
         let new = are_new_from(&mut self.unifier, store, &self.tree, 0)?;
         Ok(new)
+    }
+
+    /// Whether the tree is found to be irregular, before its next choice is tried. All its goals
+    /// are looked at, but only where so many choices were tried since the last such look that it
+    /// costs little beside them. A look that finds a goal repeated goes on from it at the next
+    /// call, when the search has gone back.
+    pub fn is_found_irregular(&mut self, store: &Store) -> Result<bool, NoMemory>
+        requires { (P : Problem) × (m : List MatrixClause) × (base : ℕ) × (d : ℕ)
+            × (c : List Choice)
+            × StandsFor P m base d c store.now.store self.old.tree.steps.items
+            self.old.tree.goals.items self.old.tree.open }
+        ensures irregular { IfOk result (λ found. found ≡ true
+            → (P : Problem) (m : List MatrixClause) (base d : ℕ) (c : List Choice)
+            → StandsFor P m base d c store.now.store self.old.tree.steps.items
+            self.old.tree.goals.items self.old.tree.open → IsDead P c) }
+        ensures tree { self.new.tree ≡ self.old.tree }
+    {
+        if self.tried < self.tree.goals.len().saturating_mul(CHOICES_PER_GOAL) {
+            self.tried += 1;
+            return Ok(false);
+        }
+        if let Some(goal) = first_repeated(&mut self.unifier, store, &self.tree, self.seen)? {
+            self.seen = goal;
+            return Ok(true);
+        }
+        self.tried = 0;
+        self.seen = 0;
+        Ok(false)
     }
 }

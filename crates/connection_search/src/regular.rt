@@ -1,6 +1,7 @@
 //! Regularity: no goal is the same as one above it.
 
-ghost use Rattle.std.specs.Prelude.{◌≡◌, ℕ, List, IfOk, IsTrue, None, Some, drop, false, length, true};
+ghost use Rattle.std.specs.Prelude.{◌≡◌, ℕ, List, IfOk, IsTrue, None, Some};
+ghost use Rattle.std.specs.Prelude.{drop, false, length, true};
 ghost use Rattle.std.specs.List.{AllByRecursion, list_all};
 ghost use Rattle.calculus.specs.Syntax.{Problem};
 ghost use Rattle.search_theory.specs.Regular.{IsNewGoal, is_classical_goal, is_classical_store};
