@@ -22,3 +22,4 @@ pub mod MoveLaws
 pub mod NodeLaws
 pub mod OrderLaws
 pub mod Stack
+pub mod PartLaws

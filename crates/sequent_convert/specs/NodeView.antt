@@ -5,4 +5,4 @@ use Rattle.sequent_convert.specs.declared.node.Node as program
 use Rattle.sequent_convert.specs.SpotView.{the_spot}
 
 abbrev pub the_node : program.Node → Item
-the_node n = record { spot = the_spot n.spot; sign = n.sign; formula = the_formula n.formula.now; past = n.past }
+the_node n = record { spot = the_spot n.spot; sign = n.part.sign; formula = the_formula n.part.formula.now; past = n.past }

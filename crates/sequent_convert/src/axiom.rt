@@ -29,7 +29,8 @@ fn are_connected(source: &Source, entries: &[Entry]) -> Result<bool, NoMemory>
     ensures { IfOk result (λ b. (x : derivation.Entry) (y : derivation.Entry) → map the_entry entries.now ≡ x ∷ y ∷ [] → b ≡ connects x y) }
 {
     let step = Step::Axiom { given: 1, shown: 2 };
-    match addition_of(source.alloc, source.problem, source.names, entries, &step) {
+    let problem = source.problem.problem();
+    match addition_of(source.alloc, problem, source.names, entries, &step) {
         Ok(_) => Ok(true),
         Err(ApplyFault::Fault(_)) => Ok(false),
         Err(ApplyFault::NoMemory) => Err(NoMemory),
@@ -40,7 +41,7 @@ fn are_connected(source: &Source, entries: &[Entry]) -> Result<bool, NoMemory>
 fn are_pair(source: &Source, given: &Node, shown: &Node) -> Result<bool, NoMemory>
     ensures { IfOk result (λ b. b ≡ connects (entry_of_item (number_of source.now.named.now.names) (the_node given.now)) (entry_of_item (number_of source.now.named.now.names) (the_node shown.now))) }
 {
-    match (given.formula.as_atom(), shown.formula.as_atom()) {
+    match (given.part.formula.as_atom(), shown.part.formula.as_atom()) {
         (Some((p, ts)), Some((q, us))) => {
             let mut entries = Vec::new(source.alloc);
             entries.push(literal_entry(source.alloc, source.named, given, p, ts)?)?;

@@ -190,7 +190,7 @@ impl<'a> Branch<'a> {
         ensures seen { IfOk result (λ o. IfSome o (ArePair source.now.named.now.names (map the_node self.new.nodes.items))) }
     {
         let place = self.nodes.len();
-        let sign = node.sign;
+        let sign = node.part.sign;
         let complement = complement_of(source, &mut self.literals, &node)?;
         self.nodes.push(node)?;
         match complement {
@@ -215,7 +215,7 @@ fn complement_of(
     literals: &mut Literals,
     node: &Node,
 ) -> Result<Option<usize>, NoMemory> {
-    match node.formula {
+    match node.part.formula {
         Formula::Atom(symbol, arguments) => {
             let entry = literal_entry(source.alloc, source.named, node, *symbol, arguments)?;
             literals.add(source.alloc, &entry)

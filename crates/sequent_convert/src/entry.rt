@@ -77,14 +77,14 @@ pub fn literal_entry(
     symbol: SymbolId,
     arguments: &Terms,
 ) -> Result<Entry, NoMemory>
-    requires { the_formula node.now.formula.now ≡ atom symbol.0 (terms_tree arguments.now) }
+    requires { the_formula node.now.part.formula.now ≡ atom symbol.0 (terms_tree arguments.now) }
     ensures { IfOk result (λ e. the_entry e ≡ entry_of_item (number_of named.now.names) (the_node node.now)) }
 {
     let terms = put_all(alloc, named, node.spot.env.items(), arguments)?;
     let label = label_of(alloc, named, node.spot.label.items())?;
     let formula = atom_of(symbol, terms);
     Ok(Entry {
-        sign: node.sign,
+        sign: node.part.sign,
         formula,
         label,
     })

@@ -14,8 +14,7 @@ use crate::run::Run;
 use crate::source::Source;
 use crate::turns::{begins, begins_somewhere, find_node};
 use cop_base::NoMemory;
-use formula_core::Components;
-use tableau_core::ClosingList;
+use tableau_core::{ClosingList, Parts, components_of};
 
 impl<'a> Run<'a> {
     // The turn ahead is done: goes on to what it left.
@@ -53,29 +52,29 @@ impl<'a> Run<'a> {
     {
         let nodes = self.branch.nodes.as_slice();
         let node = &nodes[place];
-        match node.formula.components(node.sign) {
-            Components::Literal(_, _) => {
+        match components_of(node.part) {
+            Parts::Literal(_, _) => {
                 self.end(source)?;
                 Ok(())
             }
-            Components::Beta(a, _) => {
-                let second = second_position(node.spot.position, a.formula)?;
+            Parts::Beta(a, _) => {
+                let second = second_position(node.spot.position, a)?;
                 self.choose(source, second)?;
                 Ok(())
             }
-            Components::One(_) => {
+            Parts::One(_) => {
                 self.go_on();
                 Ok(())
             }
-            Components::Alpha(_, _) => {
+            Parts::Alpha(_, _) => {
                 self.go_on();
                 Ok(())
             }
-            Components::Gamma(_) => {
+            Parts::Gamma(_) => {
                 self.go_on();
                 Ok(())
             }
-            Components::Delta(_) => {
+            Parts::Delta(_) => {
                 self.go_on();
                 Ok(())
             }

@@ -109,7 +109,7 @@ pub fn convert(
     put_atoms(problem.formula(), &mut atoms)?;
     let source = Source {
         alloc,
-        problem,
+        problem: &sized,
         tableau: t,
         limit,
         named: &named,

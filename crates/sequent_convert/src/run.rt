@@ -13,7 +13,6 @@ use crate::source::Source;
 use crate::spot::Spot;
 use crate::turns::next_turn;
 use cop_base::NoMemory;
-use formula_core::Sign;
 use sequent_calc::StepList;
 
 /// The second branch of a fork: where it begins to differ, its first node there, and what is ahead.
@@ -51,10 +50,10 @@ impl<'a> Run<'a> {
         let ends = Ends::of_start(&source.tableau.goals);
         let waiting = Vec::new(source.alloc);
         let spot = Spot::root(source.alloc);
+        let whole = source.problem.whole();
         let root = Node {
             spot,
-            sign: Sign::F,
-            formula: source.problem.formula(),
+            part: whole,
             past: false,
         };
         let seen = branch.add_node(source, root)?;

@@ -1,16 +1,15 @@
 //! What a conversion goes by.
 
-use logic_rules::Problem;
 use name_order::Named;
 use sequent_calc::Names;
 use std::alloc::Global;
-use tableau_core::Tableau;
+use tableau_core::{SizedProblem, Tableau};
 
 /// The problem, the names and turns of its tableau, and the name lines of the derivation.
 #[derive(Clone, Copy)]
 pub struct Source<'a> {
     pub alloc: Global,
-    pub problem: &'a Problem,
+    pub problem: &'a SizedProblem<'a>,
     pub tableau: &'a Tableau,
     pub limit: u8,
     pub named: &'a Named,

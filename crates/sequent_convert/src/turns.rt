@@ -151,8 +151,7 @@ pub(crate) fn made_at<'a>(
         source.named,
         source.problem.setting().logic(),
         &node.spot,
-        node.sign,
-        node.formula,
+        node.part,
         own,
     )?;
     Ok(made)

@@ -9,6 +9,6 @@ returns c =
     let num = number_of c.args.named.now.names in
     let node = c.args.node.now in
     let terms = c.in_ok-terms.ensures ∙ ap (λ env. map (term_by num 0 env) c.args.arguments.now) c.items.ensures in
-    let formula = atom-put num node.spot.env (the_formula node.formula.now) c.args.symbol.0 c.args.arguments.now c.in_ok-terms.terms c.requires terms in
+    let formula = atom-put num node.spot.env (the_formula node.part.formula.now) c.args.symbol.0 c.args.arguments.now c.in_ok-terms.terms c.requires terms in
     let label = c.in_ok-label.ensures ∙ ap (numbered_label num) c.items-2.ensures in
-    λ i. record { sign = node.sign; formula = (c.atom_of-formula.ensures ∙ formula) i; label = label i }
+    λ i. record { sign = node.part.sign; formula = (c.atom_of-formula.ensures ∙ formula) i; label = label i }
