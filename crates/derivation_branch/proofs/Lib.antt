@@ -1,0 +1,5 @@
+pub mod ChainLaws
+pub mod PuttingLaws
+pub mod TableLaws
+pub mod UnderLaws
+pub mod AddedLaws

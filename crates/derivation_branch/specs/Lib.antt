@@ -1,0 +1,5 @@
+pub mod Chains
+pub mod Putting
+pub mod TableView
+pub mod EntryView
+pub mod AddedView

@@ -1,0 +1,20 @@
+-- The terms and links of the calculus that those of the program stand for.
+use Rattle.std.specs.Prelude.{ℕ}
+use Rattle.calculus.specs.Syntax as tree
+use Rattle.calculus.specs.Derivations as derivation
+use Rattle.formula_core.specs.TermView.{the_term}
+use Rattle.logic_rules.specs.MarkView.{the_character}
+use Rattle.logic_rules.specs.declared.label.Mark.{Mark}
+use Rattle.derivation_branch.specs.declared.substitution.Value.{Value}
+use Rattle.derivation_branch.specs.declared.substitution.Value.TheVariants.{Given, Eigen, Free}
+
+abbrev pub the_value : Value → tree.Term
+the_value (Given t) = the_term t.now
+the_value (Eigen n) = tree.eigen n
+the_value (Free n) = tree.var n
+
+abbrev pub the_link : Value × ℕ → tree.Term × ℕ
+the_link x = (the_value x.0, x.1)
+
+abbrev pub the_mark_link : Mark × ℕ → derivation.Mark × ℕ
+the_mark_link x = (the_character x.0, x.1)

@@ -1,0 +1,70 @@
+//! What a use step adds to a branch.
+
+ghost use Rattle.std.specs.Prelude.{◌≡◌, [], List, get_or, map};
+ghost use Rattle.calculus.specs.Calculus.{entry_at, with_argument, with_components};
+ghost use Rattle.calculus.specs.Derivations as derivation;
+ghost use Rattle.calculus.specs.Kinds.{components, shape_of};
+ghost use Rattle.calculus.specs.Syntax as tree;
+ghost use Rattle.derivation_branch.specs.AddedView.{PutsArgument, children_added};
+ghost use Rattle.derivation_branch.specs.EntryView.{formula_under, signed_under, the_shared};
+ghost use Rattle.formula_core.specs.ComponentsView.{the_signed};
+ghost use Rattle.formula_core.specs.FormulaView.{the_formula};
+
+use crate::entry::SharedEntry;
+use formula_core::{Components, Signed};
+
+/// The entries that a use step adds.
+#[derive(Clone, Copy)]
+pub enum Added<'a> {
+    One(SharedEntry<'a>),
+    Both(SharedEntry<'a>, SharedEntry<'a>),
+    /// The branch splits in two, which grow by one entry each.
+    Fork(SharedEntry<'a>, SharedEntry<'a>),
+}
+
+fn component<'a>(part: Signed<'a>, substitution: usize, label: usize) -> SharedEntry<'a>
+    ensures { (table : List (List tree.Term)) → (labels : List derivation.Label)
+        → the_shared table labels result ≡ entry_at (get_or labels label [])
+        (signed_under table substitution (the_signed part.entry)) }
+{
+    SharedEntry {
+        sign: part.sign,
+        formula: part.formula,
+        substitution,
+        label,
+    }
+}
+
+/// The components of an entry at the label of a place. Where the entry is quantified, `inner` is
+/// the place of its substitution with the argument of the step before it.
+pub fn added_by<'a>(entry_used: SharedEntry<'a>, inner: usize, label: usize) -> Added<'a>
+    ensures { (table : List (List tree.Term)) → (labels : List derivation.Label)
+        → (t : derivation.TermArg) → PutsArgument table entry_used.entry.substitution inner
+        (shape_of entry_used.entry.sign (the_formula entry_used.entry.formula.now)) t
+        → (s : derivation.Sequent) → children_added table labels s result
+        ≡ with_components (shape_of entry_used.entry.sign
+        (formula_under table entry_used.entry.substitution (the_formula entry_used.entry.formula.now)))
+        s (get_or labels label []) (map (with_argument t) (components entry_used.entry.sign
+        (formula_under table entry_used.entry.substitution (the_formula entry_used.entry.formula.now)))) }
+{
+    let outer = entry_used.substitution;
+    match entry_used.formula.components(entry_used.sign) {
+        Components::Literal(_, _) => Added::One(SharedEntry {
+            sign: entry_used.sign,
+            formula: entry_used.formula,
+            substitution: outer,
+            label,
+        }),
+        Components::One(a) => Added::One(component(a, outer, label)),
+        Components::Alpha(a, b) => Added::Both(
+            component(a, outer, label),
+            component(b, outer, label),
+        ),
+        Components::Beta(a, b) => Added::Fork(
+            component(a, outer, label),
+            component(b, outer, label),
+        ),
+        Components::Gamma(a) => Added::One(component(a, inner, label)),
+        Components::Delta(a) => Added::One(component(a, inner, label)),
+    }
+}

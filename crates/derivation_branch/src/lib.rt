@@ -1,0 +1,15 @@
+//! The branch of a derivation that is judged: entries point into the problem's formula, and share
+//! the terms that are put for its variables and their labels.
+#![tactic(auto)]
+
+mod addition;
+mod comparison;
+mod entry;
+mod labels;
+mod substitution;
+
+pub use addition::{Added, added_by};
+pub use comparison::are_same_atom;
+pub use entry::{SharedEntry, connects};
+pub use labels::Labels;
+pub use substitution::{Substitutions, Value};
