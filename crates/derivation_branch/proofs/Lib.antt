@@ -3,3 +3,4 @@ pub mod PuttingLaws
 pub mod TableLaws
 pub mod UnderLaws
 pub mod AddedLaws
+pub mod OccurrenceLaws

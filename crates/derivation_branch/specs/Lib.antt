@@ -3,3 +3,4 @@ pub mod Putting
 pub mod TableView
 pub mod EntryView
 pub mod AddedView
+pub mod Occurring

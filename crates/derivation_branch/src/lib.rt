@@ -3,12 +3,14 @@
 #![tactic(auto)]
 
 mod addition;
+mod binding;
 mod comparison;
 mod entry;
 mod labels;
 mod substitution;
 
 pub use addition::{Added, added_by};
+pub use binding::is_bound_in;
 pub use comparison::are_same_atom;
 pub use entry::{SharedEntry, connects};
 pub use labels::Labels;
