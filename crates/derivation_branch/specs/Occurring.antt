@@ -1,5 +1,5 @@
 -- What stands in a formula: the variable that is bound just outside of it, and numbers of names that are kept in the order of their first places.
-use Rattle.std.specs.Prelude.{ℕ, suc, List, Bool, false, ◌||◌, ◌==◌}
+use Rattle.std.specs.Prelude.{◌≡◌, ℕ, suc, List, ◌++◌, Bool, false, ◌||◌, ◌==◌}
 use Rattle.std.specs.List.{list_any}
 use Rattle.calculus.specs.Syntax.{Term, var, Formula, atom, neg, conj, disj, imp, all, ex, box, dia}
 use Rattle.calculus.specs.Substitution.{any_leaf_of}
@@ -22,3 +22,7 @@ binds_at d (dia a) = binds_at d a
 
 abbrev pub holds : List ℕ → ℕ → Bool
 holds ns n = list_any (λ k. n == k) ns
+
+-- numbers were added at the end
+abbrev pub IsLonger : List ℕ → List ℕ → Type 0
+IsLonger ns ms = (more : List ℕ) × (ms ≡ ns ++ more)

@@ -7,6 +7,8 @@ mod binding;
 mod comparison;
 mod entry;
 mod labels;
+mod leaves;
+mod number_set;
 mod substitution;
 
 pub use addition::{Added, added_by};
@@ -14,4 +16,6 @@ pub use binding::is_bound_in;
 pub use comparison::are_same_atom;
 pub use entry::{SharedEntry, connects};
 pub use labels::Labels;
+pub use leaves::add_eigens;
+pub use number_set::NumberSet;
 pub use substitution::{Substitutions, Value};
