@@ -4,3 +4,4 @@ pub mod TableLaws
 pub mod UnderLaws
 pub mod AddedLaws
 pub mod OccurrenceLaws
+pub mod GrowthLaws

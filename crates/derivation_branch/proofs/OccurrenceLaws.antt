@@ -30,16 +30,16 @@ both_more false false false e t = refl
 equal-same : (k d : ℕ) → k ≡ d → (k == d) ≡ true
 equal-same k d e = search rules
 
-equal-apart : (k d : ℕ) → k ≢ d → (k == d) ≡ false
+pub equal-apart : (k d : ℕ) → k ≢ d → (k == d) ≡ false
 equal-apart k d h = search rules
 
-cmp-less : (k d : ℕ) → k < d → nat_cmp k d ≡ Less
+pub cmp-less : (k d : ℕ) → k < d → nat_cmp k d ≡ Less
 cmp-less k d h = sym (nat_cmp_is k d Less h)
 
-cmp-equal : (k d : ℕ) → k ≡ d → nat_cmp k d ≡ Equal
+pub cmp-equal : (k d : ℕ) → k ≡ d → nat_cmp k d ≡ Equal
 cmp-equal k d h = sym (nat_cmp_is k d Equal h)
 
-cmp-greater : (k d : ℕ) → d < k → nat_cmp k d ≡ Greater
+pub cmp-greater : (k d : ℕ) → d < k → nat_cmp k d ≡ Greater
 cmp-greater k d h = sym (nat_cmp_is k d Greater h)
 
 -- a test that no variable passes

@@ -2,7 +2,8 @@
 use Rattle.std.specs.Prelude.{◌≡◌, ℕ, suc, List, ◌++◌, Bool, false, ◌||◌, ◌==◌}
 use Rattle.std.specs.List.{list_any}
 use Rattle.calculus.specs.Syntax.{Term, var, Formula, atom, neg, conj, disj, imp, all, ex, box, dia}
-use Rattle.calculus.specs.Substitution.{any_leaf_of}
+use Rattle.calculus.specs.Derivations.{Entry, Sequent}
+use Rattle.calculus.specs.Substitution.{any_leaf_of, any_leaf_in}
 
 abbrev pub is_variable : ℕ → Term → Bool
 is_variable d (var k) = k == d
@@ -19,6 +20,10 @@ binds_at d (all a) = binds_at (suc d) a
 binds_at d (ex a) = binds_at (suc d) a
 binds_at d (box a) = binds_at d a
 binds_at d (dia a) = binds_at d a
+
+-- a name that the test tells stands in a formula of the sequent
+abbrev pub occurs : (Term → Bool) → Sequent → Bool
+occurs test s = list_any (λ (e : Entry). any_leaf_in test e.formula) s
 
 abbrev pub holds : List ℕ → ℕ → Bool
 holds ns n = list_any (λ k. n == k) ns
