@@ -37,21 +37,21 @@ fn component<'a>(part: Signed<'a>, substitution: usize, label: usize) -> SharedE
 
 /// The components of an entry at the label of a place. Where the entry is quantified, `inner` is
 /// the place of its substitution with the argument of the step before it.
-pub fn added_by<'a>(entry_used: SharedEntry<'a>, inner: usize, label: usize) -> Added<'a>
+pub fn added_by<'a>(used: SharedEntry<'a>, inner: usize, label: usize) -> Added<'a>
     ensures { (table : List (List tree.Term)) → (labels : List derivation.Label)
-        → (t : derivation.TermArg) → PutsArgument table entry_used.entry.substitution inner
-        (shape_of entry_used.entry.sign (the_formula entry_used.entry.formula.now)) t
+        → (t : derivation.TermArg) → PutsArgument table used.entry.substitution inner
+        (shape_of used.entry.sign (the_formula used.entry.formula.now)) t
         → (s : derivation.Sequent) → children_added table labels s result
-        ≡ with_components (shape_of entry_used.entry.sign
-        (formula_under table entry_used.entry.substitution (the_formula entry_used.entry.formula.now)))
-        s (get_or labels label []) (map (with_argument t) (components entry_used.entry.sign
-        (formula_under table entry_used.entry.substitution (the_formula entry_used.entry.formula.now)))) }
+        ≡ with_components (shape_of used.entry.sign
+        (formula_under table used.entry.substitution (the_formula used.entry.formula.now)))
+        s (get_or labels label []) (map (with_argument t) (components used.entry.sign
+        (formula_under table used.entry.substitution (the_formula used.entry.formula.now)))) }
 {
-    let outer = entry_used.substitution;
-    match entry_used.formula.components(entry_used.sign) {
+    let outer = used.substitution;
+    match used.formula.components(used.sign) {
         Components::Literal(_, _) => Added::One(SharedEntry {
-            sign: entry_used.sign,
-            formula: entry_used.formula,
+            sign: used.sign,
+            formula: used.formula,
             substitution: outer,
             label,
         }),

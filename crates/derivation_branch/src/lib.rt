@@ -19,3 +19,6 @@ pub use labels::Labels;
 pub use leaves::add_eigens;
 pub use number_set::NumberSet;
 pub use substitution::{Substitutions, Value};
+
+#[cfg(test)]
+mod tests;

@@ -10,7 +10,7 @@ use Rattle.derivation_branch.proofs.addition.added_by.Goals as goal
 
 pub returns-in-Literal : goal.returns-in-Literal
 returns-in-Literal c = λ table labels t put s.
-    let e = c.args.entry_used in
+    let e = c.args.used in
     let f = the_formula e.formula.now in
     let shape = sym c.in-Literal.ensures.shape in
     let none = subst (λ k. PutsArgument table e.substitution c.args.inner k t) shape put in
@@ -19,7 +19,7 @@ returns-in-Literal c = λ table labels t put s.
 
 pub returns-in-One : goal.returns-in-One
 returns-in-One c = λ table labels t put s.
-    let e = c.args.entry_used in
+    let e = c.args.used in
     let shape = sym c.in-One.ensures.shape in
     let none = subst (λ k. PutsArgument table e.substitution c.args.inner k t) shape put in
     ap (λ x. one (s ++ x ∷ [])) (c.component.ensures table labels)
@@ -27,7 +27,7 @@ returns-in-One c = λ table labels t put s.
 
 pub returns-in-Alpha : goal.returns-in-Alpha
 returns-in-Alpha c = λ table labels t put s.
-    let e = c.args.entry_used in
+    let e = c.args.used in
     let shape = sym c.in-Alpha.ensures.shape in
     let none = subst (λ k. PutsArgument table e.substitution c.args.inner k t) shape put in
     let first = c.component-in-Alpha.ensures table labels in
@@ -37,7 +37,7 @@ returns-in-Alpha c = λ table labels t put s.
 
 pub returns-in-Beta : goal.returns-in-Beta
 returns-in-Beta c = λ table labels t put s.
-    let e = c.args.entry_used in
+    let e = c.args.used in
     let shape = sym c.in-Beta.ensures.shape in
     let none = subst (λ k. PutsArgument table e.substitution c.args.inner k t) shape put in
     let first = c.component-in-Beta.ensures table labels in
@@ -47,12 +47,12 @@ returns-in-Beta c = λ table labels t put s.
 
 pub returns-in-Gamma : goal.returns-in-Gamma
 returns-in-Gamma c = λ table labels t put s.
-    let e = c.args.entry_used in
+    let e = c.args.used in
     ap (λ x. one (s ++ x ∷ [])) (c.component-in-Gamma.ensures table labels)
     ∙ sym (added-bound table e.substitution c.args.inner e.sign (the_formula e.formula.now) Gamma (the_signed c.in-Gamma.a) t s (get_or labels c.args.label []) refl (sym c.in-Gamma.ensures.shape) (sym c.in-Gamma.ensures.components) put)
 
 pub returns-in-Delta : goal.returns-in-Delta
 returns-in-Delta c = λ table labels t put s.
-    let e = c.args.entry_used in
+    let e = c.args.used in
     ap (λ x. one (s ++ x ∷ [])) (c.component-in-Delta.ensures table labels)
     ∙ sym (added-bound table e.substitution c.args.inner e.sign (the_formula e.formula.now) Delta (the_signed c.in-Delta.a) t s (get_or labels c.args.label []) refl (sym c.in-Delta.ensures.shape) (sym c.in-Delta.ensures.components) put)
