@@ -1,11 +1,11 @@
 -- What stands on a branch when a use step adds the components of one of its entries: what stood there, and what stands in the argument where
 -- the quantifier binds something.
-use Rattle.std.proofs.Common.{◌≡◌, ◌≢◌, ℕ, zero, suc, ◌+◌, ◌-◌, ◌<◌, ◌≤◌, Bool, true, false, ◌||◌, ◌&&◌, ◌==◌, List, [], ◌∷◌, ◌++◌, length, get_or, map, refl, sym, ◌∙◌, ap, inl, inr, arith}
+use Rattle.std.proofs.Common.{◌≡◌, ℕ, zero, suc, ◌-◌, ◌<◌, Bool, true, false, ◌||◌, ◌&&◌, ◌==◌, List, [], ◌∷◌, ◌++◌, length, get_or, map, refl, sym, ◌∙◌, ap, inl, inr, arith}
 use Rattle.std.proofs.lemmas.Bool.{cases_order, or_parts}
 use Rattle.std.specs.List.{list_any}
 use Rattle.std.specs.Ordering.{nat_cmp}
 use Rattle.calculus.specs.declared.sign.Sign.{Sign}
-use Rattle.calculus.specs.Calculus.{entry_at, eigen_occurs, character_occurs, holds_character, is_in_home}
+use Rattle.calculus.specs.Calculus.{entry_at, character_occurs, holds_character, is_in_home}
 use Rattle.calculus.specs.Derivations.{Entry, Sequent, Label, Mark, Names}
 use Rattle.calculus.specs.Kinds.{Signed, signed, components}
 use Rattle.calculus.specs.Syntax.{Term, Terms, var, fun, eigen, spare, no_terms, more_terms, Formula, atom, neg, conj, disj, imp, all, ex, box, dia}
