@@ -44,7 +44,7 @@ pub fn eigen_named(names: &Names, number: u32) -> Option<&(u32, Label)>
     None
 }
 
-fn spare_named(names: &Names, number: u32) -> Option<&(u32, Home)>
+pub fn spare_named(names: &Names, number: u32) -> Option<&(u32, Home)>
     ensures { option_map the_spare (option_copied result)
         ≡ spare_named (the_names names.now) number }
 {

@@ -17,8 +17,10 @@ mod step;
 mod tests;
 
 pub use addition::{Addition, addition_of};
+pub use condition::{arguments_fit, home_is, is_known, is_reachable, term_allowed};
 pub use derivation::Derivation;
 pub use entry::{Entry, Sequent};
+pub use leaf::{eigen_named, spare_named};
 pub use names::{EigenList, Home, Names, SpareList};
 pub use rules::{ApplyFault, Children, StepFault, apply};
 pub use step::{ModalArg, Step, StepList, TermArg};
