@@ -16,25 +16,25 @@ use Rattle.derivation_branch.proofs.OccurrenceLaws.{IsOfNames, leaf-put, cmp-les
 
 -- ---- truth values
 
-or_false : (a : Bool) → (a || false) ≡ a
+pub or_false : (a : Bool) → (a || false) ≡ a
 or_false true = refl
 or_false false = refl
 
-or_assoc : (a b c : Bool) → ((a || b) || c) ≡ (a || (b || c))
+pub or_assoc : (a b c : Bool) → ((a || b) || c) ≡ (a || (b || c))
 or_assoc true b c = refl
 or_assoc false b c = refl
 
-or_swap : (a b c d : Bool) → ((a || b) || (c || d)) ≡ ((a || c) || (b || d))
+pub or_swap : (a b c d : Bool) → ((a || b) || (c || d)) ≡ ((a || c) || (b || d))
 or_swap true b c d = refl
 or_swap false true true d = refl
 or_swap false true false d = refl
 or_swap false false c d = refl
 
 -- what is covered adds nothing
-covered : (a b c : Bool) → (a || b) ≡ a → (a || (b || c)) ≡ (a || c)
+pub covered : (a b c : Bool) → (a || b) ≡ a → (a || (b || c)) ≡ (a || c)
 covered a b c e = sym (or_assoc a b c) ∙ ap (λ x. x || c) e
 
-any-append : {A : Type 0} (p : A → Bool) (xs ys : List A) → list_any p (xs ++ ys) ≡ (list_any p xs || list_any p ys)
+pub any-append : {A : Type 0} (p : A → Bool) (xs ys : List A) → list_any p (xs ++ ys) ≡ (list_any p xs || list_any p ys)
 any-append p [] ys = refl
 any-append p (x ∷ xs) ys = ap (λ b. p x || b) (any-append p xs ys) ∙ sym (or_assoc (p x) (list_any p xs) (list_any p ys))
 
@@ -42,7 +42,7 @@ any-or : {A : Type 0} (p q : A → Bool) (xs : List A) → list_any (λ x. p x |
 any-or p q [] = refl
 any-or p q (x ∷ xs) = ap (λ b. (p x || q x) || b) (any-or p q xs) ∙ or_swap (p x) (q x) (list_any p xs) (list_any q xs)
 
-any-member : {A : Type 0} (p : A → Bool) (xs : List A) (k : ℕ) (x : A) → k < length xs → x ≡ get_or xs k x → (list_any p xs || p x) ≡ list_any p xs
+pub any-member : {A : Type 0} (p : A → Bool) (xs : List A) (k : ℕ) (x : A) → k < length xs → x ≡ get_or xs k x → (list_any p xs || p x) ≡ list_any p xs
 any-member p [] k x h e = absurd (omega arith)
 any-member p (y ∷ ys) zero x h e = ap (λ z. (p y || list_any p ys) || p z) e ∙ again (p y) (list_any p ys)
   where
@@ -78,7 +78,7 @@ plain-grown test s k e v h at =
     ∙ any-member (λ (x : Entry). any_leaf_in test x.formula) s k e h at
 
 -- one of two components
-part-covered : (a b c : Bool) → (a || (b || c)) ≡ a → (a || b) ≡ a
+pub part-covered : (a b c : Bool) → (a || (b || c)) ≡ a → (a || b) ≡ a
 part-covered true b c e = refl
 part-covered false true c e = e
 part-covered false false c e = refl
@@ -159,7 +159,7 @@ mutual
   bound-terms t d e no_terms h lt = refl
   bound-terms t d e (more_terms u us) h lt = λ i. bound-term t d e u h lt i || bound-terms t d e us h lt i
 
-bound-formula : (t : Term) (d e : ℕ) (f : Formula) → IsClosed t → d < e → binds_at d (formula_with t e f) ≡ binds_at d f
+pub bound-formula : (t : Term) (d e : ℕ) (f : Formula) → IsClosed t → d < e → binds_at d (formula_with t e f) ≡ binds_at d f
 bound-formula t d e (atom p us) h lt = bound-terms t d e us h lt
 bound-formula t d e (neg a) h lt = bound-formula t d e a h lt
 bound-formula t d e (conj a b) h lt = λ i. bound-formula t d e a h lt i || bound-formula t d e b h lt i

@@ -5,3 +5,4 @@ pub mod UnderLaws
 pub mod AddedLaws
 pub mod OccurrenceLaws
 pub mod GrowthLaws
+pub mod ChildLaws

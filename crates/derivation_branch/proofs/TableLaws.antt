@@ -1,6 +1,6 @@
 -- The tables of substitutions and of labels by their links.
-use Rattle.std.proofs.Common.{◌≡◌, ℕ, zero, suc, ◌-◌, ◌<◌, ◌≤◌, List, [], ◌∷◌, ◌++◌, length, get_or, map, reverse, true, refl, sym, ◌∙◌, ap, subst, arith}
-use Rattle.std.proofs.lemmas.List.{length-append, length-map, map_push, get_or-map, reverse-append, append-nil, append_assoc}
+use Rattle.std.proofs.Common.{◌≡◌, ℕ, zero, suc, ◌+◌, ◌-◌, ◌<◌, ◌≤◌, List, [], ◌∷◌, ◌++◌, length, get_or, map, reverse, drop, true, refl, sym, ◌∙◌, ap, subst, arith}
+use Rattle.std.proofs.lemmas.List.{length-append, length-map, map_push, get_or-map, reverse-append, append-nil, append_assoc, drop_more, drop_all, get_or_append_left, get_or_push}
 use Rattle.calculus.specs.Derivations as derivation
 use Rattle.calculus.specs.Derivations.{character_eq}
 use Rattle.calculus.specs.Equality.{list_eq}
@@ -9,6 +9,7 @@ use Rattle.calculus.proofs.EqualityLaws.{character_eq-tells, list_eq-tells}
 use Rattle.logic_rules.specs.declared.label.Mark.{Mark}
 use Rattle.logic_rules.specs.MarkView.{the_character}
 use Rattle.derivation_branch.specs.Chains.{with_link, chains_from, chains, AreBackward}
+use Rattle.derivation_branch.specs.Occurring.{IsLonger}
 use Rattle.derivation_branch.specs.Putting.{IsClosed, AreClosed, AreClosedLinks, value_at}
 use Rattle.derivation_branch.specs.TableView.{the_value, the_link, the_mark_link}
 use Rattle.derivation_branch.specs.declared.substitution.Value.{Value}
@@ -160,3 +161,44 @@ marks-all w front label v marks e f read same = read ∙ ap (λ l. l ++ reverse 
 
 pub label-self : (w v : derivation.Label) → w ≡ v → true ≡ list_eq character_eq w v
 label-self w v e = sym ((list_eq-tells character_eq character_eq-tells w v).1 e)
+
+-- ---- tables that grow
+
+pub label-some : (xs : List (Mark × ℕ)) (now : List derivation.Label) → label_table xs ≡ now → 0 < length now
+label-some xs now view =
+    let e = table-length the_mark_link xs (chains (map the_mark_link xs)) refl in
+    let f = sym (ap length view) ∙ length-map (chains (map the_mark_link xs)) reverse in
+    omega (arith, e, f)
+
+pub longer-self : {A : Type 0} (xs : List A) → IsLonger xs xs
+longer-self {A} xs = ([], sym (append-nil xs))
+
+pub longer-more : {A : Type 0} (xs ys zs : List A) → IsLonger xs ys → IsLonger ys zs → IsLonger xs zs
+longer-more {A} xs ys zs h g = (h.0 ++ g.0, g.1 ∙ ap (λ l. l ++ g.0) h.1 ∙ append_assoc xs h.0 g.0)
+
+pub pushed-longer : {A : Type 0} (xs ys : List A) (y : A) → ys ≡ xs ++ y ∷ [] → IsLonger xs ys
+pushed-longer {A} xs ys y e = (y ∷ [], e)
+
+pub pushed-at : {A : Type 0} (xs ys : List A) (k : ℕ) (y d : A) → k ≡ length xs → ys ≡ xs ++ y ∷ [] → (k < length ys) × (get_or ys k d ≡ y)
+pushed-at {A} xs ys k y d e f =
+    let size = ap length f ∙ length-append xs (y ∷ []) in
+    (omega (arith, e, size), ap (λ l. get_or l k d) f ∙ get_or_push xs y d k (sym e))
+
+pub longer-size : {A : Type 0} (xs ys : List A) → IsLonger xs ys → length xs ≤ length ys
+longer-size {A} xs ys h = let e = ap length h.1 ∙ length-append xs h.0 in omega (arith, e)
+
+pub longer-at : {A : Type 0} (xs ys : List A) (k : ℕ) (d : A) → IsLonger xs ys → k < length xs → get_or ys k d ≡ get_or xs k d
+longer-at {A} xs ys k d h lt = ap (λ l. get_or l k d) h.1 ∙ get_or_append_left xs h.0 d k lt
+
+-- a label that is read from the front
+pub root-read : (front : derivation.Label) (marks : List Mark) (w : derivation.Label) → front ≡ [] → map the_character marks ≡ w → front ++ map the_character marks ≡ w
+root-read front marks w e f = ap (λ l. l ++ map the_character marks) e ∙ f
+
+pub mark-read : (front after : derivation.Label) (marks : List Mark) (i : ℕ) (x d : Mark) (w : derivation.Label) → i < length marks → x ≡ get_or marks i d → after ≡ front ++ the_character x ∷ [] → front ++ map the_character (drop i marks) ≡ w → after ++ map the_character (drop (i + 1) marks) ≡ w
+mark-read front after marks i x d w lt at grown same =
+    let rest : drop i marks ≡ x ∷ drop (i + 1) marks = drop_more marks i d lt ∙ ap (λ y. y ∷ drop (i + 1) marks) (sym at) in
+    ap (λ l. l ++ map the_character (drop (i + 1) marks)) grown ∙ append_assoc front (the_character x ∷ []) (map the_character (drop (i + 1) marks))
+    ∙ ap (λ l. front ++ map the_character l) (sym rest) ∙ same
+
+pub marks-read : (front : derivation.Label) (marks : List Mark) (i : ℕ) (w : derivation.Label) → length marks ≤ i → front ++ map the_character (drop i marks) ≡ w → front ≡ w
+marks-read front marks i w le same = sym (append-nil front) ∙ ap (λ l. front ++ map the_character l) (sym (drop_all i marks le)) ∙ same

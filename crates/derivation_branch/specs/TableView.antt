@@ -1,5 +1,5 @@
 -- The terms and links of the calculus that those of the program stand for.
-use Rattle.std.specs.Prelude.{ℕ}
+use Rattle.std.specs.Prelude.{◌≡◌, ℕ, ◌<◌, List, [], length, get_or}
 use Rattle.calculus.specs.Syntax as tree
 use Rattle.calculus.specs.Derivations as derivation
 use Rattle.formula_core.specs.TermView.{the_term}
@@ -18,3 +18,7 @@ the_link x = (the_value x.0, x.1)
 
 abbrev pub the_mark_link : Mark × ℕ → derivation.Mark × ℕ
 the_mark_link x = (the_character x.0, x.1)
+
+-- the label stands at the place
+abbrev pub IsLabelAt : List derivation.Label → ℕ → derivation.Label → Type 0
+IsLabelAt labels k w = (k < length labels) × (get_or labels k [] ≡ w)

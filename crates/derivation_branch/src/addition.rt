@@ -5,7 +5,7 @@ ghost use Rattle.calculus.specs.Calculus.{entry_at, with_argument, with_componen
 ghost use Rattle.calculus.specs.Derivations as derivation;
 ghost use Rattle.calculus.specs.Kinds.{components, shape_of};
 ghost use Rattle.calculus.specs.Syntax as tree;
-ghost use Rattle.derivation_branch.specs.AddedView.{PutsArgument, children_added};
+ghost use Rattle.derivation_branch.specs.AddedView.{AreAddedAt, PutsArgument, children_added};
 ghost use Rattle.derivation_branch.specs.EntryView.{formula_under, signed_under, the_shared};
 ghost use Rattle.formula_core.specs.ComponentsView.{the_signed};
 ghost use Rattle.formula_core.specs.FormulaView.{the_formula};
@@ -23,9 +23,11 @@ pub enum Added<'a> {
 }
 
 fn component<'a>(part: Signed<'a>, substitution: usize, label: usize) -> SharedEntry<'a>
-    ensures { (table : List (List tree.Term)) → (labels : List derivation.Label)
+    ensures entry { (table : List (List tree.Term)) → (labels : List derivation.Label)
         → the_shared table labels result ≡ entry_at (get_or labels label [])
         (signed_under table substitution (the_signed part.entry)) }
+    ensures under { result.substitution ≡ substitution }
+    ensures labelled { result.label ≡ label }
 {
     SharedEntry {
         sign: part.sign,
@@ -38,7 +40,7 @@ fn component<'a>(part: Signed<'a>, substitution: usize, label: usize) -> SharedE
 /// The components of an entry at the label of a place. Where the entry is quantified, `inner` is
 /// the place of its substitution with the argument of the step before it.
 pub fn added_by<'a>(used: SharedEntry<'a>, inner: usize, label: usize) -> Added<'a>
-    ensures { (table : List (List tree.Term)) → (labels : List derivation.Label)
+    ensures added { (table : List (List tree.Term)) → (labels : List derivation.Label)
         → (t : derivation.TermArg) → PutsArgument table used.entry.substitution inner
         (shape_of used.entry.sign (the_formula used.entry.formula.now)) t
         → (s : derivation.Sequent) → children_added table labels s result
@@ -46,6 +48,7 @@ pub fn added_by<'a>(used: SharedEntry<'a>, inner: usize, label: usize) -> Added<
         (formula_under table used.entry.substitution (the_formula used.entry.formula.now)))
         s (get_or labels label []) (map (with_argument t) (components used.entry.sign
         (formula_under table used.entry.substitution (the_formula used.entry.formula.now)))) }
+    ensures at { AreAddedAt used.entry.substitution inner label result }
 {
     let outer = used.substitution;
     match used.formula.components(used.sign) {

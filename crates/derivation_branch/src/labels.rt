@@ -2,12 +2,16 @@
 
 ghost use Rattle.std.specs.Prelude.{◌≡◌, ◌<◌, ◌++◌, ◌∷◌, [], get_or, length, map, reverse};
 ghost use Rattle.std.specs.Prelude.{IfOk, OnOk, OnErr};
+ghost use Rattle.calculus.specs.Derivations as derivation;
 ghost use Rattle.calculus.specs.Derivations.{character_eq};
 ghost use Rattle.calculus.specs.Equality.{list_eq};
+ghost use Rattle.calculus.specs.Labels.{pi_label};
+ghost use Rattle.derivation_branch.specs.Occurring.{IsLonger};
+ghost use Rattle.derivation_branch.specs.TableView.{IsLabelAt};
 ghost use Rattle.logic_rules.specs.MarkView.{the_character};
 
 use cop_base::NoMemory;
-use logic_rules::{Label, Mark};
+use logic_rules::{Label, Logic, Mark};
 use std::alloc::Global;
 use std::marker::Model;
 
@@ -63,6 +67,69 @@ impl Labels {
     {
         self.links.push((mark, front))?;
         Ok(self.links.len())
+    }
+
+    /// The place of the root.
+    pub fn root(&self) -> usize
+        ensures within { result < length self.now }
+        ensures root { get_or self.now result [] ≡ [] }
+    {
+        let _links_of_others = &self.links;
+        0
+    }
+
+    // The place of a label with one mark more.
+    fn extend(&mut self, front: usize, mark: Mark) -> Result<usize, NoMemory>
+        requires { front < length self.old }
+        ensures place { IfOk result (λ k.
+            IsLabelAt self.new k (get_or self.old front [] ++ the_character mark ∷ [])) }
+        ensures grown { OnOk result (IsLonger self.old self.new) }
+    {
+        let place = self.push(front, mark)?;
+        Ok(place)
+    }
+
+    /// Adds a label of a text. The answer is its place.
+    pub fn add(&mut self, label: &Label) -> Result<usize, NoMemory>
+        ensures place { IfOk result (λ k. IsLabelAt self.new k label.now) }
+        ensures grown { OnOk result (IsLonger self.old self.new) }
+    {
+        let mut place = self.root();
+        for mark in label.items() {
+            place = self.extend(place, *mark)?;
+        }
+        Ok(place)
+    }
+
+    // The label behind which a pi step puts its mark.
+    fn before_pi(&self, logic: Logic, from: usize) -> usize
+        requires { from < length self.now }
+        ensures within { result < length self.now }
+        ensures before { (m : derivation.Mark)
+            → pi_label logic (get_or self.now from []) m ≡ get_or self.now result [] ++ m ∷ [] }
+    {
+        match logic {
+            Logic::S5 => self.root(),
+            Logic::Classical | Logic::Intuitionistic | Logic::D | Logic::T | Logic::S4 => from,
+        }
+    }
+
+    /// Adds the label of a pi step from that of a place with the new mark. In S5 that is the mark
+    /// alone.
+    pub fn add_after_pi(
+        &mut self,
+        logic: Logic,
+        from: usize,
+        mark: Mark,
+    ) -> Result<usize, NoMemory>
+        requires { from < length self.old }
+        ensures place { IfOk result (λ k. IsLabelAt self.new k
+            (pi_label logic (get_or self.old from []) (the_character mark))) }
+        ensures grown { OnOk result (IsLonger self.old self.new) }
+    {
+        let front = self.before_pi(logic, from);
+        let place = self.extend(front, mark)?;
+        Ok(place)
     }
 
     /// The label at a place.

@@ -65,6 +65,7 @@ impl<'a> Substitutions<'a> {
         ensures place { IfOk result (λ k. k ≡ length self.old) }
         ensures put { OnOk result
             (self.new ≡ self.old ++ (the_value term.entry ∷ get_or self.old outer []) ∷ []) }
+        ensures others { OnOk result (AreClosed (get_or self.old outer [])) }
         ensures err { OnErr result (self.new ≡ self.old) }
     {
         self.links.push((term, outer))?;

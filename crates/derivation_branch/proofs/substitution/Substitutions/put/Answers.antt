@@ -1,6 +1,6 @@
 use Rattle.std.proofs.Common.{◌∙◌}
 use Rattle.derivation_branch.specs.TableView.{the_link}
-use Rattle.derivation_branch.proofs.TableLaws.{backward-put, closed-put, place-put, table-put}
+use Rattle.derivation_branch.proofs.TableLaws.{backward-put, closed-put, list-closed, place-put, table-put}
 use Rattle.derivation_branch.proofs.substitution.Substitutions.put.Goals as goal
 
 pub invariant_of-self-2 : goal.invariant_of-self-2
@@ -13,3 +13,6 @@ returns-clause-place c = place-put the_link c.self.inside.links.items c.push.new
 
 pub returns-clause-put : goal.returns-clause-put
 returns-clause-put c = table-put the_link c.self.inside.links.items c.push.new.self.items (c.args.term, c.args.outer) c.args.self.now c.in_ok-push.ensures.items c.self.view_is
+
+pub returns-clause-others : goal.returns-clause-others
+returns-clause-others c = list-closed c.self.inside.links.items c.args.self.now c.args.outer c.self.view_is c.self.invariant.1
