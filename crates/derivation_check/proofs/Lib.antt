@@ -1,1 +1,5 @@
 pub mod Forks
+pub mod Keeping
+pub mod Numbers
+pub mod StateLaws
+pub mod StepLaws

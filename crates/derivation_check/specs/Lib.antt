@@ -1,3 +1,5 @@
 pub mod OpenSequents
+pub mod StateView
+pub mod DemandsView
 pub mod VerdictView
 pub mod Reading

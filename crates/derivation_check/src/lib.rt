@@ -1,9 +1,13 @@
 //! The judgement of derivations by the rules of the calculus alone.
 #![tactic(auto)]
 
+mod demands;
 mod judgement;
+mod occurring;
 mod open_sequents;
+mod state;
 mod steps;
+mod using;
 mod verdict;
 
 pub use calculus::fault::CheckFault;

@@ -1,46 +1,45 @@
-ghost use Rattle.std.specs.Prelude.{◌≡◌, ◌∷◌, ◌++◌, [], List, IfOk, OnOk, drop, map, not};
-ghost use Rattle.calculus.specs.Derivations as derivation;
-ghost use Rattle.calculus.specs.Judgement.{open_after};
-ghost use Rattle.calculus.specs.Skolem.{is_empty};
-ghost use Rattle.sequent_calc.specs.ChildrenView.{children_by};
-ghost use Rattle.sequent_calc.specs.EntryView.{the_entry};
+//! The sequents that are open, on one branch.
+
+ghost use Rattle.std.specs.Prelude.{◌≡◌, ◌∷◌, ◌++◌, [], true, IfOk, OnOk};
+ghost use Rattle.derivation_check.specs.OpenSequents.{IsLastOf, IsNested, after_added};
+ghost use Rattle.derivation_check.specs.OpenSequents.{placed, sequents_of, waiting_in};
 
 use cop_base::NoMemory;
-use sequent_calc::{Addition, Entry, Sequent};
+use derivation_branch::{Added, SharedEntry};
 use std::alloc::{AllocError, AllocFailed, Global};
-use std::marker::Model;
+
+/// An entry of a branch, with how many eigenvariables and marks had occurred when it came.
+#[derive(Clone, Copy)]
+pub struct BranchEntry<'a> {
+    pub shared: SharedEntry<'a>,
+    pub eigens: usize,
+    pub marks: usize,
+}
+
+fn placed<'a>(shared: SharedEntry<'a>, eigens: usize, marks: usize) -> BranchEntry<'a>
+    ensures { result ≡ placed eigens marks shared.entry }
+{
+    BranchEntry {
+        shared,
+        eigens,
+        marks,
+    }
+}
 
 /// The open sequents, the current one first. They share one branch: a sequent that waits is the
 /// beginning of the branch up to a fork, with one entry more.
 #[derive(Drop)]
-pub struct OpenSequents {
-    is_open: bool,
-    branch: Vec<Entry>,
-    forks: Vec<(usize, Entry)>,
+pub struct OpenSequents<'a> {
+    pub is_open: bool,
+    pub branch: Vec<BranchEntry<'a>>,
+    pub forks: Vec<(usize, BranchEntry<'a>)>,
 }
 
-impl Model for OpenSequents {
-    ghost use Rattle.std.specs.Prelude.{List, length, map, reverse};
-    ghost use Rattle.calculus.specs.Codes.{formula_code};
-    ghost use Rattle.calculus.specs.Derivations as derivation;
-    ghost use Rattle.std.specs.Coded.{codes};
-    ghost use Rattle.derivation_check.specs.OpenSequents.{Nest, open_sequents};
-    ghost use Rattle.sequent_calc.specs.EntryView.{the_entry};
-
-    ghost Value = { List derivation.Sequent };
-
-    ghost coded = { Prim.hlevel (codes, formula_code) };
-
-    ghost view = { λ b.
-        open_sequents b.is_open (map the_entry b.branch.items) (reverse b.forks.items) };
-
-    ghost invariant = { λ b. Nest (length (map the_entry b.branch.items)) (reverse b.forks.items) };
-}
-
-impl OpenSequents {
+impl<'a> OpenSequents<'a> {
     /// One open sequent.
-    pub fn new(alloc: Global, first: Entry) -> Result<OpenSequents, NoMemory>
-        ensures { IfOk result (λ b. b ≡ (the_entry first ∷ []) ∷ []) }
+    pub fn new(alloc: Global, first: BranchEntry<'a>) -> Result<OpenSequents<'a>, NoMemory>
+        ensures sequents { IfOk result (λ b. sequents_of b ≡ (first.entry ∷ []) ∷ []) }
+        ensures nested { IfOk result (λ b. IsNested b) }
     {
         let mut branch = Vec::new(alloc);
         branch.push(first)?;
@@ -51,64 +50,80 @@ impl OpenSequents {
         })
     }
 
-    /// Whether a sequent is open still.
-    pub fn is_open(&self) -> bool
-        ensures { result ≡ not (is_empty self.now) }
-    {
-        self.is_open
-    }
-
-    /// The entries of the current sequent.
-    pub fn current(&self) -> &[Entry]
-        ensures { (s : derivation.Sequent) → (rest : List derivation.Sequent) → self.now ≡ s ∷ rest
-            → map the_entry result.now ≡ s }
-    {
-        self.branch.as_slice()
-    }
-
-    // Closes the current sequent, and goes on with the one that waited last.
-    fn close(&mut self) -> Result<(), NoMemory>
-        ensures ok { OnOk result (self.new ≡ drop 1 self.old) }
+    /// Closes the current sequent, and goes on with the one that waited last, whose last entry is
+    /// the answer.
+    pub fn close(&mut self) -> Result<Option<BranchEntry<'a>>, NoMemory>
+        requires is_open { self.old.is_open ≡ true }
+        requires nested { IsNested self.old }
+        ensures closed { OnOk result (sequents_of self.new ≡ waiting_in self.old) }
+        ensures last { IfOk result (λ last. IsLastOf (waiting_in self.old) last) }
+        ensures nested { OnOk result (IsNested self.new) }
     {
         match self.forks.pop() {
             Some((length, second)) => {
                 self.branch.truncate(length);
                 self.branch.push(second)?;
+                Ok(Some(second))
             }
-            None => self.is_open = false,
+            None => {
+                self.is_open = false;
+                Ok(None)
+            }
         }
+    }
+
+    // Adds an entry to the current sequent.
+    fn add(&mut self, item: BranchEntry<'a>) -> Result<(), NoMemory>
+        requires is_open { self.old.is_open ≡ true }
+        requires nested { IsNested self.old }
+        ensures added { OnOk result (sequents_of self.new
+            ≡ (self.old.branch.items ++ item.entry ∷ []) ∷ waiting_in self.old) }
+        ensures nested { OnOk result (IsNested self.new) }
+    {
+        self.branch.push(item)?;
         Ok(())
     }
 
-    // Adds entries to the current sequent.
-    fn add_all(&mut self, entries: Sequent) -> Result<(), NoMemory>
-        ensures ok { OnOk result ((s : derivation.Sequent) → (rest : List derivation.Sequent)
-            → self.old ≡ s ∷ rest → self.new ≡ (s ++ entries) ∷ rest) }
+    // Adds two entries to the current sequent.
+    fn add_both(&mut self, a: BranchEntry<'a>, b: BranchEntry<'a>) -> Result<(), NoMemory>
+        requires is_open { self.old.is_open ≡ true }
+        requires nested { IsNested self.old }
+        ensures added { OnOk result (sequents_of self.new
+            ≡ (self.old.branch.items ++ a.entry ∷ b.entry ∷ []) ∷ waiting_in self.old) }
+        ensures nested { OnOk result (IsNested self.new) }
     {
-        let mut entries = entries.into_items();
-        self.branch.append(&mut entries)?;
+        self.branch.push(a)?;
+        self.branch.push(b)?;
         Ok(())
     }
 
     // Splits the current sequent into two, each with one of the entries more.
-    fn fork(&mut self, first: Entry, second: Entry) -> Result<(), NoMemory>
-        ensures ok { OnOk result ((s : derivation.Sequent) → (rest : List derivation.Sequent)
-            → self.old ≡ s ∷ rest → self.new ≡ (s ++ the_entry first ∷ []) ∷ (s ++ the_entry second ∷ []) ∷ rest) }
+    fn fork(&mut self, first: BranchEntry<'a>, second: BranchEntry<'a>) -> Result<(), NoMemory>
+        requires is_open { self.old.is_open ≡ true }
+        requires nested { IsNested self.old }
+        ensures forked { OnOk result (sequents_of self.new
+            ≡ (self.old.branch.items ++ first.entry ∷ [])
+            ∷ (self.old.branch.items ++ second.entry ∷ []) ∷ waiting_in self.old) }
+        ensures nested { OnOk result (IsNested self.new) }
     {
         self.forks.push((self.branch.len(), second))?;
         self.branch.push(first)?;
         Ok(())
     }
 
-    /// Replaces the current sequent by those that a step leads to.
-    pub fn advance(&mut self, addition: Addition) -> Result<(), NoMemory>
-        ensures { OnOk result ((s : derivation.Sequent) → (rest : List derivation.Sequent)
-            → self.old ≡ s ∷ rest → self.new ≡ open_after (children_by s addition) rest) }
+    /// Replaces the current sequent by those that a use step leads to, where so many eigenvariables
+    /// and marks occur.
+    pub fn advance(&mut self, added: Added<'a>, eigens: usize, marks: usize) -> Result<(), NoMemory>
+        requires is_open { self.old.is_open ≡ true }
+        requires nested { IsNested self.old }
+        ensures advanced { OnOk result (sequents_of self.new
+            ≡ after_added eigens marks added.entry self.old.branch.items (waiting_in self.old)) }
+        ensures nested { OnOk result (IsNested self.new) }
     {
-        match addition {
-            Addition::Close => self.close(),
-            Addition::Extend(entries) => self.add_all(entries),
-            Addition::Fork(first, second) => self.fork(first, second),
+        match added {
+            Added::One(a) => self.add(placed(a, eigens, marks)),
+            Added::Both(a, b) => self.add_both(placed(a, eigens, marks), placed(b, eigens, marks)),
+            Added::Fork(a, b) => self.fork(placed(a, eigens, marks), placed(b, eigens, marks)),
         }
     }
 }

@@ -1,0 +1,47 @@
+use Rattle.std.proofs.Common.{◌∙◌, reverse}
+use Rattle.derivation_check.specs.OpenSequents.{after_added, sequents_of, waiting_in}
+use Rattle.derivation_check.proofs.StateLaws.{Growth, grown-kept, grown-shown, kept-open, stands-within}
+use Rattle.sequent_calc.specs.DerivationView.{the_names}
+use Rattle.sequent_calc.specs.StepView.{the_modal, the_term_arg}
+use Rattle.derivation_check.proofs.using.grow.Goals as goal
+
+pub put_argument-requires-clause-within : goal.put_argument-requires-clause-within
+put_argument-requires-clause-within c =
+    let s = c.args.state.now in
+    let xs = s.sequents.branch.items in
+    let parts = kept-open (the_names c.args.names.now) s.substitutions s.labels s.eigens s.marks s.sequents.is_open xs (reverse s.sequents.forks.items) c.requires.is_open c.requires.kept.sequents in
+    (stands-within s.substitutions s.labels xs c.args.used parts.0 c.requires.stands).0
+
+pub returns : goal.returns
+returns c =
+    let s = c.args.state.now in
+    let names = the_names c.args.names.now in
+    let x = the_modal c.args.modal.now in
+    let t = the_term_arg c.args.term.now in
+    let xs = s.sequents.branch.items in
+    let forks = reverse s.sequents.forks.items in
+    let more = c.put_argument.new.substitutions in
+    let eigens = c.add_brought_eigens.new.eigens in
+    let marks = c.add_brought_marks.new.marks in
+    let now = sequents_of c.advance.new.self in
+    let added = c.added_by-added.result in
+    let growth : Growth names s.substitutions more s.labels s.eigens eigens s.marks marks s.sequents.is_open xs forks c.args.used c.in_ok-inner.inner c.args.at x t added now = record {
+      is_open = c.requires.is_open;
+      sequents = c.requires.kept.sequents;
+      stands = c.requires.stands;
+      label = c.requires.label;
+      fits = c.requires.fits;
+      substitutions = c.in_ok-inner.ensures.grown;
+      within = c.in_ok-inner.ensures.within;
+      argument = c.in_ok-inner.ensures.put;
+      eigens = c.in_ok-add_brought_eigens.ensures.kept;
+      marks = c.in_ok-add_brought_marks.ensures.kept;
+      brought = record { eigens = c.in_ok-add_brought_eigens.ensures.held; marks = c.in_ok-add_brought_marks.ensures.held };
+      places = c.added_by-added.ensures.at;
+      added = c.added_by-added.ensures.added;
+      after = c.in_ok-advance.ensures.advanced ∙ (λ i. after_added (c.len-eigens.ensures i) (c.len-marks.ensures i) added xs (waiting_in s.sequents));
+    } in
+    record {
+      kept = record { nested = c.in_ok-advance.ensures.nested; sequents = grown-kept names s.substitutions more s.labels s.eigens eigens s.marks marks s.sequents.is_open xs forks c.args.used c.in_ok-inner.inner c.args.at x t added now growth };
+      grown = grown-shown names s.substitutions more s.labels s.eigens eigens s.marks marks s.sequents.is_open xs forks c.args.used c.in_ok-inner.inner c.args.at x t added now growth;
+    }

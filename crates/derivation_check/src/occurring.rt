@@ -1,0 +1,210 @@
+//! What a use step brings to a branch: eigenvariables, and marks in labels and in homes of names.
+
+ghost use Rattle.std.specs.Prelude.{◌≡◌, ◌||◌, ◌&&◌, ℕ, OnOk};
+ghost use Rattle.calculus.specs.Calculus.{holds_character, is_eigen, is_in_home};
+ghost use Rattle.calculus.specs.Derivations.{character_eq, new_mark};
+ghost use Rattle.calculus.specs.Lists.{terms_tree};
+ghost use Rattle.calculus.specs.Substitution.{any_leaf, any_leaf_of};
+ghost use Rattle.calculus.specs.Syntax as tree;
+ghost use Rattle.derivation_branch.specs.Occurring.{IsLonger, holds, in_argument, in_modal};
+ghost use Rattle.derivation_branch.specs.Occurring.{quantifier_binds};
+ghost use Rattle.formula_core.specs.FormulaView.{the_formula};
+ghost use Rattle.formula_core.specs.TermView.{the_term};
+ghost use Rattle.logic_rules.specs.MarkView.{the_character};
+ghost use Rattle.sequent_calc.specs.DerivationView.{the_names};
+ghost use Rattle.sequent_calc.specs.StepView.{the_modal, the_term_arg};
+
+use cop_base::NoMemory;
+use derivation_branch::{NumberSet, add_eigens, is_bound_in};
+use formula_core::{Formula, Term, Terms};
+use logic_rules::{Label, Mark};
+use sequent_calc::{Home, ModalArg, Names, TermArg, eigen_named, spare_named};
+
+fn add_mark(set: &mut NumberSet, mark: Mark) -> Result<(), NoMemory>
+    ensures held { OnOk result ((n : ℕ) → holds set.new n
+        ≡ (holds set.old n || character_eq (new_mark n) (the_character mark))) }
+    ensures kept { OnOk result (IsLonger set.old set.new) }
+{
+    match mark {
+        Mark::New(number) => set.add(number),
+        Mark::Spare(_) => Ok(()),
+    }
+}
+
+fn add_marks(set: &mut NumberSet, label: &Label) -> Result<(), NoMemory>
+    ensures held { OnOk result ((n : ℕ) → holds set.new n
+        ≡ (holds set.old n || holds_character (new_mark n) label.now)) }
+    ensures kept { OnOk result (IsLonger set.old set.new) }
+{
+    for mark in label.items() {
+        add_mark(set, *mark)?;
+    }
+    Ok(())
+}
+
+// Adds the marks in the home of an eigenvariable.
+fn add_home_of_eigen(names: &Names, set: &mut NumberSet, number: u32) -> Result<(), NoMemory>
+    ensures held { OnOk result ((n : ℕ) → holds set.new n
+        ≡ (holds set.old n || is_in_home (the_names names.now) (new_mark n) (tree.eigen number))) }
+    ensures kept { OnOk result (IsLonger set.old set.new) }
+{
+    match eigen_named(names, number) {
+        Some(name) => add_marks(set, &name.1),
+        None => Ok(()),
+    }
+}
+
+// Adds the marks in the home of a spare constant.
+fn add_home_of_spare(names: &Names, set: &mut NumberSet, number: u32) -> Result<(), NoMemory>
+    ensures held { OnOk result ((n : ℕ) → holds set.new n
+        ≡ (holds set.old n || is_in_home (the_names names.now) (new_mark n) (tree.spare number))) }
+    ensures kept { OnOk result (IsLonger set.old set.new) }
+{
+    match spare_named(names, number) {
+        Some(name) => match &name.1 {
+            Home::At(label) => add_marks(set, label),
+            Home::Anywhere => Ok(()),
+        },
+        None => Ok(()),
+    }
+}
+
+// Adds the marks in the homes of the names of a term.
+#[cycle(add)]
+fn add_homes(names: &Names, set: &mut NumberSet, t: &Term) -> Result<(), NoMemory>
+    ensures held { OnOk result ((n : ℕ) → holds set.new n
+        ≡ (holds set.old n
+        || any_leaf (is_in_home (the_names names.now) (new_mark n)) (the_term t.now))) }
+    ensures kept { OnOk result (IsLonger set.old set.new) }
+{
+    match t {
+        Term::Fun(_, args) => add_homes_of(names, set, args),
+        Term::Eigen(number) => add_home_of_eigen(names, set, *number),
+        Term::Spare(number) => add_home_of_spare(names, set, *number),
+        Term::Var(_) => Ok(()),
+    }
+}
+
+#[cycle(add)]
+#[tactic(auto, using(formula_core::specs::TermFalls::falling))]
+fn add_homes_of(names: &Names, set: &mut NumberSet, ts: &Terms) -> Result<(), NoMemory>
+    ensures held { OnOk result ((n : ℕ) → holds set.new n
+        ≡ (holds set.old n
+        || any_leaf_of (is_in_home (the_names names.now) (new_mark n)) (terms_tree ts.now))) }
+    ensures kept { OnOk result (IsLonger set.old set.new) }
+{
+    for item in ts.items() {
+        add_homes(names, set, item)?;
+    }
+    Ok(())
+}
+
+fn add_modal(marks: &mut NumberSet, modal: &ModalArg) -> Result<(), NoMemory>
+    ensures held { OnOk result ((n : ℕ) → holds marks.new n
+        ≡ (holds marks.old n || in_modal (new_mark n) (the_modal modal.now))) }
+    ensures kept { OnOk result (IsLonger marks.old marks.new) }
+{
+    match modal {
+        ModalArg::None => Ok(()),
+        ModalArg::To(to) => add_marks(marks, to),
+        ModalArg::New(number) => marks.add(*number),
+    }
+}
+
+fn add_argument_eigens(eigens: &mut NumberSet, term: &TermArg) -> Result<(), NoMemory>
+    ensures held { OnOk result ((n : ℕ) → holds eigens.new n
+        ≡ (holds eigens.old n || in_argument (is_eigen n) (the_term_arg term.now))) }
+    ensures kept { OnOk result (IsLonger eigens.old eigens.new) }
+{
+    match term {
+        TermArg::None => Ok(()),
+        TermArg::Term(t) => add_eigens(eigens, t),
+        TermArg::Name(number) => eigens.add(*number),
+    }
+}
+
+fn add_argument_homes(names: &Names, marks: &mut NumberSet, term: &TermArg) -> Result<(), NoMemory>
+    ensures held { OnOk result ((n : ℕ) → holds marks.new n
+        ≡ (holds marks.old n
+        || in_argument (is_in_home (the_names names.now) (new_mark n)) (the_term_arg term.now))) }
+    ensures kept { OnOk result (IsLonger marks.old marks.new) }
+{
+    match term {
+        TermArg::None => Ok(()),
+        TermArg::Term(t) => add_homes(names, marks, t),
+        TermArg::Name(number) => add_home_of_eigen(names, marks, *number),
+    }
+}
+
+// Whether the formula is quantified and its variable stands in it.
+fn binds(formula: &Formula) -> bool
+    ensures { result ≡ quantifier_binds (the_formula formula.now) }
+{
+    match formula {
+        Formula::All(a) | Formula::Ex(a) => is_bound_in(a),
+        Formula::Atom(_, _)
+        | Formula::Not(_)
+        | Formula::And(_, _)
+        | Formula::Or(_, _)
+        | Formula::Imp(_, _)
+        | Formula::Nec(_)
+        | Formula::Poss(_) => false,
+    }
+}
+
+/// Adds the eigenvariables that a use step on the formula brings: those of its argument, where the
+/// quantifier binds something.
+pub fn add_brought_eigens(
+    eigens: &mut NumberSet,
+    formula: &Formula,
+    term: &TermArg,
+) -> Result<(), NoMemory>
+    ensures held { OnOk result ((n : ℕ) → holds eigens.new n
+        ≡ (holds eigens.old n || (quantifier_binds (the_formula formula.now)
+        && in_argument (is_eigen n) (the_term_arg term.now)))) }
+    ensures kept { OnOk result (IsLonger eigens.old eigens.new) }
+{
+    if binds(formula) {
+        add_argument_eigens(eigens, term)
+    } else {
+        Ok(())
+    }
+}
+
+// The same of the marks in the homes of names.
+fn add_brought_homes(
+    names: &Names,
+    marks: &mut NumberSet,
+    formula: &Formula,
+    term: &TermArg,
+) -> Result<(), NoMemory>
+    ensures held { OnOk result ((n : ℕ) → holds marks.new n
+        ≡ (holds marks.old n || (quantifier_binds (the_formula formula.now)
+        && in_argument (is_in_home (the_names names.now) (new_mark n)) (the_term_arg term.now)))) }
+    ensures kept { OnOk result (IsLonger marks.old marks.new) }
+{
+    if binds(formula) {
+        add_argument_homes(names, marks, term)
+    } else {
+        Ok(())
+    }
+}
+
+/// Adds the marks that a use step on the formula brings.
+pub fn add_brought_marks(
+    names: &Names,
+    marks: &mut NumberSet,
+    formula: &Formula,
+    modal: &ModalArg,
+    term: &TermArg,
+) -> Result<(), NoMemory>
+    ensures held { OnOk result ((n : ℕ) → holds marks.new n
+        ≡ ((holds marks.old n || in_modal (new_mark n) (the_modal modal.now))
+        || (quantifier_binds (the_formula formula.now)
+        && in_argument (is_in_home (the_names names.now) (new_mark n)) (the_term_arg term.now)))) }
+    ensures kept { OnOk result (IsLonger marks.old marks.new) }
+{
+    add_modal(marks, modal)?;
+    add_brought_homes(names, marks, formula, term)?;
+    Ok(())
+}

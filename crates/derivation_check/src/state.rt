@@ -1,0 +1,79 @@
+//! The state of a judgement between two steps.
+
+ghost use Rattle.std.specs.Prelude.{◌≡◌, ◌∷◌, [], true, IfOk, OnOk, map};
+ghost use Rattle.calculus.specs.Derivations as derivation;
+ghost use Rattle.calculus.specs.Derivations.{first_sequent};
+ghost use Rattle.derivation_check.specs.OpenSequents.{IsNested, waiting_in};
+ghost use Rattle.derivation_check.specs.StateView.{IsKept, the_sequent, the_sequents};
+
+use crate::open_sequents::{BranchEntry, OpenSequents};
+use cop_base::NoMemory;
+use derivation_branch::{Labels, NumberSet, SharedEntry, Substitutions};
+use formula_core::Sign;
+use logic_rules::Problem;
+use std::alloc::Global;
+
+/// The open sequents, over tables that grow with the steps, and what occurs in the current one.
+#[derive(Drop)]
+pub struct State<'a> {
+    pub sequents: OpenSequents<'a>,
+    pub substitutions: Substitutions<'a>,
+    pub labels: Labels,
+    /// The eigenvariables that stand in formulas of the current sequent.
+    pub eigens: NumberSet,
+    /// The marks of pi steps that stand in its labels, or in the homes of names in its formulas.
+    pub marks: NumberSet,
+}
+
+impl<'a> State<'a> {
+    /// The problem's formula, to be shown at the root.
+    pub fn new(alloc: Global, problem: &'a Problem) -> Result<State<'a>, NoMemory>
+        ensures kept { IfOk result (λ s. (names : derivation.Names) → IsKept names s) }
+        ensures first { IfOk result (λ s. the_sequents s ≡ first_sequent problem.now ∷ []) }
+    {
+        let formula = problem.formula();
+        let shared = SharedEntry {
+            sign: Sign::F,
+            formula,
+            substitution: 0,
+            label: 0,
+        };
+        let first = BranchEntry {
+            shared,
+            eigens: 0,
+            marks: 0,
+        };
+        let sequents = OpenSequents::new(alloc, first)?;
+        let substitutions = Substitutions::new(alloc);
+        let labels = Labels::new(alloc);
+        let eigens = NumberSet::new(alloc);
+        let marks = NumberSet::new(alloc);
+        Ok(State {
+            sequents,
+            substitutions,
+            labels,
+            eigens,
+            marks,
+        })
+    }
+
+    /// Closes the current sequent, and goes on with the one that waited last.
+    pub fn close(&mut self) -> Result<(), NoMemory>
+        requires is_open { self.old.sequents.is_open ≡ true }
+        requires nested { IsNested self.old.sequents }
+        ensures kept { OnOk result ((names : derivation.Names)
+            → IsKept names self.old → IsKept names self.new) }
+        ensures closed { OnOk result (the_sequents self.new
+            ≡ map (the_sequent self.old.substitutions self.old.labels) (waiting_in self.old.sequents)) }
+    {
+        let next = self.sequents.close()?;
+        match next {
+            Some(last) => {
+                self.eigens.cut(last.eigens);
+                self.marks.cut(last.marks);
+                Ok(())
+            }
+            None => Ok(()),
+        }
+    }
+}
