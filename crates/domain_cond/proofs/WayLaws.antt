@@ -1,5 +1,5 @@
 -- The way to a position, followed by cells.
-use Rattle.std.proofs.Common.{◌≡◌, ◌⊎◌, ℕ, zero, suc, ◌+◌, ◌<◌, ◌≤◌, List, [], ◌∷◌, ◌++◌, take, drop, length, map, Bool, true, false, ◌||◌, IsTrue, refl, sym, ◌∙◌, ap, ap₂, subst, Option, None, Some, option_and_then, slice_get, inl, inr, arith, lt-ltb, if◌then◌else◌}
+use Rattle.std.proofs.Common.{◌≡◌, ◌⊎◌, ℕ, zero, suc, ◌+◌, ◌<◌, ◌≤◌, List, [], ◌∷◌, ◌++◌, take, drop, length, Bool, true, false, ◌||◌, IsTrue, refl, sym, ◌∙◌, ap, subst, Option, None, Some, slice_get, inl, inr, arith, lt-ltb, if◌then◌else◌}
 use Rattle.std.specs.List.{list_all}
 use Rattle.std.specs.Option.{option_map_or}
 use Rattle.std.proofs.lemmas.Bool.{false≢true, and_parts, and_from}
@@ -13,22 +13,21 @@ use Rattle.calculus.specs.declared.kind.Shape.{Shape}
 use Rattle.calculus.specs.declared.kind.Shape.TheVariants.{Alpha, Beta, Gamma, Delta, Literal}
 use Rattle.calculus.specs.declared.kind.ModalPart.{ModalPart}
 use Rattle.calculus.specs.declared.kind.ModalPart.TheVariants.{Plain, Nu, Pi}
-use Rattle.calculus.specs.Bindings.{AddsBuilt, nothing_more, one_more, EndsIn, with_cell}
+use Rattle.calculus.specs.Bindings.{AddsBuilt, nothing_more, EndsIn, with_cell}
 use Rattle.calculus.specs.Equality.{sort_eq}
-use Rattle.calculus.specs.Ground.{GroundMark, Value, term, steps}
 use Rattle.calculus.specs.Kinds.{shape_of, modal_of, components}
 use Rattle.calculus.specs.Labels.{pi_label}
-use Rattle.calculus.specs.Positions.{size, node, way_from}
+use Rattle.calculus.specs.Positions.{size, way_from}
 use Rattle.calculus.specs.Skolem.{Reached, take_string, after_modal, take_term, after_shape, label_along, at_root, label_of}
-use Rattle.calculus.specs.Stores.{Cell, variable, fun_cell, eigen_cell, new_cell, string_cell, Store, is_bound, parts_of, sort_of, has_sort_at, has_value_sort_at, is_store, parts_fit, OccursIn, here, in_part, CellValue, a_term, a_mark, a_string, has_sort, Solution, Solves}
+use Rattle.calculus.specs.Stores.{Cell, variable, fun_cell, eigen_cell, new_cell, string_cell, Store, parts_of, sort_of, has_sort_at, has_value_sort_at, is_store, parts_fit, OccursIn, here, in_part, Solution, Solves}
 use Rattle.calculus.specs.Syntax.{Formula, Problem}
-use Rattle.calculus.specs.Systems.{has_label_sort_at, is_label, IsOpenString}
+use Rattle.calculus.specs.Systems.{has_label_sort_at, is_label}
 use Rattle.calculus.specs.Templates.{as_value}
 use Rattle.calculus.proofs.BindingLaws.{has_sort-from, sort_eq-same, sorted_cell}
 use Rattle.calculus.specs.Patterns.{Grows}
 use Rattle.calculus.proofs.PatternLaws.{AddsBuilt-both, Grows-built, Grows-with_cell, grown-label, grown-sort}
 use Rattle.calculus.proofs.PlaceLists.{all-at, all-more, get-end, get-there, get-within}
-use Rattle.tableau_core.specs.InsideView.{Inside, LeadsOn}
+use Rattle.tableau_core.specs.InsideView.{Inside}
 use Rattle.tableau_core.specs.Reaching.{rest_of}
 use Rattle.tableau_core.proofs.FittingLaws.{way-outside}
 use Rattle.tableau_core.proofs.HomeLaws.{along, along-further, along-last, along-stuck}
@@ -39,7 +38,7 @@ use Rattle.term_unify.specs.Steps.{head_sort}
 use Rattle.term_unify.proofs.FlatLaws.{ends-sorted, free-grown}
 use Rattle.term_unify.proofs.ListItems.{drop-there}
 use Rattle.term_unify.proofs.PairLaws.{take-more}
-use Rattle.search_theory.specs.HomeCells.{CellReached, PassesModal, by_plain, by_string, by_mark, PassesShape, by_term, by_other, is_gamma_shape, reached_by}
+use Rattle.search_theory.specs.HomeCells.{PassesModal, by_plain, by_string, by_mark, PassesShape, by_term, by_other, is_gamma_shape, reached_by}
 use Rattle.search_theory.specs.States.{label_by, values_by}
 use Rattle.search_theory.proofs.BuildingLaws.{adds-back, solved-sorted}
 use Rattle.search_theory.proofs.DemandLaws.{all-taken}
@@ -329,8 +328,8 @@ found P old new p rs ks sorted free same = record { home = λ σ t. label-there 
 pub on-last : (P : Problem) (p : ℕ) (old cur new : Store) (rs label after : List ℕ) (k m n q : ℕ) (sign : Sign) (f : Formula) (place : ℕ) → IsOnWay P p old cur rs label k q sign f place → place < size f → place ≡ 0 → TakesString cur (modal_of P.setting.logic sign f) rs k m → TakesTerm cur (shape_of sign f) rs m n → IsPushed P.setting.logic cur new (modal_of P.setting.logic sign f) q rs k label after → AddsBuilt cur new → IsFoundHome P old new p rs after
 on-last P p old cur new rs label after k m n q sign f place w l last string takes pushed adds =
     found P old new p rs after (pushed.sorted w.sorted) (λ a. pushed.free w.sorted (values-free old cur rs w.adds w.old_values w.fits a) (w.free a)) (λ σ t.
-        let (o, e, same) = passed P p old cur new rs label after k m n q sign f place w l string takes pushed adds σ t in
-        same ∙ along-last P.setting.logic q sign f place o (label_by σ label) (reached_by σ (reaching after rs n)) last e)
+    let (o, e, same) = passed P p old cur new rs label after k m n q sign f place w l string takes pushed adds σ t in
+    same ∙ along-last P.setting.logic q sign f place o (label_by σ label) (reached_by σ (reaching after rs n)) last e)
 
 -- where a value is lacking, the label reached is the home
 pub found-modal : (P : Problem) (p : ℕ) (old cur : Store) (rs label : List ℕ) (k q : ℕ) (sign : Sign) (f : Formula) (place : ℕ) → IsOnWay P p old cur rs label k q sign f place → place < size f → LacksString cur (modal_of P.setting.logic sign f) rs k → IsFoundHome P old cur p rs label

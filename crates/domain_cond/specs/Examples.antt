@@ -1,5 +1,5 @@
 -- The problem `p` in D, and a system that asks nothing.
-use Rattle.std.specs.Prelude.{List, [], ◌∷◌, IsTrue, codes}
+use Rattle.std.specs.Prelude.{[], ◌∷◌, IsTrue, codes}
 use Rattle.calculus.specs.declared.symbol.SymbolClass.TheVariants.{Predicate}
 use Rattle.calculus.specs.declared.setting.Logic.TheVariants.{D}
 use Rattle.calculus.specs.declared.setting.Domains.{Domains}

@@ -216,7 +216,9 @@ pub(crate) fn home(
             return Ok(label);
         };
         let position = PosId(at.further);
-        push_modal(store, logic, kind.modal, position, values, taken, &mut label)?;
+        push_modal(
+            store, logic, kind.modal, position, values, taken, &mut label,
+        )?;
         if at.place == 0 {
             return Ok(label);
         }

@@ -1,6 +1,6 @@
-use Rattle.std.proofs.Common.{◌∙◌, IsTrue, ap, arith, length, map, subst, sym, take, ℕ}
+use Rattle.std.proofs.Common.{◌∙◌, IsTrue, ap, arith, map, subst, sym, ℕ}
 use Rattle.std.proofs.lemmas.List.{length-map, take-map}
-use Rattle.calculus.specs.declared.kind.ModalPart.TheVariants.{Nu, Pi}
+use Rattle.calculus.specs.declared.kind.ModalPart.TheVariants.{Pi}
 use Rattle.calculus.specs.Bindings.{with_cell, nothing_more}
 use Rattle.calculus.specs.Labels.{pi_label}
 use Rattle.calculus.specs.Stores.{new_cell, parts_fit}
