@@ -1,6 +1,5 @@
 -- With constant domains own spares meet the condition in every store.
-use Rattle.std.proofs.Common.{◌≡◌, suc, length, true, false, IsTrue, refl, ap, ◌∙◌, sym, subst}
-use Rattle.calculus.specs.declared.setting.Domains.{Domains}
+use Rattle.std.proofs.Common.{◌≡◌, suc, length, true, IsTrue, ap, sym, subst}
 use Rattle.calculus.specs.declared.setting.Domains.TheVariants.{Constant}
 use Rattle.calculus.specs.Bindings.{IsWellFormed}
 use Rattle.calculus.specs.Skolem.{common_spares, has_constant, is_varying}
@@ -12,7 +11,7 @@ use Rattle.search_theory.proofs.DemandLaws.{homes-constant, met-common}
 use Rattle.search_theory.proofs.RankLaws.{rank_of, ranked-by_no_cycle}
 use Rattle.search_theory.proofs.SolvingLaws.{system-parts}
 use Rattle.search_theory.proofs.SpareLaws.{own_value}
-use Rattle.std.specs.Prelude.{not, ◌||◌, Bool}
+use Rattle.std.specs.Prelude.{not, ◌||◌}
 
 common-constant : (P : Problem) → P.setting.domains ≡ Constant → common_spares P ≡ true
 common-constant P e = ap (λ d. not (is_varying d) || has_constant P) e

@@ -1,12 +1,12 @@
 -- The leaves of a term, by a list of cells that are still to be looked at and those that were.
-use Rattle.std.proofs.Common.{◌≡◌, ◌⊎◌, ◌||◌, cond, ◌==◌, ℕ, zero, suc, ◌<◌, List, [], ◌∷◌, ◌++◌, length, map, Bool, true, false, not, IsTrue, refl, sym, ◌∙◌, ap, subst, None, Some, slice_get, inl, inr, arith, eqb-true, eq-eqb}
+use Rattle.std.proofs.Common.{◌≡◌, ◌⊎◌, ◌||◌, cond, ◌==◌, ℕ, zero, suc, ◌<◌, List, [], ◌∷◌, ◌++◌, length, Bool, true, false, not, IsTrue, refl, sym, ◌∙◌, ap, subst, Some, slice_get, inl, inr, arith, eqb-true, eq-eqb}
 use Rattle.std.specs.List.{list_any}
 use Rattle.std.proofs.lemmas.Bool.{cases_Bool, false≢true}
 use Rattle.calculus.specs.declared.sort.Sort.{Sort}
 use Rattle.calculus.specs.Bindings.{EndsIn, IsEnd}
 use Rattle.calculus.specs.Stores.{Cell, variable, fun_cell, eigen_cell, new_cell, string_cell, Store, parts_of, is_bound, is_store, EndsAt, stays, goes_on, Holds, itself, bound, argument}
 use Rattle.calculus.proofs.BindingLaws.{kept, parts-within}
-use Rattle.calculus.proofs.PlaceLists.{get-end, get-front, get-last, get-within}
+use Rattle.calculus.proofs.PlaceLists.{get-front, get-last}
 use Rattle.calculus.proofs.WeightLaws.{weight_sum}
 use Rattle.cop_base.specs.declared.PosId.{PosId}
 use Rattle.cop_base.specs.declared.SymbolId.{SymbolId}

@@ -3,3 +3,4 @@ pub mod ExampleLaws
 pub mod WayLaws
 pub mod HomeSteps
 pub mod LeafLaws
+pub mod ConditionLaws

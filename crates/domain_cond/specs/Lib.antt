@@ -4,3 +4,5 @@ pub mod Examples
 pub mod Ways
 -- what stands in terms
 pub mod Leaves
+-- equations that homes force
+pub mod Conditions

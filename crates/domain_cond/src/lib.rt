@@ -2,9 +2,12 @@
 #![tactic(auto)]
 
 mod constant;
+mod cumulative;
 mod home;
 mod leaves;
 #[cfg(test)]
 mod tests;
+mod unmet;
 
 pub use constant::ConstantDemand;
+pub use cumulative::CumulativeDemand;

@@ -1,0 +1,61 @@
+//! Cumulative domains.
+
+ghost use Rattle.std.specs.Prelude.{◌≡◌, IfOk};
+ghost use Rattle.std.specs.List.{list_all};
+ghost use Rattle.calculus.specs.declared.setting.Domains.TheVariants.{Cumulative};
+ghost use Rattle.calculus.specs.Instances.{gamma_is_allowed};
+ghost use Rattle.calculus.specs.Skolem.{common_spares};
+
+use crate::unmet::unmet;
+use cop_base::NoMemory;
+use logic_rules::Problem;
+use std::alloc::Global;
+use tableau_core::SizedProblem;
+use term_store::{Demand, Equation, HomeList, Store, System};
+use term_unify::Unifier;
+
+/// Cumulative domains: a name may stand at the labels that begin with its home.
+#[derive(Drop)]
+pub struct CumulativeDemand<'a> {
+    alloc: Global,
+    problem: SizedProblem<'a>,
+    unifier: Unifier,
+    ghost cumulative: { problem.setting.domains ≡ Cumulative },
+}
+
+impl<'a> CumulativeDemand<'a> {
+    /// The condition of a problem with cumulative domains.
+    pub fn new(alloc: Global, problem: &'a Problem) -> Result<CumulativeDemand<'a>, NoMemory>
+        requires domains { problem.now.setting.domains ≡ Cumulative }
+        ensures { IfOk result (λ d. d.problem ≡ problem.now) }
+    {
+        let problem = SizedProblem::new(alloc, problem)?;
+        Ok(CumulativeDemand {
+            alloc,
+            problem,
+            unifier: Unifier::new(alloc),
+        })
+    }
+}
+
+impl Demand for CumulativeDemand<'_> {
+    ghost holds_for = { λ d. list_all (gamma_is_allowed d.problem) };
+
+    ghost common = { λ d. common_spares d.problem };
+
+    fn next(&mut self, store: &mut Store, system: &System) -> Result<Option<Equation>, NoMemory> {
+        let _now = store.mark();
+        let equation = unmet(self.alloc, &mut self.unifier, &self.problem, store, system)?;
+        Ok(equation)
+    }
+
+    // None is told: the condition is left to the equations.
+    fn homes(
+        &self,
+        alloc: Global,
+        _store: &mut Store,
+        _system: &System,
+    ) -> Result<HomeList, NoMemory> {
+        Ok(HomeList::new(alloc))
+    }
+}
