@@ -8,6 +8,8 @@ mod leaves;
 #[cfg(test)]
 mod tests;
 mod unmet;
+mod varying;
 
 pub use constant::ConstantDemand;
 pub use cumulative::CumulativeDemand;
+pub use varying::VaryingDemand;
