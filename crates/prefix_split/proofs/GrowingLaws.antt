@@ -178,10 +178,13 @@ tree-more size nodes n tree l fits = record {
     fit u m (inr p) = subst (λ (x : Node). StepFits size x.step) p.1 fits
 
 values-more : (size : ℕ) (σ : Solution) (nodes : List Node) (n : Node) → IsTree size nodes → n.parent < length nodes → HasExtent σ n.step → HasValues σ nodes → HasValues σ (nodes ++ n ∷ [])
-values-more size σ nodes n tree l extent (value, h) = (more, record {
-  root = same 0 tree.some ∙ h.root;
-  each = λ u m e. node u m (last-item nodes n m u e);
-})
+values-more size σ nodes n tree l extent (value, h) = (
+  more,
+  record {
+    root = same 0 tree.some ∙ h.root;
+    each = λ u m e. node u m (last-item nodes n m u e);
+  },
+)
   where
     w : List GroundMark
     w = value n.parent ++ step_marks σ n.step
@@ -291,7 +294,7 @@ asked-equation s l strings e old mid new u v before after h k same = record {
   pairs = λ σ value t x q b. (
       let (w, left, right) = q in
       let p : value u ≡ value v =
-          h.is σ value t (values-before σ value mid new k.extends x) ∙ label_at-by σ e.left w left ∙ sym (label_at-by σ e.right w right) ∙ sym (k.is σ value t x)
+      h.is σ value t (values-before σ value mid new k.extends x) ∙ label_at-by σ e.left w left ∙ sym (label_at-by σ e.right w right) ∙ sym (k.is σ value t x)
       in
       subst (AllBegin value) (sym same) (pairs-both value (before ++ (u, v) ∷ []) v u (pairs-both value before u v b p) (sym p))
       );

@@ -50,6 +50,11 @@ pub(crate) fn range_of(logic: Logic, system: &System) -> Result<LengthRange, NoM
     }
 }
 
+// Whether each string has but one length.
+pub(crate) fn is_single(range: LengthRange) -> bool {
+    range.spread == 0
+}
+
 // How much the first of some numbers is above the least length, where they are so much above it in
 // all, and so many follow: no more than those that follow leave.
 fn first_above(range: LengthRange, following: u32, above: u64) -> u32

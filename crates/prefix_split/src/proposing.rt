@@ -6,22 +6,20 @@ ghost use Rattle.calculus.specs.declared.sort.Sort.TheVariants.{StringSort};
 ghost use Rattle.calculus.specs.Labels.{is_step_length};
 ghost use Rattle.calculus.specs.Space.{is_tried_length};
 ghost use Rattle.calculus.specs.Stores.{has_sort_at};
-ghost use Rattle.calculus.specs.Systems.{AreTried, NamesItsStrings, is_system};
+ghost use Rattle.calculus.specs.Systems.{AreTried, is_system};
 ghost use Rattle.term_store.specs.RefView.{the_place};
 ghost use Rattle.term_store.specs.SystemView.{the_system};
 
-use crate::growing::ask_equations;
 use crate::joining::{item_of, mark_of};
 use crate::node::Node;
 use crate::order::LabelOrder;
 use crate::places::{length_at, reference_at};
-use crate::refuting::{root, settled};
+use crate::refuting::LabelTree;
 use crate::rules::node_at;
 use calculus::setting::Logic;
 use cop_base::NoMemory;
 use std::alloc::Global;
 use term_store::{Ref, Store, System};
-use term_unify::Unifier;
 
 // Whether the node is by a mark, and no earlier one has its label.
 fn is_first_mark(order: &LabelOrder, nodes: &[Node], y: usize) -> bool {
@@ -169,26 +167,22 @@ fn least_length(logic: Logic) -> u32 {
     }
 }
 
-/// Lengths of the strings by which the equations may hold: labels are as short as the order of
-/// their beginnings allows. Nothing is promised but that they are tried.
+// Lengths of the strings by which the equations may hold: labels are as short as the order of
+// their beginnings allows. Nothing is promised but that they are tried.
 pub(crate) fn propose(
     alloc: Global,
     store: &Store,
     logic: Logic,
     system: &System,
+    tree: &LabelTree,
 ) -> Result<Option<Vec<u32>>, NoMemory>
-    requires fits { IsTrue (is_system store.now.store (the_system system.now)) }
-    requires named { NamesItsStrings store.now.store (the_system system.now) }
+    requires { IsTrue (is_system store.now.store (the_system system.now)) }
     ensures { IfOk result (λ o. IfSome o (λ lengths.
         AreTried logic (the_system system.now) lengths.items)) }
 {
-    let mut unifier = Unifier::new(alloc);
-    let mut nodes = root(alloc)?;
-    let mut pairs = Vec::new(alloc);
-    ask_equations(&mut unifier, store, logic, system, &mut nodes, &mut pairs)?;
-    let order = settled(alloc, &mut unifier, store, &nodes, &pairs)?;
     let strings = system.strings.items();
-    let lengths = lengths_by(alloc, &order, &nodes, store, strings, least_length(logic))?;
+    let least = least_length(logic);
+    let lengths = lengths_by(alloc, &tree.order, &tree.nodes, store, strings, least)?;
     let proposed = checked(logic, system, lengths);
     Ok(proposed)
 }

@@ -72,7 +72,7 @@ fn add_pairs(order: &mut LabelOrder, pairs: &[(usize, usize)]) -> Result<(), NoM
 }
 
 // The tree of the empty label.
-pub(crate) fn root(alloc: Global) -> Result<Vec<Node>, NoMemory>
+fn root(alloc: Global) -> Result<Vec<Node>, NoMemory>
     ensures { IfOk result (λ nodes. HasRoot nodes.items) }
 {
     let mut nodes = Vec::new(alloc);
@@ -84,7 +84,7 @@ pub(crate) fn root(alloc: Global) -> Result<Vec<Node>, NoMemory>
 }
 
 // The order of nodes of which the first one of each pair begins the second one.
-pub(crate) fn settled(
+fn settled(
     alloc: Global,
     unifier: &mut Unifier,
     store: &Store,
@@ -103,6 +103,35 @@ pub(crate) fn settled(
     Ok(order)
 }
 
+// The tree of the beginnings of labels, and what is known of their order.
+#[derive(Drop)]
+pub(crate) struct LabelTree {
+    pub(crate) nodes: Vec<Node>,
+    pub(crate) order: LabelOrder,
+}
+
+// The tree of the labels of the equations. Its order is refuted only where no solution of the
+// store, whose strings are steps of the logic, makes the equations equal.
+pub(crate) fn label_tree(
+    alloc: Global,
+    store: &Store,
+    logic: Logic,
+    system: &System,
+) -> Result<LabelTree, NoMemory>
+    requires fits { IsTrue (is_system store.now.store (the_system system.now)) }
+    requires named { NamesItsStrings store.now.store (the_system system.now) }
+    ensures { IfOk result (λ tree. tree.order.is_refuted ≡ true → (σ : Solution)
+        → Solves store.now.store σ → AllByRecursion (IsStep logic σ) (the_system system.now).strings
+        → ¬ AllByRecursion (AreEqual σ) (the_system system.now).equations) }
+{
+    let mut unifier = Unifier::new(alloc);
+    let mut nodes = root(alloc)?;
+    let mut pairs = Vec::new(alloc);
+    ask_equations(&mut unifier, store, logic, system, &mut nodes, &mut pairs)?;
+    let order = settled(alloc, &mut unifier, store, &nodes, &pairs)?;
+    Ok(LabelTree { nodes, order })
+}
+
 /// Whether the order of the beginnings of labels shows that no solution of the store, whose strings
 /// are steps of the logic, makes the equations equal: then none of any length does. Otherwise
 /// nothing is known. In T, S4 and intuitionistic logic this is most of what prefixes tell before
@@ -119,10 +148,6 @@ pub fn is_refuted(
         → Solves store.now.store σ → AllByRecursion (IsStep logic σ) (the_system system.now).strings
         → ¬ AllByRecursion (AreEqual σ) (the_system system.now).equations) }
 {
-    let mut unifier = Unifier::new(alloc);
-    let mut nodes = root(alloc)?;
-    let mut pairs = Vec::new(alloc);
-    ask_equations(&mut unifier, store, logic, system, &mut nodes, &mut pairs)?;
-    let order = settled(alloc, &mut unifier, store, &nodes, &pairs)?;
-    Ok(order.is_refuted)
+    let tree = label_tree(alloc, store, logic, system)?;
+    Ok(tree.order.is_refuted)
 }

@@ -1,6 +1,7 @@
 //! Solving a system for all lists of string lengths in their order.
 
-ghost use Rattle.std.specs.Prelude.{◌≡◌, ◌+◌, ◌-◌, IfOk, IsTrue, OnErr, false, true};
+ghost use Rattle.std.specs.Prelude.{◌≡◌, ◌+◌, ◌-◌, IfOk, IfSome, IsTrue, MatchOption, OnErr};
+ghost use Rattle.std.specs.Prelude.{false, true};
 ghost use Rattle.calculus.specs.Bindings.{KeepsMarks};
 ghost use Rattle.calculus.specs.Counting.{MoreThan};
 ghost use Rattle.calculus.specs.Space.{has_labels, lengths_cmp};
@@ -12,7 +13,9 @@ ghost use Rattle.term_store.specs.Room.{KeepsRoom};
 ghost use Rattle.term_store.specs.SystemView.{the_system};
 ghost use Rattle.prefix_split.specs.LengthSearch.{IsCounted};
 
-use crate::next_lengths::{first_lengths, next_lengths, range_of};
+use crate::next_lengths::{LengthRange, first_lengths, is_single, next_lengths, range_of};
+use crate::proposing::propose;
+use crate::refuting::label_tree;
 use crate::trying::try_or_undo;
 use calculus::setting::Logic;
 use cop_base::{Ledger, NoMemory};
@@ -41,11 +44,59 @@ fn take_step(ledger: &mut Ledger) -> bool
     ledger.take()
 }
 
+// Answers `Found` or `None` by the order of label beginnings, where that can be: it refutes the
+// system, or proposes lengths that are tried. Where each string has but one length, trying the one
+// list costs less.
+fn solve_by_order<M: Demand>(
+    alloc: Global,
+    store: &mut Store,
+    logic: Logic,
+    system: &System,
+    more: &mut M,
+    range: LengthRange,
+) -> Result<Option<Solved>, NoMemory>
+    requires fits { IsTrue (is_system store.old.store (the_system system.now)) }
+    requires named { NamesItsStrings store.old.store (the_system system.now) }
+    ensures found { IfOk result (λ o. IfSome o (λ a. a ≡ Solved.Found
+        → OwnSparesSolve (M.common more.old) logic (Asks (M.holds_for more.old)) store.new.store
+        (the_system system.now))) }
+    ensures back { IfOk result (λ o. IfSome o (λ a. a ≡ Solved.Found → (σ : Solution)
+        → Solves store.new.store σ → Solves store.old.store σ)) }
+    ensures none { IfOk result (λ o. IfSome o (λ a. a ≡ Solved.None → ¬ HasBoundedSolution logic
+        (Asks (M.holds_for more.old)) store.old.store (the_system system.now))) }
+    ensures decided { IfOk result (λ o. IfSome o (λ a. ¬ (a ≡ Solved.Steps))) }
+    ensures unchanged { IfOk result (λ o. MatchOption o (store.new.store ≡ store.old.store)
+        (λ a. ¬ (a ≡ Solved.Found) → store.new.store ≡ store.old.store)) }
+    ensures err { OnErr result (store.new.store ≡ store.old.store) }
+    ensures marks { KeepsMarks store.old.store store.new.store }
+    ensures room { KeepsRoom store.old store.new }
+    ensures same { M.holds_for more.new ≡ M.holds_for more.old }
+    ensures same_common { M.common more.new ≡ M.common more.old }
+{
+    if is_single(range) {
+        return Ok(None);
+    }
+    let tree = label_tree(alloc, store, logic, system)?;
+    if tree.order.is_refuted {
+        return Ok(Some(Solved::None));
+    }
+    let Some(lengths) = propose(alloc, store, logic, system, &tree)? else {
+        return Ok(None);
+    };
+    let mut unifier = Unifier::new(alloc);
+    let found = try_or_undo(alloc, &mut unifier, store, logic, system, more, &lengths)?;
+    if found {
+        return Ok(Some(Solved::Found));
+    }
+    Ok(None)
+}
+
 /// Solves a system: equations between labels, together with what the demand asks of gamma terms and
 /// with pairs of goals that must differ (the prefix unification of Otten and Kreitz, with strings
-/// of bounded length). Lists of string lengths are tried by their sum, then lexicographically, with
-/// one step for each. After every answer but `Found`, and for want of memory, the store is as
-/// before.
+/// of bounded length). The order of label beginnings may refute it, or propose lengths of the
+/// strings. Where it decides nothing, lists of lengths are tried by their sum, then
+/// lexicographically. One step is used for the first list, whatever decides, and one for each
+/// further list. After every answer but `Found`, and for want of memory, the store is as before.
 pub fn solve<M: Demand>(
     alloc: Global,
     store: &mut Store,
@@ -82,6 +133,9 @@ pub fn solve<M: Demand>(
     let mut lengths = first_lengths(alloc, range, system.strings.items().len() as u32)?;
     if !take_step(ledger) {
         return Ok(Solved::Steps);
+    }
+    if let Some(answer) = solve_by_order(alloc, store, logic, system, more, range)? {
+        return Ok(answer);
     }
     let mut unifier = Unifier::new(alloc);
     loop {

@@ -1,7 +1,11 @@
-use Rattle.std.proofs.Common.{◌≡◌, ◌∙◌, ℕ, List, IsTrue, ap, arith, length, map, refl, subst, sym}
+use Rattle.std.proofs.Common.{◌≡◌, ◌∙◌, ◌+◌, ℕ, List, IsTrue, ap, arith, length, map, refl, subst, sym}
 use Rattle.std.proofs.lemmas.List.{length-map}
 use Rattle.calculus.specs.Bindings.{KeepsMarks}
-use Rattle.calculus.specs.Systems.{AreTried, NamesItsStrings, is_system}
+use Rattle.calculus.specs.declared.setting.Logic.{Logic}
+use Rattle.calculus.specs.Instances.{GammaUse}
+use Rattle.calculus.specs.Space.{has_labels}
+use Rattle.calculus.specs.Stores.{Store}
+use Rattle.calculus.specs.Systems.{AreTried, NamesItsStrings, System, is_system}
 use Rattle.calculus.proofs.BindingLaws.{KeepsMarks-same}
 use Rattle.term_store.specs.Asking.{Asks}
 use Rattle.term_store.specs.RefView.{the_place}
@@ -9,13 +13,16 @@ use Rattle.term_store.specs.declared.cell.Ref.{Ref}
 use Rattle.term_unify.proofs.PairLaws.{OnErr-always}
 use Rattle.term_store.specs.SystemView.{the_system}
 use Rattle.prefix_split.specs.LengthLists.{IsFirst}
-use Rattle.prefix_split.specs.LengthSearch.{IsCounted, StandsAt}
+use Rattle.prefix_split.specs.LengthSearch.{IsCounted, IsRangeOf, StandsAt}
 use Rattle.prefix_split.proofs.LengthListLaws.{tried-within}
 use Rattle.prefix_split.proofs.SearchLaws.{back-moved, counted-nothing, found-moved, none-moved, stands-counted, stands-first, stands-next, stands-none, stands-steps, tried-in}
 use Rattle.prefix_split.proofs.solving.solve.Goals as goal
 
 strings-count : (rs : List Ref) (ns : List ℕ) → map the_place rs ≡ ns → length rs ≡ length ns
 strings-count rs ns e = sym (length-map rs the_place) ∙ ap length e
+
+first : (l : Logic) (Demanded : List GammaUse → Type 0) (s : Store) (y : System) (rs : List Ref) (x p : ℕ) (ns : List ℕ) (begun : ℕ) → IsTrue (has_labels l) → IsRangeOf l y x p → map the_place rs ≡ y.strings → IsFirst x p (length rs) ns → StandsAt l Demanded s y ns begun (begun + 1)
+first l Demanded s y rs x p ns begun k r e h = stands-first l Demanded s y x p ns begun k r (subst (λ n. IsFirst x p n ns) (strings-count rs y.strings e) h)
 
 -- ---- before the first list
 
@@ -37,9 +44,10 @@ returns-then-not-take_step-clause-more_early g c = λ e.
     let f = Asks (g.M.Demand.holds_for c.args.more.now) in
     let s = c.args.store.now.store in
     let y = the_system c.args.system.now in
-    let first = (subst (λ k. IsFirst c.in_ok-range.range.least c.in_ok-range.range.spread k c.in_ok-lengths.lengths.items) (strings-count c.items.result.now c.args.system.now.strings c.items.ensures) c.in_ok-lengths.ensures) in
-    stands-steps l f s y c.in_ok-lengths.lengths.items c.args.ledger.now.used c.args.ledger.now.used c.take_step.new.ledger.budget
-    (stands-first l f s y c.in_ok-range.range.least c.in_ok-range.range.spread c.in_ok-lengths.lengths.items c.args.ledger.now.used c.requires.labels c.in_ok-range.ensures.range first) (c.take_step.ensures.full c.if-not-take_step.true)
+    let ns = c.in_ok-lengths.lengths.items in
+    let begun = c.args.ledger.now.used in
+    stands-steps l f s y ns begun begun c.take_step.new.ledger.budget
+    (first l f s y c.items.result.now c.in_ok-range.range.least c.in_ok-range.range.spread ns begun c.requires.labels c.in_ok-range.ensures.range c.items.ensures c.in_ok-lengths.ensures) (c.take_step.ensures.full c.if-not-take_step.true)
 
 pub returns-then-not-take_step-clause-counted : goal.returns-then-not-take_step-clause-counted
 returns-then-not-take_step-clause-counted g c =
@@ -52,20 +60,70 @@ returns-then-not-take_step-clause-counted g c =
 pub returns-then-not-take_step-clause-marks : goal.returns-then-not-take_step-clause-marks
 returns-then-not-take_step-clause-marks g c = KeepsMarks-same c.args.store.now.store
 
+-- ---- by the order
+
+pub returns-in_err-answer-clause-counted : goal.returns-in_err-answer-clause-counted
+returns-in_err-answer-clause-counted g c =
+    let l = c.args.logic in
+    let f = Asks (g.M.Demand.holds_for c.args.more.now) in
+    let s = c.args.store.now.store in
+    let y = the_system c.args.system.now in
+    let ns = c.in_ok-lengths.lengths.items in
+    let begun = c.args.ledger.now.used in
+    let taken = c.take_step.ensures.taken c.if-not-take_step.false in
+    stands-counted l f s y ns begun (begun + 1) c.take_step.new.ledger.used
+    (first l f s y c.items.result.now c.in_ok-range.range.least c.in_ok-range.range.spread ns begun c.requires.labels c.in_ok-range.ensures.range c.items.ensures c.in_ok-lengths.ensures) (omega (arith, taken)) (omega (arith, taken))
+
+pub returns-in_err-answer-clause-err : goal.returns-in_err-answer-clause-err
+returns-in_err-answer-clause-err g c = OnErr-always c.from_residual-in_err-answer.result (c.solve_by_order.new.store.store ≡ c.args.store.now.store) c.in_err-answer.ensures.err
+
+pub returns-in-Some-clause-found : goal.returns-in-Some-clause-found
+returns-in-Some-clause-found g c = rw c.in-Some.is at c.in_ok-answer.ensures.found
+
+pub returns-in-Some-clause-back : goal.returns-in-Some-clause-back
+returns-in-Some-clause-back g c = rw c.in-Some.is at c.in_ok-answer.ensures.back
+
+pub returns-in-Some-clause-none : goal.returns-in-Some-clause-none
+returns-in-Some-clause-none g c = rw c.in-Some.is at c.in_ok-answer.ensures.none
+
+pub returns-in-Some-clause-steps : goal.returns-in-Some-clause-steps
+returns-in-Some-clause-steps g c = λ e. absurd ((rw c.in-Some.is at c.in_ok-answer.ensures.decided) e)
+
+pub returns-in-Some-clause-more_early : goal.returns-in-Some-clause-more_early
+returns-in-Some-clause-more_early g c = λ e. absurd ((rw c.in-Some.is at c.in_ok-answer.ensures.decided) e)
+
+pub returns-in-Some-clause-counted : goal.returns-in-Some-clause-counted
+returns-in-Some-clause-counted g c =
+    let l = c.args.logic in
+    let f = Asks (g.M.Demand.holds_for c.args.more.now) in
+    let s = c.args.store.now.store in
+    let y = the_system c.args.system.now in
+    let ns = c.in_ok-lengths.lengths.items in
+    let begun = c.args.ledger.now.used in
+    let taken = c.take_step.ensures.taken c.if-not-take_step.false in
+    stands-counted l f s y ns begun (begun + 1) c.take_step.new.ledger.used
+    (first l f s y c.items.result.now c.in_ok-range.range.least c.in_ok-range.range.spread ns begun c.requires.labels c.in_ok-range.ensures.range c.items.ensures c.in_ok-lengths.ensures) (omega (arith, taken)) (omega (arith, taken))
+
+pub returns-in-Some-clause-unchanged : goal.returns-in-Some-clause-unchanged
+returns-in-Some-clause-unchanged g c = rw c.in-Some.is at c.in_ok-answer.ensures.unchanged
+
+-- ---- the first list
+
 pub loop-unifier-init : goal.loop-unifier-init
 loop-unifier-init g c =
     let l = c.args.logic in
     let f = Asks (g.M.Demand.holds_for c.args.more.now) in
     let s = c.args.store.now.store in
     let y = the_system c.args.system.now in
-    let n = c.args.ledger.now.used in
+    let ns = c.in_ok-lengths.lengths.items in
+    let begun = c.args.ledger.now.used in
     record {
-      stands = subst (StandsAt l f s y c.in_ok-lengths.lengths.items n) (sym (c.take_step.ensures.taken c.if-not-take_step.false)) (stands-first l f s y c.in_ok-range.range.least c.in_ok-range.range.spread c.in_ok-lengths.lengths.items n c.requires.labels c.in_ok-range.ensures.range (subst (λ k. IsFirst c.in_ok-range.range.least c.in_ok-range.range.spread k c.in_ok-lengths.lengths.items) (strings-count c.items.result.now c.args.system.now.strings c.items.ensures) c.in_ok-lengths.ensures));
-      unchanged = refl;
-      same = refl;
-      same_common = refl;
+      stands = subst (StandsAt l f s y ns begun) (sym (c.take_step.ensures.taken c.if-not-take_step.false)) (first l f s y c.items.result.now c.in_ok-range.range.least c.in_ok-range.range.spread ns begun c.requires.labels c.in_ok-range.ensures.range c.items.ensures c.in_ok-lengths.ensures);
+      unchanged = rw c.in_default.is at c.in_ok-answer.ensures.unchanged;
+      same = c.solve_by_order.ensures.same;
+      same_common = c.solve_by_order.ensures.same_common;
       budget = c.take_step.ensures.budget;
-      room = (omega arith, omega arith);
+      room = c.solve_by_order.ensures.room;
     }
 
 -- ---- one list

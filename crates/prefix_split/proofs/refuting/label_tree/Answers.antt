@@ -3,7 +3,7 @@ use Rattle.std.proofs.lemmas.Bool.{false≢true}
 use Rattle.prefix_split.specs.Beginnings.{AllBegin, AreValues, NodesFit}
 use Rattle.prefix_split.specs.Growing.{HasValues, IsTree}
 use Rattle.prefix_split.proofs.GrowingLaws.{none-asked, root-tree, root-values}
-use Rattle.prefix_split.proofs.refuting.is_refuted.Goals as goal
+use Rattle.prefix_split.proofs.refuting.label_tree.Goals as goal
 
 pub ask_equations-requires-clause-tree : goal.ask_equations-requires-clause-tree
 ask_equations-requires-clause-tree c =
