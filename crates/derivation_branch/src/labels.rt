@@ -116,12 +116,7 @@ impl Labels {
 
     /// Adds the label of a pi step from that of a place with the new mark. In S5 that is the mark
     /// alone.
-    pub fn add_after_pi(
-        &mut self,
-        logic: Logic,
-        from: usize,
-        mark: Mark,
-    ) -> Result<usize, NoMemory>
+    pub fn add_after_pi(&mut self, logic: Logic, from: usize, mark: Mark) -> Result<usize, NoMemory>
         requires { from < length self.old }
         ensures place { IfOk result (λ k. IsLabelAt self.new k
             (pi_label logic (get_or self.old from []) (the_character mark))) }

@@ -52,9 +52,13 @@ tells-same names E M s t e h = subst (Tells names E M) (sym e) h
 
 pub wait-longer : (names : Names) (table more : List (List Term)) (labels others : List Label) (E M : List ℕ) (ss : List (List BranchEntry)) → IsLonger table more → IsLonger labels others → Wait names table labels E M ss → Wait names more others E M ss
 wait-longer names table more labels others E M [] h g w = tt
-wait-longer names table more labels others E M (s ∷ ss) h g w =
-    (w.0, w.1, within-longer table more labels others s h g w.2, tells-same names (take (eigens_of s) E) (take (marks_of s) M) (the_sequent table labels s) (the_sequent more others s) (sequent-longer table more labels others s h g w.2) w.3,
-    wait-longer names table more labels others (take (eigens_of s) E) (take (marks_of s) M) ss h g w.4)
+wait-longer names table more labels others E M (s ∷ ss) h g w = (
+  w.0,
+  w.1,
+  within-longer table more labels others s h g w.2,
+  tells-same names (take (eigens_of s) E) (take (marks_of s) M) (the_sequent table labels s) (the_sequent more others s) (sequent-longer table more labels others s h g w.2) w.3,
+  wait-longer names table more labels others (take (eigens_of s) E) (take (marks_of s) M) ss h g w.4,
+)
 
 pub waiting-longer : (names : Names) (table more : List (List Term)) (labels others : List Label) (E M : List ℕ) (ss : List (List BranchEntry)) → IsLonger table more → IsLonger labels others → Wait names table labels E M ss → map (the_sequent more others) ss ≡ map (the_sequent table labels) ss
 waiting-longer names table more labels others E M [] h g w = refl
@@ -77,10 +81,13 @@ wait-more names table labels E F M L (s ∷ ss) h g w =
     let eigens = take-longer E F (eigens_of s) h w.0 in
     let marks = take-longer M L (marks_of s) g w.1 in
     let a = longer-size E F h in
-    let b = longer-size M L g in
-    (omega (arith, a, w.0), omega (arith, b, w.1), w.2,
-    subst (λ N. Tells names (take (eigens_of s) F) N (the_sequent table labels s)) (sym marks) (subst (λ D. Tells names D (take (marks_of s) M) (the_sequent table labels s)) (sym eigens) w.3),
-    subst (λ N. Wait names table labels (take (eigens_of s) F) N ss) (sym marks) (subst (λ D. Wait names table labels D (take (marks_of s) M) ss) (sym eigens) w.4))
+    let b = longer-size M L g in (
+      omega (arith, a, w.0),
+      omega (arith, b, w.1),
+      w.2,
+      subst (λ N. Tells names (take (eigens_of s) F) N (the_sequent table labels s)) (sym marks) (subst (λ D. Tells names D (take (marks_of s) M) (the_sequent table labels s)) (sym eigens) w.3),
+      subst (λ N. Wait names table labels (take (eigens_of s) F) N ss) (sym marks) (subst (λ D. Wait names table labels D (take (marks_of s) M) ss) (sym eigens) w.4),
+    )
 
 -- ---- what the last entry keeps
 
@@ -96,9 +103,11 @@ cut-back names table labels E M D L (s ∷ ss) x last d l w =
     let e = ap eigens_of last.1 ∙ last-push (λ y. y.eigens) last.0 x in
     let m = ap marks_of last.1 ∙ last-push (λ y. y.marks) last.0 x in
     let dd : take (eigens_of s) E ≡ D = ap (λ n. take n E) e ∙ sym d in
-    let ll : take (marks_of s) M ≡ L = ap (λ n. take n M) m ∙ sym l in
-    (w.2, subst (λ N. Tells names D N (the_sequent table labels s)) ll (subst (λ K. Tells names K (take (marks_of s) M) (the_sequent table labels s)) dd w.3),
-    subst (λ N. Wait names table labels D N ss) ll (subst (λ K. Wait names table labels K (take (marks_of s) M) ss) dd w.4))
+    let ll : take (marks_of s) M ≡ L = ap (λ n. take n M) m ∙ sym l in (
+      w.2,
+      subst (λ N. Tells names D N (the_sequent table labels s)) ll (subst (λ K. Tells names K (take (marks_of s) M) (the_sequent table labels s)) dd w.3),
+      subst (λ N. Wait names table labels D N ss) ll (subst (λ K. Wait names table labels K (take (marks_of s) M) ss) dd w.4),
+    )
 
 pub none-left : (names : Names) (table : List (List Term)) (labels : List Label) (E M : List ℕ) (ss : List (List BranchEntry)) → IsLastOf ss None → AreKept names table labels E M ss
 none-left names table labels E M [] last = tt
@@ -116,7 +125,7 @@ shown-after table labels n m (Both a b) xs ss = ap (λ s. s ∷ map (the_sequent
 shown-after table labels n m (Fork a b) xs ss = λ i. map_push (the_entry table labels) xs (placed n m a) i ∷ map_push (the_entry table labels) xs (placed n m b) i ∷ map (the_sequent table labels) ss
 
 within-added : (table : List (List Term)) (labels : List Label) (outer inner at : ℕ) (e : SharedEntry) → outer < length table → inner < length table → at < length labels → IsAddedAt outer inner at e → IsWithin table labels e
-within-added table labels outer inner at e o i l h = (elim h.0 [ | inl same ↦ omega (arith, same, o) | inr same ↦ omega (arith, same, i) ], omega (arith, h.1, l))
+within-added table labels outer inner at e o i l h = (elim h.0 [ inl same ↦ omega (arith, same, o) | inr same ↦ omega (arith, same, i) ], omega (arith, h.1, l))
 
 all_taken : (E : List ℕ) (n : ℕ) → n ≡ length E → take n E ≡ E
 all_taken E n e = take_all n E (omega (arith, e))
@@ -129,9 +138,11 @@ added-kept names table labels E M n m outer inner at (One a) xs ss en em o i l h
     (within-push table labels xs (placed n m a) within f, tells-same names E M _ _ (map_push (the_entry table labels) xs (placed n m a)) tells, wait)
 added-kept names table labels E M n m outer inner at (Both a b) xs ss en em o i l h within tells wait =
     let f = within-added table labels outer inner at a o i l h.0 in
-    let g = within-added table labels outer inner at b o i l h.1 in
-    (subst (AreWithin table labels) (append_assoc xs (placed n m a ∷ []) (placed n m b ∷ [])) (within-push table labels (xs ++ placed n m a ∷ []) (placed n m b) (within-push table labels xs (placed n m a) within f) g),
-    tells-same names E M _ _ (map-append (the_entry table labels) xs (placed n m a ∷ placed n m b ∷ [])) tells, wait)
+    let g = within-added table labels outer inner at b o i l h.1 in (
+      subst (AreWithin table labels) (append_assoc xs (placed n m a ∷ []) (placed n m b ∷ [])) (within-push table labels (xs ++ placed n m a ∷ []) (placed n m b) (within-push table labels xs (placed n m a) within f) g),
+      tells-same names E M _ _ (map-append (the_entry table labels) xs (placed n m a ∷ placed n m b ∷ [])) tells,
+      wait,
+    )
 added-kept names table labels E M n m outer inner at (Fork a b) xs ss en em o i l h within tells wait =
     let f = within-added table labels outer inner at a o i l h.0 in
     let g = within-added table labels outer inner at b o i l h.1 in
@@ -140,11 +151,17 @@ added-kept names table labels E M n m outer inner at (Fork a b) xs ss en em o i 
     let k = last-push (λ y. y.marks) xs (placed n m b) ∙ em in
     let ee = all_taken E (eigens_of second) e in
     let mm = all_taken M (marks_of second) k in
-    let told = tells-same names E M _ _ (map_push (the_entry table labels) xs (placed n m b)) tells.1 in
-    (within-push table labels xs (placed n m a) within f, tells-same names E M _ _ (map_push (the_entry table labels) xs (placed n m a)) tells.0,
-    (omega (arith, e), omega (arith, k), within-push table labels xs (placed n m b) within g,
-    subst (λ N. Tells names (take (eigens_of second) E) N (the_sequent table labels second)) (sym mm) (subst (λ D. Tells names D M (the_sequent table labels second)) (sym ee) told),
-    subst (λ N. Wait names table labels (take (eigens_of second) E) N ss) (sym mm) (subst (λ D. Wait names table labels D M ss) (sym ee) wait)))
+    let told = tells-same names E M _ _ (map_push (the_entry table labels) xs (placed n m b)) tells.1 in (
+      within-push table labels xs (placed n m a) within f,
+      tells-same names E M _ _ (map_push (the_entry table labels) xs (placed n m a)) tells.0,
+      (
+        omega (arith, e),
+        omega (arith, k),
+        within-push table labels xs (placed n m b) within g,
+        subst (λ N. Tells names (take (eigens_of second) E) N (the_sequent table labels second)) (sym mm) (subst (λ D. Tells names D M (the_sequent table labels second)) (sym ee) told),
+        subst (λ N. Wait names table labels (take (eigens_of second) E) N ss) (sym mm) (subst (λ D. Wait names table labels D M ss) (sym ee) wait),
+      ),
+    )
 
 -- ---- what the sets tell of each branch that the step leads to
 
@@ -179,17 +196,17 @@ children-told names table labels E F M L xs u inner at x t stands argument label
     let fit : term_fits (shape_of g ff) t ≡ true = ap (λ h. term_fits h t) shape ∙ fits in
     let children = λ (v : Label). with_components (shape_of g ff) s v (map (with_argument t) (components g ff)) in
     let eigen : OnEach (λ c. (n : ℕ) → holds F n ≡ eigen_occurs n c) (children (get_or labels at [])) =
-      each-all (λ n c. holds F n ≡ eigen_occurs n c) (children (get_or labels at []))
-      (λ n. each-weaker (Grown (is_eigen n) s g ff t) (λ c. holds F n ≡ eigen_occurs n c)
-        (λ c e. brought.eigens n ∙ (λ i. told.eigen n i || sym (brings-same (is_eigen n) table u.shared.substitution inner f t argument) i) ∙ sym e)
-        (children (get_or labels at []))
-        (children-grown (is_eigen n) s k g ff w (get_or labels at []) t (λ _. refl) lt at_k fit)) in
+    each-all (λ n c. holds F n ≡ eigen_occurs n c) (children (get_or labels at []))
+    (λ n. each-weaker (Grown (is_eigen n) s g ff t) (λ c. holds F n ≡ eigen_occurs n c)
+    (λ c e. brought.eigens n ∙ (λ i. told.eigen n i || sym (brings-same (is_eigen n) table u.shared.substitution inner f t argument) i) ∙ sym e)
+    (children (get_or labels at []))
+    (children-grown (is_eigen n) s k g ff w (get_or labels at []) t (λ _. refl) lt at_k fit)) in
     let mark : OnEach (λ c. (n : ℕ) → holds L n ≡ character_occurs names (new_mark n) c) (children (get_or labels at [])) =
-      each-all (λ n c. holds L n ≡ character_occurs names (new_mark n) c) (children (get_or labels at []))
-      (λ n. each-weaker (Marked names (new_mark n) s ff x t) (λ c. holds L n ≡ character_occurs names (new_mark n) c)
-        (λ c e. brought.marks n ∙ (λ i. (told.mark n i || in_modal (new_mark n) x) || sym (brings-same (is_in_home names (new_mark n)) table u.shared.substitution inner f t argument) i) ∙ sym e)
-        (children (get_or labels at []))
-        (subst (λ v. OnEach (Marked names (new_mark n) s ff x t) (children v)) (sym label.1.1) (children-marked names (new_mark n) s k g ff w label.0 x t lt at_k fit))) in
+    each-all (λ n c. holds L n ≡ character_occurs names (new_mark n) c) (children (get_or labels at []))
+    (λ n. each-weaker (Marked names (new_mark n) s ff x t) (λ c. holds L n ≡ character_occurs names (new_mark n) c)
+    (λ c e. brought.marks n ∙ (λ i. (told.mark n i || in_modal (new_mark n) x) || sym (brings-same (is_in_home names (new_mark n)) table u.shared.substitution inner f t argument) i) ∙ sym e)
+    (children (get_or labels at []))
+    (subst (λ v. OnEach (Marked names (new_mark n) s ff x t) (children v)) (sym label.1.1) (children-marked names (new_mark n) s k g ff w label.0 x t lt at_k fit))) in
     each-both (λ c. (n : ℕ) → holds F n ≡ eigen_occurs n c) (λ c. (n : ℕ) → holds L n ≡ character_occurs names (new_mark n) c) (Tells names F L) (λ c p q. record { eigen = p; mark = q }) (children (get_or labels at [])) eigen mark
 
 -- ---- a value is put before a substitution

@@ -75,12 +75,14 @@ first-kept names P x sub lab same well =
     let fits : formula_fits P.setting.logic P.symbols 0 P.formula ≡ true = (kept P well).formula in
     let formula : formula_under ([] ∷ []) x.shared.substitution (the_formula x.shared.formula.now) ≡ P.formula = ap (λ k. formula_under ([] ∷ []) k (the_formula x.shared.formula.now)) sub ∙ same in
     let label : get_or ([] ∷ []) x.shared.label [] ≡ [] = ap (λ k. get_or ([] ∷ []) k []) lab in
-    let leaf = λ (test : Term → Bool) (of : IsOfNames test). ap (any_leaf_in test) formula ∙ formula-unnamed test P.setting.logic P.symbols 0 P.formula of fits in
-    (((omega (arith, sub), omega (arith, lab)), tt),
-    record {
-      eigen = λ n. sym (ap (λ b. b || false) (leaf (is_eigen n) (λ _. refl)));
-      mark = λ n. sym (λ i. (list_any (character_eq (new_mark n)) (label i) || leaf (is_in_home names (new_mark n)) (λ _. refl) i) || false);
-    }, tt)
+    let leaf = λ (test : Term → Bool) (of : IsOfNames test). ap (any_leaf_in test) formula ∙ formula-unnamed test P.setting.logic P.symbols 0 P.formula of fits in (
+      ((omega (arith, sub), omega (arith, lab)), tt),
+      record {
+        eigen = λ n. sym (ap (λ b. b || false) (leaf (is_eigen n) (λ _. refl)));
+        mark = λ n. sym (λ i. (list_any (character_eq (new_mark n)) (label i) || leaf (is_in_home names (new_mark n)) (λ _. refl) i) || false);
+      },
+      tt,
+    )
 
 pub first-state : (names : Names) (P : Problem) (x : BranchEntry) (table : List (List Term)) (labels : List Label) (E M : List ℕ) (ss : List (List BranchEntry)) → table ≡ [] ∷ [] → labels ≡ [] ∷ [] → E ≡ [] → M ≡ [] → ss ≡ (x ∷ []) ∷ []
     → x.shared.substitution ≡ 0 → x.shared.label ≡ 0 → the_formula x.shared.formula.now ≡ P.formula → IsTrue (is_problem P) → AreKept names table labels E M ss

@@ -155,11 +155,9 @@ fn take_step<'a>(
         ≡ Err f }
 {
     match step {
-        Step::Use {
-            entry,
-            modal,
-            term,
-        } => use_numbered(alloc, problem, names, state, *entry, modal, term),
+        Step::Use { entry, modal, term } => use_numbered(
+            alloc, problem, names, state, *entry, modal, term,
+        ),
         Step::Axiom { given, shown } => close_numbered(alloc, state, *given, *shown),
     }
 }

@@ -153,7 +153,17 @@ pub fn use_entry<'a>(
     let shared = used.shared;
     let kind = kind_of(logic, shared.sign, shared.formula);
     let at = label_after(&mut state.labels, logic, shared.label, modal)?;
-    let fault = use_fault(alloc, problem, names, state, kind, shared.label, at, modal, term)?;
+    let fault = use_fault(
+        alloc,
+        problem,
+        names,
+        state,
+        kind,
+        shared.label,
+        at,
+        modal,
+        term,
+    )?;
     match fault {
         Some(fault) => Err(ApplyFault::Fault(fault)),
         None => {

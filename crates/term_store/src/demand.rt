@@ -46,12 +46,7 @@ pub trait Demand {
 
     /// The labels that the condition forces to be beginnings of others, whatever the strings are.
     /// It may add built cells, and binds nothing. Want of memory leaves the store as it was.
-    fn homes(
-        &self,
-        alloc: Global,
-        store: &mut Store,
-        system: &System,
-    ) -> Result<HomeList, NoMemory>
+    fn homes(&self, alloc: Global, store: &mut Store, system: &System) -> Result<HomeList, NoMemory>
         requires fits { IsTrue (is_system store.old.store (the_system system.now)) }
         ensures labels { IfOk result (λ hs. IsTrue (list_all (is_home store.new.store) hs)) }
         ensures forced { IfOk result (λ hs. (σ : Solution) → Solves store.new.store σ

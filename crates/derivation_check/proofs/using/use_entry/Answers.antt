@@ -61,9 +61,9 @@ grow-requires c =
     let f = the_formula u.shared.formula.now in
     let ts = get_or s.substitutions u.shared.substitution [] in
     let told = λ (y : Children). c.in_ok-fault.ensures (the_sequent s.substitutions s.labels xs) (the_entry s.substitutions s.labels u) (told-of problem names s.substitutions s.labels more s.eigens s.marks s.sequents.is_open xs forks u c.in_ok-at.at x used)
-        (c.kind_of-kind.ensures.modal ∙ ap (λ l. modal_of l u.shared.sign f) logic ∙ sym (modal-all ts 0 problem.setting.logic u.shared.sign f))
-        (c.kind_of-kind.ensures.shape ∙ sym (shape-all ts 0 u.shared.sign f))
-        (label-kept problem names s.substitutions s.labels more s.eigens s.marks s.sequents.is_open xs forks u c.in_ok-at.at x used).1 used.label.1 y in
+    (c.kind_of-kind.ensures.modal ∙ ap (λ l. modal_of l u.shared.sign f) logic ∙ sym (modal-all ts 0 problem.setting.logic u.shared.sign f))
+    (c.kind_of-kind.ensures.shape ∙ sym (shape-all ts 0 u.shared.sign f))
+    (label-kept problem names s.substitutions s.labels more s.eigens s.marks s.sequents.is_open xs forks u c.in_ok-at.at x used).1 used.label.1 y in
     let unfaulted = λ (y : Children). told y ∙ ap (faulty y) c.in-None.is in
     let kept = met problem names (the_sequent s.substitutions s.labels xs) (the_entry s.substitutions s.labels u) x t unfaulted in
     record {
@@ -97,9 +97,9 @@ returns-in-Some-clause-fault c = λ fault e.
     let f = the_formula u.shared.formula.now in
     let ts = get_or s.substitutions u.shared.substitution [] in
     let told = λ (y : Children). c.in_ok-fault.ensures (the_sequent s.substitutions s.labels xs) (the_entry s.substitutions s.labels u) (told-of problem names s.substitutions s.labels more s.eigens s.marks s.sequents.is_open xs forks u c.in_ok-at.at x used)
-        (c.kind_of-kind.ensures.modal ∙ ap (λ l. modal_of l u.shared.sign f) logic ∙ sym (modal-all ts 0 problem.setting.logic u.shared.sign f))
-        (c.kind_of-kind.ensures.shape ∙ sym (shape-all ts 0 u.shared.sign f))
-        (label-kept problem names s.substitutions s.labels more s.eigens s.marks s.sequents.is_open xs forks u c.in_ok-at.at x used).1 used.label.1 y in
+    (c.kind_of-kind.ensures.modal ∙ ap (λ l. modal_of l u.shared.sign f) logic ∙ sym (modal-all ts 0 problem.setting.logic u.shared.sign f))
+    (c.kind_of-kind.ensures.shape ∙ sym (shape-all ts 0 u.shared.sign f))
+    (label-kept problem names s.substitutions s.labels more s.eigens s.marks s.sequents.is_open xs forks u c.in_ok-at.at x used).1 used.label.1 y in
     let same : c.in-Some.fault ≡ fault = cc in
     told (children_of problem.setting.logic (the_sequent s.substitutions s.labels xs) (the_entry s.substitutions s.labels u) x t) ∙ ap (faulty _) c.in-Some.is ∙ ap Err same
 
@@ -125,8 +125,8 @@ returns-in_ok-grow-in-None-clause-leads c =
     let f = the_formula u.shared.formula.now in
     let ts = get_or s.substitutions u.shared.substitution [] in
     let told = λ (y : Children). c.in_ok-fault.ensures (the_sequent s.substitutions s.labels xs) (the_entry s.substitutions s.labels u) (told-of problem names s.substitutions s.labels more s.eigens s.marks s.sequents.is_open xs forks u c.in_ok-at.at x used)
-        (c.kind_of-kind.ensures.modal ∙ ap (λ l. modal_of l u.shared.sign f) logic ∙ sym (modal-all ts 0 problem.setting.logic u.shared.sign f))
-        (c.kind_of-kind.ensures.shape ∙ sym (shape-all ts 0 u.shared.sign f))
-        (label-kept problem names s.substitutions s.labels more s.eigens s.marks s.sequents.is_open xs forks u c.in_ok-at.at x used).1 used.label.1 y in
+    (c.kind_of-kind.ensures.modal ∙ ap (λ l. modal_of l u.shared.sign f) logic ∙ sym (modal-all ts 0 problem.setting.logic u.shared.sign f))
+    (c.kind_of-kind.ensures.shape ∙ sym (shape-all ts 0 u.shared.sign f))
+    (label-kept problem names s.substitutions s.labels more s.eigens s.marks s.sequents.is_open xs forks u c.in_ok-at.at x used).1 used.label.1 y in
     let unfaulted = λ (y : Children). told y ∙ ap (faulty y) c.in-None.is in
     used-leads problem names s.substitutions s.labels more s.eigens s.marks s.sequents.is_open xs forks u c.in_ok-at.at x t _ used unfaulted c.in_ok-grow-in-None.ensures.grown
