@@ -21,7 +21,7 @@ use cop_base::NoMemory;
 use std::alloc::Global;
 use term_store::{Ref, Store, System};
 
-// Whether the node is by a mark, and no earlier one has its label.
+// Whether the node is by a mark, and no earlier one by a mark has its label.
 fn is_first_mark(order: &LabelOrder, nodes: &[Node], y: usize) -> bool {
     if mark_of(nodes, y).is_none() {
         return false;
@@ -30,7 +30,7 @@ fn is_first_mark(order: &LabelOrder, nodes: &[Node], y: usize) -> bool {
         let Some(z) = order.below(y, i) else {
             return true;
         };
-        if z < y && order.begins(y, z) {
+        if z < y && mark_of(nodes, z).is_some() && order.begins(y, z) {
             return false;
         }
     }
