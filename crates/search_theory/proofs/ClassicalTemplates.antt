@@ -172,7 +172,7 @@ commons-variable [] k = refl
 commons-variable (s ∷ ss) zero = refl
 commons-variable (s ∷ ss) (suc k) = commons-variable ss k
 
-length-patterns : (vs : List Value) (ps : Patterns) → length (g_terms_list (pattern_terms vs ps)) ≡ number_of_patterns ps
+pub length-patterns : (vs : List Value) (ps : Patterns) → length (g_terms_list (pattern_terms vs ps)) ≡ number_of_patterns ps
 length-patterns vs no_patterns = refl
 length-patterns vs (more_patterns p ps) = ap suc (length-patterns vs ps)
 

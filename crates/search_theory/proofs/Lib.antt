@@ -71,4 +71,5 @@ pub mod LengthsLaws
 mod LengthsExamples
 pub mod LabelledBuilt
 pub mod TemplateSorts
+pub mod ProperPatterns
 pub mod VariableSorts

@@ -21,10 +21,10 @@ use Rattle.calculus.specs.Problems.{is_modal, has_predicate, term_fits_in, terms
 use Rattle.calculus.specs.Equality.{sort_eq}
 use Rattle.calculus.specs.Kinds.{other, shape_of, modal_of}
 use Rattle.calculus.specs.Positions.{size}
-use Rattle.calculus.specs.Patterns.{Pattern, Patterns, p_var, p_eigen, p_new, no_patterns, patterns_tree, PatternAtom, PatternGamma, Template, pattern_fits, are_term_patterns, are_value_patterns, is_label_pattern, atom_fits, gamma_fits, template_fits}
+use Rattle.calculus.specs.Patterns.{Pattern, p_var, p_eigen, p_new, no_patterns, patterns_tree, PatternAtom, pattern_fits, are_term_patterns, are_value_patterns, is_label_pattern, atom_fits, gamma_fits, template_fits}
 use Rattle.calculus.specs.Templates.{strings_from}
 use Rattle.calculus.specs.Labels.{pi_label}
-use Rattle.search_theory.specs.TemplateOf.{PatternSpot, root_pattern_spot, PatternPart, PatternBody, pattern_of, patterns_of, pattern_down, pattern_inside, of_sort, one_pi_more, pattern_modal, pattern_turn, pattern_atom, joined_patterns, pattern_alpha, pattern_beta, pattern_one, pattern_two, with_pattern_gamma, pattern_quantifier, pattern_part, template_by, if_sides_used, template_of}
+use Rattle.search_theory.specs.TemplateOf.{PatternSpot, root_pattern_spot, PatternPart, PatternBody, pattern_of, patterns_of, pattern_down, pattern_inside, of_sort, one_pi_more, pattern_modal, pattern_turn, pattern_atom, joined_patterns, pattern_alpha, pattern_beta, pattern_one, pattern_two, with_pattern_gamma, pattern_quantifier, pattern_part, template_by}
 use Rattle.search_theory.proofs.BelowLaws.{all-join}
 use Rattle.search_theory.proofs.Dropping.{drop-next, drop-both, drop-front}
 
@@ -79,7 +79,7 @@ index-fits sorts [] k d h l = absurd (omega (arith, l))
 index-fits sorts (p ∷ env) zero d h l = (and_parts (pattern_fits sorts TermSort p) (list_all (pattern_fits sorts TermSort) env) h).0
 index-fits sorts (p ∷ env) (suc k) d h l = index-fits sorts env k d (and_parts (pattern_fits sorts TermSort p) (list_all (pattern_fits sorts TermSort) env) h).1 (omega (arith, l))
 
-terms-tree : (sorts : List Sort) (ps : List Pattern) → IsTrue (list_all (pattern_fits sorts TermSort) ps) → IsTrue (are_term_patterns sorts (patterns_tree ps))
+pub terms-tree : (sorts : List Sort) (ps : List Pattern) → IsTrue (list_all (pattern_fits sorts TermSort) ps) → IsTrue (are_term_patterns sorts (patterns_tree ps))
 terms-tree sorts [] h = refl
 terms-tree sorts (p ∷ ps) h = let q = and_parts (pattern_fits sorts TermSort p) (list_all (pattern_fits sorts TermSort) ps) h in and_from (pattern_fits sorts TermSort p) (are_term_patterns sorts (patterns_tree ps)) q.0 (terms-tree sorts ps q.1)
 

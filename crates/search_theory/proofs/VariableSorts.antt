@@ -1,5 +1,5 @@
 -- The variables of a copy have the sorts of the template, in the store and in each store that goes on from it.
-use Rattle.std.proofs.Common.{◌≡◌, ℕ, zero, suc, List, [], ◌∷◌, length, Bool, true, false, IsTrue, refl, sym, ◌∙◌, ap, Option, Some, None, option_map, slice_get, arith, if◌then◌else◌}
+use Rattle.std.proofs.Common.{◌≡◌, ℕ, zero, suc, List, [], ◌∷◌, Bool, true, false, IsTrue, refl, sym, ◌∙◌, ap, Option, Some, option_map, slice_get, if◌then◌else◌}
 use Rattle.std.specs.List.{list_all}
 use Rattle.std.specs.Option.{option_map_or}
 use Rattle.std.proofs.lemmas.Bool.{and_from}
@@ -7,11 +7,12 @@ use Rattle.calculus.specs.declared.sort.Sort.{Sort}
 use Rattle.calculus.specs.declared.sort.Sort.TheVariants.{TermSort, MarkSort, StringSort}
 use Rattle.calculus.specs.Ground.{common, g_spare_mark, no_marks, more_marks, term, steps}
 use Rattle.calculus.specs.Equality.{sort_eq}
-use Rattle.calculus.specs.Stores.{variable, Store, sort_of, has_sort_at}
+use Rattle.calculus.specs.Stores.{Store, sort_of, has_sort_at}
 use Rattle.calculus.specs.Patterns.{HaveSortsAt}
 use Rattle.search_theory.specs.LabelledCells.{sort_value}
 use Rattle.search_theory.specs.StateSystems.{string_cells}
-use Rattle.search_theory.proofs.LabelledBuilt.{spare_values, AreSortedBy}
+use Rattle.search_theory.specs.RightPatterns.{spare_values}
+use Rattle.search_theory.proofs.LabelledBuilt.{AreSortedBy}
 
 -- a store that keeps the sorts of cells keeps these
 pub sorts-kept : (old new : Store) → ((r : ℕ) (sort : Sort) → option_map sort_of (slice_get old.cells r) ≡ Some sort → option_map sort_of (slice_get new.cells r) ≡ Some sort) → (sorts : List Sort) (rs : List ℕ) → HaveSortsAt old sorts rs → HaveSortsAt new sorts rs

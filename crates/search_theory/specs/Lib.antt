@@ -20,6 +20,7 @@ pub mod Solving
 pub mod Demanding
 pub mod StateSystems
 pub mod LabelledCells
+pub mod RightPatterns
 -- early pruning
 pub mod Pruning
 pub mod HomeCells
