@@ -1,5 +1,5 @@
 -- Copies of classical templates leave a classical store classical, and the templates of a classical matrix are classical.
-use Rattle.std.proofs.Common.{◌≡◌, ◌+◌, ◌≤◌, ℕ, zero, suc, List, [], ◌∷◌, drop, length, map, replicate, Bool, true, false, ◌&&◌, ◌||◌, IsTrue, refl, sym, ◌∙◌, ap, subst, Option, None, Some, slice_get, arith, nat_le}
+use Rattle.std.proofs.Common.{◌≡◌, ◌+◌, ◌≤◌, ℕ, zero, suc, List, [], ◌∷◌, drop, map, Bool, true, false, ◌&&◌, ◌||◌, IsTrue, refl, sym, ◌∙◌, ap, subst, Option, None, Some, slice_get, arith, nat_le}
 use Rattle.std.specs.Prelude.{Contains}
 use Rattle.std.specs.List.{AllByRecursion, list_all}
 use Rattle.std.specs.Option.{option_map_or}
@@ -14,10 +14,10 @@ use Rattle.calculus.specs.Clauses.{selections}
 use Rattle.calculus.specs.ComputedInstances.{Part, instance_of}
 use Rattle.calculus.specs.Equality.{list_eq, literal_eq, sort_eq}
 use Rattle.calculus.specs.Ground.{GroundLiteral, Value, common, g_eigen, g_fun, term}
-use Rattle.calculus.specs.Patterns.{Pattern, Patterns, PatternAtom, PatternGamma, Template, are_term_patterns, are_value_patterns, atom_fits, gamma_fits, is_label_pattern, more_patterns, no_patterns, p_eigen, p_fun, p_new, p_var, pattern_fits, patterns_tree, template_fits}
+use Rattle.calculus.specs.Patterns.{HaveSortsAt, Pattern, Patterns, PatternAtom, PatternGamma, Template, are_term_patterns, are_value_patterns, atom_fits, gamma_fits, is_label_pattern, more_patterns, no_patterns, p_eigen, p_fun, p_new, p_var, pattern_fits, patterns_tree, template_fits}
 use Rattle.calculus.specs.Problems.{formula_fits}
 use Rattle.calculus.specs.Skolem.{fits_way, has_function, is_delta_position, is_empty}
-use Rattle.calculus.specs.Stores.{Cell, Store, eigen_cell, fun_cell, new_cell, parts_of, string_cell, variable}
+use Rattle.calculus.specs.Stores.{Cell, Store, eigen_cell, fun_cell, has_value_sort_at, is_store, new_cell, parts_fit, parts_of, sort_at, string_cell, variable}
 use Rattle.calculus.specs.Syntax.{Problem}
 use Rattle.calculus.specs.Templates.{IsTemplateOf, as_term, have_sorts, is_choice_of_values, literals_by, pattern_gamma, pattern_label, pattern_literal, pattern_terms, pattern_value, pattern_values, strings_from}
 use Rattle.calculus.proofs.InstanceLaws.{instance-proper}
@@ -25,8 +25,9 @@ use Rattle.search_theory.specs.Regular as regular
 use Rattle.search_theory.specs.Regular.{IsClassicalTemplate, are_classical_patterns, is_classical_cell, is_classical_pattern, is_classical_store, is_own_cell, is_term_sort, spares_for}
 use Rattle.search_theory.proofs.ClassicalLaws.{cell-classical}
 use Rattle.search_theory.proofs.ClassicalTemplates.{classical-atoms, commons, commons-chosen, commons-sorted, is_plain_atom, no_new, none_new, proper-by, template-classical}
+use Rattle.search_theory.proofs.SpareLaws.{cell-fits}
 use Rattle.search_theory.proofs.TemplateExists.{template-exists}
-use Rattle.term_store.specs.Signatures.{AreAllowedFrom, BuildsWithin, Signature, allows, allows_all, allows_atom, allows_gamma, allows_template, is_allowed_cell, number_of_patterns}
+use Rattle.term_store.specs.Signatures.{AreAllowedFrom, BuildsWithin, IsAllowedCell, Signature, allows, allows_all, allows_atom, allows_gamma, allows_template, number_of_patterns, sorts_of_patterns}
 use Rattle.connection_search.proofs.ClassicalGammas.{IsSpareUse, gammas-spare}
 
 -- ---- the signature of a classical problem
@@ -36,25 +37,47 @@ abbrev pub classical_signature : Problem → Signature
 classical_signature P = record {
   sorts = is_term_sort;
   functions = has_function P.symbols;
-  eigenvariables = λ p n. is_delta_position P p && fits_way P p (replicate n (term (common 0)));
-  marks = λ p n. false;
+  eigenvariables = λ p ss. is_delta_position P p && fits_way P p (map (λ s. term (common 0)) ss);
+  marks = λ p ss. false;
 }
 
-spares-alike : (rs : List ℕ) → map (λ r. term (common 0)) rs ≡ replicate (length rs) (term (common 0))
-spares-alike [] = refl
-spares-alike (r ∷ rs) = ap (λ vs. term (common 0) ∷ vs) (spares-alike rs)
+spares-alike : (s : Store) (ss : List Sort) (rs : List ℕ) → HaveSortsAt s ss rs → map (λ r. term (common 0)) rs ≡ map (λ s. term (common 0)) ss
+spares-alike s [] rs have = ap (map (λ r. term (common 0))) have
+spares-alike s (sort ∷ ss) rs (r, qs, e, at, more) = ap (map (λ r. term (common 0))) e ∙ ap (λ vs. term (common 0) ∷ vs) (spares-alike s ss qs more)
 
-cell-alike : (P : Problem) (c : Cell) → is_allowed_cell (classical_signature P) c ≡ is_classical_cell P c
-cell-alike P (variable TermSort b) = refl
-cell-alike P (variable MarkSort b) = refl
-cell-alike P (variable StringSort b) = refl
-cell-alike P (fun_cell f rs) = refl
-cell-alike P (eigen_cell p rs) = ap (λ vs. is_delta_position P p && fits_way P p vs) (sym (spares-alike rs))
-cell-alike P (new_cell p rs) = refl
-cell-alike P (string_cell rs) = refl
+allowed_cell-classical : (P : Problem) (s : Store) (c : Cell) → IsAllowedCell (classical_signature P) s c → IsTrue (is_classical_cell P c)
+allowed_cell-classical P s (variable TermSort b) h = refl
+allowed_cell-classical P s (variable MarkSort b) h = h
+allowed_cell-classical P s (variable StringSort b) h = h
+allowed_cell-classical P s (fun_cell f rs) h = h
+allowed_cell-classical P s (eigen_cell p rs) (ss, have, h) = ap (λ vs. is_delta_position P p && fits_way P p vs) (spares-alike s ss rs have) ∙ h
+allowed_cell-classical P s (new_cell p rs) (ss, have, h) = absurd (false≢true h)
+allowed_cell-classical P s (string_cell rs) h = absurd h
 
-allowed-classical : (P : Problem) (base : ℕ) (s : Store) → IsTrue (is_classical_store P base s) → AreAllowedFrom (classical_signature P) base s
-allowed-classical P base s h n c l e = cell-alike P c ∙ cell-classical P base s h n c l e
+-- terms and strings have sorts
+values-have : (s : Store) (rs : List ℕ) → IsTrue (list_all (has_value_sort_at s) rs) → (ss : List Sort) × HaveSortsAt s ss rs
+values-have s [] h = ([], refl)
+values-have s (r ∷ rs) h =
+    let w = and_parts (has_value_sort_at s r) (list_all (has_value_sort_at s) rs) h in
+    let (ss, have) = values-have s rs w.1 in
+    let (sort, at) = one (sort_at s r) refl w.0 in
+    (sort ∷ ss, (r, rs, refl, at, have))
+  where
+    one : (o : Option Sort) → sort_at s r ≡ o → IsTrue (option_map_or (sort_eq TermSort) o false || option_map_or (sort_eq StringSort) o false) → (sort : Sort) × (sort_at s r ≡ Some sort)
+    one None e k = absurd (false≢true k)
+    one (Some sort) e k = (sort, e)
+
+classical_cell-allowed : (P : Problem) (s : Store) (c : Cell) → IsTrue (parts_fit s c) → IsTrue (is_classical_cell P c) → IsAllowedCell (classical_signature P) s c
+classical_cell-allowed P s (variable TermSort b) f h = refl
+classical_cell-allowed P s (variable MarkSort b) f h = h
+classical_cell-allowed P s (variable StringSort b) f h = h
+classical_cell-allowed P s (fun_cell g rs) f h = h
+classical_cell-allowed P s (eigen_cell p rs) f h = let (ss, have) = values-have s rs f in (ss, have, ap (λ vs. is_delta_position P p && fits_way P p vs) (sym (spares-alike s ss rs have)) ∙ h)
+classical_cell-allowed P s (new_cell p rs) f h = absurd (false≢true h)
+classical_cell-allowed P s (string_cell rs) f h = absurd (false≢true h)
+
+pub classical-allowed : (P : Problem) (base : ℕ) (s : Store) → IsTrue (is_store s) → IsTrue (is_classical_store P base s) → AreAllowedFrom (classical_signature P) base s
+classical-allowed P base s f h n c l e = classical_cell-allowed P s c (cell-fits s f n c e) (cell-classical P base s h n c l e)
 
 all-from : (q : Cell → Bool) (base : ℕ) (cells : List Cell) → ((n : ℕ) (c : Cell) → base ≤ n → slice_get cells n ≡ Some c → IsTrue (q c)) → IsTrue (list_all q (drop base cells))
 all-from q zero [] h = refl
@@ -62,9 +85,12 @@ all-from q (suc b) [] h = refl
 all-from q zero (c ∷ cs) h = and_from (q c) (list_all q cs) (h 0 c (omega arith) refl) (all-from q zero cs (λ n d l e. h (suc n) d (omega arith) e))
 all-from q (suc b) (c ∷ cs) h = all-from q b cs (λ n d l e. h (suc n) d (omega (arith, l)) e)
 
+pub allowed-classical : (P : Problem) (base : ℕ) (s : Store) → NamesFrom base s → AreAllowedFrom (classical_signature P) base s → IsTrue (is_classical_store P base s)
+allowed-classical P base s n k = all-from (is_own_cell P base) base s.cells (λ i c l e. and_from (is_classical_cell P c) (list_all (nat_le base) (parts_of c)) (allowed_cell-classical P s c (k i c l e)) (n i c l e))
+
 -- what was built within the signature over own cells is classical
-pub classical-copied : (P : Problem) (base : ℕ) (old new : Store) (copied : Signature → Bool) → BuildsWithin copied old new → IsTrue (copied (classical_signature P)) → NamesFrom base new → IsTrue (is_classical_store P base old) → IsTrue (is_classical_store P base new)
-classical-copied P base old new copied w h n k = all-from (is_own_cell P base) base new.cells (λ i c l e. and_from (is_classical_cell P c) (list_all (nat_le base) (parts_of c)) (sym (cell-alike P c) ∙ w (classical_signature P) base h (allowed-classical P base old k) i c l e) (n i c l e))
+pub classical-copied : (P : Problem) (base : ℕ) (old new : Store) (copied : Signature → Bool) → IsTrue (is_store old) → BuildsWithin copied old new → IsTrue (copied (classical_signature P)) → NamesFrom base new → IsTrue (is_classical_store P base old) → IsTrue (is_classical_store P base new)
+classical-copied P base old new copied f w h n k = allowed-classical P base new n (w (classical_signature P) base h (classical-allowed P base old f k))
 
 -- ---- patterns
 
@@ -72,41 +98,41 @@ numbers-alike : (ps : Patterns) → regular.number_of_patterns ps ≡ number_of_
 numbers-alike no_patterns = refl
 numbers-alike (more_patterns p ps) = ap suc (numbers-alike ps)
 
-spares-for_patterns : (ps : Patterns) → spares_for ps ≡ replicate (number_of_patterns ps) (term (common 0))
-spares-for_patterns no_patterns = refl
-spares-for_patterns (more_patterns p ps) = ap (λ vs. term (common 0) ∷ vs) (spares-for_patterns ps)
+spares-for_patterns : (sorts : List Sort) (ps : Patterns) → spares_for ps ≡ map (λ s. term (common 0)) (sorts_of_patterns sorts ps)
+spares-for_patterns sorts no_patterns = refl
+spares-for_patterns sorts (more_patterns p ps) = ap (λ vs. term (common 0) ∷ vs) (spares-for_patterns sorts ps)
 
 mutual
-  pattern-allowed : (P : Problem) (p : Pattern) → IsTrue (is_classical_pattern P p) → IsTrue (allows (classical_signature P) p)
-  pattern-allowed P (p_var k) h = refl
-  pattern-allowed P (p_fun f ps) h =
+  pattern-allowed : (P : Problem) (sorts : List Sort) (p : Pattern) → IsTrue (is_classical_pattern P p) → IsTrue (allows (classical_signature P) sorts p)
+  pattern-allowed P sorts (p_var k) h = refl
+  pattern-allowed P sorts (p_fun f ps) h =
       let w = and_parts (has_function P.symbols f (regular.number_of_patterns ps)) (are_classical_patterns P ps) h in
-      and_from (has_function P.symbols f (number_of_patterns ps)) (allows_all (classical_signature P) ps) (ap (has_function P.symbols f) (sym (numbers-alike ps)) ∙ w.0) (patterns-allowed P ps w.1)
-  pattern-allowed P (p_eigen p ps) h =
+      and_from (has_function P.symbols f (number_of_patterns ps)) (allows_all (classical_signature P) sorts ps) (ap (has_function P.symbols f) (sym (numbers-alike ps)) ∙ w.0) (patterns-allowed P sorts ps w.1)
+  pattern-allowed P sorts (p_eigen p ps) h =
       let w = and_parts (is_delta_position P p && fits_way P p (spares_for ps)) (are_classical_patterns P ps) h in
-      and_from (is_delta_position P p && fits_way P p (replicate (number_of_patterns ps) (term (common 0)))) (allows_all (classical_signature P) ps) (ap (λ vs. is_delta_position P p && fits_way P p vs) (sym (spares-for_patterns ps)) ∙ w.0) (patterns-allowed P ps w.1)
-  pattern-allowed P (p_new p ps) h = absurd (false≢true h)
+      and_from (is_delta_position P p && fits_way P p (map (λ s. term (common 0)) (sorts_of_patterns sorts ps))) (allows_all (classical_signature P) sorts ps) (ap (λ vs. is_delta_position P p && fits_way P p vs) (sym (spares-for_patterns sorts ps)) ∙ w.0) (patterns-allowed P sorts ps w.1)
+  pattern-allowed P sorts (p_new p ps) h = absurd (false≢true h)
 
-  patterns-allowed : (P : Problem) (ps : Patterns) → IsTrue (are_classical_patterns P ps) → IsTrue (allows_all (classical_signature P) ps)
-  patterns-allowed P no_patterns h = refl
-  patterns-allowed P (more_patterns p ps) h =
+  patterns-allowed : (P : Problem) (sorts : List Sort) (ps : Patterns) → IsTrue (are_classical_patterns P ps) → IsTrue (allows_all (classical_signature P) sorts ps)
+  patterns-allowed P sorts no_patterns h = refl
+  patterns-allowed P sorts (more_patterns p ps) h =
       let w = and_parts (is_classical_pattern P p) (are_classical_patterns P ps) h in
-      and_from (allows (classical_signature P) p) (allows_all (classical_signature P) ps) (pattern-allowed P p w.0) (patterns-allowed P ps w.1)
+      and_from (allows (classical_signature P) sorts p) (allows_all (classical_signature P) sorts ps) (pattern-allowed P sorts p w.0) (patterns-allowed P sorts ps w.1)
 
-no-label : (g : Signature) (ps : List Pattern) → IsTrue (is_empty ps) → IsTrue (allows_all g (patterns_tree ps))
-no-label g [] h = refl
-no-label g (p ∷ ps) h = absurd (false≢true h)
+no-label : (g : Signature) (sorts : List Sort) (ps : List Pattern) → IsTrue (is_empty ps) → IsTrue (allows_all g sorts (patterns_tree ps))
+no-label g sorts [] h = refl
+no-label g sorts (p ∷ ps) h = absurd (false≢true h)
 
-pub atom-allowed : (P : Problem) (a : PatternAtom) → IsTrue (are_classical_patterns P (patterns_tree a.args) && is_empty a.label) → IsTrue (allows_atom (classical_signature P) a)
-atom-allowed P a h =
+pub atom-allowed : (P : Problem) (sorts : List Sort) (a : PatternAtom) → IsTrue (are_classical_patterns P (patterns_tree a.args) && is_empty a.label) → IsTrue (allows_atom (classical_signature P) sorts a)
+atom-allowed P sorts a h =
     let w = and_parts (are_classical_patterns P (patterns_tree a.args)) (is_empty a.label) h in
-    and_from (allows_all (classical_signature P) (patterns_tree a.args)) (allows_all (classical_signature P) (patterns_tree a.label)) (patterns-allowed P (patterns_tree a.args) w.0) (no-label (classical_signature P) a.label w.1)
+    and_from (allows_all (classical_signature P) sorts (patterns_tree a.args)) (allows_all (classical_signature P) sorts (patterns_tree a.label)) (patterns-allowed P sorts (patterns_tree a.args) w.0) (no-label (classical_signature P) sorts a.label w.1)
 
-pub atoms-allowed : (P : Problem) (xs : List PatternAtom) → IsTrue (list_all (λ (a : PatternAtom). are_classical_patterns P (patterns_tree a.args) && is_empty a.label) xs) → IsTrue (list_all (allows_atom (classical_signature P)) xs)
-atoms-allowed P [] h = refl
-atoms-allowed P (a ∷ xs) h =
+pub atoms-allowed : (P : Problem) (sorts : List Sort) (xs : List PatternAtom) → IsTrue (list_all (λ (a : PatternAtom). are_classical_patterns P (patterns_tree a.args) && is_empty a.label) xs) → IsTrue (list_all (allows_atom (classical_signature P) sorts) xs)
+atoms-allowed P sorts [] h = refl
+atoms-allowed P sorts (a ∷ xs) h =
     let w = and_parts (are_classical_patterns P (patterns_tree a.args) && is_empty a.label) (list_all (λ (b : PatternAtom). are_classical_patterns P (patterns_tree b.args) && is_empty b.label) xs) h in
-    and_from (allows_atom (classical_signature P) a) (list_all (allows_atom (classical_signature P)) xs) (atom-allowed P a w.0) (atoms-allowed P xs w.1)
+    and_from (allows_atom (classical_signature P) sorts a) (list_all (allows_atom (classical_signature P) sorts) xs) (atom-allowed P sorts a w.0) (atoms-allowed P sorts xs w.1)
 
 -- ---- any template of a selection is classical
 
@@ -214,22 +240,22 @@ selection-classical P sides t c fits within h =
 
 -- ---- what a classical signature allows of a template
 
-gamma-allowed : (P : Problem) (ss : List Sort) (vs : List Value) (g : PatternGamma) → IsTrue (list_all is_term_sort ss) → IsTrue (gamma_fits ss g) → IsSpareUse (pattern_gamma vs g) → IsTrue (allows_gamma (classical_signature P) g)
+gamma-allowed : (P : Problem) (ss : List Sort) (vs : List Value) (g : PatternGamma) → IsTrue (list_all is_term_sort ss) → IsTrue (gamma_fits ss g) → IsSpareUse (pattern_gamma vs g) → IsTrue (allows_gamma (classical_signature P) ss g)
 gamma-allowed P ss vs g h f (e, n) =
     let w = and_parts (pattern_fits ss TermSort g.term) (is_label_pattern ss g.label) f in
-    and_from (allows (classical_signature P) g.term) (allows_all (classical_signature P) (patterns_tree g.label)) (by g.term w.0 e) (no-label (classical_signature P) g.label (label-plain ss vs g.label h w.1 n))
+    and_from (allows (classical_signature P) ss g.term) (allows_all (classical_signature P) ss (patterns_tree g.label)) (by g.term w.0 e) (no-label (classical_signature P) ss g.label (label-plain ss vs g.label h w.1 n))
   where
-    by : (p : Pattern) → IsTrue (pattern_fits ss TermSort p) → as_term (pattern_value vs p) ≡ common 0 → IsTrue (allows (classical_signature P) p)
+    by : (p : Pattern) → IsTrue (pattern_fits ss TermSort p) → as_term (pattern_value vs p) ≡ common 0 → IsTrue (allows (classical_signature P) ss p)
     by (p_var k) f e = refl
     by (p_fun q ps) f e = let z : g_fun q (pattern_terms vs ps) ≡ common 0 = e in absurd (cc z)
     by (p_eigen q ps) f e = let z : g_eigen q (pattern_values vs ps) ≡ common 0 = e in absurd (cc z)
     by (p_new q ps) f e = absurd (false≢true f)
 
-gammas-allowed : (P : Problem) (ss : List Sort) (vs : List Value) (gs : List PatternGamma) → IsTrue (list_all is_term_sort ss) → IsTrue (list_all (gamma_fits ss) gs) → AllByRecursion IsSpareUse (map (λ (g : PatternGamma). pattern_gamma vs g) gs) → IsTrue (list_all (allows_gamma (classical_signature P)) gs)
+gammas-allowed : (P : Problem) (ss : List Sort) (vs : List Value) (gs : List PatternGamma) → IsTrue (list_all is_term_sort ss) → IsTrue (list_all (gamma_fits ss) gs) → AllByRecursion IsSpareUse (map (λ (g : PatternGamma). pattern_gamma vs g) gs) → IsTrue (list_all (allows_gamma (classical_signature P) ss) gs)
 gammas-allowed P ss vs [] h f a = refl
 gammas-allowed P ss vs (g ∷ gs) h f a =
     let w = and_parts (gamma_fits ss g) (list_all (gamma_fits ss) gs) f in
-    and_from (allows_gamma (classical_signature P) g) (list_all (allows_gamma (classical_signature P)) gs) (gamma-allowed P ss vs g h w.0 a.0) (gammas-allowed P ss vs gs h w.1 a.1)
+    and_from (allows_gamma (classical_signature P) ss g) (list_all (allows_gamma (classical_signature P) ss) gs) (gamma-allowed P ss vs g h w.0 a.0) (gammas-allowed P ss vs gs h w.1 a.1)
 
 gammas-fit : (t : Template) → IsTrue (template_fits t) → IsTrue (list_all (gamma_fits t.sorts) t.gammas)
 gammas-fit t h = (and_parts (list_all (atom_fits t.sorts) t.literals && list_all (pattern_fits t.sorts StringSort) t.strings) (list_all (gamma_fits t.sorts) t.gammas) h).1
@@ -251,8 +277,8 @@ template-allowed P sides t c fits h k =
     let i = (h.instances vs (literals_by vs t)).1 (and_from (have_sorts t.sorts vs) (is_choice_of_values P vs) (commons-sorted t.sorts k.sorts) (commons-chosen P t.sorts), refl) in
     let (x, e) = some-part P (instance_of P sides vs) (λ (x : Part). list_eq literal_eq x.literals (literals_by vs t)) i in
     let spare = subst (AllByRecursion IsSpareUse) (h.gammas vs x e) (gammas-spare P sides t.sorts x c fits e) in
-    let strings = subst (λ ps. IsTrue (allows_all (classical_signature P) (patterns_tree ps))) (sym (h.strings ∙ no-strings 0 t.sorts k.sorts)) refl in
+    let strings = subst (λ ps. IsTrue (allows_all (classical_signature P) t.sorts (patterns_tree ps))) (sym (h.strings ∙ no-strings 0 t.sorts k.sorts)) refl in
     and_from (list_all (classical_signature P).sorts t.sorts) (allows_template (classical_signature P) t) k.sorts
-    (and_from (list_all (allows_atom (classical_signature P)) t.literals && allows_all (classical_signature P) (patterns_tree t.strings)) (list_all (allows_gamma (classical_signature P)) t.gammas)
-    (and_from (list_all (allows_atom (classical_signature P)) t.literals) (allows_all (classical_signature P) (patterns_tree t.strings)) (atoms-allowed P t.literals k.literals) strings)
+    (and_from (list_all (allows_atom (classical_signature P) t.sorts) t.literals && allows_all (classical_signature P) t.sorts (patterns_tree t.strings)) (list_all (allows_gamma (classical_signature P) t.sorts) t.gammas)
+    (and_from (list_all (allows_atom (classical_signature P) t.sorts) t.literals) (allows_all (classical_signature P) t.sorts (patterns_tree t.strings)) (atoms-allowed P t.sorts t.literals k.literals) strings)
     (gammas-allowed P t.sorts vs t.gammas k.sorts (gammas-fit t h.fits) spare))

@@ -16,6 +16,7 @@ pub mod ReadingLaws
 pub mod ClosingsLaws
 pub mod InstanceLaws
 -- copies
+pub mod AllowedLaws
 pub mod ClassicalGammas
 pub mod ClassicalCopies
 pub mod RunningLaws

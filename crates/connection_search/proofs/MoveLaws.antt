@@ -179,7 +179,7 @@ pub literal-within : (m : List MatrixClause) (d : ℕ) (g : CellGoal) (p : Matri
 literal-within m d g p t e h = get-within t.literals p.literal e.literal (literal-found m d g p t e h)
 
 -- the connected literal, as it was copied
-pub head-copied : (old mid : Store) (t : Template) (place : ℕ) (vs : List ℕ) (p : PatternAtom) (b : CellAtom) → slice_get t.literals place ≡ Some p → vs ≡ places_from (length old.cells) (length t.sorts) → HaveSortsAt mid t.sorts vs → (a : PatternAtom) × (slice_get t.literals place ≡ Some a) × IsAtomCopy mid vs a b → IsTrue (atom_is_from (length old.cells) b) → NamesFrom (length old.cells) mid → AddsBuilt (with_variables_of t.sorts old) mid → ((a : PatternAtom) → slice_get t.literals place ≡ Some a → BuildsWithin (λ g. list_all g.sorts t.sorts && allows_atom g a) old mid) → HeadCopied old mid t place vs p b
+pub head-copied : (old mid : Store) (t : Template) (place : ℕ) (vs : List ℕ) (p : PatternAtom) (b : CellAtom) → slice_get t.literals place ≡ Some p → vs ≡ places_from (length old.cells) (length t.sorts) → HaveSortsAt mid t.sorts vs → (a : PatternAtom) × (slice_get t.literals place ≡ Some a) × IsAtomCopy mid vs a b → IsTrue (atom_is_from (length old.cells) b) → NamesFrom (length old.cells) mid → AddsBuilt (with_variables_of t.sorts old) mid → ((a : PatternAtom) → slice_get t.literals place ≡ Some a → BuildsWithin (λ g. list_all g.sorts t.sorts && allows_atom g t.sorts a) old mid) → HeadCopied old mid t place vs p b
 head-copied old mid t place vs p b e variables have (a, at, copy) own names built within =
     let same : a ≡ p = same-item (slice_get t.literals place) a p at e in
     record { stands = e; variables = variables; have = have; copy = subst (λ x. IsAtomCopy mid vs x b) same copy; own = own; names = names; built = built; within = within p e }

@@ -17,13 +17,13 @@ use Rattle.calculus.specs.declared.sign.Side.{Side}
 use Rattle.calculus.specs.declared.sort.Sort.{Sort}
 use Rattle.calculus.specs.declared.sort.Sort.TheVariants.{TermSort, MarkSort, StringSort}
 use Rattle.calculus.proofs.BindingLaws.{HasNoCycle-rank, is_store-with_cell, sorted_cell}
-use Rattle.calculus.proofs.PlaceLists.{all-at, get-within}
+use Rattle.calculus.proofs.PlaceLists.{get-within}
 use Rattle.calculus.proofs.SolutionLaws.{some_solution}
 use Rattle.search_theory.specs.Matrix.{MatrixClause, all_shown}
 use Rattle.search_theory.specs.Regular.{IsClassicalTemplate, are_classical_patterns, is_classical_atom, is_classical_clause, is_classical_goal, is_classical_store, is_own_cell, is_own_term, is_term_sort}
 use Rattle.search_theory.specs.States.{CellChoice, CellClause, CellGoal, IsStateOf, State, atom_is_below, clause_is_below}
 use Rattle.search_theory.specs.Steps.{AreUnified, Clash, IsHeadCopy}
-use Rattle.search_theory.proofs.BelowLaws.{all-remove, all-weaken}
+use Rattle.search_theory.proofs.BelowLaws.{all-weaken}
 use Rattle.search_theory.proofs.BuildingLaws.{AreStores, KeepsBuilt, adds-longer, built_atom-kept, copy-by_cells, get-kept, head-by_cells, is_variable_sort, keeps-plus, length-variables, rest-by_cells, variables-front}
 use Rattle.search_theory.proofs.BuiltClassical.{atom-built}
 use Rattle.search_theory.proofs.ClassicalSteps.{KeepsTerms, built-binds, classical-binds, classical-extended, classical-reduced, classical-started, terms-binds, terms-plus}
@@ -35,10 +35,12 @@ use Rattle.search_theory.proofs.RegularLaws.{IsClassicalStore, ground-by_spares}
 use Rattle.search_theory.proofs.SpareLaws.{own_value}
 use Rattle.search_theory.proofs.StageLaws.{copies-inserted, inserted}
 use Rattle.search_theory.proofs.StepLaws.{Grows, live-state, start_state, state-started}
-use Rattle.term_store.specs.Signatures.{BuildsWithin, allows_all, allows_atom, allows_gamma, allows_template}
+use Rattle.term_store.specs.Signatures.{BuildsWithin, allows_atom, allows_template}
 use Rattle.connection_search.specs.Running.{IsClassicalMatrix, IsRunning}
-use Rattle.connection_search.proofs.ClassicalCopies.{classical-copied, classical_signature, selection-classical, template-allowed}
+use Rattle.connection_search.proofs.AllowedLaws.{allowed-head, allowed-rest}
+use Rattle.connection_search.proofs.ClassicalCopies.{allowed-classical, classical-allowed, classical-copied, classical_signature, selection-classical, template-allowed}
 use Rattle.term_store.proofs.FitLaws.{have-new}
+use Rattle.term_store.proofs.SignatureLaws.{allowed-binds}
 
 store-classical : (P : Problem) (base : ℕ) (s : Store) → IsWellFormed s → IsTrue (is_classical_store P base s) → IsClassicalStore P base s (rank_of s) (suc (length s.cells))
 store-classical P base s w h = record { store = w.fits; classical = h; ranked = ranked-by_no_cycle s w.fits (HasNoCycle-rank s w.rank) }
@@ -176,7 +178,7 @@ pub record HeadCopied (old mid : Store) (t : Template) (place : ℕ) (vs : List 
   pub own : IsTrue (atom_is_from (length old.cells) b)
   pub names : NamesFrom (length old.cells) mid
   pub built : AddsBuilt (with_variables_of t.sorts old) mid
-  pub within : BuildsWithin (λ g. list_all g.sorts t.sorts && allows_atom g p) old mid
+  pub within : BuildsWithin (λ g. list_all g.sorts t.sorts && allows_atom g t.sorts p) old mid
 
 -- what unifying it with the goal gives
 pub record HeadMet (mid met : Store) (xs ys : List ℕ) : Type 0 where
@@ -218,28 +220,6 @@ pub no-extension-by_clash : (P : Problem) (base d : ℕ) (c : List Choice) (old 
 no-extension-by_clash P base d c old mid cs g gs every ds sides t place vs p b h template k head clash =
     no-extension P d c old cs g gs every ds sides t place h.state template (cannot-extend-by_clash old mid t vs g.literal p b place (head-copy P old mid t place vs p b h.well.fits k head) head.stands clash (atom-below base old g.literal (leftmost-classical P base d c old cs g gs every ds h)))
 
--- what the signature allows of a template
-record Allowed (P : Problem) (t : Template) : Type 0 where
-  pub sorts : IsTrue (list_all (classical_signature P).sorts t.sorts)
-  pub literals : IsTrue (list_all (allows_atom (classical_signature P)) t.literals)
-  pub strings : IsTrue (allows_all (classical_signature P) (patterns_tree t.strings))
-  pub gammas : IsTrue (list_all (allows_gamma (classical_signature P)) t.gammas)
-
-allowed-parts : (P : Problem) (t : Template) → IsTrue (list_all (classical_signature P).sorts t.sorts && allows_template (classical_signature P) t) → Allowed P t
-allowed-parts P t h =
-    let w = and_parts (list_all (classical_signature P).sorts t.sorts) (allows_template (classical_signature P) t) h in
-    let v = and_parts (list_all (allows_atom (classical_signature P)) t.literals && allows_all (classical_signature P) (patterns_tree t.strings)) (list_all (allows_gamma (classical_signature P)) t.gammas) w.1 in
-    let u = and_parts (list_all (allows_atom (classical_signature P)) t.literals) (allows_all (classical_signature P) (patterns_tree t.strings)) v.0 in
-    record { sorts = w.0; literals = u.0; strings = u.1; gammas = v.1 }
-
-allowed-head : (P : Problem) (t : Template) (place : ℕ) (p : PatternAtom) → Allowed P t → slice_get t.literals place ≡ Some p → IsTrue (list_all (classical_signature P).sorts t.sorts && allows_atom (classical_signature P) p)
-allowed-head P t place p h e = and_from (list_all (classical_signature P).sorts t.sorts) (allows_atom (classical_signature P) p) h.sorts (all-at (allows_atom (classical_signature P)) t.literals place p h.literals e)
-
-allowed-rest : (P : Problem) (t : Template) (place : ℕ) → Allowed P t → IsTrue (allows_template (classical_signature P) (without_literal place t))
-allowed-rest P t place h =
-    and_from (list_all (allows_atom (classical_signature P)) (remove t.literals place) && allows_all (classical_signature P) (patterns_tree t.strings)) (list_all (allows_gamma (classical_signature P)) t.gammas)
-    (and_from (list_all (allows_atom (classical_signature P)) (remove t.literals place)) (allows_all (classical_signature P) (patterns_tree t.strings)) (all-remove (allows_atom (classical_signature P)) t.literals place h.literals) h.strings) h.gammas
-
 -- the stores of an extension, one after the other
 record Stages (P : Problem) (base : ℕ) (old met new : Store) (vs : List ℕ) : Type 0 where
   pub from : base ≤ length met.cells
@@ -250,13 +230,13 @@ record Stages (P : Problem) (base : ℕ) (old met new : Store) (vs : List ℕ) :
   pub terms : IsTrue (list_all (has_sort_at new TermSort) vs)
   pub kept : KeepsTerms old new
 
-stages : (P : Problem) (base : ℕ) (old mid met new : Store) (t : Template) (place : ℕ) (vs xs : List ℕ) (p : PatternAtom) (b : CellAtom) (others : List CellAtom) → base ≤ length old.cells → NamesFrom base old → IsTrue (is_classical_store P base old) → IsTrue (list_all (nat_le base) xs) → IsClassicalTemplate P t → Allowed P t → HeadCopied old mid t place vs p b → HeadMet mid met xs b.args → RestCopied met new t place vs others → Stages P base old met new vs
-stages P base old mid met new t place vs xs p b others from names classical goal k allowed head meet rest = record {
+stages : (P : Problem) (base : ℕ) (old mid met new : Store) (t : Template) (place : ℕ) (vs xs : List ℕ) (p : PatternAtom) (b : CellAtom) (others : List CellAtom) → base ≤ length old.cells → IsTrue (is_store old) → NamesFrom base old → IsTrue (is_classical_store P base old) → IsTrue (list_all (nat_le base) xs) → IsClassicalTemplate P t → IsTrue (list_all (classical_signature P).sorts t.sorts && allows_template (classical_signature P) t) → HeadCopied old mid t place vs p b → HeadMet mid met xs b.args → RestCopied met new t place vs others → Stages P base old met new vs
+stages P base old mid met new t place vs xs p b others from fits names classical goal k allowed head meet rest = record {
   from = base_met;
   longer = let m = adds-longer met new rest.adds.built in omega (arith, base_met, m);
   own = own;
   names = names_new;
-  classical = classical-copied P base met new (λ g. allows_template g (without_literal place t)) rest.within (allowed-rest P t place allowed) names_new (classical-binds P base mid met meet.binds names_met (classical-copied P base old mid (λ g. list_all g.sorts t.sorts && allows_atom g p) head.within (allowed-head P t place p allowed head.stands) names_mid classical));
+  classical = allowed-classical P base new names_new (rest.within (classical_signature P) base (allowed-rest (classical_signature P) t place allowed) (allowed-binds (classical_signature P) base mid met meet.binds (head.within (classical_signature P) base (allowed-head (classical_signature P) t place p allowed head.stands) (classical-allowed P base old fits classical))));
   terms = all-weaken (has_sort_at mid TermSort) (has_sort_at new TermSort) (λ r q. terms-built met new rest.adds.built r (terms-binds mid met meet.binds r q)) vs (terms-have mid t.sorts vs head.have k.sorts);
   kept = λ r q. terms-built met new rest.adds.built r (terms-binds mid met meet.binds r (terms-built (with_variables_of t.sorts old) mid head.built r (terms-variables t.sorts old r q)));
 }
@@ -298,7 +278,7 @@ running-extended P base d c old mid met new cs g gs every ds sides t place vs p 
     goal = leftmost-classical P base d c old cs g gs every ds h
 
     stage : Stages P base old met new vs
-    stage = stages P base old mid met new t place vs g.literal.args p b others h.from h.names h.cells (goal-own base old g.literal goal) k (allowed-parts P t allows) head meet rest
+    stage = stages P base old mid met new t place vs g.literal.args p b others h.from h.well.fits h.names h.cells (goal-own base old g.literal goal) k allows head meet rest
 
     copies : AreAtomCopies new vs t.literals (inserted place b others)
     copies = copies-inserted new vs t.literals place p others b head.stands rest.copies (built_atom-kept met new (keeps-built met new rest.adds.built) vs p b (built_atom-kept mid met (built-binds mid met meet.binds) vs p b head.copy))
@@ -342,7 +322,7 @@ running-started P d old new sides t vs literals w template k allows shown copied
     longer = let v = length-variables t.sorts old in let a = adds-longer (with_variables_of t.sorts old) new copied.built in omega (arith, v, a)
 
     classical : IsTrue (is_classical_store P (length old.cells) new)
-    classical = classical-copied P (length old.cells) old new (λ g. list_all g.sorts t.sorts && allows_template g t) copied.within allows copied.names (nothing-from (length old.cells) old.cells (is_own_cell P (length old.cells)) refl)
+    classical = classical-copied P (length old.cells) old new (λ g. list_all g.sorts t.sorts && allows_template g t) w.fits copied.within allows copied.names (nothing-from (length old.cells) old.cells (is_own_cell P (length old.cells)) refl)
 
     terms : IsTrue (list_all (has_sort_at new TermSort) vs)
     terms = all-weaken (has_sort_at (with_variables_of t.sorts old) TermSort) (has_sort_at new TermSort) (terms-built (with_variables_of t.sorts old) new copied.built) vs (terms-have (with_variables_of t.sorts old) t.sorts vs (have-new vs t.sorts old (with_variables_of t.sorts old) refl copied.variables) k.sorts)

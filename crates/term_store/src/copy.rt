@@ -11,7 +11,7 @@ ghost use Rattle.term_store.specs.Fitting.{fits_in, part_sort_at, parts_fit_in};
 ghost use Rattle.term_store.specs.PatternView.{the_pattern};
 ghost use Rattle.term_store.specs.RefView.{the_places};
 ghost use Rattle.term_store.specs.Room.{KeepsRoom};
-ghost use Rattle.term_store.specs.Signatures.{BuildsWithin, allows, allows_all};
+ghost use Rattle.term_store.specs.Signatures.{BuildsOver, allows, allows_all};
 
 use crate::cell::{Name, Ref, Variables};
 use crate::pattern::{Pattern, Patterns};
@@ -42,7 +42,7 @@ impl Store {
         ensures own { IfOk result (λ r. NamesOver (the_places variables) (length self.old.store.cells) (λ base. nat_le base r.0)) }
         ensures places { OnOk result (places.new.items ≡ places.old.items) }
         ensures adds { AddsOver (the_places variables) self.old.store self.new.store }
-        ensures within { OnOk result (BuildsWithin (λ g. allows g (the_pattern pattern.now)) self.old.store self.new.store) }
+        ensures within { OnOk result (BuildsOver (the_places variables) (λ sorts g. allows g sorts (the_pattern pattern.now)) self.old.store self.new.store) }
         ensures room { KeepsRoom self.old self.new }
     {
         match pattern {
@@ -69,7 +69,7 @@ impl Store {
         ensures own { IfOk result (λ r. NamesOver (the_places variables) (length self.old.store.cells) (λ base. nat_le base r.0)) }
         ensures places { OnOk result (places.new.items ≡ places.old.items) }
         ensures adds { AddsOver (the_places variables) self.old.store self.new.store }
-        ensures within { OnOk result (BuildsWithin (λ g. allows g (named_pattern name (patterns_tree parts.now))) self.old.store self.new.store) }
+        ensures within { OnOk result (BuildsOver (the_places variables) (λ sorts g. allows g sorts (named_pattern name (patterns_tree parts.now))) self.old.store self.new.store) }
         ensures room { KeepsRoom self.old self.new }
     {
         let from = places.len();
@@ -92,7 +92,7 @@ impl Store {
             × ((sort : Sort) (strings : Bool) → IsTrue (parts_fit_in self.old.store (the_places variables) sort strings (patterns_tree parts.now)) → IsTrue (list_all (part_sort_at self.new.store sort strings) more))
             × NamesOver (the_places variables) (length self.old.store.cells) (λ base. list_all (nat_le base) more)) }
         ensures adds { AddsOver (the_places variables) self.old.store self.new.store }
-        ensures within { OnOk result (BuildsWithin (λ g. allows_all g (patterns_tree parts.now)) self.old.store self.new.store) }
+        ensures within { OnOk result (BuildsOver (the_places variables) (λ sorts g. allows_all g sorts (patterns_tree parts.now)) self.old.store self.new.store) }
         ensures room { KeepsRoom self.old self.new }
     {
         for part in parts.items() {

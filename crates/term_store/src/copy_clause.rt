@@ -136,7 +136,7 @@ impl Store {
         ensures own { IfOk result (λ c. IsTrue (atom_is_from (length self.old.store.cells) (the_atom c.atom))) }
         ensures names { OnOk result (NamesFrom (length self.old.store.cells) self.new.store) }
         ensures built { OnOk result (AddsBuilt (with_variables_of t.now.sorts self.old.store) self.new.store) }
-        ensures within { OnOk result ((a : TreeAtom) → slice_get t.now.literals place ≡ Some a → BuildsWithin (λ g. list_all g.sorts t.now.sorts && allows_atom g a) self.old.store self.new.store) }
+        ensures within { OnOk result ((a : TreeAtom) → slice_get t.now.literals place ≡ Some a → BuildsWithin (λ g. list_all g.sorts t.now.sorts && allows_atom g t.now.sorts a) self.old.store self.new.store) }
         ensures marks { KeepsMarks self.old.store self.new.store }
         ensures room { KeepsRoom self.old self.new }
     {
@@ -158,7 +158,7 @@ impl Store {
         ensures own { IfOk result (λ c. IsTrue (atom_is_from (length self.old.store.cells) (the_atom c.atom))) }
         ensures names { OnOk result (NamesFrom (length self.old.store.cells) self.new.store) }
         ensures built { OnOk result (AddsBuilt (with_variables_of t.now.sorts self.old.store) self.new.store) }
-        ensures within { OnOk result ((a : TreeAtom) → slice_get t.now.literals place ≡ Some a → BuildsWithin (λ g. list_all g.sorts t.now.sorts && allows_atom g a) self.old.store self.new.store) }
+        ensures within { OnOk result ((a : TreeAtom) → slice_get t.now.literals place ≡ Some a → BuildsWithin (λ g. list_all g.sorts t.now.sorts && allows_atom g t.now.sorts a) self.old.store self.new.store) }
         ensures err { OnErr result (self.new.store ≡ self.old.store) }
         ensures marks { KeepsMarks self.old.store self.new.store }
         ensures room { KeepsRoom self.old self.new }

@@ -11,7 +11,7 @@ ghost use Rattle.term_store.specs.Copying.{AtomsCopied};
 ghost use Rattle.term_store.specs.Fitting.{atom_fits_in, gamma_fits_in, part_sort_at, parts_fit_in};
 ghost use Rattle.term_store.specs.RefView.{the_places};
 ghost use Rattle.term_store.specs.Room.{KeepsRoom};
-ghost use Rattle.term_store.specs.Signatures.{BuildsWithin, allows_all, allows_atom, allows_gamma};
+ghost use Rattle.term_store.specs.Signatures.{BuildsOver, allows_all, allows_atom, allows_gamma};
 
 use crate::cell::Variables;
 use crate::clause::{
@@ -36,7 +36,7 @@ impl Store {
         ensures sorts { IfOk result (λ refs. (sort : Sort) (strings : Bool) → IsTrue (parts_fit_in self.old.store (the_places variables) sort strings (patterns_tree patterns.now)) → IsTrue (list_all (part_sort_at self.new.store sort strings) refs)) }
         ensures own { IfOk result (λ refs. NamesOver (the_places variables) (length self.old.store.cells) (λ base. list_all (nat_le base) refs)) }
         ensures adds { AddsOver (the_places variables) self.old.store self.new.store }
-        ensures within { OnOk result (BuildsWithin (λ g. allows_all g (patterns_tree patterns.now)) self.old.store self.new.store) }
+        ensures within { OnOk result (BuildsOver (the_places variables) (λ sorts g. allows_all g sorts (patterns_tree patterns.now)) self.old.store self.new.store) }
         ensures room { KeepsRoom self.old self.new }
     {
         let count = patterns.items().len();
@@ -59,7 +59,7 @@ impl Store {
         ensures sorts { IfOk result (λ a. IsTrue (is_cell_atom self.new.store (the_atom a))) }
         ensures own { IfOk result (λ a. NamesOver (the_places variables) (length self.old.store.cells) (λ base. atom_is_from base (the_atom a))) }
         ensures adds { AddsOver (the_places variables) self.old.store self.new.store }
-        ensures within { OnOk result (BuildsWithin (λ g. allows_atom g (the_pattern_atom atom.now)) self.old.store self.new.store) }
+        ensures within { OnOk result (BuildsOver (the_places variables) (λ sorts g. allows_atom g sorts (the_pattern_atom atom.now)) self.old.store self.new.store) }
         ensures room { KeepsRoom self.old self.new }
     {
         let args = self.copy_refs(&atom.args, variables, places)?;
@@ -83,7 +83,7 @@ impl Store {
         ensures sorts { IfOk result (λ g. IsTrue (is_gamma_cell self.new.store (the_gamma g))) }
         ensures own { IfOk result (λ g. NamesOver (the_places variables) (length self.old.store.cells) (λ base. gamma_is_from base (the_gamma g))) }
         ensures adds { AddsOver (the_places variables) self.old.store self.new.store }
-        ensures within { OnOk result (BuildsWithin (λ g. allows_gamma g (the_pattern_gamma gamma.now)) self.old.store self.new.store) }
+        ensures within { OnOk result (BuildsOver (the_places variables) (λ sorts g. allows_gamma g sorts (the_pattern_gamma gamma.now)) self.old.store self.new.store) }
         ensures room { KeepsRoom self.old self.new }
     {
         let term = self.copy_pattern(&gamma.term, variables, places)?;
@@ -102,7 +102,7 @@ impl Store {
         requires { IsTrue (list_all (atom_fits_in self.old.store (the_places variables)) (map the_pattern_atom atoms.now)) }
         ensures copies { OnOk result (AtomsCopied self.new.store (the_places variables) (length self.old.store.cells) copied.old copied.new (map the_pattern_atom atoms.now)) }
         ensures adds { AddsOver (the_places variables) self.old.store self.new.store }
-        ensures within { OnOk result (BuildsWithin (λ g. list_all (allows_atom g) (map the_pattern_atom atoms.now)) self.old.store self.new.store) }
+        ensures within { OnOk result (BuildsOver (the_places variables) (λ sorts g. list_all (allows_atom g sorts) (map the_pattern_atom atoms.now)) self.old.store self.new.store) }
         ensures room { KeepsRoom self.old self.new }
     {
         for atom in atoms {
@@ -123,7 +123,7 @@ impl Store {
         ensures sorts { IfOk result (λ cs. IsTrue (list_all (is_gamma_cell self.new.store) cs)) }
         ensures own { IfOk result (λ cs. NamesOver (the_places variables) (length self.old.store.cells) (λ base. list_all (gamma_is_from base) cs)) }
         ensures adds { AddsOver (the_places variables) self.old.store self.new.store }
-        ensures within { OnOk result (BuildsWithin (λ g. list_all (allows_gamma g) gammas.now) self.old.store self.new.store) }
+        ensures within { OnOk result (BuildsOver (the_places variables) (λ sorts g. list_all (allows_gamma g sorts) gammas.now) self.old.store self.new.store) }
         ensures room { KeepsRoom self.old self.new }
     {
         let mut copied = GammaList::with_capacity(self.alloc, gammas.items().len())?;

@@ -13,7 +13,7 @@ use Rattle.term_store.proofs.CopyLaws.{Copied, copied-more, copied-none, built-a
 use Rattle.term_store.proofs.FitLaws.{grown-fits}
 use Rattle.term_store.proofs.OwnLaws.{names-same, over-both, over-then, own-new}
 use Rattle.term_store.proofs.SignatureLaws.{within-built, within-pattern}
-use Rattle.term_store.specs.Signatures.{BuildsWithin, allows_all}
+use Rattle.term_store.specs.Signatures.{BuildsOver, allows_all}
 use Rattle.term_store.proofs.store.Store.+copy_pattern.Goals as goal
 
 pub copy_parts-copy_pattern-requires : goal.copy_parts-copy_pattern-requires
@@ -41,8 +41,8 @@ copy_parts-loop-part-preserved t c =
       copied = subst (Copied s c.copy_pattern.new.self.store vs c.args.places.now.items c.push.new.self.items) (sym more)
           (copied-more s c.loop-part.self.store c.copy_pattern.new.self.store vs c.args.places.now.items c.loop-part.places.items c.push.new.self.items (map the_pattern (take c.loop-part.part-index items)) (the_pattern c.part-item.result) c.in_ok-copied.copied.0 c.loop-part.invariant.copied before now c.in_ok-copied.ensures.copy c.in_ok-copied.ensures.sorts c.in_ok-copied.ensures.own (c.in_ok-push.ensures.items ∙ ap (λ xs. xs ++ c.in_ok-copied.copied.0 ∷ []) c.in_ok-copied.ensures.places));
       adds = over-both vs s c.loop-part.self.store c.copy_pattern.new.self.store c.loop-part.invariant.adds c.in_ok-copied.ensures.adds;
-      within = subst (λ ps. BuildsWithin (λ g. allows_all g (patterns_tree ps)) s c.copy_pattern.new.self.store) (sym more)
-          (within-pattern (map the_pattern (take c.loop-part.part-index items)) (the_pattern c.part-item.result) s c.loop-part.self.store c.copy_pattern.new.self.store c.loop-part.invariant.within c.in_ok-copied.ensures.within);
+      within = subst (λ ps. BuildsOver vs (λ sorts g. allows_all g sorts (patterns_tree ps)) s c.copy_pattern.new.self.store) (sym more)
+          (within-pattern vs (map the_pattern (take c.loop-part.part-index items)) (the_pattern c.part-item.result) s c.loop-part.self.store c.copy_pattern.new.self.store c.loop-part.invariant.adds.built c.loop-part.invariant.within c.in_ok-copied.ensures.within);
       room = (omega arith, omega arith);
     }
 
@@ -79,7 +79,7 @@ pub copy_parts-loop-part-init : goal.copy_parts-loop-part-init
 copy_parts-loop-part-init t c = record {
   copied = copied-none c.args.self.now.store (the_places c.args.variables) c.args.places.now.items;
   adds = names-same (the_places c.args.variables) c.args.self.now.store;
-  within = λ g base h k. k;
+  within = λ sorts have g base h k. k;
   room = (omega arith, omega arith);
 }
 
@@ -101,7 +101,7 @@ copy_built-returns-clause-within t c =
     let (more, places, copies, sorts, own) = c.in_ok-copy_parts.ensures.copies in
     let n = c.args.places.now.ok.0 in
     let same = rest-range c.len-from.result c.args.places.now.items more c.deref.result.now (omega arith) (c.deref.ensures.value ∙ places) in
-    within-built c.args.self.now.store c.copy_parts.new.self.store c.build.new.self.store vs c.args.name (patterns_tree c.args.parts.now) more (take (length c.deref.result.now - c.len-from.result) (drop c.len-from.result c.deref.result.now)) c.requires.name c.in_ok-copy_parts.ensures.within copies same c.in_ok-built.ensures.ok
+    within-built c.args.self.now.store c.copy_parts.new.self.store c.build.new.self.store vs c.args.name (patterns_tree c.args.parts.now) more (take (length c.deref.result.now - c.len-from.result) (drop c.len-from.result c.deref.result.now)) c.requires.name c.in_ok-copy_parts.ensures.adds.built c.in_ok-copy_parts.ensures.within copies same c.in_ok-built.ensures.ok
 
 pub copy_pattern-returns-in-Var-clause-within : goal.copy_pattern-returns-in-Var-clause-within
-copy_pattern-returns-in-Var-clause-within t c = λ g base h k. k
+copy_pattern-returns-in-Var-clause-within t c = λ sorts have g base h k. k

@@ -104,4 +104,4 @@ returns-clause-adds c =
     (clause-made s c.copy_atoms.new.self.store b d c.copy_gammas.new.self.store vs (the_template c.args.t.now) (map the_pattern_atom c.args.front.now) (map the_pattern_atom c.args.back.now) c.in_ok-literals.literals c.copy_atoms.new.copied c.copy_atoms-2.new.copied c.in_ok-strings.strings c.in_ok-gammas.gammas c.in_ok-literals.ensures c.in_ok-copy_atoms.ensures.copies c.in_ok-copy_atoms.ensures.adds c.in_ok-copy_atoms-2.ensures.copies c.in_ok-copy_atoms-2.ensures.adds c.in_ok-strings.ensures.copies sorted c.in_ok-strings.ensures.own c.in_ok-strings.ensures.adds c.in_ok-gammas.ensures.copies c.in_ok-gammas.ensures.sorts c.in_ok-gammas.ensures.own c.in_ok-gammas.ensures.adds).adds
 
 pub returns-clause-within : goal.returns-clause-within
-returns-clause-within c = within-clause c.args.self.now.store c.copy_atoms.new.self.store c.copy_atoms-2.new.self.store c.copy_refs.new.self.store c.copy_gammas.new.self.store (the_template c.args.t.now) (map the_pattern_atom c.args.front.now) (map the_pattern_atom c.args.back.now) c.in_ok-copy_atoms.ensures.within c.in_ok-copy_atoms-2.ensures.within c.in_ok-strings.ensures.within c.in_ok-gammas.ensures.within
+returns-clause-within c = within-clause (the_places c.args.variables) c.args.self.now.store c.copy_atoms.new.self.store c.copy_atoms-2.new.self.store c.copy_refs.new.self.store c.copy_gammas.new.self.store (the_template c.args.t.now) (map the_pattern_atom c.args.front.now) (map the_pattern_atom c.args.back.now) c.requires.variables c.in_ok-copy_atoms.ensures.adds.built c.in_ok-copy_atoms-2.ensures.adds.built c.in_ok-strings.ensures.adds.built c.in_ok-copy_atoms.ensures.within c.in_ok-copy_atoms-2.ensures.within c.in_ok-strings.ensures.within c.in_ok-gammas.ensures.within

@@ -52,5 +52,6 @@ pub returns-clause-within : goal.returns-clause-within
 returns-clause-within c = λ a e.
     let there = literal-there the_pattern_atom c.items.result.now c.args.t.now.literals c.args.place c.index-items-place.result c.items.ensures c.requires.place c.index-items-place.is in
     let same : the_pattern_atom c.index-items-place.result ≡ a = cc (sym there ∙ e) in
-    within-variables (λ g. allows_atom g a) c.args.t.now.sorts c.args.self.now.store c.new_variables.new.self.store c.copy_atom.new.self.store c.in_ok-variables.ensures.ok
-    (subst (λ x. BuildsWithin (λ g. allows_atom g x) c.new_variables.new.self.store c.copy_atom.new.self.store) same c.in_ok-atom.ensures.within)
+    let have = have-new (the_places c.in_ok-variables.variables) c.args.t.now.sorts c.args.self.now.store c.new_variables.new.self.store c.in_ok-variables.ensures.ok c.in_ok-variables.ensures.places in
+    within-variables (λ g. allows_atom g c.args.t.now.sorts a) c.args.t.now.sorts c.args.self.now.store c.new_variables.new.self.store c.copy_atom.new.self.store c.in_ok-variables.ensures.ok
+    (subst (λ x. BuildsWithin (λ g. allows_atom g c.args.t.now.sorts x) c.new_variables.new.self.store c.copy_atom.new.self.store) same (c.in_ok-atom.ensures.within c.args.t.now.sorts have))

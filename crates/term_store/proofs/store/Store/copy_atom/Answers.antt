@@ -52,4 +52,4 @@ pub returns-in_err-label-clause-adds : goal.returns-in_err-label-clause-adds
 returns-in_err-label-clause-adds c = over-both (the_places c.args.variables) c.args.self.now.store c.copy_refs.new.self.store c.copy_refs-2.new.self.store c.in_ok-args.ensures.adds c.in_err-label.ensures.adds
 
 pub returns-clause-within : goal.returns-clause-within
-returns-clause-within c = within-both (λ g. allows_all g (patterns_tree c.args.atom.now.args)) (λ g. allows_all g (patterns_tree c.args.atom.now.label)) c.args.self.now.store c.copy_refs.new.self.store c.copy_refs-2.new.self.store c.in_ok-args.ensures.within c.in_ok-label.ensures.within
+returns-clause-within c = within-both (the_places c.args.variables) (λ sorts g. allows_all g sorts (patterns_tree c.args.atom.now.args)) (λ sorts g. allows_all g sorts (patterns_tree c.args.atom.now.label)) c.args.self.now.store c.copy_refs.new.self.store c.copy_refs-2.new.self.store c.in_ok-args.ensures.adds.built c.in_ok-args.ensures.within c.in_ok-label.ensures.within

@@ -12,14 +12,14 @@ use Rattle.term_store.proofs.FitLaws.{grown-atom_fits}
 use Rattle.term_store.proofs.ListLaws.{atom-more, atoms-none}
 use Rattle.term_store.proofs.OwnLaws.{names-same, over-both}
 use Rattle.term_store.proofs.SignatureLaws.{within-item}
-use Rattle.term_store.specs.Signatures.{BuildsWithin, allows_atom}
+use Rattle.term_store.specs.Signatures.{BuildsOver, allows_atom}
 use Rattle.term_store.proofs.store.Store.copy_atoms.Goals as goal
 
 pub loop-atom-init : goal.loop-atom-init
 loop-atom-init c = record {
   copied = atoms-none c.args.self.now.store (the_places c.args.variables) (length c.args.self.now.store.cells) c.args.copied.now;
   adds = names-same (the_places c.args.variables) c.args.self.now.store;
-  within = λ g base h k. k;
+  within = λ sorts have g base h k. k;
   room = (omega arith, omega arith);
 }
 
@@ -39,8 +39,8 @@ loop-atom-preserved c =
       copied = subst (λ xs. AtomsCopied c.copy_atom.new.self.store vs (length c.args.self.now.store.cells) c.args.copied.now c.push.new.self xs) (sym one)
           (atom-more c.args.self.now.store c.loop-atom.self.store c.copy_atom.new.self.store vs c.args.copied.now c.loop-atom.copied c.push.new.self (map the_pattern_atom (take c.loop-atom.atom-index c.args.atoms.now)) (the_pattern_atom c.atom-item.result) (the_atom c.in_ok-copy.copy) c.loop-atom.invariant.copied c.loop-atom.invariant.adds c.in_ok-copy.ensures.adds c.in_ok-copy.ensures.copy c.in_ok-copy.ensures.sorts c.in_ok-copy.ensures.own c.in_ok-push.ensures.ok);
       adds = over-both vs c.args.self.now.store c.loop-atom.self.store c.copy_atom.new.self.store c.loop-atom.invariant.adds c.in_ok-copy.ensures.adds;
-      within = subst (λ xs. BuildsWithin (λ g. list_all (allows_atom g) xs) c.args.self.now.store c.copy_atom.new.self.store) (sym one)
-          (within-item allows_atom (map the_pattern_atom (take c.loop-atom.atom-index c.args.atoms.now)) (the_pattern_atom c.atom-item.result) c.args.self.now.store c.loop-atom.self.store c.copy_atom.new.self.store c.loop-atom.invariant.within c.in_ok-copy.ensures.within);
+      within = subst (λ xs. BuildsOver vs (λ sorts g. list_all (allows_atom g sorts) xs) c.args.self.now.store c.copy_atom.new.self.store) (sym one)
+          (within-item vs allows_atom (map the_pattern_atom (take c.loop-atom.atom-index c.args.atoms.now)) (the_pattern_atom c.atom-item.result) c.args.self.now.store c.loop-atom.self.store c.copy_atom.new.self.store c.loop-atom.invariant.adds.built c.loop-atom.invariant.within c.in_ok-copy.ensures.within);
       room = (omega arith, omega arith);
     }
 
@@ -51,4 +51,4 @@ pub returns-in_err-push-clause-adds : goal.returns-in_err-push-clause-adds
 returns-in_err-push-clause-adds c = over-both (the_places c.args.variables) c.args.self.now.store c.loop-atom.self.store c.copy_atom.new.self.store c.loop-atom.invariant.adds c.in_ok-copy.ensures.adds
 
 pub returns-clause-within : goal.returns-clause-within
-returns-clause-within c = subst (λ xs. BuildsWithin (λ g. list_all (allows_atom g) (map the_pattern_atom xs)) c.args.self.now.store c.loop-atom.self.store) (take_all c.loop-atom.atom-index c.args.atoms.now (omega arith)) c.loop-atom.invariant.within
+returns-clause-within c = subst (λ xs. BuildsOver (the_places c.args.variables) (λ sorts g. list_all (allows_atom g sorts) (map the_pattern_atom xs)) c.args.self.now.store c.loop-atom.self.store) (take_all c.loop-atom.atom-index c.args.atoms.now (omega arith)) c.loop-atom.invariant.within

@@ -51,4 +51,4 @@ pub returns-in_err-label-clause-adds : goal.returns-in_err-label-clause-adds
 returns-in_err-label-clause-adds c = over-both (the_places c.args.variables) c.args.self.now.store c.copy_pattern.new.self.store c.copy_refs.new.self.store c.in_ok-term.ensures.adds c.in_err-label.ensures.adds
 
 pub returns-clause-within : goal.returns-clause-within
-returns-clause-within c = within-both (λ g. allows g (the_pattern c.args.gamma.now.term)) (λ g. allows_all g (patterns_tree c.args.gamma.now.label)) c.args.self.now.store c.copy_pattern.new.self.store c.copy_refs.new.self.store c.in_ok-term.ensures.within c.in_ok-label.ensures.within
+returns-clause-within c = within-both (the_places c.args.variables) (λ sorts g. allows g sorts (the_pattern c.args.gamma.now.term)) (λ sorts g. allows_all g sorts (patterns_tree c.args.gamma.now.label)) c.args.self.now.store c.copy_pattern.new.self.store c.copy_refs.new.self.store c.in_ok-term.ensures.adds.built c.in_ok-term.ensures.within c.in_ok-label.ensures.within

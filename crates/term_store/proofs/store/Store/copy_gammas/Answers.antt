@@ -11,14 +11,14 @@ use Rattle.term_store.proofs.FitLaws.{grown-gamma_fits}
 use Rattle.term_store.proofs.ListLaws.{GammasCopied, gamma-more, gammas-none}
 use Rattle.term_store.proofs.OwnLaws.{names-same, over-both}
 use Rattle.term_store.proofs.SignatureLaws.{within-item}
-use Rattle.term_store.specs.Signatures.{BuildsWithin, allows_gamma}
+use Rattle.term_store.specs.Signatures.{BuildsOver, allows_gamma}
 use Rattle.term_store.proofs.store.Store.copy_gammas.Goals as goal
 
 pub loop-gamma-init : goal.loop-gamma-init
 loop-gamma-init c = record {
   copied = subst (λ xs. GammasCopied c.args.self.now.store (the_places c.args.variables) (length c.args.self.now.store.cells) xs []) (sym c.in_ok-copied.ensures) (gammas-none c.args.self.now.store (the_places c.args.variables) (length c.args.self.now.store.cells));
   adds = names-same (the_places c.args.variables) c.args.self.now.store;
-  within = λ g base h k. k;
+  within = λ sorts have g base h k. k;
   room = (omega arith, omega arith);
 }
 
@@ -39,8 +39,8 @@ loop-gamma-preserved c =
       copied = subst (λ xs. GammasCopied c.copy_gamma.new.self.store vs (length c.args.self.now.store.cells) c.push.new.self xs) (sym one)
           (gamma-more c.args.self.now.store c.loop-gamma.self.store c.copy_gamma.new.self.store vs c.loop-gamma.copied c.push.new.self (map the_pattern_gamma (take c.loop-gamma.gamma-index c.items-gamma-items.result.now)) (the_pattern_gamma c.gamma-item.result) (the_gamma c.in_ok-copy.copy) c.loop-gamma.invariant.copied c.loop-gamma.invariant.adds c.in_ok-copy.ensures.adds c.in_ok-copy.ensures.copy c.in_ok-copy.ensures.sorts c.in_ok-copy.ensures.own c.in_ok-push.ensures.ok);
       adds = over-both vs c.args.self.now.store c.loop-gamma.self.store c.copy_gamma.new.self.store c.loop-gamma.invariant.adds c.in_ok-copy.ensures.adds;
-      within = subst (λ xs. BuildsWithin (λ g. list_all (allows_gamma g) xs) c.args.self.now.store c.copy_gamma.new.self.store) (sym one)
-          (within-item allows_gamma (map the_pattern_gamma (take c.loop-gamma.gamma-index c.items-gamma-items.result.now)) (the_pattern_gamma c.gamma-item.result) c.args.self.now.store c.loop-gamma.self.store c.copy_gamma.new.self.store c.loop-gamma.invariant.within c.in_ok-copy.ensures.within);
+      within = subst (λ xs. BuildsOver vs (λ sorts g. list_all (allows_gamma g sorts) xs) c.args.self.now.store c.copy_gamma.new.self.store) (sym one)
+          (within-item vs allows_gamma (map the_pattern_gamma (take c.loop-gamma.gamma-index c.items-gamma-items.result.now)) (the_pattern_gamma c.gamma-item.result) c.args.self.now.store c.loop-gamma.self.store c.copy_gamma.new.self.store c.loop-gamma.invariant.adds.built c.loop-gamma.invariant.within c.in_ok-copy.ensures.within);
       room = (omega arith, omega arith);
     }
 
@@ -54,4 +54,4 @@ pub returns-in_err-push-clause-adds : goal.returns-in_err-push-clause-adds
 returns-in_err-push-clause-adds c = over-both (the_places c.args.variables) c.args.self.now.store c.loop-gamma.self.store c.copy_gamma.new.self.store c.loop-gamma.invariant.adds c.in_ok-copy.ensures.adds
 
 pub returns-clause-within : goal.returns-clause-within
-returns-clause-within c = subst (λ xs. BuildsWithin (λ g. list_all (allows_gamma g) xs) c.args.self.now.store c.loop-gamma.self.store) c.items-gamma-items.ensures (subst (λ xs. BuildsWithin (λ g. list_all (allows_gamma g) (map the_pattern_gamma xs)) c.args.self.now.store c.loop-gamma.self.store) (take_all c.loop-gamma.gamma-index c.items-gamma-items.result.now (omega arith)) c.loop-gamma.invariant.within)
+returns-clause-within c = subst (λ xs. BuildsOver (the_places c.args.variables) (λ sorts g. list_all (allows_gamma g sorts) xs) c.args.self.now.store c.loop-gamma.self.store) c.items-gamma-items.ensures (subst (λ xs. BuildsOver (the_places c.args.variables) (λ sorts g. list_all (allows_gamma g sorts) (map the_pattern_gamma xs)) c.args.self.now.store c.loop-gamma.self.store) (take_all c.loop-gamma.gamma-index c.items-gamma-items.result.now (omega arith)) c.loop-gamma.invariant.within)

@@ -4,7 +4,7 @@ use Rattle.term_store.specs.ClauseView.{the_pattern_gamma}
 use Rattle.term_store.specs.RefView.{the_places}
 use Rattle.std.specs.List.{list_all}
 use Rattle.term_store.specs.Room.{KeepsRoom}
-use Rattle.term_store.specs.Signatures.{BuildsWithin, allows_gamma}
+use Rattle.term_store.specs.Signatures.{BuildsOver, allows_gamma}
 use Rattle.term_store.proofs.ListLaws.{GammasCopied}
 use Rattle.term_store.proofs.store.Store.copy_gammas.Given as goal
 
@@ -12,6 +12,6 @@ abbrev pub invariant-loop-gamma : goal.invariant-loop-gamma
 invariant-loop-gamma l = record {
   copied : GammasCopied l.self.store (the_places l.variables) (length l.initial.self.store.cells) l.copied (map the_pattern_gamma (take l.gamma-index l.gamma-items));
   adds : AddsOver (the_places l.variables) l.initial.self.store l.self.store;
-  within : BuildsWithin (λ g. list_all (allows_gamma g) (map the_pattern_gamma (take l.gamma-index l.gamma-items))) l.initial.self.store l.self.store;
+  within : BuildsOver (the_places l.variables) (λ sorts g. list_all (allows_gamma g sorts) (map the_pattern_gamma (take l.gamma-index l.gamma-items))) l.initial.self.store l.self.store;
   room : KeepsRoom l.initial.self l.self;
 }

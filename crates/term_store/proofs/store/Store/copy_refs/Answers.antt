@@ -6,7 +6,7 @@ use Rattle.cop_base.proofs.Items.{map-take-item}
 use Rattle.term_store.specs.Fitting.{parts_fit_in}
 use Rattle.term_store.specs.PatternView.{the_pattern}
 use Rattle.term_store.specs.RefView.{the_places}
-use Rattle.term_store.specs.Signatures.{BuildsWithin, allows_all}
+use Rattle.term_store.specs.Signatures.{BuildsOver, allows_all}
 use Rattle.term_store.proofs.CopyLaws.{Copied, copied-more, copied-none, fits-at, refs-copied, some-sort}
 use Rattle.term_store.proofs.FitLaws.{grown-fits}
 use Rattle.term_store.proofs.OwnLaws.{names-same, over-both}
@@ -17,7 +17,7 @@ pub loop-part-init : goal.loop-part-init
 loop-part-init c = record {
   copied = subst (λ rs. Copied c.args.self.now.store c.args.self.now.store (the_places c.args.variables) [] rs []) (sym c.in_ok-refs.ensures) (copied-none c.args.self.now.store (the_places c.args.variables) []);
   adds = names-same (the_places c.args.variables) c.args.self.now.store;
-  within = λ g base h k. k;
+  within = λ sorts have g base h k. k;
   room = (omega arith, omega arith);
 }
 
@@ -44,8 +44,8 @@ loop-part-preserved c =
       copied = subst (Copied s c.copy_pattern.new.self.store vs [] c.push.new.self) (sym more)
           (copied-more s c.loop-part.self.store c.copy_pattern.new.self.store vs [] c.loop-part.refs c.push.new.self (map the_pattern (take c.loop-part.part-index items)) (the_pattern c.part-item.result) c.in_ok-copied.copied.0 c.loop-part.invariant.copied before now c.in_ok-copied.ensures.copy c.in_ok-copied.ensures.sorts c.in_ok-copied.ensures.own c.in_ok-push.ensures.ok);
       adds = over-both vs s c.loop-part.self.store c.copy_pattern.new.self.store c.loop-part.invariant.adds c.in_ok-copied.ensures.adds;
-      within = subst (λ ps. BuildsWithin (λ g. allows_all g (patterns_tree ps)) s c.copy_pattern.new.self.store) (sym more)
-          (within-pattern (map the_pattern (take c.loop-part.part-index items)) (the_pattern c.part-item.result) s c.loop-part.self.store c.copy_pattern.new.self.store c.loop-part.invariant.within c.in_ok-copied.ensures.within);
+      within = subst (λ ps. BuildsOver vs (λ sorts g. allows_all g sorts (patterns_tree ps)) s c.copy_pattern.new.self.store) (sym more)
+          (within-pattern vs (map the_pattern (take c.loop-part.part-index items)) (the_pattern c.part-item.result) s c.loop-part.self.store c.copy_pattern.new.self.store c.loop-part.invariant.adds.built c.loop-part.invariant.within c.in_ok-copied.ensures.within);
       room = (omega arith, omega arith);
     }
 
@@ -60,8 +60,8 @@ returns-in_err-push-clause-adds c = over-both (the_places c.args.variables) c.ar
 
 pub returns-clause-within : goal.returns-clause-within
 returns-clause-within c =
-    subst (λ ps. BuildsWithin (λ g. allows_all g (patterns_tree ps)) c.args.self.now.store c.loop-part.self.store) c.items-part-items.ensures
-    (subst (λ ps. BuildsWithin (λ g. allows_all g (patterns_tree (map the_pattern ps))) c.args.self.now.store c.loop-part.self.store) (take_all c.loop-part.part-index c.items-part-items.result.now (omega arith)) c.loop-part.invariant.within)
+    subst (λ ps. BuildsOver (the_places c.args.variables) (λ sorts g. allows_all g sorts (patterns_tree ps)) c.args.self.now.store c.loop-part.self.store) c.items-part-items.ensures
+    (subst (λ ps. BuildsOver (the_places c.args.variables) (λ sorts g. allows_all g sorts (patterns_tree (map the_pattern ps))) c.args.self.now.store c.loop-part.self.store) (take_all c.loop-part.part-index c.items-part-items.result.now (omega arith)) c.loop-part.invariant.within)
 
 pub returns-clause-copies : goal.returns-clause-copies
 returns-clause-copies c = (refs-copied c.args.self.now.store c.loop-part.self.store (the_places c.args.variables) c.loop-part.refs c.items-part-items.result.now c.args.patterns.now c.loop-part.part-index (omega arith) c.items-part-items.ensures c.loop-part.invariant.copied).copies
