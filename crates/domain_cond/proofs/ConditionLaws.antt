@@ -1,7 +1,7 @@
 -- The part of a label that a home is to equal, and what the equations force.
-use Rattle.std.proofs.Common.{◌≡◌, ℕ, zero, suc, ◌+◌, ◌<◌, ◌≤◌, List, [], ◌∷◌, ◌++◌, take, length, Bool, true, false, IsTrue, refl, sym, ◌∙◌, ap, ap₂, subst, Some, slice_get, inl, inr, arith, lt-ltb, nat_lt, not, ◌||◌}
+use Rattle.std.proofs.Common.{◌≡◌, ℕ, zero, suc, ◌+◌, ◌<◌, ◌≤◌, List, [], ◌∷◌, ◌++◌, take, length, Bool, true, false, IsTrue, refl, sym, ◌∙◌, ap, ap₂, subst, Some, slice_get, arith, lt-ltb, nat_lt, not, ◌||◌}
 use Rattle.std.specs.List.{list_all, flat_map}
-use Rattle.std.proofs.lemmas.Bool.{false≢true, and_from, and_parts, cases_lt}
+use Rattle.std.proofs.lemmas.Bool.{false≢true, and_from, and_parts}
 use Rattle.calculus.specs.declared.sort.Sort.TheVariants.{TermSort, MarkSort, StringSort}
 use Rattle.calculus.specs.declared.setting.Domains.{Domains}
 use Rattle.calculus.specs.declared.setting.Domains.TheVariants.{Constant, Cumulative, Varying}
@@ -33,6 +33,7 @@ use Rattle.term_unify.proofs.ListItems.{item-flat, item-left, item-right}
 use Rattle.domain_cond.specs.Conditions.{Allows, HomeAllows, IsCompared, IsEigen, IsForced}
 use Rattle.domain_cond.specs.Leaves.{AreLeaves}
 use Rattle.domain_cond.specs.Ways.{IsFoundHome}
+use Rattle.domain_cond.proofs.FirstLaws.{AllTo, all-next, all-start, all-whole}
 use Rattle.domain_cond.proofs.WayLaws.{from-take, label-within, sorted-within}
 use Rattle.domain_cond.proofs.LeafLaws.{eigen-head}
 use Rattle.cop_base.specs.declared.PosId.{PosId}
@@ -116,12 +117,12 @@ varying-left Varying a b = refl
 pub free-parts : (s : Store) (e p : ℕ) (rs : List ℕ) → slice_get s.cells e ≡ Some (eigen_cell p rs) → HasNoStringIn s e → HasNoString s rs
 free-parts s e p rs at free v i r o q c = free v o (in_part i at q c)
 
-free-sides : (s : Store) (ks part : List ℕ) → HasNoString s ks → HasNoString s part → (v i r : ℕ) → IsOpenString s v → slice_get (ks ++ part) i ≡ Some r → ¬ OccursIn s v r
+pub free-sides : (s : Store) (ks part : List ℕ) → HasNoString s ks → HasNoString s part → (v i r : ℕ) → IsOpenString s v → slice_get (ks ++ part) i ≡ Some r → ¬ OccursIn s v r
 free-sides s [] part a b v i r o e c = b v i r o e c
 free-sides s (k ∷ ks) part a b v zero r o e c = a v 0 r o e c
 free-sides s (k ∷ ks) part a b v (suc i) r o e c = free-sides s ks part (λ u j m x f d. a u (suc j) m x f d) b v i r o e c
 
-now-equal : (s : Store) (ks part : List ℕ) → IsTrue (is_label s ks) → IsTrue (is_label s part) → AreSameLabels s ks part → AreEqualNow s (equation ks part)
+pub now-equal : (s : Store) (ks part : List ℕ) → IsTrue (is_label s ks) → IsTrue (is_label s part) → AreSameLabels s ks part → AreEqualNow s (equation ks part)
 now-equal s ks part h k same σ t = (label_by σ ks, label-there s σ t ks h, label-there s σ t part k ∙ ap Some (sym (same σ t)))
 
 pub home-unmet : (P : Problem) (old new : Store) (e p : ℕ) (rs label ks part : List ℕ) → slice_get old.cells e ≡ Some (eigen_cell p rs) → HasNoStringIn old e → IsFoundHome P old new p rs ks → IsCompared P new ks label part → ¬ AreSameLabels new ks part → IsForced new (HomeAllows P old e label) (equation ks part)
@@ -160,18 +161,15 @@ forced-more s M N e h f = record { fits = f.fits; no_open_string = f.no_open_str
 
 -- the leaves before the place i allow the label
 pub AllowTo : Problem → Store → List ℕ → List ℕ → ℕ → Type 0
-AllowTo P s es label i = (j e : ℕ) → j < i → slice_get es j ≡ Some e → (σ : Solution) → Solves s σ → HomeAllows P s e label σ
+AllowTo P s es label i = AllTo es i (λ e. (σ : Solution) → Solves s σ → HomeAllows P s e label σ)
 
 pub allow-start : (P : Problem) (s : Store) (es label : List ℕ) → AllowTo P s es label 0
 unfolding AllowTo
-allow-start P s es label j e l at σ t = absurd (omega (arith, l))
+allow-start P s es label = all-start es (λ e. (σ : Solution) → Solves s σ → HomeAllows P s e label σ)
 
 pub allow-next : (P : Problem) (s : Store) (es label : List ℕ) (i e : ℕ) → AllowTo P s es label i → slice_get es i ≡ Some e → ((σ : Solution) → Solves s σ → HomeAllows P s e label σ) → AllowTo P s es label (i + 1)
 unfolding AllowTo
-allow-next P s es label i e h at now j x l q σ t = elim (cases_lt j i) [
-  | inl less ↦ h j x less q σ t
-  | inr more ↦ (let same : j ≡ i = omega (arith, l, more) in let z : e ≡ x = let y : Some e ≡ Some x = sym at ∙ ap (slice_get es) (sym same) ∙ q in cc y in subst (λ y. HomeAllows P s y label σ) z (now σ t))
-]
+allow-next P s es label i e h at now = all-next es i e (λ x. (σ : Solution) → Solves s σ → HomeAllows P s x label σ) h at now
 
 pub allow-other : (P : Problem) (s : Store) (e : ℕ) (label : List ℕ) → ((p : ℕ) (rs : List ℕ) → ¬ (slice_get s.cells e ≡ Some (eigen_cell p rs))) → (σ : Solution) → Solves s σ → HomeAllows P s e label σ
 allow-other P s e label none σ t p rs at = absurd (none p rs at)
@@ -197,22 +195,19 @@ holds-free s e r h free = no_string-part s r e free (occurs h)
 -- ---- the gamma terms
 
 pub AllowEach : Problem → Store → List GammaCell → ℕ → Type 0
-AllowEach P s gs i = (j : ℕ) (g : GammaCell) → j < i → slice_get gs j ≡ Some g → (σ : Solution) → Solves s σ → HomesAllow P s σ g
+AllowEach P s gs i = AllTo gs i (λ g. (σ : Solution) → Solves s σ → HomesAllow P s σ g)
 
 pub each-start : (P : Problem) (s : Store) (gs : List GammaCell) → AllowEach P s gs 0
 unfolding AllowEach
-each-start P s gs j g l at σ t = absurd (omega (arith, l))
+each-start P s gs = all-start gs (λ g. (σ : Solution) → Solves s σ → HomesAllow P s σ g)
 
 pub each-next : (P : Problem) (s : Store) (gs : List GammaCell) (i : ℕ) (g : GammaCell) → AllowEach P s gs i → slice_get gs i ≡ Some g → ((σ : Solution) → Solves s σ → HomesAllow P s σ g) → AllowEach P s gs (i + 1)
 unfolding AllowEach
-each-next P s gs i g h at now j x l q σ t = elim (cases_lt j i) [
-  | inl less ↦ h j x less q σ t
-  | inr more ↦ (let same : j ≡ i = omega (arith, l, more) in let z : g ≡ x = let y : Some g ≡ Some x = sym at ∙ ap (slice_get gs) (sym same) ∙ q in cc y in subst (λ y. HomesAllow P s σ y) z (now σ t))
-]
+each-next P s gs i g h at now = all-next gs i g (λ x. (σ : Solution) → Solves s σ → HomesAllow P s σ x) h at now
 
 pub each-all : (P : Problem) (s : Store) (gs : List GammaCell) (i : ℕ) → length gs ≤ i → AllowEach P s gs i → (j : ℕ) (g : GammaCell) → slice_get gs j ≡ Some g → (σ : Solution) → Solves s σ → HomesAllow P s σ g
 unfolding AllowEach
-each-all P s gs i l h j g at σ t = h j g (let m = get-within gs j g at in omega (arith, l, m)) at σ t
+each-all P s gs i l h = all-whole gs i (λ g. (σ : Solution) → Solves s σ → HomesAllow P s σ g) l h
 
 -- what meets the condition has homes that allow
 met-homes : (P : Problem) (s : Store) (y : System) (σ : Solution) → Solves s σ → MeetsDemand (AllAllowed P) y σ → (j : ℕ) (g : GammaCell) → slice_get y.gammas j ≡ Some g → HomesAllow P s σ g

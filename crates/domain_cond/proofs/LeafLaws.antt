@@ -1,6 +1,5 @@
 -- The leaves of a term, by a list of cells that are still to be looked at and those that were.
 use Rattle.std.proofs.Common.{◌≡◌, ◌⊎◌, ◌||◌, cond, ◌==◌, ℕ, zero, suc, ◌<◌, List, [], ◌∷◌, ◌++◌, length, Bool, true, false, not, IsTrue, refl, sym, ◌∙◌, ap, subst, Some, slice_get, inl, inr, arith, eqb-true, eq-eqb}
-use Rattle.std.specs.List.{list_any}
 use Rattle.std.proofs.lemmas.Bool.{cases_Bool, false≢true}
 use Rattle.calculus.specs.declared.sort.Sort.{Sort}
 use Rattle.calculus.specs.Bindings.{EndsIn, IsEnd}
@@ -15,7 +14,7 @@ use Rattle.term_store.specs.declared.cell.Head.{Head}
 use Rattle.term_store.specs.declared.cell.Head.TheVariants.{Eigen, Fun}
 use Rattle.term_unify.proofs.PairLaws.{told}
 use Rattle.term_unify.proofs.VisitLaws.{looks-rest}
-use Rattle.domain_cond.specs.Leaves.{AreLeaves, IsLeaf, has_arguments}
+use Rattle.domain_cond.specs.Leaves.{AreLeaves, IsLeaf, has_arguments, is_among}
 
 -- ---- places of lists
 
@@ -30,9 +29,6 @@ among-split : (k : ℕ) (xs ys : List ℕ) → IsAmong k (xs ++ ys) → IsAmong 
 among-split k [] ys h = inr h
 among-split k (x ∷ xs) ys (zero, e) = inl (0, e)
 among-split k (x ∷ xs) ys (suc i, e) = elim (among-split k xs ys (i, e)) [ inl h ↦ inl (suc h.0, h.1) | inr h ↦ inr h ]
-
-abbrev pub was_seen : List ℕ → ℕ → Bool
-was_seen xs k = list_any (λ x. k == x) xs
 
 -- ---- holding
 
@@ -49,13 +45,13 @@ holds-both s a b c h (argument i e p more) = argument i e p (holds-both s a b _ 
 
 -- the cell is still to be looked at, or the end of its bindings was
 abbrev pub IsMet : Store → List ℕ → List ℕ → List ℕ → ℕ → Type 0
-IsMet s pending seen leaves k = IsAmong k pending ⊎ ((v : ℕ) × EndsAt s k v × (IsAmong v leaves ⊎ IsTrue (was_seen seen v)))
+IsMet s pending seen leaves k = IsAmong k pending ⊎ ((v : ℕ) × EndsAt s k v × (IsAmong v leaves ⊎ IsTrue (is_among seen v)))
 
 pub record IsLooking (s : Store) (term : ℕ) (pending seen leaves : List ℕ) : Type 0 where
   pub root : IsMet s pending seen leaves term
   pub cells : (k : ℕ) → IsAmong k pending → (k < length s.cells) × Holds s k term
   pub found : (k : ℕ) → IsAmong k leaves → Holds s k term × IsLeaf s k
-  pub closed : (x : ℕ) (c : Cell) → IsTrue (was_seen seen x) → slice_get s.cells x ≡ Some c → (has_arguments c ≡ true) × ((i k : ℕ) → slice_get (parts_of c) i ≡ Some k → IsMet s pending seen leaves k)
+  pub closed : (x : ℕ) (c : Cell) → IsTrue (is_among seen x) → slice_get s.cells x ≡ Some c → (has_arguments c ≡ true) × ((i k : ℕ) → slice_get (parts_of c) i ≡ Some k → IsMet s pending seen leaves k)
 
 pub looking-start : (s : Store) (term : ℕ) (pending leaves seen : List ℕ) → pending ≡ term ∷ [] → leaves ≡ [] → seen ≡ [] → term < length s.cells → IsLooking s term pending seen leaves
 looking-start s term pending leaves seen e f g l = subst (λ xs. IsLooking s term xs seen leaves) (sym e) (subst (λ xs. IsLooking s term (term ∷ []) seen xs) (sym f) (subst (λ xs. IsLooking s term (term ∷ []) xs []) (sym g) (record {
@@ -70,7 +66,7 @@ looking-start s term pending leaves seen e f g l = subst (λ xs. IsLooking s ter
     one k (suc i, e) = cc e
 
 -- what was met stays so
-met-more : (s : Store) (r v : ℕ) (rest seen seen' leaves leaves' pending' : List ℕ) → ((k : ℕ) → IsAmong k rest → IsAmong k pending') → ((k : ℕ) → IsAmong k leaves → IsAmong k leaves') → ((k : ℕ) → IsTrue (was_seen seen k) → IsTrue (was_seen seen' k)) → EndsAt s r v → (IsAmong v leaves' ⊎ IsTrue (was_seen seen' v)) → (k : ℕ) → IsMet s (rest ++ r ∷ []) seen leaves k → IsMet s pending' seen' leaves' k
+met-more : (s : Store) (r v : ℕ) (rest seen seen' leaves leaves' pending' : List ℕ) → ((k : ℕ) → IsAmong k rest → IsAmong k pending') → ((k : ℕ) → IsAmong k leaves → IsAmong k leaves') → ((k : ℕ) → IsTrue (is_among seen k) → IsTrue (is_among seen' k)) → EndsAt s r v → (IsAmong v leaves' ⊎ IsTrue (is_among seen' v)) → (k : ℕ) → IsMet s (rest ++ r ∷ []) seen leaves k → IsMet s pending' seen' leaves' k
 met-more s r v rest seen seen' leaves leaves' pending' opens adds sees ends now k (inl a) = elim (among-split k rest (r ∷ []) a) [
   | inl h ↦ inl (opens k h)
   | inr h ↦ inr (v, subst (λ x. EndsAt s x v) (only k h) ends, now)
@@ -99,7 +95,7 @@ looking-leaf s term r v pending rest seen leaves after w e ends leaf f =
     })
 
 -- a cell was seen before
-pub looking-again : (s : Store) (term r v : ℕ) (pending rest seen after leaves : List ℕ) → IsLooking s term pending seen leaves → pending ≡ rest ++ r ∷ [] → EndsAt s r v → IsTrue (was_seen seen v) → ((x : ℕ) → was_seen after x ≡ (v == x || was_seen seen x)) → IsLooking s term rest after leaves
+pub looking-again : (s : Store) (term r v : ℕ) (pending rest seen after leaves : List ℕ) → IsLooking s term pending seen leaves → pending ≡ rest ++ r ∷ [] → EndsAt s r v → IsTrue (is_among seen v) → ((x : ℕ) → is_among after x ≡ (v == x || is_among seen x)) → IsLooking s term rest after leaves
 looking-again s term r v pending rest seen after leaves w e ends again noted =
     let w' : IsLooking s term (rest ++ r ∷ []) seen leaves = subst (λ xs. IsLooking s term xs seen leaves) e w in
     let more = met-more s r v rest seen after leaves leaves rest (λ k a. a) (λ k a. a) (λ k a. kept k a) ends (inr (kept v again)) in
@@ -114,18 +110,18 @@ looking-again s term r v pending rest seen after leaves w e ends again noted =
     or-right true b h = refl
     or-right false b h = h
 
-    kept : (k : ℕ) → IsTrue (was_seen seen k) → IsTrue (was_seen after k)
-    kept k a = subst IsTrue (sym (noted k)) (or-right (v == k) (was_seen seen k) a)
+    kept : (k : ℕ) → IsTrue (is_among seen k) → IsTrue (is_among after k)
+    kept k a = subst IsTrue (sym (noted k)) (or-right (v == k) (is_among seen k) a)
 
-    known : (x : ℕ) → IsTrue (was_seen after x) → IsTrue (was_seen seen x)
+    known : (x : ℕ) → IsTrue (is_among after x) → IsTrue (is_among seen x)
     known x a = by (v == x) refl (subst IsTrue (noted x) a)
       where
-        by : (t : Bool) → (v == x) ≡ t → IsTrue (t || was_seen seen x) → IsTrue (was_seen seen x)
-        by true q h = subst (λ y. IsTrue (was_seen seen y)) (eqb-true v x q) again
+        by : (t : Bool) → (v == x) ≡ t → IsTrue (t || is_among seen x) → IsTrue (is_among seen x)
+        by true q h = subst (λ y. IsTrue (is_among seen y)) (eqb-true v x q) again
         by false q h = h
 
 -- a cell with arguments was not
-pub looking-parts : (s : Store) (term r v : ℕ) (pending rest before seen after leaves : List ℕ) (c : Cell) → IsTrue (is_store s) → IsLooking s term pending seen leaves → pending ≡ rest ++ r ∷ [] → EndsAt s r v → slice_get s.cells v ≡ Some c → has_arguments c ≡ true → ((x : ℕ) → was_seen after x ≡ (v == x || was_seen seen x)) → before ≡ rest ++ parts_of c → IsLooking s term before after leaves
+pub looking-parts : (s : Store) (term r v : ℕ) (pending rest before seen after leaves : List ℕ) (c : Cell) → IsTrue (is_store s) → IsLooking s term pending seen leaves → pending ≡ rest ++ r ∷ [] → EndsAt s r v → slice_get s.cells v ≡ Some c → has_arguments c ≡ true → ((x : ℕ) → is_among after x ≡ (v == x || is_among seen x)) → before ≡ rest ++ parts_of c → IsLooking s term before after leaves
 looking-parts s term r v pending rest before seen after leaves c h w e ends at args noted joined =
     let w' : IsLooking s term (rest ++ r ∷ []) seen leaves = subst (λ xs. IsLooking s term xs seen leaves) e w in
     let top = w'.cells r (among-back r rest (r ∷ []) (0, refl)) in
@@ -148,11 +144,11 @@ looking-parts s term r v pending rest before seen after leaves c h w e ends at a
     or-left true b h = refl
     or-left false b h = absurd (false≢true h)
 
-    kept-seen : (k : ℕ) → IsTrue (was_seen seen k) → IsTrue (was_seen after k)
-    kept-seen k a = subst IsTrue (sym (noted k)) (or-right (v == k) (was_seen seen k) a)
+    kept-seen : (k : ℕ) → IsTrue (is_among seen k) → IsTrue (is_among after k)
+    kept-seen k a = subst IsTrue (sym (noted k)) (or-right (v == k) (is_among seen k) a)
 
-    noted-now : IsTrue (was_seen after v)
-    noted-now = subst IsTrue (sym (noted v)) (or-left (v == v) (was_seen seen v) (eq-eqb v v refl))
+    noted-now : IsTrue (is_among after v)
+    noted-now = subst IsTrue (sym (noted v)) (or-left (v == v) (is_among seen v) (eq-eqb v v refl))
 
     part-held : (d : Cell) → slice_get s.cells v ≡ Some d → has_arguments d ≡ true → (i k : ℕ) → slice_get (parts_of d) i ≡ Some k → Holds s k v
     part-held (fun_cell f rs) f-at a i k p = argument i f-at p itself
@@ -164,7 +160,7 @@ looking-parts s term r v pending rest before seen after leaves c h w e ends at a
     Closed : Cell → Type 0
     Closed d = (has_arguments d ≡ true) × ((i k : ℕ) → slice_get (parts_of d) i ≡ Some k → IsMet s (rest ++ parts_of c) after leaves k)
 
-    by : (x : ℕ) (d : Cell) (t : Bool) → (v == x) ≡ t → IsTrue (t || was_seen seen x) → slice_get s.cells x ≡ Some d → (IsTrue (was_seen seen x) → (has_arguments d ≡ true) × ((i k : ℕ) → slice_get (parts_of d) i ≡ Some k → IsMet s (rest ++ parts_of c) after leaves k)) → (has_arguments d ≡ true) × ((i k : ℕ) → slice_get (parts_of d) i ≡ Some k → IsMet s (rest ++ parts_of c) after leaves k)
+    by : (x : ℕ) (d : Cell) (t : Bool) → (v == x) ≡ t → IsTrue (t || is_among seen x) → slice_get s.cells x ≡ Some d → (IsTrue (is_among seen x) → (has_arguments d ≡ true) × ((i k : ℕ) → slice_get (parts_of d) i ≡ Some k → IsMet s (rest ++ parts_of c) after leaves k)) → (has_arguments d ≡ true) × ((i k : ℕ) → slice_get (parts_of d) i ≡ Some k → IsMet s (rest ++ parts_of c) after leaves k)
     by x d true q a b old =
         let same : c ≡ d = let z : Some c ≡ Some d = sym at ∙ ap (slice_get s.cells) (eqb-true v x q) ∙ b in cc z in
         (ap has_arguments (sym same) ∙ args, λ i k p. inl (among-back k rest (parts_of c) (i, ap (λ y. slice_get (parts_of y) i) same ∙ p)))
@@ -199,7 +195,7 @@ looking-end s term pending seen leaves w nothing = record {
         same : e ≡ v
         same = ends-here s e v leaf.0 leaf.1 leaf.2 ends
 
-        here : IsAmong v leaves ⊎ IsTrue (was_seen seen v) → IsAmong e leaves
+        here : IsAmong v leaves ⊎ IsTrue (is_among seen v) → IsAmong e leaves
         here (inl a) = subst (λ x. IsAmong x leaves) (sym same) a
         here (inr a) = let q = w.closed v leaf.0 a (ap (slice_get s.cells) (sym same) ∙ leaf.1) in absurd (false≢true (sym leaf.3 ∙ q.0))
     reach e r (bound {k = k} {sort = sort} at more) leaf (inr (v, ends, m)) = reach e k more leaf (inr (v, ends-bound s r k v sort at ends, m))

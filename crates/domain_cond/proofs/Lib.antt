@@ -3,4 +3,8 @@ pub mod ExampleLaws
 pub mod WayLaws
 pub mod HomeSteps
 pub mod LeafLaws
+pub mod FirstLaws
 pub mod ConditionLaws
+pub mod StandingLaws
+pub mod RankingLaws
+pub mod OwnLaws

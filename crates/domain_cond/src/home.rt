@@ -37,14 +37,14 @@ fn sort_at(store: &Store, r: Ref) -> Sort
     }
 }
 
-fn value_at(values: &[Ref], i: usize) -> Ref
+pub(crate) fn value_at(values: &[Ref], i: usize) -> Ref
     requires { i < length values.now }
     ensures { slice_get (map the_place values.now) i ≡ Some result.0 }
 {
     values[i]
 }
 
-fn is_same_sort(a: Sort, b: Sort) -> bool
+pub(crate) fn is_same_sort(a: Sort, b: Sort) -> bool
     ensures { result ≡ sort_eq a b }
 {
     match (a, b) {

@@ -5,6 +5,9 @@ mod constant;
 mod cumulative;
 mod home;
 mod leaves;
+mod own;
+mod ranking;
+mod standing;
 #[cfg(test)]
 mod tests;
 mod unmet;

@@ -27,21 +27,21 @@ use tableau_core::SizedProblem;
 use term_store::{Equation, GammaUse, Head, Prefix, Ref, Store, System};
 use term_unify::{Unifier, are_same_labels, flat_label};
 
-fn leaf_at(leaves: &[Ref], i: usize) -> Ref
+pub(crate) fn leaf_at(leaves: &[Ref], i: usize) -> Ref
     requires { i < length leaves.now }
     ensures { slice_get (map the_place leaves.now) i ≡ Some result.0 }
 {
     leaves[i]
 }
 
-fn gamma_at(gammas: &[GammaUse], i: usize) -> &GammaUse
+pub(crate) fn gamma_at(gammas: &[GammaUse], i: usize) -> &GammaUse
     requires { i < length gammas.now }
     ensures { slice_get (map the_gamma gammas.now) i ≡ Some (the_gamma result.now) }
 {
     &gammas[i]
 }
 
-fn prefix_of(alloc: Global, label: &[Ref]) -> Result<Prefix, NoMemory>
+pub(crate) fn prefix_of(alloc: Global, label: &[Ref]) -> Result<Prefix, NoMemory>
     ensures { IfOk result (λ prefix. prefix ≡ map the_place label.now) }
 {
     let mut prefix = Prefix::new(alloc);

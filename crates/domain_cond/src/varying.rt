@@ -1,11 +1,17 @@
 //! Varying domains.
 
-ghost use Rattle.std.specs.Prelude.{◌≡◌, IfOk, true};
+ghost use Rattle.std.specs.Prelude.{◌≡◌, IfOk, IfSome, IsTrue, None, OnErr};
 ghost use Rattle.std.specs.List.{list_all};
 ghost use Rattle.calculus.specs.declared.setting.Domains.TheVariants.{Varying};
 ghost use Rattle.calculus.specs.Instances.{gamma_is_allowed};
 ghost use Rattle.calculus.specs.Skolem.{common_spares};
+ghost use Rattle.calculus.specs.Bindings.{AddsBuilt};
+ghost use Rattle.calculus.specs.Systems.{AllAllowed, HasNoOpenString, IsDemandEquation};
+ghost use Rattle.calculus.specs.Systems.{OwnSparesMeet, is_system};
+ghost use Rattle.term_store.specs.Room.{KeepsRoom};
+ghost use Rattle.term_store.specs.SystemView.{the_equation, the_system};
 
+use crate::own::unmet_by_spares;
 use crate::unmet::unmet;
 use cop_base::NoMemory;
 use logic_rules::Problem;
@@ -14,21 +20,19 @@ use tableau_core::SizedProblem;
 use term_store::{Demand, Equation, HomeList, Store, System};
 use term_unify::Unifier;
 
-/// Varying domains, with a constant: a name may stand at its home alone.
+/// Varying domains: a name may stand at its home alone.
 #[derive(Drop)]
 pub struct VaryingDemand<'a> {
     alloc: Global,
     problem: SizedProblem<'a>,
     unifier: Unifier,
     ghost varying: { problem.setting.domains ≡ Varying },
-    ghost common: { common_spares problem ≡ true },
 }
 
 impl<'a> VaryingDemand<'a> {
     /// The condition of a problem with varying domains.
     pub fn new(alloc: Global, problem: &'a Problem) -> Result<VaryingDemand<'a>, NoMemory>
-        requires domains { problem.now.setting.domains ≡ Varying }
-        requires common { common_spares problem.now ≡ true }
+        requires { problem.now.setting.domains ≡ Varying }
         ensures { IfOk result (λ d. d.problem ≡ problem.now) }
     {
         let problem = SizedProblem::new(alloc, problem)?;
@@ -40,14 +44,44 @@ impl<'a> VaryingDemand<'a> {
     }
 }
 
+// As `next` of the demand.
+fn next_equation(
+    alloc: Global,
+    unifier: &mut Unifier,
+    problem: &SizedProblem,
+    store: &mut Store,
+    system: &System,
+) -> Result<Option<Equation>, NoMemory>
+    requires fits { IsTrue (is_system store.old.store (the_system system.now)) }
+    requires no_string { HasNoOpenString store.old.store (the_system system.now) }
+    requires varying { problem.now.setting.domains ≡ Varying }
+    ensures equation { IfOk result (λ o. IfSome o (λ e. IsDemandEquation (AllAllowed problem.now)
+        store.new.store (the_system system.now) (the_equation e))) }
+    ensures none { IfOk result (λ o. o ≡ None → OwnSparesMeet (common_spares problem.now)
+        (AllAllowed problem.now) store.new.store (the_system system.now)) }
+    ensures adds { AddsBuilt store.old.store store.new.store }
+    ensures err { OnErr result (store.new.store ≡ store.old.store) }
+    ensures room { KeepsRoom store.old store.new }
+{
+    let _now = store.mark();
+    if let Some(e) = unmet(alloc, unifier, problem, store, system)? {
+        return Ok(Some(e));
+    }
+    if problem.common_spares() {
+        return Ok(None);
+    }
+    let equation = unmet_by_spares(alloc, unifier, store, system)?;
+    Ok(equation)
+}
+
 impl Demand for VaryingDemand<'_> {
     ghost holds_for = { λ d. list_all (gamma_is_allowed d.problem) };
 
     ghost common = { λ d. common_spares d.problem };
 
     fn next(&mut self, store: &mut Store, system: &System) -> Result<Option<Equation>, NoMemory> {
-        let _now = store.mark();
-        let equation = unmet(self.alloc, &mut self.unifier, &self.problem, store, system)?;
+        let unifier = &mut self.unifier;
+        let equation = next_equation(self.alloc, unifier, &self.problem, store, system)?;
         Ok(equation)
     }
 

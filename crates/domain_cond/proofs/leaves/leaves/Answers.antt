@@ -2,7 +2,8 @@ use Rattle.std.proofs.Common.{rules, ◌≡◌, ◌==◌, ◌∙◌, ◌++◌, �
 use Rattle.calculus.proofs.BindingLaws.{ends-there}
 use Rattle.term_store.specs.RefView.{the_place}
 use Rattle.term_unify.proofs.PairLaws.{looks-less, map-last}
-use Rattle.domain_cond.proofs.LeafLaws.{leaf-of, looking-again, looking-end, looking-leaf, looking-parts, looking-start, looking-top, open-lighter, or-cond, was_seen}
+use Rattle.domain_cond.specs.Leaves.{is_among}
+use Rattle.domain_cond.proofs.LeafLaws.{leaf-of, looking-again, looking-end, looking-leaf, looking-parts, looking-start, looking-top, open-lighter, or-cond}
 use Rattle.domain_cond.proofs.leaves.leaves.Goals as goal
 
 pub loop-r-init : goal.loop-r-init
@@ -30,8 +31,8 @@ loop-r-preserved-in-Continue-branch-2 c =
 
 pub loop-r-preserved : goal.loop-r-preserved
 loop-r-preserved c =
-    let again : was_seen c.loop-r.seen.keys c.walk-end.result.0 ≡ true = search rules in
-    looking-again c.args.store.now.store c.args.term.0 c.in-Some.r.0 c.walk-end.result.0 (map the_place c.loop-r.pending.items) (map the_place c.pop.new.self.items) c.loop-r.seen.keys c.insert.new.self.keys (map the_place c.loop-r.leaves.items) c.loop-r.invariant (ap (map the_place) c.in-Some.ensures.items ∙ map-last the_place c.pop.new.self.items c.in-Some.r) c.walk-end.ensures.ends again (λ x. or-cond (c.walk-end.result.0 == x) (was_seen c.insert.new.self.keys x) (was_seen c.loop-r.seen.keys x) (c.in_ok-insert.ensures.updates.0 x))
+    let again : is_among c.loop-r.seen.keys c.walk-end.result.0 ≡ true = search rules in
+    looking-again c.args.store.now.store c.args.term.0 c.in-Some.r.0 c.walk-end.result.0 (map the_place c.loop-r.pending.items) (map the_place c.pop.new.self.items) c.loop-r.seen.keys c.insert.new.self.keys (map the_place c.loop-r.leaves.items) c.loop-r.invariant (ap (map the_place) c.in-Some.ensures.items ∙ map-last the_place c.pop.new.self.items c.in-Some.r) c.walk-end.ensures.ends again (λ x. or-cond (c.walk-end.result.0 == x) (is_among c.insert.new.self.keys x) (is_among c.loop-r.seen.keys x) (c.in_ok-insert.ensures.updates.0 x))
 
 pub loop-r-smaller-in-Continue-branch-4 : goal.loop-r-smaller-in-Continue-branch-4
 loop-r-smaller-in-Continue-branch-4 c =
@@ -41,7 +42,7 @@ loop-r-smaller-in-Continue-branch-4 c =
 pub loop-r-preserved-in-Continue-branch-4 : goal.loop-r-preserved-in-Continue-branch-4
 loop-r-preserved-in-Continue-branch-4 c =
     let end = ends-there c.args.store.now.store c.in-Some.r.0 c.walk-end.result.0 c.walk-end.ensures.ends in
-    looking-parts c.args.store.now.store c.args.term.0 c.in-Some.r.0 c.walk-end.result.0 (map the_place c.loop-r.pending.items) (map the_place c.pop.new.self.items) (map the_place c.push_parts.new.items.items) c.loop-r.seen.keys c.insert.new.self.keys (map the_place c.loop-r.leaves.items) end.0 c.walk-end.ensures.well.fits c.loop-r.invariant (ap (map the_place) c.in-Some.ensures.items ∙ map-last the_place c.pop.new.self.items c.in-Some.r) c.walk-end.ensures.ends end.1 (sym (c.has_arguments.ensures end.0 end.1) ∙ c.if-not-has_arguments.false) (λ x. or-cond (c.walk-end.result.0 == x) (was_seen c.insert.new.self.keys x) (was_seen c.loop-r.seen.keys x) (c.in_ok-insert.ensures.updates.0 x)) (c.in_ok-push_parts.ensures end.0 end.1)
+    looking-parts c.args.store.now.store c.args.term.0 c.in-Some.r.0 c.walk-end.result.0 (map the_place c.loop-r.pending.items) (map the_place c.pop.new.self.items) (map the_place c.push_parts.new.items.items) c.loop-r.seen.keys c.insert.new.self.keys (map the_place c.loop-r.leaves.items) end.0 c.walk-end.ensures.well.fits c.loop-r.invariant (ap (map the_place) c.in-Some.ensures.items ∙ map-last the_place c.pop.new.self.items c.in-Some.r) c.walk-end.ensures.ends end.1 (sym (c.has_arguments.ensures end.0 end.1) ∙ c.if-not-has_arguments.false) (λ x. or-cond (c.walk-end.result.0 == x) (is_among c.insert.new.self.keys x) (is_among c.loop-r.seen.keys x) (c.in_ok-insert.ensures.updates.0 x)) (c.in_ok-push_parts.ensures end.0 end.1)
 
 pub returns : goal.returns
 returns c =

@@ -1,0 +1,10 @@
+use Rattle.std.proofs.Common.{map}
+use Rattle.search_theory.proofs.RuleLaws.{homes}
+use Rattle.domain_cond.specs.Ranks.{rank_at}
+use Rattle.domain_cond.specs.StandingView.{the_standing}
+use Rattle.domain_cond.specs.Standings.{home_marks}
+use Rattle.domain_cond.proofs.RankingLaws.{IsRanking}
+use Rattle.domain_cond.proofs.ranking.has_no_cycle.Given as goal
+
+abbrev pub invariant-loop-i : goal.invariant-loop-i
+invariant-loop-i l = IsRanking (homes (home_marks (map the_standing l.standings))) l.store.store l.count (rank_at l.ranks.items) l._i
