@@ -1,5 +1,5 @@
 -- Copies of classical templates leave a classical store classical, and the templates of a classical matrix are classical.
-use Rattle.std.proofs.Common.{◌≡◌, ◌+◌, ◌≤◌, ℕ, zero, suc, List, [], ◌∷◌, drop, map, Bool, true, false, ◌&&◌, ◌||◌, IsTrue, refl, sym, ◌∙◌, ap, subst, Option, None, Some, slice_get, arith, nat_le}
+use Rattle.std.proofs.Common.{◌≡◌, ◌+◌, ℕ, zero, suc, List, [], ◌∷◌, map, Bool, true, false, ◌&&◌, ◌||◌, IsTrue, refl, sym, ◌∙◌, ap, subst, Option, None, Some, slice_get}
 use Rattle.std.specs.Prelude.{Contains}
 use Rattle.std.specs.List.{AllByRecursion, list_all}
 use Rattle.std.specs.Option.{option_map_or}
@@ -9,25 +9,21 @@ use Rattle.calculus.specs.declared.sign.Sign.TheVariants.{F}
 use Rattle.calculus.specs.declared.sign.Side.{Side}
 use Rattle.calculus.specs.declared.sort.Sort.{Sort}
 use Rattle.calculus.specs.declared.sort.Sort.TheVariants.{TermSort, MarkSort, StringSort}
-use Rattle.calculus.specs.Bindings.{NamesFrom}
 use Rattle.calculus.specs.Clauses.{selections}
 use Rattle.calculus.specs.ComputedInstances.{Part, instance_of}
 use Rattle.calculus.specs.Equality.{list_eq, literal_eq, sort_eq}
 use Rattle.calculus.specs.Ground.{GroundLiteral, Value, common, g_eigen, g_fun, term}
-use Rattle.calculus.specs.Patterns.{HaveSortsAt, Pattern, Patterns, PatternAtom, PatternGamma, Template, are_term_patterns, are_value_patterns, atom_fits, gamma_fits, is_label_pattern, more_patterns, no_patterns, p_eigen, p_fun, p_new, p_var, pattern_fits, patterns_tree, template_fits}
+use Rattle.calculus.specs.Patterns.{Pattern, Patterns, PatternAtom, PatternGamma, Template, are_term_patterns, are_value_patterns, atom_fits, gamma_fits, is_label_pattern, more_patterns, no_patterns, p_eigen, p_fun, p_new, p_var, pattern_fits, patterns_tree, template_fits}
 use Rattle.calculus.specs.Problems.{formula_fits}
 use Rattle.calculus.specs.Skolem.{fits_way, has_function, is_delta_position, is_empty}
-use Rattle.calculus.specs.Stores.{Cell, Store, eigen_cell, fun_cell, has_value_sort_at, is_store, new_cell, parts_fit, parts_of, sort_at, string_cell, variable}
 use Rattle.calculus.specs.Syntax.{Problem}
 use Rattle.calculus.specs.Templates.{IsTemplateOf, as_term, have_sorts, is_choice_of_values, literals_by, pattern_gamma, pattern_label, pattern_literal, pattern_terms, pattern_value, pattern_values, strings_from}
 use Rattle.calculus.proofs.InstanceLaws.{instance-proper}
 use Rattle.search_theory.specs.Regular as regular
 use Rattle.search_theory.specs.Regular.{IsClassicalTemplate, are_classical_patterns, is_classical_cell, is_classical_pattern, is_classical_store, is_own_cell, is_term_sort, spares_for}
-use Rattle.search_theory.proofs.ClassicalLaws.{cell-classical}
 use Rattle.search_theory.proofs.ClassicalTemplates.{classical-atoms, commons, commons-chosen, commons-sorted, is_plain_atom, no_new, none_new, proper-by, template-classical}
-use Rattle.search_theory.proofs.SpareLaws.{cell-fits}
 use Rattle.search_theory.proofs.TemplateExists.{template-exists}
-use Rattle.term_store.specs.Signatures.{AreAllowedFrom, BuildsWithin, IsAllowedCell, Signature, allows, allows_all, allows_atom, allows_gamma, allows_template, number_of_patterns, sorts_of_patterns}
+use Rattle.term_store.specs.Signatures.{Signature, allows, allows_all, allows_atom, allows_gamma, allows_template, number_of_patterns, sorts_of_patterns}
 use Rattle.connection_search.proofs.ClassicalGammas.{IsSpareUse, gammas-spare}
 
 -- ---- the signature of a classical problem
@@ -41,60 +37,9 @@ classical_signature P = record {
   marks = λ p ss. false;
 }
 
-spares-alike : (s : Store) (ss : List Sort) (rs : List ℕ) → HaveSortsAt s ss rs → map (λ r. term (common 0)) rs ≡ map (λ s. term (common 0)) ss
-spares-alike s [] rs have = ap (map (λ r. term (common 0))) have
-spares-alike s (sort ∷ ss) rs (r, qs, e, at, more) = ap (map (λ r. term (common 0))) e ∙ ap (λ vs. term (common 0) ∷ vs) (spares-alike s ss qs more)
-
-allowed_cell-classical : (P : Problem) (s : Store) (c : Cell) → IsAllowedCell (classical_signature P) s c → IsTrue (is_classical_cell P c)
-allowed_cell-classical P s (variable TermSort b) h = refl
-allowed_cell-classical P s (variable MarkSort b) h = h
-allowed_cell-classical P s (variable StringSort b) h = h
-allowed_cell-classical P s (fun_cell f rs) h = h
-allowed_cell-classical P s (eigen_cell p rs) (ss, have, h) = ap (λ vs. is_delta_position P p && fits_way P p vs) (spares-alike s ss rs have) ∙ h
-allowed_cell-classical P s (new_cell p rs) (ss, have, h) = absurd (false≢true h)
-allowed_cell-classical P s (string_cell rs) h = absurd h
-
--- terms and strings have sorts
-values-have : (s : Store) (rs : List ℕ) → IsTrue (list_all (has_value_sort_at s) rs) → (ss : List Sort) × HaveSortsAt s ss rs
-values-have s [] h = ([], refl)
-values-have s (r ∷ rs) h =
-    let w = and_parts (has_value_sort_at s r) (list_all (has_value_sort_at s) rs) h in
-    let (ss, have) = values-have s rs w.1 in
-    let (sort, at) = one (sort_at s r) refl w.0 in
-    (sort ∷ ss, (r, rs, refl, at, have))
-  where
-    one : (o : Option Sort) → sort_at s r ≡ o → IsTrue (option_map_or (sort_eq TermSort) o false || option_map_or (sort_eq StringSort) o false) → (sort : Sort) × (sort_at s r ≡ Some sort)
-    one None e k = absurd (false≢true k)
-    one (Some sort) e k = (sort, e)
-
-classical_cell-allowed : (P : Problem) (s : Store) (c : Cell) → IsTrue (parts_fit s c) → IsTrue (is_classical_cell P c) → IsAllowedCell (classical_signature P) s c
-classical_cell-allowed P s (variable TermSort b) f h = refl
-classical_cell-allowed P s (variable MarkSort b) f h = h
-classical_cell-allowed P s (variable StringSort b) f h = h
-classical_cell-allowed P s (fun_cell g rs) f h = h
-classical_cell-allowed P s (eigen_cell p rs) f h = let (ss, have) = values-have s rs f in (ss, have, ap (λ vs. is_delta_position P p && fits_way P p vs) (sym (spares-alike s ss rs have)) ∙ h)
-classical_cell-allowed P s (new_cell p rs) f h = absurd (false≢true h)
-classical_cell-allowed P s (string_cell rs) f h = absurd (false≢true h)
-
-pub classical-allowed : (P : Problem) (base : ℕ) (s : Store) → IsTrue (is_store s) → IsTrue (is_classical_store P base s) → AreAllowedFrom (classical_signature P) base s
-classical-allowed P base s f h n c l e = classical_cell-allowed P s c (cell-fits s f n c e) (cell-classical P base s h n c l e)
-
-all-from : (q : Cell → Bool) (base : ℕ) (cells : List Cell) → ((n : ℕ) (c : Cell) → base ≤ n → slice_get cells n ≡ Some c → IsTrue (q c)) → IsTrue (list_all q (drop base cells))
-all-from q zero [] h = refl
-all-from q (suc b) [] h = refl
-all-from q zero (c ∷ cs) h = and_from (q c) (list_all q cs) (h 0 c (omega arith) refl) (all-from q zero cs (λ n d l e. h (suc n) d (omega arith) e))
-all-from q (suc b) (c ∷ cs) h = all-from q b cs (λ n d l e. h (suc n) d (omega (arith, l)) e)
-
-pub allowed-classical : (P : Problem) (base : ℕ) (s : Store) → NamesFrom base s → AreAllowedFrom (classical_signature P) base s → IsTrue (is_classical_store P base s)
-allowed-classical P base s n k = all-from (is_own_cell P base) base s.cells (λ i c l e. and_from (is_classical_cell P c) (list_all (nat_le base) (parts_of c)) (allowed_cell-classical P s c (k i c l e)) (n i c l e))
-
--- what was built within the signature over own cells is classical
-pub classical-copied : (P : Problem) (base : ℕ) (old new : Store) (copied : Signature → Bool) → IsTrue (is_store old) → BuildsWithin copied old new → IsTrue (copied (classical_signature P)) → NamesFrom base new → IsTrue (is_classical_store P base old) → IsTrue (is_classical_store P base new)
-classical-copied P base old new copied f w h n k = allowed-classical P base new n (w (classical_signature P) base h (classical-allowed P base old f k))
-
 -- ---- patterns
 
-numbers-alike : (ps : Patterns) → regular.number_of_patterns ps ≡ number_of_patterns ps
+pub numbers-alike : (ps : Patterns) → regular.number_of_patterns ps ≡ number_of_patterns ps
 numbers-alike no_patterns = refl
 numbers-alike (more_patterns p ps) = ap suc (numbers-alike ps)
 

@@ -9,7 +9,7 @@ use Rattle.search_theory.specs.Matrix.{MatrixClause}
 use Rattle.search_theory.specs.States.{CellChoice, CellGoal, cell_goals_on, extended, reduced, started}
 use Rattle.search_theory.proofs.BuildingLaws.{get-kept, get-last}
 use Rattle.search_theory.proofs.StageLaws.{inserted-removed}
-use Rattle.connection_search.specs.Trees.{AreGoals, AreOpen, IsBuiltStep, IsGoal, IsPath, IsTree, atom_at, atom_in, clause_with, fresh_goals, goals_of, inserted, link_from, the_step}
+use Rattle.connection_search.specs.Trees.{AreGoals, AreOpen, HasAtom, IsBuiltStep, IsGoal, IsLinkedStep, IsPath, IsTree, atom_at, atom_in, clause_with, fresh_goals, goals_of, inserted, link_from, the_step}
 use Rattle.term_store.specs.ClauseView.{the_atom}
 use Rattle.term_store.specs.declared.clause.CellAtom as program
 use Rattle.connection_search.specs.declared.tree.Copied.{Copied}
@@ -20,7 +20,7 @@ use Rattle.connection_search.proofs.TreeLaws.{same-item}
 
 -- ---- what was there stays
 
-atom-kept : (steps more : List Step) (g : Goal) (a : CellAtom) → atom_at steps g ≡ Some a → atom_at (steps ++ more) g ≡ Some a
+pub atom-kept : (steps more : List Step) (g : Goal) (a : CellAtom) → atom_at steps g ≡ Some a → atom_at (steps ++ more) g ≡ Some a
 atom-kept steps more g a h = by (slice_get steps g.step) refl h
   where
     by : (o : Option Step) → slice_get steps g.step ≡ o → atom_in g.literal o ≡ Some a → atom_in g.literal (slice_get (steps ++ more) g.step) ≡ Some a
@@ -45,6 +45,21 @@ goals-kept steps more goals others (g ∷ some) xs (x, ys, e, is, rest) = (x, ys
 goals-both : (steps : List Step) (goals some others : List Goal) (xs ys : List CellGoal) → AreGoals steps goals some xs → AreGoals steps goals others ys → AreGoals steps goals (some ++ others) (xs ++ ys)
 goals-both steps goals [] others xs ys h k = subst (λ zs. AreGoals steps goals others (zs ++ ys)) (sym h) k
 goals-both steps goals (g ∷ some) others xs ys (x, zs, e, is, rest) k = (x, zs ++ ys, ap (λ us. us ++ ys) e, is, goals-both steps goals some others zs ys rest k)
+
+pub has-kept : (steps more : List Step) (goals others : List Goal) (i : ℕ) → HasAtom steps goals i → HasAtom (steps ++ more) (goals ++ others) i
+has-kept steps more goals others i (g, a, at, atom) = (g, a, get-kept goals others i g at, atom-kept steps more g a atom)
+
+pub linked-kept : (steps more : List Step) (goals others : List Goal) (step : Step) → IsLinkedStep steps goals step → IsLinkedStep (steps ++ more) (goals ++ others) step
+linked-kept steps more goals others (Start c) h = tt
+linked-kept steps more goals others (Reduce goal up ancestor) h = (has-kept steps more goals others goal h.0, has-kept steps more goals others ancestor h.1)
+linked-kept steps more goals others (Extend goal c place atom) h = has-kept steps more goals others goal h
+
+all-linked : (steps more : List Step) (goals others : List Goal) (some : List Step) (step : Step) → AllByRecursion (IsLinkedStep steps goals) some → IsLinkedStep (steps ++ more) (goals ++ others) step → AllByRecursion (IsLinkedStep (steps ++ more) (goals ++ others)) (some ++ step ∷ [])
+all-linked steps more goals others [] step h k = (k, tt)
+all-linked steps more goals others (x ∷ some) step h k = (linked-kept steps more goals others x h.0, all-linked steps more goals others some step h.1 k)
+
+linked-more : (steps after : List Step) (goals others all : List Goal) (step : Step) → after ≡ steps ++ step ∷ [] → all ≡ goals ++ others → AllByRecursion (IsLinkedStep steps goals) steps → IsLinkedStep steps goals step → AllByRecursion (IsLinkedStep after all) after
+linked-more steps after goals others all step ea el h k = rw (ea, el) (all-linked steps (step ∷ []) goals others steps step h (linked-kept steps (step ∷ []) goals others step k))
 
 -- ---- the goals that come
 
@@ -139,6 +154,7 @@ tree-started m c after all first n g =
     record {
       made = ap (map (the_step m)) g.steps_are;
       built = subst (AllByRecursion (IsBuiltStep m)) (sym g.steps_are) (n, tt);
+      linked = linked-more [] after [] (fresh_goals 0 0 None None 0 0 (length c.copy.literals)) all (Start c) g.steps_are g.goals_are tt tt;
       goals = v.0;
       open_goals = subst (AreOpen after all first) (more-none (cell_goals_on [] c.copy.literals)) v.1;
     }
@@ -155,27 +171,28 @@ leftmost steps goals goal at g gs (i, k, e, stands, is, rest) h =
     record { is_goal = subst (λ (z : Goal). IsGoal steps goals z g) same is; behind = subst (λ (z : Goal). AreOpen steps goals z.behind gs) same rest }
 
 -- an extension
-pub tree-extended : (m : List MatrixClause) (steps : List Step) (goals : List Goal) (goal : ℕ) (at : Goal) (c : Copied) (place : ℕ) (atom : program.CellAtom) (after : List Step) (all : List Goal) (first : Option ℕ) (cs : List CellChoice) (g : CellGoal) (gs every : List CellGoal) (ds : List ℕ) → c.clause.0 < length m → IsTree m steps goals (Some goal) cs (record { open_goals = g ∷ gs; all_goals = every; depths = ds }) → slice_get goals goal ≡ Some at → place ≤ length c.copy.literals → Grows steps goals (Extend c place atom) (Some goal) at.behind (at.depth + 1) after all first → IsTree m after all first (cs ++ the_step m (Extend c place atom) ∷ []) (extended g gs (clause_with m c (inserted place (the_atom atom) c.copy.literals)) place (record { open_goals = g ∷ gs; all_goals = every; depths = ds }))
+pub tree-extended : (m : List MatrixClause) (steps : List Step) (goals : List Goal) (goal : ℕ) (at : Goal) (c : Copied) (place : ℕ) (atom : program.CellAtom) (after : List Step) (all : List Goal) (first : Option ℕ) (cs : List CellChoice) (g : CellGoal) (gs every : List CellGoal) (ds : List ℕ) → c.clause.0 < length m → IsTree m steps goals (Some goal) cs (record { open_goals = g ∷ gs; all_goals = every; depths = ds }) → slice_get goals goal ≡ Some at → place ≤ length c.copy.literals → Grows steps goals (Extend goal c place atom) (Some goal) at.behind (at.depth + 1) after all first → IsTree m after all first (cs ++ the_step m (Extend goal c place atom) ∷ []) (extended g gs (clause_with m c (inserted place (the_atom atom) c.copy.literals)) place (record { open_goals = g ∷ gs; all_goals = every; depths = ds }))
 tree-extended m steps goals goal at c place atom after all first cs g gs every ds n h e l k =
     let q = leftmost steps goals goal at g gs h.open_goals e in
     let d = q.is_goal.depth in
-    let w = grown steps goals (Extend c place atom) (Some goal) at.behind (at.depth + 1) (g.literal ∷ g.path) every gs (goal, at, refl, e, q.is_goal.literal, q.is_goal.path) (omega (arith, d)) h.goals q.behind in
-    let v = carry (steps ++ Extend c place atom ∷ []) after (goals ++ fresh_goals (length steps) (length goals) (Some goal) at.behind (at.depth + 1) 0 (length c.copy.literals)) all (link_from (length goals) at.behind 0 (length c.copy.literals)) first (every ++ cell_goals_on (g.literal ∷ g.path) c.copy.literals) (cell_goals_on (g.literal ∷ g.path) c.copy.literals ++ gs) k.steps_are k.goals_are k.first_is w in
+    let w = grown steps goals (Extend goal c place atom) (Some goal) at.behind (at.depth + 1) (g.literal ∷ g.path) every gs (goal, at, refl, e, q.is_goal.literal, q.is_goal.path) (omega (arith, d)) h.goals q.behind in
+    let v = carry (steps ++ Extend goal c place atom ∷ []) after (goals ++ fresh_goals (length steps) (length goals) (Some goal) at.behind (at.depth + 1) 0 (length c.copy.literals)) all (link_from (length goals) at.behind 0 (length c.copy.literals)) first (every ++ cell_goals_on (g.literal ∷ g.path) c.copy.literals) (cell_goals_on (g.literal ∷ g.path) c.copy.literals ++ gs) k.steps_are k.goals_are k.first_is w in
     let back : c.copy.literals ≡ remove (inserted place (the_atom atom) c.copy.literals) place = sym (inserted-removed place (the_atom atom) c.copy.literals l) in
     record {
-      made = ap (map (the_step m)) k.steps_are ∙ made-more m steps (Extend c place atom) cs h.made;
-      built = subst (AllByRecursion (IsBuiltStep m)) (sym k.steps_are) (built-more m steps (Extend c place atom) h.built (n, l));
+      made = ap (map (the_step m)) k.steps_are ∙ made-more m steps (Extend goal c place atom) cs h.made;
+      built = subst (AllByRecursion (IsBuiltStep m)) (sym k.steps_are) (built-more m steps (Extend goal c place atom) h.built (n, l));
+      linked = linked-more steps after goals (fresh_goals (length steps) (length goals) (Some goal) at.behind (at.depth + 1) 0 (length c.copy.literals)) all (Extend goal c place atom) k.steps_are k.goals_are h.linked (at, g.literal, e, q.is_goal.literal);
       goals = subst (λ ls. AreGoals after all all (every ++ cell_goals_on (g.literal ∷ g.path) ls)) back v.0;
       open_goals = subst (λ ls. AreOpen after all first (cell_goals_on (g.literal ∷ g.path) ls ++ gs)) back v.1;
     }
 
 -- a reduction
-pub tree-reduced : (m : List MatrixClause) (steps : List Step) (goals : List Goal) (goal : ℕ) (at : Goal) (up : ℕ) (after : List Step) (first : Option ℕ) (cs : List CellChoice) (g : CellGoal) (gs every : List CellGoal) (ds : List ℕ) → IsTree m steps goals (Some goal) cs (record { open_goals = g ∷ gs; all_goals = every; depths = ds }) → slice_get goals goal ≡ Some at → after ≡ steps ++ Reduce up ∷ [] → first ≡ at.behind → IsTree m after goals first (cs ++ reduction up ∷ []) (reduced gs (record { open_goals = g ∷ gs; all_goals = every; depths = ds }))
-tree-reduced m steps goals goal at up after first cs g gs every ds h e ea ef =
+pub tree-reduced : (m : List MatrixClause) (steps : List Step) (goals : List Goal) (goal : ℕ) (at : Goal) (up ancestor : ℕ) (after : List Step) (first : Option ℕ) (cs : List CellChoice) (g : CellGoal) (gs every : List CellGoal) (ds : List ℕ) → HasAtom steps goals ancestor → IsTree m steps goals (Some goal) cs (record { open_goals = g ∷ gs; all_goals = every; depths = ds }) → slice_get goals goal ≡ Some at → after ≡ steps ++ Reduce goal up ancestor ∷ [] → first ≡ at.behind → IsTree m after goals first (cs ++ reduction up ∷ []) (reduced gs (record { open_goals = g ∷ gs; all_goals = every; depths = ds }))
+tree-reduced m steps goals goal at up ancestor after first cs g gs every ds w h e ea ef =
     let q = leftmost steps goals goal at g gs h.open_goals e in
     let same = more-none goals in
-    let v = carry (steps ++ Reduce up ∷ []) after goals goals at.behind first every gs ea refl ef (subst (λ zs. AreGoals (steps ++ Reduce up ∷ []) zs goals every) same (goals-kept steps (Reduce up ∷ []) goals [] goals every h.goals), subst (λ zs. AreOpen (steps ++ Reduce up ∷ []) zs at.behind gs) same (open-kept steps (Reduce up ∷ []) goals [] at.behind gs q.behind)) in
-    record { made = ap (map (the_step m)) ea ∙ made-more m steps (Reduce up) cs h.made; built = subst (AllByRecursion (IsBuiltStep m)) (sym ea) (built-more m steps (Reduce up) h.built tt); goals = v.0; open_goals = v.1 }
+    let v = carry (steps ++ Reduce goal up ancestor ∷ []) after goals goals at.behind first every gs ea refl ef (subst (λ zs. AreGoals (steps ++ Reduce goal up ancestor ∷ []) zs goals every) same (goals-kept steps (Reduce goal up ancestor ∷ []) goals [] goals every h.goals), subst (λ zs. AreOpen (steps ++ Reduce goal up ancestor ∷ []) zs at.behind gs) same (open-kept steps (Reduce goal up ancestor ∷ []) goals [] at.behind gs q.behind)) in
+    record { made = ap (map (the_step m)) ea ∙ made-more m steps (Reduce goal up ancestor) cs h.made; built = subst (AllByRecursion (IsBuiltStep m)) (sym ea) (built-more m steps (Reduce goal up ancestor) h.built tt); linked = linked-more steps after goals [] goals (Reduce goal up ancestor) ea (sym same) h.linked ((at, g.literal, e, q.is_goal.literal), w); goals = v.0; open_goals = v.1 }
 
 -- ---- the loop that adds the goals
 

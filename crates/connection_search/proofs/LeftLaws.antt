@@ -16,20 +16,19 @@ use Rattle.calculus.specs.Syntax.{Problem}
 use Rattle.search_theory.specs.Matrix.{IsTemplateMatrix, MatrixClause}
 use Rattle.search_theory.specs.Regular.{HasNoSamePair}
 use Rattle.search_theory.specs.States.{CellChoice, CellGoal, CellGrowth}
-use Rattle.search_theory.proofs.DeepenLaws.{left-by_state, state-more}
-use Rattle.search_theory.proofs.RankLaws.{rank_of}
+use Rattle.search_theory.proofs.DeepenLaws.{state-more}
 use Rattle.term_store.specs.StoreView.{the_mark}
 use Rattle.connection_search.specs.Points.{HasExtensions, IsHere}
 use Rattle.connection_search.specs.Running.{IsAt, IsAtGoal, IsLeftFound, StandsDeep}
-use Rattle.connection_search.specs.Trees.{IsGoalAt}
+use Rattle.connection_search.specs.Trees.{IsGoalAt, tree_system}
 use Rattle.connection_search.specs.declared.point.Point.{Point}
 use Rattle.connection_search.specs.declared.tree.Goal.{Goal}
 use Rattle.connection_search.specs.declared.tree.Step.{Step}
-use Rattle.connection_search.proofs.RunningLaws.{classical-state}
+use Rattle.connection_search.proofs.RunningLaws.{running-left}
 
 -- a regular tree with an extension from a path of as many goals as the limit
 pub left-by_tree : (P : Problem) (m : List MatrixClause) (base d n : ℕ) (c : List Choice) (s : Store) (steps : List Step) (goals : List Goal) (first : Option ℕ) → n ≡ d → StandsDeep P m base (d + 1) c s steps goals first n → ((cs : List CellChoice) (x : CellGrowth) → IsAt P m base (d + 1) c s steps goals first cs x → HasNoSamePair (record { store = s; choices = cs; growth = x })) → IsLeft P d
-left-by_tree P m base d n c s steps goals first e (cs, x, at, deep) new = left-by_state P base d c (record { store = s; choices = cs; growth = x }) (rank_of s) (suc (length s.cells)) at.running.state (classical-state P base (d + 1) c (record { store = s; choices = cs; growth = x }) at.running) (new cs x at) (subst (λ k. IsTrue (list_any (λ i. i == k) x.depths)) e deep)
+left-by_tree P m base d n c s steps goals first e (cs, x, at, deep) new = running-left P base d c (record { store = s; choices = cs; growth = x }) (tree_system m steps goals x.all_goals) at.running (new cs x at) (subst (λ k. IsTrue (list_any (λ i. i == k) x.depths)) e deep)
 
 -- back where the point was made
 pub back-list : {A : Type 0} (n : ℕ) (before after : List A) → n ≡ length before → (more : List A) × (after ≡ before ++ more) → take n after ≡ before
@@ -97,7 +96,7 @@ at-deeper P m base d c s steps goals goal g h =
       every = h.every;
       depths = h.depths;
       at = record {
-        running = record { state = state-more P d (d + 1) c (record { store = s; choices = h.made; growth = record { open_goals = g ∷ h.behind; all_goals = h.every; depths = h.depths } }) (omega arith) r.state; well = r.well; from = r.from; names = r.names; cells = r.cells; open_goals = r.open_goals; goals = r.goals; choices = r.choices };
+        running = record { state = state-more P d (d + 1) c (record { store = s; choices = h.made; growth = record { open_goals = g ∷ h.behind; all_goals = h.every; depths = h.depths } }) (omega arith) r.state; well = r.well; from = r.from; own = r.own; choices = r.choices; open_goals = r.open_goals; goals = r.goals; system = r.system; cells = r.cells; strings = r.strings };
         tree = h.at.tree;
       };
     }

@@ -1,24 +1,29 @@
 -- lists by places
 pub mod Places
-pub mod Stacks
 -- unifying and comparing atoms
 pub mod NewBindingLaws
 pub mod UnifyingLaws
+pub mod DistinctStores
 pub mod SamenessLaws
 pub mod HeadLaws
 -- the tree
 pub mod TreeLaws
+pub mod SeenLaws
 pub mod GrowthLaws
--- ground terms
-pub mod WantedLaws
+pub mod SystemGrowth
+-- the system of the tree
+pub mod GatheringLaws
 -- reading off the tableau
 pub mod ReadingLaws
-pub mod ClosingsLaws
-pub mod InstanceLaws
 -- copies
-pub mod AllowedLaws
 pub mod ClassicalGammas
 pub mod ClassicalCopies
+-- a search's own cells
+pub mod KeptLaws
+pub mod OpenStrings
+pub mod OwnLaws
+pub mod OwnCopies
+-- states
 pub mod RunningLaws
 pub mod PlaceLaws
 -- moves
@@ -27,8 +32,12 @@ pub mod MoveLaws
 pub mod PointLaws
 -- where the limit is left
 pub mod LeftLaws
+-- how many steps were used
+pub mod SpentLaws
 -- visits
 pub mod VisitLaws
+-- lists without open goals
+pub mod DecidingLaws
 -- the loop over the points
 pub mod StackedLaws
 pub mod DeadLaws

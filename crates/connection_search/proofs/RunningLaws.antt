@@ -1,93 +1,119 @@
--- A state of the classical search, and what reductions and extensions make of it.
-use Rattle.std.proofs.Common.{◌≡◌, ◌<◌, ◌≤◌, ℕ, zero, suc, List, [], ◌∷◌, ◌++◌, drop, length, map, Bool, true, false, not, ◌&&◌, ◌||◌, IsTrue, refl, sym, ◌∙◌, ap, subst, Option, None, Some, slice_get, arith, nat_le, nat_lt, le-leb, leb-true, lt-ltb}
+-- A state of the search with its system, and what starts, reductions and extensions make of it.
+use Rattle.std.proofs.Common.{◌≡◌, ◌<◌, ◌≤◌, ◌+◌, ℕ, zero, suc, List, [], ◌∷◌, ◌++◌, length, map, Bool, true, false, not, ◌&&◌, ◌==◌, IsTrue, refl, sym, ◌∙◌, ap, subst, Option, None, Some, slice_get, arith, append-nil, nat_le, nat_lt, le-leb, leb-true}
 use Rattle.std.specs.Prelude.{Contains, remove}
-use Rattle.std.specs.List.{AllByRecursion, list_all}
-use Rattle.std.specs.Option.{option_map_or}
-use Rattle.std.proofs.lemmas.Bool.{and_from, and_parts, false≢true}
-use Rattle.calculus.specs.Bindings.{AddsBuilt, AddsOver, BindsOnly, IsWellFormed, NamesFrom, NamesOver, nothing_more, one_more, places_from, with_cell, with_variables_of}
-use Rattle.calculus.specs.Choices.{Choice, IsLive, extension, reduction, start}
-use Rattle.calculus.specs.Equality.{sign_eq, sort_eq}
-use Rattle.calculus.specs.Patterns.{AreAtomCopies, HaveSortsAt, IsAtomCopy, PatternAtom, Template, atom_is_from, patterns_tree, without_literal}
-use Rattle.calculus.specs.Skolem.{is_empty}
-use Rattle.calculus.specs.Stores.{Cell, Solution, Solves, Store, has_sort_at, has_value_sort_at, is_store, names_below, parts_of, variable}
+use Rattle.std.specs.List.{AllByRecursion, list_all, list_any}
+use Rattle.std.proofs.lemmas.Bool.{and_from, and_parts}
+use Rattle.calculus.specs.Bindings.{AddsBuilt, AddsOver, BindsOnly, IsWellFormed, NamesFrom, NamesOver, is_variable, nothing_more, one_more, places_from, with_cell, with_variables_of}
+use Rattle.calculus.specs.Choices.{Choice, IsLeft, IsLive, extension, growth_of, has_depth, is_opposite, is_regular, is_within, reduction, start}
+use Rattle.calculus.specs.ComputedInstances.{is_instance}
+use Rattle.calculus.specs.Equality.{sign_eq}
+use Rattle.calculus.specs.Patterns.{AreAtomCopies, AreGammaCopies, CopiedClause, HaveSortsAt, IsAtomCopy, IsClauseCopy, PatternAtom, Template, atom_is_from, clause_fits, clause_is_from, gamma_is_from, without_literal}
+use Rattle.calculus.specs.Stores.{Cell, GammaCell, Solution, Solves, Store, eigen_cell, fun_cell, has_sort_at, has_value_sort_at, is_bound, is_store, new_cell, parts_of, string_cell, variable}
 use Rattle.calculus.specs.Syntax.{Problem}
-use Rattle.calculus.specs.Systems.{CellAtom}
-use Rattle.calculus.specs.Templates.{IsTemplateOf}
+use Rattle.calculus.specs.Systems.{CellAtom, System, cells_of, is_cell_atom, is_equation, is_gamma_cell, is_system}
+use Rattle.calculus.specs.Templates.{IsTemplateOf, have_sorts}
 use Rattle.calculus.specs.declared.sign.Side.{Side}
 use Rattle.calculus.specs.declared.sort.Sort.{Sort}
 use Rattle.calculus.specs.declared.sort.Sort.TheVariants.{TermSort, MarkSort, StringSort}
-use Rattle.calculus.proofs.BindingLaws.{HasNoCycle-rank, is_store-with_cell, sorted_cell}
+use Rattle.calculus.proofs.BindingLaws.{is_store-with_cell}
+use Rattle.calculus.proofs.GrowthLaws.{on-some}
 use Rattle.calculus.proofs.PlaceLists.{get-within}
 use Rattle.calculus.proofs.SolutionLaws.{some_solution}
 use Rattle.search_theory.specs.Matrix.{MatrixClause, all_shown}
-use Rattle.search_theory.specs.Regular.{IsClassicalTemplate, are_classical_patterns, is_classical_atom, is_classical_clause, is_classical_goal, is_classical_store, is_own_cell, is_own_term, is_term_sort}
-use Rattle.search_theory.specs.States.{CellChoice, CellClause, CellGoal, IsStateOf, State, atom_is_below, clause_is_below}
-use Rattle.search_theory.specs.Steps.{AreUnified, Clash, IsHeadCopy}
-use Rattle.search_theory.proofs.BelowLaws.{all-weaken}
-use Rattle.search_theory.proofs.BuildingLaws.{AreStores, KeepsBuilt, adds-longer, built_atom-kept, copy-by_cells, get-kept, head-by_cells, is_variable_sort, keeps-plus, length-variables, rest-by_cells, variables-front}
-use Rattle.search_theory.proofs.BuiltClassical.{atom-built}
-use Rattle.search_theory.proofs.ClassicalSteps.{KeepsTerms, built-binds, classical-binds, classical-extended, classical-reduced, classical-started, terms-binds, terms-plus}
-use Rattle.search_theory.proofs.EndLaws.{IsClassicalState}
+use Rattle.search_theory.specs.Regular.{HasNoSamePair}
+use Rattle.search_theory.specs.StateSystems.{Brings, extended_system, pairs_of, reduced_system, started_system, string_cells}
+use Rattle.search_theory.specs.States.{CellChoice, CellClause, CellGoal, IsGround, IsStateOf, State, choice_at, clause_at, cell_goals_on, growth_at, literal_by, new_cell_goals, values_by}
+use Rattle.search_theory.specs.Steps.{AreUnified, Clash, IsExtended, IsFreshClause, IsHeadCopy, IsReduced}
+use Rattle.search_theory.proofs.AtomLaws.{IsAtomIn}
+use Rattle.search_theory.proofs.BelowLaws.{all-join, all-remove, all-weaken}
+use Rattle.search_theory.proofs.BringsLaws.{brings-by_template, uses-built}
+use Rattle.search_theory.proofs.BuildingLaws.{AreStores, AreValueCells, KeepsBuilt, adds-longer, built_atom-kept, copy-by_cells, head-by_cells, is_value_cell, is_variable_sort, length-variables, rest-by_cells, solved-valued, value-cell}
+use Rattle.search_theory.proofs.ClassicalSteps.{built-binds}
+use Rattle.search_theory.proofs.DeepenLaws.{all-of-both}
+use Rattle.search_theory.proofs.DistinctLaws.{AreDistinct}
 use Rattle.search_theory.proofs.ExtensionLaws.{extended_state, no-extension, no-reduction, reduced_state, state-extended, state-reduced, state_at}
+use Rattle.search_theory.proofs.LabelledEnd.{IsChoiceIn, admitted-good}
+use Rattle.search_theory.proofs.LeftLabels.{IsGoalIn, regular-by_distinct}
 use Rattle.search_theory.proofs.MeetingLaws.{cannot-extend-by_clash, cannot-reduce-by_clash, extended-by_stages, reduced-by_unifying}
-use Rattle.search_theory.proofs.RankLaws.{rank_of, ranked-by_no_cycle}
-use Rattle.search_theory.proofs.RegularLaws.{IsClassicalStore, ground-by_spares}
-use Rattle.search_theory.proofs.SpareLaws.{own_value}
+use Rattle.search_theory.proofs.RankLaws.{rank_of}
+use Rattle.search_theory.proofs.RegularLaws.{each-at}
 use Rattle.search_theory.proofs.StageLaws.{copies-inserted, inserted}
-use Rattle.search_theory.proofs.StepLaws.{Grows, live-state, start_state, state-started}
+use Rattle.search_theory.proofs.StepLaws.{Grows, admitted-all, instance-at, live-state, start_state, state-started}
+use Rattle.search_theory.proofs.SystemLaws.{tree-by_state}
+use Rattle.search_theory.proofs.SystemSteps.{pairs-append, pairs-none, system-extended, system-reduced, system-started}
+use Rattle.search_theory.proofs.VariableSorts.{sorts-kept, strings-sorted}
 use Rattle.term_store.specs.Signatures.{BuildsWithin, allows_atom, allows_template}
-use Rattle.connection_search.specs.Running.{IsClassicalMatrix, IsRunning}
-use Rattle.connection_search.proofs.AllowedLaws.{allowed-head, allowed-rest}
-use Rattle.connection_search.proofs.ClassicalCopies.{allowed-classical, classical-allowed, classical-copied, classical_signature, selection-classical, template-allowed}
 use Rattle.term_store.proofs.FitLaws.{have-new}
-use Rattle.term_store.proofs.SignatureLaws.{allowed-binds}
-
-store-classical : (P : Problem) (base : ℕ) (s : Store) → IsWellFormed s → IsTrue (is_classical_store P base s) → IsClassicalStore P base s (rank_of s) (suc (length s.cells))
-store-classical P base s w h = record { store = w.fits; classical = h; ranked = ranked-by_no_cycle s w.fits (HasNoCycle-rank s w.rank) }
-
-pub classical-state : (P : Problem) (base d : ℕ) (c : List Choice) (S : State) → IsRunning P base d c S → IsClassicalState P base S (rank_of S.store) (suc (length S.store.cells))
-classical-state P base d c S h = record { store = store-classical P base S.store h.well h.cells; open_goals = h.open_goals; goals = h.goals; choices = h.choices }
-
-running : (P : Problem) (base d : ℕ) (c : List Choice) (S : State) → IsStateOf P d c S → IsWellFormed S.store → base ≤ length S.store.cells → NamesFrom base S.store → IsClassicalState P base S (rank_of S.store) (suc (length S.store.cells)) → IsRunning P base d c S
-running P base d c S h w l n k = record { state = h; well = w; from = l; names = n; cells = k.store.classical; open_goals = k.open_goals; goals = k.goals; choices = k.choices }
+use Rattle.connection_search.specs.OwnStores.{AreOwn}
+use Rattle.connection_search.specs.Running.{IsMatrixOf, IsRunning}
+use Rattle.connection_search.proofs.DistinctStores.{distinct-own, well-ranked}
+use Rattle.connection_search.proofs.KeptLaws.{KeepsSorts, args-from, atom-in, atom-there, atom_in-kept, atoms-equation, atoms-in, choices_in-kept, clause-in, clause-there, goal_in-kept, goals_in-kept, goals_in-on, is_equation_from, label-from, system-added, variables-valued, with_added}
+use Rattle.connection_search.proofs.OpenStrings.{AreNamed, KeepsCells, cells-built, cells-copied, named-bound, named-built, named-none, named-variables, sorts-both, sorts-of_bound, sorts-of_cells}
+use Rattle.connection_search.proofs.OwnCopies.{Allowed, IsOwnTemplate, allowed-head, allowed-rest, allowed-whole, own-copied, template-own}
+use Rattle.connection_search.proofs.OwnLaws.{own-binds, own-names, own-none}
 
 -- ---- reductions
 
-pub running-reduced : (P : Problem) (base d : ℕ) (c : List Choice) (old new : Store) (cs : List CellChoice) (g : CellGoal) (gs every : List CellGoal) (ds : List ℕ) (k : ℕ) (a : CellAtom) → IsRunning P base d c (state_at old cs g gs every ds) → slice_get g.path k ≡ Some a → IsTrue (not (sign_eq g.literal.sign a.sign)) → g.literal.symbol ≡ a.symbol → AreUnified old new g.literal.args a.args → BindsOnly old new → NamesFrom base new → IsWellFormed new → IsRunning P base d (c ++ reduction (suc k) ∷ []) (reduced_state new cs gs every ds (suc k))
-running-reduced P base d c old new cs g gs every ds k a h at sign symbol unified binds names well =
-    running P base d (c ++ reduction (suc k) ∷ []) (reduced_state new cs gs every ds (suc k))
-    (state-reduced P d c old new cs g gs every ds (suc k) h.state (reduced-by_unifying old new g a k at sign symbol unified))
-    well
-    (let l = h.from in let s = binds.same_length in omega (arith, l, s))
-    names
-    (classical-reduced P base old new cs g gs every ds (suc k) (rank_of old) (rank_of new) (suc (length old.cells)) (suc (length new.cells)) (classical-state P base d c (state_at old cs g gs every ds) h) (terms-binds old new binds) (store-classical P base new well (classical-binds P base old new binds names h.cells)))
+goal-in : (P : Problem) (base d : ℕ) (c : List Choice) (s : Store) (cs : List CellChoice) (g : CellGoal) (gs every : List CellGoal) (ds : List ℕ) (y : System) → IsRunning P base d c (state_at s cs g gs every ds) y → IsGoalIn (λ r. base ≤ r) s g
+goal-in P base d c s cs g gs every ds y h = h.open_goals.0
 
-pub no-reduction-by_clash : (P : Problem) (base d : ℕ) (c : List Choice) (s : Store) (cs : List CellChoice) (g : CellGoal) (gs every : List CellGoal) (ds : List ℕ) (k : ℕ) (a : CellAtom) → IsRunning P base d c (state_at s cs g gs every ds) → slice_get g.path k ≡ Some a → Clash s g.literal.args a.args → ¬ Grows P (c ++ reduction (suc k) ∷ [])
-no-reduction-by_clash P base d c s cs g gs every ds k a h at clash = no-reduction P d c s cs g gs every ds (suc k) h.state (cannot-reduce-by_clash s g a k at clash)
+labels-added : (base : ℕ) (s : Store) (a b : CellAtom) → IsAtomIn (λ r. base ≤ r) s a → IsAtomIn (λ r. base ≤ r) s b → IsTrue (list_all (is_equation s) (record { left = a.label; right = b.label } ∷ [])) × IsTrue (list_all (is_equation_from base) (record { left = a.label; right = b.label } ∷ []))
+labels-added base s a b h k = (
+  and_from (is_equation s (record { left = a.label; right = b.label })) true (atoms-equation s a b h.sorted k.sorted) refl,
+  and_from (is_equation_from base (record { left = a.label; right = b.label })) true (all-join (nat_le base) a.label b.label (label-from base s a h) (label-from base s b k)) refl,
+)
 
--- ---- cells that are kept
+reduced-added : (y : System) (g : CellAtom) (a : CellAtom) (every : List CellGoal) → y.pairs ≡ pairs_of every → reduced_system y g a ≡ with_added y (record { left = g.label; right = a.label } ∷ []) [] [] y.pis (pairs_of every)
+reduced-added y g a every e = λ i. record {
+  equations = y.equations ++ record { left = g.label; right = a.label } ∷ [];
+  strings = sym (append-nil y.strings) i;
+  pis = y.pis;
+  gammas = sym (append-nil y.gammas) i;
+  pairs = e i;
+}
 
-abbrev Kept : Store → Store → Type 0
-Kept old new = (r : ℕ) (c : Cell) → slice_get old.cells r ≡ Some c → slice_get new.cells r ≡ Some c
+pub running-reduced : (P : Problem) (base d : ℕ) (c : List Choice) (old new : Store) (cs : List CellChoice) (g : CellGoal) (gs every : List CellGoal) (ds : List ℕ) (k : ℕ) (a : CellAtom) (y : System) → IsRunning P base d c (state_at old cs g gs every ds) y → slice_get g.path k ≡ Some a → IsTrue (not (sign_eq g.literal.sign a.sign)) → g.literal.symbol ≡ a.symbol → AreUnified old new g.literal.args a.args → BindsOnly old new → NamesFrom base new → IsWellFormed new → IsRunning P base d (c ++ reduction (suc k) ∷ []) (reduced_state new cs gs every ds (suc k)) (reduced_system y g.literal a)
+running-reduced P base d c old new cs g gs every ds k a y h at sign symbol unified binds names well = record {
+  state = state-reduced P d c old new cs g gs every ds (suc k) h.state met;
+  well = well;
+  from = (let l = h.from in let s = binds.same_length in omega (arith, l, s));
+  own = own-binds P base old new h.well.fits binds names h.own;
+  choices = all-of-both (IsChoiceIn (λ r. base ≤ r) new) cs (reduction (suc k) ∷ []) (choices_in-kept (λ r. base ≤ r) old new kept cs h.choices) (tt, tt);
+  open_goals = goals_in-kept (λ r. base ≤ r) old new kept gs h.open_goals.1;
+  goals = goals;
+  system = system-reduced P d c old new cs g gs every ds k a y (tree-by_state P d c (state_at old cs g gs every ds) h.state) h.system met at (subst (λ z. IsTrue (is_system new z)) (sym same) added.0);
+  cells = subst (λ z. IsTrue (list_all (nat_le base) (cells_of z))) (sym same) added.1;
+  strings = named-bound base old new y.strings binds h.strings;
+}
+  where
+    met : IsReduced old new g (suc k)
+    met = reduced-by_unifying old new g a k at sign symbol unified
 
-kept-built : (s t : Store) → AddsBuilt s t → Kept s t
-kept-built s _ nothing_more r c e = e
-kept-built s t (one_more b i f v rest) r c e = kept-built (with_cell b s) t rest r c (get-kept s.cells (b ∷ []) r c e)
+    kept : KeepsSorts old new
+    kept = sorts-of_bound old new binds
 
-kept-variables : (sorts : List Sort) (s : Store) → Kept s (with_variables_of sorts s)
-kept-variables sorts s r c e = variables-front sorts s r c e
+    goals : AllByRecursion (IsGoalIn (λ r. base ≤ r) new) every
+    goals = goals_in-kept (λ r. base ≤ r) old new kept every h.goals
 
-pub terms-built : (s t : Store) → AddsBuilt s t → KeepsTerms s t
-terms-built s _ nothing_more r h = h
-terms-built s t (one_more b i f v rest) r h = terms-built (with_cell b s) t rest r (terms-plus s b r h)
+    here : IsGoalIn (λ r. base ≤ r) new g
+    here = goal_in-kept (λ r. base ≤ r) old new kept g (goal-in P base d c old cs g gs every ds y h)
 
-pub terms-variables : (sorts : List Sort) (s : Store) → KeepsTerms s (with_variables_of sorts s)
-terms-variables [] s r h = h
-terms-variables (sort ∷ sorts) s r h = terms-variables sorts (with_cell (variable sort None) s) r (terms-plus s (variable sort None) r h)
+    labels : IsTrue (list_all (is_equation new) (record { left = g.literal.label; right = a.label } ∷ [])) × IsTrue (list_all (is_equation_from base) (record { left = g.literal.label; right = a.label } ∷ []))
+    labels = labels-added base new g.literal a here.literal (each-at (IsAtomIn (λ r. base ≤ r) new) g.path k a here.path at)
+
+    same : reduced_system y g.literal a ≡ with_added y (record { left = g.literal.label; right = a.label } ∷ []) [] [] y.pis (pairs_of every)
+    same = reduced-added y g.literal a every h.system.pairs
+
+    added : IsTrue (is_system new (with_added y (record { left = g.literal.label; right = a.label } ∷ []) [] [] y.pis (pairs_of every))) × IsTrue (list_all (nat_le base) (cells_of (with_added y (record { left = g.literal.label; right = a.label } ∷ []) [] [] y.pis (pairs_of every))))
+    added = system-added base old new y (record { left = g.literal.label; right = a.label } ∷ []) [] [] y.pis every kept h.system.well h.cells (record { equations_fit = labels.0; equations_from = labels.1; strings_fit = refl; strings_from = refl; gammas_fit = refl; gammas_from = refl }) goals
+
+pub no-reduction-by_clash : (P : Problem) (base d : ℕ) (c : List Choice) (s : Store) (cs : List CellChoice) (g : CellGoal) (gs every : List CellGoal) (ds : List ℕ) (k : ℕ) (a : CellAtom) (y : System) → IsRunning P base d c (state_at s cs g gs every ds) y → slice_get g.path k ≡ Some a → Clash s g.literal.args a.args → ¬ Grows P (c ++ reduction (suc k) ∷ [])
+no-reduction-by_clash P base d c s cs g gs every ds k a y h at clash = no-reduction P d c s cs g gs every ds (suc k) h.state (cannot-reduce-by_clash s g a k at clash)
+
+-- ---- stores that are copied
 
 keeps-built : (s t : Store) → AddsBuilt s t → KeepsBuilt s t
-keeps-built s _ nothing_more n c b e = e
-keeps-built s t (one_more k i f v rest) n c b e = keeps-built (with_cell k s) t rest n c b (keeps-plus s k n c b e)
+keeps-built s t built n c b e = cells-built s t built n c e
 
 nothing-there : {A : Type 0} (xs : List A) (n : ℕ) → slice_get xs n ≡ None → length xs ≤ n
 nothing-there [] n e = omega arith
@@ -98,7 +124,7 @@ from-lower : (m n : ℕ) → m ≤ n → (rs : List ℕ) → IsTrue (list_all (n
 from-lower m n l = all-weaken (nat_le n) (nat_le m) (λ r h. let q = leb-true n r h in le-leb m r (omega (arith, l, q)))
 
 -- new cells that name new ones alone leave the search's own cells
-names-longer : (base : ℕ) (old new : Store) → Kept old new → base ≤ length old.cells → NamesFrom base old → NamesFrom (length old.cells) new → NamesFrom base new
+names-longer : (base : ℕ) (old new : Store) → KeepsCells old new → base ≤ length old.cells → NamesFrom base old → NamesFrom (length old.cells) new → NamesFrom base new
 names-longer base old new k l h g n c low e = by (slice_get old.cells n) refl
   where
     by : (o : Option Cell) → slice_get old.cells n ≡ o → IsTrue (list_all (nat_le base) (parts_of c))
@@ -112,60 +138,74 @@ stores-of : (sorts : List Sort) (s : Store) → IsTrue (is_store s) → AreStore
 stores-of [] s h = h
 stores-of (sort ∷ sorts) s h = (h, stores-of sorts (with_cell (variable sort None) s) (is_store-with_cell (variable sort None) s h refl refl))
 
-term-sorts : (sorts : List Sort) → IsTrue (list_all is_term_sort sorts) → IsTrue (list_all is_variable_sort sorts)
-term-sorts [] h = refl
-term-sorts (TermSort ∷ sorts) h = term-sorts sorts h
-term-sorts (MarkSort ∷ sorts) h = absurd (false≢true h)
-term-sorts (StringSort ∷ sorts) h = absurd (false≢true h)
+-- before the built cells, and behind them
+store-before : (s t : Store) → AddsBuilt s t → IsTrue (is_store t) → IsTrue (is_store s)
+store-before s _ nothing_more h = h
+store-before s t (one_more c i f b rest) h = i
 
-terms-have : (s : Store) (sorts : List Sort) (rs : List ℕ) → HaveSortsAt s sorts rs → IsTrue (list_all is_term_sort sorts) → IsTrue (list_all (has_sort_at s TermSort) rs)
-terms-have s [] rs h k = ap (list_all (has_sort_at s TermSort)) h
-terms-have s (TermSort ∷ sorts) rs (r, qs, e, at, rest) k = ap (list_all (has_sort_at s TermSort)) e ∙ and_from (has_sort_at s TermSort r) (list_all (has_sort_at s TermSort) qs) (ap (λ o. option_map_or (sort_eq TermSort) o false) at) (terms-have s sorts qs rest k)
-terms-have s (MarkSort ∷ sorts) rs h k = absurd (false≢true k)
-terms-have s (StringSort ∷ sorts) rs h k = absurd (false≢true k)
+not-bound : (c : Cell) → is_variable c ≡ false → is_bound c ≡ false
+not-bound (variable sort b) e = let z : true ≡ false = e in absurd (cc z)
+not-bound (fun_cell f rs) e = refl
+not-bound (eigen_cell p rs) e = refl
+not-bound (new_cell p rs) e = refl
+not-bound (string_cell rs) e = refl
 
-sorted-below : (s : Store) (rs : List ℕ) → IsTrue (list_all (has_sort_at s TermSort) rs) → IsTrue (names_below (length s.cells) rs)
-sorted-below s = all-weaken (has_sort_at s TermSort) (λ r. nat_lt r (length s.cells)) (λ r h. let t = sorted_cell s TermSort r h in lt-ltb r (length s.cells) (get-within s.cells r t.0 t.1))
+store-behind : (s t : Store) → AddsBuilt s t → IsTrue (is_store s) → IsTrue (is_store t)
+store-behind s _ nothing_more h = h
+store-behind s t (one_more c i f b rest) h = store-behind (with_cell c s) t rest (is_store-with_cell c s i f (not-bound c b))
 
-value-sorted : (s : Store) (rs : List ℕ) → IsTrue (list_all (has_sort_at s TermSort) rs) → IsTrue (list_all (has_value_sort_at s) rs)
-value-sorted s = all-weaken (has_sort_at s TermSort) (has_value_sort_at s) (λ r h. by (has_sort_at s TermSort r) (has_sort_at s StringSort r) h)
-  where
-    by : (a b : Bool) → IsTrue a → IsTrue (a || b)
-    by true b h = refl
-    by false b h = absurd (false≢true h)
+store-variables : (sorts : List Sort) (s : Store) → IsTrue (is_store s) → IsTrue (is_store (with_variables_of sorts s))
+store-variables [] s h = h
+store-variables (sort ∷ sorts) s h = store-variables sorts (with_cell (variable sort None) s) (is_store-with_cell (variable sort None) s h refl refl)
 
 places-from_base : (base n k : ℕ) → base ≤ n → IsTrue (list_all (nat_le base) (places_from n k))
 places-from_base base n zero l = refl
 places-from_base base n (suc k) l = and_from (nat_le base n) (list_all (nat_le base) (places_from (suc n) k)) (le-leb base n l) (places-from_base base (suc n) k (omega (arith, l)))
 
+atom-lower : (m n : ℕ) → m ≤ n → (a : CellAtom) → IsTrue (atom_is_from n a) → IsTrue (atom_is_from m a)
+atom-lower m n l a h =
+    let w = and_parts (list_all (nat_le n) a.args) (list_all (nat_le n) a.label) h in
+    and_from (list_all (nat_le m) a.args) (list_all (nat_le m) a.label) (from-lower m n l a.args w.0) (from-lower m n l a.label w.1)
+
 -- ---- clauses
 
-own-args : (base : ℕ) (a : CellAtom) → IsTrue (atom_is_from base a) → IsTrue (list_all (nat_le base) a.args)
-own-args base a h = (and_parts (list_all (nat_le base) a.args) (list_all (nat_le base) a.label) h).0
+-- the parts of a copied clause
+record ClauseParts (base : ℕ) (s : Store) (clause : CopiedClause) : Type 0 where
+  pub literals : IsTrue (list_all (is_cell_atom s) clause.literals)
+  pub gammas : IsTrue (list_all (is_gamma_cell s) clause.gammas)
+  pub literals_from : IsTrue (list_all (atom_is_from base) clause.literals)
+  pub gammas_from : IsTrue (list_all (gamma_is_from base) clause.gammas)
 
-atoms-built : (P : Problem) (base : ℕ) (s : Store) (vs : List ℕ) → IsTrue (list_all (has_sort_at s TermSort) vs) → (ps : List PatternAtom) (xs : List CellAtom) → IsTrue (list_all (λ (a : PatternAtom). are_classical_patterns P (patterns_tree a.args) && is_empty a.label) ps) → AreAtomCopies s vs ps xs → IsTrue (list_all (atom_is_from base) xs) → IsTrue (list_all (is_classical_atom base s) xs)
-atoms-built P base s vs v [] xs h k l = ap (list_all (is_classical_atom base s)) k
-atoms-built P base s vs v (p ∷ ps) xs h (a, ys, e, copy, rest) l =
-    let w = and_parts (are_classical_patterns P (patterns_tree p.args) && is_empty p.label) (list_all (λ (q : PatternAtom). are_classical_patterns P (patterns_tree q.args) && is_empty q.label) ps) h in
-    let m = and_parts (atom_is_from base a) (list_all (atom_is_from base) ys) (subst (λ zs. IsTrue (list_all (atom_is_from base) zs)) e l) in
-    ap (list_all (is_classical_atom base s)) e ∙ and_from (is_classical_atom base s a) (list_all (is_classical_atom base s) ys) (atom-built P base s vs v p a w.0 copy (own-args base a m.0)) (atoms-built P base s vs v ps ys w.1 rest m.1)
+clause-parts : (base : ℕ) (s : Store) (clause : CopiedClause) → IsTrue (clause_fits s clause) → IsTrue (clause_is_from base clause) → ClauseParts base s clause
+clause-parts base s clause h k =
+    let a = and_parts (list_all (is_cell_atom s) clause.literals && list_all (has_sort_at s StringSort) clause.strings) (list_all (is_gamma_cell s) clause.gammas) h in
+    let b = and_parts (list_all (is_cell_atom s) clause.literals) (list_all (has_sort_at s StringSort) clause.strings) a.0 in
+    let m = and_parts (list_all (atom_is_from base) clause.literals && list_all (nat_le base) clause.strings) (list_all (gamma_is_from base) clause.gammas) k in
+    let n = and_parts (list_all (atom_is_from base) clause.literals) (list_all (nat_le base) clause.strings) m.0 in
+    record { literals = b.0; gammas = a.1; literals_from = n.0; gammas_from = m.1 }
 
-atom-below : (base : ℕ) (s : Store) (a : CellAtom) → IsTrue (is_classical_atom base s a) → IsTrue (atom_is_below (length s.cells) a)
-atom-below base s a h =
-    let w = and_parts (list_all (is_own_term base s) a.args) (is_empty a.label) h in
-    and_from (names_below (length s.cells) a.args) (names_below (length s.cells) a.label) (sorted-below s a.args (all-weaken (is_own_term base s) (has_sort_at s TermSort) (λ r q. (and_parts (nat_le base r) (has_sort_at s TermSort r) q).1) a.args w.0)) (by a.label w.1)
+-- the strings among the clause's variables
+strings-from : (base : ℕ) (sorts : List Sort) (rs : List ℕ) → IsTrue (list_all (nat_le base) rs) → IsTrue (list_all (nat_le base) (string_cells sorts rs))
+strings-from base [] rs h = refl
+strings-from base (sort ∷ sorts) [] h = refl
+strings-from base (sort ∷ sorts) (r ∷ rs) h =
+    let w = and_parts (nat_le base r) (list_all (nat_le base) rs) h in
+    by sort w.0 (strings-from base sorts rs w.1)
   where
-    by : (rs : List ℕ) → IsTrue (is_empty rs) → IsTrue (names_below (length s.cells) rs)
-    by [] h = refl
-    by (r ∷ rs) h = absurd (false≢true h)
+    by : (x : Sort) → IsTrue (nat_le base r) → IsTrue (list_all (nat_le base) (string_cells sorts rs)) → IsTrue (list_all (nat_le base) (string_cells (x ∷ sorts) (r ∷ rs)))
+    by TermSort a b = b
+    by MarkSort a b = b
+    by StringSort a b = and_from (nat_le base r) (list_all (nat_le base) (string_cells sorts rs)) a b
 
--- a clause over terms that are its variables is classical, and names cells of the store
-clause-built : (P : Problem) (base : ℕ) (s : Store) (i : CellClause) (t : Template) → IsClassicalTemplate P t → IsTrue (list_all (nat_le base) i.values) → IsTrue (list_all (has_sort_at s TermSort) i.values) → AreAtomCopies s i.values t.literals i.literals → IsTrue (list_all (atom_is_from base) i.literals) → IsTrue (is_classical_clause base s i) × IsTrue (clause_is_below (length s.cells) i)
-clause-built P base s i t k l v copies own =
-    let atoms = atoms-built P base s i.values v t.literals i.literals k.literals copies own in (
-      and_from (list_all (nat_le base) i.values) (list_all (is_classical_atom base s) i.literals) l atoms,
-      and_from (names_below (length s.cells) i.values) (list_all (atom_is_below (length s.cells)) i.literals) (sorted-below s i.values v) (all-weaken (is_classical_atom base s) (atom_is_below (length s.cells)) (atom-below base s) i.literals atoms),
-    )
+value-cells : (s : Store) (σ : Solution) → Solves s σ → (rs : List ℕ) → IsTrue (list_all (has_value_sort_at s) rs) → AreValueCells σ rs
+value-cells s σ h = all-weaken (has_value_sort_at s) (λ r. is_value_cell (σ r)) (λ r k. value-cell (σ r) (solved-valued s σ h r k))
+
+-- what a clause over these variables brings
+clause-brings : (P : Problem) (s : Store) (sides : List Side) (t : Template) (i : CellClause) (gammas : List GammaCell) → IsTemplateOf P sides t → i.selection ≡ sides → HaveSortsAt s t.sorts i.values → IsTrue (list_all is_variable_sort t.sorts) → ((σ : Solution) → Solves s σ → IsTrue (have_sorts t.sorts (values_by σ i.values))) → AreGammaCopies s i.values t.gammas gammas → IsTrue (list_all (is_gamma_cell s) gammas) → Brings P s i (string_cells t.sorts i.values) gammas t.pis
+clause-brings P s sides t i gammas template selection have sorts values copies fit =
+    brings-by_template P s sides t i gammas template selection values
+    (λ σ h. uses-built s σ h i.values (value-cells s σ h i.values (variables-valued s t.sorts i.values have sorts)) t.gammas gammas fit copies)
+    (strings-sorted s t.sorts i.values have) fit
 
 -- ---- extensions
 
@@ -175,6 +215,7 @@ pub record HeadCopied (old mid : Store) (t : Template) (place : ℕ) (vs : List 
   pub variables : vs ≡ places_from (length old.cells) (length t.sorts)
   pub have : HaveSortsAt mid t.sorts vs
   pub copy : IsAtomCopy mid vs p b
+  pub sorted : IsTrue (is_cell_atom mid b)
   pub own : IsTrue (atom_is_from (length old.cells) b)
   pub names : NamesFrom (length old.cells) mid
   pub built : AddsBuilt (with_variables_of t.sorts old) mid
@@ -187,16 +228,12 @@ pub record HeadMet (mid met : Store) (xs ys : List ℕ) : Type 0 where
   pub names : (base : ℕ) → NamesFrom base mid → IsTrue (list_all (nat_le base) xs) → IsTrue (list_all (nat_le base) ys) → NamesFrom base met
 
 -- what copying the other literals gives
-pub record RestCopied (met new : Store) (t : Template) (place : ℕ) (vs : List ℕ) (others : List CellAtom) : Type 0 where
-  pub copies : AreAtomCopies new vs (remove t.literals place) others
-  pub own : NamesOver vs (length met.cells) (λ base. list_all (atom_is_from base) others)
+pub record RestCopied (met new : Store) (t : Template) (place : ℕ) (vs : List ℕ) (clause : CopiedClause) : Type 0 where
+  pub copy : IsClauseCopy new vs (without_literal place t) clause
+  pub sorted : IsTrue (clause_fits new clause)
+  pub own : NamesOver vs (length met.cells) (λ base. clause_is_from base clause)
   pub adds : AddsOver vs met new
   pub within : BuildsWithin (λ g. allows_template g (without_literal place t)) met new
-
-atom-lower : (m n : ℕ) → m ≤ n → (a : CellAtom) → IsTrue (atom_is_from n a) → IsTrue (atom_is_from m a)
-atom-lower m n l a h =
-    let w = and_parts (list_all (nat_le n) a.args) (list_all (nat_le n) a.label) h in
-    and_from (list_all (nat_le m) a.args) (list_all (nat_le m) a.label) (from-lower m n l a.args w.0) (from-lower m n l a.label w.1)
 
 all-inserted : (q : CellAtom → Bool) (place : ℕ) (a : CellAtom) (xs : List CellAtom) → IsTrue (q a) → IsTrue (list_all q xs) → IsTrue (list_all q (inserted place a xs))
 all-inserted q zero a xs h k = and_from (q a) (list_all q xs) h k
@@ -205,50 +242,72 @@ all-inserted q (suc n) a (x ∷ xs) h k =
     let w = and_parts (q x) (list_all q xs) k in
     and_from (q x) (list_all q (inserted n a xs)) w.0 (all-inserted q n a xs h w.1)
 
-goal-own : (base : ℕ) (s : Store) (a : CellAtom) → IsTrue (is_classical_atom base s a) → IsTrue (list_all (nat_le base) a.args)
-goal-own base s a h = all-weaken (is_own_term base s) (nat_le base) (λ r q. (and_parts (nat_le base r) (has_sort_at s TermSort r) q).0) a.args (and_parts (list_all (is_own_term base s) a.args) (is_empty a.label) h).0
+inserted-at : (place : ℕ) (a : CellAtom) (xs : List CellAtom) → place ≤ length xs → slice_get (inserted place a xs) place ≡ Some a
+inserted-at zero a xs l = refl
+inserted-at (suc n) a [] l = absurd (omega (arith, l))
+inserted-at (suc n) a (x ∷ xs) l = inserted-at n a xs (omega (arith, l))
 
--- the literal of the leftmost open goal
-leftmost-classical : (P : Problem) (base d : ℕ) (c : List Choice) (s : Store) (cs : List CellChoice) (g : CellGoal) (gs every : List CellGoal) (ds : List ℕ) → IsRunning P base d c (state_at s cs g gs every ds) → IsTrue (is_classical_atom base s g.literal)
-leftmost-classical P base d c s cs g gs every ds h = (and_parts (is_classical_atom base s g.literal) (list_all (is_classical_atom base s) g.path) (and_parts (is_classical_goal base s g) (list_all (is_classical_goal base s) gs) h.open_goals).0).0
+-- how many other literals there are
+copies-count : (s : Store) (vs : List ℕ) (ps : List PatternAtom) (xs : List CellAtom) → AreAtomCopies s vs ps xs → length xs ≡ length ps
+copies-count s vs [] xs h = ap length h
+copies-count s vs (p ∷ ps) xs (x, ys, e, copy, rest) = ap length e ∙ ap suc (copies-count s vs ps ys rest)
 
-head-copy : (P : Problem) (old mid : Store) (t : Template) (place : ℕ) (vs : List ℕ) (p : PatternAtom) (b : CellAtom) → IsTrue (is_store old) → IsClassicalTemplate P t → HeadCopied old mid t place vs p b → IsHeadCopy old mid t vs p b
-head-copy P old mid t place vs p b w k h = subst (λ v. IsHeadCopy old mid t v p b) (sym h.variables) (head-by_cells old mid t p b (stores-of t.sorts old w) (term-sorts t.sorts k.sorts) h.built (subst (λ v. IsAtomCopy mid v p b) h.variables h.copy))
+removed-count : (ps : List PatternAtom) (k : ℕ) → k < length ps → suc (length (remove ps k)) ≡ length ps
+removed-count [] k l = absurd (omega (arith, l))
+removed-count (p ∷ ps) zero l = refl
+removed-count (p ∷ ps) (suc k) l = ap suc (removed-count ps k (omega (arith, l)))
+
+pub others-room : (s : Store) (vs : List ℕ) (ps : List PatternAtom) (xs : List CellAtom) (k : ℕ) → AreAtomCopies s vs (remove ps k) xs → k < length ps → k ≤ length xs
+others-room s vs ps xs k h l =
+    let a = copies-count s vs (remove ps k) xs h in
+    let b = removed-count ps k l in
+    omega (arith, a, b, l)
+
+head-copy : (old mid : Store) (t : Template) (place : ℕ) (vs : List ℕ) (p : PatternAtom) (b : CellAtom) → IsTrue (is_store old) → IsTrue (list_all is_variable_sort t.sorts) → HeadCopied old mid t place vs p b → IsHeadCopy old mid t vs p b
+head-copy old mid t place vs p b w k h = subst (λ v. IsHeadCopy old mid t v p b) (sym h.variables) (head-by_cells old mid t p b (stores-of t.sorts old w) k h.built (subst (λ v. IsAtomCopy mid v p b) h.variables h.copy))
 
 -- where the connected literal cannot be met, no tree follows the extension
-pub no-extension-by_clash : (P : Problem) (base d : ℕ) (c : List Choice) (old mid : Store) (cs : List CellChoice) (g : CellGoal) (gs every : List CellGoal) (ds : List ℕ) (sides : List Side) (t : Template) (place : ℕ) (vs : List ℕ) (p : PatternAtom) (b : CellAtom) → IsRunning P base d c (state_at old cs g gs every ds) → IsTemplateOf P sides t → IsClassicalTemplate P t → HeadCopied old mid t place vs p b → Clash mid g.literal.args b.args → ¬ Grows P (c ++ extension sides place ∷ [])
-no-extension-by_clash P base d c old mid cs g gs every ds sides t place vs p b h template k head clash =
-    no-extension P d c old cs g gs every ds sides t place h.state template (cannot-extend-by_clash old mid t vs g.literal p b place (head-copy P old mid t place vs p b h.well.fits k head) head.stands clash (atom-below base old g.literal (leftmost-classical P base d c old cs g gs every ds h)))
+pub no-extension-by_clash : (P : Problem) (base d : ℕ) (c : List Choice) (old mid : Store) (cs : List CellChoice) (g : CellGoal) (gs every : List CellGoal) (ds : List ℕ) (sides : List Side) (t : Template) (place : ℕ) (vs : List ℕ) (p : PatternAtom) (b : CellAtom) (y : System) → IsRunning P base d c (state_at old cs g gs every ds) y → IsTemplateOf P sides t → IsTrue (list_all is_variable_sort t.sorts) → HeadCopied old mid t place vs p b → Clash mid g.literal.args b.args → ¬ Grows P (c ++ extension sides place ∷ [])
+no-extension-by_clash P base d c old mid cs g gs every ds sides t place vs p b y h template sorts head clash =
+    no-extension P d c old cs g gs every ds sides t place h.state template (cannot-extend-by_clash old mid t vs g.literal p b place (head-copy old mid t place vs p b h.well.fits sorts head) head.stands clash (atom-there old g.literal (goal-in P base d c old cs g gs every ds y h).literal.sorted))
 
 -- the stores of an extension, one after the other
-record Stages (P : Problem) (base : ℕ) (old met new : Store) (vs : List ℕ) : Type 0 where
-  pub from : base ≤ length met.cells
-  pub longer : base ≤ length new.cells
-  pub own : IsTrue (list_all (nat_le base) vs)
-  pub names : NamesFrom base new
-  pub classical : IsTrue (is_classical_store P base new)
-  pub terms : IsTrue (list_all (has_sort_at new TermSort) vs)
-  pub kept : KeepsTerms old new
+record Stages (P : Problem) (base : ℕ) (old met new : Store) (t : Template) (vs strings : List ℕ) : Type 0 where
+  from : base ≤ length met.cells
+  longer : base ≤ length new.cells
+  variables : IsTrue (list_all (nat_le base) vs)
+  own : AreOwn P base new
+  have : HaveSortsAt new t.sorts vs
+  kept : KeepsSorts old new
+  named : AreNamed base new (strings ++ string_cells t.sorts vs)
 
-stages : (P : Problem) (base : ℕ) (old mid met new : Store) (t : Template) (place : ℕ) (vs xs : List ℕ) (p : PatternAtom) (b : CellAtom) (others : List CellAtom) → base ≤ length old.cells → IsTrue (is_store old) → NamesFrom base old → IsTrue (is_classical_store P base old) → IsTrue (list_all (nat_le base) xs) → IsClassicalTemplate P t → IsTrue (list_all (classical_signature P).sorts t.sorts && allows_template (classical_signature P) t) → HeadCopied old mid t place vs p b → HeadMet mid met xs b.args → RestCopied met new t place vs others → Stages P base old met new vs
-stages P base old mid met new t place vs xs p b others from fits names classical goal k allowed head meet rest = record {
+stages : (P : Problem) (base : ℕ) (old mid met new : Store) (t : Template) (place : ℕ) (vs xs strings : List ℕ) (p : PatternAtom) (b : CellAtom) (clause : CopiedClause) → IsTrue (is_store old) → base ≤ length old.cells → AreOwn P base old → AreNamed base old strings → IsTrue (list_all (nat_le base) xs) → Allowed P t → HeadCopied old mid t place vs p b → HeadMet mid met xs b.args → RestCopied met new t place vs clause → IsTrue (is_store new) → Stages P base old met new t vs strings
+stages P base old mid met new t place vs xs strings p b clause st from own named goal allowed head meet rest well = record {
   from = base_met;
-  longer = let m = adds-longer met new rest.adds.built in omega (arith, base_met, m);
-  own = own;
-  names = names_new;
-  classical = allowed-classical P base new names_new (rest.within (classical_signature P) base (allowed-rest (classical_signature P) t place allowed) (allowed-binds (classical_signature P) base mid met meet.binds (head.within (classical_signature P) base (allowed-head (classical_signature P) t place p allowed head.stands) (classical-allowed P base old fits classical))));
-  terms = all-weaken (has_sort_at mid TermSort) (has_sort_at new TermSort) (λ r q. terms-built met new rest.adds.built r (terms-binds mid met meet.binds r q)) vs (terms-have mid t.sorts vs head.have k.sorts);
-  kept = λ r q. terms-built met new rest.adds.built r (terms-binds mid met meet.binds r (terms-built (with_variables_of t.sorts old) mid head.built r (terms-variables t.sorts old r q)));
+  longer = (let m = adds-longer met new rest.adds.built in omega (arith, base_met, m));
+  variables = variables;
+  own = own-copied P base met new (λ g. allows_template g (without_literal place t)) (store-before met new rest.adds.built well) rest.within (allowed-rest P t place allowed) (rest.adds.names base base_met variables names_met)
+      (own-binds P base mid met (store-behind (with_variables_of t.sorts old) mid head.built (store-variables t.sorts old st)) meet.binds names_met
+      (own-copied P base old mid (λ g. list_all g.sorts t.sorts && allows_atom g t.sorts p) st head.within (allowed-head P t place p allowed head.stands) names_mid own));
+  have = sorts-kept mid new behind t.sorts vs head.have;
+  kept = sorts-both old mid new (sorts-of_cells old mid kept_mid) behind;
+  named = named-built base met new (strings ++ string_cells t.sorts vs) rest.adds.built
+      (named-bound base mid met (strings ++ string_cells t.sorts vs) meet.binds
+      (named-built base (with_variables_of t.sorts old) mid (strings ++ string_cells t.sorts vs) head.built
+      (named-variables base t.sorts old strings vs head.variables named)));
 }
   where
-    kept_mid : Kept old mid
-    kept_mid r c e = kept-built (with_variables_of t.sorts old) mid head.built r c (kept-variables t.sorts old r c e)
+    kept_mid : KeepsCells old mid
+    kept_mid = cells-copied t.sorts old mid head.built
+
+    behind : KeepsSorts mid new
+    behind = sorts-both mid met new (sorts-of_bound mid met meet.binds) (sorts-of_cells met new (cells-built met new rest.adds.built))
 
     names_mid : NamesFrom base mid
-    names_mid = names-longer base old mid kept_mid from names head.names
+    names_mid = names-longer base old mid kept_mid from (own-names P base old own) head.names
 
     names_met : NamesFrom base met
-    names_met = meet.names base names_mid goal (own-args base b (atom-lower base (length old.cells) from b head.own))
+    names_met = meet.names base names_mid goal (and_parts (list_all (nat_le base) b.args) (list_all (nat_le base) b.label) (atom-lower base (length old.cells) from b head.own)).0
 
     base_met : base ≤ length met.cells
     base_met =
@@ -257,106 +316,193 @@ stages P base old mid met new t place vs xs p b others from fits names classical
         let m = meet.binds.same_length in
         omega (arith, from, v, a, m)
 
-    own : IsTrue (list_all (nat_le base) vs)
-    own = subst (λ v. IsTrue (list_all (nat_le base) v)) (sym head.variables) (places-from_base base (length old.cells) (length t.sorts) from)
+    variables : IsTrue (list_all (nat_le base) vs)
+    variables = subst (λ v. IsTrue (list_all (nat_le base) v)) (sym head.variables) (places-from_base base (length old.cells) (length t.sorts) from)
 
-    names_new : NamesFrom base new
-    names_new = rest.adds.names base base_met own names_met
+extended-added : (y : System) (g : CellGoal) (i : CellClause) (place : ℕ) (b : CellAtom) (strings : List ℕ) (gammas : List GammaCell) (pis : ℕ) (every : List CellGoal) → y.pairs ≡ pairs_of every → extended_system y g i place b strings gammas pis ≡ with_added y (record { left = g.literal.label; right = b.label } ∷ []) strings gammas (y.pis + pis) (pairs_of (every ++ new_cell_goals g i place))
+extended-added y g i place b strings gammas pis every e = ap (λ ps. with_added y (record { left = g.literal.label; right = b.label } ∷ []) strings gammas (y.pis + pis) ps) (ap (λ ps. ps ++ pairs_of (new_cell_goals g i place)) e ∙ sym (pairs-append every (new_cell_goals g i place)))
 
 -- the state after an extension
-pub running-extended : (P : Problem) (base d : ℕ) (c : List Choice) (old mid met new : Store) (cs : List CellChoice) (g : CellGoal) (gs every : List CellGoal) (ds : List ℕ) (sides : List Side) (t : Template) (place : ℕ) (vs : List ℕ) (p : PatternAtom) (b : CellAtom) (others : List CellAtom) → IsRunning P base d c (state_at old cs g gs every ds) → IsTrue (nat_lt (length g.path) d) → IsTemplateOf P sides t → IsClassicalTemplate P t → IsTrue (list_all (classical_signature P).sorts t.sorts && allows_template (classical_signature P) t) → IsTrue (not (sign_eq g.literal.sign p.sign)) → g.literal.symbol ≡ p.symbol → HeadCopied old mid t place vs p b → HeadMet mid met g.literal.args b.args → RestCopied met new t place vs others → IsWellFormed new → IsRunning P base d (c ++ extension sides place ∷ []) (extended_state new cs g gs every ds (record { selection = sides; values = vs; literals = inserted place b others }) place)
-running-extended P base d c old mid met new cs g gs every ds sides t place vs p b others h deep template k allows sign symbol head meet rest well =
-    running P base d (c ++ extension sides place ∷ []) (extended_state new cs g gs every ds clause place)
-    (state-extended P d c old new cs g gs every ds sides t clause place h.state deep template (extended-by_stages old mid met new sides t clause g.literal p b place (head-copy P old mid t place vs p b h.well.fits k head) head.stands sign symbol meet.unified (rest-by_cells met new sides t clause refl built.1 rest.adds.built (value-sorted new vs stage.terms) copies) (atom-below base old g.literal goal)))
-    well stage.longer stage.names
-    (classical-extended P base old new cs g gs every ds clause place (rank_of old) (rank_of new) (suc (length old.cells)) (suc (length new.cells)) (classical-state P base d c (state_at old cs g gs every ds) h) stage.kept (store-classical P base new well stage.classical) built.0)
+pub running-extended : (P : Problem) (base d : ℕ) (c : List Choice) (old mid met new : Store) (cs : List CellChoice) (g : CellGoal) (gs every : List CellGoal) (ds : List ℕ) (sides : List Side) (t : Template) (place : ℕ) (vs : List ℕ) (p : PatternAtom) (b : CellAtom) (clause : CopiedClause) (y : System) → IsRunning P base d c (state_at old cs g gs every ds) y → IsTrue (nat_lt (length g.path) d) → IsTemplateOf P sides t → IsOwnTemplate P t → IsTrue (not (sign_eq g.literal.sign p.sign)) → g.literal.symbol ≡ p.symbol → HeadCopied old mid t place vs p b → HeadMet mid met g.literal.args b.args → RestCopied met new t place vs clause → IsWellFormed new → IsRunning P base d (c ++ extension sides place ∷ []) (extended_state new cs g gs every ds (record { selection = sides; values = vs; literals = inserted place b clause.literals }) place) (extended_system y g (record { selection = sides; values = vs; literals = inserted place b clause.literals }) place b (string_cells t.sorts vs) clause.gammas clause.pis)
+running-extended P base d c old mid met new cs g gs every ds sides t place vs p b clause y h deep template own sign symbol head meet rest well = record {
+  state = state-extended P d c old new cs g gs every ds sides t i place h.state deep template extended;
+  well = well;
+  from = stage.longer;
+  own = stage.own;
+  choices = all-of-both (IsChoiceIn (λ r. base ≤ r) new) cs (extension i place ∷ []) (choices_in-kept (λ r. base ≤ r) old new stage.kept cs h.choices) (clause-in base new i valued stage.variables, tt);
+  open_goals = all-of-both (IsGoalIn (λ r. base ≤ r) new) (new_cell_goals g i place) gs fresh (goals_in-kept (λ r. base ≤ r) old new stage.kept gs h.open_goals.1);
+  goals = goals;
+  system = system-extended P d c old new cs g gs every ds i place b y (string_cells t.sorts vs) clause.gammas clause.pis (tree-by_state P d c (state_at old cs g gs every ds) h.state) h.system (λ σ s. (extended.back σ s).0) meets (inserted-at place b clause.literals (others-room new vs t.literals clause.literals place rest.copy.literals (get-within t.literals place p head.stands))) brings (subst (λ z. IsTrue (is_system new z)) (sym same) added.0);
+  cells = subst (λ z. IsTrue (list_all (nat_le base) (cells_of z))) (sym same) added.1;
+  strings = stage.named;
+}
   where
-    clause : CellClause
-    clause = record { selection = sides; values = vs; literals = inserted place b others }
+    i : CellClause
+    i = record { selection = sides; values = vs; literals = inserted place b clause.literals }
 
-    goal : IsTrue (is_classical_atom base old g.literal)
-    goal = leftmost-classical P base d c old cs g gs every ds h
+    here : IsGoalIn (λ r. base ≤ r) old g
+    here = goal-in P base d c old cs g gs every ds y h
 
-    stage : Stages P base old met new vs
-    stage = stages P base old mid met new t place vs g.literal.args p b others h.from h.well.fits h.names h.cells (goal-own base old g.literal goal) k allows head meet rest
+    stage : Stages P base old met new t vs y.strings
+    stage = stages P base old mid met new t place vs g.literal.args y.strings p b clause h.well.fits h.from h.own h.strings (args-from base old g.literal here.literal) own.allowed head meet rest well.fits
 
-    copies : AreAtomCopies new vs t.literals (inserted place b others)
-    copies = copies-inserted new vs t.literals place p others b head.stands rest.copies (built_atom-kept met new (keeps-built met new rest.adds.built) vs p b (built_atom-kept mid met (built-binds mid met meet.binds) vs p b head.copy))
+    parts : ClauseParts base new clause
+    parts = clause-parts base new clause rest.sorted (rest.own base stage.from stage.variables)
 
-    built : IsTrue (is_classical_clause base new (record { selection = sides; values = vs; literals = inserted place b others })) × IsTrue (clause_is_below (length new.cells) (record { selection = sides; values = vs; literals = inserted place b others }))
-    built = clause-built P base new (record { selection = sides; values = vs; literals = inserted place b others }) t k stage.own stage.terms copies (all-inserted (atom_is_from base) place b others (atom-lower base (length old.cells) h.from b head.own) (rest.own base stage.from stage.own))
+    head_in : IsAtomIn (λ r. base ≤ r) new b
+    head_in = atom_in-kept (λ r. base ≤ r) mid new behind b (atom-in base mid b head.sorted (atom-lower base (length old.cells) h.from b head.own))
+      where
+        behind : KeepsSorts mid new
+        behind = sorts-both mid met new (sorts-of_bound mid met meet.binds) (sorts-of_cells met new (cells-built met new rest.adds.built))
+
+    valued : IsTrue (list_all (has_value_sort_at new) vs)
+    valued = variables-valued new t.sorts vs stage.have own.sorts
+
+    sorted : IsTrue (list_all (is_cell_atom new) (inserted place b clause.literals))
+    sorted = all-inserted (is_cell_atom new) place b clause.literals head_in.sorted parts.literals
+
+    literals_from : IsTrue (list_all (atom_is_from base) (inserted place b clause.literals))
+    literals_from = all-inserted (atom_is_from base) place b clause.literals (atom-lower base (length old.cells) h.from b head.own) parts.literals_from
+
+    copies : AreAtomCopies new vs t.literals (inserted place b clause.literals)
+    copies = copies-inserted new vs t.literals place p clause.literals b head.stands rest.copy.literals (built_atom-kept met new (keeps-built met new rest.adds.built) vs p b (built_atom-kept mid met (built-binds mid met meet.binds) vs p b head.copy))
+
+    extended : IsExtended old new sides t i g.literal place
+    extended = extended-by_stages old mid met new sides t i g.literal p b place (head-copy old mid t place vs p b h.well.fits own.sorts head) head.stands sign symbol meet.unified (rest-by_cells met new sides t i refl (clause-there new i valued sorted) rest.adds.built valued copies) (atom-there old g.literal here.literal.sorted)
+
+    meets : (σ : Solution) → IsGround P (extended_state new cs g gs every ds i place) σ → IsTrue (is_instance P (clause_at σ i)) × IsTrue (is_opposite (literal_by σ g.literal) (slice_get (map (literal_by σ) i.literals) place))
+    meets σ u =
+        let x = extended.back σ u.solves in
+        (instance-at P sides t template σ i refl x.1 x.2 (admitted-all P σ cs (extension i place) u.admitted).1, x.3)
+
+    brings : Brings P new i (string_cells t.sorts vs) clause.gammas clause.pis
+    brings = subst (Brings P new i (string_cells t.sorts vs) clause.gammas) (sym rest.copy.pis) (clause-brings P new sides t i clause.gammas template refl stage.have own.sorts (λ σ s. (extended.back σ s).1) rest.copy.gammas parts.gammas)
+
+    here_new : IsGoalIn (λ r. base ≤ r) new g
+    here_new = goal_in-kept (λ r. base ≤ r) old new stage.kept g here
+
+    fresh : AllByRecursion (IsGoalIn (λ r. base ≤ r) new) (new_cell_goals g i place)
+    fresh = goals_in-on (λ r. base ≤ r) new (g.literal ∷ g.path) (remove i.literals place) (here_new.literal, here_new.path) (atoms-in base new (remove i.literals place) (all-remove (is_cell_atom new) i.literals place sorted) (all-remove (atom_is_from base) i.literals place literals_from))
+
+    goals : AllByRecursion (IsGoalIn (λ r. base ≤ r) new) (every ++ new_cell_goals g i place)
+    goals = all-of-both (IsGoalIn (λ r. base ≤ r) new) every (new_cell_goals g i place) (goals_in-kept (λ r. base ≤ r) old new stage.kept every h.goals) fresh
+
+    labels : IsTrue (list_all (is_equation new) (record { left = g.literal.label; right = b.label } ∷ [])) × IsTrue (list_all (is_equation_from base) (record { left = g.literal.label; right = b.label } ∷ []))
+    labels = labels-added base new g.literal b here_new.literal head_in
+
+    same : extended_system y g i place b (string_cells t.sorts vs) clause.gammas clause.pis ≡ with_added y (record { left = g.literal.label; right = b.label } ∷ []) (string_cells t.sorts vs) clause.gammas (y.pis + clause.pis) (pairs_of (every ++ new_cell_goals g i place))
+    same = extended-added y g i place b (string_cells t.sorts vs) clause.gammas clause.pis every h.system.pairs
+
+    added : IsTrue (is_system new (with_added y (record { left = g.literal.label; right = b.label } ∷ []) (string_cells t.sorts vs) clause.gammas (y.pis + clause.pis) (pairs_of (every ++ new_cell_goals g i place)))) × IsTrue (list_all (nat_le base) (cells_of (with_added y (record { left = g.literal.label; right = b.label } ∷ []) (string_cells t.sorts vs) clause.gammas (y.pis + clause.pis) (pairs_of (every ++ new_cell_goals g i place)))))
+    added = system-added base old new y (record { left = g.literal.label; right = b.label } ∷ []) (string_cells t.sorts vs) clause.gammas (y.pis + clause.pis) (every ++ new_cell_goals g i place) stage.kept h.system.well h.cells (record { equations_fit = labels.0; equations_from = labels.1; strings_fit = strings-sorted new t.sorts vs stage.have; strings_from = strings-from base t.sorts vs stage.variables; gammas_fit = parts.gammas; gammas_from = parts.gammas_from }) goals
 
 -- ---- starts
 
 -- what copying a start clause gives
-pub record StartCopied (old new : Store) (t : Template) (vs : List ℕ) (literals : List CellAtom) : Type 0 where
+pub record StartCopied (old new : Store) (t : Template) (vs : List ℕ) (clause : CopiedClause) : Type 0 where
   pub variables : vs ≡ places_from (length old.cells) (length t.sorts)
-  pub copies : AreAtomCopies new vs t.literals literals
-  pub own : IsTrue (list_all (atom_is_from (length old.cells)) literals)
+  pub copy : IsClauseCopy new vs t clause
+  pub sorted : IsTrue (clause_fits new clause)
+  pub own : IsTrue (clause_is_from (length old.cells) clause)
   pub names : NamesFrom (length old.cells) new
   pub built : AddsBuilt (with_variables_of t.sorts old) new
   pub within : BuildsWithin (λ g. list_all g.sorts t.sorts && allows_template g t) old new
 
-nothing-from : (base : ℕ) (xs : List Cell) (q : Cell → Bool) → base ≡ length xs → IsTrue (list_all q (drop base xs))
-nothing-from base xs q e = ap (λ n. list_all q (drop n xs)) e ∙ by xs
-  where
-    by : (ys : List Cell) → list_all q (drop (length ys) ys) ≡ true
-    by [] = refl
-    by (y ∷ ys) = by ys
+started-added : (literals : List CellAtom) (strings : List ℕ) (gammas : List GammaCell) (pis : ℕ) → started_system strings gammas pis ≡ with_added (started_system [] [] 0) [] strings gammas pis (pairs_of (cell_goals_on [] literals))
+started-added literals strings gammas pis = ap (λ ps. with_added (started_system [] [] 0) [] strings gammas pis ps) (sym (pairs-none literals))
 
 -- the state after a start, whose cells are all new
-pub running-started : (P : Problem) (d : ℕ) (old new : Store) (sides : List Side) (t : Template) (vs : List ℕ) (literals : List CellAtom) → IsWellFormed old → IsTemplateOf P sides t → IsClassicalTemplate P t → IsTrue (list_all (classical_signature P).sorts t.sorts && allows_template (classical_signature P) t) → IsTrue (all_shown t) → StartCopied old new t vs literals → IsWellFormed new → IsRunning P (length old.cells) d (start sides ∷ []) (start_state new (record { selection = sides; values = vs; literals = literals }))
-running-started P d old new sides t vs literals w template k allows shown copied well =
-    running P (length old.cells) d (start sides ∷ []) (start_state new clause)
-    (state-started P d sides t old new clause solution.0 template shown (copy-by_cells old new sides t clause (stores-of t.sorts old w.fits) (term-sorts t.sorts k.sorts) copied.built refl copied.variables built.1 copied.copies) solution.1)
-    well longer copied.names
-    (classical-started P (length old.cells) new clause (rank_of new) (suc (length new.cells)) (store-classical P (length old.cells) new well classical) built.0)
+pub running-started : (P : Problem) (d : ℕ) (old new : Store) (sides : List Side) (t : Template) (vs : List ℕ) (clause : CopiedClause) → IsWellFormed old → IsTemplateOf P sides t → IsOwnTemplate P t → IsTrue (all_shown t) → StartCopied old new t vs clause → IsWellFormed new → IsRunning P (length old.cells) d (start sides ∷ []) (start_state new (record { selection = sides; values = vs; literals = clause.literals })) (started_system (string_cells t.sorts vs) clause.gammas clause.pis)
+running-started P d old new sides t vs clause w template own shown copied well = record {
+  state = state;
+  well = well;
+  from = (let v = length-variables t.sorts old in let a = adds-longer (with_variables_of t.sorts old) new copied.built in omega (arith, v, a));
+  own = own-copied P base old new (λ g. list_all g.sorts t.sorts && allows_template g t) w.fits copied.within (allowed-whole P t own.allowed) copied.names (own-none P old);
+  choices = (clause-in base new i valued variables, tt);
+  open_goals = goals;
+  goals = goals;
+  system = system-started P d (start sides ∷ []) new i (string_cells t.sorts vs) clause.gammas clause.pis (tree-by_state P d (start sides ∷ []) (start_state new i) state) brings (subst (λ z. IsTrue (is_system new z)) (sym same) added.0);
+  cells = subst (λ z. IsTrue (list_all (nat_le base) (cells_of z))) (sym same) added.1;
+  strings = named-built base (with_variables_of t.sorts old) new (string_cells t.sorts vs) copied.built (named-variables base t.sorts old [] vs copied.variables (named-none old));
+}
   where
-    clause : CellClause
-    clause = record { selection = sides; values = vs; literals = literals }
+    base : ℕ
+    base = length old.cells
+
+    i : CellClause
+    i = record { selection = sides; values = vs; literals = clause.literals }
 
     solution : (σ : Solution) × Solves old σ
     solution = some_solution old w.fits w.rank
 
-    longer : length old.cells ≤ length new.cells
-    longer = let v = length-variables t.sorts old in let a = adds-longer (with_variables_of t.sorts old) new copied.built in omega (arith, v, a)
+    variables : IsTrue (list_all (nat_le base) vs)
+    variables = subst (λ v. IsTrue (list_all (nat_le base) v)) (sym copied.variables) (places-from_base base base (length t.sorts) (omega arith))
 
-    classical : IsTrue (is_classical_store P (length old.cells) new)
-    classical = classical-copied P (length old.cells) old new (λ g. list_all g.sorts t.sorts && allows_template g t) w.fits copied.within allows copied.names (nothing-from (length old.cells) old.cells (is_own_cell P (length old.cells)) refl)
+    have : HaveSortsAt new t.sorts vs
+    have = sorts-kept (with_variables_of t.sorts old) new (sorts-of_cells (with_variables_of t.sorts old) new (cells-built (with_variables_of t.sorts old) new copied.built)) t.sorts vs (have-new vs t.sorts old (with_variables_of t.sorts old) refl copied.variables)
 
-    terms : IsTrue (list_all (has_sort_at new TermSort) vs)
-    terms = all-weaken (has_sort_at (with_variables_of t.sorts old) TermSort) (has_sort_at new TermSort) (terms-built (with_variables_of t.sorts old) new copied.built) vs (terms-have (with_variables_of t.sorts old) t.sorts vs (have-new vs t.sorts old (with_variables_of t.sorts old) refl copied.variables) k.sorts)
+    valued : IsTrue (list_all (has_value_sort_at new) vs)
+    valued = variables-valued new t.sorts vs have own.sorts
 
-    own : IsTrue (list_all (nat_le (length old.cells)) vs)
-    own = subst (λ v. IsTrue (list_all (nat_le (length old.cells)) v)) (sym copied.variables) (places-from_base (length old.cells) (length old.cells) (length t.sorts) (omega arith))
+    parts : ClauseParts base new clause
+    parts = clause-parts base new clause copied.sorted copied.own
 
-    built : IsTrue (is_classical_clause (length old.cells) new (record { selection = sides; values = vs; literals = literals })) × IsTrue (clause_is_below (length new.cells) (record { selection = sides; values = vs; literals = literals }))
-    built = clause-built P (length old.cells) new (record { selection = sides; values = vs; literals = literals }) t k own terms copied.copies copied.own
+    fresh : IsFreshClause old new sides t i
+    fresh = copy-by_cells old new sides t i (stores-of t.sorts old w.fits) own.sorts copied.built refl copied.variables (clause-there new i valued parts.literals) copied.copy.literals
+
+    state : IsStateOf P d (start sides ∷ []) (start_state new i)
+    state = state-started P d sides t old new i solution.0 template shown fresh solution.1
+
+    brings : Brings P new i (string_cells t.sorts vs) clause.gammas clause.pis
+    brings = subst (Brings P new i (string_cells t.sorts vs) clause.gammas) (sym copied.copy.pis) (clause-brings P new sides t i clause.gammas template refl have own.sorts (λ σ s. (fresh.back σ s).1) copied.copy.gammas parts.gammas)
+
+    goals : AllByRecursion (IsGoalIn (λ r. base ≤ r) new) (cell_goals_on [] clause.literals)
+    goals = goals_in-on (λ r. base ≤ r) new [] clause.literals tt (atoms-in base new clause.literals parts.literals parts.literals_from)
+
+    same : started_system (string_cells t.sorts vs) clause.gammas clause.pis ≡ with_added (started_system [] [] 0) [] (string_cells t.sorts vs) clause.gammas clause.pis (pairs_of (cell_goals_on [] clause.literals))
+    same = started-added clause.literals (string_cells t.sorts vs) clause.gammas clause.pis
+
+    added : IsTrue (is_system new (with_added (started_system [] [] 0) [] (string_cells t.sorts vs) clause.gammas clause.pis (pairs_of (cell_goals_on [] clause.literals)))) × IsTrue (list_all (nat_le base) (cells_of (with_added (started_system [] [] 0) [] (string_cells t.sorts vs) clause.gammas clause.pis (pairs_of (cell_goals_on [] clause.literals)))))
+    added = system-added base new new (started_system [] [] 0) [] (string_cells t.sorts vs) clause.gammas clause.pis (cell_goals_on [] clause.literals) (λ r sort e. e) refl refl (record { equations_fit = refl; equations_from = refl; strings_fit = strings-sorted new t.sorts vs have; strings_from = strings-from base t.sorts vs variables; gammas_fit = parts.gammas; gammas_from = parts.gammas_from }) goals
 
 -- ---- what each state has
 
--- a tree of ground instances follows its choices
-pub running-live : (P : Problem) (base d : ℕ) (c : List Choice) (S : State) → IsRunning P base d c S → IsLive P d c
-running-live P base d c S h =
-    let k = classical-state P base d c S h in
-    live-state P d c S h.state (own_value S.store (suc (length S.store.cells))) (ground-by_spares P base S (rank_of S.store) (suc (length S.store.cells)) k.store k.choices)
+-- a ground solution that tells its unbound variables apart
+pub running-ground : (P : Problem) (base d : ℕ) (c : List Choice) (S : State) (y : System) → IsRunning P base d c S y → (σ : Solution) × (number : ℕ → ℕ) × AreDistinct (λ r. base ≤ r) S.store σ number × IsGround P S σ
+running-ground P base d c S y h =
+    let (σ, number, distinct, good) = distinct-own P base S.store h.well h.own in
+    (σ, number, distinct, record { solves = distinct.solves; admitted = admitted-good P (λ r. base ≤ r) S.store σ distinct.solves good S.choices h.choices })
 
--- ---- the clauses of a classical matrix
+-- a tree of ground instances follows its choices
+pub running-live : (P : Problem) (base d : ℕ) (c : List Choice) (S : State) (y : System) → IsRunning P base d c S y → IsLive P d c
+running-live P base d c S y h =
+    let (σ, number, distinct, ground) = running-ground P base d c S y h in
+    live-state P d c S h.state σ ground
+
+-- an extension from a path of d goals shows that the limit d is left, where no goal is the same as one above it
+pub running-left : (P : Problem) (base d : ℕ) (c : List Choice) (S : State) (y : System) → IsRunning P base (d + 1) c S y → HasNoSamePair S → IsTrue (list_any (λ i. i == d) S.growth.depths) → IsLeft P d
+running-left P base d c S y h new deep =
+    let (σ, number, distinct, ground) = running-ground P base (d + 1) c S y h in
+    let x = growth_at σ S.growth in (
+      map (choice_at σ) S.choices,
+      on-some (λ z. IsTrue (is_within (d + 1) z && has_depth d z && is_regular z)) (growth_of P (map (choice_at σ) S.choices)) x (h.state.sound σ ground)
+          (and_from (is_within (d + 1) x && has_depth d x) (is_regular x) (and_from (is_within (d + 1) x) (has_depth d x) h.state.within deep) (regular-by_distinct (λ r. base ≤ r) S (rank_of S.store) (suc (length S.store.cells)) σ number h.well.fits (well-ranked S.store h.well) distinct h.goals new)),
+    )
+
+-- ---- the clauses of the matrix
 
 pub record ClauseAt (P : Problem) (m : List MatrixClause) (k : ℕ) : Type 0 where
   pub clause : MatrixClause
   pub stands : slice_get m k ≡ Some clause
   pub template : IsTemplateOf P clause.selection clause.template
-  pub classical : IsClassicalTemplate P clause.template
-  pub allowed : IsTrue (list_all (classical_signature P).sorts clause.template.sorts && allows_template (classical_signature P) clause.template)
+  pub own : IsOwnTemplate P clause.template
 
 template-in : (P : Problem) (m : List MatrixClause) (k : ℕ) → AllByRecursion (λ (c : MatrixClause). IsTemplateOf P c.selection c.template) m → k < length m → (c : MatrixClause) × (slice_get m k ≡ Some c) × IsTemplateOf P c.selection c.template × Contains (map (λ (x : MatrixClause). x.selection) m) c.selection
 template-in P [] k h l = absurd (omega (arith, l))
 template-in P (c ∷ m) zero h l = (c, refl, h.0, (0, omega arith, refl))
 template-in P (c ∷ m) (suc k) h l = let (x, e, t, (i, n, q)) = template-in P m k h.1 (omega (arith, l)) in (x, e, t, (suc i, omega (arith, n), q))
 
-pub clause-at : (P : Problem) (m : List MatrixClause) (k : ℕ) → IsClassicalMatrix P m → k < length m → ClauseAt P m k
+pub clause-at : (P : Problem) (m : List MatrixClause) (k : ℕ) → IsMatrixOf P m → k < length m → ClauseAt P m k
 clause-at P m k h l =
     let (c, e, t, inside) = template-in P m k h.matrix.templates l in
-    let classical = selection-classical P c.selection c.template h.classical h.fits (subst (λ sss. Contains sss c.selection) h.matrix.in_order inside) t in
-    record { clause = c; stands = e; template = t; classical = classical; allowed = template-allowed P c.selection c.template h.classical h.fits t classical }
+    record { clause = c; stands = e; template = t; own = template-own P c.selection c.template h.fits (subst (λ sss. Contains sss c.selection) h.matrix.in_order inside) t }

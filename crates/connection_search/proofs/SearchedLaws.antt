@@ -1,14 +1,9 @@
 -- The search at one limit, clause by clause, and the space of a problem.
-use Rattle.std.proofs.Common.{◌≡◌, ◌+◌, ◌-◌, ◌<◌, ◌≤◌, ℕ, suc, List, [], ◌∷◌, drop, length, map, Bool, true, false, IsTrue, Option, refl, sym, ◌∙◌, ap, subst, Some, slice_get, arith, Result, Ok, Err}
+use Rattle.std.proofs.Common.{◌≡◌, ◌+◌, ◌<◌, ◌≤◌, ℕ, suc, List, [], ◌∷◌, drop, length, map, Bool, true, false, IsTrue, Option, refl, sym, ◌∙◌, ap, subst, Some, slice_get, arith, Result, Ok, Err}
 use Rattle.std.specs.Prelude.{IfOk, option_map}
-use Rattle.std.proofs.lemmas.Bool.{false≢true}
-use Rattle.calculus.specs.declared.setting.Domains.{Domains}
-use Rattle.calculus.specs.declared.setting.Domains.TheVariants.{Constant, Cumulative, Varying}
-use Rattle.calculus.specs.declared.setting.Logic.{Logic}
-use Rattle.calculus.specs.declared.setting.Logic.TheVariants.{Classical}
 use Rattle.calculus.specs.Bindings.{KeepsMarks}
 use Rattle.calculus.specs.Choices.{Choice, IsLeft, start}
-use Rattle.calculus.specs.Problems.{is_problem, setting_fits}
+use Rattle.calculus.specs.Problems.{is_problem}
 use Rattle.calculus.specs.Stores.{IsGood, Store, TrailMark, cut_at}
 use Rattle.calculus.specs.Syntax.{Problem}
 use Rattle.calculus.specs.Tableaux.{HasClosed}
@@ -27,7 +22,7 @@ use Rattle.connection_search.proofs.Places.{drop-end, drop-there, item-there}
 use Rattle.connection_search.proofs.RunningLaws.{clause-at}
 use Rattle.connection_search.specs.Exploring.{IfOn, IsExploring, IsSearched, IsSpace, IsVisiting}
 use Rattle.connection_search.specs.Outcomes.{IfSteps}
-use Rattle.connection_search.specs.Running.{IsClassicalMatrix, StandsFor}
+use Rattle.connection_search.specs.Running.{IsMatrixOf, StandsFor}
 use Rattle.connection_search.specs.declared.exploring.Visit.{Visit}
 use Rattle.connection_search.specs.declared.exploring.Visit.TheVariants as visit
 use Rattle.connection_search.specs.declared.point.Point.{Point}
@@ -40,7 +35,7 @@ use Rattle.connection_search.specs.declared.tree.Step.{Step}
 
 -- a dead end is passed
 pub searched-dead : (P : Problem) (d : ℕ) (p : List Choice) (later : List (List Choice)) (begun used : ℕ) (left : Bool) → IsTrue (is_not_empty p) → IsDead P p → IsSearched P d (p ∷ later) begun used left → IsSearched P d later begun used left
-searched-dead P d p later begun used left n dead h = record { spent = h.spent; search = search-dead P d h.spent p later left h.search n dead; count = h.count }
+searched-dead P d p later begun used left n dead h = record { spent = h.spent; search = search-dead P d h.spent p later left h.search n dead; from = h.from; count = h.count }
 
 -- the list of a start comes first, where its tree stands
 pub visiting-first : (P : Problem) (m : List MatrixClause) (base d : ℕ) (c : List Choice) (s : Store) (steps : List Step) (goals : List Goal) (first : Option ℕ) (later : List (List Choice)) (begun used : ℕ) (left : Bool) → IsTrue (is_not_empty c) → StandsFor P m base d c s steps goals first → IsSearched P d (c ∷ later) begun used left → IsVisiting P m base d s steps goals first [] later begun used left
@@ -52,14 +47,14 @@ visiting-none P m base d s steps goals first points later begun used left e h = 
 
 -- ---- what a search without end says of all states
 
-abbrev pub SearchesPoints : List MatrixClause → ℕ → Store → List Step → List Goal → List Point → ℕ → Bool → ℕ → Bool → Type 0
-SearchesPoints m d s steps goals points used left used_after left_after = (P : Problem) (base : ℕ) (later : List (List Choice)) (begun : ℕ) → IsSpace P m d → IsExploring P m base d s steps goals points later begun used left → IsSearched P d later begun used_after left_after
+abbrev pub SearchesPoints : Problem → List MatrixClause → ℕ → Store → List Step → List Goal → List Point → ℕ → Bool → ℕ → Bool → Type 0
+SearchesPoints P m d s steps goals points used left used_after left_after = (base : ℕ) (later : List (List Choice)) (begun : ℕ) → IsSpace P m d → IsExploring P m base d s steps goals points later begun used left → IsSearched P d later begun used_after left_after
 
-abbrev pub SearchesTree : List MatrixClause → ℕ → Store → List Step → List Goal → Option ℕ → ℕ → Bool → ℕ → Bool → Type 0
-SearchesTree m d s steps goals first used left used_after left_after = (P : Problem) (base : ℕ) (later : List (List Choice)) (begun : ℕ) → IsSpace P m d → IsVisiting P m base d s steps goals first [] later begun used left → IsSearched P d later begun used_after left_after
+abbrev pub SearchesTree : Problem → List MatrixClause → ℕ → Store → List Step → List Goal → Option ℕ → ℕ → Bool → ℕ → Bool → Type 0
+SearchesTree P m d s steps goals first used left used_after left_after = (base : ℕ) (later : List (List Choice)) (begun : ℕ) → IsSpace P m d → IsVisiting P m base d s steps goals first [] later begun used left → IsSearched P d later begun used_after left_after
 
-abbrev pub SearchesList : List MatrixClause → ℕ → List Choice → ℕ → Bool → ℕ → Bool → Type 0
-SearchesList m d c used left used_after left_after = (P : Problem) (later : List (List Choice)) (begun : ℕ) → IsSpace P m d → IsSearched P d (c ∷ later) begun used left → IsSearched P d later begun used_after left_after
+abbrev pub SearchesList : Problem → List MatrixClause → ℕ → List Choice → ℕ → Bool → ℕ → Bool → Type 0
+SearchesList P m d c used left used_after left_after = (later : List (List Choice)) (begun : ℕ) → IsSpace P m d → IsSearched P d (c ∷ later) begun used left → IsSearched P d later begun used_after left_after
 
 pub on-map : (v : Visit) (A B : Type 0) → (A → B) → IfOn v A → IfOn v B
 on-map visit.On A B f a = f a
@@ -88,6 +83,7 @@ pub searched-first : (P : Problem) (m : List MatrixClause) (d used : ℕ) → Is
 searched-first P m d used h = record {
   spent = [];
   search = subst (λ sss. IsSearch P d [] (behind [] (starting sss)) false) (sym h.in_order) (search-start_all P d);
+  from = omega arith;
   count = omega arith;
 }
 
@@ -100,7 +96,7 @@ pub searched-end : (P : Problem) (m : List MatrixClause) (d k begun used : ℕ) 
 searched-end P m d k begun used left l h = let e = search-ended P d h.spent left (subst (λ ps. IsSearch P d h.spent ps left) (starts-end m k l) h.search) in (e.0, e.1.0, e.1.1)
 
 -- a clause with a literal of sign T starts nothing
-pub searched-refused : (P : Problem) (m : List MatrixClause) (d k : ℕ) (later : List (List Choice)) (begun used : ℕ) (left : Bool) → IsClassicalMatrix P m → k < length m → option_map (λ (x : MatrixClause). all_shown x.template) (slice_get m k) ≡ Some false → IsSearched P d ((start (selection_of (slice_get m k)) ∷ []) ∷ later) begun used left → IsSearched P d later begun used left
+pub searched-refused : (P : Problem) (m : List MatrixClause) (d k : ℕ) (later : List (List Choice)) (begun used : ℕ) (left : Bool) → IsMatrixOf P m → k < length m → option_map (λ (x : MatrixClause). all_shown x.template) (slice_get m k) ≡ Some false → IsSearched P d ((start (selection_of (slice_get m k)) ∷ []) ∷ later) begun used left → IsSearched P d later begun used left
 searched-refused P m d k later begun used left h l refused s =
     let c = clause-at P m k h l in
     let e : Some (all_shown c.clause.template) ≡ Some false = ap (option_map (λ (x : MatrixClause). all_shown x.template)) (sym c.stands) ∙ refused in
@@ -137,22 +133,11 @@ steps-map (outcome.Closed t) A B f a = tt
 steps-map (outcome.Empty left) A B f a = tt
 steps-map outcome.Steps A B f a = f a
 
--- ---- the space of a classical problem
+-- ---- the space of a problem
 
-constant-domains : (l : Logic) (d : Domains) → l ≡ Classical → IsTrue (setting_fits l d) → d ≡ Constant
-constant-domains l d e h = by d (subst (λ z. IsTrue (setting_fits z d)) e h)
-  where
-    by : (d : Domains) → IsTrue (setting_fits Classical d) → d ≡ Constant
-    by Constant q = refl
-    by Cumulative q = absurd (false≢true q)
-    by Varying q = absurd (false≢true q)
-
-pub space-of : (P : Problem) (m : List MatrixClause) (d : ℕ) → IsTrue (is_problem P) → P.setting.logic ≡ Classical → IsTemplateMatrix P m → 1 ≤ d → d ≤ 200 → IsSpace P m d
-space-of P m d h classical matrix from to =
-    let k = kept P h in
-    record {
-      matrix = record { classical = classical; fits = k.formula; matrix = matrix };
-      domains = constant-domains P.setting.logic P.setting.domains classical k.domains;
-      from_one = from;
-      to_200 = to;
-    }
+pub space-of : (P : Problem) (m : List MatrixClause) (d : ℕ) → IsTrue (is_problem P) → IsTemplateMatrix P m → 1 ≤ d → d ≤ 200 → IsSpace P m d
+space-of P m d h matrix from to = record {
+  matrix = record { fits = (kept P h).formula; matrix = matrix };
+  from_one = from;
+  to_200 = to;
+}

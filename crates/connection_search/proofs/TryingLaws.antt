@@ -1,5 +1,6 @@
 -- The next choice of the last point: back at the point, its choice, and what comes of it.
 use Rattle.std.proofs.Common.{◌≡◌, ◌+◌, ◌-◌, ◌*◌, ◌<◌, ◌≤◌, ℕ, suc, Bool, List, [], ◌∷◌, ◌++◌, Option, None, Some, MatchOption, IsTrue, reverse, sum_by, take, refl, sym, ◌∙◌, ap, subst, arith, append_assoc, inl, inr}
+use Rattle.std.proofs.Math.Nat.{mul-le-mul_right}
 use Rattle.std.specs.Bool.{⊤}
 use Rattle.std.specs.List.{AllByRecursion}
 use Rattle.std.proofs.lemmas.List.{reverse-append}
@@ -30,7 +31,8 @@ use Rattle.connection_search.specs.declared.tree.Step.{Step}
 use Rattle.connection_search.proofs.DeadLaws.{live-not_empty, search-dead_behind}
 use Rattle.connection_search.proofs.MoveLaws.{goal-here}
 use Rattle.connection_search.proofs.StackedLaws.{before-same, mark-itself, point-back, point-next, points-back, points-kept, untried-moved}
-use Rattle.connection_search.proofs.VisitLaws.{exploring-moved, stands-live}
+use Rattle.connection_search.proofs.SpentLaws.{stands-live}
+use Rattle.connection_search.proofs.VisitLaws.{exploring-moved}
 
 -- ---- back at the last point
 
@@ -105,6 +107,7 @@ dead-left P m base d s steps goals first points p later begun used left e h dead
       searched = record {
         spent = h.searched.spent;
         search = search-dead_behind P d h.searched.spent h.choices h.untried (h.below ++ later) left (live-not_empty P d h.choices live) dead h.searched.search;
+        from = h.searched.from;
         count = h.searched.count;
       };
     }
@@ -182,6 +185,7 @@ trying-refused P m base d s t steps after goals all points later begun used left
   searched = record {
     spent = h.searched.spent;
     search = search-dead P d h.searched.spent (h.choices ++ the_move m choice ∷ []) (h.pending ++ later) left h.searched.search (not-empty h.choices (the_move m choice)) dead;
+    from = h.searched.from;
     count = h.searched.count;
   };
 }
@@ -239,9 +243,19 @@ pushed-falls budget used points p q new l less light = by greatest_weight (budge
         let f : a * (most + 1) ≡ b * (most + 1) + (most + 1) = ap (λ w. w * (most + 1)) ea ∙ e in
         omega (arith, f, ek, ej, ei, l, r)
 
+-- more steps used leave no more
+used-falls : (budget used after : ℕ) (xs ys : List Point) → used ≤ after → work_left budget used xs < work_left budget used ys → work_left budget after xs < work_left budget used ys
+used-falls budget used after xs ys l falls = by ((budget - after) * (greatest_weight + 1)) ((budget - used) * (greatest_weight + 1)) (sum_by weight xs) (work_left budget used ys) (mul-le-mul_right (greatest_weight + 1) (less budget used after l)) falls
+  where
+    less : (b u a : ℕ) → u ≤ a → b - a ≤ b - u
+    less b u a l = omega (arith, l)
+
+    by : (x y w n : ℕ) → x ≤ y → y + w < n → x + w < n
+    by x y w n l f = omega (arith, l, f)
+
 pub visit-falls : (budget used after_used : ℕ) (points before after : List Point) (p q : Point) → ArePushed before after used after_used → before ≡ points ++ q ∷ [] → after_used ≤ budget → weight q < weight p → work_left budget after_used after < work_left budget used (points ++ p ∷ [])
 visit-falls budget used after_used points before after p q h e l less = elim h [
-  | inl (same, none) ↦ subst (λ u. work_left budget u after < work_left budget used (points ++ p ∷ [])) (sym none) (subst (λ ps. work_left budget used ps < work_left budget used (points ++ p ∷ [])) (sym (same ∙ e)) (next-falls budget used points p q less))
+  | inl (same, more) ↦ subst (λ ps. work_left budget after_used ps < work_left budget used (points ++ p ∷ [])) (sym (same ∙ e)) (used-falls budget used after_used (points ++ q ∷ []) (points ++ p ∷ []) more (next-falls budget used points p q less))
   | inr (new, pushed, one, light) ↦ subst (λ u. work_left budget u after < work_left budget used (points ++ p ∷ [])) (sym one) (subst (λ ps. work_left budget (used + 1) ps < work_left budget used (points ++ p ∷ [])) (sym (pushed ∙ ap (λ ps. ps ++ new ∷ []) e)) (pushed-falls budget used points p q new (omega (arith, l, one)) less light))
 ]
 

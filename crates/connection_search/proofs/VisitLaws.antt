@@ -1,45 +1,30 @@
 -- What a visit of the next pending list comes to.
-use Rattle.std.proofs.Common.{◌≡◌, ◌⊎◌, ◌↔◌, if◌then◌else◌, ◌+◌, ◌-◌, ◌<◌, ◌≤◌, ℕ, zero, suc, List, [], ◌∷◌, ◌++◌, drop, length, map, reverse, take, Bool, true, false, ◌&&◌, IsTrue, refl, sym, ◌∙◌, ap, subst, Option, None, Some, arith, append_assoc, inl, inr}
-use Rattle.std.specs.List.{AllByRecursion, list_all}
-use Rattle.std.proofs.lemmas.Bool.{and_parts, false≢true}
+use Rattle.std.proofs.Common.{◌≡◌, ◌⊎◌, ◌↔◌, if◌then◌else◌, ◌+◌, ◌<◌, ◌≤◌, ℕ, zero, suc, List, [], ◌∷◌, ◌++◌, length, reverse, take, Bool, true, false, IsTrue, refl, sym, ◌∙◌, ap, subst, Option, Some, arith, append_assoc, inl, inr}
+use Rattle.std.specs.List.{AllByRecursion}
+use Rattle.std.proofs.lemmas.Bool.{false≢true}
 use Rattle.std.proofs.lemmas.List.{length-append, reverse-append}
 use Rattle.calculus.specs.Bindings.{IsEarlier}
-use Rattle.calculus.specs.Choices.{Choice, GroundChoice, IsLeft, IsLive, extension, reduction, start}
-use Rattle.calculus.specs.Counting.{AtLeastMany, MoreThan}
-use Rattle.calculus.specs.Space.{IsEarly, member_cmp, with_choices}
-use Rattle.calculus.specs.Stores.{IsGood, Solution, Store, TrailMark, cells_bound_by, cut_at, names_below}
+use Rattle.calculus.specs.Choices.{Choice, IsLeft}
+use Rattle.calculus.specs.Space.{with_choices}
+use Rattle.calculus.specs.Stores.{IsGood, Store, TrailMark, cells_bound_by, cut_at}
 use Rattle.calculus.specs.Syntax.{Problem}
-use Rattle.calculus.specs.Systems.{CellAtom}
-use Rattle.calculus.specs.Tableaux.{Tableau, has_unbounded_strings, is_closed}
 use Rattle.calculus.proofs.StoreLaws.{length-bound}
 use Rattle.search_theory.specs.Exploring.{behind}
-use Rattle.search_theory.specs.Joined.{IsTableauBy}
 use Rattle.search_theory.specs.Matrix.{MatrixClause}
-use Rattle.search_theory.specs.Regular.{HasNoSamePair, is_classical_choice, is_classical_store}
 use Rattle.search_theory.specs.Searching.{IsSearch}
 use Rattle.search_theory.specs.Stack.{choices_at}
-use Rattle.search_theory.specs.States.{CellGoal, atom_is_below, choice_at, choice_is_below}
+use Rattle.search_theory.specs.States.{CellGoal}
 use Rattle.search_theory.proofs.BeginningLaws.{IsDead}
-use Rattle.search_theory.proofs.EarlyLaws.{spent-many, steps-ended, visited-many}
-use Rattle.search_theory.proofs.EndLaws.{closed-state}
-use Rattle.search_theory.proofs.RankLaws.{rank_of}
 use Rattle.search_theory.proofs.SearchSteps.{search-dead, search-left, search-visit}
-use Rattle.search_theory.proofs.SpareLaws.{own-apart, own_value}
-use Rattle.term_store.specs.ClauseView.{the_atom}
-use Rattle.term_store.specs.RefView.{the_places}
 use Rattle.term_store.specs.StoreView.{the_mark}
-use Rattle.connection_search.specs.Exploring.{AreAbove, ArePointsFrom, IsBefore, IsCounted, IsExploring, IsSearched, IsSpace, IsVisiting}
+use Rattle.connection_search.specs.Exploring.{AreAbove, ArePointsFrom, IsBefore, IsExploring, IsSearched, IsSpace, IsVisiting}
 use Rattle.connection_search.specs.Points.{IsHere, IsPoint}
-use Rattle.connection_search.specs.Readable.{IsReadableStep}
 use Rattle.connection_search.specs.Running.{IsAt, IsAtGoal, IsLeftFound, StandsFor}
-use Rattle.connection_search.specs.Trees.{AreOpen, IsBuiltStep, inserted, the_step}
-use Rattle.connection_search.specs.Wanted.{GivesOwn}
 use Rattle.connection_search.specs.declared.point.Point.{Point}
 use Rattle.connection_search.specs.declared.tree.Goal.{Goal}
 use Rattle.connection_search.specs.declared.tree.Step.{Step}
-use Rattle.connection_search.specs.declared.tree.Step.TheVariants.{Extend, Reduce, Start}
 use Rattle.connection_search.proofs.MoveLaws.{open-first}
-use Rattle.connection_search.proofs.RunningLaws.{classical-state, running-live}
+use Rattle.connection_search.proofs.SpentLaws.{stands-live}
 
 -- ---- marks
 
@@ -60,46 +45,6 @@ mark-later k m s g whole =
     let b = g.entries in
     record { cells = omega (arith, cells, bound, short, a); entries = omega (arith, entries, few, b) }
 
--- ---- steps that can be read
-
-all-halves : (q : CellAtom → Bool) (xs ys : List CellAtom) → IsTrue (list_all q (xs ++ ys)) → IsTrue (list_all q xs) × IsTrue (list_all q ys)
-all-halves q [] ys h = (refl, h)
-all-halves q (x ∷ xs) ys h =
-    let p = and_parts (q x) (list_all q (xs ++ ys)) h in
-    let r = all-halves q xs ys p.1 in
-    (ap (λ b. b && list_all q xs) p.0 ∙ r.0, r.1)
-
-all-rejoined : (q : CellAtom → Bool) (n : ℕ) (xs : List CellAtom) → IsTrue (list_all q (take n xs)) → IsTrue (list_all q (drop n xs)) → IsTrue (list_all q xs)
-all-rejoined q zero xs a b = b
-all-rejoined q (suc n) [] a b = refl
-all-rejoined q (suc n) (x ∷ xs) a b =
-    let p = and_parts (q x) (list_all q (take n xs)) a in
-    ap (λ c. c && list_all q xs) p.0 ∙ all-rejoined q n xs p.1 b
-
-readable : (s : Store) (m : List MatrixClause) (step : Step) → IsBuiltStep m step → IsTrue (choice_is_below (length s.cells) (the_step m step)) → IsReadableStep s m step
-readable s m (Start c) b h =
-    let p = and_parts (names_below (length s.cells) (the_places c.copy.variables)) (list_all (atom_is_below (length s.cells)) c.copy.literals) h in
-    record { clause = b; variables = p.0; literals = p.1 }
-readable s m (Reduce up) b h = tt
-readable s m (Extend c place atom) b h =
-    let p = and_parts (names_below (length s.cells) (the_places c.copy.variables)) (list_all (atom_is_below (length s.cells)) (inserted place (the_atom atom) c.copy.literals)) h in
-    let q = all-halves (atom_is_below (length s.cells)) (take place c.copy.literals) (the_atom atom ∷ drop place c.copy.literals) p.1 in
-    let r = and_parts (atom_is_below (length s.cells) (the_atom atom)) (list_all (atom_is_below (length s.cells)) (drop place c.copy.literals)) q.1 in
-    record {
-      readable = record { clause = b.0; variables = p.0; literals = all-rejoined (atom_is_below (length s.cells)) place c.copy.literals q.0 r.1 };
-      place_within = b.1;
-      atom_below = r.0;
-    }
-
-all-readable : (s : Store) (m : List MatrixClause) (steps : List Step) → AllByRecursion (IsBuiltStep m) steps → IsTrue (list_all (choice_is_below (length s.cells)) (map (the_step m) steps)) → AllByRecursion (IsReadableStep s m) steps
-all-readable s m [] b h = tt
-all-readable s m (step ∷ steps) b h =
-    let p = and_parts (choice_is_below (length s.cells) (the_step m step)) (list_all (choice_is_below (length s.cells)) (map (the_step m) steps)) h in
-    (readable s m step b.0 p.0, all-readable s m steps b.1 p.1)
-
-pub steps-readable : (P : Problem) (m : List MatrixClause) (base d : ℕ) (c : List Choice) (s : Store) (steps : List Step) (goals : List Goal) (first : Option ℕ) → StandsFor P m base d c s steps goals first → AllByRecursion (IsReadableStep s m) steps
-steps-readable P m base d c s steps goals first (cs, x, at) = all-readable s m steps at.tree.built (subst (λ ys. IsTrue (list_all (choice_is_below (length s.cells)) ys)) (sym at.tree.made) at.running.state.cells.choices)
-
 -- ---- the leftmost open goal
 
 pub goal-of : (P : Problem) (m : List MatrixClause) (base d : ℕ) (c : List Choice) (s : Store) (steps : List Step) (goals : List Goal) (first : Option ℕ) (goal : ℕ) → StandsFor P m base d c s steps goals first → first ≡ Some goal → (g : CellGoal) × IsAtGoal P m base d c s steps goals goal g
@@ -108,32 +53,8 @@ goal-of P m base d c s steps goals first goal (cs, x, at) e =
     let (g, gs, is, there) = open-first steps goals goal x.open_goals here.tree.open_goals in
     (g, record { made = cs; behind = gs; every = x.all_goals; depths = x.depths; at = subst (λ os. IsAt P m base d c s steps goals (Some goal) cs (record { open_goals = os; all_goals = x.all_goals; depths = x.depths })) is here })
 
--- ---- how many steps were spent
+-- ---- a goal is the same as one above it
 
-pub stands-live : (P : Problem) (m : List MatrixClause) (base d : ℕ) (c : List Choice) (s : Store) (steps : List Step) (goals : List Goal) (first : Option ℕ) → StandsFor P m base d c s steps goals first → IsLive P d c
-stands-live P m base d c s steps goals first (cs, x, at) = running-live P base d c (record { store = s; choices = cs; growth = x }) at.running
-
-pub counted : (P : Problem) (d : ℕ) (pending : List (List Choice)) (begun used : ℕ) (left : Bool) → IsSearched P d pending begun used left → IsCounted P d begun used
-counted P d pending begun used left h =
-    let e = h.count in
-    let n : length h.spent ≡ used - begun = omega (arith, e) in
-    (omega (arith, e), subst (AtLeastMany member_cmp (IsEarly P d)) n (spent-many P d h.spent pending h.search.explores))
-
-pub visit-counted : (P : Problem) (m : List MatrixClause) (base d : ℕ) (s : Store) (steps : List Step) (goals : List Goal) (first : Option ℕ) (points : List Point) (later : List (List Choice)) (begun used after : ℕ) (left : Bool) → IsSpace P m d → IsVisiting P m base d s steps goals first points later begun used left → after ≡ used + 1 → IsCounted P d begun after
-visit-counted P m base d s steps goals first points later begun used after left space v k =
-    let e = v.searched.count in
-    let n : suc (length v.searched.spent) ≡ after - begun = omega (arith, e, k) in
-    (omega (arith, e, k), subst (AtLeastMany member_cmp (IsEarly P d)) n (visited-many P d v.searched.spent v.choices (v.pending ++ later) v.searched.search.explores space.from_one (stands-live P m base d v.choices s steps goals first v.stands)))
-
-pub visit-ended : (P : Problem) (m : List MatrixClause) (base d : ℕ) (s : Store) (steps : List Step) (goals : List Goal) (first : Option ℕ) (points : List Point) (later : List (List Choice)) (begun used after : ℕ) (left : Bool) → IsSpace P m d → IsVisiting P m base d s steps goals first points later begun used left → after ≡ used → MoreThan member_cmp (IsEarly P d) (after - begun)
-visit-ended P m base d s steps goals first points later begun used after left space v k =
-    let e = v.searched.count in
-    let n : length v.searched.spent ≡ after - begun = omega (arith, e, k) in
-    subst (MoreThan member_cmp (IsEarly P d)) n (steps-ended P d v.searched.spent v.choices (v.pending ++ later) v.searched.search.explores space.from_one (stands-live P m base d v.choices s steps goals first v.stands))
-
--- ---- no open goal
-
--- a goal is the same as one above it
 pub visit-dead : (P : Problem) (m : List MatrixClause) (base d : ℕ) (s : Store) (steps : List Step) (goals : List Goal) (first : Option ℕ) (points : List Point) (later : List (List Choice)) (begun used : ℕ) (left : Bool) → (v : IsVisiting P m base d s steps goals first points later begun used left) → IsDead P v.choices → IsExploring P m base d s steps goals points later begun used left
 visit-dead P m base d s steps goals first points later begun used left v dead = record {
   pending = v.pending;
@@ -141,32 +62,10 @@ visit-dead P m base d s steps goals first points later begun used left v dead = 
   searched = record {
     spent = v.searched.spent;
     search = search-dead P d v.searched.spent v.choices (v.pending ++ later) left v.searched.search v.not_empty dead;
+    from = v.searched.from;
     count = v.searched.count;
   };
 }
-
-same-tableau : (gs : List GroundChoice) (t u : Tableau) → IsTableauBy gs t → IsTableauBy gs u → t ≡ u
-same-tableau [] t u h k = absurd h
-same-tableau (start i ∷ gs) t u h k = h ∙ sym k
-same-tableau (reduction up ∷ gs) t u h k = absurd h
-same-tableau (extension i place ∷ gs) t u h k = absurd h
-
-none-open : (steps : List Step) (goals : List Goal) (first : Option ℕ) (xs : List CellGoal) → AreOpen steps goals first xs → first ≡ None → xs ≡ []
-none-open steps goals first [] h e = refl
-none-open steps goals first (x ∷ xs) (i, g, k, there, is, rest) e = let z : None ≡ Some i = sym e ∙ k in absurd (cc z)
-
--- the tableau that is read off
-pub visit-closed : (P : Problem) (m : List MatrixClause) (base d : ℕ) (s : Store) (steps : List Step) (goals : List Goal) (first : Option ℕ) (points : List Point) (later : List (List Choice)) (begun used : ℕ) (left : Bool) (after : List Step) (t : Tableau) → IsSpace P m d → (v : IsVisiting P m base d s steps goals first points later begun used left) → first ≡ None → after ≡ steps → HasNoSamePair (record { store = s; choices = v.stands.0; growth = v.stands.1 }) → ((Q : Problem) (b : ℕ) (σ : Solution) → IsTrue (is_classical_store Q b s) → IsTrue (list_all (is_classical_choice b s) (map (the_step m) after)) → GivesOwn s σ → IsTableauBy (map (choice_at σ) (map (the_step m) after)) t) → IsTrue (is_closed P d t)
-visit-closed P m base d s steps goals first points later begun used left after t space v none same new read =
-    let cs = v.stands.0 in
-    let x = v.stands.1 in
-    let at = v.stands.2 in
-    let k = classical-state P base d v.choices (record { store = s; choices = cs; growth = x }) at.running in
-    let σ = own_value s (suc (length s.cells)) in
-    let of = closed-state P base d v.choices (record { store = s; choices = cs; growth = x }) (rank_of s) (suc (length s.cells)) space.domains (ap has_unbounded_strings space.matrix.classical) at.running.state k (none-open steps goals first x.open_goals at.tree.open_goals none) new in
-    let made : map (the_step m) after ≡ cs = ap (map (the_step m)) same ∙ at.tree.made in
-    let by : IsTableauBy (map (choice_at σ) cs) t = subst (λ ys. IsTableauBy (map (choice_at σ) ys) t) made (read P base σ at.running.cells (subst (λ ys. IsTrue (list_all (is_classical_choice base s) ys)) (sym made) at.running.choices) (own-apart s (rank_of s) (suc (length s.cells)) [] k.store.store k.store.ranked)) in
-    subst (λ u. IsTrue (is_closed P d u)) (same-tableau (map (choice_at σ) cs) of.tableau t of.is_built by) of.closed
 
 -- ---- an open goal
 
@@ -192,7 +91,7 @@ known-left P d c g false left h e = inr (h.is_left e refl)
 searched-left : (P : Problem) (d : ℕ) (c : List Choice) (g : CellGoal) (pending : List (List Choice)) (begun used : ℕ) (known left : Bool) → IsLeftFound P d c g known left → IsSearched P d pending begun used known → IsSearched P d pending begun used left
 searched-left P d c g pending begun used known true h k = elim (known-left P d c g known true h refl) [
   | inl e ↦ subst (IsSearched P d pending begun used) e k
-  | inr l ↦ record { spent = k.spent; search = search-left P d k.spent pending known k.search l; count = k.count }
+  | inr l ↦ record { spent = k.spent; search = search-left P d k.spent pending known k.search l; from = k.from; count = k.count }
 ]
 searched-left P d c g pending begun used known false h k = subst (IsSearched P d pending begun used) (h.unknown refl) k
 
@@ -208,6 +107,7 @@ visit-goal P m base d s steps goals first points later begun used after known le
       searched = record {
         spent = n.spent ++ with_choices d v.choices ∷ [];
         search = subst (λ ps. IsSearch P d (n.spent ++ with_choices d v.choices ∷ []) ps left) (sym (append_assoc (behind v.choices (choices_at m d g)) v.pending later)) visited;
+        from = let e = n.from in omega (arith, e, k);
         count = let e = n.count in let l = length-append n.spent (with_choices d v.choices ∷ []) in omega (arith, e, k, l);
       };
     }
@@ -240,3 +140,7 @@ none-left taken old new budget after h l t e k =
 
 pub later-limit : (d : ℕ) → d ≤ 200 → d ≤ 201
 later-limit d l = omega (arith, l)
+
+pub empty-list : {A : Type 0} (xs : List A) → length xs ≡ 0 → xs ≡ []
+empty-list [] e = refl
+empty-list (x ∷ xs) e = absurd (omega (arith, e))

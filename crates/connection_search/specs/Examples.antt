@@ -1,9 +1,9 @@
 -- Problems that the tests build, over a predicate p, a constant a and a function f.
-use Rattle.std.specs.Prelude.{ℕ, zero, suc, List, [], ◌∷◌, IsTrue, codes}
+use Rattle.std.specs.Prelude.{◌≡◌, ℕ, zero, suc, List, [], ◌∷◌, IsTrue, codes, true}
 use Rattle.calculus.specs.declared.symbol.SymbolClass.{SymbolClass}
 use Rattle.calculus.specs.declared.symbol.SymbolClass.TheVariants.{Function, Predicate}
 use Rattle.calculus.specs.declared.setting.Domains.TheVariants.{Constant}
-use Rattle.calculus.specs.declared.setting.Logic.TheVariants.{Classical}
+use Rattle.calculus.specs.declared.setting.Logic.{Logic}
 use Rattle.calculus.specs.Problems.{is_problem}
 use Rattle.calculus.specs.Syntax as tree
 
@@ -13,11 +13,12 @@ named name class arity = record { name = name; class = class; arity = arity }
 abbrev pub symbols : List tree.Symbol
 symbols = named (codes "p") Predicate 1 ∷ named (codes "a") Function 0 ∷ named (codes "f") Function 1 ∷ []
 
-abbrev pub example : tree.Formula → tree.Problem
-example f = record { setting = tree.setting_of Classical Constant; formula = f; symbols = symbols }
+-- with constant domains
+abbrev pub example : Logic → tree.Formula → tree.Problem
+example l f = record { setting = tree.setting_of l Constant; formula = f; symbols = symbols }
 
-abbrev pub IsExample : tree.Formula → Type 0
-IsExample f = IsTrue (is_problem (example f))
+abbrev pub IsExample : Logic → tree.Formula → Type 0
+IsExample l f = IsTrue (is_problem (example l f))
 
 abbrev pub p_of : tree.Term → tree.Formula
 p_of t = tree.atom 0 (tree.more_terms t tree.no_terms)
@@ -37,6 +38,10 @@ f_of t = tree.fun 2 (tree.more_terms t tree.no_terms)
 abbrev pub nested : ℕ → tree.Term
 nested zero = tree.fun 1 tree.no_terms
 nested (suc k) = f_of (nested k)
+
+-- #p(a) => ##p(a)
+abbrev pub doubled : tree.Formula
+doubled = tree.imp (tree.box (p_of (nested zero))) (tree.box (tree.box (p_of (nested zero))))
 
 -- p(a) and ![X]:(p(X) => p(f(X))) => p of this term
 abbrev pub chain : ℕ → tree.Formula

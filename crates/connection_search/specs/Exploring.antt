@@ -1,7 +1,6 @@
 -- The loop of the search: the choice points on the stack, and how far the search at one limit has come.
-use Rattle.std.specs.Prelude.{◌≡◌, ◌⊎◌, ◌≤◌, ◌+◌, ◌-◌, ℕ, List, [], ◌∷◌, ◌++◌, Bool, Option, IsTrue, ⊤, length, reverse}
+use Rattle.std.specs.Prelude.{◌≡◌, ◌⊎◌, ◌≤◌, ◌+◌, ◌-◌, ℕ, List, [], ◌∷◌, ◌++◌, Bool, true, Option, IsTrue, ⊤, length, reverse}
 use Rattle.std.specs.List.{AllByRecursion}
-use Rattle.calculus.specs.declared.setting.Domains.TheVariants.{Constant}
 use Rattle.calculus.specs.Bindings.{IsEarlier}
 use Rattle.calculus.specs.Choices.{Choice}
 use Rattle.calculus.specs.Counting.{AtLeastMany, MoreThan}
@@ -17,7 +16,7 @@ use Rattle.search_theory.specs.States.{CellGoal}
 use Rattle.tableau_core.specs.TableauView.{the_tableau}
 use Rattle.term_store.specs.StoreView.{the_mark}
 use Rattle.connection_search.specs.Points.{IsPoint}
-use Rattle.connection_search.specs.Running.{IsClassicalMatrix, StandsFor}
+use Rattle.connection_search.specs.Running.{IsMatrixOf, StandsFor}
 use Rattle.connection_search.specs.Weights.{greatest_weight, weight}
 use Rattle.connection_search.specs.declared.exploring.Visit.{Visit}
 use Rattle.connection_search.specs.declared.exploring.Visit.TheVariants as visit
@@ -25,10 +24,9 @@ use Rattle.connection_search.specs.declared.point.Point.{Point}
 use Rattle.connection_search.specs.declared.tree.Goal.{Goal}
 use Rattle.connection_search.specs.declared.tree.Step.{Step}
 
--- the space of a classical problem at this limit
+-- the space of a problem at this limit
 pub record IsSpace (P : Problem) (m : List MatrixClause) (d : ℕ) : Type 0 where
-  pub matrix : IsClassicalMatrix P m
-  pub domains : P.setting.domains ≡ Constant
+  pub matrix : IsMatrixOf P m
   pub from_one : 1 ≤ d
   pub to_200 : d ≤ 200
 
@@ -58,19 +56,20 @@ AreAbove k points = AllByRecursion (λ (p : Point). IsEarlier k (the_mark p.mark
 abbrev pub KeepsMoment : TrailMark → Store → Store → Type 0
 KeepsMoment k before after = IsGood k after × (cut_at k after ≡ cut_at k before)
 
--- the points after a visit that does not end the search: as before, or one more, for which a step was spent
+-- the points after a visit that does not end the search: as before, or one more, for which one step was used
 abbrev pub ArePushed : List Point → List Point → ℕ → ℕ → Type 0
 ArePushed before after used used_after =
-    ((after ≡ before) × (used_after ≡ used))
+    ((after ≡ before) × (used ≤ used_after))
     ⊎ ((p : Point) × (after ≡ before ++ p ∷ []) × (used_after ≡ used + 1) × (weight p ≤ greatest_weight))
 
 -- ---- how far the search has come
 
--- steps were used for the members that are spent, and these lists are pending
+-- at most one step was used for each member that is spent, and these lists are pending
 pub record IsSearched (P : Problem) (d : ℕ) (pending : List (List Choice)) (begun used : ℕ) (left : Bool) : Type 0 where
   pub spent : List Member
   pub search : IsSearch P d spent pending left
-  pub count : used ≡ begun + length spent
+  pub from : begun ≤ used
+  pub count : used ≤ begun + length spent
 
 -- what is pending on the points comes next, and then `later`
 pub record IsExploring (P : Problem) (m : List MatrixClause) (base d : ℕ) (s : Store) (steps : List Step) (goals : List Goal) (stack : List Point) (later : List (List Choice)) (begun used : ℕ) (left : Bool) : Type 0 where

@@ -5,17 +5,19 @@ pub mod NewBindings
 -- comparing atoms and goals
 pub mod Sameness
 pub mod Heads
--- ground terms, instances and closings
-pub mod Wanted
+-- what is read off
 pub mod Readable
 -- the answers
 pub mod Outcomes
 -- states
+pub mod OwnStores
 pub mod Running
 -- choice points
 pub mod Points
 pub mod Weights
 -- the loop
 pub mod Exploring
+-- lists without open goals
+pub mod Deciding
 -- worked problems
 pub mod Examples

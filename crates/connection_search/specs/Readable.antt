@@ -1,4 +1,4 @@
--- Copied clauses whose instances can be read off.
+-- Cells and copied clauses that can be read off.
 use Rattle.std.specs.Prelude.{ℕ, List, ◌<◌, ◌≤◌, length, IsTrue, ⊤}
 use Rattle.std.specs.List.{list_all}
 use Rattle.calculus.specs.Stores.{Store, names_below}
@@ -7,9 +7,20 @@ use Rattle.search_theory.specs.States.{atom_is_below}
 use Rattle.term_store.specs.ClauseView.{the_atom}
 use Rattle.term_store.specs.RefView.{the_places}
 use Rattle.term_store.specs.declared.clause.CellAtom as program
+use Rattle.connection_search.specs.declared.terms.Task.{Task}
+use Rattle.connection_search.specs.declared.terms.Task.TheVariants as task
 use Rattle.connection_search.specs.declared.tree.Copied.{Copied}
 use Rattle.connection_search.specs.declared.tree.Step.{Step}
 use Rattle.connection_search.specs.declared.tree.Step.TheVariants.{Start, Reduce, Extend}
+
+-- a cell that is wanted is there
+abbrev pub IsThere : Store → Task → Type 0
+IsThere s (task.Cell r levels) = r.0 < length s.cells
+IsThere s (task.Fun f n) = ⊤
+IsThere s (task.Eigen p n) = ⊤
+IsThere s (task.New p n) = ⊤
+IsThere s (task.Marks n) = ⊤
+IsThere s (task.Own v n) = ⊤
 
 -- its clause is one of the matrix, and its variables and literals are cells of the store
 pub record IsReadable (s : Store) (m : List MatrixClause) (c : Copied) : Type 0 where
@@ -25,5 +36,5 @@ pub record IsReadableExtension (s : Store) (m : List MatrixClause) (c : Copied) 
 
 abbrev pub IsReadableStep : Store → List MatrixClause → Step → Type 0
 IsReadableStep s m (Start c) = IsReadable s m c
-IsReadableStep s m (Reduce up) = ⊤
-IsReadableStep s m (Extend c place atom) = IsReadableExtension s m c place atom
+IsReadableStep s m (Reduce goal up ancestor) = ⊤
+IsReadableStep s m (Extend goal c place atom) = IsReadableExtension s m c place atom

@@ -1,44 +1,51 @@
--- States of the classical search, and the program's tree that stands for one.
-use Rattle.std.specs.Prelude.{◌≡◌, ◌==◌, ◌+◌, ℕ, suc, List, [], ◌∷◌, ◌++◌, ◌≤◌, length, not, Bool, true, false, Option, Some, slice_get, nat_lt, IsTrue}
-use Rattle.std.specs.List.{list_all, list_any}
-use Rattle.calculus.specs.declared.setting.Logic.TheVariants.{Classical}
+-- States of the search, and the program's tree that stands for one.
+use Rattle.std.specs.Prelude.{◌≡◌, ◌==◌, ◌+◌, ℕ, suc, List, [], ◌∷◌, ◌++◌, ◌≤◌, length, not, Bool, true, false, Option, Some, slice_get, nat_le, nat_lt, IsTrue}
+use Rattle.std.specs.List.{AllByRecursion, list_all, list_any}
 use Rattle.calculus.specs.declared.sign.Side.{Side}
-use Rattle.calculus.specs.Bindings.{IsWellFormed, NamesFrom}
+use Rattle.calculus.specs.Bindings.{IsWellFormed}
 use Rattle.calculus.specs.Choices.{Choice, IsLeft, extension}
 use Rattle.calculus.specs.Equality.{sign_eq}
 use Rattle.calculus.specs.Patterns.{PatternAtom}
 use Rattle.calculus.specs.Problems.{formula_fits}
-use Rattle.calculus.specs.Stores.{Store}
+use Rattle.calculus.specs.Stores.{EndsAt, Store}
 use Rattle.calculus.specs.Syntax.{Problem}
-use Rattle.calculus.specs.Systems.{CellAtom}
+use Rattle.calculus.specs.Systems.{CellAtom, IsOpenString, System, cells_of}
 use Rattle.search_theory.proofs.BeginningLaws.{IsDead}
 use Rattle.search_theory.specs.Goals.{IsChoiceAt}
 use Rattle.search_theory.specs.Matrix.{IsTemplateMatrix, MatrixClause, MatrixPlace}
-use Rattle.search_theory.specs.Regular.{is_classical_choice, is_classical_goal, is_classical_store}
+use Rattle.search_theory.proofs.LabelledEnd.{IsChoiceIn}
+use Rattle.search_theory.proofs.LeftLabels.{IsGoalIn}
+use Rattle.search_theory.specs.StateSystems.{IsSystemOf}
 use Rattle.search_theory.specs.States.{CellChoice, CellGoal, CellGrowth, IsStateOf, State}
-use Rattle.connection_search.specs.Trees.{IsTree, atom_at}
+use Rattle.connection_search.specs.OwnStores.{AreOwn}
+use Rattle.connection_search.specs.Trees.{IsTree, atom_at, tree_system}
 use Rattle.connection_search.specs.declared.tree.Goal.{Goal}
 use Rattle.connection_search.specs.declared.tree.Step.{Step}
 
--- a state over cells from the number `base` on, which are the search's own
-pub record IsRunning (P : Problem) (base d : ℕ) (c : List Choice) (S : State) : Type 0 where
+-- each unbound string from the number `base` on is one of the system's
+abbrev pub NamesStringsFrom : ℕ → Store → System → Type 0
+NamesStringsFrom base s y = (v : ℕ) → base ≤ v → IsOpenString s v → (i : ℕ) × (r : ℕ) × (slice_get y.strings i ≡ Some r) × EndsAt s r v
+
+-- a state over cells from the number `base` on, which are the search's own, and its system
+pub record IsRunning (P : Problem) (base d : ℕ) (c : List Choice) (S : State) (y : System) : Type 0 where
   pub state : IsStateOf P d c S
   pub well : IsWellFormed S.store
   pub from : base ≤ length S.store.cells
-  pub names : NamesFrom base S.store
-  pub cells : IsTrue (is_classical_store P base S.store)
-  pub open_goals : IsTrue (list_all (is_classical_goal base S.store) S.growth.open_goals)
-  pub goals : IsTrue (list_all (is_classical_goal base S.store) S.growth.all_goals)
-  pub choices : IsTrue (list_all (is_classical_choice base S.store) S.choices)
+  pub own : AreOwn P base S.store
+  pub choices : AllByRecursion (IsChoiceIn (λ r. base ≤ r) S.store) S.choices
+  pub open_goals : AllByRecursion (IsGoalIn (λ r. base ≤ r) S.store) S.growth.open_goals
+  pub goals : AllByRecursion (IsGoalIn (λ r. base ≤ r) S.store) S.growth.all_goals
+  pub system : IsSystemOf P S y
+  pub cells : IsTrue (list_all (nat_le base) (cells_of y))
+  pub strings : NamesStringsFrom base S.store y
 
 -- the program's store and tree stand for such a state
 pub record IsAt (P : Problem) (m : List MatrixClause) (base d : ℕ) (c : List Choice) (s : Store) (steps : List Step) (goals : List Goal) (first : Option ℕ) (cs : List CellChoice) (x : CellGrowth) : Type 0 where
-  pub running : IsRunning P base d c (record { store = s; choices = cs; growth = x })
+  pub running : IsRunning P base d c (record { store = s; choices = cs; growth = x }) (tree_system m steps goals x.all_goals)
   pub tree : IsTree m steps goals first cs x
 
--- the matrix is that of a classical problem
-pub record IsClassicalMatrix (P : Problem) (m : List MatrixClause) : Type 0 where
-  pub classical : P.setting.logic ≡ Classical
+-- the matrix is that of the problem, whose formula fits
+pub record IsMatrixOf (P : Problem) (m : List MatrixClause) : Type 0 where
   pub fits : IsTrue (formula_fits P.setting.logic P.symbols 0 P.formula)
   pub matrix : IsTemplateMatrix P m
 

@@ -1,19 +1,20 @@
 //! Unifying and comparing atoms.
 
-ghost use Rattle.std.specs.Prelude.{◌≡◌, ◌<◌, ◌&&◌, ◌==◌, ℕ, Some, IfOk, IsTrue};
+ghost use Rattle.std.specs.Prelude.{◌≡◌, ◌<◌, ◌≤◌, ◌&&◌, ◌==◌, ℕ, Some, IfOk, IsTrue};
 ghost use Rattle.std.specs.Prelude.{false, length, map, not, slice_get, true, nat_le};
 ghost use Rattle.std.specs.List.{list_all};
 ghost use Rattle.calculus.specs.declared.sort.Sort.TheVariants.{TermSort};
 ghost use Rattle.calculus.specs.Bindings.{BindsOnly, KeepsMarks, NamesFrom};
 ghost use Rattle.calculus.specs.Equality.{sign_eq};
 ghost use Rattle.calculus.specs.Kinds as kinds;
-ghost use Rattle.calculus.specs.Stores.{Solution, Solves, has_sort_at, names_below};
+ghost use Rattle.calculus.specs.Stores.{has_sort_at};
 ghost use Rattle.calculus.specs.Syntax.{Problem};
 ghost use Rattle.connection_search.specs.NewBindings.{IsClosedBelow};
-ghost use Rattle.connection_search.specs.Sameness.{DifferAt};
-ghost use Rattle.search_theory.specs.Regular.{AreSame, is_classical_atom, is_classical_store};
+ghost use Rattle.connection_search.specs.OwnStores.{AreOwn};
+ghost use Rattle.search_theory.proofs.AtomLaws.{IsAtomIn};
+ghost use Rattle.search_theory.specs.Regular.{AreSame};
 ghost use Rattle.search_theory.specs.Stack as stack;
-ghost use Rattle.search_theory.specs.States.{terms_by};
+ghost use Rattle.search_theory.specs.States.{atom_is_below};
 ghost use Rattle.search_theory.specs.Steps.{AreUnified, Clash};
 ghost use Rattle.term_store.specs.ClauseView.{the_atom};
 ghost use Rattle.term_store.specs.RefView.{the_place};
@@ -23,7 +24,7 @@ use crate::pair::unify_pair;
 use calculus::sign::Sign;
 use cop_base::NoMemory;
 use term_store::{CellAtom, Ref, Store};
-use term_unify::Unifier;
+use term_unify::{Unifier, are_same_cells};
 
 pub(crate) fn are_same_sign(a: Sign, b: Sign) -> bool
     ensures { result ≡ sign_eq a b }
@@ -104,47 +105,21 @@ pub(crate) fn unify_all(
     Ok(true)
 }
 
-// Whether the bindings make the lists of terms equal.
-fn are_same_terms(
-    unifier: &mut Unifier,
-    store: &Store,
-    xs: &[Ref],
-    ys: &[Ref],
-) -> Result<bool, NoMemory>
-    requires left { IsTrue (names_below (length store.now.store.cells) (map the_place xs.now)) }
-    requires right { IsTrue (names_below (length store.now.store.cells) (map the_place ys.now)) }
-    ensures same { IfOk result (λ same. same ≡ true → (σ : Solution) → Solves store.now.store σ
-        → terms_by σ (map the_place xs.now) ≡ terms_by σ (map the_place ys.now)) }
-    ensures different { IfOk result (λ same. same ≡ false
-        → DifferAt store.now.store (map the_place xs.now) (map the_place ys.now)) }
-{
-    if xs.len() != ys.len() {
-        return Ok(false);
-    }
-    for i in 0..xs.len() {
-        if !unifier.are_same(store, reference_at(xs, i), reference_at(ys, i))? {
-            return Ok(false);
-        }
-    }
-    Ok(true)
-}
-
-/// Whether the bindings make the two the same signed atom.
+/// Whether the bindings make the two the same signed atom at one label.
 pub(crate) fn are_same(
     unifier: &mut Unifier,
     store: &Store,
     a: &CellAtom,
     b: &CellAtom,
 ) -> Result<bool, NoMemory>
-    requires left { IsTrue (names_below (length store.now.store.cells) (the_atom a.now).args) }
-    requires right { IsTrue (names_below (length store.now.store.cells) (the_atom b.now).args) }
+    requires left { IsTrue (atom_is_below (length store.now.store.cells) (the_atom a.now)) }
+    requires right { IsTrue (atom_is_below (length store.now.store.cells) (the_atom b.now)) }
     ensures same { IfOk result (λ same. same ≡ true
-        → (the_atom a.now).label ≡ (the_atom b.now).label
         → AreSame store.now.store (the_atom a.now) (the_atom b.now)) }
     ensures different { IfOk result (λ same. same ≡ false → (P : Problem) (base : ℕ)
-        → IsTrue (is_classical_store P base store.now.store)
-        → IsTrue (is_classical_atom base store.now.store (the_atom a.now))
-        → IsTrue (is_classical_atom base store.now.store (the_atom b.now))
+        → AreOwn P base store.now.store
+        → IsAtomIn (λ r. base ≤ r) store.now.store (the_atom a.now)
+        → IsAtomIn (λ r. base ≤ r) store.now.store (the_atom b.now)
         → ¬ AreSame store.now.store (the_atom a.now) (the_atom b.now)) }
 {
     let _now = store.mark();
@@ -154,6 +129,9 @@ pub(crate) fn are_same(
     if a.symbol.0 != b.symbol.0 {
         return Ok(false);
     }
-    let same = are_same_terms(unifier, store, a.args.items(), b.args.items())?;
+    if !are_same_cells(unifier, store, a.args.items(), b.args.items())? {
+        return Ok(false);
+    }
+    let same = are_same_cells(unifier, store, a.label.items(), b.label.items())?;
     Ok(same)
 }

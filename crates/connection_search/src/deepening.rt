@@ -1,7 +1,6 @@
 //! Deepening on the path limit.
 
-ghost use Rattle.std.specs.Prelude.{◌≡◌, ◌≤◌, ◌-◌, IfOk};
-ghost use Rattle.calculus.specs.declared.setting.Logic.TheVariants.{Classical};
+ghost use Rattle.std.specs.Prelude.{◌≡◌, ◌≤◌, ◌-◌, IfOk, true};
 ghost use Rattle.search_theory.specs.Matrix.{IsTemplateMatrix};
 ghost use Rattle.connection_search.specs.Outcomes.{IfEnded, IsDeepAnswer};
 
@@ -25,8 +24,8 @@ pub enum Answer {
     Steps { limit: u8 },
 }
 
-/// Searches the limits from 1 to `max_limit` (leanCoP's iterative deepening), over the problem's own
-/// matrix. A limit that is not left ends the matter.
+/// Searches the limits from 1 to `max_limit` (leanCoP's iterative deepening), over the problem's
+/// own matrix, with steps as `search_in` uses them. A limit that is not left ends the matter.
 pub fn deepen(
     alloc: Global,
     problem: &Problem,
@@ -34,7 +33,6 @@ pub fn deepen(
     max_limit: u8,
     ledger: &mut Ledger,
 ) -> Result<Answer, NoMemory>
-    requires classical { problem.now.setting.logic ≡ Classical }
     requires matrix { IsTemplateMatrix problem.now matrix.now }
     requires from_one { 1 ≤ max_limit }
     requires to_200 { max_limit ≤ 200 }

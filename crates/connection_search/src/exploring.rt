@@ -4,7 +4,6 @@ ghost use Rattle.std.specs.Prelude.{◌≡◌, ◌<◌, ◌++◌, ◌∷◌, [],
 ghost use Rattle.calculus.specs.Bindings.{KeepsMarks};
 ghost use Rattle.calculus.specs.Choices.{Choice};
 ghost use Rattle.calculus.specs.Stores.{IsGood, TrailMark};
-ghost use Rattle.calculus.specs.Syntax.{Problem};
 ghost use Rattle.term_store.specs.Room.{KeepsRoom};
 ghost use Rattle.connection_search.specs.Exploring.{AreAbove, ArePushed, IfOn, IsCounted, IsEnd};
 ghost use Rattle.connection_search.specs.Exploring.{IsExploring, IsSearched, IsSpace, IsVisiting};
@@ -13,7 +12,6 @@ ghost use Rattle.connection_search.specs.Weights.{work_left};
 
 use crate::moves::Work;
 use crate::point::Point;
-use crate::reading::tableau_of;
 use crate::space::Space;
 use cop_base::{Ledger, NoMemory};
 use tableau_core::Tableau;
@@ -27,8 +25,8 @@ pub(crate) enum Visit {
 }
 
 impl Space<'_> {
-    // Spends a step for the list of choices. A list without open goals is judged here: it is closed
-    // where no goal is the same as one above it.
+    // Spends a step for the list of choices. A list without open goals is decided here, where no
+    // goal is the same as one above it.
     pub(crate) fn visit(
         &self,
         ledger: &mut Ledger,
@@ -37,33 +35,38 @@ impl Space<'_> {
         points: &mut Vec<Point>,
         left: &mut bool,
     ) -> Result<Visit, NoMemory>
-        requires { (P : Problem) × (base : ℕ) × (later : List (List Choice)) × (begun : ℕ)
-            × IsSpace P self.now.matrix.now self.now.limit
-            × IsVisiting P self.now.matrix.now base self.now.limit store.old.store
+        requires { (base : ℕ) × (later : List (List Choice)) × (begun : ℕ)
+            × IsSpace self.now.problem.now self.now.matrix.now self.now.limit
+            × IsVisiting self.now.problem.now self.now.matrix.now base self.now.limit
+            store.old.store
             work.old.tree.steps.items work.old.tree.goals.items work.old.tree.open
             points.old.items later begun ledger.old.used left.old }
-        ensures on { IfOk result (λ v. IfOn v ((P : Problem) (base : ℕ)
+        ensures on { IfOk result (λ v. IfOn v ((base : ℕ)
             (later : List (List Choice)) (begun : ℕ)
-            → IsSpace P self.now.matrix.now self.now.limit
-            → IsVisiting P self.now.matrix.now base self.now.limit store.old.store
+            → IsSpace self.now.problem.now self.now.matrix.now self.now.limit
+            → IsVisiting self.now.problem.now self.now.matrix.now base self.now.limit
+            store.old.store
             work.old.tree.steps.items work.old.tree.goals.items work.old.tree.open
             points.old.items later begun ledger.old.used left.old
-            → IsExploring P self.now.matrix.now base self.now.limit store.new.store
+            → IsExploring self.now.problem.now self.now.matrix.now base self.now.limit
+            store.new.store
             work.new.tree.steps.items work.new.tree.goals.items
             points.new.items later begun ledger.new.used left.new)) }
-        ensures end { IfOk result (λ v. (P : Problem) (base : ℕ)
+        ensures end { IfOk result (λ v. (base : ℕ)
             (later : List (List Choice)) (begun : ℕ)
-            → IsSpace P self.now.matrix.now self.now.limit
-            → IsVisiting P self.now.matrix.now base self.now.limit store.old.store
+            → IsSpace self.now.problem.now self.now.matrix.now self.now.limit
+            → IsVisiting self.now.problem.now self.now.matrix.now base self.now.limit
+            store.old.store
             work.old.tree.steps.items work.old.tree.goals.items work.old.tree.open
             points.old.items later begun ledger.old.used left.old
-            → IsEnd P self.now.limit begun ledger.new.used ledger.new.budget v) }
-        ensures counted { (P : Problem) (base : ℕ) (later : List (List Choice)) (begun : ℕ)
-            → IsSpace P self.now.matrix.now self.now.limit
-            → IsVisiting P self.now.matrix.now base self.now.limit store.old.store
+            → IsEnd self.now.problem.now self.now.limit begun ledger.new.used ledger.new.budget v) }
+        ensures counted { (base : ℕ) (later : List (List Choice)) (begun : ℕ)
+            → IsSpace self.now.problem.now self.now.matrix.now self.now.limit
+            → IsVisiting self.now.problem.now self.now.matrix.now base self.now.limit
+            store.old.store
             work.old.tree.steps.items work.old.tree.goals.items work.old.tree.open
             points.old.items later begun ledger.old.used left.old
-            → IsCounted P self.now.limit begun ledger.new.used }
+            → IsCounted self.now.problem.now self.now.limit begun ledger.new.used }
         ensures budget { ledger.new.budget ≡ ledger.old.budget }
         ensures points { IfOk result (λ v. IfOn v
             (ArePushed points.old.items points.new.items ledger.old.used ledger.new.used)) }
@@ -80,14 +83,14 @@ impl Space<'_> {
                 if !ledger.take() {
                     return Ok(Visit::Steps);
                 }
-                let tableau = tableau_of(work.alloc, store, self.matrix, &work.tree)?;
-                Ok(Visit::Closed(tableau))
+                let decided = self.decide(ledger, store, work)?;
+                Ok(decided)
             }
             Some(goal) => {
                 if !ledger.take() {
                     return Ok(Visit::Steps);
                 }
-                let point = Point::new(store, self.matrix, &work.tree, goal, self.limit);
+                let point = Point::new(store, self.matrix, &work.tree, goal, self.limit as usize);
                 *left = self.is_left(store, work, goal, *left)?;
                 points.push(point)?;
                 Ok(Visit::On)
@@ -107,33 +110,38 @@ impl Space<'_> {
         left: &mut bool,
         last: Point,
     ) -> Result<Visit, NoMemory>
-        requires { (P : Problem) × (base : ℕ) × (later : List (List Choice)) × (begun : ℕ)
-            × IsSpace P self.now.matrix.now self.now.limit
-            × IsExploring P self.now.matrix.now base self.now.limit store.old.store
+        requires { (base : ℕ) × (later : List (List Choice)) × (begun : ℕ)
+            × IsSpace self.now.problem.now self.now.matrix.now self.now.limit
+            × IsExploring self.now.problem.now self.now.matrix.now base self.now.limit
+            store.old.store
             work.old.tree.steps.items work.old.tree.goals.items
             (points.old.items ++ last ∷ []) later begun ledger.old.used left.old }
-        ensures on { IfOk result (λ v. IfOn v ((P : Problem) (base : ℕ)
+        ensures on { IfOk result (λ v. IfOn v ((base : ℕ)
             (later : List (List Choice)) (begun : ℕ)
-            → IsSpace P self.now.matrix.now self.now.limit
-            → IsExploring P self.now.matrix.now base self.now.limit store.old.store
+            → IsSpace self.now.problem.now self.now.matrix.now self.now.limit
+            → IsExploring self.now.problem.now self.now.matrix.now base self.now.limit
+            store.old.store
             work.old.tree.steps.items work.old.tree.goals.items
             (points.old.items ++ last ∷ []) later begun ledger.old.used left.old
-            → IsExploring P self.now.matrix.now base self.now.limit store.new.store
+            → IsExploring self.now.problem.now self.now.matrix.now base self.now.limit
+            store.new.store
             work.new.tree.steps.items work.new.tree.goals.items
             points.new.items later begun ledger.new.used left.new)) }
-        ensures end { IfOk result (λ v. (P : Problem) (base : ℕ)
+        ensures end { IfOk result (λ v. (base : ℕ)
             (later : List (List Choice)) (begun : ℕ)
-            → IsSpace P self.now.matrix.now self.now.limit
-            → IsExploring P self.now.matrix.now base self.now.limit store.old.store
+            → IsSpace self.now.problem.now self.now.matrix.now self.now.limit
+            → IsExploring self.now.problem.now self.now.matrix.now base self.now.limit
+            store.old.store
             work.old.tree.steps.items work.old.tree.goals.items
             (points.old.items ++ last ∷ []) later begun ledger.old.used left.old
-            → IsEnd P self.now.limit begun ledger.new.used ledger.new.budget v) }
-        ensures counted { (P : Problem) (base : ℕ) (later : List (List Choice)) (begun : ℕ)
-            → IsSpace P self.now.matrix.now self.now.limit
-            → IsExploring P self.now.matrix.now base self.now.limit store.old.store
+            → IsEnd self.now.problem.now self.now.limit begun ledger.new.used ledger.new.budget v) }
+        ensures counted { (base : ℕ) (later : List (List Choice)) (begun : ℕ)
+            → IsSpace self.now.problem.now self.now.matrix.now self.now.limit
+            → IsExploring self.now.problem.now self.now.matrix.now base self.now.limit
+            store.old.store
             work.old.tree.steps.items work.old.tree.goals.items
             (points.old.items ++ last ∷ []) later begun ledger.old.used left.old
-            → IsCounted P self.now.limit begun ledger.new.used }
+            → IsCounted self.now.problem.now self.now.limit begun ledger.new.used }
         ensures budget { ledger.new.budget ≡ ledger.old.budget }
         ensures falls { IfOk result (λ v. IfOn v (
             work_left ledger.old.budget ledger.new.used points.new.items
@@ -171,31 +179,35 @@ impl Space<'_> {
         points: &mut Vec<Point>,
         left: &mut bool,
     ) -> Result<Visit, NoMemory>
-        requires { (P : Problem) × (base : ℕ) × (later : List (List Choice)) × (begun : ℕ)
-            × IsSpace P self.now.matrix.now self.now.limit
-            × IsExploring P self.now.matrix.now base self.now.limit store.old.store
+        requires { (base : ℕ) × (later : List (List Choice)) × (begun : ℕ)
+            × IsSpace self.now.problem.now self.now.matrix.now self.now.limit
+            × IsExploring self.now.problem.now self.now.matrix.now base self.now.limit
+            store.old.store
             work.old.tree.steps.items work.old.tree.goals.items
             points.old.items later begun ledger.old.used left.old }
-        ensures on { IfOk result (λ v. IfOn v ((P : Problem) (base : ℕ)
+        ensures on { IfOk result (λ v. IfOn v ((base : ℕ)
             (later : List (List Choice)) (begun : ℕ)
-            → IsSpace P self.now.matrix.now self.now.limit
-            → IsExploring P self.now.matrix.now base self.now.limit store.old.store
+            → IsSpace self.now.problem.now self.now.matrix.now self.now.limit
+            → IsExploring self.now.problem.now self.now.matrix.now base self.now.limit
+            store.old.store
             work.old.tree.steps.items work.old.tree.goals.items
             points.old.items later begun ledger.old.used left.old
-            → IsSearched P self.now.limit later begun ledger.new.used left.new)) }
-        ensures end { IfOk result (λ v. (P : Problem) (base : ℕ)
+            → IsSearched self.now.problem.now self.now.limit later begun ledger.new.used left.new)) }
+        ensures end { IfOk result (λ v. (base : ℕ)
             (later : List (List Choice)) (begun : ℕ)
-            → IsSpace P self.now.matrix.now self.now.limit
-            → IsExploring P self.now.matrix.now base self.now.limit store.old.store
+            → IsSpace self.now.problem.now self.now.matrix.now self.now.limit
+            → IsExploring self.now.problem.now self.now.matrix.now base self.now.limit
+            store.old.store
             work.old.tree.steps.items work.old.tree.goals.items
             points.old.items later begun ledger.old.used left.old
-            → IsEnd P self.now.limit begun ledger.new.used ledger.new.budget v) }
-        ensures counted { (P : Problem) (base : ℕ) (later : List (List Choice)) (begun : ℕ)
-            → IsSpace P self.now.matrix.now self.now.limit
-            → IsExploring P self.now.matrix.now base self.now.limit store.old.store
+            → IsEnd self.now.problem.now self.now.limit begun ledger.new.used ledger.new.budget v) }
+        ensures counted { (base : ℕ) (later : List (List Choice)) (begun : ℕ)
+            → IsSpace self.now.problem.now self.now.matrix.now self.now.limit
+            → IsExploring self.now.problem.now self.now.matrix.now base self.now.limit
+            store.old.store
             work.old.tree.steps.items work.old.tree.goals.items
             points.old.items later begun ledger.old.used left.old
-            → IsCounted P self.now.limit begun ledger.new.used }
+            → IsCounted self.now.problem.now self.now.limit begun ledger.new.used }
         ensures budget { ledger.new.budget ≡ ledger.old.budget }
         ensures moment { (k : TrailMark) → IsGood k store.old.store → AreAbove k points.old.items
             → KeepsMoment k store.old.store store.new.store }

@@ -2,9 +2,11 @@
 #![tactic(auto)]
 
 mod atoms;
+mod deciding;
 mod deepening;
 mod exploring;
 mod heads;
+mod homes;
 mod moves;
 mod pair;
 mod point;
@@ -12,6 +14,7 @@ mod reading;
 mod regular;
 mod searching;
 mod space;
+mod system;
 mod terms;
 #[cfg(test)]
 mod tests;

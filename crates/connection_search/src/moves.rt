@@ -14,7 +14,7 @@ ghost use Rattle.search_theory.specs.Stack.{extension_at, selection_of};
 ghost use Rattle.search_theory.specs.States.{CellChoice, CellGoal, CellGrowth};
 ghost use Rattle.term_store.specs.Room.{KeepsRoom};
 ghost use Rattle.connection_search.specs.Points.{IsMoveAt, the_move};
-ghost use Rattle.connection_search.specs.Running.{ExtendsBy, IsAt, IsAtGoal, IsClassicalMatrix};
+ghost use Rattle.connection_search.specs.Running.{ExtendsBy, IsAt, IsAtGoal, IsMatrixOf};
 ghost use Rattle.connection_search.specs.Running.{ReducesBy, StandsDeep, StandsFor};
 ghost use Rattle.connection_search.specs.Trees.{KeepsTree};
 
@@ -65,11 +65,11 @@ impl Work {
         matrix: &Matrix,
         clause: ClauseId,
     ) -> Result<(), NoMemory>
-        requires matrix { (P : Problem) × IsClassicalMatrix P matrix.now }
+        requires matrix { (P : Problem) × IsMatrixOf P matrix.now }
         requires clause { clause.0 < length matrix.now }
         requires steps { self.old.tree.steps.items ≡ [] }
         requires goals { self.old.tree.goals.items ≡ [] }
-        ensures started { OnOk result ((P : Problem) (d : ℕ) → IsClassicalMatrix P matrix.now
+        ensures started { OnOk result ((P : Problem) (d : ℕ) → IsMatrixOf P matrix.now
             → option_map (λ (x : MatrixClause). all_shown x.template)
             (slice_get matrix.now clause.0) ≡ Some true
             → StandsFor P matrix.now (length store.old.store.cells) d
@@ -122,7 +122,7 @@ impl Work {
             return Ok(false);
         }
         let _met = store.mark();
-        self.tree.reduce(goal, up)?;
+        self.tree.reduce(goal, up, ancestor)?;
         let new = self.is_leftmost_new(store)?;
         Ok(new)
     }
@@ -136,13 +136,13 @@ impl Work {
         place: Place,
     ) -> Result<bool, NoMemory>
         requires { (P : Problem) × (base : ℕ) × (d : ℕ) × (c : List Choice) × (g : CellGoal)
-            × IsClassicalMatrix P matrix.now
+            × IsMatrixOf P matrix.now
             × IsAtGoal P matrix.now base d c store.old.store self.old.tree.steps.items
             self.old.tree.goals.items goal g
             × ExtendsBy matrix.now d g (the_place place) }
         ensures made { IfOk result (λ made. made ≡ true
             → (P : Problem) (base d : ℕ) (c : List Choice) (g : CellGoal)
-            → IsClassicalMatrix P matrix.now
+            → IsMatrixOf P matrix.now
             → IsAtGoal P matrix.now base d c store.old.store self.old.tree.steps.items
             self.old.tree.goals.items goal g
             → ExtendsBy matrix.now d g (the_place place)
@@ -151,7 +151,7 @@ impl Work {
             self.new.tree.open) }
         ensures deep { IfOk result (λ made. made ≡ true
             → (P : Problem) (base d : ℕ) (c : List Choice) (g : CellGoal)
-            → IsClassicalMatrix P matrix.now
+            → IsMatrixOf P matrix.now
             → IsAtGoal P matrix.now base d c store.old.store self.old.tree.steps.items
             self.old.tree.goals.items goal g
             → ExtendsBy matrix.now d g (the_place place)
@@ -160,7 +160,7 @@ impl Work {
             (length g.path)) }
         ensures refused { IfOk result (λ made. made ≡ false
             → (P : Problem) (base d : ℕ) (c : List Choice) (g : CellGoal)
-            → IsClassicalMatrix P matrix.now
+            → IsMatrixOf P matrix.now
             → IsAtGoal P matrix.now base d c store.old.store self.old.tree.steps.items
             self.old.tree.goals.items goal g
             → ExtendsBy matrix.now d g (the_place place)
@@ -247,13 +247,13 @@ impl Work {
         choice: Move,
     ) -> Result<bool, NoMemory>
         requires { (P : Problem) × (base : ℕ) × (d : ℕ) × (c : List Choice) × (g : CellGoal)
-            × IsClassicalMatrix P matrix.now
+            × IsMatrixOf P matrix.now
             × IsAtGoal P matrix.now base d c store.old.store self.old.tree.steps.items
             self.old.tree.goals.items goal g
             × IsMoveAt matrix.now d self.old.tree.steps.items self.old.tree.goals.items g choice }
         ensures made { IfOk result (λ made. made ≡ true
             → (P : Problem) (base d : ℕ) (c : List Choice) (g : CellGoal)
-            → IsClassicalMatrix P matrix.now
+            → IsMatrixOf P matrix.now
             → IsAtGoal P matrix.now base d c store.old.store self.old.tree.steps.items
             self.old.tree.goals.items goal g
             → IsMoveAt matrix.now d self.old.tree.steps.items self.old.tree.goals.items g choice
@@ -261,7 +261,7 @@ impl Work {
             self.new.tree.steps.items self.new.tree.goals.items self.new.tree.open) }
         ensures refused { IfOk result (λ made. made ≡ false
             → (P : Problem) (base d : ℕ) (c : List Choice) (g : CellGoal)
-            → IsClassicalMatrix P matrix.now
+            → IsMatrixOf P matrix.now
             → IsAtGoal P matrix.now base d c store.old.store self.old.tree.steps.items
             self.old.tree.goals.items goal g
             → IsMoveAt matrix.now d self.old.tree.steps.items self.old.tree.goals.items g choice

@@ -1,11 +1,13 @@
 //! Regularity: no goal is the same as one above it.
 
-ghost use Rattle.std.specs.Prelude.{◌≡◌, ℕ, List, IfOk, IsTrue, None, Some};
+ghost use Rattle.std.specs.Prelude.{◌≡◌, ◌≤◌, ℕ, List, IfOk, IsTrue, None, Some};
 ghost use Rattle.std.specs.Prelude.{drop, false, length, true};
 ghost use Rattle.std.specs.List.{AllByRecursion, list_all};
 ghost use Rattle.calculus.specs.Syntax.{Problem};
-ghost use Rattle.search_theory.specs.Regular.{IsNewGoal, is_classical_goal, is_classical_store};
+ghost use Rattle.search_theory.proofs.LeftLabels.{IsGoalIn};
+ghost use Rattle.search_theory.specs.Regular.{IsNewGoal};
 ghost use Rattle.search_theory.specs.States.{CellGoal, goal_is_below};
+ghost use Rattle.connection_search.specs.OwnStores.{AreOwn};
 ghost use Rattle.connection_search.specs.Sameness.{AnyRepeated, IsRepeated};
 ghost use Rattle.connection_search.specs.Trees.{AreGoals, IsGoalAt};
 
@@ -26,11 +28,11 @@ pub(crate) fn is_new(
         × IsTrue (goal_is_below (length store.now.store.cells) x) }
     ensures new { IfOk result (λ new. new ≡ true → (P : Problem) (base : ℕ) (x : CellGoal)
         → IsGoalAt tree.now.steps.items tree.now.goals.items goal x
-        → IsTrue (is_classical_store P base store.now.store)
-        → IsTrue (is_classical_goal base store.now.store x) → IsNewGoal store.now.store x) }
-    ensures repeated { IfOk result (λ new. new ≡ false → (base : ℕ) (x : CellGoal)
+        → AreOwn P base store.now.store → IsGoalIn (λ r. base ≤ r) store.now.store x
+        → IsNewGoal store.now.store x) }
+    ensures repeated { IfOk result (λ new. new ≡ false → (x : CellGoal)
         → IsGoalAt tree.now.steps.items tree.now.goals.items goal x
-        → IsTrue (is_classical_goal base store.now.store x) → IsRepeated store.now.store x) }
+        → IsRepeated store.now.store x) }
 {
     let at = tree.goals[goal];
     let signed = tree.atom(goal);
@@ -62,13 +64,12 @@ pub(crate) fn first_repeated(
     ensures new { IfOk result (λ found. found ≡ None → (P : Problem) (base : ℕ)
         (xs : List CellGoal)
         → AreGoals tree.now.steps.items tree.now.goals.items tree.now.goals.items xs
-        → IsTrue (is_classical_store P base store.now.store)
-        → IsTrue (list_all (is_classical_goal base store.now.store) xs)
+        → AreOwn P base store.now.store
+        → AllByRecursion (IsGoalIn (λ r. base ≤ r) store.now.store) xs
         → AllByRecursion (IsNewGoal store.now.store) (drop first xs)) }
-    ensures repeated { IfOk result (λ found. (goal : ℕ) → found ≡ Some goal → (base : ℕ)
-        (xs : List CellGoal)
+    ensures repeated { IfOk result (λ found. (goal : ℕ) → found ≡ Some goal
+        → (xs : List CellGoal)
         → AreGoals tree.now.steps.items tree.now.goals.items tree.now.goals.items xs
-        → IsTrue (list_all (is_classical_goal base store.now.store) xs)
         → AnyRepeated store.now.store xs) }
 {
     for goal in first..tree.goals.len() {
@@ -91,12 +92,11 @@ pub(crate) fn are_new_from(
         × IsTrue (list_all (goal_is_below (length store.now.store.cells)) xs) }
     ensures new { IfOk result (λ new. new ≡ true → (P : Problem) (base : ℕ) (xs : List CellGoal)
         → AreGoals tree.now.steps.items tree.now.goals.items tree.now.goals.items xs
-        → IsTrue (is_classical_store P base store.now.store)
-        → IsTrue (list_all (is_classical_goal base store.now.store) xs)
+        → AreOwn P base store.now.store
+        → AllByRecursion (IsGoalIn (λ r. base ≤ r) store.now.store) xs
         → AllByRecursion (IsNewGoal store.now.store) (drop first xs)) }
-    ensures repeated { IfOk result (λ new. new ≡ false → (base : ℕ) (xs : List CellGoal)
+    ensures repeated { IfOk result (λ new. new ≡ false → (xs : List CellGoal)
         → AreGoals tree.now.steps.items tree.now.goals.items tree.now.goals.items xs
-        → IsTrue (list_all (is_classical_goal base store.now.store) xs)
         → AnyRepeated store.now.store xs) }
 {
     let repeated = first_repeated(unifier, store, tree, first)?;

@@ -1,16 +1,16 @@
 //! The search at one path limit.
 
-ghost use Rattle.std.specs.Prelude.{◌≡◌, ◌≤◌, ◌<◌, ◌-◌, ◌∷◌, [], ℕ, IfOk, List, OnOk, length, slice_get};
+ghost use Rattle.std.specs.Prelude.{◌≡◌, ◌≤◌, ◌<◌, ◌-◌, ◌∷◌, [], ℕ, IfOk, List, OnOk};
+ghost use Rattle.std.specs.Prelude.{length, slice_get, true};
 ghost use Rattle.calculus.specs.Bindings.{KeepsMarks};
 ghost use Rattle.calculus.specs.Choices.{Choice, start};
 ghost use Rattle.calculus.specs.Counting.{AtLeastMany, MoreThan};
 ghost use Rattle.calculus.specs.Space.{IsEarly, member_cmp};
-ghost use Rattle.calculus.specs.Syntax.{Problem};
-ghost use Rattle.calculus.specs.declared.setting.Logic.TheVariants.{Classical};
 ghost use Rattle.search_theory.specs.Matrix.{IsTemplateMatrix};
 ghost use Rattle.search_theory.specs.Stack.{selection_of};
 ghost use Rattle.term_store.specs.Room.{KeepsRoom, spare};
-ghost use Rattle.connection_search.specs.Exploring.{IfOn, IsCounted, IsEnd, IsSearched, IsSpace, IsVisiting};
+ghost use Rattle.connection_search.specs.Exploring.{IfOn, IsCounted, IsEnd, IsSearched};
+ghost use Rattle.connection_search.specs.Exploring.{IsSpace, IsVisiting};
 ghost use Rattle.connection_search.specs.Outcomes.{IfSteps, IsOutcome};
 
 use crate::exploring::Visit;
@@ -53,32 +53,36 @@ impl Space<'_> {
         work: &mut Work,
         left: &mut bool,
     ) -> Result<Visit, NoMemory>
-        requires { (P : Problem) × (base : ℕ) × (later : List (List Choice)) × (begun : ℕ)
-            × IsSpace P self.now.matrix.now self.now.limit
-            × IsVisiting P self.now.matrix.now base self.now.limit store.old.store
+        requires { (base : ℕ) × (later : List (List Choice)) × (begun : ℕ)
+            × IsSpace self.now.problem.now self.now.matrix.now self.now.limit
+            × IsVisiting self.now.problem.now self.now.matrix.now base self.now.limit
+            store.old.store
             work.old.tree.steps.items work.old.tree.goals.items work.old.tree.open
             [] later begun ledger.old.used left.old }
-        ensures on { IfOk result (λ v. IfOn v ((P : Problem) (base : ℕ)
+        ensures on { IfOk result (λ v. IfOn v ((base : ℕ)
             (later : List (List Choice)) (begun : ℕ)
-            → IsSpace P self.now.matrix.now self.now.limit
-            → IsVisiting P self.now.matrix.now base self.now.limit store.old.store
+            → IsSpace self.now.problem.now self.now.matrix.now self.now.limit
+            → IsVisiting self.now.problem.now self.now.matrix.now base self.now.limit
+            store.old.store
             work.old.tree.steps.items work.old.tree.goals.items work.old.tree.open
             [] later begun ledger.old.used left.old
-            → IsSearched P self.now.limit later begun ledger.new.used left.new)) }
-        ensures end { IfOk result (λ v. (P : Problem) (base : ℕ)
+            → IsSearched self.now.problem.now self.now.limit later begun ledger.new.used left.new)) }
+        ensures end { IfOk result (λ v. (base : ℕ)
             (later : List (List Choice)) (begun : ℕ)
-            → IsSpace P self.now.matrix.now self.now.limit
-            → IsVisiting P self.now.matrix.now base self.now.limit store.old.store
+            → IsSpace self.now.problem.now self.now.matrix.now self.now.limit
+            → IsVisiting self.now.problem.now self.now.matrix.now base self.now.limit
+            store.old.store
             work.old.tree.steps.items work.old.tree.goals.items work.old.tree.open
             [] later begun ledger.old.used left.old
-            → IsEnd P self.now.limit begun ledger.new.used ledger.new.budget v) }
-        ensures counted { (P : Problem) (base : ℕ)
+            → IsEnd self.now.problem.now self.now.limit begun ledger.new.used ledger.new.budget v) }
+        ensures counted { (base : ℕ)
             (later : List (List Choice)) (begun : ℕ)
-            → IsSpace P self.now.matrix.now self.now.limit
-            → IsVisiting P self.now.matrix.now base self.now.limit store.old.store
+            → IsSpace self.now.problem.now self.now.matrix.now self.now.limit
+            → IsVisiting self.now.problem.now self.now.matrix.now base self.now.limit
+            store.old.store
             work.old.tree.steps.items work.old.tree.goals.items work.old.tree.open
             [] later begun ledger.old.used left.old
-            → IsCounted P self.now.limit begun ledger.new.used }
+            → IsCounted self.now.problem.now self.now.limit begun ledger.new.used }
         ensures budget { ledger.new.budget ≡ ledger.old.budget }
         ensures marks { KeepsMarks store.old.store store.new.store }
         ensures room { KeepsRoom store.old store.new }
@@ -103,32 +107,32 @@ impl Space<'_> {
         clause: ClauseId,
         left: &mut bool,
     ) -> Result<Visit, NoMemory>
-        requires searched { (P : Problem) × (later : List (List Choice)) × (begun : ℕ)
-            × IsSpace P self.now.matrix.now self.now.limit
-            × IsSearched P self.now.limit
+        requires searched { (later : List (List Choice)) × (begun : ℕ)
+            × IsSpace self.now.problem.now self.now.matrix.now self.now.limit
+            × IsSearched self.now.problem.now self.now.limit
             ((start (selection_of (slice_get self.now.matrix.now clause.0)) ∷ []) ∷ later)
             begun ledger.old.used left.old }
         requires clause { clause.0 < length self.now.matrix.now }
         requires steps { work.old.tree.steps.items ≡ [] }
         requires goals { work.old.tree.goals.items ≡ [] }
-        ensures on { IfOk result (λ v. IfOn v ((P : Problem) (later : List (List Choice)) (begun : ℕ)
-            → IsSpace P self.now.matrix.now self.now.limit
-            → IsSearched P self.now.limit
+        ensures on { IfOk result (λ v. IfOn v ((later : List (List Choice)) (begun : ℕ)
+            → IsSpace self.now.problem.now self.now.matrix.now self.now.limit
+            → IsSearched self.now.problem.now self.now.limit
             ((start (selection_of (slice_get self.now.matrix.now clause.0)) ∷ []) ∷ later)
             begun ledger.old.used left.old
-            → IsSearched P self.now.limit later begun ledger.new.used left.new)) }
-        ensures end { IfOk result (λ v. (P : Problem) (later : List (List Choice)) (begun : ℕ)
-            → IsSpace P self.now.matrix.now self.now.limit
-            → IsSearched P self.now.limit
+            → IsSearched self.now.problem.now self.now.limit later begun ledger.new.used left.new)) }
+        ensures end { IfOk result (λ v. (later : List (List Choice)) (begun : ℕ)
+            → IsSpace self.now.problem.now self.now.matrix.now self.now.limit
+            → IsSearched self.now.problem.now self.now.limit
             ((start (selection_of (slice_get self.now.matrix.now clause.0)) ∷ []) ∷ later)
             begun ledger.old.used left.old
-            → IsEnd P self.now.limit begun ledger.new.used ledger.new.budget v) }
-        ensures counted { (P : Problem) (later : List (List Choice)) (begun : ℕ)
-            → IsSpace P self.now.matrix.now self.now.limit
-            → IsSearched P self.now.limit
+            → IsEnd self.now.problem.now self.now.limit begun ledger.new.used ledger.new.budget v) }
+        ensures counted { (later : List (List Choice)) (begun : ℕ)
+            → IsSpace self.now.problem.now self.now.matrix.now self.now.limit
+            → IsSearched self.now.problem.now self.now.limit
             ((start (selection_of (slice_get self.now.matrix.now clause.0)) ∷ []) ∷ later)
             begun ledger.old.used left.old
-            → IsCounted P self.now.limit begun ledger.new.used }
+            → IsCounted self.now.problem.now self.now.limit begun ledger.new.used }
         ensures budget { ledger.new.budget ≡ ledger.old.budget }
         ensures store { OnOk result (store.new.store ≡ store.old.store) }
         ensures steps { OnOk result (work.new.tree.steps.items ≡ []) }
@@ -155,15 +159,13 @@ impl Space<'_> {
         ledger: &mut Ledger,
         store: &mut Store,
     ) -> Result<Outcome, NoMemory>
-        requires { (P : Problem) × IsSpace P self.now.matrix.now self.now.limit }
-        ensures outcome { IfOk result (λ o. (P : Problem)
-            → IsSpace P self.now.matrix.now self.now.limit → IsOutcome P self.now.limit o) }
-        ensures steps { IfOk result (λ o. IfSteps o ((P : Problem)
-            → IsSpace P self.now.matrix.now self.now.limit
-            → (ledger.new.used ≡ ledger.new.budget)
-            × MoreThan member_cmp (IsEarly P self.now.limit) (ledger.new.used - ledger.old.used))) }
-        ensures counted { (P : Problem) → IsSpace P self.now.matrix.now self.now.limit
-            → IsCounted P self.now.limit ledger.old.used ledger.new.used }
+        requires { IsSpace self.now.problem.now self.now.matrix.now self.now.limit }
+        ensures outcome { IfOk result (IsOutcome self.now.problem.now self.now.limit) }
+        ensures steps { IfOk result (λ o. IfSteps o ((ledger.new.used ≡ ledger.new.budget)
+            × MoreThan member_cmp (IsEarly self.now.problem.now self.now.limit)
+            (ledger.new.used - ledger.old.used))) }
+        ensures counted { IsCounted self.now.problem.now self.now.limit ledger.old.used
+            ledger.new.used }
         ensures budget { ledger.new.budget ≡ ledger.old.budget }
         ensures store { OnOk result (store.new.store ≡ store.old.store) }
         ensures marks { KeepsMarks store.old.store store.new.store }
@@ -184,7 +186,8 @@ impl Space<'_> {
 }
 
 /// Searches for a tableau that is closed within the limit, over new cells of the store, which are
-/// given back.
+/// given back. A step is used for each list of choices; where the logic has labels, also for each
+/// list of string lengths that is tried at a list of choices without open goals.
 pub fn search_in(
     alloc: Global,
     problem: &Problem,
@@ -193,7 +196,6 @@ pub fn search_in(
     ledger: &mut Ledger,
     store: &mut Store,
 ) -> Result<Outcome, NoMemory>
-    requires classical { problem.now.setting.logic ≡ Classical }
     requires matrix { IsTemplateMatrix problem.now matrix.now }
     requires from_one { 1 ≤ limit }
     requires to_200 { limit ≤ 200 }
@@ -210,15 +212,17 @@ pub fn search_in(
     let _setting = problem.setting();
     let start = store.mark();
     let space = Space {
+        problem,
         matrix,
-        limit: limit as usize,
+        limit,
     };
     let outcome = space.run(alloc, ledger, store);
     store.undo(start);
     outcome
 }
 
-/// Searches for a tableau that is closed within the limit, over the problem's own matrix.
+/// Searches for a tableau that is closed within the limit, over the problem's own matrix. Steps are
+/// used as by `search_in`.
 pub fn search(
     alloc: Global,
     problem: &Problem,
@@ -226,7 +230,6 @@ pub fn search(
     limit: u8,
     ledger: &mut Ledger,
 ) -> Result<Outcome, NoMemory>
-    requires classical { problem.now.setting.logic ≡ Classical }
     requires matrix { IsTemplateMatrix problem.now matrix.now }
     requires from_one { 1 ≤ limit }
     requires to_200 { limit ≤ 200 }

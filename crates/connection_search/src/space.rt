@@ -14,19 +14,22 @@ ghost use Rattle.search_theory.specs.States.{CellGoal};
 ghost use Rattle.term_store.specs.Room.{KeepsRoom};
 ghost use Rattle.connection_search.specs.Points.{IsHere};
 ghost use Rattle.connection_search.specs.Running.{ExtendsBy, IsAtGoal};
-ghost use Rattle.connection_search.specs.Running.{IsClassicalMatrix, IsLeftFound};
+ghost use Rattle.connection_search.specs.Running.{IsMatrixOf, IsLeftFound};
 
 use crate::moves::Work;
 use crate::point::Point;
 use cop_base::NoMemory;
+use logic_rules::Problem;
 use matrix_build::{Matrix, Place};
 use term_store::Store;
 
-/// The matrix, and the greatest number of goals that the path of an extension has, plus one.
+/// The problem with its matrix, and the greatest number of goals that the path of an extension has,
+/// plus one.
 #[derive(Clone, Copy)]
 pub(crate) struct Space<'a> {
+    pub problem: &'a Problem,
     pub matrix: &'a Matrix,
-    pub limit: usize,
+    pub limit: u8,
 }
 
 impl Space<'_> {
@@ -40,7 +43,7 @@ impl Space<'_> {
         place: Place,
     ) -> Result<bool, NoMemory>
         requires at { (P : Problem) × (base : ℕ) × (d : ℕ) × (c : List Choice) × (g : CellGoal)
-            × IsClassicalMatrix P self.now.matrix.now
+            × IsMatrixOf P self.now.matrix.now
             × IsAtGoal P self.now.matrix.now base (d + 1) c store.old.store
             work.old.tree.steps.items work.old.tree.goals.items here.goal g
             × ExtendsBy self.now.matrix.now (d + 1) g (the_place place) }
@@ -48,14 +51,14 @@ impl Space<'_> {
             work.old.tree.goals.items work.old.tree.open }
         ensures left { IfOk result (λ left. left ≡ true
             → (P : Problem) (base d : ℕ) (c : List Choice) (g : CellGoal)
-            → IsClassicalMatrix P self.now.matrix.now
+            → IsMatrixOf P self.now.matrix.now
             → IsAtGoal P self.now.matrix.now base (d + 1) c store.old.store
             work.old.tree.steps.items work.old.tree.goals.items here.goal g
             → ExtendsBy self.now.matrix.now (d + 1) g (the_place place) → length g.path ≡ d
             → IsLeft P d) }
         ensures dead { IfOk result (λ left. left ≡ false
             → (P : Problem) (base d : ℕ) (c : List Choice) (g : CellGoal)
-            → IsClassicalMatrix P self.now.matrix.now
+            → IsMatrixOf P self.now.matrix.now
             → IsAtGoal P self.now.matrix.now base (d + 1) c store.old.store
             work.old.tree.steps.items work.old.tree.goals.items here.goal g
             → ExtendsBy self.now.matrix.now (d + 1) g (the_place place)
@@ -80,19 +83,19 @@ impl Space<'_> {
     // that is regular.
     fn is_left_at(&self, store: &mut Store, work: &mut Work, goal: usize) -> Result<bool, NoMemory>
         requires { (P : Problem) × (base : ℕ) × (d : ℕ) × (c : List Choice) × (g : CellGoal)
-            × IsClassicalMatrix P self.now.matrix.now
+            × IsMatrixOf P self.now.matrix.now
             × IsAtGoal P self.now.matrix.now base d c store.old.store work.old.tree.steps.items
             work.old.tree.goals.items goal g
             × (self.now.limit ≡ d) × (d ≤ 200) × (work.old.tree.open ≡ Some goal) }
         ensures left { IfOk result (λ left. left ≡ true
             → (P : Problem) (base d : ℕ) (c : List Choice) (g : CellGoal)
-            → IsClassicalMatrix P self.now.matrix.now
+            → IsMatrixOf P self.now.matrix.now
             → IsAtGoal P self.now.matrix.now base d c store.old.store work.old.tree.steps.items
             work.old.tree.goals.items goal g
             → self.now.limit ≡ d → d ≤ 200 → length g.path ≡ d → IsLeft P d) }
         ensures dead { IfOk result (λ left. left ≡ false
             → (P : Problem) (base d : ℕ) (c : List Choice) (g : CellGoal)
-            → IsClassicalMatrix P self.now.matrix.now
+            → IsMatrixOf P self.now.matrix.now
             → IsAtGoal P self.now.matrix.now base d c store.old.store work.old.tree.steps.items
             work.old.tree.goals.items goal g
             → self.now.limit ≡ d → d ≤ 200
@@ -105,7 +108,13 @@ impl Space<'_> {
         ensures marks { KeepsMarks store.old.store store.new.store }
         ensures room { KeepsRoom store.old store.new }
     {
-        let here = Point::new(store, self.matrix, &work.tree, goal, self.limit + 1);
+        let here = Point::new(
+            store,
+            self.matrix,
+            &work.tree,
+            goal,
+            self.limit as usize + 1,
+        );
         let mut point = here;
         while let Some(place) = point.next_extension(self.matrix, &work.tree) {
             if self.is_left_by(store, work, here, place)? {
@@ -125,13 +134,13 @@ impl Space<'_> {
         known: bool,
     ) -> Result<bool, NoMemory>
         requires { (P : Problem) × (base : ℕ) × (d : ℕ) × (c : List Choice) × (g : CellGoal)
-            × IsClassicalMatrix P self.now.matrix.now
+            × IsMatrixOf P self.now.matrix.now
             × IsAtGoal P self.now.matrix.now base d c store.old.store work.old.tree.steps.items
             work.old.tree.goals.items goal g
             × (self.now.limit ≡ d) × (d ≤ 200) × (work.old.tree.open ≡ Some goal) }
         ensures found { IfOk result (λ left.
             (P : Problem) (base d : ℕ) (c : List Choice) (g : CellGoal)
-            → IsClassicalMatrix P self.now.matrix.now
+            → IsMatrixOf P self.now.matrix.now
             → IsAtGoal P self.now.matrix.now base d c store.old.store work.old.tree.steps.items
             work.old.tree.goals.items goal g
             → self.now.limit ≡ d → d ≤ 200 → IsLeftFound P d c g known left) }
@@ -145,7 +154,7 @@ impl Space<'_> {
         if known {
             return Ok(true);
         }
-        if work.tree.goals[goal].depth != self.limit {
+        if work.tree.goals[goal].depth != self.limit as usize {
             return Ok(false);
         }
         let left = self.is_left_at(store, work, goal)?;

@@ -1,11 +1,12 @@
 //! Worked problems through the public calls.
 
-ghost use Rattle.std.specs.Prelude.{◌≡◌, ◌≤◌, ◌++◌, ◌∷◌, [], Contains, IfOk, OnOk};
-ghost use Rattle.calculus.specs.declared.setting.Logic.TheVariants.{Classical};
+ghost use Rattle.std.specs.Prelude.{◌≡◌, ◌≤◌, ◌++◌, ◌∷◌, [], Contains, IfOk, OnOk, true};
+ghost use Rattle.calculus.specs.Skolem.{common_spares};
 ghost use Rattle.calculus.specs.Syntax as tree;
 ghost use Rattle.formula_core.specs.FormulaView.{the_formula};
 ghost use Rattle.formula_core.specs.TermView.{the_term};
-ghost use Rattle.connection_search.specs.Examples.{IsExample, chain, converse, drinker, example, f_of, named, nested, p_of, symbols};
+ghost use Rattle.connection_search.specs.Examples.{IsExample, chain, converse, doubled, drinker};
+ghost use Rattle.connection_search.specs.Examples.{example, f_of, named, nested, p_of, symbols};
 
 use crate::{Answer, Outcome, deepen, search_in};
 use cop_base::{Ledger, NoMemory, SymbolId, Text};
@@ -43,12 +44,12 @@ fn symbols(alloc: Global) -> Result<Symbols, NoMemory>
     Ok(symbols)
 }
 
-fn problem(alloc: Global, formula: Formula) -> Result<Problem, NoMemory>
-    requires { IsExample (the_formula formula) }
-    ensures { IfOk result (λ p. p ≡ example (the_formula formula)) }
+fn problem(alloc: Global, logic: Logic, formula: Formula) -> Result<Problem, NoMemory>
+    requires { IsExample logic (the_formula formula) }
+    ensures { IfOk result (λ p. p ≡ example logic (the_formula formula)) }
 {
     let symbols = symbols(alloc)?;
-    let setting = Setting::new(Logic::Classical, Domains::Constant);
+    let setting = Setting::new(logic, Domains::Constant);
     Ok(Problem::new(setting, formula, symbols))
 }
 
@@ -119,11 +120,26 @@ fn chain(alloc: Global, count: u32) -> Result<Formula, NoMemory>
     Formula::imp(alloc, given, shown)
 }
 
-// Deepens up to limit 10.
-fn deepened(alloc: Global, formula: Formula, ledger: &mut Ledger) -> Result<Answer, NoMemory>
-    requires { IsExample (the_formula formula) }
+// #p(a) => ##p(a)
+fn doubled(alloc: Global) -> Result<Formula, NoMemory>
+    ensures { IfOk result (λ f. the_formula f ≡ doubled) }
 {
-    let problem = problem(alloc, formula)?;
+    let given = Formula::nec(alloc, p(alloc, nested(alloc, 0)?)?)?;
+    let once = Formula::nec(alloc, p(alloc, nested(alloc, 0)?)?)?;
+    let twice = Formula::nec(alloc, once)?;
+    Formula::imp(alloc, given, twice)
+}
+
+// Deepens up to limit 10.
+fn deepened(
+    alloc: Global,
+    logic: Logic,
+    formula: Formula,
+    ledger: &mut Ledger,
+) -> Result<Answer, NoMemory>
+    requires { IsExample logic (the_formula formula) }
+{
+    let problem = problem(alloc, logic, formula)?;
     match build_matrix(alloc, &problem) {
         Ok(matrix) => {
             let answer = deepen(alloc, &problem, &matrix, 10, ledger)?;
@@ -136,7 +152,7 @@ fn deepened(alloc: Global, formula: Formula, ledger: &mut Ledger) -> Result<Answ
 // The start and one extension close the drinker.
 fn closes_the_drinker(alloc: Global) -> Result<bool, NoMemory> {
     let mut ledger = Ledger::new(1000);
-    match deepened(alloc, drinker(alloc)?, &mut ledger)? {
+    match deepened(alloc, Logic::Classical, drinker(alloc)?, &mut ledger)? {
         Answer::Closed { limit, tableau: _ } => Ok(limit == 1 && ledger.used == 2),
         _ => Ok(false),
     }
@@ -145,7 +161,7 @@ fn closes_the_drinker(alloc: Global) -> Result<bool, NoMemory> {
 // Nothing extends the start, so no limit helps.
 fn leaves_the_converse(alloc: Global) -> Result<bool, NoMemory> {
     let mut ledger = Ledger::new(1000);
-    match deepened(alloc, converse(alloc)?, &mut ledger)? {
+    match deepened(alloc, Logic::Classical, converse(alloc)?, &mut ledger)? {
         Answer::NoTableau { limit } => Ok(limit == 1 && ledger.used == 1),
         _ => Ok(false),
     }
@@ -153,22 +169,40 @@ fn leaves_the_converse(alloc: Global) -> Result<bool, NoMemory> {
 
 fn stops_by_steps(alloc: Global) -> Result<bool, NoMemory> {
     let mut ledger = Ledger::new(1);
-    match deepened(alloc, drinker(alloc)?, &mut ledger)? {
+    match deepened(alloc, Logic::Classical, drinker(alloc)?, &mut ledger)? {
         Answer::Steps { limit } => Ok(limit == 0 && ledger.used == 1),
+        _ => Ok(false),
+    }
+}
+
+// In S4 the string of the first box is as long as the two others together.
+fn closes_in_s4(alloc: Global) -> Result<bool, NoMemory> {
+    let mut ledger = Ledger::new(1000);
+    match deepened(alloc, Logic::S4, doubled(alloc)?, &mut ledger)? {
+        Answer::Closed { limit, tableau: _ } => Ok(limit == 1),
+        _ => Ok(false),
+    }
+}
+
+// In T it has one character.
+fn closes_not_in_t(alloc: Global) -> Result<bool, NoMemory> {
+    let mut ledger = Ledger::new(1000);
+    match deepened(alloc, Logic::T, doubled(alloc)?, &mut ledger)? {
+        Answer::NoTableau { limit } => Ok(limit == 1),
         _ => Ok(false),
     }
 }
 
 // Whether a search closes a tableau with 40 applications, and leaves a store of the right size.
 fn shares_one_store(alloc: Global) -> Result<bool, NoMemory> {
-    let problem = problem(alloc, chain(alloc, 40)?)?;
+    let problem = problem(alloc, Logic::Classical, chain(alloc, 40)?)?;
     let size = size_after(alloc, &problem)?;
     Ok(size >= 40 && size <= 100000)
 }
 
 // The size of a new store after a search that closes a tableau, or 0.
 fn size_after(alloc: Global, problem: &Problem) -> Result<usize, NoMemory>
-    requires { problem.now.setting.logic ≡ Classical }
+    requires { common_spares problem.now ≡ true }
 {
     let Ok(matrix) = build_matrix(alloc, problem) else {
         return Err(NoMemory);
@@ -189,6 +223,15 @@ fn answers_worked_problems(rt: HostRuntime) -> Result<(), Fail> {
     assert!(rt; left);
     let stopped = stops_by_steps(rt.alloc())?;
     assert!(rt; stopped);
+    Ok(())
+}
+
+#[test]
+fn answers_modal_problems(rt: HostRuntime) -> Result<(), Fail> {
+    let closed = closes_in_s4(rt.alloc())?;
+    assert!(rt; closed);
+    let none = closes_not_in_t(rt.alloc())?;
+    assert!(rt; none);
     Ok(())
 }
 

@@ -4,12 +4,15 @@ ghost use Rattle.std.specs.Prelude.{◌≡◌, ◌<◌, ◌≤◌, ◌+◌, ◌-
 ghost use Rattle.std.specs.Prelude.{ℕ, List, None, Some, OnOk, map, slice_get, length, take};
 ghost use Rattle.calculus.specs.Choices.{reduction, start};
 ghost use Rattle.search_theory.specs.Matrix.{MatrixClause};
-ghost use Rattle.search_theory.specs.States.{CellChoice, CellGoal, extended, reduced, started};
+ghost use Rattle.search_theory.specs.StateSystems.{extended_system, reduced_system};
+ghost use Rattle.search_theory.specs.StateSystems.{started_system};
+ghost use Rattle.search_theory.specs.States.{CellChoice, CellGoal, cell_goals_on, extended};
+ghost use Rattle.search_theory.specs.States.{new_cell_goals, reduced, started};
 ghost use Rattle.calculus.specs.Systems as cells;
 ghost use Rattle.term_store.specs.ClauseView.{the_atom};
-ghost use Rattle.connection_search.specs.Trees.{IsTree, KeepsTree, atom_at, clause_with};
-ghost use Rattle.connection_search.specs.Trees.{fresh_goals, goals_of, inserted, link_from};
-ghost use Rattle.connection_search.specs.Trees.{the_step};
+ghost use Rattle.connection_search.specs.Trees.{HasAtom, IsTree, KeepsTree, atom_at};
+ghost use Rattle.connection_search.specs.Trees.{clause_with, fresh_goals, goals_of, inserted};
+ghost use Rattle.connection_search.specs.Trees.{link_from, strings_in, the_step, tree_system};
 
 use cop_base::{ClauseId, NoMemory};
 use std::alloc::Global;
@@ -27,10 +30,11 @@ pub(crate) struct Copied {
 #[derive(Drop)]
 pub(crate) enum Step {
     Start(Copied),
-    /// By the ancestor of this number, the nearest having number 1.
-    Reduce(u32),
-    /// By the literal at this place of the clause, which is the atom.
-    Extend(Copied, u32, CellAtom),
+    /// The goal, by the ancestor that stands so many goals above it, the nearest standing 1 above,
+    /// which is this goal.
+    Reduce(usize, u32, usize),
+    /// The goal, by the literal at this place of the clause, which is the atom.
+    Extend(usize, Copied, u32, CellAtom),
 }
 
 /// A goal: a literal of a step's clause. Paths and the list of open goals are linked through the
@@ -61,8 +65,8 @@ fn goals_of(step: &Step) -> &[CellAtom]
 {
     match step {
         Step::Start(copied) => copied.copy.literals.items(),
-        Step::Reduce(_) => &[],
-        Step::Extend(copied, _, _) => copied.copy.literals.items(),
+        Step::Reduce(_, _, _) => &[],
+        Step::Extend(_, copied, _, _) => copied.copy.literals.items(),
     }
 }
 
@@ -153,29 +157,43 @@ impl Tree {
     pub fn start(&mut self, copied: Copied) -> Result<(), NoMemory>
         requires steps { self.old.steps.items ≡ [] }
         requires goals { self.old.goals.items ≡ [] }
-        ensures { OnOk result ((m : List MatrixClause) → copied.clause.0 < length m
+        ensures tree { OnOk result ((m : List MatrixClause) → copied.clause.0 < length m
             → IsTree m self.new.steps.items self.new.goals.items self.new.open
             (start (clause_with m copied copied.copy.literals) ∷ [])
             (started (clause_with m copied copied.copy.literals))) }
+        ensures system { OnOk result ((m : List MatrixClause)
+            → tree_system m self.new.steps.items self.new.goals.items
+            (cell_goals_on [] copied.copy.literals)
+            ≡ started_system (strings_in m copied) copied.copy.gammas copied.copy.pis) }
     {
         self.grow(Step::Start(copied), None, None, 0)?;
         Ok(())
     }
 
     /// Closes the leftmost open goal by the ancestor of this number.
-    pub fn reduce(&mut self, goal: usize, up: u32) -> Result<(), NoMemory>
-        requires { goal < length self.old.goals.items }
+    pub fn reduce(&mut self, goal: usize, up: u32, ancestor: usize) -> Result<(), NoMemory>
+        requires goal { goal < length self.old.goals.items }
         ensures kept { OnOk result (KeepsTree self.old.steps.items self.old.goals.items
             self.new.steps.items self.new.goals.items) }
         ensures tree { OnOk result ((m : List MatrixClause) (cs : List CellChoice) (g : CellGoal)
             (gs every : List CellGoal) (ds : List ℕ)
+            → HasAtom self.old.steps.items self.old.goals.items ancestor
             → IsTree m self.old.steps.items self.old.goals.items (Some goal) cs
             (record { open_goals = g ∷ gs; all_goals = every; depths = ds })
             → IsTree m self.new.steps.items self.new.goals.items self.new.open
             (cs ++ reduction up ∷ [])
             (reduced gs (record { open_goals = g ∷ gs; all_goals = every; depths = ds }))) }
+        ensures system { OnOk result ((m : List MatrixClause) (cs : List CellChoice) (g : CellGoal)
+            (gs every : List CellGoal) (ds : List ℕ) (at : Goal) (a : cells.CellAtom)
+            → IsTree m self.old.steps.items self.old.goals.items (Some goal) cs
+            (record { open_goals = g ∷ gs; all_goals = every; depths = ds })
+            → slice_get self.old.goals.items ancestor ≡ Some at
+            → atom_at self.old.steps.items at ≡ Some a
+            → tree_system m self.new.steps.items self.new.goals.items every
+            ≡ reduced_system (tree_system m self.old.steps.items self.old.goals.items every)
+            g.literal a) }
     {
-        self.steps.push(Step::Reduce(up))?;
+        self.steps.push(Step::Reduce(goal, up, ancestor))?;
         self.open = self.goals[goal].behind;
         Ok(())
     }
@@ -199,13 +217,22 @@ impl Tree {
             → IsTree m self.old.steps.items self.old.goals.items (Some goal) cs
             (record { open_goals = g ∷ gs; all_goals = every; depths = ds })
             → IsTree m self.new.steps.items self.new.goals.items self.new.open
-            (cs ++ the_step m (Step.Extend copied place atom) ∷ [])
+            (cs ++ the_step m (Step.Extend goal copied place atom) ∷ [])
             (extended g gs (clause_with m copied
             (inserted place (the_atom atom) copied.copy.literals)) place
             (record { open_goals = g ∷ gs; all_goals = every; depths = ds }))) }
+        ensures system { OnOk result ((m : List MatrixClause) (cs : List CellChoice) (g : CellGoal)
+            (gs every : List CellGoal) (ds : List ℕ)
+            → IsTree m self.old.steps.items self.old.goals.items (Some goal) cs
+            (record { open_goals = g ∷ gs; all_goals = every; depths = ds })
+            → tree_system m self.new.steps.items self.new.goals.items (every ++ new_cell_goals g
+            (clause_with m copied (inserted place (the_atom atom) copied.copy.literals)) place)
+            ≡ extended_system (tree_system m self.old.steps.items self.old.goals.items every) g
+            (clause_with m copied (inserted place (the_atom atom) copied.copy.literals)) place
+            (the_atom atom) (strings_in m copied) copied.copy.gammas copied.copy.pis) }
     {
         let at = self.goals[goal];
-        let step = Step::Extend(copied, place, atom);
+        let step = Step::Extend(goal, copied, place, atom);
         self.grow(step, Some(goal), at.behind, at.depth + 1)?;
         Ok(())
     }

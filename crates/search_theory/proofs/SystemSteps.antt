@@ -28,11 +28,11 @@ use Rattle.search_theory.proofs.JoinedLaws.{joined-last, joined-parts, joined-st
 
 -- ---- lists
 
-pairs-none : (xs : List CellAtom) → pairs_of (cell_goals_on [] xs) ≡ []
+pub pairs-none : (xs : List CellAtom) → pairs_of (cell_goals_on [] xs) ≡ []
 pairs-none [] = refl
 pairs-none (x ∷ xs) = pairs-none xs
 
-pairs-append : (gs hs : List CellGoal) → pairs_of (gs ++ hs) ≡ pairs_of gs ++ pairs_of hs
+pub pairs-append : (gs hs : List CellGoal) → pairs_of (gs ++ hs) ≡ pairs_of gs ++ pairs_of hs
 pairs-append [] hs = refl
 pairs-append (g ∷ gs) hs = ap (λ ps. pairs_with g.literal g.path ++ ps) (pairs-append gs hs) ∙ sym (append_assoc (pairs_with g.literal g.path) (pairs_of gs) (pairs_of hs))
 

@@ -9,9 +9,6 @@ use Rattle.connection_search.proofs.deepening.deepen.Goals as goal
 pub loop-passed-init : goal.loop-passed-init
 loop-passed-init c = record { passed = deepened-none c.args.problem.now c.args.ledger.now.used; budget = refl }
 
-pub search-requires-clause-classical : goal.search-requires-clause-classical
-search-requires-clause-classical c = c.requires.classical
-
 pub search-requires-clause-matrix : goal.search-requires-clause-matrix
 search-requires-clause-matrix c = c.requires.matrix
 

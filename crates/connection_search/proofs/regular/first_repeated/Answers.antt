@@ -1,5 +1,5 @@
 use Rattle.std.proofs.Common.{arith, length}
-use Rattle.connection_search.proofs.TreeLaws.{goal-wanted, new-all, new-next, repeated-at}
+use Rattle.connection_search.proofs.SeenLaws.{goal-wanted, new-all, new-next, repeated-at}
 use Rattle.connection_search.proofs.regular.first_repeated.Goals as goal
 
 pub is_new-requires : goal.is_new-requires

@@ -1,4 +1,4 @@
-use Rattle.connection_search.proofs.TreeLaws.{AreNewTo}
+use Rattle.connection_search.proofs.SeenLaws.{AreNewTo}
 use Rattle.connection_search.proofs.regular.first_repeated.Given as goal
 
 abbrev pub invariant-loop-goal : goal.invariant-loop-goal

@@ -1,7 +1,8 @@
 use Rattle.std.proofs.Common.{arith, length}
 use Rattle.std.proofs.lemmas.Option.{slice_get_within}
 use Rattle.connection_search.proofs.Places.{read-there}
-use Rattle.connection_search.proofs.TreeLaws.{ancestor-below, depth-passed, looks-all, seen-ancestor, seen-at, seen-next, seen-none, seen-repeated}
+use Rattle.connection_search.proofs.SeenLaws.{ancestor-below, depth-passed, goal-below, seen-ancestor, seen-at, seen-next, seen-none, seen-repeated}
+use Rattle.connection_search.proofs.TreeLaws.{looks-all}
 use Rattle.connection_search.proofs.regular.is_new.Goals as goal
 
 pub returns-in-None-clause-new : goal.returns-in-None-clause-new
@@ -12,14 +13,17 @@ atom-requires c =
     let w = seen-ancestor c.args.store.now.store c.args.tree.now.steps.items c.args.tree.now.goals.items c.args.goal c.in-Some.ancestor c.loop-i._i c.requires.0 (seen-at c.args.store.now.store c.args.tree.now.steps.items c.args.tree.now.goals.items c.args.goal c.loop-i.above c.in-Some.ancestor c.loop-i._i c.in-Some.is c.loop-i.invariant) c.requires.1 in
     (w.goal, w.atom, w.stands, w.is_atom)
 
+pub are_same-requires-clause-left : goal.are_same-requires-clause-left
+are_same-requires-clause-left c = goal-below (length c.args.store.now.store.cells) c.args.tree.now.steps.items c.args.tree.now.goals.items c.args.goal c.requires.0 _ c.requires.1 c.requires.2 c.atom-signed.ensures
+
 pub are_same-requires-clause-right : goal.are_same-requires-clause-right
 are_same-requires-clause-right c =
     let w = seen-ancestor c.args.store.now.store c.args.tree.now.steps.items c.args.tree.now.goals.items c.args.goal c.in-Some.ancestor c.loop-i._i c.requires.0 (seen-at c.args.store.now.store c.args.tree.now.steps.items c.args.tree.now.goals.items c.args.goal c.loop-i.above c.in-Some.ancestor c.loop-i._i c.in-Some.is c.loop-i.invariant) c.requires.1 in
     ancestor-below (length c.args.store.now.store.cells) c.args.tree.now.steps.items c.args.tree.now.goals.items c.requires.0 c.in-Some.ancestor c.loop-i._i _ w c.requires.2 c.atom.ensures
 
 pub returns-then-branch-clause-repeated : goal.returns-then-branch-clause-repeated
-returns-then-branch-clause-repeated c = λ t base x g q.
-    seen-repeated c.args.store.now.store c.args.tree.now.steps.items c.args.tree.now.goals.items c.args.goal c.in-Some.ancestor c.loop-i._i _ _ (seen-at c.args.store.now.store c.args.tree.now.steps.items c.args.tree.now.goals.items c.args.goal c.loop-i.above c.in-Some.ancestor c.loop-i._i c.in-Some.is c.loop-i.invariant) c.atom-signed.ensures c.atom.ensures (c.in_ok-are_same-in-Some.ensures.same c.if-branch.true) base x g q
+returns-then-branch-clause-repeated c = λ t x g.
+    seen-repeated c.args.store.now.store c.args.tree.now.steps.items c.args.tree.now.goals.items c.args.goal c.in-Some.ancestor c.loop-i._i _ _ (seen-at c.args.store.now.store c.args.tree.now.steps.items c.args.tree.now.goals.items c.args.goal c.loop-i.above c.in-Some.ancestor c.loop-i._i c.in-Some.is c.loop-i.invariant) c.atom-signed.ensures c.atom.ensures (c.in_ok-are_same-in-Some.ensures.same c.if-branch.true) x g
 
 pub index-requires : goal.index-requires
 index-requires c =

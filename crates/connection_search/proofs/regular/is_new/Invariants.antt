@@ -1,4 +1,4 @@
-use Rattle.connection_search.proofs.TreeLaws.{SeenTo}
+use Rattle.connection_search.proofs.SeenLaws.{SeenTo}
 use Rattle.connection_search.proofs.regular.is_new.Given as goal
 
 abbrev pub invariant-loop-i : goal.invariant-loop-i

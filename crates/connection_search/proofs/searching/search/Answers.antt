@@ -7,9 +7,6 @@ returns-in_err-store-clause-count c = ([], record { rising = tt; members = tt },
 pub returns-in_err-store-clause-rises : goal.returns-in_err-store-clause-rises
 returns-in_err-store-clause-rises c = omega arith
 
-pub search_in-requires-clause-classical : goal.search_in-requires-clause-classical
-search_in-requires-clause-classical c = c.requires.classical
-
 pub search_in-requires-clause-matrix : goal.search_in-requires-clause-matrix
 search_in-requires-clause-matrix c = c.requires.matrix
 

@@ -1,36 +1,33 @@
 use Rattle.std.proofs.Common.{◌≡◌, ◌-◌, ◌∙◌, ap, subst}
 use Rattle.calculus.specs.Counting.{MoreThan}
 use Rattle.calculus.specs.Space.{IsEarly, member_cmp}
-use Rattle.calculus.specs.Syntax.{Problem}
 use Rattle.term_store.specs.StoreView.{the_mark}
-use Rattle.connection_search.specs.Exploring.{IsSpace}
-use Rattle.connection_search.specs.Outcomes.{IfSteps, IsOutcome}
+use Rattle.connection_search.specs.Outcomes.{IfSteps}
 use Rattle.connection_search.proofs.SearchedLaws.{ok-map, room-both, space-of, spare-kept, steps-map}
 use Rattle.connection_search.proofs.searching.search_in.Goals as goal
 
 pub run-outcome-requires : goal.run-outcome-requires
-run-outcome-requires c = (c.args.problem.now, (space-of c.args.problem.now c.args.matrix.now c.args.limit c.setting-setting.ensures.well c.requires.classical c.requires.matrix c.requires.from_one c.requires.to_200))
+run-outcome-requires c = space-of c.args.problem.now c.args.matrix.now c.args.limit c.setting-setting.ensures.well c.requires.matrix c.requires.from_one c.requires.to_200
 
 pub undo-requires : goal.undo-requires
 undo-requires c = (c.run-outcome.ensures.marks (the_mark c.mark-start.result) c.mark-start.ensures.good).0
 
 pub returns-clause-outcome : goal.returns-clause-outcome
-returns-clause-outcome c = ok-map c.run-outcome.result (λ o. (Q : Problem) → IsSpace Q c.args.matrix.now c.args.limit → IsOutcome Q c.args.limit o) (IsOutcome c.args.problem.now c.args.limit) (λ o f. f c.args.problem.now (space-of c.args.problem.now c.args.matrix.now c.args.limit c.setting-setting.ensures.well c.requires.classical c.requires.matrix c.requires.from_one c.requires.to_200)) c.run-outcome.ensures.outcome
+returns-clause-outcome c = c.run-outcome.ensures.outcome
 
 pub returns-clause-steps : goal.returns-clause-steps
 returns-clause-steps c =
-    let Before : Problem → Type 0 = λ Q. (c.run-outcome.new.ledger.used ≡ c.run-outcome.new.ledger.budget) × MoreThan member_cmp (IsEarly Q c.args.limit) (c.run-outcome.new.ledger.used - c.args.ledger.now.used) in
+    let Before : Type 0 = (c.run-outcome.new.ledger.used ≡ c.run-outcome.new.ledger.budget) × MoreThan member_cmp (IsEarly c.args.problem.now c.args.limit) (c.run-outcome.new.ledger.used - c.args.ledger.now.used) in
     let After : Type 0 = (c.run-outcome.new.ledger.used ≡ c.run-outcome.new.ledger.budget) × MoreThan member_cmp (IsEarly c.args.problem.now c.args.limit) (c.args.ledger.now.budget - c.args.ledger.now.used) in
-    ok-map c.run-outcome.result (λ o. IfSteps o ((Q : Problem) → IsSpace Q c.args.matrix.now c.args.limit → Before Q)) (λ o. IfSteps o After)
-    (λ o h. steps-map o ((Q : Problem) → IsSpace Q c.args.matrix.now c.args.limit → Before Q) After
-    (λ f. let e = f c.args.problem.now (space-of c.args.problem.now c.args.matrix.now c.args.limit c.setting-setting.ensures.well c.requires.classical c.requires.matrix c.requires.from_one c.requires.to_200) in (e.0, subst (MoreThan member_cmp (IsEarly c.args.problem.now c.args.limit)) (ap (λ n. n - c.args.ledger.now.used) (e.0 ∙ c.run-outcome.ensures.budget)) e.1)) h)
+    ok-map c.run-outcome.result (λ o. IfSteps o Before) (λ o. IfSteps o After)
+    (λ o h. steps-map o Before After (λ e. (e.0, subst (MoreThan member_cmp (IsEarly c.args.problem.now c.args.limit)) (ap (λ n. n - c.args.ledger.now.used) (e.0 ∙ c.run-outcome.ensures.budget)) e.1)) h)
     c.run-outcome.ensures.steps
 
 pub returns-clause-count : goal.returns-clause-count
-returns-clause-count c = (c.run-outcome.ensures.counted c.args.problem.now (space-of c.args.problem.now c.args.matrix.now c.args.limit c.setting-setting.ensures.well c.requires.classical c.requires.matrix c.requires.from_one c.requires.to_200)).1
+returns-clause-count c = c.run-outcome.ensures.counted.1
 
 pub returns-clause-rises : goal.returns-clause-rises
-returns-clause-rises c = (c.run-outcome.ensures.counted c.args.problem.now (space-of c.args.problem.now c.args.matrix.now c.args.limit c.setting-setting.ensures.well c.requires.classical c.requires.matrix c.requires.from_one c.requires.to_200)).0
+returns-clause-rises c = c.run-outcome.ensures.counted.0
 
 pub returns-clause-budget : goal.returns-clause-budget
 returns-clause-budget c = c.run-outcome.ensures.budget

@@ -21,13 +21,13 @@ pub returns-then-not-branch-clause-refused : goal.returns-then-not-branch-clause
 returns-then-not-branch-clause-refused c = λ f P m base d p g h r. reduction-refused P m base d p c.args.store.now.store c.args.self.now.tree.steps.items c.args.self.now.tree.goals.items c.args.goal c.args.up c.args.ancestor g (map the_place c.items-xs.result.now) (map the_place c.items-ys.result.now) h r (goal-terms P m base d p c.args.store.now.store c.args.self.now.tree.steps.items c.args.self.now.tree.goals.items c.args.goal g (the_atom c.atom.result.now) (map the_place c.items-xs.result.now) h c.atom.ensures c.items-xs.ensures) (ancestor-terms c.args.self.now.tree.steps.items c.args.self.now.tree.goals.items g c.args.up c.args.ancestor (the_atom c.atom-2.result.now) (map the_place c.items-ys.result.now) r c.atom-2.ensures c.items-ys.ensures) (c.in_ok-unify_all.ensures.clash c.if-not-branch.true)
 
 pub reduce-requires : goal.reduce-requires
-reduce-requires c = goal-within c.requires.0 c.requires.1 c.requires.2 c.requires.3 c.requires.4 c.args.store.now.store c.args.self.now.tree.steps.items c.args.self.now.tree.goals.items c.args.goal c.requires.5 c.requires.6
+reduce-requires c = record { goal = goal-within c.requires.0 c.requires.1 c.requires.2 c.requires.3 c.requires.4 c.args.store.now.store c.args.self.now.tree.steps.items c.args.self.now.tree.goals.items c.args.goal c.requires.5 c.requires.6 }
 
 pub is_leftmost_new-requires : goal.is_leftmost_new-requires
-is_leftmost_new-requires c = (c.requires.0, c.requires.1, c.requires.2, c.requires.3, c.requires.4 ++ reduction c.args.up ∷ [], (at-reduced c.requires.0 c.requires.1 c.requires.2 c.requires.3 c.requires.4 c.args.store.now.store c.unify_all.new.store.store c.args.self.now.tree.steps.items c.reduce.new.self.steps.items c.args.self.now.tree.goals.items c.reduce.new.self.goals.items c.args.goal c.args.up c.args.ancestor c.reduce.new.self.open c.requires.5 (map the_place c.items-xs.result.now) (map the_place c.items-ys.result.now) c.requires.6 c.requires.7 (goal-terms c.requires.0 c.requires.1 c.requires.2 c.requires.3 c.requires.4 c.args.store.now.store c.args.self.now.tree.steps.items c.args.self.now.tree.goals.items c.args.goal c.requires.5 (the_atom c.atom.result.now) (map the_place c.items-xs.result.now) c.requires.6 c.atom.ensures c.items-xs.ensures) (ancestor-terms c.args.self.now.tree.steps.items c.args.self.now.tree.goals.items c.requires.5 c.args.up c.args.ancestor (the_atom c.atom-2.result.now) (map the_place c.items-ys.result.now) c.requires.7 c.atom-2.ensures c.items-ys.ensures) (c.in_ok-unify_all.ensures.unified c.if-not-branch.false) c.unify_all.ensures.binds c.unify_all.ensures.names c.mark-met.ensures.well c.in_ok-reduce.ensures.tree))
+is_leftmost_new-requires c = (c.requires.0, c.requires.1, c.requires.2, c.requires.3, c.requires.4 ++ reduction c.args.up ∷ [], (at-reduced c.requires.0 c.requires.1 c.requires.2 c.requires.3 c.requires.4 c.args.store.now.store c.unify_all.new.store.store c.args.self.now.tree.steps.items c.reduce.new.self.steps.items c.args.self.now.tree.goals.items c.reduce.new.self.goals.items c.args.goal c.args.up c.args.ancestor c.reduce.new.self.open c.requires.5 (map the_place c.items-xs.result.now) (map the_place c.items-ys.result.now) c.requires.6 c.requires.7 (goal-terms c.requires.0 c.requires.1 c.requires.2 c.requires.3 c.requires.4 c.args.store.now.store c.args.self.now.tree.steps.items c.args.self.now.tree.goals.items c.args.goal c.requires.5 (the_atom c.atom.result.now) (map the_place c.items-xs.result.now) c.requires.6 c.atom.ensures c.items-xs.ensures) (ancestor-terms c.args.self.now.tree.steps.items c.args.self.now.tree.goals.items c.requires.5 c.args.up c.args.ancestor (the_atom c.atom-2.result.now) (map the_place c.items-ys.result.now) c.requires.7 c.atom-2.ensures c.items-ys.ensures) (c.in_ok-unify_all.ensures.unified c.if-not-branch.false) c.unify_all.ensures.binds c.unify_all.ensures.names c.mark-met.ensures.well c.in_ok-reduce.ensures.tree c.in_ok-reduce.ensures.system))
 
 pub returns-clause-made : goal.returns-clause-made
-returns-clause-made c = λ t P m base d p g h r. subst (λ (z : Tree). StandsFor P m base d (p ++ reduction c.args.up ∷ []) c.unify_all.new.store.store z.steps.items z.goals.items z.open) (sym c.in_ok-new.ensures.tree) (at-reduced P m base d p c.args.store.now.store c.unify_all.new.store.store c.args.self.now.tree.steps.items c.reduce.new.self.steps.items c.args.self.now.tree.goals.items c.reduce.new.self.goals.items c.args.goal c.args.up c.args.ancestor c.reduce.new.self.open g (map the_place c.items-xs.result.now) (map the_place c.items-ys.result.now) h r (goal-terms P m base d p c.args.store.now.store c.args.self.now.tree.steps.items c.args.self.now.tree.goals.items c.args.goal g (the_atom c.atom.result.now) (map the_place c.items-xs.result.now) h c.atom.ensures c.items-xs.ensures) (ancestor-terms c.args.self.now.tree.steps.items c.args.self.now.tree.goals.items g c.args.up c.args.ancestor (the_atom c.atom-2.result.now) (map the_place c.items-ys.result.now) r c.atom-2.ensures c.items-ys.ensures) (c.in_ok-unify_all.ensures.unified c.if-not-branch.false) c.unify_all.ensures.binds c.unify_all.ensures.names c.mark-met.ensures.well c.in_ok-reduce.ensures.tree)
+returns-clause-made c = λ t P m base d p g h r. subst (λ (z : Tree). StandsFor P m base d (p ++ reduction c.args.up ∷ []) c.unify_all.new.store.store z.steps.items z.goals.items z.open) (sym c.in_ok-new.ensures.tree) (at-reduced P m base d p c.args.store.now.store c.unify_all.new.store.store c.args.self.now.tree.steps.items c.reduce.new.self.steps.items c.args.self.now.tree.goals.items c.reduce.new.self.goals.items c.args.goal c.args.up c.args.ancestor c.reduce.new.self.open g (map the_place c.items-xs.result.now) (map the_place c.items-ys.result.now) h r (goal-terms P m base d p c.args.store.now.store c.args.self.now.tree.steps.items c.args.self.now.tree.goals.items c.args.goal g (the_atom c.atom.result.now) (map the_place c.items-xs.result.now) h c.atom.ensures c.items-xs.ensures) (ancestor-terms c.args.self.now.tree.steps.items c.args.self.now.tree.goals.items g c.args.up c.args.ancestor (the_atom c.atom-2.result.now) (map the_place c.items-ys.result.now) r c.atom-2.ensures c.items-ys.ensures) (c.in_ok-unify_all.ensures.unified c.if-not-branch.false) c.unify_all.ensures.binds c.unify_all.ensures.names c.mark-met.ensures.well c.in_ok-reduce.ensures.tree c.in_ok-reduce.ensures.system)
 
 pub returns-clause-refused : goal.returns-clause-refused
-returns-clause-refused c = λ f P m base d p g h r. c.in_ok-new.ensures.repeated f P m base d (p ++ reduction c.args.up ∷ []) (at-reduced P m base d p c.args.store.now.store c.unify_all.new.store.store c.args.self.now.tree.steps.items c.reduce.new.self.steps.items c.args.self.now.tree.goals.items c.reduce.new.self.goals.items c.args.goal c.args.up c.args.ancestor c.reduce.new.self.open g (map the_place c.items-xs.result.now) (map the_place c.items-ys.result.now) h r (goal-terms P m base d p c.args.store.now.store c.args.self.now.tree.steps.items c.args.self.now.tree.goals.items c.args.goal g (the_atom c.atom.result.now) (map the_place c.items-xs.result.now) h c.atom.ensures c.items-xs.ensures) (ancestor-terms c.args.self.now.tree.steps.items c.args.self.now.tree.goals.items g c.args.up c.args.ancestor (the_atom c.atom-2.result.now) (map the_place c.items-ys.result.now) r c.atom-2.ensures c.items-ys.ensures) (c.in_ok-unify_all.ensures.unified c.if-not-branch.false) c.unify_all.ensures.binds c.unify_all.ensures.names c.mark-met.ensures.well c.in_ok-reduce.ensures.tree)
+returns-clause-refused c = λ f P m base d p g h r. c.in_ok-new.ensures.repeated f P m base d (p ++ reduction c.args.up ∷ []) (at-reduced P m base d p c.args.store.now.store c.unify_all.new.store.store c.args.self.now.tree.steps.items c.reduce.new.self.steps.items c.args.self.now.tree.goals.items c.reduce.new.self.goals.items c.args.goal c.args.up c.args.ancestor c.reduce.new.self.open g (map the_place c.items-xs.result.now) (map the_place c.items-ys.result.now) h r (goal-terms P m base d p c.args.store.now.store c.args.self.now.tree.steps.items c.args.self.now.tree.goals.items c.args.goal g (the_atom c.atom.result.now) (map the_place c.items-xs.result.now) h c.atom.ensures c.items-xs.ensures) (ancestor-terms c.args.self.now.tree.steps.items c.args.self.now.tree.goals.items g c.args.up c.args.ancestor (the_atom c.atom-2.result.now) (map the_place c.items-ys.result.now) r c.atom-2.ensures c.items-ys.ensures) (c.in_ok-unify_all.ensures.unified c.if-not-branch.false) c.unify_all.ensures.binds c.unify_all.ensures.names c.mark-met.ensures.well c.in_ok-reduce.ensures.tree c.in_ok-reduce.ensures.system)

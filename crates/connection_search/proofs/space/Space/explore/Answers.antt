@@ -3,13 +3,13 @@ use Rattle.connection_search.specs.Exploring.{AreAbove, IsEnd, IsExploring}
 use Rattle.connection_search.specs.Weights.{work_left}
 use Rattle.connection_search.proofs.StackedLaws.{moment-both, moment-itself}
 use Rattle.connection_search.proofs.TryingLaws.{explored-all, on-there, room-both}
-use Rattle.connection_search.proofs.WantedLaws.{empty-list}
-use Rattle.connection_search.proofs.VisitLaws.{counted}
+use Rattle.connection_search.proofs.SpentLaws.{counted}
+use Rattle.connection_search.proofs.VisitLaws.{empty-list}
 use Rattle.connection_search.proofs.space.Space.explore.Goals as goal
 
 pub loop-point-init : goal.loop-point-init
 loop-point-init c = record {
-  exploring = λ P base later begun space e. e;
+  exploring = λ base later begun space e. e;
   budget = refl;
   moment = λ k g a. moment-itself k c.args.store.now.store g;
   above = λ k g a. a;
@@ -17,10 +17,10 @@ loop-point-init c = record {
 }
 
 pub try_next-requires : goal.try_next-requires
-try_next-requires c = let (P, base, later, begun, space, e) = c.requires in (P, base, later, begun, space, (subst (λ ps. IsExploring P c.args.self.now.matrix.now base c.args.self.now.limit c.loop-point.store.store c.loop-point.work.tree.steps.items c.loop-point.work.tree.goals.items ps later begun c.loop-point.ledger.used c.loop-point.left) c.in-Some.ensures.items (c.loop-point.invariant.exploring P base later begun space e)))
+try_next-requires c = let (base, later, begun, space, e) = c.requires in (base, later, begun, space, (subst (λ ps. IsExploring c.args.self.now.problem.now c.args.self.now.matrix.now base c.args.self.now.limit c.loop-point.store.store c.loop-point.work.tree.steps.items c.loop-point.work.tree.goals.items ps later begun c.loop-point.ledger.used c.loop-point.left) c.in-Some.ensures.items (c.loop-point.invariant.exploring base later begun space e)))
 
 pub returns-in_err-try_next-clause-counted : goal.returns-in_err-try_next-clause-counted
-returns-in_err-try_next-clause-counted c = λ P base later begun space e. c.try_next.ensures.counted P base later begun space (subst (λ ps. IsExploring P c.args.self.now.matrix.now base c.args.self.now.limit c.loop-point.store.store c.loop-point.work.tree.steps.items c.loop-point.work.tree.goals.items ps later begun c.loop-point.ledger.used c.loop-point.left) c.in-Some.ensures.items (c.loop-point.invariant.exploring P base later begun space e))
+returns-in_err-try_next-clause-counted c = λ base later begun space e. c.try_next.ensures.counted base later begun space (subst (λ ps. IsExploring c.args.self.now.problem.now c.args.self.now.matrix.now base c.args.self.now.limit c.loop-point.store.store c.loop-point.work.tree.steps.items c.loop-point.work.tree.goals.items ps later begun c.loop-point.ledger.used c.loop-point.left) c.in-Some.ensures.items (c.loop-point.invariant.exploring base later begun space e))
 
 pub returns-in_err-try_next-clause-budget : goal.returns-in_err-try_next-clause-budget
 returns-in_err-try_next-clause-budget c = c.try_next.ensures.budget ∙ c.loop-point.invariant.budget
@@ -34,10 +34,10 @@ pub returns-in_err-try_next-clause-room : goal.returns-in_err-try_next-clause-ro
 returns-in_err-try_next-clause-room c = room-both c.args.store.now c.loop-point.store c.try_next.new.store c.loop-point.invariant.room c.try_next.ensures.room
 
 pub returns-in-Closed-clause-end : goal.returns-in-Closed-clause-end
-returns-in-Closed-clause-end c = λ P base later begun space e. subst (λ v. IsEnd P c.args.self.now.limit begun c.try_next.new.ledger.used c.try_next.new.ledger.budget v) c.in-Closed.is (c.in_ok-try_next.ensures.end P base later begun space (subst (λ ps. IsExploring P c.args.self.now.matrix.now base c.args.self.now.limit c.loop-point.store.store c.loop-point.work.tree.steps.items c.loop-point.work.tree.goals.items ps later begun c.loop-point.ledger.used c.loop-point.left) c.in-Some.ensures.items (c.loop-point.invariant.exploring P base later begun space e)))
+returns-in-Closed-clause-end c = λ base later begun space e. subst (λ v. IsEnd c.args.self.now.problem.now c.args.self.now.limit begun c.try_next.new.ledger.used c.try_next.new.ledger.budget v) c.in-Closed.is (c.in_ok-try_next.ensures.end base later begun space (subst (λ ps. IsExploring c.args.self.now.problem.now c.args.self.now.matrix.now base c.args.self.now.limit c.loop-point.store.store c.loop-point.work.tree.steps.items c.loop-point.work.tree.goals.items ps later begun c.loop-point.ledger.used c.loop-point.left) c.in-Some.ensures.items (c.loop-point.invariant.exploring base later begun space e)))
 
 pub returns-in-Closed-clause-counted : goal.returns-in-Closed-clause-counted
-returns-in-Closed-clause-counted c = λ P base later begun space e. c.try_next.ensures.counted P base later begun space (subst (λ ps. IsExploring P c.args.self.now.matrix.now base c.args.self.now.limit c.loop-point.store.store c.loop-point.work.tree.steps.items c.loop-point.work.tree.goals.items ps later begun c.loop-point.ledger.used c.loop-point.left) c.in-Some.ensures.items (c.loop-point.invariant.exploring P base later begun space e))
+returns-in-Closed-clause-counted c = λ base later begun space e. c.try_next.ensures.counted base later begun space (subst (λ ps. IsExploring c.args.self.now.problem.now c.args.self.now.matrix.now base c.args.self.now.limit c.loop-point.store.store c.loop-point.work.tree.steps.items c.loop-point.work.tree.goals.items ps later begun c.loop-point.ledger.used c.loop-point.left) c.in-Some.ensures.items (c.loop-point.invariant.exploring base later begun space e))
 
 pub returns-in-Closed-clause-budget : goal.returns-in-Closed-clause-budget
 returns-in-Closed-clause-budget c = c.try_next.ensures.budget ∙ c.loop-point.invariant.budget
@@ -51,10 +51,10 @@ pub returns-in-Closed-clause-room : goal.returns-in-Closed-clause-room
 returns-in-Closed-clause-room c = room-both c.args.store.now c.loop-point.store c.try_next.new.store c.loop-point.invariant.room c.try_next.ensures.room
 
 pub returns-in-Steps-clause-end : goal.returns-in-Steps-clause-end
-returns-in-Steps-clause-end c = λ P base later begun space e. subst (λ v. IsEnd P c.args.self.now.limit begun c.try_next.new.ledger.used c.try_next.new.ledger.budget v) c.in-Steps.is (c.in_ok-try_next.ensures.end P base later begun space (subst (λ ps. IsExploring P c.args.self.now.matrix.now base c.args.self.now.limit c.loop-point.store.store c.loop-point.work.tree.steps.items c.loop-point.work.tree.goals.items ps later begun c.loop-point.ledger.used c.loop-point.left) c.in-Some.ensures.items (c.loop-point.invariant.exploring P base later begun space e)))
+returns-in-Steps-clause-end c = λ base later begun space e. subst (λ v. IsEnd c.args.self.now.problem.now c.args.self.now.limit begun c.try_next.new.ledger.used c.try_next.new.ledger.budget v) c.in-Steps.is (c.in_ok-try_next.ensures.end base later begun space (subst (λ ps. IsExploring c.args.self.now.problem.now c.args.self.now.matrix.now base c.args.self.now.limit c.loop-point.store.store c.loop-point.work.tree.steps.items c.loop-point.work.tree.goals.items ps later begun c.loop-point.ledger.used c.loop-point.left) c.in-Some.ensures.items (c.loop-point.invariant.exploring base later begun space e)))
 
 pub returns-in-Steps-clause-counted : goal.returns-in-Steps-clause-counted
-returns-in-Steps-clause-counted c = λ P base later begun space e. c.try_next.ensures.counted P base later begun space (subst (λ ps. IsExploring P c.args.self.now.matrix.now base c.args.self.now.limit c.loop-point.store.store c.loop-point.work.tree.steps.items c.loop-point.work.tree.goals.items ps later begun c.loop-point.ledger.used c.loop-point.left) c.in-Some.ensures.items (c.loop-point.invariant.exploring P base later begun space e))
+returns-in-Steps-clause-counted c = λ base later begun space e. c.try_next.ensures.counted base later begun space (subst (λ ps. IsExploring c.args.self.now.problem.now c.args.self.now.matrix.now base c.args.self.now.limit c.loop-point.store.store c.loop-point.work.tree.steps.items c.loop-point.work.tree.goals.items ps later begun c.loop-point.ledger.used c.loop-point.left) c.in-Some.ensures.items (c.loop-point.invariant.exploring base later begun space e))
 
 pub returns-in-Steps-clause-budget : goal.returns-in-Steps-clause-budget
 returns-in-Steps-clause-budget c = c.try_next.ensures.budget ∙ c.loop-point.invariant.budget
@@ -75,7 +75,7 @@ loop-point-smaller c =
 
 pub loop-point-preserved : goal.loop-point-preserved
 loop-point-preserved c = record {
-  exploring = λ P base later begun space e. on-there _ _ c.in-On.is c.in_ok-try_next.ensures.on P base later begun space (subst (λ ps. IsExploring P c.args.self.now.matrix.now base c.args.self.now.limit c.loop-point.store.store c.loop-point.work.tree.steps.items c.loop-point.work.tree.goals.items ps later begun c.loop-point.ledger.used c.loop-point.left) c.in-Some.ensures.items (c.loop-point.invariant.exploring P base later begun space e));
+  exploring = λ base later begun space e. on-there _ _ c.in-On.is c.in_ok-try_next.ensures.on base later begun space (subst (λ ps. IsExploring c.args.self.now.problem.now c.args.self.now.matrix.now base c.args.self.now.limit c.loop-point.store.store c.loop-point.work.tree.steps.items c.loop-point.work.tree.goals.items ps later begun c.loop-point.ledger.used c.loop-point.left) c.in-Some.ensures.items (c.loop-point.invariant.exploring base later begun space e));
   budget = c.try_next.ensures.budget ∙ c.loop-point.invariant.budget;
   moment = λ k g a.
       let m = c.loop-point.invariant.moment k g a in
@@ -85,15 +85,15 @@ loop-point-preserved c = record {
 }
 
 pub returns-clause-on : goal.returns-clause-on
-returns-clause-on c = λ P base later begun space e.
+returns-clause-on c = λ base later begun space e.
     let n = c.loop-point.points.ok.0 in
     let z = c.in_default.ensures.cases.0 in
-    explored-all P c.args.self.now.matrix.now base c.args.self.now.limit c.loop-point.store.store c.loop-point.work.tree.steps.items c.loop-point.work.tree.goals.items c.loop-point.points.items later begun c.loop-point.ledger.used c.loop-point.left (c.loop-point.invariant.exploring P base later begun space e) (empty-list c.loop-point.points.items (omega (arith, n, z)))
+    explored-all c.args.self.now.problem.now c.args.self.now.matrix.now base c.args.self.now.limit c.loop-point.store.store c.loop-point.work.tree.steps.items c.loop-point.work.tree.goals.items c.loop-point.points.items later begun c.loop-point.ledger.used c.loop-point.left (c.loop-point.invariant.exploring base later begun space e) (empty-list c.loop-point.points.items (omega (arith, n, z)))
 
 pub returns-clause-counted : goal.returns-clause-counted
-returns-clause-counted c = λ P base later begun space e.
-    let now = c.loop-point.invariant.exploring P base later begun space e in
-    counted P c.args.self.now.limit (now.pending ++ later) begun c.loop-point.ledger.used c.loop-point.left now.searched
+returns-clause-counted c = λ base later begun space e.
+    let now = c.loop-point.invariant.exploring base later begun space e in
+    counted c.args.self.now.problem.now c.args.self.now.limit (now.pending ++ later) begun c.loop-point.ledger.used c.loop-point.left now.searched
 
 pub returns-clause-budget : goal.returns-clause-budget
 returns-clause-budget c = c.loop-point.invariant.budget

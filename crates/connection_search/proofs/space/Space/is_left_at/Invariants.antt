@@ -4,7 +4,7 @@ use Rattle.calculus.specs.Syntax.{Problem}
 use Rattle.search_theory.specs.States.{CellGoal}
 use Rattle.term_store.specs.Room.{KeepsRoom}
 use Rattle.connection_search.specs.Points.{IsHere}
-use Rattle.connection_search.specs.Running.{IsAtGoal, IsClassicalMatrix}
+use Rattle.connection_search.specs.Running.{IsAtGoal, IsMatrixOf}
 use Rattle.connection_search.proofs.LeftLaws.{TriedTo}
 use Rattle.connection_search.proofs.space.Space.is_left_at.Given as goal
 
@@ -18,7 +18,7 @@ invariant-loop-place l = record {
   here_goal : l.here.goal ≡ l.fn.goal;
   here : IsHere l.here l.initial.store.store l.initial.work.tree.steps.items l.initial.work.tree.goals.items (Some l.fn.goal);
   room : KeepsRoom l.initial.store l.store;
-  tried : (P : Problem) (base d : ℕ) (c : List Choice) (g : CellGoal) → IsClassicalMatrix P l.self.matrix.now → IsAtGoal P l.self.matrix.now base d c l.initial.store.store l.initial.work.tree.steps.items l.initial.work.tree.goals.items l.fn.goal g → l.self.limit ≡ d → d ≤ 200 → TriedTo P l.self.matrix.now (d + 1) c g l.point;
+  tried : (P : Problem) (base d : ℕ) (c : List Choice) (g : CellGoal) → IsMatrixOf P l.self.matrix.now → IsAtGoal P l.self.matrix.now base d c l.initial.store.store l.initial.work.tree.steps.items l.initial.work.tree.goals.items l.fn.goal g → l.self.limit ≡ d → d ≤ 200 → TriedTo P l.self.matrix.now (d + 1) c g l.point;
 }
 
 abbrev pub decreases-loop-place : goal.decreases-loop-place

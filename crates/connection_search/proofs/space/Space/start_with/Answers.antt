@@ -4,17 +4,17 @@ use Rattle.calculus.specs.Choices.{start}
 use Rattle.search_theory.specs.Stack.{selection_of}
 use Rattle.term_store.specs.StoreView.{the_mark}
 use Rattle.connection_search.proofs.SearchedLaws.{SearchesList, SearchesTree, back-again, marks-of_same, on-map, room-both, searched-refused, visiting-first}
-use Rattle.connection_search.proofs.VisitLaws.{counted}
+use Rattle.connection_search.proofs.SpentLaws.{counted}
 use Rattle.connection_search.proofs.space.Space.start_with.Goals as goal
 
 pub returns-then-not-starts-clause-on : goal.returns-then-not-starts-clause-on
-returns-then-not-starts-clause-on c = λ P later begun sp h. searched-refused P c.args.self.now.matrix.now c.args.self.now.limit c.args.clause.0 later begun c.args.ledger.now.used c.args.left.now sp.matrix c.requires.clause (c.is_start-starts.ensures ∙ ap Some c.if-not-starts.true) h
+returns-then-not-starts-clause-on c = λ later begun sp h. searched-refused c.args.self.now.problem.now c.args.self.now.matrix.now c.args.self.now.limit c.args.clause.0 later begun c.args.ledger.now.used c.args.left.now sp.matrix c.requires.clause (c.is_start-starts.ensures ∙ ap Some c.if-not-starts.true) h
 
 pub returns-then-not-starts-clause-end : goal.returns-then-not-starts-clause-end
-returns-then-not-starts-clause-end c = λ P later begun sp h. tt
+returns-then-not-starts-clause-end c = λ later begun sp h. tt
 
 pub returns-then-not-starts-clause-counted : goal.returns-then-not-starts-clause-counted
-returns-then-not-starts-clause-counted c = λ P later begun sp h. counted P c.args.self.now.limit ((start (selection_of (slice_get c.args.self.now.matrix.now c.args.clause.0)) ∷ []) ∷ later) begun c.args.ledger.now.used c.args.left.now h
+returns-then-not-starts-clause-counted c = λ later begun sp h. counted c.args.self.now.problem.now c.args.self.now.limit ((start (selection_of (slice_get c.args.self.now.matrix.now c.args.clause.0)) ∷ []) ∷ later) begun c.args.ledger.now.used c.args.left.now h
 
 pub returns-then-not-starts-clause-store : goal.returns-then-not-starts-clause-store
 returns-then-not-starts-clause-store c = refl
@@ -29,7 +29,7 @@ pub returns-then-not-starts-clause-marks : goal.returns-then-not-starts-clause-m
 returns-then-not-starts-clause-marks c = KeepsMarks-same c.args.store.now.store
 
 pub start-requires-clause-matrix : goal.start-requires-clause-matrix
-start-requires-clause-matrix c = (c.requires.searched.0, c.requires.searched.3.matrix)
+start-requires-clause-matrix c = (c.args.self.now.problem.now, c.requires.searched.2.matrix)
 
 pub start-requires-clause-clause : goal.start-requires-clause-clause
 start-requires-clause-clause c = c.requires.clause
@@ -41,7 +41,7 @@ pub start-requires-clause-goals : goal.start-requires-clause-goals
 start-requires-clause-goals c = c.requires.goals
 
 pub returns-in_err-start-clause-counted : goal.returns-in_err-start-clause-counted
-returns-in_err-start-clause-counted c = λ P later begun sp h. counted P c.args.self.now.limit ((start (selection_of (slice_get c.args.self.now.matrix.now c.args.clause.0)) ∷ []) ∷ later) begun c.args.ledger.now.used c.args.left.now h
+returns-in_err-start-clause-counted c = λ later begun sp h. counted c.args.self.now.problem.now c.args.self.now.limit ((start (selection_of (slice_get c.args.self.now.matrix.now c.args.clause.0)) ∷ []) ∷ later) begun c.args.ledger.now.used c.args.left.now h
 
 pub returns-in_err-start-clause-marks : goal.returns-in_err-start-clause-marks
 returns-in_err-start-clause-marks c = c.start.ensures.marks
@@ -50,10 +50,10 @@ pub returns-in_err-start-clause-room : goal.returns-in_err-start-clause-room
 returns-in_err-start-clause-room c = c.start.ensures.room
 
 pub search_from-requires : goal.search_from-requires
-search_from-requires c = (c.requires.searched.0, (length c.args.store.now.store.cells), c.requires.searched.1, c.requires.searched.2, c.requires.searched.3, (visiting-first c.requires.searched.0 c.args.self.now.matrix.now (length c.args.store.now.store.cells) c.args.self.now.limit (start (selection_of (slice_get c.args.self.now.matrix.now c.args.clause.0)) ∷ []) c.start.new.store.store c.start.new.self.tree.steps.items c.start.new.self.tree.goals.items c.start.new.self.tree.open c.requires.searched.1 c.requires.searched.2 c.args.ledger.now.used c.args.left.now refl (c.in_ok-start.ensures.started c.requires.searched.0 c.args.self.now.limit c.requires.searched.3.matrix (c.is_start-starts.ensures ∙ ap Some c.if-not-starts.false)) c.requires.searched.4))
+search_from-requires c = ((length c.args.store.now.store.cells), c.requires.searched.0, c.requires.searched.1, c.requires.searched.2, (visiting-first c.args.self.now.problem.now c.args.self.now.matrix.now (length c.args.store.now.store.cells) c.args.self.now.limit (start (selection_of (slice_get c.args.self.now.matrix.now c.args.clause.0)) ∷ []) c.start.new.store.store c.start.new.self.tree.steps.items c.start.new.self.tree.goals.items c.start.new.self.tree.open c.requires.searched.0 c.requires.searched.1 c.args.ledger.now.used c.args.left.now refl (c.in_ok-start.ensures.started c.args.self.now.problem.now c.args.self.now.limit c.requires.searched.2.matrix (c.is_start-starts.ensures ∙ ap Some c.if-not-starts.false)) c.requires.searched.3))
 
 pub returns-in_err-found-clause-counted : goal.returns-in_err-found-clause-counted
-returns-in_err-found-clause-counted c = λ P later begun sp h. c.search_from.ensures.counted P (length c.args.store.now.store.cells) later begun sp (visiting-first P c.args.self.now.matrix.now (length c.args.store.now.store.cells) c.args.self.now.limit (start (selection_of (slice_get c.args.self.now.matrix.now c.args.clause.0)) ∷ []) c.start.new.store.store c.start.new.self.tree.steps.items c.start.new.self.tree.goals.items c.start.new.self.tree.open later begun c.args.ledger.now.used c.args.left.now refl (c.in_ok-start.ensures.started P c.args.self.now.limit sp.matrix (c.is_start-starts.ensures ∙ ap Some c.if-not-starts.false)) h)
+returns-in_err-found-clause-counted c = λ later begun sp h. c.search_from.ensures.counted (length c.args.store.now.store.cells) later begun sp (visiting-first c.args.self.now.problem.now c.args.self.now.matrix.now (length c.args.store.now.store.cells) c.args.self.now.limit (start (selection_of (slice_get c.args.self.now.matrix.now c.args.clause.0)) ∷ []) c.start.new.store.store c.start.new.self.tree.steps.items c.start.new.self.tree.goals.items c.start.new.self.tree.open later begun c.args.ledger.now.used c.args.left.now refl (c.in_ok-start.ensures.started c.args.self.now.problem.now c.args.self.now.limit sp.matrix (c.is_start-starts.ensures ∙ ap Some c.if-not-starts.false)) h)
 
 pub returns-in_err-found-clause-budget : goal.returns-in_err-found-clause-budget
 returns-in_err-found-clause-budget c = c.search_from.ensures.budget
@@ -68,13 +68,13 @@ pub undo-requires : goal.undo-requires
 undo-requires c = (KeepsMarks-both c.args.store.now.store c.start.new.store.store c.search_from.new.store.store c.start.ensures.marks c.search_from.ensures.marks (the_mark c.mark-mark.result) c.mark-mark.ensures.good).0
 
 pub returns-clause-on : goal.returns-clause-on
-returns-clause-on c = on-map c.in_ok-found.found (SearchesTree c.args.self.now.matrix.now c.args.self.now.limit c.start.new.store.store c.start.new.self.tree.steps.items c.start.new.self.tree.goals.items c.start.new.self.tree.open c.args.ledger.now.used c.args.left.now c.search_from.new.ledger.used c.search_from.new.left) (SearchesList c.args.self.now.matrix.now c.args.self.now.limit (start (selection_of (slice_get c.args.self.now.matrix.now c.args.clause.0)) ∷ []) c.args.ledger.now.used c.args.left.now c.search_from.new.ledger.used c.search_from.new.left) (λ f P later begun sp h. f P (length c.args.store.now.store.cells) later begun sp (visiting-first P c.args.self.now.matrix.now (length c.args.store.now.store.cells) c.args.self.now.limit (start (selection_of (slice_get c.args.self.now.matrix.now c.args.clause.0)) ∷ []) c.start.new.store.store c.start.new.self.tree.steps.items c.start.new.self.tree.goals.items c.start.new.self.tree.open later begun c.args.ledger.now.used c.args.left.now refl (c.in_ok-start.ensures.started P c.args.self.now.limit sp.matrix (c.is_start-starts.ensures ∙ ap Some c.if-not-starts.false)) h)) c.in_ok-found.ensures.on
+returns-clause-on c = on-map c.in_ok-found.found (SearchesTree c.args.self.now.problem.now c.args.self.now.matrix.now c.args.self.now.limit c.start.new.store.store c.start.new.self.tree.steps.items c.start.new.self.tree.goals.items c.start.new.self.tree.open c.args.ledger.now.used c.args.left.now c.search_from.new.ledger.used c.search_from.new.left) (SearchesList c.args.self.now.problem.now c.args.self.now.matrix.now c.args.self.now.limit (start (selection_of (slice_get c.args.self.now.matrix.now c.args.clause.0)) ∷ []) c.args.ledger.now.used c.args.left.now c.search_from.new.ledger.used c.search_from.new.left) (λ f later begun sp h. f (length c.args.store.now.store.cells) later begun sp (visiting-first c.args.self.now.problem.now c.args.self.now.matrix.now (length c.args.store.now.store.cells) c.args.self.now.limit (start (selection_of (slice_get c.args.self.now.matrix.now c.args.clause.0)) ∷ []) c.start.new.store.store c.start.new.self.tree.steps.items c.start.new.self.tree.goals.items c.start.new.self.tree.open later begun c.args.ledger.now.used c.args.left.now refl (c.in_ok-start.ensures.started c.args.self.now.problem.now c.args.self.now.limit sp.matrix (c.is_start-starts.ensures ∙ ap Some c.if-not-starts.false)) h)) c.in_ok-found.ensures.on
 
 pub returns-clause-end : goal.returns-clause-end
-returns-clause-end c = λ P later begun sp h. c.in_ok-found.ensures.end P (length c.args.store.now.store.cells) later begun sp (visiting-first P c.args.self.now.matrix.now (length c.args.store.now.store.cells) c.args.self.now.limit (start (selection_of (slice_get c.args.self.now.matrix.now c.args.clause.0)) ∷ []) c.start.new.store.store c.start.new.self.tree.steps.items c.start.new.self.tree.goals.items c.start.new.self.tree.open later begun c.args.ledger.now.used c.args.left.now refl (c.in_ok-start.ensures.started P c.args.self.now.limit sp.matrix (c.is_start-starts.ensures ∙ ap Some c.if-not-starts.false)) h)
+returns-clause-end c = λ later begun sp h. c.in_ok-found.ensures.end (length c.args.store.now.store.cells) later begun sp (visiting-first c.args.self.now.problem.now c.args.self.now.matrix.now (length c.args.store.now.store.cells) c.args.self.now.limit (start (selection_of (slice_get c.args.self.now.matrix.now c.args.clause.0)) ∷ []) c.start.new.store.store c.start.new.self.tree.steps.items c.start.new.self.tree.goals.items c.start.new.self.tree.open later begun c.args.ledger.now.used c.args.left.now refl (c.in_ok-start.ensures.started c.args.self.now.problem.now c.args.self.now.limit sp.matrix (c.is_start-starts.ensures ∙ ap Some c.if-not-starts.false)) h)
 
 pub returns-clause-counted : goal.returns-clause-counted
-returns-clause-counted c = λ P later begun sp h. c.search_from.ensures.counted P (length c.args.store.now.store.cells) later begun sp (visiting-first P c.args.self.now.matrix.now (length c.args.store.now.store.cells) c.args.self.now.limit (start (selection_of (slice_get c.args.self.now.matrix.now c.args.clause.0)) ∷ []) c.start.new.store.store c.start.new.self.tree.steps.items c.start.new.self.tree.goals.items c.start.new.self.tree.open later begun c.args.ledger.now.used c.args.left.now refl (c.in_ok-start.ensures.started P c.args.self.now.limit sp.matrix (c.is_start-starts.ensures ∙ ap Some c.if-not-starts.false)) h)
+returns-clause-counted c = λ later begun sp h. c.search_from.ensures.counted (length c.args.store.now.store.cells) later begun sp (visiting-first c.args.self.now.problem.now c.args.self.now.matrix.now (length c.args.store.now.store.cells) c.args.self.now.limit (start (selection_of (slice_get c.args.self.now.matrix.now c.args.clause.0)) ∷ []) c.start.new.store.store c.start.new.self.tree.steps.items c.start.new.self.tree.goals.items c.start.new.self.tree.open later begun c.args.ledger.now.used c.args.left.now refl (c.in_ok-start.ensures.started c.args.self.now.problem.now c.args.self.now.limit sp.matrix (c.is_start-starts.ensures ∙ ap Some c.if-not-starts.false)) h)
 
 pub returns-clause-budget : goal.returns-clause-budget
 returns-clause-budget c = c.search_from.ensures.budget

@@ -1,27 +1,26 @@
 use Rattle.std.proofs.Common.{◌<◌, ◌++◌, ◌∷◌, ◌∙◌, [], ℕ, List, ap, arith, reverse, subst, sym}
 use Rattle.calculus.specs.Choices.{Choice}
-use Rattle.calculus.specs.Syntax.{Problem}
 use Rattle.connection_search.specs.Exploring.{AreAbove, IsExploring, IsSpace}
 use Rattle.connection_search.specs.Weights.{work_left}
 use Rattle.connection_search.specs.declared.tree.Tree.{Tree}
 use Rattle.connection_search.proofs.MoveLaws.{goal-here}
 use Rattle.connection_search.proofs.StackedLaws.{above-next, above-rest, moment-back, moment-both, moment-kept}
 use Rattle.connection_search.proofs.TryingLaws.{back-at, dead-at, dropped-falls, if_on, last-good, lighter-some, next-falls, none-at, room-both, stands-back, tried-at, trying-made, trying-refused, visit-falls}
-use Rattle.connection_search.proofs.VisitLaws.{counted}
+use Rattle.connection_search.proofs.SpentLaws.{counted}
 use Rattle.connection_search.proofs.space.Space.try_next.Goals as goal
 
 pub return_to-requires : goal.return_to-requires
-return_to-requires c = let (P, base, later, begun, space, e) = c.requires in
-    last-good P c.args.self.now.matrix.now base c.args.self.now.limit c.args.store.now.store c.args.work.now.tree.steps.items c.args.work.now.tree.goals.items c.args.points.now.items c.args.last later begun c.args.ledger.now.used c.args.left.now e
+return_to-requires c = let (base, later, begun, space, e) = c.requires in
+    last-good c.args.self.now.problem.now c.args.self.now.matrix.now base c.args.self.now.limit c.args.store.now.store c.args.work.now.tree.steps.items c.args.work.now.tree.goals.items c.args.points.now.items c.args.last later begun c.args.ledger.now.used c.args.left.now e
 
 pub is_found_irregular-requires : goal.is_found_irregular-requires
-is_found_irregular-requires c = let (P, base, later, begun, space, e) = c.requires in
-    let b = back-at P c.args.self.now.matrix.now base c.args.self.now.limit c.args.store.now.store c.return_to.new.store.store c.args.work.now.tree.steps.items c.return_to.new.tree.steps.items c.args.work.now.tree.goals.items c.return_to.new.tree.goals.items c.args.points.now.items c.args.last later begun c.args.ledger.now.used c.args.left.now e c.return_to.ensures.store c.return_to.ensures.steps c.return_to.ensures.goals in
-    (P, c.args.self.now.matrix.now, base, c.args.self.now.limit, b.choices, stands-back P c.args.self.now.matrix.now base c.args.self.now.limit c.return_to.new.store.store c.return_to.new.tree.steps.items c.return_to.new.tree.goals.items c.return_to.new.tree.open c.args.last (reverse c.args.points.now.items) later begun c.args.ledger.now.used c.args.left.now c.return_to.ensures.first b)
+is_found_irregular-requires c = let (base, later, begun, space, e) = c.requires in
+    let b = back-at c.args.self.now.problem.now c.args.self.now.matrix.now base c.args.self.now.limit c.args.store.now.store c.return_to.new.store.store c.args.work.now.tree.steps.items c.return_to.new.tree.steps.items c.args.work.now.tree.goals.items c.return_to.new.tree.goals.items c.args.points.now.items c.args.last later begun c.args.ledger.now.used c.args.left.now e c.return_to.ensures.store c.return_to.ensures.steps c.return_to.ensures.goals in
+    (c.args.self.now.problem.now, c.args.self.now.matrix.now, base, c.args.self.now.limit, b.choices, stands-back c.args.self.now.problem.now c.args.self.now.matrix.now base c.args.self.now.limit c.return_to.new.store.store c.return_to.new.tree.steps.items c.return_to.new.tree.goals.items c.return_to.new.tree.open c.args.last (reverse c.args.points.now.items) later begun c.args.ledger.now.used c.args.left.now c.return_to.ensures.first b)
 
 pub returns-in_err-is_found_irregular-clause-counted : goal.returns-in_err-is_found_irregular-clause-counted
-returns-in_err-is_found_irregular-clause-counted c = λ P base later begun space e.
-    counted P c.args.self.now.limit (e.pending ++ later) begun c.args.ledger.now.used c.args.left.now e.searched
+returns-in_err-is_found_irregular-clause-counted c = λ base later begun space e.
+    counted c.args.self.now.problem.now c.args.self.now.limit (e.pending ++ later) begun c.args.ledger.now.used c.args.left.now e.searched
 
 pub returns-in_err-is_found_irregular-clause-moment : goal.returns-in_err-is_found_irregular-clause-moment
 returns-in_err-is_found_irregular-clause-moment c = λ k g a. moment-back k c.args.points.now.items c.args.last c.args.store.now.store c.return_to.new.store.store g a c.return_to.ensures.marks
@@ -30,12 +29,12 @@ pub returns-in_err-is_found_irregular-clause-room : goal.returns-in_err-is_found
 returns-in_err-is_found_irregular-clause-room c = c.return_to.ensures.room
 
 pub returns-then-branch-clause-on : goal.returns-then-branch-clause-on
-returns-then-branch-clause-on c = λ P base later begun space e.
-    dead-at P c.args.self.now.matrix.now base c.args.self.now.limit c.args.store.now.store c.return_to.new.store.store c.args.work.now.tree.steps.items c.return_to.new.tree.steps.items c.is_found_irregular.new.self.tree.steps.items c.args.work.now.tree.goals.items c.return_to.new.tree.goals.items c.is_found_irregular.new.self.tree.goals.items c.return_to.new.tree.open c.args.points.now.items c.args.last later begun c.args.ledger.now.used c.args.left.now c.return_to.ensures.store c.return_to.ensures.steps c.return_to.ensures.goals c.return_to.ensures.first (ap (λ (t : Tree). t.steps.items) c.is_found_irregular.ensures.tree) (ap (λ (t : Tree). t.goals.items) c.is_found_irregular.ensures.tree) (c.in_ok-is_found_irregular.ensures.irregular c.if-branch.true) e
+returns-then-branch-clause-on c = λ base later begun space e.
+    dead-at c.args.self.now.problem.now c.args.self.now.matrix.now base c.args.self.now.limit c.args.store.now.store c.return_to.new.store.store c.args.work.now.tree.steps.items c.return_to.new.tree.steps.items c.is_found_irregular.new.self.tree.steps.items c.args.work.now.tree.goals.items c.return_to.new.tree.goals.items c.is_found_irregular.new.self.tree.goals.items c.return_to.new.tree.open c.args.points.now.items c.args.last later begun c.args.ledger.now.used c.args.left.now c.return_to.ensures.store c.return_to.ensures.steps c.return_to.ensures.goals c.return_to.ensures.first (ap (λ (t : Tree). t.steps.items) c.is_found_irregular.ensures.tree) (ap (λ (t : Tree). t.goals.items) c.is_found_irregular.ensures.tree) (c.in_ok-is_found_irregular.ensures.irregular c.if-branch.true) e
 
 pub returns-then-branch-clause-counted : goal.returns-then-branch-clause-counted
-returns-then-branch-clause-counted c = λ P base later begun space e.
-    counted P c.args.self.now.limit (e.pending ++ later) begun c.args.ledger.now.used c.args.left.now e.searched
+returns-then-branch-clause-counted c = λ base later begun space e.
+    counted c.args.self.now.problem.now c.args.self.now.limit (e.pending ++ later) begun c.args.ledger.now.used c.args.left.now e.searched
 
 pub returns-then-branch-clause-falls : goal.returns-then-branch-clause-falls
 returns-then-branch-clause-falls c = dropped-falls c.args.ledger.now.budget c.args.ledger.now.used c.args.points.now.items c.args.last
@@ -50,13 +49,13 @@ pub returns-then-branch-clause-room : goal.returns-then-branch-clause-room
 returns-then-branch-clause-room c = c.return_to.ensures.room
 
 pub next-requires : goal.next-requires
-next-requires c = let (P, base, later, begun, space, e) = c.requires in
-    let b = back-at P c.args.self.now.matrix.now base c.args.self.now.limit c.args.store.now.store c.return_to.new.store.store c.args.work.now.tree.steps.items c.is_found_irregular.new.self.tree.steps.items c.args.work.now.tree.goals.items c.is_found_irregular.new.self.tree.goals.items c.args.points.now.items c.args.last later begun c.args.ledger.now.used c.args.left.now e c.return_to.ensures.store (ap (λ (t : Tree). t.steps.items) c.is_found_irregular.ensures.tree ∙ c.return_to.ensures.steps) (ap (λ (t : Tree). t.goals.items) c.is_found_irregular.ensures.tree ∙ c.return_to.ensures.goals) in
-    (c.args.self.now.limit, b.goal, b.untried, goal-here P c.args.self.now.matrix.now base c.args.self.now.limit b.choices c.return_to.new.store.store c.is_found_irregular.new.self.tree.steps.items c.is_found_irregular.new.self.tree.goals.items c.args.last.goal b.goal b.at, b.has)
+next-requires c = let (base, later, begun, space, e) = c.requires in
+    let b = back-at c.args.self.now.problem.now c.args.self.now.matrix.now base c.args.self.now.limit c.args.store.now.store c.return_to.new.store.store c.args.work.now.tree.steps.items c.is_found_irregular.new.self.tree.steps.items c.args.work.now.tree.goals.items c.is_found_irregular.new.self.tree.goals.items c.args.points.now.items c.args.last later begun c.args.ledger.now.used c.args.left.now e c.return_to.ensures.store (ap (λ (t : Tree). t.steps.items) c.is_found_irregular.ensures.tree ∙ c.return_to.ensures.steps) (ap (λ (t : Tree). t.goals.items) c.is_found_irregular.ensures.tree ∙ c.return_to.ensures.goals) in
+    (c.args.self.now.limit, b.goal, b.untried, goal-here c.args.self.now.problem.now c.args.self.now.matrix.now base c.args.self.now.limit b.choices c.return_to.new.store.store c.is_found_irregular.new.self.tree.steps.items c.is_found_irregular.new.self.tree.goals.items c.args.last.goal b.goal b.at, b.has)
 
 pub returns-in_err-choice-clause-counted : goal.returns-in_err-choice-clause-counted
-returns-in_err-choice-clause-counted c = λ P base later begun space e.
-    counted P c.args.self.now.limit (e.pending ++ later) begun c.args.ledger.now.used c.args.left.now e.searched
+returns-in_err-choice-clause-counted c = λ base later begun space e.
+    counted c.args.self.now.problem.now c.args.self.now.limit (e.pending ++ later) begun c.args.ledger.now.used c.args.left.now e.searched
 
 pub returns-in_err-choice-clause-moment : goal.returns-in_err-choice-clause-moment
 returns-in_err-choice-clause-moment c = λ k g a. moment-back k c.args.points.now.items c.args.last c.args.store.now.store c.return_to.new.store.store g a c.return_to.ensures.marks
@@ -65,8 +64,8 @@ pub returns-in_err-choice-clause-room : goal.returns-in_err-choice-clause-room
 returns-in_err-choice-clause-room c = c.return_to.ensures.room
 
 pub returns-in_err-push-clause-counted : goal.returns-in_err-push-clause-counted
-returns-in_err-push-clause-counted c = λ P base later begun space e.
-    counted P c.args.self.now.limit (e.pending ++ later) begun c.args.ledger.now.used c.args.left.now e.searched
+returns-in_err-push-clause-counted c = λ base later begun space e.
+    counted c.args.self.now.problem.now c.args.self.now.limit (e.pending ++ later) begun c.args.ledger.now.used c.args.left.now e.searched
 
 pub returns-in_err-push-clause-moment : goal.returns-in_err-push-clause-moment
 returns-in_err-push-clause-moment c = λ k g a. moment-back k c.args.points.now.items c.args.last c.args.store.now.store c.return_to.new.store.store g a c.return_to.ensures.marks
@@ -75,12 +74,12 @@ pub returns-in_err-push-clause-room : goal.returns-in_err-push-clause-room
 returns-in_err-push-clause-room c = c.return_to.ensures.room
 
 pub returns-in-None-clause-on : goal.returns-in-None-clause-on
-returns-in-None-clause-on c = λ P base later begun space e.
-    none-at P c.args.self.now.matrix.now base c.args.self.now.limit c.args.store.now.store c.return_to.new.store.store c.args.work.now.tree.steps.items c.is_found_irregular.new.self.tree.steps.items c.args.work.now.tree.goals.items c.is_found_irregular.new.self.tree.goals.items c.args.points.now.items c.args.last c.next.new.self later begun c.args.ledger.now.used c.args.left.now _ c.return_to.ensures.store (ap (λ (t : Tree). t.steps.items) c.is_found_irregular.ensures.tree ∙ c.return_to.ensures.steps) (ap (λ (t : Tree). t.goals.items) c.is_found_irregular.ensures.tree ∙ c.return_to.ensures.goals) c.in_ok-choice.ensures.next c.in-None.is e
+returns-in-None-clause-on c = λ base later begun space e.
+    none-at c.args.self.now.problem.now c.args.self.now.matrix.now base c.args.self.now.limit c.args.store.now.store c.return_to.new.store.store c.args.work.now.tree.steps.items c.is_found_irregular.new.self.tree.steps.items c.args.work.now.tree.goals.items c.is_found_irregular.new.self.tree.goals.items c.args.points.now.items c.args.last c.next.new.self later begun c.args.ledger.now.used c.args.left.now _ c.return_to.ensures.store (ap (λ (t : Tree). t.steps.items) c.is_found_irregular.ensures.tree ∙ c.return_to.ensures.steps) (ap (λ (t : Tree). t.goals.items) c.is_found_irregular.ensures.tree ∙ c.return_to.ensures.goals) c.in_ok-choice.ensures.next c.in-None.is e
 
 pub returns-in-None-clause-counted : goal.returns-in-None-clause-counted
-returns-in-None-clause-counted c = λ P base later begun space e.
-    counted P c.args.self.now.limit (e.pending ++ later) begun c.args.ledger.now.used c.args.left.now e.searched
+returns-in-None-clause-counted c = λ base later begun space e.
+    counted c.args.self.now.problem.now c.args.self.now.limit (e.pending ++ later) begun c.args.ledger.now.used c.args.left.now e.searched
 
 pub returns-in-None-clause-falls : goal.returns-in-None-clause-falls
 returns-in-None-clause-falls c = dropped-falls c.args.ledger.now.budget c.args.ledger.now.used c.args.points.now.items c.args.last
@@ -95,13 +94,13 @@ pub returns-in-None-clause-room : goal.returns-in-None-clause-room
 returns-in-None-clause-room c = c.return_to.ensures.room
 
 pub make-requires : goal.make-requires
-make-requires c = let (P, base, later, begun, space, e) = c.requires in
-    let t = tried-at P c.args.self.now.matrix.now base c.args.self.now.limit c.args.store.now.store c.return_to.new.store.store c.args.work.now.tree.steps.items c.is_found_irregular.new.self.tree.steps.items c.args.work.now.tree.goals.items c.is_found_irregular.new.self.tree.goals.items c.args.points.now.items c.push.new.self.items c.args.last c.next.new.self later begun c.args.ledger.now.used c.args.left.now _ c.in-Some.choice c.return_to.ensures.store (ap (λ (t : Tree). t.steps.items) c.is_found_irregular.ensures.tree ∙ c.return_to.ensures.steps) (ap (λ (t : Tree). t.goals.items) c.is_found_irregular.ensures.tree ∙ c.return_to.ensures.goals) c.in_ok-push.ensures.items c.in_ok-choice.ensures.same c.in_ok-choice.ensures.next c.in-Some.is e in
-    (P, base, c.args.self.now.limit, t.choices, t.at_goal, space.matrix, t.at, t.move)
+make-requires c = let (base, later, begun, space, e) = c.requires in
+    let t = tried-at c.args.self.now.problem.now c.args.self.now.matrix.now base c.args.self.now.limit c.args.store.now.store c.return_to.new.store.store c.args.work.now.tree.steps.items c.is_found_irregular.new.self.tree.steps.items c.args.work.now.tree.goals.items c.is_found_irregular.new.self.tree.goals.items c.args.points.now.items c.push.new.self.items c.args.last c.next.new.self later begun c.args.ledger.now.used c.args.left.now _ c.in-Some.choice c.return_to.ensures.store (ap (λ (t : Tree). t.steps.items) c.is_found_irregular.ensures.tree ∙ c.return_to.ensures.steps) (ap (λ (t : Tree). t.goals.items) c.is_found_irregular.ensures.tree ∙ c.return_to.ensures.goals) c.in_ok-push.ensures.items c.in_ok-choice.ensures.same c.in_ok-choice.ensures.next c.in-Some.is e in
+    (c.args.self.now.problem.now, base, c.args.self.now.limit, t.choices, t.at_goal, space.matrix, t.at, t.move)
 
 pub returns-in_err-make-clause-counted : goal.returns-in_err-make-clause-counted
-returns-in_err-make-clause-counted c = λ P base later begun space e.
-    counted P c.args.self.now.limit (e.pending ++ later) begun c.args.ledger.now.used c.args.left.now e.searched
+returns-in_err-make-clause-counted c = λ base later begun space e.
+    counted c.args.self.now.problem.now c.args.self.now.limit (e.pending ++ later) begun c.args.ledger.now.used c.args.left.now e.searched
 
 pub returns-in_err-make-clause-moment : goal.returns-in_err-make-clause-moment
 returns-in_err-make-clause-moment c = λ k g a. moment-kept k c.args.points.now.items c.args.last c.args.store.now.store c.return_to.new.store.store c.make.new.store.store g a c.return_to.ensures.marks c.make.ensures.marks
@@ -110,13 +109,13 @@ pub returns-in_err-make-clause-room : goal.returns-in_err-make-clause-room
 returns-in_err-make-clause-room c = room-both c.args.store.now c.return_to.new.store c.make.new.store c.return_to.ensures.room c.make.ensures.room
 
 pub returns-then-not-branch-clause-on : goal.returns-then-not-branch-clause-on
-returns-then-not-branch-clause-on c = λ P base later begun space e.
-    let t = tried-at P c.args.self.now.matrix.now base c.args.self.now.limit c.args.store.now.store c.return_to.new.store.store c.args.work.now.tree.steps.items c.is_found_irregular.new.self.tree.steps.items c.args.work.now.tree.goals.items c.is_found_irregular.new.self.tree.goals.items c.args.points.now.items c.push.new.self.items c.args.last c.next.new.self later begun c.args.ledger.now.used c.args.left.now _ c.in-Some.choice c.return_to.ensures.store (ap (λ (t : Tree). t.steps.items) c.is_found_irregular.ensures.tree ∙ c.return_to.ensures.steps) (ap (λ (t : Tree). t.goals.items) c.is_found_irregular.ensures.tree ∙ c.return_to.ensures.goals) c.in_ok-push.ensures.items c.in_ok-choice.ensures.same c.in_ok-choice.ensures.next c.in-Some.is e in
-    trying-refused P c.args.self.now.matrix.now base c.args.self.now.limit c.return_to.new.store.store c.make.new.store.store c.is_found_irregular.new.self.tree.steps.items c.make.new.self.tree.steps.items c.is_found_irregular.new.self.tree.goals.items c.make.new.self.tree.goals.items c.push.new.self.items later begun c.args.ledger.now.used c.args.left.now c.next.new.self.goal c.in-Some.choice t c.make.ensures.marks c.in_ok-make.ensures.kept (c.in_ok-make.ensures.refused c.if-not-branch.true P base c.args.self.now.limit t.choices t.at_goal space.matrix t.at t.move)
+returns-then-not-branch-clause-on c = λ base later begun space e.
+    let t = tried-at c.args.self.now.problem.now c.args.self.now.matrix.now base c.args.self.now.limit c.args.store.now.store c.return_to.new.store.store c.args.work.now.tree.steps.items c.is_found_irregular.new.self.tree.steps.items c.args.work.now.tree.goals.items c.is_found_irregular.new.self.tree.goals.items c.args.points.now.items c.push.new.self.items c.args.last c.next.new.self later begun c.args.ledger.now.used c.args.left.now _ c.in-Some.choice c.return_to.ensures.store (ap (λ (t : Tree). t.steps.items) c.is_found_irregular.ensures.tree ∙ c.return_to.ensures.steps) (ap (λ (t : Tree). t.goals.items) c.is_found_irregular.ensures.tree ∙ c.return_to.ensures.goals) c.in_ok-push.ensures.items c.in_ok-choice.ensures.same c.in_ok-choice.ensures.next c.in-Some.is e in
+    trying-refused c.args.self.now.problem.now c.args.self.now.matrix.now base c.args.self.now.limit c.return_to.new.store.store c.make.new.store.store c.is_found_irregular.new.self.tree.steps.items c.make.new.self.tree.steps.items c.is_found_irregular.new.self.tree.goals.items c.make.new.self.tree.goals.items c.push.new.self.items later begun c.args.ledger.now.used c.args.left.now c.next.new.self.goal c.in-Some.choice t c.make.ensures.marks c.in_ok-make.ensures.kept (c.in_ok-make.ensures.refused c.if-not-branch.true c.args.self.now.problem.now base c.args.self.now.limit t.choices t.at_goal space.matrix t.at t.move)
 
 pub returns-then-not-branch-clause-counted : goal.returns-then-not-branch-clause-counted
-returns-then-not-branch-clause-counted c = λ P base later begun space e.
-    counted P c.args.self.now.limit (e.pending ++ later) begun c.args.ledger.now.used c.args.left.now e.searched
+returns-then-not-branch-clause-counted c = λ base later begun space e.
+    counted c.args.self.now.problem.now c.args.self.now.limit (e.pending ++ later) begun c.args.ledger.now.used c.args.left.now e.searched
 
 pub returns-then-not-branch-clause-falls : goal.returns-then-not-branch-clause-falls
 returns-then-not-branch-clause-falls c = subst (λ ps. work_left c.args.ledger.now.budget c.args.ledger.now.used ps < work_left c.args.ledger.now.budget c.args.ledger.now.used (c.args.points.now.items ++ c.args.last ∷ [])) (sym c.in_ok-push.ensures.items) (next-falls c.args.ledger.now.budget c.args.ledger.now.used c.args.points.now.items c.args.last c.next.new.self (lighter-some c.args.last c.next.new.self _ c.in-Some.choice c.in_ok-choice.ensures.falls c.in-Some.is))
@@ -131,14 +130,14 @@ pub returns-then-not-branch-clause-room : goal.returns-then-not-branch-clause-ro
 returns-then-not-branch-clause-room c = room-both c.args.store.now c.return_to.new.store c.make.new.store c.return_to.ensures.room c.make.ensures.room
 
 pub visit-requires : goal.visit-requires
-visit-requires c = let (P, base, later, begun, space, e) = c.requires in
-    let t = tried-at P c.args.self.now.matrix.now base c.args.self.now.limit c.args.store.now.store c.return_to.new.store.store c.args.work.now.tree.steps.items c.is_found_irregular.new.self.tree.steps.items c.args.work.now.tree.goals.items c.is_found_irregular.new.self.tree.goals.items c.args.points.now.items c.push.new.self.items c.args.last c.next.new.self later begun c.args.ledger.now.used c.args.left.now _ c.in-Some.choice c.return_to.ensures.store (ap (λ (t : Tree). t.steps.items) c.is_found_irregular.ensures.tree ∙ c.return_to.ensures.steps) (ap (λ (t : Tree). t.goals.items) c.is_found_irregular.ensures.tree ∙ c.return_to.ensures.goals) c.in_ok-push.ensures.items c.in_ok-choice.ensures.same c.in_ok-choice.ensures.next c.in-Some.is e in
-    (P, base, later, begun, space, trying-made P c.args.self.now.matrix.now base c.args.self.now.limit c.return_to.new.store.store c.make.new.store.store c.is_found_irregular.new.self.tree.steps.items c.make.new.self.tree.steps.items c.is_found_irregular.new.self.tree.goals.items c.make.new.self.tree.goals.items c.make.new.self.tree.open c.push.new.self.items later begun c.args.ledger.now.used c.args.left.now c.next.new.self.goal c.in-Some.choice t c.make.ensures.marks c.in_ok-make.ensures.kept (c.in_ok-make.ensures.made c.if-not-branch.false P base c.args.self.now.limit t.choices t.at_goal space.matrix t.at t.move))
+visit-requires c = let (base, later, begun, space, e) = c.requires in
+    let t = tried-at c.args.self.now.problem.now c.args.self.now.matrix.now base c.args.self.now.limit c.args.store.now.store c.return_to.new.store.store c.args.work.now.tree.steps.items c.is_found_irregular.new.self.tree.steps.items c.args.work.now.tree.goals.items c.is_found_irregular.new.self.tree.goals.items c.args.points.now.items c.push.new.self.items c.args.last c.next.new.self later begun c.args.ledger.now.used c.args.left.now _ c.in-Some.choice c.return_to.ensures.store (ap (λ (t : Tree). t.steps.items) c.is_found_irregular.ensures.tree ∙ c.return_to.ensures.steps) (ap (λ (t : Tree). t.goals.items) c.is_found_irregular.ensures.tree ∙ c.return_to.ensures.goals) c.in_ok-push.ensures.items c.in_ok-choice.ensures.same c.in_ok-choice.ensures.next c.in-Some.is e in
+    (base, later, begun, space, trying-made c.args.self.now.problem.now c.args.self.now.matrix.now base c.args.self.now.limit c.return_to.new.store.store c.make.new.store.store c.is_found_irregular.new.self.tree.steps.items c.make.new.self.tree.steps.items c.is_found_irregular.new.self.tree.goals.items c.make.new.self.tree.goals.items c.make.new.self.tree.open c.push.new.self.items later begun c.args.ledger.now.used c.args.left.now c.next.new.self.goal c.in-Some.choice t c.make.ensures.marks c.in_ok-make.ensures.kept (c.in_ok-make.ensures.made c.if-not-branch.false c.args.self.now.problem.now base c.args.self.now.limit t.choices t.at_goal space.matrix t.at t.move))
 
 pub returns-in_err-visit-clause-counted : goal.returns-in_err-visit-clause-counted
-returns-in_err-visit-clause-counted c = λ P base later begun space e.
-    let t = tried-at P c.args.self.now.matrix.now base c.args.self.now.limit c.args.store.now.store c.return_to.new.store.store c.args.work.now.tree.steps.items c.is_found_irregular.new.self.tree.steps.items c.args.work.now.tree.goals.items c.is_found_irregular.new.self.tree.goals.items c.args.points.now.items c.push.new.self.items c.args.last c.next.new.self later begun c.args.ledger.now.used c.args.left.now _ c.in-Some.choice c.return_to.ensures.store (ap (λ (t : Tree). t.steps.items) c.is_found_irregular.ensures.tree ∙ c.return_to.ensures.steps) (ap (λ (t : Tree). t.goals.items) c.is_found_irregular.ensures.tree ∙ c.return_to.ensures.goals) c.in_ok-push.ensures.items c.in_ok-choice.ensures.same c.in_ok-choice.ensures.next c.in-Some.is e in
-    c.visit.ensures.counted P base later begun space (trying-made P c.args.self.now.matrix.now base c.args.self.now.limit c.return_to.new.store.store c.make.new.store.store c.is_found_irregular.new.self.tree.steps.items c.make.new.self.tree.steps.items c.is_found_irregular.new.self.tree.goals.items c.make.new.self.tree.goals.items c.make.new.self.tree.open c.push.new.self.items later begun c.args.ledger.now.used c.args.left.now c.next.new.self.goal c.in-Some.choice t c.make.ensures.marks c.in_ok-make.ensures.kept (c.in_ok-make.ensures.made c.if-not-branch.false P base c.args.self.now.limit t.choices t.at_goal space.matrix t.at t.move))
+returns-in_err-visit-clause-counted c = λ base later begun space e.
+    let t = tried-at c.args.self.now.problem.now c.args.self.now.matrix.now base c.args.self.now.limit c.args.store.now.store c.return_to.new.store.store c.args.work.now.tree.steps.items c.is_found_irregular.new.self.tree.steps.items c.args.work.now.tree.goals.items c.is_found_irregular.new.self.tree.goals.items c.args.points.now.items c.push.new.self.items c.args.last c.next.new.self later begun c.args.ledger.now.used c.args.left.now _ c.in-Some.choice c.return_to.ensures.store (ap (λ (t : Tree). t.steps.items) c.is_found_irregular.ensures.tree ∙ c.return_to.ensures.steps) (ap (λ (t : Tree). t.goals.items) c.is_found_irregular.ensures.tree ∙ c.return_to.ensures.goals) c.in_ok-push.ensures.items c.in_ok-choice.ensures.same c.in_ok-choice.ensures.next c.in-Some.is e in
+    c.visit.ensures.counted base later begun space (trying-made c.args.self.now.problem.now c.args.self.now.matrix.now base c.args.self.now.limit c.return_to.new.store.store c.make.new.store.store c.is_found_irregular.new.self.tree.steps.items c.make.new.self.tree.steps.items c.is_found_irregular.new.self.tree.goals.items c.make.new.self.tree.goals.items c.make.new.self.tree.open c.push.new.self.items later begun c.args.ledger.now.used c.args.left.now c.next.new.self.goal c.in-Some.choice t c.make.ensures.marks c.in_ok-make.ensures.kept (c.in_ok-make.ensures.made c.if-not-branch.false c.args.self.now.problem.now base c.args.self.now.limit t.choices t.at_goal space.matrix t.at t.move))
 
 pub returns-in_err-visit-clause-budget : goal.returns-in_err-visit-clause-budget
 returns-in_err-visit-clause-budget c = c.visit.ensures.budget
@@ -152,19 +151,19 @@ pub returns-in_err-visit-clause-room : goal.returns-in_err-visit-clause-room
 returns-in_err-visit-clause-room c = room-both c.args.store.now c.make.new.store c.visit.new.store (room-both c.args.store.now c.return_to.new.store c.make.new.store c.return_to.ensures.room c.make.ensures.room) c.visit.ensures.room
 
 pub returns-clause-on : goal.returns-clause-on
-returns-clause-on c = if_on _ _ ((P : Problem) (base : ℕ) (later : List (List Choice)) (begun : ℕ) → IsSpace P c.args.self.now.matrix.now c.args.self.now.limit → IsExploring P c.args.self.now.matrix.now base c.args.self.now.limit c.args.store.now.store c.args.work.now.tree.steps.items c.args.work.now.tree.goals.items (c.args.points.now.items ++ c.args.last ∷ []) later begun c.args.ledger.now.used c.args.left.now → IsExploring P c.args.self.now.matrix.now base c.args.self.now.limit c.visit.new.store.store c.visit.new.work.tree.steps.items c.visit.new.work.tree.goals.items c.visit.new.points.items later begun c.visit.new.ledger.used c.visit.new.left) c.in_ok-visit.ensures.on (λ f P base later begun space e.
-    let t = tried-at P c.args.self.now.matrix.now base c.args.self.now.limit c.args.store.now.store c.return_to.new.store.store c.args.work.now.tree.steps.items c.is_found_irregular.new.self.tree.steps.items c.args.work.now.tree.goals.items c.is_found_irregular.new.self.tree.goals.items c.args.points.now.items c.push.new.self.items c.args.last c.next.new.self later begun c.args.ledger.now.used c.args.left.now _ c.in-Some.choice c.return_to.ensures.store (ap (λ (t : Tree). t.steps.items) c.is_found_irregular.ensures.tree ∙ c.return_to.ensures.steps) (ap (λ (t : Tree). t.goals.items) c.is_found_irregular.ensures.tree ∙ c.return_to.ensures.goals) c.in_ok-push.ensures.items c.in_ok-choice.ensures.same c.in_ok-choice.ensures.next c.in-Some.is e in
-    f P base later begun space (trying-made P c.args.self.now.matrix.now base c.args.self.now.limit c.return_to.new.store.store c.make.new.store.store c.is_found_irregular.new.self.tree.steps.items c.make.new.self.tree.steps.items c.is_found_irregular.new.self.tree.goals.items c.make.new.self.tree.goals.items c.make.new.self.tree.open c.push.new.self.items later begun c.args.ledger.now.used c.args.left.now c.next.new.self.goal c.in-Some.choice t c.make.ensures.marks c.in_ok-make.ensures.kept (c.in_ok-make.ensures.made c.if-not-branch.false P base c.args.self.now.limit t.choices t.at_goal space.matrix t.at t.move)))
+returns-clause-on c = if_on _ _ ((base : ℕ) (later : List (List Choice)) (begun : ℕ) → IsSpace c.args.self.now.problem.now c.args.self.now.matrix.now c.args.self.now.limit → IsExploring c.args.self.now.problem.now c.args.self.now.matrix.now base c.args.self.now.limit c.args.store.now.store c.args.work.now.tree.steps.items c.args.work.now.tree.goals.items (c.args.points.now.items ++ c.args.last ∷ []) later begun c.args.ledger.now.used c.args.left.now → IsExploring c.args.self.now.problem.now c.args.self.now.matrix.now base c.args.self.now.limit c.visit.new.store.store c.visit.new.work.tree.steps.items c.visit.new.work.tree.goals.items c.visit.new.points.items later begun c.visit.new.ledger.used c.visit.new.left) c.in_ok-visit.ensures.on (λ f base later begun space e.
+    let t = tried-at c.args.self.now.problem.now c.args.self.now.matrix.now base c.args.self.now.limit c.args.store.now.store c.return_to.new.store.store c.args.work.now.tree.steps.items c.is_found_irregular.new.self.tree.steps.items c.args.work.now.tree.goals.items c.is_found_irregular.new.self.tree.goals.items c.args.points.now.items c.push.new.self.items c.args.last c.next.new.self later begun c.args.ledger.now.used c.args.left.now _ c.in-Some.choice c.return_to.ensures.store (ap (λ (t : Tree). t.steps.items) c.is_found_irregular.ensures.tree ∙ c.return_to.ensures.steps) (ap (λ (t : Tree). t.goals.items) c.is_found_irregular.ensures.tree ∙ c.return_to.ensures.goals) c.in_ok-push.ensures.items c.in_ok-choice.ensures.same c.in_ok-choice.ensures.next c.in-Some.is e in
+    f base later begun space (trying-made c.args.self.now.problem.now c.args.self.now.matrix.now base c.args.self.now.limit c.return_to.new.store.store c.make.new.store.store c.is_found_irregular.new.self.tree.steps.items c.make.new.self.tree.steps.items c.is_found_irregular.new.self.tree.goals.items c.make.new.self.tree.goals.items c.make.new.self.tree.open c.push.new.self.items later begun c.args.ledger.now.used c.args.left.now c.next.new.self.goal c.in-Some.choice t c.make.ensures.marks c.in_ok-make.ensures.kept (c.in_ok-make.ensures.made c.if-not-branch.false c.args.self.now.problem.now base c.args.self.now.limit t.choices t.at_goal space.matrix t.at t.move)))
 
 pub returns-clause-end : goal.returns-clause-end
-returns-clause-end c = λ P base later begun space e.
-    let t = tried-at P c.args.self.now.matrix.now base c.args.self.now.limit c.args.store.now.store c.return_to.new.store.store c.args.work.now.tree.steps.items c.is_found_irregular.new.self.tree.steps.items c.args.work.now.tree.goals.items c.is_found_irregular.new.self.tree.goals.items c.args.points.now.items c.push.new.self.items c.args.last c.next.new.self later begun c.args.ledger.now.used c.args.left.now _ c.in-Some.choice c.return_to.ensures.store (ap (λ (t : Tree). t.steps.items) c.is_found_irregular.ensures.tree ∙ c.return_to.ensures.steps) (ap (λ (t : Tree). t.goals.items) c.is_found_irregular.ensures.tree ∙ c.return_to.ensures.goals) c.in_ok-push.ensures.items c.in_ok-choice.ensures.same c.in_ok-choice.ensures.next c.in-Some.is e in
-    c.in_ok-visit.ensures.end P base later begun space (trying-made P c.args.self.now.matrix.now base c.args.self.now.limit c.return_to.new.store.store c.make.new.store.store c.is_found_irregular.new.self.tree.steps.items c.make.new.self.tree.steps.items c.is_found_irregular.new.self.tree.goals.items c.make.new.self.tree.goals.items c.make.new.self.tree.open c.push.new.self.items later begun c.args.ledger.now.used c.args.left.now c.next.new.self.goal c.in-Some.choice t c.make.ensures.marks c.in_ok-make.ensures.kept (c.in_ok-make.ensures.made c.if-not-branch.false P base c.args.self.now.limit t.choices t.at_goal space.matrix t.at t.move))
+returns-clause-end c = λ base later begun space e.
+    let t = tried-at c.args.self.now.problem.now c.args.self.now.matrix.now base c.args.self.now.limit c.args.store.now.store c.return_to.new.store.store c.args.work.now.tree.steps.items c.is_found_irregular.new.self.tree.steps.items c.args.work.now.tree.goals.items c.is_found_irregular.new.self.tree.goals.items c.args.points.now.items c.push.new.self.items c.args.last c.next.new.self later begun c.args.ledger.now.used c.args.left.now _ c.in-Some.choice c.return_to.ensures.store (ap (λ (t : Tree). t.steps.items) c.is_found_irregular.ensures.tree ∙ c.return_to.ensures.steps) (ap (λ (t : Tree). t.goals.items) c.is_found_irregular.ensures.tree ∙ c.return_to.ensures.goals) c.in_ok-push.ensures.items c.in_ok-choice.ensures.same c.in_ok-choice.ensures.next c.in-Some.is e in
+    c.in_ok-visit.ensures.end base later begun space (trying-made c.args.self.now.problem.now c.args.self.now.matrix.now base c.args.self.now.limit c.return_to.new.store.store c.make.new.store.store c.is_found_irregular.new.self.tree.steps.items c.make.new.self.tree.steps.items c.is_found_irregular.new.self.tree.goals.items c.make.new.self.tree.goals.items c.make.new.self.tree.open c.push.new.self.items later begun c.args.ledger.now.used c.args.left.now c.next.new.self.goal c.in-Some.choice t c.make.ensures.marks c.in_ok-make.ensures.kept (c.in_ok-make.ensures.made c.if-not-branch.false c.args.self.now.problem.now base c.args.self.now.limit t.choices t.at_goal space.matrix t.at t.move))
 
 pub returns-clause-counted : goal.returns-clause-counted
-returns-clause-counted c = λ P base later begun space e.
-    let t = tried-at P c.args.self.now.matrix.now base c.args.self.now.limit c.args.store.now.store c.return_to.new.store.store c.args.work.now.tree.steps.items c.is_found_irregular.new.self.tree.steps.items c.args.work.now.tree.goals.items c.is_found_irregular.new.self.tree.goals.items c.args.points.now.items c.push.new.self.items c.args.last c.next.new.self later begun c.args.ledger.now.used c.args.left.now _ c.in-Some.choice c.return_to.ensures.store (ap (λ (t : Tree). t.steps.items) c.is_found_irregular.ensures.tree ∙ c.return_to.ensures.steps) (ap (λ (t : Tree). t.goals.items) c.is_found_irregular.ensures.tree ∙ c.return_to.ensures.goals) c.in_ok-push.ensures.items c.in_ok-choice.ensures.same c.in_ok-choice.ensures.next c.in-Some.is e in
-    c.visit.ensures.counted P base later begun space (trying-made P c.args.self.now.matrix.now base c.args.self.now.limit c.return_to.new.store.store c.make.new.store.store c.is_found_irregular.new.self.tree.steps.items c.make.new.self.tree.steps.items c.is_found_irregular.new.self.tree.goals.items c.make.new.self.tree.goals.items c.make.new.self.tree.open c.push.new.self.items later begun c.args.ledger.now.used c.args.left.now c.next.new.self.goal c.in-Some.choice t c.make.ensures.marks c.in_ok-make.ensures.kept (c.in_ok-make.ensures.made c.if-not-branch.false P base c.args.self.now.limit t.choices t.at_goal space.matrix t.at t.move))
+returns-clause-counted c = λ base later begun space e.
+    let t = tried-at c.args.self.now.problem.now c.args.self.now.matrix.now base c.args.self.now.limit c.args.store.now.store c.return_to.new.store.store c.args.work.now.tree.steps.items c.is_found_irregular.new.self.tree.steps.items c.args.work.now.tree.goals.items c.is_found_irregular.new.self.tree.goals.items c.args.points.now.items c.push.new.self.items c.args.last c.next.new.self later begun c.args.ledger.now.used c.args.left.now _ c.in-Some.choice c.return_to.ensures.store (ap (λ (t : Tree). t.steps.items) c.is_found_irregular.ensures.tree ∙ c.return_to.ensures.steps) (ap (λ (t : Tree). t.goals.items) c.is_found_irregular.ensures.tree ∙ c.return_to.ensures.goals) c.in_ok-push.ensures.items c.in_ok-choice.ensures.same c.in_ok-choice.ensures.next c.in-Some.is e in
+    c.visit.ensures.counted base later begun space (trying-made c.args.self.now.problem.now c.args.self.now.matrix.now base c.args.self.now.limit c.return_to.new.store.store c.make.new.store.store c.is_found_irregular.new.self.tree.steps.items c.make.new.self.tree.steps.items c.is_found_irregular.new.self.tree.goals.items c.make.new.self.tree.goals.items c.make.new.self.tree.open c.push.new.self.items later begun c.args.ledger.now.used c.args.left.now c.next.new.self.goal c.in-Some.choice t c.make.ensures.marks c.in_ok-make.ensures.kept (c.in_ok-make.ensures.made c.if-not-branch.false c.args.self.now.problem.now base c.args.self.now.limit t.choices t.at_goal space.matrix t.at t.move))
 
 pub returns-clause-budget : goal.returns-clause-budget
 returns-clause-budget c = c.visit.ensures.budget

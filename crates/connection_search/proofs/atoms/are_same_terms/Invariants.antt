@@ -1,7 +1,0 @@
-use Rattle.std.proofs.Common.{map}
-use Rattle.term_store.specs.RefView.{the_place}
-use Rattle.connection_search.proofs.SamenessLaws.{SameTo}
-use Rattle.connection_search.proofs.atoms.are_same_terms.Given as goal
-
-abbrev pub invariant-loop-i : goal.invariant-loop-i
-invariant-loop-i l = SameTo l.store.store (map the_place l.xs) (map the_place l.ys) l.i

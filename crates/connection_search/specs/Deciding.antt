@@ -1,0 +1,50 @@
+-- What a list of choices without open goals comes to.
+use Rattle.std.specs.Prelude.{◌≡◌, ◌-◌, ℕ, List, false, IsTrue}
+use Rattle.calculus.specs.Choices.{Choice}
+use Rattle.calculus.specs.Counting.{MoreThan}
+use Rattle.calculus.specs.Space.{has_labels, lengths_cmp}
+use Rattle.calculus.specs.Stores.{Store}
+use Rattle.calculus.specs.Syntax.{Problem}
+use Rattle.calculus.specs.Systems.{AllAllowed, AreEarly, HasBoundedSolution, System}
+use Rattle.calculus.specs.Tableaux.{is_closed}
+use Rattle.prefix_split.specs.LengthSearch.{IsCounted}
+use Rattle.prefix_split.specs.declared.solving.Solved.{Solved}
+use Rattle.prefix_split.specs.declared.solving.Solved.TheVariants as solved
+use Rattle.search_theory.specs.Exploring.{IsClosedList}
+use Rattle.search_theory.specs.Matrix.{MatrixClause}
+use Rattle.search_theory.specs.States.{CellGoal}
+use Rattle.tableau_core.specs.TableauView.{the_tableau}
+use Rattle.connection_search.specs.Trees.{AreGoals, tree_system}
+use Rattle.connection_search.specs.declared.exploring.Visit.{Visit}
+use Rattle.connection_search.specs.declared.exploring.Visit.TheVariants as visit
+use Rattle.connection_search.specs.declared.tree.Goal.{Goal}
+use Rattle.connection_search.specs.declared.tree.Step.{Step}
+
+-- what solving a system by the problem's domains comes to, where steps were used from `before` on
+pub record IsSolved (P : Problem) (s : Store) (y : System) (before after budget : ℕ) (new : Store) (a : Solved) : Type 0 where
+  pub none : a ≡ solved.None → ¬ HasBoundedSolution P.setting.logic (AllAllowed P) s y
+  pub ended : a ≡ solved.Steps → after ≡ budget
+  pub more_early : a ≡ solved.Steps → MoreThan lengths_cmp (AreEarly P.setting.logic (AllAllowed P) s y) (after - before)
+  pub unchanged : ¬ (a ≡ solved.Found) → new ≡ s
+
+-- the same for the system of a tree
+pub record IsSolvedTree (P : Problem) (m : List MatrixClause) (s : Store) (steps : List Step) (goals : List Goal) (before after budget : ℕ) (new : Store) (a : Solved) : Type 0 where
+  pub labels : ¬ (a ≡ solved.Found) → IsTrue (has_labels P.setting.logic)
+  pub solved : ¬ (a ≡ solved.Found) → (xs : List CellGoal) → AreGoals steps goals goals xs → IsSolved P s (tree_system m steps goals xs) before after budget new a
+
+-- at most one step was used for each early list of lengths, and none where there are no labels
+pub record IsSolving (P : Problem) (m : List MatrixClause) (s : Store) (steps : List Step) (goals : List Goal) (before after : ℕ) : Type 0 where
+  pub counted : (xs : List CellGoal) → AreGoals steps goals goals xs → IsCounted P.setting.logic (AllAllowed P) s (tree_system m steps goals xs) before after
+  pub none : has_labels P.setting.logic ≡ false → after ≡ before
+
+-- more lists of lengths are early than steps were used, and all are
+pub record IsEnded (P : Problem) (m : List MatrixClause) (s : Store) (steps : List Step) (goals : List Goal) (before after budget : ℕ) : Type 0 where
+  pub labels : IsTrue (has_labels P.setting.logic)
+  pub ended : after ≡ budget
+  pub more_early : (xs : List CellGoal) → AreGoals steps goals goals xs → MoreThan lengths_cmp (AreEarly P.setting.logic (AllAllowed P) s (tree_system m steps goals xs)) (after - before)
+
+-- what the list comes to: no closed tableau has it, or one is found, or the budget is used up
+abbrev pub IsDecided : Problem → List MatrixClause → ℕ → List Choice → Store → List Step → List Goal → ℕ → ℕ → ℕ → Store → Visit → Type 0
+IsDecided P m d c s steps goals before after budget new visit.On = (¬ IsClosedList P d c) × (new ≡ s)
+IsDecided P m d c s steps goals before after budget new (visit.Closed t) = IsTrue (is_closed P d (the_tableau t))
+IsDecided P m d c s steps goals before after budget new visit.Steps = IsEnded P m s steps goals before after budget

@@ -1,0 +1,194 @@
+//! Lists of choices without open goals: what they ask of labels is solved, and the tableau is read
+//! off and judged.
+
+ghost use Rattle.std.specs.Prelude.{◌≡◌, ℕ, IfOk, IsTrue, List, None, true};
+ghost use Rattle.std.specs.List.{AllByRecursion, list_all};
+ghost use Rattle.calculus.specs.Bindings.{KeepsMarks};
+ghost use Rattle.calculus.specs.Choices.{Choice};
+ghost use Rattle.calculus.specs.Instances.{gamma_is_allowed};
+ghost use Rattle.calculus.specs.Space.{has_labels};
+ghost use Rattle.calculus.specs.Systems.{AllAllowed, NamesItsStrings, is_system};
+ghost use Rattle.calculus.specs.Tableaux as tableaux;
+ghost use Rattle.prefix_split.specs.LengthSearch.{IsCounted};
+ghost use Rattle.tableau_core.specs.TableauView.{the_tableau};
+ghost use Rattle.term_store.specs.Room.{KeepsRoom};
+ghost use Rattle.term_store.specs.SystemView.{the_system};
+ghost use Rattle.connection_search.specs.Deciding.{IsDecided, IsSolved, IsSolvedTree, IsSolving};
+ghost use Rattle.connection_search.specs.Exploring.{IsSpace};
+ghost use Rattle.connection_search.specs.Readable.{IsReadableStep};
+ghost use Rattle.connection_search.specs.Running.{StandsFor};
+
+use crate::exploring::Visit;
+use crate::homes::homes_of;
+use crate::moves::Work;
+use crate::reading::tableau_of;
+use crate::space::Space;
+use crate::system::system_of;
+use calculus::setting::{Domains, Logic};
+use cop_base::{Ledger, NoMemory};
+use domain_cond::{ConstantDemand, CumulativeDemand, VaryingDemand};
+use logic_rules::Problem;
+use prefix_split::{Solved, solve};
+use std::alloc::Global;
+use tableau_core::{Tableau, is_closed};
+use term_store::{Demand, Store, System};
+
+fn has_labels(logic: Logic) -> bool
+    ensures { result ≡ has_labels logic }
+{
+    match logic {
+        Logic::Classical => false,
+        _ => true,
+    }
+}
+
+// Solves the system by what the domains ask.
+fn solve_by<M: Demand>(
+    alloc: Global,
+    problem: &Problem,
+    ledger: &mut Ledger,
+    store: &mut Store,
+    system: &System,
+    demand: &mut M,
+) -> Result<Solved, NoMemory>
+    requires fits { IsTrue (is_system store.old.store (the_system system.now)) }
+    requires named { NamesItsStrings store.old.store (the_system system.now) }
+    requires labels { IsTrue (has_labels problem.now.setting.logic) }
+    requires demand { M.holds_for demand.old ≡ list_all (gamma_is_allowed problem.now) }
+    ensures solved { IfOk result (IsSolved problem.now store.old.store (the_system system.now)
+        ledger.old.used ledger.new.used ledger.new.budget store.new.store) }
+    ensures counted { IsCounted problem.now.setting.logic (AllAllowed problem.now) store.old.store
+        (the_system system.now) ledger.old.used ledger.new.used }
+    ensures budget { ledger.new.budget ≡ ledger.old.budget }
+    ensures marks { KeepsMarks store.old.store store.new.store }
+    ensures room { KeepsRoom store.old store.new }
+{
+    let logic = problem.setting().logic();
+    let solved = solve(alloc, store, logic, system, demand, ledger)?;
+    Ok(solved)
+}
+
+// Solves the system of a problem whose logic has labels.
+fn solve_system(
+    alloc: Global,
+    problem: &Problem,
+    ledger: &mut Ledger,
+    store: &mut Store,
+    system: &System,
+) -> Result<Solved, NoMemory>
+    requires fits { IsTrue (is_system store.old.store (the_system system.now)) }
+    requires named { NamesItsStrings store.old.store (the_system system.now) }
+    requires labels { IsTrue (has_labels problem.now.setting.logic) }
+    ensures solved { IfOk result (IsSolved problem.now store.old.store (the_system system.now)
+        ledger.old.used ledger.new.used ledger.new.budget store.new.store) }
+    ensures counted { IsCounted problem.now.setting.logic (AllAllowed problem.now) store.old.store
+        (the_system system.now) ledger.old.used ledger.new.used }
+    ensures budget { ledger.new.budget ≡ ledger.old.budget }
+    ensures marks { KeepsMarks store.old.store store.new.store }
+    ensures room { KeepsRoom store.old store.new }
+{
+    match problem.setting().domains() {
+        Domains::Constant => {
+            let mut demand = ConstantDemand::new(problem);
+            solve_by(alloc, problem, ledger, store, system, &mut demand)
+        }
+        Domains::Cumulative => {
+            let mut demand = CumulativeDemand::new(alloc, problem)?;
+            solve_by(alloc, problem, ledger, store, system, &mut demand)
+        }
+        Domains::Varying => {
+            let mut demand = VaryingDemand::new(alloc, problem)?;
+            solve_by(alloc, problem, ledger, store, system, &mut demand)
+        }
+    }
+}
+
+impl Space<'_> {
+    // Solves what the choices ask of labels, where there are labels.
+    fn solve_tree(
+        &self,
+        ledger: &mut Ledger,
+        store: &mut Store,
+        work: &Work,
+    ) -> Result<Solved, NoMemory>
+        requires { (base : ℕ) × (c : List Choice)
+            × IsSpace self.now.problem.now self.now.matrix.now self.now.limit
+            × StandsFor self.now.problem.now self.now.matrix.now base self.now.limit c
+            store.old.store work.now.tree.steps.items work.now.tree.goals.items
+            work.now.tree.open }
+        ensures solved { IfOk result (λ a. (base : ℕ) (c : List Choice)
+            → StandsFor self.now.problem.now self.now.matrix.now base self.now.limit c
+            store.old.store work.now.tree.steps.items work.now.tree.goals.items
+            work.now.tree.open
+            → IsSolvedTree self.now.problem.now self.now.matrix.now store.old.store
+            work.now.tree.steps.items work.now.tree.goals.items
+            ledger.old.used ledger.new.used ledger.new.budget store.new.store a) }
+        ensures counted { IsSolving self.now.problem.now self.now.matrix.now store.old.store
+            work.now.tree.steps.items work.now.tree.goals.items
+            ledger.old.used ledger.new.used }
+        ensures budget { ledger.new.budget ≡ ledger.old.budget }
+        ensures marks { KeepsMarks store.old.store store.new.store }
+        ensures room { KeepsRoom store.old store.new }
+    {
+        let logic = self.problem.setting().logic();
+        if !has_labels(logic) {
+            return Ok(Solved::Found);
+        }
+        let system = system_of(work.alloc, self.matrix, &work.tree)?;
+        let solved = solve_system(work.alloc, self.problem, ledger, store, &system)?;
+        Ok(solved)
+    }
+
+    // The tableau of the tree, where it is closed. Should it not be, the search has no answer.
+    fn answer(&self, store: &Store, work: &Work) -> Result<Tableau, NoMemory>
+        requires { AllByRecursion (IsReadableStep store.now.store self.now.matrix.now)
+            work.now.tree.steps.items }
+        ensures { IfOk result (λ t. IsTrue (tableaux.is_closed self.now.problem.now self.now.limit
+            (the_tableau t))) }
+    {
+        let homes = homes_of(work.alloc, &work.tree, self.problem.common_spares())?;
+        let tableau = tableau_of(work.alloc, store, &homes, self.matrix, &work.tree)?;
+        if is_closed(work.alloc, self.problem, &tableau, self.limit)? {
+            return Ok(tableau);
+        }
+        Err(NoMemory)
+    }
+
+    /// Decides a list of choices without open goals, none of whose goals is the same as one above
+    /// it.
+    pub(crate) fn decide(
+        &self,
+        ledger: &mut Ledger,
+        store: &mut Store,
+        work: &Work,
+    ) -> Result<Visit, NoMemory>
+        requires { (base : ℕ) × (c : List Choice)
+            × IsSpace self.now.problem.now self.now.matrix.now self.now.limit
+            × StandsFor self.now.problem.now self.now.matrix.now base self.now.limit c
+            store.old.store work.now.tree.steps.items work.now.tree.goals.items
+            work.now.tree.open }
+        ensures decided { IfOk result (λ v. (base : ℕ) (c : List Choice)
+            → StandsFor self.now.problem.now self.now.matrix.now base self.now.limit c
+            store.old.store work.now.tree.steps.items work.now.tree.goals.items
+            work.now.tree.open
+            → IsDecided self.now.problem.now self.now.matrix.now self.now.limit c store.old.store
+            work.now.tree.steps.items work.now.tree.goals.items
+            ledger.old.used ledger.new.used ledger.new.budget store.new.store v) }
+        ensures counted { IsSolving self.now.problem.now self.now.matrix.now store.old.store
+            work.now.tree.steps.items work.now.tree.goals.items
+            ledger.old.used ledger.new.used }
+        ensures budget { ledger.new.budget ≡ ledger.old.budget }
+        ensures marks { KeepsMarks store.old.store store.new.store }
+        ensures room { KeepsRoom store.old store.new }
+    {
+        let _start = store.mark();
+        match self.solve_tree(ledger, store, work)? {
+            Solved::None => Ok(Visit::On),
+            Solved::Steps => Ok(Visit::Steps),
+            Solved::Found => {
+                let tableau = self.answer(store, work)?;
+                Ok(Visit::Closed(tableau))
+            }
+        }
+    }
+}
