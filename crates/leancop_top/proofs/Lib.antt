@@ -1,7 +1,6 @@
 pub mod Pieces
 pub mod WordLaws
 pub mod NumberLaws
-pub mod ClassicalWords
 pub mod LimitLaws
 pub mod Budgets
 pub mod Searches

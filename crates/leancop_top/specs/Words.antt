@@ -105,14 +105,11 @@ part_of w =
     (on (behind (codes "--domains=") w) domains_of (on (behind (codes "--limit=") w) limit_of
     (on (behind (codes "--steps=") w) steps_of (operand_of w)))))
 
--- a command has this part, as far as it is built: a proof is searched for in classical logic alone
+-- a command has this part
 abbrev pub has : Action → Part → Bool
 has action.Check (limit n) = false
 has action.Check (steps n) = false
 has action.Check part = true
-has action.Prove (logic Classical) = true
-has action.Prove (logic l) = false
-has action.Prove (domains d) = false
 has action.Prove part = true
 
 -- ---- what the words give

@@ -5,7 +5,6 @@ ghost use Rattle.calculus.specs.ComputedInstances.{ComputesInstances};
 ghost use Rattle.calculus.specs.Problems.{is_problem};
 ghost use Rattle.calculus.specs.Soundness.{IsSound};
 ghost use Rattle.calculus.specs.Syntax as tree;
-ghost use Rattle.calculus.specs.declared.setting.Logic.TheVariants.{Classical};
 ghost use Rattle.cop_base.specs.Outside.{Files, Rose};
 ghost use Rattle.leancop_top.specs.CommandView.{the_bounds, the_problem_file};
 ghost use Rattle.leancop_top.specs.Output.{status_line};
@@ -34,7 +33,6 @@ fn prove_file<L: Library>(
     file: ProblemFile<'_>,
     bounds: Bounds,
 ) -> Result<Proof, Status>
-    requires classical { (the_problem_file file).setting.logic ≡ Classical }
     ensures same_files { L.holds lib.new ≡ L.holds lib.old }
     ensures more_faults { L.faults lib.old ≤ L.faults lib.new }
     ensures more_misses { L.misses lib.old ≤ L.misses lib.new }

@@ -1,7 +1,6 @@
 //! The search for a derivation of a problem.
 
 ghost use Rattle.std.specs.Prelude.{◌≡◌, IfOk, IfErr, IsTrue};
-ghost use Rattle.calculus.specs.declared.setting.Logic.TheVariants.{Classical};
 ghost use Rattle.calculus.specs.DerivationText.{is_limit};
 ghost use Rattle.calculus.specs.Tableaux.{is_closed};
 ghost use Rattle.leancop_top.specs.CommandView.{the_bounds};
@@ -39,7 +38,6 @@ struct Found {
 
 // Builds the matrix and searches the path limits from 1 on. The matrix is given back here.
 fn search(alloc: Global, problem: &Problem, bounds: Bounds) -> Result<Found, Status>
-    requires classical { problem.now.setting.logic ≡ Classical }
     ensures found { IfOk result
         (λ f. IsFound problem.now (the_bounds bounds) f.limit (the_tableau f.tableau)) }
     ensures ended { IfErr result (λ s. SearchEndsWithout problem.now (the_bounds bounds) s) }
@@ -84,7 +82,6 @@ fn print_derivation(alloc: Global, problem: &Problem, found: Found) -> Result<Pr
 
 /// The derivation of a problem, or why there is none.
 pub fn prove(alloc: Global, problem: &Problem, bounds: Bounds) -> Result<Proof, Status>
-    requires classical { problem.now.setting.logic ≡ Classical }
     ensures derived { IfOk result
         (λ r. IsDerived problem.now (the_bounds bounds) r.limit r.text.items) }
     ensures ended { IfErr result (λ s. SearchEndsWithout problem.now (the_bounds bounds) s) }

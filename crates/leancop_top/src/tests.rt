@@ -124,6 +124,74 @@ fn derives_at_the_least_limit(rt: HostRuntime) -> Result<(), Fail> {
     Ok(())
 }
 
+// Axioms of modal logic, in the logics that have them and in those that lack them, and excluded
+// middle beside its double negation.
+#[test]
+fn proves_in_each_logic(rt: HostRuntime) -> Result<(), Fail> {
+    let four = b"qmf(c,conjecture,(#box:p) => #box: #box:p).\n".as_slice();
+    let serial = b"qmf(c,conjecture,(#box:p) => #dia:p).\n".as_slice();
+    let barcan = b"qmf(c,conjecture,(![X]:(#box:p(X))) => #box:(![X]:p(X))).\n".as_slice();
+    let middle = b"fof(c,conjecture,p | ~p).\n".as_slice();
+    let doubled = b"fof(c,conjecture,~ ~(p | ~p)).\n".as_slice();
+    for (text, logic, option, status, told) in [
+        (
+            four,
+            "--logic=s4",
+            "--limit=1",
+            0,
+            b"leancop derivation 1\nlogic s4 constant\n".as_slice(),
+        ),
+        (
+            four,
+            "--logic=t",
+            "--limit=9",
+            2,
+            b"no tableau at limit 1\n",
+        ),
+        (
+            serial,
+            "--logic=d",
+            "--domains=cumulative",
+            0,
+            b"leancop derivation 1\nlogic d cumulative\n",
+        ),
+        (
+            barcan,
+            "--logic=s5",
+            "--domains=constant",
+            0,
+            b"leancop derivation 1\nlogic s5 constant\n",
+        ),
+        (
+            barcan,
+            "--logic=t",
+            "--domains=cumulative",
+            2,
+            b"no tableau at limit 1\n",
+        ),
+        (
+            middle,
+            "--logic=intuitionistic",
+            "--limit=9",
+            2,
+            b"no tableau at limit 1\n",
+        ),
+        (
+            doubled,
+            "--logic=intuitionistic",
+            "--limit=1",
+            0,
+            b"leancop derivation 1\nlogic intuitionistic\n",
+        ),
+    ] {
+        let words = ["prove", logic, option, "m.p"];
+        let (code, output) = outcome(rt.alloc(), &words, &[("m.p", text)], &[], &[])?;
+        assert_eq!(rt; code, status);
+        assert!(rt; output.as_slice().starts_with(told));
+    }
+    Ok(())
+}
+
 // In the third formula the only extension is irregular, and in the fourth no term makes both goals
 // equal. The fifth asks for ever longer paths.
 #[test]
@@ -207,7 +275,12 @@ fn obeys_words(rt: HostRuntime) -> Result<(), Fail> {
         ),
         (&["prove", "m.p", "n.p"], 5, b"bad word 3\n"),
         (&["prove", "m.p", "--domains=varying"], 5, b"bad word 3\n"),
-        (&["prove", "--logic=s4", "m.p"], 5, b"bad word 2\n"),
+        (&["prove", "--domains=constant", "m.p"], 5, b"bad word 2\n"),
+        (
+            &["prove", "m.p", "--logic=s4"],
+            4,
+            b"m.p:0: wrong language\n",
+        ),
         (&["prove", "--root=", "m.p"], 5, b"bad word 2\n"),
         (
             &["prove", "--root=a", "--root=a", "m.p"],

@@ -226,15 +226,13 @@ fn part_of(word: &str) -> Option<Part<'_>>
     }
 }
 
-// Whether the command has this part, as far as it is built.
+// Whether the command has this part.
 fn has(action: Action, part: Part<'_>) -> bool
     ensures { result ≡ has action (the_part part.entry) }
 {
     match (action, part) {
         (Action::Check, Part::Limit(_) | Part::Steps(_)) => false,
         (Action::Check, _) => true,
-        (Action::Prove, Part::Logic(logic)) => logic == Logic::Classical,
-        (Action::Prove, Part::Domains(_)) => false,
         (Action::Prove, _) => true,
     }
 }
