@@ -74,8 +74,9 @@ fn digest_label(state: u64, label: &GroundLabel) -> u64
     mix(digest, 0)
 }
 
+/// The digest of a value behind what the state is the digest of.
 #[cycle(digest)]
-fn digest_value(state: u64, value: &Value) -> u64
+pub fn digest_value(state: u64, value: &Value) -> u64
     ensures { result ≡ digest_value state (the_value value.now) }
 {
     match value {

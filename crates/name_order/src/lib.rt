@@ -19,6 +19,7 @@ mod turn;
 mod walk;
 mod words;
 
+pub use digest::digest_value;
 pub use named::{Named, name};
 pub use names::Name;
 pub use turn::{Turn, TurnList};

@@ -20,6 +20,7 @@ pub mod NameLines
 pub mod Loop
 pub mod MoveLaws
 pub mod NodeLaws
+pub mod KeyLaws
 pub mod OrderLaws
 pub mod Stack
 pub mod PartLaws

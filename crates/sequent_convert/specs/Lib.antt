@@ -2,6 +2,8 @@ pub mod Conversion
 pub mod SpotView
 pub mod PastView
 pub mod NodeView
+pub mod NodeList
+pub mod NodeKeys
 pub mod MadeView
 pub mod Numbers
 pub mod AheadView

@@ -1,28 +1,24 @@
 //! The branch at hand.
 
-ghost use Rattle.std.specs.Prelude.{◌≡◌, ◌<◌, ◌++◌, ◌∷◌, [], ℕ, Some, IsTrue, ◌↔◌, IfOk, OnOk, IfSome, MatchOption, length, map, slice_get, take};
-ghost use Rattle.calculus.specs.Branches.{Item};
-ghost use Rattle.formula_core.specs.GroundView.{the_value};
-ghost use Rattle.name_order.specs.TurnView.{the_turn};
+ghost use Rattle.std.specs.Prelude.{◌≡◌, ◌++◌, ◌∷◌, [], IfOk, OnOk, IfSome, map, take};
 ghost use Rattle.sequent_convert.specs.NodeView.{the_node};
 ghost use Rattle.sequent_convert.specs.Pairs.{ArePair};
-ghost use Rattle.sequent_convert.specs.Working.{IsFront, IsOn};
 
 use crate::axiom::{Pair, pair_at};
 use crate::done::{Done, number_at, put_number};
 use crate::entry::literal_entry;
 use crate::literals::Literals;
 use crate::node::Node;
+use crate::nodes::Nodes;
 use crate::source::Source;
 use cop_base::NoMemory;
-use formula_core::{Formula, Sign, Value};
-use name_order::Turn;
+use formula_core::{Formula, Sign};
 use std::alloc::Global;
 
 /// The nodes of the branch, and the turns that are done there.
 #[derive(Drop)]
 pub struct Branch<'a> {
-    pub nodes: Vec<Node<'a>>,
+    pub nodes: Nodes<'a>,
     pub done: Done,
     literals: Literals,
     // The number of the first and of the second node that each turn made, counted from 1. One may be stale, as truncation leaves
@@ -38,60 +34,6 @@ pub enum Part {
     Second,
 }
 
-#[tactic(auto, using(formula_core::specs::GroundEq::tree_equality, crate::proofs::Working::front_short))]
-fn are_taken(taken: &[Value], values: &[Value]) -> bool
-    ensures { IsTrue result ↔ IsFront (map the_value taken.now) (map the_value values.now) }
-{
-    if taken.len() > values.len() {
-        return false;
-    }
-    for i in 0..taken.len() {
-        if !taken[i].is_equal(&values[i]) {
-            return false;
-        }
-    }
-    true
-}
-
-/// Whether the turn works on the node: it is at its position, and takes the values that were taken on the way to it, and others.
-pub fn works_on(turn: &Turn, node: &Node) -> bool
-    ensures { IsTrue result ↔ IsOn (the_turn turn.now) (the_node node.now) }
-{
-    if node.past {
-        return false;
-    }
-    if node.spot.position != turn.position.0 {
-        return false;
-    }
-    are_taken(node.spot.taken.items(), turn.values.items())
-}
-
-// The place of the node that the turn works on, if there is one.
-fn seek(nodes: &[Node], turn: &Turn) -> Option<usize>
-    ensures { MatchOption result ((n : ℕ) (i : Item) → slice_get (map the_node nodes.now) n ≡ Some i → ¬ (IsOn (the_turn turn.now) i))
-        (λ n. (i : Item) × (slice_get (map the_node nodes.now) n ≡ Some i) × IsOn (the_turn turn.now) i) }
-{
-    for i in 0..nodes.len() {
-        if works_on(turn, &nodes[i]) {
-            return Some(i);
-        }
-    }
-    None
-}
-
-/// The place of the node that the turn works on, if there is one. It is mostly the one hinted at.
-pub fn find(nodes: &[Node], hint: usize, turn: &Turn) -> Option<usize>
-    ensures { MatchOption result ((n : ℕ) (i : Item) → slice_get (map the_node nodes.now) n ≡ Some i → ¬ (IsOn (the_turn turn.now) i))
-        (λ n. (i : Item) × (slice_get (map the_node nodes.now) n ≡ Some i) × IsOn (the_turn turn.now) i) }
-{
-    if hint < nodes.len() {
-        if works_on(turn, &nodes[hint]) {
-            return Some(hint);
-        }
-    }
-    seek(nodes, turn)
-}
-
 impl<'a> Branch<'a> {
     /// The branch with the problem's formula.
     pub fn new(alloc: Global) -> Branch<'a>
@@ -99,7 +41,7 @@ impl<'a> Branch<'a> {
         ensures done { result.done ≡ [] }
     {
         Branch {
-            nodes: Vec::new(alloc),
+            nodes: Nodes::new(alloc),
             done: Done::new(alloc),
             literals: Literals::new(alloc),
             first: Vec::new(alloc),
@@ -123,7 +65,7 @@ impl<'a> Branch<'a> {
     pub fn hint_at(&self, turn: usize, position: u32) -> usize {
         let first = self.hint(turn, Part::First);
         if first < self.nodes.len() {
-            if self.nodes[first].spot.position == position {
+            if self.nodes.as_slice()[first].spot.position == position {
                 return first;
             }
         }
@@ -134,7 +76,7 @@ impl<'a> Branch<'a> {
         ensures nodes { self.new.nodes.items ≡ self.old.nodes.items }
         ensures done { self.new.done ≡ self.old.done }
     {
-        let number = self.nodes.len() + 1;
+        let number = self.nodes.as_slice().len() + 1;
         match part {
             Part::First => put_number(&mut self.first, turn, number),
             Part::Second => put_number(&mut self.second, turn, number),

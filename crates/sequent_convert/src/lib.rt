@@ -17,6 +17,7 @@ mod literals;
 mod make;
 mod names;
 mod node;
+mod nodes;
 mod numbered;
 mod parts;
 mod past;

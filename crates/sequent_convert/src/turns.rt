@@ -8,8 +8,9 @@ ghost use Rattle.sequent_convert.specs.NodeView.{the_node};
 ghost use Rattle.sequent_convert.specs.RunView.{WorksAt, own_values, the_source};
 ghost use Rattle.sequent_convert.specs.State.{Begins, BeginsNot, ComesFor, IsAwaitedBy, IsBasis, WorksOnNone, made_of};
 
-use crate::branch::{Branch, find, works_on};
+use crate::branch::Branch;
 use crate::make::{Made, make};
+use crate::nodes::works_on;
 use crate::source::Source;
 use cop_base::NoMemory;
 use formula_core::Value;
@@ -71,11 +72,8 @@ pub(crate) fn find_node(source: &Source, branch: &Branch, turn: usize) -> Option
         (λ n. WorksAt (the_source source.now) branch.now.nodes.items turn n) }
 {
     let agenda = source.named.agenda();
-    match find(
-        branch.nodes.as_slice(),
-        hint(source, branch, turn),
-        &agenda[turn],
-    ) {
+    let hint = hint(source, branch, turn);
+    match branch.nodes.find(hint, &agenda[turn]) {
         None => None,
         Some(place) => Some(place),
     }

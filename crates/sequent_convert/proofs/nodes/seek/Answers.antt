@@ -4,7 +4,7 @@ use Rattle.name_order.specs.TurnView.{the_turn}
 use Rattle.sequent_convert.specs.NodeView.{the_node}
 use Rattle.sequent_convert.specs.Working.{IsOn}
 use Rattle.sequent_convert.proofs.NodeLaws.{node-get, none-step, none-all}
-use Rattle.sequent_convert.proofs.branch.seek.Goals as goal
+use Rattle.sequent_convert.proofs.nodes.seek.Goals as goal
 
 pub returns-then-works_on : goal.returns-then-works_on
 returns-then-works_on c = (the_node c.index-nodes-i.result, node-get c.args.nodes.now c.loop-i.i c.index-nodes-i.result c.loop-i-test.true c.index-nodes-i.is, c.works_on.ensures.0 c.if-works_on.true)

@@ -3,7 +3,7 @@ use Rattle.calculus.specs.Branches.{Item}
 use Rattle.name_order.specs.TurnView.{the_turn}
 use Rattle.sequent_convert.specs.NodeView.{the_node}
 use Rattle.sequent_convert.specs.Working.{IsOn}
-use Rattle.sequent_convert.proofs.branch.seek.Given as goal
+use Rattle.sequent_convert.proofs.nodes.seek.Given as goal
 
 abbrev pub invariant-loop-i : goal.invariant-loop-i
 invariant-loop-i l = (n : ℕ) (i : Item) → n < l.i → slice_get (map the_node l.nodes) n ≡ Some i → IsOn (the_turn l.turn) i → ⊥
