@@ -210,7 +210,7 @@ unfolding AllowEach
 each-all P s gs i l h = all-whole gs i (λ g. (σ : Solution) → Solves s σ → HomesAllow P s σ g) l h
 
 -- what meets the condition has homes that allow
-met-homes : (P : Problem) (s : Store) (y : System) (σ : Solution) → Solves s σ → MeetsDemand (AllAllowed P) y σ → (j : ℕ) (g : GammaCell) → slice_get y.gammas j ≡ Some g → HomesAllow P s σ g
+pub met-homes : (P : Problem) (s : Store) (y : System) (σ : Solution) → Solves s σ → MeetsDemand (AllAllowed P) y σ → (j : ℕ) (g : GammaCell) → slice_get y.gammas j ≡ Some g → HomesAllow P s σ g
 met-homes P s y σ t met j g at e p rs held cell =
     let (w, label, allowed) = met-gamma P y σ met j g at in
     subst (λ x. IsTrue (home_allows mark_eq P.setting.domains (label_of P p (values_by σ rs)) x)) (sym (label_at-by σ g.label w label)) (eigen-home P w s σ t e p rs cell (held-allowed P w s σ t e g.term held allowed))

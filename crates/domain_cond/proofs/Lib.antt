@@ -8,3 +8,4 @@ pub mod ConditionLaws
 pub mod StandingLaws
 pub mod RankingLaws
 pub mod OwnLaws
+pub mod HomeListLaws

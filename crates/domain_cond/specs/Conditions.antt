@@ -1,5 +1,6 @@
 -- Equations that homes force.
 use Rattle.std.specs.Prelude.{◌≡◌, ◌++◌, ℕ, List, Some, slice_get, IsTrue}
+use Rattle.std.specs.List.{AllByRecursion, list_all}
 use Rattle.calculus.specs.Equality.{mark_eq}
 use Rattle.calculus.specs.Labels.{home_allows}
 use Rattle.calculus.specs.Skolem.{label_of}
@@ -8,6 +9,7 @@ use Rattle.calculus.specs.Syntax.{Problem}
 use Rattle.calculus.specs.Systems.{Equation, AreEqual, AreEqualNow, IsOpenString, is_equation, is_label}
 use Rattle.search_theory.specs.Demanding.{IsHomeAt, equation}
 use Rattle.search_theory.specs.States.{label_by, values_by}
+use Rattle.term_store.specs.Homes.{BeginsLabel, Home, is_home}
 use Rattle.term_unify.specs.Flat.{HasNoString}
 
 -- an equation that does not hold yet, and that each solution solves by which M holds
@@ -33,3 +35,8 @@ pub record IsCompared (P : Problem) (s : Store) (ks label part : List ℕ) : Typ
   pub free : HasNoString s part
   pub forced : (p : ℕ) (rs : List ℕ) → IsHomeAt P s p rs ks → (σ : Solution) → Solves s σ → Allows P p rs label σ → AreEqual σ (equation ks part)
   pub allows : (p : ℕ) (rs : List ℕ) → IsHomeAt P s p rs ks → AreEqualNow s (equation ks part) → (σ : Solution) → Solves s σ → Allows P p rs label σ
+
+-- homes came to the list that are beginnings of labels by each solution of the store of which M holds
+pub record AddsHomes (M : Solution → Type 0) (old new : Store) (before after : List Home) : Type 0 where
+  pub labels : IsTrue (list_all (is_home old) before) → IsTrue (list_all (is_home new) after)
+  pub forced : (σ : Solution) → Solves new σ → M σ → AllByRecursion (BeginsLabel σ) before → AllByRecursion (BeginsLabel σ) after

@@ -6,6 +6,7 @@ ghost use Rattle.calculus.specs.declared.setting.Domains.TheVariants.{Cumulative
 ghost use Rattle.calculus.specs.Instances.{gamma_is_allowed};
 ghost use Rattle.calculus.specs.Skolem.{common_spares};
 
+use crate::homes::all_homes;
 use crate::unmet::unmet;
 use cop_base::NoMemory;
 use logic_rules::Problem;
@@ -49,13 +50,19 @@ impl Demand for CumulativeDemand<'_> {
         Ok(equation)
     }
 
-    // None is told: the condition is left to the equations.
     fn homes(
         &self,
         alloc: Global,
-        _store: &mut Store,
-        _system: &System,
+        store: &mut Store,
+        system: &System,
     ) -> Result<HomeList, NoMemory> {
-        Ok(HomeList::new(alloc))
+        let start = store.mark();
+        match all_homes(alloc, &self.problem, store, system) {
+            Ok(homes) => Ok(homes),
+            Err(NoMemory) => {
+                store.undo(start);
+                Err(NoMemory)
+            }
+        }
     }
 }

@@ -4,6 +4,7 @@
 mod constant;
 mod cumulative;
 mod home;
+mod homes;
 mod leaves;
 mod own;
 mod ranking;

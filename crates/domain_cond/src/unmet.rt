@@ -52,7 +52,7 @@ pub(crate) fn prefix_of(alloc: Global, label: &[Ref]) -> Result<Prefix, NoMemory
 }
 
 // The home of the eigenvariable. It may add marks; want of memory may leave some.
-fn eigen_home(
+pub(crate) fn eigen_home(
     alloc: Global,
     problem: &SizedProblem,
     store: &mut Store,
@@ -137,7 +137,7 @@ fn compare_home(
 }
 
 // Whether an eigenvariable stands at the end of bindings.
-fn is_eigen(store: &Store, end: Ref) -> bool
+pub(crate) fn is_eigen(store: &Store, end: Ref) -> bool
     requires { IsEnd store.now.store end.0 }
     ensures yes { result ≡ true → IsEigen store.now.store end.0 }
     ensures no { result ≡ false → (p : ℕ) (rs : List ℕ)

@@ -1,18 +1,20 @@
-use Rattle.std.proofs.Common.{IsTrue, refl, subst, sym}
-use Rattle.std.specs.List.{AllByRecursion, list_all}
-use Rattle.calculus.specs.Bindings.{nothing_more}
-use Rattle.calculus.proofs.BindingLaws.{KeepsMarks-same}
-use Rattle.term_store.specs.Homes.{BeginsLabel, is_home}
+use Rattle.std.proofs.Common.{◌∙◌}
+use Rattle.calculus.proofs.PatternLaws.{KeepsMarks-built}
+use Rattle.term_store.specs.StoreView.{the_mark}
+use Rattle.domain_cond.proofs.ConditionLaws.{added-undone, same-added}
 use Rattle.domain_cond.proofs.cumulative.CumulativeDemandDemand.homes.Goals as goal
 
-pub returns-clause-labels : goal.returns-clause-labels
-returns-clause-labels c = subst (λ hs. IsTrue (list_all (is_home c.args._store.now.store) hs)) (sym c.new.ensures) refl
+pub all_homes-requires-clause-cumulative : goal.all_homes-requires-clause-cumulative
+all_homes-requires-clause-cumulative c = c.args.self.now.cumulative
 
-pub returns-clause-forced : goal.returns-clause-forced
-returns-clause-forced c σ t m = subst (λ hs. AllByRecursion (BeginsLabel σ) hs) (sym c.new.ensures) tt
+pub undo-requires : goal.undo-requires
+undo-requires c = (added-undone c.args.store.now.store c.all_homes.new.store.store (the_mark c.mark-start.result) c.all_homes.ensures.adds c.mark-start.ensures.good c.mark-start.ensures.whole).0
 
-pub returns-clause-adds : goal.returns-clause-adds
-returns-clause-adds c = nothing_more
+pub returns-in-Err-clause-err : goal.returns-in-Err-clause-err
+returns-in-Err-clause-err c = c.undo.ensures.store ∙ (added-undone c.args.store.now.store c.all_homes.new.store.store (the_mark c.mark-start.result) c.all_homes.ensures.adds c.mark-start.ensures.good c.mark-start.ensures.whole).1
 
-pub returns-clause-marks : goal.returns-clause-marks
-returns-clause-marks c = KeepsMarks-same c.args._store.now.store
+pub returns-in-Err-clause-adds : goal.returns-in-Err-clause-adds
+returns-in-Err-clause-adds c = same-added c.args.store.now.store c.undo.new.self.store (c.undo.ensures.store ∙ (added-undone c.args.store.now.store c.all_homes.new.store.store (the_mark c.mark-start.result) c.all_homes.ensures.adds c.mark-start.ensures.good c.mark-start.ensures.whole).1)
+
+pub returns-in-Ok-clause-marks : goal.returns-in-Ok-clause-marks
+returns-in-Ok-clause-marks c = KeepsMarks-built c.args.store.now.store c.all_homes.new.store.store c.all_homes.ensures.adds
