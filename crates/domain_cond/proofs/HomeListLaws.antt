@@ -1,25 +1,29 @@
 -- Homes that come to a list, one by one.
-use Rattle.std.proofs.Common.{◌≡◌, ℕ, List, [], ◌∷◌, ◌++◌, true, false, IsTrue, refl, sym, ◌∙◌, ap, subst, Some, slice_get}
+use Rattle.std.proofs.Common.{◌≡◌, ℕ, List, [], ◌∷◌, ◌++◌, Bool, true, IsTrue, refl, sym, ◌∙◌, length, subst, Some, slice_get, arith}
 use Rattle.std.specs.List.{AllByRecursion, list_all}
-use Rattle.std.proofs.lemmas.Bool.{false≢true, and_from, and_parts}
-use Rattle.calculus.specs.declared.setting.Domains.TheVariants.{Cumulative}
-use Rattle.calculus.specs.Bindings.{AddsBuilt, IsEnd, nothing_more}
+use Rattle.std.proofs.lemmas.Bool.{and_from, and_parts}
+use Rattle.std.proofs.lemmas.List.{take_all}
+use Rattle.calculus.specs.declared.setting.Domains.{Domains}
+use Rattle.calculus.specs.declared.setting.Domains.TheVariants.{Constant, Cumulative, Varying}
+use Rattle.calculus.specs.Bindings.{AddsBuilt, IsEnd}
 use Rattle.calculus.specs.Equality.{mark_eq}
-use Rattle.calculus.specs.Labels.{home_allows}
+use Rattle.calculus.specs.Ground.{GroundMark}
+use Rattle.calculus.specs.Labels.{home_allows, is_prefix}
 use Rattle.calculus.specs.Skolem.{label_of}
-use Rattle.calculus.specs.Stores.{GammaCell, Solution, Solves, Store, eigen_cell}
+use Rattle.calculus.specs.Stores.{GammaCell, Solution, Store, eigen_cell}
 use Rattle.calculus.specs.Syntax.{Problem}
 use Rattle.calculus.specs.Systems.{AllAllowed, MeetsDemand, System, is_gamma_cell, is_label, is_system}
-use Rattle.calculus.proofs.PatternLaws.{AddsBuilt-both, Grows-built, grown-cell, grown-gamma_cell}
+use Rattle.calculus.proofs.EqualityLaws.{list_eq-tells, mark_eq-tells}
+use Rattle.calculus.proofs.PatternLaws.{Grows-built, grown-cell, grown-gamma_cell}
 use Rattle.search_theory.specs.States.{label_by, values_by}
 use Rattle.search_theory.proofs.BuildingLaws.{adds-back}
-use Rattle.search_theory.proofs.DemandLaws.{HomesAllow}
+use Rattle.search_theory.proofs.DemandLaws.{HomesAllow, prefix-taken}
 use Rattle.search_theory.proofs.SolvingLaws.{label-there}
 use Rattle.term_store.specs.Homes.{BeginsLabel, Home, is_home}
 use Rattle.domain_cond.specs.Conditions.{AddsHomes, HomeAllows}
 use Rattle.domain_cond.specs.Leaves.{AreLeaves}
 use Rattle.domain_cond.specs.Ways.{IsFoundHome}
-use Rattle.domain_cond.proofs.ConditionLaws.{gamma-at, gamma-parts, label-more, met-homes}
+use Rattle.domain_cond.proofs.ConditionLaws.{gamma-at, label-more, met-homes}
 
 -- ---- lists
 
@@ -40,13 +44,24 @@ begins-after σ (x ∷ hs) h a k = (a.0, begins-after σ hs h a.1 k)
 
 -- ---- one eigenvariable
 
-pub home-added : (P : Problem) (old new : Store) (e p : ℕ) (rs label ks : List ℕ) (before after : List Home) → P.setting.domains ≡ Cumulative → slice_get old.cells e ≡ Some (eigen_cell p rs) → IsTrue (is_label old label) → AddsBuilt old new → IsFoundHome P old new p rs ks → after ≡ before ++ record { home = ks; label = label; is_whole = false } ∷ [] → AddsHomes (HomeAllows P old e label) old new before after
-home-added P old new e p rs label ks before after d at h adds found is = subst (AddsHomes (HomeAllows P old e label) old new before) (sym is) (record {
-  labels = λ a. homes-after old new before (record { home = ks; label = label; is_whole = false }) adds a (and_from (is_label new ks) (is_label new label) found.sorted (label-more old new label adds h));
+begins : (d : Domains) (v w : List GroundMark) → ¬ (d ≡ Constant) → IsTrue (home_allows mark_eq d v w) → IsTrue (is_prefix mark_eq v w)
+begins Constant v w n h = absurd (n refl)
+begins Cumulative v w n h = h
+begins Varying v w n h =
+    let itself = subst (λ x. IsTrue (is_prefix mark_eq x v)) (take_all (length v) v (omega arith)) (prefix-taken (length v) v) in
+    subst (λ x. IsTrue (is_prefix mark_eq v x)) ((list_eq-tells mark_eq mark_eq-tells v w).0 h) itself
+
+is_all : (d : Domains) (v w : List GroundMark) → d ≡ Varying → IsTrue (home_allows mark_eq d v w) → v ≡ w
+is_all d v w e h = (list_eq-tells mark_eq mark_eq-tells v w).0 (subst (λ x. IsTrue (home_allows mark_eq x v w)) e h)
+
+pub home-added : (P : Problem) (old new : Store) (e p : ℕ) (rs label ks : List ℕ) (whole : Bool) (before after : List Home) → ¬ (P.setting.domains ≡ Constant) → (whole ≡ true → P.setting.domains ≡ Varying) → slice_get old.cells e ≡ Some (eigen_cell p rs) → IsTrue (is_label old label) → AddsBuilt old new → IsFoundHome P old new p rs ks → after ≡ before ++ record { home = ks; label = label; is_whole = whole } ∷ [] → AddsHomes (HomeAllows P old e label) old new before after
+home-added P old new e p rs label ks whole before after n varying at h adds found is = subst (AddsHomes (HomeAllows P old e label) old new before) (sym is) (record {
+  labels = λ a. homes-after old new before (record { home = ks; label = label; is_whole = whole }) adds a (and_from (is_label new ks) (is_label new label) found.sorted (label-more old new label adds h));
   forced = λ σ t m a.
       let l = label_of P p (values_by σ rs) in
       let w = label_by σ label in
-      begins-after σ before (record { home = ks; label = label; is_whole = false }) a (l, w, found.home σ t, label-there new σ t label (label-more old new label adds h), subst (λ x. IsTrue (home_allows mark_eq x l w)) d (m p rs at), λ f. absurd (false≢true f));
+      let allows = m p rs at in
+      begins-after σ before (record { home = ks; label = label; is_whole = whole }) a (l, w, found.home σ t, label-there new σ t label (label-more old new label adds h), begins P.setting.domains l w n allows, (λ x. is_all P.setting.domains l w (varying x) allows));
 })
 
 pub none-added : (M : Solution → Type 0) (s : Store) (homes : List Home) → AddsHomes M s s homes homes

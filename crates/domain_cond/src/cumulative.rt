@@ -6,7 +6,7 @@ ghost use Rattle.calculus.specs.declared.setting.Domains.TheVariants.{Cumulative
 ghost use Rattle.calculus.specs.Instances.{gamma_is_allowed};
 ghost use Rattle.calculus.specs.Skolem.{common_spares};
 
-use crate::homes::all_homes;
+use crate::homes::forced_homes;
 use crate::unmet::unmet;
 use cop_base::NoMemory;
 use logic_rules::Problem;
@@ -56,13 +56,7 @@ impl Demand for CumulativeDemand<'_> {
         store: &mut Store,
         system: &System,
     ) -> Result<HomeList, NoMemory> {
-        let start = store.mark();
-        match all_homes(alloc, &self.problem, store, system) {
-            Ok(homes) => Ok(homes),
-            Err(NoMemory) => {
-                store.undo(start);
-                Err(NoMemory)
-            }
-        }
+        let homes = forced_homes(alloc, &self.problem, store, system)?;
+        Ok(homes)
     }
 }

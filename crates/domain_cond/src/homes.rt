@@ -1,8 +1,8 @@
 //! The homes of the eigenvariables that stand in gamma terms.
 
-ghost use Rattle.std.specs.Prelude.{◌≡◌, IfOk, IsTrue, List, OnOk, map};
+ghost use Rattle.std.specs.Prelude.{◌≡◌, IfOk, IsTrue, List, OnErr, OnOk, map, true};
 ghost use Rattle.std.specs.List.{AllByRecursion, list_all};
-ghost use Rattle.calculus.specs.declared.setting.Domains.TheVariants.{Cumulative};
+ghost use Rattle.calculus.specs.declared.setting.Domains.TheVariants.{Constant, Varying};
 ghost use Rattle.calculus.specs.Bindings.{AddsBuilt, IsEnd};
 ghost use Rattle.calculus.specs.Stores.{Solution, Solves};
 ghost use Rattle.calculus.specs.Systems.{AllAllowed, MeetsDemand, is_gamma_cell, is_label};
@@ -18,9 +18,21 @@ ghost use Rattle.domain_cond.specs.Conditions.{AddsHomes, HomeAllows, IsEigen};
 use crate::leaves::leaves;
 use crate::unmet::{eigen_home, gamma_at, is_eigen, leaf_at, prefix_of};
 use cop_base::NoMemory;
+use logic_rules::Domains;
 use std::alloc::Global;
 use tableau_core::SizedProblem;
 use term_store::{GammaUse, Home, HomeList, Ref, Store, System};
+
+// Whether a name may stand at its home alone.
+fn are_whole(problem: &SizedProblem) -> bool
+    ensures { result ≡ true → problem.now.setting.domains ≡ Varying }
+{
+    match problem.setting().domains() {
+        Domains::Varying => true,
+        Domains::Constant => false,
+        Domains::Cumulative => false,
+    }
+}
 
 // Adds the home of the eigenvariable, which is a beginning of the label.
 fn add_home(
@@ -33,7 +45,7 @@ fn add_home(
 ) -> Result<(), NoMemory>
     requires eigen { IsEigen store.old.store eigen.0 }
     requires label { IsTrue (is_label store.old.store (map the_place label.now)) }
-    requires cumulative { problem.now.setting.domains ≡ Cumulative }
+    requires not_constant { ¬ (problem.now.setting.domains ≡ Constant) }
     ensures added { OnOk result (AddsHomes
         (HomeAllows problem.now store.old.store eigen.0 (map the_place label.now))
         store.old.store store.new.store homes.old homes.new) }
@@ -46,7 +58,7 @@ fn add_home(
     homes.push(Home {
         home: left,
         label: right,
-        is_whole: false,
+        is_whole: are_whole(problem),
     })?;
     Ok(())
 }
@@ -62,7 +74,7 @@ fn add_leaf(
 ) -> Result<(), NoMemory>
     requires end { IsEnd store.old.store leaf.0 }
     requires label { IsTrue (is_label store.old.store (map the_place label.now)) }
-    requires cumulative { problem.now.setting.domains ≡ Cumulative }
+    requires not_constant { ¬ (problem.now.setting.domains ≡ Constant) }
     ensures added { OnOk result (AddsHomes
         (HomeAllows problem.now store.old.store leaf.0 (map the_place label.now))
         store.old.store store.new.store homes.old homes.new) }
@@ -85,7 +97,7 @@ fn add_term(
     homes: &mut HomeList,
 ) -> Result<(), NoMemory>
     requires gamma { IsTrue (is_gamma_cell store.old.store (the_gamma gamma.now)) }
-    requires cumulative { problem.now.setting.domains ≡ Cumulative }
+    requires not_constant { ¬ (problem.now.setting.domains ≡ Constant) }
     ensures added { OnOk result (AddsHomes
         (λ σ. HomesAllow problem.now store.old.store σ (the_gamma gamma.now))
         store.old.store store.new.store homes.old homes.new) }
@@ -101,16 +113,15 @@ fn add_term(
     Ok(())
 }
 
-/// The homes of the eigenvariables in all gamma terms, with the labels of these. It may add marks;
-/// want of memory may leave some.
-pub(crate) fn all_homes(
+// As `forced_homes`, but for want of memory marks may be left.
+fn all_homes(
     alloc: Global,
     problem: &SizedProblem,
     store: &mut Store,
     system: &System,
 ) -> Result<HomeList, NoMemory>
     requires fits { IsTrue (is_system store.old.store (the_system system.now)) }
-    requires cumulative { problem.now.setting.domains ≡ Cumulative }
+    requires not_constant { ¬ (problem.now.setting.domains ≡ Constant) }
     ensures labels { IfOk result (λ hs. IsTrue (list_all (is_home store.new.store) hs)) }
     ensures forced { IfOk result (λ hs. (σ : Solution) → Solves store.new.store σ
         → MeetsDemand (AllAllowed problem.now) (the_system system.now) σ
@@ -125,4 +136,32 @@ pub(crate) fn all_homes(
         add_term(alloc, problem, store, gamma, &mut homes)?;
     }
     Ok(homes)
+}
+
+/// The homes of the eigenvariables in all gamma terms, with the labels of these. It may add marks;
+/// want of memory leaves the store as it was.
+pub(crate) fn forced_homes(
+    alloc: Global,
+    problem: &SizedProblem,
+    store: &mut Store,
+    system: &System,
+) -> Result<HomeList, NoMemory>
+    requires fits { IsTrue (is_system store.old.store (the_system system.now)) }
+    requires not_constant { ¬ (problem.now.setting.domains ≡ Constant) }
+    ensures labels { IfOk result (λ hs. IsTrue (list_all (is_home store.new.store) hs)) }
+    ensures forced { IfOk result (λ hs. (σ : Solution) → Solves store.new.store σ
+        → MeetsDemand (AllAllowed problem.now) (the_system system.now) σ
+        → AllByRecursion (BeginsLabel σ) hs) }
+    ensures adds { AddsBuilt store.old.store store.new.store }
+    ensures err { OnErr result (store.new.store ≡ store.old.store) }
+    ensures room { KeepsRoom store.old store.new }
+{
+    let start = store.mark();
+    match all_homes(alloc, problem, store, system) {
+        Ok(homes) => Ok(homes),
+        Err(NoMemory) => {
+            store.undo(start);
+            Err(NoMemory)
+        }
+    }
 }

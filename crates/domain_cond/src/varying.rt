@@ -11,6 +11,7 @@ ghost use Rattle.calculus.specs.Systems.{OwnSparesMeet, is_system};
 ghost use Rattle.term_store.specs.Room.{KeepsRoom};
 ghost use Rattle.term_store.specs.SystemView.{the_equation, the_system};
 
+use crate::homes::forced_homes;
 use crate::own::unmet_by_spares;
 use crate::unmet::unmet;
 use cop_base::NoMemory;
@@ -85,13 +86,13 @@ impl Demand for VaryingDemand<'_> {
         Ok(equation)
     }
 
-    // None is told: the condition is left to the equations.
     fn homes(
         &self,
         alloc: Global,
-        _store: &mut Store,
-        _system: &System,
+        store: &mut Store,
+        system: &System,
     ) -> Result<HomeList, NoMemory> {
-        Ok(HomeList::new(alloc))
+        let homes = forced_homes(alloc, &self.problem, store, system)?;
+        Ok(homes)
     }
 }

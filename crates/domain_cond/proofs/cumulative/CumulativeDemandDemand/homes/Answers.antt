@@ -1,20 +1,12 @@
-use Rattle.std.proofs.Common.{◌∙◌}
+use Rattle.std.proofs.Common.{◌∙◌, sym}
 use Rattle.calculus.proofs.PatternLaws.{KeepsMarks-built}
-use Rattle.term_store.specs.StoreView.{the_mark}
-use Rattle.domain_cond.proofs.ConditionLaws.{added-undone, same-added}
 use Rattle.domain_cond.proofs.cumulative.CumulativeDemandDemand.homes.Goals as goal
 
-pub all_homes-requires-clause-cumulative : goal.all_homes-requires-clause-cumulative
-all_homes-requires-clause-cumulative c = c.args.self.now.cumulative
+pub forced_homes-requires-clause-not_constant : goal.forced_homes-requires-clause-not_constant
+forced_homes-requires-clause-not_constant c = λ e. (let z = sym c.args.self.now.cumulative ∙ e in cc z)
 
-pub undo-requires : goal.undo-requires
-undo-requires c = (added-undone c.args.store.now.store c.all_homes.new.store.store (the_mark c.mark-start.result) c.all_homes.ensures.adds c.mark-start.ensures.good c.mark-start.ensures.whole).0
+pub returns-clause-marks : goal.returns-clause-marks
+returns-clause-marks c = KeepsMarks-built c.args.store.now.store c.forced_homes.new.store.store c.forced_homes.ensures.adds
 
-pub returns-in-Err-clause-err : goal.returns-in-Err-clause-err
-returns-in-Err-clause-err c = c.undo.ensures.store ∙ (added-undone c.args.store.now.store c.all_homes.new.store.store (the_mark c.mark-start.result) c.all_homes.ensures.adds c.mark-start.ensures.good c.mark-start.ensures.whole).1
-
-pub returns-in-Err-clause-adds : goal.returns-in-Err-clause-adds
-returns-in-Err-clause-adds c = same-added c.args.store.now.store c.undo.new.self.store (c.undo.ensures.store ∙ (added-undone c.args.store.now.store c.all_homes.new.store.store (the_mark c.mark-start.result) c.all_homes.ensures.adds c.mark-start.ensures.good c.mark-start.ensures.whole).1)
-
-pub returns-in-Ok-clause-marks : goal.returns-in-Ok-clause-marks
-returns-in-Ok-clause-marks c = KeepsMarks-built c.args.store.now.store c.all_homes.new.store.store c.all_homes.ensures.adds
+pub returns-in_err-homes-clause-marks : goal.returns-in_err-homes-clause-marks
+returns-in_err-homes-clause-marks c = KeepsMarks-built c.args.store.now.store c.forced_homes.new.store.store c.forced_homes.ensures.adds

@@ -1,18 +1,12 @@
-use Rattle.std.proofs.Common.{IsTrue, refl, subst, sym}
-use Rattle.std.specs.List.{AllByRecursion, list_all}
-use Rattle.calculus.specs.Bindings.{nothing_more}
-use Rattle.calculus.proofs.BindingLaws.{KeepsMarks-same}
-use Rattle.term_store.specs.Homes.{BeginsLabel, is_home}
+use Rattle.std.proofs.Common.{◌∙◌, sym}
+use Rattle.calculus.proofs.PatternLaws.{KeepsMarks-built}
 use Rattle.domain_cond.proofs.varying.VaryingDemandDemand.homes.Goals as goal
 
-pub returns-clause-labels : goal.returns-clause-labels
-returns-clause-labels c = subst (λ hs. IsTrue (list_all (is_home c.args._store.now.store) hs)) (sym c.new.ensures) refl
-
-pub returns-clause-forced : goal.returns-clause-forced
-returns-clause-forced c σ t m = subst (λ hs. AllByRecursion (BeginsLabel σ) hs) (sym c.new.ensures) tt
-
-pub returns-clause-adds : goal.returns-clause-adds
-returns-clause-adds c = nothing_more
+pub forced_homes-requires-clause-not_constant : goal.forced_homes-requires-clause-not_constant
+forced_homes-requires-clause-not_constant c = λ e. (let z = sym c.args.self.now.varying ∙ e in cc z)
 
 pub returns-clause-marks : goal.returns-clause-marks
-returns-clause-marks c = KeepsMarks-same c.args._store.now.store
+returns-clause-marks c = KeepsMarks-built c.args.store.now.store c.forced_homes.new.store.store c.forced_homes.ensures.adds
+
+pub returns-in_err-homes-clause-marks : goal.returns-in_err-homes-clause-marks
+returns-in_err-homes-clause-marks c = KeepsMarks-built c.args.store.now.store c.forced_homes.new.store.store c.forced_homes.ensures.adds
