@@ -1,5 +1,5 @@
 -- The tree of beginnings grows step by step, label by label and equation by equation.
-use Rattle.std.proofs.Common.{◌≡◌, ◌⊎◌, ℕ, zero, suc, ◌+◌, ◌<◌, ◌≤◌, List, [], ◌∷◌, ◌++◌, length, map, take, Bool, true, false, ◌==◌, eqb-true, eq-eqb, if◌then◌else◌, IsTrue, refl, sym, ◌∙◌, ap, subst, Option, None, Some, slice_get, inl, inr, arith, append_assoc, append-nil, length-append, nat_le, leb-true}
+use Rattle.std.proofs.Common.{◌≡◌, ◌⊎◌, ℕ, zero, suc, ◌+◌, ◌<◌, ◌≤◌, List, [], ◌∷◌, ◌++◌, length, map, take, Bool, true, false, ◌==◌, eqb-true, eq-eqb, if◌then◌else◌, IsTrue, refl, sym, ◌∙◌, ap, ap₂, subst, Option, None, Some, slice_get, inl, inr, arith, append_assoc, append-nil, length-append, nat_le, leb-true}
 use Rattle.std.specs.List.{AllByRecursion, flat_map}
 use Rattle.std.proofs.lemmas.Bool.{and_parts, false≢true}
 use Rattle.calculus.specs.declared.setting.Logic.{Logic}
@@ -7,18 +7,22 @@ use Rattle.calculus.specs.declared.setting.Logic.TheVariants.{Classical, Intuiti
 use Rattle.calculus.specs.declared.sort.Sort.{Sort}
 use Rattle.calculus.specs.declared.sort.Sort.TheVariants.{TermSort, MarkSort, StringSort}
 use Rattle.calculus.specs.Bindings.{EndsIn, IsEnd}
+use Rattle.calculus.specs.Patterns.{Grows}
 use Rattle.calculus.specs.Ground.{GroundMark}
-use Rattle.calculus.specs.Labels.{is_step_length}
+use Rattle.calculus.specs.Equality.{mark_eq}
+use Rattle.calculus.specs.Labels.{is_prefix, is_step_length}
 use Rattle.calculus.specs.Stores.{Cell, variable, fun_cell, eigen_cell, new_cell, string_cell, Store, is_bound, has_sort_at, has_sort, names_below, EndsAt, CellValue, a_term, a_mark, a_string, Solution, Solves, label_at, GammaCell}
 use Rattle.calculus.specs.Systems.{Equation, Pair, System, AreEqual, IsOpenString, IsStep, NamesItsStrings, OccursInSystem, cells_of_atom, is_equation, is_label, is_system}
 use Rattle.calculus.specs.Templates.{as_label}
 use Rattle.calculus.proofs.BindingLaws.{has_sort-from}
+use Rattle.calculus.proofs.EqualityLaws.{mark_eq-tells}
 use Rattle.calculus.proofs.PlaceLists.{all-at}
 use Rattle.search_theory.specs.States.{label_by}
 use Rattle.search_theory.proofs.AtomLaws.{label-append, label_at-by}
 use Rattle.search_theory.proofs.BuildingLaws.{solved-sorted}
 use Rattle.search_theory.proofs.GivingLaws.{ends-same}
 use Rattle.search_theory.proofs.SolvingLaws.{label-below, system-parts}
+use Rattle.term_store.specs.Homes.{BeginsLabel, Home, is_home}
 use Rattle.term_store.specs.Shown.{head_of}
 use Rattle.term_store.specs.declared.cell.Head.{Head}
 use Rattle.term_store.specs.declared.cell.Ref.{Ref}
@@ -303,13 +307,62 @@ asked-equation s l strings e old mid new u v before after h k same = record {
 pub asked-none : (s : Store) (l : Logic) (strings : List ℕ) (Q : Solution → Type 0) (nodes : List Node) (ps : List (ℕ × ℕ)) → IsTree (length s.cells) nodes → IsAsked s l strings Q nodes nodes ps ps
 asked-none s l strings Q nodes ps tree = record { tree = tree; extends = ([], sym (append-nil nodes)); values = λ σ h k v. v; pairs = λ σ value t x q b. b }
 
-pub asked-next : (s : Store) (l : Logic) (strings : List ℕ) (es : List Equation) (i : ℕ) (e : Equation) (old mid new : List Node) (a b c : List (ℕ × ℕ)) → slice_get es i ≡ Some e → IsAsked s l strings (λ σ. AllByRecursion (AreEqual σ) es) old mid a b → IsAsked s l strings (λ σ. AreEqual σ e) mid new b c → IsAsked s l strings (λ σ. AllByRecursion (AreEqual σ) es) old new a c
-asked-next s l strings es i e old mid new a b c at h k = record {
+-- the same, of one more item of a list
+pub asked-one_more : {A : Type 0} (s : Store) (l : Logic) (strings : List ℕ) (Q : Solution → A → Type 0) (xs : List A) (i : ℕ) (x : A) (old mid new : List Node) (a b c : List (ℕ × ℕ)) → slice_get xs i ≡ Some x → IsAsked s l strings (λ σ. AllByRecursion (Q σ) xs) old mid a b → IsAsked s l strings (λ σ. Q σ x) mid new b c → IsAsked s l strings (λ σ. AllByRecursion (Q σ) xs) old new a c
+asked-one_more s l strings Q xs i x old mid new a b c at h k = record {
   tree = k.tree;
   extends = extends-both old mid new h.extends k.extends;
-  values = λ σ t steps x. k.values σ t steps (h.values σ t steps x);
-  pairs = λ σ value t x q y. k.pairs σ value t x (all-there (AreEqual σ) es i e q at) (h.pairs σ value t (values-before σ value mid new k.extends x) q y);
+  values = λ σ t steps y. k.values σ t steps (h.values σ t steps y);
+  pairs = λ σ value t y q z. k.pairs σ value t y (all-there (Q σ) xs i x q at) (h.pairs σ value t (values-before σ value mid new k.extends y) q z);
 }
+
+pub asked-next : (s : Store) (l : Logic) (strings : List ℕ) (es : List Equation) (i : ℕ) (e : Equation) (old mid new : List Node) (a b c : List (ℕ × ℕ)) → slice_get es i ≡ Some e → IsAsked s l strings (λ σ. AllByRecursion (AreEqual σ) es) old mid a b → IsAsked s l strings (λ σ. AreEqual σ e) mid new b c → IsAsked s l strings (λ σ. AllByRecursion (AreEqual σ) es) old new a c
+asked-next s l strings es i e old mid new a b c at h k = asked-one_more s l strings (λ σ. AreEqual σ) es i e old mid new a b c at h k
+
+-- ---- homes
+
+pub home-places : (s : Store) (h : Home) → IsTrue (is_home s h) → IsTrue (names_below (length s.cells) h.home) × IsTrue (names_below (length s.cells) h.label)
+home-places s h k = let p = and_parts (is_label s h.home) (is_label s h.label) k in (label-below s h.home p.0, label-below s h.label p.1)
+
+prefix-begins : (u v : List GroundMark) → IsTrue (is_prefix mark_eq u v) → Begins u v
+prefix-begins [] v k = (v, refl)
+prefix-begins (m ∷ u) [] k = absurd (false≢true k)
+prefix-begins (m ∷ u) (n ∷ v) k =
+    let p = and_parts (mark_eq m n) (is_prefix mark_eq u v) k in
+    let (s, e) = prefix-begins u v p.1 in
+    (s, ap₂ (λ x xs. x ∷ xs) (sym ((mark_eq-tells m n).0 p.0)) e)
+
+pair-more : (value : ℕ → List GroundMark) (ps : List (ℕ × ℕ)) (u v : ℕ) → AllBegin value ps → Begins (value u) (value v) → AllBegin value (ps ++ (u, v) ∷ [])
+pair-more value ps u v h b i p at = by (last-item ps (u, v) p i at)
+  where
+    by : (slice_get ps i ≡ Some p) ⊎ ((i ≡ length ps) × ((u, v) ≡ p)) → Begins (value p.0) (value p.1)
+    by (inl q) = h i p q
+    by (inr q) = subst (λ (x : ℕ × ℕ). Begins (value x.0) (value x.1)) q.1 b
+
+pub asked-home : (s : Store) (l : Logic) (strings : List ℕ) (x : Home) (old mid new : List Node) (u v : ℕ) (before after : List (ℕ × ℕ)) → IsReached s l strings old mid x.home u → IsReached s l strings mid new x.label v → after ≡ before ++ (u, v) ∷ [] → IsAsked s l strings (λ σ. BeginsLabel σ x) old new before after
+asked-home s l strings x old mid new u v before after h k same = record {
+  tree = k.tree;
+  extends = extends-both old mid new h.extends k.extends;
+  values = λ σ t steps y. k.values σ t steps (h.values σ t steps y);
+  pairs = λ σ value t y q b. (
+      let (w, z, left, right, begins, whole) = q in
+      let first : value u ≡ w = h.is σ value t (values-before σ value mid new k.extends y) ∙ label_at-by σ x.home w left in
+      let second : value v ≡ z = k.is σ value t y ∙ label_at-by σ x.label z right in
+      subst (AllBegin value) (sym same) (pair-more value before u v b (subst (λ (m : List GroundMark). Begins m (value v)) (sym first) (subst (Begins w) (sym second) (prefix-begins w z begins))))
+      );
+}
+
+pub grows-length : (s t : Store) → Grows s t → length s.cells ≤ length t.cells
+grows-length s t (m, e, f) = let l = ap length e in let n = length-append s.cells m in omega (arith, l, n)
+
+-- a tree fits a store with more cells
+pub tree-larger : (m n : ℕ) (nodes : List Node) → IsTree m nodes → m ≤ n → IsTree n nodes
+tree-larger m n nodes h l = record { some = h.some; parents = h.parents; fits = λ u x at r e. let k = h.fits u x at r e in omega (arith, k, l) }
+
+-- strings of any length are steps of S4
+pub any-steps : (l : Logic) (strings : List ℕ) (σ : Solution) → AreSteps l strings σ → AreSteps S4 strings σ
+any-steps l [] σ h = tt
+any-steps l (r ∷ strings) σ h = ((h.0.0, h.0.1, refl), any-steps l strings σ h.1)
 
 pub equation-named : (s : Store) (y : System) (k : ℕ) (e : Equation) → NamesItsStrings s y → slice_get y.equations k ≡ Some e → IsNamedEquation s y.strings e
 equation-named s y k e names at = ((λ i r there. item r (item-left r e.left e.right (i, there))), (λ i r there. item r (item-right r e.left e.right (i, there))))

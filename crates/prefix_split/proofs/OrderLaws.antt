@@ -1,5 +1,5 @@
 -- Lists that begin others, and what follows from what is known of them.
-use Rattle.std.proofs.Common.{◌≡◌, ◌⊎◌, ℕ, zero, suc, ◌+◌, ◌<◌, ◌≤◌, List, [], ◌∷◌, ◌++◌, length, Bool, true, false, not, ◌==◌, refl, sym, ◌∙◌, ap, subst, Option, None, Some, slice_get, inl, inr, arith, eq-eqb, append_assoc, append-nil, length-append}
+use Rattle.std.proofs.Common.{◌≡◌, ◌⊎◌, ℕ, zero, suc, ◌+◌, ◌<◌, ◌≤◌, List, [], ◌∷◌, ◌++◌, length, Bool, true, false, not, ◌==◌, refl, sym, ◌∙◌, ap, subst, Option, None, Some, slice_get, inl, inr, arith, nat_le, leb-true, leb-false, eq-eqb, append_assoc, append-nil, length-append}
 use Rattle.std.proofs.lemmas.Bool.{false≢true}
 use Rattle.calculus.specs.Bindings.{EndsIn}
 use Rattle.calculus.specs.Ground.{GroundMark, g_new_mark}
@@ -12,10 +12,11 @@ use Rattle.term_store.specs.declared.cell.Ref.{Ref}
 use Rattle.prefix_split.specs.declared.node.Node.{Node}
 use Rattle.prefix_split.specs.declared.node.Step.{Step}
 use Rattle.prefix_split.specs.declared.node.Step.TheVariants.{Root, Mark, Short, Long}
+use Rattle.prefix_split.specs.declared.order.LabelOrder.{LabelOrder}
 use Rattle.prefix_split.specs.declared.order.Relation.{Relation}
 use Rattle.prefix_split.specs.declared.order.Relation.TheVariants.{Unknown, Weak, Strict}
 use Rattle.prefix_split.specs.declared.order.Row.{Row}
-use Rattle.prefix_split.specs.Beginnings.{AreValues, Begins, HasExtent, IsMarkNode, IsOtherMark, IsRelated, IsShortBehind, IsShorter, NodesFit, RowHolds, RowsHold, are_other_names, is_known, is_short, is_strict, item_of, joined, step_marks}
+use Rattle.prefix_split.specs.Beginnings.{AreValues, Begins, HasExtent, IsMarkNode, IsOtherMark, IsRelated, IsShortBehind, IsShorter, NodesFit, Refutes, RowHolds, RowsHold, are_other_names, is_known, is_short, is_strict, item_of, joined, step_marks}
 
 -- ---- lists
 
@@ -154,6 +155,17 @@ short-behind σ value nodes y n h e s =
 pub gap-above : (x y z w : List GroundMark) → IsShortBehind x y → IsShorter x z → Begins y w → Begins z w → Begins y z
 gap-above x y z w h k a b = let l = h.short in let m = k.1 in begins-shorter y z w a b (omega (arith, l, m))
 
+-- what begins the same as the node begins its parent, or has the node as a beginning
+pub gap-either : (x y z w : List GroundMark) → IsShortBehind x y → Begins y w → Begins z w → Begins z x ⊎ Begins y z
+gap-either x y z w h a b = by (nat_le (length z) (length x)) refl
+  where
+    by : (l : Bool) → nat_le (length z) (length x) ≡ l → Begins z x ⊎ Begins y z
+    by true e = inl (begins-shorter z x w b (begins-both x y w h.begins a) (leb-true (length z) (length x) e))
+    by false e =
+        let l = h.short in
+        let m = leb-false (length z) (length x) e in
+        inr (begins-shorter y z w a b (omega (arith, l, m)))
+
 -- what is shorter than the node begins its parent
 pub gap-below : (x y z : List GroundMark) → IsShortBehind x y → IsShorter z y → Begins z x
 gap-below x y z h k = let l = h.short in let m = k.1 in begins-shorter z x y k.0 h.begins (omega (arith, l, m))
@@ -221,3 +233,13 @@ mark-within size nodes y r h (n, at, is) = h y n at r (ap item_of is)
 
 pub marks-other : (s : Store) (σ : Solution) (value : ℕ → List GroundMark) (nodes : List Node) (y z : ℕ) (r : Ref) → Solves s σ → AreValues σ value nodes → IsMarkNode nodes y r → IsOtherMark s nodes z r → ¬ (value y ≡ value z)
 marks-other s σ value nodes y z r t v (a, a_at, a_is) (q, (b, b_at, b_is), apart) same = apart σ t (marks-same σ value nodes y z a b r q v a_at b_at a_is b_is same)
+
+-- ---- refutations
+
+-- of an order that is refuted nothing holds
+pub refutes-itself : (s : Store) (nodes : List Node) (order : LabelOrder) → Refutes s nodes order order
+refutes-itself s nodes order e σ value t v h = false≢true (sym h.possible ∙ e)
+
+-- an order that is not refuted refutes nothing
+pub refutes-none : (s : Store) (nodes : List Node) (before after : LabelOrder) → after.is_refuted ≡ false → Refutes s nodes before after
+refutes-none s nodes before after e f = absurd (false≢true (sym e ∙ f))

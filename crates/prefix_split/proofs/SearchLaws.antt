@@ -1,17 +1,20 @@
 -- The search through the lists of lengths: how it begins, goes on and ends.
-use Rattle.std.proofs.Common.{◌≡◌, ℕ, ◌+◌, ◌-◌, ◌≤◌, List, [], ◌∷◌, ◌++◌, length, Bool, IsTrue, refl, sym, ◌∙◌, ap, subst, arith, length-append}
+use Rattle.std.proofs.Common.{◌≡◌, ℕ, ◌+◌, ◌-◌, ◌≤◌, List, [], ◌∷◌, ◌++◌, length, Bool, true, IsTrue, refl, sym, ◌∙◌, ap, subst, arith, length-append}
 use Rattle.std.specs.List.{AllByRecursion}
 use Rattle.std.specs.Ordering.{ordering_reverse}
 use Rattle.std.specs.declared.cmp.Ordering.{Ordering}
 use Rattle.std.specs.declared.cmp.Ordering.TheVariants.{Less, Equal, Greater}
 use Rattle.calculus.specs.declared.setting.Logic.{Logic}
+use Rattle.calculus.specs.Bindings.{AddsBuilt}
 use Rattle.calculus.specs.Counting.{IsRising, MoreThan}
 use Rattle.calculus.specs.Instances.{GammaUse}
 use Rattle.calculus.specs.Space.{has_labels, lengths_cmp}
 use Rattle.calculus.specs.Stores.{Store, Solution, Solves}
-use Rattle.calculus.specs.Systems.{System, AreEarly, AreTried, HasBoundedSolution, HasSolution, OwnSparesSolve}
+use Rattle.calculus.specs.Systems.{System, AreEarly, AreEqual, AreTried, HasBoundedSolution, HasSolution, IsStep, MeetsDemand, OwnSparesSolve, is_system}
 use Rattle.calculus.proofs.OrderLaws.{lengths_cmp-IsAntisymmetric, lengths_cmp_total}
+use Rattle.search_theory.proofs.BuildingLaws.{adds-back, adds-forth}
 use Rattle.search_theory.proofs.LabelledEnd.{early-by_smaller}
+use Rattle.search_theory.proofs.SolvingLaws.{bounded-agree}
 use Rattle.term_store.specs.Asking.{Asks}
 use Rattle.prefix_split.specs.LengthLists.{least_of, AreWithin, IsFirst, IsLast, IsNext}
 use Rattle.prefix_split.specs.LengthSearch.{IsCounted, IsRangeOf, StandsAt}
@@ -111,3 +114,14 @@ found-moved b c l f g u y p q h =
 
 pub back-moved : (s t u : Store) → t ≡ s → ((σ : Solution) → Solves u σ → Solves t σ) → (σ : Solution) → Solves u σ → Solves s σ
 back-moved s t u e h σ k = subst (λ z. Solves z σ) e (h σ k)
+
+-- ---- refutations with marks added
+
+-- where no solution of the store with marks added solves the system, none of the store before does
+pub refuted-before : (l : Logic) (D : List GammaUse → Type 0) (old new : Store) (y : System) (r : Bool) → IsTrue (is_system old y) → AddsBuilt old new → (r ≡ true → (σ : Solution) → Solves new σ → AllByRecursion (IsStep l σ) y.strings → MeetsDemand D y σ → ¬ AllByRecursion (AreEqual σ) y.equations) → r ≡ true → ¬ HasBoundedSolution l D old y
+refuted-before l D old new y r h adds none e (ns, has) =
+    let σ = has.0 in
+    let b = has.1 in
+    let (τ, u, agree) = adds-forth old new adds σ b.solution.solves in
+    let k = (bounded-agree l D old y ns σ τ h agree (adds-back old new adds τ u) b).solution in
+    none e τ u k.steps k.demanded k.equal

@@ -139,6 +139,10 @@ Keeps nodes before after = (σ : Solution) (value : ℕ → List GroundMark) →
 abbrev pub KeepsIn : Store → List Node → LabelOrder → LabelOrder → Type 0
 KeepsIn s nodes before after = (σ : Solution) (value : ℕ → List GroundMark) → Solves s σ → AreValues σ value nodes → Holds value before → Holds value after
 
+-- the order after is refuted only where nothing that the one before knew holds of labels by solutions of the store
+abbrev pub Refutes : Store → List Node → LabelOrder → LabelOrder → Type 0
+Refutes s nodes before after = after.is_refuted ≡ true → (σ : Solution) (value : ℕ → List GroundMark) → Solves s σ → AreValues σ value nodes → ¬ Holds value before
+
 -- the first label of each pair begins the second one
 abbrev pub AllBegin : (ℕ → List GroundMark) → List (ℕ × ℕ) → Type 0
 AllBegin value ps = (i : ℕ) (p : ℕ × ℕ) → slice_get ps i ≡ Some p → Begins (value p.0) (value p.1)

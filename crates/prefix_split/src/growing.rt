@@ -1,7 +1,7 @@
 //! The tree of the beginnings of labels.
 
 ghost use Rattle.std.specs.Prelude.{◌≡◌, ◌++◌, ◌<◌, ℕ, List, IfOk, IfSome, IsTrue, length, map, true};
-ghost use Rattle.std.specs.List.{AllByRecursion};
+ghost use Rattle.std.specs.List.{AllByRecursion, list_all};
 ghost use Rattle.calculus.specs.Bindings.{IsEnd};
 ghost use Rattle.calculus.specs.declared.sort.Sort.TheVariants.{MarkSort};
 ghost use Rattle.calculus.specs.Ground.{GroundMark};
@@ -9,6 +9,9 @@ ghost use Rattle.calculus.specs.Stores.{Solution, Solves, has_sort_at, names_bel
 ghost use Rattle.calculus.specs.Systems.{AreEqual, IsOpenString, NamesItsStrings, is_equation};
 ghost use Rattle.calculus.specs.Systems.{is_system};
 ghost use Rattle.calculus.specs.Templates.{as_label};
+ghost use Rattle.calculus.specs.declared.setting.Logic.{Logic};
+ghost use Rattle.term_store.specs.HomeView.{the_home};
+ghost use Rattle.term_store.specs.Homes.{BeginsLabel, is_home};
 ghost use Rattle.term_store.specs.RefView.{the_place};
 ghost use Rattle.term_store.specs.SystemView.{the_equation, the_system};
 ghost use Rattle.prefix_split.specs.Beginnings.{AreValues, HasExtent, NodesFit, StepFits};
@@ -19,12 +22,12 @@ ghost use Rattle.prefix_split.specs.Growing.{is_mark_head, is_open_string_head};
 
 use crate::joining::are_same_steps;
 use crate::node::{Node, Step};
-use crate::places::{equation_at, reference_at};
+use crate::places::{equation_at, home_at, reference_at};
 use crate::rules::node_at;
 use calculus::setting::Logic;
 use calculus::sort::Sort;
 use cop_base::NoMemory;
-use term_store::{Equation, Head, Ref, Store, System};
+use term_store::{Equation, Head, Home, Ref, Store, System};
 use term_unify::Unifier;
 
 fn has_short_steps(logic: Logic) -> bool
@@ -103,7 +106,8 @@ fn is_short_string(store: &Store, logic: Logic, end: Ref) -> bool
 // The step by this item of a label.
 fn step_of(store: &Store, logic: Logic, system: &System, item: Ref) -> Step
     requires within { item.0 < length store.now.store.cells }
-    requires named { IsNamed store.now.store system.now.strings item.0 }
+    requires named { has_short_steps logic ≡ true
+        → IsNamed store.now.store system.now.strings item.0 }
     ensures marks { (σ : Solution) → Solves store.now.store σ
         → step_marks σ result ≡ as_label (σ item.0) }
     ensures extent { (σ : Solution) → Solves store.now.store σ
@@ -199,7 +203,8 @@ fn reach(
 ) -> Result<usize, NoMemory>
     requires tree { IsTree (length store.now.store.cells) nodes.old.items }
     requires below { IsTrue (names_below (length store.now.store.cells) (map the_place label.now)) }
-    requires named { AreNamed store.now.store system.now.strings (map the_place label.now) }
+    requires named { has_short_steps logic ≡ true
+        → AreNamed store.now.store system.now.strings (map the_place label.now) }
     ensures { IfOk result (λ u. IsReached store.now.store logic system.now.strings nodes.old.items
         nodes.new.items (map the_place label.now) u) }
 {
@@ -256,6 +261,50 @@ pub(crate) fn ask_equations(
     for i in 0..equations.len() {
         let e = equation_at(equations, i);
         ask_equation(unifier, store, logic, system, nodes, pairs, e)?;
+    }
+    Ok(())
+}
+
+// Adds both labels of a home, and that the home begins the other one. It may have strings that are
+// not the system's, so they may be of any length here.
+fn ask_home(
+    unifier: &mut Unifier,
+    store: &Store,
+    system: &System,
+    nodes: &mut Vec<Node>,
+    pairs: &mut Vec<(usize, usize)>,
+    home: &Home,
+) -> Result<(), NoMemory>
+    requires tree { IsTree (length store.now.store.cells) nodes.old.items }
+    requires fits { IsTrue (is_home store.now.store (the_home home.now)) }
+    ensures { IfOk result (λ _. IsAsked store.now.store Logic.S4 system.now.strings
+        (λ σ. BeginsLabel σ (the_home home.now)) nodes.old.items nodes.new.items
+        pairs.old.items pairs.new.items) }
+{
+    let left = reach(unifier, store, Logic::S4, system, nodes, home.home.items())?;
+    let right = reach(unifier, store, Logic::S4, system, nodes, home.label.items())?;
+    pairs.push((left, right))?;
+    Ok(())
+}
+
+// The same for all homes.
+pub(crate) fn ask_homes(
+    unifier: &mut Unifier,
+    store: &Store,
+    system: &System,
+    nodes: &mut Vec<Node>,
+    pairs: &mut Vec<(usize, usize)>,
+    homes: &[Home],
+) -> Result<(), NoMemory>
+    requires tree { IsTree (length store.now.store.cells) nodes.old.items }
+    requires fits { IsTrue (list_all (is_home store.now.store) (map the_home homes.now)) }
+    ensures { IfOk result (λ _. IsAsked store.now.store Logic.S4 system.now.strings
+        (λ σ. AllByRecursion (BeginsLabel σ) (map the_home homes.now))
+        nodes.old.items nodes.new.items pairs.old.items pairs.new.items) }
+{
+    for i in 0..homes.len() {
+        let home = home_at(homes, i);
+        ask_home(unifier, store, system, nodes, pairs, home)?;
     }
     Ok(())
 }

@@ -261,11 +261,11 @@ pub(crate) fn settle(
     ensures { KeepsIn store.now.store nodes.now order.old order.new }
 {
     let most = nodes.len().saturating_mul(nodes.len()).saturating_mul(2);
-    for i in 0..most {
+    for _ in 0..most {
         if order.is_refuted {
             return Ok(());
         }
-        let Some((u, v)) = order.fact(i) else {
+        let Some((u, v)) = order.next_fact() else {
             return Ok(());
         };
         draw(order, unifier, store, nodes, u, v)?;

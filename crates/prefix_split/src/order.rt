@@ -31,6 +31,8 @@ pub(crate) struct Row {
 pub(crate) struct LabelOrder {
     rows: Vec<Row>,
     waiting: Vec<(usize, usize)>,
+    // How many of them were drawn from.
+    drawn: usize,
     pub(crate) is_refuted: bool,
 }
 
@@ -125,6 +127,7 @@ impl LabelOrder {
         Ok(LabelOrder {
             rows,
             waiting: Vec::new(alloc),
+            drawn: 0,
             is_refuted: false,
         })
     }
@@ -230,12 +233,57 @@ impl LabelOrder {
         Ok(())
     }
 
-    // The nodes of the fact with this number, in the order of finding.
-    pub(crate) fn fact(&self, i: usize) -> Option<(usize, usize)> {
-        if i < self.waiting.len() {
-            return Some(self.waiting[i]);
+    // The nodes of the next fact, in the order of finding.
+    pub(crate) fn next_fact(&mut self) -> Option<(usize, usize)>
+        ensures { (value : ℕ → List GroundMark) → Holds value self.old → Holds value self.new }
+    {
+        if self.drawn < self.waiting.len() {
+            let fact = self.waiting[self.drawn];
+            self.drawn += 1;
+            return Some(fact);
         }
         None
+    }
+
+    // Adds what is known of the node in this row.
+    fn add_row(&mut self, known: &LabelOrder, u: usize) -> Result<(), NoMemory>
+        ensures { (value : ℕ → List GroundMark) → Holds value known.now → Holds value self.old
+            → Holds value self.new }
+    {
+        for v in 0..known.rows.len() {
+            let r = known.relation(u, v);
+            self.add(u, v, r)?;
+        }
+        Ok(())
+    }
+
+    // The same of all nodes.
+    fn add_rows(&mut self, known: &LabelOrder) -> Result<(), NoMemory>
+        ensures { (value : ℕ → List GroundMark) → Holds value known.now → Holds value self.old
+            → Holds value self.new }
+    {
+        for u in 0..known.rows.len() {
+            self.add_row(known, u)?;
+        }
+        Ok(())
+    }
+
+    // The facts that wait are drawn from.
+    fn skip_facts(&mut self)
+        ensures { (value : ℕ → List GroundMark) → Holds value self.old → Holds value self.new }
+    {
+        self.drawn = self.waiting.len();
+    }
+
+    // An order of which the same is known, where all that follows was drawn.
+    pub(crate) fn copy(&self, alloc: Global) -> Result<LabelOrder, NoMemory>
+        ensures { IfOk result (λ order. (value : ℕ → List GroundMark) → Holds value self.now
+            → Holds value order) }
+    {
+        let mut order = LabelOrder::new(alloc, self.rows.len())?;
+        order.add_rows(self)?;
+        order.skip_facts();
+        Ok(order)
     }
 
     // The nodes above this one, in the order of finding.

@@ -1,10 +1,11 @@
 //! Items of lists.
 
 ghost use Rattle.std.specs.Prelude.{◌≡◌, ◌<◌, Some, length, map, slice_get};
+ghost use Rattle.term_store.specs.HomeView.{the_home};
 ghost use Rattle.term_store.specs.RefView.{the_place};
 ghost use Rattle.term_store.specs.SystemView.{the_equation, the_pair};
 
-use term_store::{CellAtom, Equation, Ref};
+use term_store::{CellAtom, Equation, Home, Ref};
 
 pub(crate) fn reference_at(refs: &[Ref], i: usize) -> Ref
     requires { i < length refs.now }
@@ -32,4 +33,11 @@ pub(crate) fn pair_at(pairs: &[(CellAtom, CellAtom)], i: usize) -> &(CellAtom, C
     ensures { slice_get (map the_pair pairs.now) i ≡ Some (the_pair result.now) }
 {
     &pairs[i]
+}
+
+pub(crate) fn home_at(homes: &[Home], i: usize) -> &Home
+    requires { i < length homes.now }
+    ensures { slice_get (map the_home homes.now) i ≡ Some (the_home result.now) }
+{
+    &homes[i]
 }

@@ -4,12 +4,17 @@ ghost use Rattle.std.specs.Prelude.{◌≡◌, ◌<◌, ◌∷◌, [], ℕ, List
 ghost use Rattle.std.specs.List.{AllByRecursion};
 ghost use Rattle.calculus.specs.Ground.{GroundMark};
 ghost use Rattle.calculus.specs.Stores.{Solution, Solves};
-ghost use Rattle.calculus.specs.Systems.{AreEqual, IsStep, NamesItsStrings, is_system};
+ghost use Rattle.calculus.specs.Bindings.{AddsBuilt, KeepsMarks};
+ghost use Rattle.calculus.specs.Systems.{AreEqual, IsStep, MeetsDemand, NamesItsStrings};
+ghost use Rattle.calculus.specs.Systems.{is_system};
+ghost use Rattle.term_store.specs.Asking.{Asks};
+ghost use Rattle.term_store.specs.Room.{KeepsRoom};
 ghost use Rattle.term_store.specs.SystemView.{the_system};
 ghost use Rattle.prefix_split.specs.Beginnings.{AllBegin, AreValues, Holds, Keeps, NodesFit};
 ghost use Rattle.prefix_split.specs.Growing.{HasRoot, step_relation};
 
-use crate::growing::ask_equations;
+use crate::choosing::choose;
+use crate::growing::{ask_equations, ask_homes};
 use crate::joining::settle;
 use crate::node::{Node, Step};
 use crate::order::{LabelOrder, Relation};
@@ -17,8 +22,11 @@ use crate::rules::node_at;
 use calculus::setting::Logic;
 use cop_base::NoMemory;
 use std::alloc::Global;
-use term_store::{Store, System};
+use term_store::{Demand, Store, System};
 use term_unify::Unifier;
+
+// How many choices are made where a refutation is not needed.
+const FEW_CHOICES: u32 = 10;
 
 // How the label of a node is related to that of its parent.
 fn step_relation(step: Step) -> Relation
@@ -103,6 +111,25 @@ fn settled(
     Ok(order)
 }
 
+// The same, where open gaps are closed one way or the other, with at most so many choices.
+fn chosen(
+    alloc: Global,
+    unifier: &mut Unifier,
+    store: &Store,
+    nodes: &[Node],
+    pairs: &[(usize, usize)],
+    choices: u32,
+) -> Result<LabelOrder, NoMemory>
+    requires { NodesFit (length store.now.store.cells) nodes.now }
+    ensures { IfOk result (λ order. order.is_refuted ≡ true → (σ : Solution)
+        (value : ℕ → List GroundMark) → Solves store.now.store σ → AreValues σ value nodes.now
+        → ¬ AllBegin value pairs.now) }
+{
+    let mut order = settled(alloc, unifier, store, nodes, pairs)?;
+    let _left = choose(alloc, &mut order, unifier, store, nodes, choices)?;
+    Ok(order)
+}
+
 // The tree of the beginnings of labels, and what is known of their order.
 #[derive(Drop)]
 pub(crate) struct LabelTree {
@@ -111,12 +138,14 @@ pub(crate) struct LabelTree {
 }
 
 // The tree of the labels of the equations. Its order is refuted only where no solution of the
-// store, whose strings are steps of the logic, makes the equations equal.
+// store, whose strings are steps of the logic, makes the equations equal. At most so many choices
+// are made.
 pub(crate) fn label_tree(
     alloc: Global,
     store: &Store,
     logic: Logic,
     system: &System,
+    choices: u32,
 ) -> Result<LabelTree, NoMemory>
     requires fits { IsTrue (is_system store.now.store (the_system system.now)) }
     requires named { NamesItsStrings store.now.store (the_system system.now) }
@@ -128,7 +157,44 @@ pub(crate) fn label_tree(
     let mut nodes = root(alloc)?;
     let mut pairs = Vec::new(alloc);
     ask_equations(&mut unifier, store, logic, system, &mut nodes, &mut pairs)?;
-    let order = settled(alloc, &mut unifier, store, &nodes, &pairs)?;
+    let order = chosen(alloc, &mut unifier, store, &nodes, &pairs, choices)?;
+    Ok(LabelTree { nodes, order })
+}
+
+// The same, with the labels that the demand forces to be beginnings of others. Marks are added to
+// the store.
+pub(crate) fn demanded_tree<M: Demand>(
+    alloc: Global,
+    store: &mut Store,
+    logic: Logic,
+    system: &System,
+    more: &M,
+    choices: u32,
+) -> Result<LabelTree, NoMemory>
+    requires fits { IsTrue (is_system store.old.store (the_system system.now)) }
+    requires named { NamesItsStrings store.old.store (the_system system.now) }
+    ensures refuted { IfOk result (λ tree. tree.order.is_refuted ≡ true → (σ : Solution)
+        → Solves store.new.store σ → AllByRecursion (IsStep logic σ) (the_system system.now).strings
+        → MeetsDemand (Asks (M.holds_for more.now)) (the_system system.now) σ
+        → ¬ AllByRecursion (AreEqual σ) (the_system system.now).equations) }
+    ensures adds { AddsBuilt store.old.store store.new.store }
+    ensures marks { KeepsMarks store.old.store store.new.store }
+    ensures room { KeepsRoom store.old store.new }
+{
+    let mut unifier = Unifier::new(alloc);
+    let mut nodes = root(alloc)?;
+    let mut pairs = Vec::new(alloc);
+    ask_equations(&mut unifier, store, logic, system, &mut nodes, &mut pairs)?;
+    let homes = more.homes(alloc, store, system)?;
+    ask_homes(
+        &mut unifier,
+        store,
+        system,
+        &mut nodes,
+        &mut pairs,
+        homes.items(),
+    )?;
+    let order = chosen(alloc, &mut unifier, store, &nodes, &pairs, choices)?;
     Ok(LabelTree { nodes, order })
 }
 
@@ -148,6 +214,6 @@ pub fn is_refuted(
         → Solves store.now.store σ → AllByRecursion (IsStep logic σ) (the_system system.now).strings
         → ¬ AllByRecursion (AreEqual σ) (the_system system.now).equations) }
 {
-    let tree = label_tree(alloc, store, logic, system)?;
+    let tree = label_tree(alloc, store, logic, system, FEW_CHOICES)?;
     Ok(tree.order.is_refuted)
 }

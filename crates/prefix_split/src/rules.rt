@@ -29,7 +29,7 @@ fn is_short(step: Step) -> bool
 }
 
 // The parent of a node whose last step is by at most one mark.
-fn short_parent(nodes: &[Node], y: usize) -> Option<usize>
+pub(crate) fn short_parent(nodes: &[Node], y: usize) -> Option<usize>
     ensures { IfSome result (λ x. (σ : Solution) (value : ℕ → List GroundMark)
         → AreValues σ value nodes.now → IsShortBehind (value x) (value y)) }
 {

@@ -15,13 +15,16 @@ ghost use Rattle.prefix_split.specs.LengthSearch.{IsCounted};
 
 use crate::next_lengths::{LengthRange, first_lengths, is_single, next_lengths, range_of};
 use crate::proposing::propose;
-use crate::refuting::label_tree;
+use crate::refuting::{LabelTree, demanded_tree};
 use crate::trying::try_or_undo;
 use calculus::setting::Logic;
 use cop_base::{Ledger, NoMemory};
 use std::alloc::Global;
 use term_store::{Demand, Store, System};
 use term_unify::Unifier;
+
+// How many choices are made before lists of lengths are tried.
+const MANY_CHOICES: u32 = 1000;
 
 /// What solving a system comes to.
 #[derive(Clone, Copy, PartialEq, Eq)]
@@ -42,6 +45,29 @@ fn take_step(ledger: &mut Ledger) -> bool
     ensures budget { ledger.new.budget ≡ ledger.old.budget }
 {
     ledger.take()
+}
+
+// The tree of the system's labels. The store is as before.
+fn tree_of<M: Demand>(
+    alloc: Global,
+    store: &mut Store,
+    logic: Logic,
+    system: &System,
+    more: &M,
+) -> Result<LabelTree, NoMemory>
+    requires fits { IsTrue (is_system store.old.store (the_system system.now)) }
+    requires named { NamesItsStrings store.old.store (the_system system.now) }
+    ensures refuted { IfOk result (λ tree. tree.order.is_refuted ≡ true
+        → ¬ HasBoundedSolution logic (Asks (M.holds_for more.now)) store.old.store
+        (the_system system.now)) }
+    ensures unchanged { store.new.store ≡ store.old.store }
+    ensures marks { KeepsMarks store.old.store store.new.store }
+    ensures room { KeepsRoom store.old store.new }
+{
+    let start = store.mark();
+    let made = demanded_tree(alloc, store, logic, system, more, MANY_CHOICES);
+    store.undo(start);
+    made
 }
 
 // Answers `Found` or `None` by the order of label beginnings, where that can be: it refutes the
@@ -76,7 +102,7 @@ fn solve_by_order<M: Demand>(
     if is_single(range) {
         return Ok(None);
     }
-    let tree = label_tree(alloc, store, logic, system)?;
+    let tree = tree_of(alloc, store, logic, system, more)?;
     if tree.order.is_refuted {
         return Ok(Some(Solved::None));
     }

@@ -9,7 +9,7 @@ pub reach-requires-clause-below : goal.reach-requires-clause-below
 reach-requires-clause-below c = subst (λ xs. IsTrue (names_below (length c.args.store.now.store.cells) xs)) (sym c.items.ensures) (label-places c.args.store.now.store (the_equation c.args.e.now) c.requires.fits).0
 
 pub reach-requires-clause-named : goal.reach-requires-clause-named
-reach-requires-clause-named c = subst (AreNamed c.args.store.now.store c.args.system.now.strings) (sym c.items.ensures) c.requires.named.0
+reach-requires-clause-named c = λ e. subst (AreNamed c.args.store.now.store c.args.system.now.strings) (sym c.items.ensures) c.requires.named.0
 
 pub reach-requires-2-clause-tree : goal.reach-requires-2-clause-tree
 reach-requires-2-clause-tree c = c.in_ok-left.ensures.tree
@@ -18,7 +18,7 @@ pub reach-requires-2-clause-below : goal.reach-requires-2-clause-below
 reach-requires-2-clause-below c = subst (λ xs. IsTrue (names_below (length c.args.store.now.store.cells) xs)) (sym c.items-2.ensures) (label-places c.args.store.now.store (the_equation c.args.e.now) c.requires.fits).1
 
 pub reach-requires-2-clause-named : goal.reach-requires-2-clause-named
-reach-requires-2-clause-named c = subst (AreNamed c.args.store.now.store c.args.system.now.strings) (sym c.items-2.ensures) c.requires.named.1
+reach-requires-2-clause-named c = λ e. subst (AreNamed c.args.store.now.store c.args.system.now.strings) (sym c.items-2.ensures) c.requires.named.1
 
 pub returns : goal.returns
 returns c =

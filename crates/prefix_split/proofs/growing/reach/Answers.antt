@@ -12,7 +12,7 @@ pub step_of-step-requires-clause-within : goal.step_of-step-requires-clause-with
 step_of-step-requires-clause-within c = place-below _ (map the_place c.args.label.now) c.loop-i.i c.reference_at.result.0 c.requires.below c.reference_at.ensures
 
 pub step_of-step-requires-clause-named : goal.step_of-step-requires-clause-named
-step_of-step-requires-clause-named c = c.requires.named c.loop-i.i c.reference_at.result.0 c.reference_at.ensures
+step_of-step-requires-clause-named c = λ e. c.requires.named e c.loop-i.i c.reference_at.result.0 c.reference_at.ensures
 
 pub grow-requires-clause-tree : goal.grow-requires-clause-tree
 grow-requires-clause-tree c = c.loop-i.invariant.tree

@@ -22,7 +22,7 @@ returns-then-is_short_string-clause-marks c = λ σ t. end-marks c.args.store.no
 
 pub returns-then-is_short_string-clause-extent : goal.returns-then-is_short_string-clause-extent
 returns-then-is_short_string-clause-extent c = λ σ t k.
-    let named = c.requires.named c.walk-end.result.0 (c.is_short_string.ensures.open c.if-is_short_string.true) c.walk-end.ensures.ends in
+    let named = c.requires.named (c.is_short_string.ensures.short c.if-is_short_string.true) c.walk-end.result.0 (c.is_short_string.ensures.open c.if-is_short_string.true) c.walk-end.ensures.ends in
     short-extent c.args.logic c.args.store.now.store c.args.system.now.strings σ c.walk-end.result.0 t (c.is_short_string.ensures.short c.if-is_short_string.true) named k
 
 pub returns-then-is_short_string-clause-fits : goal.returns-then-is_short_string-clause-fits

@@ -1,5 +1,5 @@
 use Rattle.prefix_split.specs.Beginnings.{KeepsIn}
 use Rattle.prefix_split.proofs.joining.settle.Given as goal
 
-abbrev pub invariant-loop-i : goal.invariant-loop-i
-invariant-loop-i l = KeepsIn l.store.store l.nodes l.initial.order l.order
+abbrev pub invariant-loop : goal.invariant-loop
+invariant-loop l = KeepsIn l.store.store l.nodes l.initial.order l.order

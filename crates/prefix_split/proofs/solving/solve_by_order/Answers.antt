@@ -1,6 +1,7 @@
-use Rattle.std.proofs.Common.{◌≡◌, ◌∙◌, ap, length, refl, subst, sym}
+use Rattle.std.proofs.Common.{◌≡◌, ◌∙◌, IsTrue, ap, arith, length, refl, subst, sym}
 use Rattle.calculus.specs.Bindings.{KeepsMarks}
-use Rattle.calculus.specs.Systems.{AreTried}
+use Rattle.calculus.specs.Stores.{Solves}
+use Rattle.calculus.specs.Systems.{AreTried, NamesItsStrings, is_system}
 use Rattle.calculus.proofs.BindingLaws.{KeepsMarks-same}
 use Rattle.term_store.specs.SystemView.{the_system}
 use Rattle.prefix_split.proofs.LengthListLaws.{tried-within}
@@ -10,19 +11,28 @@ pub returns-then-is_single-clause-marks : goal.returns-then-is_single-clause-mar
 returns-then-is_single-clause-marks g c = KeepsMarks-same c.args.store.now.store
 
 pub returns-in_err-tree-clause-marks : goal.returns-in_err-tree-clause-marks
-returns-in_err-tree-clause-marks g c = KeepsMarks-same c.args.store.now.store
+returns-in_err-tree-clause-marks g c = c.tree_of.ensures.marks
 
 pub returns-then-tree-clause-none : goal.returns-then-tree-clause-none
-returns-then-tree-clause-none g c = λ e (ns, has). (let k = has.1.solution in c.in_ok-tree.ensures c.if-tree.true has.0 k.solves k.steps k.equal)
+returns-then-tree-clause-none g c = λ e. c.in_ok-tree.ensures.refuted c.if-tree.true
 
 pub returns-then-tree-clause-marks : goal.returns-then-tree-clause-marks
-returns-then-tree-clause-marks g c = KeepsMarks-same c.args.store.now.store
+returns-then-tree-clause-marks g c = c.tree_of.ensures.marks
+
+pub propose-requires : goal.propose-requires
+propose-requires g c = subst (λ s. IsTrue (is_system s (the_system c.args.system.now))) (sym c.tree_of.ensures.unchanged) c.requires.fits
 
 pub returns-in_err-lengths-clause-marks : goal.returns-in_err-lengths-clause-marks
-returns-in_err-lengths-clause-marks g c = KeepsMarks-same c.args.store.now.store
+returns-in_err-lengths-clause-marks g c = c.tree_of.ensures.marks
 
 pub returns-in_default-clause-marks : goal.returns-in_default-clause-marks
-returns-in_default-clause-marks g c = KeepsMarks-same c.args.store.now.store
+returns-in_default-clause-marks g c = c.tree_of.ensures.marks
+
+pub try_or_undo-requires-clause-fits : goal.try_or_undo-requires-clause-fits
+try_or_undo-requires-clause-fits g c = subst (λ s. IsTrue (is_system s (the_system c.args.system.now))) (sym c.tree_of.ensures.unchanged) c.requires.fits
+
+pub try_or_undo-requires-clause-named : goal.try_or_undo-requires-clause-named
+try_or_undo-requires-clause-named g c = subst (λ s. NamesItsStrings s (the_system c.args.system.now)) (sym c.tree_of.ensures.unchanged) c.requires.named
 
 pub try_or_undo-requires-clause-count : goal.try_or_undo-requires-clause-count
 try_or_undo-requires-clause-count g c =
@@ -33,3 +43,6 @@ pub returns-then-found-clause-found : goal.returns-then-found-clause-found
 returns-then-found-clause-found g c = λ e.
     let tried = rw c.in-Some.is at c.in_ok-lengths.ensures in
     c.in_ok-found.ensures.found c.if-found.true (subst (AreTried c.args.logic (the_system c.args.system.now)) (sym c.deref.ensures.value) tried)
+
+pub returns-then-found-clause-back : goal.returns-then-found-clause-back
+returns-then-found-clause-back g c = λ e σ t. subst (λ s. Solves s σ) c.tree_of.ensures.unchanged (c.in_ok-found.ensures.back c.if-found.true σ t)

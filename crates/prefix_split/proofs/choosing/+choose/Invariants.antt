@@ -1,0 +1,4 @@
+use Rattle.prefix_split.proofs.choosing.+choose.Given as goal
+
+abbrev pub decreases-choose : goal.decreases-choose
+decreases-choose l = l.choices

@@ -1,0 +1,170 @@
+//! Choices between beginnings of labels of which none is forced.
+
+ghost use Rattle.std.specs.Prelude.{◌≡◌, ◌≤◌, ◌⊎◌, ℕ, List, IfOk, IfSome, length, true};
+ghost use Rattle.calculus.specs.Ground.{GroundMark};
+ghost use Rattle.calculus.specs.Stores.{Solution, Solves};
+ghost use Rattle.prefix_split.specs.Beginnings.{AreValues, Begins, Holds, NodesFit, Refutes};
+
+use crate::joining::{mark_of, settle};
+use crate::node::Node;
+use crate::order::{LabelOrder, Relation};
+use crate::rules::short_parent;
+use cop_base::NoMemory;
+use std::alloc::Global;
+use term_store::Store;
+use term_unify::Unifier;
+
+// Two nodes that begin one label, of which the first is at most one mark longer than its parent:
+// the second begins the parent, or the first begins the second.
+#[derive(Clone, Copy)]
+struct Gap {
+    parent: usize,
+    first: usize,
+    second: usize,
+}
+
+// The gap of y and z below w.
+fn gap_below(order: &LabelOrder, nodes: &[Node], y: usize, z: usize, w: usize) -> Option<Gap>
+    ensures { IfSome result (λ g. (σ : Solution) (value : ℕ → List GroundMark)
+        → AreValues σ value nodes.now → Holds value order.now
+        → Begins (value g.second) (value g.parent) ⊎ Begins (value g.first) (value g.second)) }
+{
+    let Some(x) = short_parent(nodes, y) else {
+        return None;
+    };
+    if !order.begins(y, w) {
+        return None;
+    }
+    if !order.begins(z, w) {
+        return None;
+    }
+    Some(Gap {
+        parent: x,
+        first: y,
+        second: z,
+    })
+}
+
+// Whether neither is known.
+fn is_open(order: &LabelOrder, gap: Gap) -> bool {
+    !order.begins(gap.second, gap.parent) && !order.begins(gap.first, gap.second)
+}
+
+// The gap of y and z below w, where both are by marks and it is open.
+fn open_gap_below(order: &LabelOrder, nodes: &[Node], y: usize, z: usize, w: usize) -> Option<Gap>
+    ensures { IfSome result (λ g. (σ : Solution) (value : ℕ → List GroundMark)
+        → AreValues σ value nodes.now → Holds value order.now
+        → Begins (value g.second) (value g.parent) ⊎ Begins (value g.first) (value g.second)) }
+{
+    if mark_of(nodes, z).is_none() {
+        return None;
+    }
+    let Some(gap) = gap_below(order, nodes, y, z, w) else {
+        return None;
+    };
+    if is_open(order, gap) {
+        return Some(gap);
+    }
+    None
+}
+
+// An open gap of y and another node below w.
+fn open_gap_with(order: &LabelOrder, nodes: &[Node], y: usize, w: usize) -> Option<Gap>
+    ensures { IfSome result (λ g. (σ : Solution) (value : ℕ → List GroundMark)
+        → AreValues σ value nodes.now → Holds value order.now
+        → Begins (value g.second) (value g.parent) ⊎ Begins (value g.first) (value g.second)) }
+{
+    for i in 0..nodes.len() {
+        let Some(z) = order.below(w, i) else {
+            return None;
+        };
+        if let Some(gap) = open_gap_below(order, nodes, y, z, w) {
+            return Some(gap);
+        }
+    }
+    None
+}
+
+// An open gap of y, which is by a mark.
+fn open_gap_of(order: &LabelOrder, nodes: &[Node], y: usize) -> Option<Gap>
+    ensures { IfSome result (λ g. (σ : Solution) (value : ℕ → List GroundMark)
+        → AreValues σ value nodes.now → Holds value order.now
+        → Begins (value g.second) (value g.parent) ⊎ Begins (value g.first) (value g.second)) }
+{
+    if mark_of(nodes, y).is_none() {
+        return None;
+    }
+    for i in 0..nodes.len() {
+        let Some(w) = order.above(y, i) else {
+            return None;
+        };
+        if let Some(gap) = open_gap_with(order, nodes, y, w) {
+            return Some(gap);
+        }
+    }
+    None
+}
+
+// An open gap of two nodes that are by marks. Where there is none, each string can be as short as
+// the greatest label by a mark below it.
+fn open_gap(order: &LabelOrder, nodes: &[Node]) -> Option<Gap>
+    ensures { IfSome result (λ g. (σ : Solution) (value : ℕ → List GroundMark)
+        → AreValues σ value nodes.now → Holds value order.now
+        → Begins (value g.second) (value g.parent) ⊎ Begins (value g.first) (value g.second)) }
+{
+    for y in 0..nodes.len() {
+        if let Some(gap) = open_gap_of(order, nodes, y) {
+            return Some(gap);
+        }
+    }
+    None
+}
+
+// Adds that the one label begins the other, and all that follows.
+fn assume(
+    order: &mut LabelOrder,
+    unifier: &mut Unifier,
+    store: &Store,
+    nodes: &[Node],
+    u: usize,
+    v: usize,
+) -> Result<(), NoMemory>
+    requires { NodesFit (length store.now.store.cells) nodes.now }
+    ensures { (σ : Solution) (value : ℕ → List GroundMark) → Solves store.now.store σ
+        → AreValues σ value nodes.now → Begins (value u) (value v) → Holds value order.old
+        → Holds value order.new }
+{
+    order.add(u, v, Relation::Weak)?;
+    settle(order, unifier, store, nodes)
+}
+
+// Closes open gaps one way or the other, with at most so many choices, until none is open. The
+// order is refuted only where no labels are as it told. Answers how many choices are left.
+pub(crate) fn choose(
+    alloc: Global,
+    order: &mut LabelOrder,
+    unifier: &mut Unifier,
+    store: &Store,
+    nodes: &[Node],
+    choices: u32,
+) -> Result<u32, NoMemory>
+    requires { NodesFit (length store.now.store.cells) nodes.now }
+    ensures refuted { IfOk result (λ left. Refutes store.now.store nodes.now order.old order.new) }
+    ensures fewer { IfOk result (λ left. left ≤ choices) }
+{
+    if choices == 0 || order.is_refuted {
+        return Ok(choices);
+    }
+    let Some(gap) = open_gap(order, nodes) else {
+        return Ok(choices);
+    };
+    let mut first = order.copy(alloc)?;
+    assume(&mut first, unifier, store, nodes, gap.second, gap.parent)?;
+    let left = choose(alloc, &mut first, unifier, store, nodes, choices - 1)?;
+    if !first.is_refuted {
+        *order = first;
+        return Ok(left);
+    }
+    assume(order, unifier, store, nodes, gap.first, gap.second)?;
+    choose(alloc, order, unifier, store, nodes, left)
+}
