@@ -38,6 +38,8 @@ pub mod SpentLaws
 pub mod VisitLaws
 -- lists without open goals
 pub mod DecidingLaws
+-- lists that labels refute
+pub mod PruneLaws
 -- the loop over the points
 pub mod StackedLaws
 pub mod DeadLaws

@@ -19,5 +19,7 @@ pub mod Weights
 pub mod Exploring
 -- lists without open goals
 pub mod Deciding
+-- lists that labels refute
+pub mod Pruning
 -- worked problems
 pub mod Examples

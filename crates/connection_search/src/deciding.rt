@@ -33,7 +33,7 @@ use std::alloc::Global;
 use tableau_core::{Tableau, is_closed};
 use term_store::{Demand, Store, System};
 
-fn has_labels(logic: Logic) -> bool
+pub(crate) fn has_labels(logic: Logic) -> bool
     ensures { result ≡ has_labels logic }
 {
     match logic {

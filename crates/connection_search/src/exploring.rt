@@ -27,7 +27,7 @@ pub(crate) enum Visit {
 impl Space<'_> {
     // Spends a step for the list of choices. A list without open goals is decided here, where no
     // goal is the same as one above it.
-    pub(crate) fn visit(
+    fn take_up(
         &self,
         ledger: &mut Ledger,
         store: &mut Store,
@@ -96,6 +96,63 @@ impl Space<'_> {
                 Ok(Visit::On)
             }
         }
+    }
+
+    // Drops the list of choices, where labels refute it and it is known that the limit is left. Else
+    // the list is taken up.
+    pub(crate) fn visit(
+        &self,
+        ledger: &mut Ledger,
+        store: &mut Store,
+        work: &mut Work,
+        points: &mut Vec<Point>,
+        left: &mut bool,
+    ) -> Result<Visit, NoMemory>
+        requires { (base : ℕ) × (later : List (List Choice)) × (begun : ℕ)
+            × IsSpace self.now.problem.now self.now.matrix.now self.now.limit
+            × IsVisiting self.now.problem.now self.now.matrix.now base self.now.limit
+            store.old.store
+            work.old.tree.steps.items work.old.tree.goals.items work.old.tree.open
+            points.old.items later begun ledger.old.used left.old }
+        ensures on { IfOk result (λ v. IfOn v ((base : ℕ)
+            (later : List (List Choice)) (begun : ℕ)
+            → IsSpace self.now.problem.now self.now.matrix.now self.now.limit
+            → IsVisiting self.now.problem.now self.now.matrix.now base self.now.limit
+            store.old.store
+            work.old.tree.steps.items work.old.tree.goals.items work.old.tree.open
+            points.old.items later begun ledger.old.used left.old
+            → IsExploring self.now.problem.now self.now.matrix.now base self.now.limit
+            store.new.store
+            work.new.tree.steps.items work.new.tree.goals.items
+            points.new.items later begun ledger.new.used left.new)) }
+        ensures end { IfOk result (λ v. (base : ℕ)
+            (later : List (List Choice)) (begun : ℕ)
+            → IsSpace self.now.problem.now self.now.matrix.now self.now.limit
+            → IsVisiting self.now.problem.now self.now.matrix.now base self.now.limit
+            store.old.store
+            work.old.tree.steps.items work.old.tree.goals.items work.old.tree.open
+            points.old.items later begun ledger.old.used left.old
+            → IsEnd self.now.problem.now self.now.limit begun ledger.new.used ledger.new.budget v) }
+        ensures counted { (base : ℕ) (later : List (List Choice)) (begun : ℕ)
+            → IsSpace self.now.problem.now self.now.matrix.now self.now.limit
+            → IsVisiting self.now.problem.now self.now.matrix.now base self.now.limit
+            store.old.store
+            work.old.tree.steps.items work.old.tree.goals.items work.old.tree.open
+            points.old.items later begun ledger.old.used left.old
+            → IsCounted self.now.problem.now self.now.limit begun ledger.new.used }
+        ensures budget { ledger.new.budget ≡ ledger.old.budget }
+        ensures points { IfOk result (λ v. IfOn v
+            (ArePushed points.old.items points.new.items ledger.old.used ledger.new.used)) }
+        ensures above { OnOk result ((k : TrailMark) → IsGood k store.old.store
+            → AreAbove k points.old.items → AreAbove k points.new.items) }
+        ensures marks { KeepsMarks store.old.store store.new.store }
+        ensures room { KeepsRoom store.old store.new }
+    {
+        if self.is_pruned(store, work, *left)? {
+            return Ok(Visit::On);
+        }
+        let visit = self.take_up(ledger, store, work, points, left)?;
+        Ok(visit)
     }
 
     // Goes back to the last choice point, makes its next choice and visits what came of it. The

@@ -10,6 +10,7 @@ mod homes;
 mod moves;
 mod pair;
 mod point;
+mod pruning;
 mod reading;
 mod regular;
 mod searching;

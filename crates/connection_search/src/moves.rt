@@ -21,6 +21,7 @@ ghost use Rattle.connection_search.specs.Trees.{KeepsTree};
 use crate::atoms::unify_all;
 use crate::heads::has_clash;
 use crate::point::Move;
+use crate::pruning::Tests;
 use crate::regular::{are_new_from, first_repeated, is_new};
 use crate::tree::{Copied, Tree};
 use cop_base::{ClauseId, NoMemory};
@@ -38,6 +39,7 @@ pub(crate) struct Work {
     pub alloc: Global,
     pub tree: Tree,
     pub unifier: Unifier,
+    pub tests: Tests,
     // How many choices were tried since the last look at all goals ended.
     tried: usize,
     // How many goals this look has found new. Going back takes bindings away, so they stay new.
@@ -53,6 +55,7 @@ impl Work {
             alloc,
             tree: Tree::new(alloc),
             unifier: Unifier::new(alloc),
+            tests: Tests::new(),
             tried: 0,
             seen: 0,
         }

@@ -9,6 +9,7 @@ ghost use Rattle.calculus.specs.Systems as cells;
 ghost use Rattle.term_store.specs.ClauseView.{the_atom, the_gamma};
 ghost use Rattle.term_store.specs.RefView.{the_place, the_places};
 ghost use Rattle.term_store.specs.SystemView.{the_system};
+ghost use Rattle.connection_search.specs.Pruning.{labels_alone};
 ghost use Rattle.connection_search.specs.Trees.{AreGoals, HasAtom, IsBuiltStep, IsGoalAt};
 ghost use Rattle.connection_search.specs.Trees.{IsLinkedStep, atom_at, equations_of, gammas_of};
 ghost use Rattle.connection_search.specs.Trees.{goal_label, pis_of, strings_in, strings_of};
@@ -353,5 +354,24 @@ pub(crate) fn system_of(alloc: Global, matrix: &Matrix, tree: &Tree) -> Result<S
         pis,
         gammas,
         pairs,
+    })
+}
+
+/// Its equations and strings alone.
+pub(crate) fn labels_of(alloc: Global, matrix: &Matrix, tree: &Tree) -> Result<System, NoMemory>
+    requires linked { AllByRecursion (IsLinkedStep tree.now.steps.items tree.now.goals.items)
+        tree.now.steps.items }
+    requires built { AllByRecursion (IsBuiltStep matrix.now) tree.now.steps.items }
+    ensures { IfOk result (λ y. (xs : List CellGoal) → the_system y
+        ≡ labels_alone (tree_system matrix.now tree.now.steps.items tree.now.goals.items xs)) }
+{
+    let equations = all_equations(alloc, tree)?;
+    let strings = all_strings(alloc, matrix, tree)?;
+    Ok(System {
+        equations,
+        strings,
+        pis: 0,
+        gammas: GammaList::new(alloc),
+        pairs: PairList::new(alloc),
     })
 }

@@ -1,0 +1,63 @@
+-- Lists of choices that labels refute: the equations and strings of the tree's system alone, and dropping the list.
+use Rattle.std.proofs.Common.{◌≡◌, ℕ, List, [], ◌∷◌, ◌++◌, Bool, true, IsTrue, refl, sym, ◌∙◌, ap, subst, Option, Some, append-nil, slice_get}
+use Rattle.std.specs.List.{AllByRecursion, flat_map}
+use Rattle.std.proofs.lemmas.Bool.{and_from}
+use Rattle.calculus.specs.declared.setting.Logic.{Logic}
+use Rattle.calculus.specs.Choices.{Choice}
+use Rattle.calculus.specs.Space.{has_labels}
+use Rattle.calculus.specs.Stores.{GammaCell, Solution, Solves, Store}
+use Rattle.calculus.specs.Syntax.{Problem}
+use Rattle.calculus.specs.Systems.{AreEqual, IsStep, NamesItsStrings, Pair, System, cells_of, cells_of_atom, is_system}
+use Rattle.search_theory.specs.Matrix.{MatrixClause}
+use Rattle.search_theory.specs.Searching.{IsSearch}
+use Rattle.search_theory.proofs.BeginningLaws.{is_not_empty}
+use Rattle.search_theory.proofs.BuildingLaws.{get-kept}
+use Rattle.search_theory.proofs.PruningLaws.{pruned-by_none, search-pruned}
+use Rattle.search_theory.proofs.SolvingLaws.{system-parts}
+use Rattle.connection_search.specs.Exploring.{IsExploring, IsVisiting}
+use Rattle.connection_search.specs.Pruning.{IsPruned, labels_alone}
+use Rattle.connection_search.specs.Running.{StandsFor}
+use Rattle.connection_search.specs.Trees.{tree_system}
+use Rattle.connection_search.specs.declared.point.Point.{Point}
+use Rattle.connection_search.specs.declared.tree.Goal.{Goal}
+use Rattle.connection_search.specs.declared.tree.Step.{Step}
+use Rattle.connection_search.proofs.DecidingLaws.{strings-named}
+
+-- ---- a part of a system
+
+alone-fits : (s : Store) (y : System) → IsTrue (is_system s y) → IsTrue (is_system s (labels_alone y))
+alone-fits s y h = let k = system-parts s y h in and_from _ _ (and_from _ _ (and_from _ _ k.equations k.strings) refl) refl
+
+alone-named : (s : Store) (y : System) → NamesItsStrings s y → NamesItsStrings s (labels_alone y)
+alone-named s y h v free (i, r, e, occurs) = h v free (i, r, get-kept _ _ i r (get-kept _ _ i r (subst (λ rs. slice_get rs i ≡ Some r) (append-nil _ ∙ append-nil _) e)), occurs)
+
+-- what is tested of the tree's labels is a system that names its strings
+pub alone-system : (P : Problem) (m : List MatrixClause) (base d : ℕ) (c : List Choice) (s : Store) (steps : List Step) (goals : List Goal) (first : Option ℕ) (y : System) → (h : StandsFor P m base d c s steps goals first) → y ≡ labels_alone (tree_system m steps goals h.1.all_goals) → IsTrue (is_system s y) × NamesItsStrings s y
+alone-system P m base d c s steps goals first y (cs, x, at) e =
+    let z = tree_system m steps goals x.all_goals in
+    let named = strings-named P base d c (record { store = s; choices = cs; growth = x }) z at.running in
+    rw e (alone-fits s z at.running.system.well, alone-named s z named)
+
+-- ---- dropping the list
+
+-- no closed tableau begins with a list whose labels no solution makes equal
+pub tree-pruned : (P : Problem) (m : List MatrixClause) (base d : ℕ) (c : List Choice) (s : Store) (steps : List Step) (goals : List Goal) (first : Option ℕ) (y : System) (l : Logic) → l ≡ P.setting.logic → (h : StandsFor P m base d c s steps goals first) → y ≡ labels_alone (tree_system m steps goals h.1.all_goals) → IsTrue (has_labels P.setting.logic) → IsTrue (is_not_empty c) → ((σ : Solution) → Solves s σ → AllByRecursion (IsStep l σ) y.strings → ¬ AllByRecursion (AreEqual σ) y.equations) → IsPruned P d c
+tree-pruned P m base d c s steps goals first y l el (cs, x, at) e labels n none =
+    let z = tree_system m steps goals x.all_goals in
+    let alone = subst (λ (w : System). (σ : Solution) → Solves s σ → AllByRecursion (IsStep P.setting.logic σ) w.strings → ¬ AllByRecursion (AreEqual σ) w.equations) e (subst (λ k. (σ : Solution) → Solves s σ → AllByRecursion (IsStep k σ) y.strings → ¬ AllByRecursion (AreEqual σ) y.equations) el none) in
+    pruned-by_none P d c (record { store = s; choices = cs; growth = x }) z labels n at.running.state at.running.system (λ σ h. alone σ h.ground.solves h.steps h.equal)
+
+pub visit-pruned : (P : Problem) (m : List MatrixClause) (base d : ℕ) (s : Store) (steps : List Step) (goals : List Goal) (first : Option ℕ) (points : List Point) (later : List (List Choice)) (begun used : ℕ) (left : Bool) → (v : IsVisiting P m base d s steps goals first points later begun used left) → left ≡ true → IsPruned P d v.choices → IsExploring P m base d s steps goals points later begun used left
+visit-pruned P m base d s steps goals first points later begun used left v known pruned = record {
+  pending = v.pending;
+  points = v.points;
+  searched = record {
+    spent = v.searched.spent;
+    search = drop left known v.searched.search;
+    from = v.searched.from;
+    count = v.searched.count;
+  };
+}
+  where
+    drop : (l : Bool) → l ≡ true → IsSearch P d v.searched.spent (v.choices ∷ v.pending ++ later) l → IsSearch P d v.searched.spent (v.pending ++ later) l
+    drop l e h = subst (IsSearch P d v.searched.spent (v.pending ++ later)) (sym e) (search-pruned P d v.searched.spent v.choices (v.pending ++ later) (subst (IsSearch P d v.searched.spent (v.choices ∷ v.pending ++ later)) e h) pruned)

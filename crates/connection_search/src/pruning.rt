@@ -1,0 +1,115 @@
+//! Lists of choices that labels refute before they are whole.
+
+ghost use Rattle.std.specs.Prelude.{◌≡◌, ℕ, IfOk, IsTrue, List, true};
+ghost use Rattle.calculus.specs.Choices.{Choice};
+ghost use Rattle.search_theory.proofs.BeginningLaws.{is_not_empty};
+ghost use Rattle.connection_search.specs.Exploring.{IsSpace};
+ghost use Rattle.connection_search.specs.Pruning.{IsPruned};
+ghost use Rattle.connection_search.specs.Running.{StandsFor};
+
+use crate::deciding::has_labels;
+use crate::moves::Work;
+use crate::space::Space;
+use crate::system::labels_of;
+use cop_base::NoMemory;
+use prefix_split::is_refuted;
+use term_store::Store;
+
+// How many tests are made before it is asked whether they pay.
+const FIRST_TESTS: u64 = 64;
+// One of so many tests is to refute.
+const TESTS_PER_REFUTATION: u64 = 2;
+// Where they do not pay, one of so many lists is tested.
+const LISTS_PER_TEST: u64 = 16;
+
+/// The tests of labels that were made, how many refuted, and how many lists were passed over since
+/// the last one.
+#[derive(Clone, Copy)]
+pub(crate) struct Tests {
+    made: u64,
+    refuted: u64,
+    passed: u64,
+}
+
+impl Tests {
+    pub fn new() -> Tests {
+        Tests {
+            made: 0,
+            refuted: 0,
+            passed: 0,
+        }
+    }
+
+    // Whether tests pay, so far as is known.
+    fn pay(&self) -> bool {
+        self.made < FIRST_TESTS || self.refuted.saturating_mul(TESTS_PER_REFUTATION) >= self.made
+    }
+
+    // Whether the next list is to be tested.
+    fn is_due(&mut self) -> bool {
+        self.passed = self.passed.saturating_add(1);
+        if self.pay() || self.passed >= LISTS_PER_TEST {
+            self.passed = 0;
+            return true;
+        }
+        false
+    }
+
+    fn count(&mut self, refuted: bool) {
+        self.made = self.made.saturating_add(1);
+        if refuted {
+            self.refuted = self.refuted.saturating_add(1);
+        }
+    }
+}
+
+impl Space<'_> {
+    // Whether the labels of the connections made so far cannot be equal.
+    fn is_refuted(&self, store: &Store, work: &Work) -> Result<bool, NoMemory>
+        requires { (base : ℕ) × (c : List Choice)
+            × StandsFor self.now.problem.now self.now.matrix.now base self.now.limit c
+            store.now.store work.now.tree.steps.items work.now.tree.goals.items
+            work.now.tree.open }
+        ensures { IfOk result (λ refuted. refuted ≡ true → (base : ℕ) (c : List Choice)
+            → StandsFor self.now.problem.now self.now.matrix.now base self.now.limit c
+            store.now.store work.now.tree.steps.items work.now.tree.goals.items
+            work.now.tree.open
+            → IsTrue (is_not_empty c) → IsPruned self.now.problem.now self.now.limit c) }
+    {
+        let logic = self.problem.setting().logic();
+        if !has_labels(logic) {
+            return Ok(false);
+        }
+        let system = labels_of(work.alloc, self.matrix, &work.tree)?;
+        let refuted = is_refuted(work.alloc, store, logic, &system)?;
+        Ok(refuted)
+    }
+
+    /// Whether the list of choices may be dropped: it is known that the limit is left, and no closed
+    /// tableau begins with it, as labels show. A list without open goals is not tested here.
+    pub(crate) fn is_pruned(
+        &self,
+        store: &Store,
+        work: &mut Work,
+        left: bool,
+    ) -> Result<bool, NoMemory>
+        requires { (base : ℕ) × (c : List Choice)
+            × StandsFor self.now.problem.now self.now.matrix.now base self.now.limit c
+            store.now.store work.old.tree.steps.items work.old.tree.goals.items
+            work.old.tree.open }
+        ensures left { IfOk result (λ pruned. pruned ≡ true → left ≡ true) }
+        ensures pruned { IfOk result (λ pruned. pruned ≡ true → (base : ℕ) (c : List Choice)
+            → StandsFor self.now.problem.now self.now.matrix.now base self.now.limit c
+            store.now.store work.old.tree.steps.items work.old.tree.goals.items
+            work.old.tree.open
+            → IsTrue (is_not_empty c) → IsPruned self.now.problem.now self.now.limit c) }
+        ensures tree { work.new.tree ≡ work.old.tree }
+    {
+        if !left || work.tree.open.is_none() || !work.tests.is_due() {
+            return Ok(false);
+        }
+        let refuted = self.is_refuted(store, work)?;
+        work.tests.count(refuted);
+        Ok(refuted)
+    }
+}
