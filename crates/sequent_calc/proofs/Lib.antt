@@ -1,3 +1,4 @@
 pub mod TermLists
 pub mod Entries
 pub mod Freshness
+pub mod ByNumber

@@ -31,29 +31,20 @@ pub enum LeafTest<'a> {
     IsForbidden(&'a Problem, &'a Names, &'a Label),
 }
 
-/// The first name of this number.
+/// The first eigenvariable of this number.
 pub fn eigen_named(names: &Names, number: u32) -> Option<&(u32, Label)>
     ensures { option_map the_eigen (option_copied result)
         ≡ eigen_named (the_names names.now) number }
 {
-    for name in names.eigens.items() {
-        if name.0 == number {
-            return Some(name);
-        }
-    }
-    None
+    names.eigens.named(number)
 }
 
+/// The first spare constant of this number.
 pub fn spare_named(names: &Names, number: u32) -> Option<&(u32, Home)>
     ensures { option_map the_spare (option_copied result)
         ≡ spare_named (the_names names.now) number }
 {
-    for name in names.spares.items() {
-        if name.0 == number {
-            return Some(name);
-        }
-    }
-    None
+    names.spares.named(number)
 }
 
 fn home_holds(mark: Mark, home: &Home) -> bool

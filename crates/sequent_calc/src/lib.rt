@@ -11,6 +11,7 @@ mod derivation;
 mod entry;
 mod leaf;
 mod names;
+mod numbered;
 mod rules;
 mod step;
 #[cfg(test)]

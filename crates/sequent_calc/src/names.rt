@@ -1,8 +1,11 @@
 //! The names of a derivation and where they may stand.
 
-ghost use Rattle.std.specs.Prelude.{◌≡◌, ◌++◌, ◌∷◌, [], map, OnOk, OnErr};
+ghost use Rattle.std.specs.Option.{option_map};
+ghost use Rattle.std.specs.Prelude.{◌≡◌, ◌==◌, ◌++◌, ◌∷◌, [], find, map, option_copied, OnOk};
+ghost use Rattle.std.specs.Prelude.{OnErr};
 ghost use Rattle.sequent_calc.specs.NamesView.{the_eigen, the_spare};
 
+use crate::numbered::{found, may_follow};
 use cop_base::NoMemory;
 use logic_rules::Label;
 use std::alloc::Global;
@@ -20,16 +23,21 @@ pub enum Home {
 #[derive(Drop)]
 pub struct EigenList {
     items: Vec<(u32, Label)>,
+    // Whether the numbers rise, so that a name is soon found.
+    rises: bool,
 }
 
 impl Model for EigenList {
-    ghost use Rattle.std.specs.Prelude.{List, map};
+    ghost use Rattle.std.specs.List.Sorted.{IsNonDecreasingBy};
+    ghost use Rattle.std.specs.Prelude.{◌≡◌, List, map, true};
     ghost use Rattle.calculus.specs.Derivations as derivation;
     ghost use Rattle.sequent_calc.specs.NamesView.{the_eigen};
 
     ghost Value = { List derivation.EigenName };
 
     ghost view = { λ a. map the_eigen a.items.items };
+
+    ghost invariant = { λ a. a.rises ≡ true → IsNonDecreasingBy (λ x. x.0) a.items.items };
 }
 
 impl EigenList {
@@ -39,6 +47,7 @@ impl EigenList {
     {
         EigenList {
             items: Vec::new(alloc),
+            rises: true,
         }
     }
 
@@ -47,8 +56,18 @@ impl EigenList {
         ensures ok { OnOk result (self.new ≡ self.old ++ the_eigen item ∷ []) }
         ensures err { OnErr result (self.new ≡ self.old) }
     {
+        let rises = self.rises && may_follow(self.items.as_slice(), item.0);
         self.items.push(item)?;
+        self.rises = rises;
         Ok(())
+    }
+
+    /// The first eigenvariable of the number.
+    pub fn named(&self, number: u32) -> Option<&(u32, Label)>
+        ensures { option_map the_eigen (option_copied result)
+            ≡ find (λ x. x.number == number) self.now }
+    {
+        found(self.items.as_slice(), self.rises, number)
     }
 
     /// The eigenvariables with their homes, in order.
@@ -64,16 +83,21 @@ impl EigenList {
 #[derive(Drop)]
 pub struct SpareList {
     items: Vec<(u32, Home)>,
+    // Whether the numbers rise, so that a name is soon found.
+    rises: bool,
 }
 
 impl Model for SpareList {
-    ghost use Rattle.std.specs.Prelude.{List, map};
+    ghost use Rattle.std.specs.List.Sorted.{IsNonDecreasingBy};
+    ghost use Rattle.std.specs.Prelude.{◌≡◌, List, map, true};
     ghost use Rattle.calculus.specs.Derivations as derivation;
     ghost use Rattle.sequent_calc.specs.NamesView.{the_spare};
 
     ghost Value = { List derivation.SpareName };
 
     ghost view = { λ a. map the_spare a.items.items };
+
+    ghost invariant = { λ a. a.rises ≡ true → IsNonDecreasingBy (λ x. x.0) a.items.items };
 }
 
 impl SpareList {
@@ -83,6 +107,7 @@ impl SpareList {
     {
         SpareList {
             items: Vec::new(alloc),
+            rises: true,
         }
     }
 
@@ -91,8 +116,18 @@ impl SpareList {
         ensures ok { OnOk result (self.new ≡ self.old ++ the_spare item ∷ []) }
         ensures err { OnErr result (self.new ≡ self.old) }
     {
+        let rises = self.rises && may_follow(self.items.as_slice(), item.0);
         self.items.push(item)?;
+        self.rises = rises;
         Ok(())
+    }
+
+    /// The first spare constant of the number.
+    pub fn named(&self, number: u32) -> Option<&(u32, Home)>
+        ensures { option_map the_spare (option_copied result)
+            ≡ find (λ x. x.number == number) self.now }
+    {
+        found(self.items.as_slice(), self.rises, number)
     }
 
     /// The spare constants with their homes, in order.
