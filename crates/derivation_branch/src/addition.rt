@@ -22,7 +22,7 @@ pub enum Added<'a> {
     Fork(SharedEntry<'a>, SharedEntry<'a>),
 }
 
-fn component<'a>(part: Signed<'a>, substitution: usize, label: usize) -> SharedEntry<'a>
+fn component<'a>(part: Signed<'a>, substitution: u32, label: u32) -> SharedEntry<'a>
     ensures entry { (table : List (List tree.Term)) → (labels : List derivation.Label)
         → the_shared table labels result ≡ entry_at (get_or labels label [])
         (signed_under table substitution (the_signed part.entry)) }
@@ -39,7 +39,7 @@ fn component<'a>(part: Signed<'a>, substitution: usize, label: usize) -> SharedE
 
 /// The components of an entry at the label of a place. Where the entry is quantified, `inner` is
 /// the place of its substitution with the argument of the step before it.
-pub fn added_by<'a>(used: SharedEntry<'a>, inner: usize, label: usize) -> Added<'a>
+pub fn added_by<'a>(used: SharedEntry<'a>, inner: u32, label: u32) -> Added<'a>
     ensures added { (table : List (List tree.Term)) → (labels : List derivation.Label)
         → (t : derivation.TermArg) → PutsArgument table used.entry.substitution inner
         (shape_of used.entry.sign (the_formula used.entry.formula.now)) t

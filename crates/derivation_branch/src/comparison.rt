@@ -19,13 +19,13 @@ use formula_core::{Formula, Term, Terms};
 #[derive(Clone, Copy)]
 enum Head<'a> {
     Var(u32),
-    Fun(SymbolId, &'a Terms, usize),
+    Fun(SymbolId, &'a Terms, u32),
     Eigen(u32),
     Spare(u32),
 }
 
 // The term as it is, under the substitution at a place.
-fn bare_head(t: &Term, place: usize) -> Head<'_>
+fn bare_head(t: &Term, place: u32) -> Head<'_>
     ensures head { (table : List (List tree.Term)) → get_or table place [] ≡ []
         → the_head table result ≡ the_term t.now }
     ensures within { (n : ℕ) → place < n → IsHeadWithin n result }
@@ -38,7 +38,7 @@ fn bare_head(t: &Term, place: usize) -> Head<'_>
     }
 }
 
-fn head_under<'a>(substitutions: &Substitutions<'a>, place: usize, t: &'a Term) -> Head<'a>
+fn head_under<'a>(substitutions: &Substitutions<'a>, place: u32, t: &'a Term) -> Head<'a>
     requires { place < length substitutions.now }
     ensures head { the_head substitutions.now result
         ≡ term_under substitutions.now place (the_term t.entry.now) }
@@ -60,9 +60,9 @@ fn head_under<'a>(substitutions: &Substitutions<'a>, place: usize, t: &'a Term) 
 fn is_equal_term<'a>(
     substitutions: &Substitutions<'a>,
     t: &'a Term,
-    i: usize,
+    i: u32,
     u: &'a Term,
-    j: usize,
+    j: u32,
 ) -> bool
     requires first { i < length substitutions.now }
     requires second { j < length substitutions.now }
@@ -88,9 +88,9 @@ fn is_equal_term<'a>(
 fn are_equal_terms<'a>(
     substitutions: &Substitutions<'a>,
     ts: &'a Terms,
-    i: usize,
+    i: u32,
     us: &'a Terms,
-    j: usize,
+    j: u32,
 ) -> bool
     requires first { i < length substitutions.now }
     requires second { j < length substitutions.now }
@@ -117,9 +117,9 @@ fn is_atom_of<'a>(
     substitutions: &Substitutions<'a>,
     p: SymbolId,
     ts: &'a Terms,
-    i: usize,
+    i: u32,
     g: &'a Formula,
-    j: usize,
+    j: u32,
 ) -> bool
     requires first { i < length substitutions.now }
     requires second { j < length substitutions.now }
@@ -137,9 +137,9 @@ fn is_atom_of<'a>(
 pub fn are_same_atom<'a>(
     substitutions: &Substitutions<'a>,
     f: &'a Formula,
-    i: usize,
+    i: u32,
     g: &'a Formula,
-    j: usize,
+    j: u32,
 ) -> bool
     requires first { i < length substitutions.now }
     requires second { j < length substitutions.now }

@@ -17,8 +17,8 @@ use std::alloc::Global;
 pub struct SharedEntry<'a> {
     pub sign: Sign,
     pub formula: &'a Formula,
-    pub substitution: usize,
-    pub label: usize,
+    pub substitution: u32,
+    pub label: u32,
 }
 
 /// Whether the entries are T and F of one atom at one label.

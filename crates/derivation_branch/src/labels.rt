@@ -10,6 +10,7 @@ ghost use Rattle.derivation_branch.specs.Occurring.{IsLonger};
 ghost use Rattle.derivation_branch.specs.TableView.{IsLabelAt};
 ghost use Rattle.logic_rules.specs.MarkView.{the_character};
 
+use crate::places::place_of;
 use cop_base::NoMemory;
 use logic_rules::{Label, Logic, Mark};
 use std::alloc::Global;
@@ -19,7 +20,7 @@ use std::marker::Model;
 /// of the table.
 #[derive(Drop)]
 pub struct Labels {
-    links: Vec<(Mark, usize)>,
+    links: Vec<(Mark, u32)>,
 }
 
 impl Model for Labels {
@@ -58,19 +59,20 @@ impl Labels {
     }
 
     /// Adds a mark to a label of the table. The answer is the place of the new label.
-    pub fn push(&mut self, front: usize, mark: Mark) -> Result<usize, NoMemory>
+    pub fn push(&mut self, front: u32, mark: Mark) -> Result<u32, NoMemory>
         requires { front < length self.old }
         ensures place { IfOk result (λ k. k ≡ length self.old) }
         ensures pushed { OnOk result
             (self.new ≡ self.old ++ (get_or self.old front [] ++ the_character mark ∷ []) ∷ []) }
         ensures err { OnErr result (self.new ≡ self.old) }
     {
+        let place = place_of(self.links.len() + 1)?;
         self.links.push((mark, front))?;
-        Ok(self.links.len())
+        Ok(place)
     }
 
     /// The place of the root.
-    pub fn root(&self) -> usize
+    pub fn root(&self) -> u32
         ensures within { result < length self.now }
         ensures root { get_or self.now result [] ≡ [] }
     {
@@ -79,7 +81,7 @@ impl Labels {
     }
 
     // The place of a label with one mark more.
-    fn extend(&mut self, front: usize, mark: Mark) -> Result<usize, NoMemory>
+    fn extend(&mut self, front: u32, mark: Mark) -> Result<u32, NoMemory>
         requires { front < length self.old }
         ensures place { IfOk result (λ k.
             IsLabelAt self.new k (get_or self.old front [] ++ the_character mark ∷ [])) }
@@ -90,7 +92,7 @@ impl Labels {
     }
 
     /// Adds a label of a text. The answer is its place.
-    pub fn add(&mut self, label: &Label) -> Result<usize, NoMemory>
+    pub fn add(&mut self, label: &Label) -> Result<u32, NoMemory>
         ensures place { IfOk result (λ k. IsLabelAt self.new k label.now) }
         ensures grown { OnOk result (IsLonger self.old self.new) }
     {
@@ -102,7 +104,7 @@ impl Labels {
     }
 
     // The label behind which a pi step puts its mark.
-    fn before_pi(&self, logic: Logic, from: usize) -> usize
+    fn before_pi(&self, logic: Logic, from: u32) -> u32
         requires { from < length self.now }
         ensures within { result < length self.now }
         ensures before { (m : derivation.Mark)
@@ -116,7 +118,7 @@ impl Labels {
 
     /// Adds the label of a pi step from that of a place with the new mark. In S5 that is the mark
     /// alone.
-    pub fn add_after_pi(&mut self, logic: Logic, from: usize, mark: Mark) -> Result<usize, NoMemory>
+    pub fn add_after_pi(&mut self, logic: Logic, from: u32, mark: Mark) -> Result<u32, NoMemory>
         requires { from < length self.old }
         ensures place { IfOk result (λ k. IsLabelAt self.new k
             (pi_label logic (get_or self.old from []) (the_character mark))) }
@@ -128,14 +130,14 @@ impl Labels {
     }
 
     /// The label at a place.
-    pub fn read(&self, alloc: Global, place: usize) -> Result<Label, NoMemory>
+    pub fn read(&self, alloc: Global, place: u32) -> Result<Label, NoMemory>
         requires { place < length self.now }
         ensures { IfOk result (λ w. w ≡ get_or self.now place []) }
     {
         let mut marks = Vec::new(alloc);
         let mut at = place;
         while at > 0 {
-            let (mark, front) = self.links[at - 1];
+            let (mark, front) = self.links[at as usize - 1];
             marks.push(mark)?;
             at = front;
         }
@@ -144,7 +146,7 @@ impl Labels {
     }
 
     /// Whether the labels at two places have the same marks in the same order.
-    pub fn are_equal(&self, alloc: Global, first: usize, second: usize) -> Result<bool, NoMemory>
+    pub fn are_equal(&self, alloc: Global, first: u32, second: u32) -> Result<bool, NoMemory>
         requires first { first < length self.now }
         requires second { second < length self.now }
         ensures { IfOk result (λ r. r

@@ -9,6 +9,7 @@ mod entry;
 mod labels;
 mod leaves;
 mod number_set;
+mod places;
 mod substitution;
 
 pub use addition::{Added, added_by};

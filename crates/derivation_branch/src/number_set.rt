@@ -1,8 +1,9 @@
 //! Sets of numbers that grow along a branch and are cut back with it.
 
-ghost use Rattle.std.specs.Prelude.{◌≡◌, ◌==◌, ◌||◌, ◌++◌, [], ℕ, List, length, take, OnOk};
+ghost use Rattle.std.specs.Prelude.{◌≡◌, ◌==◌, ◌||◌, ◌++◌, [], ℕ, List, length, take, IfOk, OnOk};
 ghost use Rattle.derivation_branch.specs.Occurring.{IsLonger, holds};
 
+use crate::places::place_of;
 use cop_base::NoMemory;
 use indexmap::IndexSet;
 use std::alloc::Global;
@@ -33,10 +34,10 @@ impl NumberSet {
     }
 
     /// How many numbers there are.
-    pub fn len(&self) -> usize
-        ensures { result ≡ length self.now }
+    pub fn count(&self) -> Result<u32, NoMemory>
+        ensures { IfOk result (λ n. n ≡ length self.now) }
     {
-        self.set.len()
+        place_of(self.set.len())
     }
 
     /// Whether the number was added and not cut off.
@@ -56,10 +57,10 @@ impl NumberSet {
         Ok(())
     }
 
-    /// Keeps the first `len` numbers.
-    pub fn cut(&mut self, len: usize)
-        ensures { self.new ≡ take len self.old }
+    /// Keeps the first numbers, so many.
+    pub fn cut(&mut self, count: u32)
+        ensures { self.new ≡ take count self.old }
     {
-        self.set.truncate(len);
+        self.set.truncate(count as usize);
     }
 }

@@ -4,6 +4,7 @@ ghost use Rattle.std.specs.Prelude.{◌≡◌, ◌<◌, ◌++◌, ◌∷◌, [],
 ghost use Rattle.derivation_branch.specs.Putting.{AreClosed, IsClosed, value_at};
 ghost use Rattle.derivation_branch.specs.TableView.{the_value};
 
+use crate::places::place_of;
 use cop_base::NoMemory;
 use formula_core::Term;
 use std::alloc::Global;
@@ -25,7 +26,7 @@ pub enum Value<'a> {
 /// copied, so a branch may have many.
 #[derive(Drop)]
 pub struct Substitutions<'a> {
-    links: Vec<(Value<'a>, usize)>,
+    links: Vec<(Value<'a>, u32)>,
 }
 
 impl<'a> Model for Substitutions<'a> {
@@ -59,7 +60,7 @@ impl<'a> Substitutions<'a> {
 
     /// Puts a term without variables before a substitution of the table. The answer is the place of
     /// the new one.
-    pub fn put(&mut self, outer: usize, term: Value<'a>) -> Result<usize, NoMemory>
+    pub fn put(&mut self, outer: u32, term: Value<'a>) -> Result<u32, NoMemory>
         requires within { outer < length self.old }
         requires closed { IsClosed (the_value term) }
         ensures place { IfOk result (λ k. k ≡ length self.old) }
@@ -68,12 +69,13 @@ impl<'a> Substitutions<'a> {
         ensures others { OnOk result (AreClosed (get_or self.old outer [])) }
         ensures err { OnErr result (self.new ≡ self.old) }
     {
+        let place = place_of(self.links.len() + 1)?;
         self.links.push((term, outer))?;
-        Ok(self.links.len())
+        Ok(place)
     }
 
     /// What the substitution at a place puts for the variable of a number.
-    pub fn value(&self, place: usize, variable: u32) -> Value<'a>
+    pub fn value(&self, place: u32, variable: u32) -> Value<'a>
         requires { place < length self.now }
         ensures value { the_value result ≡ value_at (get_or self.now place []) variable }
         ensures closed { AreClosed (get_or self.now place []) }
@@ -82,7 +84,7 @@ impl<'a> Substitutions<'a> {
         let mut at = place;
         let mut left = variable;
         while at > 0 {
-            let (term, outer) = self.links[at - 1];
+            let (term, outer) = self.links[at as usize - 1];
             if left == 0 {
                 return term;
             }

@@ -60,7 +60,7 @@ fn is_reachable(
     alloc: Global,
     logic: Logic,
     labels: &Labels,
-    from: usize,
+    from: u32,
     modal: &ModalArg,
 ) -> Result<bool, NoMemory>
     requires { from < length labels.now }
@@ -97,7 +97,7 @@ fn home_is(
     alloc: Global,
     names: &Names,
     labels: &Labels,
-    at: usize,
+    at: u32,
     term: &TermArg,
 ) -> Result<bool, NoMemory>
     requires { at < length labels.now }
@@ -118,7 +118,7 @@ fn term_allowed(
     problem: &Problem,
     names: &Names,
     labels: &Labels,
-    at: usize,
+    at: u32,
     term: &TermArg,
 ) -> Result<bool, NoMemory>
     requires { at < length labels.now }
@@ -142,8 +142,8 @@ pub fn use_fault(
     names: &Names,
     state: &State<'_>,
     kind: Kind,
-    from: usize,
-    at: usize,
+    from: u32,
+    at: u32,
     modal: &ModalArg,
     term: &TermArg,
 ) -> Result<Option<StepFault>, NoMemory>

@@ -12,11 +12,11 @@ use std::alloc::{AllocError, AllocFailed, Global};
 #[derive(Clone, Copy)]
 pub struct BranchEntry<'a> {
     pub shared: SharedEntry<'a>,
-    pub eigens: usize,
-    pub marks: usize,
+    pub eigens: u32,
+    pub marks: u32,
 }
 
-fn placed<'a>(shared: SharedEntry<'a>, eigens: usize, marks: usize) -> BranchEntry<'a>
+fn placed<'a>(shared: SharedEntry<'a>, eigens: u32, marks: u32) -> BranchEntry<'a>
     ensures { result ≡ placed eigens marks shared.entry }
 {
     BranchEntry {
@@ -113,7 +113,7 @@ impl<'a> OpenSequents<'a> {
 
     /// Replaces the current sequent by those that a use step leads to, where so many eigenvariables
     /// and marks occur.
-    pub fn advance(&mut self, added: Added<'a>, eigens: usize, marks: usize) -> Result<(), NoMemory>
+    pub fn advance(&mut self, added: Added<'a>, eigens: u32, marks: u32) -> Result<(), NoMemory>
         requires is_open { self.old.is_open ≡ true }
         requires nested { IsNested self.old }
         ensures advanced { OnOk result (sequents_of self.new

@@ -33,9 +33,9 @@ use std::alloc::Global;
 fn label_after(
     labels: &mut Labels,
     logic: Logic,
-    from: usize,
+    from: u32,
     modal: &ModalArg,
-) -> Result<usize, NoMemory>
+) -> Result<u32, NoMemory>
     requires { from < length labels.old }
     ensures place { IfOk result (λ k. IsLabelAt labels.new k
         (label_after logic (get_or labels.old from []) (the_modal modal.now))) }
@@ -51,9 +51,9 @@ fn label_after(
 // Puts a value before the substitution at a place. The answer is the place of the new one.
 fn put_value<'a>(
     substitutions: &mut Substitutions<'a>,
-    outer: usize,
+    outer: u32,
     value: Value<'a>,
-) -> Result<usize, NoMemory>
+) -> Result<u32, NoMemory>
     requires within { outer < length substitutions.old }
     requires closed { IsClosed (the_value value) }
     ensures within { IfOk result (λ k. k < length substitutions.new) }
@@ -69,9 +69,9 @@ fn put_value<'a>(
 // The place of the substitution of the components.
 fn put_argument<'a>(
     substitutions: &mut Substitutions<'a>,
-    outer: usize,
+    outer: u32,
     term: &'a TermArg,
-) -> Result<usize, NoMemory>
+) -> Result<u32, NoMemory>
     requires within { outer < length substitutions.old }
     requires closed { IsClosedArgument (the_term_arg term.now) }
     ensures within { IfOk result (λ k. k < length substitutions.new) }
@@ -91,7 +91,7 @@ fn grow<'a>(
     names: &Names,
     state: &mut State<'a>,
     used: BranchEntry<'a>,
-    at: usize,
+    at: u32,
     modal: &ModalArg,
     term: &'a TermArg,
 ) -> Result<(), NoMemory>
@@ -117,8 +117,8 @@ fn grow<'a>(
     add_brought_eigens(&mut state.eigens, shared.formula, term)?;
     add_brought_marks(names, &mut state.marks, shared.formula, modal, term)?;
     let added = added_by(shared, inner, at);
-    let eigens = state.eigens.len();
-    let marks = state.marks.len();
+    let eigens = state.eigens.count()?;
+    let marks = state.marks.count()?;
     state.sequents.advance(added, eigens, marks)?;
     Ok(())
 }

@@ -39,7 +39,7 @@ returns c =
       brought = record { eigens = c.in_ok-add_brought_eigens.ensures.held; marks = c.in_ok-add_brought_marks.ensures.held };
       places = c.added_by-added.ensures.at;
       added = c.added_by-added.ensures.added;
-      after = c.in_ok-advance.ensures.advanced ∙ (λ i. after_added (c.len-eigens.ensures i) (c.len-marks.ensures i) added xs (waiting_in s.sequents));
+      after = c.in_ok-advance.ensures.advanced ∙ (λ i. after_added (c.in_ok-eigens.ensures i) (c.in_ok-marks.ensures i) added xs (waiting_in s.sequents));
     } in
     record {
       kept = record { nested = c.in_ok-advance.ensures.nested; sequents = grown-kept names s.substitutions more s.labels s.eigens eigens s.marks marks s.sequents.is_open xs forks c.args.used c.in_ok-inner.inner c.args.at x t added now growth };
