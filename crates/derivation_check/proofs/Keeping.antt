@@ -1,27 +1,23 @@
 -- The state of a judgement is kept while its tables and sets grow, while the branch grows, and while it is cut back.
-use Rattle.std.proofs.Common.{◌≡◌, ◌≢◌, ℕ, zero, suc, ◌+◌, ◌<◌, ◌≤◌, Bool, true, false, ◌||◌, ◌&&◌, List, [], ◌∷◌, ◌++◌, length, get_or, map, take, Option, None, Some, IsTrue, inl, inr, refl, sym, ◌∙◌, ap, subst, arith}
-use Rattle.std.proofs.lemmas.Bool.{and_parts}
+use Rattle.std.proofs.Common.{◌≡◌, ℕ, ◌+◌, ◌<◌, ◌≤◌, Bool, true, false, ◌||◌, ◌&&◌, List, [], ◌∷◌, ◌++◌, length, get_or, map, take, None, Some, inl, inr, refl, sym, ◌∙◌, ap, subst, arith}
 use Rattle.std.proofs.Math.ListN.{get_or-map}
 use Rattle.std.proofs.lemmas.List.{append_assoc, length-map, map-append, map_push, take_all, take-append-le}
-use Rattle.calculus.specs.declared.sign.Sign.{Sign}
-use Rattle.calculus.specs.declared.setting.Logic.{Logic}
-use Rattle.calculus.specs.Calculus.{Children, closed, one, two, with_argument, with_components, term_fits, label_after, is_eigen, is_in_home, eigen_occurs, character_occurs}
-use Rattle.calculus.specs.Derivations.{Entry, Sequent, Label, Names, new_mark, ModalArg, TermArg, no_term, by_term, by_name}
+use Rattle.calculus.specs.Calculus.{with_argument, with_components, term_fits, is_eigen, is_in_home, eigen_occurs, character_occurs}
+use Rattle.calculus.specs.Derivations.{Sequent, Label, Names, new_mark, ModalArg, TermArg, no_term, by_term, by_name}
 use Rattle.calculus.specs.Judgement.{open_after}
 use Rattle.calculus.specs.Kinds.{shape_of, components}
 use Rattle.calculus.specs.Syntax.{Term, Formula}
 use Rattle.formula_core.specs.FormulaView.{the_formula}
-use Rattle.derivation_branch.specs.AddedView.{AreAddedAt, IsAddedAt, children_added, PutsArgument}
-use Rattle.derivation_branch.specs.EntryView.{IsWithin, formula_under, the_shared}
+use Rattle.derivation_branch.specs.AddedView.{AreAddedAt, IsAddedAt, children_added}
+use Rattle.derivation_branch.specs.EntryView.{IsWithin, formula_under}
 use Rattle.derivation_branch.specs.Occurring.{IsLonger, holds, in_argument, in_modal, quantifier_binds}
 use Rattle.derivation_branch.specs.Putting.{AreClosed, formula_with_all}
-use Rattle.derivation_branch.specs.TableView.{IsLabelAt}
 use Rattle.derivation_branch.specs.declared.addition.Added.{Added}
 use Rattle.derivation_branch.specs.declared.addition.Added.TheVariants.{One, Both, Fork}
 use Rattle.derivation_branch.specs.declared.entry.SharedEntry.{SharedEntry}
 use Rattle.derivation_branch.proofs.ChildLaws.{OnEach, Grown, Marked, binds-under, children-grown, children-marked, each-all, each-both, each-weaker}
 use Rattle.derivation_branch.proofs.TableLaws.{longer-at, longer-size, pushed-at, pushed-longer}
-use Rattle.derivation_check.specs.OpenSequents.{IsLastOf, after_added, open_sequents, placed, waiting}
+use Rattle.derivation_check.specs.OpenSequents.{IsLastOf, after_added, placed}
 use Rattle.derivation_check.specs.StateView.{AreKept, AreWithin, HasArgument, IsLabelAfter, StandsOn, Tells, Wait, eigens_of, last_of, marks_of, the_entry, the_sequent}
 use Rattle.derivation_check.specs.declared.open_sequents.BranchEntry.{BranchEntry}
 

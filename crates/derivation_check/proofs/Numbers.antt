@@ -1,9 +1,9 @@
 -- Entries are numbered from 1, and what stands at a number.
-use Rattle.std.proofs.Common.{◌≡◌, ◌≢◌, ℕ, zero, suc, ◌-◌, ◌<◌, ◌≤◌, ◌∙◌, List, length, get_or, map, Option, None, Some, refl, ap, arith, slice_get}
+use Rattle.std.proofs.Common.{◌≡◌, ◌≢◌, ℕ, zero, suc, ◌-◌, ◌<◌, ◌≤◌, ◌∙◌, List, length, get_or, map, None, Some, refl, ap, arith, slice_get}
 use Rattle.std.specs.Option.{option_map}
 use Rattle.std.proofs.lemmas.Option.{slice_get-map, slice_get_past, slice_get_read}
 use Rattle.calculus.specs.Calculus.{entry_of}
-use Rattle.calculus.specs.Derivations.{Sequent, Entry}
+use Rattle.calculus.specs.Derivations.{Sequent}
 use Rattle.derivation_check.specs.StateView.{IsNumbered}
 use Rattle.derivation_check.specs.declared.open_sequents.BranchEntry.{BranchEntry}
 

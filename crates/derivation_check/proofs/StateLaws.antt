@@ -1,15 +1,14 @@
 -- What the calls on a state keep of it, and what they make of the open sequents.
-use Rattle.std.proofs.Common.{◌≡◌, ℕ, zero, suc, ◌<◌, ◌≤◌, Bool, true, false, ◌||◌, ◌&&◌, not, List, [], ◌∷◌, ◌++◌, length, get_or, map, take, Option, None, Some, Ok, Err, Result, IsTrue, refl, sym, ◌∙◌, ap, subst, arith}
+use Rattle.std.proofs.Common.{◌≡◌, ℕ, zero, suc, ◌<◌, Bool, true, false, ◌||◌, ◌&&◌, not, List, [], ◌∷◌, length, get_or, map, take, Option, None, Some, Ok, IsTrue, refl, sym, ◌∙◌, ap, subst, arith}
 use Rattle.std.proofs.lemmas.Bool.{and_parts, or_parts}
 use Rattle.std.specs.List.{list_any}
-use Rattle.std.proofs.lemmas.List.{length-map}
 use Rattle.calculus.specs.declared.fault.StepFault.{StepFault}
 use Rattle.calculus.specs.declared.fault.StepFault.TheVariants.{WrongArguments, UnknownName, NotReachable, NotNew, WrongHome, NotAllowed}
 use Rattle.calculus.specs.declared.kind.Shape.{Shape}
 use Rattle.calculus.specs.declared.kind.Shape.TheVariants.{Alpha, Beta, Gamma, Delta, Literal}
 use Rattle.calculus.specs.declared.setting.Logic.{Logic}
 use Rattle.calculus.specs.declared.sign.Sign.TheVariants.{F}
-use Rattle.calculus.specs.Calculus.{Children, closed, condition, first_fault, conditions_of_use, use_entry, children_of, has_step, home_is, is_known, is_reachable, modal_fits, term_fits, term_allowed, is_forbidden, is_eigen, is_in_home, character_is_new, eigen_is_new, character_occurs, eigen_occurs, label_after, with_argument, with_components}
+use Rattle.calculus.specs.Calculus.{Children, closed, condition, first_fault, conditions_of_use, use_entry, children_of, has_step, home_is, is_known, is_reachable, modal_fits, term_fits, term_allowed, is_forbidden, is_eigen, is_in_home, character_is_new, eigen_is_new, label_after, with_argument, with_components}
 use Rattle.calculus.specs.Derivations.{Entry, Sequent, Label, Names, new_mark, character_eq, ModalArg, TermArg, no_term, by_term, by_name, first_sequent}
 use Rattle.calculus.specs.Judgement.{open_after}
 use Rattle.calculus.specs.Kinds.{shape_of, modal_of, components}
@@ -22,7 +21,7 @@ use Rattle.logic_rules.proofs.ProblemFacts.{kept}
 use Rattle.derivation_branch.specs.AddedView.{AreAddedAt, PutsArgument, children_added}
 use Rattle.derivation_branch.specs.EntryView.{IsWithin, formula_under}
 use Rattle.derivation_branch.specs.Occurring.{IsLonger}
-use Rattle.derivation_branch.specs.Putting.{IsClosed, is_var}
+use Rattle.derivation_branch.specs.Putting.{is_var}
 use Rattle.derivation_branch.specs.TableView.{IsLabelAt}
 use Rattle.derivation_branch.specs.declared.addition.Added.{Added}
 use Rattle.derivation_branch.proofs.ChildLaws.{OnEach}

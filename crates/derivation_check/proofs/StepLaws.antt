@@ -1,12 +1,12 @@
 -- The verdict on a step, by what it leads to.
-use Rattle.std.proofs.Common.{◌≡◌, ℕ, ◌+◌, Bool, true, false, List, [], ◌∷◌, map, Option, None, Some, Ok, Err, Result, refl, sym, ◌∙◌, ap, subst, if◌then◌else◌}
+use Rattle.std.proofs.Common.{◌≡◌, ℕ, ◌+◌, Bool, true, false, List, ◌∷◌, map, Option, None, Some, Ok, Err, Result, sym, ◌∙◌, ap, subst, if◌then◌else◌}
 use Rattle.std.specs.Result.{OnOk}
 use Rattle.calculus.specs.declared.fault.StepFault.{StepFault}
 use Rattle.calculus.specs.declared.fault.StepFault.TheVariants.{NoConnection, NoEntry}
 use Rattle.calculus.specs.declared.fault.CheckFault.TheVariants.{Step as InStep, AllClosed, StillOpen}
 use Rattle.calculus.specs.Calculus.{Children, closed, apply, close_branch, connects, use_entry}
 use Rattle.calculus.specs.Derivations.{Entry, Sequent, Label, Names, Step, ModalArg, TermArg}
-use Rattle.calculus.specs.Judgement.{at_end, open_after, rejected, accepted, verdict_after, verdict_from, Verdict}
+use Rattle.calculus.specs.Judgement.{at_end, open_after, rejected, accepted, verdict_after, verdict_from}
 use Rattle.calculus.specs.Syntax.{Term, Problem}
 use Rattle.derivation_check.specs.OpenSequents.{open_sequents, waiting}
 use Rattle.derivation_check.specs.StateView.{LeadsTo, the_sequent}

@@ -24,7 +24,8 @@ fn read_term_arg(alloc: Global, problem: &Problem, text: &[u8]) -> Result<TermAr
     }
     if let Some(rest) = rest_after(text, b" term ") {
         let term = read_whole_term(alloc, problem, rest)?;
-        return Ok(TermArg::Term(term));
+        let arg = TermArg::term(alloc, term)?;
+        return Ok(arg);
     }
     let Some(rest) = rest_after(text, b" name $$e") else {
         return Err(TextRead::None);
@@ -75,7 +76,8 @@ fn read_args(alloc: Global, problem: &Problem, text: &[u8]) -> Result<(ModalArg,
 {
     if let Some(rest) = rest_after(text, b" to ") {
         let (label, arg) = read_label_and_arg(alloc, problem, rest)?;
-        return Ok((ModalArg::To(label), arg));
+        let modal = ModalArg::to(alloc, label)?;
+        return Ok((modal, arg));
     }
     if let Some(rest) = rest_after(text, b" new $$c") {
         let (n, arg) = read_new_and_arg(alloc, problem, rest)?;

@@ -10,12 +10,12 @@ use Rattle.sequent_calc.specs.declared.step.Step.TheVariants as step
 
 abbrev pub the_modal : modal_arg.ModalArg → derivation.ModalArg
 the_modal modal.None = derivation.no_modal
-the_modal (modal.To w) = derivation.to w
+the_modal (modal.To w) = derivation.to w.value
 the_modal (modal.New n) = derivation.by_new n
 
 abbrev pub the_term_arg : term_arg.TermArg → derivation.TermArg
 the_term_arg term.None = derivation.no_term
-the_term_arg (term.Term t) = derivation.by_term (the_term t)
+the_term_arg (term.Term t) = derivation.by_term (the_term t.value)
 the_term_arg (term.Name n) = derivation.by_name n
 
 abbrev pub the_step : step_type.Step → derivation.Step

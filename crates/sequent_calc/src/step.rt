@@ -1,5 +1,7 @@
-ghost use Rattle.std.specs.Prelude.{◌≡◌, ◌++◌, ◌∷◌, [], map, OnOk, OnErr};
-ghost use Rattle.sequent_calc.specs.StepView.{the_step};
+ghost use Rattle.std.specs.Prelude.{◌≡◌, ◌++◌, ◌∷◌, [], map, IfOk, OnOk, OnErr};
+ghost use Rattle.calculus.specs.Derivations as derivation;
+ghost use Rattle.formula_core.specs.TermView.{the_term};
+ghost use Rattle.sequent_calc.specs.StepView.{the_modal, the_step, the_term_arg};
 
 use cop_base::NoMemory;
 use formula_core::Term;
@@ -8,21 +10,39 @@ use std::alloc::Global;
 use std::marker::Model;
 
 /// What a step with a modal part is given: the label of a nu step, or the number of a pi step's new
-/// mark.
+/// mark. The label lies apart, since most steps have none and a derivation has many.
 #[derive(Drop)]
 pub enum ModalArg {
     None,
-    To(Label),
+    To(Box<Label>),
     New(u32),
 }
 
-/// What a step on a quantifier is given: the term of a gamma step, or the number of a delta step's
-/// eigenvariable.
+/// What a step on a quantifier is given: the term of a gamma step, which lies apart like a label, or
+/// the number of a delta step's eigenvariable.
 #[derive(Drop)]
 pub enum TermArg {
     None,
-    Term(Term),
+    Term(Box<Term>),
     Name(u32),
+}
+
+impl ModalArg {
+    /// The label of a nu step.
+    pub fn to(alloc: Global, label: Label) -> Result<ModalArg, NoMemory>
+        ensures { IfOk result (λ arg. the_modal arg ≡ derivation.to label) }
+    {
+        Ok(ModalArg::To(Box::new(alloc, label)?))
+    }
+}
+
+impl TermArg {
+    /// The term of a gamma step.
+    pub fn term(alloc: Global, term: Term) -> Result<TermArg, NoMemory>
+        ensures { IfOk result (λ arg. the_term_arg arg ≡ derivation.by_term (the_term term)) }
+    {
+        Ok(TermArg::Term(Box::new(alloc, term)?))
+    }
 }
 
 /// A step on the open sequent. Entries have numbers from 1.

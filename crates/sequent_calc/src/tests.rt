@@ -126,17 +126,21 @@ fn label(alloc: Global, marks: &[Mark]) -> Result<Label, NoMemory> {
 fn step(alloc: Global, line: Line) -> Result<Step, NoMemory> {
     let (entry, modal, term) = match line {
         Line::Use(entry) => (entry, ModalArg::None, TermArg::None),
-        Line::UseTo(entry, marks) => (entry, ModalArg::To(label(alloc, marks)?), TermArg::None),
+        Line::UseTo(entry, marks) => (
+            entry,
+            ModalArg::to(alloc, label(alloc, marks)?)?,
+            TermArg::None,
+        ),
         Line::UseNew(entry, number) => (entry, ModalArg::New(number), TermArg::None),
         Line::UseEigen(entry, number) => (
             entry,
             ModalArg::None,
-            TermArg::Term(Term::Eigen(number)),
+            TermArg::term(alloc, Term::Eigen(number))?,
         ),
         Line::UseSpare(entry, number) => (
             entry,
             ModalArg::None,
-            TermArg::Term(Term::Spare(number)),
+            TermArg::term(alloc, Term::Spare(number))?,
         ),
         Line::UseName(entry, number) => (entry, ModalArg::None, TermArg::Name(number)),
         Line::Axiom(given, shown) => return Ok(Step::Axiom { given, shown }),

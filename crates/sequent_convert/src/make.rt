@@ -95,7 +95,8 @@ fn with_term<'a>(
     taken.push(Value::Term(term.copy(alloc)?))?;
     let mut nodes = Vec::new(alloc);
     nodes.push(inside(alloc, &past.spot, term, taken, a)?)?;
-    Ok(Made::Grows(past.arg, TermArg::Term(term_of(alloc, named, term)?), nodes))
+    let arg = TermArg::term(alloc, term_of(alloc, named, term)?)?;
+    Ok(Made::Grows(past.arg, arg, nodes))
 }
 
 // The next value of a gamma position is its term.

@@ -49,7 +49,7 @@ fn by_string<'v>(
     ensures { IfOk result (λ p. the_past p ≡ past_string (number_of named.now.names) logic (the_spot spot.now) (tree.steps (marks_tree string.now) ∷ map the_value rest.now)) }
 {
     let next = spot.after_string(alloc, logic, string)?;
-    let arg = ModalArg::To(label_of(alloc, named, next.label.items())?);
+    let arg = ModalArg::to(alloc, label_of(alloc, named, next.label.items())?)?;
     Ok(Past {
         spot: next,
         arg,

@@ -1,10 +1,10 @@
-use Rattle.std.proofs.Common.{◌≡◌, ◌+◌, ◌∙◌, ◌∷◌, List, length, map, drop, ap, sym, refl, arith}
+use Rattle.std.proofs.Common.{◌≡◌, ◌+◌, ◌∙◌, ◌∷◌, List, length, map, drop, ap, sym, arith}
 use Rattle.std.proofs.lemmas.List.{at_drop_more, length-map}
 use Rattle.std.specs.Option.{option_map_or}
-use Rattle.calculus.specs.Judgement.{verdict_from, verdict_on}
+use Rattle.calculus.specs.Judgement.{verdict_from}
 use Rattle.derivation_check.specs.StateView.{the_sequents}
 use Rattle.derivation_check.specs.VerdictView.{the_verdict}
-use Rattle.sequent_calc.specs.DerivationView.{the_derivation, the_names}
+use Rattle.sequent_calc.specs.DerivationView.{the_names}
 use Rattle.sequent_calc.specs.NamesView.{the_eigen, the_spare}
 use Rattle.sequent_calc.specs.StepView.{the_step}
 use Rattle.sequent_calc.specs.declared.step.Step.{Step}

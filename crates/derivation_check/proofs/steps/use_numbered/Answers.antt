@@ -1,9 +1,9 @@
-use Rattle.std.proofs.Common.{◌≡◌, ◌∙◌, Some, None, ap, refl, reverse, subst, sym}
+use Rattle.std.proofs.Common.{◌≡◌, ◌∙◌, ap, subst, sym}
 use Rattle.calculus.specs.declared.fault.StepFault.TheVariants.{NoEntry}
 use Rattle.calculus.specs.Calculus.{use_entry}
 use Rattle.sequent_calc.specs.DerivationView.{the_names}
 use Rattle.sequent_calc.specs.StepView.{the_modal, the_term_arg}
-use Rattle.derivation_check.specs.StateView.{IsNumbered, StandsOn, the_current, the_entry}
+use Rattle.derivation_check.specs.StateView.{IsNumbered, the_current, the_entry}
 use Rattle.derivation_check.proofs.StepLaws.{leads-same, no_entry-used}
 use Rattle.derivation_check.proofs.steps.use_numbered.Goals as goal
 

@@ -1,6 +1,6 @@
-use Rattle.std.proofs.Common.{◌≡◌, ◌∙◌, [], None, Some, Ok, Err, ap, get_or, refl, reverse, subst, sym}
+use Rattle.std.proofs.Common.{◌≡◌, ◌∙◌, [], Err, ap, get_or, reverse, subst, sym}
 use Rattle.calculus.specs.Calculus.{Children, children_of, label_after, term_fits}
-use Rattle.calculus.specs.Kinds.{modal_of, shape_of}
+use Rattle.calculus.specs.Kinds.{modal_of}
 use Rattle.formula_core.specs.FormulaView.{the_formula}
 use Rattle.sequent_calc.specs.ChildrenView.{faulty}
 use Rattle.sequent_calc.specs.DerivationView.{the_names}
