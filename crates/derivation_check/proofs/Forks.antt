@@ -1,5 +1,5 @@
 -- Sequents that wait stay as they are while the branch grows, and while it is cut back to a fork.
-use Rattle.std.proofs.Common.{◌≡◌, ℕ, ◌+◌, ◌≤◌, List, [], ◌∷◌, ◌++◌, length, take, reverse, Bool, true, Some, refl, sym, ◌∙◌, ap, subst, arith}
+use Rattle.std.proofs.Common.{◌≡◌, ℕ, ◌≤◌, List, [], ◌∷◌, ◌++◌, length, take, reverse, Bool, true, Some, refl, sym, ◌∙◌, ap, subst, arith}
 use Rattle.std.proofs.lemmas.List.{take-append-le, take-take, take_all, length-take-le, length-append, reverse-append, append_assoc}
 use Rattle.derivation_check.specs.OpenSequents.{waiting, open_sequents, Nest, IsLastOf}
 use Rattle.derivation_check.specs.declared.open_sequents.BranchEntry.{BranchEntry}
