@@ -1,4 +1,4 @@
-ghost use Rattle.std.specs.Prelude.{◌≡◌, ◌==◌, IfOk};
+ghost use Rattle.std.specs.Prelude.{◌≡◌, ◌==◌, ◌≤◌, IfOk, length, take};
 ghost use Rattle.std.specs.Cmp.Lexicographic.{pointwise};
 ghost use Rattle.std.proofs.Common.{rules};
 ghost use Rattle.std.specs.Hash as fed;
@@ -9,18 +9,41 @@ use std::alloc::{AllocError, Global};
 use std::hash::{Hash, Hasher};
 use std::marker::Model;
 
-/// A list of bytes that owns its memory.
+// Texts of so many bytes take no memory but their own.
+const SHORT: usize = 23;
+
+// Where the bytes are: the first ones of an array, so many of them, or a list.
+#[derive(Drop)]
+enum Stored {
+    Short([u8; SHORT], u8),
+    Long(Vec<u8>),
+}
+
+/// A list of bytes that owns its memory. Up to 23 of them need none but its own.
 #[derive(Drop)]
 pub struct Text {
-    bytes: Vec<u8>,
+    stored: Stored,
 }
 
 impl Model for Text {
     ghost use Rattle.std.specs.Prelude.{List, ℕ};
+    ghost use Rattle.cop_base.specs.TextView.{stored_bytes, has_bytes};
 
     ghost Value = { List ℕ };
 
-    ghost view = { λ t. t.bytes.items };
+    ghost view = { λ t. stored_bytes t.stored };
+
+    ghost invariant = { λ t. has_bytes t.stored };
+}
+
+// These bytes and zeros behind them.
+fn padded(bytes: &[u8]) -> [u8; SHORT]
+    requires { length bytes.now ≤ 23 }
+    ensures { take (length bytes.now) result ≡ bytes.now }
+{
+    let mut array = [0; SHORT];
+    array[..bytes.len()].copy_from_slice(bytes);
+    array
 }
 
 impl Text {
@@ -28,15 +51,24 @@ impl Text {
     pub fn new(alloc: Global, bytes: &[u8]) -> Result<Text, NoMemory>
         ensures { IfOk result (λ t. t ≡ bytes.now) }
     {
+        if bytes.len() <= SHORT {
+            let stored = Stored::Short(padded(bytes), bytes.len() as u8);
+            return Ok(Text { stored });
+        }
         let bytes = Vec::from_slice(alloc, bytes)?;
-        Ok(Text { bytes })
+        Ok(Text {
+            stored: Stored::Long(bytes),
+        })
     }
 
     /// The bytes in order.
     pub fn bytes(&self) -> &[u8]
         ensures { result.now ≡ self.now }
     {
-        self.bytes.as_slice()
+        match &self.stored {
+            Stored::Short(bytes, len) => &bytes[..*len as usize],
+            Stored::Long(bytes) => bytes.as_slice(),
+        }
     }
 }
 
@@ -46,7 +78,7 @@ impl PartialEq for Text {
     ghost laws = { Prim.search (comparing, rules) };
 
     fn eq(&self, other: &Text) -> bool {
-        self.bytes.as_slice() == other.bytes.as_slice()
+        self.bytes() == other.bytes()
     }
 }
 
@@ -60,6 +92,6 @@ impl Hash for Text {
     ghost respects_eq = { Prim.search (hashing, rules) };
 
     fn hash<H: Hasher>(&self, state: &mut H) {
-        self.bytes.as_slice().hash(state);
+        self.bytes().hash(state);
     }
 }
