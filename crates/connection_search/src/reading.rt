@@ -1,7 +1,7 @@
 //! The tableau of a tree without open goals, by own spares. Nothing is promised of it but that
 //! reading is safe: it is judged afterwards.
 
-ghost use Rattle.std.specs.Prelude.{◌≡◌, ◌≤◌, ◌+◌, IfOk, IsTrue, length, map};
+ghost use Rattle.std.specs.Prelude.{◌≤◌, IsTrue, length, map};
 ghost use Rattle.std.specs.List.{AllByRecursion, list_all};
 ghost use Rattle.calculus.specs.Stores.{names_below};
 ghost use Rattle.search_theory.specs.States.{atom_is_below};
@@ -11,6 +11,7 @@ ghost use Rattle.connection_search.specs.Readable.{IsReadable, IsReadableStep};
 
 use crate::atoms::reference_at;
 use crate::homes::Homes;
+use crate::system::variable_at;
 use crate::terms::{Ground, add_item, as_value, ground_of};
 use crate::tree::{Copied, Step, Tree};
 use calculus::sign::Side;
@@ -66,16 +67,6 @@ fn label_of(
         add_item(alloc, item, &mut label)?;
     }
     Ok(label)
-}
-
-// The variable of this number. Numbers beyond 32 bits are beyond memory.
-fn variable_at(variables: Variables, k: u32) -> Result<Ref, NoMemory>
-    ensures { IfOk result (λ r. r.0 ≡ variables.first.0 + k) }
-{
-    match variables.first.0.checked_add(k) {
-        Some(place) => Ok(Ref(place)),
-        None => Err(NoMemory),
-    }
 }
 
 // The values of the variables.

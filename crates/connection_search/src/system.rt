@@ -120,7 +120,7 @@ fn all_equations(alloc: Global, tree: &Tree) -> Result<EquationList, NoMemory>
 // ---- strings
 
 // The variable of this number. Numbers beyond 32 bits are beyond memory.
-fn variable_at(variables: Variables, k: u32) -> Result<Ref, NoMemory>
+pub(crate) fn variable_at(variables: Variables, k: u32) -> Result<Ref, NoMemory>
     ensures { IfOk result (λ r. r.0 ≡ variables.first.0 + k) }
 {
     match variables.first.0.checked_add(k) {
