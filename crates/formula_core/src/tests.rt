@@ -140,30 +140,41 @@ fn symbol(alloc: Global, class: SymbolClass) -> Result<Symbol, NoMemory> {
     })
 }
 
-fn is_added_at(symbols: &mut Symbols, symbol: Symbol, place: u32) -> bool {
+// Whether adding the symbol of this class gives the place.
+fn adds(alloc: Global, symbols: &mut Symbols, class: SymbolClass, place: u32) -> bool {
+    let Ok(symbol) = symbol(alloc, class) else {
+        return false;
+    };
     match symbols.add(symbol) {
         Ok(id) => id.0 == place,
         Err(_) => false,
     }
 }
 
-fn is_at(symbols: &Symbols, symbol: &Symbol, place: u32) -> bool {
-    match symbols.find(symbol) {
+fn finds(alloc: Global, symbols: &Symbols, class: SymbolClass, place: u32) -> bool {
+    let Ok(symbol) = symbol(alloc, class) else {
+        return false;
+    };
+    match symbols.find(&symbol) {
         Some(id) => id.0 == place && symbols.get(id).arity == 1,
         None => false,
     }
 }
 
 // A predicate and a function of one name are two symbols.
+fn numbers_two(alloc: Global, symbols: &mut Symbols) -> bool {
+    adds(alloc, symbols, SymbolClass::Predicate, 0)
+        && adds(alloc, symbols, SymbolClass::Function, 1)
+        && adds(alloc, symbols, SymbolClass::Predicate, 0)
+        && symbols.len() == 2
+        && symbols.items().len() == 2
+        && finds(alloc, symbols, SymbolClass::Function, 1)
+}
+
 #[test]
 fn numbers_symbols(rt: HostRuntime) -> Result<(), Fail> {
-    let alloc = rt.alloc();
-    let mut symbols = Symbols::new(alloc);
-    assert!(rt; is_added_at(&mut symbols, symbol(alloc, SymbolClass::Predicate)?, 0));
-    assert!(rt; is_added_at(&mut symbols, symbol(alloc, SymbolClass::Function)?, 1));
-    assert!(rt; is_added_at(&mut symbols, symbol(alloc, SymbolClass::Predicate)?, 0));
-    assert!(rt; symbols.len() == 2 && symbols.items().len() == 2);
-    assert!(rt; is_at(&symbols, &symbol(alloc, SymbolClass::Function)?, 1));
+    let mut symbols = Symbols::new(rt.alloc());
+    assert!(rt; numbers_two(rt.alloc(), &mut symbols));
     Ok(())
 }
 
@@ -210,12 +221,22 @@ fn are_three(terms: &GroundTerms) -> bool {
     }
 }
 
+fn is_copied(alloc: Global) -> Result<bool, NoMemory> {
+    let terms = three_terms(alloc, 0)?;
+    let copy = terms.copy(alloc)?;
+    Ok(are_three(&terms) && terms == copy)
+}
+
 // The last mark of the last term makes two lists differ.
+fn differ(alloc: Global) -> Result<bool, NoMemory> {
+    let terms = three_terms(alloc, 0)?;
+    let others = three_terms(alloc, 1)?;
+    Ok(terms != others)
+}
+
 #[test]
 fn compares_terms(rt: HostRuntime) -> Result<(), Fail> {
-    let terms = three_terms(rt.alloc(), 0)?;
-    assert!(rt; are_three(&terms));
-    assert!(rt; terms == terms.copy(rt.alloc())?);
-    assert!(rt; terms != three_terms(rt.alloc(), 1)?);
+    assert!(rt; is_copied(rt.alloc())?);
+    assert!(rt; differ(rt.alloc())?);
     Ok(())
 }
