@@ -1,8 +1,7 @@
 //! The tables of the rules, and a small problem.
 
-ghost use Rattle.std.specs.Prelude.{◌≡◌, ◌++◌, ◌∷◌, [], Contains, IfOk};
+ghost use Rattle.std.specs.Prelude.{◌≡◌, ◌++◌, ◌∷◌, [], Contains, IfOk, OnOk};
 ghost use Rattle.formula_core.specs.FormulaView.{the_formula};
-ghost use Rattle.formula_core.specs.SymbolView.{the_symbol};
 ghost use Rattle.logic_rules.specs.Examples.{IsExample, all_p, symbol_named, two_symbols};
 
 use super::*;
@@ -15,95 +14,85 @@ fn atom(alloc: Global) -> Formula {
     Formula::Atom(SymbolId(0), Terms::new(alloc))
 }
 
-// Each shape, with the modal part in classical and modal logics, and in intuitionistic logic.
+// What stands at the head of a formula of the table.
+#[derive(Clone, Copy)]
+enum Head {
+    Atom,
+    Not,
+    And,
+    Or,
+    Imp,
+    All,
+    Ex,
+    Nec,
+    Poss,
+}
+
+fn formula(alloc: Global, head: Head) -> Result<Formula, NoMemory> {
+    match head {
+        Head::Atom => Ok(atom(alloc)),
+        Head::Not => Formula::not(alloc, atom(alloc)),
+        Head::And => Formula::and(alloc, atom(alloc), atom(alloc)),
+        Head::Or => Formula::or(alloc, atom(alloc), atom(alloc)),
+        Head::Imp => Formula::imp(alloc, atom(alloc), atom(alloc)),
+        Head::All => Formula::all(alloc, atom(alloc)),
+        Head::Ex => Formula::ex(alloc, atom(alloc)),
+        Head::Nec => Formula::nec(alloc, atom(alloc)),
+        Head::Poss => Formula::poss(alloc, atom(alloc)),
+    }
+}
+
+// Whether the formula has this shape, with the first modal part in classical and modal logics and
+// the second in intuitionistic logic.
+fn has_kind(
+    f: &Formula,
+    sign: Sign,
+    shape: Shape,
+    modal: ModalPart,
+    intuitionistic: ModalPart,
+) -> bool {
+    for logic in [Logic::Classical, Logic::D, Logic::T, Logic::S4, Logic::S5] {
+        if kind_of(logic, sign, f) != (Kind { modal, shape }) {
+            return false;
+        }
+    }
+    let modal = intuitionistic;
+    kind_of(Logic::Intuitionistic, sign, f) == Kind { modal, shape }
+}
+
+// The shape of each formula under each sign, and its modal parts.
+const KINDS: [(Head, Sign, Shape, ModalPart, ModalPart); 18] = [
+    (Head::Atom, Sign::T, Shape::Literal, PLAIN, NU),
+    (Head::Atom, Sign::F, Shape::Literal, PLAIN, PI),
+    (Head::Not, Sign::T, Shape::Alpha, PLAIN, NU),
+    (Head::Not, Sign::F, Shape::Alpha, PLAIN, PI),
+    (Head::And, Sign::T, Shape::Alpha, PLAIN, PLAIN),
+    (Head::And, Sign::F, Shape::Beta, PLAIN, PLAIN),
+    (Head::Or, Sign::T, Shape::Beta, PLAIN, PLAIN),
+    (Head::Or, Sign::F, Shape::Alpha, PLAIN, PLAIN),
+    (Head::Imp, Sign::T, Shape::Beta, PLAIN, NU),
+    (Head::Imp, Sign::F, Shape::Alpha, PLAIN, PI),
+    (Head::All, Sign::T, Shape::Gamma, PLAIN, NU),
+    (Head::All, Sign::F, Shape::Delta, PLAIN, PI),
+    (Head::Ex, Sign::T, Shape::Delta, PLAIN, PLAIN),
+    (Head::Ex, Sign::F, Shape::Gamma, PLAIN, PLAIN),
+    (Head::Nec, Sign::T, Shape::Alpha, NU, NU),
+    (Head::Nec, Sign::F, Shape::Alpha, PI, PI),
+    (Head::Poss, Sign::T, Shape::Alpha, PI, PI),
+    (Head::Poss, Sign::F, Shape::Alpha, NU, NU),
+];
+
+const PLAIN: ModalPart = ModalPart::Plain;
+
+const NU: ModalPart = ModalPart::Nu;
+
+const PI: ModalPart = ModalPart::Pi;
+
 #[test]
 fn tells_kinds(rt: HostRuntime) -> Result<(), Fail> {
-    let alloc = rt.alloc();
-    let literal = atom(alloc);
-    let not = Formula::not(alloc, atom(alloc))?;
-    let and = Formula::and(alloc, atom(alloc), atom(alloc))?;
-    let or = Formula::or(alloc, atom(alloc), atom(alloc))?;
-    let imp = Formula::imp(alloc, atom(alloc), atom(alloc))?;
-    let all = Formula::all(alloc, atom(alloc))?;
-    let ex = Formula::ex(alloc, atom(alloc))?;
-    let nec = Formula::nec(alloc, atom(alloc))?;
-    let poss = Formula::poss(alloc, atom(alloc))?;
-    for (f, sign, shape, modal, intuitionistic) in [
-        (
-            &literal,
-            Sign::T,
-            Shape::Literal,
-            ModalPart::Plain,
-            ModalPart::Nu,
-        ),
-        (
-            &literal,
-            Sign::F,
-            Shape::Literal,
-            ModalPart::Plain,
-            ModalPart::Pi,
-        ),
-        (&not, Sign::T, Shape::Alpha, ModalPart::Plain, ModalPart::Nu),
-        (&not, Sign::F, Shape::Alpha, ModalPart::Plain, ModalPart::Pi),
-        (
-            &and,
-            Sign::T,
-            Shape::Alpha,
-            ModalPart::Plain,
-            ModalPart::Plain,
-        ),
-        (
-            &and,
-            Sign::F,
-            Shape::Beta,
-            ModalPart::Plain,
-            ModalPart::Plain,
-        ),
-        (
-            &or,
-            Sign::T,
-            Shape::Beta,
-            ModalPart::Plain,
-            ModalPart::Plain,
-        ),
-        (
-            &or,
-            Sign::F,
-            Shape::Alpha,
-            ModalPart::Plain,
-            ModalPart::Plain,
-        ),
-        (&imp, Sign::T, Shape::Beta, ModalPart::Plain, ModalPart::Nu),
-        (&imp, Sign::F, Shape::Alpha, ModalPart::Plain, ModalPart::Pi),
-        (&all, Sign::T, Shape::Gamma, ModalPart::Plain, ModalPart::Nu),
-        (&all, Sign::F, Shape::Delta, ModalPart::Plain, ModalPart::Pi),
-        (
-            &ex,
-            Sign::T,
-            Shape::Delta,
-            ModalPart::Plain,
-            ModalPart::Plain,
-        ),
-        (
-            &ex,
-            Sign::F,
-            Shape::Gamma,
-            ModalPart::Plain,
-            ModalPart::Plain,
-        ),
-        (&nec, Sign::T, Shape::Alpha, ModalPart::Nu, ModalPart::Nu),
-        (&nec, Sign::F, Shape::Alpha, ModalPart::Pi, ModalPart::Pi),
-        (&poss, Sign::T, Shape::Alpha, ModalPart::Pi, ModalPart::Pi),
-        (&poss, Sign::F, Shape::Alpha, ModalPart::Nu, ModalPart::Nu),
-    ] {
-        for logic in [Logic::Classical, Logic::D, Logic::T, Logic::S4, Logic::S5] {
-            assert_eq!(rt; kind_of(logic, sign, f), Kind { modal, shape });
-        }
-        let modal = intuitionistic;
-        assert_eq!(rt;
-            kind_of(Logic::Intuitionistic, sign, f),
-            Kind { modal, shape }
-        );
+    for (head, sign, shape, modal, intuitionistic) in KINDS {
+        let f = formula(rt.alloc(), head)?;
+        assert!(rt; has_kind(&f, sign, shape, modal, intuitionistic));
     }
     Ok(())
 }
@@ -116,69 +105,94 @@ fn label(alloc: Global, marks: &[Mark]) -> Result<Label, NoMemory> {
     Ok(label)
 }
 
-// Where a step of each logic goes to, and which domains allow a name.
+// Whether a step leads from the first label to the second: in classical logic, D, T, S4 as well as
+// intuitionistic logic, and S5.
+const STEPS: [(&[Mark], &[Mark], [bool; 5]); 13] = [
+    (&[], &[], [true, false, true, true, true]),
+    (&[], &[A], [false, true, true, true, true]),
+    (&[], &[A, B], [false, false, false, true, false]),
+    (&[A], &[A], [true, false, true, true, true]),
+    (&[A], &[A, B], [false, true, true, true, false]),
+    (&[A], &[A, B, C], [false, false, false, true, false]),
+    (&[A], &[B], [false, false, false, false, true]),
+    (&[A], &[], [false, false, false, false, true]),
+    (&[A], &[B, A], [false, false, false, false, false]),
+    (&[A, B], &[A, B], [true, false, true, true, false]),
+    (&[A, B], &[A, B, A], [false, true, true, true, false]),
+    (&[A, B], &[A, C], [false, false, false, false, false]),
+    (&[A, B], &[A, C, B], [false, false, false, false, false]),
+];
+
+const A: Mark = Mark::New(1);
+
+const B: Mark = Mark::Spare(1);
+
+const C: Mark = Mark::New(2);
+
+fn are_steps(from: &[Mark], to: &[Mark], answers: [bool; 5]) -> bool {
+    let [classical, d, t, s4, s5] = answers;
+    steps_to(Logic::Classical, from, to) == classical
+        && steps_to(Logic::D, from, to) == d
+        && steps_to(Logic::T, from, to) == t
+        && steps_to(Logic::S4, from, to) == s4
+        && steps_to(Logic::Intuitionistic, from, to) == s4
+        && steps_to(Logic::S5, from, to) == s5
+}
+
+fn lead(alloc: Global, from: &[Mark], to: &[Mark], answers: [bool; 5]) -> Result<bool, NoMemory> {
+    let from = label(alloc, from)?;
+    let to = label(alloc, to)?;
+    Ok(are_steps(from.items(), to.items(), answers))
+}
+
 #[test]
 fn follows_labels(rt: HostRuntime) -> Result<(), Fail> {
-    let alloc = rt.alloc();
-    let (a, b, c) = (Mark::New(1), Mark::Spare(1), Mark::New(2));
-    for (from, to, classical, d, t, s4, s5) in [
-        ([].as_slice(), [].as_slice(), true, false, true, true, true),
-        (&[], &[a], false, true, true, true, true),
-        (&[], &[a, b], false, false, false, true, false),
-        (&[a], &[a], true, false, true, true, true),
-        (&[a], &[a, b], false, true, true, true, false),
-        (&[a], &[a, b, c], false, false, false, true, false),
-        (&[a], &[b], false, false, false, false, true),
-        (&[a], &[], false, false, false, false, true),
-        (&[a], &[b, a], false, false, false, false, false),
-        (&[a, b], &[a, b], true, false, true, true, false),
-        (&[a, b], &[a, b, a], false, true, true, true, false),
-        (&[a, b], &[a, c], false, false, false, false, false),
-        (&[a, b], &[a, c, b], false, false, false, false, false),
-    ] {
-        let from = label(alloc, from)?;
-        let to = label(alloc, to)?;
-        for (logic, leads) in [
-            (Logic::Classical, classical),
-            (Logic::Intuitionistic, s4),
-            (Logic::D, d),
-            (Logic::T, t),
-            (Logic::S4, s4),
-            (Logic::S5, s5),
-        ] {
-            assert_eq!(rt; steps_to(logic, from.items(), to.items()), leads);
-        }
-    }
-    for (home, at, cumulative, varying) in [
-        (b"".as_slice(), b"".as_slice(), true, true),
-        (b"", b"a", true, false),
-        (b"a", b"a", true, true),
-        (b"a", b"ab", true, false),
-        (b"a", b"", false, false),
-        (b"a", b"ba", false, false),
-        (b"ab", b"abcd", true, false),
-        (b"ab", b"ac", false, false),
-        (b"ab", b"acb", false, false),
-    ] {
-        assert!(rt; home_allows(Domains::Constant, home, at));
-        assert_eq!(rt; home_allows(Domains::Cumulative, home, at), cumulative);
-        assert_eq!(rt; home_allows(Domains::Varying, home, at), varying);
+    for (from, to, answers) in STEPS {
+        assert!(rt; lead(rt.alloc(), from, to, answers)?);
     }
     Ok(())
 }
 
-fn symbol(alloc: Global, name: &[u8], class: SymbolClass, arity: u32) -> Result<Symbol, NoMemory>
-    ensures { IfOk result (λ s. the_symbol s ≡ symbol_named name.now class arity) }
-{
-    let name = Text::new(alloc, name)?;
-    Ok(Symbol { name, class, arity })
+// Whether a name of the first label may stand at the second: with cumulative domains, and with
+// varying ones.
+const HOMES: [(&[u8], &[u8], bool, bool); 9] = [
+    (b"", b"", true, true),
+    (b"", b"a", true, false),
+    (b"a", b"a", true, true),
+    (b"a", b"ab", true, false),
+    (b"a", b"", false, false),
+    (b"a", b"ba", false, false),
+    (b"ab", b"abcd", true, false),
+    (b"ab", b"ac", false, false),
+    (b"ab", b"acb", false, false),
+];
+
+fn allows(home: &[u8], at: &[u8], cumulative: bool, varying: bool) -> bool {
+    home_allows(Domains::Constant, home, at)
+        && home_allows(Domains::Cumulative, home, at) == cumulative
+        && home_allows(Domains::Varying, home, at) == varying
 }
 
-fn add(symbols: &mut Symbols, s: Symbol) -> Result<(), NoMemory>
-    requires { ¬ (Contains symbols.old (the_symbol s)) }
-    ensures { IfOk result (λ _. symbols.new ≡ symbols.old ++ the_symbol s ∷ []) }
+#[test]
+fn allows_names(rt: HostRuntime) -> Result<(), Fail> {
+    for (home, at, cumulative, varying) in HOMES {
+        assert!(rt; allows(home, at, cumulative, varying));
+    }
+    Ok(())
+}
+
+fn add(
+    alloc: Global,
+    symbols: &mut Symbols,
+    name: &[u8],
+    class: SymbolClass,
+    arity: u32,
+) -> Result<(), NoMemory>
+    requires { ¬ (Contains symbols.old (symbol_named name.now class arity)) }
+    ensures { OnOk result (symbols.new ≡ symbols.old ++ symbol_named name.now class arity ∷ []) }
 {
-    match symbols.add(s) {
+    let name = Text::new(alloc, name)?;
+    match symbols.add(Symbol { name, class, arity }) {
         Ok(_) => Ok(()),
         Err(AddFault::Full | AddFault::NoMemory) => Err(NoMemory),
     }
@@ -188,11 +202,9 @@ fn add(symbols: &mut Symbols, s: Symbol) -> Result<(), NoMemory>
 fn p_and_c(alloc: Global, class: SymbolClass, arity: u32) -> Result<Symbols, NoMemory>
     ensures { IfOk result (λ s. s ≡ two_symbols class arity) }
 {
-    let p = symbol(alloc, b"p", SymbolClass::Predicate, 1)?;
-    let c = symbol(alloc, b"c", class, arity)?;
     let mut symbols = Symbols::new(alloc);
-    add(&mut symbols, p)?;
-    add(&mut symbols, c)?;
+    add(alloc, &mut symbols, b"p", SymbolClass::Predicate, 1)?;
+    add(alloc, &mut symbols, b"c", class, arity)?;
     Ok(symbols)
 }
 
@@ -220,72 +232,76 @@ fn problem(
     Ok(Problem::new(Setting::new(logic, domains), formula, symbols))
 }
 
-// Whether there is a constant, and common spares.
-fn spares(
+fn is_kept(problem: &Problem) -> bool {
+    problem.setting().logic() == Logic::S5
+        && problem.setting().domains() == Domains::Varying
+        && matches!(problem.formula(), Formula::All(_))
+        && problem.symbols().len() == 2
+}
+
+fn keeps_problem(alloc: Global) -> Result<bool, NoMemory> {
+    let problem = problem(alloc, Logic::S5, Domains::Varying, SymbolClass::Function, 0)?;
+    Ok(is_kept(&problem))
+}
+
+// Whether there is a constant, and whether there are common spares.
+fn spares(problem: &Problem) -> (bool, bool) {
+    (problem.has_constant(), problem.common_spares())
+}
+
+fn has_spares(
     alloc: Global,
     domains: Domains,
     class: SymbolClass,
     arity: u32,
-) -> Result<(bool, bool), NoMemory>
+    answers: (bool, bool),
+) -> Result<bool, NoMemory>
     requires { IsExample Logic.S4 domains class arity }
 {
     let problem = problem(alloc, Logic::S4, domains, class, arity)?;
-    Ok((problem.has_constant(), problem.common_spares()))
+    Ok(spares(&problem) == answers)
 }
 
 #[test]
 fn keeps_problems(rt: HostRuntime) -> Result<(), Fail> {
     let alloc = rt.alloc();
-    let problem = problem(alloc, Logic::S5, Domains::Varying, SymbolClass::Function, 0)?;
-    assert_eq!(rt; problem.setting().logic(), Logic::S5);
-    assert_eq!(rt; problem.setting().domains(), Domains::Varying);
-    assert!(rt; matches!(problem.formula(), Formula::All(_)));
-    assert_eq!(rt; problem.symbols().len(), 2);
     let (function, predicate) = (SymbolClass::Function, SymbolClass::Predicate);
-    assert_eq!(rt; spares(alloc, Domains::Varying, function, 0)?, (true, true));
-    assert_eq!(rt;
-        spares(alloc, Domains::Varying, function, 1)?,
-        (false, false)
-    );
-    assert_eq!(rt;
-        spares(alloc, Domains::Varying, predicate, 0)?,
-        (false, false)
-    );
-    assert_eq!(rt;
-        spares(alloc, Domains::Cumulative, function, 1)?,
-        (false, true)
-    );
-    assert_eq!(rt;
-        spares(alloc, Domains::Constant, predicate, 0)?,
-        (false, true)
-    );
+    assert!(rt; keeps_problem(alloc)?);
+    assert!(rt; has_spares(alloc, Domains::Varying, function, 0, (true, true))?);
+    assert!(rt; has_spares(alloc, Domains::Varying, function, 1, (false, false))?);
+    assert!(rt; has_spares(alloc, Domains::Varying, predicate, 0, (false, false))?);
+    assert!(rt; has_spares(alloc, Domains::Cumulative, function, 1, (false, true))?);
+    assert!(rt; has_spares(alloc, Domains::Constant, predicate, 0, (false, true))?);
     Ok(())
+}
+
+// The domains that a logic keeps in the place of constant, cumulative and varying ones.
+const KEPT: [(Logic, [Domains; 3]); 6] = [
+    (Logic::Classical, [CONSTANT, CONSTANT, CONSTANT]),
+    (Logic::Intuitionistic, [CUMULATIVE, CUMULATIVE, CUMULATIVE]),
+    (Logic::D, [CONSTANT, CUMULATIVE, VARYING]),
+    (Logic::T, [CONSTANT, CUMULATIVE, VARYING]),
+    (Logic::S4, [CONSTANT, CUMULATIVE, VARYING]),
+    (Logic::S5, [CONSTANT, CONSTANT, VARYING]),
+];
+
+const CONSTANT: Domains = Domains::Constant;
+
+const CUMULATIVE: Domains = Domains::Cumulative;
+
+const VARYING: Domains = Domains::Varying;
+
+fn settles(logic: Logic, given: Domains, kept: Domains) -> bool {
+    let setting = Setting::new(logic, given);
+    setting.logic() == logic && setting.domains() == kept
 }
 
 #[test]
 fn settles_domains(rt: HostRuntime) -> Result<(), Fail> {
-    let (constant, cumulative, varying) = (
-        Domains::Constant,
-        Domains::Cumulative,
-        Domains::Varying,
-    );
-    for (logic, of_constant, of_cumulative, of_varying) in [
-        (Logic::Classical, constant, constant, constant),
-        (Logic::Intuitionistic, cumulative, cumulative, cumulative),
-        (Logic::D, constant, cumulative, varying),
-        (Logic::T, constant, cumulative, varying),
-        (Logic::S4, constant, cumulative, varying),
-        (Logic::S5, constant, constant, varying),
-    ] {
-        for (given, kept) in [
-            (constant, of_constant),
-            (cumulative, of_cumulative),
-            (varying, of_varying),
-        ] {
-            let setting = Setting::new(logic, given);
-            assert_eq!(rt; setting.logic(), logic);
-            assert_eq!(rt; setting.domains(), kept);
-        }
+    for (logic, [constant, cumulative, varying]) in KEPT {
+        assert!(rt; settles(logic, CONSTANT, constant));
+        assert!(rt; settles(logic, CUMULATIVE, cumulative));
+        assert!(rt; settles(logic, VARYING, varying));
     }
     Ok(())
 }
