@@ -1,22 +1,29 @@
 //! The names of a tableau by their numbers, with its agenda and what leads a conversion.
 
-ghost use Rattle.std.specs.Prelude.{◌≡◌, ◌<◌, ◌^◌, ℕ, length, map, slice_get, Some, IfOk, IsTrue};
+ghost use Rattle.std.specs.Prelude.{◌≡◌, ◌<◌, ◌^◌, ℕ, [], Some, IfOk, IsSome, IsTrue, length, map};
+ghost use Rattle.std.specs.Prelude.{slice_get};
+ghost use Rattle.std.specs.List.{AllByRecursion};
 ghost use Rattle.calculus.specs.Ground.{g_eigen, g_new_mark, g_spare_mark, values_tree};
-ghost use Rattle.calculus.specs.Numbering.{IsNumbering, NumbersTell, number_in};
+ghost use Rattle.calculus.specs.Numbering.{IsNumbering, NumbersTell, name_eq, number_in};
 ghost use Rattle.calculus.specs.Tableaux.{is_closed};
 ghost use Rattle.calculus.specs.Turns.{IsAgenda, term_name, mark_name};
 ghost use Rattle.formula_core.specs.GroundView.{the_g_term};
+ghost use Rattle.name_order.specs.Found.{find_in, parent_in, waits_in};
+ghost use Rattle.name_order.specs.Keeping.{keep_all};
+ghost use Rattle.name_order.specs.Mentioned.{gathered};
 ghost use Rattle.name_order.specs.NameView.{the_name, the_wanted};
+ghost use Rattle.name_order.specs.Numbered.{IsOrdered};
+ghost use Rattle.name_order.specs.PlaceView.{the_places};
 ghost use Rattle.name_order.specs.Prerequisites.{IsOrder, ParentsTell, WaitsTell};
 ghost use Rattle.name_order.specs.TurnView.{the_turn};
 ghost use Rattle.tableau_core.specs.TableauView.{the_tableau};
 
-use crate::agenda::all_turns;
-use crate::guide::{Numbers, guide_by};
+use crate::agenda::{Turns, all_turns};
+use crate::guide::{Guide, Numbers, guide_by};
 use crate::look_up::number_by;
 use crate::names::{Name, Wanted};
 use crate::numbering::number_names;
-use crate::place::all_places;
+use crate::place::{Place, all_places};
 use crate::turn::{Turn, TurnList};
 use cop_base::{NoMemory, PosId};
 use formula_core::{GroundTerm, Values};
@@ -139,6 +146,58 @@ impl Named {
     }
 }
 
+// The names beside the turns and what leads a conversion by them.
+fn with_names(
+    alloc: Global,
+    problem: &SizedProblem,
+    places: &[Place],
+    agenda: TurnList,
+    guide: Guide,
+) -> Result<Named, NoMemory>
+    requires few { length agenda < 2 ^ 32 }
+    ensures names { IfOk result (λ n. IsOrdered (keep_all name_eq []
+        (gathered problem.now (the_places places.now) agenda)) n.names) }
+    ensures agenda { IfOk result (λ n. n.agenda ≡ agenda) }
+    ensures order { IfOk result (λ n. n.order ≡ guide.order.items) }
+    ensures parents { IfOk result (λ n. n.parents ≡ guide.parents.items) }
+    ensures waits { IfOk result (λ n. n.waits ≡ guide.waits.items) }
+{
+    let numbered = number_names(alloc, problem, places, agenda.items())?;
+    Ok(Named {
+        names: numbered.names,
+        digests: numbered.digests,
+        agenda,
+        order: guide.order,
+        parents: guide.parents,
+        waits: guide.waits,
+    })
+}
+
+// The names of the turns, with what leads a conversion by them.
+fn by_turns(
+    alloc: Global,
+    problem: &SizedProblem,
+    places: &[Place],
+    turns: Turns,
+) -> Result<Named, NoMemory>
+    requires few { length turns.agenda < 2 ^ 32 }
+    requires known { AllByRecursion (λ ts. AllByRecursion (λ x. IsSome (find_in turns.keys x)) ts)
+        turns.lists.items }
+    ensures names { IfOk result (λ n. IsOrdered (keep_all name_eq []
+        (gathered problem.now (the_places places.now) turns.agenda)) n.names) }
+    ensures agenda { IfOk result (λ n. n.agenda ≡ turns.agenda) }
+    ensures order { IfOk result (λ n. map (map (find_in turns.keys)) turns.lists.items
+        ≡ map (map Some) n.order) }
+    ensures parents { IfOk result (λ n. n.parents
+        ≡ map (parent_in (the_places places.now) turns.keys) turns.agenda) }
+    ensures waits { IfOk result (λ n. n.waits
+        ≡ map (waits_in problem.now (the_places places.now) turns.keys) turns.agenda) }
+{
+    let guide = guide_by(alloc, problem, places, &turns)?;
+    let named = with_names(alloc, problem, places, turns.agenda, guide)?;
+    Ok(named)
+}
+
 /// The numbers of the names of a tableau, and its agenda.
 pub fn name(alloc: Global, problem: &Problem, t: &Tableau) -> Result<Named, NoMemory>
     requires closed { (d : ℕ) × IsTrue (is_closed problem.now d (the_tableau t.now)) }
@@ -152,14 +211,6 @@ pub fn name(alloc: Global, problem: &Problem, t: &Tableau) -> Result<Named, NoMe
     let sized = SizedProblem::new(alloc, problem)?;
     let places = all_places(alloc, problem)?;
     let turns = all_turns(alloc, &sized, t)?;
-    let numbered = number_names(alloc, &sized, places.as_slice(), turns.agenda.items())?;
-    let guide = guide_by(alloc, &sized, places.as_slice(), &turns)?;
-    Ok(Named {
-        names: numbered.names,
-        digests: numbered.digests,
-        agenda: turns.agenda,
-        order: guide.order,
-        parents: guide.parents,
-        waits: guide.waits,
-    })
+    let named = by_turns(alloc, &sized, places.as_slice(), turns)?;
+    Ok(named)
 }
