@@ -44,10 +44,10 @@ ghost use Rattle.tableau_core.specs.TableauView.{the_tableau};
 use cop_base::NoMemory;
 use formula_core::Formula;
 use logic_rules::Problem;
-use name_order::name;
+use name_order::{Named, name};
 use names::name_lines;
 use run::Run;
-use sequent_calc::{Derivation, StepList};
+use sequent_calc::{Derivation, Names, StepList};
 use source::Source;
 use std::alloc::Global;
 use tableau_core::{SizedProblem, Tableau};
@@ -87,6 +87,54 @@ fn steps_by(source: &Source) -> Result<StepList, NoMemory>
     Ok(run.steps)
 }
 
+fn atoms_in(alloc: Global, f: &Formula) -> Result<Vec<bool>, NoMemory>
+    ensures { IfOk result (λ atoms. atoms.items ≡ atoms_of (the_formula f.now)) }
+{
+    let mut atoms = Vec::new(alloc);
+    put_atoms(f, &mut atoms)?;
+    Ok(atoms)
+}
+
+// The derivation by the names of the tableau and by the lines that tell them.
+fn derivation_by(
+    alloc: Global,
+    problem: &SizedProblem,
+    t: &Tableau,
+    limit: u8,
+    named: &Named,
+    names: Names,
+    atoms: &[bool],
+) -> Result<Derivation, NoMemory>
+    requires basis { IsBasis (record {
+      problem = problem.now;
+      tableau = the_tableau t.now;
+      limit = limit;
+      named = named.now;
+      lines = the_names names;
+      atoms = atoms.now;
+    }) }
+    requires limit { IsTrue (is_limit limit) }
+    ensures converted { IfOk result (λ d. IsConverted problem.now limit (the_derivation d)) }
+    ensures short { IfOk result (λ d. has_introduced_names (the_tableau t.now) ≡ false
+        → axiom_count d.steps ≤ closings_count (the_tableau t.now).goals) }
+{
+    let source = Source {
+        alloc,
+        problem,
+        tableau: t,
+        limit,
+        named,
+        names: &names,
+        atoms,
+    };
+    let steps = steps_by(&source)?;
+    Ok(Derivation {
+        limit,
+        names,
+        steps,
+    })
+}
+
 /// A derivation of the problem from a tableau that is closed within the limit, which the derivation
 /// notes (after Kreitz and Schmitt, who convert matrix proofs). The tableau leads: a branch makes the
 /// turns of the instance at hand, each after those that it waits for, and goes on to the instance
@@ -103,24 +151,10 @@ pub fn convert(
     ensures short { IfOk result (λ d. has_introduced_names (the_tableau t.now) ≡ false
         → axiom_count d.steps ≤ closings_count (the_tableau t.now).goals) }
 {
-    let named = name(alloc, problem, t)?;
     let sized = SizedProblem::new(alloc, problem)?;
+    let atoms = atoms_in(alloc, problem.formula())?;
+    let named = name(alloc, problem, t)?;
     let names = name_lines(alloc, &sized, &named)?;
-    let mut atoms = Vec::new(alloc);
-    put_atoms(problem.formula(), &mut atoms)?;
-    let source = Source {
-        alloc,
-        problem: &sized,
-        tableau: t,
-        limit,
-        named: &named,
-        names: &names,
-        atoms: atoms.as_slice(),
-    };
-    let steps = steps_by(&source)?;
-    Ok(Derivation {
-        limit,
-        names,
-        steps,
-    })
+    let derivation = derivation_by(alloc, &sized, t, limit, &named, names, atoms.as_slice())?;
+    Ok(derivation)
 }
