@@ -9,5 +9,6 @@ pub mod ExampleLaws
 pub mod LengthListLaws
 pub mod SearchLaws
 pub mod OrderLaws
+pub mod TableLaws
 pub mod GrowingLaws
 pub mod TriedLaws

@@ -1,9 +1,9 @@
 -- Lists that begin others, and what follows from what is known of them.
-use Rattle.std.proofs.Common.{◌≡◌, ◌⊎◌, ℕ, zero, suc, ◌+◌, ◌<◌, ◌≤◌, List, [], ◌∷◌, ◌++◌, length, Bool, true, false, not, ◌==◌, refl, sym, ◌∙◌, ap, subst, Option, None, Some, slice_get, inl, inr, arith, nat_le, leb-true, leb-false, eq-eqb, append_assoc, append-nil, length-append}
+use Rattle.std.proofs.Common.{◌≡◌, ◌⊎◌, ℕ, zero, suc, ◌<◌, ◌≤◌, List, [], ◌∷◌, ◌++◌, length, Bool, true, false, not, refl, sym, ◌∙◌, ap, subst, None, Some, slice_get, inl, inr, arith, nat_le, leb-true, leb-false, eq-eqb, append_assoc, append-nil, length-append}
 use Rattle.std.proofs.lemmas.Bool.{false≢true}
 use Rattle.calculus.specs.Bindings.{EndsIn}
 use Rattle.calculus.specs.Ground.{GroundMark, g_new_mark}
-use Rattle.calculus.specs.Stores.{Cell, variable, fun_cell, eigen_cell, new_cell, string_cell, Store, EndsAt, Solution, Solves, a_mark}
+use Rattle.calculus.specs.Stores.{Cell, variable, fun_cell, eigen_cell, new_cell, string_cell, Store, Solution, Solves}
 use Rattle.calculus.specs.Templates.{as_label}
 use Rattle.search_theory.proofs.GivingLaws.{ends-same}
 use Rattle.term_store.specs.Shown.{head_of}
@@ -15,8 +15,7 @@ use Rattle.prefix_split.specs.declared.node.Step.TheVariants.{Root, Mark, Short,
 use Rattle.prefix_split.specs.declared.order.LabelOrder.{LabelOrder}
 use Rattle.prefix_split.specs.declared.order.Relation.{Relation}
 use Rattle.prefix_split.specs.declared.order.Relation.TheVariants.{Unknown, Weak, Strict}
-use Rattle.prefix_split.specs.declared.order.Row.{Row}
-use Rattle.prefix_split.specs.Beginnings.{AreValues, Begins, HasExtent, IsMarkNode, IsOtherMark, IsRelated, IsShortBehind, IsShorter, NodesFit, Refutes, RowHolds, RowsHold, are_other_names, is_known, is_short, is_strict, item_of, joined, step_marks}
+use Rattle.prefix_split.specs.Beginnings.{AreValues, Begins, HasExtent, IsMarkNode, IsOtherMark, IsRelated, IsShortBehind, IsShorter, NodesFit, Refutes, are_other_names, is_short, item_of, joined, step_marks}
 
 -- ---- lists
 
@@ -91,49 +90,9 @@ joined-related Strict Unknown x y z h k = tt
 joined-related Strict Weak x y z h k = let l = begins-length y z k in let m = h.1 in (begins-both x y z h.0 k, omega (arith, l, m))
 joined-related Strict Strict x y z h k = let l = h.1 in let m = k.1 in (begins-both x y z h.0 k.0, omega (arith, l, m))
 
-pub known-begins : (r : Relation) (x y : List GroundMark) → is_known r ≡ true → IsRelated r x y → Begins x y
-known-begins Unknown x y e h = absurd (false≢true e)
-known-begins Weak x y e h = h
-known-begins Strict x y e h = h.0
-
-pub strict-shorter : (r : Relation) (x y : List GroundMark) → is_strict r ≡ true → IsRelated r x y → IsShorter x y
-strict-shorter Unknown x y e h = absurd (false≢true e)
-strict-shorter Weak x y e h = absurd (false≢true e)
-strict-shorter Strict x y e h = h
-
 -- no list is shorter than itself
-pub never-shorter : (r : Relation) (x : List GroundMark) → is_strict r ≡ true → IsRelated r x x → ⊥
-never-shorter r x e h = let l = (strict-shorter r x x e h).1 in omega (arith, l)
-
-pub rows-more : (value : ℕ → List GroundMark) (rows : List Row) (row : Row) → RowsHold value rows → ((w : List GroundMark) → RowHolds value w row) → RowsHold value (rows ++ row ∷ [])
-rows-more value rows row h k u x e = by (last-item rows row x u e)
-  where
-    by : (slice_get rows u ≡ Some x) ⊎ ((u ≡ length rows) × (row ≡ x)) → RowHolds value (value u) x
-    by (inl p) = h u x p
-    by (inr p) = subst (RowHolds value (value u)) p.1 (k (value u))
-
-pub ItemsHold : (ℕ → List GroundMark) → List GroundMark → List Relation → Type 0
-ItemsHold value w rs = (v : ℕ) (r : Relation) → slice_get rs v ≡ Some r → IsRelated r w (value v)
-
--- nothing is known
-pub AreUnknown : List Relation → Type 0
-AreUnknown rs = (v : ℕ) (r : Relation) → slice_get rs v ≡ Some r → r ≡ Unknown
-
-pub unknown-none : AreUnknown []
-unfolding AreUnknown
-unknown-none v r e = let q : None ≡ Some r = e in cc q
-
-pub unknown-more : (rs : List Relation) → AreUnknown rs → AreUnknown (rs ++ Unknown ∷ [])
-unfolding AreUnknown
-unknown-more rs h v r e = by (last-item rs Unknown r v e)
-  where
-    by : (slice_get rs v ≡ Some r) ⊎ ((v ≡ length rs) × (Unknown ≡ r)) → r ≡ Unknown
-    by (inl p) = h v r p
-    by (inr p) = sym p.1
-
-pub unknown-holds : (value : ℕ → List GroundMark) (w : List GroundMark) (rs : List Relation) → AreUnknown rs → (v : ℕ) (r : Relation) → slice_get rs v ≡ Some r → IsRelated r w (value v)
-unfolding AreUnknown
-unknown-holds value w rs h v r e = subst (λ x. IsRelated x w (value v)) (sym (h v r e)) tt
+pub never-shorter : (x : List GroundMark) → IsShorter x x → ⊥
+never-shorter x h = let l = h.1 in omega (arith, l)
 
 -- ---- steps of at most one mark
 
@@ -202,9 +161,6 @@ marks-same σ value nodes y z a b r q h e f s t g =
 
 pub equal-begins : (x y : List GroundMark) → x ≡ y → Begins x y
 equal-begins x y e = ([], sym e ∙ sym (append-nil x))
-
-pub rows-none : (value : ℕ → List GroundMark) → RowsHold value []
-rows-none value u row e = let q : None ≡ Some row = e in cc q
 
 -- marks of two positions have other values
 pub heads-apart : (s : Store) (σ : Solution) (r q : ℕ) (left right : Head) → Solves s σ → EndsIn s r (λ c. head_of c ≡ left) → EndsIn s q (λ c. head_of c ≡ right) → are_other_names left right ≡ true → ¬ (as_label (σ r) ≡ as_label (σ q))

@@ -1,5 +1,6 @@
 -- Beginnings of labels under a solution of the store, and what is known of their order.
-use Rattle.std.specs.Prelude.{◌≡◌, ℕ, ◌+◌, ◌==◌, ◌<◌, ◌≤◌, List, [], ◌++◌, length, Option, None, Some, slice_get, Bool, true, false, not, ⊤}
+use Rattle.std.specs.Prelude.{◌≡◌, ℕ, ◌+◌, ◌*◌, ◌==◌, ◌<◌, ◌≤◌, List, [], ◌++◌, length, Option, None, Some, get_or, slice_get, Bool, true, false, not, ⊤}
+use Rattle.std.specs.Int.{bit_at}
 use Rattle.calculus.specs.Ground.{GroundMark}
 use Rattle.calculus.specs.Stores.{Store, Solution, Solves}
 use Rattle.calculus.specs.Templates.{as_label}
@@ -7,13 +8,13 @@ use Rattle.term_store.specs.declared.cell.Head.{Head}
 use Rattle.term_store.specs.declared.cell.Head.TheVariants.{Open, Fun, Eigen, New, Marks}
 use Rattle.term_store.specs.declared.cell.Ref.{Ref}
 use Rattle.cop_base.specs.declared.PosId.{PosId}
+use Rattle.prefix_split.specs.declared.bit_table.BitTable.{BitTable}
 use Rattle.prefix_split.specs.declared.node.Node.{Node}
 use Rattle.prefix_split.specs.declared.node.Step.{Step}
 use Rattle.prefix_split.specs.declared.node.Step.TheVariants.{Root, Mark, Short, Long}
 use Rattle.prefix_split.specs.declared.order.LabelOrder.{LabelOrder}
 use Rattle.prefix_split.specs.declared.order.Relation.{Relation}
 use Rattle.prefix_split.specs.declared.order.Relation.TheVariants.{Unknown, Weak, Strict}
-use Rattle.prefix_split.specs.declared.order.Row.{Row}
 
 -- ---- nodes
 
@@ -85,16 +86,6 @@ NodesFit size nodes = (u : ℕ) (n : Node) → slice_get nodes u ≡ Some n → 
 
 -- ---- their order
 
-abbrev pub is_strict : Relation → Bool
-is_strict Unknown = false
-is_strict Weak = false
-is_strict Strict = true
-
-abbrev pub is_known : Relation → Bool
-is_known Unknown = false
-is_known Weak = true
-is_known Strict = true
-
 -- what two relations in a row give
 abbrev pub joined : Relation → Relation → Relation
 joined Unknown b = Unknown
@@ -119,16 +110,18 @@ IsRelated Unknown u v = ⊤
 IsRelated Weak u v = Begins u v
 IsRelated Strict u v = IsShorter u v
 
--- what a row knows holds of the label w
-abbrev pub RowHolds : (ℕ → List GroundMark) → List GroundMark → Row → Type 0
-RowHolds value w row = (v : ℕ) (r : Relation) → slice_get row.relations.items v ≡ Some r → IsRelated r w (value v)
+-- the bits of word k of u's row tell of the nodes from k * 64 on
+abbrev pub WordHolds : (ℕ → List GroundMark) → Relation → ℕ → ℕ → ℕ → Type 0
+WordHolds value r u k word = (b : ℕ) → bit_at word b ≡ 1 → IsRelated r (value u) (value (k * 64 + b))
 
-abbrev pub RowsHold : (ℕ → List GroundMark) → List Row → Type 0
-RowsHold value rows = (u : ℕ) (row : Row) → slice_get rows u ≡ Some row → RowHolds value (value u) row
+-- two nodes are so related where the bit is set
+abbrev pub TableHolds : (ℕ → List GroundMark) → Relation → BitTable → Type 0
+TableHolds value r table = (u k : ℕ) → k < table.width → WordHolds value r u k (get_or table.words.items (u * table.width + k) 0)
 
 -- what the order knows holds of these labels; of a contradiction nothing holds
 pub record Holds (value : ℕ → List GroundMark) (order : LabelOrder) : Type 0 where
-  pub rows : RowsHold value order.rows.items
+  pub above : TableHolds value Weak order.above
+  pub shorter : TableHolds value Strict order.shorter
   pub possible : order.is_refuted ≡ false
 
 -- what held of some labels before holds after

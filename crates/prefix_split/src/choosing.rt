@@ -1,6 +1,6 @@
 //! Choices between beginnings of labels of which none is forced.
 
-ghost use Rattle.std.specs.Prelude.{◌≡◌, ◌≤◌, ◌⊎◌, ℕ, List, IfOk, IfSome, length, true};
+ghost use Rattle.std.specs.Prelude.{◌≤◌, ◌⊎◌, ℕ, List, IfOk, IfSome, length};
 ghost use Rattle.calculus.specs.Ground.{GroundMark};
 ghost use Rattle.calculus.specs.Stores.{Solution, Solves};
 ghost use Rattle.prefix_split.specs.Beginnings.{AreValues, Begins, Holds, NodesFit, Refutes};
@@ -10,7 +10,6 @@ use crate::node::Node;
 use crate::order::{LabelOrder, Relation};
 use crate::rules::short_parent;
 use cop_base::NoMemory;
-use std::alloc::Global;
 use term_store::Store;
 use term_unify::Unifier;
 
@@ -50,8 +49,8 @@ fn is_open(order: &LabelOrder, gap: Gap) -> bool {
     !order.begins(gap.second, gap.parent) && !order.begins(gap.first, gap.second)
 }
 
-// The gap of y and z below w, where both are by marks and it is open.
-fn open_gap_below(order: &LabelOrder, nodes: &[Node], y: usize, z: usize, w: usize) -> Option<Gap>
+// The open gap of y and z, where z is by a mark.
+fn open_gap_with(order: &LabelOrder, nodes: &[Node], y: usize, z: usize) -> Option<Gap>
     ensures { IfSome result (λ g. (σ : Solution) (value : ℕ → List GroundMark)
         → AreValues σ value nodes.now → Holds value order.now
         → Begins (value g.second) (value g.parent) ⊎ Begins (value g.first) (value g.second)) }
@@ -59,28 +58,14 @@ fn open_gap_below(order: &LabelOrder, nodes: &[Node], y: usize, z: usize, w: usi
     if mark_of(nodes, z).is_none() {
         return None;
     }
+    let Some(w) = order.both_begin(y, z) else {
+        return None;
+    };
     let Some(gap) = gap_below(order, nodes, y, z, w) else {
         return None;
     };
     if is_open(order, gap) {
         return Some(gap);
-    }
-    None
-}
-
-// An open gap of y and another node below w.
-fn open_gap_with(order: &LabelOrder, nodes: &[Node], y: usize, w: usize) -> Option<Gap>
-    ensures { IfSome result (λ g. (σ : Solution) (value : ℕ → List GroundMark)
-        → AreValues σ value nodes.now → Holds value order.now
-        → Begins (value g.second) (value g.parent) ⊎ Begins (value g.first) (value g.second)) }
-{
-    for i in 0..nodes.len() {
-        let Some(z) = order.below(w, i) else {
-            return None;
-        };
-        if let Some(gap) = open_gap_below(order, nodes, y, z, w) {
-            return Some(gap);
-        }
     }
     None
 }
@@ -94,11 +79,8 @@ fn open_gap_of(order: &LabelOrder, nodes: &[Node], y: usize) -> Option<Gap>
     if mark_of(nodes, y).is_none() {
         return None;
     }
-    for i in 0..nodes.len() {
-        let Some(w) = order.above(y, i) else {
-            return None;
-        };
-        if let Some(gap) = open_gap_with(order, nodes, y, w) {
+    for z in 0..nodes.len() {
+        if let Some(gap) = open_gap_with(order, nodes, y, z) {
             return Some(gap);
         }
     }
@@ -134,14 +116,13 @@ fn assume(
         → AreValues σ value nodes.now → Begins (value u) (value v) → Holds value order.old
         → Holds value order.new }
 {
-    order.add(u, v, Relation::Weak)?;
+    order.add(u, v, Relation::Weak);
     settle(order, unifier, store, nodes)
 }
 
 // Closes open gaps one way or the other, with at most so many choices, until none is open. The
 // order is refuted only where no labels are as it told. Answers how many choices are left.
 pub(crate) fn choose(
-    alloc: Global,
     order: &mut LabelOrder,
     unifier: &mut Unifier,
     store: &Store,
@@ -158,13 +139,13 @@ pub(crate) fn choose(
     let Some(gap) = open_gap(order, nodes) else {
         return Ok(choices);
     };
-    let mut first = order.copy(alloc)?;
+    let mut first = order.copy()?;
     assume(&mut first, unifier, store, nodes, gap.second, gap.parent)?;
-    let left = choose(alloc, &mut first, unifier, store, nodes, choices - 1)?;
+    let left = choose(&mut first, unifier, store, nodes, choices - 1)?;
     if !first.is_refuted {
         *order = first;
         return Ok(left);
     }
     assume(order, unifier, store, nodes, gap.first, gap.second)?;
-    choose(alloc, order, unifier, store, nodes, left)
+    choose(order, unifier, store, nodes, left)
 }

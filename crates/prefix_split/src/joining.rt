@@ -160,60 +160,42 @@ fn join(
     requires { NodesFit (length store.now.store.cells) nodes.now }
     ensures { KeepsIn store.now.store nodes.now order.old order.new }
 {
+    if order.are_equal(y, z) {
+        return Ok(());
+    }
     if !have_same_label(order, unifier, store, nodes, y, z)? {
         return Ok(());
     }
-    order.add(y, z, Relation::Weak)?;
-    order.add(z, y, Relation::Weak)
-}
-
-fn is_behind(nodes: &[Node], y: usize, u: usize) -> bool {
-    y != u && y < nodes.len() && node_at(nodes, y).parent == u
-}
-
-// Joins y and z, where z is behind v.
-fn join_child(
-    order: &mut LabelOrder,
-    unifier: &mut Unifier,
-    store: &Store,
-    nodes: &[Node],
-    y: usize,
-    z: usize,
-    v: usize,
-) -> Result<(), NoMemory>
-    requires { NodesFit (length store.now.store.cells) nodes.now }
-    ensures { KeepsIn store.now.store nodes.now order.old order.new }
-{
-    if is_behind(nodes, z, v) {
-        return join(order, unifier, store, nodes, y, z);
-    }
+    order.add(y, z, Relation::Weak);
+    order.add(z, y, Relation::Weak);
     Ok(())
 }
 
-// Joins y with the nodes behind v, where y is behind u.
+// Joins y with the children of v.
 fn join_with(
     order: &mut LabelOrder,
     unifier: &mut Unifier,
     store: &Store,
     nodes: &[Node],
     y: usize,
-    u: usize,
     v: usize,
 ) -> Result<(), NoMemory>
     requires { NodesFit (length store.now.store.cells) nodes.now }
     ensures { KeepsIn store.now.store nodes.now order.old order.new }
 {
-    if !is_behind(nodes, y, u) {
-        return Ok(());
-    }
-    for z in 0..nodes.len() {
-        join_child(order, unifier, store, nodes, y, z, v)?;
+    let mut from = 0;
+    for _ in 0..nodes.len() {
+        let Some(z) = order.next_child(v, from) else {
+            return Ok(());
+        };
+        join(order, unifier, store, nodes, y, z)?;
+        from = z.saturating_add(1);
     }
     Ok(())
 }
 
-// Joins the nodes behind u with those behind v, where the labels of u and v are equal.
-fn join_behind(
+// Joins the children of u with those of v, where the labels of u and v are equal.
+fn join_children(
     order: &mut LabelOrder,
     unifier: &mut Unifier,
     store: &Store,
@@ -224,33 +206,90 @@ fn join_behind(
     requires { NodesFit (length store.now.store.cells) nodes.now }
     ensures { KeepsIn store.now.store nodes.now order.old order.new }
 {
-    for y in 0..nodes.len() {
-        join_with(order, unifier, store, nodes, y, u, v)?;
+    let mut from = 0;
+    for _ in 0..nodes.len() {
+        let Some(y) = order.next_child(u, from) else {
+            return Ok(());
+        };
+        join_with(order, unifier, store, nodes, y, v)?;
+        from = y.saturating_add(1);
     }
     Ok(())
 }
 
-// Draws what follows from the fact of u and v.
+// Draws what follows where the labels of u and v are equal.
+fn draw_equal(
+    order: &mut LabelOrder,
+    unifier: &mut Unifier,
+    store: &Store,
+    nodes: &[Node],
+    u: usize,
+    v: usize,
+) -> Result<(), NoMemory>
+    requires { NodesFit (length store.now.store.cells) nodes.now }
+    ensures { KeepsIn store.now.store nodes.now order.old order.new }
+{
+    compare_marks(order, store, nodes, u, v);
+    join_children(order, unifier, store, nodes, u, v)
+}
+
+// The same for all nodes behind u that have its label.
+fn draw_all_equal(
+    order: &mut LabelOrder,
+    unifier: &mut Unifier,
+    store: &Store,
+    nodes: &[Node],
+    u: usize,
+) -> Result<(), NoMemory>
+    requires { NodesFit (length store.now.store.cells) nodes.now }
+    ensures { KeepsIn store.now.store nodes.now order.old order.new }
+{
+    let mut from = u.saturating_add(1);
+    for _ in 0..nodes.len() {
+        let Some(v) = order.next_equal(u, from) else {
+            return Ok(());
+        };
+        draw_equal(order, unifier, store, nodes, u, v)?;
+        from = v.saturating_add(1);
+    }
+    Ok(())
+}
+
+// Draws what follows for u.
 fn draw(
     order: &mut LabelOrder,
     unifier: &mut Unifier,
     store: &Store,
     nodes: &[Node],
     u: usize,
-    v: usize,
 ) -> Result<(), NoMemory>
     requires { NodesFit (length store.now.store.cells) nodes.now }
     ensures { KeepsIn store.now.store nodes.now order.old order.new }
 {
-    follow(order, nodes, u, v)?;
-    if u == v || !order.are_equal(u, v) {
-        return Ok(());
-    }
-    compare_marks(order, store, nodes, u, v);
-    join_behind(order, unifier, store, nodes, u, v)
+    follow(order, nodes, u);
+    draw_all_equal(order, unifier, store, nodes, u)
 }
 
-// Draws all that follows. Each fact is there once as a weak and once as a strict one.
+// Draws what follows for all nodes.
+fn draw_all(
+    order: &mut LabelOrder,
+    unifier: &mut Unifier,
+    store: &Store,
+    nodes: &[Node],
+) -> Result<(), NoMemory>
+    requires { NodesFit (length store.now.store.cells) nodes.now }
+    ensures { KeepsIn store.now.store nodes.now order.old order.new }
+{
+    for u in 0..nodes.len() {
+        if order.is_refuted {
+            return Ok(());
+        }
+        draw(order, unifier, store, nodes, u)?;
+    }
+    Ok(())
+}
+
+// Draws all that follows. What is known of two nodes grows at most twice.
 pub(crate) fn settle(
     order: &mut LabelOrder,
     unifier: &mut Unifier,
@@ -265,10 +304,10 @@ pub(crate) fn settle(
         if order.is_refuted {
             return Ok(());
         }
-        let Some((u, v)) = order.next_fact() else {
+        if !order.take_grown() {
             return Ok(());
-        };
-        draw(order, unifier, store, nodes, u, v)?;
+        }
+        draw_all(order, unifier, store, nodes)?;
     }
     Ok(())
 }

@@ -1,10 +1,11 @@
 //! What is known of which labels are beginnings of others.
 
-ghost use Rattle.std.specs.Prelude.{◌≡◌, ℕ, List, IfOk, false, true};
+ghost use Rattle.std.specs.Prelude.{◌≡◌, ℕ, List, IfOk, true};
 ghost use Rattle.calculus.specs.Ground.{GroundMark};
-ghost use Rattle.prefix_split.specs.Beginnings.{Begins, Holds, IsRelated, IsShorter, RowHolds};
-ghost use Rattle.prefix_split.specs.Beginnings.{is_known, is_strict, joined};
+ghost use Rattle.prefix_split.specs.Beginnings.{Begins, Holds, IsRelated, IsShorter};
+ghost use Rattle.prefix_split.specs.Beginnings.{joined};
 
+use crate::bit_table::BitTable;
 use cop_base::NoMemory;
 use std::alloc::Global;
 
@@ -17,55 +18,24 @@ pub(crate) enum Relation {
     Strict,
 }
 
-// How a node is related to each node, and the nodes above and below it that were found.
-#[derive(Drop)]
-pub(crate) struct Row {
-    relations: Vec<Relation>,
-    above: Vec<usize>,
-    below: Vec<usize>,
-}
-
-// The relation of nodes as far as it is known. Facts wait in the order of finding until what
-// follows from them is drawn. It is refuted once they contradict each other.
+// The relation of nodes as far as it is known, with all that follows from chains. It is refuted
+// once that contradicts itself.
 #[derive(Drop)]
 pub(crate) struct LabelOrder {
-    rows: Vec<Row>,
-    waiting: Vec<(usize, usize)>,
-    // How many of them were drawn from.
-    drawn: usize,
+    above: BitTable,
+    shorter: BitTable,
+    // The same as above the other way round, and the children of nodes: they help to find what is
+    // known.
+    below: BitTable,
+    children: BitTable,
+    count: usize,
+    // Whether more is known than when this was last asked.
+    has_grown: bool,
     pub(crate) is_refuted: bool,
 }
 
-fn is_known(r: Relation) -> bool
-    ensures { result ≡ is_known r }
-{
-    match r {
-        Relation::Unknown => false,
-        Relation::Weak => true,
-        Relation::Strict => true,
-    }
-}
-
-fn is_strict(r: Relation) -> bool
-    ensures { result ≡ is_strict r }
-{
-    match r {
-        Relation::Unknown => false,
-        Relation::Weak => false,
-        Relation::Strict => true,
-    }
-}
-
-// Whether the second says more than the first.
-fn is_less(a: Relation, b: Relation) -> bool {
-    if is_known(a) {
-        return is_strict(b) && !is_strict(a);
-    }
-    is_known(b)
-}
-
 // What two relations in a row give.
-pub(crate) fn joined(a: Relation, b: Relation) -> Relation
+fn joined(a: Relation, b: Relation) -> Relation
     ensures { result ≡ joined a b }
 {
     match (a, b) {
@@ -77,70 +47,48 @@ pub(crate) fn joined(a: Relation, b: Relation) -> Relation
     }
 }
 
-impl Row {
-    // Nothing is known of so many nodes.
-    fn new(alloc: Global, count: usize) -> Result<Row, NoMemory>
-        ensures { IfOk result (λ row. (value : ℕ → List GroundMark) (w : List GroundMark)
-            → RowHolds value w row) }
-    {
-        let mut relations = Vec::new(alloc);
-        for _ in 0..count {
-            relations.push(Relation::Unknown)?;
-        }
-        Ok(Row {
-            relations,
-            above: Vec::new(alloc),
-            below: Vec::new(alloc),
-        })
-    }
-
-    fn relation(&self, v: usize) -> Relation
-        ensures { (value : ℕ → List GroundMark) (w : List GroundMark) → RowHolds value w self.now
-            → IsRelated result w (value v) }
-    {
-        if v < self.relations.len() {
-            return self.relations[v];
-        }
-        Relation::Unknown
-    }
-
-    fn set(&mut self, v: usize, r: Relation)
-        ensures { (value : ℕ → List GroundMark) (w : List GroundMark) → RowHolds value w self.old
-            → IsRelated r w (value v) → RowHolds value w self.new }
-    {
-        if v < self.relations.len() {
-            self.relations[v] = r;
-        }
-    }
-}
-
 impl LabelOrder {
-    // Nothing is known of so many nodes.
+    // Of so many nodes it is known that each label begins itself.
     pub(crate) fn new(alloc: Global, count: usize) -> Result<LabelOrder, NoMemory>
         ensures { IfOk result (λ order. (value : ℕ → List GroundMark) → Holds value order) }
     {
-        let mut rows = Vec::new(alloc);
-        for _ in 0..count {
-            let row = Row::new(alloc, count)?;
-            rows.push(row)?;
+        let mut above = BitTable::new(alloc, count)?;
+        let shorter = BitTable::new(alloc, count)?;
+        let mut below = BitTable::new(alloc, count)?;
+        let children = BitTable::new(alloc, count)?;
+        for u in 0..count {
+            above.set(u, u);
+            below.set(u, u);
         }
         Ok(LabelOrder {
-            rows,
-            waiting: Vec::new(alloc),
-            drawn: 0,
+            above,
+            shorter,
+            below,
+            children,
+            count,
+            has_grown: true,
             is_refuted: false,
         })
     }
 
-    // What is known of the two nodes.
-    pub(crate) fn relation(&self, u: usize, v: usize) -> Relation
-        ensures { (value : ℕ → List GroundMark) → Holds value self.now
-            → IsRelated result (value u) (value v) }
+    // An order of which the same is known.
+    pub(crate) fn copy(&self) -> Result<LabelOrder, NoMemory>
+        ensures { IfOk result (λ order. (value : ℕ → List GroundMark) → Holds value self.now
+            → Holds value order) }
     {
-        if u < self.rows.len() {
-            return self.rows[u].relation(v);
-        }
-        Relation::Unknown
+        let above = self.above.copy()?;
+        let shorter = self.shorter.copy()?;
+        let below = self.below.copy()?;
+        let children = self.children.copy()?;
+        Ok(LabelOrder {
+            above,
+            shorter,
+            below,
+            children,
+            count: self.count,
+            has_grown: self.has_grown,
+            is_refuted: self.is_refuted,
+        })
     }
 
     // Whether the first label is known to be a beginning of the second one.
@@ -148,8 +96,7 @@ impl LabelOrder {
         ensures { result ≡ true → (value : ℕ → List GroundMark) → Holds value self.now
             → Begins (value u) (value v) }
     {
-        let r = self.relation(u, v);
-        is_known(r)
+        self.above.has(u, v)
     }
 
     // Whether it is known to be a shorter one.
@@ -157,8 +104,21 @@ impl LabelOrder {
         ensures { result ≡ true → (value : ℕ → List GroundMark) → Holds value self.now
             → IsShorter (value u) (value v) }
     {
-        let r = self.relation(u, v);
-        is_strict(r)
+        self.shorter.has(u, v)
+    }
+
+    // What is known of the two nodes.
+    fn relation(&self, u: usize, v: usize) -> Relation
+        ensures { (value : ℕ → List GroundMark) → Holds value self.now
+            → IsRelated result (value u) (value v) }
+    {
+        if self.is_shorter(u, v) {
+            return Relation::Strict;
+        }
+        if self.begins(u, v) {
+            return Relation::Weak;
+        }
+        Relation::Unknown
     }
 
     // Whether the labels are known to be equal.
@@ -173,27 +133,6 @@ impl LabelOrder {
         false
     }
 
-    // Lists the nodes with each other where they were not yet.
-    fn list(&mut self, u: usize, v: usize) -> Result<(), NoMemory>
-        ensures { (value : ℕ → List GroundMark) → Holds value self.old → Holds value self.new }
-    {
-        if self.begins(u, v) || u >= self.rows.len() || v >= self.rows.len() {
-            return Ok(());
-        }
-        self.rows[u].above.push(v)?;
-        self.rows[v].below.push(u)?;
-        Ok(())
-    }
-
-    fn set(&mut self, u: usize, v: usize, r: Relation)
-        ensures { (value : ℕ → List GroundMark) → IsRelated r (value u) (value v)
-            → Holds value self.old → Holds value self.new }
-    {
-        if u < self.rows.len() {
-            self.rows[u].set(v, r);
-        }
-    }
-
     // Contradicts what is known.
     pub(crate) fn refute(&mut self)
         ensures { self.new.is_refuted ≡ true }
@@ -201,104 +140,183 @@ impl LabelOrder {
         self.is_refuted = true;
     }
 
-    fn wait(&mut self, u: usize, v: usize) -> Result<(), NoMemory>
+    // Whether more became known since this was last asked.
+    pub(crate) fn take_grown(&mut self) -> bool
         ensures { (value : ℕ → List GroundMark) → Holds value self.old → Holds value self.new }
     {
-        self.waiting.push((u, v))?;
-        Ok(())
+        let grown = self.has_grown;
+        self.has_grown = false;
+        grown
     }
 
-    fn raise(&mut self, u: usize, v: usize, r: Relation) -> Result<(), NoMemory>
-        ensures { (value : ℕ → List GroundMark) → IsRelated r (value u) (value v)
+    // What begins v, begins x, by word k of the rows.
+    fn add_weak_word(&mut self, x: usize, v: usize, k: usize)
+        ensures { (value : ℕ → List GroundMark) → Begins (value x) (value v)
             → Holds value self.old → Holds value self.new }
     {
-        self.list(u, v)?;
-        self.set(u, v, r);
-        self.wait(u, v)
+        let above = self.above.word(v, k);
+        let shorter = self.shorter.word(v, k);
+        self.above.or_word(x, k, above);
+        self.shorter.or_word(x, k, shorter);
     }
 
-    // Adds what is known of the two nodes, where it is more than before.
-    pub(crate) fn add(&mut self, u: usize, v: usize, r: Relation) -> Result<(), NoMemory>
-        ensures { (value : ℕ → List GroundMark) → IsRelated r (value u) (value v)
+    // The same, where x is shorter than v.
+    fn add_strict_word(&mut self, x: usize, v: usize, k: usize)
+        ensures { (value : ℕ → List GroundMark) → IsShorter (value x) (value v)
             → Holds value self.old → Holds value self.new }
     {
-        if u == v && is_strict(r) {
+        let above = self.above.word(v, k);
+        self.above.or_word(x, k, above);
+        self.shorter.or_word(x, k, above);
+    }
+
+    fn add_weak_row(&mut self, x: usize, v: usize)
+        ensures { (value : ℕ → List GroundMark) → Begins (value x) (value v)
+            → Holds value self.old → Holds value self.new }
+    {
+        for k in 0..self.above.width() {
+            self.add_weak_word(x, v, k);
+        }
+    }
+
+    fn add_strict_row(&mut self, x: usize, v: usize)
+        ensures { (value : ℕ → List GroundMark) → IsShorter (value x) (value v)
+            → Holds value self.old → Holds value self.new }
+    {
+        for k in 0..self.above.width() {
+            self.add_strict_word(x, v, k);
+        }
+    }
+
+    fn add_row(&mut self, x: usize, v: usize, r: Relation)
+        ensures { (value : ℕ → List GroundMark) → IsRelated r (value x) (value v)
+            → Holds value self.old → Holds value self.new }
+    {
+        match r {
+            Relation::Unknown => {}
+            Relation::Weak => self.add_weak_row(x, v),
+            Relation::Strict => self.add_strict_row(x, v),
+        }
+    }
+
+    // No label is shorter than itself.
+    fn compare(&mut self, x: usize)
+        ensures { (value : ℕ → List GroundMark) → Holds value self.old → Holds value self.new }
+    {
+        if self.is_shorter(x, x) {
             self.refute();
-            return Ok(());
         }
-        let old = self.relation(u, v);
-        if is_less(old, r) {
-            return self.raise(u, v, r);
-        }
-        Ok(())
     }
 
-    // The nodes of the next fact, in the order of finding.
-    pub(crate) fn next_fact(&mut self) -> Option<(usize, usize)>
+    // What is known of u and v gives, by what x is to u, of x and what v begins.
+    fn join_row(&mut self, x: usize, u: usize, v: usize, r: Relation)
+        ensures { (value : ℕ → List GroundMark) → IsRelated r (value u) (value v)
+            → Holds value self.old → Holds value self.new }
+    {
+        let before = self.relation(x, u);
+        self.add_row(x, v, joined(before, r));
+        self.compare(x);
+    }
+
+    // The same of all that begin u.
+    fn join_rows(&mut self, u: usize, v: usize, r: Relation)
+        ensures { (value : ℕ → List GroundMark) → IsRelated r (value u) (value v)
+            → Holds value self.old → Holds value self.new }
+    {
+        let mut from = 0;
+        for _ in 0..self.count {
+            let Some(x) = self.next_below(u, from) else {
+                return;
+            };
+            self.join_row(x, u, v, r);
+            from = x.saturating_add(1);
+        }
+    }
+
+    // Lists what begins u as what begins w.
+    fn list_below(&mut self, w: usize, u: usize)
         ensures { (value : ℕ → List GroundMark) → Holds value self.old → Holds value self.new }
     {
-        if self.drawn < self.waiting.len() {
-            let fact = self.waiting[self.drawn];
-            self.drawn += 1;
-            return Some(fact);
+        for k in 0..self.below.width() {
+            let word = self.below.word(u, k);
+            self.below.or_word(w, k, word);
         }
-        None
     }
 
-    // Adds what is known of the node in this row.
-    fn add_row(&mut self, known: &LabelOrder, u: usize) -> Result<(), NoMemory>
-        ensures { (value : ℕ → List GroundMark) → Holds value known.now → Holds value self.old
-            → Holds value self.new }
-    {
-        for v in 0..known.rows.len() {
-            let r = known.relation(u, v);
-            self.add(u, v, r)?;
-        }
-        Ok(())
-    }
-
-    // The same of all nodes.
-    fn add_rows(&mut self, known: &LabelOrder) -> Result<(), NoMemory>
-        ensures { (value : ℕ → List GroundMark) → Holds value known.now → Holds value self.old
-            → Holds value self.new }
-    {
-        for u in 0..known.rows.len() {
-            self.add_row(known, u)?;
-        }
-        Ok(())
-    }
-
-    // The facts that wait are drawn from.
-    fn skip_facts(&mut self)
+    // The same for all that v begins.
+    fn list_all_below(&mut self, u: usize, v: usize)
         ensures { (value : ℕ → List GroundMark) → Holds value self.old → Holds value self.new }
     {
-        self.drawn = self.waiting.len();
+        let mut from = 0;
+        for _ in 0..self.count {
+            let Some(w) = self.next_above(v, from) else {
+                return;
+            };
+            self.list_below(w, u);
+            from = w.saturating_add(1);
+        }
     }
 
-    // An order of which the same is known, where all that follows was drawn.
-    pub(crate) fn copy(&self, alloc: Global) -> Result<LabelOrder, NoMemory>
-        ensures { IfOk result (λ order. (value : ℕ → List GroundMark) → Holds value self.now
-            → Holds value order) }
+    fn is_new(&self, u: usize, v: usize, r: Relation) -> bool {
+        match r {
+            Relation::Unknown => false,
+            Relation::Weak => !self.begins(u, v),
+            Relation::Strict => !self.is_shorter(u, v),
+        }
+    }
+
+    // Adds what is known of the two nodes, where it is more than before, and what follows from it
+    // by chains.
+    pub(crate) fn add(&mut self, u: usize, v: usize, r: Relation)
+        ensures { (value : ℕ → List GroundMark) → IsRelated r (value u) (value v)
+            → Holds value self.old → Holds value self.new }
     {
-        let mut order = LabelOrder::new(alloc, self.rows.len())?;
-        order.add_rows(self)?;
-        order.skip_facts();
-        Ok(order)
+        if !self.is_new(u, v, r) {
+            return;
+        }
+        self.has_grown = true;
+        self.join_rows(u, v, r);
+        self.list_all_below(u, v);
     }
 
-    // The nodes above this one, in the order of finding.
-    pub(crate) fn above(&self, u: usize, i: usize) -> Option<usize> {
-        if u < self.rows.len() && i < self.rows[u].above.len() {
-            return Some(self.rows[u].above[i]);
-        }
-        None
+    pub(crate) fn add_child(&mut self, u: usize, y: usize)
+        ensures { (value : ℕ → List GroundMark) → Holds value self.old → Holds value self.new }
+    {
+        self.children.set(u, y);
     }
 
-    // The nodes below this one, in the order of finding.
-    pub(crate) fn below(&self, u: usize, i: usize) -> Option<usize> {
-        if u < self.rows.len() && i < self.rows[u].below.len() {
-            return Some(self.rows[u].below[i]);
-        }
-        None
+    // The first node from this one on that u begins.
+    pub(crate) fn next_above(&self, u: usize, from: usize) -> Option<usize> {
+        self.above.next_with(u, &self.above, u, from)
+    }
+
+    // The first node from this one on that begins u.
+    pub(crate) fn next_below(&self, u: usize, from: usize) -> Option<usize> {
+        self.below.next_with(u, &self.below, u, from)
+    }
+
+    // The first child of u from this node on.
+    pub(crate) fn next_child(&self, u: usize, from: usize) -> Option<usize> {
+        self.children.next_with(u, &self.children, u, from)
+    }
+
+    // The first node from this one on that has the label of u.
+    pub(crate) fn next_equal(&self, u: usize, from: usize) -> Option<usize> {
+        self.above.next_with(u, &self.below, u, from)
+    }
+
+    // The first node from this one on that begins y, and is not known to begin x.
+    pub(crate) fn next_below_alone(&self, y: usize, x: usize, from: usize) -> Option<usize> {
+        self.below.next_without(y, &self.below, x, from)
+    }
+
+    // The first node from this one on than which x is shorter, and which y is not known to begin.
+    pub(crate) fn next_longer(&self, x: usize, y: usize, from: usize) -> Option<usize> {
+        self.shorter.next_without(x, &self.above, y, from)
+    }
+
+    // A node that both begin.
+    pub(crate) fn both_begin(&self, y: usize, z: usize) -> Option<usize> {
+        self.above.next_with(y, &self.above, z, 0)
     }
 }

@@ -26,11 +26,8 @@ fn is_first_mark(order: &LabelOrder, nodes: &[Node], y: usize) -> bool {
     if mark_of(nodes, y).is_none() {
         return false;
     }
-    for i in 0..nodes.len() {
-        let Some(z) = order.below(y, i) else {
-            return true;
-        };
-        if z < y && mark_of(nodes, z).is_some() && order.begins(y, z) {
+    for z in 0..y {
+        if order.are_equal(y, z) && mark_of(nodes, z).is_some() {
             return false;
         }
     }
@@ -48,11 +45,8 @@ fn first_marks(alloc: Global, order: &LabelOrder, nodes: &[Node]) -> Result<Vec<
 // How many labels by a mark begin the label: it has at least as many marks.
 fn rank(order: &LabelOrder, firsts: &[bool], u: usize) -> u32 {
     let mut count: u32 = 0;
-    for i in 0..firsts.len() {
-        let Some(y) = order.below(u, i) else {
-            return count;
-        };
-        if y < firsts.len() && firsts[y] {
+    for y in 0..firsts.len() {
+        if firsts[y] && order.begins(y, u) {
             count = count.saturating_add(1);
         }
     }

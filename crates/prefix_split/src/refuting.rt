@@ -1,6 +1,6 @@
 //! Systems without a solution, by the order of the beginnings of labels.
 
-ghost use Rattle.std.specs.Prelude.{◌≡◌, ◌<◌, ◌∷◌, [], ℕ, List, Some, IfOk, IsTrue, length, slice_get, true};
+ghost use Rattle.std.specs.Prelude.{◌≡◌, ◌<◌, ℕ, List, Some, IfOk, IsTrue, length, slice_get, true};
 ghost use Rattle.std.specs.List.{AllByRecursion};
 ghost use Rattle.calculus.specs.Ground.{GroundMark};
 ghost use Rattle.calculus.specs.Stores.{Solution, Solves};
@@ -40,24 +40,23 @@ fn step_relation(step: Step) -> Relation
     }
 }
 
-// A label begins itself, and its parent begins it.
-fn add_node(order: &mut LabelOrder, nodes: &[Node], u: usize) -> Result<(), NoMemory>
+// A label's parent begins it.
+fn add_node(order: &mut LabelOrder, nodes: &[Node], u: usize)
     requires { u < length nodes.now }
     ensures { Keeps nodes.now order.old order.new }
 {
     let node = node_at(nodes, u);
     let r = step_relation(node.step);
-    order.add(u, u, Relation::Weak)?;
-    order.add(node.parent, u, r)
+    order.add(node.parent, u, r);
+    order.add_child(node.parent, u);
 }
 
-fn add_nodes(order: &mut LabelOrder, nodes: &[Node]) -> Result<(), NoMemory>
+fn add_nodes(order: &mut LabelOrder, nodes: &[Node])
     ensures { Keeps nodes.now order.old order.new }
 {
-    for u in 0..nodes.len() {
-        add_node(order, nodes, u)?;
+    for u in 1..nodes.len() {
+        add_node(order, nodes, u);
     }
-    Ok(())
 }
 
 fn pair_at(pairs: &[(usize, usize)], i: usize) -> (usize, usize)
@@ -68,15 +67,14 @@ fn pair_at(pairs: &[(usize, usize)], i: usize) -> (usize, usize)
 }
 
 // The first label of each pair begins the second one.
-fn add_pairs(order: &mut LabelOrder, pairs: &[(usize, usize)]) -> Result<(), NoMemory>
+fn add_pairs(order: &mut LabelOrder, pairs: &[(usize, usize)])
     ensures { (value : ℕ → List GroundMark) → AllBegin value pairs.now → Holds value order.old
         → Holds value order.new }
 {
     for i in 0..pairs.len() {
         let pair = pair_at(pairs, i);
-        order.add(pair.0, pair.1, Relation::Weak)?;
+        order.add(pair.0, pair.1, Relation::Weak);
     }
-    Ok(())
 }
 
 // The tree of the empty label.
@@ -105,8 +103,8 @@ fn settled(
         → Holds value order) }
 {
     let mut order = LabelOrder::new(alloc, nodes.len())?;
-    add_nodes(&mut order, nodes)?;
-    add_pairs(&mut order, pairs)?;
+    add_nodes(&mut order, nodes);
+    add_pairs(&mut order, pairs);
     settle(&mut order, unifier, store, nodes)?;
     Ok(order)
 }
@@ -126,7 +124,7 @@ fn chosen(
         → ¬ AllBegin value pairs.now) }
 {
     let mut order = settled(alloc, unifier, store, nodes, pairs)?;
-    let _left = choose(alloc, &mut order, unifier, store, nodes, choices)?;
+    let _left = choose(&mut order, unifier, store, nodes, choices)?;
     Ok(order)
 }
 

@@ -2,9 +2,6 @@ use Rattle.std.proofs.Common.{sym}
 use Rattle.prefix_split.proofs.OrderLaws.{equal-begins}
 use Rattle.prefix_split.proofs.joining.join.Goals as goal
 
-pub returns-in_err-add : goal.returns-in_err-add
-returns-in_err-add c = λ σ value t v h. c.add.ensures value (equal-begins (value c.args.y) (value c.args.z) (c.in_ok-have_same_label.ensures c.if-not-branch.false σ value t v h)) h
-
 pub returns : goal.returns
 returns c = λ σ value t v h.
     let e = c.in_ok-have_same_label.ensures c.if-not-branch.false σ value t v h in

@@ -1,7 +1,6 @@
+use Rattle.std.proofs.Common.{subst}
+use Rattle.prefix_split.specs.Beginnings.{IsRelated}
 use Rattle.prefix_split.proofs.order.LabelOrder.add_row.Goals as goal
 
-pub returns-in_err-add : goal.returns-in_err-add
-returns-in_err-add c = λ value k h. c.add.ensures value (c.relation-r.ensures value k) (c.loop-v.invariant value k h)
-
-pub loop-v-preserved : goal.loop-v-preserved
-loop-v-preserved c = λ value k h. c.add.ensures value (c.relation-r.ensures value k) (c.loop-v.invariant value k h)
+pub returns-in-Weak : goal.returns-in-Weak
+returns-in-Weak c = λ value b h. c.add_weak_row.ensures value (subst (λ r. IsRelated r (value c.args.x) (value c.args.v)) c.in-Weak.is b) h

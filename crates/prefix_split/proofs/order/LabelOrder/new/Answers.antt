@@ -1,15 +1,13 @@
-use Rattle.std.proofs.Common.{◌≡◌, [], refl, subst, sym}
-use Rattle.prefix_split.specs.Beginnings.{RowsHold}
-use Rattle.prefix_split.proofs.OrderLaws.{rows-more, rows-none}
+use Rattle.std.proofs.Common.{refl}
+use Rattle.prefix_split.specs.declared.order.Relation.TheVariants.{Strict, Weak}
+use Rattle.prefix_split.proofs.OrderLaws.{begins-same}
 use Rattle.prefix_split.proofs.order.LabelOrder.new.Goals as goal
 
-pub loop-init : goal.loop-init
-loop-init c = λ value.
-    let e : c.new-rows.result.items ≡ [] = cc in
-    subst (RowsHold value) (sym e) (rows-none value)
+pub loop-u-init : goal.loop-u-init
+loop-u-init c = λ value. c.in_ok-above.ensures value Weak
 
-pub loop-preserved : goal.loop-preserved
-loop-preserved c = λ value. subst (RowsHold value) (sym c.in_ok-push.ensures.items) (rows-more value c.loop.rows.items c.in_ok-row.row (c.loop.invariant value) (λ w. c.in_ok-row.ensures value w))
+pub loop-u-preserved : goal.loop-u-preserved
+loop-u-preserved c = λ value. c.set.ensures value Weak (begins-same (value c.loop-u.u)) (c.loop-u.invariant value)
 
 pub returns : goal.returns
-returns c = λ value. record { rows = c.loop.invariant value; possible = refl }
+returns c = λ value. record { above = c.loop-u.invariant value; shorter = c.in_ok-shorter.ensures value Strict; possible = refl }

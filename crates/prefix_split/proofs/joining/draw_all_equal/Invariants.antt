@@ -1,0 +1,5 @@
+use Rattle.prefix_split.specs.Beginnings.{KeepsIn}
+use Rattle.prefix_split.proofs.joining.draw_all_equal.Given as goal
+
+abbrev pub invariant-loop : goal.invariant-loop
+invariant-loop l = KeepsIn l.store.store l.nodes l.initial.order l.order

@@ -1,7 +1,0 @@
-use Rattle.std.proofs.Common.{ℕ, List}
-use Rattle.calculus.specs.Ground.{GroundMark}
-use Rattle.prefix_split.specs.Beginnings.{Holds}
-use Rattle.prefix_split.proofs.rules.follow_above.Given as goal
-
-abbrev pub invariant-loop-i : goal.invariant-loop-i
-invariant-loop-i l = (value : ℕ → List GroundMark) → Holds value l.initial.order → Holds value l.order
