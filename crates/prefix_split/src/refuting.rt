@@ -25,9 +25,6 @@ use std::alloc::Global;
 use term_store::{Demand, Store, System};
 use term_unify::Unifier;
 
-// How many choices are made where a refutation is not needed.
-const FEW_CHOICES: u32 = 10;
-
 // How the label of a node is related to that of its parent.
 fn step_relation(step: Step) -> Relation
     ensures { result ≡ step_relation step }
@@ -135,32 +132,10 @@ pub(crate) struct LabelTree {
     pub(crate) order: LabelOrder,
 }
 
-// The tree of the labels of the equations. Its order is refuted only where no solution of the
-// store, whose strings are steps of the logic, makes the equations equal. At most so many choices
-// are made.
-pub(crate) fn label_tree(
-    alloc: Global,
-    store: &Store,
-    logic: Logic,
-    system: &System,
-    choices: u32,
-) -> Result<LabelTree, NoMemory>
-    requires fits { IsTrue (is_system store.now.store (the_system system.now)) }
-    requires named { NamesItsStrings store.now.store (the_system system.now) }
-    ensures { IfOk result (λ tree. tree.order.is_refuted ≡ true → (σ : Solution)
-        → Solves store.now.store σ → AllByRecursion (IsStep logic σ) (the_system system.now).strings
-        → ¬ AllByRecursion (AreEqual σ) (the_system system.now).equations) }
-{
-    let mut unifier = Unifier::new(alloc);
-    let mut nodes = root(alloc)?;
-    let mut pairs = Vec::new(alloc);
-    ask_equations(&mut unifier, store, logic, system, &mut nodes, &mut pairs)?;
-    let order = chosen(alloc, &mut unifier, store, &nodes, &pairs, choices)?;
-    Ok(LabelTree { nodes, order })
-}
-
-// The same, with the labels that the demand forces to be beginnings of others. Marks are added to
-// the store.
+// The tree of the labels of the equations, and of those that the demand forces to be beginnings of
+// others. Its order is refuted only where no solution of the store, whose strings are steps of the
+// logic, makes the equations equal and meets the demand. At most so many choices are made. Marks
+// are added to the store.
 pub(crate) fn demanded_tree<M: Demand>(
     alloc: Global,
     store: &mut Store,
@@ -199,7 +174,8 @@ pub(crate) fn demanded_tree<M: Demand>(
 /// Whether the order of the beginnings of labels shows that no solution of the store, whose strings
 /// are steps of the logic, makes the equations equal: then none of any length does. Otherwise
 /// nothing is known. In T, S4 and intuitionistic logic this is most of what prefixes tell before
-/// all of them are built.
+/// all of them are built. No choices are made between open gaps: they refute few systems more, and
+/// cost as much as all else.
 pub fn is_refuted(
     alloc: Global,
     store: &Store,
@@ -212,6 +188,10 @@ pub fn is_refuted(
         → Solves store.now.store σ → AllByRecursion (IsStep logic σ) (the_system system.now).strings
         → ¬ AllByRecursion (AreEqual σ) (the_system system.now).equations) }
 {
-    let tree = label_tree(alloc, store, logic, system, FEW_CHOICES)?;
-    Ok(tree.order.is_refuted)
+    let mut unifier = Unifier::new(alloc);
+    let mut nodes = root(alloc)?;
+    let mut pairs = Vec::new(alloc);
+    ask_equations(&mut unifier, store, logic, system, &mut nodes, &mut pairs)?;
+    let order = settled(alloc, &mut unifier, store, &nodes, &pairs)?;
+    Ok(order.is_refuted)
 }

@@ -3,15 +3,15 @@ use Rattle.std.proofs.lemmas.Bool.{false≢true}
 use Rattle.prefix_split.specs.Beginnings.{AllBegin, AreValues, NodesFit}
 use Rattle.prefix_split.specs.Growing.{HasValues, IsTree}
 use Rattle.prefix_split.proofs.GrowingLaws.{none-asked, root-tree, root-values}
-use Rattle.prefix_split.proofs.refuting.label_tree.Goals as goal
+use Rattle.prefix_split.proofs.refuting.is_refuted.Goals as goal
 
 pub ask_equations-requires-clause-tree : goal.ask_equations-requires-clause-tree
 ask_equations-requires-clause-tree c =
     let (n, is_root, parent, step) = c.in_ok-nodes.ensures in
     subst (IsTree (length c.args.store.now.store.cells)) (sym is_root) (root-tree (length c.args.store.now.store.cells) n parent step)
 
-pub chosen-requires : goal.chosen-requires
-chosen-requires c = subst (NodesFit (length c.args.store.now.store.cells)) (sym c.deref.ensures.value) c.in_ok-ask_equations.ensures.tree.fits
+pub settled-requires : goal.settled-requires
+settled-requires c = subst (NodesFit (length c.args.store.now.store.cells)) (sym c.deref.ensures.value) c.in_ok-ask_equations.ensures.tree.fits
 
 pub returns : goal.returns
 returns c = λ e σ t steps equal.
@@ -20,4 +20,5 @@ returns c = λ e σ t steps equal.
     let (value, v) = asked.values σ t steps (subst (HasValues σ) (sym is_root) (root-values σ n parent step)) in
     let empty : c.new-pairs.result.items ≡ [] = cc in
     let pairs = asked.pairs σ value t v equal (subst (AllBegin value) (sym empty) (none-asked value)) in
-    c.in_ok-order.ensures e σ value t (subst (AreValues σ value) (sym c.deref.ensures.value) v) (subst (AllBegin value) (sym c.deref-2.ensures.value) pairs)
+    let held = c.in_ok-order.ensures σ value t (subst (AreValues σ value) (sym c.deref.ensures.value) v) (subst (AllBegin value) (sym c.deref-2.ensures.value) pairs) in
+    false≢true (sym held.possible ∙ e)
