@@ -1,16 +1,21 @@
 -- What is new is added list by list.
-use Rattle.std.proofs.Common.{◌≡◌, List, [], ◌∷◌, ◌++◌, Bool, true, false, if◌then◌else◌, length, ℕ, suc, ◌+◌, ◌<◌, arith, map, drop, drop-cons, get_or, refl, sym, ◌∙◌, ap, append_assoc}
+use Rattle.std.proofs.Common.{◌≡◌, List, [], ◌∷◌, ◌++◌, Bool, true, false, if◌then◌else◌, length, ℕ, suc, ◌+◌, ◌<◌, arith, map, drop, drop-cons, get_or, refl, sym, ◌∙◌, ap, subst, append_assoc}
+use Rattle.std.specs.Prelude.{Result, Ok, Err}
 use Rattle.std.specs.List.{list_any}
-use Rattle.std.proofs.lemmas.List.{append-nil}
+use Rattle.std.proofs.lemmas.List.{append-nil, length-append}
+use Rattle.calculus.specs.Equality.{symbol_eq}
+use Rattle.calculus.specs.Syntax.{Symbol}
+use Rattle.formula_core.specs.declared.symbol.AddFault.{AddFault}
+use Rattle.formula_core.specs.declared.symbol.AddFault.TheVariants.{Full, NoMemory}
 use Rattle.problem_build.specs.Expansion.{first_seen, unbound}
-use Rattle.problem_build.specs.Adding.{with_new}
+use Rattle.problem_build.specs.Adding.{Adds, Stops, with_new}
 use Rattle.tptp_reader.specs.declared.source.Source as source
 use Rattle.tptp_reader.specs.declared.source.SourceTerm as term
 use Rattle.tptp_reader.specs.Lists.{terms_tree, sources_tree}
 use Rattle.tptp_reader.specs.Sources.{Name, Source}
 use Rattle.tptp_reader.specs.SourceView.{the_source}
 use Rattle.tptp_reader.specs.TermView.{the_source_term}
-use Rattle.problem_build.specs.Expansion.{free_in, free_in_all, same_name, variables_in, variables_in_all}
+use Rattle.problem_build.specs.Expansion.{free_in, free_in_all, same_name, symbols_in, symbols_in_all, term_symbols, terms_symbols, variables_in, variables_in_all}
 
 pub with_new-nothing : {A : Type 0} (same : A → A → Bool) (known : List A) → with_new same known [] ≡ known
 with_new-nothing same known = append-nil known
@@ -83,3 +88,70 @@ pub both-free : (b0 b1 known mid last : List Name) (x y v w : Source) → mid �
 both-free b0 b1 known mid last x y v w p q r s t =
     r ∙ ap (λ b. with_new same_name mid (free_in b y)) q ∙ more-new same_name known mid (free_in b0 x) (free_in b0 y) p
     ∙ ap (λ z. with_new same_name known (free_in b0 z ++ free_in b0 y)) s ∙ ap (λ z. with_new same_name known (free_in b0 v ++ free_in b0 z)) t
+
+-- ---- symbols
+
+-- no list grows shorter
+grown : (before xs ys : List Symbol) → length (with_new symbol_eq before (xs ++ ys)) ≡ length (with_new symbol_eq before xs) + length (first_seen symbol_eq (with_new symbol_eq before xs) ys)
+grown before xs ys =
+    ap length (with_new-more symbol_eq before xs ys) ∙ length-append (with_new symbol_eq before xs) (first_seen symbol_eq (with_new symbol_eq before xs) ys)
+
+-- what more would be added where it stopped
+pub stops-more : (before xs ys : List Symbol) (f : AddFault) → Stops before xs f → Stops before (xs ++ ys) f
+stops-more before xs ys Full h = let g = grown before xs ys in omega (arith, h, g)
+stops-more before xs ys NoMemory h = tt
+
+pub stops-then : (before mid xs ys : List Symbol) (f : AddFault) → mid ≡ with_new symbol_eq before xs → Stops mid ys f → Stops before (xs ++ ys) f
+stops-then before mid xs ys Full e h = let l = ap length (more-new symbol_eq before mid xs ys e) in omega (arith, h, l)
+stops-then before mid xs ys NoMemory e h = tt
+
+pub adds-then : {A : Type 0} (before mid after xs ys : List Symbol) (r : Result A AddFault) → mid ≡ with_new symbol_eq before xs → Adds mid after ys r → Adds before after (xs ++ ys) r
+adds-then before mid after xs ys (Ok x) e h = h ∙ more-new symbol_eq before mid xs ys e
+adds-then before mid after xs ys (Err f) e h = stops-then before mid xs ys f e h
+
+pub told-full : (before xs : List Symbol) (f : AddFault) → f ≡ Full → Stops before xs f → 65536 < length (with_new symbol_eq before xs)
+told-full before xs f e h = subst (λ g. Stops before xs g) e h
+
+-- the symbols of one and of another, which are those of the whole
+pub both-stopped : (before xs ys whole : List Symbol) (f : AddFault) → whole ≡ xs ++ ys → Stops before xs f → Stops before whole f
+both-stopped before xs ys whole f e h = subst (λ zs. Stops before zs f) (sym e) (stops-more before xs ys f h)
+
+pub both-added : {A : Type 0} (before mid after xs ys whole : List Symbol) (r : Result A AddFault) → whole ≡ xs ++ ys → mid ≡ with_new symbol_eq before xs → Adds mid after ys r → Adds before after whole r
+both-added before mid after xs ys whole r e k h = subst (λ zs. Adds before after zs r) (sym e) (adds-then before mid after xs ys r k h)
+
+-- in a loop: the symbols of the item, and those behind it
+pub adds-term : (items : List term.SourceTerm) (i : ℕ) (x : term.SourceTerm) (known mid : List Symbol) → i < length items → x ≡ get_or items i x
+    → mid ≡ with_new symbol_eq known (term_symbols (the_source_term x))
+    → with_new symbol_eq mid (terms_symbols (terms_tree (map the_source_term (drop (i + 1) items))))
+    ≡ with_new symbol_eq known (terms_symbols (terms_tree (map the_source_term (drop i items))))
+adds-term items i x known mid h e k =
+    more-new symbol_eq known mid (term_symbols (the_source_term x)) (terms_symbols (terms_tree (map the_source_term (drop (i + 1) items)))) k
+    ∙ ap (λ ts. with_new symbol_eq known (terms_symbols (terms_tree ts))) (sym (next-item the_source_term items i x h e))
+
+pub adds-unit : (items : List source.Source) (i : ℕ) (x : source.Source) (known mid : List Symbol) → i < length items → x ≡ get_or items i x
+    → mid ≡ with_new symbol_eq known (symbols_in (the_source x))
+    → with_new symbol_eq mid (symbols_in_all (sources_tree (map the_source (drop (i + 1) items))))
+    ≡ with_new symbol_eq known (symbols_in_all (sources_tree (map the_source (drop i items))))
+adds-unit items i x known mid h e k =
+    more-new symbol_eq known mid (symbols_in (the_source x)) (symbols_in_all (sources_tree (map the_source (drop (i + 1) items)))) k
+    ∙ ap (λ bs. with_new symbol_eq known (symbols_in_all (sources_tree bs))) (sym (next-item the_source items i x h e))
+
+-- the loop stops at an item
+stopped-at : (known xs ys whole begun : List Symbol) (f : AddFault) → with_new symbol_eq known (xs ++ ys) ≡ with_new symbol_eq begun whole
+    → Stops known xs f → Stops begun whole f
+stopped-at known xs ys whole begun Full e h = let l = ap length e in let g = grown known xs ys in omega (arith, h, l, g)
+stopped-at known xs ys whole begun NoMemory e h = tt
+
+pub stopped-term : (items : List term.SourceTerm) (i : ℕ) (x : term.SourceTerm) (known whole begun : List Symbol) (f : AddFault) → i < length items → x ≡ get_or items i x
+    → with_new symbol_eq known (terms_symbols (terms_tree (map the_source_term (drop i items)))) ≡ with_new symbol_eq begun whole
+    → Stops known (term_symbols (the_source_term x)) f → Stops begun whole f
+stopped-term items i x known whole begun f h e k s =
+    stopped-at known (term_symbols (the_source_term x)) (terms_symbols (terms_tree (map the_source_term (drop (i + 1) items)))) whole begun f
+    (ap (λ ts. with_new symbol_eq known (terms_symbols (terms_tree ts))) (sym (next-item the_source_term items i x h e)) ∙ k) s
+
+pub stopped-unit : (items : List source.Source) (i : ℕ) (x : source.Source) (known whole begun : List Symbol) (f : AddFault) → i < length items → x ≡ get_or items i x
+    → with_new symbol_eq known (symbols_in_all (sources_tree (map the_source (drop i items)))) ≡ with_new symbol_eq begun whole
+    → Stops known (symbols_in (the_source x)) f → Stops begun whole f
+stopped-unit items i x known whole begun f h e k s =
+    stopped-at known (symbols_in (the_source x)) (symbols_in_all (sources_tree (map the_source (drop (i + 1) items)))) whole begun f
+    (ap (λ bs. with_new symbol_eq known (symbols_in_all (sources_tree bs))) (sym (next-item the_source items i x h e)) ∙ k) s

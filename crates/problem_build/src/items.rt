@@ -1,12 +1,10 @@
 //! The formulas of the items that pass: their symbols, how large they are, and what they expand to.
 
 ghost use Rattle.std.specs.Prelude.{◌≡◌, ◌++◌, ◌∷◌, [], ◌<◌, List, Err, length, map, option_map, IfOk, OnOk};
-ghost use Rattle.calculus.specs.Equality.{symbol_eq};
 ghost use Rattle.calculus.specs.Syntax as tree;
 ghost use Rattle.formula_core.specs.FormulaView.{the_formula};
-ghost use Rattle.problem_build.specs.Adding.{with_new};
 ghost use Rattle.problem_build.specs.Building.{conjectures, premises, symbols_of};
-ghost use Rattle.problem_build.specs.Expansion.{closed, symbols_in};
+ghost use Rattle.problem_build.specs.Expansion.{closed};
 ghost use Rattle.problem_build.specs.Measuring.{bodies, first_measured, first_of, flat_nodes, measured};
 ghost use Rattle.problem_build.specs.Passing.{the_passed};
 ghost use Rattle.tptp_reader.specs.SourceView.{the_source};
@@ -14,25 +12,12 @@ ghost use Rattle.tptp_reader.specs.SourceView.{the_source};
 use crate::counts::{MAX_NESTING, nesting_of, nodes_of, sum};
 use crate::expansion::closed;
 use crate::passed::Passed;
-use crate::symbols::{add_all, list_symbols};
+use crate::symbols::add_symbols;
 use crate::variables::free_variables;
 use cop_base::NoMemory;
 use formula_core::{AddFault, Formula, Symbols};
 use std::alloc::{AllocError, Global};
 use tptp_reader::Source;
-
-// Adds the symbols of one formula more.
-fn add_symbols(alloc: Global, symbols: &mut Symbols, body: &Source) -> Result<(), AddFault>
-    ensures added { OnOk result (symbols.new ≡ with_new symbol_eq symbols.old (symbols_in (the_source body.now))) }
-    ensures full { result ≡ Err AddFault.Full
-        → 65536 < length (with_new symbol_eq symbols.old (symbols_in (the_source body.now))) }
-{
-    let mut more = Vec::new(alloc);
-    if let Err(_) = list_symbols(alloc, &mut more, body) {
-        return Err(AddFault::NoMemory);
-    }
-    add_all(symbols, more)
-}
 
 /// The symbols of the formulas, in the order in which they first stand there.
 pub fn symbols_of(alloc: Global, passed: &[Passed]) -> Result<Symbols, AddFault>

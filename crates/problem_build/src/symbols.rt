@@ -1,18 +1,17 @@
 //! The symbols of formulas, in the order in which they first stand in the expanded formulas.
 
-ghost use Rattle.std.specs.Prelude.{◌≡◌, ◌++◌, ◌∷◌, [], ◌<◌, ◌≤◌, length, map, IfOk, OnOk};
-ghost use Rattle.calculus.specs.Equality.{symbol_eq};
+ghost use Rattle.std.specs.Prelude.{◌≡◌, ◌++◌, ◌∷◌, [], List, IfOk, if◌then◌else◌};
 ghost use Rattle.calculus.specs.Syntax as tree;
 ghost use Rattle.formula_core.specs.SymbolView.{the_symbol};
-ghost use Rattle.problem_build.specs.Adding.{with_new};
-ghost use Rattle.problem_build.specs.Expansion.{argument_count, equality_symbol, function_symbol, predicate_symbol, symbols_in, term_symbols, terms_symbols, truth_symbol};
+ghost use Rattle.problem_build.specs.Adding.{Adds};
+ghost use Rattle.problem_build.specs.Expansion.{argument_count, binary_symbols, equality_symbol, function_symbol, predicate_symbol, symbols_in, term_symbols, terms_symbols, truth_symbol};
 ghost use Rattle.tptp_reader.specs.Lists.{terms_tree};
 ghost use Rattle.tptp_reader.specs.SourceView.{the_source};
 ghost use Rattle.tptp_reader.specs.TermView.{the_source_term};
 
 use cop_base::{NoMemory, Text};
 use formula_core::{AddFault, Symbol, SymbolClass, Symbols};
-use std::alloc::{AllocError, Global};
+use std::alloc::Global;
 use tptp_reader::{BinaryKind, Source, SourceTerm, SourceTerms};
 
 fn new_symbol(
@@ -72,127 +71,122 @@ pub fn predicate_symbol(alloc: Global, name: &Text, args: &SourceTerms) -> Resul
     Ok(symbol)
 }
 
-#[cycle(list_term)]
-fn list_term(alloc: Global, out: &mut Vec<Symbol>, term: &SourceTerm) -> Result<(), NoMemory>
-    ensures { OnOk result (map the_symbol out.new.items
-        ≡ map the_symbol out.old.items ++ term_symbols (the_source_term term.now)) }
+fn add(symbols: &mut Symbols, symbol: Symbol) -> Result<(), AddFault>
+    ensures { Adds symbols.old symbols.new (the_symbol symbol ∷ []) result }
+{
+    match symbols.add(symbol) {
+        Ok(_) => Ok(()),
+        Err(AddFault::Full) => Err(AddFault::Full),
+        Err(AddFault::NoMemory) => Err(AddFault::NoMemory),
+    }
+}
+
+#[cycle(add_term)]
+fn add_term(alloc: Global, symbols: &mut Symbols, term: &SourceTerm) -> Result<(), AddFault>
+    ensures { Adds symbols.old symbols.new (term_symbols (the_source_term term.now)) result }
 {
     match term {
         SourceTerm::Var(_) => Ok(()),
         SourceTerm::Fun(f, args) => {
-            let symbol = function_symbol(alloc, f, args)?;
-            out.push(symbol)?;
-            list_terms(alloc, out, args)?;
-            Ok(())
+            let Ok(symbol) = function_symbol(alloc, f, args) else {
+                return Err(AddFault::NoMemory);
+            };
+            if let Err(fault) = add(symbols, symbol) {
+                return Err(fault);
+            }
+            add_terms(alloc, symbols, args)
         }
     }
 }
 
-#[cycle(list_term)]
+#[cycle(add_term)]
 #[tactic(auto, using(crate::proofs::FallingLaws::falling))]
-fn list_terms(alloc: Global, out: &mut Vec<Symbol>, terms: &SourceTerms) -> Result<(), NoMemory>
-    ensures { OnOk result (map the_symbol out.new.items
-        ≡ map the_symbol out.old.items ++ terms_symbols (terms_tree terms.now)) }
+fn add_terms(alloc: Global, symbols: &mut Symbols, terms: &SourceTerms) -> Result<(), AddFault>
+    ensures { Adds symbols.old symbols.new (terms_symbols (terms_tree terms.now)) result }
 {
     for term in terms.items() {
-        list_term(alloc, out, term)?;
-    }
-    Ok(())
-}
-
-fn list_equation(
-    alloc: Global,
-    out: &mut Vec<Symbol>,
-    left: &SourceTerm,
-    right: &SourceTerm,
-) -> Result<(), NoMemory>
-    ensures { OnOk result (map the_symbol out.new.items ≡ map the_symbol out.old.items
-        ++ equality_symbol ∷ (term_symbols (the_source_term left.now) ++ term_symbols (the_source_term right.now))) }
-{
-    let equality = equality_symbol(alloc)?;
-    out.push(equality)?;
-    list_term(alloc, out, left)?;
-    list_term(alloc, out, right)?;
-    Ok(())
-}
-
-/// Appends the symbols of the formula, some of them more than once.
-#[tactic(auto, using(crate::proofs::FallingLaws::falling))]
-pub fn list_symbols(alloc: Global, out: &mut Vec<Symbol>, source: &Source) -> Result<(), NoMemory>
-    ensures { OnOk result (map the_symbol out.new.items
-        ≡ map the_symbol out.old.items ++ symbols_in (the_source source.now)) }
-{
-    match source {
-        Source::Atom(p, args) => {
-            let symbol = predicate_symbol(alloc, p, args)?;
-            out.push(symbol)?;
-            list_terms(alloc, out, args)?;
-            Ok(())
-        }
-        Source::True | Source::False => {
-            let truth = truth_symbol(alloc)?;
-            out.push(truth)?;
-            Ok(())
-        }
-        Source::Equal(s, t) | Source::Unequal(s, t) => {
-            list_equation(alloc, out, s, t)?;
-            Ok(())
-        }
-        Source::Binary(BinaryKind::If, a, b) => {
-            list_symbols(alloc, out, b.get())?;
-            list_symbols(alloc, out, a.get())?;
-            Ok(())
-        }
-        Source::Binary(
-            BinaryKind::Imp
-            | BinaryKind::Iff
-            | BinaryKind::Xor
-            | BinaryKind::Nor
-            | BinaryKind::Nand,
-            a,
-            b,
-        ) => {
-            list_symbols(alloc, out, a.get())?;
-            list_symbols(alloc, out, b.get())?;
-            Ok(())
-        }
-        Source::Chain(_, units) => {
-            for unit in units.items() {
-                list_symbols(alloc, out, unit)?;
-            }
-            Ok(())
-        }
-        Source::Not(a) | Source::All(_, a) | Source::Ex(_, a) | Source::Nec(a) | Source::Poss(a) =>
-            {
-                list_symbols(alloc, out, a.get())?;
-                Ok(())
-            }
-    }
-}
-
-fn add(symbols: &mut Symbols, symbol: Symbol) -> Result<(), AddFault>
-    ensures added { OnOk result (symbols.new ≡ with_new symbol_eq symbols.old (the_symbol symbol ∷ [])) }
-    ensures full { result ≡ Err AddFault.Full → (symbols.new ≡ symbols.old) × (length symbols.old ≡ 65536)
-        × (65536 < length (with_new symbol_eq symbols.old (the_symbol symbol ∷ []))) }
-{
-    match symbols.add(symbol) {
-        Ok(_) => Ok(()),
-        Err(fault) => Err(fault),
-    }
-}
-
-/// Adds those of the symbols that are new. `Full` where there are too many.
-pub fn add_all(symbols: &mut Symbols, more: Vec<Symbol>) -> Result<(), AddFault>
-    ensures added { OnOk result (symbols.new ≡ with_new symbol_eq symbols.old (map the_symbol more.items)) }
-    ensures full { result ≡ Err AddFault.Full
-        → 65536 < length (with_new symbol_eq symbols.old (map the_symbol more.items)) }
-{
-    let mut more = more;
-    more.reverse();
-    while let Some(symbol) = more.pop() {
-        if let Err(fault) = add(symbols, symbol) {
+        if let Err(fault) = add_term(alloc, symbols, term) {
             return Err(fault);
         }
     }
     Ok(())
+}
+
+fn add_equation(
+    alloc: Global,
+    symbols: &mut Symbols,
+    left: &SourceTerm,
+    right: &SourceTerm,
+) -> Result<(), AddFault>
+    ensures { Adds symbols.old symbols.new
+        (equality_symbol ∷ (term_symbols (the_source_term left.now) ++ term_symbols (the_source_term right.now))) result }
+{
+    let Ok(symbol) = equality_symbol(alloc) else {
+        return Err(AddFault::NoMemory);
+    };
+    if let Err(fault) = add(symbols, symbol) {
+        return Err(fault);
+    }
+    if let Err(fault) = add_term(alloc, symbols, left) {
+        return Err(fault);
+    }
+    add_term(alloc, symbols, right)
+}
+
+// Whether the right side stands first when it is expanded.
+fn is_turned(kind: BinaryKind) -> bool
+    ensures { (xs ys : List tree.Symbol) → binary_symbols kind xs ys ≡ (if result then ys ++ xs else xs ++ ys) }
+{
+    match kind {
+        BinaryKind::If => true,
+        BinaryKind::Imp | BinaryKind::Iff | BinaryKind::Xor | BinaryKind::Nor | BinaryKind::Nand =>
+            false,
+    }
+}
+
+/// Adds those of the formula's symbols that are new. `Full` where there are too many.
+#[tactic(auto, using(crate::proofs::FallingLaws::falling))]
+pub fn add_symbols(alloc: Global, symbols: &mut Symbols, source: &Source) -> Result<(), AddFault>
+    ensures { Adds symbols.old symbols.new (symbols_in (the_source source.now)) result }
+{
+    match source {
+        Source::Atom(p, args) => {
+            let Ok(symbol) = predicate_symbol(alloc, p, args) else {
+                return Err(AddFault::NoMemory);
+            };
+            if let Err(fault) = add(symbols, symbol) {
+                return Err(fault);
+            }
+            add_terms(alloc, symbols, args)
+        }
+        Source::True | Source::False => {
+            let Ok(symbol) = truth_symbol(alloc) else {
+                return Err(AddFault::NoMemory);
+            };
+            add(symbols, symbol)
+        }
+        Source::Equal(s, t) | Source::Unequal(s, t) => add_equation(alloc, symbols, s, t),
+        Source::Binary(kind, a, b) => {
+            if is_turned(*kind) {
+                if let Err(fault) = add_symbols(alloc, symbols, b.get()) {
+                    return Err(fault);
+                }
+                return add_symbols(alloc, symbols, a.get());
+            }
+            if let Err(fault) = add_symbols(alloc, symbols, a.get()) {
+                return Err(fault);
+            }
+            add_symbols(alloc, symbols, b.get())
+        }
+        Source::Chain(_, units) => {
+            for unit in units.items() {
+                if let Err(fault) = add_symbols(alloc, symbols, unit) {
+                    return Err(fault);
+                }
+            }
+            Ok(())
+        }
+        Source::Not(a) | Source::All(_, a) | Source::Ex(_, a) | Source::Nec(a) | Source::Poss(a) =>
+            add_symbols(alloc, symbols, a.get()),
+    }
 }
