@@ -7,10 +7,6 @@ mod branch;
 mod closing;
 mod done;
 mod entry;
-#[cfg(test)]
-mod example_problems;
-#[cfg(test)]
-mod example_tableaux;
 mod expansion;
 mod following;
 mod literals;
@@ -24,8 +20,6 @@ mod past;
 mod run;
 mod source;
 mod spot;
-#[cfg(test)]
-mod tests;
 mod turns;
 
 ghost use Rattle.std.specs.Prelude.{◌≡◌, ◌≤◌, ◌++◌, IfOk, OnOk, IsTrue, false};

@@ -1,6 +1,5 @@
 //! Tableaux by hand, whose derivations the rules accept.
 
-use crate::convert;
 use crate::example_problems::{
     both_worlds_problem, boxed_drinker_problem, serial_problem, twice_denied_problem,
 };
@@ -10,6 +9,7 @@ use crate::example_tableaux::{
 use cop_base::NoMemory;
 use logic_rules::Problem;
 use sequent_calc::{ApplyFault, Children, Derivation, Entry, Names, Sequent, Step, apply};
+use sequent_convert::convert;
 use std::alloc::Global;
 use std::test::Fail;
 use tableau_core::{Side, is_closed};

@@ -1,0 +1,10 @@
+//! The tests of the conversion, over its built library. A crate with tests of its own is proved twice,
+//! and the conversion is dear to prove.
+#![tactic(auto)]
+
+#[cfg(test)]
+mod example_problems;
+#[cfg(test)]
+mod example_tableaux;
+#[cfg(test)]
+mod tests;
