@@ -1,6 +1,7 @@
 //! Judgements over a library and a sink in memory.
 
 use crate::tests::ends;
+use cop_base::NoMemory;
 use std::alloc::Global;
 use std::test::Fail;
 
@@ -9,13 +10,13 @@ const DERIVATION: &[u8] =
 
 // Whether `check m.p d.txt` writes this line and ends with this status, where m.p has the
 // conjecture p => p and d.txt has the bytes of the derivation.
-fn is_judged(alloc: Global, derivation: &[u8], status: u8, line: &[u8]) -> Result<bool, Fail> {
+fn is_judged(alloc: Global, derivation: &[u8], status: u8, line: &[u8]) -> Result<bool, NoMemory> {
     let problem = b"fof(c,conjecture,p => p).\n".as_slice();
     let files = [("m.p", problem), ("d.txt", derivation)];
     ends(alloc, &["check", "m.p", "d.txt"], &files, &[], status, line)
 }
 
-fn is_rejected(alloc: Global, derivation: &[u8], line: &[u8]) -> Result<bool, Fail> {
+fn is_rejected(alloc: Global, derivation: &[u8], line: &[u8]) -> Result<bool, NoMemory> {
     is_judged(alloc, derivation, 8, line)
 }
 
@@ -23,7 +24,7 @@ fn is_rejected(alloc: Global, derivation: &[u8], line: &[u8]) -> Result<bool, Fa
 const HEAD: &[u8] = b"leancop derivation 1\nlogic classical\nformula (p => p)\nlimit 1\n";
 
 // The same for a text that begins with HEAD and goes on with `lines`.
-fn is_rejected_after_head(alloc: Global, lines: &[u8], line: &[u8]) -> Result<bool, Fail> {
+fn is_rejected_after_head(alloc: Global, lines: &[u8], line: &[u8]) -> Result<bool, NoMemory> {
     let mut text = HEAD.to_vec(alloc)?;
     text.extend_from_slice(lines)?;
     is_rejected(alloc, text.as_slice(), line)
@@ -35,60 +36,61 @@ fn accepts_its_own(rt: HostRuntime) -> Result<(), Fail> {
     Ok(())
 }
 
+const HEAD_FAULTS: &[(&[u8], &[u8])] = &[
+    (b"", b"rejected at line 1: version\n"),
+    (
+        b"leancop derivation 1\nlogic intuitionistic\n",
+        b"rejected at line 2: setting\n",
+    ),
+    (
+        b"leancop derivation 1\nlogic classical\nformula (p => q)\n",
+        b"rejected at line 3: formula\n",
+    ),
+    (
+        b"leancop derivation 1\nlogic classical\nformula (p => p)\nlimit 0\n",
+        b"rejected at line 4: limit\n",
+    ),
+];
+
 #[test]
 fn tells_faults_of_the_head(rt: HostRuntime) -> Result<(), Fail> {
-    for (text, told) in [
-        (b"".as_slice(), b"rejected at line 1: version\n".as_slice()),
-        (
-            b"leancop derivation 1\nlogic intuitionistic\n",
-            b"rejected at line 2: setting\n",
-        ),
-        (
-            b"leancop derivation 1\nlogic classical\nformula (p => q)\n",
-            b"rejected at line 3: formula\n",
-        ),
-        (
-            b"leancop derivation 1\nlogic classical\nformula (p => p)\nlimit 0\n",
-            b"rejected at line 4: limit\n",
-        ),
-    ] {
-        assert!(rt; is_rejected(rt.alloc(), text, told)?);
+    for (text, told) in HEAD_FAULTS {
+        assert!(rt; is_rejected(rt.alloc(), *text, *told)?);
     }
     Ok(())
 }
 
 // The faults of steps that are not here need a quantifier or a modal operator.
+const LINE_FAULTS: &[(&[u8], &[u8])] = &[
+    (b"name $$e1\n", b"rejected at line 5: name\n"),
+    (b"use 1\naxiom 2 3\nen", b"rejected at line 7: line\n"),
+    (
+        b"use 1\naxiom 2 3\nend\nend\n",
+        b"rejected at line 8: text after end\n",
+    ),
+    (
+        b"use 1\naxiom 2 9\nend\n",
+        b"rejected at line 6: no entry\n",
+    ),
+    (
+        b"use 1\naxiom 3 2\nend\n",
+        b"rejected at line 6: no connection\n",
+    ),
+    (
+        b"use 1\nuse 2\nend\n",
+        b"rejected at line 6: wrong arguments\n",
+    ),
+    (
+        b"use 1\naxiom 2 3\naxiom 2 3\nend\n",
+        b"rejected at line 7: all closed\n",
+    ),
+    (b"use 1\nend\n", b"rejected at line 6: still open\n"),
+];
+
 #[test]
 fn tells_faults_behind_the_head(rt: HostRuntime) -> Result<(), Fail> {
-    for (lines, told) in [
-        (
-            b"name $$e1\n".as_slice(),
-            b"rejected at line 5: name\n".as_slice(),
-        ),
-        (b"use 1\naxiom 2 3\nen", b"rejected at line 7: line\n"),
-        (
-            b"use 1\naxiom 2 3\nend\nend\n",
-            b"rejected at line 8: text after end\n",
-        ),
-        (
-            b"use 1\naxiom 2 9\nend\n",
-            b"rejected at line 6: no entry\n",
-        ),
-        (
-            b"use 1\naxiom 3 2\nend\n",
-            b"rejected at line 6: no connection\n",
-        ),
-        (
-            b"use 1\nuse 2\nend\n",
-            b"rejected at line 6: wrong arguments\n",
-        ),
-        (
-            b"use 1\naxiom 2 3\naxiom 2 3\nend\n",
-            b"rejected at line 7: all closed\n",
-        ),
-        (b"use 1\nend\n", b"rejected at line 6: still open\n"),
-    ] {
-        assert!(rt; is_rejected_after_head(rt.alloc(), lines, told)?);
+    for (lines, told) in LINE_FAULTS {
+        assert!(rt; is_rejected_after_head(rt.alloc(), *lines, *told)?);
     }
     Ok(())
 }
@@ -115,76 +117,69 @@ fn tells_where_a_text_is_cut(rt: HostRuntime) -> Result<(), Fail> {
     Ok(())
 }
 
-// ?[X]:![Y]:(d(X) => d(Y)), in three parts; the second has lines 12 and 13, the third line 14.
-const DRINKER: [&[u8]; 4] = [
-    b"leancop derivation 1\nlogic classical\nformula ?[X1]:![X2]:(d(X1) => d(X2))\nlimit 1\nname $$e1 []\nname $$e2 []\nname $$s1 any\nuse 1 term $$s1\nuse 2 name $$e1\nuse 3\nuse 1 term $$e1\n",
-    b"use 6 name $$e2\nuse 7\n",
-    b"axiom 8 5\n",
-    b"end\n",
-];
+// The first eleven lines of a derivation of ?[X]:![Y]:(d(X) => d(Y)).
+const DRINKER: &[u8] =
+    b"leancop derivation 1\nlogic classical\nformula ?[X1]:![X2]:(d(X1) => d(X2))\nlimit 1\nname $$e1 []\nname $$e2 []\nname $$s1 any\nuse 1 term $$s1\nuse 2 name $$e1\nuse 3\nuse 1 term $$e1\n";
 
-// Whether `check` with an option more writes this line, where d.txt has the four parts.
+// Whether `check` with an option more writes this line, where d.txt goes on like this.
 fn is_drinker_judged(
     alloc: Global,
     option: &str,
-    parts: &[&[u8]],
+    steps: &[u8],
     status: u8,
     line: &[u8],
-) -> Result<bool, Fail> {
-    let mut text = Vec::new(alloc);
-    for part in parts {
-        text.extend_from_slice(part)?;
-    }
+) -> Result<bool, NoMemory> {
+    let mut text = DRINKER.to_vec(alloc)?;
+    text.extend_from_slice(steps)?;
     let problem = b"fof(c,conjecture,?[X]:![Y]:(d(X) => d(Y))).\n".as_slice();
     let files = [("m.p", problem), ("d.txt", text.as_slice())];
     let words = ["check", "m.p", "d.txt", option];
     ends(alloc, &words, &files, &[], status, line)
 }
 
+const CLASSICAL: &[(&str, &[u8], u8, &[u8])] = &[
+    (
+        "--logic=classical",
+        b"use 6 name $$e2\nuse 7\naxiom 8 5\nend\n",
+        0,
+        b"accepted\n",
+    ),
+    (
+        "--root=a",
+        b"use 6 name $$e1\nuse 7\naxiom 8 5\nend\n",
+        8,
+        b"rejected at line 12: not new\n",
+    ),
+    (
+        "--root=a",
+        b"use 6 name $$e2\nuse 7\naxiom 8 9\nend\n",
+        8,
+        b"rejected at line 14: no connection\n",
+    ),
+    (
+        "--root=a",
+        b"use 6 name $$e2\nuse 7\nend\n",
+        8,
+        b"rejected at line 14: still open\n",
+    ),
+    (
+        "--root=a",
+        b"use 6 name $$e2\nuse 7\naxiom 8 5\naxiom 8 5\nend\n",
+        8,
+        b"rejected at line 15: all closed\n",
+    ),
+    (
+        "--logic=intuitionistic",
+        b"use 6 name $$e2\nuse 7\naxiom 8 5\nend\n",
+        8,
+        b"rejected at line 2: setting\n",
+    ),
+];
+
 #[test]
 fn judges_classical_derivations(rt: HostRuntime) -> Result<(), Fail> {
-    let [head, uses, axiom, end] = DRINKER;
-    let known = b"use 6 name $$e1\nuse 7\n".as_slice();
-    let unconnected = b"axiom 8 9\n".as_slice();
-    for (option, parts, status, line) in [
-        (
-            "--logic=classical",
-            [head, uses, axiom, end].as_slice(),
-            0,
-            b"accepted\n".as_slice(),
-        ),
-        (
-            "--root=a",
-            &[head, known, axiom, end],
-            8,
-            b"rejected at line 12: not new\n",
-        ),
-        (
-            "--root=a",
-            &[head, uses, unconnected, end],
-            8,
-            b"rejected at line 14: no connection\n",
-        ),
-        (
-            "--root=a",
-            &[head, uses, end],
-            8,
-            b"rejected at line 14: still open\n",
-        ),
-        (
-            "--root=a",
-            &[head, uses, axiom, axiom, end],
-            8,
-            b"rejected at line 15: all closed\n",
-        ),
-        (
-            "--logic=intuitionistic",
-            &[head, uses, axiom, end],
-            8,
-            b"rejected at line 2: setting\n",
-        ),
-    ] {
-        assert!(rt; is_drinker_judged(rt.alloc(), option, parts, status, line)?);
+    for (option, steps, status, line) in CLASSICAL {
+        assert!(rt; is_drinker_judged(rt.alloc(), *option, *steps, *status, *line)?);
     }
     Ok(())
 }
@@ -202,51 +197,67 @@ const SERIAL: &[u8] =
 const NOT_NOT: &[u8] =
     b"leancop derivation 1\nlogic intuitionistic\nformula ~~(p | ~p)\nlimit 1\nuse 1 new $$c1\nuse 2 to [$$c1]\nuse 3\nuse 5 new $$c2\nuse 2 to [$$c1,$$c2]\nuse 7\nuse 8 new $$c3\nuse 6 to [$$c1,$$c2,$$c3]\naxiom 11 10\nend\n";
 
+const SERIAL_PROBLEM: &[u8] = b"qmf(c,conjecture,(#box:p) => #dia:p).\n";
+
+const NOT_NOT_PROBLEM: &[u8] = b"fof(c,conjecture,~~(p | ~p)).\n";
+
+const BARCAN_PROBLEM: &[u8] = b"qmf(c,conjecture,(![X]:#box:p(X)) => #box:![X]:p(X)).\n";
+
+const SETTINGS: &[([&str; 2], &[u8], &[u8], u8, &[u8])] = &[
+    (
+        ["--logic=d", "--domains=constant"],
+        SERIAL_PROBLEM,
+        SERIAL,
+        0,
+        b"accepted\n",
+    ),
+    (
+        ["--logic=intuitionistic", "--root=a"],
+        NOT_NOT_PROBLEM,
+        NOT_NOT,
+        0,
+        b"accepted\n",
+    ),
+    (
+        ["--domains=cumulative", "--logic=t"],
+        BARCAN_PROBLEM,
+        CUMULATIVE,
+        8,
+        b"rejected at line 9: not allowed\n",
+    ),
+    (
+        ["--logic=t", "--domains=constant"],
+        BARCAN_PROBLEM,
+        CONSTANT,
+        0,
+        b"accepted\n",
+    ),
+    (
+        ["--logic=t", "--domains=varying"],
+        BARCAN_PROBLEM,
+        CONSTANT,
+        8,
+        b"rejected at line 2: setting\n",
+    ),
+];
+
+fn is_judged_in(
+    alloc: Global,
+    options: [&str; 2],
+    problem: &[u8],
+    derivation: &[u8],
+    status: u8,
+    line: &[u8],
+) -> Result<bool, NoMemory> {
+    let files = [("m.p", problem), ("d.txt", derivation)];
+    let words = ["check", options[0], options[1], "m.p", "d.txt"];
+    ends(alloc, &words, &files, &[], status, line)
+}
+
 #[test]
 fn judges_in_the_setting_of_the_words(rt: HostRuntime) -> Result<(), Fail> {
-    let barcan = b"qmf(c,conjecture,(![X]:#box:p(X)) => #box:![X]:p(X)).\n".as_slice();
-    let serial = b"qmf(c,conjecture,(#box:p) => #dia:p).\n".as_slice();
-    let not_not = b"fof(c,conjecture,~~(p | ~p)).\n".as_slice();
-    for (options, problem, derivation, status, line) in [
-        (
-            ["--logic=d", "--domains=constant"],
-            serial,
-            SERIAL,
-            0,
-            b"accepted\n".as_slice(),
-        ),
-        (
-            ["--logic=intuitionistic", "--root=a"],
-            not_not,
-            NOT_NOT,
-            0,
-            b"accepted\n",
-        ),
-        (
-            ["--domains=cumulative", "--logic=t"],
-            barcan,
-            CUMULATIVE,
-            8,
-            b"rejected at line 9: not allowed\n",
-        ),
-        (
-            ["--logic=t", "--domains=constant"],
-            barcan,
-            CONSTANT,
-            0,
-            b"accepted\n",
-        ),
-        (
-            ["--logic=t", "--domains=varying"],
-            barcan,
-            CONSTANT,
-            8,
-            b"rejected at line 2: setting\n",
-        ),
-    ] {
-        let files = [("m.p", problem), ("d.txt", derivation)];
-        let words = ["check", options[0], options[1], "m.p", "d.txt"];
-        assert!(rt; ends(rt.alloc(), &words, &files, &[], status, line)?);
+    for (options, problem, derivation, status, line) in SETTINGS {
+        assert!(rt; is_judged_in(rt.alloc(), *options, *problem, *derivation, *status, *line)?);
     }
     Ok(())
 }
