@@ -1,5 +1,5 @@
-//! The tests of the conversion, over its built library. A crate with tests of its own is proved twice,
-//! and the conversion is dear to prove.
+//! The tests of the conversion, over its built library: a crate with tests of its own is proved
+//! twice, and the conversion is dear to prove.
 #![tactic(auto)]
 
 #[cfg(test)]
