@@ -1,8 +1,8 @@
 -- What stands on each branch that a use step leads to, by what the step is given.
-use Rattle.std.proofs.Common.{◌≡◌, ℕ, zero, suc, ◌<◌, Bool, true, false, ◌||◌, ◌&&◌, List, [], ◌∷◌, ◌++◌, length, get_or, map, refl, sym, ◌∙◌, ap, subst, arith}
+use Rattle.std.proofs.Common.{◌≡◌, ℕ, suc, ◌<◌, Bool, true, false, ◌||◌, ◌&&◌, List, [], ◌∷◌, ◌++◌, length, get_or, map, refl, sym, ◌∙◌, ap, arith}
 use Rattle.std.specs.List.{list_any}
 use Rattle.calculus.specs.declared.setting.Logic.{Logic}
-use Rattle.calculus.specs.declared.setting.Logic.TheVariants.{Classical, Intuitionistic, D, T as LogicT, S4, S5}
+use Rattle.calculus.specs.declared.setting.Logic.TheVariants.{S5}
 use Rattle.calculus.specs.declared.sign.Sign.{Sign}
 use Rattle.calculus.specs.declared.sign.Sign.TheVariants.{T, F}
 use Rattle.calculus.specs.Calculus.{Children, closed, one, two, entry_at, with_argument, with_components, term_fits, label_after, character_occurs, holds_character, is_in_home}

@@ -1,6 +1,8 @@
 pub mod ChainLaws
 pub mod PuttingLaws
 pub mod TableLaws
+pub mod LabelLaws
+pub mod BeginningLaws
 pub mod UnderLaws
 pub mod AddedLaws
 pub mod OccurrenceLaws

@@ -1,6 +1,7 @@
 pub mod Chains
 pub mod Putting
 pub mod TableView
+pub mod LabelTable
 pub mod EntryView
 pub mod AddedView
 pub mod Occurring

@@ -3,8 +3,6 @@ use Rattle.std.specs.Prelude.{◌≡◌, ℕ, ◌<◌, List, [], length, get_or}
 use Rattle.calculus.specs.Syntax as tree
 use Rattle.calculus.specs.Derivations as derivation
 use Rattle.formula_core.specs.TermView.{the_term}
-use Rattle.logic_rules.specs.MarkView.{the_character}
-use Rattle.logic_rules.specs.declared.label.Mark.{Mark}
 use Rattle.derivation_branch.specs.declared.substitution.Value.{Value}
 use Rattle.derivation_branch.specs.declared.substitution.Value.TheVariants.{Given, Eigen, Free}
 
@@ -15,9 +13,6 @@ the_value (Free n) = tree.var n
 
 abbrev pub the_link : Value × ℕ → tree.Term × ℕ
 the_link x = (the_value x.0, x.1)
-
-abbrev pub the_mark_link : Mark × ℕ → derivation.Mark × ℕ
-the_mark_link x = (the_character x.0, x.1)
 
 -- the label stands at the place
 abbrev pub IsLabelAt : List derivation.Label → ℕ → derivation.Label → Type 0

@@ -1,15 +1,13 @@
 //! Labelled signed formulas that own nothing.
 
-ghost use Rattle.std.specs.Prelude.{◌≡◌, IfOk};
+ghost use Rattle.std.specs.Prelude.{◌≡◌};
 ghost use Rattle.calculus.specs.Calculus.{connects};
 ghost use Rattle.derivation_branch.specs.EntryView.{IsWithin, the_shared};
 
 use crate::comparison::are_same_atom;
 use crate::labels::Labels;
 use crate::substitution::Substitutions;
-use cop_base::NoMemory;
 use formula_core::{Formula, Sign};
-use std::alloc::Global;
 
 /// A signed formula at a label, over tables of substitutions and labels: a part of the problem's
 /// formula under the substitution at a place.
@@ -23,32 +21,24 @@ pub struct SharedEntry<'a> {
 
 /// Whether the entries are T and F of one atom at one label.
 pub fn connects<'a>(
-    alloc: Global,
     substitutions: &Substitutions<'a>,
     labels: &Labels,
     given: SharedEntry<'a>,
     shown: SharedEntry<'a>,
-) -> Result<bool, NoMemory>
+) -> bool
     requires given { IsWithin substitutions.now labels.now given }
     requires shown { IsWithin substitutions.now labels.now shown }
-    ensures { IfOk result (λ r. r ≡ connects (the_shared substitutions.now labels.now given.entry)
-        (the_shared substitutions.now labels.now shown.entry)) }
+    ensures { result ≡ connects (the_shared substitutions.now labels.now given.entry)
+        (the_shared substitutions.now labels.now shown.entry) }
 {
-    if given.sign != Sign::T {
-        return Ok(false);
-    }
-    if shown.sign != Sign::F {
-        return Ok(false);
-    }
-    if !are_same_atom(
-        substitutions,
-        given.formula,
-        given.substitution,
-        shown.formula,
-        shown.substitution,
-    ) {
-        return Ok(false);
-    }
-    let same = labels.are_equal(alloc, given.label, shown.label)?;
-    Ok(same)
+    given.sign == Sign::T
+        && shown.sign == Sign::F
+        && are_same_atom(
+            substitutions,
+            given.formula,
+            given.substitution,
+            shown.formula,
+            shown.substitution,
+        )
+        && labels.are_equal(given.label, shown.label)
 }

@@ -1,51 +1,80 @@
-//! Labels that share their beginnings.
+//! Labels that share their beginnings, each at one place.
 
-ghost use Rattle.std.specs.Prelude.{◌≡◌, ◌<◌, ◌++◌, ◌∷◌, [], get_or, length, map, reverse};
-ghost use Rattle.std.specs.Prelude.{IfOk, OnOk, OnErr};
+ghost use Rattle.std.specs.Prelude.{◌≡◌, ◌==◌, ◌<◌, ◌≤◌, ◌++◌, ◌∷◌, [], get_or, length, map, suc};
+ghost use Rattle.std.specs.Prelude.{IfOk, OnOk};
 ghost use Rattle.calculus.specs.Derivations as derivation;
 ghost use Rattle.calculus.specs.Derivations.{character_eq};
 ghost use Rattle.calculus.specs.Equality.{list_eq};
-ghost use Rattle.calculus.specs.Labels.{pi_label};
+ghost use Rattle.calculus.specs.Labels.{is_prefix, pi_label};
+ghost use Rattle.derivation_branch.specs.LabelTable.{IsRung, IsRungFrom, the_last};
 ghost use Rattle.derivation_branch.specs.Occurring.{IsLonger};
 ghost use Rattle.derivation_branch.specs.TableView.{IsLabelAt};
 ghost use Rattle.logic_rules.specs.MarkView.{the_character};
 
 use crate::places::place_of;
 use cop_base::NoMemory;
+use indexmap::IndexMap;
 use logic_rules::{Label, Logic, Mark};
 use std::alloc::Global;
 use std::marker::Model;
 
+/// A label by the place of what stands before its last mark, and that mark.
+#[derive(Clone, Copy, PartialEq, Eq, Hash)]
+struct Link {
+    front: u32,
+    is_new: bool,
+    number: u32,
+}
+
+/// Where the beginnings of a label are found: the place of what stands before its last mark, and
+/// that of a further beginning. With the lengths that `jump_after` chooses the way to a beginning
+/// of any length has logarithmically many steps (Myers, "An applicative random-access stack").
+#[derive(Clone, Copy)]
+struct Rung {
+    front: u32,
+    length: u32,
+    jump: u32,
+}
+
 /// A table of labels. The first one is the root, and each other one adds a mark to another label
-/// of the table.
+/// of the table. No label has two places.
 #[derive(Drop)]
 pub struct Labels {
-    links: Vec<(Mark, u32)>,
+    links: IndexMap<Link, Rung>,
 }
 
 impl Model for Labels {
-    ghost use Rattle.std.specs.Prelude.{List, map, reverse};
+    ghost use Rattle.std.specs.Prelude.{List, map};
     ghost use Rattle.calculus.specs.Derivations as derivation;
-    ghost use Rattle.derivation_branch.specs.Chains.{AreBackward, chains};
-    ghost use Rattle.derivation_branch.specs.TableView.{the_mark_link};
+    ghost use Rattle.derivation_branch.specs.Chains.{AreBackward};
+    ghost use Rattle.derivation_branch.specs.LabelTable.{AreApart, AreRungs, label_table};
+    ghost use Rattle.derivation_branch.specs.LabelTable.{the_label_link};
 
     ghost Value = { List derivation.Label };
 
-    ghost view = { λ s. map reverse (chains (map the_mark_link s.links.items)) };
+    ghost view = { λ s. label_table s.links.entries };
 
-    ghost invariant = { λ s. AreBackward 1 (map the_mark_link s.links.items) };
+    ghost invariant = { λ s. AreBackward 1 (map the_label_link s.links.entries)
+        × AreApart (map the_label_link s.links.entries)
+        × AreRungs (label_table s.links.entries) s.links.entries };
 }
 
-// The marks in reverse order, after those of the label.
-fn with_reversed(label: Label, marks: Vec<Mark>) -> Result<Label, NoMemory>
-    ensures { IfOk result (λ w. w ≡ label ++ reverse (map the_character marks.items)) }
+fn link_of(front: u32, mark: Mark) -> Link
+    ensures front { result.front ≡ front }
+    ensures last { the_last result ≡ the_character mark }
 {
-    let mut label = label;
-    let mut marks = marks;
-    while let Some(mark) = marks.pop() {
-        label.push(mark)?;
+    match mark {
+        Mark::New(number) => Link {
+            front,
+            is_new: true,
+            number,
+        },
+        Mark::Spare(number) => Link {
+            front,
+            is_new: false,
+            number,
+        },
     }
-    Ok(label)
 }
 
 impl Labels {
@@ -54,21 +83,8 @@ impl Labels {
         ensures { result ≡ [] ∷ [] }
     {
         Labels {
-            links: Vec::new(alloc),
+            links: IndexMap::new(alloc),
         }
-    }
-
-    /// Adds a mark to a label of the table. The answer is the place of the new label.
-    pub fn push(&mut self, front: u32, mark: Mark) -> Result<u32, NoMemory>
-        requires { front < length self.old }
-        ensures place { IfOk result (λ k. k ≡ length self.old) }
-        ensures pushed { OnOk result
-            (self.new ≡ self.old ++ (get_or self.old front [] ++ the_character mark ∷ []) ∷ []) }
-        ensures err { OnErr result (self.new ≡ self.old) }
-    {
-        let place = place_of(self.links.len() + 1)?;
-        self.links.push((mark, front))?;
-        Ok(place)
     }
 
     /// The place of the root.
@@ -80,15 +96,70 @@ impl Labels {
         0
     }
 
-    // The place of a label with one mark more.
-    fn extend(&mut self, front: u32, mark: Mark) -> Result<u32, NoMemory>
+    fn rung(&self, place: u32) -> Rung
+        requires { place < length self.now }
+        ensures { IsRung self.now place result }
+    {
+        let links = &self.links;
+        if place == 0 {
+            return Rung {
+                front: 0,
+                length: 0,
+                jump: 0,
+            };
+        }
+        links[place as usize - 1]
+    }
+
+    /// How many marks the label at a place has.
+    pub fn length(&self, place: u32) -> u32
+        requires { place < length self.now }
+        ensures { result ≡ length (get_or self.now place []) }
+    {
+        self.rung(place).length
+    }
+
+    // The further beginning of the labels that add a mark to that of a place: it is twice as far
+    // where two ways of one length follow each other.
+    fn jump_after(&self, front: u32) -> u32
+        requires { front < length self.now }
+        ensures jump { result ≤ front }
+        ensures begins { IsLonger (get_or self.now result []) (get_or self.now front []) }
+    {
+        let here = self.rung(front);
+        let near = self.rung(here.jump);
+        let far = self.rung(near.jump);
+        if u64::from(here.length) + u64::from(far.length) == 2 * u64::from(near.length) {
+            near.jump
+        } else {
+            front
+        }
+    }
+
+    fn rung_after(&self, front: u32) -> Result<Rung, NoMemory>
+        requires { front < length self.now }
+        ensures { IfOk result (λ r. IsRungFrom self.now front r) }
+    {
+        let length = place_of(self.length(front) as usize + 1)?;
+        let jump = self.jump_after(front);
+        Ok(Rung {
+            front,
+            length,
+            jump,
+        })
+    }
+
+    /// The place of a label of the table with one mark more.
+    pub fn extend(&mut self, front: u32, mark: Mark) -> Result<u32, NoMemory>
         requires { front < length self.old }
         ensures place { IfOk result (λ k.
             IsLabelAt self.new k (get_or self.old front [] ++ the_character mark ∷ [])) }
         ensures grown { OnOk result (IsLonger self.old self.new) }
     {
-        let place = self.push(front, mark)?;
-        Ok(place)
+        let rung = self.rung_after(front)?;
+        let _last = place_of(self.links.len() + 1)?;
+        let (index, _) = self.links.insert_full(link_of(front, mark), rung)?;
+        Ok(index as u32 + 1)
     }
 
     /// Adds a label of a text. The answer is its place.
@@ -129,34 +200,45 @@ impl Labels {
         Ok(place)
     }
 
-    /// The label at a place.
-    pub fn read(&self, alloc: Global, place: u32) -> Result<Label, NoMemory>
-        requires { place < length self.now }
-        ensures { IfOk result (λ w. w ≡ get_or self.now place []) }
-    {
-        let mut marks = Vec::new(alloc);
-        let mut at = place;
-        while at > 0 {
-            let (mark, front) = self.links[at as usize - 1];
-            marks.push(mark)?;
-            at = front;
-        }
-        let label = with_reversed(Label::new(alloc), marks)?;
-        Ok(label)
-    }
-
     /// Whether the labels at two places have the same marks in the same order.
-    pub fn are_equal(&self, alloc: Global, first: u32, second: u32) -> Result<bool, NoMemory>
+    pub fn are_equal(&self, first: u32, second: u32) -> bool
         requires first { first < length self.now }
         requires second { second < length self.now }
-        ensures { IfOk result (λ r. r
-            ≡ list_eq character_eq (get_or self.now first []) (get_or self.now second [])) }
+        ensures { result
+            ≡ list_eq character_eq (get_or self.now first []) (get_or self.now second []) }
     {
-        if first == second {
-            return Ok(true);
+        let _links_of_others = &self.links;
+        first == second
+    }
+
+    // The place of a shorter beginning of a label, which is not shorter than this.
+    fn shorter(&self, at: u32, least: u32) -> u32
+        requires within { at < length self.now }
+        requires longer { least < length (get_or self.now at []) }
+        ensures before { result < at }
+        ensures begins { IsLonger (get_or self.now result []) (get_or self.now at []) }
+        ensures least { least ≤ length (get_or self.now result []) }
+    {
+        let rung = self.rung(at);
+        if self.length(rung.jump) >= least {
+            rung.jump
+        } else {
+            rung.front
         }
-        let left = self.read(alloc, first)?;
-        let right = self.read(alloc, second)?;
-        Ok(left.is_equal(&right))
+    }
+
+    /// Whether the label at the second place begins with that at the first.
+    pub fn begins(&self, first: u32, second: u32) -> bool
+        requires first { first < length self.now }
+        requires second { second < length self.now }
+        ensures { result
+            ≡ is_prefix character_eq (get_or self.now first []) (get_or self.now second []) }
+    {
+        let least = self.length(first);
+        let mut at = second;
+        while self.length(at) > least {
+            at = self.shorter(at, least);
+        }
+        self.are_equal(first, at)
     }
 }

@@ -10,6 +10,7 @@ mod labels;
 mod leaves;
 mod number_set;
 mod places;
+mod relations;
 mod substitution;
 
 pub use addition::{Added, added_by};
@@ -19,6 +20,7 @@ pub use entry::{SharedEntry, connects};
 pub use labels::Labels;
 pub use leaves::add_eigens;
 pub use number_set::NumberSet;
+pub use relations::{is_home_at, reaches};
 pub use substitution::{Substitutions, Value};
 
 #[cfg(test)]

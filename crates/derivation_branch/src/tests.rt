@@ -1,7 +1,7 @@
-use crate::{Labels, NumberSet, add_eigens, is_bound_in};
+use crate::{Labels, NumberSet, add_eigens, is_bound_in, is_home_at, reaches};
 use cop_base::{NoMemory, SymbolId};
 use formula_core::{Formula, Term, Terms};
-use logic_rules::Mark;
+use logic_rules::{Domains, Logic, Mark};
 use std::alloc::Global;
 use std::test::Fail;
 
@@ -12,13 +12,17 @@ fn applied(alloc: Global, t: Term) -> Result<Formula, NoMemory> {
 }
 
 #[test]
-fn reads_labels(rt: HostRuntime) -> Result<(), Fail> {
+fn finds_labels(rt: HostRuntime) -> Result<(), Fail> {
     let alloc = rt.alloc();
     let mut labels = Labels::new(alloc);
-    let one = labels.push(0, Mark::New(1))?;
-    let two = labels.push(one, Mark::New(2))?;
-    let read = labels.read(alloc, two)?;
-    assert!(rt; read.items() == [Mark::New(1), Mark::New(2)].as_slice());
+    let one = labels.extend(0, Mark::New(1))?;
+    let two = labels.extend(one, Mark::Spare(1))?;
+    let other = labels.extend(one, Mark::New(2))?;
+    let again = labels.extend(one, Mark::Spare(1))?;
+    assert!(rt; labels.are_equal(two, again) && !labels.are_equal(two, other));
+    assert!(rt; reaches(&labels, Logic::D, one, two) && !reaches(&labels, Logic::D, 0, two));
+    assert!(rt; is_home_at(&labels, Domains::Cumulative, one, other));
+    assert!(rt; !is_home_at(&labels, Domains::Cumulative, two, other));
     Ok(())
 }
 

@@ -1,3 +1,4 @@
+pub mod HomesLaws
 pub mod Forks
 pub mod Keeping
 pub mod Numbers

@@ -69,13 +69,19 @@ formula-unnamed test l symbols d (ex a) of h = formula-unnamed test l symbols (s
 formula-unnamed test l symbols d (box a) of h = formula-unnamed test l symbols d a of (and_parts (is_modal l) (formula_fits l symbols d a) h).1
 formula-unnamed test l symbols d (dia a) of h = formula-unnamed test l symbols d a of (and_parts (is_modal l) (formula_fits l symbols d a) h).1
 
-first-kept : (names : Names) (P : Problem) (x : BranchEntry) → x.shared.substitution ≡ 0 → x.shared.label ≡ 0 → the_formula x.shared.formula.now ≡ P.formula → IsTrue (is_problem P) → AreKept names ([] ∷ []) ([] ∷ []) [] [] ((x ∷ []) ∷ [])
-first-kept names P x sub lab same well =
+root-kept : (first labels : List Label) → first ≡ [] ∷ [] → IsLonger first labels → (0 < length labels) × (get_or labels 0 [] ≡ [])
+root-kept first labels e long =
+    let size = longer-size first labels long in
+    let one = ap length e in
+    (omega (arith, size, one), longer-at first labels 0 [] long (omega (arith, one)) ∙ ap (λ t. get_or t 0 []) e)
+
+first-kept : (names : Names) (P : Problem) (labels : List Label) (x : BranchEntry) → 0 < length labels → get_or labels 0 [] ≡ [] → x.shared.substitution ≡ 0 → x.shared.label ≡ 0 → the_formula x.shared.formula.now ≡ P.formula → IsTrue (is_problem P) → AreKept names ([] ∷ []) labels [] [] ((x ∷ []) ∷ [])
+first-kept names P labels x some root sub lab same well =
     let fits : formula_fits P.setting.logic P.symbols 0 P.formula ≡ true = (kept P well).formula in
     let formula : formula_under ([] ∷ []) x.shared.substitution (the_formula x.shared.formula.now) ≡ P.formula = ap (λ k. formula_under ([] ∷ []) k (the_formula x.shared.formula.now)) sub ∙ same in
-    let label : get_or ([] ∷ []) x.shared.label [] ≡ [] = ap (λ k. get_or ([] ∷ []) k []) lab in
+    let label : get_or labels x.shared.label [] ≡ [] = ap (λ k. get_or labels k []) lab ∙ root in
     let leaf = λ (test : Term → Bool) (of : IsOfNames test). ap (any_leaf_in test) formula ∙ formula-unnamed test P.setting.logic P.symbols 0 P.formula of fits in (
-      ((omega (arith, sub), omega (arith, lab)), tt),
+      ((omega (arith, sub), omega (arith, lab, some)), tt),
       record {
         eigen = λ n. sym (ap (λ b. b || false) (leaf (is_eigen n) (λ _. refl)));
         mark = λ n. sym (λ i. (list_any (character_eq (new_mark n)) (label i) || leaf (is_in_home names (new_mark n)) (λ _. refl) i) || false);
@@ -83,16 +89,19 @@ first-kept names P x sub lab same well =
       tt,
     )
 
-pub first-state : (names : Names) (P : Problem) (x : BranchEntry) (table : List (List Term)) (labels : List Label) (E M : List ℕ) (ss : List (List BranchEntry)) → table ≡ [] ∷ [] → labels ≡ [] ∷ [] → E ≡ [] → M ≡ [] → ss ≡ (x ∷ []) ∷ []
+pub first-state : (names : Names) (P : Problem) (x : BranchEntry) (table : List (List Term)) (first labels : List Label) (E M : List ℕ) (ss : List (List BranchEntry)) → table ≡ [] ∷ [] → first ≡ [] ∷ [] → IsLonger first labels → E ≡ [] → M ≡ [] → ss ≡ (x ∷ []) ∷ []
     → x.shared.substitution ≡ 0 → x.shared.label ≡ 0 → the_formula x.shared.formula.now ≡ P.formula → IsTrue (is_problem P) → AreKept names table labels E M ss
-first-state names P x table labels E M ss t l e m s sub lab same well = rw (t, l, e, m, s) (first-kept names P x sub lab same well)
+first-state names P x table first labels E M ss t l long e m s sub lab same well =
+    let root = root-kept first labels l long in
+    rw (t, e, m, s) (first-kept names P labels x root.0 root.1 sub lab same well)
 
-pub first-shown : (P : Problem) (x : BranchEntry) (table : List (List Term)) (labels : List Label) (ss : List (List BranchEntry)) → table ≡ [] ∷ [] → labels ≡ [] ∷ [] → ss ≡ (x ∷ []) ∷ []
+pub first-shown : (P : Problem) (x : BranchEntry) (table : List (List Term)) (first labels : List Label) (ss : List (List BranchEntry)) → table ≡ [] ∷ [] → first ≡ [] ∷ [] → IsLonger first labels → ss ≡ (x ∷ []) ∷ []
     → x.shared.sign ≡ F → x.shared.substitution ≡ 0 → x.shared.label ≡ 0 → the_formula x.shared.formula.now ≡ P.formula → map (the_sequent table labels) ss ≡ first_sequent P ∷ []
-first-shown P x table labels ss t l s sign sub lab same =
+first-shown P x table first labels ss t l long s sign sub lab same =
+    let root = root-kept first labels l long in
     let formula : formula_under ([] ∷ []) x.shared.substitution (the_formula x.shared.formula.now) ≡ P.formula = ap (λ k. formula_under ([] ∷ []) k (the_formula x.shared.formula.now)) sub ∙ same in
-    let label : get_or ([] ∷ []) x.shared.label [] ≡ [] = ap (λ k. get_or ([] ∷ []) k []) lab in
-    (λ i. map (the_sequent (t i) (l i)) (s i)) ∙ (λ i. (record { sign = sign i; formula = formula i; label = label i } ∷ []) ∷ [])
+    let label : get_or labels x.shared.label [] ≡ [] = ap (λ k. get_or labels k []) lab ∙ root.1 in
+    (λ i. map (the_sequent (t i) labels) (s i)) ∙ (λ i. (record { sign = sign i; formula = formula i; label = label i } ∷ []) ∷ [])
 
 -- ---- the current sequent, and the others
 

@@ -1,3 +1,4 @@
+pub mod HomesView
 pub mod OpenSequents
 pub mod StateView
 pub mod DemandsView

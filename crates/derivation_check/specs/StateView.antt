@@ -10,6 +10,7 @@ use Rattle.derivation_branch.specs.EntryView.{IsWithin, the_shared}
 use Rattle.derivation_branch.specs.Occurring.{holds}
 use Rattle.derivation_branch.specs.Putting.{IsClosed, AreClosed}
 use Rattle.derivation_branch.specs.TableView.{IsLabelAt}
+use Rattle.derivation_check.specs.HomesView.{AreHomes}
 use Rattle.derivation_check.specs.OpenSequents.{IsNested, sequents_of}
 use Rattle.derivation_check.specs.declared.open_sequents.BranchEntry.{BranchEntry}
 use Rattle.derivation_check.specs.declared.state.State.{State}
@@ -64,6 +65,7 @@ AreKept names table labels eigens marks (s ∷ ss) = AreWithin table labels s ×
 pub record IsKept (names : Names) (s : State) : Type 0 where
   pub nested : IsNested s.sequents
   pub sequents : AreKept names s.substitutions s.labels s.eigens s.marks (sequents_of s.sequents)
+  pub homes : AreHomes names s.labels s.homes
 
 -- the entry stands on the branch
 abbrev pub StandsOn : List BranchEntry → BranchEntry → Type 0

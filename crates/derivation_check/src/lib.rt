@@ -1,7 +1,9 @@
 //! The judgement of derivations by the rules of the calculus alone.
 #![tactic(auto)]
 
+mod allowed;
 mod demands;
+mod homes;
 mod judgement;
 mod occurring;
 mod open_sequents;

@@ -5,12 +5,15 @@ ghost use Rattle.calculus.specs.Derivations as derivation;
 ghost use Rattle.calculus.specs.Derivations.{first_sequent};
 ghost use Rattle.derivation_check.specs.OpenSequents.{IsNested, waiting_in};
 ghost use Rattle.derivation_check.specs.StateView.{IsKept, the_sequent, the_sequents};
+ghost use Rattle.sequent_calc.specs.DerivationView.{the_names};
 
+use crate::homes::Homes;
 use crate::open_sequents::{BranchEntry, OpenSequents};
 use cop_base::NoMemory;
 use derivation_branch::{Labels, NumberSet, SharedEntry, Substitutions};
 use formula_core::Sign;
 use logic_rules::Problem;
+use sequent_calc::Names;
 use std::alloc::Global;
 
 /// The open sequents, over tables that grow with the steps, and what occurs in the current one.
@@ -19,6 +22,7 @@ pub struct State<'a> {
     pub sequents: OpenSequents<'a>,
     pub substitutions: Substitutions<'a>,
     pub labels: Labels,
+    pub homes: Homes,
     /// The eigenvariables that stand in formulas of the current sequent.
     pub eigens: NumberSet,
     /// The marks of pi steps that stand in its labels, or in the homes of names in its formulas.
@@ -27,8 +31,8 @@ pub struct State<'a> {
 
 impl<'a> State<'a> {
     /// The problem's formula, to be shown at the root.
-    pub fn new(alloc: Global, problem: &'a Problem) -> Result<State<'a>, NoMemory>
-        ensures kept { IfOk result (λ s. (names : derivation.Names) → IsKept names s) }
+    pub fn new(alloc: Global, problem: &'a Problem, names: &Names) -> Result<State<'a>, NoMemory>
+        ensures kept { IfOk result (λ s. IsKept (the_names names.now) s) }
         ensures first { IfOk result (λ s. the_sequents s ≡ first_sequent problem.now ∷ []) }
     {
         let formula = problem.formula();
@@ -45,13 +49,15 @@ impl<'a> State<'a> {
         };
         let sequents = OpenSequents::new(alloc, first)?;
         let substitutions = Substitutions::new(alloc);
-        let labels = Labels::new(alloc);
+        let mut labels = Labels::new(alloc);
+        let homes = Homes::new(alloc, &mut labels, names)?;
         let eigens = NumberSet::new(alloc);
         let marks = NumberSet::new(alloc);
         Ok(State {
             sequents,
             substitutions,
             labels,
+            homes,
             eigens,
             marks,
         })

@@ -41,7 +41,6 @@ fn entry_of<'a>(branch: &[BranchEntry<'a>], number: u32) -> Option<BranchEntry<'
 
 // Closes the current sequent by two of its entries.
 fn close_branch<'a>(
-    alloc: Global,
     state: &mut State<'a>,
     given: BranchEntry<'a>,
     shown: BranchEntry<'a>,
@@ -62,12 +61,11 @@ fn close_branch<'a>(
         (Some (the_entry state.old.substitutions state.old.labels shown.entry)) ≡ Err f }
 {
     let closes = connects(
-        alloc,
         &state.substitutions,
         &state.labels,
         given.shared,
         shown.shared,
-    )?;
+    );
     if closes {
         state.close()?;
         Ok(())
@@ -78,7 +76,6 @@ fn close_branch<'a>(
 
 // Uses the entry of a number.
 fn use_numbered<'a>(
-    alloc: Global,
     problem: &Problem,
     names: &Names,
     state: &mut State<'a>,
@@ -101,18 +98,13 @@ fn use_numbered<'a>(
 {
     let used = entry_of(state.sequents.branch.as_slice(), number);
     match used {
-        Some(used) => use_entry(alloc, problem, names, state, used, modal, term),
+        Some(used) => use_entry(problem, names, state, used, modal, term),
         None => Err(ApplyFault::Fault(StepFault::NoEntry)),
     }
 }
 
 // Closes the current sequent by the entries of two numbers.
-fn close_numbered<'a>(
-    alloc: Global,
-    state: &mut State<'a>,
-    given: u32,
-    shown: u32,
-) -> Result<(), ApplyFault>
+fn close_numbered<'a>(state: &mut State<'a>, given: u32, shown: u32) -> Result<(), ApplyFault>
     requires is_open { state.old.sequents.is_open ≡ true }
     requires kept { (names : derivation.Names) × IsKept names state.old }
     ensures kept { OnOk result ((names : derivation.Names)
@@ -128,7 +120,7 @@ fn close_numbered<'a>(
     let second = entry_of(state.sequents.branch.as_slice(), shown);
     match first {
         Some(first) => match second {
-            Some(second) => close_branch(alloc, state, first, second),
+            Some(second) => close_branch(state, first, second),
             None => Err(ApplyFault::Fault(StepFault::NoEntry)),
         },
         None => Err(ApplyFault::Fault(StepFault::NoEntry)),
@@ -137,7 +129,6 @@ fn close_numbered<'a>(
 
 // Replaces the current sequent by those that a step leads to.
 fn take_step<'a>(
-    alloc: Global,
     problem: &Problem,
     names: &Names,
     state: &mut State<'a>,
@@ -156,15 +147,14 @@ fn take_step<'a>(
 {
     match step {
         Step::Use { entry, modal, term } => use_numbered(
-            alloc, problem, names, state, *entry, modal, term,
+            problem, names, state, *entry, modal, term,
         ),
-        Step::Axiom { given, shown } => close_numbered(alloc, state, *given, *shown),
+        Step::Axiom { given, shown } => close_numbered(state, *given, *shown),
     }
 }
 
 // Judges one step; `None` where it leads on.
 fn judge_step<'a>(
-    alloc: Global,
     problem: &Problem,
     names: &Names,
     state: &mut State<'a>,
@@ -184,7 +174,7 @@ fn judge_step<'a>(
             fault: CheckFault::AllClosed,
         }));
     }
-    match take_step(alloc, problem, names, state, step) {
+    match take_step(problem, names, state, step) {
         Ok(()) => Ok(None),
         Err(ApplyFault::Fault(fault)) => Ok(Some(Verdict::Rejected {
             line,
@@ -214,11 +204,11 @@ pub fn judge(alloc: Global, problem: &Problem, d: &Derivation) -> Result<Verdict
     requires { 5 + length d.now.names.eigens + length d.now.names.spares + length d.now.steps ≤ u64.MAX }
     ensures { IfOk result (λ v. the_verdict v ≡ verdict_on problem.now (the_derivation d.now)) }
 {
-    let mut state = State::new(alloc, problem)?;
     let names = &d.names;
+    let mut state = State::new(alloc, problem, names)?;
     let mut line = 5 + names.eigens.items().len() as u64 + names.spares.items().len() as u64;
     for step in d.steps.items() {
-        if let Some(verdict) = judge_step(alloc, problem, names, &mut state, step, line)? {
+        if let Some(verdict) = judge_step(problem, names, &mut state, step, line)? {
             return Ok(verdict);
         }
         line += 1;

@@ -27,7 +27,6 @@ use cop_base::NoMemory;
 use derivation_branch::{Labels, Substitutions, Value, added_by};
 use logic_rules::{Logic, Mark, Problem, kind_of};
 use sequent_calc::{ApplyFault, ModalArg, Names, TermArg};
-use std::alloc::Global;
 
 // The place of the label of the components.
 fn label_after(
@@ -126,7 +125,6 @@ fn grow<'a>(
 /// Adds the components of an entry of the branch, or tells the first demand of the rules that is
 /// not met.
 pub fn use_entry<'a>(
-    alloc: Global,
     problem: &Problem,
     names: &Names,
     state: &mut State<'a>,
@@ -153,17 +151,7 @@ pub fn use_entry<'a>(
     let shared = used.shared;
     let kind = kind_of(logic, shared.sign, shared.formula);
     let at = label_after(&mut state.labels, logic, shared.label, modal)?;
-    let fault = use_fault(
-        alloc,
-        problem,
-        names,
-        state,
-        kind,
-        shared.label,
-        at,
-        modal,
-        term,
-    )?;
+    let fault = use_fault(problem, names, state, kind, shared.label, at, modal, term);
     match fault {
         Some(fault) => Err(ApplyFault::Fault(fault)),
         None => {

@@ -1,9 +1,15 @@
 use Rattle.std.proofs.Common.{◌∙◌, ◌&&◌, ap, sym}
-use Rattle.calculus.specs.Calculus.{has_step, home_is, is_reachable, modal_fits, term_allowed, term_fits}
+use Rattle.calculus.specs.Calculus.{has_step, home_is, is_reachable, label_after, modal_fits, term_allowed, term_fits}
 use Rattle.sequent_calc.specs.DerivationView.{the_names}
 use Rattle.sequent_calc.specs.StepView.{the_modal, the_term_arg}
 use Rattle.derivation_check.proofs.StateLaws.{judged}
 use Rattle.derivation_check.proofs.demands.use_fault.Goals as goal
+
+pub home_is-requires-clause-homes : goal.home_is-requires-clause-homes
+home_is-requires-clause-homes c = (the_names c.args.names.now, c.requires.homes)
+
+pub term_allowed-requires-clause-homes : goal.term_allowed-requires-clause-homes
+term_allowed-requires-clause-homes c = (the_names c.args.names.now, c.requires.homes)
 
 pub returns : goal.returns
 returns c = λ s e tells modal shape from at x.
@@ -12,11 +18,12 @@ returns c = λ s e tells modal shape from at x.
     let m = the_modal c.args.modal.now in
     let t = the_term_arg c.args.term.now in
     let logic = c.logic-logic.ensures ∙ ap (λ d. d.logic) c.setting-setting.ensures.setting in
-    judged problem names s e m t c.arguments_fit-fits.result c.is_known-known.result c.in_ok-reachable.reachable c.is_new-new.result c.in_ok-home.home c.in_ok-allowed.allowed c.first_unmet-fault.result
-    ((λ i. modal_fits (sym modal i) m && term_fits (sym shape i) t && has_step (sym modal i) (sym shape i)) ∙ sym c.arguments_fit-fits.ensures)
-    (sym c.is_known-known.ensures)
-    ((λ i. is_reachable (sym logic i) (sym from i) m) ∙ sym c.in_ok-reachable.ensures)
-    (sym (c.is_new-new.ensures names s tells))
-    (ap (λ w. home_is names w t) (sym at) ∙ sym c.in_ok-home.ensures)
-    (ap (λ w. term_allowed problem names w t) (sym at) ∙ sym c.in_ok-allowed.ensures)
-    x (c.first_unmet-fault.ensures x)
+    let after = at ∙ (λ i. label_after (sym logic i) (sym from i) m) in
+    judged problem names s e m t c.arguments_fit.result c.is_known.result c.is_reachable.result c.is_new.result c.home_is.result c.term_allowed.result c.first_unmet.result
+    ((λ i. modal_fits (sym modal i) m && term_fits (sym shape i) t && has_step (sym modal i) (sym shape i)) ∙ sym c.arguments_fit.ensures)
+    (sym c.is_known.ensures)
+    ((λ i. is_reachable (sym logic i) (sym from i) m) ∙ sym (c.is_reachable.ensures after))
+    (sym (c.is_new.ensures names s tells))
+    (ap (λ w. home_is names w t) (sym at) ∙ sym (c.home_is.ensures names c.requires.homes))
+    (ap (λ w. term_allowed problem names w t) (sym at) ∙ sym (c.term_allowed.ensures names c.requires.homes))
+    x (c.first_unmet.ensures x)

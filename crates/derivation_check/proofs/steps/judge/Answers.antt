@@ -1,5 +1,5 @@
 use Rattle.std.proofs.Common.{◌≡◌, ◌+◌, ◌∙◌, ◌∷◌, List, length, map, drop, ap, sym, arith}
-use Rattle.std.proofs.lemmas.List.{at_drop_more, length-map}
+use Rattle.std.proofs.lemmas.List.{at_drop_more, drop_all, length-map}
 use Rattle.std.specs.Option.{option_map_or}
 use Rattle.calculus.specs.Judgement.{verdict_from}
 use Rattle.derivation_check.specs.StateView.{the_sequents}
@@ -20,7 +20,7 @@ loop-step-init c =
     let line : 5 + length c.items.result.now + length c.items-2.result.now ≡ 5 + length names.eigens + length names.spares = omega (arith, eigens, spares, more_eigens, more_spares) in
     record {
       line = omega (arith, line);
-      kept = c.in_ok-state.ensures.kept (the_names names);
+      kept = c.in_ok-state.ensures.kept;
       judged = λ i. verdict_from c.args.problem.now (the_names names) (c.in_ok-state.ensures.first i) (c.items-step-items.ensures i) (line i);
     }
 
@@ -37,3 +37,28 @@ returns-in-Some c =
     let here = at_drop_more left items i x (omega (arith, c.loop-step-test.true)) ∙ ap (λ y. left (y ∷ drop (i + 1) items)) (sym c.step-item.is) in
     let told = c.in_ok-verdict.ensures.judged rest ∙ ap (λ o. option_map_or the_verdict o (verdict_from P names (the_sequents c.judge_step.new.state) rest (line + 1))) c.in-Some.is in
     sym told ∙ sym here ∙ c.loop-step.invariant.judged
+
+pub loop-step-preserved : goal.loop-step-preserved
+loop-step-preserved c =
+    let P = c.args.problem.now in
+    let names = the_names c.args.d.now.names in
+    let items = c.items-step-items.result.now in
+    let i = c.loop-step.step-index in
+    let line = c.loop-step.line in
+    let x = c.step-item.result in
+    let rest = map the_step (drop (i + 1) items) in
+    let left = λ (xs : List Step). verdict_from P names (the_sequents c.loop-step.state) (map the_step xs) line in
+    let here = at_drop_more left items i x (omega (arith, c.loop-step-test.true)) ∙ ap (λ y. left (y ∷ drop (i + 1) items)) (sym c.step-item.is) in
+    let told = c.in_ok-verdict.ensures.judged rest ∙ ap (λ o. option_map_or the_verdict o (verdict_from P names (the_sequents c.judge_step.new.state) rest (line + 1))) c.in_default.is in
+    record {
+      line = omega (arith, c.loop-step.invariant.line);
+      kept = c.in_ok-verdict.ensures.kept c.in_default.is;
+      judged = sym told ∙ sym here ∙ c.loop-step.invariant.judged;
+    }
+
+pub returns : goal.returns
+returns c =
+    let P = c.args.problem.now in
+    let names = the_names c.args.d.now.names in
+    let items = c.items-step-items.result.now in
+    c.at_end.ensures ∙ ap (λ (l : List Step). verdict_from P names (the_sequents c.loop-step.state) (map the_step l) c.loop-step.line) (sym (drop_all c.loop-step.step-index items (omega (arith, c.loop-step-test.false)))) ∙ c.loop-step.invariant.judged

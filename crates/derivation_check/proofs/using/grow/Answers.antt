@@ -42,6 +42,6 @@ returns c =
       after = c.in_ok-advance.ensures.advanced ∙ (λ i. after_added (c.in_ok-eigens.ensures i) (c.in_ok-marks.ensures i) added xs (waiting_in s.sequents));
     } in
     record {
-      kept = record { nested = c.in_ok-advance.ensures.nested; sequents = grown-kept names s.substitutions more s.labels s.eigens eigens s.marks marks s.sequents.is_open xs forks c.args.used c.in_ok-inner.inner c.args.at x t added now growth };
+      kept = record { nested = c.in_ok-advance.ensures.nested; sequents = grown-kept names s.substitutions more s.labels s.eigens eigens s.marks marks s.sequents.is_open xs forks c.args.used c.in_ok-inner.inner c.args.at x t added now growth; homes = c.requires.kept.homes };
       grown = grown-shown names s.substitutions more s.labels s.eigens eigens s.marks marks s.sequents.is_open xs forks c.args.used c.in_ok-inner.inner c.args.at x t added now growth;
     }

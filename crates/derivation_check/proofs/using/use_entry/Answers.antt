@@ -8,6 +8,7 @@ use Rattle.sequent_calc.specs.StepView.{the_modal, the_term_arg}
 use Rattle.derivation_branch.specs.TableView.{IsLabelAt}
 use Rattle.derivation_branch.proofs.PuttingLaws.{modal-all, shape-all}
 use Rattle.derivation_check.specs.StateView.{the_entry, the_sequent}
+use Rattle.derivation_check.proofs.HomesLaws.{homes-longer}
 use Rattle.derivation_check.proofs.StateLaws.{Used, after-of, kept-open, label-kept, met, stands-within, told-of, used-kept, used-leads}
 use Rattle.derivation_check.proofs.using.use_entry.Goals as goal
 
@@ -18,8 +19,8 @@ label_after-requires c =
     let parts = kept-open names s.substitutions s.labels s.eigens s.marks s.sequents.is_open s.sequents.branch.items (reverse s.sequents.forks.items) c.requires.is_open c.requires.kept.sequents in
     (stands-within s.substitutions s.labels s.sequents.branch.items c.args.used parts.0 c.requires.stands).1
 
-pub use_fault-requires : goal.use_fault-requires
-use_fault-requires c =
+pub use_fault-fault-requires-clause-from : goal.use_fault-fault-requires-clause-from
+use_fault-fault-requires-clause-from c =
     let s = c.args.state.now in
     let problem = c.args.problem.now in
     let names = the_names c.args.names.now in
@@ -37,7 +38,10 @@ use_fault-requires c =
       grown = c.in_ok-at.ensures.grown;
       label = subst (λ l. IsLabelAt more c.in_ok-at.at (label_after l (get_or s.labels u.shared.label []) x)) logic c.in_ok-at.ensures.place;
     } in
-    record { from = (label-kept problem names s.substitutions s.labels more s.eigens s.marks s.sequents.is_open xs forks u c.in_ok-at.at x used).0; at = used.label.0 }
+    (label-kept problem names s.substitutions s.labels more s.eigens s.marks s.sequents.is_open xs forks u c.in_ok-at.at x used).0
+
+pub use_fault-fault-requires-clause-homes : goal.use_fault-fault-requires-clause-homes
+use_fault-fault-requires-clause-homes c = homes-longer (the_names c.args.names.now) c.args.state.now.labels c.label_after.new.labels c.args.state.now.homes c.in_ok-at.ensures.grown c.requires.kept.homes
 
 pub grow-requires : goal.grow-requires
 grow-requires c =
@@ -60,7 +64,7 @@ grow-requires c =
     } in
     let f = the_formula u.shared.formula.now in
     let ts = get_or s.substitutions u.shared.substitution [] in
-    let told = λ (y : Children). c.in_ok-fault.ensures (the_sequent s.substitutions s.labels xs) (the_entry s.substitutions s.labels u) (told-of problem names s.substitutions s.labels more s.eigens s.marks s.sequents.is_open xs forks u c.in_ok-at.at x used)
+    let told = λ (y : Children). c.use_fault-fault.ensures (the_sequent s.substitutions s.labels xs) (the_entry s.substitutions s.labels u) (told-of problem names s.substitutions s.labels more s.eigens s.marks s.sequents.is_open xs forks u c.in_ok-at.at x used)
     (c.kind_of-kind.ensures.modal ∙ ap (λ l. modal_of l u.shared.sign f) logic ∙ sym (modal-all ts 0 problem.setting.logic u.shared.sign f))
     (c.kind_of-kind.ensures.shape ∙ sym (shape-all ts 0 u.shared.sign f))
     (label-kept problem names s.substitutions s.labels more s.eigens s.marks s.sequents.is_open xs forks u c.in_ok-at.at x used).1 used.label.1 y in
@@ -68,7 +72,7 @@ grow-requires c =
     let kept = met problem names (the_sequent s.substitutions s.labels xs) (the_entry s.substitutions s.labels u) x t unfaulted in
     record {
       is_open = c.requires.is_open;
-      kept = record { nested = c.requires.kept.nested; sequents = used-kept problem names s.substitutions s.labels more s.eigens s.marks s.sequents.is_open xs forks u c.in_ok-at.at x used };
+      kept = record { nested = c.requires.kept.nested; sequents = used-kept problem names s.substitutions s.labels more s.eigens s.marks s.sequents.is_open xs forks u c.in_ok-at.at x used; homes = homes-longer names s.labels more s.homes c.in_ok-at.ensures.grown c.requires.kept.homes };
       stands = c.requires.stands;
       label = after-of problem names s.substitutions s.labels more s.eigens s.marks s.sequents.is_open xs forks u c.in_ok-at.at x used;
       fits = ap (λ h. term_fits h t) (sym (shape-all ts 0 u.shared.sign f)) ∙ kept.0;
@@ -96,7 +100,7 @@ returns-in-Some-clause-fault c = λ fault e.
     } in
     let f = the_formula u.shared.formula.now in
     let ts = get_or s.substitutions u.shared.substitution [] in
-    let told = λ (y : Children). c.in_ok-fault.ensures (the_sequent s.substitutions s.labels xs) (the_entry s.substitutions s.labels u) (told-of problem names s.substitutions s.labels more s.eigens s.marks s.sequents.is_open xs forks u c.in_ok-at.at x used)
+    let told = λ (y : Children). c.use_fault-fault.ensures (the_sequent s.substitutions s.labels xs) (the_entry s.substitutions s.labels u) (told-of problem names s.substitutions s.labels more s.eigens s.marks s.sequents.is_open xs forks u c.in_ok-at.at x used)
     (c.kind_of-kind.ensures.modal ∙ ap (λ l. modal_of l u.shared.sign f) logic ∙ sym (modal-all ts 0 problem.setting.logic u.shared.sign f))
     (c.kind_of-kind.ensures.shape ∙ sym (shape-all ts 0 u.shared.sign f))
     (label-kept problem names s.substitutions s.labels more s.eigens s.marks s.sequents.is_open xs forks u c.in_ok-at.at x used).1 used.label.1 y in
@@ -124,7 +128,7 @@ returns-in_ok-grow-in-None-clause-leads c =
     } in
     let f = the_formula u.shared.formula.now in
     let ts = get_or s.substitutions u.shared.substitution [] in
-    let told = λ (y : Children). c.in_ok-fault.ensures (the_sequent s.substitutions s.labels xs) (the_entry s.substitutions s.labels u) (told-of problem names s.substitutions s.labels more s.eigens s.marks s.sequents.is_open xs forks u c.in_ok-at.at x used)
+    let told = λ (y : Children). c.use_fault-fault.ensures (the_sequent s.substitutions s.labels xs) (the_entry s.substitutions s.labels u) (told-of problem names s.substitutions s.labels more s.eigens s.marks s.sequents.is_open xs forks u c.in_ok-at.at x used)
     (c.kind_of-kind.ensures.modal ∙ ap (λ l. modal_of l u.shared.sign f) logic ∙ sym (modal-all ts 0 problem.setting.logic u.shared.sign f))
     (c.kind_of-kind.ensures.shape ∙ sym (shape-all ts 0 u.shared.sign f))
     (label-kept problem names s.substitutions s.labels more s.eigens s.marks s.sequents.is_open xs forks u c.in_ok-at.at x used).1 used.label.1 y in

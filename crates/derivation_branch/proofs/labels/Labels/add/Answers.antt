@@ -1,4 +1,4 @@
-use Rattle.std.proofs.Common.{[], arith}
+use Rattle.std.proofs.Common.{arith}
 use Rattle.derivation_branch.proofs.TableLaws.{longer-self, marks-read, root-read}
 use Rattle.derivation_branch.proofs.labels.Labels.add.Goals as goal
 

@@ -11,6 +11,7 @@ returns-in-Some-clause-kept c = λ names h.
       nested = c.in_ok-next.ensures.nested;
       sequents = closed-kept names s.substitutions s.labels s.eigens s.marks c.cut.new.self c.cut-in-Some.new.self s.sequents.is_open s.sequents.branch.items (reverse s.sequents.forks.items) _ c.in-Some.last c.requires.is_open h.sequents c.in_ok-next.ensures.closed
           (subst (IsLastOf (waiting_in s.sequents)) c.in-Some.is c.in_ok-next.ensures.last) c.cut.ensures c.cut-in-Some.ensures;
+      homes = h.homes;
     }
 
 pub returns-in-Some-clause-closed : goal.returns-in-Some-clause-closed
@@ -22,6 +23,7 @@ returns-in-None-clause-kept c = λ names h.
     record {
       nested = c.in_ok-next.ensures.nested;
       sequents = ended-kept names s.substitutions s.labels s.eigens s.marks s.sequents.branch.items (reverse s.sequents.forks.items) _ c.in_ok-next.ensures.closed (subst (IsLastOf (waiting_in s.sequents)) c.in-None.is c.in_ok-next.ensures.last);
+      homes = h.homes;
     }
 
 pub returns-in-None-clause-closed : goal.returns-in-None-clause-closed

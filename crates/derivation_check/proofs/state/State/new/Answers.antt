@@ -1,12 +1,14 @@
 use Rattle.std.proofs.Common.{refl}
+use Rattle.sequent_calc.specs.DerivationView.{the_names}
 use Rattle.derivation_check.proofs.StateLaws.{first-shown, first-state}
 use Rattle.derivation_check.proofs.state.State.new.Goals as goal
 
 pub returns-clause-kept : goal.returns-clause-kept
-returns-clause-kept c = λ names. record {
+returns-clause-kept c = record {
   nested = c.in_ok-sequents.ensures.nested;
-  sequents = first-state names c.args.problem.now _ _ _ _ _ _ c.new-substitutions.ensures c.new-labels.ensures c.new-eigens.ensures c.new-marks.ensures c.in_ok-sequents.ensures.sequents refl refl c.formula-formula.ensures.formula c.formula-formula.ensures.well;
+  sequents = first-state (the_names c.args.names.now) c.args.problem.now _ _ _ _ _ _ _ c.new-substitutions.ensures c.new-labels.ensures c.in_ok-homes.ensures.grown c.new-eigens.ensures c.new-marks.ensures c.in_ok-sequents.ensures.sequents refl refl c.formula-formula.ensures.formula c.formula-formula.ensures.well;
+  homes = c.in_ok-homes.ensures.homes;
 }
 
 pub returns-clause-first : goal.returns-clause-first
-returns-clause-first c = first-shown c.args.problem.now _ _ _ _ c.new-substitutions.ensures c.new-labels.ensures c.in_ok-sequents.ensures.sequents refl refl refl c.formula-formula.ensures.formula
+returns-clause-first c = first-shown c.args.problem.now _ _ _ _ _ c.new-substitutions.ensures c.new-labels.ensures c.in_ok-homes.ensures.grown c.in_ok-sequents.ensures.sequents refl refl refl c.formula-formula.ensures.formula
