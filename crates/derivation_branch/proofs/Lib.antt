@@ -7,4 +7,6 @@ pub mod UnderLaws
 pub mod AddedLaws
 pub mod OccurrenceLaws
 pub mod GrowthLaws
+pub mod ScopeLaws
+pub mod OutlineLaws
 pub mod ChildLaws

@@ -7,10 +7,12 @@ ghost use Rattle.calculus.specs.Kinds.{components, shape_of};
 ghost use Rattle.calculus.specs.Syntax as tree;
 ghost use Rattle.derivation_branch.specs.AddedView.{AreAddedAt, PutsArgument, children_added};
 ghost use Rattle.derivation_branch.specs.EntryView.{formula_under, signed_under, the_shared};
+ghost use Rattle.derivation_branch.specs.OutlineView.{AreNodes, IsNode, IsNodeOf};
 ghost use Rattle.formula_core.specs.ComponentsView.{the_signed};
 ghost use Rattle.formula_core.specs.FormulaView.{the_formula};
 
 use crate::entry::SharedEntry;
+use crate::outline::{Node, Outline};
 use formula_core::{Components, Signed};
 
 /// The entries that a use step adds.
@@ -22,15 +24,18 @@ pub enum Added<'a> {
     Fork(SharedEntry<'a>, SharedEntry<'a>),
 }
 
-fn component<'a>(part: Signed<'a>, substitution: u32, label: u32) -> SharedEntry<'a>
+fn component<'a>(part: Signed<'a>, node: u32, substitution: u32, label: u32) -> SharedEntry<'a>
     ensures entry { (table : List (List tree.Term)) → (labels : List derivation.Label)
         → the_shared table labels result ≡ entry_at (get_or labels label [])
         (signed_under table substitution (the_signed part.entry)) }
+    ensures placed { (nodes : List Node) → IsNode nodes node (the_signed part.entry).formula
+        → IsNodeOf nodes result }
     ensures under { result.substitution ≡ substitution }
     ensures labelled { result.label ≡ label }
 {
     SharedEntry {
         sign: part.sign,
+        node,
         formula: part.formula,
         substitution,
         label,
@@ -39,7 +44,7 @@ fn component<'a>(part: Signed<'a>, substitution: u32, label: u32) -> SharedEntry
 
 /// The components of an entry at the label of a place. Where the entry is quantified, `inner` is
 /// the place of its substitution with the argument of the step before it.
-pub fn added_by<'a>(used: SharedEntry<'a>, inner: u32, label: u32) -> Added<'a>
+pub fn added_by<'a>(outline: &Outline, used: SharedEntry<'a>, inner: u32, label: u32) -> Added<'a>
     ensures added { (table : List (List tree.Term)) → (labels : List derivation.Label)
         → (t : derivation.TermArg) → PutsArgument table used.entry.substitution inner
         (shape_of used.entry.sign (the_formula used.entry.formula.now)) t
@@ -49,25 +54,30 @@ pub fn added_by<'a>(used: SharedEntry<'a>, inner: u32, label: u32) -> Added<'a>
         s (get_or labels label []) (map (with_argument t) (components used.entry.sign
         (formula_under table used.entry.substitution (the_formula used.entry.formula.now)))) }
     ensures at { AreAddedAt used.entry.substitution inner label result }
+    ensures nodes { IsNodeOf outline.now.nodes.items used.entry
+        → AreNodes outline.now.nodes.items result }
 {
     let outer = used.substitution;
+    let last = used.node.saturating_sub(1);
+    let other = last.saturating_sub(outline.second(used.node));
     match used.formula.components(used.sign) {
         Components::Literal(_, _) => Added::One(SharedEntry {
             sign: used.sign,
+            node: used.node,
             formula: used.formula,
             substitution: outer,
             label,
         }),
-        Components::One(a) => Added::One(component(a, outer, label)),
+        Components::One(a) => Added::One(component(a, last, outer, label)),
         Components::Alpha(a, b) => Added::Both(
-            component(a, outer, label),
-            component(b, outer, label),
+            component(a, other, outer, label),
+            component(b, last, outer, label),
         ),
         Components::Beta(a, b) => Added::Fork(
-            component(a, outer, label),
-            component(b, outer, label),
+            component(a, other, outer, label),
+            component(b, last, outer, label),
         ),
-        Components::Gamma(a) => Added::One(component(a, inner, label)),
-        Components::Delta(a) => Added::One(component(a, inner, label)),
+        Components::Gamma(a) => Added::One(component(a, last, inner, label)),
+        Components::Delta(a) => Added::One(component(a, last, inner, label)),
     }
 }

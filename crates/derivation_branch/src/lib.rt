@@ -3,23 +3,24 @@
 #![tactic(auto)]
 
 mod addition;
-mod binding;
 mod comparison;
 mod entry;
 mod labels;
 mod leaves;
 mod number_set;
+mod outline;
 mod places;
 mod relations;
+mod scope;
 mod substitution;
 
 pub use addition::{Added, added_by};
-pub use binding::is_bound_in;
 pub use comparison::are_same_atom;
 pub use entry::{SharedEntry, connects};
 pub use labels::Labels;
 pub use leaves::add_eigens;
 pub use number_set::NumberSet;
+pub use outline::{Node, Outline};
 pub use relations::{is_home_at, reaches};
 pub use substitution::{Substitutions, Value};
 

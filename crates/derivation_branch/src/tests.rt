@@ -1,14 +1,17 @@
-use crate::{Labels, NumberSet, add_eigens, is_bound_in, is_home_at, reaches};
+use crate::{Labels, NumberSet, Outline, add_eigens, is_home_at, reaches};
 use cop_base::{NoMemory, SymbolId};
 use formula_core::{Formula, Term, Terms};
 use logic_rules::{Domains, Logic, Mark};
 use std::alloc::Global;
 use std::test::Fail;
 
-fn applied(alloc: Global, t: Term) -> Result<Formula, NoMemory> {
+// A quantifier that binds inside of one that does not.
+fn quantified(alloc: Global) -> Result<Formula, NoMemory> {
     let mut terms = Terms::new(alloc);
-    terms.push(t)?;
-    Ok(Formula::Atom(SymbolId(0), terms))
+    terms.push(Term::Var(0))?;
+    let atom = Formula::Atom(SymbolId(0), terms);
+    let inner = Formula::Ex(Box::new(alloc, atom)?);
+    Ok(Formula::All(Box::new(alloc, inner)?))
 }
 
 #[test]
@@ -35,7 +38,7 @@ fn keeps_numbers(rt: HostRuntime) -> Result<(), Fail> {
     assert!(rt; set.holds(5));
     set.cut(1);
     assert!(rt; set.holds(3) && !set.holds(5));
-    assert!(rt; is_bound_in(&applied(alloc, Term::Var(0))?));
-    assert!(rt; !is_bound_in(&applied(alloc, Term::Var(1))?));
+    let outline = Outline::new(alloc, &quantified(alloc)?)?;
+    assert!(rt; outline.binds(1) && !outline.binds(2));
     Ok(())
 }

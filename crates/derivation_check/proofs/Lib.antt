@@ -1,4 +1,5 @@
 pub mod HomesLaws
+pub mod NodeLaws
 pub mod Forks
 pub mod Keeping
 pub mod Numbers

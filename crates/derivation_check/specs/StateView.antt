@@ -8,8 +8,10 @@ use Rattle.calculus.specs.Judgement.{open_after}
 use Rattle.calculus.specs.Syntax.{Term, eigen}
 use Rattle.derivation_branch.specs.EntryView.{IsWithin, the_shared}
 use Rattle.derivation_branch.specs.Occurring.{holds}
+use Rattle.derivation_branch.specs.OutlineView.{IsNodeOf}
 use Rattle.derivation_branch.specs.Putting.{IsClosed, AreClosed}
 use Rattle.derivation_branch.specs.TableView.{IsLabelAt}
+use Rattle.derivation_branch.specs.declared.outline.Node.{Node}
 use Rattle.derivation_check.specs.HomesView.{AreHomes}
 use Rattle.derivation_check.specs.OpenSequents.{IsNested, sequents_of}
 use Rattle.derivation_check.specs.declared.open_sequents.BranchEntry.{BranchEntry}
@@ -62,10 +64,20 @@ abbrev pub AreKept : Names → List (List Term) → List Label → List ℕ → 
 AreKept names table labels eigens marks [] = ⊤
 AreKept names table labels eigens marks (s ∷ ss) = AreWithin table labels s × Tells names eigens marks (the_sequent table labels s) × Wait names table labels eigens marks ss
 
+-- each entry is at its place in the outline of the problem's formula
+abbrev pub ArePlaced : List Node → List BranchEntry → Type 0
+ArePlaced nodes [] = ⊤
+ArePlaced nodes (x ∷ xs) = IsNodeOf nodes x.shared × ArePlaced nodes xs
+
+abbrev pub AreAtNodes : List Node → List (List BranchEntry) → Type 0
+AreAtNodes nodes [] = ⊤
+AreAtNodes nodes (s ∷ ss) = ArePlaced nodes s × AreAtNodes nodes ss
+
 pub record IsKept (names : Names) (s : State) : Type 0 where
   pub nested : IsNested s.sequents
   pub sequents : AreKept names s.substitutions s.labels s.eigens s.marks (sequents_of s.sequents)
   pub homes : AreHomes names s.labels s.homes
+  pub nodes : AreAtNodes s.outline.nodes.items (sequents_of s.sequents)
 
 -- the entry stands on the branch
 abbrev pub StandsOn : List BranchEntry → BranchEntry → Type 0

@@ -7,16 +7,14 @@ ghost use Rattle.calculus.specs.Lists.{terms_tree};
 ghost use Rattle.calculus.specs.Substitution.{any_leaf, any_leaf_of};
 ghost use Rattle.calculus.specs.Syntax as tree;
 ghost use Rattle.derivation_branch.specs.Occurring.{IsLonger, holds, in_argument, in_modal};
-ghost use Rattle.derivation_branch.specs.Occurring.{quantifier_binds};
-ghost use Rattle.formula_core.specs.FormulaView.{the_formula};
 ghost use Rattle.formula_core.specs.TermView.{the_term};
 ghost use Rattle.logic_rules.specs.MarkView.{the_character};
 ghost use Rattle.sequent_calc.specs.DerivationView.{the_names};
 ghost use Rattle.sequent_calc.specs.StepView.{the_modal, the_term_arg};
 
 use cop_base::NoMemory;
-use derivation_branch::{NumberSet, add_eigens, is_bound_in};
-use formula_core::{Formula, Term, Terms};
+use derivation_branch::{NumberSet, add_eigens};
+use formula_core::{Term, Terms};
 use logic_rules::{Label, Mark};
 use sequent_calc::{Home, ModalArg, Names, TermArg, eigen_named, spare_named};
 
@@ -136,35 +134,19 @@ fn add_argument_homes(names: &Names, marks: &mut NumberSet, term: &TermArg) -> R
     }
 }
 
-// Whether the formula is quantified and its variable stands in it.
-fn binds(formula: &Formula) -> bool
-    ensures { result ≡ quantifier_binds (the_formula formula.now) }
-{
-    match formula {
-        Formula::All(a) | Formula::Ex(a) => is_bound_in(a),
-        Formula::Atom(_, _)
-        | Formula::Not(_)
-        | Formula::And(_, _)
-        | Formula::Or(_, _)
-        | Formula::Imp(_, _)
-        | Formula::Nec(_)
-        | Formula::Poss(_) => false,
-    }
-}
-
 /// Adds the eigenvariables that a use step on the formula brings: those of its argument, where the
 /// quantifier binds something.
 pub fn add_brought_eigens(
     eigens: &mut NumberSet,
-    formula: &Formula,
+    binds: bool,
     term: &TermArg,
 ) -> Result<(), NoMemory>
     ensures held { OnOk result ((n : ℕ) → holds eigens.new n
-        ≡ (holds eigens.old n || (quantifier_binds (the_formula formula.now)
+        ≡ (holds eigens.old n || (binds
         && in_argument (is_eigen n) (the_term_arg term.now)))) }
     ensures kept { OnOk result (IsLonger eigens.old eigens.new) }
 {
-    if binds(formula) {
+    if binds {
         add_argument_eigens(eigens, term)
     } else {
         Ok(())
@@ -175,15 +157,15 @@ pub fn add_brought_eigens(
 fn add_brought_homes(
     names: &Names,
     marks: &mut NumberSet,
-    formula: &Formula,
+    binds: bool,
     term: &TermArg,
 ) -> Result<(), NoMemory>
     ensures held { OnOk result ((n : ℕ) → holds marks.new n
-        ≡ (holds marks.old n || (quantifier_binds (the_formula formula.now)
+        ≡ (holds marks.old n || (binds
         && in_argument (is_in_home (the_names names.now) (new_mark n)) (the_term_arg term.now)))) }
     ensures kept { OnOk result (IsLonger marks.old marks.new) }
 {
-    if binds(formula) {
+    if binds {
         add_argument_homes(names, marks, term)
     } else {
         Ok(())
@@ -194,17 +176,17 @@ fn add_brought_homes(
 pub fn add_brought_marks(
     names: &Names,
     marks: &mut NumberSet,
-    formula: &Formula,
+    binds: bool,
     modal: &ModalArg,
     term: &TermArg,
 ) -> Result<(), NoMemory>
     ensures held { OnOk result ((n : ℕ) → holds marks.new n
         ≡ ((holds marks.old n || in_modal (new_mark n) (the_modal modal.now))
-        || (quantifier_binds (the_formula formula.now)
+        || (binds
         && in_argument (is_in_home (the_names names.now) (new_mark n)) (the_term_arg term.now)))) }
     ensures kept { OnOk result (IsLonger marks.old marks.new) }
 {
     add_modal(marks, modal)?;
-    add_brought_homes(names, marks, formula, term)?;
+    add_brought_homes(names, marks, binds, term)?;
     Ok(())
 }

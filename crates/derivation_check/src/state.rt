@@ -10,7 +10,7 @@ ghost use Rattle.sequent_calc.specs.DerivationView.{the_names};
 use crate::homes::Homes;
 use crate::open_sequents::{BranchEntry, OpenSequents};
 use cop_base::NoMemory;
-use derivation_branch::{Labels, NumberSet, SharedEntry, Substitutions};
+use derivation_branch::{Labels, NumberSet, Outline, SharedEntry, Substitutions};
 use formula_core::Sign;
 use logic_rules::Problem;
 use sequent_calc::Names;
@@ -19,6 +19,7 @@ use std::alloc::Global;
 /// The open sequents, over tables that grow with the steps, and what occurs in the current one.
 #[derive(Drop)]
 pub struct State<'a> {
+    pub outline: Outline,
     pub sequents: OpenSequents<'a>,
     pub substitutions: Substitutions<'a>,
     pub labels: Labels,
@@ -36,8 +37,11 @@ impl<'a> State<'a> {
         ensures first { IfOk result (λ s. the_sequents s ≡ first_sequent problem.now ∷ []) }
     {
         let formula = problem.formula();
+        let outline = Outline::new(alloc, formula)?;
+        let node = outline.whole()?;
         let shared = SharedEntry {
             sign: Sign::F,
+            node,
             formula,
             substitution: 0,
             label: 0,
@@ -54,6 +58,7 @@ impl<'a> State<'a> {
         let eigens = NumberSet::new(alloc);
         let marks = NumberSet::new(alloc);
         Ok(State {
+            outline,
             sequents,
             substitutions,
             labels,

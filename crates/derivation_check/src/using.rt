@@ -113,9 +113,10 @@ fn grow<'a>(
 {
     let shared = used.shared;
     let inner = put_argument(&mut state.substitutions, shared.substitution, term)?;
-    add_brought_eigens(&mut state.eigens, shared.formula, term)?;
-    add_brought_marks(names, &mut state.marks, shared.formula, modal, term)?;
-    let added = added_by(shared, inner, at);
+    let binds = state.outline.binds(shared.node);
+    add_brought_eigens(&mut state.eigens, binds, term)?;
+    add_brought_marks(names, &mut state.marks, binds, modal, term)?;
+    let added = added_by(&state.outline, shared, inner, at);
     let eigens = state.eigens.count()?;
     let marks = state.marks.count()?;
     state.sequents.advance(added, eigens, marks)?;

@@ -1,4 +1,9 @@
-use Rattle.std.proofs.Common.{◌∙◌, reverse}
+use Rattle.std.proofs.Common.{◌∙◌, ◌||◌, ◌&&◌, ap, reverse}
+use Rattle.calculus.specs.Calculus.{is_eigen, is_in_home}
+use Rattle.calculus.specs.Derivations.{new_mark}
+use Rattle.derivation_branch.specs.Occurring.{holds, in_argument, in_modal}
+use Rattle.formula_core.specs.FormulaView.{the_formula}
+use Rattle.derivation_check.proofs.NodeLaws.{node-stands, nodes-added}
 use Rattle.derivation_check.specs.OpenSequents.{after_added, sequents_of, waiting_in}
 use Rattle.derivation_check.proofs.StateLaws.{Growth, grown-kept, grown-shown, kept-open, stands-within}
 use Rattle.sequent_calc.specs.DerivationView.{the_names}
@@ -25,6 +30,10 @@ returns c =
     let marks = c.add_brought_marks.new.marks in
     let now = sequents_of c.advance.new.self in
     let added = c.added_by-added.result in
+    let nodes = s.outline.nodes.items in
+    let node = node-stands nodes s.sequents.is_open xs forks c.args.used c.requires.is_open c.requires.kept.nodes c.requires.stands in
+    let binds = c.binds-binds.ensures (the_formula c.args.used.shared.formula.now) node in
+    let after = c.in_ok-advance.ensures.advanced ∙ (λ i. after_added (c.in_ok-eigens.ensures i) (c.in_ok-marks.ensures i) added xs (waiting_in s.sequents)) in
     let growth : Growth names s.substitutions more s.labels s.eigens eigens s.marks marks s.sequents.is_open xs forks c.args.used c.in_ok-inner.inner c.args.at x t added now = record {
       is_open = c.requires.is_open;
       sequents = c.requires.kept.sequents;
@@ -36,12 +45,15 @@ returns c =
       argument = c.in_ok-inner.ensures.put;
       eigens = c.in_ok-add_brought_eigens.ensures.kept;
       marks = c.in_ok-add_brought_marks.ensures.kept;
-      brought = record { eigens = c.in_ok-add_brought_eigens.ensures.held; marks = c.in_ok-add_brought_marks.ensures.held };
+      brought = record {
+        eigens = λ n. c.in_ok-add_brought_eigens.ensures.held n ∙ ap (λ b. holds s.eigens n || (b && in_argument (is_eigen n) t)) binds;
+        marks = λ n. c.in_ok-add_brought_marks.ensures.held n ∙ ap (λ b. (holds s.marks n || in_modal (new_mark n) x) || (b && in_argument (is_in_home names (new_mark n)) t)) binds;
+      };
       places = c.added_by-added.ensures.at;
       added = c.added_by-added.ensures.added;
-      after = c.in_ok-advance.ensures.advanced ∙ (λ i. after_added (c.in_ok-eigens.ensures i) (c.in_ok-marks.ensures i) added xs (waiting_in s.sequents));
+      after = after;
     } in
     record {
-      kept = record { nested = c.in_ok-advance.ensures.nested; sequents = grown-kept names s.substitutions more s.labels s.eigens eigens s.marks marks s.sequents.is_open xs forks c.args.used c.in_ok-inner.inner c.args.at x t added now growth; homes = c.requires.kept.homes };
+      kept = record { nested = c.in_ok-advance.ensures.nested; sequents = grown-kept names s.substitutions more s.labels s.eigens eigens s.marks marks s.sequents.is_open xs forks c.args.used c.in_ok-inner.inner c.args.at x t added now growth; homes = c.requires.kept.homes; nodes = nodes-added nodes s.sequents.is_open xs forks _ _ added now c.requires.is_open c.requires.kept.nodes (c.added_by-added.ensures.nodes node) after };
       grown = grown-shown names s.substitutions more s.labels s.eigens eigens s.marks marks s.sequents.is_open xs forks c.args.used c.in_ok-inner.inner c.args.at x t added now growth;
     }

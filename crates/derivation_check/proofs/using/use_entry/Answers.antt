@@ -72,7 +72,7 @@ grow-requires c =
     let kept = met problem names (the_sequent s.substitutions s.labels xs) (the_entry s.substitutions s.labels u) x t unfaulted in
     record {
       is_open = c.requires.is_open;
-      kept = record { nested = c.requires.kept.nested; sequents = used-kept problem names s.substitutions s.labels more s.eigens s.marks s.sequents.is_open xs forks u c.in_ok-at.at x used; homes = homes-longer names s.labels more s.homes c.in_ok-at.ensures.grown c.requires.kept.homes };
+      kept = record { nested = c.requires.kept.nested; sequents = used-kept problem names s.substitutions s.labels more s.eigens s.marks s.sequents.is_open xs forks u c.in_ok-at.at x used; homes = homes-longer names s.labels more s.homes c.in_ok-at.ensures.grown c.requires.kept.homes; nodes = c.requires.kept.nodes };
       stands = c.requires.stands;
       label = after-of problem names s.substitutions s.labels more s.eigens s.marks s.sequents.is_open xs forks u c.in_ok-at.at x used;
       fits = ap (λ h. term_fits h t) (sym (shape-all ts 0 u.shared.sign f)) ∙ kept.0;

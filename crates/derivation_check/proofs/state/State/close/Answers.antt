@@ -1,6 +1,7 @@
 use Rattle.std.proofs.Common.{ap, map, reverse, subst}
 use Rattle.derivation_check.specs.OpenSequents.{IsLastOf, waiting_in}
 use Rattle.derivation_check.specs.StateView.{the_sequent}
+use Rattle.derivation_check.proofs.NodeLaws.{nodes-closed}
 use Rattle.derivation_check.proofs.StateLaws.{closed-kept, ended-kept}
 use Rattle.derivation_check.proofs.state.State.close.Goals as goal
 
@@ -12,6 +13,7 @@ returns-in-Some-clause-kept c = λ names h.
       sequents = closed-kept names s.substitutions s.labels s.eigens s.marks c.cut.new.self c.cut-in-Some.new.self s.sequents.is_open s.sequents.branch.items (reverse s.sequents.forks.items) _ c.in-Some.last c.requires.is_open h.sequents c.in_ok-next.ensures.closed
           (subst (IsLastOf (waiting_in s.sequents)) c.in-Some.is c.in_ok-next.ensures.last) c.cut.ensures c.cut-in-Some.ensures;
       homes = h.homes;
+      nodes = nodes-closed s.outline.nodes.items s.sequents.is_open s.sequents.branch.items (reverse s.sequents.forks.items) _ c.requires.is_open h.nodes c.in_ok-next.ensures.closed;
     }
 
 pub returns-in-Some-clause-closed : goal.returns-in-Some-clause-closed
@@ -24,6 +26,7 @@ returns-in-None-clause-kept c = λ names h.
       nested = c.in_ok-next.ensures.nested;
       sequents = ended-kept names s.substitutions s.labels s.eigens s.marks s.sequents.branch.items (reverse s.sequents.forks.items) _ c.in_ok-next.ensures.closed (subst (IsLastOf (waiting_in s.sequents)) c.in-None.is c.in_ok-next.ensures.last);
       homes = h.homes;
+      nodes = nodes-closed s.outline.nodes.items s.sequents.is_open s.sequents.branch.items (reverse s.sequents.forks.items) _ c.requires.is_open h.nodes c.in_ok-next.ensures.closed;
     }
 
 pub returns-in-None-clause-closed : goal.returns-in-None-clause-closed
