@@ -8,8 +8,6 @@ mod ground;
 mod place;
 mod symbol;
 mod term;
-#[cfg(test)]
-mod tests;
 
 pub use calculus::kind::Shape;
 pub use calculus::sign::Sign;

@@ -2,8 +2,11 @@
 
 ghost use Rattle.std.specs.Prelude.{◌≤◌, ◌^◌};
 
-use super::*;
 use cop_base::{NoMemory, PosId, SymbolId, Text};
+use formula_core::{
+    Formula, GroundLabel, GroundMark, GroundTerm, GroundTerms, Shape, Sign, Symbol, SymbolClass,
+    Symbols, Term, Terms, Value, Values, clause_count, literal_count, nesting, node_count,
+};
 use std::alloc::Global;
 use std::test::Fail;
 

@@ -1,0 +1,6 @@
+//! The tests of formulas, of the logics' rules, of tableaux and of sequents, over their built
+//! libraries: a crate with tests of its own is proved twice.
+#![tactic(auto)]
+
+#[cfg(test)]
+mod formulas;
