@@ -4,3 +4,5 @@
 
 #[cfg(test)]
 mod formulas;
+#[cfg(test)]
+mod rules;

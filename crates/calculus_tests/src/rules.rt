@@ -2,11 +2,14 @@
 
 ghost use Rattle.std.specs.Prelude.{◌≡◌, ◌++◌, ◌∷◌, [], Contains, IfOk, OnOk};
 ghost use Rattle.formula_core.specs.FormulaView.{the_formula};
-ghost use Rattle.logic_rules.specs.Examples.{IsExample, all_p, symbol_named, two_symbols};
+ghost use Rattle.calculus_tests.specs.RuleExamples.{IsExample, all_p, symbol_named, two_symbols};
 
-use super::*;
 use cop_base::{NoMemory, SymbolId, Text};
 use formula_core::{AddFault, Formula, Sign, Symbol, SymbolClass, Symbols, Term, Terms};
+use logic_rules::{
+    Domains, Kind, Label, Logic, Mark, ModalPart, Problem, Setting, Shape, home_allows, kind_of,
+    steps_to,
+};
 use std::alloc::Global;
 use std::test::Fail;
 
