@@ -1,1 +1,2 @@
 pub mod RuleExamples
+pub mod TableauExamples

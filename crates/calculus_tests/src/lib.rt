@@ -6,3 +6,5 @@
 mod formulas;
 #[cfg(test)]
 mod rules;
+#[cfg(test)]
+mod tableaux;

@@ -25,8 +25,6 @@ pub mod Reaching
 -- what a walk through an instance leaves, and what is counted of a tableau
 pub mod Walks
 pub mod Counted
--- ==== the problems of the tests
-
-pub mod Examples
+-- parts of the problem's formula and their sizes
 pub mod PartView
 pub mod Sizes

@@ -20,8 +20,6 @@ mod sized;
 mod sizes;
 mod spot;
 mod tableau;
-#[cfg(test)]
-mod tests;
 mod walk;
 mod way;
 

@@ -2,15 +2,8 @@
 
 ghost use Rattle.std.specs.Prelude.{◌≡◌, ◌∷◌, [], IfOk};
 ghost use Rattle.formula_core.specs.FormulaView.{the_formula};
-ghost use Rattle.tableau_core.specs.Examples.{IsExample, p, predicate, self_implication, serial};
+ghost use Rattle.calculus_tests.specs.TableauExamples.{IsExample, p, predicate, self_implication, serial};
 
-use crate::closed::is_closed;
-use crate::closing::{Closing, ClosingList};
-use crate::instance::ClauseInstance;
-use crate::literal::{GroundLiteral, LiteralList};
-use crate::selection::Selection;
-use crate::tableau::Tableau;
-use calculus::sign::Side;
 use cop_base::{NoMemory, SymbolId, Text};
 use formula_core::{
     AddFault, Formula, GroundLabel, GroundMark, GroundTerms, Sign, Symbol, SymbolClass, Symbols,
@@ -19,6 +12,10 @@ use formula_core::{
 use logic_rules::{Domains, Logic, Problem, Setting};
 use std::alloc::Global;
 use std::test::Fail;
+use tableau_core::{
+    ClauseInstance, Closing, ClosingList, GroundLiteral, LiteralList, Selection, Side, Tableau,
+    is_closed,
+};
 
 fn predicate_symbol(alloc: Global) -> Result<Symbols, NoMemory>
     ensures { IfOk result (λ s. s ≡ predicate ∷ []) }
