@@ -7,4 +7,6 @@ mod formulas;
 #[cfg(test)]
 mod rules;
 #[cfg(test)]
+mod sequents;
+#[cfg(test)]
 mod tableaux;

@@ -14,8 +14,6 @@ mod names;
 mod numbered;
 mod rules;
 mod step;
-#[cfg(test)]
-mod tests;
 
 pub use addition::{Addition, addition_of};
 pub use condition::{arguments_fit, home_is, is_known, is_reachable, term_allowed};

@@ -8,14 +8,13 @@ ghost use Rattle.formula_core.specs.TermView.{the_term};
 ghost use Rattle.sequent_calc.specs.Examples.{IsExample, barcan, drinker, p, p_of, predicate};
 ghost use Rattle.sequent_calc.specs.Examples.{serial, twice_denied};
 
-use crate::derivation::Derivation;
-use crate::entry::{Entry, Sequent};
-use crate::names::{Home, Names};
-use crate::rules::{ApplyFault, Children, StepFault, apply};
-use crate::step::{ModalArg, Step, StepList, TermArg};
 use cop_base::{NoMemory, SymbolId, Text};
 use formula_core::{AddFault, Formula, Symbol, SymbolClass, Symbols, Term, Terms};
 use logic_rules::{Domains, Label, Logic, Mark, Problem, Setting};
+use sequent_calc::{
+    ApplyFault, Children, Derivation, Entry, Home, ModalArg, Names, Sequent, Step, StepFault,
+    StepList, TermArg, apply,
+};
 use std::alloc::Global;
 use std::test::Fail;
 
