@@ -21,5 +21,3 @@ pub mod Exploring
 pub mod Deciding
 -- lists that labels refute
 pub mod Pruning
--- worked problems
-pub mod Examples

@@ -17,8 +17,6 @@ mod searching;
 mod space;
 mod system;
 mod terms;
-#[cfg(test)]
-mod tests;
 mod tree;
 
 pub use deepening::{Answer, deepen};

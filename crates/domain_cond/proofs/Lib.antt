@@ -1,5 +1,4 @@
 pub mod ConstantLaws
-pub mod ExampleLaws
 pub mod WayLaws
 pub mod HomeSteps
 pub mod LeafLaws

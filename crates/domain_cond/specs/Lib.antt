@@ -1,5 +1,3 @@
--- a problem and a system that the tests build
-pub mod Examples
 -- ways that are followed by cells
 pub mod Ways
 -- what stands in terms

@@ -9,8 +9,6 @@ mod leaves;
 mod own;
 mod ranking;
 mod standing;
-#[cfg(test)]
-mod tests;
 mod unmet;
 mod varying;
 

@@ -1,5 +1,4 @@
 pub mod Behind
-pub mod Examples
 pub mod Fits
 pub mod MatrixView
 pub mod PartView

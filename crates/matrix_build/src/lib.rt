@@ -9,8 +9,6 @@ mod pattern;
 mod selections;
 mod sizes;
 mod template;
-#[cfg(test)]
-mod tests;
 mod walk;
 mod way;
 

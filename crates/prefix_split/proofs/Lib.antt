@@ -5,7 +5,6 @@ pub mod EqualLaws
 pub mod SameLaws
 pub mod MeetingLaws
 pub mod TryingLaws
-pub mod ExampleLaws
 pub mod LengthListLaws
 pub mod SearchLaws
 pub mod OrderLaws

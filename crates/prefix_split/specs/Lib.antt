@@ -10,8 +10,6 @@ pub mod Same
 pub mod Meeting
 -- one list of lengths
 pub mod Trying
--- what the tests hand over
-pub mod Examples
 -- lists of lengths in order
 pub mod LengthLists
 -- the search through them

@@ -17,8 +17,6 @@ mod refuting;
 mod rules;
 mod same;
 mod solving;
-#[cfg(test)]
-mod tests;
 mod trying;
 
 pub use refuting::is_refuted;

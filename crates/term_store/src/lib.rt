@@ -13,8 +13,6 @@ mod pattern;
 mod slots;
 mod store;
 mod system;
-#[cfg(test)]
-mod tests;
 
 pub use calculus::sign::Sign;
 pub use calculus::sort::Sort;

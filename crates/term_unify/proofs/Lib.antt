@@ -3,7 +3,6 @@ pub mod PairLaws
 pub mod OnePairLaws
 pub mod VisitLaws
 pub mod InnerLaws
-pub mod DoublingLaws
 pub mod ListItems
 pub mod FlatLaws
 pub mod SameLaws

@@ -3,13 +3,9 @@
 
 mod check;
 mod compare;
-#[cfg(test)]
-mod doubling;
 mod flat;
 mod same;
 mod solve;
-#[cfg(test)]
-mod tests;
 mod visited;
 
 pub use flat::flat_label;

@@ -1,0 +1,3 @@
+pub mod DomainExampleLaws
+pub mod DoublingLaws
+pub mod PrefixExampleLaws
