@@ -10,7 +10,6 @@ pub mod Frames
 pub mod Heads
 pub mod Closings
 pub mod Apart
-pub mod Fitting
 pub mod Passing
 pub mod TermTexts
 pub mod AtomTexts

@@ -6,4 +6,3 @@ pub mod Quoted
 pub mod Single
 pub mod Marks
 pub mod Frames
-pub mod Examples

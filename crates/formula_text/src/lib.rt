@@ -44,8 +44,3 @@ pub use scan::read_number;
 pub use setting::write_setting;
 pub use term::write_term;
 pub use term_reader::read_term;
-
-#[cfg(test)]
-mod formula_tests;
-#[cfg(test)]
-mod tests;

@@ -4,11 +4,11 @@ ghost use Rattle.std.specs.Prelude.{◌≡◌, ◌∷◌, ◌++◌, [], IfOk, On
 ghost use Rattle.calculus.specs.Syntax as tree;
 ghost use Rattle.formula_core.specs.FormulaView.{the_formula};
 ghost use Rattle.formula_core.specs.TermView.{the_term};
-ghost use Rattle.formula_text.specs.Examples.{IsExample, applied, barcan, drinker, equal_terms, equation, equivalence, every_box, example, example_symbols, p, replaced, serial, some_world, symmetric, transitive, twice_denied};
+ghost use Rattle.text_tests.specs.FormulaExamples.{IsExample, applied, barcan, drinker, equal_terms, equation, equivalence, every_box, example, example_symbols, p, replaced, serial, some_world, symmetric, transitive, twice_denied};
 
-use super::*;
 use cop_base::{NoMemory, SymbolId, Text};
 use formula_core::{AddFault, Formula, Symbol, SymbolClass, Symbols, Term, Terms};
+use formula_text::write_formula;
 use std::alloc::Global;
 use std::test::Fail;
 

@@ -1,12 +1,16 @@
+//! Names, labels, terms and settings, written and read.
+
 ghost use Rattle.std.specs.Prelude.{◌≡◌, [], IsTrue, OnOk};
 ghost use Rattle.std.specs.List.{list_all};
 ghost use Rattle.calculus.specs.DerivationText.{term_is_written};
 ghost use Rattle.calculus.specs.Problems.{is_name, symbol_fits};
 ghost use Rattle.formula_core.specs.TermView.{the_term};
 
-use super::*;
 use cop_base::{NoMemory, Text};
 use formula_core::{AddFault, Symbol, SymbolClass, Symbols, Term};
+use formula_text::{
+    TextRead, read_label, read_name, read_term, write_label, write_name, write_setting, write_term,
+};
 use logic_rules::{Domains, Label, Logic, Mark, Setting};
 use std::alloc::Global;
 use std::test::Fail;

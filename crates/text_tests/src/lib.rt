@@ -1,0 +1,8 @@
+//! The tests of the canonical texts and of their judgement, over the built libraries: a crate with
+//! tests of its own is proved twice.
+#![tactic(auto)]
+
+#[cfg(test)]
+mod formulas;
+#[cfg(test)]
+mod terms;
