@@ -4,4 +4,3 @@ pub mod Body
 pub mod BodyView
 pub mod Reading
 pub mod Single
-pub mod Examples

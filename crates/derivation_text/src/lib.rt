@@ -17,6 +17,3 @@ pub use calculus::fault::TextCause;
 pub use fault::ParseFault;
 pub use parser::parse;
 pub use writer::print;
-
-#[cfg(test)]
-mod tests;

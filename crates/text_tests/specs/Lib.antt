@@ -1,1 +1,2 @@
 pub mod FormulaExamples
+pub mod DerivationExamples

@@ -2,12 +2,12 @@
 
 ghost use Rattle.std.specs.Prelude.{◌≡◌, ◌∷◌, [], IfOk};
 ghost use Rattle.calculus.specs.Syntax as tree;
-ghost use Rattle.derivation_text.specs.Examples.{self_implication};
 ghost use Rattle.formula_core.specs.FormulaView.{the_formula};
 ghost use Rattle.formula_core.specs.SymbolView.{the_symbol};
+ghost use Rattle.text_tests.specs.DerivationExamples.{self_implication};
 
-use crate::{ParseFault, TextCause, parse, print};
 use cop_base::{NoMemory, SymbolId, Text};
+use derivation_text::{ParseFault, TextCause, parse, print};
 use formula_core::{AddFault, Formula, Symbol, SymbolClass, Symbols, Terms};
 use logic_rules::{Domains, Logic, Problem, Setting};
 use std::alloc::{AllocError, Global};
