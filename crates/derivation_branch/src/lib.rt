@@ -23,6 +23,3 @@ pub use number_set::NumberSet;
 pub use outline::{Node, Outline};
 pub use relations::{is_home_at, reaches};
 pub use substitution::{Substitutions, Value};
-
-#[cfg(test)]
-mod tests;

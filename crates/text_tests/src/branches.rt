@@ -1,5 +1,7 @@
-use crate::{Labels, NumberSet, Outline, add_eigens, is_home_at, reaches};
+//! The labels, the numbers and the outline of a branch.
+
 use cop_base::{NoMemory, SymbolId};
+use derivation_branch::{Labels, NumberSet, Outline, add_eigens, is_home_at, reaches};
 use formula_core::{Formula, Term, Terms};
 use logic_rules::{Domains, Logic, Mark};
 use std::alloc::Global;
