@@ -15,6 +15,3 @@ mod verdict;
 pub use calculus::fault::CheckFault;
 pub use judgement::check;
 pub use verdict::Verdict;
-
-#[cfg(test)]
-mod tests;

@@ -9,4 +9,6 @@ mod derivations;
 #[cfg(test)]
 mod formulas;
 #[cfg(test)]
+mod judging;
+#[cfg(test)]
 mod terms;

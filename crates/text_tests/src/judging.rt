@@ -8,8 +8,8 @@ ghost use Rattle.formula_core.specs.TermView.{the_term};
 ghost use Rattle.sequent_calc.specs.Examples.{IsExample, barcan, drinker, p, p_of, predicate};
 ghost use Rattle.sequent_calc.specs.Examples.{serial, twice_denied};
 
-use crate::{CheckFault, Verdict, check};
 use cop_base::{NoMemory, SymbolId, Text};
+use derivation_check::{CheckFault, Verdict, check};
 use derivation_text::TextCause;
 use formula_core::{AddFault, Formula, Symbol, SymbolClass, Symbols, Term, Terms};
 use logic_rules::{Domains, Logic, Problem, Setting};
