@@ -16,8 +16,6 @@ mod reader;
 mod source;
 mod term_reader;
 mod terminal;
-#[cfg(test)]
-mod tests;
 mod text_reader;
 
 pub use fault::{ReadCause, ReadFault};

@@ -1,8 +1,10 @@
 //! Texts with their items or their first fault.
 
-use super::*;
 use std::alloc::{AllocError, Global};
 use std::test::Fail;
+use tptp_reader::{
+    Item, ItemKind, ItemList, ReadCause, ReadFault, Source, read_formula, read_items,
+};
 
 fn fault_of(read: Result<ItemList, ReadFault>) -> Option<ReadFault> {
     match read {
