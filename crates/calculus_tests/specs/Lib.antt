@@ -1,2 +1,1 @@
-pub mod RuleExamples
-pub mod TableauExamples
+pub mod Examples

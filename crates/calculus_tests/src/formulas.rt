@@ -2,7 +2,8 @@
 
 ghost use Rattle.std.specs.Prelude.{◌≤◌, ◌^◌};
 
-use cop_base::{NoMemory, PosId, SymbolId, Text};
+use crate::problems::{plain, symbol};
+use cop_base::{NoMemory, PosId, SymbolId};
 use formula_core::{
     Formula, GroundLabel, GroundMark, GroundTerm, GroundTerms, Shape, Sign, Symbol, SymbolClass,
     Symbols, Term, Terms, Value, Values, clause_count, literal_count, nesting, node_count,
@@ -23,10 +24,6 @@ fn function(alloc: Global, a: Term, b: Term) -> Result<Term, NoMemory> {
 
 fn related(alloc: Global, a: Term, b: Term) -> Result<Formula, NoMemory> {
     Ok(Formula::Atom(SymbolId(0), pair(alloc, a, b)?))
-}
-
-fn plain(alloc: Global, symbol: u32) -> Formula {
-    Formula::Atom(SymbolId(symbol), Terms::new(alloc))
 }
 
 fn twice(alloc: Global, f: &Formula) -> Result<Formula, NoMemory> {
@@ -134,18 +131,9 @@ fn puts_terms(rt: HostRuntime) -> Result<(), Fail> {
     Ok(())
 }
 
-fn symbol(alloc: Global, class: SymbolClass) -> Result<Symbol, NoMemory> {
-    let name = Text::new(alloc, b"p")?;
-    Ok(Symbol {
-        name,
-        class,
-        arity: 1,
-    })
-}
-
 // Whether adding the symbol of this class gives the place.
 fn adds(alloc: Global, symbols: &mut Symbols, class: SymbolClass, place: u32) -> bool {
-    let Ok(symbol) = symbol(alloc, class) else {
+    let Ok(symbol) = symbol(alloc, b"p", class, 1) else {
         return false;
     };
     match symbols.add(symbol) {
@@ -155,7 +143,7 @@ fn adds(alloc: Global, symbols: &mut Symbols, class: SymbolClass, place: u32) ->
 }
 
 fn finds(alloc: Global, symbols: &Symbols, class: SymbolClass, place: u32) -> bool {
-    let Ok(symbol) = symbol(alloc, class) else {
+    let Ok(symbol) = symbol(alloc, b"p", class, 1) else {
         return false;
     };
     match symbols.find(&symbol) {

@@ -5,6 +5,8 @@
 #[cfg(test)]
 mod formulas;
 #[cfg(test)]
+mod problems;
+#[cfg(test)]
 mod rules;
 #[cfg(test)]
 mod sequents;

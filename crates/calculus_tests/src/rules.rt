@@ -1,21 +1,17 @@
 //! The tables of the rules, and a small problem.
 
-ghost use Rattle.std.specs.Prelude.{◌≡◌, ◌++◌, ◌∷◌, [], Contains, IfOk, OnOk};
+ghost use Rattle.std.specs.Prelude.{◌≡◌, IfOk};
+ghost use Rattle.calculus_tests.specs.Examples.{IsExample, all_p, two_symbols};
 ghost use Rattle.formula_core.specs.FormulaView.{the_formula};
-ghost use Rattle.calculus_tests.specs.RuleExamples.{IsExample, all_p, symbol_named, two_symbols};
 
-use cop_base::{NoMemory, SymbolId, Text};
-use formula_core::{AddFault, Formula, Sign, Symbol, SymbolClass, Symbols, Term, Terms};
+use crate::problems::{add, applied, label, plain};
+use cop_base::NoMemory;
+use formula_core::{Formula, Sign, SymbolClass, Symbols, Term};
 use logic_rules::{
-    Domains, Kind, Label, Logic, Mark, ModalPart, Problem, Setting, Shape, home_allows, kind_of,
-    steps_to,
+    Domains, Kind, Logic, Mark, ModalPart, Problem, Setting, Shape, home_allows, kind_of, steps_to,
 };
 use std::alloc::Global;
 use std::test::Fail;
-
-fn atom(alloc: Global) -> Formula {
-    Formula::Atom(SymbolId(0), Terms::new(alloc))
-}
 
 // What stands at the head of a formula of the table.
 #[derive(Clone, Copy)]
@@ -33,15 +29,15 @@ enum Head {
 
 fn formula(alloc: Global, head: Head) -> Result<Formula, NoMemory> {
     match head {
-        Head::Atom => Ok(atom(alloc)),
-        Head::Not => Formula::not(alloc, atom(alloc)),
-        Head::And => Formula::and(alloc, atom(alloc), atom(alloc)),
-        Head::Or => Formula::or(alloc, atom(alloc), atom(alloc)),
-        Head::Imp => Formula::imp(alloc, atom(alloc), atom(alloc)),
-        Head::All => Formula::all(alloc, atom(alloc)),
-        Head::Ex => Formula::ex(alloc, atom(alloc)),
-        Head::Nec => Formula::nec(alloc, atom(alloc)),
-        Head::Poss => Formula::poss(alloc, atom(alloc)),
+        Head::Atom => Ok(plain(alloc, 0)),
+        Head::Not => Formula::not(alloc, plain(alloc, 0)),
+        Head::And => Formula::and(alloc, plain(alloc, 0), plain(alloc, 0)),
+        Head::Or => Formula::or(alloc, plain(alloc, 0), plain(alloc, 0)),
+        Head::Imp => Formula::imp(alloc, plain(alloc, 0), plain(alloc, 0)),
+        Head::All => Formula::all(alloc, plain(alloc, 0)),
+        Head::Ex => Formula::ex(alloc, plain(alloc, 0)),
+        Head::Nec => Formula::nec(alloc, plain(alloc, 0)),
+        Head::Poss => Formula::poss(alloc, plain(alloc, 0)),
     }
 }
 
@@ -98,14 +94,6 @@ fn tells_kinds(rt: HostRuntime) -> Result<(), Fail> {
         assert!(rt; has_kind(&f, sign, shape, modal, intuitionistic));
     }
     Ok(())
-}
-
-fn label(alloc: Global, marks: &[Mark]) -> Result<Label, NoMemory> {
-    let mut label = Label::new(alloc);
-    for mark in marks {
-        label.push(*mark)?;
-    }
-    Ok(label)
 }
 
 // Whether a step leads from the first label to the second: in classical logic, D, T, S4 as well as
@@ -184,23 +172,6 @@ fn allows_names(rt: HostRuntime) -> Result<(), Fail> {
     Ok(())
 }
 
-fn add(
-    alloc: Global,
-    symbols: &mut Symbols,
-    name: &[u8],
-    class: SymbolClass,
-    arity: u32,
-) -> Result<(), NoMemory>
-    requires { ¬ (Contains symbols.old (symbol_named name.now class arity)) }
-    ensures { OnOk result (symbols.new ≡ symbols.old ++ symbol_named name.now class arity ∷ []) }
-{
-    let name = Text::new(alloc, name)?;
-    match symbols.add(Symbol { name, class, arity }) {
-        Ok(_) => Ok(()),
-        Err(AddFault::Full | AddFault::NoMemory) => Err(NoMemory),
-    }
-}
-
 // The predicate symbol `p`, and `c` of this class and arity.
 fn p_and_c(alloc: Global, class: SymbolClass, arity: u32) -> Result<Symbols, NoMemory>
     ensures { IfOk result (λ s. s ≡ two_symbols class arity) }
@@ -215,10 +186,8 @@ fn p_and_c(alloc: Global, class: SymbolClass, arity: u32) -> Result<Symbols, NoM
 fn all_p(alloc: Global) -> Result<Formula, NoMemory>
     ensures { IfOk result (λ f. the_formula f ≡ all_p) }
 {
-    let mut terms = Terms::new(alloc);
-    terms.push(Term::Var(0))?;
-    let formula = Formula::all(alloc, Formula::Atom(SymbolId(0), terms))?;
-    Ok(formula)
+    let inside = applied(alloc, Term::Var(0))?;
+    Formula::all(alloc, inside)
 }
 
 fn problem(

@@ -1,16 +1,13 @@
 //! Derivations that textbooks work out, and steps that break their rules.
 
-ghost use Rattle.std.specs.Prelude.{◌≡◌, ◌∷◌, [], IfOk};
-ghost use Rattle.calculus.specs.Syntax as tree;
+ghost use Rattle.std.specs.Prelude.{◌≡◌, IfOk};
 ghost use Rattle.formula_core.specs.FormulaView.{the_formula};
-ghost use Rattle.formula_core.specs.SymbolView.{the_symbol};
-ghost use Rattle.formula_core.specs.TermView.{the_term};
-ghost use Rattle.sequent_calc.specs.Examples.{IsExample, barcan, drinker, p, p_of, predicate};
-ghost use Rattle.sequent_calc.specs.Examples.{serial, twice_denied};
+ghost use Rattle.sequent_calc.specs.Examples.{barcan, drinker, twice_denied};
 
-use cop_base::{NoMemory, SymbolId, Text};
-use formula_core::{AddFault, Formula, Symbol, SymbolClass, Symbols, Term, Terms};
-use logic_rules::{Domains, Label, Logic, Mark, Problem, Setting};
+use crate::problems::{applied, label, plain, problem, serial};
+use cop_base::NoMemory;
+use formula_core::{Formula, Term};
+use logic_rules::{Domains, Label, Logic, Mark, Problem};
 use sequent_calc::{
     ApplyFault, Children, Derivation, Entry, Home, ModalArg, Names, Sequent, Step, StepFault,
     StepList, TermArg, apply,
@@ -39,45 +36,6 @@ enum Line<'a> {
     Axiom(u32, u32),
 }
 
-fn predicate_symbol(alloc: Global, arity: u32) -> Result<Symbols, NoMemory>
-    ensures { IfOk result (λ s. s ≡ predicate arity ∷ []) }
-{
-    let name = Text::new(alloc, b"p")?;
-    let class = SymbolClass::Predicate;
-    let mut symbols = Symbols::new(alloc);
-    match symbols.add(Symbol { name, class, arity }) {
-        Ok(_) => Ok(symbols),
-        Err(AddFault::Full | AddFault::NoMemory) => Err(NoMemory),
-    }
-}
-
-fn problem(
-    alloc: Global,
-    logic: Logic,
-    domains: Domains,
-    formula: Formula,
-    arity: u32,
-) -> Result<Problem, NoMemory>
-    requires { IsExample logic domains (the_formula formula) arity }
-{
-    let symbols = predicate_symbol(alloc, arity)?;
-    Ok(Problem::new(Setting::new(logic, domains), formula, symbols))
-}
-
-fn plain(alloc: Global) -> Formula
-    ensures { the_formula result ≡ p }
-{
-    Formula::Atom(SymbolId(0), Terms::new(alloc))
-}
-
-fn applied(alloc: Global, t: Term) -> Result<Formula, NoMemory>
-    ensures { IfOk result (λ f. the_formula f ≡ p_of (the_term t)) }
-{
-    let mut terms = Terms::new(alloc);
-    terms.push(t)?;
-    Ok(Formula::Atom(SymbolId(0), terms))
-}
-
 fn drinker(alloc: Global) -> Result<Formula, NoMemory>
     ensures { IfOk result (λ f. the_formula f ≡ drinker) }
 {
@@ -87,19 +45,11 @@ fn drinker(alloc: Global) -> Result<Formula, NoMemory>
     Formula::ex(alloc, every)
 }
 
-fn serial(alloc: Global) -> Result<Formula, NoMemory>
-    ensures { IfOk result (λ f. the_formula f ≡ serial) }
-{
-    let given = Formula::nec(alloc, plain(alloc))?;
-    let shown = Formula::poss(alloc, plain(alloc))?;
-    Formula::imp(alloc, given, shown)
-}
-
 fn twice_denied(alloc: Global) -> Result<Formula, NoMemory>
     ensures { IfOk result (λ f. the_formula f ≡ twice_denied) }
 {
-    let right = Formula::not(alloc, plain(alloc))?;
-    let either = Formula::or(alloc, plain(alloc), right)?;
+    let right = Formula::not(alloc, plain(alloc, 0))?;
+    let either = Formula::or(alloc, plain(alloc, 0), right)?;
     let denied = Formula::not(alloc, either)?;
     Formula::not(alloc, denied)
 }
@@ -112,14 +62,6 @@ fn barcan(alloc: Global) -> Result<Formula, NoMemory>
     let every = Formula::all(alloc, applied(alloc, Term::Var(0))?)?;
     let shown = Formula::nec(alloc, every)?;
     Formula::imp(alloc, given, shown)
-}
-
-fn label(alloc: Global, marks: &[Mark]) -> Result<Label, NoMemory> {
-    let mut label = Label::new(alloc);
-    for mark in marks {
-        label.push(*mark)?;
-    }
-    Ok(label)
 }
 
 fn step(alloc: Global, line: Line) -> Result<Step, NoMemory> {

@@ -1,65 +1,17 @@
 //! Tableaux of worked problems, and the same with one thing wrong.
 
-ghost use Rattle.std.specs.Prelude.{◌≡◌, ◌∷◌, [], IfOk};
-ghost use Rattle.formula_core.specs.FormulaView.{the_formula};
-ghost use Rattle.calculus_tests.specs.TableauExamples.{IsExample, p, predicate, self_implication, serial};
+ghost use Rattle.sequent_calc.specs.Examples.{IsExample, serial};
 
-use cop_base::{NoMemory, SymbolId, Text};
-use formula_core::{
-    AddFault, Formula, GroundLabel, GroundMark, GroundTerms, Sign, Symbol, SymbolClass, Symbols,
-    Terms, Value, Values,
-};
-use logic_rules::{Domains, Logic, Problem, Setting};
+use crate::problems::{problem, self_implication, serial};
+use cop_base::{NoMemory, SymbolId};
+use formula_core::{GroundLabel, GroundMark, GroundTerms, Sign, Value, Values};
+use logic_rules::{Domains, Logic, Problem};
 use std::alloc::Global;
 use std::test::Fail;
 use tableau_core::{
     ClauseInstance, Closing, ClosingList, GroundLiteral, LiteralList, Selection, Side, Tableau,
     is_closed,
 };
-
-fn predicate_symbol(alloc: Global) -> Result<Symbols, NoMemory>
-    ensures { IfOk result (λ s. s ≡ predicate ∷ []) }
-{
-    let name = Text::new(alloc, b"p")?;
-    let class = SymbolClass::Predicate;
-    let mut symbols = Symbols::new(alloc);
-    match symbols.add(Symbol {
-        name,
-        class,
-        arity: 0,
-    }) {
-        Ok(_) => Ok(symbols),
-        Err(AddFault::Full | AddFault::NoMemory) => Err(NoMemory),
-    }
-}
-
-fn problem(alloc: Global, logic: Logic, formula: Formula) -> Result<Problem, NoMemory>
-    requires { IsExample logic (the_formula formula) }
-{
-    let symbols = predicate_symbol(alloc)?;
-    let setting = Setting::new(logic, Domains::Constant);
-    Ok(Problem::new(setting, formula, symbols))
-}
-
-fn plain(alloc: Global) -> Formula
-    ensures { the_formula result ≡ p }
-{
-    Formula::Atom(SymbolId(0), Terms::new(alloc))
-}
-
-fn self_implication(alloc: Global) -> Result<Formula, NoMemory>
-    ensures { IfOk result (λ f. the_formula f ≡ self_implication) }
-{
-    Formula::imp(alloc, plain(alloc), plain(alloc))
-}
-
-fn serial(alloc: Global) -> Result<Formula, NoMemory>
-    ensures { IfOk result (λ f. the_formula f ≡ serial) }
-{
-    let given = Formula::nec(alloc, plain(alloc))?;
-    let shown = Formula::poss(alloc, plain(alloc))?;
-    Formula::imp(alloc, given, shown)
-}
 
 // The spare characters numbered from 0 to this count.
 fn spares(alloc: Global, count: u32) -> Result<GroundLabel, NoMemory> {
@@ -143,7 +95,7 @@ fn closes(
 
 fn by_extension(alloc: Global, limit: u8) -> Result<bool, NoMemory> {
     let formula = self_implication(alloc)?;
-    let problem = problem(alloc, Logic::Classical, formula)?;
+    let problem = problem(alloc, Logic::Classical, Domains::Constant, formula, 0)?;
     let closing = extension(alloc, None, 0)?;
     let closed = closes(alloc, &problem, None, 0, closing, limit)?;
     Ok(closed)
@@ -151,7 +103,7 @@ fn by_extension(alloc: Global, limit: u8) -> Result<bool, NoMemory> {
 
 fn by_reduction(alloc: Global) -> Result<bool, NoMemory> {
     let formula = self_implication(alloc)?;
-    let problem = problem(alloc, Logic::Classical, formula)?;
+    let problem = problem(alloc, Logic::Classical, Domains::Constant, formula, 0)?;
     let closing = Closing::Reduce { up: 1 };
     let closed = closes(alloc, &problem, None, 0, closing, 1)?;
     Ok(closed)
@@ -159,10 +111,10 @@ fn by_reduction(alloc: Global) -> Result<bool, NoMemory> {
 
 // The tableau of the serial formula whose two instances have a string of these lengths.
 fn serial_in(alloc: Global, logic: Logic, start: u32, other: u32) -> Result<bool, NoMemory>
-    requires { IsExample logic serial }
+    requires { IsExample logic Domains.Constant serial 0 }
 {
     let formula = serial(alloc)?;
-    let problem = problem(alloc, logic, formula)?;
+    let problem = problem(alloc, logic, Domains::Constant, formula, 0)?;
     let closing = extension(alloc, Some(other), other)?;
     let closed = closes(alloc, &problem, Some(start), start, closing, 1)?;
     Ok(closed)
