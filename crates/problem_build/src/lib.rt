@@ -15,8 +15,6 @@ mod passed;
 mod progress;
 mod selection;
 mod symbols;
-#[cfg(test)]
-mod tests;
 mod variables;
 mod walk;
 

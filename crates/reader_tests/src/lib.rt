@@ -4,3 +4,5 @@
 
 #[cfg(test)]
 mod items;
+#[cfg(test)]
+mod problems;

@@ -1,7 +1,9 @@
-use super::*;
+//! The problems of files in memory, or why there is none.
+
 use cop_base::{MemLibrary, NoMemory, Text};
 use formula_core::node_count;
 use logic_rules::{Domains, Logic, Problem, Setting};
+use problem_build::{BuildFault, build};
 use std::alloc::Global;
 use std::test::Fail;
 
