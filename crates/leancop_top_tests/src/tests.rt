@@ -1,8 +1,8 @@
 //! Runs over a library and a sink in memory.
 
-use crate::{exit_code, run};
 use cop_base::{FetchFault, FileLibrary, Library, MemLibrary, MemSink, NoMemory, Text};
 use itoa::Buffer;
+use leancop_top::{exit_code, run};
 use std::alloc::Global;
 use std::test::Fail;
 

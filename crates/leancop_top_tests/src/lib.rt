@@ -1,0 +1,7 @@
+//! The tests of the commands, over the built library: a crate with tests of its own is proved twice.
+#![tactic(auto)]
+
+#[cfg(test)]
+mod check_tests;
+#[cfg(test)]
+mod tests;
