@@ -2,8 +2,8 @@
 
 ghost use Rattle.std.specs.Prelude.{◌≤◌, ◌^◌};
 
-use crate::problems::{plain, symbol};
 use cop_base::{NoMemory, PosId, SymbolId};
+use example_problems::{plain, symbol};
 use formula_core::{
     Formula, GroundLabel, GroundMark, GroundTerm, GroundTerms, Shape, Sign, Symbol, SymbolClass,
     Symbols, Term, Terms, Value, Values, clause_count, literal_count, nesting, node_count,

@@ -5,8 +5,6 @@
 #[cfg(test)]
 mod formulas;
 #[cfg(test)]
-mod problems;
-#[cfg(test)]
 mod rules;
 #[cfg(test)]
 mod sequents;

@@ -4,8 +4,8 @@ ghost use Rattle.std.specs.Prelude.{◌≡◌, IfOk};
 ghost use Rattle.calculus_tests.specs.Examples.{IsExample, all_p, two_symbols};
 ghost use Rattle.formula_core.specs.FormulaView.{the_formula};
 
-use crate::problems::{add, applied, label, plain};
 use cop_base::NoMemory;
+use example_problems::{add, applied, label, plain};
 use formula_core::{Formula, Sign, SymbolClass, Symbols, Term};
 use logic_rules::{
     Domains, Kind, Logic, Mark, ModalPart, Problem, Setting, Shape, home_allows, kind_of, steps_to,

@@ -1,12 +1,8 @@
 //! Derivations that textbooks work out, and steps that break their rules.
 
-ghost use Rattle.std.specs.Prelude.{◌≡◌, IfOk};
-ghost use Rattle.formula_core.specs.FormulaView.{the_formula};
-ghost use Rattle.sequent_calc.specs.Examples.{barcan, drinker, twice_denied};
-
-use crate::problems::{applied, label, plain, problem, serial};
 use cop_base::NoMemory;
-use formula_core::{Formula, Term};
+use example_problems::{barcan, drinker, label, problem, serial, twice_denied};
+use formula_core::Term;
 use logic_rules::{Domains, Label, Logic, Mark, Problem};
 use sequent_calc::{
     ApplyFault, Children, Derivation, Entry, Home, ModalArg, Names, Sequent, Step, StepFault,
@@ -34,34 +30,6 @@ enum Line<'a> {
     UseSpare(u32, u32),
     UseName(u32, u32),
     Axiom(u32, u32),
-}
-
-fn drinker(alloc: Global) -> Result<Formula, NoMemory>
-    ensures { IfOk result (λ f. the_formula f ≡ drinker) }
-{
-    let given = applied(alloc, Term::Var(1))?;
-    let shown = applied(alloc, Term::Var(0))?;
-    let every = Formula::all(alloc, Formula::imp(alloc, given, shown)?)?;
-    Formula::ex(alloc, every)
-}
-
-fn twice_denied(alloc: Global) -> Result<Formula, NoMemory>
-    ensures { IfOk result (λ f. the_formula f ≡ twice_denied) }
-{
-    let right = Formula::not(alloc, plain(alloc, 0))?;
-    let either = Formula::or(alloc, plain(alloc, 0), right)?;
-    let denied = Formula::not(alloc, either)?;
-    Formula::not(alloc, denied)
-}
-
-fn barcan(alloc: Global) -> Result<Formula, NoMemory>
-    ensures { IfOk result (λ f. the_formula f ≡ barcan) }
-{
-    let boxed = Formula::nec(alloc, applied(alloc, Term::Var(0))?)?;
-    let given = Formula::all(alloc, boxed)?;
-    let every = Formula::all(alloc, applied(alloc, Term::Var(0))?)?;
-    let shown = Formula::nec(alloc, every)?;
-    Formula::imp(alloc, given, shown)
 }
 
 fn step(alloc: Global, line: Line) -> Result<Step, NoMemory> {

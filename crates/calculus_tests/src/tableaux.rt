@@ -1,9 +1,9 @@
 //! Tableaux of worked problems, and the same with one thing wrong.
 
-ghost use Rattle.sequent_calc.specs.Examples.{IsExample, serial};
+ghost use Rattle.example_problems.specs.Examples.{IsExample, serial};
 
-use crate::problems::{problem, self_implication, serial};
 use cop_base::{NoMemory, SymbolId};
+use example_problems::{problem, self_implication, serial};
 use formula_core::{GroundLabel, GroundMark, GroundTerms, Sign, Value, Values};
 use logic_rules::{Domains, Logic, Problem};
 use std::alloc::Global;

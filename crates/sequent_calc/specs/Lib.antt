@@ -4,4 +4,3 @@ pub mod StepView
 pub mod DerivationView
 pub mod LeafView
 pub mod ChildrenView
-pub mod Examples

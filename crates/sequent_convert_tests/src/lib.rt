@@ -3,8 +3,8 @@
 #![tactic(auto)]
 
 #[cfg(test)]
-mod example_problems;
-#[cfg(test)]
 mod example_tableaux;
+#[cfg(test)]
+mod problems;
 #[cfg(test)]
 mod tests;

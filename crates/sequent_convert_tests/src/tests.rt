@@ -1,10 +1,10 @@
 //! Tableaux by hand, whose derivations the rules accept.
 
-use crate::example_problems::{
-    both_worlds_problem, boxed_drinker_problem, serial_problem, twice_denied_problem,
-};
 use crate::example_tableaux::{
     Case, MarkIs, TermIs, ValueIs, from_to, given, instance_of, shown, tableau,
+};
+use crate::problems::{
+    both_worlds_problem, boxed_drinker_problem, serial_problem, twice_denied_problem,
 };
 use cop_base::NoMemory;
 use logic_rules::Problem;

@@ -1,2 +1,1 @@
 pub mod FormulaExamples
-pub mod DerivationExamples

@@ -1,55 +1,20 @@
 //! Worked texts through the public calls.
 
-ghost use Rattle.std.specs.Prelude.{◌≡◌, ◌∷◌, [], IfOk};
-ghost use Rattle.calculus.specs.Syntax as tree;
-ghost use Rattle.formula_core.specs.FormulaView.{the_formula};
-ghost use Rattle.formula_core.specs.SymbolView.{the_symbol};
-ghost use Rattle.text_tests.specs.DerivationExamples.{self_implication};
-
-use cop_base::{NoMemory, SymbolId, Text};
+use cop_base::NoMemory;
 use derivation_text::{ParseFault, TextCause, parse, print};
-use formula_core::{AddFault, Formula, Symbol, SymbolClass, Symbols, Terms};
-use logic_rules::{Domains, Logic, Problem, Setting};
+use example_problems::{problem, self_implication};
+use logic_rules::{Domains, Logic};
 use std::alloc::{AllocError, Global};
 use std::test::Fail;
 
 // The first four lines of a derivation.
 const HEAD: &[u8] = b"leancop derivation 1\nlogic classical\nformula (p => p)\nlimit 1\n";
 
-fn one_symbol(alloc: Global) -> Result<Symbols, NoMemory>
-    ensures { IfOk result (λ s. s ≡ self_implication.symbols) }
-{
-    let mut symbols = Symbols::new(alloc);
-    let name = Text::new(alloc, b"p")?;
-    match symbols.add(Symbol {
-        name,
-        class: SymbolClass::Predicate,
-        arity: 0,
-    }) {
-        Ok(_) => Ok(symbols),
-        Err(AddFault::Full | AddFault::NoMemory) => Err(NoMemory),
-    }
-}
-
-fn atom(alloc: Global) -> Formula
-    ensures { the_formula result ≡ tree.atom 0 tree.no_terms }
-{
-    Formula::Atom(SymbolId(0), Terms::new(alloc))
-}
-
-// The formula `(p => p)` in classical logic.
-fn problem(alloc: Global) -> Result<Problem, NoMemory>
-    ensures { IfOk result (λ p. p ≡ self_implication) }
-{
-    let setting = Setting::new(Logic::Classical, Domains::Constant);
-    let symbols = one_symbol(alloc)?;
-    let formula = Formula::imp(alloc, atom(alloc), atom(alloc))?;
-    Ok(Problem::new(setting, formula, symbols))
-}
-
-// The fault of a text, or none where it is read as a derivation whose text it is.
+// The fault of a text of `p => p` in classical logic, or none where it is read as a derivation whose
+// text it is.
 fn fault_of(alloc: Global, text: &[u8]) -> Result<Option<(u64, TextCause)>, NoMemory> {
-    let problem = problem(alloc)?;
+    let formula = self_implication(alloc)?;
+    let problem = problem(alloc, Logic::Classical, Domains::Constant, formula, 0)?;
     match parse(alloc, &problem, text) {
         Ok(derivation) => {
             let printed = print(alloc, &problem, &derivation)?;

@@ -1,18 +1,10 @@
 //! Texts that are worked out by hand, and changes of them, through the public call.
 
-ghost use Rattle.std.specs.Prelude.{◌≡◌, ◌∷◌, [], IfOk};
-ghost use Rattle.calculus.specs.Syntax as tree;
-ghost use Rattle.formula_core.specs.FormulaView.{the_formula};
-ghost use Rattle.formula_core.specs.SymbolView.{the_symbol};
-ghost use Rattle.formula_core.specs.TermView.{the_term};
-ghost use Rattle.sequent_calc.specs.Examples.{IsExample, barcan, drinker, p, p_of, predicate};
-ghost use Rattle.sequent_calc.specs.Examples.{serial, twice_denied};
-
-use cop_base::{NoMemory, SymbolId, Text};
+use cop_base::NoMemory;
 use derivation_check::{CheckFault, Verdict, check};
 use derivation_text::TextCause;
-use formula_core::{AddFault, Formula, Symbol, SymbolClass, Symbols, Term, Terms};
-use logic_rules::{Domains, Logic, Problem, Setting};
+use example_problems::{barcan, drinker, problem, self_implication, serial, twice_denied};
+use logic_rules::{Domains, Logic, Problem};
 use sequent_calc::StepFault;
 use std::alloc::Global;
 use std::test::Fail;
@@ -34,87 +26,6 @@ enum Example {
     ConstantBarcan,
     // the same with domains that grow
     CumulativeBarcan,
-}
-
-fn predicate_symbol(alloc: Global, arity: u32) -> Result<Symbols, NoMemory>
-    ensures { IfOk result (λ s. s ≡ predicate arity ∷ []) }
-{
-    let name = Text::new(alloc, b"p")?;
-    let class = SymbolClass::Predicate;
-    let mut symbols = Symbols::new(alloc);
-    match symbols.add(Symbol { name, class, arity }) {
-        Ok(_) => Ok(symbols),
-        Err(AddFault::Full | AddFault::NoMemory) => Err(NoMemory),
-    }
-}
-
-fn problem(
-    alloc: Global,
-    logic: Logic,
-    domains: Domains,
-    formula: Formula,
-    arity: u32,
-) -> Result<Problem, NoMemory>
-    requires { IsExample logic domains (the_formula formula) arity }
-{
-    let symbols = predicate_symbol(alloc, arity)?;
-    Ok(Problem::new(Setting::new(logic, domains), formula, symbols))
-}
-
-fn plain(alloc: Global) -> Formula
-    ensures { the_formula result ≡ p }
-{
-    Formula::Atom(SymbolId(0), Terms::new(alloc))
-}
-
-fn applied(alloc: Global, t: Term) -> Result<Formula, NoMemory>
-    ensures { IfOk result (λ f. the_formula f ≡ p_of (the_term t)) }
-{
-    let mut terms = Terms::new(alloc);
-    terms.push(t)?;
-    Ok(Formula::Atom(SymbolId(0), terms))
-}
-
-fn self_implication(alloc: Global) -> Result<Formula, NoMemory>
-    ensures { IfOk result (λ f. the_formula f ≡ tree.imp p p) }
-{
-    Formula::imp(alloc, plain(alloc), plain(alloc))
-}
-
-fn drinker(alloc: Global) -> Result<Formula, NoMemory>
-    ensures { IfOk result (λ f. the_formula f ≡ drinker) }
-{
-    let given = applied(alloc, Term::Var(1))?;
-    let shown = applied(alloc, Term::Var(0))?;
-    let every = Formula::all(alloc, Formula::imp(alloc, given, shown)?)?;
-    Formula::ex(alloc, every)
-}
-
-fn serial(alloc: Global) -> Result<Formula, NoMemory>
-    ensures { IfOk result (λ f. the_formula f ≡ serial) }
-{
-    let given = Formula::nec(alloc, plain(alloc))?;
-    let shown = Formula::poss(alloc, plain(alloc))?;
-    Formula::imp(alloc, given, shown)
-}
-
-fn twice_denied(alloc: Global) -> Result<Formula, NoMemory>
-    ensures { IfOk result (λ f. the_formula f ≡ twice_denied) }
-{
-    let right = Formula::not(alloc, plain(alloc))?;
-    let either = Formula::or(alloc, plain(alloc), right)?;
-    let denied = Formula::not(alloc, either)?;
-    Formula::not(alloc, denied)
-}
-
-fn barcan(alloc: Global) -> Result<Formula, NoMemory>
-    ensures { IfOk result (λ f. the_formula f ≡ barcan) }
-{
-    let boxed = Formula::nec(alloc, applied(alloc, Term::Var(0))?)?;
-    let given = Formula::all(alloc, boxed)?;
-    let every = Formula::all(alloc, applied(alloc, Term::Var(0))?)?;
-    let shown = Formula::nec(alloc, every)?;
-    Formula::imp(alloc, given, shown)
 }
 
 fn problem_of(alloc: Global, example: Example) -> Result<Problem, NoMemory> {

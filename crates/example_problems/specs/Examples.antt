@@ -1,13 +1,17 @@
--- Problems over one predicate symbol, which the tests build.
-use Rattle.std.specs.Prelude.{ℕ, [], ◌∷◌, IsTrue, codes}
+-- Symbols, and problems over one predicate symbol, which tests build.
+use Rattle.std.specs.Prelude.{ℕ, List, [], ◌∷◌, IsTrue, codes}
+use Rattle.calculus.specs.declared.symbol.SymbolClass.{SymbolClass}
 use Rattle.calculus.specs.declared.symbol.SymbolClass.TheVariants.{Predicate}
 use Rattle.calculus.specs.declared.setting.Logic.{Logic}
 use Rattle.calculus.specs.declared.setting.Domains.{Domains}
 use Rattle.calculus.specs.Syntax as tree
 use Rattle.calculus.specs.Problems.{is_problem}
 
+abbrev pub symbol_named : List ℕ → SymbolClass → ℕ → tree.Symbol
+symbol_named name class n = record { name = name; class = class; arity = n }
+
 abbrev pub predicate : ℕ → tree.Symbol
-predicate n = record { name = codes "p"; class = Predicate; arity = n }
+predicate n = symbol_named (codes "p") Predicate n
 
 -- n is the arity of the predicate symbol
 abbrev pub example : Logic → Domains → tree.Formula → ℕ → tree.Problem
@@ -21,6 +25,10 @@ p = tree.atom 0 tree.no_terms
 
 abbrev pub p_of : tree.Term → tree.Formula
 p_of t = tree.atom 0 (tree.more_terms t tree.no_terms)
+
+-- p => p
+abbrev pub self_implication : tree.Formula
+self_implication = tree.imp p p
 
 -- ?[X]:![Y]:(p(X) => p(Y))
 abbrev pub drinker : tree.Formula
