@@ -1,3 +1,4 @@
+pub mod RowLaws
 pub mod ChainLaws
 pub mod PuttingLaws
 pub mod TableLaws

@@ -7,7 +7,7 @@ use Rattle.calculus.specs.Syntax as tree
 use Rattle.formula_core.specs.FormulaView.{the_formula}
 use Rattle.derivation_branch.specs.Putting.{term_with_all, formula_with_all}
 use Rattle.derivation_branch.specs.declared.comparison.Head.{Head}
-use Rattle.derivation_branch.specs.declared.comparison.Head.TheVariants.{Var, Fun, Eigen, Spare}
+use Rattle.derivation_branch.specs.declared.comparison.Head.TheVariants.{Row, Var, Fun, Eigen, Spare}
 use Rattle.derivation_branch.specs.declared.entry.SharedEntry.{SharedEntry}
 
 -- a term under the substitution at a place
@@ -21,6 +21,7 @@ abbrev pub signed_under : List (List tree.Term) → ℕ → Signed → Signed
 signed_under table k x = signed x.sign (formula_under table k x.formula)
 
 abbrev pub the_head : List (List tree.Term) → Head → tree.Term
+the_head table (Row t) = t.now
 the_head table (Var n) = tree.var n
 the_head table (Fun f ts k) = tree.fun f.0 (terms_tree (map (term_under table k) ts.now))
 the_head table (Eigen n) = tree.eigen n

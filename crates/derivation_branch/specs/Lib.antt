@@ -1,3 +1,4 @@
+pub mod Rows
 pub mod Chains
 pub mod Putting
 pub mod TableView

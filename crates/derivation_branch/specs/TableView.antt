@@ -2,12 +2,11 @@
 use Rattle.std.specs.Prelude.{◌≡◌, ℕ, ◌<◌, List, [], length, get_or}
 use Rattle.calculus.specs.Syntax as tree
 use Rattle.calculus.specs.Derivations as derivation
-use Rattle.formula_core.specs.TermView.{the_term}
 use Rattle.derivation_branch.specs.declared.substitution.Value.{Value}
 use Rattle.derivation_branch.specs.declared.substitution.Value.TheVariants.{Given, Eigen, Free}
 
 abbrev pub the_value : Value → tree.Term
-the_value (Given t) = the_term t.now
+the_value (Given t) = t.now
 the_value (Eigen n) = tree.eigen n
 the_value (Free n) = tree.var n
 

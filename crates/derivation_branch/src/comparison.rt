@@ -1,41 +1,30 @@
 //! Atoms under substitutions, compared where they stand.
 
-ghost use Rattle.std.specs.Prelude.{◌≡◌, ◌&&◌, ◌<◌, [], ℕ, List, get_or, length, map};
+ghost use Rattle.std.specs.Prelude.{◌≡◌, ◌&&◌, ◌<◌, ◌∷◌, ◌++◌, [], ℕ, List, get_or, length, map, IsNone, IfSome};
 ghost use Rattle.calculus.specs.Calculus.{is_atom};
 ghost use Rattle.calculus.specs.Equality.{formula_eq, term_eq, terms_eq};
 ghost use Rattle.calculus.specs.Lists.{terms_tree};
 ghost use Rattle.calculus.specs.Syntax as tree;
 ghost use Rattle.derivation_branch.specs.EntryView.{IsHeadWithin, formula_under, the_head};
 ghost use Rattle.derivation_branch.specs.EntryView.{term_under};
+ghost use Rattle.derivation_branch.specs.Rows.{row_of, rows_of};
 ghost use Rattle.formula_core.specs.FormulaView.{the_formula};
 ghost use Rattle.formula_core.specs.TermView.{the_term};
 
 use crate::substitution::{Substitutions, Value};
+use crate::term_row::{RowItem, TermRow};
 use cop_base::SymbolId;
 use formula_core::{Formula, Term, Terms};
 
-/// What a term is under a substitution: a leaf, or a function symbol over arguments, which stand
-/// under the substitution at a place of the table.
+/// What a term is under a substitution: a row, a leaf, or a function symbol over arguments, which
+/// stand under the substitution at a place of the table.
 #[derive(Clone, Copy)]
 enum Head<'a> {
+    Row(&'a TermRow),
     Var(u32),
     Fun(SymbolId, &'a Terms, u32),
     Eigen(u32),
     Spare(u32),
-}
-
-// The term as it is, under the substitution at a place.
-fn bare_head(t: &Term, place: u32) -> Head<'_>
-    ensures head { (table : List (List tree.Term)) → get_or table place [] ≡ []
-        → the_head table result ≡ the_term t.now }
-    ensures within { (n : ℕ) → place < n → IsHeadWithin n result }
-{
-    match t {
-        Term::Var(k) => Head::Var(*k),
-        Term::Fun(f, args) => Head::Fun(*f, args, place),
-        Term::Eigen(n) => Head::Eigen(*n),
-        Term::Spare(n) => Head::Spare(*n),
-    }
 }
 
 fn head_under<'a>(substitutions: &Substitutions<'a>, place: u32, t: &'a Term) -> Head<'a>
@@ -46,7 +35,7 @@ fn head_under<'a>(substitutions: &Substitutions<'a>, place: u32, t: &'a Term) ->
 {
     match t {
         Term::Var(k) => match substitutions.value(place, *k) {
-            Value::Given(u) => bare_head(u, 0),
+            Value::Given(row) => Head::Row(row),
             Value::Eigen(n) => Head::Eigen(n),
             Value::Free(n) => Head::Var(n),
         },
@@ -54,6 +43,114 @@ fn head_under<'a>(substitutions: &Substitutions<'a>, place: u32, t: &'a Term) ->
         Term::Eigen(n) => Head::Eigen(*n),
         Term::Spare(n) => Head::Spare(*n),
     }
+}
+
+// What follows an item at the beginning of a row.
+fn after_item(items: &[RowItem], item: RowItem) -> Option<&[RowItem]>
+    ensures some { IfSome result (λ r. items.now ≡ item ∷ r.now) }
+    ensures none { IsNone result → (rest : List RowItem) → ¬ (items.now ≡ item ∷ rest) }
+{
+    match items.split_first() {
+        Some((first, rest)) => if *first == item { Some(rest) } else { None },
+        None => None,
+    }
+}
+
+// What follows the symbol before its arguments.
+fn after_symbol<'b>(items: &'b [RowItem], f: SymbolId, count: usize) -> Option<&'b [RowItem]>
+    ensures some { IfSome result (λ r. items.now ≡ RowItem.Fun f count ∷ r.now) }
+    ensures none { IsNone result → (rest : List RowItem) → ¬ (items.now ≡ RowItem.Fun f count ∷ rest) }
+{
+    match items.split_first() {
+        Some((RowItem::Fun(g, n), rest)) => if *g == f && *n as usize == count {
+            Some(rest)
+        } else {
+            None
+        },
+        _ => None,
+    }
+}
+
+// What follows a row at the beginning of a row.
+fn after_items<'b>(items: &'b [RowItem], front: &[RowItem]) -> Option<&'b [RowItem]>
+    ensures some { IfSome result (λ r. items.now ≡ front.now ++ r.now) }
+    ensures none { IsNone result → (rest : List RowItem) → ¬ (items.now ≡ front.now ++ rest) }
+{
+    let mut rest = items;
+    for item in front.iter() {
+        rest = after_item(rest, *item)?;
+    }
+    Some(rest)
+}
+
+// Whether a row begins with that of a term, and nothing follows.
+fn is_whole(rest: Option<&[RowItem]>) -> bool
+    ensures told { (t u : tree.Term) → IfSome rest.entry (λ r. row_of t ≡ row_of u ++ r.now)
+        → (IsNone rest.entry → (r : List RowItem) → ¬ (row_of t ≡ row_of u ++ r))
+        → result ≡ term_eq t u }
+    ensures turned { (t u : tree.Term) → IfSome rest.entry (λ r. row_of t ≡ row_of u ++ r.now)
+        → (IsNone rest.entry → (r : List RowItem) → ¬ (row_of t ≡ row_of u ++ r))
+        → result ≡ term_eq u t }
+{
+    match rest {
+        Some(rest) => rest.is_empty(),
+        None => false,
+    }
+}
+
+// What follows the row of a term at the beginning of a row.
+#[cycle(after)]
+fn after_term<'a, 'b>(
+    substitutions: &Substitutions<'a>,
+    items: &'b [RowItem],
+    t: &'a Term,
+    i: u32,
+) -> Option<&'b [RowItem]>
+    requires { i < length substitutions.now }
+    ensures some { IfSome result (λ r.
+        items.now ≡ row_of (term_under substitutions.now i (the_term t.now)) ++ r.now) }
+    ensures none { IsNone result → (rest : List RowItem)
+        → ¬ (items.now ≡ row_of (term_under substitutions.now i (the_term t.now)) ++ rest) }
+{
+    match head_under(substitutions, i, t) {
+        Head::Row(row) => after_items(items, row.items()),
+        Head::Var(k) => after_item(items, RowItem::Var(k)),
+        Head::Fun(f, args, i) => {
+            let rest = after_symbol(items, f, args.len())?;
+            after_terms(substitutions, rest, args, i)
+        }
+        Head::Eigen(n) => after_item(items, RowItem::Eigen(n)),
+        Head::Spare(n) => after_item(items, RowItem::Spare(n)),
+    }
+}
+
+#[cycle(after)]
+#[tactic(auto, using(crate::proofs::UnderLaws::falling_under))]
+fn after_terms<'a, 'b>(
+    substitutions: &Substitutions<'a>,
+    items: &'b [RowItem],
+    ts: &'a Terms,
+    i: u32,
+) -> Option<&'b [RowItem]>
+    requires { i < length substitutions.now }
+    ensures some { IfSome result (λ r. items.now
+        ≡ rows_of (terms_tree (map (term_under substitutions.now i) ts.now)) ++ r.now) }
+    ensures none { IsNone result → (rest : List RowItem) → ¬ (items.now
+        ≡ rows_of (terms_tree (map (term_under substitutions.now i) ts.now)) ++ rest) }
+{
+    let mut rest = items;
+    for t in ts.items() {
+        rest = after_term(substitutions, rest, t, i)?;
+    }
+    Some(rest)
+}
+
+fn is_row_of<'a>(substitutions: &Substitutions<'a>, row: &TermRow, t: &'a Term, i: u32) -> bool
+    requires { i < length substitutions.now }
+    ensures told { result ≡ term_eq row.now (term_under substitutions.now i (the_term t.now)) }
+    ensures turned { result ≡ term_eq (term_under substitutions.now i (the_term t.now)) row.now }
+{
+    is_whole(after_term(substitutions, row.items(), t, i))
 }
 
 #[cycle(equal)]
@@ -73,6 +170,11 @@ fn is_equal_term<'a>(
         head_under(substitutions, i, t),
         head_under(substitutions, j, u),
     ) {
+        (Head::Row(a), _) => is_row_of(substitutions, a, u, j),
+        (Head::Var(_), Head::Row(b)) => is_row_of(substitutions, b, t, i),
+        (Head::Fun(_, _, _), Head::Row(b)) => is_row_of(substitutions, b, t, i),
+        (Head::Eigen(_), Head::Row(b)) => is_row_of(substitutions, b, t, i),
+        (Head::Spare(_), Head::Row(b)) => is_row_of(substitutions, b, t, i),
         (Head::Var(k), Head::Var(m)) => k == m,
         (Head::Fun(f, ts, i), Head::Fun(g, us, j)) => {
             f == g && are_equal_terms(substitutions, ts, i, us, j)

@@ -13,6 +13,7 @@ mod places;
 mod relations;
 mod scope;
 mod substitution;
+mod term_row;
 
 pub use addition::{Added, added_by};
 pub use comparison::are_same_atom;
@@ -23,3 +24,4 @@ pub use number_set::NumberSet;
 pub use outline::{Node, Outline};
 pub use relations::{is_home_at, reaches};
 pub use substitution::{Substitutions, Value};
+pub use term_row::{RowItem, TermRow, add_row};

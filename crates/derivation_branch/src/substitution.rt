@@ -5,8 +5,8 @@ ghost use Rattle.derivation_branch.specs.Putting.{AreClosed, IsClosed, value_at}
 ghost use Rattle.derivation_branch.specs.TableView.{the_value};
 
 use crate::places::place_of;
+use crate::term_row::TermRow;
 use cop_base::NoMemory;
-use formula_core::Term;
 use std::alloc::Global;
 use std::marker::Model;
 
@@ -14,7 +14,7 @@ use std::marker::Model;
 #[derive(Clone, Copy)]
 pub enum Value<'a> {
     /// A term of the derivation.
-    Given(&'a Term),
+    Given(&'a TermRow),
     /// The eigenvariable of this number.
     Eigen(u32),
     /// A variable that is bound further out, where no term stands for the variable.

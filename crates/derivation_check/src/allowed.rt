@@ -1,35 +1,35 @@
 //! Where a name may stand, by the places of homes.
 
-ghost use Rattle.std.specs.Prelude.{◌≡◌, ◌<◌, [], get_or, length, not};
-ghost use Rattle.calculus.specs.Calculus.{home_is, is_forbidden, term_allowed};
+ghost use Rattle.std.specs.Prelude.{◌≡◌, ◌<◌, ◌∷◌, [], get_or, length, not};
+ghost use Rattle.calculus.specs.Calculus.{home_is, is_forbidden, is_known, is_unknown, term_allowed};
 ghost use Rattle.calculus.specs.Derivations as derivation;
-ghost use Rattle.calculus.specs.Lists.{terms_tree};
-ghost use Rattle.calculus.specs.Substitution.{any_leaf, any_leaf_of};
+ghost use Rattle.calculus.specs.Substitution.{any_leaf};
 ghost use Rattle.calculus.specs.Syntax as tree;
 ghost use Rattle.derivation_check.specs.HomesView.{AreHomes, IsSpareHome};
 ghost use Rattle.derivation_check.specs.HomesView.{is_forbidden_at, is_place_allowed};
-ghost use Rattle.formula_core.specs.TermView.{the_term};
-ghost use Rattle.sequent_calc.specs.StepView.{the_term_arg};
+ghost use Rattle.derivation_branch.specs.Rows.{any_item};
+ghost use Rattle.derivation_text.specs.RowView.{the_row_arg};
+ghost use Rattle.sequent_calc.specs.DerivationView.{the_names};
 
 use crate::homes::{Homes, Place};
-use derivation_branch::{Labels, is_home_at};
-use formula_core::{Term, Terms};
+use derivation_branch::{Labels, RowItem, TermRow, is_home_at};
+use derivation_text::RowArg;
 use logic_rules::Problem;
-use sequent_calc::TermArg;
+use sequent_calc::{Names, eigen_named, spare_named};
 
 /// Whether the home of the eigenvariable is the label of the component.
-pub fn home_is(labels: &Labels, homes: &Homes, at: u32, term: &TermArg) -> bool
+pub fn home_is(labels: &Labels, homes: &Homes, at: u32, term: &RowArg) -> bool
     requires at { at < length labels.now }
     requires homes { (names : derivation.Names) × AreHomes names labels.now homes.now }
     ensures { (names : derivation.Names) → AreHomes names labels.now homes.now
-        → result ≡ home_is names (get_or labels.now at []) (the_term_arg term.now) }
+        → result ≡ home_is names (get_or labels.now at []) (the_row_arg term.now) }
 {
     match term {
-        TermArg::Name(number) => match homes.eigens.get(number) {
+        RowArg::Name(number) => match homes.eigens.get(number) {
             Some(home) => labels.are_equal(*home, at),
             None => false,
         },
-        TermArg::None | TermArg::Term(_) => true,
+        RowArg::None | RowArg::Term(_) => true,
     }
 }
 
@@ -82,49 +82,46 @@ fn is_forbidden_spare(
     }
 }
 
-// Whether a leaf of the term must not stand there.
-#[cycle(leaves)]
-fn is_forbidden_in(problem: &Problem, labels: &Labels, homes: &Homes, at: u32, t: &Term) -> bool
-    requires at { at < length labels.now }
-    requires homes { (names : derivation.Names) × AreHomes names labels.now homes.now }
-    ensures { result ≡ any_leaf (is_forbidden_at problem.now labels.now homes.now
-        (get_or labels.now at [])) (the_term t.now) }
-{
-    match t {
-        Term::Var(_) => true,
-        Term::Fun(_, args) => is_forbidden_in_any(problem, labels, homes, at, args),
-        Term::Eigen(number) => is_forbidden_eigen(problem, labels, homes, at, *number),
-        Term::Spare(number) => is_forbidden_spare(problem, labels, homes, at, *number),
-    }
-}
-
-#[cycle(leaves)]
-#[tactic(auto, using(formula_core::specs::TermFalls::falling))]
-fn is_forbidden_in_any(
+fn is_forbidden_item(
     problem: &Problem,
     labels: &Labels,
     homes: &Homes,
     at: u32,
-    ts: &Terms,
+    item: RowItem,
 ) -> bool
     requires at { at < length labels.now }
     requires homes { (names : derivation.Names) × AreHomes names labels.now homes.now }
-    ensures { result ≡ any_leaf_of (is_forbidden_at problem.now labels.now homes.now
-        (get_or labels.now at [])) (terms_tree ts.now) }
+    ensures { result ≡ any_item (is_forbidden_at problem.now labels.now homes.now
+        (get_or labels.now at [])) (item ∷ []) }
 {
-    for item in ts.items() {
-        if is_forbidden_in(problem, labels, homes, at, item) {
+    match item {
+        RowItem::Var(_) => true,
+        RowItem::Fun(_, _) => false,
+        RowItem::Eigen(number) => is_forbidden_eigen(problem, labels, homes, at, number),
+        RowItem::Spare(number) => is_forbidden_spare(problem, labels, homes, at, number),
+    }
+}
+
+// Whether a leaf of the term must not stand there.
+fn is_forbidden_in(problem: &Problem, labels: &Labels, homes: &Homes, at: u32, t: &TermRow) -> bool
+    requires at { at < length labels.now }
+    requires homes { (names : derivation.Names) × AreHomes names labels.now homes.now }
+    ensures { result ≡ any_leaf (is_forbidden_at problem.now labels.now homes.now
+        (get_or labels.now at [])) t.now }
+{
+    for item in t.items() {
+        if is_forbidden_item(problem, labels, homes, at, *item) {
             return true;
         }
     }
     false
 }
 
-fn is_allowed(problem: &Problem, labels: &Labels, homes: &Homes, at: u32, t: &Term) -> bool
+fn is_allowed(problem: &Problem, labels: &Labels, homes: &Homes, at: u32, t: &TermRow) -> bool
     requires at { at < length labels.now }
     requires homes { (names : derivation.Names) × AreHomes names labels.now homes.now }
     ensures { (names : derivation.Names) → AreHomes names labels.now homes.now → result
-        ≡ not (any_leaf (is_forbidden problem.now names (get_or labels.now at [])) (the_term t.now)) }
+        ≡ not (any_leaf (is_forbidden problem.now names (get_or labels.now at [])) t.now) }
 {
     !is_forbidden_in(problem, labels, homes, at, t)
 }
@@ -135,15 +132,47 @@ pub fn term_allowed(
     labels: &Labels,
     homes: &Homes,
     at: u32,
-    term: &TermArg,
+    term: &RowArg,
 ) -> bool
     requires at { at < length labels.now }
     requires homes { (names : derivation.Names) × AreHomes names labels.now homes.now }
     ensures { (names : derivation.Names) → AreHomes names labels.now homes.now → result
-        ≡ term_allowed problem.now names (get_or labels.now at []) (the_term_arg term.now) }
+        ≡ term_allowed problem.now names (get_or labels.now at []) (the_row_arg term.now) }
 {
     match term {
-        TermArg::Term(t) => is_allowed(problem, labels, homes, at, t),
-        TermArg::None | TermArg::Name(_) => true,
+        RowArg::Term(t) => is_allowed(problem, labels, homes, at, t),
+        RowArg::None | RowArg::Name(_) => true,
+    }
+}
+
+fn is_unknown_item(names: &Names, item: RowItem) -> bool
+    ensures { result ≡ any_item (is_unknown (the_names names.now)) (item ∷ []) }
+{
+    match item {
+        RowItem::Var(_) | RowItem::Fun(_, _) => false,
+        RowItem::Eigen(number) => eigen_named(names, number).is_none(),
+        RowItem::Spare(number) => spare_named(names, number).is_none(),
+    }
+}
+
+fn is_unknown_in(names: &Names, t: &TermRow) -> bool
+    ensures { result ≡ any_leaf (is_unknown (the_names names.now)) t.now }
+{
+    for item in t.items() {
+        if is_unknown_item(names, *item) {
+            return true;
+        }
+    }
+    false
+}
+
+/// Whether each name of the argument is listed.
+pub fn is_known(names: &Names, term: &RowArg) -> bool
+    ensures { result ≡ is_known (the_names names.now) (the_row_arg term.now) }
+{
+    match term {
+        RowArg::None => true,
+        RowArg::Term(t) => !is_unknown_in(names, t),
+        RowArg::Name(number) => eigen_named(names, *number).is_some(),
     }
 }

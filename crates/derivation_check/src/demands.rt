@@ -11,13 +11,16 @@ ghost use Rattle.derivation_check.specs.HomesView.{AreHomes};
 ghost use Rattle.derivation_check.specs.StateView.{Tells};
 ghost use Rattle.sequent_calc.specs.ChildrenView.{faulty};
 ghost use Rattle.sequent_calc.specs.DerivationView.{the_names};
-ghost use Rattle.sequent_calc.specs.StepView.{the_modal, the_term_arg};
+ghost use Rattle.derivation_text.specs.RowView.{the_row_arg};
+ghost use Rattle.sequent_calc.specs.StepView.{the_modal};
 
-use crate::allowed::{home_is, term_allowed};
+use crate::allowed::{home_is, is_known, term_allowed};
+use crate::fitting::arguments_fit;
 use crate::state::State;
 use derivation_branch::{Labels, NumberSet, reaches};
+use derivation_text::RowArg;
 use logic_rules::{Kind, Logic, Problem};
-use sequent_calc::{ModalArg, Names, StepFault, TermArg, arguments_fit, is_known};
+use sequent_calc::{ModalArg, Names, StepFault};
 
 /// Which demands of a use step are met, in the order in which they are judged.
 #[derive(Clone, Copy)]
@@ -70,18 +73,18 @@ fn is_reachable(logic: Logic, labels: &Labels, from: u32, at: u32, modal: &Modal
 }
 
 // Whether the mark or eigenvariable that the step brings occurs nowhere in the current sequent.
-fn is_new(eigens: &NumberSet, marks: &NumberSet, modal: &ModalArg, term: &TermArg) -> bool
+fn is_new(eigens: &NumberSet, marks: &NumberSet, modal: &ModalArg, term: &RowArg) -> bool
     ensures { (names : derivation.Names) → (s : derivation.Sequent)
         → Tells names eigens.now marks.now s → result
-        ≡ (character_is_new names s (the_modal modal.now) && eigen_is_new s (the_term_arg term.now)) }
+        ≡ (character_is_new names s (the_modal modal.now) && eigen_is_new s (the_row_arg term.now)) }
 {
     let mark_is_new = match modal {
         ModalArg::New(number) => !marks.holds(*number),
         ModalArg::None | ModalArg::To(_) => true,
     };
     let eigen_is_new = match term {
-        TermArg::Name(number) => !eigens.holds(*number),
-        TermArg::None | TermArg::Term(_) => true,
+        RowArg::Name(number) => !eigens.holds(*number),
+        RowArg::None | RowArg::Term(_) => true,
     };
     mark_is_new && eigen_is_new
 }
@@ -96,7 +99,7 @@ pub fn use_fault(
     from: u32,
     at: u32,
     modal: &ModalArg,
-    term: &TermArg,
+    term: &RowArg,
 ) -> Option<StepFault>
     requires from { from < length state.now.labels }
     requires at { at < length state.now.labels }
@@ -109,7 +112,7 @@ pub fn use_fault(
         → get_or state.now.labels at []
         ≡ label_after problem.now.setting.logic e.label (the_modal modal.now)
         → (c : calculus.Children) → first_fault (conditions_of_use problem.now (the_names names.now)
-        s e (the_modal modal.now) (the_term_arg term.now)) c ≡ faulty c result }
+        s e (the_modal modal.now) (the_row_arg term.now)) c ≡ faulty c result }
 {
     let setting = problem.setting();
     let logic = setting.logic();

@@ -12,7 +12,7 @@ use crate::steps::judge;
 use crate::verdict::Verdict;
 use calculus::fault::CheckFault;
 use cop_base::NoMemory;
-use derivation_text::{ParseFault, parse};
+use derivation_text::{ParseFault, read};
 use logic_rules::Problem;
 use std::alloc::Global;
 
@@ -37,7 +37,7 @@ fn judgement_of(alloc: Global, problem: &Problem, bytes: &[u8]) -> Result<Verdic
     ensures judgement { IfOk result (λ v. IsJudgement problem.now bytes.now (the_verdict v)) }
     ensures well { IsTrue (is_problem problem.now) }
 {
-    match parse(alloc, problem, bytes) {
+    match read(alloc, problem, bytes) {
         Ok(derivation) => {
             let verdict = judge(alloc, problem, &derivation)?;
             Ok(verdict)

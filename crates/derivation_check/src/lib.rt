@@ -3,6 +3,7 @@
 
 mod allowed;
 mod demands;
+mod fitting;
 mod homes;
 mod judgement;
 mod occurring;

@@ -1,22 +1,22 @@
 //! What a use step brings to a branch: eigenvariables, and marks in labels and in homes of names.
 
-ghost use Rattle.std.specs.Prelude.{◌≡◌, ◌||◌, ◌&&◌, ℕ, OnOk};
+ghost use Rattle.std.specs.Prelude.{◌≡◌, ◌||◌, ◌&&◌, ◌∷◌, [], ℕ, OnOk};
 ghost use Rattle.calculus.specs.Calculus.{holds_character, is_eigen, is_in_home};
 ghost use Rattle.calculus.specs.Derivations.{character_eq, new_mark};
-ghost use Rattle.calculus.specs.Lists.{terms_tree};
-ghost use Rattle.calculus.specs.Substitution.{any_leaf, any_leaf_of};
+ghost use Rattle.calculus.specs.Substitution.{any_leaf};
 ghost use Rattle.calculus.specs.Syntax as tree;
+ghost use Rattle.derivation_branch.specs.Rows.{any_item};
 ghost use Rattle.derivation_branch.specs.Occurring.{IsLonger, holds, in_argument, in_modal};
-ghost use Rattle.formula_core.specs.TermView.{the_term};
 ghost use Rattle.logic_rules.specs.MarkView.{the_character};
 ghost use Rattle.sequent_calc.specs.DerivationView.{the_names};
-ghost use Rattle.sequent_calc.specs.StepView.{the_modal, the_term_arg};
+ghost use Rattle.derivation_text.specs.RowView.{the_row_arg};
+ghost use Rattle.sequent_calc.specs.StepView.{the_modal};
 
 use cop_base::NoMemory;
-use derivation_branch::{NumberSet, add_eigens};
-use formula_core::{Term, Terms};
+use derivation_branch::{NumberSet, RowItem, TermRow, add_eigens};
+use derivation_text::RowArg;
 use logic_rules::{Label, Mark};
-use sequent_calc::{Home, ModalArg, Names, TermArg, eigen_named, spare_named};
+use sequent_calc::{Home, ModalArg, Names, eigen_named, spare_named};
 
 fn add_mark(set: &mut NumberSet, mark: Mark) -> Result<(), NoMemory>
     ensures held { OnOk result ((n : ℕ) → holds set.new n
@@ -67,32 +67,28 @@ fn add_home_of_spare(names: &Names, set: &mut NumberSet, number: u32) -> Result<
     }
 }
 
-// Adds the marks in the homes of the names of a term.
-#[cycle(add)]
-fn add_homes(names: &Names, set: &mut NumberSet, t: &Term) -> Result<(), NoMemory>
+// Adds the marks in the home of a name.
+fn add_home_of_item(names: &Names, set: &mut NumberSet, item: RowItem) -> Result<(), NoMemory>
     ensures held { OnOk result ((n : ℕ) → holds set.new n
-        ≡ (holds set.old n
-        || any_leaf (is_in_home (the_names names.now) (new_mark n)) (the_term t.now))) }
+        ≡ (holds set.old n || any_item (is_in_home (the_names names.now) (new_mark n)) (item ∷ []))) }
     ensures kept { OnOk result (IsLonger set.old set.new) }
 {
-    match t {
-        Term::Fun(_, args) => add_homes_of(names, set, args),
-        Term::Eigen(number) => add_home_of_eigen(names, set, *number),
-        Term::Spare(number) => add_home_of_spare(names, set, *number),
-        Term::Var(_) => Ok(()),
+    match item {
+        RowItem::Eigen(number) => add_home_of_eigen(names, set, number),
+        RowItem::Spare(number) => add_home_of_spare(names, set, number),
+        RowItem::Var(_) | RowItem::Fun(_, _) => Ok(()),
     }
 }
 
-#[cycle(add)]
-#[tactic(auto, using(formula_core::specs::TermFalls::falling))]
-fn add_homes_of(names: &Names, set: &mut NumberSet, ts: &Terms) -> Result<(), NoMemory>
+// Adds the marks in the homes of the names of a term.
+fn add_homes(names: &Names, set: &mut NumberSet, t: &TermRow) -> Result<(), NoMemory>
     ensures held { OnOk result ((n : ℕ) → holds set.new n
         ≡ (holds set.old n
-        || any_leaf_of (is_in_home (the_names names.now) (new_mark n)) (terms_tree ts.now))) }
+        || any_leaf (is_in_home (the_names names.now) (new_mark n)) t.now)) }
     ensures kept { OnOk result (IsLonger set.old set.new) }
 {
-    for item in ts.items() {
-        add_homes(names, set, item)?;
+    for item in t.items() {
+        add_home_of_item(names, set, *item)?;
     }
     Ok(())
 }
@@ -109,28 +105,28 @@ fn add_modal(marks: &mut NumberSet, modal: &ModalArg) -> Result<(), NoMemory>
     }
 }
 
-fn add_argument_eigens(eigens: &mut NumberSet, term: &TermArg) -> Result<(), NoMemory>
+fn add_argument_eigens(eigens: &mut NumberSet, term: &RowArg) -> Result<(), NoMemory>
     ensures held { OnOk result ((n : ℕ) → holds eigens.new n
-        ≡ (holds eigens.old n || in_argument (is_eigen n) (the_term_arg term.now))) }
+        ≡ (holds eigens.old n || in_argument (is_eigen n) (the_row_arg term.now))) }
     ensures kept { OnOk result (IsLonger eigens.old eigens.new) }
 {
     match term {
-        TermArg::None => Ok(()),
-        TermArg::Term(t) => add_eigens(eigens, t),
-        TermArg::Name(number) => eigens.add(*number),
+        RowArg::None => Ok(()),
+        RowArg::Term(t) => add_eigens(eigens, t),
+        RowArg::Name(number) => eigens.add(*number),
     }
 }
 
-fn add_argument_homes(names: &Names, marks: &mut NumberSet, term: &TermArg) -> Result<(), NoMemory>
+fn add_argument_homes(names: &Names, marks: &mut NumberSet, term: &RowArg) -> Result<(), NoMemory>
     ensures held { OnOk result ((n : ℕ) → holds marks.new n
         ≡ (holds marks.old n
-        || in_argument (is_in_home (the_names names.now) (new_mark n)) (the_term_arg term.now))) }
+        || in_argument (is_in_home (the_names names.now) (new_mark n)) (the_row_arg term.now))) }
     ensures kept { OnOk result (IsLonger marks.old marks.new) }
 {
     match term {
-        TermArg::None => Ok(()),
-        TermArg::Term(t) => add_homes(names, marks, t),
-        TermArg::Name(number) => add_home_of_eigen(names, marks, *number),
+        RowArg::None => Ok(()),
+        RowArg::Term(t) => add_homes(names, marks, t),
+        RowArg::Name(number) => add_home_of_eigen(names, marks, *number),
     }
 }
 
@@ -139,11 +135,11 @@ fn add_argument_homes(names: &Names, marks: &mut NumberSet, term: &TermArg) -> R
 pub fn add_brought_eigens(
     eigens: &mut NumberSet,
     binds: bool,
-    term: &TermArg,
+    term: &RowArg,
 ) -> Result<(), NoMemory>
     ensures held { OnOk result ((n : ℕ) → holds eigens.new n
         ≡ (holds eigens.old n || (binds
-        && in_argument (is_eigen n) (the_term_arg term.now)))) }
+        && in_argument (is_eigen n) (the_row_arg term.now)))) }
     ensures kept { OnOk result (IsLonger eigens.old eigens.new) }
 {
     if binds {
@@ -158,11 +154,11 @@ fn add_brought_homes(
     names: &Names,
     marks: &mut NumberSet,
     binds: bool,
-    term: &TermArg,
+    term: &RowArg,
 ) -> Result<(), NoMemory>
     ensures held { OnOk result ((n : ℕ) → holds marks.new n
         ≡ (holds marks.old n || (binds
-        && in_argument (is_in_home (the_names names.now) (new_mark n)) (the_term_arg term.now)))) }
+        && in_argument (is_in_home (the_names names.now) (new_mark n)) (the_row_arg term.now)))) }
     ensures kept { OnOk result (IsLonger marks.old marks.new) }
 {
     if binds {
@@ -178,12 +174,12 @@ pub fn add_brought_marks(
     marks: &mut NumberSet,
     binds: bool,
     modal: &ModalArg,
-    term: &TermArg,
+    term: &RowArg,
 ) -> Result<(), NoMemory>
     ensures held { OnOk result ((n : ℕ) → holds marks.new n
         ≡ ((holds marks.old n || in_modal (new_mark n) (the_modal modal.now))
         || (binds
-        && in_argument (is_in_home (the_names names.now) (new_mark n)) (the_term_arg term.now)))) }
+        && in_argument (is_in_home (the_names names.now) (new_mark n)) (the_row_arg term.now)))) }
     ensures kept { OnOk result (IsLonger marks.old marks.new) }
 {
     add_modal(marks, modal)?;

@@ -11,8 +11,10 @@ ghost use Rattle.derivation_check.specs.OpenSequents.{waiting_in};
 ghost use Rattle.derivation_check.specs.StateView.{IsKept, LeadsTo, StandsOn, the_current};
 ghost use Rattle.derivation_check.specs.StateView.{IsNumbered, the_entry, the_sequent, the_sequents};
 ghost use Rattle.derivation_check.specs.VerdictView.{the_verdict};
-ghost use Rattle.sequent_calc.specs.DerivationView.{the_derivation, the_names};
-ghost use Rattle.sequent_calc.specs.StepView.{the_modal, the_step, the_term_arg};
+ghost use Rattle.derivation_text.specs.RowDerivationView.{the_row_derivation};
+ghost use Rattle.derivation_text.specs.RowView.{the_row_arg, the_row_step};
+ghost use Rattle.sequent_calc.specs.DerivationView.{the_names};
+ghost use Rattle.sequent_calc.specs.StepView.{the_modal};
 
 use crate::open_sequents::BranchEntry;
 use crate::state::State;
@@ -21,8 +23,9 @@ use crate::verdict::Verdict;
 use calculus::fault::CheckFault;
 use cop_base::NoMemory;
 use derivation_branch::connects;
+use derivation_text::{RowArg, RowDerivation, RowStep};
 use logic_rules::Problem;
-use sequent_calc::{ApplyFault, Derivation, ModalArg, Names, Step, StepFault, TermArg};
+use sequent_calc::{ApplyFault, ModalArg, Names, StepFault};
 use std::alloc::Global;
 
 // Entries are numbered from 1.
@@ -81,20 +84,20 @@ fn use_numbered<'a>(
     state: &mut State<'a>,
     number: u32,
     modal: &ModalArg,
-    term: &'a TermArg,
+    term: &'a RowArg,
 ) -> Result<(), ApplyFault>
     requires is_open { state.old.sequents.is_open ≡ true }
     requires kept { IsKept (the_names names.now) state.old }
     ensures kept { OnOk result (IsKept (the_names names.now) state.new) }
     ensures leads { OnOk result (LeadsTo (use_entry problem.now (the_names names.now)
         (the_current state.old) (entry_of (the_current state.old) number)
-        (the_modal modal.now) (the_term_arg term.entry.now))
+        (the_modal modal.now) (the_row_arg term.entry.now))
         (map (the_sequent state.old.substitutions state.old.labels) (waiting_in state.old.sequents))
         (the_sequents state.new)) }
     ensures fault { (f : StepFault) → result ≡ Err (ApplyFault.Fault f)
         → use_entry problem.now (the_names names.now) (the_current state.old)
         (entry_of (the_current state.old) number)
-        (the_modal modal.now) (the_term_arg term.entry.now) ≡ Err f }
+        (the_modal modal.now) (the_row_arg term.entry.now) ≡ Err f }
 {
     let used = entry_of(state.sequents.branch.as_slice(), number);
     match used {
@@ -132,24 +135,24 @@ fn take_step<'a>(
     problem: &Problem,
     names: &Names,
     state: &mut State<'a>,
-    step: &'a Step,
+    step: &'a RowStep,
 ) -> Result<(), ApplyFault>
     requires is_open { state.old.sequents.is_open ≡ true }
     requires kept { IsKept (the_names names.now) state.old }
     ensures kept { OnOk result (IsKept (the_names names.now) state.new) }
     ensures leads { OnOk result (LeadsTo (apply problem.now (the_names names.now)
-        (the_current state.old) (the_step step.entry.now))
+        (the_current state.old) (the_row_step step.entry.now))
         (map (the_sequent state.old.substitutions state.old.labels) (waiting_in state.old.sequents))
         (the_sequents state.new)) }
     ensures fault { (f : StepFault) → result ≡ Err (ApplyFault.Fault f)
-        → apply problem.now (the_names names.now) (the_current state.old) (the_step step.entry.now)
+        → apply problem.now (the_names names.now) (the_current state.old) (the_row_step step.entry.now)
         ≡ Err f }
 {
     match step {
-        Step::Use { entry, modal, term } => use_numbered(
+        RowStep::Use { entry, modal, term } => use_numbered(
             problem, names, state, *entry, modal, term,
         ),
-        Step::Axiom { given, shown } => close_numbered(state, *given, *shown),
+        RowStep::Axiom { given, shown } => close_numbered(state, *given, *shown),
     }
 }
 
@@ -158,14 +161,14 @@ fn judge_step<'a>(
     problem: &Problem,
     names: &Names,
     state: &mut State<'a>,
-    step: &'a Step,
+    step: &'a RowStep,
     line: u64,
 ) -> Result<Option<Verdict>, NoMemory>
     requires kept { IsKept (the_names names.now) state.old }
     ensures kept { IfOk result (λ judged. judged ≡ None → IsKept (the_names names.now) state.new) }
     ensures judged { IfOk result (λ judged. (rest : List derivation.Step)
         → verdict_from problem.now (the_names names.now) (the_sequents state.old)
-        (the_step step.entry.now ∷ rest) line ≡ option_map_or the_verdict judged
+        (the_row_step step.entry.now ∷ rest) line ≡ option_map_or the_verdict judged
         (verdict_from problem.now (the_names names.now) (the_sequents state.new) rest (line + 1))) }
 {
     if !state.sequents.is_open {
@@ -200,9 +203,9 @@ fn at_end(state: &State<'_>, line: u64) -> Verdict
 
 /// The verdict on the steps of a derivation. Lines are counted as in its text: the first step
 /// stands in the line after those of the head and the names.
-pub fn judge(alloc: Global, problem: &Problem, d: &Derivation) -> Result<Verdict, NoMemory>
+pub fn judge(alloc: Global, problem: &Problem, d: &RowDerivation) -> Result<Verdict, NoMemory>
     requires { 5 + length d.now.names.eigens + length d.now.names.spares + length d.now.steps ≤ u64.MAX }
-    ensures { IfOk result (λ v. the_verdict v ≡ verdict_on problem.now (the_derivation d.now)) }
+    ensures { IfOk result (λ v. the_verdict v ≡ verdict_on problem.now (the_row_derivation d.now)) }
 {
     let names = &d.names;
     let mut state = State::new(alloc, problem, names)?;

@@ -17,7 +17,8 @@ ghost use Rattle.derivation_check.specs.StateView.{IsLabelAfter, LeadsTo, Stands
 ghost use Rattle.derivation_check.specs.StateView.{the_entry, the_sequent, the_sequents};
 ghost use Rattle.formula_core.specs.FormulaView.{the_formula};
 ghost use Rattle.sequent_calc.specs.DerivationView.{the_names};
-ghost use Rattle.sequent_calc.specs.StepView.{the_modal, the_term_arg};
+ghost use Rattle.derivation_text.specs.RowView.{the_row_arg};
+ghost use Rattle.sequent_calc.specs.StepView.{the_modal};
 
 use crate::demands::use_fault;
 use crate::occurring::{add_brought_eigens, add_brought_marks};
@@ -25,8 +26,9 @@ use crate::open_sequents::BranchEntry;
 use crate::state::State;
 use cop_base::NoMemory;
 use derivation_branch::{Labels, Substitutions, Value, added_by};
+use derivation_text::RowArg;
 use logic_rules::{Logic, Mark, Problem, kind_of};
-use sequent_calc::{ApplyFault, ModalArg, Names, TermArg};
+use sequent_calc::{ApplyFault, ModalArg, Names};
 
 // The place of the label of the components.
 fn label_after(
@@ -69,19 +71,19 @@ fn put_value<'a>(
 fn put_argument<'a>(
     substitutions: &mut Substitutions<'a>,
     outer: u32,
-    term: &'a TermArg,
+    term: &'a RowArg,
 ) -> Result<u32, NoMemory>
     requires within { outer < length substitutions.old }
-    requires closed { IsClosedArgument (the_term_arg term.now) }
+    requires closed { IsClosedArgument (the_row_arg term.now) }
     ensures within { IfOk result (λ k. k < length substitutions.new) }
     ensures put { IfOk result (λ k.
-        HasArgument substitutions.new outer k (the_term_arg term.entry.now)) }
+        HasArgument substitutions.new outer k (the_row_arg term.entry.now)) }
     ensures grown { OnOk result (IsLonger substitutions.old substitutions.new) }
 {
     match term {
-        TermArg::None => Ok(outer),
-        TermArg::Term(t) => put_value(substitutions, outer, Value::Given(t)),
-        TermArg::Name(number) => put_value(substitutions, outer, Value::Eigen(*number)),
+        RowArg::None => Ok(outer),
+        RowArg::Term(t) => put_value(substitutions, outer, Value::Given(t)),
+        RowArg::Name(number) => put_value(substitutions, outer, Value::Eigen(*number)),
     }
 }
 
@@ -92,21 +94,21 @@ fn grow<'a>(
     used: BranchEntry<'a>,
     at: u32,
     modal: &ModalArg,
-    term: &'a TermArg,
+    term: &'a RowArg,
 ) -> Result<(), NoMemory>
     requires is_open { state.old.sequents.is_open ≡ true }
     requires kept { IsKept (the_names names.now) state.old }
     requires stands { StandsOn state.old.sequents.branch.items used }
     requires label { IsLabelAfter state.old.labels used.shared.label (the_modal modal.now) at }
     requires fits { term_fits (shape_of used.shared.sign (the_formula used.shared.formula.now))
-        (the_term_arg term.now) ≡ true }
-    requires closed { IsClosedArgument (the_term_arg term.now) }
+        (the_row_arg term.now) ≡ true }
+    requires closed { IsClosedArgument (the_row_arg term.now) }
     ensures kept { OnOk result (IsKept (the_names names.now) state.new) }
     ensures grown { OnOk result (the_sequents state.new ≡ open_after
         (with_components (shape_of used.entry.shared.sign (formula_under state.old.substitutions
         used.entry.shared.substitution (the_formula used.entry.shared.formula.now)))
         (the_current state.old) (get_or state.old.labels at [])
-        (map (with_argument (the_term_arg term.entry.now)) (components used.entry.shared.sign
+        (map (with_argument (the_row_arg term.entry.now)) (components used.entry.shared.sign
         (formula_under state.old.substitutions used.entry.shared.substitution
         (the_formula used.entry.shared.formula.now)))))
         (map (the_sequent state.old.substitutions state.old.labels) (waiting_in state.old.sequents))) }
@@ -131,7 +133,7 @@ pub fn use_entry<'a>(
     state: &mut State<'a>,
     used: BranchEntry<'a>,
     modal: &ModalArg,
-    term: &'a TermArg,
+    term: &'a RowArg,
 ) -> Result<(), ApplyFault>
     requires is_open { state.old.sequents.is_open ≡ true }
     requires kept { IsKept (the_names names.now) state.old }
@@ -139,13 +141,13 @@ pub fn use_entry<'a>(
     ensures kept { OnOk result (IsKept (the_names names.now) state.new) }
     ensures leads { OnOk result (LeadsTo (use_entry problem.now (the_names names.now)
         (the_current state.old) (Some (the_entry state.old.substitutions state.old.labels used.entry))
-        (the_modal modal.now) (the_term_arg term.entry.now))
+        (the_modal modal.now) (the_row_arg term.entry.now))
         (map (the_sequent state.old.substitutions state.old.labels) (waiting_in state.old.sequents))
         (the_sequents state.new)) }
     ensures fault { (f : StepFault) → result ≡ Err (ApplyFault.Fault f)
         → use_entry problem.now (the_names names.now) (the_current state.old)
         (Some (the_entry state.old.substitutions state.old.labels used.entry))
-        (the_modal modal.now) (the_term_arg term.entry.now) ≡ Err f }
+        (the_modal modal.now) (the_row_arg term.entry.now) ≡ Err f }
 {
     let setting = problem.setting();
     let logic = setting.logic();

@@ -3,4 +3,8 @@ pub mod Spelling
 pub mod Body
 pub mod BodyView
 pub mod Reading
+pub mod RowView
+pub mod RowDerivationView
+pub mod RowReading
+pub mod Standing
 pub mod Single

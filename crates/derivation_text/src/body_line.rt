@@ -4,15 +4,16 @@ ghost use Rattle.std.specs.Prelude.{◌≡◌};
 ghost use Rattle.derivation_text.specs.Body.{stage_after};
 ghost use Rattle.derivation_text.specs.BodyView.{the_body_line};
 
+use crate::row_step::RowStep;
 use logic_rules::Label;
-use sequent_calc::{Home, Step};
+use sequent_calc::Home;
 
 /// A line after the head.
 #[derive(Drop)]
 pub enum BodyLine {
     Eigen(u32, Label),
     Spare(u32, Home),
-    Step(Step),
+    Step(RowStep),
     End,
 }
 

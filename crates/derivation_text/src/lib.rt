@@ -4,16 +4,20 @@
 mod body_line;
 mod body_reader;
 mod causes;
+mod conversion;
 mod fault;
 mod head_reader;
 mod lines;
 mod name_line_reader;
 mod parser;
 mod part_reader;
+mod row_reader;
+mod row_step;
 mod step_reader;
 mod writer;
 
 pub use calculus::fault::TextCause;
 pub use fault::ParseFault;
-pub use parser::parse;
+pub use parser::{parse, read};
+pub use row_step::{RowArg, RowDerivation, RowStep, RowSteps};
 pub use writer::print;

@@ -8,14 +8,17 @@ ghost use Rattle.calculus.specs.declared.fault.TextCause.{TextCause};
 ghost use Rattle.derivation_text.specs.BodyView.{the_body_line};
 ghost use Rattle.derivation_text.specs.Reading.{IsFaultOf, IsHeadRead, with_line};
 ghost use Rattle.derivation_text.specs.Single.{AtMostOneDerivation, AtMostOneFault};
+ghost use Rattle.derivation_text.specs.RowDerivationView.{the_row_derivation};
 ghost use Rattle.sequent_calc.specs.DerivationView.{the_derivation};
 
 use crate::body_line::{BodyLine, Stage};
 use crate::body_reader::read_next;
 use crate::causes::{cause_at_end, cause_at_line};
+use crate::conversion::derivation_of;
 use crate::fault::ParseFault;
 use crate::head_reader::read_head;
 use crate::lines::line_at;
+use crate::row_step::RowDerivation;
 use calculus::fault::TextCause;
 use cop_base::NoMemory;
 use formula_text::TextRead;
@@ -24,8 +27,8 @@ use sequent_calc::Derivation;
 use std::alloc::Global;
 
 // Puts a line after those of a derivation.
-fn put_line(d: &mut Derivation, line: BodyLine) -> Result<(), NoMemory>
-    ensures { OnOk result (the_derivation d.new ≡ with_line (the_derivation d.old) (the_body_line line)) }
+fn put_line(d: &mut RowDerivation, line: BodyLine) -> Result<(), NoMemory>
+    ensures { OnOk result (the_row_derivation d.new ≡ with_line (the_row_derivation d.old) (the_body_line line)) }
 {
     match line {
         BodyLine::Eigen(number, home) => d.names.eigens.push((number, home)),
@@ -49,14 +52,14 @@ fn read_body(
     bytes: &[u8],
     from: usize,
     limit: u8,
-) -> Result<Derivation, ParseFault>
+) -> Result<RowDerivation, ParseFault>
     requires well { IsTrue (is_problem problem.now) }
     requires head { IsHeadRead problem.now bytes.now from limit }
-    ensures text { IfOk result (λ d. IsText problem.now (the_derivation d) bytes.now) }
+    ensures text { IfOk result (λ d. IsText problem.now (the_row_derivation d) bytes.now) }
     ensures fault { (line : ℕ) (cause : TextCause) → result ≡ Err (ParseFault.Text line cause) → IsFaultOf problem.now bytes.now line cause }
 {
     let length = bytes.len();
-    let mut d = Derivation::new(alloc, limit);
+    let mut d = RowDerivation::new(alloc, limit);
     let mut stage = Stage::Eigens(0);
     let mut place = from;
     let mut count = 4;
@@ -84,6 +87,19 @@ fn read_body(
     }
 }
 
+/// The derivation, its terms in rows, of a problem whose text the bytes are, or else the number and the cause of the first wrong line.
+pub fn read(alloc: Global, problem: &Problem, bytes: &[u8]) -> Result<RowDerivation, ParseFault>
+    ensures text { IfOk result (λ d. IsText problem.now (the_row_derivation d) bytes.now) }
+    ensures fault { (line : ℕ) (cause : TextCause) → result ≡ Err (ParseFault.Text line cause)
+        → (n : ℕ) × (line ≡ n + 1) × IsFaulty problem.now bytes.now n × (cause ≡ cause_at bytes.now n) }
+    ensures derivation { AtMostOneDerivation problem.now bytes.now }
+    ensures first { AtMostOneFault problem.now bytes.now }
+    ensures well { IsTrue (is_problem problem.now) }
+{
+    let (limit, from) = read_head(alloc, problem, bytes)?;
+    read_body(alloc, problem, bytes, from, limit)
+}
+
 /// The derivation of a problem whose text the bytes are, or else the number and the cause of the first wrong line.
 pub fn parse(alloc: Global, problem: &Problem, bytes: &[u8]) -> Result<Derivation, ParseFault>
     ensures text { IfOk result (λ d. IsText problem.now (the_derivation d) bytes.now) }
@@ -93,6 +109,7 @@ pub fn parse(alloc: Global, problem: &Problem, bytes: &[u8]) -> Result<Derivatio
     ensures first { AtMostOneFault problem.now bytes.now }
     ensures well { IsTrue (is_problem problem.now) }
 {
-    let (limit, from) = read_head(alloc, problem, bytes)?;
-    read_body(alloc, problem, bytes, from, limit)
+    let rows = read(alloc, problem, bytes)?;
+    let d = derivation_of(alloc, rows)?;
+    Ok(d)
 }

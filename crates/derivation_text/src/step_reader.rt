@@ -3,35 +3,37 @@
 ghost use Rattle.std.specs.Prelude.{◌≡◌, ◌++◌, ◌∷◌, [], ℕ, List, Err, IsTrue, IsNone, IfSome, IfOk};
 ghost use Rattle.calculus.specs.Derivations as derivation;
 ghost use Rattle.derivation_text.specs.Spelling.{AreArgs, IsLabelAndArg, IsNameNumberAndArg, IsNumberPair, IsStep, IsTermArg, IsUse};
-ghost use Rattle.sequent_calc.specs.StepView.{the_modal, the_step, the_term_arg};
+ghost use Rattle.derivation_text.specs.RowView.{the_row_arg, the_row_step};
+ghost use Rattle.sequent_calc.specs.StepView.{the_modal};
 
 use crate::part_reader::{
-    read_front_label, read_front_number, read_name_number, read_whole_number, read_whole_term,
-    rest_after,
+    read_front_label, read_front_number, read_name_number, read_whole_number, rest_after,
 };
+use crate::row_reader::read_whole_row;
+use crate::row_step::{RowArg, RowStep};
 use formula_text::TextRead;
 use logic_rules::{Label, Problem};
-use sequent_calc::{ModalArg, Step, TermArg};
+use sequent_calc::ModalArg;
 use std::alloc::Global;
 
 // The argument for a variable that is the whole text.
-fn read_term_arg(alloc: Global, problem: &Problem, text: &[u8]) -> Result<TermArg, TextRead>
-    ensures ok { IfOk result (λ t. IsTermArg problem.now.symbols text.now (the_term_arg t)) }
+fn read_term_arg(alloc: Global, problem: &Problem, text: &[u8]) -> Result<RowArg, TextRead>
+    ensures ok { IfOk result (λ t. IsTermArg problem.now.symbols text.now (the_row_arg t)) }
     ensures none { result ≡ Err TextRead.None → (t : derivation.TermArg) → ¬ IsTermArg problem.now.symbols text.now t }
 {
     if text.is_empty() {
-        return Ok(TermArg::None);
+        return Ok(RowArg::None);
     }
     if let Some(rest) = rest_after(text, b" term ") {
-        let term = read_whole_term(alloc, problem, rest)?;
-        let arg = TermArg::term(alloc, term)?;
+        let row = read_whole_row(alloc, problem, rest)?;
+        let arg = RowArg::term(alloc, row)?;
         return Ok(arg);
     }
     let Some(rest) = rest_after(text, b" name $$e") else {
         return Err(TextRead::None);
     };
     match read_name_number(rest) {
-        Some(n) => Ok(TermArg::Name(n)),
+        Some(n) => Ok(RowArg::Name(n)),
         None => Err(TextRead::None),
     }
 }
@@ -41,8 +43,8 @@ fn read_label_and_arg(
     alloc: Global,
     problem: &Problem,
     text: &[u8],
-) -> Result<(Label, TermArg), TextRead>
-    ensures ok { IfOk result (λ r. IsLabelAndArg problem.now.symbols text.now r.0 (the_term_arg r.1)) }
+) -> Result<(Label, RowArg), TextRead>
+    ensures ok { IfOk result (λ r. IsLabelAndArg problem.now.symbols text.now r.0 (the_row_arg r.1)) }
     ensures none { result ≡ Err TextRead.None → (w : derivation.Label) (t : derivation.TermArg) → ¬ IsLabelAndArg problem.now.symbols text.now w t }
 {
     let (label, rest) = read_front_label(alloc, text)?;
@@ -55,8 +57,8 @@ fn read_new_and_arg(
     alloc: Global,
     problem: &Problem,
     text: &[u8],
-) -> Result<(u32, TermArg), TextRead>
-    ensures ok { IfOk result (λ r. IsNameNumberAndArg problem.now.symbols text.now r.0 (the_term_arg r.1)) }
+) -> Result<(u32, RowArg), TextRead>
+    ensures ok { IfOk result (λ r. IsNameNumberAndArg problem.now.symbols text.now r.0 (the_row_arg r.1)) }
     ensures none { result ≡ Err TextRead.None → (n : ℕ) (t : derivation.TermArg) → ¬ IsNameNumberAndArg problem.now.symbols text.now n t }
 {
     let Some((n, rest)) = read_front_number(text) else {
@@ -70,8 +72,8 @@ fn read_new_and_arg(
 }
 
 // The arguments of a use step.
-fn read_args(alloc: Global, problem: &Problem, text: &[u8]) -> Result<(ModalArg, TermArg), TextRead>
-    ensures ok { IfOk result (λ r. AreArgs problem.now.symbols text.now (the_modal r.0) (the_term_arg r.1)) }
+fn read_args(alloc: Global, problem: &Problem, text: &[u8]) -> Result<(ModalArg, RowArg), TextRead>
+    ensures ok { IfOk result (λ r. AreArgs problem.now.symbols text.now (the_modal r.0) (the_row_arg r.1)) }
     ensures none { result ≡ Err TextRead.None → (m : derivation.ModalArg) (t : derivation.TermArg) → ¬ AreArgs problem.now.symbols text.now m t }
 {
     if let Some(rest) = rest_after(text, b" to ") {
@@ -92,8 +94,8 @@ fn read_use(
     alloc: Global,
     problem: &Problem,
     text: &[u8],
-) -> Result<(u32, ModalArg, TermArg), TextRead>
-    ensures ok { IfOk result (λ r. IsUse problem.now.symbols text.now r.0 (the_modal r.1) (the_term_arg r.2)) }
+) -> Result<(u32, ModalArg, RowArg), TextRead>
+    ensures ok { IfOk result (λ r. IsUse problem.now.symbols text.now r.0 (the_modal r.1) (the_row_arg r.2)) }
     ensures none { result ≡ Err TextRead.None → (n : ℕ) (m : derivation.ModalArg) (t : derivation.TermArg) → ¬ IsUse problem.now.symbols text.now n m t }
 {
     let Some((entry, rest)) = read_front_number(text) else {
@@ -115,19 +117,19 @@ fn read_number_pair(text: &[u8]) -> Option<(u32, u32)>
 }
 
 /// The step whose line is the text.
-pub fn read_step(alloc: Global, problem: &Problem, text: &[u8]) -> Result<Step, TextRead>
-    ensures ok { IfOk result (λ x. IsStep problem.now.symbols text.now (the_step x)) }
+pub fn read_step(alloc: Global, problem: &Problem, text: &[u8]) -> Result<RowStep, TextRead>
+    ensures ok { IfOk result (λ x. IsStep problem.now.symbols text.now (the_row_step x)) }
     ensures none { result ≡ Err TextRead.None → (x : derivation.Step) → ¬ IsStep problem.now.symbols text.now x }
 {
     if let Some(rest) = rest_after(text, b"use ") {
         let (entry, modal, term) = read_use(alloc, problem, rest)?;
-        return Ok(Step::Use { entry, modal, term });
+        return Ok(RowStep::Use { entry, modal, term });
     }
     let Some(rest) = rest_after(text, b"axiom ") else {
         return Err(TextRead::None);
     };
     match read_number_pair(rest) {
-        Some((given, shown)) => Ok(Step::Axiom { given, shown }),
+        Some((given, shown)) => Ok(RowStep::Axiom { given, shown }),
         None => Err(TextRead::None),
     }
 }

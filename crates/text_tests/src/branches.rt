@@ -1,7 +1,9 @@
 //! The labels, the numbers and the outline of a branch.
 
 use cop_base::{NoMemory, SymbolId};
-use derivation_branch::{Labels, NumberSet, Outline, add_eigens, is_home_at, reaches};
+use derivation_branch::{
+    Labels, NumberSet, Outline, TermRow, add_eigens, add_row, is_home_at, reaches,
+};
 use formula_core::{Formula, Term, Terms};
 use logic_rules::{Domains, Logic, Mark};
 use std::alloc::Global;
@@ -36,7 +38,9 @@ fn keeps_numbers(rt: HostRuntime) -> Result<(), Fail> {
     let alloc = rt.alloc();
     let mut set = NumberSet::new(alloc);
     set.add(3)?;
-    add_eigens(&mut set, &Term::Eigen(5))?;
+    let mut items = Vec::new(alloc);
+    add_row(&mut items, &Term::Eigen(5))?;
+    add_eigens(&mut set, &TermRow::new(items))?;
     assert!(rt; set.holds(5));
     set.cut(1);
     assert!(rt; set.holds(3) && !set.holds(5));

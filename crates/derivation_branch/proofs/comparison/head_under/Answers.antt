@@ -9,7 +9,7 @@ use Rattle.derivation_branch.proofs.comparison.head_under.Goals as goal
 pub returns-in-Given-clause-head : goal.returns-in-Given-clause-head
 returns-in-Given-clause-head c =
     let table = c.args.substitutions.now in
-    c.bare_head.ensures.head table c.value.ensures.first ∙ under-value table c.args.place c.in-Var.k (the_term c.in-Given.u.now) c.value.ensures.closed c.in-Given.ensures.value
+    under-value table c.args.place c.in-Var.k c.in-Given.row.now c.value.ensures.closed c.in-Given.ensures.value
     ∙ ap (term_under table c.args.place) (sym (ap the_term c.in-Var.is))
 
 pub returns-in-Eigen-value-clause-head : goal.returns-in-Eigen-value-clause-head

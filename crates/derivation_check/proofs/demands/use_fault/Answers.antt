@@ -1,7 +1,8 @@
 use Rattle.std.proofs.Common.{◌∙◌, ◌&&◌, ap, sym}
 use Rattle.calculus.specs.Calculus.{has_step, home_is, is_reachable, label_after, modal_fits, term_allowed, term_fits}
 use Rattle.sequent_calc.specs.DerivationView.{the_names}
-use Rattle.sequent_calc.specs.StepView.{the_modal, the_term_arg}
+use Rattle.sequent_calc.specs.StepView.{the_modal}
+use Rattle.derivation_text.specs.RowView.{the_row_arg}
 use Rattle.derivation_check.proofs.StateLaws.{judged}
 use Rattle.derivation_check.proofs.demands.use_fault.Goals as goal
 
@@ -16,7 +17,7 @@ returns c = λ s e tells modal shape from at x.
     let problem = c.args.problem.now in
     let names = the_names c.args.names.now in
     let m = the_modal c.args.modal.now in
-    let t = the_term_arg c.args.term.now in
+    let t = the_row_arg c.args.term.now in
     let logic = c.logic-logic.ensures ∙ ap (λ d. d.logic) c.setting-setting.ensures.setting in
     let after = at ∙ (λ i. label_after (sym logic i) (sym from i) m) in
     judged problem names s e m t c.arguments_fit.result c.is_known.result c.is_reachable.result c.is_new.result c.home_is.result c.term_allowed.result c.first_unmet.result

@@ -6,8 +6,8 @@ use Rattle.derivation_check.specs.StateView.{the_sequents}
 use Rattle.derivation_check.specs.VerdictView.{the_verdict}
 use Rattle.sequent_calc.specs.DerivationView.{the_names}
 use Rattle.sequent_calc.specs.NamesView.{the_eigen, the_spare}
-use Rattle.sequent_calc.specs.StepView.{the_step}
-use Rattle.sequent_calc.specs.declared.step.Step.{Step}
+use Rattle.derivation_text.specs.RowView.{the_row_step}
+use Rattle.derivation_text.specs.declared.row_step.RowStep.{RowStep}
 use Rattle.derivation_check.proofs.steps.judge.Goals as goal
 
 pub loop-step-init : goal.loop-step-init
@@ -32,8 +32,8 @@ returns-in-Some c =
     let i = c.loop-step.step-index in
     let line = c.loop-step.line in
     let x = c.step-item.result in
-    let rest = map the_step (drop (i + 1) items) in
-    let left = λ (xs : List Step). verdict_from P names (the_sequents c.loop-step.state) (map the_step xs) line in
+    let rest = map the_row_step (drop (i + 1) items) in
+    let left = λ (xs : List RowStep). verdict_from P names (the_sequents c.loop-step.state) (map the_row_step xs) line in
     let here = at_drop_more left items i x (omega (arith, c.loop-step-test.true)) ∙ ap (λ y. left (y ∷ drop (i + 1) items)) (sym c.step-item.is) in
     let told = c.in_ok-verdict.ensures.judged rest ∙ ap (λ o. option_map_or the_verdict o (verdict_from P names (the_sequents c.judge_step.new.state) rest (line + 1))) c.in-Some.is in
     sym told ∙ sym here ∙ c.loop-step.invariant.judged
@@ -46,8 +46,8 @@ loop-step-preserved c =
     let i = c.loop-step.step-index in
     let line = c.loop-step.line in
     let x = c.step-item.result in
-    let rest = map the_step (drop (i + 1) items) in
-    let left = λ (xs : List Step). verdict_from P names (the_sequents c.loop-step.state) (map the_step xs) line in
+    let rest = map the_row_step (drop (i + 1) items) in
+    let left = λ (xs : List RowStep). verdict_from P names (the_sequents c.loop-step.state) (map the_row_step xs) line in
     let here = at_drop_more left items i x (omega (arith, c.loop-step-test.true)) ∙ ap (λ y. left (y ∷ drop (i + 1) items)) (sym c.step-item.is) in
     let told = c.in_ok-verdict.ensures.judged rest ∙ ap (λ o. option_map_or the_verdict o (verdict_from P names (the_sequents c.judge_step.new.state) rest (line + 1))) c.in_default.is in
     record {
@@ -61,4 +61,4 @@ returns c =
     let P = c.args.problem.now in
     let names = the_names c.args.d.now.names in
     let items = c.items-step-items.result.now in
-    c.at_end.ensures ∙ ap (λ (l : List Step). verdict_from P names (the_sequents c.loop-step.state) (map the_step l) c.loop-step.line) (sym (drop_all c.loop-step.step-index items (omega (arith, c.loop-step-test.false)))) ∙ c.loop-step.invariant.judged
+    c.at_end.ensures ∙ ap (λ (l : List RowStep). verdict_from P names (the_sequents c.loop-step.state) (map the_row_step l) c.loop-step.line) (sym (drop_all c.loop-step.step-index items (omega (arith, c.loop-step-test.false)))) ∙ c.loop-step.invariant.judged

@@ -7,7 +7,8 @@ use Rattle.derivation_check.proofs.NodeLaws.{node-stands, nodes-added}
 use Rattle.derivation_check.specs.OpenSequents.{after_added, sequents_of, waiting_in}
 use Rattle.derivation_check.proofs.StateLaws.{Growth, grown-kept, grown-shown, kept-open, stands-within}
 use Rattle.sequent_calc.specs.DerivationView.{the_names}
-use Rattle.sequent_calc.specs.StepView.{the_modal, the_term_arg}
+use Rattle.sequent_calc.specs.StepView.{the_modal}
+use Rattle.derivation_text.specs.RowView.{the_row_arg}
 use Rattle.derivation_check.proofs.using.grow.Goals as goal
 
 pub put_argument-requires-clause-within : goal.put_argument-requires-clause-within
@@ -22,7 +23,7 @@ returns c =
     let s = c.args.state.now in
     let names = the_names c.args.names.now in
     let x = the_modal c.args.modal.now in
-    let t = the_term_arg c.args.term.now in
+    let t = the_row_arg c.args.term.now in
     let xs = s.sequents.branch.items in
     let forks = reverse s.sequents.forks.items in
     let more = c.put_argument.new.substitutions in

@@ -4,7 +4,8 @@ use Rattle.calculus.specs.Kinds.{modal_of}
 use Rattle.formula_core.specs.FormulaView.{the_formula}
 use Rattle.sequent_calc.specs.ChildrenView.{faulty}
 use Rattle.sequent_calc.specs.DerivationView.{the_names}
-use Rattle.sequent_calc.specs.StepView.{the_modal, the_term_arg}
+use Rattle.sequent_calc.specs.StepView.{the_modal}
+use Rattle.derivation_text.specs.RowView.{the_row_arg}
 use Rattle.derivation_branch.specs.TableView.{IsLabelAt}
 use Rattle.derivation_branch.proofs.PuttingLaws.{modal-all, shape-all}
 use Rattle.derivation_check.specs.StateView.{the_entry, the_sequent}
@@ -25,7 +26,7 @@ use_fault-fault-requires-clause-from c =
     let problem = c.args.problem.now in
     let names = the_names c.args.names.now in
     let x = the_modal c.args.modal.now in
-    let t = the_term_arg c.args.term.now in
+    let t = the_row_arg c.args.term.now in
     let u = c.args.used in
     let xs = s.sequents.branch.items in
     let forks = reverse s.sequents.forks.items in
@@ -49,7 +50,7 @@ grow-requires c =
     let problem = c.args.problem.now in
     let names = the_names c.args.names.now in
     let x = the_modal c.args.modal.now in
-    let t = the_term_arg c.args.term.now in
+    let t = the_row_arg c.args.term.now in
     let u = c.args.used in
     let xs = s.sequents.branch.items in
     let forks = reverse s.sequents.forks.items in
@@ -85,7 +86,7 @@ returns-in-Some-clause-fault c = λ fault e.
     let problem = c.args.problem.now in
     let names = the_names c.args.names.now in
     let x = the_modal c.args.modal.now in
-    let t = the_term_arg c.args.term.now in
+    let t = the_row_arg c.args.term.now in
     let u = c.args.used in
     let xs = s.sequents.branch.items in
     let forks = reverse s.sequents.forks.items in
@@ -113,7 +114,7 @@ returns-in_ok-grow-in-None-clause-leads c =
     let problem = c.args.problem.now in
     let names = the_names c.args.names.now in
     let x = the_modal c.args.modal.now in
-    let t = the_term_arg c.args.term.now in
+    let t = the_row_arg c.args.term.now in
     let u = c.args.used in
     let xs = s.sequents.branch.items in
     let forks = reverse s.sequents.forks.items in

@@ -1,0 +1,89 @@
+//! Terms in rows: each symbol stands before its arguments, so that a large term is one block of
+//! memory and is walked from its beginning to its end.
+
+ghost use Rattle.std.specs.Prelude.{◌≡◌, ◌++◌, OnOk};
+ghost use Rattle.calculus.specs.Lists.{terms_tree};
+ghost use Rattle.calculus.specs.Syntax as tree;
+ghost use Rattle.derivation_branch.specs.Rows.{row_of, rows_of};
+ghost use Rattle.formula_core.specs.TermView.{the_term};
+
+use crate::places::place_of;
+use cop_base::{NoMemory, SymbolId};
+use formula_core::{Term, Terms};
+use std::marker::Model;
+
+/// What stands in a row: a leaf, or a function symbol before so many arguments.
+#[derive(Clone, Copy, Debug, PartialEq, Eq)]
+pub enum RowItem {
+    Var(u32),
+    Fun(SymbolId, u32),
+    Eigen(u32),
+    Spare(u32),
+}
+
+/// A term in a row.
+#[derive(Drop)]
+pub struct TermRow {
+    items: Vec<RowItem>,
+}
+
+impl Model for TermRow {
+    ghost use Rattle.std.specs.Prelude.{◌≡◌};
+    ghost use Rattle.calculus.specs.Syntax as tree;
+    ghost use Rattle.calculus.specs.Codes.{term_code};
+    ghost use Rattle.derivation_branch.specs.Rows.{root_of, row_of};
+
+    ghost Value = { tree.Term };
+
+    ghost coded = { term_code };
+
+    ghost view = { λ s. root_of s.items.items };
+
+    ghost invariant = { λ s. s.items.items ≡ row_of (root_of s.items.items) };
+}
+
+impl TermRow {
+    /// The term of a row.
+    pub fn new(items: Vec<RowItem>) -> TermRow
+        requires { (t : tree.Term) × (items.items ≡ row_of t) }
+        ensures { (t : tree.Term) → items.items ≡ row_of t → result ≡ t }
+    {
+        TermRow { items }
+    }
+
+    /// The row of the term.
+    pub fn items(&self) -> &[RowItem]
+        ensures { result.now ≡ row_of self.now }
+    {
+        self.items.as_slice()
+    }
+}
+
+/// Adds the row of a term at the end.
+#[cycle(row)]
+pub fn add_row(items: &mut Vec<RowItem>, t: &Term) -> Result<(), NoMemory>
+    ensures { OnOk result (items.new.items ≡ items.old.items ++ row_of (the_term t.now)) }
+{
+    match t {
+        Term::Var(k) => items.push(RowItem::Var(*k))?,
+        Term::Fun(f, args) => {
+            let count = place_of(args.len())?;
+            items.push(RowItem::Fun(*f, count))?;
+            add_rows(items, args)?;
+        }
+        Term::Eigen(n) => items.push(RowItem::Eigen(*n))?,
+        Term::Spare(n) => items.push(RowItem::Spare(*n))?,
+    }
+    Ok(())
+}
+
+#[cycle(row)]
+#[tactic(auto, using(formula_core::specs::TermFalls::falling))]
+fn add_rows(items: &mut Vec<RowItem>, ts: &Terms) -> Result<(), NoMemory>
+    ensures { OnOk result (items.new.items ≡ items.old.items ++ rows_of (terms_tree ts.now)) }
+{
+    for item in ts.items() {
+        add_row(items, item)?;
+    }
+    Ok(())
+}
