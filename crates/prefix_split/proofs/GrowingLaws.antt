@@ -1,18 +1,17 @@
 -- The tree of beginnings grows step by step, label by label and equation by equation.
-use Rattle.std.proofs.Common.{◌≡◌, ◌⊎◌, ℕ, zero, suc, ◌+◌, ◌<◌, ◌≤◌, List, [], ◌∷◌, ◌++◌, length, map, take, Bool, true, false, ◌==◌, eqb-true, eq-eqb, if◌then◌else◌, IsTrue, refl, sym, ◌∙◌, ap, ap₂, subst, Option, None, Some, slice_get, inl, inr, arith, append_assoc, append-nil, length-append, nat_le, leb-true}
+use Rattle.std.proofs.Common.{◌≡◌, ◌⊎◌, ℕ, zero, suc, ◌+◌, ◌<◌, ◌≤◌, List, [], ◌∷◌, ◌++◌, length, drop, take, Bool, true, false, ◌==◌, eqb-true, eq-eqb, if◌then◌else◌, IsTrue, refl, sym, ◌∙◌, ap, ap₂, subst, None, Some, slice_get, inl, inr, arith, append_assoc, append-nil, length-append, leb-true}
 use Rattle.std.specs.List.{AllByRecursion, flat_map}
 use Rattle.std.proofs.lemmas.Bool.{and_parts, false≢true}
 use Rattle.calculus.specs.declared.setting.Logic.{Logic}
 use Rattle.calculus.specs.declared.setting.Logic.TheVariants.{Classical, Intuitionistic, D, T as LogicT, S4, S5}
-use Rattle.calculus.specs.declared.sort.Sort.{Sort}
 use Rattle.calculus.specs.declared.sort.Sort.TheVariants.{TermSort, MarkSort, StringSort}
 use Rattle.calculus.specs.Bindings.{EndsIn, IsEnd}
 use Rattle.calculus.specs.Patterns.{Grows}
 use Rattle.calculus.specs.Ground.{GroundMark}
 use Rattle.calculus.specs.Equality.{mark_eq}
 use Rattle.calculus.specs.Labels.{is_prefix, is_step_length}
-use Rattle.calculus.specs.Stores.{Cell, variable, fun_cell, eigen_cell, new_cell, string_cell, Store, is_bound, has_sort_at, has_sort, names_below, EndsAt, CellValue, a_term, a_mark, a_string, Solution, Solves, label_at, GammaCell}
-use Rattle.calculus.specs.Systems.{Equation, Pair, System, AreEqual, IsOpenString, IsStep, NamesItsStrings, OccursInSystem, cells_of_atom, is_equation, is_label, is_system}
+use Rattle.calculus.specs.Stores.{Cell, variable, fun_cell, eigen_cell, new_cell, string_cell, Store, is_bound, has_sort_at, has_sort, names_below, EndsAt, CellValue, a_term, a_mark, a_string, Solution, Solves, GammaCell}
+use Rattle.calculus.specs.Systems.{Equation, Pair, System, AreEqual, IsOpenString, IsStep, NamesItsStrings, cells_of_atom, is_equation, is_label, is_system}
 use Rattle.calculus.specs.Templates.{as_label}
 use Rattle.calculus.proofs.BindingLaws.{has_sort-from}
 use Rattle.calculus.proofs.EqualityLaws.{mark_eq-tells}
@@ -31,10 +30,8 @@ use Rattle.term_unify.proofs.PairLaws.{told}
 use Rattle.prefix_split.specs.declared.node.Node.{Node}
 use Rattle.prefix_split.specs.declared.node.Step.{Step}
 use Rattle.prefix_split.specs.declared.node.Step.TheVariants.{Root, Mark, Short, Long}
-use Rattle.prefix_split.specs.declared.order.Relation.{Relation}
-use Rattle.prefix_split.specs.declared.order.Relation.TheVariants.{Unknown, Weak, Strict}
-use Rattle.prefix_split.specs.Beginnings.{AllBegin, AreValues, Begins, HasExtent, IsNode, IsRelated, NodesFit, StepFits, item_of, step_marks}
-use Rattle.prefix_split.specs.Growing.{AreNamed, AreSteps, EndsString, Extends, HasValues, IsAsked, IsGrown, IsNamed, IsNamedEquation, IsReached, IsTree, has_short_steps, is_mark_head, is_open_string_head, step_relation}
+use Rattle.prefix_split.specs.Beginnings.{AllBegin, AreValues, Begins, HasExtent, IsNode, IsRelated, StepFits, item_of, step_marks}
+use Rattle.prefix_split.specs.Growing.{AreSteps, EndsString, Extends, HasValues, IsAsked, IsGrown, IsNamed, IsNamedEquation, IsReached, IsTree, has_short_steps, is_mark_head, is_open_string_head, step_relation}
 use Rattle.prefix_split.proofs.ListItems.{item-flat, item-left, item-right}
 use Rattle.prefix_split.proofs.OrderLaws.{equal-begins, last-item, mark-behind, node-behind}
 
@@ -351,6 +348,39 @@ asked-home s l strings x old mid new u v before after h k same = record {
       subst (AllBegin value) (sym same) (pair-more value before u v b (subst (λ (m : List GroundMark). Begins m (value v)) (sym first) (subst (Begins w) (sym second) (prefix-begins w z begins))))
       );
 }
+
+label-taken : (σ : Solution) (n : ℕ) (xs : List ℕ) → label_by σ xs ≡ label_by σ (take n xs) ++ label_by σ (drop n xs)
+label-taken σ zero [] = refl
+label-taken σ zero (x ∷ xs) = refl
+label-taken σ (suc n) [] = refl
+label-taken σ (suc n) (x ∷ xs) = ap (λ w. as_label (σ x) ++ w) (label-taken σ n xs) ∙ sym (append_assoc (as_label (σ x)) (label_by σ (take n xs)) (label_by σ (drop n xs)))
+
+-- the first items of a label begin a label that is equal to it
+pub asked-begin : (s : Store) (l : Logic) (strings xs ys : List ℕ) (n : ℕ) (old mid new : List Node) (u v : ℕ) (before after : List (ℕ × ℕ)) → IsReached s l strings old mid (take n xs) u → IsReached s l strings mid new ys v → after ≡ before ++ (u, v) ∷ [] → IsAsked s l strings (λ σ. label_by σ xs ≡ label_by σ ys) old new before after
+asked-begin s l strings xs ys n old mid new u v before after h k same = record {
+  tree = k.tree;
+  extends = extends-both old mid new h.extends k.extends;
+  values = λ σ t steps y. k.values σ t steps (h.values σ t steps y);
+  pairs = λ σ value t y q b. (
+      let first : value u ≡ label_by σ (take n xs) = h.is σ value t (values-before σ value mid new k.extends y) in
+      let second : value v ≡ label_by σ ys = k.is σ value t y in
+      let rest = label_by σ (drop n xs) in
+      let begins : Begins (value u) (value v) = (rest, second ∙ sym q ∙ label-taken σ n xs ∙ ap (λ w. w ++ rest) (sym first)) in
+      subst (AllBegin value) (sym same) (pair-more value before u v b begins)
+      );
+}
+
+asked-weaker : (s : Store) (l : Logic) (strings : List ℕ) (P Q : Solution → Type 0) (old new : List Node) (before after : List (ℕ × ℕ)) → ((σ : Solution) → Q σ → P σ) → IsAsked s l strings P old new before after → IsAsked s l strings Q old new before after
+asked-weaker s l strings P Q old new before after f h = record { tree = h.tree; extends = h.extends; values = h.values; pairs = λ σ value t y q b. h.pairs σ value t y (f σ q) b }
+
+equal-labels : (σ : Solution) (e : Equation) → AreEqual σ e → label_by σ e.left ≡ label_by σ e.right
+equal-labels σ e (w, left, right) = label_at-by σ e.left w left ∙ sym (label_at-by σ e.right w right)
+
+pub asked-equal : (s : Store) (l : Logic) (strings : List ℕ) (e : Equation) (old new : List Node) (before after : List (ℕ × ℕ)) → IsAsked s l strings (λ σ. label_by σ e.left ≡ label_by σ e.right) old new before after → IsAsked s l strings (λ σ. AreEqual σ e) old new before after
+asked-equal s l strings e old new before after h = asked-weaker s l strings (λ σ. label_by σ e.left ≡ label_by σ e.right) (λ σ. AreEqual σ e) old new before after (λ σ q. equal-labels σ e q) h
+
+pub asked-equal_back : (s : Store) (l : Logic) (strings : List ℕ) (e : Equation) (old new : List Node) (before after : List (ℕ × ℕ)) → IsAsked s l strings (λ σ. label_by σ e.right ≡ label_by σ e.left) old new before after → IsAsked s l strings (λ σ. AreEqual σ e) old new before after
+asked-equal_back s l strings e old new before after h = asked-weaker s l strings (λ σ. label_by σ e.right ≡ label_by σ e.left) (λ σ. AreEqual σ e) old new before after (λ σ q. sym (equal-labels σ e q)) h
 
 pub grows-length : (s t : Store) → Grows s t → length s.cells ≤ length t.cells
 grows-length s t (m, e, f) = let l = ap length e in let n = length-append s.cells m in omega (arith, l, n)

@@ -16,6 +16,15 @@ pub(crate) struct BitTable {
     width: usize,
 }
 
+// The first bit from this place on.
+pub(crate) fn first_from(word: u64, place: usize) -> Option<usize> {
+    let left = from_place(word, place);
+    if left == 0 {
+        return None;
+    }
+    Some(left.trailing_zeros() as usize)
+}
+
 // The bits of the word from this place on.
 fn from_place(word: u64, place: usize) -> u64 {
     if place >= 64 {
@@ -107,6 +116,18 @@ impl BitTable {
         })
     }
 
+    // The first bit from this place on that is set in row u.
+    pub(crate) fn next(&self, u: usize, from: usize) -> Option<usize> {
+        let mut start = from % 64;
+        for k in from / 64..self.width {
+            if let Some(place) = first_from(self.word(u, k), start) {
+                return Some(k.saturating_mul(64).saturating_add(place));
+            }
+            start = 0;
+        }
+        None
+    }
+
     // The first bit from this place on that is set in row u, and not in row v of the other table.
     pub(crate) fn next_without(
         &self,
@@ -115,16 +136,12 @@ impl BitTable {
         v: usize,
         from: usize,
     ) -> Option<usize> {
-        let mut place = from % 64;
+        let mut start = from % 64;
         for k in from / 64..self.width {
-            let word = from_place(self.word(u, k) & !other.word(v, k), place);
-            if word != 0 {
-                return Some(
-                    k.saturating_mul(64)
-                        .saturating_add(word.trailing_zeros() as usize),
-                );
+            if let Some(place) = first_from(self.word(u, k) & !other.word(v, k), start) {
+                return Some(k.saturating_mul(64).saturating_add(place));
             }
-            place = 0;
+            start = 0;
         }
         None
     }
@@ -137,16 +154,12 @@ impl BitTable {
         v: usize,
         from: usize,
     ) -> Option<usize> {
-        let mut place = from % 64;
+        let mut start = from % 64;
         for k in from / 64..self.width {
-            let word = from_place(self.word(u, k) & other.word(v, k), place);
-            if word != 0 {
-                return Some(
-                    k.saturating_mul(64)
-                        .saturating_add(word.trailing_zeros() as usize),
-                );
+            if let Some(place) = first_from(self.word(u, k) & other.word(v, k), start) {
+                return Some(k.saturating_mul(64).saturating_add(place));
             }
-            place = 0;
+            start = 0;
         }
         None
     }

@@ -1,6 +1,7 @@
 //! The tree of the beginnings of labels.
 
-ghost use Rattle.std.specs.Prelude.{◌≡◌, ◌++◌, ◌<◌, ℕ, List, IfOk, IfSome, IsTrue, length, map, true};
+ghost use Rattle.std.specs.Prelude.{◌≡◌, ◌++◌, ◌<◌, ◌≤◌, ℕ, List, IfOk, IfSome, IsTrue};
+ghost use Rattle.std.specs.Prelude.{false, length, map, take, true};
 ghost use Rattle.std.specs.List.{AllByRecursion, list_all};
 ghost use Rattle.calculus.specs.Bindings.{IsEnd};
 ghost use Rattle.calculus.specs.declared.sort.Sort.TheVariants.{MarkSort};
@@ -10,6 +11,7 @@ ghost use Rattle.calculus.specs.Systems.{AreEqual, IsOpenString, NamesItsStrings
 ghost use Rattle.calculus.specs.Systems.{is_system};
 ghost use Rattle.calculus.specs.Templates.{as_label};
 ghost use Rattle.calculus.specs.declared.setting.Logic.{Logic};
+ghost use Rattle.search_theory.specs.States.{label_by};
 ghost use Rattle.term_store.specs.HomeView.{the_home};
 ghost use Rattle.term_store.specs.Homes.{BeginsLabel, is_home};
 ghost use Rattle.term_store.specs.RefView.{the_place};
@@ -24,9 +26,11 @@ use crate::joining::are_same_steps;
 use crate::node::{Node, Step};
 use crate::places::{equation_at, home_at, reference_at};
 use crate::rules::node_at;
+use crate::uses::Uses;
 use calculus::setting::Logic;
 use calculus::sort::Sort;
 use cop_base::NoMemory;
+use std::alloc::Global;
 use term_store::{Equation, Head, Home, Ref, Store, System};
 use term_unify::Unifier;
 
@@ -83,7 +87,7 @@ fn is_mark(store: &Store, end: Ref) -> bool
     is_mark_head(found)
 }
 
-fn is_open_string(store: &Store, end: Ref) -> bool
+pub(crate) fn is_open_string(store: &Store, end: Ref) -> bool
     requires { IsEnd store.now.store end.0 }
     ensures { result ≡ true → IsOpenString store.now.store end.0 }
 {
@@ -160,7 +164,7 @@ fn find(
         × ((σ : Solution) (value : ℕ → List GroundMark) → Solves store.now.store σ
         → AreValues σ value nodes.now → value u ≡ value parent ++ step_marks σ step))) }
 {
-    for u in 0..nodes.len() {
+    for u in parent..nodes.len() {
         let node = node_at(nodes, u);
         if is_node(unifier, store, node, parent, step)? {
             return Ok(Some(u));
@@ -192,6 +196,33 @@ fn grow(
     Ok(u)
 }
 
+// The node of the first items of the label, of which there are so many.
+fn reach_first(
+    unifier: &mut Unifier,
+    store: &Store,
+    logic: Logic,
+    system: &System,
+    nodes: &mut Vec<Node>,
+    label: &[Ref],
+    shown: usize,
+) -> Result<usize, NoMemory>
+    requires tree { IsTree (length store.now.store.cells) nodes.old.items }
+    requires below { IsTrue (names_below (length store.now.store.cells) (map the_place label.now)) }
+    requires named { has_short_steps logic ≡ true
+        → AreNamed store.now.store system.now.strings (map the_place label.now) }
+    requires shown { shown ≤ length label.now }
+    ensures { IfOk result (λ u. IsReached store.now.store logic system.now.strings nodes.old.items
+        nodes.new.items (take shown (map the_place label.now)) u) }
+{
+    let mut node = 0;
+    for i in 0..shown {
+        let step = step_of(store, logic, system, reference_at(label, i));
+        let next = grow(unifier, store, nodes, node, step)?;
+        node = next;
+    }
+    Ok(node)
+}
+
 // The node of the label.
 fn reach(
     unifier: &mut Unifier,
@@ -208,12 +239,7 @@ fn reach(
     ensures { IfOk result (λ u. IsReached store.now.store logic system.now.strings nodes.old.items
         nodes.new.items (map the_place label.now) u) }
 {
-    let mut node = 0;
-    for i in 0..label.len() {
-        let step = step_of(store, logic, system, reference_at(label, i));
-        let next = grow(unifier, store, nodes, node, step)?;
-        node = next;
-    }
+    let node = reach_first(unifier, store, logic, system, nodes, label, label.len())?;
     Ok(node)
 }
 
@@ -262,6 +288,126 @@ pub(crate) fn ask_equations(
         let e = equation_at(equations, i);
         ask_equation(unifier, store, logic, system, nodes, pairs, e)?;
     }
+    Ok(())
+}
+
+// Adds the first items of the one label and the other one, and that those begin it.
+fn ask_begin(
+    unifier: &mut Unifier,
+    store: &Store,
+    logic: Logic,
+    system: &System,
+    nodes: &mut Vec<Node>,
+    pairs: &mut Vec<(usize, usize)>,
+    begin: &[Ref],
+    shown: usize,
+    whole: &[Ref],
+) -> Result<(), NoMemory>
+    requires tree { IsTree (length store.now.store.cells) nodes.old.items }
+    requires left { IsTrue (names_below (length store.now.store.cells) (map the_place begin.now)) }
+    requires right { IsTrue (names_below (length store.now.store.cells) (map the_place whole.now)) }
+    requires long { has_short_steps logic ≡ false }
+    requires shown { shown ≤ length begin.now }
+    ensures { IfOk result (λ _. IsAsked store.now.store logic system.now.strings
+        (λ σ. label_by σ (map the_place begin.now) ≡ label_by σ (map the_place whole.now))
+        nodes.old.items nodes.new.items pairs.old.items pairs.new.items) }
+{
+    let left = reach_first(unifier, store, logic, system, nodes, begin, shown)?;
+    let right = reach(unifier, store, logic, system, nodes, whole)?;
+    pairs.push((left, right))?;
+    Ok(())
+}
+
+// Adds what the equation asks where strings that stand in no other label are left out: then the
+// rest of the one label begins the other one.
+fn ask_shortly(
+    unifier: &mut Unifier,
+    store: &Store,
+    logic: Logic,
+    system: &System,
+    nodes: &mut Vec<Node>,
+    pairs: &mut Vec<(usize, usize)>,
+    uses: &Uses,
+    e: &Equation,
+) -> Result<(), NoMemory>
+    requires tree { IsTree (length store.now.store.cells) nodes.old.items }
+    requires fits { IsTrue (is_equation store.now.store (the_equation e.now)) }
+    requires named { IsNamedEquation store.now.store system.now.strings (the_equation e.now) }
+    requires long { has_short_steps logic ≡ false }
+    ensures { IfOk result (λ _. IsAsked store.now.store logic system.now.strings
+        (λ σ. AreEqual σ (the_equation e.now)) nodes.old.items nodes.new.items pairs.old.items
+        pairs.new.items) }
+{
+    let left = e.left.items();
+    let right = e.right.items();
+    let kept = uses.shown(store, left);
+    if kept < left.len() {
+        ask_begin(
+            unifier, store, logic, system, nodes, pairs, left, kept, right,
+        )?;
+        return Ok(());
+    }
+    let kept_right = uses.shown(store, right);
+    if kept_right < right.len() {
+        ask_begin(
+            unifier, store, logic, system, nodes, pairs, right, kept_right, left,
+        )?;
+        return Ok(());
+    }
+    ask_equation(unifier, store, logic, system, nodes, pairs, e)?;
+    Ok(())
+}
+
+// The same for all equations.
+fn ask_all_shortly(
+    unifier: &mut Unifier,
+    store: &Store,
+    logic: Logic,
+    system: &System,
+    nodes: &mut Vec<Node>,
+    pairs: &mut Vec<(usize, usize)>,
+    uses: &Uses,
+) -> Result<(), NoMemory>
+    requires tree { IsTree (length store.now.store.cells) nodes.old.items }
+    requires fits { IsTrue (is_system store.now.store (the_system system.now)) }
+    requires named { NamesItsStrings store.now.store (the_system system.now) }
+    requires long { has_short_steps logic ≡ false }
+    ensures { IfOk result (λ _. IsAsked store.now.store logic system.now.strings
+        (λ σ. AllByRecursion (AreEqual σ) system.now.equations) nodes.old.items nodes.new.items
+        pairs.old.items pairs.new.items) }
+{
+    let equations = system.equations.items();
+    for i in 0..equations.len() {
+        let e = equation_at(equations, i);
+        ask_shortly(unifier, store, logic, system, nodes, pairs, uses, e)?;
+    }
+    Ok(())
+}
+
+// Adds what all equations ask. Strings of any length that stand in one label alone, at its end, ask
+// nothing.
+pub(crate) fn ask_needed(
+    alloc: Global,
+    unifier: &mut Unifier,
+    store: &Store,
+    logic: Logic,
+    system: &System,
+    nodes: &mut Vec<Node>,
+    pairs: &mut Vec<(usize, usize)>,
+) -> Result<(), NoMemory>
+    requires tree { IsTree (length store.now.store.cells) nodes.old.items }
+    requires fits { IsTrue (is_system store.now.store (the_system system.now)) }
+    requires named { NamesItsStrings store.now.store (the_system system.now) }
+    ensures { IfOk result (λ _. IsAsked store.now.store logic system.now.strings
+        (λ σ. AllByRecursion (AreEqual σ) system.now.equations) nodes.old.items nodes.new.items
+        pairs.old.items pairs.new.items) }
+{
+    if has_short_steps(logic) {
+        ask_equations(unifier, store, logic, system, nodes, pairs)?;
+        return Ok(());
+    }
+    let uses = Uses::of(alloc, system.equations.items())?;
+    ask_all_shortly(unifier, store, logic, system, nodes, pairs, &uses)?;
     Ok(())
 }
 

@@ -26,7 +26,15 @@ pub(crate) fn item_of(step: Step) -> Option<Ref>
     }
 }
 
-// Whether the bindings make both steps the same.
+fn is_mark_step(step: Step) -> bool {
+    match step {
+        Step::Mark(_) => true,
+        Step::Root | Step::Short(_) | Step::Long(_) => false,
+    }
+}
+
+// Whether the bindings make both steps the same. Strings of which one is not bound are the same
+// only where they are one.
 pub(crate) fn are_same_steps(
     unifier: &mut Unifier,
     store: &Store,
@@ -44,6 +52,12 @@ pub(crate) fn are_same_steps(
     let Some(q) = item_of(b) else {
         return Ok(false);
     };
+    if r.0 == q.0 {
+        return Ok(true);
+    }
+    if !is_mark_step(a) || !is_mark_step(b) {
+        return Ok(false);
+    }
     let same = unifier.are_same(store, r, q)?;
     Ok(same)
 }

@@ -18,6 +18,7 @@ mod rules;
 mod same;
 mod solving;
 mod trying;
+mod uses;
 
 pub use refuting::is_refuted;
 pub use solving::{Solved, solve};

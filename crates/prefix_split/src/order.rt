@@ -5,7 +5,7 @@ ghost use Rattle.calculus.specs.Ground.{GroundMark};
 ghost use Rattle.prefix_split.specs.Beginnings.{Begins, Holds, IsRelated, IsShorter};
 ghost use Rattle.prefix_split.specs.Beginnings.{joined};
 
-use crate::bit_table::BitTable;
+use crate::bit_table::{BitTable, first_from};
 use cop_base::NoMemory;
 use std::alloc::Global;
 
@@ -35,7 +35,7 @@ pub(crate) struct LabelOrder {
 }
 
 // What two relations in a row give.
-fn joined(a: Relation, b: Relation) -> Relation
+pub(crate) fn joined(a: Relation, b: Relation) -> Relation
     ensures { result ≡ joined a b }
 {
     match (a, b) {
@@ -214,7 +214,11 @@ impl LabelOrder {
             → Holds value self.old → Holds value self.new }
     {
         let before = self.relation(x, u);
-        self.add_row(x, v, joined(before, r));
+        let after = joined(before, r);
+        if !self.is_new(x, v, after) {
+            return;
+        }
+        self.add_row(x, v, after);
         self.compare(x);
     }
 
@@ -279,25 +283,54 @@ impl LabelOrder {
         self.list_all_below(u, v);
     }
 
+    // Adds what is known of two nodes alone.
+    pub(crate) fn set(&mut self, x: usize, u: usize, r: Relation)
+        ensures { (value : ℕ → List GroundMark) → IsRelated r (value x) (value u)
+            → Holds value self.old → Holds value self.new }
+    {
+        match r {
+            Relation::Unknown => {}
+            Relation::Weak => self.set_weak(x, u),
+            Relation::Strict => self.set_strict(x, u),
+        }
+    }
+
+    fn set_weak(&mut self, x: usize, u: usize)
+        ensures { (value : ℕ → List GroundMark) → Begins (value x) (value u)
+            → Holds value self.old → Holds value self.new }
+    {
+        self.above.set(x, u);
+    }
+
+    fn set_strict(&mut self, x: usize, u: usize)
+        ensures { (value : ℕ → List GroundMark) → IsShorter (value x) (value u)
+            → Holds value self.old → Holds value self.new }
+    {
+        self.above.set(x, u);
+        self.shorter.set(x, u);
+    }
+
+    // Lists y as a child of u, and what begins u as what begins y.
     pub(crate) fn add_child(&mut self, u: usize, y: usize)
         ensures { (value : ℕ → List GroundMark) → Holds value self.old → Holds value self.new }
     {
         self.children.set(u, y);
+        self.list_below(y, u);
     }
 
     // The first node from this one on that u begins.
     pub(crate) fn next_above(&self, u: usize, from: usize) -> Option<usize> {
-        self.above.next_with(u, &self.above, u, from)
+        self.above.next(u, from)
     }
 
     // The first node from this one on that begins u.
     pub(crate) fn next_below(&self, u: usize, from: usize) -> Option<usize> {
-        self.below.next_with(u, &self.below, u, from)
+        self.below.next(u, from)
     }
 
     // The first child of u from this node on.
     pub(crate) fn next_child(&self, u: usize, from: usize) -> Option<usize> {
-        self.children.next_with(u, &self.children, u, from)
+        self.children.next(u, from)
     }
 
     // The first node from this one on that has the label of u.
@@ -310,9 +343,40 @@ impl LabelOrder {
         self.below.next_without(y, &self.below, x, from)
     }
 
-    // The first node from this one on than which x is shorter, and which y is not known to begin.
-    pub(crate) fn next_longer(&self, x: usize, y: usize, from: usize) -> Option<usize> {
-        self.shorter.next_without(x, &self.above, y, from)
+    // What begins a node that y begins, by word k of the rows.
+    fn below_above(&self, y: usize, k: usize) -> u64 {
+        let mut all = 0;
+        let mut from = 0;
+        for _ in 0..self.count {
+            let Some(w) = self.next_above(y, from) else {
+                return all;
+            };
+            all |= self.below.word(w, k);
+            from = w.saturating_add(1);
+        }
+        all
+    }
+
+    // The nodes than which x is shorter, which y is not known to begin, and which begin a node that
+    // y begins, by word k of the rows.
+    fn gaps(&self, x: usize, y: usize, k: usize) -> u64 {
+        let longer = self.shorter.word(x, k) & !self.above.word(y, k);
+        if longer == 0 {
+            return 0;
+        }
+        longer & self.below_above(y, k)
+    }
+
+    // The first of them from this one on.
+    pub(crate) fn next_gap(&self, x: usize, y: usize, from: usize) -> Option<usize> {
+        let mut start = from % 64;
+        for k in from / 64..self.above.width() {
+            if let Some(place) = first_from(self.gaps(x, y, k), start) {
+                return Some(k.saturating_mul(64).saturating_add(place));
+            }
+            start = 0;
+        }
+        None
     }
 
     // A node that both begin.

@@ -10,14 +10,15 @@ ghost use Rattle.calculus.specs.Systems.{is_system};
 ghost use Rattle.term_store.specs.Asking.{Asks};
 ghost use Rattle.term_store.specs.Room.{KeepsRoom};
 ghost use Rattle.term_store.specs.SystemView.{the_system};
-ghost use Rattle.prefix_split.specs.Beginnings.{AllBegin, AreValues, Holds, Keeps, NodesFit};
+ghost use Rattle.prefix_split.specs.Beginnings.{AllBegin, AreValues, Holds, IsRelated};
+ghost use Rattle.prefix_split.specs.Beginnings.{Keeps, NodesFit};
 ghost use Rattle.prefix_split.specs.Growing.{HasRoot, step_relation};
 
 use crate::choosing::choose;
-use crate::growing::{ask_equations, ask_homes};
+use crate::growing::{ask_equations, ask_homes, ask_needed};
 use crate::joining::settle;
 use crate::node::{Node, Step};
-use crate::order::{LabelOrder, Relation};
+use crate::order::{LabelOrder, Relation, joined};
 use crate::rules::node_at;
 use calculus::setting::Logic;
 use cop_base::NoMemory;
@@ -37,6 +38,26 @@ fn step_relation(step: Step) -> Relation
     }
 }
 
+// What begins the parent of u begins u too. The parent is so related to u.
+fn add_above(order: &mut LabelOrder, nodes: &[Node], parent: usize, u: usize, related: Relation)
+    ensures { (σ : Solution) (value : ℕ → List GroundMark) → AreValues σ value nodes.now
+        → IsRelated related (value parent) (value u) → Holds value order.old
+        → Holds value order.new }
+{
+    let mut x = parent;
+    let mut r = related;
+    for _ in 0..nodes.len() {
+        order.set(x, u, r);
+        if x == 0 || x >= nodes.len() {
+            return;
+        }
+        let above = node_at(nodes, x);
+        let before = step_relation(above.step);
+        r = joined(before, r);
+        x = above.parent;
+    }
+}
+
 // A label's parent begins it.
 fn add_node(order: &mut LabelOrder, nodes: &[Node], u: usize)
     requires { u < length nodes.now }
@@ -44,7 +65,7 @@ fn add_node(order: &mut LabelOrder, nodes: &[Node], u: usize)
 {
     let node = node_at(nodes, u);
     let r = step_relation(node.step);
-    order.add(node.parent, u, r);
+    add_above(order, nodes, node.parent, u, r);
     order.add_child(node.parent, u);
 }
 
@@ -191,7 +212,15 @@ pub fn is_refuted(
     let mut unifier = Unifier::new(alloc);
     let mut nodes = root(alloc)?;
     let mut pairs = Vec::new(alloc);
-    ask_equations(&mut unifier, store, logic, system, &mut nodes, &mut pairs)?;
+    ask_needed(
+        alloc,
+        &mut unifier,
+        store,
+        logic,
+        system,
+        &mut nodes,
+        &mut pairs,
+    )?;
     let order = settled(alloc, &mut unifier, store, &nodes, &pairs)?;
     Ok(order.is_refuted)
 }

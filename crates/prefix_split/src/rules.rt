@@ -84,7 +84,7 @@ fn close_gaps(order: &mut LabelOrder, nodes: &[Node], y: usize, x: usize)
 {
     let mut from = 0;
     for _ in 0..nodes.len() {
-        let Some(z) = order.next_longer(x, y, from) else {
+        let Some(z) = order.next_gap(x, y, from) else {
             return;
         };
         close_gap_with(order, nodes, y, z);

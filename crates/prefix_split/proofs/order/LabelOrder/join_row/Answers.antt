@@ -6,5 +6,5 @@ use Rattle.prefix_split.proofs.order.LabelOrder.join_row.Goals as goal
 pub returns : goal.returns
 returns c = λ value b h.
     let before = c.relation-before.result in
-    let related = subst (λ r. IsRelated r (value c.args.x) (value c.args.v)) (sym c.joined.ensures) (joined-related before c.args.r (value c.args.x) (value c.args.u) (value c.args.v) (c.relation-before.ensures value h) b) in
+    let related = subst (λ r. IsRelated r (value c.args.x) (value c.args.v)) (sym c.joined-after.ensures) (joined-related before c.args.r (value c.args.x) (value c.args.u) (value c.args.v) (c.relation-before.ensures value h) b) in
     c.compare.ensures value (c.add_row.ensures value related h)
