@@ -1,3 +1,4 @@
 pub mod DomainExampleLaws
 pub mod DoublingLaws
 pub mod PrefixExampleLaws
+pub mod RootLaws

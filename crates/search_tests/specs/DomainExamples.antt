@@ -1,39 +1,30 @@
--- The problem `p` in D, a system that asks nothing, and one with gamma terms that are one variable.
-use Rattle.std.specs.Prelude.{List, ℕ, [], ◌∷◌, Bool, None, IsTrue, codes, if◌then◌else◌}
-use Rattle.calculus.specs.declared.sort.Sort.TheVariants.{TermSort}
-use Rattle.calculus.specs.Stores.{GammaCell, Store, new_cell, variable}
-use Rattle.calculus.specs.declared.symbol.SymbolClass.TheVariants.{Predicate}
-use Rattle.calculus.specs.declared.setting.Logic.TheVariants.{D}
+-- The problem (![X]:#box:p) => #box:![X]:p in T, with a constant or without one, and patterns over two variables.
+use Rattle.std.specs.Prelude.{List, ℕ, [], ◌∷◌, IsTrue, codes}
 use Rattle.calculus.specs.declared.setting.Domains.{Domains}
+use Rattle.calculus.specs.declared.setting.Logic.TheVariants.{T}
+use Rattle.calculus.specs.declared.sort.Sort.{Sort}
+use Rattle.calculus.specs.declared.sort.Sort.TheVariants.{TermSort}
+use Rattle.calculus.specs.declared.symbol.SymbolClass.TheVariants.{Function}
 use Rattle.calculus.specs.Problems.{is_problem}
+use Rattle.calculus.specs.Stores.{Store}
 use Rattle.calculus.specs.Syntax as tree
-use Rattle.calculus.specs.Systems.{System}
+use Rattle.example_problems.specs.Examples.{p, predicate, symbol_named}
 
-abbrev pub predicate : tree.Symbol
-predicate = record { name = codes "p"; class = Predicate; arity = 0 }
+-- the function symbol has this arity
+abbrev pub two_symbols : ℕ → List tree.Symbol
+two_symbols n = predicate 0 ∷ symbol_named (codes "c") Function n ∷ []
 
-abbrev pub example : Domains → tree.Problem
-example d = record { setting = tree.setting_of D d; formula = tree.atom 0 tree.no_terms; symbols = predicate ∷ [] }
+abbrev pub boxes : tree.Formula
+boxes = tree.imp (tree.all (tree.box p)) (tree.box (tree.all p))
 
-abbrev pub IsExample : Domains → Type 0
-IsExample d = IsTrue (is_problem (example d))
+abbrev pub example : Domains → ℕ → tree.Problem
+example d n = record { setting = tree.setting_of T d; formula = boxes; symbols = two_symbols n }
 
-abbrev pub nothing_asked : System
-nothing_asked = record { equations = []; strings = []; pis = 0; gammas = []; pairs = [] }
+abbrev pub IsExample : Domains → ℕ → Type 0
+IsExample d n = IsTrue (is_problem (example d n))
 
-abbrev pub values_of : Bool → List ℕ
-values_of is_over = if is_over then 0 ∷ [] else []
+abbrev pub two_terms : List Sort
+two_terms = TermSort ∷ TermSort ∷ []
 
--- a variable, and a mark that may be over it
-abbrev pub cells_asked : Bool → Store
-cells_asked is_over = record { cells = variable TermSort None ∷ new_cell 0 (values_of is_over) ∷ []; trail = [] }
-
-abbrev pub at_mark : GammaCell
-at_mark = record { term = 0; label = 1 ∷ [] }
-
-abbrev pub at_root : GammaCell
-at_root = record { term = 0; label = [] }
-
--- the variable stands at the mark, and maybe at the root too
-abbrev pub terms_asked : Bool → System
-terms_asked both = record { equations = []; strings = []; pis = 0; gammas = at_mark ∷ (if both then at_root ∷ [] else []); pairs = [] }
+abbrev pub empty_store : Store
+empty_store = record { cells = []; trail = [] }

@@ -1,5 +1,4 @@
 -- what the tests build
-pub mod MatrixExamples
 pub mod DomainExamples
 pub mod PrefixExamples
 pub mod SearchExamples

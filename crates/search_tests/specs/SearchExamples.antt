@@ -1,17 +1,14 @@
 -- Problems that the tests build, over a predicate p, a constant a and a function f.
 use Rattle.std.specs.Prelude.{◌≡◌, ℕ, zero, suc, List, [], ◌∷◌, IsTrue, codes, true}
-use Rattle.calculus.specs.declared.symbol.SymbolClass.{SymbolClass}
-use Rattle.calculus.specs.declared.symbol.SymbolClass.TheVariants.{Function, Predicate}
+use Rattle.calculus.specs.declared.symbol.SymbolClass.TheVariants.{Function}
 use Rattle.calculus.specs.declared.setting.Domains.TheVariants.{Constant}
 use Rattle.calculus.specs.declared.setting.Logic.{Logic}
 use Rattle.calculus.specs.Problems.{is_problem}
 use Rattle.calculus.specs.Syntax as tree
-
-abbrev pub named : List ℕ → SymbolClass → ℕ → tree.Symbol
-named name class arity = record { name = name; class = class; arity = arity }
+use Rattle.example_problems.specs.Examples.{p_of, predicate, symbol_named}
 
 abbrev pub symbols : List tree.Symbol
-symbols = named (codes "p") Predicate 1 ∷ named (codes "a") Function 0 ∷ named (codes "f") Function 1 ∷ []
+symbols = predicate 1 ∷ symbol_named (codes "a") Function 0 ∷ symbol_named (codes "f") Function 1 ∷ []
 
 -- with constant domains
 abbrev pub example : Logic → tree.Formula → tree.Problem
@@ -19,13 +16,6 @@ example l f = record { setting = tree.setting_of l Constant; formula = f; symbol
 
 abbrev pub IsExample : Logic → tree.Formula → Type 0
 IsExample l f = IsTrue (is_problem (example l f))
-
-abbrev pub p_of : tree.Term → tree.Formula
-p_of t = tree.atom 0 (tree.more_terms t tree.no_terms)
-
--- ?[X]:![Y]:(p(X) => p(Y))
-abbrev pub drinker : tree.Formula
-drinker = tree.ex (tree.all (tree.imp (p_of (tree.var 1)) (p_of (tree.var 0))))
 
 -- ?[X]:p(X) => ![X]:p(X)
 abbrev pub converse : tree.Formula

@@ -1,155 +1,353 @@
-//! What the conditions ask of systems with no gamma term, with one and with two.
+//! What the conditions ask of terms at labels, for (![X]:#box:p) => #box:![X]:p.
 
-ghost use Rattle.std.specs.Prelude.{◌≡◌, ◌++◌, ◌∷◌, [], Contains, IfOk, if◌then◌else◌};
-ghost use Rattle.calculus.specs.declared.setting.Domains.TheVariants.{Constant};
-ghost use Rattle.formula_core.specs.SymbolView.{the_symbol};
+ghost use Rattle.std.specs.Prelude.{◌≡◌, IfOk, IsTrue, OnOk};
+ghost use Rattle.std.specs.List.{list_all};
+ghost use Rattle.calculus.specs.declared.setting.Domains.TheVariants.{Constant, Cumulative};
+ghost use Rattle.calculus.specs.declared.setting.Domains.TheVariants.{Varying};
+ghost use Rattle.calculus.specs.declared.sort.Sort.TheVariants.{MarkSort, TermSort};
+ghost use Rattle.calculus.specs.Patterns.{gamma_fits, is_label_pattern, pattern_fits};
+ghost use Rattle.calculus.specs.Patterns.{template_fits};
+ghost use Rattle.calculus.specs.Systems.{HasBuiltStrings, HasNoOpenString, is_system};
+ghost use Rattle.formula_core.specs.FormulaView.{the_formula};
+ghost use Rattle.term_store.specs.PatternView.{the_pattern};
 ghost use Rattle.term_store.specs.SystemView.{the_system};
-ghost use Rattle.search_tests.specs.DomainExamples.{IsExample, at_mark, at_root, cells_asked};
-ghost use Rattle.search_tests.specs.DomainExamples.{example, nothing_asked, predicate, terms_asked};
-ghost use Rattle.term_store.specs.ClauseView.{the_gamma};
+ghost use Rattle.term_store.specs.TemplateView.{the_template};
+ghost use Rattle.search_tests.specs.DomainExamples.{IsExample, boxes, empty_store, example};
+ghost use Rattle.search_tests.specs.DomainExamples.{two_symbols, two_terms};
 
-use cop_base::{NoMemory, PosId, SymbolId, Text};
-use domain_cond::{ConstantDemand, VaryingDemand};
-use formula_core::{AddFault, Formula, Symbol, SymbolClass, Symbols, Terms};
+use cop_base::{NoMemory, PosId, SymbolId};
+use domain_cond::{ConstantDemand, CumulativeDemand, VaryingDemand};
+use example_problems::{add, plain};
+use formula_core::{Formula, SymbolClass, Symbols};
 use logic_rules::{Domains, Logic, Problem, Setting};
 use std::alloc::Global;
 use std::test::Fail;
 use term_store::{
-    Demand, EquationList, GammaList, GammaUse, PairList, Prefix, Ref, RefList, Sort, Store, System,
+    Demand, Equation, EquationList, HomeList, PairList, Pattern, PatternAtomList, PatternGamma,
+    PatternGammaList, Patterns, RefList, Sort, SortList, Store, System, Template,
 };
 
-fn symbol(alloc: Global) -> Result<Symbol, NoMemory>
-    ensures { IfOk result (λ s. the_symbol s ≡ predicate) }
-{
-    let name = Text::new(alloc, b"p")?;
-    Ok(Symbol {
-        name,
-        class: SymbolClass::Predicate,
-        arity: 0,
-    })
-}
+// ---- the problem
 
-fn add(symbols: &mut Symbols, s: Symbol) -> Result<(), NoMemory>
-    requires { ¬ (Contains symbols.old (the_symbol s)) }
-    ensures { IfOk result (λ _. symbols.new ≡ symbols.old ++ the_symbol s ∷ []) }
+// The predicate symbol `p`, and the function symbol `c` of this arity.
+fn symbols(alloc: Global, arity: u32) -> Result<Symbols, NoMemory>
+    ensures { IfOk result (λ s. s ≡ two_symbols arity) }
 {
-    match symbols.add(s) {
-        Ok(_) => Ok(()),
-        Err(AddFault::Full | AddFault::NoMemory) => Err(NoMemory),
-    }
-}
-
-fn problem(alloc: Global, domains: Domains) -> Result<Problem, NoMemory>
-    requires { IsExample domains }
-    ensures { IfOk result (λ p. p ≡ example domains) }
-{
-    let p = symbol(alloc)?;
     let mut symbols = Symbols::new(alloc);
-    add(&mut symbols, p)?;
-    let formula = Formula::Atom(SymbolId(0), Terms::new(alloc));
-    Ok(Problem::new(Setting::new(Logic::D, domains), formula, symbols))
+    add(alloc, &mut symbols, b"p", SymbolClass::Predicate, 0)?;
+    add(alloc, &mut symbols, b"c", SymbolClass::Function, arity)?;
+    Ok(symbols)
 }
 
-fn system(alloc: Global) -> System
-    ensures { the_system result ≡ nothing_asked }
+fn formula(alloc: Global) -> Result<Formula, NoMemory>
+    ensures { IfOk result (λ f. the_formula f ≡ boxes) }
 {
-    System {
-        equations: EquationList::new(alloc),
-        strings: RefList::new(alloc),
-        pis: 0,
-        gammas: GammaList::new(alloc),
-        pairs: PairList::new(alloc),
+    let left = Formula::nec(alloc, plain(alloc, 0))?;
+    let left = Formula::all(alloc, left)?;
+    let right = Formula::all(alloc, plain(alloc, 0))?;
+    let right = Formula::nec(alloc, right)?;
+    let formula = Formula::imp(alloc, left, right)?;
+    Ok(formula)
+}
+
+// With an arity of 0 the problem has a constant.
+fn problem(alloc: Global, domains: Domains, arity: u32) -> Result<Problem, NoMemory>
+    requires { IsExample domains arity }
+    ensures { IfOk result (λ p. p ≡ example domains arity) }
+{
+    let formula = formula(alloc)?;
+    let symbols = symbols(alloc, arity)?;
+    Ok(Problem::new(Setting::new(Logic::T, domains), formula, symbols))
+}
+
+// ---- terms at labels
+
+// The box on the right, whose mark is the home of the eigenvariable.
+const BOX: u32 = 4;
+
+// Another position.
+const OTHER: u32 = 3;
+
+// Two variables, a constant, and the eigenvariable of the quantifier on the right.
+#[derive(Clone, Copy)]
+enum Name {
+    First,
+    Second,
+    Constant,
+    Eigen,
+}
+
+// The empty label, the home of the eigenvariable, another mark, both, and a mark over a variable.
+#[derive(Clone, Copy)]
+enum At {
+    Root,
+    Home,
+    Other,
+    Inside,
+    OverFirst,
+    OverSecond,
+}
+
+fn term(alloc: Global, name: Name) -> Pattern
+    ensures { IsTrue (pattern_fits two_terms TermSort (the_pattern result)) }
+{
+    match name {
+        Name::First => Pattern::Var(0),
+        Name::Second => Pattern::Var(1),
+        Name::Constant => {
+            let none = Patterns::new(alloc);
+            Pattern::Fun(SymbolId(1), none)
+        }
+        Name::Eigen => {
+            let none = Patterns::new(alloc);
+            Pattern::Eigen(PosId(5), none)
+        }
     }
 }
 
-// Whether constant domains have an equation for the system without gamma terms.
-#[tactic(auto, using(crate::proofs::DomainExampleLaws::examples))]
-fn constant_asks(alloc: Global) -> Result<bool, NoMemory> {
-    let problem = problem(alloc, Domains::Constant)?;
-    let system = system(alloc);
-    let mut store = Store::new(alloc)?;
-    let mut demand = ConstantDemand::new(&problem);
-    let equation = demand.next(&mut store, &system)?;
-    Ok(equation.is_some())
+fn mark(alloc: Global, p: u32) -> Pattern
+    ensures { IsTrue (pattern_fits two_terms MarkSort (the_pattern result)) }
+{
+    let none = Patterns::new(alloc);
+    Pattern::New(PosId(p), none)
 }
 
-#[test]
-fn constant_domains_ask_nothing(rt: HostRuntime) -> Result<(), Fail> {
-    assert!(rt; !constant_asks(rt.alloc())?);
+fn mark_over(alloc: Global, name: Name) -> Result<Pattern, NoMemory>
+    ensures { IfOk result (λ p. IsTrue (pattern_fits two_terms MarkSort (the_pattern p))) }
+{
+    let mut values = Patterns::new(alloc);
+    values.push(term(alloc, name))?;
+    Ok(Pattern::New(PosId(OTHER), values))
+}
+
+fn add_mark(label: &mut Patterns, mark: Pattern) -> Result<(), NoMemory>
+    requires label { IsTrue (is_label_pattern two_terms label.old) }
+    requires mark { IsTrue (pattern_fits two_terms MarkSort (the_pattern mark)) }
+    ensures { OnOk result (IsTrue (is_label_pattern two_terms label.new)) }
+{
+    label.push(mark)?;
     Ok(())
 }
 
-fn cells(alloc: Global, is_over: bool) -> Result<Store, NoMemory>
-    ensures { IfOk result (λ s. s.store ≡ cells_asked is_over) }
+fn label(alloc: Global, at: At) -> Result<Patterns, NoMemory>
+    ensures { IfOk result (λ label. IsTrue (is_label_pattern two_terms label)) }
 {
-    let mut store = Store::new(alloc)?;
-    store.reserve(1)?;
-    let variable = store.fresh(Sort::TermSort);
-    let values = [variable];
-    let values = if is_over { &values[..] } else { &[] };
-    store.new_mark(PosId(0), values)?;
-    Ok(store)
-}
-
-fn gamma_at_root(alloc: Global) -> GammaUse
-    ensures { the_gamma result ≡ at_root }
-{
-    GammaUse {
-        term: Ref(0),
-        label: Prefix::new(alloc),
+    let mut label = Patterns::new(alloc);
+    match at {
+        At::Root => Ok(label),
+        At::Home => {
+            add_mark(&mut label, mark(alloc, BOX))?;
+            Ok(label)
+        }
+        At::Other => {
+            add_mark(&mut label, mark(alloc, OTHER))?;
+            Ok(label)
+        }
+        At::Inside => {
+            add_mark(&mut label, mark(alloc, BOX))?;
+            add_mark(&mut label, mark(alloc, OTHER))?;
+            Ok(label)
+        }
+        At::OverFirst => {
+            let mark = mark_over(alloc, Name::First)?;
+            add_mark(&mut label, mark)?;
+            Ok(label)
+        }
+        At::OverSecond => {
+            let mark = mark_over(alloc, Name::Second)?;
+            add_mark(&mut label, mark)?;
+            Ok(label)
+        }
     }
 }
 
-fn gamma_at_mark(alloc: Global) -> Result<GammaUse, NoMemory>
-    ensures { IfOk result (λ g. the_gamma g ≡ at_mark) }
+fn gammas(alloc: Global, items: &[(Name, At)]) -> Result<PatternGammaList, NoMemory>
+    ensures { IfOk result (λ gs. IsTrue (list_all (gamma_fits two_terms) gs)) }
 {
-    let mut label = Prefix::new(alloc);
-    label.push(Ref(1))?;
-    Ok(GammaUse {
-        term: Ref(0),
-        label,
-    })
-}
-
-fn gammas(alloc: Global, both: bool) -> Result<GammaList, NoMemory>
-    ensures { IfOk result (λ gs. gs ≡ at_mark ∷ (if both then at_root ∷ [] else [])) }
-{
-    let mut gammas = GammaList::new(alloc);
-    gammas.push(gamma_at_mark(alloc)?)?;
-    if both {
-        gammas.push(gamma_at_root(alloc))?;
+    let mut gammas = PatternGammaList::new(alloc);
+    for item in items {
+        let label = label(alloc, item.1)?;
+        let term = term(alloc, item.0);
+        gammas.push(PatternGamma { term, label })?;
     }
     Ok(gammas)
 }
 
-fn terms(alloc: Global, both: bool) -> Result<System, NoMemory>
-    ensures { IfOk result (λ y. the_system y ≡ terms_asked both) }
+fn sorts(alloc: Global) -> Result<SortList, NoMemory>
+    ensures { IfOk result (λ sorts. sorts ≡ two_terms) }
 {
-    let gammas = gammas(alloc, both)?;
-    Ok(System {
-        equations: EquationList::new(alloc),
-        strings: RefList::new(alloc),
+    let mut sorts = SortList::new(alloc);
+    sorts.push(Sort::TermSort)?;
+    sorts.push(Sort::TermSort)?;
+    Ok(sorts)
+}
+
+fn template(alloc: Global, items: &[(Name, At)]) -> Result<Template, NoMemory>
+    ensures fits { IfOk result (λ t. IsTrue (template_fits (the_template t))) }
+    ensures sorts { IfOk result (λ t. t.sorts ≡ two_terms) }
+{
+    let gammas = gammas(alloc, items)?;
+    let sorts = sorts(alloc)?;
+    let literals = PatternAtomList::new(alloc);
+    let strings = Patterns::new(alloc);
+    Ok(Template {
+        literals,
+        strings,
         pis: 0,
         gammas,
-        pairs: PairList::new(alloc),
+        sorts,
     })
 }
 
-// Whether varying domains have an equation for a variable at a mark that may be over it, and maybe
-// at the root too. There is no constant.
-fn varying_asks(alloc: Global, is_over: bool, both: bool) -> Result<bool, NoMemory> {
-    let problem = problem(alloc, Domains::Varying)?;
-    let mut store = cells(alloc, is_over)?;
-    let system = terms(alloc, both)?;
-    let mut demand = VaryingDemand::new(alloc, &problem)?;
+fn system(alloc: Global, store: &mut Store, items: &[(Name, At)]) -> Result<System, NoMemory>
+    requires { store.old.store ≡ empty_store }
+    ensures fits { IfOk result (λ y. IsTrue (is_system store.new.store (the_system y))) }
+    ensures built { IfOk result (λ y. HasBuiltStrings store.new.store (the_system y)) }
+    ensures no_string { IfOk result (λ y. HasNoOpenString store.new.store (the_system y)) }
+{
+    let template = template(alloc, items)?;
+    let clause = store.copy_clause(&template)?;
+    let equations = EquationList::new(alloc);
+    let strings = RefList::new(alloc);
+    let pairs = PairList::new(alloc);
+    Ok(System {
+        equations,
+        strings,
+        pis: 0,
+        gammas: clause.gammas,
+        pairs,
+    })
+}
+
+// ---- what is asked
+
+// How many items the sides of an equation have.
+type Sides = (usize, usize);
+
+fn are_sides(equation: Option<Equation>, sides: Option<Sides>) -> bool {
+    match equation {
+        Some(e) => match sides {
+            Some((left, right)) => e.left.items().len() == left && e.right.items().len() == right,
+            None => false,
+        },
+        None => sides.is_none(),
+    }
+}
+
+fn asks<M: Demand>(
+    alloc: Global,
+    demand: &mut M,
+    items: &[(Name, At)],
+    sides: Option<Sides>,
+) -> Result<bool, NoMemory> {
+    let mut store = Store::new(alloc)?;
+    let system = system(alloc, &mut store, items)?;
     let equation = demand.next(&mut store, &system)?;
-    Ok(equation.is_some())
+    Ok(are_sides(equation, sides))
+}
+
+fn constant_asks(
+    alloc: Global,
+    items: &[(Name, At)],
+    sides: Option<Sides>,
+) -> Result<bool, NoMemory> {
+    let problem = problem(alloc, Domains::Constant, 1)?;
+    let mut demand = ConstantDemand::new(&problem);
+    asks(alloc, &mut demand, items, sides)
+}
+
+fn cumulative_asks(
+    alloc: Global,
+    items: &[(Name, At)],
+    sides: Option<Sides>,
+) -> Result<bool, NoMemory> {
+    let problem = problem(alloc, Domains::Cumulative, 1)?;
+    let mut demand = CumulativeDemand::new(alloc, &problem)?;
+    asks(alloc, &mut demand, items, sides)
+}
+
+fn varying_asks(
+    alloc: Global,
+    arity: u32,
+    items: &[(Name, At)],
+    sides: Option<Sides>,
+) -> Result<bool, NoMemory>
+    requires { IsExample Domains.Varying arity }
+{
+    let problem = problem(alloc, Domains::Varying, arity)?;
+    let mut demand = VaryingDemand::new(alloc, &problem)?;
+    asks(alloc, &mut demand, items, sides)
+}
+
+// Whether there is one home, and its label is equal to it.
+fn is_one_home(homes: &HomeList, is_whole: bool) -> bool {
+    let homes = homes.items();
+    homes.len() == 1 && homes[0].home.items().len() == 1 && homes[0].is_whole == is_whole
+}
+
+fn forces_home<M: Demand>(
+    alloc: Global,
+    demand: &M,
+    items: &[(Name, At)],
+    is_whole: bool,
+) -> Result<bool, NoMemory> {
+    let mut store = Store::new(alloc)?;
+    let system = system(alloc, &mut store, items)?;
+    let homes = demand.homes(alloc, &mut store, &system)?;
+    Ok(is_one_home(&homes, is_whole))
+}
+
+fn cumulative_forces_home(alloc: Global, items: &[(Name, At)]) -> Result<bool, NoMemory> {
+    let problem = problem(alloc, Domains::Cumulative, 1)?;
+    let demand = CumulativeDemand::new(alloc, &problem)?;
+    forces_home(alloc, &demand, items, false)
+}
+
+fn varying_forces_home(alloc: Global, items: &[(Name, At)]) -> Result<bool, NoMemory> {
+    let problem = problem(alloc, Domains::Varying, 1)?;
+    let demand = VaryingDemand::new(alloc, &problem)?;
+    forces_home(alloc, &demand, items, true)
 }
 
 #[test]
-fn varying_domains_ask_for_one_home(rt: HostRuntime) -> Result<(), Fail> {
-    assert!(rt; !varying_asks(rt.alloc(), false, false)?);
-    assert!(rt; varying_asks(rt.alloc(), false, true)?);
-    assert!(rt; varying_asks(rt.alloc(), true, false)?);
+fn names_stand_where_their_home_allows(rt: HostRuntime) -> Result<(), Fail> {
+    let alloc = rt.alloc();
+    for (at, cumulative, varying) in [
+        (At::Root, Some((1, 0)), Some((1, 0))),
+        (At::Home, None, None),
+        (At::Other, Some((1, 1)), Some((1, 1))),
+        (At::Inside, None, Some((1, 2))),
+    ] {
+        let items = [(Name::First, At::Other), (Name::Eigen, at)];
+        assert!(rt; constant_asks(alloc, &items, None)?);
+        assert!(rt; cumulative_asks(alloc, &items, cumulative)?);
+        assert!(rt; varying_asks(alloc, 0, &items, varying)?);
+        assert!(rt; cumulative_forces_home(alloc, &items)?);
+        assert!(rt; varying_forces_home(alloc, &items)?);
+    }
+    Ok(())
+}
+
+// The spare of a variable has one home and is not inside it, also by way of another (a ring of own
+// spares). A constant has no home. All that changes where the problem has a constant, or domains
+// are cumulative.
+#[test]
+fn own_spares_have_one_home_each(rt: HostRuntime) -> Result<(), Fail> {
+    let alloc = rt.alloc();
+    let (x, y, c) = (Name::First, Name::Second, Name::Constant);
+    let refused = Some((0, 1));
+    for (first, at, second, other, sides) in [
+        (c, At::Root, x, At::Other, refused),
+        (x, At::Root, y, At::Other, None),
+        (x, At::Root, x, At::Other, refused),
+        (x, At::OverSecond, y, At::Root, None),
+        (x, At::OverSecond, y, At::OverFirst, refused),
+        (x, At::OverFirst, y, At::Root, refused),
+    ] {
+        let items = [(first, at), (second, other)];
+        assert!(rt; varying_asks(alloc, 1, &items, sides)?);
+        assert!(rt; varying_asks(alloc, 0, &items, None)?);
+        assert!(rt; cumulative_asks(alloc, &items, None)?);
+    }
     Ok(())
 }

@@ -1,58 +1,22 @@
 //! Worked problems through the public calls.
 
-ghost use Rattle.std.specs.Prelude.{◌≡◌, ◌∷◌, [], IfOk};
-ghost use Rattle.calculus.specs.Syntax as tree;
+ghost use Rattle.example_problems.specs.Examples.{IsExample, drinker};
 ghost use Rattle.formula_core.specs.FormulaView.{the_formula};
-ghost use Rattle.search_tests.specs.MatrixExamples.{IsExample, p_of, predicate};
 
-use cop_base::{ClauseId, NoMemory, SymbolId, Text};
-use formula_core::{AddFault, Formula, Sign, Symbol, SymbolClass, Symbols, Term, Terms};
-use logic_rules::{Domains, Logic, Problem, Setting};
+use cop_base::{ClauseId, NoMemory, SymbolId};
+use example_problems::{drinker, problem};
+use formula_core::{Formula, Sign};
+use logic_rules::{Domains, Logic};
 use matrix_build::{Matrix, MatrixFault, Place, build_matrix};
 use std::alloc::Global;
 use std::test::Fail;
 use term_store::{Pattern, PatternAtom};
 
-fn one_symbol(alloc: Global) -> Result<Symbols, NoMemory>
-    ensures { IfOk result (λ s. s ≡ predicate ∷ []) }
-{
-    let mut symbols = Symbols::new(alloc);
-    let p = Symbol {
-        name: Text::new(alloc, b"p")?,
-        class: SymbolClass::Predicate,
-        arity: 1,
-    };
-    match symbols.add(p) {
-        Ok(_) => Ok(symbols),
-        Err(AddFault::Full | AddFault::NoMemory) => Err(NoMemory),
-    }
-}
-
 fn matrix_of(alloc: Global, logic: Logic, formula: Formula) -> Result<Matrix, MatrixFault>
-    requires { IsExample logic (the_formula formula) }
+    requires { IsExample logic Domains.Constant (the_formula formula) 1 }
 {
-    let symbols = one_symbol(alloc)?;
-    let setting = Setting::new(logic, Domains::Constant);
-    let problem = Problem::new(setting, formula, symbols);
+    let problem = problem(alloc, logic, Domains::Constant, formula, 1)?;
     build_matrix(alloc, &problem)
-}
-
-fn p(alloc: Global, variable: u32) -> Result<Formula, NoMemory>
-    ensures { IfOk result (λ f. the_formula f ≡ p_of variable) }
-{
-    let mut terms = Terms::new(alloc);
-    terms.push(Term::Var(variable))?;
-    Ok(Formula::Atom(SymbolId(0), terms))
-}
-
-// ?[X]:![Y]:(p(X) => p(Y))
-fn drinker(alloc: Global) -> Result<Formula, NoMemory>
-    ensures { IfOk result (λ f. the_formula f ≡ tree.ex (tree.all (tree.imp (p_of 1) (p_of 0)))) }
-{
-    let inside = Formula::imp(alloc, p(alloc, 1)?, p(alloc, 0)?)?;
-    let all = Formula::all(alloc, inside)?;
-    let ex = Formula::ex(alloc, all)?;
-    Ok(ex)
 }
 
 fn has_one(places: &[Place], clause: u32) -> bool {
@@ -88,7 +52,7 @@ fn has_places(matrix: &Matrix) -> bool {
 
 // The label of the literal with sign F has so many marks.
 fn drinker_is_right(alloc: Global, logic: Logic, marks: usize) -> Result<bool, NoMemory>
-    requires { IsExample logic (tree.ex (tree.all (tree.imp (p_of 1) (p_of 0)))) }
+    requires { IsExample logic Domains.Constant drinker 1 }
 {
     match matrix_of(alloc, logic, drinker(alloc)?) {
         Ok(matrix) => Ok(is_drinker(&matrix, marks) && has_places(&matrix)),

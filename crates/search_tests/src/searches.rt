@@ -1,38 +1,23 @@
 //! Worked problems through the public calls.
 
-ghost use Rattle.std.specs.Prelude.{◌≡◌, ◌≤◌, ◌++◌, ◌∷◌, [], Contains, IfOk, OnOk, true};
+ghost use Rattle.std.specs.Prelude.{◌≡◌, ◌≤◌, IfOk, true};
 ghost use Rattle.calculus.specs.Skolem.{common_spares};
 ghost use Rattle.calculus.specs.Syntax as tree;
+ghost use Rattle.example_problems.specs.Examples.{p_of};
 ghost use Rattle.formula_core.specs.FormulaView.{the_formula};
 ghost use Rattle.formula_core.specs.TermView.{the_term};
-ghost use Rattle.search_tests.specs.SearchExamples.{IsExample, chain, converse, doubled, drinker};
-ghost use Rattle.search_tests.specs.SearchExamples.{example, f_of, named, nested, p_of, symbols};
+ghost use Rattle.search_tests.specs.SearchExamples.{IsExample, chain, converse, doubled, example};
+ghost use Rattle.search_tests.specs.SearchExamples.{f_of, nested, symbols};
 
 use connection_search::{Answer, Outcome, deepen, search_in};
-use cop_base::{Ledger, NoMemory, SymbolId, Text};
-use formula_core::{AddFault, Formula, Symbol, SymbolClass, Symbols, Term, Terms};
+use cop_base::{Ledger, NoMemory, SymbolId};
+use example_problems::{add, applied, drinker};
+use formula_core::{Formula, SymbolClass, Symbols, Term, Terms};
 use logic_rules::{Domains, Logic, Problem, Setting};
 use matrix_build::build_matrix;
 use std::alloc::Global;
 use std::test::Fail;
 use term_store::Store;
-
-fn add(
-    alloc: Global,
-    symbols: &mut Symbols,
-    name: &[u8],
-    class: SymbolClass,
-    arity: u32,
-) -> Result<(), NoMemory>
-    requires { ¬ (Contains symbols.old (named name.now class arity)) }
-    ensures { OnOk result (symbols.new ≡ symbols.old ++ named name.now class arity ∷ []) }
-{
-    let name = Text::new(alloc, name)?;
-    match symbols.add(Symbol { name, class, arity }) {
-        Ok(_) => Ok(()),
-        Err(AddFault::Full | AddFault::NoMemory) => Err(NoMemory),
-    }
-}
 
 fn symbols(alloc: Global) -> Result<Symbols, NoMemory>
     ensures { IfOk result (λ s. s ≡ symbols) }
@@ -53,14 +38,6 @@ fn problem(alloc: Global, logic: Logic, formula: Formula) -> Result<Problem, NoM
     Ok(Problem::new(setting, formula, symbols))
 }
 
-fn p(alloc: Global, term: Term) -> Result<Formula, NoMemory>
-    ensures { IfOk result (λ f. the_formula f ≡ p_of (the_term term)) }
-{
-    let mut terms = Terms::new(alloc);
-    terms.push(term)?;
-    Ok(Formula::Atom(SymbolId(0), terms))
-}
-
 fn f(alloc: Global, term: Term) -> Result<Term, NoMemory>
     ensures { IfOk result (λ t. the_term t ≡ f_of (the_term term)) }
 {
@@ -69,22 +46,12 @@ fn f(alloc: Global, term: Term) -> Result<Term, NoMemory>
     Ok(Term::Fun(SymbolId(2), terms))
 }
 
-// ?[X]:![Y]:(p(X) => p(Y))
-fn drinker(alloc: Global) -> Result<Formula, NoMemory>
-    ensures { IfOk result (λ f. the_formula f ≡ drinker) }
-{
-    let inside = Formula::imp(alloc, p(alloc, Term::Var(1))?, p(alloc, Term::Var(0))?)?;
-    let all = Formula::all(alloc, inside)?;
-    let ex = Formula::ex(alloc, all)?;
-    Ok(ex)
-}
-
 // ?[X]:p(X) => ![X]:p(X)
 fn converse(alloc: Global) -> Result<Formula, NoMemory>
     ensures { IfOk result (λ f. the_formula f ≡ converse) }
 {
-    let given = Formula::ex(alloc, p(alloc, Term::Var(0))?)?;
-    let shown = Formula::all(alloc, p(alloc, Term::Var(0))?)?;
+    let given = Formula::ex(alloc, applied(alloc, Term::Var(0))?)?;
+    let shown = Formula::all(alloc, applied(alloc, Term::Var(0))?)?;
     Formula::imp(alloc, given, shown)
 }
 
@@ -104,8 +71,8 @@ fn step(alloc: Global) -> Result<Formula, NoMemory>
     ensures { IfOk result (λ f. the_formula f
         ≡ tree.all (tree.imp (p_of (tree.var 0)) (p_of (f_of (tree.var 0))))) }
 {
-    let after = p(alloc, f(alloc, Term::Var(0))?)?;
-    let inside = Formula::imp(alloc, p(alloc, Term::Var(0))?, after)?;
+    let after = applied(alloc, f(alloc, Term::Var(0))?)?;
+    let inside = Formula::imp(alloc, applied(alloc, Term::Var(0))?, after)?;
     let all = Formula::all(alloc, inside)?;
     Ok(all)
 }
@@ -114,9 +81,9 @@ fn step(alloc: Global) -> Result<Formula, NoMemory>
 fn chain(alloc: Global, count: u32) -> Result<Formula, NoMemory>
     ensures { IfOk result (λ f. the_formula f ≡ chain count) }
 {
-    let first = p(alloc, nested(alloc, 0)?)?;
+    let first = applied(alloc, nested(alloc, 0)?)?;
     let given = Formula::and(alloc, first, step(alloc)?)?;
-    let shown = p(alloc, nested(alloc, count)?)?;
+    let shown = applied(alloc, nested(alloc, count)?)?;
     Formula::imp(alloc, given, shown)
 }
 
@@ -124,8 +91,8 @@ fn chain(alloc: Global, count: u32) -> Result<Formula, NoMemory>
 fn doubled(alloc: Global) -> Result<Formula, NoMemory>
     ensures { IfOk result (λ f. the_formula f ≡ doubled) }
 {
-    let given = Formula::nec(alloc, p(alloc, nested(alloc, 0)?)?)?;
-    let once = Formula::nec(alloc, p(alloc, nested(alloc, 0)?)?)?;
+    let given = Formula::nec(alloc, applied(alloc, nested(alloc, 0)?)?)?;
+    let once = Formula::nec(alloc, applied(alloc, nested(alloc, 0)?)?)?;
     let twice = Formula::nec(alloc, once)?;
     Formula::imp(alloc, given, twice)
 }
