@@ -1,12 +1,12 @@
 -- What the tests hand over.
-use Rattle.std.proofs.Common.{◌≡◌, ℕ, zero, suc, List, [], ◌∷◌, ◌++◌, Bool, true, false, ◌&&◌, ◌||◌, IsTrue, refl, sym, ◌∙◌, ap, subst, None, Some, slice_get, inl, inr}
+use Rattle.std.proofs.Common.{◌≡◌, ℕ, zero, suc, List, [], ◌∷◌, ◌++◌, Bool, true, false, ◌||◌, IsTrue, refl, sym, ◌∙◌, ap, subst, None, Some, slice_get, inl, inr}
 use Rattle.std.specs.List.{list_all}
 use Rattle.std.proofs.lemmas.Bool.{and_from, or_left}
 use Rattle.calculus.specs.declared.sort.Sort.TheVariants.{MarkSort, StringSort, TermSort}
 use Rattle.calculus.specs.Bindings.{AddsBuilt, nothing_more, one_more, is_variable, with_cell, with_variables_of}
 use Rattle.calculus.specs.Patterns.{Pattern, is_label_pattern, pattern_fits}
 use Rattle.calculus.specs.Stores.{Store, sort_of, variable}
-use Rattle.calculus.specs.Systems.{HasBuiltStrings, HasNoOpenString, IsOpenString, System, is_equation, is_gamma_cell, is_pair, is_system}
+use Rattle.calculus.specs.Systems.{HasBuiltStrings, HasNoOpenString, IsOpenString, System, is_gamma_cell, is_system}
 use Rattle.calculus.proofs.PlaceLists.{all-append, get-last}
 use Rattle.search_tests.specs.DomainExamples.{empty_store, two_terms}
 
