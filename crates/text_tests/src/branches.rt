@@ -1,5 +1,8 @@
 //! The labels, the numbers and the outline of a branch.
 
+ghost use Rattle.std.specs.Prelude.{◌≡◌, IfOk};
+ghost use Rattle.formula_core.specs.TermView.{the_term};
+
 use cop_base::{NoMemory, SymbolId};
 use derivation_branch::{
     Labels, NumberSet, Outline, TermRow, add_eigens, add_row, is_home_at, reaches,
@@ -33,14 +36,20 @@ fn finds_labels(rt: HostRuntime) -> Result<(), Fail> {
     Ok(())
 }
 
+fn row_of(alloc: Global, term: &Term) -> Result<TermRow, NoMemory>
+    ensures { IfOk result (λ t. t ≡ the_term term.now) }
+{
+    let mut items = Vec::new(alloc);
+    add_row(&mut items, term)?;
+    Ok(TermRow::new(items))
+}
+
 #[test]
 fn keeps_numbers(rt: HostRuntime) -> Result<(), Fail> {
     let alloc = rt.alloc();
     let mut set = NumberSet::new(alloc);
     set.add(3)?;
-    let mut items = Vec::new(alloc);
-    add_row(&mut items, &Term::Eigen(5))?;
-    add_eigens(&mut set, &TermRow::new(items))?;
+    add_eigens(&mut set, &row_of(alloc, &Term::Eigen(5))?)?;
     assert!(rt; set.holds(5));
     set.cut(1);
     assert!(rt; set.holds(3) && !set.holds(5));
