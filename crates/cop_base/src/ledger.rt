@@ -30,15 +30,3 @@ impl Ledger {
         true
     }
 }
-
-#[cfg(test)]
-mod tests {
-    use super::*;
-
-    #[test]
-    fn takes_the_budget(rt: HostRuntime) {
-        let mut ledger = Ledger::new(1);
-        assert!(rt; ledger.take() && !ledger.take());
-        assert!(rt; ledger.used == 1);
-    }
-}

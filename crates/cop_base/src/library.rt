@@ -166,39 +166,3 @@ impl Library for MemLibrary {
         }
     }
 }
-
-#[cfg(test)]
-mod tests {
-    use super::*;
-    use std::test::Fail;
-
-    fn file(alloc: Global, name: &[u8], bytes: &[u8]) -> Result<(Text, Vec<u8>), NoMemory> {
-        let name = Text::new(alloc, name)?;
-        Ok((name, Vec::from_slice(alloc, bytes)?))
-    }
-
-    // Two files of one name; the second fetch fails.
-    fn library(alloc: Global) -> Result<MemLibrary, NoMemory> {
-        let failing = Vec::from_slice(alloc, &[2])?;
-        let mut files = Vec::new(alloc);
-        files.push(file(alloc, b"a", b"one")?)?;
-        files.push(file(alloc, b"a", b"two")?)?;
-        MemLibrary::new(alloc, files, failing)
-    }
-
-    // The first file of the name counts, and the second fetch fails.
-    fn is_fetched_once(library: &mut MemLibrary, name: &Text, bytes: &[u8]) -> bool {
-        match library.fetch(name, 3) {
-            Ok(fetched) => fetched.as_slice() == bytes && library.fetch(name, 3).is_err(),
-            Err(_) => false,
-        }
-    }
-
-    #[test]
-    fn fetches_the_first_file(rt: HostRuntime) -> Result<(), Fail> {
-        let mut library = library(rt.alloc())?;
-        let name = Text::new(rt.alloc(), b"a")?;
-        assert!(rt; is_fetched_once(&mut library, &name, b"one"));
-        Ok(())
-    }
-}

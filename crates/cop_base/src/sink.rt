@@ -137,35 +137,3 @@ impl Sink for MemSink {
         Err(PutFault::Failed)
     }
 }
-
-#[cfg(test)]
-mod tests {
-    use super::*;
-    use std::test::Fail;
-
-    // A sink of nine bytes, of which the second put takes three and fails.
-    fn sink(alloc: Global) -> Result<MemSink, NoMemory> {
-        let failing = Vec::from_slice(alloc, &[(2, 3)])?;
-        MemSink::new(alloc, 9, failing)
-    }
-
-    fn is_put(sink: &mut MemSink, bytes: &[u8]) -> bool {
-        sink.put(bytes).is_ok()
-    }
-
-    // The fourth put does not fit.
-    fn takes_what_fits_in(sink: &mut MemSink) -> bool {
-        is_put(sink, b"abcd")
-            && !is_put(sink, b"efgh")
-            && is_put(sink, b"i")
-            && !is_put(sink, b"jk")
-            && sink.written() == b"abcdefgij".as_slice()
-    }
-
-    #[test]
-    fn takes_what_fits(rt: HostRuntime) -> Result<(), Fail> {
-        let mut sink = sink(rt.alloc())?;
-        assert!(rt; takes_what_fits_in(&mut sink));
-        Ok(())
-    }
-}

@@ -6,6 +6,3 @@ mod cells;
 mod page;
 
 pub use cells::Cells;
-
-#[cfg(test)]
-mod tests;

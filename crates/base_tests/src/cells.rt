@@ -1,6 +1,6 @@
 //! A list of numbers over three pages.
 
-use super::*;
+use cop_cells::Cells;
 use std::test::Fail;
 
 // Appends to each list its own length, up to this length.
