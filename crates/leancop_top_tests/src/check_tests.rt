@@ -1,6 +1,6 @@
 //! Judgements over a library and a sink in memory.
 
-use crate::tests::ends;
+use crate::runs::ends;
 use cop_base::NoMemory;
 use std::alloc::Global;
 use std::test::Fail;

@@ -4,4 +4,10 @@
 #[cfg(test)]
 mod check_tests;
 #[cfg(test)]
-mod tests;
+mod file_tests;
+#[cfg(test)]
+mod prove_tests;
+#[cfg(test)]
+mod runs;
+#[cfg(test)]
+mod word_tests;
