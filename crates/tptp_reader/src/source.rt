@@ -231,9 +231,12 @@ impl SourceList {
         ensures ok { OnOk result (self.new ≡ self.old ++ the_source item ∷ []) }
         ensures err { OnErr result (self.new ≡ self.old) }
     {
-        // Most chains have two formulas.
-        if self.items.as_slice().is_empty() {
+        // Most chains have two formulas, and few have more than four.
+        let len = self.items.as_slice().len();
+        if len == 0 {
             self.items.reserve_exact(2)?;
+        } else if len < 4 {
+            self.items.reserve_exact(1)?;
         }
         self.items.push(item)?;
         Ok(())
