@@ -3,7 +3,7 @@ use Rattle.std.proofs.Common.{◌≡◌, ◌==◌, ◌&&◌, ◌||◌, not, rule
 use Rattle.std.proofs.lemmas.List.{take_more}
 use Rattle.std.proofs.lemmas.Bool.{eqb-true, false≢true}
 use Rattle.tptp_reader.specs.Expecting as way
-use Rattle.tptp_reader.specs.ExpectedView.{the_expected, the_next, the_parts, the_last}
+use Rattle.tptp_reader.specs.ExpectedView.{the_expected, the_next, the_parts, the_rest}
 use Rattle.tptp_reader.specs.Following.{stack_of, is_open}
 use Rattle.tptp_reader.specs.declared.expected.Expected.{Expected}
 use Rattle.tptp_reader.specs.declared.expected.Move.{Move}
@@ -29,7 +29,7 @@ top-step : (modal : Bool) (es : List Expected) (n : ℕ) (d : Expected) (x : Ter
 top-step modal es n d x some within = ap (λ z. way.step modal z x) (stack_of-take es n d some within)
 
 pub step-found : (modal : Bool) (es : List Expected) (n : ℕ) (d : Expected) (x : Terminal) (m : Move) → 0 < n → n ≤ length es → the_next (Some m) ≡ way.move modal (the_expected (get_or es (n - 1) d)) x
-    → way.step modal (stack_of (take n es)) x ≡ Some (m.nesting, (the_parts m.parts ++ the_last m.last) ++ stack_of (take (n - 1) es))
+    → way.step modal (stack_of (take n es)) x ≡ Some (m.nesting, (the_parts m.parts ++ the_rest m.nesting m.rest) ++ stack_of (take (n - 1) es))
 step-found modal es n d x m some within e =
     top-step modal es n d x some within
     ∙ ap (λ z. way.moved z (way.is_optional (the_expected (get_or es (n - 1) d))) (stack_of (take (n - 1) es)) (way.step modal (stack_of (take (n - 1) es)) x)) (sym e)

@@ -7,6 +7,8 @@ use Rattle.tptp_reader.specs.declared.expected.Expected.{Expected}
 use Rattle.tptp_reader.specs.declared.expected.Expected.TheVariants as expected
 use Rattle.tptp_reader.specs.declared.expected.Parts.{Parts}
 use Rattle.tptp_reader.specs.declared.expected.Parts.TheVariants as parts
+use Rattle.tptp_reader.specs.declared.expected.Rest.{Rest}
+use Rattle.tptp_reader.specs.declared.expected.Rest.TheVariants as rest
 use Rattle.tptp_reader.specs.declared.expected.Move.{Move}
 
 abbrev pub the_fixed : Fixed → way.Fixed
@@ -63,10 +65,13 @@ abbrev pub the_move : ℕ → Option Parts → way.Move
 the_move d None = None
 the_move d (Some ps) = Some (d, the_parts ps)
 
-abbrev pub the_last : Option Expected → List way.Expected
-the_last None = []
-the_last (Some e) = the_expected e ∷ []
+-- what stands behind the parts of a move with this nesting
+abbrev pub the_rest : ℕ → Rest → List way.Expected
+the_rest d rest.Nothing = []
+the_rest d rest.Formula = way.formula_rest d ∷ []
+the_rest d rest.Literals = way.literals_rest d ∷ []
+the_rest d rest.Clause = way.clause_rest ∷ []
 
 abbrev pub the_next : Option Move → way.Move
 the_next None = None
-the_next (Some m) = Some (m.nesting, the_parts m.parts ++ the_last m.last)
+the_next (Some m) = Some (m.nesting, the_parts m.parts ++ the_rest m.nesting m.rest)

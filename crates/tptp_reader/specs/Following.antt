@@ -18,7 +18,7 @@ use Rattle.tptp_reader.specs.Pieces.{placed}
 use Rattle.tptp_reader.specs.Expecting as way
 use Rattle.tptp_reader.specs.Grammar.{FormulaTree, is_plain, formula_tokens, ItemTree, item_fits, text_tokens}
 use Rattle.tptp_reader.specs.Faults.{Place, at_item, in_formula, elsewhere, TextLanguage, TextCauses, FormulaLanguage, FormulaCauses, AreShallow, is_stop, wrong, too_deep, HasFault}
-use Rattle.tptp_reader.specs.ExpectedView.{the_expected, the_parts, the_last}
+use Rattle.tptp_reader.specs.ExpectedView.{the_expected, the_parts, the_rest}
 
 -- the first of the program's parts is expected last
 abbrev pub stack_of : List Expected → List way.Expected
@@ -44,7 +44,7 @@ closing false = close_square
 -- the step by this move, where so many parts stay below
 abbrev pub found : List Expected → Option (ℕ × Move) → way.Move
 found es None = None
-found es (Some r) = Some (r.1.nesting, (the_parts r.1.parts ++ the_last r.1.last) ++ stack_of (take r.0 es))
+found es (Some r) = Some (r.1.nesting, (the_parts r.1.parts ++ the_rest r.1.nesting r.1.rest) ++ stack_of (take r.0 es))
 
 -- what a step does, and to which stack it leads
 abbrev pub told : way.Move → Step

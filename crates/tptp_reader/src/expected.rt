@@ -81,12 +81,21 @@ pub enum Parts {
     NotesIn(bool),
 }
 
+/// What is expected behind the parts of a move, in the nesting of the move.
+#[derive(Clone, Copy)]
+pub enum Rest {
+    Nothing,
+    Formula,
+    Literals,
+    Clause,
+}
+
 /// What a token begins in the place of a part: its nesting, and what is expected then.
 #[derive(Clone, Copy)]
 pub struct Move {
     pub nesting: u32,
     pub parts: Parts,
-    pub last: Option<Expected>,
+    pub rest: Rest,
 }
 
 impl Expected {

@@ -2,11 +2,11 @@
 
 ghost use Rattle.std.specs.Prelude.{◌≡◌, ◌++◌, ◌∷◌, ◌≤◌, [], IfOk, IfSome, OnOk, false, true, not, length};
 ghost use Rattle.tptp_reader.specs.Expecting as way;
-ghost use Rattle.tptp_reader.specs.ExpectedView.{the_expected, the_last, the_parts};
+ghost use Rattle.tptp_reader.specs.ExpectedView.{the_expected, the_parts, the_rest};
 ghost use Rattle.tptp_reader.specs.Following.{found, closing, is_open, stack_after, stack_now, stack_of, the_bracket, told};
 ghost use Rattle.tptp_reader.specs.TerminalView.{the_terminal};
 
-use crate::expected::{Expected, Fixed, Move, Parts};
+use crate::expected::{Expected, Fixed, Move, Parts, Rest};
 use crate::moves::next_move;
 use crate::terminal::Terminal;
 use cop_base::NoMemory;
@@ -127,6 +127,19 @@ impl Machine {
         Ok(())
     }
 
+    // What is expected behind the parts of a move.
+    fn push_rest(&mut self, nesting: u32, rest: Rest) -> Result<(), NoMemory>
+        ensures pushed { OnOk result (stack_of self.new.expected.items ≡ the_rest nesting rest ++ stack_of self.old.expected.items) }
+        ensures notes { self.new.in_notes ≡ self.old.in_notes }
+    {
+        match rest {
+            Rest::Nothing => Ok(()),
+            Rest::Formula => self.push(Expected::FormulaRest(nesting)),
+            Rest::Literals => self.push(Expected::LiteralsRest(nesting)),
+            Rest::Clause => self.push(Expected::ClauseRest),
+        }
+    }
+
     fn push_parts(&mut self, parts: Parts) -> Result<(), NoMemory>
         requires { self.old.in_notes ≡ false }
         ensures { OnOk result (stack_now self.new ≡ the_parts parts ++ stack_of self.old.expected.items) }
@@ -211,9 +224,7 @@ impl Machine {
             return Ok(Step::TooDeep);
         }
         self.expected.truncate(kept);
-        if let Some(last) = next.last {
-            self.push(last)?;
-        }
+        self.push_rest(next.nesting, next.rest)?;
         self.push_parts(next.parts)?;
         Ok(Step::Onward)
     }

@@ -5,10 +5,10 @@ ghost use Rattle.std.specs.List.{list_all};
 ghost use Rattle.calculus.specs.Text as text;
 ghost use Rattle.tptp_lex.specs.Tokens.{is_digits};
 ghost use Rattle.tptp_reader.specs.Expecting as way;
-ghost use Rattle.tptp_reader.specs.ExpectedView.{the_expected, the_fixed, the_move, the_next};
+ghost use Rattle.tptp_reader.specs.ExpectedView.{the_expected, the_fixed, the_move, the_next, the_rest};
 ghost use Rattle.tptp_reader.specs.TerminalView.{the_terminal};
 
-use crate::expected::{Expected, Fixed, Move, Parts};
+use crate::expected::{Expected, Fixed, Move, Parts, Rest};
 use crate::source::ChainKind;
 use crate::terminal::Terminal;
 use calculus::byte::is_digit;
@@ -235,15 +235,15 @@ fn clause_rest_parts(x: Terminal) -> Option<Parts>
     }
 }
 
-// The move to these parts, and then to the last one.
-fn and_then(nesting: u32, parts: Option<Parts>, last: Expected) -> Option<Move>
-    ensures { the_next result ≡ way.before (the_expected last ∷ []) (the_move nesting parts) }
+// The move to these parts, and then to the rest.
+fn and_then(nesting: u32, parts: Option<Parts>, rest: Rest) -> Option<Move>
+    ensures { the_next result ≡ way.before (the_rest nesting rest) (the_move nesting parts) }
 {
     let parts = parts?;
     Some(Move {
         nesting,
         parts,
-        last: Some(last),
+        rest,
     })
 }
 
@@ -255,7 +255,7 @@ fn only(nesting: u32, parts: Option<Parts>) -> Option<Move>
     Some(Move {
         nesting,
         parts,
-        last: None,
+        rest: Rest::Nothing,
     })
 }
 
@@ -269,7 +269,7 @@ fn clause_move(x: Terminal) -> Option<Move>
             Some(Parts::Two(Expected::Unsigned(1), Expected::LiteralsRest(0))),
         ),
         Terminal::Dollar(_) | Terminal::Upper(_) | Terminal::Lower(_) | Terminal::Quoted(_) => {
-            and_then(0, atom_parts(0, x), Expected::LiteralsRest(0))
+            and_then(0, atom_parts(0, x), Rest::Literals)
         }
         _ => None,
     }
@@ -294,7 +294,7 @@ fn clause_open_move(x: Terminal) -> Option<Move>
             )),
         ),
         Terminal::Dollar(_) | Terminal::Upper(_) | Terminal::Lower(_) | Terminal::Quoted(_) => {
-            and_then(1, atom_parts(1, x), Expected::ClauseRest)
+            and_then(1, atom_parts(1, x), Rest::Clause)
         }
         _ => None,
     }
@@ -451,7 +451,7 @@ pub fn next_move(modal: bool, part: Expected, x: Terminal) -> Result<Option<Move
         Expected::Atom(d) => only(d, atom_parts(d, x)),
         Expected::Variables(d) => only(d, variables_parts(d, x)),
         Expected::Unit(d) => only(d, unit_parts(modal, d, x)?),
-        Expected::Formula(d) => and_then(d, unit_parts(modal, d, x)?, Expected::FormulaRest(d)),
+        Expected::Formula(d) => and_then(d, unit_parts(modal, d, x)?, Rest::Formula),
         Expected::FormulaRest(d) => only(d, formula_rest_parts(d, x)),
         Expected::ChainRest(kind, d) => only(d, chain_rest_parts(kind, d, x)),
         Expected::Stop => only(0, stop_parts(x)),
