@@ -1,118 +1,307 @@
--- Reading terms into rows, step by step.
-use Rattle.std.proofs.Common.{◌≡◌, ℕ, ◌+◌, ◌<◌, ◌≤◌, List, [], ◌∷◌, ◌++◌, IsTrue, length, drop, refl, sym, ◌∙◌, ap, subst, append-nil, append_assoc, set, arith}
+-- Reading terms into rows, step by step. The open terms are the frames of `formula_text`, whose laws say what their text leaves.
+use Rattle.std.proofs.Common.{◌≡◌, ℕ, ◌+◌, ◌<◌, ◌≤◌, Result, Err, true, List, [], ◌∷◌, ◌++◌, ◌&&◌, IsTrue, length, drop, refl, sym, ◌∙◌, ap, subst, append-nil, append_assoc, set, arith}
 use Rattle.std.proofs.lemmas.Bool.{and_from}
 use Rattle.std.proofs.lemmas.List.{length-append, set_at}
-use Rattle.calculus.specs.DerivationText.{IsNameAt, terms_are_written}
+use Rattle.calculus.specs.DerivationText.{IsNameAt, IsTermAt, term_is_written, terms_are_written}
 use Rattle.calculus.specs.Lists.{terms_tree}
+use Rattle.calculus.specs.Problems.{are_distinct}
 use Rattle.calculus.specs.Skolem.{has_function}
 use Rattle.calculus.specs.Syntax.{Symbol, Term, fun, no_terms, arity_of}
-use Rattle.calculus.specs.Text.{Ends, args_text, more_args_text, name_text, term_text}
+use Rattle.calculus.specs.Text.{Ends, name_text, term_text}
+use Rattle.cop_base.specs.declared.SymbolId.{SymbolId}
 use Rattle.derivation_branch.proofs.RowLaws.{root-is}
 use Rattle.derivation_branch.specs.Rows.{row_of, rows_of}
 use Rattle.derivation_branch.specs.declared.term_row.RowItem.{RowItem}
 use Rattle.derivation_branch.specs.declared.term_row.RowItem.TheVariants.{Fun}
-use Rattle.derivation_text.specs.RowReading.{AreArgsBegun, AreArgsRead, IsRowRead}
+use Rattle.derivation_text.proofs.Parts.{term-rest}
+use Rattle.derivation_text.specs.RowReading.{AreOpen, Frame, IsBegun, IsLeaf, IsOpenAt, IsOpened, IsOpening, IsPut, IsRead, IsRowOf, IsRowTo, kept, open_is_written, open_row, open_rows, open_text}
 use Rattle.derivation_text.specs.Spelling.{IsTerm}
-use Rattle.formula_text.proofs.Frames.{arity-push, function-has, function-text, terms-push}
-use Rattle.formula_text.proofs.Places.{stands-by}
-use Rattle.formula_text.specs.Frames.{IsFunction, args_front}
+use Rattle.derivation_text.specs.declared.row_reader.OpenTerm.{OpenTerm}
+use Rattle.formula_text.proofs.Closings.{further-read, further-written, new_frame, none-at, onward, open-onward, open-read, open-written, out-read, read-at, whole-written, with_args}
+use Rattle.formula_text.proofs.Frames.{arity-push, frames-pop, function-has, function-text, no_close_end, no_close_function, no_follower, no_head}
+use Rattle.formula_text.proofs.Places.{after-text, stands-by, stands-front}
+use Rattle.formula_text.specs.Frames.{IsFunction, NoFunction, NoTerm, args_front, frames_are_written, stack_text}
 
--- ---- one argument more
+-- ---- open terms as the frames of `formula_text`, whose type has no name here
+
+abbrev pub as_list : {A : Type 0} → (List ℕ → List Term → A) → List Frame → List A
+as_list make [] = []
+as_list make (f ∷ fs) = make f.name f.args ∷ as_list make fs
+
+list-push : {A : Type 0} (make : List ℕ → List Term → A) (fs : List Frame) (f : Frame) → as_list make (fs ++ f ∷ []) ≡ as_list make fs ++ make f.name f.args ∷ []
+list-push make [] f = refl
+list-push make (g ∷ fs) f = ap (λ l. make g.name g.args ∷ l) (list-push make fs f)
+
+text-same : (S : List Symbol) (fs : List Frame) → open_text S fs ≡ stack_text S (as_list new_frame fs)
+text-same S [] = refl
+text-same S (f ∷ fs) = ap (λ l. (name_text f.name ++ 40 ∷ args_front S f.args) ++ l) (text-same S fs)
+
+written-same : (S : List Symbol) (fs : List Frame) → open_is_written S fs ≡ frames_are_written S (as_list new_frame fs)
+written-same S [] = refl
+written-same S (f ∷ fs) = ap (λ b. terms_are_written S (terms_tree f.args) && b) (written-same S fs)
+
+text-push : (S : List Symbol) (fs : List Frame) (f : Frame) → open_text S (fs ++ f ∷ []) ≡ stack_text S (as_list new_frame fs ++ new_frame f.name f.args ∷ [])
+text-push S fs f = text-same S (fs ++ f ∷ []) ∙ ap (stack_text S) (list-push new_frame fs f)
+
+written-push : (S : List Symbol) (fs : List Frame) (f : Frame) → open_is_written S (fs ++ f ∷ []) ≡ frames_are_written S (as_list new_frame fs ++ new_frame f.name f.args ∷ [])
+written-push S fs f = written-same S (fs ++ f ∷ []) ∙ ap (frames_are_written S) (list-push new_frame fs f)
+
+-- ---- the rows of open terms
 
 rows-push : (ts : List Term) (t : Term) → rows_of (terms_tree (ts ++ t ∷ [])) ≡ rows_of (terms_tree ts) ++ row_of t
 rows-push [] t = append-nil (row_of t)
 rows-push (u ∷ ts) t = ap (λ l. row_of u ++ l) (rows-push ts t) ∙ sym (append_assoc (row_of u) (rows_of (terms_tree ts)) (row_of t))
 
-args-push : (S : List Symbol) (ts : List Term) (v : Term) (r : List ℕ) → args_front S (ts ++ v ∷ []) ++ r ≡ args_front S ts ++ (term_text S 0 v ++ 44 ∷ r)
-args-push S [] v r = append_assoc (term_text S 0 v) (44 ∷ []) r
-args-push S (t ∷ ts) v r =
-    append_assoc (term_text S 0 t) (44 ∷ args_front S (ts ++ v ∷ [])) r ∙ ap (λ l. term_text S 0 t ++ 44 ∷ l) (args-push S ts v r)
-    ∙ sym (append_assoc (term_text S 0 t) (44 ∷ args_front S ts) (term_text S 0 v ++ 44 ∷ r))
+open_rows-push : (fs : List Frame) (f : Frame) → open_rows (fs ++ f ∷ []) ≡ open_rows fs ++ open_row f
+open_rows-push [] f = append-nil (open_row f)
+open_rows-push (g ∷ fs) f = ap (λ l. open_row g ++ l) (open_rows-push fs f) ∙ sym (append_assoc (open_row g) (open_rows fs) (open_row f))
 
-more-push : (S : List Symbol) (ts : List Term) (v : Term) (r : List ℕ) → more_args_text S 0 (terms_tree (ts ++ v ∷ [])) ++ r ≡ 44 ∷ (args_front S ts ++ (term_text S 0 v ++ 41 ∷ r))
-more-push S [] v r = ap (λ l. 44 ∷ l) (append_assoc (term_text S 0 v) (41 ∷ []) r)
-more-push S (t ∷ ts) v r =
-    ap (λ l. 44 ∷ l) (append_assoc (term_text S 0 t) (more_args_text S 0 (terms_tree (ts ++ v ∷ []))) r ∙ ap (λ l. term_text S 0 t ++ l) (more-push S ts v r)
-    ∙ sym (append_assoc (term_text S 0 t) (44 ∷ args_front S ts) (term_text S 0 v ++ 41 ∷ r)))
+-- ---- open terms and their frames
 
-closed-args : (S : List Symbol) (ts : List Term) (v : Term) (r : List ℕ) → args_text S 0 (terms_tree (ts ++ v ∷ [])) ++ r ≡ 40 ∷ (args_front S ts ++ (term_text S 0 v ++ 41 ∷ r))
-closed-args S [] v r = ap (λ l. 40 ∷ l) (append_assoc (term_text S 0 v) (41 ∷ []) r)
-closed-args S (t ∷ ts) v r =
-    ap (λ l. 40 ∷ l) (append_assoc (term_text S 0 t) (more_args_text S 0 (terms_tree (ts ++ v ∷ []))) r ∙ ap (λ l. term_text S 0 t ++ l) (more-push S ts v r)
-    ∙ sym (append_assoc (term_text S 0 t) (44 ∷ args_front S ts) (term_text S 0 v ++ 41 ∷ r)))
+moved : (bytes : List ℕ) (m n : ℕ) (o : OpenTerm) (f : Frame) → m ≡ n → IsOpenAt bytes m o f → IsOpenAt bytes n o f
+moved bytes m n o f e h = subst (λ k. IsOpenAt bytes k o f) e h
 
-joined : (old mid new : List RowItem) (ts : List Term) (t : Term) → mid ≡ old ++ rows_of (terms_tree ts) → new ≡ mid ++ row_of t → new ≡ old ++ rows_of (terms_tree (ts ++ t ∷ []))
-joined old mid new ts t p q =
-    q ∙ ap (λ l. l ++ row_of t) p ∙ append_assoc old (rows_of (terms_tree ts)) (row_of t) ∙ ap (λ l. old ++ l) (sym (rows-push ts t))
+behind : (at : ℕ) (xs ys : List RowItem) → (at + length xs) + length ys ≡ at + length (xs ++ ys)
+behind at xs ys = omega (arith, length-append xs ys)
 
--- ---- arguments
+open-push : (bytes : List ℕ) (at : ℕ) (os : List OpenTerm) (o : OpenTerm) (fs : List Frame) (f : Frame) → AreOpen bytes at os fs → IsOpenAt bytes (at + length (open_rows fs)) o f → AreOpen bytes at (os ++ o ∷ []) (fs ++ f ∷ [])
+open-push bytes at [] o [] f h k = (moved bytes (at + 0) at o f (omega arith) k, tt)
+open-push bytes at [] o (g ∷ fs) f h k = absurd h
+open-push bytes at (p ∷ os) o [] f h k = absurd h
+open-push bytes at (p ∷ os) o (g ∷ fs) f h k =
+    (h.0, open-push bytes (at + length (open_row g)) os o fs f h.1 (moved bytes (at + length (open_rows (g ∷ fs))) ((at + length (open_row g)) + length (open_rows fs)) o f (sym (behind at (open_row g) (open_rows fs))) k))
 
-pub no-args : (S : List Symbol) (bytes : List ℕ) (from : ℕ) (old : List RowItem) → from ≤ length bytes → AreArgsRead S bytes from 0 from old old
-no-args S bytes from old within = record { terms = no_terms; row = sym (append-nil old); written = refl; text = refl; arity = refl; within = within }
+record Popped (bytes : List ℕ) (at : ℕ) (os : List OpenTerm) (o : OpenTerm) (fs : List Frame) : Type 0 where
+  rest : List Frame
+  frame : Frame
+  same : fs ≡ rest ++ frame ∷ []
+  stands : AreOpen bytes at os rest
+  last : IsOpenAt bytes (at + length (open_rows rest)) o frame
 
-pub begun : (S : List Symbol) (bytes : List ℕ) (from : ℕ) (old : List RowItem) → drop from bytes ≡ 40 ∷ drop (from + 1) bytes → from < length bytes → AreArgsBegun S bytes from 0 (from + 1) old old
-begun S bytes from old e within = record { terms = []; row = sym (append-nil old); written = refl; text = e; arity = refl; within = omega arith }
+open-pop : (bytes : List ℕ) (at : ℕ) (os : List OpenTerm) (o : OpenTerm) (fs : List Frame) → AreOpen bytes at (os ++ o ∷ []) fs → Popped bytes at os o fs
+open-pop bytes at [] o [] h = absurd h
+open-pop bytes at [] o (f ∷ []) h = record { rest = []; frame = f; same = refl; stands = tt; last = moved bytes at (at + 0) o f (omega arith) h.0 }
+open-pop bytes at [] o (f ∷ g ∷ fs) h = absurd h.1
+open-pop bytes at (p ∷ os) o [] h = absurd h
+open-pop bytes at (p ∷ os) o (f ∷ fs) h =
+    let k = open-pop bytes (at + length (open_row f)) os o fs h.1 in record {
+      rest = f ∷ k.rest;
+      frame = k.frame;
+      same = ap (λ l. f ∷ l) k.same;
+      stands = (h.0, k.stands);
+      last = moved bytes ((at + length (open_row f)) + length (open_rows k.rest)) (at + length (open_rows (f ∷ k.rest))) o k.frame (behind at (open_row f) (open_rows k.rest)) k.last;
+    }
 
-pub begun-more : (S : List Symbol) (bytes : List ℕ) (from count place end : ℕ) (old mid new : List RowItem) → AreArgsBegun S bytes from count place old mid → IsRowRead S bytes place end mid new
-    → drop end bytes ≡ 44 ∷ drop (end + 1) bytes → end < length bytes → AreArgsBegun S bytes from (count + 1) (end + 1) old new
-begun-more S bytes from count place end old mid new h k e within = record {
-  terms = h.terms ++ k.term ∷ [];
-  row = joined old mid new h.terms k.term h.row k.row;
-  written = terms-push S h.terms k.term h.written k.stands.written;
-  text = h.text ∙ ap (λ l. 40 ∷ (args_front S h.terms ++ l)) (k.stands.stands.there ∙ ap (λ l. term_text S 0 k.term ++ l) e) ∙ ap (λ l. 40 ∷ l) (sym (args-push S h.terms k.term (drop (end + 1) bytes)));
-  arity = ap (λ n. n + 1) h.arity ∙ sym (length-append h.terms (k.term ∷ []));
-  within = omega arith;
-}
+none-open : (bytes : List ℕ) (fs : List Frame) → AreOpen bytes 0 [] fs → fs ≡ []
+none-open bytes [] h = refl
+none-open bytes (f ∷ fs) h = absurd h
 
-pub begun-all : (S : List Symbol) (bytes : List ℕ) (from count place end : ℕ) (old mid new : List RowItem) → AreArgsBegun S bytes from count place old mid → IsRowRead S bytes place end mid new
-    → drop end bytes ≡ 41 ∷ drop (end + 1) bytes → end < length bytes → AreArgsRead S bytes from (count + 1) (end + 1) old new
-begun-all S bytes from count place end old mid new h k e within = record {
-  terms = terms_tree (h.terms ++ k.term ∷ []);
-  row = joined old mid new h.terms k.term h.row k.row;
-  written = terms-push S h.terms k.term h.written k.stands.written;
-  text = h.text ∙ ap (λ l. 40 ∷ (args_front S h.terms ++ l)) (k.stands.stands.there ∙ ap (λ l. term_text S 0 k.term ++ l) e) ∙ sym (closed-args S h.terms k.term (drop (end + 1) bytes));
-  arity = ap (λ n. n + 1) h.arity ∙ sym (arity-push h.terms k.term);
-  within = omega arith;
-}
+-- ---- how a term begins
 
--- the place goes on
-pub onward-row : (S : List Symbol) (bytes : List ℕ) (from to : ℕ) (old new : List RowItem) → IsRowRead S bytes from to old new → from ≤ to
-onward-row S bytes from to old new h = let e = h.stands.stands.place in omega (arith, e)
+-- an error that is handed on
+pub error-again : {T U E : Type 0} (y z : E) → ◌≡◌ {A = Result U E} (Err y) (Err z) → ◌≡◌ {A = Result T E} (Err y) (Err z)
+error-again {T} {U} {E} y z e = ap Err (same y z e)
+  where
+    same : (y z : E) → ◌≡◌ {A = Result U E} (Err y) (Err z) → y ≡ z
+    same y z e = cc
 
--- ---- a term
+pub begun : (S : List Symbol) (bytes : List ℕ) → IsBegun S bytes 0 [] []
+begun S bytes = record { frames = []; stands = tt; row = refl; written = refl; text = refl; within = omega arith }
 
-with-symbol : (old new : List RowItem) (x y : RowItem) (rows : List RowItem) → new ≡ (old ++ x ∷ []) ++ rows → set new (length old) y ≡ old ++ y ∷ rows
-with-symbol old new x y rows e = ap (λ l. set l (length old) y) (e ∙ append_assoc old (x ∷ []) rows) ∙ set_at old x rows y (length old) refl
+pub made-leaf : (S : List Symbol) (bytes : List ℕ) (from to : ℕ) (t : Term) (item : RowItem) → IsTermAt S bytes from to t → to ≤ length bytes → row_of t ≡ item ∷ [] → IsLeaf S bytes from to item
+made-leaf S bytes from to t item h within e = record { term = t; row = e; whole = record { written = h.written; text = h.stands.there; ends = h.ends }; within = within }
 
-pub symbol-within : (S : List Symbol) (bytes : List ℕ) (from count to : ℕ) (old pushed new : List RowItem) (x : RowItem) → pushed ≡ old ++ x ∷ [] → AreArgsRead S bytes from count to pushed new → length old < length new
-symbol-within S bytes from count to old pushed new x p h =
-    let e : length new ≡ length pushed + length (rows_of h.terms) = ap length h.row ∙ length-append pushed (rows_of h.terms) in
-    let f : length pushed ≡ length old + 1 = ap length p ∙ length-append old (x ∷ []) in
-    omega (arith, e, f)
-
-pub whole-row : (S : List Symbol) (bytes : List ℕ) (from end count to id : ℕ) (name : List ℕ) (old pushed new : List RowItem) (x : RowItem) → from ≤ length bytes → IsNameAt bytes from end name → pushed ≡ old ++ x ∷ []
-    → AreArgsRead S bytes end count to pushed new → Ends (drop to bytes) → IsFunction S id name count → IsRowRead S bytes from to old (set new (length old) (Fun (record { 0 = id }) count))
-whole-row S bytes from end count to id name old pushed new x within n p h ends f = record {
-  term = fun id h.terms;
-  row = with-symbol old new x (Fun (record { 0 = id }) count) (rows_of h.terms) (h.row ∙ ap (λ l. l ++ rows_of h.terms) p) ∙ ap (λ m. old ++ Fun (record { 0 = id }) m ∷ rows_of h.terms) h.arity;
-  stands = record {
-    written = and_from (has_function S id (arity_of h.terms)) (terms_are_written S h.terms) (subst (λ m. IsTrue (has_function S id m)) h.arity (function-has S id count name f)) h.written;
-    stands = stands-by bytes (term_text S 0 (fun id h.terms)) from to within h.within
-        (n.stands.there ∙ ap (λ l. name_text name ++ l) h.text ∙ sym (append_assoc (name_text name) (args_text S 0 h.terms) (drop to bytes)) ∙ ap (λ l. (l ++ args_text S 0 h.terms) ++ drop to bytes) (sym (function-text S id count name f)));
+pub constant-leaf : (S : List Symbol) (bytes : List ℕ) (from end : ℕ) (id : SymbolId) (name : List ℕ) → IsNameAt bytes from end name → end ≤ length bytes → Ends (drop end bytes) → IsFunction S id.0 name 0 → IsLeaf S bytes from end (Fun id 0)
+constant-leaf S bytes from end id name n within ends f = record {
+  term = fun id.0 no_terms;
+  row = refl;
+  whole = record {
+    written = and_from (has_function S id.0 0) true (function-has S id.0 0 name f) refl;
+    text = n.stands.there ∙ ap (λ l. l ++ drop end bytes) (sym (append-nil (name_text name)) ∙ ap (λ l. l ++ []) (sym (function-text S id.0 0 name f)));
     ends = ends;
   };
-  within = h.within;
+  within = within;
 }
+
+pub none-made : (S : List Symbol) (bytes : List ℕ) (from : ℕ) → ((to : ℕ) (t : Term) → ¬ IsTermAt S bytes from to t) → NoTerm S (drop from bytes)
+none-made S bytes from none = λ t r ht hr e. none (from + length (term_text S 0 t)) t (record {
+  written = ht;
+  stands = stands-front bytes (term_text S 0 t) r from e;
+  ends = subst Ends (sym (after-text bytes (term_text S 0 t) r from e)) hr;
+})
+
+pub none-begun : (S : List Symbol) → IsTrue (are_distinct S) → (bytes : List ℕ) (place : ℕ) (os : List OpenTerm) (items : List RowItem) → IsBegun S bytes place os items → NoTerm S (drop place bytes) → NoTerm S bytes
+none-begun S d bytes place os items h none = subst (NoTerm S) (sym (h.text ∙ ap (λ l. l ++ drop place bytes) (text-same S h.frames))) (no_head S d (as_list new_frame h.frames) (drop place bytes) (subst IsTrue (written-same S h.frames) h.written) none)
+
+opening-text : (bytes : List ℕ) (place end : ℕ) (k : IsOpening bytes place end) → drop place bytes ≡ name_text k.name ++ 40 ∷ drop end bytes
+opening-text bytes place end k = k.named.stands.there ∙ ap (λ l. name_text k.name ++ l) k.bracket
+
+pub opened : (S : List Symbol) (bytes : List ℕ) (place end : ℕ) (os pushed : List OpenTerm) (items new : List RowItem) → IsBegun S bytes place os items → IsOpening bytes place end → IsOpened place os pushed items new → IsBegun S bytes end pushed new
+opened S bytes place end os pushed items new h k p =
+    let f : Frame = record { name = k.name; args = [] } in
+    let gs = as_list new_frame h.frames in
+    let o : OpenTerm = record { from = place; at = length items; count = 0 } in
+    let at : length items ≡ length (open_rows h.frames) = ap length h.row in record {
+      frames = h.frames ++ f ∷ [];
+      stands = subst (λ l. AreOpen bytes 0 l (h.frames ++ f ∷ [])) (sym p.open_term)
+          (open-push bytes 0 os o h.frames f h.stands (record { place = omega (arith, at); count = refl; end = k.to; named = k.named; within = h.within }));
+      row = p.row ∙ ap (λ l. l ++ kept ∷ []) h.row ∙ sym (open_rows-push h.frames f);
+      written = subst IsTrue (sym (written-push S h.frames f)) (open-written S gs (gs ++ new_frame k.name [] ∷ []) k.name [] refl refl (subst IsTrue (written-same S h.frames) h.written));
+      text = open-read S bytes 0 place end gs (gs ++ new_frame k.name [] ∷ []) k.name [] refl refl (h.text ∙ ap (λ l. l ++ drop place bytes) (text-same S h.frames)) (opening-text bytes place end k) ∙ ap (λ l. l ++ drop end bytes) (sym (text-push S h.frames f));
+      within = k.within;
+    }
+
+pub further-open : (S : List Symbol) (bytes : List ℕ) (place end : ℕ) (os : List OpenTerm) (items : List RowItem) → IsBegun S bytes place os items → IsOpening bytes place end → place < end
+further-open S bytes place end os items h k = open-onward bytes (name_text k.name) place end h.within k.within (opening-text bytes place end k)
+
+pub leaf-read : (S : List Symbol) (bytes : List ℕ) (place end : ℕ) (os : List OpenTerm) (items new : List RowItem) (item : RowItem) → IsBegun S bytes place os items → IsLeaf S bytes place end item → new ≡ items ++ item ∷ [] → IsRead S bytes end os new
+leaf-read S bytes place end os items new item h k p = record {
+  frames = h.frames;
+  term = k.term;
+  stands = h.stands;
+  row = p ∙ (λ i. h.row i ++ sym k.row i);
+  written = h.written;
+  term_written = k.whole.written;
+  text = h.text ∙ ap (λ l. open_text S h.frames ++ l) k.whole.text;
+  ends = k.whole.ends;
+  within = k.within;
+}
+
+pub leaf-onward : (S : List Symbol) (bytes : List ℕ) (place end : ℕ) (os : List OpenTerm) (items : List RowItem) (item : RowItem) → IsBegun S bytes place os items → IsLeaf S bytes place end item → place ≤ end
+leaf-onward S bytes place end os items item h k = onward bytes (term_text S 0 k.term) place end h.within k.within k.whole.text
+
+-- ---- what a term closes
+
+-- a term was read, and the innermost open term is apart
+pub record IsReadIn (S : List Symbol) (bytes : List ℕ) (end : ℕ) (os : List OpenTerm) (o : OpenTerm) (items : List RowItem) : Type 0 where
+  pub rest : List Frame
+  pub frame : Frame
+  pub term : Term
+  pub stands : AreOpen bytes 0 os rest
+  pub last : IsOpenAt bytes (0 + length (open_rows rest)) o frame
+  pub row : items ≡ open_rows rest ++ (open_row frame ++ row_of term)
+  pub written : IsTrue (frames_are_written S (as_list new_frame rest ++ new_frame frame.name frame.args ∷ []))
+  pub term_written : IsTrue (term_is_written S term)
+  pub text : bytes ≡ stack_text S (as_list new_frame rest ++ new_frame frame.name frame.args ∷ []) ++ (term_text S 0 term ++ drop end bytes)
+  pub ends : Ends (drop end bytes)
+  pub within : end ≤ length bytes
+
+pub read-in : (S : List Symbol) (bytes : List ℕ) (end : ℕ) (os all : List OpenTerm) (o : OpenTerm) (items : List RowItem) → all ≡ os ++ o ∷ [] → IsRead S bytes end all items → IsReadIn S bytes end os o items
+read-in S bytes end os all o items e h =
+    let p = open-pop bytes 0 os o h.frames (subst (λ l. AreOpen bytes 0 l h.frames) e h.stands) in record {
+      rest = p.rest;
+      frame = p.frame;
+      term = h.term;
+      stands = p.stands;
+      last = p.last;
+      row = h.row ∙ ap (λ l. l ++ row_of h.term) (ap open_rows p.same ∙ open_rows-push p.rest p.frame) ∙ append_assoc (open_rows p.rest) (open_row p.frame) (row_of h.term);
+      written = subst IsTrue (ap (open_is_written S) p.same ∙ written-push S p.rest p.frame) h.written;
+      term_written = h.term_written;
+      text = h.text ∙ ap (λ l. l ++ (term_text S 0 h.term ++ drop end bytes)) (ap (open_text S) p.same ∙ text-push S p.rest p.frame);
+      ends = h.ends;
+      within = h.within;
+    }
+
+-- the open term with one argument more
+abbrev pub more : OpenTerm → OpenTerm
+more o = record { from = o.from; at = o.at; count = o.count + 1 }
+
+counted : (S : List Symbol) (bytes : List ℕ) (end : ℕ) (os : List OpenTerm) (o : OpenTerm) (items : List RowItem) (h : IsReadIn S bytes end os o items) → o.count + 1 ≡ length (h.frame.args ++ h.term ∷ [])
+counted S bytes end os o items h = ap (λ n. n + 1) h.last.count ∙ sym (length-append h.frame.args (h.term ∷ []))
+
+text-at : (S : List Symbol) (bytes next : List ℕ) (end : ℕ) (os : List OpenTerm) (o : OpenTerm) (items : List RowItem) (h : IsReadIn S bytes end os o items) → drop end bytes ≡ next → stack_text S (as_list new_frame h.rest ++ new_frame h.frame.name h.frame.args ∷ []) ++ (term_text S 0 h.term ++ next) ≡ bytes
+text-at S bytes next end os o items h e = read-at S (as_list new_frame h.rest ++ new_frame h.frame.name h.frame.args ∷ []) (as_list new_frame h.rest ++ new_frame h.frame.name h.frame.args ∷ []) h.term (drop end bytes) next bytes refl e (sym h.text)
+
+-- a comma
+pub argument : (S : List Symbol) (bytes : List ℕ) (end : ℕ) (os pushed : List OpenTerm) (o : OpenTerm) (items : List RowItem) → IsReadIn S bytes end os o items
+    → drop end bytes ≡ 44 ∷ drop (end + 1) bytes → end < length bytes → pushed ≡ os ++ more o ∷ [] → IsBegun S bytes (end + 1) pushed items
+argument S bytes end os pushed o items h e within p =
+    let args = h.frame.args ++ h.term ∷ [] in
+    let f : Frame = record { name = h.frame.name; args = args } in
+    let gs = as_list new_frame h.rest in
+    let g = new_frame h.frame.name h.frame.args in record {
+      frames = h.rest ++ f ∷ [];
+      stands = subst (λ l. AreOpen bytes 0 l (h.rest ++ f ∷ [])) (sym p)
+          (open-push bytes 0 os (more o) h.rest f h.stands (record { place = h.last.place; count = counted S bytes end os o items h; end = h.last.end; named = h.last.named; within = h.last.within }));
+      row = h.row ∙ ap (λ l. open_rows h.rest ++ kept ∷ l) (sym (rows-push h.frame.args h.term)) ∙ sym (open_rows-push h.rest f);
+      written = subst IsTrue (sym (written-push S h.rest f)) (further-written S gs (gs ++ with_args g args ∷ []) g h.term args refl refl h.written h.term_written);
+      text = further-read S gs (gs ++ with_args g args ∷ []) g h.term args (drop (end + 1) bytes) bytes refl refl (text-at S bytes (44 ∷ drop (end + 1) bytes) end os o items h e) ∙ ap (λ l. l ++ drop (end + 1) bytes) (sym (text-push S h.rest f));
+      within = omega arith;
+    }
+
+-- the place of the symbol
+pub symbol-within : (S : List Symbol) (bytes : List ℕ) (end : ℕ) (os : List OpenTerm) (o : OpenTerm) (items : List RowItem) → IsReadIn S bytes end os o items → o.at < length items
+symbol-within S bytes end os o items h =
+    let rows = rows_of (terms_tree h.frame.args) ++ row_of h.term in
+    let e : length items ≡ length (open_rows h.rest) + length (kept ∷ rows) = ap length h.row ∙ length-append (open_rows h.rest) (kept ∷ rows) in
+    let f : length (kept ∷ rows) ≡ length rows + 1 = omega arith in
+    let g = h.last.place in
+    omega (arith, e, f, g)
+
+closed-row : (old new rows : List RowItem) (at : ℕ) (y : RowItem) (put : List RowItem) → at ≡ 0 + length old → new ≡ old ++ kept ∷ rows → put ≡ set new at y → put ≡ old ++ y ∷ rows
+closed-row old new rows at y put e f g =
+    let n : at ≡ length old = omega (arith, e) in
+    g ∙ (λ i. set (f i) (n i) y) ∙ set_at old kept rows y (length old) refl
+
+-- a closing bracket
+pub closed : (S : List Symbol) (bytes : List ℕ) (end : ℕ) (os : List OpenTerm) (o : OpenTerm) (items new : List RowItem) (h : IsReadIn S bytes end os o items)
+    → drop end bytes ≡ 41 ∷ drop (end + 1) bytes → end < length bytes → Ends (drop (end + 1) bytes) → IsPut S h.frame.name (more o) items new → IsRead S bytes (end + 1) os new
+closed S bytes end os o items new h e within ends p =
+    let args = h.frame.args ++ h.term ∷ [] in
+    let t = fun p.id.0 (terms_tree args) in
+    let gs = as_list new_frame h.rest in
+    let g = new_frame h.frame.name h.frame.args in
+    let known = subst (λ n. IsFunction S p.id.0 h.frame.name n) (counted S bytes end os o items h) p.function in
+    let count : o.count + 1 ≡ arity_of (terms_tree args) = ap (λ n. n + 1) h.last.count ∙ sym (arity-push h.frame.args h.term) in record {
+      frames = h.rest;
+      term = t;
+      stands = h.stands;
+      row = closed-row (open_rows h.rest) items (rows_of (terms_tree h.frame.args) ++ row_of h.term) o.at (Fun p.id (o.count + 1)) new h.last.place h.row p.put
+          ∙ (λ i. open_rows h.rest ++ Fun p.id (count i) ∷ sym (rows-push h.frame.args h.term) i);
+      written = subst IsTrue (sym (written-same S h.rest)) (frames-pop S gs g h.written).0;
+      term_written = whole-written S gs g h.term t args p.id.0 refl known refl h.written h.term_written;
+      text = sym (out-read S gs g h.term t args p.id.0 (drop (end + 1) bytes) bytes refl known refl (text-at S bytes (41 ∷ drop (end + 1) bytes) end os o items h e)) ∙ ap (λ l. l ++ (term_text S 0 t ++ drop (end + 1) bytes)) (sym (text-same S h.rest));
+      ends = ends;
+      within = omega arith;
+    }
+
+-- ---- no term stands there
+
+pub none-follower : (S : List Symbol) → IsTrue (are_distinct S) → (bytes : List ℕ) (end : ℕ) (os : List OpenTerm) (o : OpenTerm) (items : List RowItem) → IsReadIn S bytes end os o items
+    → ((r : List ℕ) → ¬ (drop end bytes ≡ 44 ∷ r)) → ((r : List ℕ) → ¬ (drop end bytes ≡ 41 ∷ r)) → NoTerm S bytes
+none-follower S d bytes end os o items h comma bracket = subst (NoTerm S) (sym h.text) (no_follower S d (as_list new_frame h.rest) (new_frame h.frame.name h.frame.args) h.term (drop end bytes) h.written h.term_written h.ends comma bracket)
+
+pub none-end : (S : List Symbol) → IsTrue (are_distinct S) → (bytes : List ℕ) (end : ℕ) (os : List OpenTerm) (o : OpenTerm) (items : List RowItem) → IsReadIn S bytes end os o items
+    → drop end bytes ≡ 41 ∷ drop (end + 1) bytes → ¬ Ends (drop (end + 1) bytes) → NoTerm S bytes
+none-end S d bytes end os o items h e none =
+    none-at S (as_list new_frame h.rest ++ new_frame h.frame.name h.frame.args ∷ []) (as_list new_frame h.rest ++ new_frame h.frame.name h.frame.args ∷ []) h.term (drop end bytes) (41 ∷ drop (end + 1) bytes) bytes refl e (sym h.text) (no_close_end S d (as_list new_frame h.rest) (new_frame h.frame.name h.frame.args) h.term (drop (end + 1) bytes) h.written h.term_written none)
+
+pub none-function : (S : List Symbol) → IsTrue (are_distinct S) → (bytes : List ℕ) (end : ℕ) (os : List OpenTerm) (o : OpenTerm) (items : List RowItem) (h : IsReadIn S bytes end os o items)
+    → drop end bytes ≡ 41 ∷ drop (end + 1) bytes → NoFunction S h.frame.name (o.count + 1) → NoTerm S bytes
+none-function S d bytes end os o items h e none =
+    none-at S (as_list new_frame h.rest ++ new_frame h.frame.name h.frame.args ∷ []) (as_list new_frame h.rest ++ new_frame h.frame.name h.frame.args ∷ []) h.term (drop end bytes) (41 ∷ drop (end + 1) bytes) bytes refl e (sym h.text)
+    (no_close_function S d (as_list new_frame h.rest) (new_frame h.frame.name h.frame.args) h.term (drop (end + 1) bytes) h.written h.term_written (subst (λ n. NoFunction S h.frame.name (n + 1)) h.last.count none))
 
 -- ---- a whole text
 
-pub whole-text : (S : List Symbol) (bytes : List ℕ) (to : ℕ) (items : List RowItem) → IsRowRead S bytes 0 to [] items → to ≡ length bytes → (t : Term) → items ≡ row_of t → IsTerm S bytes t
-whole-text S bytes to items h e t r =
-    let same : h.term ≡ t = sym (root-is items h.term h.row) ∙ root-is items t r in
-    subst (λ u. IsTerm S bytes u) same (record {
-      written = h.stands.written;
-      same = h.stands.stands.there ∙ ap (λ l. term_text S 0 h.term ++ l) (past bytes to e) ∙ append-nil (term_text S 0 h.term);
-    })
+pub all-read : (S : List Symbol) (bytes : List ℕ) (end : ℕ) (os : List OpenTerm) (items : List RowItem) → os ≡ [] → IsRead S bytes end os items → IsRowTo S bytes end items
+all-read S bytes end os items e h =
+    let none = none-open bytes h.frames (subst (λ l. AreOpen bytes 0 l h.frames) e h.stands) in record {
+      term = h.term;
+      row = h.row ∙ ap (λ l. open_rows l ++ row_of h.term) none;
+      stands = record {
+        written = h.term_written;
+        stands = stands-by bytes (term_text S 0 h.term) 0 end (omega arith) h.within (h.text ∙ ap (λ l. open_text S l ++ (term_text S 0 h.term ++ drop end bytes)) none);
+        ends = h.ends;
+      };
+    }
+
+pub whole-row : (S : List Symbol) (bytes : List ℕ) (to : ℕ) (items : List RowItem) → IsRowTo S bytes to items → to ≡ length bytes → IsRowOf S bytes items
+whole-row S bytes to items h e = record {
+  term = h.term;
+  row = h.row;
+  is = record { written = h.stands.written; same = h.stands.stands.there ∙ ap (λ l. term_text S 0 h.term ++ l) (past bytes to e) ∙ append-nil (term_text S 0 h.term) };
+}
   where
     past : (bs : List ℕ) (k : ℕ) → k ≡ length bs → drop k bs ≡ []
     past bs k g = ap (λ m. drop m bs) g ∙ all bs
@@ -120,3 +309,12 @@ whole-text S bytes to items h e t r =
         all : (cs : List ℕ) → drop (length cs) cs ≡ []
         all [] = refl
         all (c ∷ cs) = all cs
+
+pub none-whole : (S : List Symbol) → IsTrue (are_distinct S) → (bytes : List ℕ) (to : ℕ) (items : List RowItem) → IsRowTo S bytes to items → ¬ (to ≡ length bytes) → (t : Term) → ¬ IsTerm S bytes t
+none-whole S d bytes to items h not t k = not (term-rest S d bytes h.term to h.stands t k)
+
+pub none-term : (S : List Symbol) (bytes : List ℕ) → NoTerm S bytes → (t : Term) → ¬ IsTerm S bytes t
+none-term S bytes none t h = none t [] h.written tt (h.same ∙ sym (append-nil (term_text S 0 t)))
+
+pub row-told : (S : List Symbol) (bytes : List ℕ) (items : List RowItem) → IsRowOf S bytes items → (t : Term) → items ≡ row_of t → IsTerm S bytes t
+row-told S bytes items h t e = subst (λ u. IsTerm S bytes u) (sym (root-is items h.term h.row) ∙ root-is items t e) h.is

@@ -15,6 +15,11 @@ use derivation_branch::{RowItem, TermRow};
 use formula_core::{Term, Terms};
 use sequent_calc::{Derivation, Step, StepList, TermArg};
 use std::alloc::Global;
+use std::cmp::max;
+
+// How many levels a tree may have: it is copied, compared and let go by calls that go down its
+// levels, so this keeps them within the stack of the machine.
+const MOST_LEVELS: u32 = 20_001;
 
 // Takes so many terms from the end, the last one first.
 fn take_args(alloc: Global, stack: &mut Vec<Term>, count: u32) -> Result<Terms, NoMemory>
@@ -50,9 +55,46 @@ fn put_item(alloc: Global, stack: &mut Vec<Term>, item: RowItem) -> Result<(), N
     Ok(())
 }
 
+// Takes the levels of so many terms from the end, and gives the greatest number.
+fn take_levels(levels: &mut Vec<u32>, count: u32) -> u32 {
+    let mut most = 0;
+    for _ in 0..count {
+        if let Some(below) = levels.pop() {
+            most = max(most, below);
+        }
+    }
+    most
+}
+
+// Puts the levels of the term of a symbol, which stands over the last terms, or of a leaf.
+fn put_levels(levels: &mut Vec<u32>, item: RowItem) -> Result<(), NoMemory> {
+    let below = match item {
+        RowItem::Fun(_, count) => take_levels(levels, count),
+        RowItem::Var(_) | RowItem::Eigen(_) | RowItem::Spare(_) => 0,
+    };
+    if below >= MOST_LEVELS {
+        return Err(NoMemory);
+    }
+    levels.push(below + 1)?;
+    Ok(())
+}
+
+// There is no memory for a term of too many levels.
+fn limit_levels(alloc: Global, row: &TermRow) -> Result<(), NoMemory> {
+    let items = row.items();
+    let mut levels = Vec::new(alloc);
+    let mut left = items.len();
+    while left > 0 {
+        left -= 1;
+        put_levels(&mut levels, items[left])?;
+    }
+    Ok(())
+}
+
 fn term_of(alloc: Global, row: &TermRow) -> Result<Term, NoMemory>
     ensures { IfOk result (λ t. the_term t ≡ row.now) }
 {
+    limit_levels(alloc, row)?;
     let items = row.items();
     let mut stack = Vec::new(alloc);
     let mut left = items.len();

@@ -2,14 +2,11 @@
 
 ghost use Rattle.std.specs.Prelude.{◌≡◌, ◌++◌, ◌∷◌, [], ℕ, List, Err, IsTrue, IsNone, IfSome, IfOk};
 ghost use Rattle.calculus.specs.Derivations as derivation;
-ghost use Rattle.calculus.specs.Syntax as tree;
-ghost use Rattle.derivation_text.specs.Spelling.{IsHome, IsLabel, IsLabelBefore, IsLimit, IsNameNumber, IsNumber, IsNumberBefore, IsTerm};
-ghost use Rattle.formula_core.specs.TermView.{the_term};
+ghost use Rattle.derivation_text.specs.Spelling.{IsHome, IsLabel, IsLabelBefore, IsLimit, IsNameNumber, IsNumber, IsNumberBefore};
 ghost use Rattle.sequent_calc.specs.NamesView.{the_home};
 
-use formula_core::Term;
-use formula_text::{TextRead, read_label, read_number, read_term};
-use logic_rules::{Label, Problem};
+use formula_text::{TextRead, read_label, read_number};
+use logic_rules::Label;
 use sequent_calc::Home;
 use std::alloc::Global;
 
@@ -93,17 +90,4 @@ pub fn read_home(alloc: Global, text: &[u8]) -> Result<Home, TextRead>
     }
     let label = read_whole_label(alloc, text)?;
     Ok(Home::At(label))
-}
-
-/// A term that is the whole text.
-pub fn read_whole_term(alloc: Global, problem: &Problem, text: &[u8]) -> Result<Term, TextRead>
-    ensures ok { IfOk result (λ t. IsTerm problem.now.symbols text.now (the_term t)) }
-    ensures none { result ≡ Err TextRead.None → (t : tree.Term) → ¬ IsTerm problem.now.symbols text.now t }
-{
-    let (term, to) = read_term(alloc, problem.symbols(), text, 0)?;
-    if to == text.len() {
-        Ok(term)
-    } else {
-        Err(TextRead::None)
-    }
 }

@@ -1,27 +1,48 @@
-//! Reading terms into rows. What is read here is a term; where nothing is, `read_term` decides
-//! whether one stands there.
+//! Reading terms into rows. The terms that are open stand on a stack on the heap, so that memory
+//! alone bounds their depth.
 
-ghost use Rattle.std.specs.Prelude.{◌≡◌, ◌+◌, ◌<◌, ◌≤◌, ◌∷◌, ◌↔◌, [], ℕ, List, length, drop, Err, IfOk, IfSome};
-ghost use Rattle.std.specs.Prelude.{IsNone, IsTrue, set};
+ghost use Rattle.std.specs.Prelude.{◌≡◌, ◌+◌, ◌<◌, ◌≤◌, ◌∷◌, [], ℕ, List, false, length, drop, set, Err, IfOk, OnOk, IfSome};
+ghost use Rattle.std.specs.Prelude.{IsNone, IsTrue, ◌↔◌};
 ghost use Rattle.std.specs.List.{list_all};
-ghost use Rattle.calculus.specs.Problems.{symbol_fits};
+ghost use Rattle.calculus.specs.DerivationText.{IsNameAt};
+ghost use Rattle.calculus.specs.Problems.{are_distinct, symbol_fits};
 ghost use Rattle.calculus.specs.Syntax as tree;
 ghost use Rattle.calculus.specs.Text.{Ends};
-ghost use Rattle.derivation_text.specs.RowReading.{AreArgsRead, IsRowRead};
+ghost use Rattle.derivation_text.specs.RowReading.{IsBegun, IsFurther, IsHead, IsNext, IsOpened, IsPut, IsRead, IsRowOf};
 ghost use Rattle.derivation_text.specs.Spelling.{IsTerm};
-ghost use Rattle.formula_core.specs.TermView.{the_term};
-ghost use Rattle.formula_text.specs.Frames.{IsFunction};
+ghost use Rattle.formula_text.specs.Frames.{IsFunction, NoFunction, NoTerm};
 
-use crate::part_reader::read_whole_term;
 use cop_base::{NoMemory, SymbolId, Text};
-use derivation_branch::{RowItem, TermRow, add_row};
+use derivation_branch::{RowItem, TermRow};
 use formula_core::{Symbol, SymbolClass, Symbols, Term};
 use formula_text::{TextRead, read_name, read_term};
 use logic_rules::Problem;
 use std::alloc::Global;
 
-// How many terms may be open at a place: they are read by calls within one another.
-const MOST_OPEN_TERMS: u32 = 5_000;
+// A term whose arguments are being read: where its name begins in the text, the place of its
+// symbol in the row, and how many of its arguments are whole. Its symbol is known when these are
+// counted; then its name is read again, so that an open term takes 16 bytes.
+#[derive(Clone, Copy)]
+struct OpenTerm {
+    from: usize,
+    at: u32,
+    count: u32,
+}
+
+// How a term begins: with a name and an opening bracket, or it is a leaf and whole. The place after
+// it.
+#[derive(Clone, Copy)]
+enum Head {
+    Open(usize),
+    Leaf(RowItem, usize),
+}
+
+// What stands at a place after a term: a further argument, or the outermost term is whole.
+#[derive(Clone, Copy)]
+enum Next {
+    Argument(usize),
+    Whole(usize),
+}
 
 fn byte_at(text: &[u8], place: usize) -> Option<u8>
     ensures some { IfSome result (λ b. drop place text.now ≡ b ∷ drop (place + 1) text.now) }
@@ -38,6 +59,7 @@ fn byte_at(text: &[u8], place: usize) -> Option<u8>
 fn has_byte(text: &[u8], place: usize, byte: u8) -> bool
     ensures yes { IsTrue result → drop place text.now ≡ byte ∷ drop (place + 1) text.now }
     ensures within { IsTrue result → place < length text.now }
+    ensures no { result ≡ false → (rest : List ℕ) → ¬ (drop place text.now ≡ byte ∷ rest) }
 {
     match byte_at(text, place) {
         Some(found) => found == byte,
@@ -56,157 +78,196 @@ fn ends_at(text: &[u8], place: usize) -> bool
 }
 
 // The function symbol of this name and this number of arguments.
-fn function_of(symbols: &Symbols, name: Text, arity: u32) -> Option<SymbolId>
-    ensures { IfSome result (λ id. IsFunction symbols.now id.0 name arity) }
+fn function_of(symbols: &Symbols, name: Text, arity: u32) -> Result<SymbolId, TextRead>
+    ensures ok { IfOk result (λ id. IsFunction symbols.now id.0 name arity) }
+    ensures none { result ≡ Err TextRead.None → NoFunction symbols.now name arity }
 {
     let symbol = Symbol {
         name,
         class: SymbolClass::Function,
         arity,
     };
-    symbols.find(&symbol)
+    match symbols.find(&symbol) {
+        Some(id) => Ok(id),
+        None => Err(TextRead::None),
+    }
 }
 
-// An eigenvariable or a spare constant.
-fn read_made(
-    alloc: Global,
-    symbols: &Symbols,
-    text: &[u8],
-    from: usize,
-    items: &mut Vec<RowItem>,
-) -> Result<Option<usize>, NoMemory>
+// An eigenvariable or a spare constant: what else is a term does not begin with `$`.
+fn read_made(alloc: Global, symbols: &Symbols, text: &[u8], from: usize) -> Result<Head, TextRead>
     requires within { from ≤ length text.now }
     requires fits { IsTrue (list_all symbol_fits symbols.now) }
-    ensures { IfOk result (λ found. IfSome found (λ to.
-        IsRowRead symbols.now text.now from to items.old.items items.new.items)) }
+    ensures ok { IfOk result (IsHead symbols.now text.now from) }
+    ensures none { result ≡ Err TextRead.None → NoTerm symbols.now (drop from text.now) }
 {
     match read_term(alloc, symbols, text, from) {
-        Ok((Term::Eigen(number), to)) => {
-            items.push(RowItem::Eigen(number))?;
-            Ok(Some(to))
-        }
-        Ok((Term::Spare(number), to)) => {
-            items.push(RowItem::Spare(number))?;
-            Ok(Some(to))
-        }
-        Ok(_) | Err(TextRead::None) => Ok(None),
-        Err(TextRead::NoMemory) => Err(NoMemory),
+        Ok((Term::Eigen(number), to)) => Ok(Head::Leaf(RowItem::Eigen(number), to)),
+        Ok((Term::Spare(number), to)) => Ok(Head::Leaf(RowItem::Spare(number), to)),
+        Ok(_) => Err(TextRead::NoMemory),
+        Err(fault) => Err(fault),
     }
 }
 
-// Puts the symbol in its place before its arguments.
-fn put_symbol(items: &mut Vec<RowItem>, at: usize, id: SymbolId, arity: u32)
-    requires { at < length items.old.items }
-    ensures { items.new.items ≡ set items.old.items at (RowItem.Fun id arity) }
-{
-    items[at] = RowItem::Fun(id, arity);
-}
-
-// The term at a place, and the place after it. Its symbol is put into the row once its arguments
-// are counted.
-#[cycle(row)]
-fn read_item(
-    alloc: Global,
-    symbols: &Symbols,
-    text: &[u8],
-    from: usize,
-    room: u32,
-    items: &mut Vec<RowItem>,
-) -> Result<Option<usize>, NoMemory>
+fn read_head(alloc: Global, symbols: &Symbols, text: &[u8], from: usize) -> Result<Head, TextRead>
     requires within { from ≤ length text.now }
     requires fits { IsTrue (list_all symbol_fits symbols.now) }
-    ensures { IfOk result (λ found. IfSome found (λ to.
-        IsRowRead symbols.now text.now from to items.old.items items.new.items)) }
+    ensures ok { IfOk result (IsHead symbols.now text.now from) }
+    ensures none { result ≡ Err TextRead.None → NoTerm symbols.now (drop from text.now) }
 {
     if has_byte(text, from, b'$') {
-        return read_made(alloc, symbols, text, from, items);
+        return read_made(alloc, symbols, text, from);
     }
-    let (name, end) = match read_name(alloc, text, from) {
-        Ok(found) => found,
-        Err(TextRead::None) => return Ok(None),
-        Err(TextRead::NoMemory) => return Err(NoMemory),
-    };
-    let at = items.len();
-    items.push(RowItem::Fun(SymbolId(0), 0))?;
-    let Some((arity, to)) = read_args(alloc, symbols, text, end, room, items)? else {
-        return Ok(None);
-    };
-    if !ends_at(text, to) {
-        return Ok(None);
+    let (name, end) = read_name(alloc, text, from)?;
+    if has_byte(text, end, b'(') {
+        return Ok(Head::Open(end + 1));
     }
-    match function_of(symbols, name, arity) {
-        Some(id) => {
-            put_symbol(items, at, id, arity);
-            Ok(Some(to))
-        }
-        None => Ok(None),
+    if !ends_at(text, end) {
+        return Err(TextRead::None);
     }
+    let id = function_of(symbols, name, 0)?;
+    Ok(Head::Leaf(RowItem::Fun(id, 0), end))
 }
 
-// The arguments in brackets, or none.
-#[cycle(row)]
-fn read_args(
+// Opens the term whose name begins at a place of the text, and keeps a place for its symbol.
+fn open_term(
+    stack: &mut Vec<OpenTerm>,
+    items: &mut Vec<RowItem>,
+    from: usize,
+) -> Result<(), NoMemory>
+    ensures { OnOk result (IsOpened from stack.old.items stack.new.items items.old.items items.new.items) }
+{
+    let Ok(at) = u32::try_from(items.len()) else {
+        return Err(NoMemory);
+    };
+    items.push(RowItem::Fun(SymbolId(0), 0))?;
+    stack.push(OpenTerm { from, at, count: 0 })?;
+    Ok(())
+}
+
+// The name that a place of the text is known to have.
+fn name_again(alloc: Global, text: &[u8], from: usize) -> Result<Text, TextRead>
+    requires within { from ≤ length text.now }
+    ensures ok { (to : ℕ) (name : List ℕ) → IsNameAt text.now from to name
+        → IfOk result (λ n. n ≡ name) }
+    ensures none { (to : ℕ) (name : List ℕ) → IsNameAt text.now from to name
+        → ¬ (result ≡ Err TextRead.None) }
+{
+    let (name, _) = read_name(alloc, text, from)?;
+    Ok(name)
+}
+
+// Puts the symbol of a term in its place before its arguments.
+fn put_symbol(
     alloc: Global,
     symbols: &Symbols,
     text: &[u8],
-    from: usize,
-    room: u32,
     items: &mut Vec<RowItem>,
-) -> Result<Option<(u32, usize)>, NoMemory>
-    requires within { from ≤ length text.now }
-    requires fits { IsTrue (list_all symbol_fits symbols.now) }
-    ensures { IfOk result (λ found. IfSome found (λ r.
-        AreArgsRead symbols.now text.now from r.0 r.1 items.old.items items.new.items)) }
+    term: OpenTerm,
+) -> Result<(), TextRead>
+    requires from { term.from ≤ length text.now }
+    requires at { term.at < length items.old.items }
+    ensures ok { (to : ℕ) (name : List ℕ) → IsNameAt text.now term.from to name
+        → OnOk result (IsPut symbols.now name term items.old.items items.new.items) }
+    ensures none { (to : ℕ) (name : List ℕ) → IsNameAt text.now term.from to name
+        → result ≡ Err TextRead.None → NoFunction symbols.now name term.count }
 {
-    if !has_byte(text, from, b'(') {
-        return Ok(Some((0, from)));
+    let name = name_again(alloc, text, term.from)?;
+    let id = function_of(symbols, name, term.count)?;
+    items[term.at as usize] = RowItem::Fun(id, term.count);
+    Ok(())
+}
+
+// What stands at a place after a term: an argument that others follow, or the last one of the
+// innermost open term, which is closed, and so on outward.
+fn close_terms(
+    alloc: Global,
+    symbols: &Symbols,
+    text: &[u8],
+    stack: &mut Vec<OpenTerm>,
+    items: &mut Vec<RowItem>,
+    end: usize,
+) -> Result<Next, TextRead>
+    requires distinct { IsTrue (are_distinct symbols.now) }
+    requires read { IsRead symbols.now text.now end stack.old.items items.old.items }
+    ensures ok { IfOk result (IsNext symbols.now text.now stack.new.items items.new.items) }
+    ensures further { IfOk result (IsFurther end) }
+    ensures none { result ≡ Err TextRead.None → NoTerm symbols.now text.now }
+{
+    let mut end = end;
+    while let Some(mut term) = stack.pop() {
+        // A list of 2^32 arguments fits no memory.
+        if term.count == u32::MAX {
+            return Err(TextRead::NoMemory);
+        }
+        term.count += 1;
+        if has_byte(text, end, b',') {
+            stack.push(term)?;
+            return Ok(Next::Argument(end + 1));
+        }
+        if !has_byte(text, end, b')') {
+            return Err(TextRead::None);
+        }
+        end += 1;
+        if !ends_at(text, end) {
+            return Err(TextRead::None);
+        }
+        put_symbol(alloc, symbols, text, items, term)?;
     }
-    if room == 0 {
-        return Ok(None);
+    Ok(Next::Whole(end))
+}
+
+// Reads how the term at a place begins and, where it is whole, the terms that it closes.
+fn read_on(
+    alloc: Global,
+    symbols: &Symbols,
+    text: &[u8],
+    stack: &mut Vec<OpenTerm>,
+    items: &mut Vec<RowItem>,
+    place: usize,
+) -> Result<Next, TextRead>
+    requires distinct { IsTrue (are_distinct symbols.now) }
+    requires fits { IsTrue (list_all symbol_fits symbols.now) }
+    requires begun { IsBegun symbols.now text.now place stack.old.items items.old.items }
+    ensures ok { IfOk result (IsNext symbols.now text.now stack.new.items items.new.items) }
+    ensures further { IfOk result (IsFurther place) }
+    ensures none { result ≡ Err TextRead.None → NoTerm symbols.now text.now }
+{
+    match read_head(alloc, symbols, text, place) {
+        Ok(Head::Open(end)) => {
+            open_term(stack, items, place)?;
+            Ok(Next::Argument(end))
+        }
+        Ok(Head::Leaf(item, end)) => {
+            items.push(item)?;
+            close_terms(alloc, symbols, text, stack, items, end)
+        }
+        Err(fault) => Err(fault),
     }
-    let mut count = 0;
-    let mut place = from + 1;
+}
+
+// The items of the row of the term that is the whole text.
+fn read_items(alloc: Global, symbols: &Symbols, text: &[u8]) -> Result<Vec<RowItem>, TextRead>
+    requires distinct { IsTrue (are_distinct symbols.now) }
+    requires fits { IsTrue (list_all symbol_fits symbols.now) }
+    ensures ok { IfOk result (λ items. IsRowOf symbols.now text.now items.items) }
+    ensures none { result ≡ Err TextRead.None → (t : tree.Term) → ¬ IsTerm symbols.now text.now t }
+{
+    let mut stack = Vec::new(alloc);
+    let mut items = Vec::new(alloc);
+    let mut place = 0;
     loop {
-        let Some(end) = read_item(alloc, symbols, text, place, room - 1, items)? else {
-            return Ok(None);
-        };
-        if count == u32::MAX {
-            return Ok(None);
+        match read_on(alloc, symbols, text, &mut stack, &mut items, place) {
+            Ok(Next::Argument(end)) => place = end,
+            Ok(Next::Whole(end)) => {
+                return if end == text.len() {
+                    Ok(items)
+                } else {
+                    Err(TextRead::None)
+                };
+            }
+            Err(fault) => return Err(fault),
         }
-        count += 1;
-        if has_byte(text, end, b')') {
-            return Ok(Some((count, end + 1)));
-        }
-        if !has_byte(text, end, b',') {
-            return Ok(None);
-        }
-        place = end + 1;
     }
-}
-
-// The row of the term that is the whole text, or none where it is not read here.
-fn read_quickly(alloc: Global, symbols: &Symbols, text: &[u8]) -> Result<Option<TermRow>, NoMemory>
-    requires fits { IsTrue (list_all symbol_fits symbols.now) }
-    ensures { IfOk result (λ found. IfSome found (λ t. IsTerm symbols.now text.now t)) }
-{
-    let mut items = Vec::new(alloc);
-    let found = read_item(alloc, symbols, text, 0, MOST_OPEN_TERMS, &mut items)?;
-    match found {
-        Some(to) => if to == text.len() {
-            Ok(Some(TermRow::new(items)))
-        } else {
-            Ok(None)
-        },
-        None => Ok(None),
-    }
-}
-
-fn row_of(alloc: Global, term: &Term) -> Result<TermRow, NoMemory>
-    ensures { IfOk result (λ t. t ≡ the_term term.now) }
-{
-    let mut items = Vec::new(alloc);
-    add_row(&mut items, term)?;
-    Ok(TermRow::new(items))
 }
 
 /// The row of the term that is the whole text.
@@ -214,11 +275,6 @@ pub fn read_whole_row(alloc: Global, problem: &Problem, text: &[u8]) -> Result<T
     ensures ok { IfOk result (λ t. IsTerm problem.now.symbols text.now t) }
     ensures none { result ≡ Err TextRead.None → (t : tree.Term) → ¬ IsTerm problem.now.symbols text.now t }
 {
-    let found = read_quickly(alloc, problem.symbols(), text)?;
-    if let Some(row) = found {
-        return Ok(row);
-    }
-    let term = read_whole_term(alloc, problem, text)?;
-    let row = row_of(alloc, &term)?;
-    Ok(row)
+    let items = read_items(alloc, problem.symbols(), text)?;
+    Ok(TermRow::new(items))
 }
