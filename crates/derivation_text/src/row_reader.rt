@@ -201,7 +201,7 @@ fn close_terms(
         }
         term.count += 1;
         if has_byte(text, end, b',') {
-            stack.push(term)?;
+            stack.push_reserved(term);
             return Ok(Next::Argument(end + 1));
         }
         if !has_byte(text, end, b')') {

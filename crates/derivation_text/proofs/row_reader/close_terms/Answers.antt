@@ -1,7 +1,7 @@
 use Rattle.std.proofs.Common.{◌≤◌, arith, sym, ◌∙◌}
 use Rattle.std.proofs.lemmas.Bool.{false≢true}
 use Rattle.formula_text.proofs.Passing.{error-passed}
-use Rattle.derivation_text.proofs.RowsRead.{all-read, argument, closed, none-end, none-follower, none-function, read-in, symbol-within}
+use Rattle.derivation_text.proofs.RowsRead.{argument, closed, none-end, none-follower, none-function, read-in, symbol-within}
 use Rattle.derivation_text.proofs.row_reader.close_terms.Goals as goal
 
 pub returns-then-has_byte-clause-ok : goal.returns-then-has_byte-clause-ok
@@ -10,7 +10,7 @@ returns-then-has_byte-clause-ok c =
     let bytes = c.args.text.now in
     let os = c.pop.new.self.items in
     let h = read-in S bytes c.loop-term.end os c.loop-term.stack.items c.in-Some.term c.loop-term.items.items c.in-Some.ensures.items c.loop-term.invariant.read in
-    argument S bytes c.loop-term.end os c.push.new.self.items c.in-Some.term c.loop-term.items.items h (c.has_byte.ensures.yes c.if-has_byte.true) (c.has_byte.ensures.within c.if-has_byte.true) c.in_ok-push.ensures.items
+    argument S bytes c.loop-term.end os c.push_reserved.new.self.items c.in-Some.term c.loop-term.items.items h (c.has_byte.ensures.yes c.if-has_byte.true) (c.has_byte.ensures.within c.if-has_byte.true) c.push_reserved.ensures.items
 
 pub returns-then-not-has_byte-clause-none : goal.returns-then-not-has_byte-clause-none
 returns-then-not-has_byte-clause-none c = λ _.
@@ -61,4 +61,4 @@ returns-in_err-put_symbol-clause-none c = λ e.
     let os = c.pop.new.self.items in
     let h = read-in S bytes c.loop-term.end os c.loop-term.stack.items c.in-Some.term c.loop-term.items.items c.in-Some.ensures.items c.loop-term.invariant.read in
     none-function S c.requires.distinct bytes c.loop-term.end os c.in-Some.term c.loop-term.items.items h (c.has_byte-in-Some.ensures.yes c.if-not-has_byte.false)
-    (c.in_err-put_symbol.ensures.none h.last.end h.frame.name h.last.named (error-passed c.from_residual-in_err-put_symbol.result c.in_err-put_symbol.field-0.0 _ c.from_residual-in_err-put_symbol.ensures.1 e))
+    (c.in_err-put_symbol.ensures.none h.last.end h.frame.name h.last.named (error-passed c.from_residual.result c.in_err-put_symbol.field-0.0 _ c.from_residual.ensures.1 e))
