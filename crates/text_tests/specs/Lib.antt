@@ -1,1 +1,2 @@
+pub mod DepthExample
 pub mod FormulaExamples

@@ -5,6 +5,8 @@
 #[cfg(test)]
 mod branches;
 #[cfg(test)]
+mod depth;
+#[cfg(test)]
 mod derivations;
 #[cfg(test)]
 mod formulas;

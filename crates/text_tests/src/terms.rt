@@ -163,12 +163,13 @@ fn reads_terms(rt: HostRuntime) -> Result<(), Fail> {
     Ok(())
 }
 
-fn nested_text(alloc: Global, levels: usize) -> Result<Vec<u8>, NoMemory> {
+/// A leaf inside of this many terms.
+pub fn nested_text(alloc: Global, leaf: &[u8], levels: usize) -> Result<Vec<u8>, NoMemory> {
     let mut text = Vec::new(alloc);
     for _ in 0..levels {
         text.extend_from_slice(b"f(")?;
     }
-    text.push(b'a')?;
+    text.extend_from_slice(leaf)?;
     for _ in 0..levels {
         text.push(b')')?;
     }
@@ -183,7 +184,7 @@ fn nested_fault(
 ) -> Result<Option<TextRead>, NoMemory>
     requires { IsTrue (list_all symbol_fits symbols.now) }
 {
-    let text = nested_text(alloc, levels)?;
+    let text = nested_text(alloc, b"a", levels)?;
     Ok(read_term(alloc, symbols, text.as_slice(), 0).err())
 }
 
