@@ -288,6 +288,25 @@ rung-shown es now place v view back rungs pos lt read =
       earlier = rung.earlier;
     }
 
+item-link : (es : List Item) (i : ℕ) (x : Item) (z : Mark × ℕ) → slice_get es i ≡ Some x → get_or (map the_label_link es) i z ≡ the_label_link x
+item-link [] i x z e = absurd cc
+item-link (y ∷ es) zero x z e = ap (λ o. the_label_link (unwrap_or o y)) e
+item-link (y ∷ es) (suc i) x z e = item-link es i x z e
+
+pub last-shown : (es : List Item) (now : List Label) (place : ℕ) (x : Item) (m : Mark) → label_table es ≡ now → AreBackward 1 (map the_label_link es) → 0 < place → place < length now → slice_get es (place - 1) ≡ Some x → m ≡ the_last x.0 → (x.0.front < place) × (get_or now place [] ≡ get_or now x.0.front [] ++ m ∷ [])
+last-shown es now place x m view back pos lt read last =
+    let size = label-length es now view in
+    let links = length-map es the_label_link in
+    let a = place - 1 in
+    let less : a < length es = omega (arith, size, lt, pos) in
+    let link = item-link es a x no_link read in
+    let before = backward-at 1 (map the_label_link es) a no_link back (omega (arith, links, less)) in
+    let front = ap (λ (y : Mark × ℕ). y.1) link in
+    let one : place ≡ suc a = omega (arith, pos) in (
+      omega (arith, before, front, pos),
+      ap (λ n. get_or now n []) one ∙ label-at es now a no_link view back less ∙ ap (λ (y : Mark × ℕ). get_or now y.1 [] ++ y.0 ∷ []) link ∙ ap (λ k. get_or now x.0.front [] ++ k ∷ []) (sym last),
+    )
+
 same-longer : (w v : Label) → w ≡ v → IsLonger w v
 same-longer w v e = ([], sym e ∙ sym (append-nil w))
 

@@ -1,7 +1,7 @@
 //! Labels that share their beginnings, each at one place.
 
 ghost use Rattle.std.specs.Prelude.{◌≡◌, ◌==◌, ◌<◌, ◌≤◌, ◌++◌, ◌∷◌, [], get_or, length, map, suc};
-ghost use Rattle.std.specs.Prelude.{IfOk, OnOk};
+ghost use Rattle.std.specs.Prelude.{IfOk, IfSome, IsNone, OnOk};
 ghost use Rattle.calculus.specs.Derivations as derivation;
 ghost use Rattle.calculus.specs.Derivations.{character_eq};
 ghost use Rattle.calculus.specs.Equality.{list_eq};
@@ -77,6 +77,16 @@ fn link_of(front: u32, mark: Mark) -> Link
     }
 }
 
+fn mark_of(link: Link) -> Mark
+    ensures { the_character result ≡ the_last link }
+{
+    if link.is_new {
+        Mark::New(link.number)
+    } else {
+        Mark::Spare(link.number)
+    }
+}
+
 impl Labels {
     /// The table of the root.
     pub fn new(alloc: Global) -> Labels
@@ -117,6 +127,25 @@ impl Labels {
         ensures { result ≡ length (get_or self.now place []) }
     {
         self.rung(place).length
+    }
+
+    /// The last mark of the label at a place, and the place of what stands before it. Only the root
+    /// has none.
+    pub fn last(&self, place: u32) -> Option<(u32, Mark)>
+        requires { place < length self.now }
+        ensures none { IsNone result → get_or self.now place [] ≡ [] }
+        ensures before { IfSome result (λ x. x.0 < place) }
+        ensures some { IfSome result (λ x. get_or self.now place []
+            ≡ get_or self.now x.0 [] ++ the_character x.1 ∷ []) }
+    {
+        let links = &self.links;
+        if place == 0 {
+            return None;
+        }
+        match links.get_index(place as usize - 1) {
+            Some((link, _)) => Some((link.front, mark_of(*link))),
+            None => None,
+        }
     }
 
     // The further beginning of the labels that add a mark to that of a place: it is twice as far
