@@ -3,15 +3,16 @@ use Rattle.std.proofs.Common.{◌≡◌, ℕ, ◌+◌, ◌-◌, ◌<◌, ◌==�
 use Rattle.std.proofs.lemmas.List.{drop_more, drop_all}
 use Rattle.std.specs.Option.{option_map_or}
 use Rattle.indexmap.specs.IndexMap.{IndexMap, get}
-use Rattle.calculus.specs.Calculus.{is_forbidden, spare_allowed}
+use Rattle.calculus.specs.Calculus.{holds_character, home_holds, is_forbidden, is_in_home, spare_allowed}
 use Rattle.calculus.specs.Labels.{home_allows}
 use Rattle.calculus.specs.Substitution.{any_leaf, any_leaf_of}
 use Rattle.calculus.specs.Syntax.{Problem, Term, Terms, var, fun, eigen, spare, no_terms, more_terms}
-use Rattle.calculus.specs.Derivations.{character_eq, Label, EigenName, SpareName, Names, Home, anywhere, home_at}
-use Rattle.derivation_branch.specs.Occurring.{IsLonger}
+use Rattle.calculus.specs.Derivations.{character_eq, Label, Mark, EigenName, SpareName, Names, Home, anywhere, home_at, TermArg, no_term, by_term, by_name}
+use Rattle.derivation_branch.specs.Occurring.{IsLonger, in_argument}
 use Rattle.derivation_branch.specs.TableView.{IsLabelAt}
 use Rattle.derivation_branch.proofs.TableLaws.{longer-at, longer-size}
-use Rattle.derivation_check.specs.HomesView.{AreEigenHomes, AreFound, AreHomes, AreSpareHomes, IsEigenHome, IsFound, IsHomeOfSpare, IsSpareHome, is_forbidden_at, is_place_allowed}
+use Rattle.derivation_branch.proofs.GrowthLaws.{or_false}
+use Rattle.derivation_check.specs.HomesView.{AreEigenHomes, AreFound, AreHomes, AreSpareHomes, IsEigenHome, IsFound, IsHomeOfSpare, IsSpareHome, is_forbidden_at, is_in_home_at, is_place_allowed, place_holds}
 use Rattle.derivation_check.specs.declared.homes.Homes.{Homes}
 use Rattle.derivation_check.specs.declared.homes.Place.{Place}
 use Rattle.derivation_check.specs.declared.homes.Place.TheVariants.{Anywhere, At}
@@ -144,3 +145,32 @@ module _ (P : Problem) (names : Names) (labels : List Label) (homes : Homes) (v 
 
   pub allowed-told : (t : Term) (r : Bool) → r ≡ any_leaf (is_forbidden_at P labels homes v) t → not r ≡ not (any_leaf (is_forbidden P names v) t)
   allowed-told t r e = ap not (e ∙ forbidden-same t)
+
+-- ---- characters in homes
+
+place-holds-same : (labels : List Label) (m : Mark) (p : Place) (x : Home) → IsSpareHome labels p x → place_holds labels m p ≡ home_holds m x
+place-holds-same labels m Anywhere anywhere g = refl
+place-holds-same labels m Anywhere (home_at w) g = absurd g
+place-holds-same labels m (At k) anywhere g = absurd g
+place-holds-same labels m (At k) (home_at w) g = ap (holds_character m) g.1
+
+module _ (names : Names) (labels : List Label) (homes : Homes) (m : Mark) (h : AreHomes names labels homes) where
+  mutual
+    home-same : (t : Term) → any_leaf (is_in_home_at labels homes m) t ≡ any_leaf (is_in_home names m) t
+    home-same (var k) = refl
+    home-same (fun f us) = all-homes-same us
+    home-same (eigen n) = found-same (IsEigenHome labels) _ _ _ _ false (h.eigens n) (λ k x g. ap (holds_character m) g.1)
+    home-same (spare n) = found-same (IsHomeOfSpare labels) _ _ _ _ false (h.spares n) (λ p x g. place-holds-same labels m p x.home g)
+
+    all-homes-same : (us : Terms) → any_leaf_of (is_in_home_at labels homes m) us ≡ any_leaf_of (is_in_home names m) us
+    all-homes-same no_terms = refl
+    all-homes-same (more_terms u us) = λ i. home-same u i || all-homes-same us i
+
+  pub argument-same : (t : TermArg) → in_argument (is_in_home_at labels homes m) t ≡ in_argument (is_in_home names m) t
+  argument-same no_term = refl
+  argument-same (by_term t) = home-same t
+  argument-same (by_name n) = home-same (eigen n)
+
+-- a leaf whose home has no marks brings nothing
+pub bare-adds : (names : Names) (labels : List Label) (homes : Homes) (m : Mark) (t : Term) (a : Bool) → AreHomes names labels homes → any_leaf (is_in_home names m) t ≡ false → a ≡ (a || any_leaf (is_in_home_at labels homes m) t)
+bare-adds names labels homes m t a h e = sym (ap (λ b. a || b) (home-same names labels homes m h t ∙ e) ∙ or_false a)

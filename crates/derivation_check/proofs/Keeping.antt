@@ -1,7 +1,7 @@
 -- The state of a judgement is kept while its tables and sets grow, while the branch grows, and while it is cut back.
-use Rattle.std.proofs.Common.{◌≡◌, ℕ, ◌<◌, ◌≤◌, Bool, true, false, ◌||◌, ◌&&◌, List, [], ◌∷◌, ◌++◌, length, get_or, map, take, None, Some, inl, inr, refl, sym, ◌∙◌, ap, subst, arith}
+use Rattle.std.proofs.Common.{◌≡◌, ℕ, ◌<◌, Bool, true, false, ◌||◌, ◌&&◌, List, [], ◌∷◌, ◌++◌, length, get_or, map, take, None, Some, inl, inr, refl, sym, ◌∙◌, ap, subst, arith}
 use Rattle.std.proofs.Math.ListN.{get_or-map}
-use Rattle.std.proofs.lemmas.List.{append_assoc, length-map, map-append, map_push, take_all, take-append-le}
+use Rattle.std.proofs.lemmas.List.{append_assoc, length-map, map-append, map_push, take_all}
 use Rattle.calculus.specs.Calculus.{with_argument, with_components, term_fits, is_eigen, is_in_home, eigen_occurs, character_occurs}
 use Rattle.calculus.specs.Derivations.{Sequent, Label, Names, new_mark, ModalArg, TermArg, no_term, by_term, by_name}
 use Rattle.calculus.specs.Judgement.{open_after}
@@ -19,7 +19,9 @@ use Rattle.derivation_branch.proofs.ChildLaws.{OnEach, Grown, Marked, binds-unde
 use Rattle.derivation_branch.proofs.TableLaws.{longer-at, longer-size, pushed-at, pushed-longer}
 use Rattle.derivation_check.specs.OpenSequents.{IsLastOf, after_added, placed}
 use Rattle.derivation_check.specs.StateView.{AreKept, AreWithin, HasArgument, IsLabelAfter, StandsOn, Tells, Wait, eigens_of, last_of, marks_of, the_entry, the_sequent}
+use Rattle.derivation_check.specs.ToldView.{HasMarks}
 use Rattle.derivation_check.specs.declared.open_sequents.BranchEntry.{BranchEntry}
+use Rattle.derivation_check.proofs.ToldLaws.{label-there, take-longer}
 
 -- ---- tables that grow
 
@@ -67,9 +69,6 @@ kept-longer names table more labels others E M (s ∷ ss) h g k =
     (within-longer table more labels others s h g k.0, tells-same names E M (the_sequent table labels s) (the_sequent more others s) (sequent-longer table more labels others s h g k.0) k.1, wait-longer names table more labels others E M ss h g k.2)
 
 -- ---- sets that grow
-
-take-longer : (E F : List ℕ) (n : ℕ) → IsLonger E F → n ≤ length E → take n F ≡ take n E
-take-longer E F n h le = ap (take n) h.1 ∙ take-append-le n E h.0 le
 
 pub wait-more : (names : Names) (table : List (List Term)) (labels : List Label) (E F M L : List ℕ) (ss : List (List BranchEntry)) → IsLonger E F → IsLonger M L → Wait names table labels E M ss → Wait names table labels F L ss
 wait-more names table labels E F M L [] h g w = tt
@@ -218,3 +217,11 @@ value-put table more outer k v lt place pushed closed_all =
     let grown = pushed-longer table more (v ∷ get_or table outer []) pushed in
     let same = longer-at table more outer [] grown lt in
     record { within = at.0; put = (at.1 ∙ ap (λ ts. v ∷ ts) (sym same), subst AreClosed (sym same) closed_all); grown = grown }
+
+-- the marks of the label that a step leads to are there, once those of its argument are
+pub branch-there : (names : Names) (table : List (List Term)) (labels : List Label) (E M L : List ℕ) (xs : List BranchEntry) (u : BranchEntry) (at : ℕ) (x : ModalArg) → StandsOn xs u → IsLabelAfter labels u.shared.label x at → Tells names E M (the_sequent table labels xs) → ((n : ℕ) → holds L n ≡ (holds M n || in_modal (new_mark n) x)) → HasMarks labels L at
+branch-there names table labels E M L xs u at x stands label told held =
+    let s = the_sequent table labels xs in
+    let lt : stands.0 < length s = let e = length-map xs (the_entry table labels) in omega (arith, e, stands.1) in
+    let here : the_entry table labels u ≡ get_or s stands.0 (the_entry table labels u) = ap (the_entry table labels) stands.2 ∙ sym (get_or-map (the_entry table labels) xs stands.0 u) in
+    label-there names labels M L s stands.0 at (the_entry table labels u) label.0 x lt here label.1.1 told.mark held

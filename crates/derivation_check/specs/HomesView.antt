@@ -5,7 +5,8 @@ use Rattle.indexmap.specs.IndexMap.{IndexMap, get}
 use Rattle.calculus.specs.Labels.{home_allows}
 use Rattle.calculus.specs.Skolem.{common_spares}
 use Rattle.calculus.specs.Syntax.{Problem, Term, var, fun, eigen, spare}
-use Rattle.calculus.specs.Derivations.{character_eq, Label, EigenName, SpareName, Names, Home, anywhere, home_at}
+use Rattle.calculus.specs.Calculus.{holds_character}
+use Rattle.calculus.specs.Derivations.{character_eq, Label, Mark, EigenName, SpareName, Names, Home, anywhere, home_at}
 use Rattle.derivation_branch.specs.TableView.{IsLabelAt}
 use Rattle.derivation_check.specs.declared.homes.Place.{Place}
 use Rattle.derivation_check.specs.declared.homes.Place.TheVariants.{Anywhere, At}
@@ -48,6 +49,16 @@ is_forbidden_at P labels homes v (var k) = true
 is_forbidden_at P labels homes v (fun f ts) = false
 is_forbidden_at P labels homes v (eigen n) = option_map_or (λ k. not (home_allows character_eq P.setting.domains (get_or labels k []) v)) (get nat_eq homes.eigens n) true
 is_forbidden_at P labels homes v (spare n) = option_map_or (λ p. not (is_place_allowed P labels p v)) (get nat_eq homes.spares n) true
+
+abbrev pub place_holds : List Label → Mark → Place → Bool
+place_holds labels m Anywhere = false
+place_holds labels m (At k) = holds_character m (get_or labels k [])
+
+-- the character stands in the home of a name, by the places of homes
+abbrev pub is_in_home_at : List Label → Homes → Mark → Term → Bool
+is_in_home_at labels homes m (eigen n) = option_map_or (λ k. holds_character m (get_or labels k [])) (get nat_eq homes.eigens n) false
+is_in_home_at labels homes m (spare n) = option_map_or (place_holds labels m) (get nat_eq homes.spares n) false
+is_in_home_at labels homes m _ = false
 
 pub record AreHomes (names : Names) (labels : List Label) (homes : Homes) : Type 0 where
   pub eigens : AreEigenHomes labels homes.eigens names.eigens

@@ -1,4 +1,5 @@
 pub mod HomesView
+pub mod ToldView
 pub mod OpenSequents
 pub mod StateView
 pub mod DemandsView

@@ -14,6 +14,7 @@ use Rattle.derivation_branch.specs.TableView.{IsLabelAt}
 use Rattle.derivation_branch.specs.declared.outline.Node.{Node}
 use Rattle.derivation_check.specs.HomesView.{AreHomes}
 use Rattle.derivation_check.specs.OpenSequents.{IsNested, sequents_of}
+use Rattle.derivation_check.specs.ToldView.{AreTold}
 use Rattle.derivation_check.specs.declared.open_sequents.BranchEntry.{BranchEntry}
 use Rattle.derivation_check.specs.declared.state.State.{State}
 
@@ -77,6 +78,7 @@ pub record IsKept (names : Names) (s : State) : Type 0 where
   pub nested : IsNested s.sequents
   pub sequents : AreKept names s.substitutions s.labels s.eigens s.marks (sequents_of s.sequents)
   pub homes : AreHomes names s.labels s.homes
+  pub told : AreTold s.labels s.marks s.told
   pub nodes : AreAtNodes s.outline.nodes.items (sequents_of s.sequents)
 
 -- the entry stands on the branch

@@ -10,6 +10,7 @@ mod occurring;
 mod open_sequents;
 mod state;
 mod steps;
+mod told_homes;
 mod using;
 mod verdict;
 

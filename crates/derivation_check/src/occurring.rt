@@ -1,21 +1,28 @@
 //! What a use step brings to a branch: eigenvariables, and marks in labels and in homes of names.
 
-ghost use Rattle.std.specs.Prelude.{◌≡◌, ◌||◌, ◌&&◌, ◌∷◌, [], ℕ, OnOk};
-ghost use Rattle.calculus.specs.Calculus.{holds_character, is_eigen, is_in_home};
+ghost use Rattle.std.specs.Prelude.{◌≡◌, ◌<◌, ◌||◌, ◌&&◌, ◌∷◌, [], ℕ, false, get_or, length, OnOk};
+ghost use Rattle.calculus.specs.Calculus.{holds_character, is_eigen, is_in_home, label_after};
+ghost use Rattle.calculus.specs.Derivations as derivation;
 ghost use Rattle.calculus.specs.Derivations.{character_eq, new_mark};
+ghost use Rattle.calculus.specs.declared.setting.Logic.{Logic};
 ghost use Rattle.calculus.specs.Substitution.{any_leaf};
 ghost use Rattle.calculus.specs.Syntax as tree;
 ghost use Rattle.derivation_branch.specs.Rows.{any_item};
 ghost use Rattle.derivation_branch.specs.Occurring.{IsLonger, holds, in_argument, in_modal};
+ghost use Rattle.derivation_branch.specs.TableView.{IsLabelAt};
+ghost use Rattle.derivation_check.specs.HomesView.{AreHomes, is_in_home_at};
+ghost use Rattle.derivation_check.specs.ToldView.{AreThere};
 ghost use Rattle.logic_rules.specs.MarkView.{the_character};
-ghost use Rattle.sequent_calc.specs.DerivationView.{the_names};
 ghost use Rattle.derivation_text.specs.RowView.{the_row_arg};
+ghost use Rattle.sequent_calc.specs.DerivationView.{the_names};
 ghost use Rattle.sequent_calc.specs.StepView.{the_modal};
 
+use crate::homes::{Homes, Place};
+use crate::told_homes::ToldHomes;
 use cop_base::NoMemory;
-use derivation_branch::{NumberSet, RowItem, TermRow, add_eigens};
+use derivation_branch::{Labels, NumberSet, RowItem, TermRow, add_eigens};
 use derivation_text::RowArg;
-use logic_rules::{Label, Mark};
+use logic_rules::Mark;
 use sequent_calc::{Home, ModalArg, Names, eigen_named, spare_named};
 
 fn add_mark(set: &mut NumberSet, mark: Mark) -> Result<(), NoMemory>
@@ -29,78 +36,193 @@ fn add_mark(set: &mut NumberSet, mark: Mark) -> Result<(), NoMemory>
     }
 }
 
-fn add_marks(set: &mut NumberSet, label: &Label) -> Result<(), NoMemory>
-    ensures held { OnOk result ((n : ℕ) → holds set.new n
-        ≡ (holds set.old n || holds_character (new_mark n) label.now)) }
-    ensures kept { OnOk result (IsLonger set.old set.new) }
+// Adds the marks of the label at a place.
+fn add_marks(labels: &Labels, marks: &mut NumberSet, place: u32) -> Result<(), NoMemory>
+    requires { place < length labels.now }
+    ensures held { OnOk result ((n : ℕ) → holds marks.new n
+        ≡ (holds marks.old n || holds_character (new_mark n) (get_or labels.now place []))) }
+    ensures kept { OnOk result (IsLonger marks.old marks.new) }
 {
-    for mark in label.items() {
-        add_mark(set, *mark)?;
+    let mut at = place;
+    while let Some((front, mark)) = labels.last(at) {
+        add_mark(marks, mark)?;
+        at = front;
     }
     Ok(())
 }
 
-// Adds the marks in the home of an eigenvariable.
-fn add_home_of_eigen(names: &Names, set: &mut NumberSet, number: u32) -> Result<(), NoMemory>
-    ensures held { OnOk result ((n : ℕ) → holds set.new n
-        ≡ (holds set.old n || is_in_home (the_names names.now) (new_mark n) (tree.eigen number))) }
-    ensures kept { OnOk result (IsLonger set.old set.new) }
+// Adds the marks of the home at a place. Those of the label at the place `at` are there.
+fn add_home(
+    labels: &Labels,
+    told: &mut ToldHomes,
+    marks: &mut NumberSet,
+    at: u32,
+    home: u32,
+) -> Result<(), NoMemory>
+    requires home { home < length labels.now }
+    requires there { AreThere labels.now at marks.old told.old }
+    ensures held { OnOk result ((n : ℕ) → holds marks.new n
+        ≡ (holds marks.old n || holds_character (new_mark n) (get_or labels.now home []))) }
+    ensures kept { OnOk result (IsLonger marks.old marks.new) }
+    ensures there { OnOk result (AreThere labels.now at marks.new told.new) }
+{
+    if labels.begins(home, at) {
+        return Ok(());
+    }
+    if told.has(home) {
+        return Ok(());
+    }
+    add_marks(labels, marks, home)?;
+    let count = marks.count()?;
+    told.add(home, count)?;
+    Ok(())
+}
+
+// Whether the home of an eigenvariable has marks.
+fn has_eigen_marks(names: &Names, number: u32) -> bool
+    ensures { result ≡ false → (m : derivation.Mark)
+        → is_in_home (the_names names.now) m (tree.eigen number) ≡ false }
 {
     match eigen_named(names, number) {
-        Some(name) => add_marks(set, &name.1),
+        Some(name) => !name.1.items().is_empty(),
+        None => false,
+    }
+}
+
+// The same of a spare constant.
+fn has_spare_marks(names: &Names, number: u32) -> bool
+    ensures { result ≡ false → (m : derivation.Mark)
+        → is_in_home (the_names names.now) m (tree.spare number) ≡ false }
+{
+    match spare_named(names, number) {
+        Some(name) => match &name.1 {
+            Home::At(label) => !label.items().is_empty(),
+            Home::Anywhere => false,
+        },
+        None => false,
+    }
+}
+
+// Adds the marks in the home of an eigenvariable.
+fn add_home_of_eigen(
+    names: &Names,
+    labels: &Labels,
+    homes: &Homes,
+    told: &mut ToldHomes,
+    marks: &mut NumberSet,
+    at: u32,
+    number: u32,
+) -> Result<(), NoMemory>
+    requires homes { AreHomes (the_names names.now) labels.now homes.now }
+    requires there { AreThere labels.now at marks.old told.old }
+    ensures held { OnOk result ((n : ℕ) → holds marks.new n
+        ≡ (holds marks.old n
+        || is_in_home_at labels.now homes.now (new_mark n) (tree.eigen number))) }
+    ensures kept { OnOk result (IsLonger marks.old marks.new) }
+    ensures there { OnOk result (AreThere labels.now at marks.new told.new) }
+{
+    if !has_eigen_marks(names, number) {
+        return Ok(());
+    }
+    match homes.eigens.get(&number) {
+        Some(home) => add_home(labels, told, marks, at, *home),
         None => Ok(()),
     }
 }
 
 // Adds the marks in the home of a spare constant.
-fn add_home_of_spare(names: &Names, set: &mut NumberSet, number: u32) -> Result<(), NoMemory>
-    ensures held { OnOk result ((n : ℕ) → holds set.new n
-        ≡ (holds set.old n || is_in_home (the_names names.now) (new_mark n) (tree.spare number))) }
-    ensures kept { OnOk result (IsLonger set.old set.new) }
+fn add_home_of_spare(
+    names: &Names,
+    labels: &Labels,
+    homes: &Homes,
+    told: &mut ToldHomes,
+    marks: &mut NumberSet,
+    at: u32,
+    number: u32,
+) -> Result<(), NoMemory>
+    requires homes { AreHomes (the_names names.now) labels.now homes.now }
+    requires there { AreThere labels.now at marks.old told.old }
+    ensures held { OnOk result ((n : ℕ) → holds marks.new n
+        ≡ (holds marks.old n
+        || is_in_home_at labels.now homes.now (new_mark n) (tree.spare number))) }
+    ensures kept { OnOk result (IsLonger marks.old marks.new) }
+    ensures there { OnOk result (AreThere labels.now at marks.new told.new) }
 {
-    match spare_named(names, number) {
-        Some(name) => match &name.1 {
-            Home::At(label) => add_marks(set, label),
-            Home::Anywhere => Ok(()),
-        },
+    if !has_spare_marks(names, number) {
+        return Ok(());
+    }
+    match homes.spares.get(&number) {
+        Some(Place::At(home)) => add_home(labels, told, marks, at, *home),
+        Some(Place::Anywhere) => Ok(()),
         None => Ok(()),
     }
 }
 
 // Adds the marks in the home of a name.
-fn add_home_of_item(names: &Names, set: &mut NumberSet, item: RowItem) -> Result<(), NoMemory>
-    ensures held { OnOk result ((n : ℕ) → holds set.new n
-        ≡ (holds set.old n || any_item (is_in_home (the_names names.now) (new_mark n)) (item ∷ []))) }
-    ensures kept { OnOk result (IsLonger set.old set.new) }
+fn add_home_of_item(
+    names: &Names,
+    labels: &Labels,
+    homes: &Homes,
+    told: &mut ToldHomes,
+    marks: &mut NumberSet,
+    at: u32,
+    item: RowItem,
+) -> Result<(), NoMemory>
+    requires homes { AreHomes (the_names names.now) labels.now homes.now }
+    requires there { AreThere labels.now at marks.old told.old }
+    ensures held { OnOk result ((n : ℕ) → holds marks.new n
+        ≡ (holds marks.old n
+        || any_item (is_in_home_at labels.now homes.now (new_mark n)) (item ∷ []))) }
+    ensures kept { OnOk result (IsLonger marks.old marks.new) }
+    ensures there { OnOk result (AreThere labels.now at marks.new told.new) }
 {
     match item {
-        RowItem::Eigen(number) => add_home_of_eigen(names, set, number),
-        RowItem::Spare(number) => add_home_of_spare(names, set, number),
+        RowItem::Eigen(number) => add_home_of_eigen(names, labels, homes, told, marks, at, number),
+        RowItem::Spare(number) => add_home_of_spare(names, labels, homes, told, marks, at, number),
         RowItem::Var(_) | RowItem::Fun(_, _) => Ok(()),
     }
 }
 
 // Adds the marks in the homes of the names of a term.
-fn add_homes(names: &Names, set: &mut NumberSet, t: &TermRow) -> Result<(), NoMemory>
-    ensures held { OnOk result ((n : ℕ) → holds set.new n
-        ≡ (holds set.old n
-        || any_leaf (is_in_home (the_names names.now) (new_mark n)) t.now)) }
-    ensures kept { OnOk result (IsLonger set.old set.new) }
+fn add_homes(
+    names: &Names,
+    labels: &Labels,
+    homes: &Homes,
+    told: &mut ToldHomes,
+    marks: &mut NumberSet,
+    at: u32,
+    t: &TermRow,
+) -> Result<(), NoMemory>
+    requires homes { AreHomes (the_names names.now) labels.now homes.now }
+    requires there { AreThere labels.now at marks.old told.old }
+    ensures held { OnOk result ((n : ℕ) → holds marks.new n
+        ≡ (holds marks.old n
+        || any_leaf (is_in_home_at labels.now homes.now (new_mark n)) t.now)) }
+    ensures kept { OnOk result (IsLonger marks.old marks.new) }
+    ensures there { OnOk result (AreThere labels.now at marks.new told.new) }
 {
     for item in t.items() {
-        add_home_of_item(names, set, *item)?;
+        add_home_of_item(names, labels, homes, told, marks, at, *item)?;
     }
     Ok(())
 }
 
-fn add_modal(marks: &mut NumberSet, modal: &ModalArg) -> Result<(), NoMemory>
+/// Adds the marks in the argument of a step with a modal part, which leads to the label at a place.
+pub fn add_modal(
+    labels: &Labels,
+    marks: &mut NumberSet,
+    at: u32,
+    modal: &ModalArg,
+) -> Result<(), NoMemory>
+    requires { (from : derivation.Label) × (logic : Logic)
+        × IsLabelAt labels.now at (label_after logic from (the_modal modal.now)) }
     ensures held { OnOk result ((n : ℕ) → holds marks.new n
         ≡ (holds marks.old n || in_modal (new_mark n) (the_modal modal.now))) }
     ensures kept { OnOk result (IsLonger marks.old marks.new) }
 {
     match modal {
         ModalArg::None => Ok(()),
-        ModalArg::To(to) => add_marks(marks, to),
+        ModalArg::To(_) => add_marks(labels, marks, at),
         ModalArg::New(number) => marks.add(*number),
     }
 }
@@ -117,16 +239,27 @@ fn add_argument_eigens(eigens: &mut NumberSet, term: &RowArg) -> Result<(), NoMe
     }
 }
 
-fn add_argument_homes(names: &Names, marks: &mut NumberSet, term: &RowArg) -> Result<(), NoMemory>
+fn add_argument_homes(
+    names: &Names,
+    labels: &Labels,
+    homes: &Homes,
+    told: &mut ToldHomes,
+    marks: &mut NumberSet,
+    at: u32,
+    term: &RowArg,
+) -> Result<(), NoMemory>
+    requires homes { AreHomes (the_names names.now) labels.now homes.now }
+    requires there { AreThere labels.now at marks.old told.old }
     ensures held { OnOk result ((n : ℕ) → holds marks.new n
-        ≡ (holds marks.old n
-        || in_argument (is_in_home (the_names names.now) (new_mark n)) (the_row_arg term.now))) }
+        ≡ (holds marks.old n || in_argument (is_in_home_at labels.now homes.now (new_mark n))
+        (the_row_arg term.now))) }
     ensures kept { OnOk result (IsLonger marks.old marks.new) }
+    ensures there { OnOk result (AreThere labels.now at marks.new told.new) }
 {
     match term {
         RowArg::None => Ok(()),
-        RowArg::Term(t) => add_homes(names, marks, t),
-        RowArg::Name(number) => add_home_of_eigen(names, marks, *number),
+        RowArg::Term(t) => add_homes(names, labels, homes, told, marks, at, t),
+        RowArg::Name(number) => add_home_of_eigen(names, labels, homes, told, marks, at, *number),
     }
 }
 
@@ -149,40 +282,28 @@ pub fn add_brought_eigens(
     }
 }
 
-// The same of the marks in the homes of names.
-fn add_brought_homes(
+/// The same of the marks in the homes of names, where the step leads to the label at a place.
+pub fn add_brought_homes(
     names: &Names,
+    labels: &Labels,
+    homes: &Homes,
+    told: &mut ToldHomes,
     marks: &mut NumberSet,
+    at: u32,
     binds: bool,
     term: &RowArg,
 ) -> Result<(), NoMemory>
+    requires homes { AreHomes (the_names names.now) labels.now homes.now }
+    requires there { AreThere labels.now at marks.old told.old }
     ensures held { OnOk result ((n : ℕ) → holds marks.new n
         ≡ (holds marks.old n || (binds
-        && in_argument (is_in_home (the_names names.now) (new_mark n)) (the_row_arg term.now)))) }
+        && in_argument (is_in_home_at labels.now homes.now (new_mark n)) (the_row_arg term.now)))) }
     ensures kept { OnOk result (IsLonger marks.old marks.new) }
+    ensures there { OnOk result (AreThere labels.now at marks.new told.new) }
 {
     if binds {
-        add_argument_homes(names, marks, term)
+        add_argument_homes(names, labels, homes, told, marks, at, term)
     } else {
         Ok(())
     }
-}
-
-/// Adds the marks that a use step on the formula brings.
-pub fn add_brought_marks(
-    names: &Names,
-    marks: &mut NumberSet,
-    binds: bool,
-    modal: &ModalArg,
-    term: &RowArg,
-) -> Result<(), NoMemory>
-    ensures held { OnOk result ((n : ℕ) → holds marks.new n
-        ≡ ((holds marks.old n || in_modal (new_mark n) (the_modal modal.now))
-        || (binds
-        && in_argument (is_in_home (the_names names.now) (new_mark n)) (the_row_arg term.now)))) }
-    ensures kept { OnOk result (IsLonger marks.old marks.new) }
-{
-    add_modal(marks, modal)?;
-    add_brought_homes(names, marks, binds, term)?;
-    Ok(())
 }

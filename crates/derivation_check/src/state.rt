@@ -9,6 +9,7 @@ ghost use Rattle.sequent_calc.specs.DerivationView.{the_names};
 
 use crate::homes::Homes;
 use crate::open_sequents::{BranchEntry, OpenSequents};
+use crate::told_homes::ToldHomes;
 use cop_base::NoMemory;
 use derivation_branch::{Labels, NumberSet, Outline, SharedEntry, Substitutions};
 use formula_core::Sign;
@@ -28,6 +29,8 @@ pub struct State<'a> {
     pub eigens: NumberSet,
     /// The marks of pi steps that stand in its labels, or in the homes of names in its formulas.
     pub marks: NumberSet,
+    /// Homes whose marks are all among these.
+    pub told: ToldHomes,
 }
 
 impl<'a> State<'a> {
@@ -57,6 +60,7 @@ impl<'a> State<'a> {
         let homes = Homes::new(alloc, &mut labels, names)?;
         let eigens = NumberSet::new(alloc);
         let marks = NumberSet::new(alloc);
+        let told = ToldHomes::new(alloc);
         Ok(State {
             outline,
             sequents,
@@ -65,6 +69,7 @@ impl<'a> State<'a> {
             homes,
             eigens,
             marks,
+            told,
         })
     }
 
@@ -82,6 +87,7 @@ impl<'a> State<'a> {
             Some(last) => {
                 self.eigens.cut(last.eigens);
                 self.marks.cut(last.marks);
+                self.told.cut(last.marks);
                 Ok(())
             }
             None => Ok(()),

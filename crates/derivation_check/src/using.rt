@@ -21,7 +21,7 @@ ghost use Rattle.derivation_text.specs.RowView.{the_row_arg};
 ghost use Rattle.sequent_calc.specs.StepView.{the_modal};
 
 use crate::demands::use_fault;
-use crate::occurring::{add_brought_eigens, add_brought_marks};
+use crate::occurring::{add_brought_eigens, add_brought_homes, add_modal};
 use crate::open_sequents::BranchEntry;
 use crate::state::State;
 use cop_base::NoMemory;
@@ -117,7 +117,20 @@ fn grow<'a>(
     let inner = put_argument(&mut state.substitutions, shared.substitution, term)?;
     let binds = state.outline.binds(shared.node);
     add_brought_eigens(&mut state.eigens, binds, term)?;
-    add_brought_marks(names, &mut state.marks, binds, modal, term)?;
+    add_modal(&state.labels, &mut state.marks, at, modal)?;
+    let labels = &state.labels;
+    let homes = &state.homes;
+    let told = &mut state.told;
+    add_brought_homes(
+        names,
+        labels,
+        homes,
+        told,
+        &mut state.marks,
+        at,
+        binds,
+        term,
+    )?;
     let added = added_by(&state.outline, shared, inner, at);
     let eigens = state.eigens.count()?;
     let marks = state.marks.count()?;

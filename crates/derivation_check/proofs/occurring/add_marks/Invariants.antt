@@ -1,12 +1,15 @@
-use Rattle.std.proofs.Common.{◌≡◌, ◌||◌, ℕ, map, drop}
+use Rattle.std.proofs.Common.{◌≡◌, ◌<◌, ◌||◌, ℕ, [], get_or, length}
 use Rattle.calculus.specs.Calculus.{holds_character}
 use Rattle.calculus.specs.Derivations.{new_mark}
-use Rattle.logic_rules.specs.MarkView.{the_character}
 use Rattle.derivation_branch.specs.Occurring.{IsLonger, holds}
 use Rattle.derivation_check.proofs.occurring.add_marks.Given as goal
 
-abbrev pub invariant-loop-mark : goal.invariant-loop-mark
-invariant-loop-mark l = record {
-  held : (n : ℕ) → (holds l.set n || holds_character (new_mark n) (map the_character (drop l.mark-index l.mark-items))) ≡ (holds l.initial.set n || holds_character (new_mark n) l.label);
-  kept : IsLonger l.initial.set l.set;
+abbrev pub invariant-loop-front : goal.invariant-loop-front
+invariant-loop-front l = record {
+  within : l.at < length l.labels;
+  held : (n : ℕ) → (holds l.marks n || holds_character (new_mark n) (get_or l.labels l.at [])) ≡ (holds l.initial.marks n || holds_character (new_mark n) (get_or l.labels l.place []));
+  kept : IsLonger l.initial.marks l.marks;
 }
+
+abbrev pub decreases-loop-front : goal.decreases-loop-front
+decreases-loop-front l = l.at

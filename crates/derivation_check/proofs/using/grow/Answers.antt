@@ -1,11 +1,15 @@
 use Rattle.std.proofs.Common.{◌∙◌, ◌||◌, ◌&&◌, ap, reverse}
-use Rattle.calculus.specs.Calculus.{is_eigen, is_in_home}
+use Rattle.calculus.specs.Calculus.{is_eigen}
 use Rattle.calculus.specs.Derivations.{new_mark}
-use Rattle.derivation_branch.specs.Occurring.{holds, in_argument, in_modal}
+use Rattle.derivation_branch.specs.Occurring.{holds, in_argument}
+use Rattle.derivation_branch.proofs.TableLaws.{longer-more}
 use Rattle.formula_core.specs.FormulaView.{the_formula}
+use Rattle.derivation_check.proofs.HomesLaws.{argument-same}
+use Rattle.derivation_check.proofs.Keeping.{branch-there}
 use Rattle.derivation_check.proofs.NodeLaws.{node-stands, nodes-added}
 use Rattle.derivation_check.specs.OpenSequents.{after_added, sequents_of, waiting_in}
 use Rattle.derivation_check.proofs.StateLaws.{Growth, grown-kept, grown-shown, kept-open, stands-within}
+use Rattle.derivation_check.proofs.ToldLaws.{told-more}
 use Rattle.sequent_calc.specs.DerivationView.{the_names}
 use Rattle.sequent_calc.specs.StepView.{the_modal}
 use Rattle.derivation_text.specs.RowView.{the_row_arg}
@@ -18,6 +22,25 @@ put_argument-requires-clause-within c =
     let parts = kept-open (the_names c.args.names.now) s.substitutions s.labels s.eigens s.marks s.sequents.is_open xs (reverse s.sequents.forks.items) c.requires.is_open c.requires.kept.sequents in
     (stands-within s.substitutions s.labels xs c.args.used parts.0 c.requires.stands).0
 
+pub add_modal-requires : goal.add_modal-requires
+add_modal-requires c = (_, c.requires.label.0, c.requires.label.1)
+
+pub add_brought_homes-requires : goal.add_brought_homes-requires
+add_brought_homes-requires c =
+    let s = c.args.state.now in
+    let names = the_names c.args.names.now in
+    let xs = s.sequents.branch.items in
+    let parts = kept-open names s.substitutions s.labels s.eigens s.marks s.sequents.is_open xs (reverse s.sequents.forks.items) c.requires.is_open c.requires.kept.sequents in
+    let marks = c.add_modal.new.marks in
+    record {
+      homes = c.requires.kept.homes;
+      there = record {
+        within = c.requires.label.1.0;
+        label = branch-there names s.substitutions s.labels s.eigens s.marks marks xs c.args.used c.args.at (the_modal c.args.modal.now) c.requires.stands c.requires.label parts.1 c.in_ok-add_modal.ensures.held;
+        homes = told-more s.labels s.marks marks s.told c.in_ok-add_modal.ensures.kept c.requires.kept.told;
+      };
+    }
+
 pub returns : goal.returns
 returns c =
     let s = c.args.state.now in
@@ -28,7 +51,8 @@ returns c =
     let forks = reverse s.sequents.forks.items in
     let more = c.put_argument.new.substitutions in
     let eigens = c.add_brought_eigens.new.eigens in
-    let marks = c.add_brought_marks.new.marks in
+    let labelled = c.add_modal.new.marks in
+    let marks = c.add_brought_homes.new.marks in
     let now = sequents_of c.advance.new.self in
     let added = c.added_by-added.result in
     let nodes = s.outline.nodes.items in
@@ -45,16 +69,22 @@ returns c =
       within = c.in_ok-inner.ensures.within;
       argument = c.in_ok-inner.ensures.put;
       eigens = c.in_ok-add_brought_eigens.ensures.kept;
-      marks = c.in_ok-add_brought_marks.ensures.kept;
+      marks = longer-more s.marks labelled marks c.in_ok-add_modal.ensures.kept c.in_ok-add_brought_homes.ensures.kept;
       brought = record {
         eigens = λ n. c.in_ok-add_brought_eigens.ensures.held n ∙ ap (λ b. holds s.eigens n || (b && in_argument (is_eigen n) t)) binds;
-        marks = λ n. c.in_ok-add_brought_marks.ensures.held n ∙ ap (λ b. (holds s.marks n || in_modal (new_mark n) x) || (b && in_argument (is_in_home names (new_mark n)) t)) binds;
+        marks = λ n. c.in_ok-add_brought_homes.ensures.held n ∙ (λ i. c.in_ok-add_modal.ensures.held n i || (binds i && argument-same names s.labels s.homes (new_mark n) c.requires.kept.homes t i));
       };
       places = c.added_by-added.ensures.at;
       added = c.added_by-added.ensures.added;
       after = after;
     } in
     record {
-      kept = record { nested = c.in_ok-advance.ensures.nested; sequents = grown-kept names s.substitutions more s.labels s.eigens eigens s.marks marks s.sequents.is_open xs forks c.args.used c.in_ok-inner.inner c.args.at x t added now growth; homes = c.requires.kept.homes; nodes = nodes-added nodes s.sequents.is_open xs forks _ _ added now c.requires.is_open c.requires.kept.nodes (c.added_by-added.ensures.nodes node) after };
+      kept = record {
+        nested = c.in_ok-advance.ensures.nested;
+        sequents = grown-kept names s.substitutions more s.labels s.eigens eigens s.marks marks s.sequents.is_open xs forks c.args.used c.in_ok-inner.inner c.args.at x t added now growth;
+        homes = c.requires.kept.homes;
+        told = c.in_ok-add_brought_homes.ensures.there.homes;
+        nodes = nodes-added nodes s.sequents.is_open xs forks _ _ added now c.requires.is_open c.requires.kept.nodes (c.added_by-added.ensures.nodes node) after;
+      };
       grown = grown-shown names s.substitutions more s.labels s.eigens eigens s.marks marks s.sequents.is_open xs forks c.args.used c.in_ok-inner.inner c.args.at x t added now growth;
     }

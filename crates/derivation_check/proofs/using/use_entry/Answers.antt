@@ -9,8 +9,12 @@ use Rattle.derivation_text.specs.RowView.{the_row_arg}
 use Rattle.derivation_branch.specs.TableView.{IsLabelAt}
 use Rattle.derivation_branch.proofs.PuttingLaws.{modal-all, shape-all}
 use Rattle.derivation_check.specs.StateView.{the_entry, the_sequent}
+use Rattle.derivation_branch.proofs.TableLaws.{longer-self}
+use Rattle.derivation_check.specs.OpenSequents.{sequents_of}
 use Rattle.derivation_check.proofs.HomesLaws.{homes-longer}
-use Rattle.derivation_check.proofs.StateLaws.{Used, after-of, kept-open, label-kept, met, stands-within, told-of, used-kept, used-leads}
+use Rattle.derivation_check.proofs.Keeping.{kept-longer}
+use Rattle.derivation_check.proofs.ToldLaws.{told-longer}
+use Rattle.derivation_check.proofs.StateLaws.{Used, after-of, kept-open, label-kept, met, stands-within, told-of, used-leads}
 use Rattle.derivation_check.proofs.using.use_entry.Goals as goal
 
 pub label_after-requires : goal.label_after-requires
@@ -73,7 +77,7 @@ grow-requires c =
     let kept = met problem names (the_sequent s.substitutions s.labels xs) (the_entry s.substitutions s.labels u) x t unfaulted in
     record {
       is_open = c.requires.is_open;
-      kept = record { nested = c.requires.kept.nested; sequents = used-kept problem names s.substitutions s.labels more s.eigens s.marks s.sequents.is_open xs forks u c.in_ok-at.at x used; homes = homes-longer names s.labels more s.homes c.in_ok-at.ensures.grown c.requires.kept.homes; nodes = c.requires.kept.nodes };
+      kept = record { nested = c.requires.kept.nested; sequents = kept-longer names s.substitutions s.substitutions s.labels more s.eigens s.marks (sequents_of s.sequents) (longer-self s.substitutions) c.in_ok-at.ensures.grown c.requires.kept.sequents; homes = homes-longer names s.labels more s.homes c.in_ok-at.ensures.grown c.requires.kept.homes; told = told-longer s.labels more s.marks s.told c.in_ok-at.ensures.grown c.requires.kept.told; nodes = c.requires.kept.nodes };
       stands = c.requires.stands;
       label = after-of problem names s.substitutions s.labels more s.eigens s.marks s.sequents.is_open xs forks u c.in_ok-at.at x used;
       fits = ap (λ h. term_fits h t) (sym (shape-all ts 0 u.shared.sign f)) ∙ kept.0;

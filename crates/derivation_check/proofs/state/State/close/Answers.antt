@@ -3,6 +3,7 @@ use Rattle.derivation_check.specs.OpenSequents.{IsLastOf, waiting_in}
 use Rattle.derivation_check.specs.StateView.{the_sequent}
 use Rattle.derivation_check.proofs.NodeLaws.{nodes-closed}
 use Rattle.derivation_check.proofs.StateLaws.{closed-kept, ended-kept}
+use Rattle.derivation_check.proofs.ToldLaws.{told-cut}
 use Rattle.derivation_check.proofs.state.State.close.Goals as goal
 
 pub returns-in-Some-clause-kept : goal.returns-in-Some-clause-kept
@@ -13,6 +14,7 @@ returns-in-Some-clause-kept c = λ names h.
       sequents = closed-kept names s.substitutions s.labels s.eigens s.marks c.cut.new.self c.cut-in-Some.new.self s.sequents.is_open s.sequents.branch.items (reverse s.sequents.forks.items) _ c.in-Some.last c.requires.is_open h.sequents c.in_ok-next.ensures.closed
           (subst (IsLastOf (waiting_in s.sequents)) c.in-Some.is c.in_ok-next.ensures.last) c.cut.ensures c.cut-in-Some.ensures;
       homes = h.homes;
+      told = told-cut s.labels s.marks c.cut-in-Some.new.self c.in-Some.last.marks s.told c.cut-in-Some-2.new.self h.told c.cut-in-Some-2.ensures.begins c.cut-in-Some-2.ensures.counted c.cut-in-Some.ensures;
       nodes = nodes-closed s.outline.nodes.items s.sequents.is_open s.sequents.branch.items (reverse s.sequents.forks.items) _ c.requires.is_open h.nodes c.in_ok-next.ensures.closed;
     }
 
@@ -26,6 +28,7 @@ returns-in-None-clause-kept c = λ names h.
       nested = c.in_ok-next.ensures.nested;
       sequents = ended-kept names s.substitutions s.labels s.eigens s.marks s.sequents.branch.items (reverse s.sequents.forks.items) _ c.in_ok-next.ensures.closed (subst (IsLastOf (waiting_in s.sequents)) c.in-None.is c.in_ok-next.ensures.last);
       homes = h.homes;
+      told = h.told;
       nodes = nodes-closed s.outline.nodes.items s.sequents.is_open s.sequents.branch.items (reverse s.sequents.forks.items) _ c.requires.is_open h.nodes c.in_ok-next.ensures.closed;
     }
 

@@ -10,6 +10,7 @@ returns-clause-kept c = record {
   nested = c.in_ok-sequents.ensures.nested;
   sequents = first-state (the_names c.args.names.now) c.args.problem.now _ _ _ _ _ _ _ c.new-substitutions.ensures c.new-labels.ensures c.in_ok-homes.ensures.grown c.new-eigens.ensures c.new-marks.ensures c.in_ok-sequents.ensures.sequents refl refl c.formula-formula.ensures.formula c.formula-formula.ensures.well;
   homes = c.in_ok-homes.ensures.homes;
+  told = rw c.new-told.ensures tt;
   nodes = nodes-first c.in_ok-outline.outline.nodes.items _ _ c.in_ok-sequents.ensures.sequents (c.in_ok-node.ensures (the_formula c.formula-formula.result.now) c.in_ok-outline.ensures);
 }
 
