@@ -31,7 +31,7 @@ use Rattle.prefix_split.specs.declared.node.Node.{Node}
 use Rattle.prefix_split.specs.declared.node.Step.{Step}
 use Rattle.prefix_split.specs.declared.node.Step.TheVariants.{Root, Mark, Short, Long}
 use Rattle.prefix_split.specs.Beginnings.{AllBegin, AreValues, Begins, HasExtent, IsNode, IsRelated, StepFits, item_of, step_marks}
-use Rattle.prefix_split.specs.Growing.{AreSteps, EndsString, Extends, HasValues, IsAsked, IsGrown, IsNamed, IsNamedEquation, IsReached, IsTree, has_short_steps, is_mark_head, is_open_string_head, step_relation}
+use Rattle.prefix_split.specs.Growing.{AreSteps, EndsString, Extends, HasValues, IsAsked, IsGrown, IsNamed, IsNamedEquation, IsNodeOf, IsReached, IsTree, has_short_steps, is_mark_head, is_open_string_head, step_relation}
 use Rattle.prefix_split.proofs.ListItems.{item-flat, item-left, item-right}
 use Rattle.prefix_split.proofs.OrderLaws.{equal-begins, last-item, mark-behind, node-behind}
 
@@ -271,6 +271,24 @@ reached-next s l strings old mid new label i r u v step h e g marks extent =
 
 pub reached-all : (s : Store) (l : Logic) (strings : List ℕ) (old new : List Node) (label : List ℕ) (i u : ℕ) → IsReached s l strings old new (take i label) u → length label ≤ i → IsReached s l strings old new label u
 reached-all s l strings old new label i u h k = subst (λ rs. IsReached s l strings old new rs u) (take-whole label i k) h
+
+-- the same of a tree that does not grow
+pub sought-start : (s : Store) (nodes : List Node) → IsNodeOf s nodes [] 0
+sought-start s nodes σ value t v = v.root
+
+pub sought-next : (s : Store) (nodes : List Node) (label : List ℕ) (i r u v : ℕ) (step : Step) → IsNodeOf s nodes (take i label) u → slice_get label i ≡ Some r → ((σ : Solution) (value : ℕ → List GroundMark) → Solves s σ → AreValues σ value nodes → value v ≡ value u ++ step_marks σ step) → ((σ : Solution) → Solves s σ → step_marks σ step ≡ as_label (σ r)) → IsNodeOf s nodes (take (i + 1) label) v
+sought-next s nodes label i r u v step h e is marks σ value t x =
+    let more : i + 1 ≡ suc i = omega arith in
+    let here : value v ≡ label_by σ (take i label ++ r ∷ []) =
+    is σ value t x
+    ∙ ap (λ w. w ++ step_marks σ step) (h σ value t x)
+    ∙ ap (λ w. label_by σ (take i label) ++ w) (marks σ t ∙ sym (append-nil (as_label (σ r))))
+    ∙ sym (label-append σ (take i label) (r ∷ []))
+    in
+    subst (λ rs. value v ≡ label_by σ rs) (sym (take-there label i r e) ∙ ap (λ n. take n label) (sym more)) here
+
+pub sought-all : (s : Store) (nodes : List Node) (label : List ℕ) (i u : ℕ) → IsNodeOf s nodes (take i label) u → length label ≤ i → IsNodeOf s nodes label u
+sought-all s nodes label i u h k = subst (λ rs. IsNodeOf s nodes rs u) (take-whole label i k) h
 
 -- ---- equations
 

@@ -10,4 +10,5 @@ pub mod SearchLaws
 pub mod OrderLaws
 pub mod TableLaws
 pub mod GrowingLaws
+pub mod ApartLaws
 pub mod TriedLaws

@@ -1,35 +1,26 @@
 -- Whether the bindings make goals the same.
-use Rattle.std.proofs.Common.{◌≡◌, ◌⊎◌, ℕ, zero, suc, ◌+◌, ◌<◌, ◌≤◌, List, [], ◌∷◌, drop, length, map, replicate, Bool, true, false, IsTrue, refl, sym, ◌∙◌, ap, ap₂, subst, Option, Some, None, slice_get, inl, inr, arith, nat_lt, ltb-true}
+use Rattle.std.proofs.Common.{◌≡◌, ℕ, zero, suc, ◌+◌, ◌≤◌, List, [], ◌∷◌, drop, length, map, true, false, IsTrue, refl, sym, ◌∙◌, ap, ap₂, subst, Some, slice_get, inl, inr, arith}
 use Rattle.std.specs.List.{list_all, AllByRecursion}
-use Rattle.std.specs.Option.{option_map_or}
 use Rattle.std.proofs.lemmas.Bool.{false≢true, and_parts}
-use Rattle.std.proofs.lemmas.List.{length-map}
 use Rattle.calculus.specs.declared.sign.Sign.{Sign}
 use Rattle.calculus.specs.declared.sign.Sign.TheVariants.{T, F}
-use Rattle.calculus.specs.declared.sort.Sort.{Sort}
-use Rattle.calculus.specs.declared.sort.Sort.TheVariants.{TermSort, MarkSort, StringSort}
-use Rattle.calculus.specs.Bindings.{IsEnd, IsWellFormed}
+use Rattle.calculus.specs.declared.sort.Sort.TheVariants.{TermSort}
+use Rattle.calculus.specs.Bindings.{IsWellFormed}
 use Rattle.calculus.specs.Equality.{sign_eq}
-use Rattle.calculus.specs.Ground.{GroundLiteral, GroundMark, GroundTerms, g_fun, g_eigen, common, g_new_mark, g_spare_mark, no_g_terms, more_g_terms}
-use Rattle.calculus.specs.Stores.{Cell, variable, fun_cell, eigen_cell, new_cell, string_cell, Store, sort_of, has_sort_at, is_bound, names_below, CellValue, a_term, a_mark, a_string, has_sort, Solution, Solves, CellHolds, cons_mark, marks_at}
+use Rattle.calculus.specs.Ground.{GroundLiteral, GroundTerms, no_g_terms, more_g_terms}
+use Rattle.calculus.specs.Stores.{Store, has_sort_at, names_below, Solution}
 use Rattle.calculus.specs.Systems.{CellAtom, Pair, is_cell_atom, is_label, is_pair}
 use Rattle.calculus.specs.Templates.{as_term}
-use Rattle.calculus.proofs.BindingLaws.{sorted_cell}
 use Rattle.calculus.proofs.PlaceLists.{all-at}
-use Rattle.calculus.proofs.SolutionLaws.{FitsOpen, solution_by, some_solution}
-use Rattle.term_store.specs.RefView.{the_place}
-use Rattle.term_store.specs.declared.cell.Ref.{Ref}
-use Rattle.term_unify.specs.Steps.{AreDifferent, DiffersBy, IsBinding}
+use Rattle.calculus.proofs.SolutionLaws.{some_solution}
 use Rattle.search_theory.specs.Regular.{AreSame}
-use Rattle.search_theory.specs.States.{terms_by, label_by, literal_by}
+use Rattle.search_theory.specs.States.{terms_by}
 use Rattle.search_theory.proofs.BuildingLaws.{solved-sorted}
-use Rattle.search_theory.proofs.GeneralLaws.{mark-parts}
-use Rattle.search_theory.proofs.GivingLaws.{IsFlat, length-marks}
-use Rattle.search_theory.proofs.SolvingLaws.{label-there, all-below}
+use Rattle.search_theory.proofs.SolvingLaws.{all-below}
 use Rattle.search_theory.proofs.UnifyLaws.{term-same}
 use Rattle.term_unify.specs.Same.{AreSameCells, AreSameLabels, DifferAt}
 use Rattle.term_unify.proofs.SameLaws.{different-cells}
-use Rattle.prefix_split.specs.Same.{DifferNow}
+use Rattle.prefix_split.specs.Same.{DifferNow, HaveSameAtom}
 use Rattle.prefix_split.proofs.ListItems.{drop-end, drop-there}
 
 -- ---- atoms
@@ -50,12 +41,14 @@ sign-self : (x : Sign) → sign_eq x x ≡ true
 sign-self T = refl
 sign-self F = refl
 
-pub atoms-same : (s : Store) (a b : CellAtom) → sign_eq a.sign b.sign ≡ true → a.symbol ≡ b.symbol → AreSameCells s a.args b.args → AreSameLabels s a.label b.label → AreSame s a b
-atoms-same s a b signs symbols args labels σ t =
+pub atom-same : (s : Store) (a b : CellAtom) → sign_eq a.sign b.sign ≡ true → a.symbol ≡ b.symbol → AreSameCells s a.args b.args → HaveSameAtom s a b
+atom-same s a b signs symbols args σ t labels =
     let p = sign-equal a.sign b.sign signs in
     let q = terms-same σ a.args b.args (args σ t) in
-    let r = labels σ t in
-    λ i. record { sign = p i; symbol = symbols i; args = q i; label = r i }
+    λ i. record { sign = p i; symbol = symbols i; args = q i; label = labels i }
+
+pub atoms-same : (s : Store) (a b : CellAtom) → HaveSameAtom s a b → AreSameLabels s a.label b.label → AreSame s a b
+atoms-same s a b h labels σ t = h σ t (labels σ t)
 
 pub signs-differ : (s : Store) (a b : CellAtom) → IsWellFormed s → sign_eq a.sign b.sign ≡ false → ¬ AreSame s a b
 signs-differ s a b w e same =

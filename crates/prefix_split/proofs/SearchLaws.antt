@@ -10,7 +10,7 @@ use Rattle.calculus.specs.Counting.{IsRising, MoreThan}
 use Rattle.calculus.specs.Instances.{GammaUse}
 use Rattle.calculus.specs.Space.{has_labels, lengths_cmp}
 use Rattle.calculus.specs.Stores.{Store, Solution, Solves}
-use Rattle.calculus.specs.Systems.{System, AreEarly, AreEqual, AreTried, HasBoundedSolution, HasSolution, IsStep, MeetsDemand, OwnSparesSolve, is_system}
+use Rattle.calculus.specs.Systems.{System, AreEarly, AreEqual, AreTried, Differ, HasBoundedSolution, HasSolution, IsStep, MeetsDemand, OwnSparesSolve, is_system}
 use Rattle.calculus.proofs.OrderLaws.{lengths_cmp-IsAntisymmetric, lengths_cmp_total}
 use Rattle.search_theory.proofs.BuildingLaws.{adds-back, adds-forth}
 use Rattle.search_theory.proofs.LabelledEnd.{early-by_smaller}
@@ -115,13 +115,18 @@ found-moved b c l f g u y p q h =
 pub back-moved : (s t u : Store) → t ≡ s → ((σ : Solution) → Solves u σ → Solves t σ) → (σ : Solution) → Solves u σ → Solves s σ
 back-moved s t u e h σ k = subst (λ z. Solves z σ) e (h σ k)
 
+pub bounded-moved : (l : Logic) (f g : List GammaUse → Bool) (s t : Store) (y : System) → g ≡ f → t ≡ s → ¬ HasBoundedSolution l (Asks g) t y → ¬ HasBoundedSolution l (Asks f) s y
+bounded-moved l f g s t y p q h =
+    subst (λ z. ¬ HasBoundedSolution l (Asks z) s y) p
+    (subst (λ z. ¬ HasBoundedSolution l (Asks g) z y) q h)
+
 -- ---- refutations with marks added
 
 -- where no solution of the store with marks added solves the system, none of the store before does
-pub refuted-before : (l : Logic) (D : List GammaUse → Type 0) (old new : Store) (y : System) (r : Bool) → IsTrue (is_system old y) → AddsBuilt old new → (r ≡ true → (σ : Solution) → Solves new σ → AllByRecursion (IsStep l σ) y.strings → MeetsDemand D y σ → ¬ AllByRecursion (AreEqual σ) y.equations) → r ≡ true → ¬ HasBoundedSolution l D old y
+pub refuted-before : (l : Logic) (D : List GammaUse → Type 0) (old new : Store) (y : System) (r : Bool) → IsTrue (is_system old y) → AddsBuilt old new → (r ≡ true → (σ : Solution) → Solves new σ → AllByRecursion (IsStep l σ) y.strings → MeetsDemand D y σ → AllByRecursion (Differ σ) y.pairs → ¬ AllByRecursion (AreEqual σ) y.equations) → r ≡ true → ¬ HasBoundedSolution l D old y
 refuted-before l D old new y r h adds none e (ns, has) =
     let σ = has.0 in
     let b = has.1 in
     let (τ, u, agree) = adds-forth old new adds σ b.solution.solves in
     let k = (bounded-agree l D old y ns σ τ h agree (adds-back old new adds τ u) b).solution in
-    none e τ u k.steps k.demanded k.equal
+    none e τ u k.steps k.demanded k.apart k.equal

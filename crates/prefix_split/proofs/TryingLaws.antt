@@ -1,7 +1,6 @@
 -- One list of lengths: what each step that fails shows, and what is found at the end.
-use Rattle.std.proofs.Common.{◌≡◌, ℕ, suc, List, [], ◌∷◌, length, Bool, true, false, not, IsTrue, refl, sym, ◌∙◌, ap, Option, Some, None, slice_get, arith}
+use Rattle.std.proofs.Common.{◌≡◌, ℕ, suc, List, [], ◌∷◌, length, Bool, IsTrue, refl, sym, ◌∙◌, ap, Option, Some, None, slice_get, arith}
 use Rattle.std.specs.List.{AllByRecursion}
-use Rattle.std.proofs.lemmas.Bool.{false≢true}
 use Rattle.calculus.specs.declared.setting.Logic.{Logic}
 use Rattle.calculus.specs.declared.sort.Sort.TheVariants.{StringSort}
 use Rattle.calculus.specs.Bindings.{IsWellFormed}
@@ -106,11 +105,3 @@ found-by b l Demanded s t u y ns fits n f well first second free apart met tried
 
 pub solved-back : (Demanded : List GammaUse → Type 0) (s t u : Store) (y : System) (ns : List ℕ) → IsNarrowed s t (IsSetTo y ns) → IsForced Demanded y t u → (σ : Solution) → Solves u σ → Solves s σ
 solved-back Demanded s t u y ns n f σ h = (n.back σ (f.back σ h)).0
-
-pub not-true : (b : Bool) → not b ≡ true → b ≡ false
-not-true true e = absurd (false≢true e)
-not-true false e = refl
-
-pub not-false : (b : Bool) → not b ≡ false → b ≡ true
-not-false true e = refl
-not-false false e = absurd (false≢true (sym e))

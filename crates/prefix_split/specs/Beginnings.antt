@@ -139,3 +139,7 @@ Refutes s nodes before after = after.is_refuted ≡ true → (σ : Solution) (va
 -- the first label of each pair begins the second one
 abbrev pub AllBegin : (ℕ → List GroundMark) → List (ℕ × ℕ) → Type 0
 AllBegin value ps = (i : ℕ) (p : ℕ × ℕ) → slice_get ps i ≡ Some p → Begins (value p.0) (value p.1)
+
+-- the labels of each pair differ
+abbrev pub AllApart : (ℕ → List GroundMark) → List (ℕ × ℕ) → Type 0
+AllApart value ps = (i : ℕ) (p : ℕ × ℕ) → slice_get ps i ≡ Some p → ¬ (value p.0 ≡ value p.1)

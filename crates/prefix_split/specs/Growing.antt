@@ -7,7 +7,7 @@ use Rattle.calculus.specs.declared.sort.Sort.{Sort}
 use Rattle.calculus.specs.declared.sort.Sort.TheVariants.{TermSort, MarkSort, StringSort}
 use Rattle.calculus.specs.Ground.{GroundMark}
 use Rattle.calculus.specs.Stores.{Store, EndsAt, Solution, Solves}
-use Rattle.calculus.specs.Systems.{Equation, IsOpenString, IsStep}
+use Rattle.calculus.specs.Systems.{Differ, Equation, IsOpenString, IsStep, Pair}
 use Rattle.search_theory.specs.States.{label_by}
 use Rattle.term_store.specs.declared.cell.Head.{Head}
 use Rattle.term_store.specs.declared.cell.Head.TheVariants.{Open, Fun, Eigen, New, Marks}
@@ -16,7 +16,7 @@ use Rattle.prefix_split.specs.declared.node.Step.{Step}
 use Rattle.prefix_split.specs.declared.node.Step.TheVariants.{Root, Mark, Short, Long}
 use Rattle.prefix_split.specs.declared.order.Relation.{Relation}
 use Rattle.prefix_split.specs.declared.order.Relation.TheVariants.{Weak, Strict}
-use Rattle.prefix_split.specs.Beginnings.{AllBegin, AreValues, HasExtent, NodesFit, StepFits, step_marks}
+use Rattle.prefix_split.specs.Beginnings.{AllApart, AllBegin, AreValues, HasExtent, NodesFit, step_marks}
 
 -- ---- steps
 
@@ -109,6 +109,18 @@ pub record IsReached (s : Store) (l : Logic) (strings : List ℕ) (old new : Lis
   pub values : (σ : Solution) → Solves s σ → AreSteps l strings σ → HasValues σ old → HasValues σ new
   pub within : u < length new
   pub is : (σ : Solution) (value : ℕ → List GroundMark) → Solves s σ → AreValues σ value new → value u ≡ label_by σ label
+
+-- the node u has this label
+abbrev pub IsNodeOf : Store → List Node → List ℕ → ℕ → Type 0
+IsNodeOf s nodes label u = (σ : Solution) (value : ℕ → List GroundMark) → Solves s σ → AreValues σ value nodes → value u ≡ label_by σ label
+
+-- where the goals of the pair differ, so do the labels of both nodes
+abbrev pub IsPairApart : Store → List Node → Pair → ℕ × ℕ → Type 0
+IsPairApart s nodes p both = (σ : Solution) (value : ℕ → List GroundMark) → Solves s σ → AreValues σ value nodes → Differ σ p → ¬ (value both.0 ≡ value both.1)
+
+-- nodes came whose labels differ where the goals of all pairs do
+abbrev pub ComeApart : Store → List Pair → List Node → List (ℕ × ℕ) → List (ℕ × ℕ) → Type 0
+ComeApart s ps nodes before after = (σ : Solution) (value : ℕ → List GroundMark) → Solves s σ → AreValues σ value nodes → AllByRecursion (Differ σ) ps → AllApart value before → AllApart value after
 
 -- pairs came of which the first label begins the second one where Q holds
 pub record IsAsked (s : Store) (l : Logic) (strings : List ℕ) (Q : Solution → Type 0) (old new : List Node) (before after : List (ℕ × ℕ)) : Type 0 where

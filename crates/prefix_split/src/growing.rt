@@ -19,7 +19,8 @@ ghost use Rattle.term_store.specs.SystemView.{the_equation, the_system};
 ghost use Rattle.prefix_split.specs.Beginnings.{AreValues, HasExtent, NodesFit, StepFits};
 ghost use Rattle.prefix_split.specs.Beginnings.{step_marks};
 ghost use Rattle.prefix_split.specs.Growing.{AreNamed, AreSteps, IsAsked, IsGrown, IsNamed};
-ghost use Rattle.prefix_split.specs.Growing.{IsNamedEquation, IsReached, IsTree, has_short_steps};
+ghost use Rattle.prefix_split.specs.Growing.{IsNamedEquation, IsNodeOf, IsReached, IsTree};
+ghost use Rattle.prefix_split.specs.Growing.{has_short_steps};
 ghost use Rattle.prefix_split.specs.Growing.{is_mark_head, is_open_string_head};
 
 use crate::joining::are_same_steps;
@@ -241,6 +242,30 @@ fn reach(
 {
     let node = reach_first(unifier, store, logic, system, nodes, label, label.len())?;
     Ok(node)
+}
+
+// The node of the label, if it is there.
+pub(crate) fn seek(
+    unifier: &mut Unifier,
+    store: &Store,
+    system: &System,
+    nodes: &[Node],
+    label: &[Ref],
+) -> Result<Option<usize>, NoMemory>
+    requires fits { NodesFit (length store.now.store.cells) nodes.now }
+    requires below { IsTrue (names_below (length store.now.store.cells) (map the_place label.now)) }
+    ensures { IfOk result (λ o. IfSome o (λ u.
+        IsNodeOf store.now.store nodes.now (map the_place label.now) u)) }
+{
+    let mut node = 0;
+    for i in 0..label.len() {
+        let step = step_of(store, Logic::S4, system, reference_at(label, i));
+        let Some(next) = find(unifier, store, nodes, node, step)? else {
+            return Ok(None);
+        };
+        node = next;
+    }
+    Ok(Some(node))
 }
 
 // Adds the labels of the equation, and that they begin each other.

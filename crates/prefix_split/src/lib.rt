@@ -1,6 +1,7 @@
 //! Prefix unification: equations between labels, solved for all lists of string lengths in order.
 #![tactic(auto)]
 
+mod apart;
 mod bit_table;
 mod choosing;
 mod equal;

@@ -41,3 +41,10 @@ pub(crate) fn home_at(homes: &[Home], i: usize) -> &Home
 {
     &homes[i]
 }
+
+pub(crate) fn both_at(pairs: &[(usize, usize)], i: usize) -> (usize, usize)
+    requires { i < length pairs.now }
+    ensures { slice_get pairs.now i ≡ Some result }
+{
+    pairs[i]
+}

@@ -5,20 +5,22 @@ ghost use Rattle.std.specs.List.{AllByRecursion};
 ghost use Rattle.calculus.specs.Ground.{GroundMark};
 ghost use Rattle.calculus.specs.Stores.{Solution, Solves};
 ghost use Rattle.calculus.specs.Bindings.{AddsBuilt, KeepsMarks};
-ghost use Rattle.calculus.specs.Systems.{AreEqual, IsStep, MeetsDemand, NamesItsStrings};
-ghost use Rattle.calculus.specs.Systems.{is_system};
+ghost use Rattle.calculus.specs.Systems.{AreEqual, Differ, IsStep, MeetsDemand};
+ghost use Rattle.calculus.specs.Systems.{NamesItsStrings, is_system};
 ghost use Rattle.term_store.specs.Asking.{Asks};
 ghost use Rattle.term_store.specs.Room.{KeepsRoom};
 ghost use Rattle.term_store.specs.SystemView.{the_system};
-ghost use Rattle.prefix_split.specs.Beginnings.{AllBegin, AreValues, Holds, IsRelated};
-ghost use Rattle.prefix_split.specs.Beginnings.{Keeps, NodesFit};
+ghost use Rattle.prefix_split.specs.Beginnings.{AllApart, AllBegin, AreValues, Holds};
+ghost use Rattle.prefix_split.specs.Beginnings.{IsRelated, Keeps, NodesFit};
 ghost use Rattle.prefix_split.specs.Growing.{HasRoot, step_relation};
 
+use crate::apart::{nodes_apart, refute_equal, told_apart};
 use crate::choosing::choose;
 use crate::growing::{ask_equations, ask_homes, ask_needed};
 use crate::joining::settle;
 use crate::node::{Node, Step};
 use crate::order::{LabelOrder, Relation, joined};
+use crate::places::both_at;
 use crate::rules::node_at;
 use calculus::setting::Logic;
 use cop_base::NoMemory;
@@ -77,20 +79,13 @@ fn add_nodes(order: &mut LabelOrder, nodes: &[Node])
     }
 }
 
-fn pair_at(pairs: &[(usize, usize)], i: usize) -> (usize, usize)
-    requires { i < length pairs.now }
-    ensures { slice_get pairs.now i ≡ Some result }
-{
-    pairs[i]
-}
-
 // The first label of each pair begins the second one.
 fn add_pairs(order: &mut LabelOrder, pairs: &[(usize, usize)])
     ensures { (value : ℕ → List GroundMark) → AllBegin value pairs.now → Holds value order.old
         → Holds value order.new }
 {
     for i in 0..pairs.len() {
-        let pair = pair_at(pairs, i);
+        let pair = both_at(pairs, i);
         order.add(pair.0, pair.1, Relation::Weak);
     }
 }
@@ -127,21 +122,27 @@ fn settled(
     Ok(order)
 }
 
-// The same, where open gaps are closed one way or the other, with at most so many choices.
+// The same, where labels that have to differ are told apart, and open gaps are closed one way or
+// the other, with at most so many choices.
 fn chosen(
     alloc: Global,
     unifier: &mut Unifier,
     store: &Store,
     nodes: &[Node],
     pairs: &[(usize, usize)],
+    apart: &[(usize, usize)],
     choices: u32,
 ) -> Result<LabelOrder, NoMemory>
     requires { NodesFit (length store.now.store.cells) nodes.now }
     ensures { IfOk result (λ order. order.is_refuted ≡ true → (σ : Solution)
         (value : ℕ → List GroundMark) → Solves store.now.store σ → AreValues σ value nodes.now
-        → ¬ AllBegin value pairs.now) }
+        → AllApart value apart.now → ¬ AllBegin value pairs.now) }
 {
     let mut order = settled(alloc, unifier, store, nodes, pairs)?;
+    refute_equal(&mut order, apart);
+    if let Some(told) = told_apart(&order, unifier, store, nodes, apart, choices)? {
+        return Ok(told);
+    }
     let _left = choose(&mut order, unifier, store, nodes, choices)?;
     Ok(order)
 }
@@ -155,14 +156,16 @@ pub(crate) struct LabelTree {
 
 // The tree of the labels of the equations, and of those that the demand forces to be beginnings of
 // others. Its order is refuted only where no solution of the store, whose strings are steps of the
-// logic, makes the equations equal and meets the demand. At most so many choices are made. Marks
-// are added to the store.
+// logic, makes the equations equal and meets the demand, while the goals of each pair differ. It
+// tells the pairs of these numbers apart, where it can. At most so many choices are made. Marks are
+// added to the store.
 pub(crate) fn demanded_tree<M: Demand>(
     alloc: Global,
     store: &mut Store,
     logic: Logic,
     system: &System,
     more: &M,
+    numbers: &[usize],
     choices: u32,
 ) -> Result<LabelTree, NoMemory>
     requires fits { IsTrue (is_system store.old.store (the_system system.now)) }
@@ -170,6 +173,7 @@ pub(crate) fn demanded_tree<M: Demand>(
     ensures refuted { IfOk result (λ tree. tree.order.is_refuted ≡ true → (σ : Solution)
         → Solves store.new.store σ → AllByRecursion (IsStep logic σ) (the_system system.now).strings
         → MeetsDemand (Asks (M.holds_for more.now)) (the_system system.now) σ
+        → AllByRecursion (Differ σ) (the_system system.now).pairs
         → ¬ AllByRecursion (AreEqual σ) (the_system system.now).equations) }
     ensures adds { AddsBuilt store.old.store store.new.store }
     ensures marks { KeepsMarks store.old.store store.new.store }
@@ -179,6 +183,7 @@ pub(crate) fn demanded_tree<M: Demand>(
     let mut nodes = root(alloc)?;
     let mut pairs = Vec::new(alloc);
     ask_equations(&mut unifier, store, logic, system, &mut nodes, &mut pairs)?;
+    let apart = nodes_apart(alloc, &mut unifier, store, system, &nodes, numbers)?;
     let homes = more.homes(alloc, store, system)?;
     ask_homes(
         &mut unifier,
@@ -188,7 +193,7 @@ pub(crate) fn demanded_tree<M: Demand>(
         &mut pairs,
         homes.items(),
     )?;
-    let order = chosen(alloc, &mut unifier, store, &nodes, &pairs, choices)?;
+    let order = chosen(alloc, &mut unifier, store, &nodes, &pairs, &apart, choices)?;
     Ok(LabelTree { nodes, order })
 }
 

@@ -47,13 +47,15 @@ fn take_step(ledger: &mut Ledger) -> bool
     ledger.take()
 }
 
-// The tree of the system's labels. The store is as before.
+// The tree of the system's labels, which tells the pairs of these numbers apart. The store is as
+// before.
 fn tree_of<M: Demand>(
     alloc: Global,
     store: &mut Store,
     logic: Logic,
     system: &System,
     more: &M,
+    numbers: &[usize],
 ) -> Result<LabelTree, NoMemory>
     requires fits { IsTrue (is_system store.old.store (the_system system.now)) }
     requires named { NamesItsStrings store.old.store (the_system system.now) }
@@ -65,14 +67,83 @@ fn tree_of<M: Demand>(
     ensures room { KeepsRoom store.old store.new }
 {
     let start = store.mark();
-    let made = demanded_tree(alloc, store, logic, system, more, MANY_CHOICES);
+    let made = demanded_tree(alloc, store, logic, system, more, numbers, MANY_CHOICES);
     store.undo(start);
     made
 }
 
-// Answers `Found` or `None` by the order of label beginnings, where that can be: it refutes the
-// system, or proposes lengths that are tried. Where each string has but one length, trying the one
-// list costs less.
+// Adds the number, if there is one and it is new.
+fn note(numbers: &mut Vec<usize>, number: Option<usize>) -> Result<(), NoMemory> {
+    let Some(n) = number else {
+        return Ok(());
+    };
+    for i in 0..numbers.len() {
+        if numbers[i] == n {
+            return Ok(());
+        }
+    }
+    numbers.push(n)?;
+    Ok(())
+}
+
+// Answers by the order of label beginnings, where that can be: it refutes the system, or proposes
+// lengths that are tried. It tells the pairs of these numbers apart, and one that the lengths made
+// the same is added to them.
+fn solve_apart<M: Demand>(
+    alloc: Global,
+    store: &mut Store,
+    logic: Logic,
+    system: &System,
+    more: &mut M,
+    numbers: &mut Vec<usize>,
+) -> Result<Option<Solved>, NoMemory>
+    requires fits { IsTrue (is_system store.old.store (the_system system.now)) }
+    requires named { NamesItsStrings store.old.store (the_system system.now) }
+    ensures found { IfOk result (λ o. IfSome o (λ a. a ≡ Solved.Found
+        → OwnSparesSolve (M.common more.old) logic (Asks (M.holds_for more.old)) store.new.store
+        (the_system system.now))) }
+    ensures back { IfOk result (λ o. IfSome o (λ a. a ≡ Solved.Found → (σ : Solution)
+        → Solves store.new.store σ → Solves store.old.store σ)) }
+    ensures none { IfOk result (λ o. IfSome o (λ a. a ≡ Solved.None → ¬ HasBoundedSolution logic
+        (Asks (M.holds_for more.old)) store.old.store (the_system system.now))) }
+    ensures decided { IfOk result (λ o. IfSome o (λ a. ¬ (a ≡ Solved.Steps))) }
+    ensures unchanged { IfOk result (λ o. MatchOption o (store.new.store ≡ store.old.store)
+        (λ a. ¬ (a ≡ Solved.Found) → store.new.store ≡ store.old.store)) }
+    ensures err { OnErr result (store.new.store ≡ store.old.store) }
+    ensures marks { KeepsMarks store.old.store store.new.store }
+    ensures room { KeepsRoom store.old store.new }
+    ensures same { M.holds_for more.new ≡ M.holds_for more.old }
+    ensures same_common { M.common more.new ≡ M.common more.old }
+{
+    let tree = tree_of(alloc, store, logic, system, more, numbers)?;
+    if tree.order.is_refuted {
+        return Ok(Some(Solved::None));
+    }
+    let Some(lengths) = propose(alloc, store, logic, system, &tree)? else {
+        return Ok(None);
+    };
+    let mut unifier = Unifier::new(alloc);
+    let mut same = None;
+    let found = try_or_undo(
+        alloc,
+        &mut unifier,
+        store,
+        logic,
+        system,
+        more,
+        &lengths,
+        &mut same,
+    )?;
+    if found {
+        return Ok(Some(Solved::Found));
+    }
+    note(numbers, same)?;
+    Ok(None)
+}
+
+// Answers `Found` or `None` by the order of label beginnings, where that can be: as long as lengths
+// that it proposes make goals of a pair the same, they are told apart. Where each string has but one
+// length, trying the one list costs less.
 fn solve_by_order<M: Demand>(
     alloc: Global,
     store: &mut Store,
@@ -102,17 +173,15 @@ fn solve_by_order<M: Demand>(
     if is_single(range) {
         return Ok(None);
     }
-    let tree = tree_of(alloc, store, logic, system, more)?;
-    if tree.order.is_refuted {
-        return Ok(Some(Solved::None));
-    }
-    let Some(lengths) = propose(alloc, store, logic, system, &tree)? else {
-        return Ok(None);
-    };
-    let mut unifier = Unifier::new(alloc);
-    let found = try_or_undo(alloc, &mut unifier, store, logic, system, more, &lengths)?;
-    if found {
-        return Ok(Some(Solved::Found));
+    let mut numbers = Vec::new(alloc);
+    for _ in 0..system.pairs.items().len().saturating_add(1) {
+        let told = numbers.len();
+        if let Some(answer) = solve_apart(alloc, store, logic, system, more, &mut numbers)? {
+            return Ok(Some(answer));
+        }
+        if numbers.len() == told {
+            return Ok(None);
+        }
     }
     Ok(None)
 }
@@ -164,8 +233,18 @@ pub fn solve<M: Demand>(
         return Ok(answer);
     }
     let mut unifier = Unifier::new(alloc);
+    let mut same = None;
     loop {
-        let found = try_or_undo(alloc, &mut unifier, store, logic, system, more, &lengths)?;
+        let found = try_or_undo(
+            alloc,
+            &mut unifier,
+            store,
+            logic,
+            system,
+            more,
+            &lengths,
+            &mut same,
+        )?;
         if found {
             return Ok(Solved::Found);
         }

@@ -15,7 +15,7 @@ ghost use Rattle.prefix_split.specs.Trying.{IsSetTo};
 use crate::equal::make_all_equal;
 use crate::lengths::give_lengths;
 use crate::meeting::meet_demand;
-use crate::same::has_same_pair;
+use crate::same::same_pair;
 use calculus::setting::Logic;
 use cop_base::NoMemory;
 use std::alloc::Global;
@@ -52,7 +52,7 @@ fn set_lengths(
 }
 
 // Whether the system has a solution with these lengths: then own spares are one. Otherwise some
-// bindings may be left.
+// bindings may be left. A pair of goals that the lengths made the same is told.
 fn try_lengths<M: Demand>(
     alloc: Global,
     unifier: &mut Unifier,
@@ -61,6 +61,7 @@ fn try_lengths<M: Demand>(
     system: &System,
     more: &mut M,
     lengths: &[u32],
+    same: &mut Option<usize>,
 ) -> Result<bool, NoMemory>
     requires fits { IsTrue (is_system store.old.store (the_system system.now)) }
     requires named { NamesItsStrings store.old.store (the_system system.now) }
@@ -87,8 +88,13 @@ fn try_lengths<M: Demand>(
         return Ok(false);
     }
     let _met = store.mark();
-    let same = has_same_pair(alloc, unifier, store, system.pairs.items())?;
-    Ok(!same)
+    match same_pair(alloc, unifier, store, system.pairs.items())? {
+        None => Ok(true),
+        Some(i) => {
+            *same = Some(i);
+            Ok(false)
+        }
+    }
 }
 
 // The same, but the store is as before where there is no solution, and for want of memory.
@@ -100,6 +106,7 @@ pub(crate) fn try_or_undo<M: Demand>(
     system: &System,
     more: &mut M,
     lengths: &[u32],
+    same: &mut Option<usize>,
 ) -> Result<bool, NoMemory>
     requires fits { IsTrue (is_system store.old.store (the_system system.now)) }
     requires named { NamesItsStrings store.old.store (the_system system.now) }
@@ -122,7 +129,7 @@ pub(crate) fn try_or_undo<M: Demand>(
     ensures same_common { M.common more.new ≡ M.common more.old }
 {
     let start = store.mark();
-    let found = try_lengths(alloc, unifier, store, logic, system, more, lengths);
+    let found = try_lengths(alloc, unifier, store, logic, system, more, lengths, same);
     if let Ok(true) = found {
         return found;
     }

@@ -1,19 +1,22 @@
 use Rattle.std.specs.List.{AllByRecursion, list_all}
-use Rattle.std.proofs.Common.{◌≡◌, ◌∙◌, [], IsTrue, length, subst, sym}
+use Rattle.std.proofs.Common.{◌≡◌, [], IsTrue, length, subst, sym}
 use Rattle.calculus.specs.Bindings.{nothing_more}
-use Rattle.calculus.proofs.BindingLaws.{KeepsMarks-same}
 use Rattle.calculus.proofs.PatternLaws.{Grows-built}
 use Rattle.search_theory.proofs.BuildingLaws.{adds-back}
 use Rattle.term_store.specs.Homes.{BeginsLabel, is_home}
-use Rattle.prefix_split.specs.Beginnings.{AllBegin, AreValues, NodesFit}
+use Rattle.prefix_split.specs.Beginnings.{AllApart, AllBegin, AreValues, NodesFit}
 use Rattle.prefix_split.specs.Growing.{HasValues, IsTree}
 use Rattle.prefix_split.proofs.GrowingLaws.{any-steps, grows-length, none-asked, root-tree, root-values, tree-larger, values-before}
+use Rattle.prefix_split.proofs.ApartLaws.{none-apart}
 use Rattle.prefix_split.proofs.refuting.demanded_tree.Goals as goal
 
 pub ask_equations-requires-clause-tree : goal.ask_equations-requires-clause-tree
 ask_equations-requires-clause-tree g c =
     let (n, is_root, parent, step) = c.in_ok-nodes.ensures in
     subst (IsTree (length c.args.store.now.store.cells)) (sym is_root) (root-tree (length c.args.store.now.store.cells) n parent step)
+
+pub nodes_apart-requires-clause-nodes : goal.nodes_apart-requires-clause-nodes
+nodes_apart-requires-clause-nodes g c = subst (NodesFit (length c.args.store.now.store.cells)) (sym c.deref.ensures.value) c.in_ok-ask_equations.ensures.tree.fits
 
 pub ask_homes-requires-clause-tree : goal.ask_homes-requires-clause-tree
 ask_homes-requires-clause-tree g c = tree-larger (length c.args.store.now.store.cells) (length c.homes.new.store.store.cells) c.ask_equations.new.nodes.items c.in_ok-ask_equations.ensures.tree (grows-length c.args.store.now.store c.homes.new.store.store (Grows-built c.args.store.now.store c.homes.new.store.store c.homes.ensures.adds))
@@ -22,10 +25,10 @@ pub ask_homes-requires-clause-fits : goal.ask_homes-requires-clause-fits
 ask_homes-requires-clause-fits g c = subst (λ hs. IsTrue (list_all (is_home c.homes.new.store.store) hs)) (sym c.items.ensures) c.in_ok-homes.ensures.labels
 
 pub chosen-requires : goal.chosen-requires
-chosen-requires g c = subst (NodesFit (length c.homes.new.store.store.cells)) (sym c.deref.ensures.value) c.in_ok-ask_homes.ensures.tree.fits
+chosen-requires g c = subst (NodesFit (length c.homes.new.store.store.cells)) (sym c.deref-2.ensures.value) c.in_ok-ask_homes.ensures.tree.fits
 
 pub returns-clause-refuted : goal.returns-clause-refuted
-returns-clause-refuted g c = λ e σ t steps met equal.
+returns-clause-refuted g c = λ e σ t steps met differ equal.
     let old = c.args.store.now.store in
     let new = c.homes.new.store.store in
     let u = adds-back old new c.homes.ensures.adds σ t in
@@ -38,10 +41,14 @@ returns-clause-refuted g c = λ e σ t steps met equal.
     let pairs = asked.pairs σ value u (values-before σ value c.ask_equations.new.nodes.items c.ask_homes.new.nodes.items more.extends v) equal (subst (AllBegin value) (sym empty) (none-asked value)) in
     let begin = subst (λ hs. AllByRecursion (BeginsLabel σ) hs) (sym c.items.ensures) (c.in_ok-homes.ensures.forced σ t met) in
     let all = more.pairs σ value t v begin pairs in
-    c.in_ok-order.ensures e σ value t (subst (AreValues σ value) (sym c.deref.ensures.value) v) (subst (AllBegin value) (sym c.deref-2.ensures.value) all)
+    let apart = c.in_ok-apart.ensures σ value u (subst (AreValues σ value) (sym c.deref.ensures.value) (values-before σ value c.ask_equations.new.nodes.items c.ask_homes.new.nodes.items more.extends v)) differ (none-apart value) in
+    c.in_ok-order.ensures e σ value t (subst (AreValues σ value) (sym c.deref-2.ensures.value) v) (subst (AllApart value) (sym c.deref-4.ensures.value) apart) (subst (AllBegin value) (sym c.deref-3.ensures.value) all)
 
 pub returns-in_err-nodes-clause-adds : goal.returns-in_err-nodes-clause-adds
 returns-in_err-nodes-clause-adds g c = nothing_more
 
 pub returns-in_err-ask_equations-clause-adds : goal.returns-in_err-ask_equations-clause-adds
 returns-in_err-ask_equations-clause-adds g c = nothing_more
+
+pub returns-in_err-apart-clause-adds : goal.returns-in_err-apart-clause-adds
+returns-in_err-apart-clause-adds g c = nothing_more

@@ -1,48 +1,77 @@
-use Rattle.std.proofs.Common.{◌≡◌, ◌∙◌, IsTrue, ap, arith, length, refl, subst, sym}
+use Rattle.std.proofs.Common.{◌≡◌, ◌∙◌, IsTrue, arith, refl, subst, sym}
 use Rattle.calculus.specs.Bindings.{KeepsMarks}
-use Rattle.calculus.specs.Stores.{Solves}
-use Rattle.calculus.specs.Systems.{AreTried, NamesItsStrings, is_system}
+use Rattle.calculus.specs.Systems.{NamesItsStrings, is_system}
 use Rattle.calculus.proofs.BindingLaws.{KeepsMarks-same}
+use Rattle.term_unify.proofs.PairLaws.{OnErr-always}
 use Rattle.term_store.specs.SystemView.{the_system}
-use Rattle.prefix_split.proofs.LengthListLaws.{tried-within}
+use Rattle.prefix_split.proofs.SearchLaws.{back-moved, bounded-moved, found-moved}
 use Rattle.prefix_split.proofs.solving.solve_by_order.Goals as goal
 
 pub returns-then-is_single-clause-marks : goal.returns-then-is_single-clause-marks
 returns-then-is_single-clause-marks g c = KeepsMarks-same c.args.store.now.store
 
-pub returns-in_err-tree-clause-marks : goal.returns-in_err-tree-clause-marks
-returns-in_err-tree-clause-marks g c = c.tree_of.ensures.marks
+pub loop-init : goal.loop-init
+loop-init g c = record { unchanged = refl; same = refl; same_common = refl; room = (omega arith, omega arith) }
 
-pub returns-then-tree-clause-none : goal.returns-then-tree-clause-none
-returns-then-tree-clause-none g c = λ e. c.in_ok-tree.ensures.refuted c.if-tree.true
+pub solve_apart-requires-clause-fits : goal.solve_apart-requires-clause-fits
+solve_apart-requires-clause-fits g c = subst (λ z. IsTrue (is_system z (the_system c.args.system.now))) (sym c.loop.invariant.unchanged) c.requires.fits
 
-pub returns-then-tree-clause-marks : goal.returns-then-tree-clause-marks
-returns-then-tree-clause-marks g c = c.tree_of.ensures.marks
+pub solve_apart-requires-clause-named : goal.solve_apart-requires-clause-named
+solve_apart-requires-clause-named g c = subst (λ z. NamesItsStrings z (the_system c.args.system.now)) (sym c.loop.invariant.unchanged) c.requires.named
 
-pub propose-requires : goal.propose-requires
-propose-requires g c = subst (λ s. IsTrue (is_system s (the_system c.args.system.now))) (sym c.tree_of.ensures.unchanged) c.requires.fits
+pub returns-in_err-answer-clause-err : goal.returns-in_err-answer-clause-err
+returns-in_err-answer-clause-err g c = OnErr-always c.from_residual.result (c.solve_apart.new.store.store ≡ c.args.store.now.store) (c.in_err-answer.ensures.err ∙ c.loop.invariant.unchanged)
 
-pub returns-in_err-lengths-clause-marks : goal.returns-in_err-lengths-clause-marks
-returns-in_err-lengths-clause-marks g c = c.tree_of.ensures.marks
+pub returns-in_err-answer-clause-marks : goal.returns-in_err-answer-clause-marks
+returns-in_err-answer-clause-marks g c = subst (λ z. KeepsMarks z c.solve_apart.new.store.store) c.loop.invariant.unchanged c.solve_apart.ensures.marks
 
-pub returns-in_default-clause-marks : goal.returns-in_default-clause-marks
-returns-in_default-clause-marks g c = c.tree_of.ensures.marks
+pub returns-in-Some-clause-found : goal.returns-in-Some-clause-found
+returns-in-Some-clause-found g c = λ e.
+    let h = c.loop.invariant in
+    let found = rw c.in-Some.is at c.in_ok-answer.ensures.found in
+    found-moved (g.M.Demand.common c.args.more.now) (g.M.Demand.common c.loop.more) c.args.logic (g.M.Demand.holds_for c.args.more.now) (g.M.Demand.holds_for c.loop.more) c.solve_apart.new.store.store (the_system c.args.system.now) h.same_common h.same (found e)
 
-pub try_or_undo-requires-clause-fits : goal.try_or_undo-requires-clause-fits
-try_or_undo-requires-clause-fits g c = subst (λ s. IsTrue (is_system s (the_system c.args.system.now))) (sym c.tree_of.ensures.unchanged) c.requires.fits
+pub returns-in-Some-clause-back : goal.returns-in-Some-clause-back
+returns-in-Some-clause-back g c = λ e.
+    let back = rw c.in-Some.is at c.in_ok-answer.ensures.back in
+    back-moved c.args.store.now.store c.loop.store.store c.solve_apart.new.store.store c.loop.invariant.unchanged (back e)
 
-pub try_or_undo-requires-clause-named : goal.try_or_undo-requires-clause-named
-try_or_undo-requires-clause-named g c = subst (λ s. NamesItsStrings s (the_system c.args.system.now)) (sym c.tree_of.ensures.unchanged) c.requires.named
+pub returns-in-Some-clause-none : goal.returns-in-Some-clause-none
+returns-in-Some-clause-none g c = λ e.
+    let none = rw c.in-Some.is at c.in_ok-answer.ensures.none in
+    bounded-moved c.args.logic (g.M.Demand.holds_for c.args.more.now) (g.M.Demand.holds_for c.loop.more) c.args.store.now.store c.loop.store.store (the_system c.args.system.now) c.loop.invariant.same c.loop.invariant.unchanged (none e)
 
-pub try_or_undo-requires-clause-count : goal.try_or_undo-requires-clause-count
-try_or_undo-requires-clause-count g c =
-    let tried = rw c.in-Some.is at c.in_ok-lengths.ensures in
-    ap length c.deref.ensures.value ∙ (tried-within c.args.logic (the_system c.args.system.now) c.in-Some.lengths.items tried).1
+pub returns-in-Some-clause-decided : goal.returns-in-Some-clause-decided
+returns-in-Some-clause-decided g c = rw c.in-Some.is at c.in_ok-answer.ensures.decided
 
-pub returns-then-found-clause-found : goal.returns-then-found-clause-found
-returns-then-found-clause-found g c = λ e.
-    let tried = rw c.in-Some.is at c.in_ok-lengths.ensures in
-    c.in_ok-found.ensures.found c.if-found.true (subst (AreTried c.args.logic (the_system c.args.system.now)) (sym c.deref.ensures.value) tried)
+pub returns-in-Some-clause-unchanged : goal.returns-in-Some-clause-unchanged
+returns-in-Some-clause-unchanged g c = λ other.
+    let unchanged = rw c.in-Some.is at c.in_ok-answer.ensures.unchanged in
+    unchanged other ∙ c.loop.invariant.unchanged
 
-pub returns-then-found-clause-back : goal.returns-then-found-clause-back
-returns-then-found-clause-back g c = λ e σ t. subst (λ s. Solves s σ) c.tree_of.ensures.unchanged (c.in_ok-found.ensures.back c.if-found.true σ t)
+pub returns-in-Some-clause-marks : goal.returns-in-Some-clause-marks
+returns-in-Some-clause-marks g c = subst (λ z. KeepsMarks z c.solve_apart.new.store.store) c.loop.invariant.unchanged c.solve_apart.ensures.marks
+
+pub returns-then-len-told-clause-unchanged : goal.returns-then-len-told-clause-unchanged
+returns-then-len-told-clause-unchanged g c =
+    let unchanged = rw c.in_default.is at c.in_ok-answer.ensures.unchanged in
+    unchanged ∙ c.loop.invariant.unchanged
+
+pub returns-then-len-told-clause-marks : goal.returns-then-len-told-clause-marks
+returns-then-len-told-clause-marks g c = subst (λ z. KeepsMarks z c.solve_apart.new.store.store) c.loop.invariant.unchanged c.solve_apart.ensures.marks
+
+pub loop-preserved : goal.loop-preserved
+loop-preserved g c =
+    let h = c.loop.invariant in
+    let unchanged = rw c.in_default.is at c.in_ok-answer.ensures.unchanged in
+    let a = h.room in
+    let b = c.solve_apart.ensures.room in
+    record {
+      unchanged = unchanged ∙ h.unchanged;
+      same = c.solve_apart.ensures.same ∙ h.same;
+      same_common = c.solve_apart.ensures.same_common ∙ h.same_common;
+      room = (omega (arith, a, b), omega (arith, a, b));
+    }
+
+pub returns-clause-marks : goal.returns-clause-marks
+returns-clause-marks g c = subst (KeepsMarks c.args.store.now.store) (sym c.loop.invariant.unchanged) (KeepsMarks-same c.args.store.now.store)

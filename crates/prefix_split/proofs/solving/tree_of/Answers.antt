@@ -3,7 +3,7 @@ use Rattle.std.specs.List.{AllByRecursion}
 use Rattle.std.proofs.lemmas.Result.{IfOk-weaker}
 use Rattle.calculus.specs.Bindings.{KeepsMarks}
 use Rattle.calculus.specs.Stores.{Solution, Solves}
-use Rattle.calculus.specs.Systems.{AreEqual, HasBoundedSolution, IsStep, MeetsDemand}
+use Rattle.calculus.specs.Systems.{AreEqual, Differ, HasBoundedSolution, IsStep, MeetsDemand}
 use Rattle.calculus.proofs.BindingLaws.{KeepsMarks-same}
 use Rattle.calculus.proofs.PatternLaws.{KeepsMarks-built}
 use Rattle.term_store.specs.Asking.{Asks}
@@ -16,7 +16,7 @@ pub undo-requires : goal.undo-requires
 undo-requires g c = (KeepsMarks-built c.args.store.now.store c.demanded_tree-made.new.store.store c.demanded_tree-made.ensures.adds (the_mark c.mark-start.result) c.mark-start.ensures.good).0
 
 pub returns-clause-refuted : goal.returns-clause-refuted
-returns-clause-refuted g c = IfOk-weaker c.demanded_tree-made.result (λ tree. tree.order.is_refuted ≡ true → (σ : Solution) → Solves c.demanded_tree-made.new.store.store σ → AllByRecursion (IsStep c.args.logic σ) (the_system c.args.system.now).strings → MeetsDemand (Asks (g.M.Demand.holds_for c.args.more.now)) (the_system c.args.system.now) σ → ¬ AllByRecursion (AreEqual σ) (the_system c.args.system.now).equations) (λ tree. tree.order.is_refuted ≡ true → ¬ HasBoundedSolution c.args.logic (Asks (g.M.Demand.holds_for c.args.more.now)) c.args.store.now.store (the_system c.args.system.now)) (λ tree h. refuted-before c.args.logic (Asks (g.M.Demand.holds_for c.args.more.now)) c.args.store.now.store c.demanded_tree-made.new.store.store (the_system c.args.system.now) tree.order.is_refuted c.requires.fits c.demanded_tree-made.ensures.adds h) c.demanded_tree-made.ensures.refuted
+returns-clause-refuted g c = IfOk-weaker c.demanded_tree-made.result (λ tree. tree.order.is_refuted ≡ true → (σ : Solution) → Solves c.demanded_tree-made.new.store.store σ → AllByRecursion (IsStep c.args.logic σ) (the_system c.args.system.now).strings → MeetsDemand (Asks (g.M.Demand.holds_for c.args.more.now)) (the_system c.args.system.now) σ → AllByRecursion (Differ σ) (the_system c.args.system.now).pairs → ¬ AllByRecursion (AreEqual σ) (the_system c.args.system.now).equations) (λ tree. tree.order.is_refuted ≡ true → ¬ HasBoundedSolution c.args.logic (Asks (g.M.Demand.holds_for c.args.more.now)) c.args.store.now.store (the_system c.args.system.now)) (λ tree h. refuted-before c.args.logic (Asks (g.M.Demand.holds_for c.args.more.now)) c.args.store.now.store c.demanded_tree-made.new.store.store (the_system c.args.system.now) tree.order.is_refuted c.requires.fits c.demanded_tree-made.ensures.adds h) c.demanded_tree-made.ensures.refuted
 
 pub returns-clause-unchanged : goal.returns-clause-unchanged
 returns-clause-unchanged g c = c.undo.ensures.store ∙ (KeepsMarks-built c.args.store.now.store c.demanded_tree-made.new.store.store c.demanded_tree-made.ensures.adds (the_mark c.mark-start.result) c.mark-start.ensures.good).1 ∙ c.mark-start.ensures.whole

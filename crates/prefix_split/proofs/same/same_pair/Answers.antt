@@ -2,7 +2,7 @@ use Rattle.std.proofs.Common.{arith, map}
 use Rattle.std.proofs.lemmas.List.{length-map}
 use Rattle.term_store.specs.SystemView.{the_pair}
 use Rattle.prefix_split.proofs.SameLaws.{apart-all, apart-next, apart-start, pair-atoms}
-use Rattle.prefix_split.proofs.same.has_same_pair.Goals as goal
+use Rattle.prefix_split.proofs.same.same_pair.Goals as goal
 
 pub loop-i-init : goal.loop-i-init
 loop-i-init c = apart-start c.args.store.now.store (map the_pair c.args.pairs.now)
@@ -20,7 +20,7 @@ pub are_same-requires-clause-free_right : goal.are_same-requires-clause-free_rig
 are_same-requires-clause-free_right c = (c.requires.free c.loop-i.i (the_pair c.pair_at-pair.result.now) c.pair_at-pair.ensures).1
 
 pub returns-then-branch-clause-same : goal.returns-then-branch-clause-same
-returns-then-branch-clause-same c = λ e. (c.loop-i.i, the_pair c.pair_at-pair.result.now, c.pair_at-pair.ensures, c.in_ok-are_same.ensures.same c.if-branch.true)
+returns-then-branch-clause-same c = (the_pair c.pair_at-pair.result.now, c.pair_at-pair.ensures, c.in_ok-are_same.ensures.same c.if-branch.true)
 
 pub loop-i-preserved : goal.loop-i-preserved
 loop-i-preserved c = apart-next c.args.store.now.store (map the_pair c.args.pairs.now) c.loop-i.i (the_pair c.pair_at-pair.result.now) c.loop-i.invariant c.pair_at-pair.ensures (c.in_ok-are_same.ensures.different c.if-branch.false)

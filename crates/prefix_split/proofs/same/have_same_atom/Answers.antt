@@ -1,0 +1,27 @@
+use Rattle.std.proofs.Common.{IsTrue, length, map, subst, sym, ◌∙◌}
+use Rattle.calculus.specs.Stores.{names_below}
+use Rattle.term_store.specs.ClauseView.{the_atom}
+use Rattle.term_store.specs.RefView.{the_place}
+use Rattle.term_unify.specs.Same.{AreSameCells, DifferAt}
+use Rattle.prefix_split.proofs.SameLaws.{args-below, args-differ, atom-same, signs-differ, symbols-differ}
+use Rattle.prefix_split.proofs.same.have_same_atom.Goals as goal
+
+pub returns-then-not-are_same_sign-clause-different : goal.returns-then-not-are_same_sign-clause-different
+returns-then-not-are_same_sign-clause-different c = λ e. signs-differ c.args.store.now.store (the_atom c.args.a.now) (the_atom c.args.b.now) c.mark-now.ensures.well (sym c.are_same_sign.ensures ∙ c.if-not-are_same_sign.true)
+
+pub returns-then-a-b-clause-different : goal.returns-then-a-b-clause-different
+returns-then-a-b-clause-different c = λ e. symbols-differ c.args.store.now.store (the_atom c.args.a.now) (the_atom c.args.b.now) c.mark-now.ensures.well c.if-a-b.true
+
+pub are_same_cells-requires-clause-left : goal.are_same_cells-requires-clause-left
+are_same_cells-requires-clause-left c = subst (λ xs. IsTrue (names_below (length c.args.store.now.store.cells) xs)) (sym c.items.ensures) (args-below c.args.store.now.store (the_atom c.args.a.now) c.requires.left)
+
+pub are_same_cells-requires-clause-right : goal.are_same_cells-requires-clause-right
+are_same_cells-requires-clause-right c = subst (λ xs. IsTrue (names_below (length c.args.store.now.store.cells) xs)) (sym c.items-2.ensures) (args-below c.args.store.now.store (the_atom c.args.b.now) c.requires.right)
+
+pub returns-clause-different : goal.returns-clause-different
+returns-clause-different c = λ e. args-differ c.args.store.now.store (the_atom c.args.a.now) (the_atom c.args.b.now) c.mark-now.ensures.well c.requires.left c.requires.right
+    (subst (λ ys. DifferAt c.args.store.now.store c.args.a.now.args ys) c.items-2.ensures (subst (λ xs. DifferAt c.args.store.now.store xs (map the_place c.items-2.result.now)) c.items.ensures (c.in_ok-same.ensures.different e)))
+
+pub returns-clause-same : goal.returns-clause-same
+returns-clause-same c = λ t. atom-same c.args.store.now.store (the_atom c.args.a.now) (the_atom c.args.b.now) (sym c.are_same_sign.ensures ∙ c.if-not-are_same_sign.false) c.if-a-b.false
+    (subst (λ ys. AreSameCells c.args.store.now.store c.args.a.now.args ys) c.items-2.ensures (subst (λ xs. AreSameCells c.args.store.now.store xs (map the_place c.items-2.result.now)) c.items.ensures (c.in_ok-same.ensures.same t)))
