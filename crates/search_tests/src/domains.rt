@@ -15,11 +15,12 @@ ghost use Rattle.term_store.specs.TemplateView.{the_template};
 ghost use Rattle.search_tests.specs.DomainExamples.{IsExample, boxes, empty_store, example};
 ghost use Rattle.search_tests.specs.DomainExamples.{two_symbols, two_terms};
 
-use cop_base::{NoMemory, PosId, SymbolId};
+use cop_base::{Ledger, NoMemory, PosId, SymbolId};
 use domain_cond::{ConstantDemand, CumulativeDemand, VaryingDemand};
 use example_problems::{add, plain};
 use formula_core::{Formula, SymbolClass, Symbols};
 use logic_rules::{Domains, Logic, Problem, Setting};
+use prefix_split::{Solved, solve};
 use std::alloc::Global;
 use std::test::Fail;
 use term_store::{
@@ -279,6 +280,24 @@ fn varying_asks(
     asks(alloc, &mut demand, items, sides)
 }
 
+fn solves<M: Demand>(
+    alloc: Global,
+    demand: &mut M,
+    items: &[(Name, At)],
+) -> Result<bool, NoMemory> {
+    let mut store = Store::new(alloc)?;
+    let system = system(alloc, &mut store, items)?;
+    let mut ledger = Ledger::new(1);
+    let answer = solve(alloc, &mut store, Logic::T, &system, demand, &mut ledger)?;
+    Ok(matches!(answer, Solved::Found))
+}
+
+fn varying_solves(alloc: Global, items: &[(Name, At)]) -> Result<bool, NoMemory> {
+    let problem = problem(alloc, Domains::Varying, 1)?;
+    let mut demand = VaryingDemand::new(alloc, &problem)?;
+    solves(alloc, &mut demand, items)
+}
+
 // Whether there is one home, and its label is equal to it.
 fn is_one_home(homes: &HomeList, is_whole: bool) -> bool {
     let homes = homes.items();
@@ -346,6 +365,7 @@ fn own_spares_have_one_home_each(rt: HostRuntime) -> Result<(), Fail> {
     ] {
         let items = [(first, at), (second, other)];
         assert!(rt; varying_asks(alloc, 1, &items, sides)?);
+        assert!(rt; varying_solves(alloc, &items)? == sides.is_none());
         assert!(rt; varying_asks(alloc, 0, &items, None)?);
         assert!(rt; cumulative_asks(alloc, &items, None)?);
     }

@@ -552,6 +552,22 @@ fn goals_of_a_pair_must_differ(rt: HostRuntime) -> Result<(), Fail> {
     Ok(())
 }
 
+// Labels that are equal in each solution, and labels that differ where a string is longer than in
+// the least list. All lists of lengths of forty strings are too many.
+#[test]
+fn goals_of_a_pair_are_told_apart(rt: HostRuntime) -> Result<(), Fail> {
+    let alloc = rt.alloc();
+    let (string, mark) = (Some(Item::Text(0)), Some(Item::Mark(0)));
+    let (equal, apart) = ([(string, mark)], [(string, None)]);
+    let mut none = against(40, &[Item::Text(0)], &[Item::Mark(0)]);
+    none.pairs = &equal;
+    assert!(rt; is_none(alloc, Logic::S4, &none, 1)?);
+    let mut found = against(40, &[Item::Text(0), Item::Text(1)], &[Item::Mark(0)]);
+    found.pairs = &apart;
+    assert!(rt; is_found(alloc, Logic::S4, &found, 1)?);
+    Ok(())
+}
+
 // Each of two strings is a mark over the other one.
 #[test]
 fn no_string_is_inside_itself(rt: HostRuntime) -> Result<(), Fail> {
