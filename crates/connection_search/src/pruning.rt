@@ -85,8 +85,20 @@ impl Space<'_> {
         Ok(refuted)
     }
 
+    // Whether there is a leftmost open goal that may be extended.
+    fn has_room(&self, work: &Work) -> bool {
+        match work.tree.open {
+            None => false,
+            Some(goal) => match work.tree.goals.get(goal) {
+                None => false,
+                Some(at) => at.depth < self.limit as usize,
+            },
+        }
+    }
+
     /// Whether the list of choices may be dropped: it is known that the limit is left, and no closed
-    /// tableau begins with it, as labels show. A list without open goals is not tested here.
+    /// tableau begins with it, as labels show. A list whose leftmost open goal can only be reduced
+    /// is not tested here, since a test costs more than the few lists that come next.
     pub(crate) fn is_pruned(
         &self,
         store: &Store,
@@ -105,7 +117,7 @@ impl Space<'_> {
             → IsTrue (is_not_empty c) → IsPruned self.now.problem.now self.now.limit c) }
         ensures tree { work.new.tree ≡ work.old.tree }
     {
-        if !left || work.tree.open.is_none() || !work.tests.is_due() {
+        if !left || !self.has_room(work) || !work.tests.is_due() {
             return Ok(false);
         }
         let refuted = self.is_refuted(store, work)?;
