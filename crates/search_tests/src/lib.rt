@@ -7,6 +7,8 @@ mod domains;
 #[cfg(test)]
 mod doubling;
 #[cfg(test)]
+mod label_systems;
+#[cfg(test)]
 mod matrices;
 #[cfg(test)]
 mod prefixes;
