@@ -2,6 +2,7 @@ pub mod RowLaws
 pub mod ChainLaws
 pub mod PuttingLaws
 pub mod TableLaws
+pub mod NumberLaws
 pub mod LabelLaws
 pub mod BeginningLaws
 pub mod UnderLaws

@@ -10,7 +10,7 @@ use Rattle.derivation_branch.specs.Chains.{with_link, chains_from, chains, AreBa
 use Rattle.derivation_branch.specs.Occurring.{IsLonger}
 use Rattle.derivation_branch.specs.Putting.{IsClosed, AreClosed, AreClosedLinks, value_at}
 use Rattle.derivation_branch.specs.TableView.{the_value, the_link}
-use Rattle.derivation_branch.specs.declared.substitution.Value.{Value}
+use Rattle.derivation_branch.specs.declared.substitution.Binding.{Binding}
 use Rattle.derivation_branch.proofs.ChainLaws.{chains-at, chains-first, chains-push, chains-length, backward-at, backward-push}
 use Rattle.derivation_branch.proofs.PuttingLaws.{value-first, value-further, value-none}
 
@@ -79,25 +79,25 @@ closed-chains : (table : List (List Term)) (xs : List (Term × ℕ)) → AllClos
 closed-chains table [] h g = h
 closed-chains table (x ∷ xs) h g = closed-chains (with_link table x) xs (closed-more table (x.0 ∷ get_or table x.1 []) h (g.0, closed-list table x.1 h)) g.1
 
-pub list-closed : (xs : List (Value × ℕ)) (table : List (List Term)) (k : ℕ) → chains (map the_link xs) ≡ table → AreClosedLinks (map the_link xs) → AreClosed (get_or table k [])
+pub list-closed : (xs : List Binding) (table : List (List Term)) (k : ℕ) → chains (map the_link xs) ≡ table → AreClosedLinks (map the_link xs) → AreClosed (get_or table k [])
 list-closed xs table k view h = subst (λ t. AreClosed (get_or t k [])) view (closed-list (chains (map the_link xs)) k (closed-chains ([] ∷ []) (map the_link xs) (tt, tt) h))
 
 closed-push : (xs : List (Term × ℕ)) (x : Term × ℕ) → AreClosedLinks xs → IsClosed x.0 → AreClosedLinks (xs ++ x ∷ [])
 closed-push [] x h g = (g, tt)
 closed-push (y ∷ ys) x h g = (h.0, closed-push ys x h.1 g)
 
-pub closed-put : (xs after : List (Value × ℕ)) (x : Value × ℕ) → after ≡ xs ++ x ∷ [] → IsClosed (the_value x.0) → AreClosedLinks (map the_link xs) → AreClosedLinks (map the_link after)
+pub closed-put : (xs after : List Binding) (x : Binding) → after ≡ xs ++ x ∷ [] → IsClosed (the_value x.term) → AreClosedLinks (map the_link xs) → AreClosedLinks (map the_link after)
 closed-put xs after x grown g h = subst AreClosedLinks (sym (ap (map the_link) grown ∙ map_push the_link xs x)) (closed-push (map the_link xs) (the_link x) h g)
 
-pub value-here : (x : Value × ℕ) (l rest : List Term) (left : ℕ) (v : Term) → l ≡ the_value x.0 ∷ rest → left ≡ 0 → value_at l left ≡ v → the_value x.0 ≡ v
-value-here x l rest left v at none same = sym (value-first (the_value x.0) rest left none) ∙ ap (λ m. value_at m left) (sym at) ∙ same
+pub value-here : (x : Binding) (l rest : List Term) (left : ℕ) → l ≡ the_value x.term ∷ rest → left ≡ 0 → the_value x.term ≡ value_at l left
+value-here x l rest left at none = sym (value-first (the_value x.term) rest left none) ∙ ap (λ m. value_at m left) (sym at)
 
-pub value-outer : (x : Value × ℕ) (l rest : List Term) (left less : ℕ) (v : Term) → l ≡ the_value x.0 ∷ rest → left ≡ suc less → value_at l left ≡ v → value_at rest less ≡ v
+pub value-outer : (x : Binding) (l rest : List Term) (left less : ℕ) (v : Term) → l ≡ the_value x.term ∷ rest → left ≡ suc less → value_at l left ≡ v → value_at rest less ≡ v
 value-outer x l rest left less v at further same =
-    sym (value-further (the_value x.0) rest less) ∙ ap (value_at (the_value x.0 ∷ rest)) (sym further) ∙ ap (λ m. value_at m left) (sym at) ∙ same
+    sym (value-further (the_value x.term) rest less) ∙ ap (value_at (the_value x.term ∷ rest)) (sym further) ∙ ap (λ m. value_at m left) (sym at) ∙ same
 
-pub value-free : (l : List Term) (left : ℕ) (v : Term) → l ≡ [] → value_at l left ≡ v → var left ≡ v
-value-free l left v at same = sym (value-none left) ∙ ap (λ m. value_at m left) (sym at) ∙ same
+pub value-free : (l : List Term) (left : ℕ) → l ≡ [] → var left ≡ value_at l left
+value-free l left at = sym (value-none left) ∙ ap (λ m. value_at m left) (sym at)
 
 -- ---- tables that grow
 

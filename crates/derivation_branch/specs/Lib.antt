@@ -1,4 +1,6 @@
 pub mod Rows
+pub mod ItemHash
+pub mod RowNumbers
 pub mod Chains
 pub mod Putting
 pub mod TableView

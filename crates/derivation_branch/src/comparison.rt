@@ -11,6 +11,7 @@ ghost use Rattle.derivation_branch.specs.Rows.{row_of, rows_of};
 ghost use Rattle.formula_core.specs.FormulaView.{the_formula};
 ghost use Rattle.formula_core.specs.TermView.{the_term};
 
+use crate::following::{after_item, after_items, after_symbol, is_whole};
 use crate::substitution::{Substitutions, Value};
 use crate::term_row::{RowItem, TermRow};
 use cop_base::SymbolId;
@@ -42,59 +43,6 @@ fn head_under<'a>(substitutions: &Substitutions<'a>, place: u32, t: &'a Term) ->
         Term::Fun(f, args) => Head::Fun(*f, args, place),
         Term::Eigen(n) => Head::Eigen(*n),
         Term::Spare(n) => Head::Spare(*n),
-    }
-}
-
-// What follows an item at the beginning of a row.
-fn after_item(items: &[RowItem], item: RowItem) -> Option<&[RowItem]>
-    ensures some { IfSome result (λ r. items.now ≡ item ∷ r.now) }
-    ensures none { IsNone result → (rest : List RowItem) → ¬ (items.now ≡ item ∷ rest) }
-{
-    match items.split_first() {
-        Some((first, rest)) => if *first == item { Some(rest) } else { None },
-        None => None,
-    }
-}
-
-// What follows the symbol before its arguments.
-fn after_symbol<'b>(items: &'b [RowItem], f: SymbolId, count: usize) -> Option<&'b [RowItem]>
-    ensures some { IfSome result (λ r. items.now ≡ RowItem.Fun f count ∷ r.now) }
-    ensures none { IsNone result → (rest : List RowItem) → ¬ (items.now ≡ RowItem.Fun f count ∷ rest) }
-{
-    match items.split_first() {
-        Some((RowItem::Fun(g, n), rest)) => if *g == f && *n as usize == count {
-            Some(rest)
-        } else {
-            None
-        },
-        _ => None,
-    }
-}
-
-// What follows a row at the beginning of a row.
-fn after_items<'b>(items: &'b [RowItem], front: &[RowItem]) -> Option<&'b [RowItem]>
-    ensures some { IfSome result (λ r. items.now ≡ front.now ++ r.now) }
-    ensures none { IsNone result → (rest : List RowItem) → ¬ (items.now ≡ front.now ++ rest) }
-{
-    let mut rest = items;
-    for item in front.iter() {
-        rest = after_item(rest, *item)?;
-    }
-    Some(rest)
-}
-
-// Whether a row begins with that of a term, and nothing follows.
-fn is_whole(rest: Option<&[RowItem]>) -> bool
-    ensures told { (t u : tree.Term) → IfSome rest.entry (λ r. row_of t ≡ row_of u ++ r.now)
-        → (IsNone rest.entry → (r : List RowItem) → ¬ (row_of t ≡ row_of u ++ r))
-        → result ≡ term_eq t u }
-    ensures turned { (t u : tree.Term) → IfSome rest.entry (λ r. row_of t ≡ row_of u ++ r.now)
-        → (IsNone rest.entry → (r : List RowItem) → ¬ (row_of t ≡ row_of u ++ r))
-        → result ≡ term_eq u t }
-{
-    match rest {
-        Some(rest) => rest.is_empty(),
-        None => false,
     }
 }
 
@@ -166,6 +114,9 @@ fn is_equal_term<'a>(
     ensures { result ≡ term_eq (term_under substitutions.now i (the_term t.now))
         (term_under substitutions.now j (the_term u.now)) }
 {
+    if let (Term::Var(k), Term::Var(m)) = (t, u) {
+        return substitutions.are_equal(i, *k, j, *m);
+    }
     match (
         head_under(substitutions, i, t),
         head_under(substitutions, j, u),

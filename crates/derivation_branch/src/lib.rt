@@ -5,12 +5,14 @@
 mod addition;
 mod comparison;
 mod entry;
+mod following;
 mod labels;
 mod leaves;
 mod number_set;
 mod outline;
 mod places;
 mod relations;
+mod row_set;
 mod scope;
 mod substitution;
 mod term_row;

@@ -2,14 +2,17 @@
 //! memory and is walked from its beginning to its end.
 
 ghost use Rattle.std.specs.Prelude.{◌≡◌, ◌++◌, OnOk};
+ghost use Rattle.std.proofs.Common.{rules};
 ghost use Rattle.calculus.specs.Lists.{terms_tree};
 ghost use Rattle.calculus.specs.Syntax as tree;
 ghost use Rattle.derivation_branch.specs.Rows.{row_of, rows_of};
+ghost use Rattle.derivation_branch.specs.ItemHash.{item_hashed};
 ghost use Rattle.formula_core.specs.TermView.{the_term};
 
 use crate::places::place_of;
 use cop_base::{NoMemory, SymbolId};
 use formula_core::{Term, Terms};
+use std::hash::{Hash, Hasher};
 use std::marker::Model;
 
 /// What stands in a row: a leaf, or a function symbol before so many arguments.
@@ -19,6 +22,20 @@ pub enum RowItem {
     Fun(SymbolId, u32),
     Eigen(u32),
     Spare(u32),
+}
+
+// The kinds of leaves and the numbers of arguments are left to `==`, which makes hashing faster.
+impl Hash for RowItem {
+    ghost hash_input = { item_hashed };
+
+    ghost respects_eq = { Prim.search rules };
+
+    fn hash<H: Hasher>(&self, state: &mut H) {
+        match self {
+            RowItem::Fun(f, _) => state.write_u32(f.0),
+            RowItem::Var(n) | RowItem::Eigen(n) | RowItem::Spare(n) => state.write_u32(*n),
+        }
+    }
 }
 
 /// A term in a row.

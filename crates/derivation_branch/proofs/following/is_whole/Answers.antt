@@ -2,7 +2,7 @@ use Rattle.std.proofs.Common.{◌≡◌, ◌++◌, ◌==◌, ◌∙◌, ap, leng
 use Rattle.std.specs.Prelude.{IfSome, IsNone}
 use Rattle.derivation_branch.specs.Rows.{row_of}
 use Rattle.derivation_branch.proofs.RowLaws.{none-told, rest-told, turned}
-use Rattle.derivation_branch.proofs.comparison.is_whole.Goals as goal
+use Rattle.derivation_branch.proofs.following.is_whole.Goals as goal
 
 pub returns-in-Some-clause-told : goal.returns-in-Some-clause-told
 returns-in-Some-clause-told c = λ t u s n.

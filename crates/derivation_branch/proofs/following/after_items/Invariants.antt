@@ -1,6 +1,6 @@
 use Rattle.std.proofs.Common.{drop}
 use Rattle.derivation_branch.specs.Rows.{IsAfter}
-use Rattle.derivation_branch.proofs.comparison.after_items.Given as goal
+use Rattle.derivation_branch.proofs.following.after_items.Given as goal
 
 abbrev pub invariant-loop-item : goal.invariant-loop-item
 invariant-loop-item l = IsAfter l.items l.front l.rest (drop l.item-index l.front)
