@@ -1,98 +1,95 @@
--- Reading atoms on the second way.
-use Rattle.std.proofs.Common.{◌≡◌, ◌==◌, ℕ, true, false, List, [], ◌∷◌, ◌++◌, None, Some, refl, sym, ◌∙◌, ap, append_assoc, arith}
+-- Reading atoms and equations.
+use Rattle.std.proofs.Common.{◌≡◌, ◌==◌, ℕ, Bool, true, false, List, [], ◌∷◌, ◌++◌, Some, None, refl, ◌∙◌, ap, append-nil, codes, subst, if◌then◌else◌}
 use Rattle.std.proofs.lemmas.Bool.{false≢true}
-use Rattle.tptp_lex.proofs.Runs.{none-some}
+use Rattle.tptp_lex.proofs.Runs.{none-some, some-is}
+use Rattle.tptp_reader.specs.declared.source.Source as program
+use Rattle.tptp_reader.specs.declared.source.Source.TheVariants.{True, False, Equal, Unequal, Atom}
+use Rattle.tptp_reader.specs.declared.source.SourceTerm as program_term
 use Rattle.tptp_reader.specs.declared.terminal.Piece.{Piece}
 use Rattle.tptp_reader.specs.Sources as tree
-use Rattle.tptp_reader.specs.Terminals.{Terminal, equal, unequal, Placed, Follow}
+use Rattle.tptp_reader.specs.Lists.{terms_tree}
+use Rattle.tptp_reader.specs.TermView.{the_source_term}
+use Rattle.tptp_reader.specs.SourceView.{the_source}
+use Rattle.tptp_reader.specs.Terminals.{Terminal, dollar, Follow}
 use Rattle.tptp_reader.specs.TerminalView.{the_terminal}
 use Rattle.tptp_reader.specs.Pieces.{placed}
 use Rattle.tptp_reader.specs.Grammar as g
-use Rattle.tptp_reader.specs.Grammar.{Word, plain, in_quotes, TermTree, AtomTree, word_token, term_tokens, terms_tokens, atom_tokens}
-use Rattle.tptp_reader.specs.Meaning.{term_of, atom_of}
-use Rattle.tptp_reader.specs.Expecting.{form}
-use Rattle.tptp_reader.specs.Standing.{At, Leaves, truth_in, Side, no_side, equals, differs, side_tokens, atom_with}
-use Rattle.tptp_reader.proofs.StandLaws.{at-first, at-next, at-same, no-form, leaves-less}
-use Rattle.tptp_reader.proofs.TermReading.{term-leaves}
+use Rattle.tptp_reader.specs.Grammar.{TermTree, term_tokens, atom_tokens}
+use Rattle.tptp_reader.specs.Meaning.{term_of}
+use Rattle.tptp_reader.specs.Nesting.{term_nestings, atom_nestings}
+use Rattle.tptp_reader.specs.Expecting.{form, is_word}
+use Rattle.tptp_reader.specs.Following.{is_shallow}
+use Rattle.tptp_reader.specs.Spans.{Span, nothing, AreRead}
+use Rattle.tptp_reader.specs.Standing.{truth_in, TermRead, RightRead, Side, no_side, equals, differs, side_tokens, side_fits, side_nestings, atom_with, SideRead, AtomRead}
+use Rattle.tptp_reader.proofs.FormulaForms.{word-is}
+use Rattle.tptp_reader.proofs.SpanLaws.{span-one, span-more, span-join, span-same, read-more, read-join, equal-is, unequal-is}
+use Rattle.tptp_reader.proofs.TermReading.{term-shallow}
 
--- what a call that reads a term has read
-abbrev pub HasTerm : List ℕ → Piece → tree.SourceTerm → Piece → Type 0
-HasTerm text p value next =
-    (t : TermTree) (ts : List Terminal) (whole : List Placed) (to : ℕ) → At text whole to p (term_tokens t ++ ts) → Leaves 1 ts → (value ≡ term_of t) × At text whole to next ts
+-- ---- what stands behind the first term
 
--- ---- equations
+-- the nesting of a term is that of its first token
+term-first : (d : ℕ) (t : TermTree) → AreRead (term_nestings d t) → is_shallow d ≡ true
+term-first d t a = term-shallow d t [] (read-join (term_nestings d t) [] a refl)
 
-pub side-equal : (s : Side) (ts : List Terminal) {text : List ℕ} {whole : List Placed} {to : ℕ} {p q r : Piece} (left right : tree.SourceTerm) → At text whole to p (side_tokens s ++ ts) → Leaves 3 ts → (form (the_terminal p.terminal) == 1) ≡ true → Follow text p.end (placed q ∷ []) q.end → HasTerm text q right r
-    → (tree.equal left right ≡ atom_with s left) × At text whole to r ts
-side-equal no_side ts left right a l e f c = absurd (no-form 3 1 a l e refl)
-side-equal (equals t) ts {whole = whole} {to = to} left right a l e f c =
-    let d = c t ts whole to (at-next 1 a (term-leaves t ts) f) (leaves-less 1 3 ts (omega arith) l) in (ap (tree.equal left) d.0, d.1)
-side-equal (differs t) ts left right a l e f c = absurd (false≢true (ap (λ z. form z == 1) (sym (at-first a)) ∙ e))
+pub side-equal : {text : List ℕ} {sign q : Piece} (d : ℕ) (left right : program_term.SourceTerm) → (form (the_terminal sign.terminal) == 1) ≡ true → RightRead text d sign (right, q) → SideRead text d (the_source_term left) sign (Equal left right, q)
+side-equal {sign = sign} d left right e r = record {
+  side = equals r.2.tree;
+  value = ap (tree.equal (the_source_term left)) r.2.value;
+  stands = span-more (equal-is (the_terminal sign.terminal) e) r.1 r.2.stands;
+  fits = refl;
+  shallow = read-more d (term_nestings d r.2.tree) (term-first d r.2.tree r.2.shallow) r.2.shallow;
+}
 
-pub side-unequal : (s : Side) (ts : List Terminal) {text : List ℕ} {whole : List Placed} {to : ℕ} {p q r : Piece} (left right : tree.SourceTerm) → At text whole to p (side_tokens s ++ ts) → Leaves 3 ts → (form (the_terminal p.terminal) == 2) ≡ true → Follow text p.end (placed q ∷ []) q.end → HasTerm text q right r
-    → (tree.unequal left right ≡ atom_with s left) × At text whole to r ts
-side-unequal no_side ts left right a l e f c = absurd (no-form 3 2 a l e refl)
-side-unequal (equals t) ts left right a l e f c = absurd (false≢true (ap (λ z. form z == 2) (sym (at-first a)) ∙ e))
-side-unequal (differs t) ts {whole = whole} {to = to} left right a l e f c =
-    let d = c t ts whole to (at-next 1 a (term-leaves t ts) f) (leaves-less 1 3 ts (omega arith) l) in (ap (tree.unequal left) d.0, d.1)
+pub side-unequal : {text : List ℕ} {sign q : Piece} (d : ℕ) (left right : program_term.SourceTerm) → (form (the_terminal sign.terminal) == 2) ≡ true → RightRead text d sign (right, q) → SideRead text d (the_source_term left) sign (Unequal left right, q)
+side-unequal {sign = sign} d left right e r = record {
+  side = differs r.2.tree;
+  value = ap (tree.unequal (the_source_term left)) r.2.value;
+  stands = span-more (unequal-is (the_terminal sign.terminal) e) r.1 r.2.stands;
+  fits = refl;
+  shallow = read-more d (term_nestings d r.2.tree) (term-first d r.2.tree r.2.shallow) r.2.shallow;
+}
 
-pub side-none : (s : Side) (ts : List Terminal) {text : List ℕ} {whole : List Placed} {to : ℕ} {p : Piece} (f : List ℕ) (args : tree.SourceTerms) → At text whole to p (side_tokens s ++ ts) → (form (the_terminal p.terminal) == 1) ≡ false → (form (the_terminal p.terminal) == 2) ≡ false
-    → (tree.atom f args ≡ atom_with s (tree.apply f args)) × At text whole to p ts
-side-none no_side ts f args a e h = (refl, a)
-side-none (equals t) ts f args a e h = absurd (false≢true (sym e ∙ ap (λ z. form z == 1) (at-first a)))
-side-none (differs t) ts f args a e h = absurd (false≢true (sym h ∙ ap (λ z. form z == 2) (at-first a)))
-
-side-leaves : (s : Side) (ts : List Terminal) → Leaves 3 ts → Leaves 1 (side_tokens s ++ ts)
-side-leaves no_side ts l = leaves-less 1 3 ts (omega arith) l
-side-leaves (equals t) ts l = refl
-side-leaves (differs t) ts l = refl
+pub side-none : {text : List ℕ} {sign : Piece} (d : ℕ) (name : List ℕ) (args : List tree.SourceTerm) → SideRead text d (tree.apply name (terms_tree args)) sign (Atom name args, sign)
+side-none {sign = sign} d name args = record { side = no_side; value = refl; stands = nothing sign; fits = refl; shallow = refl }
 
 -- ---- atoms
 
-word-no-truth : (w : Word) → truth_in (word_token w) ≡ None
-word-no-truth (plain w) = refl
-word-no-truth (in_quotes w) = refl
+-- the atom of a word with `$`
+pub record TruthOf (x : Terminal) (holds : Bool) : Type 0 where
+  pub word : List ℕ
+  pub token : x ≡ dollar word
+  pub said : word ≡ (if holds then codes "$true" else codes "$false")
 
-term-no-truth : (t : TermTree) (ts : List Terminal) {text : List ℕ} {whole : List Placed} {to : ℕ} {p : Piece} → At text whole to p (term_tokens t ++ ts) → truth_in (the_terminal p.terminal) ≡ None
-term-no-truth (g.variable x) ts a = ap truth_in (at-first a)
-term-no-truth (g.constant w) ts a = ap truth_in (at-first a) ∙ word-no-truth w
-term-no-truth (g.application w t us) ts a = ap truth_in (at-first a) ∙ word-no-truth w
+pub truth-of : (x : Terminal) (holds : Bool) → truth_in x ≡ Some holds → TruthOf x holds
+truth-of (dollar w) holds e = by (is_word w (codes "$true")) (is_word w (codes "$false")) refl refl e
+  where
+    by : (t f : Bool) → is_word w (codes "$true") ≡ t → is_word w (codes "$false") ≡ f → (if t then Some true else (if f then Some false else None)) ≡ Some holds → TruthOf (dollar w) holds
+    by true f h k q = subst (TruthOf (dollar w)) (some-is q) (record { word = w; token = refl; said = word-is w (codes "$true") h })
+    by false true h k q = subst (TruthOf (dollar w)) (some-is q) (record { word = w; token = refl; said = word-is w (codes "$false") k })
+    by false false h k q = absurd (none-some q)
+truth-of _ holds e = absurd (none-some e)
 
-pub atom-true : (a : AtomTree) (ts : List Terminal) {text : List ℕ} {whole : List Placed} {to : ℕ} {p q : Piece} → At text whole to p (atom_tokens a ++ ts) → Leaves 3 ts → truth_in (the_terminal p.terminal) ≡ Some true → Follow text p.end (placed q ∷ []) q.end
-    → (tree.truth ≡ atom_of a) × At text whole to q ts
-atom-true g.truth ts s l e f = (refl, at-next 3 s l f)
-atom-true g.falsity ts s l e f = let h : Some false ≡ Some true = ap truth_in (sym (at-first s)) ∙ e in let k : ⊥ = cc in absurd k
-atom-true (g.proposition w) ts s l e f = absurd (none-some (sym (term-no-truth (g.constant w) ts s) ∙ e))
-atom-true (g.predication w t us) ts s l e f = absurd (none-some (sym (term-no-truth (g.application w t us) ts s) ∙ e))
-atom-true (g.equation t u) ts s l e f = absurd (none-some (sym (term-no-truth t (equal ∷ (term_tokens u ++ ts)) (at-same s (append_assoc (term_tokens t) (equal ∷ term_tokens u) ts))) ∙ e))
-atom-true (g.disequation t u) ts s l e f = absurd (none-some (sym (term-no-truth t (unequal ∷ (term_tokens u ++ ts)) (at-same s (append_assoc (term_tokens t) (unequal ∷ term_tokens u) ts))) ∙ e))
+pub atom-true : {text : List ℕ} {p q : Piece} (d : ℕ) → truth_in (the_terminal p.terminal) ≡ Some true → Follow text p.end (placed q ∷ []) q.end → is_shallow d ≡ true → AtomRead text d p (True, q)
+atom-true {p = p} d e f s =
+    let t = truth-of (the_terminal p.terminal) true e in
+    record { tree = g.truth; value = refl; stands = span-one (t.token ∙ ap dollar t.said) f; shallow = read-more d [] s refl }
 
-pub atom-false : (a : AtomTree) (ts : List Terminal) {text : List ℕ} {whole : List Placed} {to : ℕ} {p q : Piece} → At text whole to p (atom_tokens a ++ ts) → Leaves 3 ts → truth_in (the_terminal p.terminal) ≡ Some false → Follow text p.end (placed q ∷ []) q.end
-    → (tree.falsity ≡ atom_of a) × At text whole to q ts
-atom-false g.truth ts s l e f = let h : Some true ≡ Some false = ap truth_in (sym (at-first s)) ∙ e in let k : ⊥ = cc in absurd k
-atom-false g.falsity ts s l e f = (refl, at-next 3 s l f)
-atom-false (g.proposition w) ts s l e f = absurd (none-some (sym (term-no-truth (g.constant w) ts s) ∙ e))
-atom-false (g.predication w t us) ts s l e f = absurd (none-some (sym (term-no-truth (g.application w t us) ts s) ∙ e))
-atom-false (g.equation t u) ts s l e f = absurd (none-some (sym (term-no-truth t (equal ∷ (term_tokens u ++ ts)) (at-same s (append_assoc (term_tokens t) (equal ∷ term_tokens u) ts))) ∙ e))
-atom-false (g.disequation t u) ts s l e f = absurd (none-some (sym (term-no-truth t (unequal ∷ (term_tokens u ++ ts)) (at-same s (append_assoc (term_tokens t) (unequal ∷ term_tokens u) ts))) ∙ e))
+pub atom-false : {text : List ℕ} {p q : Piece} (d : ℕ) → truth_in (the_terminal p.terminal) ≡ Some false → Follow text p.end (placed q ∷ []) q.end → is_shallow d ≡ true → AtomRead text d p (False, q)
+atom-false {p = p} d e f s =
+    let t = truth-of (the_terminal p.terminal) false e in
+    record { tree = g.falsity; value = refl; stands = span-one (t.token ∙ ap dollar t.said) f; shallow = read-more d [] s refl }
 
--- what a call that reads what stands behind a term has read
-abbrev pub HasSide : List ℕ → tree.SourceTerm → Piece → tree.Source → Piece → Type 0
-HasSide text left p value next =
-    (s : Side) (ts : List Terminal) (whole : List Placed) (to : ℕ) → At text whole to p (side_tokens s ++ ts) → Leaves 3 ts → (value ≡ atom_with s left) × At text whole to next ts
-
-parts-read : (t : TermTree) (s : Side) (ts : List Terminal) {text : List ℕ} {whole : List Placed} {to : ℕ} {p sign q : Piece} (left : tree.SourceTerm) (value : tree.Source) → At text whole to p (term_tokens t ++ (side_tokens s ++ ts)) → Leaves 3 ts → HasTerm text p left sign → HasSide text left sign value q
-    → (value ≡ atom_with s (term_of t)) × At text whole to q ts
-parts-read t s ts {whole = whole} {to = to} left value a l c d =
-    let x = c t (side_tokens s ++ ts) whole to a (side-leaves s ts l) in
-    let y = d s ts whole to x.1 l in
-    (y.0 ∙ ap (atom_with s) x.0, y.1)
-
-pub atom-read : (a : AtomTree) (ts : List Terminal) {text : List ℕ} {whole : List Placed} {to : ℕ} {p sign q : Piece} (left : tree.SourceTerm) (value : tree.Source) → At text whole to p (atom_tokens a ++ ts) → Leaves 3 ts → truth_in (the_terminal p.terminal) ≡ None → HasTerm text p left sign → HasSide text left sign value q
-    → (value ≡ atom_of a) × At text whole to q ts
-atom-read g.truth ts left value s l e c d = let h : Some true ≡ None = ap truth_in (sym (at-first s)) ∙ e in let k : ⊥ = cc in absurd k
-atom-read g.falsity ts left value s l e c d = let h : Some false ≡ None = ap truth_in (sym (at-first s)) ∙ e in let k : ⊥ = cc in absurd k
-atom-read (g.proposition w) ts left value s l e c d = parts-read (g.constant w) no_side ts left value s l c d
-atom-read (g.predication w t us) ts left value s l e c d = parts-read (g.application w t us) no_side ts left value s l c d
-atom-read (g.equation t u) ts left value s l e c d = parts-read t (equals u) ts left value (at-same s (append_assoc (term_tokens t) (equal ∷ term_tokens u) ts)) l c d
-atom-read (g.disequation t u) ts left value s l e c d = parts-read t (differs u) ts left value (at-same s (append_assoc (term_tokens t) (unequal ∷ term_tokens u) ts)) l c d
+pub atom-read : {text : List ℕ} {p sign q : Piece} (d : ℕ) (left : program_term.SourceTerm) (source : program.Source) → TermRead text d p (left, sign) → SideRead text d (the_source_term left) sign (source, q) → AtomRead text d p (source, q)
+atom-read {text} {p} {sign} {q} d left source t s = by t.tree s.side (s.value ∙ ap (atom_with s.side) t.value) (subst (λ z. side_fits s.side z ≡ true) t.value s.fits) (span-join t.stands s.stands) (read-join (term_nestings d t.tree) (side_nestings d s.side) t.shallow s.shallow)
+  where
+    by : (u : TermTree) (r : Side) → the_source source ≡ atom_with r (term_of u) → side_fits r (term_of u) ≡ true → Span text p (term_tokens u ++ side_tokens r) q → AreRead (term_nestings d u ++ side_nestings d r) → AtomRead text d p (source, q)
+    by (g.variable x) no_side v f h a = absurd (false≢true f)
+    by (g.constant w) no_side v f h a = record { tree = g.proposition w; value = v; stands = h; shallow = a }
+    by (g.application w u us) no_side v f h a = record {
+      tree = g.predication w u us;
+      value = v;
+      stands = span-same h (append-nil (atom_tokens (g.predication w u us)));
+      shallow = subst AreRead (append-nil (atom_nestings d (g.predication w u us))) a;
+    }
+    by u (equals r) v f h a = record { tree = g.equation u r; value = v; stands = h; shallow = a }
+    by u (differs r) v f h a = record { tree = g.disequation u r; value = v; stands = h; shallow = a }

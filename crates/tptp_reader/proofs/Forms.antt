@@ -9,6 +9,8 @@ use Rattle.tptp_reader.specs.Terminals.{Terminal, open_round, close_round, open_
 use Rattle.tptp_reader.specs.Grammar as g
 use Rattle.tptp_reader.specs.Grammar.{Word, plain, in_quotes, TermTree, TermTrees, AtomTree, UnitTree, FormulaTree, UnitTrees, LiteralTree, ClauseTree, NameTree, ItemTree, term_tokens, terms_tokens, atom_tokens, unit_tokens, formula_tokens, units_tokens, variables_tokens, word_token}
 pub use Rattle.tptp_reader.specs.Standing.{Arguments, no_arguments, these, arguments_tokens, Side, no_side, equals, differs, side_tokens}
+pub use Rattle.tptp_reader.specs.ClauseStanding.{unsigned_tokens, unsigned_nestings}
+pub use Rattle.tptp_reader.specs.ItemStanding.{others_tokens}
 use Rattle.tptp_reader.specs.Nesting.{all_at, term_nestings, terms_nestings, atom_nestings, unit_nestings, formula_nestings, units_nestings, literal_nestings, literals_nestings, clause_nestings, text_nestings}
 use Rattle.tptp_reader.specs.Faults.{is_stop}
 use Rattle.tptp_reader.specs.Expecting.{Expected, Fixed, form, form_of, this, term, arguments, some_arguments, some_equation, equation, atom, variables, unit, formula, formula_rest, chain_rest, stop, literal, unsigned, literals_rest, clause, clause_open, clause_rest, items, name, after_body, first_note, notes, include_rest, names_rest, this_move}
@@ -61,18 +63,6 @@ abbrev pub joined : UnitTree → Rest → FormulaTree
 joined u no_rest = g.single u
 joined u (chained c v us) = g.chain c u v us
 joined u (paired c v) = g.binary c u v
-
--- a literal without `~`: an atom, in brackets or not
-abbrev pub unsigned_tokens : Bool → AtomTree → List Terminal
-unsigned_tokens false a = atom_tokens a
-unsigned_tokens true a = open_round ∷ (atom_tokens a ++ close_round ∷ [])
-
-abbrev pub unsigned_nestings : ℕ → Bool → AtomTree → List ℕ
-unsigned_nestings d false a = atom_nestings d a
-unsigned_nestings d true a = d ∷ (atom_nestings (suc d) a ++ suc d ∷ [])
-
-abbrev pub others_tokens : List NameTree → List Terminal
-others_tokens xs = flat_map (λ m. comma ∷ g.name_token m ∷ []) xs
 
 -- the names of an include, or nothing
 pub data Names : Type 0 where

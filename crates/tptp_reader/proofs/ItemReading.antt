@@ -1,244 +1,306 @@
--- Reading items on the second way.
-use Rattle.std.proofs.Common.{◌≡◌, ◌==◌, ◌+◌, ◌&&◌, ℕ, suc, Bool, true, false, not, List, [], ◌∷◌, ◌++◌, Option, None, Some, refl, sym, ◌∙◌, ap, append_assoc, subst, length, arith, get_or}
-use Rattle.std.specs.Prelude.{codes}
+-- Reading items.
+use Rattle.std.proofs.Common.{◌≡◌, ◌==◌, ◌&&◌, ℕ, zero, suc, Bool, true, false, not, List, [], ◌∷◌, ◌++◌, Option, None, Some, refl, sym, ◌∙◌, ap, append_assoc, append-nil, subst, drop, flat_map}
+use Rattle.std.specs.Prelude.{codes, slice_index_or, if◌then◌else◌}
+use Rattle.std.specs.List.{list_all}
 use Rattle.std.proofs.lemmas.Bool.{false≢true, and_parts}
-use Rattle.std.proofs.lemmas.List.{length-append}
+use Rattle.tptp_lex.specs.Tokens.{is_digits}
 use Rattle.tptp_lex.proofs.Runs.{none-some, some-is}
+use Rattle.tptp_reader.specs.declared.item.Item.{Item}
 use Rattle.tptp_reader.specs.declared.item.ItemKind.{ItemKind}
 use Rattle.tptp_reader.specs.declared.item.ItemKind.TheVariants.{Fof, Cnf, Qmf}
+use Rattle.tptp_reader.specs.declared.item_reader.Head.{Head}
+use Rattle.tptp_reader.specs.declared.source.Source as program
 use Rattle.tptp_reader.specs.declared.terminal.Piece.{Piece}
 use Rattle.tptp_reader.specs.Sources as tree
-use Rattle.tptp_reader.specs.Terminals.{Terminal, lower, quoted, open_round, close_round, open_square, close_square, comma, dot, Placed, terminals, offsets, Follow}
+use Rattle.tptp_reader.specs.SourceView.{the_source}
+use Rattle.tptp_reader.specs.ItemView.{the_item}
+use Rattle.tptp_reader.specs.Terminals.{Terminal, lower, quoted, number, open_round, close_round, close_square, comma, dot, Placed, terminals, offsets, Follow}
 use Rattle.tptp_reader.specs.TerminalView.{the_terminal}
 use Rattle.tptp_reader.specs.Pieces.{placed}
 use Rattle.tptp_reader.specs.Grammar as g
-use Rattle.tptp_reader.specs.Grammar.{plain, in_quotes, NameTree, word_name, number_name, name_token, ItemTree, fof, cnf, qmf, include, include_names, notes_tokens, notes_fit, head_tokens, end_tokens, item_fits, item_tokens, formula_tokens, clause_tokens}
-use Rattle.tptp_reader.specs.Meaning.{clause_of, name_of, offset_at, selected, item_of}
-use Rattle.tptp_reader.specs.Expecting.{form}
-use Rattle.tptp_reader.specs.Standing.{At, Leaves, word_in}
-use Rattle.tptp_reader.specs.ItemStanding.{kind_in, name_in, BodyTree, formula_body, clause_body, body_tokens, body_of, is_clause, body_fits, EndRead, others_tokens, NamesUpTo, is_include}
-use Rattle.tptp_reader.proofs.StandLaws.{at-first, at-next, at-same, leaves-some, leaves-behind}
-use Rattle.tptp_reader.proofs.FormulaReading.{HasFormula}
+use Rattle.tptp_reader.specs.Grammar.{plain, in_quotes, NameTree, word_name, number_name, name_token, name_fits, ItemTree, notes_tokens, notes_fit, end_tokens, item_fits, item_tokens}
+use Rattle.tptp_reader.specs.Meaning.{name_of, selected, item_of}
+use Rattle.tptp_reader.specs.Nesting.{head_nestings, end_nestings, item_nestings}
+use Rattle.tptp_reader.specs.Expecting.{form, is_word}
+use Rattle.tptp_reader.specs.Spans.{AreRead}
+use Rattle.tptp_reader.specs.Standing.{FormulaRead}
+use Rattle.tptp_reader.specs.ClauseStanding.{ClauseRead}
+use Rattle.tptp_reader.specs.ItemStanding.{kind_in, name_in, role_in, file_in, is_include_word, is_square, DotRead, is_clause, BodyTree, body_tokens, body_of, body_nestings, body_fits, BodyRead, RestRead, HeadRead, ItemRead, IncludeRead, others_tokens, chosen, NamesRead, SelectedRead}
+use Rattle.tptp_reader.proofs.FaultLaws.{terminals-append}
+use Rattle.tptp_reader.proofs.FormulaForms.{word-is}
+use Rattle.tptp_reader.proofs.SpanLaws.{span-join, read-join, opening-is, comma-is}
+use Rattle.tptp_reader.proofs.ReadLaws.{none-deep}
+use Rattle.tptp_reader.proofs.PlacingLaws.{placing-one, placing-more, placing-join, span-placed}
 
--- what calls have read
-abbrev pub HasClause : List ℕ → Piece → tree.Source → Piece → Type 0
-HasClause text p value next =
-    (c : g.ClauseTree) (ts : List Terminal) (whole : List Placed) (to : ℕ) → At text whole to p (clause_tokens c ++ ts) → Leaves 11 ts → (value ≡ clause_of c) × At text whole to next ts
-
-abbrev pub HasBody : List ℕ → ItemKind → Piece → tree.Source → Piece → Type 0
-HasBody text kind p value next =
-    (b : BodyTree) → body_fits kind b ≡ true → (ts : List Terminal) (whole : List Placed) (to : ℕ) → At text whole to p (body_tokens b ++ ts) → Leaves 11 ts → (value ≡ body_of b) × At text whole to next ts
-
--- ---- bodies
-
-pub body-clause : {text : List ℕ} {p next : Piece} (kind : ItemKind) (value : tree.Source) → is_clause kind ≡ true → HasClause text p value next → HasBody text kind p value next
-body-clause kind value e c (clause_body k) f = c k
-body-clause kind value e c (formula_body k) f = absurd (false≢true (ap not (sym e) ∙ f))
-
-pub body-formula : {text : List ℕ} {p next : Piece} (kind : ItemKind) (value : tree.Source) → is_clause kind ≡ false → HasFormula text p value next → HasBody text kind p value next
-body-formula kind value e c (clause_body k) f = absurd (false≢true (sym e ∙ f))
-body-formula kind value e c (formula_body k) f = c k
-
--- ---- offsets and names
-
-nth-behind : (xs : List ℕ) (y : ℕ) (ys : List ℕ) → get_or (xs ++ y ∷ ys) (length xs) 0 ≡ y
-nth-behind [] y ys = refl
-nth-behind (x ∷ xs) y ys = nth-behind xs y ys
+-- ---- lists
 
 pub offsets-append : (ps qs : List Placed) → offsets (ps ++ qs) ≡ offsets ps ++ offsets qs
 offsets-append [] qs = refl
 offsets-append (p ∷ ps) qs = ap (λ z. p.at ∷ z) (offsets-append ps qs)
 
-pub offsets-length : (ps : List Placed) → length (offsets ps) ≡ length ps
-offsets-length [] = refl
-offsets-length (p ∷ ps) = ap suc (offsets-length ps)
+pub flat-snoc : {A B : Type 0} (f : A → List B) (xs : List A) (x : A) → flat_map f xs ++ f x ≡ flat_map f (xs ++ x ∷ [])
+flat-snoc f [] x = sym (append-nil (f x))
+flat-snoc f (y ∷ xs) x = append_assoc (f y) (flat_map f xs) (f x) ∙ ap (λ z. f y ++ z) (flat-snoc f xs x)
 
-pub terminals-length : (ps : List Placed) → length (terminals ps) ≡ length ps
-terminals-length [] = refl
-terminals-length (p ∷ ps) = ap suc (terminals-length ps)
+pub both-true : (a b : Bool) → a ≡ true → b ≡ true → (a && b) ≡ true
+both-true a b e f = ap (λ z. z && b) e ∙ f
 
--- the offset of the token of this number
-pub offset-here : (k : ℕ) {text : List ℕ} {whole : List Placed} {to : ℕ} {p : Piece} {ts : List Terminal} → At text whole to p ts → length whole ≡ k + length ts → offset_at (offsets whole) k ≡ p.start
-offset-here k {whole = whole} {p = p} {ts = ts} a n =
-    let l : length whole ≡ length a.gone + length (placed p ∷ a.others) = ap length a.is_whole ∙ length-append a.gone (placed p ∷ a.others) in
-    let m : length ts ≡ length (placed p ∷ a.others) = ap length (sym a.left) ∙ terminals-length (placed p ∷ a.others) in
-    let e : k ≡ length (offsets a.gone) = (let q : k ≡ length a.gone = omega (arith, l, m, n) in q ∙ sym (offsets-length a.gone)) in
-    ap (λ z. get_or (offsets z) k 0) a.is_whole ∙ ap (λ z. get_or z k 0) (offsets-append a.gone (placed p ∷ a.others)) ∙ ap (λ z. get_or (offsets a.gone ++ p.start ∷ offsets a.others) z 0) e ∙ nth-behind (offsets a.gone) p.start (offsets a.others)
+pub all-snoc : {A : Type 0} (f : A → Bool) (xs : List A) (x : A) → list_all f xs ≡ true → f x ≡ true → list_all f (xs ++ x ∷ []) ≡ true
+all-snoc f [] x h k = both-true (f x) true k refl
+all-snoc f (y ∷ xs) x h k = let q = and_parts (f y) (list_all f xs) h in both-true (f y) (list_all f (xs ++ x ∷ [])) q.0 (all-snoc f xs x q.1 k)
 
-pub name-is : {text : List ℕ} {whole : List Placed} {to : ℕ} {p : Piece} {ts : List Terminal} (n : NameTree) (w : List ℕ) → At text whole to p (name_token n ∷ ts) → name_in (the_terminal p.terminal) ≡ Some w → w ≡ name_of n
-name-is (word_name (plain v)) w a e = some-is (sym e ∙ ap name_in (at-first a))
-name-is (word_name (in_quotes v)) w a e = some-is (sym e ∙ ap name_in (at-first a))
-name-is (number_name ds) w a e = some-is (sym e ∙ ap name_in (at-first a))
+-- ---- single tokens
 
-word-here : {text : List ℕ} {whole : List Placed} {to : ℕ} {p : Piece} {ts : List Terminal} (v w : List ℕ) (x : Terminal) → At text whole to p (x ∷ ts) → word_in x ≡ Some v → word_in (the_terminal p.terminal) ≡ Some w → w ≡ v
-word-here v w x a h e = some-is (sym e ∙ ap word_in (at-first a) ∙ h)
+-- the name of a token
+pub record Named (x : Terminal) (w : List ℕ) : Type 0 where
+  pub name : NameTree
+  pub token : x ≡ name_token name
+  pub fits : name_fits name ≡ true
+  pub value : w ≡ name_of name
+
+pub named : (x : Terminal) (w : List ℕ) → name_in x ≡ Some w → Named x w
+named (lower v) w e = record { name = word_name (plain v); token = refl; fits = refl; value = some-is (sym e) }
+named (quoted v) w e = record { name = word_name (in_quotes v); token = refl; fits = refl; value = some-is (sym e) }
+named (number ds) w e = by (is_digits ds) refl
+  where
+    by : (b : Bool) → is_digits ds ≡ b → Named (number ds) w
+    by true h = record { name = number_name ds; token = refl; fits = h; value = some-is (sym e ∙ ap (λ b. if b then Some ds else None) h) }
+    by false h = absurd (none-some (sym (ap (λ b. if b then Some ds else None) h) ∙ e))
+named _ w e = absurd (none-some e)
+
+role-is : (x : Terminal) (w : List ℕ) → role_in x ≡ Some w → x ≡ lower w
+role-is (lower v) w e = ap lower (some-is e)
+role-is _ w e = absurd (none-some e)
+
+file-is : (x : Terminal) (w : List ℕ) → file_in x ≡ Some w → x ≡ quoted w
+file-is (quoted v) w e = ap quoted (some-is e)
+file-is _ w e = absurd (none-some e)
+
+include-is : (x : Terminal) → is_include_word x ≡ true → x ≡ lower (codes "include")
+include-is (lower v) e = ap lower (word-is v (codes "include") e)
+include-is _ e = absurd (false≢true e)
+
+pub square_end-is : (x : Terminal) → is_square x ≡ true → x ≡ close_square
+square_end-is close_square e = refl
+square_end-is _ e = absurd (false≢true e)
+
+-- ---- kinds
+
+abbrev language_of : ItemKind → List ℕ
+language_of Fof = codes "fof"
+language_of Cnf = codes "cnf"
+language_of Qmf = codes "qmf"
+
+abbrev kind_fits : Bool → ItemKind → Bool
+kind_fits modal Fof = not modal
+kind_fits modal Cnf = not modal
+kind_fits modal Qmf = modal
+
+record Kind (modal : Bool) (x : Terminal) (k : ItemKind) : Type 0 where
+  word : x ≡ lower (language_of k)
+  fits : kind_fits modal k ≡ true
+
+kind-is : (modal : Bool) (w : List ℕ) (k l : ItemKind) → is_word w (language_of k) ≡ true → kind_fits modal k ≡ true → Some k ≡ Some l → Kind modal (lower w) l
+kind-is modal w k l h f e = subst (Kind modal (lower w)) (some-is e) (record { word = ap lower (word-is w (language_of k) h); fits = f })
+
+kind-found : (modal : Bool) (x : Terminal) (k : ItemKind) → kind_in modal x ≡ Some k → Kind modal x k
+kind-found true (lower w) k e = by (is_word w (codes "qmf")) refl e
+  where
+    by : (b : Bool) → is_word w (codes "qmf") ≡ b → (if b then Some Qmf else None) ≡ Some k → Kind true (lower w) k
+    by true h q = kind-is true w Qmf k h refl q
+    by false h q = absurd (none-some q)
+kind-found false (lower w) k e = by (is_word w (codes "fof")) (is_word w (codes "cnf")) refl refl e
+  where
+    by : (a b : Bool) → is_word w (codes "fof") ≡ a → is_word w (codes "cnf") ≡ b → (if a then Some Fof else (if b then Some Cnf else None)) ≡ Some k → Kind false (lower w) k
+    by true b h i q = kind-is false w Fof k h refl q
+    by false true h i q = kind-is false w Cnf k i refl q
+    by false false h i q = absurd (none-some q)
+kind-found true _ k e = absurd (none-some e)
+kind-found false _ k e = absurd (none-some e)
+
+-- ---- bodies
+
+pub body-clause : {text : List ℕ} {p : Piece} {r : program.Source × Piece} (modal : Bool) (kind : ItemKind) → is_clause kind ≡ true → ClauseRead text p r → BodyRead modal kind text p r
+body-clause modal Cnf e c = record { body = c.clause; value = c.value; stands = c.stands; fits = refl; shallow = c.shallow }
+body-clause modal Fof e c = absurd (false≢true e)
+body-clause modal Qmf e c = absurd (false≢true e)
+
+pub body-formula : {text : List ℕ} {p : Piece} {r : program.Source × Piece} (modal : Bool) (kind : ItemKind) → is_clause kind ≡ false → FormulaRead modal text 0 p r → BodyRead modal kind text p r
+body-formula modal Cnf e f = absurd (false≢true (sym e))
+body-formula modal Fof e f = record { body = f.tree; value = f.value; stands = f.stands; fits = f.fits; shallow = f.shallow }
+body-formula modal Qmf e f = record { body = f.tree; value = f.value; stands = f.stands; fits = f.fits; shallow = f.shallow }
 
 -- ---- items with a formula
 
-notes-leave : (notes : Option (List Terminal)) (ts : List Terminal) → Leaves 11 (notes_tokens notes ++ (close_round ∷ ts))
-notes-leave None ts = refl
-notes-leave (Some ns) ts = refl
+abbrev item_with : (k : ItemKind) → NameTree → List ℕ → BodyTree k → Option (List Terminal) → ItemTree
+item_with Fof n role f notes = g.fof n role f notes
+item_with Cnf n role c notes = g.cnf n role c notes
+item_with Qmf n role f notes = g.qmf n role f notes
 
-pub formula-item : {text : List ℕ} (kind : ItemKind) (p bracket name_at comma_at role_at second start after next : Piece) (name role : List ℕ) (body : tree.Source)
-    → Follow text p.end (placed bracket ∷ []) bracket.end → Follow text bracket.end (placed name_at ∷ []) name_at.end → name_in (the_terminal name_at.terminal) ≡ Some name → Follow text name_at.end (placed comma_at ∷ []) comma_at.end → Follow text comma_at.end (placed role_at ∷ []) role_at.end → word_in (the_terminal role_at.terminal) ≡ Some role
-    → Follow text role_at.end (placed second ∷ []) second.end → Follow text second.end (placed start ∷ []) start.end → HasBody text kind start body after → EndRead text after next
-    → (w : Terminal) (n : NameTree) (r : List ℕ) (b : BodyTree) (notes : Option (List Terminal)) → body_fits kind b ≡ true → notes_fit notes ≡ true → (ts : List Terminal) (whole : List Placed) (to : ℕ)
-    → At text whole to p (w ∷ open_round ∷ name_token n ∷ comma ∷ lower r ∷ comma ∷ (body_tokens b ++ (notes_tokens notes ++ (close_round ∷ dot ∷ ts))))
-    → length whole ≡ length (w ∷ open_round ∷ name_token n ∷ comma ∷ lower r ∷ comma ∷ (body_tokens b ++ (notes_tokens notes ++ (close_round ∷ dot ∷ ts))))
-    → (tree.formula kind name role role_at.start body p.start ≡ tree.formula kind (name_of n) r (offset_at (offsets whole) 4) (body_of b) (offset_at (offsets whole) 0)) × At text whole to next (dot ∷ ts)
-formula-item kind p bracket name_at comma_at role_at second start after next name role body f1 f2 nm f3 f4 rl f5 f6 bd en w n r b notes bf nf ts whole to a len =
-    let x : List Terminal = notes_tokens notes ++ (close_round ∷ dot ∷ ts) in
-    let l = notes-leave notes (dot ∷ ts) in
-    let a1 = at-next 0 a refl f1 in
-    let a2 = at-next 0 a1 (leaves-some (name_token n) (comma ∷ lower r ∷ comma ∷ (body_tokens b ++ x))) f2 in
-    let a3 = at-next 0 a2 refl f3 in
-    let a4 = at-next 0 a3 refl f4 in
-    let a5 = at-next 0 a4 refl f5 in
-    let a6 = at-next 0 a5 (leaves-behind 11 (body_tokens b) x l) f6 in
-    let d = bd b bf x whole to a6 l in
-    let o4 : offset_at (offsets whole) 4 ≡ role_at.start = offset-here 4 a4 (let q : length whole ≡ 4 + length (lower r ∷ comma ∷ (body_tokens b ++ x)) = omega (arith, len) in q) in
-    let o0 : offset_at (offsets whole) 0 ≡ p.start = offset-here 0 a (let q : length whole ≡ 0 + length (w ∷ open_round ∷ name_token n ∷ comma ∷ lower r ∷ comma ∷ (body_tokens b ++ x)) = omega (arith, len) in q) in
-    let nn : name ≡ name_of n = name-is n name a2 nm in
-    let rr : role ≡ r = word-here r role (lower r) a4 refl rl in
-    ((λ i. tree.formula kind (nn i) (rr i) (sym o4 i) (d.0 i) (sym o0 i)), en notes nf ts whole to d.1)
+with-tokens : (k : ItemKind) (n : NameTree) (role : List ℕ) (b : BodyTree k) (notes : Option (List Terminal))
+    → lower (language_of k) ∷ open_round ∷ name_token n ∷ comma ∷ lower role ∷ comma ∷ (body_tokens k b ++ (notes_tokens notes ++ end_tokens)) ≡ item_tokens (item_with k n role b notes)
+with-tokens Fof n role f notes = ap (λ z. lower (codes "fof") ∷ open_round ∷ name_token n ∷ comma ∷ lower role ∷ comma ∷ z) (sym (append_assoc (g.formula_tokens f) (notes_tokens notes) end_tokens))
+with-tokens Cnf n role c notes = ap (λ z. lower (codes "cnf") ∷ open_round ∷ name_token n ∷ comma ∷ lower role ∷ comma ∷ z) (sym (append_assoc (g.clause_tokens c) (notes_tokens notes) end_tokens))
+with-tokens Qmf n role f notes = ap (λ z. lower (codes "qmf") ∷ open_round ∷ name_token n ∷ comma ∷ lower role ∷ comma ∷ z) (sym (append_assoc (g.formula_tokens f) (notes_tokens notes) end_tokens))
 
--- ---- names
+with-fits : (modal : Bool) (k : ItemKind) (n : NameTree) (role : List ℕ) (b : BodyTree k) (notes : Option (List Terminal)) → kind_fits modal k ≡ true → name_fits n ≡ true → body_fits modal k b ≡ true → notes_fit notes ≡ true → item_fits modal (item_with k n role b notes) ≡ true
+with-fits true Fof n role f notes e m h l = absurd (false≢true e)
+with-fits false Fof n role f notes e m h l = both-true (name_fits n && g.is_plain f) (notes_fit notes) (both-true (name_fits n) (g.is_plain f) m h) l
+with-fits true Cnf n role c notes e m h l = absurd (false≢true e)
+with-fits false Cnf n role c notes e m h l = both-true (name_fits n) (notes_fit notes) m l
+with-fits true Qmf n role f notes e m h l = both-true (name_fits n) (notes_fit notes) m l
+with-fits false Qmf n role f notes e m h l = absurd (false≢true e)
 
-pub names-begun : {text : List ℕ} (p : Piece) → NamesUpTo text p [] p
-names-begun p = λ n ns k ts whole to a len. (n, ns, k, refl, a, len)
+with-shallow : (k : ItemKind) (n : NameTree) (role : List ℕ) (b : BodyTree k) (notes : Option (List Terminal)) → AreRead (body_nestings k b) → AreRead (item_nestings (item_with k n role b notes))
+with-shallow Fof n role f notes h = read-join (head_nestings ++ body_nestings Fof f) (end_nestings notes) (read-join head_nestings (body_nestings Fof f) refl h) (none-deep (notes_tokens notes ++ end_tokens))
+with-shallow Cnf n role c notes h = read-join (head_nestings ++ body_nestings Cnf c) (end_nestings notes) (read-join head_nestings (body_nestings Cnf c) refl h) (none-deep (notes_tokens notes ++ end_tokens))
+with-shallow Qmf n role f notes h = read-join (head_nestings ++ body_nestings Qmf f) (end_nestings notes) (read-join head_nestings (body_nestings Qmf f) refl h) (none-deep (notes_tokens notes ++ end_tokens))
 
-others-then : (m : NameTree) (ms : List NameTree) (ts : List Terminal) → others_tokens (m ∷ ms) ++ (close_square ∷ ts) ≡ comma ∷ name_token m ∷ (others_tokens ms ++ (close_square ∷ ts))
-others-then m ms ts = refl
+with-value : (k : ItemKind) (n : NameTree) (role : List ℕ) (b : BodyTree k) (notes : Option (List Terminal)) (o0 o1 o2 o3 o4 o5 : ℕ) (os : List ℕ)
+    → tree.formula k (name_of n) role o4 (body_of k b) o0 ≡ item_of (o0 ∷ o1 ∷ o2 ∷ o3 ∷ o4 ∷ o5 ∷ os) (item_with k n role b notes)
+with-value Fof n role f notes o0 o1 o2 o3 o4 o5 os = refl
+with-value Cnf n role c notes o0 o1 o2 o3 o4 o5 os = refl
+with-value Qmf n role f notes o0 o1 o2 o3 o4 o5 os = refl
 
-pub names-on : {text : List ℕ} (p here sign next : Piece) (read : List (List ℕ × ℕ)) (t : List ℕ) → NamesUpTo text p read here → name_in (the_terminal here.terminal) ≡ Some t → Follow text here.end (placed sign ∷ []) sign.end → (form (the_terminal sign.terminal) == 14) ≡ true → Follow text sign.end (placed next ∷ []) next.end → NamesUpTo text p (read ++ (t, here.start) ∷ []) next
-names-on {text} p here sign next read t v e f c h = λ n ns k ts whole to a len. let u = v n ns k ts whole to a len in by n ns k ts whole to u.0 u.1 u.2 u.3 u.4 u.5
-  where
-    by : (n : NameTree) (ns : List NameTree) (k : ℕ) (ts : List Terminal) (whole : List Placed) (to : ℕ) (m : NameTree) (ms : List NameTree) (j : ℕ) → read ++ selected (offsets whole) j (m ∷ ms) ≡ selected (offsets whole) k (n ∷ ns) → At text whole to here (name_token m ∷ (others_tokens ms ++ (close_square ∷ ts)))
-        → length whole ≡ j + length (name_token m ∷ (others_tokens ms ++ (close_square ∷ ts)))
-        → (m : NameTree) × (ms : List NameTree) × (j : ℕ) × ((read ++ (t, here.start) ∷ []) ++ selected (offsets whole) j (m ∷ ms) ≡ selected (offsets whole) k (n ∷ ns)) × At text whole to next (name_token m ∷ (others_tokens ms ++ (close_square ∷ ts)))
-        × (length whole ≡ j + length (name_token m ∷ (others_tokens ms ++ (close_square ∷ ts))))
-    by n ns k ts whole to m [] j r s l = absurd (false≢true (ap (λ z. form z == 14) (sym (at-first (at-next 0 s refl f))) ∙ c))
-    by n ns k ts whole to m (o ∷ os) j r s l =
-        let b = at-next 0 s refl f in
-        let d = at-next 0 b (leaves-some (name_token o) (others_tokens os ++ (close_square ∷ ts))) h in
-        let x : t ≡ name_of m = name-is m t s e in
-        let y : offset_at (offsets whole) j ≡ here.start = offset-here j s l in (
-          o,
-          os,
-          suc (suc j),
-          append_assoc read ((t, here.start) ∷ []) (selected (offsets whole) (suc (suc j)) (o ∷ os)) ∙ ap (λ (z : List ℕ × ℕ). read ++ z ∷ selected (offsets whole) (suc (suc j)) (o ∷ os)) (λ i. (x i, sym y i)) ∙ r,
-          d,
-          omega (arith, l),
-        )
+-- the tokens before a dot, and the dot
+then-dot : (ps : List Placed) (q : Piece) (ts : List Terminal) → terminals ps ≡ ts → the_terminal q.terminal ≡ dot → terminals (ps ++ placed q ∷ []) ≡ ts ++ dot ∷ []
+then-dot ps q ts e h = terminals-append ps (placed q ∷ []) ∙ (λ i. e i ++ h i ∷ [])
 
-pub names-done : {text : List ℕ} (p here sign : Piece) (read : List (List ℕ × ℕ)) (t : List ℕ) → NamesUpTo text p read here → name_in (the_terminal here.terminal) ≡ Some t → Follow text here.end (placed sign ∷ []) sign.end → (form (the_terminal sign.terminal) == 14) ≡ false
-    → (n : NameTree) (ns : List NameTree) (k : ℕ) (ts : List Terminal) (whole : List Placed) (to : ℕ) → At text whole to p (name_token n ∷ (others_tokens ns ++ (close_square ∷ ts))) → length whole ≡ k + length (name_token n ∷ (others_tokens ns ++ (close_square ∷ ts)))
-    → (read ++ (t, here.start) ∷ [] ≡ selected (offsets whole) k (n ∷ ns)) × At text whole to sign (close_square ∷ ts)
-names-done {text} p here sign read t v e f c = λ n ns k ts whole to a len. let u = v n ns k ts whole to a len in by n ns k ts whole to u.0 u.1 u.2 u.3 u.4 u.5
-  where
-    by : (n : NameTree) (ns : List NameTree) (k : ℕ) (ts : List Terminal) (whole : List Placed) (to : ℕ) (m : NameTree) (ms : List NameTree) (j : ℕ) → read ++ selected (offsets whole) j (m ∷ ms) ≡ selected (offsets whole) k (n ∷ ns) → At text whole to here (name_token m ∷ (others_tokens ms ++ (close_square ∷ ts)))
-        → length whole ≡ j + length (name_token m ∷ (others_tokens ms ++ (close_square ∷ ts))) → (read ++ (t, here.start) ∷ [] ≡ selected (offsets whole) k (n ∷ ns)) × At text whole to sign (close_square ∷ ts)
-    by n ns k ts whole to m [] j r s l =
-        let x : t ≡ name_of m = name-is m t s e in
-        let y : offset_at (offsets whole) j ≡ here.start = offset-here j s l in
-        (ap (λ (z : List ℕ × ℕ). read ++ z ∷ []) (λ i. (x i, sym y i)) ∙ r, at-next 0 s refl f)
-    by n ns k ts whole to m (o ∷ os) j r s l = absurd (false≢true (sym c ∙ ap (λ z. form z == 14) (at-first (at-next 0 s refl f))))
+pub formula-item : {text : List ℕ} {p last : Piece} {body : program.Source} (modal : Bool) (kind : ItemKind) (h : Head) (item : Item) → kind_in modal (the_terminal p.terminal) ≡ Some kind → HeadRead text p h → RestRead modal kind text h.body (body, last)
+    → the_item item ≡ tree.formula kind h.name h.role h.role_at (the_source body) p.start → ItemRead modal text p (item, last)
+formula-item {text} {p} {last} {body} modal kind h item e a r v =
+    let k = kind-found modal (the_terminal p.terminal) kind e in
+    let m = named (the_terminal a.name_at.terminal) h.name a.named in
+    let b = r.body in
+    let n = r.rest in
+    let ts : List Terminal = body_tokens kind b.body ++ (notes_tokens n.notes ++ close_round ∷ []) in
+    let s = span-placed (span-join b.stands n.stands) in
+    let w : terminals (s.tokens ++ placed last ∷ []) ≡ body_tokens kind b.body ++ (notes_tokens n.notes ++ end_tokens) =
+    then-dot s.tokens last ts s.written n.ends ∙ append_assoc (body_tokens kind b.body) (notes_tokens n.notes ++ close_round ∷ []) (dot ∷ []) ∙ ap (λ z. body_tokens kind b.body ++ z) (append_assoc (notes_tokens n.notes) (close_round ∷ []) (dot ∷ [])) in
+    let o : the_terminal a.role_at.terminal ≡ lower h.role = role-is (the_terminal a.role_at.terminal) h.role a.has_role in
+    record {
+      item = item_with kind m.name h.role b.body n.notes;
+      front = placed p ∷ placed a.bracket ∷ placed a.name_at ∷ placed a.comma_at ∷ placed a.role_at ∷ placed a.second ∷ s.tokens;
+      stands = placing-more a.to_bracket (placing-more a.to_name (placing-more a.to_comma (placing-more a.to_role (placing-more a.to_second (placing-more a.to_body s.stands)))));
+      written = (λ i. k.word i ∷ a.opens i ∷ m.token i ∷ a.parts i ∷ o i ∷ a.parts_again i ∷ w i) ∙ with-tokens kind m.name h.role b.body n.notes;
+      fits = with-fits modal kind m.name h.role b.body n.notes k.fits m.fits b.fits n.fits;
+      shallow = with-shallow kind m.name h.role b.body n.notes b.shallow;
+      value = λ more. v ∙ (λ i. tree.formula kind (m.value i) h.role (sym a.placed_role i) (b.value i) p.start)
+          ∙ with-value kind m.name h.role b.body n.notes p.start a.bracket.start a.name_at.start a.comma_at.start a.role_at.start a.second.start (offsets (s.tokens ++ placed last ∷ []) ++ more);
+    }
 
 -- ---- includes
 
-pub include-bare : {text : List ℕ} (p bracket file_at sign next : Piece) (file : List ℕ) → Follow text p.end (placed bracket ∷ []) bracket.end → Follow text bracket.end (placed file_at ∷ []) file_at.end → word_in (the_terminal file_at.terminal) ≡ Some file → Follow text file_at.end (placed sign ∷ []) sign.end → Follow text sign.end (placed next ∷ []) next.end → (form (the_terminal sign.terminal) == 14) ≡ false
-    → (i : ItemTree) → is_include i ≡ true → (ts : List Terminal) (whole : List Placed) (to : ℕ) → At text whole to p (item_tokens i ++ ts) → length whole ≡ length (item_tokens i ++ ts) → (tree.include file None p.start ≡ item_of (offsets whole) i) × At text whole to next (dot ∷ ts)
-include-bare p bracket file_at sign next file f1 f2 w f3 f4 c (include name) h ts whole to a len =
-    let a2 = at-next 0 (at-next 0 a refl f1) refl f2 in
-    let a4 = at-next 0 (at-next 0 a2 refl f3) refl f4 in
-    let o : offset_at (offsets whole) 0 ≡ p.start = offset-here 0 a (let q : length whole ≡ 0 + length (item_tokens (include name) ++ ts) = omega (arith, len) in q) in
-    let n : file ≡ name = word-here name file (quoted name) a2 refl w in
-    ((λ i. tree.include (n i) None (sym o i)), a4)
-include-bare p bracket file_at sign next file f1 f2 w f3 f4 c (include_names name n ns) h ts whole to a len =
-    let a3 = at-next 0 (at-next 0 (at-next 0 a refl f1) refl f2) refl f3 in
-    absurd (false≢true (sym c ∙ ap (λ z. form z == 14) (at-first a3)))
-include-bare p bracket file_at sign next file f1 f2 w f3 f4 c (fof name role f notes) h ts whole to a len = absurd (false≢true h)
-include-bare p bracket file_at sign next file f1 f2 w f3 f4 c (cnf name role f notes) h ts whole to a len = absurd (false≢true h)
-include-bare p bracket file_at sign next file f1 f2 w f3 f4 c (qmf name role f notes) h ts whole to a len = absurd (false≢true h)
+pub include-bare : {text : List ℕ} {p sign last : Piece} {file : List ℕ} (bracket file_at : Piece) (item : Item) → is_include_word (the_terminal p.terminal) ≡ true → Follow text p.end (placed bracket ∷ []) bracket.end → (form (the_terminal bracket.terminal) == 0) ≡ true
+    → Follow text bracket.end (placed file_at ∷ []) file_at.end → file_in (the_terminal file_at.terminal) ≡ Some file → Follow text file_at.end (placed sign ∷ []) sign.end → DotRead text sign last → the_item item ≡ tree.include file None p.start → IncludeRead text p (item, last)
+include-bare {text} {p} {sign} {last} {file} bracket file_at item e f1 o f2 l f3 d v =
+    let s = span-placed d.0 in
+    let a : the_terminal p.terminal ≡ lower (codes "include") = include-is (the_terminal p.terminal) e in
+    let b : the_terminal bracket.terminal ≡ open_round = opening-is (the_terminal bracket.terminal) o in
+    let c : the_terminal file_at.terminal ≡ quoted file = file-is (the_terminal file_at.terminal) file l in
+    let w : terminals (s.tokens ++ placed last ∷ []) ≡ end_tokens = then-dot s.tokens last (close_round ∷ []) s.written d.1 in
+    λ modal. record {
+      item = g.include file;
+      front = placed p ∷ placed bracket ∷ placed file_at ∷ s.tokens;
+      stands = placing-more f1 (placing-more f2 (placing-more f3 s.stands));
+      written = λ i. a i ∷ b i ∷ c i ∷ w i;
+      fits = refl;
+      shallow = none-deep (item_tokens (g.include file));
+      value = λ more. v;
+    }
 
--- what a call that reads names has read
-abbrev pub HasNames : List ℕ → Piece → List (List ℕ × ℕ) → Piece → Type 0
-HasNames text p names next =
-    (n : NameTree) (ns : List NameTree) (k : ℕ) (ts : List Terminal) (whole : List Placed) (to : ℕ) → At text whole to p (name_token n ∷ (others_tokens ns ++ (close_square ∷ ts))) → length whole ≡ k + length (name_token n ∷ (others_tokens ns ++ (close_square ∷ ts)))
-    → (names ≡ selected (offsets whole) k (n ∷ ns)) × At text whole to next (close_square ∷ ts)
+-- ---- the names of an include
 
-pub include-with : {text : List ℕ} (p bracket file_at sign next first square close last : Piece) (file : List ℕ) (names : List (List ℕ × ℕ)) → Follow text p.end (placed bracket ∷ []) bracket.end → Follow text bracket.end (placed file_at ∷ []) file_at.end → word_in (the_terminal file_at.terminal) ≡ Some file → Follow text file_at.end (placed sign ∷ []) sign.end → Follow text sign.end (placed next ∷ []) next.end → (form (the_terminal sign.terminal) == 14) ≡ true
-    → Follow text next.end (placed first ∷ []) first.end → HasNames text first names square → Follow text square.end (placed close ∷ []) close.end → Follow text close.end (placed last ∷ []) last.end
-    → (i : ItemTree) → is_include i ≡ true → (ts : List Terminal) (whole : List Placed) (to : ℕ) → At text whole to p (item_tokens i ++ ts) → length whole ≡ length (item_tokens i ++ ts) → (tree.include file (Some names) p.start ≡ item_of (offsets whole) i) × At text whole to last (dot ∷ ts)
-include-with p bracket file_at sign next first square close last file names f1 f2 w f3 f4 c f5 nm f6 f7 (include name) h ts whole to a len =
-    let a3 = at-next 0 (at-next 0 (at-next 0 a refl f1) refl f2) refl f3 in
-    absurd (false≢true (ap (λ z. form z == 14) (sym (at-first a3)) ∙ c))
-include-with p bracket file_at sign next first square close last file names f1 f2 w f3 f4 c f5 nm f6 f7 (include_names name n ns) h ts whole to a len =
-    let e : item_tokens (include_names name n ns) ++ ts ≡ lower (codes "include") ∷ open_round ∷ quoted name ∷ comma ∷ open_square ∷ name_token n ∷ (others_tokens ns ++ (close_square ∷ close_round ∷ dot ∷ ts)) =
-    ap (λ z. lower (codes "include") ∷ open_round ∷ quoted name ∷ comma ∷ open_square ∷ name_token n ∷ z) (append_assoc (others_tokens ns) (close_square ∷ end_tokens) ts) in
-    let b = at-same a e in
-    let l : length whole ≡ length (lower (codes "include") ∷ open_round ∷ quoted name ∷ comma ∷ open_square ∷ name_token n ∷ (others_tokens ns ++ (close_square ∷ close_round ∷ dot ∷ ts))) = len ∙ ap length e in
-    let a2 = at-next 0 (at-next 0 b refl f1) refl f2 in
-    let a4 = at-next 0 (at-next 0 a2 refl f3) refl f4 in
-    let a5 = at-next 0 a4 (leaves-some (name_token n) (others_tokens ns ++ (close_square ∷ close_round ∷ dot ∷ ts))) f5 in
-    let d = nm n ns 5 (close_round ∷ dot ∷ ts) whole to a5 (let q : length whole ≡ 5 + length (name_token n ∷ (others_tokens ns ++ (close_square ∷ close_round ∷ dot ∷ ts))) = omega (arith, l) in q) in
-    let a7 = at-next 0 (at-next 0 d.1 refl f6) refl f7 in
-    let o : offset_at (offsets whole) 0 ≡ p.start = offset-here 0 a (let q : length whole ≡ 0 + length (item_tokens (include_names name n ns) ++ ts) = omega (arith, len) in q) in
-    let v : file ≡ name = word-here name file (quoted name) a2 refl w in
-    ((λ i. tree.include (v i) (Some (d.0 i)) (sym o i)), a7)
-include-with p bracket file_at sign next first square close last file names f1 f2 w f3 f4 c f5 nm f6 f7 (fof name role f notes) h ts whole to a len = absurd (false≢true h)
-include-with p bracket file_at sign next first square close last file names f1 f2 w f3 f4 c f5 nm f6 f7 (cnf name role f notes) h ts whole to a len = absurd (false≢true h)
-include-with p bracket file_at sign next first square close last file names f1 f2 w f3 f4 c f5 nm f6 f7 (qmf name role f notes) h ts whole to a len = absurd (false≢true h)
+names-value : (first n : NameTree) (others : List NameTree) (front : List Placed) (values : List (List ℕ × ℕ)) (a b : Placed) (t : List ℕ) → t ≡ name_of n
+    → ((ms : List NameTree) (more : List ℕ) → chosen (offsets front ++ more) (first ∷ (others ++ ms)) ≡ values ++ chosen (drop 1 more) ms)
+    → (ms : List NameTree) (more : List ℕ) → chosen (offsets (front ++ a ∷ b ∷ []) ++ more) (first ∷ ((others ++ n ∷ []) ++ ms)) ≡ (values ++ (t, b.at) ∷ []) ++ chosen (drop 1 more) ms
+names-value first n others front values a b t e v ms more =
+    ap (λ z. chosen (z ++ more) (first ∷ ((others ++ n ∷ []) ++ ms))) (offsets-append front (a ∷ b ∷ []))
+    ∙ ap (λ z. chosen z (first ∷ ((others ++ n ∷ []) ++ ms))) (append_assoc (offsets front) (a.at ∷ b.at ∷ []) more)
+    ∙ ap (λ z. chosen (offsets front ++ (a.at ∷ b.at ∷ more)) (first ∷ z)) (append_assoc others (n ∷ []) ms)
+    ∙ v (n ∷ ms) (a.at ∷ b.at ∷ more)
+    ∙ ap (λ z. values ++ ((z, b.at) ∷ chosen (drop 1 more) ms)) (sym e)
+    ∙ sym (append_assoc values ((t, b.at) ∷ []) (chosen (drop 1 more) ms))
 
--- ---- any item
+pub names-begun : {text : List ℕ} {p here : Piece} {before : List (List ℕ × ℕ)} (now : List (List ℕ × ℕ)) (t : List ℕ) → name_in (the_terminal p.terminal) ≡ Some t → Follow text p.end (placed here ∷ []) here.end → before ≡ [] → now ≡ before ++ (t, p.start) ∷ [] → NamesRead text p (now, here)
+names-begun {p = p} now t e f b n =
+    let m = named (the_terminal p.terminal) t e in
+    record {
+      first = m.name;
+      others = [];
+      front = placed p ∷ [];
+      stands = placing-one f;
+      written = ap (λ z. z ∷ []) m.token;
+      fits = both-true (name_fits m.name) true m.fits refl;
+      value = λ ms more. ap (λ z. (z, p.start) ∷ chosen (drop 1 more) ms) (sym m.value) ∙ ap (λ z. z ++ chosen (drop 1 more) ms) (sym (n ∙ ap (λ z. z ++ (t, p.start) ∷ []) b));
+    }
 
--- what calls that read items of one kind have read
-abbrev pub HasFormulaItem : List ℕ → ItemKind → Piece → tree.Item → Piece → Type 0
-HasFormulaItem text kind p value next =
-    (w : Terminal) (n : NameTree) (role : List ℕ) (b : BodyTree) (notes : Option (List Terminal)) → body_fits kind b ≡ true → notes_fit notes ≡ true → (ts : List Terminal) (whole : List Placed) (to : ℕ)
-    → At text whole to p (w ∷ open_round ∷ name_token n ∷ comma ∷ lower role ∷ comma ∷ (body_tokens b ++ (notes_tokens notes ++ (close_round ∷ dot ∷ ts))))
-    → length whole ≡ length (w ∷ open_round ∷ name_token n ∷ comma ∷ lower role ∷ comma ∷ (body_tokens b ++ (notes_tokens notes ++ (close_round ∷ dot ∷ ts))))
-    → (value ≡ tree.formula kind (name_of n) role (offset_at (offsets whole) 4) (body_of b) (offset_at (offsets whole) 0)) × At text whole to next (dot ∷ ts)
+pub names-on : {text : List ℕ} {p sign here : Piece} {values : List (List ℕ × ℕ)} (next : Piece) (now : List (List ℕ × ℕ)) (t : List ℕ) → NamesRead text p (values, sign) → (form (the_terminal sign.terminal) == 14) ≡ true → Follow text sign.end (placed next ∷ []) next.end
+    → name_in (the_terminal next.terminal) ≡ Some t → Follow text next.end (placed here ∷ []) here.end → now ≡ values ++ (t, next.start) ∷ [] → NamesRead text p (now, here)
+names-on {text} {p} {sign} {here} {values} next now t u o f1 e f2 n =
+    let m = named (the_terminal next.terminal) t e in
+    let c : the_terminal sign.terminal ≡ comma = comma-is (the_terminal sign.terminal) o in
+    record {
+      first = u.first;
+      others = u.others ++ m.name ∷ [];
+      front = u.front ++ (placed sign ∷ placed next ∷ []);
+      stands = placing-join u.stands (placing-more f1 (placing-one f2));
+      written = terminals-append u.front (placed sign ∷ placed next ∷ []) ∙ (λ i. u.written i ++ (c i ∷ m.token i ∷ [])) ∙ ap (λ z. name_token u.first ∷ z) (flat-snoc (λ k. comma ∷ name_token k ∷ []) u.others m.name);
+      fits = all-snoc name_fits (u.first ∷ u.others) m.name u.fits m.fits;
+      value = λ ms more. names-value u.first m.name u.others u.front values (placed sign) (placed next) t m.value u.value ms more ∙ ap (λ z. z ++ chosen (drop 1 more) ms) (sym n);
+    }
 
-abbrev pub HasInclude : List ℕ → Piece → tree.Item → Piece → Type 0
-HasInclude text p value next =
-    (i : ItemTree) → is_include i ≡ true → (ts : List Terminal) (whole : List Placed) (to : ℕ) → At text whole to p (item_tokens i ++ ts) → length whole ≡ length (item_tokens i ++ ts) → (value ≡ item_of (offsets whole) i) × At text whole to next (dot ∷ ts)
+index-drop : (k : ℕ) (os : List ℕ) → slice_index_or os k 0 ≡ slice_index_or (drop k os) 0 0
+index-drop zero os = refl
+index-drop (suc k) [] = refl
+index-drop (suc k) (o ∷ os) = index-drop k os
 
-abbrev pub HasItem : List ℕ → Piece → tree.Item → Piece → Type 0
-HasItem text p value next =
-    (modal : Bool) (i : ItemTree) → item_fits modal i ≡ true → (ts : List Terminal) (whole : List Placed) (to : ℕ) → At text whole to p (item_tokens i ++ ts) → length whole ≡ length (item_tokens i ++ ts) → (value ≡ item_of (offsets whole) i) × At text whole to next (dot ∷ ts)
+drop-two : (k : ℕ) (os : List ℕ) → drop (suc (suc k)) os ≡ drop 2 (drop k os)
+drop-two zero os = refl
+drop-two (suc k) [] = refl
+drop-two (suc k) (o ∷ os) = drop-two k os
 
--- an item's tokens, from its formula on
-ended : (w : List ℕ) (n : NameTree) (role : List ℕ) (body : List Terminal) (notes : Option (List Terminal)) (ts : List Terminal)
-    → (head_tokens w n role ++ body ++ notes_tokens notes ++ end_tokens) ++ ts ≡ lower w ∷ open_round ∷ name_token n ∷ comma ∷ lower role ∷ comma ∷ (body ++ (notes_tokens notes ++ (close_round ∷ dot ∷ ts)))
-ended w n role body notes ts =
-    ap (λ z. lower w ∷ open_round ∷ name_token n ∷ comma ∷ lower role ∷ comma ∷ z) (append_assoc (body ++ notes_tokens notes) end_tokens ts ∙ append_assoc body (notes_tokens notes) (close_round ∷ dot ∷ ts))
+selected-chosen : (ns : List NameTree) (k : ℕ) (os : List ℕ) → selected os k ns ≡ chosen (drop k os) ns
+selected-chosen [] k os = refl
+selected-chosen (n ∷ ns) k os =
+    let a = index-drop k os in
+    let b : selected os (suc (suc k)) ns ≡ chosen (drop 2 (drop k os)) ns = selected-chosen ns (suc (suc k)) os ∙ ap (λ z. chosen z ns) (drop-two k os) in
+    λ i. (name_of n, a i) ∷ b i
 
-kind-here : {text : List ℕ} {whole : List Placed} {to : ℕ} {p : Piece} {x : Terminal} {ts : List Terminal} (o : Option ItemKind) → At text whole to p (x ∷ ts) → kind_in (the_terminal p.terminal) ≡ o → kind_in x ≡ o
-kind-here o a e = ap kind_in (sym (at-first a)) ∙ e
+-- what follows the names is left
+names-all : (first : NameTree) (others : List NameTree) (values : List (List ℕ × ℕ)) (front back last : List Placed) (more : List ℕ) (o0 o1 o2 o3 o4 : ℕ)
+    → ((ms : List NameTree) (more : List ℕ) → chosen (offsets front ++ more) (first ∷ (others ++ ms)) ≡ values ++ chosen (drop 1 more) ms)
+    → values ≡ selected (o0 ∷ o1 ∷ o2 ∷ o3 ∷ o4 ∷ (offsets ((front ++ back) ++ last) ++ more)) 5 (first ∷ others)
+names-all first others values front back last more o0 o1 o2 o3 o4 v =
+    sym (selected-chosen (first ∷ others) 5 (o0 ∷ o1 ∷ o2 ∷ o3 ∷ o4 ∷ (offsets ((front ++ back) ++ last) ++ more))
+    ∙ ap (λ z. chosen (offsets z ++ more) (first ∷ others)) (append_assoc front back last)
+    ∙ ap (λ z. chosen (z ++ more) (first ∷ others)) (offsets-append front (back ++ last))
+    ∙ ap (λ z. chosen z (first ∷ others)) (append_assoc (offsets front) (offsets (back ++ last)) more)
+    ∙ ap (λ z. chosen (offsets front ++ (offsets (back ++ last) ++ more)) (first ∷ z)) (sym (append-nil others))
+    ∙ v [] (offsets (back ++ last) ++ more)
+    ∙ append-nil values)
 
-pub item-formula : {text : List ℕ} {p next : Piece} (kind : ItemKind) (value : tree.Item) → kind_in (the_terminal p.terminal) ≡ Some kind → HasFormulaItem text kind p value next → HasItem text p value next
-item-formula {text} {p} {next} kind value e c modal (fof n role f notes) h ts whole to a len =
-    let k : Fof ≡ kind = some-is (kind-here (Some kind) a e) in
-    let d = subst (λ (z : ItemKind). HasFormulaItem text z p value next) (sym k) c in
-    let x = ended (codes "fof") n role (formula_tokens f) notes ts in
-    d (lower (codes "fof")) n role (formula_body f) notes refl (and_parts (not modal && g.name_fits n && g.is_plain f) (notes_fit notes) h).1 ts whole to (at-same a x) (len ∙ ap length x)
-item-formula {text} {p} {next} kind value e c modal (cnf n role b notes) h ts whole to a len =
-    let k : Cnf ≡ kind = some-is (kind-here (Some kind) a e) in
-    let d = subst (λ (z : ItemKind). HasFormulaItem text z p value next) (sym k) c in
-    let x = ended (codes "cnf") n role (clause_tokens b) notes ts in
-    d (lower (codes "cnf")) n role (clause_body b) notes refl (and_parts (not modal && g.name_fits n) (notes_fit notes) h).1 ts whole to (at-same a x) (len ∙ ap length x)
-item-formula {text} {p} {next} kind value e c modal (qmf n role f notes) h ts whole to a len =
-    let k : Qmf ≡ kind = some-is (kind-here (Some kind) a e) in
-    let d = subst (λ (z : ItemKind). HasFormulaItem text z p value next) (sym k) c in
-    let x = ended (codes "qmf") n role (formula_tokens f) notes ts in
-    d (lower (codes "qmf")) n role (formula_body f) notes refl (and_parts (modal && g.name_fits n) (notes_fit notes) h).1 ts whole to (at-same a x) (len ∙ ap length x)
-item-formula kind value e c modal (include name) h ts whole to a len = absurd (none-some (kind-here (Some kind) a e))
-item-formula kind value e c modal (include_names name n ns) h ts whole to a len = absurd (none-some (kind-here (Some kind) a e))
-
-pub item-include : {text : List ℕ} {p next : Piece} (value : tree.Item) → kind_in (the_terminal p.terminal) ≡ None → HasInclude text p value next → HasItem text p value next
-item-include value e c modal (include name) h ts whole to a len = c (include name) refl ts whole to a len
-item-include value e c modal (include_names name n ns) h ts whole to a len = c (include_names name n ns) refl ts whole to a len
-item-include value e c modal (fof n role f notes) h ts whole to a len = absurd (none-some (sym (kind-here None a e)))
-item-include value e c modal (cnf n role f notes) h ts whole to a len = absurd (none-some (sym (kind-here None a e)))
-item-include value e c modal (qmf n role f notes) h ts whole to a len = absurd (none-some (sym (kind-here None a e)))
+pub include-with : {text : List ℕ} {p square last : Piece} {file : List ℕ} {names : List (List ℕ × ℕ)} (bracket file_at sign : Piece) (item : Item) → is_include_word (the_terminal p.terminal) ≡ true → Follow text p.end (placed bracket ∷ []) bracket.end → (form (the_terminal bracket.terminal) == 0) ≡ true
+    → Follow text bracket.end (placed file_at ∷ []) file_at.end → file_in (the_terminal file_at.terminal) ≡ Some file → Follow text file_at.end (placed sign ∷ []) sign.end → (form (the_terminal sign.terminal) == 14) ≡ true
+    → Follow text sign.end (placed square ∷ []) square.end → SelectedRead text square (names, last) → the_item item ≡ tree.include file (Some names) p.start → IncludeRead text p (item, last)
+include-with {text} {p} {square} {last} {file} {names} bracket file_at sign item e f1 o f2 l f3 h f4 d v =
+    let u = d.names in
+    let r = d.rest in
+    let s = span-placed r.rest.0 in
+    let a : the_terminal p.terminal ≡ lower (codes "include") = include-is (the_terminal p.terminal) e in
+    let b : the_terminal bracket.terminal ≡ open_round = opening-is (the_terminal bracket.terminal) o in
+    let c : the_terminal file_at.terminal ≡ quoted file = file-is (the_terminal file_at.terminal) file l in
+    let k : the_terminal sign.terminal ≡ comma = comma-is (the_terminal sign.terminal) h in
+    let back : List Placed = placed d.square ∷ s.tokens in
+    let w : terminals (u.front ++ back) ≡ (name_token u.first ∷ others_tokens u.others) ++ (close_square ∷ close_round ∷ []) = terminals-append u.front back ∙ (λ i. u.written i ++ (r.squares i ∷ s.written i)) in
+    let x : terminals ((u.front ++ back) ++ placed last ∷ []) ≡ name_token u.first ∷ (others_tokens u.others ++ (close_square ∷ end_tokens)) =
+    then-dot (u.front ++ back) last ((name_token u.first ∷ others_tokens u.others) ++ (close_square ∷ close_round ∷ [])) w r.rest.1 ∙ ap (λ z. name_token u.first ∷ z) (append_assoc (others_tokens u.others) (close_square ∷ close_round ∷ []) (dot ∷ [])) in
+    λ modal. record {
+      item = g.include_names file u.first u.others;
+      front = placed p ∷ placed bracket ∷ placed file_at ∷ placed sign ∷ placed square ∷ (u.front ++ back);
+      stands = placing-more f1 (placing-more f2 (placing-more f3 (placing-more f4 (placing-more d.to_first (placing-join u.stands (placing-more r.to_close s.stands))))));
+      written = λ i. a i ∷ b i ∷ c i ∷ k i ∷ d.opens i ∷ x i;
+      fits = u.fits;
+      shallow = none-deep (item_tokens (g.include_names file u.first u.others));
+      value = λ more. v ∙ ap (λ z. tree.include file (Some z) p.start) (names-all u.first u.others names u.front back (placed last ∷ []) more p.start bracket.start file_at.start sign.start square.start u.value);
+    }

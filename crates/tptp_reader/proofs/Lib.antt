@@ -28,18 +28,20 @@ pub mod PieceLaws
 pub mod StackViews
 pub mod RunLaws
 pub mod EndingLaws
-pub mod StandLaws
+pub mod SpanLaws
 pub mod TermReading
 pub mod AtomReading
 pub mod VariablesReading
 pub mod FormulaReading
-pub mod FormulaEnds
-pub mod StageLaws
-pub mod TextEnds
+pub mod ReadLaws
+pub mod PlacingLaws
 pub mod ClauseReading
 pub mod NotesReading
 pub mod ItemReading
 pub mod TextReading
+pub mod FormulaEnds
+pub mod StageLaws
+pub mod TextEnds
 pub mod Totality
 -- worked examples
 mod Examples

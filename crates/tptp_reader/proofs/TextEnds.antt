@@ -1,5 +1,5 @@
--- How the first way over a text of items ends: the items stand there, or there is the fault.
-use Rattle.std.proofs.Common.{◌≡◌, ℕ, Bool, true, false, List, [], ◌∷◌, Some, refl, ◌∙◌, ap, subst, length}
+-- Where the way over a text of items ends, there is the fault.
+use Rattle.std.proofs.Common.{◌≡◌, ℕ, Bool, false, List, [], ◌∷◌, refl, subst, length}
 use Rattle.tptp_reader.specs.declared.fault.ReadCause.TheVariants.{Syntax}
 use Rattle.tptp_reader.specs.declared.following.Ending.{Ending}
 use Rattle.tptp_reader.specs.declared.following.Ending.TheVariants as ending
@@ -8,11 +8,9 @@ use Rattle.tptp_reader.specs.Terminals.{terminals}
 use Rattle.tptp_reader.specs.TerminalView.{the_terminal}
 use Rattle.tptp_reader.specs.Expecting.{Expected, items, is_at_item}
 use Rattle.tptp_reader.specs.Faults.{TextLanguage, TextCauses, cause_at, wrong, too_deep, HasFault}
-use Rattle.tptp_reader.specs.Following.{HasEnding, TextStands, place_now}
-use Rattle.tptp_reader.proofs.FollowLaws.{text-read}
-use Rattle.tptp_reader.proofs.ExactLaws.{text-written, ends-whole}
-use Rattle.tptp_reader.proofs.EndingLaws.{text-for, run-shallow, stuck-fault, deep-fault, no_token-fault, end-fault}
-use Rattle.tptp_reader.proofs.StageLaws.{at-item-is, not-at-item, place-is}
+use Rattle.tptp_reader.specs.Following.{HasEnding, place_now}
+use Rattle.tptp_reader.proofs.EndingLaws.{text-for, stuck-fault, deep-fault, no_token-fault, end-fault}
+use Rattle.tptp_reader.proofs.StageLaws.{not-at-item, place-is}
 
 -- the same way, from the items and with the end that the program saw
 from-items : (modal : Bool) (text : List ℕ) (es now : List Expected) (e f : Ending) → HasEnding modal text 0 es now e → es ≡ items ∷ [] → e ≡ f → HasEnding modal text 0 (items ∷ []) now f
@@ -34,19 +32,3 @@ pub text-end : (modal : Bool) (text : List ℕ) (es now : List Expected) (e : En
 text-end modal text es now e h k q n =
     let f = from-items modal text es now e ending.End h k q in
     end-fault modal (TextLanguage modal) (items ∷ []) (text-for modal) (TextCauses modal) text 0 now f.0 f.1 f.2 (not-at-item modal (terminals f.1.front) f.1.nestings now f.1.is_run n)
-
-pub text-stands : (modal : Bool) (text : List ℕ) (es now : List Expected) (e : Ending) → HasEnding modal text 0 es now e → es ≡ items ∷ [] → e ≡ ending.End → is_at_item now ≡ true → TextStands modal text
-text-stands modal text es now e h k q n =
-    let f = from-items modal text es now e ending.End h k q in
-    let r = f.1 in
-    let w = ends-whole modal (TextLanguage modal) (items ∷ []) (text-written modal) (terminals r.front) r.nestings (items ∷ []) (r.is_run ∙ ap (λ z. Some (r.nestings, z)) (at-item-is now n)) refl in
-    record {
-      tokens = r.front;
-      to = f.0;
-      trees = w.0;
-      there = r.there;
-      all = f.2;
-      written = w.2;
-      fit = w.1;
-      shallow = run-shallow modal (TextLanguage modal) (items ∷ []) (text-read modal) (terminals r.front) r.nestings now r.is_run r.shallow;
-    }

@@ -1,125 +1,89 @@
--- Reading the items of a text on the second way.
-use Rattle.std.proofs.Common.{◌≡◌, ◌+◌, ◌&&◌, ℕ, Bool, true, List, [], ◌∷◌, ◌++◌, Result, Ok, Err, refl, sym, ◌∙◌, ap, append_assoc, append-nil, subst, length, drop, arith}
+-- Reading the items of a text.
+use Rattle.std.proofs.Common.{◌≡◌, ℕ, suc, Bool, List, [], ◌∷◌, ◌++◌, Result, Ok, Err, refl, sym, ◌∙◌, ap, append_assoc, append-nil, subst, length, drop}
 use Rattle.std.specs.Prelude.{IfSome}
-use Rattle.std.specs.List.{list_all}
-use Rattle.std.proofs.lemmas.Bool.{and_parts}
-use Rattle.std.proofs.lemmas.List.{length-append}
-use Rattle.tptp_lex.specs.Answers.{OnlySpace, IsFault}
+use Rattle.tptp_lex.specs.Answers.{OnlySpace}
 use Rattle.tptp_reader.specs.declared.fault.ReadFault.{ReadFault}
 use Rattle.tptp_reader.specs.declared.fault.ReadFault.TheVariants as fault
+use Rattle.tptp_reader.specs.declared.item.Item.{Item}
 use Rattle.tptp_reader.specs.declared.terminal.Piece.{Piece}
 use Rattle.tptp_reader.specs.Sources as tree
-use Rattle.tptp_reader.specs.Terminals.{Terminal, Placed, terminals, offsets, Follow, no_token}
+use Rattle.tptp_reader.specs.ItemView.{the_item}
+use Rattle.tptp_reader.specs.Terminals.{Placed, terminals, offsets, Follow, no_token}
 use Rattle.tptp_reader.specs.Pieces.{placed}
-use Rattle.tptp_reader.specs.Grammar.{ItemTree, fof, cnf, qmf, include, include_names, item_fits, item_tokens, text_tokens}
-use Rattle.tptp_reader.specs.Meaning.{items_of}
-use Rattle.tptp_reader.specs.Faults.{wrong, too_deep}
-use Rattle.tptp_reader.specs.Reading.{Outcome, reads, fails, IsReading}
+use Rattle.tptp_reader.specs.Grammar.{ItemTree, item_fits, item_tokens}
+use Rattle.tptp_reader.specs.Meaning.{item_of, items_of}
+use Rattle.tptp_reader.specs.Nesting.{item_nestings, text_nestings}
+use Rattle.tptp_reader.specs.Faults.{TextLanguage, AreShallow, wrong, too_deep}
+use Rattle.tptp_reader.specs.Reading.{HoldsItems, Outcome, reads, fails, IsReading}
 use Rattle.tptp_reader.specs.Answers.{the_reading}
-use Rattle.tptp_reader.specs.Following.{TextStands}
-use Rattle.tptp_reader.specs.Standing.{At, Leaves}
-use Rattle.tptp_reader.specs.ItemStanding.{ItemsRead, ItemsLeft, ItemsUpTo}
-use Rattle.tptp_reader.proofs.PlaceLaws.{next-in, next-or-end, next-or-fault}
+use Rattle.tptp_reader.specs.Spans.{AreRead}
+use Rattle.tptp_reader.specs.ItemStanding.{ItemRead, ItemsUpTo}
+use Rattle.tptp_reader.proofs.FaultLaws.{terminals-append}
 use Rattle.tptp_reader.proofs.OneReading.{one-reading}
-use Rattle.tptp_reader.proofs.StandLaws.{leaves-some}
-use Rattle.tptp_reader.proofs.FormulaEnds.{at-start}
-use Rattle.tptp_reader.proofs.ItemReading.{HasItem, offsets-append, offsets-length, terminals-length}
+use Rattle.tptp_reader.proofs.RunLaws.{follow-join}
+use Rattle.tptp_reader.proofs.SpanLaws.{read-join}
+use Rattle.tptp_reader.proofs.ReadLaws.{text-shallow}
+use Rattle.tptp_reader.proofs.PlacingLaws.{placing-follow}
+use Rattle.tptp_reader.proofs.ItemReading.{offsets-append, flat-snoc, all-snoc}
 
--- an item has a token
-item-some : (i : ItemTree) (ts : List Terminal) → Leaves 0 (item_tokens i ++ ts)
-item-some (fof n role f notes) ts = refl
-item-some (cnf n role f notes) ts = refl
-item-some (qmf n role f notes) ts = refl
-item-some (include name) ts = refl
-item-some (include_names name n ns) ts = refl
-
-pub items-begun : {text : List ℕ} → ItemsUpTo text [] 0
-items-begun = λ modal tokens to trees h. record { tokens = tokens; trees = trees; there = h.0; all = h.1; written = h.2; fit = h.3; joined = refl }
-
--- no token stands there, so no item is left
-pub items-done : {text : List ℕ} (read : List tree.Item) (place : ℕ) → ItemsUpTo text read place → ((o : Placed) (os : List Placed) (to : ℕ) → Follow text place (o ∷ os) to → ⊥) → ItemsRead text read
-items-done {text} read place v none = λ modal tokens to trees h. let u = v modal tokens to trees h in by modal (items_of (offsets tokens) trees) to u.tokens u.trees u.there u.written u.joined
-  where
-    empty : (is : List ItemTree) → [] ≡ text_tokens is → is ≡ []
-    empty [] e = refl
-    empty (i ∷ is) e = absurd (subst (Leaves 0) (sym e) (item-some i (text_tokens is)))
-
-    by : (modal : Bool) (items : List tree.Item) (to : ℕ) (tokens : List Placed) (trees : List ItemTree) → Follow text place tokens to → terminals tokens ≡ text_tokens trees → read ++ items_of (offsets tokens) trees ≡ items → read ≡ items
-    by modal items to (o ∷ os) trees f w j = absurd (none o os to f)
-    by modal items to [] trees f w j = sym (append-nil read) ∙ ap (λ z. read ++ items_of [] z) (sym (empty trees w)) ∙ j
-
-pub none-behind : {text : List ℕ} {place : ℕ} → OnlySpace text place → (o : Placed) (os : List Placed) (to : ℕ) → Follow text place (o ∷ os) to → ⊥
-none-behind {text} {place} s o os to f = let n = next-in f in next-or-end text place n.0 n.1 s
-
-pub none-at-fault : {text : List ℕ} {place offset : ℕ} → IsFault text place offset → (o : Placed) (os : List Placed) (to : ℕ) → Follow text place (o ∷ os) to → ⊥
-none-at-fault {text} {place} {offset} s o os to f = let n = next-in f in next-or-fault text place n.0 offset n.1 s
+terminals-length : (ps : List Placed) → length (terminals ps) ≡ length (offsets ps)
+terminals-length [] = refl
+terminals-length (p ∷ ps) = ap suc (terminals-length ps)
 
 drop-behind : (xs ys : List ℕ) → drop (length xs) (xs ++ ys) ≡ ys
 drop-behind [] ys = refl
 drop-behind (x ∷ xs) ys = drop-behind xs ys
 
-tail-of : {A : Type 0} {x y : A} {xs ys : List A} → x ∷ xs ≡ y ∷ ys → xs ≡ ys
-tail-of e = cc
+pub items-begun : {modal : Bool} {text : List ℕ} {read : List tree.Item} → read ≡ [] → ItemsUpTo modal text read 0
+items-begun {modal} {text} {read} e = record { tokens = []; trees = []; there = no_token 0; written = refl; fit = refl; shallow = refl; value = λ is more. ap (λ z. z ++ items_of more is) (sym e) }
 
-no-token-end : {text : List ℕ} {from to : ℕ} → Follow text from [] to → from ≡ to
-no-token-end (no_token from) = refl
+-- what stands behind an item is left
+rest-left : (i : ItemTree) (is : List ItemTree) (new : List Placed) (more : List ℕ) → terminals new ≡ item_tokens i → items_of (drop (length (item_tokens i)) (offsets new ++ more)) is ≡ items_of more is
+rest-left i is new more e =
+    let l : length (item_tokens i) ≡ length (offsets new) = ap length (sym e) ∙ terminals-length new in
+    ap (λ z. items_of (drop z (offsets new ++ more)) is) l ∙ ap (λ z. items_of z is) (drop-behind (offsets new) more)
+
+items-value : (tokens new : List Placed) (trees : List ItemTree) (i : ItemTree) (read : List tree.Item) (item : tree.Item) → terminals new ≡ item_tokens i
+    → ((is : List ItemTree) (more : List ℕ) → items_of (offsets tokens ++ more) (trees ++ is) ≡ read ++ items_of more is) → ((more : List ℕ) → item ≡ item_of (offsets new ++ more) i)
+    → (is : List ItemTree) (more : List ℕ) → items_of (offsets (tokens ++ new) ++ more) ((trees ++ i ∷ []) ++ is) ≡ (read ++ item ∷ []) ++ items_of more is
+items-value tokens new trees i read item e v w is more =
+    ap (λ z. items_of (z ++ more) ((trees ++ i ∷ []) ++ is)) (offsets-append tokens new)
+    ∙ ap (λ z. items_of z ((trees ++ i ∷ []) ++ is)) (append_assoc (offsets tokens) (offsets new) more)
+    ∙ ap (λ z. items_of (offsets tokens ++ (offsets new ++ more)) z) (append_assoc trees (i ∷ []) is)
+    ∙ v (i ∷ is) (offsets new ++ more)
+    ∙ ap (λ z. read ++ (z ∷ items_of (drop (length (item_tokens i)) (offsets new ++ more)) is)) (sym (w more))
+    ∙ ap (λ z. read ++ (item ∷ z)) (rest-left i is new more e)
+    ∙ sym (append_assoc read (item ∷ []) (items_of more is))
 
 -- one item more
-pub items-on : {text : List ℕ} (read : List tree.Item) (place : ℕ) (first last : Piece) (item : tree.Item) → ItemsUpTo text read place → Follow text place (placed first ∷ []) first.end → HasItem text first item last → ItemsUpTo text (read ++ item ∷ []) last.end
-items-on {text} read place first last item v f c = λ modal tokens to trees h. let u = v modal tokens to trees h in by modal (items_of (offsets tokens) trees) to u.tokens u.trees u.there u.all u.written u.fit u.joined
-  where
-    further : (modal : Bool) (items : List tree.Item) (to : ℕ) (tokens : List Placed) (i : ItemTree) (is : List ItemTree) → OnlySpace text to → (item_fits modal i && list_all (item_fits modal) is) ≡ true → read ++ items_of (offsets tokens) (i ∷ is) ≡ items
-        → At text tokens to first (item_tokens i ++ text_tokens is) → length tokens ≡ length (item_tokens i ++ text_tokens is) → ItemsLeft modal text (read ++ item ∷ []) last.end to items
-    further modal items to tokens i is s p j a m =
-        let q = and_parts (item_fits modal i) (list_all (item_fits modal) is) p in
-        let d = c modal i q.0 (text_tokens is) tokens to a m in
-        let b = d.1 in
-        let w : terminals b.others ≡ text_tokens is = tail-of b.left in
-        let l : length tokens ≡ length b.gone + length (placed last ∷ b.others) = ap length b.is_whole ∙ length-append b.gone (placed last ∷ b.others) in
-        let k : length (item_tokens i) ≡ length (offsets b.gone ++ last.start ∷ []) =
-        (let x : length (text_tokens is) ≡ length b.others = ap length (sym w) ∙ terminals-length b.others in
-        let y : length (item_tokens i ++ text_tokens is) ≡ length (item_tokens i) + length (text_tokens is) = length-append (item_tokens i) (text_tokens is) in
-        let z : length (offsets b.gone ++ last.start ∷ []) ≡ length (offsets b.gone) + 1 = length-append (offsets b.gone) (last.start ∷ []) in
-        let o : length (offsets b.gone) ≡ length b.gone = offsets-length b.gone in
-        omega (arith, l, m, x, y, z, o)) in
-        let r : drop (length (item_tokens i)) (offsets tokens) ≡ offsets b.others =
-        ap (λ z. drop z (offsets tokens)) k ∙ ap (λ z. drop (length (offsets b.gone ++ last.start ∷ [])) (offsets z)) b.is_whole
-        ∙ ap (drop (length (offsets b.gone ++ last.start ∷ []))) (offsets-append b.gone (placed last ∷ b.others) ∙ sym (append_assoc (offsets b.gone) (last.start ∷ []) (offsets b.others)))
-        ∙ drop-behind (offsets b.gone ++ last.start ∷ []) (offsets b.others) in
-        record {
-          tokens = b.others;
-          trees = is;
-          there = b.there;
-          all = s;
-          written = w;
-          fit = q.1;
-          joined = append_assoc read (item ∷ []) (items_of (offsets b.others) is) ∙ (λ x. read ++ d.0 x ∷ items_of (sym r x) is) ∙ j;
-        }
+pub items-on : {modal : Bool} {text : List ℕ} {read : List tree.Item} {place : ℕ} {first last : Piece} {item : Item} (now : List tree.Item) → ItemsUpTo modal text read place → Follow text place (placed first ∷ []) first.end
+    → ItemRead modal text first (item, last) → now ≡ read ++ the_item item ∷ [] → ItemsUpTo modal text now last.end
+items-on {modal} {text} {read} {place} {first} {last} {item} now u f i n =
+    let new : List Placed = i.front ++ placed last ∷ [] in
+    record {
+      tokens = u.tokens ++ new;
+      trees = u.trees ++ i.item ∷ [];
+      there = follow-join u.there (placing-follow place f i.stands);
+      written = terminals-append u.tokens new ∙ (λ j. u.written j ++ i.written j) ∙ flat-snoc item_tokens u.trees i.item;
+      fit = all-snoc (item_fits modal) u.trees i.item u.fit i.fits;
+      shallow = subst (λ z. AreRead z) (flat-snoc item_nestings u.trees i.item) (read-join (text_nestings u.trees) (item_nestings i.item) u.shallow i.shallow);
+      value = λ is more. items-value u.tokens new u.trees i.item read (the_item item) i.written u.value i.value is more ∙ ap (λ z. z ++ items_of more is) (sym n);
+    }
 
-    lost : {to : ℕ} → Follow text place [] to → OnlySpace text to → ⊥
-    lost g s = none-behind (subst (OnlySpace text) (sym (no-token-end g)) s) (placed first) [] first.end f
-
-    by : (modal : Bool) (items : List tree.Item) (to : ℕ) (tokens : List Placed) (trees : List ItemTree) → Follow text place tokens to → OnlySpace text to → terminals tokens ≡ text_tokens trees → list_all (item_fits modal) trees ≡ true → read ++ items_of (offsets tokens) trees ≡ items → ItemsLeft modal text (read ++ item ∷ []) last.end to items
-    by modal items to [] [] g s w p j = absurd (lost g s)
-    by modal items to (o ∷ os) [] g s w p j = absurd (subst (Leaves 0) w (leaves-some o.terminal (terminals os)))
-    by modal items to tokens (i ∷ is) g s w p j =
-        let n : Leaves 0 (terminals tokens) = subst (Leaves 0) (sym w) (item-some i (text_tokens is)) in
-        further modal items to tokens i is s p j (subst (At text tokens to first) w (at-start text place to tokens first g n f)) (sym (terminals-length tokens) ∙ ap length w)
+pub items-done : {modal : Bool} {text : List ℕ} {read : List tree.Item} {place : ℕ} → ItemsUpTo modal text read place → OnlySpace text place → HoldsItems modal text read
+items-done {modal} {text} {read} {place} u o = record {
+  tokens = u.tokens;
+  to = place;
+  trees = u.trees;
+  there = u.there;
+  all = o;
+  written = u.written;
+  fit = u.fit;
+  shallow = subst (λ z. AreShallow (TextLanguage modal) z) (sym u.written) (text-shallow modal u.trees u.fit u.shallow);
+  meant = sym (append-nil read) ∙ sym (u.value [] []) ∙ ap (λ z. items_of z (u.trees ++ [])) (append-nil (offsets u.tokens)) ∙ ap (λ z. items_of (offsets u.tokens) z) (append-nil u.trees);
+}
 
 -- ---- the reading
-
-pub text-holds : (modal : Bool) (text : List ℕ) (items : List tree.Item) → TextStands modal text → ItemsRead text items → IsReading modal text (reads items)
-text-holds modal text items s c = record {
-  tokens = s.tokens;
-  to = s.to;
-  trees = s.trees;
-  there = s.there;
-  all = s.all;
-  written = s.written;
-  fit = s.fit;
-  shallow = s.shallow;
-  meant = c modal s.tokens s.to s.trees (s.there, s.all, s.written, s.fit);
-}
 
 -- a reading that is answered is the only one
 pub reading-alone : (modal : Bool) (text : List ℕ) (r : Result (List tree.Item) ReadFault) → IfSome (the_reading r) (λ o. IsReading modal text o) → IfSome (the_reading r) (λ o. (other : Outcome (List tree.Item)) → IsReading modal text other → other ≡ o)

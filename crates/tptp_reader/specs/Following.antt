@@ -1,5 +1,5 @@
--- How the program keeps what is expected, and what it finds on the first way over a text.
-use Rattle.std.specs.Prelude.{◌≡◌, ℕ, List, [], ◌∷◌, ◌++◌, Bool, true, false, not, IsTrue, Option, None, Some, take, reverse, nat_lt, ◌||◌, if◌then◌else◌}
+-- How the program keeps what is expected, and what it finds on its way to a fault.
+use Rattle.std.specs.Prelude.{◌≡◌, ℕ, List, [], ◌∷◌, ◌++◌, Bool, true, false, not, IsTrue, Option, None, Some, take, reverse, nat_lt, if◌then◌else◌}
 use Rattle.std.specs.List.{list_all}
 use Rattle.tptp_lex.specs.Answers.{IsFault, OnlySpace}
 use Rattle.tptp_reader.specs.declared.expected.Expected.{Expected}
@@ -16,8 +16,7 @@ use Rattle.tptp_reader.specs.Terminals.{Terminal, close_round, close_square, Pla
 use Rattle.tptp_reader.specs.TerminalView.{the_terminal}
 use Rattle.tptp_reader.specs.Pieces.{placed}
 use Rattle.tptp_reader.specs.Expecting as way
-use Rattle.tptp_reader.specs.Grammar.{FormulaTree, is_plain, formula_tokens, ItemTree, item_fits, text_tokens}
-use Rattle.tptp_reader.specs.Faults.{Place, at_item, in_formula, elsewhere, TextLanguage, TextCauses, FormulaLanguage, FormulaCauses, AreShallow, is_stop, wrong, too_deep, HasFault}
+use Rattle.tptp_reader.specs.Faults.{Place, at_item, in_formula, elsewhere, TextLanguage, TextCauses, FormulaLanguage, FormulaCauses, wrong, too_deep, HasFault}
 use Rattle.tptp_reader.specs.ExpectedView.{the_expected, the_parts, the_rest}
 
 -- the first of the program's parts is expected last
@@ -114,33 +113,10 @@ HasEnding modal text from es now (ending.TooDeep offset) = RanDeep modal text fr
 HasEnding modal text from es now (ending.NoToken offset) = (to : ℕ) × Ran modal text from es now to × IsFault text to offset
 HasEnding modal text from es now ending.End = (to : ℕ) × Ran modal text from es now to × OnlySpace text to
 
--- From the place on there stands a formula, and behind it this token ends it.
-pub record FormulaStands (modal : Bool) (text : List ℕ) (from : ℕ) (p : Piece) : Type 0 where
-  pub tokens : List Placed
-  pub to : ℕ
-  pub tree : FormulaTree
-  pub there : Follow text from tokens to
-  pub behind : Follow text to (placed p ∷ []) p.end
-  pub written : terminals tokens ≡ formula_tokens tree
-  pub fit : IsTrue (modal || is_plain tree)
-  pub stops : IsTrue (is_stop (the_terminal p.terminal))
-  pub shallow : AreShallow (FormulaLanguage modal) (terminals tokens)
-
 abbrev pub IsFormulaFault : Bool → List ℕ → ℕ → ReadFault → Type 0
 IsFormulaFault modal text from (fault.At offset cause) = HasFault text from (FormulaLanguage modal) FormulaCauses (wrong offset cause)
 IsFormulaFault modal text from (fault.TooDeep offset) = HasFault text from (FormulaLanguage modal) FormulaCauses (too_deep offset)
 IsFormulaFault modal text from fault.NoMemory = Unit {0}
-
--- The tokens of the text are those of items.
-pub record TextStands (modal : Bool) (text : List ℕ) : Type 0 where
-  pub tokens : List Placed
-  pub to : ℕ
-  pub trees : List ItemTree
-  pub there : Follow text 0 tokens to
-  pub all : OnlySpace text to
-  pub written : terminals tokens ≡ text_tokens trees
-  pub fit : IsTrue (list_all (item_fits modal) trees)
-  pub shallow : AreShallow (TextLanguage modal) (terminals tokens)
 
 abbrev pub IsTextFault : Bool → List ℕ → ReadFault → Type 0
 IsTextFault modal text (fault.At offset cause) = HasFault text 0 (TextLanguage modal) (TextCauses modal) (wrong offset cause)

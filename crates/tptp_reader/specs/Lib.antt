@@ -30,5 +30,7 @@ pub mod TerminalView
 pub mod Pieces
 pub mod ExpectedView
 pub mod Following
+pub mod Spans
 pub mod Standing
+pub mod ClauseStanding
 pub mod ItemStanding

@@ -1,9 +1,9 @@
-//! The first way over a text of items.
+//! The fault of a text of items.
 
 ghost use Rattle.std.specs.Prelude.{◌≡◌, ◌∷◌, [], IfErr, IfOk};
 ghost use Rattle.tptp_reader.specs.Expecting as way;
 ghost use Rattle.tptp_reader.specs.Faults.{cause_at, is_word_in, item_cause, unsupported_words, wrong_words};
-ghost use Rattle.tptp_reader.specs.Following.{IsTextFault, TextStands, place_now, stack_now};
+ghost use Rattle.tptp_reader.specs.Following.{IsTextFault, place_now, stack_now};
 ghost use Rattle.tptp_reader.specs.TerminalView.{the_terminal};
 
 use crate::expected::Expected;
@@ -76,10 +76,9 @@ fn items_machine(alloc: Global) -> Result<Machine, NoMemory>
     Ok(machine)
 }
 
-/// The text is one of items, or has this fault.
+/// The fault of the text, where it has one.
 pub fn check_text(alloc: Global, text: &[u8], modal: bool) -> Result<(), ReadFault>
-    ensures stands { IfOk result (λ _. TextStands modal text.now) }
-    ensures fault { IfErr result (IsTextFault modal text.now) }
+    ensures { IfErr result (IsTextFault modal text.now) }
 {
     let mut machine = items_machine(alloc)?;
     let ending = follow(text, 0, modal, &mut machine)?;

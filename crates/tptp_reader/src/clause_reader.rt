@@ -1,18 +1,18 @@
-//! The second way over the tokens: clauses.
+//! Clauses. Where one begins with a bracket, it stands in brackets as a whole, or the atom of its first literal does.
 
-ghost use Rattle.std.specs.Prelude.{◌≡◌, ◌<◌, ◌≤◌, ◌==◌, IfOk, IfSome, length};
+ghost use Rattle.std.specs.Prelude.{◌≡◌, ◌<◌, ◌≤◌, ◌==◌, ◌||◌, IfOk, false, length};
+ghost use Rattle.tptp_reader.specs.ClauseStanding.{ClauseRead, DisjunctionRead, InsideRead, LiteralRead, MoreRead, OpenedRead, OthersRead, OutsideRead, UnsignedRead};
 ghost use Rattle.tptp_reader.specs.Expecting as way;
 ghost use Rattle.tptp_reader.specs.SourceView.{the_source};
-ghost use Rattle.tptp_reader.specs.Standing.{ClauseRead, DisjunctionRead, LiteralRead, LiteralsRead, OpenedRead, UnsignedRead, disjunction};
 ghost use Rattle.tptp_reader.specs.TerminalView.{the_terminal};
 
 use crate::expected::Fixed;
-use crate::formula_reader::{followed, read_atom};
+use crate::formula_reader::{closed, read_atom};
 use crate::moves::has_form;
 use crate::source::{ChainKind, Source, SourceBox, SourceList};
+use crate::stop::Stop;
 use crate::term_reader::next_token;
 use crate::terminal::{Piece, Terminal};
-use cop_base::NoMemory;
 use std::alloc::Global;
 
 fn is_tilde(x: Terminal) -> bool
@@ -31,36 +31,40 @@ fn is_bar(x: Terminal) -> bool
 fn read_unsigned<'a>(
     alloc: Global,
     text: &'a [u8],
+    depth: u32,
     p: Piece<'a>,
-) -> Result<(Source, Piece<'a>), NoMemory>
-    requires { p.end ≤ length text.now }
-    ensures read { IfOk result (UnsignedRead text.now p.entry) }
+) -> Result<(Source, Piece<'a>), Stop>
+    requires within { p.end ≤ length text.now }
+    requires shallow { depth ≤ 2 }
+    ensures read { IfOk result (UnsignedRead text.now depth p.entry) }
     ensures onward { IfOk result (λ r. p.entry.end < r.1.end) }
     ensures within { IfOk result (λ r. r.1.end ≤ length text.now) }
 {
     if !has_form(Fixed::Opening, p.terminal) {
-        return read_atom(alloc, text, p);
+        return read_atom(alloc, text, depth, p);
     }
     let start = next_token(text, p.end)?;
-    let (source, close) = read_atom(alloc, text, start)?;
-    followed(text, source, close)
+    let (source, close) = read_atom(alloc, text, depth + 1, start)?;
+    closed(text, source, close)
 }
 
 fn read_literal<'a>(
     alloc: Global,
     text: &'a [u8],
+    depth: u32,
     p: Piece<'a>,
-) -> Result<(Source, Piece<'a>), NoMemory>
-    requires { p.end ≤ length text.now }
-    ensures read { IfOk result (LiteralRead text.now p.entry) }
+) -> Result<(Source, Piece<'a>), Stop>
+    requires within { p.end ≤ length text.now }
+    requires shallow { depth ≤ 1 }
+    ensures read { IfOk result (LiteralRead text.now depth p.entry) }
     ensures onward { IfOk result (λ r. p.entry.end < r.1.end) }
     ensures within { IfOk result (λ r. r.1.end ≤ length text.now) }
 {
     if !is_tilde(p.terminal) {
-        return read_unsigned(alloc, text, p);
+        return read_unsigned(alloc, text, depth, p);
     }
     let start = next_token(text, p.end)?;
-    let (source, after) = read_unsigned(alloc, text, start)?;
+    let (source, after) = read_unsigned(alloc, text, depth + 1, start)?;
     let inner = SourceBox::new(alloc, source)?;
     Ok((Source::Not(inner), after))
 }
@@ -69,11 +73,14 @@ fn read_literal<'a>(
 fn read_more<'a>(
     alloc: Global,
     text: &'a [u8],
+    depth: u32,
     before: SourceList,
     p: Piece<'a>,
-) -> Result<(SourceList, Piece<'a>), NoMemory>
-    requires { p.end ≤ length text.now }
-    ensures read { IfOk result (LiteralsRead text.now before p.entry) }
+) -> Result<(SourceList, Piece<'a>), Stop>
+    requires within { p.end ≤ length text.now }
+    requires shallow { depth ≤ 1 }
+    ensures read { IfOk result (MoreRead text.now depth before p.entry) }
+    ensures ended { IfOk result (λ r. (way.form (the_terminal r.1.terminal) == 4) ≡ false) }
     ensures onward { IfOk result (λ r. p.entry.end ≤ r.1.end) }
     ensures within { IfOk result (λ r. r.1.end ≤ length text.now) }
 {
@@ -81,56 +88,118 @@ fn read_more<'a>(
     let mut here = p;
     'bars: while is_bar(here.terminal) {
         let start = next_token(text, here.end)?;
-        let (literal, after) = read_literal(alloc, text, start)?;
+        let (literal, after) = read_literal(alloc, text, depth, start)?;
         literals.push(literal)?;
         here = after;
     }
     Ok((literals, here))
 }
 
+// The disjunction of a first literal and of those behind it.
+fn read_others<'a>(
+    alloc: Global,
+    text: &'a [u8],
+    depth: u32,
+    first: Source,
+    p: Piece<'a>,
+) -> Result<(Source, Piece<'a>), Stop>
+    requires within { p.end ≤ length text.now }
+    requires shallow { depth ≤ 1 }
+    ensures read { IfOk result (OthersRead text.now depth (the_source first) p.entry) }
+    ensures onward { IfOk result (λ r. p.entry.end ≤ r.1.end) }
+    ensures within { IfOk result (λ r. r.1.end ≤ length text.now) }
+{
+    if !is_bar(p.terminal) {
+        return Ok((first, p));
+    }
+    let mut literals = SourceList::new(alloc);
+    literals.push(first)?;
+    let (literals, after) = read_more(alloc, text, depth, literals, p)?;
+    Ok((Source::Chain(ChainKind::Or, literals), after))
+}
+
 fn read_literals<'a>(
     alloc: Global,
     text: &'a [u8],
+    depth: u32,
     p: Piece<'a>,
-) -> Result<(SourceList, Piece<'a>), NoMemory>
-    requires { p.end ≤ length text.now }
-    ensures read { IfOk result (DisjunctionRead text.now p.entry) }
+) -> Result<(Source, Piece<'a>), Stop>
+    requires within { p.end ≤ length text.now }
+    requires shallow { depth ≤ 1 }
+    ensures read { IfOk result (DisjunctionRead text.now depth p.entry) }
     ensures onward { IfOk result (λ r. p.entry.end < r.1.end) }
     ensures within { IfOk result (λ r. r.1.end ≤ length text.now) }
 {
-    let (literal, sign) = read_literal(alloc, text, p)?;
-    let mut literals = SourceList::new(alloc);
-    literals.push(literal)?;
-    read_more(alloc, text, literals, sign)
+    let (first, sign) = read_literal(alloc, text, depth, p)?;
+    read_others(alloc, text, depth, first, sign)
 }
 
-// Literals behind a `(`, and those behind a `)`: the whole clause stands in brackets, or the atom
-// of its first literal does.
-fn read_opened<'a>(
+// A clause in brackets, from behind the first one on.
+fn read_bracketed<'a>(
     alloc: Global,
     text: &'a [u8],
     p: Piece<'a>,
-) -> Result<(SourceList, Piece<'a>), NoMemory>
+) -> Result<(Source, Piece<'a>), Stop>
     requires { p.end ≤ length text.now }
     ensures read { IfOk result (OpenedRead text.now p.entry) }
     ensures onward { IfOk result (λ r. p.entry.end < r.1.end) }
     ensures within { IfOk result (λ r. r.1.end ≤ length text.now) }
 {
-    let start = next_token(text, p.end)?;
-    let (first, close) = read_literals(alloc, text, start)?;
-    let sign = next_token(text, close.end)?;
-    read_more(alloc, text, first, sign)
+    let (source, close) = read_literals(alloc, text, 1, p)?;
+    closed(text, source, close)
 }
 
-// One literal alone is the clause.
-fn joined(literals: SourceList) -> Option<Source>
-    ensures { IfSome result (λ s. the_source s ≡ disjunction literals) }
+// The others in brackets, and the bracket behind them.
+fn read_inside<'a>(
+    alloc: Global,
+    text: &'a [u8],
+    first: Source,
+    p: Piece<'a>,
+) -> Result<(Source, Piece<'a>), Stop>
+    requires { p.end ≤ length text.now }
+    ensures read { IfOk result (InsideRead text.now (the_source first) p.entry) }
+    ensures onward { IfOk result (λ r. p.entry.end < r.1.end) }
+    ensures within { IfOk result (λ r. r.1.end ≤ length text.now) }
 {
-    if literals.items().len() != 1 {
-        return Some(Source::Chain(ChainKind::Or, literals));
+    let (source, close) = read_others(alloc, text, 1, first, p)?;
+    closed(text, source, close)
+}
+
+// The others behind an atom in brackets.
+fn read_outside<'a>(
+    alloc: Global,
+    text: &'a [u8],
+    first: Source,
+    close: Piece<'a>,
+) -> Result<(Source, Piece<'a>), Stop>
+    requires { close.end ≤ length text.now }
+    ensures read { IfOk result (OutsideRead text.now (the_source first) close.entry) }
+    ensures onward { IfOk result (λ r. close.entry.end < r.1.end) }
+    ensures within { IfOk result (λ r. r.1.end ≤ length text.now) }
+{
+    let (first, after) = closed(text, first, close)?;
+    read_others(alloc, text, 0, first, after)
+}
+
+// A clause that begins with a bracket and an atom, from the atom on.
+fn read_opened<'a>(alloc: Global, text: &'a [u8], p: Piece<'a>) -> Result<(Source, Piece<'a>), Stop>
+    requires { p.end ≤ length text.now }
+    ensures read { IfOk result (OpenedRead text.now p.entry) }
+    ensures onward { IfOk result (λ r. p.entry.end < r.1.end) }
+    ensures within { IfOk result (λ r. r.1.end ≤ length text.now) }
+{
+    let (first, sign) = read_atom(alloc, text, 1, p)?;
+    if has_form(Fixed::Closing, sign.terminal) {
+        return read_outside(alloc, text, first, sign);
     }
-    let mut literals = literals;
-    literals.pop()
+    read_inside(alloc, text, first, sign)
+}
+
+// A literal begins so that is more than an atom.
+fn is_mark(x: Terminal) -> bool
+    ensures { result ≡ ((way.form (the_terminal x.entry) == 17) || (way.form (the_terminal x.entry) == 0)) }
+{
+    matches!(x, Terminal::Tilde | Terminal::OpenRound)
 }
 
 /// A clause, and the token behind it.
@@ -138,22 +207,18 @@ pub fn read_clause<'a>(
     alloc: Global,
     text: &'a [u8],
     p: Piece<'a>,
-) -> Result<(Source, Piece<'a>), NoMemory>
+) -> Result<(Source, Piece<'a>), Stop>
     requires { p.end ≤ length text.now }
     ensures read { IfOk result (ClauseRead text.now p.entry) }
     ensures onward { IfOk result (λ r. p.entry.end < r.1.end) }
     ensures within { IfOk result (λ r. r.1.end ≤ length text.now) }
 {
-    if has_form(Fixed::Opening, p.terminal) {
-        let (literals, after) = read_opened(alloc, text, p)?;
-        return match joined(literals) {
-            Some(source) => Ok((source, after)),
-            None => Err(NoMemory),
-        };
+    if !has_form(Fixed::Opening, p.terminal) {
+        return read_literals(alloc, text, 0, p);
     }
-    let (literals, after) = read_literals(alloc, text, p)?;
-    match joined(literals) {
-        Some(source) => Ok((source, after)),
-        None => Err(NoMemory),
+    let start = next_token(text, p.end)?;
+    if is_mark(start.terminal) {
+        return read_bracketed(alloc, text, start);
     }
+    read_opened(alloc, text, start)
 }

@@ -1,4 +1,4 @@
-//! The first way over a text, or over a formula in a text: it finds the end, or what is wrong, and builds nothing.
+//! The way to a fault: over the tokens of a text, or of a formula in a text, to where they end or go wrong.
 
 ghost use Rattle.std.specs.Prelude.{◌≡◌, ◌≤◌, IfOk, length, true};
 ghost use Rattle.tptp_reader.specs.Following.{HasEnding, is_open, stack_now};

@@ -1,20 +1,23 @@
-//! The second way over the tokens: atoms and formulas. As in `term_reader` the tokens are known to be those of a tree, and
-//! the recursion ends within 500 levels, as the first way found no token deeper. Chains are read by loops.
+//! Atoms and formulas from tokens. As in `term_reader` each part tests its nesting, so the recursion ends within 500 levels.
+//! Chains are read by loops.
 
 ghost use Rattle.std.specs.Prelude.{◌≡◌, ◌<◌, ◌≤◌, ◌==◌, ◌++◌, ◌∷◌, [], List, ℕ, IfOk, OnOk, Some, length};
 ghost use Rattle.tptp_reader.specs.Expecting as way;
-ghost use Rattle.tptp_reader.specs.Standing.{AtomRead, BinaryRead, ChainRead, Followed, FormulaRead, InnerRead, RightRead, SideRead, UnitRead, VariablesRead, binary_in, chain_in, is_chain, prefix_in, truth_in, variable_in};
+ghost use Rattle.tptp_reader.specs.Standing.{AtomRead, BinaryRead, ChainRead, EndRead, FormulaRead, InnerRead, IsClosed, RightRead, SideRead, UnitRead, VariablesRead, binary_in, chain_in, is_chain, prefix_in, truth_in, variable_in};
 ghost use Rattle.tptp_reader.specs.declared.formula_reader.Prefix.TheVariants as prefix;
 ghost use Rattle.tptp_reader.specs.SourceView.{the_source};
+ghost use Rattle.tptp_reader.specs.Spans.{Span};
 ghost use Rattle.tptp_reader.specs.TermView.{the_source_term};
 ghost use Rattle.tptp_reader.specs.TerminalView.{the_terminal};
+ghost use Rattle.tptp_reader.specs.Terminals.{close_round, colon, open_square};
 
 use crate::expected::Fixed;
 use crate::moves::has_form;
 use crate::source::{BinaryKind, ChainKind, Source, SourceBox, SourceList, SourceTerm, TextList};
-use crate::term_reader::{next_token, read_term};
+use crate::stop::Stop;
+use crate::term_reader::{inside, next_token, read_term};
 use crate::terminal::{Piece, Terminal};
-use cop_base::{NoMemory, Text};
+use cop_base::Text;
 use std::alloc::{AllocFailed, Global};
 
 fn is_equal(x: Terminal) -> bool
@@ -33,7 +36,15 @@ fn truth_of(x: Terminal) -> Option<bool>
     ensures { result ≡ truth_in (the_terminal x.entry) }
 {
     match x {
-        Terminal::Dollar(word) => Some(word == b"$true".as_slice()),
+        Terminal::Dollar(word) => {
+            if word == b"$true".as_slice() {
+                Some(true)
+            } else if word == b"$false".as_slice() {
+                Some(false)
+            } else {
+                None
+            }
+        }
         _ => None,
     }
 }
@@ -42,40 +53,42 @@ fn truth_of(x: Terminal) -> Option<bool>
 fn read_right<'a>(
     alloc: Global,
     text: &'a [u8],
+    depth: u32,
     sign: Piece<'a>,
-) -> Result<(SourceTerm, Piece<'a>), NoMemory>
+) -> Result<(SourceTerm, Piece<'a>), Stop>
     requires { sign.end ≤ length text.now }
-    ensures read { IfOk result (RightRead text.now sign.entry) }
+    ensures read { IfOk result (RightRead text.now depth sign.entry) }
     ensures onward { IfOk result (λ r. sign.entry.end ≤ r.1.end) }
     ensures within { IfOk result (λ r. r.1.end ≤ length text.now) }
 {
     let start = next_token(text, sign.end)?;
-    read_term(alloc, text, start)
+    read_term(alloc, text, depth, start)
 }
 
 // An atom, or an equation with this term on its left.
 fn read_side<'a>(
     alloc: Global,
     text: &'a [u8],
+    depth: u32,
     left: SourceTerm,
     sign: Piece<'a>,
-) -> Result<(Source, Piece<'a>), NoMemory>
+) -> Result<(Source, Piece<'a>), Stop>
     requires { sign.end ≤ length text.now }
-    ensures read { IfOk result (SideRead text.now (the_source_term left) sign.entry) }
+    ensures read { IfOk result (SideRead text.now depth (the_source_term left) sign.entry) }
     ensures onward { IfOk result (λ r. sign.entry.end ≤ r.1.end) }
     ensures within { IfOk result (λ r. r.1.end ≤ length text.now) }
 {
     if is_equal(sign.terminal) {
-        let (right, after) = read_right(alloc, text, sign)?;
+        let (right, after) = read_right(alloc, text, depth, sign)?;
         return Ok((Source::Equal(left, right), after));
     }
     if is_unequal(sign.terminal) {
-        let (right, after) = read_right(alloc, text, sign)?;
+        let (right, after) = read_right(alloc, text, depth, sign)?;
         return Ok((Source::Unequal(left, right), after));
     }
     match left {
         SourceTerm::Fun(name, args) => Ok((Source::Atom(name, args), sign)),
-        SourceTerm::Var(_) => Err(NoMemory),
+        SourceTerm::Var(_) => Err(Stop::NotThere),
     }
 }
 
@@ -83,36 +96,51 @@ fn read_side<'a>(
 pub fn read_atom<'a>(
     alloc: Global,
     text: &'a [u8],
+    depth: u32,
     p: Piece<'a>,
-) -> Result<(Source, Piece<'a>), NoMemory>
+) -> Result<(Source, Piece<'a>), Stop>
     requires { p.end ≤ length text.now }
-    ensures read { IfOk result (AtomRead text.now p.entry) }
+    ensures read { IfOk result (AtomRead text.now depth p.entry) }
     ensures onward { IfOk result (λ r. p.entry.end < r.1.end) }
     ensures within { IfOk result (λ r. r.1.end ≤ length text.now) }
 {
     if let Some(holds) = truth_of(p.terminal) {
+        inside(depth)?;
         let next = next_token(text, p.end)?;
         if holds {
             return Ok((Source::True, next));
         }
         return Ok((Source::False, next));
     }
-    let (left, sign) = read_term(alloc, text, p)?;
-    read_side(alloc, text, left, sign)
+    let (left, sign) = read_term(alloc, text, depth, p)?;
+    read_side(alloc, text, depth, left, sign)
 }
 
-/// The formula, and the token behind what closes it.
-pub fn followed<'a>(
+// The token behind the bracket that closes.
+fn behind_closing<'a>(text: &'a [u8], close: Piece<'a>) -> Result<Piece<'a>, Stop>
+    requires { close.end ≤ length text.now }
+    ensures read { IfOk result (Span text.now close.entry (close_round ∷ [])) }
+    ensures onward { IfOk result (λ q. close.entry.end < q.end) }
+    ensures within { IfOk result (λ q. q.end ≤ length text.now) }
+{
+    if !has_form(Fixed::Closing, close.terminal) {
+        return Err(Stop::NotThere);
+    }
+    next_token(text, close.end)
+}
+
+/// The formula, and the token behind the bracket that closes.
+pub fn closed<'a>(
     text: &'a [u8],
     source: Source,
     close: Piece<'a>,
-) -> Result<(Source, Piece<'a>), NoMemory>
+) -> Result<(Source, Piece<'a>), Stop>
     requires { close.end ≤ length text.now }
-    ensures read { IfOk result (Followed text.now (the_source source) close.entry) }
+    ensures read { IfOk result (IsClosed text.now (the_source source) close.entry) }
     ensures onward { IfOk result (λ r. close.entry.end < r.1.end) }
     ensures within { IfOk result (λ r. r.1.end ≤ length text.now) }
 {
-    let after = next_token(text, close.end)?;
+    let after = behind_closing(text, close)?;
     Ok((source, after))
 }
 
@@ -127,8 +155,8 @@ pub enum Prefix {
     Possibility,
 }
 
-fn prefix_of(x: Terminal) -> Option<Prefix>
-    ensures { result ≡ prefix_in (the_terminal x.entry) }
+fn prefix_of(modal: bool, x: Terminal) -> Option<Prefix>
+    ensures { result ≡ prefix_in modal (the_terminal x.entry) }
 {
     match x {
         Terminal::OpenRound => Some(Prefix::Bracket),
@@ -136,26 +164,30 @@ fn prefix_of(x: Terminal) -> Option<Prefix>
         Terminal::Exclamation => Some(Prefix::Universal),
         Terminal::Question => Some(Prefix::Existential),
         Terminal::Hash(word) => {
-            if word == b"#box".as_slice() {
+            if !modal {
+                None
+            } else if word == b"#box".as_slice() {
                 Some(Prefix::Necessity)
-            } else {
+            } else if word == b"#dia".as_slice() {
                 Some(Prefix::Possibility)
+            } else {
+                None
             }
         }
         _ => None,
     }
 }
 
-fn read_variable(alloc: Global, x: Terminal) -> Result<Text, NoMemory>
+fn read_variable(alloc: Global, x: Terminal) -> Result<Text, Stop>
     ensures { IfOk result (λ t. variable_in (the_terminal x.entry) ≡ Some t) }
 {
     match x {
-        Terminal::Upper(name) => Text::new(alloc, name),
-        _ => Err(NoMemory),
+        Terminal::Upper(name) => Ok(Text::new(alloc, name)?),
+        _ => Err(Stop::NotThere),
     }
 }
 
-fn push_variable(alloc: Global, names: &mut TextList, x: Terminal) -> Result<(), NoMemory>
+fn push_variable(alloc: Global, names: &mut TextList, x: Terminal) -> Result<(), Stop>
     ensures { OnOk result ((t : List ℕ) × (variable_in (the_terminal x.entry) ≡ Some t)
         × (names.new ≡ names.old ++ t ∷ [])) }
 {
@@ -164,31 +196,81 @@ fn push_variable(alloc: Global, names: &mut TextList, x: Terminal) -> Result<(),
     Ok(())
 }
 
+fn closes_square(x: Terminal) -> bool
+    ensures { result ≡ (way.form (the_terminal x.entry) == 13) }
+{
+    matches!(x, Terminal::CloseSquare)
+}
+
+// The token behind `]` and `:`.
+fn quantifier_end<'a>(text: &'a [u8], square: Piece<'a>) -> Result<Piece<'a>, Stop>
+    requires { square.end ≤ length text.now }
+    ensures read { IfOk result (EndRead text.now square.entry) }
+    ensures onward { IfOk result (λ q. square.entry.end < q.end) }
+    ensures within { IfOk result (λ q. q.end ≤ length text.now) }
+{
+    let colon = next_token(text, square.end)?;
+    if !closes_square(square.terminal) {
+        return Err(Stop::NotThere);
+    }
+    if !has_form(Fixed::Colon, colon.terminal) {
+        return Err(Stop::NotThere);
+    }
+    next_token(text, colon.end)
+}
+
+// The token behind the quantifier's `[`.
+fn behind_square<'a>(text: &'a [u8], p: Piece<'a>) -> Result<Piece<'a>, Stop>
+    requires { p.end ≤ length text.now }
+    ensures read { IfOk result (Span text.now p.entry (the_terminal p.entry.terminal ∷ open_square ∷ [])) }
+    ensures onward { IfOk result (λ q. p.entry.end < q.end) }
+    ensures within { IfOk result (λ q. q.end ≤ length text.now) }
+{
+    let square = next_token(text, p.end)?;
+    if !has_form(Fixed::Square, square.terminal) {
+        return Err(Stop::NotThere);
+    }
+    next_token(text, square.end)
+}
+
 // The variables of the quantifier, and the token behind its `:`.
 fn read_variables<'a>(
     alloc: Global,
     text: &'a [u8],
     p: Piece<'a>,
-) -> Result<(TextList, Piece<'a>), NoMemory>
+) -> Result<(TextList, Piece<'a>), Stop>
     requires { p.end ≤ length text.now }
     ensures read { IfOk result (VariablesRead text.now p.entry) }
     ensures onward { IfOk result (λ r. p.entry.end < r.1.end) }
     ensures within { IfOk result (λ r. r.1.end ≤ length text.now) }
 {
-    let mut names = TextList::new(alloc);
-    let bracket = next_token(text, p.end)?;
-    let first = next_token(text, bracket.end)?;
-    push_variable(alloc, &mut names, first.terminal)?;
+    let first = behind_square(text, p)?;
     let mut here = next_token(text, first.end)?;
-    loop {
-        let next = next_token(text, here.end)?;
+    let mut names = TextList::new(alloc);
+    push_variable(alloc, &mut names, first.terminal)?;
+    'variables: loop {
         if !has_form(Fixed::Comma, here.terminal) {
-            let after = next_token(text, next.end)?;
+            let after = quantifier_end(text, here)?;
             return Ok((names, after));
         }
+        let next = next_token(text, here.end)?;
         push_variable(alloc, &mut names, next.terminal)?;
         here = next_token(text, next.end)?;
     }
+}
+
+// The token behind the `:` of a modal operator.
+fn behind_operator<'a>(text: &'a [u8], p: Piece<'a>) -> Result<Piece<'a>, Stop>
+    requires { p.end ≤ length text.now }
+    ensures read { IfOk result (Span text.now p.entry (the_terminal p.entry.terminal ∷ colon ∷ [])) }
+    ensures onward { IfOk result (λ q. p.entry.end < q.end) }
+    ensures within { IfOk result (λ q. q.end ≤ length text.now) }
+{
+    let colon = next_token(text, p.end)?;
+    if !has_form(Fixed::Colon, colon.terminal) {
+        return Err(Stop::NotThere);
+    }
+    next_token(text, colon.end)
 }
 
 fn chain_of(x: Terminal) -> Option<ChainKind>
@@ -229,23 +311,25 @@ fn binary_of(x: Terminal) -> Option<BinaryKind>
 fn read_unit<'a>(
     alloc: Global,
     text: &'a [u8],
+    modal: bool,
+    depth: u32,
     p: Piece<'a>,
-) -> Result<(Source, Piece<'a>), NoMemory>
+) -> Result<(Source, Piece<'a>), Stop>
     requires { p.end ≤ length text.now }
-    ensures read { IfOk result (UnitRead text.now p.entry) }
+    ensures read { IfOk result (UnitRead modal text.now depth p.entry) }
     ensures onward { IfOk result (λ r. p.entry.end < r.1.end) }
     ensures within { IfOk result (λ r. r.1.end ≤ length text.now) }
 {
-    let Some(prefix) = prefix_of(p.terminal) else {
-        return read_atom(alloc, text, p);
+    let Some(prefix) = prefix_of(modal, p.terminal) else {
+        return read_atom(alloc, text, depth, p);
     };
     match prefix {
-        Prefix::Bracket => read_bracketed(alloc, text, p),
-        Prefix::Negation => read_negation(alloc, text, p),
-        Prefix::Universal => read_universal(alloc, text, p),
-        Prefix::Existential => read_existential(alloc, text, p),
-        Prefix::Necessity => read_necessity(alloc, text, p),
-        Prefix::Possibility => read_possibility(alloc, text, p),
+        Prefix::Bracket => read_bracketed(alloc, text, modal, depth, p),
+        Prefix::Negation => read_negation(alloc, text, modal, depth, p),
+        Prefix::Universal => read_universal(alloc, text, modal, depth, p),
+        Prefix::Existential => read_existential(alloc, text, modal, depth, p),
+        Prefix::Necessity => read_necessity(alloc, text, modal, depth, p),
+        Prefix::Possibility => read_possibility(alloc, text, modal, depth, p),
     }
 }
 
@@ -253,17 +337,20 @@ fn read_unit<'a>(
 fn read_bracketed<'a>(
     alloc: Global,
     text: &'a [u8],
+    modal: bool,
+    depth: u32,
     p: Piece<'a>,
-) -> Result<(Source, Piece<'a>), NoMemory>
+) -> Result<(Source, Piece<'a>), Stop>
     requires within { p.end ≤ length text.now }
-    requires prefix { prefix_in (the_terminal p.terminal) ≡ Some prefix.Bracket }
-    ensures read { IfOk result (UnitRead text.now p.entry) }
+    requires prefix { prefix_in modal (the_terminal p.terminal) ≡ Some prefix.Bracket }
+    ensures read { IfOk result (UnitRead modal text.now depth p.entry) }
     ensures onward { IfOk result (λ r. p.entry.end < r.1.end) }
     ensures within { IfOk result (λ r. r.1.end ≤ length text.now) }
 {
+    let inner = inside(depth)?;
     let start = next_token(text, p.end)?;
-    let (source, close) = read_tree(alloc, text, start)?;
-    followed(text, source, close)
+    let (source, close) = read_tree(alloc, text, modal, inner, start)?;
+    closed(text, source, close)
 }
 
 // A unit inside of another one.
@@ -271,14 +358,16 @@ fn read_bracketed<'a>(
 fn read_inner<'a>(
     alloc: Global,
     text: &'a [u8],
+    modal: bool,
+    depth: u32,
     p: Piece<'a>,
-) -> Result<(SourceBox, Piece<'a>), NoMemory>
+) -> Result<(SourceBox, Piece<'a>), Stop>
     requires { p.end ≤ length text.now }
-    ensures read { IfOk result (InnerRead text.now p.entry) }
+    ensures read { IfOk result (InnerRead modal text.now depth p.entry) }
     ensures onward { IfOk result (λ r. p.entry.end < r.1.end) }
     ensures within { IfOk result (λ r. r.1.end ≤ length text.now) }
 {
-    let (source, after) = read_unit(alloc, text, p)?;
+    let (source, after) = read_unit(alloc, text, modal, depth, p)?;
     let inner = SourceBox::new(alloc, source)?;
     Ok((inner, after))
 }
@@ -287,16 +376,19 @@ fn read_inner<'a>(
 fn read_negation<'a>(
     alloc: Global,
     text: &'a [u8],
+    modal: bool,
+    depth: u32,
     p: Piece<'a>,
-) -> Result<(Source, Piece<'a>), NoMemory>
+) -> Result<(Source, Piece<'a>), Stop>
     requires within { p.end ≤ length text.now }
-    requires prefix { prefix_in (the_terminal p.terminal) ≡ Some prefix.Negation }
-    ensures read { IfOk result (UnitRead text.now p.entry) }
+    requires prefix { prefix_in modal (the_terminal p.terminal) ≡ Some prefix.Negation }
+    ensures read { IfOk result (UnitRead modal text.now depth p.entry) }
     ensures onward { IfOk result (λ r. p.entry.end < r.1.end) }
     ensures within { IfOk result (λ r. r.1.end ≤ length text.now) }
 {
+    let below = inside(depth)?;
     let start = next_token(text, p.end)?;
-    let (inner, after) = read_inner(alloc, text, start)?;
+    let (inner, after) = read_inner(alloc, text, modal, below, start)?;
     Ok((Source::Not(inner), after))
 }
 
@@ -304,16 +396,19 @@ fn read_negation<'a>(
 fn read_universal<'a>(
     alloc: Global,
     text: &'a [u8],
+    modal: bool,
+    depth: u32,
     p: Piece<'a>,
-) -> Result<(Source, Piece<'a>), NoMemory>
+) -> Result<(Source, Piece<'a>), Stop>
     requires within { p.end ≤ length text.now }
-    requires prefix { prefix_in (the_terminal p.terminal) ≡ Some prefix.Universal }
-    ensures read { IfOk result (UnitRead text.now p.entry) }
+    requires prefix { prefix_in modal (the_terminal p.terminal) ≡ Some prefix.Universal }
+    ensures read { IfOk result (UnitRead modal text.now depth p.entry) }
     ensures onward { IfOk result (λ r. p.entry.end < r.1.end) }
     ensures within { IfOk result (λ r. r.1.end ≤ length text.now) }
 {
+    let below = inside(depth)?;
     let (names, start) = read_variables(alloc, text, p)?;
-    let (inner, after) = read_inner(alloc, text, start)?;
+    let (inner, after) = read_inner(alloc, text, modal, below, start)?;
     Ok((Source::All(names, inner), after))
 }
 
@@ -321,16 +416,19 @@ fn read_universal<'a>(
 fn read_existential<'a>(
     alloc: Global,
     text: &'a [u8],
+    modal: bool,
+    depth: u32,
     p: Piece<'a>,
-) -> Result<(Source, Piece<'a>), NoMemory>
+) -> Result<(Source, Piece<'a>), Stop>
     requires within { p.end ≤ length text.now }
-    requires prefix { prefix_in (the_terminal p.terminal) ≡ Some prefix.Existential }
-    ensures read { IfOk result (UnitRead text.now p.entry) }
+    requires prefix { prefix_in modal (the_terminal p.terminal) ≡ Some prefix.Existential }
+    ensures read { IfOk result (UnitRead modal text.now depth p.entry) }
     ensures onward { IfOk result (λ r. p.entry.end < r.1.end) }
     ensures within { IfOk result (λ r. r.1.end ≤ length text.now) }
 {
+    let below = inside(depth)?;
     let (names, start) = read_variables(alloc, text, p)?;
-    let (inner, after) = read_inner(alloc, text, start)?;
+    let (inner, after) = read_inner(alloc, text, modal, below, start)?;
     Ok((Source::Ex(names, inner), after))
 }
 
@@ -338,17 +436,19 @@ fn read_existential<'a>(
 fn read_necessity<'a>(
     alloc: Global,
     text: &'a [u8],
+    modal: bool,
+    depth: u32,
     p: Piece<'a>,
-) -> Result<(Source, Piece<'a>), NoMemory>
+) -> Result<(Source, Piece<'a>), Stop>
     requires within { p.end ≤ length text.now }
-    requires prefix { prefix_in (the_terminal p.terminal) ≡ Some prefix.Necessity }
-    ensures read { IfOk result (UnitRead text.now p.entry) }
+    requires prefix { prefix_in modal (the_terminal p.terminal) ≡ Some prefix.Necessity }
+    ensures read { IfOk result (UnitRead modal text.now depth p.entry) }
     ensures onward { IfOk result (λ r. p.entry.end < r.1.end) }
     ensures within { IfOk result (λ r. r.1.end ≤ length text.now) }
 {
-    let colon = next_token(text, p.end)?;
-    let start = next_token(text, colon.end)?;
-    let (inner, after) = read_inner(alloc, text, start)?;
+    let below = inside(depth)?;
+    let start = behind_operator(text, p)?;
+    let (inner, after) = read_inner(alloc, text, modal, below, start)?;
     Ok((Source::Nec(inner), after))
 }
 
@@ -356,17 +456,19 @@ fn read_necessity<'a>(
 fn read_possibility<'a>(
     alloc: Global,
     text: &'a [u8],
+    modal: bool,
+    depth: u32,
     p: Piece<'a>,
-) -> Result<(Source, Piece<'a>), NoMemory>
+) -> Result<(Source, Piece<'a>), Stop>
     requires within { p.end ≤ length text.now }
-    requires prefix { prefix_in (the_terminal p.terminal) ≡ Some prefix.Possibility }
-    ensures read { IfOk result (UnitRead text.now p.entry) }
+    requires prefix { prefix_in modal (the_terminal p.terminal) ≡ Some prefix.Possibility }
+    ensures read { IfOk result (UnitRead modal text.now depth p.entry) }
     ensures onward { IfOk result (λ r. p.entry.end < r.1.end) }
     ensures within { IfOk result (λ r. r.1.end ≤ length text.now) }
 {
-    let colon = next_token(text, p.end)?;
-    let start = next_token(text, colon.end)?;
-    let (inner, after) = read_inner(alloc, text, start)?;
+    let below = inside(depth)?;
+    let start = behind_operator(text, p)?;
+    let (inner, after) = read_inner(alloc, text, modal, below, start)?;
     Ok((Source::Poss(inner), after))
 }
 
@@ -375,19 +477,21 @@ fn read_possibility<'a>(
 pub fn read_tree<'a>(
     alloc: Global,
     text: &'a [u8],
+    modal: bool,
+    depth: u32,
     p: Piece<'a>,
-) -> Result<(Source, Piece<'a>), NoMemory>
+) -> Result<(Source, Piece<'a>), Stop>
     requires { p.end ≤ length text.now }
-    ensures read { IfOk result (FormulaRead text.now p.entry) }
+    ensures read { IfOk result (FormulaRead modal text.now depth p.entry) }
     ensures onward { IfOk result (λ r. p.entry.end < r.1.end) }
     ensures within { IfOk result (λ r. r.1.end ≤ length text.now) }
 {
-    let (first, sign) = read_unit(alloc, text, p)?;
+    let (first, sign) = read_unit(alloc, text, modal, depth, p)?;
     if let Some(kind) = chain_of(sign.terminal) {
-        return read_chain(alloc, text, kind, first, sign);
+        return read_chain(alloc, text, modal, depth, kind, first, sign);
     }
     match binary_of(sign.terminal) {
-        Some(kind) => read_binary(alloc, text, kind, first, sign),
+        Some(kind) => read_binary(alloc, text, modal, depth, kind, first, sign),
         None => Ok((first, sign)),
     }
 }
@@ -397,18 +501,20 @@ pub fn read_tree<'a>(
 fn read_binary<'a>(
     alloc: Global,
     text: &'a [u8],
+    modal: bool,
+    depth: u32,
     kind: BinaryKind,
     first: Source,
     sign: Piece<'a>,
-) -> Result<(Source, Piece<'a>), NoMemory>
+) -> Result<(Source, Piece<'a>), Stop>
     requires { sign.end ≤ length text.now }
-    ensures read { IfOk result (BinaryRead text.now kind (the_source first) sign.entry) }
+    ensures read { IfOk result (BinaryRead modal text.now depth kind (the_source first) sign.entry) }
     ensures onward { IfOk result (λ r. sign.entry.end < r.1.end) }
     ensures within { IfOk result (λ r. r.1.end ≤ length text.now) }
 {
     let left = SourceBox::new(alloc, first)?;
     let start = next_token(text, sign.end)?;
-    let (right, after) = read_inner(alloc, text, start)?;
+    let (right, after) = read_inner(alloc, text, modal, depth, start)?;
     Ok((Source::Binary(kind, left, right), after))
 }
 
@@ -417,12 +523,14 @@ fn read_binary<'a>(
 fn read_chain<'a>(
     alloc: Global,
     text: &'a [u8],
+    modal: bool,
+    depth: u32,
     kind: ChainKind,
     first: Source,
     sign: Piece<'a>,
-) -> Result<(Source, Piece<'a>), NoMemory>
+) -> Result<(Source, Piece<'a>), Stop>
     requires { sign.end ≤ length text.now }
-    ensures read { IfOk result (ChainRead text.now kind (the_source first) sign.entry) }
+    ensures read { IfOk result (ChainRead modal text.now depth kind (the_source first) sign.entry) }
     ensures onward { IfOk result (λ r. sign.entry.end < r.1.end) }
     ensures within { IfOk result (λ r. r.1.end ≤ length text.now) }
 {
@@ -431,7 +539,7 @@ fn read_chain<'a>(
     let mut here = sign;
     loop {
         let start = next_token(text, here.end)?;
-        let (unit, next) = read_unit(alloc, text, start)?;
+        let (unit, next) = read_unit(alloc, text, modal, depth, start)?;
         units.push(unit)?;
         if !is_chain(kind, next.terminal) {
             return Ok((Source::Chain(kind, units), next));

@@ -14,6 +14,7 @@ mod machine;
 mod moves;
 mod reader;
 mod source;
+mod stop;
 mod term_reader;
 mod terminal;
 mod text_reader;

@@ -1,4 +1,4 @@
-//! The first way over a text: its tokens one by one, against a stack of what is expected.
+//! Where a text can go on: its tokens one by one, against a stack of what is expected.
 
 ghost use Rattle.std.specs.Prelude.{◌≡◌, ◌++◌, ◌∷◌, ◌≤◌, [], IfOk, IfSome, OnOk, false, true, not, length};
 ghost use Rattle.tptp_reader.specs.Expecting as way;

@@ -340,7 +340,7 @@ fn are_digits(bytes: &[u8]) -> bool
     bytes.iter().all(|b| is_digit(*b))
 }
 
-fn is_digits(bytes: &[u8]) -> bool
+pub fn is_digits(bytes: &[u8]) -> bool
     ensures { result ≡ is_digits bytes.now }
 {
     match bytes.split_first() {

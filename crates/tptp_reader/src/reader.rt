@@ -1,12 +1,13 @@
-//! The readers: a first way over the tokens finds the end, the fault or the depth, a second one builds the value.
+//! The reader of a formula that stands in a text. Only where it stops a second way over the tokens finds the fault.
 
 ghost use Rattle.std.specs.Prelude.{◌≡◌, ◌≤◌, ◌∷◌, [], length, IfErr, IfOk, IfSome, ℕ};
 ghost use Rattle.tptp_reader.specs.Answers.{the_formula_reading};
-ghost use Rattle.tptp_reader.specs.Faults.{formula_cause};
-ghost use Rattle.tptp_reader.specs.Following.{FormulaStands, IsFormulaFault, stack_now};
+ghost use Rattle.tptp_reader.specs.Faults.{formula_cause, is_stop};
+ghost use Rattle.tptp_reader.specs.Following.{IsFormulaFault, stack_now};
 ghost use Rattle.tptp_reader.specs.Expecting as way;
-ghost use Rattle.tptp_reader.specs.Reading.{IsFormulaReading, Outcome};
+ghost use Rattle.tptp_reader.specs.Reading.{HoldsFormula, IsFormulaReading, Outcome};
 ghost use Rattle.tptp_reader.specs.Sources as tree;
+ghost use Rattle.tptp_reader.specs.SourceView.{the_source};
 ghost use Rattle.tptp_reader.specs.TerminalView.{the_terminal};
 
 use crate::expected::Expected;
@@ -15,8 +16,9 @@ use crate::following::{Ending, follow};
 use crate::formula_reader::read_tree;
 use crate::machine::Machine;
 use crate::source::Source;
+use crate::stop::Stop;
 use crate::term_reader::next_token;
-use crate::terminal::{Piece, Terminal};
+use crate::terminal::Terminal;
 use cop_base::NoMemory;
 use std::alloc::Global;
 
@@ -47,16 +49,15 @@ fn formula_machine(alloc: Global) -> Result<Machine, NoMemory>
     Ok(machine)
 }
 
-// The token behind the formula that begins at or after the place.
-fn find_stop(alloc: Global, text: &[u8], from: usize, modal: bool) -> Result<Piece<'_>, ReadFault>
+// The fault of the formula that begins at or after the place.
+fn check_formula(alloc: Global, text: &[u8], from: usize, modal: bool) -> Result<(), ReadFault>
     requires { from ≤ length text.now }
-    ensures stands { IfOk result (FormulaStands modal text.now from) }
-    ensures fault { IfErr result (IsFormulaFault modal text.now from) }
+    ensures { IfErr result (IsFormulaFault modal text.now from) }
 {
     let mut machine = formula_machine(alloc)?;
     let ending = follow(text, from, modal, &mut machine)?;
     match ending {
-        Ending::Done(piece) => Ok(piece),
+        Ending::Done(_) => Ok(()),
         Ending::Stuck(piece) => Err(ReadFault::At {
             offset: piece.start as u64,
             cause: formula_cause(piece.terminal),
@@ -75,6 +76,31 @@ fn find_stop(alloc: Global, text: &[u8], from: usize, modal: bool) -> Result<Pie
     }
 }
 
+// It ends a formula.
+fn is_stop(x: Terminal) -> bool
+    ensures { result ≡ is_stop (the_terminal x.entry) }
+{
+    matches!(x, Terminal::Comma | Terminal::CloseRound)
+}
+
+// A formula that has no fault.
+fn build_formula(
+    alloc: Global,
+    text: &[u8],
+    from: usize,
+    modal: bool,
+) -> Result<(Source, usize), Stop>
+    requires { from ≤ length text.now }
+    ensures { IfOk result (λ r. HoldsFormula modal text.now from (the_source r.0) r.1) }
+{
+    let first = next_token(text, from)?;
+    let (source, stop) = read_tree(alloc, text, modal, 0, first)?;
+    if !is_stop(stop.terminal) {
+        return Err(Stop::NotThere);
+    }
+    Ok((source, stop.start))
+}
+
 /// The formula that begins with the first token at or after the place, and the offset of the token behind it. Modal
 /// operators may stand in it where `modal` says so.
 pub fn read_formula(
@@ -88,8 +114,13 @@ pub fn read_formula(
     ensures alone { IfSome (the_formula_reading result) (λ r. (other : Outcome (tree.Source × ℕ))
         → IsFormulaReading modal text.now from other → other ≡ r) }
 {
-    let stop = find_stop(alloc, text, from, modal)?;
-    let first = next_token(text, from)?;
-    let (source, _) = read_tree(alloc, text, first)?;
-    Ok((source, stop.start))
+    match build_formula(alloc, text, from, modal) {
+        Ok(r) => Ok(r),
+        Err(Stop::NoMemory) => Err(ReadFault::NoMemory),
+        Err(Stop::NotThere) => {
+            check_formula(alloc, text, from, modal)?;
+            // No text comes here: the readers find each formula that has no fault.
+            Err(ReadFault::NoMemory)
+        }
+    }
 }

@@ -1,9 +1,9 @@
-//! The second way over the tokens: terms. The first way has found the tokens in order, so what is not looked for here does
-//! not come; where it came, the answer would be want of memory. A term is no deeper than its nesting, so the recursion
-//! ends within 500 calls.
+//! Terms from tokens. Each reader tests the nesting of the place where its part begins, so the recursion ends within 500
+//! calls.
 
-ghost use Rattle.std.specs.Prelude.{◌≡◌, ◌<◌, ◌≤◌, ◌==◌, ◌∷◌, [], IfOk, Some, false, length};
+ghost use Rattle.std.specs.Prelude.{◌≡◌, ◌<◌, ◌≤◌, ◌==◌, ◌∷◌, [], IfOk, Some, true, false, length, suc};
 ghost use Rattle.tptp_reader.specs.Expecting as way;
+ghost use Rattle.tptp_reader.specs.Following.{is_shallow};
 ghost use Rattle.tptp_reader.specs.Pieces.{placed};
 ghost use Rattle.tptp_reader.specs.Standing.{ArgumentsRead, TermRead, word_in};
 ghost use Rattle.tptp_reader.specs.Terminals.{Follow};
@@ -12,12 +12,13 @@ ghost use Rattle.tptp_reader.specs.TerminalView.{the_terminal};
 use crate::expected::Fixed;
 use crate::moves::has_form;
 use crate::source::{SourceTerm, SourceTerms};
+use crate::stop::Stop;
 use crate::terminal::{Piece, Terminal, next_piece};
 use cop_base::{NoMemory, Text};
 use std::alloc::{AllocFailed, Global};
 
 /// The token at or after the place.
-pub fn next_token(text: &[u8], from: usize) -> Result<Piece<'_>, NoMemory>
+pub fn next_token(text: &[u8], from: usize) -> Result<Piece<'_>, Stop>
     requires { from ≤ length text.now }
     ensures next { IfOk result (λ q. Follow text.now from (placed q ∷ []) q.end) }
     ensures onward { IfOk result (λ q. from < q.end) }
@@ -25,8 +26,19 @@ pub fn next_token(text: &[u8], from: usize) -> Result<Piece<'_>, NoMemory>
 {
     match next_piece(text, from) {
         Ok(Some(piece)) => Ok(piece),
-        _ => Err(NoMemory),
+        _ => Err(Stop::NotThere),
     }
+}
+
+/// The nesting inside of a place with this nesting, which must not be too great.
+pub fn inside(depth: u32) -> Result<u32, Stop>
+    ensures inner { IfOk result (λ n. n ≡ suc depth) }
+    ensures shallow { IfOk result (λ _. is_shallow depth ≡ true) }
+{
+    if depth > 500 {
+        return Err(Stop::NotThere);
+    }
+    Ok(depth + 1)
 }
 
 // The characters between the quotes, without the `\` of pairs.
@@ -54,13 +66,13 @@ fn unquoted(alloc: Global, quoted: &[u8]) -> Result<Text, NoMemory>
 }
 
 /// The name that a word stands for.
-pub fn read_word(alloc: Global, x: Terminal) -> Result<Text, NoMemory>
+pub fn read_word(alloc: Global, x: Terminal) -> Result<Text, Stop>
     ensures { IfOk result (λ t. word_in (the_terminal x.entry) ≡ Some t) }
 {
     match x {
-        Terminal::Lower(word) => Text::new(alloc, word),
-        Terminal::Quoted(quoted) => unquoted(alloc, quoted),
-        _ => Err(NoMemory),
+        Terminal::Lower(word) => Ok(Text::new(alloc, word)?),
+        Terminal::Quoted(quoted) => Ok(unquoted(alloc, quoted)?),
+        _ => Err(Stop::NotThere),
     }
 }
 
@@ -68,20 +80,21 @@ pub fn read_word(alloc: Global, x: Terminal) -> Result<Text, NoMemory>
 pub fn read_term<'a>(
     alloc: Global,
     text: &'a [u8],
+    depth: u32,
     p: Piece<'a>,
-) -> Result<(SourceTerm, Piece<'a>), NoMemory>
+) -> Result<(SourceTerm, Piece<'a>), Stop>
     requires { p.end ≤ length text.now }
-    ensures read { IfOk result (TermRead text.now p.entry) }
+    ensures read { IfOk result (TermRead text.now depth p.entry) }
     ensures onward { IfOk result (λ r. p.entry.end < r.1.end) }
     ensures within { IfOk result (λ r. r.1.end ≤ length text.now) }
 {
+    inside(depth)?;
+    let next = next_token(text, p.end)?;
     if let Terminal::Upper(name) = p.terminal {
-        let next = next_token(text, p.end)?;
         let name = Text::new(alloc, name)?;
         return Ok((SourceTerm::Var(name), next));
     }
-    let next = next_token(text, p.end)?;
-    let (args, after) = read_arguments(alloc, text, next)?;
+    let (args, after) = read_arguments(alloc, text, depth, next)?;
     let name = read_word(alloc, p.terminal)?;
     Ok((SourceTerm::Fun(name, args), after))
 }
@@ -91,24 +104,29 @@ pub fn read_term<'a>(
 pub fn read_arguments<'a>(
     alloc: Global,
     text: &'a [u8],
+    depth: u32,
     p: Piece<'a>,
-) -> Result<(SourceTerms, Piece<'a>), NoMemory>
+) -> Result<(SourceTerms, Piece<'a>), Stop>
     requires { p.end ≤ length text.now }
-    ensures read { IfOk result (ArgumentsRead text.now p.entry) }
+    ensures read { IfOk result (ArgumentsRead text.now depth p.entry) }
     ensures onward { IfOk result (λ r. p.entry.end ≤ r.1.end) }
     ensures within { IfOk result (λ r. r.1.end ≤ length text.now) }
 {
-    let mut terms = SourceTerms::new(alloc);
     if !has_form(Fixed::Opening, p.terminal) {
-        return Ok((terms, p));
+        return Ok((SourceTerms::new(alloc), p));
     }
+    let inner = inside(depth)?;
     let mut here = next_token(text, p.end)?;
+    let mut terms = SourceTerms::new(alloc);
     loop {
-        let (term, next) = read_term(alloc, text, here)?;
+        let (term, next) = read_term(alloc, text, inner, here)?;
         terms.push(term)?;
         here = next_token(text, next.end)?;
-        if !has_form(Fixed::Comma, next.terminal) {
+        if has_form(Fixed::Closing, next.terminal) {
             return Ok((terms, here));
+        }
+        if !has_form(Fixed::Comma, next.terminal) {
+            return Err(Stop::NotThere);
         }
     }
 }

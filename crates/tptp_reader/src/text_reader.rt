@@ -2,21 +2,21 @@
 
 ghost use Rattle.std.specs.Prelude.{◌≡◌, IfOk, IfSome, List, false};
 ghost use Rattle.tptp_reader.specs.Answers.{the_reading};
-ghost use Rattle.tptp_reader.specs.ItemStanding.{ItemsRead};
-ghost use Rattle.tptp_reader.specs.Reading.{IsReading, Outcome};
+ghost use Rattle.tptp_reader.specs.Reading.{HoldsItems, IsReading, Outcome};
 ghost use Rattle.tptp_reader.specs.Sources as tree;
 
 use crate::checker::check_text;
 use crate::fault::ReadFault;
 use crate::item::ItemList;
 use crate::item_reader::read_item;
+use crate::stop::Stop;
 use crate::terminal::next_piece;
 use cop_base::NoMemory;
 use std::alloc::Global;
 
-// The items of a text that has been checked.
-fn build_items(alloc: Global, text: &[u8]) -> Result<ItemList, NoMemory>
-    ensures { IfOk result (ItemsRead text.now) }
+// The items of a text that has no fault.
+fn build_items(alloc: Global, text: &[u8], modal: bool) -> Result<ItemList, Stop>
+    ensures { IfOk result (λ items. HoldsItems modal text.now items) }
 {
     let mut items = ItemList::new(alloc);
     let mut place = 0;
@@ -24,9 +24,9 @@ fn build_items(alloc: Global, text: &[u8]) -> Result<ItemList, NoMemory>
         let first = match next_piece(text, place) {
             Ok(Some(piece)) => piece,
             Ok(None) => return Ok(items),
-            Err(_) => return Ok(items),
+            Err(_) => return Err(Stop::NotThere),
         };
-        let (item, dot) = read_item(alloc, text, first)?;
+        let (item, dot) = read_item(alloc, text, modal, first)?;
         items.push(item)?;
         place = dot.end;
     }
@@ -37,9 +37,15 @@ pub fn read_text(alloc: Global, text: &[u8], modal: bool) -> Result<ItemList, Re
     ensures reading { IfSome (the_reading result) (λ r. IsReading modal text.now r) }
     ensures alone { IfSome (the_reading result) (λ r. (other : Outcome (List tree.Item)) → IsReading modal text.now other → other ≡ r) }
 {
-    check_text(alloc, text, modal)?;
-    let items = build_items(alloc, text)?;
-    Ok(items)
+    match build_items(alloc, text, modal) {
+        Ok(items) => Ok(items),
+        Err(Stop::NoMemory) => Err(ReadFault::NoMemory),
+        Err(Stop::NotThere) => {
+            check_text(alloc, text, modal)?;
+            // No text comes here: the readers find the items of each text that has no fault.
+            Err(ReadFault::NoMemory)
+        }
+    }
 }
 
 /// The items of a text of a problem that is classical or intuitionistic.

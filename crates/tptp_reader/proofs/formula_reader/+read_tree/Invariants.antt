@@ -38,7 +38,7 @@ decreases-read_chain l = 3 * (length l.text.now - l.sign.end) + 2
 
 abbrev pub invariant-read_chain-loop-units : goal.invariant-read_chain-loop-units
 invariant-read_chain-loop-units l = record {
-  read : ChainUpTo l.text l.kind (the_source l.fn.first) l.sign l.units l.here;
+  read : ChainUpTo l.modal l.text l.depth l.kind (the_source l.fn.first) l.sign l.units l.here;
   onward : l.sign.end ≤ l.here.end;
   within : l.here.end ≤ length l.text;
 }

@@ -5,7 +5,7 @@ use Rattle.tptp_reader.proofs.formula_reader.read_right.Goals as goal
 
 pub returns-clause-read : goal.returns-clause-read
 returns-clause-read c =
-    IfOk-weaker c.read_term.result (TermRead c.args.text.now c.in_ok-start.start) (RightRead c.args.text.now c.args.sign)
+    IfOk-weaker c.read_term.result (TermRead c.args.text.now c.args.depth c.in_ok-start.start) (RightRead c.args.text.now c.args.depth c.args.sign)
     (λ r h. (c.in_ok-start.start, c.in_ok-start.ensures.next, h))
     c.read_term.ensures.read
 

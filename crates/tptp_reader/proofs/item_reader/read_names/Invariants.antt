@@ -1,11 +1,11 @@
-use Rattle.std.proofs.Common.{◌≤◌, ◌-◌, length}
-use Rattle.tptp_reader.specs.ItemStanding.{NamesUpTo}
+use Rattle.std.proofs.Common.{◌<◌, ◌≤◌, ◌-◌, length}
+use Rattle.tptp_reader.specs.ItemStanding.{NamesRead}
 use Rattle.tptp_reader.proofs.item_reader.read_names.Given as goal
 
 abbrev pub invariant-names : goal.invariant-names
 invariant-names l = record {
-  read : NamesUpTo l.text l.p l.names l.here;
-  onward : l.p.end ≤ l.here.end;
+  read : NamesRead l.text l.p (l.names, l.here);
+  onward : l.p.end < l.here.end;
   within : l.here.end ≤ length l.text;
 }
 

@@ -6,8 +6,12 @@ use Rattle.tptp_reader.proofs.item_reader.read_rest.Goals as goal
 
 pub returns-clause-read : goal.returns-clause-read
 returns-clause-read c =
-    IfOk-weaker c.ended.result (λ r. (the_source r.0 ≡ the_source c.in_ok-source.source) × EndRead c.args.text.now c.in_ok-source.after r.1) (RestRead c.args.text.now c.args.kind c.args.p)
-    (λ r h. (c.in_ok-source.after, (λ b f ts whole to a l. let d = c.in_ok-source.ensures.read b f ts whole to a l in (h.0 ∙ d.0, d.1)), h.1))
+    IfOk-weaker c.ended.result (λ r. (the_source r.0 ≡ the_source c.in_ok-source.source) × EndRead c.args.text.now c.in_ok-source.after r.1) (RestRead c.args.modal c.args.kind c.args.text.now c.args.p)
+    (λ r h. let d = c.in_ok-source.ensures.read in record {
+      after = c.in_ok-source.after;
+      body = record { body = d.body; value = h.0 ∙ d.value; stands = d.stands; fits = d.fits; shallow = d.shallow };
+      rest = h.1;
+    })
     c.ended.ensures.read
 
 pub returns-clause-onward : goal.returns-clause-onward

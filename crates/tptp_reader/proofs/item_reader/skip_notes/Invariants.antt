@@ -1,11 +1,12 @@
-use Rattle.std.proofs.Common.{◌<◌, ◌≤◌, ◌-◌, length}
+use Rattle.std.proofs.Common.{◌≤◌, ◌-◌, length}
+use Rattle.std.specs.Prelude.{reverse}
 use Rattle.tptp_reader.specs.ItemStanding.{NotesUpTo}
 use Rattle.tptp_reader.proofs.item_reader.skip_notes.Given as goal
 
 abbrev pub invariant-notes : goal.invariant-notes
 invariant-notes l = record {
-  read : NotesUpTo l.text l.p l.depth l.here;
-  onward : l.p.end < l.here.end;
+  read : NotesUpTo l.text l.p (reverse l.waiting.items) l.here;
+  onward : l.p.end ≤ l.here.end;
   within : l.here.end ≤ length l.text;
 }
 

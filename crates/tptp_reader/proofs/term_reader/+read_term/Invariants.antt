@@ -10,7 +10,7 @@ decreases-read_term l = length l.text.now - l.p.end
 
 abbrev pub invariant-read_arguments-loop-terms : goal.invariant-read_arguments-loop-terms
 invariant-read_arguments-loop-terms l = record {
-  read : ArgumentsUpTo l.text l.p l.terms l.here;
+  read : ArgumentsUpTo l.text l.depth l.p l.terms l.here;
   onward : l.p.end < l.here.end;
   within : l.here.end ≤ length l.text;
 }

@@ -1,0 +1,20 @@
+use Rattle.std.proofs.Common.{◌∷◌, [], ◌<◌, refl, sym, ◌∙◌, arith}
+use Rattle.std.proofs.lemmas.Result.{IfOk-weaker}
+use Rattle.tptp_reader.specs.Pieces.{placed}
+use Rattle.tptp_reader.specs.Spans.{Span}
+use Rattle.tptp_reader.specs.Terminals.{Follow, open_square}
+use Rattle.tptp_reader.specs.TerminalView.{the_terminal}
+use Rattle.tptp_reader.proofs.SpanLaws.{span-one, span-more, square-is}
+use Rattle.tptp_reader.proofs.formula_reader.behind_square.Goals as goal
+
+pub returns-clause-read : goal.returns-clause-read
+returns-clause-read c =
+    IfOk-weaker c.next_token-2.result (λ q. Follow c.args.text.now c.in_ok-square.square.end (placed q ∷ []) q.end) (Span c.args.text.now c.args.p (the_terminal c.args.p.terminal ∷ open_square ∷ []))
+    (λ q h. span-more refl c.in_ok-square.ensures.next (span-one (square-is (the_terminal c.in_ok-square.square.terminal) (sym c.has_form.ensures ∙ c.if-not-has_form.false)) h))
+    c.next_token-2.ensures.next
+
+pub returns-clause-onward : goal.returns-clause-onward
+returns-clause-onward c =
+    IfOk-weaker c.next_token-2.result (λ q. c.in_ok-square.square.end < q.end) (λ q. c.args.p.end < q.end)
+    (λ q h. omega (arith, h, c.in_ok-square.ensures.onward))
+    c.next_token-2.ensures.onward

@@ -1,5 +1,0 @@
-use Rattle.std.proofs.Common.{refl}
-use Rattle.tptp_reader.proofs.formula_reader.followed.Goals as goal
-
-pub returns-clause-read : goal.returns-clause-read
-returns-clause-read c = (refl, c.in_ok-after.ensures.next)
