@@ -18,6 +18,7 @@ use Rattle.tptp_reader.proofs.StackLaws.{Above, above-step, behind_body, items-n
 use Rattle.tptp_reader.proofs.Deciding.{stop-goes}
 use Rattle.tptp_reader.proofs.LiftLaws.{SameStep, same-step}
 use Rattle.tptp_reader.proofs.RunLaws.{run-behind, run-join, single-run}
+use Rattle.tptp_reader.proofs.SpanLaws.{opening-is, comma-is}
 use Rattle.tptp_reader.specs.Following.{place_now}
 
 -- ---- one step
@@ -28,14 +29,6 @@ this-step modal k d es x r e = by (form x == form_of k) refl e
     by : (b : Bool) → (form x == form_of k) ≡ b → moved (this_move b d) false es (step modal es x) ≡ Some r → (r.1 ≡ es) × ((form x == form_of k) ≡ true)
     by true h z = (ap (λ p. p.1) (sym (some-is z)), h)
     by false h z = absurd (none-some z)
-
-opening-is : (x : Terminal) → (form x == 0) ≡ true → x ≡ open_round
-opening-is open_round h = refl
-opening-is _ h = absurd (false≢true h)
-
-comma-is : (x : Terminal) → (form x == 14) ≡ true → x ≡ comma
-comma-is comma h = refl
-comma-is _ h = absurd (false≢true h)
 
 lower-is : (x : Terminal) → (form x == 20) ≡ true → (w : List ℕ) × (x ≡ lower w)
 lower-is (lower w) h = (w, refl)

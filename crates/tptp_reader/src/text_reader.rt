@@ -11,7 +11,6 @@ use crate::item::ItemList;
 use crate::item_reader::read_item;
 use crate::stop::Stop;
 use crate::terminal::next_piece;
-use cop_base::NoMemory;
 use std::alloc::Global;
 
 // The items of a text that has no fault.
