@@ -102,7 +102,7 @@ impl Labels {
         ensures within { result < length self.now }
         ensures root { get_or self.now result [] ≡ [] }
     {
-        let _links_of_others = &self.links;
+        let _read_for_its_invariant = &self.links;
         0
     }
 
@@ -236,7 +236,7 @@ impl Labels {
         ensures { result
             ≡ list_eq character_eq (get_or self.now first []) (get_or self.now second []) }
     {
-        let _links_of_others = &self.links;
+        let _read_for_its_invariant = &self.links;
         first == second
     }
 

@@ -74,7 +74,7 @@ impl<'a> RowSet<'a> {
         ensures { (t u : tree.Term) → IsNumberOf self.now first t → IsNumberOf self.now second u
             → result ≡ term_eq t u }
     {
-        let _rows_of_others = &self.rows;
+        let _read_for_its_invariant = &self.rows;
         first == second
     }
 }

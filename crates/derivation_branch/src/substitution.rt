@@ -173,7 +173,7 @@ impl<'a> Substitutions<'a> {
         ensures closed { AreClosed (get_or self.now place []) }
         ensures first { get_or self.now 0 [] ≡ [] }
     {
-        let _bindings_of_others = &self.bindings;
+        let _read_for_its_invariant = &self.bindings;
         let (at, left) = self.binding_of(place, variable);
         self.value_here(at, left)
     }
@@ -213,7 +213,7 @@ impl<'a> Substitutions<'a> {
         ensures closed { AreClosed (get_or self.now place []) }
         ensures other_closed { AreClosed (get_or self.now other_place []) }
     {
-        let _bindings_of_others = &self.bindings;
+        let _read_for_its_invariant = &self.bindings;
         let (at, left) = self.binding_of(place, variable);
         let (other_at, other_left) = self.binding_of(other_place, other);
         match self.are_equal_numbers(at, other_at) {
