@@ -34,16 +34,12 @@ pub mod ClassicalSteps
 pub mod ChoiceLaws
 -- the loop
 pub mod SearchSteps
-pub mod StackLaws
-pub mod SameLaws
 -- examples that compute
 mod TemplateExamples
 pub mod MatrixStart
 -- lists without open goals
 pub mod WholeLaws
 -- labels
-pub mod LabelLaws
-pub mod BuiltClassical
 pub mod DistinctLaws
 pub mod AtomLaws
 pub mod SolvingLaws
@@ -59,16 +55,12 @@ pub mod AdmittedLaws
 pub mod LabelledEnd
 pub mod LeftLabels
 pub mod PruningLaws
-pub mod CoverLaws
-pub mod LookLaws
 pub mod HomeLaws
 pub mod HomeRanks
 pub mod OwnHomes
 pub mod NeedRanks
 pub mod SystemCells
 pub mod KeepingLaws
-pub mod LengthsLaws
-mod LengthsExamples
 pub mod LabelledBuilt
 pub mod TemplateSorts
 pub mod ProperPatterns

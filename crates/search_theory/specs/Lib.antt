@@ -24,5 +24,3 @@ pub mod RightPatterns
 -- early pruning
 pub mod Pruning
 pub mod HomeCells
--- lists of lengths
-pub mod Lengths
