@@ -1,6 +1,6 @@
 //! Formulas and terms as they are written.
 
-ghost use Rattle.std.specs.Prelude.{◌≡◌, ◌++◌, ◌∷◌, [], IfOk, IfSome, OnOk, OnErr, map};
+ghost use Rattle.std.specs.Prelude.{◌≡◌, ◌++◌, ◌∷◌, [], IfOk, OnOk, OnErr, map};
 ghost use Rattle.tptp_reader.specs.SourceView.{the_source};
 ghost use Rattle.tptp_reader.specs.TermView.{the_source_term};
 
@@ -240,13 +240,6 @@ impl SourceList {
         }
         self.items.push(item)?;
         Ok(())
-    }
-
-    /// Takes the last formula off.
-    pub fn pop(&mut self) -> Option<Source>
-        ensures some { IfSome result (λ s. self.old ≡ self.new ++ the_source s ∷ []) }
-    {
-        self.items.pop()
     }
 
     pub fn items(&self) -> &[Source]
