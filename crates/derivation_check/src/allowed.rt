@@ -25,8 +25,8 @@ pub fn home_is(labels: &Labels, homes: &Homes, at: u32, term: &RowArg) -> bool
         → result ≡ home_is names (get_or labels.now at []) (the_row_arg term.now) }
 {
     match term {
-        RowArg::Name(number) => match homes.eigens.get(number) {
-            Some(home) => labels.are_equal(*home, at),
+        RowArg::Name(number) => match homes.eigen(*number) {
+            Some(home) => labels.are_equal(home, at),
             None => false,
         },
         RowArg::None | RowArg::Term(_) => true,
@@ -46,8 +46,8 @@ fn is_forbidden_eigen(
     ensures { result ≡ is_forbidden_at problem.now labels.now homes.now (get_or labels.now at [])
         (tree.eigen number) }
 {
-    match homes.eigens.get(&number) {
-        Some(home) => !is_home_at(labels, problem.setting().domains(), *home, at),
+    match homes.eigen(number) {
+        Some(home) => !is_home_at(labels, problem.setting().domains(), home, at),
         None => true,
     }
 }

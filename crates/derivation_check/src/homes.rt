@@ -1,6 +1,7 @@
 //! The homes of names as places of the table of labels.
 
-ghost use Rattle.std.specs.Prelude.{◌≡◌, [], IfOk, OnOk, map};
+ghost use Rattle.indexmap.specs.IndexMap.{get};
+ghost use Rattle.std.specs.Prelude.{◌≡◌, [], IfOk, OnOk, map, nat_eq};
 ghost use Rattle.derivation_branch.specs.Occurring.{IsLonger};
 ghost use Rattle.derivation_check.specs.HomesView.{AreEigenHomes, AreHomes, AreSpareHomes};
 ghost use Rattle.derivation_check.specs.HomesView.{IsSpareHome};
@@ -92,5 +93,23 @@ impl Homes {
         add_eigens(labels, &mut eigens, names.eigens.items())?;
         add_spares(labels, &mut spares, names.spares.items())?;
         Ok(Homes { eigens, spares })
+    }
+
+    /// The place of the home of a listed eigenvariable.
+    pub fn eigen(&self, number: u32) -> Option<u32>
+        ensures { result ≡ get nat_eq self.now.eigens number }
+    {
+        // Most texts number their names from 1 on, and the table begins with the last one. So the
+        // place of the entry is known, and no hash is needed.
+        let place = self.eigens.len().wrapping_sub(number as usize);
+        if let Some((key, home)) = self.eigens.get_index(place) {
+            if *key == number {
+                return Some(*home);
+            }
+        }
+        match self.eigens.get(&number) {
+            Some(home) => Some(*home),
+            None => None,
+        }
     }
 }

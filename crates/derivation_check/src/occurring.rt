@@ -124,8 +124,8 @@ fn add_home_of_eigen(
     if !has_eigen_marks(names, number) {
         return Ok(());
     }
-    match homes.eigens.get(&number) {
-        Some(home) => add_home(labels, told, marks, at, *home),
+    match homes.eigen(number) {
+        Some(home) => add_home(labels, told, marks, at, home),
         None => Ok(()),
     }
 }
