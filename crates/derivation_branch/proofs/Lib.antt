@@ -3,6 +3,7 @@ pub mod ChainLaws
 pub mod PuttingLaws
 pub mod TableLaws
 pub mod NumberLaws
+pub mod RisingLaws
 pub mod LabelLaws
 pub mod BeginningLaws
 pub mod UnderLaws

@@ -50,7 +50,10 @@ fn keeps_numbers(rt: HostRuntime) -> Result<(), Fail> {
     let mut set = NumberSet::new(alloc);
     set.add(3)?;
     add_eigens(&mut set, &row_of(alloc, &Term::Eigen(5))?)?;
-    assert!(rt; set.holds(5));
+    set.add(4)?;
+    assert!(rt; set.holds(4) && set.holds(5));
+    set.cut(2);
+    assert!(rt; set.holds(5) && !set.holds(4));
     set.cut(1);
     assert!(rt; set.holds(3) && !set.holds(5));
     let outline = Outline::new(alloc, &quantified(alloc)?)?;
