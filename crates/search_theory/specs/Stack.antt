@@ -1,19 +1,14 @@
--- The explicit stack of a search: the choices of each goal in order, the choice points, and the lists that are pending on them.
-use Rattle.std.specs.Prelude.{◌≡◌, ℕ, suc, ◌≤◌, List, [], ◌∷◌, ◌++◌, length, Bool, ⊤, not, ◌&&◌, ◌==◌, Option, Some, None, slice_get, nat_lt, if◌then◌else◌}
-use Rattle.std.specs.List.{AllByRecursion}
+-- The choices of each goal in order, as the stack of a search has them.
+use Rattle.std.specs.Prelude.{ℕ, suc, List, [], ◌∷◌, ◌++◌, length, Bool, not, ◌&&◌, ◌==◌, Option, Some, None, slice_get, nat_lt, if◌then◌else◌}
 use Rattle.calculus.specs.declared.sign.Sign.{Sign}
 use Rattle.calculus.specs.declared.sign.Side.{Side}
 use Rattle.calculus.specs.Equality.{sign_eq}
 use Rattle.calculus.specs.Kinds.{other}
 use Rattle.calculus.specs.Choices.{Choice, reduction, extension}
-use Rattle.calculus.specs.Syntax.{Problem}
-use Rattle.calculus.specs.Stores.{Store, TrailMark, cut_at, IsGood}
 use Rattle.calculus.specs.Systems.{CellAtom}
 use Rattle.calculus.specs.Patterns.{PatternAtom}
-use Rattle.calculus.specs.Bindings.{IsEarlier}
 use Rattle.search_theory.specs.Matrix.{MatrixClause, MatrixPlace, is_about}
-use Rattle.search_theory.specs.States.{CellGoal, State, IsStateOf}
-use Rattle.search_theory.specs.Exploring.{behind}
+use Rattle.search_theory.specs.States.{CellGoal}
 
 -- the same symbol with the other sign
 abbrev pub meets : CellAtom → CellAtom → Bool
@@ -45,35 +40,3 @@ extension_at m p = extension (selection_of (slice_get m p.clause)) p.literal
 -- the choices of a goal within the limit d, in their order
 abbrev pub choices_at : List MatrixClause → ℕ → CellGoal → List Choice
 choices_at m d g = reductions_from 1 g.literal g.path ++ (if nat_lt (length g.path) d then extensions g.literal.symbol (other g.literal.sign) m else [])
-
--- a choice point: a list with an open goal, and the choices of the goal that were not tried yet
-pub record ChoicePoint : Type 0 where
-  pub choices : List Choice
-  pub untried : List Choice
-
--- what is pending on a stack, the top first
-abbrev pub pending_on : List ChoicePoint → List (List Choice)
-pending_on [] = []
-pending_on (p ∷ ps) = behind p.choices p.untried ++ pending_on ps
-
--- ---- what a stack keeps while one store goes on
-
--- a choice point with the state in which it was made, and the mark of the store at that time
-pub record SavedPoint : Type 0 where
-  pub point : ChoicePoint
-  pub state : State
-  pub mark : TrailMark
-
--- cutting the store back to the mark gives the state's store
-pub record IsSaved (P : Problem) (d : ℕ) (store : Store) (saved : SavedPoint) : Type 0 where
-  pub good : IsGood saved.mark store
-  pub cut : cut_at saved.mark store ≡ saved.state.store
-  pub state : IsStateOf P d saved.point.choices saved.state
-
-abbrev pub AreSaved : Problem → ℕ → Store → List SavedPoint → Type 0
-AreSaved P d store ps = AllByRecursion (IsSaved P d store) ps
-
--- the marks rise from the bottom of the stack to its top
-abbrev pub MarksRise : List SavedPoint → Type 0
-MarksRise [] = ⊤
-MarksRise (p ∷ ps) = AllByRecursion (λ (q : SavedPoint). IsEarlier q.mark p.mark) ps × MarksRise ps
