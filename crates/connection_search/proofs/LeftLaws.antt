@@ -8,7 +8,7 @@ use Rattle.calculus.specs.declared.sign.Side.{Side}
 use Rattle.calculus.specs.Systems.{CellAtom}
 use Rattle.search_theory.specs.Exploring.{IsIn}
 use Rattle.search_theory.specs.Goals.{IsChoiceAt}
-use Rattle.search_theory.specs.Stack.{extensions, meets, reductions_from}
+use Rattle.search_theory.specs.OrderedChoices.{extensions, meets, reductions_from}
 use Rattle.search_theory.proofs.BeginningLaws.{IsDead}
 use Rattle.search_theory.proofs.ChoiceLaws.{choices-complete}
 use Rattle.calculus.specs.Stores.{Store, cut_at}

@@ -15,7 +15,7 @@ use Rattle.calculus.specs.Templates.{IsTemplateOf}
 use Rattle.calculus.proofs.PlaceLists.{get-within}
 use Rattle.search_theory.specs.Matrix.{MatrixClause, MatrixPlace, all_shown}
 use Rattle.search_theory.specs.Regular.{HasNoSamePair, IsNewGoal}
-use Rattle.search_theory.specs.Stack.{extension_at, selection_of}
+use Rattle.search_theory.specs.OrderedChoices.{extension_at, selection_of}
 use Rattle.search_theory.specs.StateSystems.{extended_system, reduced_system, started_system, string_cells}
 use Rattle.search_theory.specs.States.{CellChoice, CellGoal, CellGrowth, cell_goals_on, extended, goal_is_below, new_cell_goals, reduced, started}
 use Rattle.search_theory.specs.Steps.{AreUnified, Clash}

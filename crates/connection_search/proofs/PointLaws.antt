@@ -13,7 +13,7 @@ use Rattle.matrix_build.specs.MatrixView.{the_place}
 use Rattle.matrix_build.specs.declared.index.Place.{Place}
 use Rattle.calculus.specs.Systems.{CellAtom}
 use Rattle.search_theory.specs.Matrix.{MatrixClause, MatrixPlace, places}
-use Rattle.search_theory.specs.Stack.{choices_at, extension_at, extensions, meets, reductions_from}
+use Rattle.search_theory.specs.OrderedChoices.{choices_at, extension_at, extensions, meets, reductions_from}
 use Rattle.search_theory.specs.States.{CellGoal}
 use Rattle.search_theory.proofs.ChoiceLaws.{extensions-by_index}
 use Rattle.connection_search.specs.Points.{HasExtensions, HasUntried, IsMoveAt, IsNextAncestor, IsPoint, the_move}

@@ -16,7 +16,7 @@ use Rattle.search_theory.proofs.SearchSteps.{search-dead, search-ended}
 use Rattle.search_theory.specs.Exploring.{behind}
 use Rattle.search_theory.specs.Matrix.{IsTemplateMatrix, MatrixClause, all_shown}
 use Rattle.search_theory.specs.Searching.{IsSearch}
-use Rattle.search_theory.specs.Stack.{selection_of}
+use Rattle.search_theory.specs.OrderedChoices.{selection_of}
 use Rattle.term_store.specs.Room.{KeepsRoom, TermStore, spare}
 use Rattle.connection_search.proofs.Places.{drop-end, drop-there, item-there}
 use Rattle.connection_search.proofs.RunningLaws.{clause-at}

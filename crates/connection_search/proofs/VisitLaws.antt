@@ -12,7 +12,7 @@ use Rattle.calculus.proofs.StoreLaws.{length-bound}
 use Rattle.search_theory.specs.Exploring.{behind}
 use Rattle.search_theory.specs.Matrix.{MatrixClause}
 use Rattle.search_theory.specs.Searching.{IsSearch}
-use Rattle.search_theory.specs.Stack.{choices_at}
+use Rattle.search_theory.specs.OrderedChoices.{choices_at}
 use Rattle.search_theory.specs.States.{CellGoal}
 use Rattle.search_theory.proofs.BeginningLaws.{IsDead}
 use Rattle.search_theory.proofs.SearchSteps.{search-dead, search-left, search-visit}

@@ -6,7 +6,7 @@ use Rattle.calculus.specs.Stores.{IsGood, Store, cut_at}
 use Rattle.calculus.specs.Syntax.{Problem}
 use Rattle.matrix_build.specs.MatrixView.{the_place}
 use Rattle.search_theory.specs.Matrix.{MatrixClause, places}
-use Rattle.search_theory.specs.Stack.{extension_at, reductions_from}
+use Rattle.search_theory.specs.OrderedChoices.{extension_at, reductions_from}
 use Rattle.search_theory.specs.States.{CellGoal}
 use Rattle.term_store.specs.StoreView.{the_mark}
 use Rattle.connection_search.specs.Running.{ExtendsBy, IsAtGoal, ReducesBy}

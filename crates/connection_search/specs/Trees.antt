@@ -7,7 +7,7 @@ use Rattle.calculus.specs.Choices.{start, reduction, extension}
 use Rattle.calculus.specs.Stores.{GammaCell}
 use Rattle.calculus.specs.Systems.{CellAtom, Equation, System}
 use Rattle.search_theory.specs.Matrix.{MatrixClause}
-use Rattle.search_theory.specs.Stack.{selection_of}
+use Rattle.search_theory.specs.OrderedChoices.{selection_of}
 use Rattle.search_theory.specs.StateSystems.{pairs_of, string_cells}
 use Rattle.search_theory.specs.States.{CellClause, CellChoice, CellGoal, CellGrowth}
 use Rattle.term_store.specs.ClauseView.{the_atom}

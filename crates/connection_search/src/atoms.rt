@@ -13,7 +13,7 @@ ghost use Rattle.connection_search.specs.NewBindings.{IsClosedBelow};
 ghost use Rattle.connection_search.specs.OwnStores.{AreOwn};
 ghost use Rattle.search_theory.proofs.AtomLaws.{IsAtomIn};
 ghost use Rattle.search_theory.specs.Regular.{AreSame};
-ghost use Rattle.search_theory.specs.Stack as stack;
+ghost use Rattle.search_theory.specs.OrderedChoices as choices;
 ghost use Rattle.search_theory.specs.States.{atom_is_below};
 ghost use Rattle.search_theory.specs.Steps.{AreUnified, Clash};
 ghost use Rattle.term_store.specs.ClauseView.{the_atom};
@@ -46,7 +46,7 @@ pub(crate) fn other(sign: Sign) -> Sign
 
 /// Whether symbol and signs let the two be connected.
 pub(crate) fn meets(goal: &CellAtom, atom: &CellAtom) -> bool
-    ensures { result ≡ stack.meets (the_atom goal.now) (the_atom atom.now) }
+    ensures { result ≡ choices.meets (the_atom goal.now) (the_atom atom.now) }
 {
     !are_same_sign(goal.sign, atom.sign) && goal.symbol.0 == atom.symbol.0
 }

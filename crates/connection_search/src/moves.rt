@@ -10,7 +10,7 @@ ghost use Rattle.matrix_build.specs.MatrixView.{the_place};
 ghost use Rattle.search_theory.proofs.BeginningLaws.{IsDead};
 ghost use Rattle.search_theory.specs.Matrix.{MatrixClause, all_shown};
 ghost use Rattle.search_theory.specs.Regular.{HasNoSamePair};
-ghost use Rattle.search_theory.specs.Stack.{extension_at, selection_of};
+ghost use Rattle.search_theory.specs.OrderedChoices.{extension_at, selection_of};
 ghost use Rattle.search_theory.specs.States.{CellChoice, CellGoal, CellGrowth};
 ghost use Rattle.term_store.specs.Room.{KeepsRoom};
 ghost use Rattle.connection_search.specs.Points.{IsMoveAt, the_move};

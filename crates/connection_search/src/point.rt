@@ -9,7 +9,7 @@ ghost use Rattle.calculus.specs.Kinds as kinds;
 ghost use Rattle.calculus.specs.Stores.{IsGood, cut_at};
 ghost use Rattle.calculus.specs.Syntax.{Problem};
 ghost use Rattle.matrix_build.specs.MatrixView.{the_place};
-ghost use Rattle.search_theory.specs.Stack.{choices_at, extension_at, extensions};
+ghost use Rattle.search_theory.specs.OrderedChoices.{choices_at, extension_at, extensions};
 ghost use Rattle.search_theory.specs.States.{CellGoal};
 ghost use Rattle.term_store.specs.StoreView.{the_mark};
 ghost use Rattle.term_store.specs.Room.{KeepsRoom};

@@ -7,7 +7,7 @@ ghost use Rattle.calculus.specs.Choices.{Choice, start};
 ghost use Rattle.calculus.specs.Counting.{AtLeastMany, MoreThan};
 ghost use Rattle.calculus.specs.Space.{IsEarly, member_cmp};
 ghost use Rattle.search_theory.specs.Matrix.{IsTemplateMatrix};
-ghost use Rattle.search_theory.specs.Stack.{selection_of};
+ghost use Rattle.search_theory.specs.OrderedChoices.{selection_of};
 ghost use Rattle.term_store.specs.Room.{KeepsRoom, spare};
 ghost use Rattle.connection_search.specs.Exploring.{IfOn, IsCounted, IsEnd, IsSearched};
 ghost use Rattle.connection_search.specs.Exploring.{IsSpace, IsVisiting};

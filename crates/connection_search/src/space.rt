@@ -9,7 +9,7 @@ ghost use Rattle.calculus.specs.Syntax.{Problem};
 ghost use Rattle.matrix_build.specs.MatrixView.{the_place};
 ghost use Rattle.search_theory.proofs.BeginningLaws.{IsDead};
 ghost use Rattle.search_theory.specs.Goals.{IsChoiceAt};
-ghost use Rattle.search_theory.specs.Stack.{extension_at};
+ghost use Rattle.search_theory.specs.OrderedChoices.{extension_at};
 ghost use Rattle.search_theory.specs.States.{CellGoal};
 ghost use Rattle.term_store.specs.Room.{KeepsRoom};
 ghost use Rattle.connection_search.specs.Points.{IsHere};

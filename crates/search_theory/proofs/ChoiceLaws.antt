@@ -24,7 +24,7 @@ use Rattle.search_theory.specs.States.{CellGoal}
 use Rattle.search_theory.specs.Matrix.{MatrixClause, IsTemplateMatrix, is_about, places_among, clause_places, places}
 use Rattle.search_theory.specs.Goals.{IsChoiceAt, by_ancestor, by_clause}
 use Rattle.search_theory.specs.Exploring.{IsIn}
-use Rattle.search_theory.specs.Stack.{meets, reductions_from, extensions_among, extensions, selection_of, extension_at, choices_at}
+use Rattle.search_theory.specs.OrderedChoices.{meets, reductions_from, extensions_among, extensions, selection_of, extension_at, choices_at}
 use Rattle.search_theory.proofs.Dropping.{drop-next}
 
 -- ---- lists

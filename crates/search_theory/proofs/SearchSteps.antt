@@ -11,7 +11,7 @@ use Rattle.calculus.specs.Stores.{Store}
 use Rattle.search_theory.specs.States.{CellChoice, CellGoal, IsStateOf}
 use Rattle.search_theory.specs.Matrix.{MatrixClause, IsTemplateMatrix}
 use Rattle.search_theory.specs.Goals.{IsChoiceAt}
-use Rattle.search_theory.specs.Stack.{choices_at}
+use Rattle.search_theory.specs.OrderedChoices.{choices_at}
 use Rattle.search_theory.specs.Exploring.{IsLeftList, behind, IsIn}
 use Rattle.search_theory.specs.Searching.{IsSearch}
 use Rattle.search_theory.proofs.ExtensionLaws.{state_at}

@@ -11,8 +11,8 @@ pub mod Matrix
 pub mod Goals
 -- the template of a selection, computed
 pub mod TemplateOf
--- the explicit stack
-pub mod Stack
+-- those choices in their order
+pub mod OrderedChoices
 -- the loop's invariant
 pub mod Searching
 -- solving systems

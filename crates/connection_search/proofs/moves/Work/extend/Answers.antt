@@ -1,5 +1,5 @@
 use Rattle.std.proofs.Common.{arith, ◌++◌, ◌∷◌, [], length, map, sym, subst}
-use Rattle.search_theory.specs.Stack.{extension_at}
+use Rattle.search_theory.specs.OrderedChoices.{extension_at}
 use Rattle.term_store.specs.ClauseView.{the_atom, the_pattern_atom}
 use Rattle.term_store.specs.RefView.{the_place, the_places}
 use Rattle.term_store.specs.TemplateView.{the_clause, the_template}

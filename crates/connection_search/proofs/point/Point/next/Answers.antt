@@ -1,6 +1,6 @@
 use Rattle.std.proofs.Common.{◌∙◌, subst, sym}
 use Rattle.matrix_build.specs.MatrixView.{the_place}
-use Rattle.search_theory.specs.Stack.{extension_at}
+use Rattle.search_theory.specs.OrderedChoices.{extension_at}
 use Rattle.connection_search.specs.Points.{IsNextAncestor}
 use Rattle.connection_search.specs.Trees.{IsGoalAt}
 use Rattle.connection_search.proofs.PointLaws.{ancestor-falls, extension-falls, extensions-moved, untried-extension, untried-step}

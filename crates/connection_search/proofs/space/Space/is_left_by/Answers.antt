@@ -2,7 +2,7 @@ use Rattle.std.proofs.Common.{◌++◌, ◌∷◌, [], ◌+◌, ◌∙◌, lengt
 use Rattle.calculus.specs.Bindings.{KeepsMarks}
 use Rattle.calculus.proofs.BindingLaws.{KeepsMarks-same}
 use Rattle.matrix_build.specs.MatrixView.{the_place}
-use Rattle.search_theory.specs.Stack.{extension_at}
+use Rattle.search_theory.specs.OrderedChoices.{extension_at}
 use Rattle.term_store.specs.StoreView.{the_mark}
 use Rattle.connection_search.proofs.LeftLaws.{back-list, back-store, left-by_tree}
 use Rattle.connection_search.proofs.space.Space.is_left_by.Goals as goal

@@ -1,7 +1,7 @@
 use Rattle.std.proofs.Common.{[], ◌∷◌, ◌∙◌, Some, ap, length, refl, slice_get}
 use Rattle.calculus.proofs.BindingLaws.{KeepsMarks-both, KeepsMarks-same}
 use Rattle.calculus.specs.Choices.{start}
-use Rattle.search_theory.specs.Stack.{selection_of}
+use Rattle.search_theory.specs.OrderedChoices.{selection_of}
 use Rattle.term_store.specs.StoreView.{the_mark}
 use Rattle.connection_search.proofs.SearchedLaws.{SearchesList, SearchesTree, back-again, marks-of_same, on-map, room-both, searched-refused, visiting-first}
 use Rattle.connection_search.proofs.SpentLaws.{counted}

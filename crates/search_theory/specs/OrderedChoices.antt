@@ -1,4 +1,4 @@
--- The choices of each goal in order, as the stack of a search has them.
+-- The choices of each goal in their order: its reductions from the parent on, and then its extensions as the matrix has them.
 use Rattle.std.specs.Prelude.{ℕ, suc, List, [], ◌∷◌, ◌++◌, length, Bool, not, ◌&&◌, ◌==◌, Option, Some, None, slice_get, nat_lt, if◌then◌else◌}
 use Rattle.calculus.specs.declared.sign.Sign.{Sign}
 use Rattle.calculus.specs.declared.sign.Side.{Side}
