@@ -11,11 +11,11 @@ use Rattle.calculus.proofs.TextLaws.{cons-tail, decimal-split}
 use Rattle.calculus.proofs.TermTextLaws.{ends-digit, small-number, number-split, term-split, label-split}
 
 -- lists that differ at a place
-clash : (xs ys : List ℕ) (k : ℕ) → xs ≡ ys → (get_or xs k 0 == get_or ys k 0) ≡ false → ⊥
+pub clash : (xs ys : List ℕ) (k : ℕ) → xs ≡ ys → (get_or xs k 0 == get_or ys k 0) ≡ false → ⊥
 clash xs ys k e h = true≢false (sym (eq-eqb (get_or xs k 0) (get_or xs k 0) refl) ∙ ap (λ l. get_or xs k 0 == get_or l k 0) e ∙ h)
 
 -- numbers of entries
-entry-split : (m n : ℕ) (r s : List ℕ) → IsTrue (is_number m) → IsTrue (is_number n) → Ends r → Ends s → decimal m ++ r ≡ decimal n ++ s → (m ≡ n) × (r ≡ s)
+pub entry-split : (m n : ℕ) (r s : List ℕ) → IsTrue (is_number m) → IsTrue (is_number n) → Ends r → Ends s → decimal m ++ r ≡ decimal n ++ s → (m ≡ n) × (r ≡ s)
 entry-split m n r s hm hn hr hs e = decimal-split m n r s (small-number m hm) (small-number n hn) (ends-digit r hr) (ends-digit s hs) e
 
 -- ---- steps
@@ -135,16 +135,16 @@ spare-split x y r s hx hy e =
 -- ---- lines
 
 -- lines, each ended by a line feed, and what follows them
-abbrev lines_on : List (List ℕ) → List ℕ → List ℕ
+abbrev pub lines_on : List (List ℕ) → List ℕ → List ℕ
 lines_on [] r = r
 lines_on (l ∷ ls) r = l ++ 10 ∷ lines_on ls r
 
-lines_on-append : (ls ms : List (List ℕ)) → flat_map line_bytes (ls ++ ms) ≡ lines_on ls (flat_map line_bytes ms)
+pub lines_on-append : (ls ms : List (List ℕ)) → flat_map line_bytes (ls ++ ms) ≡ lines_on ls (flat_map line_bytes ms)
 lines_on-append [] ms = refl
 lines_on-append (l ∷ ls) ms = append_assoc l (10 ∷ []) (flat_map line_bytes (ls ++ ms)) ∙ ap (λ k. l ++ 10 ∷ k) (lines_on-append ls ms)
 
 -- the last line
-abbrev end_text : List ℕ
+abbrev pub end_text : List ℕ
 end_text = flat_map line_bytes (codes "end" ∷ [])
 
 abbrev steps_tail : List Symbol → List Step → List ℕ
@@ -223,11 +223,11 @@ eigens-unique S (x ∷ ds) (y ∷ es) ss ts xs ys hd he e =
 
 -- ---- the head
 
-cancel : (xs r s : List ℕ) → xs ++ r ≡ xs ++ s → r ≡ s
+pub cancel : (xs r s : List ℕ) → xs ++ r ≡ xs ++ s → r ≡ s
 cancel [] r s e = e
 cancel (x ∷ xs) r s e = cancel xs r s (cons-tail e)
 
-limit-small : (n : ℕ) → IsTrue (is_limit n) → IsTrue (is_number n)
+pub limit-small : (n : ℕ) → IsTrue (is_limit n) → IsTrue (is_number n)
 limit-small n h = lt-ltb n (2 ^ 32) (lt_of_le_of_lt (leb-true n 200 (and_parts (nat_le 1 n) (nat_le n 200) h).1) (lit< tt))
 
 head-split : (P : Problem) (m n : ℕ) (r s : List ℕ) → IsTrue (is_limit m) → IsTrue (is_limit n) → lines_on (head_lines P m) r ≡ lines_on (head_lines P n) s → (m ≡ n) × (r ≡ s)

@@ -92,11 +92,23 @@ pub mod CutLaws
 -- intuitionistic truth stays, and is that of the translation in S4
 pub mod PersistenceLaws
 pub mod TranslationLaws
+-- the versions of a derivation's text, and the texts of structures and tableaux
+pub mod VersionLaws
+pub mod VersionJudgementLaws
+pub mod StructureTextLaws
+pub mod StructureTextUnique
+pub mod StructureTruthLaws
+pub mod StructureSoundness
+pub mod TableauTextLaws
+pub mod GroundTextLaws
+pub mod TableauTextUnique
+pub mod TableauWritten
 -- ==== examples that compute
 
 mod TableauExamples
 mod SpaceExamples
 mod SequentExamples
+mod FormatExamples
 mod SystemExamples
 mod OtherExamples
 mod CutExamples

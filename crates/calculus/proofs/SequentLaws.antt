@@ -154,6 +154,13 @@ accepted_of_closed P names (fork {u = u} e c d) ss h n = rw e (accepted_of_close
 derived_of_closed : (P : Problem) (d : Derivation) → AllClose P d.names (first_sequent P ∷ []) d.steps → Derives P d
 derived_of_closed P d h = subst (λ rest. Closes P d.names (first_sequent P) d.steps rest) h.2 h.1
 
+-- the same wherever the first step stands
+pub accepted_at_iff_derives : (P : Problem) (d : Derivation) (n : ℕ) → (verdict_from P d.names (first_sequent P ∷ []) d.steps n ≡ accepted) ↔ Derives P d
+accepted_at_iff_derives P d n = (
+  λ h. derived_of_closed P d (closed_of_accepted P d.names d.steps (first_sequent P ∷ []) n h),
+  λ c. accepted_of_closed P d.names c [] (λ m. refl) n,
+)
+
 -- the verdict on the steps is acceptance exactly where they derive the problem
 pub accepted_iff_derives : (P : Problem) (d : Derivation) → (verdict_on P d ≡ accepted) ↔ Derives P d
 accepted_iff_derives P d = (

@@ -65,3 +65,11 @@ pub mod Cut
 pub mod Leading
 -- the way from intuitionistic logic into S4
 pub mod Translation
+-- the two versions of a derivation's text, and the judgement over both
+pub mod Versions
+pub mod VersionJudgement
+-- the texts of structures and of tableaux, and the generated problems
+pub mod StructureText
+pub mod StructureTruth
+pub mod TableauText
+pub mod Families

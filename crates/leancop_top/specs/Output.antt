@@ -49,6 +49,9 @@ text_cause_text cause.Limit = codes "limit"
 text_cause_text cause.Name = codes "name"
 text_cause_text cause.Line = codes "line"
 text_cause_text cause.TextAfterEnd = codes "text after end"
+text_cause_text cause.Label = codes "label"
+text_cause_text cause.Term = codes "term"
+text_cause_text cause.Table = codes "table"
 
 abbrev pub step_fault_text : StepFault → List ℕ
 step_fault_text step.NoEntry = codes "no entry"

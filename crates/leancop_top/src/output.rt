@@ -137,6 +137,9 @@ fn text_cause_text(cause: TextCause) -> &'static [u8]
         TextCause::Name => b"name",
         TextCause::Line => b"line",
         TextCause::TextAfterEnd => b"text after end",
+        TextCause::Label => b"label",
+        TextCause::Term => b"term",
+        TextCause::Table => b"table",
     }
 }
 
