@@ -7,3 +7,5 @@ pub mod Searches
 pub mod Refusals
 pub mod Ends
 pub mod Complete
+-- examples that compute
+mod WordExamples

@@ -10,9 +10,11 @@ pub struct PathLimit {
     pub ghost to_200: { number ≤ 200 },
 }
 
-/// How far a search goes: the greatest path limit, and the budget of steps.
+/// How far a search goes: the greatest path limit, the budget of steps, and the greatest limit of a
+/// search that does not return to solved goals, where there is one.
 #[derive(Clone, Copy)]
 pub struct Bounds {
     pub limit: PathLimit,
     pub steps: u64,
+    pub cut: Option<PathLimit>,
 }
