@@ -1,0 +1,14 @@
+-- translations
+pub mod TranslationSizes
+pub mod TranslatedLaws
+-- what is made of a derivation derives the translation
+pub mod ImageLaws
+pub mod TransferState
+pub mod TransferParts
+pub mod TransferSteps
+pub mod TransferLaws
+pub mod TransferWritten
+-- the way of the code leads to the same
+pub mod SketchLaws
+-- examples that compute
+mod TransferExamples

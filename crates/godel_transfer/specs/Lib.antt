@@ -1,0 +1,6 @@
+-- the size of a translation
+pub mod TranslationMeasures
+-- the steps that a derivation becomes
+pub mod Transfer
+-- the same by the way of the code
+pub mod Sketch
