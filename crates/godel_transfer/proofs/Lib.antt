@@ -12,3 +12,9 @@ pub mod TransferWritten
 pub mod SketchLaws
 -- examples that compute
 mod TransferExamples
+pub mod ImagesLaws
+pub mod ImagesUpdates
+pub mod TermImages
+pub mod BranchLaws
+pub mod BranchUpdates
+pub mod GrownLaws

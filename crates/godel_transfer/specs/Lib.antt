@@ -4,3 +4,6 @@ pub mod TranslationMeasures
 pub mod Transfer
 -- the same by the way of the code
 pub mod Sketch
+pub mod ImagesView
+pub mod BranchView
+pub mod OutView

@@ -1,0 +1,98 @@
+//! Goedel's translation of problems.
+
+ghost use Rattle.std.specs.Prelude.{◌≡◌, ◌<◌, ◌≤◌, Err, IfOk, OnOk, map};
+ghost use Rattle.calculus.specs.declared.setting.Logic.TheVariants.{Intuitionistic};
+ghost use Rattle.calculus.specs.Measures.{nesting, node_count};
+ghost use Rattle.calculus.specs.Translation.{translated_problem, translation_of};
+ghost use Rattle.formula_core.specs.FormulaView.{the_formula};
+ghost use Rattle.formula_core.specs.SymbolView.{the_symbol};
+ghost use Rattle.godel_transfer.specs.declared.fault.TransferFault.TheVariants as fault;
+
+use crate::fault::TransferFault;
+use crate::measures::refusal;
+use cop_base::{NoMemory, Text};
+use formula_core::{AddFault, Formula, Symbol, Symbols};
+use logic_rules::{Domains, Logic, Problem, Setting};
+use std::alloc::{AllocError, Global};
+
+// A box before an atom, a negation, an implication and a universal quantifier.
+fn translation_of(alloc: Global, f: &Formula) -> Result<Formula, NoMemory>
+    ensures { IfOk result (λ g. the_formula g ≡ translation_of (the_formula f.now)) }
+{
+    match f {
+        Formula::Atom(_, _) => Formula::nec(alloc, f.copy(alloc)?),
+        Formula::Not(a) => {
+            let part = translation_of(alloc, a)?;
+            Formula::nec(alloc, Formula::not(alloc, part)?)
+        }
+        Formula::All(a) => {
+            let part = translation_of(alloc, a)?;
+            Formula::nec(alloc, Formula::all(alloc, part)?)
+        }
+        Formula::Imp(a, b) => {
+            let left = translation_of(alloc, a)?;
+            let right = translation_of(alloc, b)?;
+            Formula::nec(alloc, Formula::imp(alloc, left, right)?)
+        }
+        Formula::And(a, b) => {
+            let left = translation_of(alloc, a)?;
+            Formula::and(alloc, left, translation_of(alloc, b)?)
+        }
+        Formula::Or(a, b) => {
+            let left = translation_of(alloc, a)?;
+            Formula::or(alloc, left, translation_of(alloc, b)?)
+        }
+        Formula::Ex(a) => Formula::ex(alloc, translation_of(alloc, a)?),
+        Formula::Nec(a) => Formula::nec(alloc, translation_of(alloc, a)?),
+        Formula::Poss(a) => Formula::poss(alloc, translation_of(alloc, a)?),
+    }
+}
+
+fn copy_symbol(alloc: Global, s: &Symbol) -> Result<Symbol, NoMemory>
+    ensures { IfOk result (λ c. the_symbol c ≡ the_symbol s.now) }
+{
+    let name = Text::new(alloc, s.name.bytes())?;
+    Ok(Symbol {
+        name,
+        class: s.class,
+        arity: s.arity,
+    })
+}
+
+fn copy_symbols(alloc: Global, symbols: &Symbols) -> Result<Symbols, NoMemory>
+    ensures { IfOk result (λ c. c ≡ symbols.now) }
+{
+    let _count = symbols.len(); // tells that they are distinct
+    let mut copied = Symbols::new(alloc);
+    for s in symbols.items() {
+        let symbol = copy_symbol(alloc, s)?;
+        match copied.add(symbol) {
+            Ok(_) => {}
+            Err(AddFault::Full | AddFault::NoMemory) => return Err(NoMemory),
+        }
+    }
+    Ok(copied)
+}
+
+/// The problem of S4 with cumulative domains whose formula is the translation of the problem's
+/// formula, over the same symbols.
+pub fn translate(alloc: Global, problem: &Problem) -> Result<Problem, TransferFault>
+    requires intuitionistic { problem.now.setting.logic ≡ Intuitionistic }
+    ensures translated { IfOk result (λ p. p ≡ translated_problem problem.now) }
+    ensures fits { OnOk result ((nesting (translation_of problem.now.formula) ≤ 1000)
+        × (node_count (translation_of problem.now.formula) ≤ 4000000)) }
+    ensures deep { result ≡ Err fault.NestingTooDeep
+        → 1000 < nesting (translation_of problem.now.formula) }
+    ensures large { result ≡ Err fault.FormulaTooLarge
+        → (nesting (translation_of problem.now.formula) ≤ 1000)
+        × (4000000 < node_count (translation_of problem.now.formula)) }
+{
+    let formula = problem.formula();
+    if let Some(fault) = refusal(formula) {
+        return Err(fault);
+    }
+    let symbols = copy_symbols(alloc, problem.symbols())?;
+    let translation = translation_of(alloc, formula)?;
+    let setting = Setting::new(Logic::S4, Domains::Cumulative);
+    Ok(Problem::new(setting, translation, symbols))
+}
