@@ -59,7 +59,7 @@ none-closed P m base d c s steps goals first h labels none =
 -- ---- the lists of lengths for which a step was used
 
 -- where steps were used from `mid` on
-record AreTriedLists (P : Problem) (d : ℕ) (c : List Choice) (s : Store) (y : System) (mid after : ℕ) : Type 0 where
+pub record AreTriedLists (P : Problem) (d : ℕ) (c : List Choice) (s : Store) (y : System) (mid after : ℕ) : Type 0 where
   pub tried : List (List ℕ)
   pub rising : IsRising lengths_cmp tried
   pub members : AllByRecursion (λ ns. IsMemberAt P d (with_lengths d c ns)) tried
@@ -72,7 +72,7 @@ members-of P d c s y f [] h = tt
 members-of P d c s y f (ns ∷ tried) h = (f ns h.0, members-of P d c s y f tried h.1)
 
 module _ (P : Problem) (m : List MatrixClause) (base d : ℕ) (c : List Choice) (s : Store) (steps : List Step) (goals : List Goal) (first : Option ℕ) (h : StandsFor P m base d c s steps goals first) (whole : first ≡ None) (one : 1 ≤ d) where
-  early-members : IsTrue (has_labels P.setting.logic) → (tried : List (List ℕ)) → AllByRecursion (AreEarly P.setting.logic (AllAllowed P) s (tree_system m steps goals h.1.all_goals)) tried → AllByRecursion (λ ns. IsMemberAt P d (with_lengths d c ns)) tried
+  pub early-members : IsTrue (has_labels P.setting.logic) → (tried : List (List ℕ)) → AllByRecursion (AreEarly P.setting.logic (AllAllowed P) s (tree_system m steps goals h.1.all_goals)) tried → AllByRecursion (λ ns. IsMemberAt P d (with_lengths d c ns)) tried
   early-members labels tried early =
       let cs = h.0 in
       let x = h.1 in
@@ -81,7 +81,7 @@ module _ (P : Problem) (m : List MatrixClause) (base d : ℕ) (c : List Choice) 
       let (σ, number, distinct, ground) = running-ground P base d c (record { store = s; choices = cs; growth = x }) y at.running in
       members-of P d c s y (λ ns e. member-tried P d c (record { store = s; choices = cs; growth = x }) y ns one labels (tree-by_state P d c (record { store = s; choices = cs; growth = x }) at.running.state) at.running.system (none-open steps goals first x.open_goals at.tree.open_goals whole) σ ground e.tried) tried early
 
-  tried-of : (mid after : ℕ) → IsSolving P m s steps goals mid after → AreTriedLists P d c s (tree_system m steps goals h.1.all_goals) mid after
+  pub tried-of : (mid after : ℕ) → IsSolving P m s steps goals mid after → AreTriedLists P d c s (tree_system m steps goals h.1.all_goals) mid after
   tried-of mid after k = by (has_labels P.setting.logic) refl
     where
       by : (b : Bool) → has_labels P.setting.logic ≡ b → AreTriedLists P d c s (tree_system m steps goals h.1.all_goals) mid after

@@ -48,3 +48,7 @@ pub mod TryingLaws
 pub mod SearchedLaws
 -- deepening
 pub mod DeepeningLaws
+-- the search that does not return to solved goals
+pub mod ListingLaws
+pub mod CuttingLaws
+pub mod CutDeepening

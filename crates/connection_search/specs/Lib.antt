@@ -17,6 +17,12 @@ pub mod Points
 pub mod Weights
 -- the loop
 pub mod Exploring
+-- the loop that does not return to solved goals
+pub mod Cutting
+-- its answers
+pub mod CutOutcomes
+-- the choices of a tree and of a tableau
+pub mod Listing
 -- lists without open goals
 pub mod Deciding
 -- lists that labels refute

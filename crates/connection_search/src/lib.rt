@@ -2,11 +2,13 @@
 #![tactic(auto)]
 
 mod atoms;
+mod cutting;
 mod deciding;
 mod deepening;
 mod exploring;
 mod heads;
 mod homes;
+mod listing;
 mod moves;
 mod pair;
 mod point;
@@ -19,5 +21,6 @@ mod system;
 mod terms;
 mod tree;
 
+pub use cutting::{CutAnswer, deepen_cut};
 pub use deepening::{Answer, deepen};
 pub use searching::{Outcome, search, search_in};

@@ -35,7 +35,7 @@ pub enum Outcome {
 }
 
 // The number of a clause. Numbers beyond 32 bits are beyond memory.
-fn clause_id(number: usize) -> Result<ClauseId, NoMemory>
+pub(crate) fn clause_id(number: usize) -> Result<ClauseId, NoMemory>
     ensures { IfOk result (λ c. c.0 ≡ number) }
 {
     match u32::try_from(number) {

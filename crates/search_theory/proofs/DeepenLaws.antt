@@ -66,7 +66,7 @@ abbrev pub starting : List (List Side) → List Choice
 starting [] = []
 starting (ss ∷ rest) = start ss ∷ starting rest
 
-starting-rises : (sss : List (List Side)) → IsRising selection_cmp sss → IsRising choice_cmp (starting sss)
+pub starting-rises : (sss : List (List Side)) → IsRising selection_cmp sss → IsRising choice_cmp (starting sss)
 starting-rises [] h = tt
 starting-rises (s ∷ []) h = tt
 starting-rises (s ∷ t ∷ rest) h = (h.0, starting-rises (t ∷ rest) h.1)

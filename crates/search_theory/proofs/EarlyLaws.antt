@@ -70,6 +70,16 @@ steps-ended P d spent p ps h from live = (
 
 -- ---- lists of lengths, in the logics with labels
 
+-- two lists of lengths of one list, a list before its lengths, and a list of lengths before the next list
+pub same-list : (d : ℕ) (p : List Choice) (ms ns : List ℕ) → member_cmp (with_lengths d p ms) (with_lengths d p ns) ≡ lengths_cmp ms ns
+same-list d p ms ns = ap (λ o. ordering_then o (ordering_then (choices_cmp p p) (lengths_cmp ms ns))) (tied_itself nat_cmp_total d) ∙ ap (λ o. ordering_then o (lengths_cmp ms ns)) (tied_itself choices_cmp_total p)
+
+pub list-first : (d : ℕ) (p : List Choice) (ns : List ℕ) → member_cmp (with_choices d p) (with_lengths d p ns) ≡ Less
+list-first d p ns = ap (λ o. ordering_then o (ordering_then (choices_cmp p p) Less)) (tied_itself nat_cmp_total d) ∙ ap (λ o. ordering_then o Less) (tied_itself choices_cmp_total p)
+
+pub next-list : (d : ℕ) (p : List Choice) (ns : List ℕ) (q : List Choice) → choices_cmp p q ≡ Less → member_cmp (with_lengths d p ns) (with_choices d q) ≡ Less
+next-list d p ns q l = ap (λ o. ordering_then o (ordering_then (choices_cmp p q) Greater)) (tied_itself nat_cmp_total d) ∙ ap (λ o. ordering_then o Greater) l
+
 -- a step is spent for the list p, which has no open goal, and one for each of these lists of lengths. No tableau is closed with the list p
 pub explore-lengths : (P : Problem) (d : ℕ) (spent : List Member) (p : List Choice) (ps : List (List Choice)) (tried : List (List ℕ)) → Explores P d spent (p ∷ ps) → 1 ≤ d → IsLive P d p → IsRising lengths_cmp tried → AllByRecursion (λ ns. IsMemberAt P d (with_lengths d p ns)) tried → ((b : List Choice) → IsClosedList P d b → ¬ BeginsWith p b) → Explores P d (spent ++ with_choices d p ∷ map (with_lengths d p) tried) ps
 explore-lengths P d spent p ps tried h from live r members none = record {
@@ -87,28 +97,18 @@ explore-lengths P d spent p ps tried h from live r members none = record {
     all-lengths [] a = tt
     all-lengths (ns ∷ nss) a = (a.0, all-lengths nss a.1)
 
-    -- two lists of lengths of one list, and a list of lengths before the next list
-    same-list : (ms ns : List ℕ) → member_cmp (with_lengths d p ms) (with_lengths d p ns) ≡ lengths_cmp ms ns
-    same-list ms ns = ap (λ o. ordering_then o (ordering_then (choices_cmp p p) (lengths_cmp ms ns))) (tied_itself nat_cmp_total d) ∙ ap (λ o. ordering_then o (lengths_cmp ms ns)) (tied_itself choices_cmp_total p)
-
-    list-first : (ns : List ℕ) → member_cmp (with_choices d p) (with_lengths d p ns) ≡ Less
-    list-first ns = ap (λ o. ordering_then o (ordering_then (choices_cmp p p) Less)) (tied_itself nat_cmp_total d) ∙ ap (λ o. ordering_then o Less) (tied_itself choices_cmp_total p)
-
-    next-list : (ns : List ℕ) (q : List Choice) → choices_cmp p q ≡ Less → member_cmp (with_lengths d p ns) (with_choices d q) ≡ Less
-    next-list ns q l = ap (λ o. ordering_then o (ordering_then (choices_cmp p q) Greater)) (tied_itself nat_cmp_total d) ∙ ap (λ o. ordering_then o Greater) l
-
     lists-less : (q : List Choice) (qs : List (List Choice)) → PartInOrder (p ∷ q ∷ qs) → choices_cmp p q ≡ Less
     lists-less q qs t = sym (member-choices d p q) ∙ (parted-rising d (p ∷ q ∷ qs) t).0
 
     lengths-rising : (ns : List ℕ) (nss : List (List ℕ)) (qs : List (List Choice)) → IsRising lengths_cmp (ns ∷ nss) → PartInOrder (p ∷ qs) → IsRising member_cmp (with_lengths d p ns ∷ map (with_lengths d p) nss ++ map (with_choices d) qs)
     lengths-rising ns [] [] a t = tt
-    lengths-rising ns [] (q ∷ qs) a t = (next-list ns q (lists-less q qs t), parted-rising d (q ∷ qs) t.1)
-    lengths-rising ns (ms ∷ nss) qs a t = (same-list ns ms ∙ a.0, lengths-rising ms nss qs a.1 t)
+    lengths-rising ns [] (q ∷ qs) a t = (next-list d p ns q (lists-less q qs t), parted-rising d (q ∷ qs) t.1)
+    lengths-rising ns (ms ∷ nss) qs a t = (same-list d p ns ms ∙ a.0, lengths-rising ms nss qs a.1 t)
 
     first-rising : (nss : List (List ℕ)) (qs : List (List Choice)) → IsRising lengths_cmp nss → PartInOrder (p ∷ qs) → IsRising member_cmp (with_choices d p ∷ map (with_lengths d p) nss ++ map (with_choices d) qs)
     first-rising [] [] a t = tt
     first-rising [] (q ∷ qs) a t = ((parted-rising d (p ∷ q ∷ qs) t).0, parted-rising d (q ∷ qs) t.1)
-    first-rising (ns ∷ nss) qs a t = (list-first ns, lengths-rising ns nss qs a t)
+    first-rising (ns ∷ nss) qs a t = (list-first d p ns, lengths-rising ns nss qs a t)
 
 -- the step of the first pending list is one more
 pub visited-many : (P : Problem) (d : ℕ) (spent : List Member) (p : List Choice) (ps : List (List Choice)) → Explores P d spent (p ∷ ps) → 1 ≤ d → IsLive P d p → AtLeastMany member_cmp (IsEarly P d) (suc (length spent))

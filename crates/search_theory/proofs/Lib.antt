@@ -65,3 +65,10 @@ pub mod LabelledBuilt
 pub mod TemplateSorts
 pub mod ProperPatterns
 pub mod VariableSorts
+-- the search that does not return to solved goals
+pub mod PassingLaws
+pub mod LevelLaws
+pub mod DepthLaws
+pub mod SoundLaws
+pub mod CutEnds
+pub mod CutLimits

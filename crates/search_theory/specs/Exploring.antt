@@ -59,6 +59,19 @@ pub record Explores (P : Problem) (d : ℕ) (spent : List Member) (pending : Lis
   pub parted : PartInOrder pending
   pub covers : Covers (IsClosedList P d) pending
 
+-- each list parts before all behind it
+abbrev pub AllPart : List (List Choice) → Type 0
+AllPart [] = ⊤
+AllPart (p ∷ ps) = AllByRecursion (PartsBefore p) ps × AllPart ps
+
+-- a search at the limit d has spent a step for each of these members, and these lists come next, in order. Nothing is said of what it
+-- left out
+pub record Passes (P : Problem) (d : ℕ) (spent : List Member) (pending : List (List Choice)) : Type 0 where
+  pub members : AllByRecursion (IsMemberAt P d) spent
+  pub rising : IsRising member_cmp spent
+  pub before : AllByRecursion (λ (p : List Choice). IsRising member_cmp (spent ++ with_choices d p ∷ [])) pending
+  pub parted : AllPart pending
+
 -- one more choice behind a list, for each of these choices
 abbrev pub behind : List Choice → List Choice → List (List Choice)
 behind p xs = map (λ x. p ++ x ∷ []) xs

@@ -24,3 +24,5 @@ pub mod RightPatterns
 -- early pruning
 pub mod Pruning
 pub mod HomeCells
+-- the search that does not return to solved goals
+pub mod Cutting

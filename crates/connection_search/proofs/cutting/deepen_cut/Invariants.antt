@@ -1,0 +1,9 @@
+use Rattle.std.proofs.Common.{◌≡◌}
+use Rattle.connection_search.proofs.CutDeepening.{CutTo}
+use Rattle.connection_search.proofs.cutting.deepen_cut.Given as goal
+
+abbrev pub invariant-loop-passed : goal.invariant-loop-passed
+invariant-loop-passed l = record {
+  passed : CutTo l.problem l.passed l.initial.ledger.used l.ledger.used;
+  budget : l.ledger.budget ≡ l.initial.ledger.budget;
+}

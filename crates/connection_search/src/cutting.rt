@@ -1,0 +1,329 @@
+//! The search that does not return to solved goals (leanCoP's restricted backtracking): as soon as a
+//! goal is solved, the choices that it has left are dropped.
+
+ghost use Rattle.std.specs.Prelude.{◌≡◌, ◌≤◌, ◌<◌, ◌-◌, ◌++◌, ◌∷◌, [], ℕ, IfOk, List};
+ghost use Rattle.std.specs.Prelude.{length, slice_get};
+ghost use Rattle.calculus.specs.Choices.{Choice, start};
+ghost use Rattle.calculus.specs.Counting.{AtLeastMany};
+ghost use Rattle.calculus.specs.Cut.{HasCut};
+ghost use Rattle.calculus.specs.declared.sign.Side.{Side};
+ghost use Rattle.calculus.specs.Space.{IsMember, member_cmp};
+ghost use Rattle.search_theory.specs.Matrix.{IsTemplateMatrix};
+ghost use Rattle.search_theory.specs.OrderedChoices.{selection_of};
+ghost use Rattle.connection_search.specs.Cutting.{IsCountedAt, IsCutEnd, IsCutExploring};
+ghost use Rattle.connection_search.specs.Cutting.{IsCutFailed, IsCutVisiting, IsLimitEnd};
+ghost use Rattle.connection_search.specs.Cutting.{IsPassing};
+ghost use Rattle.connection_search.specs.CutOutcomes.{IfCutEnded, IsCutAnswer, IsCutLimit};
+ghost use Rattle.connection_search.specs.Exploring.{IfOn, IsSpace};
+ghost use Rattle.connection_search.specs.Weights.{work_left};
+
+use crate::exploring::Visit;
+use crate::listing::has_choices;
+use crate::moves::Work;
+use crate::point::Point;
+use crate::searching::clause_id;
+use crate::space::Space;
+use cop_base::{ClauseId, Ledger, NoMemory};
+use logic_rules::Problem;
+use matrix_build::Matrix;
+use std::alloc::Global;
+use tableau_core::Tableau;
+use term_store::Store;
+
+/// What the search that does not return to solved goals answers.
+#[derive(Drop)]
+pub enum CutAnswer {
+    /// The least limit at which it finds a tableau, and this tableau.
+    Closed { limit: u8, tableau: Tableau },
+    /// It finds none within the greatest limit.
+    Open,
+    /// The budget is used up.
+    Steps,
+}
+
+impl Space<'_> {
+    // Spends a step for the list of choices, which is sound. Goals that are solved give up their
+    // points. A list without open goals is decided; where no closed tableau has it, the start has
+    // failed, and no point is left.
+    fn visit_cut(
+        &self,
+        ledger: &mut Ledger,
+        store: &mut Store,
+        work: &Work,
+        points: &mut Vec<Point>,
+    ) -> Result<Visit, NoMemory>
+        requires { (base : ℕ) × (sides : List Side) × (later : List (List Choice)) × (begun : ℕ)
+            × IsSpace self.now.problem.now self.now.matrix.now self.now.limit
+            × IsCutVisiting self.now.problem.now self.now.matrix.now base self.now.limit sides
+            store.old.store work.now.tree.steps.items work.now.tree.goals.items work.now.tree.open
+            points.old.items later begun ledger.old.used }
+        ensures on { IfOk result (λ v. IfOn v ((base : ℕ) (sides : List Side) (later : List (List
+            Choice)) (begun : ℕ)
+            → IsSpace self.now.problem.now self.now.matrix.now self.now.limit
+            → IsCutVisiting self.now.problem.now self.now.matrix.now base self.now.limit sides
+            store.old.store work.now.tree.steps.items work.now.tree.goals.items work.now.tree.open
+            points.old.items later begun ledger.old.used
+            → IsCutExploring self.now.problem.now self.now.matrix.now base self.now.limit sides
+            store.new.store work.now.tree.steps.items work.now.tree.goals.items points.new.items
+            later begun ledger.new.used)) }
+        ensures end { IfOk result (λ v. (base : ℕ) (sides : List Side) (later : List (List Choice))
+            (begun : ℕ)
+            → IsSpace self.now.problem.now self.now.matrix.now self.now.limit
+            → IsCutVisiting self.now.problem.now self.now.matrix.now base self.now.limit sides
+            store.old.store work.now.tree.steps.items work.now.tree.goals.items work.now.tree.open
+            points.old.items later begun ledger.old.used
+            → IsCutEnd self.now.problem.now self.now.limit sides begun ledger.new.used
+            ledger.new.budget v) }
+        ensures counted { (base : ℕ) (sides : List Side) (later : List (List Choice)) (begun : ℕ)
+            → IsSpace self.now.problem.now self.now.matrix.now self.now.limit
+            → IsCutVisiting self.now.problem.now self.now.matrix.now base self.now.limit sides
+            store.old.store work.now.tree.steps.items work.now.tree.goals.items work.now.tree.open
+            points.old.items later begun ledger.old.used
+            → IsCountedAt self.now.problem.now self.now.limit begun ledger.new.used }
+        ensures budget { ledger.new.budget ≡ ledger.old.budget }
+        ensures falls { IfOk result (λ v. IfOn v (
+            work_left ledger.old.budget ledger.new.used points.new.items
+            ≤ work_left ledger.old.budget ledger.old.used points.old.items)) }
+    {
+        if !ledger.take() {
+            return Ok(Visit::Steps);
+        }
+        match work.tree.open {
+            None => {
+                points.truncate(0);
+                let decided = self.decide(ledger, store, work)?;
+                match decided {
+                    Visit::On => Ok(Visit::On),
+                    Visit::Steps => Ok(Visit::Steps),
+                    Visit::Closed(tableau) => {
+                        if !has_choices(&tableau, self.matrix, &work.tree) {
+                            return Err(NoMemory);
+                        }
+                        Ok(Visit::Closed(tableau))
+                    }
+                }
+            }
+            Some(goal) => {
+                points.truncate(work.tree.goals[goal].depth);
+                let point = Point::new(store, self.matrix, &work.tree, goal, self.limit as usize);
+                points.push(point)?;
+                Ok(Visit::On)
+            }
+        }
+    }
+
+    // Goes back to the last choice point and makes its next choice. Where none is left, its goal is
+    // not solved, and the choice above has failed.
+    fn next_cut(
+        &self,
+        ledger: &mut Ledger,
+        store: &mut Store,
+        work: &mut Work,
+        points: &mut Vec<Point>,
+        last: Point,
+    ) -> Result<Visit, NoMemory>
+        requires { (base : ℕ) × (sides : List Side) × (later : List (List Choice)) × (begun : ℕ)
+            × IsSpace self.now.problem.now self.now.matrix.now self.now.limit
+            × IsCutExploring self.now.problem.now self.now.matrix.now base self.now.limit sides
+            store.old.store work.old.tree.steps.items work.old.tree.goals.items
+            (points.old.items ++ last ∷ []) later begun ledger.old.used }
+        ensures on { IfOk result (λ v. IfOn v ((base : ℕ) (sides : List Side) (later : List (List
+            Choice)) (begun : ℕ)
+            → IsSpace self.now.problem.now self.now.matrix.now self.now.limit
+            → IsCutExploring self.now.problem.now self.now.matrix.now base self.now.limit sides
+            store.old.store work.old.tree.steps.items work.old.tree.goals.items (points.old.items ++
+            last ∷ []) later begun ledger.old.used
+            → IsCutExploring self.now.problem.now self.now.matrix.now base self.now.limit sides
+            store.new.store work.new.tree.steps.items work.new.tree.goals.items points.new.items
+            later begun ledger.new.used)) }
+        ensures end { IfOk result (λ v. (base : ℕ) (sides : List Side) (later : List (List Choice))
+            (begun : ℕ)
+            → IsSpace self.now.problem.now self.now.matrix.now self.now.limit
+            → IsCutExploring self.now.problem.now self.now.matrix.now base self.now.limit sides
+            store.old.store work.old.tree.steps.items work.old.tree.goals.items (points.old.items ++
+            last ∷ []) later begun ledger.old.used
+            → IsCutEnd self.now.problem.now self.now.limit sides begun ledger.new.used
+            ledger.new.budget v) }
+        ensures counted { (base : ℕ) (sides : List Side) (later : List (List Choice)) (begun : ℕ)
+            → IsSpace self.now.problem.now self.now.matrix.now self.now.limit
+            → IsCutExploring self.now.problem.now self.now.matrix.now base self.now.limit sides
+            store.old.store work.old.tree.steps.items work.old.tree.goals.items (points.old.items ++
+            last ∷ []) later begun ledger.old.used
+            → IsCountedAt self.now.problem.now self.now.limit begun ledger.new.used }
+        ensures budget { ledger.new.budget ≡ ledger.old.budget }
+        ensures falls { IfOk result (λ v. IfOn v (
+            work_left ledger.old.budget ledger.new.used points.new.items
+            < work_left ledger.old.budget ledger.old.used (points.old.items ++ last ∷ []))) }
+    {
+        last.return_to(store, &mut work.tree);
+        let mut point = last;
+        let choice = match point.next(self.matrix, &work.tree)? {
+            Some(choice) => choice,
+            None => return Ok(Visit::On),
+        };
+        points.push(point)?;
+        if !work.make(store, self.matrix, point.goal, choice)? {
+            return Ok(Visit::On);
+        }
+        if !work.is_regular(store)? {
+            return Ok(Visit::On);
+        }
+        let visit = self.visit_cut(ledger, store, work, points)?;
+        Ok(visit)
+    }
+
+    // Goes on from the choice points until the start has failed or a tableau is found.
+    fn explore_cut(
+        &self,
+        ledger: &mut Ledger,
+        store: &mut Store,
+        work: &mut Work,
+        points: &mut Vec<Point>,
+    ) -> Result<Visit, NoMemory>
+        requires { (base : ℕ) × (sides : List Side) × (later : List (List Choice)) × (begun : ℕ)
+            × IsSpace self.now.problem.now self.now.matrix.now self.now.limit
+            × IsCutExploring self.now.problem.now self.now.matrix.now base self.now.limit sides
+            store.old.store work.old.tree.steps.items work.old.tree.goals.items
+            points.old.items later begun ledger.old.used }
+        ensures on { IfOk result (λ v. IfOn v ((base : ℕ) (sides : List Side) (later : List (List
+            Choice)) (begun : ℕ)
+            → IsSpace self.now.problem.now self.now.matrix.now self.now.limit
+            → IsCutExploring self.now.problem.now self.now.matrix.now base self.now.limit sides
+            store.old.store work.old.tree.steps.items work.old.tree.goals.items points.old.items
+            later begun ledger.old.used
+            → IsCutFailed self.now.problem.now self.now.limit sides later begun ledger.new.used)) }
+        ensures end { IfOk result (λ v. (base : ℕ) (sides : List Side) (later : List (List Choice))
+            (begun : ℕ)
+            → IsSpace self.now.problem.now self.now.matrix.now self.now.limit
+            → IsCutExploring self.now.problem.now self.now.matrix.now base self.now.limit sides
+            store.old.store work.old.tree.steps.items work.old.tree.goals.items points.old.items
+            later begun ledger.old.used
+            → IsCutEnd self.now.problem.now self.now.limit sides begun ledger.new.used
+            ledger.new.budget v) }
+        ensures counted { (base : ℕ) (sides : List Side) (later : List (List Choice)) (begun : ℕ)
+            → IsSpace self.now.problem.now self.now.matrix.now self.now.limit
+            → IsCutExploring self.now.problem.now self.now.matrix.now base self.now.limit sides
+            store.old.store work.old.tree.steps.items work.old.tree.goals.items points.old.items
+            later begun ledger.old.used
+            → IsCountedAt self.now.problem.now self.now.limit begun ledger.new.used }
+        ensures budget { ledger.new.budget ≡ ledger.old.budget }
+    {
+        while let Some(point) = points.pop() {
+            match self.next_cut(ledger, store, work, points, point)? {
+                Visit::On => {}
+                Visit::Closed(tableau) => return Ok(Visit::Closed(tableau)),
+                Visit::Steps => return Ok(Visit::Steps),
+            }
+        }
+        Ok(Visit::On)
+    }
+
+    // Searches by the clause as a start, which may have a literal of sign T, over a store of its own.
+    fn start_cut(
+        &self,
+        alloc: Global,
+        ledger: &mut Ledger,
+        clause: ClauseId,
+    ) -> Result<Visit, NoMemory>
+        requires passing { (later : List (List Choice)) × (begun : ℕ)
+            × IsSpace self.now.problem.now self.now.matrix.now self.now.limit
+            × IsPassing self.now.problem.now self.now.limit
+            ((start (selection_of (slice_get self.now.matrix.now clause.0)) ∷ []) ∷ later)
+            begun ledger.old.used }
+        requires clause { clause.0 < length self.now.matrix.now }
+        ensures on { IfOk result (λ v. IfOn v ((later : List (List Choice)) (begun : ℕ)
+            → IsSpace self.now.problem.now self.now.matrix.now self.now.limit
+            → IsPassing self.now.problem.now self.now.limit ((start (selection_of (slice_get
+            self.now.matrix.now clause.0)) ∷ []) ∷ later) begun ledger.old.used
+            → IsCutFailed self.now.problem.now self.now.limit (selection_of (slice_get
+            self.now.matrix.now clause.0)) later begun ledger.new.used)) }
+        ensures end { IfOk result (λ v. (later : List (List Choice)) (begun : ℕ)
+            → IsSpace self.now.problem.now self.now.matrix.now self.now.limit
+            → IsPassing self.now.problem.now self.now.limit ((start (selection_of (slice_get
+            self.now.matrix.now clause.0)) ∷ []) ∷ later) begun ledger.old.used
+            → IsCutEnd self.now.problem.now self.now.limit (selection_of (slice_get
+            self.now.matrix.now clause.0)) begun ledger.new.used ledger.new.budget v) }
+        ensures counted { (later : List (List Choice)) (begun : ℕ)
+            → IsSpace self.now.problem.now self.now.matrix.now self.now.limit
+            → IsPassing self.now.problem.now self.now.limit ((start (selection_of (slice_get
+            self.now.matrix.now clause.0)) ∷ []) ∷ later) begun ledger.old.used
+            → IsCountedAt self.now.problem.now self.now.limit begun ledger.new.used }
+        ensures budget { ledger.new.budget ≡ ledger.old.budget }
+    {
+        let starts = self.matrix.is_start(clause);
+        if !starts {
+            return Ok(Visit::On);
+        }
+        let mut store = Store::new(alloc)?;
+        let mut work = Work::new(alloc);
+        work.start(&mut store, self.matrix, clause)?;
+        let mut points = Vec::new(alloc);
+        match self.visit_cut(ledger, &mut store, &work, &mut points)? {
+            Visit::On => {
+                let found = self.explore_cut(ledger, &mut store, &mut work, &mut points)?;
+                Ok(found)
+            }
+            Visit::Closed(tableau) => Ok(Visit::Closed(tableau)),
+            Visit::Steps => Ok(Visit::Steps),
+        }
+    }
+
+    // Searches start after start.
+    fn run_cut(&self, alloc: Global, ledger: &mut Ledger) -> Result<Visit, NoMemory>
+        requires { IsSpace self.now.problem.now self.now.matrix.now self.now.limit }
+        ensures none { IfOk result (λ v. IfOn v
+            (¬ HasCut self.now.problem.now self.now.limit)) }
+        ensures end { IfOk result (λ v. IsLimitEnd self.now.problem.now self.now.limit
+            ledger.old.used ledger.new.used ledger.new.budget v) }
+        ensures counted { IsCountedAt self.now.problem.now self.now.limit ledger.old.used
+            ledger.new.used }
+        ensures budget { ledger.new.budget ≡ ledger.old.budget }
+    {
+        for number in 0..self.matrix.len() {
+            let clause = clause_id(number)?;
+            match self.start_cut(alloc, ledger, clause)? {
+                Visit::On => {}
+                Visit::Closed(tableau) => return Ok(Visit::Closed(tableau)),
+                Visit::Steps => return Ok(Visit::Steps),
+            }
+        }
+        Ok(Visit::On)
+    }
+}
+
+/// Searches the limits from 1 to `cut_limit` without returning to solved goals, over the problem's
+/// own matrix. Steps are used as by `search`.
+pub fn deepen_cut(
+    alloc: Global,
+    problem: &Problem,
+    matrix: &Matrix,
+    cut_limit: u8,
+    ledger: &mut Ledger,
+) -> Result<CutAnswer, NoMemory>
+    requires matrix { IsTemplateMatrix problem.now matrix.now }
+    requires from_one { 1 ≤ cut_limit }
+    requires to_200 { cut_limit ≤ 200 }
+    ensures answer { IfOk result
+        (IsCutAnswer problem.now cut_limit (ledger.old.budget - ledger.old.used)) }
+    ensures ended { IfOk result (λ a. IfCutEnded a (ledger.new.used ≡ ledger.new.budget)) }
+    ensures count { (e : ℕ) → IsCutLimit problem.now cut_limit e
+        → AtLeastMany member_cmp (IsMember problem.now e) (ledger.new.used - ledger.old.used) }
+    ensures rises { ledger.old.used ≤ ledger.new.used }
+    ensures budget { ledger.new.budget ≡ ledger.old.budget }
+{
+    let _setting = problem.setting();
+    for passed in 0..cut_limit {
+        let limit = passed + 1;
+        let space = Space {
+            problem,
+            matrix,
+            limit,
+        };
+        match space.run_cut(alloc, ledger)? {
+            Visit::On => {}
+            Visit::Closed(tableau) => return Ok(CutAnswer::Closed { limit, tableau }),
+            Visit::Steps => return Ok(CutAnswer::Steps),
+        }
+    }
+    Ok(CutAnswer::Open)
+}
