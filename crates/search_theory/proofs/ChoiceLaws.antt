@@ -11,6 +11,7 @@ use Rattle.calculus.specs.declared.sign.Sign.{Sign}
 use Rattle.calculus.specs.declared.sign.Sign.TheVariants.{T, F}
 use Rattle.calculus.specs.declared.sign.Side.{Side}
 use Rattle.calculus.specs.Syntax.{Problem}
+use Rattle.calculus.specs.Clauses.{selections}
 use Rattle.calculus.specs.Equality.{sign_eq}
 use Rattle.calculus.specs.Kinds.{other}
 use Rattle.calculus.specs.Choices.{reduction, extension, Choice, choice_cmp, selection_cmp}
@@ -18,11 +19,11 @@ use Rattle.calculus.specs.Counting.{IsRising}
 use Rattle.calculus.specs.Systems.{CellAtom}
 use Rattle.calculus.proofs.OrderLaws.{selection_cmp_total, rising-before}
 use Rattle.calculus.proofs.SelectionLaws.{selections-rise}
-use Rattle.calculus.specs.Patterns.{PatternAtom}
+use Rattle.calculus.specs.Patterns.{PatternAtom, Template}
 use Rattle.calculus.specs.Templates.{IsTemplateOf}
 use Rattle.search_theory.specs.States.{CellGoal}
 use Rattle.search_theory.specs.Matrix.{MatrixClause, IsTemplateMatrix, is_about, places_among, clause_places, places}
-use Rattle.search_theory.specs.Goals.{IsChoiceAt, by_ancestor, by_clause}
+use Rattle.search_theory.specs.Goals.{IsChoiceAt, MeetsAt, by_ancestor, by_clause}
 use Rattle.search_theory.specs.Exploring.{IsIn}
 use Rattle.search_theory.specs.OrderedChoices.{meets, reductions_from, extensions_among, extensions, selection_of, extension_at, choices_at}
 use Rattle.search_theory.proofs.Dropping.{drop-next}
@@ -103,19 +104,22 @@ if-taken true xs h = refl
 if-taken false xs h = absurd (false≢true h)
 
 -- each choice of the goal is among them
+-- each extension that the goal may have, whatever its path
+pub extensions-complete : (P : Problem) (m : List MatrixClause) (g : CellAtom) → IsTemplateMatrix P m → (sides : List Side) (place : ℕ) → Contains (selections P.formula F) sides → ((t : Template) → IsTemplateOf P sides t → MeetsAt t place g) → IsIn (extension sides place) (extensions g.symbol (other g.sign) m)
+extensions-complete P m g h sides place inside meet =
+    let f = find P m sides h.templates (subst (λ sss. Contains sss sides) (sym h.in_order) inside) in
+    let t = meet f.clause.template f.template in
+    let about = and_from (t.literal.symbol == g.symbol) (sign_eq t.literal.sign (other g.sign)) (eq-eqb t.literal.symbol g.symbol (sym t.symbols)) (other-sign g.sign t.literal.sign t.signs) in
+    subst (λ ss. IsIn (extension ss place) (extensions g.symbol (other g.sign) m)) f.selected (extension-in g.symbol (other g.sign) m f.clause f.is_in place t.literal t.stands about)
+
 pub choices-complete : (P : Problem) (m : List MatrixClause) (d : ℕ) (g : CellGoal) → IsTemplateMatrix P m → (x : Choice) → IsChoiceAt P d g x → IsIn x (choices_at m d g)
 choices-complete P m d g h x (by_ancestor k a at signs symbols) =
     let number : 1 + k ≡ suc k = omega arith in
     in-left (reduction (suc k)) (reductions_from 1 g.literal g.path) (if nat_lt (length g.path) d then extensions g.literal.symbol (other g.literal.sign) m else [])
     (subst (λ n. IsIn (reduction n) (reductions_from 1 g.literal g.path)) number (reduction-in 1 g.literal g.path k a at (meets-from g.literal a signs symbols)))
 choices-complete P m d g h x (by_clause sides place near inside meet) =
-    let f = find P m sides h.templates (subst (λ sss. Contains sss sides) (sym h.in_order) inside) in
-    let t = meet f.clause.template f.template in
-    let about = and_from (t.literal.symbol == g.literal.symbol) (sign_eq t.literal.sign (other g.literal.sign)) (eq-eqb t.literal.symbol g.literal.symbol (sym t.symbols)) (other-sign g.literal.sign t.literal.sign t.signs) in
     in-right (extension sides place) (reductions_from 1 g.literal g.path) (if nat_lt (length g.path) d then extensions g.literal.symbol (other g.literal.sign) m else [])
-    (subst (λ xs. IsIn (extension sides place) xs) (if-taken (nat_lt (length g.path) d) (extensions g.literal.symbol (other g.literal.sign) m) near)
-    (subst (λ ss. IsIn (extension ss place) (extensions g.literal.symbol (other g.literal.sign) m)) f.selected
-    (extension-in g.literal.symbol (other g.literal.sign) m f.clause f.is_in place t.literal t.stands about)))
+    (subst (λ xs. IsIn (extension sides place) xs) (if-taken (nat_lt (length g.path) d) (extensions g.literal.symbol (other g.literal.sign) m) near) (extensions-complete P m g.literal h sides place inside meet))
 
 -- ---- they rise
 

@@ -55,6 +55,7 @@ pub mod AdmittedLaws
 pub mod LabelledEnd
 pub mod LeftLabels
 pub mod PruningLaws
+pub mod LookAheadLaws
 pub mod HomeLaws
 pub mod HomeRanks
 pub mod OwnHomes

@@ -15,6 +15,8 @@ pub mod TemplateOf
 pub mod OrderedChoices
 -- the loop's invariant
 pub mod Searching
+-- looking ahead at the path limit
+pub mod Ahead
 -- solving systems
 pub mod Solving
 pub mod Demanding
