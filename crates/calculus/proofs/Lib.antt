@@ -13,7 +13,6 @@ pub mod CasesLaws
 pub mod MatrixLaws
 -- tableaux, space and answer
 pub mod WalkLaws
-pub mod HitLaws
 pub mod GrowthLaws
 pub mod LimitLaws
 pub mod SpaceLaws
@@ -26,13 +25,8 @@ pub mod TermTextLaws
 pub mod ReadingLaws
 pub mod DerivationTextLaws
 pub mod JudgementLaws
--- stores, bindings and patterns
-pub mod StoreLaws
+-- places in lists
 pub mod PlaceLists
-pub mod BindingLaws
-pub mod SolutionLaws
-pub mod WeightLaws
-pub mod PatternLaws
 -- soundness: in structures of any size, of which finite ones are a case
 pub mod WorldLaws
 pub mod NamedTruth
@@ -45,48 +39,12 @@ pub mod StructureLaws
 pub mod FiniteModels
 pub mod SoundnessLaws
 pub mod TautologyLaws
--- conversion of tableaux
+-- what stands in a tableau
 pub mod Members
-pub mod NameLaws
-pub mod PlaceLaws
-pub mod AgendaLaws
-pub mod SortedTurns
-pub mod NumberLaws
-pub mod NumberedLaws
-pub mod WorkLaws
-pub mod ClosedLaws
-pub mod PutLaws
-pub mod ExpandLaws
-pub mod BranchLaws
-pub mod FreshLaws
-pub mod UseLaws
-pub mod NextLaws
-pub mod EndLaws
-pub mod WrittenLaws
-pub mod WholeLaws
 -- ==== laws that no other crate cites: they are to check definitions, or wait for their crate
 
--- an instance has as many literals as its clause; a derivation that is made step by step
+-- an instance has as many literals as its clause
 pub mod SizeLaws
-pub mod OpenLaws
--- conversion that is led by its tableau
-pub mod MadeLaws
-pub mod RunLaws
-pub mod ShortLaws
-pub mod TaskLaws
-pub mod SpanLaws
-pub mod FollowLaws
-pub mod PartLaws
-pub mod LedLaws
-pub mod SegmentLaws
-pub mod LeadLaws
-pub mod LeadEnds
-pub mod ShortConversion
-pub mod LeadingLaws
-pub mod LoopLaws
-pub mod LoopMeasures
-pub mod AheadLaws
-pub mod LedConversion
 -- the search with cuts
 pub mod CutLaws
 -- intuitionistic truth stays, and is that of the translation in S4
@@ -105,18 +63,14 @@ pub mod TableauTextUnique
 pub mod TableauWritten
 -- ==== examples that compute
 
-mod TableauExamples
 mod SpaceExamples
 mod SequentExamples
 mod FormatExamples
-mod SystemExamples
 mod OtherExamples
 mod CutExamples
 mod CasesExamples
-mod ConversionExamples
 mod LabelExamples
 mod StructureExamples
 mod SoundnessExamples
 mod ModelExamples
-mod SparesExamples
 mod Stress

@@ -41,18 +41,8 @@ pub mod Tableaux
 pub mod Choices
 pub mod Counting
 pub mod Space
--- the conversion of tableaux: turns and their order, numbers of names, branches
-pub mod Turns
-pub mod Numbering
-pub mod Branches
 -- the children of a step
 pub mod StepFacts
--- the store, its bindings and clauses with places for values, and label equations
-pub mod Stores
-pub mod Bindings
-pub mod Systems
-pub mod Patterns
-pub mod Templates
 -- the lists inside trees as lists, and what models of program types need
 pub mod Lists
 pub mod Sizes
@@ -61,8 +51,6 @@ pub mod Codes
 
 -- the search that does not return to solved goals
 pub mod Cut
--- a derivation that is led by its tableau, and so is short
-pub mod Leading
 -- the way from intuitionistic logic into S4
 pub mod Translation
 -- the two versions of a derivation's text, and the judgement over both

@@ -13,11 +13,11 @@ use Rattle.calculus.specs.Clauses.{selections}
 use Rattle.calculus.specs.ComputedInstances.{Part, instance_of}
 use Rattle.calculus.specs.Equality.{list_eq, literal_eq, sort_eq}
 use Rattle.calculus.specs.Ground.{GroundLiteral, Value, common, g_eigen, g_fun, term}
-use Rattle.calculus.specs.Patterns.{Pattern, Patterns, PatternAtom, PatternGamma, Template, are_term_patterns, are_value_patterns, atom_fits, gamma_fits, is_label_pattern, more_patterns, no_patterns, p_eigen, p_fun, p_new, p_var, pattern_fits, patterns_tree, template_fits}
+use Rattle.store_theory.specs.Patterns.{Pattern, Patterns, PatternAtom, PatternGamma, Template, are_term_patterns, are_value_patterns, atom_fits, gamma_fits, is_label_pattern, more_patterns, no_patterns, p_eigen, p_fun, p_new, p_var, pattern_fits, patterns_tree, template_fits}
 use Rattle.calculus.specs.Problems.{formula_fits}
 use Rattle.calculus.specs.Skolem.{fits_way, has_function, is_delta_position, is_empty}
 use Rattle.calculus.specs.Syntax.{Problem}
-use Rattle.calculus.specs.Templates.{IsTemplateOf, as_term, have_sorts, is_choice_of_values, literals_by, pattern_gamma, pattern_label, pattern_literal, pattern_terms, pattern_value, pattern_values, strings_from}
+use Rattle.store_theory.specs.Templates.{IsTemplateOf, as_term, have_sorts, is_choice_of_values, literals_by, pattern_gamma, pattern_label, pattern_literal, pattern_terms, pattern_value, pattern_values, strings_from}
 use Rattle.calculus.proofs.InstanceLaws.{instance-proper}
 use Rattle.search_theory.specs.Regular as regular
 use Rattle.search_theory.specs.Regular.{IsClassicalTemplate, are_classical_patterns, is_classical_cell, is_classical_pattern, is_classical_store, is_own_cell, is_term_sort, spares_for}

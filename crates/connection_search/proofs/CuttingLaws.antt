@@ -5,7 +5,7 @@ use Rattle.std.specs.Prelude.{option_map}
 use Rattle.std.proofs.lemmas.Bool.{false≢true}
 use Rattle.std.proofs.lemmas.List.{length-append, length-drop, length-map, length-reverse, reverse-append, take-append-drop}
 use Rattle.std.proofs.lemmas.List.Sums.{sum_by-append, sum_by-take-le}
-use Rattle.calculus.specs.Bindings.{KeepsMarks}
+use Rattle.store_theory.specs.Bindings.{KeepsMarks}
 use Rattle.calculus.specs.Choices.{Choice, IsLive, choice_cmp, choices_of, ground_choices, reduction, start}
 use Rattle.calculus.specs.Clauses.{clause_size, selections}
 use Rattle.calculus.specs.declared.sign.Sign.TheVariants.{F}
@@ -13,11 +13,11 @@ use Rattle.calculus.proofs.SelectionLaws.{selections-rise}
 use Rattle.calculus.specs.Counting.{AtLeastMany, IsRising, MoreThan}
 use Rattle.calculus.specs.Cut.{Cuts, Fills, IsRegularLive, goals_added}
 use Rattle.calculus.specs.Space.{IsMember, has_labels, lengths_cmp, member_cmp, with_choices, with_lengths}
-use Rattle.calculus.specs.Stores.{IsGood, Store, cut_at}
+use Rattle.store_theory.specs.Stores.{IsGood, Store, cut_at}
 use Rattle.calculus.specs.Syntax.{Problem}
 use Rattle.calculus.specs.Tableaux.{is_closed}
 use Rattle.calculus.specs.declared.sign.Side.{Side}
-use Rattle.calculus.proofs.StoreLaws.{take-less}
+use Rattle.store_theory.proofs.StoreLaws.{take-less}
 use Rattle.search_theory.specs.Cutting.{FailsFrom, FailsTo, IsNext, Level, open_depths, pending_on}
 use Rattle.search_theory.specs.Cutting as cutting
 use Rattle.search_theory.specs.Exploring.{IsClosedList, IsMemberAt, Passes, behind}

@@ -8,9 +8,9 @@ use Rattle.calculus.specs.Choices.{Choice}
 use Rattle.calculus.specs.Counting.{AtLeastMany, IsRising, MoreThan}
 use Rattle.calculus.specs.Space.{IsEarly, has_labels, lengths_cmp, member_cmp, with_choices, with_lengths}
 use Rattle.calculus.specs.Instances.{GammaUse, gamma_is_allowed}
-use Rattle.calculus.specs.Stores.{OccursIn, Store}
+use Rattle.store_theory.specs.Stores.{OccursIn, Store}
 use Rattle.calculus.specs.Syntax.{Problem}
-use Rattle.calculus.specs.Systems.{AllAllowed, AreEarly, HasBoundedSolution, NamesItsStrings, System, cells_of, is_system}
+use Rattle.store_theory.specs.Systems.{AllAllowed, AreEarly, HasBoundedSolution, NamesItsStrings, System, cells_of, is_system}
 use Rattle.calculus.proofs.PlaceLists.{all-at}
 use Rattle.prefix_split.specs.LengthSearch as lengths
 use Rattle.prefix_split.specs.declared.solving.Solved.{Solved}

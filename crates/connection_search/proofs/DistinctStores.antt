@@ -2,10 +2,10 @@
 use Rattle.std.proofs.Common.{◌≡◌, ◌≤◌, ℕ, suc, length, refl, sym, subst, Some, None, slice_get}
 use Rattle.calculus.specs.declared.sort.Sort.{Sort}
 use Rattle.calculus.specs.declared.sort.Sort.TheVariants.{TermSort, MarkSort, StringSort}
-use Rattle.calculus.specs.Bindings.{IsWellFormed}
-use Rattle.calculus.specs.Stores.{Cell, Solution, Store, variable}
+use Rattle.store_theory.specs.Bindings.{IsWellFormed}
+use Rattle.store_theory.specs.Stores.{Cell, Solution, Store, variable}
 use Rattle.calculus.specs.Syntax.{Problem}
-use Rattle.calculus.proofs.BindingLaws.{HasNoCycle-rank}
+use Rattle.store_theory.proofs.BindingLaws.{HasNoCycle-rank}
 use Rattle.search_theory.proofs.AdmittedLaws.{IsGood, SparesGood, good-cells, letters-good}
 use Rattle.search_theory.proofs.DistinctLaws.{AreDistinct}
 use Rattle.search_theory.proofs.RankLaws.{rank_of, ranked-by_no_cycle}

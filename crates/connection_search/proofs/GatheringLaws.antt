@@ -4,11 +4,11 @@ use Rattle.std.specs.Prelude.{option_map}
 use Rattle.std.specs.List.{flat_map}
 use Rattle.std.proofs.lemmas.List.Concat.{flat_map-cons}
 use Rattle.std.proofs.lemmas.List.Sums.{sum_by-cons}
-use Rattle.calculus.specs.Bindings.{places_from}
+use Rattle.store_theory.specs.Bindings.{places_from}
 use Rattle.calculus.specs.declared.sort.Sort.{Sort}
 use Rattle.calculus.specs.declared.sort.Sort.TheVariants.{TermSort, MarkSort, StringSort}
-use Rattle.calculus.specs.Patterns.{Template}
-use Rattle.calculus.specs.Systems.{CellAtom, Pair}
+use Rattle.store_theory.specs.Patterns.{Template}
+use Rattle.store_theory.specs.Systems.{CellAtom, Pair}
 use Rattle.search_theory.specs.Matrix.{MatrixClause}
 use Rattle.search_theory.specs.StateSystems.{pairs_of, pairs_with, string_cells}
 use Rattle.search_theory.specs.States.{CellGoal}

@@ -4,7 +4,7 @@ use Rattle.std.specs.Prelude.{remove}
 use Rattle.std.specs.List.{AllByRecursion}
 use Rattle.std.proofs.lemmas.List.{map-append}
 use Rattle.calculus.specs.Choices.{start, reduction}
-use Rattle.calculus.specs.Systems.{CellAtom}
+use Rattle.store_theory.specs.Systems.{CellAtom}
 use Rattle.search_theory.specs.Matrix.{MatrixClause}
 use Rattle.search_theory.specs.States.{CellChoice, CellGoal, cell_goals_on, extended, reduced, started}
 use Rattle.search_theory.proofs.BuildingLaws.{get-kept, get-last}

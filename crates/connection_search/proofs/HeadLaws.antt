@@ -2,11 +2,11 @@
 use Rattle.std.proofs.Common.{◌≡◌, ℕ, zero, suc, List, [], ◌∷◌, true, false, not, eq-eqb, ◌==◌, refl, sym, ◌∙◌, ap, None, Some, slice_get}
 use Rattle.std.proofs.lemmas.Bool.{false≢true}
 use Rattle.calculus.specs.Ground.{Value, g_eigen, g_fun}
-use Rattle.calculus.specs.Patterns.{Pattern, PatternAtom, Template, p_eigen, p_fun, p_new, p_var, patterns_tree}
-use Rattle.calculus.specs.Stores.{Cell, CellHolds, Solution, Store, eigen_cell, fun_cell, new_cell, string_cell, variable}
-use Rattle.calculus.specs.Systems.{CellAtom}
-use Rattle.calculus.specs.Templates.{as_term, literals_by, pattern_literal, pattern_terms, pattern_value}
-use Rattle.calculus.proofs.SolutionLaws.{ends-same}
+use Rattle.store_theory.specs.Patterns.{Pattern, PatternAtom, Template, p_eigen, p_fun, p_new, p_var, patterns_tree}
+use Rattle.store_theory.specs.Stores.{Cell, CellHolds, Solution, Store, eigen_cell, fun_cell, new_cell, string_cell, variable}
+use Rattle.store_theory.specs.Systems.{CellAtom}
+use Rattle.store_theory.specs.Templates.{as_term, literals_by, pattern_literal, pattern_terms, pattern_value}
+use Rattle.store_theory.proofs.SolutionLaws.{ends-same}
 use Rattle.search_theory.specs.States.{literal_by, terms_by}
 use Rattle.search_theory.specs.Steps.{CannotExtend}
 use Rattle.search_theory.proofs.MeetingLaws.{literal-there, opposite-parts, opposite-some}

@@ -6,12 +6,12 @@ use Rattle.std.proofs.lemmas.Bool.{and_from, and_parts, false≢true}
 use Rattle.std.proofs.lemmas.List.Concat.{flat_map-cons}
 use Rattle.calculus.specs.Choices.{extension, reduction, start}
 use Rattle.calculus.specs.Equality.{sort_eq}
-use Rattle.calculus.specs.Patterns.{HaveSortsAt, atom_is_from, gamma_is_from}
-use Rattle.calculus.specs.Stores.{GammaCell, Store, has_sort_at, has_value_sort_at, names_below, sort_of}
-use Rattle.calculus.specs.Systems.{CellAtom, Equation, Pair, System, cells_of, cells_of_atom, has_label_sort_at, is_cell_atom, is_equation, is_gamma_cell, is_label, is_pair, is_system}
+use Rattle.store_theory.specs.Patterns.{HaveSortsAt, atom_is_from, gamma_is_from}
+use Rattle.store_theory.specs.Stores.{GammaCell, Store, has_sort_at, has_value_sort_at, names_below, sort_of}
+use Rattle.store_theory.specs.Systems.{CellAtom, Equation, Pair, System, cells_of, cells_of_atom, has_label_sort_at, is_cell_atom, is_equation, is_gamma_cell, is_label, is_pair, is_system}
 use Rattle.calculus.specs.declared.sort.Sort.{Sort}
 use Rattle.calculus.specs.declared.sort.Sort.TheVariants.{TermSort, MarkSort, StringSort}
-use Rattle.calculus.proofs.BindingLaws.{or-more, sorted_cell}
+use Rattle.store_theory.proofs.BindingLaws.{or-more, sorted_cell}
 use Rattle.calculus.proofs.PlaceLists.{all-at, get-within}
 use Rattle.search_theory.specs.States.{CellChoice, CellClause, CellGoal, atom_is_below, cell_goals_on, clause_is_below}
 use Rattle.search_theory.specs.StateSystems.{pairs_of, pairs_with}

@@ -1,17 +1,17 @@
 -- Whether the limit is left at a goal.
 use Rattle.std.proofs.Common.{◌≡◌, ◌⊎◌, ◌+◌, ℕ, zero, suc, List, [], ◌∷◌, ◌++◌, length, take, Bool, true, false, IsTrue, refl, ◌∙◌, ap, subst, sym, Option, None, Some, slice_get, arith, inl, inr, ◌==◌, if◌then◌else◌, nat_lt}
 use Rattle.std.specs.List.{list_any}
-use Rattle.calculus.specs.Bindings.{KeepsMarks}
+use Rattle.store_theory.specs.Bindings.{KeepsMarks}
 use Rattle.calculus.specs.Choices.{Choice, IsLeft, extension, reduction}
 use Rattle.calculus.specs.Kinds.{other}
 use Rattle.calculus.specs.declared.sign.Side.{Side}
-use Rattle.calculus.specs.Systems.{CellAtom}
+use Rattle.store_theory.specs.Systems.{CellAtom}
 use Rattle.search_theory.specs.Exploring.{IsIn}
 use Rattle.search_theory.specs.Goals.{IsChoiceAt}
 use Rattle.search_theory.specs.OrderedChoices.{extensions, meets, reductions_from}
 use Rattle.search_theory.proofs.BeginningLaws.{IsDead}
 use Rattle.search_theory.proofs.ChoiceLaws.{choices-complete}
-use Rattle.calculus.specs.Stores.{Store, cut_at}
+use Rattle.store_theory.specs.Stores.{Store, cut_at}
 use Rattle.calculus.specs.Syntax.{Problem}
 use Rattle.search_theory.specs.Matrix.{IsTemplateMatrix, MatrixClause}
 use Rattle.search_theory.specs.Regular.{HasNoSamePair}

@@ -3,15 +3,15 @@ use Rattle.std.proofs.Common.{◌≡◌, ◌<◌, ◌≤◌, ℕ, zero, suc, Lis
 use Rattle.std.specs.Prelude.{remove}
 use Rattle.std.specs.List.{AllByRecursion, list_all, list_any}
 use Rattle.std.proofs.lemmas.Bool.{and_parts, false≢true}
-use Rattle.calculus.specs.Bindings.{AddsBuilt, AddsOver, BindsOnly, IsWellFormed, NamesFrom, NamesOver, places_from, with_variables_of}
+use Rattle.store_theory.specs.Bindings.{AddsBuilt, AddsOver, BindsOnly, IsWellFormed, NamesFrom, NamesOver, places_from, with_variables_of}
 use Rattle.calculus.specs.Choices.{Choice, extension, reduction, start}
-use Rattle.calculus.specs.Patterns.{CopiedClause, HaveSortsAt, IsAtomCopy, IsClauseCopy, PatternAtom, Template, atom_is_from, clause_fits, clause_is_from, without_literal}
-use Rattle.calculus.specs.Stores.{Cell, Store, has_sort_at, names_below, sort_of}
+use Rattle.store_theory.specs.Patterns.{CopiedClause, HaveSortsAt, IsAtomCopy, IsClauseCopy, PatternAtom, Template, atom_is_from, clause_fits, clause_is_from, without_literal}
+use Rattle.store_theory.specs.Stores.{Cell, Store, has_sort_at, names_below, sort_of}
 use Rattle.calculus.specs.Syntax.{Problem}
 use Rattle.calculus.specs.declared.sort.Sort.{Sort}
 use Rattle.calculus.specs.declared.sort.Sort.TheVariants.{TermSort}
-use Rattle.calculus.specs.Systems.{CellAtom, is_cell_atom, is_label}
-use Rattle.calculus.specs.Templates.{IsTemplateOf}
+use Rattle.store_theory.specs.Systems.{CellAtom, is_cell_atom, is_label}
+use Rattle.store_theory.specs.Templates.{IsTemplateOf}
 use Rattle.calculus.proofs.PlaceLists.{get-within}
 use Rattle.search_theory.specs.Matrix.{MatrixClause, MatrixPlace, all_shown}
 use Rattle.search_theory.specs.Regular.{HasNoSamePair, IsNewGoal}

@@ -4,11 +4,11 @@ use Rattle.std.proofs.lemmas.Bool.{false≢true}
 use Rattle.calculus.specs.declared.sort.Sort.{Sort}
 use Rattle.calculus.specs.declared.sort.Sort.TheVariants.{TermSort}
 use Rattle.calculus.specs.Equality.{sort_eq}
-use Rattle.calculus.specs.Bindings.{AddsBuilt, BindsOnly, BindsWithin, EndsIn, IsWellFormed, KeepsMarks, MayBind, Unifies, with_binding, with_variables_of}
-use Rattle.calculus.specs.Stores.{Cell, EndsAt, OccursIn, Solution, Solves, Store, eigen_cell, fun_cell, here, in_part, is_bound, new_cell, parts_of, sort_of, string_cell, variable}
-use Rattle.calculus.proofs.BindingLaws.{get-unbound, has_sort-from, kept, parts-within, sort_eq-true}
-use Rattle.calculus.proofs.SolutionLaws.{ends-same, some_solution}
-use Rattle.calculus.proofs.PatternLaws.{Grows-built, grown-cell}
+use Rattle.store_theory.specs.Bindings.{AddsBuilt, BindsOnly, BindsWithin, EndsIn, IsWellFormed, KeepsMarks, MayBind, Unifies, with_binding, with_variables_of}
+use Rattle.store_theory.specs.Stores.{Cell, EndsAt, OccursIn, Solution, Solves, Store, eigen_cell, fun_cell, here, in_part, is_bound, new_cell, parts_of, sort_of, string_cell, variable}
+use Rattle.store_theory.proofs.BindingLaws.{get-unbound, has_sort-from, kept, parts-within, sort_eq-true}
+use Rattle.store_theory.proofs.SolutionLaws.{ends-same, some_solution}
+use Rattle.store_theory.proofs.PatternLaws.{Grows-built, grown-cell}
 use Rattle.calculus.proofs.PlaceLists.{get-there}
 use Rattle.search_theory.proofs.BuildingLaws.{variables-front}
 use Rattle.term_store.specs.Shown.{head_of}

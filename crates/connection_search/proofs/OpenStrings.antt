@@ -1,8 +1,8 @@
 -- Cells and sorts that stay when cells come or are bound, and the unbound strings among a search's own cells, which its system names.
 use Rattle.std.proofs.Common.{◌≡◌, ◌⊎◌, ◌≤◌, ℕ, suc, List, [], ◌∷◌, ◌++◌, length, true, false, refl, sym, ◌∙◌, ap, Option, None, Some, option_map, slice_get, arith, inl, inr}
-use Rattle.calculus.specs.Bindings.{AddsBuilt, BindsOnly, is_variable, nothing_more, one_more, places_from, with_cell, with_variables_of}
-use Rattle.calculus.specs.Stores.{Cell, EndsAt, Store, goes_on, sort_of, stays, variable}
-use Rattle.calculus.specs.Systems.{IsOpenString}
+use Rattle.store_theory.specs.Bindings.{AddsBuilt, BindsOnly, is_variable, nothing_more, one_more, places_from, with_cell, with_variables_of}
+use Rattle.store_theory.specs.Stores.{Cell, EndsAt, Store, goes_on, sort_of, stays, variable}
+use Rattle.store_theory.specs.Systems.{IsOpenString}
 use Rattle.calculus.specs.declared.sort.Sort.{Sort}
 use Rattle.calculus.specs.declared.sort.Sort.TheVariants.{TermSort, MarkSort, StringSort}
 use Rattle.calculus.proofs.PlaceLists.{get-within}

@@ -4,17 +4,17 @@ use Rattle.std.specs.Prelude.{Contains}
 use Rattle.std.specs.List.{list_all}
 use Rattle.std.specs.Option.{option_map_or}
 use Rattle.std.proofs.lemmas.Bool.{and_from, and_parts, false≢true}
-use Rattle.calculus.specs.Bindings.{NamesFrom}
+use Rattle.store_theory.specs.Bindings.{NamesFrom}
 use Rattle.calculus.specs.Clauses.{selections}
 use Rattle.calculus.specs.Equality.{sort_eq}
 use Rattle.calculus.specs.Ground.{common, g_spare_mark, more_marks, no_marks, steps, term}
-use Rattle.calculus.specs.Patterns.{HaveSortsAt, Pattern, PatternAtom, PatternGamma, Patterns, Template, more_patterns, no_patterns, p_eigen, p_fun, p_new, p_var, patterns_tree, without_literal}
+use Rattle.store_theory.specs.Patterns.{HaveSortsAt, Pattern, PatternAtom, PatternGamma, Patterns, Template, more_patterns, no_patterns, p_eigen, p_fun, p_new, p_var, patterns_tree, without_literal}
 use Rattle.calculus.specs.Problems.{formula_fits}
 use Rattle.calculus.specs.Skolem.{fits_way, has_function, is_delta_position, is_pi_position}
 use Rattle.calculus.specs.Space.{has_labels}
-use Rattle.calculus.specs.Stores.{Cell, Store, eigen_cell, fun_cell, has_value_sort_at, is_store, new_cell, sort_of, string_cell, variable}
+use Rattle.store_theory.specs.Stores.{Cell, Store, eigen_cell, fun_cell, has_value_sort_at, is_store, new_cell, sort_of, string_cell, variable}
 use Rattle.calculus.specs.Syntax.{Problem}
-use Rattle.calculus.specs.Templates.{IsTemplateOf}
+use Rattle.store_theory.specs.Templates.{IsTemplateOf}
 use Rattle.calculus.specs.declared.setting.Logic.{Logic}
 use Rattle.calculus.specs.declared.setting.Logic.TheVariants.{Classical, Intuitionistic, D, T, S4, S5}
 use Rattle.calculus.specs.declared.sign.Sign.TheVariants.{F}

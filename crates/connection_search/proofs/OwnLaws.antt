@@ -1,7 +1,7 @@
 -- The search's own cells stay built right when they are bound.
 use Rattle.std.proofs.Common.{◌≡◌, ◌≤◌, ℕ, length, IsTrue, refl, ap, subst, None, Some, option_map, slice_get, arith, inl, inr}
-use Rattle.calculus.specs.Bindings.{BindsOnly, NamesFrom}
-use Rattle.calculus.specs.Stores.{Cell, Store, is_store, parts_of, sort_of, variable}
+use Rattle.store_theory.specs.Bindings.{BindsOnly, NamesFrom}
+use Rattle.store_theory.specs.Stores.{Cell, Store, is_store, parts_of, sort_of, variable}
 use Rattle.calculus.specs.Syntax.{Problem}
 use Rattle.calculus.specs.declared.sort.Sort.{Sort}
 use Rattle.calculus.specs.declared.sort.Sort.TheVariants.{TermSort, MarkSort, StringSort}

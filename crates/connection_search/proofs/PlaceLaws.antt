@@ -5,7 +5,7 @@ use Rattle.calculus.specs.declared.sign.Sign.{Sign}
 use Rattle.calculus.specs.declared.sign.Sign.TheVariants.{T, F}
 use Rattle.calculus.specs.Equality.{sign_eq}
 use Rattle.calculus.specs.Kinds.{other}
-use Rattle.calculus.specs.Patterns.{PatternAtom}
+use Rattle.store_theory.specs.Patterns.{PatternAtom}
 use Rattle.search_theory.specs.Matrix.{MatrixClause, MatrixPlace, clause_places, is_about, places, places_among}
 
 -- the item at a place of two lists

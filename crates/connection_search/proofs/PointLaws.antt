@@ -6,12 +6,12 @@ use Rattle.std.proofs.lemmas.Option.{slice_get_within}
 use Rattle.calculus.specs.Choices.{Choice, reduction}
 use Rattle.calculus.specs.Equality.{sign_eq}
 use Rattle.calculus.specs.Kinds.{other}
-use Rattle.calculus.specs.Stores.{IsGood, Store, cut_at}
+use Rattle.store_theory.specs.Stores.{IsGood, Store, cut_at}
 use Rattle.calculus.specs.Syntax.{Problem}
 use Rattle.calculus.specs.declared.sign.Sign.{Sign}
 use Rattle.matrix_build.specs.MatrixView.{the_place}
 use Rattle.matrix_build.specs.declared.index.Place.{Place}
-use Rattle.calculus.specs.Systems.{CellAtom}
+use Rattle.store_theory.specs.Systems.{CellAtom}
 use Rattle.search_theory.specs.Matrix.{MatrixClause, MatrixPlace, places}
 use Rattle.search_theory.specs.OrderedChoices.{choices_at, extension_at, extensions, meets, reductions_from}
 use Rattle.search_theory.specs.States.{CellGoal}

@@ -5,9 +5,9 @@ use Rattle.std.proofs.lemmas.Bool.{and_from}
 use Rattle.calculus.specs.declared.setting.Logic.{Logic}
 use Rattle.calculus.specs.Choices.{Choice}
 use Rattle.calculus.specs.Space.{has_labels}
-use Rattle.calculus.specs.Stores.{GammaCell, Solution, Solves, Store}
+use Rattle.store_theory.specs.Stores.{GammaCell, Solution, Solves, Store}
 use Rattle.calculus.specs.Syntax.{Problem}
-use Rattle.calculus.specs.Systems.{AreEqual, IsStep, NamesItsStrings, Pair, System, cells_of, cells_of_atom, is_system}
+use Rattle.store_theory.specs.Systems.{AreEqual, IsStep, NamesItsStrings, Pair, System, cells_of, cells_of_atom, is_system}
 use Rattle.search_theory.specs.Matrix.{MatrixClause}
 use Rattle.search_theory.specs.Searching.{IsSearch}
 use Rattle.search_theory.proofs.BeginningLaws.{is_not_empty}

@@ -3,13 +3,13 @@ use Rattle.std.proofs.Common.{◌≡◌, ◌+◌, ◌-◌, ◌<◌, ◌≤◌, �
 use Rattle.std.specs.List.{AllByRecursion, list_all}
 use Rattle.std.proofs.lemmas.Bool.{and_from, and_parts}
 use Rattle.std.proofs.lemmas.List.{drop-map, take-map, take_rest}
-use Rattle.calculus.specs.Bindings.{IsEnd, KeepsMarks, places_from}
+use Rattle.store_theory.specs.Bindings.{IsEnd, KeepsMarks, places_from}
 use Rattle.calculus.specs.Choices.{Choice}
-use Rattle.calculus.specs.Stores.{EndsAt, IsGood, Store, TrailMark, cells_bound_by, cut_at, names_below}
+use Rattle.store_theory.specs.Stores.{EndsAt, IsGood, Store, TrailMark, cells_bound_by, cut_at, names_below}
 use Rattle.calculus.specs.Syntax.{Problem}
-use Rattle.calculus.specs.Systems.{CellAtom}
+use Rattle.store_theory.specs.Systems.{CellAtom}
 use Rattle.calculus.proofs.PlaceLists.{all-at}
-use Rattle.calculus.proofs.StoreLaws.{length-bound}
+use Rattle.store_theory.proofs.StoreLaws.{length-bound}
 use Rattle.search_theory.specs.Matrix.{MatrixClause}
 use Rattle.search_theory.specs.States.{atom_is_below, choice_is_below}
 use Rattle.search_theory.proofs.BelowLaws.{all-weaken, choice-more}

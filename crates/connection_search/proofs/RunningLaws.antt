@@ -3,22 +3,22 @@ use Rattle.std.proofs.Common.{◌≡◌, ◌<◌, ◌≤◌, ◌+◌, ℕ, zero,
 use Rattle.std.specs.Prelude.{Contains, remove}
 use Rattle.std.specs.List.{AllByRecursion, list_all, list_any}
 use Rattle.std.proofs.lemmas.Bool.{and_from, and_parts}
-use Rattle.calculus.specs.Bindings.{AddsBuilt, AddsOver, BindsOnly, IsWellFormed, NamesFrom, NamesOver, is_variable, nothing_more, one_more, places_from, with_cell, with_variables_of}
+use Rattle.store_theory.specs.Bindings.{AddsBuilt, AddsOver, BindsOnly, IsWellFormed, NamesFrom, NamesOver, is_variable, nothing_more, one_more, places_from, with_cell, with_variables_of}
 use Rattle.calculus.specs.Choices.{Choice, IsLeft, IsLive, extension, growth_of, has_depth, is_opposite, is_regular, is_within, reduction, start}
 use Rattle.calculus.specs.ComputedInstances.{is_instance}
 use Rattle.calculus.specs.Equality.{sign_eq}
-use Rattle.calculus.specs.Patterns.{AreAtomCopies, AreGammaCopies, CopiedClause, HaveSortsAt, IsAtomCopy, IsClauseCopy, PatternAtom, Template, atom_is_from, clause_fits, clause_is_from, gamma_is_from, without_literal}
-use Rattle.calculus.specs.Stores.{Cell, GammaCell, Solution, Solves, Store, eigen_cell, fun_cell, has_sort_at, has_value_sort_at, is_bound, is_store, new_cell, parts_of, string_cell, variable}
+use Rattle.store_theory.specs.Patterns.{AreAtomCopies, AreGammaCopies, CopiedClause, HaveSortsAt, IsAtomCopy, IsClauseCopy, PatternAtom, Template, atom_is_from, clause_fits, clause_is_from, gamma_is_from, without_literal}
+use Rattle.store_theory.specs.Stores.{Cell, GammaCell, Solution, Solves, Store, eigen_cell, fun_cell, has_sort_at, has_value_sort_at, is_bound, is_store, new_cell, parts_of, string_cell, variable}
 use Rattle.calculus.specs.Syntax.{Problem}
-use Rattle.calculus.specs.Systems.{CellAtom, System, cells_of, is_cell_atom, is_equation, is_gamma_cell, is_system}
-use Rattle.calculus.specs.Templates.{IsTemplateOf, have_sorts}
+use Rattle.store_theory.specs.Systems.{CellAtom, System, cells_of, is_cell_atom, is_equation, is_gamma_cell, is_system}
+use Rattle.store_theory.specs.Templates.{IsTemplateOf, have_sorts}
 use Rattle.calculus.specs.declared.sign.Side.{Side}
 use Rattle.calculus.specs.declared.sort.Sort.{Sort}
 use Rattle.calculus.specs.declared.sort.Sort.TheVariants.{TermSort, MarkSort, StringSort}
-use Rattle.calculus.proofs.BindingLaws.{is_store-with_cell}
+use Rattle.store_theory.proofs.BindingLaws.{is_store-with_cell}
 use Rattle.calculus.proofs.GrowthLaws.{on-some}
 use Rattle.calculus.proofs.PlaceLists.{get-within}
-use Rattle.calculus.proofs.SolutionLaws.{some_solution}
+use Rattle.store_theory.proofs.SolutionLaws.{some_solution}
 use Rattle.search_theory.specs.Matrix.{MatrixClause, all_shown}
 use Rattle.search_theory.specs.Regular.{HasNoSamePair}
 use Rattle.search_theory.specs.StateSystems.{Brings, extended_system, pairs_of, reduced_system, started_system, string_cells}

@@ -8,12 +8,12 @@ use Rattle.calculus.specs.declared.sign.Sign.TheVariants.{T, F}
 use Rattle.calculus.specs.Equality.{sign_eq, sort_eq}
 use Rattle.calculus.specs.Syntax.{Problem}
 use Rattle.calculus.specs.Ground.{GroundLiteral, GroundMark, GroundTerms, g_spare_mark, more_g_terms, no_g_terms}
-use Rattle.calculus.specs.Bindings.{IsWellFormed}
-use Rattle.calculus.specs.Stores.{Cell, CellValue, Solution, Solves, Store, a_mark, a_string, a_term, eigen_cell, fun_cell, has_sort, has_sort_at, names_below, new_cell, parts_fit, sort_of, string_cell, variable}
-use Rattle.calculus.specs.Systems.{CellAtom, is_cell_atom, is_label}
-use Rattle.calculus.specs.Templates.{as_label, as_term}
+use Rattle.store_theory.specs.Bindings.{IsWellFormed}
+use Rattle.store_theory.specs.Stores.{Cell, CellValue, Solution, Solves, Store, a_mark, a_string, a_term, eigen_cell, fun_cell, has_sort, has_sort_at, names_below, new_cell, parts_fit, sort_of, string_cell, variable}
+use Rattle.store_theory.specs.Systems.{CellAtom, is_cell_atom, is_label}
+use Rattle.store_theory.specs.Templates.{as_label, as_term}
 use Rattle.calculus.proofs.PlaceLists.{all-at}
-use Rattle.calculus.proofs.SolutionLaws.{some_solution}
+use Rattle.store_theory.proofs.SolutionLaws.{some_solution}
 use Rattle.search_theory.specs.States.{atom_is_below, label_by, terms_by}
 use Rattle.search_theory.specs.Regular.{AreSame}
 use Rattle.search_theory.proofs.AtomLaws.{IsAtomIn}

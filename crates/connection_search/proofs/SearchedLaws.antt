@@ -1,13 +1,13 @@
 -- The search at one limit, clause by clause, and the space of a problem.
 use Rattle.std.proofs.Common.{◌≡◌, ◌+◌, ◌<◌, ◌≤◌, ℕ, suc, List, [], ◌∷◌, drop, length, map, Bool, true, false, IsTrue, Option, refl, sym, ◌∙◌, ap, subst, Some, slice_get, arith, Result, Ok, Err}
 use Rattle.std.specs.Prelude.{IfOk, option_map}
-use Rattle.calculus.specs.Bindings.{KeepsMarks}
+use Rattle.store_theory.specs.Bindings.{KeepsMarks}
 use Rattle.calculus.specs.Choices.{Choice, IsLeft, start}
 use Rattle.calculus.specs.Problems.{is_problem}
-use Rattle.calculus.specs.Stores.{IsGood, Store, TrailMark, cut_at}
+use Rattle.store_theory.specs.Stores.{IsGood, Store, TrailMark, cut_at}
 use Rattle.calculus.specs.Syntax.{Problem}
 use Rattle.calculus.specs.Tableaux.{HasClosed}
-use Rattle.calculus.proofs.BindingLaws.{KeepsMarks-both, KeepsMarks-same}
+use Rattle.store_theory.proofs.BindingLaws.{KeepsMarks-both, KeepsMarks-same}
 use Rattle.logic_rules.proofs.ProblemFacts.{kept}
 use Rattle.search_theory.proofs.BeginningLaws.{IsDead, is_not_empty}
 use Rattle.search_theory.proofs.DeepenLaws.{starting}

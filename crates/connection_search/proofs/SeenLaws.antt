@@ -3,8 +3,8 @@ use Rattle.std.proofs.Common.{◌≡◌, ◌+◌, ◌<◌, ◌≤◌, ℕ, suc, 
 use Rattle.std.specs.List.{AllByRecursion, list_all}
 use Rattle.std.proofs.lemmas.Bool.{and_parts}
 use Rattle.calculus.specs.Syntax.{Problem}
-use Rattle.calculus.specs.Stores.{Store}
-use Rattle.calculus.specs.Systems.{CellAtom}
+use Rattle.store_theory.specs.Stores.{Store}
+use Rattle.store_theory.specs.Systems.{CellAtom}
 use Rattle.calculus.proofs.PlaceLists.{all-at}
 use Rattle.search_theory.proofs.AtomLaws.{IsAtomIn}
 use Rattle.search_theory.proofs.LeftLabels.{IsGoalIn}

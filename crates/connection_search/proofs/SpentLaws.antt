@@ -4,7 +4,7 @@ use Rattle.std.specs.declared.cmp.Ordering.{Ordering}
 use Rattle.calculus.specs.Choices.{Choice, IsLive}
 use Rattle.calculus.specs.Counting.{AtLeastMany, MoreThan}
 use Rattle.calculus.specs.Space.{IsEarly, member_cmp}
-use Rattle.calculus.specs.Stores.{Store}
+use Rattle.store_theory.specs.Stores.{Store}
 use Rattle.calculus.specs.Syntax.{Problem}
 use Rattle.search_theory.specs.Matrix.{MatrixClause}
 use Rattle.search_theory.specs.States.{CellGoal}

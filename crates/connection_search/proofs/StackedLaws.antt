@@ -2,11 +2,11 @@
 use Rattle.std.proofs.Common.{◌≡◌, ◌≤◌, ℕ, List, [], ◌∷◌, ◌++◌, length, take, refl, sym, ◌∙◌, ap, subst, arith}
 use Rattle.std.specs.List.{AllByRecursion}
 use Rattle.std.proofs.lemmas.List.{length-append, take-append-le}
-use Rattle.calculus.specs.Bindings.{IsEarlier, KeepsEarlier, KeepsMarks}
+use Rattle.store_theory.specs.Bindings.{IsEarlier, KeepsEarlier, KeepsMarks}
 use Rattle.calculus.specs.Choices.{Choice}
-use Rattle.calculus.specs.Stores.{IsGood, Store, TrailMark, cut_at}
+use Rattle.store_theory.specs.Stores.{IsGood, Store, TrailMark, cut_at}
 use Rattle.calculus.specs.Syntax.{Problem}
-use Rattle.calculus.proofs.StoreLaws.{IsGood-cut_at, cut_at-cut_at, length-less, take-less}
+use Rattle.store_theory.proofs.StoreLaws.{IsGood-cut_at, cut_at-cut_at, length-less, take-less}
 use Rattle.search_theory.specs.Matrix.{MatrixClause}
 use Rattle.search_theory.specs.States.{CellGoal}
 use Rattle.term_store.specs.StoreView.{the_mark}

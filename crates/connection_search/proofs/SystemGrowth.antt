@@ -4,7 +4,7 @@ use Rattle.std.specs.List.{AllByRecursion, flat_map}
 use Rattle.std.proofs.lemmas.Grind.{flat_map-append}
 use Rattle.std.proofs.lemmas.List.Concat.{flat_map-cons}
 use Rattle.std.proofs.lemmas.List.Sums.{sum_by-append, sum_by-cons}
-use Rattle.calculus.specs.Systems.{CellAtom, Equation}
+use Rattle.store_theory.specs.Systems.{CellAtom, Equation}
 use Rattle.search_theory.specs.Matrix.{MatrixClause}
 use Rattle.search_theory.specs.StateSystems.{extended_system, pairs_of, reduced_system, started_system}
 use Rattle.search_theory.specs.States.{CellChoice, CellGoal, cell_goals_on, new_cell_goals}

@@ -2,8 +2,8 @@
 use Rattle.std.proofs.Common.{◌≡◌, ◌+◌, ◌≤◌, ℕ, zero, suc, List, [], ◌∷◌, drop, length, IsTrue, refl, sym, ◌∙◌, ap, subst, Option, None, Some, slice_get, arith}
 use Rattle.std.specs.List.{AllByRecursion, list_all}
 use Rattle.std.proofs.lemmas.Bool.{and_parts}
-use Rattle.calculus.specs.Stores.{Store, names_below}
-use Rattle.calculus.specs.Systems.{CellAtom}
+use Rattle.store_theory.specs.Stores.{Store, names_below}
+use Rattle.store_theory.specs.Systems.{CellAtom}
 use Rattle.search_theory.specs.Regular.{AreSame, IsNewGoal}
 use Rattle.search_theory.specs.States.{CellGoal, atom_is_below, goal_is_below}
 use Rattle.connection_search.specs.Trees.{AreGoals, IsGoal, IsGoalAt, IsPath, atom_at, atom_in, goals_of}

@@ -5,11 +5,11 @@ use Rattle.std.specs.Bool.{⊤}
 use Rattle.std.specs.List.{AllByRecursion}
 use Rattle.std.proofs.lemmas.List.{reverse-append}
 use Rattle.std.proofs.lemmas.List.Sums.{sum_by-append}
-use Rattle.calculus.specs.Bindings.{KeepsMarks}
+use Rattle.store_theory.specs.Bindings.{KeepsMarks}
 use Rattle.calculus.specs.Choices.{Choice}
-use Rattle.calculus.specs.Stores.{IsGood, Store, cut_at}
+use Rattle.store_theory.specs.Stores.{IsGood, Store, cut_at}
 use Rattle.calculus.specs.Syntax.{Problem}
-use Rattle.calculus.proofs.StoreLaws.{take-less}
+use Rattle.store_theory.proofs.StoreLaws.{take-less}
 use Rattle.search_theory.specs.Exploring.{behind}
 use Rattle.search_theory.specs.Matrix.{MatrixClause}
 use Rattle.search_theory.specs.States.{CellGoal}

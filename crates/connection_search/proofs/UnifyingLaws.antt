@@ -9,9 +9,9 @@ use Rattle.calculus.specs.declared.sort.Sort.{Sort}
 use Rattle.calculus.specs.declared.sort.Sort.TheVariants.{TermSort}
 use Rattle.calculus.specs.Equality.{sort_eq}
 use Rattle.calculus.specs.Ground.{GroundTerms, no_g_terms, more_g_terms}
-use Rattle.calculus.specs.Bindings.{AreApart, BindsOnly, BindsWithin, KeepsMarks, NamesFrom, Unifies}
-use Rattle.calculus.specs.Stores.{Cell, Store, Solution, has_sort_at, sort_of}
-use Rattle.calculus.proofs.BindingLaws.{KeepsMarks-both, KeepsMarks-same}
+use Rattle.store_theory.specs.Bindings.{AreApart, BindsOnly, BindsWithin, KeepsMarks, NamesFrom, Unifies}
+use Rattle.store_theory.specs.Stores.{Cell, Store, Solution, has_sort_at, sort_of}
+use Rattle.store_theory.proofs.BindingLaws.{KeepsMarks-both, KeepsMarks-same}
 use Rattle.calculus.proofs.PlaceLists.{all-at}
 use Rattle.term_store.specs.RefView.{the_place}
 use Rattle.term_store.specs.declared.cell.Ref.{Ref}

@@ -3,12 +3,12 @@ use Rattle.std.proofs.Common.{◌≡◌, ◌⊎◌, ◌↔◌, if◌then◌else�
 use Rattle.std.specs.List.{AllByRecursion}
 use Rattle.std.proofs.lemmas.Bool.{false≢true}
 use Rattle.std.proofs.lemmas.List.{length-append, reverse-append}
-use Rattle.calculus.specs.Bindings.{IsEarlier}
+use Rattle.store_theory.specs.Bindings.{IsEarlier}
 use Rattle.calculus.specs.Choices.{Choice, IsLeft}
 use Rattle.calculus.specs.Space.{with_choices}
-use Rattle.calculus.specs.Stores.{IsGood, Store, TrailMark, cells_bound_by, cut_at}
+use Rattle.store_theory.specs.Stores.{IsGood, Store, TrailMark, cells_bound_by, cut_at}
 use Rattle.calculus.specs.Syntax.{Problem}
-use Rattle.calculus.proofs.StoreLaws.{length-bound}
+use Rattle.store_theory.proofs.StoreLaws.{length-bound}
 use Rattle.search_theory.specs.Exploring.{behind}
 use Rattle.search_theory.specs.Matrix.{MatrixClause}
 use Rattle.search_theory.specs.Searching.{IsSearch}

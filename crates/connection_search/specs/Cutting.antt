@@ -5,7 +5,7 @@ use Rattle.calculus.specs.Choices.{Choice}
 use Rattle.calculus.specs.Counting.{AtLeastMany, MoreThan}
 use Rattle.calculus.specs.Cut.{Cuts, IsCut}
 use Rattle.calculus.specs.Space.{Member, member_cmp}
-use Rattle.calculus.specs.Stores.{Store}
+use Rattle.store_theory.specs.Stores.{Store}
 use Rattle.calculus.specs.Syntax.{Problem}
 use Rattle.calculus.specs.declared.sign.Side.{Side}
 use Rattle.search_theory.proofs.BeginningLaws.{is_not_empty}

@@ -3,9 +3,9 @@ use Rattle.std.specs.Prelude.{◌≡◌, ◌-◌, ℕ, List, false, IsTrue}
 use Rattle.calculus.specs.Choices.{Choice}
 use Rattle.calculus.specs.Counting.{MoreThan}
 use Rattle.calculus.specs.Space.{has_labels, lengths_cmp}
-use Rattle.calculus.specs.Stores.{Store}
+use Rattle.store_theory.specs.Stores.{Store}
 use Rattle.calculus.specs.Syntax.{Problem}
-use Rattle.calculus.specs.Systems.{AllAllowed, AreEarly, HasBoundedSolution, System}
+use Rattle.store_theory.specs.Systems.{AllAllowed, AreEarly, HasBoundedSolution, System}
 use Rattle.calculus.specs.Tableaux.{is_closed}
 use Rattle.prefix_split.specs.LengthSearch.{IsCounted}
 use Rattle.prefix_split.specs.declared.solving.Solved.{Solved}

@@ -1,11 +1,11 @@
 -- The loop of the search: the choice points on the stack, and how far the search at one limit has come.
 use Rattle.std.specs.Prelude.{◌≡◌, ◌⊎◌, ◌≤◌, ◌+◌, ◌-◌, ℕ, List, [], ◌∷◌, ◌++◌, Bool, true, Option, IsTrue, ⊤, length, reverse}
 use Rattle.std.specs.List.{AllByRecursion}
-use Rattle.calculus.specs.Bindings.{IsEarlier}
+use Rattle.store_theory.specs.Bindings.{IsEarlier}
 use Rattle.calculus.specs.Choices.{Choice}
 use Rattle.calculus.specs.Counting.{AtLeastMany, MoreThan}
 use Rattle.calculus.specs.Space.{IsEarly, Member, member_cmp}
-use Rattle.calculus.specs.Stores.{IsGood, Store, TrailMark, cut_at}
+use Rattle.store_theory.specs.Stores.{IsGood, Store, TrailMark, cut_at}
 use Rattle.calculus.specs.Syntax.{Problem}
 use Rattle.calculus.specs.Tableaux.{is_closed}
 use Rattle.search_theory.proofs.BeginningLaws.{is_not_empty}

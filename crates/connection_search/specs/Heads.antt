@@ -1,9 +1,9 @@
 -- Where outermost names show that a goal and a literal cannot be connected.
 use Rattle.std.specs.Prelude.{◌≡◌, ℕ, ◌==◌, Bool, true, false, not, Some, slice_get}
-use Rattle.calculus.specs.Bindings.{EndsIn}
-use Rattle.calculus.specs.Patterns.{Pattern, PatternAtom, p_eigen, p_fun}
-use Rattle.calculus.specs.Stores.{Store}
-use Rattle.calculus.specs.Systems.{CellAtom}
+use Rattle.store_theory.specs.Bindings.{EndsIn}
+use Rattle.store_theory.specs.Patterns.{Pattern, PatternAtom, p_eigen, p_fun}
+use Rattle.store_theory.specs.Stores.{Store}
+use Rattle.store_theory.specs.Systems.{CellAtom}
 use Rattle.term_store.specs.Shown.{head_of}
 use Rattle.term_store.specs.declared.cell.Head.{Head}
 use Rattle.term_store.specs.declared.cell.Head.TheVariants as head

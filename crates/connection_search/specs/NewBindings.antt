@@ -1,6 +1,6 @@
 -- Bindings of variables that stand in no cell that was there before them: what they are bound to needs no look for them.
 use Rattle.std.specs.Prelude.{◌≡◌, ◌≤◌, ◌<◌, ℕ, Some, slice_get}
-use Rattle.calculus.specs.Stores.{Cell, Solution, Solves, Store, parts_of}
+use Rattle.store_theory.specs.Stores.{Cell, Solution, Solves, Store, parts_of}
 use Rattle.term_unify.specs.Steps.{AreEnds, IsBinding}
 
 -- cells whose numbers are below n name such cells alone

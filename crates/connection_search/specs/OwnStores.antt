@@ -2,7 +2,7 @@
 use Rattle.std.specs.Prelude.{◌≡◌, ◌≤◌, ℕ, Bool, true, false, Some, slice_get, IsTrue}
 use Rattle.calculus.specs.declared.sort.Sort.TheVariants.{TermSort, MarkSort, StringSort}
 use Rattle.calculus.specs.Space.{has_labels}
-use Rattle.calculus.specs.Stores.{Cell, Store, eigen_cell, fun_cell, new_cell, string_cell, variable}
+use Rattle.store_theory.specs.Stores.{Cell, Store, eigen_cell, fun_cell, new_cell, string_cell, variable}
 use Rattle.calculus.specs.Syntax.{Problem}
 use Rattle.search_theory.specs.LabelledCells.{AreLabelled}
 

@@ -2,7 +2,7 @@
 use Rattle.std.specs.Prelude.{◌≡◌, ◌≤◌, ◌<◌, ℕ, suc, List, [], ◌∷◌, ◌++◌, Option, None, Some, ⊤, drop, take, length, map, nat_lt, IsTrue}
 use Rattle.calculus.specs.Choices.{Choice, reduction}
 use Rattle.calculus.specs.Kinds.{other}
-use Rattle.calculus.specs.Stores.{IsGood, Store, cut_at}
+use Rattle.store_theory.specs.Stores.{IsGood, Store, cut_at}
 use Rattle.calculus.specs.Syntax.{Problem}
 use Rattle.matrix_build.specs.MatrixView.{the_place}
 use Rattle.search_theory.specs.Matrix.{MatrixClause, places}

@@ -2,7 +2,7 @@
 use Rattle.std.specs.Prelude.{ℕ, List, []}
 use Rattle.calculus.specs.Choices.{Choice}
 use Rattle.calculus.specs.Syntax.{Problem}
-use Rattle.calculus.specs.Systems.{System}
+use Rattle.store_theory.specs.Systems.{System}
 use Rattle.search_theory.specs.Exploring.{BeginsWith, IsClosedList}
 
 -- the equations and strings of the system alone

@@ -1,7 +1,7 @@
 -- Cells and copied clauses that can be read off.
 use Rattle.std.specs.Prelude.{ℕ, List, ◌<◌, ◌≤◌, length, IsTrue, ⊤}
 use Rattle.std.specs.List.{list_all}
-use Rattle.calculus.specs.Stores.{Store, names_below}
+use Rattle.store_theory.specs.Stores.{Store, names_below}
 use Rattle.search_theory.specs.Matrix.{MatrixClause}
 use Rattle.search_theory.specs.States.{atom_is_below}
 use Rattle.term_store.specs.ClauseView.{the_atom}

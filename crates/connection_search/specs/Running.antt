@@ -2,14 +2,14 @@
 use Rattle.std.specs.Prelude.{◌≡◌, ◌==◌, ◌+◌, ℕ, suc, List, [], ◌∷◌, ◌++◌, ◌≤◌, length, not, Bool, true, false, Option, Some, slice_get, nat_le, nat_lt, IsTrue}
 use Rattle.std.specs.List.{AllByRecursion, list_all, list_any}
 use Rattle.calculus.specs.declared.sign.Side.{Side}
-use Rattle.calculus.specs.Bindings.{IsWellFormed}
+use Rattle.store_theory.specs.Bindings.{IsWellFormed}
 use Rattle.calculus.specs.Choices.{Choice, IsLeft, extension}
 use Rattle.calculus.specs.Equality.{sign_eq}
-use Rattle.calculus.specs.Patterns.{PatternAtom}
+use Rattle.store_theory.specs.Patterns.{PatternAtom}
 use Rattle.calculus.specs.Problems.{formula_fits}
-use Rattle.calculus.specs.Stores.{EndsAt, Store}
+use Rattle.store_theory.specs.Stores.{EndsAt, Store}
 use Rattle.calculus.specs.Syntax.{Problem}
-use Rattle.calculus.specs.Systems.{CellAtom, IsOpenString, System, cells_of}
+use Rattle.store_theory.specs.Systems.{CellAtom, IsOpenString, System, cells_of}
 use Rattle.search_theory.proofs.BeginningLaws.{IsDead}
 use Rattle.search_theory.specs.Goals.{IsChoiceAt}
 use Rattle.search_theory.specs.Matrix.{IsTemplateMatrix, MatrixClause, MatrixPlace}

@@ -1,7 +1,7 @@
 -- Goals that the bindings make the same as one above them.
 use Rattle.std.specs.Prelude.{◌≡◌, ℕ, List, Some, slice_get}
-use Rattle.calculus.specs.Stores.{Store}
-use Rattle.calculus.specs.Systems.{CellAtom}
+use Rattle.store_theory.specs.Stores.{Store}
+use Rattle.store_theory.specs.Systems.{CellAtom}
 use Rattle.search_theory.specs.Regular.{AreSame}
 use Rattle.search_theory.specs.States.{CellGoal}
 

@@ -4,8 +4,8 @@ use Rattle.std.specs.Prelude.{◌≡◌, ◌<◌, ◌≤◌, ◌+◌, ◌++◌, 
 use Rattle.std.specs.List.{AllByRecursion, flat_map}
 use Rattle.calculus.specs.declared.sort.Sort.{Sort}
 use Rattle.calculus.specs.Choices.{start, reduction, extension}
-use Rattle.calculus.specs.Stores.{GammaCell}
-use Rattle.calculus.specs.Systems.{CellAtom, Equation, System}
+use Rattle.store_theory.specs.Stores.{GammaCell}
+use Rattle.store_theory.specs.Systems.{CellAtom, Equation, System}
 use Rattle.search_theory.specs.Matrix.{MatrixClause}
 use Rattle.search_theory.specs.OrderedChoices.{selection_of}
 use Rattle.search_theory.specs.StateSystems.{pairs_of, string_cells}

@@ -4,10 +4,10 @@ ghost use Rattle.std.specs.Prelude.{◌≡◌, ◌<◌, ◌≤◌, ◌&&◌, ◌
 ghost use Rattle.std.specs.Prelude.{false, length, map, not, slice_get, true, nat_le};
 ghost use Rattle.std.specs.List.{list_all};
 ghost use Rattle.calculus.specs.declared.sort.Sort.TheVariants.{TermSort};
-ghost use Rattle.calculus.specs.Bindings.{BindsOnly, KeepsMarks, NamesFrom};
+ghost use Rattle.store_theory.specs.Bindings.{BindsOnly, KeepsMarks, NamesFrom};
 ghost use Rattle.calculus.specs.Equality.{sign_eq};
 ghost use Rattle.calculus.specs.Kinds as kinds;
-ghost use Rattle.calculus.specs.Stores.{has_sort_at};
+ghost use Rattle.store_theory.specs.Stores.{has_sort_at};
 ghost use Rattle.calculus.specs.Syntax.{Problem};
 ghost use Rattle.connection_search.specs.NewBindings.{IsClosedBelow};
 ghost use Rattle.connection_search.specs.OwnStores.{AreOwn};

@@ -3,11 +3,11 @@
 
 ghost use Rattle.std.specs.Prelude.{◌≡◌, ℕ, IfOk, IsTrue, List, None, true};
 ghost use Rattle.std.specs.List.{AllByRecursion, list_all};
-ghost use Rattle.calculus.specs.Bindings.{KeepsMarks};
+ghost use Rattle.store_theory.specs.Bindings.{KeepsMarks};
 ghost use Rattle.calculus.specs.Choices.{Choice};
 ghost use Rattle.calculus.specs.Instances.{gamma_is_allowed};
 ghost use Rattle.calculus.specs.Space.{has_labels};
-ghost use Rattle.calculus.specs.Systems.{AllAllowed, NamesItsStrings, is_system};
+ghost use Rattle.store_theory.specs.Systems.{AllAllowed, NamesItsStrings, is_system};
 ghost use Rattle.calculus.specs.Tableaux as tableaux;
 ghost use Rattle.prefix_split.specs.LengthSearch.{IsCounted};
 ghost use Rattle.tableau_core.specs.TableauView.{the_tableau};

@@ -1,9 +1,9 @@
 //! The loop of the search: a stack of choice points, all of whose choices are tried in order.
 
 ghost use Rattle.std.specs.Prelude.{◌≡◌, ◌<◌, ◌++◌, ◌∷◌, [], ℕ, IfOk, List, OnOk};
-ghost use Rattle.calculus.specs.Bindings.{KeepsMarks};
+ghost use Rattle.store_theory.specs.Bindings.{KeepsMarks};
 ghost use Rattle.calculus.specs.Choices.{Choice};
-ghost use Rattle.calculus.specs.Stores.{IsGood, TrailMark};
+ghost use Rattle.store_theory.specs.Stores.{IsGood, TrailMark};
 ghost use Rattle.term_store.specs.Room.{KeepsRoom};
 ghost use Rattle.connection_search.specs.Exploring.{AreAbove, ArePushed, IfOn, IsCounted, IsEnd};
 ghost use Rattle.connection_search.specs.Exploring.{IsExploring, IsSearched, IsSpace, IsVisiting};

@@ -1,7 +1,7 @@
 //! Outermost names, by which most connections are refused without a copy.
 
 ghost use Rattle.std.specs.Prelude.{◌≡◌, ◌<◌, IsTrue, length, map, true};
-ghost use Rattle.calculus.specs.Stores.{names_below};
+ghost use Rattle.store_theory.specs.Stores.{names_below};
 ghost use Rattle.term_store.specs.ClauseView.{the_atom, the_pattern_atom};
 ghost use Rattle.term_store.specs.PatternView.{the_pattern};
 ghost use Rattle.connection_search.specs.Heads.{HasClash, names_differ};

@@ -3,7 +3,7 @@
 ghost use Rattle.std.specs.Prelude.{◌≡◌, ◌<◌, ◌++◌, ◌∷◌, [], ℕ, List, IfOk, IsTrue};
 ghost use Rattle.std.specs.Prelude.{OnOk, Some, drop, false, length, option_map, slice_get, true};
 ghost use Rattle.std.specs.List.{AllByRecursion};
-ghost use Rattle.calculus.specs.Bindings.{KeepsMarks};
+ghost use Rattle.store_theory.specs.Bindings.{KeepsMarks};
 ghost use Rattle.calculus.specs.Choices.{Choice, reduction, start};
 ghost use Rattle.calculus.specs.Syntax.{Problem};
 ghost use Rattle.matrix_build.specs.MatrixView.{the_place};

@@ -3,7 +3,7 @@
 
 ghost use Rattle.std.specs.Prelude.{◌≡◌, ◌<◌, IfOk, MatchOption, OnOk, length, true, ⊤};
 ghost use Rattle.calculus.specs.declared.sort.Sort.TheVariants.{TermSort};
-ghost use Rattle.calculus.specs.Bindings.{AreApart, BindsOnly, BindsWithin, KeepsMarks, Unifies};
+ghost use Rattle.store_theory.specs.Bindings.{AreApart, BindsOnly, BindsWithin, KeepsMarks, Unifies};
 ghost use Rattle.calculus.specs.Equality.{sort_eq};
 ghost use Rattle.connection_search.specs.NewBindings.{IsClosedBelow, IsNewBinding};
 ghost use Rattle.term_store.specs.Room.{KeepsRoom};

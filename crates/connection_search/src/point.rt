@@ -3,10 +3,10 @@
 ghost use Rattle.std.specs.Prelude.{◌≡◌, ◌≤◌, ◌<◌, ◌+◌, ◌++◌, ◌∷◌, [], ℕ, IfOk, List};
 ghost use Rattle.std.specs.Prelude.{MatchOption, OnOk, Some, drop, if◌then◌else◌, length};
 ghost use Rattle.std.specs.Prelude.{nat_lt, take, ⊤};
-ghost use Rattle.calculus.specs.Bindings.{KeepsEarlier};
+ghost use Rattle.store_theory.specs.Bindings.{KeepsEarlier};
 ghost use Rattle.calculus.specs.Choices.{Choice};
 ghost use Rattle.calculus.specs.Kinds as kinds;
-ghost use Rattle.calculus.specs.Stores.{IsGood, cut_at};
+ghost use Rattle.store_theory.specs.Stores.{IsGood, cut_at};
 ghost use Rattle.calculus.specs.Syntax.{Problem};
 ghost use Rattle.matrix_build.specs.MatrixView.{the_place};
 ghost use Rattle.search_theory.specs.OrderedChoices.{choices_at, extension_at, extensions};

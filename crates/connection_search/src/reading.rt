@@ -3,7 +3,7 @@
 
 ghost use Rattle.std.specs.Prelude.{◌≤◌, IsTrue, length, map};
 ghost use Rattle.std.specs.List.{AllByRecursion, list_all};
-ghost use Rattle.calculus.specs.Stores.{names_below};
+ghost use Rattle.store_theory.specs.Stores.{names_below};
 ghost use Rattle.search_theory.specs.States.{atom_is_below};
 ghost use Rattle.term_store.specs.ClauseView.{the_atom};
 ghost use Rattle.term_store.specs.RefView.{the_place, the_places};

@@ -2,7 +2,7 @@
 
 ghost use Rattle.std.specs.Prelude.{◌≡◌, ◌≤◌, ◌<◌, ◌-◌, ◌∷◌, [], ℕ, IfOk, List, OnOk};
 ghost use Rattle.std.specs.Prelude.{length, slice_get, true};
-ghost use Rattle.calculus.specs.Bindings.{KeepsMarks};
+ghost use Rattle.store_theory.specs.Bindings.{KeepsMarks};
 ghost use Rattle.calculus.specs.Choices.{Choice, start};
 ghost use Rattle.calculus.specs.Counting.{AtLeastMany, MoreThan};
 ghost use Rattle.calculus.specs.Space.{IsEarly, member_cmp};

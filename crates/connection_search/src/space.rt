@@ -2,7 +2,7 @@
 
 ghost use Rattle.std.specs.Prelude.{◌≡◌, ◌≤◌, ◌+◌, ◌++◌, ◌∷◌, [], ℕ};
 ghost use Rattle.std.specs.Prelude.{IfOk, List, OnOk, Some, false, length, true};
-ghost use Rattle.calculus.specs.Bindings.{KeepsMarks};
+ghost use Rattle.store_theory.specs.Bindings.{KeepsMarks};
 ghost use Rattle.calculus.specs.Choices.{Choice, IsLeft, extension};
 ghost use Rattle.calculus.specs.declared.sign.Side.{Side};
 ghost use Rattle.calculus.specs.Syntax.{Problem};

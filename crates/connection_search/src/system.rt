@@ -5,7 +5,7 @@ ghost use Rattle.std.specs.Prelude.{length, map, slice_get, sum_by};
 ghost use Rattle.std.specs.List.{AllByRecursion, flat_map};
 ghost use Rattle.search_theory.specs.StateSystems.{pairs_of, pairs_with, string_cells};
 ghost use Rattle.search_theory.specs.States.{CellGoal};
-ghost use Rattle.calculus.specs.Systems as cells;
+ghost use Rattle.store_theory.specs.Systems as cells;
 ghost use Rattle.term_store.specs.ClauseView.{the_atom, the_gamma};
 ghost use Rattle.term_store.specs.RefView.{the_place, the_places};
 ghost use Rattle.term_store.specs.SystemView.{the_system};

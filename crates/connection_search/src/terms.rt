@@ -4,7 +4,7 @@
 
 ghost use Rattle.std.specs.Prelude.{◌<◌, length, OnOk};
 ghost use Rattle.std.specs.List.{AllByRecursion};
-ghost use Rattle.calculus.specs.Bindings.{IsEnd};
+ghost use Rattle.store_theory.specs.Bindings.{IsEnd};
 ghost use Rattle.connection_search.specs.Readable.{IsThere};
 
 use crate::homes::{Homes, is_cell};

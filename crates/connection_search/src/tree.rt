@@ -8,7 +8,7 @@ ghost use Rattle.search_theory.specs.StateSystems.{extended_system, reduced_syst
 ghost use Rattle.search_theory.specs.StateSystems.{started_system};
 ghost use Rattle.search_theory.specs.States.{CellChoice, CellGoal, cell_goals_on, extended};
 ghost use Rattle.search_theory.specs.States.{new_cell_goals, reduced, started};
-ghost use Rattle.calculus.specs.Systems as cells;
+ghost use Rattle.store_theory.specs.Systems as cells;
 ghost use Rattle.term_store.specs.ClauseView.{the_atom};
 ghost use Rattle.connection_search.specs.Trees.{HasAtom, IsTree, KeepsTree, atom_at};
 ghost use Rattle.connection_search.specs.Trees.{clause_with, fresh_goals, goals_of, inserted};

@@ -8,7 +8,7 @@ use Rattle.calculus.specs.Calculus.{with_argument, with_components}
 use Rattle.calculus.specs.Derivations.{Label, Sequent, TermArg, no_term, by_term, by_name}
 use Rattle.calculus.specs.Kinds.{Signed, signed, shape_of, components}
 use Rattle.calculus.specs.Syntax.{Term, Formula, atom, neg, conj, disj, imp, all, ex, box, dia}
-use Rattle.calculus.proofs.PutLaws.{binders}
+use Rattle.calculus.specs.Substitution.{binders}
 use Rattle.derivation_branch.specs.AddedView.{PutsArgument}
 use Rattle.derivation_branch.specs.EntryView.{formula_under}
 use Rattle.derivation_branch.specs.Putting.{formula_with_all}

@@ -11,8 +11,7 @@ use Rattle.calculus.specs.declared.setting.Logic.TheVariants.{Intuitionistic}
 use Rattle.calculus.specs.Syntax.{Term, Terms, var, fun, eigen, spare, no_terms, more_terms, Formula, atom, neg, conj, disj, imp, all, ex, box, dia}
 use Rattle.calculus.specs.Lists.{terms_tree}
 use Rattle.calculus.specs.Kinds.{Signed, signed, shape_of, modal_of, components}
-use Rattle.calculus.specs.Substitution.{put_for, term_with, terms_with, formula_with, any_leaf, any_leaf_of}
-use Rattle.calculus.proofs.PutLaws.{binders}
+use Rattle.calculus.specs.Substitution.{put_for, term_with, terms_with, formula_with, binders, any_leaf, any_leaf_of}
 use Rattle.derivation_branch.specs.Putting.{term_with_all, terms_with_all, formula_with_all, is_var, IsClosed, AreClosed, value_at}
 
 -- ---- connectives

@@ -5,17 +5,17 @@ use Rattle.std.proofs.lemmas.Bool.{false≢true, and_from, and_parts}
 use Rattle.calculus.specs.declared.sort.Sort.TheVariants.{TermSort, MarkSort, StringSort}
 use Rattle.calculus.specs.declared.setting.Domains.{Domains}
 use Rattle.calculus.specs.declared.setting.Domains.TheVariants.{Constant, Cumulative, Varying}
-use Rattle.calculus.specs.Bindings.{AddsBuilt, nothing_more, EndsIn, IsEnd, IsWellFormed}
+use Rattle.store_theory.specs.Bindings.{AddsBuilt, nothing_more, EndsIn, IsEnd, IsWellFormed}
 use Rattle.calculus.specs.Equality.{mark_eq}
 use Rattle.calculus.specs.Labels.{home_allows, is_prefix}
 use Rattle.calculus.specs.Skolem.{common_spares, has_constant, is_varying, label_of}
-use Rattle.calculus.specs.Stores.{eigen_cell, Store, TrailMark, IsGood, cut_at, has_sort_at, has_value_sort_at, is_store, names_below, OccursIn, here, in_part, Solution, Solves, label_at, marks_at, Holds, itself, bound, argument, GammaCell}
+use Rattle.store_theory.specs.Stores.{eigen_cell, Store, TrailMark, IsGood, cut_at, has_sort_at, has_value_sort_at, is_store, names_below, OccursIn, here, in_part, Solution, Solves, label_at, marks_at, Holds, itself, bound, argument, GammaCell}
 use Rattle.calculus.specs.Syntax.{Problem}
-use Rattle.calculus.specs.Systems.{AllAllowed, AreEqualNow, Equation, HasNoOpenString, IsDemandEquation, IsOpenString, MeetsDemand, OwnSparesMeet, Pair, System, cells_of_atom, has_label_sort_at, is_gamma_cell, is_label, is_system}
-use Rattle.calculus.specs.Templates.{as_label, as_value}
-use Rattle.calculus.proofs.BindingLaws.{HasNoCycle-rank, kept, parts-within}
+use Rattle.store_theory.specs.Systems.{AllAllowed, AreEqualNow, Equation, HasNoOpenString, IsDemandEquation, IsOpenString, MeetsDemand, OwnSparesMeet, Pair, System, cells_of_atom, has_label_sort_at, is_gamma_cell, is_label, is_system}
+use Rattle.store_theory.specs.Templates.{as_label, as_value}
+use Rattle.store_theory.proofs.BindingLaws.{HasNoCycle-rank, kept, parts-within}
 use Rattle.calculus.proofs.EqualityLaws.{mark_eq-tells, list_eq-tells}
-use Rattle.calculus.proofs.PatternLaws.{Grows-built, KeepsMarks-built, grown-label}
+use Rattle.store_theory.proofs.PatternLaws.{Grows-built, KeepsMarks-built, grown-label}
 use Rattle.calculus.proofs.PlaceLists.{all-at, all-more, get-within}
 use Rattle.search_theory.specs.Demanding.{equation}
 use Rattle.search_theory.specs.States.{label_by, values_by, Agree}

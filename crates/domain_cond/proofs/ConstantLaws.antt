@@ -1,12 +1,12 @@
 -- With constant domains own spares meet the condition in every store.
 use Rattle.std.proofs.Common.{◌≡◌, suc, length, true, IsTrue, ap, sym, subst}
 use Rattle.calculus.specs.declared.setting.Domains.TheVariants.{Constant}
-use Rattle.calculus.specs.Bindings.{IsWellFormed}
+use Rattle.store_theory.specs.Bindings.{IsWellFormed}
 use Rattle.calculus.specs.Skolem.{common_spares, has_constant, is_varying}
-use Rattle.calculus.specs.Stores.{Store}
+use Rattle.store_theory.specs.Stores.{Store}
 use Rattle.calculus.specs.Syntax.{Problem}
-use Rattle.calculus.specs.Systems.{AllAllowed, OwnSparesMeet, System, is_system}
-use Rattle.calculus.proofs.BindingLaws.{HasNoCycle-rank}
+use Rattle.store_theory.specs.Systems.{AllAllowed, OwnSparesMeet, System, is_system}
+use Rattle.store_theory.proofs.BindingLaws.{HasNoCycle-rank}
 use Rattle.search_theory.proofs.DemandLaws.{homes-constant, met-common}
 use Rattle.search_theory.proofs.RankLaws.{rank_of, ranked-by_no_cycle}
 use Rattle.search_theory.proofs.SolvingLaws.{system-parts}

@@ -5,16 +5,16 @@ use Rattle.std.proofs.lemmas.Bool.{and_from, and_parts}
 use Rattle.std.proofs.lemmas.List.{take_all}
 use Rattle.calculus.specs.declared.setting.Domains.{Domains}
 use Rattle.calculus.specs.declared.setting.Domains.TheVariants.{Constant, Cumulative, Varying}
-use Rattle.calculus.specs.Bindings.{AddsBuilt, IsEnd}
+use Rattle.store_theory.specs.Bindings.{AddsBuilt, IsEnd}
 use Rattle.calculus.specs.Equality.{mark_eq}
 use Rattle.calculus.specs.Ground.{GroundMark}
 use Rattle.calculus.specs.Labels.{home_allows, is_prefix}
 use Rattle.calculus.specs.Skolem.{label_of}
-use Rattle.calculus.specs.Stores.{GammaCell, Solution, Store, eigen_cell}
+use Rattle.store_theory.specs.Stores.{GammaCell, Solution, Store, eigen_cell}
 use Rattle.calculus.specs.Syntax.{Problem}
-use Rattle.calculus.specs.Systems.{AllAllowed, MeetsDemand, System, is_gamma_cell, is_label, is_system}
+use Rattle.store_theory.specs.Systems.{AllAllowed, MeetsDemand, System, is_gamma_cell, is_label, is_system}
 use Rattle.calculus.proofs.EqualityLaws.{list_eq-tells, mark_eq-tells}
-use Rattle.calculus.proofs.PatternLaws.{Grows-built, grown-cell, grown-gamma_cell}
+use Rattle.store_theory.proofs.PatternLaws.{Grows-built, grown-cell, grown-gamma_cell}
 use Rattle.search_theory.specs.States.{label_by, values_by}
 use Rattle.search_theory.proofs.BuildingLaws.{adds-back}
 use Rattle.search_theory.proofs.DemandLaws.{HomesAllow, prefix-taken}

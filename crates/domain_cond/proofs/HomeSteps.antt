@@ -4,10 +4,10 @@ use Rattle.calculus.specs.declared.sign.Sign.{Sign}
 use Rattle.calculus.specs.declared.setting.Logic.{Logic}
 use Rattle.calculus.specs.declared.kind.Shape.{Shape}
 use Rattle.calculus.specs.declared.kind.ModalPart.{ModalPart}
-use Rattle.calculus.specs.Bindings.{AddsBuilt}
+use Rattle.store_theory.specs.Bindings.{AddsBuilt}
 use Rattle.calculus.specs.Kinds.{shape_of, modal_of, components}
 use Rattle.calculus.specs.Positions.{size}
-use Rattle.calculus.specs.Stores.{Store}
+use Rattle.store_theory.specs.Stores.{Store}
 use Rattle.calculus.specs.Syntax.{Formula, Problem}
 use Rattle.tableau_core.specs.InsideView.{Inside}
 use Rattle.domain_cond.specs.Ways.{IsBelow, IsFoundHome, IsPushed, LacksString, LacksTerm, TakesString, TakesTerm}

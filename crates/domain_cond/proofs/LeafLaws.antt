@@ -2,11 +2,11 @@
 use Rattle.std.proofs.Common.{◌≡◌, ◌⊎◌, ◌||◌, cond, ◌==◌, ℕ, zero, suc, ◌<◌, List, [], ◌∷◌, ◌++◌, length, Bool, true, false, not, IsTrue, refl, sym, ◌∙◌, ap, subst, Some, slice_get, inl, inr, arith, eqb-true, eq-eqb}
 use Rattle.std.proofs.lemmas.Bool.{cases_Bool, false≢true}
 use Rattle.calculus.specs.declared.sort.Sort.{Sort}
-use Rattle.calculus.specs.Bindings.{EndsIn, IsEnd}
-use Rattle.calculus.specs.Stores.{Cell, variable, fun_cell, eigen_cell, new_cell, string_cell, Store, parts_of, is_bound, is_store, EndsAt, stays, goes_on, Holds, itself, bound, argument}
-use Rattle.calculus.proofs.BindingLaws.{kept, parts-within}
+use Rattle.store_theory.specs.Bindings.{EndsIn, IsEnd}
+use Rattle.store_theory.specs.Stores.{Cell, variable, fun_cell, eigen_cell, new_cell, string_cell, Store, parts_of, is_bound, is_store, EndsAt, stays, goes_on, Holds, itself, bound, argument}
+use Rattle.store_theory.proofs.BindingLaws.{kept, parts-within}
 use Rattle.calculus.proofs.PlaceLists.{get-front, get-last}
-use Rattle.calculus.proofs.WeightLaws.{weight_sum}
+use Rattle.store_theory.proofs.WeightLaws.{weight_sum}
 use Rattle.cop_base.specs.declared.PosId.{PosId}
 use Rattle.cop_base.specs.declared.SymbolId.{SymbolId}
 use Rattle.term_store.specs.Shown.{head_of}

@@ -3,13 +3,13 @@ use Rattle.std.proofs.Common.{◌≡◌, ℕ, zero, suc, List, [], ◌∷◌, �
 use Rattle.std.proofs.lemmas.Bool.{and_from}
 use Rattle.calculus.specs.declared.sort.Sort.TheVariants.{StringSort}
 use Rattle.calculus.specs.declared.setting.Domains.TheVariants.{Varying}
-use Rattle.calculus.specs.Bindings.{AddsBuilt, IsWellFormed, with_cell}
+use Rattle.store_theory.specs.Bindings.{AddsBuilt, IsWellFormed, with_cell}
 use Rattle.calculus.specs.Ground.{GroundMark}
 use Rattle.calculus.specs.Skolem.{common_spares}
-use Rattle.calculus.specs.Stores.{Cell, variable, new_cell, Store, GammaCell, OccursIn, here, in_part, Solution, Solves, parts_of, join_label, label_at}
+use Rattle.store_theory.specs.Stores.{Cell, variable, new_cell, Store, GammaCell, OccursIn, here, in_part, Solution, Solves, parts_of, join_label, label_at}
 use Rattle.calculus.specs.Syntax.{Problem}
-use Rattle.calculus.specs.Systems.{AllAllowed, AreEqual, Equation, IsDemandEquation, IsOpenString, MeetsDemand, OwnSparesMeet, System, is_label, is_system}
-use Rattle.calculus.proofs.BindingLaws.{HasNoCycle-rank}
+use Rattle.store_theory.specs.Systems.{AllAllowed, AreEqual, Equation, IsDemandEquation, IsOpenString, MeetsDemand, OwnSparesMeet, System, is_label, is_system}
+use Rattle.store_theory.proofs.BindingLaws.{HasNoCycle-rank}
 use Rattle.calculus.proofs.PlaceLists.{get-end}
 use Rattle.search_theory.proofs.BuildingLaws.{adds-back}
 use Rattle.search_theory.proofs.DemandLaws.{HomesAllow, forced-home, met-own, never-constant}

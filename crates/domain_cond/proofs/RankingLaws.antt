@@ -3,9 +3,9 @@ use Rattle.std.proofs.Common.{◌≡◌, ◌⊎◌, ℕ, zero, suc, ◌+◌, ◌
 use Rattle.std.proofs.lemmas.Bool.{cases_lt, false≢true}
 use Rattle.calculus.specs.declared.sort.Sort.{Sort}
 use Rattle.calculus.specs.declared.sort.Sort.TheVariants.{TermSort, MarkSort, StringSort}
-use Rattle.calculus.specs.Bindings.{IsWellFormed}
-use Rattle.calculus.specs.Stores.{Cell, variable, fun_cell, eigen_cell, new_cell, string_cell, Store, EndsAt, stays, goes_on, is_bound, parts_of}
-use Rattle.calculus.proofs.BindingLaws.{ends-on, ends-once}
+use Rattle.store_theory.specs.Bindings.{IsWellFormed}
+use Rattle.store_theory.specs.Stores.{Cell, variable, fun_cell, eigen_cell, new_cell, string_cell, Store, EndsAt, stays, goes_on, is_bound, parts_of}
+use Rattle.store_theory.proofs.BindingLaws.{ends-on, ends-once}
 use Rattle.calculus.proofs.PlaceLists.{get-last, get-there, get-within}
 use Rattle.search_theory.proofs.NeedRanks.{HasNoNeedCycle, NeedsCells, need_rank, ranked-by_no_need_cycle}
 use Rattle.search_theory.proofs.OwnHomes.{Needs, at_once, by_way}

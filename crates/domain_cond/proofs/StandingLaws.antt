@@ -3,9 +3,9 @@ use Rattle.std.proofs.Common.{◌≡◌, ◌⊎◌, ◌||◌, ◌==◌, ℕ, zer
 use Rattle.std.specs.List.{list_all}
 use Rattle.std.proofs.lemmas.Bool.{or_left, or_right, cases_lt, false≢true, and_from}
 use Rattle.calculus.specs.declared.sort.Sort.TheVariants.{TermSort}
-use Rattle.calculus.specs.Bindings.{EndsIn}
-use Rattle.calculus.specs.Stores.{Cell, variable, fun_cell, eigen_cell, new_cell, string_cell, Store, GammaCell, Holds}
-use Rattle.calculus.specs.Systems.{AreEqualNow, is_gamma_cell, is_label}
+use Rattle.store_theory.specs.Bindings.{EndsIn}
+use Rattle.store_theory.specs.Stores.{Cell, variable, fun_cell, eigen_cell, new_cell, string_cell, Store, GammaCell, Holds}
+use Rattle.store_theory.specs.Systems.{AreEqualNow, is_gamma_cell, is_label}
 use Rattle.calculus.proofs.PlaceLists.{all-at, get-end, get-front, get-within}
 use Rattle.cop_base.specs.declared.SymbolId.{SymbolId}
 use Rattle.search_theory.specs.Demanding.{HasNoConstant, HomesAgree, equation}

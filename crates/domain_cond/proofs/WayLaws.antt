@@ -13,19 +13,19 @@ use Rattle.calculus.specs.declared.kind.Shape.{Shape}
 use Rattle.calculus.specs.declared.kind.Shape.TheVariants.{Alpha, Beta, Gamma, Delta, Literal}
 use Rattle.calculus.specs.declared.kind.ModalPart.{ModalPart}
 use Rattle.calculus.specs.declared.kind.ModalPart.TheVariants.{Plain, Nu, Pi}
-use Rattle.calculus.specs.Bindings.{AddsBuilt, nothing_more, EndsIn, with_cell}
+use Rattle.store_theory.specs.Bindings.{AddsBuilt, nothing_more, EndsIn, with_cell}
 use Rattle.calculus.specs.Equality.{sort_eq}
 use Rattle.calculus.specs.Kinds.{shape_of, modal_of, components}
 use Rattle.calculus.specs.Labels.{pi_label}
 use Rattle.calculus.specs.Positions.{size, way_from}
 use Rattle.calculus.specs.Skolem.{Reached, take_string, after_modal, take_term, after_shape, label_along, at_root, label_of}
-use Rattle.calculus.specs.Stores.{Cell, variable, fun_cell, eigen_cell, new_cell, string_cell, Store, parts_of, sort_of, has_sort_at, has_value_sort_at, is_store, parts_fit, OccursIn, here, in_part, Solution, Solves}
+use Rattle.store_theory.specs.Stores.{Cell, variable, fun_cell, eigen_cell, new_cell, string_cell, Store, parts_of, sort_of, has_sort_at, has_value_sort_at, is_store, parts_fit, OccursIn, here, in_part, Solution, Solves}
 use Rattle.calculus.specs.Syntax.{Formula, Problem}
-use Rattle.calculus.specs.Systems.{has_label_sort_at, is_label}
-use Rattle.calculus.specs.Templates.{as_value}
-use Rattle.calculus.proofs.BindingLaws.{has_sort-from, sort_eq-same, sorted_cell}
-use Rattle.calculus.specs.Patterns.{Grows}
-use Rattle.calculus.proofs.PatternLaws.{AddsBuilt-both, Grows-built, Grows-with_cell, grown-label, grown-sort}
+use Rattle.store_theory.specs.Systems.{has_label_sort_at, is_label}
+use Rattle.store_theory.specs.Templates.{as_value}
+use Rattle.store_theory.proofs.BindingLaws.{has_sort-from, sort_eq-same, sorted_cell}
+use Rattle.store_theory.specs.Patterns.{Grows}
+use Rattle.store_theory.proofs.PatternLaws.{AddsBuilt-both, Grows-built, Grows-with_cell, grown-label, grown-sort}
 use Rattle.calculus.proofs.PlaceLists.{all-at, all-more, get-end, get-there, get-within}
 use Rattle.tableau_core.specs.InsideView.{Inside}
 use Rattle.tableau_core.specs.Reaching.{rest_of}

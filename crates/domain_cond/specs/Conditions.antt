@@ -4,9 +4,9 @@ use Rattle.std.specs.List.{AllByRecursion, list_all}
 use Rattle.calculus.specs.Equality.{mark_eq}
 use Rattle.calculus.specs.Labels.{home_allows}
 use Rattle.calculus.specs.Skolem.{label_of}
-use Rattle.calculus.specs.Stores.{eigen_cell, Store, Solution, Solves, OccursIn}
+use Rattle.store_theory.specs.Stores.{eigen_cell, Store, Solution, Solves, OccursIn}
 use Rattle.calculus.specs.Syntax.{Problem}
-use Rattle.calculus.specs.Systems.{Equation, AreEqual, AreEqualNow, IsOpenString, is_equation, is_label}
+use Rattle.store_theory.specs.Systems.{Equation, AreEqual, AreEqualNow, IsOpenString, is_equation, is_label}
 use Rattle.search_theory.specs.Demanding.{IsHomeAt, equation}
 use Rattle.search_theory.specs.States.{label_by, values_by}
 use Rattle.term_store.specs.Homes.{BeginsLabel, Home, is_home}

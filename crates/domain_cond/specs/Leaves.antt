@@ -1,7 +1,7 @@
 -- What stands in a term outside the values of names, and has no arguments.
 use Rattle.std.specs.Prelude.{◌≡◌, ℕ, List, ◌∷◌, ◌==◌, Bool, true, false, Some, slice_get}
 use Rattle.std.specs.List.{list_any}
-use Rattle.calculus.specs.Stores.{Cell, fun_cell, Store, is_bound, Holds}
+use Rattle.store_theory.specs.Stores.{Cell, fun_cell, Store, is_bound, Holds}
 
 abbrev pub has_arguments : Cell → Bool
 has_arguments (fun_cell f (r ∷ rs)) = true

@@ -1,6 +1,6 @@
 -- Numbers for cells by rounds: each is the least above those of what the cell needs, in the round before.
 use Rattle.std.specs.Prelude.{◌≡◌, ◌⊎◌, ℕ, suc, ◌<◌, ◌≤◌, List, [], ◌∷◌, zero, length, Some, slice_get}
-use Rattle.calculus.specs.Stores.{Cell, Store, EndsAt}
+use Rattle.store_theory.specs.Stores.{Cell, Store, EndsAt}
 use Rattle.search_theory.proofs.RuleLaws.{SpareRule, needed}
 
 -- 0 beyond the list

@@ -2,8 +2,8 @@
 use Rattle.std.specs.Prelude.{◌≡◌, ℕ, List, [], ◌∷◌, Bool, None, Some, length, slice_get, if◌then◌else◌}
 use Rattle.std.specs.List.{list_any}
 use Rattle.calculus.specs.declared.sort.Sort.TheVariants.{TermSort}
-use Rattle.calculus.specs.Stores.{variable, fun_cell, Store, Solution, Holds, GammaCell}
-use Rattle.calculus.specs.Systems.{AreEqual, AreEqualNow}
+use Rattle.store_theory.specs.Stores.{variable, fun_cell, Store, Solution, Holds, GammaCell}
+use Rattle.store_theory.specs.Systems.{AreEqual, AreEqualNow}
 use Rattle.search_theory.specs.Demanding.{HasNoConstant, HomesAgree, equation}
 use Rattle.search_theory.proofs.GivingLaws.{IsFlat}
 use Rattle.search_theory.proofs.NeedRanks.{HasNoNeedCycle}

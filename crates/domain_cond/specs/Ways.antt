@@ -6,9 +6,9 @@ use Rattle.calculus.specs.declared.kind.Shape.{Shape}
 use Rattle.calculus.specs.declared.kind.Shape.TheVariants.{Alpha, Beta, Gamma, Delta, Literal}
 use Rattle.calculus.specs.declared.kind.ModalPart.{ModalPart}
 use Rattle.calculus.specs.declared.kind.ModalPart.TheVariants.{Plain, Nu, Pi}
-use Rattle.calculus.specs.Stores.{Store, has_sort_at}
+use Rattle.store_theory.specs.Stores.{Store, has_sort_at}
 use Rattle.calculus.specs.declared.setting.Logic.{Logic}
-use Rattle.calculus.specs.Systems.{is_label}
+use Rattle.store_theory.specs.Systems.{is_label}
 use Rattle.calculus.specs.Kinds.{Signed}
 use Rattle.tableau_core.specs.InsideView.{Inside, LeadsOn}
 use Rattle.term_unify.specs.Flat.{HasNoString}

@@ -3,12 +3,12 @@
 ghost use Rattle.std.specs.Prelude.{◌≡◌, ◌+◌, ◌^◌, ◌<◌, ◌≤◌, ℕ, None, Some, IfOk, IfSome, IsTrue, OnOk};
 ghost use Rattle.std.specs.Prelude.{length, map, slice_get};
 ghost use Rattle.std.specs.List.{list_all};
-ghost use Rattle.calculus.specs.Bindings.{AddsBuilt};
+ghost use Rattle.store_theory.specs.Bindings.{AddsBuilt};
 ghost use Rattle.calculus.specs.Equality.{sort_eq};
 ghost use Rattle.calculus.specs.Kinds.{components};
 ghost use Rattle.calculus.specs.Labels.{pi_label};
 ghost use Rattle.calculus.specs.Positions.{size};
-ghost use Rattle.calculus.specs.Stores.{has_sort_at, has_value_sort_at};
+ghost use Rattle.store_theory.specs.Stores.{has_sort_at, has_value_sort_at};
 ghost use Rattle.formula_core.specs.FormulaView.{the_formula};
 ghost use Rattle.tableau_core.specs.InsideView.{the_inside};
 ghost use Rattle.term_store.specs.RefView.{the_place};

@@ -3,10 +3,10 @@
 ghost use Rattle.std.specs.Prelude.{◌≡◌, IfOk, IsTrue, List, OnErr, OnOk, map, true};
 ghost use Rattle.std.specs.List.{AllByRecursion, list_all};
 ghost use Rattle.calculus.specs.declared.setting.Domains.TheVariants.{Constant, Varying};
-ghost use Rattle.calculus.specs.Bindings.{AddsBuilt, IsEnd};
-ghost use Rattle.calculus.specs.Stores.{Solution, Solves};
-ghost use Rattle.calculus.specs.Systems.{AllAllowed, MeetsDemand, is_gamma_cell, is_label};
-ghost use Rattle.calculus.specs.Systems.{is_system};
+ghost use Rattle.store_theory.specs.Bindings.{AddsBuilt, IsEnd};
+ghost use Rattle.store_theory.specs.Stores.{Solution, Solves};
+ghost use Rattle.store_theory.specs.Systems.{AllAllowed, MeetsDemand, is_gamma_cell, is_label};
+ghost use Rattle.store_theory.specs.Systems.{is_system};
 ghost use Rattle.search_theory.proofs.DemandLaws.{HomesAllow};
 ghost use Rattle.term_store.specs.ClauseView.{the_gamma};
 ghost use Rattle.term_store.specs.Homes.{BeginsLabel, is_home};

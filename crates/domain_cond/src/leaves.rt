@@ -1,8 +1,8 @@
 //! What stands in terms outside the values of names.
 
 ghost use Rattle.std.specs.Prelude.{◌≡◌, ◌++◌, ◌<◌, ℕ, Some, IfOk, OnOk, false, length, map, slice_get, true};
-ghost use Rattle.calculus.specs.Bindings.{IsEnd};
-ghost use Rattle.calculus.specs.Stores.{Cell, parts_of};
+ghost use Rattle.store_theory.specs.Bindings.{IsEnd};
+ghost use Rattle.store_theory.specs.Stores.{Cell, parts_of};
 ghost use Rattle.term_store.specs.RefView.{the_place};
 ghost use Rattle.domain_cond.specs.Leaves.{AreLeaves, has_arguments};
 

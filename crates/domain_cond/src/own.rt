@@ -2,10 +2,10 @@
 
 ghost use Rattle.std.specs.Prelude.{◌≡◌, None, IfOk, IfSome, IsTrue, OnErr, false, map};
 ghost use Rattle.calculus.specs.declared.setting.Domains.TheVariants.{Varying};
-ghost use Rattle.calculus.specs.Bindings.{AddsBuilt};
+ghost use Rattle.store_theory.specs.Bindings.{AddsBuilt};
 ghost use Rattle.calculus.specs.Skolem.{common_spares};
 ghost use Rattle.calculus.specs.Syntax as syntax;
-ghost use Rattle.calculus.specs.Systems.{AllAllowed, HasNoOpenString, IsDemandEquation, is_system};
+ghost use Rattle.store_theory.specs.Systems.{AllAllowed, HasNoOpenString, IsDemandEquation, is_system};
 ghost use Rattle.term_store.specs.Room.{KeepsRoom};
 ghost use Rattle.term_store.specs.SystemView.{the_equation, the_system};
 ghost use Rattle.domain_cond.specs.Conditions.{IsForced};

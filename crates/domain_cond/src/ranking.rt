@@ -3,8 +3,8 @@
 ghost use Rattle.std.specs.Prelude.{◌≡◌, ◌<◌, ◌≤◌, ◌⊎◌, ℕ, suc, None, Some, IfOk, false, length};
 ghost use Rattle.std.specs.Prelude.{map, slice_get, true};
 ghost use Rattle.calculus.specs.declared.sort.Sort.TheVariants.{TermSort};
-ghost use Rattle.calculus.specs.Bindings.{IsEnd, IsWellFormed};
-ghost use Rattle.calculus.specs.Stores.{variable};
+ghost use Rattle.store_theory.specs.Bindings.{IsEnd, IsWellFormed};
+ghost use Rattle.store_theory.specs.Stores.{variable};
 ghost use Rattle.search_theory.proofs.NeedRanks.{HasNoNeedCycle, NeedsCells};
 ghost use Rattle.search_theory.proofs.RuleLaws.{homes};
 ghost use Rattle.term_store.specs.RefView.{the_place};

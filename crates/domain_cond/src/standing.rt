@@ -3,8 +3,8 @@
 ghost use Rattle.std.specs.Prelude.{◌≡◌, ◌<◌, ℕ, [], None, Some, IfOk, IfSome, IsTrue, false};
 ghost use Rattle.std.specs.Prelude.{length, map, slice_get, true};
 ghost use Rattle.std.specs.List.{list_all};
-ghost use Rattle.calculus.specs.Stores.{GammaCell, fun_cell};
-ghost use Rattle.calculus.specs.Systems.{is_gamma_cell, is_label};
+ghost use Rattle.store_theory.specs.Stores.{GammaCell, fun_cell};
+ghost use Rattle.store_theory.specs.Systems.{is_gamma_cell, is_label};
 ghost use Rattle.search_theory.specs.Demanding.{HomesAgree};
 ghost use Rattle.term_store.specs.ClauseView.{the_gamma};
 ghost use Rattle.term_store.specs.RefView.{the_place};

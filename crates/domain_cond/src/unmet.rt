@@ -3,12 +3,12 @@
 ghost use Rattle.std.specs.Prelude.{◌≡◌, ◌<◌, ℕ, List, None, Some, IfOk, IfSome, IsTrue, OnErr};
 ghost use Rattle.std.specs.Prelude.{false, length, map, slice_get, true};
 ghost use Rattle.calculus.specs.declared.setting.Domains.TheVariants.{Constant};
-ghost use Rattle.calculus.specs.Bindings.{AddsBuilt, IsEnd};
-ghost use Rattle.calculus.specs.Stores.{Solution, Solves, eigen_cell};
-ghost use Rattle.calculus.specs.Stores as tree;
+ghost use Rattle.store_theory.specs.Bindings.{AddsBuilt, IsEnd};
+ghost use Rattle.store_theory.specs.Stores.{Solution, Solves, eigen_cell};
+ghost use Rattle.store_theory.specs.Stores as tree;
 ghost use Rattle.calculus.specs.Syntax as syntax;
-ghost use Rattle.calculus.specs.Systems.{AllAllowed, HasNoOpenString, IsDemandEquation};
-ghost use Rattle.calculus.specs.Systems.{is_gamma_cell, is_label, is_system};
+ghost use Rattle.store_theory.specs.Systems.{AllAllowed, HasNoOpenString, IsDemandEquation};
+ghost use Rattle.store_theory.specs.Systems.{is_gamma_cell, is_label, is_system};
 ghost use Rattle.search_theory.proofs.DemandLaws.{HomesAllow};
 ghost use Rattle.term_store.specs.ClauseView.{the_gamma};
 ghost use Rattle.term_store.specs.RefView.{the_place};

@@ -5,9 +5,9 @@ ghost use Rattle.std.specs.List.{list_all};
 ghost use Rattle.calculus.specs.declared.setting.Domains.TheVariants.{Varying};
 ghost use Rattle.calculus.specs.Instances.{gamma_is_allowed};
 ghost use Rattle.calculus.specs.Skolem.{common_spares};
-ghost use Rattle.calculus.specs.Bindings.{AddsBuilt};
-ghost use Rattle.calculus.specs.Systems.{AllAllowed, HasNoOpenString, IsDemandEquation};
-ghost use Rattle.calculus.specs.Systems.{OwnSparesMeet, is_system};
+ghost use Rattle.store_theory.specs.Bindings.{AddsBuilt};
+ghost use Rattle.store_theory.specs.Systems.{AllAllowed, HasNoOpenString, IsDemandEquation};
+ghost use Rattle.store_theory.specs.Systems.{OwnSparesMeet, is_system};
 ghost use Rattle.term_store.specs.Room.{KeepsRoom};
 ghost use Rattle.term_store.specs.SystemView.{the_equation, the_system};
 

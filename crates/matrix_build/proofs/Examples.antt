@@ -9,7 +9,7 @@ use Rattle.calculus.specs.declared.setting.Logic.TheVariants.{Classical, Intuiti
 use Rattle.calculus.specs.declared.setting.Domains.TheVariants.{Constant}
 use Rattle.calculus.specs.Clauses.{selections}
 use Rattle.calculus.specs.Syntax.{Problem, Formula, atom, imp, all, ex, box, dia, var, no_terms, more_terms}
-use Rattle.calculus.specs.Patterns.{Pattern, p_var, p_eigen, p_new, no_patterns, more_patterns}
+use Rattle.store_theory.specs.Patterns.{Pattern, p_var, p_eigen, p_new, no_patterns, more_patterns}
 use Rattle.search_theory.specs.TemplateOf.{template_of}
 
 abbrev problem : Logic → Formula → Problem

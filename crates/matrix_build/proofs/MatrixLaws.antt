@@ -5,7 +5,7 @@ use Rattle.calculus.specs.declared.setting.Logic.{Logic}
 use Rattle.calculus.specs.declared.sign.Side.{Side}
 use Rattle.calculus.specs.declared.sign.Sign.TheVariants.{F}
 use Rattle.calculus.specs.Clauses.{selections}
-use Rattle.calculus.specs.Patterns.{Template}
+use Rattle.store_theory.specs.Patterns.{Template}
 use Rattle.calculus.specs.Problems.{formula_fits}
 use Rattle.calculus.specs.Syntax.{Formula, Problem}
 use Rattle.search_theory.specs.Matrix.{MatrixClause, IsTemplateMatrix}

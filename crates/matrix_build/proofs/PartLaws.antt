@@ -11,9 +11,9 @@ use Rattle.calculus.specs.declared.sign.Side.TheVariants.{Left, Right}
 use Rattle.calculus.specs.declared.sort.Sort.{Sort}
 use Rattle.calculus.specs.declared.sort.Sort.TheVariants.{TermSort, StringSort}
 use Rattle.calculus.specs.Kinds.{components, modal_of, shape_of}
-use Rattle.calculus.specs.Patterns.{Pattern, PatternAtom, Template, p_var, p_eigen, patterns_tree}
+use Rattle.store_theory.specs.Patterns.{Pattern, PatternAtom, Template, p_var, p_eigen, patterns_tree}
 use Rattle.calculus.specs.Syntax.{Terms, Formula, atom, neg, conj, disj, imp, all, ex, box, dia}
-use Rattle.calculus.specs.Templates.{strings_from}
+use Rattle.store_theory.specs.Templates.{strings_from}
 use Rattle.search_theory.specs.TemplateOf.{root_pattern_spot, template_by, PatternBody, PatternPart, PatternSpot, of_sort, one_pi_more, pattern_down, pattern_inside, pattern_modal, pattern_turn, pattern_atom, joined_patterns, pattern_alpha, pattern_beta, pattern_one, pattern_two, with_pattern_gamma, pattern_quantifier, pattern_part, patterns_of}
 use Rattle.matrix_build.specs.Parts.{BuiltPart, with_part, with_sort, with_pi, with_gamma, with_literal, with_side, Adds, IsTemplateIfAny, body_by, nothing_built}
 use Rattle.matrix_build.specs.WayView.{nu_spot, pi_spot}

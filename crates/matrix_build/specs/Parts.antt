@@ -8,7 +8,7 @@ use Rattle.calculus.specs.declared.sign.Sign.{Sign}
 use Rattle.calculus.specs.declared.sort.Sort.{Sort}
 use Rattle.calculus.specs.declared.sign.Sign.TheVariants.{F}
 use Rattle.calculus.specs.Kinds.{Signed}
-use Rattle.calculus.specs.Patterns.{PatternAtom, PatternGamma, Template}
+use Rattle.store_theory.specs.Patterns.{PatternAtom, PatternGamma, Template}
 use Rattle.calculus.specs.Positions.{size}
 use Rattle.calculus.specs.Syntax.{Formula, atom}
 use Rattle.search_theory.specs.TemplateOf.{PatternBody, PatternPart, PatternSpot, pattern_atom, pattern_one, pattern_part, pattern_quantifier, pattern_two, root_pattern_spot, template_by}

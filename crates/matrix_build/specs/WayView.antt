@@ -2,7 +2,7 @@
 use Rattle.std.specs.Prelude.{ℕ, List, [], ◌∷◌, ◌++◌}
 use Rattle.calculus.specs.declared.setting.Logic.{Logic}
 use Rattle.calculus.specs.Labels.{pi_label}
-use Rattle.calculus.specs.Patterns.{Pattern, p_var, p_new, patterns_tree}
+use Rattle.store_theory.specs.Patterns.{Pattern, p_var, p_new, patterns_tree}
 use Rattle.search_theory.specs.TemplateOf.{PatternSpot}
 use Rattle.matrix_build.specs.declared.way.Way.{Way}
 

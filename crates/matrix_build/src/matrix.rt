@@ -32,7 +32,7 @@ pub struct Matrix {
 impl Model for Matrix {
     ghost use Rattle.std.specs.Prelude.{List, map};
     ghost use Rattle.std.specs.Coded.{codes};
-    ghost use Rattle.calculus.specs.Patterns.{pattern_code};
+    ghost use Rattle.store_theory.specs.Patterns.{pattern_code};
     ghost use Rattle.search_theory.specs.Matrix.{MatrixClause};
 
     ghost Value = { List MatrixClause };

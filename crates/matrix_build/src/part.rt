@@ -2,7 +2,7 @@
 
 ghost use Rattle.std.specs.Prelude.{◌≡◌, ◌∷◌, ◌++◌, ◌+◌, [], OnOk, IfOk, MatchOption, length};
 ghost use Rattle.calculus.specs.Lists.{terms_tree};
-ghost use Rattle.calculus.specs.Patterns.{p_var};
+ghost use Rattle.store_theory.specs.Patterns.{p_var};
 ghost use Rattle.search_theory.specs.TemplateOf.{patterns_of};
 ghost use Rattle.matrix_build.specs.PartView.{the_part};
 ghost use Rattle.matrix_build.specs.Parts.{with_gamma, with_literal, with_pi, with_side, with_sort};

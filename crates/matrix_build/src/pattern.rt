@@ -2,7 +2,7 @@
 
 ghost use Rattle.std.specs.Prelude.{◌≡◌, ◌∷◌, ◌++◌, [], IfOk, slice_index_or};
 ghost use Rattle.calculus.specs.Lists.{terms_tree};
-ghost use Rattle.calculus.specs.Patterns.{no_patterns, p_new};
+ghost use Rattle.store_theory.specs.Patterns.{no_patterns, p_new};
 ghost use Rattle.search_theory.specs.TemplateOf.{pattern_of, patterns_of};
 ghost use Rattle.formula_core.specs.TermView.{the_term};
 ghost use Rattle.term_store.specs.PatternView.{the_pattern};

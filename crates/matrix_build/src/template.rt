@@ -1,7 +1,7 @@
 //! The template of a selection.
 
 ghost use Rattle.std.specs.Prelude.{◌≡◌, ◌+◌, IfOk};
-ghost use Rattle.calculus.specs.Templates.{strings_from};
+ghost use Rattle.store_theory.specs.Templates.{strings_from};
 ghost use Rattle.formula_core.specs.FormulaView.{the_formula};
 ghost use Rattle.matrix_build.specs.Parts.{IsTemplateIfAny, nothing_built};
 ghost use Rattle.matrix_build.specs.PartView.{the_part};

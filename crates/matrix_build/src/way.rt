@@ -1,7 +1,7 @@
 //! What was passed on the way to a signed formula.
 
 ghost use Rattle.std.specs.Prelude.{◌≡◌, ℕ, IfOk, ◌+◌};
-ghost use Rattle.calculus.specs.Patterns.{p_eigen, p_var, patterns_tree};
+ghost use Rattle.store_theory.specs.Patterns.{p_eigen, p_var, patterns_tree};
 ghost use Rattle.search_theory.specs.TemplateOf.{pattern_inside, root_pattern_spot};
 ghost use Rattle.matrix_build.specs.WayView.{nu_spot, pi_spot, spot_at, taken_with};
 ghost use Rattle.calculus.specs.Labels.{pi_label};

@@ -12,8 +12,8 @@ use Rattle.calculus.specs.Lists.{values_tree-inj}
 use Rattle.calculus.specs.Sizes.{value_list_size}
 use Rattle.calculus.specs.Syntax.{Problem}
 use Rattle.calculus.specs.Tableaux.{Tableau, instances, is_closed}
-use Rattle.calculus.specs.Turns.{turns_of, IsAgenda}
-use Rattle.calculus.proofs.AgendaLaws.{agenda-in_order}
+use Rattle.conversion_theory.specs.Turns.{turns_of, IsAgenda}
+use Rattle.conversion_theory.proofs.AgendaLaws.{agenda-in_order}
 use Rattle.calculus.proofs.EqualityLaws.{Tells, values_eq-tells}
 use Rattle.calculus.proofs.Members.{Among, contains-among, among-contains, among-all, all-among}
 use Rattle.name_order.specs.Arranged.{IsArranged, joined}

@@ -6,11 +6,11 @@ use Rattle.calculus.specs.Ground.{Value}
 use Rattle.calculus.specs.Instances.{Turn}
 use Rattle.calculus.specs.Syntax.{Problem}
 use Rattle.calculus.specs.Tableaux.{Tableau}
-use Rattle.calculus.specs.Turns.{Name, turns_of, names_of_value, names_of_home, names_mentioned, names_introduced, parent_position, IsParent, IsAgenda}
-use Rattle.calculus.proofs.AgendaLaws.{TurnOf}
-use Rattle.calculus.proofs.BranchLaws.{IsComplete}
-use Rattle.calculus.proofs.HitLaws.{turn}
-use Rattle.calculus.proofs.LedLaws.{CanCome, parent-done}
+use Rattle.conversion_theory.specs.Turns.{Name, turns_of, names_of_value, names_of_home, names_mentioned, names_introduced, parent_position, IsParent, IsAgenda}
+use Rattle.conversion_theory.proofs.AgendaLaws.{TurnOf}
+use Rattle.conversion_theory.proofs.BranchLaws.{IsComplete}
+use Rattle.conversion_theory.proofs.HitLaws.{turn}
+use Rattle.conversion_theory.proofs.LedLaws.{CanCome, parent-done}
 use Rattle.calculus.proofs.Members.{Among, among-contains, contains-among, among-left, among-right, among-append, among-joined, joined-among, contains-at, at-contains}
 use Rattle.name_order.specs.Prerequisites.{ParentsTell, WaitsTell, IsAwaited, own_part, count_before}
 use Rattle.name_order.proofs.Collecting.{flat_map-append}

@@ -5,9 +5,9 @@ use Rattle.std.proofs.lemmas.Grind.{common_steps}
 use Rattle.std.proofs.lemmas.List.{get_or-map, length-map, take_all}
 use Rattle.std.proofs.lemmas.List.Quantifiers.{position-Some}
 use Rattle.std.proofs.lemmas.List.Sums.{fails_before_first}
-use Rattle.calculus.specs.Numbering.{name_eq, place_from, number_in}
-use Rattle.calculus.specs.Turns.{Name}
-use Rattle.calculus.proofs.NumberLaws.{name_eq-tells}
+use Rattle.conversion_theory.specs.Numbering.{name_eq, place_from, number_in}
+use Rattle.conversion_theory.specs.Turns.{Name}
+use Rattle.conversion_theory.proofs.NumberLaws.{name_eq-tells}
 use Rattle.name_order.specs.Digests.{digest_name, mix}
 use Rattle.name_order.specs.NameView.{the_name}
 use Rattle.name_order.specs.declared.names.Name as program

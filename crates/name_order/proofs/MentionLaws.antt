@@ -4,13 +4,13 @@ use Rattle.std.specs.List.{flat_map, IsDistinct}
 use Rattle.calculus.specs.Ground.{Value, g_eigen, values_tree}
 use Rattle.calculus.specs.Instances.{Turn}
 use Rattle.calculus.specs.Lists.{values_list-values_tree}
-use Rattle.calculus.specs.Numbering.{name_eq}
+use Rattle.conversion_theory.specs.Numbering.{name_eq}
 use Rattle.calculus.specs.Skolem.{label_of}
 use Rattle.calculus.specs.Syntax.{Problem}
 use Rattle.calculus.specs.Tableaux.{Tableau}
-use Rattle.calculus.specs.Turns.{Name, term_name, names_of_mark, names_of_value, names_of_values, names_of_home, names_mentioned, names_introduced, names_of_tableau, turns_of, IsAgenda}
+use Rattle.conversion_theory.specs.Turns.{Name, term_name, names_of_mark, names_of_value, names_of_values, names_of_home, names_mentioned, names_introduced, names_of_tableau, turns_of, IsAgenda}
 use Rattle.calculus.proofs.Members.{Among, contains-among, among-contains, among-left, among-right, among-append, among-joined, joined-among}
-use Rattle.calculus.proofs.NumberLaws.{name_eq-tells}
+use Rattle.conversion_theory.proofs.NumberLaws.{name_eq-tells}
 use Rattle.name_order.specs.Keeping.{keep_all}
 use Rattle.name_order.specs.Mentioned.{names_in, with_home, with_homes, mentioned_in, names_in_turn, names_by}
 use Rattle.name_order.proofs.KeepingLaws.{kept-more, kept-only}

@@ -2,9 +2,9 @@
 use Rattle.std.proofs.Common.{◌≡◌, ℕ, List, [], ◌∷◌, ◌++◌, map, Bool, true, false, not, refl, sym, ◌∙◌, ap}
 use Rattle.std.specs.List.{list_any}
 use Rattle.std.proofs.lemmas.List.{map-append}
-use Rattle.calculus.specs.Numbering.{name_eq}
-use Rattle.calculus.specs.Turns.{Name}
-use Rattle.calculus.proofs.NumberLaws.{name_eq-tells}
+use Rattle.conversion_theory.specs.Numbering.{name_eq}
+use Rattle.conversion_theory.specs.Turns.{Name}
+use Rattle.conversion_theory.proofs.NumberLaws.{name_eq-tells}
 use Rattle.name_order.specs.Keeping.{keep}
 use Rattle.name_order.specs.NameView.{the_name}
 use Rattle.name_order.specs.Words.{words_of_name, words_eq}

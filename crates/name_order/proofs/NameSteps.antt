@@ -1,8 +1,8 @@
 -- One item more of a list whose names are kept.
 use Rattle.std.proofs.Common.{◌≡◌, ℕ, ◌+◌, ◌<◌, length, get_or, drop, List, ◌∷◌, ◌++◌, map, refl, sym, ◌∙◌, ap}
 use Rattle.std.proofs.lemmas.List.{at_drop_more}
-use Rattle.calculus.specs.Numbering.{name_eq}
-use Rattle.calculus.specs.Turns.{Name}
+use Rattle.conversion_theory.specs.Numbering.{name_eq}
+use Rattle.conversion_theory.specs.Turns.{Name}
 use Rattle.name_order.specs.Keeping.{keep_all}
 use Rattle.name_order.proofs.Arranging.{keep_all-append}
 

@@ -5,15 +5,15 @@ use Rattle.std.specs.List.Sorted.{IsNonDecreasingBy}
 use Rattle.std.proofs.lemmas.Option.{slice_get_within, get_or_from_slice_get}
 use Rattle.std.proofs.lemmas.List.Sorted.{Contains-permutation, IsPermutation-sym, IsPermutation-map}
 use Rattle.std.proofs.lemmas.Map.Keys.{IsDistinct-IsPermutation}
-use Rattle.calculus.specs.Numbering.{name_eq, IsNumbering}
+use Rattle.conversion_theory.specs.Numbering.{name_eq, IsNumbering}
 use Rattle.calculus.specs.Instances.{Turn}
 use Rattle.calculus.specs.Syntax.{Problem}
 use Rattle.calculus.specs.Tableaux.{Tableau}
-use Rattle.calculus.specs.Turns.{Name, names_of_tableau, turns_of, IsAgenda}
+use Rattle.conversion_theory.specs.Turns.{Name, names_of_tableau, turns_of, IsAgenda}
 use Rattle.calculus.proofs.Members.{Among, among-at, contains-among, among-contains, among-all, all-among}
 use Rattle.calculus.proofs.WalkLaws.{none_some, some_injective}
-use Rattle.calculus.proofs.NameLaws.{inner_size}
-use Rattle.calculus.proofs.NumberLaws.{AreInOrder, name_eq-tells, numbering-in_order}
+use Rattle.conversion_theory.proofs.NameLaws.{inner_size}
+use Rattle.conversion_theory.proofs.NumberLaws.{AreInOrder, name_eq-tells, numbering-in_order}
 use Rattle.name_order.specs.Keeping.{keep_all}
 use Rattle.name_order.specs.Mentioned.{names_by}
 use Rattle.name_order.specs.NameView.{the_name}

@@ -5,8 +5,8 @@ use Rattle.std.specs.Cmp.{nat_cmp_is}
 use Rattle.std.specs.Ordering.{nat_cmp, is_lt}
 use Rattle.std.specs.declared.cmp.Ordering.TheVariants.{Less, Equal}
 use Rattle.calculus.specs.Sizes.{value_list_size}
-use Rattle.calculus.proofs.AgendaLaws.{ComesBefore, IsInOrder}
-use Rattle.calculus.proofs.SortedTurns.{IsRising, in_order-rising}
+use Rattle.conversion_theory.proofs.AgendaLaws.{ComesBefore, IsInOrder}
+use Rattle.conversion_theory.proofs.SortedTurns.{IsRising, in_order-rising}
 use Rattle.name_order.specs.declared.order.SizedTurn.{SizedTurn}
 use Rattle.name_order.specs.TurnView.{the_turn}
 use Rattle.name_order.specs.Order.{sort_key, key_cmp, IsSortedByKeys, the_turns, AreSized}

@@ -12,18 +12,18 @@ use Rattle.calculus.specs.Ground.{Value, term, steps, g_fun, g_eigen, common, ow
 use Rattle.calculus.specs.Instances.{Spot, GammaUse, Turn}
 use Rattle.calculus.specs.Kinds.{shape_of, modal_of}
 use Rattle.calculus.specs.Lists.{values_list-values_tree, values_tree-values_list}
-use Rattle.calculus.specs.Numbering.{name_eq}
+use Rattle.conversion_theory.specs.Numbering.{name_eq}
 use Rattle.calculus.specs.Positions.{Node, node}
 use Rattle.calculus.specs.Skolem.{Reached, at_root, way_to, is_empty, fits_along, fits_way, is_delta_position, is_pi_position}
 use Rattle.calculus.specs.ComputedInstances.{reached_at}
 use Rattle.calculus.specs.Syntax.{Formula, Problem}
 use Rattle.calculus.specs.Tableaux.{Tableau}
-use Rattle.calculus.specs.Turns.{Name, term_name, mark_name, turns_of, names_mentioned, names_introduced, last_but_one, parent_position, IsParent, IsAgenda}
-use Rattle.calculus.proofs.AgendaLaws.{TurnOf, Anything, turn-works, work-position, work-way, last_but_one-two}
-use Rattle.calculus.proofs.HitLaws.{Moves, plain, by_string, by_character}
+use Rattle.conversion_theory.specs.Turns.{Name, term_name, mark_name, turns_of, names_mentioned, names_introduced, last_but_one, parent_position, IsParent, IsAgenda}
+use Rattle.conversion_theory.proofs.AgendaLaws.{TurnOf, Anything, turn-works, work-position, work-way, last_but_one-two}
+use Rattle.conversion_theory.proofs.HitLaws.{Moves, plain, by_string, by_character}
 use Rattle.calculus.proofs.Members.{Among, among-contains, contains-among, among-at, contains-at, joined-among, among-joined}
-use Rattle.calculus.proofs.NameLaws.{introduced-cases, introduced-eigen, introduced-mark}
-use Rattle.calculus.proofs.PlaceLaws.{Parent, HasParent, Work, Takes, nothing_more, one_term}
+use Rattle.conversion_theory.proofs.NameLaws.{introduced-cases, introduced-eigen, introduced-mark}
+use Rattle.conversion_theory.proofs.PlaceLaws.{Parent, HasParent, Work, Takes, nothing_more, one_term}
 use Rattle.calculus.proofs.SpotLaws.{LeadsTo, fits-LeadsTo, is_gamma}
 use Rattle.calculus.proofs.WalkLaws.{none_some, some_injective}
 use Rattle.name_order.specs.Found.{find_in, above_in, before_in, parent_in, introducer_in, listed, introducers_in, waits_in}

@@ -13,7 +13,7 @@ use Rattle.calculus.specs.Kinds.{other, Signed, components, shape_of, modal_of}
 use Rattle.calculus.specs.Positions.{size, Node, node, way_from, way}
 use Rattle.calculus.specs.Skolem.{last_node, way_to, is_delta, is_pi, is_delta_position, is_pi_position}
 use Rattle.calculus.specs.Syntax.{Formula, atom, neg, conj, disj, imp, all, ex, box, dia, Problem}
-use Rattle.calculus.specs.Turns.{last_but_one, parent_position}
+use Rattle.conversion_theory.specs.Turns.{last_but_one, parent_position}
 use Rattle.name_order.specs.Places.{Place, place, places, places_of}
 use Rattle.name_order.specs.PlaceView.{the_place, the_places}
 use Rattle.name_order.specs.declared.place.Place as program

@@ -3,10 +3,10 @@ use Rattle.std.proofs.Common.{◌≡◌, ℕ, List, [], ◌∷◌, ◌++◌, map
 use Rattle.std.specs.List.{AllByRecursion, flat_map}
 use Rattle.calculus.specs.Ground.{g_eigen, g_new_mark, values_tree}
 use Rattle.calculus.specs.Instances.{Turn, ClauseInstance}
-use Rattle.calculus.specs.Numbering.{name_eq, IsNumbering}
+use Rattle.conversion_theory.specs.Numbering.{name_eq, IsNumbering}
 use Rattle.calculus.specs.Syntax.{Problem}
 use Rattle.calculus.specs.Tableaux.{Tableau, instances, is_closed}
-use Rattle.calculus.specs.Turns.{Name, term_name, mark_name, names_introduced, turns_of_instance, IsAgenda}
+use Rattle.conversion_theory.specs.Turns.{Name, term_name, mark_name, names_introduced, turns_of_instance, IsAgenda}
 use Rattle.calculus.proofs.Members.{Among}
 use Rattle.name_order.specs.Arranged.{IsArranged, joined}
 use Rattle.name_order.specs.Found.{find_in, parent_in, waits_in}

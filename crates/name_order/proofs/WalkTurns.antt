@@ -18,10 +18,10 @@ use Rattle.calculus.specs.Kinds.{Signed, components, modal_of, shape_of}
 use Rattle.calculus.specs.Instances.{Spot, root_spot, down_by, spot_inside, after_string, after_character, clause_instance, Turn, Share, Gives, by_plain, by_nu, by_pi, Shaped, is_literal, by_only, by_left, by_right, by_both, by_gamma, by_delta, ClauseInstance}
 use Rattle.calculus.specs.ComputedInstances.{Part, is_allowed_instance, instance_of}
 use Rattle.calculus.specs.Tableaux.{Tableau, instances, is_closed}
-use Rattle.calculus.specs.Turns.{turns_of_instance, turns_of}
-use Rattle.calculus.proofs.HitLaws.{turn}
+use Rattle.conversion_theory.specs.Turns.{turns_of_instance, turns_of}
+use Rattle.conversion_theory.proofs.HitLaws.{turn}
 use Rattle.calculus.proofs.CasesLaws.{is_allowed_instance-exact, instance_of-by_cases}
-use Rattle.calculus.proofs.ClosedLaws.{AreAllowed, all-allowed}
+use Rattle.conversion_theory.proofs.ClosedLaws.{AreAllowed, all-allowed}
 use Rattle.name_order.specs.Walks.{Walked, walked, Walk, strings_at, terms_at, values_at, with_turn, walk_node, walk, turns_by}
 use Rattle.name_order.proofs.WalkByShape.{walk_below, walk-by}
 

@@ -10,7 +10,7 @@ use Rattle.calculus.specs.Codes.{g_term_gv, mark_gv, values_gv, g_term_gv-inj, m
 use Rattle.calculus.specs.Ground.{values_tree}
 use Rattle.calculus.specs.Instances.{Turn}
 use Rattle.calculus.specs.Lists.{values_tree-inj}
-use Rattle.calculus.specs.Turns.{Name, term_name, mark_name}
+use Rattle.conversion_theory.specs.Turns.{Name, term_name, mark_name}
 use Rattle.calculus.proofs.EqualityLaws.{Tells}
 use Rattle.calculus.proofs.Members.{Among, among-contains, contains-among}
 use Rattle.name_order.specs.Keeping.{keep, keep_all}

@@ -1,7 +1,7 @@
 -- Turns once each, in the order of the agenda.
 use Rattle.std.specs.Prelude.{◌≡◌, List, [], IsPermutation, map}
 use Rattle.std.specs.List.{flat_map}
-use Rattle.calculus.proofs.AgendaLaws.{IsInOrder}
+use Rattle.conversion_theory.proofs.AgendaLaws.{IsInOrder}
 use Rattle.calculus.specs.Instances.{Turn}
 use Rattle.name_order.specs.Keeping.{keep_all, turn_eq}
 use Rattle.name_order.specs.Order.{the_turns}

@@ -1,6 +1,6 @@
 -- Digests in the order of the names, where no two names have the same one.
 use Rattle.std.specs.Prelude.{◌≡◌, ℕ, List, map, Option, IfSome}
-use Rattle.calculus.specs.Turns.{Name}
+use Rattle.conversion_theory.specs.Turns.{Name}
 use Rattle.name_order.specs.Digests.{digest_name}
 use Rattle.indexmap.specs.IndexSet.{IndexSet}
 

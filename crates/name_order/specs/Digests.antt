@@ -2,7 +2,7 @@
 use Rattle.std.specs.Prelude.{ℕ, ◌+◌}
 use Rattle.std.proofs.Common.{◌*◌, ◌%◌}
 use Rattle.calculus.specs.Ground.{GroundTerm, GroundTerms, GroundMark, Marks, Value, Values, g_fun, g_eigen, common, own, no_g_terms, more_g_terms, g_new_mark, g_spare_mark, no_marks, more_marks, term, steps, no_values, more_values}
-use Rattle.calculus.specs.Turns.{Name, term_name, mark_name}
+use Rattle.conversion_theory.specs.Turns.{Name, term_name, mark_name}
 
 -- one number more: numbers are the coefficients of a polynomial, whose value at a fixed place is taken modulo a prime
 unfoldable pub mix : ℕ → ℕ → ℕ

@@ -4,9 +4,9 @@ use Rattle.std.specs.List.{flat_map}
 use Rattle.std.specs.Option.{option_map_or}
 use Rattle.calculus.specs.Ground.{Value, g_eigen, g_new_mark, values_list}
 use Rattle.calculus.specs.Instances.{Turn}
-use Rattle.calculus.specs.Numbering.{name_eq}
+use Rattle.conversion_theory.specs.Numbering.{name_eq}
 use Rattle.calculus.specs.Syntax.{Problem}
-use Rattle.calculus.specs.Turns.{Name, term_name, mark_name}
+use Rattle.conversion_theory.specs.Turns.{Name, term_name, mark_name}
 use Rattle.name_order.specs.Keeping.{keep_all}
 use Rattle.name_order.specs.Mentioned.{mentioned_in}
 use Rattle.name_order.specs.Places.{Place, is_delta_in, is_pi_in}

@@ -1,6 +1,6 @@
 -- Names once each.
 use Rattle.std.specs.Prelude.{◌≡◌, List, map}
-use Rattle.calculus.specs.Turns as turns
+use Rattle.conversion_theory.specs.Turns as turns
 use Rattle.name_order.specs.NameView.{the_name}
 use Rattle.name_order.specs.Words.{words_of_name}
 use Rattle.name_order.specs.declared.name_set.NameSet.{NameSet}

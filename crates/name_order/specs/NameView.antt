@@ -1,6 +1,6 @@
 -- The names of the calculus that those of the program stand for.
 use Rattle.calculus.specs.Ground as tree
-use Rattle.calculus.specs.Turns as turns
+use Rattle.conversion_theory.specs.Turns as turns
 use Rattle.formula_core.specs.GroundView.{the_g_term, the_mark}
 use Rattle.name_order.specs.declared.names.Name.{Name}
 use Rattle.name_order.specs.declared.names.Name.TheVariants as name

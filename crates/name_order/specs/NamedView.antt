@@ -1,7 +1,7 @@
 -- What the program's numbering stands for.
 use Rattle.std.specs.Prelude.{ℕ, List, Option}
 use Rattle.calculus.specs.Instances.{Turn}
-use Rattle.calculus.specs.Turns.{Name}
+use Rattle.conversion_theory.specs.Turns.{Name}
 
 -- the names, numbered from 1 in their order, and the agenda; by places of the agenda the turns of each instance, each turn's parent, and
 -- the turns that introduce what a turn mentions by its own values

@@ -1,9 +1,9 @@
 -- Names in the order of their numbers.
 use Rattle.std.specs.Prelude.{◌≡◌, ℕ, List, map, IsPermutation}
 use Rattle.std.specs.List.{AllByRecursion}
-use Rattle.calculus.specs.Turns as turns
-use Rattle.calculus.proofs.NameLaws.{inner_size}
-use Rattle.calculus.proofs.NumberLaws.{AreInOrder}
+use Rattle.conversion_theory.specs.Turns as turns
+use Rattle.conversion_theory.proofs.NameLaws.{inner_size}
+use Rattle.conversion_theory.proofs.NumberLaws.{AreInOrder}
 use Rattle.name_order.specs.NameView.{the_name}
 use Rattle.name_order.specs.declared.numbering.SizedName.{SizedName}
 

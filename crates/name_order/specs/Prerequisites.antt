@@ -5,7 +5,7 @@ use Rattle.std.specs.Option.{option_map_or}
 use Rattle.calculus.specs.Instances.{Turn}
 use Rattle.calculus.specs.Syntax.{Problem}
 use Rattle.calculus.specs.Tableaux.{Tableau, instances}
-use Rattle.calculus.specs.Turns.{Name, turns_of_instance, parent_position, IsParent, names_mentioned, names_introduced}
+use Rattle.conversion_theory.specs.Turns.{Name, turns_of_instance, parent_position, IsParent, names_mentioned, names_introduced}
 
 -- for each instance in preorder the places of its turns, in preorder
 abbrev pub IsOrder : Problem → Tableau → List Turn → List (List ℕ) → Type 0

@@ -5,7 +5,7 @@ use base.Stored.{Gv, gnil, gnum, gcons}
 use Rattle.calculus.specs.Codes.{g_term_gv, g_terms_gv, mark_gv, marks_gv, value_gv, values_gv}
 use Rattle.calculus.specs.Ground.{GroundTerm, GroundTerms, GroundMark, Marks, Value, Values, values_tree}
 use Rattle.calculus.specs.Instances.{Turn}
-use Rattle.calculus.specs.Turns.{Name, term_name, mark_name}
+use Rattle.conversion_theory.specs.Turns.{Name, term_name, mark_name}
 
 -- a code in preorder, each part behind the number of its kind
 abbrev pub flat : Gv → List ℕ

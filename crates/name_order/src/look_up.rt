@@ -1,7 +1,7 @@
 //! Names looked up by their digests.
 
 ghost use Rattle.std.specs.Prelude.{◌≡◌, ◌<◌, ◌^◌, length, map, IfOk};
-ghost use Rattle.calculus.specs.Numbering.{number_in};
+ghost use Rattle.conversion_theory.specs.Numbering.{number_in};
 ghost use Rattle.name_order.specs.DigestView.{AreDigests};
 ghost use Rattle.name_order.specs.NameView.{the_name, the_wanted};
 

@@ -3,8 +3,8 @@
 ghost use Rattle.std.specs.Prelude.{◌≡◌, [], map, IfOk};
 ghost use Rattle.std.specs.List.{flat_map};
 ghost use Rattle.calculus.specs.Ground.{g_eigen, values_tree};
-ghost use Rattle.calculus.specs.Numbering.{name_eq};
-ghost use Rattle.calculus.specs.Turns.{names_of_home, names_of_mark, term_name};
+ghost use Rattle.conversion_theory.specs.Numbering.{name_eq};
+ghost use Rattle.conversion_theory.specs.Turns.{names_of_home, names_of_mark, term_name};
 ghost use Rattle.name_order.specs.Keeping.{keep_all};
 ghost use Rattle.name_order.specs.Mentioned.{character_in, eigen_in, gathered, introduced_in, mentioned_in, names_in_turn, with_home, with_homes};
 ghost use Rattle.name_order.specs.NameSetView.{AreKeyed, the_names};

@@ -3,8 +3,8 @@
 ghost use Rattle.std.specs.Prelude.{◌≡◌, [], map, IfOk};
 ghost use Rattle.calculus.specs.Ground.{marks_tree};
 ghost use Rattle.calculus.specs.Lists.{g_terms_tree};
-ghost use Rattle.calculus.specs.Numbering.{name_eq};
-ghost use Rattle.calculus.specs.Turns.{mark_name, names_of_mark, names_of_marks, names_of_term, names_of_terms, names_of_value, term_name};
+ghost use Rattle.conversion_theory.specs.Numbering.{name_eq};
+ghost use Rattle.conversion_theory.specs.Turns.{mark_name, names_of_mark, names_of_marks, names_of_term, names_of_terms, names_of_value, term_name};
 ghost use Rattle.formula_core.specs.GroundView.{the_g_term, the_mark, the_value};
 ghost use Rattle.name_order.specs.Keeping.{keep, keep_all};
 ghost use Rattle.name_order.specs.Mentioned.{names_in};

@@ -4,9 +4,9 @@ ghost use Rattle.std.specs.Prelude.{◌≡◌, ◌<◌, ◌^◌, ℕ, [], Some, 
 ghost use Rattle.std.specs.Prelude.{slice_get};
 ghost use Rattle.std.specs.List.{AllByRecursion};
 ghost use Rattle.calculus.specs.Ground.{g_eigen, g_new_mark, g_spare_mark, values_tree};
-ghost use Rattle.calculus.specs.Numbering.{IsNumbering, NumbersTell, name_eq, number_in};
+ghost use Rattle.conversion_theory.specs.Numbering.{IsNumbering, NumbersTell, name_eq, number_in};
 ghost use Rattle.calculus.specs.Tableaux.{is_closed};
-ghost use Rattle.calculus.specs.Turns.{IsAgenda, term_name, mark_name};
+ghost use Rattle.conversion_theory.specs.Turns.{IsAgenda, term_name, mark_name};
 ghost use Rattle.formula_core.specs.GroundView.{the_g_term};
 ghost use Rattle.name_order.specs.Found.{find_in, parent_in, waits_in};
 ghost use Rattle.name_order.specs.Keeping.{keep_all};

@@ -3,7 +3,7 @@
 ghost use Rattle.std.specs.Prelude.{◌≡◌, ◌<◌, ◌^◌, length, map};
 ghost use Rattle.calculus.specs.Equality.{ground_eq, mark_eq};
 ghost use Rattle.calculus.specs.Ground.{g_eigen, g_new_mark, values_tree};
-ghost use Rattle.calculus.specs.Numbering.{name_eq, number_in};
+ghost use Rattle.conversion_theory.specs.Numbering.{name_eq, number_in};
 ghost use Rattle.formula_core.specs.GroundView.{the_g_term, the_mark};
 ghost use Rattle.name_order.specs.NameView.{the_name, the_wanted};
 

@@ -2,8 +2,8 @@
 
 ghost use Rattle.std.specs.Prelude.{◌≡◌, ◌<◌, ◌^◌, [], length, map, IfOk, IfSome, OnOk, IsPermutation};
 ghost use Rattle.std.specs.List.Sorted.{IsNonDecreasingBy};
-ghost use Rattle.calculus.specs.Numbering.{name_eq};
-ghost use Rattle.calculus.proofs.NameLaws.{inner_size};
+ghost use Rattle.conversion_theory.specs.Numbering.{name_eq};
+ghost use Rattle.conversion_theory.proofs.NameLaws.{inner_size};
 ghost use Rattle.name_order.specs.DigestView.{AreDigests};
 ghost use Rattle.name_order.specs.Keeping.{keep_all};
 ghost use Rattle.name_order.specs.Mentioned.{gathered};

@@ -5,7 +5,7 @@ ghost use Rattle.calculus.specs.Codes.{g_term_gv, g_terms_gv, mark_gv, marks_gv,
 ghost use Rattle.calculus.specs.Ground.{marks_tree};
 ghost use Rattle.calculus.specs.Lists.{g_terms_tree};
 ghost use Rattle.formula_core.specs.GroundView.{the_g_term, the_mark, the_value};
-ghost use Rattle.calculus.specs.Turns.{term_name, mark_name};
+ghost use Rattle.conversion_theory.specs.Turns.{term_name, mark_name};
 ghost use Rattle.name_order.specs.WalkView.{the_turn_at};
 ghost use Rattle.name_order.specs.Words.{flat, words_of_name, words_of_turn, words_of_values};
 

@@ -2,8 +2,8 @@
 use Rattle.std.proofs.Common.{◌≡◌, ◌⊎◌, ℕ, List, [], ◌∷◌, ◌++◌, length, IsTrue, sym, ◌∙◌, subst, None, Some, slice_get, inl, inr}
 use Rattle.std.proofs.lemmas.Bool.{and_parts, false≢true}
 use Rattle.calculus.specs.Ground.{GroundMark}
-use Rattle.calculus.specs.Stores.{Store, names_below}
-use Rattle.calculus.specs.Systems.{CellAtom, Differ, Pair, is_cell_atom, is_pair}
+use Rattle.store_theory.specs.Stores.{Store, names_below}
+use Rattle.store_theory.specs.Systems.{CellAtom, Differ, Pair, is_cell_atom, is_pair}
 use Rattle.calculus.proofs.EqualityLaws.{literal_eq-tells}
 use Rattle.search_theory.specs.States.{label_by}
 use Rattle.search_theory.proofs.AtomLaws.{literal-by}

@@ -4,9 +4,9 @@ use Rattle.std.specs.List.{list_all, AllByRecursion}
 use Rattle.std.proofs.lemmas.Bool.{and_from, and_parts}
 use Rattle.std.proofs.lemmas.List.{length-map}
 use Rattle.calculus.specs.declared.sort.Sort.TheVariants.{MarkSort, StringSort}
-use Rattle.calculus.specs.Bindings.{AreApart, BindsOnly, BindsWithin, KeepsMarks, Unifies}
-use Rattle.calculus.specs.Stores.{Store, has_sort_at, Solution, Solves}
-use Rattle.calculus.specs.Systems.{Equation, AreEqual, has_label_sort_at, is_equation, is_label}
+use Rattle.store_theory.specs.Bindings.{AreApart, BindsOnly, BindsWithin, KeepsMarks, Unifies}
+use Rattle.store_theory.specs.Stores.{Store, has_sort_at, Solution, Solves}
+use Rattle.store_theory.specs.Systems.{Equation, AreEqual, has_label_sort_at, is_equation, is_label}
 use Rattle.calculus.proofs.PlaceLists.{all-at}
 use Rattle.term_store.specs.RefView.{the_place}
 use Rattle.term_store.specs.declared.cell.Ref.{Ref}

@@ -5,15 +5,15 @@ use Rattle.std.proofs.lemmas.Bool.{and_parts, false≢true}
 use Rattle.calculus.specs.declared.setting.Logic.{Logic}
 use Rattle.calculus.specs.declared.setting.Logic.TheVariants.{Classical, Intuitionistic, D, T as LogicT, S4, S5}
 use Rattle.calculus.specs.declared.sort.Sort.TheVariants.{TermSort, MarkSort, StringSort}
-use Rattle.calculus.specs.Bindings.{EndsIn, IsEnd}
-use Rattle.calculus.specs.Patterns.{Grows}
+use Rattle.store_theory.specs.Bindings.{EndsIn, IsEnd}
+use Rattle.store_theory.specs.Patterns.{Grows}
 use Rattle.calculus.specs.Ground.{GroundMark}
 use Rattle.calculus.specs.Equality.{mark_eq}
 use Rattle.calculus.specs.Labels.{is_prefix, is_step_length}
-use Rattle.calculus.specs.Stores.{Cell, variable, fun_cell, eigen_cell, new_cell, string_cell, Store, is_bound, has_sort_at, has_sort, names_below, EndsAt, CellValue, a_term, a_mark, a_string, Solution, Solves, GammaCell}
-use Rattle.calculus.specs.Systems.{Equation, Pair, System, AreEqual, IsOpenString, IsStep, NamesItsStrings, cells_of_atom, is_equation, is_label, is_system}
-use Rattle.calculus.specs.Templates.{as_label}
-use Rattle.calculus.proofs.BindingLaws.{has_sort-from}
+use Rattle.store_theory.specs.Stores.{Cell, variable, fun_cell, eigen_cell, new_cell, string_cell, Store, is_bound, has_sort_at, has_sort, names_below, EndsAt, CellValue, a_term, a_mark, a_string, Solution, Solves, GammaCell}
+use Rattle.store_theory.specs.Systems.{Equation, Pair, System, AreEqual, IsOpenString, IsStep, NamesItsStrings, cells_of_atom, is_equation, is_label, is_system}
+use Rattle.store_theory.specs.Templates.{as_label}
+use Rattle.store_theory.proofs.BindingLaws.{has_sort-from}
 use Rattle.calculus.proofs.EqualityLaws.{mark_eq-tells}
 use Rattle.calculus.proofs.PlaceLists.{all-at}
 use Rattle.search_theory.specs.States.{label_by}

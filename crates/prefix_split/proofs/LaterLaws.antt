@@ -2,12 +2,12 @@
 use Rattle.std.proofs.Common.{◌≡◌, ◌⊎◌, ℕ, zero, suc, ◌<◌, ◌≤◌, List, [], ◌∷◌, length, IsTrue, refl, sym, ◌∙◌, ap, subst, Option, Some, None, slice_get, inl, inr, arith}
 use Rattle.calculus.specs.declared.sort.Sort.{Sort}
 use Rattle.calculus.specs.declared.sort.Sort.TheVariants.{StringSort}
-use Rattle.calculus.specs.Bindings.{AddsBuilt, nothing_more, one_more, BindsOnly, BindsWithin, KeepsMarks}
-use Rattle.calculus.specs.Patterns.{Grows}
-use Rattle.calculus.specs.Stores.{Cell, variable, string_cell, Store, parts_of, sort_of, has_sort_at, is_store, is_bound, OccursIn, here, in_part, EndsAt, stays, goes_on}
-use Rattle.calculus.specs.Systems.{IsOpenString}
-use Rattle.calculus.proofs.BindingLaws.{KeepsMarks-both, KeepsMarks-same, has_sort-from, kept, parts-within, sorted_cell}
-use Rattle.calculus.proofs.PatternLaws.{Grows-built, KeepsMarks-built, grown-cell, grown-sort}
+use Rattle.store_theory.specs.Bindings.{AddsBuilt, nothing_more, one_more, BindsOnly, BindsWithin, KeepsMarks}
+use Rattle.store_theory.specs.Patterns.{Grows}
+use Rattle.store_theory.specs.Stores.{Cell, variable, string_cell, Store, parts_of, sort_of, has_sort_at, is_store, is_bound, OccursIn, here, in_part, EndsAt, stays, goes_on}
+use Rattle.store_theory.specs.Systems.{IsOpenString}
+use Rattle.store_theory.proofs.BindingLaws.{KeepsMarks-both, KeepsMarks-same, has_sort-from, kept, parts-within, sorted_cell}
+use Rattle.store_theory.proofs.PatternLaws.{Grows-built, KeepsMarks-built, grown-cell, grown-sort}
 use Rattle.calculus.proofs.PlaceLists.{get-there, get-within}
 use Rattle.search_theory.proofs.BuildingLaws.{adds-longer}
 use Rattle.term_unify.proofs.FlatLaws.{no_string-part}

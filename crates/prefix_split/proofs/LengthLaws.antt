@@ -5,14 +5,14 @@ use Rattle.std.proofs.lemmas.Bool.{false≢true, and_from, cases_lt}
 use Rattle.std.proofs.lemmas.List.{length-map}
 use Rattle.calculus.specs.declared.sort.Sort.{Sort}
 use Rattle.calculus.specs.declared.sort.Sort.TheVariants.{MarkSort, StringSort}
-use Rattle.calculus.specs.Bindings.{BindsOnly, EndsIn, IsEnd, IsWellFormed, KeepsMarks, MayBind, NamesFrom, bind_at, bound_to, places_from, with_binding, with_cell, with_variables_of}
-use Rattle.calculus.specs.Patterns.{Grows}
-use Rattle.calculus.specs.Stores.{Cell, variable, string_cell, Store, parts_of, parts_fit, sort_of, has_sort_at, is_store, is_bound, OccursIn, here, in_part, EndsAt, stays, goes_on, Solution, Solves, names_below}
-use Rattle.calculus.specs.Systems.{HaveLengths, IsOpenString}
-use Rattle.calculus.proofs.BindingLaws.{get-bound, get-unbound, has_sort-from, is_store-with_cell, kept, length-bind, same_place, sorted_cell, ends-there}
-use Rattle.calculus.proofs.PatternLaws.{Grows-both, Grows-variables, Grows-with_cell, grown-cell}
+use Rattle.store_theory.specs.Bindings.{BindsOnly, EndsIn, IsEnd, IsWellFormed, KeepsMarks, MayBind, NamesFrom, bind_at, bound_to, places_from, with_binding, with_cell, with_variables_of}
+use Rattle.store_theory.specs.Patterns.{Grows}
+use Rattle.store_theory.specs.Stores.{Cell, variable, string_cell, Store, parts_of, parts_fit, sort_of, has_sort_at, is_store, is_bound, OccursIn, here, in_part, EndsAt, stays, goes_on, Solution, Solves, names_below}
+use Rattle.store_theory.specs.Systems.{HaveLengths, IsOpenString}
+use Rattle.store_theory.proofs.BindingLaws.{get-bound, get-unbound, has_sort-from, is_store-with_cell, kept, length-bind, same_place, sorted_cell, ends-there}
+use Rattle.store_theory.proofs.PatternLaws.{Grows-both, Grows-variables, Grows-with_cell, grown-cell}
 use Rattle.calculus.proofs.PlaceLists.{all-at, get-end, get-last, get-there, get-within}
-use Rattle.calculus.proofs.SolutionLaws.{Solves-bound, Solves-unbound, ends-same}
+use Rattle.store_theory.proofs.SolutionLaws.{Solves-bound, Solves-unbound, ends-same}
 use Rattle.term_store.proofs.MarkLaws.{length-marks, variables-fit}
 use Rattle.term_unify.proofs.PairLaws.{BindsOnly-with_binding, told}
 pub use Rattle.term_unify.proofs.FlatLaws.{ends-sorted}

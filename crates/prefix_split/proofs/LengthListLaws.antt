@@ -13,7 +13,7 @@ use Rattle.std.proofs.lemmas.Nat.{mul-le}
 use Rattle.calculus.specs.declared.setting.Logic.{Logic}
 use Rattle.calculus.specs.declared.setting.Logic.TheVariants.{Classical, Intuitionistic, D, T as LogicT, S4, S5}
 use Rattle.calculus.specs.Space.{is_tried_length, has_labels}
-use Rattle.calculus.specs.Systems.{System, bound_of, AreTried}
+use Rattle.store_theory.specs.Systems.{System, bound_of, AreTried}
 use Rattle.prefix_split.specs.LengthLists.{least_of, spread_of, AreWithin, above, least_list, IsFirst, IsNext, IsLast, IsLastOfSum, IsTakenOff}
 
 -- ---- sums and comparisons

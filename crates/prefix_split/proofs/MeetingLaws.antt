@@ -4,10 +4,10 @@ use Rattle.std.specs.List.{list_all, flat_map}
 use Rattle.std.proofs.lemmas.Bool.{and_parts, and_from, false≢true}
 use Rattle.calculus.specs.declared.sort.Sort.{Sort}
 use Rattle.calculus.specs.declared.sort.Sort.TheVariants.{TermSort, MarkSort, StringSort}
-use Rattle.calculus.specs.Bindings.{AddsBuilt, BindsOnly, is_variable, nothing_more, one_more, with_cell}
+use Rattle.store_theory.specs.Bindings.{AddsBuilt, BindsOnly, is_variable, nothing_more, one_more, with_cell}
 use Rattle.calculus.specs.Instances.{GammaUse}
-use Rattle.calculus.specs.Stores.{Cell, variable, fun_cell, eigen_cell, new_cell, string_cell, Store, has_sort_at, is_store, is_bound, names_below, OccursIn, EndsAt, Solution, Solves, CellHolds, GammaCell}
-use Rattle.calculus.specs.Systems.{CellAtom, Equation, Pair, System, is_label, is_equation, is_gamma_cell, is_cell_atom, is_pair, is_system, cells_of, cells_of_atom, AreEqual, AreEqualNow, AreUses, MeetsDemand, HasBuiltStrings, HasNoOpenString, IsDemandEquation, IsOpenString, OwnSparesMeet}
+use Rattle.store_theory.specs.Stores.{Cell, variable, fun_cell, eigen_cell, new_cell, string_cell, Store, has_sort_at, is_store, is_bound, names_below, OccursIn, EndsAt, Solution, Solves, CellHolds, GammaCell}
+use Rattle.store_theory.specs.Systems.{CellAtom, Equation, Pair, System, is_label, is_equation, is_gamma_cell, is_cell_atom, is_pair, is_system, cells_of, cells_of_atom, AreEqual, AreEqualNow, AreUses, MeetsDemand, HasBuiltStrings, HasNoOpenString, IsDemandEquation, IsOpenString, OwnSparesMeet}
 use Rattle.calculus.proofs.PlaceLists.{all-at}
 use Rattle.search_theory.specs.Solving.{CannotEqual, IsNarrowed}
 use Rattle.search_theory.specs.States.{Agree}

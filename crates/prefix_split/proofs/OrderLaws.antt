@@ -1,10 +1,10 @@
 -- Lists that begin others, and what follows from what is known of them.
 use Rattle.std.proofs.Common.{◌≡◌, ◌⊎◌, ℕ, zero, suc, ◌<◌, ◌≤◌, List, [], ◌∷◌, ◌++◌, length, Bool, true, false, not, refl, sym, ◌∙◌, ap, subst, None, Some, slice_get, inl, inr, arith, nat_le, leb-true, leb-false, eq-eqb, append_assoc, append-nil, length-append}
 use Rattle.std.proofs.lemmas.Bool.{false≢true}
-use Rattle.calculus.specs.Bindings.{EndsIn}
+use Rattle.store_theory.specs.Bindings.{EndsIn}
 use Rattle.calculus.specs.Ground.{GroundMark, g_new_mark}
-use Rattle.calculus.specs.Stores.{Cell, variable, fun_cell, eigen_cell, new_cell, string_cell, Store, Solution, Solves}
-use Rattle.calculus.specs.Templates.{as_label}
+use Rattle.store_theory.specs.Stores.{Cell, variable, fun_cell, eigen_cell, new_cell, string_cell, Store, Solution, Solves}
+use Rattle.store_theory.specs.Templates.{as_label}
 use Rattle.search_theory.proofs.GivingLaws.{ends-same}
 use Rattle.term_store.specs.Shown.{head_of}
 use Rattle.term_store.specs.declared.cell.Head.{Head}

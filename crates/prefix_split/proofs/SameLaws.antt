@@ -5,14 +5,14 @@ use Rattle.std.proofs.lemmas.Bool.{false≢true, and_parts}
 use Rattle.calculus.specs.declared.sign.Sign.{Sign}
 use Rattle.calculus.specs.declared.sign.Sign.TheVariants.{T, F}
 use Rattle.calculus.specs.declared.sort.Sort.TheVariants.{TermSort}
-use Rattle.calculus.specs.Bindings.{IsWellFormed}
+use Rattle.store_theory.specs.Bindings.{IsWellFormed}
 use Rattle.calculus.specs.Equality.{sign_eq}
 use Rattle.calculus.specs.Ground.{GroundLiteral, GroundTerms, no_g_terms, more_g_terms}
-use Rattle.calculus.specs.Stores.{Store, has_sort_at, names_below, Solution}
-use Rattle.calculus.specs.Systems.{CellAtom, Pair, is_cell_atom, is_label, is_pair}
-use Rattle.calculus.specs.Templates.{as_term}
+use Rattle.store_theory.specs.Stores.{Store, has_sort_at, names_below, Solution}
+use Rattle.store_theory.specs.Systems.{CellAtom, Pair, is_cell_atom, is_label, is_pair}
+use Rattle.store_theory.specs.Templates.{as_term}
 use Rattle.calculus.proofs.PlaceLists.{all-at}
-use Rattle.calculus.proofs.SolutionLaws.{some_solution}
+use Rattle.store_theory.proofs.SolutionLaws.{some_solution}
 use Rattle.search_theory.specs.Regular.{AreSame}
 use Rattle.search_theory.specs.States.{terms_by}
 use Rattle.search_theory.proofs.BuildingLaws.{solved-sorted}

@@ -5,12 +5,12 @@ use Rattle.std.specs.Ordering.{ordering_reverse}
 use Rattle.std.specs.declared.cmp.Ordering.{Ordering}
 use Rattle.std.specs.declared.cmp.Ordering.TheVariants.{Less, Equal, Greater}
 use Rattle.calculus.specs.declared.setting.Logic.{Logic}
-use Rattle.calculus.specs.Bindings.{AddsBuilt}
+use Rattle.store_theory.specs.Bindings.{AddsBuilt}
 use Rattle.calculus.specs.Counting.{IsRising, MoreThan}
 use Rattle.calculus.specs.Instances.{GammaUse}
 use Rattle.calculus.specs.Space.{has_labels, lengths_cmp}
-use Rattle.calculus.specs.Stores.{Store, Solution, Solves}
-use Rattle.calculus.specs.Systems.{System, AreEarly, AreEqual, AreTried, Differ, HasBoundedSolution, HasSolution, IsStep, MeetsDemand, OwnSparesSolve, is_system}
+use Rattle.store_theory.specs.Stores.{Store, Solution, Solves}
+use Rattle.store_theory.specs.Systems.{System, AreEarly, AreEqual, AreTried, Differ, HasBoundedSolution, HasSolution, IsStep, MeetsDemand, OwnSparesSolve, is_system}
 use Rattle.calculus.proofs.OrderLaws.{lengths_cmp-IsAntisymmetric, lengths_cmp_total}
 use Rattle.search_theory.proofs.BuildingLaws.{adds-back, adds-forth}
 use Rattle.search_theory.proofs.LabelledEnd.{early-by_smaller}

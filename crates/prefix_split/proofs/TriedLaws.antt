@@ -6,7 +6,7 @@ use Rattle.calculus.specs.declared.setting.Logic.{Logic}
 use Rattle.calculus.specs.Labels.{is_step_length}
 use Rattle.calculus.specs.Space.{is_tried_length}
 use Rattle.calculus.specs.Tableaux.{has_unbounded_strings}
-use Rattle.calculus.specs.Systems.{System, AreTried, bound_of}
+use Rattle.store_theory.specs.Systems.{System, AreTried, bound_of}
 use Rattle.prefix_split.proofs.ListItems.{drop-end, drop-there}
 
 pub tried-one : (l : Logic) (b n : ℕ) → is_step_length l n ≡ true → n ≤ b → is_tried_length l b n ≡ true

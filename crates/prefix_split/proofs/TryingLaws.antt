@@ -3,11 +3,11 @@ use Rattle.std.proofs.Common.{◌≡◌, ℕ, suc, List, [], ◌∷◌, length, 
 use Rattle.std.specs.List.{AllByRecursion}
 use Rattle.calculus.specs.declared.setting.Logic.{Logic}
 use Rattle.calculus.specs.declared.sort.Sort.TheVariants.{StringSort}
-use Rattle.calculus.specs.Bindings.{IsWellFormed}
+use Rattle.store_theory.specs.Bindings.{IsWellFormed}
 use Rattle.calculus.specs.Instances.{GammaUse}
-use Rattle.calculus.specs.Stores.{variable, string_cell, Store, EndsAt, stays, goes_on, Solution, Solves}
-use Rattle.calculus.specs.Systems.{Equation, Pair, System, AreEqual, AreEqualNow, AreTried, HasBuiltStrings, HasNoOpenString, HasSolution, HaveLengths, IsOpenString, MeetsDemand, NamesItsStrings, OccursInSystem, OwnSparesMeet, OwnSparesSolve, is_system}
-use Rattle.calculus.proofs.BindingLaws.{HasNoCycle-rank, ends-once}
+use Rattle.store_theory.specs.Stores.{variable, string_cell, Store, EndsAt, stays, goes_on, Solution, Solves}
+use Rattle.store_theory.specs.Systems.{Equation, Pair, System, AreEqual, AreEqualNow, AreTried, HasBuiltStrings, HasNoOpenString, HasSolution, HaveLengths, IsOpenString, MeetsDemand, NamesItsStrings, OccursInSystem, OwnSparesMeet, OwnSparesSolve, is_system}
+use Rattle.store_theory.proofs.BindingLaws.{HasNoCycle-rank, ends-once}
 use Rattle.search_theory.specs.Regular.{AreSame}
 use Rattle.search_theory.specs.Solving.{CannotHave, IsNarrowed, IsSolving}
 use Rattle.search_theory.proofs.BuildingLaws.{agree-both}

@@ -2,8 +2,8 @@
 use Rattle.std.specs.Prelude.{◌≡◌, ℕ, ◌+◌, ◌*◌, ◌==◌, ◌<◌, ◌≤◌, List, [], ◌++◌, length, Option, None, Some, get_or, slice_get, Bool, true, false, not, ⊤}
 use Rattle.std.specs.Int.{bit_at}
 use Rattle.calculus.specs.Ground.{GroundMark}
-use Rattle.calculus.specs.Stores.{Store, Solution, Solves}
-use Rattle.calculus.specs.Templates.{as_label}
+use Rattle.store_theory.specs.Stores.{Store, Solution, Solves}
+use Rattle.store_theory.specs.Templates.{as_label}
 use Rattle.term_store.specs.declared.cell.Head.{Head}
 use Rattle.term_store.specs.declared.cell.Head.TheVariants.{Open, Fun, Eigen, New, Marks}
 use Rattle.term_store.specs.declared.cell.Ref.{Ref}

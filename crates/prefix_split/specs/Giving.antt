@@ -2,7 +2,7 @@
 use Rattle.std.specs.Prelude.{◌≡◌, ℕ, List, length, Some, None, slice_get}
 use Rattle.calculus.specs.declared.sort.Sort.TheVariants.{StringSort}
 use Rattle.calculus.specs.Ground.{GroundMark}
-use Rattle.calculus.specs.Stores.{Store, variable, Solution, a_string}
+use Rattle.store_theory.specs.Stores.{Store, variable, Solution, a_string}
 use Rattle.search_theory.specs.Solving.{IsNarrowed}
 use Rattle.prefix_split.specs.Later.{IsBuiltString}
 pub use Rattle.term_unify.specs.Flat.{IsBuiltEnd}

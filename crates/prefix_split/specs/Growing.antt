@@ -6,8 +6,8 @@ use Rattle.calculus.specs.declared.setting.Logic.TheVariants.{Classical, Intuiti
 use Rattle.calculus.specs.declared.sort.Sort.{Sort}
 use Rattle.calculus.specs.declared.sort.Sort.TheVariants.{TermSort, MarkSort, StringSort}
 use Rattle.calculus.specs.Ground.{GroundMark}
-use Rattle.calculus.specs.Stores.{Store, EndsAt, Solution, Solves}
-use Rattle.calculus.specs.Systems.{Differ, Equation, IsOpenString, IsStep, Pair}
+use Rattle.store_theory.specs.Stores.{Store, EndsAt, Solution, Solves}
+use Rattle.store_theory.specs.Systems.{Differ, Equation, IsOpenString, IsStep, Pair}
 use Rattle.search_theory.specs.States.{label_by}
 use Rattle.term_store.specs.declared.cell.Head.{Head}
 use Rattle.term_store.specs.declared.cell.Head.TheVariants.{Open, Fun, Eigen, New, Marks}

@@ -1,9 +1,9 @@
 -- What each step of solving keeps of a store.
 use Rattle.std.specs.Prelude.{◌≡◌, ℕ, ◌<◌, ◌≤◌, List, length, Some, slice_get, IsTrue}
 use Rattle.calculus.specs.declared.sort.Sort.{Sort}
-use Rattle.calculus.specs.Bindings.{KeepsMarks}
-use Rattle.calculus.specs.Stores.{Store, variable, string_cell, has_sort_at, OccursIn, EndsAt}
-use Rattle.calculus.specs.Systems.{IsOpenString}
+use Rattle.store_theory.specs.Bindings.{KeepsMarks}
+use Rattle.store_theory.specs.Stores.{Store, variable, string_cell, has_sort_at, OccursIn, EndsAt}
+use Rattle.store_theory.specs.Systems.{IsOpenString}
 pub use Rattle.term_unify.specs.Flat.{HasNoString, HasNoStringIn}
 
 -- the bindings of the cell end at a built string

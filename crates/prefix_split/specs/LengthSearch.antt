@@ -5,8 +5,8 @@ use Rattle.calculus.specs.declared.setting.Logic.{Logic}
 use Rattle.calculus.specs.Counting.{AtLeastMany, IsRisingListOf}
 use Rattle.calculus.specs.Instances.{GammaUse}
 use Rattle.calculus.specs.Space.{lengths_cmp}
-use Rattle.calculus.specs.Stores.{Store}
-use Rattle.calculus.specs.Systems.{System, AreEarly, AreTried, HasSolution, bound_of}
+use Rattle.store_theory.specs.Stores.{Store}
+use Rattle.store_theory.specs.Systems.{System, AreEarly, AreTried, HasSolution, bound_of}
 use Rattle.prefix_split.specs.LengthLists.{least_of, spread_of}
 
 -- the lengths that are tried are those from x up to x + p

@@ -1,8 +1,8 @@
 -- What making the equations of a demand equal does to a store.
 use Rattle.std.specs.Prelude.{ℕ, ◌≤◌, List, length}
 use Rattle.calculus.specs.Instances.{GammaUse}
-use Rattle.calculus.specs.Stores.{Store, Solution, Solves}
-use Rattle.calculus.specs.Systems.{System, MeetsDemand}
+use Rattle.store_theory.specs.Stores.{Store, Solution, Solves}
+use Rattle.store_theory.specs.Systems.{System, MeetsDemand}
 use Rattle.search_theory.specs.States.{Agree}
 
 -- the new store has kept each solution that meets the demand

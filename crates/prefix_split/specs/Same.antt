@@ -1,7 +1,7 @@
 -- Goals that the bindings make the same.
 use Rattle.std.specs.Prelude.{◌≡◌}
-use Rattle.calculus.specs.Stores.{Store, Solution, Solves}
-use Rattle.calculus.specs.Systems.{CellAtom, Pair}
+use Rattle.store_theory.specs.Stores.{Store, Solution, Solves}
+use Rattle.store_theory.specs.Systems.{CellAtom, Pair}
 use Rattle.search_theory.specs.Regular.{AreSame}
 use Rattle.search_theory.specs.States.{label_by, literal_by}
 

@@ -1,8 +1,8 @@
 -- One list of lengths.
 use Rattle.std.specs.Prelude.{ℕ, List}
 use Rattle.std.specs.List.{AllByRecursion}
-use Rattle.calculus.specs.Stores.{Solution}
-use Rattle.calculus.specs.Systems.{System, AreEqual, HaveLengths}
+use Rattle.store_theory.specs.Stores.{Solution}
+use Rattle.store_theory.specs.Systems.{System, AreEqual, HaveLengths}
 
 -- the strings have these lengths, and the equations hold
 abbrev pub IsSetTo : System → List ℕ → Solution → Type 0

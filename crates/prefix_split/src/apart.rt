@@ -2,7 +2,7 @@
 
 ghost use Rattle.std.specs.Prelude.{◌≡◌, [], ℕ, List, IfOk, IfSome, IsTrue, false, length};
 ghost use Rattle.calculus.specs.Ground.{GroundMark};
-ghost use Rattle.calculus.specs.Systems.{is_pair, is_system};
+ghost use Rattle.store_theory.specs.Systems.{is_pair, is_system};
 ghost use Rattle.term_store.specs.SystemView.{the_pair, the_system};
 ghost use Rattle.prefix_split.specs.Beginnings.{AllApart, Holds, NodesFit};
 ghost use Rattle.prefix_split.specs.Growing.{ComeApart, IsPairApart};

@@ -2,7 +2,7 @@
 
 ghost use Rattle.std.specs.Prelude.{◌≤◌, ◌⊎◌, ℕ, List, IfOk, IfSome, length};
 ghost use Rattle.calculus.specs.Ground.{GroundMark};
-ghost use Rattle.calculus.specs.Stores.{Solution, Solves};
+ghost use Rattle.store_theory.specs.Stores.{Solution, Solves};
 ghost use Rattle.prefix_split.specs.Beginnings.{AreValues, Begins, Holds, NodesFit, Refutes};
 
 use crate::joining::{mark_of, settle};

@@ -3,10 +3,10 @@
 ghost use Rattle.std.specs.Prelude.{◌≡◌, ◌++◌, ℕ, Some, IfOk, IsTrue, false, map, slice_get, true};
 ghost use Rattle.std.specs.List.{AllByRecursion, list_all};
 ghost use Rattle.calculus.specs.declared.sort.Sort.TheVariants.{MarkSort};
-ghost use Rattle.calculus.specs.Bindings.{BindsOnly};
-ghost use Rattle.calculus.specs.Stores.{Solution, Solves, has_sort_at};
-ghost use Rattle.calculus.specs.Systems.{AreEqual, is_equation, is_label};
-ghost use Rattle.calculus.specs.Systems as tree;
+ghost use Rattle.store_theory.specs.Bindings.{BindsOnly};
+ghost use Rattle.store_theory.specs.Stores.{Solution, Solves, has_sort_at};
+ghost use Rattle.store_theory.specs.Systems.{AreEqual, is_equation, is_label};
+ghost use Rattle.store_theory.specs.Systems as tree;
 ghost use Rattle.search_theory.specs.Solving.{CannotEqual, IsNarrowed};
 ghost use Rattle.search_theory.proofs.GivingLaws.{NeverSame, SameMarks};
 ghost use Rattle.term_store.specs.RefView.{the_place};

@@ -3,13 +3,13 @@
 ghost use Rattle.std.specs.Prelude.{◌≡◌, ◌++◌, ◌<◌, ◌≤◌, ℕ, List, IfOk, IfSome, IsTrue};
 ghost use Rattle.std.specs.Prelude.{false, length, map, take, true};
 ghost use Rattle.std.specs.List.{AllByRecursion, list_all};
-ghost use Rattle.calculus.specs.Bindings.{IsEnd};
+ghost use Rattle.store_theory.specs.Bindings.{IsEnd};
 ghost use Rattle.calculus.specs.declared.sort.Sort.TheVariants.{MarkSort};
 ghost use Rattle.calculus.specs.Ground.{GroundMark};
-ghost use Rattle.calculus.specs.Stores.{Solution, Solves, has_sort_at, names_below};
-ghost use Rattle.calculus.specs.Systems.{AreEqual, IsOpenString, NamesItsStrings, is_equation};
-ghost use Rattle.calculus.specs.Systems.{is_system};
-ghost use Rattle.calculus.specs.Templates.{as_label};
+ghost use Rattle.store_theory.specs.Stores.{Solution, Solves, has_sort_at, names_below};
+ghost use Rattle.store_theory.specs.Systems.{AreEqual, IsOpenString, NamesItsStrings, is_equation};
+ghost use Rattle.store_theory.specs.Systems.{is_system};
+ghost use Rattle.store_theory.specs.Templates.{as_label};
 ghost use Rattle.calculus.specs.declared.setting.Logic.{Logic};
 ghost use Rattle.search_theory.specs.States.{label_by};
 ghost use Rattle.term_store.specs.HomeView.{the_home};

@@ -2,8 +2,8 @@
 
 ghost use Rattle.std.specs.Prelude.{◌≡◌, ◌<◌, ℕ, List, IfOk, IfSome, length, true};
 ghost use Rattle.calculus.specs.Ground.{GroundMark};
-ghost use Rattle.calculus.specs.Stores.{Solution, Solves};
-ghost use Rattle.calculus.specs.Templates.{as_label};
+ghost use Rattle.store_theory.specs.Stores.{Solution, Solves};
+ghost use Rattle.store_theory.specs.Templates.{as_label};
 ghost use Rattle.prefix_split.specs.Beginnings.{AreValues, Holds, IsMarkNode, IsOtherMark};
 ghost use Rattle.prefix_split.specs.Beginnings.{KeepsIn, NodesFit, StepFits, are_other_names};
 ghost use Rattle.prefix_split.specs.Beginnings.{item_of, step_marks};

@@ -4,10 +4,10 @@ ghost use Rattle.std.specs.Prelude.{◌≡◌, ◌<◌, ℕ, Some, None, IfOk, I
 ghost use Rattle.std.specs.Prelude.{length, map, slice_get, true};
 ghost use Rattle.std.specs.List.{list_all};
 ghost use Rattle.calculus.specs.declared.sort.Sort.TheVariants.{StringSort};
-ghost use Rattle.calculus.specs.Bindings.{IsEnd};
-ghost use Rattle.calculus.specs.Stores.{EndsAt, Solution, Solves, has_sort_at};
-ghost use Rattle.calculus.specs.Stores.{string_cell, variable};
-ghost use Rattle.calculus.specs.Systems.{HaveLengths};
+ghost use Rattle.store_theory.specs.Bindings.{IsEnd};
+ghost use Rattle.store_theory.specs.Stores.{EndsAt, Solution, Solves, has_sort_at};
+ghost use Rattle.store_theory.specs.Stores.{string_cell, variable};
+ghost use Rattle.store_theory.specs.Systems.{HaveLengths};
 ghost use Rattle.search_theory.specs.Solving.{CannotHave, IsNarrowed};
 ghost use Rattle.term_store.specs.RefView.{the_place};
 ghost use Rattle.term_store.specs.Room.{KeepsRoom};

@@ -1,9 +1,9 @@
 //! Meeting a demand: its equations are made equal until it has none.
 
 ghost use Rattle.std.specs.Prelude.{◌≡◌, IfOk, IsTrue, false, true};
-ghost use Rattle.calculus.specs.Stores.{Solution, Solves};
-ghost use Rattle.calculus.specs.Systems.{HasBuiltStrings, HasNoOpenString, MeetsDemand};
-ghost use Rattle.calculus.specs.Systems.{OwnSparesMeet, is_system};
+ghost use Rattle.store_theory.specs.Stores.{Solution, Solves};
+ghost use Rattle.store_theory.specs.Systems.{HasBuiltStrings, HasNoOpenString, MeetsDemand};
+ghost use Rattle.store_theory.specs.Systems.{OwnSparesMeet, is_system};
 ghost use Rattle.term_store.specs.Asking.{Asks};
 ghost use Rattle.term_store.specs.Room.{KeepsRoom};
 ghost use Rattle.term_store.specs.SystemView.{the_system};

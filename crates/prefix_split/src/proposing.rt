@@ -5,8 +5,8 @@ ghost use Rattle.std.specs.List.{list_all};
 ghost use Rattle.calculus.specs.declared.sort.Sort.TheVariants.{StringSort};
 ghost use Rattle.calculus.specs.Labels.{is_step_length};
 ghost use Rattle.calculus.specs.Space.{is_tried_length};
-ghost use Rattle.calculus.specs.Stores.{has_sort_at};
-ghost use Rattle.calculus.specs.Systems.{AreTried, is_system};
+ghost use Rattle.store_theory.specs.Stores.{has_sort_at};
+ghost use Rattle.store_theory.specs.Systems.{AreTried, is_system};
 ghost use Rattle.term_store.specs.RefView.{the_place};
 ghost use Rattle.term_store.specs.SystemView.{the_system};
 

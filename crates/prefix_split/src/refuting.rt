@@ -3,10 +3,10 @@
 ghost use Rattle.std.specs.Prelude.{◌≡◌, ◌<◌, ℕ, List, Some, IfOk, IsTrue, length, slice_get, true};
 ghost use Rattle.std.specs.List.{AllByRecursion};
 ghost use Rattle.calculus.specs.Ground.{GroundMark};
-ghost use Rattle.calculus.specs.Stores.{Solution, Solves};
-ghost use Rattle.calculus.specs.Bindings.{AddsBuilt, KeepsMarks};
-ghost use Rattle.calculus.specs.Systems.{AreEqual, Differ, IsStep, MeetsDemand};
-ghost use Rattle.calculus.specs.Systems.{NamesItsStrings, is_system};
+ghost use Rattle.store_theory.specs.Stores.{Solution, Solves};
+ghost use Rattle.store_theory.specs.Bindings.{AddsBuilt, KeepsMarks};
+ghost use Rattle.store_theory.specs.Systems.{AreEqual, Differ, IsStep, MeetsDemand};
+ghost use Rattle.store_theory.specs.Systems.{NamesItsStrings, is_system};
 ghost use Rattle.term_store.specs.Asking.{Asks};
 ghost use Rattle.term_store.specs.Room.{KeepsRoom};
 ghost use Rattle.term_store.specs.SystemView.{the_system};

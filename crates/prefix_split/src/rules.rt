@@ -2,7 +2,7 @@
 
 ghost use Rattle.std.specs.Prelude.{◌≡◌, ◌<◌, ℕ, List, IfSome, Some, length, slice_get, true};
 ghost use Rattle.calculus.specs.Ground.{GroundMark};
-ghost use Rattle.calculus.specs.Stores.{Solution};
+ghost use Rattle.store_theory.specs.Stores.{Solution};
 ghost use Rattle.prefix_split.specs.Beginnings.{AreValues, Begins, Holds};
 ghost use Rattle.prefix_split.specs.Beginnings.{IsShortBehind, Keeps, is_short};
 

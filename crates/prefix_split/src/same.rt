@@ -4,8 +4,8 @@ ghost use Rattle.std.specs.Prelude.{◌≡◌, ℕ, None, Some, IfOk, IfSome, Is
 ghost use Rattle.std.specs.Prelude.{map, slice_get, true};
 ghost use Rattle.std.specs.List.{AllByRecursion, list_all};
 ghost use Rattle.calculus.specs.Equality.{sign_eq};
-ghost use Rattle.calculus.specs.Systems.{is_cell_atom, is_pair};
-ghost use Rattle.calculus.specs.Systems as tree;
+ghost use Rattle.store_theory.specs.Systems.{is_cell_atom, is_pair};
+ghost use Rattle.store_theory.specs.Systems as tree;
 ghost use Rattle.search_theory.specs.Regular.{AreSame};
 ghost use Rattle.term_store.specs.ClauseView.{the_atom};
 ghost use Rattle.term_store.specs.SystemView.{the_pair};

@@ -2,12 +2,12 @@
 
 ghost use Rattle.std.specs.Prelude.{◌≡◌, ◌+◌, ◌-◌, IfOk, IfSome, IsTrue, MatchOption, OnErr};
 ghost use Rattle.std.specs.Prelude.{false, true};
-ghost use Rattle.calculus.specs.Bindings.{KeepsMarks};
+ghost use Rattle.store_theory.specs.Bindings.{KeepsMarks};
 ghost use Rattle.calculus.specs.Counting.{MoreThan};
 ghost use Rattle.calculus.specs.Space.{has_labels, lengths_cmp};
-ghost use Rattle.calculus.specs.Stores.{Solution, Solves};
-ghost use Rattle.calculus.specs.Systems.{AreEarly, HasBoundedSolution, NamesItsStrings};
-ghost use Rattle.calculus.specs.Systems.{OwnSparesSolve, is_system};
+ghost use Rattle.store_theory.specs.Stores.{Solution, Solves};
+ghost use Rattle.store_theory.specs.Systems.{AreEarly, HasBoundedSolution, NamesItsStrings};
+ghost use Rattle.store_theory.specs.Systems.{OwnSparesSolve, is_system};
 ghost use Rattle.term_store.specs.Asking.{Asks};
 ghost use Rattle.term_store.specs.Room.{KeepsRoom};
 ghost use Rattle.term_store.specs.SystemView.{the_system};

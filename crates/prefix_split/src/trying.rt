@@ -1,10 +1,10 @@
 //! Trying one list of lengths.
 
 ghost use Rattle.std.specs.Prelude.{◌≡◌, IfOk, IsTrue, OnErr, false, length, true};
-ghost use Rattle.calculus.specs.Bindings.{KeepsMarks};
-ghost use Rattle.calculus.specs.Stores.{Solution, Solves};
-ghost use Rattle.calculus.specs.Systems.{AreTried, HasBuiltStrings, HasNoOpenString};
-ghost use Rattle.calculus.specs.Systems.{HasSolution, NamesItsStrings, OwnSparesSolve, is_system};
+ghost use Rattle.store_theory.specs.Bindings.{KeepsMarks};
+ghost use Rattle.store_theory.specs.Stores.{Solution, Solves};
+ghost use Rattle.store_theory.specs.Systems.{AreTried, HasBuiltStrings, HasNoOpenString};
+ghost use Rattle.store_theory.specs.Systems.{HasSolution, NamesItsStrings, OwnSparesSolve, is_system};
 ghost use Rattle.search_theory.specs.Solving.{IsNarrowed};
 ghost use Rattle.term_store.specs.Asking.{Asks};
 ghost use Rattle.term_store.specs.Room.{KeepsRoom};

@@ -1,7 +1,7 @@
 //! How often cells stand in the labels of equations.
 
 ghost use Rattle.std.specs.Prelude.{◌≤◌, ◌<◌, IsTrue, length, map};
-ghost use Rattle.calculus.specs.Stores.{names_below};
+ghost use Rattle.store_theory.specs.Stores.{names_below};
 ghost use Rattle.term_store.specs.RefView.{the_place};
 
 use crate::growing::is_open_string;

@@ -3,10 +3,10 @@ use Rattle.std.proofs.Common.{◌≡◌, ℕ, zero, suc, List, [], ◌∷◌, �
 use Rattle.std.specs.List.{list_all}
 use Rattle.std.proofs.lemmas.Bool.{and_from, or_left}
 use Rattle.calculus.specs.declared.sort.Sort.TheVariants.{MarkSort, StringSort, TermSort}
-use Rattle.calculus.specs.Bindings.{AddsBuilt, nothing_more, one_more, is_variable, with_cell, with_variables_of}
-use Rattle.calculus.specs.Patterns.{Pattern, is_label_pattern, pattern_fits}
-use Rattle.calculus.specs.Stores.{Store, sort_of, variable}
-use Rattle.calculus.specs.Systems.{HasBuiltStrings, HasNoOpenString, IsOpenString, System, is_gamma_cell, is_system}
+use Rattle.store_theory.specs.Bindings.{AddsBuilt, nothing_more, one_more, is_variable, with_cell, with_variables_of}
+use Rattle.store_theory.specs.Patterns.{Pattern, is_label_pattern, pattern_fits}
+use Rattle.store_theory.specs.Stores.{Store, sort_of, variable}
+use Rattle.store_theory.specs.Systems.{HasBuiltStrings, HasNoOpenString, IsOpenString, System, is_gamma_cell, is_system}
 use Rattle.calculus.proofs.PlaceLists.{all-append, get-last}
 use Rattle.search_tests.specs.DomainExamples.{empty_store, two_terms}
 

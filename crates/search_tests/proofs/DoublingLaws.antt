@@ -6,11 +6,11 @@ use Rattle.std.proofs.lemmas.Bool.{and_parts}
 use Rattle.std.proofs.lemmas.Option.{slice_get-map}
 use Rattle.calculus.specs.declared.sort.Sort.{Sort}
 use Rattle.calculus.specs.declared.sort.Sort.TheVariants.{TermSort}
-use Rattle.calculus.specs.Stores.{Store, has_sort_at}
-use Rattle.calculus.specs.Systems.{CellAtom, is_cell_atom, is_label}
-use Rattle.calculus.specs.Bindings.{AddsBuilt, with_variables_of}
-use Rattle.calculus.proofs.BindingLaws.{sorted_cell}
-use Rattle.calculus.proofs.PatternLaws.{Grows-built, length-variables}
+use Rattle.store_theory.specs.Stores.{Store, has_sort_at}
+use Rattle.store_theory.specs.Systems.{CellAtom, is_cell_atom, is_label}
+use Rattle.store_theory.specs.Bindings.{AddsBuilt, with_variables_of}
+use Rattle.store_theory.proofs.BindingLaws.{sorted_cell}
+use Rattle.store_theory.proofs.PatternLaws.{Grows-built, length-variables}
 use Rattle.calculus.proofs.PlaceLists.{all-at, get-within}
 use Rattle.term_store.specs.declared.cell.Ref.{Ref}
 use Rattle.term_store.specs.RefView.{the_place}

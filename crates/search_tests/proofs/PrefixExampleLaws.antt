@@ -4,10 +4,10 @@ use Rattle.std.specs.List.{list_all}
 use Rattle.std.proofs.lemmas.Bool.{and_from, or_left, or_right}
 use Rattle.calculus.specs.declared.sort.Sort.{Sort}
 use Rattle.calculus.specs.declared.sort.Sort.TheVariants.{MarkSort, StringSort, TermSort}
-use Rattle.calculus.specs.Bindings.{with_cell}
-use Rattle.calculus.specs.Stores.{Cell, Store, has_sort_at, has_value_sort_at, new_cell, parts_fit, sort_of, stays, variable}
-use Rattle.calculus.specs.Systems.{NamesItsStrings, System, has_label_sort_at, is_equation, is_gamma_cell, is_pair, is_system}
-use Rattle.calculus.proofs.BindingLaws.{has_sort-from, has_sort-with_cell}
+use Rattle.store_theory.specs.Bindings.{with_cell}
+use Rattle.store_theory.specs.Stores.{Cell, Store, has_sort_at, has_value_sort_at, new_cell, parts_fit, sort_of, stays, variable}
+use Rattle.store_theory.specs.Systems.{NamesItsStrings, System, has_label_sort_at, is_equation, is_gamma_cell, is_pair, is_system}
+use Rattle.store_theory.proofs.BindingLaws.{has_sort-from, has_sort-with_cell}
 use Rattle.calculus.proofs.PlaceLists.{all-append, all-at, all-more, get-end, get-front, get-last}
 use Rattle.search_tests.specs.PrefixExamples.{AreItsCells}
 

@@ -3,12 +3,12 @@ use Rattle.std.proofs.Common.{◌≡◌, ℕ, zero, suc, ◌+◌, ◌<◌, ◌�
 use Rattle.std.specs.List.{flat_map, list_all}
 use Rattle.std.proofs.lemmas.Bool.{false≢true, and_from, and_parts, cases_lt}
 use Rattle.calculus.specs.declared.sort.Sort.TheVariants.{TermSort}
-use Rattle.calculus.specs.Bindings.{IsWellFormed}
+use Rattle.store_theory.specs.Bindings.{IsWellFormed}
 use Rattle.calculus.specs.Ground.{GroundMark}
 use Rattle.calculus.specs.Instances.{GammaUse}
-use Rattle.calculus.specs.Stores.{GammaCell, Solution, Store, has_sort_at, label_at}
-use Rattle.calculus.specs.Systems.{AreUses, Equation, HasNoOpenString, IsDemandEquation, OwnSparesMeet, Pair, System, cells_of_atom, is_gamma_cell, is_label, is_system}
-use Rattle.calculus.proofs.BindingLaws.{HasNoCycle-rank}
+use Rattle.store_theory.specs.Stores.{GammaCell, Solution, Store, has_sort_at, label_at}
+use Rattle.store_theory.specs.Systems.{AreUses, Equation, HasNoOpenString, IsDemandEquation, OwnSparesMeet, Pair, System, cells_of_atom, is_gamma_cell, is_label, is_system}
+use Rattle.store_theory.proofs.BindingLaws.{HasNoCycle-rank}
 use Rattle.calculus.proofs.PlaceLists.{all-at, get-within}
 use Rattle.search_theory.proofs.DemandLaws.{homes-constant, met-common, now-label}
 use Rattle.search_theory.proofs.RankLaws.{rank_of, ranked-by_no_cycle}

@@ -6,7 +6,7 @@ use Rattle.calculus.specs.declared.sort.Sort.{Sort}
 use Rattle.calculus.specs.declared.sort.Sort.TheVariants.{TermSort}
 use Rattle.calculus.specs.declared.symbol.SymbolClass.TheVariants.{Function}
 use Rattle.calculus.specs.Problems.{is_problem}
-use Rattle.calculus.specs.Stores.{Store}
+use Rattle.store_theory.specs.Stores.{Store}
 use Rattle.calculus.specs.Syntax as tree
 use Rattle.example_problems.specs.Examples.{p, predicate, symbol_named}
 

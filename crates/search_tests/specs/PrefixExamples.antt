@@ -6,9 +6,9 @@ use Rattle.calculus.specs.declared.setting.Domains.TheVariants.{Constant}
 use Rattle.calculus.specs.declared.sort.Sort.TheVariants.{MarkSort, StringSort, TermSort}
 use Rattle.calculus.specs.Ground.{GroundMark}
 use Rattle.calculus.specs.Instances.{GammaUse}
-use Rattle.calculus.specs.Stores.{GammaCell, Store, has_sort_at}
+use Rattle.store_theory.specs.Stores.{GammaCell, Store, has_sort_at}
 use Rattle.calculus.specs.Syntax as tree
-use Rattle.calculus.specs.Systems.{Equation, IsOpenString}
+use Rattle.store_theory.specs.Systems.{Equation, IsOpenString}
 use Rattle.search_theory.specs.Demanding.{equation}
 use Rattle.term_unify.specs.Same.{AreSameLabels}
 

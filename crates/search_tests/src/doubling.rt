@@ -1,7 +1,7 @@
 //! Terms that double at each level, f(x, x) with x = f(y, y) and so on: as trees they are too large to be walked.
 
 ghost use Rattle.std.specs.Prelude.{◌<◌, ◌≤◌, IfOk, IsTrue, length};
-ghost use Rattle.calculus.specs.Patterns.{template_fits};
+ghost use Rattle.store_theory.specs.Patterns.{template_fits};
 ghost use Rattle.term_store.specs.TemplateView.{the_template};
 
 use cop_base::{NoMemory, SymbolId};

@@ -3,9 +3,9 @@
 ghost use Rattle.std.specs.Prelude.{◌≡◌, ◌<◌, ◌++◌, ◌∷◌, [], ℕ, None, Some, IfOk, IfSome, IsTrue};
 ghost use Rattle.std.specs.Prelude.{OnOk, false, length, map, slice_get, true};
 ghost use Rattle.std.specs.List.{list_all};
-ghost use Rattle.calculus.specs.Stores.{GammaCell};
-ghost use Rattle.calculus.specs.Systems.{NamesItsStrings, has_label_sort_at, is_cell_atom};
-ghost use Rattle.calculus.specs.Systems.{is_equation, is_gamma_cell, is_label, is_pair, is_system};
+ghost use Rattle.store_theory.specs.Stores.{GammaCell};
+ghost use Rattle.store_theory.specs.Systems.{NamesItsStrings, has_label_sort_at, is_cell_atom};
+ghost use Rattle.store_theory.specs.Systems.{is_equation, is_gamma_cell, is_label, is_pair, is_system};
 ghost use Rattle.search_theory.specs.Demanding.{equation};
 ghost use Rattle.term_store.specs.ClauseView.{the_atom, the_gamma};
 ghost use Rattle.term_store.specs.RefView.{the_place};

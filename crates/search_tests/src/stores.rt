@@ -1,7 +1,7 @@
 //! The clause p(X, f(X)), copied.
 
 ghost use Rattle.std.specs.Prelude.{IfOk, IsTrue};
-ghost use Rattle.calculus.specs.Patterns.{template_fits};
+ghost use Rattle.store_theory.specs.Patterns.{template_fits};
 ghost use Rattle.term_store.specs.TemplateView.{the_template};
 
 use cop_base::{NoMemory, SymbolId};

@@ -20,12 +20,12 @@ use Rattle.calculus.specs.Kinds.{shape_of, modal_of}
 use Rattle.calculus.specs.Positions.{Node}
 use Rattle.calculus.specs.Labels.{is_prefix, steps_to, nu_label, is_step_length}
 use Rattle.calculus.specs.Skolem.{Reached, take_string, after_modal, take_term, after_shape, is_step, fits_along, way_to, at_root, fits_way, is_empty, is_delta_position, is_pi_position, has_function, is_admitted, are_admitted, is_admitted_mark, are_admitted_marks, is_admitted_value, are_admitted_values}
-use Rattle.calculus.specs.Stores.{Cell, variable, fun_cell, eigen_cell, new_cell, string_cell, Store, parts_of, has_sort_at, has_value_sort_at, parts_fit, is_store, CellValue, a_term, a_mark, a_string, has_sort, Solution, terms_at, cons_value, values_at, marks_at, join_label, label_at, Solves, GammaCell, IsHome, IsOwnSpare, AreOwnSpares}
+use Rattle.store_theory.specs.Stores.{Cell, variable, fun_cell, eigen_cell, new_cell, string_cell, Store, parts_of, has_sort_at, has_value_sort_at, parts_fit, is_store, CellValue, a_term, a_mark, a_string, has_sort, Solution, terms_at, cons_value, values_at, marks_at, join_label, label_at, Solves, GammaCell, IsHome, IsOwnSpare, AreOwnSpares}
 use Rattle.calculus.specs.Sizes.{g_term_size, g_terms_size, mark_size, marks_size, values_size}
 use Rattle.calculus.specs.Space.{has_labels}
-use Rattle.calculus.specs.Systems.{is_label, is_gamma_cell}
+use Rattle.store_theory.specs.Systems.{is_label, is_gamma_cell}
 use Rattle.calculus.proofs.EqualityLaws.{mark_eq-tells, list_eq-tells}
-use Rattle.calculus.specs.Templates.{as_term, as_value, as_label, is_step_value, is_choice_of_values}
+use Rattle.store_theory.specs.Templates.{as_term, as_value, as_label, is_step_value, is_choice_of_values}
 use Rattle.search_theory.specs.States.{terms_by, label_by, values_by}
 use Rattle.search_theory.specs.LabelledCells.{sort_values, is_labelled_cell, AreLabelled}
 use Rattle.search_theory.proofs.SpareLaws.{IsPart, IsRanked, cell-fits, cell-sorted, all-at, or-both}

@@ -5,10 +5,10 @@ use Rattle.std.specs.List.{list_all, AllByRecursion}
 use Rattle.std.proofs.lemmas.Bool.{false≢true, and_parts}
 use Rattle.calculus.specs.declared.sort.Sort.TheVariants.{TermSort, MarkSort, StringSort}
 use Rattle.calculus.specs.Ground.{GroundTerms, GroundMark, GroundLiteral, Values, no_g_terms, more_g_terms, g_spare_mark, no_values, more_values, term, steps, marks_tree, values_tree}
-use Rattle.calculus.specs.Stores.{Cell, variable, fun_cell, eigen_cell, new_cell, string_cell, Store, sort_of, parts_of, parts_fit, has_sort_at, is_store, CellValue, a_term, a_mark, a_string, has_sort, Solution, terms_at, label_at, join_label, marks_at, values_at, cons_value, Solves}
+use Rattle.store_theory.specs.Stores.{Cell, variable, fun_cell, eigen_cell, new_cell, string_cell, Store, sort_of, parts_of, parts_fit, has_sort_at, is_store, CellValue, a_term, a_mark, a_string, has_sort, Solution, terms_at, label_at, join_label, marks_at, values_at, cons_value, Solves}
 use Rattle.calculus.specs.Equality.{sort_eq}
-use Rattle.calculus.specs.Systems.{CellAtom, IsLiteral, is_label, is_cell_atom}
-use Rattle.calculus.specs.Templates.{as_term, as_value, as_label}
+use Rattle.store_theory.specs.Systems.{CellAtom, IsLiteral, is_label, is_cell_atom}
+use Rattle.store_theory.specs.Templates.{as_term, as_value, as_label}
 use Rattle.search_theory.specs.States.{terms_by, label_by, values_by, literal_by}
 use Rattle.search_theory.specs.Regular.{AreSame}
 use Rattle.search_theory.proofs.SpareLaws.{IsPart, IsRanked, cell-fits, cell-sorted}

@@ -4,8 +4,8 @@ use Rattle.std.specs.List.{list_all}
 use Rattle.std.proofs.lemmas.Bool.{and_parts, and_from}
 use Rattle.std.proofs.lemmas.List.Folds.{list_all-append}
 use Rattle.calculus.specs.Choices.{start, reduction, extension}
-use Rattle.calculus.specs.Stores.{names_below}
-use Rattle.calculus.specs.Systems.{CellAtom}
+use Rattle.store_theory.specs.Stores.{names_below}
+use Rattle.store_theory.specs.Systems.{CellAtom}
 use Rattle.search_theory.specs.States.{CellClause, CellChoice, CellGoal, atom_is_below, clause_is_below, choice_is_below, goal_is_below, cell_goals_on}
 
 pub all-weaken : {A : Type 0} (p q : A → Bool) → ((x : A) → IsTrue (p x) → IsTrue (q x)) → (xs : List A) → IsTrue (list_all p xs) → IsTrue (list_all q xs)

@@ -13,13 +13,13 @@ use Rattle.calculus.specs.Equality.{list_eq, literal_eq}
 use Rattle.calculus.specs.Instances.{GammaUse, gamma_is_allowed}
 use Rattle.calculus.specs.ComputedInstances.{Part, instance_of}
 use Rattle.calculus.specs.Space.{string_length, lengths_in}
-use Rattle.calculus.specs.Stores.{Store, has_sort_at, CellValue, a_term, a_mark, a_string, has_sort, Solution, Solves, GammaCell}
-use Rattle.calculus.specs.Systems.{is_label, is_gamma_cell, AreUses, AllAllowed, HaveLengths}
+use Rattle.store_theory.specs.Stores.{Store, has_sort_at, CellValue, a_term, a_mark, a_string, has_sort, Solution, Solves, GammaCell}
+use Rattle.store_theory.specs.Systems.{is_label, is_gamma_cell, AreUses, AllAllowed, HaveLengths}
 use Rattle.calculus.proofs.InstanceLaws.{OnPart}
 use Rattle.calculus.proofs.CasesLaws.{Cases, cases-by_instance_of}
 use Rattle.calculus.proofs.SpaceLaws.{strings-gives}
-use Rattle.calculus.specs.Patterns.{PatternGamma, Template, AreGammaCopies}
-use Rattle.calculus.specs.Templates.{as_term, as_value, pattern_gamma, gammas_by, has_value_sort, have_sorts, IsTemplateOf}
+use Rattle.store_theory.specs.Patterns.{PatternGamma, Template, AreGammaCopies}
+use Rattle.store_theory.specs.Templates.{as_term, as_value, pattern_gamma, gammas_by, has_value_sort, have_sorts, IsTemplateOf}
 use Rattle.search_theory.specs.States.{CellClause, values_by, clause_at}
 use Rattle.search_theory.specs.StateSystems.{Brings, string_cells}
 use Rattle.search_theory.proofs.BuildingLaws.{built-value, built-label, AreValueCells, solved-sorted}

@@ -8,11 +8,11 @@ use Rattle.calculus.specs.declared.sort.Sort.{Sort}
 use Rattle.calculus.specs.declared.sort.Sort.TheVariants.{TermSort, MarkSort, StringSort}
 use Rattle.calculus.specs.Ground.{GroundTerms, Value, Values, g_fun, g_eigen, no_g_terms, more_g_terms, g_new_mark, term, steps, no_values, more_values, marks_tree, values_tree}
 use Rattle.calculus.specs.Lists.{marks_list-marks_tree, marks_tree-marks_list}
-use Rattle.calculus.specs.Stores.{Cell, variable, fun_cell, eigen_cell, new_cell, string_cell, Store, parts_of, sort_of, has_sort_at, has_value_sort_at, parts_fit, is_store, CellValue, a_term, a_mark, a_string, has_sort, Solution, cons_term, terms_at, cons_value, values_at, cons_mark, marks_at, CellHolds, Solves, names_below}
-use Rattle.calculus.specs.Systems.{CellAtom}
-use Rattle.calculus.specs.Patterns.{Pattern, Patterns, p_var, p_fun, p_eigen, p_new, no_patterns, more_patterns, patterns_tree, PatternAtom, Template, IsCopy, AreCopies, IsAtomCopy, AreAtomCopies}
-use Rattle.calculus.specs.Templates.{as_term, as_value, as_label, cell_value, value_of_variable, pattern_value, pattern_terms, pattern_values, pattern_label, pattern_literal, has_value_sort, have_sorts}
-use Rattle.calculus.specs.Bindings.{with_cell, is_variable, with_variables_of, places_from, AddsBuilt, nothing_more, one_more}
+use Rattle.store_theory.specs.Stores.{Cell, variable, fun_cell, eigen_cell, new_cell, string_cell, Store, parts_of, sort_of, has_sort_at, has_value_sort_at, parts_fit, is_store, CellValue, a_term, a_mark, a_string, has_sort, Solution, cons_term, terms_at, cons_value, values_at, cons_mark, marks_at, CellHolds, Solves, names_below}
+use Rattle.store_theory.specs.Systems.{CellAtom}
+use Rattle.store_theory.specs.Patterns.{Pattern, Patterns, p_var, p_fun, p_eigen, p_new, no_patterns, more_patterns, patterns_tree, PatternAtom, Template, IsCopy, AreCopies, IsAtomCopy, AreAtomCopies}
+use Rattle.store_theory.specs.Templates.{as_term, as_value, as_label, cell_value, value_of_variable, pattern_value, pattern_terms, pattern_values, pattern_label, pattern_literal, has_value_sort, have_sorts}
+use Rattle.store_theory.specs.Bindings.{with_cell, is_variable, with_variables_of, places_from, AddsBuilt, nothing_more, one_more}
 use Rattle.search_theory.specs.States.{CellClause, clause_is_below, terms_by, label_by, values_by, literal_by, Agree}
 use Rattle.search_theory.specs.Steps.{IsFreshClause, IsHeadCopy, IsRestCopy}
 use Rattle.search_theory.proofs.BelowLaws.{all-weaken}

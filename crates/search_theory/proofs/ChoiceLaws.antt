@@ -16,11 +16,11 @@ use Rattle.calculus.specs.Equality.{sign_eq}
 use Rattle.calculus.specs.Kinds.{other}
 use Rattle.calculus.specs.Choices.{reduction, extension, Choice, choice_cmp, selection_cmp}
 use Rattle.calculus.specs.Counting.{IsRising}
-use Rattle.calculus.specs.Systems.{CellAtom}
+use Rattle.store_theory.specs.Systems.{CellAtom}
 use Rattle.calculus.proofs.OrderLaws.{selection_cmp_total, rising-before}
 use Rattle.calculus.proofs.SelectionLaws.{selections-rise}
-use Rattle.calculus.specs.Patterns.{PatternAtom, Template}
-use Rattle.calculus.specs.Templates.{IsTemplateOf}
+use Rattle.store_theory.specs.Patterns.{PatternAtom, Template}
+use Rattle.store_theory.specs.Templates.{IsTemplateOf}
 use Rattle.search_theory.specs.States.{CellGoal}
 use Rattle.search_theory.specs.Matrix.{MatrixClause, IsTemplateMatrix, is_about, places_among, clause_places, places}
 use Rattle.search_theory.specs.Goals.{IsChoiceAt, MeetsAt, by_ancestor, by_clause}

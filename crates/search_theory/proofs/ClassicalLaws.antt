@@ -17,8 +17,8 @@ use Rattle.calculus.specs.Kinds.{shape_of, modal_of}
 use Rattle.calculus.specs.Positions.{Node}
 use Rattle.calculus.specs.Labels.{pi_label}
 use Rattle.calculus.specs.Skolem.{Reached, after_modal, after_shape, way_to, is_step, fits_along, fits_way, is_delta_position, has_function, is_admitted, are_admitted, are_admitted_values}
-use Rattle.calculus.specs.Stores.{Cell, variable, fun_cell, eigen_cell, new_cell, string_cell, Store, sort_of, CellValue, a_term, a_mark, a_string, Solution, parts_of}
-use Rattle.calculus.specs.Templates.{as_term, as_value}
+use Rattle.store_theory.specs.Stores.{Cell, variable, fun_cell, eigen_cell, new_cell, string_cell, Store, sort_of, CellValue, a_term, a_mark, a_string, Solution, parts_of}
+use Rattle.store_theory.specs.Templates.{as_term, as_value}
 use Rattle.search_theory.specs.States.{terms_by, values_by}
 use Rattle.search_theory.specs.Regular.{is_classical_cell, is_own_cell, is_classical_store}
 use Rattle.search_theory.proofs.SpareLaws.{spare_of, own_at, spare_at, own_value, all-at, IsPart}

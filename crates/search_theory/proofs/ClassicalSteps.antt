@@ -10,9 +10,9 @@ use Rattle.calculus.specs.Equality.{sort_eq}
 use Rattle.calculus.specs.Syntax.{Problem}
 use Rattle.calculus.specs.Skolem.{is_empty}
 use Rattle.calculus.specs.Choices.{start, reduction, extension}
-use Rattle.calculus.specs.Stores.{Cell, variable, Store, sort_of, has_sort_at, parts_of}
-use Rattle.calculus.specs.Systems.{CellAtom}
-use Rattle.calculus.specs.Bindings.{BindsOnly, NamesFrom, with_cell, is_variable}
+use Rattle.store_theory.specs.Stores.{Cell, variable, Store, sort_of, has_sort_at, parts_of}
+use Rattle.store_theory.specs.Systems.{CellAtom}
+use Rattle.store_theory.specs.Bindings.{BindsOnly, NamesFrom, with_cell, is_variable}
 use Rattle.search_theory.specs.States.{CellClause, CellChoice, CellGoal, cell_goals_on, new_cell_goals}
 use Rattle.search_theory.specs.Regular.{is_classical_cell, is_classical_store, is_classical_atom, is_classical_goal, is_classical_choice, is_own_term, is_own_cell, is_classical_clause}
 use Rattle.search_theory.proofs.BelowLaws.{all-join, all-weaken, all-remove}

@@ -20,11 +20,11 @@ use Rattle.calculus.specs.Kinds.{other, shape_of}
 use Rattle.calculus.specs.Positions.{size}
 use Rattle.calculus.specs.Skolem.{is_empty, has_function, is_delta_position, fits_way, is_admitted, are_admitted, is_admitted_mark, is_admitted_value, are_admitted_values}
 use Rattle.calculus.specs.ComputedInstances.{Part, instance_of}
-use Rattle.calculus.specs.Stores.{a_term}
+use Rattle.store_theory.specs.Stores.{a_term}
 use Rattle.calculus.proofs.EqualityLaws.{list_eq-tells, literal_eq-tells}
 use Rattle.calculus.proofs.InstanceLaws.{literal_is_proper, Good, OnPart, instance-proper}
-use Rattle.calculus.specs.Patterns.{Pattern, Patterns, p_var, p_fun, p_eigen, p_new, no_patterns, more_patterns, patterns_tree, PatternAtom, Template}
-use Rattle.calculus.specs.Templates.{as_term, as_value, value_of_variable, pattern_value, pattern_terms, pattern_values, pattern_literal, literals_by, have_sorts, is_step_value, is_choice_of_values}
+use Rattle.store_theory.specs.Patterns.{Pattern, Patterns, p_var, p_fun, p_eigen, p_new, no_patterns, more_patterns, patterns_tree, PatternAtom, Template}
+use Rattle.store_theory.specs.Templates.{as_term, as_value, value_of_variable, pattern_value, pattern_terms, pattern_values, pattern_literal, literals_by, have_sorts, is_step_value, is_choice_of_values}
 use Rattle.search_theory.specs.TemplateOf.{PatternSpot, root_pattern_spot, PatternPart, PatternBody, pattern_of, patterns_of, pattern_down, pattern_inside, of_sort, pattern_turn, pattern_atom, joined_patterns, pattern_alpha, pattern_beta, pattern_one, pattern_two, with_pattern_gamma, pattern_quantifier, pattern_part, template_by, if_sides_used, template_of}
 use Rattle.search_theory.specs.Regular.{number_of_patterns, spares_for, is_classical_pattern, are_classical_patterns, is_term_sort, IsClassicalTemplate}
 use Rattle.search_theory.proofs.BelowLaws.{all-join}

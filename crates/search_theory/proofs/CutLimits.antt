@@ -10,7 +10,7 @@ use Rattle.calculus.specs.Tableaux.{is_shown}
 use Rattle.calculus.specs.Choices.{start, reduction, extension, Choice, GroundChoice, choice_of, choices_of, ground_choices, Goal, Growth, is_opposite, after_start, grow_at, grow, growth_of, is_within, IsLive}
 use Rattle.calculus.specs.Clauses.{clause_size}
 use Rattle.calculus.specs.Cut.{IsRegularLive, Fills, followed_by}
-use Rattle.calculus.specs.Stores.{Store}
+use Rattle.store_theory.specs.Stores.{Store}
 use Rattle.calculus.proofs.GrowthLaws.{closed_growth, closed-parts, grown-closed}
 use Rattle.calculus.proofs.LimitLaws.{lowered}
 use Rattle.search_theory.specs.Cutting.{AreUntried, FailsFrom, depths_after, depths_from}

@@ -12,10 +12,10 @@ use Rattle.calculus.specs.Equality.{mark_eq, sort_eq}
 use Rattle.calculus.specs.Labels.{is_prefix, home_allows}
 use Rattle.calculus.specs.Skolem.{label_of, common_spares, is_allowed, are_allowed}
 use Rattle.calculus.specs.Instances.{GammaUse, gamma_is_allowed}
-use Rattle.calculus.specs.Stores.{Cell, variable, fun_cell, eigen_cell, new_cell, string_cell, Store, sort_of, has_sort_at, parts_fit, is_store, CellValue, a_term, a_mark, a_string, has_sort, Solution, terms_at, cons_mark, marks_at, join_label, label_at, Solves, Holds, itself, bound, argument, GammaCell, IsHome, AreOwnSpares}
-use Rattle.calculus.specs.Systems.{System, is_label, is_gamma_cell, AreEqual, IsUse, AreUses, MeetsDemand, AreEqualNow, OwnSparesMeet, AllAllowed}
+use Rattle.store_theory.specs.Stores.{Cell, variable, fun_cell, eigen_cell, new_cell, string_cell, Store, sort_of, has_sort_at, parts_fit, is_store, CellValue, a_term, a_mark, a_string, has_sort, Solution, terms_at, cons_mark, marks_at, join_label, label_at, Solves, Holds, itself, bound, argument, GammaCell, IsHome, AreOwnSpares}
+use Rattle.store_theory.specs.Systems.{System, is_label, is_gamma_cell, AreEqual, IsUse, AreUses, MeetsDemand, AreEqualNow, OwnSparesMeet, AllAllowed}
 use Rattle.calculus.proofs.EqualityLaws.{mark_eq-tells, list_eq-tells}
-use Rattle.calculus.specs.Templates.{as_term}
+use Rattle.store_theory.specs.Templates.{as_term}
 use Rattle.search_theory.specs.States.{terms_by, label_by, values_by}
 use Rattle.search_theory.specs.Demanding.{IsHomeAt, equation, StandsAt, HomesEqual, HasNoConstant, HomesAgree}
 use Rattle.search_theory.proofs.SpareLaws.{IsPart, IsRanked, cell-fits, cell-sorted, all-at, own_value, own-apart}

@@ -11,8 +11,8 @@ use Rattle.calculus.specs.Skolem.{is_empty}
 use Rattle.calculus.specs.ComputedInstances.{is_instance, is_allowed_instance}
 use Rattle.calculus.specs.Tableaux.{are_complementary, is_complement, ancestor, is_shown, has_unbounded_strings}
 use Rattle.calculus.specs.Choices.{start, reduction, extension, Choice, GroundChoice, Goal, Growth, are_opposite, is_opposite, goals_on, after_start, grow_at, grow, growth_of}
-use Rattle.calculus.specs.Stores.{Store, Solution}
-use Rattle.calculus.specs.Systems.{CellAtom}
+use Rattle.store_theory.specs.Stores.{Store, Solution}
+use Rattle.store_theory.specs.Systems.{CellAtom}
 use Rattle.calculus.proofs.GrowthLaws.{grown_at}
 use Rattle.search_theory.specs.States.{CellChoice, State, label_by, literal_by, choice_at, goal_at, growth_at, IsStateOf}
 use Rattle.search_theory.specs.Regular.{HasNoSamePair, is_classical_atom, is_classical_goal, is_classical_choice, is_own_term, is_classical_clause}

@@ -9,9 +9,9 @@ use Rattle.calculus.specs.Instances.{ClauseInstance}
 use Rattle.calculus.specs.ComputedInstances.{is_instance}
 use Rattle.calculus.specs.Tableaux.{ancestor}
 use Rattle.calculus.specs.Choices.{start, reduction, extension, Choice, GroundChoice, choice_of, choices_of, Growth, is_opposite, growth_of}
-use Rattle.calculus.specs.Stores.{Store, Solution, names_below}
-use Rattle.calculus.specs.Patterns.{Template}
-use Rattle.calculus.specs.Templates.{is_choice_of_values, IsTemplateOf}
+use Rattle.store_theory.specs.Stores.{Store, Solution, names_below}
+use Rattle.store_theory.specs.Patterns.{Template}
+use Rattle.store_theory.specs.Templates.{is_choice_of_values, IsTemplateOf}
 use Rattle.search_theory.specs.States.{CellClause, CellChoice, CellGoal, State, literal_by, clause_at, choice_at, goal_at, growth_at, new_cell_goals, extended, atom_is_below, clause_is_below, choice_is_below, goal_is_below, IsGround, name_of, IsStateOf}
 use Rattle.search_theory.specs.Steps.{IsExtended, CannotExtend, IsReduced, CannotReduce}
 use Rattle.search_theory.proofs.LastChoice.{grow_once, none≢some, growth-last, growth-before, ends-with}

@@ -5,10 +5,10 @@ use Rattle.std.proofs.lemmas.Bool.{false≢true, and_parts, and_from}
 use Rattle.calculus.specs.declared.sort.Sort.{Sort}
 use Rattle.calculus.specs.declared.sort.Sort.TheVariants.{MarkSort}
 use Rattle.calculus.specs.Ground.{GroundMark}
-use Rattle.calculus.specs.Stores.{variable, string_cell, Store, has_sort_at, parts_fit, is_store, EndsAt, stays, goes_on, CellValue, a_term, a_mark, a_string, has_sort, Solution, cons_mark, marks_at, join_label, label_at, Solves, names_below}
-use Rattle.calculus.specs.Systems.{Equation, AreEqual, HaveLengths}
-use Rattle.calculus.specs.Bindings.{with_cell, with_variables_of, places_from}
-use Rattle.calculus.proofs.PatternLaws.{length-places}
+use Rattle.store_theory.specs.Stores.{variable, string_cell, Store, has_sort_at, parts_fit, is_store, EndsAt, stays, goes_on, CellValue, a_term, a_mark, a_string, has_sort, Solution, cons_mark, marks_at, join_label, label_at, Solves, names_below}
+use Rattle.store_theory.specs.Systems.{Equation, AreEqual, HaveLengths}
+use Rattle.store_theory.specs.Bindings.{with_cell, with_variables_of, places_from}
+use Rattle.store_theory.proofs.PatternLaws.{length-places}
 use Rattle.search_theory.specs.States.{label_by, Agree}
 use Rattle.search_theory.specs.Steps.{IsUnified}
 use Rattle.search_theory.specs.Solving.{IsNarrowed, CannotEqual, CannotHave}

@@ -16,9 +16,9 @@ use Rattle.calculus.specs.Kinds.{shape_of, modal_of}
 use Rattle.calculus.specs.Positions.{Node}
 use Rattle.calculus.specs.Labels.{nu_label, pi_label}
 use Rattle.calculus.specs.Skolem.{Reached, take_string, after_modal, take_term, after_shape, label_along, way_to}
-use Rattle.calculus.specs.Stores.{new_cell, Store, CellValue, a_term, a_mark, a_string, has_sort, Solution, Solves}
-use Rattle.calculus.specs.Systems.{is_label}
-use Rattle.calculus.specs.Templates.{as_value, as_label}
+use Rattle.store_theory.specs.Stores.{new_cell, Store, CellValue, a_term, a_mark, a_string, has_sort, Solution, Solves}
+use Rattle.store_theory.specs.Systems.{is_label}
+use Rattle.store_theory.specs.Templates.{as_value, as_label}
 use Rattle.search_theory.specs.States.{label_by, values_by}
 use Rattle.search_theory.specs.Demanding.{IsHomeAt}
 use Rattle.search_theory.specs.HomeCells.{CellReached, PassesModal, by_plain, by_string, by_mark, PassesShape, by_term, by_other, is_gamma_shape, LeadsToLabel, ended, passed, reached_by}

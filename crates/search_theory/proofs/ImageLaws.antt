@@ -5,9 +5,9 @@ use Rattle.std.proofs.lemmas.Bool.{and_parts}
 use Rattle.std.proofs.lemmas.List.{map-append}
 use Rattle.calculus.specs.Ground.{more_g_terms}
 use Rattle.calculus.specs.Choices.{start, reduction, extension, goals_on, choices_of}
-use Rattle.calculus.specs.Stores.{Solution, names_below}
-use Rattle.calculus.specs.Systems.{CellAtom}
-use Rattle.calculus.specs.Templates.{as_term, as_value, as_label}
+use Rattle.store_theory.specs.Stores.{Solution, names_below}
+use Rattle.store_theory.specs.Systems.{CellAtom}
+use Rattle.store_theory.specs.Templates.{as_term, as_value, as_label}
 use Rattle.search_theory.specs.States.{CellClause, CellChoice, CellGoal, terms_by, label_by, values_by, literal_by, clause_at, choice_at, goal_at, cell_goals_on, new_cell_goals, atom_is_below, clause_is_below, choice_is_below, goal_is_below, name_of, Agree}
 
 -- ---- removing, and goals

@@ -9,8 +9,8 @@ use Rattle.calculus.specs.Syntax.{Problem}
 use Rattle.calculus.specs.Ground.{common, g_spare_mark, no_marks, more_marks, term, steps}
 use Rattle.calculus.specs.Equality.{sort_eq}
 use Rattle.calculus.specs.Skolem.{is_delta_position, is_pi_position, fits_way}
-use Rattle.calculus.specs.Stores.{Cell, variable, fun_cell, eigen_cell, new_cell, string_cell, Store, sort_of, parts_of, has_sort_at, is_store}
-use Rattle.calculus.specs.Bindings.{with_cell}
+use Rattle.store_theory.specs.Stores.{Cell, variable, fun_cell, eigen_cell, new_cell, string_cell, Store, sort_of, parts_of, has_sort_at, is_store}
+use Rattle.store_theory.specs.Bindings.{with_cell}
 use Rattle.search_theory.specs.LabelledCells.{sort_values, is_labelled_cell, AreLabelled}
 use Rattle.search_theory.specs.Solving.{IsClosedSet}
 use Rattle.search_theory.proofs.SpareLaws.{IsPart}

@@ -15,11 +15,11 @@ use Rattle.calculus.specs.Skolem.{has_function, is_delta_position, is_pi_positio
 use Rattle.calculus.specs.Problems.{formula_fits}
 use Rattle.calculus.specs.ComputedInstances.{Part, instance_of}
 use Rattle.calculus.specs.Space.{has_labels}
-use Rattle.calculus.specs.Stores.{Cell, fun_cell, eigen_cell, new_cell, Store, sort_of, has_sort_at, has_value_sort_at, a_mark}
+use Rattle.store_theory.specs.Stores.{Cell, fun_cell, eigen_cell, new_cell, Store, sort_of, has_sort_at, has_value_sort_at, a_mark}
 use Rattle.calculus.specs.Labels.{is_step_length}
 use Rattle.calculus.proofs.InstanceLaws.{literal_is_proper, gamma_is_proper, Good, OnPart, instance-proper}
-use Rattle.calculus.specs.Patterns.{Pattern, Patterns, p_var, p_fun, p_eigen, p_new, no_patterns, more_patterns, Template, IsCopy, AreCopies}
-use Rattle.calculus.specs.Templates.{as_value, cell_value, value_of_variable, pattern_value, pattern_terms, pattern_values, literals_by, gammas_by, have_sorts, is_step_value, is_choice_of_values, IsTemplateOf}
+use Rattle.store_theory.specs.Patterns.{Pattern, Patterns, p_var, p_fun, p_eigen, p_new, no_patterns, more_patterns, Template, IsCopy, AreCopies}
+use Rattle.store_theory.specs.Templates.{as_value, cell_value, value_of_variable, pattern_value, pattern_terms, pattern_values, literals_by, gammas_by, have_sorts, is_step_value, is_choice_of_values, IsTemplateOf}
 use Rattle.search_theory.specs.RightPatterns.{spare_values}
 use Rattle.search_theory.specs.LabelledCells.{sort_value, sort_values, is_labelled_cell}
 use Rattle.search_theory.proofs.BuildingLaws.{is_variable_sort}

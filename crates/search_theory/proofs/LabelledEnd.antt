@@ -12,11 +12,11 @@ use Rattle.calculus.specs.Tableaux.{Tableau, is_closed, instances}
 use Rattle.calculus.specs.Choices.{start, reduction, extension, Choice, choices_of, ground_choices, choices_cmp, IsLive}
 use Rattle.calculus.specs.Counting.{IsRising, AtLeastMany}
 use Rattle.calculus.specs.Space.{Member, with_choices, with_lengths, member_cmp, member_of, IsEarly, lengths_cmp, has_labels, string_lengths}
-use Rattle.calculus.specs.Stores.{Cell, Store, has_sort_at, has_value_sort_at, is_store, has_sort, Solution, Solves, GammaCell}
+use Rattle.store_theory.specs.Stores.{Cell, Store, has_sort_at, has_value_sort_at, is_store, has_sort, Solution, Solves, GammaCell}
 use Rattle.calculus.specs.declared.sort.Sort.TheVariants.{TermSort, StringSort}
-use Rattle.calculus.specs.Systems.{System, is_gamma_cell, AllAllowed, AreTried, HasSolution, IsBoundedSolution, OwnSparesSolve, AreEarly}
+use Rattle.store_theory.specs.Systems.{System, is_gamma_cell, AllAllowed, AreTried, HasSolution, IsBoundedSolution, OwnSparesSolve, AreEarly}
 use Rattle.calculus.proofs.OrderLaws.{choices_cmp_total, choices_cmp-IsAntisymmetric, lengths_cmp_total}
-use Rattle.calculus.specs.Templates.{is_choice_of_values}
+use Rattle.store_theory.specs.Templates.{is_choice_of_values}
 use Rattle.search_theory.specs.States.{CellClause, CellChoice, State, values_by, choice_at, IsAdmittedAt, IsGround, IsStateOf}
 use Rattle.search_theory.specs.Exploring.{IsMemberAt, Explores}
 use Rattle.search_theory.specs.LabelledCells.{AreLabelled}

@@ -9,8 +9,8 @@ use Rattle.calculus.specs.Space.{has_labels}
 use Rattle.calculus.specs.Tableaux.{is_new_on}
 use Rattle.calculus.specs.Choices.{Choice, Goal, growth_of, is_within, has_depth, is_regular, IsLive, IsLeft}
 use Rattle.calculus.proofs.GrowthLaws.{on-some}
-use Rattle.calculus.specs.Stores.{Store, is_store, Solution}
-use Rattle.calculus.specs.Systems.{CellAtom}
+use Rattle.store_theory.specs.Stores.{Store, is_store, Solution}
+use Rattle.store_theory.specs.Systems.{CellAtom}
 use Rattle.search_theory.specs.States.{CellGoal, State, literal_by, choice_at, goal_at, growth_at, IsGround, IsStateOf}
 use Rattle.search_theory.specs.Regular.{AreSame, IsNewGoal, HasNoSamePair}
 use Rattle.search_theory.specs.LabelledCells.{AreLabelled}

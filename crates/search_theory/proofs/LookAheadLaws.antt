@@ -20,10 +20,10 @@ use Rattle.calculus.specs.Kinds.{other}
 use Rattle.calculus.specs.ComputedInstances.{is_instance}
 use Rattle.calculus.specs.Tableaux.{Closing, Closings, reduce, extend, no_closings, more_closings, Tableau, is_complement, ancestor, is_new_on, closes, closes_all, is_closed}
 use Rattle.calculus.specs.Choices.{extension, Choice, GroundChoice, choices_of, ground_choices, Goal, Growth, is_opposite, goals_on, growth_of}
-use Rattle.calculus.specs.Stores.{Store, Solution, Solves}
-use Rattle.calculus.specs.Systems.{CellAtom}
-use Rattle.calculus.specs.Patterns.{PatternAtom, Template}
-use Rattle.calculus.specs.Templates.{IsTemplateOf, pattern_literal}
+use Rattle.store_theory.specs.Stores.{Store, Solution, Solves}
+use Rattle.store_theory.specs.Systems.{CellAtom}
+use Rattle.store_theory.specs.Patterns.{PatternAtom, Template}
+use Rattle.store_theory.specs.Templates.{IsTemplateOf, pattern_literal}
 use Rattle.calculus.proofs.GrowthLaws.{allowed-instance, closed_growth, closed-parts, extended-parts, goals_below, goals_of_all, grown-closed, is_complement-opposite}
 use Rattle.search_theory.specs.Ahead.{IsAnswered, IsApart, by_sign, by_symbol, by_args, HasNoReduction, IsHopeless, IsHopelessAt, IsNeeded, MarksNeeds, MarksPath, bit_of}
 use Rattle.search_theory.specs.Exploring.{BeginsWith, IsClosedList, IsIn}

@@ -9,8 +9,8 @@ use Rattle.calculus.specs.Problems.{formula_fits}
 use Rattle.calculus.specs.Clauses.{selections}
 use Rattle.calculus.specs.Choices.{start}
 use Rattle.calculus.proofs.SelectionLaws.{selections-rise}
-use Rattle.calculus.specs.Patterns.{Template}
-use Rattle.calculus.specs.Templates.{IsTemplateOf}
+use Rattle.store_theory.specs.Patterns.{Template}
+use Rattle.store_theory.specs.Templates.{IsTemplateOf}
 use Rattle.search_theory.specs.TemplateOf.{template_of}
 use Rattle.search_theory.specs.Matrix.{MatrixClause, IsTemplateMatrix, all_shown}
 use Rattle.search_theory.specs.Exploring.{behind, IsIn}

@@ -7,11 +7,11 @@ use Rattle.calculus.specs.Ground.{GroundLiteral}
 use Rattle.calculus.specs.Equality.{sign_eq, grounds_eq}
 use Rattle.calculus.specs.Tableaux.{ancestor}
 use Rattle.calculus.specs.Choices.{are_opposite, is_opposite}
-use Rattle.calculus.specs.Stores.{Store}
-use Rattle.calculus.specs.Systems.{CellAtom}
+use Rattle.store_theory.specs.Stores.{Store}
+use Rattle.store_theory.specs.Systems.{CellAtom}
 use Rattle.calculus.proofs.EqualityLaws.{grounds_eq-tells}
-use Rattle.calculus.specs.Patterns.{PatternAtom, Template}
-use Rattle.calculus.specs.Templates.{pattern_literal, literals_by}
+use Rattle.store_theory.specs.Patterns.{PatternAtom, Template}
+use Rattle.store_theory.specs.Templates.{pattern_literal, literals_by}
 use Rattle.search_theory.specs.States.{CellClause, CellGoal, atom_is_below, clause_is_below, terms_by, values_by, literal_by}
 use Rattle.search_theory.specs.Steps.{AreUnified, Clash, IsFreshClause, IsExtended, CannotExtend, IsReduced, CannotReduce, IsHeadCopy, IsRestCopy}
 use Rattle.search_theory.proofs.ImageLaws.{values-agree, literal-agree}

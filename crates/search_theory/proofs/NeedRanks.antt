@@ -5,7 +5,7 @@ use Rattle.std.proofs.lemmas.Bool.{false≢true, cases_Bool}
 use Rattle.std.proofs.lemmas.Option.{slice_get_within}
 use Rattle.std.proofs.lemmas.Map.Steps.{length-le_from_distinct_below}
 use Rattle.std.proofs.lemmas.Map.Keys.{IsDistinct-cons}
-use Rattle.calculus.specs.Stores.{Cell, Store}
+use Rattle.store_theory.specs.Stores.{Cell, Store}
 use Rattle.search_theory.proofs.SpareLaws.{IsPart}
 use Rattle.search_theory.proofs.RankLaws.{highest, part-lower, highest-at, highest-same, each-differs, distinct-nothing, has}
 use Rattle.search_theory.proofs.RuleLaws.{SpareRule, needed, IsRankedBy}

@@ -15,11 +15,11 @@ use Rattle.calculus.specs.Clauses.{selections}
 use Rattle.calculus.specs.Instances.{ClauseInstance}
 use Rattle.calculus.specs.ComputedInstances.{is_instance}
 use Rattle.calculus.specs.Choices.{start, reduction, extension, Choice, GroundChoice, choice_of, choices_of, ground_choices, Growth, is_opposite, growth_of, is_within, has_depth}
-use Rattle.calculus.specs.Stores.{Store, Solution}
+use Rattle.store_theory.specs.Stores.{Store, Solution}
 use Rattle.calculus.proofs.GrowthLaws.{closed_growth, grown-closed}
 use Rattle.calculus.proofs.CasesLaws.{is_instance-exact}
 use Rattle.calculus.proofs.MatrixLaws.{Contains-selection}
-use Rattle.calculus.specs.Templates.{pattern_literal}
+use Rattle.store_theory.specs.Templates.{pattern_literal}
 use Rattle.search_theory.specs.States.{CellChoice, CellGoal, literal_by, goal_at, growth_at, IsStateOf}
 use Rattle.search_theory.specs.Goals.{IsChoiceAt, by_ancestor, by_clause}
 use Rattle.search_theory.specs.Exploring.{BeginsWith, BeginsWithOne, IsClosedList, IsLeftList, behind, IsIn}

@@ -11,8 +11,8 @@ use Rattle.calculus.specs.Syntax.{Problem}
 use Rattle.calculus.specs.Ground.{GroundMark}
 use Rattle.calculus.specs.Skolem.{common_spares}
 use Rattle.calculus.specs.Sizes.{g_term_size, mark_size, values_size}
-use Rattle.calculus.specs.Stores.{Cell, variable, fun_cell, eigen_cell, new_cell, string_cell, Store, parts_of, has_sort_at, is_store, CellValue, a_term, a_mark, a_string, has_sort, Solution, marks_at, Solves, Holds, GammaCell, IsHome, AreOwnSpares}
-use Rattle.calculus.specs.Systems.{System, MeetsDemand, AllAllowed}
+use Rattle.store_theory.specs.Stores.{Cell, variable, fun_cell, eigen_cell, new_cell, string_cell, Store, parts_of, has_sort_at, is_store, CellValue, a_term, a_mark, a_string, has_sort, Solution, marks_at, Solves, Holds, GammaCell, IsHome, AreOwnSpares}
+use Rattle.store_theory.specs.Systems.{System, MeetsDemand, AllAllowed}
 use Rattle.search_theory.specs.States.{label_by}
 use Rattle.search_theory.proofs.BelowLaws.{all-weaken}
 use Rattle.search_theory.proofs.SpareLaws.{IsPart, IsRanked, cell-fits, cell-sorted, all-at, marks-there}

@@ -16,8 +16,8 @@ use Rattle.calculus.specs.Skolem.{has_function, is_delta_position, is_pi_positio
 use Rattle.calculus.specs.Problems.{formula_fits}
 use Rattle.calculus.specs.Space.{has_labels}
 use Rattle.calculus.proofs.InstanceLaws.{literal_is_proper, gamma_is_proper}
-use Rattle.calculus.specs.Patterns.{Pattern, Patterns, p_var, p_fun, p_eigen, p_new, no_patterns, more_patterns, patterns_tree, PatternAtom, PatternGamma, Template, pattern_fits, are_term_patterns, are_value_patterns, is_label_pattern, atom_fits, gamma_fits}
-use Rattle.calculus.specs.Templates.{as_term, as_value, as_label, value_of_variable, pattern_value, pattern_terms, pattern_values, pattern_label, pattern_literal, pattern_gamma, literals_by, have_sorts, is_choice_of_values, strings_from, IsTemplateOf}
+use Rattle.store_theory.specs.Patterns.{Pattern, Patterns, p_var, p_fun, p_eigen, p_new, no_patterns, more_patterns, patterns_tree, PatternAtom, PatternGamma, Template, pattern_fits, are_term_patterns, are_value_patterns, is_label_pattern, atom_fits, gamma_fits}
+use Rattle.store_theory.specs.Templates.{as_term, as_value, as_label, value_of_variable, pattern_value, pattern_terms, pattern_values, pattern_label, pattern_literal, pattern_gamma, literals_by, have_sorts, is_choice_of_values, strings_from, IsTemplateOf}
 use Rattle.search_theory.specs.Regular.{number_of_patterns}
 use Rattle.search_theory.specs.RightPatterns.{spare_value, spare_values, pattern_sorts, is_right_pattern, are_right_patterns, is_right_atom, is_right_gamma, AreRight}
 use Rattle.search_theory.proofs.BuildingLaws.{is_variable_sort}

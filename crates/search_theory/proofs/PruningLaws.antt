@@ -9,9 +9,9 @@ use Rattle.calculus.specs.ComputedInstances.{is_allowed_instance}
 use Rattle.calculus.specs.Tableaux.{instances, total_steps}
 use Rattle.calculus.specs.Choices.{start, reduction, extension, Choice, GroundChoice, choices_of, ground_choices, Growth, after_start, grow_at, grow, growth_of, is_within, is_regular}
 use Rattle.calculus.specs.Space.{Member, has_labels, is_tried_length, string_lengths, instances_in}
-use Rattle.calculus.specs.Stores.{Solution}
+use Rattle.store_theory.specs.Stores.{Solution}
 use Rattle.calculus.specs.Labels.{is_step_length}
-use Rattle.calculus.specs.Systems.{System, is_pair, IsStep, HaveLengths, Differ}
+use Rattle.store_theory.specs.Systems.{System, is_pair, IsStep, HaveLengths, Differ}
 use Rattle.calculus.proofs.GrowthLaws.{closed_growth, grown-closed, regular-closed, within-closed}
 use Rattle.calculus.proofs.SpaceLaws.{lengths-closed, instances_in-tableau, instances_in-append}
 use Rattle.search_theory.specs.States.{State, choice_at, growth_at, IsGround, IsStateOf}

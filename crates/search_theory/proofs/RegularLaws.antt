@@ -14,10 +14,10 @@ use Rattle.calculus.specs.Instances.{ClauseInstance, GammaUse, gamma_is_allowed}
 use Rattle.calculus.specs.ComputedInstances.{Part, instance_of, is_instance, is_allowed_instance}
 use Rattle.calculus.specs.Tableaux.{is_new_on}
 use Rattle.calculus.specs.Choices.{start, reduction, extension, Goal, is_regular}
-use Rattle.calculus.specs.Stores.{Store, has_sort_at, is_store, a_term, has_sort, CellValue, a_mark, a_string, Solution, Solves}
-use Rattle.calculus.specs.Systems.{CellAtom}
+use Rattle.store_theory.specs.Stores.{Store, has_sort_at, is_store, a_term, has_sort, CellValue, a_mark, a_string, Solution, Solves}
+use Rattle.store_theory.specs.Systems.{CellAtom}
 use Rattle.calculus.proofs.EqualityLaws.{literal_eq-tells}
-use Rattle.calculus.specs.Templates.{as_term, is_step_value, is_choice_of_values}
+use Rattle.store_theory.specs.Templates.{as_term, is_step_value, is_choice_of_values}
 use Rattle.search_theory.specs.States.{CellChoice, CellGoal, State, terms_by, label_by, values_by, literal_by, goal_at, growth_at, IsAdmittedAt, IsGround}
 use Rattle.search_theory.specs.Regular.{AreSame, IsNewGoal, HasNoSamePair, HasSamePair, is_classical_store, is_classical_atom, is_classical_goal, is_own_term, is_classical_clause, is_classical_choice}
 use Rattle.search_theory.proofs.SpareLaws.{IsRanked, own_value, own-solves, own-sorted, own-apart, all-at, cell-sorted, IsPart}

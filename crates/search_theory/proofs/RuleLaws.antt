@@ -3,7 +3,7 @@ use Rattle.std.proofs.Common.{◌≡◌, ℕ, zero, suc, ◌<◌, List, [], ◌�
 use Rattle.calculus.specs.declared.sort.Sort.{Sort}
 use Rattle.calculus.specs.declared.sort.Sort.TheVariants.{TermSort, MarkSort, StringSort}
 use Rattle.calculus.specs.Ground.{common, own, g_fun, g_eigen, g_new_mark, g_spare_mark, marks_tree, values_tree}
-use Rattle.calculus.specs.Stores.{Cell, variable, fun_cell, eigen_cell, new_cell, string_cell, Store, parts_of, sort_of, has_sort_at, has_value_sort_at, parts_fit, is_store, CellValue, a_term, a_mark, a_string, has_sort, Solution, CellHolds, Solves, GammaCell, IsHome, IsOwnSpare, AreOwnSpares}
+use Rattle.store_theory.specs.Stores.{Cell, variable, fun_cell, eigen_cell, new_cell, string_cell, Store, parts_of, sort_of, has_sort_at, has_value_sort_at, parts_fit, is_store, CellValue, a_term, a_mark, a_string, has_sort, Solution, CellHolds, Solves, GammaCell, IsHome, IsOwnSpare, AreOwnSpares}
 use Rattle.search_theory.specs.States.{terms_by, label_by, values_by}
 use Rattle.search_theory.proofs.BelowLaws.{all-weaken}
 use Rattle.search_theory.proofs.SpareLaws.{IsPart, IsRanked, spare_at, cell-alike, label-alike, cell-sorted, cell-fits, sort-same, spare-sort, terms-there, values-there, marks-there, or-both}

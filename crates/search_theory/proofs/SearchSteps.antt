@@ -7,7 +7,7 @@ use Rattle.calculus.specs.Tableaux.{HasClosed}
 use Rattle.calculus.specs.Choices.{extension, Choice, selection_cmp, IsLive, IsLeft}
 use Rattle.calculus.specs.Counting.{IsRising}
 use Rattle.calculus.specs.Space.{Member, with_choices}
-use Rattle.calculus.specs.Stores.{Store}
+use Rattle.store_theory.specs.Stores.{Store}
 use Rattle.search_theory.specs.States.{CellChoice, CellGoal, IsStateOf}
 use Rattle.search_theory.specs.Matrix.{MatrixClause, IsTemplateMatrix}
 use Rattle.search_theory.specs.Goals.{IsChoiceAt}

@@ -13,11 +13,11 @@ use Rattle.calculus.specs.Equality.{literal_eq}
 use Rattle.calculus.specs.Instances.{GammaUse}
 use Rattle.calculus.specs.Tableaux.{has_unbounded_strings}
 use Rattle.calculus.specs.Space.{is_tried_length}
-use Rattle.calculus.specs.Stores.{Cell, variable, Store, parts_of, has_sort_at, is_store, OccursIn, here, in_part, CellValue, a_term, a_mark, a_string, has_sort, Solution, terms_at, label_at, cons_term, join_label, Solves, names_below, GammaCell, IsOwnSpare, AreOwnSpares}
+use Rattle.store_theory.specs.Stores.{Cell, variable, Store, parts_of, has_sort_at, is_store, OccursIn, here, in_part, CellValue, a_term, a_mark, a_string, has_sort, Solution, terms_at, label_at, cons_term, join_label, Solves, names_below, GammaCell, IsOwnSpare, AreOwnSpares}
 use Rattle.calculus.specs.Labels.{is_step_length}
-use Rattle.calculus.specs.Systems.{CellAtom, Equation, Pair, System, is_label, is_equation, is_gamma_cell, is_cell_atom, is_pair, is_system, OccursInSystem, HasNoOpenString, AreEqual, IsLiteral, Differ, AreUses, MeetsDemand, bound_of, IsStep, AreEqualNow, AreTried, HaveLengths, IsBoundedSolution, HasSolution, OwnSparesSolve, OwnSparesMeet}
+use Rattle.store_theory.specs.Systems.{CellAtom, Equation, Pair, System, is_label, is_equation, is_gamma_cell, is_cell_atom, is_pair, is_system, OccursInSystem, HasNoOpenString, AreEqual, IsLiteral, Differ, AreUses, MeetsDemand, bound_of, IsStep, AreEqualNow, AreTried, HaveLengths, IsBoundedSolution, HasSolution, OwnSparesSolve, OwnSparesMeet}
 use Rattle.calculus.proofs.EqualityLaws.{literal_eq-tells}
-use Rattle.calculus.specs.Templates.{as_label}
+use Rattle.store_theory.specs.Templates.{as_label}
 use Rattle.search_theory.specs.States.{label_by, literal_by, atom_is_below, Agree}
 use Rattle.search_theory.specs.Regular.{AreSame}
 use Rattle.search_theory.specs.Solving.{IsNarrowed, CannotEqual, CannotHave, IsSolving, IsClosedSet, HasCells}

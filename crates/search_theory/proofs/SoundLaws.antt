@@ -4,7 +4,7 @@ use Rattle.calculus.specs.Syntax.{Problem}
 use Rattle.calculus.specs.Choices.{Choice, GroundChoice, choices_of, Growth, growth_of, is_within, is_regular, IsLive, Follows}
 use Rattle.calculus.proofs.GrowthLaws.{on-some}
 use Rattle.calculus.specs.Cut.{IsRegularLive, followed_by}
-use Rattle.calculus.specs.Stores.{Store, Solution}
+use Rattle.store_theory.specs.Stores.{Store, Solution}
 use Rattle.search_theory.specs.States.{CellChoice, CellGoal, State, IsStateOf, IsGround, choice_at, growth_at}
 use Rattle.search_theory.specs.Matrix.{MatrixClause, IsTemplateMatrix}
 use Rattle.search_theory.specs.OrderedChoices.{choices_at}

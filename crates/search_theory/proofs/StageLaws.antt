@@ -1,9 +1,9 @@
 -- A clause whose connected literal was copied first: its literals in their order.
 use Rattle.std.proofs.Common.{◌≤◌, length, arith, subst, ◌≡◌, ℕ, zero, suc, List, [], ◌∷◌, ◌++◌, refl, sym, ◌∙◌, ap, Some, slice_get, take, drop}
 use Rattle.std.specs.Prelude.{remove}
-use Rattle.calculus.specs.Stores.{Store}
-use Rattle.calculus.specs.Systems.{CellAtom}
-use Rattle.calculus.specs.Patterns.{PatternAtom, IsAtomCopy, AreAtomCopies}
+use Rattle.store_theory.specs.Stores.{Store}
+use Rattle.store_theory.specs.Systems.{CellAtom}
+use Rattle.store_theory.specs.Patterns.{PatternAtom, IsAtomCopy, AreAtomCopies}
 
 -- the list with one item more at a place
 abbrev pub inserted : {A : Type 0} → ℕ → A → List A → List A

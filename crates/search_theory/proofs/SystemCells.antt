@@ -4,9 +4,9 @@ use Rattle.std.specs.List.{list_all, flat_map, AllByRecursion}
 use Rattle.std.proofs.lemmas.Bool.{and_parts, and_from}
 use Rattle.calculus.specs.declared.sort.Sort.{Sort}
 use Rattle.calculus.specs.declared.sort.Sort.TheVariants.{TermSort, MarkSort, StringSort}
-use Rattle.calculus.specs.Stores.{Store, has_sort_at, GammaCell}
-use Rattle.calculus.specs.Systems.{CellAtom, Equation, Pair, System, is_label, is_equation, is_gamma_cell, is_cell_atom, is_pair, is_system, cells_of_atom, cells_of}
-use Rattle.calculus.specs.Bindings.{AddsBuilt}
+use Rattle.store_theory.specs.Stores.{Store, has_sort_at, GammaCell}
+use Rattle.store_theory.specs.Systems.{CellAtom, Equation, Pair, System, is_label, is_equation, is_gamma_cell, is_cell_atom, is_pair, is_system, cells_of_atom, cells_of}
+use Rattle.store_theory.specs.Bindings.{AddsBuilt}
 use Rattle.search_theory.specs.Solving.{IsNarrowed, HasCells}
 use Rattle.search_theory.proofs.BelowLaws.{all-weaken}
 use Rattle.search_theory.proofs.SpareLaws.{IsPart, or-both}

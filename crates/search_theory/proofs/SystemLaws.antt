@@ -12,8 +12,8 @@ use Rattle.calculus.specs.ComputedInstances.{nu_steps}
 use Rattle.calculus.specs.Tableaux.{Tableau, instances, is_closed, is_new_on, has_unbounded_strings, has_at_most, strings_within, total_steps}
 use Rattle.calculus.specs.Choices.{Choice, choices_of, ground_choices, Goal, Growth, growth_of, is_within, is_regular}
 use Rattle.calculus.specs.Space.{string_length, lengths_in, string_lengths, instances_in, is_tried_length, has_labels, with_lengths}
-use Rattle.calculus.specs.Stores.{Store, a_string, Solution, Solves}
-use Rattle.calculus.specs.Systems.{CellAtom, Pair, System, is_cell_atom, is_pair, Differ, AllAllowed, bound_of, AreTried, HaveLengths, IsBoundedSolution, HasBoundedSolution}
+use Rattle.store_theory.specs.Stores.{Store, a_string, Solution, Solves}
+use Rattle.store_theory.specs.Systems.{CellAtom, Pair, System, is_cell_atom, is_pair, Differ, AllAllowed, bound_of, AreTried, HaveLengths, IsBoundedSolution, HasBoundedSolution}
 use Rattle.calculus.proofs.EqualityLaws.{literal_eq-tells}
 use Rattle.calculus.proofs.GrowthLaws.{closed_growth, grown-closed, regular-closed, on-some}
 use Rattle.calculus.proofs.SpaceLaws.{lengths-closed, instances_in-tableau}

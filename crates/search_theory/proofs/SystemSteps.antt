@@ -10,8 +10,8 @@ use Rattle.calculus.specs.ComputedInstances.{is_instance, is_allowed_instance, m
 use Rattle.calculus.specs.Tableaux.{is_complement, ancestor, is_shown, total_steps}
 use Rattle.calculus.specs.Choices.{start, reduction, extension, Choice, Growth, is_opposite, growth_of}
 use Rattle.calculus.specs.Space.{lengths_in, string_lengths, instances_in}
-use Rattle.calculus.specs.Stores.{Store, Solution, Solves, GammaCell}
-use Rattle.calculus.specs.Systems.{CellAtom, Equation, System, is_label, is_equation, is_system, AreEqual, AreUses, AllAllowed, HaveLengths}
+use Rattle.store_theory.specs.Stores.{Store, Solution, Solves, GammaCell}
+use Rattle.store_theory.specs.Systems.{CellAtom, Equation, System, is_label, is_equation, is_system, AreEqual, AreUses, AllAllowed, HaveLengths}
 use Rattle.calculus.proofs.SpaceLaws.{instances_in-append}
 use Rattle.search_theory.specs.States.{CellClause, CellChoice, CellGoal, label_by, literal_by, clause_at, choice_at, goal_at, growth_at, cell_goals_on, new_cell_goals, extended, IsGround}
 use Rattle.search_theory.specs.Steps.{IsReduced}

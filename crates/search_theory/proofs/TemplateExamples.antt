@@ -8,7 +8,7 @@ use Rattle.calculus.specs.declared.setting.Logic.{Logic}
 use Rattle.calculus.specs.declared.setting.Logic.TheVariants.{Classical, S4}
 use Rattle.calculus.specs.declared.setting.Domains.TheVariants.{Constant}
 use Rattle.calculus.specs.Syntax.{Problem, Formula, atom, imp, all, ex, box, var, no_terms, more_terms}
-use Rattle.calculus.specs.Patterns.{p_var, p_eigen, p_new, no_patterns, more_patterns}
+use Rattle.store_theory.specs.Patterns.{p_var, p_eigen, p_new, no_patterns, more_patterns}
 use Rattle.search_theory.specs.TemplateOf.{template_of}
 
 abbrev problem : Logic → Formula → Problem

@@ -17,8 +17,8 @@ use Rattle.calculus.specs.Kinds.{other, shape_of, modal_of}
 use Rattle.calculus.specs.Positions.{size}
 use Rattle.calculus.specs.Problems.{formula_fits}
 use Rattle.calculus.specs.Clauses.{all_joined, selections_of_two, selections}
-use Rattle.calculus.specs.Patterns.{Pattern, p_var, p_eigen, p_new, patterns_tree, Template}
-use Rattle.calculus.specs.Templates.{IsTemplateOf}
+use Rattle.store_theory.specs.Patterns.{Pattern, p_var, p_eigen, p_new, patterns_tree, Template}
+use Rattle.store_theory.specs.Templates.{IsTemplateOf}
 use Rattle.calculus.specs.Labels.{pi_label}
 use Rattle.search_theory.specs.TemplateOf.{PatternSpot, root_pattern_spot, PatternPart, PatternBody, pattern_down, pattern_inside, of_sort, one_pi_more, pattern_modal, pattern_turn, pattern_atom, joined_patterns, pattern_beta, pattern_one, pattern_two, with_pattern_gamma, pattern_quantifier, pattern_part, template_by, if_sides_used, template_of}
 use Rattle.search_theory.proofs.TemplateLaws.{template_of-right}

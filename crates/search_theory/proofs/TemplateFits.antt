@@ -21,8 +21,8 @@ use Rattle.calculus.specs.Problems.{is_modal, has_predicate, term_fits_in, terms
 use Rattle.calculus.specs.Equality.{sort_eq}
 use Rattle.calculus.specs.Kinds.{other, shape_of, modal_of}
 use Rattle.calculus.specs.Positions.{size}
-use Rattle.calculus.specs.Patterns.{Pattern, p_var, p_eigen, p_new, no_patterns, patterns_tree, PatternAtom, pattern_fits, are_term_patterns, are_value_patterns, is_label_pattern, atom_fits, gamma_fits, template_fits}
-use Rattle.calculus.specs.Templates.{strings_from}
+use Rattle.store_theory.specs.Patterns.{Pattern, p_var, p_eigen, p_new, no_patterns, patterns_tree, PatternAtom, pattern_fits, are_term_patterns, are_value_patterns, is_label_pattern, atom_fits, gamma_fits, template_fits}
+use Rattle.store_theory.specs.Templates.{strings_from}
 use Rattle.calculus.specs.Labels.{pi_label}
 use Rattle.search_theory.specs.TemplateOf.{PatternSpot, root_pattern_spot, PatternPart, PatternBody, pattern_of, patterns_of, pattern_down, pattern_inside, of_sort, one_pi_more, pattern_modal, pattern_turn, pattern_atom, joined_patterns, pattern_alpha, pattern_beta, pattern_one, pattern_two, with_pattern_gamma, pattern_quantifier, pattern_part, template_by}
 use Rattle.search_theory.proofs.BelowLaws.{all-join}

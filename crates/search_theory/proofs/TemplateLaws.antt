@@ -27,10 +27,10 @@ use Rattle.calculus.specs.Problems.{formula_fits}
 use Rattle.calculus.specs.Skolem.{is_empty, is_admitted_value}
 use Rattle.calculus.specs.Instances.{ground_of, grounds_of, Spot, root_spot, Turn}
 use Rattle.calculus.specs.ComputedInstances.{Supply, Part, with_modal_step, at_modal, with_turn, at_literal, join_of, at_alpha, at_one, at_two, with_gamma, at_quantifier, part_of, if_used_up, instance_of, is_instance}
-use Rattle.calculus.specs.Stores.{a_mark, a_string}
+use Rattle.store_theory.specs.Stores.{a_mark, a_string}
 use Rattle.calculus.proofs.EqualityLaws.{mark_eq-tells, list_eq-tells, literal_eq-tells}
-use Rattle.calculus.specs.Patterns.{Pattern, p_var, p_eigen, p_new, no_patterns, patterns_tree, Template}
-use Rattle.calculus.specs.Templates.{as_term, as_value, as_label, value_of_variable, pattern_value, pattern_terms, pattern_values, pattern_label, pattern_literal, pattern_gamma, literals_by, has_value_sort, have_sorts, is_step_value, is_choice_of_values, clause_by, IsTemplateOf}
+use Rattle.store_theory.specs.Patterns.{Pattern, p_var, p_eigen, p_new, no_patterns, patterns_tree, Template}
+use Rattle.store_theory.specs.Templates.{as_term, as_value, as_label, value_of_variable, pattern_value, pattern_terms, pattern_values, pattern_label, pattern_literal, pattern_gamma, literals_by, has_value_sort, have_sorts, is_step_value, is_choice_of_values, clause_by, IsTemplateOf}
 use Rattle.search_theory.specs.TemplateOf.{PatternSpot, root_pattern_spot, PatternTurn, PatternPart, PatternBody, pattern_of, patterns_of, pattern_down, pattern_inside, of_sort, one_pi_more, pattern_modal, pattern_turn, pattern_atom, joined_patterns, pattern_alpha, pattern_beta, pattern_one, pattern_two, with_pattern_gamma, pattern_quantifier, pattern_part, template_by, if_sides_used, template_of}
 use Rattle.search_theory.proofs.Dropping.{drop-next, drop-both}
 use Rattle.search_theory.proofs.TemplateFits.{template-part_fits}

@@ -14,7 +14,7 @@ use Rattle.calculus.specs.declared.kind.ModalPart.TheVariants.{Plain, Nu, Pi}
 use Rattle.calculus.specs.Syntax.{Formula, atom, neg, conj, disj, imp, all, ex, box, dia, Problem}
 use Rattle.calculus.specs.Kinds.{other, shape_of, modal_of}
 use Rattle.calculus.specs.Positions.{size}
-use Rattle.calculus.specs.Patterns.{Template}
+use Rattle.store_theory.specs.Patterns.{Template}
 use Rattle.search_theory.specs.TemplateOf.{PatternSpot, root_pattern_spot, PatternPart, PatternBody, of_sort, pattern_modal, pattern_atom, joined_patterns, pattern_alpha, pattern_one, pattern_two, pattern_quantifier, pattern_part, template_by, if_sides_used, template_of}
 use Rattle.search_theory.proofs.BelowLaws.{all-join}
 use Rattle.search_theory.proofs.BuildingLaws.{is_variable_sort}

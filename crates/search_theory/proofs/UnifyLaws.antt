@@ -3,8 +3,8 @@ use Rattle.std.proofs.Common.{◌≡◌, ℕ, List, [], ◌∷◌, IsTrue, refl,
 use Rattle.std.proofs.lemmas.Bool.{false≢true}
 use Rattle.calculus.specs.declared.sort.Sort.TheVariants.{TermSort}
 use Rattle.calculus.specs.Ground.{more_g_terms}
-use Rattle.calculus.specs.Stores.{Store, has_sort_at, CellValue, a_term, a_mark, a_string, has_sort, Solution, Solves}
-use Rattle.calculus.specs.Templates.{as_term}
+use Rattle.store_theory.specs.Stores.{Store, has_sort_at, CellValue, a_term, a_mark, a_string, has_sort, Solution, Solves}
+use Rattle.store_theory.specs.Templates.{as_term}
 use Rattle.search_theory.specs.States.{terms_by}
 use Rattle.search_theory.specs.Steps.{AreUnified, Clash, IsUnified}
 use Rattle.search_theory.proofs.BuildingLaws.{solved-sorted}

@@ -7,8 +7,8 @@ use Rattle.calculus.specs.declared.sort.Sort.{Sort}
 use Rattle.calculus.specs.declared.sort.Sort.TheVariants.{TermSort, MarkSort, StringSort}
 use Rattle.calculus.specs.Ground.{common, g_spare_mark, no_marks, more_marks, term, steps}
 use Rattle.calculus.specs.Equality.{sort_eq}
-use Rattle.calculus.specs.Stores.{Store, sort_of, has_sort_at}
-use Rattle.calculus.specs.Patterns.{HaveSortsAt}
+use Rattle.store_theory.specs.Stores.{Store, sort_of, has_sort_at}
+use Rattle.store_theory.specs.Patterns.{HaveSortsAt}
 use Rattle.search_theory.specs.LabelledCells.{sort_value}
 use Rattle.search_theory.specs.StateSystems.{string_cells}
 use Rattle.search_theory.specs.RightPatterns.{spare_values}

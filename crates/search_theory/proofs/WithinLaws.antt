@@ -5,8 +5,8 @@ use Rattle.std.specs.List.{list_all}
 use Rattle.std.proofs.lemmas.Bool.{and_from}
 use Rattle.calculus.specs.declared.sort.Sort.{Sort}
 use Rattle.calculus.specs.declared.sort.Sort.TheVariants.{StringSort}
-use Rattle.calculus.specs.Stores.{Cell, variable, Store, parts_of, OccursIn, here, in_part}
-use Rattle.calculus.specs.Bindings.{BindsOnly, BindsWithin, NamesFrom}
+use Rattle.store_theory.specs.Stores.{Cell, variable, Store, parts_of, OccursIn, here, in_part}
+use Rattle.store_theory.specs.Bindings.{BindsOnly, BindsWithin, NamesFrom}
 use Rattle.calculus.proofs.PlaceLists.{get-within, get-there, all-at}
 use Rattle.search_theory.specs.Solving.{IsClosedSet}
 use Rattle.search_theory.proofs.SolvingLaws.{occurs-in-set}

@@ -6,9 +6,9 @@ use Rattle.calculus.specs.declared.sign.Sign.{Sign}
 use Rattle.calculus.specs.declared.sign.Sign.TheVariants.{T, F}
 use Rattle.calculus.specs.Equality.{sign_eq}
 use Rattle.calculus.specs.Kinds.{other}
-use Rattle.calculus.specs.Patterns.{PatternAtom, Template}
-use Rattle.calculus.specs.Stores.{Store}
-use Rattle.calculus.specs.Systems.{CellAtom}
+use Rattle.store_theory.specs.Patterns.{PatternAtom, Template}
+use Rattle.store_theory.specs.Stores.{Store}
+use Rattle.store_theory.specs.Systems.{CellAtom}
 use Rattle.search_theory.specs.Matrix.{MatrixClause, MatrixPlace}
 use Rattle.search_theory.specs.States.{CellGoal}
 use Rattle.search_theory.specs.Steps.{Clash}

@@ -7,9 +7,9 @@ use Rattle.calculus.specs.Ground.{GroundMark}
 use Rattle.calculus.specs.Equality.{mark_eq}
 use Rattle.calculus.specs.Labels.{home_allows}
 use Rattle.calculus.specs.Skolem.{label_of, common_spares, is_allowed}
-use Rattle.calculus.specs.Stores.{variable, fun_cell, eigen_cell, Store, Solution, Solves, label_at, Holds, GammaCell}
-use Rattle.calculus.specs.Systems.{Equation, AreEqualNow}
-use Rattle.calculus.specs.Templates.{as_term}
+use Rattle.store_theory.specs.Stores.{variable, fun_cell, eigen_cell, Store, Solution, Solves, label_at, Holds, GammaCell}
+use Rattle.store_theory.specs.Systems.{Equation, AreEqualNow}
+use Rattle.store_theory.specs.Templates.{as_term}
 use Rattle.search_theory.specs.States.{values_by}
 
 -- the eigenvariable of the position p by the values rs has its home at the label ks

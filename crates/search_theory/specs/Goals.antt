@@ -7,9 +7,9 @@ use Rattle.calculus.specs.Syntax.{Problem}
 use Rattle.calculus.specs.Equality.{sign_eq}
 use Rattle.calculus.specs.Clauses.{selections}
 use Rattle.calculus.specs.Choices.{Choice, reduction, extension}
-use Rattle.calculus.specs.Systems.{CellAtom}
-use Rattle.calculus.specs.Patterns.{PatternAtom, Template}
-use Rattle.calculus.specs.Templates.{IsTemplateOf}
+use Rattle.store_theory.specs.Systems.{CellAtom}
+use Rattle.store_theory.specs.Patterns.{PatternAtom, Template}
+use Rattle.store_theory.specs.Templates.{IsTemplateOf}
 use Rattle.search_theory.specs.States.{CellGoal}
 
 -- the template has a literal at the place with the goal's symbol and the other sign

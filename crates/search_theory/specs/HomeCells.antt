@@ -11,7 +11,7 @@ use Rattle.calculus.specs.Kinds.{shape_of, modal_of}
 use Rattle.calculus.specs.Labels.{pi_label}
 use Rattle.calculus.specs.Positions.{Node}
 use Rattle.calculus.specs.Skolem.{Reached}
-use Rattle.calculus.specs.Stores.{new_cell, Store, has_sort_at, Solution}
+use Rattle.store_theory.specs.Stores.{new_cell, Store, has_sort_at, Solution}
 use Rattle.search_theory.specs.States.{label_by, values_by}
 
 -- how far a way was followed: the label reached, the values taken, and those that are still there

@@ -4,7 +4,7 @@ use Rattle.calculus.specs.declared.sort.Sort.TheVariants.{TermSort}
 use Rattle.calculus.specs.Syntax.{Problem}
 use Rattle.calculus.specs.Ground.{Value, common, g_spare_mark, no_marks, more_marks, term, steps}
 use Rattle.calculus.specs.Skolem.{has_function, is_delta_position, is_pi_position, fits_way}
-use Rattle.calculus.specs.Stores.{Cell, variable, fun_cell, eigen_cell, new_cell, string_cell, Store, parts_of, has_sort_at}
+use Rattle.store_theory.specs.Stores.{Cell, variable, fun_cell, eigen_cell, new_cell, string_cell, Store, parts_of, has_sort_at}
 use Rattle.calculus.specs.Labels.{is_step_length}
 
 -- a value of the cell's sort: a spare constant, or a string of one spare character

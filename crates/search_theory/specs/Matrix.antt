@@ -7,8 +7,8 @@ use Rattle.calculus.specs.declared.sign.Side.{Side}
 use Rattle.calculus.specs.Syntax.{Problem}
 use Rattle.calculus.specs.Equality.{sign_eq}
 use Rattle.calculus.specs.Clauses.{selections}
-use Rattle.calculus.specs.Patterns.{PatternAtom, Template}
-use Rattle.calculus.specs.Templates.{IsTemplateOf}
+use Rattle.store_theory.specs.Patterns.{PatternAtom, Template}
+use Rattle.store_theory.specs.Templates.{IsTemplateOf}
 
 -- a clause of the matrix: its selection and its template
 pub record MatrixClause : Type 0 where

@@ -5,8 +5,8 @@ use Rattle.calculus.specs.declared.sign.Side.{Side}
 use Rattle.calculus.specs.Equality.{sign_eq}
 use Rattle.calculus.specs.Kinds.{other}
 use Rattle.calculus.specs.Choices.{Choice, reduction, extension}
-use Rattle.calculus.specs.Systems.{CellAtom}
-use Rattle.calculus.specs.Patterns.{PatternAtom}
+use Rattle.store_theory.specs.Systems.{CellAtom}
+use Rattle.store_theory.specs.Patterns.{PatternAtom}
 use Rattle.search_theory.specs.Matrix.{MatrixClause, MatrixPlace, is_about}
 use Rattle.search_theory.specs.States.{CellGoal}
 

@@ -4,8 +4,8 @@ use Rattle.std.specs.List.{AllByRecursion}
 use Rattle.calculus.specs.Syntax.{Problem}
 use Rattle.calculus.specs.Tableaux.{Tableau, is_closed}
 use Rattle.calculus.specs.Choices.{GroundChoice, ground_choices}
-use Rattle.calculus.specs.Stores.{Solution}
-use Rattle.calculus.specs.Systems.{System, AreEqual, Differ, MeetsDemand, IsStep, AllAllowed}
+use Rattle.store_theory.specs.Stores.{Solution}
+use Rattle.store_theory.specs.Systems.{System, AreEqual, Differ, MeetsDemand, IsStep, AllAllowed}
 use Rattle.search_theory.specs.States.{State, IsGround}
 
 -- a tableau closed within d has choices that begin with these

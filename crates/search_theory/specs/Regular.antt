@@ -7,9 +7,9 @@ use Rattle.calculus.specs.Syntax.{Problem}
 use Rattle.calculus.specs.Ground.{Value, term, common}
 use Rattle.calculus.specs.Skolem.{has_function, is_delta_position, fits_way, is_empty}
 use Rattle.calculus.specs.Choices.{start, reduction, extension}
-use Rattle.calculus.specs.Stores.{Cell, variable, fun_cell, eigen_cell, new_cell, string_cell, Store, Solution, Solves, has_sort_at, parts_of}
-use Rattle.calculus.specs.Systems.{CellAtom}
-use Rattle.calculus.specs.Patterns.{Pattern, Patterns, p_var, p_fun, p_eigen, p_new, no_patterns, more_patterns, patterns_tree, PatternAtom, Template}
+use Rattle.store_theory.specs.Stores.{Cell, variable, fun_cell, eigen_cell, new_cell, string_cell, Store, Solution, Solves, has_sort_at, parts_of}
+use Rattle.store_theory.specs.Systems.{CellAtom}
+use Rattle.store_theory.specs.Patterns.{Pattern, Patterns, p_var, p_fun, p_eigen, p_new, no_patterns, more_patterns, patterns_tree, PatternAtom, Template}
 use Rattle.search_theory.specs.States.{CellClause, CellChoice, CellGoal, State, literal_by}
 
 -- the same signed atom at the same label under the bindings: by each ground solution

@@ -7,7 +7,7 @@ use Rattle.calculus.specs.declared.sort.Sort.TheVariants.{TermSort, MarkSort}
 use Rattle.calculus.specs.Syntax.{Problem}
 use Rattle.calculus.specs.Ground.{Value, common, g_spare_mark, no_marks, more_marks, term, steps}
 use Rattle.calculus.specs.Skolem.{has_function, is_delta_position, is_pi_position, fits_way}
-use Rattle.calculus.specs.Patterns.{Pattern, Patterns, p_var, p_fun, p_eigen, p_new, no_patterns, more_patterns, patterns_tree, PatternAtom, PatternGamma, Template}
+use Rattle.store_theory.specs.Patterns.{Pattern, Patterns, p_var, p_fun, p_eigen, p_new, no_patterns, more_patterns, patterns_tree, PatternAtom, PatternGamma, Template}
 use Rattle.search_theory.specs.Regular.{number_of_patterns}
 
 -- a value of the sort: a spare constant, or a string of one spare character

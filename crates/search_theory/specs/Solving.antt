@@ -3,9 +3,9 @@
 use Rattle.std.specs.Prelude.{◌≡◌, ℕ, ◌≤◌, List, length, Some, None, slice_get}
 use Rattle.calculus.specs.declared.setting.Logic.{Logic}
 use Rattle.calculus.specs.Instances.{GammaUse}
-use Rattle.calculus.specs.Stores.{Cell, variable, Store, parts_of, Solution, Solves}
+use Rattle.store_theory.specs.Stores.{Cell, variable, Store, parts_of, Solution, Solves}
 use Rattle.calculus.specs.declared.sort.Sort.TheVariants.{StringSort}
-use Rattle.calculus.specs.Systems.{Equation, System, cells_of, AreEqual, IsBoundedSolution, HaveLengths}
+use Rattle.store_theory.specs.Systems.{Equation, System, cells_of, AreEqual, IsBoundedSolution, HaveLengths}
 use Rattle.search_theory.specs.States.{Agree}
 
 -- the solutions of the new store are, on the cells of the old one, those of which Q holds

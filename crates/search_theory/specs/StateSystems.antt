@@ -9,10 +9,10 @@ use Rattle.calculus.specs.ComputedInstances.{is_instance, is_allowed_instance, m
 use Rattle.calculus.specs.Tableaux.{total_steps}
 use Rattle.calculus.specs.Choices.{Choice, growth_of}
 use Rattle.calculus.specs.Space.{string_lengths, lengths_in, instances_in}
-use Rattle.calculus.specs.Stores.{Store, has_sort_at, Solution, Solves, GammaCell}
-use Rattle.calculus.specs.Systems.{CellAtom, Pair, System, is_gamma_cell, is_system, AreEqual, AreUses, MeetsDemand, AllAllowed, bound_of, HaveLengths}
+use Rattle.store_theory.specs.Stores.{Store, has_sort_at, Solution, Solves, GammaCell}
+use Rattle.store_theory.specs.Systems.{CellAtom, Pair, System, is_gamma_cell, is_system, AreEqual, AreUses, MeetsDemand, AllAllowed, bound_of, HaveLengths}
 use Rattle.search_theory.specs.States.{CellClause, CellGoal, State, clause_at, choice_at, growth_at, new_cell_goals, IsGround, name_of}
-use Rattle.calculus.specs.Patterns.{patterns_tree, PatternGamma, IsCopy, AreCopies}
+use Rattle.store_theory.specs.Patterns.{patterns_tree, PatternGamma, IsCopy, AreCopies}
 use Rattle.search_theory.specs.Joined.{are_joined}
 
 -- the pairs of a goal with the goals above it

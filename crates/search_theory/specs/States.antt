@@ -7,9 +7,9 @@ use Rattle.calculus.specs.Syntax.{Problem}
 use Rattle.calculus.specs.Ground.{GroundTerms, GroundMark, Value, no_g_terms, more_g_terms, GroundLiteral}
 use Rattle.calculus.specs.Instances.{ClauseInstance}
 use Rattle.calculus.specs.Choices.{ChoiceOf, start, reduction, extension, Choice, GroundChoice, choices_of, Goal, Growth, growth_of}
-use Rattle.calculus.specs.Stores.{Store, Solution, Solves, names_below}
-use Rattle.calculus.specs.Systems.{CellAtom}
-use Rattle.calculus.specs.Templates.{as_term, as_value, as_label, is_choice_of_values}
+use Rattle.store_theory.specs.Stores.{Store, Solution, Solves, names_below}
+use Rattle.store_theory.specs.Systems.{CellAtom}
+use Rattle.store_theory.specs.Templates.{as_term, as_value, as_label, is_choice_of_values}
 
 -- a copied clause: its selection, the variables that stand for the values, in order, and its literals
 pub record CellClause : Type 0 where

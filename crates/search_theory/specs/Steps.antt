@@ -4,10 +4,10 @@ use Rattle.calculus.specs.declared.sign.Side.{Side}
 use Rattle.calculus.specs.Ground.{Value}
 use Rattle.calculus.specs.Tableaux.{ancestor}
 use Rattle.calculus.specs.Choices.{is_opposite}
-use Rattle.calculus.specs.Stores.{Store, Solution, Solves, names_below}
-use Rattle.calculus.specs.Systems.{CellAtom}
-use Rattle.calculus.specs.Patterns.{PatternAtom, Template}
-use Rattle.calculus.specs.Templates.{pattern_literal, literals_by, have_sorts}
+use Rattle.store_theory.specs.Stores.{Store, Solution, Solves, names_below}
+use Rattle.store_theory.specs.Systems.{CellAtom}
+use Rattle.store_theory.specs.Patterns.{PatternAtom, Template}
+use Rattle.store_theory.specs.Templates.{pattern_literal, literals_by, have_sorts}
 use Rattle.search_theory.specs.States.{CellClause, CellGoal, clause_is_below, terms_by, values_by, literal_by, Agree}
 
 -- the solutions of the new store are those of the old one by which the two lists of terms are equal

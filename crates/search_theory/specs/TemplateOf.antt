@@ -16,8 +16,8 @@ use Rattle.calculus.specs.Syntax.{Term, Terms, var, fun, eigen, spare, no_terms,
 use Rattle.calculus.specs.Kinds.{other, shape_of, modal_of}
 use Rattle.calculus.specs.Labels.{pi_label}
 use Rattle.calculus.specs.Positions.{size}
-use Rattle.calculus.specs.Patterns.{patterns_tree, Pattern, Patterns, p_var, p_fun, p_eigen, p_new, no_patterns, more_patterns, PatternAtom, PatternGamma, Template}
-use Rattle.calculus.specs.Templates.{strings_from}
+use Rattle.store_theory.specs.Patterns.{patterns_tree, Pattern, Patterns, p_var, p_fun, p_eigen, p_new, no_patterns, more_patterns, PatternAtom, PatternGamma, Template}
+use Rattle.store_theory.specs.Templates.{strings_from}
 
 -- where a signed formula stands: its position, its label, the variables on the way to it, and the patterns for the bound variables
 pub record PatternSpot : Type 0 where

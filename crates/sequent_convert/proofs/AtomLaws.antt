@@ -8,7 +8,7 @@ use Rattle.calculus.specs.Kinds.{other, shape_of}
 use Rattle.calculus.specs.Syntax.{Formula, atom, neg, conj, disj, imp, all, ex, box, dia, Problem}
 use Rattle.calculus.specs.Positions.{size, Node, node, way_from, way}
 use Rattle.calculus.specs.Skolem.{last_node, way_to}
-use Rattle.calculus.specs.Leading.{is_literal_shape, is_literal_position}
+use Rattle.conversion_theory.specs.Leading.{is_literal_shape, is_literal_position}
 use Rattle.sequent_convert.specs.Atoms.{atoms_of}
 
 pub atoms-count : (f : Formula) → length (atoms_of f) ≡ size f

@@ -3,8 +3,8 @@ use Rattle.std.proofs.Common.{◌≡◌, ◌⊎◌, ℕ, zero, suc, ◌<◌, Lis
 use Rattle.std.specs.List.{AllByRecursion}
 use Rattle.calculus.specs.Instances.{Turn}
 use Rattle.calculus.proofs.Members.{Among}
-use Rattle.calculus.proofs.BranchLaws.{IsComplete}
-use Rattle.calculus.proofs.LedLaws.{CanCome}
+use Rattle.conversion_theory.proofs.BranchLaws.{IsComplete}
+use Rattle.conversion_theory.proofs.LedLaws.{CanCome}
 use Rattle.name_order.proofs.Coming.{parent-before, waits-before, can-come}
 use Rattle.sequent_convert.specs.State.{Basis, IsBasis, turn_at, turns_at, IsAwaitedBy, ComesNext}
 use Rattle.sequent_convert.proofs.TurnPlaces.{turn-in, turn-is, turn-done, done-turn}

@@ -9,17 +9,17 @@ use Rattle.calculus.specs.DerivationText.{is_limit}
 use Rattle.calculus.specs.Instances.{Turn, root_spot}
 use Rattle.calculus.specs.Positions.{size, node, Node, way_from}
 use Rattle.calculus.specs.Skolem.{way_to}
-use Rattle.calculus.specs.Branches.{item}
-use Rattle.calculus.specs.Leading.{ends_of, ends_cost, is_literal_position}
+use Rattle.conversion_theory.specs.Branches.{item}
+use Rattle.conversion_theory.specs.Leading.{ends_of, ends_cost, is_literal_position}
 use Rattle.calculus.specs.Tableaux.{Tableau, instances, instances_of_all, is_closed}
 use Rattle.calculus.specs.Problems.{is_problem}
-use Rattle.calculus.specs.Numbering.{IsNumbering, name_lines_of, number_of}
-use Rattle.calculus.specs.Turns.{turns_of, turns_of_instance, IsAgenda}
+use Rattle.conversion_theory.specs.Numbering.{IsNumbering, name_lines_of, number_of}
+use Rattle.conversion_theory.specs.Turns.{turns_of, turns_of_instance, IsAgenda}
 use Rattle.calculus.proofs.Members.{among-contains}
-use Rattle.calculus.proofs.AgendaLaws.{TurnOf, Anything, turn-works, work-way}
-use Rattle.calculus.proofs.RunLaws.{branch, run-done}
-use Rattle.calculus.proofs.TaskLaws.{cost-start}
-use Rattle.calculus.proofs.LeadingLaws.{way, IsLeading, leading-start}
+use Rattle.conversion_theory.proofs.AgendaLaws.{TurnOf, Anything, turn-works, work-way}
+use Rattle.conversion_theory.proofs.RunLaws.{branch, run-done}
+use Rattle.conversion_theory.proofs.TaskLaws.{cost-start}
+use Rattle.conversion_theory.proofs.LeadingLaws.{way, IsLeading, leading-start}
 use Rattle.logic_rules.proofs.ProblemFacts.{kept}
 use Rattle.name_order.specs.NamedView.{NamedValue}
 use Rattle.name_order.specs.Prerequisites.{IsOrder, ParentsTell, WaitsTell}

@@ -4,7 +4,7 @@ use Rattle.std.proofs.lemmas.Bool.{cases_Bool, eqb-true, leb-true, leb-false}
 use Rattle.calculus.specs.Lists.{closings_tree}
 use Rattle.calculus.specs.Instances.{ClauseInstance}
 use Rattle.calculus.specs.Tableaux.{Closing, Closings, extend, instances_below, instances_of_all}
-use Rattle.calculus.specs.Leading as leading
+use Rattle.conversion_theory.specs.Leading as leading
 use Rattle.tableau_core.specs.ClosingSizes.{closing_size, closing_list_size}
 use Rattle.tableau_core.specs.ClosingView.{the_closing}
 use Rattle.tableau_core.specs.declared.closing.Closing as program

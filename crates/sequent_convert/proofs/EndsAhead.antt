@@ -9,14 +9,14 @@ use Rattle.calculus.specs.Ground.{Value}
 use Rattle.calculus.specs.Kinds.{shape_of}
 use Rattle.calculus.specs.Derivations.{Entry}
 use Rattle.calculus.specs.Calculus.{Children, closed, connects, close_branch}
-use Rattle.calculus.specs.Turns.{Name}
-use Rattle.calculus.specs.Numbering.{number_of}
-use Rattle.calculus.specs.Branches.{Item, entry_of_item, entries_of}
-use Rattle.calculus.specs.Leading.{End, closes_at_once}
+use Rattle.conversion_theory.specs.Turns.{Name}
+use Rattle.conversion_theory.specs.Numbering.{number_of}
+use Rattle.conversion_theory.specs.Branches.{Item, entry_of_item, entries_of}
+use Rattle.conversion_theory.specs.Leading.{End, closes_at_once}
 use Rattle.calculus.proofs.Members.{among-at}
-use Rattle.calculus.proofs.RunLaws.{branch}
-use Rattle.calculus.proofs.SegmentLaws.{leads-item, leads-literal}
-use Rattle.calculus.proofs.LeadingLaws.{literal-axiom}
+use Rattle.conversion_theory.proofs.RunLaws.{branch}
+use Rattle.conversion_theory.proofs.SegmentLaws.{leads-item, leads-literal}
+use Rattle.conversion_theory.proofs.LeadingLaws.{literal-axiom}
 use Rattle.sequent_convert.specs.Pairs.{are_connected, connected_at}
 use Rattle.sequent_convert.specs.State.{Basis, IsBasis, State, turn_at, turns_at, IsOpenRun, WorksOnNone, IsDoneAhead}
 use Rattle.sequent_convert.proofs.TurnPlaces.{done-turn}

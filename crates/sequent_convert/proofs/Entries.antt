@@ -3,8 +3,8 @@ use Rattle.std.proofs.Common.{◌≡◌, ℕ, List, [], ◌∷◌, map, refl, sy
 use Rattle.calculus.specs.Ground.{GroundTerm}
 use Rattle.calculus.specs.Lists.{terms_tree}
 use Rattle.calculus.specs.Syntax.{Term, more_terms, Formula, atom}
-use Rattle.calculus.specs.Turns.{Name}
-use Rattle.calculus.specs.Numbering.{term_by, terms_by, formula_by}
+use Rattle.conversion_theory.specs.Turns.{Name}
+use Rattle.conversion_theory.specs.Numbering.{term_by, terms_by, formula_by}
 
 pub terms-put : (num : Name → ℕ) (d : ℕ) (env : List GroundTerm) (ts : List Term) → terms_tree (map (term_by num d env) ts) ≡ terms_by num d env (terms_tree ts)
 terms-put num d env [] = refl

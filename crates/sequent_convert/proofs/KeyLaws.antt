@@ -3,7 +3,7 @@ use Rattle.std.proofs.Common.{◌≡◌, ◌⊎◌, ℕ, zero, suc, ◌+◌, ◌
 use Rattle.std.proofs.lemmas.Bool.{cases_Bool, eqb-true, false≢true}
 use Rattle.std.proofs.lemmas.List.{drop_more, drop_all}
 use Rattle.calculus.specs.Ground.{Value}
-use Rattle.calculus.specs.Branches.{Item}
+use Rattle.conversion_theory.specs.Branches.{Item}
 use Rattle.calculus.specs.Instances.{Turn}
 use Rattle.calculus.proofs.Members.{Among}
 use Rattle.calculus.proofs.WalkLaws.{none_some, some_injective}

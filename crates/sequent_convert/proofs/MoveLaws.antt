@@ -7,9 +7,9 @@ use Rattle.calculus.specs.Positions.{size}
 use Rattle.calculus.specs.Derivations.{ModalArg, TermArg, apply_to, close, no_term}
 use Rattle.calculus.specs.Text.{is_number}
 use Rattle.calculus.specs.Tableaux.{Closings}
-use Rattle.calculus.specs.Branches.{Item, rests, grows, splits}
-use Rattle.calculus.specs.Leading.{ends_at, turns_before}
-use Rattle.calculus.proofs.FollowLaws.{has_one_part}
+use Rattle.conversion_theory.specs.Branches.{Item, rests, grows, splits}
+use Rattle.conversion_theory.specs.Leading.{ends_at, turns_before}
+use Rattle.conversion_theory.proofs.FollowLaws.{has_one_part}
 use Rattle.sequent_convert.specs.AheadView.{Ahead, IsExtended}
 use Rattle.sequent_convert.specs.RunView.{own_values}
 use Rattle.sequent_convert.specs.State.{Basis, Waiting, State, turns_at, IsAxiom, Works, WorksOnNone, made_of, ComesFor, IsFirst, IsForkAhead, IsLiteralAhead, first_turns, first_part, second_part, IsDoneAhead, Begins, BeginsNot, resumed, with_step, Moves, closes, skips, stays, adds, forks_ahead, forks_other, passes, to_first, to_second, extends}

@@ -1,5 +1,5 @@
 -- What the loop does keeps its invariant, and leaves less to do.
-use Rattle.calculus.specs.Branches.{entries_of}
+use Rattle.conversion_theory.specs.Branches.{entries_of}
 use Rattle.calculus.specs.Calculus.{closed, apply}
 use Rattle.std.proofs.lemmas.List.{length-map, length-take-le}
 use Rattle.std.proofs.Common.{◌≡◌, ◌⊎◌, ℕ, zero, suc, ◌+◌, ◌≤◌, ◌<◌, List, [], ◌∷◌, ◌++◌, map, length, length-append, take, drop, append-nil, Bool, true, false, IsTrue, Option, Some, None, Ok, Contains, refl, sym, ◌∙◌, ap, subst, inl, inr, slice_get, arith}
@@ -9,18 +9,18 @@ use Rattle.calculus.specs.Instances.{Turn}
 use Rattle.calculus.specs.Ground.{Value}
 use Rattle.calculus.specs.Derivations.{Step, ModalArg, TermArg, apply_to, close, no_term, axiom_count}
 use Rattle.calculus.specs.Text.{is_number}
-use Rattle.calculus.specs.Turns.{closings_count, has_introduced_names}
-use Rattle.calculus.specs.Numbering.{number_of}
-use Rattle.calculus.specs.Branches.{Item, Made, rests, grows, splits, made}
-use Rattle.calculus.specs.Leading.{End, ends_cost, ends_weight, undone}
+use Rattle.conversion_theory.specs.Turns.{closings_count, has_introduced_names}
+use Rattle.conversion_theory.specs.Numbering.{number_of}
+use Rattle.conversion_theory.specs.Branches.{Item, Made, rests, grows, splits, made}
+use Rattle.conversion_theory.specs.Leading.{End, ends_cost, ends_weight, undone}
 use Rattle.calculus.proofs.Members.{Among, at-among, among-at}
-use Rattle.calculus.proofs.BranchLaws.{IsComplete}
-use Rattle.calculus.proofs.RunLaws.{Branch, branch, WorksOn, IsGood}
-use Rattle.calculus.proofs.TaskLaws.{count-step, count-axiom}
-use Rattle.calculus.proofs.LedLaws.{CanCome}
-use Rattle.calculus.proofs.LeadingLaws.{Way, way, IsLeading, WayGoes, ways_cost, room_for, room-large, leading-one, leading-two, leading-closed, leading-made, leading-skipped}
-use Rattle.calculus.proofs.LoopMeasures.{leads-cost, leads-turns}
-use Rattle.calculus.proofs.AheadLaws.{made-lowers}
+use Rattle.conversion_theory.proofs.BranchLaws.{IsComplete}
+use Rattle.conversion_theory.proofs.RunLaws.{Branch, branch, WorksOn, IsGood}
+use Rattle.conversion_theory.proofs.TaskLaws.{count-step, count-axiom}
+use Rattle.conversion_theory.proofs.LedLaws.{CanCome}
+use Rattle.conversion_theory.proofs.LeadingLaws.{Way, way, IsLeading, WayGoes, ways_cost, room_for, room-large, leading-one, leading-two, leading-closed, leading-made, leading-skipped}
+use Rattle.conversion_theory.proofs.LoopMeasures.{leads-cost, leads-turns}
+use Rattle.conversion_theory.proofs.AheadLaws.{made-lowers}
 use Rattle.sequent_convert.specs.AheadView.{Ahead}
 use Rattle.sequent_convert.specs.State.{Basis, IsBasis, Waiting, State, turn_at, turns_at, way_of, waiting_ways, open_ways, Nest, IsAhead, IsOpenRun, IsRun, whole_weight, way_room, ways_room, room_of, WorksOnNone, made_of, ComesNext, ComesFor, resumed, with_step, IsAxiom, Moves, closes, skips, stays, adds}
 use Rattle.sequent_convert.proofs.TurnPlaces.{turn-in, turns-push, turn-of, listed, turn-done, done-turn, all-push, all-take}

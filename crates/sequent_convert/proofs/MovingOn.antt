@@ -17,19 +17,19 @@ use Rattle.calculus.specs.Instances.{Spot, Turn, ClauseInstance, down_by}
 use Rattle.calculus.specs.Derivations.{Step, ModalArg, TermArg, apply_to, close, no_term, axiom_count}
 use Rattle.calculus.specs.Text.{is_number}
 use Rattle.calculus.specs.Tableaux.{Closing, Closings, reduce, extend, no_closings, more_closings, instances_below, instances_of_all, instances}
-use Rattle.calculus.specs.Turns.{Name, turns_of_instance, IsParent, names_of_value, names_of_home, names_mentioned, names_introduced, closings_count, has_introduced_names}
-use Rattle.calculus.specs.Numbering.{number_of}
-use Rattle.calculus.specs.Branches.{Item, item, Past, past_modal, Made, rests, grows, splits, made, made_beta}
-use Rattle.calculus.specs.Leading.{End, meets_path, by_closing, ends_of, ends_at, ends_cost, ends_weight, turns_before}
+use Rattle.conversion_theory.specs.Turns.{Name, turns_of_instance, IsParent, names_of_value, names_of_home, names_mentioned, names_introduced, closings_count, has_introduced_names}
+use Rattle.conversion_theory.specs.Numbering.{number_of}
+use Rattle.conversion_theory.specs.Branches.{Item, item, Past, past_modal, Made, rests, grows, splits, made, made_beta}
+use Rattle.conversion_theory.specs.Leading.{End, meets_path, by_closing, ends_of, ends_at, ends_cost, ends_weight, turns_before}
 use Rattle.calculus.proofs.Members.{Among, at-among, among-at, among-left, among-right, among-append, among-joined, joined-among, contains-among, among-contains}
-use Rattle.calculus.proofs.RunLaws.{Branch, branch, WorksOn, IsGood}
-use Rattle.calculus.proofs.TaskLaws.{count-step, cost-split, weight-split}
-use Rattle.calculus.proofs.FollowLaws.{has_one_part}
-use Rattle.calculus.proofs.LedLaws.{parent-done}
-use Rattle.calculus.proofs.MadeLaws.{made-by}
-use Rattle.calculus.proofs.SegmentLaws.{Leads, leads-item, leads-parent, leads-part, Parts, leads-parts, leads-literal}
-use Rattle.calculus.proofs.LeadingLaws.{Way, way, IsLeading, leading-one, leading-two, literal-extends, none-awaited, extension-cost, extension-weight}
-use Rattle.calculus.proofs.LoopMeasures.{leads-turns}
+use Rattle.conversion_theory.proofs.RunLaws.{Branch, branch, WorksOn, IsGood}
+use Rattle.conversion_theory.proofs.TaskLaws.{count-step, cost-split, weight-split}
+use Rattle.conversion_theory.proofs.FollowLaws.{has_one_part}
+use Rattle.conversion_theory.proofs.LedLaws.{parent-done}
+use Rattle.conversion_theory.proofs.MadeLaws.{made-by}
+use Rattle.conversion_theory.proofs.SegmentLaws.{Leads, leads-item, leads-parent, leads-part, Parts, leads-parts, leads-literal}
+use Rattle.conversion_theory.proofs.LeadingLaws.{Way, way, IsLeading, leading-one, leading-two, literal-extends, none-awaited, extension-cost, extension-weight}
+use Rattle.conversion_theory.proofs.LoopMeasures.{leads-turns}
 use Rattle.calculus.proofs.WalkLaws.{none_some, some_injective}
 use Rattle.name_order.specs.Prerequisites.{own_part, count_before}
 use Rattle.sequent_convert.specs.AheadView.{Ahead, end_instances, ends_instances, instance_count}

@@ -3,9 +3,9 @@ use Rattle.std.proofs.Common.{◌≡◌, ℕ, zero, suc, ◌+◌, ◌<◌, List,
 use Rattle.calculus.specs.Ground.{g_fun, g_eigen, common, own}
 use Rattle.calculus.specs.Derivations.{EigenName, SpareName}
 use Rattle.calculus.specs.Syntax.{Problem}
-use Rattle.calculus.specs.Turns as turns
-use Rattle.calculus.specs.Turns.{term_name, mark_name}
-use Rattle.calculus.specs.Numbering.{eigen_names, spare_names}
+use Rattle.conversion_theory.specs.Turns as turns
+use Rattle.conversion_theory.specs.Turns.{term_name, mark_name}
+use Rattle.conversion_theory.specs.Numbering.{eigen_names, spare_names}
 use Rattle.name_order.specs.NameView.{the_name}
 use Rattle.name_order.specs.declared.names.Name.{Name}
 

@@ -5,7 +5,7 @@ use Rattle.std.proofs.lemmas.Bool.{cases_Bool, ltb-true, ltb-false}
 use Rattle.std.proofs.lemmas.List.{length-map}
 use Rattle.std.proofs.lemmas.Option.{slice_get_within}
 use Rattle.calculus.specs.Ground.{Value}
-use Rattle.calculus.specs.Branches.{Item, Made}
+use Rattle.conversion_theory.specs.Branches.{Item, Made}
 use Rattle.sequent_convert.specs.NodeView.{the_node}
 use Rattle.sequent_convert.specs.declared.node.Node.{Node}
 use Rattle.sequent_convert.specs.RunView.{WorksAt, own_values}

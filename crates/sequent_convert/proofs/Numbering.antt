@@ -3,8 +3,8 @@ use Rattle.std.proofs.Common.{◌≡◌, ℕ, List, [], ◌∷◌, map, refl, ap
 use Rattle.calculus.specs.Ground.{GroundTerm}
 use Rattle.calculus.specs.Lists.{terms_tree, g_terms_tree, marks_list-marks_tree}
 use Rattle.calculus.specs.Syntax.{more_terms}
-use Rattle.calculus.specs.Turns.{Name}
-use Rattle.calculus.specs.Numbering.{numbered_term, numbered_terms}
+use Rattle.conversion_theory.specs.Turns.{Name}
+use Rattle.conversion_theory.specs.Numbering.{numbered_term, numbered_terms}
 
 pub terms-numbered : (num : Name → ℕ) (ts : List GroundTerm) → terms_tree (map (numbered_term num) ts) ≡ numbered_terms num (g_terms_tree ts)
 terms-numbered num [] = refl

@@ -3,8 +3,8 @@ use Rattle.std.proofs.Common.{◌≡◌, ℕ, zero, suc, ◌+◌, ◌<◌, List,
 use Rattle.std.proofs.lemmas.List.{length-map}
 use Rattle.calculus.specs.Instances.{ClauseInstance}
 use Rattle.calculus.specs.Tableaux.{Closings, instances, instances_of_all}
-use Rattle.calculus.specs.Turns.{turns_of_instance}
-use Rattle.calculus.specs.Leading.{End}
+use Rattle.conversion_theory.specs.Turns.{turns_of_instance}
+use Rattle.conversion_theory.specs.Leading.{End}
 use Rattle.sequent_convert.specs.AheadView.{IsExtended, IsNotExtended, ends_instances}
 use Rattle.sequent_convert.specs.Pairs.{connected_at}
 use Rattle.sequent_convert.specs.State.{Basis, IsBasis, State, IsOpenRun, IsLiteralAhead}

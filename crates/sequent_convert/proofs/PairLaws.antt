@@ -3,12 +3,12 @@ use Rattle.std.proofs.Common.{◌≡◌, ℕ, zero, suc, ◌<◌, List, [], ◌�
 use Rattle.std.proofs.lemmas.Bool.{false≢true}
 use Rattle.std.specs.Option.{IfSome}
 use Rattle.std.proofs.lemmas.Option.{slice_get_within}
-use Rattle.calculus.specs.Branches.{Item, entry_of_item, entries_of}
+use Rattle.conversion_theory.specs.Branches.{Item, entry_of_item, entries_of}
 use Rattle.calculus.specs.Derivations.{Entry, Sequent, close}
 use Rattle.calculus.specs.Calculus.{connects, closed, close_branch, entry_of, apply}
-use Rattle.calculus.specs.Numbering.{number_of}
-use Rattle.calculus.specs.Turns.{Name}
-use Rattle.calculus.proofs.EndLaws.{Axiom}
+use Rattle.conversion_theory.specs.Numbering.{number_of}
+use Rattle.conversion_theory.specs.Turns.{Name}
+use Rattle.conversion_theory.proofs.EndLaws.{Axiom}
 use Rattle.sequent_convert.specs.declared.axiom.Pair as pair
 use Rattle.sequent_convert.specs.Pairs.{are_connected, connected_at, ArePair}
 use Rattle.sequent_convert.specs.RunView.{IsSeen}

@@ -4,10 +4,10 @@ use Rattle.calculus.specs.declared.kind.ModalPart.{ModalPart}
 use Rattle.calculus.specs.declared.kind.Shape.{Shape}
 use Rattle.calculus.specs.declared.kind.Shape.TheVariants.{Alpha, Beta, Gamma, Delta, Literal}
 use Rattle.calculus.specs.declared.sign.Sign.{Sign}
-use Rattle.calculus.specs.Branches.{Past, made_alpha, made_beta, made_gamma, made_delta, made_literal, made_shape}
+use Rattle.conversion_theory.specs.Branches.{Past, made_alpha, made_beta, made_gamma, made_delta, made_literal, made_shape}
 use Rattle.calculus.specs.Kinds.{Signed, shape_of, components}
 use Rattle.calculus.specs.Syntax.{Formula}
-use Rattle.calculus.specs.Turns.{Name}
+use Rattle.conversion_theory.specs.Turns.{Name}
 
 module _ (num : Name → ℕ) (m : ModalPart) (q : Past) (s : Sign) (f : Formula) where
   pub made-literal : Literal ≡ shape_of s f → made_literal m q s f ≡ made_shape num (shape_of s f) m q s f

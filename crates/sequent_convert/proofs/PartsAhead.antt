@@ -11,21 +11,21 @@ use Rattle.calculus.specs.Positions.{Node}
 use Rattle.calculus.specs.Instances.{Spot, Turn}
 use Rattle.calculus.specs.Derivations.{ModalArg}
 use Rattle.calculus.specs.Tableaux.{Tableau}
-use Rattle.calculus.specs.Turns.{Name}
-use Rattle.calculus.specs.Numbering.{number_of}
-use Rattle.calculus.specs.Branches.{Item, item, Made, splits, made}
-use Rattle.calculus.specs.Leading.{End, literals_among, turns_before}
+use Rattle.conversion_theory.specs.Turns.{Name}
+use Rattle.conversion_theory.specs.Numbering.{number_of}
+use Rattle.conversion_theory.specs.Branches.{Item, item, Made, splits, made}
+use Rattle.conversion_theory.specs.Leading.{End, literals_among, turns_before}
 use Rattle.calculus.proofs.Members.{Among, among-left, among-right}
-use Rattle.calculus.proofs.AgendaLaws.{TurnOf, Anything, turn-works}
-use Rattle.calculus.proofs.PlaceLaws.{Stood}
-use Rattle.calculus.proofs.WorkLaws.{work-from}
-use Rattle.calculus.proofs.RunLaws.{Branch, branch, WorksOn, IsGood}
-use Rattle.calculus.proofs.FollowLaws.{ArePlaced, IsBelowOf, below, Next, lands, goes, forks, IsSingle, Opened, opened}
-use Rattle.calculus.proofs.LedLaws.{AreLeft, task_turn, turn-first, turn-works_on}
-use Rattle.calculus.proofs.SegmentLaws.{Leads, leads-parts, leads-turn, same-item}
-use Rattle.calculus.proofs.AheadLaws.{before-second}
-use Rattle.calculus.proofs.LoopLaws.{split-unique}
-use Rattle.calculus.proofs.MadeLaws.{front_same}
+use Rattle.conversion_theory.proofs.AgendaLaws.{TurnOf, Anything, turn-works}
+use Rattle.conversion_theory.proofs.PlaceLaws.{Stood}
+use Rattle.conversion_theory.proofs.WorkLaws.{work-from}
+use Rattle.conversion_theory.proofs.RunLaws.{Branch, branch, WorksOn, IsGood}
+use Rattle.conversion_theory.proofs.FollowLaws.{ArePlaced, IsBelowOf, below, Next, lands, goes, forks, IsSingle, Opened, opened}
+use Rattle.conversion_theory.proofs.LedLaws.{AreLeft, task_turn, turn-first, turn-works_on}
+use Rattle.conversion_theory.proofs.SegmentLaws.{Leads, leads-parts, leads-turn, same-item}
+use Rattle.conversion_theory.proofs.AheadLaws.{before-second}
+use Rattle.conversion_theory.proofs.LoopLaws.{split-unique}
+use Rattle.conversion_theory.proofs.MadeLaws.{front_same}
 use Rattle.sequent_convert.specs.State.{Basis, turn_at, turns_at, first_turns, first_count}
 
 -- ---- the parts by the place where the second begins

@@ -4,10 +4,10 @@ use Rattle.std.specs.List.{AllByRecursion}
 use Rattle.std.proofs.lemmas.List.{length-map, drop-map}
 use Rattle.std.proofs.lemmas.Option.{slice_get_within, slice_get-get_or, get_or_from_slice_get, slice_get_read}
 use Rattle.calculus.specs.Instances.{Turn}
-use Rattle.calculus.specs.Leading.{is_literal_position, literals_among}
+use Rattle.conversion_theory.specs.Leading.{is_literal_position, literals_among}
 use Rattle.calculus.proofs.Members.{contains-at}
-use Rattle.calculus.proofs.RunLaws.{branch}
-use Rattle.calculus.proofs.LoopMeasures.{leads-turns}
+use Rattle.conversion_theory.proofs.RunLaws.{branch}
+use Rattle.conversion_theory.proofs.LoopMeasures.{leads-turns}
 use Rattle.formula_core.specs.GroundView.{the_value}
 use Rattle.formula_core.specs.declared.ground.Value as value
 use Rattle.name_order.specs.TurnView.{the_turn}

@@ -7,9 +7,9 @@ use Rattle.calculus.specs.Derivations.{Derivation}
 use Rattle.calculus.specs.Text.{is_number}
 use Rattle.calculus.specs.DerivationText.{is_limit}
 use Rattle.calculus.specs.Tableaux.{Tableau, is_closed}
-use Rattle.calculus.specs.Turns.{Name, IsAgenda}
-use Rattle.calculus.specs.Numbering.{IsNumbering}
-use Rattle.calculus.proofs.WholeLaws.{converts}
+use Rattle.conversion_theory.specs.Turns.{Name, IsAgenda}
+use Rattle.conversion_theory.specs.Numbering.{IsNumbering}
+use Rattle.conversion_theory.proofs.WholeLaws.{converts}
 use Rattle.sequent_convert.specs.Conversion.{IsConverted}
 
 pub converted : (P : Problem) (t : Tableau) (limit : ℕ) → IsTrue (is_closed P limit t) → IsTrue (formula_fits P.setting.logic P.symbols 0 P.formula) → (names : List Name) → IsNumbering P t names → (agenda : List Turn) → IsAgenda P t agenda → IsTrue (is_number (length names)) → IsTrue (is_number (1 + (length agenda + length agenda))) → IsTrue (is_limit limit) → (d : Derivation) × IsConverted P limit d

@@ -5,9 +5,9 @@ use Rattle.std.proofs.lemmas.List.{map_push, take-map}
 use Rattle.std.proofs.lemmas.Option.{slice_get-get_or, get_or_from_slice_get, slice_get_within}
 use Rattle.calculus.specs.Instances.{Turn, ClauseInstance}
 use Rattle.calculus.specs.Tableaux.{instances}
-use Rattle.calculus.specs.Turns.{turns_of, turns_of_instance}
+use Rattle.conversion_theory.specs.Turns.{turns_of, turns_of_instance}
 use Rattle.calculus.proofs.Members.{Among, among-contains, contains-at, contains-among, at-contains, at-among, among-at, among-all, all-among, among-append}
-use Rattle.calculus.proofs.AgendaLaws.{TurnOf}
+use Rattle.conversion_theory.proofs.AgendaLaws.{TurnOf}
 use Rattle.calculus.proofs.WalkLaws.{none_some, some_injective}
 use Rattle.sequent_convert.specs.State.{Basis, IsBasis, no_turn, turn_at, turns_at}
 

@@ -1,7 +1,7 @@
 -- Branches that wait stay as they are while the branch at hand grows, and while it is cut back.
 use Rattle.std.proofs.Common.{◌≡◌, ℕ, suc, ◌+◌, ◌≤◌, List, [], ◌∷◌, ◌++◌, length, take, refl, sym, ◌∙◌, ap, subst, arith}
 use Rattle.std.proofs.lemmas.List.{take-append-le, take-take, take_all, length-take-le, length-append}
-use Rattle.calculus.specs.Branches.{Item}
+use Rattle.conversion_theory.specs.Branches.{Item}
 use Rattle.sequent_convert.specs.AheadView.{Ahead}
 use Rattle.sequent_convert.specs.State.{Basis, Waiting, way_of, waiting_ways, Nest}
 

@@ -5,8 +5,8 @@ use Rattle.std.proofs.lemmas.List.{length-map, length-take-le, take-append-drop,
 use Rattle.calculus.specs.Ground.{Value}
 use Rattle.formula_core.specs.GroundView.{the_value}
 use Rattle.formula_core.specs.declared.ground.Value as program
-use Rattle.calculus.specs.Branches.{Item}
-use Rattle.calculus.proofs.RunLaws.{WorksOn}
+use Rattle.conversion_theory.specs.Branches.{Item}
+use Rattle.conversion_theory.proofs.RunLaws.{WorksOn}
 use Rattle.sequent_convert.specs.State.{Basis, turn_at, Works, WorksOnNone}
 use Rattle.sequent_convert.specs.RunView.{own_values}
 use Rattle.sequent_convert.specs.Working.{IsFront, IsOn}

@@ -2,7 +2,7 @@
 use Rattle.std.specs.Prelude.{◌≡◌, ℕ, ◌+◌, List, [], ◌∷◌, ◌++◌, map, length, Bool, true, if◌then◌else◌, Option, Some, None}
 use Rattle.calculus.specs.Instances.{ClauseInstance}
 use Rattle.calculus.specs.Tableaux as tree
-use Rattle.calculus.specs.Leading as leading
+use Rattle.conversion_theory.specs.Leading as leading
 use Rattle.tableau_core.specs.declared.closing.Closing as closing
 use Rattle.tableau_core.specs.ClosingView.{the_closing}
 use Rattle.sequent_convert.specs.declared.ahead.Ahead as ahead

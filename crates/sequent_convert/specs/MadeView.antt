@@ -1,6 +1,6 @@
 -- What the program answers for a turn stands for.
 use Rattle.std.specs.Prelude.{map}
-use Rattle.calculus.specs.Branches as tree
+use Rattle.conversion_theory.specs.Branches as tree
 use Rattle.sequent_calc.specs.StepView.{the_modal, the_term_arg}
 use Rattle.sequent_convert.specs.declared.make.Made as program
 use Rattle.sequent_convert.specs.declared.make.Made.TheVariants as made

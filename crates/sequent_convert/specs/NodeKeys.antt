@@ -1,7 +1,7 @@
 -- Keys by which the nodes of a branch are found.
 use Rattle.std.specs.Prelude.{◌≡◌, ℕ, List, [], ◌∷◌, map, false, Some, nat_eq, slice_get}
 use Rattle.calculus.specs.Ground.{Value}
-use Rattle.calculus.specs.Branches.{Item}
+use Rattle.conversion_theory.specs.Branches.{Item}
 use Rattle.indexmap.specs.IndexMap.{IndexMap, get}
 use Rattle.name_order.specs.Digests.{digest_value}
 use Rattle.sequent_convert.specs.NodeView.{the_node}

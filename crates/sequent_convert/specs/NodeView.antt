@@ -1,5 +1,5 @@
 -- The items of the calculus that nodes of the program stand for.
-use Rattle.calculus.specs.Branches.{Item}
+use Rattle.conversion_theory.specs.Branches.{Item}
 use Rattle.formula_core.specs.FormulaView.{the_formula}
 use Rattle.sequent_convert.specs.declared.node.Node as program
 use Rattle.sequent_convert.specs.SpotView.{the_spot}

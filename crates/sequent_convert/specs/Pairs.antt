@@ -1,9 +1,9 @@
 -- Pairs of items that make an axiom.
 use Rattle.std.specs.Prelude.{◌≡◌, ◌<◌, ℕ, suc, List, Bool, true, false, Option, Some, None, slice_get}
-use Rattle.calculus.specs.Branches.{Item, entry_of_item}
+use Rattle.conversion_theory.specs.Branches.{Item, entry_of_item}
 use Rattle.calculus.specs.Calculus.{connects}
-use Rattle.calculus.specs.Numbering.{number_of}
-use Rattle.calculus.specs.Turns.{Name}
+use Rattle.conversion_theory.specs.Numbering.{number_of}
+use Rattle.conversion_theory.specs.Turns.{Name}
 use Rattle.calculus.specs.Text.{is_number}
 use Rattle.sequent_convert.specs.declared.axiom.Pair as pair
 

@@ -1,6 +1,6 @@
 -- What the program has past a modal part stands for.
 use Rattle.std.specs.Prelude.{map}
-use Rattle.calculus.specs.Branches as tree
+use Rattle.conversion_theory.specs.Branches as tree
 use Rattle.formula_core.specs.GroundView.{the_value}
 use Rattle.sequent_calc.specs.StepView.{the_modal}
 use Rattle.sequent_convert.specs.declared.past.Past as program

@@ -2,7 +2,7 @@
 use Rattle.std.specs.Prelude.{◌≡◌, ◌<◌, ℕ, List, map, reverse, length, drop, Option, Some, None, slice_get}
 use Rattle.calculus.specs.Ground.{Value}
 use Rattle.calculus.specs.Instances.{Turn}
-use Rattle.calculus.specs.Branches.{Item}
+use Rattle.conversion_theory.specs.Branches.{Item}
 use Rattle.formula_core.specs.GroundView.{the_value}
 use Rattle.sequent_calc.specs.DerivationView.{the_names}
 use Rattle.tableau_core.specs.TableauView.{the_tableau}

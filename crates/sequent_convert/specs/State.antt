@@ -12,13 +12,13 @@ use Rattle.calculus.specs.Derivations.{Step, apply_to, close, no_term, ModalArg,
 use Rattle.calculus.specs.Calculus.{closed, apply}
 use Rattle.calculus.specs.Text.{is_number}
 use Rattle.calculus.specs.Tableaux.{Closings, Tableau, extend, instances, is_closed}
-use Rattle.calculus.specs.Turns.{Name, IsAgenda, turns_of_instance, closings_count, has_introduced_names}
-use Rattle.calculus.specs.Numbering.{IsNumbering, number_of, name_lines_of}
-use Rattle.calculus.specs.Branches.{Item, entries_of, Made, rests, grows, splits, made}
-use Rattle.calculus.specs.Leading.{End, meets_path, by_closing, closes_at_once, ends_at, ends_of, ends_cost, ends_weight, undone, literals_among, turns_before, is_literal_position}
-use Rattle.calculus.proofs.RunLaws.{Branch, branch, WorksOn}
-use Rattle.calculus.proofs.FollowLaws.{has_one_part}
-use Rattle.calculus.proofs.LeadingLaws.{Way, way, IsLeading, ways_cost, way_weight, room_for}
+use Rattle.conversion_theory.specs.Turns.{Name, IsAgenda, turns_of_instance, closings_count, has_introduced_names}
+use Rattle.conversion_theory.specs.Numbering.{IsNumbering, number_of, name_lines_of}
+use Rattle.conversion_theory.specs.Branches.{Item, entries_of, Made, rests, grows, splits, made}
+use Rattle.conversion_theory.specs.Leading.{End, meets_path, by_closing, closes_at_once, ends_at, ends_of, ends_cost, ends_weight, undone, literals_among, turns_before, is_literal_position}
+use Rattle.conversion_theory.proofs.RunLaws.{Branch, branch, WorksOn}
+use Rattle.conversion_theory.proofs.FollowLaws.{has_one_part}
+use Rattle.conversion_theory.proofs.LeadingLaws.{Way, way, IsLeading, ways_cost, way_weight, room_for}
 use Rattle.name_order.specs.NamedView.{NamedValue}
 use Rattle.name_order.specs.Prerequisites.{IsOrder, ParentsTell, WaitsTell}
 use Rattle.sequent_convert.specs.AheadView.{Ahead, ends_instances, instance_count}

@@ -2,7 +2,7 @@
 use Rattle.std.specs.Prelude.{◌≡◌, ◌≤◌, ℕ, List, length, take, false}
 use Rattle.calculus.specs.Ground.{Value}
 use Rattle.calculus.specs.Instances.{Turn}
-use Rattle.calculus.specs.Branches.{Item}
+use Rattle.conversion_theory.specs.Branches.{Item}
 
 -- the values begin with those that were taken
 abbrev pub IsFront : List Value → List Value → Type 0

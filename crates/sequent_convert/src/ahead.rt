@@ -1,7 +1,7 @@
 //! What is ahead of a branch: turns of an instance, and what closes the branch at the literals among them.
 
 ghost use Rattle.std.specs.Prelude.{◌≡◌, ◌-◌, ◌&&◌, IfSome, MatchOption, if◌then◌else◌, length, take, drop, nat_le, nat_lt, nat_eq};
-ghost use Rattle.calculus.specs.Leading.{ends_at, ends_of};
+ghost use Rattle.conversion_theory.specs.Leading.{ends_at, ends_of};
 ghost use Rattle.calculus.specs.Lists.{closings_tree};
 ghost use Rattle.calculus.specs.Tableaux.{instances_below, instances_of_all};
 ghost use Rattle.sequent_convert.specs.AheadView.{IsExtended, IsNotExtended, closing_ends, instance_count, starts_with, the_ends};

@@ -2,9 +2,9 @@
 
 ghost use Rattle.std.specs.Prelude.{◌≡◌, ◌<◌, ◌∷◌, [], suc, ℕ, Some, IsTrue, IfOk, OnOk, MatchOption, length, map, slice_get, true, false};
 ghost use Rattle.calculus.specs.Calculus.{connects};
-ghost use Rattle.calculus.specs.Branches.{Item, entry_of_item};
+ghost use Rattle.conversion_theory.specs.Branches.{Item, entry_of_item};
 ghost use Rattle.calculus.specs.Derivations as derivation;
-ghost use Rattle.calculus.specs.Numbering.{number_of};
+ghost use Rattle.conversion_theory.specs.Numbering.{number_of};
 ghost use Rattle.calculus.specs.Text.{is_number};
 ghost use Rattle.sequent_calc.specs.EntryView.{the_entry};
 ghost use Rattle.sequent_convert.specs.NodeView.{the_node};

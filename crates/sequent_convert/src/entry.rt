@@ -1,8 +1,8 @@
 //! The entries of literals.
 
 ghost use Rattle.std.specs.Prelude.{◌≡◌, IfOk, map};
-ghost use Rattle.calculus.specs.Branches.{entry_of_item};
-ghost use Rattle.calculus.specs.Numbering.{number_of, term_by, variable_by};
+ghost use Rattle.conversion_theory.specs.Branches.{entry_of_item};
+ghost use Rattle.conversion_theory.specs.Numbering.{number_of, term_by, variable_by};
 ghost use Rattle.calculus.specs.Lists.{terms_tree};
 ghost use Rattle.calculus.specs.Syntax.{atom};
 ghost use Rattle.formula_core.specs.FormulaView.{the_formula};

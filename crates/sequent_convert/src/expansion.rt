@@ -1,7 +1,7 @@
 //! Turns that are made on the branch at hand.
 
 ghost use Rattle.std.specs.Prelude.{◌≡◌, ◌≢◌, ◌+◌, ◌++◌, ◌∷◌, [], suc, Some, None, true, OnOk, Contains, length, map, slice_get};
-ghost use Rattle.calculus.specs.Branches.{Item, splits};
+ghost use Rattle.conversion_theory.specs.Branches.{Item, splits};
 ghost use Rattle.calculus.specs.Derivations as derivation;
 ghost use Rattle.calculus.specs.Derivations.{no_term};
 ghost use Rattle.calculus.specs.Text.{is_number};

@@ -26,7 +26,7 @@ ghost use Rattle.std.specs.Prelude.{◌≡◌, ◌≤◌, ◌++◌, IfOk, OnOk, 
 ghost use Rattle.calculus.specs.DerivationText.{is_limit};
 ghost use Rattle.calculus.specs.Derivations.{axiom_count};
 ghost use Rattle.calculus.specs.Tableaux.{is_closed};
-ghost use Rattle.calculus.specs.Turns.{closings_count, has_introduced_names};
+ghost use Rattle.conversion_theory.specs.Turns.{closings_count, has_introduced_names};
 ghost use Rattle.formula_core.specs.FormulaView.{the_formula};
 ghost use Rattle.sequent_calc.specs.DerivationView.{the_derivation, the_names};
 ghost use Rattle.sequent_convert.specs.Atoms.{atoms_of};

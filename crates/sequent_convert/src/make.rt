@@ -1,12 +1,12 @@
 //! What a turn does to the signed formula that it works on.
 
 ghost use Rattle.std.specs.Prelude.{◌≡◌, ◌++◌, ◌∷◌, [], IfOk, map};
-ghost use Rattle.calculus.specs.Branches.{grows, item, made, made_alpha, made_beta, made_delta, made_gamma, made_literal, made_shape};
+ghost use Rattle.conversion_theory.specs.Branches.{grows, item, made, made_alpha, made_beta, made_delta, made_gamma, made_literal, made_shape};
 ghost use Rattle.calculus.specs.Derivations.{by_term};
 ghost use Rattle.calculus.specs.Ground as tree;
 ghost use Rattle.calculus.specs.Instances.{spot_inside};
 ghost use Rattle.calculus.specs.Kinds.{shape_of};
-ghost use Rattle.calculus.specs.Numbering.{number_of, numbered_term};
+ghost use Rattle.conversion_theory.specs.Numbering.{number_of, numbered_term};
 ghost use Rattle.formula_core.specs.FormulaView.{the_formula};
 ghost use Rattle.formula_core.specs.GroundView.{the_g_term, the_value};
 ghost use Rattle.sequent_calc.specs.StepView.{the_modal};

@@ -2,7 +2,7 @@
 
 ghost use Rattle.std.specs.Prelude.{◌≡◌, ◌++◌, ◌<◌, ◌^◌, ◌∷◌, [], IfOk, OnOk, length, map};
 ghost use Rattle.calculus.specs.Ground.{marks_list, marks_tree, values_tree};
-ghost use Rattle.calculus.specs.Numbering.{eigen_home, eigen_names, name_lines_of, number_of, numbered_label, numbered_mark, spare_names};
+ghost use Rattle.conversion_theory.specs.Numbering.{eigen_home, eigen_names, name_lines_of, number_of, numbered_label, numbered_mark, spare_names};
 ghost use Rattle.formula_core.specs.GroundView.{the_value};
 ghost use Rattle.name_order.specs.NameView.{the_name};
 ghost use Rattle.sequent_calc.specs.DerivationView.{the_names};

@@ -1,7 +1,7 @@
 //! Nodes of a branch.
 
 ghost use Rattle.std.specs.Prelude.{◌≡◌, ◌+◌, IfOk, suc};
-ghost use Rattle.calculus.specs.Branches.{item};
+ghost use Rattle.conversion_theory.specs.Branches.{item};
 ghost use Rattle.calculus.specs.Instances.{down_by};
 ghost use Rattle.calculus.specs.Positions.{size};
 ghost use Rattle.formula_core.specs.FormulaView.{the_formula};

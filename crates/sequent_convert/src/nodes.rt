@@ -1,7 +1,7 @@
 //! The nodes of a branch, and where each of them is found.
 
 ghost use Rattle.std.specs.Prelude.{◌≡◌, ◌++◌, ◌∷◌, [], ℕ, Some, IsTrue, false, ◌↔◌, nat_eq, IfOk, OnOk, OnErr, MatchOption, length, map, slice_get, take};
-ghost use Rattle.calculus.specs.Branches.{Item};
+ghost use Rattle.conversion_theory.specs.Branches.{Item};
 ghost use Rattle.formula_core.specs.GroundView.{the_value};
 ghost use Rattle.indexmap.specs.IndexMap.{get};
 ghost use Rattle.name_order.specs.TurnView.{the_turn};

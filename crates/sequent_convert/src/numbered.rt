@@ -1,7 +1,7 @@
 //! Ground terms and labels of a tableau as the terms and labels of its derivation.
 
 ghost use Rattle.std.specs.Prelude.{◌≡◌, IfOk, map};
-ghost use Rattle.calculus.specs.Numbering.{number_of, numbered_label, numbered_mark, numbered_term};
+ghost use Rattle.conversion_theory.specs.Numbering.{number_of, numbered_label, numbered_mark, numbered_term};
 ghost use Rattle.formula_core.specs.GroundView.{the_g_term, the_mark};
 ghost use Rattle.formula_core.specs.TermView.{the_term};
 ghost use Rattle.logic_rules.specs.MarkView.{the_character};

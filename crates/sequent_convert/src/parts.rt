@@ -2,7 +2,7 @@
 
 ghost use Rattle.std.specs.Prelude.{◌≡◌, ◌+◌, ◌<◌, ◌∷◌, ℕ, List, IfOk, length, take, drop, if◌then◌else◌};
 ghost use Rattle.std.specs.List.{AllByRecursion};
-ghost use Rattle.calculus.specs.Leading as leading;
+ghost use Rattle.conversion_theory.specs.Leading as leading;
 ghost use Rattle.sequent_convert.specs.AheadView.{instance_count, the_ahead, the_ends};
 ghost use Rattle.sequent_convert.specs.RunView.{the_source};
 ghost use Rattle.sequent_convert.specs.State.{IsBasis, first_part, second_part, turn_at, turns_at};

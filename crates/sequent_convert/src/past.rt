@@ -1,12 +1,12 @@
 //! Past the modal part of a signed formula.
 
 ghost use Rattle.std.specs.Prelude.{◌≡◌, ◌∷◌, IfOk, map};
-ghost use Rattle.calculus.specs.Branches.{past_modal, past_string};
+ghost use Rattle.conversion_theory.specs.Branches.{past_modal, past_string};
 ghost use Rattle.calculus.specs.declared.kind.ModalPart.TheVariants.{Pi};
 ghost use Rattle.calculus.specs.Derivations.{no_modal};
 ghost use Rattle.calculus.specs.Ground as tree;
 ghost use Rattle.calculus.specs.Ground.{marks_tree};
-ghost use Rattle.calculus.specs.Numbering.{number_of};
+ghost use Rattle.conversion_theory.specs.Numbering.{number_of};
 ghost use Rattle.formula_core.specs.GroundView.{the_value};
 ghost use Rattle.sequent_convert.specs.PastView.{the_past};
 ghost use Rattle.sequent_convert.specs.SpotView.{the_spot};

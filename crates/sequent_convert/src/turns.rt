@@ -2,7 +2,7 @@
 
 ghost use Rattle.std.specs.Prelude.{◌≡◌, ◌<◌, ℕ, Some, IsTrue, IfOk, MatchOption, Contains, length, map, slice_get, drop};
 ghost use Rattle.std.specs.List.{AllByRecursion};
-ghost use Rattle.calculus.specs.Branches.{Item};
+ghost use Rattle.conversion_theory.specs.Branches.{Item};
 ghost use Rattle.sequent_convert.specs.MadeView.{the_made};
 ghost use Rattle.sequent_convert.specs.NodeView.{the_node};
 ghost use Rattle.sequent_convert.specs.RunView.{WorksAt, own_values, the_source};

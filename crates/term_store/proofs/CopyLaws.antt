@@ -7,13 +7,13 @@ use Rattle.std.proofs.lemmas.Bool.{cases_Bool, false≢true, and_parts, and_from
 use Rattle.calculus.specs.declared.sort.Sort.{Sort}
 use Rattle.calculus.specs.declared.sort.Sort.TheVariants.{TermSort, MarkSort, StringSort}
 use Rattle.calculus.specs.Equality.{sort_eq}
-use Rattle.calculus.specs.Patterns as tree
-use Rattle.calculus.specs.Patterns.{patterns_tree, IsCopy, AreCopies, Grows}
-use Rattle.calculus.specs.Stores.{Cell, fun_cell, eigen_cell, new_cell, Store, has_sort_at, parts_fit}
-use Rattle.calculus.specs.Bindings.{with_cell, NamesOver}
+use Rattle.store_theory.specs.Patterns as tree
+use Rattle.store_theory.specs.Patterns.{patterns_tree, IsCopy, AreCopies, Grows}
+use Rattle.store_theory.specs.Stores.{Cell, fun_cell, eigen_cell, new_cell, Store, has_sort_at, parts_fit}
+use Rattle.store_theory.specs.Bindings.{with_cell, NamesOver}
 use Rattle.calculus.proofs.PlaceLists.{get-end, all-append}
-use Rattle.calculus.proofs.BindingLaws.{has_sort-from, sort_eq-true}
-use Rattle.calculus.proofs.PatternLaws.{copies-more, grown-copies}
+use Rattle.store_theory.proofs.BindingLaws.{has_sort-from, sort_eq-true}
+use Rattle.store_theory.proofs.PatternLaws.{copies-more, grown-copies}
 use Rattle.term_store.specs.declared.cell.Name.{Name}
 use Rattle.term_store.specs.declared.cell.Name.TheVariants.{Fun, Eigen, New, Marks}
 use Rattle.term_store.specs.declared.pattern.Pattern.{Pattern}

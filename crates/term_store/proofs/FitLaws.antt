@@ -7,12 +7,12 @@ use Rattle.std.proofs.lemmas.Bool.{false≢true, and_parts, and_from}
 use Rattle.calculus.specs.declared.sort.Sort.{Sort}
 use Rattle.calculus.specs.declared.sort.Sort.TheVariants.{TermSort, MarkSort, StringSort}
 use Rattle.calculus.specs.Equality.{sort_eq}
-use Rattle.calculus.specs.Stores.{Cell, Store, sort_of, sort_at, has_sort_at, has_value_sort_at}
-use Rattle.calculus.specs.Patterns.{Pattern, Patterns, p_var, p_fun, p_eigen, p_new, no_patterns, more_patterns, patterns_tree, Grows, PatternAtom, PatternGamma, Template, HaveSortsAt, pattern_fits, are_term_patterns, are_value_patterns, is_label_pattern, atom_fits, gamma_fits, template_fits}
-use Rattle.calculus.specs.Bindings.{places_from, with_variables_of}
+use Rattle.store_theory.specs.Stores.{Cell, Store, sort_of, sort_at, has_sort_at, has_value_sort_at}
+use Rattle.store_theory.specs.Patterns.{Pattern, Patterns, p_var, p_fun, p_eigen, p_new, no_patterns, more_patterns, patterns_tree, Grows, PatternAtom, PatternGamma, Template, HaveSortsAt, pattern_fits, are_term_patterns, are_value_patterns, is_label_pattern, atom_fits, gamma_fits, template_fits}
+use Rattle.store_theory.specs.Bindings.{places_from, with_variables_of}
 use Rattle.calculus.proofs.PlaceLists.{all-append, all-more}
-use Rattle.calculus.proofs.BindingLaws.{or-more}
-use Rattle.calculus.proofs.PatternLaws.{variables-have, grown-cell, grown-sort, and-more, and-both}
+use Rattle.store_theory.proofs.BindingLaws.{or-more}
+use Rattle.store_theory.proofs.PatternLaws.{variables-have, grown-cell, grown-sort, and-more, and-both}
 use Rattle.term_store.specs.Fitting.{fits_in, parts_fit_in, part_sort_at, label_fits_in, atom_fits_in, gamma_fits_in}
 
 found-more : (p q : ℕ → Bool) (o : Option ℕ) → ((r : ℕ) → IsTrue (p r) → IsTrue (q r)) → IsTrue (option_map_or p o false) → IsTrue (option_map_or q o false)

@@ -5,13 +5,13 @@ use Rattle.std.specs.Prelude.{remove}
 use Rattle.std.proofs.lemmas.Bool.{and_from, and_parts}
 use Rattle.std.proofs.lemmas.List.{take_rest}
 use Rattle.std.proofs.lemmas.Option.{slice_get_read, slice_get-map}
-use Rattle.calculus.specs.Bindings.{AddsOver, NamesOver}
-use Rattle.calculus.specs.Patterns as tree
-use Rattle.calculus.specs.Patterns.{AreAtomCopies, AreCopies, AreGammaCopies, CopiedClause, IsAtomCopy, IsClauseCopy, IsGammaCopy, atom_is_from, clause_fits, clause_is_from, gamma_is_from, patterns_tree}
+use Rattle.store_theory.specs.Bindings.{AddsOver, NamesOver}
+use Rattle.store_theory.specs.Patterns as tree
+use Rattle.store_theory.specs.Patterns.{AreAtomCopies, AreCopies, AreGammaCopies, CopiedClause, IsAtomCopy, IsClauseCopy, IsGammaCopy, atom_is_from, clause_fits, clause_is_from, gamma_is_from, patterns_tree}
 use Rattle.calculus.specs.declared.sort.Sort.TheVariants.{StringSort}
-use Rattle.calculus.specs.Stores.{GammaCell, Store, has_sort_at}
-use Rattle.calculus.specs.Systems.{CellAtom, is_cell_atom, is_gamma_cell}
-use Rattle.calculus.proofs.PatternLaws.{Grows-built, atoms-more, gammas-more, grown-atoms, grown-gammas, grown-cell_atoms, grown-copies, grown-gamma_cells, grown-sorts}
+use Rattle.store_theory.specs.Stores.{GammaCell, Store, has_sort_at}
+use Rattle.store_theory.specs.Systems.{CellAtom, is_cell_atom, is_gamma_cell}
+use Rattle.store_theory.proofs.PatternLaws.{Grows-built, atoms-more, gammas-more, grown-atoms, grown-gammas, grown-cell_atoms, grown-copies, grown-gamma_cells, grown-sorts}
 use Rattle.calculus.proofs.PlaceLists.{all-append}
 use Rattle.term_store.specs.Copying.{AtomsCopied, with_literals}
 use Rattle.term_store.proofs.OwnLaws.{over-both, own-append, own-later}

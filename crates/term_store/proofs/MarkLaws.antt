@@ -6,11 +6,11 @@ use Rattle.std.specs.List.{list_all}
 use Rattle.std.proofs.lemmas.Bool.{and_from}
 use Rattle.calculus.specs.declared.sort.Sort.{Sort}
 use Rattle.calculus.specs.declared.sort.Sort.TheVariants.{MarkSort, StringSort}
-use Rattle.calculus.specs.Stores.{variable, string_cell, Store, has_sort_at}
-use Rattle.calculus.specs.Bindings.{with_cell, with_variables_of, places_from}
-use Rattle.calculus.proofs.PatternLaws.{Grows-variables, grown-cell, length-variables}
+use Rattle.store_theory.specs.Stores.{variable, string_cell, Store, has_sort_at}
+use Rattle.store_theory.specs.Bindings.{with_cell, with_variables_of, places_from}
+use Rattle.store_theory.proofs.PatternLaws.{Grows-variables, grown-cell, length-variables}
 use Rattle.calculus.proofs.PlaceLists.{get-end}
-use Rattle.calculus.proofs.BindingLaws.{has_sort-from}
+use Rattle.store_theory.proofs.BindingLaws.{has_sort-from}
 
 -- one variable more
 pub variables-last : (sorts : List Sort) (sort : Sort) (s : Store) → with_cell (variable sort None) (with_variables_of sorts s) ≡ with_variables_of (sorts ++ sort ∷ []) s

@@ -4,11 +4,11 @@ use Rattle.std.specs.List.{list_all}
 use Rattle.std.proofs.lemmas.Bool.{and_from, and_parts}
 use Rattle.calculus.specs.declared.sort.Sort.{Sort}
 use Rattle.calculus.specs.declared.sort.Sort.TheVariants.{TermSort, MarkSort}
-use Rattle.calculus.specs.Bindings.{AddsBuilt, BindsOnly, with_cell, with_variables_of}
-use Rattle.calculus.specs.Patterns as tree
-use Rattle.calculus.specs.Patterns.{AreCopies, Grows, HaveSortsAt, IsCopy, no_patterns, more_patterns, p_eigen, p_fun, p_new, p_var, patterns_tree}
-use Rattle.calculus.specs.Stores.{Cell, eigen_cell, fun_cell, new_cell, sort_at, sort_of, string_cell, variable, Store}
-use Rattle.calculus.proofs.PatternLaws.{Grows-built, Grows-with_cell}
+use Rattle.store_theory.specs.Bindings.{AddsBuilt, BindsOnly, with_cell, with_variables_of}
+use Rattle.store_theory.specs.Patterns as tree
+use Rattle.store_theory.specs.Patterns.{AreCopies, Grows, HaveSortsAt, IsCopy, no_patterns, more_patterns, p_eigen, p_fun, p_new, p_var, patterns_tree}
+use Rattle.store_theory.specs.Stores.{Cell, eigen_cell, fun_cell, new_cell, sort_at, sort_of, string_cell, variable, Store}
+use Rattle.store_theory.proofs.PatternLaws.{Grows-built, Grows-with_cell}
 use Rattle.calculus.proofs.PlaceLists.{get-last, get-within}
 use Rattle.term_store.specs.Built.{named_cell}
 use Rattle.term_store.specs.Copying.{named_pattern, with_literals}

@@ -3,10 +3,10 @@ use Rattle.std.proofs.Common.{◌≡◌, ◌≤◌, ◌<◌, ◌+◌, ◌++◌, 
 use Rattle.std.specs.Prelude.{slice_get}
 use Rattle.std.proofs.lemmas.Bool.{cases_Bool, false≢true, and_parts}
 use Rattle.calculus.specs.Equality.{contains}
-use Rattle.calculus.specs.Stores.{Cell, is_bound, trail_fits, are_distinct_cells}
+use Rattle.store_theory.specs.Stores.{Cell, is_bound, trail_fits, are_distinct_cells}
 use Rattle.calculus.proofs.PlaceLists.{contains-append}
-use Rattle.calculus.proofs.BindingLaws.{is_bound_at, kept_trail}
-use Rattle.calculus.proofs.StoreLaws.{contains-take, distinct-take}
+use Rattle.store_theory.proofs.BindingLaws.{is_bound_at, kept_trail}
+use Rattle.store_theory.proofs.StoreLaws.{contains-take, distinct-take}
 use Rattle.term_store.specs.declared.cell.Ref.{Ref}
 use Rattle.term_store.specs.declared.cell.Content.{Content}
 use Rattle.term_store.specs.declared.cell.Content.TheVariants.{Open, Bound, Fun, Eigen, New, Marks}

@@ -7,9 +7,9 @@ use Rattle.std.proofs.lemmas.List.{length-take-le}
 use Rattle.std.proofs.lemmas.Option.{slice_get-map}
 use Rattle.calculus.specs.declared.sort.Sort.{Sort}
 use Rattle.calculus.specs.Equality.{contains}
-use Rattle.calculus.specs.Stores.{Cell, variable, fun_cell, eigen_cell, new_cell, string_cell, Store, TrailMark, is_store, is_bound, cells_bound_by, cut_at, IsGood, parts_of, parts_fit, bound_cells, trail_fits, are_distinct_cells, EndsAt}
-use Rattle.calculus.specs.Bindings.{bind_at, bound_to, with_binding, MayBind, IsWellFormed, HasRank, IsEnd, EndsIn}
-use Rattle.calculus.proofs.BindingLaws.{is_store-with_binding, HasRank-with_binding, IsWellFormed-cut_at, kept, parts-within, ends-once, ends-there}
+use Rattle.store_theory.specs.Stores.{Cell, variable, fun_cell, eigen_cell, new_cell, string_cell, Store, TrailMark, is_store, is_bound, cells_bound_by, cut_at, IsGood, parts_of, parts_fit, bound_cells, trail_fits, are_distinct_cells, EndsAt}
+use Rattle.store_theory.specs.Bindings.{bind_at, bound_to, with_binding, MayBind, IsWellFormed, HasRank, IsEnd, EndsIn}
+use Rattle.store_theory.proofs.BindingLaws.{is_store-with_binding, HasRank-with_binding, IsWellFormed-cut_at, kept, parts-within, ends-once, ends-there}
 use Rattle.term_store.specs.declared.cell.Ref.{Ref}
 use Rattle.term_store.specs.declared.cell.Content.{Content}
 use Rattle.term_store.specs.declared.cell.Content.TheVariants.{Open, Bound, Fun, Eigen, New, Marks}

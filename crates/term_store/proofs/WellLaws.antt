@@ -1,9 +1,9 @@
 -- What is kept of the lists of a store: a cell more.
 use Rattle.std.proofs.Common.{◌≡◌, ◌≤◌, ◌<◌, ◌+◌, ◌++◌, ◌∷◌, [], None, IsTrue, length, ℕ, zero, suc, List, false, map, take, drop, refl, sym, ap, ap₂, ◌∙◌, subst, arith, length-append}
 use Rattle.calculus.specs.declared.sort.Sort.{Sort}
-use Rattle.calculus.specs.Stores.{variable, fun_cell, eigen_cell, new_cell, string_cell, Store, is_store, is_bound, parts_fit}
-use Rattle.calculus.specs.Bindings.{HasRank, with_cell}
-use Rattle.calculus.proofs.BindingLaws.{is_store-with_cell, HasRank-with_cell}
+use Rattle.store_theory.specs.Stores.{variable, fun_cell, eigen_cell, new_cell, string_cell, Store, is_store, is_bound, parts_fit}
+use Rattle.store_theory.specs.Bindings.{HasRank, with_cell}
+use Rattle.store_theory.proofs.BindingLaws.{is_store-with_cell, HasRank-with_cell}
 use Rattle.term_store.specs.declared.cell.Content.{Content}
 use Rattle.term_store.specs.declared.cell.Content.TheVariants.{Open, Bound, Fun, Eigen, New, Marks}
 use Rattle.term_store.specs.declared.cell.Slot.{Slot}

@@ -1,6 +1,6 @@
 -- Built cells by their names.
 use Rattle.std.specs.Prelude.{ℕ, List}
-use Rattle.calculus.specs.Stores.{Cell, fun_cell, eigen_cell, new_cell, string_cell}
+use Rattle.store_theory.specs.Stores.{Cell, fun_cell, eigen_cell, new_cell, string_cell}
 use Rattle.term_store.specs.declared.cell.Content.{Content}
 use Rattle.term_store.specs.declared.cell.Content.TheVariants as content
 use Rattle.term_store.specs.declared.cell.Name.{Name}

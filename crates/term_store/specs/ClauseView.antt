@@ -1,7 +1,7 @@
 -- The clauses of the calculus that those of the program stand for.
-use Rattle.calculus.specs.Patterns as tree
-use Rattle.calculus.specs.Stores as cells
-use Rattle.calculus.specs.Systems as cell
+use Rattle.store_theory.specs.Patterns as tree
+use Rattle.store_theory.specs.Stores as cells
+use Rattle.store_theory.specs.Systems as cell
 use Rattle.term_store.specs.PatternView.{the_pattern}
 use Rattle.term_store.specs.declared.clause.CellAtom.{CellAtom}
 use Rattle.term_store.specs.declared.clause.GammaUse.{GammaUse}

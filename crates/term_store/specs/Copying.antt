@@ -1,11 +1,11 @@
 -- What copies are made of.
 use Rattle.std.specs.Prelude.{◌≡◌, ℕ, List, ◌++◌, length, Bool, true, false, IsTrue}
 use Rattle.std.specs.List.{list_all}
-use Rattle.calculus.specs.Bindings.{NamesOver}
-use Rattle.calculus.specs.Patterns as tree
-use Rattle.calculus.specs.Patterns.{AreAtomCopies, atom_is_from}
-use Rattle.calculus.specs.Stores.{Store}
-use Rattle.calculus.specs.Systems.{CellAtom, is_cell_atom}
+use Rattle.store_theory.specs.Bindings.{NamesOver}
+use Rattle.store_theory.specs.Patterns as tree
+use Rattle.store_theory.specs.Patterns.{AreAtomCopies, atom_is_from}
+use Rattle.store_theory.specs.Stores.{Store}
+use Rattle.store_theory.specs.Systems.{CellAtom, is_cell_atom}
 use Rattle.term_store.specs.declared.cell.Name.{Name}
 use Rattle.term_store.specs.declared.cell.Name.TheVariants.{Fun, Eigen, New, Marks}
 

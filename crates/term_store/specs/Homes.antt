@@ -3,8 +3,8 @@ use Rattle.std.specs.Prelude.{◌≡◌, ℕ, List, Bool, true, ◌&&◌, Some, 
 use Rattle.calculus.specs.Equality.{mark_eq}
 use Rattle.calculus.specs.Ground.{GroundMark}
 use Rattle.calculus.specs.Labels.{is_prefix}
-use Rattle.calculus.specs.Stores.{Store, Solution, label_at}
-use Rattle.calculus.specs.Systems.{is_label}
+use Rattle.store_theory.specs.Stores.{Store, Solution, label_at}
+use Rattle.store_theory.specs.Systems.{is_label}
 
 pub record Home : Type 0 where
   pub home : List ℕ

@@ -2,7 +2,7 @@
 use Rattle.std.specs.Prelude.{◌≡◌, ℕ, ◌<◌, ◌≤◌, max, List, [], ◌∷◌, map, length}
 use Rattle.std.proofs.Common.{arith, ap, get_or, zero, suc}
 use denote.Param.Weighed.{most, w_this}
-use Rattle.calculus.specs.Patterns.{pattern_size, pattern_list_size}
+use Rattle.store_theory.specs.Patterns.{pattern_size, pattern_list_size}
 use Rattle.term_store.specs.PatternView.{the_pattern}
 use Rattle.term_store.specs.declared.pattern.Pattern.{Pattern}
 use Rattle.term_store.specs.declared.pattern.Pattern.TheVariants.{Var, Fun, Eigen, New, the_data}

@@ -1,6 +1,6 @@
 -- The pattern of the calculus that a pattern of the program stands for.
-use Rattle.calculus.specs.Patterns as tree
-use Rattle.calculus.specs.Patterns.{patterns_tree}
+use Rattle.store_theory.specs.Patterns as tree
+use Rattle.store_theory.specs.Patterns.{patterns_tree}
 use Rattle.term_store.specs.declared.pattern.Pattern.{Pattern}
 use Rattle.term_store.specs.declared.pattern.Pattern.TheVariants.{Var, Fun, Eigen, New}
 

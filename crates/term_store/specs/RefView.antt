@@ -1,6 +1,6 @@
 -- The places that references stand for.
 use Rattle.std.specs.Prelude.{ℕ, List}
-use Rattle.calculus.specs.Bindings.{places_from}
+use Rattle.store_theory.specs.Bindings.{places_from}
 use Rattle.term_store.specs.declared.cell.Ref.{Ref}
 use Rattle.term_store.specs.declared.cell.Variables.{Variables}
 

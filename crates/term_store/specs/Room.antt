@@ -1,6 +1,6 @@
 -- What contracts see of a store of the program.
 use Rattle.std.specs.Prelude.{ℕ, ◌-◌, ◌≤◌, min, length}
-use Rattle.calculus.specs.Stores.{Store}
+use Rattle.store_theory.specs.Stores.{Store}
 
 -- a store, and how many cells and trail entries it has memory for
 pub record TermStore : Type 0 where

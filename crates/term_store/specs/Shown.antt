@@ -1,6 +1,6 @@
 -- What the calls that look at a cell tell of it.
 use Rattle.std.specs.Prelude.{◌≡◌, ℕ, List, length, None, Some, slice_get}
-use Rattle.calculus.specs.Stores.{Cell, variable, fun_cell, eigen_cell, new_cell, string_cell, Store}
+use Rattle.store_theory.specs.Stores.{Cell, variable, fun_cell, eigen_cell, new_cell, string_cell, Store}
 use Rattle.term_store.specs.declared.cell.Content.{Content}
 use Rattle.term_store.specs.declared.cell.Content.TheVariants.{Open, Bound, Fun, Eigen, New, Marks}
 use Rattle.term_store.specs.declared.cell.Head.{Head}

@@ -1,7 +1,7 @@
 -- The store of the calculus that the lists of the program stand for.
 use Rattle.std.specs.Prelude.{◌≡◌, ◌≤◌, ◌<◌, ℕ, ◌+◌, List, [], ◌∷◌, length, map, take, drop, Some, None, IsTrue}
-use Rattle.calculus.specs.Stores.{Cell, variable, fun_cell, eigen_cell, new_cell, string_cell, Store, TrailMark, is_store}
-use Rattle.calculus.specs.Bindings.{HasRank}
+use Rattle.store_theory.specs.Stores.{Cell, variable, fun_cell, eigen_cell, new_cell, string_cell, Store, TrailMark, is_store}
+use Rattle.store_theory.specs.Bindings.{HasRank}
 use Rattle.term_store.specs.declared.cell.Content.{Content}
 use Rattle.term_store.specs.declared.cell.Content.TheVariants.{Open, Bound, Fun, Eigen, New, Marks}
 use Rattle.term_store.specs.declared.cell.Slot.{Slot}

@@ -1,5 +1,5 @@
 -- The systems of the calculus that those of the program stand for.
-use Rattle.calculus.specs.Systems as tree
+use Rattle.store_theory.specs.Systems as tree
 use Rattle.term_store.specs.ClauseView.{the_atom}
 use Rattle.term_store.specs.declared.clause.CellAtom.{CellAtom}
 use Rattle.term_store.specs.declared.system.Equation.{Equation}

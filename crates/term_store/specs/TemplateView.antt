@@ -1,5 +1,5 @@
 -- The template and the copied clause of the calculus.
-use Rattle.calculus.specs.Patterns as tree
+use Rattle.store_theory.specs.Patterns as tree
 use Rattle.term_store.specs.declared.clause.Template.{Template}
 use Rattle.term_store.specs.declared.clause.CopiedClause.{CopiedClause}
 

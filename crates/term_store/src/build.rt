@@ -2,8 +2,8 @@
 
 ghost use Rattle.std.specs.Prelude.{◌≡◌, ◌≤◌, ◌<◌, ◌+◌, ◌++◌, ◌∷◌, [], IfOk, IsTrue, OnErr, OnOk, length, map, replicate};
 ghost use Rattle.calculus.specs.declared.sort.Sort.TheVariants.{MarkSort};
-ghost use Rattle.calculus.specs.Bindings.{AddsBuilt, AddsOver, IsWellFormed, KeepsMarks, places_from, with_cell, with_variables_of};
-ghost use Rattle.calculus.specs.Stores.{Store, new_cell, parts_fit, string_cell};
+ghost use Rattle.store_theory.specs.Bindings.{AddsBuilt, AddsOver, IsWellFormed, KeepsMarks, places_from, with_cell, with_variables_of};
+ghost use Rattle.store_theory.specs.Stores.{Store, new_cell, parts_fit, string_cell};
 ghost use Rattle.term_store.specs.Built.{named_cell, named_content};
 ghost use Rattle.term_store.specs.RefView.{the_place};
 ghost use Rattle.term_store.specs.Room.{KeepsRoom};

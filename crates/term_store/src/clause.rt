@@ -83,7 +83,7 @@ pub struct CellAtomList {
 
 impl Model for CellAtomList {
     ghost use Rattle.std.specs.Prelude.{List, ℕ, map};
-    ghost use Rattle.calculus.specs.Systems as tree;
+    ghost use Rattle.store_theory.specs.Systems as tree;
 
     ghost Value = { List tree.CellAtom };
 
@@ -142,7 +142,7 @@ pub struct GammaList {
 
 impl Model for GammaList {
     ghost use Rattle.std.specs.Prelude.{List, ℕ, map};
-    ghost use Rattle.calculus.specs.Stores as tree;
+    ghost use Rattle.store_theory.specs.Stores as tree;
 
     ghost Value = { List tree.GammaCell };
 
@@ -203,12 +203,12 @@ pub struct PatternAtomList {
 
 impl Model for PatternAtomList {
     ghost use Rattle.std.specs.Prelude.{List, ℕ, map};
-    ghost use Rattle.calculus.specs.Patterns as tree;
+    ghost use Rattle.store_theory.specs.Patterns as tree;
 
     ghost Value = { List tree.PatternAtom };
 
     ghost use Rattle.std.specs.Coded.{codes};
-    ghost use Rattle.calculus.specs.Patterns.{pattern_code};
+    ghost use Rattle.store_theory.specs.Patterns.{pattern_code};
 
     ghost coded = { Prim.hlevel (codes, pattern_code) };
 
@@ -266,12 +266,12 @@ pub struct PatternGammaList {
 
 impl Model for PatternGammaList {
     ghost use Rattle.std.specs.Prelude.{List, ℕ, map};
-    ghost use Rattle.calculus.specs.Patterns as tree;
+    ghost use Rattle.store_theory.specs.Patterns as tree;
 
     ghost Value = { List tree.PatternGamma };
 
     ghost use Rattle.std.specs.Coded.{codes};
-    ghost use Rattle.calculus.specs.Patterns.{pattern_code};
+    ghost use Rattle.store_theory.specs.Patterns.{pattern_code};
 
     ghost coded = { Prim.hlevel (codes, pattern_code) };
 

@@ -3,9 +3,9 @@
 ghost use Rattle.std.specs.Prelude.{◌≡◌, ◌<◌, ◌+◌, ◌++◌, ℕ, List, Bool, IfOk, IsTrue, OnOk, Some, drop, length, map, nat_le, slice_get};
 ghost use Rattle.std.specs.List.{list_all};
 ghost use Rattle.calculus.specs.declared.sort.Sort.{Sort};
-ghost use Rattle.calculus.specs.Bindings.{AddsOver, NamesOver};
-ghost use Rattle.calculus.specs.Patterns.{AreCopies, IsCopy, p_var, patterns_tree};
-ghost use Rattle.calculus.specs.Stores.{has_sort_at};
+ghost use Rattle.store_theory.specs.Bindings.{AddsOver, NamesOver};
+ghost use Rattle.store_theory.specs.Patterns.{AreCopies, IsCopy, p_var, patterns_tree};
+ghost use Rattle.store_theory.specs.Stores.{has_sort_at};
 ghost use Rattle.term_store.specs.Copying.{named_pattern};
 ghost use Rattle.term_store.specs.Fitting.{fits_in, part_sort_at, parts_fit_in};
 ghost use Rattle.term_store.specs.PatternView.{the_pattern};

@@ -2,9 +2,9 @@
 
 ghost use Rattle.std.specs.Prelude.{◌≡◌, ◌<◌, ◌+◌, ◌++◌, ◌&&◌, IfOk, IsTrue, OnErr, OnOk, Some, length, map, slice_get};
 ghost use Rattle.std.specs.List.{list_all};
-ghost use Rattle.calculus.specs.Bindings.{AddsBuilt, AddsOver, KeepsMarks, NamesFrom, NamesOver, places_from, with_variables_of};
-ghost use Rattle.calculus.specs.Patterns.{Grows, HaveSortsAt, IsAtomCopy, IsClauseCopy, PatternAtom as TreeAtom, atom_fits, atom_is_from, clause_fits, clause_is_from, template_fits, without_literal};
-ghost use Rattle.calculus.specs.Systems.{is_cell_atom};
+ghost use Rattle.store_theory.specs.Bindings.{AddsBuilt, AddsOver, KeepsMarks, NamesFrom, NamesOver, places_from, with_variables_of};
+ghost use Rattle.store_theory.specs.Patterns.{Grows, HaveSortsAt, IsAtomCopy, IsClauseCopy, PatternAtom as TreeAtom, atom_fits, atom_is_from, clause_fits, clause_is_from, template_fits, without_literal};
+ghost use Rattle.store_theory.specs.Systems.{is_cell_atom};
 ghost use Rattle.term_store.specs.ClauseView.{the_atom, the_pattern_atom};
 ghost use Rattle.term_store.specs.Copying.{with_literals};
 ghost use Rattle.term_store.specs.RefView.{the_places};

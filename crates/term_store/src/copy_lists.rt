@@ -3,9 +3,9 @@
 ghost use Rattle.std.specs.Prelude.{◌≡◌, ◌+◌, ◌++◌, Bool, IfOk, IsTrue, OnOk, length, map, nat_le};
 ghost use Rattle.std.specs.List.{list_all};
 ghost use Rattle.calculus.specs.declared.sort.Sort.{Sort};
-ghost use Rattle.calculus.specs.Bindings.{AddsOver, NamesOver};
-ghost use Rattle.calculus.specs.Patterns.{AreCopies, AreGammaCopies, IsAtomCopy, IsGammaCopy, atom_is_from, gamma_is_from, patterns_tree};
-ghost use Rattle.calculus.specs.Systems.{is_cell_atom, is_gamma_cell};
+ghost use Rattle.store_theory.specs.Bindings.{AddsOver, NamesOver};
+ghost use Rattle.store_theory.specs.Patterns.{AreCopies, AreGammaCopies, IsAtomCopy, IsGammaCopy, atom_is_from, gamma_is_from, patterns_tree};
+ghost use Rattle.store_theory.specs.Systems.{is_cell_atom, is_gamma_cell};
 ghost use Rattle.term_store.specs.ClauseView.{the_atom, the_gamma, the_pattern_atom, the_pattern_gamma};
 ghost use Rattle.term_store.specs.Copying.{AtomsCopied};
 ghost use Rattle.term_store.specs.Fitting.{atom_fits_in, gamma_fits_in, part_sort_at, parts_fit_in};

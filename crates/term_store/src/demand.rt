@@ -1,11 +1,11 @@
 //! What a domain condition asks of gamma terms.
 
 ghost use Rattle.std.specs.Prelude.{◌≡◌, Bool, IfOk, IfSome, IsTrue, List, None, OnErr};
-ghost use Rattle.calculus.specs.Bindings.{AddsBuilt, KeepsMarks};
+ghost use Rattle.store_theory.specs.Bindings.{AddsBuilt, KeepsMarks};
 ghost use Rattle.calculus.specs.Instances as instances;
-ghost use Rattle.calculus.specs.Stores.{Solution, Solves};
-ghost use Rattle.calculus.specs.Systems.{HasBuiltStrings, HasNoOpenString, IsDemandEquation};
-ghost use Rattle.calculus.specs.Systems.{MeetsDemand, OwnSparesMeet, is_system};
+ghost use Rattle.store_theory.specs.Stores.{Solution, Solves};
+ghost use Rattle.store_theory.specs.Systems.{HasBuiltStrings, HasNoOpenString, IsDemandEquation};
+ghost use Rattle.store_theory.specs.Systems.{MeetsDemand, OwnSparesMeet, is_system};
 ghost use Rattle.std.specs.List.{AllByRecursion, list_all};
 ghost use Rattle.term_store.specs.Asking.{Asks};
 ghost use Rattle.term_store.specs.Homes.{BeginsLabel, is_home};

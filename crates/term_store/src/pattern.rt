@@ -26,8 +26,8 @@ pub struct Patterns {
 
 impl Model for Patterns {
     ghost use Rattle.std.specs.Prelude.{List, map};
-    ghost use Rattle.calculus.specs.Patterns as tree;
-    ghost use Rattle.calculus.specs.Patterns.{pattern_list_code, pattern_list_size};
+    ghost use Rattle.store_theory.specs.Patterns as tree;
+    ghost use Rattle.store_theory.specs.Patterns.{pattern_list_code, pattern_list_size};
 
     ghost Value = { List tree.Pattern };
 

@@ -1,7 +1,7 @@
 //! Changes of the list of cells.
 
 ghost use Rattle.std.specs.Prelude.{◌≡◌, ◌≤◌, ◌<◌, ◌+◌, [], IsTrue, length, map, take};
-ghost use Rattle.calculus.specs.Stores.{trail_fits};
+ghost use Rattle.store_theory.specs.Stores.{trail_fits};
 ghost use Rattle.term_store.specs.Slots.{bound_content, change_at, open_content, slots_bound_by};
 ghost use Rattle.term_store.specs.StoreView.{IsLaid, the_cell, the_store};
 

@@ -1,8 +1,8 @@
 //! The store.
 
 ghost use Rattle.std.specs.Prelude.{◌≡◌, ◌≤◌, ◌<◌, ◌+◌, ◌++◌, ◌∷◌, [], false, IsOkAnd, MatchOption, OnOk, length, slice_get, ℕ};
-ghost use Rattle.calculus.specs.Bindings.{EndsIn, IsEnd, IsWellFormed, KeepsEarlier, KeepsMarks, MayBind, with_binding, with_cell};
-ghost use Rattle.calculus.specs.Stores.{Cell, EndsAt, HasNoCycle, IsGood, Store as TreeStore, cut_at, is_bound, parts_of, variable};
+ghost use Rattle.store_theory.specs.Bindings.{EndsIn, IsEnd, IsWellFormed, KeepsEarlier, KeepsMarks, MayBind, with_binding, with_cell};
+ghost use Rattle.store_theory.specs.Stores.{Cell, EndsAt, HasNoCycle, IsGood, Store as TreeStore, cut_at, is_bound, parts_of, variable};
 ghost use Rattle.term_store.specs.Room.{KeepsRoom, spare};
 ghost use Rattle.term_store.specs.Shown.{Shows, head_of};
 ghost use Rattle.term_store.specs.StoreView.{the_mark};

@@ -23,7 +23,7 @@ pub struct EquationList {
 
 impl Model for EquationList {
     ghost use Rattle.std.specs.Prelude.{List, map};
-    ghost use Rattle.calculus.specs.Systems as tree;
+    ghost use Rattle.store_theory.specs.Systems as tree;
 
     ghost Value = { List tree.Equation };
 
@@ -67,7 +67,7 @@ pub struct PairList {
 
 impl Model for PairList {
     ghost use Rattle.std.specs.Prelude.{List, map};
-    ghost use Rattle.calculus.specs.Systems as tree;
+    ghost use Rattle.store_theory.specs.Systems as tree;
 
     ghost Value = { List tree.Pair };
 

@@ -4,12 +4,12 @@ use Rattle.std.specs.List.{list_all}
 use Rattle.std.proofs.lemmas.Bool.{false≢true}
 use Rattle.calculus.specs.declared.sort.Sort.{Sort}
 use Rattle.calculus.specs.declared.sort.Sort.TheVariants.{TermSort, MarkSort, StringSort}
-use Rattle.calculus.specs.Bindings.{EndsIn, IsEnd}
-use Rattle.calculus.specs.Patterns.{Grows}
-use Rattle.calculus.specs.Stores.{Cell, Store, fun_cell, eigen_cell, new_cell, string_cell, variable, parts_of, is_bound, sort_of, has_sort_at, is_store, OccursIn, here, in_part, EndsAt, stays, goes_on, Solution, Solves, join_label, label_at}
-use Rattle.calculus.specs.Systems.{has_label_sort_at, is_label, IsOpenString}
-use Rattle.calculus.proofs.BindingLaws.{has_sort-from, kept, parts-within, sorted_cell}
-use Rattle.calculus.proofs.PatternLaws.{grown-cell}
+use Rattle.store_theory.specs.Bindings.{EndsIn, IsEnd}
+use Rattle.store_theory.specs.Patterns.{Grows}
+use Rattle.store_theory.specs.Stores.{Cell, Store, fun_cell, eigen_cell, new_cell, string_cell, variable, parts_of, is_bound, sort_of, has_sort_at, is_store, OccursIn, here, in_part, EndsAt, stays, goes_on, Solution, Solves, join_label, label_at}
+use Rattle.store_theory.specs.Systems.{has_label_sort_at, is_label, IsOpenString}
+use Rattle.store_theory.proofs.BindingLaws.{has_sort-from, kept, parts-within, sorted_cell}
+use Rattle.store_theory.proofs.PatternLaws.{grown-cell}
 use Rattle.calculus.proofs.PlaceLists.{all-at, get-there}
 use Rattle.term_store.specs.RefView.{the_place}
 use Rattle.term_store.specs.Shown.{head_of}

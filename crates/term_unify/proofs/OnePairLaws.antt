@@ -2,10 +2,10 @@
 use Rattle.std.proofs.Common.{◌⊎◌, ◌≡◌, ◌<◌, ◌∷◌, [], None, Some, length, ℕ, List, refl, sym, ◌∙◌, subst, inl, inr}
 use Rattle.std.specs.Prelude.{slice_get}
 use Rattle.calculus.specs.declared.sort.Sort.{Sort}
-use Rattle.calculus.specs.Stores.{variable, Store, OccursIn, here, EndsAt, stays, Solution, Solves}
-use Rattle.calculus.specs.Bindings.{IsWellFormed, SolvesPairs, with_binding, BindsOnly, BindsWithin, Unifies, AreApart}
+use Rattle.store_theory.specs.Stores.{variable, Store, OccursIn, here, EndsAt, stays, Solution, Solves}
+use Rattle.store_theory.specs.Bindings.{IsWellFormed, SolvesPairs, with_binding, BindsOnly, BindsWithin, Unifies, AreApart}
 use Rattle.calculus.proofs.PlaceLists.{get-within}
-use Rattle.calculus.proofs.SolutionLaws.{occurs-apart, some_solution}
+use Rattle.store_theory.proofs.SolutionLaws.{occurs-apart, some_solution}
 use Rattle.term_store.specs.declared.cell.Ref.{Ref}
 use Rattle.term_unify.specs.declared.compare.Step.TheVariants as step
 use Rattle.term_unify.specs.Steps.{AreBuilt, AddsParts, AreDifferent, BindsInPairs, DiffersBy, IsBinding, IsStep, OccursBefore, OccursInPairs, SolvesAll}

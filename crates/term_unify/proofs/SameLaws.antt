@@ -8,15 +8,15 @@ use Rattle.calculus.specs.declared.sign.Sign.{Sign}
 use Rattle.calculus.specs.declared.sign.Sign.TheVariants.{T, F}
 use Rattle.calculus.specs.declared.sort.Sort.{Sort}
 use Rattle.calculus.specs.declared.sort.Sort.TheVariants.{TermSort, MarkSort, StringSort}
-use Rattle.calculus.specs.Bindings.{IsEnd, IsWellFormed}
+use Rattle.store_theory.specs.Bindings.{IsEnd, IsWellFormed}
 use Rattle.calculus.specs.Equality.{sign_eq}
 use Rattle.calculus.specs.Ground.{GroundLiteral, GroundMark, GroundTerms, g_fun, g_eigen, common, g_new_mark, g_spare_mark, no_g_terms, more_g_terms}
-use Rattle.calculus.specs.Stores.{Cell, variable, fun_cell, eigen_cell, new_cell, string_cell, Store, sort_of, has_sort_at, is_bound, names_below, CellValue, a_term, a_mark, a_string, has_sort, Solution, Solves, CellHolds, cons_mark, marks_at}
-use Rattle.calculus.specs.Systems.{CellAtom, Pair, is_cell_atom, is_label, is_pair}
-use Rattle.calculus.specs.Templates.{as_term}
-use Rattle.calculus.proofs.BindingLaws.{sorted_cell}
+use Rattle.store_theory.specs.Stores.{Cell, variable, fun_cell, eigen_cell, new_cell, string_cell, Store, sort_of, has_sort_at, is_bound, names_below, CellValue, a_term, a_mark, a_string, has_sort, Solution, Solves, CellHolds, cons_mark, marks_at}
+use Rattle.store_theory.specs.Systems.{CellAtom, Pair, is_cell_atom, is_label, is_pair}
+use Rattle.store_theory.specs.Templates.{as_term}
+use Rattle.store_theory.proofs.BindingLaws.{sorted_cell}
 use Rattle.calculus.proofs.PlaceLists.{all-at}
-use Rattle.calculus.proofs.SolutionLaws.{FitsOpen, solution_by, some_solution}
+use Rattle.store_theory.proofs.SolutionLaws.{FitsOpen, solution_by, some_solution}
 use Rattle.term_store.specs.RefView.{the_place}
 use Rattle.term_store.specs.declared.cell.Ref.{Ref}
 use Rattle.term_unify.specs.Steps.{AreDifferent, DiffersBy, IsBinding}

@@ -3,10 +3,10 @@ use Rattle.std.proofs.Common.{inl, inr, ◌≡◌, ◌==◌, ◌&&◌, None, Som
 use Rattle.std.specs.Prelude.{slice_get}
 use Rattle.std.proofs.lemmas.Bool.{false≢true, and_parts}
 use Rattle.calculus.specs.Equality.{sort_eq}
-use Rattle.calculus.specs.Stores.{Cell, variable, fun_cell, eigen_cell, new_cell, string_cell, Store, parts_of, sort_of, is_bound, EndsAt, stays, Solution, Solves}
-use Rattle.calculus.specs.Bindings.{EndsIn, are_alike, is_variable}
-use Rattle.calculus.proofs.BindingLaws.{ends-once, ends-there, sort_eq-same, sort_eq-true, has_sort-from}
-use Rattle.calculus.proofs.SolutionLaws.{ends-same, sorts-apart, equal-alike}
+use Rattle.store_theory.specs.Stores.{Cell, variable, fun_cell, eigen_cell, new_cell, string_cell, Store, parts_of, sort_of, is_bound, EndsAt, stays, Solution, Solves}
+use Rattle.store_theory.specs.Bindings.{EndsIn, are_alike, is_variable}
+use Rattle.store_theory.proofs.BindingLaws.{ends-once, ends-there, sort_eq-same, sort_eq-true, has_sort-from}
+use Rattle.store_theory.proofs.SolutionLaws.{ends-same, sorts-apart, equal-alike}
 use Rattle.term_store.specs.declared.cell.Head.{Head}
 use Rattle.term_store.specs.Shown.{head_of}
 use Rattle.term_unify.specs.Steps.{head_sort, is_open_head, same_name, IsBinding, AreBuilt, AreEnds}

@@ -2,11 +2,11 @@
 use Rattle.std.proofs.Common.{◌⊎◌, ◌≡◌, ◌≤◌, ◌<◌, ◌+◌, ◌++◌, ◌∷◌, [], Some, length, ℕ, zero, suc, List, true, false, refl, sym, ap, ◌∙◌, subst, arith, inl, inr}
 use Rattle.std.specs.Prelude.{slice_get}
 use Rattle.std.proofs.lemmas.Bool.{false≢true}
-use Rattle.calculus.specs.Stores.{Cell, Store, parts_of, OccursIn, here, in_part, EndsAt, Solution, Solves}
-use Rattle.calculus.specs.Bindings.{IsEnd, IsWellFormed, SolvesPairs, part_pairs}
+use Rattle.store_theory.specs.Stores.{Cell, Store, parts_of, OccursIn, here, in_part, EndsAt, Solution, Solves}
+use Rattle.store_theory.specs.Bindings.{IsEnd, IsWellFormed, SolvesPairs, part_pairs}
 use Rattle.calculus.proofs.PlaceLists.{get-front, get-last}
-use Rattle.calculus.proofs.SolutionLaws.{ends-same, alike-parts}
-use Rattle.calculus.proofs.WeightLaws.{weight, weight_sum, weight_sum-more, weight_sum-append, weight-parts, weight-positive}
+use Rattle.store_theory.proofs.SolutionLaws.{ends-same, alike-parts}
+use Rattle.store_theory.proofs.WeightLaws.{weight, weight_sum, weight_sum-more, weight_sum-append, weight-parts, weight-positive}
 use Rattle.term_unify.specs.Steps.{AreBuilt, AddsParts, AreAllCells, OccursAmong}
 use Rattle.term_unify.specs.Visits.{was_seen}
 use Rattle.term_unify.proofs.PairLaws.{ComesTo, among-back, among-front, among-from, among-split, cells-join, cells-split, comes-join, comes-occurs, comes-parts, comes-rest, comes-same, comes-split, occurs-end, parts-cells, weight-ends}

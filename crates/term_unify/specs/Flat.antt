@@ -1,8 +1,8 @@
 -- Labels as lists of marks.
 use Rattle.std.specs.Prelude.{◌≡◌, ◌⊎◌, ℕ, List, [], ◌∷◌, Some, slice_get, IsTrue}
 use Rattle.calculus.specs.declared.sort.Sort.TheVariants.{MarkSort}
-use Rattle.calculus.specs.Stores.{Store, string_cell, has_sort_at, OccursIn, EndsAt}
-use Rattle.calculus.specs.Systems.{IsOpenString}
+use Rattle.store_theory.specs.Stores.{Store, string_cell, has_sort_at, OccursIn, EndsAt}
+use Rattle.store_theory.specs.Systems.{IsOpenString}
 
 abbrev pub IsStringOf : Store → ℕ → List ℕ → Type 0
 IsStringOf s v ks = slice_get s.cells v ≡ Some (string_cell ks)

@@ -1,6 +1,6 @@
 -- Cells and labels that the bindings make the same.
 use Rattle.std.specs.Prelude.{◌≡◌, ◌⊎◌, ℕ, List, length, map, Some, slice_get}
-use Rattle.calculus.specs.Stores.{Store, Solution, Solves}
+use Rattle.store_theory.specs.Stores.{Store, Solution, Solves}
 use Rattle.search_theory.specs.States.{label_by}
 use Rattle.term_unify.specs.Steps.{AreDifferent}
 

@@ -2,8 +2,8 @@
 use Rattle.std.specs.Prelude.{◌≡◌, ◌⊎◌, ◌<◌, ◌++◌, ◌==◌, ℕ, List, [], ◌∷◌, length, Bool, true, false, None, Some, slice_get, IsTrue}
 use Rattle.calculus.specs.declared.sort.Sort.{Sort}
 use Rattle.calculus.specs.declared.sort.Sort.TheVariants.{TermSort, MarkSort, StringSort}
-use Rattle.calculus.specs.Stores.{Cell, variable, Store, parts_of, has_sort_at, OccursIn, EndsAt, Solution, Solves}
-use Rattle.calculus.specs.Bindings.{IsEnd, SolvesPairs, part_pairs, are_alike}
+use Rattle.store_theory.specs.Stores.{Cell, variable, Store, parts_of, has_sort_at, OccursIn, EndsAt, Solution, Solves}
+use Rattle.store_theory.specs.Bindings.{IsEnd, SolvesPairs, part_pairs, are_alike}
 use Rattle.term_store.specs.declared.cell.Head.{Head}
 use Rattle.term_store.specs.declared.cell.Head.TheVariants.{Open, Fun, Eigen, New, Marks}
 use Rattle.term_unify.specs.declared.compare.Step.{Step}

@@ -1,8 +1,8 @@
 //! The occurs check.
 
 ghost use Rattle.std.specs.Prelude.{◌≡◌, IfOk, false, map, true};
-ghost use Rattle.calculus.specs.Bindings.{IsEnd, IsWellFormed};
-ghost use Rattle.calculus.specs.Stores.{OccursIn};
+ghost use Rattle.store_theory.specs.Bindings.{IsEnd, IsWellFormed};
+ghost use Rattle.store_theory.specs.Stores.{OccursIn};
 ghost use Rattle.term_store.specs.RefView.{the_place};
 ghost use Rattle.term_unify.specs.Steps.{AddsInner};
 

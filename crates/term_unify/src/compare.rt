@@ -1,7 +1,7 @@
 //! What one pair of cells comes to.
 
 ghost use Rattle.std.specs.Prelude.{◌≡◌, ◌<◌, OnOk, length, map};
-ghost use Rattle.calculus.specs.Bindings.{IsWellFormed};
+ghost use Rattle.store_theory.specs.Bindings.{IsWellFormed};
 ghost use Rattle.calculus.specs.Equality.{sort_eq};
 ghost use Rattle.term_unify.specs.Steps.{AddsParts, AreBuilt, IsStep, head_sort, is_open_head, same_name};
 ghost use Rattle.term_unify.specs.PairView.{the_pair};

@@ -3,9 +3,9 @@
 ghost use Rattle.std.specs.Prelude.{◌≡◌, ◌<◌, ◌++◌, ℕ, List, IfOk, IsTrue, OnOk, Some, false};
 ghost use Rattle.std.specs.Prelude.{length, map, slice_get, true};
 ghost use Rattle.calculus.specs.declared.sort.Sort.TheVariants.{MarkSort};
-ghost use Rattle.calculus.specs.Bindings.{IsEnd};
-ghost use Rattle.calculus.specs.Stores.{has_sort_at};
-ghost use Rattle.calculus.specs.Systems.{has_label_sort_at, is_label};
+ghost use Rattle.store_theory.specs.Bindings.{IsEnd};
+ghost use Rattle.store_theory.specs.Stores.{has_sort_at};
+ghost use Rattle.store_theory.specs.Systems.{has_label_sort_at, is_label};
 ghost use Rattle.search_theory.proofs.GivingLaws.{IsFlat};
 ghost use Rattle.term_store.specs.RefView.{the_place};
 ghost use Rattle.term_unify.specs.Flat.{HasNoString, HasNoStringIn, IsBuiltEnd, IsFlatItem, IsStringOf};

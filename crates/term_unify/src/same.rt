@@ -1,8 +1,8 @@
 //! Cells and labels that the bindings make the same.
 
 ghost use Rattle.std.specs.Prelude.{◌≡◌, IfOk, IsTrue, false, length, map, true};
-ghost use Rattle.calculus.specs.Stores.{names_below};
-ghost use Rattle.calculus.specs.Systems.{is_label};
+ghost use Rattle.store_theory.specs.Stores.{names_below};
+ghost use Rattle.store_theory.specs.Systems.{is_label};
 ghost use Rattle.term_store.specs.RefView.{the_place};
 ghost use Rattle.term_unify.specs.Flat.{HasNoString};
 ghost use Rattle.term_unify.specs.Same.{AreSameCells, AreSameLabels, DifferAt};

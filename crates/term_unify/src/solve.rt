@@ -1,8 +1,8 @@
 //! Unification.
 
 ghost use Rattle.std.specs.Prelude.{◌≡◌, ◌<◌, ◌≤◌, IfOk, OnErr, OnOk, false, length, map, true};
-ghost use Rattle.calculus.specs.Bindings.{AreApart, BindsOnly, BindsWithin, IsWellFormed, KeepsMarks, SolvesPairs, Unifies};
-ghost use Rattle.calculus.specs.Stores.{Solution, Solves};
+ghost use Rattle.store_theory.specs.Bindings.{AreApart, BindsOnly, BindsWithin, IsWellFormed, KeepsMarks, SolvesPairs, Unifies};
+ghost use Rattle.store_theory.specs.Stores.{Solution, Solves};
 ghost use Rattle.term_store.specs.Room.{KeepsRoom};
 ghost use Rattle.term_unify.specs.PairView.{the_pair};
 ghost use Rattle.term_unify.specs.Steps.{AreBuilt, AreCells, AreDifferent};

@@ -1,5 +1,5 @@
 use Rattle.std.proofs.Common.{◌∙◌, ap, subst, sym}
-use Rattle.calculus.specs.Numbering.{name_lines_of, number_of}
+use Rattle.conversion_theory.specs.Numbering.{name_lines_of, number_of}
 use Rattle.calculus.specs.Syntax.{Problem}
 use Rattle.sequent_calc.specs.DerivationView.{the_derivation, the_names}
 use Rattle.sequent_convert.specs.Atoms.{atoms_of}

@@ -1,5 +1,5 @@
 use Rattle.std.proofs.Common.{◌∙◌, ap, subst, sym}
-use Rattle.calculus.specs.Bindings.{MayBind, with_binding}
+use Rattle.store_theory.specs.Bindings.{MayBind, with_binding}
 use Rattle.connection_search.proofs.NewBindingLaws.{may-new, newly-bound}
 use Rattle.connection_search.proofs.pair.bind_new.Goals as goal
 

@@ -1,5 +1,5 @@
 use Rattle.std.proofs.Common.{IsTrue, length, subst, sym}
-use Rattle.calculus.specs.Stores.{names_below}
+use Rattle.store_theory.specs.Stores.{names_below}
 use Rattle.term_store.specs.ClauseView.{the_atom}
 use Rattle.connection_search.proofs.ReadingLaws.{atom-parts}
 use Rattle.connection_search.proofs.reading.literal_of.Goals as goal

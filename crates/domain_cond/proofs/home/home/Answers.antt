@@ -1,8 +1,8 @@
 use Rattle.std.proofs.Common.{rules, ◌≡◌, ◌∙◌, None, ap, arith, map, subst, sym}
-use Rattle.calculus.specs.Bindings.{nothing_more}
+use Rattle.store_theory.specs.Bindings.{nothing_more}
 use Rattle.calculus.specs.Positions.{size}
 use Rattle.calculus.specs.Syntax.{Setting}
-use Rattle.calculus.proofs.PatternLaws.{AddsBuilt-both}
+use Rattle.store_theory.proofs.PatternLaws.{AddsBuilt-both}
 use Rattle.formula_core.specs.FormulaView.{the_formula}
 use Rattle.tableau_core.specs.InsideView.{the_inside}
 use Rattle.term_store.specs.RefView.{the_place}

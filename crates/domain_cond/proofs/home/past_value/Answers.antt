@@ -1,7 +1,7 @@
 use Rattle.std.proofs.Common.{◌∙◌, IsTrue, arith, inl, inr, map, subst, sym}
 use Rattle.std.proofs.lemmas.List.{length-map}
-use Rattle.calculus.specs.Stores.{has_sort_at}
-use Rattle.calculus.proofs.BindingLaws.{sort_eq-true}
+use Rattle.store_theory.specs.Stores.{has_sort_at}
+use Rattle.store_theory.proofs.BindingLaws.{sort_eq-true}
 use Rattle.term_store.specs.RefView.{the_place}
 use Rattle.domain_cond.proofs.WayLaws.{get-none, sort-other, value-below}
 use Rattle.domain_cond.proofs.home.past_value.Goals as goal

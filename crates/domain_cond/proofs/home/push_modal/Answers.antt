@@ -1,9 +1,9 @@
 use Rattle.std.proofs.Common.{◌∙◌, IsTrue, ap, arith, map, subst, sym, ℕ}
 use Rattle.std.proofs.lemmas.List.{length-map, take-map}
 use Rattle.calculus.specs.declared.kind.ModalPart.TheVariants.{Pi}
-use Rattle.calculus.specs.Bindings.{with_cell, nothing_more}
+use Rattle.store_theory.specs.Bindings.{with_cell, nothing_more}
 use Rattle.calculus.specs.Labels.{pi_label}
-use Rattle.calculus.specs.Stores.{new_cell, parts_fit}
+use Rattle.store_theory.specs.Stores.{new_cell, parts_fit}
 use Rattle.term_store.specs.RefView.{the_place}
 use Rattle.domain_cond.specs.Ways.{IsPushed, TakesString}
 use Rattle.domain_cond.proofs.WayLaws.{pushed-mark, pushed-nothing, pushed-string, taken-fits, takes-within}

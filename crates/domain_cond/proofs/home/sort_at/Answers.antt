@@ -1,5 +1,5 @@
 use Rattle.std.proofs.Common.{IsTrue, subst}
-use Rattle.calculus.specs.Stores.{has_sort_at}
+use Rattle.store_theory.specs.Stores.{has_sort_at}
 use Rattle.term_unify.specs.Steps.{head_sort}
 use Rattle.domain_cond.proofs.WayLaws.{head-sorted}
 use Rattle.domain_cond.proofs.home.sort_at.Goals as goal

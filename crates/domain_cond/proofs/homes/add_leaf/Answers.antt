@@ -1,5 +1,5 @@
 use Rattle.std.proofs.Common.{map}
-use Rattle.calculus.specs.Bindings.{nothing_more}
+use Rattle.store_theory.specs.Bindings.{nothing_more}
 use Rattle.term_store.specs.RefView.{the_place}
 use Rattle.domain_cond.specs.Conditions.{HomeAllows}
 use Rattle.domain_cond.proofs.HomeListLaws.{none-added}

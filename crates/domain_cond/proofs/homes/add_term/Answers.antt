@@ -1,7 +1,7 @@
 use Rattle.std.proofs.Common.{◌≡◌, ◌∙◌, IsTrue, Some, ap, arith, map, slice_get, subst, sym}
-use Rattle.calculus.specs.Bindings.{nothing_more}
-use Rattle.calculus.specs.Systems.{is_label}
-use Rattle.calculus.proofs.PatternLaws.{AddsBuilt-both}
+use Rattle.store_theory.specs.Bindings.{nothing_more}
+use Rattle.store_theory.specs.Systems.{is_label}
+use Rattle.store_theory.proofs.PatternLaws.{AddsBuilt-both}
 use Rattle.search_theory.proofs.DemandLaws.{HomesAllow}
 use Rattle.term_store.specs.ClauseView.{the_gamma}
 use Rattle.term_store.specs.RefView.{the_place}

@@ -1,4 +1,4 @@
-use Rattle.calculus.specs.Bindings.{AddsBuilt}
+use Rattle.store_theory.specs.Bindings.{AddsBuilt}
 use Rattle.search_theory.proofs.DemandLaws.{HomesAllow}
 use Rattle.term_store.specs.ClauseView.{the_gamma}
 use Rattle.term_store.specs.Room.{KeepsRoom}

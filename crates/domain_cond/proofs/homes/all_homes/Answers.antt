@@ -1,7 +1,7 @@
 use Rattle.std.proofs.Common.{◌≡◌, ◌∙◌, Some, ap, arith, refl, slice_get, subst, sym, []}
-use Rattle.calculus.specs.Bindings.{nothing_more}
-use Rattle.calculus.specs.Systems.{AllAllowed, MeetsDemand}
-use Rattle.calculus.proofs.PatternLaws.{AddsBuilt-both}
+use Rattle.store_theory.specs.Bindings.{nothing_more}
+use Rattle.store_theory.specs.Systems.{AllAllowed, MeetsDemand}
+use Rattle.store_theory.proofs.PatternLaws.{AddsBuilt-both}
 use Rattle.term_store.specs.ClauseView.{the_gamma}
 use Rattle.term_store.specs.SystemView.{the_system}
 use Rattle.domain_cond.specs.Conditions.{AddsHomes}

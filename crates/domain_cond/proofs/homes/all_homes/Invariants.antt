@@ -1,6 +1,6 @@
 use Rattle.std.proofs.Common.{[]}
-use Rattle.calculus.specs.Bindings.{AddsBuilt}
-use Rattle.calculus.specs.Systems.{AllAllowed, MeetsDemand}
+use Rattle.store_theory.specs.Bindings.{AddsBuilt}
+use Rattle.store_theory.specs.Systems.{AllAllowed, MeetsDemand}
 use Rattle.term_store.specs.Room.{KeepsRoom}
 use Rattle.term_store.specs.SystemView.{the_system}
 use Rattle.domain_cond.specs.Conditions.{AddsHomes}

@@ -1,5 +1,5 @@
 use Rattle.std.proofs.Common.{map}
-use Rattle.calculus.proofs.WeightLaws.{weight_sum}
+use Rattle.store_theory.proofs.WeightLaws.{weight_sum}
 use Rattle.term_store.specs.RefView.{the_place}
 use Rattle.domain_cond.proofs.LeafLaws.{IsLooking}
 use Rattle.domain_cond.proofs.leaves.leaves.Given as goal

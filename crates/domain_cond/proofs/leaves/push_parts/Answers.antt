@@ -1,5 +1,5 @@
 use Rattle.std.proofs.Common.{◌≡◌, ◌++◌, ◌∙◌, ap, arith, map, take}
-use Rattle.calculus.specs.Stores.{parts_of}
+use Rattle.store_theory.specs.Stores.{parts_of}
 use Rattle.term_store.specs.RefView.{the_place}
 use Rattle.term_unify.proofs.FlatLaws.{all-added}
 use Rattle.term_unify.proofs.PairLaws.{all-done}

@@ -1,6 +1,6 @@
 use Rattle.std.proofs.Common.{◌≡◌, ◌++◌, Some, map, take}
 use Rattle.std.specs.Prelude.{slice_get}
-use Rattle.calculus.specs.Stores.{Cell, parts_of}
+use Rattle.store_theory.specs.Stores.{Cell, parts_of}
 use Rattle.term_store.specs.RefView.{the_place}
 use Rattle.domain_cond.proofs.leaves.push_parts.Given as goal
 

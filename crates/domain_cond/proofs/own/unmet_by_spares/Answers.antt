@@ -1,5 +1,5 @@
 use Rattle.std.proofs.Common.{◌∙◌, IfSome, ap, map, slice_get, subst, sym}
-use Rattle.calculus.specs.Bindings.{nothing_more}
+use Rattle.store_theory.specs.Bindings.{nothing_more}
 use Rattle.search_theory.proofs.OwnHomes.{homes-cells}
 use Rattle.term_store.specs.ClauseView.{the_gamma}
 use Rattle.term_store.specs.SystemView.{the_equation, the_system}

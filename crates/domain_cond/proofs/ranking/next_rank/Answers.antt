@@ -1,6 +1,6 @@
 use Rattle.std.proofs.Common.{◌≡◌, ◌++◌, ◌∙◌, ap, map}
-use Rattle.calculus.specs.Stores.{parts_of}
-use Rattle.calculus.proofs.BindingLaws.{ends-there}
+use Rattle.store_theory.specs.Stores.{parts_of}
+use Rattle.store_theory.proofs.BindingLaws.{ends-there}
 use Rattle.term_store.specs.RefView.{the_place}
 use Rattle.domain_cond.specs.Ranks.{rank_at}
 use Rattle.domain_cond.specs.StandingView.{the_standing}

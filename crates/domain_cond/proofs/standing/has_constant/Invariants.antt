@@ -1,5 +1,5 @@
 use Rattle.std.proofs.Common.{◌≡◌, ℕ, [], Some, map, slice_get}
-use Rattle.calculus.specs.Stores.{fun_cell}
+use Rattle.store_theory.specs.Stores.{fun_cell}
 use Rattle.term_store.specs.RefView.{the_place}
 use Rattle.domain_cond.proofs.FirstLaws.{AllTo}
 use Rattle.domain_cond.proofs.standing.has_constant.Given as goal

@@ -1,6 +1,6 @@
 use Rattle.std.proofs.Common.{◌≡◌, ◌∙◌, ap₂, arith, map, subst, sym}
 use Rattle.std.proofs.lemmas.List.{length-map}
-use Rattle.calculus.specs.Systems.{is_gamma_cell}
+use Rattle.store_theory.specs.Systems.{is_gamma_cell}
 use Rattle.calculus.proofs.PlaceLists.{all-at}
 use Rattle.search_theory.specs.Demanding.{equation}
 use Rattle.term_store.specs.ClauseView.{the_gamma}

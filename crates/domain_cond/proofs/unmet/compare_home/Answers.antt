@@ -1,6 +1,6 @@
 use Rattle.std.proofs.Common.{◌≡◌, ◌∙◌, IsTrue, ap, ap₂, map, subst, sym}
 use Rattle.calculus.specs.Syntax.{Setting}
-use Rattle.calculus.specs.Systems.{is_label}
+use Rattle.store_theory.specs.Systems.{is_label}
 use Rattle.search_theory.specs.Demanding.{equation}
 use Rattle.term_store.specs.RefView.{the_place}
 use Rattle.term_unify.specs.Flat.{HasNoString}

@@ -1,7 +1,7 @@
 use Rattle.std.proofs.Common.{◌≡◌, ◌∙◌, ◌++◌, IsTrue, ap, map, subst, sym}
 use Rattle.std.specs.List.{list_all}
-use Rattle.calculus.specs.Bindings.{nothing_more}
-use Rattle.calculus.specs.Stores.{eigen_cell, has_value_sort_at}
+use Rattle.store_theory.specs.Bindings.{nothing_more}
+use Rattle.store_theory.specs.Stores.{eigen_cell, has_value_sort_at}
 use Rattle.term_store.specs.RefView.{the_place}
 use Rattle.domain_cond.proofs.ConditionLaws.{eigen-end, eigen-values, eigen-within, found-eigen}
 use Rattle.domain_cond.proofs.LeafLaws.{eigen-head}

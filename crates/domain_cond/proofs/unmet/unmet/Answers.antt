@@ -1,8 +1,8 @@
 use Rattle.std.proofs.Common.{rules, ◌≡◌, ◌∙◌, IfSome, IsTrue, None, Some, ap, arith, length, refl, slice_get, subst, sym}
 use Rattle.std.proofs.lemmas.List.{length-map}
-use Rattle.calculus.specs.Bindings.{AddsBuilt}
-use Rattle.calculus.specs.Stores.{Solution, Solves}
-use Rattle.calculus.specs.Systems.{is_gamma_cell}
+use Rattle.store_theory.specs.Bindings.{AddsBuilt}
+use Rattle.store_theory.specs.Stores.{Solution, Solves}
+use Rattle.store_theory.specs.Systems.{is_gamma_cell}
 use Rattle.term_store.specs.ClauseView.{the_gamma}
 use Rattle.search_theory.proofs.DemandLaws.{HomesAllow}
 use Rattle.term_store.specs.SystemView.{the_equation, the_system}

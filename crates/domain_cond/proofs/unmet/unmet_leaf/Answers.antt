@@ -1,5 +1,5 @@
 use Rattle.std.proofs.Common.{◌∙◌, map}
-use Rattle.calculus.specs.Bindings.{nothing_more}
+use Rattle.store_theory.specs.Bindings.{nothing_more}
 use Rattle.term_store.specs.RefView.{the_place}
 use Rattle.term_store.specs.StoreView.{the_mark}
 use Rattle.domain_cond.proofs.ConditionLaws.{added-undone, allow-other, met-before, same-added}

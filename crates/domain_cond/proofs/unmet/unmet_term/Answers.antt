@@ -1,8 +1,8 @@
 use Rattle.std.proofs.Common.{rules, ◌≡◌, ◌∙◌, IfSome, IsTrue, None, Some, ap, arith, map, refl, slice_get, subst, sym}
 use Rattle.std.proofs.lemmas.List.{length-map}
-use Rattle.calculus.specs.Bindings.{nothing_more}
-use Rattle.calculus.specs.Stores.{Solution, Solves}
-use Rattle.calculus.specs.Systems.{is_label}
+use Rattle.store_theory.specs.Bindings.{nothing_more}
+use Rattle.store_theory.specs.Stores.{Solution, Solves}
+use Rattle.store_theory.specs.Systems.{is_label}
 use Rattle.term_store.specs.ClauseView.{the_gamma}
 use Rattle.term_store.specs.RefView.{the_place}
 use Rattle.term_unify.specs.Flat.{HasNoString, HasNoStringIn}

@@ -1,6 +1,6 @@
 use Rattle.std.proofs.Common.{◌≡◌, ◌∙◌, false, subst, sym, true}
 use Rattle.calculus.specs.Skolem.{common_spares}
-use Rattle.calculus.specs.Systems.{AllAllowed, OwnSparesMeet}
+use Rattle.store_theory.specs.Systems.{AllAllowed, OwnSparesMeet}
 use Rattle.term_store.specs.SystemView.{the_system}
 use Rattle.domain_cond.specs.Standings.{HasOwnSpares}
 use Rattle.domain_cond.proofs.ConditionLaws.{met-homes_allow}

@@ -2,7 +2,7 @@ use Rattle.std.proofs.Common.{◌≡◌, map, drop}
 use Rattle.std.specs.List.{list_all}
 use Rattle.calculus.specs.declared.sign.Sign.TheVariants.{F}
 use Rattle.calculus.specs.Equality.{sign_eq}
-use Rattle.calculus.specs.Patterns.{PatternAtom}
+use Rattle.store_theory.specs.Patterns.{PatternAtom}
 use Rattle.search_theory.specs.Matrix.{all_shown}
 use Rattle.term_store.specs.ClauseView.{the_pattern_atom}
 use Rattle.term_store.specs.TemplateView.{the_template}

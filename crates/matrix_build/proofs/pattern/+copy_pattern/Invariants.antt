@@ -1,5 +1,5 @@
 use Rattle.std.proofs.Common.{◌≡◌, map, take}
-use Rattle.calculus.specs.Patterns.{pattern_list_size, pattern_size}
+use Rattle.store_theory.specs.Patterns.{pattern_list_size, pattern_size}
 use Rattle.term_store.specs.PatternView.{the_pattern}
 use Rattle.matrix_build.proofs.pattern.+copy_pattern.Given as goal
 

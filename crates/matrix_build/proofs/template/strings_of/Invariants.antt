@@ -1,5 +1,5 @@
 use Rattle.std.proofs.Common.{◌≡◌, ◌++◌, drop}
-use Rattle.calculus.specs.Templates.{strings_from}
+use Rattle.store_theory.specs.Templates.{strings_from}
 use Rattle.matrix_build.proofs.template.strings_of.Given as goal
 
 abbrev pub invariant-loop-sort : goal.invariant-loop-sort

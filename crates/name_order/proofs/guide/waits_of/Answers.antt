@@ -2,7 +2,7 @@ use Rattle.std.proofs.Common.{◌≡◌, ℕ, ◌-◌, List, [], length, map, ta
 use Rattle.std.specs.List.{drop-map}
 use Rattle.std.proofs.lemmas.List.{length-drop, take_all}
 use Rattle.calculus.specs.Instances.{Turn}
-use Rattle.calculus.specs.Numbering.{name_eq}
+use Rattle.conversion_theory.specs.Numbering.{name_eq}
 use Rattle.calculus.specs.Syntax.{Problem}
 use Rattle.formula_core.specs.GroundView.{the_value}
 use Rattle.formula_core.specs.declared.ground.Value as program

@@ -1,6 +1,6 @@
 use Rattle.std.proofs.Common.{◌≡◌, map, drop}
 use Rattle.std.specs.List.{flat_map}
-use Rattle.calculus.specs.Numbering.{name_eq}
+use Rattle.conversion_theory.specs.Numbering.{name_eq}
 use Rattle.name_order.specs.Keeping.{keep_all}
 use Rattle.name_order.specs.Mentioned.{introduced_in}
 use Rattle.name_order.specs.NameSetView.{AreKeyed, the_names}

@@ -1,6 +1,6 @@
 use Rattle.std.proofs.Common.{arith, refl}
 use Rattle.std.specs.List.{flat_map}
-use Rattle.calculus.specs.Turns.{names_of_mark}
+use Rattle.conversion_theory.specs.Turns.{names_of_mark}
 use Rattle.name_order.specs.NameSetView.{the_names}
 use Rattle.name_order.proofs.NameSteps.{kept-step}
 use Rattle.tableau_core.specs.SpotView.{the_mark_at}

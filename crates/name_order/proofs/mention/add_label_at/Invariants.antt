@@ -1,7 +1,7 @@
 use Rattle.std.proofs.Common.{◌≡◌, map, drop}
 use Rattle.std.specs.List.{flat_map}
-use Rattle.calculus.specs.Numbering.{name_eq}
-use Rattle.calculus.specs.Turns.{names_of_mark}
+use Rattle.conversion_theory.specs.Numbering.{name_eq}
+use Rattle.conversion_theory.specs.Turns.{names_of_mark}
 use Rattle.tableau_core.specs.SpotView.{the_mark_at}
 use Rattle.name_order.specs.Keeping.{keep_all}
 use Rattle.name_order.specs.NameSetView.{AreKeyed, the_names}

@@ -1,5 +1,5 @@
 use Rattle.std.proofs.Common.{◌≡◌, map, drop}
-use Rattle.calculus.specs.Numbering.{name_eq}
+use Rattle.conversion_theory.specs.Numbering.{name_eq}
 use Rattle.name_order.specs.Keeping.{keep_all}
 use Rattle.name_order.specs.Mentioned.{with_homes}
 use Rattle.name_order.specs.NameSetView.{AreKeyed, the_names}

@@ -1,7 +1,7 @@
 use Rattle.std.proofs.Common.{arith, refl}
 use Rattle.calculus.specs.Ground.{marks_tree}
 use Rattle.calculus.specs.Lists.{g_terms_tree}
-use Rattle.calculus.specs.Turns.{names_of_mark, names_of_marks, names_of_term, names_of_terms, names_of_value}
+use Rattle.conversion_theory.specs.Turns.{names_of_mark, names_of_marks, names_of_term, names_of_terms, names_of_value}
 use Rattle.formula_core.specs.GroundView.{the_g_term, the_mark, the_value}
 use Rattle.name_order.specs.Mentioned.{names_in}
 use Rattle.name_order.specs.NameSetView.{the_names}

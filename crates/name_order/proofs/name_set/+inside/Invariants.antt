@@ -2,9 +2,9 @@
 use Rattle.std.proofs.Common.{◌≡◌, map, drop}
 use Rattle.calculus.specs.Ground.{marks_tree}
 use Rattle.calculus.specs.Lists.{g_terms_tree}
-use Rattle.calculus.specs.Numbering.{name_eq}
+use Rattle.conversion_theory.specs.Numbering.{name_eq}
 use Rattle.calculus.specs.Sizes.{g_term_list_size, g_term_size, mark_list_size, mark_size, value_list_size, value_size}
-use Rattle.calculus.specs.Turns.{names_of_marks, names_of_terms}
+use Rattle.conversion_theory.specs.Turns.{names_of_marks, names_of_terms}
 use Rattle.formula_core.specs.GroundView.{the_g_term, the_mark, the_value}
 use Rattle.name_order.specs.Keeping.{keep_all}
 use Rattle.name_order.specs.Mentioned.{names_in}

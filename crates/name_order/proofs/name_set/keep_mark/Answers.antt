@@ -1,4 +1,4 @@
-use Rattle.calculus.specs.Turns.{mark_name}
+use Rattle.conversion_theory.specs.Turns.{mark_name}
 use Rattle.formula_core.specs.GroundView.{the_mark}
 use Rattle.name_order.proofs.NameKeys.{name-put}
 use Rattle.name_order.proofs.name_set.keep_mark.Goals as goal

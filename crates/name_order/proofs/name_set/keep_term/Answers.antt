@@ -1,4 +1,4 @@
-use Rattle.calculus.specs.Turns.{term_name}
+use Rattle.conversion_theory.specs.Turns.{term_name}
 use Rattle.formula_core.specs.GroundView.{the_g_term}
 use Rattle.name_order.proofs.NameKeys.{name-put}
 use Rattle.name_order.proofs.name_set.keep_term.Goals as goal

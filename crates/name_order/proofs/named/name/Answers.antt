@@ -2,8 +2,8 @@ use Rattle.std.proofs.Common.{List, map, refl, ap, subst, sym, ◌∙◌}
 use Rattle.calculus.specs.Instances.{Turn}
 use Rattle.calculus.specs.Syntax.{Problem}
 use Rattle.calculus.specs.Tableaux.{instances}
-use Rattle.calculus.specs.Turns.{IsAgenda}
-use Rattle.calculus.proofs.NumberLaws.{numbers-tell}
+use Rattle.conversion_theory.specs.Turns.{IsAgenda}
+use Rattle.conversion_theory.proofs.NumberLaws.{numbers-tell}
 use Rattle.name_order.specs.Found.{waits_in}
 use Rattle.name_order.specs.PlaceView.{the_places}
 use Rattle.name_order.specs.Prerequisites.{IsOrder, ParentsTell, WaitsTell}

@@ -1,6 +1,6 @@
 use Rattle.std.proofs.Common.{List, [], map, subst}
 use Rattle.calculus.specs.Instances.{Turn}
-use Rattle.calculus.specs.Numbering.{name_eq}
+use Rattle.conversion_theory.specs.Numbering.{name_eq}
 use Rattle.name_order.specs.Keeping.{keep_all}
 use Rattle.name_order.specs.Mentioned.{gathered}
 use Rattle.name_order.specs.NameView.{the_name}

@@ -1,6 +1,6 @@
 -- The names that are left have the numbers that they have in the whole list.
 use Rattle.std.proofs.Common.{◌≡◌, ◌+◌, map, drop}
-use Rattle.calculus.specs.Numbering.{place_from}
+use Rattle.conversion_theory.specs.Numbering.{place_from}
 use Rattle.name_order.specs.NameView.{the_name, the_wanted}
 use Rattle.name_order.proofs.names.number_among.Given as goal
 

@@ -1,5 +1,5 @@
 use Rattle.std.proofs.Common.{List, map, subst}
-use Rattle.calculus.specs.Turns.{Name}
+use Rattle.conversion_theory.specs.Turns.{Name}
 use Rattle.name_order.specs.NameView.{the_name}
 use Rattle.name_order.specs.Numbered.{IsOrdered}
 use Rattle.name_order.proofs.numbering.number_names.Goals as goal

@@ -1,5 +1,5 @@
 use Rattle.std.proofs.Common.{◌≡◌, ◌∙◌, Some, ap, slice_get, sym}
-use Rattle.calculus.specs.Systems.{is_pair}
+use Rattle.store_theory.specs.Systems.{is_pair}
 use Rattle.calculus.proofs.PlaceLists.{all-at}
 use Rattle.search_theory.proofs.SolvingLaws.{system-parts}
 use Rattle.term_store.specs.SystemView.{the_pair, the_system}

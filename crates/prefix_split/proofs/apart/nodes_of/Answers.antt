@@ -1,5 +1,5 @@
 use Rattle.std.proofs.Common.{IsTrue, length, subst, sym}
-use Rattle.calculus.specs.Stores.{names_below}
+use Rattle.store_theory.specs.Stores.{names_below}
 use Rattle.term_store.specs.SystemView.{the_pair}
 use Rattle.prefix_split.specs.Growing.{IsNodeOf}
 use Rattle.prefix_split.proofs.ApartLaws.{atom-places, pair-apart, pair-parts}

@@ -1,6 +1,6 @@
 use Rattle.std.proofs.Common.{IsTrue, arith, map, subst, sym, ap₂, ◌∙◌}
 use Rattle.std.proofs.lemmas.List.{length-map}
-use Rattle.calculus.specs.Systems.{AreEqual, is_label}
+use Rattle.store_theory.specs.Systems.{AreEqual, is_label}
 use Rattle.term_store.specs.RefView.{the_place}
 use Rattle.term_store.specs.SystemView.{the_equation}
 use Rattle.search_theory.specs.Solving.{CannotEqual, IsNarrowed}

@@ -1,7 +1,7 @@
 use Rattle.std.proofs.Common.{IsTrue, map, subst, sym}
 use Rattle.std.specs.List.{list_all}
 use Rattle.calculus.specs.declared.sort.Sort.TheVariants.{MarkSort}
-use Rattle.calculus.specs.Stores.{has_sort_at}
+use Rattle.store_theory.specs.Stores.{has_sort_at}
 use Rattle.search_theory.specs.Solving.{IsNarrowed}
 use Rattle.term_store.specs.RefView.{the_place}
 use Rattle.term_unify.proofs.PairLaws.{BindsOnly-same}

@@ -1,5 +1,5 @@
 use Rattle.std.specs.List.{AllByRecursion}
-use Rattle.calculus.specs.Systems.{AreEqual}
+use Rattle.store_theory.specs.Systems.{AreEqual}
 use Rattle.prefix_split.specs.Growing.{IsAsked}
 use Rattle.prefix_split.proofs.growing.ask_all_shortly.Given as goal
 

@@ -1,5 +1,5 @@
 use Rattle.std.proofs.Common.{◌++◌, ◌∷◌, [], ◌∙◌, IsTrue, ap, length, subst, sym}
-use Rattle.calculus.specs.Stores.{names_below}
+use Rattle.store_theory.specs.Stores.{names_below}
 use Rattle.term_store.specs.SystemView.{the_equation}
 use Rattle.prefix_split.specs.Growing.{AreNamed, IsReached}
 use Rattle.prefix_split.proofs.GrowingLaws.{asked-equation, label-places}

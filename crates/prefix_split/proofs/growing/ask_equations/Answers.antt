@@ -1,6 +1,6 @@
 use Rattle.std.specs.List.{AllByRecursion}
 use Rattle.std.proofs.Common.{◌≡◌, ◌∙◌, Some, ap, map, slice_get, subst, sym}
-use Rattle.calculus.specs.Systems.{AreEqual}
+use Rattle.store_theory.specs.Systems.{AreEqual}
 use Rattle.term_store.specs.SystemView.{the_equation, the_system}
 use Rattle.prefix_split.proofs.GrowingLaws.{asked-next, asked-none, equation-fits, equation-named}
 use Rattle.prefix_split.proofs.growing.ask_equations.Goals as goal

@@ -1,7 +1,7 @@
 use Rattle.std.proofs.Common.{IsTrue, length, subst, sym}
 use Rattle.std.proofs.lemmas.Bool.{false≢true}
 use Rattle.calculus.specs.declared.setting.Logic.TheVariants.{S4}
-use Rattle.calculus.specs.Stores.{names_below}
+use Rattle.store_theory.specs.Stores.{names_below}
 use Rattle.term_store.specs.HomeView.{the_home}
 use Rattle.prefix_split.specs.Growing.{IsReached}
 use Rattle.prefix_split.proofs.GrowingLaws.{asked-home, home-places}

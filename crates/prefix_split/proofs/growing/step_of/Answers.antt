@@ -1,4 +1,4 @@
-use Rattle.calculus.proofs.BindingLaws.{ends-there}
+use Rattle.store_theory.proofs.BindingLaws.{ends-there}
 use Rattle.prefix_split.proofs.GrowingLaws.{end-marks, long-fits, mark-extent, mark-fits, short-extent, short-fits}
 use Rattle.prefix_split.proofs.growing.step_of.Goals as goal
 

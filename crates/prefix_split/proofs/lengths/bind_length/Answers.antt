@@ -1,5 +1,5 @@
 use Rattle.std.proofs.Common.{◌+◌, ◌≡◌, ◌∙◌, ap, ap₂, length, subst, sym}
-use Rattle.calculus.specs.Bindings.{KeepsMarks, MayBind, with_binding}
+use Rattle.store_theory.specs.Bindings.{KeepsMarks, MayBind, with_binding}
 use Rattle.prefix_split.specs.Giving.{IsGiven}
 use Rattle.prefix_split.specs.Later.{IsLater}
 use Rattle.prefix_split.proofs.LengthLaws.{given-bound, later-given, later-string, may-bind, with_string}

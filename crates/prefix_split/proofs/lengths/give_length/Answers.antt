@@ -1,5 +1,5 @@
 use Rattle.calculus.specs.declared.sort.Sort.TheVariants.{StringSort}
-use Rattle.calculus.proofs.BindingLaws.{ends-there}
+use Rattle.store_theory.proofs.BindingLaws.{ends-there}
 use Rattle.prefix_split.proofs.LaterLaws.{later-same}
 use Rattle.prefix_split.proofs.LengthLaws.{ends-sorted, given-there, never-given, sorted-within}
 use Rattle.prefix_split.proofs.lengths.give_length.Goals as goal

@@ -1,5 +1,5 @@
 use Rattle.std.proofs.Common.{◌∙◌, ap₂, arith, subst, sym}
-use Rattle.calculus.specs.Systems.{AreEqual, IsDemandEquation}
+use Rattle.store_theory.specs.Systems.{AreEqual, IsDemandEquation}
 use Rattle.term_store.specs.Asking.{Asks}
 use Rattle.term_store.specs.SystemView.{the_equation, the_system}
 use Rattle.search_theory.specs.Solving.{CannotEqual, IsNarrowed}

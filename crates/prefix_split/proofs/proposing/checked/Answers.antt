@@ -1,5 +1,5 @@
 use Rattle.std.proofs.Common.{subst}
-use Rattle.calculus.specs.Systems.{AreTried}
+use Rattle.store_theory.specs.Systems.{AreTried}
 use Rattle.term_store.specs.SystemView.{the_system}
 use Rattle.prefix_split.proofs.proposing.checked.Goals as goal
 

@@ -1,6 +1,6 @@
 use Rattle.std.proofs.Common.{map}
 use Rattle.calculus.specs.declared.sort.Sort.TheVariants.{StringSort}
-use Rattle.calculus.specs.Stores.{has_sort_at}
+use Rattle.store_theory.specs.Stores.{has_sort_at}
 use Rattle.calculus.proofs.PlaceLists.{all-at}
 use Rattle.term_store.specs.RefView.{the_place}
 use Rattle.prefix_split.proofs.LengthLaws.{sorted-within}

@@ -1,7 +1,7 @@
 use Rattle.std.proofs.Common.{IsTrue, subst, sym}
 use Rattle.std.specs.List.{list_all}
 use Rattle.calculus.specs.declared.sort.Sort.TheVariants.{StringSort}
-use Rattle.calculus.specs.Stores.{has_sort_at}
+use Rattle.store_theory.specs.Stores.{has_sort_at}
 use Rattle.search_theory.proofs.SolvingLaws.{system-parts}
 use Rattle.term_store.specs.SystemView.{the_system}
 use Rattle.prefix_split.proofs.proposing.propose.Goals as goal

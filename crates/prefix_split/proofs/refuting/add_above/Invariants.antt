@@ -1,6 +1,6 @@
 use Rattle.std.proofs.Common.{ℕ, List}
 use Rattle.calculus.specs.Ground.{GroundMark}
-use Rattle.calculus.specs.Stores.{Solution}
+use Rattle.store_theory.specs.Stores.{Solution}
 use Rattle.prefix_split.specs.Beginnings.{AreValues, Holds, IsRelated}
 use Rattle.prefix_split.proofs.refuting.add_above.Given as goal
 

@@ -1,7 +1,7 @@
 use Rattle.std.specs.List.{AllByRecursion, list_all}
 use Rattle.std.proofs.Common.{◌≡◌, [], IsTrue, length, subst, sym}
-use Rattle.calculus.specs.Bindings.{nothing_more}
-use Rattle.calculus.proofs.PatternLaws.{Grows-built}
+use Rattle.store_theory.specs.Bindings.{nothing_more}
+use Rattle.store_theory.proofs.PatternLaws.{Grows-built}
 use Rattle.search_theory.proofs.BuildingLaws.{adds-back}
 use Rattle.term_store.specs.Homes.{BeginsLabel, is_home}
 use Rattle.prefix_split.specs.Beginnings.{AllApart, AllBegin, AreValues, NodesFit}

@@ -1,5 +1,5 @@
 use Rattle.std.proofs.Common.{IsTrue, map, subst, sym}
-use Rattle.calculus.specs.Systems.{is_label}
+use Rattle.store_theory.specs.Systems.{is_label}
 use Rattle.term_store.specs.ClauseView.{the_atom}
 use Rattle.term_store.specs.RefView.{the_place}
 use Rattle.prefix_split.specs.Later.{HasNoString}

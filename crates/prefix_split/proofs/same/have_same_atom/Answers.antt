@@ -1,5 +1,5 @@
 use Rattle.std.proofs.Common.{IsTrue, length, map, subst, sym, ◌∙◌}
-use Rattle.calculus.specs.Stores.{names_below}
+use Rattle.store_theory.specs.Stores.{names_below}
 use Rattle.term_store.specs.ClauseView.{the_atom}
 use Rattle.term_store.specs.RefView.{the_place}
 use Rattle.term_unify.specs.Same.{AreSameCells, DifferAt}

@@ -1,12 +1,12 @@
 use Rattle.std.proofs.Common.{◌≡◌, ◌∙◌, ◌+◌, ℕ, List, IsTrue, ap, arith, length, map, refl, subst, sym}
 use Rattle.std.proofs.lemmas.List.{length-map}
-use Rattle.calculus.specs.Bindings.{KeepsMarks}
+use Rattle.store_theory.specs.Bindings.{KeepsMarks}
 use Rattle.calculus.specs.declared.setting.Logic.{Logic}
 use Rattle.calculus.specs.Instances.{GammaUse}
 use Rattle.calculus.specs.Space.{has_labels}
-use Rattle.calculus.specs.Stores.{Store}
-use Rattle.calculus.specs.Systems.{AreTried, NamesItsStrings, System, is_system}
-use Rattle.calculus.proofs.BindingLaws.{KeepsMarks-same}
+use Rattle.store_theory.specs.Stores.{Store}
+use Rattle.store_theory.specs.Systems.{AreTried, NamesItsStrings, System, is_system}
+use Rattle.store_theory.proofs.BindingLaws.{KeepsMarks-same}
 use Rattle.term_store.specs.Asking.{Asks}
 use Rattle.term_store.specs.RefView.{the_place}
 use Rattle.term_store.specs.declared.cell.Ref.{Ref}

@@ -1,6 +1,6 @@
 use Rattle.std.proofs.Common.{◌∙◌, IsTrue, ap, length, subst, sym}
-use Rattle.calculus.specs.Stores.{Solves}
-use Rattle.calculus.specs.Systems.{AreTried, NamesItsStrings, is_system}
+use Rattle.store_theory.specs.Stores.{Solves}
+use Rattle.store_theory.specs.Systems.{AreTried, NamesItsStrings, is_system}
 use Rattle.term_store.specs.SystemView.{the_system}
 use Rattle.prefix_split.proofs.LengthListLaws.{tried-within}
 use Rattle.prefix_split.proofs.solving.solve_apart.Goals as goal

@@ -1,7 +1,7 @@
 use Rattle.std.proofs.Common.{◌≡◌, ◌∙◌, IsTrue, arith, refl, subst, sym}
-use Rattle.calculus.specs.Bindings.{KeepsMarks}
-use Rattle.calculus.specs.Systems.{NamesItsStrings, is_system}
-use Rattle.calculus.proofs.BindingLaws.{KeepsMarks-same}
+use Rattle.store_theory.specs.Bindings.{KeepsMarks}
+use Rattle.store_theory.specs.Systems.{NamesItsStrings, is_system}
+use Rattle.store_theory.proofs.BindingLaws.{KeepsMarks-same}
 use Rattle.term_unify.proofs.PairLaws.{OnErr-always}
 use Rattle.term_store.specs.SystemView.{the_system}
 use Rattle.prefix_split.proofs.SearchLaws.{back-moved, bounded-moved, found-moved}

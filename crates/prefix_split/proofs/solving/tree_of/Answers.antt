@@ -1,11 +1,11 @@
 use Rattle.std.proofs.Common.{◌≡◌, ◌∙◌, true, subst, sym}
 use Rattle.std.specs.List.{AllByRecursion}
 use Rattle.std.proofs.lemmas.Result.{IfOk-weaker}
-use Rattle.calculus.specs.Bindings.{KeepsMarks}
-use Rattle.calculus.specs.Stores.{Solution, Solves}
-use Rattle.calculus.specs.Systems.{AreEqual, Differ, HasBoundedSolution, IsStep, MeetsDemand}
-use Rattle.calculus.proofs.BindingLaws.{KeepsMarks-same}
-use Rattle.calculus.proofs.PatternLaws.{KeepsMarks-built}
+use Rattle.store_theory.specs.Bindings.{KeepsMarks}
+use Rattle.store_theory.specs.Stores.{Solution, Solves}
+use Rattle.store_theory.specs.Systems.{AreEqual, Differ, HasBoundedSolution, IsStep, MeetsDemand}
+use Rattle.store_theory.proofs.BindingLaws.{KeepsMarks-same}
+use Rattle.store_theory.proofs.PatternLaws.{KeepsMarks-built}
 use Rattle.term_store.specs.Asking.{Asks}
 use Rattle.term_store.specs.StoreView.{the_mark}
 use Rattle.term_store.specs.SystemView.{the_system}

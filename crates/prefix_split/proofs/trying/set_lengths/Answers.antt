@@ -3,8 +3,8 @@ use Rattle.std.specs.Prelude.{slice_get}
 use Rattle.std.specs.List.{AllByRecursion, list_all}
 use Rattle.std.proofs.lemmas.List.{length-map}
 use Rattle.calculus.specs.declared.sort.Sort.TheVariants.{StringSort}
-use Rattle.calculus.specs.Stores.{Solution, Solves, has_sort_at}
-use Rattle.calculus.specs.Systems.{AreEqual, HasBuiltStrings, HaveLengths, is_equation}
+use Rattle.store_theory.specs.Stores.{Solution, Solves, has_sort_at}
+use Rattle.store_theory.specs.Systems.{AreEqual, HasBuiltStrings, HaveLengths, is_equation}
 use Rattle.search_theory.specs.Solving.{CannotHave, IsNarrowed}
 use Rattle.search_theory.proofs.SolvingLaws.{system-parts}
 use Rattle.term_store.specs.RefView.{the_place}

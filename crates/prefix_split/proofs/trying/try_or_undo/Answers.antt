@@ -1,6 +1,6 @@
 use Rattle.std.proofs.Common.{◌≡◌, ◌∙◌, false, refl, subst, sym}
-use Rattle.calculus.specs.Bindings.{KeepsMarks}
-use Rattle.calculus.proofs.BindingLaws.{KeepsMarks-same}
+use Rattle.store_theory.specs.Bindings.{KeepsMarks}
+use Rattle.store_theory.proofs.BindingLaws.{KeepsMarks-same}
 use Rattle.term_store.specs.StoreView.{the_mark}
 use Rattle.term_unify.proofs.PairLaws.{IfOk-always, OnErr-always}
 use Rattle.prefix_split.proofs.trying.try_or_undo.Goals as goal

@@ -2,7 +2,7 @@ use Rattle.std.proofs.Common.{IsTrue, refl, subst, sym}
 use Rattle.std.specs.List.{list_all}
 use Rattle.std.proofs.lemmas.Bool.{and_from}
 use Rattle.calculus.specs.declared.sort.Sort.TheVariants.{TermSort}
-use Rattle.calculus.specs.Patterns.{gamma_fits, is_label_pattern, pattern_fits}
+use Rattle.store_theory.specs.Patterns.{gamma_fits, is_label_pattern, pattern_fits}
 use Rattle.term_store.specs.PatternView.{the_pattern}
 use Rattle.search_tests.specs.DomainExamples.{two_terms}
 use Rattle.search_tests.proofs.DomainExampleLaws.{all-next}

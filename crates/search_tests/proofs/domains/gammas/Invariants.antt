@@ -1,6 +1,6 @@
 use Rattle.std.proofs.Common.{IsTrue}
 use Rattle.std.specs.List.{list_all}
-use Rattle.calculus.specs.Patterns.{gamma_fits}
+use Rattle.store_theory.specs.Patterns.{gamma_fits}
 use Rattle.search_tests.specs.DomainExamples.{two_terms}
 use Rattle.search_tests.proofs.domains.gammas.Given as goal
 

@@ -2,9 +2,9 @@ use Rattle.std.proofs.Common.{◌&&◌, subst}
 use Rattle.std.specs.List.{list_all}
 use Rattle.std.proofs.lemmas.Bool.{and_parts}
 use Rattle.calculus.specs.declared.sort.Sort.TheVariants.{StringSort}
-use Rattle.calculus.specs.Bindings.{AddsBuilt, with_variables_of}
-use Rattle.calculus.specs.Stores.{has_sort_at}
-use Rattle.calculus.specs.Systems.{System, is_cell_atom, is_gamma_cell}
+use Rattle.store_theory.specs.Bindings.{AddsBuilt, with_variables_of}
+use Rattle.store_theory.specs.Stores.{has_sort_at}
+use Rattle.store_theory.specs.Systems.{System, is_cell_atom, is_gamma_cell}
 use Rattle.search_tests.proofs.DomainExampleLaws.{system-built, system-fits, system-open}
 use Rattle.search_tests.proofs.domains.system.Goals as goal
 

@@ -1,5 +1,5 @@
 use Rattle.std.proofs.Common.{◌∙◌, ap}
-use Rattle.calculus.specs.Stores.{Store}
+use Rattle.store_theory.specs.Stores.{Store}
 use Rattle.search_tests.proofs.PrefixExampleLaws.{first-cells}
 use Rattle.search_tests.proofs.label_systems.cells_of.Goals as goal
 

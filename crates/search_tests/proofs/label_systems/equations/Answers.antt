@@ -1,7 +1,7 @@
 use Rattle.std.proofs.Common.{IsTrue, refl, subst, sym}
 use Rattle.std.specs.List.{list_all}
 use Rattle.std.proofs.lemmas.Bool.{and_from}
-use Rattle.calculus.specs.Systems.{is_equation, is_label}
+use Rattle.store_theory.specs.Systems.{is_equation, is_label}
 use Rattle.search_theory.specs.Demanding.{equation}
 use Rattle.search_tests.proofs.PrefixExampleLaws.{all-next}
 use Rattle.search_tests.proofs.label_systems.equations.Goals as goal

@@ -2,8 +2,8 @@ use Rattle.std.proofs.Common.{IsTrue, refl, subst, sym}
 use Rattle.std.specs.List.{list_all}
 use Rattle.std.proofs.lemmas.Bool.{and_from}
 use Rattle.calculus.specs.declared.sort.Sort.TheVariants.{TermSort}
-use Rattle.calculus.specs.Stores.{has_sort_at}
-use Rattle.calculus.specs.Systems.{is_label}
+use Rattle.store_theory.specs.Stores.{has_sort_at}
+use Rattle.store_theory.specs.Systems.{is_label}
 use Rattle.search_tests.proofs.label_systems.goal.Goals as goal
 
 pub returns : goal.returns

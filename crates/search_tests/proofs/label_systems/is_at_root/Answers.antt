@@ -1,5 +1,5 @@
 use Rattle.std.proofs.Common.{[], IsTrue, subst, sym}
-use Rattle.calculus.specs.Systems.{is_label}
+use Rattle.store_theory.specs.Systems.{is_label}
 use Rattle.term_unify.specs.Flat.{HasNoString}
 use Rattle.term_unify.specs.Same.{AreSameLabels}
 use Rattle.search_tests.proofs.label_systems.is_at_root.Goals as goal

@@ -1,5 +1,5 @@
 use Rattle.std.proofs.Common.{IsTrue, refl, subst, sym}
-use Rattle.calculus.specs.Systems.{has_label_sort_at, is_label}
+use Rattle.store_theory.specs.Systems.{has_label_sort_at, is_label}
 use Rattle.search_tests.proofs.PrefixExampleLaws.{all-next}
 use Rattle.search_tests.proofs.label_systems.label.Goals as goal
 

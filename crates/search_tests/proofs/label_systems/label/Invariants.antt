@@ -1,5 +1,5 @@
 use Rattle.std.proofs.Common.{IsTrue}
-use Rattle.calculus.specs.Systems.{is_label}
+use Rattle.store_theory.specs.Systems.{is_label}
 use Rattle.search_tests.proofs.label_systems.label.Given as goal
 
 abbrev pub invariant-loop-item : goal.invariant-loop-item

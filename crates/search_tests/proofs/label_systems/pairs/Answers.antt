@@ -1,7 +1,7 @@
 use Rattle.std.proofs.Common.{IsTrue, refl, subst, sym}
 use Rattle.std.specs.List.{list_all}
 use Rattle.std.proofs.lemmas.Bool.{and_from}
-use Rattle.calculus.specs.Systems.{is_cell_atom, is_pair}
+use Rattle.store_theory.specs.Systems.{is_cell_atom, is_pair}
 use Rattle.term_store.specs.ClauseView.{the_atom}
 use Rattle.search_tests.proofs.PrefixExampleLaws.{all-next}
 use Rattle.search_tests.proofs.label_systems.pairs.Goals as goal

@@ -1,5 +1,5 @@
 use Rattle.std.proofs.Common.{IsTrue, refl, subst, sym}
-use Rattle.calculus.specs.Systems.{is_label}
+use Rattle.store_theory.specs.Systems.{is_label}
 use Rattle.search_tests.proofs.label_systems.short_label.Goals as goal
 
 pub returns-in-None : goal.returns-in-None

@@ -1,4 +1,4 @@
-use Rattle.calculus.specs.Systems.{System}
+use Rattle.store_theory.specs.Systems.{System}
 use Rattle.search_tests.proofs.PrefixExampleLaws.{system-fits, system-named}
 use Rattle.search_tests.proofs.label_systems.system.Goals as goal
 

@@ -1,5 +1,5 @@
 use Rattle.std.proofs.Common.{ap}
-use Rattle.calculus.specs.Stores.{Store}
+use Rattle.store_theory.specs.Stores.{Store}
 use Rattle.search_tests.proofs.prefixes.is_example_refuted.Goals as goal
 
 pub cells_of-requires : goal.cells_of-requires

@@ -1,7 +1,7 @@
 use Rattle.std.proofs.Common.{◌+◌, ◌≡◌, ◌∷◌, [], ℕ, ap, arith, length, length-append, replicate, suc}
 use Rattle.calculus.specs.declared.sort.Sort.TheVariants.{MarkSort}
-use Rattle.calculus.specs.Stores.{Store, Cell, string_cell}
-use Rattle.calculus.specs.Bindings.{with_cell, with_variables_of, places_from}
+use Rattle.store_theory.specs.Stores.{Store, Cell, string_cell}
+use Rattle.store_theory.specs.Bindings.{with_cell, with_variables_of, places_from}
 use Rattle.term_store.proofs.MarkLaws.{length-marks}
 use Rattle.search_tests.proofs.unifying.are_unified.Goals as goal
 

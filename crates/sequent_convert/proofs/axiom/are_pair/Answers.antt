@@ -1,6 +1,6 @@
 use Rattle.std.proofs.Common.{◌∷◌, [], ◌++◌, map, ◌∙◌, ap}
-use Rattle.calculus.specs.Branches.{entry_of_item}
-use Rattle.calculus.specs.Numbering.{number_of}
+use Rattle.conversion_theory.specs.Branches.{entry_of_item}
+use Rattle.conversion_theory.specs.Numbering.{number_of}
 use Rattle.sequent_calc.specs.EntryView.{the_entry}
 use Rattle.sequent_convert.specs.NodeView.{the_node}
 use Rattle.sequent_convert.proofs.axiom.are_pair.Goals as goal

@@ -1,5 +1,5 @@
 use Rattle.std.proofs.Common.{◌≡◌, map, take}
-use Rattle.calculus.specs.Numbering.{number_of, term_by}
+use Rattle.conversion_theory.specs.Numbering.{number_of, term_by}
 use Rattle.calculus.specs.Sizes.{term_size, term_list_size}
 use Rattle.formula_core.specs.GroundView.{the_g_term}
 use Rattle.formula_core.specs.TermView.{the_term}

@@ -1,5 +1,5 @@
 use Rattle.std.proofs.Common.{map, ◌∙◌, ap}
-use Rattle.calculus.specs.Numbering.{number_of, numbered_label, term_by}
+use Rattle.conversion_theory.specs.Numbering.{number_of, numbered_label, term_by}
 use Rattle.formula_core.specs.FormulaView.{the_formula}
 use Rattle.sequent_convert.proofs.Entries.{atom-put}
 use Rattle.sequent_convert.proofs.entry.literal_entry.Goals as goal

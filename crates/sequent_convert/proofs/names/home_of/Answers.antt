@@ -1,6 +1,6 @@
 use Rattle.std.proofs.Common.{map, sym, ◌∙◌, ap}
 use Rattle.calculus.specs.Lists.{values_list-values_tree}
-use Rattle.calculus.specs.Numbering.{number_of, numbered_label}
+use Rattle.conversion_theory.specs.Numbering.{number_of, numbered_label}
 use Rattle.calculus.specs.Skolem.{label_of}
 use Rattle.tableau_core.specs.SpotView.{the_mark_at}
 use Rattle.tableau_core.specs.ValuesAt.{values_at}

@@ -1,5 +1,5 @@
 use Rattle.std.proofs.Common.{◌≡◌, map, take}
-use Rattle.calculus.specs.Numbering.{number_of, numbered_label}
+use Rattle.conversion_theory.specs.Numbering.{number_of, numbered_label}
 use Rattle.tableau_core.specs.SpotView.{the_mark_at}
 use Rattle.sequent_convert.proofs.names.label_at.Given as goal
 

@@ -1,5 +1,5 @@
 use Rattle.std.proofs.Common.{◌≡◌, map, take}
-use Rattle.calculus.specs.Numbering.{eigen_names, spare_names, number_of}
+use Rattle.conversion_theory.specs.Numbering.{eigen_names, spare_names, number_of}
 use Rattle.name_order.specs.NameView.{the_name}
 use Rattle.sequent_convert.proofs.names.name_lines.Given as goal
 

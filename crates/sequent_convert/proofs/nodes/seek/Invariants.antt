@@ -1,5 +1,5 @@
 use Rattle.std.proofs.Common.{◌≡◌, ◌<◌, ℕ, Some, map, slice_get}
-use Rattle.calculus.specs.Branches.{Item}
+use Rattle.conversion_theory.specs.Branches.{Item}
 use Rattle.name_order.specs.TurnView.{the_turn}
 use Rattle.sequent_convert.specs.NodeView.{the_node}
 use Rattle.sequent_convert.specs.Working.{IsOn}

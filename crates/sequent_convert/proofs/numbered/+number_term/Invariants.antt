@@ -1,5 +1,5 @@
 use Rattle.std.proofs.Common.{◌≡◌, map, take}
-use Rattle.calculus.specs.Numbering.{number_of, numbered_term}
+use Rattle.conversion_theory.specs.Numbering.{number_of, numbered_term}
 use Rattle.calculus.specs.Sizes.{g_term_size, g_term_list_size}
 use Rattle.formula_core.specs.GroundView.{the_g_term}
 use Rattle.sequent_convert.proofs.numbered.+number_term.Given as goal

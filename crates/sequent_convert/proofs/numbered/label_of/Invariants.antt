@@ -1,5 +1,5 @@
 use Rattle.std.proofs.Common.{◌≡◌, map, take}
-use Rattle.calculus.specs.Numbering.{number_of, numbered_label}
+use Rattle.conversion_theory.specs.Numbering.{number_of, numbered_label}
 use Rattle.formula_core.specs.GroundView.{the_mark}
 use Rattle.sequent_convert.proofs.numbered.label_of.Given as goal
 

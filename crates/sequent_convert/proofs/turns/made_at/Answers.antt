@@ -1,7 +1,7 @@
 use Rattle.std.proofs.Common.{◌≡◌, List, get_or, subst, map, length, sym, ◌∙◌, ap, arith}
 use Rattle.std.proofs.lemmas.List.{length-map}
-use Rattle.calculus.specs.Branches.{made}
-use Rattle.calculus.specs.Numbering.{number_of}
+use Rattle.conversion_theory.specs.Branches.{made}
+use Rattle.conversion_theory.specs.Numbering.{number_of}
 use Rattle.calculus.specs.Syntax.{Setting}
 use Rattle.calculus.specs.declared.setting.Logic.{Logic}
 use Rattle.formula_core.specs.GroundView.{the_value}

@@ -1,5 +1,5 @@
 use Rattle.std.proofs.Common.{map}
-use Rattle.calculus.proofs.WeightLaws.{weight_sum}
+use Rattle.store_theory.proofs.WeightLaws.{weight_sum}
 use Rattle.term_store.specs.RefView.{the_place}
 use Rattle.term_unify.proofs.InnerLaws.{LooksInside}
 use Rattle.term_unify.proofs.check.occurs.Given as goal

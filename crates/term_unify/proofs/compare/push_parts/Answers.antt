@@ -1,6 +1,6 @@
 use Rattle.std.proofs.Common.{◌≡◌, ◌++◌, ◌∙◌, ap, arith, map, take}
-use Rattle.calculus.specs.Bindings.{part_pairs}
-use Rattle.calculus.specs.Stores.{parts_of}
+use Rattle.store_theory.specs.Bindings.{part_pairs}
+use Rattle.store_theory.specs.Stores.{parts_of}
 use Rattle.term_unify.specs.PairView.{the_pair}
 use Rattle.term_unify.proofs.PairLaws.{built-count, built-right, pairs-added, pairs-done, part-there}
 use Rattle.term_unify.proofs.compare.push_parts.Goals as goal

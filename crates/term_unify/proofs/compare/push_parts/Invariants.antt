@@ -1,7 +1,7 @@
 use Rattle.std.proofs.Common.{◌≡◌, ◌++◌, Some, map, take}
 use Rattle.std.specs.Prelude.{slice_get}
-use Rattle.calculus.specs.Stores.{Cell, parts_of}
-use Rattle.calculus.specs.Bindings.{part_pairs}
+use Rattle.store_theory.specs.Stores.{Cell, parts_of}
+use Rattle.store_theory.specs.Bindings.{part_pairs}
 use Rattle.term_unify.specs.PairView.{the_pair}
 use Rattle.term_unify.proofs.compare.push_parts.Given as goal
 

@@ -1,6 +1,6 @@
 use Rattle.std.proofs.Common.{◌≡◌, ◌∙◌, ap, arith, map, subst, sym}
-use Rattle.calculus.specs.Bindings.{with_binding}
-use Rattle.calculus.proofs.WeightLaws.{open_count, open_count-bind}
+use Rattle.store_theory.specs.Bindings.{with_binding}
+use Rattle.store_theory.proofs.WeightLaws.{open_count, open_count-bind}
 use Rattle.term_unify.specs.PairView.{the_pair}
 use Rattle.term_unify.proofs.PairLaws.{Unified, unified-binding, unified-occurs}
 use Rattle.term_unify.proofs.solve.solve_pairs.Goals as goal

@@ -1,5 +1,5 @@
 use Rattle.std.proofs.Common.{map}
-use Rattle.calculus.proofs.WeightLaws.{open_count}
+use Rattle.store_theory.proofs.WeightLaws.{open_count}
 use Rattle.term_store.specs.Room.{KeepsRoom}
 use Rattle.term_unify.specs.PairView.{the_pair}
 use Rattle.term_unify.proofs.PairLaws.{Unified}

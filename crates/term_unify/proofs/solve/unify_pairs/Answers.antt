@@ -1,6 +1,6 @@
 use Rattle.std.proofs.Common.{◌≡◌, ◌∙◌, map, subst, sym, false}
-use Rattle.calculus.specs.Bindings.{BindsOnly, KeepsMarks}
-use Rattle.calculus.proofs.BindingLaws.{KeepsMarks-same}
+use Rattle.store_theory.specs.Bindings.{BindsOnly, KeepsMarks}
+use Rattle.store_theory.proofs.BindingLaws.{KeepsMarks-same}
 use Rattle.term_store.specs.StoreView.{the_mark}
 use Rattle.term_unify.specs.PairView.{the_pair}
 use Rattle.term_unify.specs.Steps.{BindsInPairs}

@@ -1,6 +1,6 @@
 use Rattle.std.proofs.Common.{◌≡◌, ℕ, List}
 use Rattle.calculus.specs.Choices.{Choice}
-use Rattle.calculus.specs.Stores.{IsGood, TrailMark}
+use Rattle.store_theory.specs.Stores.{IsGood, TrailMark}
 use Rattle.term_store.specs.Room.{KeepsRoom}
 use Rattle.connection_search.specs.Exploring.{AreAbove, IsExploring, IsSpace, KeepsMoment}
 use Rattle.connection_search.specs.Weights.{work_left}

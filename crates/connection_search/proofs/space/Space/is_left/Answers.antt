@@ -1,5 +1,5 @@
 use Rattle.std.proofs.Common.{arith}
-use Rattle.calculus.proofs.BindingLaws.{KeepsMarks-same}
+use Rattle.store_theory.proofs.BindingLaws.{KeepsMarks-same}
 use Rattle.connection_search.proofs.LeftLaws.{goal-found, known-found, short-found}
 use Rattle.connection_search.proofs.MoveLaws.{goal-here, goal-within}
 use Rattle.connection_search.proofs.Places.{read-there}

@@ -1,6 +1,6 @@
 use Rattle.std.proofs.Common.{◌++◌, ◌∷◌, [], ◌+◌, ◌∙◌, length, subst, sym}
-use Rattle.calculus.specs.Bindings.{KeepsMarks}
-use Rattle.calculus.proofs.BindingLaws.{KeepsMarks-same}
+use Rattle.store_theory.specs.Bindings.{KeepsMarks}
+use Rattle.store_theory.proofs.BindingLaws.{KeepsMarks-same}
 use Rattle.matrix_build.specs.MatrixView.{the_place}
 use Rattle.search_theory.specs.OrderedChoices.{extension_at}
 use Rattle.term_store.specs.StoreView.{the_mark}

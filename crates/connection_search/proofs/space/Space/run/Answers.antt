@@ -1,5 +1,5 @@
 use Rattle.std.proofs.Common.{◌+◌, ◌<◌, ◌≤◌, ◌∙◌, arith, length, refl, subst}
-use Rattle.calculus.specs.Bindings.{KeepsMarks}
+use Rattle.store_theory.specs.Bindings.{KeepsMarks}
 use Rattle.connection_search.proofs.SearchedLaws.{marks-of_same, room-both, searched-end, searched-first, searched-next, starts_from}
 use Rattle.connection_search.proofs.SpentLaws.{counted}
 use Rattle.connection_search.proofs.space.Space.run.Goals as goal

@@ -1,5 +1,5 @@
 use Rattle.std.proofs.Common.{[], ◌∷◌, ◌∙◌, Some, ap, length, refl, slice_get}
-use Rattle.calculus.proofs.BindingLaws.{KeepsMarks-both, KeepsMarks-same}
+use Rattle.store_theory.proofs.BindingLaws.{KeepsMarks-both, KeepsMarks-same}
 use Rattle.calculus.specs.Choices.{start}
 use Rattle.search_theory.specs.OrderedChoices.{selection_of}
 use Rattle.term_store.specs.StoreView.{the_mark}

@@ -1,5 +1,5 @@
 use Rattle.std.proofs.Common.{◌++◌, ◌∷◌, ◌∙◌, [], Some, arith, refl, sym, ap, subst, inl, inr}
-use Rattle.calculus.proofs.BindingLaws.{KeepsMarks-same}
+use Rattle.store_theory.proofs.BindingLaws.{KeepsMarks-same}
 use Rattle.connection_search.specs.Exploring.{AreAbove, IsCounted, IsExploring}
 use Rattle.connection_search.specs.declared.tree.Tree.{Tree}
 use Rattle.connection_search.proofs.DecidingLaws.{decided-end, decided-on, on-when, solving-counted, visiting-in}

@@ -1,5 +1,5 @@
 use Rattle.std.proofs.Common.{◌++◌, ◌∷◌, ℕ, List, arith, inl, refl, subst, sym}
-use Rattle.calculus.proofs.BindingLaws.{KeepsMarks-same}
+use Rattle.store_theory.proofs.BindingLaws.{KeepsMarks-same}
 use Rattle.calculus.specs.Choices.{Choice}
 use Rattle.connection_search.specs.Exploring.{IsExploring, IsSpace, IsVisiting}
 use Rattle.connection_search.specs.declared.tree.Tree.{Tree}

@@ -1,7 +1,7 @@
 use Rattle.std.proofs.Common.{IsTrue, refl, subst, sym}
 use Rattle.std.specs.List.{AllByRecursion, list_all}
-use Rattle.calculus.specs.Bindings.{nothing_more}
-use Rattle.calculus.proofs.BindingLaws.{KeepsMarks-same}
+use Rattle.store_theory.specs.Bindings.{nothing_more}
+use Rattle.store_theory.proofs.BindingLaws.{KeepsMarks-same}
 use Rattle.term_store.specs.Homes.{BeginsLabel, is_home}
 use Rattle.domain_cond.proofs.constant.ConstantDemandDemand.homes.Goals as goal
 

@@ -1,4 +1,4 @@
-use Rattle.calculus.specs.Bindings.{nothing_more}
+use Rattle.store_theory.specs.Bindings.{nothing_more}
 use Rattle.term_store.specs.SystemView.{the_system}
 use Rattle.domain_cond.proofs.ConstantLaws.{met-constant}
 use Rattle.domain_cond.proofs.constant.ConstantDemandDemand.next.Goals as goal

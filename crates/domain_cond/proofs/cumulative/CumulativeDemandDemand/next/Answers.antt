@@ -1,7 +1,7 @@
 use Rattle.std.proofs.Common.{◌∙◌, subst, sym}
 use Rattle.calculus.specs.Skolem.{common_spares}
-use Rattle.calculus.specs.Systems.{AllAllowed, OwnSparesMeet}
-use Rattle.calculus.proofs.PatternLaws.{KeepsMarks-built}
+use Rattle.store_theory.specs.Systems.{AllAllowed, OwnSparesMeet}
+use Rattle.store_theory.proofs.PatternLaws.{KeepsMarks-built}
 use Rattle.term_store.specs.SystemView.{the_system}
 use Rattle.domain_cond.proofs.ConditionLaws.{cumulative-common, met-homes_allow}
 use Rattle.domain_cond.proofs.cumulative.CumulativeDemandDemand.next.Goals as goal

@@ -1,5 +1,5 @@
 use Rattle.std.proofs.Common.{◌∙◌, sym}
-use Rattle.calculus.proofs.PatternLaws.{KeepsMarks-built}
+use Rattle.store_theory.proofs.PatternLaws.{KeepsMarks-built}
 use Rattle.domain_cond.proofs.varying.VaryingDemandDemand.homes.Goals as goal
 
 pub forced_homes-requires-clause-not_constant : goal.forced_homes-requires-clause-not_constant

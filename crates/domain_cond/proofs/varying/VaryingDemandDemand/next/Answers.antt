@@ -1,4 +1,4 @@
-use Rattle.calculus.proofs.PatternLaws.{KeepsMarks-built}
+use Rattle.store_theory.proofs.PatternLaws.{KeepsMarks-built}
 use Rattle.domain_cond.proofs.varying.VaryingDemandDemand.next.Goals as goal
 
 pub returns-clause-marks : goal.returns-clause-marks

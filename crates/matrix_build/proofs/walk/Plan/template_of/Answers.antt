@@ -1,6 +1,6 @@
 use Rattle.std.proofs.Common.{◌∙◌, ap, subst, sym}
 use Rattle.calculus.specs.declared.sign.Sign.TheVariants.{F}
-use Rattle.calculus.specs.Templates.{strings_from}
+use Rattle.store_theory.specs.Templates.{strings_from}
 use Rattle.formula_core.specs.FormulaView.{the_formula}
 use Rattle.search_theory.specs.TemplateOf.{pattern_part}
 use Rattle.matrix_build.specs.Parts.{Adds}

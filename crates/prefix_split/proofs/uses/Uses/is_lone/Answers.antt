@@ -1,4 +1,4 @@
-use Rattle.calculus.proofs.BindingLaws.{ends-there}
+use Rattle.store_theory.proofs.BindingLaws.{ends-there}
 use Rattle.prefix_split.proofs.uses.Uses.is_lone.Goals as goal
 
 pub is_open_string-requires : goal.is_open_string-requires

@@ -1,4 +1,4 @@
-use Rattle.calculus.specs.Bindings.{nothing_more}
+use Rattle.store_theory.specs.Bindings.{nothing_more}
 use Rattle.search_tests.proofs.label_systems.AtRootDemand.homes.Goals as goal
 
 pub returns-clause-adds : goal.returns-clause-adds

@@ -1,7 +1,7 @@
 use Rattle.std.proofs.Common.{◌≡◌, IfSome, IsTrue, None, Option, Some, slice_get, subst, sym}
 use Rattle.std.specs.List.{list_all}
-use Rattle.calculus.specs.Bindings.{nothing_more}
-use Rattle.calculus.specs.Systems.{IsDemandEquation, is_gamma_cell}
+use Rattle.store_theory.specs.Bindings.{nothing_more}
+use Rattle.store_theory.specs.Systems.{IsDemandEquation, is_gamma_cell}
 use Rattle.search_theory.proofs.SolvingLaws.{system-parts}
 use Rattle.term_store.specs.Asking.{Asks}
 use Rattle.term_store.specs.SystemView.{the_equation, the_system}

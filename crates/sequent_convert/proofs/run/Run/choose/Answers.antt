@@ -3,7 +3,7 @@ use Rattle.std.proofs.lemmas.Bool.{false≢true}
 use Rattle.sequent_convert.specs.AheadView.{Ahead}
 use Rattle.sequent_convert.specs.RunView.{the_run, the_source}
 use Rattle.std.specs.List.{AllByRecursion}
-use Rattle.calculus.specs.Leading.{turns_before}
+use Rattle.conversion_theory.specs.Leading.{turns_before}
 use Rattle.sequent_convert.specs.State.{turns_at}
 use Rattle.sequent_convert.proofs.TurnPlaces.{all-take, all-drop}
 use Rattle.sequent_convert.proofs.MoveLaws.{move-first, move-second, move-other}

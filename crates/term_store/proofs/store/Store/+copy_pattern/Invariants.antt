@@ -1,6 +1,6 @@
 use Rattle.std.proofs.Common.{◌*◌, ◌+◌, map, take}
-use Rattle.calculus.specs.Bindings.{AddsOver}
-use Rattle.calculus.specs.Patterns.{pattern_list_size, pattern_size, patterns_tree}
+use Rattle.store_theory.specs.Bindings.{AddsOver}
+use Rattle.store_theory.specs.Patterns.{pattern_list_size, pattern_size, patterns_tree}
 use Rattle.term_store.specs.PatternView.{the_pattern}
 use Rattle.term_store.specs.RefView.{the_places}
 use Rattle.term_store.specs.Room.{KeepsRoom}

@@ -1,6 +1,6 @@
 use Rattle.std.proofs.Common.{false, map}
 use Rattle.calculus.specs.declared.sort.Sort.TheVariants.{StringSort}
-use Rattle.calculus.proofs.PatternLaws.{Grows-built}
+use Rattle.store_theory.proofs.PatternLaws.{Grows-built}
 use Rattle.term_store.specs.ClauseView.{the_pattern_atom}
 use Rattle.term_store.specs.RefView.{the_places}
 use Rattle.term_store.specs.TemplateView.{the_template}

@@ -1,7 +1,7 @@
 use Rattle.std.proofs.Common.{◌≡◌, ◌∙◌, subst, sym}
-use Rattle.calculus.specs.Patterns.{atom_is_from}
-use Rattle.calculus.proofs.BindingLaws.{KeepsMarks-both}
-use Rattle.calculus.proofs.PatternLaws.{Grows-built, KeepsMarks-built}
+use Rattle.store_theory.specs.Patterns.{atom_is_from}
+use Rattle.store_theory.proofs.BindingLaws.{KeepsMarks-both}
+use Rattle.store_theory.proofs.PatternLaws.{Grows-built, KeepsMarks-built}
 use Rattle.calculus.proofs.PlaceLists.{all-at}
 use Rattle.term_store.specs.ClauseView.{the_atom, the_pattern_atom}
 use Rattle.term_store.specs.Fitting.{atom_fits_in}

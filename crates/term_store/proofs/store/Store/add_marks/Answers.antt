@@ -1,10 +1,10 @@
 use Rattle.std.proofs.Common.{◌+◌, ◌++◌, ◌∷◌, ◌≡◌, ◌∙◌, [], IsTrue, None, ap, ap₂, arith, length, refl, replicate, subst, sym}
 use Rattle.std.specs.List.{list_all}
 use Rattle.calculus.specs.declared.sort.Sort.TheVariants.{MarkSort}
-use Rattle.calculus.specs.Stores.{has_sort_at, variable}
-use Rattle.calculus.specs.Bindings.{KeepsMarks, places_from, with_cell, with_variables_of}
-use Rattle.calculus.proofs.BindingLaws.{KeepsMarks-both}
-use Rattle.calculus.proofs.PatternLaws.{KeepsMarks-built}
+use Rattle.store_theory.specs.Stores.{has_sort_at, variable}
+use Rattle.store_theory.specs.Bindings.{KeepsMarks, places_from, with_cell, with_variables_of}
+use Rattle.store_theory.proofs.BindingLaws.{KeepsMarks-both}
+use Rattle.store_theory.proofs.PatternLaws.{KeepsMarks-built}
 use Rattle.term_store.proofs.MarkLaws.{length-marks, more-places, more-variables, variables-fit}
 use Rattle.term_store.proofs.store.Store.add_marks.Goals as goal
 

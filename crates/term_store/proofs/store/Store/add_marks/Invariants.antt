@@ -1,6 +1,6 @@
 use Rattle.std.proofs.Common.{◌≡◌, length, replicate}
 use Rattle.calculus.specs.declared.sort.Sort.TheVariants.{MarkSort}
-use Rattle.calculus.specs.Bindings.{KeepsMarks, places_from, with_variables_of}
+use Rattle.store_theory.specs.Bindings.{KeepsMarks, places_from, with_variables_of}
 use Rattle.term_store.specs.Room.{KeepsRoom}
 use Rattle.term_store.proofs.store.Store.add_marks.Given as goal
 

@@ -1,5 +1,5 @@
 use Rattle.std.proofs.Common.{◌+◌, subst}
-use Rattle.calculus.specs.Patterns.{IsClauseCopy, atom_fits}
+use Rattle.store_theory.specs.Patterns.{IsClauseCopy, atom_fits}
 use Rattle.term_store.specs.ClauseView.{the_pattern_atom}
 use Rattle.term_store.specs.Copying.{with_literals}
 use Rattle.term_store.specs.RefView.{the_places}

@@ -1,6 +1,6 @@
-use Rattle.calculus.specs.Patterns.{clause_is_from}
-use Rattle.calculus.proofs.BindingLaws.{KeepsMarks-both}
-use Rattle.calculus.proofs.PatternLaws.{KeepsMarks-built}
+use Rattle.store_theory.specs.Patterns.{clause_is_from}
+use Rattle.store_theory.proofs.BindingLaws.{KeepsMarks-both}
+use Rattle.store_theory.proofs.PatternLaws.{KeepsMarks-built}
 use Rattle.term_store.specs.ClauseView.{the_pattern_atom}
 use Rattle.term_store.specs.RefView.{the_places}
 use Rattle.term_store.specs.TemplateView.{the_clause, the_template}

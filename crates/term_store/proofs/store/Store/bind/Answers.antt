@@ -1,6 +1,6 @@
 use Rattle.std.proofs.Common.{ap, sym, subst, ◌∙◌}
-use Rattle.calculus.specs.Bindings.{MayBind, KeepsMarks, IsWellFormed, with_binding}
-use Rattle.calculus.proofs.BindingLaws.{KeepsMarks-with_binding, IsWellFormed-with_binding}
+use Rattle.store_theory.specs.Bindings.{MayBind, KeepsMarks, IsWellFormed, with_binding}
+use Rattle.store_theory.proofs.BindingLaws.{KeepsMarks-with_binding, IsWellFormed-with_binding}
 use Rattle.term_store.proofs.StoreFacts.{bound-store, sound, well-bound}
 use Rattle.term_store.proofs.store.Store.bind.Goals as goal
 

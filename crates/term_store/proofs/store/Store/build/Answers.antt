@@ -1,6 +1,6 @@
 use Rattle.std.proofs.Common.{◌≤◌, ◌∙◌, IsTrue, ap, arith, subst, sym}
-use Rattle.calculus.specs.Stores.{is_store, parts_fit}
-use Rattle.calculus.specs.Bindings.{AddsOver, with_cell}
+use Rattle.store_theory.specs.Stores.{is_store, parts_fit}
+use Rattle.store_theory.specs.Bindings.{AddsOver, with_cell}
 use Rattle.term_store.specs.Built.{named_cell}
 use Rattle.term_store.specs.Room.{spare}
 use Rattle.term_store.specs.StoreView.{the_store}

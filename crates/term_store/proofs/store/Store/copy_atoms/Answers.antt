@@ -1,7 +1,7 @@
 use Rattle.std.proofs.Common.{arith, length, map, subst, sym, take}
 use Rattle.std.specs.List.{list_all}
 use Rattle.std.proofs.lemmas.List.{take_all}
-use Rattle.calculus.proofs.PatternLaws.{Grows-built}
+use Rattle.store_theory.proofs.PatternLaws.{Grows-built}
 use Rattle.cop_base.proofs.Items.{map-take-item}
 use Rattle.term_store.specs.ClauseView.{the_atom, the_pattern_atom}
 use Rattle.term_store.specs.Copying.{AtomsCopied}

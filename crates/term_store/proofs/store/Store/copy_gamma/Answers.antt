@@ -2,10 +2,10 @@ use Rattle.std.proofs.Common.{length, nat_le, true}
 use Rattle.std.specs.List.{list_all}
 use Rattle.std.proofs.lemmas.Bool.{and_from, and_parts}
 use Rattle.calculus.specs.declared.sort.Sort.TheVariants.{MarkSort, TermSort}
-use Rattle.calculus.specs.Patterns.{patterns_tree}
-use Rattle.calculus.specs.Stores.{has_sort_at}
-use Rattle.calculus.specs.Systems.{is_label}
-use Rattle.calculus.proofs.PatternLaws.{Grows-built, grown-copy, grown-sort}
+use Rattle.store_theory.specs.Patterns.{patterns_tree}
+use Rattle.store_theory.specs.Stores.{has_sort_at}
+use Rattle.store_theory.specs.Systems.{is_label}
+use Rattle.store_theory.proofs.PatternLaws.{Grows-built, grown-copy, grown-sort}
 use Rattle.term_store.specs.ClauseView.{the_pattern_gamma}
 use Rattle.term_store.specs.Fitting.{fits_in, label_fits_in}
 use Rattle.term_store.specs.PatternView.{the_pattern}

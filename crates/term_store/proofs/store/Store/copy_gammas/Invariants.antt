@@ -1,5 +1,5 @@
 use Rattle.std.proofs.Common.{length, map, take}
-use Rattle.calculus.specs.Bindings.{AddsOver}
+use Rattle.store_theory.specs.Bindings.{AddsOver}
 use Rattle.term_store.specs.ClauseView.{the_pattern_gamma}
 use Rattle.term_store.specs.RefView.{the_places}
 use Rattle.std.specs.List.{list_all}

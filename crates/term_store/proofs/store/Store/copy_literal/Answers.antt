@@ -1,6 +1,6 @@
 use Rattle.std.proofs.Common.{◌∙◌, subst, sym}
-use Rattle.calculus.specs.Bindings.{KeepsMarks}
-use Rattle.calculus.proofs.BindingLaws.{KeepsMarks-same}
+use Rattle.store_theory.specs.Bindings.{KeepsMarks}
+use Rattle.store_theory.proofs.BindingLaws.{KeepsMarks-same}
 use Rattle.term_store.specs.StoreView.{the_mark}
 use Rattle.term_store.proofs.store.Store.copy_literal.Goals as goal
 

@@ -1,7 +1,7 @@
 use Rattle.std.proofs.Common.{[], IsTrue, arith, map, subst, sym, take}
 use Rattle.std.proofs.lemmas.List.{take_all}
-use Rattle.calculus.specs.Patterns.{patterns_tree}
-use Rattle.calculus.proofs.PatternLaws.{Grows-built}
+use Rattle.store_theory.specs.Patterns.{patterns_tree}
+use Rattle.store_theory.proofs.PatternLaws.{Grows-built}
 use Rattle.cop_base.proofs.Items.{map-take-item}
 use Rattle.term_store.specs.Fitting.{parts_fit_in}
 use Rattle.term_store.specs.PatternView.{the_pattern}

@@ -1,7 +1,7 @@
 use Rattle.std.proofs.Common.{◌∙◌, subst, sym}
-use Rattle.calculus.specs.Bindings.{AddsOver, KeepsMarks}
-use Rattle.calculus.proofs.BindingLaws.{KeepsMarks-same}
-use Rattle.calculus.proofs.PatternLaws.{KeepsMarks-built}
+use Rattle.store_theory.specs.Bindings.{AddsOver, KeepsMarks}
+use Rattle.store_theory.proofs.BindingLaws.{KeepsMarks-same}
+use Rattle.store_theory.proofs.PatternLaws.{KeepsMarks-built}
 use Rattle.term_store.specs.RefView.{the_places}
 use Rattle.term_store.specs.StoreView.{the_mark}
 use Rattle.term_store.proofs.OwnLaws.{names-same}

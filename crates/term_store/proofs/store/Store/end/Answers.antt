@@ -1,6 +1,6 @@
-use Rattle.calculus.specs.Stores.{goes_on, stays}
-use Rattle.calculus.proofs.BindingLaws.{bound-inside}
-use Rattle.calculus.proofs.WeightLaws.{weight-bound}
+use Rattle.store_theory.specs.Stores.{goes_on, stays}
+use Rattle.store_theory.proofs.BindingLaws.{bound-inside}
+use Rattle.store_theory.proofs.WeightLaws.{weight-bound}
 use Rattle.term_store.proofs.store.Store.end.Goals as goal
 
 pub loop-to-init : goal.loop-to-init

@@ -1,7 +1,7 @@
 use Rattle.std.proofs.Common.{◌<◌, ℕ, length}
-use Rattle.calculus.specs.Bindings.{IsWellFormed}
-use Rattle.calculus.specs.Stores.{EndsAt}
-use Rattle.calculus.proofs.WeightLaws.{weight}
+use Rattle.store_theory.specs.Bindings.{IsWellFormed}
+use Rattle.store_theory.specs.Stores.{EndsAt}
+use Rattle.store_theory.proofs.WeightLaws.{weight}
 use Rattle.term_store.specs.Shown.{Shows}
 use Rattle.term_store.proofs.store.Store.end.Given as goal
 

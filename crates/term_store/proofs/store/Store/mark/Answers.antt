@@ -1,6 +1,6 @@
 use Rattle.std.proofs.Common.{arith, subst, ◌≡◌}
-use Rattle.calculus.specs.Stores.{IsGood, cut_at}
-use Rattle.calculus.proofs.BindingLaws.{cut-now, good-now}
+use Rattle.store_theory.specs.Stores.{IsGood, cut_at}
+use Rattle.store_theory.proofs.BindingLaws.{cut-now, good-now}
 use Rattle.term_store.specs.StoreView.{the_mark}
 use Rattle.term_store.proofs.StoreFacts.{length-cells}
 use Rattle.term_store.proofs.store.Store.mark.Goals as goal

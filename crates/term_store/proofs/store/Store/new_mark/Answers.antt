@@ -1,6 +1,6 @@
 use Rattle.std.proofs.Common.{◌∙◌, IsTrue, ap, arith, map, refl, subst, sym}
-use Rattle.calculus.specs.Bindings.{nothing_more, with_cell}
-use Rattle.calculus.specs.Stores.{new_cell, parts_fit}
+use Rattle.store_theory.specs.Bindings.{nothing_more, with_cell}
+use Rattle.store_theory.specs.Stores.{new_cell, parts_fit}
 use Rattle.cop_base.proofs.Items.{map-end}
 use Rattle.term_store.specs.RefView.{the_place}
 use Rattle.term_store.proofs.store.Store.new_mark.Goals as goal

@@ -1,10 +1,10 @@
 use Rattle.std.proofs.Common.{◌∙◌, ◌∷◌, [], None, ap, ap₂, arith, get_or, length, length-append, refl, take}
 use Rattle.std.proofs.lemmas.List.{take_all}
-use Rattle.calculus.specs.Bindings.{places_from, with_cell, with_variables_of}
+use Rattle.store_theory.specs.Bindings.{places_from, with_cell, with_variables_of}
 use Rattle.calculus.specs.declared.sort.Sort.TheVariants.{TermSort}
-use Rattle.calculus.specs.Stores.{variable}
-use Rattle.calculus.proofs.BindingLaws.{KeepsMarks-both}
-use Rattle.calculus.proofs.PatternLaws.{length-variables}
+use Rattle.store_theory.specs.Stores.{variable}
+use Rattle.store_theory.proofs.BindingLaws.{KeepsMarks-both}
+use Rattle.store_theory.proofs.PatternLaws.{length-variables}
 use Rattle.term_store.proofs.MarkLaws.{take-more, variables-last}
 use Rattle.term_store.proofs.store.Store.new_variables.Goals as goal
 

@@ -1,5 +1,5 @@
 use Rattle.std.proofs.Common.{◌≡◌, ◌≤◌, ◌+◌, length, take}
-use Rattle.calculus.specs.Bindings.{KeepsMarks, with_variables_of}
+use Rattle.store_theory.specs.Bindings.{KeepsMarks, with_variables_of}
 use Rattle.term_store.specs.Room.{KeepsRoom, spare}
 use Rattle.term_store.proofs.store.Store.new_variables.Given as goal
 

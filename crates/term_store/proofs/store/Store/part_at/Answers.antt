@@ -1,6 +1,6 @@
 use Rattle.std.proofs.Common.{subst, sym, ◌≡◌, Some}
 use Rattle.std.specs.Prelude.{slice_get}
-use Rattle.calculus.specs.Bindings.{IsWellFormed}
+use Rattle.store_theory.specs.Bindings.{IsWellFormed}
 use Rattle.term_store.proofs.StoreFacts.{sound, part-within, part-place}
 use Rattle.term_store.proofs.store.Store.part_at.Goals as goal
 

@@ -1,5 +1,5 @@
 use Rattle.std.proofs.Common.{subst}
-use Rattle.calculus.proofs.BindingLaws.{ends-there}
+use Rattle.store_theory.proofs.BindingLaws.{ends-there}
 use Rattle.term_store.specs.Shown.{Shows}
 use Rattle.term_store.proofs.StoreFacts.{bound-not-end}
 use Rattle.term_store.proofs.store.Store.parts.Goals as goal

@@ -1,5 +1,5 @@
-use Rattle.calculus.specs.Bindings.{HasRank}
-use Rattle.calculus.proofs.BindingLaws.{HasNoCycle-rank}
+use Rattle.store_theory.specs.Bindings.{HasRank}
+use Rattle.store_theory.proofs.BindingLaws.{HasNoCycle-rank}
 use Rattle.std.proofs.Common.{subst}
 use Rattle.term_store.proofs.store.Store.size.Goals as goal
 

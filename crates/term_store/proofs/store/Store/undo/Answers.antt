@@ -1,7 +1,7 @@
 use Rattle.std.proofs.Common.{arith, ap, sym, subst, ◌∙◌}
-use Rattle.calculus.specs.Bindings.{IsWellFormed, KeepsEarlier}
-use Rattle.calculus.specs.Stores.{IsGood, cut_at}
-use Rattle.calculus.proofs.BindingLaws.{IsWellFormed-cut_at, KeepsEarlier-cut_at}
+use Rattle.store_theory.specs.Bindings.{IsWellFormed, KeepsEarlier}
+use Rattle.store_theory.specs.Stores.{IsGood, cut_at}
+use Rattle.store_theory.proofs.BindingLaws.{IsWellFormed-cut_at, KeepsEarlier-cut_at}
 use Rattle.term_store.specs.StoreView.{the_mark}
 use Rattle.term_store.proofs.StoreFacts.{cut-store, laid-unbound, length-cells, sound, trail-alone, well-cut}
 use Rattle.term_store.proofs.store.Store.undo.Goals as goal

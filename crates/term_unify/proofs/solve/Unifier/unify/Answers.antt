@@ -1,5 +1,5 @@
 use Rattle.std.proofs.Common.{◌∙◌, ap}
-use Rattle.calculus.specs.Bindings.{with_binding}
+use Rattle.store_theory.specs.Bindings.{with_binding}
 use Rattle.term_unify.proofs.OnePairLaws.{apart-ends, binds-pair, occurs-pair, unifies-ends, unifies-same, within-ends}
 use Rattle.term_unify.proofs.solve.Unifier.unify.Goals as goal
 

@@ -1,0 +1,8 @@
+-- turns and their order
+pub mod Turns
+-- numbers of names
+pub mod Numbering
+-- branches that grow by turns
+pub mod Branches
+-- a derivation that is led by its tableau, and so is short
+pub mod Leading
