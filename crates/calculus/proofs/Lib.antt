@@ -1,5 +1,7 @@
 -- ==== laws that proofs of other crates cite
 
+-- what the words of a logic say of each other
+pub mod LogicLaws
 -- equality, positions, clauses and orders
 pub mod EqualityLaws
 pub mod PositionLaws

@@ -2,6 +2,7 @@
 -- bytes say of the problem's formula. Worlds and elements are numbered from 0 in a structure, and from 1 in its text.
 use Rattle.std.specs.Prelude.{◌≡◌, ◌⊎◌, ℕ, suc, ◌+◌, ◌^◌, ◌≤◌, List, [], ◌∷◌, ◌++◌, length, map, take, Bool, true, false, not, ◌&&◌, ◌||◌, ◌==◌, Option, Some, None, IsTrue, nat_le, codes, decimal, if◌then◌else◌}
 use Rattle.std.specs.List.{list_all, list_any, flat_map}
+use Rattle.calculus.specs.declared.limits.TheConstants.{MAX_TABLE_ENTRIES}
 use Rattle.calculus.specs.declared.setting.Logic.{Logic}
 use Rattle.calculus.specs.declared.setting.Logic.TheVariants.{Classical, Intuitionistic, D, T as LogicT, S4, S5}
 use Rattle.calculus.specs.declared.setting.Domains.{Domains}
@@ -65,7 +66,7 @@ abbrev pub is_size : ℕ → Bool
 is_size n = nat_le 1 n && nat_le n 64
 
 abbrev pub fits_table : ℕ → Symbol → Bool
-fits_table elements s = nat_le (elements ^ s.arity) 1000000
+fits_table elements s = nat_le (elements ^ s.arity) MAX_TABLE_ENTRIES
 
 abbrev pub rises : List ℕ → Bool
 rises xs = rises_from 0 (map suc xs)

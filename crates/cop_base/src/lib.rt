@@ -1,5 +1,5 @@
 //! What every crate of the prover uses of the outside: where files are read and bytes are written,
-//! byte texts, typed numbers, and the budget of a search.
+//! byte texts, typed numbers, and the limit and the budget of a search.
 #![tactic(auto)]
 
 use std::alloc::{AllocError, AllocFailed};
@@ -7,12 +7,14 @@ use std::alloc::{AllocError, AllocFailed};
 mod edge;
 mod ledger;
 mod library;
+mod path_limit;
 mod sink;
 mod text;
 
 pub use edge::{FileLibrary, WriteSink, read_whole};
 pub use ledger::Ledger;
 pub use library::{FetchFault, Library, MemLibrary};
+pub use path_limit::PathLimit;
 pub use sink::{MemSink, PutFault, Sink};
 pub use text::Text;
 
