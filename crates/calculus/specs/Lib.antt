@@ -35,24 +35,24 @@ pub mod Instances
 pub mod ComputedInstances
 pub mod Clauses
 pub mod Tableaux
--- ---- words between crates, of which the clauses of the program say nothing
-
 -- the connection search: choice lists and their order, and the space that deepening goes through
 pub mod Choices
 pub mod Counting
 pub mod Space
+-- ---- words between crates, of which the clauses of the program say nothing
+
 -- the children of a step
 pub mod StepFacts
+-- the search that does not return to solved goals
+pub mod Cut
+-- the way from intuitionistic logic into S4
+pub mod Translation
 -- the lists inside trees as lists, and what models of program types need
 pub mod Lists
 pub mod Sizes
 pub mod Codes
 -- ==== what waits for its crate: laws of `proofs` speak of it, and no contract yet
 
--- the search that does not return to solved goals
-pub mod Cut
--- the way from intuitionistic logic into S4
-pub mod Translation
 -- the two versions of a derivation's text, and the judgement over both
 pub mod Versions
 pub mod VersionJudgement

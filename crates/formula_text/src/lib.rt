@@ -5,19 +5,10 @@
 //! spellings of a value, as `f(a, b)`, `'a'` and `$$e01`, are refused.
 //!
 //! # Depth
-//! The open terms of a text stand on a stack on the heap while they are read: memory alone bounds their depth, and 50,000,000 levels were
-//! read. Writing, copying and dropping call themselves as deep as the term is. In a program as `rt run` builds it, on a stack of 8 MB,
-//! writing passes at 104,000 levels and dies at 105,000, dropping passes at 130,000 and dies at 131,000, and `Term::copy` of
-//! `formula_core` passes at 29,000 and dies at 30,000. A level takes three bytes at least, as in `f(f(a))`, so a bound on the length of
-//! an unknown text bounds its depth.
-//!
-//! # Speed
-//! Bytes a second of one processor's time, on a machine of 4 processors at a load of 13:
-//!
-//! | | reading | writing |
-//! |---|---|---|
-//! | a label of 100,000 characters, 888,896 bytes | 196 million | 276 million |
-//! | a term of 1,048,575 nodes, 2,621,436 bytes, dropping included where it is read | 12 million | 45 million |
+//! The open terms of a text stand on a stack on the heap while they are read, at most 20,000 of them; a term that stands in more is
+//! answered as where memory ends, so that what is read can be copied and dropped. These call themselves as deep as the term is, and so
+//! does writing: in a program as `rt run` builds it, on a stack of 8 MB, writing passes at 104,000 levels and dies at 105,000, dropping
+//! passes at 130,000 and dies at 131,000, and `Term::copy` of `formula_core` passes at 29,000 and dies at 30,000.
 #![tactic(auto, using(crate::proofs::Extending::extending))]
 
 mod append;
