@@ -6,6 +6,7 @@ ghost use Rattle.std.specs.Prelude.{OnErr};
 ghost use Rattle.calculus.specs.Problems.{are_distinct};
 ghost use Rattle.formula_core.specs.SymbolView.{the_symbol};
 
+use calculus::limits::MAX_SYMBOLS;
 pub use calculus::symbol::SymbolClass;
 use cop_base::{NoMemory, SymbolId, Text};
 use indexmap::IndexSet;
@@ -36,6 +37,7 @@ pub struct Symbols {
 
 impl Model for Symbols {
     ghost use Rattle.std.specs.Prelude.{List, ◌≤◌, IsTrue, length, map};
+    ghost use Rattle.calculus.specs.declared.limits.TheConstants.{MAX_SYMBOLS};
     ghost use Rattle.calculus.specs.Problems.{are_distinct};
     ghost use Rattle.calculus.specs.Syntax as tree;
     ghost use Rattle.formula_core.specs.SymbolView.{the_symbol};
@@ -44,13 +46,13 @@ impl Model for Symbols {
 
     ghost view = { λ s. map the_symbol s.set.keys };
 
-    ghost invariant = { λ s. (length s.set.keys ≤ 65536)
+    ghost invariant = { λ s. (length s.set.keys ≤ MAX_SYMBOLS)
         × IsTrue (are_distinct (map the_symbol s.set.keys)) };
 }
 
 impl Symbols {
     /// No list has more symbols.
-    pub const MAX_LEN: usize = 65536;
+    pub const MAX_LEN: usize = MAX_SYMBOLS;
 
     /// The empty list.
     pub fn new(alloc: Global) -> Symbols
