@@ -72,8 +72,8 @@ fn symbols_fit(symbols: &[Symbol]) -> bool
     true
 }
 
-// Whether the symbol is a function symbol with so many arguments.
-fn has_function(symbols: &Symbols, f: SymbolId, count: usize) -> bool
+/// Whether the symbol is a function symbol with so many arguments.
+pub fn has_function(symbols: &Symbols, f: SymbolId, count: usize) -> bool
     ensures { result ≡ has_function symbols.now f.0 count }
 {
     if f.0 as usize >= symbols.len() {

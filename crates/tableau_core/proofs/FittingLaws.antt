@@ -20,7 +20,8 @@ use Rattle.calculus.specs.Skolem.{has_function, is_admitted, are_admitted, is_ad
 use Rattle.calculus.specs.Syntax.{Problem, Formula, atom, neg, conj, disj, imp, all, ex, box, dia}
 use Rattle.calculus.specs.Problems.{is_problem}
 use Rattle.logic_rules.proofs.ProblemFacts.{kept}
-use Rattle.tableau_core.specs.Fitting.{fits, is_made, is_step_of, past_node, past_shape, past_string, past_term}
+use Rattle.calculus.specs.Labels.{is_step_length}
+use Rattle.tableau_core.specs.Fitting.{fits, is_made, past_node, past_shape, past_string, past_term}
 use Rattle.tableau_core.specs.declared.way.Maker.{Maker}
 use Rattle.tableau_core.specs.declared.way.Maker.TheVariants as maker
 use Rattle.tableau_core.proofs.StringLaws.{steps-of}
@@ -69,7 +70,7 @@ fits-node l p modal.Nu h ns k r = strings r.rest
     strings [] = refl
     strings (term t ∷ vs) = refl
     strings (steps s ∷ vs) = let next : Reached = record { label = nu_label l r.label (marks_list s); taken = r.taken ++ steps s ∷ []; rest = vs } in
-        label-stays h next (λ w. steps_to mark_eq l r.label w) (λ x. fits_along l ns x) ∙ ap (λ b. b && option_map_or (λ (x : Reached). fits_along l ns x) (after_shape h next) false) (steps-of l r.label (marks_list s)) ∙ string l h ns (is_step_of l (length (marks_list s))) (option_map_or (λ (x : Reached). fits_along l ns x) (after_shape h next) false) vs (after l h ns k next)
+        label-stays h next (λ w. steps_to mark_eq l r.label w) (λ x. fits_along l ns x) ∙ ap (λ b. b && option_map_or (λ (x : Reached). fits_along l ns x) (after_shape h next) false) (steps-of l r.label (marks_list s)) ∙ string l h ns (is_step_length l (length (marks_list s))) (option_map_or (λ (x : Reached). fits_along l ns x) (after_shape h next) false) vs (after l h ns k next)
 
 -- the values that a way takes fit it whatever the label
 pub fits-along : (l : Logic) (ns : List Node) (r : Reached) → fits_along l ns r ≡ fits l ns r.rest

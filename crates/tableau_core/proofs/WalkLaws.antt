@@ -24,7 +24,7 @@ use Rattle.calculus.specs.Labels.{nu_label, pi_label}
 use Rattle.calculus.specs.Lists.{marks_list-marks_tree}
 use Rattle.calculus.specs.Skolem.{is_allowed, is_empty, is_admitted_value}
 use Rattle.calculus.specs.Syntax.{Formula, Terms, atom, neg, conj, disj, imp, all, ex, box, dia, Problem}
-use Rattle.tableau_core.specs.Fitting.{is_step_of}
+use Rattle.calculus.specs.Labels.{is_step_length}
 use Rattle.tableau_core.specs.Walks.{finished, steps_if_allowed, starts_with_string, starts_with_term, literal_at, Left, capped, after_literals, left_after, left, one_more_step, at_atom, shaped_by}
 use Rattle.tableau_core.proofs.StringLaws.{steps-of}
 
@@ -147,11 +147,11 @@ module _ (P : Problem) where
   unfolding left left_after
   left-nu_term l go c r t vs e = rw e refl
 
-  pub left-nu_not : (l : Logic) (go : Go) (c : Spot) (r : Left) (s : Marks) (vs : List Value) (n : ℕ) → r.supply.values ≡ steps s ∷ vs → n ≡ length (marks_list s) → is_step_of l n ≡ false → None ≡ left P (at_modal l Nu go) c r
+  pub left-nu_not : (l : Logic) (go : Go) (c : Spot) (r : Left) (s : Marks) (vs : List Value) (n : ℕ) → r.supply.values ≡ steps s ∷ vs → n ≡ length (marks_list s) → is_step_length l n ≡ false → None ≡ left P (at_modal l Nu go) c r
   unfolding left left_after
   left-nu_not l go c r s vs n e h k = rw (e, steps-of l c.label (marks_list s), sym h, k) refl
 
-  pub left-nu : (l : Logic) (go : Go) (c : Spot) (r : Left) (s : Marks) (vs : List Value) (n : ℕ) → r.supply.values ≡ steps s ∷ vs → n ≡ length (marks_list s) → is_step_of l n ≡ true → left P (at_modal l Nu go) c r ≡ left P go (record c { label = nu_label l c.label (marks_list s); taken = c.taken ++ steps s ∷ [] }) (record r { supply = record { sides = r.supply.sides; values = vs }; steps = capped (r.steps + 1) })
+  pub left-nu : (l : Logic) (go : Go) (c : Spot) (r : Left) (s : Marks) (vs : List Value) (n : ℕ) → r.supply.values ≡ steps s ∷ vs → n ≡ length (marks_list s) → is_step_length l n ≡ true → left P (at_modal l Nu go) c r ≡ left P go (record c { label = nu_label l c.label (marks_list s); taken = c.taken ++ steps s ∷ [] }) (record r { supply = record { sides = r.supply.sides; values = vs }; steps = capped (r.steps + 1) })
   unfolding left
   left-nu l go c r s vs n e h k = rw (e, steps-of l c.label (marks_list s), sym h, k) (after-nu r.literals r.steps (go (record c { label = nu_label l c.label (marks_list s); taken = c.taken ++ steps s ∷ [] }) (record { sides = r.supply.sides; values = vs })))
 
@@ -222,10 +222,10 @@ module _ (P : Problem) where
   pub pi-by : (l : Logic) (go : Go) (p : ℕ) (w v : List GroundMark) (t : List Value) (e : List GroundTerm) (ss : List Side) (vs : List Value) (ls : List GroundLiteral) (n m : ℕ) → v ≡ pi_label l w (g_new_mark p (values_tree t)) → m ≡ capped (n + 1) → left P go (spot_of p v t e) (left_of ss vs ls m) ≡ left P (at_modal l Pi go) (spot_of p w t e) (left_of ss vs ls n)
   pi-by l go p w v t e ss vs ls n m h k = rw (h, k) (sym (left-pi l go (spot_of p w t e) (left_of ss vs ls n)))
 
-  pub nu-by : (l : Logic) (go : Go) (p : ℕ) (w v s : List GroundMark) (t u : List Value) (e : List GroundTerm) (ss : List Side) (whole vs : List Value) (ls : List GroundLiteral) (n m k : ℕ) → whole ≡ steps (marks_tree s) ∷ vs → k ≡ length s → is_step_of l k ≡ true → v ≡ nu_label l w s → u ≡ t ++ steps (marks_tree s) ∷ [] → m ≡ capped (n + 1) → left P go (spot_of p v u e) (left_of ss vs ls m) ≡ left P (at_modal l Nu go) (spot_of p w t e) (left_of ss whole ls n)
+  pub nu-by : (l : Logic) (go : Go) (p : ℕ) (w v s : List GroundMark) (t u : List Value) (e : List GroundTerm) (ss : List Side) (whole vs : List Value) (ls : List GroundLiteral) (n m k : ℕ) → whole ≡ steps (marks_tree s) ∷ vs → k ≡ length s → is_step_length l k ≡ true → v ≡ nu_label l w s → u ≡ t ++ steps (marks_tree s) ∷ [] → m ≡ capped (n + 1) → left P go (spot_of p v u e) (left_of ss vs ls m) ≡ left P (at_modal l Nu go) (spot_of p w t e) (left_of ss whole ls n)
   nu-by l go p w v s t u e ss whole vs ls n m k a b d f g h = rw (f, g, h) (ap (λ x. left P go (spot_of p (nu_label l w x) (t ++ steps (marks_tree s) ∷ []) e) (left_of ss vs ls (capped (n + 1)))) (sym (marks_list-marks_tree s)) ∙ sym (left-nu l go (spot_of p w t e) (left_of ss whole ls n) (marks_tree s) vs k a (b ∙ ap length (sym (marks_list-marks_tree s))) d))
 
-  pub nu-not : (l : Logic) (go : Go) (c : Spot) (r : Left) (s : List GroundMark) (vs : List Value) (k : ℕ) → r.supply.values ≡ steps (marks_tree s) ∷ vs → k ≡ length s → is_step_of l k ≡ false → None ≡ left P (at_modal l Nu go) c r
+  pub nu-not : (l : Logic) (go : Go) (c : Spot) (r : Left) (s : List GroundMark) (vs : List Value) (k : ℕ) → r.supply.values ≡ steps (marks_tree s) ∷ vs → k ≡ length s → is_step_length l k ≡ false → None ≡ left P (at_modal l Nu go) c r
   nu-not l go c r s vs k a b d = left-nu_not l go c r (marks_tree s) vs k a (b ∙ ap length (sym (marks_list-marks_tree s))) d
 
   pub gamma-by : (l : Logic) (go : Go) (p q : ℕ) (w : List GroundMark) (x : GroundTerm) (t u : List Value) (e f : List GroundTerm) (ss : List Side) (whole vs : List Value) (ls : List GroundLiteral) (n : ℕ) (b : Bool) → whole ≡ term x ∷ vs → b ≡ is_allowed P w x → b ≡ true → q ≡ p + 1 → u ≡ t ++ term x ∷ [] → f ≡ x ∷ e → left P go (spot_of q w u f) (left_of ss vs ls n) ≡ left P (at_quantifier Gamma go) (spot_of p w t e) (left_of ss whole ls n)

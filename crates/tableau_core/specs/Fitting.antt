@@ -2,30 +2,21 @@
 use Rattle.std.specs.Prelude.{ℕ, List, [], ◌∷◌, length, Bool, true, false, ◌&&◌, ◌==◌, nat_le, Option, Some, None, option_and_then, if◌then◌else◌}
 use Rattle.std.specs.Option.{option_map_or}
 use Rattle.calculus.specs.declared.setting.Logic.{Logic}
-use Rattle.calculus.specs.declared.setting.Logic.TheVariants.{Classical, Intuitionistic, D, T as LogicT, S4, S5}
 use Rattle.calculus.specs.declared.kind.Shape.{Shape}
 use Rattle.calculus.specs.declared.kind.Shape.TheVariants.{Gamma}
 use Rattle.calculus.specs.declared.kind.ModalPart.{ModalPart}
 use Rattle.calculus.specs.declared.kind.ModalPart.TheVariants.{Nu}
 use Rattle.calculus.specs.Ground.{GroundMark, Value, term, steps, marks_list}
 use Rattle.calculus.specs.Kinds.{shape_of, modal_of}
+use Rattle.calculus.specs.Labels.{is_step_length, keeps_prefix}
 use Rattle.calculus.specs.Positions.{Node}
 use Rattle.calculus.specs.Skolem.{is_delta, is_pi, is_empty, last_node}
 use Rattle.tableau_core.specs.declared.way.Maker.{Maker}
 use Rattle.tableau_core.specs.declared.way.Maker.TheVariants as maker
 
--- a string of n characters is a nu step, from whatever label
-abbrev pub is_step_of : Logic → ℕ → Bool
-is_step_of Classical n = n == 0
-is_step_of Intuitionistic n = true
-is_step_of D n = n == 1
-is_step_of LogicT n = nat_le n 1
-is_step_of S4 n = true
-is_step_of S5 n = nat_le n 1
-
 -- the values that are left past a position, where it finds those that it takes
 abbrev pub past_string : Logic → List Value → Option (List Value)
-past_string l (steps s ∷ vs) = if is_step_of l (length (marks_list s)) then Some vs else None
+past_string l (steps s ∷ vs) = if is_step_length l (length (marks_list s)) then Some vs else None
 past_string l _ = None
 
 abbrev pub past_modal : Logic → ModalPart → List Value → Option (List Value)
@@ -61,5 +52,4 @@ is_made k l ns vs = option_map_or (λ (n : Node). is_maker k (modal_of l n.sign 
 
 -- the label from which a step goes on
 abbrev pub start_of : Logic → List GroundMark → List GroundMark
-start_of S5 w = []
-start_of _ w = w
+start_of l w = if keeps_prefix l then w else []

@@ -1,29 +1,16 @@
 //! Which ground values an instance admits: all names inside are proper, and function symbols have
 //! as many arguments as their arity.
 
-ghost use Rattle.std.specs.Prelude.{◌≡◌, length, slice_get};
+ghost use Rattle.std.specs.Prelude.{◌≡◌};
 ghost use Rattle.calculus.specs.Ground.{marks_tree, values_tree};
 ghost use Rattle.calculus.specs.Lists.{g_terms_tree};
-ghost use Rattle.calculus.specs.Skolem.{are_admitted, are_admitted_marks, are_admitted_values, has_function, is_admitted, is_admitted_mark, is_admitted_value};
+ghost use Rattle.calculus.specs.Skolem.{are_admitted, are_admitted_marks, are_admitted_values, is_admitted, is_admitted_mark, is_admitted_value};
 ghost use Rattle.formula_core.specs.GroundView.{the_g_term, the_mark, the_value};
 
 use crate::sized::SizedProblem;
 use crate::way::{Maker, is_made};
-use cop_base::SymbolId;
-use formula_core::{
-    GroundLabel, GroundMark, GroundTerm, GroundTerms, SymbolClass, Symbols, Value, Values,
-};
-
-// Whether the symbol is a function symbol with so many arguments.
-fn has_function(symbols: &Symbols, f: SymbolId, count: usize) -> bool
-    ensures { result ≡ has_function symbols.now f.0 count }
-{
-    if f.0 as usize >= symbols.len() {
-        return false;
-    }
-    let symbol = symbols.get(f);
-    symbol.class == SymbolClass::Function && symbol.arity as usize == count
-}
+use formula_core::{GroundLabel, GroundMark, GroundTerm, GroundTerms, Value, Values};
+use logic_rules::has_function;
 
 #[cycle(admission)]
 fn is_admitted(problem: &SizedProblem, term: &GroundTerm) -> bool

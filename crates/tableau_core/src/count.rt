@@ -1,7 +1,6 @@
 //! What is counted of instances.
 
 ghost use Rattle.std.specs.Prelude.{◌≡◌, map, max};
-ghost use Rattle.calculus.specs.Tableaux.{has_unbounded_strings};
 ghost use Rattle.formula_core.specs.GroundView.{the_value};
 ghost use Rattle.tableau_core.specs.Counted.{and_more, is_short_count, longest_string, string_length};
 
@@ -52,22 +51,12 @@ pub fn and_more(so_far: Count, steps: u64, longest: u64) -> Count
     }
 }
 
-fn has_unbounded_strings(logic: Logic) -> bool
-    ensures { result ≡ has_unbounded_strings logic }
-{
-    match logic {
-        Logic::Intuitionistic | Logic::S4 => true,
-        Logic::Classical | Logic::D | Logic::T | Logic::S5 => false,
-    }
-}
-
 /// Whether no string is longer than the number of steps, where the logic asks for it.
 pub fn is_short(logic: Logic, count: Count) -> bool
     ensures { result ≡ is_short_count logic count }
 {
-    if has_unbounded_strings(logic) {
-        count.longest <= count.steps
-    } else {
-        true
+    match logic.greatest_length() {
+        Some(_) => true,
+        None => { count.longest <= count.steps }
     }
 }

@@ -82,13 +82,11 @@ pub fn copy_label<'a>(alloc: Global, label: &[MarkAt<'a>]) -> Result<Vec<MarkAt<
 fn start<'a>(alloc: Global, logic: Logic, label: &[MarkAt<'a>]) -> Result<Vec<MarkAt<'a>>, NoMemory>
     ensures { IfOk result (λ v. map the_mark_at v.items ≡ start_of logic (map the_mark_at label.now)) }
 {
-    match logic {
-        Logic::S5 => Ok(Vec::new(alloc)),
-        Logic::Classical | Logic::Intuitionistic | Logic::D | Logic::T | Logic::S4 => {
-            let all = copy_label(alloc, label)?;
-            Ok(all)
-        }
+    if !logic.keeps_prefix() {
+        return Ok(Vec::new(alloc));
     }
+    let all = copy_label(alloc, label)?;
+    Ok(all)
 }
 
 /// The label of a pi step.

@@ -29,7 +29,6 @@ use crate::pattern::are_instances;
 use crate::references::{with_bound, with_mark, with_string, with_value};
 use crate::sized::SizedProblem;
 use crate::spot::{Bound, MarkAt, Taken, is_label};
-use crate::way::is_step_of;
 use calculus::sign::Side;
 use cop_base::{NoMemory, PosId, SymbolId};
 use formula_core::{GroundLabel, GroundTerm, Sign, Terms, Value};
@@ -217,7 +216,7 @@ fn walk_nu<'v>(
         None => Ok(None),
         Some(found) => {
             let string = found.string.items();
-            if !is_step_of(logic, string.len()) {
+            if !logic.is_step_length(string.len()) {
                 return Ok(None);
             }
             let label = with_string(alloc, logic, spot.label, string)?;

@@ -7,7 +7,7 @@ ghost use Rattle.calculus.specs.Positions.{size, way_from};
 ghost use Rattle.calculus.specs.Skolem.{way_to};
 ghost use Rattle.formula_core.specs.FormulaView.{the_formula};
 ghost use Rattle.formula_core.specs.GroundView.{the_value};
-ghost use Rattle.tableau_core.specs.Fitting.{is_made, is_maker, is_step_of, past_modal, past_node, past_shape, past_string, past_term};
+ghost use Rattle.tableau_core.specs.Fitting.{is_made, is_maker, past_modal, past_node, past_shape, past_string, past_term};
 ghost use Rattle.tableau_core.specs.InsideView.{LeadsOn, the_inside};
 ghost use Rattle.tableau_core.specs.PartView.{the_part};
 ghost use Rattle.tableau_core.specs.ValuesAt.{values_left};
@@ -26,24 +26,12 @@ pub enum Maker {
     Pi,
 }
 
-/// Whether a string of so many characters is a nu step of the logic. Its start does not matter.
-pub fn is_step_of(logic: Logic, length: usize) -> bool
-    ensures { result ≡ is_step_of logic length }
-{
-    match logic {
-        Logic::Classical => length == 0,
-        Logic::Intuitionistic | Logic::S4 => true,
-        Logic::D => length == 1,
-        Logic::T | Logic::S5 => length <= 1,
-    }
-}
-
 fn past_string(logic: Logic, values: &[Value]) -> Option<&[Value]>
     ensures { option_map values_left result ≡ past_string logic (map the_value values.now) }
 {
     match values.split_first() {
         Some((Value::Steps(string), rest)) => {
-            if is_step_of(logic, string.items().len()) {
+            if logic.is_step_length(string.items().len()) {
                 Some(rest)
             } else {
                 None

@@ -53,11 +53,11 @@ walk_gamma-returns-in_ok-past-in-Some t c = let l = c.args.logic in let P = c.ar
 pub walk_gamma-returns-in-None : goal.walk_gamma-returns-in-None
 walk_gamma-returns-in-None t c = let l = c.args.logic in let P = c.args.problem.now in let x = the_spot c.args.spot.now in let r = the_left c.args.rest.now in let go = part_of l (the_formula c.args.a.formula.now) c.args.a.sign in gamma-none P l go x r (map the_value c.args.rest.now.values.now) refl c.in-None.ensures
 
-pub walk_nu-returns-then-not-is_step_of : goal.walk_nu-returns-then-not-is_step_of
-walk_nu-returns-then-not-is_step_of t c = let l = c.args.logic in let P = c.args.problem.now in let x = the_spot c.args.spot.now in let r = the_left c.args.rest.now in let go = shaped_by l (shape_of c.args.a.sign (the_formula c.args.a.formula.now)) (components c.args.a.sign (the_formula c.args.a.formula.now)) in let q = c.in-Some.found in nu-not P l go x r q.string.now (map the_value q.after.now) (length c.items-string.result.now) c.in-Some.ensures.0 (sym (length-map c.items-string.result.now the_mark) ∙ ap length c.items-string.ensures) (sym c.is_step_of.ensures ∙ c.if-not-is_step_of.true)
+pub walk_nu-returns-then-not-is_step_length : goal.walk_nu-returns-then-not-is_step_length
+walk_nu-returns-then-not-is_step_length t c = let l = c.args.logic in let P = c.args.problem.now in let x = the_spot c.args.spot.now in let r = the_left c.args.rest.now in let go = shaped_by l (shape_of c.args.a.sign (the_formula c.args.a.formula.now)) (components c.args.a.sign (the_formula c.args.a.formula.now)) in let q = c.in-Some.found in nu-not P l go x r q.string.now (map the_value q.after.now) (length c.items-string.result.now) c.in-Some.ensures.0 (sym (length-map c.items-string.result.now the_mark) ∙ ap length c.items-string.ensures) (sym c.is_step_length.ensures ∙ c.if-not-is_step_length.true)
 
 pub walk_nu-returns-in_ok-past-in-Some : goal.walk_nu-returns-in_ok-past-in-Some
-walk_nu-returns-in_ok-past-in-Some t c = let l = c.args.logic in let P = c.args.problem.now in let x = the_spot c.args.spot.now in let r = the_left c.args.rest.now in let go = shaped_by l (shape_of c.args.a.sign (the_formula c.args.a.formula.now)) (components c.args.a.sign (the_formula c.args.a.formula.now)) in let q = c.in-Some.found in c.in_ok-past-in-Some.ensures ∙ nu-by P l go x.position x.label (map the_mark_at c.deref.result.now) q.string.now x.taken (values_at c.deref-in-Some.result.now) x.env r.supply.sides r.supply.values (map the_value q.after.now) r.literals r.steps c.saturating_add.result (length c.items-string.result.now) c.in-Some.ensures.0 (sym (length-map c.items-string.result.now the_mark) ∙ ap length c.items-string.ensures) (sym c.is_step_of.ensures ∙ c.if-not-is_step_of.false) (ap (map the_mark_at) c.deref.ensures.value ∙ c.in_ok-label-in-Some.ensures ∙ ap (nu_label l x.label) c.items-string.ensures) (ap values_at c.deref-in-Some.ensures.value ∙ c.in_ok-taken-in-Some.ensures ∙ ap (λ v. x.taken ++ v ∷ []) c.in-Some.ensures.1) c.saturating_add.ensures
+walk_nu-returns-in_ok-past-in-Some t c = let l = c.args.logic in let P = c.args.problem.now in let x = the_spot c.args.spot.now in let r = the_left c.args.rest.now in let go = shaped_by l (shape_of c.args.a.sign (the_formula c.args.a.formula.now)) (components c.args.a.sign (the_formula c.args.a.formula.now)) in let q = c.in-Some.found in c.in_ok-past-in-Some.ensures ∙ nu-by P l go x.position x.label (map the_mark_at c.deref.result.now) q.string.now x.taken (values_at c.deref-in-Some.result.now) x.env r.supply.sides r.supply.values (map the_value q.after.now) r.literals r.steps c.saturating_add.result (length c.items-string.result.now) c.in-Some.ensures.0 (sym (length-map c.items-string.result.now the_mark) ∙ ap length c.items-string.ensures) (sym c.is_step_length.ensures ∙ c.if-not-is_step_length.false) (ap (map the_mark_at) c.deref.ensures.value ∙ c.in_ok-label-in-Some.ensures ∙ ap (nu_label l x.label) c.items-string.ensures) (ap values_at c.deref-in-Some.ensures.value ∙ c.in_ok-taken-in-Some.ensures ∙ ap (λ v. x.taken ++ v ∷ []) c.in-Some.ensures.1) c.saturating_add.ensures
 
 pub walk_nu-returns-in-None : goal.walk_nu-returns-in-None
 walk_nu-returns-in-None t c = let l = c.args.logic in let P = c.args.problem.now in let x = the_spot c.args.spot.now in let r = the_left c.args.rest.now in let go = shaped_by l (shape_of c.args.a.sign (the_formula c.args.a.formula.now)) (components c.args.a.sign (the_formula c.args.a.formula.now)) in nu-none P l go x r (map the_value c.args.rest.now.values.now) refl c.in-None.ensures
