@@ -204,16 +204,14 @@ impl Labels {
     }
 
     // The label behind which a pi step puts its mark.
+    #[tactic(auto, using(calculus::proofs::LogicLaws::labels))]
     fn before_pi(&self, logic: Logic, from: u32) -> u32
         requires { from < length self.now }
         ensures within { result < length self.now }
         ensures before { (m : derivation.Mark)
             → pi_label logic (get_or self.now from []) m ≡ get_or self.now result [] ++ m ∷ [] }
     {
-        match logic {
-            Logic::S5 => self.root(),
-            Logic::Classical | Logic::Intuitionistic | Logic::D | Logic::T | Logic::S4 => from,
-        }
+        if logic.keeps_prefix() { from } else { self.root() }
     }
 
     /// Adds the label of a pi step from that of a place with the new mark. In S5 that is the mark
