@@ -57,6 +57,6 @@ pub fn is_short(logic: Logic, count: Count) -> bool
 {
     match logic.greatest_length() {
         Some(_) => true,
-        None => { count.longest <= count.steps }
+        None => count.longest <= count.steps,
     }
 }
