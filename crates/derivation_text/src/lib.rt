@@ -17,6 +17,7 @@ mod step_reader;
 mod writer;
 
 pub use calculus::fault::TextCause;
+pub use conversion::derivation_of;
 pub use fault::ParseFault;
 pub use parser::{parse, read};
 pub use row_step::{RowArg, RowDerivation, RowStep, RowSteps};
