@@ -1,5 +1,5 @@
 -- What a classical state keeps under the steps of the search.
-use Rattle.std.proofs.Common.{◌++◌, ◌≡◌, ◌⊎◌, ℕ, zero, suc, ◌<◌, List, [], ◌∷◌, length, remove, Bool, true, false, ◌&&◌, IsTrue, refl, sym, ◌∙◌, ap, subst, Option, Some, None, option_map, slice_get, inl, inr, arith, ◌≤◌, nat_le, le-leb, drop}
+use Rattle.std.proofs.Common.{◌++◌, ◌≡◌, ℕ, zero, suc, ◌<◌, List, [], ◌∷◌, length, remove, Bool, true, false, ◌&&◌, IsTrue, refl, sym, ◌∙◌, ap, subst, Option, Some, None, option_map, slice_get, inl, inr, arith, ◌≤◌, nat_le, le-leb, drop}
 use Rattle.std.specs.Option.{option_map_or}
 use Rattle.std.specs.List.{list_all}
 use Rattle.std.proofs.lemmas.Bool.{false≢true, and_parts, and_from}

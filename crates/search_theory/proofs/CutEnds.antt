@@ -1,5 +1,5 @@
 -- What the search that does not return to solved goals finds at one limit, start by start.
-use Rattle.std.proofs.Common.{◌≡◌, ◌⊎◌, ◌+◌, ◌<◌, ◌≤◌, ℕ, zero, suc, List, [], ◌∷◌, ◌++◌, length, map, IsTrue, refl, sym, ◌∙◌, ap, subst, Option, Some, None, slice_get, arith, inl, inr, append_assoc, append-nil}
+use Rattle.std.proofs.Common.{◌≡◌, ◌+◌, ◌<◌, ◌≤◌, ℕ, zero, suc, List, [], ◌∷◌, ◌++◌, length, map, refl, sym, ◌∙◌, ap, subst, slice_get, arith, inl, inr, append_assoc, append-nil}
 use Rattle.std.proofs.lemmas.Bool.{cases_lt}
 use Rattle.std.specs.Prelude.{Contains}
 use Rattle.std.specs.Cmp.{tied_itself}
@@ -8,7 +8,7 @@ use Rattle.calculus.specs.declared.sign.Sign.TheVariants.{F}
 use Rattle.calculus.specs.declared.sign.Side.{Side}
 use Rattle.calculus.specs.Syntax.{Problem}
 use Rattle.calculus.specs.Clauses.{clause_size, selections}
-use Rattle.calculus.specs.Tableaux.{Tableau, is_closed}
+use Rattle.calculus.specs.Tableaux.{Tableau}
 use Rattle.calculus.specs.Choices.{start, Choice, choices_of, ground_choices, selection_cmp}
 use Rattle.calculus.specs.Counting.{IsRising}
 use Rattle.calculus.specs.Cut.{First, first, Fills, filled, fill, Stuck, stuck, no_first, Cuts, IsCut, HasCut, followed_by}

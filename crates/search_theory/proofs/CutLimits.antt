@@ -1,34 +1,35 @@
 -- Where a search that does not return to solved goals was not stopped by its limit, each greater limit has the same result: what is sound
 -- within a limit is so within each greater one, a goal has no choice more there, and the closed tableaux of a list are the same.
-use Rattle.std.proofs.Common.{◌≡◌, ◌⊎◌, ℕ, suc, ◌+◌, ◌<◌, ◌≤◌, List, [], ◌∷◌, ◌++◌, length, map, Bool, true, false, ◌&&◌, IsTrue, refl, sym, ◌∙◌, ap, subst, Option, Some, None, option_and_then, slice_get, nat_lt, IsSomeAnd, arith, append_assoc, append-nil, inl, inr, ltb-true, lt-ltb}
-use Rattle.std.specs.List.{list_all}
-use Rattle.std.proofs.lemmas.Bool.{cases_lt}
+use Rattle.std.proofs.Common.{◌≡◌, ◌⊎◌, ℕ, suc, ◌+◌, ◌<◌, ◌≤◌, List, [], ◌∷◌, ◌++◌, length, map, Bool, true, false, ◌&&◌, IsTrue, refl, sym, ◌∙◌, ap, subst, Option, Some, None, option_and_then, slice_get, nat_lt, IsSomeAnd, arith, append_assoc, append-nil, inl, inr, ltb-true, lt-ltb, zero, replicate}
+use Rattle.std.specs.List.{AllByRecursion, list_all}
+use Rattle.std.proofs.lemmas.Bool.{and_from, and_parts, cases_lt}
 use Rattle.calculus.specs.declared.sign.Side.{Side}
 use Rattle.calculus.specs.Syntax.{Problem}
 use Rattle.calculus.specs.ComputedInstances.{is_instance}
 use Rattle.calculus.specs.Tableaux.{is_shown}
 use Rattle.calculus.specs.Choices.{start, reduction, extension, Choice, GroundChoice, choice_of, choices_of, ground_choices, Goal, Growth, is_opposite, after_start, grow_at, grow, growth_of, is_within, IsLive}
 use Rattle.calculus.specs.Clauses.{clause_size}
-use Rattle.calculus.specs.Cut.{IsRegularLive, Fills, followed_by}
-use Rattle.store_theory.specs.Stores.{Store}
+use Rattle.calculus.specs.Cut.{IsRegularLive, Fills, followed_by, goals_added}
+use Rattle.store_theory.specs.Stores.{Solution, Store}
 use Rattle.calculus.proofs.GrowthLaws.{closed_growth, closed-parts, grown-closed}
 use Rattle.calculus.proofs.LimitLaws.{lowered}
-use Rattle.search_theory.specs.Cutting.{AreUntried, FailsFrom, depths_after, depths_from}
+use Rattle.search_theory.specs.Cutting.{AreUntried, FailsFrom, IsToldOf, depths_after, depths_from}
 use Rattle.search_theory.specs.Exploring.{IsClosedList}
 use Rattle.search_theory.specs.Goals.{IsChoiceAt, by_ancestor, by_clause}
 use Rattle.search_theory.specs.Matrix.{MatrixClause, IsTemplateMatrix}
 use Rattle.search_theory.specs.OrderedChoices.{choices_at}
-use Rattle.search_theory.specs.States.{CellChoice, CellGoal, IsStateOf}
-use Rattle.search_theory.proofs.BeginningLaws.{ClosedBeginning, IsDead, is_not_empty}
+use Rattle.search_theory.specs.States.{CellChoice, CellGoal, State, IsGround, IsStateOf, choice_at, growth_at}
+use Rattle.search_theory.proofs.BeginningLaws.{IsDead, is_not_empty}
 use Rattle.search_theory.proofs.BelowLaws.{all-weaken}
 use Rattle.search_theory.proofs.ChoiceLaws.{choices-complete}
 use Rattle.search_theory.proofs.CutEnds.{fails-whole}
-use Rattle.search_theory.proofs.DepthLaws.{path_lengths, start-depths, step-depths}
+use Rattle.search_theory.proofs.DepthLaws.{cell_path_lengths, path_lengths, start-depths, state-depths, step-depths}
 use Rattle.search_theory.proofs.ExtensionLaws.{state_at}
+use Rattle.search_theory.proofs.ImageLaws.{names-image}
 use Rattle.search_theory.proofs.LastChoice.{none≢some}
 use Rattle.search_theory.proofs.NextLaws.{next-choice}
-use Rattle.search_theory.proofs.SoundLaws.{beginning-sound, dead-unsound, sound-beginning}
-use Rattle.search_theory.proofs.StepLaws.{grows-live, if-some}
+use Rattle.search_theory.proofs.SoundLaws.{all-untried, beginning-sound, dead-unsound, sound-beginning}
+use Rattle.search_theory.proofs.StepLaws.{if-some}
 
 -- ---- how many goals are above each extension
 
@@ -127,3 +128,54 @@ untried-beyond P m d e c s cs g gs every ds matrix h n short dead y live =
           let at : IsChoiceAt P (d + 1) g (extension sides place) = subst (IsChoiceAt P (d + 1) g) is (subst (λ k. IsChoiceAt P (k + 1) g y) same choice) in
           dead-unsound P e (c ++ extension sides place ∷ []) (dead same sides place at) (subst (λ z. IsRegularLive P e (followed_by c z)) is live))
     ]
+
+-- ---- how long the paths of open goals are
+
+-- a path is at most one goal longer than that of an extension
+short-from : (P : Problem) (d : ℕ) (ks : List ℕ) (c : List Choice) → AllByRecursion (λ k. k ≤ d) ks → IsTrue (list_all (λ n. nat_lt n d) (depths_made P ks c)) → AllByRecursion (λ k. k ≤ d) (depths_from P ks c)
+short-from P d ks [] h w = h
+short-from P d ks (x ∷ c) h w =
+    let parts = all-parted (λ n. nat_lt n d) (depth_of x ks) (depths_made P (depths_after P x ks) c) w in
+    short-from P d (depths_after P x ks) c (after x ks h parts.0) parts.1
+  where
+    all-parted : (f : ℕ → Bool) (xs ys : List ℕ) → IsTrue (list_all f (xs ++ ys)) → IsTrue (list_all f xs) × IsTrue (list_all f ys)
+    all-parted f [] ys k = (refl, k)
+    all-parted f (z ∷ xs) ys k = let q = and_parts (f z) (list_all f (xs ++ ys)) k in let r = all-parted f xs ys q.1 in (and_from (f z) (list_all f xs) q.0 r.0, r.1)
+
+    so-many : (n k : ℕ) (ys : List ℕ) → k ≤ d → AllByRecursion (λ i. i ≤ d) ys → AllByRecursion (λ i. i ≤ d) (replicate n k ++ ys)
+    so-many zero k ys l g = g
+    so-many (suc n) k ys l g = (l, so-many n k ys l g)
+
+    after : (y : Choice) (is : List ℕ) → AllByRecursion (λ k. k ≤ d) is → IsTrue (list_all (λ n. nat_lt n d) (depth_of y is)) → AllByRecursion (λ k. k ≤ d) (depths_after P y is)
+    after (start s) is g k = subst (AllByRecursion (λ i. i ≤ d)) (append-nil (replicate (clause_size P s) 0)) (so-many (clause_size P s) 0 [] (omega arith) tt)
+    after (reduction up) [] g k = tt
+    after (reduction up) (i ∷ is) g k = g.1
+    after (extension s place) [] g k = tt
+    after (extension s place) (i ∷ is) g k =
+        let l : i < d = ltb-true i d (and_parts (nat_lt i d) true k).0 in
+        so-many (goals_added P (extension s place)) (suc i) is (omega (arith, l)) g.1
+
+-- no path of an open goal of a state is longer than the limit
+pub state-short : (P : Problem) (d : ℕ) (c : List Choice) (S : State) (σ : Solution) → IsStateOf P d c S → IsGround P S σ → AllByRecursion (λ k. k ≤ d) (cell_path_lengths S.growth.open_goals)
+state-short P d c S σ h ground =
+    let made : S.growth.depths ≡ depths_made P [] c = grown-made P (map (choice_at σ) S.choices) (growth_at σ S.growth) (h.sound σ ground) ∙ ap (depths_made P []) (names-image σ S.choices ∙ h.names) in
+    subst (AllByRecursion (λ k. k ≤ d)) (sym (state-depths P d c S σ h ground)) (short-from P d [] c tt (subst (λ ns. IsTrue (list_all (λ n. nat_lt n d) ns)) made h.within))
+
+-- ---- the limits of which a search tells
+
+pub told-itself : (d : ℕ) (left : Bool) → IsToldOf d left d
+told-itself d left = inl refl
+
+pub told-from : (d e : ℕ) (left : Bool) → IsToldOf d left e → d ≤ e
+told-from d e left (inl same) = omega (arith, same)
+told-from d e left (inr (far, k)) = far
+
+-- they are no more where it is shown that the limit is left
+pub told-before : (d e : ℕ) (known left : Bool) → (left ≡ false → known ≡ false) → IsToldOf d left e → IsToldOf d known e
+told-before d e known left h (inl same) = inl same
+told-before d e known left h (inr (far, k)) = inr (far, h k)
+
+-- at each of them the goal has no other choices
+pub untried-told : (P : Problem) (m : List MatrixClause) (d e : ℕ) (left : Bool) (c : List Choice) (s : Store) (cs : List CellChoice) (g : CellGoal) (gs every : List CellGoal) (ds : List ℕ) → IsTemplateMatrix P m → IsStateOf P d c (state_at s cs g gs every ds) → IsTrue (is_not_empty c) → length g.path ≤ d → (left ≡ false → length g.path ≡ d → (sides : List Side) (place : ℕ) → IsChoiceAt P (d + 1) g (extension sides place) → IsDead P (c ++ extension sides place ∷ [])) → IsToldOf d left e → AreUntried P e c (choices_at m d g)
+untried-told P m d e left c s cs g gs every ds matrix h n short dead (inl same) = subst (λ k. AreUntried P k c (choices_at m d g)) (sym same) (all-untried P m d c s cs g gs every ds matrix h n)
+untried-told P m d e left c s cs g gs every ds matrix h n short dead (inr (far, k)) = untried-beyond P m d e c s cs g gs every ds matrix h n short (dead k)

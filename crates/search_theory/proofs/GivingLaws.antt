@@ -1,8 +1,7 @@
 -- Giving strings their lengths by new mark variables, and making labels equal mark by mark.
-use Rattle.std.proofs.Common.{replicate, ◌≡◌, ℕ, zero, suc, List, [], ◌∷◌, ◌++◌, length, Bool, IsTrue, refl, sym, ◌∙◌, ap, ap₂, subst, Option, Some, None, slice_get, nat_lt, arith, lt-ltb, ltb-true}
+use Rattle.std.proofs.Common.{replicate, ◌≡◌, ℕ, suc, List, [], ◌∷◌, ◌++◌, length, Bool, IsTrue, refl, sym, ◌∙◌, ap, ap₂, subst, Option, Some, None, slice_get, nat_lt, arith, lt-ltb, ltb-true}
 use Rattle.std.specs.List.{list_all}
 use Rattle.std.proofs.lemmas.Bool.{false≢true, and_parts, and_from}
-use Rattle.calculus.specs.declared.sort.Sort.{Sort}
 use Rattle.calculus.specs.declared.sort.Sort.TheVariants.{MarkSort}
 use Rattle.calculus.specs.Ground.{GroundMark}
 use Rattle.store_theory.specs.Stores.{variable, string_cell, Store, has_sort_at, parts_fit, is_store, EndsAt, stays, goes_on, CellValue, a_term, a_mark, a_string, has_sort, Solution, cons_mark, marks_at, join_label, label_at, Solves, names_below}

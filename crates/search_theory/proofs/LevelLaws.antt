@@ -1,20 +1,18 @@
 -- The goals that are being solved: a choice more, a choice that fails, a goal that is solved.
-use Rattle.std.proofs.Common.{◌≡◌, ◌⊎◌, ℕ, zero, suc, pred, List, [], ◌∷◌, ◌++◌, length, replicate, refl, sym, ◌∙◌, ap, subst, Some, None, slice_get, arith, inl, inr, false}
-use Rattle.std.specs.Ordering.{ordering_reverse}
-use Rattle.std.specs.Cmp.{IsTotalOrder, tied_itself}
-use Rattle.std.specs.declared.cmp.Ordering.{Ordering}
-use Rattle.std.specs.declared.cmp.Ordering.TheVariants.{Less, Equal, Greater}
+use Rattle.std.proofs.Common.{◌≡◌, ◌⊎◌, ℕ, zero, suc, List, [], ◌∷◌, ◌++◌, length, replicate, refl, sym, ◌∙◌, ap, subst, inl, inr, Bool, false}
+use Rattle.std.specs.Cmp.{tied_itself}
+use Rattle.std.specs.declared.cmp.Ordering.TheVariants.{Less, Equal}
 use Rattle.calculus.specs.declared.sign.Side.{Side}
 use Rattle.calculus.specs.Syntax.{Problem}
 use Rattle.calculus.specs.Clauses.{clause_size}
 use Rattle.calculus.specs.Choices.{start, reduction, extension, Choice, choice_cmp}
 use Rattle.calculus.specs.Counting.{IsRising}
-use Rattle.calculus.specs.Cut.{IsRegularLive, First, first, NoFirst, no_first, Fills, filled, fill, Stuck, stuck, stuck_later, followed_by, goals_added}
+use Rattle.calculus.specs.Cut.{IsRegularLive, First, first, Fills, filled, fill, Stuck, stuck_later, followed_by, goals_added}
 use Rattle.calculus.proofs.OrderLaws.{choice_cmp_total}
 use Rattle.search_theory.specs.Exploring.{IsIn}
 use Rattle.search_theory.proofs.ExploreLaws.{rising-tail}
 use Rattle.search_theory.proofs.ExtensionLaws.{is_start}
-use Rattle.search_theory.specs.Cutting.{open_depths, depths_after, depths_from, ComesDown, AreUntried, Level, IsLevel, level_depths, AreLevels, IsTrying, IsSettled}
+use Rattle.search_theory.specs.Cutting.{open_depths, depths_after, depths_from, ComesDown, AreUntried, Level, IsLevel, level_depths, AreLevels, IsTrying, IsSettled, IsToldOf}
 
 -- ---- what it comes down to
 
@@ -62,13 +60,13 @@ pub levels-depths : (P : Problem) (d : ℕ) (s : List Side) (ls : List Level) (n
 levels-depths P d s [] n c h = h.0
 levels-depths P d s (l ∷ ls) n c h = h.0
 
--- the levels that are left where the leftmost open goal has a path of k goals
-pub settled : (P : Problem) (d : ℕ) (s : List Side) (ls : List Level) (n : ℕ) (c : List Choice) (k : ℕ) (ks : List ℕ) → AreLevels P d s ls n c → level_depths ls n ≡ k ∷ ks → IsSettled P d s ls k c
-settled P d s [] zero c k ks h e = cc e
-settled P d s [] (suc n) c k ks h e = let q : 0 ≡ k = cc e in record { solved = []; others = []; waiting = n; are_all = refl; long = q; levels = h }
-settled P d s (l ∷ ls) (suc n) c k ks h e = let q : length (l ∷ ls) ≡ k = cc e in record { solved = []; others = l ∷ ls; waiting = n; are_all = refl; long = q; levels = h }
-settled P d s (l ∷ ls) zero c k ks h e =
-    let r = settled P d s ls l.waiting c k ks (levels-up P d s l ls c h) e in
+-- the levels that are left where the leftmost open goal has a path of k goals; they are the same at each limit
+pub settled : (P : Problem) (d : ℕ) (left : Bool) (s : List Side) (ls : List Level) (n : ℕ) (c : List Choice) (k : ℕ) (ks : List ℕ) → ((e : ℕ) → IsToldOf d left e → AreLevels P e s ls n c) → level_depths ls n ≡ k ∷ ks → IsSettled P d left s ls k c
+settled P d left s [] zero c k ks h e = cc e
+settled P d left s [] (suc n) c k ks h e = let q : 0 ≡ k = cc e in record { solved = []; others = []; waiting = n; are_all = refl; long = q; levels = h }
+settled P d left s (l ∷ ls) (suc n) c k ks h e = let q : length (l ∷ ls) ≡ k = cc e in record { solved = []; others = l ∷ ls; waiting = n; are_all = refl; long = q; levels = h }
+settled P d left s (l ∷ ls) zero c k ks h e =
+    let r = settled P d left s ls l.waiting c k ks (λ f told. levels-up P f s l ls c (h f told)) e in
     record { solved = l ∷ r.solved; others = r.others; waiting = r.waiting; are_all = ap (λ xs. l ∷ xs) r.are_all; long = r.long; levels = r.levels }
 
 -- no goal is left at all
@@ -124,5 +122,5 @@ pub levels-start : (P : Problem) (d : ℕ) (s : List Side) → AreLevels P d s [
 levels-start P d s = (refl, comes-itself P d (clause_size P s) (start s ∷ []))
 
 -- the leftmost goal of the levels that are left, with all its choices to try
-pub trying-first : (P : Problem) (d : ℕ) (s : List Side) (ls : List Level) (k : ℕ) (c xs : List Choice) → (h : IsSettled P d s ls k c) → IsRising choice_cmp xs → AreUntried P d c xs → IsTrying P d s h.others h.waiting c xs
-trying-first P d s ls k c xs h r u = record { levels = h.levels; rising = r; complete = u }
+pub trying-first : (P : Problem) (d e : ℕ) (left : Bool) (s : List Side) (ls : List Level) (k : ℕ) (c xs : List Choice) → (h : IsSettled P d left s ls k c) → IsToldOf d left e → IsRising choice_cmp xs → AreUntried P e c xs → IsTrying P e s h.others h.waiting c xs
+trying-first P d e left s ls k c xs h told r u = record { levels = h.levels e told; rising = r; complete = u }

@@ -1,10 +1,10 @@
 -- A search that goes through lists in order spends its steps on members that rise strictly, whatever it leaves out.
-use Rattle.std.proofs.Common.{◌≡◌, ℕ, suc, ◌≤◌, List, [], ◌∷◌, ◌++◌, length, map, refl, sym, ◌∙◌, ap₂, subst, arith, append_assoc, append-nil}
+use Rattle.std.proofs.Common.{◌≡◌, ℕ, ◌≤◌, List, [], ◌∷◌, ◌++◌, length, map, sym, ◌∙◌, ap₂, subst, arith, append_assoc, append-nil}
 use Rattle.std.specs.List.{AllByRecursion}
 use Rattle.std.proofs.lemmas.List.{length-append}
 use Rattle.std.specs.declared.cmp.Ordering.TheVariants.{Less}
 use Rattle.calculus.specs.Syntax.{Problem}
-use Rattle.calculus.specs.Choices.{Choice, choice_cmp, choices_cmp, IsLive}
+use Rattle.calculus.specs.Choices.{Choice, choices_cmp, IsLive}
 use Rattle.calculus.specs.Counting.{IsRising, MoreThan, AtLeastMany}
 use Rattle.calculus.specs.Space.{Member, with_choices, with_lengths, member_cmp, lengths_cmp}
 use Rattle.calculus.proofs.OrderLaws.{choice_cmp_total}

@@ -1,7 +1,7 @@
 -- Which lists are sound: live, and by a regular tree.
-use Rattle.std.proofs.Common.{◌≡◌, ◌⊎◌, ℕ, List, [], ◌∷◌, ◌++◌, map, IsTrue, refl, sym, ◌∙◌, ap, subst, Option, Some, None, IsSomeAnd, inl, inr}
+use Rattle.std.proofs.Common.{◌≡◌, ℕ, List, map, IsTrue, refl, ◌∙◌, Option, Some, None, IsSomeAnd, inl}
 use Rattle.calculus.specs.Syntax.{Problem}
-use Rattle.calculus.specs.Choices.{Choice, GroundChoice, choices_of, Growth, growth_of, is_within, is_regular, IsLive, Follows}
+use Rattle.calculus.specs.Choices.{Choice, Growth, growth_of, is_within, is_regular, IsLive}
 use Rattle.calculus.proofs.GrowthLaws.{on-some}
 use Rattle.calculus.specs.Cut.{IsRegularLive, followed_by}
 use Rattle.store_theory.specs.Stores.{Store, Solution}
@@ -12,7 +12,6 @@ use Rattle.search_theory.proofs.BeginningLaws.{is_not_empty, ClosedBeginning, Is
 use Rattle.search_theory.proofs.ChoiceLaws.{choices-complete}
 use Rattle.search_theory.proofs.ExtensionLaws.{state_at}
 use Rattle.search_theory.proofs.ImageLaws.{names-image}
-use Rattle.search_theory.proofs.LastChoice.{none≢some}
 use Rattle.search_theory.proofs.NextLaws.{next-choice}
 use Rattle.search_theory.specs.Cutting.{AreUntried}
 

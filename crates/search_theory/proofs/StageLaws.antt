@@ -1,5 +1,5 @@
 -- A clause whose connected literal was copied first: its literals in their order.
-use Rattle.std.proofs.Common.{◌≤◌, length, arith, subst, ◌≡◌, ℕ, zero, suc, List, [], ◌∷◌, ◌++◌, refl, sym, ◌∙◌, ap, Some, slice_get, take, drop}
+use Rattle.std.proofs.Common.{◌≤◌, length, arith, subst, ◌≡◌, ℕ, zero, suc, List, [], ◌∷◌, ◌++◌, refl, sym, ap, Some, slice_get, take, drop}
 use Rattle.std.specs.Prelude.{remove}
 use Rattle.store_theory.specs.Stores.{Store}
 use Rattle.store_theory.specs.Systems.{CellAtom}

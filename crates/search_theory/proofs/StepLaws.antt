@@ -2,17 +2,15 @@
 use Rattle.std.proofs.Common.{◌≡◌, ℕ, List, [], ◌∷◌, ◌++◌, length, map, Bool, true, false, ◌&&◌, IsTrue, refl, sym, ◌∙◌, ap, subst, Option, Some, None, option_and_then, IsSomeAnd, if◌then◌else◌}
 use Rattle.std.specs.List.{list_all, AllByRecursion}
 use Rattle.std.proofs.lemmas.Bool.{false≢true, and_parts, and_from}
-use Rattle.calculus.specs.declared.sign.Sign.TheVariants.{F}
 use Rattle.calculus.specs.declared.sign.Side.{Side}
 use Rattle.calculus.specs.Syntax.{Problem}
 use Rattle.calculus.specs.Ground.{Value}
-use Rattle.calculus.specs.Equality.{sign_eq}
 use Rattle.calculus.specs.Instances.{ClauseInstance}
 use Rattle.calculus.specs.ComputedInstances.{is_instance}
 use Rattle.calculus.specs.Tableaux.{is_shown}
 use Rattle.calculus.specs.Choices.{start, reduction, extension, Choice, GroundChoice, choices_of, Growth, after_start, grow, growth_of, is_within, IsLive}
 use Rattle.store_theory.specs.Stores.{Store, Solution, Solves, names_below}
-use Rattle.store_theory.specs.Patterns.{PatternAtom, Template}
+use Rattle.store_theory.specs.Patterns.{Template}
 use Rattle.store_theory.specs.Templates.{pattern_literal, literals_by, have_sorts, is_choice_of_values, clause_by, IsTemplateOf}
 use Rattle.search_theory.specs.Matrix.{all_shown}
 use Rattle.search_theory.specs.States.{CellClause, CellChoice, State, values_by, literal_by, clause_at, choice_at, growth_at, cell_goals_on, started, atom_is_below, clause_is_below, choice_is_below, goal_is_below, IsAdmittedAt, IsGround, IsStateOf, Agree}

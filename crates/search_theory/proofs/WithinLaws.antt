@@ -1,5 +1,5 @@
 -- Where what is bound occurs in two cells, and so does what it is bound to, sets of cells that have both cells stay closed.
-use Rattle.std.proofs.Common.{◌≡◌, ◌≤◌, ℕ, zero, suc, List, [], ◌∷◌, length, refl, sym, ◌∙◌, ap, subst, Option, None, Some, IsTrue, inl, inr, arith, ◌⊎◌, nat_le, true, ◌&&◌, le-leb, leb-true}
+use Rattle.std.proofs.Common.{◌≡◌, ◌≤◌, ℕ, zero, suc, [], ◌∷◌, refl, sym, ◌∙◌, ap, subst, Option, None, Some, IsTrue, inl, inr, arith, ◌⊎◌, nat_le, true, le-leb, leb-true}
 use Rattle.std.specs.Prelude.{slice_get}
 use Rattle.std.specs.List.{list_all}
 use Rattle.std.proofs.lemmas.Bool.{and_from}

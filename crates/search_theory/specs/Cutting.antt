@@ -1,6 +1,6 @@
 -- The search that does not return to solved goals, on its way: the goals that are being solved, one inside the other, and how many goals
 -- wait behind each.
-use Rattle.std.specs.Prelude.{◌≡◌, ◌⊎◌, ◌<◌, ℕ, suc, List, [], ◌∷◌, ◌++◌, length, replicate, slice_get}
+use Rattle.std.specs.Prelude.{◌≡◌, ◌⊎◌, ◌<◌, ◌≤◌, ℕ, suc, List, [], ◌∷◌, ◌++◌, Bool, false, length, replicate, slice_get}
 use Rattle.calculus.specs.declared.sign.Side.{Side}
 use Rattle.calculus.specs.Syntax.{Problem}
 use Rattle.calculus.specs.Clauses.{clause_size}
@@ -82,14 +82,18 @@ abbrev pub pending_on : List Level → List (List Choice)
 pending_on [] = []
 pending_on (l ∷ ls) = behind l.before l.rest ++ pending_on ls
 
+-- the limits of which a search at the limit d tells: d itself and, where nothing has shown that d is left, each greater one
+abbrev pub IsToldOf : ℕ → Bool → ℕ → Type 0
+IsToldOf d left e = (e ≡ d) ⊎ ((d ≤ e) × (left ≡ false))
+
 -- the levels from the first one on whose goals are not all solved: k of them, where the leftmost open goal has a path of k goals
-pub record IsSettled (P : Problem) (d : ℕ) (s : List Side) (ls : List Level) (k : ℕ) (c : List Choice) : Type 0 where
+pub record IsSettled (P : Problem) (d : ℕ) (left : Bool) (s : List Side) (ls : List Level) (k : ℕ) (c : List Choice) : Type 0 where
   pub solved : List Level
   pub others : List Level
   pub waiting : ℕ
   pub are_all : ls ≡ solved ++ others
   pub long : length others ≡ k
-  pub levels : AreLevels P d s others (suc waiting) c
+  pub levels : (e : ℕ) → IsToldOf d left e → AreLevels P e s others (suc waiting) c
 
 -- ---- starts
 

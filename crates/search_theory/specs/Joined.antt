@@ -5,7 +5,7 @@ use Rattle.std.specs.Option.{option_map_or}
 use Rattle.calculus.specs.Syntax.{Problem}
 use Rattle.calculus.specs.ComputedInstances.{is_allowed_instance}
 use Rattle.calculus.specs.Lists.{closings_tree}
-use Rattle.calculus.specs.Tableaux.{is_complement, ancestor, Closing, Closings, reduce, extend, no_closings, more_closings, Tableau, has_unbounded_strings, strings_within, total_steps}
+use Rattle.calculus.specs.Tableaux.{is_complement, ancestor, Closing, reduce, extend, Tableau, has_unbounded_strings, strings_within, total_steps}
 use Rattle.calculus.specs.Space.{instances_in}
 use Rattle.calculus.specs.Choices.{start, reduction, extension, GroundChoice, Goal, Growth, after_start, grow_at}
 

@@ -12,7 +12,6 @@ use Rattle.calculus.specs.Space.{string_lengths, lengths_in, instances_in}
 use Rattle.store_theory.specs.Stores.{Store, has_sort_at, Solution, Solves, GammaCell}
 use Rattle.store_theory.specs.Systems.{CellAtom, Pair, System, is_gamma_cell, is_system, AreEqual, AreUses, MeetsDemand, AllAllowed, bound_of, HaveLengths}
 use Rattle.search_theory.specs.States.{CellClause, CellGoal, State, clause_at, choice_at, growth_at, new_cell_goals, IsGround, name_of}
-use Rattle.store_theory.specs.Patterns.{patterns_tree, PatternGamma, IsCopy, AreCopies}
 use Rattle.search_theory.specs.Joined.{are_joined}
 
 -- the pairs of a goal with the goals above it

@@ -7,7 +7,6 @@ use Rattle.calculus.specs.declared.sign.Side.TheVariants.{Left, Right}
 use Rattle.calculus.specs.declared.sort.Sort.{Sort}
 use Rattle.calculus.specs.declared.sort.Sort.TheVariants.{TermSort, StringSort}
 use Rattle.calculus.specs.declared.setting.Logic.{Logic}
-use Rattle.calculus.specs.declared.setting.Logic.TheVariants.{S5}
 use Rattle.calculus.specs.declared.kind.Shape.{Shape}
 use Rattle.calculus.specs.declared.kind.Shape.TheVariants.{Alpha, Beta, Gamma, Delta}
 use Rattle.calculus.specs.declared.kind.ModalPart.{ModalPart}
@@ -16,7 +15,7 @@ use Rattle.calculus.specs.Syntax.{Term, Terms, var, fun, eigen, spare, no_terms,
 use Rattle.calculus.specs.Kinds.{other, shape_of, modal_of}
 use Rattle.calculus.specs.Labels.{pi_label}
 use Rattle.calculus.specs.Positions.{size}
-use Rattle.store_theory.specs.Patterns.{patterns_tree, Pattern, Patterns, p_var, p_fun, p_eigen, p_new, no_patterns, more_patterns, PatternAtom, PatternGamma, Template}
+use Rattle.store_theory.specs.Patterns.{patterns_tree, Pattern, p_var, p_fun, p_eigen, p_new, no_patterns, PatternAtom, PatternGamma, Template}
 use Rattle.store_theory.specs.Templates.{strings_from}
 
 -- where a signed formula stands: its position, its label, the variables on the way to it, and the patterns for the bound variables
