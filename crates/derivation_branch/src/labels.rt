@@ -211,7 +211,11 @@ impl Labels {
         ensures before { (m : derivation.Mark)
             → pi_label logic (get_or self.now from []) m ≡ get_or self.now result [] ++ m ∷ [] }
     {
-        if logic.keeps_prefix() { from } else { self.root() }
+        if logic.keeps_prefix() {
+            from
+        } else {
+            self.root()
+        }
     }
 
     /// Adds the label of a pi step from that of a place with the new mark. In S5 that is the mark
