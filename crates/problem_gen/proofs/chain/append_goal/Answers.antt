@@ -1,0 +1,8 @@
+use Rattle.std.proofs.Common.{◌++◌, ◌∙◌, ap}
+use Rattle.problem_gen.proofs.Texts.{next, goal-text}
+use Rattle.problem_gen.proofs.chain.append_goal.Goals as goal
+
+pub returns : goal.returns
+returns c =
+    next _ _ _ _ _ (next _ _ _ _ _ c.in_ok-append_bytes.ensures c.in_ok-append_numbered.ensures) c.in_ok-append_bytes-2.ensures
+    ∙ ap (λ l. c.args.out.now.items ++ l) (goal-text c.args.word.now c.args.last)
