@@ -1,0 +1,20 @@
+# shellcheck shell=bash disable=SC2154
+# tools/usage.py: the written files are those of this program, and they work.
+got="$(tools/usage.py --check "--program=$LEANCOP")"
+same 'usage.py --check' "$got" ''
+if command -v man >/dev/null; then
+    got="$(MANWIDTH=80 man --warnings -l tools/generated/leancop.1 2>&1 >"$folder/page")"
+    same 'warnings of man' "$got" ''
+    has 'the man page' "$(cat "$folder/page")" 'EXIT STATUS'
+else
+    skip 'man is not here'
+fi
+# complete WORD..: what completion offers for the last word, where the words are parted as bash parts them
+complete_words() {
+    bash -c 'compopt() { :; }; . tools/generated/leancop.bash-completion; COMP_WORDS=("$@"); COMP_CWORD=$(($# - 1)); _leancop; echo "${COMPREPLY[*]}"' _ "$@"
+}
+has 'completion of commands' "$(complete_words leancop '')" 'prove check'
+same 'completion of a logic' "$(complete_words leancop prove --logic = c)" classical
+same 'completion of an option' "$(complete_words leancop prove --st)" '--steps='
+same 'completion of another command'"'"'s option' "$(complete_words leancop check --st)" ''
+same 'completion of a file' "$(complete_words leancop check tools/usage.p)" tools/usage.py

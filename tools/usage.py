@@ -1,0 +1,171 @@
+#!/usr/bin/env python3
+"""tools/usage.py [--check] [--program=FILE]
+
+Writes what tells of the program's words, all of it from tools/commands.tsv: the usage that tools/leancop-explain shows, the man
+page and the completion of bash (tools/generated/). The program is asked which commands, options and values of the table it knows,
+so what it does not know is left out. --check writes nothing, and ends with 1 where the files are not those of this program, where
+it refuses a value of the table or takes a number next to its bounds, or where its sources have an option that the table lacks."""
+import glob, os, re, subprocess, sys
+
+HERE = os.path.dirname(os.path.abspath(__file__))
+GENERATED = os.path.join(HERE, "generated")
+PROGRAM = os.path.join(HERE, "../crates/leancop/out/leancop")
+
+
+def read_table():
+    with open(os.path.join(HERE, "commands.tsv")) as table:
+        rows = [line.rstrip("\n").split("\t") for line in table if not line.startswith("#")]
+    return [[row[1:] for row in rows if row[0] == kind] for kind in ("command", "option", "status")]
+
+
+class Asked:
+    """The program, which tells by its first bad word what it knows. A word that is no operand is looked at before any is missed."""
+
+    def __init__(self, program):
+        self.program = program
+
+    def first_bad(self, *words):
+        told = subprocess.run([self.program, *words], stdin=subprocess.DEVNULL, stdout=subprocess.PIPE, text=True).stdout
+        if not told.startswith("bad word "):
+            sys.exit("usage.py: %s answers %r to %s" % (self.program, told[:60], " ".join(words)))
+        return int(told.split()[2])
+
+    def knows(self, *words):
+        return self.first_bad(*words) > len(words)
+
+
+def values_of(option):
+    """Values that are taken, and some that are not."""
+    values = option[4]
+    if values == "folder":
+        return ["x"], [""]
+    if ".." in values:
+        least, most = map(int, values.split(".."))
+        return [str(least), str(most)], [str(least - 1), str(most + 1), "0" + str(most), ""]
+    return values.split(), ["x", ""]
+
+
+def known(asked, faults):
+    """The table without what the program does not know."""
+    commands, options, statuses = read_table()
+    commands = [c for c in commands if asked.knows(c[0])]
+    kept = []
+    for option in options:
+        good, bad = values_of(option)
+        has = [c[0] for c in commands if asked.knows(c[0], option[0] + good[0])]
+        faults += ["%s has %s, and the table says other" % (c, option[0]) for c in has if c not in option[2].split()]
+        for command in has:
+            faults += ["%s refuses %s%s" % (command, option[0], v) for v in good if not asked.knows(command, option[0] + v)]
+            faults += ["%s takes %s%s" % (command, option[0], v) for v in bad if asked.knows(command, option[0] + v)]
+        if has:
+            kept.append(option[:2] + [has] + option[3:])
+    names = [c[0] for c in commands]
+    return commands, kept, [s for s in statuses if set(s[2].split()) & set(names)]
+
+
+def synopsis(command, options):
+    return command[0], command[1], ["[%s%s]" % (o[0], o[1]) for o in options if command[0] in o[2]]
+
+
+def told_values(option):
+    """For people: the values, and which holds without the option."""
+    if option[4] == "folder":
+        return "without it, " + option[5]
+    values = option[4].replace("..", " to ") if ".." in option[4] else option[4].replace(" ", ", ")
+    return "%s (%s)" % (values, option[5] if option[5] == "none" else "without it " + option[5])
+
+
+def usage(commands, options):
+    lines = [" ".join(["leancop", name, operands, *words]) for name, operands, words in (synopsis(c, options) for c in commands)]
+    wide = max(len(o[0] + o[1]) for o in options)
+    return "\n".join(lines + ["  %-*s  %s: %s" % (wide, o[0] + o[1], o[3], told_values(o)) for o in options]) + "\n"
+
+
+def escaped(text):
+    return text.replace("\\", "\\e").replace("-", "\\-")
+
+
+def man(commands, options, statuses):
+    out = ["'\\\" t", ".\\\" Written by tools/usage.py.", ".TH LEANCOP 1", ".SH NAME",
+           "leancop \\- prove formulas of first\\-order logic, and judge derivations", ".SH SYNOPSIS"]
+    for c in commands:
+        name, operands, words = synopsis(c, options)
+        out += [".B leancop " + name, ".I " + operands, escaped(" ".join(words)), ".br"]
+    out += [".SH DESCRIPTION",
+            "Problems are texts of TPTP (fof and cnf items) or, with a modal logic, of QMLTP (qmf items).",
+            "Standard output has the answer, and nothing is written to standard error."]
+    for c in commands:
+        out += [".TP", ".BI %s \" %s\"" % (c[0], c[1]), escaped(c[2]) + "."]
+    out += [".SH OPTIONS", "They stand anywhere behind the command, each at most once."]
+    for o in options:
+        out += [".TP", ".BI %s %s" % (escaped(o[0]), o[1]), escaped("%s: %s." % (o[3], told_values(o)))]
+    out += [".SH EXIT STATUS", ".TS", "l lx."]
+    out += ["%s\tT{\n%s\nT}" % (s[0], escaped(s[1])) for s in statuses]
+    out += [".TE", ".SH EXAMPLES", ".EX", "leancop prove group.p > d.txt && leancop check group.p d.txt",
+            "leancop prove \\-\\-logic=s4 \\-\\-domains=varying barcan.p", "leancop prove /dev/stdin < group.p",
+            "leancop prove \\-\\-root=$HOME/TPTP $HOME/TPTP/Problems/GRP/GRP001\\-1.p", ".EE", ".SH COMPANIONS",
+            ".TP", ".BI leancop\\-explain \" WORD ...\"", "runs the program, and says on standard error what its answer means.",
+            ".TP", ".BI leancop\\-view \" PROBLEM TEXT\" \" > \" PAGE.html", "draws an accepted text as a page for a browser.",
+            ".TP", ".BI leancop\\-szs \" PROBLEM\" \" [\\-\\-time=\" SECONDS ]", "tells the answer as an SZS status.",
+            ".TP", ".BI leancop\\-coq \" PROBLEM DERIVATION\" \" > \" FILE.v", "prints an accepted derivation as a theorem of Coq with its proof.",
+            ".PP", "They find the program by the environment variable LEANCOP, or by PATH."]
+    return "\n".join(out) + "\n"
+
+
+def completion(commands, options):
+    out = ["# Completion of bash for leancop. Written by tools/usage.py.", "_leancop() {",
+           '    local word="${COMP_WORDS[COMP_CWORD]}" before="${COMP_WORDS[COMP_CWORD - 1]}" options=', "    COMPREPLY=()",
+           '    if [ "$COMP_CWORD" = 1 ]; then',
+           "        mapfile -t COMPREPLY < <(compgen -W '%s' -- \"$word\")" % " ".join(c[0] for c in commands), "        return", "    fi",
+           "    # The value of an option is a word of its own here, as = parts words.",
+           '    [ "$word" = = ] && word=', '    [ "$before" = = ] && before="${COMP_WORDS[COMP_CWORD - 2]}"', '    case "$before" in']
+    for o in options:
+        front = "    %s) " % o[0].rstrip("=")
+        if o[4] == "folder":
+            out.append(front + 'compopt -o filenames; mapfile -t COMPREPLY < <(compgen -d -- "$word"); return ;;')
+        elif ".." in o[4]:
+            out.append(front + "return ;;")
+        else:
+            out.append(front + "mapfile -t COMPREPLY < <(compgen -W '%s' -- \"$word\"); return ;;" % o[4])
+    out += ["    esac", '    if [[ $word == -* ]]; then', '        case "${COMP_WORDS[1]}" in']
+    for c in commands:
+        out.append("        %s) options='%s' ;;" % (c[0], " ".join(o[0] for o in options if c[0] in o[2])))
+    out += ["        esac", '        mapfile -t COMPREPLY < <(compgen -W "$options" -- "$word")', "        compopt -o nospace", "    else",
+            "        compopt -o filenames", '        mapfile -t COMPREPLY < <(compgen -f -- "$word")', "    fi", "}",
+            "complete -F _leancop leancop leancop-explain"]
+    return "\n".join(out) + "\n"
+
+
+def lacking():
+    """Options that the program's sources name and the table does not."""
+    named = set()
+    for file in glob.glob(os.path.join(HERE, "../crates/*/src/*.rt")):
+        with open(file, encoding="utf-8") as source:
+            named |= set(re.findall(r'"(--[a-z]+=)"', source.read()))
+    return sorted(named - {o[0] for o in read_table()[1]})
+
+
+def main(words):
+    options = dict((w + "=").split("=")[:2] for w in words)
+    if set(options) - {"--check", "--program"}:
+        sys.exit(__doc__)
+    faults = ["the sources have %s, and the table does not" % o for o in lacking()]
+    table = known(Asked(options.get("--program") or PROGRAM), faults)
+    files = {"usage.txt": usage(*table[:2]), "leancop.1": man(*table), "leancop.bash-completion": completion(*table[:2])}
+    os.makedirs(GENERATED, exist_ok=True)
+    for name, text in files.items():
+        path = os.path.join(GENERATED, name)
+        if "--check" not in options:
+            with open(path, "w") as file:
+                file.write(text)
+            continue
+        with open(path) as file:
+            if file.read() != text:
+                faults.append("tools/generated/%s is not of this program and table: run tools/usage.py" % name)
+    for fault in faults:
+        print("usage.py: " + fault)
+    sys.exit(1 if faults else 0)
+
+
+if __name__ == "__main__":
+    main(sys.argv[1:])
