@@ -1,0 +1,84 @@
+# shellcheck shell=bash disable=SC2154
+# tools/leancop-explain: output and status are the program's, and standard error has what helps.
+
+# explained PART WORD..: runs the words, and looks for PART in standard error (nothing may stand there where PART is empty)
+explained() {
+    local part="$1" wanted ended got
+    shift
+    wanted="$("$LEANCOP" "$@" </dev/null)"
+    ended=$?
+    got="$(tools/leancop-explain "$@" 2>"$folder/said" </dev/null)"
+    same "status of explain $*" "$?" "$ended"
+    same "output of explain $*" "$got" "$wanted"
+    if [ -n "$part" ]; then has "explain $*" "$(cat "$folder/said")" "$part"; else same "explain $*" "$(cat "$folder/said")" ''; fi
+}
+# wrong FORMULA PART: the problem that asks for this formula is refused, and PART is said
+wrong() {
+    printf '\nfof(c,conjecture,%s).\n' "$1" >"$folder/m.p"
+    explained "$2" prove "$folder/m.p"
+}
+
+explained '' prove examples/even.p
+explained '' check examples/drinker.p examples/drinker.txt
+explained 'is missing' prove
+explained 'leancop check FILE DERIVATION' --help
+explained 'Word 3, --limit=0,' prove examples/even.p --limit=0
+explained 'needs a modal logic' prove examples/even.p --domains=varying
+explained 'There is no file none.p' prove none.p
+explained '/dev/stdin' prove -
+explained 'below that of --root=FOLDER' prove examples/order.p
+explained 'below the folder of --root=' prove --root=docs examples/order.p
+explained 'it is a folder' prove examples
+explained 'a greater --limit=' prove --limit=2 examples/endless.p
+explained 'came to its end' prove examples/quantifiers.p
+explained 'a greater --steps=' prove --steps=100 examples/endless.p
+explained 'of another problem' check examples/even.p examples/drinker.txt
+explained 'not that of --logic=' check --logic=t examples/modal/serial.p examples/modal/serial.txt
+explained 'A qmf item needs a modal logic' prove examples/modal/serial.p
+sed 's/$/\r/' examples/drinker.txt >"$folder/d.txt"
+explained 'carriage returns' check examples/drinker.p "$folder/d.txt"
+sed 's/^axiom .*/axiom 1 1/' examples/drinker.txt >"$folder/d.txt"
+explained 'axiom 1 1' check examples/drinker.p "$folder/d.txt"
+
+mark="line 2, column 24:
+      fof(c,conjecture,p & q | r).
+                             ^
+  There is no precedence"
+wrong 'p & q | r' "$mark"
+wrong 'p => q => p' 'There is no precedence'
+wrong 'P => P' 'is a variable, and no predicate'
+wrong 'P(a)' 'is a variable, and no predicate'
+wrong '![x]: p(x)' 'A variable begins with a capital letter'
+wrong '!X: p(X)' 'in square brackets'
+wrong 'p -> p' 'The connectives are'
+wrong 'p → p' 'The connectives are'
+wrong 'p /\ p' 'The connectives are'
+wrong "p('a)" 'The quote is not closed'
+wrong '(p & q' 'A bracket is still open'
+wrong 'p))' 'one closing bracket too many'
+wrong 'p(1)' 'are no terms here'
+# shellcheck disable=SC2016
+wrong '$$p' '$true and $false'
+printf 'fof(c,conjecture,p)' >"$folder/m.p"
+explained 'The text ends here' prove "$folder/m.p"
+printf 'fof(a,axiom,p)\nfof(c,conjecture,p).' >"$folder/m.p"
+explained 'The item before it ends with' prove "$folder/m.p"
+{ head -c 3000 /dev/zero | tr '\0' ' ' && echo 'p q'; } >"$folder/m.p"
+explained 'column 3001:' prove "$folder/m.p"
+same 'a long line is cut' "$(wc -L <"$folder/said" | awk '{ print ($1 < 200) }')" 1
+
+# Input from a pipe reaches the program, which is not asked again.
+got="$(tools/leancop-explain prove /dev/stdin <examples/first.p 2>"$folder/said" | head -n 1)"
+same 'explain with standard input' "$got" 'leancop derivation 1'
+got="$(echo 'p' | tools/leancop-explain prove /dev/stdin 2>"$folder/said")"
+same 'explain with a bad text from a pipe' "$got$(cat "$folder/said")" '/dev/stdin:0: syntax'
+# Where it is ended, the program ends too: here one that takes long.
+# shellcheck disable=SC2016
+printf '%s\n' '#!/bin/sh' 'echo "$$" >"$0.process"' 'exec sleep 60' >"$folder/long"
+chmod +x "$folder/long"
+LEANCOP="$folder/long" tools/leancop-explain prove m.p >/dev/null 2>&1 &
+explaining=$!
+awaited "$folder/long.process"
+kill "$explaining"
+wait "$explaining" 2>/dev/null
+ends 'the program' "$(cat "$folder/long.process")"
