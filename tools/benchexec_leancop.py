@@ -1,0 +1,29 @@
+"""BenchExec's module for leancop: copy it as benchexec/tools/leancop.py, or name it in a benchmark as tool="benchexec_leancop" with
+its folder in PYTHONPATH. Options of a benchmark, such as --logic=d, are those of `leancop prove`."""
+import benchexec.result as result
+import benchexec.tools.template
+
+
+class Tool(benchexec.tools.template.BaseTool2):
+    REQUIRED_PATHS = ["."]
+
+    def executable(self, tool_locator):
+        return tool_locator.find_executable("leancop-szs")
+
+    def name(self):
+        return "leancop"
+
+    def cmdline(self, executable, options, task, rlimits):
+        limit = ["--time=%d" % rlimits.cputime] if rlimits.cputime else []
+        return [executable, *options, *limit, task.single_input_file]
+
+    def determine_result(self, run):
+        for line in run.output:
+            if line.startswith("% SZS status "):
+                status = line.split()[3]
+                if status in ("Theorem", "Unsatisfiable"):
+                    return result.RESULT_TRUE_PROP
+                if status in ("CounterSatisfiable", "Satisfiable"):
+                    return result.RESULT_FALSE_PROP
+                return "%s(%s)" % (result.RESULT_UNKNOWN, status)
+        return result.RESULT_ERROR

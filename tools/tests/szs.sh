@@ -1,0 +1,122 @@
+# shellcheck shell=bash disable=SC2154
+# tools/leancop-szs: each SZS status, the exit status, includes, standard input, limits, and the scripts beside it.
+
+# status_of SZS EXIT WORD..: the first line of the answer and the exit status
+status_of() {
+    local szs="$1" ended="$2" got
+    shift 2
+    got="$(tools/leancop-szs "$@" </dev/null 2>"$folder/said")"
+    same "exit status of leancop-szs $*" "$?" "$ended"
+    has "leancop-szs $*" "$got" "% SZS status $szs"
+}
+# problem TEXT: writes it as a problem
+problem() { printf '%s\n' "$1" >"$folder/m.p"; }
+
+status_of 'Theorem for even.p' 0 examples/even.p
+status_of 'GaveUp for endless.p' 1 examples/endless.p --limit=2
+status_of 'CounterSatisfiable for quantifiers.p' 2 examples/quantifiers.p
+status_of 'ResourceOut for endless.p' 3 --steps=100 examples/endless.p
+status_of 'OSError for none.p' 6 none.p
+status_of UsageError 5
+status_of UsageError 5 a b
+status_of UsageError 5 a --time=x
+status_of 'UsageError for even.p' 5 examples/even.p --limit=0
+status_of 'Timeout for set_distr.p' 124 --time=1 --steps=1099511627776 bench/problems/fam/set_distr.p
+# Without a conjecture; a comment or another role that names one is none.
+problem 'cnf(a,axiom,p). cnf(conjecture,axiom,~p). % fof(c,conjecture,p).'
+status_of 'Unsatisfiable for m.p' 0 "$folder/m.p"
+problem "fof(a,axiom,p). /* fof(c, conjecture, p). */ fof('conjecture',axiom,q)."
+status_of 'Satisfiable for m.p' 2 "$folder/m.p"
+problem "fof('a name' , conjecture , p)."
+status_of 'CounterSatisfiable for m.p' 2 "$folder/m.p"
+problem 'fof(c,conjecture,p & q | r).'
+status_of 'SyntaxError for m.p' 4 "$folder/m.p"
+problem 'tff(c,conjecture,p).'
+status_of 'Inappropriate for m.p' 4 "$folder/m.p"
+problem 'fof(c,plain,p).'
+status_of 'SemanticError for m.p' 4 "$folder/m.p"
+# Where completeness is not known, no tableau says nothing.
+status_of 'CounterSatisfiable for b.p' 2 --logic=d examples/modal/b.p
+status_of 'GaveUp for b.p' 2 --logic=s4 examples/modal/b.p
+status_of 'GaveUp for excluded_middle.p' 2 --logic=intuitionistic examples/intuitionistic/excluded_middle.p
+problem 'qmf(c,conjecture,a = b).'
+status_of 'GaveUp for m.p' 2 --logic=d "$folder/m.p"
+problem 'qmf(c,conjecture,(p <=> q)).'
+status_of 'CounterSatisfiable for m.p' 2 --logic=d "$folder/m.p"
+# Memory ends in the middle of a proof whose terms are deep.
+deep="$(printf 'f(%.0s' {1..450})X$(printf ')%.0s' {1..450})"
+{
+    echo 'cnf(first,axiom,p0(a)).'
+    for i in {0..49}; do echo "cnf(c$i,axiom,~p$i(X) | p$((i + 1))($deep))."; done
+    echo 'cnf(last,negated_conjecture,~p50(X)).'
+} >"$folder/m.p"
+status_of 'MemoryOut for m.p' 7 --limit=60 "$folder/m.p"
+
+# Includes: beside the problem, else below $TPTP.
+mkdir -p "$folder/beside/axioms" "$folder/tptp/Axioms"
+echo 'fof(a,axiom,p).' | tee "$folder/beside/axioms/one.ax" >"$folder/tptp/Axioms/two.ax"
+echo "include('axioms/one.ax'). fof(c,conjecture,p)." >"$folder/beside/one.p"
+echo "include('Axioms/two.ax'). fof(c,conjecture,p)." >"$folder/beside/two.p"
+status_of 'Theorem for one.p' 0 "$folder/beside/one.p"
+status_of 'OSError for two.p' 6 "$folder/beside/two.p"
+export TPTP="$folder/tptp"
+status_of 'Theorem for one.p' 0 "$folder/beside/one.p"
+status_of 'Theorem for two.p' 0 "$folder/beside/two.p"
+unset TPTP
+status_of 'Theorem for two.p' 0 "--root=$folder/tptp" "$folder/beside/two.p"
+
+# What stands between the output lines is the derivation.
+tools/leancop-szs - <examples/even.p >"$folder/szs"
+same 'standard input' "$(head -n 1 "$folder/szs")" '% SZS status Theorem for stdin'
+sed '1,/^% SZS output start Proof/d; /^% SZS output end Proof/,$d' "$folder/szs" >"$folder/d.txt"
+same 'the derivation in the output' "$("$LEANCOP" check examples/even.p "$folder/d.txt")" accepted
+# Where it is ended, it tells so, and the program ends too.
+tools/leancop-szs --steps=1099511627776 bench/problems/fam/set_distr.p >"$folder/szs" &
+running=$!
+sleep 0.5
+kill "$running"
+wait "$running"
+same 'leancop-szs that is ended' "$? $(cat "$folder/szs")" '130 % SZS status Forced for set_distr.p'
+
+# StarExec: an archive of three files, and a problem elsewhere.
+mkdir "$folder/bin"
+cp "$LEANCOP" "$folder/bin/leancop"
+cp tools/leancop-szs tools/starexec_run_default "$folder/bin/"
+got="$(LEANCOP='' STAREXEC_CPU_LIMIT=10 "$folder/bin/starexec_run_default" "$PWD/examples/even.p" | head -n 1)"
+same 'starexec_run_default' "$got" '% SZS status Theorem for even.p'
+
+# BenchExec: the module by BenchExec's own classes where they are here, else by stand-ins that have what it names.
+got="$(PYTHONDONTWRITEBYTECODE=1 python3 - <<'PYTHON'
+import sys, types
+sys.path.insert(0, "tools")
+try:
+    import benchexec.tools.template
+except ImportError:
+    names = "benchexec benchexec.result benchexec.tools benchexec.tools.template".split()
+    for name in names:
+        sys.modules[name] = types.ModuleType(name)
+    base, result, tools, template = (sys.modules[name] for name in names)
+    base.result, base.tools, tools.template = result, tools, template
+    template.BaseTool2 = object
+    result.RESULT_TRUE_PROP, result.RESULT_FALSE_PROP, result.RESULT_UNKNOWN, result.RESULT_ERROR = "true", "false", "unknown", "ERROR"
+import benchexec_leancop
+tool, space = benchexec_leancop.Tool(), types.SimpleNamespace
+told = [tool.determine_result(space(output=lines)) for lines in (
+    ["% SZS status Theorem for m.p", "x"], ["% SZS status CounterSatisfiable for m.p"], ["% SZS status Timeout for m.p"], [])]
+print(*tool.cmdline("leancop-szs", ["--logic=d"], space(single_input_file="m.p"), space(cputime=9)), *told)
+PYTHON
+)"
+same 'benchexec_leancop.py' "$got" 'leancop-szs --logic=d --time=9 m.p true false unknown(Timeout) ERROR'
+
+# Many problems with GNU parallel, which goes on where it was stopped.
+if parallel --version 2>/dev/null | grep -q GNU; then
+    mkdir "$folder/out"
+    batch() { # over the problems named: what it wrote anew
+        (cd examples && printf '%s\n' "$@" | parallel --will-cite --jobs 2 --joblog "$folder/log.tsv" --resume "../tools/leancop-szs {} --time=5 > $folder/out/{/.}.szs; echo {}")
+    }
+    same 'a batch' "$(batch even.p first.p | sort | tr '\n' ' ')" 'even.p first.p '
+    same 'a batch that goes on' "$(batch even.p first.p peirce.p)" 'peirce.p'
+    same 'the statuses of a batch' "$(cat "$folder"/out/*.szs | grep -c '^% SZS status Theorem')" 3
+else
+    skip 'GNU parallel is not here'
+fi
