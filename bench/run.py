@@ -1,8 +1,13 @@
 #!/usr/bin/env python3
 """bench/run.py [options]
-Runs the built program over problems whose status is known, one after the other, and prints how many are solved in which time.
+Runs the built program over problems whose status is known, and prints how many are solved in which time.
   --program=FILE     the program (crates/leancop/out/leancop, which ./leancop builds)
   --problems=FOLDER  a folder with an index.tsv: file, theorem or non-theorem, source, parted by tabs (bench/problems)
+  --logic=L          the logic (classical)
+  --domains=D        the domains, for a modal logic
+  --jobs=N           so many problems side by side (1); times are of the processor, and busy processors lengthen them
+  --table=FILE       appends a line for each problem to a file (problem, status, prover, words, answer, seconds, kB, parted by
+                     tabs), and does not run again what stands there with the same words
   --root=FOLDER      the folder of included files (the one of the problem)
   --filter=RE        problems whose file matches
   --time=S           processor seconds for a problem (10)
@@ -11,17 +16,23 @@ Runs the built program over problems whose status is known, one after the other,
   --speed            steps in a second alone, of both, on problems that do not end
 Answers: T a derivation, which `check` accepts; N no tableau; x exhausted, or steps ended; r refused; . out of time; ? other.
 A `!` after an answer: it contradicts the status."""
-import collections, math, os, re, resource, shutil, subprocess, sys, tempfile, threading
+import collections, concurrent.futures, math, os, re, shutil, subprocess, sys, tempfile, threading
 
 HERE = os.path.dirname(os.path.abspath(__file__))
 options = dict((a[2:] + "=1").split("=")[:2] for a in sys.argv[1:] if a.startswith("--"))
-if "help" in options or any(not a.startswith("--") for a in sys.argv[1:]):
+if "help" in options:
+    print(__doc__)
+    sys.exit(0)
+if any(not a.startswith("--") for a in sys.argv[1:]) or not set(options) <= set(re.findall(r"^  --([a-z]+)", __doc__, re.M)):
     sys.exit(__doc__)
 PROGRAM = os.path.abspath(options.get("program", os.path.join(HERE, "../crates/leancop/out/leancop")))
 PROBLEMS = os.path.abspath(options.get("problems", os.path.join(HERE, "problems")))
 LIMIT = float(options.get("time", 10))
 STEPS = options.get("steps", "1099511627776")
 HAS_PROLOG = shutil.which("swipl") is not None
+JOBS = int(options.get("jobs", 1))
+SETTING = ["--%s=%s" % (name, options[name]) for name in ("logic", "domains") if name in options]
+KEPT_WORDS = " ".join([*SETTING, "--steps=" + STEPS, "--time=%g" % LIMIT])
 SPEED = ["fam/grpeq_rinv.p", "fam/set_distr.p", "pel/p34.p", "fam/debruijn_n3.p"]
 TIMES = [0.1, 1, 10]
 Problem = collections.namedtuple("Problem", "file status")
@@ -30,10 +41,9 @@ Run = collections.namedtuple("Run", "code output seconds kilobytes")
 
 def run(command, folder, limit):
     """A process with its processor time; the code is None where its time ran out."""
-    def bound():
-        resource.setrlimit(resource.RLIMIT_CPU, (math.ceil(limit), math.ceil(limit) + 1))
+    command = ["sh", "-c", 'ulimit -t "$0" && exec "$@"', str(math.ceil(limit)), *command]
     with tempfile.TemporaryFile() as out:
-        p = subprocess.Popen(command, cwd=folder, stdin=subprocess.DEVNULL, stdout=out, stderr=subprocess.DEVNULL, preexec_fn=bound)
+        p = subprocess.Popen(command, cwd=folder, stdin=subprocess.DEVNULL, stdout=out, stderr=subprocess.DEVNULL)
         timer = threading.Timer(3 * limit + 1, p.kill)
         timer.start()
         _, status, use = os.wait4(p.pid, 0)
@@ -51,7 +61,7 @@ def place(problem):
 
 def words(command, problem, *more):
     name, folder = place(problem)
-    return [PROGRAM, command, "--root=" + os.path.abspath(options.get("root", folder)), name, *more]
+    return [PROGRAM, command, "--root=" + os.path.abspath(options.get("root", folder)), *SETTING, name, *more]
 
 
 def prove(problem):
@@ -70,7 +80,7 @@ def prove(problem):
 
 def prove_in_prolog(problem):
     name, folder = place(problem)
-    command = ["swipl", "-O", "--stack_limit=4g", os.path.join(HERE, "baseline.pl"), name, "--logic=classical", "--root=" + os.path.abspath(options.get("root", folder)), "--time=%g" % LIMIT]
+    command = ["swipl", "-O", "--stack_limit=4g", os.path.join(HERE, "baseline.pl"), name, *SETTING, "--root=" + os.path.abspath(options.get("root", folder)), "--time=%g" % LIMIT]
     got = run(command, folder, LIMIT + 1)
     return {"Theorem": "T", "NoTableau": "N", "Exhausted": "x", "Timeout": "."}.get(got.output.split(" ")[0], "." if got.code is None else "?"), got
 
@@ -89,16 +99,39 @@ def read_problems():
     return [Problem(r[0], r[1]) for r in rows if re.search(options.get("filter", ""), r[0])]
 
 
+def read_table():
+    """The answers that the table has, and the table to go on with, without a last line that was broken off."""
+    if "table" not in options:
+        return {}, None
+    known = {}
+    table = open(options["table"], "a+")
+    table.seek(0)
+    text = table.read()
+    whole = text[:text.rfind("\n") + 1]
+    table.truncate(len(whole.encode()))
+    for file, _, name, kept, answer, seconds, kilobytes in (line.split("\t") for line in whole.splitlines()):
+        if kept == KEPT_WORDS:
+            known[file, name] = answer, Run(None, "", float(seconds), int(kilobytes))
+    return known, table
+
+
 def solve(problems):
     provers = [("leancop", prove)] + ([("prolog", prove_in_prolog)] if "baseline" in options and HAS_PROLOG else [])
     seen = {name: [] for name, _ in provers}
-    for problem in problems:
-        line = "%-26s %-12s" % (problem.file, problem.status)
-        for name, prover in provers:
-            answer, got = prover(problem)
-            seen[name].append((problem, answer, got))
-            line += "  %s%s %7.2f s %7d kB" % (answer, "!" if is_wrong(problem, answer) else " ", got.seconds, got.kilobytes)
-        print(line, flush=True)
+    known, table = read_table()
+
+    def answers_of(problem):
+        return [known.get((problem.file, name)) or prover(problem) for name, prover in provers]
+
+    with concurrent.futures.ThreadPoolExecutor(JOBS) as pool:
+        for problem, answers in zip(problems, pool.map(answers_of, problems)):
+            line = "%-26s %-12s" % (problem.file, problem.status)
+            for (name, _), (answer, got) in zip(provers, answers):
+                seen[name].append((problem, answer, got))
+                line += "  %s%s %7.2f s %7d kB" % (answer, "!" if is_wrong(problem, answer) else " ", got.seconds, got.kilobytes)
+                if table and (problem.file, name) not in known:
+                    print(problem.file, problem.status, name, KEPT_WORDS, answer, "%.2f" % got.seconds, got.kilobytes, sep="\t", file=table, flush=True)
+            print(line, flush=True)
     print("\n| prover | solved of %d in %s s | exhausted or steps ended | out of time | refused | other | wrong |" % (len(problems), ", ".join("%g" % t for t in TIMES)))
     print("|---|---|---|---|---|---|---|")
     for name, answers in seen.items():
