@@ -1,0 +1,247 @@
+#!/usr/bin/env python3
+"""canonical_formula.py PROBLEM [--logic=L] [--domains=D] [--root=FOLDER]
+
+Prints the formula of a problem in its canonical text, as line 3 of a derivation has it: what another prover needs to write one, and
+what a page needs to show a structure. It is worked out here, from a problem that the program reads, and printed only where the program
+finds that it is the problem's own: a derivation of it without steps is rejected at its end, not at its formula.
+
+LEANCOP names the program; without it, it is looked for beside this folder, then by PATH."""
+import os
+import re
+import subprocess
+import sys
+
+SKIPPED = re.compile(r"(?:[ \t\n\v\f\r]|%[^\n]*|/\*.*?\*/)*", re.S)
+TOKEN = re.compile(r"""[$]{0,2}[a-z]\w*|\#[a-z]\w*|[A-Z]\w*|'(?:\\.|[^'\\])+'|"(?:\\.|[^"\\])*"
+    |[+-]?[0-9]+(?:/[0-9]+|[.][0-9]+)?(?:[eE][+-]?[0-9]+)?|<=>|<~>|=>|<=|~\||~&|!=|[()\[\],.:~!?&|=]""", re.X | re.A)
+TRUE = ("imp", ("atom", None, ()), ("atom", None, ()))  # None is the reserved atom
+
+
+def name_of(token):
+    return re.sub(r"\\(.)", r"\1", token[1:-1]) if token[0] == "'" else token
+
+
+def balanced(kind, formulas):
+    if len(formulas) == 1:
+        return formulas[0]
+    half = (len(formulas) + 1) // 2
+    return (kind, balanced(kind, formulas[:half]), balanced(kind, formulas[half:]))
+
+
+def joined(op, a, b):
+    both = ("and", ("imp", a, b), ("imp", b, a))
+    return {"=>": ("imp", a, b), "<=": ("imp", b, a), "<=>": both, "<~>": ("not", both),
+            "~|": ("not", ("or", a, b)), "~&": ("not", ("and", a, b))}[op]
+
+
+class Reader:
+    """The items of a text, with what stands for something else written out."""
+
+    def __init__(self, text):
+        self.tokens, at = [], SKIPPED.match(text).end()
+        while at < len(text):
+            found = TOKEN.match(text, at)
+            self.tokens.append(found[0])
+            at = SKIPPED.match(text, found.end()).end()
+        self.at = 0
+
+    def take(self, *tokens):
+        if self.at < len(self.tokens) and self.tokens[self.at] in tokens:
+            self.at += 1
+            return self.tokens[self.at - 1]
+        return None
+
+    def next(self):
+        self.at += 1
+        return self.tokens[self.at - 1]
+
+    def items(self):
+        """(kind, name, role, formula) for each formula, and ("include", file, names) for each include."""
+        while self.at < len(self.tokens):
+            kind, _, name = self.next(), self.next(), name_of(self.next())
+            if kind == "include":
+                names = None
+                if self.take(","):
+                    names, _ = [], self.next()
+                    while not self.take("]"):
+                        names.append(name_of(self.next()))
+                        self.take(",")
+                yield kind, name, names
+            else:
+                _, role, _ = self.next(), self.next(), self.next()
+                self.bound, self.free = [], []
+                formula = self.formula()  # a clause is a formula too
+                for variable in reversed(self.free):
+                    formula = ("all", formula, variable)
+                yield kind, name, role, formula
+            depth = 1
+            while depth:  # the notes
+                depth += {"(": 1, "[": 1, ")": -1, "]": -1}.get(self.next(), 0)
+            self.next()
+
+    def formula(self):
+        a = self.unit()
+        op = self.take("&", "|", "=>", "<=", "<=>", "<~>", "~|", "~&")
+        if op is None:
+            return a
+        if op not in ("&", "|"):
+            return joined(op, a, self.unit())
+        units = [a, self.unit()]
+        while self.take(op):
+            units.append(self.unit())
+        return balanced("and" if op == "&" else "or", units)
+
+    def unit(self):
+        if self.take("("):
+            inside = self.formula()
+            self.next()
+            return inside
+        if self.take("~"):
+            return ("not", self.unit())
+        operator = self.take("#box", "#dia")
+        if operator:
+            self.next()
+            return (operator[1:], self.unit())
+        quantifier = self.take("!", "?")
+        if quantifier is None:
+            return self.atom()
+        names, _ = [], self.next()
+        while not self.take("]"):
+            names.append(self.next())
+            self.take(",")
+        self.next()
+        self.bound += names
+        formula = self.unit()
+        del self.bound[len(self.bound) - len(names):]
+        for name in reversed(names):
+            formula = ("all" if quantifier == "!" else "ex", formula, name)
+        return formula
+
+    def atom(self):
+        truth = self.take("$true", "$false")
+        if truth:
+            return TRUE if truth == "$true" else ("not", TRUE)
+        left = self.term()
+        equation = self.take("=", "!=")
+        if equation:
+            equal = ("equal", left, self.term())
+            return equal if equation == "=" else ("not", equal)
+        return ("atom",) + left[1:]
+
+    def term(self):
+        token = self.next()
+        if token[0].isupper():
+            if token not in self.bound and token not in self.free:
+                self.free.append(token)
+            return ("var", token)
+        arguments = []
+        if self.take("("):
+            while not self.take(")"):
+                arguments.append(self.term())
+                self.take(",")
+        return ("fun", name_of(token), tuple(arguments))
+
+
+def passing(file, root, lists):
+    """The items of a file and of those that it includes, whose names stand in each list that encloses them."""
+    with open(file, encoding="latin-1", newline="") as text:
+        items = list(Reader(text.read()).items())
+    for item in items:
+        if item[0] == "include":
+            inside = item[1] if root is None or item[1].startswith("/") else root + "/" + item[1]
+            yield from passing(inside, root, lists + [item[2]] * (item[2] is not None))
+        elif all(item[1] in names for names in lists):
+            yield item
+
+
+def symbols(f, functions, predicates):
+    """Collects symbols in the order of their first places, and tells whether there is an equation."""
+    if f[0] == "var":
+        return False
+    if f[0] in ("fun", "atom"):
+        (functions if f[0] == "fun" else predicates).setdefault((f[1], len(f[2])))
+    parts = f[2] if f[0] in ("fun", "atom") else [x for x in f[1:] if isinstance(x, tuple)]
+    return any([f[0] == "equal"] + [symbols(x, functions, predicates) for x in parts])
+
+
+def equality_axioms(functions, predicates):
+    x = [("var", "X%d" % i) for i in range(1, 1 + max([3] + [2 * n for _, n in [*functions, *predicates]]))]
+
+    def closed(n, formula):
+        for i in reversed(range(n)):
+            formula = ("all", formula, x[i][1])
+        return formula
+
+    yield closed(1, ("equal", x[0], x[0]))
+    yield closed(2, ("imp", ("equal", x[0], x[1]), ("equal", x[1], x[0])))
+    yield closed(3, ("imp", ("and", ("equal", x[0], x[1]), ("equal", x[1], x[2])), ("equal", x[0], x[2])))
+    for kind, (name, n) in [("fun", s) for s in functions if s[1]] + [("atom", s) for s in predicates if s[1]]:
+        pairs = balanced("and", [("equal", x[i], x[n + i]) for i in range(n)])
+        left, right = (kind, name, tuple(x[:n])), (kind, name, tuple(x[n:2 * n]))
+        yield closed(2 * n, ("imp", pairs, ("equal", left, right)) if kind == "fun" else ("imp", ("and", pairs, left), right))
+
+
+def text(f, env):
+    kind = f[0]
+    if kind == "var":
+        return env[f[1]]
+    if kind in ("fun", "atom"):
+        name = "$$o" if f[1] is None else f[1]
+        if f[1] is not None and not re.fullmatch(r"[a-z]\w*", name, re.A):
+            name = "'" + re.sub(r"(['\\])", r"\\\1", name) + "'"
+        return name + ("(" + ",".join(text(t, env) for t in f[2]) + ")" if f[2] else "")
+    if kind in ("all", "ex"):
+        variable = "X%d" % (env[None] + 1)
+        return ("!" if kind == "all" else "?") + "[%s]:" % variable + text(f[1], {**env, f[2]: variable, None: env[None] + 1})
+    if kind in ("not", "box", "dia"):
+        return {"not": "~", "box": "#box:", "dia": "#dia:"}[kind] + text(f[1], env)
+    return "(%s %s %s)" % (text(f[1], env), {"equal": "=", "and": "&", "or": "|", "imp": "=>"}[kind], text(f[2], env))
+
+
+def formula_of(file, root, logic):
+    premises, conjecture, functions, predicates = [], None, {}, {}
+    equations = False
+    for _, _, role, formula in passing(file, root, []):
+        equations |= symbols(formula, functions, predicates)
+        if role == "conjecture":
+            conjecture = formula
+        else:
+            premises.append(formula)
+    if equations and logic in ("classical", "intuitionistic"):
+        premises = [*equality_axioms(functions, predicates), *premises]
+    if not premises:
+        return text(conjecture, {None: 0})
+    given = balanced("and", premises)
+    return text(("not", given) if conjecture is None else ("imp", given, conjecture), {None: 0})
+
+
+def check(words, derivation):
+    """What the program says of a derivation, and its exit status."""
+    beside = os.path.join(os.path.dirname(os.path.realpath(__file__)), "../leancop")
+    os.environ["LEANCOP"] = os.environ.get("LEANCOP") or (beside if os.path.exists(beside) else "leancop")
+    told = subprocess.run([os.environ["LEANCOP"], "check", *words, "/dev/stdin"], input=derivation, stdout=subprocess.PIPE)
+    return told.stdout.decode("latin-1").strip(), told.returncode
+
+
+def main(words):
+    files, options = [w for w in words if not w.startswith("--")], [w for w in words if w.startswith("--")]
+    given = dict(w.split("=", 1) for w in options if "=" in w)
+    if len(files) != 1:
+        sys.exit(__doc__)
+    told, status = check(words, b"")  # the files hold a problem where only the derivation is wrong
+    if told == "rejected at line 1: version":
+        sys.setrecursionlimit(100000)
+        logic, domains = given.get("--logic", "classical"), given.get("--domains", "constant")
+        formula = formula_of(files[0], given.get("--root"), logic).encode("latin-1")
+        if logic not in ("classical", "intuitionistic"):
+            logic += " constant" if (logic, domains) == ("s5", "cumulative") else " " + domains
+        told, status = check(words, b"leancop derivation 1\nlogic %s\nformula %s\nlimit 1\nend\n" % (logic.encode(), formula))
+        if told == "rejected at line 5: still open":
+            sys.stdout.buffer.write(formula + b"\n")
+            return 0
+    print("canonical_formula.py: " + (told or "no answer"), file=sys.stderr)
+    return status or 70
+
+
+if __name__ == "__main__":
+    sys.exit(main(sys.argv[1:]))
