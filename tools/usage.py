@@ -72,7 +72,7 @@ def told_values(option):
     if option[4] == "folder":
         return "without it, " + option[5]
     values = option[4].replace("..", " to ") if ".." in option[4] else option[4].replace(" ", ", ")
-    return "%s (%s)" % (values, option[5] if option[5] == "none" else "without it " + option[5])
+    return values if option[5] == "none" else "%s (without it %s)" % (values, option[5])
 
 
 def usage(commands, options):

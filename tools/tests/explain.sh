@@ -67,6 +67,21 @@ explained 'The item before it ends with' prove "$folder/m.p"
 explained 'column 3001:' prove "$folder/m.p"
 same 'a long line is cut' "$(wc -L <"$folder/said" | awk '{ print ($1 < 200) }')" 1
 
+# Answers of commands that come later, by a stand-in.
+# shellcheck disable=SC2016
+printf '%s\n' '#!/bin/sh' 'echo "$ANSWER"' 'exit "$ENDS"' >"$folder/later"
+chmod +x "$folder/later"
+later() { # later STATUS ANSWER PART WORD..
+    export ENDS="$1" ANSWER="$2"
+    shift 2
+    LEANCOP="$folder/later" explained "$@"
+}
+later 9 'false at the root' 'refutes the formula' model m.p s.txt
+later 10 'rejected structure at line 5: reflexive' 'relation 1 1 2' model m.p tools/tests/texts/barcan_structure.txt
+later 10 'rejected structure at line 5: reflexive' 'each world reaches itself' model m.p tools/tests/texts/barcan_structure.txt
+later 8 'rejected at line 6: not regular' 'A goal stands twice on a branch' tcheck m.p tools/tests/texts/even_tableau.txt
+later 3 'steps ended after limit 0 at 5 steps' 'a greater --steps= looks on' model m.p s.txt --steps=5
+
 # Input from a pipe reaches the program, which is not asked again.
 got="$(tools/leancop-explain prove /dev/stdin <examples/first.p 2>"$folder/said" | head -n 1)"
 same 'explain with standard input' "$got" 'leancop derivation 1'

@@ -92,6 +92,21 @@ if command -v node >/dev/null; then
     same 'closings of version 2' "$(reads tools/tests/texts/*_two.txt)" 2
     same 'closings of tableaux' "$(reads tools/tests/texts/*_tableau.txt)" 4
     same 'structures' "$(reads "$folder"/*_structure.txt)" 2
+    # What later commands print of the gallery, where the program has them.
+    if knows tableau; then
+        count=0
+        while IFS=$'\t' read -r status _ words; do
+            case "$status $words" in '0 prove'*) ;; *) continue ;; esac
+            read -r -a list <<<"$words"
+            count=$((count + 1))
+            "$LEANCOP" tableau "${list[@]:1}" >"$folder/gallery_tableau$count.txt"
+            "$LEANCOP" prove --format=2 "${list[@]:1}" >"$folder/gallery_two$count.txt"
+        done <examples/expected.tsv
+        same 'closings of tableaux of the gallery' "$(reads "$folder"/gallery_tableau*.txt)" "$(cat "$folder"/gallery_tableau*.txt | grep -cE '^(reduce|extend)')"
+        same 'closings of the gallery in version 2' "$(reads "$folder"/gallery_two*.txt)" "$(cat "$folder"/gallery_two*.txt | grep -c '^axiom')"
+    else
+        skip 'the program prints no tableaux yet'
+    fi
     # What is drawn of a text that a reader pastes, which nobody judged, has no element of the text.
     sed '2s/$/ <img src=x>/' "$folder/names.txt" >"$folder/hostile.txt"
     got="$(reads --draw "$folder/hostile.txt")"
@@ -104,6 +119,10 @@ fi
 if command -v chromium >/dev/null; then
     timeout 60 chromium --headless --no-sandbox --disable-gpu --dump-dom "file://$folder/names.html" >"$folder/dom" 2>/dev/null
     has 'the page in a browser' "$(cat "$folder/dom")" '43 steps'
+    # What would stand in the page in spite of that does not run either.
+    sed 's|<div id="page"></div>|&<script>document.title="script"</script><img src=x onerror="document.title=1">|' "$folder/names.html" >"$folder/broken.html"
+    got="$(timeout 60 chromium --headless --no-sandbox --disable-gpu --virtual-time-budget=2000 --dump-dom "file://$folder/broken.html" 2>/dev/null)"
+    has 'what the policy of the page stops' "$got" '<title>leancop: a proof to look at</title>'
     same 'scripts of a hostile text in a browser' "$(sed -n 's/.*<title>\(.*\)<\/title>.*/\1/p' "$folder/dom") $(grep -c '<img' "$folder/dom")" 'leancop: a proof to look at 0'
 else
     skip 'chromium is not here'
