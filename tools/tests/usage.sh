@@ -1,6 +1,6 @@
 # shellcheck shell=bash disable=SC2154
 # tools/usage.py: the written files are those of this program, and they work.
-got="$(tools/usage.py --check "--program=$LEANCOP")"
+got="$(tools/usage.py --check "--program=$LEANCOP" 2>&1)"
 same 'usage.py --check' "$got" ''
 if command -v man >/dev/null; then
     got="$(MANWIDTH=80 man --warnings -l tools/generated/leancop.1 2>&1 >"$folder/page")"
