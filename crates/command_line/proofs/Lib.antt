@@ -1,0 +1,4 @@
+pub mod NumberLaws
+pub mod WordLaws
+-- examples that compute
+mod WordExamples

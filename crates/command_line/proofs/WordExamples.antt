@@ -1,0 +1,110 @@
+-- What some lists of words ask for, and the first bad word of others.
+use Rattle.std.proofs.Common.{◌≡◌, refl, codes, List, [], ◌∷◌, None, Some}
+use Rattle.std.specs.Fmt.{digits}
+use Rattle.calculus.specs.Syntax.{setting_of}
+use Rattle.calculus.specs.declared.setting.Domains.TheVariants.{Constant, Varying}
+use Rattle.calculus.specs.declared.setting.Logic.TheVariants.{Classical, S4}
+use Rattle.command_line.specs.declared.table.CommandName.TheVariants.{Check, Make, Model, Transfer}
+use Rattle.command_line.specs.Table.{Word}
+use Rattle.command_line.specs.CommandLine.{ProblemFile, Bounds, command_of, first_bad, misfit, prove, check, bad}
+
+in_classical : ProblemFile
+in_classical = record { name = codes "m.p"; root = []; setting = setting_of Classical Constant }
+
+usual : Bounds
+usual = record { limit = 100; steps = 10000000 }
+
+no_words : command_of [] ≡ bad 1
+no_words = refl
+
+prove_alone : command_of (codes "prove" ∷ []) ≡ bad 2
+prove_alone = refl
+
+two_files : command_of (codes "prove" ∷ codes "m.p" ∷ codes "n.p" ∷ []) ≡ bad 3
+two_files = refl
+
+empty_word : command_of (codes "prove" ∷ codes "--steps=5" ∷ [] ∷ []) ≡ bad 3
+unfolding digits
+empty_word = refl
+
+plain_proof : command_of (codes "prove" ∷ codes "m.p" ∷ []) ≡ prove in_classical usual
+unfolding in_classical usual digits
+plain_proof = refl
+
+options_in_any_order : command_of (codes "check" ∷ codes "--domains=varying" ∷ codes "m.p" ∷ codes "--root=r" ∷ codes "d.txt" ∷ codes "--logic=s4" ∷ [])
+    ≡ check (record { name = codes "m.p"; root = codes "r"; setting = setting_of S4 Varying }) (codes "d.txt")
+unfolding digits
+options_in_any_order = refl
+
+-- a bad value is told before the missing file, and an option given twice at its second word
+bad_value : command_of (codes "prove" ∷ codes "--limit=201" ∷ []) ≡ bad 2
+unfolding digits
+bad_value = refl
+
+given_twice : command_of (codes "prove" ∷ codes "--limit=2" ∷ codes "m.p" ∷ codes "--limit=2" ∷ []) ≡ bad 4
+unfolding digits
+given_twice = refl
+
+classical_domains : command_of (codes "prove" ∷ codes "--domains=constant" ∷ codes "m.p" ∷ []) ≡ bad 2
+unfolding digits
+classical_domains = refl
+
+limit_of_check : command_of (codes "check" ∷ codes "m.p" ∷ codes "d.txt" ∷ codes "--limit=1" ∷ []) ≡ bad 4
+unfolding digits
+limit_of_check = refl
+
+-- what is not built is a bad word
+not_built : command_of (codes "tcheck" ∷ codes "m.p" ∷ codes "t.txt" ∷ []) ≡ bad 1
+not_built = refl
+
+no_cut : command_of (codes "prove" ∷ codes "m.p" ∷ codes "--cut=1" ∷ []) ≡ bad 3
+unfolding digits
+no_cut = refl
+
+-- ---- words of commands that are not built
+
+chain_zero : first_bad Make [] (codes "chain" ∷ codes "0" ∷ []) ≡ Some 3
+unfolding digits
+chain_zero = refl
+
+no_family : first_bad Make [] (codes "loop" ∷ codes "2" ∷ []) ≡ Some 2
+no_family = refl
+
+root_of_make : first_bad Make [] (codes "chain" ∷ codes "2" ∷ codes "--root=r" ∷ []) ≡ Some 4
+unfolding digits
+root_of_make = refl
+
+tower_after_limit : List Word
+tower_after_limit = codes "--limit=2" ∷ codes "tower" ∷ codes "2" ∷ []
+
+good_tower : first_bad Make [] tower_after_limit ≡ None
+unfolding tower_after_limit digits
+good_tower = refl
+
+tower_place : misfit Make tower_after_limit ≡ Some 3
+unfolding tower_after_limit digits
+tower_place = refl
+
+-- the domains are told before the family
+classical_tower : misfit Make (codes "tower" ∷ codes "2" ∷ codes "--domains=varying" ∷ []) ≡ Some 4
+unfolding digits
+classical_tower = refl
+
+modal_tower : misfit Make (codes "--logic=s4" ∷ codes "tower" ∷ codes "3" ∷ []) ≡ None
+unfolding digits
+modal_tower = refl
+
+classical_translation : misfit Check (codes "m.p" ∷ codes "d.txt" ∷ codes "--as=s4" ∷ []) ≡ Some 4
+unfolding digits
+classical_translation = refl
+
+intuitionistic_translation : misfit Check (codes "m.p" ∷ codes "d.txt" ∷ codes "--as=s4" ∷ codes "--logic=intuitionistic" ∷ []) ≡ None
+unfolding digits
+intuitionistic_translation = refl
+
+transfer_logic : first_bad Transfer [] (codes "m.p" ∷ codes "d.txt" ∷ codes "--logic=intuitionistic" ∷ []) ≡ Some 4
+transfer_logic = refl
+
+limit_of_model : first_bad Model [] (codes "m.p" ∷ codes "s.txt" ∷ codes "--steps=5" ∷ codes "--limit=5" ∷ []) ≡ Some 5
+unfolding digits
+limit_of_model = refl

@@ -1,0 +1,19 @@
+-- The values of the definitions that those of the program stand for.
+use Rattle.logic_rules.specs.SettingView.{the_setting}
+use Rattle.command_line.specs.CommandLine as words
+use Rattle.command_line.specs.declared.bounds.Bounds.{Bounds}
+use Rattle.command_line.specs.declared.request.Command.{Command}
+use Rattle.command_line.specs.declared.request.Command.TheVariants.{Prove, Check, Bad}
+use Rattle.command_line.specs.declared.request.ProblemFile.{ProblemFile}
+
+abbrev pub the_problem_file : ProblemFile → words.ProblemFile
+the_problem_file p =
+    record { name = p.name.now; root = p.root.now; setting = the_setting p.setting }
+
+abbrev pub the_bounds : Bounds → words.Bounds
+the_bounds b = record { limit = b.limit.number; steps = b.steps }
+
+abbrev pub the_command : Command → words.Command
+the_command (Prove problem bounds) = words.prove (the_problem_file problem) (the_bounds bounds)
+the_command (Check problem derivation) = words.check (the_problem_file problem) derivation.now
+the_command (Bad place) = words.bad place

@@ -1,0 +1,198 @@
+//! What good words ask for.
+
+ghost use Rattle.std.specs.Prelude.{◌≡◌, Option, map, string_bytes};
+ghost use Rattle.std.specs.Option.{option_map};
+ghost use Rattle.command_line.specs.CommandLine.{
+  asked,
+  bounds_in,
+  command_by,
+  domains_in,
+  is_intuitionistic,
+  logic_in,
+  misfit,
+  place_of,
+  problem_in,
+  request,
+  tower_place,
+};
+ghost use Rattle.command_line.specs.CommandView.{the_bounds, the_command, the_problem_file};
+
+use crate::bounds::Bounds;
+use crate::given::{given, operand, operand_in, value_in};
+use crate::good_words::first_bad;
+use crate::table::{CommandName, OptionName, command_named, is_built};
+use crate::value::{MAX_STEPS, domains_of, logic_of, number_of};
+use calculus::limits::MAX_PATH_LIMIT;
+use cop_base::PathLimit;
+use logic_rules::{Domains, Logic, Setting};
+
+// The path limit and the budget where none is asked for.
+pub const USUAL_LIMIT: u8 = 100;
+
+pub const USUAL_STEPS: u64 = 10_000_000;
+
+/// A problem by the name of its main file, the root of the files that it includes (empty where
+/// there is none), and the setting in which it is read.
+#[derive(Clone, Copy)]
+pub struct ProblemFile<'a> {
+    pub name: &'a str,
+    pub root: &'a str,
+    pub setting: Setting,
+}
+
+/// What the words ask for, or the place of the bad or missing word, from 1.
+pub enum Command<'a> {
+    Prove {
+        problem: ProblemFile<'a>,
+        bounds: Bounds,
+    },
+    Check {
+        problem: ProblemFile<'a>,
+        derivation: &'a str,
+    },
+    Bad {
+        place: u64,
+    },
+}
+
+fn logic_in(words: &[String]) -> Logic
+    ensures { result ≡ logic_in (map string_bytes words.now) }
+{
+    match logic_of(value_in(OptionName::Logic, words)) {
+        Some(logic) => logic,
+        None => Logic::Classical,
+    }
+}
+
+fn is_intuitionistic(logic: Logic) -> bool
+    ensures { result ≡ is_intuitionistic logic }
+{
+    match logic {
+        Logic::Intuitionistic => true,
+        Logic::Classical | Logic::D | Logic::T | Logic::S4 | Logic::S5 => false,
+    }
+}
+
+fn place_of(option: OptionName, words: &[String]) -> Option<u64>
+    ensures { result ≡ place_of option (map string_bytes words.now) }
+{
+    match given(option, words) {
+        Some((place, _)) => Some(place),
+        None => None,
+    }
+}
+
+// The place of the family of generated problems, where it is that of towers.
+fn tower_place(command: CommandName, words: &[String]) -> Option<u64>
+    ensures { result ≡ tower_place command (map string_bytes words.now) }
+{
+    match (command, operand(0, words)) {
+        (CommandName::Make, Some((place, "tower"))) => Some(place),
+        _ => None,
+    }
+}
+
+// The place of a good word that does not fit the logic.
+fn misfit(command: CommandName, words: &[String]) -> Option<u64>
+    ensures { result ≡ misfit command (map string_bytes words.now) }
+{
+    let logic = logic_in(words);
+    if !logic.is_modal()
+        && let Some(place) = place_of(OptionName::Domains, words)
+    {
+        return Some(place);
+    }
+    if !is_intuitionistic(logic)
+        && let Some(place) = place_of(OptionName::As, words)
+    {
+        return Some(place);
+    }
+    if logic.is_modal() {
+        None
+    } else {
+        tower_place(command, words)
+    }
+}
+
+fn domains_in(words: &[String]) -> Domains
+    ensures { result ≡ domains_in (map string_bytes words.now) }
+{
+    match domains_of(value_in(OptionName::Domains, words)) {
+        Some(domains) => domains,
+        None => Domains::Constant,
+    }
+}
+
+fn problem_in(words: &[String]) -> ProblemFile<'_>
+    ensures { the_problem_file result ≡ problem_in (map string_bytes words.now) }
+{
+    ProblemFile {
+        name: operand_in(0, words),
+        root: value_in(OptionName::Root, words),
+        setting: Setting::new(logic_in(words), domains_in(words)),
+    }
+}
+
+fn bounds_in(words: &[String]) -> Bounds
+    ensures { the_bounds result ≡ bounds_in (map string_bytes words.now) }
+{
+    let number = match number_of(
+        u64::from(MAX_PATH_LIMIT),
+        value_in(OptionName::Limit, words),
+    ) {
+        Some(number) => number as u8,
+        None => USUAL_LIMIT,
+    };
+    let steps = match number_of(MAX_STEPS, value_in(OptionName::Steps, words)) {
+        Some(steps) => steps,
+        None => USUAL_STEPS,
+    };
+    Bounds {
+        limit: PathLimit { number },
+        steps,
+    }
+}
+
+fn request(command: CommandName, words: &[String]) -> Command<'_>
+    ensures { the_command result ≡ request command (map string_bytes words.now) }
+{
+    match command {
+        CommandName::Prove => Command::Prove {
+            problem: problem_in(words),
+            bounds: bounds_in(words),
+        },
+        CommandName::Check => Command::Check {
+            problem: problem_in(words),
+            derivation: operand_in(1, words),
+        },
+        _ => Command::Bad { place: 1 },
+    }
+}
+
+fn command_by(command: CommandName, words: &[String]) -> Command<'_>
+    ensures { the_command result ≡ command_by command (map string_bytes words.now) }
+{
+    if !is_built(command) {
+        return Command::Bad { place: 1 };
+    }
+    if let Some(place) = first_bad(command, words) {
+        return Command::Bad { place };
+    }
+    if let Some(place) = misfit(command, words) {
+        return Command::Bad { place };
+    }
+    request(command, words)
+}
+
+/// Words are judged from left to right, and the first bad one is told.
+pub fn command_of(words: &[String]) -> Command<'_>
+    ensures { the_command result ≡ asked words.now }
+{
+    match words {
+        [] => Command::Bad { place: 1 },
+        [command, rest @ ..] => match command_named(command.as_str()) {
+            Some(command) => command_by(command, rest),
+            None => Command::Bad { place: 1 },
+        },
+    }
+}
