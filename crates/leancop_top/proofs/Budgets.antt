@@ -1,16 +1,16 @@
 -- A budget of as many steps as the space has members, up to the limit of the answer, is not used up.
-use Rattle.std.proofs.Common.{◌≡◌, ◌⊎◌, ℕ, ◌+◌, ◌<◌, ◌≤◌, List, [], ◌∷◌, length, inl, inr, arith}
+use Rattle.std.proofs.Common.{ℕ, ◌+◌, ◌<◌, ◌≤◌, List, [], ◌∷◌, inl, inr, arith}
 use Rattle.std.specs.List.{AllByRecursion}
 use Rattle.std.proofs.lemmas.Bool.{cases_lt}
 use Rattle.calculus.specs.Syntax.{Problem}
 use Rattle.calculus.specs.Choices.{IsLeft}
-use Rattle.calculus.specs.Counting.{AtMostMany, MoreThan}
+use Rattle.calculus.specs.Counting.{AtMostMany}
 use Rattle.calculus.specs.Space.{Answer, derived, exhausted, no_tableau, IsAnswer, Member, IsMember}
 use Rattle.calculus.specs.Space.{ComesNoLater, member_cmp}
 use Rattle.calculus.specs.Tableaux.{HasClosed}
 use Rattle.calculus.proofs.AnswerLaws.{closed-mono}
-use Rattle.leancop_top.specs.Words.{Bounds}
-use Rattle.leancop_top.specs.Run.{IsStepsEnded, limit_of}
+use Rattle.command_line.specs.CommandLine.{Bounds}
+use Rattle.leancop_top.specs.TableauSearch.{IsStepsEnded, limit_of}
 
 -- ---- members up to a limit are members up to a greater one
 

@@ -1,71 +1,127 @@
--- What ends reading, proving or judging ends the run.
-use Rattle.std.proofs.Common.{◌≡◌, List, [], ℕ, Option, Ok, refl, sym, subst, inl, inr}
-use Rattle.calculus.specs.Syntax.{Problem}
+-- How a command's reply ends the run.
+use Rattle.std.proofs.Common.{◌≡◌, List, ℕ, Option, Result, Ok, Err, Bool, true, false, refl, sym, subst}
+use Rattle.std.specs.Prelude.{IfOk}
 use Rattle.cop_base.specs.Outside.{Files}
+use Rattle.cop_base.specs.declared.NoMemory.{NoMemory}
+use Rattle.calculus.specs.Syntax.{Problem}
+use Rattle.command_line.specs.CommandLine.{Bounds, Command, ProblemFile, prove, check, bad}
+use Rattle.command_line.specs.Table.{Word}
+use Rattle.problem_build.specs.Refusals.{Refusal, missing, input_too_large, nesting_too_deep, formula_too_large, too_many_symbols, bad as bad_problem}
+use Rattle.leancop_top.specs.Commands.Check.{CheckEnds, accepted, rejected, not_fetched}
+use Rattle.leancop_top.specs.Commands.Prove.{ProveEnds, derived, fruitless}
+use Rattle.leancop_top.specs.Reading.{EndsOn, IsRead, ReadingEnds, refused, refusal_status, unread, with_problem, without_problem}
+use Rattle.leancop_top.specs.Run.{Ends}
+use Rattle.leancop_top.specs.SecondFile.{FetchEnds}
+use Rattle.leancop_top.specs.SecondFile as second
+use Rattle.leancop_top.specs.Statuses.{IsCounted, status_line}
+use Rattle.leancop_top.specs.TableauSearch.{SearchEnds, exhausted, no_tableau, steps_ended, too_large}
+use Rattle.leancop_top.specs.declared.reply.Reply.{Reply}
 use Rattle.leancop_top.specs.declared.status.Status.{Status}
-use Rattle.leancop_top.specs.declared.status.Status.TheVariants.{Derived, Exhausted, NoTableau}
-use Rattle.leancop_top.specs.declared.status.Status.TheVariants.{StepsEnded, Accepted}
-use Rattle.leancop_top.specs.declared.status.Status.TheVariants.{Rejected, BadWords, Missing}
-use Rattle.leancop_top.specs.declared.status.Status.TheVariants.{ReadFault, WriteFault, BadProblem}
-use Rattle.leancop_top.specs.declared.status.Status.TheVariants.{InputTooLarge, NestingTooDeep}
-use Rattle.leancop_top.specs.declared.status.Status.TheVariants.{FormulaTooLarge, TooManySymbols}
-use Rattle.leancop_top.specs.declared.status.Status.TheVariants.{MatrixTooLarge, NoMemory}
-use Rattle.leancop_top.specs.Words.{Word, ProblemFile, Bounds, prove, check}
-use Rattle.leancop_top.specs.Run.{Ends, IsCounted, IsRead, JudgingEnds, ReadingEnds, SearchEnds}
-use Rattle.leancop_top.specs.Without.{EndsWithout, OrNoMemory, SearchEndsWithout}
+use Rattle.leancop_top.specs.declared.status.Status.TheVariants as status
 
-weaker : {A B : Status → Type 0} → ((s : Status) → A s → B s) → (s : Status) → OrNoMemory A s → OrNoMemory B s
-weaker f (Derived d) h = f _ h
-weaker f (Exhausted d) h = f _ h
-weaker f (NoTableau d) h = f _ h
-weaker f (StepsEnded d n) h = f _ h
-weaker f Accepted h = f _ h
-weaker f (Rejected at fault) h = f _ h
-weaker f (BadWords place) h = f _ h
-weaker f (Missing name) h = f _ h
-weaker f (ReadFault name) h = f _ h
-weaker f WriteFault h = f _ h
-weaker f (BadProblem name offset cause) h = f _ h
-weaker f InputTooLarge h = f _ h
-weaker f NestingTooDeep h = f _ h
-weaker f FormulaTooLarge h = f _ h
-weaker f TooManySymbols h = f _ h
-weaker f MatrixTooLarge h = f _ h
-weaker f NoMemory h = tt
+-- ---- replies of one line
 
-pub read_ends_prove : (told : Option Files) (p : ProblemFile) (b : Bounds) (s : Status) → OrNoMemory (ReadingEnds told p) s → EndsWithout told (prove p b) s
-read_ends_prove told p b s h =
-    weaker {A = ReadingEnds told p} {B = λ t. (bytes : List ℕ) → Ends told (prove p b) t bytes} (λ t k bytes. inl k) s h
+pub line-ends : (ends : Status → List ℕ → Type 0) (s : Status) (r : Result Reply NoMemory) → IfOk r (λ x. x.status ≡ s) → IfOk r (λ x. x.output.items ≡ status_line s) → ends s (status_line s) → IfOk r (λ x. ends x.status x.output.items)
+line-ends ends s (Ok x) e k h = subst (ends x.status) (sym k) (subst (λ t. ends t (status_line s)) (sym e) h)
+line-ends ends s (Err f) e k h = tt
 
-pub read_ends_check : (told : Option Files) (p : ProblemFile) (derivation : Word) (s : Status) → OrNoMemory (ReadingEnds told p) s → EndsWithout told (check p derivation) s
-read_ends_check told p derivation s h =
-    weaker {A = ReadingEnds told p} {B = λ t. (bytes : List ℕ) → Ends told (check p derivation) t bytes} (λ t k bytes. inl k) s h
+pub line-counted : (m n f g : ℕ) (s : Status) (r : Result Reply NoMemory) → IfOk r (λ x. x.status ≡ s) → IsCounted m n f g s → IfOk r (λ x. IsCounted m n f g x.status)
+line-counted m n f g s (Ok x) e h = subst (IsCounted m n f g) (sym e) h
+line-counted m n f g s (Err k) e h = tt
 
-pub searched_ends : (told : Option Files) (p : ProblemFile) (b : Bounds) (P : Problem) → IsRead told p (Ok P) → (s : Status) → SearchEndsWithout P b s → EndsWithout told (prove p b) s
-searched_ends told p b P r s h =
-    weaker {A = λ t. (bytes : List ℕ) → SearchEnds P b t bytes} {B = λ t. (bytes : List ℕ) → Ends told (prove p b) t bytes} (λ t k bytes. inr (P, r, k bytes)) s h
+-- ---- replies for a problem that is read
 
-pub judged_ends : (told : Option Files) (p : ProblemFile) (derivation : Word) (P : Problem) → IsRead told p (Ok P) → (s : Status) → OrNoMemory (JudgingEnds told P derivation) s → EndsWithout told (check p derivation) s
-judged_ends told p derivation P r s h =
-    weaker {A = JudgingEnds told P derivation} {B = λ t. (bytes : List ℕ) → Ends told (check p derivation) t bytes} (λ t k bytes. inr (P, r, k)) s h
+pub read-ends : (told : Option Files) (p : ProblemFile) (P : Problem) (ends : Problem → Status → List ℕ → Type 0) (r : Result Reply NoMemory) → IsRead told p (Ok P) → IfOk r (λ x. ends P x.status x.output.items) → IfOk r (λ x. EndsOn told p ends x.status x.output.items)
+read-ends told p P ends (Ok x) read h = with_problem P x.status x.output.items read h
+read-ends told p P ends (Err f) read h = tt
 
 -- ---- a search fetches nothing
 
-pub searching_counted : (P : Problem) (b : Bounds) (misses misses_after faults faults_after : ℕ) (s : Status) → SearchEndsWithout P b s → IsCounted misses misses_after faults faults_after s
-searching_counted P b m n f g (Derived d) h = tt
-searching_counted P b m n f g (Exhausted d) h = tt
-searching_counted P b m n f g (NoTableau d) h = tt
-searching_counted P b m n f g (StepsEnded d steps) h = tt
-searching_counted P b m n f g Accepted h = tt
-searching_counted P b m n f g (Rejected at fault) h = tt
-searching_counted P b m n f g (BadWords place) h = tt
-searching_counted P b m n f g (Missing name) h = absurd (h [])
-searching_counted P b m n f g (ReadFault name) h = absurd (h [])
-searching_counted P b m n f g WriteFault h = tt
-searching_counted P b m n f g (BadProblem name offset cause) h = tt
-searching_counted P b m n f g InputTooLarge h = tt
-searching_counted P b m n f g NestingTooDeep h = tt
-searching_counted P b m n f g FormulaTooLarge h = tt
-searching_counted P b m n f g TooManySymbols h = tt
-searching_counted P b m n f g MatrixTooLarge h = tt
-searching_counted P b m n f g NoMemory h = tt
+search-counted : (P : Problem) (b : Bounds) (m n f g : ℕ) (s : Status) → SearchEnds P b s → IsCounted m n f g s
+search-counted P b m n f g _ (exhausted d h) = tt
+search-counted P b m n f g _ (no_tableau d h) = tt
+search-counted P b m n f g _ (steps_ended d k h) = tt
+search-counted P b m n f g _ (too_large h) = tt
+
+prove-counted : (P : Problem) (b : Bounds) (m n f g : ℕ) (s : Status) (bytes : List ℕ) → ProveEnds P b s bytes → IsCounted m n f g s
+prove-counted P b m n f g _ _ (derived d bytes h) = tt
+prove-counted P b m n f g _ _ (fruitless s h) = search-counted P b m n f g s h
+
+pub proved-counted : (P : Problem) (b : Bounds) (m n f g : ℕ) (r : Result Reply NoMemory) → IfOk r (λ x. ProveEnds P b x.status x.output.items) → IfOk r (λ x. IsCounted m n f g x.status)
+proved-counted P b m n f g (Ok x) h = prove-counted P b m n f g x.status x.output.items h
+proved-counted P b m n f g (Err k) h = tt
+
+-- ---- what ends a run tells something
+
+-- that writing failed, or that memory ended
+pub is_silent : Status → Bool
+is_silent status.WriteFault = true
+is_silent status.NoMemory = true
+is_silent s = false
+
+refusal-told : (r : Refusal) → is_silent (refusal_status r) ≡ false
+unfolding is_silent
+refusal-told (missing name) = refl
+refusal-told input_too_large = refl
+refusal-told nesting_too_deep = refl
+refusal-told formula_too_large = refl
+refusal-told too_many_symbols = refl
+refusal-told (bad_problem file offset cause) = refl
+
+reading-told : (told : Option Files) (p : ProblemFile) (s : Status) → ReadingEnds told p s → is_silent s ≡ false
+unfolding is_silent
+reading-told told p _ (refused r h) = refusal-told r
+reading-told told p _ (unread name h) = refl
+
+on-told : (told : Option Files) (p : ProblemFile) (ends : Problem → Status → List ℕ → Type 0) → ((P : Problem) (t : Status) (bs : List ℕ) → ends P t bs → is_silent t ≡ false) → (s : Status) (bytes : List ℕ) → EndsOn told p ends s bytes → is_silent s ≡ false
+on-told told p ends rest _ _ (without_problem s r) = reading-told told p s r
+on-told told p ends rest _ _ (with_problem P s bytes r h) = rest P s bytes h
+
+search-told : (P : Problem) (b : Bounds) (s : Status) → SearchEnds P b s → is_silent s ≡ false
+unfolding is_silent
+search-told P b _ (exhausted d h) = refl
+search-told P b _ (no_tableau d h) = refl
+search-told P b _ (steps_ended d k h) = refl
+search-told P b _ (too_large h) = refl
+
+prove-told : (P : Problem) (b : Bounds) (s : Status) (bytes : List ℕ) → ProveEnds P b s bytes → is_silent s ≡ false
+unfolding is_silent
+prove-told P b _ _ (derived d bytes h) = refl
+prove-told P b _ _ (fruitless s h) = search-told P b s h
+
+fetch-told : (told : Option Files) (name : Word) (s : Status) → FetchEnds told name s → is_silent s ≡ false
+unfolding is_silent
+fetch-told told name _ (second.missing h) = refl
+fetch-told told name _ second.unread = refl
+
+check-told : (told : Option Files) (P : Problem) (derivation : Word) (s : Status) (bytes : List ℕ) → CheckEnds told P derivation s bytes → is_silent s ≡ false
+unfolding is_silent
+check-told told P d _ _ (accepted h v) = refl
+check-told told P d _ _ (rejected line fault h) = refl
+check-told told P d _ _ (not_fetched s h) = fetch-told told d s h
+
+bad-told : (place : ℕ) (s : Status) → s ≡ status.BadWords place → is_silent s ≡ false
+unfolding is_silent
+bad-told place s e = rw e refl
+
+told : (files : Option Files) (command : Command) (s : Status) (bytes : List ℕ) → Ends files command s bytes → is_silent s ≡ false
+told files (prove p b) s bytes h = on-told files p (λ P. ProveEnds P b) (λ P. prove-told P b) s bytes h
+told files (check p d) s bytes h = on-told files p (λ P. CheckEnds files P d) (λ P. check-told files P d) s bytes h
+told files (bad place) s bytes h = bad-told place s h.0
+
+true-false : (t : Bool) → t ≡ true → t ≡ false → ⊥
+true-false t e k = absurd (cc)
+
+silent-fault : (s : Status) → s ≡ status.WriteFault → is_silent s ≡ true
+unfolding is_silent
+silent-fault s e = rw e refl
+
+silent-memory : (s : Status) → s ≡ status.NoMemory → is_silent s ≡ true
+unfolding is_silent
+silent-memory s e = rw e refl
+
+pub no_write_fault : (files : Option Files) (command : Command) (s : Status) (bytes : List ℕ) → Ends files command s bytes → s ≡ status.WriteFault → ⊥
+no_write_fault files command s bytes h e = true-false (is_silent s) (silent-fault s e) (told files command s bytes h)
+
+pub no_want_of_memory : (files : Option Files) (command : Command) (s : Status) (bytes : List ℕ) → Ends files command s bytes → s ≡ status.NoMemory → ⊥
+no_want_of_memory files command s bytes h e = true-false (is_silent s) (silent-memory s e) (told files command s bytes h)

@@ -1,11 +1,11 @@
 -- Within the limit 0 no tableau is closed, since each clause has a literal.
-use Rattle.std.proofs.Common.{◌≡◌, ℕ, zero, suc, ◌+◌, ◌<◌, ◌≤◌, List, [], ◌∷◌, length, length-append, IsTrue, ap, sym, subst, arith}
+use Rattle.std.proofs.Common.{ℕ, zero, suc, ◌<◌, ◌≤◌, List, [], ◌∷◌, length, length-append, IsTrue, sym, subst, arith}
 use Rattle.std.proofs.lemmas.Bool.{false≢true, and_parts}
 use Rattle.calculus.specs.declared.setting.Logic.{Logic}
 use Rattle.calculus.specs.declared.sign.Sign.{Sign}
 use Rattle.calculus.specs.Syntax.{Formula, Problem}
 use Rattle.calculus.specs.Ground.{GroundLiteral}
-use Rattle.calculus.specs.Instances.{Spot, Share, Gives, Shaped, by_plain, by_nu, by_pi, is_literal, by_only, by_left, by_right, by_both, by_gamma, by_delta, ClauseInstance, IsAllowedInstance, clause_instance}
+use Rattle.calculus.specs.Instances.{Spot, Share, Gives, Shaped, by_plain, by_nu, by_pi, is_literal, by_only, by_left, by_right, by_both, by_gamma, by_delta, ClauseInstance}
 use Rattle.calculus.specs.ComputedInstances.{is_allowed_instance}
 use Rattle.calculus.specs.Tableaux.{Closing, Closings, reduce, extend, no_closings, more_closings, ancestor, is_complement, is_new_on, closes, closes_all, HasClosed}
 use Rattle.calculus.proofs.CasesLaws.{is_allowed_instance-exact}

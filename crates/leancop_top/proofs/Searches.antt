@@ -1,10 +1,11 @@
 -- What deepening answers is what ends the search.
-use Rattle.std.proofs.Common.{◌≡◌, ℕ, ◌-◌, ◌≤◌, List, IsTrue, refl, sym, subst, arith, nat_le}
+use Rattle.std.proofs.Common.{◌≡◌, ℕ, ◌≤◌, IsTrue, refl, subst, arith, nat_le}
 use Rattle.std.proofs.lemmas.Bool.{and_from, le-leb}
 use Rattle.calculus.specs.Syntax.{Problem}
+use Rattle.calculus.specs.declared.limits.TheConstants.{MAX_PATH_LIMIT}
 use Rattle.calculus.specs.Counting.{MoreThan}
 use Rattle.calculus.specs.DerivationText.{is_limit}
-use Rattle.calculus.specs.Space.{Answer, IsAnswer, derived, ComesNoLater, member_cmp}
+use Rattle.calculus.specs.Space.{Answer, IsAnswer, ComesNoLater, member_cmp}
 use Rattle.calculus.proofs.AnswerLaws.{answer-unique}
 use Rattle.connection_search.specs.Outcomes.{IsDeepAnswer}
 use Rattle.connection_search.specs.declared.deepening.Answer.TheVariants as deep
@@ -12,37 +13,37 @@ use Rattle.matrix_build.specs.Fits.{FitsMatrix}
 use Rattle.calculus.specs.Tableaux.{Tableau}
 use Rattle.tableau_core.specs.TableauView.{the_tableau}
 use Rattle.leancop_top.proofs.LimitLaws.{none_below, none_within}
-use Rattle.leancop_top.specs.Words.{Bounds}
-use Rattle.leancop_top.specs.Run.{IsDerivation, IsDerived, IsExhausted, IsNoTableau, IsOnlyAnswer}
-use Rattle.leancop_top.specs.Run.{IsStepsEnded}
-use Rattle.leancop_top.specs.Without.{IsFound}
+use Rattle.command_line.specs.CommandLine.{Bounds}
+use Rattle.leancop_top.specs.TableauSearch.{IsFound, IsOnlyAnswer, SearchEnds, exhausted, no_tableau, steps_ended}
+use Rattle.leancop_top.specs.declared.status.Status.TheVariants as status
 
 only : (P : Problem) (b : Bounds) (a : Answer) → IsAnswer P b.limit a → IsOnlyAnswer P b a
-only P b a h = record { answers = h; alone = λ other g. answer-unique P b.limit other a g h }
+only P b a h = record { answers = h; unique = λ other g. answer-unique P b.limit other a g h }
 
 pub found : (P : Problem) (b : Bounds) (n d : ℕ) (t : _) → FitsMatrix P → IsDeepAnswer P b.limit n (deep.Closed d t) → IsFound P b d (the_tableau t)
-found P b n d t fits h = record { fits = fits; answer = only P b _ h.0; least = none_below P d h.0.3; closed = h.1 }
+found P b n d t fits h = record {
+  is_least = record { fits = fits; answer = only P b _ h.0; least = none_below P d h.0.3 };
+  closed = h.1;
+}
 
-pub exhausted-ends : (P : Problem) (b : Bounds) (n d : ℕ) → FitsMatrix P → IsDeepAnswer P b.limit n (deep.Exhausted d) → IsExhausted P b d
-exhausted-ends P b n d fits h = record { fits = fits; answer = only P b _ h }
+pub exhausted-ends : (P : Problem) (b : Bounds) (n d : ℕ) → FitsMatrix P → IsDeepAnswer P b.limit n (deep.Exhausted d) → SearchEnds P b (status.Exhausted d)
+exhausted-ends P b n d fits h = exhausted d (record { fits = fits; answer = only P b _ h })
 
-pub no_tableau-ends : (P : Problem) (b : Bounds) (n d : ℕ) → FitsMatrix P → IsDeepAnswer P b.limit n (deep.NoTableau d) → IsNoTableau P b d
-no_tableau-ends P b n d fits h = record { fits = fits; answer = only P b _ h.0; never = h.1 }
+pub no_tableau-ends : (P : Problem) (b : Bounds) (n d : ℕ) → FitsMatrix P → IsDeepAnswer P b.limit n (deep.NoTableau d) → SearchEnds P b (status.NoTableau d)
+no_tableau-ends P b n d fits h = no_tableau d (record { fits = fits; answer = only P b _ h.0; never = h.1 })
 
 -- nothing was used of the budget before
-pub steps-ends : (P : Problem) (b : Bounds) (n d : ℕ) → FitsMatrix P → n ≡ b.steps → IsDeepAnswer P b.limit n (deep.Steps d) → IsStepsEnded P b d b.steps
-steps-ends P b n d fits same h = record {
+pub steps-ends : (P : Problem) (b : Bounds) (n d : ℕ) → FitsMatrix P → n ≡ b.steps → IsDeepAnswer P b.limit n (deep.Steps d) → SearchEnds P b (status.StepsEnded d b.steps)
+steps-ends P b n d fits same h = steps_ended d b.steps (record {
   fits = fits;
   budget = refl;
   below = h.0;
   left = h.1.left;
   none = none_within P d h.1.none;
   more = subst (MoreThan member_cmp (ComesNoLater P d)) same h.2;
-}
+})
 
-pub limit-written : (P : Problem) (b : Bounds) (d : ℕ) → b.limit ≤ 200 → IsAnswer P b.limit (derived d) → IsTrue (is_limit d)
-limit-written P b d most h = and_from (nat_le 1 d) (nat_le d 200) (le-leb 1 d h.0) (le-leb d 200 (omega (arith, h.1, most)))
-
-pub derived-by : (P : Problem) (b : Bounds) (d n : ℕ) (t : Tableau) (bytes : List ℕ) → IsFound P b d t → (n ≡ d) × IsDerivation P d bytes → IsDerived P b n bytes
-derived-by P b d n t bytes f h =
-    subst (λ k. IsDerived P b k bytes) (sym h.0) (record { fits = f.fits; answer = f.answer; least = f.least; written = h.1 })
+pub limit-written : (P : Problem) (b : Bounds) (d : ℕ) (t : Tableau) → b.limit ≤ MAX_PATH_LIMIT → IsFound P b d t → IsTrue (is_limit d)
+limit-written P b d t most f =
+    let h = f.is_least.answer.answers in
+    and_from (nat_le 1 d) (nat_le d MAX_PATH_LIMIT) (le-leb 1 d h.0) (le-leb d MAX_PATH_LIMIT (omega (arith, h.1, most)))

@@ -1,6 +1,9 @@
-pub mod Words
-pub mod Output
-pub mod CommandView
+pub mod FaultTexts
+pub mod Statuses
 pub mod FaultView
+pub mod Reading
+pub mod SecondFile
+pub mod TableauSearch
+pub mod Derived
+pub mod Commands
 pub mod Run
-pub mod Without

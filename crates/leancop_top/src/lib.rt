@@ -1,14 +1,15 @@
 //! The commands of the prover.
 #![tactic(auto)]
 
-mod bounds;
-mod judging;
-mod output;
+mod commands;
+mod fault_text;
+mod problem;
 mod program;
-mod prove;
-mod reading;
+mod reply;
+mod second_file;
 mod status;
-mod words;
+mod status_line;
+mod tableau_search;
 mod writing;
 
 pub use program::run;

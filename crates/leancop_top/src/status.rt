@@ -1,9 +1,8 @@
 //! How a run ends.
 
 ghost use Rattle.std.specs.Prelude.{◌≡◌};
-ghost use Rattle.leancop_top.specs.Output.{exit_of};
+ghost use Rattle.leancop_top.specs.Statuses.{exit_of};
 
-use calculus::fault::{StructureCause, TableauFault};
 use cop_base::Text;
 use derivation_check::CheckFault;
 
@@ -37,33 +36,6 @@ pub enum Status {
     Rejected {
         line: u64,
         fault: CheckFault,
-    },
-    /// The version 2 text was printed of the derivation that a file states and that derives the
-    /// problem's formula.
-    Migrated,
-    /// A derivation of the translated problem was printed.
-    Transferred,
-    /// The text of a tableau was printed that is closed within the path limit.
-    TableauFound {
-        limit: u8,
-    },
-    /// The bytes are no text of a tableau that is closed within the limit that they state; the fault
-    /// stands at this line, counted from 1.
-    TableauRejected {
-        line: u64,
-        fault: TableauFault,
-    },
-    /// The derivation of an accepted tableau was printed.
-    Converted,
-    /// The problem's formula is true at the root of the structure.
-    TrueAtRoot,
-    /// The problem's formula is false at the root of the structure, so it has no derivation.
-    FalseAtRoot,
-    /// The bytes state no structure of the problem's setting; the fault stands at this line, counted
-    /// from 1.
-    BadStructure {
-        line: u64,
-        cause: StructureCause,
     },
     /// The word at this place, counted from 1, is bad, or it is missing.
     BadWords {
@@ -103,13 +75,7 @@ pub fn exit_code(status: &Status) -> u8
     ensures { result ≡ exit_of status.now }
 {
     match status {
-        Status::Derived { .. }
-        | Status::Accepted
-        | Status::Migrated
-        | Status::Transferred
-        | Status::TableauFound { .. }
-        | Status::Converted
-        | Status::TrueAtRoot => 0,
+        Status::Derived { .. } | Status::Accepted => 0,
         Status::Exhausted { .. } => 1,
         Status::NoTableau { .. } => 2,
         Status::StepsEnded { .. } => 3,
@@ -122,8 +88,6 @@ pub fn exit_code(status: &Status) -> u8
         Status::BadWords { .. } => 5,
         Status::Missing { .. } | Status::ReadFault { .. } | Status::WriteFault => 6,
         Status::NoMemory => 7,
-        Status::Rejected { .. } | Status::TableauRejected { .. } => 8,
-        Status::FalseAtRoot => 9,
-        Status::BadStructure { .. } => 10,
+        Status::Rejected { .. } => 8,
     }
 }

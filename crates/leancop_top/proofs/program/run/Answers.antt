@@ -1,17 +1,20 @@
-use Rattle.std.proofs.Common.{sym, subst}
-use Rattle.leancop_top.proofs.Complete.{decided, judged}
-use Rattle.leancop_top.specs.Run.{IsCheckable, IsProvable}
-use Rattle.leancop_top.specs.Words.{asked}
+use Rattle.std.proofs.Common.{subst}
+use Rattle.leancop_top.proofs.Decisions.{decided}
+use Rattle.leancop_top.proofs.Ends.{no_want_of_memory, no_write_fault}
+use Rattle.leancop_top.specs.Run.{Decides}
+use Rattle.command_line.specs.CommandLine.{asked}
 use Rattle.leancop_top.proofs.program.run.Goals as goal
 
-pub returns-in-Ok-put_all-clause-complete : goal.returns-in-Ok-put_all-clause-complete
-returns-in-Ok-put_all-clause-complete g c quiet_library quiet_sink provable =
-    let told = g.L.Library.holds c.args.lib.now in
-    let provable' : IsProvable told (asked c.as_slice.result.now) = subst (λ ws. IsProvable told (asked ws)) (sym c.as_slice.ensures.value) provable in
-    decided told (asked c.as_slice.result.now) c.in-Ok.reply.status c.in-Ok.reply.output.items _ _ _ _ c.in-Ok.ensures.answers.ends c.in-Ok.ensures.counted quiet_library provable'
+pub returns-in-Ok-put_all-clause-write_fault : goal.returns-in-Ok-put_all-clause-write_fault
+returns-in-Ok-put_all-clause-write_fault g c = λ e.
+    absurd (no_write_fault (g.L.Library.holds c.args.lib.now) (asked c.as_slice.result.now) c.in-Ok.reply.status c.in-Ok.reply.output.items c.in-Ok.ensures.ends e)
 
-pub returns-in-Ok-put_all-clause-judged : goal.returns-in-Ok-put_all-clause-judged
-returns-in-Ok-put_all-clause-judged g c quiet_library quiet_sink checkable =
+pub returns-in-Ok-put_all-clause-no_memory : goal.returns-in-Ok-put_all-clause-no_memory
+returns-in-Ok-put_all-clause-no_memory g c = λ e.
+    absurd (no_want_of_memory (g.L.Library.holds c.args.lib.now) (asked c.as_slice.result.now) c.in-Ok.reply.status c.in-Ok.reply.output.items c.in-Ok.ensures.ends e)
+
+pub returns-in-Ok-put_all-clause-decided : goal.returns-in-Ok-put_all-clause-decided
+returns-in-Ok-put_all-clause-decided g c quiet_library quiet_sink =
     let told = g.L.Library.holds c.args.lib.now in
-    let checkable' : IsCheckable told (asked c.as_slice.result.now) = subst (λ ws. IsCheckable told (asked ws)) (sym c.as_slice.ensures.value) checkable in
-    judged told (asked c.as_slice.result.now) c.in-Ok.reply.status c.in-Ok.reply.output.items _ _ _ _ c.in-Ok.ensures.answers.ends c.in-Ok.ensures.counted quiet_library checkable'
+    subst (λ ws. Decides told (asked ws) c.in-Ok.reply.status) c.as_slice.ensures.value
+    (decided told (asked c.as_slice.result.now) c.in-Ok.reply.status c.in-Ok.reply.output.items _ _ _ _ c.in-Ok.ensures.ends c.in-Ok.ensures.counted quiet_library)

@@ -1,0 +1,91 @@
+-- What the files hold is decided, where no stream fails and memory does not end.
+use Rattle.std.proofs.Common.{◌≡◌, List, ℕ, Option, None, Some, Result, Ok, Err, refl, subst, sym}
+use Rattle.std.specs.Prelude.{IfSome}
+use Rattle.calculus.specs.Syntax.{Problem}
+use Rattle.cop_base.specs.Outside.{Files, file_in, Rose}
+use Rattle.command_line.specs.CommandLine.{Bounds, Command, ProblemFile, prove, check, bad}
+use Rattle.command_line.specs.Table.{Word}
+use Rattle.problem_build.specs.Refusals.{Refusal}
+use Rattle.leancop_top.proofs.Budgets.{not_steps_ended}
+use Rattle.leancop_top.specs.Commands.Check.{CheckEnds, IsJudged, accepted, rejected, not_fetched}
+use Rattle.leancop_top.specs.Commands.Prove.{IsDecided, ProveEnds, derived, fruitless}
+use Rattle.leancop_top.specs.Reading.{EndsOn, IsRead, Reading, ReadingEnds, refused, unread, with_problem, without_problem}
+use Rattle.leancop_top.specs.Run.{Decides, Ends}
+use Rattle.leancop_top.specs.SecondFile.{FetchEnds, Lacks}
+use Rattle.leancop_top.specs.SecondFile as second
+use Rattle.leancop_top.specs.Statuses.{IsCounted}
+use Rattle.leancop_top.specs.TableauSearch.{SearchEnds, Suffices, exhausted, no_tableau, steps_ended, too_large}
+use Rattle.leancop_top.specs.declared.status.Status.{Status}
+use Rattle.leancop_top.specs.declared.status.Status.TheVariants as status
+
+none-some : (text : List ℕ) (o : Option (List ℕ)) → o ≡ Some text → o ≡ None → ⊥
+none-some text o e k = absurd (cc)
+
+same-ok : (P Q : Problem) (a b : Result Problem Refusal) → a ≡ Ok P → b ≡ Ok Q → a ≡ b → P ≡ Q
+same-ok P Q a b h k e = cc
+
+ok-err : (P : Problem) (r : Refusal) (a b : Result Problem Refusal) → a ≡ Ok P → b ≡ Err r → a ≡ b → ⊥
+ok-err P r a b h k e = absurd (cc)
+
+-- ---- the files hold the problem P
+
+-- what is read is this problem
+read_is : (told : Option Files) (files : Files) (p : ProblemFile) (P : Problem) (r : Result Problem Refusal) → told ≡ Some files → Reading files p (Ok P) → IsRead told p r → Ok P ≡ r
+read_is told files p P r t read h =
+    subst (λ o. IfSome o (λ fs. (other : Result Problem Refusal) → Reading fs p other → other ≡ r)) t h.unique (Ok P) read
+
+-- where no fault was counted, reading does not end the run
+not_ended : (told : Option Files) (files : Files) (p : ProblemFile) (P : Problem) (m n f g : ℕ) → told ≡ Some files → Reading files p (Ok P) → ¬ Rose f g → (s : Status) → ReadingEnds told p s → IsCounted m n f g s → ⊥
+not_ended told files p P m n f g t read quiet _ (refused r h) counted = ok-err P r (Ok P) (Err r) refl refl (read_is told files p P (Err r) t read h)
+not_ended told files p P m n f g t read quiet _ (unread name h) counted = quiet counted
+
+same_problem : (told : Option Files) (files : Files) (p : ProblemFile) (P Q : Problem) → told ≡ Some files → Reading files p (Ok P) → IsRead told p (Ok Q) → Q ≡ P
+same_problem told files p P Q t read h = same-ok Q P (Ok Q) (Ok P) refl refl (sym (read_is told files p P (Ok Q) t read h))
+
+-- so the command ends as it does for this problem
+pub for-problem : (told : Option Files) (files : Files) (p : ProblemFile) (P : Problem) (ends : Problem → Status → List ℕ → Type 0) (m n f g : ℕ) → told ≡ Some files → Reading files p (Ok P) → ¬ Rose f g → (s : Status) (bytes : List ℕ) → EndsOn told p ends s bytes → IsCounted m n f g s → ends P s bytes
+for-problem told files p P ends m n f g t read quiet _ _ (without_problem s r) counted = absurd (not_ended told files p P m n f g t read quiet s r counted)
+for-problem told files p P ends m n f g t read quiet _ _ (with_problem Q s bytes r h) counted =
+    subst (λ X. ends X s bytes) (same_problem told files p P Q t read r) h
+
+-- ---- prove
+
+search-decided : (P : Problem) (b : Bounds) → Suffices P b → (s : Status) → SearchEnds P b s → IsDecided s
+search-decided P b e _ (exhausted d h) = tt
+search-decided P b e _ (no_tableau d h) = tt
+search-decided P b e _ (steps_ended d k h) = absurd (not_steps_ended P b d k e.answer e.answers e.enough h)
+search-decided P b e _ (too_large h) = absurd (h e.fits)
+
+prove-decided : (P : Problem) (b : Bounds) → Suffices P b → (s : Status) (bytes : List ℕ) → ProveEnds P b s bytes → IsDecided s
+prove-decided P b e _ _ (derived d bytes h) = tt
+prove-decided P b e _ _ (fruitless s h) = search-decided P b e s h
+
+-- ---- check
+
+-- a file that is held is not lacking
+not_lacking : (told : Option Files) (files : Files) (file : Word) (text : List ℕ) → told ≡ Some files → file_in files file ≡ Some text → Lacks told file → ⊥
+not_lacking told files file text t held h = none-some text (file_in files file) held (subst (λ o. IfSome o (λ fs. file_in fs file ≡ None)) t h)
+
+pub fetched : (told : Option Files) (files : Files) (file : Word) (text : List ℕ) (m n f g : ℕ) → told ≡ Some files → file_in files file ≡ Some text → ¬ Rose f g → (s : Status) → FetchEnds told file s → IsCounted m n f g s → ⊥
+fetched told files file text m n f g t held quiet _ (second.missing h) counted = not_lacking told files file text t held h
+fetched told files file text m n f g t held quiet _ second.unread counted = quiet counted
+
+check-decided : (told : Option Files) (files : Files) (P : Problem) (derivation : Word) (text : List ℕ) (m n f g : ℕ) → told ≡ Some files → file_in files derivation ≡ Some text → ¬ Rose f g → (s : Status) (bytes : List ℕ) → CheckEnds told P derivation s bytes → IsCounted m n f g s → IsJudged s
+check-decided told files P d text m n f g t held quiet _ _ (accepted h v) counted = tt
+check-decided told files P d text m n f g t held quiet _ _ (rejected line fault h) counted = tt
+check-decided told files P d text m n f g t held quiet _ _ (not_fetched s h) counted = absurd (fetched told files d text m n f g t held quiet s h counted)
+
+-- ---- the commands
+
+pub decided : (told : Option Files) (command : Command) (s : Status) (bytes : List ℕ) (m n f g : ℕ) → Ends told command s bytes → IsCounted m n f g s → ¬ Rose f g → Decides told command s
+decided told (prove p b) s bytes m n f g ends counted quiet = λ h.
+    prove-decided h.problem b h.suffices s bytes (for-problem told h.files p h.problem (λ P. ProveEnds P b) m n f g h.tells h.read quiet s bytes ends counted)
+decided told (check p d) s bytes m n f g ends counted quiet = λ h.
+    check-decided told h.files h.problem d h.bytes m n f g h.tells h.given quiet s bytes (for-problem told h.files p h.problem (λ P. CheckEnds told P d) m n f g h.tells h.read quiet s bytes ends counted) counted
+decided told (bad place) s bytes m n f g ends counted quiet = tt
+
+-- for want of memory nothing is decided
+pub decided-memory : (told : Option Files) (command : Command) → Decides told command status.NoMemory
+decided-memory told (prove p b) = λ h. tt
+decided-memory told (check p d) = λ h. tt
+decided-memory told (bad place) = tt

@@ -1,0 +1,21 @@
+use Rattle.calculus.proofs.JudgementLaws.{accepted-only}
+use Rattle.calculus.proofs.SoundnessLaws.{derived-true}
+use Rattle.calculus.proofs.TautologyLaws.{tautology}
+use Rattle.sequent_calc.specs.DerivationView.{the_derivation}
+use Rattle.leancop_top.proofs.commands.prove.derivation_text.Goals as goal
+
+pub returns : goal.returns
+returns c =
+    let d = the_derivation c.in_ok-derivation.derivation in
+    let converted = c.in_ok-derivation.ensures in
+    let text = c.in_ok-text.ensures.text in
+    let well = c.symbols-symbols.ensures.well in
+    let true_in = derived-true c.args.problem.now well d text.printable converted.derives in
+    record {
+      derivation = d;
+      carries = converted.carries;
+      derives = converted.derives;
+      text = text;
+      judged = accepted-only c.args.problem.now c.in_ok-text.text.items d text converted.derives c.in_ok-text.ensures.one;
+      valid = record { true_in_structures = true_in; tautology = λ h. tautology c.args.problem.now well h true_in };
+    }

@@ -1,0 +1,2 @@
+pub mod Prove
+pub mod Check

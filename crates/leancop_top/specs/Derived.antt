@@ -1,0 +1,25 @@
+-- What is said of a derivation that is printed, or accepted.
+use Rattle.std.specs.Prelude.{◌≡◌, ℕ, List}
+use Rattle.calculus.specs.Syntax.{Problem}
+use Rattle.calculus.specs.Derivations.{Derivation}
+use Rattle.calculus.specs.Calculus.{Derives}
+use Rattle.calculus.specs.DerivationText.{IsText}
+use Rattle.calculus.specs.Judgement.{IsOnlyJudgement, accepted}
+use Rattle.calculus.specs.Propositional.{IsPropositional, IsTautology}
+use Rattle.calculus.specs.Soundness.{IsTrueInStructures}
+
+-- the formula is true in each structure of the setting; that of a propositional problem is a
+-- tautology, true whatever truth values its propositions have
+pub record IsValid (P : Problem) : Type 0 where
+  pub true_in_structures : IsTrueInStructures P
+  pub tautology : IsPropositional P → IsTautology P
+
+-- the bytes are the text of a derivation that derives the problem and carries the limit, and so
+-- their judgement is acceptance
+pub record IsDerivation (P : Problem) (limit : ℕ) (bytes : List ℕ) : Type 0 where
+  pub derivation : Derivation
+  pub carries : derivation.limit ≡ limit
+  pub derives : Derives P derivation
+  pub text : IsText P derivation bytes
+  pub judged : IsOnlyJudgement P bytes accepted
+  pub valid : IsValid P

@@ -1,0 +1,52 @@
+-- The text of each fault.
+use Rattle.std.specs.Prelude.{ℕ, List, codes}
+use Rattle.calculus.specs.declared.fault.CheckFault.{CheckFault}
+use Rattle.calculus.specs.declared.fault.CheckFault.TheVariants as check
+use Rattle.calculus.specs.declared.fault.StepFault.{StepFault}
+use Rattle.calculus.specs.declared.fault.StepFault.TheVariants as step
+use Rattle.calculus.specs.declared.fault.TextCause.{TextCause}
+use Rattle.calculus.specs.declared.fault.TextCause.TheVariants as cause
+use Rattle.problem_build.specs.declared.fault.Cause.{Cause}
+use Rattle.problem_build.specs.declared.fault.Cause.TheVariants.{Syntax, Unsupported, Reserved}
+use Rattle.problem_build.specs.declared.fault.Cause.TheVariants.{WrongLanguage, SecondConjecture}
+use Rattle.problem_build.specs.declared.fault.Cause.TheVariants.{UnknownRole, IncludeTooDeep}
+use Rattle.problem_build.specs.declared.fault.Cause.TheVariants.{IncludeNameAbsent, NoFormula}
+
+abbrev pub cause_text : Cause → List ℕ
+cause_text Syntax = codes "syntax"
+cause_text Unsupported = codes "unsupported"
+cause_text Reserved = codes "reserved word"
+cause_text WrongLanguage = codes "wrong language"
+cause_text SecondConjecture = codes "second conjecture"
+cause_text UnknownRole = codes "unknown role"
+cause_text IncludeTooDeep = codes "include too deep"
+cause_text IncludeNameAbsent = codes "include name absent"
+cause_text NoFormula = codes "no formula"
+
+abbrev pub text_cause_text : TextCause → List ℕ
+text_cause_text cause.Version = codes "version"
+text_cause_text cause.Setting = codes "setting"
+text_cause_text cause.Formula = codes "formula"
+text_cause_text cause.Limit = codes "limit"
+text_cause_text cause.Name = codes "name"
+text_cause_text cause.Line = codes "line"
+text_cause_text cause.TextAfterEnd = codes "text after end"
+text_cause_text cause.Label = codes "label"
+text_cause_text cause.Term = codes "term"
+text_cause_text cause.Table = codes "table"
+
+abbrev pub step_fault_text : StepFault → List ℕ
+step_fault_text step.NoEntry = codes "no entry"
+step_fault_text step.NoConnection = codes "no connection"
+step_fault_text step.WrongArguments = codes "wrong arguments"
+step_fault_text step.UnknownName = codes "unknown name"
+step_fault_text step.NotReachable = codes "not reachable"
+step_fault_text step.NotNew = codes "not new"
+step_fault_text step.WrongHome = codes "wrong home"
+step_fault_text step.NotAllowed = codes "not allowed"
+
+abbrev pub fault_text : CheckFault → List ℕ
+fault_text (check.Text c) = text_cause_text c
+fault_text (check.Step f) = step_fault_text f
+fault_text check.AllClosed = codes "all closed"
+fault_text check.StillOpen = codes "still open"

@@ -1,0 +1,83 @@
+-- How a search for a closed tableau ends.
+use Rattle.std.specs.Prelude.{◌≡◌, ◌<◌, ◌≤◌, ℕ, IsTrue}
+use Rattle.calculus.specs.Syntax.{Problem}
+use Rattle.calculus.specs.Tableaux.{HasClosed, Tableau, is_closed}
+use Rattle.calculus.specs.Choices.{IsLeft}
+use Rattle.calculus.specs.Counting.{AtMostMany, MoreThan}
+use Rattle.calculus.specs.Space.{Answer, IsAnswer, ComesNoLater, IsMember, member_cmp}
+use Rattle.calculus.specs.Space as space
+use Rattle.command_line.specs.CommandLine.{Bounds}
+use Rattle.matrix_build.specs.Fits.{FitsMatrix}
+use Rattle.tableau_core.specs.TableauView.{the_tableau}
+use Rattle.leancop_top.specs.declared.tableau_search.Searched as program
+use Rattle.leancop_top.specs.declared.tableau_search.Searched.TheVariants.{Found, Fruitless}
+use Rattle.leancop_top.specs.declared.status.Status.{Status}
+use Rattle.leancop_top.specs.declared.status.Status.TheVariants as status
+
+-- what deepening on the path limit answers, up to the greatest limit that was asked for; a problem
+-- has no other answer
+pub record IsOnlyAnswer (P : Problem) (b : Bounds) (answer : Answer) : Type 0 where
+  pub answers : IsAnswer P b.limit answer
+  pub unique : (other : Answer) → IsAnswer P b.limit other → other ≡ answer
+
+-- some tableau is closed within the limit, and none within a smaller one
+pub record IsLeast (P : Problem) (b : Bounds) (limit : ℕ) : Type 0 where
+  pub fits : FitsMatrix P
+  pub answer : IsOnlyAnswer P b (space.derived limit)
+  pub least : (e : ℕ) → e < limit → ¬ HasClosed P e
+
+-- no tableau is closed within the greatest limit, and each limit up to it is left
+pub record IsExhausted (P : Problem) (b : Bounds) (limit : ℕ) : Type 0 where
+  pub fits : FitsMatrix P
+  pub answer : IsOnlyAnswer P b (space.exhausted limit)
+
+-- the limit is the least one that is not left, and no tableau is closed within any limit at all
+pub record IsNoTableau (P : Problem) (b : Bounds) (limit : ℕ) : Type 0 where
+  pub fits : FitsMatrix P
+  pub answer : IsOnlyAnswer P b (space.no_tableau limit)
+  pub never : (e : ℕ) → ¬ HasClosed P e
+
+-- the budget was `steps`; each limit up to this one is left, and no tableau is closed within it;
+-- and more than `steps` members of the space up to the next limit come no later in the search than
+-- any closed tableau
+pub record IsStepsEnded (P : Problem) (b : Bounds) (limit steps : ℕ) : Type 0 where
+  pub fits : FitsMatrix P
+  pub budget : steps ≡ b.steps
+  pub below : limit < b.limit
+  pub left : (e : ℕ) → 1 ≤ e → e ≤ limit → IsLeft P e
+  pub none : ¬ HasClosed P limit
+  pub more : MoreThan member_cmp (ComesNoLater P limit) steps
+
+-- why a search ends without a tableau
+pub data SearchEnds (P : Problem) (b : Bounds) : Status → Type 0 where
+  exhausted : (limit : ℕ) → IsExhausted P b limit → SearchEnds P b (status.Exhausted limit)
+  no_tableau : (limit : ℕ) → IsNoTableau P b limit → SearchEnds P b (status.NoTableau limit)
+  steps_ended : (limit steps : ℕ) → IsStepsEnded P b limit steps
+      → SearchEnds P b (status.StepsEnded limit steps)
+  too_large : ¬ FitsMatrix P → SearchEnds P b status.MatrixTooLarge
+
+-- a tableau that is closed within the least limit
+pub record IsFound (P : Problem) (b : Bounds) (limit : ℕ) (t : Tableau) : Type 0 where
+  pub is_least : IsLeast P b limit
+  pub closed : IsTrue (is_closed P limit t)
+
+-- what a search answers
+abbrev pub IsSearched : Problem → Bounds → program.Searched → Type 0
+IsSearched P b (Found limit tableau) = IsFound P b limit (the_tableau tableau)
+IsSearched P b (Fruitless s) = SearchEnds P b s
+
+-- ---- bounds that suffice
+
+-- the limit at which the search is decided
+abbrev pub limit_of : Answer → ℕ
+limit_of (space.derived d) = d
+limit_of (space.exhausted d) = d
+limit_of (space.no_tableau d) = d
+
+-- the matrix is small enough, and the budget is at least the number of members of the space up to
+-- the limit of the answer
+pub record Suffices (P : Problem) (b : Bounds) : Type 0 where
+  pub fits : FitsMatrix P
+  pub answer : Answer
+  pub answers : IsAnswer P b.limit answer
+  pub enough : AtMostMany member_cmp (IsMember P (limit_of answer)) b.steps

@@ -1,0 +1,4 @@
+//! A file for each command.
+
+pub mod check;
+pub mod prove;

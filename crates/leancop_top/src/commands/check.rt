@@ -1,0 +1,76 @@
+//! `check FILE DERIVATION`: the judgement of a derivation.
+
+ghost use Rattle.std.specs.Prelude.{◌≡◌, ◌≤◌, IfOk, List, Option, ℕ};
+ghost use Rattle.cop_base.specs.Outside.{Files};
+ghost use Rattle.command_line.specs.CommandLine.{check};
+ghost use Rattle.command_line.specs.CommandView.{the_problem_file};
+ghost use Rattle.leancop_top.specs.Commands.Check.{CheckEnds};
+ghost use Rattle.leancop_top.specs.Run.{Ends};
+ghost use Rattle.leancop_top.specs.SecondFile.{HasBytes};
+ghost use Rattle.leancop_top.specs.Statuses.{IsCounted, status_line};
+
+use crate::problem::{Reading, read_problem};
+use crate::reply::{Reply, line_reply};
+use crate::second_file::{SecondFile, fetch_second};
+use crate::status::Status;
+use command_line::ProblemFile;
+use cop_base::{Library, NoMemory};
+use derivation_check::Verdict;
+use logic_rules::Problem;
+use std::alloc::Global;
+
+// The status of the bytes that a file holds.
+fn judge(alloc: Global, problem: &Problem, bytes: &[u8]) -> Result<Status, NoMemory>
+    ensures ends { (told : Option Files) (name : List ℕ) → HasBytes told name bytes.now
+        → IfOk result (λ s. CheckEnds told problem.now name s (status_line s)) }
+    ensures counted { (m n f g : ℕ) → IfOk result (λ s. IsCounted m n f g s) }
+{
+    let _symbols = problem.symbols(); // tells that it is a problem
+    match derivation_check::check(alloc, problem, bytes)? {
+        Verdict::Accepted => Ok(Status::Accepted),
+        Verdict::Rejected { line, fault } => Ok(Status::Rejected { line, fault }),
+    }
+}
+
+fn check_derivation<L: Library>(
+    alloc: Global,
+    lib: &mut L,
+    problem: &Problem,
+    derivation: &str,
+) -> Result<Reply, NoMemory>
+    ensures same_files { L.holds lib.new ≡ L.holds lib.old }
+    ensures more_faults { L.faults lib.old ≤ L.faults lib.new }
+    ensures more_misses { L.misses lib.old ≤ L.misses lib.new }
+    ensures ends { IfOk result (λ r. CheckEnds
+        (L.holds lib.old) problem.now derivation.now r.status r.output.items) }
+    ensures counted { IfOk result (λ r. IsCounted
+        (L.misses lib.old) (L.misses lib.new) (L.faults lib.old) (L.faults lib.new) r.status) }
+{
+    match fetch_second(alloc, lib, derivation)? {
+        SecondFile::Fetched(bytes) => {
+            let status = judge(alloc, problem, bytes.as_slice())?;
+            line_reply(alloc, status)
+        }
+        SecondFile::NotFetched(status) => line_reply(alloc, status),
+    }
+}
+
+pub fn check<L: Library>(
+    alloc: Global,
+    lib: &mut L,
+    file: ProblemFile<'_>,
+    derivation: &str,
+) -> Result<Reply, NoMemory>
+    ensures same_files { L.holds lib.new ≡ L.holds lib.old }
+    ensures more_faults { L.faults lib.old ≤ L.faults lib.new }
+    ensures more_misses { L.misses lib.old ≤ L.misses lib.new }
+    ensures ends { IfOk result (λ r. Ends (L.holds lib.old)
+        (check (the_problem_file file.entry) derivation.now) r.status r.output.items) }
+    ensures counted { IfOk result (λ r. IsCounted
+        (L.misses lib.old) (L.misses lib.new) (L.faults lib.old) (L.faults lib.new) r.status) }
+{
+    match read_problem(alloc, lib, file)? {
+        Reading::Read(problem) => check_derivation(alloc, lib, &problem, derivation),
+        Reading::Refused(status) => line_reply(alloc, status),
+    }
+}

@@ -1,0 +1,93 @@
+//! `prove FILE`: the derivation of a problem.
+
+ghost use Rattle.std.specs.Prelude.{◌≡◌, ◌≤◌, IfOk, IsTrue};
+ghost use Rattle.calculus.specs.DerivationText.{is_limit};
+ghost use Rattle.calculus.specs.Tableaux.{is_closed};
+ghost use Rattle.command_line.specs.CommandLine.{prove};
+ghost use Rattle.command_line.specs.CommandView.{the_bounds, the_problem_file};
+ghost use Rattle.leancop_top.specs.Commands.Prove.{ProveEnds};
+ghost use Rattle.leancop_top.specs.Derived.{IsDerivation};
+ghost use Rattle.leancop_top.specs.Run.{Ends};
+ghost use Rattle.leancop_top.specs.Statuses.{IsCounted};
+ghost use Rattle.sequent_convert.specs.Conversion.{IsConverted};
+ghost use Rattle.sequent_calc.specs.DerivationView.{the_derivation};
+ghost use Rattle.tableau_core.specs.TableauView.{the_tableau};
+
+use crate::problem::{Reading, read_problem};
+use crate::reply::{Reply, line_reply};
+use crate::status::Status;
+use crate::tableau_search::{Searched, search};
+use command_line::{Bounds, ProblemFile};
+use cop_base::{Library, NoMemory};
+use derivation_text::print;
+use logic_rules::Problem;
+use sequent_calc::Derivation;
+use sequent_convert::convert;
+use std::alloc::Global;
+use tableau_core::Tableau;
+
+// Gives the tableau back, which may be large, before the derivation is printed.
+fn derive(
+    alloc: Global,
+    problem: &Problem,
+    tableau: Tableau,
+    limit: u8,
+) -> Result<Derivation, NoMemory>
+    requires closed { IsTrue (is_closed problem.now limit (the_tableau tableau)) }
+    requires limit { IsTrue (is_limit limit) }
+    ensures { IfOk result (λ d. IsConverted problem.now limit (the_derivation d)) }
+{
+    convert(alloc, problem, &tableau, limit)
+}
+
+fn derivation_text(
+    alloc: Global,
+    problem: &Problem,
+    tableau: Tableau,
+    limit: u8,
+) -> Result<Vec<u8>, NoMemory>
+    requires closed { IsTrue (is_closed problem.now limit (the_tableau tableau)) }
+    requires limit { IsTrue (is_limit limit) }
+    ensures { IfOk result (λ text. IsDerivation problem.now limit text.items) }
+{
+    let derivation = derive(alloc, problem, tableau, limit)?;
+    let text = print(alloc, problem, &derivation)?;
+    let _symbols = problem.symbols(); // tells that it is a problem
+    Ok(text)
+}
+
+fn prove_problem(alloc: Global, problem: &Problem, bounds: Bounds) -> Result<Reply, NoMemory>
+    ensures { IfOk result
+        (λ r. ProveEnds problem.now (the_bounds bounds) r.status r.output.items) }
+{
+    match search(alloc, problem, bounds)? {
+        Searched::Found { limit, tableau } => {
+            let output = derivation_text(alloc, problem, tableau, limit)?;
+            Ok(Reply {
+                status: Status::Derived { limit },
+                output,
+            })
+        }
+        Searched::Fruitless(status) => line_reply(alloc, status),
+    }
+}
+
+pub fn prove<L: Library>(
+    alloc: Global,
+    lib: &mut L,
+    file: ProblemFile<'_>,
+    bounds: Bounds,
+) -> Result<Reply, NoMemory>
+    ensures same_files { L.holds lib.new ≡ L.holds lib.old }
+    ensures more_faults { L.faults lib.old ≤ L.faults lib.new }
+    ensures more_misses { L.misses lib.old ≤ L.misses lib.new }
+    ensures ends { IfOk result (λ r. Ends (L.holds lib.old)
+        (prove (the_problem_file file.entry) (the_bounds bounds)) r.status r.output.items) }
+    ensures counted { IfOk result (λ r. IsCounted
+        (L.misses lib.old) (L.misses lib.new) (L.faults lib.old) (L.faults lib.new) r.status) }
+{
+    match read_problem(alloc, lib, file)? {
+        Reading::Read(problem) => prove_problem(alloc, &problem, bounds),
+        Reading::Refused(status) => line_reply(alloc, status),
+    }
+}

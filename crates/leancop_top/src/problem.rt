@@ -1,0 +1,69 @@
+//! Reading a problem.
+
+ghost use Rattle.std.specs.Prelude.{◌≡◌, ◌≤◌, IfOk};
+ghost use Rattle.command_line.specs.CommandView.{the_problem_file};
+ghost use Rattle.leancop_top.specs.FaultView.{status_of};
+ghost use Rattle.leancop_top.specs.Reading.{IsReading, IsReadingCounted};
+
+use crate::status::Status;
+use command_line::ProblemFile;
+use cop_base::{Library, NoMemory, Text};
+use logic_rules::Problem;
+use problem_build::{BuildFault, build};
+use std::alloc::Global;
+
+/// A problem, or the status that tells why there is none.
+#[derive(Drop)]
+pub enum Reading {
+    Read(Problem),
+    Refused(Status),
+}
+
+// Nothing where memory ended.
+fn status_of(fault: BuildFault) -> Option<Status>
+    ensures { result ≡ status_of fault }
+{
+    match fault {
+        BuildFault::Missing { name } => Some(Status::Missing { name }),
+        BuildFault::Failed { name } => Some(Status::ReadFault { name }),
+        BuildFault::InputTooLarge => Some(Status::InputTooLarge),
+        BuildFault::NestingTooDeep => Some(Status::NestingTooDeep),
+        BuildFault::FormulaTooLarge => Some(Status::FormulaTooLarge),
+        BuildFault::TooManySymbols => Some(Status::TooManySymbols),
+        BuildFault::Bad {
+            file,
+            offset,
+            cause,
+        } => Some(Status::BadProblem {
+            file,
+            offset,
+            cause,
+        }),
+        BuildFault::NoMemory => None,
+    }
+}
+
+/// The problem that the files hold, or why there is none.
+pub fn read_problem<L: Library>(
+    alloc: Global,
+    lib: &mut L,
+    file: ProblemFile<'_>,
+) -> Result<Reading, NoMemory>
+    ensures same_files { L.holds lib.new ≡ L.holds lib.old }
+    ensures more_faults { L.faults lib.old ≤ L.faults lib.new }
+    ensures more_misses { L.misses lib.old ≤ L.misses lib.new }
+    ensures reading { IfOk result
+        (λ r. IsReading (L.holds lib.old) (the_problem_file file.entry) r) }
+    ensures counted { IfOk result (λ r. IsReadingCounted
+        (L.misses lib.old) (L.misses lib.new) (L.faults lib.old) (L.faults lib.new) r) }
+{
+    let name = Text::new(alloc, file.name.as_bytes())?;
+    let root = Text::new(alloc, file.root.as_bytes())?;
+    match build(alloc, lib, &name, &root, file.setting) {
+        Ok(problem) => Ok(Reading::Read(problem)),
+        Err(fault) => match status_of(fault) {
+            Some(status) => Ok(Reading::Refused(status)),
+            None => Err(NoMemory),
+        },
+    }
+}
