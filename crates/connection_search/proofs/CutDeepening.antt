@@ -1,5 +1,5 @@
 -- The loop over the limits of the search that does not return to solved goals.
-use Rattle.std.proofs.Common.{◌≡◌, ◌⊎◌, ◌+◌, ◌-◌, ◌<◌, ◌≤◌, ℕ, suc, List, [], ◌++◌, length, sym, subst, arith, inl, inr}
+use Rattle.std.proofs.Common.{◌≡◌, ◌⊎◌, ◌+◌, ◌-◌, ◌<◌, ◌≤◌, ℕ, suc, List, [], ◌++◌, length, Bool, false, sym, subst, arith, inl, inr}
 use Rattle.std.specs.List.{AllByRecursion}
 use Rattle.std.proofs.lemmas.Bool.{cases_lt}
 use Rattle.std.proofs.lemmas.List.{length-append}
@@ -7,6 +7,7 @@ use Rattle.calculus.specs.Counting.{AtLeastMany, IsRisingListOf, MoreThan}
 use Rattle.calculus.specs.Cut.{HasCut}
 use Rattle.calculus.specs.Space.{IsMember, Member, limit_of, member_cmp}
 use Rattle.calculus.specs.Syntax.{Problem}
+use Rattle.search_theory.specs.Cutting.{IsToldOf}
 use Rattle.search_theory.specs.Exploring.{IsMemberAt}
 use Rattle.search_theory.proofs.DeepenLaws.{SpentTo, all-of-both, all-of-each, limits-join, member-more, spent-none}
 use Rattle.connection_search.specs.CutOutcomes.{HasNoCutBefore, IsCutLimit}
@@ -84,3 +85,10 @@ cut-to-all P m e first used h k =
 -- no limit before the next one has a cut
 pub none-before : (P : Problem) (d first used : ℕ) → CutTo P d first used → HasNoCutBefore P (d + 1)
 none-before P d first used h e a b = h.none e a (omega (arith, b))
+
+-- no limit at all has one, where the next one is searched and nothing shows that it is left
+pub none-beyond : (P : Problem) (d e first used : ℕ) (left : Bool) → CutTo P d first used → left ≡ false → ((k : ℕ) → IsToldOf (d + 1) left k → ¬ HasCut P k) → 1 ≤ e → ¬ HasCut P e
+none-beyond P d e first used left h not none a = elim (cases_lt e (d + 1)) [
+  | inl less ↦ h.none e a (omega (arith, less))
+  | inr far ↦ none e (inr (far, not))
+]

@@ -1,5 +1,5 @@
 -- The loop of the search that does not return to solved goals: one law for each way that it goes on.
-use Rattle.std.proofs.Common.{◌≡◌, ◌+◌, ◌-◌, ◌*◌, ◌<◌, ◌≤◌, ℕ, zero, suc, List, [], ◌∷◌, ◌++◌, drop, length, map, reverse, sum_by, take, Bool, true, false, IsTrue, refl, sym, ◌∙◌, ap, subst, Option, Some, None, MatchOption, slice_get, arith, append_assoc, append-nil}
+use Rattle.std.proofs.Common.{◌≡◌, ◌||◌, ◌+◌, ◌-◌, ◌*◌, ◌<◌, ◌≤◌, ℕ, zero, suc, List, [], ◌∷◌, ◌++◌, drop, length, map, reverse, sum_by, take, Bool, true, false, IsTrue, refl, sym, ◌∙◌, ap, subst, Option, Some, None, MatchOption, slice_get, arith, append_assoc, append-nil}
 use Rattle.std.specs.List.{AllByRecursion}
 use Rattle.std.specs.Prelude.{option_map}
 use Rattle.std.proofs.lemmas.Bool.{false≢true}
@@ -18,7 +18,7 @@ use Rattle.calculus.specs.Syntax.{Problem}
 use Rattle.calculus.specs.Tableaux.{is_closed}
 use Rattle.calculus.specs.declared.sign.Side.{Side}
 use Rattle.store_theory.proofs.StoreLaws.{take-less}
-use Rattle.search_theory.specs.Cutting.{FailsFrom, FailsTo, IsNext, Level, open_depths, pending_on}
+use Rattle.search_theory.specs.Cutting.{FailsFrom, FailsTo, IsNext, IsToldOf, Level, open_depths, pending_on}
 use Rattle.search_theory.specs.Cutting as cutting
 use Rattle.search_theory.specs.Exploring.{IsClosedList, IsMemberAt, Passes, behind}
 use Rattle.search_theory.specs.Matrix.{IsTemplateMatrix, MatrixClause, all_shown}
@@ -28,7 +28,8 @@ use Rattle.search_theory.specs.States.{CellChoice, CellGoal, CellGrowth, State, 
 use Rattle.search_theory.specs.StateSystems as systems
 use Rattle.search_theory.proofs.BeginningLaws.{IsDead, is_not_empty}
 use Rattle.search_theory.proofs.ChoiceLaws.{choices-rise}
-use Rattle.search_theory.proofs.CutEnds.{fails-dead, fails-more, fails-whole, trying-failed}
+use Rattle.search_theory.proofs.CutEnds.{fails-dead, fails-more, trying-failed}
+use Rattle.search_theory.proofs.CutLimits.{fails-whole_beyond, sound-more, state-short, told-before, told-from, told-itself, untried-told}
 use Rattle.search_theory.proofs.DeepenLaws.{starting, starting-rises}
 use Rattle.search_theory.proofs.MatrixStart.{dead-start}
 use Rattle.search_theory.proofs.DepthLaws.{cell_path_lengths, state-depths}
@@ -37,7 +38,7 @@ use Rattle.search_theory.proofs.LeftLabels.{regular-by_distinct}
 use Rattle.search_theory.proofs.LevelLaws.{all-solved, levels-depths, levels-start, settled, trying-first, trying-less, trying-next}
 use Rattle.search_theory.proofs.PassingLaws.{passes-ended, passes-keep, passes-lengths, passes-less, passes-many, passes-start, passes-visit}
 use Rattle.search_theory.proofs.RankLaws.{rank_of}
-use Rattle.search_theory.proofs.SoundLaws.{all-untried, dead-unsound, sound-state}
+use Rattle.search_theory.proofs.SoundLaws.{dead-unsound, sound-state}
 use Rattle.search_theory.proofs.Dropping.{drop-front}
 use Rattle.tableau_core.specs.TableauView.{the_tableau}
 use Rattle.term_store.specs.StoreView.{the_mark}
@@ -45,7 +46,7 @@ use Rattle.connection_search.specs.Cutting.{AreLevelPoints, IsCountedAt, IsCutEn
 use Rattle.connection_search.specs.Deciding.{IsEnded, IsSolving}
 use Rattle.connection_search.specs.Exploring.{IsBefore, IsSpace}
 use Rattle.connection_search.specs.Points.{HasUntried, IsHere, IsMoveAt, IsPoint, IsSamePoint, the_move}
-use Rattle.connection_search.specs.Running.{IsAt, IsAtGoal, IsMatrixOf, IsRunning, StandsFor}
+use Rattle.connection_search.specs.Running.{IsAt, IsAtGoal, IsLeftFound, IsMatrixOf, IsRunning, StandsFor}
 use Rattle.connection_search.specs.Trees.{IsGoalAt, KeepsTree, tree_system}
 use Rattle.connection_search.specs.Weights.{greatest_weight, weight, work_left}
 use Rattle.connection_search.specs.declared.exploring.Visit.{Visit}
@@ -84,6 +85,13 @@ stands-depths P m base d c s steps goals first (cs, x, at) =
     let S : State = record { store = s; choices = cs; growth = x } in
     let (σ, number, distinct, ground) = running-ground P base d c S (tree_system m steps goals x.all_goals) at.running in
     state-depths P d c S σ at.running.state ground
+
+-- none is longer than the limit
+stands-short : (P : Problem) (m : List MatrixClause) (base d : ℕ) (c : List Choice) (s : Store) (steps : List Step) (goals : List Goal) (goal : ℕ) (g : CellGoal) → IsAtGoal P m base d c s steps goals goal g → length g.path ≤ d
+stands-short P m base d c s steps goals goal g at =
+    let S : State = record { store = s; choices = at.made; growth = record { open_goals = g ∷ at.behind; all_goals = at.every; depths = at.depths } } in
+    let (σ, number, distinct, ground) = running-ground P base d c S (tree_system m steps goals at.every) at.at.running in
+    (state-short P d c S σ at.at.running.state ground).0
 
 -- ---- the points of the levels
 
@@ -183,11 +191,11 @@ stands-in P m base d c s before now e h = subst (λ (t : Tree). StandsFor P m ba
 
 -- ---- back at the last point
 
-pub record IsCutBack (P : Problem) (m : List MatrixClause) (base d : ℕ) (sides : List Side) (s : Store) (steps : List Step) (goals : List Goal) (p : Point) (points : List Point) (later : List (List Choice)) (begun used : ℕ) : Type 0 where
+pub record IsCutBack (P : Problem) (m : List MatrixClause) (base d : ℕ) (sides : List Side) (s : Store) (steps : List Step) (goals : List Goal) (p : Point) (points : List Point) (later : List (List Choice)) (begun used : ℕ) (left : Bool) : Type 0 where
   pub level : Level
   pub levels : List Level
   pub goal : CellGoal
-  pub trying : cutting.IsTrying P d sides levels level.waiting level.before level.rest
+  pub trying : (e : ℕ) → IsToldOf d left e → cutting.IsTrying P e sides levels level.waiting level.before level.rest
   pub at : IsAtGoal P m base d level.before s steps goals p.goal goal
   pub has : HasUntried m d steps goals p goal level.rest
   pub whole_steps : take p.steps steps ≡ steps
@@ -197,12 +205,12 @@ pub record IsCutBack (P : Problem) (m : List MatrixClause) (base d : ℕ) (sides
   pub others : AreLevelPoints P m base d s steps goals points levels
   pub passing : IsPassing P d (behind level.before level.rest ++ (pending_on levels ++ later)) begun used
 
-cut-back-moved : (P : Problem) (m : List MatrixClause) (base d : ℕ) (sides : List Side) (s t : Store) (steps after : List Step) (goals all : List Goal) (p : Point) (points : List Point) (later : List (List Choice)) (begun used : ℕ) → t ≡ s → after ≡ steps → all ≡ goals → IsCutBack P m base d sides s steps goals p points later begun used → IsCutBack P m base d sides t after all p points later begun used
-cut-back-moved P m base d sides s t steps after goals all p points later begun used es ea eb h = rw (es, ea, eb) h
+cut-back-moved : (P : Problem) (m : List MatrixClause) (base d : ℕ) (sides : List Side) (s t : Store) (steps after : List Step) (goals all : List Goal) (p : Point) (points : List Point) (later : List (List Choice)) (begun used : ℕ) (left : Bool) → t ≡ s → after ≡ steps → all ≡ goals → IsCutBack P m base d sides s steps goals p points later begun used left → IsCutBack P m base d sides t after all p points later begun used left
+cut-back-moved P m base d sides s t steps after goals all p points later begun used left es ea eb h = rw (es, ea, eb) h
 
-last-level : (P : Problem) (m : List MatrixClause) (base d : ℕ) (sides : List Side) (s : Store) (steps : List Step) (goals : List Goal) (p : Point) (points : List Point) (ls : List Level) (later : List (List Choice)) (begun used : ℕ) → IsNext P d sides ls → AreLevelPoints P m base d s steps goals (p ∷ points) ls → IsPassing P d (pending_on ls ++ later) begun used → IsCutBack P m base d sides (cut_at (the_mark p.mark) s) (take p.steps steps) (take p.goals goals) p points later begun used
-last-level P m base d sides s steps goals p points [] later begun used next k passing = absurd k
-last-level P m base d sides s steps goals p points (l ∷ ls) later begun used next (g, h, before, rest) passing =
+last-level : (P : Problem) (m : List MatrixClause) (base d : ℕ) (sides : List Side) (s : Store) (steps : List Step) (goals : List Goal) (p : Point) (points : List Point) (ls : List Level) (later : List (List Choice)) (begun used : ℕ) (left : Bool) → ((e : ℕ) → IsToldOf d left e → IsNext P e sides ls) → AreLevelPoints P m base d s steps goals (p ∷ points) ls → IsPassing P d (pending_on ls ++ later) begun used → IsCutBack P m base d sides (cut_at (the_mark p.mark) s) (take p.steps steps) (take p.goals goals) p points later begun used left
+last-level P m base d sides s steps goals p points [] later begun used left next k passing = absurd k
+last-level P m base d sides s steps goals p points (l ∷ ls) later begun used left next (g, h, before, rest) passing =
     let itself : IsBefore p p = record { marks = mark-itself (the_mark p.mark); steps = omega arith; goals = omega arith } in
     record {
       level = l;
@@ -219,23 +227,23 @@ last-level P m base d sides s steps goals p points (l ∷ ls) later begun used n
       passing = subst (λ xs. IsPassing P d xs begun used) (append_assoc (behind l.before l.rest) (pending_on ls) later) passing;
     }
 
-pub cut-back-at : (P : Problem) (m : List MatrixClause) (base d : ℕ) (sides : List Side) (s t : Store) (steps after : List Step) (goals all : List Goal) (points : List Point) (p : Point) (later : List (List Choice)) (begun used : ℕ) → IsCutExploring P m base d sides s steps goals (points ++ p ∷ []) later begun used → t ≡ cut_at (the_mark p.mark) s → after ≡ take p.steps steps → all ≡ take p.goals goals → IsCutBack P m base d sides t after all p (reverse points) later begun used
-cut-back-at P m base d sides s t steps after goals all points p later begun used h es ea eb =
-    cut-back-moved P m base d sides (cut_at (the_mark p.mark) s) t (take p.steps steps) after (take p.goals goals) all p (reverse points) later begun used es ea eb
-    (last-level P m base d sides s steps goals p (reverse points) h.levels later begun used h.next (subst (λ ps. AreLevelPoints P m base d s steps goals ps h.levels) (reverse-append points (p ∷ [])) h.points) h.passing)
+pub cut-back-at : (P : Problem) (m : List MatrixClause) (base d : ℕ) (sides : List Side) (s t : Store) (steps after : List Step) (goals all : List Goal) (points : List Point) (p : Point) (later : List (List Choice)) (begun used : ℕ) (left : Bool) → IsCutExploring P m base d sides s steps goals (points ++ p ∷ []) later begun used left → t ≡ cut_at (the_mark p.mark) s → after ≡ take p.steps steps → all ≡ take p.goals goals → IsCutBack P m base d sides t after all p (reverse points) later begun used left
+cut-back-at P m base d sides s t steps after goals all points p later begun used left h es ea eb =
+    cut-back-moved P m base d sides (cut_at (the_mark p.mark) s) t (take p.steps steps) after (take p.goals goals) all p (reverse points) later begun used left es ea eb
+    (last-level P m base d sides s steps goals p (reverse points) h.levels later begun used left h.next (subst (λ ps. AreLevelPoints P m base d s steps goals ps h.levels) (reverse-append points (p ∷ [])) h.points) h.passing)
 
-pub cut-last-good : (P : Problem) (m : List MatrixClause) (base d : ℕ) (sides : List Side) (s : Store) (steps : List Step) (goals : List Goal) (points : List Point) (p : Point) (later : List (List Choice)) (begun used : ℕ) → IsCutExploring P m base d sides s steps goals (points ++ p ∷ []) later begun used → IsGood (the_mark p.mark) s
-cut-last-good P m base d sides s steps goals points p later begun used h = by h.levels (subst (λ ps. AreLevelPoints P m base d s steps goals ps h.levels) (reverse-append points (p ∷ [])) h.points)
+pub cut-last-good : (P : Problem) (m : List MatrixClause) (base d : ℕ) (sides : List Side) (s : Store) (steps : List Step) (goals : List Goal) (points : List Point) (p : Point) (later : List (List Choice)) (begun used : ℕ) (left : Bool) → IsCutExploring P m base d sides s steps goals (points ++ p ∷ []) later begun used left → IsGood (the_mark p.mark) s
+cut-last-good P m base d sides s steps goals points p later begun used left h = by h.levels (subst (λ ps. AreLevelPoints P m base d s steps goals ps h.levels) (reverse-append points (p ∷ [])) h.points)
   where
     by : (ls : List Level) → AreLevelPoints P m base d s steps goals (p ∷ reverse points) ls → IsGood (the_mark p.mark) s
     by [] k = absurd k
     by (l ∷ ls) (g, point, before, rest) = point.good
 
 -- no choice is left: the goal is not solved, and the choice above fails
-cut-none-left : (P : Problem) (m : List MatrixClause) (base d : ℕ) (sides : List Side) (s : Store) (steps : List Step) (goals : List Goal) (points : List Point) (p : Point) (later : List (List Choice)) (begun used : ℕ) → (h : IsCutBack P m base d sides s steps goals p (reverse points) later begun used) → h.level.rest ≡ [] → IsCutExploring P m base d sides s steps goals points later begun used
-cut-none-left P m base d sides s steps goals points p later begun used h e = record {
+cut-none-left : (P : Problem) (m : List MatrixClause) (base d : ℕ) (sides : List Side) (s : Store) (steps : List Step) (goals : List Goal) (points : List Point) (p : Point) (later : List (List Choice)) (begun used : ℕ) (left : Bool) → (h : IsCutBack P m base d sides s steps goals p (reverse points) later begun used left) → h.level.rest ≡ [] → IsCutExploring P m base d sides s steps goals points later begun used left
+cut-none-left P m base d sides s steps goals points p later begun used left h e = record {
   levels = h.levels;
-  next = trying-failed P d sides h.levels h.level.waiting h.level.before (subst (cutting.IsTrying P d sides h.levels h.level.waiting h.level.before) e h.trying);
+  next = λ f told. trying-failed P f sides h.levels h.level.waiting h.level.before (subst (cutting.IsTrying P f sides h.levels h.level.waiting h.level.before) e (h.trying f told));
   points = h.others;
   passing = passing-less P d (behind h.level.before h.level.rest) (pending_on h.levels ++ later) begun used h.passing;
 }
@@ -243,20 +251,20 @@ cut-none-left P m base d sides s steps goals points p later begun used h e = rec
 -- ---- the next choice
 
 -- this choice comes next, at a goal that stands there; the points on the stack are the last one first
-pub record IsCutTrying (P : Problem) (m : List MatrixClause) (base d : ℕ) (sides : List Side) (s : Store) (steps : List Step) (goals : List Goal) (stack : List Point) (later : List (List Choice)) (begun used : ℕ) (goal : ℕ) (choice : Move) : Type 0 where
+pub record IsCutTrying (P : Problem) (m : List MatrixClause) (base d : ℕ) (sides : List Side) (s : Store) (steps : List Step) (goals : List Goal) (stack : List Point) (later : List (List Choice)) (begun used : ℕ) (left : Bool) (goal : ℕ) (choice : Move) : Type 0 where
   pub before : List Choice
   pub rest : List Choice
   pub waiting : ℕ
   pub levels : List Level
   pub at_goal : CellGoal
-  pub trying : cutting.IsTrying P d sides levels waiting before (the_move m choice ∷ rest)
+  pub trying : (e : ℕ) → IsToldOf d left e → cutting.IsTrying P e sides levels waiting before (the_move m choice ∷ rest)
   pub at : IsAtGoal P m base d before s steps goals goal at_goal
   pub move : IsMoveAt m d steps goals at_goal choice
   pub points : AreLevelPoints P m base d s steps goals stack (record { before = before; choice = the_move m choice; rest = rest; waiting = waiting } ∷ levels)
   pub passing : IsPassing P d ((before ++ the_move m choice ∷ []) ∷ (behind before rest ++ pending_on levels) ++ later) begun used
 
-cut-next-tried : (P : Problem) (m : List MatrixClause) (base d : ℕ) (sides : List Side) (s : Store) (steps : List Step) (goals : List Goal) (points stack : List Point) (p q : Point) (later : List (List Choice)) (begun used : ℕ) (choice : Move) → stack ≡ points ++ q ∷ [] → IsSamePoint p q → (h : IsCutBack P m base d sides s steps goals p (reverse points) later begun used) → IsMoveAt m d steps goals h.goal choice × ((rest : List Choice) × (h.level.rest ≡ the_move m choice ∷ rest) × HasUntried m d steps goals q h.goal rest) → IsCutTrying P m base d sides s steps goals (reverse stack) later begun used q.goal choice
-cut-next-tried P m base d sides s steps goals points stack p q later begun used choice is same h (move, (rest, e, has)) =
+cut-next-tried : (P : Problem) (m : List MatrixClause) (base d : ℕ) (sides : List Side) (s : Store) (steps : List Step) (goals : List Goal) (points stack : List Point) (p q : Point) (later : List (List Choice)) (begun used : ℕ) (left : Bool) (choice : Move) → stack ≡ points ++ q ∷ [] → IsSamePoint p q → (h : IsCutBack P m base d sides s steps goals p (reverse points) later begun used left) → IsMoveAt m d steps goals h.goal choice × ((rest : List Choice) × (h.level.rest ≡ the_move m choice ∷ rest) × HasUntried m d steps goals q h.goal rest) → IsCutTrying P m base d sides s steps goals (reverse stack) later begun used left q.goal choice
+cut-next-tried P m base d sides s steps goals points stack p q later begun used left choice is same h (move, (rest, e, has)) =
     let left_over : HasUntried m d (take p.steps steps) (take p.goals goals) q h.goal rest = untried-moved m d steps (take p.steps steps) goals (take p.goals goals) q h.goal rest h.whole_steps h.whole_goals has in
     let ls : List Level = record { before = h.level.before; choice = the_move m choice; rest = rest; waiting = h.level.waiting } ∷ h.levels in
     let stacked : AreLevelPoints P m base d s steps goals (q ∷ reverse points) ls = (h.goal, point-next P m base d s steps goals p q h.level.before h.level.rest rest h.goal h.point same left_over, before-same p q (reverse points) same h.before, h.others) in
@@ -266,30 +274,30 @@ cut-next-tried P m base d sides s steps goals points stack p q later begun used 
       waiting = h.level.waiting;
       levels = h.levels;
       at_goal = h.goal;
-      trying = subst (cutting.IsTrying P d sides h.levels h.level.waiting h.level.before) e h.trying;
+      trying = λ f told. subst (cutting.IsTrying P f sides h.levels h.level.waiting h.level.before) e (h.trying f told);
       at = subst (λ n. IsAtGoal P m base d h.level.before s steps goals n h.goal) (sym same.goal) h.at;
       move = move;
       points = subst (λ ps. AreLevelPoints P m base d s steps goals ps ls) (sym (ap reverse is ∙ reverse-append points (q ∷ []))) stacked;
       passing = subst (λ xs. IsPassing P d xs begun used) (ap (λ xs. behind h.level.before xs ++ (pending_on h.levels ++ later)) e ∙ ap (λ xs. (h.level.before ++ the_move m choice ∷ []) ∷ xs) (sym (append_assoc (behind h.level.before rest) (pending_on h.levels) later))) h.passing;
     }
 
-pub cut-tried-at : (P : Problem) (m : List MatrixClause) (base d : ℕ) (sides : List Side) (s t : Store) (steps after : List Step) (goals all : List Goal) (points stack : List Point) (p q : Point) (later : List (List Choice)) (begun used : ℕ) (o : Option Move) (choice : Move) → t ≡ cut_at (the_mark p.mark) s → after ≡ take p.steps steps → all ≡ take p.goals goals → stack ≡ points ++ q ∷ [] → IsSamePoint p q → ((d : ℕ) (g : CellGoal) (untried : List Choice) → IsGoalAt after all p.goal g → HasUntried m d after all p g untried → MatchOption o (untried ≡ []) (λ x. IsMoveAt m d after all g x × ((rest : List Choice) × (untried ≡ the_move m x ∷ rest) × HasUntried m d after all q g rest))) → o ≡ Some choice → IsCutExploring P m base d sides s steps goals (points ++ p ∷ []) later begun used → IsCutTrying P m base d sides t after all (reverse stack) later begun used q.goal choice
-cut-tried-at P m base d sides s t steps after goals all points stack p q later begun used o choice es ea eb is same next some h =
-    let b = cut-back-at P m base d sides s t steps after goals all points p later begun used h es ea eb in
-    cut-next-tried P m base d sides t after all points stack p q later begun used choice is same b
+pub cut-tried-at : (P : Problem) (m : List MatrixClause) (base d : ℕ) (sides : List Side) (s t : Store) (steps after : List Step) (goals all : List Goal) (points stack : List Point) (p q : Point) (later : List (List Choice)) (begun used : ℕ) (left : Bool) (o : Option Move) (choice : Move) → t ≡ cut_at (the_mark p.mark) s → after ≡ take p.steps steps → all ≡ take p.goals goals → stack ≡ points ++ q ∷ [] → IsSamePoint p q → ((d : ℕ) (g : CellGoal) (untried : List Choice) → IsGoalAt after all p.goal g → HasUntried m d after all p g untried → MatchOption o (untried ≡ []) (λ x. IsMoveAt m d after all g x × ((rest : List Choice) × (untried ≡ the_move m x ∷ rest) × HasUntried m d after all q g rest))) → o ≡ Some choice → IsCutExploring P m base d sides s steps goals (points ++ p ∷ []) later begun used left → IsCutTrying P m base d sides t after all (reverse stack) later begun used left q.goal choice
+cut-tried-at P m base d sides s t steps after goals all points stack p q later begun used left o choice es ea eb is same next some h =
+    let b = cut-back-at P m base d sides s t steps after goals all points p later begun used left h es ea eb in
+    cut-next-tried P m base d sides t after all points stack p q later begun used left choice is same b
     (next-some m d after all q b.goal b.level.rest o choice (next d b.goal b.level.rest (goal-here P m base d b.level.before t after all p.goal b.goal b.at) b.has) some)
 
-pub cut-none-at : (P : Problem) (m : List MatrixClause) (base d : ℕ) (sides : List Side) (s t : Store) (steps after : List Step) (goals all : List Goal) (points : List Point) (p q : Point) (later : List (List Choice)) (begun used : ℕ) (o : Option Move) → t ≡ cut_at (the_mark p.mark) s → after ≡ take p.steps steps → all ≡ take p.goals goals → ((d : ℕ) (g : CellGoal) (untried : List Choice) → IsGoalAt after all p.goal g → HasUntried m d after all p g untried → MatchOption o (untried ≡ []) (λ x. IsMoveAt m d after all g x × ((rest : List Choice) × (untried ≡ the_move m x ∷ rest) × HasUntried m d after all q g rest))) → o ≡ None → IsCutExploring P m base d sides s steps goals (points ++ p ∷ []) later begun used → IsCutExploring P m base d sides t after all points later begun used
-cut-none-at P m base d sides s t steps after goals all points p q later begun used o es ea eb next none h =
-    let b = cut-back-at P m base d sides s t steps after goals all points p later begun used h es ea eb in
-    cut-none-left P m base d sides t after all points p later begun used b
+pub cut-none-at : (P : Problem) (m : List MatrixClause) (base d : ℕ) (sides : List Side) (s t : Store) (steps after : List Step) (goals all : List Goal) (points : List Point) (p q : Point) (later : List (List Choice)) (begun used : ℕ) (left : Bool) (o : Option Move) → t ≡ cut_at (the_mark p.mark) s → after ≡ take p.steps steps → all ≡ take p.goals goals → ((d : ℕ) (g : CellGoal) (untried : List Choice) → IsGoalAt after all p.goal g → HasUntried m d after all p g untried → MatchOption o (untried ≡ []) (λ x. IsMoveAt m d after all g x × ((rest : List Choice) × (untried ≡ the_move m x ∷ rest) × HasUntried m d after all q g rest))) → o ≡ None → IsCutExploring P m base d sides s steps goals (points ++ p ∷ []) later begun used left → IsCutExploring P m base d sides t after all points later begun used left
+cut-none-at P m base d sides s t steps after goals all points p q later begun used left o es ea eb next none h =
+    let b = cut-back-at P m base d sides s t steps after goals all points p later begun used left h es ea eb in
+    cut-none-left P m base d sides t after all points p later begun used left b
     (next-none m d after all q b.goal b.level.rest o (next d b.goal b.level.rest (goal-here P m base d b.level.before t after all p.goal b.goal b.at) b.has) none)
 
 -- the choice cannot be made, or its tree is irregular
-pub cut-refused : (P : Problem) (m : List MatrixClause) (base d : ℕ) (sides : List Side) (s t : Store) (steps after : List Step) (goals all : List Goal) (points : List Point) (later : List (List Choice)) (begun used : ℕ) (goal : ℕ) (choice : Move) → (h : IsCutTrying P m base d sides s steps goals (reverse points) later begun used goal choice) → KeepsMarks s t → KeepsTree steps goals after all → IsDead P (h.before ++ the_move m choice ∷ []) → IsCutExploring P m base d sides t after all points later begun used
-cut-refused P m base d sides s t steps after goals all points later begun used goal choice h marks kept dead = record {
+pub cut-refused : (P : Problem) (m : List MatrixClause) (base d : ℕ) (sides : List Side) (s t : Store) (steps after : List Step) (goals all : List Goal) (points : List Point) (later : List (List Choice)) (begun used : ℕ) (left : Bool) (goal : ℕ) (choice : Move) → (h : IsCutTrying P m base d sides s steps goals (reverse points) later begun used left goal choice) → KeepsMarks s t → KeepsTree steps goals after all → IsDead P (h.before ++ the_move m choice ∷ []) → IsCutExploring P m base d sides t after all points later begun used left
+cut-refused P m base d sides s t steps after goals all points later begun used left goal choice h marks kept dead = record {
   levels = record { before = h.before; choice = the_move m choice; rest = h.rest; waiting = h.waiting } ∷ h.levels;
-  next = trying-less P d sides h.levels h.waiting h.before (the_move m choice) h.rest h.trying (λ live. absurd (dead-unsound P d (h.before ++ the_move m choice ∷ []) dead live));
+  next = λ e told. trying-less P e sides h.levels h.waiting h.before (the_move m choice) h.rest (h.trying e told) (λ live. absurd (dead-unsound P e (h.before ++ the_move m choice ∷ []) dead live));
   points = level-points-kept P m base d s t steps after goals all (reverse points) _ marks kept h.points;
   passing = passing-next P d (h.before ++ the_move m choice ∷ []) ((behind h.before h.rest ++ pending_on h.levels) ++ later) begun used h.passing;
 }
@@ -303,14 +311,14 @@ not-empty [] x = refl
 not-empty (y ∷ c) x = refl
 
 -- it was made, and its tree is regular
-pub cut-made : (P : Problem) (m : List MatrixClause) (base d : ℕ) (sides : List Side) (s t : Store) (steps after : List Step) (goals all : List Goal) (first : Option ℕ) (points : List Point) (later : List (List Choice)) (begun used : ℕ) (goal : ℕ) (choice : Move) → (h : IsCutTrying P m base d sides s steps goals (reverse points) later begun used goal choice) → KeepsMarks s t → KeepsTree steps goals after all → StandsFor P m base d (h.before ++ the_move m choice ∷ []) t after all first → IsRegularLive P d (h.before ++ the_move m choice ∷ []) → IsCutVisiting P m base d sides t after all first points later begun used
-cut-made P m base d sides s t steps after goals all first points later begun used goal choice h marks kept stands sound = record {
+pub cut-made : (P : Problem) (m : List MatrixClause) (base d : ℕ) (sides : List Side) (s t : Store) (steps after : List Step) (goals all : List Goal) (first : Option ℕ) (points : List Point) (later : List (List Choice)) (begun used : ℕ) (left : Bool) (goal : ℕ) (choice : Move) → (h : IsCutTrying P m base d sides s steps goals (reverse points) later begun used left goal choice) → KeepsMarks s t → KeepsTree steps goals after all → StandsFor P m base d (h.before ++ the_move m choice ∷ []) t after all first → IsRegularLive P d (h.before ++ the_move m choice ∷ []) → IsCutVisiting P m base d sides t after all first points later begun used left
+cut-made P m base d sides s t steps after goals all first points later begun used left goal choice h marks kept stands sound = record {
   choices = h.before ++ the_move m choice ∷ [];
   stands = stands;
   not_empty = not-empty h.before (the_move m choice);
   levels = record { before = h.before; choice = the_move m choice; rest = h.rest; waiting = h.waiting } ∷ h.levels;
   goals_left = goals_added P (the_move m choice);
-  solving = trying-next P d sides h.levels h.waiting h.before (the_move m choice) h.rest h.trying (no-start m choice) sound;
+  solving = λ e told. trying-next P e sides h.levels h.waiting h.before (the_move m choice) h.rest (h.trying e told) (no-start m choice) (sound-more P d e (h.before ++ the_move m choice ∷ []) (told-from d e left told) sound);
   points = level-points-kept P m base d s t steps after goals all (reverse points) _ marks kept h.points;
   passing = h.passing;
 }
@@ -318,10 +326,10 @@ cut-made P m base d sides s t steps after goals all first points later begun use
 -- ---- a list with an open goal
 
 -- the goals that are solved give up their points, and the choices of the leftmost open goal come next
-pub cut-visit-goal : (P : Problem) (m : List MatrixClause) (base d : ℕ) (sides : List Side) (s : Store) (steps : List Step) (goals : List Goal) (first : Option ℕ) (points : List Point) (later : List (List Choice)) (begun used after : ℕ) (goal : ℕ) (g : CellGoal) (p : Point) (k : ℕ) → IsSpace P m d → (v : IsCutVisiting P m base d sides s steps goals first points later begun used) → IsAtGoal P m base d v.choices s steps goals goal g → IsPoint P m base d s steps goals p v.choices (choices_at m d g) g → IsHere p s steps goals (Some goal) → k ≡ length g.path → after ≡ used + 1 → IsCutExploring P m base d sides s steps goals (take k points ++ p ∷ []) later begun after
-cut-visit-goal P m base d sides s steps goals first points later begun used after goal g p k space v at point here deep step =
+pub cut-visit-goal : (P : Problem) (m : List MatrixClause) (base d : ℕ) (sides : List Side) (s : Store) (steps : List Step) (goals : List Goal) (first : Option ℕ) (points : List Point) (later : List (List Choice)) (begun used after : ℕ) (known left : Bool) (goal : ℕ) (g : CellGoal) (p : Point) (k : ℕ) → IsSpace P m d → (v : IsCutVisiting P m base d sides s steps goals first points later begun used known) → IsAtGoal P m base d v.choices s steps goals goal g → IsLeftFound P d v.choices g known left → IsPoint P m base d s steps goals p v.choices (choices_at m d g) g → IsHere p s steps goals (Some goal) → k ≡ length g.path → after ≡ used + 1 → IsCutExploring P m base d sides s steps goals (take k points ++ p ∷ []) later begun after left
+cut-visit-goal P m base d sides s steps goals first points later begun used after known left goal g p k space v at found point here deep step =
     let depths = stands-depths P m base d v.choices s steps goals (Some goal) (at.made, record { open_goals = g ∷ at.behind; all_goals = at.every; depths = at.depths }, at.at) in
-    let se = settled P d sides v.levels v.goals_left v.choices (length g.path) (cell_path_lengths at.behind) v.solving (levels-depths P d sides v.levels v.goals_left v.choices v.solving ∙ sym depths) in
+    let se = settled P d left sides v.levels v.goals_left v.choices (length g.path) (cell_path_lengths at.behind) (λ e told. v.solving e (told-before d e known left found.unknown told)) (levels-depths P d sides v.levels v.goals_left v.choices (v.solving d (told-itself d known)) ∙ sym depths) in
     let less = level-points-less P m base d s steps goals (reverse points) se.solved se.others (subst (AreLevelPoints P m base d s steps goals (reverse points)) se.are_all v.points) in
     let many : length points ≡ length se.solved + k = sym (length-reverse points) ∙ less.1 ∙ ap (λ n. length se.solved + n) (se.long ∙ sym deep) in
     let kept : AreLevelPoints P m base d s steps goals (reverse (take k points)) se.others = subst (λ ps. AreLevelPoints P m base d s steps goals ps se.others) (sym (reverse-take points (length se.solved) k many)) less.0 in
@@ -333,7 +341,7 @@ cut-visit-goal P m base d sides s steps goals first points later begun used afte
     let fewer : IsPassing P d (v.choices ∷ pending_on se.others ++ later) begun used = record { spent = q.spent; passes = passes-keep P d q.spent v.choices (pending_on se.solved) (pending_on se.others ++ later) q.passes; from = q.from; count = q.count } in
     record {
       levels = record { before = v.choices; choice = reduction 0; rest = xs; waiting = se.waiting } ∷ se.others;
-      next = trying-first P d sides v.levels (length g.path) v.choices xs se rises (all-untried P m d v.choices s at.made g at.behind at.every at.depths space.matrix.matrix at.at.running.state v.not_empty);
+      next = λ e told. trying-first P d e left sides v.levels (length g.path) v.choices xs se told rises (untried-told P m d e left v.choices s at.made g at.behind at.every at.depths space.matrix.matrix at.at.running.state v.not_empty (stands-short P m base d v.choices s steps goals goal g at) found.dead told);
       points = subst (λ ps. AreLevelPoints P m base d s steps goals ps (record { before = v.choices; choice = reduction 0; rest = xs; waiting = se.waiting } ∷ se.others)) (sym (reverse-append (take k points) (p ∷ [])))
           (g, point, level-points-before P m base d s steps goals (Some goal) p (reverse (take k points)) se.others here kept, kept);
       passing = subst (λ ps. IsPassing P d ps begun after) (sym (append_assoc (behind v.choices xs) (pending_on se.others) later)) (passing-visit P d v.choices (pending_on se.others ++ later) xs begun used after fewer space.from_one live rises step);
@@ -342,13 +350,14 @@ cut-visit-goal P m base d sides s steps goals first points later begun used afte
 -- ---- a list without open goals
 
 -- all goals of the start are solved
-pub cut-solved : (P : Problem) (m : List MatrixClause) (base d : ℕ) (sides : List Side) (s : Store) (steps : List Step) (goals : List Goal) (first : Option ℕ) (points : List Point) (later : List (List Choice)) (begun used : ℕ) → (v : IsCutVisiting P m base d sides s steps goals first points later begun used) → first ≡ None → Fills P d (clause_size P sides) (start sides ∷ []) v.choices
-cut-solved P m base d sides s steps goals first points later begun used v e =
+pub cut-solved : (P : Problem) (m : List MatrixClause) (base d : ℕ) (sides : List Side) (s : Store) (steps : List Step) (goals : List Goal) (first : Option ℕ) (points : List Point) (later : List (List Choice)) (begun used : ℕ) (left : Bool) (l : ℕ) → (v : IsCutVisiting P m base d sides s steps goals first points later begun used left) → first ≡ None → IsToldOf d left l → Fills P l (clause_size P sides) (start sides ∷ []) v.choices
+cut-solved P m base d sides s steps goals first points later begun used left l v e told =
     let none = none-open steps goals first v.stands.1.open_goals v.stands.2.tree.open_goals e in
     let depths = stands-depths P m base d v.choices s steps goals first v.stands in
-    all-solved P d sides v.levels v.goals_left v.choices v.solving (levels-depths P d sides v.levels v.goals_left v.choices v.solving ∙ sym depths ∙ ap cell_path_lengths none)
+    let solving = v.solving l told in
+    all-solved P l sides v.levels v.goals_left v.choices solving (levels-depths P l sides v.levels v.goals_left v.choices solving ∙ sym depths ∙ ap cell_path_lengths none)
 
-module _ (P : Problem) (m : List MatrixClause) (base d : ℕ) (sides : List Side) (s : Store) (steps : List Step) (goals : List Goal) (first : Option ℕ) (points : List Point) (later : List (List Choice)) (begun used mid after : ℕ) (space : IsSpace P m d) (v : IsCutVisiting P m base d sides s steps goals first points later begun used) (whole : first ≡ None) (taken : mid ≡ used + 1) where
+module _ (P : Problem) (m : List MatrixClause) (base d : ℕ) (sides : List Side) (s : Store) (steps : List Step) (goals : List Goal) (first : Option ℕ) (points : List Point) (later : List (List Choice)) (begun used mid after : ℕ) (left : Bool) (space : IsSpace P m d) (v : IsCutVisiting P m base d sides s steps goals first points later begun used left) (whole : first ≡ None) (taken : mid ≡ used + 1) where
   -- steps were used for these lists of lengths
   tried-passing : (xs : List (List ℕ)) (then : ℕ) → IsRising lengths_cmp xs → AllByRecursion (λ ns. IsMemberAt P d (with_lengths d v.choices ns)) xs → mid ≤ then → then ≤ mid + length xs → IsPassing P d (pending_on v.levels ++ later) begun then
   tried-passing xs then rising members f n =
@@ -372,10 +381,10 @@ module _ (P : Problem) (m : List MatrixClause) (base d : ℕ) (sides : List Side
   cut-counted k = passing-counted P d (pending_on v.levels ++ later) begun after (solving-passing k)
 
   -- no closed tableau has the list, and the start fails
-  pub cut-undecided : (t : Store) → IsSolving P m s steps goals mid after → ¬ IsClosedList P d v.choices → IsCutExploring P m base d sides t steps goals [] later begun after
+  pub cut-undecided : (t : Store) → IsSolving P m s steps goals mid after → ¬ IsClosedList P d v.choices → IsCutExploring P m base d sides t steps goals [] later begun after left
   cut-undecided t k none = record {
     levels = [];
-    next = fails-whole P d sides v.choices (cut-solved P m base d sides s steps goals first points later begun used v whole) none;
+    next = λ e told. fails-whole_beyond P d e sides v.choices (cut-solved P m base d sides s steps goals first points later begun used left e v whole told) (stands-live P m base d v.choices s steps goals first v.stands) none;
     points = tt;
     passing = passing-less P d (pending_on v.levels) later begun after (solving-passing k);
   }
@@ -391,16 +400,20 @@ module _ (P : Problem) (m : List MatrixClause) (base d : ℕ) (sides : List Side
       (e.ended, (ms, many, omega (arith, from, n, l, c, a, taken)))
 
 -- the tableau of the list
-pub cut-closed : (P : Problem) (m : List MatrixClause) (base d : ℕ) (sides : List Side) (s : Store) (steps : List Step) (goals : List Goal) (first : Option ℕ) (points : List Point) (later : List (List Choice)) (begun used : ℕ) (t : _) → (v : IsCutVisiting P m base d sides s steps goals first points later begun used) → first ≡ None → IsTrue (is_closed P d (the_tableau t)) → choices_of (ground_choices (the_tableau t)) ≡ v.choices → Cuts P d sides v.choices (the_tableau t)
-cut-closed P m base d sides s steps goals first points later begun used t v whole closed reached = record { solved = cut-solved P m base d sides s steps goals first points later begun used v whole; closed = closed; reached = reached }
+pub cut-closed : (P : Problem) (m : List MatrixClause) (base d : ℕ) (sides : List Side) (s : Store) (steps : List Step) (goals : List Goal) (first : Option ℕ) (points : List Point) (later : List (List Choice)) (begun used : ℕ) (left : Bool) (t : _) → (v : IsCutVisiting P m base d sides s steps goals first points later begun used left) → first ≡ None → IsTrue (is_closed P d (the_tableau t)) → choices_of (ground_choices (the_tableau t)) ≡ v.choices → Cuts P d sides v.choices (the_tableau t)
+cut-closed P m base d sides s steps goals first points later begun used left t v whole closed reached = record { solved = cut-solved P m base d sides s steps goals first points later begun used left d v whole (told-itself d left); closed = closed; reached = reached }
+
+-- the same, at equal places
+pub cut-exploring-moved : (P : Problem) (m : List MatrixClause) (base d : ℕ) (sides : List Side) (old new : Store) (steps after : List Step) (goals all : List Goal) (points : List Point) (later : List (List Choice)) (begun used : ℕ) (left : Bool) → new ≡ old → after ≡ steps → all ≡ goals → IsCutExploring P m base d sides old steps goals points later begun used left → IsCutExploring P m base d sides new after all points later begun used left
+cut-exploring-moved P m base d sides old new steps after goals all points later begun used left es ea eb h = rw (es, ea, eb) h
 
 -- ---- the end of a start
 
 -- nothing is left on the stack
-pub cut-failed : (P : Problem) (m : List MatrixClause) (base d : ℕ) (sides : List Side) (s : Store) (steps : List Step) (goals : List Goal) (points : List Point) (later : List (List Choice)) (begun used : ℕ) → IsCutExploring P m base d sides s steps goals points later begun used → points ≡ [] → IsCutFailed P d sides later begun used
-cut-failed P m base d sides s steps goals points later begun used h e = by h.levels h.next (subst (λ ps. AreLevelPoints P m base d s steps goals (reverse ps) h.levels) e h.points) h.passing
+pub cut-failed : (P : Problem) (m : List MatrixClause) (base d : ℕ) (sides : List Side) (s : Store) (steps : List Step) (goals : List Goal) (points : List Point) (later : List (List Choice)) (begun used : ℕ) (left : Bool) → IsCutExploring P m base d sides s steps goals points later begun used left → points ≡ [] → IsCutFailed P d sides later begun used left
+cut-failed P m base d sides s steps goals points later begun used left h e = by h.levels h.next (subst (λ ps. AreLevelPoints P m base d s steps goals (reverse ps) h.levels) e h.points) h.passing
   where
-    by : (ls : List Level) → IsNext P d sides ls → AreLevelPoints P m base d s steps goals [] ls → IsPassing P d (pending_on ls ++ later) begun used → IsCutFailed P d sides later begun used
+    by : (ls : List Level) → ((f : ℕ) → IsToldOf d left f → IsNext P f sides ls) → AreLevelPoints P m base d s steps goals [] ls → IsPassing P d (pending_on ls ++ later) begun used → IsCutFailed P d sides later begun used left
     by [] next k passing = (next, passing)
     by (l ∷ ls) next k passing = absurd k
 
@@ -419,27 +432,33 @@ passing-first P m d used h = record {
 pub passing-start : (P : Problem) (m : List MatrixClause) (d k i begun used : ℕ) → k < length m → i ≡ k → IsPassing P d (starts_from m k) begun used → IsPassing P d ((start (selection_of (slice_get m i)) ∷ []) ∷ starts_from m (k + 1)) begun used
 passing-start P m d k i begun used l e h = subst (λ n. IsPassing P d ((start (selection_of (slice_get m n)) ∷ []) ∷ starts_from m (k + 1)) begun used) (sym e) (subst (λ ps. IsPassing P d ps begun used) (starts-next m k l) h)
 
--- one clause more fails
-pub cut-fails-more : (P : Problem) (m : List MatrixClause) (d k i : ℕ) → i ≡ k → FailsTo P m d k → FailsFrom P d (selection_of (slice_get m i)) → FailsTo P m d (k + 1)
-cut-fails-more P m d k i e h f = fails-more P m d k h (subst (λ n. FailsFrom P d (selection_of (slice_get m n))) e f)
+-- one clause more fails, at each limit of which the search still tells
+pub cut-fails-more : (P : Problem) (m : List MatrixClause) (d k i : ℕ) (known found left : Bool) → i ≡ k → left ≡ (known || found) → ((e : ℕ) → IsToldOf d known e → FailsTo P m e k) → ((e : ℕ) → IsToldOf d found e → FailsFrom P e (selection_of (slice_get m i))) → (e : ℕ) → IsToldOf d left e → FailsTo P m e (k + 1)
+cut-fails-more P m d k i known found left same is h f e told =
+    fails-more P m e k (h e (told-before d e known left (λ z. (both known found (sym is ∙ z)).0) told))
+    (subst (λ n. FailsFrom P e (selection_of (slice_get m n))) same (f e (told-before d e found left (λ z. (both known found (sym is ∙ z)).1) told)))
+  where
+    both : (a b : Bool) → (a || b) ≡ false → (a ≡ false) × (b ≡ false)
+    both true b z = absurd (false≢true (sym z))
+    both false b z = (refl, z)
 
 -- a clause with a literal of sign T starts nothing
-pub cut-no-start : (P : Problem) (m : List MatrixClause) (d k : ℕ) (later : List (List Choice)) (begun used : ℕ) → IsMatrixOf P m → k < length m → option_map (λ (x : MatrixClause). all_shown x.template) (slice_get m k) ≡ Some false → IsPassing P d ((start (selection_of (slice_get m k)) ∷ []) ∷ later) begun used → IsCutFailed P d (selection_of (slice_get m k)) later begun used
-cut-no-start P m d k later begun used h l refused passing =
+pub cut-no-start : (P : Problem) (m : List MatrixClause) (d k : ℕ) (later : List (List Choice)) (begun used : ℕ) (left : Bool) → IsMatrixOf P m → k < length m → option_map (λ (x : MatrixClause). all_shown x.template) (slice_get m k) ≡ Some false → IsPassing P d ((start (selection_of (slice_get m k)) ∷ []) ∷ later) begun used → IsCutFailed P d (selection_of (slice_get m k)) later begun used left
+cut-no-start P m d k later begun used left h l refused passing =
     let c = clause-at P m k h l in
     let e : Some (all_shown c.clause.template) ≡ Some false = ap (option_map (λ (x : MatrixClause). all_shown x.template)) (sym c.stands) ∙ refused in
     let f : all_shown c.clause.template ≡ false = cc e in
-    (subst (λ o. FailsFrom P d (selection_of o)) (sym c.stands) (fails-dead P d c.clause.selection (dead-start P c.clause.selection c.clause.template c.template f)), passing-next P d (start (selection_of (slice_get m k)) ∷ []) later begun used passing)
+    (λ l told. subst (λ o. FailsFrom P l (selection_of o)) (sym c.stands) (fails-dead P l c.clause.selection (dead-start P c.clause.selection c.clause.template c.template f)), passing-next P d (start (selection_of (slice_get m k)) ∷ []) later begun used passing)
 
 -- the tree of a start stands, and no point is there
-pub cut-started : (P : Problem) (m : List MatrixClause) (base d : ℕ) (sides : List Side) (s : Store) (steps : List Step) (goals : List Goal) (first : Option ℕ) (points : List Point) (later : List (List Choice)) (begun used : ℕ) → points ≡ [] → StandsFor P m base d (start sides ∷ []) s steps goals first → IsPassing P d ((start sides ∷ []) ∷ later) begun used → IsCutVisiting P m base d sides s steps goals first points later begun used
-cut-started P m base d sides s steps goals first points later begun used e stands passing = record {
+pub cut-started : (P : Problem) (m : List MatrixClause) (base d : ℕ) (sides : List Side) (s : Store) (steps : List Step) (goals : List Goal) (first : Option ℕ) (points : List Point) (later : List (List Choice)) (begun used : ℕ) (left : Bool) → points ≡ [] → StandsFor P m base d (start sides ∷ []) s steps goals first → IsPassing P d ((start sides ∷ []) ∷ later) begun used → IsCutVisiting P m base d sides s steps goals first points later begun used left
+cut-started P m base d sides s steps goals first points later begun used left e stands passing = record {
   choices = start sides ∷ [];
   stands = stands;
   not_empty = refl;
   levels = [];
   goals_left = clause_size P sides;
-  solving = levels-start P d sides;
+  solving = λ e told. levels-start P e sides;
   points = subst (λ ps. AreLevelPoints P m base d s steps goals (reverse ps) []) (sym e) tt;
   passing = passing;
 }

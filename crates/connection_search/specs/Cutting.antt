@@ -1,5 +1,5 @@
 -- The loop of the search that does not return to solved goals: the choice points of the goals that are being solved, and what comes out.
-use Rattle.std.specs.Prelude.{◌≡◌, ◌≤◌, ◌+◌, ◌-◌, ℕ, List, [], ◌∷◌, ◌++◌, Option, IsTrue, ⊤, length, reverse}
+use Rattle.std.specs.Prelude.{◌≡◌, ◌≤◌, ◌+◌, ◌-◌, ℕ, List, [], ◌∷◌, ◌++◌, Bool, Option, IsTrue, ⊤, length, reverse}
 use Rattle.std.specs.List.{AllByRecursion}
 use Rattle.calculus.specs.Choices.{Choice}
 use Rattle.calculus.specs.Counting.{AtLeastMany, MoreThan}
@@ -9,7 +9,7 @@ use Rattle.store_theory.specs.Stores.{Store}
 use Rattle.calculus.specs.Syntax.{Problem}
 use Rattle.calculus.specs.declared.sign.Side.{Side}
 use Rattle.search_theory.proofs.BeginningLaws.{is_not_empty}
-use Rattle.search_theory.specs.Cutting.{AreLevels, FailsFrom, IsNext, Level, pending_on}
+use Rattle.search_theory.specs.Cutting.{AreLevels, FailsFrom, IsNext, IsToldOf, Level, pending_on}
 use Rattle.search_theory.specs.Exploring.{IsMemberAt, Passes}
 use Rattle.search_theory.specs.Matrix.{MatrixClause}
 use Rattle.search_theory.specs.States.{CellGoal}
@@ -43,21 +43,21 @@ AreLevelPoints P m base d s steps goals (p ∷ ps) (l ∷ ls) =
     × AllByRecursion (IsBefore p) ps
     × AreLevelPoints P m base d s steps goals ps ls
 
--- the choices behind that of the last level come next
-pub record IsCutExploring (P : Problem) (m : List MatrixClause) (base d : ℕ) (sides : List Side) (s : Store) (steps : List Step) (goals : List Goal) (stack : List Point) (later : List (List Choice)) (begun used : ℕ) : Type 0 where
+-- the choices behind that of the last level come next, at each limit of which the search tells
+pub record IsCutExploring (P : Problem) (m : List MatrixClause) (base d : ℕ) (sides : List Side) (s : Store) (steps : List Step) (goals : List Goal) (stack : List Point) (later : List (List Choice)) (begun used : ℕ) (left : Bool) : Type 0 where
   pub levels : List Level
-  pub next : IsNext P d sides levels
+  pub next : (e : ℕ) → IsToldOf d left e → IsNext P e sides levels
   pub points : AreLevelPoints P m base d s steps goals (reverse stack) levels
   pub passing : IsPassing P d (pending_on levels ++ later) begun used
 
 -- the list of the state comes next
-pub record IsCutVisiting (P : Problem) (m : List MatrixClause) (base d : ℕ) (sides : List Side) (s : Store) (steps : List Step) (goals : List Goal) (first : Option ℕ) (stack : List Point) (later : List (List Choice)) (begun used : ℕ) : Type 0 where
+pub record IsCutVisiting (P : Problem) (m : List MatrixClause) (base d : ℕ) (sides : List Side) (s : Store) (steps : List Step) (goals : List Goal) (first : Option ℕ) (stack : List Point) (later : List (List Choice)) (begun used : ℕ) (left : Bool) : Type 0 where
   pub choices : List Choice
   pub stands : StandsFor P m base d choices s steps goals first
   pub not_empty : IsTrue (is_not_empty choices)
   pub levels : List Level
   pub goals_left : ℕ
-  pub solving : AreLevels P d sides levels goals_left choices
+  pub solving : (e : ℕ) → IsToldOf d left e → AreLevels P e sides levels goals_left choices
   pub points : AreLevelPoints P m base d s steps goals (reverse stack) levels
   pub passing : IsPassing P d (choices ∷ pending_on levels ++ later) begun used
 
@@ -77,9 +77,9 @@ IsCutEnd P d sides begun used budget visit.On = ⊤
 IsCutEnd P d sides begun used budget (visit.Closed t) = (c : List Choice) × Cuts P d sides c (the_tableau t)
 IsCutEnd P d sides begun used budget visit.Steps = IsCutEnded P d begun used budget
 
--- the start has no cut, and the lists of later starts come next
-abbrev pub IsCutFailed : Problem → ℕ → List Side → List (List Choice) → ℕ → ℕ → Type 0
-IsCutFailed P d sides later begun used = FailsFrom P d sides × IsPassing P d later begun used
+-- the start has no cut at any limit of which the search tells, and the lists of later starts come next
+abbrev pub IsCutFailed : Problem → ℕ → List Side → List (List Choice) → ℕ → ℕ → Bool → Type 0
+IsCutFailed P d sides later begun used left = ((e : ℕ) → IsToldOf d left e → FailsFrom P e sides) × IsPassing P d later begun used
 
 -- why the search at the limit d ends
 abbrev pub IsLimitEnd : Problem → ℕ → ℕ → ℕ → ℕ → Visit → Type 0

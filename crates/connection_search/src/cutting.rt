@@ -8,6 +8,7 @@ ghost use Rattle.calculus.specs.Counting.{AtLeastMany};
 ghost use Rattle.calculus.specs.Cut.{HasCut};
 ghost use Rattle.calculus.specs.declared.sign.Side.{Side};
 ghost use Rattle.calculus.specs.Space.{IsMember, member_cmp};
+ghost use Rattle.search_theory.specs.Cutting.{IsToldOf};
 ghost use Rattle.search_theory.specs.Matrix.{IsTemplateMatrix};
 ghost use Rattle.search_theory.specs.OrderedChoices.{selection_of};
 ghost use Rattle.connection_search.specs.Cutting.{IsCountedAt, IsCutEnd, IsCutExploring};
@@ -44,41 +45,43 @@ pub enum CutAnswer {
 impl Space<'_> {
     // Spends a step for the list of choices, which is sound. Goals that are solved give up their
     // points. A list without open goals is decided; where no closed tableau has it, the start has
-    // failed, and no point is left.
+    // failed, and no point is left. A goal that has as many goals above it as the limit may show that
+    // the limit is left.
     fn visit_cut(
         &self,
         ledger: &mut Ledger,
         store: &mut Store,
-        work: &Work,
+        work: &mut Work,
         points: &mut Vec<Point>,
+        left: &mut bool,
     ) -> Result<Visit, NoMemory>
         requires { (base : ℕ) × (sides : List Side) × (later : List (List Choice)) × (begun : ℕ)
             × IsSpace self.now.problem.now self.now.matrix.now self.now.limit
             × IsCutVisiting self.now.problem.now self.now.matrix.now base self.now.limit sides
-            store.old.store work.now.tree.steps.items work.now.tree.goals.items work.now.tree.open
-            points.old.items later begun ledger.old.used }
+            store.old.store work.old.tree.steps.items work.old.tree.goals.items work.old.tree.open
+            points.old.items later begun ledger.old.used left.old }
         ensures on { IfOk result (λ v. IfOn v ((base : ℕ) (sides : List Side) (later : List (List
             Choice)) (begun : ℕ)
             → IsSpace self.now.problem.now self.now.matrix.now self.now.limit
             → IsCutVisiting self.now.problem.now self.now.matrix.now base self.now.limit sides
-            store.old.store work.now.tree.steps.items work.now.tree.goals.items work.now.tree.open
-            points.old.items later begun ledger.old.used
+            store.old.store work.old.tree.steps.items work.old.tree.goals.items work.old.tree.open
+            points.old.items later begun ledger.old.used left.old
             → IsCutExploring self.now.problem.now self.now.matrix.now base self.now.limit sides
-            store.new.store work.now.tree.steps.items work.now.tree.goals.items points.new.items
-            later begun ledger.new.used)) }
+            store.new.store work.new.tree.steps.items work.new.tree.goals.items points.new.items
+            later begun ledger.new.used left.new)) }
         ensures end { IfOk result (λ v. (base : ℕ) (sides : List Side) (later : List (List Choice))
             (begun : ℕ)
             → IsSpace self.now.problem.now self.now.matrix.now self.now.limit
             → IsCutVisiting self.now.problem.now self.now.matrix.now base self.now.limit sides
-            store.old.store work.now.tree.steps.items work.now.tree.goals.items work.now.tree.open
-            points.old.items later begun ledger.old.used
+            store.old.store work.old.tree.steps.items work.old.tree.goals.items work.old.tree.open
+            points.old.items later begun ledger.old.used left.old
             → IsCutEnd self.now.problem.now self.now.limit sides begun ledger.new.used
             ledger.new.budget v) }
         ensures counted { (base : ℕ) (sides : List Side) (later : List (List Choice)) (begun : ℕ)
             → IsSpace self.now.problem.now self.now.matrix.now self.now.limit
             → IsCutVisiting self.now.problem.now self.now.matrix.now base self.now.limit sides
-            store.old.store work.now.tree.steps.items work.now.tree.goals.items work.now.tree.open
-            points.old.items later begun ledger.old.used
+            store.old.store work.old.tree.steps.items work.old.tree.goals.items work.old.tree.open
+            points.old.items later begun ledger.old.used left.old
             → IsCountedAt self.now.problem.now self.now.limit begun ledger.new.used }
         ensures budget { ledger.new.budget ≡ ledger.old.budget }
         ensures falls { IfOk result (λ v. IfOn v (
@@ -106,6 +109,7 @@ impl Space<'_> {
             Some(goal) => {
                 points.truncate(work.tree.goals[goal].depth);
                 let point = Point::new(store, self.matrix, &work.tree, goal, self.limit as usize);
+                *left = self.is_left(store, work, goal, *left)?;
                 points.push(point)?;
                 Ok(Visit::On)
             }
@@ -120,35 +124,36 @@ impl Space<'_> {
         store: &mut Store,
         work: &mut Work,
         points: &mut Vec<Point>,
+        left: &mut bool,
         last: Point,
     ) -> Result<Visit, NoMemory>
         requires { (base : ℕ) × (sides : List Side) × (later : List (List Choice)) × (begun : ℕ)
             × IsSpace self.now.problem.now self.now.matrix.now self.now.limit
             × IsCutExploring self.now.problem.now self.now.matrix.now base self.now.limit sides
             store.old.store work.old.tree.steps.items work.old.tree.goals.items
-            (points.old.items ++ last ∷ []) later begun ledger.old.used }
+            (points.old.items ++ last ∷ []) later begun ledger.old.used left.old }
         ensures on { IfOk result (λ v. IfOn v ((base : ℕ) (sides : List Side) (later : List (List
             Choice)) (begun : ℕ)
             → IsSpace self.now.problem.now self.now.matrix.now self.now.limit
             → IsCutExploring self.now.problem.now self.now.matrix.now base self.now.limit sides
             store.old.store work.old.tree.steps.items work.old.tree.goals.items (points.old.items ++
-            last ∷ []) later begun ledger.old.used
+            last ∷ []) later begun ledger.old.used left.old
             → IsCutExploring self.now.problem.now self.now.matrix.now base self.now.limit sides
             store.new.store work.new.tree.steps.items work.new.tree.goals.items points.new.items
-            later begun ledger.new.used)) }
+            later begun ledger.new.used left.new)) }
         ensures end { IfOk result (λ v. (base : ℕ) (sides : List Side) (later : List (List Choice))
             (begun : ℕ)
             → IsSpace self.now.problem.now self.now.matrix.now self.now.limit
             → IsCutExploring self.now.problem.now self.now.matrix.now base self.now.limit sides
             store.old.store work.old.tree.steps.items work.old.tree.goals.items (points.old.items ++
-            last ∷ []) later begun ledger.old.used
+            last ∷ []) later begun ledger.old.used left.old
             → IsCutEnd self.now.problem.now self.now.limit sides begun ledger.new.used
             ledger.new.budget v) }
         ensures counted { (base : ℕ) (sides : List Side) (later : List (List Choice)) (begun : ℕ)
             → IsSpace self.now.problem.now self.now.matrix.now self.now.limit
             → IsCutExploring self.now.problem.now self.now.matrix.now base self.now.limit sides
             store.old.store work.old.tree.steps.items work.old.tree.goals.items (points.old.items ++
-            last ∷ []) later begun ledger.old.used
+            last ∷ []) later begun ledger.old.used left.old
             → IsCountedAt self.now.problem.now self.now.limit begun ledger.new.used }
         ensures budget { ledger.new.budget ≡ ledger.old.budget }
         ensures falls { IfOk result (λ v. IfOn v (
@@ -168,7 +173,7 @@ impl Space<'_> {
         if !work.is_regular(store)? {
             return Ok(Visit::On);
         }
-        let visit = self.visit_cut(ledger, store, work, points)?;
+        let visit = self.visit_cut(ledger, store, work, points, left)?;
         Ok(visit)
     }
 
@@ -179,37 +184,39 @@ impl Space<'_> {
         store: &mut Store,
         work: &mut Work,
         points: &mut Vec<Point>,
+        left: &mut bool,
     ) -> Result<Visit, NoMemory>
         requires { (base : ℕ) × (sides : List Side) × (later : List (List Choice)) × (begun : ℕ)
             × IsSpace self.now.problem.now self.now.matrix.now self.now.limit
             × IsCutExploring self.now.problem.now self.now.matrix.now base self.now.limit sides
             store.old.store work.old.tree.steps.items work.old.tree.goals.items
-            points.old.items later begun ledger.old.used }
+            points.old.items later begun ledger.old.used left.old }
         ensures on { IfOk result (λ v. IfOn v ((base : ℕ) (sides : List Side) (later : List (List
             Choice)) (begun : ℕ)
             → IsSpace self.now.problem.now self.now.matrix.now self.now.limit
             → IsCutExploring self.now.problem.now self.now.matrix.now base self.now.limit sides
             store.old.store work.old.tree.steps.items work.old.tree.goals.items points.old.items
-            later begun ledger.old.used
-            → IsCutFailed self.now.problem.now self.now.limit sides later begun ledger.new.used)) }
+            later begun ledger.old.used left.old
+            → IsCutFailed self.now.problem.now self.now.limit sides later begun ledger.new.used
+            left.new)) }
         ensures end { IfOk result (λ v. (base : ℕ) (sides : List Side) (later : List (List Choice))
             (begun : ℕ)
             → IsSpace self.now.problem.now self.now.matrix.now self.now.limit
             → IsCutExploring self.now.problem.now self.now.matrix.now base self.now.limit sides
             store.old.store work.old.tree.steps.items work.old.tree.goals.items points.old.items
-            later begun ledger.old.used
+            later begun ledger.old.used left.old
             → IsCutEnd self.now.problem.now self.now.limit sides begun ledger.new.used
             ledger.new.budget v) }
         ensures counted { (base : ℕ) (sides : List Side) (later : List (List Choice)) (begun : ℕ)
             → IsSpace self.now.problem.now self.now.matrix.now self.now.limit
             → IsCutExploring self.now.problem.now self.now.matrix.now base self.now.limit sides
             store.old.store work.old.tree.steps.items work.old.tree.goals.items points.old.items
-            later begun ledger.old.used
+            later begun ledger.old.used left.old
             → IsCountedAt self.now.problem.now self.now.limit begun ledger.new.used }
         ensures budget { ledger.new.budget ≡ ledger.old.budget }
     {
         while let Some(point) = points.pop() {
-            match self.next_cut(ledger, store, work, points, point)? {
+            match self.next_cut(ledger, store, work, points, left, point)? {
                 Visit::On => {}
                 Visit::Closed(tableau) => return Ok(Visit::Closed(tableau)),
                 Visit::Steps => return Ok(Visit::Steps),
@@ -224,6 +231,7 @@ impl Space<'_> {
         alloc: Global,
         ledger: &mut Ledger,
         clause: ClauseId,
+        left: &mut bool,
     ) -> Result<Visit, NoMemory>
         requires passing { (later : List (List Choice)) × (begun : ℕ)
             × IsSpace self.now.problem.now self.now.matrix.now self.now.limit
@@ -236,7 +244,7 @@ impl Space<'_> {
             → IsPassing self.now.problem.now self.now.limit ((start (selection_of (slice_get
             self.now.matrix.now clause.0)) ∷ []) ∷ later) begun ledger.old.used
             → IsCutFailed self.now.problem.now self.now.limit (selection_of (slice_get
-            self.now.matrix.now clause.0)) later begun ledger.new.used)) }
+            self.now.matrix.now clause.0)) later begun ledger.new.used left.new)) }
         ensures end { IfOk result (λ v. (later : List (List Choice)) (begun : ℕ)
             → IsSpace self.now.problem.now self.now.matrix.now self.now.limit
             → IsPassing self.now.problem.now self.now.limit ((start (selection_of (slice_get
@@ -258,9 +266,9 @@ impl Space<'_> {
         let mut work = Work::new(alloc);
         work.start(&mut store, self.matrix, clause)?;
         let mut points = Vec::new(alloc);
-        match self.visit_cut(ledger, &mut store, &work, &mut points)? {
+        match self.visit_cut(ledger, &mut store, &mut work, &mut points, left)? {
             Visit::On => {
-                let found = self.explore_cut(ledger, &mut store, &mut work, &mut points)?;
+                let found = self.explore_cut(ledger, &mut store, &mut work, &mut points, left)?;
                 Ok(found)
             }
             Visit::Closed(tableau) => Ok(Visit::Closed(tableau)),
@@ -268,11 +276,17 @@ impl Space<'_> {
         }
     }
 
-    // Searches start after start.
-    fn run_cut(&self, alloc: Global, ledger: &mut Ledger) -> Result<Visit, NoMemory>
+    // Searches start after start. Where nothing shows that the limit is left, no greater limit has a
+    // cut either.
+    fn run_cut(
+        &self,
+        alloc: Global,
+        ledger: &mut Ledger,
+        left: &mut bool,
+    ) -> Result<Visit, NoMemory>
         requires { IsSpace self.now.problem.now self.now.matrix.now self.now.limit }
-        ensures none { IfOk result (λ v. IfOn v
-            (¬ HasCut self.now.problem.now self.now.limit)) }
+        ensures none { IfOk result (λ v. IfOn v ((e : ℕ) → IsToldOf self.now.limit left.new e
+            → ¬ HasCut self.now.problem.now e)) }
         ensures end { IfOk result (λ v. IsLimitEnd self.now.problem.now self.now.limit
             ledger.old.used ledger.new.used ledger.new.budget v) }
         ensures counted { IsCountedAt self.now.problem.now self.now.limit ledger.old.used
@@ -281,8 +295,9 @@ impl Space<'_> {
     {
         for number in 0..self.matrix.len() {
             let clause = clause_id(number)?;
-            match self.start_cut(alloc, ledger, clause)? {
-                Visit::On => {}
+            let mut found = *left;
+            match self.start_cut(alloc, ledger, clause, &mut found)? {
+                Visit::On => *left |= found,
                 Visit::Closed(tableau) => return Ok(Visit::Closed(tableau)),
                 Visit::Steps => return Ok(Visit::Steps),
             }
@@ -292,7 +307,8 @@ impl Space<'_> {
 }
 
 /// Searches the limits from 1 to `cut_limit` without returning to solved goals, over the problem's
-/// own matrix. Steps are used as by `search`.
+/// own matrix. Steps are used as by `search`. Where the search fails at a limit and nothing shows
+/// that the limit is left, it would fail at each greater one in the same way, and ends.
 pub fn deepen_cut(
     alloc: Global,
     problem: &Problem,
@@ -319,8 +335,13 @@ pub fn deepen_cut(
             matrix,
             limit,
         };
-        match space.run_cut(alloc, ledger)? {
-            Visit::On => {}
+        let mut left = false;
+        match space.run_cut(alloc, ledger, &mut left)? {
+            Visit::On => {
+                if !left {
+                    return Ok(CutAnswer::Open);
+                }
+            }
             Visit::Closed(tableau) => return Ok(CutAnswer::Closed { limit, tableau }),
             Visit::Steps => return Ok(CutAnswer::Steps),
         }

@@ -1,7 +1,8 @@
 use Rattle.std.proofs.Common.{◌≡◌, ◌+◌, ◌-◌, ◌∙◌, arith, refl, subst}
 use Rattle.calculus.specs.Counting.{MoreThan}
 use Rattle.calculus.specs.Space.{IsMember, member_cmp}
-use Rattle.connection_search.proofs.CutDeepening.{CutTo, cut-to-all, cut-to-counted, cut-to-more, cut-to-none, cut-to-steps, none-before}
+use Rattle.connection_search.proofs.CutDeepening.{CutTo, cut-to-all, cut-to-counted, cut-to-more, cut-to-none, cut-to-steps, none-before, none-beyond}
+use Rattle.search_theory.proofs.CutLimits.{told-itself}
 use Rattle.connection_search.proofs.SearchedLaws.{space-of}
 use Rattle.connection_search.proofs.cutting.deepen_cut.Goals as goal
 
@@ -52,7 +53,7 @@ returns-in-Steps-clause-ended c = let end = rw c.in-Steps.is at c.in_ok-run_cut.
 pub loop-passed-preserved : goal.loop-passed-preserved
 loop-passed-preserved c = let none = rw c.in-On.is at c.in_ok-run_cut.ensures.none in
     record {
-      passed = cut-to-more c.args.problem.now c.loop-passed.passed c.args.ledger.now.used c.loop-passed.ledger.used c.run_cut.new.ledger.used c.loop-passed.invariant.passed none c.run_cut.ensures.counted;
+      passed = cut-to-more c.args.problem.now c.loop-passed.passed c.args.ledger.now.used c.loop-passed.ledger.used c.run_cut.new.ledger.used c.loop-passed.invariant.passed (none (c.loop-passed.passed + 1) (told-itself (c.loop-passed.passed + 1) c.run_cut.new.left)) c.run_cut.ensures.counted;
       budget = c.run_cut.ensures.budget ∙ c.loop-passed.invariant.budget;
     }
 
@@ -67,3 +68,17 @@ returns-clause-rises c = c.loop-passed.invariant.passed.rises
 
 pub returns-clause-budget : goal.returns-clause-budget
 returns-clause-budget c = c.loop-passed.invariant.budget
+
+-- nothing shows that the limit is left
+pub returns-then-not-left-clause-answer : goal.returns-then-not-left-clause-answer
+returns-then-not-left-clause-answer c = let none = rw c.in-On.is at c.in_ok-run_cut.ensures.none in
+    λ e a b. none-beyond c.args.problem.now c.loop-passed.passed e c.args.ledger.now.used c.loop-passed.ledger.used c.run_cut.new.left c.loop-passed.invariant.passed c.if-not-left.true none a
+
+pub returns-then-not-left-clause-count : goal.returns-then-not-left-clause-count
+returns-then-not-left-clause-count c = λ e k. cut-to-counted c.args.problem.now c.loop-passed.passed c.args.cut_limit e c.args.ledger.now.used c.loop-passed.ledger.used c.run_cut.new.ledger.used c.loop-passed.invariant.passed (omega arith) k c.run_cut.ensures.counted
+
+pub returns-then-not-left-clause-rises : goal.returns-then-not-left-clause-rises
+returns-then-not-left-clause-rises c = let a = c.loop-passed.invariant.passed.rises in let b = c.run_cut.ensures.counted.0 in omega (arith, a, b)
+
+pub returns-then-not-left-clause-budget : goal.returns-then-not-left-clause-budget
+returns-then-not-left-clause-budget c = c.run_cut.ensures.budget ∙ c.loop-passed.invariant.budget

@@ -8,7 +8,7 @@ use Rattle.connection_search.proofs.space.Space.explore_cut.Given as goal
 
 abbrev pub invariant-loop-point : goal.invariant-loop-point
 invariant-loop-point l = record {
-  exploring : (base : ℕ) (sides : List Side) (later : List (List Choice)) (begun : ℕ) → IsSpace l.self.problem.now l.self.matrix.now l.self.limit → IsCutExploring l.self.problem.now l.self.matrix.now base l.self.limit sides l.initial.store.store l.initial.work.tree.steps.items l.initial.work.tree.goals.items l.initial.points.items later begun l.initial.ledger.used → IsCutExploring l.self.problem.now l.self.matrix.now base l.self.limit sides l.store.store l.work.tree.steps.items l.work.tree.goals.items l.points.items later begun l.ledger.used;
+  exploring : (base : ℕ) (sides : List Side) (later : List (List Choice)) (begun : ℕ) → IsSpace l.self.problem.now l.self.matrix.now l.self.limit → IsCutExploring l.self.problem.now l.self.matrix.now base l.self.limit sides l.initial.store.store l.initial.work.tree.steps.items l.initial.work.tree.goals.items l.initial.points.items later begun l.initial.ledger.used l.initial.left → IsCutExploring l.self.problem.now l.self.matrix.now base l.self.limit sides l.store.store l.work.tree.steps.items l.work.tree.goals.items l.points.items later begun l.ledger.used l.left;
   budget : l.ledger.budget ≡ l.initial.ledger.budget;
 }
 

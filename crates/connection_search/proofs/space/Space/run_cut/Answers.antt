@@ -1,5 +1,6 @@
 use Rattle.std.proofs.Common.{◌+◌, ◌<◌, ◌≤◌, ◌∙◌, arith, length, refl, slice_get, subst}
 use Rattle.search_theory.proofs.CutEnds.{fails-none, found-cut, none-cut}
+use Rattle.search_theory.proofs.CutLimits.{told-itself}
 use Rattle.connection_search.proofs.CuttingLaws.{cut-fails-more, passing-counted, passing-first, passing-start}
 use Rattle.connection_search.proofs.SearchedLaws.{starts_from}
 use Rattle.search_theory.specs.OrderedChoices.{selection_of}
@@ -10,7 +11,7 @@ use Rattle.connection_search.proofs.space.Space.run_cut.Goals as goal
 pub loop-number-init : goal.loop-number-init
 loop-number-init c = record {
   passing = passing-first c.args.self.now.problem.now c.args.self.now.matrix.now c.args.self.now.limit c.args.ledger.now.used c.requires.matrix.matrix;
-  fails = fails-none c.args.self.now.problem.now c.args.self.now.matrix.now c.args.self.now.limit;
+  fails = λ e told. fails-none c.args.self.now.problem.now c.args.self.now.matrix.now e;
   budget = refl;
 }
 
@@ -36,7 +37,7 @@ pub returns-in-Closed-clause-end : goal.returns-in-Closed-clause-end
 returns-in-Closed-clause-end c =
     let end = rw c.in-Closed.is at c.in_ok-start_cut.ensures.end in
     let (b, cuts) = end (starts_from c.args.self.now.matrix.now (c.loop-number.number + 1)) c.args.ledger.now.used c.requires (passing-start c.args.self.now.problem.now c.args.self.now.matrix.now c.args.self.now.limit c.loop-number.number c.in_ok-clause.clause.0 c.args.ledger.now.used c.loop-number.ledger.used (let n = c.len-number-end.ensures in let l : c.loop-number.number < length c.args.self.now.matrix.now = omega arith in l) c.in_ok-clause.ensures c.loop-number.invariant.passing) in
-    (b, selection_of (slice_get c.args.self.now.matrix.now c.loop-number.number), found-cut c.args.self.now.problem.now c.args.self.now.matrix.now c.args.self.now.limit c.loop-number.number b (the_tableau c.in-Closed.tableau) c.requires.matrix.matrix (let n = c.len-number-end.ensures in let l : c.loop-number.number < length c.args.self.now.matrix.now = omega arith in l) c.loop-number.invariant.fails (subst (λ k. Cuts c.args.self.now.problem.now c.args.self.now.limit (selection_of (slice_get c.args.self.now.matrix.now k)) b (the_tableau c.in-Closed.tableau)) c.in_ok-clause.ensures cuts))
+    (b, selection_of (slice_get c.args.self.now.matrix.now c.loop-number.number), found-cut c.args.self.now.problem.now c.args.self.now.matrix.now c.args.self.now.limit c.loop-number.number b (the_tableau c.in-Closed.tableau) c.requires.matrix.matrix (let n = c.len-number-end.ensures in let l : c.loop-number.number < length c.args.self.now.matrix.now = omega arith in l) (c.loop-number.invariant.fails c.args.self.now.limit (told-itself c.args.self.now.limit c.loop-number.left)) (subst (λ k. Cuts c.args.self.now.problem.now c.args.self.now.limit (selection_of (slice_get c.args.self.now.matrix.now k)) b (the_tableau c.in-Closed.tableau)) c.in_ok-clause.ensures cuts))
 
 pub returns-in-Closed-clause-counted : goal.returns-in-Closed-clause-counted
 returns-in-Closed-clause-counted c = c.start_cut.ensures.counted (starts_from c.args.self.now.matrix.now (c.loop-number.number + 1)) c.args.ledger.now.used c.requires (passing-start c.args.self.now.problem.now c.args.self.now.matrix.now c.args.self.now.limit c.loop-number.number c.in_ok-clause.clause.0 c.args.ledger.now.used c.loop-number.ledger.used (let n = c.len-number-end.ensures in let l : c.loop-number.number < length c.args.self.now.matrix.now = omega arith in l) c.in_ok-clause.ensures c.loop-number.invariant.passing)
@@ -61,12 +62,12 @@ loop-number-preserved c =
     let r = on (starts_from c.args.self.now.matrix.now (c.loop-number.number + 1)) c.args.ledger.now.used c.requires (passing-start c.args.self.now.problem.now c.args.self.now.matrix.now c.args.self.now.limit c.loop-number.number c.in_ok-clause.clause.0 c.args.ledger.now.used c.loop-number.ledger.used (let n = c.len-number-end.ensures in let l : c.loop-number.number < length c.args.self.now.matrix.now = omega arith in l) c.in_ok-clause.ensures c.loop-number.invariant.passing) in
     record {
       passing = r.1;
-      fails = cut-fails-more c.args.self.now.problem.now c.args.self.now.matrix.now c.args.self.now.limit c.loop-number.number c.in_ok-clause.clause.0 c.in_ok-clause.ensures c.loop-number.invariant.fails r.0;
+      fails = cut-fails-more c.args.self.now.problem.now c.args.self.now.matrix.now c.args.self.now.limit c.loop-number.number c.in_ok-clause.clause.0 c.loop-number.left c.start_cut.new.left _ c.in_ok-clause.ensures refl c.loop-number.invariant.fails r.0;
       budget = c.start_cut.ensures.budget ∙ c.loop-number.invariant.budget;
     }
 
 pub returns-clause-none : goal.returns-clause-none
-returns-clause-none c = let n = c.len-number-end.ensures in let l : length c.args.self.now.matrix.now ≤ c.loop-number.number = omega arith in none-cut c.args.self.now.problem.now c.args.self.now.matrix.now c.args.self.now.limit c.loop-number.number c.requires.matrix.matrix l c.loop-number.invariant.fails
+returns-clause-none c = let n = c.len-number-end.ensures in let l : length c.args.self.now.matrix.now ≤ c.loop-number.number = omega arith in λ e told. none-cut c.args.self.now.problem.now c.args.self.now.matrix.now e c.loop-number.number c.requires.matrix.matrix l (c.loop-number.invariant.fails e told)
 
 pub returns-clause-counted : goal.returns-clause-counted
 returns-clause-counted c = passing-counted c.args.self.now.problem.now c.args.self.now.limit (starts_from c.args.self.now.matrix.now c.loop-number.number) c.args.ledger.now.used c.loop-number.ledger.used c.loop-number.invariant.passing
