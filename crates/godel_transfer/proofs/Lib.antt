@@ -1,6 +1,8 @@
 -- translations
 pub mod TranslationSizes
 pub mod TranslatedLaws
+pub mod SymbolLists
+pub mod Refusals
 -- what is made of a derivation derives the translation
 pub mod ImageLaws
 pub mod TransferState
@@ -10,6 +12,8 @@ pub mod TransferLaws
 pub mod TransferWritten
 -- the way of the code leads to the same
 pub mod SketchLaws
+pub mod SketchSteps
+pub mod TransferRight
 -- examples that compute
 mod TransferExamples
 pub mod ImagesLaws

@@ -8,7 +8,7 @@ use Rattle.calculus.specs.declared.setting.Logic.{Logic}
 use Rattle.calculus.specs.declared.setting.Logic.TheVariants.{Intuitionistic}
 use Rattle.calculus.specs.declared.setting.Domains.{Domains}
 use Rattle.calculus.specs.declared.setting.Domains.TheVariants.{Constant, Cumulative, Varying}
-use Rattle.calculus.specs.Syntax.{arity_of, Symbol, Term, Terms, var, fun, eigen, spare, no_terms, more_terms, Formula, atom, neg, conj, disj, imp, all, ex, box, dia, Problem}
+use Rattle.calculus.specs.Syntax.{arity_of, Symbol, Term, Terms, var, fun, eigen, spare, no_terms, more_terms, Formula, atom, neg, conj, disj, imp, all, ex, box, dia, setting_of, Problem}
 use Rattle.calculus.specs.Skolem.{has_function}
 use Rattle.calculus.specs.Problems.{is_modal, has_predicate, term_fits_in, terms_fit_in, formula_fits, setting_fits, is_problem}
 use Rattle.calculus.specs.Kinds.{shape_of, modal_of}
@@ -17,6 +17,7 @@ use Rattle.calculus.specs.Derivations.{new_mark, Label, Entry, Sequent, EigenNam
 use Rattle.calculus.specs.Calculus.{Children, closed, one, two, eigen_named, holds_character, is_in_home, is_eigen, character_occurs, modal_fits, term_fits, has_step, label_after, character_is_new, eigen_is_new, children_of, conditions_of_use, connects, entry_of, use_entry, close_branch, apply, Closes, leaf, single, fork, Derives}
 use Rattle.calculus.specs.DerivationText.{rises_from}
 use Rattle.calculus.specs.Translation.{translation_of, translated_problem}
+use Rattle.logic_rules.proofs.ProblemFacts.{kept}
 use Rattle.godel_transfer.specs.Transfer.{label_image, term_image, terms_image, formula_image, OpenBranch, first_branch, place_of, characters_after, branches_by, axiom_steps, steps_at, steps_for, axiom_at, names_by, names_at, names_for, branches_at, branches_for, steps_from, names_from, names_with, transferred}
 use Rattle.calculus.proofs.Interpretations.{entry-without}
 use Rattle.calculus.proofs.Members.{Among, among-left, among-right}
@@ -251,14 +252,13 @@ intuitionistic-domains l ds e h = by ds (subst (λ (k : Logic). setting_fits k d
     by Constant h = absurd (false≢true h)
     by Varying h = absurd (false≢true h)
 
+pub intuitionistic-setting : (P : Problem) → IsTrue (is_problem P) → P.setting.logic ≡ Intuitionistic → P.setting ≡ setting_of Intuitionistic Cumulative
+intuitionistic-setting P is logic = let domains = intuitionistic-domains P.setting.logic P.setting.domains logic (kept P is).domains in λ i. record { logic = logic i; domains = domains i }
+
 -- a derivation of an intuitionistic problem becomes one of the translated problem
 pub transfer-derives : (P : Problem) (d : Derivation) → IsTrue (is_problem P) → P.setting.logic ≡ Intuitionistic → Derives P d → Derives (translated_problem P) (transferred P d)
 transfer-derives P d is logic h =
-    let parts = problem-parts P is in
-    let domains = intuitionistic-domains P.setting.logic P.setting.domains logic parts.0 in
-    let same : P ≡ intuitionistic P.formula P.symbols = λ i. record { setting = record { logic = logic i; domains = domains i }; formula = P.formula; symbols = P.symbols } in
-    let fits : formula_fits Intuitionistic P.symbols 0 P.formula ≡ true = subst (λ (l : Logic). formula_fits l P.symbols 0 P.formula ≡ true) logic parts.1 in
+    let setting = intuitionistic-setting P is logic in
+    let same : P ≡ intuitionistic P.formula P.symbols = λ i. record { setting = setting i; formula = P.formula; symbols = P.symbols } in
+    let fits : formula_fits Intuitionistic P.symbols 0 P.formula ≡ true = subst (λ (l : Logic). formula_fits l P.symbols 0 P.formula ≡ true) logic (kept P is).formula in
     subst (λ (R : Problem). Derives (translated_problem R) (transferred R d)) (sym same) (transfer-of P.formula P.symbols d fits (subst (λ (R : Problem). Derives R d) same h))
-  where
-    problem-parts : (P : Problem) → IsTrue (is_problem P) → (setting_fits P.setting.logic P.setting.domains ≡ true) × (formula_fits P.setting.logic P.symbols 0 P.formula ≡ true)
-    problem-parts P h = and_parts (setting_fits P.setting.logic P.setting.domains) (formula_fits P.setting.logic P.symbols 0 P.formula) (and_parts _ _ (and_parts _ _ (and_parts _ _ (and_parts _ _ (and_parts _ _ h).0).0).0).0).0

@@ -7,6 +7,7 @@ use Rattle.calculus.specs.Syntax.{Symbol, Formula, atom, neg, conj, disj, imp, a
 use Rattle.calculus.specs.Measures.{node_count, nesting}
 use Rattle.calculus.specs.Problems.{formula_fits, setting_fits, symbol_fits, are_distinct, is_problem}
 use Rattle.calculus.specs.Translation.{translation_of, translated_problem}
+use Rattle.logic_rules.proofs.ProblemFacts.{kept}
 
 pub translation-fits : (symbols : List Symbol) (d : ℕ) (a : Formula) → formula_fits Intuitionistic symbols d a ≡ true → formula_fits S4 symbols d (translation_of a) ≡ true
 translation-fits symbols d (atom p ts) h = h
@@ -22,15 +23,10 @@ translation-fits symbols d (dia a) h = absurd (false≢true h)
 pub translated-problem : (P : Problem) → IsTrue (is_problem P) → P.setting.logic ≡ Intuitionistic → node_count (translation_of P.formula) ≤ 4000000 → nesting (translation_of P.formula) ≤ 1000 → IsTrue (is_problem (translated_problem P))
 translated-problem P h logic nodes depth =
     let Q = translated_problem P in
-    let a = and_parts (setting_fits P.setting.logic P.setting.domains && formula_fits P.setting.logic P.symbols 0 P.formula && list_all symbol_fits P.symbols && are_distinct P.symbols && nat_le (length P.symbols) 65536 && nat_le (node_count P.formula) 4000000) (nat_le (nesting P.formula) 1100) h in
-    let b = and_parts (setting_fits P.setting.logic P.setting.domains && formula_fits P.setting.logic P.symbols 0 P.formula && list_all symbol_fits P.symbols && are_distinct P.symbols && nat_le (length P.symbols) 65536) (nat_le (node_count P.formula) 4000000) a.0 in
-    let c = and_parts (setting_fits P.setting.logic P.setting.domains && formula_fits P.setting.logic P.symbols 0 P.formula && list_all symbol_fits P.symbols && are_distinct P.symbols) (nat_le (length P.symbols) 65536) b.0 in
-    let d = and_parts (setting_fits P.setting.logic P.setting.domains && formula_fits P.setting.logic P.symbols 0 P.formula && list_all symbol_fits P.symbols) (are_distinct P.symbols) c.0 in
-    let e = and_parts (setting_fits P.setting.logic P.setting.domains && formula_fits P.setting.logic P.symbols 0 P.formula) (list_all symbol_fits P.symbols) d.0 in
-    let f = and_parts (setting_fits P.setting.logic P.setting.domains) (formula_fits P.setting.logic P.symbols 0 P.formula) e.0 in
-    let fits : formula_fits S4 P.symbols 0 (translation_of P.formula) ≡ true = translation-fits P.symbols 0 P.formula (subst (λ l. formula_fits l P.symbols 0 P.formula ≡ true) logic f.1) in
+    let k = kept P h in
+    let fits : formula_fits S4 P.symbols 0 (translation_of P.formula) ≡ true = translation-fits P.symbols 0 P.formula (subst (λ l. formula_fits l P.symbols 0 P.formula ≡ true) logic k.formula) in
     and_from (formula_fits S4 P.symbols 0 Q.formula && list_all symbol_fits P.symbols && are_distinct P.symbols && nat_le (length P.symbols) 65536 && nat_le (node_count Q.formula) 4000000) (nat_le (nesting Q.formula) 1100)
     (and_from (formula_fits S4 P.symbols 0 Q.formula && list_all symbol_fits P.symbols && are_distinct P.symbols && nat_le (length P.symbols) 65536) (nat_le (node_count Q.formula) 4000000)
     (and_from (formula_fits S4 P.symbols 0 Q.formula && list_all symbol_fits P.symbols && are_distinct P.symbols) (nat_le (length P.symbols) 65536)
     (and_from (formula_fits S4 P.symbols 0 Q.formula && list_all symbol_fits P.symbols) (are_distinct P.symbols)
-    (and_from (formula_fits S4 P.symbols 0 Q.formula) (list_all symbol_fits P.symbols) fits e.1) d.1) c.1) (le-leb (node_count Q.formula) 4000000 nodes)) (le-leb (nesting Q.formula) 1100 (omega arith))
+    (and_from (formula_fits S4 P.symbols 0 Q.formula) (list_all symbol_fits P.symbols) fits k.symbols) k.distinct) k.few) (le-leb (node_count Q.formula) 4000000 nodes)) (le-leb (nesting Q.formula) 1100 (omega arith))

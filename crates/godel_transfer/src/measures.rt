@@ -1,6 +1,6 @@
 //! How large a formula's translation is, counted on the formula.
 
-ghost use Rattle.std.specs.Prelude.{◌≡◌, ◌+◌, ◌≤◌, ◌<◌, ◌^◌, min, IfSome, IsNone, Some};
+ghost use Rattle.std.specs.Prelude.{◌≡◌, ◌↔◌, ◌+◌, ◌≤◌, ◌<◌, ◌^◌, min, Some};
 ghost use Rattle.calculus.specs.Measures.{nesting, node_count};
 ghost use Rattle.calculus.specs.Translation.{translation_of};
 ghost use Rattle.formula_core.specs.FormulaView.{the_formula};
@@ -54,14 +54,12 @@ fn translation_nodes(f: &Formula) -> u64
 
 /// Why a formula's translation is too large.
 pub fn refusal(f: &Formula) -> Option<TransferFault>
-    ensures deep { result ≡ Some fault.NestingTooDeep
-        → 1000 < nesting (translation_of (the_formula f.now)) }
-    ensures large { result ≡ Some fault.FormulaTooLarge
-        → (nesting (translation_of (the_formula f.now)) ≤ 1000)
-        × (4000000 < node_count (translation_of (the_formula f.now))) }
+    ensures deep { (result ≡ Some fault.NestingTooDeep)
+        ↔ (1000 < nesting (translation_of (the_formula f.now))) }
+    ensures large { (result ≡ Some fault.FormulaTooLarge)
+        ↔ ((nesting (translation_of (the_formula f.now)) ≤ 1000)
+        × (4000000 < node_count (translation_of (the_formula f.now)))) }
     ensures memory { ¬ (result ≡ Some fault.NoMemory) }
-    ensures none { IsNone result → (nesting (translation_of (the_formula f.now)) ≤ 1000)
-        × (node_count (translation_of (the_formula f.now)) ≤ 4000000) }
 {
     if boxed_nesting(f) > MOST_NESTING {
         return Some(TransferFault::NestingTooDeep);

@@ -1,12 +1,13 @@
 //! The transfer of a derivation.
 
-ghost use Rattle.std.specs.Prelude.{◌≡◌, ◌<◌, ◌≤◌, ◌++◌, [], false, true, get_or, length, Err};
-ghost use Rattle.std.specs.Prelude.{IfOk, OnOk, IsTrue};
+ghost use Rattle.std.specs.Prelude.{◌≡◌, ◌↔◌, ◌<◌, ◌≤◌, ◌++◌, ◌∷◌, [], List, false, true, get_or, length};
+ghost use Rattle.std.specs.Prelude.{suc, Err, IfOk, OnOk, IsTrue};
 ghost use Rattle.calculus.specs.declared.setting.Logic.TheVariants.{Intuitionistic};
 ghost use Rattle.calculus.specs.Calculus.{Derives, is_atom};
 ghost use Rattle.calculus.specs.Derivations as derivation;
 ghost use Rattle.calculus.specs.DerivationText.{is_printable};
 ghost use Rattle.calculus.specs.Measures.{nesting, node_count};
+ghost use Rattle.calculus.specs.Problems.{is_problem};
 ghost use Rattle.calculus.specs.Translation.{translated_problem, translation_of};
 ghost use Rattle.godel_transfer.specs.declared.fault.TransferFault.TheVariants as fault;
 ghost use Rattle.formula_core.specs.FormulaView.{the_formula};
@@ -14,7 +15,8 @@ ghost use Rattle.godel_transfer.specs.BranchView.{IsKept, branches_of, the_branc
 ghost use Rattle.godel_transfer.specs.BranchView.{waiting_in};
 ghost use Rattle.godel_transfer.specs.OutView.{IsSameButLists};
 ghost use Rattle.godel_transfer.specs.Sketch.{grown, label_then, names_sketched};
-ghost use Rattle.godel_transfer.specs.Sketch.{names_sketched_for, sketched, sketched_for};
+ghost use Rattle.godel_transfer.specs.Sketch.{names_sketched_for, names_sketched_from, sketched};
+ghost use Rattle.godel_transfer.specs.Sketch.{sketched_for, sketched_from};
 ghost use Rattle.godel_transfer.specs.Sketch.{sketches_by, sketches_for};
 ghost use Rattle.godel_transfer.specs.Transfer.{name_at, names_with, use_steps};
 ghost use Rattle.sequent_calc.specs.DerivationView.{the_derivation};
@@ -93,14 +95,8 @@ fn take_compound<'a>(
         used.label,
         modal,
     )?;
-    put_name(
-        alloc,
-        &branches.labels,
-        &mut out.names.eigens,
-        number,
-        label,
-        term,
-    )?;
+    let eigens = &mut out.names.eigens;
+    put_name(alloc, &branches.labels, eigens, number, label, term)?;
     grow(branches, number, used, label, modal, term)
 }
 
@@ -197,6 +193,32 @@ fn started(alloc: Global, limit: u8) -> Result<Derivation, NoMemory>
     Ok(out)
 }
 
+// Takes the next step, where a branch is open; `rest` are those behind it.
+fn take_next<'a>(
+    alloc: Global,
+    branches: &mut Branches<'a>,
+    out: &mut Derivation,
+    number: u32,
+    step: &Step,
+) -> Result<(), NoMemory>
+    requires kept { IsKept branches.old }
+    ensures steps { (rest : List derivation.Step) → OnOk result (out.new.steps
+        ++ sketched_from (branches_of branches.new) (suc number) rest ≡ out.old.steps
+        ++ sketched_from (branches_of branches.old) number (the_step step.now ∷ rest)) }
+    ensures names { (rest : List derivation.Step) → OnOk result (out.new.names.eigens
+        ++ names_sketched_from (branches_of branches.new) (suc number) rest
+        ≡ out.old.names.eigens
+        ++ names_sketched_from (branches_of branches.old) number (the_step step.now ∷ rest)) }
+    ensures others { OnOk result (IsSameButLists out.old out.new) }
+    ensures kept { OnOk result (IsKept branches.new) }
+{
+    if !branches.is_open {
+        return Ok(());
+    }
+    take_step(alloc, branches, out, number, step)?;
+    Ok(())
+}
+
 fn transferred(alloc: Global, problem: &Problem, d: &Derivation) -> Result<Derivation, NoMemory>
     ensures { IfOk result (λ r. the_derivation r ≡ sketched problem.now (the_derivation d.now)) }
 {
@@ -205,14 +227,35 @@ fn transferred(alloc: Global, problem: &Problem, d: &Derivation) -> Result<Deriv
     let mut number = 0;
     for step in d.steps.items() {
         number = next(number)?;
-        if branches.is_open {
-            take_step(alloc, &mut branches, &mut out, number, step)?;
-        }
+        take_next(alloc, &mut branches, &mut out, number, step)?;
     }
     Ok(out)
 }
 
-/// The derivation of the translated problem that a derivation of the problem becomes.
+// The same where numbers of 32 bits are enough.
+fn transferred_within(
+    alloc: Global,
+    problem: &Problem,
+    d: &Derivation,
+) -> Result<Derivation, NoMemory>
+    requires well { IsTrue (is_problem problem.now) }
+    requires intuitionistic { problem.now.setting.logic ≡ Intuitionistic }
+    requires printable { IsTrue (is_printable problem.now (the_derivation d.now)) }
+    requires derives { Derives problem.now (the_derivation d.now) }
+    ensures derives { IfOk result (λ r. Derives (translated_problem problem.now) (the_derivation r)) }
+    ensures printable { IfOk result (λ r.
+        IsTrue (is_printable (translated_problem problem.now) (the_derivation r))) }
+    ensures limit { IfOk result (λ r. r.limit ≡ d.now.limit) }
+{
+    if d.steps.items().len() >= TOO_MANY {
+        return Err(NoMemory);
+    }
+    let out = transferred(alloc, problem, d)?;
+    Ok(out)
+}
+
+/// The derivation of the translated problem that a derivation of the problem becomes. It is refused
+/// before anything is built.
 pub fn transfer(
     alloc: Global,
     problem: &Problem,
@@ -225,20 +268,17 @@ pub fn transfer(
     ensures printable { IfOk result (λ r.
         IsTrue (is_printable (translated_problem problem.now) (the_derivation r))) }
     ensures limit { IfOk result (λ r. r.limit ≡ d.now.limit) }
-    ensures fits { OnOk result ((nesting (translation_of problem.now.formula) ≤ 1000)
-        × (node_count (translation_of problem.now.formula) ≤ 4000000)) }
-    ensures deep { result ≡ Err fault.NestingTooDeep
-        → 1000 < nesting (translation_of problem.now.formula) }
-    ensures large { result ≡ Err fault.FormulaTooLarge
-        → (nesting (translation_of problem.now.formula) ≤ 1000)
-        × (4000000 < node_count (translation_of problem.now.formula)) }
+    ensures deep { (result ≡ Err fault.NestingTooDeep)
+        ↔ (1000 < nesting (translation_of problem.now.formula)) }
+    ensures large { (result ≡ Err fault.FormulaTooLarge)
+        ↔ ((nesting (translation_of problem.now.formula) ≤ 1000)
+        × (4000000 < node_count (translation_of problem.now.formula))) }
 {
-    if let Some(fault) = refusal(problem.formula()) {
-        return Err(fault);
+    match refusal(problem.formula()) {
+        Some(fault) => Err(fault),
+        None => {
+            let out = transferred_within(alloc, problem, d)?;
+            Ok(out)
+        }
     }
-    if d.steps.items().len() >= TOO_MANY {
-        return Err(TransferFault::NoMemory);
-    }
-    let out = transferred(alloc, problem, d)?;
-    Ok(out)
 }

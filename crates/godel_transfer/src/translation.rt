@@ -1,6 +1,6 @@
 //! Goedel's translation of problems.
 
-ghost use Rattle.std.specs.Prelude.{◌≡◌, ◌<◌, ◌≤◌, Err, IfOk, OnOk, map};
+ghost use Rattle.std.specs.Prelude.{◌≡◌, ◌↔◌, ◌<◌, ◌≤◌, ◌++◌, ◌∷◌, [], Contains, Err, IfOk, OnOk, length};
 ghost use Rattle.calculus.specs.declared.setting.Logic.TheVariants.{Intuitionistic};
 ghost use Rattle.calculus.specs.Measures.{nesting, node_count};
 ghost use Rattle.calculus.specs.Translation.{translated_problem, translation_of};
@@ -59,40 +59,60 @@ fn copy_symbol(alloc: Global, s: &Symbol) -> Result<Symbol, NoMemory>
     })
 }
 
+// Adds a copy of a symbol that is not there yet.
+fn add_copy(alloc: Global, copied: &mut Symbols, s: &Symbol) -> Result<(), NoMemory>
+    requires new { ¬ (Contains copied.old (the_symbol s.now)) }
+    requires room { length copied.old < 65536 }
+    ensures { OnOk result (copied.new ≡ copied.old ++ the_symbol s.now ∷ []) }
+{
+    let symbol = copy_symbol(alloc, s)?;
+    match copied.add(symbol) {
+        Ok(_) => Ok(()),
+        Err(AddFault::Full) => unreachable!(),
+        Err(AddFault::NoMemory) => Err(NoMemory),
+    }
+}
+
 fn copy_symbols(alloc: Global, symbols: &Symbols) -> Result<Symbols, NoMemory>
     ensures { IfOk result (λ c. c ≡ symbols.now) }
 {
-    let _count = symbols.len(); // tells that they are distinct
+    let _count = symbols.len(); // tells that they are distinct, and at most 65,536
     let mut copied = Symbols::new(alloc);
     for s in symbols.items() {
-        let symbol = copy_symbol(alloc, s)?;
-        match copied.add(symbol) {
-            Ok(_) => {}
-            Err(AddFault::Full | AddFault::NoMemory) => return Err(NoMemory),
-        }
+        add_copy(alloc, &mut copied, s)?;
     }
     Ok(copied)
 }
 
+// The translated problem, where its formula passes no limit.
+fn translated(alloc: Global, problem: &Problem) -> Result<Problem, NoMemory>
+    requires intuitionistic { problem.now.setting.logic ≡ Intuitionistic }
+    requires nests { nesting (translation_of problem.now.formula) ≤ 1000 }
+    requires nodes { node_count (translation_of problem.now.formula) ≤ 4000000 }
+    ensures { IfOk result (λ p. p ≡ translated_problem problem.now) }
+{
+    let translation = translation_of(alloc, problem.formula())?;
+    let symbols = copy_symbols(alloc, problem.symbols())?;
+    let setting = Setting::new(Logic::S4, Domains::Cumulative);
+    Ok(Problem::new(setting, translation, symbols))
+}
+
 /// The problem of S4 with cumulative domains whose formula is the translation of the problem's
-/// formula, over the same symbols.
+/// formula, over the same symbols. It is refused before anything is built.
 pub fn translate(alloc: Global, problem: &Problem) -> Result<Problem, TransferFault>
     requires intuitionistic { problem.now.setting.logic ≡ Intuitionistic }
     ensures translated { IfOk result (λ p. p ≡ translated_problem problem.now) }
-    ensures fits { OnOk result ((nesting (translation_of problem.now.formula) ≤ 1000)
-        × (node_count (translation_of problem.now.formula) ≤ 4000000)) }
-    ensures deep { result ≡ Err fault.NestingTooDeep
-        → 1000 < nesting (translation_of problem.now.formula) }
-    ensures large { result ≡ Err fault.FormulaTooLarge
-        → (nesting (translation_of problem.now.formula) ≤ 1000)
-        × (4000000 < node_count (translation_of problem.now.formula)) }
+    ensures deep { (result ≡ Err fault.NestingTooDeep)
+        ↔ (1000 < nesting (translation_of problem.now.formula)) }
+    ensures large { (result ≡ Err fault.FormulaTooLarge)
+        ↔ ((nesting (translation_of problem.now.formula) ≤ 1000)
+        × (4000000 < node_count (translation_of problem.now.formula))) }
 {
-    let formula = problem.formula();
-    if let Some(fault) = refusal(formula) {
-        return Err(fault);
+    match refusal(problem.formula()) {
+        Some(fault) => Err(fault),
+        None => {
+            let problem = translated(alloc, problem)?;
+            Ok(problem)
+        }
     }
-    let symbols = copy_symbols(alloc, problem.symbols())?;
-    let translation = translation_of(alloc, formula)?;
-    let setting = Setting::new(Logic::S4, Domains::Cumulative);
-    Ok(Problem::new(setting, translation, symbols))
 }
