@@ -7,5 +7,6 @@ refused {A} {P} o r g f at is told = (λ e. told.0 (is ∙ ap Some (same e)), λ
   where
     same : r ≡ Err f → g ≡ f
     same e = cc
+
     inner : Some g ≡ Some f → g ≡ f
     inner e = cc
