@@ -1,15 +1,17 @@
 #!/usr/bin/env python3
-"""tools/usage.py [--check] [--program=FILE]
+"""tools/usage.py [--check] [--program=FILE | --sources]
 
 Writes what tells of the program's words, all of it from tools/commands.tsv: the usage that tools/leancop-explain shows, the man
 page and the completion of bash (tools/generated/). The program is asked which commands, options and values of the table it knows,
 so what it does not know is left out. --check writes nothing, and ends with 1 where the files are not those of this program, where
-it refuses a value of the table or takes a number next to its bounds, or where its sources have an option that the table lacks."""
+it refuses a value of the table or takes a number next to its bounds, or where its sources have a command or an option that the table
+lacks. --sources asks the table of crates/command_line in place of the program, where that is not built yet."""
 import glob, os, re, subprocess, sys
 
 HERE = os.path.dirname(os.path.abspath(__file__))
 GENERATED = os.path.join(HERE, "generated")
 PROGRAM = os.path.join(HERE, "../crates/leancop/out/leancop")
+SOURCE = os.path.join(HERE, "../crates/command_line/src/table.rt")
 
 
 def read_table():
@@ -20,6 +22,7 @@ def read_table():
 
 class Asked:
     """The program, which tells by its first bad word what it knows. A word that is no operand is looked at before any is missed."""
+    checks_values = True
 
     def __init__(self, program):
         self.program = program
@@ -32,6 +35,35 @@ class Asked:
 
     def knows(self, *words):
         return self.first_bad(*words) > len(words)
+
+
+class Sources:
+    """What the program will know, by its own table. Values are not looked at."""
+    checks_values = False
+
+    def __init__(self):
+        with open(SOURCE, encoding="utf-8") as source:
+            text = source.read()
+        self.commands = dict(re.findall(r'"([a-z]+)" => Some\(CommandName::(\w+)\)', text))
+        fronts = {name: front for name, front in re.findall(r'OptionName::(\w+) => "(--[a-z]+=)"', text)}
+        self.built = self.arms(text, "is_built", "CommandName", r"true")
+        offered = self.arms(text, "is_offered", "OptionName", r"true")
+        self.options = {name: {fronts[o] for o in re.findall(r"OptionName::(\w+)", body) if o in offered}
+                        for name, body in self.arms(text, "options_of", "CommandName", r"(?:\{\s*)?&\[[^]]*\]").items()}
+        if not (self.commands and self.built and fronts and offered and self.options):
+            sys.exit("usage.py: crates/command_line/src/table.rt has another shape than this script reads")
+
+    @staticmethod
+    def arms(text, function, kind, right):
+        """The arms of a match: each name on the left, with what stands on the right."""
+        body = re.search(r"\nfn %s|\npub fn %s" % (function, function), text)
+        body = text[body.end():text.index("\n}\n", body.end())] if body else ""
+        found = re.findall(r"((?:%s::\w+[\s|]*)+)=> (%s)" % (kind, right), body)
+        return {name: told for names, told in found for name in re.findall(kind + r"::(\w+)", names)}
+
+    def knows(self, command, option=None):
+        name = self.commands.get(command)
+        return name in self.built and (option is None or option[:option.index("=") + 1] in self.options[name])
 
 
 def values_of(option):
@@ -56,7 +88,7 @@ def known(asked, faults):
         faults += ["%s has %s, and the table says other" % (c, option[0]) for c in has if c not in option[2].split()]
         for command in has:
             faults += ["%s refuses %s%s" % (command, option[0], v) for v in good if not asked.knows(command, option[0] + v)]
-            faults += ["%s takes %s%s" % (command, option[0], v) for v in bad if asked.knows(command, option[0] + v)]
+            faults += ["%s takes %s%s" % (command, option[0], v) for v in bad if asked.checks_values and asked.knows(command, option[0] + v)]
         if has:
             kept.append(option[:2] + [has] + option[3:])
     names = [c[0] for c in commands]
@@ -137,20 +169,21 @@ def completion(commands, options):
 
 
 def lacking():
-    """Options that the program's sources name and the table does not."""
+    """Commands and options that the program's sources name and the table does not."""
     named = set()
     for file in glob.glob(os.path.join(HERE, "../crates/*/src/*.rt")):
         with open(file, encoding="utf-8") as source:
-            named |= set(re.findall(r'"(--[a-z]+=)"', source.read()))
-    return sorted(named - {o[0] for o in read_table()[1]})
+            named |= set(re.findall(r'"(--[a-z]+=)"|"([a-z]+)" => Some\(CommandName::', source.read()))
+    commands, options, _ = read_table()
+    return sorted({a or b for a, b in named} - {row[0] for row in commands + options})
 
 
 def main(words):
     options = dict((w + "=").split("=")[:2] for w in words)
-    if set(options) - {"--check", "--program"}:
+    if set(options) - {"--check", "--program", "--sources"}:
         sys.exit(__doc__)
     faults = ["the sources have %s, and the table does not" % o for o in lacking()]
-    table = known(Asked(options.get("--program") or PROGRAM), faults)
+    table = known(Sources() if "--sources" in options else Asked(options.get("--program") or PROGRAM), faults)
     files = {"usage.txt": usage(*table[:2]), "leancop.1": man(*table), "leancop.bash-completion": completion(*table[:2])}
     os.makedirs(GENERATED, exist_ok=True)
     for name, text in files.items():
