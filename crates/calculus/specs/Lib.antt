@@ -39,14 +39,16 @@ pub mod Tableaux
 pub mod Choices
 pub mod Counting
 pub mod Space
--- ---- words between crates, of which the clauses of the program say nothing
-
--- the children of a step
-pub mod StepFacts
 -- the search that does not return to solved goals
 pub mod Cut
 -- the way from intuitionistic logic into S4
 pub mod Translation
+-- the generated problems
+pub mod Families
+-- ---- words between crates, of which the clauses of the program say nothing
+
+-- the children of a step
+pub mod StepFacts
 -- the lists inside trees as lists, and what models of program types need
 pub mod Lists
 pub mod Sizes
@@ -56,8 +58,7 @@ pub mod Codes
 -- the two versions of a derivation's text, and the judgement over both
 pub mod Versions
 pub mod VersionJudgement
--- the texts of structures and of tableaux, and the generated problems
+-- the texts of structures and of tableaux
 pub mod StructureText
 pub mod StructureTruth
 pub mod TableauText
-pub mod Families
