@@ -12,7 +12,7 @@ in_classical : ProblemFile
 in_classical = record { name = codes "m.p"; root = []; setting = setting_of Classical Constant }
 
 usual : Bounds
-usual = record { limit = 100; steps = 10000000 }
+usual = record { limit = 100; steps = 10000000; cut = None }
 
 no_words : command_of [] ≡ bad 1
 no_words = refl
@@ -53,13 +53,32 @@ limit_of_check : command_of (codes "check" ∷ codes "m.p" ∷ codes "d.txt" ∷
 unfolding digits
 limit_of_check = refl
 
--- what is not built is a bad word
+-- ---- the search that does not return to solved goals
+
+cut_first : command_of (codes "prove" ∷ codes "m.p" ∷ codes "--cut=5" ∷ []) ≡ prove in_classical (record { limit = 100; steps = 10000000; cut = Some 5 })
+unfolding in_classical digits
+cut_first = refl
+
+cut_zero : command_of (codes "prove" ∷ codes "m.p" ∷ codes "--cut=0" ∷ []) ≡ bad 3
+unfolding digits
+cut_zero = refl
+
+cut_of_check : command_of (codes "check" ∷ codes "m.p" ∷ codes "d.txt" ∷ codes "--cut=1" ∷ []) ≡ bad 4
+unfolding digits
+cut_of_check = refl
+
+cut_twice : command_of (codes "prove" ∷ codes "m.p" ∷ codes "--cut=5" ∷ codes "--cut=5" ∷ []) ≡ bad 4
+unfolding digits
+cut_twice = refl
+
+-- ---- what is not built is a bad word
+
 not_built : command_of (codes "tcheck" ∷ codes "m.p" ∷ codes "t.txt" ∷ []) ≡ bad 1
 not_built = refl
 
-no_cut : command_of (codes "prove" ∷ codes "m.p" ∷ codes "--cut=1" ∷ []) ≡ bad 3
+no_format : command_of (codes "prove" ∷ codes "m.p" ∷ codes "--format=1" ∷ []) ≡ bad 3
 unfolding digits
-no_cut = refl
+no_format = refl
 
 -- ---- words of commands that are not built
 

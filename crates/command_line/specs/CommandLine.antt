@@ -30,10 +30,12 @@ pub record ProblemFile : Type 0 where
   pub root : Word
   pub setting : Setting
 
--- how far a search goes: the greatest path limit, and the budget of steps
+-- how far a search goes: the greatest path limit, the budget of steps and, where a search that does
+-- not return to solved goals is to come first, the greatest limit of that one
 pub record Bounds : Type 0 where
   pub limit : ℕ
   pub steps : ℕ
+  pub cut : Option ℕ
 
 -- places are counted from 1. What is read beside a problem is the name of a file
 pub data Command : Type 0 where
@@ -149,6 +151,7 @@ abbrev pub bounds_in : List Word → Bounds
 bounds_in ws = record {
   limit = on (number_of MAX_PATH_LIMIT (value_in option.Limit ws)) (λ n. n) USUAL_LIMIT;
   steps = on (number_of MAX_STEPS (value_in option.Steps ws)) (λ n. n) USUAL_STEPS;
+  cut = number_of MAX_PATH_LIMIT (value_in option.Cut ws);
 }
 
 -- what good words ask for

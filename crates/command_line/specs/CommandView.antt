@@ -1,4 +1,5 @@
 -- The values of the definitions that those of the program stand for.
+use Rattle.std.specs.Option.{option_map}
 use Rattle.logic_rules.specs.SettingView.{the_setting}
 use Rattle.command_line.specs.CommandLine as words
 use Rattle.command_line.specs.declared.bounds.Bounds.{Bounds}
@@ -11,7 +12,11 @@ the_problem_file p =
     record { name = p.name.now; root = p.root.now; setting = the_setting p.setting }
 
 abbrev pub the_bounds : Bounds → words.Bounds
-the_bounds b = record { limit = b.limit.number; steps = b.steps }
+the_bounds b = record {
+  limit = b.limit.number;
+  steps = b.steps;
+  cut = option_map (λ l. l.number) b.cut;
+}
 
 abbrev pub the_command : Command → words.Command
 the_command (Prove problem bounds) = words.prove (the_problem_file problem) (the_bounds bounds)

@@ -73,7 +73,6 @@ front_of As = codes "--as="
 
 -- the word of an option that is not built is a bad one
 abbrev pub is_offered : OptionName → Bool
-is_offered Cut = false
 is_offered Format = false
 is_offered As = false
 is_offered _ = true

@@ -14,8 +14,10 @@ ghost use Rattle.command_line.specs.CommandLine.{
   problem_in,
   request,
   tower_place,
+  value_in,
 };
 ghost use Rattle.command_line.specs.CommandView.{the_bounds, the_command, the_problem_file};
+ghost use Rattle.command_line.specs.Values.{number_of};
 
 use crate::bounds::Bounds;
 use crate::given::{given, operand, operand_in, value_in};
@@ -133,24 +135,34 @@ fn problem_in(words: &[String]) -> ProblemFile<'_>
     }
 }
 
+// The path limit that an option gives.
+fn limit_in(option: OptionName, words: &[String]) -> Option<PathLimit>
+    ensures { option_map (λ l. l.number) result
+        ≡ number_of MAX_PATH_LIMIT (value_in option (map string_bytes words.now)) }
+{
+    match number_of(u64::from(MAX_PATH_LIMIT), value_in(option, words)) {
+        Some(number) => Some(PathLimit {
+            number: number as u8,
+        }),
+        None => None,
+    }
+}
+
 fn bounds_in(words: &[String]) -> Bounds
     ensures { the_bounds result ≡ bounds_in (map string_bytes words.now) }
 {
-    let number = match number_of(
-        u64::from(MAX_PATH_LIMIT),
-        value_in(OptionName::Limit, words),
-    ) {
-        Some(number) => number as u8,
-        None => USUAL_LIMIT,
+    let limit = match limit_in(OptionName::Limit, words) {
+        Some(limit) => limit,
+        None => PathLimit {
+            number: USUAL_LIMIT,
+        },
     };
     let steps = match number_of(MAX_STEPS, value_in(OptionName::Steps, words)) {
         Some(steps) => steps,
         None => USUAL_STEPS,
     };
-    Bounds {
-        limit: PathLimit { number },
-        steps,
-    }
+    let cut = limit_in(OptionName::Cut, words);
+    Bounds { limit, steps, cut }
 }
 
 fn request(command: CommandName, words: &[String]) -> Command<'_>

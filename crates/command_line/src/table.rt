@@ -167,7 +167,8 @@ pub fn is_offered(option: OptionName) -> bool
         | OptionName::Logic
         | OptionName::Domains
         | OptionName::Limit
-        | OptionName::Steps => true,
-        OptionName::Cut | OptionName::Format | OptionName::As => false,
+        | OptionName::Steps
+        | OptionName::Cut => true,
+        OptionName::Format | OptionName::As => false,
     }
 }

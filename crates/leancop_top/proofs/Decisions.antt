@@ -1,4 +1,4 @@
--- What the files hold is decided, where no stream fails and memory does not end.
+-- What the files hold is decided, where no file fails, the sink does not fail and memory does not end.
 use Rattle.std.proofs.Common.{◌≡◌, List, ℕ, Option, None, Some, Result, Ok, Err, refl, subst, sym}
 use Rattle.std.specs.Prelude.{IfSome}
 use Rattle.calculus.specs.Syntax.{Problem}
@@ -7,13 +7,14 @@ use Rattle.command_line.specs.CommandLine.{Bounds, Command, ProblemFile, prove, 
 use Rattle.command_line.specs.Table.{Word}
 use Rattle.problem_build.specs.Refusals.{Refusal}
 use Rattle.leancop_top.proofs.Budgets.{not_steps_ended}
+use Rattle.leancop_top.proofs.Cuts.{prove-by_cut}
 use Rattle.leancop_top.specs.Commands.Check.{CheckEnds, IsJudged, accepted, rejected, not_fetched}
 use Rattle.leancop_top.specs.Commands.Prove.{IsDecided, ProveEnds, derived, fruitless}
 use Rattle.leancop_top.specs.Reading.{EndsOn, IsRead, Reading, ReadingEnds, refused, unread, with_problem, without_problem}
 use Rattle.leancop_top.specs.Run.{Decides, Ends}
 use Rattle.leancop_top.specs.SecondFile.{FetchEnds, Lacks}
 use Rattle.leancop_top.specs.SecondFile as second
-use Rattle.leancop_top.specs.Statuses.{IsCounted}
+use Rattle.leancop_top.specs.Statuses.{IsCounted, OnAnswer}
 use Rattle.leancop_top.specs.TableauSearch.{SearchEnds, Suffices, exhausted, no_tableau, steps_ended, too_large}
 use Rattle.leancop_top.specs.declared.status.Status.{Status}
 use Rattle.leancop_top.specs.declared.status.Status.TheVariants as status
@@ -78,14 +79,16 @@ check-decided told files P d text m n f g t held quiet _ _ (not_fetched s h) cou
 -- ---- the commands
 
 pub decided : (told : Option Files) (command : Command) (s : Status) (bytes : List ℕ) (m n f g : ℕ) → Ends told command s bytes → IsCounted m n f g s → ¬ Rose f g → Decides told command s
-decided told (prove p b) s bytes m n f g ends counted quiet = λ h.
-    prove-decided h.problem b h.suffices s bytes (for-problem told h.files p h.problem (λ P. ProveEnds P b) m n f g h.tells h.read quiet s bytes ends counted)
+decided told (prove p b) s bytes m n f g ends counted quiet = (
+  λ h. prove-decided h.problem b h.suffices s bytes (for-problem told h.files p h.problem (λ P. ProveEnds P b) m n f g h.tells h.read quiet s bytes ends counted),
+  λ d h. prove-by_cut h.problem b d h.suffices s bytes (for-problem told h.files p h.problem (λ P. ProveEnds P b) m n f g h.tells h.read quiet s bytes ends counted),
+)
 decided told (check p d) s bytes m n f g ends counted quiet = λ h.
     check-decided told h.files h.problem d h.bytes m n f g h.tells h.given quiet s bytes (for-problem told h.files p h.problem (λ P. CheckEnds told P d) m n f g h.tells h.read quiet s bytes ends counted) counted
 decided told (bad place) s bytes m n f g ends counted quiet = tt
 
--- for want of memory nothing is decided
-pub decided-memory : (told : Option Files) (command : Command) → Decides told command status.NoMemory
-decided-memory told (prove p b) = λ h. tt
-decided-memory told (check p d) = λ h. tt
-decided-memory told (bad place) = tt
+-- so it is where anything is answered
+pub on-answer : (fact : Type 0) (s : Status) → fact → OnAnswer s fact
+on-answer fact status.WriteFault h = tt
+on-answer fact status.NoMemory h = tt
+on-answer fact s h = h

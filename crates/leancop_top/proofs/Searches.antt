@@ -14,15 +14,15 @@ use Rattle.calculus.specs.Tableaux.{Tableau}
 use Rattle.tableau_core.specs.TableauView.{the_tableau}
 use Rattle.leancop_top.proofs.LimitLaws.{none_below, none_within}
 use Rattle.command_line.specs.CommandLine.{Bounds}
-use Rattle.leancop_top.specs.TableauSearch.{IsFound, IsOnlyAnswer, SearchEnds, exhausted, no_tableau, steps_ended}
+use Rattle.leancop_top.specs.TableauSearch.{IsCutMissed, IsFound, IsLimit, IsOnlyAnswer, SearchEnds, cut, least, exhausted, no_tableau, steps_ended}
 use Rattle.leancop_top.specs.declared.status.Status.TheVariants as status
 
 only : (P : Problem) (b : Bounds) (a : Answer) → IsAnswer P b.limit a → IsOnlyAnswer P b a
 only P b a h = record { answers = h; unique = λ other g. answer-unique P b.limit other a g h }
 
-pub found : (P : Problem) (b : Bounds) (n d : ℕ) (t : _) → FitsMatrix P → IsDeepAnswer P b.limit n (deep.Closed d t) → IsFound P b d (the_tableau t)
-found P b n d t fits h = record {
-  is_least = record { fits = fits; answer = only P b _ h.0; least = none_below P d h.0.3 };
+pub found : (P : Problem) (b : Bounds) (n d : ℕ) (t : _) → FitsMatrix P → IsCutMissed P b → IsDeepAnswer P b.limit n (deep.Closed d t) → IsFound P b d (the_tableau t)
+found P b n d t fits missed h = record {
+  limit_is = least (record { fits = fits; answer = only P b _ h.0; least = none_below P d h.0.3 }) missed;
   closed = h.1;
 }
 
@@ -33,17 +33,24 @@ pub no_tableau-ends : (P : Problem) (b : Bounds) (n d : ℕ) → FitsMatrix P �
 no_tableau-ends P b n d fits h = no_tableau d (record { fits = fits; answer = only P b _ h.0; never = h.1 })
 
 -- nothing was used of the budget before
-pub steps-ends : (P : Problem) (b : Bounds) (n d : ℕ) → FitsMatrix P → n ≡ b.steps → IsDeepAnswer P b.limit n (deep.Steps d) → SearchEnds P b (status.StepsEnded d b.steps)
-steps-ends P b n d fits same h = steps_ended d b.steps (record {
+pub steps-ends : (P : Problem) (b : Bounds) (n d : ℕ) → FitsMatrix P → IsCutMissed P b → n ≡ b.steps → IsDeepAnswer P b.limit n (deep.Steps d) → SearchEnds P b (status.StepsEnded d b.steps)
+steps-ends P b n d fits missed same h = steps_ended d b.steps (record {
   fits = fits;
   budget = refl;
   below = h.0;
   left = h.1.left;
   none = none_within P d h.1.none;
   more = subst (MoreThan member_cmp (ComesNoLater P d)) same h.2;
+  missed = missed;
 })
 
+within-limits : (d m : ℕ) → 1 ≤ d → d ≤ m → m ≤ MAX_PATH_LIMIT → IsTrue (is_limit d)
+within-limits d m from to most =
+    and_from (nat_le 1 d) (nat_le d MAX_PATH_LIMIT) (le-leb 1 d from) (le-leb d MAX_PATH_LIMIT (omega (arith, to, most)))
+
+written-at : (P : Problem) (b : Bounds) (d : ℕ) → b.limit ≤ MAX_PATH_LIMIT → IsLimit P b d → IsTrue (is_limit d)
+written-at P b d most (least h missed) = within-limits d b.limit h.answer.answers.0 h.answer.answers.1 most
+written-at P b d most (cut fits h) = within-limits d b.limit h.from_one h.within most
+
 pub limit-written : (P : Problem) (b : Bounds) (d : ℕ) (t : Tableau) → b.limit ≤ MAX_PATH_LIMIT → IsFound P b d t → IsTrue (is_limit d)
-limit-written P b d t most f =
-    let h = f.is_least.answer.answers in
-    and_from (nat_le 1 d) (nat_le d MAX_PATH_LIMIT) (le-leb 1 d h.0) (le-leb d MAX_PATH_LIMIT (omega (arith, h.1, most)))
+limit-written P b d t most f = written-at P b d most f.limit_is

@@ -3,7 +3,8 @@ use Rattle.std.specs.Prelude.{◌≡◌, ⊤, ℕ, List, take, Option}
 use Rattle.cop_base.specs.Outside.{Files, with_bytes}
 use Rattle.command_line.specs.CommandLine.{Command, prove, check, bad}
 use Rattle.leancop_top.specs.Commands.Check.{CheckEnds, IsCheckable, IsJudged}
-use Rattle.leancop_top.specs.Commands.Prove.{IsDecided, IsProvable, ProveEnds}
+use Rattle.leancop_top.specs.Commands.Prove.{IsDecided, IsDerivedAt, IsProvable}
+use Rattle.leancop_top.specs.Commands.Prove.{IsProvableByCut, ProveEnds}
 use Rattle.leancop_top.specs.Reading.{EndsOn}
 use Rattle.leancop_top.specs.Statuses.{IsCounted, status_line}
 use Rattle.leancop_top.specs.declared.status.Status.{Status}
@@ -34,8 +35,10 @@ pub record IsCutOff (told : Option Files) (command : Command)
   pub length : ℕ
   pub written : after ≡ with_bytes before (take length bytes)
 
--- what is decided where the files hold what the words ask for, and no stream fails
+-- what is decided where the files hold what the words ask for
 abbrev pub Decides : Option Files → Command → Status → Type 0
-Decides told (prove p b) status = IsProvable told p b → IsDecided status
+Decides told (prove p b) status =
+    (IsProvable told p b → IsDecided status)
+    × ((limit : ℕ) → IsProvableByCut told p b limit → IsDerivedAt limit status)
 Decides told (check p derivation) status = IsCheckable told p derivation → IsJudged status
 Decides told (bad place) status = ⊤

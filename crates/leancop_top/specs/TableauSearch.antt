@@ -1,9 +1,10 @@
 -- How a search for a closed tableau ends.
-use Rattle.std.specs.Prelude.{◌≡◌, ◌<◌, ◌≤◌, ℕ, IsTrue}
+use Rattle.std.specs.Prelude.{◌≡◌, ◌<◌, ◌≤◌, ℕ, IsTrue, Some}
 use Rattle.calculus.specs.Syntax.{Problem}
 use Rattle.calculus.specs.Tableaux.{HasClosed, Tableau, is_closed}
 use Rattle.calculus.specs.Choices.{IsLeft}
 use Rattle.calculus.specs.Counting.{AtMostMany, MoreThan}
+use Rattle.calculus.specs.Cut.{HasCut}
 use Rattle.calculus.specs.Space.{Answer, IsAnswer, ComesNoLater, IsMember, member_cmp}
 use Rattle.calculus.specs.Space as space
 use Rattle.command_line.specs.CommandLine.{Bounds}
@@ -26,6 +27,27 @@ pub record IsLeast (P : Problem) (b : Bounds) (limit : ℕ) : Type 0 where
   pub answer : IsOnlyAnswer P b (space.derived limit)
   pub least : (e : ℕ) → e < limit → ¬ HasClosed P e
 
+-- the search that does not return to solved goals was asked for, and the limit is the least one with
+-- a cut, up to the greatest limit of that search and to that of all
+pub record IsLeastCut (P : Problem) (b : Bounds) (limit : ℕ) : Type 0 where
+  pub greatest : ℕ
+  pub asked : b.cut ≡ Some greatest
+  pub from_one : 1 ≤ limit
+  pub up_to : limit ≤ greatest
+  pub within : limit ≤ b.limit
+  pub has : HasCut P limit
+  pub before : (e : ℕ) → 1 ≤ e → e < limit → ¬ HasCut P e
+
+-- where there is such a limit, the budget ended that search: the space up to it has more members
+abbrev pub IsCutMissed : Problem → Bounds → Type 0
+IsCutMissed P b = (e : ℕ) → IsLeastCut P b e → MoreThan member_cmp (IsMember P e) b.steps
+
+-- why the limit of a tableau is this one; where no search that does not return to solved goals is
+-- asked for, there is no limit of the second kind
+pub data IsLimit (P : Problem) (b : Bounds) (limit : ℕ) : Type 0 where
+  least : IsLeast P b limit → IsCutMissed P b → IsLimit P b limit
+  cut : FitsMatrix P → IsLeastCut P b limit → IsLimit P b limit
+
 -- no tableau is closed within the greatest limit, and each limit up to it is left
 pub record IsExhausted (P : Problem) (b : Bounds) (limit : ℕ) : Type 0 where
   pub fits : FitsMatrix P
@@ -47,6 +69,7 @@ pub record IsStepsEnded (P : Problem) (b : Bounds) (limit steps : ℕ) : Type 0 
   pub left : (e : ℕ) → 1 ≤ e → e ≤ limit → IsLeft P e
   pub none : ¬ HasClosed P limit
   pub more : MoreThan member_cmp (ComesNoLater P limit) steps
+  pub missed : IsCutMissed P b
 
 -- why a search ends without a tableau
 pub data SearchEnds (P : Problem) (b : Bounds) : Status → Type 0 where
@@ -56,9 +79,9 @@ pub data SearchEnds (P : Problem) (b : Bounds) : Status → Type 0 where
       → SearchEnds P b (status.StepsEnded limit steps)
   too_large : ¬ FitsMatrix P → SearchEnds P b status.MatrixTooLarge
 
--- a tableau that is closed within the least limit
+-- a tableau that is closed within the limit, and why the limit is this one
 pub record IsFound (P : Problem) (b : Bounds) (limit : ℕ) (t : Tableau) : Type 0 where
-  pub is_least : IsLeast P b limit
+  pub limit_is : IsLimit P b limit
   pub closed : IsTrue (is_closed P limit t)
 
 -- what a search answers
@@ -81,3 +104,10 @@ pub record Suffices (P : Problem) (b : Bounds) : Type 0 where
   pub answer : Answer
   pub answers : IsAnswer P b.limit answer
   pub enough : AtMostMany member_cmp (IsMember P (limit_of answer)) b.steps
+
+-- the matrix is small enough, and for the search that does not return to solved goals the budget is
+-- at least the number of members of the space up to the least limit with a cut
+pub record SufficesForCut (P : Problem) (b : Bounds) (limit : ℕ) : Type 0 where
+  pub fits : FitsMatrix P
+  pub least : IsLeastCut P b limit
+  pub enough : AtMostMany member_cmp (IsMember P limit) b.steps

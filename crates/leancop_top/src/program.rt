@@ -64,10 +64,9 @@ pub fn run<L: Library, K: Sink>(
     ensures more_faults { L.faults lib.old ≤ L.faults lib.new }
     ensures more_put_faults { K.faults out.old ≤ K.faults out.new }
 
-    // Where no stream fails, what the words ask for is decided, unless memory ends.
+    // Where no file fails, what the words ask for is decided, unless memory ends or the sink fails.
     ensures decided { ¬ Rose (L.faults lib.old) (L.faults lib.new)
-        → ¬ Rose (K.faults out.old) (K.faults out.new)
-        → Decides (L.holds lib.old) (asked words.now.items) result }
+        → OnAnswer result (Decides (L.holds lib.old) (asked words.now.items) result) }
 
     // Laws over the definitions, which hold of them whatever the body does: what has a derivation,
     // or is accepted, is true at the root of each structure of its setting, in any logic, so a

@@ -12,8 +12,8 @@ pub use problem_build::Cause;
 /// How a run ended.
 #[derive(Drop)]
 pub enum Status {
-    /// A derivation was printed, whose tableau is closed within the path limit and within no
-    /// smaller one.
+    /// A derivation was printed, whose tableau is closed within the path limit; within no smaller
+    /// one, but where a search that does not return to solved goals found it.
     Derived {
         limit: u8,
     },

@@ -1,27 +1,59 @@
 //! The search for a closed tableau of a problem.
 
-ghost use Rattle.std.specs.Prelude.{IfOk};
+ghost use Rattle.std.specs.Prelude.{◌≡◌, ◌-◌, IfOk, IfSome, IsTrue, None};
+ghost use Rattle.calculus.specs.Tableaux.{is_closed};
 ghost use Rattle.command_line.specs.CommandView.{the_bounds};
-ghost use Rattle.leancop_top.specs.TableauSearch.{IsSearched};
+ghost use Rattle.leancop_top.specs.TableauSearch.{IsCutMissed, IsLeastCut, IsSearched};
+ghost use Rattle.search_theory.specs.Matrix.{IsTemplateMatrix};
+ghost use Rattle.tableau_core.specs.TableauView.{the_tableau};
 
 use crate::status::Status;
 use command_line::Bounds;
-use connection_search::{Answer, deepen};
+use connection_search::{Answer, CutAnswer, deepen, deepen_cut};
 use cop_base::{Ledger, NoMemory};
 use logic_rules::Problem;
-use matrix_build::{MatrixFault, build_matrix};
+use matrix_build::{Matrix, MatrixFault, build_matrix};
 use std::alloc::Global;
 use tableau_core::Tableau;
 
-/// A tableau and the least path limit within which one is closed, or the status that tells why
-/// there is none.
+/// A tableau and the path limit within which it is closed, or the status that tells why there is
+/// none.
 #[derive(Drop)]
 pub enum Searched {
     Found { limit: u8, tableau: Tableau },
     Fruitless(Status),
 }
 
-/// Builds the matrix and searches the path limits from 1 on. The matrix is given back here.
+// The limit and the tableau that a search finds which does not return to solved goals, where such a
+// search is asked for.
+fn search_cut(
+    alloc: Global,
+    problem: &Problem,
+    matrix: &Matrix,
+    bounds: Bounds,
+    ledger: &mut Ledger,
+) -> Result<Option<(u8, Tableau)>, NoMemory>
+    requires matrix { IsTemplateMatrix problem.now matrix.now }
+    requires budget { ledger.old.budget - ledger.old.used ≡ bounds.steps }
+    ensures least { IfOk result
+        (λ o. IfSome o (λ f. IsLeastCut problem.now (the_bounds bounds) f.0)) }
+    ensures closed { IfOk result
+        (λ o. IfSome o (λ f. IsTrue (is_closed problem.now f.0 (the_tableau f.1)))) }
+    ensures missed { IfOk result (λ o. o ≡ None → IsCutMissed problem.now (the_bounds bounds)) }
+{
+    let Some(cut) = bounds.cut else {
+        return Ok(None);
+    };
+    let greatest = cut.number.min(bounds.limit.number);
+    match deepen_cut(alloc, problem, matrix, greatest, ledger)? {
+        CutAnswer::Closed { limit, tableau } => Ok(Some((limit, tableau))),
+        CutAnswer::Open => Ok(None),
+        CutAnswer::Steps => Ok(None),
+    }
+}
+
+/// Builds the matrix and searches the path limits from 1 on; first without returning to solved goals,
+/// where that is asked for, with a budget of its own. The matrix is given back here.
 pub fn search(alloc: Global, problem: &Problem, bounds: Bounds) -> Result<Searched, NoMemory>
     ensures { IfOk result (λ s. IsSearched problem.now (the_bounds bounds) s) }
 {
@@ -31,6 +63,10 @@ pub fn search(alloc: Global, problem: &Problem, bounds: Bounds) -> Result<Search
         Err(MatrixFault::NoMemory) => return Err(NoMemory),
     };
     let steps = bounds.steps;
+    let mut cut_ledger = Ledger::new(steps);
+    if let Some((limit, tableau)) = search_cut(alloc, problem, &matrix, bounds, &mut cut_ledger)? {
+        return Ok(Searched::Found { limit, tableau });
+    }
     let mut ledger = Ledger::new(steps);
     match deepen(alloc, problem, &matrix, bounds.limit.number, &mut ledger)? {
         Answer::Closed { limit, tableau } => Ok(Searched::Found { limit, tableau }),

@@ -12,7 +12,7 @@ use Rattle.leancop_top.specs.Reading.{Reading}
 use Rattle.leancop_top.specs.SecondFile.{FetchEnds, HasBytes}
 use Rattle.leancop_top.specs.Statuses.{status_line}
 use Rattle.leancop_top.specs.declared.status.Status.{Status}
-use Rattle.leancop_top.specs.declared.status.Status.TheVariants.{Accepted, Rejected, NoMemory}
+use Rattle.leancop_top.specs.declared.status.Status.TheVariants.{Accepted, Rejected}
 
 -- the file's bytes have this judgement as a derivation of the problem, and no other
 pub record IsJudgedIn (told : Option Files) (P : Problem) (derivation : Word) (verdict : Verdict)
@@ -41,9 +41,8 @@ pub record IsCheckable (told : Option Files) (p : ProblemFile) (derivation : Wor
   pub bytes : List ℕ
   pub given : file_in files derivation ≡ Some bytes
 
--- then the derivation is judged, unless memory ends
+-- then the derivation is judged
 abbrev pub IsJudged : Status → Type 0
 IsJudged Accepted = ⊤
 IsJudged (Rejected line fault) = ⊤
-IsJudged NoMemory = ⊤
 IsJudged _ = ⊥

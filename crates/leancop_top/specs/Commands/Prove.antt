@@ -2,18 +2,20 @@
 use Rattle.std.specs.Prelude.{◌≡◌, ⊤, ℕ, List, Option, Some, Ok}
 use Rattle.cop_base.specs.Outside.{Files}
 use Rattle.calculus.specs.Syntax.{Problem}
+use Rattle.calculus.specs.Tableaux.{HasClosed}
 use Rattle.command_line.specs.CommandLine.{Bounds, ProblemFile}
 use Rattle.leancop_top.specs.Derived.{IsDerivation}
 use Rattle.leancop_top.specs.Reading.{Reading}
 use Rattle.leancop_top.specs.Statuses.{status_line}
-use Rattle.leancop_top.specs.TableauSearch.{IsLeast, SearchEnds, Suffices}
+use Rattle.leancop_top.specs.TableauSearch.{IsLimit, SearchEnds, Suffices, SufficesForCut}
 use Rattle.leancop_top.specs.declared.status.Status.{Status}
 use Rattle.leancop_top.specs.declared.status.Status.TheVariants.{Derived, Exhausted, NoTableau}
-use Rattle.leancop_top.specs.declared.status.Status.TheVariants.{NoMemory}
 
--- the bytes are the text of a derivation with the least limit within which some tableau is closed
+-- some tableau is closed within the limit, there is a reason for this limit, and the bytes are the
+-- text of a derivation with it
 pub record IsDerived (P : Problem) (b : Bounds) (limit : ℕ) (bytes : List ℕ) : Type 0 where
-  pub least : IsLeast P b limit
+  pub closed : HasClosed P limit
+  pub limit_is : IsLimit P b limit
   pub written : IsDerivation P limit bytes
 
 -- why it ends with a status for the problem that is read, and what is written
@@ -31,10 +33,23 @@ pub record IsProvable (told : Option Files) (p : ProblemFile) (b : Bounds) : Typ
   pub read : Reading files p (Ok problem)
   pub suffices : Suffices problem b
 
--- then it is decided whether there is a derivation, unless memory ends
+-- then it is decided whether there is a derivation
 abbrev pub IsDecided : Status → Type 0
 IsDecided (Derived limit) = ⊤
 IsDecided (Exhausted limit) = ⊤
 IsDecided (NoTableau limit) = ⊤
-IsDecided NoMemory = ⊤
 IsDecided _ = ⊥
+
+-- the files hold the problem, and the bounds suffice to find its least cut, at this limit
+pub record IsProvableByCut (told : Option Files) (p : ProblemFile) (b : Bounds) (limit : ℕ)
+    : Type 0 where
+  pub files : Files
+  pub tells : told ≡ Some files
+  pub problem : Problem
+  pub read : Reading files p (Ok problem)
+  pub suffices : SufficesForCut problem b limit
+
+-- then a derivation with this limit is found
+abbrev pub IsDerivedAt : ℕ → Status → Type 0
+IsDerivedAt limit (Derived d) = d ≡ limit
+IsDerivedAt limit _ = ⊥

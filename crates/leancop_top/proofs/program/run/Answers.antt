@@ -1,5 +1,5 @@
 use Rattle.std.proofs.Common.{subst}
-use Rattle.leancop_top.proofs.Decisions.{decided}
+use Rattle.leancop_top.proofs.Decisions.{decided, on-answer}
 use Rattle.leancop_top.proofs.Ends.{no_want_of_memory, no_write_fault}
 use Rattle.leancop_top.specs.Run.{Decides}
 use Rattle.command_line.specs.CommandLine.{asked}
@@ -14,7 +14,8 @@ returns-in-Ok-put_all-clause-no_memory g c = λ e.
     absurd (no_want_of_memory (g.L.Library.holds c.args.lib.now) (asked c.as_slice.result.now) c.in-Ok.reply.status c.in-Ok.reply.output.items c.in-Ok.ensures.ends e)
 
 pub returns-in-Ok-put_all-clause-decided : goal.returns-in-Ok-put_all-clause-decided
-returns-in-Ok-put_all-clause-decided g c quiet_library quiet_sink =
+returns-in-Ok-put_all-clause-decided g c quiet =
     let told = g.L.Library.holds c.args.lib.now in
-    subst (λ ws. Decides told (asked ws) c.in-Ok.reply.status) c.as_slice.ensures.value
-    (decided told (asked c.as_slice.result.now) c.in-Ok.reply.status c.in-Ok.reply.output.items _ _ _ _ c.in-Ok.ensures.ends c.in-Ok.ensures.counted quiet_library)
+    on-answer _ c.in-Ok.reply.status
+    (subst (λ ws. Decides told (asked ws) c.in-Ok.reply.status) c.as_slice.ensures.value
+    (decided told (asked c.as_slice.result.now) c.in-Ok.reply.status c.in-Ok.reply.output.items _ _ _ _ c.in-Ok.ensures.ends c.in-Ok.ensures.counted quiet))

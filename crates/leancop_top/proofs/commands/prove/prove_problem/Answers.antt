@@ -3,12 +3,17 @@ use Rattle.command_line.specs.CommandView.{the_bounds}
 use Rattle.leancop_top.proofs.Ends.{line-ends}
 use Rattle.leancop_top.specs.Commands.Prove.{ProveEnds, derived, fruitless}
 use Rattle.leancop_top.specs.TableauSearch.{IsSearched}
+use Rattle.tableau_core.specs.TableauView.{the_tableau}
 use Rattle.leancop_top.proofs.commands.prove.prove_problem.Goals as goal
 
 pub returns-in_ok-output-in-Found : goal.returns-in_ok-output-in-Found
 returns-in_ok-output-in-Found c =
     let found = subst (IsSearched c.args.problem.now (the_bounds c.args.bounds)) c.in-Found.is c.in_ok-limit.ensures in
-    derived c.in-Found.limit c.in_ok-output-in-Found.output.items (record { least = found.is_least; written = c.in_ok-output-in-Found.ensures })
+    derived c.in-Found.limit c.in_ok-output-in-Found.output.items (record {
+      closed = record { tableau = the_tableau c.in-Found.tableau; closed = found.closed };
+      limit_is = found.limit_is;
+      written = c.in_ok-output-in-Found.ensures;
+    })
 
 pub returns-in-Fruitless : goal.returns-in-Fruitless
 returns-in-Fruitless c =
