@@ -4,6 +4,8 @@
 #[cfg(test)]
 mod check_tests;
 #[cfg(test)]
+mod cut_tests;
+#[cfg(test)]
 mod file_tests;
 #[cfg(test)]
 mod prove_tests;
