@@ -1,4 +1,5 @@
 -- what the tests build
+pub mod CutExamples
 pub mod DomainExamples
 pub mod PrefixExamples
 pub mod SearchExamples
