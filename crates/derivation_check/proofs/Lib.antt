@@ -6,3 +6,4 @@ pub mod Keeping
 pub mod Numbers
 pub mod StateLaws
 pub mod StepLaws
+pub mod Accepting

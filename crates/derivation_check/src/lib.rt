@@ -1,6 +1,7 @@
 //! The judgement of derivations by the rules of the calculus alone.
 #![tactic(auto)]
 
+mod acceptance;
 mod allowed;
 mod demands;
 mod fitting;
@@ -14,6 +15,7 @@ mod told_homes;
 mod using;
 mod verdict;
 
+pub use acceptance::{AcceptFault, accept};
 pub use calculus::fault::CheckFault;
 pub use judgement::check;
 pub use verdict::Verdict;
