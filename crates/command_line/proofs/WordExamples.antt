@@ -4,9 +4,9 @@ use Rattle.std.specs.Fmt.{digits}
 use Rattle.calculus.specs.Syntax.{setting_of}
 use Rattle.calculus.specs.declared.setting.Domains.TheVariants.{Constant, Varying}
 use Rattle.calculus.specs.declared.setting.Logic.TheVariants.{Classical, S4}
-use Rattle.command_line.specs.declared.table.CommandName.TheVariants.{Check, Make, Model, Transfer}
+use Rattle.command_line.specs.declared.table.CommandName.TheVariants.{Make, Model, Transfer}
 use Rattle.command_line.specs.Table.{Word}
-use Rattle.command_line.specs.CommandLine.{ProblemFile, Bounds, command_of, first_bad, misfit, prove, check, bad}
+use Rattle.command_line.specs.CommandLine.{ProblemFile, Bounds, command_of, first_bad, misfit, prove, check, check_translated, transfer, bad}
 
 in_classical : ProblemFile
 in_classical = record { name = codes "m.p"; root = []; setting = setting_of Classical Constant }
@@ -71,6 +71,27 @@ cut_twice : command_of (codes "prove" ∷ codes "m.p" ∷ codes "--cut=5" ∷ co
 unfolding digits
 cut_twice = refl
 
+-- ---- translation
+
+-- without `--logic=intuitionistic` nothing is translated
+untranslated : command_of (codes "check" ∷ codes "m.p" ∷ codes "d.txt" ∷ codes "--as=s4" ∷ []) ≡ bad 4
+unfolding digits
+untranslated = refl
+
+-- the domains are told before
+translated_domains : command_of (codes "check" ∷ codes "m.p" ∷ codes "d.txt" ∷ codes "--as=s4" ∷ codes "--domains=varying" ∷ []) ≡ bad 5
+unfolding digits
+translated_domains = refl
+
+translated_check : command_of (codes "check" ∷ codes "--as=s4" ∷ codes "m.p" ∷ codes "d.txt" ∷ codes "--logic=intuitionistic" ∷ [])
+    ≡ check_translated (record { name = codes "m.p"; root = [] }) (codes "d.txt")
+unfolding digits
+translated_check = refl
+
+plain_transfer : command_of (codes "transfer" ∷ codes "m.p" ∷ codes "--root=r" ∷ codes "d.txt" ∷ [])
+    ≡ transfer (record { name = codes "m.p"; root = codes "r" }) (codes "d.txt")
+plain_transfer = refl
+
 -- ---- what is not built is a bad word
 
 not_built : command_of (codes "tcheck" ∷ codes "m.p" ∷ codes "t.txt" ∷ []) ≡ bad 1
@@ -112,14 +133,6 @@ classical_tower = refl
 modal_tower : misfit Make (codes "--logic=s4" ∷ codes "tower" ∷ codes "3" ∷ []) ≡ None
 unfolding digits
 modal_tower = refl
-
-classical_translation : misfit Check (codes "m.p" ∷ codes "d.txt" ∷ codes "--as=s4" ∷ []) ≡ Some 4
-unfolding digits
-classical_translation = refl
-
-intuitionistic_translation : misfit Check (codes "m.p" ∷ codes "d.txt" ∷ codes "--as=s4" ∷ codes "--logic=intuitionistic" ∷ []) ≡ None
-unfolding digits
-intuitionistic_translation = refl
 
 transfer_logic : first_bad Transfer [] (codes "m.p" ∷ codes "d.txt" ∷ codes "--logic=intuitionistic" ∷ []) ≡ Some 4
 transfer_logic = refl

@@ -6,7 +6,7 @@ use Rattle.std.specs.Global.{Global}
 use Rattle.std.specs.List.{starts_with, list_any}
 use Rattle.calculus.specs.declared.limits.TheConstants.{MAX_PATH_LIMIT}
 use Rattle.calculus.specs.declared.setting.Domains.{Domains}
-use Rattle.calculus.specs.declared.setting.Domains.TheVariants.{Constant}
+use Rattle.calculus.specs.declared.setting.Domains.TheVariants.{Constant, Cumulative}
 use Rattle.calculus.specs.declared.setting.Logic.{Logic}
 use Rattle.calculus.specs.declared.setting.Logic.TheVariants.{Classical, Intuitionistic}
 use Rattle.calculus.specs.Problems.{is_modal}
@@ -30,6 +30,15 @@ pub record ProblemFile : Type 0 where
   pub root : Word
   pub setting : Setting
 
+-- one of intuitionistic logic, which has one setting
+pub record IntuitionisticFile : Type 0 where
+  pub name : Word
+  pub root : Word
+
+abbrev pub in_intuitionistic : IntuitionisticFile → ProblemFile
+in_intuitionistic p =
+    record { name = p.name; root = p.root; setting = setting_of Intuitionistic Cumulative }
+
 -- how far a search goes: the greatest path limit, the budget of steps and, where a search that does
 -- not return to solved goals is to come first, the greatest limit of that one
 pub record Bounds : Type 0 where
@@ -41,6 +50,8 @@ pub record Bounds : Type 0 where
 pub data Command : Type 0 where
   prove : (problem : ProblemFile) (bounds : Bounds) → Command
   check : (problem : ProblemFile) (derivation : Word) → Command
+  check_translated : (problem : IntuitionisticFile) (derivation : Word) → Command
+  transfer : (problem : IntuitionisticFile) (derivation : Word) → Command
   bad : (place : ℕ) → Command
 
 -- ---- what the words behind the command give, of which the first stands at place 2
@@ -147,6 +158,9 @@ problem_in ws = record {
   setting = setting_of (logic_in ws) (domains_in ws);
 }
 
+abbrev pub intuitionistic_in : List Word → IntuitionisticFile
+intuitionistic_in ws = record { name = operand_in 0 ws; root = value_in option.Root ws }
+
 abbrev pub bounds_in : List Word → Bounds
 bounds_in ws = record {
   limit = on (number_of MAX_PATH_LIMIT (value_in option.Limit ws)) (λ n. n) USUAL_LIMIT;
@@ -154,10 +168,18 @@ bounds_in ws = record {
   cut = number_of MAX_PATH_LIMIT (value_in option.Cut ws);
 }
 
+-- `--as=s4`, which only words of intuitionistic problems give, asks for the judgement of the
+-- translated problem
+abbrev pub check_in : List Word → Command
+check_in ws =
+    if is_given option.As ws then check_translated (intuitionistic_in ws) (operand_in 1 ws)
+    else check (problem_in ws) (operand_in 1 ws)
+
 -- what good words ask for
 abbrev pub request : CommandName → List Word → Command
 request command.Prove ws = prove (problem_in ws) (bounds_in ws)
-request command.Check ws = check (problem_in ws) (operand_in 1 ws)
+request command.Check ws = check_in ws
+request command.Transfer ws = transfer (intuitionistic_in ws) (operand_in 1 ws)
 request _ ws = bad 1
 
 abbrev pub command_by : CommandName → List Word → Command

@@ -4,12 +4,16 @@ use Rattle.logic_rules.specs.SettingView.{the_setting}
 use Rattle.command_line.specs.CommandLine as words
 use Rattle.command_line.specs.declared.bounds.Bounds.{Bounds}
 use Rattle.command_line.specs.declared.request.Command.{Command}
-use Rattle.command_line.specs.declared.request.Command.TheVariants.{Prove, Check, Bad}
+use Rattle.command_line.specs.declared.request.Command.TheVariants as command
+use Rattle.command_line.specs.declared.request.IntuitionisticFile.{IntuitionisticFile}
 use Rattle.command_line.specs.declared.request.ProblemFile.{ProblemFile}
 
 abbrev pub the_problem_file : ProblemFile → words.ProblemFile
 the_problem_file p =
     record { name = p.name.now; root = p.root.now; setting = the_setting p.setting }
+
+abbrev pub the_intuitionistic_file : IntuitionisticFile → words.IntuitionisticFile
+the_intuitionistic_file p = record { name = p.name.now; root = p.root.now }
 
 abbrev pub the_bounds : Bounds → words.Bounds
 the_bounds b = record {
@@ -19,6 +23,12 @@ the_bounds b = record {
 }
 
 abbrev pub the_command : Command → words.Command
-the_command (Prove problem bounds) = words.prove (the_problem_file problem) (the_bounds bounds)
-the_command (Check problem derivation) = words.check (the_problem_file problem) derivation.now
-the_command (Bad place) = words.bad place
+the_command (command.Prove problem bounds) =
+    words.prove (the_problem_file problem) (the_bounds bounds)
+the_command (command.Check problem derivation) =
+    words.check (the_problem_file problem) derivation.now
+the_command (command.CheckTranslated problem derivation) =
+    words.check_translated (the_intuitionistic_file problem) derivation.now
+the_command (command.Transfer problem derivation) =
+    words.transfer (the_intuitionistic_file problem) derivation.now
+the_command (command.Bad place) = words.bad place

@@ -34,6 +34,7 @@ command_named w =
 abbrev pub is_built : CommandName → Bool
 is_built Prove = true
 is_built Check = true
+is_built Transfer = true
 is_built _ = false
 
 -- the operands of a command, in their order; all are wanted
@@ -74,5 +75,4 @@ front_of As = codes "--as="
 -- the word of an option that is not built is a bad one
 abbrev pub is_offered : OptionName → Bool
 is_offered Format = false
-is_offered As = false
 is_offered _ = true

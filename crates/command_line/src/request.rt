@@ -5,8 +5,11 @@ ghost use Rattle.std.specs.Option.{option_map};
 ghost use Rattle.command_line.specs.CommandLine.{
   asked,
   bounds_in,
+  check_in,
   command_by,
   domains_in,
+  in_intuitionistic,
+  intuitionistic_in,
   is_intuitionistic,
   logic_in,
   misfit,
@@ -16,11 +19,12 @@ ghost use Rattle.command_line.specs.CommandLine.{
   tower_place,
   value_in,
 };
-ghost use Rattle.command_line.specs.CommandView.{the_bounds, the_command, the_problem_file};
+ghost use Rattle.command_line.specs.CommandView.{the_bounds, the_command};
+ghost use Rattle.command_line.specs.CommandView.{the_intuitionistic_file, the_problem_file};
 ghost use Rattle.command_line.specs.Values.{number_of};
 
 use crate::bounds::Bounds;
-use crate::given::{given, operand, operand_in, value_in};
+use crate::given::{given, is_given, operand, operand_in, value_in};
 use crate::good_words::first_bad;
 use crate::table::{CommandName, OptionName, command_named, is_built};
 use crate::value::{MAX_STEPS, domains_of, logic_of, number_of};
@@ -42,6 +46,26 @@ pub struct ProblemFile<'a> {
     pub setting: Setting,
 }
 
+/// A problem of intuitionistic logic, which has one setting.
+#[derive(Clone, Copy)]
+pub struct IntuitionisticFile<'a> {
+    pub name: &'a str,
+    pub root: &'a str,
+}
+
+impl<'a> IntuitionisticFile<'a> {
+    /// The same with its setting.
+    pub fn problem_file(self) -> ProblemFile<'a>
+        ensures { the_problem_file result ≡ in_intuitionistic (the_intuitionistic_file self.entry) }
+    {
+        ProblemFile {
+            name: self.name,
+            root: self.root,
+            setting: Setting::new(Logic::Intuitionistic, Domains::Cumulative),
+        }
+    }
+}
+
 /// What the words ask for, or the place of the bad or missing word, from 1.
 pub enum Command<'a> {
     Prove {
@@ -50,6 +74,15 @@ pub enum Command<'a> {
     },
     Check {
         problem: ProblemFile<'a>,
+        derivation: &'a str,
+    },
+    /// The derivation is judged for the problem's translation into S4.
+    CheckTranslated {
+        problem: IntuitionisticFile<'a>,
+        derivation: &'a str,
+    },
+    Transfer {
+        problem: IntuitionisticFile<'a>,
         derivation: &'a str,
     },
     Bad {
@@ -148,6 +181,16 @@ fn limit_in(option: OptionName, words: &[String]) -> Option<PathLimit>
     }
 }
 
+fn intuitionistic_in(words: &[String]) -> IntuitionisticFile<'_>
+    ensures { the_intuitionistic_file result ≡ intuitionistic_in (map string_bytes words.now) }
+{
+    let root = value_in(OptionName::Root, words);
+    IntuitionisticFile {
+        name: operand_in(0, words),
+        root,
+    }
+}
+
 fn bounds_in(words: &[String]) -> Bounds
     ensures { the_bounds result ≡ bounds_in (map string_bytes words.now) }
 {
@@ -165,6 +208,23 @@ fn bounds_in(words: &[String]) -> Bounds
     Bounds { limit, steps, cut }
 }
 
+fn check_in(words: &[String]) -> Command<'_>
+    ensures { the_command result ≡ check_in (map string_bytes words.now) }
+{
+    let derivation = operand_in(1, words);
+    if is_given(OptionName::As, words) {
+        Command::CheckTranslated {
+            problem: intuitionistic_in(words),
+            derivation,
+        }
+    } else {
+        Command::Check {
+            problem: problem_in(words),
+            derivation,
+        }
+    }
+}
+
 fn request(command: CommandName, words: &[String]) -> Command<'_>
     ensures { the_command result ≡ request command (map string_bytes words.now) }
 {
@@ -173,8 +233,9 @@ fn request(command: CommandName, words: &[String]) -> Command<'_>
             problem: problem_in(words),
             bounds: bounds_in(words),
         },
-        CommandName::Check => Command::Check {
-            problem: problem_in(words),
+        CommandName::Check => check_in(words),
+        CommandName::Transfer => Command::Transfer {
+            problem: intuitionistic_in(words),
             derivation: operand_in(1, words),
         },
         _ => Command::Bad { place: 1 },

@@ -67,11 +67,10 @@ pub fn is_built(command: CommandName) -> bool
     ensures { result ≡ is_built command }
 {
     match command {
-        CommandName::Prove | CommandName::Check => true,
+        CommandName::Prove | CommandName::Check | CommandName::Transfer => true,
         CommandName::Make
         | CommandName::Migrate
         | CommandName::Model
-        | CommandName::Transfer
         | CommandName::Tableau
         | CommandName::Tcheck
         | CommandName::Convert => false,
@@ -168,7 +167,8 @@ pub fn is_offered(option: OptionName) -> bool
         | OptionName::Domains
         | OptionName::Limit
         | OptionName::Steps
-        | OptionName::Cut => true,
-        OptionName::Format | OptionName::As => false,
+        | OptionName::Cut
+        | OptionName::As => true,
+        OptionName::Format => false,
     }
 }

@@ -1,21 +1,26 @@
 -- What the files hold is decided, where no file fails, the sink does not fail and memory does not end.
-use Rattle.std.proofs.Common.{◌≡◌, List, ℕ, Option, None, Some, Result, Ok, Err, refl, subst, sym}
+use Rattle.std.proofs.Common.{◌≡◌, List, ℕ, Option, None, Some, Result, Ok, Err, arith, refl, subst, sym}
 use Rattle.std.specs.Prelude.{IfSome}
 use Rattle.calculus.specs.Syntax.{Problem}
+use Rattle.calculus.specs.Translation.{translated_problem}
 use Rattle.cop_base.specs.Outside.{Files, file_in, Rose}
-use Rattle.command_line.specs.CommandLine.{Bounds, Command, ProblemFile, prove, check, bad}
+use Rattle.command_line.specs.CommandLine.{Bounds, Command, ProblemFile, in_intuitionistic, prove, check, check_translated, transfer, bad}
 use Rattle.command_line.specs.Table.{Word}
 use Rattle.problem_build.specs.Refusals.{Refusal}
 use Rattle.leancop_top.proofs.Budgets.{not_steps_ended}
 use Rattle.leancop_top.proofs.Cuts.{prove-by_cut}
-use Rattle.leancop_top.specs.Commands.Check.{CheckEnds, IsJudged, accepted, rejected, not_fetched}
+use Rattle.leancop_top.specs.Commands.Check.{CheckEnds, IsJudged, TranslatedCheckEnds, accepted, rejected, not_fetched, not_translated, translated}
 use Rattle.leancop_top.specs.Commands.Prove.{IsDecided, ProveEnds, derived, fruitless}
+use Rattle.leancop_top.specs.Commands.Transfer.{IsTransferDecided, TransferEnds, transferred}
+use Rattle.leancop_top.specs.Commands.Transfer as transfer_ends
 use Rattle.leancop_top.specs.Reading.{EndsOn, IsRead, Reading, ReadingEnds, refused, unread, with_problem, without_problem}
 use Rattle.leancop_top.specs.Run.{Decides, Ends}
 use Rattle.leancop_top.specs.SecondFile.{FetchEnds, Lacks}
 use Rattle.leancop_top.specs.SecondFile as second
 use Rattle.leancop_top.specs.Statuses.{IsCounted, OnAnswer}
 use Rattle.leancop_top.specs.TableauSearch.{SearchEnds, Suffices, exhausted, no_tableau, steps_ended, too_large}
+use Rattle.leancop_top.specs.Translating.{IsTranslatable, TranslatingEnds, too_deep}
+use Rattle.leancop_top.specs.Translating as translating
 use Rattle.leancop_top.specs.declared.status.Status.{Status}
 use Rattle.leancop_top.specs.declared.status.Status.TheVariants as status
 
@@ -76,6 +81,27 @@ check-decided told files P d text m n f g t held quiet _ _ (accepted h v) counte
 check-decided told files P d text m n f g t held quiet _ _ (rejected line fault h) counted = tt
 check-decided told files P d text m n f g t held quiet _ _ (not_fetched s h) counted = absurd (fetched told files d text m n f g t held quiet s h counted)
 
+-- a problem whose translation passes no limit is translated
+not_refused : (P : Problem) → IsTranslatable P → (s : Status) → TranslatingEnds P s → ⊥
+not_refused P t _ (too_deep h) = absurd (omega (arith, t.nests, h))
+not_refused P t _ (translating.too_large h k) = absurd (omega (arith, t.nodes, k))
+
+translated-check-decided : (told : Option Files) (files : Files) (P : Problem) (derivation : Word) (text : List ℕ) (m n f g : ℕ) → told ≡ Some files → file_in files derivation ≡ Some text → ¬ Rose f g → IsTranslatable P → (s : Status) (bytes : List ℕ) → TranslatedCheckEnds told P derivation s bytes → IsCounted m n f g s → IsJudged s
+translated-check-decided told files P d text m n f g t held quiet fits _ _ (not_translated s h) counted = absurd (not_refused P fits s h)
+translated-check-decided told files P d text m n f g t held quiet fits _ _ (translated s bytes k h) counted = check-decided told files (translated_problem P) d text m n f g t held quiet s bytes h counted
+
+-- ---- transfer
+
+translating-decided : (P : Problem) (s : Status) → TranslatingEnds P s → IsTransferDecided s
+translating-decided P _ (too_deep h) = tt
+translating-decided P _ (translating.too_large h k) = tt
+
+transfer-decided : (told : Option Files) (files : Files) (P : Problem) (derivation : Word) (text : List ℕ) (m n f g : ℕ) → told ≡ Some files → file_in files derivation ≡ Some text → ¬ Rose f g → (s : Status) (bytes : List ℕ) → TransferEnds told P derivation s bytes → IsCounted m n f g s → IsTransferDecided s
+transfer-decided told files P d text m n f g t held quiet _ _ (transferred bytes h) counted = tt
+transfer-decided told files P d text m n f g t held quiet _ _ (transfer_ends.not_translated s h) counted = translating-decided P s h.refused
+transfer-decided told files P d text m n f g t held quiet _ _ (transfer_ends.rejected line fault h) counted = tt
+transfer-decided told files P d text m n f g t held quiet _ _ (transfer_ends.not_fetched s h) counted = absurd (fetched told files d text m n f g t held quiet s h counted)
+
 -- ---- the commands
 
 pub decided : (told : Option Files) (command : Command) (s : Status) (bytes : List ℕ) (m n f g : ℕ) → Ends told command s bytes → IsCounted m n f g s → ¬ Rose f g → Decides told command s
@@ -85,6 +111,11 @@ decided told (prove p b) s bytes m n f g ends counted quiet = (
 )
 decided told (check p d) s bytes m n f g ends counted quiet = λ h.
     check-decided told h.files h.problem d h.bytes m n f g h.tells h.given quiet s bytes (for-problem told h.files p h.problem (λ P. CheckEnds told P d) m n f g h.tells h.read quiet s bytes ends counted) counted
+decided told (check_translated p d) s bytes m n f g ends counted quiet = λ h.
+    let c = h.checkable in
+    translated-check-decided told c.files c.problem d c.bytes m n f g c.tells c.given quiet h.translatable s bytes (for-problem told c.files (in_intuitionistic p) c.problem (λ P. TranslatedCheckEnds told P d) m n f g c.tells c.read quiet s bytes ends counted) counted
+decided told (transfer p d) s bytes m n f g ends counted quiet = λ h.
+    transfer-decided told h.files h.problem d h.bytes m n f g h.tells h.given quiet s bytes (for-problem told h.files (in_intuitionistic p) h.problem (λ P. TransferEnds told P d) m n f g h.tells h.read quiet s bytes ends counted) counted
 decided told (bad place) s bytes m n f g ends counted quiet = tt
 
 -- so it is where anything is answered

@@ -4,17 +4,22 @@ use Rattle.std.specs.Prelude.{IfOk}
 use Rattle.cop_base.specs.Outside.{Files}
 use Rattle.cop_base.specs.declared.NoMemory.{NoMemory}
 use Rattle.calculus.specs.Syntax.{Problem}
-use Rattle.command_line.specs.CommandLine.{Bounds, Command, ProblemFile, prove, check, bad}
+use Rattle.calculus.specs.Translation.{translated_problem}
+use Rattle.command_line.specs.CommandLine.{Bounds, Command, ProblemFile, in_intuitionistic, prove, check, check_translated, transfer, bad}
 use Rattle.command_line.specs.Table.{Word}
 use Rattle.problem_build.specs.Refusals.{Refusal, missing, input_too_large, nesting_too_deep, formula_too_large, too_many_symbols, bad as bad_problem}
-use Rattle.leancop_top.specs.Commands.Check.{CheckEnds, accepted, rejected, not_fetched}
+use Rattle.leancop_top.specs.Commands.Check.{CheckEnds, TranslatedCheckEnds, accepted, rejected, not_fetched, not_translated, translated}
 use Rattle.leancop_top.specs.Commands.Prove.{ProveEnds, derived, fruitless}
+use Rattle.leancop_top.specs.Commands.Transfer.{TransferEnds, transferred}
+use Rattle.leancop_top.specs.Commands.Transfer as transfer_ends
 use Rattle.leancop_top.specs.Reading.{EndsOn, IsRead, ReadingEnds, refused, refusal_status, unread, with_problem, without_problem}
 use Rattle.leancop_top.specs.Run.{Ends}
 use Rattle.leancop_top.specs.SecondFile.{FetchEnds}
 use Rattle.leancop_top.specs.SecondFile as second
 use Rattle.leancop_top.specs.Statuses.{IsCounted, status_line}
 use Rattle.leancop_top.specs.TableauSearch.{SearchEnds, exhausted, no_tableau, steps_ended, too_large}
+use Rattle.leancop_top.specs.Translating.{TranslatingEnds}
+use Rattle.leancop_top.specs.Translating as translating
 use Rattle.leancop_top.specs.declared.reply.Reply.{Reply}
 use Rattle.leancop_top.specs.declared.status.Status.{Status}
 use Rattle.leancop_top.specs.declared.status.Status.TheVariants as status
@@ -50,6 +55,12 @@ prove-counted P b m n f g _ _ (fruitless s h) = search-counted P b m n f g s h
 pub proved-counted : (P : Problem) (b : Bounds) (m n f g : ℕ) (r : Result Reply NoMemory) → IfOk r (λ x. ProveEnds P b x.status x.output.items) → IfOk r (λ x. IsCounted m n f g x.status)
 proved-counted P b m n f g (Ok x) h = prove-counted P b m n f g x.status x.output.items h
 proved-counted P b m n f g (Err k) h = tt
+
+-- ---- translating fetches nothing
+
+pub translating-counted : (P : Problem) (m n f g : ℕ) (s : Status) → TranslatingEnds P s → IsCounted m n f g s
+translating-counted P m n f g _ (translating.too_deep h) = tt
+translating-counted P m n f g _ (translating.too_large h k) = tt
 
 -- ---- what ends a run tells something
 
@@ -100,6 +111,22 @@ check-told told P d _ _ (accepted h v) = refl
 check-told told P d _ _ (rejected line fault h) = refl
 check-told told P d _ _ (not_fetched s h) = fetch-told told d s h
 
+translating-told : (P : Problem) (s : Status) → TranslatingEnds P s → is_silent s ≡ false
+unfolding is_silent
+translating-told P _ (translating.too_deep h) = refl
+translating-told P _ (translating.too_large h k) = refl
+
+translated-check-told : (told : Option Files) (P : Problem) (derivation : Word) (s : Status) (bytes : List ℕ) → TranslatedCheckEnds told P derivation s bytes → is_silent s ≡ false
+translated-check-told told P d _ _ (not_translated s h) = translating-told P s h
+translated-check-told told P d _ _ (translated s bytes t h) = check-told told (translated_problem P) d s bytes h
+
+transfer-told : (told : Option Files) (P : Problem) (derivation : Word) (s : Status) (bytes : List ℕ) → TransferEnds told P derivation s bytes → is_silent s ≡ false
+unfolding is_silent
+transfer-told told P d _ _ (transferred bytes h) = refl
+transfer-told told P d _ _ (transfer_ends.not_translated s h) = translating-told P s h.refused
+transfer-told told P d _ _ (transfer_ends.rejected line fault h) = refl
+transfer-told told P d _ _ (transfer_ends.not_fetched s h) = fetch-told told d s h
+
 bad-told : (place : ℕ) (s : Status) → s ≡ status.BadWords place → is_silent s ≡ false
 unfolding is_silent
 bad-told place s e = rw e refl
@@ -107,6 +134,8 @@ bad-told place s e = rw e refl
 told : (files : Option Files) (command : Command) (s : Status) (bytes : List ℕ) → Ends files command s bytes → is_silent s ≡ false
 told files (prove p b) s bytes h = on-told files p (λ P. ProveEnds P b) (λ P. prove-told P b) s bytes h
 told files (check p d) s bytes h = on-told files p (λ P. CheckEnds files P d) (λ P. check-told files P d) s bytes h
+told files (check_translated p d) s bytes h = on-told files (in_intuitionistic p) (λ P. TranslatedCheckEnds files P d) (λ P. translated-check-told files P d) s bytes h
+told files (transfer p d) s bytes h = on-told files (in_intuitionistic p) (λ P. TransferEnds files P d) (λ P. transfer-told files P d) s bytes h
 told files (bad place) s bytes h = bad-told place s h.0
 
 true-false : (t : Bool) → t ≡ true → t ≡ false → ⊥

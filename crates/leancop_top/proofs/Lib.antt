@@ -5,4 +5,5 @@ pub mod Searches
 pub mod Cuts
 pub mod Refusals
 pub mod Ends
+pub mod Translations
 pub mod Decisions

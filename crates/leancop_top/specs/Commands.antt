@@ -1,2 +1,3 @@
 pub mod Prove
 pub mod Check
+pub mod Transfer

@@ -3,6 +3,7 @@ pub mod Statuses
 pub mod FaultView
 pub mod Reading
 pub mod SecondFile
+pub mod Translating
 pub mod TableauSearch
 pub mod Derived
 pub mod Commands

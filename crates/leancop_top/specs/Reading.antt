@@ -1,7 +1,7 @@
 -- How reading a problem ends.
 use Rattle.std.specs.Prelude.{◌≡◌, ⊤, List, ℕ, Option, IfSome, Result, Ok, Err}
 use Rattle.cop_base.specs.Outside.{Files}
-use Rattle.calculus.specs.Syntax.{Problem}
+use Rattle.calculus.specs.Syntax.{Problem, Setting}
 use Rattle.command_line.specs.CommandLine.{ProblemFile}
 use Rattle.problem_build.specs.Building.{IsProblemOf, WalkFetches}
 use Rattle.problem_build.specs.Refusals.{Refusal, missing, input_too_large, nesting_too_deep}
@@ -45,6 +45,11 @@ pub data ReadingEnds (told : Option Files) (p : ProblemFile) : Status → Type 0
 abbrev pub IsReading : Option Files → ProblemFile → program.Reading → Type 0
 IsReading told p (Read problem) = IsRead told p (Ok problem)
 IsReading told p (Refused s) = ReadingEnds told p s
+
+-- a problem that is read has the setting that was asked for
+abbrev pub IsReadIn : Setting → program.Reading → Type 0
+IsReadIn setting (Read problem) = problem.setting ≡ setting
+IsReadIn setting (Refused s) = ⊤
 
 -- its counts
 abbrev pub IsReadingCounted : ℕ → ℕ → ℕ → ℕ → program.Reading → Type 0

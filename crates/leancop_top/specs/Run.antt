@@ -1,10 +1,13 @@
 -- What a run answers, by its words and by the files that its library tells.
 use Rattle.std.specs.Prelude.{◌≡◌, ⊤, ℕ, List, take, Option}
 use Rattle.cop_base.specs.Outside.{Files, with_bytes}
-use Rattle.command_line.specs.CommandLine.{Command, prove, check, bad}
+use Rattle.command_line.specs.CommandLine.{Command, prove, check, check_translated, transfer, bad}
+use Rattle.command_line.specs.CommandLine.{in_intuitionistic}
 use Rattle.leancop_top.specs.Commands.Check.{CheckEnds, IsCheckable, IsJudged}
+use Rattle.leancop_top.specs.Commands.Check.{IsCheckableTranslated, TranslatedCheckEnds}
 use Rattle.leancop_top.specs.Commands.Prove.{IsDecided, IsDerivedAt, IsProvable}
 use Rattle.leancop_top.specs.Commands.Prove.{IsProvableByCut, ProveEnds}
+use Rattle.leancop_top.specs.Commands.Transfer.{IsTransferDecided, TransferEnds}
 use Rattle.leancop_top.specs.Reading.{EndsOn}
 use Rattle.leancop_top.specs.Statuses.{IsCounted, status_line}
 use Rattle.leancop_top.specs.declared.status.Status.{Status}
@@ -15,6 +18,10 @@ abbrev pub Ends : Option Files → Command → Status → List ℕ → Type 0
 Ends told (prove p b) status bytes = EndsOn told p (λ P. ProveEnds P b) status bytes
 Ends told (check p derivation) status bytes =
     EndsOn told p (λ P. CheckEnds told P derivation) status bytes
+Ends told (check_translated p derivation) status bytes =
+    EndsOn told (in_intuitionistic p) (λ P. TranslatedCheckEnds told P derivation) status bytes
+Ends told (transfer p derivation) status bytes =
+    EndsOn told (in_intuitionistic p) (λ P. TransferEnds told P derivation) status bytes
 Ends told (bad place) status bytes =
     (status ≡ BadWords place) × (bytes ≡ status_line status)
 
@@ -41,4 +48,8 @@ Decides told (prove p b) status =
     (IsProvable told p b → IsDecided status)
     × ((limit : ℕ) → IsProvableByCut told p b limit → IsDerivedAt limit status)
 Decides told (check p derivation) status = IsCheckable told p derivation → IsJudged status
+Decides told (check_translated p derivation) status =
+    IsCheckableTranslated told (in_intuitionistic p) derivation → IsJudged status
+Decides told (transfer p derivation) status =
+    IsCheckable told (in_intuitionistic p) derivation → IsTransferDecided status
 Decides told (bad place) status = ⊤

@@ -2,3 +2,4 @@
 
 pub mod check;
 pub mod prove;
+pub mod transfer;

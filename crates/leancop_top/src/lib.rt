@@ -10,6 +10,7 @@ mod second_file;
 mod status;
 mod status_line;
 mod tableau_search;
+mod translation;
 mod writing;
 
 pub use program::run;

@@ -1,12 +1,17 @@
 //! Reading a problem.
 
 ghost use Rattle.std.specs.Prelude.{◌≡◌, ◌≤◌, IfOk};
-ghost use Rattle.command_line.specs.CommandView.{the_problem_file};
+ghost use Rattle.calculus.specs.Syntax.{setting_of};
+ghost use Rattle.calculus.specs.declared.setting.Domains.TheVariants.{Cumulative};
+ghost use Rattle.calculus.specs.declared.setting.Logic.TheVariants.{Intuitionistic};
+ghost use Rattle.command_line.specs.CommandLine.{in_intuitionistic};
+ghost use Rattle.command_line.specs.CommandView.{the_intuitionistic_file, the_problem_file};
+ghost use Rattle.logic_rules.specs.SettingView.{the_setting};
 ghost use Rattle.leancop_top.specs.FaultView.{status_of};
-ghost use Rattle.leancop_top.specs.Reading.{IsReading, IsReadingCounted};
+ghost use Rattle.leancop_top.specs.Reading.{IsReadIn, IsReading, IsReadingCounted};
 
 use crate::status::Status;
-use command_line::ProblemFile;
+use command_line::{IntuitionisticFile, ProblemFile};
 use cop_base::{Library, NoMemory, Text};
 use logic_rules::Problem;
 use problem_build::{BuildFault, build};
@@ -54,6 +59,7 @@ pub fn read_problem<L: Library>(
     ensures more_misses { L.misses lib.old ≤ L.misses lib.new }
     ensures reading { IfOk result
         (λ r. IsReading (L.holds lib.old) (the_problem_file file.entry) r) }
+    ensures setting { IfOk result (λ r. IsReadIn (the_setting file.entry.setting) r) }
     ensures counted { IfOk result (λ r. IsReadingCounted
         (L.misses lib.old) (L.misses lib.new) (L.faults lib.old) (L.faults lib.new) r) }
 {
@@ -66,4 +72,22 @@ pub fn read_problem<L: Library>(
             None => Err(NoMemory),
         },
     }
+}
+
+/// The same of a problem of intuitionistic logic.
+pub fn read_intuitionistic<L: Library>(
+    alloc: Global,
+    lib: &mut L,
+    file: IntuitionisticFile<'_>,
+) -> Result<Reading, NoMemory>
+    ensures same_files { L.holds lib.new ≡ L.holds lib.old }
+    ensures more_faults { L.faults lib.old ≤ L.faults lib.new }
+    ensures more_misses { L.misses lib.old ≤ L.misses lib.new }
+    ensures reading { IfOk result (λ r. IsReading
+        (L.holds lib.old) (in_intuitionistic (the_intuitionistic_file file.entry)) r) }
+    ensures setting { IfOk result (λ r. IsReadIn (setting_of Intuitionistic Cumulative) r) }
+    ensures counted { IfOk result (λ r. IsReadingCounted
+        (L.misses lib.old) (L.misses lib.new) (L.faults lib.old) (L.faults lib.new) r) }
+{
+    read_problem(alloc, lib, file.problem_file())
 }

@@ -10,8 +10,9 @@ ghost use Rattle.command_line.specs.CommandLine.{asked};
 ghost use Rattle.leancop_top.specs.Run.{Decides, Ends, IsAnswered, IsCutOff};
 ghost use Rattle.leancop_top.specs.Statuses.{IsCounted, OnAnswer};
 
-use crate::commands::check::check;
+use crate::commands::check::{check, check_translated};
 use crate::commands::prove::prove;
+use crate::commands::transfer::transfer;
 use crate::reply::{Reply, line_reply};
 use crate::status::Status;
 use crate::writing::put_all;
@@ -34,6 +35,14 @@ fn answer<L: Library>(alloc: Global, words: &[String], lib: &mut L) -> Result<Re
             problem,
             derivation,
         } => check(alloc, lib, problem, derivation),
+        Command::CheckTranslated {
+            problem,
+            derivation,
+        } => check_translated(alloc, lib, problem, derivation),
+        Command::Transfer {
+            problem,
+            derivation,
+        } => transfer(alloc, lib, problem, derivation),
         Command::Bad { place } => line_reply(alloc, Status::BadWords { place }),
     }
 }

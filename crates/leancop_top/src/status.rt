@@ -32,6 +32,8 @@ pub enum Status {
     },
     /// The bytes are the text of a derivation that derives the problem's formula.
     Accepted,
+    /// A derivation of the problem's translation into S4 was printed.
+    Transferred,
     /// The bytes are no such text; the fault stands at this line, counted from 1.
     Rejected {
         line: u64,
@@ -75,7 +77,7 @@ pub fn exit_code(status: &Status) -> u8
     ensures { result ≡ exit_of status.now }
 {
     match status {
-        Status::Derived { .. } | Status::Accepted => 0,
+        Status::Derived { .. } | Status::Accepted | Status::Transferred => 0,
         Status::Exhausted { .. } => 1,
         Status::NoTableau { .. } => 2,
         Status::StepsEnded { .. } => 3,

@@ -12,4 +12,6 @@ mod prove_tests;
 #[cfg(test)]
 mod runs;
 #[cfg(test)]
+mod transfer_tests;
+#[cfg(test)]
 mod word_tests;

@@ -1,19 +1,22 @@
-//! `check FILE DERIVATION`: the judgement of a derivation.
+//! `check FILE DERIVATION`: the judgement of a derivation, for the problem or for its translation
+//! into S4.
 
 ghost use Rattle.std.specs.Prelude.{◌≡◌, ◌≤◌, IfOk, List, Option, ℕ};
+ghost use Rattle.calculus.specs.declared.setting.Logic.TheVariants.{Intuitionistic};
 ghost use Rattle.cop_base.specs.Outside.{Files};
-ghost use Rattle.command_line.specs.CommandLine.{check};
-ghost use Rattle.command_line.specs.CommandView.{the_problem_file};
-ghost use Rattle.leancop_top.specs.Commands.Check.{CheckEnds};
+ghost use Rattle.command_line.specs.CommandLine.{check, check_translated};
+ghost use Rattle.command_line.specs.CommandView.{the_intuitionistic_file, the_problem_file};
+ghost use Rattle.leancop_top.specs.Commands.Check.{CheckEnds, TranslatedCheckEnds};
 ghost use Rattle.leancop_top.specs.Run.{Ends};
 ghost use Rattle.leancop_top.specs.SecondFile.{HasBytes};
 ghost use Rattle.leancop_top.specs.Statuses.{IsCounted, status_line};
 
-use crate::problem::{Reading, read_problem};
+use crate::problem::{Reading, read_intuitionistic, read_problem};
 use crate::reply::{Reply, line_reply};
 use crate::second_file::{SecondFile, fetch_second};
 use crate::status::Status;
-use command_line::ProblemFile;
+use crate::translation::{Translation, translate_problem};
+use command_line::{IntuitionisticFile, ProblemFile};
 use cop_base::{Library, NoMemory};
 use derivation_check::Verdict;
 use logic_rules::Problem;
@@ -71,6 +74,50 @@ pub fn check<L: Library>(
 {
     match read_problem(alloc, lib, file)? {
         Reading::Read(problem) => check_derivation(alloc, lib, &problem, derivation),
+        Reading::Refused(status) => line_reply(alloc, status),
+    }
+}
+
+fn check_for_translation<L: Library>(
+    alloc: Global,
+    lib: &mut L,
+    problem: &Problem,
+    derivation: &str,
+) -> Result<Reply, NoMemory>
+    requires { problem.now.setting.logic ≡ Intuitionistic }
+    ensures same_files { L.holds lib.new ≡ L.holds lib.old }
+    ensures more_faults { L.faults lib.old ≤ L.faults lib.new }
+    ensures more_misses { L.misses lib.old ≤ L.misses lib.new }
+    ensures ends { IfOk result (λ r. TranslatedCheckEnds
+        (L.holds lib.old) problem.now derivation.now r.status r.output.items) }
+    ensures counted { IfOk result (λ r. IsCounted
+        (L.misses lib.old) (L.misses lib.new) (L.faults lib.old) (L.faults lib.new) r.status) }
+{
+    match translate_problem(alloc, problem)? {
+        Translation::Translated(translated) => {
+            check_derivation(alloc, lib, &translated, derivation)
+        }
+        Translation::Refused(status) => line_reply(alloc, status),
+    }
+}
+
+/// With `--as=s4`. The translation is refused before the derivation is fetched.
+pub fn check_translated<L: Library>(
+    alloc: Global,
+    lib: &mut L,
+    file: IntuitionisticFile<'_>,
+    derivation: &str,
+) -> Result<Reply, NoMemory>
+    ensures same_files { L.holds lib.new ≡ L.holds lib.old }
+    ensures more_faults { L.faults lib.old ≤ L.faults lib.new }
+    ensures more_misses { L.misses lib.old ≤ L.misses lib.new }
+    ensures ends { IfOk result (λ r. Ends (L.holds lib.old)
+        (check_translated (the_intuitionistic_file file.entry) derivation.now) r.status r.output.items) }
+    ensures counted { IfOk result (λ r. IsCounted
+        (L.misses lib.old) (L.misses lib.new) (L.faults lib.old) (L.faults lib.new) r.status) }
+{
+    match read_intuitionistic(alloc, lib, file)? {
+        Reading::Read(problem) => check_for_translation(alloc, lib, &problem, derivation),
         Reading::Refused(status) => line_reply(alloc, status),
     }
 }

@@ -1,0 +1,12 @@
+use Rattle.std.proofs.Common.{subst}
+use Rattle.std.specs.Prelude.{IfOk}
+use Rattle.leancop_top.specs.Reading.{IsReadIn, IsReading}
+use Rattle.leancop_top.proofs.problem.read_intuitionistic.Goals as goal
+
+pub returns-clause-reading : goal.returns-clause-reading
+returns-clause-reading g c =
+    subst (λ p. IfOk c.read_problem.result (λ r. IsReading (g.L.Library.holds c.args.lib.now) p r)) c.problem_file.ensures c.read_problem.ensures.reading
+
+pub returns-clause-setting : goal.returns-clause-setting
+returns-clause-setting g c =
+    subst (λ p. IfOk c.read_problem.result (λ r. IsReadIn p.setting r)) c.problem_file.ensures c.read_problem.ensures.setting

@@ -1,0 +1,141 @@
+//! `transfer FILE DERIVATION`: an intuitionistic derivation as one of the problem's translation into
+//! S4.
+
+ghost use Rattle.std.specs.Prelude.{◌≡◌, ◌≤◌, IfOk, IsTrue, List, Option, ℕ};
+ghost use Rattle.calculus.specs.declared.setting.Logic.TheVariants.{Intuitionistic};
+ghost use Rattle.calculus.specs.Calculus.{Derives};
+ghost use Rattle.calculus.specs.DerivationText.{is_printable};
+ghost use Rattle.calculus.specs.Translation.{translated_problem};
+ghost use Rattle.cop_base.specs.Outside.{Files};
+ghost use Rattle.command_line.specs.CommandLine.{transfer};
+ghost use Rattle.command_line.specs.CommandView.{the_intuitionistic_file};
+ghost use Rattle.leancop_top.specs.Commands.Transfer.{IsAcceptedIn, TransferEnds};
+ghost use Rattle.leancop_top.specs.Derived.{IsDerivation};
+ghost use Rattle.leancop_top.specs.Run.{Ends};
+ghost use Rattle.leancop_top.specs.SecondFile.{HasBytes};
+ghost use Rattle.leancop_top.specs.Statuses.{IsCounted};
+ghost use Rattle.leancop_top.specs.Translating.{IsTranslated};
+ghost use Rattle.sequent_calc.specs.DerivationView.{the_derivation};
+
+use crate::problem::{Reading, read_intuitionistic};
+use crate::reply::{Reply, line_reply};
+use crate::second_file::{SecondFile, fetch_second};
+use crate::status::Status;
+use crate::translation::{Translation, translate_problem};
+use command_line::IntuitionisticFile;
+use cop_base::{Library, NoMemory};
+use derivation_check::{AcceptFault, accept};
+use derivation_text::print;
+use godel_transfer::TransferFault;
+use logic_rules::Problem;
+use sequent_calc::Derivation;
+use std::alloc::Global;
+
+// The text of what a derivation of the problem becomes.
+fn transferred_text(
+    alloc: Global,
+    problem: &Problem,
+    translated: &Problem,
+    derivation: &Derivation,
+) -> Result<Vec<u8>, NoMemory>
+    requires intuitionistic { problem.now.setting.logic ≡ Intuitionistic }
+    requires translated { IsTranslated problem.now translated.now }
+    requires printable { IsTrue (is_printable problem.now (the_derivation derivation.now)) }
+    requires derives { Derives problem.now (the_derivation derivation.now) }
+    ensures { IfOk result (λ text. IsDerivation translated.now derivation.now.limit text.items) }
+{
+    match godel_transfer::transfer(alloc, problem, derivation) {
+        Ok(transferred) => {
+            let text = print(alloc, translated, &transferred)?;
+            let _symbols = translated.symbols(); // tells that it is a problem
+            Ok(text)
+        }
+        Err(TransferFault::NestingTooDeep) => unreachable!(),
+        Err(TransferFault::FormulaTooLarge) => unreachable!(),
+        Err(TransferFault::NoMemory) => Err(NoMemory),
+    }
+}
+
+// The reply for a derivation that is accepted.
+fn transfer_accepted(
+    alloc: Global,
+    problem: &Problem,
+    derivation: &Derivation,
+) -> Result<Reply, NoMemory>
+    requires intuitionistic { problem.now.setting.logic ≡ Intuitionistic }
+    requires printable { IsTrue (is_printable problem.now (the_derivation derivation.now)) }
+    requires derives { Derives problem.now (the_derivation derivation.now) }
+    ensures ends { (told : Option Files) (name : List ℕ)
+        → IsAcceptedIn told problem.now name (the_derivation derivation.now) → IfOk result
+        (λ r. TransferEnds told problem.now name r.status r.output.items) }
+    ensures counted { (m n f g : ℕ) → IfOk result (λ r. IsCounted m n f g r.status) }
+{
+    match translate_problem(alloc, problem)? {
+        Translation::Translated(translated) => {
+            let output = transferred_text(alloc, problem, &translated, derivation)?;
+            Ok(Reply {
+                status: Status::Transferred,
+                output,
+            })
+        }
+        Translation::Refused(status) => line_reply(alloc, status),
+    }
+}
+
+// The reply for the bytes that a file holds.
+fn transfer_bytes(alloc: Global, problem: &Problem, bytes: &[u8]) -> Result<Reply, NoMemory>
+    requires { problem.now.setting.logic ≡ Intuitionistic }
+    ensures ends { (told : Option Files) (name : List ℕ) → HasBytes told name bytes.now
+        → IfOk result (λ r. TransferEnds told problem.now name r.status r.output.items) }
+    ensures counted { (m n f g : ℕ) → IfOk result (λ r. IsCounted m n f g r.status) }
+{
+    match accept(alloc, problem, bytes) {
+        Ok(derivation) => transfer_accepted(alloc, problem, &derivation),
+        Err(AcceptFault::Rejected { line, fault }) => {
+            line_reply(alloc, Status::Rejected { line, fault })
+        }
+        Err(AcceptFault::NoMemory) => Err(NoMemory),
+    }
+}
+
+fn transfer_derivation<L: Library>(
+    alloc: Global,
+    lib: &mut L,
+    problem: &Problem,
+    derivation: &str,
+) -> Result<Reply, NoMemory>
+    requires { problem.now.setting.logic ≡ Intuitionistic }
+    ensures same_files { L.holds lib.new ≡ L.holds lib.old }
+    ensures more_faults { L.faults lib.old ≤ L.faults lib.new }
+    ensures more_misses { L.misses lib.old ≤ L.misses lib.new }
+    ensures ends { IfOk result (λ r. TransferEnds
+        (L.holds lib.old) problem.now derivation.now r.status r.output.items) }
+    ensures counted { IfOk result (λ r. IsCounted
+        (L.misses lib.old) (L.misses lib.new) (L.faults lib.old) (L.faults lib.new) r.status) }
+{
+    match fetch_second(alloc, lib, derivation)? {
+        SecondFile::Fetched(bytes) => transfer_bytes(alloc, problem, bytes.as_slice()),
+        SecondFile::NotFetched(status) => line_reply(alloc, status),
+    }
+}
+
+/// The derivation is judged before the problem is translated.
+pub fn transfer<L: Library>(
+    alloc: Global,
+    lib: &mut L,
+    file: IntuitionisticFile<'_>,
+    derivation: &str,
+) -> Result<Reply, NoMemory>
+    ensures same_files { L.holds lib.new ≡ L.holds lib.old }
+    ensures more_faults { L.faults lib.old ≤ L.faults lib.new }
+    ensures more_misses { L.misses lib.old ≤ L.misses lib.new }
+    ensures ends { IfOk result (λ r. Ends (L.holds lib.old)
+        (transfer (the_intuitionistic_file file.entry) derivation.now) r.status r.output.items) }
+    ensures counted { IfOk result (λ r. IsCounted
+        (L.misses lib.old) (L.misses lib.new) (L.faults lib.old) (L.faults lib.new) r.status) }
+{
+    match read_intuitionistic(alloc, lib, file)? {
+        Reading::Read(problem) => transfer_derivation(alloc, lib, &problem, derivation),
+        Reading::Refused(status) => line_reply(alloc, status),
+    }
+}
