@@ -2,11 +2,12 @@
 use Rattle.std.proofs.Common.{◌≡◌, refl, codes, List, [], ◌∷◌, None, Some}
 use Rattle.std.specs.Fmt.{digits}
 use Rattle.calculus.specs.Syntax.{setting_of}
+use Rattle.calculus.specs.declared.family.Family.TheVariants.{Tower}
 use Rattle.calculus.specs.declared.setting.Domains.TheVariants.{Constant, Varying}
 use Rattle.calculus.specs.declared.setting.Logic.TheVariants.{Classical, S4}
-use Rattle.command_line.specs.declared.table.CommandName.TheVariants.{Make, Model, Transfer}
+use Rattle.command_line.specs.declared.table.CommandName.TheVariants.{Model, Transfer}
 use Rattle.command_line.specs.Table.{Word}
-use Rattle.command_line.specs.CommandLine.{ProblemFile, Bounds, command_of, first_bad, misfit, prove, check, check_translated, transfer, bad}
+use Rattle.command_line.specs.CommandLine.{ProblemFile, Bounds, command_of, first_bad, misfit, prove, check, check_translated, transfer, make, bad}
 
 in_classical : ProblemFile
 in_classical = record { name = codes "m.p"; root = []; setting = setting_of Classical Constant }
@@ -101,38 +102,38 @@ no_format : command_of (codes "prove" ∷ codes "m.p" ∷ codes "--format=1" ∷
 unfolding digits
 no_format = refl
 
--- ---- words of commands that are not built
+-- ---- generated problems
 
-chain_zero : first_bad Make [] (codes "chain" ∷ codes "0" ∷ []) ≡ Some 3
+chain_zero : command_of (codes "make" ∷ codes "chain" ∷ codes "0" ∷ []) ≡ bad 3
 unfolding digits
 chain_zero = refl
 
-no_family : first_bad Make [] (codes "loop" ∷ codes "2" ∷ []) ≡ Some 2
+no_family : command_of (codes "make" ∷ codes "loop" ∷ codes "2" ∷ []) ≡ bad 2
 no_family = refl
 
-root_of_make : first_bad Make [] (codes "chain" ∷ codes "2" ∷ codes "--root=r" ∷ []) ≡ Some 4
+root_of_make : command_of (codes "make" ∷ codes "chain" ∷ codes "2" ∷ codes "--root=r" ∷ []) ≡ bad 4
 unfolding digits
 root_of_make = refl
 
-tower_after_limit : List Word
-tower_after_limit = codes "--limit=2" ∷ codes "tower" ∷ codes "2" ∷ []
-
-good_tower : first_bad Make [] tower_after_limit ≡ None
-unfolding tower_after_limit digits
-good_tower = refl
-
-tower_place : misfit Make tower_after_limit ≡ Some 3
-unfolding tower_after_limit digits
-tower_place = refl
+tower_after_limit : command_of (codes "make" ∷ codes "--limit=2" ∷ codes "tower" ∷ codes "2" ∷ []) ≡ bad 3
+unfolding digits
+tower_after_limit = refl
 
 -- the domains are told before the family
-classical_tower : misfit Make (codes "tower" ∷ codes "2" ∷ codes "--domains=varying" ∷ []) ≡ Some 4
+classical_tower : command_of (codes "make" ∷ codes "tower" ∷ codes "2" ∷ codes "--domains=varying" ∷ []) ≡ bad 4
 unfolding digits
 classical_tower = refl
 
-modal_tower : misfit Make (codes "--logic=s4" ∷ codes "tower" ∷ codes "3" ∷ []) ≡ None
+domains_of_chain : command_of (codes "make" ∷ codes "chain" ∷ codes "2" ∷ codes "--domains=constant" ∷ []) ≡ bad 4
 unfolding digits
+domains_of_chain = refl
+
+modal_tower : command_of (codes "make" ∷ codes "--logic=s4" ∷ codes "tower" ∷ codes "3" ∷ [])
+    ≡ make (record { family = Tower; size = 3; setting = setting_of S4 Constant }) usual
+unfolding usual digits
 modal_tower = refl
+
+-- ---- words of commands that are not built
 
 transfer_logic : first_bad Transfer [] (codes "m.p" ∷ codes "d.txt" ∷ codes "--logic=intuitionistic" ∷ []) ≡ Some 4
 transfer_logic = refl

@@ -5,6 +5,8 @@ use Rattle.std.specs.Prelude.{string_bytes}
 use Rattle.std.specs.Global.{Global}
 use Rattle.std.specs.List.{starts_with, list_any}
 use Rattle.calculus.specs.declared.limits.TheConstants.{MAX_PATH_LIMIT}
+use Rattle.calculus.specs.declared.family.Family.{Family}
+use Rattle.calculus.specs.declared.family.Family.TheVariants.{Chain}
 use Rattle.calculus.specs.declared.setting.Domains.{Domains}
 use Rattle.calculus.specs.declared.setting.Domains.TheVariants.{Constant, Cumulative}
 use Rattle.calculus.specs.declared.setting.Logic.{Logic}
@@ -13,8 +15,9 @@ use Rattle.calculus.specs.Problems.{is_modal}
 use Rattle.calculus.specs.Syntax.{Setting, setting_of}
 use Rattle.command_line.specs.Table.{Word, command_named, front_of, is, is_built, is_offered}
 use Rattle.command_line.specs.Table.{operands_of, options_of}
-use Rattle.command_line.specs.Values.{domains_of, is_operand, is_value, logic_of, number_of}
-use Rattle.command_line.specs.declared.value.TheConstants.{MAX_STEPS}
+use Rattle.command_line.specs.Values.{domains_of, family_of, is_operand, is_value, logic_of}
+use Rattle.command_line.specs.Values.{number_of}
+use Rattle.command_line.specs.declared.value.TheConstants.{MAX_SIZE, MAX_STEPS}
 use Rattle.command_line.specs.declared.request.TheConstants.{USUAL_LIMIT, USUAL_STEPS}
 use Rattle.command_line.specs.declared.table.CommandName.{CommandName}
 use Rattle.command_line.specs.declared.table.CommandName.TheVariants as command
@@ -39,6 +42,12 @@ abbrev pub in_intuitionistic : IntuitionisticFile → ProblemFile
 in_intuitionistic p =
     record { name = p.name; root = p.root; setting = setting_of Intuitionistic Cumulative }
 
+-- a problem that is generated, and the setting in which it is read
+pub record GeneratedProblem : Type 0 where
+  pub family : Family
+  pub size : ℕ
+  pub setting : Setting
+
 -- how far a search goes: the greatest path limit, the budget of steps and, where a search that does
 -- not return to solved goals is to come first, the greatest limit of that one
 pub record Bounds : Type 0 where
@@ -52,6 +61,7 @@ pub data Command : Type 0 where
   check : (problem : ProblemFile) (derivation : Word) → Command
   check_translated : (problem : IntuitionisticFile) (derivation : Word) → Command
   transfer : (problem : IntuitionisticFile) (derivation : Word) → Command
+  make : (problem : GeneratedProblem) (bounds : Bounds) → Command
   bad : (place : ℕ) → Command
 
 -- ---- what the words behind the command give, of which the first stands at place 2
@@ -161,6 +171,13 @@ problem_in ws = record {
 abbrev pub intuitionistic_in : List Word → IntuitionisticFile
 intuitionistic_in ws = record { name = operand_in 0 ws; root = value_in option.Root ws }
 
+abbrev pub generated_in : List Word → GeneratedProblem
+generated_in ws = record {
+  family = on (family_of (operand_in 0 ws)) (λ f. f) Chain;
+  size = on (number_of MAX_SIZE (operand_in 1 ws)) (λ n. n) 1;
+  setting = setting_of (logic_in ws) (domains_in ws);
+}
+
 abbrev pub bounds_in : List Word → Bounds
 bounds_in ws = record {
   limit = on (number_of MAX_PATH_LIMIT (value_in option.Limit ws)) (λ n. n) USUAL_LIMIT;
@@ -180,6 +197,7 @@ abbrev pub request : CommandName → List Word → Command
 request command.Prove ws = prove (problem_in ws) (bounds_in ws)
 request command.Check ws = check_in ws
 request command.Transfer ws = transfer (intuitionistic_in ws) (operand_in 1 ws)
+request command.Make ws = make (generated_in ws) (bounds_in ws)
 request _ ws = bad 1
 
 abbrev pub command_by : CommandName → List Word → Command

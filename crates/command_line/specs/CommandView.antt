@@ -5,6 +5,7 @@ use Rattle.command_line.specs.CommandLine as words
 use Rattle.command_line.specs.declared.bounds.Bounds.{Bounds}
 use Rattle.command_line.specs.declared.request.Command.{Command}
 use Rattle.command_line.specs.declared.request.Command.TheVariants as command
+use Rattle.command_line.specs.declared.request.GeneratedProblem.{GeneratedProblem}
 use Rattle.command_line.specs.declared.request.IntuitionisticFile.{IntuitionisticFile}
 use Rattle.command_line.specs.declared.request.ProblemFile.{ProblemFile}
 
@@ -14,6 +15,10 @@ the_problem_file p =
 
 abbrev pub the_intuitionistic_file : IntuitionisticFile → words.IntuitionisticFile
 the_intuitionistic_file p = record { name = p.name.now; root = p.root.now }
+
+abbrev pub the_generated_problem : GeneratedProblem → words.GeneratedProblem
+the_generated_problem p =
+    record { family = p.family; size = p.size; setting = the_setting p.setting }
 
 abbrev pub the_bounds : Bounds → words.Bounds
 the_bounds b = record {
@@ -31,4 +36,6 @@ the_command (command.CheckTranslated problem derivation) =
     words.check_translated (the_intuitionistic_file problem) derivation.now
 the_command (command.Transfer problem derivation) =
     words.transfer (the_intuitionistic_file problem) derivation.now
+the_command (command.Make problem bounds) =
+    words.make (the_generated_problem problem) (the_bounds bounds)
 the_command (command.Bad place) = words.bad place

@@ -34,6 +34,7 @@ command_named w =
 abbrev pub is_built : CommandName → Bool
 is_built Prove = true
 is_built Check = true
+is_built Make = true
 is_built Transfer = true
 is_built _ = false
 

@@ -9,4 +9,4 @@ mod table;
 mod value;
 
 pub use bounds::Bounds;
-pub use request::{Command, IntuitionisticFile, ProblemFile, command_of};
+pub use request::{Command, GeneratedProblem, IntuitionisticFile, ProblemFile, command_of};

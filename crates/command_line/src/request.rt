@@ -8,6 +8,7 @@ ghost use Rattle.command_line.specs.CommandLine.{
   check_in,
   command_by,
   domains_in,
+  generated_in,
   in_intuitionistic,
   intuitionistic_in,
   is_intuitionistic,
@@ -19,15 +20,21 @@ ghost use Rattle.command_line.specs.CommandLine.{
   tower_place,
   value_in,
 };
-ghost use Rattle.command_line.specs.CommandView.{the_bounds, the_command};
-ghost use Rattle.command_line.specs.CommandView.{the_intuitionistic_file, the_problem_file};
+ghost use Rattle.command_line.specs.CommandView.{
+  the_bounds,
+  the_command,
+  the_generated_problem,
+  the_intuitionistic_file,
+  the_problem_file,
+};
 ghost use Rattle.command_line.specs.Values.{number_of};
 
 use crate::bounds::Bounds;
 use crate::given::{given, is_given, operand, operand_in, value_in};
 use crate::good_words::first_bad;
 use crate::table::{CommandName, OptionName, command_named, is_built};
-use crate::value::{MAX_STEPS, domains_of, logic_of, number_of};
+use crate::value::{MAX_SIZE, MAX_STEPS, domains_of, family_of, logic_of, number_of};
+use calculus::family::Family;
 use calculus::limits::MAX_PATH_LIMIT;
 use cop_base::PathLimit;
 use logic_rules::{Domains, Logic, Setting};
@@ -66,6 +73,14 @@ impl<'a> IntuitionisticFile<'a> {
     }
 }
 
+/// A problem that is generated: its family, its size, and the setting in which it is read.
+#[derive(Clone, Copy)]
+pub struct GeneratedProblem {
+    pub family: Family,
+    pub size: u32,
+    pub setting: Setting,
+}
+
 /// What the words ask for, or the place of the bad or missing word, from 1.
 pub enum Command<'a> {
     Prove {
@@ -84,6 +99,10 @@ pub enum Command<'a> {
     Transfer {
         problem: IntuitionisticFile<'a>,
         derivation: &'a str,
+    },
+    Make {
+        problem: GeneratedProblem,
+        bounds: Bounds,
     },
     Bad {
         place: u64,
@@ -191,6 +210,24 @@ fn intuitionistic_in(words: &[String]) -> IntuitionisticFile<'_>
     }
 }
 
+fn generated_in(words: &[String]) -> GeneratedProblem
+    ensures { the_generated_problem result ≡ generated_in (map string_bytes words.now) }
+{
+    let family = match family_of(operand_in(0, words)) {
+        Some(family) => family,
+        None => Family::Chain,
+    };
+    let size = match number_of(MAX_SIZE, operand_in(1, words)) {
+        Some(size) => size as u32,
+        None => 1,
+    };
+    GeneratedProblem {
+        family,
+        size,
+        setting: Setting::new(logic_in(words), domains_in(words)),
+    }
+}
+
 fn bounds_in(words: &[String]) -> Bounds
     ensures { the_bounds result ≡ bounds_in (map string_bytes words.now) }
 {
@@ -237,6 +274,10 @@ fn request(command: CommandName, words: &[String]) -> Command<'_>
         CommandName::Transfer => Command::Transfer {
             problem: intuitionistic_in(words),
             derivation: operand_in(1, words),
+        },
+        CommandName::Make => Command::Make {
+            problem: generated_in(words),
+            bounds: bounds_in(words),
         },
         _ => Command::Bad { place: 1 },
     }

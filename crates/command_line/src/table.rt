@@ -67,9 +67,8 @@ pub fn is_built(command: CommandName) -> bool
     ensures { result ≡ is_built command }
 {
     match command {
-        CommandName::Prove | CommandName::Check | CommandName::Transfer => true,
-        CommandName::Make
-        | CommandName::Migrate
+        CommandName::Prove | CommandName::Check | CommandName::Make | CommandName::Transfer => true,
+        CommandName::Migrate
         | CommandName::Model
         | CommandName::Tableau
         | CommandName::Tcheck

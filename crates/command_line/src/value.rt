@@ -87,7 +87,7 @@ fn version_of(value: &str) -> Option<Version>
     }
 }
 
-fn family_of(word: &str) -> Option<Family>
+pub fn family_of(word: &str) -> Option<Family>
     ensures { result ≡ family_of word.now }
 {
     match word {

@@ -4,12 +4,14 @@ use Rattle.std.specs.Prelude.{IfSome}
 use Rattle.calculus.specs.Syntax.{Problem}
 use Rattle.calculus.specs.Translation.{translated_problem}
 use Rattle.cop_base.specs.Outside.{Files, file_in, Rose}
-use Rattle.command_line.specs.CommandLine.{Bounds, Command, ProblemFile, in_intuitionistic, prove, check, check_translated, transfer, bad}
+use Rattle.command_line.specs.CommandLine.{Bounds, Command, GeneratedProblem, ProblemFile, in_intuitionistic, prove, check, check_translated, transfer, make, bad}
 use Rattle.command_line.specs.Table.{Word}
 use Rattle.problem_build.specs.Refusals.{Refusal}
 use Rattle.leancop_top.proofs.Budgets.{not_steps_ended}
 use Rattle.leancop_top.proofs.Cuts.{prove-by_cut}
 use Rattle.leancop_top.specs.Commands.Check.{CheckEnds, IsJudged, TranslatedCheckEnds, accepted, rejected, not_fetched, not_translated, translated}
+use Rattle.leancop_top.specs.Commands.Make.{IsMakeable, MakeEnds, made_file, made_files}
+use Rattle.leancop_top.specs.Commands.Make as made
 use Rattle.leancop_top.specs.Commands.Prove.{IsDecided, ProveEnds, derived, fruitless}
 use Rattle.leancop_top.specs.Commands.Transfer.{IsTransferDecided, TransferEnds, transferred}
 use Rattle.leancop_top.specs.Commands.Transfer as transfer_ends
@@ -102,6 +104,16 @@ transfer-decided told files P d text m n f g t held quiet _ _ (transfer_ends.not
 transfer-decided told files P d text m n f g t held quiet _ _ (transfer_ends.rejected line fault h) counted = tt
 transfer-decided told files P d text m n f g t held quiet _ _ (transfer_ends.not_fetched s h) counted = absurd (fetched told files d text m n f g t held quiet s h counted)
 
+-- ---- make
+
+make-decided : (g : GeneratedProblem) (b : Bounds) → IsMakeable g b → (s : Status) (bytes : List ℕ) → MakeEnds g b s bytes → IsDecided s
+make-decided g b e _ _ (made.derived P d text h k) = tt
+make-decided g b e _ _ (made.fruitless P s h k) =
+    let same = same_problem (Some (made_files g)) (made_files g) (made_file g) e.problem P refl e.read h in
+    search-decided e.problem b e.suffices s (subst (λ Q. SearchEnds Q b s) same k)
+make-decided g b e _ _ (made.refused r h k) =
+    absurd (ok-err e.problem r (Ok e.problem) (Err r) refl refl (read_is (Some (made_files g)) (made_files g) (made_file g) e.problem (Err r) refl e.read k))
+
 -- ---- the commands
 
 pub decided : (told : Option Files) (command : Command) (s : Status) (bytes : List ℕ) (m n f g : ℕ) → Ends told command s bytes → IsCounted m n f g s → ¬ Rose f g → Decides told command s
@@ -116,6 +128,7 @@ decided told (check_translated p d) s bytes m n f g ends counted quiet = λ h.
     translated-check-decided told c.files c.problem d c.bytes m n f g c.tells c.given quiet h.translatable s bytes (for-problem told c.files (in_intuitionistic p) c.problem (λ P. TranslatedCheckEnds told P d) m n f g c.tells c.read quiet s bytes ends counted) counted
 decided told (transfer p d) s bytes m n f g ends counted quiet = λ h.
     transfer-decided told h.files h.problem d h.bytes m n f g h.tells h.given quiet s bytes (for-problem told h.files (in_intuitionistic p) h.problem (λ P. TransferEnds told P d) m n f g h.tells h.read quiet s bytes ends counted) counted
+decided told (make g b) s bytes m n f k ends counted quiet = λ h. make-decided g b h s bytes ends
 decided told (bad place) s bytes m n f g ends counted quiet = tt
 
 -- so it is where anything is answered

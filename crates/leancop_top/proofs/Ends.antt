@@ -5,10 +5,12 @@ use Rattle.cop_base.specs.Outside.{Files}
 use Rattle.cop_base.specs.declared.NoMemory.{NoMemory}
 use Rattle.calculus.specs.Syntax.{Problem}
 use Rattle.calculus.specs.Translation.{translated_problem}
-use Rattle.command_line.specs.CommandLine.{Bounds, Command, ProblemFile, in_intuitionistic, prove, check, check_translated, transfer, bad}
+use Rattle.command_line.specs.CommandLine.{Bounds, Command, GeneratedProblem, ProblemFile, in_intuitionistic, prove, check, check_translated, transfer, make, bad}
 use Rattle.command_line.specs.Table.{Word}
 use Rattle.problem_build.specs.Refusals.{Refusal, missing, input_too_large, nesting_too_deep, formula_too_large, too_many_symbols, bad as bad_problem}
 use Rattle.leancop_top.specs.Commands.Check.{CheckEnds, TranslatedCheckEnds, accepted, rejected, not_fetched, not_translated, translated}
+use Rattle.leancop_top.specs.Commands.Make.{IsOfText, MakeEnds}
+use Rattle.leancop_top.specs.Commands.Make as made
 use Rattle.leancop_top.specs.Commands.Prove.{ProveEnds, derived, fruitless}
 use Rattle.leancop_top.specs.Commands.Transfer.{TransferEnds, transferred}
 use Rattle.leancop_top.specs.Commands.Transfer as transfer_ends
@@ -61,6 +63,25 @@ proved-counted P b m n f g (Err k) h = tt
 pub translating-counted : (P : Problem) (m n f g : ℕ) (s : Status) → TranslatingEnds P s → IsCounted m n f g s
 translating-counted P m n f g _ (translating.too_deep h) = tt
 translating-counted P m n f g _ (translating.too_large h k) = tt
+
+-- ---- nor does the reading of a generated text, as far as its library counts
+
+refusal-counted : (m n f g : ℕ) (r : Refusal) → IsOfText r → IsCounted m n f g (refusal_status r)
+refusal-counted m n f g (missing name) h = absurd h
+refusal-counted m n f g input_too_large h = tt
+refusal-counted m n f g nesting_too_deep h = tt
+refusal-counted m n f g formula_too_large h = tt
+refusal-counted m n f g too_many_symbols h = tt
+refusal-counted m n f g (bad_problem file offset cause) h = tt
+
+make-counted : (p : GeneratedProblem) (b : Bounds) (m n f g : ℕ) (s : Status) (bytes : List ℕ) → MakeEnds p b s bytes → IsCounted m n f g s
+make-counted p b m n f g _ _ (made.derived P d text h k) = tt
+make-counted p b m n f g _ _ (made.fruitless P s h k) = search-counted P b m n f g s k
+make-counted p b m n f g _ _ (made.refused r h k) = refusal-counted m n f g r h
+
+pub made-counted : (p : GeneratedProblem) (b : Bounds) (m n f g : ℕ) (r : Result Reply NoMemory) → IfOk r (λ x. MakeEnds p b x.status x.output.items) → IfOk r (λ x. IsCounted m n f g x.status)
+made-counted p b m n f g (Ok x) h = make-counted p b m n f g x.status x.output.items h
+made-counted p b m n f g (Err k) h = tt
 
 -- ---- what ends a run tells something
 
@@ -127,6 +148,12 @@ transfer-told told P d _ _ (transfer_ends.not_translated s h) = translating-told
 transfer-told told P d _ _ (transfer_ends.rejected line fault h) = refl
 transfer-told told P d _ _ (transfer_ends.not_fetched s h) = fetch-told told d s h
 
+make-told : (g : GeneratedProblem) (b : Bounds) (s : Status) (bytes : List ℕ) → MakeEnds g b s bytes → is_silent s ≡ false
+unfolding is_silent
+make-told g b _ _ (made.derived P d text h k) = refl
+make-told g b _ _ (made.fruitless P s h k) = search-told P b s k
+make-told g b _ _ (made.refused r h k) = refusal-told r
+
 bad-told : (place : ℕ) (s : Status) → s ≡ status.BadWords place → is_silent s ≡ false
 unfolding is_silent
 bad-told place s e = rw e refl
@@ -136,6 +163,7 @@ told files (prove p b) s bytes h = on-told files p (λ P. ProveEnds P b) (λ P. 
 told files (check p d) s bytes h = on-told files p (λ P. CheckEnds files P d) (λ P. check-told files P d) s bytes h
 told files (check_translated p d) s bytes h = on-told files (in_intuitionistic p) (λ P. TranslatedCheckEnds files P d) (λ P. translated-check-told files P d) s bytes h
 told files (transfer p d) s bytes h = on-told files (in_intuitionistic p) (λ P. TransferEnds files P d) (λ P. transfer-told files P d) s bytes h
+told files (make g b) s bytes h = make-told g b s bytes h
 told files (bad place) s bytes h = bad-told place s h.0
 
 true-false : (t : Bool) → t ≡ true → t ≡ false → ⊥

@@ -4,6 +4,8 @@ pub mod Budgets
 pub mod Searches
 pub mod Cuts
 pub mod Refusals
+pub mod NoIncludes
+pub mod Made
 pub mod Ends
 pub mod Translations
 pub mod Decisions

@@ -1,3 +1,4 @@
 pub mod Prove
 pub mod Check
 pub mod Transfer
+pub mod Make

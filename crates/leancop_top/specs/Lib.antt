@@ -6,5 +6,6 @@ pub mod SecondFile
 pub mod Translating
 pub mod TableauSearch
 pub mod Derived
+pub mod MadeLines
 pub mod Commands
 pub mod Run

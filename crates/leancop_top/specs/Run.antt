@@ -1,10 +1,11 @@
 -- What a run answers, by its words and by the files that its library tells.
 use Rattle.std.specs.Prelude.{◌≡◌, ⊤, ℕ, List, take, Option}
 use Rattle.cop_base.specs.Outside.{Files, with_bytes}
-use Rattle.command_line.specs.CommandLine.{Command, prove, check, check_translated, transfer, bad}
+use Rattle.command_line.specs.CommandLine.{Command, prove, check, check_translated, transfer, make, bad}
 use Rattle.command_line.specs.CommandLine.{in_intuitionistic}
 use Rattle.leancop_top.specs.Commands.Check.{CheckEnds, IsCheckable, IsJudged}
 use Rattle.leancop_top.specs.Commands.Check.{IsCheckableTranslated, TranslatedCheckEnds}
+use Rattle.leancop_top.specs.Commands.Make.{IsMakeable, MakeEnds}
 use Rattle.leancop_top.specs.Commands.Prove.{IsDecided, IsDerivedAt, IsProvable}
 use Rattle.leancop_top.specs.Commands.Prove.{IsProvableByCut, ProveEnds}
 use Rattle.leancop_top.specs.Commands.Transfer.{IsTransferDecided, TransferEnds}
@@ -22,6 +23,7 @@ Ends told (check_translated p derivation) status bytes =
     EndsOn told (in_intuitionistic p) (λ P. TranslatedCheckEnds told P derivation) status bytes
 Ends told (transfer p derivation) status bytes =
     EndsOn told (in_intuitionistic p) (λ P. TransferEnds told P derivation) status bytes
+Ends told (make g b) status bytes = MakeEnds g b status bytes
 Ends told (bad place) status bytes =
     (status ≡ BadWords place) × (bytes ≡ status_line status)
 
@@ -52,4 +54,5 @@ Decides told (check_translated p derivation) status =
     IsCheckableTranslated told (in_intuitionistic p) derivation → IsJudged status
 Decides told (transfer p derivation) status =
     IsCheckable told (in_intuitionistic p) derivation → IsTransferDecided status
+Decides told (make g b) status = IsMakeable g b → IsDecided status
 Decides told (bad place) status = ⊤

@@ -1,5 +1,6 @@
 //! A file for each command.
 
 pub mod check;
+pub mod make;
 pub mod prove;
 pub mod transfer;

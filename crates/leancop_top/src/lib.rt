@@ -3,6 +3,7 @@
 
 mod commands;
 mod fault_text;
+mod made_lines;
 mod problem;
 mod program;
 mod reply;
@@ -10,6 +11,7 @@ mod second_file;
 mod status;
 mod status_line;
 mod tableau_search;
+mod text_library;
 mod translation;
 mod writing;
 

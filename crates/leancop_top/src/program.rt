@@ -11,6 +11,7 @@ ghost use Rattle.leancop_top.specs.Run.{Decides, Ends, IsAnswered, IsCutOff};
 ghost use Rattle.leancop_top.specs.Statuses.{IsCounted, OnAnswer};
 
 use crate::commands::check::{check, check_translated};
+use crate::commands::make::make;
 use crate::commands::prove::prove;
 use crate::commands::transfer::transfer;
 use crate::reply::{Reply, line_reply};
@@ -43,6 +44,7 @@ fn answer<L: Library>(alloc: Global, words: &[String], lib: &mut L) -> Result<Re
             problem,
             derivation,
         } => transfer(alloc, lib, problem, derivation),
+        Command::Make { problem, bounds } => make(alloc, problem, bounds),
         Command::Bad { place } => line_reply(alloc, Status::BadWords { place }),
     }
 }

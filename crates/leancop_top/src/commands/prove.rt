@@ -40,7 +40,8 @@ fn derive(
     convert(alloc, problem, &tableau, limit)
 }
 
-fn derivation_text(
+/// The text of the derivation to which the tableau leads.
+pub fn derivation_text(
     alloc: Global,
     problem: &Problem,
     tableau: Tableau,
