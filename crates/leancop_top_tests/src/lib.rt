@@ -8,6 +8,8 @@ mod cut_tests;
 #[cfg(test)]
 mod file_tests;
 #[cfg(test)]
+mod make_tests;
+#[cfg(test)]
 mod prove_tests;
 #[cfg(test)]
 mod runs;
