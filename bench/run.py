@@ -12,8 +12,10 @@ Runs the built program over problems whose status is known, and prints how many 
   --filter=RE        problems whose file matches
   --time=S           processor seconds for a problem (10)
   --steps=N          the budget (1099511627776)
+  --cut=L            first a search up to this limit that does not return to solved goals
   --baseline         the same calculus in Prolog (baseline.pl) beside it, where swipl is installed
-  --speed            steps in a second alone, of both, on problems that do not end
+  --speed            speed alone, of both: the time that one path limit takes which is searched whole and in vain, and steps in a
+                     second on the same problems
 Answers: T a derivation, which `check` accepts; N no tableau; x exhausted, or steps ended; r refused; . out of time; ? other.
 A `!` after an answer: it contradicts the status."""
 import collections, concurrent.futures, math, os, re, shutil, subprocess, sys, tempfile, threading
@@ -32,8 +34,10 @@ STEPS = options.get("steps", "1099511627776")
 HAS_PROLOG = shutil.which("swipl") is not None
 JOBS = int(options.get("jobs", 1))
 SETTING = ["--%s=%s" % (name, options[name]) for name in ("logic", "domains") if name in options]
-KEPT_WORDS = " ".join([*SETTING, "--steps=" + STEPS, "--time=%g" % LIMIT])
-SPEED = ["fam/grpeq_rinv.p", "fam/set_distr.p", "pel/p34.p", "fam/debruijn_n3.p"]
+CUT = ["--cut=" + options["cut"]] if "cut" in options else []
+KEPT_WORDS = " ".join([*SETTING, *CUT, "--steps=" + STEPS, "--time=%g" % LIMIT])
+# problems, each with a path limit within which nothing is closed
+SPEED = {"fam/grpeq_rinv.p": 5, "fam/set_distr.p": 5, "pel/p34.p": 4, "fam/debruijn_n3.p": 4}
 TIMES = [0.1, 1, 10]
 Problem = collections.namedtuple("Problem", "file status")
 Run = collections.namedtuple("Run", "code output seconds kilobytes")
@@ -66,7 +70,7 @@ def words(command, problem, *more):
 
 def prove(problem):
     name, folder = place(problem)
-    got = run(words("prove", problem, "--limit=200", "--steps=" + STEPS), folder, LIMIT)
+    got = run(words("prove", problem, "--limit=200", "--steps=" + STEPS, *CUT), folder, LIMIT)
     answer = {0: "T", 1: "x", 2: "N", 3: "x", 4: "r", None: "."}.get(got.code, "?")
     if answer == "T":
         with tempfile.NamedTemporaryFile("w", encoding="latin-1") as derivation:
@@ -78,10 +82,10 @@ def prove(problem):
     return answer, got
 
 
-def prove_in_prolog(problem):
+def prove_in_prolog(problem, *more, limit=LIMIT):
     name, folder = place(problem)
-    command = ["swipl", "-O", "--stack_limit=4g", os.path.join(HERE, "baseline.pl"), name, *SETTING, "--root=" + os.path.abspath(options.get("root", folder)), "--time=%g" % LIMIT]
-    got = run(command, folder, LIMIT + 1)
+    command = ["swipl", "-O", "--stack_limit=4g", os.path.join(HERE, "baseline.pl"), name, *SETTING, "--root=" + os.path.abspath(options.get("root", folder)), "--time=%g" % limit, *more]
+    got = run(command, folder, limit + 1)
     return {"Theorem": "T", "NoTableau": "N", "Exhausted": "x", "Timeout": "."}.get(got.output.split(" ")[0], "." if got.code is None else "?"), got
 
 
@@ -141,18 +145,25 @@ def solve(problems):
 
 
 def measure_speed(problems):
-    print("| problem | leancop, steps a second | Prolog, steps a second | ratio |\n|---|---|---|---|")
+    """Times of one limit searched whole compare the two: Prolog counts an extension before it looks at regularity, and leancop after."""
+    print("| problem | limit | leancop, s | Prolog, s | times less | leancop, steps a second | Prolog, steps a second |\n|---|---|---|---|---|---|---|")
     for problem in [p for p in problems if p.file in SPEED]:
         name, folder = place(problem)
-        got = run(words("prove", problem, "--limit=200", "--steps=1000000"), folder, 60)
-        ended = re.search(r"at (\d+) steps", got.output)
-        mine = int(ended.group(1)) / max(got.seconds, 1e-3) if ended else None
-        other = None
+        limit = "--limit=%d" % SPEED[problem.file]
+        whole = run(words("prove", problem, limit, "--steps=1099511627776"), folder, 600)
+        mine = whole.seconds if whole.code == 1 else None
+        stopped = run(words("prove", problem, "--limit=200", "--steps=1000000"), folder, 60)
+        ended = re.search(r"at (\d+) steps", stopped.output)
+        rate = int(ended.group(1)) / max(stopped.seconds, 1e-3) if ended else None
+        theirs = their_rate = None
         if HAS_PROLOG:
-            told = re.search(r"steps=(\d+) kept=\d+ cpu=([\d.]+)", prove_in_prolog(problem)[1].output)
-            other = int(told.group(1)) / max(float(told.group(2)), 1e-3) if told else None
-        show = lambda x: "%.0f" % x if x else "-"
-        print("| %s | %s | %s | %s |" % (problem.file, show(mine), show(other), "%.2f" % (mine / other) if mine and other else "-"), flush=True)
+            answer, got = prove_in_prolog(problem, limit, limit=600)
+            told = re.search(r"steps=(\d+) kept=\d+ cpu=([\d.]+)", got.output)
+            theirs = float(told.group(2)) if told and answer == "x" else None
+            their_rate = int(told.group(1)) / max(float(told.group(2)), 1e-3) if told else None
+        show = lambda form, x: form % x if x else "-"
+        ratio = theirs / mine if mine and theirs else None
+        print("| %s | %d | %s | %s | %s | %s | %s |" % (problem.file, SPEED[problem.file], show("%.2f", mine), show("%.2f", theirs), show("%.1f", ratio), show("%.0f", rate), show("%.0f", their_rate)), flush=True)
 
 
 if __name__ == "__main__":
