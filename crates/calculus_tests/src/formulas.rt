@@ -2,69 +2,15 @@
 
 ghost use Rattle.std.specs.Prelude.{◌≤◌, ◌^◌};
 
-use cop_base::{NoMemory, PosId, SymbolId};
-use example_problems::{plain, symbol};
+use cop_base::{NoMemory, PosId, SymbolId, Text};
 use formula_core::{
     Formula, GroundLabel, GroundMark, GroundTerm, GroundTerms, Shape, Sign, Symbol, SymbolClass,
     Symbols, Term, Terms, Value, Values, clause_count, literal_count, nesting, node_count,
 };
+use logic_rules::{Domains, Logic, Problem};
 use std::alloc::Global;
 use std::test::Fail;
-
-fn pair(alloc: Global, a: Term, b: Term) -> Result<Terms, NoMemory> {
-    let mut terms = Terms::new(alloc);
-    terms.push(a)?;
-    terms.push(b)?;
-    Ok(terms)
-}
-
-fn function(alloc: Global, a: Term, b: Term) -> Result<Term, NoMemory> {
-    Ok(Term::Fun(SymbolId(1), pair(alloc, a, b)?))
-}
-
-fn related(alloc: Global, a: Term, b: Term) -> Result<Formula, NoMemory> {
-    Ok(Formula::Atom(SymbolId(0), pair(alloc, a, b)?))
-}
-
-fn twice(alloc: Global, f: &Formula) -> Result<Formula, NoMemory> {
-    Formula::and(alloc, f.copy(alloc)?, f.copy(alloc)?)
-}
-
-// ((p | q) & (p | q)) & (p | q)
-fn three(alloc: Global) -> Result<Formula, NoMemory> {
-    let either = Formula::or(alloc, plain(alloc, 0), plain(alloc, 1))?;
-    Formula::and(alloc, twice(alloc, &either)?, either)
-}
-
-// ~[]p(0,e1), where numbers are variables.
-fn denied(alloc: Global) -> Result<Formula, NoMemory> {
-    let inner = related(alloc, Term::Var(0), Term::Eigen(1))?;
-    Formula::not(alloc, Formula::nec(alloc, inner)?)
-}
-
-// (p(0,1) & ~[]p(0,e1))
-fn given(alloc: Global) -> Result<Formula, NoMemory> {
-    let first = related(alloc, Term::Var(0), Term::Var(1))?;
-    Formula::and(alloc, first, denied(alloc)?)
-}
-
-// !?p(2,f(1,3))
-fn bound(alloc: Global) -> Result<Formula, NoMemory> {
-    let inner = function(alloc, Term::Var(1), Term::Var(3))?;
-    let inner = related(alloc, Term::Var(2), inner)?;
-    Formula::all(alloc, Formula::ex(alloc, inner)?)
-}
-
-// (!?p(2,f(1,3)) | <>q)
-fn shown(alloc: Global) -> Result<Formula, NoMemory> {
-    let possible = Formula::poss(alloc, plain(alloc, 1))?;
-    Formula::or(alloc, bound(alloc)?, possible)
-}
-
-// (p(0,1) & ~[]p(0,e1)) > (!?p(2,f(1,3)) | <>q), the body of a quantifier.
-fn body(alloc: Global) -> Result<Formula, NoMemory> {
-    Formula::imp(alloc, given(alloc)?, shown(alloc)?)
-}
+use test_problems::proving;
 
 // Whether there are so many clauses, literals and nodes.
 fn counts(f: &Formula, sign: Sign, limit: u64, clauses: u64, literals: u64, nodes: u64) -> bool
@@ -86,9 +32,22 @@ fn counts_of_three(f: &Formula) -> bool {
 
 #[test]
 fn counts_clauses(rt: HostRuntime) -> Result<(), Fail> {
-    let three = three(rt.alloc())?;
-    assert!(rt; counts_of_three(&three));
+    let formula = b"((p | q) & (p | q)) & (p | q)";
+    let problem = proving(rt.alloc(), Logic::T, Domains::Constant, formula)?;
+    assert!(rt; counts_of_three(problem.formula()));
     Ok(())
+}
+
+// What the two inner quantifiers bind, with an eigenvariable for E.
+fn body_of(alloc: Global, problem: &Problem) -> Result<Option<Formula>, NoMemory> {
+    let Some(inner) = problem.formula().at(PosId(1)) else {
+        return Ok(None);
+    };
+    let inner = inner.instance(alloc, &Term::Eigen(1))?;
+    match inner.at(PosId(2)) {
+        Some(body) => Ok(Some(body.copy(alloc)?)),
+        None => Ok(None),
+    }
 }
 
 fn is_atom_at(f: &Formula, position: u32, symbol: u32) -> bool {
@@ -101,39 +60,49 @@ fn is_atom_at(f: &Formula, position: u32, symbol: u32) -> bool {
     }
 }
 
-// The last position, 11, is that of q.
+// The last position, 11, is that of q, which is the third symbol.
 fn parts_of_body(f: &Formula) -> bool {
     is_atom_at(f, 9, 0)
-        && !is_atom_at(f, 10, 1)
-        && is_atom_at(f, 11, 1)
+        && !is_atom_at(f, 10, 2)
+        && is_atom_at(f, 11, 2)
         && f.at(PosId(12)).is_none()
         && f.components(Sign::T).shape() == Shape::Beta
 }
 
+// How many nodes there are with f(s2,e3) for U, which stands there three times.
+fn nodes_with_term(alloc: Global, body: &Formula) -> Result<u64, NoMemory> {
+    let mut terms = Terms::new(alloc);
+    terms.push(Term::Spare(2))?;
+    terms.push(Term::Eigen(3))?;
+    let instance = body.instance(alloc, &Term::Fun(SymbolId(1), terms))?;
+    Ok(node_count(&instance, 100))
+}
+
 #[test]
-fn takes_apart(rt: HostRuntime) -> Result<(), Fail> {
-    let body = body(rt.alloc())?;
+fn takes_apart_and_puts_terms(rt: HostRuntime) -> Result<(), Fail> {
+    let alloc = rt.alloc();
+    let formula = b"![E]:![V]:![U]:((p(U,V) & ~#box:p(U,E)) => (![Y]:?[Z]:p(U,f(Y,V)) | #dia:q))";
+    let problem = proving(alloc, Logic::T, Domains::Constant, formula)?;
+    let body = body_of(alloc, &problem)?.ok_or("body")?;
     assert!(rt; counts(&body, Sign::F, 100, 4, 4, 20) && nesting(&body) == 7);
     assert!(rt; parts_of_body(&body));
+    assert!(rt; nodes_with_term(alloc, &body)? == 26);
     Ok(())
 }
 
-// The body with f(s2,e3) for its variable.
-fn instance_of_body(alloc: Global) -> Result<Formula, NoMemory> {
-    let put = function(alloc, Term::Spare(2), Term::Eigen(3))?;
-    body(alloc)?.instance(alloc, &put)
-}
-
-#[test]
-fn puts_terms(rt: HostRuntime) -> Result<(), Fail> {
-    let instance = instance_of_body(rt.alloc())?;
-    assert!(rt; node_count(&instance, 100) == 26);
-    Ok(())
+// The symbol `p` of this class with one argument.
+fn symbol(alloc: Global, class: SymbolClass) -> Result<Symbol, NoMemory> {
+    let name = Text::new(alloc, b"p")?;
+    Ok(Symbol {
+        name,
+        class,
+        arity: 1,
+    })
 }
 
 // Whether adding the symbol of this class gives the place.
 fn adds(alloc: Global, symbols: &mut Symbols, class: SymbolClass, place: u32) -> bool {
-    let Ok(symbol) = symbol(alloc, b"p", class, 1) else {
+    let Ok(symbol) = symbol(alloc, class) else {
         return false;
     };
     match symbols.add(symbol) {
@@ -143,7 +112,7 @@ fn adds(alloc: Global, symbols: &mut Symbols, class: SymbolClass, place: u32) ->
 }
 
 fn finds(alloc: Global, symbols: &Symbols, class: SymbolClass, place: u32) -> bool {
-    let Ok(symbol) = symbol(alloc, b"p", class, 1) else {
+    let Ok(symbol) = symbol(alloc, class) else {
         return false;
     };
     match symbols.find(&symbol) {

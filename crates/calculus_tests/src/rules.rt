@@ -1,45 +1,11 @@
-//! The tables of the rules, and a small problem.
+//! The tables of the rules, and small problems.
 
-ghost use Rattle.std.specs.Prelude.{◌≡◌, IfOk};
-ghost use Rattle.calculus_tests.specs.Examples.{IsExample, all_p, two_symbols};
-ghost use Rattle.formula_core.specs.FormulaView.{the_formula};
-
-use cop_base::NoMemory;
-use example_problems::{add, applied, label, plain};
-use formula_core::{Formula, Sign, SymbolClass, Symbols, Term};
+use formula_core::{Formula, Sign};
 use logic_rules::{
     Domains, Kind, Logic, Mark, ModalPart, Problem, Setting, Shape, home_allows, kind_of, steps_to,
 };
-use std::alloc::Global;
 use std::test::Fail;
-
-// What stands at the head of a formula of the table.
-#[derive(Clone, Copy)]
-enum Head {
-    Atom,
-    Not,
-    And,
-    Or,
-    Imp,
-    All,
-    Ex,
-    Nec,
-    Poss,
-}
-
-fn formula(alloc: Global, head: Head) -> Result<Formula, NoMemory> {
-    match head {
-        Head::Atom => Ok(plain(alloc, 0)),
-        Head::Not => Formula::not(alloc, plain(alloc, 0)),
-        Head::And => Formula::and(alloc, plain(alloc, 0), plain(alloc, 0)),
-        Head::Or => Formula::or(alloc, plain(alloc, 0), plain(alloc, 0)),
-        Head::Imp => Formula::imp(alloc, plain(alloc, 0), plain(alloc, 0)),
-        Head::All => Formula::all(alloc, plain(alloc, 0)),
-        Head::Ex => Formula::ex(alloc, plain(alloc, 0)),
-        Head::Nec => Formula::nec(alloc, plain(alloc, 0)),
-        Head::Poss => Formula::poss(alloc, plain(alloc, 0)),
-    }
-}
+use test_problems::proving;
 
 // Whether the formula has this shape, with the first modal part in classical and modal logics and
 // the second in intuitionistic logic.
@@ -60,25 +26,25 @@ fn has_kind(
 }
 
 // The shape of each formula under each sign, and its modal parts.
-const KINDS: [(Head, Sign, Shape, ModalPart, ModalPart); 18] = [
-    (Head::Atom, Sign::T, Shape::Literal, PLAIN, NU),
-    (Head::Atom, Sign::F, Shape::Literal, PLAIN, PI),
-    (Head::Not, Sign::T, Shape::Alpha, PLAIN, NU),
-    (Head::Not, Sign::F, Shape::Alpha, PLAIN, PI),
-    (Head::And, Sign::T, Shape::Alpha, PLAIN, PLAIN),
-    (Head::And, Sign::F, Shape::Beta, PLAIN, PLAIN),
-    (Head::Or, Sign::T, Shape::Beta, PLAIN, PLAIN),
-    (Head::Or, Sign::F, Shape::Alpha, PLAIN, PLAIN),
-    (Head::Imp, Sign::T, Shape::Beta, PLAIN, NU),
-    (Head::Imp, Sign::F, Shape::Alpha, PLAIN, PI),
-    (Head::All, Sign::T, Shape::Gamma, PLAIN, NU),
-    (Head::All, Sign::F, Shape::Delta, PLAIN, PI),
-    (Head::Ex, Sign::T, Shape::Delta, PLAIN, PLAIN),
-    (Head::Ex, Sign::F, Shape::Gamma, PLAIN, PLAIN),
-    (Head::Nec, Sign::T, Shape::Alpha, NU, NU),
-    (Head::Nec, Sign::F, Shape::Alpha, PI, PI),
-    (Head::Poss, Sign::T, Shape::Alpha, PI, PI),
-    (Head::Poss, Sign::F, Shape::Alpha, NU, NU),
+const KINDS: &[(&[u8], Sign, Shape, ModalPart, ModalPart)] = &[
+    (b"p", Sign::T, Shape::Literal, PLAIN, NU),
+    (b"p", Sign::F, Shape::Literal, PLAIN, PI),
+    (b"~p", Sign::T, Shape::Alpha, PLAIN, NU),
+    (b"~p", Sign::F, Shape::Alpha, PLAIN, PI),
+    (b"p & p", Sign::T, Shape::Alpha, PLAIN, PLAIN),
+    (b"p & p", Sign::F, Shape::Beta, PLAIN, PLAIN),
+    (b"p | p", Sign::T, Shape::Beta, PLAIN, PLAIN),
+    (b"p | p", Sign::F, Shape::Alpha, PLAIN, PLAIN),
+    (b"p => p", Sign::T, Shape::Beta, PLAIN, NU),
+    (b"p => p", Sign::F, Shape::Alpha, PLAIN, PI),
+    (b"![X]:p", Sign::T, Shape::Gamma, PLAIN, NU),
+    (b"![X]:p", Sign::F, Shape::Delta, PLAIN, PI),
+    (b"?[X]:p", Sign::T, Shape::Delta, PLAIN, PLAIN),
+    (b"?[X]:p", Sign::F, Shape::Gamma, PLAIN, PLAIN),
+    (b"#box:p", Sign::T, Shape::Alpha, NU, NU),
+    (b"#box:p", Sign::F, Shape::Alpha, PI, PI),
+    (b"#dia:p", Sign::T, Shape::Alpha, PI, PI),
+    (b"#dia:p", Sign::F, Shape::Alpha, NU, NU),
 ];
 
 const PLAIN: ModalPart = ModalPart::Plain;
@@ -89,9 +55,9 @@ const PI: ModalPart = ModalPart::Pi;
 
 #[test]
 fn tells_kinds(rt: HostRuntime) -> Result<(), Fail> {
-    for (head, sign, shape, modal, intuitionistic) in KINDS {
-        let f = formula(rt.alloc(), head)?;
-        assert!(rt; has_kind(&f, sign, shape, modal, intuitionistic));
+    for (formula, sign, shape, modal, intuitionistic) in KINDS {
+        let problem = proving(rt.alloc(), Logic::T, Domains::Constant, formula)?;
+        assert!(rt; has_kind(problem.formula(), *sign, *shape, *modal, *intuitionistic));
     }
     Ok(())
 }
@@ -130,16 +96,10 @@ fn are_steps(from: &[Mark], to: &[Mark], answers: [bool; 5]) -> bool {
         && steps_to(Logic::S5, from, to) == s5
 }
 
-fn lead(alloc: Global, from: &[Mark], to: &[Mark], answers: [bool; 5]) -> Result<bool, NoMemory> {
-    let from = label(alloc, from)?;
-    let to = label(alloc, to)?;
-    Ok(are_steps(from.items(), to.items(), answers))
-}
-
 #[test]
 fn follows_labels(rt: HostRuntime) -> Result<(), Fail> {
     for (from, to, answers) in STEPS {
-        assert!(rt; lead(rt.alloc(), from, to, answers)?);
+        assert!(rt; are_steps(from, to, answers));
     }
     Ok(())
 }
@@ -172,38 +132,6 @@ fn allows_names(rt: HostRuntime) -> Result<(), Fail> {
     Ok(())
 }
 
-// The predicate symbol `p`, and `c` of this class and arity.
-fn p_and_c(alloc: Global, class: SymbolClass, arity: u32) -> Result<Symbols, NoMemory>
-    ensures { IfOk result (λ s. s ≡ two_symbols class arity) }
-{
-    let mut symbols = Symbols::new(alloc);
-    add(alloc, &mut symbols, b"p", SymbolClass::Predicate, 1)?;
-    add(alloc, &mut symbols, b"c", class, arity)?;
-    Ok(symbols)
-}
-
-// ![X]:p(X)
-fn all_p(alloc: Global) -> Result<Formula, NoMemory>
-    ensures { IfOk result (λ f. the_formula f ≡ all_p) }
-{
-    let inside = applied(alloc, Term::Var(0))?;
-    Formula::all(alloc, inside)
-}
-
-fn problem(
-    alloc: Global,
-    logic: Logic,
-    domains: Domains,
-    class: SymbolClass,
-    arity: u32,
-) -> Result<Problem, NoMemory>
-    requires { IsExample logic domains class arity }
-{
-    let formula = all_p(alloc)?;
-    let symbols = p_and_c(alloc, class, arity)?;
-    Ok(Problem::new(Setting::new(logic, domains), formula, symbols))
-}
-
 fn is_kept(problem: &Problem) -> bool {
     problem.setting().logic() == Logic::S5
         && problem.setting().domains() == Domains::Varying
@@ -211,39 +139,28 @@ fn is_kept(problem: &Problem) -> bool {
         && problem.symbols().len() == 2
 }
 
-fn keeps_problem(alloc: Global) -> Result<bool, NoMemory> {
-    let problem = problem(alloc, Logic::S5, Domains::Varying, SymbolClass::Function, 0)?;
-    Ok(is_kept(&problem))
-}
-
 // Whether there is a constant, and whether there are common spares.
 fn spares(problem: &Problem) -> (bool, bool) {
     (problem.has_constant(), problem.common_spares())
 }
 
-fn has_spares(
-    alloc: Global,
-    domains: Domains,
-    class: SymbolClass,
-    arity: u32,
-    answers: (bool, bool),
-) -> Result<bool, NoMemory>
-    requires { IsExample Logic.S4 domains class arity }
-{
-    let problem = problem(alloc, Logic::S4, domains, class, arity)?;
-    Ok(spares(&problem) == answers)
-}
+const SPARES: &[(Domains, &[u8], (bool, bool))] = &[
+    (VARYING, b"![X]:p(c)", (true, true)),
+    (VARYING, b"![X]:p(f(X))", (false, false)),
+    (VARYING, b"![X]:(p(X) & q)", (false, false)),
+    (CUMULATIVE, b"![X]:p(f(X))", (false, true)),
+    (CONSTANT, b"![X]:(p(X) & q)", (false, true)),
+];
 
 #[test]
 fn keeps_problems(rt: HostRuntime) -> Result<(), Fail> {
     let alloc = rt.alloc();
-    let (function, predicate) = (SymbolClass::Function, SymbolClass::Predicate);
-    assert!(rt; keeps_problem(alloc)?);
-    assert!(rt; has_spares(alloc, Domains::Varying, function, 0, (true, true))?);
-    assert!(rt; has_spares(alloc, Domains::Varying, function, 1, (false, false))?);
-    assert!(rt; has_spares(alloc, Domains::Varying, predicate, 0, (false, false))?);
-    assert!(rt; has_spares(alloc, Domains::Cumulative, function, 1, (false, true))?);
-    assert!(rt; has_spares(alloc, Domains::Constant, predicate, 0, (false, true))?);
+    let problem = proving(alloc, Logic::S5, VARYING, b"![X]:p(c)")?;
+    assert!(rt; is_kept(&problem));
+    for (domains, formula, answers) in SPARES {
+        let problem = proving(alloc, Logic::S4, *domains, formula)?;
+        assert!(rt; spares(&problem) == *answers);
+    }
     Ok(())
 }
 

@@ -1,9 +1,6 @@
 //! Tableaux of worked problems, and the same with one thing wrong.
 
-ghost use Rattle.example_problems.specs.Examples.{IsExample, serial};
-
 use cop_base::{NoMemory, SymbolId};
-use example_problems::{problem, self_implication, serial};
 use formula_core::{GroundLabel, GroundMark, GroundTerms, Sign, Value, Values};
 use logic_rules::{Domains, Logic, Problem};
 use std::alloc::Global;
@@ -12,6 +9,7 @@ use tableau_core::{
     ClauseInstance, Closing, ClosingList, GroundLiteral, LiteralList, Selection, Side, Tableau,
     is_closed,
 };
+use test_problems::proving;
 
 // The spare characters numbered from 0 to this count.
 fn spares(alloc: Global, count: u32) -> Result<GroundLabel, NoMemory> {
@@ -93,49 +91,49 @@ fn closes(
     Ok(closed)
 }
 
-fn by_extension(alloc: Global, limit: u8) -> Result<bool, NoMemory> {
-    let formula = self_implication(alloc)?;
-    let problem = problem(alloc, Logic::Classical, Domains::Constant, formula, 0)?;
+fn by_extension(alloc: Global, problem: &Problem, limit: u8) -> Result<bool, NoMemory> {
     let closing = extension(alloc, None, 0)?;
-    let closed = closes(alloc, &problem, None, 0, closing, limit)?;
+    let closed = closes(alloc, problem, None, 0, closing, limit)?;
     Ok(closed)
 }
 
-fn by_reduction(alloc: Global) -> Result<bool, NoMemory> {
-    let formula = self_implication(alloc)?;
-    let problem = problem(alloc, Logic::Classical, Domains::Constant, formula, 0)?;
+fn by_reduction(alloc: Global, problem: &Problem) -> Result<bool, NoMemory> {
     let closing = Closing::Reduce { up: 1 };
-    let closed = closes(alloc, &problem, None, 0, closing, 1)?;
+    let closed = closes(alloc, problem, None, 0, closing, 1)?;
     Ok(closed)
 }
 
-// The tableau of the serial formula whose two instances have a string of these lengths.
-fn serial_in(alloc: Global, logic: Logic, start: u32, other: u32) -> Result<bool, NoMemory>
-    requires { IsExample logic Domains.Constant serial 0 }
-{
-    let formula = serial(alloc)?;
-    let problem = problem(alloc, logic, Domains::Constant, formula, 0)?;
+// The tableau whose two instances have a string of these lengths.
+fn by_strings(alloc: Global, problem: &Problem, start: u32, other: u32) -> Result<bool, NoMemory> {
     let closing = extension(alloc, Some(other), other)?;
-    let closed = closes(alloc, &problem, Some(start), start, closing, 1)?;
+    let closed = closes(alloc, problem, Some(start), start, closing, 1)?;
     Ok(closed)
 }
 
 #[test]
 fn a_reduction_needs_an_ancestor_and_an_extension_a_limit(rt: HostRuntime) -> Result<(), Fail> {
     let alloc = rt.alloc();
-    assert!(rt; by_extension(alloc, 1)?);
-    assert!(rt; !by_extension(alloc, 0)?);
-    assert!(rt; !by_reduction(alloc)?);
+    let problem = proving(alloc, Logic::Classical, Domains::Constant, b"p => p")?;
+    assert!(rt; by_extension(alloc, &problem, 1)?);
+    assert!(rt; !by_extension(alloc, &problem, 0)?);
+    assert!(rt; !by_reduction(alloc, &problem)?);
     Ok(())
 }
+
+const STRINGS: &[(Logic, u32, u32, bool)] = &[
+    (Logic::D, 1, 1, true),
+    (Logic::D, 0, 0, false),
+    (Logic::T, 1, 0, false),
+    (Logic::S4, 2, 2, true),
+    (Logic::S4, 3, 3, false),
+];
 
 #[test]
 fn strings_are_those_of_the_logic(rt: HostRuntime) -> Result<(), Fail> {
     let alloc = rt.alloc();
-    assert!(rt; serial_in(alloc, Logic::D, 1, 1)?);
-    assert!(rt; !serial_in(alloc, Logic::D, 0, 0)?);
-    assert!(rt; !serial_in(alloc, Logic::T, 1, 0)?);
-    assert!(rt; serial_in(alloc, Logic::S4, 2, 2)?);
-    assert!(rt; !serial_in(alloc, Logic::S4, 3, 3)?);
+    for (logic, start, other, closed) in STRINGS {
+        let problem = proving(alloc, *logic, Domains::Constant, b"#box:p => #dia:p")?;
+        assert!(rt; by_strings(alloc, &problem, *start, *other)? == *closed);
+    }
     Ok(())
 }

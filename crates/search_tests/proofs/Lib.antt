@@ -1,4 +1,1 @@
-pub mod DomainExampleLaws
 pub mod DoublingLaws
-pub mod PrefixExampleLaws
-pub mod RootLaws

@@ -4,43 +4,12 @@ ghost use Rattle.std.specs.Prelude.{◌<◌, ◌≤◌, IfOk, IsTrue, length};
 ghost use Rattle.store_theory.specs.Patterns.{template_fits};
 ghost use Rattle.term_store.specs.TemplateView.{the_template};
 
-use cop_base::{NoMemory, SymbolId};
+use crate::stores::doubled;
+use cop_base::NoMemory;
 use std::alloc::Global;
 use std::test::Fail;
-use term_store::{
-    Pattern, PatternAtom, PatternAtomList, PatternGammaList, Patterns, Ref, Sign, Sort, SortList,
-    Store, Template,
-};
+use term_store::{Ref, Sort, Store, Template};
 use term_unify::Unifier;
-
-// The clause p(f(X, X), X).
-fn doubled(alloc: Global) -> Result<Template, NoMemory>
-    ensures fits { IfOk result (λ t. IsTrue (template_fits (the_template t))) }
-    ensures literal { IfOk result (λ t. 0 < length t.literals) }
-{
-    let mut inner = Patterns::new(alloc);
-    inner.push(Pattern::Var(0))?;
-    inner.push(Pattern::Var(0))?;
-    let mut args = Patterns::new(alloc);
-    args.push(Pattern::Fun(SymbolId(1), inner))?;
-    args.push(Pattern::Var(0))?;
-    let mut literals = PatternAtomList::new(alloc);
-    literals.push(PatternAtom {
-        sign: Sign::F,
-        symbol: SymbolId(0),
-        args,
-        label: Patterns::new(alloc),
-    })?;
-    let mut sorts = SortList::new(alloc);
-    sorts.push(Sort::TermSort)?;
-    Ok(Template {
-        literals,
-        strings: Patterns::new(alloc),
-        pis: 0,
-        gammas: PatternGammaList::new(alloc),
-        sorts,
-    })
-}
 
 // Binds x to a new f(y, y), and gives y.
 fn double(unifier: &mut Unifier, store: &mut Store, t: &Template, x: Ref) -> Result<Ref, NoMemory>

@@ -5,15 +5,13 @@
 #[cfg(test)]
 mod cuts;
 #[cfg(test)]
-mod domains;
-#[cfg(test)]
 mod doubling;
 #[cfg(test)]
-mod label_systems;
+mod ends;
 #[cfg(test)]
 mod matrices;
 #[cfg(test)]
-mod prefixes;
+mod modal;
 #[cfg(test)]
 mod searches;
 #[cfg(test)]

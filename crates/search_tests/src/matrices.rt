@@ -1,23 +1,12 @@
 //! Worked problems through the public calls.
 
-ghost use Rattle.example_problems.specs.Examples.{IsExample, drinker};
-ghost use Rattle.formula_core.specs.FormulaView.{the_formula};
-
-use cop_base::{ClauseId, NoMemory, SymbolId};
-use example_problems::{drinker, problem};
-use formula_core::{Formula, Sign};
+use cop_base::{ClauseId, SymbolId};
+use formula_core::Sign;
 use logic_rules::{Domains, Logic};
-use matrix_build::{Matrix, MatrixFault, Place, build_matrix};
-use std::alloc::Global;
+use matrix_build::{Matrix, Place, build_matrix};
 use std::test::Fail;
 use term_store::{Pattern, PatternAtom};
-
-fn matrix_of(alloc: Global, logic: Logic, formula: Formula) -> Result<Matrix, MatrixFault>
-    requires { IsExample logic Domains.Constant (the_formula formula) 1 }
-{
-    let problem = problem(alloc, logic, Domains::Constant, formula, 1)?;
-    build_matrix(alloc, &problem)
-}
+use test_problems::proving;
 
 fn has_one(places: &[Place], clause: u32) -> bool {
     places.len() == 1 && places[0].clause.0 == clause && places[0].literal == 0
@@ -51,21 +40,14 @@ fn has_places(matrix: &Matrix) -> bool {
 }
 
 // The label of the literal with sign F has so many marks.
-fn drinker_is_right(alloc: Global, logic: Logic, marks: usize) -> Result<bool, NoMemory>
-    requires { IsExample logic Domains.Constant drinker 1 }
-{
-    match matrix_of(alloc, logic, drinker(alloc)?) {
-        Ok(matrix) => Ok(is_drinker(&matrix, marks) && has_places(&matrix)),
-        Err(MatrixFault::TooLarge) => Ok(false),
-        Err(MatrixFault::NoMemory) => Err(NoMemory),
-    }
-}
-
 #[test]
 fn builds_the_drinkers_clauses(rt: HostRuntime) -> Result<(), Fail> {
-    let right = drinker_is_right(rt.alloc(), Logic::Classical, 0)?;
-    assert!(rt; right);
-    let right = drinker_is_right(rt.alloc(), Logic::Intuitionistic, 3)?;
-    assert!(rt; right);
+    let alloc = rt.alloc();
+    for (logic, marks) in [(Logic::Classical, 0), (Logic::Intuitionistic, 3)] {
+        let problem = proving(alloc, logic, Domains::Constant, b"?[X]:![Y]:(p(X) => p(Y))")?;
+        let matrix = build_matrix(alloc, &problem)?;
+        assert!(rt; is_drinker(&matrix, marks));
+        assert!(rt; has_places(&matrix));
+    }
     Ok(())
 }

@@ -1,6 +1,6 @@
-//! The clause p(X, f(X)), copied.
+//! The clause p(f(X, X), X), copied.
 
-ghost use Rattle.std.specs.Prelude.{IfOk, IsTrue};
+ghost use Rattle.std.specs.Prelude.{◌<◌, IfOk, IsTrue, length};
 ghost use Rattle.store_theory.specs.Patterns.{template_fits};
 ghost use Rattle.term_store.specs.TemplateView.{the_template};
 
@@ -12,14 +12,17 @@ use term_store::{
     Template,
 };
 
-fn template(alloc: Global) -> Result<Template, NoMemory>
-    ensures { IfOk result (λ t. IsTrue (template_fits (the_template t))) }
+/// The clause p(f(X, X), X).
+pub fn doubled(alloc: Global) -> Result<Template, NoMemory>
+    ensures fits { IfOk result (λ t. IsTrue (template_fits (the_template t))) }
+    ensures literal { IfOk result (λ t. 0 < length t.literals) }
 {
     let mut inner = Patterns::new(alloc);
     inner.push(Pattern::Var(0))?;
+    inner.push(Pattern::Var(0))?;
     let mut args = Patterns::new(alloc);
-    args.push(Pattern::Var(0))?;
     args.push(Pattern::Fun(SymbolId(1), inner))?;
+    args.push(Pattern::Var(0))?;
     let mut literals = PatternAtomList::new(alloc);
     literals.push(PatternAtom {
         sign: Sign::F,
@@ -41,7 +44,7 @@ fn template(alloc: Global) -> Result<Template, NoMemory>
 #[test]
 fn copies_a_clause(rt: HostRuntime) -> Result<(), Fail> {
     let alloc = rt.alloc();
-    let t = template(alloc)?;
+    let t = doubled(alloc)?;
     let mut store = Store::new(alloc)?;
     let first = store.copy_clause(&t)?;
     let second = store.copy_clause(&t)?;

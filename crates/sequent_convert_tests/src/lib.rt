@@ -5,6 +5,4 @@
 #[cfg(test)]
 mod example_tableaux;
 #[cfg(test)]
-mod problems;
-#[cfg(test)]
 mod tests;

@@ -1,86 +1,39 @@
-//! Tableaux by hand, whose derivations the rules accept.
+//! Tableaux by hand, and derivations of these that are accepted.
 
 use crate::example_tableaux::{
     Case, MarkIs, TermIs, ValueIs, from_to, given, instance_of, shown, tableau,
 };
-use crate::problems::{
-    both_worlds_problem, boxed_drinker_problem, serial_problem, twice_denied_problem,
-};
 use cop_base::NoMemory;
-use logic_rules::Problem;
-use sequent_calc::{ApplyFault, Children, Derivation, Entry, Names, Sequent, Step, apply};
+use derivation_check::{Verdict, check};
+use derivation_text::print;
+use logic_rules::{Domains, Logic, Problem};
 use sequent_convert::convert;
 use std::alloc::Global;
 use std::test::Fail;
-use tableau_core::{Side, is_closed};
+use tableau_core::{Side, Tableau, is_closed};
+use test_problems::proving;
 
-fn start(alloc: Global, problem: &Problem) -> Result<Vec<Sequent>, NoMemory> {
-    let mut first = Sequent::new(alloc);
-    first.push(Entry::first(alloc, problem)?)?;
-    let mut open = Vec::new(alloc);
-    open.push(first)?;
-    Ok(open)
-}
-
-// Opens the children, so that the left one comes first.
-fn put(open: &mut Vec<Sequent>, children: Children) -> Result<(), NoMemory> {
-    match children {
-        Children::Closed => {}
-        Children::One(only) => open.push(only)?,
-        Children::Two(left, right) => {
-            open.push(right)?;
-            open.push(left)?;
-        }
+// How many steps the derivation has to which the tableau leads within limit 1, where it is closed and
+// the text of the derivation is accepted.
+fn converted(alloc: Global, problem: &Problem, t: &Tableau) -> Result<Option<usize>, NoMemory> {
+    if !is_closed(alloc, problem, t, 1)? {
+        return Ok(None);
     }
-    Ok(())
-}
-
-// Whether the step applies to the sequent that was opened last.
-fn is_applied(
-    alloc: Global,
-    problem: &Problem,
-    names: &Names,
-    open: &mut Vec<Sequent>,
-    step: &Step,
-) -> Result<bool, NoMemory> {
-    let sequent = match open.pop() {
-        Some(sequent) => sequent,
-        None => return Ok(false),
-    };
-    match apply(alloc, problem, names, &sequent, step) {
-        Ok(children) => {
-            put(open, children)?;
-            Ok(true)
-        }
-        Err(ApplyFault::Fault(_)) => Ok(false),
-        Err(ApplyFault::NoMemory) => Err(NoMemory),
+    let derivation = convert(alloc, problem, t, 1)?;
+    let text = print(alloc, problem, &derivation)?;
+    match check(alloc, problem, text.as_slice())? {
+        Verdict::Accepted => Ok(Some(derivation.steps.items().len())),
+        Verdict::Rejected { .. } => Ok(None),
     }
 }
 
-// Whether the steps, each on the sequent that was opened last, close all sequents.
-fn is_accepted(alloc: Global, problem: &Problem, d: &Derivation) -> Result<bool, NoMemory> {
-    let mut open = start(alloc, problem)?;
-    for step in d.steps.items() {
-        if !is_applied(alloc, problem, &d.names, &mut open, step)? {
-            return Ok(false);
-        }
-    }
-    Ok(open.is_empty())
-}
-
-// Whether the tableau is closed within limit 1, and the rules accept its derivation, which has this
-// many steps.
 fn converts(alloc: Global, problem: &Problem, case: &Case, n: usize) -> Result<bool, NoMemory> {
     let t = tableau(alloc, case)?;
-    if !is_closed(alloc, problem, &t, 1)? {
-        return Ok(false);
-    }
-    let derivation = convert(alloc, problem, &t, 1)?;
-    Ok(derivation.steps.items().len() == n && is_accepted(alloc, problem, &derivation)?)
+    let steps = converted(alloc, problem, &t)?;
+    Ok(steps == Some(n))
 }
 
-fn serial_converts(alloc: Global) -> Result<bool, NoMemory> {
-    let problem = serial_problem(alloc)?;
+fn serial_converts(alloc: Global, problem: &Problem) -> Result<bool, NoMemory> {
     let case = Case {
         marks: &[MarkIs::Spare(1)],
         terms: &[],
@@ -89,13 +42,12 @@ fn serial_converts(alloc: Global) -> Result<bool, NoMemory> {
         start: instance_of(Side::Right, from_to(0, 1), from_to(0, 1)),
         goals: &[instance_of(Side::Left, from_to(0, 1), from_to(1, 2))],
     };
-    converts(alloc, &problem, &case, 4)
+    converts(alloc, problem, &case, 4)
 }
 
 // The characters that the positions 0, 4 and 3 introduce, the latter two in the world of the first
 // and in that of the second.
-fn twice_denied_converts(alloc: Global) -> Result<bool, NoMemory> {
-    let problem = twice_denied_problem(alloc)?;
+fn twice_denied_converts(alloc: Global, problem: &Problem) -> Result<bool, NoMemory> {
     let case = Case {
         marks: &[
             MarkIs::New(0, None),
@@ -108,12 +60,11 @@ fn twice_denied_converts(alloc: Global) -> Result<bool, NoMemory> {
         start: instance_of(Side::Left, from_to(0, 1), from_to(0, 1)),
         goals: &[instance_of(Side::Right, from_to(1, 3), from_to(1, 2))],
     };
-    converts(alloc, &problem, &case, 7)
+    converts(alloc, problem, &case, 7)
 }
 
 // Names inside names: a character in the label of a spare constant, which names an eigenvariable.
-fn boxed_drinker_converts(alloc: Global) -> Result<bool, NoMemory> {
-    let problem = boxed_drinker_problem(alloc)?;
+fn boxed_drinker_converts(alloc: Global, problem: &Problem) -> Result<bool, NoMemory> {
     let case = Case {
         marks: &[MarkIs::New(0, None)],
         terms: &[TermIs::Own(0), TermIs::Eigen(2, Some(ValueIs::Term(0)))],
@@ -122,13 +73,12 @@ fn boxed_drinker_converts(alloc: Global) -> Result<bool, NoMemory> {
         start: instance_of(Side::Right, from_to(0, 1), from_to(0, 1)),
         goals: &[instance_of(Side::Left, from_to(1, 2), from_to(1, 2))],
     };
-    converts(alloc, &problem, &case, 8)
+    converts(alloc, problem, &case, 8)
 }
 
 // The box on the left is used at two labels. At the first it takes the eigenvariable whose step
 // stands on the other branch alone.
-fn both_worlds_convert(alloc: Global) -> Result<bool, NoMemory> {
-    let problem = both_worlds_problem(alloc)?;
+fn both_worlds_convert(alloc: Global, problem: &Problem) -> Result<bool, NoMemory> {
     let case = Case {
         marks: &[MarkIs::New(6, None), MarkIs::New(9, None)],
         terms: &[
@@ -156,15 +106,41 @@ fn both_worlds_convert(alloc: Global) -> Result<bool, NoMemory> {
             instance_of(Side::Left, from_to(3, 6), from_to(3, 4)),
         ],
     };
-    converts(alloc, &problem, &case, 14)
+    converts(alloc, problem, &case, 14)
 }
 
 #[test]
-fn makes_derivations_of_tableaux_by_hand(rt: HostRuntime) -> Result<(), Fail> {
+fn converts_a_spare_world(rt: HostRuntime) -> Result<(), Fail> {
     let alloc = rt.alloc();
-    assert!(rt; serial_converts(alloc)?);
-    assert!(rt; twice_denied_converts(alloc)?);
-    assert!(rt; boxed_drinker_converts(alloc)?);
-    assert!(rt; both_worlds_convert(alloc)?);
+    let formula = b"#box:p => #dia:p";
+    let problem = proving(alloc, Logic::D, Domains::Constant, formula)?;
+    assert!(rt; serial_converts(alloc, &problem)?);
+    Ok(())
+}
+
+#[test]
+fn converts_worlds_above_worlds(rt: HostRuntime) -> Result<(), Fail> {
+    let alloc = rt.alloc();
+    let formula = b"~~(p | ~p)";
+    let problem = proving(alloc, Logic::Intuitionistic, Domains::Constant, formula)?;
+    assert!(rt; twice_denied_converts(alloc, &problem)?);
+    Ok(())
+}
+
+#[test]
+fn converts_names_inside_names(rt: HostRuntime) -> Result<(), Fail> {
+    let alloc = rt.alloc();
+    let formula = b"#box:?[X]:![Y]:(p(X) => p(Y))";
+    let problem = proving(alloc, Logic::D, Domains::Varying, formula)?;
+    assert!(rt; boxed_drinker_converts(alloc, &problem)?);
+    Ok(())
+}
+
+#[test]
+fn converts_a_box_that_is_used_twice(rt: HostRuntime) -> Result<(), Fail> {
+    let alloc = rt.alloc();
+    let formula = b"#box:![X]:![Y]:p(X) => (#box:![X]:p(X) & #box:![X]:p(X))";
+    let problem = proving(alloc, Logic::D, Domains::Constant, formula)?;
+    assert!(rt; both_worlds_convert(alloc, &problem)?);
     Ok(())
 }

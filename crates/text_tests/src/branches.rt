@@ -3,23 +3,15 @@
 ghost use Rattle.std.specs.Prelude.{◌≡◌, IfOk};
 ghost use Rattle.formula_core.specs.TermView.{the_term};
 
-use cop_base::{NoMemory, SymbolId};
+use cop_base::NoMemory;
 use derivation_branch::{
     Labels, NumberSet, Outline, TermRow, add_eigens, add_row, is_home_at, reaches,
 };
-use formula_core::{Formula, Term, Terms};
+use formula_core::Term;
 use logic_rules::{Domains, Logic, Mark};
 use std::alloc::Global;
 use std::test::Fail;
-
-// A quantifier that binds inside of one that does not.
-fn quantified(alloc: Global) -> Result<Formula, NoMemory> {
-    let mut terms = Terms::new(alloc);
-    terms.push(Term::Var(0))?;
-    let atom = Formula::Atom(SymbolId(0), terms);
-    let inner = Formula::Ex(Box::new(alloc, atom)?);
-    Ok(Formula::All(Box::new(alloc, inner)?))
-}
+use test_problems::proving;
 
 #[test]
 fn finds_labels(rt: HostRuntime) -> Result<(), Fail> {
@@ -56,7 +48,20 @@ fn keeps_numbers(rt: HostRuntime) -> Result<(), Fail> {
     assert!(rt; set.holds(5) && !set.holds(4));
     set.cut(1);
     assert!(rt; set.holds(3) && !set.holds(5));
-    let outline = Outline::new(alloc, &quantified(alloc)?)?;
+    Ok(())
+}
+
+// A quantifier that binds inside of one that does not.
+#[test]
+fn tells_what_binds(rt: HostRuntime) -> Result<(), Fail> {
+    let alloc = rt.alloc();
+    let problem = proving(
+        alloc,
+        Logic::Classical,
+        Domains::Constant,
+        b"![Y]:?[X]:p(X)",
+    )?;
+    let outline = Outline::new(alloc, problem.formula())?;
     assert!(rt; outline.binds(1) && !outline.binds(2));
     Ok(())
 }

@@ -13,4 +13,6 @@ mod formulas;
 #[cfg(test)]
 mod judging;
 #[cfg(test)]
+mod stepping;
+#[cfg(test)]
 mod terms;

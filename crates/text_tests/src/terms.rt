@@ -1,19 +1,18 @@
 //! Names, labels, terms and settings, written and read.
 
-ghost use Rattle.std.specs.Prelude.{◌≡◌, [], IsTrue, OnOk};
-ghost use Rattle.std.specs.List.{list_all};
+ghost use Rattle.std.specs.Prelude.{IsTrue};
 ghost use Rattle.calculus.specs.DerivationText.{term_is_written};
-ghost use Rattle.calculus.specs.Problems.{is_name, symbol_fits};
 ghost use Rattle.formula_core.specs.TermView.{the_term};
 
 use cop_base::{NoMemory, Text};
-use formula_core::{AddFault, Symbol, SymbolClass, Symbols, Term};
+use formula_core::{Symbol, SymbolClass, Symbols, Term};
 use formula_text::{
     TextRead, read_label, read_name, read_term, write_label, write_name, write_setting, write_term,
 };
-use logic_rules::{Domains, Label, Logic, Mark, Setting};
+use logic_rules::{Domains, Label, Logic, Mark, Problem, Setting};
 use std::alloc::Global;
 use std::test::Fail;
+use test_problems::proving;
 
 // Whether the text is read as this name up to its end; `None` where no name is to stand there.
 fn reads_name(alloc: Global, text: &[u8], name: Option<&[u8]>) -> bool {
@@ -24,92 +23,69 @@ fn reads_name(alloc: Global, text: &[u8], name: Option<&[u8]>) -> bool {
     }
 }
 
+const NAMES: &[(&[u8], Option<&[u8]>)] = &[
+    (b"p", Some(b"p")),
+    (b"aZ_9", Some(b"aZ_9")),
+    (b"'an idempotent'", Some(b"an idempotent")),
+    (b"'it\\'s'", Some(b"it's")),
+    (b"'a\\\\b'", Some(b"a\\b")),
+    (b"'X'", Some(b"X")),
+    (b"'p'", None),
+    (b"''", None),
+    (b"X", None),
+    (b"'a", None),
+    (b"'a\\b'", None),
+    (b"'a\nb'", None),
+    (b"'X'a", None),
+    (b"$$o", None),
+    (b"", None),
+];
+
 #[test]
 fn reads_names(rt: HostRuntime) -> Result<(), Fail> {
-    let alloc = rt.alloc();
-    assert!(rt; reads_name(alloc, b"p", Some(b"p")));
-    assert!(rt; reads_name(alloc, b"aZ_9", Some(b"aZ_9")));
-    assert!(rt; reads_name(alloc, b"'an idempotent'", Some(b"an idempotent")));
-    assert!(rt; reads_name(alloc, b"'it\\'s'", Some(b"it's")));
-    assert!(rt; reads_name(alloc, b"'a\\\\b'", Some(b"a\\b")));
-    assert!(rt; reads_name(alloc, b"'X'", Some(b"X")));
-    for text in [
-        b"'p'".as_slice(),
-        b"''",
-        b"X",
-        b"'a",
-        b"'a\\b'",
-        b"'a\nb'",
-        b"'X'a",
-        b"$$o",
-        b"",
-    ] {
-        assert!(rt; reads_name(alloc, text, None));
+    for (text, name) in NAMES {
+        assert!(rt; reads_name(rt.alloc(), text, *name));
     }
     Ok(())
 }
 
-// Whether the text is read as a label of this many characters, and written again as it stands.
-fn reads_label(alloc: Global, text: &[u8], length: usize) -> bool {
-    let Ok((label, end)) = read_label(alloc, text, 0) else {
-        return false;
-    };
-    let mut out = Vec::new(alloc);
-    write_label(&mut out, &label).is_ok()
-        && label.items().len() == length
-        && end == text.len()
-        && out.as_slice() == text
+// How many characters the label has as which the text is read and written again as it stands; `None`
+// where no label is to stand there.
+fn reads_label(alloc: Global, text: &[u8], length: Option<usize>) -> bool {
+    match (read_label(alloc, text, 0), length) {
+        (Ok((label, end)), Some(length)) => {
+            let mut out = Vec::new(alloc);
+            write_label(&mut out, &label).is_ok()
+                && label.items().len() == length
+                && end == text.len()
+                && out.as_slice() == text
+        }
+        (Err(fault), None) => fault == TextRead::None,
+        _ => false,
+    }
 }
+
+const LABELS: &[(&[u8], Option<usize>)] = &[
+    (b"[]", Some(0)),
+    (b"[$$c1]", Some(1)),
+    (b"[$$c1,$$c2,$$d4294967295]", Some(3)),
+    (b"[$$c0]", None),
+    (b"[$$c01]", None),
+    (b"[$$c4294967296]", None),
+    (b"[$$c1, $$c2]", None),
+    (b"[$$c1,]", None),
+    (b"[$$e1]", None),
+    (b"[$$c1", None),
+    (b"[]a", None),
+    (b"", None),
+];
 
 #[test]
 fn reads_labels(rt: HostRuntime) -> Result<(), Fail> {
-    let alloc = rt.alloc();
-    assert!(rt; reads_label(alloc, b"[]", 0));
-    assert!(rt; reads_label(alloc, b"[$$c1]", 1));
-    assert!(rt; reads_label(alloc, b"[$$c1,$$c2,$$d4294967295]", 3));
-    for text in [
-        b"[$$c0]".as_slice(),
-        b"[$$c01]",
-        b"[$$c4294967296]",
-        b"[$$c1, $$c2]",
-        b"[$$c1,]",
-        b"[$$e1]",
-        b"[$$c1",
-        b"[]a",
-        b"",
-    ] {
-        match read_label(alloc, text, 0) {
-            Ok(_) => assert!(rt; false),
-            Err(fault) => assert_eq!(rt; fault, TextRead::None),
-        }
+    for (text, length) in LABELS {
+        assert!(rt; reads_label(rt.alloc(), text, *length));
     }
     Ok(())
-}
-
-// Adds a function symbol, where it is new.
-#[tactic(auto, using(crate::proofs::Fitting::adding))]
-fn add_function(
-    symbols: &mut Symbols,
-    alloc: Global,
-    name: &[u8],
-    arity: u32,
-) -> Result<(), NoMemory>
-    requires named { IsTrue (is_name name.now) }
-    requires fits { IsTrue (list_all symbol_fits symbols.old) }
-    ensures { OnOk result (IsTrue (list_all symbol_fits symbols.new)) }
-{
-    let s = Symbol {
-        name: Text::new(alloc, name)?,
-        class: SymbolClass::Function,
-        arity,
-    };
-    match symbols.find(&s) {
-        Some(_) => Ok(()),
-        None => match symbols.add(s) {
-            Ok(_) => Ok(()),
-            Err(AddFault::Full | AddFault::NoMemory) => Err(NoMemory),
-        },
-    }
 }
 
 fn writes_term(alloc: Global, symbols: &Symbols, term: &Term, text: &[u8]) -> bool
@@ -119,11 +95,10 @@ fn writes_term(alloc: Global, symbols: &Symbols, term: &Term, text: &[u8]) -> bo
     write_term(&mut out, symbols, term).is_ok() && out.as_slice() == text
 }
 
-// Whether the text begins with a term that ends at this place, and that is written again as it stands there; `None` where no term is
-// to stand there.
-fn reads_term(alloc: Global, symbols: &Symbols, text: &[u8], place: Option<usize>) -> bool
-    requires { IsTrue (list_all symbol_fits symbols.now) }
-{
+// Whether the text begins with a term of the problem that ends at this place, and that is written
+// again as it stands there; `None` where no term is to stand there.
+fn reads_term(alloc: Global, problem: &Problem, text: &[u8], place: Option<usize>) -> bool {
+    let symbols = problem.symbols();
     match (read_term(alloc, symbols, text, 0), place) {
         (Ok((term, end)), Some(place)) => {
             end == place && writes_term(alloc, symbols, &term, &text[..end])
@@ -133,32 +108,31 @@ fn reads_term(alloc: Global, symbols: &Symbols, text: &[u8], place: Option<usize
     }
 }
 
+const TERMS: &[(&[u8], Option<usize>)] = &[
+    (b"a", Some(1)),
+    (b"f(a,b)", Some(6)),
+    (b"f(f(a,$$e1),b)", Some(14)),
+    (b"$$e1", Some(4)),
+    (b"$$s4294967295", Some(13)),
+    (b"a x", Some(1)),
+    (b"$$e0", None),
+    (b"$$e01", None),
+    (b"f(a, b)", None),
+    (b"f()", None),
+    (b"f(a)", None),
+    (b"f(a,b", None),
+    (b"'a'", None),
+    (b"c", None),
+    (b"a=b", None),
+    (b"", None),
+];
+
 #[test]
 fn reads_terms(rt: HostRuntime) -> Result<(), Fail> {
     let alloc = rt.alloc();
-    let mut symbols = Symbols::new(alloc);
-    add_function(&mut symbols, alloc, b"a", 0)?;
-    add_function(&mut symbols, alloc, b"b", 0)?;
-    add_function(&mut symbols, alloc, b"f", 2)?;
-    for (text, place) in [
-        (b"a".as_slice(), Some(1)),
-        (b"f(a,b)", Some(6)),
-        (b"f(f(a,$$e1),b)", Some(14)),
-        (b"$$e1", Some(4)),
-        (b"$$s4294967295", Some(13)),
-        (b"a x", Some(1)),
-        (b"$$e0", None),
-        (b"$$e01", None),
-        (b"f(a, b)", None),
-        (b"f()", None),
-        (b"f(a)", None),
-        (b"f(a,b", None),
-        (b"'a'", None),
-        (b"c", None),
-        (b"a=b", None),
-        (b"", None),
-    ] {
-        assert!(rt; reads_term(alloc, &symbols, text, place));
+    let problem = proving(alloc, Logic::Classical, Domains::Constant, b"p(f(a,b))")?;
+    for (text, place) in TERMS {
+        assert!(rt; reads_term(alloc, &problem, text, *place));
     }
     Ok(())
 }
@@ -179,27 +153,20 @@ pub fn nested_text(alloc: Global, leaf: &[u8], levels: usize) -> Result<Vec<u8>,
 // What reading a constant inside of this many terms stops at.
 fn nested_fault(
     alloc: Global,
-    symbols: &Symbols,
+    problem: &Problem,
     levels: usize,
-) -> Result<Option<TextRead>, NoMemory>
-    requires { IsTrue (list_all symbol_fits symbols.now) }
-{
+) -> Result<Option<TextRead>, NoMemory> {
     let text = nested_text(alloc, b"a", levels)?;
-    Ok(read_term(alloc, symbols, text.as_slice(), 0).err())
+    Ok(read_term(alloc, problem.symbols(), text.as_slice(), 0).err())
 }
 
 #[test]
 fn stops_at_deep_terms(rt: HostRuntime) -> Result<(), Fail> {
     let alloc = rt.alloc();
-    let mut symbols = Symbols::new(alloc);
-    add_function(&mut symbols, alloc, b"a", 0)?;
-    add_function(&mut symbols, alloc, b"f", 1)?;
+    let problem = proving(alloc, Logic::Classical, Domains::Constant, b"p(f(a))")?;
     // A test has less stack than the program, where terms of 20,000 levels are let go.
-    assert_eq!(rt; nested_fault(alloc, &symbols, 1_000)?, None);
-    assert_eq!(rt;
-        nested_fault(alloc, &symbols, 20_001)?,
-        Some(TextRead::NoMemory)
-    );
+    assert!(rt; nested_fault(alloc, &problem, 1_000)? == None);
+    assert!(rt; nested_fault(alloc, &problem, 20_001)? == Some(TextRead::NoMemory));
     Ok(())
 }
 
@@ -251,7 +218,7 @@ fn writes_settings(rt: HostRuntime) -> Result<(), Fail> {
     ] {
         let mut out = Vec::new(alloc);
         write_setting(&mut out, Setting::new(logic, domains))?;
-        assert_eq!(rt; out.as_slice(), text);
+        assert!(rt; out.as_slice() == text);
     }
     Ok(())
 }

@@ -1,6 +1,0 @@
-use Rattle.std.proofs.Common.{ap}
-use Rattle.calculus.specs.Syntax.{Problem}
-use Rattle.search_tests.proofs.domains.cumulative_forces_home.Goals as goal
-
-pub new-requires : goal.new-requires
-new-requires c = record { domains = ap (λ (P : Problem). P.setting.domains) c.in_ok-problem.ensures }

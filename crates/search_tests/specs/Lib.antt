@@ -1,5 +1,0 @@
--- what the tests build
-pub mod CutExamples
-pub mod DomainExamples
-pub mod PrefixExamples
-pub mod SearchExamples

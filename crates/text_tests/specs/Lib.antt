@@ -1,2 +1,0 @@
-pub mod DepthExample
-pub mod FormulaExamples
