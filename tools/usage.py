@@ -118,7 +118,7 @@ def escaped(text):
 
 
 def man(commands, options, statuses):
-    out = ["'\\\" t", ".\\\" Written by tools/usage.py.", ".TH LEANCOP 1", ".SH NAME",
+    out = [".\\\" Written by tools/usage.py.", ".TH LEANCOP 1", ".SH NAME",
            "leancop \\- prove formulas of first\\-order logic, and judge derivations", ".SH SYNOPSIS"]
     for c in commands:
         name, operands, words = synopsis(c, options)
@@ -131,9 +131,10 @@ def man(commands, options, statuses):
     out += [".SH OPTIONS", "They stand anywhere behind the command, each at most once."]
     for o in options:
         out += [".TP", ".BI %s %s" % (escaped(o[0]), o[1]), escaped("%s: %s." % (o[3], told_values(o)))]
-    out += [".SH EXIT STATUS", ".TS", "l lx."]
-    out += ["%s\tT{\n%s\nT}" % (s[0], escaped(s[1])) for s in statuses]
-    out += [".TE", ".SH EXAMPLES", ".EX", "leancop prove group.p > d.txt && leancop check group.p d.txt",
+    out += [".SH EXIT STATUS"]
+    for status in statuses:
+        out += [".TP", ".B " + status[0], escaped(status[1])]
+    out += [".SH EXAMPLES", ".EX", "leancop prove group.p > d.txt && leancop check group.p d.txt",
             "leancop prove \\-\\-logic=s4 \\-\\-domains=varying barcan.p", "leancop prove /dev/stdin < group.p",
             "leancop prove \\-\\-root=$HOME/TPTP $HOME/TPTP/Problems/GRP/GRP001\\-1.p", ".EE", ".SH COMPANIONS",
             ".TP", ".BI leancop\\-explain \" WORD ...\"", "runs the program, and says on standard error what its answer means.",
