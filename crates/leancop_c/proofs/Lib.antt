@@ -1,0 +1,4 @@
+pub mod ByStatus
+pub mod Reading
+pub mod Runs
+pub mod Texts

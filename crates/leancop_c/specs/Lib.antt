@@ -1,0 +1,5 @@
+pub mod Numbers
+pub mod GivenFiles
+pub mod Told
+pub mod Judging
+pub mod Ran
