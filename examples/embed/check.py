@@ -1,0 +1,83 @@
+#!/usr/bin/env python3
+"""leancop in a program in Python, by ctypes, over the static library as a shared object (docs/EMBEDDING.md):
+    check.py LIBRARY PROBLEM DERIVATION [LOGIC [DOMAINS]]   judges, with the numbers of logic and domains of leancop.h
+    check.py LIBRARY --formula PROBLEM [LOGIC [DOMAINS]]    prints line 3 of a derivation of the problem
+    check.py LIBRARY --run WORD..                           runs the program over the files that are named by words"""
+import ctypes, os, sys
+from ctypes import POINTER, byref, c_char_p, c_size_t, c_uint32, c_uint64
+
+
+class Judgement(ctypes.Structure):
+    _fields_ = [("status", c_uint32), ("fault", c_uint32), ("line", c_uint64), ("offset", c_uint64)]
+
+
+class Bytes(ctypes.Structure):
+    _fields_ = [("bytes", c_char_p), ("length", c_size_t)]
+
+
+class File(ctypes.Structure):
+    _fields_ = [("name", Bytes), ("bytes", Bytes)]
+
+
+class Leancop:
+    """What leancop.h declares. The texts are of type bytes, which ctypes hands on without a copy."""
+
+    def __init__(self, path):
+        library = ctypes.CDLL(os.path.abspath(path))
+        self._check, self._formula, self._run = library.leancop_check, library.leancop_formula, library.leancop_run
+        text, room = [c_char_p, c_size_t], [c_char_p, c_size_t, POINTER(c_uint64)]
+        self._check.argtypes = [c_uint32, c_uint32] + text + text + [POINTER(Judgement)]
+        self._formula.argtypes = [c_uint32, c_uint32] + text + room
+        self._run.argtypes = [POINTER(Bytes), c_size_t, POINTER(File), c_size_t] + room
+        self._check.restype, self._formula.restype, self._run.restype = None, c_uint32, c_uint32
+
+    def check(self, problem, derivation, logic=0, domains=0):
+        told = Judgement()
+        self._check(logic, domains, problem, len(problem), derivation, len(derivation), byref(told))
+        return told
+
+    def _with_room(self, call, size=65536):
+        """The status and the output of a call, which is made again where it needs more room."""
+        while True:
+            room, length = ctypes.create_string_buffer(size), c_uint64()
+            status = call(room, size, byref(length))
+            if length.value <= size:
+                return status, room.raw[:length.value]
+            size = length.value
+
+    def formula(self, problem, logic=0, domains=0):
+        return self._with_room(lambda *room: self._formula(logic, domains, problem, len(problem), *room))
+
+    def run(self, words, files):
+        """`files` is a dictionary of bytes by name."""
+        given = (Bytes * max(1, len(words)))(*[Bytes(w, len(w)) for w in words])
+        held = (File * max(1, len(files)))(*[File(Bytes(n, len(n)), Bytes(b, len(b))) for n, b in files.items()])
+        return self._with_room(lambda *room: self._run(given, len(words), held, len(files), *room))
+
+
+def read(name):
+    with open(name, "rb") as file:
+        return file.read()
+
+
+def main(library, *words):
+    leancop = Leancop(library)
+    if words[0] == "--run":
+        given = [os.fsencode(w) for w in words[1:]]
+        status, output = leancop.run(given, {w: read(w) for w in given if os.path.isfile(w)})
+        sys.stdout.buffer.write(output)
+        return status
+    if words[0] == "--formula":
+        status, text = leancop.formula(read(words[1]), *map(int, words[2:]))
+        sys.stdout.buffer.write(b"formula " + text + b"\n" if status == 0 else b"")
+        return status
+    told = leancop.check(read(words[0]), read(words[1]), *map(int, words[2:]))
+    place = "" if told.offset == 2**64 - 1 else f":{told.offset}"
+    print({0: "accepted", 8: f"rejected at line {told.line}: {told.fault}", 4: f"{words[0]}{place}: {told.fault}"}.get(told.status, ""))
+    return told.status
+
+
+if __name__ == "__main__":
+    if len(sys.argv) < 4:
+        sys.exit(__doc__)
+    sys.exit(main(*sys.argv[1:]))

@@ -1,0 +1,124 @@
+/* leancop for C and for whatever calls C: the checker, and the whole program. What is promised is proved; docs/EMBEDDING.md
+ * says how to build and link it, and what is trusted.
+ *
+ * Any bytes may be handed in. No pointer is null, also where its length is 0; `room`, `length` and `judgement` overlap nothing
+ * else that is handed in. Nothing of the caller's is kept or freed, and all that a call allocates, by malloc and realloc, is
+ * freed before it returns.
+ *
+ * Calls share nothing, so any number of threads may call at once, but no signal handler. Each wants a stack of 8 MB. */
+#ifndef LEANCOP_H
+#define LEANCOP_H
+
+#include <stddef.h>
+#include <stdint.h>
+
+#ifdef __cplusplus
+extern "C" {
+#endif
+
+/* Logics and domains. Domains are settled by the logic where it has no choice: classical ones are constant, intuitionistic ones
+ * cumulative, and cumulative ones of S5 are constant. */
+enum {
+    LEANCOP_CLASSICAL = 0,
+    LEANCOP_INTUITIONISTIC = 1,
+    LEANCOP_D = 2,
+    LEANCOP_T = 3,
+    LEANCOP_S4 = 4,
+    LEANCOP_S5 = 5
+};
+enum { LEANCOP_CONSTANT = 0, LEANCOP_CUMULATIVE = 1, LEANCOP_VARYING = 2 };
+
+/* The statuses of leancop_check and leancop_formula; those of leancop_run are the exit statuses of the program. */
+enum {
+    LEANCOP_ACCEPTED = 0,   /* of leancop_formula: the formula is written */
+    LEANCOP_BAD_PROBLEM = 4,
+    LEANCOP_NO_SETTING = 5, /* the number of the logic or of the domains is none of the above */
+    LEANCOP_INCLUDES = 6,   /* the problem includes a file; leancop_run takes several */
+    LEANCOP_NO_MEMORY = 7,
+    LEANCOP_REJECTED = 8
+};
+
+/* Why a problem is bad, in `fault`. The last four are told without a place. */
+enum {
+    LEANCOP_SYNTAX = 1,
+    LEANCOP_UNSUPPORTED = 2,
+    LEANCOP_RESERVED_WORD = 3,
+    LEANCOP_WRONG_LANGUAGE = 4,
+    LEANCOP_SECOND_CONJECTURE = 5,
+    LEANCOP_UNKNOWN_ROLE = 6,
+    LEANCOP_INCLUDE_TOO_DEEP = 7,
+    LEANCOP_INCLUDE_NAME_ABSENT = 8,
+    LEANCOP_NO_FORMULA = 9,
+    LEANCOP_INPUT_TOO_LARGE = 10,
+    LEANCOP_NESTING_TOO_DEEP = 11,
+    LEANCOP_FORMULA_TOO_LARGE = 12,
+    LEANCOP_TOO_MANY_SYMBOLS = 13
+};
+
+/* Why a derivation is rejected, in `fault`: faults of its text, then those of its steps. */
+enum {
+    LEANCOP_VERSION = 1,
+    LEANCOP_SETTING = 2,
+    LEANCOP_FORMULA = 3,
+    LEANCOP_LIMIT = 4,
+    LEANCOP_NAME = 5,
+    LEANCOP_LINE = 6,
+    LEANCOP_TEXT_AFTER_END = 7,
+    LEANCOP_LABEL = 8,
+    LEANCOP_TERM = 9,
+    LEANCOP_TABLE = 10,
+    LEANCOP_NO_ENTRY = 21,
+    LEANCOP_NO_CONNECTION = 22,
+    LEANCOP_WRONG_ARGUMENTS = 23,
+    LEANCOP_UNKNOWN_NAME = 24,
+    LEANCOP_NOT_REACHABLE = 25,
+    LEANCOP_NOT_NEW = 26,
+    LEANCOP_WRONG_HOME = 27,
+    LEANCOP_NOT_ALLOWED = 28,
+    LEANCOP_ALL_CLOSED = 31,
+    LEANCOP_STILL_OPEN = 32
+};
+
+typedef struct {
+    uint32_t status;
+    uint32_t fault;  /* where the status is 4 or 8, else 0 */
+    uint64_t line;   /* where it is 8: the first wrong line, from 1; else 0 */
+    uint64_t offset; /* where it is 4: the byte of the problem, from 0; else, and where no place is told, UINT64_MAX */
+} leancop_judgement;
+
+/* Judges the second text as a derivation of the problem that the first one states without includes.
+ *   0: the first text holds one problem in the setting, the second is the text of a derivation of it, and so the formula is
+ *      true at the root of each structure of the setting, of any size;
+ *   8: it is none, and `line` and `fault` are those of its one judgement;
+ *   4: the first text holds no problem, and `offset` and `fault` are those of its one first refusal. */
+void leancop_check(uint32_t logic, uint32_t domains, const uint8_t *problem, size_t problem_length,
+                   const uint8_t *derivation, size_t derivation_length, leancop_judgement *judgement);
+
+/* Writes the canonical formula of the problem that the text states: line 3 of its derivations is `formula `, this text and a
+ * line feed. Answers 0, 4, 5, 6 or 7 as above. `*length` is the length of the formula, or 0 where there is none; where it is
+ * more than `room_length`, nothing is written. There is no zero byte at the end. */
+uint32_t leancop_formula(uint32_t logic, uint32_t domains, const uint8_t *problem, size_t problem_length,
+                         uint8_t *room, size_t room_length, uint64_t *length);
+
+typedef struct {
+    const uint8_t *bytes;
+    size_t length;
+} leancop_bytes;
+
+typedef struct {
+    leancop_bytes name;
+    leancop_bytes bytes;
+} leancop_file;
+
+/* Runs the program with these words, as `prove` and `m.p`, where these files and no others are there; of each name the first
+ * one counts. Answers the exit status of the program, and writes what the program would write to its standard output.
+ * `*length` is the length of the whole output; where it is more than `room_length`, nothing is written, and the call is to be
+ * made again with more room. 7 says that memory ended, and 6 also that a word is not UTF-8; then the output is empty. */
+uint32_t leancop_run(const leancop_bytes *words, size_t word_count, const leancop_file *files, size_t file_count,
+                     uint8_t *room, size_t room_length, uint64_t *length);
+
+#ifdef __cplusplus
+}
+#endif
+
+#endif
