@@ -1,9 +1,8 @@
 -- The list and the room that the pages show, before and after each call.
-use Rattle.std.proofs.Common.{◌≡◌, ℕ, ◌+◌, ◌*◌, ◌/◌, ◌%◌, ◌<◌, ◌≤◌, ◌^◌, suc, max, List, [], ◌∷◌, ◌++◌, length, take, get_or, replicate, Some, refl, sym, ◌∙◌, ap, subst, arith, length-append, length-set, length-take}
+use Rattle.std.proofs.Common.{◌≡◌, ℕ, ◌+◌, ◌*◌, ◌/◌, ◌%◌, ◌<◌, ◌≤◌, ◌^◌, zero, suc, max, List, [], ◌∷◌, ◌++◌, length, take, get_or, replicate, Some, refl, sym, ◌∙◌, ap, subst, arith, length-append, length-set, length-take}
 use Rattle.std.proofs.lemmas.List.{length-replicate}
 use Rattle.std.proofs.Math.ListN.{set}
 use Rattle.std.proofs.Math.Seq.{take-set-lt}
-use Rattle.std.proofs.lemmas.Option.{slice_get_read}
 use Rattle.std.specs.List.{slice_get}
 use Rattle.cop_cells.specs.Pages.{joined, listed, unused, put_at, AreCells, AreWritten}
 use Rattle.cop_cells.proofs.PageLaws.{put_at-set, take-pushed, get-taken, written-length, written-fits, place-within, place-next, place-read, place-put, written-put, written-more, joined-more}
@@ -19,12 +18,16 @@ module _ {T : Type 0} where
   -- this page has the place
   pub record IsPageOf (pages : List (List T)) (place : ℕ) (page : List T) : Type 0 where
     pub there : place < length pages * 4096
-    pub read : page ≡ get_or pages (place / 4096) page
+    pub read : get_or pages (place / 4096) [] ≡ page
+
+  some-page : (pages : List (List T)) (k : ℕ) → k < length pages → slice_get pages k ≡ Some (get_or pages k [])
+  some-page [] k h = absurd (omega (arith, h))
+  some-page (p ∷ pages) zero h = refl
+  some-page (p ∷ pages) (suc k) h = some-page pages k (omega (arith, h))
 
   page-at : (pages : List (List T)) (place : ℕ) (page : List T) → IsPageOf pages place page
       → slice_get pages (place / 4096) ≡ Some page
-  page-at pages place page p = slice_get_read pages (length pages) (place / 4096) page refl
-      (let h = p.there in omega arith) p.read
+  page-at pages place page p = some-page pages (place / 4096) (let h = p.there in omega arith) ∙ ap Some p.read
 
   pub listed-length : (len : ℕ) (pages : List (List T)) → AreCells len pages
       → length (listed len pages) ≡ len
@@ -35,9 +38,9 @@ module _ {T : Type 0} where
   cells-fit len pages c = let h = c.listed in omega
       (arith, written-fits (length (joined pages)) pages c.written)
 
-  pub page-there : (pages : List (List T)) (count place : ℕ) → count ≡ length pages
-      → place < length pages * 4096 → place / 4096 < count
-  page-there pages count place e h = omega arith
+  pub page-there : (pages : List (List T)) (place : ℕ) (page : List T) → IsPageOf pages place page
+      → place / 4096 < length pages
+  page-there pages place page p = let h = p.there in omega arith
 
   pub cell-within : (len : ℕ) (pages : List (List T)) (place : ℕ) (page : List T)
       → AreCells len pages → IsPageOf pages place page → place < len → place % 4096 < length page
@@ -100,23 +103,13 @@ module _ {T : Type 0} where
       ap (take (len + 1)) (put-joined len pages len page x c p (omega arith)) ∙ take-pushed
       (joined pages) len (len + 1) x refl c.listed
 
-  pub set-cells : (len : ℕ) (pages : List (List T)) (place : ℕ) (page : List T) (x : T)
-      → AreCells len pages → IsPageOf pages place page → place < len
-      → AreCells len (set pages (place / 4096) (set page (place % 4096) x))
-  set-cells len pages place page x c p h =
-      subst (λ q. AreCells len (set pages (place / 4096) q))
-      (put_at-set page (place % 4096) x (cell-within len pages place page c p h))
-      (put-cells len len pages place page x c p (omega arith) (omega arith))
-
   pub set-listed : (len : ℕ) (pages : List (List T)) (place : ℕ) (page : List T) (x : T)
       → AreCells len pages → IsPageOf pages place page → place < len
-      → listed len (set pages (place / 4096) (set page (place % 4096) x)) ≡ set
+      → listed len (set pages (place / 4096) (put_at page (place % 4096) x)) ≡ set
       (listed len pages) place x
   set-listed len pages place page x c p h =
       let l = c.listed in
-      ap (λ q. listed len (set pages (place / 4096) q))
-      (sym (put_at-set page (place % 4096) x (cell-within len pages place page c p h)))
-      ∙ ap (take len) (put-joined len pages place page x c p (omega arith) ∙ put_at-set
+      ap (take len) (put-joined len pages place page x c p (omega arith) ∙ put_at-set
       (joined pages) place x (omega arith))
       ∙ take-set-lt len (joined pages) place x h
 
@@ -150,17 +143,16 @@ module _ {T : Type 0} where
       → AreCells len pages → listed len pages ≡ list → place < length list → place < len
   listed-within len pages list place c e h = omega (arith, listed-length len pages c, ap length e)
 
-  pub item-there : (len : ℕ) (pages : List (List T)) (count place : ℕ) → AreCells len pages
-      → count ≡ length pages → place < len → place / 4096 < count
-  item-there len pages count place c e h = page-there pages count place e
-      (omega (arith, cells-fit len pages c))
+  pub item-page : (len : ℕ) (pages : List (List T)) (place : ℕ) → AreCells len pages
+      → place < len → IsPageOf pages place (get_or pages (place / 4096) [])
+  item-page len pages place c h = record { there = omega (arith, cells-fit len pages c); read = refl }
 
-  pub item-page : (len : ℕ) (pages : List (List T)) (place : ℕ) (page : List T) → AreCells len pages
-      → place < len → page ≡ get_or pages (place / 4096) page → IsPageOf pages place page
-  item-page len pages place page c h e = record
-      { there = omega (arith, cells-fit len pages c); read = e }
+  -- the page of the next item
+  pub next-page : (len : ℕ) (pages : List (List T)) (spare : ℕ) → unused len pages ≡ spare → 0 < spare
+      → IsPageOf pages len (get_or pages (len / 4096) [])
+  next-page len pages spare e h = record { there = omega (arith, e, h); read = refl }
 
-  -- there is a cell where there is room
-  pub room-there : (len : ℕ) (pages : List (List T)) (spare : ℕ) → unused len pages ≡ spare
-      → 0 < spare → len < length pages * 4096
-  room-there len pages spare e h = omega arith
+  -- the cells of all pages are those of the list and those that are left
+  pub all-cells : (len : ℕ) (pages : List (List T)) → AreCells len pages
+      → length (listed len pages) + unused len pages ≡ length pages * 4096
+  all-cells len pages c = omega (arith, listed-length len pages c, cells-fit len pages c)

@@ -1,8 +1,8 @@
 //! The list over its pages.
 
-ghost use Rattle.std.specs.Prelude.{◌≡◌, ◌≤◌, ◌<◌, ◌+◌, ◌^◌, ◌++◌, ◌∷◌, [], IfOk, IsOk, OnErr, OnOk, length, replicate, slice_get, slice_set, take};
+ghost use Rattle.std.specs.Prelude.{◌≡◌, ◌≤◌, ◌<◌, ◌+◌, ◌*◌, ◌^◌, ◌++◌, ◌∷◌, [], IfOk, IsOk, OnErr, OnOk, length, slice_get, slice_set, take};
 
-use crate::page::{PAGE_CELLS, Page};
+use crate::pages::{PAGE_CELLS, Pages};
 use cop_base::NoMemory;
 use std::alloc::Global;
 use std::marker::Model;
@@ -14,7 +14,7 @@ const MOST_PAGES: usize = usize::MAX / 4096;
 #[derive(Drop)]
 pub struct Cells<T: Copy> {
     // Cells past `len` hold items that were cut off.
-    pages: Vec<Page<T>>,
+    pages: Pages<T>,
     len: usize,
 }
 
@@ -28,30 +28,23 @@ impl<T: Copy> Model for Cells<T> {
     ghost use Rattle.cop_cells.specs.Pages.{AreCells, listed, unused};
 
     ghost view = { λ c. record {
-      list = listed c.len c.pages.items;
-      spare = unused c.len c.pages.items;
+      list = listed c.len c.pages;
+      spare = unused c.len c.pages;
     } };
 
-    ghost invariant = { λ c. AreCells c.len c.pages.items };
+    ghost invariant = { λ c. AreCells c.len c.pages };
 }
 
-// Adds so many empty pages, or none where there is no memory.
-fn add_pages<T: Copy>(alloc: Global, pages: &mut Vec<Page<T>>, count: usize) -> Result<(), NoMemory>
-    ensures ok { OnOk result (pages.new.items ≡ pages.old.items ++ replicate count []) }
-    ensures err { OnErr result (pages.new.items ≡ pages.old.items) }
+// How many pages to add where so many are held and `count` are wanted: as many as are held, so that blocks stay few.
+fn most_pages(held: usize, count: usize) -> usize
+    requires { held + count ≤ MOST_PAGES }
+    ensures { (count ≤ result) × (held + result ≤ MOST_PAGES) }
 {
-    let before = pages.len();
-    pages.reserve(count)?;
-    for _page in 0..count {
-        match Page::new(alloc) {
-            Ok(page) => pages.push_reserved(page),
-            Err(fault) => {
-                pages.truncate(before);
-                return Err(fault);
-            }
-        }
+    if count < held && held <= MOST_PAGES - held {
+        held
+    } else {
+        count
     }
-    Ok(())
 }
 
 impl<T: Copy> Cells<T> {
@@ -61,7 +54,7 @@ impl<T: Copy> Cells<T> {
         ensures spare { result.spare ≡ 0 }
     {
         Cells {
-            pages: Vec::new(alloc),
+            pages: Pages::new(alloc),
             len: 0,
         }
     }
@@ -79,7 +72,7 @@ impl<T: Copy> Cells<T> {
         ensures value { result ≡ self.now.spare }
         ensures fits { length self.now.list + self.now.spare < 2 ^ 64 }
     {
-        self.pages.len() * PAGE_CELLS - self.len
+        self.pages.count() * PAGE_CELLS - self.len
     }
 
     /// Makes room for so many more items. Where there is no memory nothing changes.
@@ -109,11 +102,42 @@ impl<T: Copy> Cells<T> {
         ensures err { OnErr result (self.new.spare ≡ self.old.spare) }
     {
         let count = (more - 1) / PAGE_CELLS + 1;
-        if count > MOST_PAGES - self.pages.len() {
+        let held = self.pages.count();
+        if count > MOST_PAGES - held {
             return Err(NoMemory);
         }
-        let alloc = *self.pages.allocator();
-        add_pages(alloc, &mut self.pages, count)?;
+        self.add_either(most_pages(held, count), count)?;
+        Ok(())
+    }
+
+    // The larger number of pages, or the smaller one where there is no memory for that.
+    fn add_either(&mut self, most: usize, least: usize) -> Result<(), NoMemory>
+        requires some { 0 < least }
+        requires order { least ≤ most }
+        requires fits { length self.old.list + self.old.spare + most * 4096 < 2 ^ 64 }
+        ensures list { self.new.list ≡ self.old.list }
+        ensures ok { OnOk result (self.old.spare + least * 4096 ≤ self.new.spare) }
+        ensures kept { self.old.spare ≤ self.new.spare }
+        ensures err { OnErr result (self.new.spare ≡ self.old.spare) }
+    {
+        match self.add_pages(most) {
+            Ok(()) => Ok(()),
+            Err(_) => {
+                self.add_pages(least)?;
+                Ok(())
+            }
+        }
+    }
+
+    // So many pages more, in one block.
+    fn add_pages(&mut self, count: usize) -> Result<(), NoMemory>
+        requires some { 0 < count }
+        requires fits { length self.old.list + self.old.spare + count * 4096 < 2 ^ 64 }
+        ensures list { self.new.list ≡ self.old.list }
+        ensures ok { OnOk result (self.new.spare ≡ self.old.spare + count * 4096) }
+        ensures err { OnErr result (self.new.spare ≡ self.old.spare) }
+    {
+        self.pages.add(count)?;
         Ok(())
     }
 
@@ -123,9 +147,9 @@ impl<T: Copy> Cells<T> {
         ensures list { self.new.list ≡ self.old.list ++ item ∷ [] }
         ensures spare { self.new.spare + 1 ≡ self.old.spare }
     {
-        let place = self.len;
-        self.pages[place / PAGE_CELLS].put(place % PAGE_CELLS, item);
-        self.len = place + 1;
+        self.pages
+            .put(self.len / PAGE_CELLS, self.len % PAGE_CELLS, item);
+        self.len += 1;
     }
 
     /// The item at this place, from 0.
@@ -133,7 +157,7 @@ impl<T: Copy> Cells<T> {
         requires { place < length self.now.list }
         ensures { slice_get self.now.list place ≡ Some result }
     {
-        self.pages[place / PAGE_CELLS].get(place % PAGE_CELLS)
+        self.pages.get(place / PAGE_CELLS, place % PAGE_CELLS)
     }
 
     /// Puts another item at this place.
@@ -142,7 +166,7 @@ impl<T: Copy> Cells<T> {
         ensures list { self.new.list ≡ slice_set self.old.list place item }
         ensures spare { self.new.spare ≡ self.old.spare }
     {
-        self.pages[place / PAGE_CELLS].set(place % PAGE_CELLS, item);
+        self.pages.put(place / PAGE_CELLS, place % PAGE_CELLS, item);
     }
 
     /// Cuts the list to its first `len` items. Their room can be used again.

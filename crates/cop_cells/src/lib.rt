@@ -2,7 +2,8 @@
 //! them. Items stay where they are while the list grows.
 #![tactic(auto)]
 
+mod block;
 mod cells;
-mod page;
+mod pages;
 
 pub use cells::Cells;
