@@ -8,6 +8,7 @@ mod edge;
 mod ledger;
 mod library;
 mod path_limit;
+mod record;
 mod sink;
 mod text;
 
@@ -15,6 +16,7 @@ pub use edge::{FileLibrary, WriteSink, read_whole};
 pub use ledger::Ledger;
 pub use library::{FetchFault, Library, MemLibrary};
 pub use path_limit::PathLimit;
+pub use record::ReadRecord;
 pub use sink::{MemSink, PutFault, Sink};
 pub use text::Text;
 
