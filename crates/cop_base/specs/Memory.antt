@@ -5,6 +5,7 @@ use Rattle.std.specs.declared.alloc.Global.{Global}
 use Rattle.cop_base.specs.declared.library.FetchFault.{FetchFault}
 use Rattle.cop_base.specs.declared.library.FetchFault.TheVariants as fault
 use Rattle.cop_base.specs.Outside.{Files, file_in}
+use Rattle.cop_base.specs.Reads.{Read, answered}
 
 -- one more, up to the greatest value of a u64
 abbrev pub counted : ℕ → ℕ
@@ -18,6 +19,7 @@ pub record FilesInMemory : Type 0 where
   pub calls : ℕ
   pub faults : ℕ
   pub misses : ℕ
+  pub reads : List Read
 
 -- whether the next call is one of those that fail
 abbrev pub fetch_fails : FilesInMemory → Bool
@@ -31,11 +33,21 @@ answers (Some bytes) limit r = MatchBool (nat_lt limit (length bytes)) (r ≡ Er
 abbrev pub IsFetched : FilesInMemory → List ℕ → ℕ → Result (Vec ℕ Global) FetchFault → Type 0
 IsFetched l name limit r = MatchBool (fetch_fails l) (r ≡ Err fault.Failed) (answers (file_in l.files name) limit r)
 
-abbrev pub after_fetch : FilesInMemory → List ℕ → FilesInMemory
-after_fetch l name = record l {
+-- the counts of fetches that failed and of missing names, after an answer
+abbrev pub faults_after : Result (Vec ℕ Global) FetchFault → ℕ → ℕ
+faults_after (Err fault.Failed) n = counted n
+faults_after _ n = n
+
+abbrev pub misses_after : Result (Vec ℕ Global) FetchFault → ℕ → ℕ
+misses_after (Err fault.Missing) n = counted n
+misses_after _ n = n
+
+abbrev pub after_fetch : FilesInMemory → List ℕ → ℕ → Result (Vec ℕ Global) FetchFault → FilesInMemory
+after_fetch l name limit r = record l {
   calls = counted l.calls;
-  faults = if fetch_fails l then counted l.faults else l.faults;
-  misses = if fetch_fails l || is_some (file_in l.files name) then l.misses else counted l.misses;
+  faults = faults_after r l.faults;
+  misses = misses_after r l.misses;
+  reads = answered name limit r l.reads;
 }
 
 -- ---- the sink

@@ -1,13 +1,15 @@
-//! The trusted edge: files of the runtime, and a writer. Nothing is told of what a file holds or a
-//! terminal shows, so over these two only counts can be relied on.
+//! The trusted edge: files of the runtime, and a writer. What a file holds is told by what is read
+//! of it alone, answer by answer; of what a terminal shows nothing is told but counts.
 
-ghost use Rattle.std.specs.Prelude.{◌≡◌, ◌≢◌, ◌+◌, ◌<◌, ◌≤◌, ℕ, List, None, IfOk, IfSome, OnOk};
-ghost use Rattle.std.specs.Prelude.{OnErr, length, take, vec_len};
+ghost use Rattle.std.specs.Prelude.{◌≡◌, ◌≢◌, ◌+◌, ◌<◌, ◌≤◌, ℕ, List, [], None, IfOk, IfSome, OnOk};
+ghost use Rattle.std.specs.Prelude.{Option, IsSomeAnd, OnErr, length, take, vec_len};
 ghost use Rattle.std.specs.Io.KnownBytes.{Appends};
+ghost use Rattle.cop_base.specs.Outside as tree;
 ghost use Rattle.cop_base.specs.Outside.{Rose, with_bytes};
-ghost use Rattle.cop_base.specs.Memory.{counted};
+ghost use Rattle.cop_base.specs.Reads.{AgreesSince, Answers, IsReadFrom, ReadsOn, answered};
 
-use crate::library::{FetchFault, Library, count_up};
+use crate::library::{FetchFault, Library, count_up, faults_after, misses_after};
+use crate::record::ReadRecord;
 use crate::sink::{PutFault, Sink};
 use crate::text::Text;
 use std::alloc::{AllocError, Global};
@@ -15,41 +17,52 @@ use std::io::{ErrorKind, Read, Write};
 use std::rt::Files;
 use std::{fs, io};
 
+/// What opens files by their paths.
+pub trait Open {
+    type File: Read + Drop;
+
+    // which files may be opened by a path, where the bytes of the path are told
+    ghost opens: { Self → List ℕ → Self.File → Type 0 };
+
+    /// Opens the file of this path to read it.
+    fn open(&self, path: &str) -> io::Result<Self::File>
+        ensures { IfOk result (λ file. opens self.now path.now file) };
+}
+
+/// The runtime tells nothing of what it opens.
+impl<R: Files> Open for R {
+    type File = R::File;
+
+    ghost opens = { λ _ _ _. Unit {0} };
+
+    fn open(&self, path: &str) -> io::Result<R::File> {
+        fs::open(self, path)
+    }
+}
+
 /// Files by their paths from the current folder.
 #[derive(Drop)]
-pub struct FileLibrary<'a, R: Files> {
+pub struct FileLibrary<'a, R: Open> {
     alloc: Global,
     runtime: &'a R,
     faults: u64,
     misses: u64,
+    history: ReadRecord,
 }
 
-impl<'a, R: Files> FileLibrary<'a, R> {
+impl<'a, R: Open> FileLibrary<'a, R> {
     /// The files that `runtime` reaches. No file is opened before it is fetched.
     pub fn new(alloc: Global, runtime: &'a R) -> FileLibrary<'a, R>
         ensures faults { result.faults ≡ 0 }
         ensures misses { result.misses ≡ 0 }
+        ensures reads { result.history.reads ≡ [] }
     {
         FileLibrary {
             alloc,
             runtime,
             faults: 0,
             misses: 0,
-        }
-    }
-
-    // Raises the count that the fault calls for: of a missing file, or of a failed read. Want of
-    // memory is not counted.
-    fn count(&mut self, fault: FetchFault)
-        ensures missing { fault ≡ FetchFault.Missing → self.new.misses ≡ counted self.old.misses }
-        ensures failed { fault ≡ FetchFault.Failed → self.new.faults ≡ counted self.old.faults }
-        ensures misses { self.old.misses ≤ self.new.misses }
-        ensures faults { self.old.faults ≤ self.new.faults }
-    {
-        match fault {
-            FetchFault::Missing => self.misses = count_up(self.misses),
-            FetchFault::Failed => self.faults = count_up(self.faults),
-            FetchFault::TooLarge | FetchFault::NoMemory => {}
+            history: ReadRecord::new(),
         }
     }
 }
@@ -72,9 +85,7 @@ fn open_fault(error: &io::Error) -> FetchFault
     }
 }
 
-/// What a reader has left, to its end, or `None` where that is more than `limit` bytes. A fetch
-/// from a `FileLibrary` answers what this reads: std tells nothing by which its contract could name
-/// the file that was opened.
+/// What a reader has left, to its end, or `None` where that is more than `limit` bytes.
 pub fn read_whole<F: Read>(alloc: Global, file: &mut F, limit: u64) -> io::Result<Option<Vec<u8>>>
     ensures within { IfOk result (λ read. IfSome read (λ bytes. vec_len bytes ≤ limit)) }
     ensures limited { result ≡ Ok None → limit ≢ u64.MAX }
@@ -92,7 +103,7 @@ pub fn read_whole<F: Read>(alloc: Global, file: &mut F, limit: u64) -> io::Resul
 }
 
 // The whole file of this name.
-fn read_file<R: Files>(
+fn read_file<R: Open>(
     alloc: Global,
     runtime: &R,
     name: &Text,
@@ -100,11 +111,12 @@ fn read_file<R: Files>(
 ) -> Result<Vec<u8>, FetchFault>
     ensures within { IfOk result (λ bytes. vec_len bytes ≤ limit) }
     ensures limited { result ≡ Err FetchFault.TooLarge → limit ≢ u64.MAX }
+    ensures read { IsReadFrom R.File.remaining (R.opens runtime.now name.now) limit result }
 {
     let Ok(path) = str::from_utf8(name.bytes()) else {
         return Err(FetchFault::Missing);
     };
-    let mut file = match fs::open(runtime, path) {
+    let mut file = match runtime.open(path) {
         Ok(file) => file,
         Err(e) => return Err(open_fault(&e)),
     };
@@ -115,21 +127,45 @@ fn read_file<R: Files>(
     }
 }
 
-impl<'a, R: Files> Library for FileLibrary<'a, R> {
+impl<'a, R: Open> Library for FileLibrary<'a, R> {
     ghost holds = { λ _. None };
 
     ghost faults = { λ l. l.faults };
 
     ghost misses = { λ l. l.misses };
 
-    fn fetch(&mut self, name: &Text, limit: u64) -> Result<Vec<u8>, FetchFault> {
-        match read_file(self.alloc, self.runtime, name, limit) {
-            Ok(bytes) => Ok(bytes),
-            Err(fault) => {
-                self.count(fault);
-                Err(fault)
-            }
-        }
+    ghost reads = { λ l. l.history.reads };
+
+    fn fetch(&mut self, name: &Text, limit: u64) -> Result<Vec<u8>, FetchFault>
+        ensures same_files { ◌≡◌ {A = Option tree.Files} None None }
+        ensures more_faults { self.old.faults ≤ self.new.faults }
+        ensures more_misses { self.old.misses ≤ self.new.misses }
+        ensures within { IfOk result (λ bytes. vec_len bytes ≤ limit) }
+        ensures held { IfOk result (λ bytes. IfSome None
+            (λ files. tree.file_in files name.now ≡ Some bytes.items)) }
+        ensures missing { result ≡ Err FetchFault.Missing → Rose self.old.misses self.new.misses }
+        ensures not_held { result ≡ Err FetchFault.Missing → IfSome None
+            (λ files. tree.file_in files name.now ≡ None) }
+        ensures failed { result ≡ Err FetchFault.Failed → Rose self.old.faults self.new.faults }
+        ensures limited { result ≡ Err FetchFault.TooLarge → limit ≢ u64.MAX }
+        ensures too_large { result ≡ Err FetchFault.TooLarge → IfSome None
+            (λ files. IsSomeAnd (tree.file_in files name.now) (λ bytes. limit < length bytes)) }
+        ensures answered { self.new.history.reads
+            ≡ answered name.now limit result self.old.history.reads }
+        ensures answers { (files : tree.Files)
+            → AgreesSince files self.old.history.reads self.new.history.reads
+            → Answers (tree.file_in files name.now) limit result }
+        ensures reads_on { ReadsOn None self.old.history.reads self.new.history.reads }
+
+        // The answer is what a reader had left that was opened by the name.
+        ensures read { IsReadFrom R.File.remaining (R.opens self.old.runtime.now name.now)
+            limit result }
+    {
+        let answer = read_file(self.alloc, self.runtime, name, limit);
+        self.faults = faults_after(&answer, self.faults);
+        self.misses = misses_after(&answer, self.misses);
+        self.history = self.history.and(name, &limit, &answer);
+        answer
     }
 }
 

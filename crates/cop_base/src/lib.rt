@@ -12,7 +12,7 @@ mod record;
 mod sink;
 mod text;
 
-pub use edge::{FileLibrary, WriteSink, read_whole};
+pub use edge::{FileLibrary, Open, WriteSink, read_whole};
 pub use ledger::Ledger;
 pub use library::{FetchFault, Library, MemLibrary};
 pub use path_limit::PathLimit;

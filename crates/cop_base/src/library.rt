@@ -1,12 +1,14 @@
 //! Where problems and derivations are read from.
 
-ghost use Rattle.std.specs.Prelude.{◌≡◌, ◌≢◌, ◌<◌, ◌≤◌, ℕ, Option, None, Some, length};
+ghost use Rattle.std.specs.Prelude.{◌≡◌, ◌≢◌, ◌<◌, ◌≤◌, ℕ, List, [], Option, None, Some, length};
 ghost use Rattle.std.specs.Prelude.{option_copied, IfSome, IsSomeAnd, IfOk, IsOkAnd, vec_len};
 ghost use Rattle.std.specs.Option.{option_map};
 ghost use Rattle.cop_base.specs.Outside.{Rose, Files, file_in, files_of};
-ghost use Rattle.cop_base.specs.Memory.{IsFetched, after_fetch, counted};
+ghost use Rattle.cop_base.specs.Memory.{IsFetched, after_fetch, answers, counted, faults_after, misses_after};
+ghost use Rattle.cop_base.specs.Reads.{AgreesSince, Answers, Read, ReadsOn, answered};
 
 use crate::NoMemory;
+use crate::record::ReadRecord;
 use crate::text::Text;
 use std::alloc::Global;
 use std::marker::Model;
@@ -34,6 +36,9 @@ pub trait Library {
 
     ghost misses: { Self → ℕ };
 
+    // what the fetches so far have answered, the last one first
+    ghost reads: { Self → List Read };
+
     /// The bytes of the file of this name. A file with more than `limit` bytes is `TooLarge`.
     fn fetch(&mut self, name: &Text, limit: u64) -> Result<Vec<u8>, FetchFault>
         ensures same_files { holds self.new ≡ holds self.old }
@@ -49,7 +54,14 @@ pub trait Library {
         ensures failed { result ≡ Err FetchFault.Failed → Rose (faults self.old) (faults self.new) }
         ensures limited { result ≡ Err FetchFault.TooLarge → limit ≢ u64.MAX }
         ensures too_large { result ≡ Err FetchFault.TooLarge → IfSome (holds self.old)
-            (λ files. IsSomeAnd (file_in files name.now) (λ bytes. limit < length bytes)) };
+            (λ files. IsSomeAnd (file_in files name.now) (λ bytes. limit < length bytes)) }
+
+        // What is read is exactly the answer, so the files that agree with it answer so, and the
+        // files that are told agree with it.
+        ensures answered { reads self.new ≡ answered name.now limit result (reads self.old) }
+        ensures answers { (files : Files) → AgreesSince files (reads self.old) (reads self.new)
+            → Answers (file_in files name.now) limit result }
+        ensures reads_on { ReadsOn (holds self.old) (reads self.old) (reads self.new) };
 }
 
 /// Files in memory.
@@ -61,6 +73,7 @@ pub struct MemLibrary {
     calls: u64,
     faults: u64,
     misses: u64,
+    history: ReadRecord,
 }
 
 impl Model for MemLibrary {
@@ -75,6 +88,7 @@ impl Model for MemLibrary {
       calls = l.calls;
       faults = l.faults;
       misses = l.misses;
+      reads = l.history.reads;
     } };
 }
 
@@ -99,6 +113,7 @@ impl MemLibrary {
           calls = 0;
           faults = 0;
           misses = 0;
+          reads = [];
         }) }
     {
         Ok(MemLibrary {
@@ -108,6 +123,7 @@ impl MemLibrary {
             calls: 0,
             faults: 0,
             misses: 0,
+            history: ReadRecord::new(),
         })
     }
 }
@@ -125,6 +141,53 @@ fn find_file<'a>(files: &'a Vec<(Text, Vec<u8>)>, name: &Text) -> Option<&'a Vec
     None
 }
 
+// What a fetch answers that does not fail.
+fn copy_of(
+    alloc: Global,
+    files: &Vec<(Text, Vec<u8>)>,
+    name: &Text,
+    limit: u64,
+) -> Result<Vec<u8>, FetchFault>
+    ensures answer { answers (file_in (files_of files.now.items) name.now) limit result }
+    ensures of { Answers (file_in (files_of files.now.items) name.now) limit result }
+    ensures limited { result ≡ Err FetchFault.TooLarge → limit ≢ u64.MAX }
+{
+    let Some(bytes) = find_file(files, name) else {
+        return Err(FetchFault::Missing);
+    };
+    if bytes.len() as u64 > limit {
+        return Err(FetchFault::TooLarge);
+    }
+    match Vec::from_slice(alloc, bytes.as_slice()) {
+        Ok(copy) => Ok(copy),
+        Err(_) => Err(FetchFault::NoMemory),
+    }
+}
+
+// How many fetches failed, once one more has answered so.
+pub(crate) fn faults_after(answer: &Result<Vec<u8>, FetchFault>, faults: u64) -> u64
+    ensures after { result ≡ faults_after answer.now faults }
+    ensures more { faults ≤ result }
+    ensures rose { answer.now ≡ Err FetchFault.Failed → Rose faults result }
+{
+    match answer {
+        Err(FetchFault::Failed) => count_up(faults),
+        Err(FetchFault::Missing | FetchFault::TooLarge | FetchFault::NoMemory) | Ok(_) => faults,
+    }
+}
+
+// How many names were missing, once one more fetch has answered so.
+pub(crate) fn misses_after(answer: &Result<Vec<u8>, FetchFault>, misses: u64) -> u64
+    ensures after { result ≡ misses_after answer.now misses }
+    ensures more { misses ≤ result }
+    ensures rose { answer.now ≡ Err FetchFault.Missing → Rose misses result }
+{
+    match answer {
+        Err(FetchFault::Missing) => count_up(misses),
+        Err(FetchFault::Failed | FetchFault::TooLarge | FetchFault::NoMemory) | Ok(_) => misses,
+    }
+}
+
 impl Library for MemLibrary {
     ghost holds = { λ l. Some l.files };
 
@@ -132,10 +195,12 @@ impl Library for MemLibrary {
 
     ghost misses = { λ l. l.misses };
 
+    ghost reads = { λ l. l.reads };
+
     fn fetch(&mut self, name: &Text, limit: u64) -> Result<Vec<u8>, FetchFault>
         ensures same_files { self.new.files ≡ self.old.files }
         ensures answer { IsFetched self.old name.now limit result }
-        ensures after { self.new ≡ after_fetch self.old name.now }
+        ensures after { self.new ≡ after_fetch self.old name.now limit result }
         ensures more_faults { self.old.faults ≤ self.new.faults }
         ensures more_misses { self.old.misses ≤ self.new.misses }
         ensures within { IfOk result (λ bytes. vec_len bytes ≤ limit) }
@@ -147,22 +212,20 @@ impl Library for MemLibrary {
         ensures limited { result ≡ Err FetchFault.TooLarge → limit ≢ u64.MAX }
         ensures too_large { result ≡ Err FetchFault.TooLarge
             → IsSomeAnd (file_in self.old.files name.now) (λ bytes. limit < length bytes) }
+        ensures answered { self.new.reads ≡ answered name.now limit result self.old.reads }
+        ensures answers { (files : Files) → AgreesSince files self.old.reads self.new.reads
+            → Answers (file_in files name.now) limit result }
+        ensures reads_on { ReadsOn (Some self.old.files) self.old.reads self.new.reads }
     {
         self.calls = count_up(self.calls);
-        if self.failing.as_slice().contains(&self.calls) {
-            self.faults = count_up(self.faults);
-            return Err(FetchFault::Failed);
-        }
-        let Some(bytes) = find_file(&self.files, name) else {
-            self.misses = count_up(self.misses);
-            return Err(FetchFault::Missing);
+        let answer = if self.failing.as_slice().contains(&self.calls) {
+            Err(FetchFault::Failed)
+        } else {
+            copy_of(self.alloc, &self.files, name, limit)
         };
-        if bytes.len() as u64 > limit {
-            return Err(FetchFault::TooLarge);
-        }
-        match Vec::from_slice(self.alloc, bytes.as_slice()) {
-            Ok(copy) => Ok(copy),
-            Err(_) => Err(FetchFault::NoMemory),
-        }
+        self.faults = faults_after(&answer, self.faults);
+        self.misses = misses_after(&answer, self.misses);
+        self.history = self.history.and(name, &limit, &answer);
+        answer
     }
 }

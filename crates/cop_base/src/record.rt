@@ -1,6 +1,6 @@
-//! What was read, told to proofs alone.
+//! What was read, told to proofs alone: a record takes no memory.
 
-ghost use Rattle.std.specs.Prelude.{◌≡◌, List, [], Ok, Err};
+ghost use Rattle.std.specs.Prelude.{◌≡◌, List, []};
 ghost use Rattle.std.specs.Borrow.{ftrue};
 ghost use Rattle.cop_base.specs.Reads.{Read, answered};
 
@@ -8,7 +8,7 @@ use crate::library::FetchFault;
 use crate::text::Text;
 use std::marker::{Model, PhantomData};
 
-/// A list of answers that takes no memory.
+/// What the fetches of a library have answered, the last one first.
 #[derive(Drop)]
 pub struct ReadRecord {
     marker: PhantomData<u8>,

@@ -1,5 +1,5 @@
 -- The reading of a file in the walk, also where a file is left out.
-use Rattle.std.proofs.Common.{◌≡◌, ◌⊎◌, inl, inr, ℕ, ◌+◌, ◌<◌, ◌≤◌, List, [], ◌∷◌, length, Bool, true, false, Option, None, Some, Err, if◌then◌else◌, refl, sym, ◌∙◌, ap, subst, arith, ltb-true, nat_lt}
+use Rattle.std.proofs.Common.{◌≡◌, ◌⊎◌, inl, inr, ℕ, ◌+◌, ◌-◌, ◌<◌, ◌≤◌, List, [], ◌∷◌, length, Bool, true, false, Option, None, Some, IsSomeAnd, Err, if◌then◌else◌, refl, sym, ◌∙◌, ap, subst, arith, lt-ltb, ltb-true, nat_lt}
 use Rattle.std.specs.Prelude.{map, not, reverse}
 use Rattle.std.specs.Str.{bytes_eq}
 use Rattle.std.proofs.lemmas.List.{reverse-reverse}
@@ -12,7 +12,7 @@ use Rattle.tptp_reader.specs.Reading.{reads, IsReading}
 use Rattle.problem_build.specs.declared.fault.BuildFault.{BuildFault}
 use Rattle.problem_build.specs.declared.fault.BuildFault.TheVariants.{Missing, Failed, InputTooLarge, NestingTooDeep, FormulaTooLarge, TooManySymbols, Bad, NoMemory}
 use Rattle.problem_build.specs.Building.{IsExactReader, without}
-use Rattle.problem_build.specs.Outside.{IsFailed}
+use Rattle.problem_build.specs.Outside.{IsFailed, IsMissing}
 use Rattle.problem_build.specs.Refusals.{missing, input_too_large}
 use Rattle.problem_build.specs.Walk.{FileWalk, Progress, Reader, bytes_walk, items_walk, outcome_walk, walked}
 use Rattle.problem_build.specs.Walking.{EndsIn, GoesOn, IsGone, Outcomes, deeper, file_outcomes, items_outcomes, over, pending_items}
@@ -55,6 +55,17 @@ opened read files root file depth lists p to h omitted = by (file-over omitted f
 
 -- ---- files that are not there
 
+pub missing-ends : (read : Reader) (files : Files) (root file : Name) (depth : ℕ) (lists : List (List Name)) (p : Progress) → file_in files file ≡ None
+    → (fault : BuildFault) → IsMissing fault file → EndsIn (file_outcomes read files root file depth lists p) fault
+missing-ends read files root file depth lists p e (Missing n) h = ap (bytes_walk read (deeper read files root depth) root file lists p) e ∙ ap (λ m. Err (missing m)) (sym h)
+missing-ends read files root file depth lists p e (Failed n) h = absurd h
+missing-ends read files root file depth lists p e InputTooLarge h = absurd h
+missing-ends read files root file depth lists p e NestingTooDeep h = absurd h
+missing-ends read files root file depth lists p e FormulaTooLarge h = absurd h
+missing-ends read files root file depth lists p e TooManySymbols h = absurd h
+missing-ends read files root file depth lists p e (Bad f o c) h = absurd h
+missing-ends read files root file depth lists p e NoMemory h = tt
+
 pub failed-ends : (read : Reader) (files : Files) (root file : Name) (depth : ℕ) (lists : List (List Name)) (p : Progress)
     → (fault : BuildFault) → IsFailed fault file → EndsIn (file_outcomes read files root file depth lists p) fault
 failed-ends read files root file depth lists p (Missing n) h = absurd h
@@ -69,6 +80,9 @@ failed-ends read files root file depth lists p NoMemory h = tt
 
 -- ---- the limit of bytes
 
+abbrev pub with_bytes : Progress → ℕ → Progress
+with_bytes p n = record { bytes = p.bytes + n; passed = p.passed }
+
 within-limit : (m n : ℕ) → n ≤ m → nat_lt m n ≡ false
 within-limit m n h = by (nat_lt m n) refl
   where
@@ -76,10 +90,18 @@ within-limit m n h = by (nat_lt m n) refl
     by true e = let k : m < n = ltb-true m n e in absurd (omega (arith, k, h))
     by false e = e
 
--- ---- files that are read
+pub large-ends : (read : Reader) (files : Files) (root file : Name) (depth : ℕ) (lists : List (List Name)) (p : Progress) → IsSomeAnd (file_in files file) (λ bytes. 16777216 - p.bytes < length bytes)
+    → file_outcomes read files root file depth lists p None ≡ Err input_too_large
+large-ends read files root file depth lists p h = by (file_in files file) refl h
+  where
+    by : (o : Option (List ℕ)) → file_in files file ≡ o → IsSomeAnd o (λ bytes. 16777216 - p.bytes < length bytes) → file_outcomes read files root file depth lists p None ≡ Err input_too_large
+    by None e k = absurd k
+    by (Some bytes) e k =
+        let over : 16777216 < p.bytes + length bytes = omega (arith, k) in
+        ap (bytes_walk read (deeper read files root depth) root file lists p) e
+        ∙ ap (λ (b : Bool). if b then Err input_too_large else outcome_walk (deeper read files root depth) root file lists (with_bytes p (length bytes)) (read bytes)) (lt-ltb 16777216 (p.bytes + length bytes) over)
 
-abbrev pub with_bytes : Progress → ℕ → Progress
-with_bytes p n = record { bytes = p.bytes + n; passed = p.passed }
+-- ---- files that are read
 
 text-walk : (read : Reader) (deep : Option FileWalk) (root file : Name) (lists : List (List Name)) (p : Progress) (found : Option (List ℕ)) (bytes : List ℕ) → found ≡ Some bytes → p.bytes + length bytes ≤ 16777216
     → bytes_walk read deep root file lists p found ≡ outcome_walk deep root file lists (with_bytes p (length bytes)) (read bytes)

@@ -5,6 +5,8 @@ use Rattle.std.specs.Prelude.{Vec}
 use Rattle.std.specs.List.{list_all}
 use Rattle.std.specs.declared.alloc.Global.{Global}
 use Rattle.cop_base.specs.Outside.{Files, Rose, file_in}
+use Rattle.cop_base.specs.Reads as seen
+use Rattle.cop_base.specs.Reads.{Read, EndsWith}
 use Rattle.tptp_reader.specs.declared.item.Item as program
 use Rattle.tptp_reader.specs.ItemView.{the_item}
 use Rattle.tptp_reader.specs.Sources.{Name, Source, Item}
@@ -117,13 +119,13 @@ AllPass test walk = IsTrue (list_all (λ (p : Passed). test p.body) (map the_pas
 
 -- ---- counts
 
--- Missing and Failed come where the counts of the library say so
-abbrev pub IsCounted : (faults faults' misses misses' : ℕ) → BuildFault → Type 0
-IsCounted f g m k (Missing n) = Rose m k
-IsCounted f g m k (Failed n) = Rose f g
-IsCounted f g m k InputTooLarge = Unit {0}
-IsCounted f g m k NestingTooDeep = Unit {0}
-IsCounted f g m k FormulaTooLarge = Unit {0}
-IsCounted f g m k TooManySymbols = Unit {0}
-IsCounted f g m k (Bad f' o c) = Unit {0}
-IsCounted f g m k NoMemory = Unit {0}
+-- Missing and Failed come where the counts of the library say so, and name the file of its last answer
+abbrev pub IsCounted : (faults faults' misses misses' : ℕ) → List Read → BuildFault → Type 0
+IsCounted f g m k after (Missing n) = Rose m k × EndsWith after n seen.absent
+IsCounted f g m k after (Failed n) = Rose f g × EndsWith after n seen.failed
+IsCounted f g m k after InputTooLarge = Unit {0}
+IsCounted f g m k after NestingTooDeep = Unit {0}
+IsCounted f g m k after FormulaTooLarge = Unit {0}
+IsCounted f g m k after TooManySymbols = Unit {0}
+IsCounted f g m k after (Bad f' o c) = Unit {0}
+IsCounted f g m k after NoMemory = Unit {0}

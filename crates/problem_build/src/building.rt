@@ -5,7 +5,9 @@ ghost use Rattle.std.specs.List.{list_all, list_any};
 ghost use Rattle.calculus.specs.Equality.{symbol_eq};
 ghost use Rattle.calculus.specs.Problems.{formula_fits, is_modal, symbol_fits};
 ghost use Rattle.calculus.specs.Syntax as tree;
-ghost use Rattle.cop_base.specs.Outside.{Rose};
+ghost use Rattle.cop_base.specs.Outside.{Files, Rose};
+ghost use Rattle.cop_base.specs.Reads as seen;
+ghost use Rattle.cop_base.specs.Reads.{AgreesSince, EndsWith, ReadsOn};
 ghost use Rattle.formula_core.specs.FormulaView.{the_formula};
 ghost use Rattle.logic_rules.specs.SettingView.{the_setting};
 ghost use Rattle.problem_build.specs.Answers.{the_answer};
@@ -258,6 +260,26 @@ pub fn build<L: Library>(
     root: &Text,
     setting: Setting,
 ) -> Result<Problem, BuildFault>
+    // Of every map of files that agrees with what was read in this call.
+    ensures agreeing { (files : Files) → AgreesSince files (L.reads lib.old) (L.reads lib.new)
+        → IfSome (the_answer result)
+        (λ r. IsProblemOf files name.now root.now (the_setting setting) r) }
+    ensures agreeing_alone { (files : Files) → AgreesSince files (L.reads lib.old) (L.reads lib.new)
+        → IfSome (the_answer result)
+        (λ r. (other : Result tree.Problem Refusal) → IsProblemOf files name.now root.now (the_setting setting) other
+        → other ≡ r) }
+    ensures agreeing_symbols { (files : Files) → AgreesSince files (L.reads lib.old) (L.reads lib.new)
+        → IfOk result (λ p. HasItsSymbols p) }
+    ensures agreeing_fetched { (n : Text) → result ≡ Err (BuildFault.Failed n)
+        → (files : Files) → AgreesSince files (L.reads lib.old) (L.reads lib.new)
+        → WalkFetches files name.now root.now (the_setting setting) n }
+
+    // A file that is missing or could not be read is that of the last fetch.
+    ensures last_missing { (n : Text) → result ≡ Err (BuildFault.Missing n) → EndsWith (L.reads lib.new) n seen.absent }
+    ensures last_failed { (n : Text) → result ≡ Err (BuildFault.Failed n) → EndsWith (L.reads lib.new) n seen.failed }
+
+    // The files that the library tells agree, so the same holds of them.
+    ensures reads_on { ReadsOn (L.holds lib.old) (L.reads lib.old) (L.reads lib.new) }
     ensures answer { IfSome (L.holds lib.old) (λ files. IfSome (the_answer result)
         (λ r. IsProblemOf files name.now root.now (the_setting setting) r)) }
     ensures alone { IfSome (L.holds lib.old) (λ files. IfSome (the_answer result)

@@ -4,7 +4,9 @@ ghost use Rattle.std.specs.Prelude.{◌≡◌, ◌<◌, ◌≤◌, ◌++◌, ◌
 ghost use Rattle.std.specs.Prelude.{Result, Ok, Err, None, Some, false, ℕ, ◌+◌};
 ghost use Rattle.std.specs.List.{list_all, list_any};
 ghost use Rattle.std.specs.Option.{option_map_or};
-ghost use Rattle.cop_base.specs.Outside.{Rose, file_in};
+ghost use Rattle.cop_base.specs.Outside.{Files, Rose, file_in};
+ghost use Rattle.cop_base.specs.Reads as seen;
+ghost use Rattle.cop_base.specs.Reads.{AgreesSince, EndsWith, ReadsOn};
 ghost use Rattle.tptp_reader.specs.ItemView.{the_item};
 ghost use Rattle.tptp_reader.specs.SourceView.{the_source};
 ghost use Rattle.tptp_reader.specs.Sources as tree;
@@ -120,19 +122,21 @@ fn read_file<L: Library>(
     lib: &mut L,
     name: &Text,
 ) -> Result<Vec<Item>, BuildFault>
-    ensures reading { IfSome (L.holds lib.old) (λ files. (read : Reader) → IsExactReader rules.now.modal read
+    ensures reading { (files : Files) → AgreesSince files (L.reads lib.old) (L.reads lib.new)
+        → (read : Reader) → IsExactReader rules.now.modal read
         → (root : List ℕ) (depth : ℕ) (lists : List (List (List ℕ)))
-        → ReadsTo read files root name.now depth lists walk.old walk.new result) }
+        → ReadsTo read files root name.now depth lists walk.old walk.new result }
     ensures kept { OnOk result (walk.new.lists.items ≡ walk.old.lists.items) }
     ensures passed { OnOk result (walk.new.passed.items ≡ walk.old.passed.items) }
     ensures read { (test : tree.Source → Bool) → HoldsOfTexts rules.now.modal test
         → IfOk result (λ items. IsTrue (list_all (item_passes test) (pending_items items.items))) }
-    ensures bytes { OnOk result (IfSome (L.holds lib.old) (λ files.
-        walk.new.bytes ≡ walk.old.bytes + option_map_or length (file_in files name.now) 0)) }
+    ensures bytes { OnOk result ((files : Files) → AgreesSince files (L.reads lib.old) (L.reads lib.new)
+        → walk.new.bytes ≡ walk.old.bytes + option_map_or length (file_in files name.now) 0) }
     ensures same_files { L.holds lib.new ≡ L.holds lib.old }
     ensures more_faults { L.faults lib.old ≤ L.faults lib.new }
     ensures more_misses { L.misses lib.old ≤ L.misses lib.new }
-    ensures counted { IfErr result (IsCounted (L.faults lib.old) (L.faults lib.new) (L.misses lib.old) (L.misses lib.new)) }
+    ensures reads_on { ReadsOn (L.holds lib.old) (L.reads lib.old) (L.reads lib.new) }
+    ensures counted { IfErr result (IsCounted (L.faults lib.old) (L.faults lib.new) (L.misses lib.old) (L.misses lib.new) (L.reads lib.new)) }
 {
     let bytes = match lib.fetch(name, MAX_INPUT - walk.bytes) {
         Ok(bytes) => bytes,
@@ -221,6 +225,7 @@ fn leave(
 }
 
 // Walks over an item, the names that are reached in it being added to those before.
+#[tactic(auto, using(cop_base::proofs::ReadLaws::reads_same))]
 #[cycle(walk)]
 fn walk_item<L: Library>(
     rules: &WalkRules,
@@ -231,16 +236,18 @@ fn walk_item<L: Library>(
     depth: u32,
     reached: &mut Vec<Text>,
 ) -> Result<(), BuildFault>
-    ensures steps { IfSome (L.holds lib.old) (λ files. (read : Reader) → IsExactReader rules.now.modal read → (rest : List tree.Item)
+    ensures steps { (files : Files) → AgreesSince files (L.reads lib.old) (L.reads lib.new)
+        → (read : Reader) → IsExactReader rules.now.modal read → (rest : List tree.Item)
         → StepsTo (items_outcomes read files rules.now.root file.now depth (lists_of walk.old) (the_item item ∷ rest) (progress_of walk.old) reached.old.items)
-        (items_outcomes read files rules.now.root file.now depth (lists_of walk.old) rest (progress_of walk.new) reached.new.items) result) }
+        (items_outcomes read files rules.now.root file.now depth (lists_of walk.old) rest (progress_of walk.new) reached.new.items) result }
     ensures kept { OnOk result (walk.new.lists.items ≡ walk.old.lists.items) }
     ensures read { (test : tree.Source → Bool) → HoldsOfTexts rules.now.modal test → IsTrue (item_passes test (the_item item))
         → AllPass test walk.old → OnOk result (AllPass test walk.new) }
     ensures same_files { L.holds lib.new ≡ L.holds lib.old }
     ensures more_faults { L.faults lib.old ≤ L.faults lib.new }
     ensures more_misses { L.misses lib.old ≤ L.misses lib.new }
-    ensures counted { IfErr result (IsCounted (L.faults lib.old) (L.faults lib.new) (L.misses lib.old) (L.misses lib.new)) }
+    ensures reads_on { ReadsOn (L.holds lib.old) (L.reads lib.old) (L.reads lib.new) }
+    ensures counted { IfErr result (IsCounted (L.faults lib.old) (L.faults lib.new) (L.misses lib.old) (L.misses lib.new) (L.reads lib.new)) }
 {
     match item {
         Item::Formula {
@@ -269,6 +276,7 @@ fn walk_item<L: Library>(
 }
 
 // Walks over an included file, and judges the names that the include selects.
+#[tactic(auto, using(cop_base::proofs::ReadLaws::reads_same))]
 #[cycle(walk)]
 fn walk_include<L: Library>(
     rules: &WalkRules,
@@ -281,16 +289,18 @@ fn walk_include<L: Library>(
     depth: u32,
     reached: &mut Vec<Text>,
 ) -> Result<(), BuildFault>
-    ensures steps { IfSome (L.holds lib.old) (λ files. (read : Reader) → IsExactReader rules.now.modal read → (rest : List tree.Item)
+    ensures steps { (files : Files) → AgreesSince files (L.reads lib.old) (L.reads lib.new)
+        → (read : Reader) → IsExactReader rules.now.modal read → (rest : List tree.Item)
         → StepsTo (items_outcomes read files rules.now.root file.now depth (lists_of walk.old) (tree.include included names start ∷ rest) (progress_of walk.old) reached.old.items)
-        (items_outcomes read files rules.now.root file.now depth (lists_of walk.old) rest (progress_of walk.new) reached.new.items) result) }
+        (items_outcomes read files rules.now.root file.now depth (lists_of walk.old) rest (progress_of walk.new) reached.new.items) result }
     ensures kept { OnOk result (walk.new.lists.items ≡ walk.old.lists.items) }
     ensures read { (test : tree.Source → Bool) → HoldsOfTexts rules.now.modal test
         → AllPass test walk.old → OnOk result (AllPass test walk.new) }
     ensures same_files { L.holds lib.new ≡ L.holds lib.old }
     ensures more_faults { L.faults lib.old ≤ L.faults lib.new }
     ensures more_misses { L.misses lib.old ≤ L.misses lib.new }
-    ensures counted { IfErr result (IsCounted (L.faults lib.old) (L.faults lib.new) (L.misses lib.old) (L.misses lib.new)) }
+    ensures reads_on { ReadsOn (L.holds lib.old) (L.reads lib.old) (L.reads lib.new) }
+    ensures counted { IfErr result (IsCounted (L.faults lib.old) (L.faults lib.new) (L.misses lib.old) (L.misses lib.new) (L.reads lib.new)) }
 {
     if depth == 0 {
         return Err(bad(rules.alloc, file, start, Cause::IncludeTooDeep));
@@ -312,15 +322,17 @@ fn walk_file<L: Library>(
     name: &Text,
     depth: u32,
 ) -> Result<Vec<Text>, BuildFault>
-    ensures leads { IfSome (L.holds lib.old) (λ files. (read : Reader) → IsExactReader rules.now.modal read
-        → LeadsTo (file_outcomes read files rules.now.root name.now depth (lists_of walk.old) (progress_of walk.old)) walk.new result) }
+    ensures leads { (files : Files) → AgreesSince files (L.reads lib.old) (L.reads lib.new)
+        → (read : Reader) → IsExactReader rules.now.modal read
+        → LeadsTo (file_outcomes read files rules.now.root name.now depth (lists_of walk.old) (progress_of walk.old)) walk.new result }
     ensures kept { OnOk result (walk.new.lists.items ≡ walk.old.lists.items) }
     ensures read { (test : tree.Source → Bool) → HoldsOfTexts rules.now.modal test
         → AllPass test walk.old → OnOk result (AllPass test walk.new) }
     ensures same_files { L.holds lib.new ≡ L.holds lib.old }
     ensures more_faults { L.faults lib.old ≤ L.faults lib.new }
     ensures more_misses { L.misses lib.old ≤ L.misses lib.new }
-    ensures counted { IfErr result (IsCounted (L.faults lib.old) (L.faults lib.new) (L.misses lib.old) (L.misses lib.new)) }
+    ensures reads_on { ReadsOn (L.holds lib.old) (L.reads lib.old) (L.reads lib.new) }
+    ensures counted { IfErr result (IsCounted (L.faults lib.old) (L.faults lib.new) (L.misses lib.old) (L.misses lib.new) (L.reads lib.new)) }
 {
     let items = read_file(rules, walk, lib, name)?;
     let reached = walk_items(rules, walk, lib, name, items, depth)?;
@@ -328,6 +340,7 @@ fn walk_file<L: Library>(
 }
 
 // Walks over the items of a file, the last of which comes first.
+#[tactic(auto, using(cop_base::proofs::ReadLaws::reads_same))]
 #[cycle(walk)]
 fn walk_items<L: Library>(
     rules: &WalkRules,
@@ -337,8 +350,9 @@ fn walk_items<L: Library>(
     items: Vec<Item>,
     depth: u32,
 ) -> Result<Vec<Text>, BuildFault>
-    ensures leads { IfSome (L.holds lib.old) (λ files. (read : Reader) → IsExactReader rules.now.modal read
-        → LeadsTo (items_outcomes read files rules.now.root file.now depth (lists_of walk.old) (pending_items items.items) (progress_of walk.old) []) walk.new result) }
+    ensures leads { (files : Files) → AgreesSince files (L.reads lib.old) (L.reads lib.new)
+        → (read : Reader) → IsExactReader rules.now.modal read
+        → LeadsTo (items_outcomes read files rules.now.root file.now depth (lists_of walk.old) (pending_items items.items) (progress_of walk.old) []) walk.new result }
     ensures kept { OnOk result (walk.new.lists.items ≡ walk.old.lists.items) }
     ensures read { (test : tree.Source → Bool) → HoldsOfTexts rules.now.modal test
         → IsTrue (list_all (item_passes test) (pending_items items.items))
@@ -346,7 +360,8 @@ fn walk_items<L: Library>(
     ensures same_files { L.holds lib.new ≡ L.holds lib.old }
     ensures more_faults { L.faults lib.old ≤ L.faults lib.new }
     ensures more_misses { L.misses lib.old ≤ L.misses lib.new }
-    ensures counted { IfErr result (IsCounted (L.faults lib.old) (L.faults lib.new) (L.misses lib.old) (L.misses lib.new)) }
+    ensures reads_on { ReadsOn (L.holds lib.old) (L.reads lib.old) (L.reads lib.new) }
+    ensures counted { IfErr result (IsCounted (L.faults lib.old) (L.faults lib.new) (L.misses lib.old) (L.misses lib.new) (L.reads lib.new)) }
 {
     let mut items = items;
     let mut reached = Vec::new(rules.alloc);
@@ -359,6 +374,7 @@ fn walk_items<L: Library>(
 /// Walks over the file of this name and the files that it includes, by the rule on the root: an
 /// included file is fetched by its name behind the root and a `/`, where there is a root and the
 /// name does not begin with `/`.
+#[tactic(auto, using(cop_base::proofs::ReadLaws::reads_same))]
 pub fn walk_files<L: Library>(
     alloc: Global,
     lib: &mut L,
@@ -366,19 +382,24 @@ pub fn walk_files<L: Library>(
     name: &Text,
     root: &Text,
 ) -> Result<WalkedFiles, BuildFault>
-    ensures walks { IfSome (L.holds lib.old) (λ files. (read : Reader) → IsExactReader modal read
-        → WalksTo (definition.walk read files name.now root.now) result) }
-    ensures length { IfSome (L.holds lib.old) (λ files. IfOk result
-        (λ w. option_map_or length (file_in files name.now) 0 ≡ w.main_length)) }
+    ensures walks { (files : Files) → AgreesSince files (L.reads lib.old) (L.reads lib.new)
+        → (read : Reader) → IsExactReader modal read
+        → WalksTo (definition.walk read files name.now root.now) result }
+    ensures length { IfOk result (λ w. (files : Files) → AgreesSince files (L.reads lib.old) (L.reads lib.new)
+        → option_map_or length (file_in files name.now) 0 ≡ w.main_length) }
     ensures read { IfOk result (λ w. AreRead modal (map the_passed w.passed.items)) }
     ensures same_files { L.holds lib.new ≡ L.holds lib.old }
     ensures more_faults { L.faults lib.old ≤ L.faults lib.new }
     ensures more_misses { L.misses lib.old ≤ L.misses lib.new }
-    ensures missing { (n : Text) → result ≡ Err (BuildFault.Missing n) → Rose (L.misses lib.old) (L.misses lib.new) }
-    ensures failed { (n : Text) → result ≡ Err (BuildFault.Failed n) → Rose (L.faults lib.old) (L.faults lib.new) }
-    ensures fetched { (n : Text) → result ≡ Err (BuildFault.Failed n) → IfSome (L.holds lib.old)
-        (λ files. (read : Reader) → IsExactReader modal read
-        → definition.walk read (without n files) name.now root.now ≡ Err (refusal.missing n)) }
+    ensures reads_on { ReadsOn (L.holds lib.old) (L.reads lib.old) (L.reads lib.new) }
+    ensures missing { (n : Text) → result ≡ Err (BuildFault.Missing n)
+        → Rose (L.misses lib.old) (L.misses lib.new) × EndsWith (L.reads lib.new) n seen.absent }
+    ensures failed { (n : Text) → result ≡ Err (BuildFault.Failed n)
+        → Rose (L.faults lib.old) (L.faults lib.new) × EndsWith (L.reads lib.new) n seen.failed }
+    ensures fetched { (n : Text) → result ≡ Err (BuildFault.Failed n)
+        → (files : Files) → AgreesSince files (L.reads lib.old) (L.reads lib.new)
+        → (read : Reader) → IsExactReader modal read
+        → definition.walk read (without n files) name.now root.now ≡ Err (refusal.missing n) }
 {
     let root = Text::new(alloc, root.bytes())?;
     let rules = WalkRules { alloc, modal, root };

@@ -1,8 +1,14 @@
-use Rattle.std.proofs.Common.{◌∙◌, Err, ap, map, subst}
+use Rattle.std.proofs.Common.{◌≡◌, ◌∙◌, Err, IfSome, Result, Some, ap, map, subst}
+use Rattle.std.specs.Prelude.{IfOk}
 use Rattle.calculus.specs.Problems.{is_modal}
+use Rattle.calculus.specs.Syntax.{Problem}
+use Rattle.cop_base.proofs.ReadLaws.{of-told}
 use Rattle.logic_rules.specs.SettingView.{the_setting}
 use Rattle.problem_build.specs.Answers.{the_answer}
+use Rattle.problem_build.specs.Building.{IsProblemOf, WalkFetches}
+use Rattle.problem_build.specs.Occurring.{HasItsSymbols}
 use Rattle.problem_build.specs.Passing.{AreRead, the_passed}
+use Rattle.problem_build.specs.Refusals.{Refusal}
 use Rattle.problem_build.proofs.BuildLaws.{answered-alone, answered-fetch, answered-problem, answered-refusal, answered-symbols, not-failed, not-missing}
 use Rattle.problem_build.proofs.ListLaws.{inner-fault}
 use Rattle.problem_build.proofs.building.build.Goals as goal
@@ -12,59 +18,100 @@ problem_of-requires g c = record {
   read = subst (λ m. AreRead m (map the_passed c.in-Ok.walked.passed.items)) (c.is_modal.ensures ∙ ap is_modal c.logic.ensures) c.in-Ok.ensures.read;
 }
 
+-- ---- no problem
+
+pub returns-in-Err-clause-agreeing : goal.returns-in-Err-clause-agreeing
+returns-in-Err-clause-agreeing g c = λ files w. answered-refusal (Some files) c.args.name.now c.args.root.now (the_setting c.args.setting) c.in-Err.fault c.is_modal.result (c.is_modal.ensures ∙ ap is_modal c.logic.ensures) (c.in-Err.ensures.walks files w)
+
+pub returns-in-Err-clause-agreeing_alone : goal.returns-in-Err-clause-agreeing_alone
+returns-in-Err-clause-agreeing_alone g c = λ files w. answered-alone (Some files) c.args.name.now c.args.root.now (the_setting c.args.setting) (the_answer (Err c.in-Err.fault))
+    (answered-refusal (Some files) c.args.name.now c.args.root.now (the_setting c.args.setting) c.in-Err.fault c.is_modal.result (c.is_modal.ensures ∙ ap is_modal c.logic.ensures) (c.in-Err.ensures.walks files w))
+
+pub returns-in-Err-clause-agreeing_symbols : goal.returns-in-Err-clause-agreeing_symbols
+returns-in-Err-clause-agreeing_symbols g c = λ files w. answered-symbols (Some files) c.args.name.now c.args.root.now (the_setting c.args.setting) (Err c.in-Err.fault)
+    (answered-refusal (Some files) c.args.name.now c.args.root.now (the_setting c.args.setting) c.in-Err.fault c.is_modal.result (c.is_modal.ensures ∙ ap is_modal c.logic.ensures) (c.in-Err.ensures.walks files w))
+
 pub returns-in-Err-clause-answer : goal.returns-in-Err-clause-answer
-returns-in-Err-clause-answer g c =
-    answered-refusal (g.L.Library.holds c.args.lib.now) c.args.name.now c.args.root.now (the_setting c.args.setting) c.in-Err.fault c.is_modal.result
-    (c.is_modal.ensures ∙ ap is_modal c.logic.ensures) c.in-Err.ensures.walks
+returns-in-Err-clause-answer g c = of-told (g.L.Library.holds c.args.lib.now) (g.L.Library.reads c.args.lib.now) (g.L.Library.reads c.walk_files.new.lib)
+    (λ files. IfSome (the_answer (Err c.in-Err.fault)) (λ r. IsProblemOf files c.args.name.now c.args.root.now (the_setting c.args.setting) r)) c.in-Err.ensures.reads_on (λ files w. answered-refusal (Some files) c.args.name.now c.args.root.now (the_setting c.args.setting) c.in-Err.fault c.is_modal.result (c.is_modal.ensures ∙ ap is_modal c.logic.ensures) (c.in-Err.ensures.walks files w))
 
 pub returns-in-Err-clause-alone : goal.returns-in-Err-clause-alone
-returns-in-Err-clause-alone g c =
-    answered-alone (g.L.Library.holds c.args.lib.now) c.args.name.now c.args.root.now (the_setting c.args.setting) (the_answer (Err c.in-Err.fault))
-    (answered-refusal (g.L.Library.holds c.args.lib.now) c.args.name.now c.args.root.now (the_setting c.args.setting) c.in-Err.fault c.is_modal.result
-    (c.is_modal.ensures ∙ ap is_modal c.logic.ensures) c.in-Err.ensures.walks)
+returns-in-Err-clause-alone g c = of-told (g.L.Library.holds c.args.lib.now) (g.L.Library.reads c.args.lib.now) (g.L.Library.reads c.walk_files.new.lib)
+    (λ files. IfSome (the_answer (Err c.in-Err.fault)) (λ r. (other : Result Problem Refusal) → IsProblemOf files c.args.name.now c.args.root.now (the_setting c.args.setting) other → other ≡ r)) c.in-Err.ensures.reads_on (λ files w. answered-alone (Some files) c.args.name.now c.args.root.now (the_setting c.args.setting) (the_answer (Err c.in-Err.fault))
+    (answered-refusal (Some files) c.args.name.now c.args.root.now (the_setting c.args.setting) c.in-Err.fault c.is_modal.result (c.is_modal.ensures ∙ ap is_modal c.logic.ensures) (c.in-Err.ensures.walks files w)))
 
-pub returns-in-Err-clause-missing : goal.returns-in-Err-clause-missing
-returns-in-Err-clause-missing g c = λ n e. c.in-Err.ensures.missing n (ap Err (inner-fault _ _ e))
+pub returns-in-Err-clause-symbols : goal.returns-in-Err-clause-symbols
+returns-in-Err-clause-symbols g c = of-told (g.L.Library.holds c.args.lib.now) (g.L.Library.reads c.args.lib.now) (g.L.Library.reads c.walk_files.new.lib)
+    (λ files. IfOk (Err c.in-Err.fault) (λ p. HasItsSymbols p)) c.in-Err.ensures.reads_on (λ files w. answered-symbols (Some files) c.args.name.now c.args.root.now (the_setting c.args.setting) (Err c.in-Err.fault)
+    (answered-refusal (Some files) c.args.name.now c.args.root.now (the_setting c.args.setting) c.in-Err.fault c.is_modal.result (c.is_modal.ensures ∙ ap is_modal c.logic.ensures) (c.in-Err.ensures.walks files w)))
 
-pub returns-in-Err-clause-failed : goal.returns-in-Err-clause-failed
-returns-in-Err-clause-failed g c = λ n e. c.in-Err.ensures.failed n (ap Err (inner-fault _ _ e))
+pub returns-in-Err-clause-agreeing_fetched : goal.returns-in-Err-clause-agreeing_fetched
+returns-in-Err-clause-agreeing_fetched g c = λ n e files w.
+    answered-fetch (Some files) c.args.name.now c.args.root.now (the_setting c.args.setting) n c.is_modal.result (c.is_modal.ensures ∙ ap is_modal c.logic.ensures) (c.in-Err.ensures.fetched n (ap Err (inner-fault _ _ e)) files w)
 
 pub returns-in-Err-clause-fetched : goal.returns-in-Err-clause-fetched
-returns-in-Err-clause-fetched g c = λ n e.
-    answered-fetch (g.L.Library.holds c.args.lib.now) c.args.name.now c.args.root.now (the_setting c.args.setting) n c.is_modal.result
-    (c.is_modal.ensures ∙ ap is_modal c.logic.ensures) (c.in-Err.ensures.fetched n (ap Err (inner-fault _ _ e)))
+returns-in-Err-clause-fetched g c = λ n e. of-told (g.L.Library.holds c.args.lib.now) (g.L.Library.reads c.args.lib.now) (g.L.Library.reads c.walk_files.new.lib)
+    (λ files. WalkFetches files c.args.name.now c.args.root.now (the_setting c.args.setting) n) c.in-Err.ensures.reads_on (λ files w. answered-fetch (Some files) c.args.name.now c.args.root.now (the_setting c.args.setting) n c.is_modal.result (c.is_modal.ensures ∙ ap is_modal c.logic.ensures) (c.in-Err.ensures.fetched n (ap Err (inner-fault _ _ e)) files w))
+
+pub returns-in-Err-clause-missing : goal.returns-in-Err-clause-missing
+returns-in-Err-clause-missing g c = λ n e. let h = c.in-Err.ensures.missing n (ap Err (inner-fault _ _ e)) in h.0
+
+pub returns-in-Err-clause-failed : goal.returns-in-Err-clause-failed
+returns-in-Err-clause-failed g c = λ n e. let h = c.in-Err.ensures.failed n (ap Err (inner-fault _ _ e)) in h.0
+
+pub returns-in-Err-clause-last_missing : goal.returns-in-Err-clause-last_missing
+returns-in-Err-clause-last_missing g c = λ n e. let h = c.in-Err.ensures.missing n (ap Err (inner-fault _ _ e)) in h.1
+
+pub returns-in-Err-clause-last_failed : goal.returns-in-Err-clause-last_failed
+returns-in-Err-clause-last_failed g c = λ n e. let h = c.in-Err.ensures.failed n (ap Err (inner-fault _ _ e)) in h.1
+
+-- ---- a problem, or a refusal of its formulas
+
+pub returns-clause-agreeing : goal.returns-clause-agreeing
+returns-clause-agreeing g c = λ files w. answered-problem (Some files) c.args.name.now c.args.root.now (the_setting c.args.setting) c.in-Ok.walked.main_length (map the_passed c.in-Ok.walked.passed.items) (the_answer c.problem_of.result) c.is_modal.result (c.is_modal.ensures ∙ ap is_modal c.logic.ensures)
+    (c.in-Ok.ensures.walks files w) (c.in-Ok.ensures.length files w) c.problem_of.ensures.problem
+
+pub returns-clause-agreeing_alone : goal.returns-clause-agreeing_alone
+returns-clause-agreeing_alone g c = λ files w. answered-alone (Some files) c.args.name.now c.args.root.now (the_setting c.args.setting) (the_answer c.problem_of.result)
+    (answered-problem (Some files) c.args.name.now c.args.root.now (the_setting c.args.setting) c.in-Ok.walked.main_length (map the_passed c.in-Ok.walked.passed.items) (the_answer c.problem_of.result) c.is_modal.result (c.is_modal.ensures ∙ ap is_modal c.logic.ensures)
+    (c.in-Ok.ensures.walks files w) (c.in-Ok.ensures.length files w) c.problem_of.ensures.problem)
+
+pub returns-clause-agreeing_symbols : goal.returns-clause-agreeing_symbols
+returns-clause-agreeing_symbols g c = λ files w. answered-symbols (Some files) c.args.name.now c.args.root.now (the_setting c.args.setting) c.problem_of.result
+    (answered-problem (Some files) c.args.name.now c.args.root.now (the_setting c.args.setting) c.in-Ok.walked.main_length (map the_passed c.in-Ok.walked.passed.items) (the_answer c.problem_of.result) c.is_modal.result (c.is_modal.ensures ∙ ap is_modal c.logic.ensures)
+    (c.in-Ok.ensures.walks files w) (c.in-Ok.ensures.length files w) c.problem_of.ensures.problem)
 
 pub returns-clause-answer : goal.returns-clause-answer
-returns-clause-answer g c =
-    answered-problem (g.L.Library.holds c.args.lib.now) c.args.name.now c.args.root.now (the_setting c.args.setting) c.in-Ok.walked.main_length
-    (map the_passed c.in-Ok.walked.passed.items) (the_answer c.problem_of.result) c.is_modal.result (c.is_modal.ensures ∙ ap is_modal c.logic.ensures)
-    c.in-Ok.ensures.walks c.in-Ok.ensures.length c.problem_of.ensures.problem
+returns-clause-answer g c = of-told (g.L.Library.holds c.args.lib.now) (g.L.Library.reads c.args.lib.now) (g.L.Library.reads c.walk_files.new.lib)
+    (λ files. IfSome (the_answer c.problem_of.result) (λ r. IsProblemOf files c.args.name.now c.args.root.now (the_setting c.args.setting) r)) c.in-Ok.ensures.reads_on (λ files w. answered-problem (Some files) c.args.name.now c.args.root.now (the_setting c.args.setting) c.in-Ok.walked.main_length (map the_passed c.in-Ok.walked.passed.items) (the_answer c.problem_of.result) c.is_modal.result (c.is_modal.ensures ∙ ap is_modal c.logic.ensures)
+    (c.in-Ok.ensures.walks files w) (c.in-Ok.ensures.length files w) c.problem_of.ensures.problem)
 
 pub returns-clause-alone : goal.returns-clause-alone
-returns-clause-alone g c =
-    answered-alone (g.L.Library.holds c.args.lib.now) c.args.name.now c.args.root.now (the_setting c.args.setting) (the_answer c.problem_of.result)
-    (answered-problem (g.L.Library.holds c.args.lib.now) c.args.name.now c.args.root.now (the_setting c.args.setting) c.in-Ok.walked.main_length
-    (map the_passed c.in-Ok.walked.passed.items) (the_answer c.problem_of.result) c.is_modal.result (c.is_modal.ensures ∙ ap is_modal c.logic.ensures)
-    c.in-Ok.ensures.walks c.in-Ok.ensures.length c.problem_of.ensures.problem)
+returns-clause-alone g c = of-told (g.L.Library.holds c.args.lib.now) (g.L.Library.reads c.args.lib.now) (g.L.Library.reads c.walk_files.new.lib)
+    (λ files. IfSome (the_answer c.problem_of.result) (λ r. (other : Result Problem Refusal) → IsProblemOf files c.args.name.now c.args.root.now (the_setting c.args.setting) other → other ≡ r)) c.in-Ok.ensures.reads_on (λ files w. answered-alone (Some files) c.args.name.now c.args.root.now (the_setting c.args.setting) (the_answer c.problem_of.result)
+    (answered-problem (Some files) c.args.name.now c.args.root.now (the_setting c.args.setting) c.in-Ok.walked.main_length (map the_passed c.in-Ok.walked.passed.items) (the_answer c.problem_of.result) c.is_modal.result (c.is_modal.ensures ∙ ap is_modal c.logic.ensures)
+    (c.in-Ok.ensures.walks files w) (c.in-Ok.ensures.length files w) c.problem_of.ensures.problem))
+
+pub returns-clause-symbols : goal.returns-clause-symbols
+returns-clause-symbols g c = of-told (g.L.Library.holds c.args.lib.now) (g.L.Library.reads c.args.lib.now) (g.L.Library.reads c.walk_files.new.lib)
+    (λ files. IfOk c.problem_of.result (λ p. HasItsSymbols p)) c.in-Ok.ensures.reads_on (λ files w. answered-symbols (Some files) c.args.name.now c.args.root.now (the_setting c.args.setting) c.problem_of.result
+    (answered-problem (Some files) c.args.name.now c.args.root.now (the_setting c.args.setting) c.in-Ok.walked.main_length (map the_passed c.in-Ok.walked.passed.items) (the_answer c.problem_of.result) c.is_modal.result (c.is_modal.ensures ∙ ap is_modal c.logic.ensures)
+    (c.in-Ok.ensures.walks files w) (c.in-Ok.ensures.length files w) c.problem_of.ensures.problem))
 
 pub returns-clause-missing : goal.returns-clause-missing
 returns-clause-missing g c = λ n e. absurd (not-missing c.problem_of.result n c.problem_of.ensures.inside e)
 
+pub returns-clause-last_missing : goal.returns-clause-last_missing
+returns-clause-last_missing g c = λ n e. absurd (not-missing c.problem_of.result n c.problem_of.ensures.inside e)
+
 pub returns-clause-failed : goal.returns-clause-failed
 returns-clause-failed g c = λ n e. absurd (not-failed c.problem_of.result n c.problem_of.ensures.inside e)
+
+pub returns-clause-last_failed : goal.returns-clause-last_failed
+returns-clause-last_failed g c = λ n e. absurd (not-failed c.problem_of.result n c.problem_of.ensures.inside e)
 
 pub returns-clause-fetched : goal.returns-clause-fetched
 returns-clause-fetched g c = λ n e. absurd (not-failed c.problem_of.result n c.problem_of.ensures.inside e)
 
-pub returns-in-Err-clause-symbols : goal.returns-in-Err-clause-symbols
-returns-in-Err-clause-symbols g c =
-    answered-symbols (g.L.Library.holds c.args.lib.now) c.args.name.now c.args.root.now (the_setting c.args.setting) (Err c.in-Err.fault)
-    (answered-refusal (g.L.Library.holds c.args.lib.now) c.args.name.now c.args.root.now (the_setting c.args.setting) c.in-Err.fault c.is_modal.result
-    (c.is_modal.ensures ∙ ap is_modal c.logic.ensures) c.in-Err.ensures.walks)
-
-pub returns-clause-symbols : goal.returns-clause-symbols
-returns-clause-symbols g c =
-    answered-symbols (g.L.Library.holds c.args.lib.now) c.args.name.now c.args.root.now (the_setting c.args.setting) c.problem_of.result
-    (answered-problem (g.L.Library.holds c.args.lib.now) c.args.name.now c.args.root.now (the_setting c.args.setting) c.in-Ok.walked.main_length
-    (map the_passed c.in-Ok.walked.passed.items) (the_answer c.problem_of.result) c.is_modal.result (c.is_modal.ensures ∙ ap is_modal c.logic.ensures)
-    c.in-Ok.ensures.walks c.in-Ok.ensures.length c.problem_of.ensures.problem)
+pub returns-clause-agreeing_fetched : goal.returns-clause-agreeing_fetched
+returns-clause-agreeing_fetched g c = λ n e files w. absurd (not-failed c.problem_of.result n c.problem_of.ensures.inside e)

@@ -1,5 +1,7 @@
-use Rattle.std.proofs.Common.{◌≡◌, ◌≤◌, ◌+◌, ◌*◌, [], length, Bool, IfSome, IsTrue}
+use Rattle.std.proofs.Common.{◌≡◌, ◌≤◌, ◌+◌, ◌*◌, [], length, Bool, IsTrue}
 use Rattle.std.specs.List.{list_all}
+use Rattle.cop_base.specs.Outside.{Files}
+use Rattle.cop_base.specs.Reads.{AgreesSince, ReadsOn}
 use Rattle.tptp_reader.specs.Sources.{Source}
 use Rattle.problem_build.specs.Building.{IsExactReader}
 use Rattle.problem_build.specs.Passing.{item_passes}
@@ -24,13 +26,14 @@ decreases-walk_items-loop-item g l = length l.items.items
 
 abbrev pub invariant-walk_items-loop-item : goal.invariant-walk_items-loop-item
 invariant-walk_items-loop-item g l = record {
-  goes : IfSome (g.L.Library.holds l.fn.lib) (λ files. (read : Reader) → IsExactReader l.rules.modal read
+  goes : (files : Files) → AgreesSince files (g.L.Library.reads l.fn.lib) (g.L.Library.reads l.lib) → (read : Reader) → IsExactReader l.rules.modal read
       → GoesOn (items_outcomes read files l.rules.root l.file l.depth (lists_of l.fn.walk) (pending_items l.fn.items.items) (progress_of l.fn.walk) [])
-      (items_outcomes read files l.rules.root l.file l.depth (lists_of l.fn.walk) (pending_items l.items.items) (progress_of l.walk) l.reached.items));
+      (items_outcomes read files l.rules.root l.file l.depth (lists_of l.fn.walk) (pending_items l.items.items) (progress_of l.walk) l.reached.items);
   kept : l.walk.lists.items ≡ l.fn.walk.lists.items;
   read : (test : Source → Bool) → HoldsOfTexts l.rules.modal test → IsTrue (list_all (item_passes test) (pending_items l.fn.items.items))
       → AllPass test l.fn.walk → IsTrue (list_all (item_passes test) (pending_items l.items.items)) × AllPass test l.walk;
   same_files : g.L.Library.holds l.lib ≡ g.L.Library.holds l.fn.lib;
   more_faults : g.L.Library.faults l.fn.lib ≤ g.L.Library.faults l.lib;
   more_misses : g.L.Library.misses l.fn.lib ≤ g.L.Library.misses l.lib;
+  reads_on : ReadsOn (g.L.Library.holds l.fn.lib) (g.L.Library.reads l.fn.lib) (g.L.Library.reads l.lib);
 }
