@@ -4,3 +4,7 @@ pub mod Seeking
 pub mod SymbolEq
 pub mod Distinct
 pub mod CountLaws
+pub mod GroundTableLaws
+pub mod SharedEq
+pub mod EntryLaws
+pub mod GrownLaws

@@ -6,7 +6,9 @@ mod count;
 mod formula;
 mod ground;
 mod place;
+pub mod shared;
 mod symbol;
+mod table;
 mod term;
 
 pub use calculus::kind::Shape;
@@ -16,4 +18,5 @@ pub use count::{clause_count, literal_count, nesting, node_count};
 pub use formula::Formula;
 pub use ground::{GroundLabel, GroundMark, GroundTerm, GroundTerms, Value, Values};
 pub use symbol::{AddFault, Symbol, SymbolClass, Symbols};
+pub use table::GroundTable;
 pub use term::{Term, Terms};
