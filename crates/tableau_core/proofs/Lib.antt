@@ -14,3 +14,4 @@ pub mod FittingLaws
 pub mod StringLaws
 pub mod Examples
 pub mod SizeLaws
+pub mod Numbered

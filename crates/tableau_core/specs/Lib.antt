@@ -28,3 +28,5 @@ pub mod Counted
 -- parts of the problem's formula and their sizes
 pub mod PartView
 pub mod Sizes
+-- tableaux whose ground values are numbers of a table
+pub mod Numbered

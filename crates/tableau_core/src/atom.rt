@@ -9,7 +9,8 @@ ghost use Rattle.tableau_core.specs.PathView.{literals_at};
 use crate::literal::GroundLiteral;
 use formula_core::Sign;
 
-fn is_same_sign(a: Sign, b: Sign) -> bool
+/// Whether both signs are the same.
+pub fn is_same_sign(a: Sign, b: Sign) -> bool
     ensures { result ≡ sign_eq a b }
 {
     match (a, b) {

@@ -116,8 +116,8 @@ fn steps_if_extends(
     Ok(steps)
 }
 
-// The count, where the test holds.
-fn counted(closed: bool, so_far: Count) -> Option<Count>
+/// The count, where the test holds.
+pub fn counted(closed: bool, so_far: Count) -> Option<Count>
     ensures { result ≡ counted closed so_far 0 0 }
 {
     if closed { Some(so_far) } else { None }

@@ -15,7 +15,8 @@ pub struct Count {
     pub longest: u64,
 }
 
-fn larger(a: u64, b: u64) -> u64
+/// The larger one.
+pub fn larger(a: u64, b: u64) -> u64
     ensures { result ≡ max a b }
 {
     if a < b { b } else { a }

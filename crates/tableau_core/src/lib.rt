@@ -16,6 +16,7 @@ mod parts;
 mod pattern;
 mod references;
 mod selection;
+pub mod shared;
 mod sized;
 mod sizes;
 mod spot;

@@ -79,7 +79,8 @@ fn past_node(logic: Logic, kind: Kind, values: &[Value]) -> Option<&[Value]>
     }
 }
 
-fn is_maker(maker: Maker, kind: Kind) -> bool
+/// Whether a position of this kind makes such names.
+pub fn is_maker(maker: Maker, kind: Kind) -> bool
     ensures { result ≡ is_maker maker kind.modal kind.shape }
 {
     match maker {

@@ -1,0 +1,4 @@
+pub mod LabelLaws
+pub mod KnownLaws
+pub mod ClosingLaws
+pub mod AheadLaws
