@@ -179,26 +179,29 @@ last_but_one-two (x ∷ y ∷ z ∷ ns) n m = last_but_one-two (y ∷ z ∷ ns) 
 
 -- ---- the order
 
+-- no turn comes before an earlier one
+abbrev pub InOrderBy : (Turn → Turn → Type 0) → List Turn → Type 0
+InOrderBy Before agenda = (i j : ℕ) (x y : Turn) → slice_get agenda i ≡ Some x → slice_get agenda j ≡ Some y → i < j → Before y x → ⊥
+
+earlier : (Before : Turn → Turn → Type 0) → ((x : Turn) → Before x x → ⊥) → (agenda : List Turn) → InOrderBy Before agenda → (i j : ℕ) (x y : Turn) → slice_get agenda i ≡ Some x → slice_get agenda j ≡ Some y → Before y x → j < i
+earlier Before never agenda h i j x y e f b = elim (cases_eq i j) [
+  | inl same ↦ let both : Some x ≡ Some y = sym e ∙ ap (slice_get agenda) same ∙ f in let xy : x ≡ y = cc in absurd (never y (subst (λ z. Before y z) xy b))
+  | inr differ ↦ elim (order i j) [ inl lt ↦ absurd (h i j x y e f lt b) | inr le ↦ omega arith ]
+]
+  where
+    order : (m n : ℕ) → (m < n) ⊎ (n ≤ m)
+    order m n = grind arith
+
 -- by the size of the values, then by the position
 abbrev pub ComesBefore : Turn → Turn → Type 0
 ComesBefore y x = (value_list_size y.values < value_list_size x.values) ⊎ ((value_list_size y.values ≡ value_list_size x.values) × (y.position < x.position))
-
--- no turn comes before an earlier one
-abbrev pub IsInOrder : List Turn → Type 0
-IsInOrder agenda = (i j : ℕ) (x y : Turn) → slice_get agenda i ≡ Some x → slice_get agenda j ≡ Some y → i < j → ComesBefore y x → ⊥
 
 pub not-before_itself : (x : Turn) → ComesBefore x x → ⊥
 not-before_itself x (inl lt) = absurd (omega arith)
 not-before_itself x (inr p) = let lt = p.1 in absurd (omega arith)
 
-pub order : (m n : ℕ) → (m < n) ⊎ (n ≤ m)
-order m n = grind arith
-
-pub earlier : (agenda : List Turn) → IsInOrder agenda → (i j : ℕ) (x y : Turn) → slice_get agenda i ≡ Some x → slice_get agenda j ≡ Some y → ComesBefore y x → j < i
-earlier agenda h i j x y e f b = elim (cases_eq i j) [
-  | inl same ↦ let both : Some x ≡ Some y = sym e ∙ ap (slice_get agenda) same ∙ f in let xy : x ≡ y = cc in absurd (not-before_itself y (subst (λ z. ComesBefore y z) xy b))
-  | inr differ ↦ elim (order i j) [ inl lt ↦ absurd (h i j x y e f lt b) | inr le ↦ omega arith ]
-]
+abbrev pub IsInOrder : List Turn → Type 0
+IsInOrder agenda = InOrderBy ComesBefore agenda
 
 -- ---- what the order gives
 
@@ -246,10 +249,12 @@ stood-way P before c s f h = way-here P before c s f h.stands.in_way
 pub work-way : (P : Problem) (T : Turn → Type 0) (G : GammaUse → Type 0) (V : Value → Type 0) (x : Turn) → (w : Work P T G V x) → way_to P x.position ≡ w.before ++ node w.from.position w.sign w.formula ∷ []
 work-way P T G V x w = ap (way_to P) (work-position P T G V x w) ∙ stood-way P w.before w.from w.sign w.formula w.stood
 
--- a parent is the turn above, which comes before
+-- a parent is the turn above, which has a beginning of the values
 pub record IsAbove (P : Problem) (t : Tableau) (y x : Turn) : Type 0 where
   pub among : TurnOf P t y
-  pub before : ComesBefore y x
+  pub own : List Value
+  pub values : x.values ≡ y.values ++ own
+  pub lower : y.position < x.position
 
 -- a turn at the root has no parent
 root-parent : (P : Problem) (t : Tableau) (x y : Turn) (w : Work P (TurnOf P t) Anything Anything x) → w.before ≡ [] → IsParent P y x → ⊥
@@ -281,15 +286,15 @@ parent-above P t x y w (inl e) h = absurd (root-parent P t x y w e h)
 parent-above P t x y w (inr p) h =
     let same = parent-same P t x y w p h in
     let vs = work-values P (TurnOf P t) Anything Anything x w in
-    let sizes = value_list_size-append w.from.taken vs.0 in
-    let total = ap value_list_size vs.1 in
-    let shared = ap value_list_size (ap (λ (z : Turn). z.values) (sym same) ∙ p.values) in
+    let shared : y.values ≡ w.from.taken = ap (λ (z : Turn). z.values) (sym same) ∙ p.values in
     let lower = p.lower in
     let at_x = work-position P (TurnOf P t) Anything Anything x w in
     let at_y = ap (λ (z : Turn). z.position) same in
     record {
       among = subst (TurnOf P t) same p.among;
-      before = elim (cases_eq (value_list_size y.values) (value_list_size x.values)) [ inl e ↦ inr (e, omega arith) | inr d ↦ inl (omega arith) ];
+      own = vs.0;
+      values = vs.1 ∙ ap (λ us. us ++ vs.0) (sym shared);
+      lower = omega arith;
     }
 
 -- a turn of a tableau has at most one parent
@@ -300,25 +305,36 @@ only-parent P t x y z h g k = let w = turn-works P t x h in by_parent w w.parent
     by_parent w (inl e) = absurd (root-parent P t x y w e g)
     by_parent w (inr p) = sym (parent-same P t x y w p g) ∙ parent-same P t x z w p k
 
--- the turn that introduces a name comes before one that mentions it
-introduces-before : (P : Problem) (x y : Turn) (n : Name) → Among (names_mentioned P x) n → Among (names_introduced P y) n → ComesBefore y x
-introduces-before P x y n h k =
+-- the turns in order, each once, are an agenda, where parents and those that introduce a name come before
+module _ (Before : Turn → Turn → Type 0) (never : (x : Turn) → Before x x → ⊥) (P : Problem) (t : Tableau) (above-before : (x y : Turn) → IsAbove P t y x → Before y x) (introduces-before : (x y : Turn) (n : Name) → Among (names_mentioned P x) n → Among (names_introduced P y) n → Before y x) where
+  pub agenda-by : (agenda : List Turn) → ((x : Turn) → Contains (turns_of P t) x ↔ Contains agenda x) → ((i j : ℕ) (x : Turn) → slice_get agenda i ≡ Some x → slice_get agenda j ≡ Some x → i ≡ j) → InOrderBy Before agenda → IsAgenda P t agenda
+  agenda-by agenda all once ordered = record {
+    all = all;
+    once = once;
+    parents = λ i x y e h.
+        let among : TurnOf P t x = among-contains (turns_of P t) x ((all x).1 (contains-at agenda i x e)) in
+        let w = turn-works P t x among in
+        let above = parent-above P t x y w w.parent h in
+        let found = at-contains agenda y ((all y).0 (contains-among (turns_of P t) y above.among)) in
+        (found.0, earlier Before never agenda ordered i found.0 x y e found.1 (above-before x y above), found.1);
+    names = λ i x y n e m k h.
+        let found = at-contains agenda y ((all y).0 k) in
+        (found.0, earlier Before never agenda ordered i found.0 x y e found.1 (introduces-before x y n (among-contains (names_mentioned P x) n m) (among-contains (names_introduced P y) n h)), found.1);
+  }
+
+-- a parent is no larger, and the turn that introduces a name is smaller than one that mentions it
+above-smaller : (P : Problem) (t : Tableau) (x y : Turn) → IsAbove P t y x → ComesBefore y x
+above-smaller P t x y h =
+    let total = ap value_list_size h.values in
+    let sizes = value_list_size-append y.values h.own in
+    let lower = h.lower in
+    elim (cases_eq (value_list_size y.values) (value_list_size x.values)) [ inl e ↦ inr (e, lower) | inr d ↦ inl (omega arith) ]
+
+introduces-smaller : (P : Problem) (x y : Turn) (n : Name) → Among (names_mentioned P x) n → Among (names_introduced P y) n → ComesBefore y x
+introduces-smaller P x y n h k =
     let lt = below-mentioned P x n h in
     let e = size-introduced P y n k in
     inl (omega arith)
 
--- the turns in order, each once, are an agenda
 pub agenda-in_order : (P : Problem) (t : Tableau) (agenda : List Turn) → ((x : Turn) → Contains (turns_of P t) x ↔ Contains agenda x) → ((i j : ℕ) (x : Turn) → slice_get agenda i ≡ Some x → slice_get agenda j ≡ Some x → i ≡ j) → IsInOrder agenda → IsAgenda P t agenda
-agenda-in_order P t agenda all once ordered = record {
-  all = all;
-  once = once;
-  parents = λ i x y e h.
-      let among : TurnOf P t x = among-contains (turns_of P t) x ((all x).1 (contains-at agenda i x e)) in
-      let w = turn-works P t x among in
-      let above = parent-above P t x y w w.parent h in
-      let found = at-contains agenda y ((all y).0 (contains-among (turns_of P t) y above.among)) in
-      (found.0, earlier agenda ordered i found.0 x y e found.1 above.before, found.1);
-  names = λ i x y n e m k h.
-      let found = at-contains agenda y ((all y).0 k) in
-      (found.0, earlier agenda ordered i found.0 x y e found.1 (introduces-before P x y n (among-contains (names_mentioned P x) n m) (among-contains (names_introduced P y) n h)), found.1);
-}
+agenda-in_order P t agenda all once ordered = agenda-by ComesBefore not-before_itself P t (above-smaller P t) (introduces-smaller P) agenda all once ordered

@@ -14,7 +14,7 @@ use Rattle.conversion_theory.specs.Branches.{Item, item, Made, rests, grows, spl
 use Rattle.conversion_theory.specs.Leading.{End, ends_cost, ends_weight, Task, task_cost, task_weight}
 use Rattle.calculus.proofs.Members.{Among, among-contains, contains-among, contains-at, among-left, among-right}
 use Rattle.conversion_theory.proofs.PlaceLaws.{Stood, HasParent}
-use Rattle.conversion_theory.proofs.AgendaLaws.{TurnOf, Anything, turn-works, parent-above, not-before_itself, only-parent}
+use Rattle.conversion_theory.proofs.AgendaLaws.{TurnOf, Anything, turn-works, parent-above, only-parent}
 use Rattle.conversion_theory.proofs.BranchLaws.{Has, Holding, IsReady, IsComplete, ready-complete, complete-more}
 use Rattle.conversion_theory.proofs.ShortLaws.{mentions-none, introduced-is}
 use Rattle.conversion_theory.proofs.RunLaws.{Branch, WorksOn}
@@ -38,7 +38,7 @@ parent-done P t done x here (inl r) z p = subst (Among done) (only-parent P t x 
 parent-done P t done x here (inr e) z p = absurd (none_some (sym e ∙ p.position))
 
 own_parent : (P : Problem) (t : Tableau) (x : Turn) → TurnOf P t x → IsParent P x x → ⊥
-own_parent P t x h p = let w = turn-works P t x h in not-before_itself x (parent-above P t x x w w.parent p).before
+own_parent P t x h p = let w = turn-works P t x h in let lt = (parent-above P t x x w w.parent p).lower in absurd (omega arith)
 
 pub come-ready : (P : Problem) (t : Tableau) (done : List Turn) (x : Turn) → IsComplete P t done → CanCome P t done x → IsReady P t done x
 come-ready P t done x c h = ready-complete P t done x c h.here h.new (own_parent P t x h.here)

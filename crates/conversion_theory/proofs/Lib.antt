@@ -1,10 +1,14 @@
 -- names, turns and their order
 pub mod HitLaws
+pub mod BelowLaws
+pub mod HomeMarks
 pub mod NameLaws
+pub mod DepthLaws
 pub mod PlaceLaws
 pub mod AgendaLaws
-pub mod SortedTurns
 pub mod NumberLaws
+pub mod DepthAgenda
+pub mod SortedTurns
 pub mod NumberedLaws
 -- branches
 pub mod WorkLaws

@@ -101,7 +101,35 @@ whole-turn P x n i m j = among-left (names_mentioned P x) (names_introduced P x)
 pub whole-tableau : (P : Problem) (t : Tableau) → IsWhole (names_of_tableau P t)
 whole-tableau P t = whole-joined (names_of_turn P) (turns_of P t) (λ x i. whole-turn P x)
 
--- ---- the order by size is a numbering
+-- ---- an order in which names are behind those inside them is a numbering
+
+-- no name is smaller than an earlier one
+abbrev pub AreOrderedBy : (Name → ℕ) → List Name → Type 0
+AreOrderedBy measure names = (i j : ℕ) (n m : Name) → slice_get names i ≡ Some n → slice_get names j ≡ Some m → i < j → measure n ≤ measure m
+
+module _ (measure : Name → ℕ) where
+  place-before : (names : List Name) → AreOrderedBy measure names → (i j : ℕ) (n m : Name) → slice_get names i ≡ Some n → slice_get names j ≡ Some m → measure m < measure n → j < i
+  place-before names h i j n m e f lt = elim (order i j) [
+    | inl p ↦ let le = h i j n m e f p in absurd (omega arith)
+    | inr p ↦ elim (cases_eq i j) [
+      | inl q ↦ let both : Some n ≡ Some m = sym e ∙ ap (slice_get names) q ∙ f in let same : n ≡ m = cc in let size = ap measure same in absurd (omega arith)
+      | inr q ↦ omega arith
+    ]
+  ]
+    where
+      order : (m n : ℕ) → (m < n) ⊎ (n ≤ m)
+      order m n = grind arith
+
+  pub numbering-by : ((n m : Name) → Among (names_inside n) m → measure m < measure n) → (P : Problem) (t : Tableau) (names : List Name) → ((n : Name) → Contains (names_of_tableau P t) n ↔ Contains names n) → ((i j : ℕ) (n : Name) → slice_get names i ≡ Some n → slice_get names j ≡ Some n → i ≡ j) → AreOrderedBy measure names → IsNumbering P t names
+  numbering-by inside-smaller P t names all once ordered = record {
+    all = all;
+    once = once;
+    inside = λ i n m e k.
+        let here = among-contains (names_of_tableau P t) n ((all n).1 (contains-at names i n e)) in
+        let deeper = among-contains (names_inside n) m k in
+        let found = at-contains names m ((all m).0 (contains-among (names_of_tableau P t) m (whole-tableau P t n here m deeper))) in
+        (found.0, place-before names ordered i found.0 n m e found.1 (inside-smaller n m deeper), found.1);
+  }
 
 pub inside-smaller : (n m : Name) → Among (names_inside n) m → inner_size m < inner_size n
 inside-smaller (term_name (g_eigen p vs)) m i = below-values vs m i
@@ -111,32 +139,11 @@ inside-smaller (term_name (common k)) m i = elim i [ ]
 inside-smaller (mark_name (g_new_mark p vs)) m i = below-values vs m i
 inside-smaller (mark_name (g_spare_mark k)) m i = elim i [ ]
 
--- no name is smaller than an earlier one
 abbrev pub AreInOrder : List Name → Type 0
-AreInOrder names = (i j : ℕ) (n m : Name) → slice_get names i ≡ Some n → slice_get names j ≡ Some m → i < j → inner_size n ≤ inner_size m
-
-order : (m n : ℕ) → (m < n) ⊎ (n ≤ m)
-order m n = grind arith
-
-place-before : (names : List Name) → AreInOrder names → (i j : ℕ) (n m : Name) → slice_get names i ≡ Some n → slice_get names j ≡ Some m → inner_size m < inner_size n → j < i
-place-before names h i j n m e f lt = elim (order i j) [
-  | inl p ↦ let le = h i j n m e f p in absurd (omega arith)
-  | inr p ↦ elim (cases_eq i j) [
-    | inl q ↦ let both : Some n ≡ Some m = sym e ∙ ap (slice_get names) q ∙ f in let same : n ≡ m = cc in let size = ap inner_size same in absurd (omega arith)
-    | inr q ↦ omega arith
-  ]
-]
+AreInOrder names = AreOrderedBy inner_size names
 
 pub numbering-in_order : (P : Problem) (t : Tableau) (names : List Name) → ((n : Name) → Contains (names_of_tableau P t) n ↔ Contains names n) → ((i j : ℕ) (n : Name) → slice_get names i ≡ Some n → slice_get names j ≡ Some n → i ≡ j) → AreInOrder names → IsNumbering P t names
-numbering-in_order P t names all once ordered = record {
-  all = all;
-  once = once;
-  inside = λ i n m e k.
-      let here = among-contains (names_of_tableau P t) n ((all n).1 (contains-at names i n e)) in
-      let deeper = among-contains (names_inside n) m k in
-      let found = at-contains names m ((all m).0 (contains-among (names_of_tableau P t) m (whole-tableau P t n here m deeper))) in
-      (found.0, place-before names ordered i found.0 n m e found.1 (inside-smaller n m deeper), found.1);
-}
+numbering-in_order P t names all once ordered = numbering-by inner_size inside-smaller P t names all once ordered
 
 -- ---- numbers are places
 
