@@ -7,4 +7,6 @@ mod formulas;
 #[cfg(test)]
 mod rules;
 #[cfg(test)]
+mod shared;
+#[cfg(test)]
 mod tableaux;
