@@ -8,3 +8,4 @@ pub mod GroundTableLaws
 pub mod SharedEq
 pub mod EntryLaws
 pub mod GrownLaws
+mod CopyLaws

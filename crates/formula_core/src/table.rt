@@ -21,6 +21,39 @@ pub enum Entry {
     Values(Vec<Value>),
 }
 
+// The same items again.
+fn copied<T: Copy + Drop>(alloc: Global, items: &[T]) -> Result<Vec<T>, NoMemory>
+    ensures { IfOk result (λ v. v.items ≡ items.now) }
+{
+    let mut all = Vec::new(alloc);
+    for item in items {
+        all.push(*item)?;
+    }
+    Ok(all)
+}
+
+impl Entry {
+    // An entry with the same items.
+    fn copy(&self, alloc: Global) -> Result<Entry, NoMemory>
+        ensures { IfOk result (λ e. items_of e ≡ items_of self.now) }
+    {
+        match self {
+            Entry::Terms(items) => {
+                let items = copied(alloc, items)?;
+                Ok(Entry::Terms(items))
+            }
+            Entry::Marks(items) => {
+                let items = copied(alloc, items)?;
+                Ok(Entry::Marks(items))
+            }
+            Entry::Values(items) => {
+                let items = copied(alloc, items)?;
+                Ok(Entry::Values(items))
+            }
+        }
+    }
+}
+
 /// The lists of ground terms, marks and values. Each is kept once, and names lists before it by
 /// their numbers. A number that is not that of a list of the kind that is asked for stands for the
 /// empty list.
@@ -57,6 +90,18 @@ impl GroundTable {
             alloc,
             entries: IndexSet::new(alloc),
         }
+    }
+
+    /// A table with the same lists under the same numbers.
+    pub fn copy(&self, alloc: Global) -> Result<GroundTable, NoMemory>
+        ensures { IfOk result (λ t. t ≡ self.now) }
+    {
+        let given = self.entries.as_slice();
+        let mut entries = IndexSet::new(alloc);
+        for entry in given {
+            entries.insert(entry.copy(alloc)?)?;
+        }
+        Ok(GroundTable { alloc, entries })
     }
 
     /// How many lists there are. Each has a number below this one.
@@ -171,8 +216,8 @@ impl GroundTable {
         list
     }
 
-    // The same term, which names its list by the one number.
-    fn normal_term(&self, term: GroundTerm) -> GroundTerm
+    /// The same term, which names its list by the one number.
+    pub fn normal_term(&self, term: GroundTerm) -> GroundTerm
         ensures same { the_g_term self.now result ≡ the_g_term self.now term }
         ensures normal { IsNormalTerm self.now result }
         ensures apart { AreApart self.now }
@@ -186,7 +231,8 @@ impl GroundTable {
         }
     }
 
-    fn normal_mark(&self, mark: GroundMark) -> GroundMark
+    /// The same character, which names its list by the one number.
+    pub fn normal_mark(&self, mark: GroundMark) -> GroundMark
         ensures same { the_mark self.now result ≡ the_mark self.now mark }
         ensures normal { IsNormalMark self.now result }
         ensures apart { AreApart self.now }
@@ -198,7 +244,8 @@ impl GroundTable {
         }
     }
 
-    fn normal_value(&self, value: Value) -> Value
+    /// The same value, which names its list by the one number.
+    pub fn normal_value(&self, value: Value) -> Value
         ensures same { the_value self.now result ≡ the_value self.now value }
         ensures normal { IsNormalValue self.now result }
         ensures apart { AreApart self.now }
