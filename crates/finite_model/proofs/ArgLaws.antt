@@ -1,5 +1,5 @@
 -- How the place of a tuple grows with its terms, and a test goes on over worlds.
-use Rattle.std.proofs.Common.{◌≡◌, ℕ, suc, ◌+◌, ◌*◌, ◌<◌, ◌≤◌, List, [], ◌∷◌, length, map, drop, get_or, Bool, true, false, ◌&&◌, refl, sym, ◌∙◌, ap, drop-cons, add-one, arith}
+use Rattle.std.proofs.Common.{◌≡◌, ℕ, ◌+◌, ◌*◌, ◌<◌, ◌≤◌, List, ◌∷◌, length, map, drop, get_or, Bool, true, false, ◌&&◌, refl, sym, ◌∙◌, ap, drop-cons, add-one}
 use Rattle.std.specs.List.{list_all}
 use Rattle.std.proofs.Math.ListN.{drop_of_length-le}
 use Rattle.calculus.specs.Lists.{terms_tree}

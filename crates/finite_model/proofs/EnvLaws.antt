@@ -1,5 +1,5 @@
 -- The elements of the variables that are bound, which stand at the beginning of a list, the innermost quantifier's last.
-use Rattle.std.proofs.Common.{◌≡◌, ℕ, ◌+◌, ◌<◌, ◌≤◌, List, [], ◌∷◌, length, take, set, reverse, ◌∙◌, ap, arith}
+use Rattle.std.proofs.Common.{◌≡◌, ℕ, ◌+◌, ◌<◌, List, [], ◌∷◌, length, take, set, reverse, ◌∙◌, ap, arith}
 use Rattle.std.proofs.lemmas.List.{reverse-append, take-set-le, take_more_set}
 use Rattle.calculus.proofs.JudgementLaws.{take-less}
 

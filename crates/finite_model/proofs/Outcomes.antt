@@ -1,12 +1,12 @@
 -- What is told of a formula at the root says of the truth, of the steps, and of derivations.
-use Rattle.std.proofs.Common.{Result, Ok, Err, ◌≡◌, ℕ, ◌+◌, ◌-◌, ◌<◌, ◌≤◌, List, [], Bool, true, false, Option, Some, None, IsTrue, refl, sym, ◌∙◌, ap, subst, arith, min, ◌^◌, leb-true}
+use Rattle.std.proofs.Common.{Result, Ok, Err, ◌≡◌, ℕ, ◌+◌, ◌-◌, ◌<◌, ◌≤◌, [], Bool, true, false, Some, IsTrue, refl, sym, ◌∙◌, ap, subst, arith, min, ◌^◌, leb-true}
 use Rattle.std.proofs.Math.Nat.{min-eq_left}
 use Rattle.calculus.specs.declared.setting.Logic.{Logic}
 use Rattle.calculus.specs.Measures.{nesting}
 use Rattle.calculus.specs.Problems.{is_problem}
 use Rattle.calculus.specs.Soundness.{HasNoDerivation, IsNeverAccepted}
 use Rattle.calculus.specs.Structures.{Structure, is_structure, is_true}
-use Rattle.calculus.specs.StructureTruth.{Told, told, ran_out, told_at, Tells, ways}
+use Rattle.calculus.specs.StructureTruth.{Told, told_at, Tells, ways}
 use Rattle.calculus.specs.Syntax.{Formula, Problem}
 use Rattle.calculus.proofs.SoundnessLaws.{refuted-never_accepted, refuted-underived}
 use Rattle.calculus.proofs.StructureTruthLaws.{told-truth}

@@ -1,14 +1,11 @@
 -- How looking for a value goes on from item to item, and that it tells what the definitions of truth by steps tell.
-use Rattle.std.proofs.Common.{Result, Ok, Err, ◌≡◌, ℕ, zero, suc, ◌+◌, ◌-◌, ◌<◌, ◌≤◌, List, [], ◌∷◌, length, drop, get_or, Bool, true, false, not, refl, sym, ◌∙◌, ap, subst, drop-cons, add-one, arith, if◌then◌else◌}
+use Rattle.std.proofs.Common.{Result, Ok, Err, ◌≡◌, ℕ, suc, ◌+◌, ◌<◌, ◌≤◌, List, [], ◌∷◌, length, drop, get_or, Bool, true, false, not, refl, sym, ◌∙◌, ap, subst, drop-cons, add-one, if◌then◌else◌}
 use Rattle.std.proofs.lemmas.Bool.{true≢false}
 use Rattle.std.proofs.lemmas.Result.{err_from_is_err_and}
 use Rattle.std.specs.Result.{IsErrAnd}
 use Rattle.std.proofs.Math.ListN.{drop_of_length-le}
 use mathlib.Core.Bool.{beq}
-use Rattle.calculus.specs.declared.setting.Logic.{Logic}
-use Rattle.calculus.specs.declared.setting.Logic.TheVariants.{Classical, Intuitionistic, D, T as LogicT, S4, S5}
-use Rattle.calculus.specs.Structures.{Structure, successors_of, from_here}
-use Rattle.calculus.specs.StructureTruth.{Told, told, ran_out, after_told, chosen_worlds, with_step, not_told, both_told, either_told, each_told, some_told}
+use Rattle.calculus.specs.StructureTruth.{Told, told, ran_out, after_told, with_step, not_told, both_told, either_told, each_told, some_told}
 use Rattle.cop_base.specs.declared.ledger.Ledger.{Ledger}
 use Rattle.finite_model.specs.declared.truth.StepsEnded.{StepsEnded}
 use Rattle.finite_model.specs.Seeking.{same, seek_told, decide_told, left, IsTold}

@@ -1,5 +1,5 @@
 -- Tables, and the places of tuples in them.
-use Rattle.std.proofs.Common.{◌≡◌, ◌⊎◌, inl, inr, ℕ, zero, suc, ◌+◌, ◌-◌, ◌*◌, ◌<◌, ◌≤◌, List, [], ◌∷◌, ◌++◌, length, map, take, drop, get_or, reverse, min, Bool, true, false, ◌&&◌, ◌==◌, Option, Some, None, refl, sym, ◌∙◌, ap, arith, slice_get, slice_index, unwrap_or, Bor, option_copied}
+use Rattle.std.proofs.Common.{◌≡◌, inl, inr, ℕ, zero, suc, ◌+◌, ◌-◌, ◌*◌, ◌<◌, ◌≤◌, List, [], ◌∷◌, ◌++◌, length, map, get_or, reverse, min, Bool, true, false, ◌&&◌, Option, Some, refl, sym, ◌∙◌, ap, arith, slice_get, Bor, option_copied}
 use Rattle.std.specs.List.{list_all}
 use Rattle.std.specs.Option.{option_map, option_map_or}
 use Rattle.std.specs.Prelude.{Vec}
@@ -7,10 +7,9 @@ use Rattle.std.specs.declared.alloc.Global.{Global}
 use Rattle.std.proofs.Math.Nat.{min-le_left, min-eq_left, min-eq_right}
 use Rattle.std.proofs.lemmas.Bool.{cases_lt}
 use Rattle.std.proofs.lemmas.List.{get_or_past, get_or-reverse, length-reverse}
-use Rattle.std.proofs.lemmas.Option.{slice_get-map, unwrap_or-slice_get}
 use Rattle.calculus.specs.declared.setting.Logic.{Logic}
 use Rattle.calculus.specs.declared.setting.Logic.TheVariants.{Classical, Intuitionistic, D, T as LogicT, S4, S5}
-use Rattle.calculus.specs.Structures.{Meaning, value_table, truth_tables, Structure, list_at, bit_at, truth_in, value_in, place_from, place_of, from_here, successors_of}
+use Rattle.calculus.specs.Structures.{Structure, list_at, bit_at, truth_in, place_from, from_here}
 use Rattle.calculus.specs.StructureTruth.{chosen_worlds}
 use Rattle.finite_model.specs.declared.structure.Meaning as program
 use Rattle.finite_model.specs.declared.structure.Meaning.TheVariants.{Truths}

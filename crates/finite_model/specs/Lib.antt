@@ -4,3 +4,9 @@ pub mod Codes
 -- truth
 pub mod Seeking
 pub mod Judging
+-- the text
+pub mod Items
+pub mod Slots
+pub mod Reading
+-- the conditions
+pub mod Conditions

@@ -1,5 +1,5 @@
 -- How a value is looked for among worlds and elements and told of a pair of formulas, and what an answer tells.
-use Rattle.std.specs.Prelude.{◌≡◌, ℕ, ◌-◌, List, [], ◌∷◌, Bool, true, false, ◌==◌, Result, Ok, Err, if◌then◌else◌}
+use Rattle.std.specs.Prelude.{◌≡◌, ℕ, ◌-◌, List, [], ◌∷◌, Bool, true, false, Result, Ok, Err, if◌then◌else◌}
 use Rattle.cop_base.specs.declared.ledger.Ledger.{Ledger}
 use Rattle.finite_model.specs.declared.truth.StepsEnded.{StepsEnded}
 use Rattle.calculus.specs.StructureTruth.{Told, told, ran_out, after_told}

@@ -2,11 +2,26 @@
 //! the root.
 #![tactic(auto)]
 
+mod asked;
+mod conditions;
+mod fault;
+mod functions;
+mod head;
 mod judging;
+mod lines;
+mod making;
+mod persistence;
+mod reader;
+mod slot;
+mod slots;
 mod structure;
+mod symbols;
 mod truth;
+mod tuples;
 mod value;
 
 pub use calculus::fault::StructureCause;
+pub use fault::StructureRead;
 pub use judging::{Judged, judge};
+pub use reader::read_structure;
 pub use structure::Structure;

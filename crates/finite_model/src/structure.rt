@@ -1,8 +1,9 @@
 //! Structures in memory.
 
-ghost use Rattle.std.specs.Prelude.{◌≡◌, ◌≤◌, ℕ, false, length, vec_len, min, slice_get, slice_index, option_copied};
+ghost use Rattle.std.specs.Prelude.{◌≡◌, ◌<◌, ◌≤◌, ◌||◌, not, ℕ, false, length, vec_len, min, slice_get, slice_index, option_copied};
 ghost use Rattle.std.specs.Option.{option_map, option_map_or};
 ghost use Rattle.calculus.specs.Structures.{domain_of, list_at, successors_of, truth_in, value_in};
+ghost use Rattle.finite_model.specs.Conditions.{HasRows, is_kept, is_row_kept};
 ghost use Rattle.finite_model.specs.StructureView.{is_one, the_lists, the_meaning, the_structure};
 
 use cop_base::SymbolId;
@@ -67,9 +68,23 @@ fn is_one_at(rows: &[Vec<u8>], world: u8, place: usize) -> bool
     entry_at(list_at(rows, world), place) == b'1'
 }
 
-// Whether each digit of a row is at most that of the other one.
-fn is_below(row: &[u8], other: &[u8]) -> bool {
-    row.iter().zip(other).all(|(digit, more)| *digit <= *more)
+fn is_digit_kept(digit: u8, other: u8) -> bool
+    ensures { result ≡ (not (is_one digit) || is_one other) }
+{
+    digit != b'1' || other == b'1'
+}
+
+// Whether each digit 1 of a row is one in the other row, which is as long.
+fn is_row_kept(row: &[u8], others: &[u8]) -> bool
+    requires { length row.now ≡ length others.now }
+    ensures { result ≡ is_row_kept row.now others.now }
+{
+    for place in 0..row.len() {
+        if !is_digit_kept(row[place], others[place]) {
+            return false;
+        }
+    }
+    true
 }
 
 impl Structure {
@@ -93,7 +108,8 @@ impl Structure {
 
     /// How many worlds there are.
     pub(crate) fn worlds(&self) -> u8
-        ensures { result ≡ length self.now.successors }
+        ensures count { result ≡ length self.now.successors }
+        ensures few { result ≤ 64 }
     {
         self.successors.len() as u8
     }
@@ -153,16 +169,21 @@ impl Structure {
         }
     }
 
-    /// Whether what is true of a predicate at a world is true at another one.
-    pub(crate) fn persists(&self, predicate: SymbolId, world: u8, other: u8) -> bool {
+    /// Whether what is true of a predicate, which has an arity, at a world is true at another one.
+    pub(crate) fn is_kept(&self, predicate: SymbolId, arity: u32, world: u8, other: u8) -> bool
+        requires rows { HasRows self.now predicate.0 arity }
+        requires world { world < length self.now.successors }
+        requires other { other < length self.now.successors }
+        ensures { result ≡ is_kept self.now predicate.0 arity world other }
+    {
         match self.meaning(predicate) {
             Some(Meaning::Truths(rows)) => {
-                is_below(
-                    list_at(rows.as_slice(), world),
-                    list_at(rows.as_slice(), other),
-                )
+                let row = list_at(rows.as_slice(), world);
+                let others = list_at(rows.as_slice(), other);
+                is_row_kept(row, others)
             }
-            Some(Meaning::Values(_)) | None => true,
+            Some(Meaning::Values(_)) => true,
+            None => true,
         }
     }
 }

@@ -22,8 +22,8 @@ fn element_of(env: &[u8], between: u32) -> u8
     }
 }
 
-// The place of the tuple with one element more. A place past all numbers is past each table.
-fn place_with(place: usize, elements: u8, element: u8) -> usize
+/// The place of the tuple with one element more. A place past all numbers is past each table.
+pub fn place_with(place: usize, elements: u8, element: u8) -> usize
     ensures { (p : ℕ) → place ≡ min p usize.MAX → result ≡ min (p * elements + element) usize.MAX }
 {
     place

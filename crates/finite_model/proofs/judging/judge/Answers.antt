@@ -1,4 +1,4 @@
-use Rattle.std.proofs.Common.{◌≡◌, ◌-◌, sym, ◌∙◌, ap}
+use Rattle.std.proofs.Common.{◌-◌, sym, ◌∙◌, ap}
 use Rattle.calculus.specs.Structures.{is_true}
 use Rattle.calculus.specs.StructureTruth.{ways}
 use Rattle.formula_core.specs.FormulaView.{the_formula}

@@ -1,4 +1,4 @@
-use Rattle.std.proofs.Common.{ℕ, ◌≤◌, ◌-◌, ◌^◌, length, arith}
+use Rattle.std.proofs.Common.{◌-◌, ◌^◌, arith}
 use Rattle.finite_model.proofs.ValueLaws.{entry-there, entry-past}
 use Rattle.finite_model.proofs.structure.entry_at.Goals as goal
 

@@ -1,15 +1,14 @@
 -- The worlds and elements before an item are passed, and the answer at an item is that of the list.
-use Rattle.std.proofs.Common.{rules, Result, Ok, Err, ◌≡◌, ℕ, suc, ◌+◌, ◌-◌, ◌<◌, ◌≤◌, List, ◌∷◌, length, take, set, get_or, reverse, Bool, true, false, not, refl, sym, ◌∙◌, ap, subst, arith}
+use Rattle.std.proofs.Common.{Ok, Err, ◌∷◌, take, get_or, reverse, true, false, not, sym, ◌∙◌, ap, arith}
 use Rattle.calculus.specs.Lists.{terms_tree}
-use Rattle.calculus.specs.StructureTruth.{told_at, not_told, each_told, chosen_worlds}
-use Rattle.calculus.specs.Structures.{domain_of, is_true_at}
+use Rattle.calculus.specs.StructureTruth.{told_at, not_told}
+use Rattle.calculus.specs.Structures.{domain_of}
 use Rattle.calculus.specs.Syntax.{atom, neg, conj, disj, imp, all, ex, box, dia}
 use Rattle.formula_core.specs.FormulaView.{the_formula}
-use Rattle.finite_model.specs.Seeking.{IsTold, decide_told, left, seek_told}
-use Rattle.finite_model.proofs.SeekLaws.{equal-told, apart-told, told-stepped, told-as, each-sought, each-not_sought, some-sought, both-decided, either-decided, implied-decided, each-same, sought-here, sought-next, sought-stopped, sought-nowhere, each-here, each-on, each-broken, each-everywhere, not-told, not-told_stopped, decided-here, decided-next, decided-stopped, told-bound, told-passed, seek-on, told-value}
+use Rattle.finite_model.specs.Seeking.{decide_told, left, seek_told}
+use Rattle.finite_model.proofs.SeekLaws.{equal-told, apart-told, sought-here, sought-next, sought-stopped, sought-nowhere, each-here, each-on, each-broken, each-everywhere, not-told, not-told_stopped, decided-here, decided-next, decided-stopped, told-bound, told-passed, seek-on, told-value}
 use Rattle.finite_model.proofs.FormulaArms.{form-Atom, form-Not, form-And, form-Or, form-Imp, form-All, form-Ex, form-Nec, form-Poss}
 use Rattle.finite_model.proofs.EnvLaws.{bound-more, bound-back}
-use Rattle.finite_model.proofs.ValueLaws.{here-chosen}
 use Rattle.finite_model.proofs.TruthArms.{at-form, arm-atom, arm-not, arm-and, arm-or, arm-imp, arm-all, arm-ex, arm-box, arm-dia, no-step, none-left, one-taken}
 use Rattle.finite_model.proofs.truth.+truth_at.Goals as goal
 

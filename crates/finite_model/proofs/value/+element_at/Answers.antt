@@ -1,4 +1,4 @@
-use Rattle.std.proofs.Common.{◌≡◌, ℕ, ◌+◌, ◌*◌, sym, ◌∙◌, ap, arith, min, reverse}
+use Rattle.std.proofs.Common.{◌+◌, ◌*◌, sym, ◌∙◌, ap, arith, min, reverse}
 use Rattle.std.proofs.Math.Nat.{zero-min}
 use Rattle.calculus.specs.Lists.{terms_tree}
 use Rattle.calculus.specs.Structures.{place_from, place_of, term_value, term_values}

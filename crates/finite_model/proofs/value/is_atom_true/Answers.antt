@@ -1,4 +1,4 @@
-use Rattle.std.proofs.Common.{◌≡◌, sym, ◌∙◌, arith, reverse}
+use Rattle.std.proofs.Common.{sym, ◌∙◌, arith, reverse}
 use Rattle.calculus.specs.Lists.{terms_tree}
 use Rattle.calculus.specs.Structures.{place_of, predicate_value, term_values}
 use Rattle.finite_model.proofs.ArgLaws.{all-on, all-false, all-end}
