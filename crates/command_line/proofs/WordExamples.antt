@@ -5,9 +5,8 @@ use Rattle.calculus.specs.Syntax.{setting_of}
 use Rattle.calculus.specs.declared.family.Family.TheVariants.{Tower}
 use Rattle.calculus.specs.declared.setting.Domains.TheVariants.{Constant, Varying}
 use Rattle.calculus.specs.declared.setting.Logic.TheVariants.{Classical, S4}
-use Rattle.command_line.specs.declared.table.CommandName.TheVariants.{Model, Transfer}
 use Rattle.command_line.specs.Table.{Word}
-use Rattle.command_line.specs.CommandLine.{ProblemFile, Bounds, command_of, first_bad, misfit, prove, check, check_translated, transfer, make, bad}
+use Rattle.command_line.specs.CommandLine.{ProblemFile, Bounds, command_of, prove, check, check_translated, transfer, make, model, bad}
 
 in_classical : ProblemFile
 in_classical = record { name = codes "m.p"; root = []; setting = setting_of Classical Constant }
@@ -93,6 +92,9 @@ plain_transfer : command_of (codes "transfer" ∷ codes "m.p" ∷ codes "--root=
     ≡ transfer (record { name = codes "m.p"; root = codes "r" }) (codes "d.txt")
 plain_transfer = refl
 
+transfer_logic : command_of (codes "transfer" ∷ codes "m.p" ∷ codes "d.txt" ∷ codes "--logic=intuitionistic" ∷ []) ≡ bad 4
+transfer_logic = refl
+
 -- ---- what is not built is a bad word
 
 not_built : command_of (codes "tcheck" ∷ codes "m.p" ∷ codes "t.txt" ∷ []) ≡ bad 1
@@ -133,11 +135,12 @@ modal_tower : command_of (codes "make" ∷ codes "--logic=s4" ∷ codes "tower" 
 unfolding usual digits
 modal_tower = refl
 
--- ---- words of commands that are not built
+-- ---- structures
 
-transfer_logic : first_bad Transfer [] (codes "m.p" ∷ codes "d.txt" ∷ codes "--logic=intuitionistic" ∷ []) ≡ Some 4
-transfer_logic = refl
-
-limit_of_model : first_bad Model [] (codes "m.p" ∷ codes "s.txt" ∷ codes "--steps=5" ∷ codes "--limit=5" ∷ []) ≡ Some 5
+limit_of_model : command_of (codes "model" ∷ codes "m.p" ∷ codes "s.txt" ∷ codes "--steps=5" ∷ codes "--limit=5" ∷ []) ≡ bad 5
 unfolding digits
 limit_of_model = refl
+
+in_structure : command_of (codes "model" ∷ codes "m.p" ∷ codes "s.txt" ∷ codes "--steps=5" ∷ []) ≡ model in_classical (codes "s.txt") 5
+unfolding in_classical digits
+in_structure = refl

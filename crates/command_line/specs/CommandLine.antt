@@ -62,6 +62,7 @@ pub data Command : Type 0 where
   check_translated : (problem : IntuitionisticFile) (derivation : Word) → Command
   transfer : (problem : IntuitionisticFile) (derivation : Word) → Command
   make : (problem : GeneratedProblem) (bounds : Bounds) → Command
+  model : (problem : ProblemFile) (structure : Word) (steps : ℕ) → Command
   bad : (place : ℕ) → Command
 
 -- ---- what the words behind the command give, of which the first stands at place 2
@@ -178,10 +179,13 @@ generated_in ws = record {
   setting = setting_of (logic_in ws) (domains_in ws);
 }
 
+abbrev pub steps_in : List Word → ℕ
+steps_in ws = on (number_of MAX_STEPS (value_in option.Steps ws)) (λ n. n) USUAL_STEPS
+
 abbrev pub bounds_in : List Word → Bounds
 bounds_in ws = record {
   limit = on (number_of MAX_PATH_LIMIT (value_in option.Limit ws)) (λ n. n) USUAL_LIMIT;
-  steps = on (number_of MAX_STEPS (value_in option.Steps ws)) (λ n. n) USUAL_STEPS;
+  steps = steps_in ws;
   cut = number_of MAX_PATH_LIMIT (value_in option.Cut ws);
 }
 
@@ -198,6 +202,7 @@ request command.Prove ws = prove (problem_in ws) (bounds_in ws)
 request command.Check ws = check_in ws
 request command.Transfer ws = transfer (intuitionistic_in ws) (operand_in 1 ws)
 request command.Make ws = make (generated_in ws) (bounds_in ws)
+request command.Model ws = model (problem_in ws) (operand_in 1 ws) (steps_in ws)
 request _ ws = bad 1
 
 abbrev pub command_by : CommandName → List Word → Command

@@ -38,4 +38,6 @@ the_command (command.Transfer problem derivation) =
     words.transfer (the_intuitionistic_file problem) derivation.now
 the_command (command.Make problem bounds) =
     words.make (the_generated_problem problem) (the_bounds bounds)
+the_command (command.Model problem structure steps) =
+    words.model (the_problem_file problem) structure.now steps
 the_command (command.Bad place) = words.bad place

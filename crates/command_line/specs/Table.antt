@@ -35,6 +35,7 @@ abbrev pub is_built : CommandName → Bool
 is_built Prove = true
 is_built Check = true
 is_built Make = true
+is_built Model = true
 is_built Transfer = true
 is_built _ = false
 

@@ -17,6 +17,7 @@ ghost use Rattle.command_line.specs.CommandLine.{
   place_of,
   problem_in,
   request,
+  steps_in,
   tower_place,
   value_in,
 };
@@ -103,6 +104,11 @@ pub enum Command<'a> {
     Make {
         problem: GeneratedProblem,
         bounds: Bounds,
+    },
+    Model {
+        problem: ProblemFile<'a>,
+        structure: &'a str,
+        steps: u64,
     },
     Bad {
         place: u64,
@@ -228,6 +234,15 @@ fn generated_in(words: &[String]) -> GeneratedProblem
     }
 }
 
+fn steps_in(words: &[String]) -> u64
+    ensures { result ≡ steps_in (map string_bytes words.now) }
+{
+    match number_of(MAX_STEPS, value_in(OptionName::Steps, words)) {
+        Some(steps) => steps,
+        None => USUAL_STEPS,
+    }
+}
+
 fn bounds_in(words: &[String]) -> Bounds
     ensures { the_bounds result ≡ bounds_in (map string_bytes words.now) }
 {
@@ -237,10 +252,7 @@ fn bounds_in(words: &[String]) -> Bounds
             number: USUAL_LIMIT,
         },
     };
-    let steps = match number_of(MAX_STEPS, value_in(OptionName::Steps, words)) {
-        Some(steps) => steps,
-        None => USUAL_STEPS,
-    };
+    let steps = steps_in(words);
     let cut = limit_in(OptionName::Cut, words);
     Bounds { limit, steps, cut }
 }
@@ -278,6 +290,11 @@ fn request(command: CommandName, words: &[String]) -> Command<'_>
         CommandName::Make => Command::Make {
             problem: generated_in(words),
             bounds: bounds_in(words),
+        },
+        CommandName::Model => Command::Model {
+            problem: problem_in(words),
+            structure: operand_in(1, words),
+            steps: steps_in(words),
         },
         _ => Command::Bad { place: 1 },
     }

@@ -67,9 +67,12 @@ pub fn is_built(command: CommandName) -> bool
     ensures { result ≡ is_built command }
 {
     match command {
-        CommandName::Prove | CommandName::Check | CommandName::Make | CommandName::Transfer => true,
-        CommandName::Migrate
+        CommandName::Prove
+        | CommandName::Check
+        | CommandName::Make
         | CommandName::Model
+        | CommandName::Transfer => true,
+        CommandName::Migrate
         | CommandName::Tableau
         | CommandName::Tcheck
         | CommandName::Convert => false,

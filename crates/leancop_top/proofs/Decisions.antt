@@ -1,10 +1,15 @@
 -- What the files hold is decided, where no file fails, the sink does not fail and memory does not end.
 use Rattle.std.proofs.Common.{◌≡◌, List, ℕ, Option, None, Some, Result, Ok, Err, arith, refl, subst, sym}
 use Rattle.std.specs.Prelude.{IfSome}
+use Rattle.calculus.proofs.StructureTextUnique.{structure_judgement-unique}
+use Rattle.calculus.specs.declared.fault.StructureCause.{StructureCause}
+use Rattle.calculus.specs.Structures.{is_true}
+use Rattle.calculus.specs.StructureText.{IsStructureJudgement, IsStructureText, truth_verdict}
+use Rattle.calculus.specs.StructureText as verdict
 use Rattle.calculus.specs.Syntax.{Problem}
 use Rattle.calculus.specs.Translation.{translated_problem}
 use Rattle.cop_base.specs.Outside.{Files, file_in, Rose}
-use Rattle.command_line.specs.CommandLine.{Bounds, Command, GeneratedProblem, ProblemFile, in_intuitionistic, prove, check, check_translated, transfer, make, bad}
+use Rattle.command_line.specs.CommandLine.{Bounds, Command, GeneratedProblem, ProblemFile, in_intuitionistic, prove, check, check_translated, transfer, make, model, bad}
 use Rattle.command_line.specs.Table.{Word}
 use Rattle.problem_build.specs.Refusals.{Refusal}
 use Rattle.leancop_top.proofs.Budgets.{not_steps_ended}
@@ -12,6 +17,9 @@ use Rattle.leancop_top.proofs.Cuts.{prove-by_cut}
 use Rattle.leancop_top.specs.Commands.Check.{CheckEnds, IsJudged, TranslatedCheckEnds, accepted, rejected, not_fetched, not_translated, translated}
 use Rattle.leancop_top.specs.Commands.Make.{IsMakeable, MakeEnds, made_file, made_files}
 use Rattle.leancop_top.specs.Commands.Make as made
+use Rattle.leancop_top.specs.Commands.Model.{IsModel, IsNoModel, IsTold, ModelEnds}
+use Rattle.leancop_top.specs.Commands.Model as modelled
+use Rattle.leancop_top.proofs.ModelLaws.{judged-truth, same-bytes, same-status, same-ways, truth-not_bad}
 use Rattle.leancop_top.specs.Commands.Prove.{IsDecided, ProveEnds, derived, fruitless}
 use Rattle.leancop_top.specs.Commands.Transfer.{IsTransferDecided, TransferEnds, transferred}
 use Rattle.leancop_top.specs.Commands.Transfer as transfer_ends
@@ -114,6 +122,46 @@ make-decided g b e _ _ (made.fruitless P s h k) =
 make-decided g b e _ _ (made.refused r h k) =
     absurd (ok-err e.problem r (Ok e.problem) (Err r) refl refl (read_is (Some (made_files g)) (made_files g) (made_file g) e.problem (Err r) refl e.read k))
 
+-- ---- model
+
+model-told : (told : Option Files) (p : ProblemFile) (structure : Word) (steps m n f g : ℕ) → ¬ Rose f g → (h : IsModel told p structure steps) (s : Status) (bytes : List ℕ) → ModelEnds told h.problem structure steps s bytes → IsCounted m n f g s → IsTold s
+model-told told p structure steps m n f g quiet h _ _ (modelled.true_at_root j) counted = tt
+model-told told p structure steps m n f g quiet h _ _ (modelled.false_at_root j u v) counted = tt
+model-told told p structure steps m n f g quiet h _ _ (modelled.bad_structure line cause j) counted =
+    let same = same-bytes told h.held.files structure h.bytes j.text h.held.tells h.held.given j.held in
+    let truth = judged-truth h.problem h.stated h.bytes h.is_text h.sound in
+    absurd (truth-not_bad (is_true h.problem h.stated) line cause
+    (j.unique (truth_verdict (is_true h.problem h.stated)) (subst (λ b. IsStructureJudgement h.problem b (truth_verdict (is_true h.problem h.stated))) (sym same) truth)))
+model-told told p structure steps m n f g quiet h _ _ (modelled.steps_ended w) counted =
+    let same = same-bytes told h.held.files structure h.bytes w.text h.held.tells h.held.given w.held in
+    absurd (same-ways h.problem w.stated h.stated h.bytes steps (subst (IsStructureText h.problem w.stated) same w.is_text) h.is_text w.more h.enough)
+model-told told p structure steps m n f g quiet h _ _ (modelled.not_fetched s k) counted =
+    absurd (fetched told h.held.files structure h.bytes m n f g h.held.tells h.held.given quiet s k counted)
+
+true-not_bad : (line : ℕ) (cause : StructureCause) → verdict.bad_structure line cause ≡ verdict.true_at_root → ⊥
+true-not_bad line cause e = absurd (cc)
+
+false-not_bad : (line : ℕ) (cause : StructureCause) → verdict.bad_structure line cause ≡ verdict.false_at_root → ⊥
+false-not_bad line cause e = absurd (cc)
+
+model-bad : (told : Option Files) (p : ProblemFile) (structure : Word) (steps line : ℕ) (cause : StructureCause) (m n f g : ℕ) → ¬ Rose f g → (h : IsNoModel told p structure line cause) (s : Status) (bytes : List ℕ) → ModelEnds told h.problem structure steps s bytes → IsCounted m n f g s → s ≡ status.BadStructure line cause
+model-bad told p structure steps line cause m n f g quiet h _ _ (modelled.true_at_root j) counted =
+    let same = same-bytes told h.held.files structure h.bytes j.text h.held.tells h.held.given j.held in
+    absurd (true-not_bad line cause (j.unique (verdict.bad_structure line cause) (subst (λ b. IsStructureJudgement h.problem b (verdict.bad_structure line cause)) (sym same) h.bad)))
+model-bad told p structure steps line cause m n f g quiet h _ _ (modelled.false_at_root j u v) counted =
+    let same = same-bytes told h.held.files structure h.bytes j.text h.held.tells h.held.given j.held in
+    absurd (false-not_bad line cause (j.unique (verdict.bad_structure line cause) (subst (λ b. IsStructureJudgement h.problem b (verdict.bad_structure line cause)) (sym same) h.bad)))
+model-bad told p structure steps line cause m n f g quiet h _ _ (modelled.bad_structure k d j) counted =
+    let same = same-bytes told h.held.files structure h.bytes j.text h.held.tells h.held.given j.held in
+    same-status k line d cause (j.unique (verdict.bad_structure line cause) (subst (λ b. IsStructureJudgement h.problem b (verdict.bad_structure line cause)) (sym same) h.bad))
+model-bad told p structure steps line cause m n f g quiet h _ _ (modelled.steps_ended w) counted =
+    let same = same-bytes told h.held.files structure h.bytes w.text h.held.tells h.held.given w.held in
+    absurd (truth-not_bad (is_true h.problem w.stated) line cause
+    (structure_judgement-unique h.problem h.bytes (truth_verdict (is_true h.problem w.stated)) (verdict.bad_structure line cause)
+    (subst (λ b. IsStructureJudgement h.problem b (truth_verdict (is_true h.problem w.stated))) same w.judged) h.bad))
+model-bad told p structure steps line cause m n f g quiet h _ _ (modelled.not_fetched s k) counted =
+    absurd (fetched told h.held.files structure h.bytes m n f g h.held.tells h.held.given quiet s k counted)
+
 -- ---- the commands
 
 pub decided : (told : Option Files) (command : Command) (s : Status) (bytes : List ℕ) (m n f g : ℕ) → Ends told command s bytes → IsCounted m n f g s → ¬ Rose f g → Decides told command s
@@ -129,6 +177,10 @@ decided told (check_translated p d) s bytes m n f g ends counted quiet = λ h.
 decided told (transfer p d) s bytes m n f g ends counted quiet = λ h.
     transfer-decided told h.files h.problem d h.bytes m n f g h.tells h.given quiet s bytes (for-problem told h.files (in_intuitionistic p) h.problem (λ P. TransferEnds told P d) m n f g h.tells h.read quiet s bytes ends counted) counted
 decided told (make g b) s bytes m n f k ends counted quiet = λ h. make-decided g b h s bytes ends
+decided told (model p d b) s bytes m n f g ends counted quiet = (
+  λ h. model-told told p d b m n f g quiet h s bytes (for-problem told h.held.files p h.problem (λ P. ModelEnds told P d b) m n f g h.held.tells h.held.read quiet s bytes ends counted) counted,
+  λ line cause h. model-bad told p d b line cause m n f g quiet h s bytes (for-problem told h.held.files p h.problem (λ P. ModelEnds told P d b) m n f g h.held.tells h.held.read quiet s bytes ends counted) counted,
+)
 decided told (bad place) s bytes m n f g ends counted quiet = tt
 
 -- so it is where anything is answered

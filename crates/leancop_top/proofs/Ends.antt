@@ -5,12 +5,14 @@ use Rattle.cop_base.specs.Outside.{Files}
 use Rattle.cop_base.specs.declared.NoMemory.{NoMemory}
 use Rattle.calculus.specs.Syntax.{Problem}
 use Rattle.calculus.specs.Translation.{translated_problem}
-use Rattle.command_line.specs.CommandLine.{Bounds, Command, GeneratedProblem, ProblemFile, in_intuitionistic, prove, check, check_translated, transfer, make, bad}
+use Rattle.command_line.specs.CommandLine.{Bounds, Command, GeneratedProblem, ProblemFile, in_intuitionistic, prove, check, check_translated, transfer, make, model, bad}
 use Rattle.command_line.specs.Table.{Word}
 use Rattle.problem_build.specs.Refusals.{Refusal, missing, input_too_large, nesting_too_deep, formula_too_large, too_many_symbols, bad as bad_problem}
 use Rattle.leancop_top.specs.Commands.Check.{CheckEnds, TranslatedCheckEnds, accepted, rejected, not_fetched, not_translated, translated}
 use Rattle.leancop_top.specs.Commands.Make.{IsOfText, MakeEnds}
 use Rattle.leancop_top.specs.Commands.Make as made
+use Rattle.leancop_top.specs.Commands.Model.{ModelEnds}
+use Rattle.leancop_top.specs.Commands.Model as modelled
 use Rattle.leancop_top.specs.Commands.Prove.{ProveEnds, derived, fruitless}
 use Rattle.leancop_top.specs.Commands.Transfer.{TransferEnds, transferred}
 use Rattle.leancop_top.specs.Commands.Transfer as transfer_ends
@@ -154,6 +156,14 @@ make-told g b _ _ (made.derived P d text h k) = refl
 make-told g b _ _ (made.fruitless P s h k) = search-told P b s k
 make-told g b _ _ (made.refused r h k) = refusal-told r
 
+model-told : (told : Option Files) (P : Problem) (structure : Word) (steps : ℕ) (s : Status) (bytes : List ℕ) → ModelEnds told P structure steps s bytes → is_silent s ≡ false
+unfolding is_silent
+model-told told P d n _ _ (modelled.true_at_root h) = refl
+model-told told P d n _ _ (modelled.false_at_root h u v) = refl
+model-told told P d n _ _ (modelled.bad_structure line cause h) = refl
+model-told told P d n _ _ (modelled.steps_ended h) = refl
+model-told told P d n _ _ (modelled.not_fetched s h) = fetch-told told d s h
+
 bad-told : (place : ℕ) (s : Status) → s ≡ status.BadWords place → is_silent s ≡ false
 unfolding is_silent
 bad-told place s e = rw e refl
@@ -164,6 +174,7 @@ told files (check p d) s bytes h = on-told files p (λ P. CheckEnds files P d) (
 told files (check_translated p d) s bytes h = on-told files (in_intuitionistic p) (λ P. TranslatedCheckEnds files P d) (λ P. translated-check-told files P d) s bytes h
 told files (transfer p d) s bytes h = on-told files (in_intuitionistic p) (λ P. TransferEnds files P d) (λ P. transfer-told files P d) s bytes h
 told files (make g b) s bytes h = make-told g b s bytes h
+told files (model p d n) s bytes h = on-told files p (λ P. ModelEnds files P d n) (λ P. model-told files P d n) s bytes h
 told files (bad place) s bytes h = bad-told place s h.0
 
 true-false : (t : Bool) → t ≡ true → t ≡ false → ⊥

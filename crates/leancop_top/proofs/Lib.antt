@@ -6,6 +6,7 @@ pub mod Cuts
 pub mod Refusals
 pub mod NoIncludes
 pub mod Made
+pub mod ModelLaws
 pub mod Ends
 pub mod Translations
 pub mod Decisions

@@ -4,6 +4,8 @@ use Rattle.calculus.specs.declared.fault.CheckFault.{CheckFault}
 use Rattle.calculus.specs.declared.fault.CheckFault.TheVariants as check
 use Rattle.calculus.specs.declared.fault.StepFault.{StepFault}
 use Rattle.calculus.specs.declared.fault.StepFault.TheVariants as step
+use Rattle.calculus.specs.declared.fault.StructureCause.{StructureCause}
+use Rattle.calculus.specs.declared.fault.StructureCause.TheVariants as structure
 use Rattle.calculus.specs.declared.fault.TextCause.{TextCause}
 use Rattle.calculus.specs.declared.fault.TextCause.TheVariants as cause
 use Rattle.problem_build.specs.declared.fault.Cause.{Cause}
@@ -50,3 +52,19 @@ fault_text (check.Text c) = text_cause_text c
 fault_text (check.Step f) = step_fault_text f
 fault_text check.AllClosed = codes "all closed"
 fault_text check.StillOpen = codes "still open"
+
+abbrev pub structure_cause_text : StructureCause → List ℕ
+structure_cause_text structure.Version = codes "version"
+structure_cause_text structure.Setting = codes "setting"
+structure_cause_text structure.Size = codes "size"
+structure_cause_text structure.Line = codes "line"
+structure_cause_text structure.TextAfterEnd = codes "text after end"
+structure_cause_text structure.EmptyDomain = codes "empty domain"
+structure_cause_text structure.Serial = codes "serial"
+structure_cause_text structure.Reflexive = codes "reflexive"
+structure_cause_text structure.Transitive = codes "transitive"
+structure_cause_text structure.Total = codes "total"
+structure_cause_text structure.Worlds = codes "worlds"
+structure_cause_text structure.Domains = codes "domains"
+structure_cause_text structure.Function = codes "function"
+structure_cause_text structure.Persistence = codes "persistence"

@@ -1,18 +1,20 @@
 -- What a run answers, by its words and by the files that its library tells.
+use Rattle.calculus.specs.declared.fault.StructureCause.{StructureCause}
 use Rattle.std.specs.Prelude.{◌≡◌, ⊤, ℕ, List, take, Option}
 use Rattle.cop_base.specs.Outside.{Files, with_bytes}
-use Rattle.command_line.specs.CommandLine.{Command, prove, check, check_translated, transfer, make, bad}
+use Rattle.command_line.specs.CommandLine.{Command, prove, check, check_translated, transfer, make, model, bad}
 use Rattle.command_line.specs.CommandLine.{in_intuitionistic}
 use Rattle.leancop_top.specs.Commands.Check.{CheckEnds, IsCheckable, IsJudged}
 use Rattle.leancop_top.specs.Commands.Check.{IsCheckableTranslated, TranslatedCheckEnds}
 use Rattle.leancop_top.specs.Commands.Make.{IsMakeable, MakeEnds}
+use Rattle.leancop_top.specs.Commands.Model.{IsModel, IsNoModel, IsTold, ModelEnds}
 use Rattle.leancop_top.specs.Commands.Prove.{IsDecided, IsDerivedAt, IsProvable}
 use Rattle.leancop_top.specs.Commands.Prove.{IsProvableByCut, ProveEnds}
 use Rattle.leancop_top.specs.Commands.Transfer.{IsTransferDecided, TransferEnds}
 use Rattle.leancop_top.specs.Reading.{EndsOn}
 use Rattle.leancop_top.specs.Statuses.{IsCounted, status_line}
 use Rattle.leancop_top.specs.declared.status.Status.{Status}
-use Rattle.leancop_top.specs.declared.status.Status.TheVariants.{BadWords}
+use Rattle.leancop_top.specs.declared.status.Status.TheVariants.{BadStructure, BadWords}
 
 -- why a run ends with a status, and what is written
 abbrev pub Ends : Option Files → Command → Status → List ℕ → Type 0
@@ -24,6 +26,8 @@ Ends told (check_translated p derivation) status bytes =
 Ends told (transfer p derivation) status bytes =
     EndsOn told (in_intuitionistic p) (λ P. TransferEnds told P derivation) status bytes
 Ends told (make g b) status bytes = MakeEnds g b status bytes
+Ends told (model p structure steps) status bytes =
+    EndsOn told p (λ P. ModelEnds told P structure steps) status bytes
 Ends told (bad place) status bytes =
     (status ≡ BadWords place) × (bytes ≡ status_line status)
 
@@ -55,4 +59,8 @@ Decides told (check_translated p derivation) status =
 Decides told (transfer p derivation) status =
     IsCheckable told (in_intuitionistic p) derivation → IsTransferDecided status
 Decides told (make g b) status = IsMakeable g b → IsDecided status
+Decides told (model p structure steps) status =
+    (IsModel told p structure steps → IsTold status)
+    × ((line : ℕ) (cause : StructureCause) → IsNoModel told p structure line cause
+      → status ≡ BadStructure line cause)
 Decides told (bad place) status = ⊤

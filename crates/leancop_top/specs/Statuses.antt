@@ -1,10 +1,12 @@
 -- What each status is: its line, the exit status of the process, and what a run has counted.
 use Rattle.std.specs.Prelude.{ℕ, ⊤, List, [], ◌++◌, codes, decimal}
 use Rattle.cop_base.specs.Outside.{Rose}
-use Rattle.leancop_top.specs.FaultTexts.{cause_text, fault_text}
+use Rattle.leancop_top.specs.FaultTexts.{cause_text, fault_text, structure_cause_text}
 use Rattle.leancop_top.specs.declared.status.Status.{Status}
 use Rattle.leancop_top.specs.declared.status.Status.TheVariants.{Derived, Exhausted, NoTableau}
 use Rattle.leancop_top.specs.declared.status.Status.TheVariants.{StepsEnded, Accepted, Rejected}
+use Rattle.leancop_top.specs.declared.status.Status.TheVariants.{TrueAtRoot, FalseAtRoot}
+use Rattle.leancop_top.specs.declared.status.Status.TheVariants.{BadStructure}
 use Rattle.leancop_top.specs.declared.status.Status.TheVariants.{BadWords, Missing, ReadFault}
 use Rattle.leancop_top.specs.declared.status.Status.TheVariants.{WriteFault, BadProblem}
 use Rattle.leancop_top.specs.declared.status.Status.TheVariants.{InputTooLarge, NestingTooDeep}
@@ -33,6 +35,10 @@ row_of (StepsEnded d n) =
 row_of Accepted = row 0 (codes "accepted")
 row_of (Rejected line fault) =
     row 8 (codes "rejected at line " ++ decimal line ++ codes ": " ++ fault_text fault)
+row_of TrueAtRoot = row 0 (codes "true at the root")
+row_of FalseAtRoot = row 9 (codes "false at the root")
+row_of (BadStructure line cause) =
+    row 10 (codes "rejected structure at line " ++ decimal line ++ codes ": " ++ structure_cause_text cause)
 row_of (BadWords place) = row 5 (codes "bad word " ++ decimal place)
 row_of (Missing name) = row 6 (codes "missing: " ++ name)
 row_of (ReadFault name) = row 6 (codes "read fault: " ++ name)

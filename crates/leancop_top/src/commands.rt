@@ -2,5 +2,6 @@
 
 pub mod check;
 pub mod make;
+pub mod model;
 pub mod prove;
 pub mod transfer;

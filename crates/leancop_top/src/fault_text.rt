@@ -5,10 +5,12 @@ ghost use Rattle.leancop_top.specs.FaultTexts.{
   cause_text,
   fault_text,
   step_fault_text,
+  structure_cause_text,
   text_cause_text,
 };
 
 use crate::status::Cause;
+use calculus::fault::StructureCause;
 use derivation_check::CheckFault;
 use derivation_text::TextCause;
 use sequent_calc::StepFault;
@@ -69,5 +71,26 @@ fn step_fault_text(fault: StepFault) -> &'static [u8]
         StepFault::NotNew => b"not new",
         StepFault::WrongHome => b"wrong home",
         StepFault::NotAllowed => b"not allowed",
+    }
+}
+
+pub fn structure_cause_text(cause: StructureCause) -> &'static [u8]
+    ensures { result.now ≡ structure_cause_text cause }
+{
+    match cause {
+        StructureCause::Version => b"version",
+        StructureCause::Setting => b"setting",
+        StructureCause::Size => b"size",
+        StructureCause::Line => b"line",
+        StructureCause::TextAfterEnd => b"text after end",
+        StructureCause::EmptyDomain => b"empty domain",
+        StructureCause::Serial => b"serial",
+        StructureCause::Reflexive => b"reflexive",
+        StructureCause::Transitive => b"transitive",
+        StructureCause::Total => b"total",
+        StructureCause::Worlds => b"worlds",
+        StructureCause::Domains => b"domains",
+        StructureCause::Function => b"function",
+        StructureCause::Persistence => b"persistence",
     }
 }

@@ -12,6 +12,7 @@ ghost use Rattle.leancop_top.specs.Statuses.{IsCounted, OnAnswer};
 
 use crate::commands::check::{check, check_translated};
 use crate::commands::make::make;
+use crate::commands::model::model;
 use crate::commands::prove::prove;
 use crate::commands::transfer::transfer;
 use crate::reply::{Reply, line_reply};
@@ -45,6 +46,11 @@ fn answer<L: Library>(alloc: Global, words: &[String], lib: &mut L) -> Result<Re
             derivation,
         } => transfer(alloc, lib, problem, derivation),
         Command::Make { problem, bounds } => make(alloc, problem, bounds),
+        Command::Model {
+            problem,
+            structure,
+            steps,
+        } => model(alloc, lib, problem, structure, steps),
         Command::Bad { place } => line_reply(alloc, Status::BadWords { place }),
     }
 }

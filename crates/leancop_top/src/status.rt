@@ -3,6 +3,7 @@
 ghost use Rattle.std.specs.Prelude.{◌≡◌};
 ghost use Rattle.leancop_top.specs.Statuses.{exit_of};
 
+use calculus::fault::StructureCause;
 use cop_base::Text;
 use derivation_check::CheckFault;
 
@@ -25,7 +26,8 @@ pub enum Status {
     NoTableau {
         limit: u8,
     },
-    /// The budget of steps was used up; this is the last path limit that was searched whole, or 0.
+    /// The budget of steps was used up; this is the last path limit that was searched whole, or 0,
+    /// which it is where a structure is looked at.
     StepsEnded {
         limit: u8,
         steps: u64,
@@ -38,6 +40,16 @@ pub enum Status {
     Rejected {
         line: u64,
         fault: CheckFault,
+    },
+    /// The formula is true at the root of the structure.
+    TrueAtRoot,
+    /// The formula is false at the root of the structure, so no derivation derives it.
+    FalseAtRoot,
+    /// The bytes state no structure of the problem's setting; the fault stands at this line, counted
+    /// from 1.
+    BadStructure {
+        line: u64,
+        cause: StructureCause,
     },
     /// The word at this place, counted from 1, is bad, or it is missing.
     BadWords {
@@ -77,7 +89,7 @@ pub fn exit_code(status: &Status) -> u8
     ensures { result ≡ exit_of status.now }
 {
     match status {
-        Status::Derived { .. } | Status::Accepted | Status::Transferred => 0,
+        Status::Derived { .. } | Status::Accepted | Status::Transferred | Status::TrueAtRoot => 0,
         Status::Exhausted { .. } => 1,
         Status::NoTableau { .. } => 2,
         Status::StepsEnded { .. } => 3,
@@ -91,5 +103,7 @@ pub fn exit_code(status: &Status) -> u8
         Status::Missing { .. } | Status::ReadFault { .. } | Status::WriteFault => 6,
         Status::NoMemory => 7,
         Status::Rejected { .. } => 8,
+        Status::FalseAtRoot => 9,
+        Status::BadStructure { .. } => 10,
     }
 }

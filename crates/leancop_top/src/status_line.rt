@@ -1,11 +1,12 @@
 //! The line that tells a status.
 
 ghost use Rattle.std.specs.Prelude.{◌≡◌, ◌++◌, IfOk, codes, decimal};
-ghost use Rattle.leancop_top.specs.FaultTexts.{cause_text, fault_text};
+ghost use Rattle.leancop_top.specs.FaultTexts.{cause_text, fault_text, structure_cause_text};
 ghost use Rattle.leancop_top.specs.Statuses.{status_line};
 
-use crate::fault_text::{cause_text, fault_text};
+use crate::fault_text::{cause_text, fault_text, structure_cause_text};
 use crate::status::{Cause, Status};
+use calculus::fault::StructureCause;
 use cop_base::{NoMemory, Text};
 use derivation_check::CheckFault;
 use itoa::Buffer;
@@ -38,6 +39,9 @@ pub fn status_line(alloc: Global, status: &Status) -> Result<Vec<u8>, NoMemory>
             cause,
         } => problem_line(alloc, file, *offset, *cause),
         Status::Rejected { line, fault } => { rejection_line(alloc, *line, *fault) }
+        Status::BadStructure { line, cause } => structure_line(alloc, *line, *cause),
+        Status::TrueAtRoot => Ok(Vec::from_slice(alloc, b"true at the root\n")?),
+        Status::FalseAtRoot => Ok(Vec::from_slice(alloc, b"false at the root\n")?),
         Status::Accepted => Ok(Vec::from_slice(alloc, b"accepted\n")?),
         Status::InputTooLarge => Ok(Vec::from_slice(alloc, b"input too large\n")?),
         Status::NestingTooDeep => Ok(Vec::from_slice(alloc, b"nesting too deep\n")?),
@@ -97,6 +101,20 @@ fn rejection_line(alloc: Global, number: u64, fault: CheckFault) -> Result<Vec<u
     line.extend_from_slice(buffer.format(number).as_bytes())?;
     line.extend_from_slice(b": ")?;
     line.extend_from_slice(fault_text(fault))?;
+    line.extend_from_slice(b"\n")?;
+    Ok(line)
+}
+
+fn structure_line(alloc: Global, number: u64, cause: StructureCause) -> Result<Vec<u8>, NoMemory>
+    ensures { IfOk result (λ line. line.items
+        ≡ codes "rejected structure at line " ++ decimal number ++ codes ": "
+        ++ structure_cause_text cause ++ codes "\n") }
+{
+    let mut buffer = Buffer::new();
+    let mut line = Vec::from_slice(alloc, b"rejected structure at line ")?;
+    line.extend_from_slice(buffer.format(number).as_bytes())?;
+    line.extend_from_slice(b": ")?;
+    line.extend_from_slice(structure_cause_text(cause))?;
     line.extend_from_slice(b"\n")?;
     Ok(line)
 }
