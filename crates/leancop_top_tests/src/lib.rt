@@ -10,6 +10,8 @@ mod file_tests;
 #[cfg(test)]
 mod make_tests;
 #[cfg(test)]
+mod model_tests;
+#[cfg(test)]
 mod prove_tests;
 #[cfg(test)]
 mod runs;
