@@ -6,9 +6,7 @@ use Rattle.calculus.specs.DerivationText.{IsTermAt, term_is_written, terms_are_w
 use Rattle.calculus.specs.Lists.{terms_tree}
 use Rattle.calculus.specs.Text.{name_text, term_text}
 use Rattle.formula_text.proofs.Frames.{frames-pop, frames-push, go-on, go-out, out-written, stack-push, terms-push}
-use Rattle.formula_text.proofs.Places.{stands-by}
-use Rattle.formula_text.specs.Frames.{IsFunction, IsWhole, NoTerm, frames_are_written, stack_text}
-use Rattle.formula_text.specs.declared.term_reader.Frame.{Frame}
+use Rattle.formula_text.specs.Frames.{Frame, IsFunction, NoTerm, frames_are_written, stack_text}
 
 abbrev pub new_frame : List ℕ → List Term → Frame
 new_frame name args = record { name = name; args = args }
@@ -25,10 +23,7 @@ pub none-at : (S : List Symbol) (items stack : List Frame) (v : Term) (after nex
     → NoTerm S (stack_text S stack ++ (term_text S 0 v ++ next)) → NoTerm S read
 none-at S items stack v after next read p q e h = subst (NoTerm S) (read-at S items stack v after next read p q e) h
 
-pub written-at : (S : List Symbol) (items stack : List Frame) → items ≡ stack → IsTrue (frames_are_written S items) → IsTrue (frames_are_written S stack)
-written-at S items stack p h = subst (λ l. IsTrue (frames_are_written S l)) p h
-
-pub one_more : (ts args : List Term) (v : Term) → args ≡ ts ++ v ∷ [] → length args ≡ length ts + 1
+one_more : (ts args : List Term) (v : Term) → args ≡ ts ++ v ∷ [] → length args ≡ length ts + 1
 one_more ts args v e = ap length e ∙ length-append ts (v ∷ [])
 
 -- a comma
@@ -78,14 +73,6 @@ open-onward bytes name place end h k e = let l = ap length e in omega (arith, l,
 
 pub onward : (bytes t : List ℕ) (place end : ℕ) → place ≤ length bytes → end ≤ length bytes → drop place bytes ≡ t ++ drop end bytes → place ≤ end
 onward bytes t place end h k e = let l = ap length e in omega (arith, l, length-append t (drop end bytes), length-drop place bytes, length-drop end bytes)
-
-pub term-here : (S : List Symbol) (bytes : List ℕ) (from place end to : ℕ) (items : List Frame) (t u : Term) → from ≤ length bytes → drop from bytes ≡ stack_text S items ++ drop place bytes → drop place bytes ≡ term_text S 0 t ++ drop end bytes
-    → to ≤ length bytes → IsWhole S (stack_text S items ++ (term_text S 0 t ++ drop end bytes)) (drop to bytes) u → IsTermAt S bytes from to u
-term-here S bytes from place end to items t u within e h here k = record {
-  written = k.written;
-  stands = stands-by bytes (term_text S 0 u) from to within here (e ∙ ap (λ l. stack_text S items ++ l) h ∙ k.text);
-  ends = k.ends;
-}
 
 pub no_term-at : (S : List Symbol) (bytes : List ℕ) (from : ℕ) → NoTerm S (drop from bytes) → (to : ℕ) (t : Term) → ¬ IsTermAt S bytes from to t
 no_term-at S bytes from none to t h = none t (drop to bytes) h.written h.ends h.stands.there

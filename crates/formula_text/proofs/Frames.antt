@@ -14,8 +14,7 @@ use Rattle.calculus.specs.Problems.{are_distinct}
 use Rattle.calculus.specs.Text.{Ends, StopsAt, args_text, is_ending, is_word_byte, more_args_text, name_text, symbol_at, symbol_text, term_text, text_by_class}
 use Rattle.calculus.proofs.TextLaws.{cons-head, cons-tail, name-dollar, name-split, nil-cons}
 use Rattle.calculus.proofs.TermTextLaws.{ends-word, term-split}
-use Rattle.formula_text.specs.Frames.{IsFunction, NoFunction, NoTerm, args_front, frame_text, frames_are_written, stack_text}
-use Rattle.formula_text.specs.declared.term_reader.Frame.{Frame}
+use Rattle.formula_text.specs.Frames.{Frame, IsFunction, NoFunction, NoTerm, args_front, frame_text, frames_are_written, stack_text}
 
 -- ---- function symbols
 

@@ -14,3 +14,6 @@ pub mod Passing
 pub mod TermTexts
 pub mod AtomTexts
 pub mod FormulaTexts
+pub mod RowLaws
+pub mod RowsRead
+pub mod StandingLaws

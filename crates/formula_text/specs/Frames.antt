@@ -1,16 +1,15 @@
 -- Terms that are open: the text that was read of them, the outermost first.
-use Rattle.std.specs.Prelude.{◌≡◌, ⊤, ◌<◌, ◌≤◌, ℕ, List, [], ◌∷◌, ◌++◌, Bool, true, false, ◌&&◌, IsTrue, Some, slice_get, Contains, length, drop}
+use Rattle.std.specs.Prelude.{◌≡◌, ℕ, List, [], ◌∷◌, ◌++◌, Bool, true, false, ◌&&◌, IsTrue, Some, slice_get, Contains, drop}
 use Rattle.calculus.specs.declared.symbol.SymbolClass.TheVariants.{Function}
 use Rattle.calculus.specs.Syntax.{Symbol, Term, var, fun, eigen, spare}
 use Rattle.calculus.specs.DerivationText.{term_is_written, terms_are_written}
 use Rattle.calculus.specs.Lists.{terms_tree}
 use Rattle.calculus.specs.Text.{Ends, name_text, term_text}
-use Rattle.formula_core.specs.TermView.{the_term}
-use Rattle.formula_text.specs.declared.term_reader.Frame.{Frame}
-use Rattle.formula_text.specs.declared.term_reader.Head.{Head}
-use Rattle.formula_text.specs.declared.term_reader.Head.TheVariants.{Open, Whole as WholeHead}
-use Rattle.formula_text.specs.declared.term_reader.Closed.{Closed}
-use Rattle.formula_text.specs.declared.term_reader.Closed.TheVariants.{More, Whole as WholeTerm}
+
+-- a term whose arguments are being read: its name, and those that are whole
+pub record Frame : Type 0 where
+  pub name : List ℕ
+  pub args : List Term
 
 -- arguments with a comma after each
 abbrev pub args_front : List Symbol → List Term → List ℕ
@@ -55,18 +54,3 @@ is_made (spare n) = true
 pub record IsMadeAt (bytes : List ℕ) (from to : ℕ) (t : Term) : Type 0 where
   pub made : IsTrue (is_made t)
   pub whole : IsWhole [] (drop from bytes) (drop to bytes) t
-
--- how a term begins at a place
-abbrev pub IsHead : List Symbol → List ℕ → ℕ → Head → Type 0
-IsHead symbols bytes from (Open name end) = (drop from bytes ≡ name_text name ++ 40 ∷ drop end bytes) × (end ≤ length bytes)
-IsHead symbols bytes from (WholeHead t end) = IsWhole symbols (drop from bytes) (drop end bytes) (the_term t) × (end ≤ length bytes)
-
--- what the open terms are after a further term: they read the same bytes
-abbrev pub IsClosed : List Symbol → List ℕ → List ℕ → List Frame → Closed → Type 0
-IsClosed symbols bytes read stack (More end) = (read ≡ stack_text symbols stack ++ drop end bytes) × IsTrue (frames_are_written symbols stack) × (end ≤ length bytes)
-IsClosed symbols bytes read stack (WholeTerm t end) = IsWhole symbols read (drop end bytes) (the_term t) × (end ≤ length bytes)
-
--- a further argument stands after the place
-abbrev pub IsFurther : ℕ → Closed → Type 0
-IsFurther place (More end) = place < end
-IsFurther place (WholeTerm t end) = ⊤

@@ -6,3 +6,7 @@ pub mod Quoted
 pub mod Single
 pub mod Marks
 pub mod Frames
+pub mod Rows
+pub mod ItemHash
+pub mod RowReading
+pub mod Standing

@@ -5,9 +5,9 @@
 //! spellings of a value, as `f(a, b)`, `'a'` and `$$e01`, are refused.
 //!
 //! # Depth
-//! The open terms of a text stand on a stack on the heap while they are read, at most 20,000 of them; a term that stands in more is
-//! answered as where memory ends, so that what is read can be copied and dropped. These call themselves as deep as the term is, and so
-//! does writing: in a program as `rt run` builds it, on a stack of 8 MB, writing passes at 104,000 levels and dies at 105,000, dropping
+//! A term is read into a row, with its open terms on a stack on the heap, so that memory alone bounds its depth. As a tree it has at
+//! most 20,001 levels; a deeper one is answered as where memory ends, so that trees can be copied and dropped. These call themselves as
+//! deep as the term is, and so does writing: in a program as `rt run` builds it, on a stack of 8 MB, writing passes at 104,000 levels and dies at 105,000, dropping
 //! passes at 130,000 and dies at 131,000, and `Term::copy` of `formula_core` passes at 29,000 and dies at 30,000.
 #![tactic(auto, using(crate::proofs::Extending::extending))]
 
@@ -19,10 +19,13 @@ mod label_reader;
 mod name;
 mod name_reader;
 mod read;
+mod row_reader;
+mod row_term;
 mod scan;
 mod setting;
 mod term;
 mod term_reader;
+mod term_row;
 
 pub use append::{write_bytes, write_number};
 pub use formula::write_formula;
@@ -31,7 +34,10 @@ pub use label_reader::read_label;
 pub use name::write_name;
 pub use name_reader::read_name;
 pub use read::TextRead;
+pub use row_reader::read_row;
+pub use row_term::term_of;
 pub use scan::read_number;
 pub use setting::write_setting;
 pub use term::write_term;
 pub use term_reader::read_term;
+pub use term_row::{RowItem, TermRow, add_row};
