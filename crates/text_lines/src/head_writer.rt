@@ -1,0 +1,31 @@
+//! Writing the head.
+
+ghost use Rattle.std.specs.Prelude.{◌≡◌, ◌++◌, OnOk};
+ghost use Rattle.std.specs.List.{flat_map};
+ghost use Rattle.calculus.specs.DerivationText.{line_bytes};
+ghost use Rattle.text_lines.specs.Head.{head_of};
+
+use cop_base::NoMemory;
+use formula_text::{write_bytes, write_formula, write_number, write_setting};
+use logic_rules::Problem;
+
+/// Appends a head with this first line. Where memory ends a part of it may be left.
+pub fn write_head(
+    out: &mut Vec<u8>,
+    problem: &Problem,
+    first: &[u8],
+    limit: u8,
+) -> Result<(), NoMemory>
+    ensures { OnOk result (out.new.items
+        ≡ out.old.items ++ flat_map line_bytes (head_of first.now problem.now limit)) }
+{
+    write_bytes(out, first)?;
+    write_bytes(out, b"\nlogic ")?;
+    write_setting(out, problem.setting())?;
+    write_bytes(out, b"\nformula ")?;
+    write_formula(out, problem.symbols(), problem.formula())?;
+    write_bytes(out, b"\nlimit ")?;
+    write_number(out, u64::from(limit))?;
+    write_bytes(out, b"\n")?;
+    Ok(())
+}
