@@ -1,4 +1,4 @@
-pub mod RowLaws
+pub mod FollowingLaws
 pub mod ChainLaws
 pub mod PuttingLaws
 pub mod TableLaws

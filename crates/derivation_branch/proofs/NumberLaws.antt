@@ -10,12 +10,13 @@ use Rattle.calculus.specs.Equality.{term_eq}
 use Rattle.calculus.specs.Syntax.{Term}
 use Rattle.derivation_branch.specs.Occurring.{IsLonger}
 use Rattle.derivation_branch.specs.RowNumbers.{AreNumbered, AreRowsApart, IsNumberOf}
-use Rattle.derivation_branch.specs.Rows.{row_of}
+use Rattle.formula_text.specs.Rows.{row_of}
 use Rattle.derivation_branch.specs.TableView.{the_value}
 use Rattle.derivation_branch.specs.declared.substitution.Binding.{Binding}
-use Rattle.derivation_branch.specs.declared.term_row.RowItem.{RowItem}
+use Rattle.formula_text.specs.declared.term_row.RowItem.{RowItem}
 use Rattle.derivation_branch.specs.contracts.term_row.RowItemPartialEq.TheImpl.{eq-value}
-use Rattle.derivation_branch.proofs.RowLaws.{row-same, same-told, other-told}
+use Rattle.derivation_branch.proofs.FollowingLaws.{same-told, other-told}
+use Rattle.formula_text.proofs.RowLaws.{row-same}
 use Rattle.derivation_branch.proofs.TableLaws.{longer-at, longer-size}
 
 -- ---- rows

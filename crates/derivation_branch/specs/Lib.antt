@@ -1,5 +1,3 @@
-pub mod Rows
-pub mod ItemHash
 pub mod RowNumbers
 pub mod Chains
 pub mod Putting

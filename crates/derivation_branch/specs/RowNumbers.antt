@@ -1,10 +1,10 @@
 -- Large terms are told apart by the places of their rows.
 use Rattle.std.specs.Prelude.{◌≡◌, ⊤, ℕ, ◌-◌, ◌<◌, ◌≤◌, List, [], ◌∷◌, length, get_or}
 use Rattle.calculus.specs.Syntax.{Term}
-use Rattle.derivation_branch.specs.Rows.{row_of}
+use Rattle.formula_text.specs.Rows.{row_of}
 use Rattle.derivation_branch.specs.TableView.{the_value}
 use Rattle.derivation_branch.specs.declared.substitution.Binding.{Binding}
-use Rattle.derivation_branch.specs.declared.term_row.RowItem.{RowItem}
+use Rattle.formula_text.specs.declared.term_row.RowItem.{RowItem}
 
 -- no row comes twice
 abbrev pub AreRowsApart : List (List RowItem) → Type 0

@@ -7,15 +7,15 @@ ghost use Rattle.calculus.specs.Lists.{terms_tree};
 ghost use Rattle.calculus.specs.Syntax as tree;
 ghost use Rattle.derivation_branch.specs.EntryView.{IsHeadWithin, formula_under, the_head};
 ghost use Rattle.derivation_branch.specs.EntryView.{term_under};
-ghost use Rattle.derivation_branch.specs.Rows.{row_of, rows_of};
+ghost use Rattle.formula_text.specs.Rows.{row_of, rows_of};
 ghost use Rattle.formula_core.specs.FormulaView.{the_formula};
 ghost use Rattle.formula_core.specs.TermView.{the_term};
 
 use crate::following::{after_item, after_items, after_symbol, is_whole};
 use crate::substitution::{Substitutions, Value};
-use crate::term_row::{RowItem, TermRow};
 use cop_base::SymbolId;
 use formula_core::{Formula, Term, Terms};
+use formula_text::{RowItem, TermRow};
 
 /// What a term is under a substitution: a row, a leaf, or a function symbol over arguments, which
 /// stand under the substitution at a place of the table.

@@ -3,10 +3,10 @@
 ghost use Rattle.std.specs.Prelude.{◌≡◌, ◌++◌, ◌∷◌, List, IsNone, IfSome};
 ghost use Rattle.calculus.specs.Equality.{term_eq};
 ghost use Rattle.calculus.specs.Syntax as tree;
-ghost use Rattle.derivation_branch.specs.Rows.{row_of};
+ghost use Rattle.formula_text.specs.Rows.{row_of};
 
-use crate::term_row::RowItem;
 use cop_base::SymbolId;
+use formula_text::RowItem;
 
 /// What follows an item at the beginning of a row.
 pub fn after_item(items: &[RowItem], item: RowItem) -> Option<&[RowItem]>

@@ -6,8 +6,8 @@ ghost use Rattle.calculus.specs.Substitution.{any_leaf};
 ghost use Rattle.derivation_branch.specs.Occurring.{IsLonger, holds};
 
 use crate::number_set::NumberSet;
-use crate::term_row::{RowItem, TermRow};
 use cop_base::NoMemory;
+use formula_text::{RowItem, TermRow};
 
 /// Adds the eigenvariables of a term to a set.
 pub fn add_eigens(set: &mut NumberSet, t: &TermRow) -> Result<(), NoMemory>

@@ -15,7 +15,6 @@ mod relations;
 mod row_set;
 mod scope;
 mod substitution;
-mod term_row;
 
 pub use addition::{Added, added_by};
 pub use comparison::are_same_atom;
@@ -26,4 +25,3 @@ pub use number_set::NumberSet;
 pub use outline::{Node, Outline};
 pub use relations::{is_home_at, reaches};
 pub use substitution::{Substitutions, Value};
-pub use term_row::{RowItem, TermRow, add_row};

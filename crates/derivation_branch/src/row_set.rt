@@ -4,12 +4,12 @@ ghost use Rattle.std.specs.Prelude.{◌≡◌, ◌<◌, ◌≤◌, [], length, I
 ghost use Rattle.calculus.specs.Equality.{term_eq};
 ghost use Rattle.calculus.specs.Syntax as tree;
 ghost use Rattle.derivation_branch.specs.Occurring.{IsLonger};
-ghost use Rattle.derivation_branch.specs.Rows.{row_of};
+ghost use Rattle.formula_text.specs.Rows.{row_of};
 ghost use Rattle.derivation_branch.specs.RowNumbers.{IsNumberOf};
 
 use crate::places::place_of;
-use crate::term_row::{RowItem, TermRow};
 use cop_base::NoMemory;
+use formula_text::{RowItem, TermRow};
 use indexmap::IndexSet;
 use std::alloc::Global;
 use std::marker::Model;
@@ -23,7 +23,7 @@ pub struct RowSet<'a> {
 impl<'a> Model for RowSet<'a> {
     ghost use Rattle.std.specs.Prelude.{List, map};
     ghost use Rattle.derivation_branch.specs.RowNumbers.{AreRowsApart};
-    ghost use Rattle.derivation_branch.specs.declared.term_row.RowItem.{RowItem as Item};
+    ghost use Rattle.formula_text.specs.declared.term_row.RowItem.{RowItem as Item};
 
     ghost Value = { List (List Item) };
 

@@ -7,14 +7,14 @@ ghost use Rattle.calculus.specs.Syntax as tree;
 ghost use Rattle.derivation_branch.specs.Occurring.{IsLonger};
 ghost use Rattle.derivation_branch.specs.Putting.{AreClosed, IsClosed, value_at};
 ghost use Rattle.derivation_branch.specs.RowNumbers.{IsNumberOf};
-ghost use Rattle.derivation_branch.specs.Rows.{row_of};
+ghost use Rattle.formula_text.specs.Rows.{row_of};
 ghost use Rattle.derivation_branch.specs.TableView.{the_value};
 
 use crate::following::is_same_row;
 use crate::places::place_of;
 use crate::row_set::RowSet;
-use crate::term_row::{RowItem, TermRow};
 use cop_base::NoMemory;
+use formula_text::{RowItem, TermRow};
 use std::alloc::Global;
 use std::marker::Model;
 

@@ -7,13 +7,14 @@ ghost use Rattle.calculus.specs.Substitution.{any_leaf};
 ghost use Rattle.calculus.specs.Syntax as tree;
 ghost use Rattle.derivation_check.specs.HomesView.{AreHomes, IsSpareHome};
 ghost use Rattle.derivation_check.specs.HomesView.{is_forbidden_at, is_place_allowed};
-ghost use Rattle.derivation_branch.specs.Rows.{any_item};
+ghost use Rattle.formula_text.specs.Rows.{any_item};
 ghost use Rattle.derivation_text.specs.RowView.{the_row_arg};
 ghost use Rattle.sequent_calc.specs.DerivationView.{the_names};
 
 use crate::homes::{Homes, Place};
-use derivation_branch::{Labels, RowItem, TermRow, is_home_at};
+use derivation_branch::{Labels, is_home_at};
 use derivation_text::RowArg;
+use formula_text::{RowItem, TermRow};
 use logic_rules::Problem;
 use sequent_calc::{Names, eigen_named, spare_named};
 

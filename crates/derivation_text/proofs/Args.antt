@@ -7,8 +7,9 @@ use Rattle.calculus.specs.DerivationText.{is_name_number, label_is_written, home
 use Rattle.calculus.specs.Text.{Ends, is_number, label_text}
 use Rattle.calculus.proofs.TextLaws.{cons-tail}
 use Rattle.calculus.proofs.TermTextLaws.{ends-digit}
-use Rattle.derivation_text.specs.Spelling.{AreArgs, IsEigen, IsHome, IsLabel, IsLabelAndArg, IsLabelBefore, IsNameNumberAndArg, IsNumber, IsNumberBefore, IsNumberPair, IsSpare, IsTermArg, IsUse}
-use Rattle.derivation_text.proofs.Parts.{label-unique, number-unique}
+use Rattle.derivation_text.specs.Spelling.{AreArgs, IsEigen, IsHome, IsLabelAndArg, IsNameNumberAndArg, IsNumberPair, IsSpare, IsTermArg, IsUse}
+use Rattle.text_lines.proofs.PartLaws.{label-unique, number-unique}
+use Rattle.text_lines.specs.Spelling.{IsLabel, IsLabelBefore, IsNumber, IsNumberBefore}
 
 -- lists that differ at a place
 pub differ : (xs ys : List ℕ) (k : ℕ) → xs ≡ ys → (get_or xs k 0 == get_or ys k 0) ≡ false → ⊥

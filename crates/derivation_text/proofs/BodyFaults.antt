@@ -15,7 +15,8 @@ use Rattle.logic_rules.proofs.ProblemFacts.{kept}
 use Rattle.derivation_text.specs.declared.body_line.Stage.{Stage}
 use Rattle.derivation_text.specs.declared.body_line.Stage.TheVariants.{Eigens, Spares, Steps, Ended}
 use Rattle.derivation_text.specs.Body.{BodyLine, last, IsBodyLine, body_line_text, body_line_is_written, stage_after, stage_after_lines, names_and_steps}
-use Rattle.derivation_text.specs.Reading.{Fits, IsLineAt, IsReadTo, cause_at_stage, ending, lines_at, lines_read}
+use Rattle.derivation_text.specs.Reading.{Fits, IsReadTo, cause_at_stage, ending, lines_at, lines_read}
+use Rattle.text_lines.specs.Lines.{IsLineAt}
 use Rattle.derivation_text.proofs.Args.{cut}
 use Rattle.derivation_text.proofs.BodyLaws.{body, body-begins, body-ends, body-written, lines-body, lines-of, map-append, printable-so_far, stage-append, stage-none}
 use Rattle.derivation_text.proofs.Faults.{IsBegun, faulty}

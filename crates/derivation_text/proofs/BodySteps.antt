@@ -9,9 +9,10 @@ use Rattle.calculus.specs.DerivationText.{head_lines, is_limit, line_bytes}
 use Rattle.derivation_text.specs.declared.body_line.Stage.{Stage}
 use Rattle.derivation_text.specs.declared.body_line.Stage.TheVariants.{Eigens, Spares, Steps, Ended}
 use Rattle.derivation_text.specs.Body.{BodyLine, of_eigen, of_spare, of_step, last, IsBodyLine, body_line_text, body_line_is_written, stage_after, stage_after_lines, names_and_steps}
-use Rattle.derivation_text.specs.Reading.{AreRead, Fits, IsLineAt, IsReadTo, lines_at, lines_read, with_line}
+use Rattle.derivation_text.specs.Reading.{Fits, IsReadTo, lines_at, lines_read, with_line}
+use Rattle.text_lines.specs.Lines.{AreRead, IsLineAt}
 use Rattle.derivation_text.proofs.BodyLaws.{map-append, stage-append}
-use Rattle.derivation_text.proofs.HeadFaults.{more-read}
+use Rattle.text_lines.proofs.WholeLines.{more-read}
 
 -- ---- the lists after a line
 

@@ -10,7 +10,8 @@ use Rattle.calculus.specs.Judgement.{whole_lines}
 use Rattle.derivation_text.specs.declared.body_line.Stage.{Stage}
 use Rattle.derivation_text.specs.declared.body_line.Stage.TheVariants.{Ended}
 use Rattle.derivation_text.specs.Body.{BodyLine, IsBodyLine, stage_after}
-use Rattle.derivation_text.specs.Reading.{IsFaultOf, IsLineAt, IsReadTo, cause_at_stage, lines_read, with_line}
+use Rattle.derivation_text.specs.Reading.{IsFaultOf, IsReadTo, cause_at_stage, lines_read, with_line}
+use Rattle.text_lines.specs.Lines.{IsLineAt}
 use Rattle.derivation_text.proofs.BodyFaults.{cause-at_stage, fault-at_end, fault-at_line, text-read}
 use Rattle.derivation_text.proofs.BodySteps.{body-more, goes-on, lines-more}
 

@@ -10,5 +10,3 @@ pub mod HeadFaults
 pub mod BodySteps
 pub mod Endings
 pub mod FormulaLines
-pub mod RowsRead
-pub mod StandingLaws

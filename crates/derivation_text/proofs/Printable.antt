@@ -1,12 +1,11 @@
 -- What a derivation that can be printed keeps, and its text in pieces.
-use Rattle.std.proofs.Common.{◌≡◌, ℕ, List, [], ◌∷◌, ◌++◌, map, ◌&&◌, IsTrue, ◌∙◌, refl, append_assoc, append-nil, decimal, codes}
+use Rattle.std.proofs.Common.{◌≡◌, ℕ, List, [], ◌∷◌, ◌++◌, map, ◌&&◌, IsTrue, ◌∙◌, refl, append_assoc, codes}
 use Rattle.std.specs.List.{flat_map, list_all}
 use Rattle.std.proofs.lemmas.Bool.{and_parts}
 use Rattle.std.proofs.lemmas.Grind.{flat_map-append}
 use Rattle.calculus.specs.Syntax.{Problem}
 use Rattle.calculus.specs.Derivations.{EigenName, SpareName, Derivation}
-use Rattle.calculus.specs.DerivationText.{IsText, eigen_line, head_lines, is_limit, is_printable, line_bytes, names_are_written, rises_from, setting_text, spare_line, step_is_written, step_line}
-use Rattle.calculus.specs.Text.{formula_text}
+use Rattle.calculus.specs.DerivationText.{IsText, eigen_line, head_lines, is_limit, is_printable, line_bytes, names_are_written, rises_from, spare_line, step_is_written, step_line}
 use Rattle.derivation_text.specs.Written.{eigen_is_written, spare_is_written}
 
 pub record Parts (P : Problem) (d : Derivation) : Type 0 where
@@ -40,23 +39,3 @@ text-by_steps P d a b c e f h p q r s t = record {
   where
     pieces : (a b c e f hs es ss xs ls : List ℕ) → a ≡ hs → b ≡ a ++ es → c ≡ b ++ ss → e ≡ c ++ xs → f ≡ e ++ ls → f ≡ hs ++ es ++ ss ++ xs ++ ls
     pieces a b c e f hs es ss xs ls p q r s t = rw (t, s, r, q, p) refl
-
--- the lines of a head, by the texts in them
-head_with : List ℕ → List ℕ → List ℕ → List (List ℕ)
-head_with setting formula limit = codes "leancop derivation 1" ∷ (codes "logic " ++ setting) ∷ (codes "formula " ++ formula) ∷ (codes "limit " ++ limit) ∷ []
-
-glued : (a k l m n p s t u : List ℕ) → a ++ (k ++ l) ++ s ++ (p ++ m) ++ t ++ (p ++ n) ++ u ++ p ≡ a ++ (k ++ (((l ++ s) ++ p) ++ (((m ++ t) ++ p) ++ (((n ++ u) ++ p) ++ []))))
-glued a k l m n p s t u = simp (append_assoc, append-nil)
-
-pieces_of_head : (s t u a b c d e f g h : List ℕ)
-    → b ≡ a ++ codes "leancop derivation 1\nlogic " → c ≡ b ++ s → d ≡ c ++ codes "\nformula " → e ≡ d ++ t
-    → f ≡ e ++ codes "\nlimit " → g ≡ f ++ u → h ≡ g ++ 10 ∷ [] → h ≡ a ++ flat_map line_bytes (head_with s t u)
-unfolding head_with
-pieces_of_head s t u a b c d e f g h p q r v w x y = rw (y, x, w, v, r, q, p) (glued a (codes "leancop derivation 1\n") (codes "logic ") (codes "formula ") (codes "limit ") (codes "\n") s t u)
-
--- the head written piece by piece
-pub head-by_steps : (P : Problem) (n : ℕ) (a b c d e f g h : List ℕ)
-    → b ≡ a ++ codes "leancop derivation 1\nlogic " → c ≡ b ++ setting_text P.setting → d ≡ c ++ codes "\nformula " → e ≡ d ++ formula_text P.symbols 0 P.formula
-    → f ≡ e ++ codes "\nlimit " → g ≡ f ++ decimal n → h ≡ g ++ 10 ∷ [] → h ≡ a ++ flat_map line_bytes (head_lines P n)
-unfolding head_with
-head-by_steps P n a b c d e f g h = pieces_of_head (setting_text P.setting) (formula_text P.symbols 0 P.formula) (decimal n) a b c d e f g h

@@ -5,8 +5,8 @@ use Rattle.calculus.specs.Derivations.{EigenName, SpareName, Step}
 use Rattle.calculus.specs.DerivationText.{eigen_line, spare_line, step_is_written, step_line}
 use Rattle.derivation_text.specs.declared.body_line.Stage.{Stage}
 use Rattle.derivation_text.specs.declared.body_line.Stage.TheVariants.{Eigens, Spares, Steps, Ended}
-use Rattle.derivation_text.specs.Spelling.{Spells}
 use Rattle.derivation_text.specs.Written.{eigen_is_written, spare_is_written}
+use Rattle.text_lines.specs.Spelling.{Spells}
 
 pub data BodyLine : Type 0 where
   of_eigen : EigenName → BodyLine

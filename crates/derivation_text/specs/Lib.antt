@@ -5,6 +5,4 @@ pub mod BodyView
 pub mod Reading
 pub mod RowView
 pub mod RowDerivationView
-pub mod RowReading
-pub mod Standing
 pub mod Single

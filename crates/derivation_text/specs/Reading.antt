@@ -1,15 +1,19 @@
 -- How far a text has been read as a derivation.
-use Rattle.std.specs.Prelude.{◌≡◌, ◌≢◌, ⊤, ℕ, ◌+◌, ◌≤◌, List, [], ◌∷◌, ◌++◌, length, map, drop, true, IsTrue, Option, Some}
-use Rattle.std.specs.List.{list_all, flat_map}
+use Rattle.std.specs.Prelude.{◌≡◌, ◌≢◌, ⊤, ℕ, ◌+◌, List, [], ◌∷◌, ◌++◌, map, true, IsTrue, Option, Some, codes}
+use Rattle.std.specs.List.{list_all}
 use Rattle.calculus.specs.declared.fault.TextCause.{TextCause}
 use Rattle.calculus.specs.declared.fault.TextCause.TheVariants as cause
 use Rattle.calculus.specs.Syntax.{Problem}
 use Rattle.calculus.specs.Derivations.{Derivation}
-use Rattle.calculus.specs.DerivationText.{head_lines, is_limit, line_bytes}
-use Rattle.calculus.specs.Judgement.{IsFaulty, cause_among_names, cause_at, whole_lines}
+use Rattle.calculus.specs.DerivationText.{head_lines, is_limit}
+use Rattle.calculus.specs.Judgement.{IsFaulty, cause_among_names, cause_at}
 use Rattle.derivation_text.specs.declared.body_line.Stage.{Stage}
 use Rattle.derivation_text.specs.declared.body_line.Stage.TheVariants.{Eigens, Spares, Steps, Ended}
 use Rattle.derivation_text.specs.Body.{BodyLine, of_eigen, of_spare, of_step, last, body_line_is_written, body_line_text, names_and_steps, stage_after_lines}
+use Rattle.text_lines.specs.Head as head
+use Rattle.text_lines.specs.Lines.{AreRead}
+use Rattle.text_lines.specs.declared.head_line.HeadLine.{HeadLine}
+use Rattle.text_lines.specs.declared.head_line.HeadLine.TheVariants.{First, Setting, Formula, Limit}
 
 -- the `end` line, where it has been read
 abbrev pub ending : Stage → List BodyLine
@@ -37,16 +41,9 @@ with_line d last = record { limit = d.limit; names = record { eigens = d.names.e
 abbrev pub lines_read : Problem → Stage → Derivation → List (List ℕ)
 lines_read P stage d = head_lines P d.limit ++ map (body_line_text P.symbols) (lines_at stage d)
 
--- the bytes begin with these lines, and are read up to this place
-pub record AreRead (bytes : List ℕ) (lines : List (List ℕ)) (place : ℕ) : Type 0 where
-  pub within : place ≤ length bytes
-  pub whole : whole_lines bytes ≡ lines ++ whole_lines (drop place bytes)
-  pub text : bytes ≡ flat_map line_bytes lines ++ drop place bytes
-
 -- the head, with this limit, is read up to this place
-pub record IsHeadRead (P : Problem) (bytes : List ℕ) (place top : ℕ) : Type 0 where
-  pub limit : IsTrue (is_limit top)
-  pub lines : AreRead bytes (head_lines P top) place
+abbrev pub IsHeadRead : Problem → List ℕ → ℕ → ℕ → Type 0
+IsHeadRead P bytes place top = head.IsHeadRead (codes "leancop derivation 1") P bytes place top
 
 -- what has been read up to this place is the beginning of a derivation
 pub record IsReadTo (P : Problem) (bytes : List ℕ) (place : ℕ) (stage : Stage) (d : Derivation) : Type 0 where
@@ -55,12 +52,6 @@ pub record IsReadTo (P : Problem) (bytes : List ℕ) (place : ℕ) (stage : Stag
   pub written : IsTrue (list_all (body_line_is_written P.symbols) (lines_at stage d))
   pub order : stage_after_lines (Some (Eigens 0)) (lines_at stage d) ≡ Some stage
   pub fits : Fits stage d
-
--- a whole line stands at the place `from`, and `to` is the place after its line feed
-pub record IsLineAt (bytes : List ℕ) (from to : ℕ) (line : List ℕ) : Type 0 where
-  pub within : to ≤ length bytes
-  pub whole : whole_lines (drop from bytes) ≡ line ∷ whole_lines (drop to bytes)
-  pub text : drop from bytes ≡ line ++ 10 ∷ drop to bytes
 
 -- the cause of a fault after the head, by the next line
 abbrev pub cause_at_stage : Stage → Option (List ℕ) → TextCause
@@ -72,3 +63,16 @@ cause_at_stage Ended next = cause.TextAfterEnd
 -- the bytes are no text, and this is the number and the cause of the first wrong line
 abbrev pub IsFaultOf : Problem → List ℕ → ℕ → TextCause → Type 0
 IsFaultOf P bytes line why = (n : ℕ) × (line ≡ n + 1) × IsFaulty P bytes n × (why ≡ cause_at bytes n)
+
+-- the number and the cause of a wrong line of the head
+abbrev pub head_number : HeadLine → ℕ
+head_number First = 1
+head_number Setting = 2
+head_number Formula = 3
+head_number Limit = 4
+
+abbrev pub head_cause : HeadLine → TextCause
+head_cause First = cause.Version
+head_cause Setting = cause.Setting
+head_cause Formula = cause.Formula
+head_cause Limit = cause.Limit

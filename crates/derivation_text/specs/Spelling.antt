@@ -1,35 +1,10 @@
 -- What the parts of a line spell.
-use Rattle.std.specs.Prelude.{◌≡◌, ℕ, List, ◌∷◌, ◌++◌, Bool, ◌&&◌, IsTrue, decimal}
+use Rattle.std.specs.Prelude.{ℕ, List, ◌∷◌, ◌++◌, ◌&&◌, decimal}
 use Rattle.calculus.specs.Syntax.{Symbol, Term}
 use Rattle.calculus.specs.Derivations.{Label, Home, ModalArg, TermArg, Step}
-use Rattle.calculus.specs.DerivationText.{home_is_written, home_text, is_limit, is_name_number, label_is_written, modal_is_written, modal_text, step_is_written, step_line, term_arg_is_written, term_arg_text, term_is_written}
-use Rattle.calculus.specs.Text.{Ends, StopsAt, is_digit, is_number, label_text, term_text}
-
--- the bytes are the text of a value, which can be written
-pub record Spells (test : Bool) (text bytes : List ℕ) : Type 0 where
-  pub written : IsTrue test
-  pub same : bytes ≡ text
-
--- the bytes begin with a number, before no digit
-pub record IsNumberBefore (bytes : List ℕ) (n : ℕ) (rest : List ℕ) : Type 0 where
-  pub small : IsTrue (is_number n)
-  pub all : bytes ≡ decimal n ++ rest
-  pub stops : StopsAt is_digit rest
-
--- the bytes begin with a label, before an ending byte or nothing
-pub record IsLabelBefore (bytes : List ℕ) (w : Label) (rest : List ℕ) : Type 0 where
-  pub written : IsTrue (label_is_written w)
-  pub all : bytes ≡ label_text w ++ rest
-  pub ends : Ends rest
-
-abbrev pub IsNumber : List ℕ → ℕ → Type 0
-IsNumber bytes n = Spells (is_number n) (decimal n) bytes
-
-abbrev pub IsNameNumber : List ℕ → ℕ → Type 0
-IsNameNumber bytes n = Spells (is_name_number n) (decimal n) bytes
-
-abbrev pub IsLabel : List ℕ → Label → Type 0
-IsLabel bytes w = Spells (label_is_written w) (label_text w) bytes
+use Rattle.calculus.specs.DerivationText.{home_is_written, home_text, is_name_number, label_is_written, modal_is_written, modal_text, step_is_written, step_line, term_arg_is_written, term_arg_text, term_is_written}
+use Rattle.calculus.specs.Text.{is_number, label_text, term_text}
+use Rattle.text_lines.specs.Spelling.{Spells}
 
 abbrev pub IsHome : List ℕ → Home → Type 0
 IsHome bytes h = Spells (home_is_written h) (home_text h) bytes
@@ -68,6 +43,3 @@ IsEigen bytes n w = Spells (is_number n && label_is_written w) (decimal n ++ (32
 -- a spare constant after `name $$s`
 abbrev pub IsSpare : List ℕ → ℕ → Home → Type 0
 IsSpare bytes n h = Spells (is_number n && home_is_written h) (decimal n ++ (32 ∷ home_text h)) bytes
-
-abbrev pub IsLimit : List ℕ → ℕ → Type 0
-IsLimit bytes n = Spells (is_limit n) (decimal n) bytes

@@ -8,11 +8,11 @@ ghost use Rattle.derivation_text.specs.BodyView.{the_body_line};
 
 use crate::body_line::{BodyLine, Stage, stage_after};
 use crate::name_line_reader::{read_eigen, read_spare};
-use crate::part_reader::rest_after;
 use crate::step_reader::read_step;
 use formula_text::TextRead;
 use logic_rules::Problem;
 use std::alloc::Global;
+use text_lines::rest_after;
 
 fn read_body_line(alloc: Global, problem: &Problem, text: &[u8]) -> Result<BodyLine, TextRead>
     ensures ok { IfOk result (λ x. IsBodyLine problem.now.symbols text.now (the_body_line x)) }

@@ -2,14 +2,26 @@
 
 ghost use Rattle.std.specs.Prelude.{◌≡◌, ℕ, Err, IfOk};
 ghost use Rattle.calculus.specs.Derivations as derivation;
-ghost use Rattle.derivation_text.specs.Spelling.{IsEigen, IsSpare};
+ghost use Rattle.derivation_text.specs.Spelling.{IsEigen, IsHome, IsSpare};
 ghost use Rattle.sequent_calc.specs.NamesView.{the_home};
 
-use crate::part_reader::{read_front_number, read_home, read_whole_label, rest_after};
 use formula_text::TextRead;
 use logic_rules::Label;
 use sequent_calc::Home;
 use std::alloc::Global;
+use text_lines::{read_front_number, read_whole_label, rest_after};
+
+// A home that is the whole text.
+fn read_home(alloc: Global, text: &[u8]) -> Result<Home, TextRead>
+    ensures ok { IfOk result (λ h. IsHome text.now (the_home h)) }
+    ensures none { result ≡ Err TextRead.None → (h : derivation.Home) → ¬ IsHome text.now h }
+{
+    if text == b"any".as_slice() {
+        return Ok(Home::Anywhere);
+    }
+    let label = read_whole_label(alloc, text)?;
+    Ok(Home::At(label))
+}
 
 /// The number and the home of an eigenvariable after `name $$e`.
 pub fn read_eigen(alloc: Global, text: &[u8]) -> Result<(u32, Label), TextRead>

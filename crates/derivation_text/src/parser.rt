@@ -17,7 +17,6 @@ use crate::causes::{cause_at_end, cause_at_line};
 use crate::conversion::derivation_of;
 use crate::fault::ParseFault;
 use crate::head_reader::read_head;
-use crate::lines::line_at;
 use crate::row_step::RowDerivation;
 use calculus::fault::TextCause;
 use cop_base::NoMemory;
@@ -25,6 +24,7 @@ use formula_text::TextRead;
 use logic_rules::Problem;
 use sequent_calc::Derivation;
 use std::alloc::Global;
+use text_lines::line_at;
 
 // Puts a line after those of a derivation.
 fn put_line(d: &mut RowDerivation, line: BodyLine) -> Result<(), NoMemory>

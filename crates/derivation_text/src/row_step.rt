@@ -5,7 +5,7 @@ ghost use Rattle.calculus.specs.Derivations as derivation;
 ghost use Rattle.derivation_text.specs.RowView.{the_row_arg, the_row_step};
 
 use cop_base::NoMemory;
-use derivation_branch::TermRow;
+use formula_text::TermRow;
 use sequent_calc::{ModalArg, Names};
 use std::alloc::Global;
 use std::marker::Model;

@@ -2,19 +2,32 @@
 
 ghost use Rattle.std.specs.Prelude.{◌≡◌, ◌++◌, ◌∷◌, [], ℕ, List, Err, IsTrue, IsNone, IfSome, IfOk};
 ghost use Rattle.calculus.specs.Derivations as derivation;
-ghost use Rattle.derivation_text.specs.Spelling.{AreArgs, IsLabelAndArg, IsNameNumberAndArg, IsNumberPair, IsStep, IsTermArg, IsUse};
+ghost use Rattle.calculus.specs.Syntax as tree;
+ghost use Rattle.derivation_text.specs.Spelling.{AreArgs, IsLabelAndArg, IsNameNumberAndArg, IsNumberPair, IsStep, IsTerm, IsTermArg, IsUse};
 ghost use Rattle.derivation_text.specs.RowView.{the_row_arg, the_row_step};
 ghost use Rattle.sequent_calc.specs.StepView.{the_modal};
 
-use crate::part_reader::{
-    read_front_label, read_front_number, read_name_number, read_whole_number, rest_after,
-};
-use crate::row_reader::read_whole_row;
 use crate::row_step::{RowArg, RowStep};
-use formula_text::TextRead;
+use formula_text::{TermRow, TextRead, read_row};
 use logic_rules::{Label, Problem};
 use sequent_calc::ModalArg;
 use std::alloc::Global;
+use text_lines::{
+    read_front_label, read_front_number, read_name_number, read_whole_number, rest_after,
+};
+
+// The row of the term that is the whole text.
+fn read_whole_row(alloc: Global, problem: &Problem, text: &[u8]) -> Result<TermRow, TextRead>
+    ensures ok { IfOk result (λ t. IsTerm problem.now.symbols text.now t) }
+    ensures none { result ≡ Err TextRead.None → (t : tree.Term) → ¬ IsTerm problem.now.symbols text.now t }
+{
+    let (row, to) = read_row(alloc, problem.symbols(), text, 0)?;
+    if to == text.len() {
+        Ok(row)
+    } else {
+        Err(TextRead::None)
+    }
+}
 
 // The argument for a variable that is the whole text.
 fn read_term_arg(alloc: Global, problem: &Problem, text: &[u8]) -> Result<RowArg, TextRead>

@@ -2,7 +2,7 @@
 
 ghost use Rattle.std.specs.Prelude.{◌≡◌, ◌++◌, map, IsTrue, IfOk, OnOk};
 ghost use Rattle.std.specs.List.{flat_map, list_all};
-ghost use Rattle.calculus.specs.DerivationText.{IsText, eigen_line, head_lines, home_is_written};
+ghost use Rattle.calculus.specs.DerivationText.{IsText, eigen_line, home_is_written};
 ghost use Rattle.calculus.specs.DerivationText.{home_text, is_printable, line_bytes};
 ghost use Rattle.calculus.specs.DerivationText.{modal_is_written, modal_text, spare_line};
 ghost use Rattle.calculus.specs.DerivationText.{step_is_written, step_line, term_arg_is_written};
@@ -15,27 +15,11 @@ ghost use Rattle.sequent_calc.specs.StepView.{the_modal, the_step, the_term_arg}
 
 use cop_base::NoMemory;
 use formula_core::Symbols;
-use formula_text::{
-    write_bytes, write_formula, write_label, write_number, write_setting, write_term,
-};
+use formula_text::{write_bytes, write_label, write_number, write_term};
 use logic_rules::{Label, Problem};
 use sequent_calc::{Derivation, EigenList, Home, ModalArg, SpareList, Step, StepList, TermArg};
 use std::alloc::Global;
-
-// The four lines that stand before all names.
-fn write_head(out: &mut Vec<u8>, problem: &Problem, limit: u8) -> Result<(), NoMemory>
-    ensures { OnOk result (out.new.items
-        ≡ out.old.items ++ flat_map line_bytes (head_lines problem.now limit)) }
-{
-    write_bytes(out, b"leancop derivation 1\nlogic ")?;
-    write_setting(out, problem.setting())?;
-    write_bytes(out, b"\nformula ")?;
-    write_formula(out, problem.symbols(), problem.formula())?;
-    write_bytes(out, b"\nlimit ")?;
-    write_number(out, u64::from(limit))?;
-    write_bytes(out, b"\n")?;
-    Ok(())
-}
+use text_lines::write_head;
 
 fn write_eigen(out: &mut Vec<u8>, number: u32, home: &Label) -> Result<(), NoMemory>
     requires { IsTrue (eigen_is_written (the_eigen (number, home.now))) }
@@ -174,7 +158,7 @@ pub fn print(alloc: Global, problem: &Problem, d: &Derivation) -> Result<Vec<u8>
     ensures formula { IfOk result (λ bytes. AtMostOneFormula problem.now bytes.items) }
 {
     let mut out = Vec::new(alloc);
-    write_head(&mut out, problem, d.limit)?;
+    write_head(&mut out, problem, b"leancop derivation 1", d.limit)?;
     write_eigens(&mut out, &d.names.eigens)?;
     write_spares(&mut out, &d.names.spares)?;
     write_steps(&mut out, problem.symbols(), &d.steps)?;

@@ -4,8 +4,8 @@ use Rattle.calculus.specs.Lists.{terms_tree}
 use Rattle.formula_core.specs.TermView.{the_term}
 use Rattle.formula_core.specs.declared.term.Term.{Term}
 use Rattle.derivation_branch.specs.EntryView.{term_under}
-use Rattle.derivation_branch.specs.Rows.{IsAfter, row_of, rows_of}
-use Rattle.derivation_branch.proofs.RowLaws.{after-step, some-then, symbol-first, symbol-then}
+use Rattle.formula_text.specs.Rows.{row_of, rows_of}
+use Rattle.derivation_branch.proofs.FollowingLaws.{IsAfter, after-step, some-then, symbol-first, symbol-then}
 use Rattle.derivation_branch.proofs.comparison.+after.Goals as goal
 
 pub after_term-returns-in_err-rest-in-Fun-clause-none : goal.after_term-returns-in_err-rest-in-Fun-clause-none

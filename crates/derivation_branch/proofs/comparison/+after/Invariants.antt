@@ -3,7 +3,8 @@ use Rattle.calculus.specs.Lists.{terms_tree}
 use Rattle.calculus.specs.Sizes.{term_size, terms_size}
 use Rattle.formula_core.specs.TermView.{the_term}
 use Rattle.derivation_branch.specs.EntryView.{term_under}
-use Rattle.derivation_branch.specs.Rows.{IsAfter, rows_of}
+use Rattle.derivation_branch.proofs.FollowingLaws.{IsAfter}
+use Rattle.formula_text.specs.Rows.{rows_of}
 use Rattle.derivation_branch.proofs.comparison.+after.Given as goal
 
 abbrev pub invariant-after_terms-loop-t : goal.invariant-after_terms-loop-t

@@ -2,8 +2,8 @@ use Rattle.std.proofs.Common.{◌≡◌, ◌++◌, List, subst}
 use Rattle.std.specs.Prelude.{IfSome, IsNone}
 use Rattle.formula_core.specs.TermView.{the_term}
 use Rattle.derivation_branch.specs.EntryView.{term_under}
-use Rattle.derivation_branch.specs.Rows.{row_of}
-use Rattle.derivation_branch.specs.declared.term_row.RowItem.{RowItem}
+use Rattle.formula_text.specs.Rows.{row_of}
+use Rattle.formula_text.specs.declared.term_row.RowItem.{RowItem}
 use Rattle.derivation_branch.proofs.comparison.is_row_of.Goals as goal
 
 pub returns-clause-told : goal.returns-clause-told

@@ -1,5 +1,5 @@
 use Rattle.std.proofs.Common.{drop}
-use Rattle.derivation_branch.specs.Rows.{IsAfter}
+use Rattle.derivation_branch.proofs.FollowingLaws.{IsAfter}
 use Rattle.derivation_branch.proofs.following.after_items.Given as goal
 
 abbrev pub invariant-loop-item : goal.invariant-loop-item

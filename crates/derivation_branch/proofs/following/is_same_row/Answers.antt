@@ -1,6 +1,6 @@
 use Rattle.std.proofs.Common.{◌≡◌, ◌++◌, ◌∙◌, ap, sym}
-use Rattle.derivation_branch.specs.Rows.{row_of}
-use Rattle.derivation_branch.proofs.RowLaws.{some-then}
+use Rattle.formula_text.specs.Rows.{row_of}
+use Rattle.derivation_branch.proofs.FollowingLaws.{some-then}
 use Rattle.derivation_branch.proofs.following.is_same_row.Goals as goal
 
 pub returns : goal.returns

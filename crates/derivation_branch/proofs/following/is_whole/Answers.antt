@@ -1,7 +1,7 @@
 use Rattle.std.proofs.Common.{◌≡◌, ◌++◌, ◌==◌, ◌∙◌, ap, length, refl, subst, sym}
 use Rattle.std.specs.Prelude.{IfSome, IsNone}
-use Rattle.derivation_branch.specs.Rows.{row_of}
-use Rattle.derivation_branch.proofs.RowLaws.{none-told, rest-told, turned}
+use Rattle.formula_text.specs.Rows.{row_of}
+use Rattle.derivation_branch.proofs.FollowingLaws.{none-told, rest-told, turned}
 use Rattle.derivation_branch.proofs.following.is_whole.Goals as goal
 
 pub returns-in-Some-clause-told : goal.returns-in-Some-clause-told

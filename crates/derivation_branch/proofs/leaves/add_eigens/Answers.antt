@@ -1,8 +1,8 @@
 use Rattle.std.proofs.Common.{[], ◌||◌, ◌∙◌, ap, append-nil, sym}
 use Rattle.calculus.specs.Calculus.{is_eigen}
 use Rattle.derivation_branch.specs.Occurring.{holds}
-use Rattle.derivation_branch.specs.Rows.{any_item}
-use Rattle.derivation_branch.proofs.RowLaws.{any-row}
+use Rattle.formula_text.specs.Rows.{any_item}
+use Rattle.formula_text.proofs.RowLaws.{any-row}
 use Rattle.derivation_branch.proofs.leaves.add_eigens.Goals as goal
 
 pub loop-item-init : goal.loop-item-init

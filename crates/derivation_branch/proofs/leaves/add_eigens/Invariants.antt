@@ -2,7 +2,7 @@ use Rattle.std.proofs.Common.{◌≡◌, ◌||◌, ℕ, drop}
 use Rattle.calculus.specs.Calculus.{is_eigen}
 use Rattle.calculus.specs.Substitution.{any_leaf}
 use Rattle.derivation_branch.specs.Occurring.{IsLonger, holds}
-use Rattle.derivation_branch.specs.Rows.{any_item}
+use Rattle.formula_text.specs.Rows.{any_item}
 use Rattle.derivation_branch.proofs.leaves.add_eigens.Given as goal
 
 abbrev pub invariant-loop-item : goal.invariant-loop-item

@@ -1,6 +1,6 @@
 use Rattle.std.proofs.Common.{◌∙◌, [], ap, get_or}
-use Rattle.derivation_branch.proofs.RowLaws.{any-row}
-use Rattle.derivation_branch.specs.Rows.{any_item}
+use Rattle.formula_text.proofs.RowLaws.{any-row}
+use Rattle.formula_text.specs.Rows.{any_item}
 use Rattle.derivation_check.specs.HomesView.{is_forbidden_at}
 use Rattle.derivation_check.proofs.allowed.is_forbidden_in.Goals as goal
 

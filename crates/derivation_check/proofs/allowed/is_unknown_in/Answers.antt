@@ -1,7 +1,7 @@
 use Rattle.std.proofs.Common.{◌∙◌, ap}
 use Rattle.calculus.specs.Calculus.{is_unknown}
-use Rattle.derivation_branch.proofs.RowLaws.{any-row}
-use Rattle.derivation_branch.specs.Rows.{any_item}
+use Rattle.formula_text.proofs.RowLaws.{any-row}
+use Rattle.formula_text.specs.Rows.{any_item}
 use Rattle.sequent_calc.specs.DerivationView.{the_names}
 use Rattle.derivation_check.proofs.allowed.is_unknown_in.Goals as goal
 

@@ -1,7 +1,7 @@
 use Rattle.std.proofs.Common.{◌≡◌, drop}
 use Rattle.calculus.specs.Calculus.{is_unknown}
 use Rattle.calculus.specs.Substitution.{any_leaf}
-use Rattle.derivation_branch.specs.Rows.{any_item}
+use Rattle.formula_text.specs.Rows.{any_item}
 use Rattle.sequent_calc.specs.DerivationView.{the_names}
 use Rattle.derivation_check.proofs.allowed.is_unknown_in.Given as goal
 

@@ -2,8 +2,8 @@ use Rattle.std.proofs.Common.{ℕ, Bool, [], ◌||◌, ◌∙◌, ap, append-nil
 use Rattle.calculus.specs.Derivations.{new_mark}
 use Rattle.calculus.specs.Syntax.{Term}
 use Rattle.derivation_branch.specs.Occurring.{holds}
-use Rattle.derivation_branch.specs.Rows.{any_item}
-use Rattle.derivation_branch.proofs.RowLaws.{any-row}
+use Rattle.formula_text.specs.Rows.{any_item}
+use Rattle.formula_text.proofs.RowLaws.{any-row}
 use Rattle.derivation_check.specs.HomesView.{is_in_home_at}
 use Rattle.derivation_check.proofs.occurring.add_homes.Goals as goal
 

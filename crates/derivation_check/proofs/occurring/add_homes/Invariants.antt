@@ -2,7 +2,7 @@ use Rattle.std.proofs.Common.{◌≡◌, ◌||◌, ℕ, drop}
 use Rattle.calculus.specs.Derivations.{new_mark}
 use Rattle.calculus.specs.Substitution.{any_leaf}
 use Rattle.derivation_branch.specs.Occurring.{IsLonger, holds}
-use Rattle.derivation_branch.specs.Rows.{any_item}
+use Rattle.formula_text.specs.Rows.{any_item}
 use Rattle.derivation_check.specs.HomesView.{is_in_home_at}
 use Rattle.derivation_check.specs.ToldView.{AreThere}
 use Rattle.derivation_check.proofs.occurring.add_homes.Given as goal

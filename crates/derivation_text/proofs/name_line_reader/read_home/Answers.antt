@@ -2,7 +2,7 @@ use Rattle.std.proofs.Common.{sym, ◌∙◌}
 use Rattle.formula_text.proofs.Numbers.{not-equal}
 use Rattle.formula_text.proofs.Passing.{error-passed}
 use Rattle.derivation_text.proofs.Parts.{no-home}
-use Rattle.derivation_text.proofs.part_reader.read_home.Goals as goal
+use Rattle.derivation_text.proofs.name_line_reader.read_home.Goals as goal
 
 pub returns-in_err-label-clause-none : goal.returns-in_err-label-clause-none
 returns-in_err-label-clause-none c = λ e.

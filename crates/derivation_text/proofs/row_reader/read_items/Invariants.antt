@@ -1,9 +1,0 @@
-use Rattle.std.proofs.Common.{◌-◌, length}
-use Rattle.derivation_text.specs.RowReading.{IsBegun}
-use Rattle.derivation_text.proofs.row_reader.read_items.Given as goal
-
-abbrev pub invariant-loop-end : goal.invariant-loop-end
-invariant-loop-end l = IsBegun l.symbols l.text l.place l.stack.items l.items.items
-
-abbrev pub decreases-loop-end : goal.decreases-loop-end
-decreases-loop-end l = length l.text - l.place
