@@ -15,12 +15,11 @@ ghost use Rattle.derivation_text.specs.RowView.{the_row_arg};
 ghost use Rattle.sequent_calc.specs.StepView.{the_modal};
 
 use crate::allowed::{home_is, is_known, term_allowed};
-use crate::fitting::arguments_fit;
 use crate::state::State;
 use derivation_branch::{Labels, NumberSet, reaches};
 use derivation_text::RowArg;
 use logic_rules::{Kind, Logic, Problem};
-use sequent_calc::{ModalArg, Names, StepFault};
+use sequent_calc::{ModalArg, Names, StepFault, arguments_fit};
 
 /// Which demands of a use step are met, in the order in which they are judged.
 #[derive(Clone, Copy)]
@@ -118,7 +117,7 @@ pub fn use_fault(
     let logic = setting.logic();
     let labels = &state.labels;
     first_unmet(Demands {
-        arguments_fit: arguments_fit(kind, modal, term),
+        arguments_fit: arguments_fit(kind, modal.form(), term.form()),
         is_known: is_known(names, term),
         is_reachable: is_reachable(logic, labels, from, at, modal),
         is_new: is_new(&state.eigens, &state.marks, modal, term),

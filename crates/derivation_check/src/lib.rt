@@ -4,7 +4,6 @@
 mod acceptance;
 mod allowed;
 mod demands;
-mod fitting;
 mod homes;
 mod judgement;
 mod occurring;

@@ -3,10 +3,11 @@
 ghost use Rattle.std.specs.Prelude.{◌≡◌, ◌++◌, ◌∷◌, [], map, IfOk, OnOk, OnErr};
 ghost use Rattle.calculus.specs.Derivations as derivation;
 ghost use Rattle.derivation_text.specs.RowView.{the_row_arg, the_row_step};
+ghost use Rattle.sequent_calc.specs.FormView.{term_form};
 
 use cop_base::NoMemory;
 use formula_text::TermRow;
-use sequent_calc::{ModalArg, Names};
+use sequent_calc::{ModalArg, Names, TermForm};
 use std::alloc::Global;
 use std::marker::Model;
 
@@ -24,6 +25,17 @@ impl RowArg {
         ensures { IfOk result (λ arg. the_row_arg arg ≡ derivation.by_term row) }
     {
         Ok(RowArg::Term(Box::new(alloc, row)?))
+    }
+
+    /// What is given.
+    pub fn form(&self) -> TermForm
+        ensures { result ≡ term_form (the_row_arg self.now) }
+    {
+        match self {
+            RowArg::None => TermForm::None,
+            RowArg::Term(_) => TermForm::Term,
+            RowArg::Name(_) => TermForm::Name,
+        }
     }
 }
 

@@ -1,4 +1,5 @@
 pub mod TermLists
 pub mod Entries
+pub mod Forms
 pub mod Freshness
 pub mod ByNumber

@@ -1,5 +1,6 @@
 pub mod EntryView
 pub mod NamesView
+pub mod FormView
 pub mod StepView
 pub mod DerivationView
 pub mod LeafView

@@ -1,11 +1,11 @@
 //! What a step adds to a sequent.
 
-ghost use Rattle.std.specs.Prelude.{◌≡◌, ◌∷◌, [], ◌++◌, List, None, IfOk, Some, Ok, Err, map};
+ghost use Rattle.std.specs.Prelude.{◌≡◌, ◌&&◌, ◌∷◌, [], ◌++◌, List, None, IfOk, Some, Ok, Err, map};
 ghost use Rattle.calculus.specs.declared.fault.StepFault.{StepFault};
 ghost use Rattle.calculus.specs.Calculus.{Children, apply, children_of, close_branch};
 ghost use Rattle.calculus.specs.Calculus.{conditions_of_use, connects, entry_at, entry_of};
-ghost use Rattle.calculus.specs.Calculus.{first_fault, label_after, use_entry, with_argument};
-ghost use Rattle.calculus.specs.Calculus.{with_components};
+ghost use Rattle.calculus.specs.Calculus.{first_fault, has_step, label_after, modal_fits};
+ghost use Rattle.calculus.specs.Calculus.{term_fits, use_entry, with_argument, with_components};
 ghost use Rattle.calculus.specs.Kinds.{components, modal_of, shape_of, signed};
 ghost use Rattle.formula_core.specs.FormulaView.{the_formula};
 ghost use Rattle.calculus.specs.Calculus as calculus;
@@ -134,6 +134,14 @@ fn components(
     }
 }
 
+// Whether the arguments are just those that the kind of formula asks for.
+fn is_fit(kind: Kind, modal: &ModalArg, term: &TermArg) -> bool
+    ensures { result ≡ (modal_fits kind.modal (the_modal modal.now)
+        && term_fits kind.shape (the_term_arg term.now) && has_step kind.modal kind.shape) }
+{
+    arguments_fit(kind, modal.form(), term.form())
+}
+
 // The first demand of a use step that is not met; `at` is the label of the components.
 fn use_fault(
     problem: &Problem,
@@ -156,7 +164,7 @@ fn use_fault(
         ≡ faulty c result }
 {
     let logic = problem.setting().logic();
-    if !arguments_fit(kind, modal, term) {
+    if !is_fit(kind, modal, term) {
         return Some(StepFault::WrongArguments);
     }
     if !is_known(names, term) {

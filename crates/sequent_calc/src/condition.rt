@@ -4,44 +4,38 @@ ghost use Rattle.std.specs.Prelude.{◌≡◌, ◌&&◌, map};
 ghost use Rattle.calculus.specs.Calculus.{character_is_new, character_occurs, eigen_is_new};
 ghost use Rattle.calculus.specs.Calculus.{eigen_occurs, has_step, home_is, is_known, is_reachable};
 ghost use Rattle.calculus.specs.Calculus.{modal_fits, term_allowed, term_fits};
+ghost use Rattle.calculus.specs.Derivations as derivation;
 ghost use Rattle.logic_rules.specs.MarkView.{the_character};
 ghost use Rattle.sequent_calc.specs.DerivationView.{the_names};
 ghost use Rattle.sequent_calc.specs.EntryView.{the_entry};
+ghost use Rattle.sequent_calc.specs.FormView.{fits_modal, fits_term, modal_form, term_form};
 ghost use Rattle.sequent_calc.specs.StepView.{the_modal, the_term_arg};
 
 use crate::entry::Entry;
+use crate::form::{ModalForm, TermForm};
 use crate::leaf::{LeafTest, any_leaf, any_leaf_in, eigen_named};
 use crate::names::Names;
 use crate::step::{ModalArg, TermArg};
 use logic_rules::{Kind, Label, Logic, Mark, ModalPart, Problem, Shape};
 
-/// Whether the arguments are just those that the kind of formula asks for. A literal without a
-/// modal part has no step.
-pub fn arguments_fit(kind: Kind, modal: &ModalArg, term: &TermArg) -> bool
-    ensures { result ≡ (modal_fits kind.modal (the_modal modal.now)
-        && term_fits kind.shape (the_term_arg term.now) && has_step kind.modal kind.shape) }
+fn modal_fits(part: ModalPart, form: ModalForm) -> bool
+    ensures { result ≡ fits_modal part form }
 {
-    modal_fits(kind.modal, modal) && term_fits(kind.shape, term) && has_step(kind)
-}
-
-fn modal_fits(part: ModalPart, modal: &ModalArg) -> bool
-    ensures { result ≡ modal_fits part (the_modal modal.now) }
-{
-    match (part, modal) {
-        (ModalPart::Plain, ModalArg::None)
-        | (ModalPart::Nu, ModalArg::To(_))
-        | (ModalPart::Pi, ModalArg::New(_)) => true,
+    match (part, form) {
+        (ModalPart::Plain, ModalForm::None)
+        | (ModalPart::Nu, ModalForm::To)
+        | (ModalPart::Pi, ModalForm::New) => true,
         _ => false,
     }
 }
 
-fn term_fits(shape: Shape, term: &TermArg) -> bool
-    ensures { result ≡ term_fits shape (the_term_arg term.now) }
+fn term_fits(shape: Shape, form: TermForm) -> bool
+    ensures { result ≡ fits_term shape form }
 {
-    match (shape, term) {
-        (Shape::Gamma, TermArg::Term(_)) | (Shape::Delta, TermArg::Name(_)) => true,
+    match (shape, form) {
+        (Shape::Gamma, TermForm::Term) | (Shape::Delta, TermForm::Name) => true,
         (Shape::Gamma, _) | (Shape::Delta, _) => false,
-        (_, TermArg::None) => true,
+        (_, TermForm::None) => true,
         _ => false,
     }
 }
@@ -53,6 +47,23 @@ fn has_step(kind: Kind) -> bool
         (ModalPart::Plain, Shape::Literal) => false,
         _ => true,
     }
+}
+
+fn forms_fit(kind: Kind, modal: ModalForm, term: TermForm) -> bool
+    ensures { result ≡ (fits_modal kind.modal modal && fits_term kind.shape term
+        && has_step kind.modal kind.shape) }
+{
+    modal_fits(kind.modal, modal) && term_fits(kind.shape, term) && has_step(kind)
+}
+
+/// Whether arguments of these forms are just those that the kind of formula asks for. A literal
+/// without a modal part has no step.
+pub fn arguments_fit(kind: Kind, modal: ModalForm, term: TermForm) -> bool
+    ensures { (m : derivation.ModalArg) → (t : derivation.TermArg) → modal ≡ modal_form m
+        → term ≡ term_form t → result ≡ (modal_fits kind.modal m && term_fits kind.shape t
+        && has_step kind.modal kind.shape) }
+{
+    forms_fit(kind, modal, term)
 }
 
 /// Whether each name of the argument is listed.

@@ -1,8 +1,10 @@
 ghost use Rattle.std.specs.Prelude.{◌≡◌, ◌++◌, ◌∷◌, [], map, IfOk, OnOk, OnErr};
 ghost use Rattle.calculus.specs.Derivations as derivation;
 ghost use Rattle.formula_core.specs.TermView.{the_term};
+ghost use Rattle.sequent_calc.specs.FormView.{modal_form, term_form};
 ghost use Rattle.sequent_calc.specs.StepView.{the_modal, the_step, the_term_arg};
 
+use crate::form::{ModalForm, TermForm};
 use cop_base::NoMemory;
 use formula_core::Term;
 use logic_rules::Label;
@@ -34,6 +36,17 @@ impl ModalArg {
     {
         Ok(ModalArg::To(Box::new(alloc, label)?))
     }
+
+    /// What is given.
+    pub fn form(&self) -> ModalForm
+        ensures { result ≡ modal_form (the_modal self.now) }
+    {
+        match self {
+            ModalArg::None => ModalForm::None,
+            ModalArg::To(_) => ModalForm::To,
+            ModalArg::New(_) => ModalForm::New,
+        }
+    }
 }
 
 impl TermArg {
@@ -42,6 +55,17 @@ impl TermArg {
         ensures { IfOk result (λ arg. the_term_arg arg ≡ derivation.by_term (the_term term)) }
     {
         Ok(TermArg::Term(Box::new(alloc, term)?))
+    }
+
+    /// What is given.
+    pub fn form(&self) -> TermForm
+        ensures { result ≡ term_form (the_term_arg self.now) }
+    {
+        match self {
+            TermArg::None => TermForm::None,
+            TermArg::Term(_) => TermForm::Term,
+            TermArg::Name(_) => TermForm::Name,
+        }
     }
 }
 

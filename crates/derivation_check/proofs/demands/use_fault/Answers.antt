@@ -21,7 +21,7 @@ returns c = λ s e tells modal shape from at x.
     let logic = c.logic-logic.ensures ∙ ap (λ d. d.logic) c.setting-setting.ensures.setting in
     let after = at ∙ (λ i. label_after (sym logic i) (sym from i) m) in
     judged problem names s e m t c.arguments_fit.result c.is_known.result c.is_reachable.result c.is_new.result c.home_is.result c.term_allowed.result c.first_unmet.result
-    ((λ i. modal_fits (sym modal i) m && term_fits (sym shape i) t && has_step (sym modal i) (sym shape i)) ∙ sym c.arguments_fit.ensures)
+    ((λ i. modal_fits (sym modal i) m && term_fits (sym shape i) t && has_step (sym modal i) (sym shape i)) ∙ sym (c.arguments_fit.ensures m t c.form.ensures c.form-2.ensures))
     (sym c.is_known.ensures)
     ((λ i. is_reachable (sym logic i) (sym from i) m) ∙ sym (c.is_reachable.ensures after))
     (sym (c.is_new.ensures names s tells))
