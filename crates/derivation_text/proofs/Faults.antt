@@ -6,7 +6,7 @@ use Rattle.calculus.specs.Derivations.{Derivation}
 use Rattle.calculus.specs.DerivationText.{IsText, derivation_lines, is_printable}
 use Rattle.calculus.specs.Judgement.{IsFaulty, IsRightUpTo, whole_lines}
 use Rattle.derivation_text.proofs.LineFeeds.{lines-feed}
-use Rattle.text_lines.proofs.FirstWrong as wrong
+use Rattle.text_lines.proofs.FirstWrong as any_text
 use Rattle.text_lines.proofs.FirstWrong.{first-wrong}
 
 -- these are the first lines of some derivation that can be printed
@@ -30,8 +30,8 @@ faulty P w bytes seen tail whole begun next done =
       no_text = λ d t. r.no_text d t.printable t.text;
     }
   where
-    to : (n : ℕ) (d : Derivation) → wrong.IsRightUpTo (Has P) (derivation_lines P) bytes n d → IsRightUpTo P bytes n d
+    to : (n : ℕ) (d : Derivation) → any_text.IsRightUpTo (Has P) (derivation_lines P) bytes n d → IsRightUpTo P bytes n d
     to n d h = record { printable = h.has; are_there = h.are_there; has_them = h.has_them; same = h.same }
 
-    back : {n : ℕ} (d : Derivation) → IsRightUpTo P bytes n d → wrong.IsRightUpTo (Has P) (derivation_lines P) bytes n d
+    back : {n : ℕ} (d : Derivation) → IsRightUpTo P bytes n d → any_text.IsRightUpTo (Has P) (derivation_lines P) bytes n d
     back d h = record { has = h.printable; are_there = h.are_there; has_them = h.has_them; same = h.same }

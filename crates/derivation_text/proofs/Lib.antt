@@ -10,3 +10,8 @@ pub mod HeadFaults
 pub mod BodySteps
 pub mod Endings
 pub mod FormulaLines
+pub mod OnceLaws
+pub mod NumberingLaws
+pub mod OrderLaws
+pub mod NumberedFeeds
+pub mod NumberedFaults

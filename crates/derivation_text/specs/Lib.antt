@@ -6,3 +6,5 @@ pub mod Reading
 pub mod RowView
 pub mod RowDerivationView
 pub mod Single
+pub mod Entering
+pub mod InOrder
