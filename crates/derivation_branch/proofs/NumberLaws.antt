@@ -14,7 +14,7 @@ use Rattle.formula_text.specs.Rows.{row_of}
 use Rattle.derivation_branch.specs.TableView.{the_value}
 use Rattle.derivation_branch.specs.declared.substitution.Binding.{Binding}
 use Rattle.formula_text.specs.declared.term_row.RowItem.{RowItem}
-use Rattle.derivation_branch.specs.contracts.term_row.RowItemPartialEq.TheImpl.{eq-value}
+use Rattle.formula_text.specs.contracts.term_row.RowItemPartialEq.TheImpl.{eq-value}
 use Rattle.derivation_branch.proofs.FollowingLaws.{same-told, other-told}
 use Rattle.formula_text.proofs.RowLaws.{row-same}
 use Rattle.derivation_branch.proofs.TableLaws.{longer-at, longer-size}
