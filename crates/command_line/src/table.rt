@@ -72,10 +72,8 @@ pub fn is_built(command: CommandName) -> bool
         | CommandName::Make
         | CommandName::Model
         | CommandName::Transfer => true,
-        CommandName::Migrate
-        | CommandName::Tableau
-        | CommandName::Tcheck
-        | CommandName::Convert => false,
+        CommandName::Migrate | CommandName::Tableau | CommandName::Tcheck | CommandName::Convert =>
+            false,
     }
 }
 

@@ -62,5 +62,5 @@ Decides told (make g b) status = IsMakeable g b → IsDecided status
 Decides told (model p structure steps) status =
     (IsModel told p structure steps → IsTold status)
     × ((line : ℕ) (cause : StructureCause) → IsNoModel told p structure line cause
-      → status ≡ BadStructure line cause)
+    → status ≡ BadStructure line cause)
 Decides told (bad place) status = ⊤

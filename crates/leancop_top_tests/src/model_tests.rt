@@ -61,7 +61,8 @@ const STRUCTURES: &[(&[&str], &[u8], &[u8], u8, &[u8])] = &[
         b"p",
         b"leancop derivation 1\n",
         10,
-        b"rejected structure at line 1: version\n"),
+        b"rejected structure at line 1: version\n",
+    ),
 ];
 
 #[test]

@@ -48,7 +48,7 @@ pub data ModelEnds (told : Option Files) (P : Problem) (structure : Word) (steps
   bad_structure : (line : ℕ) (cause : StructureCause)
       → IsJudgedStructureIn told P structure (verdict.bad_structure line cause)
       → ModelEnds told P structure steps (BadStructure line cause)
-        (status_line (BadStructure line cause))
+      (status_line (BadStructure line cause))
   steps_ended : HasMoreWays told P structure steps
       → ModelEnds told P structure steps (StepsEnded 0 steps) (status_line (StepsEnded 0 steps))
   not_fetched : (status : Status) → FetchEnds told structure status
