@@ -77,8 +77,8 @@ later() { # later STATUS ANSWER PART WORD..
     LEANCOP="$folder/later" explained "$@"
 }
 later 9 'false at the root' 'refutes the formula' model m.p s.txt
-later 10 'rejected structure at line 5: reflexive' 'relation 1 1 2' model m.p tools/tests/texts/barcan_structure.txt
-later 10 'rejected structure at line 5: reflexive' 'each world reaches itself' model m.p tools/tests/texts/barcan_structure.txt
+later 10 'rejected structure at line 5: reflexive' 'relation 1 1 2' model m.p examples/structures/barcan.s4.cumulative.txt
+later 10 'rejected structure at line 5: reflexive' 'each world reaches itself' model m.p examples/structures/barcan.s4.cumulative.txt
 later 8 'rejected at line 6: not regular' 'A goal stands twice on a branch' tcheck m.p tools/tests/texts/even_tableau.txt
 later 3 'steps ended after limit 0 at 5 steps' 'a greater --steps= looks on' model m.p s.txt --steps=5
 
