@@ -2,6 +2,7 @@
 use Rattle.std.proofs.Common.{◌≡◌, ◌∙◌, List, ℕ, [], ◌∷◌, length, Some, Bool, true, false, ap, refl, sym, subst}
 use Rattle.std.specs.Prelude.{nat_le, if◌then◌else◌}
 use Rattle.cop_base.specs.Outside.{Files}
+use Rattle.cop_base.specs.Reads.{Read}
 use Rattle.command_line.specs.CommandLine.{Command, command_of}
 use Rattle.leancop_top.specs.Run.{Decides, Ends, IsAnswered}
 use Rattle.leancop_top.specs.Statuses.{IsCounted, OnAnswer, exit_of}
@@ -11,25 +12,25 @@ use Rattle.leancop_c.specs.Ran.{IsOfMemory, IsRun, IsRunTold, is_lost, ran}
 use Rattle.leancop_c.specs.Told.{placed}
 use Rattle.leancop_c.proofs.Reading.{never_rose}
 
-pub of-memory : (s : Status) (m n : ℕ) → IsCounted m n 0 0 s → is_lost s ≡ false → IsOfMemory s
-of-memory (status.Derived d) m n h e = tt
-of-memory (status.Exhausted d) m n h e = tt
-of-memory (status.NoTableau d) m n h e = tt
-of-memory (status.StepsEnded d k) m n h e = tt
-of-memory status.Accepted m n h e = tt
-of-memory status.Transferred m n h e = tt
-of-memory (status.Rejected line fault) m n h e = tt
-of-memory (status.BadWords place) m n h e = tt
-of-memory (status.Missing name) m n h e = tt
-of-memory (status.ReadFault name) m n h e = absurd (never_rose h)
-of-memory status.WriteFault m n h e = absurd (cc)
-of-memory (status.BadProblem file offset cause) m n h e = tt
-of-memory status.InputTooLarge m n h e = tt
-of-memory status.NestingTooDeep m n h e = tt
-of-memory status.FormulaTooLarge m n h e = tt
-of-memory status.TooManySymbols m n h e = tt
-of-memory status.MatrixTooLarge m n h e = tt
-of-memory status.NoMemory m n h e = tt
+pub of-memory : (s : Status) (m n : ℕ) (after : List Read) → IsCounted m n 0 0 after s → is_lost s ≡ false → IsOfMemory s
+of-memory (status.Derived d) m n after h e = tt
+of-memory (status.Exhausted d) m n after h e = tt
+of-memory (status.NoTableau d) m n after h e = tt
+of-memory (status.StepsEnded d k) m n after h e = tt
+of-memory status.Accepted m n after h e = tt
+of-memory status.Transferred m n after h e = tt
+of-memory (status.Rejected line fault) m n after h e = tt
+of-memory (status.BadWords place) m n after h e = tt
+of-memory (status.Missing name) m n after h e = tt
+of-memory (status.ReadFault name) m n after h e = absurd (never_rose h.0)
+of-memory status.WriteFault m n after h e = absurd (cc)
+of-memory (status.BadProblem file offset cause) m n after h e = tt
+of-memory status.InputTooLarge m n after h e = tt
+of-memory status.NestingTooDeep m n after h e = tt
+of-memory status.FormulaTooLarge m n after h e = tt
+of-memory status.TooManySymbols m n after h e = tt
+of-memory status.MatrixTooLarge m n after h e = tt
+of-memory status.NoMemory m n after h e = tt
 
 -- all that an answered run writes is its output
 whole : (files : Files) (command : Command) (s : Status) (before output : List ℕ) → before ≡ []
@@ -66,14 +67,14 @@ pub not-lost : (s : Status) → is_lost s ≡ false → ¬ (s ≡ status.NoMemor
 not-lost s e k = let h : is_lost status.NoMemory ≡ false = subst (λ x. is_lost x ≡ false) k e in absurd (cc)
 
 -- what a run that is not lost comes to
-pub ran-over : (s : Status) (files : Files) (command : Command) (before output : List ℕ) (m n : ℕ) → before ≡ []
+pub ran-over : (s : Status) (files : Files) (command : Command) (before output : List ℕ) (m n : ℕ) (after : List Read) → before ≡ []
     → OnAnswer s (IsAnswered (Some files) command s (Some before) (Some output))
-    → OnAnswer s (Decides (Some files) command s) → IsCounted m n 0 0 s → is_lost s ≡ false
+    → OnAnswer s (Decides (Some files) command s) → IsCounted m n 0 0 after s → is_lost s ≡ false
     → IsRun files command s output
-ran-over s files command before output m n empty answered decided counted kept = record {
+ran-over s files command before output m n after empty answered decided counted kept = record {
   answered = answered-whole s files command before output empty answered;
   decided = decided;
-  of_memory = of-memory s m n counted kept;
+  of_memory = of-memory s m n after counted kept;
   no_memory = λ e. absurd (not-lost s kept e);
 }
 

@@ -13,7 +13,7 @@ use crate::faults::{cause_number, fault_number};
 use crate::files::GivenFiles;
 use crate::settings::setting_of;
 use crate::{LeancopBytes, LeancopFile, LeancopJudgement};
-use cop_base::{NoMemory, Text};
+use cop_base::{NoMemory, ReadRecord, Text};
 use derivation_check::{Verdict, check};
 use logic_rules::{Problem, Setting};
 use problem_build::{BuildFault, build};
@@ -49,6 +49,7 @@ fn problem_among(
         alloc,
         files,
         misses: 0,
+        history: ReadRecord::new(),
     };
     build(alloc, &mut library, &name, &root, setting)
 }

@@ -10,7 +10,7 @@ use crate::output::Output;
 use crate::room::place;
 use crate::words::texts_of;
 use crate::{LeancopBytes, LeancopFile};
-use cop_base::NoMemory;
+use cop_base::{NoMemory, ReadRecord};
 use leancop_top::{Status, exit_code, run};
 use std::alloc::Global;
 
@@ -38,6 +38,7 @@ fn run_over(alloc: Global, words: &Vec<String>, files: &[LeancopFile<'_>]) -> Ru
         alloc,
         files,
         misses: 0,
+        history: ReadRecord::new(),
     };
     let mut output = Output {
         bytes: Vec::new(alloc),

@@ -9,6 +9,7 @@ use Rattle.calculus.specs.StructureText as verdict
 use Rattle.calculus.specs.Syntax.{Problem}
 use Rattle.calculus.specs.Translation.{translated_problem}
 use Rattle.cop_base.specs.Outside.{Files, file_in, Rose}
+use Rattle.cop_base.specs.Reads.{Read}
 use Rattle.command_line.specs.CommandLine.{Bounds, Command, GeneratedProblem, ProblemFile, in_intuitionistic, prove, check, check_translated, transfer, make, model, bad}
 use Rattle.command_line.specs.Table.{Word}
 use Rattle.problem_build.specs.Refusals.{Refusal}
@@ -51,17 +52,17 @@ read_is told files p P r t read h =
     subst (λ o. IfSome o (λ fs. (other : Result Problem Refusal) → Reading fs p other → other ≡ r)) t h.unique (Ok P) read
 
 -- where no fault was counted, reading does not end the run
-not_ended : (told : Option Files) (files : Files) (p : ProblemFile) (P : Problem) (m n f g : ℕ) → told ≡ Some files → Reading files p (Ok P) → ¬ Rose f g → (s : Status) → ReadingEnds told p s → IsCounted m n f g s → ⊥
-not_ended told files p P m n f g t read quiet _ (refused r h) counted = ok-err P r (Ok P) (Err r) refl refl (read_is told files p P (Err r) t read h)
-not_ended told files p P m n f g t read quiet _ (unread name h) counted = quiet counted
+not_ended : (told : Option Files) (files : Files) (p : ProblemFile) (P : Problem) (m n f g : ℕ) (after : List Read) → told ≡ Some files → Reading files p (Ok P) → ¬ Rose f g → (s : Status) → ReadingEnds told p s → IsCounted m n f g after s → ⊥
+not_ended told files p P m n f g after t read quiet _ (refused r h) counted = ok-err P r (Ok P) (Err r) refl refl (read_is told files p P (Err r) t read h)
+not_ended told files p P m n f g after t read quiet _ (unread name h) counted = quiet counted.0
 
 same_problem : (told : Option Files) (files : Files) (p : ProblemFile) (P Q : Problem) → told ≡ Some files → Reading files p (Ok P) → IsRead told p (Ok Q) → Q ≡ P
 same_problem told files p P Q t read h = same-ok Q P (Ok Q) (Ok P) refl refl (sym (read_is told files p P (Ok Q) t read h))
 
 -- so the command ends as it does for this problem
-pub for-problem : (told : Option Files) (files : Files) (p : ProblemFile) (P : Problem) (ends : Problem → Status → List ℕ → Type 0) (m n f g : ℕ) → told ≡ Some files → Reading files p (Ok P) → ¬ Rose f g → (s : Status) (bytes : List ℕ) → EndsOn told p ends s bytes → IsCounted m n f g s → ends P s bytes
-for-problem told files p P ends m n f g t read quiet _ _ (without_problem s r) counted = absurd (not_ended told files p P m n f g t read quiet s r counted)
-for-problem told files p P ends m n f g t read quiet _ _ (with_problem Q s bytes r h) counted =
+pub for-problem : (told : Option Files) (files : Files) (p : ProblemFile) (P : Problem) (ends : Problem → Status → List ℕ → Type 0) (m n f g : ℕ) (after : List Read) → told ≡ Some files → Reading files p (Ok P) → ¬ Rose f g → (s : Status) (bytes : List ℕ) → EndsOn told p ends s bytes → IsCounted m n f g after s → ends P s bytes
+for-problem told files p P ends m n f g after t read quiet _ _ (without_problem s r) counted = absurd (not_ended told files p P m n f g after t read quiet s r counted)
+for-problem told files p P ends m n f g after t read quiet _ _ (with_problem Q s bytes r h) counted =
     subst (λ X. ends X s bytes) (same_problem told files p P Q t read r) h
 
 -- ---- prove
@@ -82,23 +83,23 @@ prove-decided P b e _ _ (fruitless s h) = search-decided P b e s h
 not_lacking : (told : Option Files) (files : Files) (file : Word) (text : List ℕ) → told ≡ Some files → file_in files file ≡ Some text → Lacks told file → ⊥
 not_lacking told files file text t held h = none-some text (file_in files file) held (subst (λ o. IfSome o (λ fs. file_in fs file ≡ None)) t h)
 
-pub fetched : (told : Option Files) (files : Files) (file : Word) (text : List ℕ) (m n f g : ℕ) → told ≡ Some files → file_in files file ≡ Some text → ¬ Rose f g → (s : Status) → FetchEnds told file s → IsCounted m n f g s → ⊥
-fetched told files file text m n f g t held quiet _ (second.missing h) counted = not_lacking told files file text t held h
-fetched told files file text m n f g t held quiet _ second.unread counted = quiet counted
+pub fetched : (told : Option Files) (files : Files) (file : Word) (text : List ℕ) (m n f g : ℕ) (after : List Read) → told ≡ Some files → file_in files file ≡ Some text → ¬ Rose f g → (s : Status) → FetchEnds told file s → IsCounted m n f g after s → ⊥
+fetched told files file text m n f g after t held quiet _ (second.missing h) counted = not_lacking told files file text t held h
+fetched told files file text m n f g after t held quiet _ second.unread counted = quiet counted.0
 
-check-decided : (told : Option Files) (files : Files) (P : Problem) (derivation : Word) (text : List ℕ) (m n f g : ℕ) → told ≡ Some files → file_in files derivation ≡ Some text → ¬ Rose f g → (s : Status) (bytes : List ℕ) → CheckEnds told P derivation s bytes → IsCounted m n f g s → IsJudged s
-check-decided told files P d text m n f g t held quiet _ _ (accepted h v) counted = tt
-check-decided told files P d text m n f g t held quiet _ _ (rejected line fault h) counted = tt
-check-decided told files P d text m n f g t held quiet _ _ (not_fetched s h) counted = absurd (fetched told files d text m n f g t held quiet s h counted)
+check-decided : (told : Option Files) (files : Files) (P : Problem) (derivation : Word) (text : List ℕ) (m n f g : ℕ) (after : List Read) → told ≡ Some files → file_in files derivation ≡ Some text → ¬ Rose f g → (s : Status) (bytes : List ℕ) → CheckEnds told P derivation s bytes → IsCounted m n f g after s → IsJudged s
+check-decided told files P d text m n f g after t held quiet _ _ (accepted h v) counted = tt
+check-decided told files P d text m n f g after t held quiet _ _ (rejected line fault h) counted = tt
+check-decided told files P d text m n f g after t held quiet _ _ (not_fetched s h) counted = absurd (fetched told files d text m n f g after t held quiet s h counted)
 
 -- a problem whose translation passes no limit is translated
 not_refused : (P : Problem) → IsTranslatable P → (s : Status) → TranslatingEnds P s → ⊥
 not_refused P t _ (too_deep h) = absurd (omega (arith, t.nests, h))
 not_refused P t _ (translating.too_large h k) = absurd (omega (arith, t.nodes, k))
 
-translated-check-decided : (told : Option Files) (files : Files) (P : Problem) (derivation : Word) (text : List ℕ) (m n f g : ℕ) → told ≡ Some files → file_in files derivation ≡ Some text → ¬ Rose f g → IsTranslatable P → (s : Status) (bytes : List ℕ) → TranslatedCheckEnds told P derivation s bytes → IsCounted m n f g s → IsJudged s
-translated-check-decided told files P d text m n f g t held quiet fits _ _ (not_translated s h) counted = absurd (not_refused P fits s h)
-translated-check-decided told files P d text m n f g t held quiet fits _ _ (translated s bytes k h) counted = check-decided told files (translated_problem P) d text m n f g t held quiet s bytes h counted
+translated-check-decided : (told : Option Files) (files : Files) (P : Problem) (derivation : Word) (text : List ℕ) (m n f g : ℕ) (after : List Read) → told ≡ Some files → file_in files derivation ≡ Some text → ¬ Rose f g → IsTranslatable P → (s : Status) (bytes : List ℕ) → TranslatedCheckEnds told P derivation s bytes → IsCounted m n f g after s → IsJudged s
+translated-check-decided told files P d text m n f g after t held quiet fits _ _ (not_translated s h) counted = absurd (not_refused P fits s h)
+translated-check-decided told files P d text m n f g after t held quiet fits _ _ (translated s bytes k h) counted = check-decided told files (translated_problem P) d text m n f g after t held quiet s bytes h counted
 
 -- ---- transfer
 
@@ -106,11 +107,11 @@ translating-decided : (P : Problem) (s : Status) → TranslatingEnds P s → IsT
 translating-decided P _ (too_deep h) = tt
 translating-decided P _ (translating.too_large h k) = tt
 
-transfer-decided : (told : Option Files) (files : Files) (P : Problem) (derivation : Word) (text : List ℕ) (m n f g : ℕ) → told ≡ Some files → file_in files derivation ≡ Some text → ¬ Rose f g → (s : Status) (bytes : List ℕ) → TransferEnds told P derivation s bytes → IsCounted m n f g s → IsTransferDecided s
-transfer-decided told files P d text m n f g t held quiet _ _ (transferred bytes h) counted = tt
-transfer-decided told files P d text m n f g t held quiet _ _ (transfer_ends.not_translated s h) counted = translating-decided P s h.refused
-transfer-decided told files P d text m n f g t held quiet _ _ (transfer_ends.rejected line fault h) counted = tt
-transfer-decided told files P d text m n f g t held quiet _ _ (transfer_ends.not_fetched s h) counted = absurd (fetched told files d text m n f g t held quiet s h counted)
+transfer-decided : (told : Option Files) (files : Files) (P : Problem) (derivation : Word) (text : List ℕ) (m n f g : ℕ) (after : List Read) → told ≡ Some files → file_in files derivation ≡ Some text → ¬ Rose f g → (s : Status) (bytes : List ℕ) → TransferEnds told P derivation s bytes → IsCounted m n f g after s → IsTransferDecided s
+transfer-decided told files P d text m n f g after t held quiet _ _ (transferred bytes h) counted = tt
+transfer-decided told files P d text m n f g after t held quiet _ _ (transfer_ends.not_translated s h) counted = translating-decided P s h.refused
+transfer-decided told files P d text m n f g after t held quiet _ _ (transfer_ends.rejected line fault h) counted = tt
+transfer-decided told files P d text m n f g after t held quiet _ _ (transfer_ends.not_fetched s h) counted = absurd (fetched told files d text m n f g after t held quiet s h counted)
 
 -- ---- make
 
@@ -124,19 +125,19 @@ make-decided g b e _ _ (made.refused r h k) =
 
 -- ---- model
 
-model-told : (told : Option Files) (p : ProblemFile) (structure : Word) (steps m n f g : ℕ) → ¬ Rose f g → (h : IsModel told p structure steps) (s : Status) (bytes : List ℕ) → ModelEnds told h.problem structure steps s bytes → IsCounted m n f g s → IsTold s
-model-told told p structure steps m n f g quiet h _ _ (modelled.true_at_root j) counted = tt
-model-told told p structure steps m n f g quiet h _ _ (modelled.false_at_root j u v) counted = tt
-model-told told p structure steps m n f g quiet h _ _ (modelled.bad_structure line cause j) counted =
+model-told : (told : Option Files) (p : ProblemFile) (structure : Word) (steps m n f g : ℕ) (after : List Read) → ¬ Rose f g → (h : IsModel told p structure steps) (s : Status) (bytes : List ℕ) → ModelEnds told h.problem structure steps s bytes → IsCounted m n f g after s → IsTold s
+model-told told p structure steps m n f g after quiet h _ _ (modelled.true_at_root j) counted = tt
+model-told told p structure steps m n f g after quiet h _ _ (modelled.false_at_root j u v) counted = tt
+model-told told p structure steps m n f g after quiet h _ _ (modelled.bad_structure line cause j) counted =
     let same = same-bytes told h.held.files structure h.bytes j.text h.held.tells h.held.given j.held in
     let truth = judged-truth h.problem h.stated h.bytes h.is_text h.sound in
     absurd (truth-not_bad (is_true h.problem h.stated) line cause
     (j.unique (truth_verdict (is_true h.problem h.stated)) (subst (λ b. IsStructureJudgement h.problem b (truth_verdict (is_true h.problem h.stated))) (sym same) truth)))
-model-told told p structure steps m n f g quiet h _ _ (modelled.steps_ended w) counted =
+model-told told p structure steps m n f g after quiet h _ _ (modelled.steps_ended w) counted =
     let same = same-bytes told h.held.files structure h.bytes w.text h.held.tells h.held.given w.held in
     absurd (same-ways h.problem w.stated h.stated h.bytes steps (subst (IsStructureText h.problem w.stated) same w.is_text) h.is_text w.more h.enough)
-model-told told p structure steps m n f g quiet h _ _ (modelled.not_fetched s k) counted =
-    absurd (fetched told h.held.files structure h.bytes m n f g h.held.tells h.held.given quiet s k counted)
+model-told told p structure steps m n f g after quiet h _ _ (modelled.not_fetched s k) counted =
+    absurd (fetched told h.held.files structure h.bytes m n f g after h.held.tells h.held.given quiet s k counted)
 
 true-not_bad : (line : ℕ) (cause : StructureCause) → verdict.bad_structure line cause ≡ verdict.true_at_root → ⊥
 true-not_bad line cause e = absurd (cc)
@@ -144,44 +145,44 @@ true-not_bad line cause e = absurd (cc)
 false-not_bad : (line : ℕ) (cause : StructureCause) → verdict.bad_structure line cause ≡ verdict.false_at_root → ⊥
 false-not_bad line cause e = absurd (cc)
 
-model-bad : (told : Option Files) (p : ProblemFile) (structure : Word) (steps line : ℕ) (cause : StructureCause) (m n f g : ℕ) → ¬ Rose f g → (h : IsNoModel told p structure line cause) (s : Status) (bytes : List ℕ) → ModelEnds told h.problem structure steps s bytes → IsCounted m n f g s → s ≡ status.BadStructure line cause
-model-bad told p structure steps line cause m n f g quiet h _ _ (modelled.true_at_root j) counted =
+model-bad : (told : Option Files) (p : ProblemFile) (structure : Word) (steps line : ℕ) (cause : StructureCause) (m n f g : ℕ) (after : List Read) → ¬ Rose f g → (h : IsNoModel told p structure line cause) (s : Status) (bytes : List ℕ) → ModelEnds told h.problem structure steps s bytes → IsCounted m n f g after s → s ≡ status.BadStructure line cause
+model-bad told p structure steps line cause m n f g after quiet h _ _ (modelled.true_at_root j) counted =
     let same = same-bytes told h.held.files structure h.bytes j.text h.held.tells h.held.given j.held in
     absurd (true-not_bad line cause (j.unique (verdict.bad_structure line cause) (subst (λ b. IsStructureJudgement h.problem b (verdict.bad_structure line cause)) (sym same) h.bad)))
-model-bad told p structure steps line cause m n f g quiet h _ _ (modelled.false_at_root j u v) counted =
+model-bad told p structure steps line cause m n f g after quiet h _ _ (modelled.false_at_root j u v) counted =
     let same = same-bytes told h.held.files structure h.bytes j.text h.held.tells h.held.given j.held in
     absurd (false-not_bad line cause (j.unique (verdict.bad_structure line cause) (subst (λ b. IsStructureJudgement h.problem b (verdict.bad_structure line cause)) (sym same) h.bad)))
-model-bad told p structure steps line cause m n f g quiet h _ _ (modelled.bad_structure k d j) counted =
+model-bad told p structure steps line cause m n f g after quiet h _ _ (modelled.bad_structure k d j) counted =
     let same = same-bytes told h.held.files structure h.bytes j.text h.held.tells h.held.given j.held in
     same-status k line d cause (j.unique (verdict.bad_structure line cause) (subst (λ b. IsStructureJudgement h.problem b (verdict.bad_structure line cause)) (sym same) h.bad))
-model-bad told p structure steps line cause m n f g quiet h _ _ (modelled.steps_ended w) counted =
+model-bad told p structure steps line cause m n f g after quiet h _ _ (modelled.steps_ended w) counted =
     let same = same-bytes told h.held.files structure h.bytes w.text h.held.tells h.held.given w.held in
     absurd (truth-not_bad (is_true h.problem w.stated) line cause
     (structure_judgement-unique h.problem h.bytes (truth_verdict (is_true h.problem w.stated)) (verdict.bad_structure line cause)
     (subst (λ b. IsStructureJudgement h.problem b (truth_verdict (is_true h.problem w.stated))) same w.judged) h.bad))
-model-bad told p structure steps line cause m n f g quiet h _ _ (modelled.not_fetched s k) counted =
-    absurd (fetched told h.held.files structure h.bytes m n f g h.held.tells h.held.given quiet s k counted)
+model-bad told p structure steps line cause m n f g after quiet h _ _ (modelled.not_fetched s k) counted =
+    absurd (fetched told h.held.files structure h.bytes m n f g after h.held.tells h.held.given quiet s k counted)
 
 -- ---- the commands
 
-pub decided : (told : Option Files) (command : Command) (s : Status) (bytes : List ℕ) (m n f g : ℕ) → Ends told command s bytes → IsCounted m n f g s → ¬ Rose f g → Decides told command s
-decided told (prove p b) s bytes m n f g ends counted quiet = (
-  λ h. prove-decided h.problem b h.suffices s bytes (for-problem told h.files p h.problem (λ P. ProveEnds P b) m n f g h.tells h.read quiet s bytes ends counted),
-  λ d h. prove-by_cut h.problem b d h.suffices s bytes (for-problem told h.files p h.problem (λ P. ProveEnds P b) m n f g h.tells h.read quiet s bytes ends counted),
+pub decided : (told : Option Files) (command : Command) (s : Status) (bytes : List ℕ) (m n f g : ℕ) (after : List Read) → Ends told command s bytes → IsCounted m n f g after s → ¬ Rose f g → Decides told command s
+decided told (prove p b) s bytes m n f g after ends counted quiet = (
+  λ h. prove-decided h.problem b h.suffices s bytes (for-problem told h.files p h.problem (λ P. ProveEnds P b) m n f g after h.tells h.read quiet s bytes ends counted),
+  λ d h. prove-by_cut h.problem b d h.suffices s bytes (for-problem told h.files p h.problem (λ P. ProveEnds P b) m n f g after h.tells h.read quiet s bytes ends counted),
 )
-decided told (check p d) s bytes m n f g ends counted quiet = λ h.
-    check-decided told h.files h.problem d h.bytes m n f g h.tells h.given quiet s bytes (for-problem told h.files p h.problem (λ P. CheckEnds told P d) m n f g h.tells h.read quiet s bytes ends counted) counted
-decided told (check_translated p d) s bytes m n f g ends counted quiet = λ h.
+decided told (check p d) s bytes m n f g after ends counted quiet = λ h.
+    check-decided told h.files h.problem d h.bytes m n f g after h.tells h.given quiet s bytes (for-problem told h.files p h.problem (λ P. CheckEnds told P d) m n f g after h.tells h.read quiet s bytes ends counted) counted
+decided told (check_translated p d) s bytes m n f g after ends counted quiet = λ h.
     let c = h.checkable in
-    translated-check-decided told c.files c.problem d c.bytes m n f g c.tells c.given quiet h.translatable s bytes (for-problem told c.files (in_intuitionistic p) c.problem (λ P. TranslatedCheckEnds told P d) m n f g c.tells c.read quiet s bytes ends counted) counted
-decided told (transfer p d) s bytes m n f g ends counted quiet = λ h.
-    transfer-decided told h.files h.problem d h.bytes m n f g h.tells h.given quiet s bytes (for-problem told h.files (in_intuitionistic p) h.problem (λ P. TransferEnds told P d) m n f g h.tells h.read quiet s bytes ends counted) counted
-decided told (make g b) s bytes m n f k ends counted quiet = λ h. make-decided g b h s bytes ends
-decided told (model p d b) s bytes m n f g ends counted quiet = (
-  λ h. model-told told p d b m n f g quiet h s bytes (for-problem told h.held.files p h.problem (λ P. ModelEnds told P d b) m n f g h.held.tells h.held.read quiet s bytes ends counted) counted,
-  λ line cause h. model-bad told p d b line cause m n f g quiet h s bytes (for-problem told h.held.files p h.problem (λ P. ModelEnds told P d b) m n f g h.held.tells h.held.read quiet s bytes ends counted) counted,
+    translated-check-decided told c.files c.problem d c.bytes m n f g after c.tells c.given quiet h.translatable s bytes (for-problem told c.files (in_intuitionistic p) c.problem (λ P. TranslatedCheckEnds told P d) m n f g after c.tells c.read quiet s bytes ends counted) counted
+decided told (transfer p d) s bytes m n f g after ends counted quiet = λ h.
+    transfer-decided told h.files h.problem d h.bytes m n f g after h.tells h.given quiet s bytes (for-problem told h.files (in_intuitionistic p) h.problem (λ P. TransferEnds told P d) m n f g after h.tells h.read quiet s bytes ends counted) counted
+decided told (make g b) s bytes m n f k after ends counted quiet = λ h. make-decided g b h s bytes ends
+decided told (model p d b) s bytes m n f g after ends counted quiet = (
+  λ h. model-told told p d b m n f g after quiet h s bytes (for-problem told h.held.files p h.problem (λ P. ModelEnds told P d b) m n f g after h.held.tells h.held.read quiet s bytes ends counted) counted,
+  λ line cause h. model-bad told p d b line cause m n f g after quiet h s bytes (for-problem told h.held.files p h.problem (λ P. ModelEnds told P d b) m n f g after h.held.tells h.held.read quiet s bytes ends counted) counted,
 )
-decided told (bad place) s bytes m n f g ends counted quiet = tt
+decided told (bad place) s bytes m n f g after ends counted quiet = tt
 
 -- so it is where anything is answered
 pub on-answer : (fact : Type 0) (s : Status) → fact → OnAnswer s fact

@@ -2,6 +2,7 @@
 use Rattle.std.proofs.Common.{◌≡◌, List, ℕ, Option, Result, Ok, Err, Bool, true, false, refl, sym, subst}
 use Rattle.std.specs.Prelude.{IfOk}
 use Rattle.cop_base.specs.Outside.{Files}
+use Rattle.cop_base.specs.Reads.{Read}
 use Rattle.cop_base.specs.declared.NoMemory.{NoMemory}
 use Rattle.calculus.specs.Syntax.{Problem}
 use Rattle.calculus.specs.Translation.{translated_problem}
@@ -34,9 +35,9 @@ pub line-ends : (ends : Status → List ℕ → Type 0) (s : Status) (r : Result
 line-ends ends s (Ok x) e k h = subst (ends x.status) (sym k) (subst (λ t. ends t (status_line s)) (sym e) h)
 line-ends ends s (Err f) e k h = tt
 
-pub line-counted : (m n f g : ℕ) (s : Status) (r : Result Reply NoMemory) → IfOk r (λ x. x.status ≡ s) → IsCounted m n f g s → IfOk r (λ x. IsCounted m n f g x.status)
-line-counted m n f g s (Ok x) e h = subst (IsCounted m n f g) (sym e) h
-line-counted m n f g s (Err k) e h = tt
+pub line-counted : (m n f g : ℕ) (after : List Read) (s : Status) (r : Result Reply NoMemory) → IfOk r (λ x. x.status ≡ s) → IsCounted m n f g after s → IfOk r (λ x. IsCounted m n f g after x.status)
+line-counted m n f g after s (Ok x) e h = subst (IsCounted m n f g after) (sym e) h
+line-counted m n f g after s (Err k) e h = tt
 
 -- ---- replies for a problem that is read
 
@@ -46,44 +47,44 @@ read-ends told p P ends (Err f) read h = tt
 
 -- ---- a search fetches nothing
 
-search-counted : (P : Problem) (b : Bounds) (m n f g : ℕ) (s : Status) → SearchEnds P b s → IsCounted m n f g s
-search-counted P b m n f g _ (exhausted d h) = tt
-search-counted P b m n f g _ (no_tableau d h) = tt
-search-counted P b m n f g _ (steps_ended d k h) = tt
-search-counted P b m n f g _ (too_large h) = tt
+search-counted : (P : Problem) (b : Bounds) (m n f g : ℕ) (after : List Read) (s : Status) → SearchEnds P b s → IsCounted m n f g after s
+search-counted P b m n f g after _ (exhausted d h) = tt
+search-counted P b m n f g after _ (no_tableau d h) = tt
+search-counted P b m n f g after _ (steps_ended d k h) = tt
+search-counted P b m n f g after _ (too_large h) = tt
 
-prove-counted : (P : Problem) (b : Bounds) (m n f g : ℕ) (s : Status) (bytes : List ℕ) → ProveEnds P b s bytes → IsCounted m n f g s
-prove-counted P b m n f g _ _ (derived d bytes h) = tt
-prove-counted P b m n f g _ _ (fruitless s h) = search-counted P b m n f g s h
+prove-counted : (P : Problem) (b : Bounds) (m n f g : ℕ) (after : List Read) (s : Status) (bytes : List ℕ) → ProveEnds P b s bytes → IsCounted m n f g after s
+prove-counted P b m n f g after _ _ (derived d bytes h) = tt
+prove-counted P b m n f g after _ _ (fruitless s h) = search-counted P b m n f g after s h
 
-pub proved-counted : (P : Problem) (b : Bounds) (m n f g : ℕ) (r : Result Reply NoMemory) → IfOk r (λ x. ProveEnds P b x.status x.output.items) → IfOk r (λ x. IsCounted m n f g x.status)
-proved-counted P b m n f g (Ok x) h = prove-counted P b m n f g x.status x.output.items h
-proved-counted P b m n f g (Err k) h = tt
+pub proved-counted : (P : Problem) (b : Bounds) (m n f g : ℕ) (after : List Read) (r : Result Reply NoMemory) → IfOk r (λ x. ProveEnds P b x.status x.output.items) → IfOk r (λ x. IsCounted m n f g after x.status)
+proved-counted P b m n f g after (Ok x) h = prove-counted P b m n f g after x.status x.output.items h
+proved-counted P b m n f g after (Err k) h = tt
 
 -- ---- translating fetches nothing
 
-pub translating-counted : (P : Problem) (m n f g : ℕ) (s : Status) → TranslatingEnds P s → IsCounted m n f g s
-translating-counted P m n f g _ (translating.too_deep h) = tt
-translating-counted P m n f g _ (translating.too_large h k) = tt
+pub translating-counted : (P : Problem) (m n f g : ℕ) (after : List Read) (s : Status) → TranslatingEnds P s → IsCounted m n f g after s
+translating-counted P m n f g after _ (translating.too_deep h) = tt
+translating-counted P m n f g after _ (translating.too_large h k) = tt
 
 -- ---- nor does the reading of a generated text, as far as its library counts
 
-refusal-counted : (m n f g : ℕ) (r : Refusal) → IsOfText r → IsCounted m n f g (refusal_status r)
-refusal-counted m n f g (missing name) h = absurd h
-refusal-counted m n f g input_too_large h = tt
-refusal-counted m n f g nesting_too_deep h = tt
-refusal-counted m n f g formula_too_large h = tt
-refusal-counted m n f g too_many_symbols h = tt
-refusal-counted m n f g (bad_problem file offset cause) h = tt
+refusal-counted : (m n f g : ℕ) (after : List Read) (r : Refusal) → IsOfText r → IsCounted m n f g after (refusal_status r)
+refusal-counted m n f g after (missing name) h = absurd h
+refusal-counted m n f g after input_too_large h = tt
+refusal-counted m n f g after nesting_too_deep h = tt
+refusal-counted m n f g after formula_too_large h = tt
+refusal-counted m n f g after too_many_symbols h = tt
+refusal-counted m n f g after (bad_problem file offset cause) h = tt
 
-make-counted : (p : GeneratedProblem) (b : Bounds) (m n f g : ℕ) (s : Status) (bytes : List ℕ) → MakeEnds p b s bytes → IsCounted m n f g s
-make-counted p b m n f g _ _ (made.derived P d text h k) = tt
-make-counted p b m n f g _ _ (made.fruitless P s h k) = search-counted P b m n f g s k
-make-counted p b m n f g _ _ (made.refused r h k) = refusal-counted m n f g r h
+make-counted : (p : GeneratedProblem) (b : Bounds) (m n f g : ℕ) (after : List Read) (s : Status) (bytes : List ℕ) → MakeEnds p b s bytes → IsCounted m n f g after s
+make-counted p b m n f g after _ _ (made.derived P d text h k) = tt
+make-counted p b m n f g after _ _ (made.fruitless P s h k) = search-counted P b m n f g after s k
+make-counted p b m n f g after _ _ (made.refused r h k) = refusal-counted m n f g after r h
 
-pub made-counted : (p : GeneratedProblem) (b : Bounds) (m n f g : ℕ) (r : Result Reply NoMemory) → IfOk r (λ x. MakeEnds p b x.status x.output.items) → IfOk r (λ x. IsCounted m n f g x.status)
-made-counted p b m n f g (Ok x) h = make-counted p b m n f g x.status x.output.items h
-made-counted p b m n f g (Err k) h = tt
+pub made-counted : (p : GeneratedProblem) (b : Bounds) (m n f g : ℕ) (after : List Read) (r : Result Reply NoMemory) → IfOk r (λ x. MakeEnds p b x.status x.output.items) → IfOk r (λ x. IsCounted m n f g after x.status)
+made-counted p b m n f g after (Ok x) h = make-counted p b m n f g after x.status x.output.items h
+made-counted p b m n f g after (Err k) h = tt
 
 -- ---- what ends a run tells something
 

@@ -2,6 +2,7 @@
 use Rattle.std.proofs.Common.{◌≡◌, List, [], ◌∷◌, ℕ, Some, Err, arith, codes, inl, inr, subst}
 use Rattle.command_line.specs.CommandLine.{Bounds, GeneratedProblem}
 use Rattle.cop_base.specs.Outside.{Rose}
+use Rattle.cop_base.specs.Reads.{Read}
 use Rattle.problem_build.specs.Refusals.{Refusal, missing, input_too_large, nesting_too_deep, formula_too_large, too_many_symbols, bad}
 use Rattle.leancop_top.proofs.NoIncludes.{none-missing}
 use Rattle.leancop_top.specs.Commands.Make.{MakeEnds, made_file, made_files, made_text, output_of}
@@ -31,6 +32,6 @@ by_refusal g b too_many_symbols h = made.refused too_many_symbols tt h
 by_refusal g b (bad file offset cause) h = made.refused (bad file offset cause) tt h
 
 -- its library counts no fault
-pub by_reading : (g : GeneratedProblem) (b : Bounds) (m n : ℕ) (s : Status) → ReadingEnds (Some (made_files g)) (made_file g) s → IsCounted m n 0 0 s → MakeEnds g b s (output_of g s)
-by_reading g b m n _ (refused r h) counted = by_refusal g b r h
-by_reading g b m n _ (unread name h) counted = absurd (not-rose counted)
+pub by_reading : (g : GeneratedProblem) (b : Bounds) (m n : ℕ) (after : List Read) (s : Status) → ReadingEnds (Some (made_files g)) (made_file g) s → IsCounted m n 0 0 after s → MakeEnds g b s (output_of g s)
+by_reading g b m n after _ (refused r h) counted = by_refusal g b r h
+by_reading g b m n after _ (unread name h) counted = absurd (not-rose counted.0)

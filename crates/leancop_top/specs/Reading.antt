@@ -1,6 +1,7 @@
 -- How reading a problem ends.
 use Rattle.std.specs.Prelude.{◌≡◌, ⊤, List, ℕ, Option, IfSome, Result, Ok, Err}
 use Rattle.cop_base.specs.Outside.{Files}
+use Rattle.cop_base.specs.Reads as seen
 use Rattle.calculus.specs.Syntax.{Problem, Setting}
 use Rattle.command_line.specs.CommandLine.{ProblemFile}
 use Rattle.problem_build.specs.Building.{IsProblemOf, WalkFetches}
@@ -52,9 +53,9 @@ IsReadIn setting (Read problem) = problem.setting ≡ setting
 IsReadIn setting (Refused s) = ⊤
 
 -- its counts
-abbrev pub IsReadingCounted : ℕ → ℕ → ℕ → ℕ → program.Reading → Type 0
-IsReadingCounted m n f g (Read problem) = ⊤
-IsReadingCounted m n f g (Refused s) = IsCounted m n f g s
+abbrev pub IsReadingCounted : ℕ → ℕ → ℕ → ℕ → List seen.Read → program.Reading → Type 0
+IsReadingCounted m n f g after (Read problem) = ⊤
+IsReadingCounted m n f g after (Refused s) = IsCounted m n f g after s
 
 -- a command for a problem ends as reading it does, or as it ends for the problem that is read
 pub data EndsOn (told : Option Files) (p : ProblemFile) (ends : Problem → Status → List ℕ → Type 0)

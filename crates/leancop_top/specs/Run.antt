@@ -2,6 +2,7 @@
 use Rattle.calculus.specs.declared.fault.StructureCause.{StructureCause}
 use Rattle.std.specs.Prelude.{◌≡◌, ⊤, ℕ, List, take, Option}
 use Rattle.cop_base.specs.Outside.{Files, with_bytes}
+use Rattle.cop_base.specs.Reads.{Read}
 use Rattle.command_line.specs.CommandLine.{Command, prove, check, check_translated, transfer, make, model, bad}
 use Rattle.command_line.specs.CommandLine.{in_intuitionistic}
 use Rattle.leancop_top.specs.Commands.Check.{CheckEnds, IsCheckable, IsJudged}
@@ -40,11 +41,12 @@ pub record IsAnswered (told : Option Files) (command : Command) (status : Status
 
 -- writing failed: a prefix of the output of some status, with its counts, is written
 pub record IsCutOff (told : Option Files) (command : Command)
-    (misses misses_after faults faults_after : ℕ) (before after : Option (List ℕ)) : Type 0 where
+    (misses misses_after faults faults_after : ℕ) (reads : List Read)
+    (before after : Option (List ℕ)) : Type 0 where
   pub status : Status
   pub bytes : List ℕ
   pub ends : Ends told command status bytes
-  pub counted : IsCounted misses misses_after faults faults_after status
+  pub counted : IsCounted misses misses_after faults faults_after reads status
   pub length : ℕ
   pub written : after ≡ with_bytes before (take length bytes)
 

@@ -1,6 +1,7 @@
 -- What is read beside a problem.
 use Rattle.std.specs.Prelude.{◌≡◌, ⊤, ℕ, List, Option, None, Some, IfSome}
 use Rattle.cop_base.specs.Outside.{Files, file_in}
+use Rattle.cop_base.specs.Reads.{Read}
 use Rattle.command_line.specs.Table.{Word}
 use Rattle.leancop_top.specs.Statuses.{IsCounted}
 use Rattle.leancop_top.specs.declared.second_file.SecondFile as program
@@ -26,6 +27,6 @@ IsFetching told name (Fetched bytes) = HasBytes told name bytes.items
 IsFetching told name (NotFetched status) = FetchEnds told name status
 
 -- its counts
-abbrev pub IsFetchingCounted : ℕ → ℕ → ℕ → ℕ → program.SecondFile → Type 0
-IsFetchingCounted m n f g (Fetched bytes) = ⊤
-IsFetchingCounted m n f g (NotFetched status) = IsCounted m n f g status
+abbrev pub IsFetchingCounted : ℕ → ℕ → ℕ → ℕ → List Read → program.SecondFile → Type 0
+IsFetchingCounted m n f g after (Fetched bytes) = ⊤
+IsFetchingCounted m n f g after (NotFetched status) = IsCounted m n f g after status

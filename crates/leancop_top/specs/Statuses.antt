@@ -1,6 +1,8 @@
 -- What each status is: its line, the exit status of the process, and what a run has counted.
 use Rattle.std.specs.Prelude.{ℕ, ⊤, List, [], ◌++◌, codes, decimal}
 use Rattle.cop_base.specs.Outside.{Rose}
+use Rattle.cop_base.specs.Reads as seen
+use Rattle.cop_base.specs.Reads.{EndsWith, Read}
 use Rattle.leancop_top.specs.FaultTexts.{cause_text, fault_text, structure_cause_text}
 use Rattle.leancop_top.specs.declared.status.Status.{Status}
 use Rattle.leancop_top.specs.declared.status.Status.TheVariants.{Derived, Exhausted, NoTableau}
@@ -59,11 +61,14 @@ status_line status = (row_of status).line
 abbrev pub exit_of : Status → ℕ
 exit_of status = (row_of status).exit
 
--- a missing file and a file that could not be read have been counted
-abbrev pub IsCounted : ℕ → ℕ → ℕ → ℕ → Status → Type 0
-IsCounted misses misses_after faults faults_after (Missing name) = Rose misses misses_after
-IsCounted misses misses_after faults faults_after (ReadFault name) = Rose faults faults_after
-IsCounted _ _ _ _ _ = ⊤
+-- a missing file and a file that could not be read have been counted, and are those of the last
+-- answer of the library
+abbrev pub IsCounted : ℕ → ℕ → ℕ → ℕ → List Read → Status → Type 0
+IsCounted misses misses_after faults faults_after after (Missing name) =
+    Rose misses misses_after × EndsWith after name seen.absent
+IsCounted misses misses_after faults faults_after after (ReadFault name) =
+    Rose faults faults_after × EndsWith after name seen.failed
+IsCounted _ _ _ _ _ _ = ⊤
 
 -- a fact for each status but the two that say nothing of what was asked
 abbrev pub OnAnswer : Status → Type 0 → Type 0

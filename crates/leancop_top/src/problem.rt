@@ -1,9 +1,11 @@
 //! Reading a problem.
 
-ghost use Rattle.std.specs.Prelude.{◌≡◌, ◌≤◌, IfOk};
+ghost use Rattle.std.specs.Prelude.{◌≡◌, ◌≤◌, IfOk, Option};
 ghost use Rattle.calculus.specs.Syntax.{setting_of};
 ghost use Rattle.calculus.specs.declared.setting.Domains.TheVariants.{Cumulative};
 ghost use Rattle.calculus.specs.declared.setting.Logic.TheVariants.{Intuitionistic};
+ghost use Rattle.cop_base.specs.Outside.{Files};
+ghost use Rattle.cop_base.specs.Reads.{ReadsOn};
 ghost use Rattle.command_line.specs.CommandLine.{in_intuitionistic};
 ghost use Rattle.command_line.specs.CommandView.{the_intuitionistic_file, the_problem_file};
 ghost use Rattle.logic_rules.specs.SettingView.{the_setting};
@@ -57,11 +59,13 @@ pub fn read_problem<L: Library>(
     ensures same_files { L.holds lib.new ≡ L.holds lib.old }
     ensures more_faults { L.faults lib.old ≤ L.faults lib.new }
     ensures more_misses { L.misses lib.old ≤ L.misses lib.new }
-    ensures reading { IfOk result
-        (λ r. IsReading (L.holds lib.old) (the_problem_file file.entry) r) }
+    ensures reads_on { ReadsOn (L.holds lib.old) (L.reads lib.old) (L.reads lib.new) }
+    ensures reading { (told : Option Files) → ReadsOn told (L.reads lib.old) (L.reads lib.new)
+        → IfOk result (λ r. IsReading told (the_problem_file file.entry) r) }
     ensures setting { IfOk result (λ r. IsReadIn (the_setting file.entry.setting) r) }
     ensures counted { IfOk result (λ r. IsReadingCounted
-        (L.misses lib.old) (L.misses lib.new) (L.faults lib.old) (L.faults lib.new) r) }
+        (L.misses lib.old) (L.misses lib.new) (L.faults lib.old) (L.faults lib.new)
+        (L.reads lib.new) r) }
 {
     let name = Text::new(alloc, file.name.as_bytes())?;
     let root = Text::new(alloc, file.root.as_bytes())?;
@@ -83,11 +87,13 @@ pub fn read_intuitionistic<L: Library>(
     ensures same_files { L.holds lib.new ≡ L.holds lib.old }
     ensures more_faults { L.faults lib.old ≤ L.faults lib.new }
     ensures more_misses { L.misses lib.old ≤ L.misses lib.new }
-    ensures reading { IfOk result (λ r. IsReading
-        (L.holds lib.old) (in_intuitionistic (the_intuitionistic_file file.entry)) r) }
+    ensures reads_on { ReadsOn (L.holds lib.old) (L.reads lib.old) (L.reads lib.new) }
+    ensures reading { (told : Option Files) → ReadsOn told (L.reads lib.old) (L.reads lib.new)
+        → IfOk result (λ r. IsReading told (in_intuitionistic (the_intuitionistic_file file.entry)) r) }
     ensures setting { IfOk result (λ r. IsReadIn (setting_of Intuitionistic Cumulative) r) }
     ensures counted { IfOk result (λ r. IsReadingCounted
-        (L.misses lib.old) (L.misses lib.new) (L.faults lib.old) (L.faults lib.new) r) }
+        (L.misses lib.old) (L.misses lib.new) (L.faults lib.old) (L.faults lib.new)
+        (L.reads lib.new) r) }
 {
     read_problem(alloc, lib, file.problem_file())
 }

@@ -1,11 +1,12 @@
 //! A run of the program.
 
-ghost use Rattle.std.specs.Prelude.{◌≡◌, ◌≤◌, IfOk, IsTrue};
+ghost use Rattle.std.specs.Prelude.{◌≡◌, ◌≤◌, IfOk, IsTrue, Option};
 ghost use Rattle.calculus.specs.ComputedInstances.{ComputesInstances};
 ghost use Rattle.calculus.specs.Problems.{is_problem};
 ghost use Rattle.calculus.specs.Soundness.{IsSound};
 ghost use Rattle.calculus.specs.Syntax as tree;
-ghost use Rattle.cop_base.specs.Outside.{Rose};
+ghost use Rattle.cop_base.specs.Outside.{Files, Rose};
+ghost use Rattle.cop_base.specs.Reads.{ReadsOn};
 ghost use Rattle.command_line.specs.CommandLine.{asked};
 ghost use Rattle.leancop_top.specs.Run.{Decides, Ends, IsAnswered, IsCutOff};
 ghost use Rattle.leancop_top.specs.Statuses.{IsCounted, OnAnswer};
@@ -26,10 +27,12 @@ fn answer<L: Library>(alloc: Global, words: &[String], lib: &mut L) -> Result<Re
     ensures same_files { L.holds lib.new ≡ L.holds lib.old }
     ensures more_faults { L.faults lib.old ≤ L.faults lib.new }
     ensures more_misses { L.misses lib.old ≤ L.misses lib.new }
-    ensures ends { IfOk result
-        (λ r. Ends (L.holds lib.old) (asked words.now) r.status r.output.items) }
+    ensures reads_on { ReadsOn (L.holds lib.old) (L.reads lib.old) (L.reads lib.new) }
+    ensures ends { (told : Option Files) → ReadsOn told (L.reads lib.old) (L.reads lib.new)
+        → IfOk result (λ r. Ends told (asked words.now) r.status r.output.items) }
     ensures counted { IfOk result (λ r. IsCounted
-        (L.misses lib.old) (L.misses lib.new) (L.faults lib.old) (L.faults lib.new) r.status) }
+        (L.misses lib.old) (L.misses lib.new) (L.faults lib.old) (L.faults lib.new)
+        (L.reads lib.new) r.status) }
 {
     match command_of(words) {
         Command::Prove { problem, bounds } => prove(alloc, lib, problem, bounds),
@@ -64,15 +67,32 @@ pub fn run<L: Library, K: Sink>(
     lib: &mut L,
     out: &mut K,
 ) -> Status
+    // Of every map of files that agrees with what this run read.
+    ensures agreeing { (told : Option Files) → ReadsOn told (L.reads lib.old) (L.reads lib.new)
+        → OnAnswer result (IsAnswered told (asked words.now.items) result
+        (K.written out.old) (K.written out.new)) }
+    ensures agreeing_cut_off { (told : Option Files)
+        → ReadsOn told (L.reads lib.old) (L.reads lib.new)
+        → result ≡ Status.WriteFault → IsCutOff told (asked words.now.items)
+        (L.misses lib.old) (L.misses lib.new) (L.faults lib.old) (L.faults lib.new)
+        (L.reads lib.new) (K.written out.old) (K.written out.new) }
+    ensures agreeing_decided { (told : Option Files)
+        → ReadsOn told (L.reads lib.old) (L.reads lib.new)
+        → ¬ Rose (L.faults lib.old) (L.faults lib.new)
+        → OnAnswer result (Decides told (asked words.now.items) result) }
+
+    // The files that the library tells agree, so the same holds of them.
+    ensures reads_on { ReadsOn (L.holds lib.old) (L.reads lib.old) (L.reads lib.new) }
     ensures answered { OnAnswer result (IsAnswered (L.holds lib.old) (asked words.now.items) result
         (K.written out.old) (K.written out.new)) }
     ensures counted { IsCounted
-        (L.misses lib.old) (L.misses lib.new) (L.faults lib.old) (L.faults lib.new) result }
+        (L.misses lib.old) (L.misses lib.new) (L.faults lib.old) (L.faults lib.new)
+        (L.reads lib.new) result }
     ensures write_fault { result ≡ Status.WriteFault → Rose (K.faults out.old) (K.faults out.new) }
     ensures cut_off { result ≡ Status.WriteFault → IsCutOff
         (L.holds lib.old) (asked words.now.items)
         (L.misses lib.old) (L.misses lib.new) (L.faults lib.old) (L.faults lib.new)
-        (K.written out.old) (K.written out.new) }
+        (L.reads lib.new) (K.written out.old) (K.written out.new) }
     ensures no_memory { result ≡ Status.NoMemory → K.written out.new ≡ K.written out.old }
 
     // No file changes, and no count falls.

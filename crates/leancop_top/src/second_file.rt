@@ -1,6 +1,8 @@
 //! Fetching what is read beside a problem.
 
-ghost use Rattle.std.specs.Prelude.{◌≡◌, ◌≤◌, IfOk};
+ghost use Rattle.std.specs.Prelude.{◌≡◌, ◌≤◌, IfOk, Option};
+ghost use Rattle.cop_base.specs.Outside.{Files};
+ghost use Rattle.cop_base.specs.Reads.{ReadsOn};
 ghost use Rattle.leancop_top.specs.SecondFile.{IsFetching, IsFetchingCounted};
 
 use crate::status::Status;
@@ -23,9 +25,12 @@ pub fn fetch_second<L: Library>(
     ensures same_files { L.holds lib.new ≡ L.holds lib.old }
     ensures more_faults { L.faults lib.old ≤ L.faults lib.new }
     ensures more_misses { L.misses lib.old ≤ L.misses lib.new }
-    ensures fetching { IfOk result (λ f. IsFetching (L.holds lib.old) name.now f) }
+    ensures reads_on { ReadsOn (L.holds lib.old) (L.reads lib.old) (L.reads lib.new) }
+    ensures fetching { (told : Option Files) → ReadsOn told (L.reads lib.old) (L.reads lib.new)
+        → IfOk result (λ f. IsFetching told name.now f) }
     ensures counted { IfOk result (λ f. IsFetchingCounted
-        (L.misses lib.old) (L.misses lib.new) (L.faults lib.old) (L.faults lib.new) f) }
+        (L.misses lib.old) (L.misses lib.new) (L.faults lib.old) (L.faults lib.new)
+        (L.reads lib.new) f) }
 {
     let name = Text::new(alloc, name.as_bytes())?;
     match lib.fetch(&name, u64::MAX) {

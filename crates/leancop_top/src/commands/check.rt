@@ -4,6 +4,7 @@
 ghost use Rattle.std.specs.Prelude.{◌≡◌, ◌≤◌, IfOk, List, Option, ℕ};
 ghost use Rattle.calculus.specs.declared.setting.Logic.TheVariants.{Intuitionistic};
 ghost use Rattle.cop_base.specs.Outside.{Files};
+ghost use Rattle.cop_base.specs.Reads.{Read, ReadsOn};
 ghost use Rattle.command_line.specs.CommandLine.{check, check_translated};
 ghost use Rattle.command_line.specs.CommandView.{the_intuitionistic_file, the_problem_file};
 ghost use Rattle.leancop_top.specs.Commands.Check.{CheckEnds, TranslatedCheckEnds};
@@ -26,7 +27,7 @@ use std::alloc::Global;
 fn judge(alloc: Global, problem: &Problem, bytes: &[u8]) -> Result<Status, NoMemory>
     ensures ends { (told : Option Files) (name : List ℕ) → HasBytes told name bytes.now
         → IfOk result (λ s. CheckEnds told problem.now name s (status_line s)) }
-    ensures counted { (m n f g : ℕ) → IfOk result (λ s. IsCounted m n f g s) }
+    ensures counted { (m n f g : ℕ) (after : List Read) → IfOk result (λ s. IsCounted m n f g after s) }
 {
     let _symbols = problem.symbols(); // tells that it is a problem
     match derivation_check::check(alloc, problem, bytes)? {
@@ -44,10 +45,12 @@ fn check_derivation<L: Library>(
     ensures same_files { L.holds lib.new ≡ L.holds lib.old }
     ensures more_faults { L.faults lib.old ≤ L.faults lib.new }
     ensures more_misses { L.misses lib.old ≤ L.misses lib.new }
-    ensures ends { IfOk result (λ r. CheckEnds
-        (L.holds lib.old) problem.now derivation.now r.status r.output.items) }
+    ensures reads_on { ReadsOn (L.holds lib.old) (L.reads lib.old) (L.reads lib.new) }
+    ensures ends { (told : Option Files) → ReadsOn told (L.reads lib.old) (L.reads lib.new)
+        → IfOk result (λ r. CheckEnds told problem.now derivation.now r.status r.output.items) }
     ensures counted { IfOk result (λ r. IsCounted
-        (L.misses lib.old) (L.misses lib.new) (L.faults lib.old) (L.faults lib.new) r.status) }
+        (L.misses lib.old) (L.misses lib.new) (L.faults lib.old) (L.faults lib.new)
+        (L.reads lib.new) r.status) }
 {
     match fetch_second(alloc, lib, derivation)? {
         SecondFile::Fetched(bytes) => {
@@ -67,10 +70,13 @@ pub fn check<L: Library>(
     ensures same_files { L.holds lib.new ≡ L.holds lib.old }
     ensures more_faults { L.faults lib.old ≤ L.faults lib.new }
     ensures more_misses { L.misses lib.old ≤ L.misses lib.new }
-    ensures ends { IfOk result (λ r. Ends (L.holds lib.old)
+    ensures reads_on { ReadsOn (L.holds lib.old) (L.reads lib.old) (L.reads lib.new) }
+    ensures ends { (told : Option Files) → ReadsOn told (L.reads lib.old) (L.reads lib.new)
+        → IfOk result (λ r. Ends told
         (check (the_problem_file file.entry) derivation.now) r.status r.output.items) }
     ensures counted { IfOk result (λ r. IsCounted
-        (L.misses lib.old) (L.misses lib.new) (L.faults lib.old) (L.faults lib.new) r.status) }
+        (L.misses lib.old) (L.misses lib.new) (L.faults lib.old) (L.faults lib.new)
+        (L.reads lib.new) r.status) }
 {
     match read_problem(alloc, lib, file)? {
         Reading::Read(problem) => check_derivation(alloc, lib, &problem, derivation),
@@ -88,10 +94,12 @@ fn check_for_translation<L: Library>(
     ensures same_files { L.holds lib.new ≡ L.holds lib.old }
     ensures more_faults { L.faults lib.old ≤ L.faults lib.new }
     ensures more_misses { L.misses lib.old ≤ L.misses lib.new }
-    ensures ends { IfOk result (λ r. TranslatedCheckEnds
-        (L.holds lib.old) problem.now derivation.now r.status r.output.items) }
+    ensures reads_on { ReadsOn (L.holds lib.old) (L.reads lib.old) (L.reads lib.new) }
+    ensures ends { (told : Option Files) → ReadsOn told (L.reads lib.old) (L.reads lib.new)
+        → IfOk result (λ r. TranslatedCheckEnds told problem.now derivation.now r.status r.output.items) }
     ensures counted { IfOk result (λ r. IsCounted
-        (L.misses lib.old) (L.misses lib.new) (L.faults lib.old) (L.faults lib.new) r.status) }
+        (L.misses lib.old) (L.misses lib.new) (L.faults lib.old) (L.faults lib.new)
+        (L.reads lib.new) r.status) }
 {
     match translate_problem(alloc, problem)? {
         Translation::Translated(translated) => {
@@ -111,10 +119,13 @@ pub fn check_translated<L: Library>(
     ensures same_files { L.holds lib.new ≡ L.holds lib.old }
     ensures more_faults { L.faults lib.old ≤ L.faults lib.new }
     ensures more_misses { L.misses lib.old ≤ L.misses lib.new }
-    ensures ends { IfOk result (λ r. Ends (L.holds lib.old)
+    ensures reads_on { ReadsOn (L.holds lib.old) (L.reads lib.old) (L.reads lib.new) }
+    ensures ends { (told : Option Files) → ReadsOn told (L.reads lib.old) (L.reads lib.new)
+        → IfOk result (λ r. Ends told
         (check_translated (the_intuitionistic_file file.entry) derivation.now) r.status r.output.items) }
     ensures counted { IfOk result (λ r. IsCounted
-        (L.misses lib.old) (L.misses lib.new) (L.faults lib.old) (L.faults lib.new) r.status) }
+        (L.misses lib.old) (L.misses lib.new) (L.faults lib.old) (L.faults lib.new)
+        (L.reads lib.new) r.status) }
 {
     match read_intuitionistic(alloc, lib, file)? {
         Reading::Read(problem) => check_for_translation(alloc, lib, &problem, derivation),

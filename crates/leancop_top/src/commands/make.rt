@@ -17,7 +17,7 @@ use crate::status::Status;
 use crate::tableau_search::{Searched, search};
 use crate::text_library::TextLibrary;
 use command_line::{Bounds, GeneratedProblem, ProblemFile};
-use cop_base::{NoMemory, Text};
+use cop_base::{NoMemory, ReadRecord, Text};
 use derivation_check::Verdict;
 use logic_rules::Problem;
 use std::alloc::Global;
@@ -68,6 +68,7 @@ fn status_of_text(
         name,
         text,
         misses: 0,
+        history: ReadRecord::new(),
     };
     let file = ProblemFile {
         name: MAIN,

@@ -2,6 +2,7 @@
 
 ghost use Rattle.std.specs.Prelude.{◌≡◌, ◌≤◌, IfOk, List, Option, ℕ};
 ghost use Rattle.cop_base.specs.Outside.{Files};
+ghost use Rattle.cop_base.specs.Reads.{Read, ReadsOn};
 ghost use Rattle.command_line.specs.CommandLine.{model};
 ghost use Rattle.command_line.specs.CommandView.{the_problem_file};
 ghost use Rattle.leancop_top.specs.Commands.Model.{ModelEnds};
@@ -28,7 +29,7 @@ fn status_of_bytes(
 ) -> Result<Status, NoMemory>
     ensures ends { (told : Option Files) (name : List ℕ) → HasBytes told name bytes.now
         → IfOk result (λ s. ModelEnds told problem.now name steps s (status_line s)) }
-    ensures counted { (m n f g : ℕ) → IfOk result (λ s. IsCounted m n f g s) }
+    ensures counted { (m n f g : ℕ) (after : List Read) → IfOk result (λ s. IsCounted m n f g after s) }
 {
     let _symbols = problem.symbols(); // tells that it is a problem
     let structure = match read_structure(alloc, problem, bytes) {
@@ -56,10 +57,12 @@ fn model_structure<L: Library>(
     ensures same_files { L.holds lib.new ≡ L.holds lib.old }
     ensures more_faults { L.faults lib.old ≤ L.faults lib.new }
     ensures more_misses { L.misses lib.old ≤ L.misses lib.new }
-    ensures ends { IfOk result (λ r. ModelEnds
-        (L.holds lib.old) problem.now structure.now steps r.status r.output.items) }
+    ensures reads_on { ReadsOn (L.holds lib.old) (L.reads lib.old) (L.reads lib.new) }
+    ensures ends { (told : Option Files) → ReadsOn told (L.reads lib.old) (L.reads lib.new)
+        → IfOk result (λ r. ModelEnds told problem.now structure.now steps r.status r.output.items) }
     ensures counted { IfOk result (λ r. IsCounted
-        (L.misses lib.old) (L.misses lib.new) (L.faults lib.old) (L.faults lib.new) r.status) }
+        (L.misses lib.old) (L.misses lib.new) (L.faults lib.old) (L.faults lib.new)
+        (L.reads lib.new) r.status) }
 {
     match fetch_second(alloc, lib, structure)? {
         SecondFile::Fetched(bytes) => {
@@ -80,10 +83,13 @@ pub fn model<L: Library>(
     ensures same_files { L.holds lib.new ≡ L.holds lib.old }
     ensures more_faults { L.faults lib.old ≤ L.faults lib.new }
     ensures more_misses { L.misses lib.old ≤ L.misses lib.new }
-    ensures ends { IfOk result (λ r. Ends (L.holds lib.old)
+    ensures reads_on { ReadsOn (L.holds lib.old) (L.reads lib.old) (L.reads lib.new) }
+    ensures ends { (told : Option Files) → ReadsOn told (L.reads lib.old) (L.reads lib.new)
+        → IfOk result (λ r. Ends told
         (model (the_problem_file file.entry) structure.now steps) r.status r.output.items) }
     ensures counted { IfOk result (λ r. IsCounted
-        (L.misses lib.old) (L.misses lib.new) (L.faults lib.old) (L.faults lib.new) r.status) }
+        (L.misses lib.old) (L.misses lib.new) (L.faults lib.old) (L.faults lib.new)
+        (L.reads lib.new) r.status) }
 {
     match read_problem(alloc, lib, file)? {
         Reading::Read(problem) => model_structure(alloc, lib, &problem, structure, steps),

@@ -1,8 +1,10 @@
 //! `prove FILE`: the derivation of a problem.
 
-ghost use Rattle.std.specs.Prelude.{◌≡◌, ◌≤◌, IfOk, IsTrue};
+ghost use Rattle.std.specs.Prelude.{◌≡◌, ◌≤◌, IfOk, IsTrue, Option};
 ghost use Rattle.calculus.specs.DerivationText.{is_limit};
 ghost use Rattle.calculus.specs.Tableaux.{is_closed};
+ghost use Rattle.cop_base.specs.Outside.{Files};
+ghost use Rattle.cop_base.specs.Reads.{ReadsOn};
 ghost use Rattle.command_line.specs.CommandLine.{prove};
 ghost use Rattle.command_line.specs.CommandView.{the_bounds, the_problem_file};
 ghost use Rattle.leancop_top.specs.Commands.Prove.{ProveEnds};
@@ -82,10 +84,13 @@ pub fn prove<L: Library>(
     ensures same_files { L.holds lib.new ≡ L.holds lib.old }
     ensures more_faults { L.faults lib.old ≤ L.faults lib.new }
     ensures more_misses { L.misses lib.old ≤ L.misses lib.new }
-    ensures ends { IfOk result (λ r. Ends (L.holds lib.old)
+    ensures reads_on { ReadsOn (L.holds lib.old) (L.reads lib.old) (L.reads lib.new) }
+    ensures ends { (told : Option Files) → ReadsOn told (L.reads lib.old) (L.reads lib.new)
+        → IfOk result (λ r. Ends told
         (prove (the_problem_file file.entry) (the_bounds bounds)) r.status r.output.items) }
     ensures counted { IfOk result (λ r. IsCounted
-        (L.misses lib.old) (L.misses lib.new) (L.faults lib.old) (L.faults lib.new) r.status) }
+        (L.misses lib.old) (L.misses lib.new) (L.faults lib.old) (L.faults lib.new)
+        (L.reads lib.new) r.status) }
 {
     match read_problem(alloc, lib, file)? {
         Reading::Read(problem) => prove_problem(alloc, &problem, bounds),

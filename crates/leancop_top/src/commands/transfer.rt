@@ -7,6 +7,7 @@ ghost use Rattle.calculus.specs.Calculus.{Derives};
 ghost use Rattle.calculus.specs.DerivationText.{is_printable};
 ghost use Rattle.calculus.specs.Translation.{translated_problem};
 ghost use Rattle.cop_base.specs.Outside.{Files};
+ghost use Rattle.cop_base.specs.Reads.{Read, ReadsOn};
 ghost use Rattle.command_line.specs.CommandLine.{transfer};
 ghost use Rattle.command_line.specs.CommandView.{the_intuitionistic_file};
 ghost use Rattle.leancop_top.specs.Commands.Transfer.{IsAcceptedIn, TransferEnds};
@@ -68,7 +69,7 @@ fn transfer_accepted(
     ensures ends { (told : Option Files) (name : List ℕ)
         → IsAcceptedIn told problem.now name (the_derivation derivation.now) → IfOk result
         (λ r. TransferEnds told problem.now name r.status r.output.items) }
-    ensures counted { (m n f g : ℕ) → IfOk result (λ r. IsCounted m n f g r.status) }
+    ensures counted { (m n f g : ℕ) (after : List Read) → IfOk result (λ r. IsCounted m n f g after r.status) }
 {
     match translate_problem(alloc, problem)? {
         Translation::Translated(translated) => {
@@ -87,7 +88,7 @@ fn transfer_bytes(alloc: Global, problem: &Problem, bytes: &[u8]) -> Result<Repl
     requires { problem.now.setting.logic ≡ Intuitionistic }
     ensures ends { (told : Option Files) (name : List ℕ) → HasBytes told name bytes.now
         → IfOk result (λ r. TransferEnds told problem.now name r.status r.output.items) }
-    ensures counted { (m n f g : ℕ) → IfOk result (λ r. IsCounted m n f g r.status) }
+    ensures counted { (m n f g : ℕ) (after : List Read) → IfOk result (λ r. IsCounted m n f g after r.status) }
 {
     match accept(alloc, problem, bytes) {
         Ok(derivation) => transfer_accepted(alloc, problem, &derivation),
@@ -108,10 +109,12 @@ fn transfer_derivation<L: Library>(
     ensures same_files { L.holds lib.new ≡ L.holds lib.old }
     ensures more_faults { L.faults lib.old ≤ L.faults lib.new }
     ensures more_misses { L.misses lib.old ≤ L.misses lib.new }
-    ensures ends { IfOk result (λ r. TransferEnds
-        (L.holds lib.old) problem.now derivation.now r.status r.output.items) }
+    ensures reads_on { ReadsOn (L.holds lib.old) (L.reads lib.old) (L.reads lib.new) }
+    ensures ends { (told : Option Files) → ReadsOn told (L.reads lib.old) (L.reads lib.new)
+        → IfOk result (λ r. TransferEnds told problem.now derivation.now r.status r.output.items) }
     ensures counted { IfOk result (λ r. IsCounted
-        (L.misses lib.old) (L.misses lib.new) (L.faults lib.old) (L.faults lib.new) r.status) }
+        (L.misses lib.old) (L.misses lib.new) (L.faults lib.old) (L.faults lib.new)
+        (L.reads lib.new) r.status) }
 {
     match fetch_second(alloc, lib, derivation)? {
         SecondFile::Fetched(bytes) => transfer_bytes(alloc, problem, bytes.as_slice()),
@@ -129,10 +132,13 @@ pub fn transfer<L: Library>(
     ensures same_files { L.holds lib.new ≡ L.holds lib.old }
     ensures more_faults { L.faults lib.old ≤ L.faults lib.new }
     ensures more_misses { L.misses lib.old ≤ L.misses lib.new }
-    ensures ends { IfOk result (λ r. Ends (L.holds lib.old)
+    ensures reads_on { ReadsOn (L.holds lib.old) (L.reads lib.old) (L.reads lib.new) }
+    ensures ends { (told : Option Files) → ReadsOn told (L.reads lib.old) (L.reads lib.new)
+        → IfOk result (λ r. Ends told
         (transfer (the_intuitionistic_file file.entry) derivation.now) r.status r.output.items) }
     ensures counted { IfOk result (λ r. IsCounted
-        (L.misses lib.old) (L.misses lib.new) (L.faults lib.old) (L.faults lib.new) r.status) }
+        (L.misses lib.old) (L.misses lib.new) (L.faults lib.old) (L.faults lib.new)
+        (L.reads lib.new) r.status) }
 {
     match read_intuitionistic(alloc, lib, file)? {
         Reading::Read(problem) => transfer_derivation(alloc, lib, &problem, derivation),

@@ -4,8 +4,8 @@ use Rattle.leancop_top.specs.Reading.{IsReadIn, IsReading}
 use Rattle.leancop_top.proofs.problem.read_intuitionistic.Goals as goal
 
 pub returns-clause-reading : goal.returns-clause-reading
-returns-clause-reading g c =
-    subst (λ p. IfOk c.read_problem.result (λ r. IsReading (g.L.Library.holds c.args.lib.now) p r)) c.problem_file.ensures c.read_problem.ensures.reading
+returns-clause-reading g c = λ told w.
+    subst (λ p. IfOk c.read_problem.result (λ r. IsReading told p r)) c.problem_file.ensures (c.read_problem.ensures.reading told w)
 
 pub returns-clause-setting : goal.returns-clause-setting
 returns-clause-setting g c =

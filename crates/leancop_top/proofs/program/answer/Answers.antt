@@ -1,7 +1,30 @@
-use Rattle.command_line.specs.CommandView.{the_bounds, the_generated_problem}
+use Rattle.std.proofs.Common.{◌∙◌, ap, subst, sym}
+use Rattle.std.specs.Prelude.{IfOk}
+use Rattle.command_line.specs.CommandView.{the_bounds, the_command, the_generated_problem}
 use Rattle.leancop_top.proofs.Ends.{made-counted}
+use Rattle.leancop_top.specs.Run.{Ends}
 use Rattle.leancop_top.proofs.program.answer.Goals as goal
+
+pub returns-in-Prove-clause-ends : goal.returns-in-Prove-clause-ends
+returns-in-Prove-clause-ends g c = λ told w.
+    subst (λ a. IfOk c.prove.result (λ r. Ends told a r.status r.output.items)) (sym (ap the_command c.in-Prove.is) ∙ c.command_of.ensures) (c.prove.ensures.ends told w)
+
+pub returns-in-Check-clause-ends : goal.returns-in-Check-clause-ends
+returns-in-Check-clause-ends g c = λ told w.
+    subst (λ a. IfOk c.check.result (λ r. Ends told a r.status r.output.items)) (sym (ap the_command c.in-Check.is) ∙ c.command_of.ensures) (c.check.ensures.ends told w)
+
+pub returns-in-CheckTranslated-clause-ends : goal.returns-in-CheckTranslated-clause-ends
+returns-in-CheckTranslated-clause-ends g c = λ told w.
+    subst (λ a. IfOk c.check_translated.result (λ r. Ends told a r.status r.output.items)) (sym (ap the_command c.in-CheckTranslated.is) ∙ c.command_of.ensures) (c.check_translated.ensures.ends told w)
+
+pub returns-in-Transfer-clause-ends : goal.returns-in-Transfer-clause-ends
+returns-in-Transfer-clause-ends g c = λ told w.
+    subst (λ a. IfOk c.transfer.result (λ r. Ends told a r.status r.output.items)) (sym (ap the_command c.in-Transfer.is) ∙ c.command_of.ensures) (c.transfer.ensures.ends told w)
+
+pub returns-in-Model-clause-ends : goal.returns-in-Model-clause-ends
+returns-in-Model-clause-ends g c = λ told w.
+    subst (λ a. IfOk c.model.result (λ r. Ends told a r.status r.output.items)) (sym (ap the_command c.in-Model.is) ∙ c.command_of.ensures) (c.model.ensures.ends told w)
 
 pub returns-in-Make-clause-counted : goal.returns-in-Make-clause-counted
 returns-in-Make-clause-counted g c =
-    made-counted (the_generated_problem c.in-Make.problem) (the_bounds c.in-Make.bounds) _ _ _ _ c.make.result c.make.ensures
+    made-counted (the_generated_problem c.in-Make.problem) (the_bounds c.in-Make.bounds) _ _ _ _ _ c.make.result c.make.ensures

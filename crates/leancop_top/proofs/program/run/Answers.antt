@@ -7,15 +7,23 @@ use Rattle.leancop_top.proofs.program.run.Goals as goal
 
 pub returns-in-Ok-put_all-clause-write_fault : goal.returns-in-Ok-put_all-clause-write_fault
 returns-in-Ok-put_all-clause-write_fault g c = λ e.
-    absurd (no_write_fault (g.L.Library.holds c.args.lib.now) (asked c.as_slice.result.now) c.in-Ok.reply.status c.in-Ok.reply.output.items c.in-Ok.ensures.ends e)
+    let told = g.L.Library.holds c.args.lib.now in
+    absurd (no_write_fault told (asked c.as_slice.result.now) c.in-Ok.reply.status c.in-Ok.reply.output.items (c.in-Ok.ensures.ends told c.in-Ok.ensures.reads_on) e)
 
 pub returns-in-Ok-put_all-clause-no_memory : goal.returns-in-Ok-put_all-clause-no_memory
 returns-in-Ok-put_all-clause-no_memory g c = λ e.
-    absurd (no_want_of_memory (g.L.Library.holds c.args.lib.now) (asked c.as_slice.result.now) c.in-Ok.reply.status c.in-Ok.reply.output.items c.in-Ok.ensures.ends e)
+    let told = g.L.Library.holds c.args.lib.now in
+    absurd (no_want_of_memory told (asked c.as_slice.result.now) c.in-Ok.reply.status c.in-Ok.reply.output.items (c.in-Ok.ensures.ends told c.in-Ok.ensures.reads_on) e)
+
+pub returns-in-Ok-put_all-clause-agreeing_decided : goal.returns-in-Ok-put_all-clause-agreeing_decided
+returns-in-Ok-put_all-clause-agreeing_decided g c = λ told w quiet.
+    on-answer _ c.in-Ok.reply.status
+    (subst (λ ws. Decides told (asked ws) c.in-Ok.reply.status) c.as_slice.ensures.value
+    (decided told (asked c.as_slice.result.now) c.in-Ok.reply.status c.in-Ok.reply.output.items _ _ _ _ _ (c.in-Ok.ensures.ends told w) c.in-Ok.ensures.counted quiet))
 
 pub returns-in-Ok-put_all-clause-decided : goal.returns-in-Ok-put_all-clause-decided
 returns-in-Ok-put_all-clause-decided g c quiet =
     let told = g.L.Library.holds c.args.lib.now in
     on-answer _ c.in-Ok.reply.status
     (subst (λ ws. Decides told (asked ws) c.in-Ok.reply.status) c.as_slice.ensures.value
-    (decided told (asked c.as_slice.result.now) c.in-Ok.reply.status c.in-Ok.reply.output.items _ _ _ _ c.in-Ok.ensures.ends c.in-Ok.ensures.counted quiet))
+    (decided told (asked c.as_slice.result.now) c.in-Ok.reply.status c.in-Ok.reply.output.items _ _ _ _ _ (c.in-Ok.ensures.ends told c.in-Ok.ensures.reads_on) c.in-Ok.ensures.counted quiet))

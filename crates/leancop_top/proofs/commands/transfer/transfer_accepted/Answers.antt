@@ -29,7 +29,7 @@ returns-in-Refused-clause-ends c = λ told name h.
     (not_translated s (record { given = the_derivation c.args.derivation.now; accepted = h; refused = subst (IsTranslating P) c.in-Refused.is c.in_ok-translated.ensures }))
 
 pub returns-in-Refused-clause-counted : goal.returns-in-Refused-clause-counted
-returns-in-Refused-clause-counted c = λ m n f g.
+returns-in-Refused-clause-counted c = λ m n f g after.
     let P = c.args.problem.now in
     let s = c.in-Refused.status in
-    line-counted m n f g s c.line_reply.result c.line_reply.ensures.same (translating-counted P m n f g s (subst (IsTranslating P) c.in-Refused.is c.in_ok-translated.ensures))
+    line-counted m n f g after s c.line_reply.result c.line_reply.ensures.same (translating-counted P m n f g after s (subst (IsTranslating P) c.in-Refused.is c.in_ok-translated.ensures))

@@ -17,5 +17,5 @@ returns-in-Err-Rejected-clause-ends c = λ told name held.
     (rejected line fault (record { text = c.args.bytes.now; held = held; judged = c.in-Err-Rejected.ensures.rejected line fault (ap Err c.in-Err-Rejected.field-0-is) }))
 
 pub returns-in-Err-Rejected-clause-counted : goal.returns-in-Err-Rejected-clause-counted
-returns-in-Err-Rejected-clause-counted c = λ m n f g.
-    line-counted m n f g (Rejected c.in-Err-Rejected.line c.in-Err-Rejected.fault) c.line_reply.result c.line_reply.ensures.same tt
+returns-in-Err-Rejected-clause-counted c = λ m n f g after.
+    line-counted m n f g after (Rejected c.in-Err-Rejected.line c.in-Err-Rejected.fault) c.line_reply.result c.line_reply.ensures.same tt
