@@ -1,5 +1,5 @@
 -- Homes and terms that are a whole text, and that nothing else is.
-use Rattle.std.proofs.Common.{◌≡◌, ℕ, ◌+◌, List, [], ◌++◌, length, drop, IsTrue, refl, ◌∙◌, ap, sym, subst, append-nil, arith, codes}
+use Rattle.std.proofs.Common.{◌≡◌, ℕ, ◌+◌, List, [], ◌∷◌, ◌++◌, length, drop, IsTrue, refl, ◌∙◌, ap, sym, subst, append-nil, arith, codes}
 use Rattle.calculus.specs.Syntax.{Symbol, Term}
 use Rattle.calculus.specs.Problems.{are_distinct}
 use Rattle.calculus.specs.Derivations.{Label, Home, anywhere, home_at}
