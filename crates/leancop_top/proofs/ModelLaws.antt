@@ -1,6 +1,6 @@
 -- What is told of a formula in a finite structure.
-use Rattle.std.proofs.Common.{◌≡◌, ⊥, List, ℕ, Bool, true, false, Option, Some, None, IsTrue, inr, ap, arith, subst, sym}
-use Rattle.std.specs.Prelude.{◌<◌, ◌≤◌, IfSome}
+use Rattle.std.proofs.Common.{◌≡◌, List, ℕ, Bool, true, false, Option, Some, None, IsTrue, inr, ap, arith, subst, sym}
+use Rattle.std.specs.Prelude.{◌+◌, ◌<◌, ◌≤◌, IfSome}
 use Rattle.calculus.proofs.StructureSoundness.{false-never_accepted, false-underived}
 use Rattle.calculus.proofs.StructureTextUnique.{structure_judgement-unique, structure_text-unique}
 use Rattle.calculus.specs.declared.fault.StructureCause.{StructureCause}
@@ -12,10 +12,10 @@ use Rattle.calculus.specs.StructureTruth.{ways}
 use Rattle.calculus.specs.Syntax.{Problem}
 use Rattle.command_line.specs.Table.{Word}
 use Rattle.cop_base.specs.Outside.{Files, file_in}
-use Rattle.leancop_top.specs.Commands.Model.{IsJudgedStructureIn, ModelEnds, true_at_root, false_at_root, bad_structure}
+use Rattle.leancop_top.specs.Commands.Model.{IsJudgedStructureIn, ModelEnds, true_at_root, false_at_root, bad_structure, steps_ended}
 use Rattle.leancop_top.specs.SecondFile.{HasBytes}
 use Rattle.leancop_top.specs.Statuses.{status_line}
-use Rattle.leancop_top.specs.declared.status.Status.TheVariants.{TrueAtRoot, FalseAtRoot, BadStructure}
+use Rattle.leancop_top.specs.declared.status.Status.TheVariants.{TrueAtRoot, FalseAtRoot, BadStructure, StepsEnded}
 
 -- ---- the answers
 
@@ -39,9 +39,23 @@ ends-false told P name steps S bytes problem held judged e =
     let told_false = by_truth P bytes (is_true P S) false e judged in
     false_at_root (judged_in told P name bytes verdict.false_at_root held told_false) (false-underived P problem bytes told_false) (false-never_accepted P problem bytes told_false)
 
-pub ends-bad : (told : Option Files) (P : Problem) (name : Word) (steps line : ℕ) (cause : StructureCause) (bytes : List ℕ) → HasBytes told name bytes → IsStructureJudgement P bytes (verdict.bad_structure line cause) → ModelEnds told P name steps (BadStructure line cause) (status_line (BadStructure line cause))
-ends-bad told P name steps line cause bytes held judged =
-    bad_structure line cause (judged_in told P name bytes (verdict.bad_structure line cause) held judged)
+-- it is told at this line and by this cause
+pub ends-bad : (told : Option Files) (P : Problem) (name : Word) (steps line k : ℕ) (cause d : StructureCause) (bytes : List ℕ) → HasBytes told name bytes → IsStructureJudgement P bytes (verdict.bad_structure k d) → line ≡ k → cause ≡ d → ModelEnds told P name steps (BadStructure line cause) (status_line (BadStructure line cause))
+ends-bad told P name steps line k cause d bytes held judged at why =
+    bad_structure line cause (judged_in told P name bytes (verdict.bad_structure line cause) held
+    (subst (λ c. IsStructureJudgement P bytes (verdict.bad_structure line c)) (sym why) (subst (λ l. IsStructureJudgement P bytes (verdict.bad_structure l d)) (sym at) judged)))
+
+-- the ledger began with this budget and nothing used
+pub ends-steps : (told : Option Files) (P : Problem) (name : Word) (steps budget used : ℕ) (S : Structure) (bytes : List ℕ) → HasBytes told name bytes → IsStructureText P S bytes → IsStructureJudgement P bytes (truth_verdict (is_true P S)) → budget ≡ steps → used ≡ 0 → budget < used + ways P S → ModelEnds told P name steps (StepsEnded 0 steps) (status_line (StepsEnded 0 steps))
+ends-steps told P name steps budget used S bytes held text judged b u more =
+    steps_ended (record {
+      text = bytes;
+      held = held;
+      stated = S;
+      is_text = text;
+      judged = judged;
+      more = omega (arith, b, u, more);
+    })
 
 -- ---- what is decided
 
