@@ -74,17 +74,17 @@ fn is_digit_kept(digit: u8, other: u8) -> bool
     digit != b'1' || other == b'1'
 }
 
-// Whether each digit 1 of a row is one in the other row, which is as long.
+// Whether each digit 1 of a row is one in the other row, which is as long. No digit ends the loop, so
+// that it goes over many at once: rows of a million digits are compared for each pair of worlds.
 fn is_row_kept(row: &[u8], others: &[u8]) -> bool
     requires { length row.now ≡ length others.now }
     ensures { result ≡ is_row_kept row.now others.now }
 {
+    let mut kept = true;
     for place in 0..row.len() {
-        if !is_digit_kept(row[place], others[place]) {
-            return false;
-        }
+        kept &= is_digit_kept(row[place], others[place]);
     }
-    true
+    kept
 }
 
 impl Structure {
