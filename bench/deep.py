@@ -65,21 +65,41 @@ def nested():
 
 def long_tokens():
     rest = MEBIBYTES - 100
-    for name, text in {
-        "one lower word": fof("a" * rest), "one upper word": fof("![%s]:p" % ("X" * rest)), "one dollar word": fof("$" + "a" * rest),
-        "one quoted name": fof("'%s'" % ("a" * rest)), "one distinct object": fof('"%s"' % ("a" * rest)), "one number": fof("p(%s)" % ("1" * rest)),
-        "one hash word": qmf("#" + "b" * rest), "one comment to the end of a line": "%" + "a" * rest + "\n" + fof("p"),
-        "one block comment": "/*" + "a" * rest + "*/" + fof("p"), "blanks": " " * rest + fof("p"), "line feeds": "\n" * rest + fof("p"),
-        "lower words": "a " * (rest // 2), "upper words": "X " * (rest // 2), "dollar words": "$a " * (rest // 3), "numbers": "1 " * (rest // 2),
-        "hash words": "#b " * (rest // 3), "quoted names": "'a' " * (rest // 4), "distinct objects": '"a" ' * (rest // 4),
-        "comments": "%\n" * (rest // 2), "block comments": "/**/" * (rest // 4), "round brackets": "(" * rest, "square brackets": "[" * rest,
-        "negations": fof("~" * rest + "p"), "commas in a note": "fof(c,conjecture,p,[%sa]).\n" % ("a," * (rest // 2 - 20)),
-        "variables of a quantifier": fof("![%sX]:p" % ("X," * (rest // 2 - 20))), "equations in a chain": fof("X=Y|" * (rest // 4 - 10) + "p"),
-        "atoms in a chain": fof("p&" * (rest // 2 - 20) + "p"), "literals of a clause": "cnf(c,axiom,%sp).\n" % ("p|" * (rest // 2 - 20)),
-        "clauses": "cnf(c,axiom,p).\n" * (rest // 16), "includes": "include('a.p').\n" * (rest // 16),
-        "names of an include": "include('a.p',[%sa]).\n" % ("a," * (rest // 2 - 20)), "arguments": fof("p(%sa)" % ("a," * (rest // 2 - 20))),
+    for name, make in {
+        "one lower word": lambda: fof("a" * rest),
+        "one upper word": lambda: fof("![%s]:p" % ("X" * rest)),
+        "one dollar word": lambda: fof("$" + "a" * rest),
+        "one hash word": lambda: qmf("#" + "b" * rest),
+        "one quoted name": lambda: fof("'%s'" % ("a" * rest)),
+        "one distinct object": lambda: fof('"%s"' % ("a" * rest)),
+        "one number": lambda: fof("p(%s)" % ("1" * rest)),
+        "one comment to the end of a line": lambda: "%" + "a" * rest + "\n" + fof("p"),
+        "one block comment": lambda: "/*" + "a" * rest + "*/" + fof("p"),
+        "blanks": lambda: " " * rest + fof("p"),
+        "line feeds": lambda: "\n" * rest + fof("p"),
+        "lower words": lambda: "a " * (rest // 2),
+        "upper words": lambda: "X " * (rest // 2),
+        "dollar words": lambda: "$a " * (rest // 3),
+        "hash words": lambda: "#b " * (rest // 3),
+        "quoted names": lambda: "'a' " * (rest // 4),
+        "distinct objects": lambda: '"a" ' * (rest // 4),
+        "numbers": lambda: "1 " * (rest // 2),
+        "comments": lambda: "%\n" * (rest // 2) + fof("p"),
+        "block comments": lambda: "/**/" * (rest // 4) + fof("p"),
+        "round brackets": lambda: fof("(" * rest),
+        "square brackets": lambda: fof("[" * rest),
+        "negations": lambda: fof("~" * rest + "p"),
+        "notes": lambda: "fof(c,conjecture,p,[%sa]).\n" % ("a," * (rest // 2)),
+        "variables of a quantifier": lambda: fof("![%sX]:p" % ("X," * (rest // 2))),
+        "equations in a chain": lambda: fof("X=Y|" * (rest // 4) + "p"),
+        "atoms in a chain": lambda: fof("p&" * (rest // 2) + "p"),
+        "literals of a clause": lambda: "cnf(c,axiom,%sp).\n" % ("p|" * (rest // 2)),
+        "clauses": lambda: "cnf(c,axiom,p).\n" * (rest // 16),
+        "includes": lambda: "include('a.p').\n" * (rest // 16),
+        "names of an include": lambda: "include('a.p',[%sa]).\n" % ("a," * (rest // 2)),
+        "arguments": lambda: fof("p(%sa)" % ("a," * (rest // 2))),
     }.items():
-        yield "16 MiB: " + name, ["prove", "m.p", "--steps=1000"], {"m.p": text, "a.p": ""}, None
+        yield "16 MiB: " + name, ["prove", "m.p", "--steps=1000"], {"m.p": make(), "a.p": ""}, None
 
 
 def terms():
@@ -170,11 +190,19 @@ def others():
         yield "480 %s at a structure" % name, ["model", "m.p", "s"], {"m.p": CONSTRUCTS[name](480), "s": small}, "true at the root"
     quantified = structure % (2, "1 2", "predicate p 1 1 11\n")
     yield "480 quantifiers at a structure", ["model", "m.p", "s", "--steps=1000000"], {"m.p": CONSTRUCTS["universal quantifiers"](480), "s": quantified}, None
-    yield "1,000,000 words", ["prove", "m.p", *["--limit=1"] * 20000], {"m.p": fof("p")}, "bad word 4"
+    yield "20,002 words", ["prove", "m.p", *["--limit=1"] * 20000], {"m.p": fof("p")}, "bad word 4"
     deep = {"m%d.p" % n: "include('m%d.p').\n" % (n + 1) for n in range(18)}
     yield "includes 17 deep", ["prove", "m0.p"], {**deep, "m18.p": ""}, "m16.p:0: include too deep"
     doubled = {"m%d.p" % n: "include('m%d.p').\n" % (n + 1) * 2 for n in range(16)}
     yield "includes that double 16 times", ["prove", "m0.p", "--steps=1"], {**doubled, "m16.p": "fof(a,axiom,p).\n"}, None
+
+
+def write(texts):
+    """The files: their bytes together, and their names."""
+    for file, text in texts.items():
+        with open(file, "w") as opened:
+            opened.write(text)
+    return sum(map(len, texts.values())), list(texts)
 
 
 def first_line(output):
@@ -204,9 +232,8 @@ def main():
             for name, words, texts, wanted in family():
                 if not re.search(options.get("filter", ""), name):
                     continue
-                for file, text in texts.items():
-                    with open(file, "w") as opened:
-                        opened.write(text)
+                size, files = write(texts)
+                texts.clear() # this process's own memory counts for those that it starts
                 runs = []
                 for stack in stacks:
                     set_stack(stack)
@@ -214,11 +241,11 @@ def main():
                 faults = faults_of(runs, wanted)
                 told = "; ".join("%d kB: %d, %s, %.2f s, %d MB" % (stack, got.code, first_line(got.output), got.seconds, got.kilobytes // 1024)
                                  for stack, got in zip(stacks, runs))
-                print("%s (%d bytes): %s%s" % (name, sum(map(len, texts.values())), told, " !! " + ", ".join(faults) if faults else ""), flush=True)
+                print("%s (%d bytes): %s%s" % (name, size, told, " !! " + ", ".join(faults) if faults else ""), flush=True)
                 count, broken = count + 1, broken + bool(faults)
                 if faults and kept:
                     shutil.copytree(folder, os.path.join(kept, re.sub(r"\W+", "_", name)), dirs_exist_ok=True)
-                for file in texts:
+                for file in files:
                     os.remove(file)
     finally:
         os.chdir("/")
