@@ -8,7 +8,7 @@ than is expected, or with less stack in another way than with more, is told.
   --filter=RE      the inputs whose names match
   --kept=FOLDER    keeps the files of what was told there
 A line for each input: what it is, its bytes, and for each stack the status, the answer, seconds of the processor and MB."""
-import os, re, resource, shutil, sys, tempfile
+import multiprocessing, os, re, resource, shutil, sys, tempfile
 from processes import find_program, is_an_answer, read_options, run, set_stack
 
 MILLION = 1000000
@@ -205,6 +205,24 @@ def write(texts):
     return sum(map(len, texts.values())), list(texts)
 
 
+class Runner:
+    """A process that starts the runs: what this one has in memory would count for those that it starts."""
+
+    def __init__(self):
+        self.pipe, other = multiprocessing.Pipe()
+        multiprocessing.get_context("fork").Process(target=self.serve, args=(other,), daemon=True).start()
+
+    def serve(self, pipe):
+        while True:
+            words, stack = pipe.recv()
+            set_stack(stack)
+            pipe.send(run(words, 60))
+
+    def run(self, words, stack):
+        self.pipe.send((words, stack))
+        return self.pipe.recv()
+
+
 def first_line(output):
     return output.split(b"\n")[0][:40].decode("latin-1")
 
@@ -226,18 +244,14 @@ def main():
     resource.setrlimit(resource.RLIMIT_CORE, (0, 0))
     folder = tempfile.mkdtemp(prefix="leancop-deep-")
     os.chdir(folder)
-    count, broken = 0, 0
+    count, broken, runner = 0, 0, Runner()
     try:
         for family in (nested, long_tokens, terms, names_and_labels, symbols, searches, others):
             for name, words, texts, wanted in family():
                 if not re.search(options.get("filter", ""), name):
                     continue
                 size, files = write(texts)
-                texts.clear() # this process's own memory counts for those that it starts
-                runs = []
-                for stack in stacks:
-                    set_stack(stack)
-                    runs.append(run([program, *words], 60))
+                runs = [runner.run([program, *words], stack) for stack in stacks]
                 faults = faults_of(runs, wanted)
                 told = "; ".join("%d kB: %d, %s, %.2f s, %d MB" % (stack, got.code, first_line(got.output), got.seconds, got.kilobytes // 1024)
                                  for stack, got in zip(stacks, runs))

@@ -169,6 +169,18 @@ const CLASSICAL: &[(&str, &[u8], u8, &[u8])] = &[
         b"rejected at line 15: all closed\n",
     ),
     (
+        "--root=a",
+        b"use 6 name $$e2\nuse 7\naxiom 8 5\n",
+        8,
+        b"rejected at line 15: line\n",
+    ),
+    (
+        "--root=a",
+        b"use 6 name $$e2\nuse 7\naxiom 8 5\nend\nend\n",
+        8,
+        b"rejected at line 16: text after end\n",
+    ),
+    (
         "--logic=intuitionistic",
         b"use 6 name $$e2\nuse 7\naxiom 8 5\nend\n",
         8,

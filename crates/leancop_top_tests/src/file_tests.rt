@@ -1,7 +1,6 @@
-//! Where files are looked for, faults of files and streams, and how output is put.
+//! Where files are looked for, and faults of files.
 
-use crate::prove_tests::chain_problem;
-use crate::runs::{derivation, ends, outcome};
+use crate::runs::ends;
 use cop_base::{FetchFault, FileLibrary, Library, NoMemory, Text};
 use std::alloc::Global;
 use std::test::Fail;
@@ -67,73 +66,6 @@ fn fetches_behind_the_root(rt: HostRuntime) -> Result<(), Fail> {
     for (words, main, fetches, status, told) in FETCHES {
         assert!(rt; fetches_so(rt.alloc(), *words, *main, *fetches, *status, *told)?);
     }
-    Ok(())
-}
-
-// Whether a run in which these fetches and puts fail ends with status 6 and writes this.
-fn stops(
-    alloc: Global,
-    words: &[&str],
-    fetches: &[u64],
-    puts: &[(u64, u64)],
-    told: &[u8],
-) -> Result<bool, NoMemory> {
-    let files = [
-        ("m.p", b"fof(c,conjecture,p => p).\n".as_slice()),
-        ("d.txt", b""),
-    ];
-    let (code, output) = outcome(alloc, words, &files, fetches, puts)?;
-    Ok(code == 6 && output.as_slice() == told)
-}
-
-// A failed fetch is not tried again, and nothing is put after a put that failed.
-const FAULTS: &[(&[&str], &[u64], &[(u64, u64)], &[u8])] = &[
-    (&["prove", "m.p"], &[1], &[], b"read fault: m.p\n"),
-    (&["check", "m.p", "d.txt"], &[1], &[], b"read fault: m.p\n"),
-    (
-        &["check", "m.p", "d.txt"],
-        &[2],
-        &[],
-        b"read fault: d.txt\n",
-    ),
-    (&["prove", "m.p"], &[], &[(1, 7)], b"leancop"),
-    (&["prove", "m.p"], &[1], &[(1, 4)], b"read"),
-];
-
-#[test]
-fn tells_faults_of_streams(rt: HostRuntime) -> Result<(), Fail> {
-    for (words, fetches, puts, told) in FAULTS {
-        assert!(rt; stops(rt.alloc(), *words, *fetches, *puts, *told)?);
-    }
-    Ok(())
-}
-
-// Whether a run whose second put fails writes the first 4,096 bytes of a longer derivation.
-fn is_cut(alloc: Global, text: &[u8]) -> Result<bool, NoMemory> {
-    let derivation = derivation(alloc, text)?;
-    let cut = cut_output(alloc, text)?;
-    Ok(
-        derivation.len() > 4096
-            && cut.len() == 4096
-            && derivation.as_slice().starts_with(cut.as_slice()),
-    )
-}
-
-// What is written where the second put fails, or nothing where the run does not end so.
-fn cut_output(alloc: Global, text: &[u8]) -> Result<Vec<u8>, NoMemory> {
-    let files = [("m.p", text)];
-    let (code, output) = outcome(alloc, &["prove", "m.p"], &files, &[], &[(2, 0)])?;
-    if code == 6 {
-        Ok(output)
-    } else {
-        Ok(Vec::new(alloc))
-    }
-}
-
-#[test]
-fn writes_in_pieces(rt: HostRuntime) -> Result<(), Fail> {
-    let text = chain_problem(rt.alloc(), 99)?;
-    assert!(rt; is_cut(rt.alloc(), text.as_slice())?);
     Ok(())
 }
 

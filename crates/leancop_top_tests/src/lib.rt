@@ -8,6 +8,8 @@ mod cut_tests;
 #[cfg(test)]
 mod file_tests;
 #[cfg(test)]
+mod limit_tests;
+#[cfg(test)]
 mod make_tests;
 #[cfg(test)]
 mod model_tests;
@@ -15,6 +17,8 @@ mod model_tests;
 mod prove_tests;
 #[cfg(test)]
 mod runs;
+#[cfg(test)]
+mod stream_tests;
 #[cfg(test)]
 mod transfer_tests;
 #[cfg(test)]

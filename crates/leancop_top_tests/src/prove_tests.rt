@@ -227,7 +227,7 @@ fn counts_clauses_and_literals(rt: HostRuntime) -> Result<(), Fail> {
 }
 
 // The text of a problem that has the chain as its conjecture.
-pub fn chain_problem(alloc: Global, last: usize) -> Result<Vec<u8>, NoMemory> {
+fn chain_problem(alloc: Global, last: usize) -> Result<Vec<u8>, NoMemory> {
     let conjecture = chain(alloc, last)?;
     problem(alloc, conjecture.as_slice())
 }

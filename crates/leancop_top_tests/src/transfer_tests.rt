@@ -61,7 +61,7 @@ fn tells_derivations_of_the_other_problem(rt: HostRuntime) -> Result<(), Fail> {
 }
 
 // So many negations of an atom. A translation has two operators for each.
-fn negations(alloc: Global, count: usize) -> Result<Vec<u8>, NoMemory> {
+pub fn negations(alloc: Global, count: usize) -> Result<Vec<u8>, NoMemory> {
     let mut conjecture = Vec::new(alloc);
     for _ in 0..count {
         conjecture.push(b'~')?;
