@@ -5,6 +5,7 @@ with terms of 1,000,000 levels, as many names and labels, searches 200 levels de
 than is expected, or with less stack in another way than with more, is told.
   --program=FILE   the program (crates/leancop/out/leancop, which ./leancop builds)
   --stacks=N,..    kilobytes of stack (8192,1024)
+  --gigabytes=N    of memory at the most (4); with less than a run wants it is to end with status 7, which is told
   --filter=RE      the inputs whose names match
   --kept=FOLDER    keeps the files of what was told there
 A line for each input: what it is, its bytes, and for each stack the status, the answer, seconds of the processor and MB."""
@@ -173,7 +174,10 @@ def searches():
     yield "a shift of 150", ["make", "shift", "150", "--limit=200"], {}, "made shift 150"
     nots = "~" * 480
     yield "480 negations on both sides", words, {"m.p": fof("%sp => %sp" % (nots, nots))}, DERIVED
-    yield "480 negations on both sides, intuitionistic", [*words, "--logic=intuitionistic"], {"m.p": fof("%sp => %sp" % (nots, nots))}, None
+    for count in (60, 120, 240):
+        nots = "~" * count
+        yield "%d negations on both sides, intuitionistic" % count, ["prove", "m.p", "--steps=1000", "--logic=intuitionistic"], {
+            "m.p": fof("%sp => %sp" % (nots, nots))}, DERIVED
 
 
 def others():
@@ -190,7 +194,7 @@ def others():
         yield "480 %s at a structure" % name, ["model", "m.p", "s"], {"m.p": CONSTRUCTS[name](480), "s": small}, "true at the root"
     quantified = structure % (2, "1 2", "predicate p 1 1 11\n")
     yield "480 quantifiers at a structure", ["model", "m.p", "s", "--steps=1000000"], {"m.p": CONSTRUCTS["universal quantifiers"](480), "s": quantified}, None
-    yield "20,002 words", ["prove", "m.p", *["--limit=1"] * 20000], {"m.p": fof("p")}, "bad word 4"
+    yield "10,002 words", ["prove", "m.p", *["--limit=1"] * 10000], {"m.p": fof("p")}, "bad word 4"
     deep = {"m%d.p" % n: "include('m%d.p').\n" % (n + 1) for n in range(18)}
     yield "includes 17 deep", ["prove", "m0.p"], {**deep, "m18.p": ""}, "m16.p:0: include too deep"
     doubled = {"m%d.p" % n: "include('m%d.p').\n" % (n + 1) * 2 for n in range(16)}
@@ -208,11 +212,12 @@ def write(texts):
 class Runner:
     """A process that starts the runs: what this one has in memory would count for those that it starts."""
 
-    def __init__(self):
+    def __init__(self, gigabytes):
         self.pipe, other = multiprocessing.Pipe()
-        multiprocessing.get_context("fork").Process(target=self.serve, args=(other,), daemon=True).start()
+        multiprocessing.get_context("fork").Process(target=self.serve, args=(other, gigabytes), daemon=True).start()
 
-    def serve(self, pipe):
+    def serve(self, pipe, gigabytes):
+        resource.setrlimit(resource.RLIMIT_AS, (gigabytes << 30, gigabytes << 30))
         while True:
             words, stack = pipe.recv()
             set_stack(stack)
@@ -244,7 +249,7 @@ def main():
     resource.setrlimit(resource.RLIMIT_CORE, (0, 0))
     folder = tempfile.mkdtemp(prefix="leancop-deep-")
     os.chdir(folder)
-    count, broken, runner = 0, 0, Runner()
+    count, broken, runner = 0, 0, Runner(int(options.get("gigabytes", 4)))
     try:
         for family in (nested, long_tokens, terms, names_and_labels, symbols, searches, others):
             for name, words, texts, wanted in family():
