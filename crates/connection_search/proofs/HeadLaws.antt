@@ -1,17 +1,20 @@
 -- Different outermost names rule an extension out.
-use Rattle.std.proofs.Common.{◌≡◌, ℕ, zero, suc, List, [], ◌∷◌, true, false, not, eq-eqb, ◌==◌, refl, sym, ◌∙◌, ap, None, Some, slice_get}
+use Rattle.std.proofs.Common.{◌≡◌, ℕ, zero, suc, List, [], ◌∷◌, true, false, not, eq-eqb, ◌==◌, refl, sym, ◌∙◌, ap, ap₂, None, Some, slice_get}
 use Rattle.std.proofs.lemmas.Bool.{false≢true}
 use Rattle.calculus.specs.Ground.{Value, g_eigen, g_fun}
+use Rattle.store_theory.specs.Bindings.{EndsIn}
 use Rattle.store_theory.specs.Patterns.{Pattern, PatternAtom, Template, p_eigen, p_fun, p_new, p_var, patterns_tree}
 use Rattle.store_theory.specs.Stores.{Cell, CellHolds, Solution, Store, eigen_cell, fun_cell, new_cell, string_cell, variable}
 use Rattle.store_theory.specs.Systems.{CellAtom}
 use Rattle.store_theory.specs.Templates.{as_term, literals_by, pattern_literal, pattern_terms, pattern_value}
 use Rattle.store_theory.proofs.SolutionLaws.{ends-same}
 use Rattle.search_theory.specs.States.{literal_by, terms_by}
-use Rattle.search_theory.specs.Steps.{CannotExtend}
+use Rattle.search_theory.specs.Steps.{CannotExtend, Clash}
 use Rattle.search_theory.proofs.MeetingLaws.{literal-there, opposite-parts, opposite-some}
 use Rattle.term_store.specs.Shown.{head_of}
-use Rattle.connection_search.specs.Heads.{HasClash, names_differ}
+use Rattle.term_store.specs.declared.cell.Head.{Head}
+use Rattle.connection_search.specs.Heads.{HasClash, ends_differ, names_differ}
+use Rattle.connection_search.proofs.SamenessLaws.{item-equal}
 
 -- equal lists have equal items
 items-equal : (σ : Solution) (vs : List Value) (rs : List ℕ) (ps : List Pattern) (k r : ℕ) (q : Pattern) → terms_by σ rs ≡ pattern_terms vs (patterns_tree ps) → slice_get rs k ≡ Some r → slice_get ps k ≡ Some q → as_term (σ r) ≡ as_term (pattern_value vs q)
@@ -68,3 +71,48 @@ cannot-extend-by_names s t goal p place at (k, r, q, ea, eb, (e, c, o, stands, d
     let parts = opposite-parts (literal_by σ goal) (pattern_literal vs p) (opposite-some (literal_by σ goal) (slice_get (literals_by vs t) place) (pattern_literal vs p) (literal-there (pattern_literal vs) t.literals place p at) opposite) in
     let same = items-equal σ vs goal.args p.args k r q parts.args ea eb in
     values-differ σ e c vs q (solves e c stands) d (ap as_term (sym (ends-same s σ r e solves o)) ∙ same)
+
+-- ---- two ends
+
+-- cells with different names have different values
+ends-apart : (σ : Solution) (e g : ℕ) (c d : Cell) → CellHolds σ e c → CellHolds σ g d → ends_differ (head_of c) (head_of d) ≡ true → ¬ (as_term (σ e) ≡ as_term (σ g))
+ends-apart σ e g (fun_cell f rs) (fun_cell k qs) (ts, is, value) (us, are, other) d same = let z : g_fun f ts ≡ g_fun k us = ap as_term (sym value) ∙ same ∙ ap as_term other in differ f k d (cc z)
+ends-apart σ e g (fun_cell f rs) (eigen_cell k qs) (ts, is, value) (us, are, other) d same = let z : g_fun f ts ≡ g_eigen k us = ap as_term (sym value) ∙ same ∙ ap as_term other in cc z
+ends-apart σ e g (eigen_cell f rs) (eigen_cell k qs) (ts, is, value) (us, are, other) d same = let z : g_eigen f ts ≡ g_eigen k us = ap as_term (sym value) ∙ same ∙ ap as_term other in differ f k d (cc z)
+ends-apart σ e g (eigen_cell f rs) (fun_cell k qs) (ts, is, value) (us, are, other) d same = let z : g_eigen f ts ≡ g_fun k us = ap as_term (sym value) ∙ same ∙ ap as_term other in cc z
+ends-apart σ e g (fun_cell f rs) (variable t b) h k d same = false≢true d
+ends-apart σ e g (fun_cell f rs) (new_cell q qs) h k d same = false≢true d
+ends-apart σ e g (fun_cell f rs) (string_cell qs) h k d same = false≢true d
+ends-apart σ e g (eigen_cell f rs) (variable t b) h k d same = false≢true d
+ends-apart σ e g (eigen_cell f rs) (new_cell q qs) h k d same = false≢true d
+ends-apart σ e g (eigen_cell f rs) (string_cell qs) h k d same = false≢true d
+ends-apart σ e g (variable t b) c h k d same = by c d
+  where
+    by : (x : Cell) → ends_differ (head_of (variable t b)) (head_of x) ≡ true → ⊥
+    by (variable u q) d = false≢true d
+    by (fun_cell f qs) d = false≢true d
+    by (eigen_cell f qs) d = false≢true d
+    by (new_cell f qs) d = false≢true d
+    by (string_cell qs) d = false≢true d
+ends-apart σ e g (new_cell p rs) c h k d same = by c d
+  where
+    by : (x : Cell) → ends_differ (head_of (new_cell p rs)) (head_of x) ≡ true → ⊥
+    by (variable u q) d = false≢true d
+    by (fun_cell f qs) d = false≢true d
+    by (eigen_cell f qs) d = false≢true d
+    by (new_cell f qs) d = false≢true d
+    by (string_cell qs) d = false≢true d
+ends-apart σ e g (string_cell rs) c h k d same = by c d
+  where
+    by : (x : Cell) → ends_differ (head_of (string_cell rs)) (head_of x) ≡ true → ⊥
+    by (variable u q) d = false≢true d
+    by (fun_cell f qs) d = false≢true d
+    by (eigen_cell f qs) d = false≢true d
+    by (new_cell f qs) d = false≢true d
+    by (string_cell qs) d = false≢true d
+
+-- no solution makes the lists equal
+pub clash-by_ends : (s : Store) (xs ys : List ℕ) (k x y : ℕ) (a b : Head) → slice_get xs k ≡ Some x → slice_get ys k ≡ Some y → EndsIn s x (λ c. head_of c ≡ a) → EndsIn s y (λ c. head_of c ≡ b) → ends_differ a b ≡ true → Clash s xs ys
+clash-by_ends s xs ys k x y a b ex ey (e, c, o, stands, is) (g, d, q, there, are) apart σ solves same =
+    ends-apart σ e g c d (solves e c stands) (solves g d there) (ap₂ ends_differ is are ∙ apart)
+    (ap as_term (sym (ends-same s σ x e solves o)) ∙ item-equal σ xs ys k x y same ex ey ∙ ap as_term (ends-same s σ y g solves q))

@@ -43,6 +43,9 @@ pub mod PruneLaws
 -- the loop over the points
 pub mod StackedLaws
 pub mod DeadLaws
+-- looking ahead at the limit
+pub mod WayUpLaws
+pub mod AheadLaws
 pub mod TryingLaws
 -- the search at one limit
 pub mod SearchedLaws

@@ -90,7 +90,7 @@ terms-counted σ [] = refl
 terms-counted σ (x ∷ xs) = ap suc (terms-counted σ xs)
 
 -- equal lists of terms have equal items
-item-equal : (σ : Solution) (xs ys : List ℕ) (i a b : ℕ) → terms_by σ xs ≡ terms_by σ ys → slice_get xs i ≡ Some a → slice_get ys i ≡ Some b → as_term (σ a) ≡ as_term (σ b)
+pub item-equal : (σ : Solution) (xs ys : List ℕ) (i a b : ℕ) → terms_by σ xs ≡ terms_by σ ys → slice_get xs i ≡ Some a → slice_get ys i ≡ Some b → as_term (σ a) ≡ as_term (σ b)
 item-equal σ [] ys i a b e ea eb = let q : None ≡ Some a = ea in cc q
 item-equal σ (x ∷ xs) [] i a b e ea eb = let q : None ≡ Some b = eb in cc q
 item-equal σ (x ∷ xs) (y ∷ ys) zero a b e ea eb =

@@ -1,5 +1,5 @@
 -- The next choice of the last point: back at the point, its choice, and what comes of it.
-use Rattle.std.proofs.Common.{◌≡◌, ◌+◌, ◌-◌, ◌*◌, ◌<◌, ◌≤◌, ℕ, suc, Bool, List, [], ◌∷◌, ◌++◌, Option, None, Some, MatchOption, IsTrue, reverse, sum_by, take, refl, sym, ◌∙◌, ap, subst, arith, append_assoc, inl, inr}
+use Rattle.std.proofs.Common.{◌≡◌, ◌⊎◌, ◌+◌, ◌-◌, ◌*◌, ◌<◌, ◌≤◌, ℕ, suc, Bool, true, List, [], ◌∷◌, ◌++◌, Option, None, Some, MatchOption, IsTrue, reverse, sum_by, take, refl, sym, ◌∙◌, ap, subst, arith, append_assoc, inl, inr}
 use Rattle.std.proofs.Math.Nat.{mul-le-mul_right}
 use Rattle.std.specs.Bool.{⊤}
 use Rattle.std.specs.List.{AllByRecursion}
@@ -17,10 +17,12 @@ use Rattle.search_theory.proofs.BeginningLaws.{IsDead, is_not_empty}
 use Rattle.search_theory.proofs.SearchSteps.{search-dead}
 use Rattle.term_store.specs.Room.{KeepsRoom, TermStore}
 use Rattle.term_store.specs.StoreView.{the_mark}
+use Rattle.connection_search.specs.Ahead.{IsNextLeft}
+use Rattle.connection_search.specs.Pruning.{IsPruned}
 use Rattle.connection_search.specs.Exploring.{ArePointsFrom, ArePushed, IfOn, IsBefore, IsExploring, IsSearched, IsVisiting}
 use Rattle.connection_search.specs.Points.{HasUntried, IsMoveAt, IsPoint, IsSamePoint, the_move}
-use Rattle.connection_search.specs.Running.{IsAtGoal, StandsFor}
-use Rattle.connection_search.specs.Trees.{IsGoalAt, KeepsTree}
+use Rattle.connection_search.specs.Running.{IsAtGoal, IsMatrixOf, StandsFor}
+use Rattle.connection_search.specs.Trees.{KeepsTree}
 use Rattle.connection_search.specs.Weights.{greatest_weight, weight, work_left}
 use Rattle.connection_search.specs.declared.exploring.Visit.{Visit}
 use Rattle.connection_search.specs.declared.exploring.Visit.TheVariants as visit
@@ -28,8 +30,8 @@ use Rattle.connection_search.specs.declared.point.Move.{Move}
 use Rattle.connection_search.specs.declared.point.Point.{Point}
 use Rattle.connection_search.specs.declared.tree.Goal.{Goal}
 use Rattle.connection_search.specs.declared.tree.Step.{Step}
+use Rattle.connection_search.proofs.AheadLaws.{passed-over}
 use Rattle.connection_search.proofs.DeadLaws.{live-not_empty, search-dead_behind}
-use Rattle.connection_search.proofs.MoveLaws.{goal-here}
 use Rattle.connection_search.proofs.StackedLaws.{before-same, mark-itself, point-back, point-next, points-back, points-kept, untried-moved}
 use Rattle.connection_search.proofs.SpentLaws.{stands-live}
 use Rattle.connection_search.proofs.VisitLaws.{exploring-moved}
@@ -85,12 +87,12 @@ last-good P m base d s steps goals points p later begun used left h = by (subst 
     by : ArePointsFrom P m base d s steps goals (p ∷ reverse points) h.pending → IsGood (the_mark p.mark) s
     by (c, untried, g, below, e, k, before, rest) = k.good
 
--- no choice is left
-pub none-left : (P : Problem) (m : List MatrixClause) (base d : ℕ) (s : Store) (steps : List Step) (goals : List Goal) (points : List Point) (p : Point) (later : List (List Choice)) (begun used : ℕ) (left : Bool) → (h : IsBackAt P m base d s steps goals p (reverse points) later begun used left) → h.untried ≡ [] → IsExploring P m base d s steps goals points later begun used left
-none-left P m base d s steps goals points p later begun used left h e = record {
+-- no choice is left, but for those that were passed over
+pub none-left : (P : Problem) (m : List MatrixClause) (base d : ℕ) (s : Store) (steps : List Step) (goals : List Goal) (points : List Point) (p : Point) (later : List (List Choice)) (begun used : ℕ) (left : Bool) → (h : IsBackAt P m base d s steps goals p (reverse points) later begun used left) → (passed : List Choice) → AllByRecursion (λ x. IsPruned P d (h.choices ++ x ∷ [])) passed → (passed ≡ []) ⊎ (left ≡ true) → h.untried ≡ passed ++ [] → IsExploring P m base d s steps goals points later begun used left
+none-left P m base d s steps goals points p later begun used left h passed pruned known e = record {
   pending = h.below;
   points = h.rest;
-  searched = subst (λ xs. IsSearched P d (behind h.choices xs ++ (h.below ++ later)) begun used left) e h.searched;
+  searched = passed-over P d h.choices passed [] h.untried (h.below ++ later) begun used left pruned known e h.searched;
 }
 
 -- the tree is that of a state whose leftmost open goal is the point's
@@ -137,9 +139,10 @@ pub lighter-some : (before after : Point) (o : Option Move) (choice : Move) → 
 lighter-some before after None choice h e = let z : None ≡ Some choice = e in absurd (cc z)
 lighter-some before after (Some x) choice h e = h
 
--- the point q has one choice fewer to try than p, and takes its place
-pub next-tried : (P : Problem) (m : List MatrixClause) (base d : ℕ) (s : Store) (steps : List Step) (goals : List Goal) (points stack : List Point) (p q : Point) (later : List (List Choice)) (begun used : ℕ) (left : Bool) (choice : Move) → stack ≡ points ++ q ∷ [] → IsSamePoint p q → (h : IsBackAt P m base d s steps goals p (reverse points) later begun used left) → IsMoveAt m d steps goals h.goal choice × ((rest : List Choice) × (h.untried ≡ the_move m choice ∷ rest) × HasUntried m d steps goals q h.goal rest) → IsTrying P m base d s steps goals (reverse stack) later begun used left q.goal choice
-next-tried P m base d s steps goals points stack p q later begun used left choice is same h (move, (rest, e, has)) =
+-- the point q has some choices fewer to try than p, and takes its place
+pub next-tried : (P : Problem) (m : List MatrixClause) (base d : ℕ) (s : Store) (steps : List Step) (goals : List Goal) (points stack : List Point) (p q : Point) (later : List (List Choice)) (begun used : ℕ) (left : Bool) (choice : Move) → stack ≡ points ++ q ∷ [] → IsSamePoint p q → (h : IsBackAt P m base d s steps goals p (reverse points) later begun used left) → IsNextLeft P m d h.choices steps goals q h.goal h.untried left (Some choice) → IsTrying P m base d s steps goals (reverse stack) later begun used left q.goal choice
+next-tried P m base d s steps goals points stack p q later begun used left choice is same h n =
+    let (move, (rest, e, has)) = n.next in
     let left_over : HasUntried m d (take p.steps steps) (take p.goals goals) q h.goal rest = untried-moved m d steps (take p.steps steps) goals (take p.goals goals) q h.goal rest h.whole_steps h.whole_goals has in
     let stacked : ArePointsFrom P m base d s steps goals (q ∷ reverse points) (behind h.choices rest ++ h.below) = (h.choices, rest, h.goal, h.below, refl, point-next P m base d s steps goals p q h.choices h.untried rest h.goal h.point same left_over, before-same p q (reverse points) same h.before, h.rest) in
     record {
@@ -149,22 +152,26 @@ next-tried P m base d s steps goals points stack p q later begun used left choic
       move = move;
       pending = behind h.choices rest ++ h.below;
       points = subst (λ ps. ArePointsFrom P m base d s steps goals ps (behind h.choices rest ++ h.below)) (sym (ap reverse is ∙ reverse-append points (q ∷ []))) stacked;
-      searched = subst (λ xs. IsSearched P d xs begun used left) (ap (λ xs. behind h.choices xs ++ (h.below ++ later)) e ∙ ap (λ xs. (h.choices ++ the_move m choice ∷ []) ∷ xs) (sym (append_assoc (behind h.choices rest) h.below later))) h.searched;
+      searched = subst (λ xs. IsSearched P d xs begun used left) (ap (λ xs. (h.choices ++ the_move m choice ∷ []) ∷ xs) (sym (append_assoc (behind h.choices rest) h.below later))) (passed-over P d h.choices n.passed (the_move m choice ∷ rest) h.untried (h.below ++ later) begun used left n.pruned n.known e h.searched);
     }
 
+-- what comes next at the point
+abbrev pub NextAt : List MatrixClause → ℕ → Problem → List Step → List Goal → Point → Point → Bool → Option Move → Type 0
+NextAt m d P steps goals p q left o = (base : ℕ) (c : List Choice) (s : Store) (g : CellGoal) (untried : List Choice) → IsMatrixOf P m → IsAtGoal P m base d c s steps goals p.goal g → HasUntried m d steps goals p g untried → IsNextLeft P m d c steps goals q g untried left o
+
 -- the same from the points before
-pub tried-at : (P : Problem) (m : List MatrixClause) (base d : ℕ) (s t : Store) (steps after : List Step) (goals all : List Goal) (points stack : List Point) (p q : Point) (later : List (List Choice)) (begun used : ℕ) (left : Bool) (o : Option Move) (choice : Move) → t ≡ cut_at (the_mark p.mark) s → after ≡ take p.steps steps → all ≡ take p.goals goals → stack ≡ points ++ q ∷ [] → IsSamePoint p q → ((d : ℕ) (g : CellGoal) (untried : List Choice) → IsGoalAt after all p.goal g → HasUntried m d after all p g untried → MatchOption o (untried ≡ []) (λ x. IsMoveAt m d after all g x × ((rest : List Choice) × (untried ≡ the_move m x ∷ rest) × HasUntried m d after all q g rest))) → o ≡ Some choice → IsExploring P m base d s steps goals (points ++ p ∷ []) later begun used left → IsTrying P m base d t after all (reverse stack) later begun used left q.goal choice
-tried-at P m base d s t steps after goals all points stack p q later begun used left o choice es ea eb is same next some h =
+pub tried-at : (P : Problem) (m : List MatrixClause) (base d : ℕ) (s t : Store) (steps after : List Step) (goals all : List Goal) (points stack : List Point) (p q : Point) (later : List (List Choice)) (begun used : ℕ) (left : Bool) (o : Option Move) (choice : Move) → t ≡ cut_at (the_mark p.mark) s → after ≡ take p.steps steps → all ≡ take p.goals goals → stack ≡ points ++ q ∷ [] → IsSamePoint p q → IsMatrixOf P m → NextAt m d P after all p q left o → o ≡ Some choice → IsExploring P m base d s steps goals (points ++ p ∷ []) later begun used left → IsTrying P m base d t after all (reverse stack) later begun used left q.goal choice
+tried-at P m base d s t steps after goals all points stack p q later begun used left o choice es ea eb is same tm next some h =
     let b = back-at P m base d s t steps after goals all points p later begun used left h es ea eb in
     next-tried P m base d t after all points stack p q later begun used left choice is same b
-    (next-some m d after all q b.goal b.untried o choice (next d b.goal b.untried (goal-here P m base d b.choices t after all p.goal b.goal b.at) b.has) some)
+    (subst (IsNextLeft P m d b.choices after all q b.goal b.untried left) some (next base b.choices t b.goal b.untried tm b.at b.has))
 
 -- no choice is left
-pub none-at : (P : Problem) (m : List MatrixClause) (base d : ℕ) (s t : Store) (steps after : List Step) (goals all : List Goal) (points : List Point) (p q : Point) (later : List (List Choice)) (begun used : ℕ) (left : Bool) (o : Option Move) → t ≡ cut_at (the_mark p.mark) s → after ≡ take p.steps steps → all ≡ take p.goals goals → ((d : ℕ) (g : CellGoal) (untried : List Choice) → IsGoalAt after all p.goal g → HasUntried m d after all p g untried → MatchOption o (untried ≡ []) (λ x. IsMoveAt m d after all g x × ((rest : List Choice) × (untried ≡ the_move m x ∷ rest) × HasUntried m d after all q g rest))) → o ≡ None → IsExploring P m base d s steps goals (points ++ p ∷ []) later begun used left → IsExploring P m base d t after all points later begun used left
-none-at P m base d s t steps after goals all points p q later begun used left o es ea eb next none h =
+pub none-at : (P : Problem) (m : List MatrixClause) (base d : ℕ) (s t : Store) (steps after : List Step) (goals all : List Goal) (points : List Point) (p q : Point) (later : List (List Choice)) (begun used : ℕ) (left : Bool) (o : Option Move) → t ≡ cut_at (the_mark p.mark) s → after ≡ take p.steps steps → all ≡ take p.goals goals → IsMatrixOf P m → NextAt m d P after all p q left o → o ≡ None → IsExploring P m base d s steps goals (points ++ p ∷ []) later begun used left → IsExploring P m base d t after all points later begun used left
+none-at P m base d s t steps after goals all points p q later begun used left o es ea eb tm next none h =
     let b = back-at P m base d s t steps after goals all points p later begun used left h es ea eb in
-    none-left P m base d t after all points p later begun used left b
-    (next-none m d after all q b.goal b.untried o (next d b.goal b.untried (goal-here P m base d b.choices t after all p.goal b.goal b.at) b.has) none)
+    let n = subst (IsNextLeft P m d b.choices after all q b.goal b.untried left) none (next base b.choices t b.goal b.untried tm b.at b.has) in
+    none-left P m base d t after all points p later begun used left b n.passed n.pruned n.known n.next
 
 -- the tree is irregular
 pub dead-at : (P : Problem) (m : List MatrixClause) (base d : ℕ) (s t : Store) (steps after now : List Step) (goals all these : List Goal) (first : Option ℕ) (points : List Point) (p : Point) (later : List (List Choice)) (begun used : ℕ) (left : Bool) → t ≡ cut_at (the_mark p.mark) s → after ≡ take p.steps steps → all ≡ take p.goals goals → first ≡ Some p.goal → now ≡ after → these ≡ all → ((P : Problem) (m : List MatrixClause) (base d : ℕ) (c : List Choice) → StandsFor P m base d c t after all first → IsDead P c) → IsExploring P m base d s steps goals (points ++ p ∷ []) later begun used left → IsExploring P m base d t now these points later begun used left

@@ -19,3 +19,11 @@ names_differ _ _ = false
 -- an argument of the goal has another name than that of the literal
 abbrev pub HasClash : Store → CellAtom → PatternAtom → Type 0
 HasClash s goal p = (k : ℕ) × (r : ℕ) × (q : Pattern) × (slice_get goal.args k ≡ Some r) × (slice_get p.args k ≡ Some q) × EndsIn s r (λ c. names_differ (head_of c) q ≡ true)
+
+-- the same of two ends
+abbrev pub ends_differ : Head → Head → Bool
+ends_differ (head.Fun f) (head.Fun g) = not (f.0 == g.0)
+ends_differ (head.Fun f) (head.Eigen q) = true
+ends_differ (head.Eigen p) (head.Eigen q) = not (p.0 == q.0)
+ends_differ (head.Eigen p) (head.Fun g) = true
+ends_differ _ _ = false

@@ -27,3 +27,5 @@ pub mod Listing
 pub mod Deciding
 -- lists that labels refute
 pub mod Pruning
+-- goals that no bindings close within the limit
+pub mod Ahead

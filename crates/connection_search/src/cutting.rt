@@ -22,6 +22,7 @@ use crate::exploring::Visit;
 use crate::listing::has_choices;
 use crate::moves::Work;
 use crate::point::Point;
+use crate::pruning::Pruning;
 use crate::searching::clause_id;
 use crate::space::Space;
 use cop_base::{ClauseId, Ledger, NoMemory};
@@ -334,6 +335,7 @@ pub fn deepen_cut(
             problem,
             matrix,
             limit,
+            pruning: Pruning::all(),
         };
         let mut left = false;
         match space.run_cut(alloc, ledger, &mut left)? {

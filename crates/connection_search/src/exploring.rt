@@ -98,8 +98,8 @@ impl Space<'_> {
         }
     }
 
-    // Drops the list of choices, where labels refute it and it is known that the limit is left. Else
-    // the list is taken up.
+    // Drops the list of choices, where no closed tableau begins with it and it is known that the limit
+    // is left. Else the list is taken up.
     pub(crate) fn visit(
         &self,
         ledger: &mut Ledger,
@@ -215,7 +215,7 @@ impl Space<'_> {
             return Ok(Visit::On);
         }
         let mut point = last;
-        let choice = match point.next(self.matrix, &work.tree)? {
+        let choice = match self.next_choice(&work.tree, &mut point, *left)? {
             Some(choice) => choice,
             None => return Ok(Visit::On),
         };

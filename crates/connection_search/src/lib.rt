@@ -1,6 +1,7 @@
 //! The connection search with a budget, and deepening on the path limit.
 #![tactic(auto)]
 
+mod ahead;
 mod atoms;
 mod cutting;
 mod deciding;
@@ -23,4 +24,5 @@ mod tree;
 
 pub use cutting::{CutAnswer, deepen_cut};
 pub use deepening::{Answer, deepen};
-pub use searching::{Outcome, search, search_in};
+pub use pruning::Pruning;
+pub use searching::{Outcome, search, search_in, search_with};

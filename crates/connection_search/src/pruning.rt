@@ -1,11 +1,10 @@
-//! Lists of choices that labels refute before they are whole.
+//! Lists of choices that are dropped before they are whole.
 
 ghost use Rattle.std.specs.Prelude.{◌≡◌, ℕ, IfOk, IsTrue, List, true};
 ghost use Rattle.calculus.specs.Choices.{Choice};
 ghost use Rattle.search_theory.proofs.BeginningLaws.{is_not_empty};
-ghost use Rattle.connection_search.specs.Exploring.{IsSpace};
 ghost use Rattle.connection_search.specs.Pruning.{IsPruned};
-ghost use Rattle.connection_search.specs.Running.{StandsFor};
+ghost use Rattle.connection_search.specs.Running.{IsMatrixOf, StandsFor};
 
 use crate::deciding::has_labels;
 use crate::moves::Work;
@@ -21,6 +20,27 @@ const FIRST_TESTS: u64 = 64;
 const TESTS_PER_REFUTATION: u64 = 2;
 // Where they do not pay, one of so many lists is tested.
 const LISTS_PER_TEST: u64 = 16;
+
+/// By what a search drops lists of choices with which no closed tableau begins, once it is known
+/// that the limit is left. What the search answers is the same with each of them and without, but
+/// for the steps: a list that is dropped takes none.
+#[derive(Clone, Copy, Debug, PartialEq, Eq)]
+pub struct Pruning {
+    /// A goal with as many goals above it as the limit is closed by a reduction, or not at all.
+    pub ahead: bool,
+    /// The labels of the connections made so far cannot be equal.
+    pub labels: bool,
+}
+
+impl Pruning {
+    /// By all.
+    pub fn all() -> Pruning {
+        Pruning {
+            ahead: true,
+            labels: true,
+        }
+    }
+}
 
 /// The tests of labels that were made, how many refuted, and how many lists were passed over since
 /// the last one.
@@ -97,8 +117,9 @@ impl Space<'_> {
     }
 
     /// Whether the list of choices may be dropped: it is known that the limit is left, and no closed
-    /// tableau begins with it, as labels show. A list whose leftmost open goal can only be reduced
-    /// is not tested here, since a test costs more than the few lists that come next.
+    /// tableau begins with it, as open goals or labels show. The labels of a list whose leftmost open
+    /// goal can only be reduced are not tested, since a test costs more than the few lists that come
+    /// next.
     pub(crate) fn is_pruned(
         &self,
         store: &Store,
@@ -111,13 +132,20 @@ impl Space<'_> {
             work.old.tree.open }
         ensures left { IfOk result (λ pruned. pruned ≡ true → left ≡ true) }
         ensures pruned { IfOk result (λ pruned. pruned ≡ true → (base : ℕ) (c : List Choice)
+            → IsMatrixOf self.now.problem.now self.now.matrix.now
             → StandsFor self.now.problem.now self.now.matrix.now base self.now.limit c
             store.now.store work.old.tree.steps.items work.old.tree.goals.items
             work.old.tree.open
             → IsTrue (is_not_empty c) → IsPruned self.now.problem.now self.now.limit c) }
         ensures tree { work.new.tree ≡ work.old.tree }
     {
-        if !left || !self.has_room(work) || !work.tests.is_due() {
+        if !left {
+            return Ok(false);
+        }
+        if self.pruning.ahead && self.is_stuck(store, &work.tree) {
+            return Ok(true);
+        }
+        if !self.pruning.labels || !self.has_room(work) || !work.tests.is_due() {
             return Ok(false);
         }
         let refuted = self.is_refuted(store, work)?;

@@ -15,6 +15,7 @@ ghost use Rattle.connection_search.specs.Outcomes.{IfSteps, IsOutcome};
 
 use crate::exploring::Visit;
 use crate::moves::Work;
+use crate::pruning::Pruning;
 use crate::space::Space;
 use cop_base::{ClauseId, Ledger, NoMemory};
 use logic_rules::Problem;
@@ -186,8 +187,45 @@ impl Space<'_> {
 }
 
 /// Searches for a tableau that is closed within the limit, over new cells of the store, which are
-/// given back. A step is used for each list of choices; where the logic has labels, also for each
-/// list of string lengths that is tried at a list of choices without open goals.
+/// given back. A step is used for each list of choices that is not dropped; where the logic has
+/// labels, also for each list of string lengths that is tried at a list of choices without open
+/// goals.
+pub fn search_with(
+    alloc: Global,
+    problem: &Problem,
+    matrix: &Matrix,
+    limit: u8,
+    ledger: &mut Ledger,
+    store: &mut Store,
+    pruning: Pruning,
+) -> Result<Outcome, NoMemory>
+    requires matrix { IsTemplateMatrix problem.now matrix.now }
+    requires from_one { 1 ≤ limit }
+    requires to_200 { limit ≤ 200 }
+    ensures outcome { IfOk result (IsOutcome problem.now limit) }
+    ensures steps { IfOk result (λ o. IfSteps o ((ledger.new.used ≡ ledger.new.budget)
+        × MoreThan member_cmp (IsEarly problem.now limit) (ledger.old.budget - ledger.old.used))) }
+    ensures count { AtLeastMany member_cmp (IsEarly problem.now limit)
+        (ledger.new.used - ledger.old.used) }
+    ensures rises { ledger.old.used ≤ ledger.new.used }
+    ensures budget { ledger.new.budget ≡ ledger.old.budget }
+    ensures store { store.new.store ≡ store.old.store }
+    ensures spare { spare store.old ≤ spare store.new }
+{
+    let _setting = problem.setting();
+    let start = store.mark();
+    let space = Space {
+        problem,
+        matrix,
+        limit,
+        pruning,
+    };
+    let outcome = space.run(alloc, ledger, store);
+    store.undo(start);
+    outcome
+}
+
+/// Searches as `search_with` does, where lists are dropped by all that `Pruning` names.
 pub fn search_in(
     alloc: Global,
     problem: &Problem,
@@ -209,16 +247,7 @@ pub fn search_in(
     ensures store { store.new.store ≡ store.old.store }
     ensures spare { spare store.old ≤ spare store.new }
 {
-    let _setting = problem.setting();
-    let start = store.mark();
-    let space = Space {
-        problem,
-        matrix,
-        limit,
-    };
-    let outcome = space.run(alloc, ledger, store);
-    store.undo(start);
-    outcome
+    search_with(alloc, problem, matrix, limit, ledger, store, Pruning::all())
 }
 
 /// Searches for a tableau that is closed within the limit, over the problem's own matrix. Steps are

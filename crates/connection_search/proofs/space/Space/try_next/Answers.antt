@@ -48,10 +48,10 @@ returns-then-branch-clause-moment c = λ k g a. moment-back k c.args.points.now.
 pub returns-then-branch-clause-room : goal.returns-then-branch-clause-room
 returns-then-branch-clause-room c = c.return_to.ensures.room
 
-pub next-requires : goal.next-requires
-next-requires c = let (base, later, begun, space, e) = c.requires in
+pub next_choice-requires : goal.next_choice-requires
+next_choice-requires c = let (base, later, begun, space, e) = c.requires in
     let b = back-at c.args.self.now.problem.now c.args.self.now.matrix.now base c.args.self.now.limit c.args.store.now.store c.return_to.new.store.store c.args.work.now.tree.steps.items c.is_found_irregular.new.self.tree.steps.items c.args.work.now.tree.goals.items c.is_found_irregular.new.self.tree.goals.items c.args.points.now.items c.args.last later begun c.args.ledger.now.used c.args.left.now e c.return_to.ensures.store (ap (λ (t : Tree). t.steps.items) c.is_found_irregular.ensures.tree ∙ c.return_to.ensures.steps) (ap (λ (t : Tree). t.goals.items) c.is_found_irregular.ensures.tree ∙ c.return_to.ensures.goals) in
-    (c.args.self.now.limit, b.goal, b.untried, goal-here c.args.self.now.problem.now c.args.self.now.matrix.now base c.args.self.now.limit b.choices c.return_to.new.store.store c.is_found_irregular.new.self.tree.steps.items c.is_found_irregular.new.self.tree.goals.items c.args.last.goal b.goal b.at, b.has)
+    (b.goal, b.untried, goal-here c.args.self.now.problem.now c.args.self.now.matrix.now base c.args.self.now.limit b.choices c.return_to.new.store.store c.is_found_irregular.new.self.tree.steps.items c.is_found_irregular.new.self.tree.goals.items c.args.last.goal b.goal b.at, b.has)
 
 pub returns-in_err-choice-clause-counted : goal.returns-in_err-choice-clause-counted
 returns-in_err-choice-clause-counted c = λ base later begun space e.
@@ -75,7 +75,7 @@ returns-in_err-push-clause-room c = c.return_to.ensures.room
 
 pub returns-in-None-clause-on : goal.returns-in-None-clause-on
 returns-in-None-clause-on c = λ base later begun space e.
-    none-at c.args.self.now.problem.now c.args.self.now.matrix.now base c.args.self.now.limit c.args.store.now.store c.return_to.new.store.store c.args.work.now.tree.steps.items c.is_found_irregular.new.self.tree.steps.items c.args.work.now.tree.goals.items c.is_found_irregular.new.self.tree.goals.items c.args.points.now.items c.args.last c.next.new.self later begun c.args.ledger.now.used c.args.left.now _ c.return_to.ensures.store (ap (λ (t : Tree). t.steps.items) c.is_found_irregular.ensures.tree ∙ c.return_to.ensures.steps) (ap (λ (t : Tree). t.goals.items) c.is_found_irregular.ensures.tree ∙ c.return_to.ensures.goals) c.in_ok-choice.ensures.next c.in-None.is e
+    none-at c.args.self.now.problem.now c.args.self.now.matrix.now base c.args.self.now.limit c.args.store.now.store c.return_to.new.store.store c.args.work.now.tree.steps.items c.is_found_irregular.new.self.tree.steps.items c.args.work.now.tree.goals.items c.is_found_irregular.new.self.tree.goals.items c.args.points.now.items c.args.last c.next_choice.new.point later begun c.args.ledger.now.used c.args.left.now _ c.return_to.ensures.store (ap (λ (t : Tree). t.steps.items) c.is_found_irregular.ensures.tree ∙ c.return_to.ensures.steps) (ap (λ (t : Tree). t.goals.items) c.is_found_irregular.ensures.tree ∙ c.return_to.ensures.goals) space.matrix (c.in_ok-choice.ensures.next c.args.self.now.problem.now) c.in-None.is e
 
 pub returns-in-None-clause-counted : goal.returns-in-None-clause-counted
 returns-in-None-clause-counted c = λ base later begun space e.
@@ -95,7 +95,7 @@ returns-in-None-clause-room c = c.return_to.ensures.room
 
 pub make-requires : goal.make-requires
 make-requires c = let (base, later, begun, space, e) = c.requires in
-    let t = tried-at c.args.self.now.problem.now c.args.self.now.matrix.now base c.args.self.now.limit c.args.store.now.store c.return_to.new.store.store c.args.work.now.tree.steps.items c.is_found_irregular.new.self.tree.steps.items c.args.work.now.tree.goals.items c.is_found_irregular.new.self.tree.goals.items c.args.points.now.items c.push.new.self.items c.args.last c.next.new.self later begun c.args.ledger.now.used c.args.left.now _ c.in-Some.choice c.return_to.ensures.store (ap (λ (t : Tree). t.steps.items) c.is_found_irregular.ensures.tree ∙ c.return_to.ensures.steps) (ap (λ (t : Tree). t.goals.items) c.is_found_irregular.ensures.tree ∙ c.return_to.ensures.goals) c.in_ok-push.ensures.items c.in_ok-choice.ensures.same c.in_ok-choice.ensures.next c.in-Some.is e in
+    let t = tried-at c.args.self.now.problem.now c.args.self.now.matrix.now base c.args.self.now.limit c.args.store.now.store c.return_to.new.store.store c.args.work.now.tree.steps.items c.is_found_irregular.new.self.tree.steps.items c.args.work.now.tree.goals.items c.is_found_irregular.new.self.tree.goals.items c.args.points.now.items c.push.new.self.items c.args.last c.next_choice.new.point later begun c.args.ledger.now.used c.args.left.now _ c.in-Some.choice c.return_to.ensures.store (ap (λ (t : Tree). t.steps.items) c.is_found_irregular.ensures.tree ∙ c.return_to.ensures.steps) (ap (λ (t : Tree). t.goals.items) c.is_found_irregular.ensures.tree ∙ c.return_to.ensures.goals) c.in_ok-push.ensures.items c.in_ok-choice.ensures.same space.matrix (c.in_ok-choice.ensures.next c.args.self.now.problem.now) c.in-Some.is e in
     (c.args.self.now.problem.now, base, c.args.self.now.limit, t.choices, t.at_goal, space.matrix, t.at, t.move)
 
 pub returns-in_err-make-clause-counted : goal.returns-in_err-make-clause-counted
@@ -110,18 +110,18 @@ returns-in_err-make-clause-room c = room-both c.args.store.now c.return_to.new.s
 
 pub returns-then-not-branch-clause-on : goal.returns-then-not-branch-clause-on
 returns-then-not-branch-clause-on c = λ base later begun space e.
-    let t = tried-at c.args.self.now.problem.now c.args.self.now.matrix.now base c.args.self.now.limit c.args.store.now.store c.return_to.new.store.store c.args.work.now.tree.steps.items c.is_found_irregular.new.self.tree.steps.items c.args.work.now.tree.goals.items c.is_found_irregular.new.self.tree.goals.items c.args.points.now.items c.push.new.self.items c.args.last c.next.new.self later begun c.args.ledger.now.used c.args.left.now _ c.in-Some.choice c.return_to.ensures.store (ap (λ (t : Tree). t.steps.items) c.is_found_irregular.ensures.tree ∙ c.return_to.ensures.steps) (ap (λ (t : Tree). t.goals.items) c.is_found_irregular.ensures.tree ∙ c.return_to.ensures.goals) c.in_ok-push.ensures.items c.in_ok-choice.ensures.same c.in_ok-choice.ensures.next c.in-Some.is e in
-    trying-refused c.args.self.now.problem.now c.args.self.now.matrix.now base c.args.self.now.limit c.return_to.new.store.store c.make.new.store.store c.is_found_irregular.new.self.tree.steps.items c.make.new.self.tree.steps.items c.is_found_irregular.new.self.tree.goals.items c.make.new.self.tree.goals.items c.push.new.self.items later begun c.args.ledger.now.used c.args.left.now c.next.new.self.goal c.in-Some.choice t c.make.ensures.marks c.in_ok-make.ensures.kept (c.in_ok-make.ensures.refused c.if-not-branch.true c.args.self.now.problem.now base c.args.self.now.limit t.choices t.at_goal space.matrix t.at t.move)
+    let t = tried-at c.args.self.now.problem.now c.args.self.now.matrix.now base c.args.self.now.limit c.args.store.now.store c.return_to.new.store.store c.args.work.now.tree.steps.items c.is_found_irregular.new.self.tree.steps.items c.args.work.now.tree.goals.items c.is_found_irregular.new.self.tree.goals.items c.args.points.now.items c.push.new.self.items c.args.last c.next_choice.new.point later begun c.args.ledger.now.used c.args.left.now _ c.in-Some.choice c.return_to.ensures.store (ap (λ (t : Tree). t.steps.items) c.is_found_irregular.ensures.tree ∙ c.return_to.ensures.steps) (ap (λ (t : Tree). t.goals.items) c.is_found_irregular.ensures.tree ∙ c.return_to.ensures.goals) c.in_ok-push.ensures.items c.in_ok-choice.ensures.same space.matrix (c.in_ok-choice.ensures.next c.args.self.now.problem.now) c.in-Some.is e in
+    trying-refused c.args.self.now.problem.now c.args.self.now.matrix.now base c.args.self.now.limit c.return_to.new.store.store c.make.new.store.store c.is_found_irregular.new.self.tree.steps.items c.make.new.self.tree.steps.items c.is_found_irregular.new.self.tree.goals.items c.make.new.self.tree.goals.items c.push.new.self.items later begun c.args.ledger.now.used c.args.left.now c.next_choice.new.point.goal c.in-Some.choice t c.make.ensures.marks c.in_ok-make.ensures.kept (c.in_ok-make.ensures.refused c.if-not-branch.true c.args.self.now.problem.now base c.args.self.now.limit t.choices t.at_goal space.matrix t.at t.move)
 
 pub returns-then-not-branch-clause-counted : goal.returns-then-not-branch-clause-counted
 returns-then-not-branch-clause-counted c = λ base later begun space e.
     counted c.args.self.now.problem.now c.args.self.now.limit (e.pending ++ later) begun c.args.ledger.now.used c.args.left.now e.searched
 
 pub returns-then-not-branch-clause-falls : goal.returns-then-not-branch-clause-falls
-returns-then-not-branch-clause-falls c = subst (λ ps. work_left c.args.ledger.now.budget c.args.ledger.now.used ps < work_left c.args.ledger.now.budget c.args.ledger.now.used (c.args.points.now.items ++ c.args.last ∷ [])) (sym c.in_ok-push.ensures.items) (next-falls c.args.ledger.now.budget c.args.ledger.now.used c.args.points.now.items c.args.last c.next.new.self (lighter-some c.args.last c.next.new.self _ c.in-Some.choice c.in_ok-choice.ensures.falls c.in-Some.is))
+returns-then-not-branch-clause-falls c = subst (λ ps. work_left c.args.ledger.now.budget c.args.ledger.now.used ps < work_left c.args.ledger.now.budget c.args.ledger.now.used (c.args.points.now.items ++ c.args.last ∷ [])) (sym c.in_ok-push.ensures.items) (next-falls c.args.ledger.now.budget c.args.ledger.now.used c.args.points.now.items c.args.last c.next_choice.new.point (lighter-some c.args.last c.next_choice.new.point _ c.in-Some.choice c.in_ok-choice.ensures.falls c.in-Some.is))
 
 pub returns-then-not-branch-clause-above : goal.returns-then-not-branch-clause-above
-returns-then-not-branch-clause-above c = λ k g a. subst (λ ps. AreAbove k ps) (sym c.in_ok-push.ensures.items) (above-next k c.args.points.now.items c.args.last c.next.new.self c.in_ok-choice.ensures.same a)
+returns-then-not-branch-clause-above c = λ k g a. subst (λ ps. AreAbove k ps) (sym c.in_ok-push.ensures.items) (above-next k c.args.points.now.items c.args.last c.next_choice.new.point c.in_ok-choice.ensures.same a)
 
 pub returns-then-not-branch-clause-moment : goal.returns-then-not-branch-clause-moment
 returns-then-not-branch-clause-moment c = λ k g a. moment-kept k c.args.points.now.items c.args.last c.args.store.now.store c.return_to.new.store.store c.make.new.store.store g a c.return_to.ensures.marks c.make.ensures.marks
@@ -131,13 +131,13 @@ returns-then-not-branch-clause-room c = room-both c.args.store.now c.return_to.n
 
 pub visit-requires : goal.visit-requires
 visit-requires c = let (base, later, begun, space, e) = c.requires in
-    let t = tried-at c.args.self.now.problem.now c.args.self.now.matrix.now base c.args.self.now.limit c.args.store.now.store c.return_to.new.store.store c.args.work.now.tree.steps.items c.is_found_irregular.new.self.tree.steps.items c.args.work.now.tree.goals.items c.is_found_irregular.new.self.tree.goals.items c.args.points.now.items c.push.new.self.items c.args.last c.next.new.self later begun c.args.ledger.now.used c.args.left.now _ c.in-Some.choice c.return_to.ensures.store (ap (λ (t : Tree). t.steps.items) c.is_found_irregular.ensures.tree ∙ c.return_to.ensures.steps) (ap (λ (t : Tree). t.goals.items) c.is_found_irregular.ensures.tree ∙ c.return_to.ensures.goals) c.in_ok-push.ensures.items c.in_ok-choice.ensures.same c.in_ok-choice.ensures.next c.in-Some.is e in
-    (base, later, begun, space, trying-made c.args.self.now.problem.now c.args.self.now.matrix.now base c.args.self.now.limit c.return_to.new.store.store c.make.new.store.store c.is_found_irregular.new.self.tree.steps.items c.make.new.self.tree.steps.items c.is_found_irregular.new.self.tree.goals.items c.make.new.self.tree.goals.items c.make.new.self.tree.open c.push.new.self.items later begun c.args.ledger.now.used c.args.left.now c.next.new.self.goal c.in-Some.choice t c.make.ensures.marks c.in_ok-make.ensures.kept (c.in_ok-make.ensures.made c.if-not-branch.false c.args.self.now.problem.now base c.args.self.now.limit t.choices t.at_goal space.matrix t.at t.move))
+    let t = tried-at c.args.self.now.problem.now c.args.self.now.matrix.now base c.args.self.now.limit c.args.store.now.store c.return_to.new.store.store c.args.work.now.tree.steps.items c.is_found_irregular.new.self.tree.steps.items c.args.work.now.tree.goals.items c.is_found_irregular.new.self.tree.goals.items c.args.points.now.items c.push.new.self.items c.args.last c.next_choice.new.point later begun c.args.ledger.now.used c.args.left.now _ c.in-Some.choice c.return_to.ensures.store (ap (λ (t : Tree). t.steps.items) c.is_found_irregular.ensures.tree ∙ c.return_to.ensures.steps) (ap (λ (t : Tree). t.goals.items) c.is_found_irregular.ensures.tree ∙ c.return_to.ensures.goals) c.in_ok-push.ensures.items c.in_ok-choice.ensures.same space.matrix (c.in_ok-choice.ensures.next c.args.self.now.problem.now) c.in-Some.is e in
+    (base, later, begun, space, trying-made c.args.self.now.problem.now c.args.self.now.matrix.now base c.args.self.now.limit c.return_to.new.store.store c.make.new.store.store c.is_found_irregular.new.self.tree.steps.items c.make.new.self.tree.steps.items c.is_found_irregular.new.self.tree.goals.items c.make.new.self.tree.goals.items c.make.new.self.tree.open c.push.new.self.items later begun c.args.ledger.now.used c.args.left.now c.next_choice.new.point.goal c.in-Some.choice t c.make.ensures.marks c.in_ok-make.ensures.kept (c.in_ok-make.ensures.made c.if-not-branch.false c.args.self.now.problem.now base c.args.self.now.limit t.choices t.at_goal space.matrix t.at t.move))
 
 pub returns-in_err-visit-clause-counted : goal.returns-in_err-visit-clause-counted
 returns-in_err-visit-clause-counted c = λ base later begun space e.
-    let t = tried-at c.args.self.now.problem.now c.args.self.now.matrix.now base c.args.self.now.limit c.args.store.now.store c.return_to.new.store.store c.args.work.now.tree.steps.items c.is_found_irregular.new.self.tree.steps.items c.args.work.now.tree.goals.items c.is_found_irregular.new.self.tree.goals.items c.args.points.now.items c.push.new.self.items c.args.last c.next.new.self later begun c.args.ledger.now.used c.args.left.now _ c.in-Some.choice c.return_to.ensures.store (ap (λ (t : Tree). t.steps.items) c.is_found_irregular.ensures.tree ∙ c.return_to.ensures.steps) (ap (λ (t : Tree). t.goals.items) c.is_found_irregular.ensures.tree ∙ c.return_to.ensures.goals) c.in_ok-push.ensures.items c.in_ok-choice.ensures.same c.in_ok-choice.ensures.next c.in-Some.is e in
-    c.visit.ensures.counted base later begun space (trying-made c.args.self.now.problem.now c.args.self.now.matrix.now base c.args.self.now.limit c.return_to.new.store.store c.make.new.store.store c.is_found_irregular.new.self.tree.steps.items c.make.new.self.tree.steps.items c.is_found_irregular.new.self.tree.goals.items c.make.new.self.tree.goals.items c.make.new.self.tree.open c.push.new.self.items later begun c.args.ledger.now.used c.args.left.now c.next.new.self.goal c.in-Some.choice t c.make.ensures.marks c.in_ok-make.ensures.kept (c.in_ok-make.ensures.made c.if-not-branch.false c.args.self.now.problem.now base c.args.self.now.limit t.choices t.at_goal space.matrix t.at t.move))
+    let t = tried-at c.args.self.now.problem.now c.args.self.now.matrix.now base c.args.self.now.limit c.args.store.now.store c.return_to.new.store.store c.args.work.now.tree.steps.items c.is_found_irregular.new.self.tree.steps.items c.args.work.now.tree.goals.items c.is_found_irregular.new.self.tree.goals.items c.args.points.now.items c.push.new.self.items c.args.last c.next_choice.new.point later begun c.args.ledger.now.used c.args.left.now _ c.in-Some.choice c.return_to.ensures.store (ap (λ (t : Tree). t.steps.items) c.is_found_irregular.ensures.tree ∙ c.return_to.ensures.steps) (ap (λ (t : Tree). t.goals.items) c.is_found_irregular.ensures.tree ∙ c.return_to.ensures.goals) c.in_ok-push.ensures.items c.in_ok-choice.ensures.same space.matrix (c.in_ok-choice.ensures.next c.args.self.now.problem.now) c.in-Some.is e in
+    c.visit.ensures.counted base later begun space (trying-made c.args.self.now.problem.now c.args.self.now.matrix.now base c.args.self.now.limit c.return_to.new.store.store c.make.new.store.store c.is_found_irregular.new.self.tree.steps.items c.make.new.self.tree.steps.items c.is_found_irregular.new.self.tree.goals.items c.make.new.self.tree.goals.items c.make.new.self.tree.open c.push.new.self.items later begun c.args.ledger.now.used c.args.left.now c.next_choice.new.point.goal c.in-Some.choice t c.make.ensures.marks c.in_ok-make.ensures.kept (c.in_ok-make.ensures.made c.if-not-branch.false c.args.self.now.problem.now base c.args.self.now.limit t.choices t.at_goal space.matrix t.at t.move))
 
 pub returns-in_err-visit-clause-budget : goal.returns-in_err-visit-clause-budget
 returns-in_err-visit-clause-budget c = c.visit.ensures.budget
@@ -152,18 +152,18 @@ returns-in_err-visit-clause-room c = room-both c.args.store.now c.make.new.store
 
 pub returns-clause-on : goal.returns-clause-on
 returns-clause-on c = if_on _ _ ((base : ℕ) (later : List (List Choice)) (begun : ℕ) → IsSpace c.args.self.now.problem.now c.args.self.now.matrix.now c.args.self.now.limit → IsExploring c.args.self.now.problem.now c.args.self.now.matrix.now base c.args.self.now.limit c.args.store.now.store c.args.work.now.tree.steps.items c.args.work.now.tree.goals.items (c.args.points.now.items ++ c.args.last ∷ []) later begun c.args.ledger.now.used c.args.left.now → IsExploring c.args.self.now.problem.now c.args.self.now.matrix.now base c.args.self.now.limit c.visit.new.store.store c.visit.new.work.tree.steps.items c.visit.new.work.tree.goals.items c.visit.new.points.items later begun c.visit.new.ledger.used c.visit.new.left) c.in_ok-visit.ensures.on (λ f base later begun space e.
-    let t = tried-at c.args.self.now.problem.now c.args.self.now.matrix.now base c.args.self.now.limit c.args.store.now.store c.return_to.new.store.store c.args.work.now.tree.steps.items c.is_found_irregular.new.self.tree.steps.items c.args.work.now.tree.goals.items c.is_found_irregular.new.self.tree.goals.items c.args.points.now.items c.push.new.self.items c.args.last c.next.new.self later begun c.args.ledger.now.used c.args.left.now _ c.in-Some.choice c.return_to.ensures.store (ap (λ (t : Tree). t.steps.items) c.is_found_irregular.ensures.tree ∙ c.return_to.ensures.steps) (ap (λ (t : Tree). t.goals.items) c.is_found_irregular.ensures.tree ∙ c.return_to.ensures.goals) c.in_ok-push.ensures.items c.in_ok-choice.ensures.same c.in_ok-choice.ensures.next c.in-Some.is e in
-    f base later begun space (trying-made c.args.self.now.problem.now c.args.self.now.matrix.now base c.args.self.now.limit c.return_to.new.store.store c.make.new.store.store c.is_found_irregular.new.self.tree.steps.items c.make.new.self.tree.steps.items c.is_found_irregular.new.self.tree.goals.items c.make.new.self.tree.goals.items c.make.new.self.tree.open c.push.new.self.items later begun c.args.ledger.now.used c.args.left.now c.next.new.self.goal c.in-Some.choice t c.make.ensures.marks c.in_ok-make.ensures.kept (c.in_ok-make.ensures.made c.if-not-branch.false c.args.self.now.problem.now base c.args.self.now.limit t.choices t.at_goal space.matrix t.at t.move)))
+    let t = tried-at c.args.self.now.problem.now c.args.self.now.matrix.now base c.args.self.now.limit c.args.store.now.store c.return_to.new.store.store c.args.work.now.tree.steps.items c.is_found_irregular.new.self.tree.steps.items c.args.work.now.tree.goals.items c.is_found_irregular.new.self.tree.goals.items c.args.points.now.items c.push.new.self.items c.args.last c.next_choice.new.point later begun c.args.ledger.now.used c.args.left.now _ c.in-Some.choice c.return_to.ensures.store (ap (λ (t : Tree). t.steps.items) c.is_found_irregular.ensures.tree ∙ c.return_to.ensures.steps) (ap (λ (t : Tree). t.goals.items) c.is_found_irregular.ensures.tree ∙ c.return_to.ensures.goals) c.in_ok-push.ensures.items c.in_ok-choice.ensures.same space.matrix (c.in_ok-choice.ensures.next c.args.self.now.problem.now) c.in-Some.is e in
+    f base later begun space (trying-made c.args.self.now.problem.now c.args.self.now.matrix.now base c.args.self.now.limit c.return_to.new.store.store c.make.new.store.store c.is_found_irregular.new.self.tree.steps.items c.make.new.self.tree.steps.items c.is_found_irregular.new.self.tree.goals.items c.make.new.self.tree.goals.items c.make.new.self.tree.open c.push.new.self.items later begun c.args.ledger.now.used c.args.left.now c.next_choice.new.point.goal c.in-Some.choice t c.make.ensures.marks c.in_ok-make.ensures.kept (c.in_ok-make.ensures.made c.if-not-branch.false c.args.self.now.problem.now base c.args.self.now.limit t.choices t.at_goal space.matrix t.at t.move)))
 
 pub returns-clause-end : goal.returns-clause-end
 returns-clause-end c = λ base later begun space e.
-    let t = tried-at c.args.self.now.problem.now c.args.self.now.matrix.now base c.args.self.now.limit c.args.store.now.store c.return_to.new.store.store c.args.work.now.tree.steps.items c.is_found_irregular.new.self.tree.steps.items c.args.work.now.tree.goals.items c.is_found_irregular.new.self.tree.goals.items c.args.points.now.items c.push.new.self.items c.args.last c.next.new.self later begun c.args.ledger.now.used c.args.left.now _ c.in-Some.choice c.return_to.ensures.store (ap (λ (t : Tree). t.steps.items) c.is_found_irregular.ensures.tree ∙ c.return_to.ensures.steps) (ap (λ (t : Tree). t.goals.items) c.is_found_irregular.ensures.tree ∙ c.return_to.ensures.goals) c.in_ok-push.ensures.items c.in_ok-choice.ensures.same c.in_ok-choice.ensures.next c.in-Some.is e in
-    c.in_ok-visit.ensures.end base later begun space (trying-made c.args.self.now.problem.now c.args.self.now.matrix.now base c.args.self.now.limit c.return_to.new.store.store c.make.new.store.store c.is_found_irregular.new.self.tree.steps.items c.make.new.self.tree.steps.items c.is_found_irregular.new.self.tree.goals.items c.make.new.self.tree.goals.items c.make.new.self.tree.open c.push.new.self.items later begun c.args.ledger.now.used c.args.left.now c.next.new.self.goal c.in-Some.choice t c.make.ensures.marks c.in_ok-make.ensures.kept (c.in_ok-make.ensures.made c.if-not-branch.false c.args.self.now.problem.now base c.args.self.now.limit t.choices t.at_goal space.matrix t.at t.move))
+    let t = tried-at c.args.self.now.problem.now c.args.self.now.matrix.now base c.args.self.now.limit c.args.store.now.store c.return_to.new.store.store c.args.work.now.tree.steps.items c.is_found_irregular.new.self.tree.steps.items c.args.work.now.tree.goals.items c.is_found_irregular.new.self.tree.goals.items c.args.points.now.items c.push.new.self.items c.args.last c.next_choice.new.point later begun c.args.ledger.now.used c.args.left.now _ c.in-Some.choice c.return_to.ensures.store (ap (λ (t : Tree). t.steps.items) c.is_found_irregular.ensures.tree ∙ c.return_to.ensures.steps) (ap (λ (t : Tree). t.goals.items) c.is_found_irregular.ensures.tree ∙ c.return_to.ensures.goals) c.in_ok-push.ensures.items c.in_ok-choice.ensures.same space.matrix (c.in_ok-choice.ensures.next c.args.self.now.problem.now) c.in-Some.is e in
+    c.in_ok-visit.ensures.end base later begun space (trying-made c.args.self.now.problem.now c.args.self.now.matrix.now base c.args.self.now.limit c.return_to.new.store.store c.make.new.store.store c.is_found_irregular.new.self.tree.steps.items c.make.new.self.tree.steps.items c.is_found_irregular.new.self.tree.goals.items c.make.new.self.tree.goals.items c.make.new.self.tree.open c.push.new.self.items later begun c.args.ledger.now.used c.args.left.now c.next_choice.new.point.goal c.in-Some.choice t c.make.ensures.marks c.in_ok-make.ensures.kept (c.in_ok-make.ensures.made c.if-not-branch.false c.args.self.now.problem.now base c.args.self.now.limit t.choices t.at_goal space.matrix t.at t.move))
 
 pub returns-clause-counted : goal.returns-clause-counted
 returns-clause-counted c = λ base later begun space e.
-    let t = tried-at c.args.self.now.problem.now c.args.self.now.matrix.now base c.args.self.now.limit c.args.store.now.store c.return_to.new.store.store c.args.work.now.tree.steps.items c.is_found_irregular.new.self.tree.steps.items c.args.work.now.tree.goals.items c.is_found_irregular.new.self.tree.goals.items c.args.points.now.items c.push.new.self.items c.args.last c.next.new.self later begun c.args.ledger.now.used c.args.left.now _ c.in-Some.choice c.return_to.ensures.store (ap (λ (t : Tree). t.steps.items) c.is_found_irregular.ensures.tree ∙ c.return_to.ensures.steps) (ap (λ (t : Tree). t.goals.items) c.is_found_irregular.ensures.tree ∙ c.return_to.ensures.goals) c.in_ok-push.ensures.items c.in_ok-choice.ensures.same c.in_ok-choice.ensures.next c.in-Some.is e in
-    c.visit.ensures.counted base later begun space (trying-made c.args.self.now.problem.now c.args.self.now.matrix.now base c.args.self.now.limit c.return_to.new.store.store c.make.new.store.store c.is_found_irregular.new.self.tree.steps.items c.make.new.self.tree.steps.items c.is_found_irregular.new.self.tree.goals.items c.make.new.self.tree.goals.items c.make.new.self.tree.open c.push.new.self.items later begun c.args.ledger.now.used c.args.left.now c.next.new.self.goal c.in-Some.choice t c.make.ensures.marks c.in_ok-make.ensures.kept (c.in_ok-make.ensures.made c.if-not-branch.false c.args.self.now.problem.now base c.args.self.now.limit t.choices t.at_goal space.matrix t.at t.move))
+    let t = tried-at c.args.self.now.problem.now c.args.self.now.matrix.now base c.args.self.now.limit c.args.store.now.store c.return_to.new.store.store c.args.work.now.tree.steps.items c.is_found_irregular.new.self.tree.steps.items c.args.work.now.tree.goals.items c.is_found_irregular.new.self.tree.goals.items c.args.points.now.items c.push.new.self.items c.args.last c.next_choice.new.point later begun c.args.ledger.now.used c.args.left.now _ c.in-Some.choice c.return_to.ensures.store (ap (λ (t : Tree). t.steps.items) c.is_found_irregular.ensures.tree ∙ c.return_to.ensures.steps) (ap (λ (t : Tree). t.goals.items) c.is_found_irregular.ensures.tree ∙ c.return_to.ensures.goals) c.in_ok-push.ensures.items c.in_ok-choice.ensures.same space.matrix (c.in_ok-choice.ensures.next c.args.self.now.problem.now) c.in-Some.is e in
+    c.visit.ensures.counted base later begun space (trying-made c.args.self.now.problem.now c.args.self.now.matrix.now base c.args.self.now.limit c.return_to.new.store.store c.make.new.store.store c.is_found_irregular.new.self.tree.steps.items c.make.new.self.tree.steps.items c.is_found_irregular.new.self.tree.goals.items c.make.new.self.tree.goals.items c.make.new.self.tree.open c.push.new.self.items later begun c.args.ledger.now.used c.args.left.now c.next_choice.new.point.goal c.in-Some.choice t c.make.ensures.marks c.in_ok-make.ensures.kept (c.in_ok-make.ensures.made c.if-not-branch.false c.args.self.now.problem.now base c.args.self.now.limit t.choices t.at_goal space.matrix t.at t.move))
 
 pub returns-clause-budget : goal.returns-clause-budget
 returns-clause-budget c = c.visit.ensures.budget
@@ -172,12 +172,12 @@ pub returns-clause-falls : goal.returns-clause-falls
 returns-clause-falls c = if_on _ _ _ c.in_ok-visit.ensures.points (λ pushed.
     let l = c.visit.new.ledger.in_budget in
     let b = c.visit.ensures.budget in
-    visit-falls c.args.ledger.now.budget c.args.ledger.now.used c.visit.new.ledger.used c.args.points.now.items c.push.new.self.items c.visit.new.points.items c.args.last c.next.new.self pushed c.in_ok-push.ensures.items (omega (arith, l, b)) (lighter-some c.args.last c.next.new.self _ c.in-Some.choice c.in_ok-choice.ensures.falls c.in-Some.is))
+    visit-falls c.args.ledger.now.budget c.args.ledger.now.used c.visit.new.ledger.used c.args.points.now.items c.push.new.self.items c.visit.new.points.items c.args.last c.next_choice.new.point pushed c.in_ok-push.ensures.items (omega (arith, l, b)) (lighter-some c.args.last c.next_choice.new.point _ c.in-Some.choice c.in_ok-choice.ensures.falls c.in-Some.is))
 
 pub returns-clause-above : goal.returns-clause-above
 returns-clause-above c = λ k g a.
     let m = moment-kept k c.args.points.now.items c.args.last c.args.store.now.store c.return_to.new.store.store c.make.new.store.store g a c.return_to.ensures.marks c.make.ensures.marks in
-    c.in_ok-visit.ensures.above k m.0 (subst (λ ps. AreAbove k ps) (sym c.in_ok-push.ensures.items) (above-next k c.args.points.now.items c.args.last c.next.new.self c.in_ok-choice.ensures.same a))
+    c.in_ok-visit.ensures.above k m.0 (subst (λ ps. AreAbove k ps) (sym c.in_ok-push.ensures.items) (above-next k c.args.points.now.items c.args.last c.next_choice.new.point c.in_ok-choice.ensures.same a))
 
 pub returns-clause-moment : goal.returns-clause-moment
 returns-clause-moment c = λ k g a.

@@ -16,7 +16,7 @@ pub returns-in_err-is_pruned-clause-counted : goal.returns-in_err-is_pruned-clau
 returns-in_err-is_pruned-clause-counted c = λ base later begun space v. counted c.args.self.now.problem.now c.args.self.now.limit (v.choices ∷ v.pending ++ later) begun c.args.ledger.now.used c.args.left.now v.searched
 
 pub returns-then-branch-clause-on : goal.returns-then-branch-clause-on
-returns-then-branch-clause-on c = λ base later begun space v. subst (λ (z : Tree). IsExploring c.args.self.now.problem.now c.args.self.now.matrix.now base c.args.self.now.limit c.args.store.now.store z.steps.items z.goals.items c.args.points.now.items later begun c.args.ledger.now.used c.args.left.now) (sym c.is_pruned.ensures.tree) (visit-pruned c.args.self.now.problem.now c.args.self.now.matrix.now base c.args.self.now.limit c.args.store.now.store c.args.work.now.tree.steps.items c.args.work.now.tree.goals.items c.args.work.now.tree.open c.args.points.now.items later begun c.args.ledger.now.used c.args.left.now v (c.in_ok-is_pruned.ensures.left c.if-branch.true) (c.in_ok-is_pruned.ensures.pruned c.if-branch.true base v.choices v.stands v.not_empty))
+returns-then-branch-clause-on c = λ base later begun space v. subst (λ (z : Tree). IsExploring c.args.self.now.problem.now c.args.self.now.matrix.now base c.args.self.now.limit c.args.store.now.store z.steps.items z.goals.items c.args.points.now.items later begun c.args.ledger.now.used c.args.left.now) (sym c.is_pruned.ensures.tree) (visit-pruned c.args.self.now.problem.now c.args.self.now.matrix.now base c.args.self.now.limit c.args.store.now.store c.args.work.now.tree.steps.items c.args.work.now.tree.goals.items c.args.work.now.tree.open c.args.points.now.items later begun c.args.ledger.now.used c.args.left.now v (c.in_ok-is_pruned.ensures.left c.if-branch.true) (c.in_ok-is_pruned.ensures.pruned c.if-branch.true base v.choices space.matrix v.stands v.not_empty))
 
 pub returns-then-branch-clause-end : goal.returns-then-branch-clause-end
 returns-then-branch-clause-end c = λ base later begun space v. tt

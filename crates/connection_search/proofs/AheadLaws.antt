@@ -1,0 +1,280 @@
+-- Looking ahead at the path limit: goals that no bindings close within it, and lists that are dropped where the limit is known to be left.
+use Rattle.std.proofs.Common.{◌≡◌, ◌≢◌, ◌⊎◌, ◌&&◌, ◌==◌, ◌+◌, ◌-◌, ◌<◌, ◌≤◌, ◌%◌, ◌^◌, ◌*◌, ℕ, zero, suc, Bool, List, [], ◌∷◌, ◌++◌, length, max, not, true, false, IsTrue, MatchOption, refl, sym, ◌∙◌, ap, subst, Option, Some, None, option_map, slice_get, remove, inl, inr, arith, append_assoc, bit_or, eq-eqb}
+use Rattle.std.specs.Int.{bit_at}
+use Rattle.std.specs.List.{AllByRecursion}
+use Rattle.std.proofs.lemmas.Bool.{and_parts, cases_eq, false≢true}
+use Rattle.std.proofs.lemmas.Option.{slice_get_within}
+use Rattle.std.proofs.lemmas.Nat.Bits.{bit_at-lt, bit_at_or}
+use Rattle.calculus.specs.declared.sign.Sign.{Sign}
+use Rattle.calculus.specs.Choices.{Choice}
+use Rattle.calculus.specs.Equality.{sign_eq}
+use Rattle.calculus.specs.Kinds.{other}
+use Rattle.calculus.specs.Syntax.{Problem}
+use Rattle.calculus.proofs.PlaceLists.{get-within}
+use Rattle.matrix_build.specs.MatrixView.{the_place}
+use Rattle.search_theory.specs.Ahead.{IsApart, IsHopelessAt, MarksPath, bit_of, by_args, by_sign, by_symbol}
+use Rattle.search_theory.specs.Exploring.{behind}
+use Rattle.search_theory.specs.Matrix.{MatrixClause, MatrixPlace, places}
+use Rattle.search_theory.specs.OrderedChoices.{extension_at, meets}
+use Rattle.search_theory.specs.States.{CellGoal, atom_is_below, goal_is_below}
+use Rattle.search_theory.specs.Steps.{Clash}
+use Rattle.search_theory.proofs.BeginningLaws.{is_not_empty}
+use Rattle.search_theory.proofs.LookAheadLaws.{bit-alone, full-pruned, hopeless-dropped, nearly-pruned, none-reduces, unmarked-lacks}
+use Rattle.search_theory.proofs.PruningLaws.{search-pruned}
+use Rattle.store_theory.specs.Patterns.{PatternAtom, Template}
+use Rattle.store_theory.specs.Stores.{Store, names_below}
+use Rattle.store_theory.specs.Systems.{CellAtom}
+use Rattle.connection_search.specs.Ahead.{HasNoHope, IsHopelessMove, IsLost, IsNextLeft}
+use Rattle.connection_search.specs.Exploring.{IsSearched}
+use Rattle.connection_search.specs.Points.{HasUntried, IsMoveAt, IsSamePoint, the_move}
+use Rattle.connection_search.specs.Pruning.{IsPruned}
+use Rattle.connection_search.specs.Running.{IsAtGoal, IsMatrixOf, StandsFor}
+use Rattle.connection_search.specs.Trees.{AreOpen, IsGoalAt, atom_at}
+use Rattle.connection_search.specs.declared.point.Move.{Move}
+use Rattle.connection_search.specs.declared.point.Move.TheVariants.{Reduce, Extend}
+use Rattle.connection_search.specs.declared.point.Point.{Point}
+use Rattle.connection_search.specs.declared.tree.Goal.{Goal}
+use Rattle.connection_search.specs.declared.tree.Step.{Step}
+use Rattle.connection_search.proofs.PlaceLaws.{place-found, place-stands}
+use Rattle.connection_search.proofs.SeenLaws.{goal-wanted}
+use Rattle.connection_search.proofs.TreeLaws.{atom-found, goal-at, same-item}
+
+-- ---- marks
+
+set-or : (x y b : ℕ) → (bit_at x b ≡ 1) ⊎ (bit_at y b ≡ 1) → bit_at (bit_or x y) b ≡ 1
+set-or x y b h = by (bit_at-lt x b) (bit_at-lt y b) h (bit_at_or x y b)
+  where
+    by : bit_at x b < 2 → bit_at y b < 2 → (bit_at x b ≡ 1) ⊎ (bit_at y b ≡ 1) → bit_at (bit_or x y) b ≡ max (bit_at x b) (bit_at y b) → bit_at (bit_or x y) b ≡ 1
+    by l k (inl e) q = omega (arith, l, k, e, q)
+    by l k (inr e) q = omega (arith, l, k, e, q)
+
+-- a mark that is added is there, and those that were
+pub marked-own : (marks bit symbol : ℕ) (sign : Sign) → bit ≡ bit_of symbol sign → bit_at (bit_or marks (1 * 2 ^ bit % 2 ^ 64)) (bit_of symbol sign) ≡ 1
+marked-own marks bit symbol sign e = subst (λ n. bit_at (bit_or marks (1 * 2 ^ n % 2 ^ 64)) (bit_of symbol sign) ≡ 1) (sym e) (set-or marks (1 * 2 ^ bit_of symbol sign % 2 ^ 64) (bit_of symbol sign) (inr (bit-alone symbol sign)))
+
+pub unmarked : (marks bit symbol : ℕ) (sign : Sign) → bit ≡ bit_of symbol sign → (bit_at marks bit == 1) ≡ false → bit_at marks (bit_of symbol sign) ≡ 0
+unmarked marks bit symbol sign e h = subst (λ n. bit_at marks n ≡ 0) e (none (bit_at marks bit) (bit_at-lt marks bit) h)
+  where
+    none : (n : ℕ) → n < 2 → (n == 1) ≡ false → n ≡ 0
+    none zero l k = refl
+    none (suc zero) l k = absurd (false≢true (sym k))
+    none (suc (suc n)) l k = absurd (omega (arith, l))
+
+pub marked-others : (marks more b : ℕ) → bit_at marks b ≡ 1 → bit_at (bit_or marks more) b ≡ 1
+marked-others marks more b h = set-or marks more b (inl h)
+
+-- the goal's own mark and those of its path
+pub marks-goal : (marks : ℕ) (x : CellGoal) → bit_at marks (bit_of x.literal.symbol x.literal.sign) ≡ 1 → ((k : ℕ) (a : CellAtom) → slice_get x.path k ≡ Some a → bit_at marks (bit_of a.symbol a.sign) ≡ 1) → MarksPath marks (x.literal ∷ x.path)
+marks-goal marks x own above zero a e = let same : x.literal ≡ a = cc e in subst (λ (z : CellAtom). bit_at marks (bit_of z.symbol z.sign) ≡ 1) same own
+marks-goal marks x own above (suc k) a e = above k a e
+
+-- the atom's symbol is marked under its sign
+abbrev pub IsMarkedBy : ℕ → CellGoal → CellAtom → Type 0
+IsMarkedBy marks x a = bit_at marks (bit_of a.symbol a.sign) ≡ 1
+
+pub marked-literal : (steps : List Step) (goals : List Goal) (goal marks : ℕ) (a : CellAtom) (x : CellGoal) → IsGoalAt steps goals goal x → ((g : Goal) → slice_get goals goal ≡ Some g → atom_at steps g ≡ Some a) → bit_at marks (bit_of a.symbol a.sign) ≡ 1 → bit_at marks (bit_of x.literal.symbol x.literal.sign) ≡ 1
+marked-literal steps goals goal marks a x g f h = subst (λ (z : CellAtom). bit_at marks (bit_of z.symbol z.sign) ≡ 1) (atom-found steps goals goal x a g f) h
+
+-- ---- extensions without hope
+
+-- another item stands among those that are left
+other-there : {A : Type 0} (xs : List A) (place i : ℕ) (x : A) → i ≢ place → slice_get xs i ≡ Some x → (n : ℕ) × (slice_get (remove xs place) n ≡ Some x)
+other-there [] place i x n e = let z : None ≡ Some x = e in absurd (cc z)
+other-there (y ∷ xs) zero zero x n e = absurd (n refl)
+other-there (y ∷ xs) zero (suc i) x n e = (i, e)
+other-there (y ∷ xs) (suc place) zero x n e = (0, e)
+other-there (y ∷ xs) (suc place) (suc i) x n e = let w = other-there xs place i x (λ q. n (ap suc q)) e in (suc w.0, w.1)
+
+-- another literal of the place's clause has a symbol that is not marked under the other sign
+pub place-hopeless : (m : List MatrixClause) (p : MatrixPlace) (t : Template) (i : ℕ) (q : PatternAtom) (marks : ℕ) → option_map (λ (x : MatrixClause). x.template) (slice_get m p.clause) ≡ Some t → slice_get t.literals i ≡ Some q → i ≢ p.literal → bit_at marks (bit_of q.symbol (other q.sign)) ≡ 0 → (g : CellGoal) → MarksPath marks (g.literal ∷ g.path) → IsHopelessAt m p g
+place-hopeless m p t i q marks found there differs none g marked = by (slice_get m p.clause) refl found
+  where
+    by : (o : Option MatrixClause) → slice_get m p.clause ≡ o → option_map (λ (x : MatrixClause). x.template) o ≡ Some t → IsHopelessAt m p g
+    by None e f = let z : None ≡ Some t = f in absurd (cc z)
+    by (Some c) e f =
+        let same : c.template ≡ t = cc f in
+        let (n, stands) = other-there t.literals p.literal i q differs there in
+        record {
+          clause = c;
+          stands = e;
+          hopeless = record {
+            number = n;
+            literal = q;
+            stands = subst (λ (z : Template). slice_get (remove z.literals p.literal) n ≡ Some q) (sym same) stands;
+            lacking = unmarked-lacks marks (g.literal ∷ g.path) q.symbol q.sign marked none;
+          };
+        }
+
+-- ---- goals that an ancestor may close
+
+pub apart-by_meets : (s : Store) (a b : CellAtom) → meets a b ≡ false → IsApart s a b
+apart-by_meets s a b h = by (sign_eq a.sign b.sign) (a.symbol == b.symbol) refl refl h
+  where
+    by : (u v : Bool) → sign_eq a.sign b.sign ≡ u → (a.symbol == b.symbol) ≡ v → (not u && v) ≡ false → IsApart s a b
+    by true v e f k = by_sign e
+    by false false e f k = by_symbol (λ q. false≢true (sym f ∙ eq-eqb a.symbol b.symbol q))
+    by false true e f k = absurd (false≢true (sym k))
+
+-- the atom cannot be met by the goal
+abbrev pub IsApartIn : Store → CellGoal → CellAtom → Type 0
+IsApartIn s x a = IsApart s x.literal a
+
+pub apart-literal : (s : Store) (steps : List Step) (goals : List Goal) (goal : ℕ) (a b : CellAtom) (x : CellGoal) → IsGoalAt steps goals goal x → ((g : Goal) → slice_get goals goal ≡ Some g → atom_at steps g ≡ Some a) → IsApart s a b → IsApart s x.literal b
+apart-literal s steps goals goal a b x g f h = subst (λ z. IsApart s z b) (atom-found steps goals goal x a g f) h
+
+pub apart-by_clash : (s : Store) (a b : CellAtom) (xs ys : List ℕ) → xs ≡ a.args → ys ≡ b.args → Clash s xs ys → IsApart s a b
+apart-by_clash s a b xs ys ex ey k = by_args (subst (λ us. Clash s us b.args) ex (subst (Clash s xs) ey k))
+
+pub terms-below : (n : ℕ) (a : CellAtom) (xs : List ℕ) → xs ≡ a.args → IsTrue (atom_is_below n a) → IsTrue (names_below n xs)
+terms-below n a xs e h = subst (λ us. IsTrue (names_below n us)) (sym e) (and_parts (names_below n a.args) (names_below n a.label) h).0
+
+-- ---- the row of a goal
+
+-- the literals that may extend it
+abbrev pub row_of : List MatrixClause → CellGoal → List MatrixPlace
+row_of m x = places m x.literal.symbol (other x.literal.sign)
+
+pub row-same : (m : List MatrixClause) (items : List MatrixPlace) (a : CellAtom) (sign : Sign) (x : CellGoal) → items ≡ places m a.symbol sign → sign ≡ other a.sign → a ≡ x.literal → items ≡ row_of m x
+row-same m items a sign x e es ea = e ∙ ap (places m a.symbol) es ∙ ap (λ (z : CellAtom). places m z.symbol (other z.sign)) ea
+
+pub row-clause : (m : List MatrixClause) (items : List MatrixPlace) (x : CellGoal) (i : ℕ) (p : MatrixPlace) → items ≡ row_of m x → slice_get items i ≡ Some p → p.clause < length m
+row-clause m items x i p e at =
+    let w = place-stands m x.literal.symbol (other x.literal.sign) i p (subst (λ ps. slice_get ps i ≡ Some p) e at) in
+    get-within m p.clause w.clause (place-found m x.literal.symbol (other x.literal.sign) p w)
+
+-- the first i of them are hopeless
+abbrev pub AreHopelessTo : List MatrixClause → CellGoal → ℕ → Type 0
+AreHopelessTo m x i = (k : ℕ) (p : MatrixPlace) → k < i → slice_get (row_of m x) k ≡ Some p → IsHopelessAt m p x
+
+pub hopeless-next : (m : List MatrixClause) (items : List MatrixPlace) (x : CellGoal) (i : ℕ) (p : MatrixPlace) → items ≡ row_of m x → slice_get items i ≡ Some p → IsHopelessAt m p x → AreHopelessTo m x i → AreHopelessTo m x (i + 1)
+hopeless-next m items x i p e at bad h k q l there = by (cases_eq k i)
+  where
+    by : (k ≡ i) ⊎ (k ≢ i) → IsHopelessAt m q x
+    by (inl same) = subst (λ z. IsHopelessAt m z x) (same-item (slice_get (row_of m x) i) p q (subst (λ ps. slice_get ps i ≡ Some p) e at) (subst (λ n. slice_get (row_of m x) n ≡ Some q) same there)) bad
+    by (inr differs) = h k q (omega (arith, l, differs)) there
+
+pub hopeless-all : (m : List MatrixClause) (items : List MatrixPlace) (x : CellGoal) (i : ℕ) → items ≡ row_of m x → length items ≤ i → AreHopelessTo m x i → HasNoHope m x
+hopeless-all m items x i e l h p (k, at) =
+    let inside = slice_get_within (row_of m x) k p at in
+    let count = ap length e in
+    h k p (omega (arith, inside, count, l)) at
+
+-- ---- goals that no bindings close
+
+-- what of it each number of the tree tells
+pub lost-pruned : (P : Problem) (m : List MatrixClause) (base d : ℕ) (c : List Choice) (s : Store) (steps : List Step) (goals : List Goal) (first : Option ℕ) (goal : ℕ) (at : Goal) → IsMatrixOf P m → StandsFor P m base d c s steps goals first → slice_get goals goal ≡ Some at → ((x : CellGoal) → IsGoalAt steps goals goal x → IsLost m d s x) → IsTrue (is_not_empty c) → IsPruned P d c
+lost-pruned P m base d c s steps goals first goal at tm (cs, y, h) there lost n =
+    let (z, on, stands) = goal-at steps goals y.all_goals goal at h.tree.goals there in
+    let k = lost z stands in
+    by z on k k.full
+  where
+    by : (z : CellGoal) → slice_get y.all_goals goal ≡ Some z → IsLost m d s z → (d ≤ length z.path) ⊎ ((d ≤ length z.path + 1) × HasNoHope m z) → IsPruned P d c
+    by z on k (inl full) = full-pruned P d c (record { store = s; choices = cs; growth = y }) z n h.running.state (goal, on) full (none-reduces s z k.none)
+    by z on k (inr (near, none)) = nearly-pruned P m d c (record { store = s; choices = cs; growth = y }) z tm.matrix n h.running.state (goal, on) near (none-reduces s z k.none) none
+
+-- a goal of the tree is over cells of the store
+pub goal-cells : (P : Problem) (m : List MatrixClause) (base d : ℕ) (c : List Choice) (s : Store) (steps : List Step) (goals : List Goal) (first : Option ℕ) (goal : ℕ) (x : CellGoal) → StandsFor P m base d c s steps goals first → IsGoalAt steps goals goal x → (z : CellGoal) × IsGoalAt steps goals goal z × IsTrue (goal_is_below (length s.cells) z)
+goal-cells P m base d c s steps goals first goal x (cs, y, h) at = goal-wanted steps goals (length s.cells) goal y.all_goals h.tree.goals h.running.state.cells.all_goals (slice_get_within goals goal at.goal at.stands)
+
+-- the leftmost of these goals, and those behind it
+pub record OpenFirst (steps : List Step) (goals : List Goal) (goal : ℕ) : Type 0 where
+  pub x : CellGoal
+  pub at : IsGoalAt steps goals goal x
+  pub rest : (g : Goal) → slice_get goals goal ≡ Some g → (ys : List CellGoal) × AreOpen steps goals g.behind ys
+
+pub leftmost-open : (steps : List Step) (goals : List Goal) (next : Option ℕ) (goal : ℕ) (xs : List CellGoal) → AreOpen steps goals next xs → next ≡ Some goal → OpenFirst steps goals goal
+leftmost-open steps goals next goal [] h e = let z : None ≡ Some goal = sym h ∙ e in absurd (cc z)
+leftmost-open steps goals next goal (x ∷ xs) (i, g, is, at, goal_is, rest) e =
+    let same : i ≡ goal = let z : Some i ≡ Some goal = sym is ∙ e in cc z in
+    let there : slice_get goals goal ≡ Some g = subst (λ k. slice_get goals k ≡ Some g) same at in
+    record {
+      x = x;
+      at = record { goal = g; stands = there; is_goal = goal_is };
+      rest = λ k f. (xs, subst (λ (z : Goal). AreOpen steps goals z.behind xs) (same-item (slice_get goals goal) g k there f) rest);
+    }
+
+-- ---- choices that are passed over
+
+-- extensions without hope were passed over, and these choices are left
+pub record PassesTo (m : List MatrixClause) (d : ℕ) (steps : List Step) (goals : List Goal) (g : CellGoal) (untried : List Choice) (now : Point) : Type 0 where
+  pub passed : List Choice
+  pub hopeless : AllByRecursion (λ x. (p : MatrixPlace) × (x ≡ extension_at m p) × IsHopelessAt m p g) passed
+  pub rest : List Choice
+  pub are : untried ≡ passed ++ rest
+  pub has : HasUntried m d steps goals now g rest
+
+pub passes-first : (m : List MatrixClause) (d : ℕ) (steps : List Step) (goals : List Goal) (g : CellGoal) (untried : List Choice) (now : Point) → HasUntried m d steps goals now g untried → PassesTo m d steps goals g untried now
+passes-first m d steps goals g untried now h = record { passed = []; hopeless = tt; rest = untried; are = refl; has = h }
+
+all-with : {A : Type 0} (Q : A → Type 0) (xs : List A) (x : A) → AllByRecursion Q xs → Q x → AllByRecursion Q (xs ++ x ∷ [])
+all-with Q [] x h k = (k, tt)
+all-with Q (y ∷ xs) x h k = (h.0, all-with Q xs x h.1 k)
+
+pub passes-next : (m : List MatrixClause) (d : ℕ) (steps : List Step) (goals : List Goal) (g : CellGoal) (untried : List Choice) (now after : Point) (choice : Move) → (h : PassesTo m d steps goals g untried now) → (rest : List Choice) × (h.rest ≡ the_move m choice ∷ rest) × HasUntried m d steps goals after g rest → IsHopelessMove m g choice → PassesTo m d steps goals g untried after
+passes-next m d steps goals g untried now after (Reduce up ancestor) h n bad = absurd bad
+passes-next m d steps goals g untried now after (Extend place) h (rest, e, has) bad = record {
+  passed = h.passed ++ extension_at m (the_place place) ∷ [];
+  hopeless = all-with (λ x. (p : MatrixPlace) × (x ≡ extension_at m p) × IsHopelessAt m p g) h.passed (extension_at m (the_place place)) h.hopeless (the_place place, refl, bad);
+  rest = rest;
+  are = h.are ∙ ap (λ xs. h.passed ++ xs) e ∙ sym (append_assoc h.passed (extension_at m (the_place place) ∷ []) rest);
+  has = has;
+}
+
+-- no closed tableau begins with one of them
+passed-pruned : (P : Problem) (m : List MatrixClause) (base d : ℕ) (c : List Choice) (s : Store) (steps : List Step) (goals : List Goal) (goal : ℕ) (g : CellGoal) (passed : List Choice) → IsMatrixOf P m → IsAtGoal P m base d c s steps goals goal g → d ≤ length g.path + 1 → AllByRecursion (λ x. (p : MatrixPlace) × (x ≡ extension_at m p) × IsHopelessAt m p g) passed → AllByRecursion (λ x. IsPruned P d (c ++ x ∷ [])) passed
+passed-pruned P m base d c s steps goals goal g [] tm h near k = tt
+passed-pruned P m base d c s steps goals goal g (x ∷ passed) tm h near ((p, is, bad), k) = (
+  subst (λ z. IsPruned P d (c ++ z ∷ [])) (sym is) (hopeless-dropped P m d c s h.made g h.behind h.every h.depths p tm.matrix h.at.running.state near bad),
+  passed-pruned P m base d c s steps goals goal g passed tm h near k,
+)
+
+-- what comes next behind them
+pub passes-left : (P : Problem) (m : List MatrixClause) (base d : ℕ) (c : List Choice) (s : Store) (steps : List Step) (goals : List Goal) (goal : ℕ) (g : CellGoal) (untried : List Choice) (now after : Point) (o : Option Move) → IsMatrixOf P m → IsAtGoal P m base d c s steps goals goal g → d ≤ length g.path + 1 → (h : PassesTo m d steps goals g untried now) → MatchOption o (h.rest ≡ []) (λ x. IsMoveAt m d steps goals g x × ((rest : List Choice) × (h.rest ≡ the_move m x ∷ rest) × HasUntried m d steps goals after g rest)) → IsNextLeft P m d c steps goals after g untried true o
+passes-left P m base d c s steps goals goal g untried now after o tm at near h next = record {
+  passed = h.passed;
+  pruned = passed-pruned P m base d c s steps goals goal g h.passed tm at near h.hopeless;
+  known = inr refl;
+  next = by o next;
+}
+  where
+    by : (o : Option Move) → MatchOption o (h.rest ≡ []) (λ x. IsMoveAt m d steps goals g x × ((rest : List Choice) × (h.rest ≡ the_move m x ∷ rest) × HasUntried m d steps goals after g rest)) → MatchOption o (untried ≡ h.passed ++ []) (λ x. IsMoveAt m d steps goals g x × ((rest : List Choice) × (untried ≡ h.passed ++ the_move m x ∷ rest) × HasUntried m d steps goals after g rest))
+    by None e = h.are ∙ ap (λ xs. h.passed ++ xs) e
+    by (Some x) (move, (rest, e, has)) = (move, (rest, h.are ∙ ap (λ xs. h.passed ++ xs) e, has))
+
+-- none was passed over
+pub next-left : (P : Problem) (m : List MatrixClause) (d : ℕ) (c : List Choice) (steps : List Step) (goals : List Goal) (after : Point) (g : CellGoal) (untried : List Choice) (left : Bool) (o : Option Move) → MatchOption o (untried ≡ []) (λ x. IsMoveAt m d steps goals g x × ((rest : List Choice) × (untried ≡ the_move m x ∷ rest) × HasUntried m d steps goals after g rest)) → IsNextLeft P m d c steps goals after g untried left o
+next-left P m d c steps goals after g untried left o next = record { passed = []; pruned = tt; known = inl refl; next = by o next }
+  where
+    by : (o : Option Move) → MatchOption o (untried ≡ []) (λ x. IsMoveAt m d steps goals g x × ((rest : List Choice) × (untried ≡ the_move m x ∷ rest) × HasUntried m d steps goals after g rest)) → MatchOption o (untried ≡ [] ++ []) (λ x. IsMoveAt m d steps goals g x × ((rest : List Choice) × (untried ≡ [] ++ the_move m x ∷ rest) × HasUntried m d steps goals after g rest))
+    by None e = e
+    by (Some x) h = h
+
+pub known-left : (P : Problem) (m : List MatrixClause) (d : ℕ) (c : List Choice) (steps : List Step) (goals : List Goal) (after : Point) (g : CellGoal) (untried : List Choice) (left : Bool) (o : Option Move) → left ≡ true → IsNextLeft P m d c steps goals after g untried true o → IsNextLeft P m d c steps goals after g untried left o
+known-left P m d c steps goals after g untried left o e h = subst (λ l. IsNextLeft P m d c steps goals after g untried l o) (sym e) h
+
+pub same-both : (p q r : Point) → IsSamePoint p q → IsSamePoint q r → IsSamePoint p r
+same-both p q r h k = record { mark = k.mark ∙ h.mark; steps = k.steps ∙ h.steps; goals = k.goals ∙ h.goals; goal = k.goal ∙ h.goal; depth = k.depth ∙ h.depth }
+
+pub less-both : (x y z : ℕ) → x < y → y ≤ z → x < z
+less-both x y z l k = omega (arith, l, k)
+
+pub less-le : (x y z : ℕ) → x < y → y ≤ z → x ≤ z
+less-le x y z l k = omega (arith, l, k)
+
+-- ---- the search without them
+
+dropped : (P : Problem) (d : ℕ) (c passed rest : List Choice) (later : List (List Choice)) (begun used : ℕ) → AllByRecursion (λ x. IsPruned P d (c ++ x ∷ [])) passed → IsSearched P d (behind c (passed ++ rest) ++ later) begun used true → IsSearched P d (behind c rest ++ later) begun used true
+dropped P d c [] rest later begun used k h = h
+dropped P d c (x ∷ passed) rest later begun used (none, k) h = dropped P d c passed rest later begun used k (record {
+  spent = h.spent;
+  search = search-pruned P d h.spent (c ++ x ∷ []) (behind c (passed ++ rest) ++ later) h.search none;
+  from = h.from;
+  count = h.count;
+})
+
+pub passed-over : (P : Problem) (d : ℕ) (c passed rest untried : List Choice) (later : List (List Choice)) (begun used : ℕ) (left : Bool) → AllByRecursion (λ x. IsPruned P d (c ++ x ∷ [])) passed → (passed ≡ []) ⊎ (left ≡ true) → untried ≡ passed ++ rest → IsSearched P d (behind c untried ++ later) begun used left → IsSearched P d (behind c rest ++ later) begun used left
+passed-over P d c passed rest untried later begun used left k (inl none) e h = subst (λ xs. IsSearched P d (behind c xs ++ later) begun used left) (e ∙ ap (λ xs. xs ++ rest) none) h
+passed-over P d c passed rest untried later begun used left k (inr known) e h = by left known (subst (λ xs. IsSearched P d (behind c xs ++ later) begun used left) e h)
+  where
+    by : (l : Bool) → l ≡ true → IsSearched P d (behind c (passed ++ rest) ++ later) begun used l → IsSearched P d (behind c rest ++ later) begun used l
+    by l q h = subst (IsSearched P d (behind c rest ++ later) begun used) (sym q) (dropped P d c passed rest later begun used k (subst (IsSearched P d (behind c (passed ++ rest) ++ later) begun used) q h))

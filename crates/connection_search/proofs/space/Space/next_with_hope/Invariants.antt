@@ -1,0 +1,18 @@
+use Rattle.std.proofs.Common.{◌≤◌, List}
+use Rattle.calculus.specs.Choices.{Choice}
+use Rattle.search_theory.specs.States.{CellGoal}
+use Rattle.connection_search.specs.Points.{HasUntried, IsSamePoint}
+use Rattle.connection_search.specs.Trees.{IsGoalAt}
+use Rattle.connection_search.specs.Weights.{weight}
+use Rattle.connection_search.proofs.AheadLaws.{PassesTo}
+use Rattle.connection_search.proofs.space.Space.next_with_hope.Given as goal
+
+abbrev pub invariant-loop-choice : goal.invariant-loop-choice
+invariant-loop-choice l = record {
+  passes : (g : CellGoal) (untried : List Choice) → IsGoalAt l.tree.steps.items l.tree.goals.items l.initial.point.goal g → HasUntried l.self.matrix.now l.self.limit l.tree.steps.items l.tree.goals.items l.initial.point g untried → PassesTo l.self.matrix.now l.self.limit l.tree.steps.items l.tree.goals.items g untried l.point;
+  same : IsSamePoint l.initial.point l.point;
+  weight_is : weight l.point ≤ weight l.initial.point;
+}
+
+abbrev pub decreases-loop-choice : goal.decreases-loop-choice
+decreases-loop-choice l = weight l.point

@@ -1,0 +1,41 @@
+-- Looking ahead at the path limit: goals that no bindings close within it, and choices that give such a goal.
+use Rattle.std.specs.Prelude.{◌≡◌, ◌⊎◌, ◌+◌, ◌≤◌, ℕ, List, [], ◌∷◌, ◌++◌, length, Bool, true, Option, MatchOption}
+use Rattle.std.specs.List.{AllByRecursion}
+use Rattle.calculus.specs.Choices.{Choice}
+use Rattle.calculus.specs.Kinds.{other}
+use Rattle.calculus.specs.Syntax.{Problem}
+use Rattle.matrix_build.specs.MatrixView.{the_place}
+use Rattle.search_theory.specs.Ahead.{HasNoReduction, IsHopelessAt}
+use Rattle.search_theory.specs.Exploring.{IsIn}
+use Rattle.search_theory.specs.Matrix.{MatrixClause, MatrixPlace, places}
+use Rattle.search_theory.specs.States.{CellGoal}
+use Rattle.store_theory.specs.Stores.{Store}
+use Rattle.connection_search.specs.Points.{HasUntried, IsMoveAt, the_move}
+use Rattle.connection_search.specs.Pruning.{IsPruned}
+use Rattle.connection_search.specs.declared.point.Move.{Move}
+use Rattle.connection_search.specs.declared.point.Move.TheVariants.{Reduce, Extend}
+use Rattle.connection_search.specs.declared.point.Point.{Point}
+use Rattle.connection_search.specs.declared.tree.Goal.{Goal}
+use Rattle.connection_search.specs.declared.tree.Step.{Step}
+
+-- each extension of the goal gives a goal whose path lacks its symbol with the other sign
+abbrev pub HasNoHope : List MatrixClause → CellGoal → Type 0
+HasNoHope m x = (p : MatrixPlace) → IsIn p (places m x.literal.symbol (other x.literal.sign)) → IsHopelessAt m p x
+
+-- no goal above it may close the goal, and the path has room for no extension within the limit d, or for one and none has hope
+pub record IsLost (m : List MatrixClause) (d : ℕ) (s : Store) (x : CellGoal) : Type 0 where
+  pub none : HasNoReduction s x
+  pub full : (d ≤ length x.path) ⊎ ((d ≤ length x.path + 1) × HasNoHope m x)
+
+-- the move is such an extension
+abbrev pub IsHopelessMove : List MatrixClause → CellGoal → Move → Type 0
+IsHopelessMove m g (Reduce up ancestor) = ⊥
+IsHopelessMove m g (Extend place) = IsHopelessAt m (the_place place) g
+
+-- what comes next at a point behind choices that were passed over: no tableau that is closed within d begins with one of them, and any
+-- were passed over only where it is known that the limit is left
+pub record IsNextLeft (P : Problem) (m : List MatrixClause) (d : ℕ) (c : List Choice) (steps : List Step) (goals : List Goal) (after : Point) (g : CellGoal) (untried : List Choice) (left : Bool) (o : Option Move) : Type 0 where
+  pub passed : List Choice
+  pub pruned : AllByRecursion (λ x. IsPruned P d (c ++ x ∷ [])) passed
+  pub known : (passed ≡ []) ⊎ (left ≡ true)
+  pub next : MatchOption o (untried ≡ passed ++ []) (λ x. IsMoveAt m d steps goals g x × ((rest : List Choice) × (untried ≡ passed ++ the_move m x ∷ rest) × HasUntried m d steps goals after g rest))

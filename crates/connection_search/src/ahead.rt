@@ -1,0 +1,361 @@
+//! Looking ahead at the path limit. A goal with as many goals above it as the limit is closed by a
+//! reduction, so no closed tableau has one that no ancestor may close, nor one with a goal less above
+//! it each of whose choices gives such a goal.
+
+ghost use Rattle.std.specs.Prelude.{◌≡◌, ◌≤◌, ◌<◌, ◌+◌, ◌-◌, ◌∷◌, ℕ, IfOk, IsTrue, List, MatchOption};
+ghost use Rattle.std.specs.Prelude.{OnOk, Some, false, length, map, slice_get, true, ⊤};
+ghost use Rattle.std.specs.Int.{bit_at};
+ghost use Rattle.calculus.specs.Choices.{Choice};
+ghost use Rattle.calculus.specs.Kinds as kinds;
+ghost use Rattle.calculus.specs.Syntax.{Problem};
+ghost use Rattle.matrix_build.specs.MatrixView.{the_place};
+ghost use Rattle.search_theory.proofs.BeginningLaws.{is_not_empty};
+ghost use Rattle.search_theory.specs.Ahead.{HasNoReduction, IsApart, IsHopelessAt, MarksPath};
+ghost use Rattle.search_theory.specs.Ahead as marking;
+ghost use Rattle.search_theory.specs.States.{CellGoal, atom_is_below, goal_is_below};
+ghost use Rattle.store_theory.specs.Stores as stores;
+ghost use Rattle.term_store.specs.ClauseView.{the_atom, the_pattern_atom};
+ghost use Rattle.connection_search.specs.Ahead.{HasNoHope, IsHopelessMove, IsLost, IsNextLeft};
+ghost use Rattle.connection_search.specs.Points.{HasUntried, IsMoveAt, IsSamePoint};
+ghost use Rattle.connection_search.specs.Pruning.{IsPruned};
+ghost use Rattle.connection_search.specs.Running.{IsAtGoal, IsMatrixOf, StandsFor};
+ghost use Rattle.connection_search.specs.Trees.{IsGoalAt};
+ghost use Rattle.connection_search.specs.Weights.{weight};
+
+use crate::atoms::{meets, other};
+use crate::heads::have_clash;
+use crate::point::{Move, Point};
+use crate::space::Space;
+use crate::tree::{Goal, Step, Tree};
+use calculus::sign::Sign;
+use cop_base::{NoMemory, SymbolId};
+use matrix_build::{Matrix, Place};
+use term_store::{CellAtom, PatternAtom, Store};
+
+// ---- marks of symbols and signs
+
+// The bit of a symbol under a sign. Where there are more of them than bits, some share one.
+fn bit_of(symbol: SymbolId, sign: Sign) -> u32
+    ensures is_bit { result ≡ marking.bit_of symbol.0 sign }
+    ensures small { result < 64 }
+{
+    let twice = 2 * symbol.0 as u64;
+    match sign {
+        Sign::F => (twice % 64) as u32,
+        Sign::T => ((twice + 1) % 64) as u32,
+    }
+}
+
+// Whether the symbol is marked under the sign.
+fn is_marked(marks: u64, symbol: SymbolId, sign: Sign) -> bool
+    ensures { result ≡ false → bit_at marks (marking.bit_of symbol.0 sign) ≡ 0 }
+{
+    let bit = bit_of(symbol, sign);
+    (marks >> bit) % 2 == 1
+}
+
+// The marks, and that of the atom's symbol under its sign.
+fn with_mark(marks: u64, atom: &CellAtom) -> u64
+    ensures own { bit_at result (marking.bit_of (the_atom atom.now).symbol (the_atom
+        atom.now).sign) ≡ 1 }
+    ensures others { (bit : ℕ) → bit_at marks bit ≡ 1 → bit_at result bit ≡ 1 }
+{
+    let bit = bit_of(atom.symbol, atom.sign);
+    marks | (1 << bit)
+}
+
+// The marks of the goal and of those above it.
+fn marks_of(tree: &Tree, goal: usize) -> u64
+    requires { (x : CellGoal) × IsGoalAt tree.now.steps.items tree.now.goals.items goal x }
+    ensures { (x : CellGoal) → IsGoalAt tree.now.steps.items tree.now.goals.items goal x
+        → MarksPath result (x.literal ∷ x.path) }
+{
+    let at = tree.goals[goal];
+    let own = tree.atom(goal);
+    let mut marks = with_mark(0, own);
+    let mut above = at.above;
+    for _i in 0..at.depth {
+        match above {
+            None => return marks,
+            Some(ancestor) => {
+                let signed = tree.atom(ancestor);
+                let more = with_mark(marks, signed);
+                marks = more;
+                above = tree.goals[ancestor].above;
+            }
+        }
+    }
+    marks
+}
+
+// Whether the literal's symbol has no mark under the other sign.
+fn lacks_mark(marks: u64, literal: &PatternAtom) -> bool
+    ensures { result ≡ true → bit_at marks (marking.bit_of (the_pattern_atom literal.now).symbol
+        (kinds.other (the_pattern_atom literal.now).sign)) ≡ 0 }
+{
+    let sign = other(literal.sign);
+    if is_marked(marks, literal.symbol, sign) {
+        return false;
+    }
+    true
+}
+
+// The literal of this number.
+fn literal_at(literals: &[PatternAtom], i: usize) -> &PatternAtom
+    requires { i < length literals.now }
+    ensures { slice_get (map the_pattern_atom literals.now) i ≡ Some (the_pattern_atom result.now) }
+{
+    &literals[i]
+}
+
+// Whether another literal of the clause than the one at the place lacks such a mark.
+fn is_hopeless_place(matrix: &Matrix, place: Place, marks: u64) -> bool
+    requires { place.clause.0 < length matrix.now }
+    ensures { result ≡ true → (g : CellGoal) → MarksPath marks (g.literal ∷ g.path)
+        → IsHopelessAt matrix.now (the_place place) g }
+{
+    let template = matrix.template(place.clause);
+    let literals = template.literals.items();
+    let at = place.literal as usize;
+    for i in 0..literals.len() {
+        if i != at {
+            let literal = literal_at(literals, i);
+            if lacks_mark(marks, literal) {
+                return true;
+            }
+        }
+    }
+    false
+}
+
+// Whether the choice is an extension that gives a goal without such a mark.
+fn is_hopeless(matrix: &Matrix, choice: Move, marks: u64) -> bool
+    requires { (d : ℕ) × (steps : List Step) × (goals : List Goal) × (g : CellGoal)
+        × IsMoveAt matrix.now d steps goals g choice }
+    ensures { result ≡ true → (g : CellGoal) → MarksPath marks (g.literal ∷ g.path)
+        → IsHopelessMove matrix.now g choice }
+{
+    match choice {
+        Move::Reduce(_, _) => false,
+        Move::Extend(place) => is_hopeless_place(matrix, place, marks),
+    }
+}
+
+// ---- goals that an ancestor may close
+
+// Whether some bindings may close the goal by the ancestor.
+fn may_meet(store: &Store, goal: &CellAtom, ancestor: &CellAtom) -> bool
+    requires left { IsTrue (atom_is_below (length store.now.store.cells) (the_atom goal.now)) }
+    requires right { IsTrue (atom_is_below (length store.now.store.cells)
+        (the_atom ancestor.now)) }
+    ensures { result ≡ false → IsApart store.now.store (the_atom goal.now) (the_atom ancestor.now) }
+{
+    if !meets(goal, ancestor) {
+        return false;
+    }
+    let terms = goal.args.items();
+    let others = ancestor.args.items();
+    if have_clash(store, terms, others) {
+        return false;
+    }
+    true
+}
+
+// Whether some goal above it may close the goal.
+fn may_reduce(store: &Store, tree: &Tree, goal: usize) -> bool
+    requires { (x : CellGoal) × IsGoalAt tree.now.steps.items tree.now.goals.items goal x
+        × IsTrue (goal_is_below (length store.now.store.cells) x) }
+    ensures { result ≡ false → (x : CellGoal)
+        → IsGoalAt tree.now.steps.items tree.now.goals.items goal x
+        → HasNoReduction store.now.store x }
+{
+    let at = tree.goals[goal];
+    let signed = tree.atom(goal);
+    let mut above = at.above;
+    for _i in 0..at.depth {
+        match above {
+            None => return false,
+            Some(ancestor) => {
+                if may_meet(store, signed, tree.atom(ancestor)) {
+                    return true;
+                }
+                above = tree.goals[ancestor].above;
+            }
+        }
+    }
+    false
+}
+
+// The place of this number.
+fn place_at(places: &[Place], i: usize) -> Place
+    requires { i < length places.now }
+    ensures { slice_get (map the_place places.now) i ≡ Some (the_place result) }
+{
+    places[i]
+}
+
+impl Space<'_> {
+    // How many extensions the goal's path has room for.
+    fn room(&self, tree: &Tree, goal: usize) -> usize
+        requires { (x : CellGoal) × IsGoalAt tree.now.steps.items tree.now.goals.items goal x }
+        ensures { (x : CellGoal) → IsGoalAt tree.now.steps.items tree.now.goals.items goal x
+            → result ≡ self.now.limit - length x.path }
+    {
+        (self.limit as usize).saturating_sub(tree.goals[goal].depth)
+    }
+
+    // Whether each literal of the matrix that extends the goal gives a goal without such a mark.
+    fn has_no_hope(&self, tree: &Tree, goal: usize) -> bool
+        requires { (x : CellGoal) × IsGoalAt tree.now.steps.items tree.now.goals.items goal x }
+        ensures { result ≡ true → (x : CellGoal)
+            → IsGoalAt tree.now.steps.items tree.now.goals.items goal x
+            → HasNoHope self.now.matrix.now x }
+    {
+        let marks = marks_of(tree, goal);
+        let atom = tree.atom(goal);
+        let places = self.matrix.places(atom.symbol, other(atom.sign));
+        for i in 0..places.len() {
+            let place = place_at(places, i);
+            if !is_hopeless_place(self.matrix, place, marks) {
+                return false;
+            }
+        }
+        true
+    }
+
+    // Whether no bindings close the goal within the limit, where its path has room for one extension
+    // at most.
+    fn is_lost(&self, store: &Store, tree: &Tree, goal: usize) -> bool
+        requires { (x : CellGoal) × IsGoalAt tree.now.steps.items tree.now.goals.items goal x
+            × IsTrue (goal_is_below (length store.now.store.cells) x) }
+        ensures { result ≡ true → (x : CellGoal)
+            → IsGoalAt tree.now.steps.items tree.now.goals.items goal x
+            → IsLost self.now.matrix.now self.now.limit store.now.store x }
+    {
+        let room = self.room(tree, goal);
+        if room > 1 {
+            return false;
+        }
+        if may_reduce(store, tree, goal) {
+            return false;
+        }
+        if room == 0 {
+            return true;
+        }
+        self.has_no_hope(tree, goal)
+    }
+
+    /// Whether no bindings close the leftmost open goal within the limit, or an open one beside it.
+    pub(crate) fn is_stuck(&self, store: &Store, tree: &Tree) -> bool
+        requires { (base : ℕ) × (c : List Choice)
+            × StandsFor self.now.problem.now self.now.matrix.now base self.now.limit c
+            store.now.store tree.now.steps.items tree.now.goals.items tree.now.open }
+        ensures { result ≡ true → (base : ℕ) (c : List Choice)
+            → IsMatrixOf self.now.problem.now self.now.matrix.now
+            → StandsFor self.now.problem.now self.now.matrix.now base self.now.limit c
+            store.now.store tree.now.steps.items tree.now.goals.items tree.now.open
+            → IsTrue (is_not_empty c) → IsPruned self.now.problem.now self.now.limit c }
+    {
+        let mut next = tree.open;
+        let mut depth = 0;
+        for _i in 0..tree.goals.len() {
+            match next {
+                None => return false,
+                Some(goal) => {
+                    let at = tree.goals[goal];
+                    if at.depth < depth {
+                        return false;
+                    }
+                    if self.is_lost(store, tree, goal) {
+                        return true;
+                    }
+                    depth = at.depth;
+                    next = at.behind;
+                }
+            }
+        }
+        false
+    }
+
+    // The next choice of the point, behind the extensions without hope. The path of the point's goal
+    // has room for one extension at most.
+    fn next_with_hope(&self, tree: &Tree, point: &mut Point) -> Result<Option<Move>, NoMemory>
+        requires { (g : CellGoal) × (untried : List Choice)
+            × IsGoalAt tree.now.steps.items tree.now.goals.items point.old.goal g
+            × HasUntried self.now.matrix.now self.now.limit tree.now.steps.items
+            tree.now.goals.items point.old g untried }
+        ensures next { IfOk result (λ o. (P : Problem) (base : ℕ) (c : List Choice) (s : stores.Store)
+            (g : CellGoal) (untried : List Choice)
+            → IsMatrixOf P self.now.matrix.now
+            → IsAtGoal P self.now.matrix.now base self.now.limit c s tree.now.steps.items
+            tree.now.goals.items point.old.goal g
+            → HasUntried self.now.matrix.now self.now.limit tree.now.steps.items
+            tree.now.goals.items point.old g untried
+            → self.now.limit ≤ length g.path + 1
+            → IsNextLeft P self.now.matrix.now self.now.limit c tree.now.steps.items
+            tree.now.goals.items point.new g untried true o) }
+        ensures falls { IfOk result (λ o. MatchOption o ⊤ (λ x. weight point.new < weight point.old)) }
+        ensures same { OnOk result (IsSamePoint point.old point.new) }
+    {
+        let marks = marks_of(tree, point.goal);
+        while let Some(choice) = point.next(self.matrix, tree)? {
+            if !is_hopeless(self.matrix, choice, marks) {
+                return Ok(Some(choice));
+            }
+        }
+        Ok(None)
+    }
+
+    // Whether extensions of the goal may be passed over.
+    fn may_pass(&self, tree: &Tree, goal: usize, left: bool) -> bool
+        requires { (x : CellGoal) × IsGoalAt tree.now.steps.items tree.now.goals.items goal x }
+        ensures left { result ≡ true → left ≡ true }
+        ensures near { result ≡ true → (x : CellGoal)
+            → IsGoalAt tree.now.steps.items tree.now.goals.items goal x
+            → self.now.limit ≤ length x.path + 1 }
+    {
+        if !self.pruning.ahead {
+            return false;
+        }
+        if !left {
+            return false;
+        }
+        let room = self.room(tree, goal);
+        if room > 1 {
+            return false;
+        }
+        true
+    }
+
+    /// The next choice of the point. Where it is known that the limit is left, extensions with which
+    /// no closed tableau begins are passed over.
+    pub(crate) fn next_choice(
+        &self,
+        tree: &Tree,
+        point: &mut Point,
+        left: bool,
+    ) -> Result<Option<Move>, NoMemory>
+        requires { (g : CellGoal) × (untried : List Choice)
+            × IsGoalAt tree.now.steps.items tree.now.goals.items point.old.goal g
+            × HasUntried self.now.matrix.now self.now.limit tree.now.steps.items
+            tree.now.goals.items point.old g untried }
+        ensures next { IfOk result (λ o. (P : Problem) (base : ℕ) (c : List Choice) (s : stores.Store)
+            (g : CellGoal) (untried : List Choice)
+            → IsMatrixOf P self.now.matrix.now
+            → IsAtGoal P self.now.matrix.now base self.now.limit c s tree.now.steps.items
+            tree.now.goals.items point.old.goal g
+            → HasUntried self.now.matrix.now self.now.limit tree.now.steps.items
+            tree.now.goals.items point.old g untried
+            → IsNextLeft P self.now.matrix.now self.now.limit c tree.now.steps.items
+            tree.now.goals.items point.new g untried left o) }
+        ensures falls { IfOk result (λ o. MatchOption o ⊤ (λ x. weight point.new < weight point.old)) }
+        ensures same { OnOk result (IsSamePoint point.old point.new) }
+    {
+        if self.may_pass(tree, point.goal, left) {
+            let hopeful = self.next_with_hope(tree, point)?;
+            return Ok(hopeful);
+        }
+        let choice = point.next(self.matrix, tree)?;
+        Ok(choice)
+    }
+}
