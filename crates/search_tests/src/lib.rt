@@ -13,6 +13,8 @@ mod matrices;
 #[cfg(test)]
 mod modal;
 #[cfg(test)]
+mod pruned;
+#[cfg(test)]
 mod searches;
 #[cfg(test)]
 mod stores;
