@@ -54,6 +54,7 @@ CONSTRUCTS = {
 }
 
 
+# Each input: its name, the words, the texts of its files or a function that makes them, and how the answer begins where that is fixed.
 def nested():
     for name, make in CONSTRUCTS.items():
         words = ["prove", "m.p", "--steps=1000"] + (["--logic=s4"] if "qmf" in make(1) else [])
@@ -100,7 +101,7 @@ def long_tokens():
         "names of an include": lambda: "include('a.p',[%sa]).\n" % ("a," * (rest // 2)),
         "arguments": lambda: fof("p(%sa)" % ("a," * (rest // 2))),
     }.items():
-        yield "16 MiB: " + name, ["prove", "m.p", "--steps=1000"], {"m.p": make(), "a.p": ""}, None
+        yield "16 MiB: " + name, ["prove", "m.p", "--steps=1000"], lambda: {"m.p": make(), "a.p": ""}, None
 
 
 def terms():
@@ -117,22 +118,31 @@ def terms():
         "m.p": fof("?[X]:(p(X) => p(X))"), "d": derivation("?[X1]:(p(X1) => p(X1))", ["use 1 term %s\n" % broad])}, "rejected at line 5: line"
 
 
+def numbered(count, form):
+    return [form % (n + 1) for n in range(count)]
+
+
+def label_of(count):
+    return "[%s]" % ",".join(numbered(count, "$$d%d"))
+
+
 def names_and_labels():
     first, formula = fof("p => p"), "(p => p)"
     lines = ["use 1\n", "axiom 2 3\n"]
-    yield "1,000,000 names", ["check", "m.p", "d"], {
-        "m.p": first, "d": derivation(formula, ["name $$e%d []\n" % (n + 1) for n in range(MILLION)] + lines)}, ACCEPTED
-    yield "1,000,000 spare constants", ["check", "m.p", "d"], {
-        "m.p": first, "d": derivation(formula, ["name $$s%d any\n" % (n + 1) for n in range(MILLION)] + lines)}, ACCEPTED
+    yield "1,000,000 names", ["check", "m.p", "d"], lambda: {
+        "m.p": first, "d": derivation(formula, numbered(MILLION, "name $$e%d []\n") + lines)}, ACCEPTED
+    yield "1,000,000 spare constants", ["check", "m.p", "d"], lambda: {
+        "m.p": first, "d": derivation(formula, numbered(MILLION, "name $$s%d any\n") + lines)}, ACCEPTED
     modal, boxed = qmf("(#box:p) => #dia:p"), "(#box:p => #dia:p)"
-    short = ["use 1\n", *("use 2 to [$$d%d]\n" % (n + 1) for n in range(MILLION)), "use 3 to [$$d7]\n", "axiom 10 %d\n" % (MILLION + 4)]
-    yield "1,000,000 labels of length 1", ["check", "m.p", "d", "--logic=d"], {"m.p": modal, "d": derivation(boxed, short, "d constant")}, ACCEPTED
-    label = "[%s]" % ",".join("$$d%d" % (n + 1) for n in range(MILLION))
-    long = ["use 1\n", "use 2 to %s\n" % label, "use 3 to %s\n" % label, "axiom 4 5\n"]
-    yield "a label of 1,000,000 characters", ["check", "m.p", "d", "--logic=s4"], {"m.p": modal, "d": derivation(boxed, long, "s4 constant")}, ACCEPTED
-    home = ["name $$e1 %s\n" % label, "use 1\n", "use 2 to [$$d1]\n", "use 3 to [$$d1]\n", "axiom 4 5\n"]
-    yield "a home of 1,000,000 characters", ["check", "m.p", "d", "--logic=s4"], {"m.p": modal, "d": derivation(boxed, home, "s4 constant")}, ACCEPTED
-    yield "1,000,000 steps", ["check", "m.p", "d"], {"m.p": first, "d": derivation(formula, ["use 1\n"] * MILLION + ["axiom 2 3\n"])}, ACCEPTED
+    ends = ["use 2 to [$$d1]\n", "use 3 to [$$d1]\n", "axiom 4 5\n"]
+    yield "1,000,000 labels of length 1", ["check", "m.p", "d", "--logic=d"], lambda: {"m.p": modal, "d": derivation(boxed, [
+        "use 1\n", *numbered(MILLION, "use 2 to [$$d%d]\n"), "use 3 to [$$d7]\n", "axiom 10 %d\n" % (MILLION + 4)], "d constant")}, ACCEPTED
+    yield "a label of 1,000,000 characters", ["check", "m.p", "d", "--logic=s4"], lambda: {"m.p": modal, "d": derivation(boxed, [
+        "use 1\n", "use 2 to %s\n" % label_of(MILLION), "use 3 to %s\n" % label_of(MILLION), ends[2]], "s4 constant")}, ACCEPTED
+    yield "a home of 1,000,000 characters", ["check", "m.p", "d", "--logic=s4"], lambda: {"m.p": modal, "d": derivation(boxed, [
+        "name $$e1 %s\n" % label_of(MILLION), "use 1\n", *ends], "s4 constant")}, ACCEPTED
+    yield "1,000,000 steps", ["check", "m.p", "d"], lambda: {
+        "m.p": first, "d": derivation(formula, ["use 1\n"] * MILLION + ["axiom 2 3\n"])}, ACCEPTED
     nots = fof("p => ~~p")
     forks = fof("(p => p) & (p => p)")
     yield "500 negations, judged", ["check", "m.p", "d"], {
@@ -255,7 +265,7 @@ def main():
             for name, words, texts, wanted in family():
                 if not re.search(options.get("filter", ""), name):
                     continue
-                size, files = write(texts)
+                size, files = write(texts() if callable(texts) else texts)
                 runs = [runner.run([program, *words], stack) for stack in stacks]
                 faults = faults_of(runs, wanted)
                 told = "; ".join("%d kB: %d, %s, %.2f s, %d MB" % (stack, got.code, first_line(got.output), got.seconds, got.kilobytes // 1024)
