@@ -14,7 +14,7 @@ from processes import find_program, is_an_answer, read_options, run, set_stack
 
 MILLION = 1000000
 MEBIBYTES = 16 << 20
-NONE, DEEP, ACCEPTED = "no tableau at limit", "nesting too deep", "accepted"
+DEEP, ACCEPTED = "nesting too deep", "accepted"
 DERIVED = "leancop derivation"
 
 
