@@ -1,6 +1,7 @@
 //! The budget of a search, files and output in memory.
 
-use cop_base::{Ledger, Library, MemLibrary, MemSink, NoMemory, Sink, Text};
+use cop_base::{Ledger, Library, MemLibrary, NoMemory, Text};
+use cop_sink::{MemSink, Sink};
 use std::alloc::Global;
 use std::test::Fail;
 

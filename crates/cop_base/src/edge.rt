@@ -1,19 +1,17 @@
-//! The trusted edge: files of the runtime, and a writer. What a file holds is told by what is read
-//! of it alone, answer by answer; of what a terminal shows nothing is told but counts.
+//! The trusted edge: files of the runtime. What a file holds is told by what is read of it alone,
+//! answer by answer.
 
-ghost use Rattle.std.specs.Prelude.{◌≡◌, ◌≢◌, ◌+◌, ◌<◌, ◌≤◌, ℕ, List, [], None, IfOk, IfSome, OnOk};
-ghost use Rattle.std.specs.Prelude.{Option, IsSomeAnd, OnErr, length, take, vec_len};
-ghost use Rattle.std.specs.Io.KnownBytes.{Appends};
+ghost use Rattle.std.specs.Prelude.{◌≡◌, ◌≢◌, ◌+◌, ◌<◌, ◌≤◌, ℕ, List, [], None, IfOk, IfSome};
+ghost use Rattle.std.specs.Prelude.{Option, IsSomeAnd, length, vec_len};
 ghost use Rattle.cop_base.specs.Outside as tree;
-ghost use Rattle.cop_base.specs.Outside.{Rose, with_bytes};
+ghost use Rattle.cop_base.specs.Outside.{Rose};
 ghost use Rattle.cop_base.specs.Reads.{AgreesSince, Answers, IsReadFrom, ReadsOn, answered};
 
-use crate::library::{FetchFault, Library, count_up, faults_after, misses_after};
+use crate::library::{FetchFault, Library, faults_after, misses_after};
 use crate::record::ReadRecord;
-use crate::sink::{PutFault, Sink};
 use crate::text::Text;
 use std::alloc::{AllocError, Global};
-use std::io::{ErrorKind, Read, Write};
+use std::io::{ErrorKind, Read};
 use std::rt::Files;
 use std::{fs, io};
 
@@ -166,45 +164,5 @@ impl<'a, R: Open> Library for FileLibrary<'a, R> {
         self.misses = misses_after(&answer, self.misses);
         self.history = self.history.and(name, &limit, &answer);
         answer
-    }
-}
-
-/// A sink over a writer.
-#[derive(Drop)]
-pub struct WriteSink<W: Write + Drop> {
-    writer: W,
-    faults: u64,
-}
-
-impl<W: Write + Drop> WriteSink<W> {
-    /// A sink that passes each put on to `writer`, without a buffer of its own.
-    pub fn new(writer: W) -> WriteSink<W>
-        ensures { result.faults ≡ 0 }
-    {
-        WriteSink { writer, faults: 0 }
-    }
-}
-
-impl<W: Write + Drop> Sink for WriteSink<W> {
-    ghost written = { λ _. None };
-
-    ghost faults = { λ s. s.faults };
-
-    fn put(&mut self, bytes: &[u8]) -> Result<(), PutFault>
-        // Where the writer tells its contents, they grow by the bytes.
-        ensures passed { OnOk result
-            (Appends (W.contents self.old.writer) (W.contents self.new.writer) bytes.now) }
-        ensures more_faults { self.old.faults ≤ self.new.faults }
-        ensures ok { OnOk result (None ≡ with_bytes None bytes.now) }
-        ensures failed { OnErr result (Rose self.old.faults self.new.faults) }
-        ensures part { OnErr result ((n : ℕ) × (None ≡ with_bytes None (take n bytes.now))) }
-    {
-        match self.writer.write_all(bytes) {
-            Ok(()) => Ok(()),
-            Err(_) => {
-                self.faults = count_up(self.faults);
-                Err(PutFault::Failed)
-            }
-        }
     }
 }

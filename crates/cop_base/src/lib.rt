@@ -1,5 +1,5 @@
-//! What every crate of the prover uses of the outside: where files are read and bytes are written,
-//! byte texts, typed numbers, and the limit and the budget of a search.
+//! What every crate of the prover uses of the outside: where files are read, byte texts, typed
+//! numbers, counts, and the limit and the budget of a search.
 #![tactic(auto)]
 
 use std::alloc::{AllocError, AllocFailed};
@@ -9,15 +9,13 @@ mod ledger;
 mod library;
 mod path_limit;
 mod record;
-mod sink;
 mod text;
 
-pub use edge::{FileLibrary, Open, WriteSink, read_whole};
+pub use edge::{FileLibrary, Open, read_whole};
 pub use ledger::Ledger;
-pub use library::{FetchFault, Library, MemLibrary};
+pub use library::{FetchFault, Library, MemLibrary, count_up};
 pub use path_limit::PathLimit;
 pub use record::ReadRecord;
-pub use sink::{MemSink, PutFault, Sink};
 pub use text::Text;
 
 /// There is no memory left.

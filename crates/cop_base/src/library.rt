@@ -93,7 +93,7 @@ impl Model for MemLibrary {
 }
 
 // One more, up to the greatest value.
-pub(crate) fn count_up(count: u64) -> u64
+pub fn count_up(count: u64) -> u64
     ensures { result ≡ counted count }
 {
     count.saturating_add(1)

@@ -1,7 +1,8 @@
 //! `leancop`: connection proofs that can be checked apart from their search.
 #![tactic(auto)]
 
-use cop_base::{FileLibrary, WriteSink};
+use cop_base::FileLibrary;
+use cop_sink::WriteSink;
 use leancop_top::{Status, exit_code, run};
 use std::io::ErrorKind;
 use std::process::ExitCode;

@@ -1,9 +1,10 @@
 //! The output of a run.
 
 ghost use Rattle.std.specs.Prelude.{◌≡◌, ◌<◌, ◌≤◌, Some, OnErr, OnOk, take, ℕ};
-ghost use Rattle.cop_base.specs.Outside.{Rose, with_bytes};
+ghost use Rattle.cop_base.specs.Outside.{Rose};
+ghost use Rattle.cop_sink.specs.Output.{with_bytes};
 
-use cop_base::{PutFault, Sink};
+use cop_sink::{PutFault, Sink};
 
 /// All that is written, in memory. A put fails where memory ends.
 #[derive(Drop)]

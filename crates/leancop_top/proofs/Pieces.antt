@@ -2,7 +2,7 @@
 use Rattle.std.proofs.Common.{◌≡◌, ℕ, List, [], ◌++◌, length, take, drop, Option, Some, None, Result, Ok, Err, OnErr, refl, sym, ◌∙◌, ap, append_assoc, append-nil}
 use Rattle.std.proofs.lemmas.List.{take-append-drop}
 use Rattle.std.proofs.Math.Seq.{take-append_seam}
-use Rattle.cop_base.specs.Outside.{with_bytes}
+use Rattle.cop_sink.specs.Output.{with_bytes}
 
 with_bytes-nil : (told : Option (List ℕ)) → told ≡ with_bytes told []
 with_bytes-nil None = refl

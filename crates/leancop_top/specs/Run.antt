@@ -1,7 +1,8 @@
 -- What a run answers, by its words and by the files that its library tells.
 use Rattle.calculus.specs.declared.fault.StructureCause.{StructureCause}
 use Rattle.std.specs.Prelude.{◌≡◌, ⊤, ℕ, List, take, Option}
-use Rattle.cop_base.specs.Outside.{Files, with_bytes}
+use Rattle.cop_base.specs.Outside.{Files}
+use Rattle.cop_sink.specs.Output.{with_bytes}
 use Rattle.cop_base.specs.Reads.{Read}
 use Rattle.command_line.specs.CommandLine.{Command, prove, check, check_translated, transfer, make, model, bad}
 use Rattle.command_line.specs.CommandLine.{in_intuitionistic}

@@ -20,7 +20,8 @@ use crate::reply::{Reply, line_reply};
 use crate::status::Status;
 use crate::writing::put_all;
 use command_line::{Command, command_of};
-use cop_base::{Library, NoMemory, PutFault, Sink};
+use cop_base::{Library, NoMemory};
+use cop_sink::{PutFault, Sink};
 use std::alloc::Global;
 
 fn answer<L: Library>(alloc: Global, words: &[String], lib: &mut L) -> Result<Reply, NoMemory>

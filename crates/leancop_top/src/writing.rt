@@ -1,9 +1,10 @@
 //! Writing the output.
 
 ghost use Rattle.std.specs.Prelude.{◌≡◌, ◌≤◌, ℕ, take, OnOk, OnErr};
-ghost use Rattle.cop_base.specs.Outside.{Rose, with_bytes};
+ghost use Rattle.cop_base.specs.Outside.{Rose};
+ghost use Rattle.cop_sink.specs.Output.{with_bytes};
 
-use cop_base::{PutFault, Sink};
+use cop_sink::{PutFault, Sink};
 
 // How many bytes are put at once.
 const PIECE: usize = 4096;

@@ -1,6 +1,7 @@
 //! Runs over a library and a sink in memory.
 
-use cop_base::{MemLibrary, MemSink, NoMemory, Text};
+use cop_base::{MemLibrary, NoMemory, Text};
+use cop_sink::MemSink;
 use leancop_top::{exit_code, run};
 use std::alloc::Global;
 

@@ -1,13 +1,13 @@
-//! Where the output is written.
+//! What bytes are written to, and a sink in memory.
 
 ghost use Rattle.std.specs.Prelude.{◌≡◌, ◌+◌, ◌<◌, ◌≤◌, ℕ, Option, Some, List, [], length, take};
 ghost use Rattle.std.specs.Prelude.{IfOk, IfSome, OnOk, OnErr, IsErr, ◌↔◌, IsTrue, option_copied};
 ghost use Rattle.std.specs.Option.{option_map};
-ghost use Rattle.cop_base.specs.Outside.{Rose, with_bytes};
-ghost use Rattle.cop_base.specs.Memory.{after_put, counted, failure_in, put_fails};
+ghost use Rattle.cop_base.specs.Outside.{Rose};
+ghost use Rattle.cop_sink.specs.Memory.{after_put, failure_in, put_fails};
+ghost use Rattle.cop_sink.specs.Output.{with_bytes};
 
-use crate::NoMemory;
-use crate::library::count_up;
+use cop_base::{NoMemory, count_up};
 use std::alloc::{AllocError, Global};
 use std::marker::Model;
 
@@ -46,7 +46,7 @@ pub struct MemSink {
 
 impl Model for MemSink {
     ghost use Rattle.std.specs.Prelude.{◌≤◌, ◌+◌, vec_len, vec_capacity};
-    ghost use Rattle.cop_base.specs.Memory.{BytesInMemory};
+    ghost use Rattle.cop_sink.specs.Memory.{BytesInMemory};
 
     ghost Value = { BytesInMemory };
 

@@ -1,0 +1,8 @@
+//! Where the output is written: bytes in memory, or a writer of the runtime.
+#![tactic(auto)]
+
+mod sink;
+mod writer;
+
+pub use sink::{MemSink, PutFault, Sink};
+pub use writer::WriteSink;
