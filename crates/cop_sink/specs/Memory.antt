@@ -9,6 +9,7 @@ pub record BytesInMemory : Type 0 where
   pub failing : List (ℕ × ℕ)
   pub calls : ℕ
   pub faults : ℕ
+  pub puts : List (List ℕ)
 
 -- the bytes that the call of this number takes, if it is to fail; the first pair counts
 abbrev pub failure_in : List (ℕ × ℕ) → ℕ → Option ℕ
@@ -30,4 +31,5 @@ after_put s bytes = record s {
   written = s.written ++ take (taken s (length bytes)) bytes;
   calls = counted s.calls;
   faults = if put_fails s (length bytes) then counted s.faults else s.faults;
+  puts = take (taken s (length bytes)) bytes ∷ s.puts;
 }

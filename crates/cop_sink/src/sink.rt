@@ -1,12 +1,13 @@
 //! What bytes are written to, and a sink in memory.
 
-ghost use Rattle.std.specs.Prelude.{◌≡◌, ◌+◌, ◌<◌, ◌≤◌, ℕ, Option, Some, List, [], length, take};
+ghost use Rattle.std.specs.Prelude.{◌≡◌, ◌+◌, ◌<◌, ◌≤◌, ℕ, Option, Some, List, [], ◌∷◌, length, take};
 ghost use Rattle.std.specs.Prelude.{IfOk, IfSome, OnOk, OnErr, IsErr, ◌↔◌, IsTrue, option_copied};
 ghost use Rattle.std.specs.Option.{option_map};
 ghost use Rattle.cop_base.specs.Outside.{Rose};
 ghost use Rattle.cop_sink.specs.Memory.{after_put, failure_in, put_fails};
 ghost use Rattle.cop_sink.specs.Output.{with_bytes};
 
+use crate::record::PutRecord;
 use cop_base::{NoMemory, count_up};
 use std::alloc::{AllocError, Global};
 use std::marker::Model;
@@ -25,13 +26,18 @@ pub trait Sink {
     // how many puts failed
     ghost faults: { Self → ℕ };
 
+    // the pieces that went out, put by put, the last one first
+    ghost puts: { Self → List (List ℕ) };
+
     /// Writes the bytes. A put that fails has written a prefix of them.
     fn put(&mut self, bytes: &[u8]) -> Result<(), PutFault>
         ensures more_faults { faults self.old ≤ faults self.new }
         ensures ok { OnOk result (written self.new ≡ with_bytes (written self.old) bytes.now) }
+        ensures whole { OnOk result (puts self.new ≡ bytes.now ∷ puts self.old) }
         ensures failed { OnErr result (Rose (faults self.old) (faults self.new)) }
-        ensures part { OnErr result
-            ((n : ℕ) × (written self.new ≡ with_bytes (written self.old) (take n bytes.now))) };
+        ensures part { OnErr result ((n : ℕ)
+            × (written self.new ≡ with_bytes (written self.old) (take n bytes.now))
+            × (puts self.new ≡ take n bytes.now ∷ puts self.old)) };
 }
 
 /// A sink in memory.
@@ -42,6 +48,7 @@ pub struct MemSink {
     failing: Vec<(u64, u64)>,
     calls: u64,
     faults: u64,
+    history: PutRecord,
 }
 
 impl Model for MemSink {
@@ -56,6 +63,7 @@ impl Model for MemSink {
       failing = s.failing.items;
       calls = s.calls;
       faults = s.faults;
+      puts = s.history.puts;
     } };
 
     ghost invariant = { λ s. vec_len s.bytes + s.room ≤ vec_capacity s.bytes };
@@ -87,6 +95,7 @@ impl MemSink {
           failing = failing.items;
           calls = 0;
           faults = 0;
+          puts = [];
         }) }
     {
         Ok(MemSink {
@@ -95,6 +104,7 @@ impl MemSink {
             failing,
             calls: 0,
             faults: 0,
+            history: PutRecord::new(),
         })
     }
 
@@ -111,15 +121,19 @@ impl Sink for MemSink {
 
     ghost faults = { λ s. s.faults };
 
+    ghost puts = { λ s. s.puts };
+
     fn put(&mut self, bytes: &[u8]) -> Result<(), PutFault>
         ensures after { self.new ≡ after_put self.old bytes.now }
         ensures fails { IsErr result ↔ IsTrue (put_fails self.old (length bytes.now)) }
         ensures more_faults { self.old.faults ≤ self.new.faults }
         ensures ok { OnOk result
             (Some self.new.written ≡ with_bytes (Some self.old.written) bytes.now) }
+        ensures whole { OnOk result (self.new.puts ≡ bytes.now ∷ self.old.puts) }
         ensures failed { OnErr result (Rose self.old.faults self.new.faults) }
-        ensures part { OnErr result ((n : ℕ) ×
-            (Some self.new.written ≡ with_bytes (Some self.old.written) (take n bytes.now))) }
+        ensures part { OnErr result ((n : ℕ)
+            × (Some self.new.written ≡ with_bytes (Some self.old.written) (take n bytes.now))
+            × (self.new.puts ≡ take n bytes.now ∷ self.old.puts)) }
     {
         self.calls = count_up(self.calls);
         let fits = bytes.len().min(self.room);
@@ -128,7 +142,9 @@ impl Sink for MemSink {
             Some(n) if n < fits as u64 => n as usize,
             _ => fits,
         };
-        let added = self.bytes.extend_from_slice(&bytes[..taken]);
+        let piece = &bytes[..taken];
+        self.history = self.history.and(piece);
+        let added = self.bytes.extend_from_slice(piece);
         self.room -= taken;
         if added.is_ok() && failure.is_none() && taken == bytes.len() {
             return Ok(());

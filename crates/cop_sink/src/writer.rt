@@ -1,50 +1,103 @@
 //! The trusted edge of the output: a sink over a writer of the runtime.
 
-ghost use Rattle.std.specs.Prelude.{◌≡◌, ◌≤◌, ◌+◌, ◌<◌, ℕ, None, OnOk, OnErr, take};
+ghost use Rattle.std.specs.Prelude.{◌≡◌, ◌≤◌, ◌+◌, ◌<◌, ◌∷◌, [], ℕ, Some, IfSome, OnOk, OnErr};
+ghost use Rattle.std.specs.Prelude.{length, take, unwrap_or};
 ghost use Rattle.std.specs.Io.KnownBytes.{Appends};
 ghost use Rattle.cop_base.specs.Outside.{Rose};
-ghost use Rattle.cop_sink.specs.Output.{with_bytes};
+ghost use Rattle.cop_sink.specs.Output.{joined, with_bytes};
 
+use crate::record::PutRecord;
 use crate::sink::{PutFault, Sink};
 use cop_base::count_up;
-use std::io::Write;
+use std::io::{ErrorKind, Write};
 
-/// A sink over a writer.
+// One write, which tells how many bytes went out, none where it was interrupted; `None` where no
+// more goes out.
+fn write_once<W: Write>(writer: &mut W, rest: &[u8]) -> Option<usize>
+    ensures within { IfSome result (λ n. n ≤ length rest.now) }
+    ensures passed { Appends (W.contents writer.old) (W.contents writer.new)
+        (take (unwrap_or result 0) rest.now) }
+{
+    match writer.write(rest) {
+        Ok(0) => None,
+        Ok(n) => Some(n),
+        Err(error) => match error.kind() {
+            ErrorKind::Interrupted => Some(0),
+            _ => None,
+        },
+    }
+}
+
+// Writes the bytes until no more goes out, and tells how many of them did.
+fn write_out<W: Write>(writer: &mut W, bytes: &[u8]) -> usize
+    ensures within { result ≤ length bytes.now }
+    ensures passed { Appends (W.contents writer.old) (W.contents writer.new)
+        (take result bytes.now) }
+{
+    let mut count = 0;
+    for _ in 0..u64::MAX {
+        if count == bytes.len() {
+            return count;
+        }
+        let Some(n) = write_once(writer, &bytes[count..]) else {
+            return count;
+        };
+        count += n;
+    }
+    count
+}
+
+/// A sink over a writer, which tells what its writer took.
 #[derive(Drop)]
 pub struct WriteSink<W: Write + Drop> {
     writer: W,
     faults: u64,
+    history: PutRecord,
 }
 
 impl<W: Write + Drop> WriteSink<W> {
     /// A sink that passes each put on to `writer`, without a buffer of its own.
     pub fn new(writer: W) -> WriteSink<W>
-        ensures { result.faults ≡ 0 }
+        ensures faults { result.faults ≡ 0 }
+        ensures puts { result.history.puts ≡ [] }
     {
-        WriteSink { writer, faults: 0 }
+        WriteSink {
+            writer,
+            faults: 0,
+            history: PutRecord::new(),
+        }
     }
 }
 
 impl<W: Write + Drop> Sink for WriteSink<W> {
-    ghost written = { λ _. None };
+    ghost written = { λ s. Some (joined s.history.puts) };
 
     ghost faults = { λ s. s.faults };
 
+    ghost puts = { λ s. s.history.puts };
+
     fn put(&mut self, bytes: &[u8]) -> Result<(), PutFault>
-        // Where the writer tells its contents, they grow by the bytes.
-        ensures passed { OnOk result
-            (Appends (W.contents self.old.writer) (W.contents self.new.writer) bytes.now) }
         ensures more_faults { self.old.faults ≤ self.new.faults }
-        ensures ok { OnOk result (None ≡ with_bytes None bytes.now) }
+        ensures ok { OnOk result (Some (joined self.new.history.puts)
+            ≡ with_bytes (Some (joined self.old.history.puts)) bytes.now) }
+        ensures whole { OnOk result
+            (self.new.history.puts ≡ bytes.now ∷ self.old.history.puts) }
         ensures failed { OnErr result (Rose self.old.faults self.new.faults) }
-        ensures part { OnErr result ((n : ℕ) × (None ≡ with_bytes None (take n bytes.now))) }
+        ensures part { OnErr result ((n : ℕ)
+            × (Some (joined self.new.history.puts)
+            ≡ with_bytes (Some (joined self.old.history.puts)) (take n bytes.now))
+            × (self.new.history.puts ≡ take n bytes.now ∷ self.old.history.puts)) }
+
+        // What went out is what the writer took: where it tells its contents, they grow by that.
+        ensures passed { (n : ℕ) × (self.new.history.puts ≡ take n bytes.now ∷ self.old.history.puts)
+            × Appends (W.contents self.old.writer) (W.contents self.new.writer) (take n bytes.now) }
     {
-        match self.writer.write_all(bytes) {
-            Ok(()) => Ok(()),
-            Err(_) => {
-                self.faults = count_up(self.faults);
-                Err(PutFault::Failed)
-            }
+        let count = write_out(&mut self.writer, bytes);
+        self.history = self.history.and(&bytes[..count]);
+        if count == bytes.len() {
+            return Ok(());
         }
+        self.faults = count_up(self.faults);
+        Err(PutFault::Failed)
     }
 }

@@ -11,6 +11,7 @@ use crate::room::place;
 use crate::words::texts_of;
 use crate::{LeancopBytes, LeancopFile};
 use cop_base::{NoMemory, ReadRecord};
+use cop_sink::PutRecord;
 use leancop_top::{Status, exit_code, run};
 use std::alloc::Global;
 
@@ -43,6 +44,7 @@ fn run_over(alloc: Global, words: &Vec<String>, files: &[LeancopFile<'_>]) -> Ru
     let mut output = Output {
         bytes: Vec::new(alloc),
         faults: 0,
+        history: PutRecord::new(),
     };
     let status = run(alloc, words, &mut library, &mut output);
     if is_lost(&status) {

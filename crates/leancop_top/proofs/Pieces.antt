@@ -1,8 +1,8 @@
 -- Bytes that are put piece by piece.
-use Rattle.std.proofs.Common.{◌≡◌, ℕ, List, [], ◌++◌, length, take, drop, Option, Some, None, Result, Ok, Err, OnErr, refl, sym, ◌∙◌, ap, append_assoc, append-nil}
-use Rattle.std.proofs.lemmas.List.{take-append-drop}
+use Rattle.std.proofs.Common.{◌≡◌, ◌≤◌, ℕ, List, [], ◌∷◌, ◌++◌, length, take, drop, Option, Some, None, Result, Ok, Err, OnOk, OnErr, refl, sym, ◌∙◌, ap, subst, append_assoc, append-nil, arith}
+use Rattle.std.proofs.lemmas.List.{length-take, take-append-drop}
 use Rattle.std.proofs.Math.Seq.{take-append_seam}
-use Rattle.cop_sink.specs.Output.{with_bytes}
+use Rattle.cop_sink.specs.Output.{AreFull, WentOutInPieces, with_bytes}
 
 with_bytes-nil : (told : Option (List ℕ)) → told ≡ with_bytes told []
 with_bytes-nil None = refl
@@ -48,3 +48,41 @@ split_whole n rest piece others e f = sym (take-append-drop n rest) ∙ ap (λ l
 pub on_err : {A E : Type 0} (r : Result A E) {P : Type 0} → P → OnErr r P
 on_err (Ok a) p = tt
 on_err (Err e) p = p
+
+-- ---- the pieces that went out
+
+-- all that went out since are pieces of 4,096 bytes
+pub record IsOutInFull (before after : List (List ℕ)) : Type 0 where
+  pub pieces : List (List ℕ)
+  pub went_out : after ≡ pieces ++ before
+  pub are_full : AreFull 4096 pieces
+
+pub none-out : (before : List (List ℕ)) → IsOutInFull before before
+none-out before = record { pieces = []; went_out = refl; are_full = tt }
+
+pub nothing-out : (before : List (List ℕ)) → WentOutInPieces 4096 before before
+nothing-out before = record { pieces = []; went_out = refl; are_pieces = tt }
+
+pub full-out : (before now after : List (List ℕ)) (piece : List ℕ) → IsOutInFull before now → length piece ≡ 4096 → after ≡ piece ∷ now → IsOutInFull before after
+full-out before now after piece p few e = record {
+  pieces = piece ∷ p.pieces;
+  went_out = e ∙ ap (λ ps. piece ∷ ps) p.went_out;
+  are_full = (few, p.are_full);
+}
+
+pub last-out : (before now after : List (List ℕ)) (piece : List ℕ) → IsOutInFull before now → length piece ≤ 4096 → after ≡ piece ∷ now → WentOutInPieces 4096 before after
+last-out before now after piece p few e = record {
+  pieces = piece ∷ p.pieces;
+  went_out = e ∙ ap (λ ps. piece ∷ ps) p.went_out;
+  are_pieces = (few, p.are_full);
+}
+
+pub take-short : (n : ℕ) (xs : List ℕ) → length xs ≤ 4096 → length (take n xs) ≤ 4096
+take-short n xs few = subst (λ l. l ≤ 4096) (sym (length-take n xs)) (omega (arith, few))
+
+-- the last put, of which all went out or a part
+pub all-out : {A E : Type 0} (r : Result A E) (before now after : List (List ℕ)) (piece : List ℕ) → IsOutInFull before now → length piece ≤ 4096
+    → OnOk r (after ≡ piece ∷ now) → OnErr r ((n : ℕ) × (after ≡ take n piece ∷ now)) → WentOutInPieces 4096 before after
+all-out (Ok a) before now after piece p few e f = last-out before now after piece p few e
+all-out (Err x) before now after piece p few e f =
+    last-out before now after (take f.0 piece) p (take-short f.0 piece few) f.1

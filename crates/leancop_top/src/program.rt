@@ -7,6 +7,7 @@ ghost use Rattle.calculus.specs.Soundness.{IsSound};
 ghost use Rattle.calculus.specs.Syntax as tree;
 ghost use Rattle.cop_base.specs.Outside.{Files, Rose};
 ghost use Rattle.cop_base.specs.Reads.{ReadsOn};
+ghost use Rattle.cop_sink.specs.Output.{WentOutInPieces};
 ghost use Rattle.command_line.specs.CommandLine.{asked};
 ghost use Rattle.leancop_top.specs.Run.{Decides, Ends, IsAnswered, IsCutOff};
 ghost use Rattle.leancop_top.specs.Statuses.{IsCounted, OnAnswer};
@@ -95,6 +96,9 @@ pub fn run<L: Library, K: Sink>(
         (L.misses lib.old) (L.misses lib.new) (L.faults lib.old) (L.faults lib.new)
         (L.reads lib.new) (K.written out.old) (K.written out.new) }
     ensures no_memory { result ≡ Status.NoMemory → K.written out.new ≡ K.written out.old }
+
+    // All goes out in pieces of 4,096 bytes, the last one as short as what is left.
+    ensures pieces { WentOutInPieces 4096 (K.puts out.old) (K.puts out.new) }
 
     // No file changes, and no count falls.
     ensures same_files { L.holds lib.new ≡ L.holds lib.old }
