@@ -1,11 +1,7 @@
 pub mod FollowingLaws
-pub mod ChainLaws
 pub mod PuttingLaws
-pub mod TableLaws
 pub mod NumberLaws
 pub mod RisingLaws
-pub mod LabelLaws
-pub mod BeginningLaws
 pub mod UnderLaws
 pub mod AddedLaws
 pub mod OccurrenceLaws
@@ -13,3 +9,4 @@ pub mod GrowthLaws
 pub mod ScopeLaws
 pub mod OutlineLaws
 pub mod ChildLaws
+pub mod SubstitutionLaws

@@ -8,7 +8,7 @@ use Rattle.std.specs.List.{IsDistinct, AllByRecursion, list_any}
 use Rattle.indexmap.specs.IndexSet.{insert_key}
 use Rattle.calculus.specs.Equality.{term_eq}
 use Rattle.calculus.specs.Syntax.{Term}
-use Rattle.derivation_branch.specs.Occurring.{IsLonger}
+use Rattle.label_table.specs.Longer.{IsLonger}
 use Rattle.derivation_branch.specs.RowNumbers.{AreNumbered, AreRowsApart, IsNumberOf}
 use Rattle.formula_text.specs.Rows.{row_of}
 use Rattle.derivation_branch.specs.TableView.{the_value}
@@ -17,7 +17,7 @@ use Rattle.formula_text.specs.declared.term_row.RowItem.{RowItem}
 use Rattle.formula_text.specs.contracts.term_row.RowItemPartialEq.TheImpl.{eq-value}
 use Rattle.derivation_branch.proofs.FollowingLaws.{same-told, other-told}
 use Rattle.formula_text.proofs.RowLaws.{row-same}
-use Rattle.derivation_branch.proofs.TableLaws.{longer-at, longer-size}
+use Rattle.label_table.proofs.TableLaws.{longer-at, longer-size}
 
 -- ---- rows
 

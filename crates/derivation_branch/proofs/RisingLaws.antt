@@ -6,7 +6,8 @@ use Rattle.std.proofs.lemmas.List.{append-nil, get_or_default}
 use Rattle.std.specs.List.{list_any}
 use Rattle.std.specs.List.Sorted.{IsNonDecreasing, IsPartitionPoint}
 use Rattle.indexmap.specs.IndexSet.{insert_key}
-use Rattle.derivation_branch.specs.Occurring.{IsLonger, holds}
+use Rattle.label_table.specs.Longer.{IsLonger}
+use Rattle.derivation_branch.specs.Occurring.{holds}
 
 none-holds : (n : ℕ) (xs : List ℕ) → ((k d : ℕ) → k < length xs → (n == get_or xs k d) ≡ false) → false ≡ holds xs n
 none-holds n [] h = refl

@@ -29,10 +29,6 @@ occurs test s = list_any (λ (e : Entry). any_leaf_in test e.formula) s
 abbrev pub holds : List ℕ → ℕ → Bool
 holds ns n = list_any (λ k. n == k) ns
 
--- items were added at the end
-abbrev pub IsLonger : {A : Type 0} → List A → List A → Type 0
-IsLonger {A} xs ys = (more : List A) × (ys ≡ xs ++ more)
-
 -- the formula is quantified, and its variable stands in it
 abbrev pub quantifier_binds : Formula → Bool
 quantifier_binds (all a) = binds_at 0 a

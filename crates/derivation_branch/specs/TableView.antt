@@ -13,7 +13,3 @@ the_value (Free n) = tree.var n
 
 abbrev pub the_link : Binding → tree.Term × ℕ
 the_link x = (the_value x.term, x.outer)
-
--- the label stands at the place
-abbrev pub IsLabelAt : List derivation.Label → ℕ → derivation.Label → Type 0
-IsLabelAt labels k w = (k < length labels) × (get_or labels k [] ≡ w)

@@ -5,9 +5,9 @@ ghost use Rattle.calculus.specs.Calculus.{connects};
 ghost use Rattle.derivation_branch.specs.EntryView.{IsWithin, the_shared};
 
 use crate::comparison::are_same_atom;
-use crate::labels::Labels;
 use crate::substitution::Substitutions;
 use formula_core::{Formula, Sign};
+use label_table::Labels;
 
 /// A signed formula at a label, over tables of substitutions and labels: a part of the problem's
 /// formula under the substitution at a place. `node` is its place in the outline of the formula.

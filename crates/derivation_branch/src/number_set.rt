@@ -1,12 +1,13 @@
 //! Sets of numbers that grow along a branch and are cut back with it.
 
 ghost use Rattle.std.specs.List.Sorted.{IsNonDecreasing, IsPartitionPoint};
-ghost use Rattle.std.specs.Prelude.{◌≡◌, ◌==◌, ◌||◌, ◌++◌, ◌∷◌, [], ℕ, List, false, true, length, ltb, take, IfOk, OnOk};
-ghost use Rattle.derivation_branch.specs.Occurring.{IsLonger, holds};
+ghost use Rattle.std.specs.Prelude.{◌≡◌, ◌==◌, ◌||◌, ◌++◌, ◌∷◌, [], ℕ, List, false, true, length, ltb, take, IfOk, OnErr, OnOk};
+ghost use Rattle.label_table.specs.Longer.{IsLonger};
+ghost use Rattle.derivation_branch.specs.Occurring.{holds};
 
-use crate::places::place_of;
 use cop_base::NoMemory;
 use indexmap::IndexSet;
+use label_table::place_of;
 use std::alloc::Global;
 use std::marker::Model;
 
@@ -95,6 +96,7 @@ impl NumberSet {
         ensures held { OnOk result
             ((n : ℕ) → holds self.new n ≡ (holds self.old n || n == number)) }
         ensures kept { OnOk result (IsLonger self.old self.new) }
+        ensures err { OnErr result (self.new ≡ self.old) }
     {
         if self.others.is_empty() && is_above(self.rising.as_slice(), number) {
             self.rising.push(number)?;

@@ -6,10 +6,10 @@ ghost use Rattle.derivation_branch.specs.Occurring.{binds_at, quantifier_binds};
 ghost use Rattle.derivation_branch.specs.OutlineView.{IsNode, node, outline_of};
 ghost use Rattle.formula_core.specs.FormulaView.{the_formula};
 
-use crate::places::place_of;
 use crate::scope::{Scope, meet_in_all};
 use cop_base::NoMemory;
 use formula_core::Formula;
+use label_table::place_of;
 use std::alloc::Global;
 
 /// A part of a formula: whether it is a quantifier whose variable stands in its body, and how many

@@ -3,14 +3,14 @@
 ghost use Rattle.std.specs.Prelude.{◌≡◌, ◌<◌, ◌≤◌, [], length, IfOk};
 ghost use Rattle.calculus.specs.Equality.{term_eq};
 ghost use Rattle.calculus.specs.Syntax as tree;
-ghost use Rattle.derivation_branch.specs.Occurring.{IsLonger};
+ghost use Rattle.label_table.specs.Longer.{IsLonger};
 ghost use Rattle.formula_text.specs.Rows.{row_of};
 ghost use Rattle.derivation_branch.specs.RowNumbers.{IsNumberOf};
 
-use crate::places::place_of;
 use cop_base::NoMemory;
 use formula_text::{RowItem, TermRow};
 use indexmap::IndexSet;
+use label_table::place_of;
 use std::alloc::Global;
 use std::marker::Model;
 

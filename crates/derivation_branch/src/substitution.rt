@@ -4,17 +4,17 @@ ghost use Rattle.std.specs.Prelude.{◌≡◌, ◌<◌, ◌++◌, ◌∷◌, [],
 ghost use Rattle.std.specs.Prelude.{IfOk, IfSome, OnOk, OnErr};
 ghost use Rattle.calculus.specs.Equality.{term_eq};
 ghost use Rattle.calculus.specs.Syntax as tree;
-ghost use Rattle.derivation_branch.specs.Occurring.{IsLonger};
+ghost use Rattle.label_table.specs.Longer.{IsLonger};
 ghost use Rattle.derivation_branch.specs.Putting.{AreClosed, IsClosed, value_at};
 ghost use Rattle.derivation_branch.specs.RowNumbers.{IsNumberOf};
 ghost use Rattle.formula_text.specs.Rows.{row_of};
 ghost use Rattle.derivation_branch.specs.TableView.{the_value};
 
 use crate::following::is_same_row;
-use crate::places::place_of;
 use crate::row_set::RowSet;
 use cop_base::NoMemory;
 use formula_text::{RowItem, TermRow};
+use label_table::place_of;
 use std::alloc::Global;
 use std::marker::Model;
 
@@ -52,7 +52,7 @@ impl<'a> Model for Substitutions<'a> {
     ghost use Rattle.calculus.specs.Syntax as tree;
     ghost use Rattle.calculus.specs.Codes.{term_code};
     ghost use Rattle.std.specs.Coded.{codes};
-    ghost use Rattle.derivation_branch.specs.Chains.{AreBackward, chains};
+    ghost use Rattle.label_table.specs.Chains.{AreBackward, chains};
     ghost use Rattle.derivation_branch.specs.Putting.{AreClosedLinks};
     ghost use Rattle.derivation_branch.specs.RowNumbers.{AreNumbered};
     ghost use Rattle.derivation_branch.specs.TableView.{the_link};

@@ -8,8 +8,8 @@ use Rattle.calculus.specs.Derivations as derivation
 use Rattle.calculus.specs.Kinds.{Signed}
 use Rattle.calculus.specs.Syntax.{Formula, atom, neg, conj, disj, imp, all, ex, box, dia}
 use Rattle.formula_core.specs.FormulaView.{the_formula}
-use Rattle.derivation_branch.specs.Occurring.{IsLonger}
-use Rattle.derivation_branch.proofs.TableLaws.{longer-at, longer-size}
+use Rattle.label_table.specs.Longer.{IsLonger}
+use Rattle.label_table.proofs.TableLaws.{longer-at, longer-size}
 use Rattle.godel_transfer.specs.BranchView.{AreWithin, IsKept, Nest, branch_by, branches_of, entry_by, label_then_by, put_one, the_branch, the_character_image, the_characters, the_eigen_image, the_entry, waiting, waiting_at, waiting_in}
 use Rattle.godel_transfer.specs.ImagesView.{AreImages, images_of, latest}
 use Rattle.godel_transfer.specs.Sketch.{atom_after, label_then}

@@ -8,7 +8,7 @@ use Rattle.calculus.specs.Calculus.{is_atom, entry_at}
 use Rattle.calculus.specs.Derivations as derivation
 use Rattle.calculus.specs.Kinds.{Signed, signed, components, shape_of}
 use Rattle.calculus.specs.Syntax.{Formula, atom, neg, conj, disj, imp, all, ex, box, dia}
-use Rattle.derivation_branch.specs.Occurring.{IsLonger}
+use Rattle.label_table.specs.Longer.{IsLonger}
 use Rattle.godel_transfer.specs.BranchView.{AreWithin, IsKept, Nest, branch_by, branches_of, entry_by, introduced_by, label_then_by, named_by, put_all, put_for, put_one, the_branch, the_character_image, the_eigen_image, waiting, waiting_in}
 use Rattle.godel_transfer.specs.ImagesView.{AreImages, images_of}
 use Rattle.godel_transfer.specs.Sketch.{grown, label_then}

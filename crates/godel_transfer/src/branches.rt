@@ -12,8 +12,8 @@ ghost use Rattle.godel_transfer.specs.Transfer.{place_of};
 
 use crate::images::Images;
 use cop_base::NoMemory;
-use derivation_branch::Labels;
 use formula_core::{Formula, Sign};
+use label_table::Labels;
 use std::alloc::{AllocError, Global};
 
 /// An entry of a branch: a signed part of the problem's formula, the place of its label in S4 in

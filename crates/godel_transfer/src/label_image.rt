@@ -1,8 +1,6 @@
 //! Images of labels.
 
-ghost use Rattle.std.specs.Prelude.{◌≡◌, ◌<◌, ◌++◌, [], get_or, length, map, IfOk, OnOk};
-ghost use Rattle.derivation_branch.specs.Occurring.{IsLonger};
-ghost use Rattle.derivation_branch.specs.TableView.{IsLabelAt};
+ghost use Rattle.std.specs.Prelude.{◌≡◌, ◌++◌, IfOk, OnOk};
 ghost use Rattle.godel_transfer.specs.BranchView.{the_characters};
 ghost use Rattle.godel_transfer.specs.ImagesView.{AreImages};
 ghost use Rattle.godel_transfer.specs.Transfer.{label_image, mark_image};
@@ -10,7 +8,6 @@ ghost use Rattle.logic_rules.specs.MarkView.{the_character};
 
 use crate::images::Images;
 use cop_base::NoMemory;
-use derivation_branch::Labels;
 use logic_rules::{Label, Mark};
 use std::alloc::Global;
 
@@ -39,22 +36,4 @@ pub fn label_image(alloc: Global, characters: &Images, label: &Label) -> Result<
         push_image(characters, &mut image, *mark)?;
     }
     Ok(image)
-}
-
-/// The label at a place.
-pub fn label_at(alloc: Global, labels: &Labels, place: u32) -> Result<Label, NoMemory>
-    requires { place < length labels.now }
-    ensures { IfOk result (λ label. label ≡ get_or labels.now place []) }
-{
-    let mut marks = Vec::new(alloc);
-    let mut at = place;
-    while let Some((front, mark)) = labels.last(at) {
-        marks.push(mark)?;
-        at = front;
-    }
-    let mut label = Label::new(alloc);
-    while let Some(mark) = marks.pop() {
-        label.push(mark)?;
-    }
-    Ok(label)
 }

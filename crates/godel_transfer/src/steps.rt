@@ -9,11 +9,12 @@ ghost use Rattle.godel_transfer.specs.Transfer.{argument_image, axiom_to, modal_
 ghost use Rattle.sequent_calc.specs.StepView.{the_modal, the_step, the_term_arg};
 
 use crate::branches::{Branches, Entry};
-use crate::label_image::{label_at, label_image};
+use crate::label_image::label_image;
 use crate::numbers::next;
 use crate::term_image::term_image;
 use crate::using::has_two_steps;
 use cop_base::NoMemory;
+use label_table::label_at;
 use logic_rules::{Label, Mark};
 use sequent_calc::{ModalArg, Step, StepList, TermArg};
 use std::alloc::Global;

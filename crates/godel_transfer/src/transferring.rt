@@ -24,13 +24,12 @@ ghost use Rattle.sequent_calc.specs.StepView.{the_modal, the_step, the_term_arg}
 
 use crate::branches::{Branches, Entry};
 use crate::fault::TransferFault;
-use crate::label_image::label_at;
 use crate::measures::refusal;
 use crate::numbers::next;
 use crate::steps::{put_axiom, put_use};
 use crate::using::{grow, label_after, pass_atom};
 use cop_base::NoMemory;
-use derivation_branch::Labels;
+use label_table::{Labels, label_at};
 use logic_rules::Problem;
 use sequent_calc::{Derivation, EigenList, Home, ModalArg, Step, TermArg};
 use std::alloc::Global;

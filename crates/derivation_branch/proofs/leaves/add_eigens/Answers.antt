@@ -1,12 +1,6 @@
-use Rattle.std.proofs.Common.{[], ◌||◌, ◌∙◌, ap, append-nil, sym}
-use Rattle.calculus.specs.Calculus.{is_eigen}
-use Rattle.derivation_branch.specs.Occurring.{holds}
-use Rattle.formula_text.specs.Rows.{any_item}
-use Rattle.formula_text.proofs.RowLaws.{any-row}
+use Rattle.std.proofs.Common.{◌∙◌}
+use Rattle.label_table.proofs.TableLaws.{longer-taken}
 use Rattle.derivation_branch.proofs.leaves.add_eigens.Goals as goal
 
-pub loop-item-init : goal.loop-item-init
-loop-item-init c = record {
-  held = λ n. ap (λ b. holds c.args.set.now n || b) (ap (any_item (is_eigen n)) c.items-item-items.ensures ∙ any-row (is_eigen n) c.args.t.now);
-  kept = ([], sym (append-nil c.args.set.now));
-}
+pub returns-in-Err-clause-err : goal.returns-in-Err-clause-err
+returns-in-Err-clause-err c = c.cut.ensures ∙ longer-taken c.args.set.now c.add_each_eigen.new.set c.in_ok-count.count c.add_each_eigen.ensures.kept c.in_ok-count.ensures

@@ -1,5 +1,5 @@
 use Rattle.std.proofs.Common.{◌≡◌, ◌<◌, ◌∷◌, [], get_or, length, refl, ap, ◌∙◌, subst, sym}
-use Rattle.derivation_branch.proofs.TableLaws.{longer-self}
+use Rattle.label_table.proofs.TableLaws.{longer-self}
 use Rattle.formula_core.specs.ComponentsView.{the_signed}
 use Rattle.godel_transfer.specs.BranchView.{branches_of, entry_by, put_one, the_branch, waiting_in}
 use Rattle.godel_transfer.specs.declared.branches.Branches.{Branches}

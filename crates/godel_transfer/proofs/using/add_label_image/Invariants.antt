@@ -1,6 +1,6 @@
 use Rattle.std.proofs.Common.{◌≡◌, ◌<◌, ◌++◌, [], drop, get_or, length, map}
 use Rattle.logic_rules.specs.MarkView.{the_character}
-use Rattle.derivation_branch.specs.Occurring.{IsLonger}
+use Rattle.label_table.specs.Longer.{IsLonger}
 use Rattle.godel_transfer.specs.BranchView.{the_characters}
 use Rattle.godel_transfer.specs.Transfer.{label_image}
 use Rattle.godel_transfer.proofs.using.add_label_image.Given as goal

@@ -1,6 +1,6 @@
 use Rattle.std.proofs.Common.{◌≡◌, ◌++◌, [], get_or, IfOk, sym, ◌∙◌, ap, subst, append-nil}
 use Rattle.calculus.specs.Derivations as derivation
-use Rattle.derivation_branch.specs.TableView.{IsLabelAt}
+use Rattle.label_table.specs.LabelTable.{IsLabelAt}
 use Rattle.godel_transfer.specs.BranchView.{the_characters}
 use Rattle.godel_transfer.specs.ImagesView.{images_of}
 use Rattle.godel_transfer.specs.Transfer.{mark_image}

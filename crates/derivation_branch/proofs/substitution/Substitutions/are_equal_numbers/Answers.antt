@@ -2,7 +2,8 @@ use Rattle.std.proofs.Common.{◌∙◌, ◌<◌, ◌-◌, [], get_or, arith}
 use Rattle.calculus.specs.Equality.{term_eq}
 use Rattle.derivation_branch.specs.TableView.{the_link, the_value}
 use Rattle.derivation_branch.proofs.NumberLaws.{numbered-at}
-use Rattle.derivation_branch.proofs.TableLaws.{in-links, list-at, value-here}
+use Rattle.label_table.proofs.TableLaws.{in-links, list-at}
+use Rattle.derivation_branch.proofs.SubstitutionLaws.{value-here}
 use Rattle.derivation_branch.proofs.substitution.Substitutions.are_equal_numbers.Goals as goal
 
 pub index-requires : goal.index-requires

@@ -1,6 +1,7 @@
 use Rattle.std.proofs.Common.{◌≡◌, ◌<◌, ◌-◌, suc, [], get_or, refl, arith}
 use Rattle.derivation_branch.specs.TableView.{the_link}
-use Rattle.derivation_branch.proofs.TableLaws.{in-links, list-at, list-closed, rest-before, table-length, value-outer}
+use Rattle.label_table.proofs.TableLaws.{in-links, list-at, rest-before, table-length}
+use Rattle.derivation_branch.proofs.SubstitutionLaws.{list-closed, value-outer}
 use Rattle.derivation_branch.proofs.substitution.Substitutions.binding_of.Goals as goal
 
 pub loop-at-init : goal.loop-at-init

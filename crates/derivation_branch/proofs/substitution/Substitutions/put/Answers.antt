@@ -1,12 +1,13 @@
 use Rattle.std.proofs.Common.{◌∙◌, ◌∷◌, [], List, ap, arith, length, map, subst, sym}
 use Rattle.std.proofs.lemmas.List.{length-append}
-use Rattle.derivation_branch.specs.Chains.{AreBackward}
+use Rattle.label_table.specs.Chains.{AreBackward}
 use Rattle.derivation_branch.specs.Putting.{AreClosedLinks}
 use Rattle.derivation_branch.specs.RowNumbers.{AreNumbered}
 use Rattle.derivation_branch.specs.TableView.{the_link}
 use Rattle.derivation_branch.specs.declared.substitution.Binding.{Binding}
 use Rattle.derivation_branch.proofs.NumberLaws.{numbered-longer, numbered-put}
-use Rattle.derivation_branch.proofs.TableLaws.{backward-put, closed-put, list-closed, place-put, table-put}
+use Rattle.label_table.proofs.TableLaws.{backward-put, place-put, table-put}
+use Rattle.derivation_branch.proofs.SubstitutionLaws.{closed-put, list-closed}
 use Rattle.derivation_branch.proofs.substitution.Substitutions.put.Goals as goal
 
 pub invariant_of-self : goal.invariant_of-self

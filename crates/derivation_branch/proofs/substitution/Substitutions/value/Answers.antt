@@ -1,5 +1,5 @@
 use Rattle.derivation_branch.specs.TableView.{the_link}
-use Rattle.derivation_branch.proofs.TableLaws.{first-empty}
+use Rattle.label_table.proofs.TableLaws.{first-empty}
 use Rattle.derivation_branch.proofs.substitution.Substitutions.value.Goals as goal
 
 pub returns-clause-first : goal.returns-clause-first

@@ -1,6 +1,7 @@
 use Rattle.std.proofs.Common.{◌∙◌, ◌<◌, [], get_or, ap, arith}
 use Rattle.derivation_branch.specs.TableView.{the_link}
-use Rattle.derivation_branch.proofs.TableLaws.{first-empty, in-links, list-at, value-free, value-here}
+use Rattle.label_table.proofs.TableLaws.{first-empty, in-links, list-at}
+use Rattle.derivation_branch.proofs.SubstitutionLaws.{value-free, value-here}
 use Rattle.derivation_branch.proofs.substitution.Substitutions.value_here.Goals as goal
 
 pub returns-then-at-eq0 : goal.returns-then-at-eq0

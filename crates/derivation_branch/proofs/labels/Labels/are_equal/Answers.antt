@@ -1,5 +1,0 @@
-use Rattle.derivation_branch.proofs.LabelLaws.{label-equal}
-use Rattle.derivation_branch.proofs.labels.Labels.are_equal.Goals as goal
-
-pub returns : goal.returns
-returns c = label-equal c.self.inside.links.entries c.args.self.now c.args.first c.args.second c.self.view_is c.self.invariant.0 c.self.invariant.1 c.requires.first c.requires.second

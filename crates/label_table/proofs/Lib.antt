@@ -1,0 +1,5 @@
+pub mod ChainLaws
+pub mod TableLaws
+pub mod LabelLaws
+pub mod BeginningLaws
+pub mod CutLaws
