@@ -17,3 +17,4 @@ pub mod FormulaTexts
 pub mod RowLaws
 pub mod RowsRead
 pub mod StandingLaws
+pub mod RowsWritten

@@ -1,6 +1,6 @@
--- A list of bytes that begins with an older one: what a writer leaves, also where memory ends in the middle of its text.
-use Rattle.std.specs.Prelude.{◌≡◌, ℕ, List, ◌++◌}
+-- A list that begins with an older one: what a writer leaves, also where memory ends in the middle of its text.
+use Rattle.std.specs.Prelude.{◌≡◌, List, ◌++◌}
 
-pub record Extends (old new : List ℕ) : Type 0 where
-  pub more : List ℕ
+pub record Extends {A : Type 0} (old new : List A) : Type 0 where
+  pub more : List A
   pub all : new ≡ old ++ more

@@ -8,5 +8,7 @@ pub mod Marks
 pub mod Frames
 pub mod Rows
 pub mod ItemHash
+pub mod RowHash
 pub mod RowReading
 pub mod Standing
+pub mod RowWriting

@@ -1,23 +1,26 @@
 //! Writing the head.
 
-ghost use Rattle.std.specs.Prelude.{◌≡◌, ◌++◌, OnOk};
+ghost use Rattle.std.specs.Prelude.{◌≡◌, ◌++◌, OnErr, OnOk};
 ghost use Rattle.std.specs.List.{flat_map};
 ghost use Rattle.calculus.specs.DerivationText.{line_bytes};
+ghost use Rattle.formula_text.specs.Extends.{Extends};
 ghost use Rattle.text_lines.specs.Head.{head_of};
 
 use cop_base::NoMemory;
 use formula_text::{write_bytes, write_formula, write_number, write_setting};
 use logic_rules::Problem;
 
-/// Appends a head with this first line. Where memory ends a part of it may be left.
-pub fn write_head(
+// Where memory ends a part of it may be left.
+#[tactic(auto, using(formula_text::proofs::Extending::extending))]
+fn append_head(
     out: &mut Vec<u8>,
     problem: &Problem,
     first: &[u8],
     limit: u8,
 ) -> Result<(), NoMemory>
-    ensures { OnOk result (out.new.items
+    ensures ok { OnOk result (out.new.items
         ≡ out.old.items ++ flat_map line_bytes (head_of first.now problem.now limit)) }
+    ensures extends { Extends out.old.items out.new.items }
 {
     write_bytes(out, first)?;
     write_bytes(out, b"\nlogic ")?;
@@ -28,4 +31,24 @@ pub fn write_head(
     write_number(out, u64::from(limit))?;
     write_bytes(out, b"\n")?;
     Ok(())
+}
+
+/// Appends a head with this first line. Want of memory leaves `out` as it was.
+#[tactic(auto, using(formula_text::proofs::Extending::extending))]
+pub fn write_head(
+    out: &mut Vec<u8>,
+    problem: &Problem,
+    first: &[u8],
+    limit: u8,
+) -> Result<(), NoMemory>
+    ensures ok { OnOk result (out.new.items
+        ≡ out.old.items ++ flat_map line_bytes (head_of first.now problem.now limit)) }
+    ensures err { OnErr result (out.new.items ≡ out.old.items) }
+{
+    let kept = out.len();
+    let appended = append_head(out, problem, first, limit);
+    if appended.is_err() {
+        out.truncate(kept);
+    }
+    appended
 }
