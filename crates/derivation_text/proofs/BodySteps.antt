@@ -103,13 +103,13 @@ many (l ∷ ls) =
     let r = many ls in
     omega (arith, r, length-append (l ++ 10 ∷ []) (flat_map line_bytes ls), length-append l (10 ∷ []))
 
-few : (l : List ℕ) (tail : List (List ℕ)) (rest bs : List ℕ) → 20 ≤ length l → bs ≡ flat_map line_bytes (l ∷ tail) ++ rest → (length (l ∷ tail) + 10) ≤ length bs
+pub few : (l : List ℕ) (tail : List (List ℕ)) (rest bs : List ℕ) → 20 ≤ length l → bs ≡ flat_map line_bytes (l ∷ tail) ++ rest → (length (l ∷ tail) + 10) ≤ length bs
 few l tail rest bs h e =
     let f = ap length e in
     let m = many tail in
     omega (arith, f, m, h, length-append (flat_map line_bytes (l ∷ tail)) rest, length-append (l ++ 10 ∷ []) (flat_map line_bytes tail), length-append l (10 ∷ []))
 
-abbrev after-first : List (List ℕ) → List (List ℕ)
+abbrev pub after-first : List (List ℕ) → List (List ℕ)
 after-first [] = []
 after-first (l ∷ ls) = ls
 

@@ -1,5 +1,5 @@
 -- No line of a derivation with numbers has a line feed in it.
-use Rattle.std.proofs.Common.{◌≡◌, ℕ, suc, ◌+◌, ◌^◌, ◌<◌, ◌≤◌, List, [], ◌∷◌, ◌++◌, length, map, Bool, true, ◌&&◌, IsTrue, Option, None, Some, nat_le, refl, codes, decimal, arith, leb-true, ltb-true, lt_of_le_of_lt}
+use Rattle.std.proofs.Common.{ℕ, suc, ◌+◌, ◌^◌, ◌<◌, ◌≤◌, List, [], ◌∷◌, ◌++◌, length, map, Bool, ◌&&◌, IsTrue, Option, None, Some, nat_le, refl, codes, decimal, arith, leb-true, ltb-true, lt_of_le_of_lt}
 use Rattle.std.specs.List.{list_all}
 use Rattle.std.proofs.lemmas.Bool.{and_from, and_parts}
 use Rattle.calculus.specs.Syntax.{Symbol, Term, Problem}

@@ -137,7 +137,7 @@ step-end-labels front xs y = ap (λ l. front ++ l) (flat-end step_labels xs y) �
 
 -- ---- one line more
 
-put-eigen : (d : Derivation) (x : EigenName) → d.names.spares ≡ [] → d.steps ≡ [] → put_eigen (numbering d) x ≡ numbering (with_line d (of_eigen x))
+pub put-eigen : (d : Derivation) (x : EigenName) → d.names.spares ≡ [] → d.steps ≡ [] → put_eigen (numbering d) x ≡ numbering (with_line d (of_eigen x))
 put-eigen d x e f =
     let L = once same_label (labels_of d) in
     let T = once term_eq (terms_of d) in
@@ -151,7 +151,7 @@ put-eigen d x e f =
     (λ i. record { limit = d.limit; labels = M; eigens = eigens i; spares = spares i; terms = T; steps = steps i })
     ∙ ap (λ l. numbered_by l T (with_line d (of_eigen x))) (sym same)
 
-put-spare : (d : Derivation) (s : SpareName) → d.steps ≡ [] → put_spare (numbering d) s ≡ numbering (with_line d (of_spare s))
+pub put-spare : (d : Derivation) (s : SpareName) → d.steps ≡ [] → put_spare (numbering d) s ≡ numbering (with_line d (of_spare s))
 put-spare d s f =
     let L = once same_label (labels_of d) in
     let T = once term_eq (terms_of d) in
@@ -165,7 +165,7 @@ put-spare d s f =
     (λ i. record { limit = d.limit; labels = M; eigens = eigens i; spares = spares i; terms = T; steps = steps i })
     ∙ ap (λ l. numbered_by l T (with_line d (of_spare s))) (sym same)
 
-put-step : (d : Derivation) (y : Step) → put_step (numbering d) y ≡ numbering (with_line d (of_step y))
+pub put-step : (d : Derivation) (y : Step) → put_step (numbering d) y ≡ numbering (with_line d (of_step y))
 put-step d (close n m) =
     let L = once same_label (labels_of d) in
     let T = once term_eq (terms_of d) in

@@ -1,5 +1,5 @@
 -- Lists in which each item stands once, where it first occurs, and the numbers of items in them.
-use Rattle.std.proofs.Common.{if◌then◌else◌, ◌≡◌, ℕ, suc, List, [], ◌∷◌, ◌++◌, length, Bool, true, false, cond, not, ◌&&◌, ◌||◌, IsTrue, refl, sym, ◌∙◌, ap, append-nil}
+use Rattle.std.proofs.Common.{if◌then◌else◌, ◌≡◌, suc, List, [], ◌∷◌, ◌++◌, length, Bool, true, false, cond, not, ◌&&◌, ◌||◌, IsTrue, refl, sym, ◌∙◌, ap, append-nil}
 use Rattle.std.specs.List.{filter, list_all}
 use Rattle.std.proofs.lemmas.Bool.{true≢false}
 use Rattle.std.proofs.lemmas.List.Elements.{filter-append}

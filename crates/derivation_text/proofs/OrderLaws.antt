@@ -12,15 +12,12 @@ use Rattle.calculus.specs.Versions.{NumberedDerivation, NumberedEigen, NumberedS
 use Rattle.derivation_text.proofs.NumberingLaws.{same_label-tells}
 use Rattle.derivation_text.proofs.OnceLaws.{once-end}
 use Rattle.derivation_text.specs.Entering.{entered, has}
+use Rattle.derivation_text.specs.Listing.{AreApart}
 use Rattle.derivation_text.specs.InOrder.{arg_numbers, greatest_in_order, home_numbers, label_numbers, modal_numbers, step_label_numbers, step_term_numbers, term_numbers}
-
--- no item comes twice
-abbrev pub AreApart : {A : Type 0} → List A → A → Type 0
-AreApart xs d = (i j : ℕ) → i < length xs → j < length xs → get_or xs i d ≡ get_or xs j d → i ≡ j
 
 -- ---- the place of an item
 
-place-within : {A : Type 0} (same : A → A → Bool) (xs : List A) (x : A) → IsTrue (has same xs x) → place_in same xs x < length xs
+pub place-within : {A : Type 0} (same : A → A → Bool) (xs : List A) (x : A) → IsTrue (has same xs x) → place_in same xs x < length xs
 place-within same [] x h = absurd (true≢false (sym h))
 place-within {A} same (y ∷ ys) x h = by (same y x) refl (place-within same ys x)
   where

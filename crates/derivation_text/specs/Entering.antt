@@ -1,10 +1,10 @@
 -- A derivation with numbers in place of labels and terms, as it grows line by line: a label or a term gets the next number where it comes
 -- for the first time.
-use Rattle.std.specs.Prelude.{ℕ, List, [], ◌∷◌, ◌++◌, Bool, Option, None, Some, if◌then◌else◌}
+use Rattle.std.specs.Prelude.{ℕ, List, [], ◌∷◌, ◌++◌, Bool, if◌then◌else◌}
 use Rattle.std.specs.List.{list_any}
 use Rattle.calculus.specs.Equality.{term_eq}
 use Rattle.calculus.specs.Syntax.{Term}
-use Rattle.calculus.specs.Derivations.{Label, Home, anywhere, home_at, EigenName, SpareName, ModalArg, no_modal, to, by_new, TermArg, no_term, by_term, by_name, Step, apply_to, close}
+use Rattle.calculus.specs.Derivations.{Label, Home, anywhere, home_at, EigenName, SpareName, ModalArg, no_modal, to, by_new, TermArg, no_term, by_term, by_name, Step, apply_to, close, Derivation}
 use Rattle.calculus.specs.Versions.{NumberedDerivation, home_number, number_in, numbered_arg, numbered_modal, numbered_use, numbered_axiom, same_label}
 use Rattle.derivation_text.specs.Body.{BodyLine, of_eigen, of_spare, of_step, last}
 
@@ -69,3 +69,11 @@ put_line x (of_eigen e) = put_eigen x e
 put_line x (of_spare s) = put_spare x s
 put_line x (of_step y) = put_step x y
 put_line x last = x
+
+-- a derivation with these names and steps
+abbrev pub derivation_with : ℕ → List EigenName → List SpareName → List Step → Derivation
+derivation_with limit es ss xs = record { limit = limit; names = record { eigens = es; spares = ss }; steps = xs }
+
+-- nothing is listed yet
+abbrev pub empty_of : ℕ → NumberedDerivation
+empty_of limit = record { limit = limit; labels = []; eigens = []; spares = []; terms = []; steps = [] }

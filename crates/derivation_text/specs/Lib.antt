@@ -4,7 +4,13 @@ pub mod Body
 pub mod BodyView
 pub mod Reading
 pub mod RowView
-pub mod RowDerivationView
 pub mod Single
 pub mod Entering
 pub mod InOrder
+pub mod Listed
+pub mod NumbersView
+pub mod Listing
+pub mod NumberedBody
+pub mod NumberedReading
+pub mod Difference
+pub mod Writing

@@ -1,10 +1,12 @@
 -- How far a text has been read as a derivation.
-use Rattle.std.specs.Prelude.{◌≡◌, ◌≢◌, ⊤, ℕ, ◌+◌, List, [], ◌∷◌, ◌++◌, map, true, IsTrue, Option, Some, codes}
+use Rattle.std.specs.Prelude.{◌≡◌, ◌≢◌, ⊤, ℕ, ◌+◌, List, [], ◌∷◌, ◌++◌, map, true, IsTrue, Option, Some}
 use Rattle.std.specs.List.{list_all}
 use Rattle.calculus.specs.declared.fault.TextCause.{TextCause}
 use Rattle.calculus.specs.declared.fault.TextCause.TheVariants as cause
 use Rattle.calculus.specs.Syntax.{Problem}
 use Rattle.calculus.specs.Derivations.{Derivation}
+use Rattle.calculus.specs.Versions.{first_line}
+use Rattle.calculus.specs.declared.version.Version.{Version}
 use Rattle.calculus.specs.DerivationText.{head_lines, is_limit}
 use Rattle.calculus.specs.Judgement.{IsFaulty, cause_among_names, cause_at}
 use Rattle.derivation_text.specs.declared.body_line.Stage.{Stage}
@@ -41,9 +43,9 @@ with_line d last = record { limit = d.limit; names = record { eigens = d.names.e
 abbrev pub lines_read : Problem → Stage → Derivation → List (List ℕ)
 lines_read P stage d = head_lines P d.limit ++ map (body_line_text P.symbols) (lines_at stage d)
 
--- the head, with this limit, is read up to this place
-abbrev pub IsHeadRead : Problem → List ℕ → ℕ → ℕ → Type 0
-IsHeadRead P bytes place top = head.IsHeadRead (codes "leancop derivation 1") P bytes place top
+-- the head of a version, with this limit, is read up to this place
+abbrev pub IsHeadRead : Version → Problem → List ℕ → ℕ → ℕ → Type 0
+IsHeadRead version P bytes place top = head.IsHeadRead (first_line version) P bytes place top
 
 -- what has been read up to this place is the beginning of a derivation
 pub record IsReadTo (P : Problem) (bytes : List ℕ) (place : ℕ) (stage : Stage) (d : Derivation) : Type 0 where

@@ -8,7 +8,7 @@ use Rattle.derivation_text.specs.declared.row_step.RowStep.TheVariants as step
 
 abbrev pub the_row_arg : row_arg.RowArg → derivation.TermArg
 the_row_arg arg.None = derivation.no_term
-the_row_arg (arg.Term t) = derivation.by_term t.value
+the_row_arg (arg.Term t) = derivation.by_term t
 the_row_arg (arg.Name n) = derivation.by_name n
 
 abbrev pub the_row_step : row_step.RowStep → derivation.Step

@@ -3,11 +3,14 @@
 ghost use Rattle.std.specs.Prelude.{◌≡◌, ℕ, Err, IfOk, IsTrue};
 ghost use Rattle.calculus.specs.Problems.{is_problem};
 ghost use Rattle.calculus.specs.declared.fault.TextCause.{TextCause};
-ghost use Rattle.derivation_text.specs.Reading.{IsHeadRead, IsFaultOf, head_cause, head_number};
+ghost use Rattle.calculus.specs.Versions.{first_line};
+ghost use Rattle.derivation_text.specs.NumberedReading.{IsFaultIn};
+ghost use Rattle.derivation_text.specs.Reading.{IsHeadRead, head_cause, head_number};
 ghost use Rattle.derivation_text.specs.declared.fault.ParseFault.TheVariants as answer;
 
 use crate::fault::ParseFault;
 use calculus::fault::TextCause;
+use calculus::version::Version;
 use logic_rules::Problem;
 use std::alloc::Global;
 use text_lines::{HeadFault, HeadLine};
@@ -36,13 +39,28 @@ fn fault_at(line: HeadLine) -> ParseFault
     }
 }
 
+/// The first line of a text of a version.
+pub fn first_line(version: Version) -> &'static [u8]
+    ensures { result.now ≡ first_line version }
+{
+    match version {
+        Version::One => b"leancop derivation 1",
+        Version::Two => b"leancop derivation 2",
+    }
+}
+
 /// The limit and the place after the head.
-pub fn read_head(alloc: Global, problem: &Problem, bytes: &[u8]) -> Result<(u8, usize), ParseFault>
-    ensures ok { IfOk result (λ r. IsHeadRead problem.now bytes.now r.1 r.0) }
-    ensures fault { (line : ℕ) (cause : TextCause) → result ≡ Err (ParseFault.Text line cause) → IsFaultOf problem.now bytes.now line cause }
+pub fn read_head(
+    alloc: Global,
+    problem: &Problem,
+    version: Version,
+    bytes: &[u8],
+) -> Result<(u8, usize), ParseFault>
+    ensures ok { IfOk result (λ r. IsHeadRead version problem.now bytes.now r.1 r.0) }
+    ensures fault { (line : ℕ) (cause : TextCause) → result ≡ Err (ParseFault.Text line cause) → IsFaultIn version problem.now bytes.now line cause }
     ensures well { IsTrue (is_problem problem.now) }
 {
-    match text_lines::read_head(alloc, problem, b"leancop derivation 1", bytes) {
+    match text_lines::read_head(alloc, problem, first_line(version), bytes) {
         Ok((limit, end)) => Ok((limit, end)),
         Err(HeadFault::Wrong(line)) => Err(fault_at(line)),
         Err(HeadFault::NoMemory) => Err(ParseFault::NoMemory),

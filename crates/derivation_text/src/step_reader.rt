@@ -16,8 +16,8 @@ use text_lines::{
     read_front_label, read_front_number, read_name_number, read_whole_number, rest_after,
 };
 
-// The row of the term that is the whole text.
-fn read_whole_row(alloc: Global, problem: &Problem, text: &[u8]) -> Result<TermRow, TextRead>
+/// The row of the term that is the whole text.
+pub fn read_whole_row(alloc: Global, problem: &Problem, text: &[u8]) -> Result<TermRow, TextRead>
     ensures ok { IfOk result (λ t. IsTerm problem.now.symbols text.now t) }
     ensures none { result ≡ Err TextRead.None → (t : tree.Term) → ¬ IsTerm problem.now.symbols text.now t }
 {
@@ -39,8 +39,7 @@ fn read_term_arg(alloc: Global, problem: &Problem, text: &[u8]) -> Result<RowArg
     }
     if let Some(rest) = rest_after(text, b" term ") {
         let row = read_whole_row(alloc, problem, rest)?;
-        let arg = RowArg::term(alloc, row)?;
-        return Ok(arg);
+        return Ok(RowArg::Term(row));
     }
     let Some(rest) = rest_after(text, b" name $$e") else {
         return Err(TextRead::None);
@@ -118,8 +117,8 @@ fn read_use(
     Ok((entry, modal, term))
 }
 
-// Two numbers with a space between them.
-fn read_number_pair(text: &[u8]) -> Option<(u32, u32)>
+/// Two numbers with a space between them.
+pub fn read_number_pair(text: &[u8]) -> Option<(u32, u32)>
     ensures some { IfSome result (λ r. IsNumberPair text.now r.0 r.1) }
     ensures none { IsNone result → (n k : ℕ) → ¬ IsNumberPair text.now n k }
 {

@@ -1,167 +1,84 @@
-//! Printing.
+//! Writing.
 
-ghost use Rattle.std.specs.Prelude.{◌≡◌, ◌++◌, map, IsTrue, IfOk, OnOk};
-ghost use Rattle.std.specs.List.{flat_map, list_all};
-ghost use Rattle.calculus.specs.DerivationText.{IsText, eigen_line, home_is_written};
-ghost use Rattle.calculus.specs.DerivationText.{home_text, is_printable, line_bytes};
-ghost use Rattle.calculus.specs.DerivationText.{modal_is_written, modal_text, spare_line};
-ghost use Rattle.calculus.specs.DerivationText.{step_is_written, step_line, term_arg_is_written};
-ghost use Rattle.calculus.specs.DerivationText.{term_arg_text};
-ghost use Rattle.derivation_text.specs.Single.{AtMostOneDerivation, AtMostOneFormula};
-ghost use Rattle.derivation_text.specs.Written.{eigen_is_written, spare_is_written};
+ghost use Rattle.std.specs.Prelude.{◌≡◌, ◌++◌, IsTrue, IfOk, OnOk};
+ghost use Rattle.std.specs.List.{flat_map};
+ghost use Rattle.calculus.specs.DerivationText.{is_printable, line_bytes};
+ghost use Rattle.calculus.specs.Versions.{IsTextIn, numbering, stated};
+ghost use Rattle.derivation_text.specs.Single.{AtMostOneFormula, AtMostOneInVersion};
+ghost use Rattle.derivation_text.specs.Writing.{AreTablesWritten, body_lines_in};
 ghost use Rattle.sequent_calc.specs.DerivationView.{the_derivation};
-ghost use Rattle.sequent_calc.specs.NamesView.{the_eigen, the_home, the_spare};
-ghost use Rattle.sequent_calc.specs.StepView.{the_modal, the_step, the_term_arg};
 
+use crate::head_reader::first_line;
+use crate::line_writer::{write_eigens, write_spares, write_steps};
+use crate::numbering::number;
+use crate::table_writer::{write_label_lines, write_term_lines};
+use crate::text_derivation::TextDerivation;
+use calculus::version::Version;
 use cop_base::NoMemory;
-use formula_core::Symbols;
-use formula_text::{write_bytes, write_label, write_number, write_term};
-use logic_rules::{Label, Problem};
-use sequent_calc::{Derivation, EigenList, Home, ModalArg, SpareList, Step, StepList, TermArg};
+use formula_text::write_bytes;
+use logic_rules::Problem;
+use sequent_calc::Derivation;
 use std::alloc::Global;
 use text_lines::write_head;
 
-fn write_eigen(out: &mut Vec<u8>, number: u32, home: &Label) -> Result<(), NoMemory>
-    requires { IsTrue (eigen_is_written (the_eigen (number, home.now))) }
-    ensures { OnOk result (out.new.items
-        ≡ out.old.items ++ line_bytes (eigen_line (the_eigen (number, home.now)))) }
+fn write_body(
+    alloc: Global,
+    out: &mut Vec<u8>,
+    problem: &Problem,
+    d: &TextDerivation,
+    version: Version,
+) -> Result<(), NoMemory>
+    requires written { AreTablesWritten problem.now.symbols d.now }
+    ensures { OnOk result (out.new.items ≡ out.old.items ++ flat_map line_bytes (body_lines_in version problem.now.symbols d.now)) }
 {
-    write_bytes(out, b"name $$e")?;
-    write_number(out, u64::from(number))?;
-    write_bytes(out, b" ")?;
-    write_label(out, home)?;
-    write_bytes(out, b"\n")?;
+    write_label_lines(alloc, out, problem, d, version)?;
+    write_eigens(alloc, out, problem, d, version, d.eigens())?;
+    write_spares(alloc, out, problem, d, version, d.spares())?;
+    write_term_lines(alloc, out, problem, d, version)?;
+    write_steps(alloc, out, problem, d, version, d.steps())?;
+    write_bytes(out, b"end\n")?;
     Ok(())
 }
 
-fn write_eigens(out: &mut Vec<u8>, eigens: &EigenList) -> Result<(), NoMemory>
-    requires { IsTrue (list_all eigen_is_written eigens.now) }
-    ensures { OnOk result (out.new.items
-        ≡ out.old.items ++ flat_map line_bytes (map eigen_line eigens.now)) }
-{
-    for item in eigens.items() {
-        write_eigen(out, item.0, &item.1)?;
-    }
-    Ok(())
-}
+/// The text of a version of a derivation that can be printed: a head of four lines, a line for each name and each step, and `end`; in
+/// version 2 a line for each label before the names and for each term after them.
+pub fn write(
+    alloc: Global,
+    problem: &Problem,
+    d: &TextDerivation,
+    version: Version,
+) -> Result<Vec<u8>, NoMemory>
+    requires printable { IsTrue (is_printable problem.now (stated d.now)) }
+    requires numbers { d.now ≡ numbering (stated d.now) }
+    ensures text { IfOk result (λ bytes. IsTextIn version problem.now (stated d.now) bytes.items) }
 
-fn write_home(out: &mut Vec<u8>, home: &Home) -> Result<(), NoMemory>
-    requires { IsTrue (home_is_written (the_home home.now)) }
-    ensures { OnOk result (out.new.items ≡ out.old.items ++ home_text (the_home home.now)) }
-{
-    match home {
-        Home::Anywhere => write_bytes(out, b"any"),
-        Home::At(label) => write_label(out, label),
-    }
-}
-
-fn write_spare(out: &mut Vec<u8>, number: u32, home: &Home) -> Result<(), NoMemory>
-    requires { IsTrue (spare_is_written (the_spare (number, home.now))) }
-    ensures { OnOk result (out.new.items
-        ≡ out.old.items ++ line_bytes (spare_line (the_spare (number, home.now)))) }
-{
-    write_bytes(out, b"name $$s")?;
-    write_number(out, u64::from(number))?;
-    write_bytes(out, b" ")?;
-    write_home(out, home)?;
-    write_bytes(out, b"\n")?;
-    Ok(())
-}
-
-fn write_spares(out: &mut Vec<u8>, spares: &SpareList) -> Result<(), NoMemory>
-    requires { IsTrue (list_all spare_is_written spares.now) }
-    ensures { OnOk result (out.new.items
-        ≡ out.old.items ++ flat_map line_bytes (map spare_line spares.now)) }
-{
-    for item in spares.items() {
-        write_spare(out, item.0, &item.1)?;
-    }
-    Ok(())
-}
-
-fn write_modal(out: &mut Vec<u8>, modal: &ModalArg) -> Result<(), NoMemory>
-    requires { IsTrue (modal_is_written (the_modal modal.now)) }
-    ensures { OnOk result (out.new.items ≡ out.old.items ++ modal_text (the_modal modal.now)) }
-{
-    match modal {
-        ModalArg::None => Ok(()),
-        ModalArg::To(label) => {
-            write_bytes(out, b" to ")?;
-            write_label(out, label)
-        }
-        ModalArg::New(n) => {
-            write_bytes(out, b" new $$c")?;
-            write_number(out, u64::from(*n))
-        }
-    }
-}
-
-fn write_term_arg(out: &mut Vec<u8>, symbols: &Symbols, arg: &TermArg) -> Result<(), NoMemory>
-    requires { IsTrue (term_arg_is_written symbols.now (the_term_arg arg.now)) }
-    ensures { OnOk result (out.new.items
-        ≡ out.old.items ++ term_arg_text symbols.now (the_term_arg arg.now)) }
-{
-    match arg {
-        TermArg::None => Ok(()),
-        TermArg::Term(t) => {
-            write_bytes(out, b" term ")?;
-            write_term(out, symbols, t)
-        }
-        TermArg::Name(n) => {
-            write_bytes(out, b" name $$e")?;
-            write_number(out, u64::from(*n))
-        }
-    }
-}
-
-fn write_step(out: &mut Vec<u8>, symbols: &Symbols, step: &Step) -> Result<(), NoMemory>
-    requires { IsTrue (step_is_written symbols.now (the_step step.now)) }
-    ensures { OnOk result (out.new.items
-        ≡ out.old.items ++ step_line symbols.now (the_step step.now)) }
-{
-    match step {
-        Step::Use { entry, modal, term } => {
-            write_bytes(out, b"use ")?;
-            write_number(out, u64::from(*entry))?;
-            write_modal(out, modal)?;
-            write_term_arg(out, symbols, term)
-        }
-        Step::Axiom { given, shown } => {
-            write_bytes(out, b"axiom ")?;
-            write_number(out, u64::from(*given))?;
-            write_bytes(out, b" ")?;
-            write_number(out, u64::from(*shown))
-        }
-    }
-}
-
-fn write_steps(out: &mut Vec<u8>, symbols: &Symbols, steps: &StepList) -> Result<(), NoMemory>
-    requires { IsTrue (list_all (step_is_written symbols.now) steps.now) }
-    ensures { OnOk result (out.new.items
-        ≡ out.old.items ++ flat_map line_bytes (map (step_line symbols.now) steps.now)) }
-{
-    for step in steps.items() {
-        write_step(out, symbols, step)?;
-        write_bytes(out, b"\n")?;
-    }
-    Ok(())
-}
-
-/// The text of a derivation that can be printed: a head of four lines, a line for each name, a line
-/// for each step, and `end`.
-pub fn print(alloc: Global, problem: &Problem, d: &Derivation) -> Result<Vec<u8>, NoMemory>
-    requires { IsTrue (is_printable problem.now (the_derivation d.now)) }
-    ensures text { IfOk result (λ bytes. IsText problem.now (the_derivation d.now) bytes.items) }
-
-    // They are the text of no other derivation, and of no other formula.
-    ensures one { IfOk result (λ bytes. AtMostOneDerivation problem.now bytes.items) }
+    // They are the text of no other derivation, in either version, and of no other formula.
+    ensures one { IfOk result (λ bytes. AtMostOneInVersion problem.now bytes.items) }
     ensures formula { IfOk result (λ bytes. AtMostOneFormula problem.now bytes.items) }
 {
+    // Called for their contracts alone, which say that so many labels and terms can be counted, and that symbols are distinct.
+    let _labels = d.labels().count();
+    let _terms = d.terms().count();
+    let _symbols = problem.symbols();
     let mut out = Vec::new(alloc);
-    write_head(&mut out, problem, b"leancop derivation 1", d.limit)?;
-    write_eigens(&mut out, &d.names.eigens)?;
-    write_spares(&mut out, &d.names.spares)?;
-    write_steps(&mut out, problem.symbols(), &d.steps)?;
-    write_bytes(&mut out, b"end\n")?;
+    write_head(&mut out, problem, first_line(version), d.limit())?;
+    write_body(alloc, &mut out, problem, d, version)?;
     Ok(out)
+}
+
+/// The same of a derivation of the calculus.
+pub fn print(
+    alloc: Global,
+    problem: &Problem,
+    d: &Derivation,
+    version: Version,
+) -> Result<Vec<u8>, NoMemory>
+    requires { IsTrue (is_printable problem.now (the_derivation d.now)) }
+    ensures text { IfOk result (λ bytes. IsTextIn version problem.now (the_derivation d.now) bytes.items) }
+    ensures one { IfOk result (λ bytes. AtMostOneInVersion problem.now bytes.items) }
+    ensures formula { IfOk result (λ bytes. AtMostOneFormula problem.now bytes.items) }
+{
+    let numbered = number(alloc, d)?;
+    let text = write(alloc, problem, &numbered, version)?;
+    Ok(text)
 }

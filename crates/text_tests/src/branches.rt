@@ -4,9 +4,10 @@ ghost use Rattle.std.specs.Prelude.{◌≡◌, IfOk};
 ghost use Rattle.formula_core.specs.TermView.{the_term};
 
 use cop_base::NoMemory;
-use derivation_branch::{Labels, NumberSet, Outline, add_eigens, is_home_at, reaches};
+use derivation_branch::{NumberSet, Outline, add_eigens};
 use formula_core::Term;
 use formula_text::{TermRow, add_row};
+use label_table::{Labels, is_home_at, reaches};
 use logic_rules::{Domains, Logic, Mark};
 use std::alloc::Global;
 use std::test::Fail;

@@ -1,7 +1,7 @@
 //! Worked texts through the public calls.
 
 use cop_base::NoMemory;
-use derivation_text::{ParseFault, TextCause, parse, print};
+use derivation_text::{ParseFault, TextCause, Version, parse, print};
 use logic_rules::{Domains, Logic, Problem};
 use std::alloc::Global;
 use std::test::Fail;
@@ -19,9 +19,9 @@ type Fault = Option<(u64, TextCause)>;
 // The fault of a text, or none where it is read as a derivation whose text it is.
 fn fault_of(alloc: Global, problem: &Problem, text: &[u8]) -> Result<Fault, NoMemory> {
     match parse(alloc, problem, text) {
-        Ok(derivation) => {
-            let printed = print(alloc, problem, &derivation)?;
-            if printed.as_slice() == text {
+        Ok((version, derivation)) => {
+            let printed = print(alloc, problem, &derivation, Version::One)?;
+            if version == Version::One && printed.as_slice() == text {
                 Ok(None)
             } else {
                 Ok(Some((0, TextCause::Line)))
@@ -62,7 +62,8 @@ fn reads_and_prints(rt: HostRuntime) -> Result<(), Fail> {
 const HEAD_FAULTS: &[(&[u8], u64, TextCause)] = &[
     (b"", 1, TextCause::Version),
     (b"leancop derivation 1", 1, TextCause::Version),
-    (b"leancop derivation 2\n", 1, TextCause::Version),
+    (b"leancop derivation 3\n", 1, TextCause::Version),
+    (b"leancop derivation 2\n", 2, TextCause::Setting),
     (
         b"leancop derivation 1\nlogic t constant\n",
         2,

@@ -66,7 +66,7 @@ fn stepped(alloc: Global, problem: &Problem, d: &Derivation) -> Result<Verdict, 
 /// What the rules judge of a text.
 pub fn judged_by_steps(alloc: Global, problem: &Problem, text: &[u8]) -> Result<Verdict, NoMemory> {
     match parse(alloc, problem, text) {
-        Ok(derivation) => stepped(alloc, problem, &derivation),
+        Ok((_, derivation)) => stepped(alloc, problem, &derivation),
         Err(ParseFault::Text { line, cause }) => {
             let fault = CheckFault::Text(cause);
             Ok(Verdict::Rejected { line, fault })

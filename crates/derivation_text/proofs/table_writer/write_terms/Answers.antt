@@ -1,0 +1,23 @@
+use Rattle.std.proofs.Common.{◌≡◌, length, ap, ◌∙◌, arith}
+use Rattle.calculus.specs.Syntax.{spare}
+use Rattle.calculus.specs.Versions.{term_line}
+use Rattle.derivation_text.proofs.WritingLaws.{among-next, lines-done, lines-written}
+use Rattle.derivation_text.proofs.table_writer.write_terms.Goals as goal
+
+pub write_term_line-requires : goal.write_term_line-requires
+write_term_line-requires c =
+    let size : c.count-i-end.result ≡ length c.args.d.now.terms = c.count-i-end.ensures ∙ ap length c.terms.ensures in
+    let within = c.loop-i-test.true in
+    record { among = among-next (length c.args.d.now.terms) c.loop-i.i (omega (arith, size, within)); written = c.requires.written }
+
+pub loop-i-preserved : goal.loop-i-preserved
+loop-i-preserved c =
+    let size : c.count-i-end.result ≡ length c.args.d.now.terms = c.count-i-end.ensures ∙ ap length c.terms.ensures in
+    let within = c.loop-i-test.true in
+    lines-written (term_line c.args.problem.now.symbols) c.args.d.now.terms (spare 0) c.loop-i.i c.loop-i.out.items c.write_term_line.new.out.items _ (omega (arith, size, within)) c.in_ok-write_term_line.ensures c.loop-i.invariant
+
+pub returns : goal.returns
+returns c =
+    let size : c.count-i-end.result ≡ length c.args.d.now.terms = c.count-i-end.ensures ∙ ap length c.terms.ensures in
+    let end = c.loop-i-test.false in
+    lines-done (term_line c.args.problem.now.symbols) c.args.d.now.terms c.loop-i.i c.loop-i.out.items _ (omega (arith, size, end)) c.loop-i.invariant

@@ -1,0 +1,5 @@
+//! Tests of both versions.
+#![tactic(auto)]
+
+#[cfg(test)]
+mod versions;
