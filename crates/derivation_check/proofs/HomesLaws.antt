@@ -1,18 +1,18 @@
 -- Homes of names stay at their places when the table of labels grows.
-use Rattle.std.proofs.Common.{◌≡◌, ℕ, ◌+◌, ◌-◌, ◌<◌, ◌==◌, ◌||◌, Bool, true, false, not, cond, List, [], ◌∷◌, length, get_or, map, drop, find, nat_eq, Option, None, Some, refl, sym, ◌∙◌, ap, subst, arith}
+use Rattle.std.proofs.Common.{◌≡◌, ℕ, ◌+◌, ◌-◌, ◌<◌, ◌==◌, ◌||◌, Bool, true, false, not, cond, List, [], ◌∷◌, length, get_or, map, drop, find, is_some, nat_eq, Option, None, Some, refl, sym, ◌∙◌, ap, subst, arith}
 use Rattle.std.proofs.lemmas.List.{drop_more, drop_all}
 use Rattle.std.specs.Option.{option_map_or}
 use Rattle.indexmap.specs.IndexMap.{IndexMap, get}
-use Rattle.calculus.specs.Calculus.{holds_character, home_holds, is_forbidden, is_in_home, spare_allowed}
+use Rattle.calculus.specs.Calculus.{holds_character, home_holds, is_forbidden, is_in_home, is_known, is_unknown, spare_allowed}
 use Rattle.calculus.specs.Labels.{home_allows}
 use Rattle.calculus.specs.Substitution.{any_leaf, any_leaf_of}
 use Rattle.calculus.specs.Syntax.{Problem, Term, Terms, var, fun, eigen, spare, no_terms, more_terms}
 use Rattle.calculus.specs.Derivations.{character_eq, Label, Mark, EigenName, SpareName, Names, Home, anywhere, home_at, TermArg, no_term, by_term, by_name}
-use Rattle.derivation_branch.specs.Occurring.{IsLonger, in_argument}
-use Rattle.derivation_branch.specs.TableView.{IsLabelAt}
-use Rattle.derivation_branch.proofs.TableLaws.{longer-at, longer-size}
-use Rattle.derivation_branch.proofs.GrowthLaws.{or_false}
-use Rattle.derivation_check.specs.HomesView.{AreEigenHomes, AreFound, AreHomes, AreSpareHomes, IsEigenHome, IsFound, IsHomeOfSpare, IsSpareHome, is_forbidden_at, is_in_home_at, is_place_allowed, place_holds}
+use Rattle.label_table.specs.Longer.{IsLonger}
+use Rattle.derivation_branch.specs.Occurring.{in_argument}
+use Rattle.label_table.specs.LabelTable.{IsLabelAt}
+use Rattle.label_table.proofs.TableLaws.{longer-at, longer-size}
+use Rattle.derivation_check.specs.HomesView.{AreEigenHomes, AreFound, AreHomes, AreSpareHomes, IsEigenHome, IsFound, IsHomeOfSpare, IsSpareHome, is_forbidden_at, is_in_home_at, is_known_at, is_place_allowed, is_unknown_at, place_holds}
 use Rattle.derivation_check.specs.declared.homes.Homes.{Homes}
 use Rattle.derivation_check.specs.declared.homes.Place.{Place}
 use Rattle.derivation_check.specs.declared.homes.Place.TheVariants.{Anywhere, At}
@@ -60,12 +60,9 @@ homes-longer names labels more homes long h = record {
   spares = λ n. found-longer (IsHomeOfSpare labels) (IsHomeOfSpare more) (spare-longer labels more long) _ _ (h.spares n);
 }
 
--- the homes of eigenvariables, and then those of spare constants
-pub homes-made : (names : Names) (labels more : List Label) (homes : Homes) (eigens : List EigenName) (spares : List SpareName) → eigens ≡ names.eigens → spares ≡ names.spares → IsLonger labels more → AreEigenHomes labels homes.eigens eigens → AreSpareHomes more homes.spares spares → AreHomes names more homes
-homes-made names labels more homes eigens spares e f long g h = record {
-  eigens = λ n. found-longer (IsEigenHome labels) (IsEigenHome more) (eigen-longer labels more long) _ _ (subst (AreEigenHomes labels homes.eigens) e g n);
-  spares = subst (AreSpareHomes more homes.spares) f h;
-}
+pub map-twice : {A B C : Type 0} (g : B → C) (f : A → B) (xs : List A) → map g (map f xs) ≡ map (λ x. g (f x)) xs
+map-twice g f [] = refl
+map-twice g f (x ∷ xs) = ap (λ l. g (f x) ∷ l) (map-twice g f xs)
 
 -- ---- names from the end on
 
@@ -146,6 +143,31 @@ module _ (P : Problem) (names : Names) (labels : List Label) (homes : Homes) (v 
   pub allowed-told : (t : Term) (r : Bool) → r ≡ any_leaf (is_forbidden_at P labels homes v) t → not r ≡ not (any_leaf (is_forbidden P names v) t)
   allowed-told t r e = ap not (e ∙ forbidden-same t)
 
+-- ---- listed names
+
+found-some : {A B : Type 0} (R : A → B → Type 0) (o : Option A) (p : Option B) → IsFound R o p → not (is_some o) ≡ not (is_some p)
+found-some R None None h = refl
+found-some R None (Some b) h = absurd h
+found-some R (Some a) None h = absurd h
+found-some R (Some a) (Some b) h = refl
+
+module _ (names : Names) (labels : List Label) (homes : Homes) (h : AreHomes names labels homes) where
+  mutual
+    unknown-same : (t : Term) → any_leaf (is_unknown_at homes) t ≡ any_leaf (is_unknown names) t
+    unknown-same (var k) = refl
+    unknown-same (fun f us) = all-unknown-same us
+    unknown-same (eigen n) = found-some (IsEigenHome labels) _ _ (h.eigens n)
+    unknown-same (spare n) = found-some (IsHomeOfSpare labels) _ _ (h.spares n)
+
+    all-unknown-same : (us : Terms) → any_leaf_of (is_unknown_at homes) us ≡ any_leaf_of (is_unknown names) us
+    all-unknown-same no_terms = refl
+    all-unknown-same (more_terms u us) = λ i. unknown-same u i || all-unknown-same us i
+
+  pub known-told : (t : TermArg) (r : Bool) → r ≡ is_known_at homes t → r ≡ is_known names t
+  known-told no_term r e = e
+  known-told (by_term t) r e = e ∙ ap not (unknown-same t)
+  known-told (by_name n) r e = e ∙ ap not (unknown-same (eigen n))
+
 -- ---- characters in homes
 
 place-holds-same : (labels : List Label) (m : Mark) (p : Place) (x : Home) → IsSpareHome labels p x → place_holds labels m p ≡ home_holds m x
@@ -170,7 +192,3 @@ module _ (names : Names) (labels : List Label) (homes : Homes) (m : Mark) (h : A
   argument-same no_term = refl
   argument-same (by_term t) = home-same t
   argument-same (by_name n) = home-same (eigen n)
-
--- a leaf whose home has no marks brings nothing
-pub bare-adds : (names : Names) (labels : List Label) (homes : Homes) (m : Mark) (t : Term) (a : Bool) → AreHomes names labels homes → any_leaf (is_in_home names m) t ≡ false → a ≡ (a || any_leaf (is_in_home_at labels homes m) t)
-bare-adds names labels homes m t a h e = sym (ap (λ b. a || b) (home-same names labels homes m h t ∙ e) ∙ or_false a)

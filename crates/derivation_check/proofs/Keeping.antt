@@ -10,13 +10,14 @@ use Rattle.calculus.specs.Syntax.{Term, Formula}
 use Rattle.formula_core.specs.FormulaView.{the_formula}
 use Rattle.derivation_branch.specs.AddedView.{AreAddedAt, IsAddedAt, children_added}
 use Rattle.derivation_branch.specs.EntryView.{IsWithin, formula_under}
-use Rattle.derivation_branch.specs.Occurring.{IsLonger, holds, in_argument, in_modal, quantifier_binds}
+use Rattle.label_table.specs.Longer.{IsLonger}
+use Rattle.derivation_branch.specs.Occurring.{holds, in_argument, in_modal, quantifier_binds}
 use Rattle.derivation_branch.specs.Putting.{AreClosed, formula_with_all}
 use Rattle.derivation_branch.specs.declared.addition.Added.{Added}
 use Rattle.derivation_branch.specs.declared.addition.Added.TheVariants.{One, Both, Fork}
 use Rattle.derivation_branch.specs.declared.entry.SharedEntry.{SharedEntry}
 use Rattle.derivation_branch.proofs.ChildLaws.{OnEach, Grown, Marked, binds-under, children-grown, children-marked, each-all, each-both, each-weaker}
-use Rattle.derivation_branch.proofs.TableLaws.{longer-at, longer-size, pushed-at, pushed-longer}
+use Rattle.label_table.proofs.TableLaws.{longer-at, longer-size, pushed-at, pushed-longer}
 use Rattle.derivation_check.specs.OpenSequents.{IsLastOf, after_added, placed}
 use Rattle.derivation_check.specs.StateView.{AreKept, AreWithin, HasArgument, IsLabelAfter, StandsOn, Tells, Wait, eigens_of, last_of, marks_of, the_entry, the_sequent}
 use Rattle.derivation_check.specs.ToldView.{HasMarks}

@@ -4,6 +4,8 @@ pub mod Forks
 pub mod ToldLaws
 pub mod Keeping
 pub mod Numbers
+pub mod ArgumentLaws
 pub mod StateLaws
+pub mod UsedLaws
 pub mod StepLaws
 pub mod Accepting

@@ -20,14 +20,14 @@ use Rattle.formula_core.specs.FormulaView.{the_formula}
 use Rattle.logic_rules.proofs.ProblemFacts.{kept}
 use Rattle.derivation_branch.specs.AddedView.{AreAddedAt, PutsArgument, children_added}
 use Rattle.derivation_branch.specs.EntryView.{IsWithin, formula_under}
-use Rattle.derivation_branch.specs.Occurring.{IsLonger}
+use Rattle.label_table.specs.Longer.{IsLonger}
 use Rattle.derivation_branch.specs.Putting.{is_var}
-use Rattle.derivation_branch.specs.TableView.{IsLabelAt}
+use Rattle.label_table.specs.LabelTable.{IsLabelAt}
 use Rattle.derivation_branch.specs.declared.addition.Added.{Added}
 use Rattle.derivation_branch.proofs.ChildLaws.{OnEach}
 use Rattle.derivation_branch.proofs.OccurrenceLaws.{IsOfNames}
 use Rattle.derivation_branch.proofs.PuttingLaws.{shape-all}
-use Rattle.derivation_branch.proofs.TableLaws.{longer-at, longer-self, longer-size}
+use Rattle.label_table.proofs.TableLaws.{longer-at, longer-self, longer-size}
 use Rattle.sequent_calc.specs.ChildrenView.{faulty}
 use Rattle.derivation_check.specs.OpenSequents.{IsLastOf, after_added, open_sequents, waiting}
 use Rattle.derivation_check.specs.StateView.{AreKept, AreWithin, HasArgument, IsClosedArgument, IsLabelAfter, LeadsTo, StandsOn, Tells, Wait, the_entry, the_sequent}

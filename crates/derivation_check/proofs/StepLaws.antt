@@ -43,6 +43,14 @@ pub end-closed : (table : List (List Term)) (labels : List Label) (o : Bool) (xs
 end-closed table labels o xs forks line shut = ap (λ b. at_end (map (the_sequent table labels) (open_sequents b xs forks)) line) (sym shut)
 
 -- what is told of a result is told of what leads to it
+pub leads-as : {E : Type 0} (r : Result (Unit {0}) E) (K : Names → Type 0) (p q : Names → Result Children StepFault) (others now : List Sequent) → ((n : Names) → p n ≡ q n) → OnOk r ((n : Names) → K n → LeadsTo (p n) others now) → OnOk r ((n : Names) → K n → LeadsTo (q n) others now)
+leads-as (Ok x) K p q others now e h = λ n k. subst (λ z. LeadsTo z others now) (e n) (h n k)
+leads-as (Err x) K p q others now e h = h
+
+pub leads-each : {E : Type 0} (r : Result (Unit {0}) E) (K : Names → Type 0) (p : Result Children StepFault) (q : Names → Result Children StepFault) (others now : List Sequent) → ((n : Names) → p ≡ q n) → OnOk r (LeadsTo p others now) → OnOk r ((n : Names) → K n → LeadsTo (q n) others now)
+leads-each (Ok x) K p q others now e h = λ n k. subst (λ z. LeadsTo z others now) (e n) h
+leads-each (Err x) K p q others now e h = h
+
 pub leads-same : {E : Type 0} (r : Result (Unit {0}) E) (p q : Result Children StepFault) (others now : List Sequent) → p ≡ q → OnOk r (LeadsTo p others now) → OnOk r (LeadsTo q others now)
 leads-same (Ok x) p q others now e h = subst (λ z. LeadsTo z others now) e h
 leads-same (Err x) p q others now e h = h

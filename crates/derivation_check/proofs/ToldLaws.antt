@@ -11,9 +11,10 @@ use Rattle.calculus.specs.Substitution.{any_leaf_in}
 use Rattle.calculus.specs.declared.setting.Logic.{Logic}
 use Rattle.calculus.specs.declared.setting.Logic.TheVariants.{S5}
 use Rattle.calculus.proofs.EqualityLaws.{character_eq-tells, nat_eq-tells}
-use Rattle.derivation_branch.specs.Occurring.{IsLonger, holds, in_modal}
+use Rattle.label_table.specs.Longer.{IsLonger}
+use Rattle.derivation_branch.specs.Occurring.{holds, in_modal}
 use Rattle.derivation_branch.proofs.GrowthLaws.{any-append, any-member, or_false}
-use Rattle.derivation_branch.proofs.TableLaws.{longer-at, longer-size}
+use Rattle.label_table.proofs.TableLaws.{longer-at, longer-size}
 use Rattle.derivation_check.specs.ToldView.{AreCounted, AreRising, AreTold, HasMarks, is_told}
 
 -- ---- truth values

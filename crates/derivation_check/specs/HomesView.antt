@@ -1,13 +1,14 @@
 -- The homes of names by places of the table of labels.
-use Rattle.std.specs.Prelude.{⊤, ℕ, ◌==◌, Bool, true, false, not, List, [], Option, Some, None, find, get_or, nat_eq}
+use Rattle.std.specs.Prelude.{⊤, ℕ, ◌==◌, Bool, true, false, not, List, [], Option, Some, None, find, get_or, is_some, nat_eq}
 use Rattle.std.specs.Option.{option_map_or}
 use Rattle.indexmap.specs.IndexMap.{IndexMap, get}
 use Rattle.calculus.specs.Labels.{home_allows}
 use Rattle.calculus.specs.Skolem.{common_spares}
 use Rattle.calculus.specs.Syntax.{Problem, Term, var, fun, eigen, spare}
 use Rattle.calculus.specs.Calculus.{holds_character}
-use Rattle.calculus.specs.Derivations.{character_eq, Label, Mark, EigenName, SpareName, Names, Home, anywhere, home_at}
-use Rattle.derivation_branch.specs.TableView.{IsLabelAt}
+use Rattle.calculus.specs.Substitution.{any_leaf}
+use Rattle.calculus.specs.Derivations.{character_eq, Label, Mark, EigenName, SpareName, Names, Home, anywhere, home_at, TermArg, no_term, by_term, by_name}
+use Rattle.label_table.specs.LabelTable.{IsLabelAt}
 use Rattle.derivation_check.specs.declared.homes.Place.{Place}
 use Rattle.derivation_check.specs.declared.homes.Place.TheVariants.{Anywhere, At}
 use Rattle.derivation_check.specs.declared.homes.Homes.{Homes}
@@ -49,6 +50,17 @@ is_forbidden_at P labels homes v (var k) = true
 is_forbidden_at P labels homes v (fun f ts) = false
 is_forbidden_at P labels homes v (eigen n) = option_map_or (λ k. not (home_allows character_eq P.setting.domains (get_or labels k []) v)) (get nat_eq homes.eigens n) true
 is_forbidden_at P labels homes v (spare n) = option_map_or (λ p. not (is_place_allowed P labels p v)) (get nat_eq homes.spares n) true
+
+-- a leaf that is no listed name, by the places of homes
+abbrev pub is_unknown_at : Homes → Term → Bool
+is_unknown_at homes (eigen n) = not (is_some (get nat_eq homes.eigens n))
+is_unknown_at homes (spare n) = not (is_some (get nat_eq homes.spares n))
+is_unknown_at homes _ = false
+
+abbrev pub is_known_at : Homes → TermArg → Bool
+is_known_at homes no_term = true
+is_known_at homes (by_term t) = not (any_leaf (is_unknown_at homes) t)
+is_known_at homes (by_name n) = not (is_unknown_at homes (eigen n))
 
 abbrev pub place_holds : List Label → Mark → Place → Bool
 place_holds labels m Anywhere = false

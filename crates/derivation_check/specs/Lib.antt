@@ -5,3 +5,5 @@ pub mod StateView
 pub mod DemandsView
 pub mod VerdictView
 pub mod Reading
+pub mod ArgumentView
+pub mod Only

@@ -10,7 +10,7 @@ use Rattle.derivation_branch.specs.EntryView.{IsWithin, the_shared}
 use Rattle.derivation_branch.specs.Occurring.{holds}
 use Rattle.derivation_branch.specs.OutlineView.{IsNodeOf}
 use Rattle.derivation_branch.specs.Putting.{IsClosed, AreClosed}
-use Rattle.derivation_branch.specs.TableView.{IsLabelAt}
+use Rattle.label_table.specs.LabelTable.{IsLabelAt}
 use Rattle.derivation_branch.specs.declared.outline.Node.{Node}
 use Rattle.derivation_check.specs.HomesView.{AreHomes}
 use Rattle.derivation_check.specs.OpenSequents.{IsNested, sequents_of}

@@ -1,36 +1,34 @@
 //! Where a name may stand, by the places of homes.
 
-ghost use Rattle.std.specs.Prelude.{◌≡◌, ◌<◌, ◌∷◌, [], get_or, length, not};
-ghost use Rattle.calculus.specs.Calculus.{home_is, is_forbidden, is_known, is_unknown, term_allowed};
+ghost use Rattle.std.specs.Prelude.{◌≡◌, ◌<◌, ◌∷◌, [], List, get_or, length, not};
+ghost use Rattle.calculus.specs.Calculus.{home_is, is_forbidden, is_known, term_allowed};
 ghost use Rattle.calculus.specs.Derivations as derivation;
 ghost use Rattle.calculus.specs.Substitution.{any_leaf};
 ghost use Rattle.calculus.specs.Syntax as tree;
 ghost use Rattle.derivation_check.specs.HomesView.{AreHomes, IsSpareHome};
-ghost use Rattle.derivation_check.specs.HomesView.{is_forbidden_at, is_place_allowed};
+ghost use Rattle.derivation_check.specs.HomesView.{is_forbidden_at, is_known_at, is_place_allowed, is_unknown_at};
 ghost use Rattle.formula_text.specs.Rows.{any_item};
-ghost use Rattle.derivation_text.specs.RowView.{the_row_arg};
-ghost use Rattle.sequent_calc.specs.DerivationView.{the_names};
+ghost use Rattle.derivation_check.specs.ArgumentView.{the_argument};
 
+use crate::argument::Argument;
 use crate::homes::{Homes, Place};
-use derivation_branch::{Labels, is_home_at};
-use derivation_text::RowArg;
 use formula_text::{RowItem, TermRow};
+use label_table::{Labels, is_home_at};
 use logic_rules::Problem;
-use sequent_calc::{Names, eigen_named, spare_named};
 
 /// Whether the home of the eigenvariable is the label of the component.
-pub fn home_is(labels: &Labels, homes: &Homes, at: u32, term: &RowArg) -> bool
+pub fn home_is(labels: &Labels, homes: &Homes, at: u32, term: Argument<'_>) -> bool
     requires at { at < length labels.now }
     requires homes { (names : derivation.Names) × AreHomes names labels.now homes.now }
     ensures { (names : derivation.Names) → AreHomes names labels.now homes.now
-        → result ≡ home_is names (get_or labels.now at []) (the_row_arg term.now) }
+        → result ≡ home_is names (get_or labels.now at []) (the_argument term.entry) }
 {
     match term {
-        RowArg::Name(number) => match homes.eigen(*number) {
+        Argument::Name(number) => match homes.eigen(number) {
             Some(home) => labels.are_equal(home, at),
             None => false,
         },
-        RowArg::None | RowArg::Term(_) => true,
+        Argument::None | Argument::Term(_) => true,
     }
 }
 
@@ -77,8 +75,8 @@ fn is_forbidden_spare(
     ensures { result ≡ is_forbidden_at problem.now labels.now homes.now (get_or labels.now at [])
         (tree.spare number) }
 {
-    match homes.spares.get(&number) {
-        Some(home) => !is_spare_allowed(problem, labels, *home, at),
+    match homes.spare(number) {
+        Some(home) => !is_spare_allowed(problem, labels, home, at),
         None => true,
     }
 }
@@ -133,47 +131,54 @@ pub fn term_allowed(
     labels: &Labels,
     homes: &Homes,
     at: u32,
-    term: &RowArg,
+    term: Argument<'_>,
 ) -> bool
     requires at { at < length labels.now }
     requires homes { (names : derivation.Names) × AreHomes names labels.now homes.now }
     ensures { (names : derivation.Names) → AreHomes names labels.now homes.now → result
-        ≡ term_allowed problem.now names (get_or labels.now at []) (the_row_arg term.now) }
+        ≡ term_allowed problem.now names (get_or labels.now at []) (the_argument term.entry) }
 {
     match term {
-        RowArg::Term(t) => is_allowed(problem, labels, homes, at, t),
-        RowArg::None | RowArg::Name(_) => true,
+        Argument::Term(t) => is_allowed(problem, labels, homes, at, t),
+        Argument::None | Argument::Name(_) => true,
     }
 }
 
-fn is_unknown_item(names: &Names, item: RowItem) -> bool
-    ensures { result ≡ any_item (is_unknown (the_names names.now)) (item ∷ []) }
+fn is_unknown_item(homes: &Homes, item: RowItem) -> bool
+    ensures { result ≡ any_item (is_unknown_at homes.now) (item ∷ []) }
 {
     match item {
         RowItem::Var(_) | RowItem::Fun(_, _) => false,
-        RowItem::Eigen(number) => eigen_named(names, number).is_none(),
-        RowItem::Spare(number) => spare_named(names, number).is_none(),
+        RowItem::Eigen(number) => homes.eigen(number).is_none(),
+        RowItem::Spare(number) => homes.spare(number).is_none(),
     }
 }
 
-fn is_unknown_in(names: &Names, t: &TermRow) -> bool
-    ensures { result ≡ any_leaf (is_unknown (the_names names.now)) t.now }
+fn is_unknown_in(homes: &Homes, t: &TermRow) -> bool
+    ensures { result ≡ any_leaf (is_unknown_at homes.now) t.now }
 {
     for item in t.items() {
-        if is_unknown_item(names, *item) {
+        if is_unknown_item(homes, *item) {
             return true;
         }
     }
     false
 }
 
-/// Whether each name of the argument is listed.
-pub fn is_known(names: &Names, term: &RowArg) -> bool
-    ensures { result ≡ is_known (the_names names.now) (the_row_arg term.now) }
+fn is_known_at(homes: &Homes, term: Argument<'_>) -> bool
+    ensures { result ≡ is_known_at homes.now (the_argument term.entry) }
 {
     match term {
-        RowArg::None => true,
-        RowArg::Term(t) => !is_unknown_in(names, t),
-        RowArg::Name(number) => eigen_named(names, *number).is_some(),
+        Argument::None => true,
+        Argument::Term(t) => !is_unknown_in(homes, t),
+        Argument::Name(number) => homes.eigen(number).is_some(),
     }
+}
+
+/// Whether each name of the argument is listed.
+pub fn is_known(homes: &Homes, term: Argument<'_>) -> bool
+    ensures { (names : derivation.Names) → (table : List derivation.Label)
+        → AreHomes names table homes.now → result ≡ is_known names (the_argument term.entry) }
+{
+    is_known_at(homes, term)
 }

@@ -1,6 +1,6 @@
 //! What the rules demand of a use step, over the tables of a state.
 
-ghost use Rattle.std.specs.Prelude.{◌≡◌, ◌&&◌, ◌<◌, [], get_or, length};
+ghost use Rattle.std.specs.Prelude.{◌≡◌, ◌&&◌, ◌<◌, List, [], get_or, length};
 ghost use Rattle.calculus.specs.Calculus as calculus;
 ghost use Rattle.calculus.specs.Calculus.{character_is_new, conditions_of_use, eigen_is_new};
 ghost use Rattle.calculus.specs.Calculus.{first_fault, is_reachable, label_after};
@@ -10,16 +10,15 @@ ghost use Rattle.derivation_check.specs.DemandsView.{the_demands};
 ghost use Rattle.derivation_check.specs.HomesView.{AreHomes};
 ghost use Rattle.derivation_check.specs.StateView.{Tells};
 ghost use Rattle.sequent_calc.specs.ChildrenView.{faulty};
-ghost use Rattle.sequent_calc.specs.DerivationView.{the_names};
-ghost use Rattle.derivation_text.specs.RowView.{the_row_arg};
-ghost use Rattle.sequent_calc.specs.StepView.{the_modal};
+ghost use Rattle.derivation_check.specs.ArgumentView.{the_argument, the_label_argument};
 
 use crate::allowed::{home_is, is_known, term_allowed};
+use crate::argument::{Argument, LabelArgument, term_form};
 use crate::state::State;
-use derivation_branch::{Labels, NumberSet, reaches};
-use derivation_text::RowArg;
+use derivation_branch::NumberSet;
+use label_table::{Labels, reaches};
 use logic_rules::{Kind, Logic, Problem};
-use sequent_calc::{ModalArg, Names, StepFault, arguments_fit};
+use sequent_calc::{StepFault, arguments_fit};
 
 /// Which demands of a use step are met, in the order in which they are judged.
 #[derive(Clone, Copy)]
@@ -58,32 +57,32 @@ fn first_unmet(demands: Demands) -> Option<StepFault>
 }
 
 // Whether a nu step leads to the label of the components.
-fn is_reachable(logic: Logic, labels: &Labels, from: u32, at: u32, modal: &ModalArg) -> bool
+fn is_reachable(logic: Logic, labels: &Labels, from: u32, at: u32, modal: LabelArgument) -> bool
     requires from { from < length labels.now }
     requires at { at < length labels.now }
     ensures { get_or labels.now at []
-        ≡ label_after logic (get_or labels.now from []) (the_modal modal.now)
-        → result ≡ is_reachable logic (get_or labels.now from []) (the_modal modal.now) }
+        ≡ label_after logic (get_or labels.now from []) (the_label_argument labels.now modal)
+        → result ≡ is_reachable logic (get_or labels.now from []) (the_label_argument labels.now modal) }
 {
     match modal {
-        ModalArg::To(_) => reaches(labels, logic, from, at),
-        ModalArg::None | ModalArg::New(_) => true,
+        LabelArgument::To(_) => reaches(labels, logic, from, at),
+        LabelArgument::None | LabelArgument::New(_) => true,
     }
 }
 
 // Whether the mark or eigenvariable that the step brings occurs nowhere in the current sequent.
-fn is_new(eigens: &NumberSet, marks: &NumberSet, modal: &ModalArg, term: &RowArg) -> bool
+fn is_new(eigens: &NumberSet, marks: &NumberSet, modal: LabelArgument, term: Argument<'_>) -> bool
     ensures { (names : derivation.Names) → (s : derivation.Sequent)
-        → Tells names eigens.now marks.now s → result
-        ≡ (character_is_new names s (the_modal modal.now) && eigen_is_new s (the_row_arg term.now)) }
+        → (table : List derivation.Label) → Tells names eigens.now marks.now s → result
+        ≡ (character_is_new names s (the_label_argument table modal) && eigen_is_new s (the_argument term.entry)) }
 {
     let mark_is_new = match modal {
-        ModalArg::New(number) => !marks.holds(*number),
-        ModalArg::None | ModalArg::To(_) => true,
+        LabelArgument::New(number) => !marks.holds(number),
+        LabelArgument::None | LabelArgument::To(_) => true,
     };
     let eigen_is_new = match term {
-        RowArg::Name(number) => !eigens.holds(*number),
-        RowArg::None | RowArg::Term(_) => true,
+        Argument::Name(number) => !eigens.holds(number),
+        Argument::None | Argument::Term(_) => true,
     };
     mark_is_new && eigen_is_new
 }
@@ -92,33 +91,33 @@ fn is_new(eigens: &NumberSet, marks: &NumberSet, modal: &ModalArg, term: &RowArg
 /// `from`, and its components at that of the place `at`.
 pub fn use_fault(
     problem: &Problem,
-    names: &Names,
     state: &State<'_>,
     kind: Kind,
     from: u32,
     at: u32,
-    modal: &ModalArg,
-    term: &RowArg,
+    modal: LabelArgument,
+    term: Argument<'_>,
 ) -> Option<StepFault>
     requires from { from < length state.now.labels }
     requires at { at < length state.now.labels }
-    requires homes { AreHomes (the_names names.now) state.now.labels state.now.homes }
-    ensures { (s : derivation.Sequent) → (e : derivation.Entry)
-        → Tells (the_names names.now) state.now.eigens state.now.marks s
+    requires homes { (names : derivation.Names) × AreHomes names state.now.labels state.now.homes }
+    ensures { (names : derivation.Names) → AreHomes names state.now.labels state.now.homes
+        → (s : derivation.Sequent) → (e : derivation.Entry)
+        → Tells names state.now.eigens state.now.marks s
         → kind.modal ≡ modal_of problem.now.setting.logic e.sign e.formula
         → kind.shape ≡ shape_of e.sign e.formula
         → get_or state.now.labels from [] ≡ e.label
         → get_or state.now.labels at []
-        ≡ label_after problem.now.setting.logic e.label (the_modal modal.now)
-        → (c : calculus.Children) → first_fault (conditions_of_use problem.now (the_names names.now)
-        s e (the_modal modal.now) (the_row_arg term.now)) c ≡ faulty c result }
+        ≡ label_after problem.now.setting.logic e.label (the_label_argument state.now.labels modal)
+        → (c : calculus.Children) → first_fault (conditions_of_use problem.now names
+        s e (the_label_argument state.now.labels modal) (the_argument term.entry)) c ≡ faulty c result }
 {
     let setting = problem.setting();
     let logic = setting.logic();
     let labels = &state.labels;
     first_unmet(Demands {
-        arguments_fit: arguments_fit(kind, modal.form(), term.form()),
-        is_known: is_known(names, term),
+        arguments_fit: arguments_fit(kind, modal.form(), term_form(term)),
+        is_known: is_known(&state.homes, term),
         is_reachable: is_reachable(logic, labels, from, at, modal),
         is_new: is_new(&state.eigens, &state.marks, modal, term),
         home_is: home_is(labels, &state.homes, at, term),

@@ -3,9 +3,11 @@
 
 mod acceptance;
 mod allowed;
+mod argument;
 mod demands;
 mod homes;
 mod judgement;
+mod label_places;
 mod occurring;
 mod open_sequents;
 mod state;

@@ -1,30 +1,29 @@
 //! What a use step brings to a branch: eigenvariables, and marks in labels and in homes of names.
 
 ghost use Rattle.std.specs.Prelude.{◌≡◌, ◌<◌, ◌||◌, ◌&&◌, ◌∷◌, [], ℕ, false, get_or, length, OnOk};
-ghost use Rattle.calculus.specs.Calculus.{holds_character, is_eigen, is_in_home, label_after};
+ghost use Rattle.calculus.specs.Calculus.{holds_character, is_eigen, label_after};
 ghost use Rattle.calculus.specs.Derivations as derivation;
 ghost use Rattle.calculus.specs.Derivations.{character_eq, new_mark};
 ghost use Rattle.calculus.specs.declared.setting.Logic.{Logic};
 ghost use Rattle.calculus.specs.Substitution.{any_leaf};
 ghost use Rattle.calculus.specs.Syntax as tree;
 ghost use Rattle.formula_text.specs.Rows.{any_item};
-ghost use Rattle.derivation_branch.specs.Occurring.{IsLonger, holds, in_argument, in_modal};
-ghost use Rattle.derivation_branch.specs.TableView.{IsLabelAt};
+ghost use Rattle.label_table.specs.Longer.{IsLonger};
+ghost use Rattle.derivation_branch.specs.Occurring.{holds, in_argument, in_modal};
+ghost use Rattle.label_table.specs.LabelTable.{IsLabelAt};
 ghost use Rattle.derivation_check.specs.HomesView.{AreHomes, is_in_home_at};
 ghost use Rattle.derivation_check.specs.ToldView.{AreThere};
 ghost use Rattle.logic_rules.specs.MarkView.{the_character};
-ghost use Rattle.derivation_text.specs.RowView.{the_row_arg};
-ghost use Rattle.sequent_calc.specs.DerivationView.{the_names};
-ghost use Rattle.sequent_calc.specs.StepView.{the_modal};
+ghost use Rattle.derivation_check.specs.ArgumentView.{the_argument, the_label_argument};
 
+use crate::argument::{Argument, LabelArgument};
 use crate::homes::{Homes, Place};
 use crate::told_homes::ToldHomes;
 use cop_base::NoMemory;
-use derivation_branch::{Labels, NumberSet, add_eigens};
-use derivation_text::RowArg;
+use derivation_branch::{NumberSet, add_eigens};
 use formula_text::{RowItem, TermRow};
+use label_table::Labels;
 use logic_rules::Mark;
-use sequent_calc::{Home, ModalArg, Names, eigen_named, spare_named};
 
 fn add_mark(set: &mut NumberSet, mark: Mark) -> Result<(), NoMemory>
     ensures held { OnOk result ((n : ℕ) → holds set.new n
@@ -79,34 +78,8 @@ fn add_home(
     Ok(())
 }
 
-// Whether the home of an eigenvariable has marks.
-fn has_eigen_marks(names: &Names, number: u32) -> bool
-    ensures { result ≡ false → (m : derivation.Mark)
-        → is_in_home (the_names names.now) m (tree.eigen number) ≡ false }
-{
-    match eigen_named(names, number) {
-        Some(name) => !name.1.items().is_empty(),
-        None => false,
-    }
-}
-
-// The same of a spare constant.
-fn has_spare_marks(names: &Names, number: u32) -> bool
-    ensures { result ≡ false → (m : derivation.Mark)
-        → is_in_home (the_names names.now) m (tree.spare number) ≡ false }
-{
-    match spare_named(names, number) {
-        Some(name) => match &name.1 {
-            Home::At(label) => !label.items().is_empty(),
-            Home::Anywhere => false,
-        },
-        None => false,
-    }
-}
-
 // Adds the marks in the home of an eigenvariable.
 fn add_home_of_eigen(
-    names: &Names,
     labels: &Labels,
     homes: &Homes,
     told: &mut ToldHomes,
@@ -114,7 +87,7 @@ fn add_home_of_eigen(
     at: u32,
     number: u32,
 ) -> Result<(), NoMemory>
-    requires homes { AreHomes (the_names names.now) labels.now homes.now }
+    requires homes { (names : derivation.Names) × AreHomes names labels.now homes.now }
     requires there { AreThere labels.now at marks.old told.old }
     ensures held { OnOk result ((n : ℕ) → holds marks.new n
         ≡ (holds marks.old n
@@ -122,9 +95,6 @@ fn add_home_of_eigen(
     ensures kept { OnOk result (IsLonger marks.old marks.new) }
     ensures there { OnOk result (AreThere labels.now at marks.new told.new) }
 {
-    if !has_eigen_marks(names, number) {
-        return Ok(());
-    }
     match homes.eigen(number) {
         Some(home) => add_home(labels, told, marks, at, home),
         None => Ok(()),
@@ -133,7 +103,6 @@ fn add_home_of_eigen(
 
 // Adds the marks in the home of a spare constant.
 fn add_home_of_spare(
-    names: &Names,
     labels: &Labels,
     homes: &Homes,
     told: &mut ToldHomes,
@@ -141,7 +110,7 @@ fn add_home_of_spare(
     at: u32,
     number: u32,
 ) -> Result<(), NoMemory>
-    requires homes { AreHomes (the_names names.now) labels.now homes.now }
+    requires homes { (names : derivation.Names) × AreHomes names labels.now homes.now }
     requires there { AreThere labels.now at marks.old told.old }
     ensures held { OnOk result ((n : ℕ) → holds marks.new n
         ≡ (holds marks.old n
@@ -149,11 +118,8 @@ fn add_home_of_spare(
     ensures kept { OnOk result (IsLonger marks.old marks.new) }
     ensures there { OnOk result (AreThere labels.now at marks.new told.new) }
 {
-    if !has_spare_marks(names, number) {
-        return Ok(());
-    }
-    match homes.spares.get(&number) {
-        Some(Place::At(home)) => add_home(labels, told, marks, at, *home),
+    match homes.spare(number) {
+        Some(Place::At(home)) => add_home(labels, told, marks, at, home),
         Some(Place::Anywhere) => Ok(()),
         None => Ok(()),
     }
@@ -161,7 +127,6 @@ fn add_home_of_spare(
 
 // Adds the marks in the home of a name.
 fn add_home_of_item(
-    names: &Names,
     labels: &Labels,
     homes: &Homes,
     told: &mut ToldHomes,
@@ -169,7 +134,7 @@ fn add_home_of_item(
     at: u32,
     item: RowItem,
 ) -> Result<(), NoMemory>
-    requires homes { AreHomes (the_names names.now) labels.now homes.now }
+    requires homes { (names : derivation.Names) × AreHomes names labels.now homes.now }
     requires there { AreThere labels.now at marks.old told.old }
     ensures held { OnOk result ((n : ℕ) → holds marks.new n
         ≡ (holds marks.old n
@@ -178,15 +143,14 @@ fn add_home_of_item(
     ensures there { OnOk result (AreThere labels.now at marks.new told.new) }
 {
     match item {
-        RowItem::Eigen(number) => add_home_of_eigen(names, labels, homes, told, marks, at, number),
-        RowItem::Spare(number) => add_home_of_spare(names, labels, homes, told, marks, at, number),
+        RowItem::Eigen(number) => add_home_of_eigen(labels, homes, told, marks, at, number),
+        RowItem::Spare(number) => add_home_of_spare(labels, homes, told, marks, at, number),
         RowItem::Var(_) | RowItem::Fun(_, _) => Ok(()),
     }
 }
 
 // Adds the marks in the homes of the names of a term.
 fn add_homes(
-    names: &Names,
     labels: &Labels,
     homes: &Homes,
     told: &mut ToldHomes,
@@ -194,7 +158,7 @@ fn add_homes(
     at: u32,
     t: &TermRow,
 ) -> Result<(), NoMemory>
-    requires homes { AreHomes (the_names names.now) labels.now homes.now }
+    requires homes { (names : derivation.Names) × AreHomes names labels.now homes.now }
     requires there { AreThere labels.now at marks.old told.old }
     ensures held { OnOk result ((n : ℕ) → holds marks.new n
         ≡ (holds marks.old n
@@ -203,7 +167,7 @@ fn add_homes(
     ensures there { OnOk result (AreThere labels.now at marks.new told.new) }
 {
     for item in t.items() {
-        add_home_of_item(names, labels, homes, told, marks, at, *item)?;
+        add_home_of_item(labels, homes, told, marks, at, *item)?;
     }
     Ok(())
 }
@@ -213,54 +177,53 @@ pub fn add_modal(
     labels: &Labels,
     marks: &mut NumberSet,
     at: u32,
-    modal: &ModalArg,
+    modal: LabelArgument,
 ) -> Result<(), NoMemory>
     requires { (from : derivation.Label) × (logic : Logic)
-        × IsLabelAt labels.now at (label_after logic from (the_modal modal.now)) }
+        × IsLabelAt labels.now at (label_after logic from (the_label_argument labels.now modal)) }
     ensures held { OnOk result ((n : ℕ) → holds marks.new n
-        ≡ (holds marks.old n || in_modal (new_mark n) (the_modal modal.now))) }
+        ≡ (holds marks.old n || in_modal (new_mark n) (the_label_argument labels.now modal))) }
     ensures kept { OnOk result (IsLonger marks.old marks.new) }
 {
     match modal {
-        ModalArg::None => Ok(()),
-        ModalArg::To(_) => add_marks(labels, marks, at),
-        ModalArg::New(number) => marks.add(*number),
+        LabelArgument::None => Ok(()),
+        LabelArgument::To(_) => add_marks(labels, marks, at),
+        LabelArgument::New(number) => marks.add(number),
     }
 }
 
-fn add_argument_eigens(eigens: &mut NumberSet, term: &RowArg) -> Result<(), NoMemory>
+fn add_argument_eigens(eigens: &mut NumberSet, term: Argument<'_>) -> Result<(), NoMemory>
     ensures held { OnOk result ((n : ℕ) → holds eigens.new n
-        ≡ (holds eigens.old n || in_argument (is_eigen n) (the_row_arg term.now))) }
+        ≡ (holds eigens.old n || in_argument (is_eigen n) (the_argument term.entry))) }
     ensures kept { OnOk result (IsLonger eigens.old eigens.new) }
 {
     match term {
-        RowArg::None => Ok(()),
-        RowArg::Term(t) => add_eigens(eigens, t),
-        RowArg::Name(number) => eigens.add(*number),
+        Argument::None => Ok(()),
+        Argument::Term(t) => add_eigens(eigens, t),
+        Argument::Name(number) => eigens.add(number),
     }
 }
 
 fn add_argument_homes(
-    names: &Names,
     labels: &Labels,
     homes: &Homes,
     told: &mut ToldHomes,
     marks: &mut NumberSet,
     at: u32,
-    term: &RowArg,
+    term: Argument<'_>,
 ) -> Result<(), NoMemory>
-    requires homes { AreHomes (the_names names.now) labels.now homes.now }
+    requires homes { (names : derivation.Names) × AreHomes names labels.now homes.now }
     requires there { AreThere labels.now at marks.old told.old }
     ensures held { OnOk result ((n : ℕ) → holds marks.new n
         ≡ (holds marks.old n || in_argument (is_in_home_at labels.now homes.now (new_mark n))
-        (the_row_arg term.now))) }
+        (the_argument term.entry))) }
     ensures kept { OnOk result (IsLonger marks.old marks.new) }
     ensures there { OnOk result (AreThere labels.now at marks.new told.new) }
 {
     match term {
-        RowArg::None => Ok(()),
-        RowArg::Term(t) => add_homes(names, labels, homes, told, marks, at, t),
-        RowArg::Name(number) => add_home_of_eigen(names, labels, homes, told, marks, at, *number),
+        Argument::None => Ok(()),
+        Argument::Term(t) => add_homes(labels, homes, told, marks, at, t),
+        Argument::Name(number) => add_home_of_eigen(labels, homes, told, marks, at, number),
     }
 }
 
@@ -269,11 +232,11 @@ fn add_argument_homes(
 pub fn add_brought_eigens(
     eigens: &mut NumberSet,
     binds: bool,
-    term: &RowArg,
+    term: Argument<'_>,
 ) -> Result<(), NoMemory>
     ensures held { OnOk result ((n : ℕ) → holds eigens.new n
         ≡ (holds eigens.old n || (binds
-        && in_argument (is_eigen n) (the_row_arg term.now)))) }
+        && in_argument (is_eigen n) (the_argument term.entry)))) }
     ensures kept { OnOk result (IsLonger eigens.old eigens.new) }
 {
     if binds {
@@ -285,25 +248,24 @@ pub fn add_brought_eigens(
 
 /// The same of the marks in the homes of names, where the step leads to the label at a place.
 pub fn add_brought_homes(
-    names: &Names,
     labels: &Labels,
     homes: &Homes,
     told: &mut ToldHomes,
     marks: &mut NumberSet,
     at: u32,
     binds: bool,
-    term: &RowArg,
+    term: Argument<'_>,
 ) -> Result<(), NoMemory>
-    requires homes { AreHomes (the_names names.now) labels.now homes.now }
+    requires homes { (names : derivation.Names) × AreHomes names labels.now homes.now }
     requires there { AreThere labels.now at marks.old told.old }
     ensures held { OnOk result ((n : ℕ) → holds marks.new n
         ≡ (holds marks.old n || (binds
-        && in_argument (is_in_home_at labels.now homes.now (new_mark n)) (the_row_arg term.now)))) }
+        && in_argument (is_in_home_at labels.now homes.now (new_mark n)) (the_argument term.entry)))) }
     ensures kept { OnOk result (IsLonger marks.old marks.new) }
     ensures there { OnOk result (AreThere labels.now at marks.new told.new) }
 {
     if binds {
-        add_argument_homes(names, labels, homes, told, marks, at, term)
+        add_argument_homes(labels, homes, told, marks, at, term)
     } else {
         Ok(())
     }

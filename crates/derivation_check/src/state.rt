@@ -3,18 +3,21 @@
 ghost use Rattle.std.specs.Prelude.{◌≡◌, ◌∷◌, [], true, IfOk, OnOk, map};
 ghost use Rattle.calculus.specs.Derivations as derivation;
 ghost use Rattle.calculus.specs.Derivations.{first_sequent};
+ghost use Rattle.calculus.specs.Versions.{stated};
+ghost use Rattle.derivation_check.specs.ArgumentView.{ArePlaces};
 ghost use Rattle.derivation_check.specs.OpenSequents.{IsNested, waiting_in};
 ghost use Rattle.derivation_check.specs.StateView.{IsKept, the_sequent, the_sequents};
-ghost use Rattle.sequent_calc.specs.DerivationView.{the_names};
 
 use crate::homes::Homes;
+use crate::label_places::add_labels;
 use crate::open_sequents::{BranchEntry, OpenSequents};
 use crate::told_homes::ToldHomes;
 use cop_base::NoMemory;
-use derivation_branch::{Labels, NumberSet, Outline, SharedEntry, Substitutions};
+use derivation_branch::{NumberSet, Outline, SharedEntry, Substitutions};
+use derivation_text::TextDerivation;
 use formula_core::Sign;
+use label_table::Labels;
 use logic_rules::Problem;
-use sequent_calc::Names;
 use std::alloc::Global;
 
 /// The open sequents, over tables that grow with the steps, and what occurs in the current one.
@@ -34,10 +37,16 @@ pub struct State<'a> {
 }
 
 impl<'a> State<'a> {
-    /// The problem's formula, to be shown at the root.
-    pub fn new(alloc: Global, problem: &'a Problem, names: &Names) -> Result<State<'a>, NoMemory>
-        ensures kept { IfOk result (λ s. IsKept (the_names names.now) s) }
-        ensures first { IfOk result (λ s. the_sequents s ≡ first_sequent problem.now ∷ []) }
+    /// The problem's formula, to be shown at the root, with the names of a derivation, and the places
+    /// of its labels by their numbers.
+    pub fn new(
+        alloc: Global,
+        problem: &'a Problem,
+        d: &TextDerivation,
+    ) -> Result<(State<'a>, Vec<u32>), NoMemory>
+        ensures kept { IfOk result (λ r. IsKept (stated d.now).names r.0) }
+        ensures first { IfOk result (λ r. the_sequents r.0 ≡ first_sequent problem.now ∷ []) }
+        ensures places { IfOk result (λ r. ArePlaces d.now.labels r.0.labels r.1.items) }
     {
         let formula = problem.formula();
         let outline = Outline::new(alloc, formula)?;
@@ -57,11 +66,12 @@ impl<'a> State<'a> {
         let sequents = OpenSequents::new(alloc, first)?;
         let substitutions = Substitutions::new(alloc);
         let mut labels = Labels::new(alloc);
-        let homes = Homes::new(alloc, &mut labels, names)?;
+        let places = add_labels(alloc, &mut labels, d.labels())?;
+        let homes = Homes::new(alloc, places.as_slice(), d)?;
         let eigens = NumberSet::new(alloc);
         let marks = NumberSet::new(alloc);
         let told = ToldHomes::new(alloc);
-        Ok(State {
+        let state = State {
             outline,
             sequents,
             substitutions,
@@ -70,7 +80,8 @@ impl<'a> State<'a> {
             eigens,
             marks,
             told,
-        })
+        };
+        Ok((state, places))
     }
 
     /// Closes the current sequent, and goes on with the one that waited last.
@@ -81,6 +92,7 @@ impl<'a> State<'a> {
             → IsKept names self.old → IsKept names self.new) }
         ensures closed { OnOk result (the_sequents self.new
             ≡ map (the_sequent self.old.substitutions self.old.labels) (waiting_in self.old.sequents)) }
+        ensures labels { OnOk result (self.new.labels ≡ self.old.labels) }
     {
         let next = self.sequents.close()?;
         match next {

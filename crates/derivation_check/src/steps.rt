@@ -1,31 +1,36 @@
 //! The steps of a derivation one by one, until the first that breaks a rule.
 
-ghost use Rattle.std.specs.Prelude.{◌≡◌, ◌+◌, ◌∷◌, ◌≤◌, List, None, Some, Err, IfOk, OnOk};
-ghost use Rattle.std.specs.Prelude.{length, map, true};
+ghost use Rattle.std.specs.Prelude.{◌≡◌, ◌+◌, ◌∷◌, ◌^◌, ◌≤◌, List, None, Some, Err, IfOk, OnOk};
+ghost use Rattle.std.specs.Prelude.{IsTrue, length, map, true};
 ghost use Rattle.std.specs.Option.{option_map_or};
 ghost use Rattle.calculus.specs.Calculus.{apply, close_branch, entry_of, use_entry};
 ghost use Rattle.calculus.specs.Derivations as derivation;
-ghost use Rattle.calculus.specs.Judgement.{at_end, verdict_from, verdict_on};
+ghost use Rattle.calculus.specs.Judgement.{at_end, verdict_from};
 ghost use Rattle.calculus.specs.declared.fault.StepFault.{StepFault};
 ghost use Rattle.derivation_check.specs.OpenSequents.{waiting_in};
 ghost use Rattle.derivation_check.specs.StateView.{IsKept, LeadsTo, StandsOn, the_current};
 ghost use Rattle.derivation_check.specs.StateView.{IsNumbered, the_entry, the_sequent, the_sequents};
 ghost use Rattle.derivation_check.specs.VerdictView.{the_verdict};
-ghost use Rattle.derivation_text.specs.RowDerivationView.{the_row_derivation};
-ghost use Rattle.derivation_text.specs.RowView.{the_row_arg, the_row_step};
-ghost use Rattle.sequent_calc.specs.DerivationView.{the_names};
-ghost use Rattle.sequent_calc.specs.StepView.{the_modal};
+ghost use Rattle.calculus.specs.VersionJudgement.{step_line_in, verdict_in};
+ghost use Rattle.calculus.specs.Versions.{numbering, stated, stated_step, stated_term};
+ghost use Rattle.derivation_check.specs.ArgumentView.{ArePlaces, IsArgumentWithin, the_argument, the_label_argument};
+ghost use Rattle.derivation_text.specs.Listed.{are_listed, is_arg_listed};
+ghost use Rattle.derivation_text.specs.NumbersView.{the_numbered_arg, the_numbered_step};
+ghost use Rattle.label_table.specs.Longer.{IsLonger};
 
+use crate::argument::{Argument, LabelArgument};
+use crate::label_places::label_argument;
 use crate::open_sequents::BranchEntry;
 use crate::state::State;
 use crate::using::use_entry;
 use crate::verdict::Verdict;
 use calculus::fault::CheckFault;
+use calculus::version::Version;
 use cop_base::NoMemory;
 use derivation_branch::connects;
-use derivation_text::{RowArg, RowDerivation, RowStep};
+use derivation_text::{NumberedStep, NumberedTerm, TermList, TextDerivation};
 use logic_rules::Problem;
-use sequent_calc::{ApplyFault, ModalArg, Names, StepFault};
+use sequent_calc::{ApplyFault, StepFault};
 use std::alloc::Global;
 
 // Entries are numbered from 1.
@@ -59,6 +64,7 @@ fn close_branch<'a>(
         (Some (the_entry state.old.substitutions state.old.labels shown.entry)))
         (map (the_sequent state.old.substitutions state.old.labels) (waiting_in state.old.sequents))
         (the_sequents state.new)) }
+    ensures labels { OnOk result (state.new.labels ≡ state.old.labels) }
     ensures fault { (f : StepFault) → result ≡ Err (ApplyFault.Fault f) → close_branch
         (Some (the_entry state.old.substitutions state.old.labels given.entry))
         (Some (the_entry state.old.substitutions state.old.labels shown.entry)) ≡ Err f }
@@ -80,28 +86,32 @@ fn close_branch<'a>(
 // Uses the entry of a number.
 fn use_numbered<'a>(
     problem: &Problem,
-    names: &Names,
     state: &mut State<'a>,
     number: u32,
-    modal: &ModalArg,
-    term: &'a RowArg,
+    modal: LabelArgument,
+    term: Argument<'a>,
 ) -> Result<(), ApplyFault>
+    requires within { IsArgumentWithin state.old.labels modal }
     requires is_open { state.old.sequents.is_open ≡ true }
-    requires kept { IsKept (the_names names.now) state.old }
-    ensures kept { OnOk result (IsKept (the_names names.now) state.new) }
-    ensures leads { OnOk result (LeadsTo (use_entry problem.now (the_names names.now)
+    requires kept { (names : derivation.Names) × IsKept names state.old }
+    ensures kept { OnOk result ((names : derivation.Names)
+        → IsKept names state.old → IsKept names state.new) }
+    ensures leads { OnOk result ((names : derivation.Names) → IsKept names state.old
+        → LeadsTo (use_entry problem.now names
         (the_current state.old) (entry_of (the_current state.old) number)
-        (the_modal modal.now) (the_row_arg term.entry.now))
+        (the_label_argument state.old.labels modal) (the_argument term.entry))
         (map (the_sequent state.old.substitutions state.old.labels) (waiting_in state.old.sequents))
         (the_sequents state.new)) }
+    ensures grown { OnOk result (IsLonger state.old.labels state.new.labels) }
     ensures fault { (f : StepFault) → result ≡ Err (ApplyFault.Fault f)
-        → use_entry problem.now (the_names names.now) (the_current state.old)
+        → (names : derivation.Names) → IsKept names state.old
+        → use_entry problem.now names (the_current state.old)
         (entry_of (the_current state.old) number)
-        (the_modal modal.now) (the_row_arg term.entry.now) ≡ Err f }
+        (the_label_argument state.old.labels modal) (the_argument term.entry) ≡ Err f }
 {
     let used = entry_of(state.sequents.branch.as_slice(), number);
     match used {
-        Some(used) => use_entry(problem, names, state, used, modal, term),
+        Some(used) => use_entry(problem, state, used, modal, term),
         None => Err(ApplyFault::Fault(StepFault::NoEntry)),
     }
 }
@@ -116,6 +126,7 @@ fn close_numbered<'a>(state: &mut State<'a>, given: u32, shown: u32) -> Result<(
         (entry_of (the_current state.old) given) (entry_of (the_current state.old) shown))
         (map (the_sequent state.old.substitutions state.old.labels) (waiting_in state.old.sequents))
         (the_sequents state.new)) }
+    ensures labels { OnOk result (state.new.labels ≡ state.old.labels) }
     ensures fault { (f : StepFault) → result ≡ Err (ApplyFault.Fault f) → close_branch
         (entry_of (the_current state.old) given) (entry_of (the_current state.old) shown) ≡ Err f }
 {
@@ -130,46 +141,75 @@ fn close_numbered<'a>(state: &mut State<'a>, given: u32, shown: u32) -> Result<(
     }
 }
 
+// The argument of a step on a quantifier.
+fn argument<'a>(terms: &'a TermList, term: NumberedTerm) -> Argument<'a>
+    requires { IsTrue (is_arg_listed (length terms.now) (the_numbered_arg term)) }
+    ensures { the_argument result ≡ stated_term terms.entry.now (the_numbered_arg term) }
+{
+    match term {
+        NumberedTerm::None => Argument::None,
+        NumberedTerm::Term(number) => Argument::Term(terms.row(number)),
+        NumberedTerm::Name(number) => Argument::Name(number),
+    }
+}
+
 // Replaces the current sequent by those that a step leads to.
 fn take_step<'a>(
     problem: &Problem,
-    names: &Names,
+    d: &'a TextDerivation,
+    places: &[u32],
     state: &mut State<'a>,
-    step: &'a RowStep,
+    step: NumberedStep,
 ) -> Result<(), ApplyFault>
+    requires listed { IsTrue (are_listed (length d.now.labels) (length d.now.terms) (the_numbered_step step)) }
+    requires places { ArePlaces d.now.labels state.old.labels places.now }
     requires is_open { state.old.sequents.is_open ≡ true }
-    requires kept { IsKept (the_names names.now) state.old }
-    ensures kept { OnOk result (IsKept (the_names names.now) state.new) }
-    ensures leads { OnOk result (LeadsTo (apply problem.now (the_names names.now)
-        (the_current state.old) (the_row_step step.entry.now))
+    requires kept { (names : derivation.Names) × IsKept names state.old }
+    ensures kept { OnOk result ((names : derivation.Names)
+        → IsKept names state.old → IsKept names state.new) }
+    ensures places { OnOk result (ArePlaces d.entry.now.labels state.new.labels places.now) }
+    ensures leads { OnOk result ((names : derivation.Names) → IsKept names state.old
+        → LeadsTo (apply problem.now names
+        (the_current state.old) (stated_step d.entry.now.labels d.entry.now.terms (the_numbered_step step)))
         (map (the_sequent state.old.substitutions state.old.labels) (waiting_in state.old.sequents))
         (the_sequents state.new)) }
     ensures fault { (f : StepFault) → result ≡ Err (ApplyFault.Fault f)
-        → apply problem.now (the_names names.now) (the_current state.old) (the_row_step step.entry.now)
-        ≡ Err f }
+        → (names : derivation.Names) → IsKept names state.old
+        → apply problem.now names (the_current state.old)
+        (stated_step d.entry.now.labels d.entry.now.terms (the_numbered_step step)) ≡ Err f }
 {
     match step {
-        RowStep::Use { entry, modal, term } => use_numbered(
-            problem, names, state, *entry, modal, term,
+        NumberedStep::Use { entry, modal, term } => use_numbered(
+            problem,
+            state,
+            entry,
+            label_argument(places, modal),
+            argument(d.terms(), term),
         ),
-        RowStep::Axiom { given, shown } => close_numbered(state, *given, *shown),
+        NumberedStep::Axiom { given, shown } => close_numbered(state, given, shown),
     }
 }
 
 // Judges one step; `None` where it leads on.
 fn judge_step<'a>(
     problem: &Problem,
-    names: &Names,
+    d: &'a TextDerivation,
+    places: &[u32],
     state: &mut State<'a>,
-    step: &'a RowStep,
+    step: &NumberedStep,
     line: u64,
 ) -> Result<Option<Verdict>, NoMemory>
-    requires kept { IsKept (the_names names.now) state.old }
-    ensures kept { IfOk result (λ judged. judged ≡ None → IsKept (the_names names.now) state.new) }
-    ensures judged { IfOk result (λ judged. (rest : List derivation.Step)
-        → verdict_from problem.now (the_names names.now) (the_sequents state.old)
-        (the_row_step step.entry.now ∷ rest) line ≡ option_map_or the_verdict judged
-        (verdict_from problem.now (the_names names.now) (the_sequents state.new) rest (line + 1))) }
+    requires listed { IsTrue (are_listed (length d.now.labels) (length d.now.terms) (the_numbered_step step.now)) }
+    requires places { ArePlaces d.now.labels state.old.labels places.now }
+    requires kept { (names : derivation.Names) × IsKept names state.old }
+    ensures kept { IfOk result (λ judged. judged ≡ None → (names : derivation.Names)
+        → IsKept names state.old → IsKept names state.new) }
+    ensures places { IfOk result (λ judged. judged ≡ None → ArePlaces d.entry.now.labels state.new.labels places.now) }
+    ensures judged { IfOk result (λ judged. (names : derivation.Names) → IsKept names state.old
+        → (rest : List derivation.Step)
+        → verdict_from problem.now names (the_sequents state.old)
+        (stated_step d.entry.now.labels d.entry.now.terms (the_numbered_step step.now) ∷ rest) line ≡ option_map_or the_verdict judged
+        (verdict_from problem.now names (the_sequents state.new) rest (line + 1))) }
 {
     if !state.sequents.is_open {
         return Ok(Some(Verdict::Rejected {
@@ -177,7 +217,7 @@ fn judge_step<'a>(
             fault: CheckFault::AllClosed,
         }));
     }
-    match take_step(problem, names, state, step) {
+    match take_step(problem, d, places, state, *step) {
         Ok(()) => Ok(None),
         Err(ApplyFault::Fault(fault)) => Ok(Some(Verdict::Rejected {
             line,
@@ -201,20 +241,56 @@ fn at_end(state: &State<'_>, line: u64) -> Verdict
     }
 }
 
-/// The verdict on the steps of a derivation. Lines are counted as in its text: the first step
-/// stands in the line after those of the head and the names.
-pub fn judge(alloc: Global, problem: &Problem, d: &RowDerivation) -> Result<Verdict, NoMemory>
-    requires { 5 + length d.now.names.eigens + length d.now.names.spares + length d.now.steps ≤ u64.MAX }
-    ensures { IfOk result (λ v. the_verdict v ≡ verdict_on problem.now (the_row_derivation d.now)) }
+// The line of the first step: it comes after four lines and a line for each name, and in version 2 for each label and each term.
+fn first_step_line(version: Version, d: &TextDerivation) -> u64
+    requires { d.now ≡ numbering (stated d.now) }
+    ensures line { result ≡ step_line_in version (stated d.now) }
+    ensures bound { result ≤ 2 ^ 62 }
 {
-    let names = &d.names;
-    let mut state = State::new(alloc, problem, names)?;
-    let mut line = 5 + names.eigens.items().len() as u64 + names.spares.items().len() as u64;
-    for step in d.steps.items() {
-        if let Some(verdict) = judge_step(problem, names, &mut state, step, line)? {
+    let names = 5 + d.eigens().len() as u64 + d.spares().len() as u64;
+    match version {
+        Version::One => names,
+        Version::Two => names + u64::from(d.labels().count()) + u64::from(d.terms().count()),
+    }
+}
+
+// The verdict on the steps, the first of which stands in this line.
+fn judge_steps<'a>(
+    problem: &Problem,
+    d: &'a TextDerivation,
+    places: &[u32],
+    state: &mut State<'a>,
+    first_line: u64,
+) -> Result<Verdict, NoMemory>
+    requires bound { first_line ≤ 2 ^ 62 }
+    requires places { ArePlaces d.now.labels state.old.labels places.now }
+    requires kept { (names : derivation.Names) × IsKept names state.old }
+    ensures { IfOk result (λ v. (names : derivation.Names) → IsKept names state.old
+        → the_verdict v ≡ verdict_from problem.now names (the_sequents state.old)
+        (stated d.entry.now).steps first_line) }
+{
+    let mut line = first_line;
+    for step in d.steps() {
+        if let Some(verdict) = judge_step(problem, d, places, state, step, line)? {
             return Ok(verdict);
         }
         line += 1;
     }
-    Ok(at_end(&state, line))
+    Ok(at_end(state, line))
+}
+
+/// The verdict on the steps of a derivation. Lines are counted as in its text of this version.
+pub fn judge(
+    alloc: Global,
+    problem: &Problem,
+    version: Version,
+    d: &TextDerivation,
+) -> Result<Verdict, NoMemory>
+    requires { d.now ≡ numbering (stated d.now) }
+    ensures { IfOk result (λ v. the_verdict v ≡ verdict_in version problem.now (stated d.now)) }
+{
+    let (mut state, places) = State::new(alloc, problem, d)?;
+    let line = first_step_line(version, d);
+    let verdict = judge_steps(problem, d, places.as_slice(), &mut state, line)?;
+    Ok(verdict)
 }

@@ -1,7 +1,7 @@
 //! Homes whose marks a set of marks has.
 
 ghost use Rattle.std.specs.Prelude.{◌≡◌, ◌++◌, ◌∷◌, [], false, take, OnOk};
-ghost use Rattle.derivation_branch.specs.Occurring.{IsLonger};
+ghost use Rattle.label_table.specs.Longer.{IsLonger};
 ghost use Rattle.derivation_check.specs.ToldView.{AreCounted, is_told};
 
 use cop_base::NoMemory;

@@ -4,48 +4,50 @@ ghost use Rattle.std.specs.Prelude.{◌≡◌, ◌<◌, ◌∷◌, [], true, IfO
 ghost use Rattle.std.specs.Prelude.{length, map};
 ghost use Rattle.calculus.specs.Calculus.{label_after, term_fits, use_entry, with_argument};
 ghost use Rattle.calculus.specs.Calculus.{with_components};
+ghost use Rattle.calculus.specs.Derivations as derivation;
 ghost use Rattle.calculus.specs.Judgement.{open_after};
 ghost use Rattle.calculus.specs.Kinds.{components, shape_of};
 ghost use Rattle.calculus.specs.declared.fault.StepFault.{StepFault};
 ghost use Rattle.derivation_branch.specs.EntryView.{formula_under};
-ghost use Rattle.derivation_branch.specs.Occurring.{IsLonger};
+ghost use Rattle.label_table.specs.Longer.{IsLonger};
 ghost use Rattle.derivation_branch.specs.Putting.{AreClosed, IsClosed};
-ghost use Rattle.derivation_branch.specs.TableView.{IsLabelAt, the_value};
+ghost use Rattle.label_table.specs.LabelTable.{IsLabelAt};
+ghost use Rattle.derivation_branch.specs.TableView.{the_value};
 ghost use Rattle.derivation_check.specs.OpenSequents.{waiting_in};
 ghost use Rattle.derivation_check.specs.StateView.{HasArgument, IsClosedArgument, IsKept};
 ghost use Rattle.derivation_check.specs.StateView.{IsLabelAfter, LeadsTo, StandsOn, the_current};
 ghost use Rattle.derivation_check.specs.StateView.{the_entry, the_sequent, the_sequents};
 ghost use Rattle.formula_core.specs.FormulaView.{the_formula};
-ghost use Rattle.sequent_calc.specs.DerivationView.{the_names};
-ghost use Rattle.derivation_text.specs.RowView.{the_row_arg};
-ghost use Rattle.sequent_calc.specs.StepView.{the_modal};
+ghost use Rattle.derivation_check.specs.ArgumentView.{IsArgumentWithin, the_argument, the_label_argument};
 
+use crate::argument::{Argument, LabelArgument};
 use crate::demands::use_fault;
 use crate::occurring::{add_brought_eigens, add_brought_homes, add_modal};
 use crate::open_sequents::BranchEntry;
 use crate::state::State;
 use cop_base::NoMemory;
-use derivation_branch::{Labels, Substitutions, Value, added_by};
-use derivation_text::RowArg;
+use derivation_branch::{Substitutions, Value, added_by};
+use label_table::Labels;
 use logic_rules::{Logic, Mark, Problem, kind_of};
-use sequent_calc::{ApplyFault, ModalArg, Names};
+use sequent_calc::ApplyFault;
 
 // The place of the label of the components.
 fn label_after(
     labels: &mut Labels,
     logic: Logic,
     from: u32,
-    modal: &ModalArg,
+    modal: LabelArgument,
 ) -> Result<u32, NoMemory>
-    requires { from < length labels.old }
+    requires from { from < length labels.old }
+    requires within { IsArgumentWithin labels.old modal }
     ensures place { IfOk result (λ k. IsLabelAt labels.new k
-        (label_after logic (get_or labels.old from []) (the_modal modal.now))) }
+        (label_after logic (get_or labels.old from []) (the_label_argument labels.old modal))) }
     ensures grown { OnOk result (IsLonger labels.old labels.new) }
 {
     match modal {
-        ModalArg::None => Ok(from),
-        ModalArg::To(to) => labels.add(to),
-        ModalArg::New(number) => labels.add_after_pi(logic, from, Mark::New(*number)),
+        LabelArgument::None => Ok(from),
+        LabelArgument::To(to) => Ok(to),
+        LabelArgument::New(number) => labels.add_after_pi(logic, from, Mark::New(number)),
     }
 }
 
@@ -71,47 +73,48 @@ fn put_value<'a>(
 fn put_argument<'a>(
     substitutions: &mut Substitutions<'a>,
     outer: u32,
-    term: &'a RowArg,
+    term: Argument<'a>,
 ) -> Result<u32, NoMemory>
     requires within { outer < length substitutions.old }
-    requires closed { IsClosedArgument (the_row_arg term.now) }
+    requires closed { IsClosedArgument (the_argument term) }
     ensures within { IfOk result (λ k. k < length substitutions.new) }
     ensures put { IfOk result (λ k.
-        HasArgument substitutions.new outer k (the_row_arg term.entry.now)) }
+        HasArgument substitutions.new outer k (the_argument term.entry)) }
     ensures grown { OnOk result (IsLonger substitutions.old substitutions.new) }
 {
     match term {
-        RowArg::None => Ok(outer),
-        RowArg::Term(t) => put_value(substitutions, outer, Value::Given(t)),
-        RowArg::Name(number) => put_value(substitutions, outer, Value::Eigen(*number)),
+        Argument::None => Ok(outer),
+        Argument::Term(t) => put_value(substitutions, outer, Value::Given(t)),
+        Argument::Name(number) => put_value(substitutions, outer, Value::Eigen(number)),
     }
 }
 
 // Puts the components at a label of the table on the branch.
 fn grow<'a>(
-    names: &Names,
     state: &mut State<'a>,
     used: BranchEntry<'a>,
     at: u32,
-    modal: &ModalArg,
-    term: &'a RowArg,
+    modal: LabelArgument,
+    term: Argument<'a>,
 ) -> Result<(), NoMemory>
     requires is_open { state.old.sequents.is_open ≡ true }
-    requires kept { IsKept (the_names names.now) state.old }
+    requires kept { (names : derivation.Names) × IsKept names state.old }
     requires stands { StandsOn state.old.sequents.branch.items used }
-    requires label { IsLabelAfter state.old.labels used.shared.label (the_modal modal.now) at }
+    requires label { IsLabelAfter state.old.labels used.shared.label (the_label_argument state.old.labels modal) at }
     requires fits { term_fits (shape_of used.shared.sign (the_formula used.shared.formula.now))
-        (the_row_arg term.now) ≡ true }
-    requires closed { IsClosedArgument (the_row_arg term.now) }
-    ensures kept { OnOk result (IsKept (the_names names.now) state.new) }
+        (the_argument term) ≡ true }
+    requires closed { IsClosedArgument (the_argument term) }
+    ensures kept { OnOk result ((names : derivation.Names)
+        → IsKept names state.old → IsKept names state.new) }
     ensures grown { OnOk result (the_sequents state.new ≡ open_after
         (with_components (shape_of used.entry.shared.sign (formula_under state.old.substitutions
         used.entry.shared.substitution (the_formula used.entry.shared.formula.now)))
         (the_current state.old) (get_or state.old.labels at [])
-        (map (with_argument (the_row_arg term.entry.now)) (components used.entry.shared.sign
+        (map (with_argument (the_argument term.entry)) (components used.entry.shared.sign
         (formula_under state.old.substitutions used.entry.shared.substitution
         (the_formula used.entry.shared.formula.now)))))
         (map (the_sequent state.old.substitutions state.old.labels) (waiting_in state.old.sequents))) }
+    ensures labels { OnOk result (state.new.labels ≡ state.old.labels) }
 {
     let shared = used.shared;
     let inner = put_argument(&mut state.substitutions, shared.substitution, term)?;
@@ -121,16 +124,7 @@ fn grow<'a>(
     let labels = &state.labels;
     let homes = &state.homes;
     let told = &mut state.told;
-    add_brought_homes(
-        names,
-        labels,
-        homes,
-        told,
-        &mut state.marks,
-        at,
-        binds,
-        term,
-    )?;
+    add_brought_homes(labels, homes, told, &mut state.marks, at, binds, term)?;
     let added = added_by(&state.outline, shared, inner, at);
     let eigens = state.eigens.count()?;
     let marks = state.marks.count()?;
@@ -142,36 +136,40 @@ fn grow<'a>(
 /// not met.
 pub fn use_entry<'a>(
     problem: &Problem,
-    names: &Names,
     state: &mut State<'a>,
     used: BranchEntry<'a>,
-    modal: &ModalArg,
-    term: &'a RowArg,
+    modal: LabelArgument,
+    term: Argument<'a>,
 ) -> Result<(), ApplyFault>
+    requires within { IsArgumentWithin state.old.labels modal }
     requires is_open { state.old.sequents.is_open ≡ true }
-    requires kept { IsKept (the_names names.now) state.old }
+    requires kept { (names : derivation.Names) × IsKept names state.old }
     requires stands { StandsOn state.old.sequents.branch.items used }
-    ensures kept { OnOk result (IsKept (the_names names.now) state.new) }
-    ensures leads { OnOk result (LeadsTo (use_entry problem.now (the_names names.now)
+    ensures kept { OnOk result ((names : derivation.Names)
+        → IsKept names state.old → IsKept names state.new) }
+    ensures leads { OnOk result ((names : derivation.Names) → IsKept names state.old
+        → LeadsTo (use_entry problem.now names
         (the_current state.old) (Some (the_entry state.old.substitutions state.old.labels used.entry))
-        (the_modal modal.now) (the_row_arg term.entry.now))
+        (the_label_argument state.old.labels modal) (the_argument term.entry))
         (map (the_sequent state.old.substitutions state.old.labels) (waiting_in state.old.sequents))
         (the_sequents state.new)) }
+    ensures grown { OnOk result (IsLonger state.old.labels state.new.labels) }
     ensures fault { (f : StepFault) → result ≡ Err (ApplyFault.Fault f)
-        → use_entry problem.now (the_names names.now) (the_current state.old)
+        → (names : derivation.Names) → IsKept names state.old
+        → use_entry problem.now names (the_current state.old)
         (Some (the_entry state.old.substitutions state.old.labels used.entry))
-        (the_modal modal.now) (the_row_arg term.entry.now) ≡ Err f }
+        (the_label_argument state.old.labels modal) (the_argument term.entry) ≡ Err f }
 {
     let setting = problem.setting();
     let logic = setting.logic();
     let shared = used.shared;
     let kind = kind_of(logic, shared.sign, shared.formula);
     let at = label_after(&mut state.labels, logic, shared.label, modal)?;
-    let fault = use_fault(problem, names, state, kind, shared.label, at, modal, term);
+    let fault = use_fault(problem, state, kind, shared.label, at, modal, term);
     match fault {
         Some(fault) => Err(ApplyFault::Fault(fault)),
         None => {
-            grow(names, state, used, at, modal, term)?;
+            grow(state, used, at, modal, term)?;
             Ok(())
         }
     }

@@ -5,7 +5,7 @@ use crate::example_tableaux::{
 };
 use cop_base::NoMemory;
 use derivation_check::{Verdict, check};
-use derivation_text::print;
+use derivation_text::{Version, print};
 use logic_rules::{Domains, Logic, Problem};
 use sequent_convert::convert;
 use std::alloc::Global;
@@ -20,7 +20,7 @@ fn converted(alloc: Global, problem: &Problem, t: &Tableau) -> Result<Option<usi
         return Ok(None);
     }
     let derivation = convert(alloc, problem, t, 1)?;
-    let text = print(alloc, problem, &derivation)?;
+    let text = print(alloc, problem, &derivation, Version::One)?;
     match check(alloc, problem, text.as_slice())? {
         Verdict::Accepted => Ok(Some(derivation.steps.items().len())),
         Verdict::Rejected { .. } => Ok(None),

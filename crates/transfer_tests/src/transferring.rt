@@ -4,7 +4,7 @@ ghost use Rattle.std.specs.Prelude.{◌≡◌};
 ghost use Rattle.calculus.specs.declared.setting.Logic.TheVariants.{Intuitionistic};
 
 use derivation_check::{Verdict, accept, check};
-use derivation_text::print;
+use derivation_text::{Version, derivation_of, print};
 use godel_transfer::{transfer, translate};
 use logic_rules::{Domains, Logic, Problem};
 use std::alloc::Global;
@@ -15,10 +15,11 @@ use test_problems::proving;
 fn transferred(alloc: Global, problem: &Problem, text: &[u8]) -> Result<(Vec<u8>, Verdict), Fail>
     requires { problem.now.setting.logic ≡ Intuitionistic }
 {
-    let derivation = accept(alloc, problem, text)?;
+    let (_, accepted) = accept(alloc, problem, text)?;
+    let derivation = derivation_of(alloc, &accepted)?;
     let target = translate(alloc, problem)?;
     let moved = transfer(alloc, problem, &derivation)?;
-    let printed = print(alloc, &target, &moved)?;
+    let printed = print(alloc, &target, &moved, Version::One)?;
     let verdict = check(alloc, &target, printed.as_slice())?;
     Ok((printed, verdict))
 }

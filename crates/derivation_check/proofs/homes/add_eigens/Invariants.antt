@@ -1,14 +1,15 @@
-use Rattle.std.proofs.Common.{◌≤◌, drop, length, map}
-use Rattle.derivation_branch.specs.Occurring.{IsLonger}
+use Rattle.std.proofs.Common.{◌≤◌, List, drop, length, map}
+use Rattle.calculus.specs.Derivations.{Label}
+use Rattle.calculus.specs.Versions.{stated_eigen}
+use Rattle.derivation_text.specs.NumbersView.{the_numbered_eigen}
+use Rattle.derivation_check.specs.ArgumentView.{ArePlaces}
 use Rattle.derivation_check.specs.HomesView.{AreEigenHomes}
-use Rattle.sequent_calc.specs.NamesView.{the_eigen}
 use Rattle.derivation_check.proofs.homes.add_eigens.Given as goal
 
 abbrev pub invariant-loop-left : goal.invariant-loop-left
 invariant-loop-left l = record {
   within : l.left ≤ length l.names;
-  homes : AreEigenHomes l.labels l.homes (map the_eigen (drop l.left l.names));
-  grown : IsLonger l.initial.labels l.labels;
+  homes : (labels table : List Label) → ArePlaces labels table l.places → AreEigenHomes table l.homes (map (λ x. stated_eigen labels (the_numbered_eigen x)) (drop l.left l.names));
 }
 
 abbrev pub decreases-loop-left : goal.decreases-loop-left

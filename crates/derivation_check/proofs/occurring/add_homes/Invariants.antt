@@ -1,7 +1,8 @@
 use Rattle.std.proofs.Common.{◌≡◌, ◌||◌, ℕ, drop}
 use Rattle.calculus.specs.Derivations.{new_mark}
 use Rattle.calculus.specs.Substitution.{any_leaf}
-use Rattle.derivation_branch.specs.Occurring.{IsLonger, holds}
+use Rattle.label_table.specs.Longer.{IsLonger}
+use Rattle.derivation_branch.specs.Occurring.{holds}
 use Rattle.formula_text.specs.Rows.{any_item}
 use Rattle.derivation_check.specs.HomesView.{is_in_home_at}
 use Rattle.derivation_check.specs.ToldView.{AreThere}

@@ -1,7 +1,8 @@
 use Rattle.std.proofs.Common.{◌≡◌, ◌<◌, ◌||◌, ℕ, [], get_or, length}
 use Rattle.calculus.specs.Calculus.{holds_character}
 use Rattle.calculus.specs.Derivations.{new_mark}
-use Rattle.derivation_branch.specs.Occurring.{IsLonger, holds}
+use Rattle.label_table.specs.Longer.{IsLonger}
+use Rattle.derivation_branch.specs.Occurring.{holds}
 use Rattle.derivation_check.proofs.occurring.add_marks.Given as goal
 
 abbrev pub invariant-loop-front : goal.invariant-loop-front

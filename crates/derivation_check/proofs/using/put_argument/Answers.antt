@@ -1,4 +1,4 @@
-use Rattle.derivation_branch.proofs.TableLaws.{longer-self}
+use Rattle.label_table.proofs.TableLaws.{longer-self}
 use Rattle.derivation_check.proofs.using.put_argument.Goals as goal
 
 pub returns-in-None-clause-grown : goal.returns-in-None-clause-grown

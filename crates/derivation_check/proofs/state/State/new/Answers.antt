@@ -1,18 +1,23 @@
-use Rattle.std.proofs.Common.{refl}
-use Rattle.sequent_calc.specs.DerivationView.{the_names}
+use Rattle.std.proofs.Common.{refl, subst, sym}
+use Rattle.calculus.specs.Versions.{stated}
 use Rattle.formula_core.specs.FormulaView.{the_formula}
+use Rattle.derivation_check.specs.ArgumentView.{ArePlaces}
 use Rattle.derivation_check.proofs.NodeLaws.{nodes-first}
 use Rattle.derivation_check.proofs.StateLaws.{first-shown, first-state}
 use Rattle.derivation_check.proofs.state.State.new.Goals as goal
 
 pub returns-clause-kept : goal.returns-clause-kept
-returns-clause-kept c = record {
-  nested = c.in_ok-sequents.ensures.nested;
-  sequents = first-state (the_names c.args.names.now) c.args.problem.now _ _ _ _ _ _ _ c.new-substitutions.ensures c.new-labels.ensures c.in_ok-homes.ensures.grown c.new-eigens.ensures c.new-marks.ensures c.in_ok-sequents.ensures.sequents refl refl c.formula-formula.ensures.formula c.formula-formula.ensures.well;
-  homes = c.in_ok-homes.ensures.homes;
-  told = rw c.new-told.ensures tt;
-  nodes = nodes-first c.in_ok-outline.outline.nodes.items _ _ c.in_ok-sequents.ensures.sequents (c.in_ok-node.ensures (the_formula c.formula-formula.result.now) c.in_ok-outline.ensures);
-}
+returns-clause-kept c =
+    let x = c.args.d.now in
+    let labels = c.add_labels.new.table in
+    let places = subst (λ ps. ArePlaces x.labels labels ps) (sym c.as_slice.ensures.value) (subst (λ ls. ArePlaces ls labels c.in_ok-places.places.items) c.labels.ensures.list c.in_ok-places.ensures.places) in
+    record {
+      nested = c.in_ok-sequents.ensures.nested;
+      sequents = first-state (stated x).names c.args.problem.now _ _ _ _ _ _ _ c.new-substitutions.ensures c.new-labels.ensures c.in_ok-places.ensures.grown c.new-eigens.ensures c.new-marks.ensures c.in_ok-sequents.ensures.sequents refl refl c.formula-formula.ensures.formula c.formula-formula.ensures.well;
+      homes = c.in_ok-homes.ensures labels places;
+      told = rw c.new-told.ensures tt;
+      nodes = nodes-first c.in_ok-outline.outline.nodes.items _ _ c.in_ok-sequents.ensures.sequents (c.in_ok-node.ensures (the_formula c.formula-formula.result.now) c.in_ok-outline.ensures);
+    }
 
 pub returns-clause-first : goal.returns-clause-first
-returns-clause-first c = first-shown c.args.problem.now _ _ _ _ _ c.new-substitutions.ensures c.new-labels.ensures c.in_ok-homes.ensures.grown c.in_ok-sequents.ensures.sequents refl refl refl c.formula-formula.ensures.formula
+returns-clause-first c = first-shown c.args.problem.now _ _ _ _ _ c.new-substitutions.ensures c.new-labels.ensures c.in_ok-places.ensures.grown c.in_ok-sequents.ensures.sequents refl refl refl c.formula-formula.ensures.formula
