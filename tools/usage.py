@@ -47,10 +47,9 @@ class Sources:
         self.commands = dict(re.findall(r'"([a-z]+)" => Some\(CommandName::(\w+)\)', text))
         fronts = {name: front for name, front in re.findall(r'OptionName::(\w+) => "(--[a-z]+=)"', text)}
         self.built = self.arms(text, "is_built", "CommandName", r"true")
-        offered = self.arms(text, "is_offered", "OptionName", r"true")
-        self.options = {name: {fronts[o] for o in re.findall(r"OptionName::(\w+)", body) if o in offered}
+        self.options = {name: {fronts[o] for o in re.findall(r"OptionName::(\w+)", body)}
                         for name, body in self.arms(text, "options_of", "CommandName", r"(?:\{\s*)?&\[[^]]*\]").items()}
-        if not (self.commands and self.built and fronts and offered and self.options):
+        if not (self.commands and self.built and fronts and self.options):
             sys.exit("usage.py: crates/command_line/src/table.rt has another shape than this script reads")
 
     @staticmethod

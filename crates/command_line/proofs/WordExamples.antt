@@ -5,8 +5,9 @@ use Rattle.calculus.specs.Syntax.{setting_of}
 use Rattle.calculus.specs.declared.family.Family.TheVariants.{Tower}
 use Rattle.calculus.specs.declared.setting.Domains.TheVariants.{Constant, Varying}
 use Rattle.calculus.specs.declared.setting.Logic.TheVariants.{Classical, S4}
+use Rattle.calculus.specs.declared.version.Version.TheVariants.{One, Two}
 use Rattle.command_line.specs.Table.{Word}
-use Rattle.command_line.specs.CommandLine.{ProblemFile, Bounds, command_of, prove, check, check_translated, transfer, make, model, bad}
+use Rattle.command_line.specs.CommandLine.{ProblemFile, Bounds, command_of, prove, check, check_translated, transfer, migrate, make, model, bad}
 
 in_classical : ProblemFile
 in_classical = record { name = codes "m.p"; root = []; setting = setting_of Classical Constant }
@@ -27,7 +28,7 @@ empty_word : command_of (codes "prove" ∷ codes "--steps=5" ∷ [] ∷ []) ≡ 
 unfolding digits
 empty_word = refl
 
-plain_proof : command_of (codes "prove" ∷ codes "m.p" ∷ []) ≡ prove in_classical usual
+plain_proof : command_of (codes "prove" ∷ codes "m.p" ∷ []) ≡ prove in_classical usual One
 unfolding in_classical usual digits
 plain_proof = refl
 
@@ -55,7 +56,7 @@ limit_of_check = refl
 
 -- ---- the search that does not return to solved goals
 
-cut_first : command_of (codes "prove" ∷ codes "m.p" ∷ codes "--cut=5" ∷ []) ≡ prove in_classical (record { limit = 100; steps = 10000000; cut = Some 5 })
+cut_first : command_of (codes "prove" ∷ codes "m.p" ∷ codes "--cut=5" ∷ []) ≡ prove in_classical (record { limit = 100; steps = 10000000; cut = Some 5 }) One
 unfolding in_classical digits
 cut_first = refl
 
@@ -95,14 +96,28 @@ plain_transfer = refl
 transfer_logic : command_of (codes "transfer" ∷ codes "m.p" ∷ codes "d.txt" ∷ codes "--logic=intuitionistic" ∷ []) ≡ bad 4
 transfer_logic = refl
 
+-- ---- versions of a text
+
+second_version : command_of (codes "prove" ∷ codes "--format=2" ∷ codes "m.p" ∷ []) ≡ prove in_classical usual Two
+unfolding in_classical usual digits
+second_version = refl
+
+no_version : command_of (codes "prove" ∷ codes "m.p" ∷ codes "--format=3" ∷ []) ≡ bad 3
+unfolding digits
+no_version = refl
+
+format_of_migrate : command_of (codes "migrate" ∷ codes "m.p" ∷ codes "d.txt" ∷ codes "--format=2" ∷ []) ≡ bad 4
+unfolding digits
+format_of_migrate = refl
+
+plain_migrate : command_of (codes "migrate" ∷ codes "m.p" ∷ codes "d.txt" ∷ []) ≡ migrate in_classical (codes "d.txt")
+unfolding in_classical digits
+plain_migrate = refl
+
 -- ---- what is not built is a bad word
 
 not_built : command_of (codes "tcheck" ∷ codes "m.p" ∷ codes "t.txt" ∷ []) ≡ bad 1
 not_built = refl
-
-no_format : command_of (codes "prove" ∷ codes "m.p" ∷ codes "--format=1" ∷ []) ≡ bad 3
-unfolding digits
-no_format = refl
 
 -- ---- generated problems
 

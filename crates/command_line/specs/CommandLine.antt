@@ -11,12 +11,14 @@ use Rattle.calculus.specs.declared.setting.Domains.{Domains}
 use Rattle.calculus.specs.declared.setting.Domains.TheVariants.{Constant, Cumulative}
 use Rattle.calculus.specs.declared.setting.Logic.{Logic}
 use Rattle.calculus.specs.declared.setting.Logic.TheVariants.{Classical, Intuitionistic}
+use Rattle.calculus.specs.declared.version.Version.{Version}
+use Rattle.calculus.specs.declared.version.Version.TheVariants.{One}
 use Rattle.calculus.specs.Problems.{is_modal}
 use Rattle.calculus.specs.Syntax.{Setting, setting_of}
-use Rattle.command_line.specs.Table.{Word, command_named, front_of, is, is_built, is_offered}
+use Rattle.command_line.specs.Table.{Word, command_named, front_of, is, is_built}
 use Rattle.command_line.specs.Table.{operands_of, options_of}
 use Rattle.command_line.specs.Values.{domains_of, family_of, is_operand, is_value, logic_of}
-use Rattle.command_line.specs.Values.{number_of}
+use Rattle.command_line.specs.Values.{number_of, version_of}
 use Rattle.command_line.specs.declared.value.TheConstants.{MAX_SIZE, MAX_STEPS}
 use Rattle.command_line.specs.declared.request.TheConstants.{USUAL_LIMIT, USUAL_STEPS}
 use Rattle.command_line.specs.declared.table.CommandName.{CommandName}
@@ -55,12 +57,14 @@ pub record Bounds : Type 0 where
   pub steps : ℕ
   pub cut : Option ℕ
 
--- places are counted from 1. What is read beside a problem is the name of a file
+-- places are counted from 1. What is read beside a problem is the name of a file. The version is that
+-- of the text to be printed
 pub data Command : Type 0 where
-  prove : (problem : ProblemFile) (bounds : Bounds) → Command
+  prove : (problem : ProblemFile) (bounds : Bounds) (version : Version) → Command
   check : (problem : ProblemFile) (derivation : Word) → Command
   check_translated : (problem : IntuitionisticFile) (derivation : Word) → Command
   transfer : (problem : IntuitionisticFile) (derivation : Word) → Command
+  migrate : (problem : ProblemFile) (derivation : Word) → Command
   make : (problem : GeneratedProblem) (bounds : Bounds) → Command
   model : (problem : ProblemFile) (structure : Word) (steps : ℕ) → Command
   bad : (place : ℕ) → Command
@@ -112,7 +116,7 @@ operand_in n ws = on (item (operands 2 ws) n) (λ p. p.1) []
 -- the word gives the option a value that it may have, and no word before gives it one
 abbrev pub gives : List Word → Word → OptionName → Bool
 gives before w o =
-    on (behind (front_of o) w) (λ v. is_offered o && is_value o v && not (is_given o before)) false
+    on (behind (front_of o) w) (λ v. is_value o v && not (is_given o before)) false
 
 -- a word is good behind these
 abbrev pub is_good : CommandName → (before : List Word) → Word → Bool
@@ -189,6 +193,10 @@ bounds_in ws = record {
   cut = number_of MAX_PATH_LIMIT (value_in option.Cut ws);
 }
 
+-- version 1 where none is given
+abbrev pub version_in : List Word → Version
+version_in ws = on (version_of (value_in option.Format ws)) (λ v. v) One
+
 -- `--as=s4`, which only words of intuitionistic problems give, asks for the judgement of the
 -- translated problem
 abbrev pub check_in : List Word → Command
@@ -198,9 +206,10 @@ check_in ws =
 
 -- what good words ask for
 abbrev pub request : CommandName → List Word → Command
-request command.Prove ws = prove (problem_in ws) (bounds_in ws)
+request command.Prove ws = prove (problem_in ws) (bounds_in ws) (version_in ws)
 request command.Check ws = check_in ws
 request command.Transfer ws = transfer (intuitionistic_in ws) (operand_in 1 ws)
+request command.Migrate ws = migrate (problem_in ws) (operand_in 1 ws)
 request command.Make ws = make (generated_in ws) (bounds_in ws)
 request command.Model ws = model (problem_in ws) (operand_in 1 ws) (steps_in ws)
 request _ ws = bad 1

@@ -28,14 +28,16 @@ the_bounds b = record {
 }
 
 abbrev pub the_command : Command → words.Command
-the_command (command.Prove problem bounds) =
-    words.prove (the_problem_file problem) (the_bounds bounds)
+the_command (command.Prove problem bounds version) =
+    words.prove (the_problem_file problem) (the_bounds bounds) version
 the_command (command.Check problem derivation) =
     words.check (the_problem_file problem) derivation.now
 the_command (command.CheckTranslated problem derivation) =
     words.check_translated (the_intuitionistic_file problem) derivation.now
 the_command (command.Transfer problem derivation) =
     words.transfer (the_intuitionistic_file problem) derivation.now
+the_command (command.Migrate problem derivation) =
+    words.migrate (the_problem_file problem) derivation.now
 the_command (command.Make problem bounds) =
     words.make (the_generated_problem problem) (the_bounds bounds)
 the_command (command.Model problem structure steps) =

@@ -35,6 +35,7 @@ abbrev pub is_built : CommandName → Bool
 is_built Prove = true
 is_built Check = true
 is_built Make = true
+is_built Migrate = true
 is_built Model = true
 is_built Transfer = true
 is_built _ = false
@@ -73,8 +74,3 @@ front_of Steps = codes "--steps="
 front_of Cut = codes "--cut="
 front_of Format = codes "--format="
 front_of As = codes "--as="
-
--- the word of an option that is not built is a bad one
-abbrev pub is_offered : OptionName → Bool
-is_offered Format = false
-is_offered _ = true

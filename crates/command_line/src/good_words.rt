@@ -10,14 +10,14 @@ ghost use Rattle.command_line.specs.CommandLine.{
 ghost use Rattle.command_line.specs.Table.{options_of};
 
 use crate::given::{behind, is_given, is_option, operand_count};
-use crate::table::{CommandName, OptionName, front_of, is_offered, operands_of, options_of};
+use crate::table::{CommandName, OptionName, front_of, operands_of, options_of};
 use crate::value::{is_operand, is_value};
 
 fn gives(before: &[String], word: &str, option: OptionName) -> bool
     ensures { result ≡ gives (map string_bytes before.now) word.now option }
 {
     match behind(front_of(option), word) {
-        Some(value) => is_offered(option) && is_value(option, value) && !is_given(option, before),
+        Some(value) => is_value(option, value) && !is_given(option, before),
         None => false,
     }
 }

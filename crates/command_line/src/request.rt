@@ -20,6 +20,7 @@ ghost use Rattle.command_line.specs.CommandLine.{
   steps_in,
   tower_place,
   value_in,
+  version_in,
 };
 ghost use Rattle.command_line.specs.CommandView.{
   the_bounds,
@@ -34,9 +35,10 @@ use crate::bounds::Bounds;
 use crate::given::{given, is_given, operand, operand_in, value_in};
 use crate::good_words::first_bad;
 use crate::table::{CommandName, OptionName, command_named, is_built};
-use crate::value::{MAX_SIZE, MAX_STEPS, domains_of, family_of, logic_of, number_of};
+use crate::value::{MAX_SIZE, MAX_STEPS, domains_of, family_of, logic_of, number_of, version_of};
 use calculus::family::Family;
 use calculus::limits::MAX_PATH_LIMIT;
+use calculus::version::Version;
 use cop_base::PathLimit;
 use logic_rules::{Domains, Logic, Setting};
 
@@ -87,6 +89,7 @@ pub enum Command<'a> {
     Prove {
         problem: ProblemFile<'a>,
         bounds: Bounds,
+        version: Version,
     },
     Check {
         problem: ProblemFile<'a>,
@@ -99,6 +102,10 @@ pub enum Command<'a> {
     },
     Transfer {
         problem: IntuitionisticFile<'a>,
+        derivation: &'a str,
+    },
+    Migrate {
+        problem: ProblemFile<'a>,
         derivation: &'a str,
     },
     Make {
@@ -257,6 +264,15 @@ fn bounds_in(words: &[String]) -> Bounds
     Bounds { limit, steps, cut }
 }
 
+fn version_in(words: &[String]) -> Version
+    ensures { result ≡ version_in (map string_bytes words.now) }
+{
+    match version_of(value_in(OptionName::Format, words)) {
+        Some(version) => version,
+        None => Version::One,
+    }
+}
+
 fn check_in(words: &[String]) -> Command<'_>
     ensures { the_command result ≡ check_in (map string_bytes words.now) }
 {
@@ -281,10 +297,15 @@ fn request(command: CommandName, words: &[String]) -> Command<'_>
         CommandName::Prove => Command::Prove {
             problem: problem_in(words),
             bounds: bounds_in(words),
+            version: version_in(words),
         },
         CommandName::Check => check_in(words),
         CommandName::Transfer => Command::Transfer {
             problem: intuitionistic_in(words),
+            derivation: operand_in(1, words),
+        },
+        CommandName::Migrate => Command::Migrate {
+            problem: problem_in(words),
             derivation: operand_in(1, words),
         },
         CommandName::Make => Command::Make {

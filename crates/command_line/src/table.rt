@@ -5,7 +5,6 @@ ghost use Rattle.command_line.specs.Table.{
   command_named,
   front_of,
   is_built,
-  is_offered,
   operands_of,
   options_of,
 };
@@ -70,10 +69,10 @@ pub fn is_built(command: CommandName) -> bool
         CommandName::Prove
         | CommandName::Check
         | CommandName::Make
+        | CommandName::Migrate
         | CommandName::Model
         | CommandName::Transfer => true,
-        CommandName::Migrate | CommandName::Tableau | CommandName::Tcheck | CommandName::Convert =>
-            false,
+        CommandName::Tableau | CommandName::Tcheck | CommandName::Convert => false,
     }
 }
 
@@ -154,21 +153,5 @@ pub fn front_of(option: OptionName) -> &'static str
         OptionName::Cut => "--cut=",
         OptionName::Format => "--format=",
         OptionName::As => "--as=",
-    }
-}
-
-/// The word of an option that is not built is a bad one.
-pub fn is_offered(option: OptionName) -> bool
-    ensures { result ≡ is_offered option }
-{
-    match option {
-        OptionName::Root
-        | OptionName::Logic
-        | OptionName::Domains
-        | OptionName::Limit
-        | OptionName::Steps
-        | OptionName::Cut
-        | OptionName::As => true,
-        OptionName::Format => false,
     }
 }

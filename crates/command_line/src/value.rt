@@ -77,7 +77,7 @@ pub fn number_of(most: u64, value: &str) -> Option<u64>
     }
 }
 
-fn version_of(value: &str) -> Option<Version>
+pub fn version_of(value: &str) -> Option<Version>
     ensures { result ≡ version_of value.now }
 {
     match value {
