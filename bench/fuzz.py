@@ -155,7 +155,7 @@ def read(file):
 
 
 def read_seeds(program, steps):
-    """The gallery, and the derivations that the program prints for it."""
+    """The gallery, and the derivations that the program prints for it, in both versions."""
     seeds = [Seed(["make", family, "3", "--limit=9"], []) for family in ("chain", "shift")]
     seeds.append(Seed(["make", "tower", "2", "--logic=s4"], []))
     for line in read("examples/expected.tsv").decode().splitlines():
@@ -177,7 +177,10 @@ def read_seeds(program, steps):
             continue
         texts = [*texts, derivation.output]
         judging = [word for word in options if word.startswith(("--logic", "--domains"))]
-        seeds.append(Seed(["check", "0.p", "1.p", *judging], texts))
+        write(texts)
+        migrated = run([program, "migrate", "0.p", "1.p", *judging], 20)
+        for text in (derivation.output, migrated.output):
+            seeds += [Seed([word, "0.p", "1.p", *judging], [texts[0], text]) for word in ("check", "migrate")]
         if "--logic=intuitionistic" in options:
             seeds.append(Seed(["transfer", "0.p", "1.p"], texts))
             write(texts)

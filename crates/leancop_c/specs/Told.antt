@@ -2,12 +2,12 @@
 use Rattle.std.specs.Prelude.{◌≡◌, ℕ, List, [], ◌∷◌, ◌++◌, length, drop, nat_le, if◌then◌else◌}
 use Rattle.std.specs.Prelude.{Option, None, Some, Result, Ok, Err}
 use Rattle.calculus.specs.declared.fault.CheckFault.{CheckFault}
-use Rattle.calculus.specs.Judgement.{IsOnlyJudgement}
 use Rattle.calculus.specs.Judgement as judgement
 use Rattle.calculus.specs.Soundness.{IsTrueInStructures}
 use Rattle.calculus.specs.Syntax.{Problem, Setting}
 use Rattle.calculus.specs.Text.{formula_text}
 use Rattle.cop_base.specs.Outside.{Files}
+use Rattle.derivation_check.specs.Only.{IsOnlyVersionJudgement}
 use Rattle.problem_build.specs.Building.{IsProblemOf}
 use Rattle.problem_build.specs.Refusals.{Refusal}
 use Rattle.leancop_c.specs.Numbers.{fault_number, no_place}
@@ -31,14 +31,14 @@ pub record Holds (asked : Option Setting) (text : List ℕ) (result : Result Pro
 pub record IsAccepted (asked : Option Setting) (problem derivation : List ℕ) : Type 0 where
   pub told : Problem
   pub held : Holds asked problem (Ok told)
-  pub judged : IsOnlyJudgement told derivation judgement.accepted
+  pub judged : IsOnlyVersionJudgement told derivation judgement.accepted
   pub valid : IsTrueInStructures told
 
 -- one problem, which the other text does not derive: its one judgement is this first fault
 pub record IsRejected (asked : Option Setting) (problem derivation : List ℕ) (line : ℕ) (fault : CheckFault) : Type 0 where
   pub told : Problem
   pub held : Holds asked problem (Ok told)
-  pub judged : IsOnlyJudgement told derivation (judgement.rejected line fault)
+  pub judged : IsOnlyVersionJudgement told derivation (judgement.rejected line fault)
 
 -- ---- what the struct has
 

@@ -3,6 +3,7 @@ use Rattle.std.proofs.Common.{◌≡◌, ℕ, ◌≤◌, min, List, Option, None
 use Rattle.std.proofs.lemmas.Bool.{cases_lt}
 use Rattle.std.proofs.Math.Nat.{le-min, min-le_left, min-le_right}
 use Rattle.calculus.specs.Syntax.{Problem}
+use Rattle.calculus.specs.declared.version.Version.{Version}
 use Rattle.calculus.specs.Counting.{MoreThan}
 use Rattle.calculus.specs.Cut.{HasCut}
 use Rattle.calculus.specs.Space.{IsMember, member_cmp}
@@ -93,6 +94,6 @@ search-found P b e s _ (no_tableau d h) = h.never e (cut-closes P e s.least.has)
 search-found P b e s _ (steps_ended d k h) = within-budget P b e s h.missed
 search-found P b e s _ (too_large h) = h s.fits
 
-pub prove-by_cut : (P : Problem) (b : Bounds) (e : ℕ) → SufficesForCut P b e → (s : Status) (bytes : List ℕ) → ProveEnds P b s bytes → IsDerivedAt e s
-prove-by_cut P b e s _ _ (derived d bytes h) = limit-decided P b e s d h.limit_is
-prove-by_cut P b e s _ _ (fruitless t h) = absurd (search-found P b e s t h)
+pub prove-by_cut : (P : Problem) (b : Bounds) (v : Version) (e : ℕ) → SufficesForCut P b e → (s : Status) (bytes : List ℕ) → ProveEnds P b v s bytes → IsDerivedAt e s
+prove-by_cut P b v e s _ _ (derived d bytes h) = limit-decided P b e s d h.limit_is
+prove-by_cut P b v e s _ _ (fruitless t h) = absurd (search-found P b e s t h)

@@ -7,10 +7,11 @@ use Rattle.calculus.specs.Structures.{is_true}
 use Rattle.calculus.specs.StructureText.{IsStructureJudgement, IsStructureText, truth_verdict}
 use Rattle.calculus.specs.StructureText as verdict
 use Rattle.calculus.specs.Syntax.{Problem}
+use Rattle.calculus.specs.declared.version.Version.{Version}
 use Rattle.calculus.specs.Translation.{translated_problem}
 use Rattle.cop_base.specs.Outside.{Files, file_in, Rose}
 use Rattle.cop_base.specs.Reads.{Read}
-use Rattle.command_line.specs.CommandLine.{Bounds, Command, GeneratedProblem, ProblemFile, in_intuitionistic, prove, check, check_translated, transfer, make, model, bad}
+use Rattle.command_line.specs.CommandLine.{Bounds, Command, GeneratedProblem, ProblemFile, in_intuitionistic, prove, check, check_translated, transfer, migrate, make, model, bad}
 use Rattle.command_line.specs.Table.{Word}
 use Rattle.problem_build.specs.Refusals.{Refusal}
 use Rattle.leancop_top.proofs.Budgets.{not_steps_ended}
@@ -18,6 +19,8 @@ use Rattle.leancop_top.proofs.Cuts.{prove-by_cut}
 use Rattle.leancop_top.specs.Commands.Check.{CheckEnds, IsJudged, TranslatedCheckEnds, accepted, rejected, not_fetched, not_translated, translated}
 use Rattle.leancop_top.specs.Commands.Make.{IsMakeable, MakeEnds, made_file, made_files}
 use Rattle.leancop_top.specs.Commands.Make as made
+use Rattle.leancop_top.specs.Commands.Migrate.{IsMigrateDecided, MigrateEnds}
+use Rattle.leancop_top.specs.Commands.Migrate as migrate_ends
 use Rattle.leancop_top.specs.Commands.Model.{IsModel, IsNoModel, IsTold, ModelEnds}
 use Rattle.leancop_top.specs.Commands.Model as modelled
 use Rattle.leancop_top.proofs.ModelLaws.{judged-truth, same-bytes, same-status, same-ways, truth-not_bad}
@@ -73,9 +76,9 @@ search-decided P b e _ (no_tableau d h) = tt
 search-decided P b e _ (steps_ended d k h) = absurd (not_steps_ended P b d k e.answer e.answers e.enough h)
 search-decided P b e _ (too_large h) = absurd (h e.fits)
 
-prove-decided : (P : Problem) (b : Bounds) → Suffices P b → (s : Status) (bytes : List ℕ) → ProveEnds P b s bytes → IsDecided s
-prove-decided P b e _ _ (derived d bytes h) = tt
-prove-decided P b e _ _ (fruitless s h) = search-decided P b e s h
+prove-decided : (P : Problem) (b : Bounds) (v : Version) → Suffices P b → (s : Status) (bytes : List ℕ) → ProveEnds P b v s bytes → IsDecided s
+prove-decided P b v e _ _ (derived d bytes h) = tt
+prove-decided P b v e _ _ (fruitless s h) = search-decided P b e s h
 
 -- ---- check
 
@@ -112,6 +115,13 @@ transfer-decided told files P d text m n f g after t held quiet _ _ (transferred
 transfer-decided told files P d text m n f g after t held quiet _ _ (transfer_ends.not_translated s h) counted = translating-decided P s h.refused
 transfer-decided told files P d text m n f g after t held quiet _ _ (transfer_ends.rejected line fault h) counted = tt
 transfer-decided told files P d text m n f g after t held quiet _ _ (transfer_ends.not_fetched s h) counted = absurd (fetched told files d text m n f g after t held quiet s h counted)
+
+-- ---- migrate
+
+migrate-decided : (told : Option Files) (files : Files) (P : Problem) (derivation : Word) (text : List ℕ) (m n f g : ℕ) (after : List Read) → told ≡ Some files → file_in files derivation ≡ Some text → ¬ Rose f g → (s : Status) (bytes : List ℕ) → MigrateEnds told P derivation s bytes → IsCounted m n f g after s → IsMigrateDecided s
+migrate-decided told files P d text m n f g after t held quiet _ _ (migrate_ends.migrated bytes h) counted = tt
+migrate-decided told files P d text m n f g after t held quiet _ _ (migrate_ends.rejected line fault h) counted = tt
+migrate-decided told files P d text m n f g after t held quiet _ _ (migrate_ends.not_fetched s h) counted = absurd (fetched told files d text m n f g after t held quiet s h counted)
 
 -- ---- make
 
@@ -166,9 +176,9 @@ model-bad told p structure steps line cause m n f g after quiet h _ _ (modelled.
 -- ---- the commands
 
 pub decided : (told : Option Files) (command : Command) (s : Status) (bytes : List ℕ) (m n f g : ℕ) (after : List Read) → Ends told command s bytes → IsCounted m n f g after s → ¬ Rose f g → Decides told command s
-decided told (prove p b) s bytes m n f g after ends counted quiet = (
-  λ h. prove-decided h.problem b h.suffices s bytes (for-problem told h.files p h.problem (λ P. ProveEnds P b) m n f g after h.tells h.read quiet s bytes ends counted),
-  λ d h. prove-by_cut h.problem b d h.suffices s bytes (for-problem told h.files p h.problem (λ P. ProveEnds P b) m n f g after h.tells h.read quiet s bytes ends counted),
+decided told (prove p b v) s bytes m n f g after ends counted quiet = (
+  λ h. prove-decided h.problem b v h.suffices s bytes (for-problem told h.files p h.problem (λ P. ProveEnds P b v) m n f g after h.tells h.read quiet s bytes ends counted),
+  λ d h. prove-by_cut h.problem b v d h.suffices s bytes (for-problem told h.files p h.problem (λ P. ProveEnds P b v) m n f g after h.tells h.read quiet s bytes ends counted),
 )
 decided told (check p d) s bytes m n f g after ends counted quiet = λ h.
     check-decided told h.files h.problem d h.bytes m n f g after h.tells h.given quiet s bytes (for-problem told h.files p h.problem (λ P. CheckEnds told P d) m n f g after h.tells h.read quiet s bytes ends counted) counted
@@ -177,6 +187,8 @@ decided told (check_translated p d) s bytes m n f g after ends counted quiet = �
     translated-check-decided told c.files c.problem d c.bytes m n f g after c.tells c.given quiet h.translatable s bytes (for-problem told c.files (in_intuitionistic p) c.problem (λ P. TranslatedCheckEnds told P d) m n f g after c.tells c.read quiet s bytes ends counted) counted
 decided told (transfer p d) s bytes m n f g after ends counted quiet = λ h.
     transfer-decided told h.files h.problem d h.bytes m n f g after h.tells h.given quiet s bytes (for-problem told h.files (in_intuitionistic p) h.problem (λ P. TransferEnds told P d) m n f g after h.tells h.read quiet s bytes ends counted) counted
+decided told (migrate p d) s bytes m n f g after ends counted quiet = λ h.
+    migrate-decided told h.files h.problem d h.bytes m n f g after h.tells h.given quiet s bytes (for-problem told h.files p h.problem (λ P. MigrateEnds told P d) m n f g after h.tells h.read quiet s bytes ends counted) counted
 decided told (make g b) s bytes m n f k after ends counted quiet = λ h. make-decided g b h s bytes ends
 decided told (model p d b) s bytes m n f g after ends counted quiet = (
   λ h. model-told told p d b m n f g after quiet h s bytes (for-problem told h.held.files p h.problem (λ P. ModelEnds told P d b) m n f g after h.held.tells h.held.read quiet s bytes ends counted) counted,

@@ -5,13 +5,16 @@ use Rattle.cop_base.specs.Outside.{Files}
 use Rattle.cop_base.specs.Reads.{Read}
 use Rattle.cop_base.specs.declared.NoMemory.{NoMemory}
 use Rattle.calculus.specs.Syntax.{Problem}
+use Rattle.calculus.specs.declared.version.Version.{Version}
 use Rattle.calculus.specs.Translation.{translated_problem}
-use Rattle.command_line.specs.CommandLine.{Bounds, Command, GeneratedProblem, ProblemFile, in_intuitionistic, prove, check, check_translated, transfer, make, model, bad}
+use Rattle.command_line.specs.CommandLine.{Bounds, Command, GeneratedProblem, ProblemFile, in_intuitionistic, prove, check, check_translated, transfer, migrate, make, model, bad}
 use Rattle.command_line.specs.Table.{Word}
 use Rattle.problem_build.specs.Refusals.{Refusal, missing, input_too_large, nesting_too_deep, formula_too_large, too_many_symbols, bad as bad_problem}
 use Rattle.leancop_top.specs.Commands.Check.{CheckEnds, TranslatedCheckEnds, accepted, rejected, not_fetched, not_translated, translated}
 use Rattle.leancop_top.specs.Commands.Make.{IsOfText, MakeEnds}
 use Rattle.leancop_top.specs.Commands.Make as made
+use Rattle.leancop_top.specs.Commands.Migrate.{MigrateEnds}
+use Rattle.leancop_top.specs.Commands.Migrate as migrate_ends
 use Rattle.leancop_top.specs.Commands.Model.{ModelEnds}
 use Rattle.leancop_top.specs.Commands.Model as modelled
 use Rattle.leancop_top.specs.Commands.Prove.{ProveEnds, derived, fruitless}
@@ -53,13 +56,13 @@ search-counted P b m n f g after _ (no_tableau d h) = tt
 search-counted P b m n f g after _ (steps_ended d k h) = tt
 search-counted P b m n f g after _ (too_large h) = tt
 
-prove-counted : (P : Problem) (b : Bounds) (m n f g : ℕ) (after : List Read) (s : Status) (bytes : List ℕ) → ProveEnds P b s bytes → IsCounted m n f g after s
-prove-counted P b m n f g after _ _ (derived d bytes h) = tt
-prove-counted P b m n f g after _ _ (fruitless s h) = search-counted P b m n f g after s h
+prove-counted : (P : Problem) (b : Bounds) (v : Version) (m n f g : ℕ) (after : List Read) (s : Status) (bytes : List ℕ) → ProveEnds P b v s bytes → IsCounted m n f g after s
+prove-counted P b v m n f g after _ _ (derived d bytes h) = tt
+prove-counted P b v m n f g after _ _ (fruitless s h) = search-counted P b m n f g after s h
 
-pub proved-counted : (P : Problem) (b : Bounds) (m n f g : ℕ) (after : List Read) (r : Result Reply NoMemory) → IfOk r (λ x. ProveEnds P b x.status x.output.items) → IfOk r (λ x. IsCounted m n f g after x.status)
-proved-counted P b m n f g after (Ok x) h = prove-counted P b m n f g after x.status x.output.items h
-proved-counted P b m n f g after (Err k) h = tt
+pub proved-counted : (P : Problem) (b : Bounds) (v : Version) (m n f g : ℕ) (after : List Read) (r : Result Reply NoMemory) → IfOk r (λ x. ProveEnds P b v x.status x.output.items) → IfOk r (λ x. IsCounted m n f g after x.status)
+proved-counted P b v m n f g after (Ok x) h = prove-counted P b v m n f g after x.status x.output.items h
+proved-counted P b v m n f g after (Err k) h = tt
 
 -- ---- translating fetches nothing
 
@@ -119,10 +122,10 @@ search-told P b _ (no_tableau d h) = refl
 search-told P b _ (steps_ended d k h) = refl
 search-told P b _ (too_large h) = refl
 
-prove-told : (P : Problem) (b : Bounds) (s : Status) (bytes : List ℕ) → ProveEnds P b s bytes → is_silent s ≡ false
+prove-told : (P : Problem) (b : Bounds) (v : Version) (s : Status) (bytes : List ℕ) → ProveEnds P b v s bytes → is_silent s ≡ false
 unfolding is_silent
-prove-told P b _ _ (derived d bytes h) = refl
-prove-told P b _ _ (fruitless s h) = search-told P b s h
+prove-told P b v _ _ (derived d bytes h) = refl
+prove-told P b v _ _ (fruitless s h) = search-told P b s h
 
 fetch-told : (told : Option Files) (name : Word) (s : Status) → FetchEnds told name s → is_silent s ≡ false
 unfolding is_silent
@@ -151,6 +154,12 @@ transfer-told told P d _ _ (transfer_ends.not_translated s h) = translating-told
 transfer-told told P d _ _ (transfer_ends.rejected line fault h) = refl
 transfer-told told P d _ _ (transfer_ends.not_fetched s h) = fetch-told told d s h
 
+migrate-told : (told : Option Files) (P : Problem) (derivation : Word) (s : Status) (bytes : List ℕ) → MigrateEnds told P derivation s bytes → is_silent s ≡ false
+unfolding is_silent
+migrate-told told P d _ _ (migrate_ends.migrated bytes h) = refl
+migrate-told told P d _ _ (migrate_ends.rejected line fault h) = refl
+migrate-told told P d _ _ (migrate_ends.not_fetched s h) = fetch-told told d s h
+
 make-told : (g : GeneratedProblem) (b : Bounds) (s : Status) (bytes : List ℕ) → MakeEnds g b s bytes → is_silent s ≡ false
 unfolding is_silent
 make-told g b _ _ (made.derived P d text h k) = refl
@@ -170,10 +179,11 @@ unfolding is_silent
 bad-told place s e = rw e refl
 
 told : (files : Option Files) (command : Command) (s : Status) (bytes : List ℕ) → Ends files command s bytes → is_silent s ≡ false
-told files (prove p b) s bytes h = on-told files p (λ P. ProveEnds P b) (λ P. prove-told P b) s bytes h
+told files (prove p b v) s bytes h = on-told files p (λ P. ProveEnds P b v) (λ P. prove-told P b v) s bytes h
 told files (check p d) s bytes h = on-told files p (λ P. CheckEnds files P d) (λ P. check-told files P d) s bytes h
 told files (check_translated p d) s bytes h = on-told files (in_intuitionistic p) (λ P. TranslatedCheckEnds files P d) (λ P. translated-check-told files P d) s bytes h
 told files (transfer p d) s bytes h = on-told files (in_intuitionistic p) (λ P. TransferEnds files P d) (λ P. transfer-told files P d) s bytes h
+told files (migrate p d) s bytes h = on-told files p (λ P. MigrateEnds files P d) (λ P. migrate-told files P d) s bytes h
 told files (make g b) s bytes h = make-told g b s bytes h
 told files (model p d n) s bytes h = on-told files p (λ P. ModelEnds files P d n) (λ P. model-told files P d n) s bytes h
 told files (bad place) s bytes h = bad-told place s h.0

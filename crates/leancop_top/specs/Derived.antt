@@ -3,10 +3,12 @@ use Rattle.std.specs.Prelude.{◌≡◌, ℕ, List}
 use Rattle.calculus.specs.Syntax.{Problem}
 use Rattle.calculus.specs.Derivations.{Derivation}
 use Rattle.calculus.specs.Calculus.{Derives}
-use Rattle.calculus.specs.DerivationText.{IsText}
-use Rattle.calculus.specs.Judgement.{IsOnlyJudgement, accepted}
+use Rattle.calculus.specs.Judgement.{accepted}
 use Rattle.calculus.specs.Propositional.{IsPropositional, IsTautology}
 use Rattle.calculus.specs.Soundness.{IsTrueInStructures}
+use Rattle.calculus.specs.Versions.{IsTextIn}
+use Rattle.calculus.specs.declared.version.Version.{Version}
+use Rattle.derivation_check.specs.Only.{IsOnlyVersionJudgement}
 
 -- the formula is true in each structure of the setting; that of a propositional problem is a
 -- tautology, true whatever truth values its propositions have
@@ -14,12 +16,12 @@ pub record IsValid (P : Problem) : Type 0 where
   pub true_in_structures : IsTrueInStructures P
   pub tautology : IsPropositional P → IsTautology P
 
--- the bytes are the text of a derivation that derives the problem and carries the limit, and so
--- their judgement is acceptance
-pub record IsDerivation (P : Problem) (limit : ℕ) (bytes : List ℕ) : Type 0 where
+-- the bytes are the text of this version of a derivation that derives the problem and carries the
+-- limit, and so their judgement is acceptance
+pub record IsDerivation (version : Version) (P : Problem) (limit : ℕ) (bytes : List ℕ) : Type 0 where
   pub derivation : Derivation
   pub carries : derivation.limit ≡ limit
   pub derives : Derives P derivation
-  pub text : IsText P derivation bytes
-  pub judged : IsOnlyJudgement P bytes accepted
+  pub text : IsTextIn version P derivation bytes
+  pub judged : IsOnlyVersionJudgement P bytes accepted
   pub valid : IsValid P

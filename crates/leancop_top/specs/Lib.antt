@@ -6,6 +6,7 @@ pub mod SecondFile
 pub mod Translating
 pub mod TableauSearch
 pub mod Derived
+pub mod Accepted
 pub mod MadeLines
 pub mod Commands
 pub mod Run

@@ -4,11 +4,12 @@ use Rattle.std.specs.Prelude.{◌≡◌, ⊤, ℕ, List, take, Option}
 use Rattle.cop_base.specs.Outside.{Files}
 use Rattle.cop_sink.specs.Output.{with_bytes}
 use Rattle.cop_base.specs.Reads.{Read}
-use Rattle.command_line.specs.CommandLine.{Command, prove, check, check_translated, transfer, make, model, bad}
+use Rattle.command_line.specs.CommandLine.{Command, prove, check, check_translated, transfer, migrate, make, model, bad}
 use Rattle.command_line.specs.CommandLine.{in_intuitionistic}
 use Rattle.leancop_top.specs.Commands.Check.{CheckEnds, IsCheckable, IsJudged}
 use Rattle.leancop_top.specs.Commands.Check.{IsCheckableTranslated, TranslatedCheckEnds}
 use Rattle.leancop_top.specs.Commands.Make.{IsMakeable, MakeEnds}
+use Rattle.leancop_top.specs.Commands.Migrate.{IsMigrateDecided, MigrateEnds}
 use Rattle.leancop_top.specs.Commands.Model.{IsModel, IsNoModel, IsTold, ModelEnds}
 use Rattle.leancop_top.specs.Commands.Prove.{IsDecided, IsDerivedAt, IsProvable}
 use Rattle.leancop_top.specs.Commands.Prove.{IsProvableByCut, ProveEnds}
@@ -20,13 +21,15 @@ use Rattle.leancop_top.specs.declared.status.Status.TheVariants.{BadStructure, B
 
 -- why a run ends with a status, and what is written
 abbrev pub Ends : Option Files → Command → Status → List ℕ → Type 0
-Ends told (prove p b) status bytes = EndsOn told p (λ P. ProveEnds P b) status bytes
+Ends told (prove p b v) status bytes = EndsOn told p (λ P. ProveEnds P b v) status bytes
 Ends told (check p derivation) status bytes =
     EndsOn told p (λ P. CheckEnds told P derivation) status bytes
 Ends told (check_translated p derivation) status bytes =
     EndsOn told (in_intuitionistic p) (λ P. TranslatedCheckEnds told P derivation) status bytes
 Ends told (transfer p derivation) status bytes =
     EndsOn told (in_intuitionistic p) (λ P. TransferEnds told P derivation) status bytes
+Ends told (migrate p derivation) status bytes =
+    EndsOn told p (λ P. MigrateEnds told P derivation) status bytes
 Ends told (make g b) status bytes = MakeEnds g b status bytes
 Ends told (model p structure steps) status bytes =
     EndsOn told p (λ P. ModelEnds told P structure steps) status bytes
@@ -53,7 +56,7 @@ pub record IsCutOff (told : Option Files) (command : Command)
 
 -- what is decided where the files hold what the words ask for
 abbrev pub Decides : Option Files → Command → Status → Type 0
-Decides told (prove p b) status =
+Decides told (prove p b v) status =
     (IsProvable told p b → IsDecided status)
     × ((limit : ℕ) → IsProvableByCut told p b limit → IsDerivedAt limit status)
 Decides told (check p derivation) status = IsCheckable told p derivation → IsJudged status
@@ -61,6 +64,7 @@ Decides told (check_translated p derivation) status =
     IsCheckableTranslated told (in_intuitionistic p) derivation → IsJudged status
 Decides told (transfer p derivation) status =
     IsCheckable told (in_intuitionistic p) derivation → IsTransferDecided status
+Decides told (migrate p derivation) status = IsCheckable told p derivation → IsMigrateDecided status
 Decides told (make g b) status = IsMakeable g b → IsDecided status
 Decides told (model p structure steps) status =
     (IsModel told p structure steps → IsTold status)

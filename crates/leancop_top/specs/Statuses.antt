@@ -13,7 +13,8 @@ use Rattle.leancop_top.specs.declared.status.Status.TheVariants.{BadWords, Missi
 use Rattle.leancop_top.specs.declared.status.Status.TheVariants.{WriteFault, BadProblem}
 use Rattle.leancop_top.specs.declared.status.Status.TheVariants.{InputTooLarge, NestingTooDeep}
 use Rattle.leancop_top.specs.declared.status.Status.TheVariants.{FormulaTooLarge, TooManySymbols}
-use Rattle.leancop_top.specs.declared.status.Status.TheVariants.{MatrixTooLarge, Transferred, NoMemory}
+use Rattle.leancop_top.specs.declared.status.Status.TheVariants.{MatrixTooLarge, NoMemory}
+use Rattle.leancop_top.specs.declared.status.Status.TheVariants.{Migrated, Transferred}
 
 -- the line that tells a status, and the exit status of the process
 pub record Row : Type 0 where
@@ -45,6 +46,7 @@ row_of (BadWords place) = row 5 (codes "bad word " ++ decimal place)
 row_of (Missing name) = row 6 (codes "missing: " ++ name)
 row_of (ReadFault name) = row 6 (codes "read fault: " ++ name)
 row_of Transferred = without_line 0
+row_of Migrated = without_line 0
 row_of WriteFault = without_line 6
 row_of (BadProblem file offset cause) =
     row 4 (file ++ codes ":" ++ decimal offset ++ codes ": " ++ cause_text cause)

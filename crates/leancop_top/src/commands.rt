@@ -2,6 +2,7 @@
 
 pub mod check;
 pub mod make;
+pub mod migrate;
 pub mod model;
 pub mod prove;
 pub mod transfer;

@@ -14,6 +14,7 @@ ghost use Rattle.leancop_top.specs.Statuses.{IsCounted, OnAnswer};
 
 use crate::commands::check::{check, check_translated};
 use crate::commands::make::make;
+use crate::commands::migrate::migrate;
 use crate::commands::model::model;
 use crate::commands::prove::prove;
 use crate::commands::transfer::transfer;
@@ -37,7 +38,11 @@ fn answer<L: Library>(alloc: Global, words: &[String], lib: &mut L) -> Result<Re
         (L.reads lib.new) r.status) }
 {
     match command_of(words) {
-        Command::Prove { problem, bounds } => prove(alloc, lib, problem, bounds),
+        Command::Prove {
+            problem,
+            bounds,
+            version,
+        } => prove(alloc, lib, problem, bounds, version),
         Command::Check {
             problem,
             derivation,
@@ -50,6 +55,10 @@ fn answer<L: Library>(alloc: Global, words: &[String], lib: &mut L) -> Result<Re
             problem,
             derivation,
         } => transfer(alloc, lib, problem, derivation),
+        Command::Migrate {
+            problem,
+            derivation,
+        } => migrate(alloc, lib, problem, derivation),
         Command::Make { problem, bounds } => make(alloc, problem, bounds),
         Command::Model {
             problem,

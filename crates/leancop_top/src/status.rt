@@ -36,6 +36,8 @@ pub enum Status {
     Accepted,
     /// A derivation of the problem's translation into S4 was printed.
     Transferred,
+    /// The derivation of the bytes was printed in version 2.
+    Migrated,
     /// The bytes are no such text; the fault stands at this line, counted from 1.
     Rejected {
         line: u64,
@@ -89,7 +91,11 @@ pub fn exit_code(status: &Status) -> u8
     ensures { result ≡ exit_of status.now }
 {
     match status {
-        Status::Derived { .. } | Status::Accepted | Status::Transferred | Status::TrueAtRoot => 0,
+        Status::Derived { .. }
+        | Status::Accepted
+        | Status::Transferred
+        | Status::Migrated
+        | Status::TrueAtRoot => 0,
         Status::Exhausted { .. } => 1,
         Status::NoTableau { .. } => 2,
         Status::StepsEnded { .. } => 3,

@@ -48,9 +48,11 @@ pub fn status_line(alloc: Global, status: &Status) -> Result<Vec<u8>, NoMemory>
         Status::FormulaTooLarge => Ok(Vec::from_slice(alloc, b"formula too large\n")?),
         Status::TooManySymbols => Ok(Vec::from_slice(alloc, b"too many symbols\n")?),
         Status::MatrixTooLarge => Ok(Vec::from_slice(alloc, b"matrix too large\n")?),
-        Status::Derived { .. } | Status::Transferred | Status::WriteFault | Status::NoMemory => {
-            Ok(Vec::new(alloc))
-        }
+        Status::Derived { .. }
+        | Status::Transferred
+        | Status::Migrated
+        | Status::WriteFault
+        | Status::NoMemory => Ok(Vec::new(alloc)),
     }
 }
 

@@ -22,4 +22,6 @@ mod stream_tests;
 #[cfg(test)]
 mod transfer_tests;
 #[cfg(test)]
+mod version_tests;
+#[cfg(test)]
 mod word_tests;

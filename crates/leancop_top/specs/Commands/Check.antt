@@ -2,11 +2,12 @@
 use Rattle.std.specs.Prelude.{◌≡◌, ⊤, ℕ, List, Option, Some, Ok}
 use Rattle.cop_base.specs.Outside.{Files, file_in}
 use Rattle.calculus.specs.declared.fault.CheckFault.{CheckFault}
-use Rattle.calculus.specs.Judgement.{Verdict, IsOnlyJudgement}
+use Rattle.calculus.specs.Judgement.{Verdict}
 use Rattle.calculus.specs.Judgement as judgement
 use Rattle.calculus.specs.Syntax.{Problem}
 use Rattle.calculus.specs.Translation.{translated_problem}
 use Rattle.command_line.specs.CommandLine.{ProblemFile}
+use Rattle.derivation_check.specs.Only.{IsOnlyVersionJudgement}
 use Rattle.command_line.specs.Table.{Word}
 use Rattle.leancop_top.specs.Derived.{IsValid}
 use Rattle.leancop_top.specs.Reading.{Reading}
@@ -21,7 +22,7 @@ pub record IsJudgedIn (told : Option Files) (P : Problem) (derivation : Word) (v
     : Type 0 where
   pub text : List ℕ
   pub held : HasBytes told derivation text
-  pub judged : IsOnlyJudgement P text verdict
+  pub judged : IsOnlyVersionJudgement P text verdict
 
 -- why it ends with a status for the problem that is read, and what is written
 pub data CheckEnds (told : Option Files) (P : Problem) (derivation : Word)

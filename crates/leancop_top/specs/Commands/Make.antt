@@ -3,6 +3,7 @@
 use Rattle.std.specs.Prelude.{⊤, ℕ, List, [], ◌∷◌, codes, length, Some, Ok, Err}
 use Rattle.calculus.specs.Families.{family_text}
 use Rattle.calculus.specs.Syntax.{Problem}
+use Rattle.calculus.specs.declared.version.Version.TheVariants.{One}
 use Rattle.command_line.specs.CommandLine.{Bounds, GeneratedProblem, ProblemFile}
 use Rattle.cop_base.specs.Outside.{Files}
 use Rattle.problem_build.specs.Refusals.{Refusal, missing}
@@ -43,7 +44,7 @@ IsOfText _ = ⊤
 -- Why it ends with a status, and what is written. Where acceptance is written, there is a text whose
 -- judgement is acceptance, and which carries the limit.
 pub data MakeEnds (g : GeneratedProblem) (b : Bounds) : Status → List ℕ → Type 0 where
-  derived : (P : Problem) (limit : ℕ) (text : List ℕ) → IsMade g P → IsDerived P b limit text
+  derived : (P : Problem) (limit : ℕ) (text : List ℕ) → IsMade g P → IsDerived P b One limit text
       → MakeEnds g b (Derived limit) (output_of g (Derived limit))
   fruitless : (P : Problem) (status : Status) → IsMade g P → SearchEnds P b status
       → MakeEnds g b status (output_of g status)

@@ -4,6 +4,7 @@ use Rattle.cop_base.specs.Outside.{Files}
 use Rattle.calculus.specs.Syntax.{Problem}
 use Rattle.calculus.specs.Tableaux.{HasClosed}
 use Rattle.command_line.specs.CommandLine.{Bounds, ProblemFile}
+use Rattle.calculus.specs.declared.version.Version.{Version}
 use Rattle.leancop_top.specs.Derived.{IsDerivation}
 use Rattle.leancop_top.specs.Reading.{Reading}
 use Rattle.leancop_top.specs.Statuses.{status_line}
@@ -12,18 +13,19 @@ use Rattle.leancop_top.specs.declared.status.Status.{Status}
 use Rattle.leancop_top.specs.declared.status.Status.TheVariants.{Derived, Exhausted, NoTableau}
 
 -- some tableau is closed within the limit, there is a reason for this limit, and the bytes are the
--- text of a derivation with it
-pub record IsDerived (P : Problem) (b : Bounds) (limit : ℕ) (bytes : List ℕ) : Type 0 where
+-- text of this version of a derivation with it
+pub record IsDerived (P : Problem) (b : Bounds) (version : Version) (limit : ℕ) (bytes : List ℕ)
+    : Type 0 where
   pub closed : HasClosed P limit
   pub limit_is : IsLimit P b limit
-  pub written : IsDerivation P limit bytes
+  pub written : IsDerivation version P limit bytes
 
 -- why it ends with a status for the problem that is read, and what is written
-pub data ProveEnds (P : Problem) (b : Bounds) : Status → List ℕ → Type 0 where
-  derived : (limit : ℕ) (bytes : List ℕ) → IsDerived P b limit bytes
-      → ProveEnds P b (Derived limit) bytes
+pub data ProveEnds (P : Problem) (b : Bounds) (version : Version) : Status → List ℕ → Type 0 where
+  derived : (limit : ℕ) (bytes : List ℕ) → IsDerived P b version limit bytes
+      → ProveEnds P b version (Derived limit) bytes
   fruitless : (status : Status) → SearchEnds P b status
-      → ProveEnds P b status (status_line status)
+      → ProveEnds P b version status (status_line status)
 
 -- the files hold the problem, and the bounds suffice for it
 pub record IsProvable (told : Option Files) (p : ProblemFile) (b : Bounds) : Type 0 where

@@ -3,36 +3,28 @@ use Rattle.std.specs.Prelude.{◌≡◌, ⊤, ℕ, List, Option}
 use Rattle.cop_base.specs.Outside.{Files}
 use Rattle.calculus.specs.declared.fault.CheckFault.{CheckFault}
 use Rattle.calculus.specs.Derivations.{Derivation}
-use Rattle.calculus.specs.DerivationText.{IsText}
 use Rattle.calculus.specs.Judgement as judgement
-use Rattle.calculus.specs.Judgement.{IsOnlyJudgement}
 use Rattle.calculus.specs.Syntax.{Problem}
 use Rattle.calculus.specs.Translation.{translated_problem}
+use Rattle.calculus.specs.declared.version.Version.TheVariants.{One}
 use Rattle.command_line.specs.Table.{Word}
+use Rattle.leancop_top.specs.Accepted.{IsAcceptedIn}
 use Rattle.leancop_top.specs.Commands.Check.{IsJudgedIn}
 use Rattle.leancop_top.specs.Derived.{IsDerivation}
-use Rattle.leancop_top.specs.SecondFile.{FetchEnds, HasBytes}
+use Rattle.leancop_top.specs.SecondFile.{FetchEnds}
 use Rattle.leancop_top.specs.Statuses.{status_line}
 use Rattle.leancop_top.specs.Translating.{IsTranslatable, TranslatingEnds}
 use Rattle.leancop_top.specs.declared.status.Status.{Status}
 use Rattle.leancop_top.specs.declared.status.Status.TheVariants.{Transferred, Rejected}
 use Rattle.leancop_top.specs.declared.status.Status.TheVariants.{NestingTooDeep, FormulaTooLarge}
 
--- the file's bytes are the text of this derivation, and are accepted
-pub record IsAcceptedIn (told : Option Files) (P : Problem) (derivation : Word) (d : Derivation)
-    : Type 0 where
-  pub text : List ℕ
-  pub held : HasBytes told derivation text
-  pub is_text : IsText P d text
-  pub judged : IsOnlyJudgement P text judgement.accepted
-
--- the bytes are the text of a derivation of the translated problem, with the limit of the given one
+-- the bytes are the version 1 text of a derivation of the translated problem, with the limit of the given one
 pub record IsTransferred (told : Option Files) (P : Problem) (derivation : Word) (bytes : List ℕ)
     : Type 0 where
   pub given : Derivation
   pub accepted : IsAcceptedIn told P derivation given
   pub translatable : IsTranslatable P
-  pub written : IsDerivation (translated_problem P) given.limit bytes
+  pub written : IsDerivation One (translated_problem P) given.limit bytes
 
 -- the derivation is accepted, but the problem is not translated
 pub record IsNotTranslated (told : Option Files) (P : Problem) (derivation : Word) (status : Status)

@@ -2,6 +2,7 @@
 
 ghost use Rattle.std.specs.Prelude.{◌≡◌, ℕ, IfOk, IsTrue, List};
 ghost use Rattle.calculus.specs.DerivationText.{is_limit};
+ghost use Rattle.calculus.specs.declared.version.Version.TheVariants.{One};
 ghost use Rattle.calculus.specs.Tableaux.{is_closed};
 ghost use Rattle.command_line.specs.CommandLine as words;
 ghost use Rattle.command_line.specs.CommandView.{the_bounds, the_generated_problem};
@@ -19,6 +20,7 @@ use crate::text_library::TextLibrary;
 use command_line::{Bounds, GeneratedProblem, ProblemFile};
 use cop_base::{NoMemory, ReadRecord, Text};
 use derivation_check::Verdict;
+use derivation_text::Version;
 use logic_rules::Problem;
 use std::alloc::Global;
 use tableau_core::Tableau;
@@ -30,9 +32,9 @@ const MAIN: &str = "m.p";
 fn accept(alloc: Global, problem: &Problem, tableau: Tableau, limit: u8) -> Result<(), NoMemory>
     requires closed { IsTrue (is_closed problem.now limit (the_tableau tableau)) }
     requires limit { IsTrue (is_limit limit) }
-    ensures { IfOk result (λ _. (text : List ℕ) × IsDerivation problem.now limit text) }
+    ensures { IfOk result (λ _. (text : List ℕ) × IsDerivation One problem.now limit text) }
 {
-    let text = derivation_text(alloc, problem, tableau, limit)?;
+    let text = derivation_text(alloc, problem, tableau, limit, Version::One)?;
     match derivation_check::check(alloc, problem, text.as_slice())? {
         Verdict::Accepted => Ok(()),
         Verdict::Rejected { .. } => unreachable!(),

@@ -21,7 +21,7 @@ use crate::status::Status;
 use crate::tableau_search::{Searched, search};
 use command_line::{Bounds, ProblemFile};
 use cop_base::{Library, NoMemory};
-use derivation_text::print;
+use derivation_text::{Version, print};
 use logic_rules::Problem;
 use sequent_calc::Derivation;
 use sequent_convert::convert;
@@ -42,30 +42,36 @@ fn derive(
     convert(alloc, problem, &tableau, limit)
 }
 
-/// The text of the derivation to which the tableau leads.
+/// The text of this version of the derivation to which the tableau leads.
 pub fn derivation_text(
     alloc: Global,
     problem: &Problem,
     tableau: Tableau,
     limit: u8,
+    version: Version,
 ) -> Result<Vec<u8>, NoMemory>
     requires closed { IsTrue (is_closed problem.now limit (the_tableau tableau)) }
     requires limit { IsTrue (is_limit limit) }
-    ensures { IfOk result (λ text. IsDerivation problem.now limit text.items) }
+    ensures { IfOk result (λ text. IsDerivation version problem.now limit text.items) }
 {
     let derivation = derive(alloc, problem, tableau, limit)?;
-    let text = print(alloc, problem, &derivation)?;
+    let text = print(alloc, problem, &derivation, version)?;
     let _symbols = problem.symbols(); // tells that it is a problem
     Ok(text)
 }
 
-fn prove_problem(alloc: Global, problem: &Problem, bounds: Bounds) -> Result<Reply, NoMemory>
+fn prove_problem(
+    alloc: Global,
+    problem: &Problem,
+    bounds: Bounds,
+    version: Version,
+) -> Result<Reply, NoMemory>
     ensures { IfOk result
-        (λ r. ProveEnds problem.now (the_bounds bounds) r.status r.output.items) }
+        (λ r. ProveEnds problem.now (the_bounds bounds) version r.status r.output.items) }
 {
     match search(alloc, problem, bounds)? {
         Searched::Found { limit, tableau } => {
-            let output = derivation_text(alloc, problem, tableau, limit)?;
+            let output = derivation_text(alloc, problem, tableau, limit, version)?;
             Ok(Reply {
                 status: Status::Derived { limit },
                 output,
@@ -80,6 +86,7 @@ pub fn prove<L: Library>(
     lib: &mut L,
     file: ProblemFile<'_>,
     bounds: Bounds,
+    version: Version,
 ) -> Result<Reply, NoMemory>
     ensures same_files { L.holds lib.new ≡ L.holds lib.old }
     ensures more_faults { L.faults lib.old ≤ L.faults lib.new }
@@ -87,13 +94,13 @@ pub fn prove<L: Library>(
     ensures reads_on { ReadsOn (L.holds lib.old) (L.reads lib.old) (L.reads lib.new) }
     ensures ends { (told : Option Files) → ReadsOn told (L.reads lib.old) (L.reads lib.new)
         → IfOk result (λ r. Ends told
-        (prove (the_problem_file file.entry) (the_bounds bounds)) r.status r.output.items) }
+        (prove (the_problem_file file.entry) (the_bounds bounds) version) r.status r.output.items) }
     ensures counted { IfOk result (λ r. IsCounted
         (L.misses lib.old) (L.misses lib.new) (L.faults lib.old) (L.faults lib.new)
         (L.reads lib.new) r.status) }
 {
     match read_problem(alloc, lib, file)? {
-        Reading::Read(problem) => prove_problem(alloc, &problem, bounds),
+        Reading::Read(problem) => prove_problem(alloc, &problem, bounds, version),
         Reading::Refused(status) => line_reply(alloc, status),
     }
 }

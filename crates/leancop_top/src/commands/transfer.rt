@@ -1,16 +1,21 @@
 //! `transfer FILE DERIVATION`: an intuitionistic derivation as one of the problem's translation into
 //! S4.
 
-ghost use Rattle.std.specs.Prelude.{◌≡◌, ◌≤◌, IfOk, IsTrue, List, Option, ℕ};
+ghost use Rattle.std.specs.Prelude.{◌≡◌, ◌≤◌, Err, IfOk, IsTrue, List, OnOk, Option, ℕ};
 ghost use Rattle.calculus.specs.declared.setting.Logic.TheVariants.{Intuitionistic};
 ghost use Rattle.calculus.specs.Calculus.{Derives};
 ghost use Rattle.calculus.specs.DerivationText.{is_printable};
-ghost use Rattle.calculus.specs.Translation.{translated_problem};
+ghost use Rattle.calculus.specs.Judgement.{accepted, rejected};
+ghost use Rattle.calculus.specs.Versions.{IsTextIn};
+ghost use Rattle.calculus.specs.declared.fault.CheckFault.{CheckFault};
+ghost use Rattle.calculus.specs.declared.version.Version.{Version};
 ghost use Rattle.cop_base.specs.Outside.{Files};
 ghost use Rattle.cop_base.specs.Reads.{Read, ReadsOn};
 ghost use Rattle.command_line.specs.CommandLine.{transfer};
 ghost use Rattle.command_line.specs.CommandView.{the_intuitionistic_file};
-ghost use Rattle.leancop_top.specs.Commands.Transfer.{IsAcceptedIn, TransferEnds};
+ghost use Rattle.derivation_check.specs.Only.{IsOnlyVersionJudgement};
+ghost use Rattle.leancop_top.specs.Accepted.{IsAcceptedIn};
+ghost use Rattle.leancop_top.specs.Commands.Transfer.{TransferEnds};
 ghost use Rattle.leancop_top.specs.Derived.{IsDerivation};
 ghost use Rattle.leancop_top.specs.Run.{Ends};
 ghost use Rattle.leancop_top.specs.SecondFile.{HasBytes};
@@ -26,7 +31,7 @@ use crate::translation::{Translation, translate_problem};
 use command_line::IntuitionisticFile;
 use cop_base::{Library, NoMemory};
 use derivation_check::{AcceptFault, accept};
-use derivation_text::print;
+use derivation_text::{Version, derivation_of, print};
 use godel_transfer::TransferFault;
 use logic_rules::Problem;
 use sequent_calc::Derivation;
@@ -43,11 +48,11 @@ fn transferred_text(
     requires translated { IsTranslated problem.now translated.now }
     requires printable { IsTrue (is_printable problem.now (the_derivation derivation.now)) }
     requires derives { Derives problem.now (the_derivation derivation.now) }
-    ensures { IfOk result (λ text. IsDerivation translated.now derivation.now.limit text.items) }
+    ensures { IfOk result (λ text. IsDerivation Version.One translated.now derivation.now.limit text.items) }
 {
     match godel_transfer::transfer(alloc, problem, derivation) {
         Ok(transferred) => {
-            let text = print(alloc, translated, &transferred)?;
+            let text = print(alloc, translated, &transferred, Version::One)?;
             let _symbols = translated.symbols(); // tells that it is a problem
             Ok(text)
         }
@@ -83,6 +88,30 @@ fn transfer_accepted(
     }
 }
 
+// The derivation of bytes that are accepted, as the calculus has it.
+fn accepted_derivation(
+    alloc: Global,
+    problem: &Problem,
+    bytes: &[u8],
+) -> Result<Derivation, AcceptFault>
+    ensures text { IfOk result (λ d. (version : Version)
+        × IsTextIn version problem.now (the_derivation d) bytes.now) }
+    ensures printable { IfOk result (λ d. IsTrue (is_printable problem.now (the_derivation d))) }
+    ensures derives { IfOk result (λ d. Derives problem.now (the_derivation d)) }
+    ensures accepted { OnOk result (IsOnlyVersionJudgement problem.now bytes.now accepted) }
+    ensures rejected { (line : ℕ) (fault : CheckFault)
+        → result ≡ Err (AcceptFault.Rejected line fault)
+        → IsOnlyVersionJudgement problem.now bytes.now (rejected line fault) }
+{
+    match accept(alloc, problem, bytes) {
+        Ok((_, numbered)) => {
+            let derivation = derivation_of(alloc, &numbered)?;
+            Ok(derivation)
+        }
+        Err(fault) => Err(fault),
+    }
+}
+
 // The reply for the bytes that a file holds.
 fn transfer_bytes(alloc: Global, problem: &Problem, bytes: &[u8]) -> Result<Reply, NoMemory>
     requires { problem.now.setting.logic ≡ Intuitionistic }
@@ -90,7 +119,7 @@ fn transfer_bytes(alloc: Global, problem: &Problem, bytes: &[u8]) -> Result<Repl
         → IfOk result (λ r. TransferEnds told problem.now name r.status r.output.items) }
     ensures counted { (m n f g : ℕ) (after : List Read) → IfOk result (λ r. IsCounted m n f g after r.status) }
 {
-    match accept(alloc, problem, bytes) {
+    match accepted_derivation(alloc, problem, bytes) {
         Ok(derivation) => transfer_accepted(alloc, problem, &derivation),
         Err(AcceptFault::Rejected { line, fault }) => {
             line_reply(alloc, Status::Rejected { line, fault })

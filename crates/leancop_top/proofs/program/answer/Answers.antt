@@ -21,6 +21,10 @@ pub returns-in-Transfer-clause-ends : goal.returns-in-Transfer-clause-ends
 returns-in-Transfer-clause-ends g c = λ told w.
     subst (λ a. IfOk c.transfer.result (λ r. Ends told a r.status r.output.items)) (sym (ap the_command c.in-Transfer.is) ∙ c.command_of.ensures) (c.transfer.ensures.ends told w)
 
+pub returns-in-Migrate-clause-ends : goal.returns-in-Migrate-clause-ends
+returns-in-Migrate-clause-ends g c = λ told w.
+    subst (λ a. IfOk c.migrate.result (λ r. Ends told a r.status r.output.items)) (sym (ap the_command c.in-Migrate.is) ∙ c.command_of.ensures) (c.migrate.ensures.ends told w)
+
 pub returns-in-Model-clause-ends : goal.returns-in-Model-clause-ends
 returns-in-Model-clause-ends g c = λ told w.
     subst (λ a. IfOk c.model.result (λ r. Ends told a r.status r.output.items)) (sym (ap the_command c.in-Model.is) ∙ c.command_of.ensures) (c.model.ensures.ends told w)

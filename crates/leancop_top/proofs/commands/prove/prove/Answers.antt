@@ -8,15 +8,15 @@ use Rattle.leancop_top.proofs.commands.prove.prove.Goals as goal
 pub returns-in-Read-clause-ends : goal.returns-in-Read-clause-ends
 returns-in-Read-clause-ends g c = λ told w.
     let p = the_problem_file c.args.file in
-    read-ends told p c.in-Read.problem (λ Q. ProveEnds Q (the_bounds c.args.bounds)) c.prove_problem.result
+    read-ends told p c.in-Read.problem (λ Q. ProveEnds Q (the_bounds c.args.bounds) c.args.version) c.prove_problem.result
     (subst (IsReading told p) c.in-Read.is (c.in_ok-problem.ensures.reading told w)) c.prove_problem.ensures
 
 pub returns-in-Read-clause-counted : goal.returns-in-Read-clause-counted
 returns-in-Read-clause-counted g c =
-    proved-counted c.in-Read.problem (the_bounds c.args.bounds) _ _ _ _ _ c.prove_problem.result c.prove_problem.ensures
+    proved-counted c.in-Read.problem (the_bounds c.args.bounds) c.args.version _ _ _ _ _ c.prove_problem.result c.prove_problem.ensures
 
 pub returns-in-Refused-clause-ends : goal.returns-in-Refused-clause-ends
 returns-in-Refused-clause-ends g c = λ told w.
     let p = the_problem_file c.args.file in
-    line-ends (EndsOn told p (λ Q. ProveEnds Q (the_bounds c.args.bounds))) c.in-Refused.status c.line_reply.result c.line_reply.ensures.same c.line_reply.ensures.line
+    line-ends (EndsOn told p (λ Q. ProveEnds Q (the_bounds c.args.bounds) c.args.version)) c.in-Refused.status c.line_reply.result c.line_reply.ensures.same c.line_reply.ensures.line
     (without_problem c.in-Refused.status (subst (IsReading told p) c.in-Refused.is (c.in_ok-problem.ensures.reading told w)))

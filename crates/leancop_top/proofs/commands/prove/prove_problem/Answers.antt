@@ -18,5 +18,5 @@ returns-in_ok-output-in-Found c =
 pub returns-in-Fruitless : goal.returns-in-Fruitless
 returns-in-Fruitless c =
     let b = the_bounds c.args.bounds in
-    line-ends (ProveEnds c.args.problem.now b) c.in-Fruitless.status c.line_reply.result c.line_reply.ensures.same c.line_reply.ensures.line
+    line-ends (ProveEnds c.args.problem.now b c.args.version) c.in-Fruitless.status c.line_reply.result c.line_reply.ensures.same c.line_reply.ensures.line
     (fruitless c.in-Fruitless.status (subst (IsSearched c.args.problem.now b) c.in-Fruitless.is c.in_ok-limit.ensures))

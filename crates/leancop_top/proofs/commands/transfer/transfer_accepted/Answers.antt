@@ -1,4 +1,5 @@
 use Rattle.std.proofs.Common.{subst}
+use Rattle.calculus.specs.declared.version.Version.TheVariants.{One}
 use Rattle.leancop_top.proofs.Ends.{line-counted, line-ends, translating-counted}
 use Rattle.leancop_top.specs.Commands.Transfer.{TransferEnds, not_translated, transferred}
 use Rattle.leancop_top.specs.Derived.{IsDerivation}
@@ -18,7 +19,7 @@ returns-in_ok-output-in-Translated-clause-ends c = λ told name h.
       given = the_derivation c.args.derivation.now;
       accepted = h;
       translatable = t.translatable;
-      written = subst (λ Q. IsDerivation Q c.args.derivation.now.limit bytes) t.same c.in_ok-output-in-Translated.ensures;
+      written = subst (λ Q. IsDerivation One Q c.args.derivation.now.limit bytes) t.same c.in_ok-output-in-Translated.ensures;
     })
 
 pub returns-in-Refused-clause-ends : goal.returns-in-Refused-clause-ends

@@ -1,9 +1,10 @@
 use Rattle.std.proofs.Common.{Err, IsTrue, ap, arith, subst, sym}
-use Rattle.calculus.proofs.JudgementLaws.{accepted-only}
 use Rattle.calculus.proofs.SoundnessLaws.{derived-true}
 use Rattle.calculus.proofs.TautologyLaws.{tautology}
 use Rattle.calculus.specs.Calculus.{Derives}
+use Rattle.calculus.specs.declared.version.Version.TheVariants.{One}
 use Rattle.calculus.specs.DerivationText.{is_printable}
+use Rattle.derivation_check.proofs.Accepting.{accepted-in}
 use Rattle.sequent_calc.specs.DerivationView.{the_derivation}
 use Rattle.leancop_top.proofs.commands.transfer.transferred_text.Goals as goal
 
@@ -24,7 +25,7 @@ returns-in_ok-text-in-Ok c =
       carries = c.in-Ok.ensures.limit;
       derives = derives;
       text = text;
-      judged = accepted-only P c.in_ok-text-in-Ok.text.items d text derives c.in_ok-text-in-Ok.ensures.one;
+      judged = accepted-in P well One d c.in_ok-text-in-Ok.text.items text derives;
       valid = record { true_in_structures = true_in; tautology = λ h. tautology P well h true_in };
     }
 
