@@ -2,7 +2,7 @@
 use Rattle.std.proofs.Common.{if◌then◌else◌, ◌≡◌, ◌≢◌, ℕ, zero, suc, ◌+◌, ◌<◌, ◌≤◌, List, [], ◌∷◌, ◌++◌, length, get_or, drop, take, Bool, true, false, cond, not, ◌&&◌, ◌==◌, IsTrue, refl, sym, ◌∙◌, ap, arith, append_assoc, eq-eqb, eqb-true, flat_map}
 use Rattle.std.specs.List.{list_all, common_prefix_len}
 use Rattle.std.proofs.lemmas.Bool.{and_parts, true≢false}
-use Rattle.std.proofs.lemmas.List.{drop_all, take_all}
+use Rattle.std.proofs.lemmas.List.{drop_all}
 use Rattle.calculus.specs.DerivationText.{line_bytes}
 use Rattle.calculus.specs.Equality.{list_eq}
 use Rattle.text_lines.proofs.LineFeeds.{AreNoFeeds, NoFeed, is_no_feed}
@@ -26,9 +26,6 @@ feed-no b h = by (10 == b) refl
 
 abbrev after_line : Bool → ℕ → List ℕ → List ℕ → ℕ
 after_line b n r s = if b then line_of_difference (suc n) r s else n
-
-same-byte : (n x : ℕ) (xs ys : List ℕ) → (x == 10) ≡ false → (if x == x then line_of_difference (if x == 10 then suc n else n) xs ys else n) ≡ line_of_difference n xs ys
-same-byte n x xs ys e = ap (λ b. if b then line_of_difference (if x == 10 then suc n else n) xs ys else n) (eq-eqb x x refl) ∙ ap (λ b. line_of_difference (if b then suc n else n) xs ys) e
 
 -- a line and what follows it
 line-step : (n : ℕ) (l m r s : List ℕ) → NoFeed l → NoFeed m → line_of_difference n (l ++ 10 ∷ r) (m ++ 10 ∷ s) ≡ after_line (list_eq ◌==◌ l m) n r s
@@ -91,30 +88,6 @@ drop-at [] i d h = absurd (omega (arith, h))
 drop-at (x ∷ xs) zero d h = refl
 drop-at (x ∷ xs) (suc i) d h = drop-at xs i d (omega (arith, h))
 
-take-at : (xs : List ℕ) (i d : ℕ) → i < length xs → take (suc i) xs ≡ take i xs ++ get_or xs i d ∷ []
-take-at [] i d h = absurd (omega (arith, h))
-take-at (x ∷ xs) zero d h = refl
-take-at (x ∷ xs) (suc i) d h = ap (λ l. x ∷ l) (take-at xs i d (omega (arith, h)))
-
-pub same-start : (xs ys : List ℕ) → IsSameTo xs ys 0 1
-same-start xs ys = record { within = omega arith; same = refl; line = refl }
-
--- an equal byte more
-pub same-more : (xs ys : List ℕ) (i j n m b d e : ℕ) → IsSameTo xs ys i n → i < length xs → b ≡ get_or xs i d → i < length ys → get_or ys i e ≡ b → m ≡ (if b == 10 then suc n else n) → j ≡ suc i → IsSameTo xs ys j m
-same-more xs ys i j n m b d e h lt at less there k g =
-    let one = drop-at xs i d lt ∙ ap (λ z. z ∷ drop (suc i) xs) (sym at) in
-    let two = drop-at ys i e less ∙ ap (λ z. z ∷ drop (suc i) ys) there in
-    let here : IsSameTo xs ys (suc i) m = record {
-      within = omega (arith, less);
-      same = take-at xs i d lt ∙ (λ z. h.same z ++ (sym at ∙ sym there) z ∷ []) ∙ sym (take-at ys i e less);
-      line = h.line ∙ (λ z. line_of_difference n (one z) (two z)) ∙ ap (λ c. if c then line_of_difference (if b == 10 then suc n else n) (drop (suc i) xs) (drop (suc i) ys) else n) (eq-eqb b b refl)
-          ∙ ap (λ z. line_of_difference z (drop (suc i) xs) (drop (suc i) ys)) (sym k);
-    } in
-    subst-place here
-  where
-    subst-place : IsSameTo xs ys (suc i) m → IsSameTo xs ys j m
-    subst-place r = record { within = omega (arith, r.within, g); same = ap (λ z. take z xs) g ∙ r.same ∙ ap (λ z. take z ys) (sym g); line = r.line ∙ (λ z. line_of_difference m (drop (sym g z) xs) (drop (sym g z) ys)) }
-
 -- the second text ends before
 pub differ-short : (xs ys : List ℕ) (i n : ℕ) → IsSameTo xs ys i n → i < length xs → length ys ≤ i → (n ≡ line_of_difference 1 xs ys) × (xs ≢ ys)
 differ-short xs ys i n h lt le =
@@ -136,10 +109,3 @@ differ-byte xs ys i n b d e h lt at less other =
     same [] j p q h = absurd (omega (arith, h))
     same (z ∷ zs) zero p q h = refl
     same (z ∷ zs) (suc j) p q h = same zs j p q (omega (arith, h))
-
--- the first text ends
-pub differ-end : (xs ys : List ℕ) (i n : ℕ) → IsSameTo xs ys i n → length xs ≤ i → length xs < length ys → (n ≡ line_of_difference 1 xs ys) × (xs ≢ ys)
-differ-end xs ys i n h le lt = (sym (h.line ∙ ap (λ l. line_of_difference n l (drop i ys)) (drop_all i xs le)), λ e. let k = ap length e in absurd (omega (arith, lt, k)))
-
-pub same-end : (xs ys : List ℕ) (i n : ℕ) → IsSameTo xs ys i n → length xs ≤ i → length ys ≤ length xs → xs ≡ ys
-same-end xs ys i n h le lt = sym (take_all i xs le) ∙ h.same ∙ take_all i ys (omega (arith, le, lt))

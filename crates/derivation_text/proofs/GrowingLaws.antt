@@ -1,5 +1,5 @@
 -- Loops that enter the names and steps of a derivation one after the other.
-use Rattle.std.proofs.Common.{◌≡◌, ℕ, ◌+◌, ◌<◌, ◌≤◌, List, [], ◌∷◌, ◌++◌, length, get_or, map, take, refl, sym, ◌∙◌, ap, append_assoc}
+use Rattle.std.proofs.Common.{◌≡◌, ℕ, ◌+◌, ◌<◌, ◌≤◌, List, [], ◌∷◌, ◌++◌, length, get_or, map, take, refl, sym, ◌∙◌, ap}
 use Rattle.std.proofs.lemmas.List.{map-append, take_all, take_more}
 use Rattle.calculus.specs.Derivations.{EigenName, SpareName, Step}
 use Rattle.calculus.specs.Versions.{NumberedDerivation, numbering}
@@ -30,7 +30,3 @@ pub steps-grown : {X : Type 0} (f : X → Step) (xs : List X) (i : ℕ) (x d : X
     → y ≡ numbering (derivation_with limit es ss (map f (take (i + 1) xs)))
 steps-grown f xs i x d limit es ss z y lt at e g =
     g ∙ ap (λ k. put_step k (f x)) e ∙ put-step (derivation_with limit es ss (map f (take i xs))) (f x) ∙ ap (λ l. numbering (derivation_with limit es ss l)) (map-more f xs i x d lt at)
-
--- a list that grows by such items
-pub list-grown : {X Y : Type 0} (f : X → Y) (xs : List X) (i : ℕ) (x d : X) (first z y : List Y) → i < length xs → x ≡ get_or xs i d → z ≡ first ++ map f (take i xs) → y ≡ z ++ f x ∷ [] → y ≡ first ++ map f (take (i + 1) xs)
-list-grown f xs i x d first z y lt at e g = g ∙ ap (λ l. l ++ f x ∷ []) e ∙ append_assoc first (map f (take i xs)) (f x ∷ []) ∙ ap (λ l. first ++ l) (map-more f xs i x d lt at)

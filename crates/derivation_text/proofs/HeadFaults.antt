@@ -76,9 +76,3 @@ told P bytes m line c why e f =
     let a : m ≡ line = cc e in
     let b : c ≡ why = cc e in
     (f.0, sym a ∙ f.1, f.2, sym b ∙ f.3)
-
-pub told-head : {A : Type 0} (P : Problem) (bytes : List ℕ) (m : HeadLine) (r : ParseFault) (line : ℕ) (why : TextCause) → r ≡ Text (head_number m) (head_cause m) → ◌≡◌ {A = Result A ParseFault} (Err r) (Err (Text line why)) → IsFaultOf P bytes (head_number m) (head_cause m) → IsFaultOf P bytes line why
-told-head {A} P bytes m r line why d e f = told {A = A} P bytes (head_number m) line (head_cause m) why (back d e) f
-  where
-    back : {r s t : ParseFault} → r ≡ s → ◌≡◌ {A = Result A ParseFault} (Err r) (Err t) → ◌≡◌ {A = Result A ParseFault} (Err s) (Err t)
-    back d e = cc

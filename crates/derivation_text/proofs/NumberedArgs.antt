@@ -85,26 +85,10 @@ arg-no_to no_numbered_term r e = differ _ _ 0 e refl
 arg-no_to (by_number k) r e = differ _ _ 2 e refl
 arg-no_to (by_eigen k) r e = differ _ _ 1 e refl
 
-arg-no_new : (t : NumberedTerm) (r : List ℕ) → numbered_term_text t ≡ codes " new $$c" ++ r → ⊥
-arg-no_new no_numbered_term r e = differ _ _ 0 e refl
-arg-no_new (by_number k) r e = differ _ _ 1 e refl
-arg-no_new (by_eigen k) r e = differ _ _ 2 e refl
-
 pub no-args_to : (bytes rest : List ℕ) → bytes ≡ codes " to " ++ rest → ((k : ℕ) (t : NumberedTerm) → ¬ IsNumberAndArg rest k t) → (m : NumberedModal) (t : NumberedTerm) → ¬ IsNumberedArgs bytes m t
 no-args_to bytes rest e none no_numbered_modal t h = arg-no_to t rest (sym h.same ∙ e)
 no-args_to bytes rest e none (to_number k) t h = none k t (record { written = h.written; same = cut (codes " to ") _ _ (sym e ∙ h.same) })
 no-args_to bytes rest e none (by_character k) t h = differ _ _ 1 (sym e ∙ h.same) refl
-
-pub no-args_new : (bytes rest : List ℕ) → bytes ≡ codes " new $$c" ++ rest → ((n : ℕ) (t : NumberedTerm) → ¬ IsNewAndArg rest n t) → (m : NumberedModal) (t : NumberedTerm) → ¬ IsNumberedArgs bytes m t
-no-args_new bytes rest e none no_numbered_modal t h = arg-no_new t rest (sym h.same ∙ e)
-no-args_new bytes rest e none (to_number k) t h = differ _ _ 1 (sym e ∙ h.same) refl
-no-args_new bytes rest e none (by_character k) t h = none k t (record { written = h.written; same = cut (codes " new $$c") _ _ (sym e ∙ h.same) })
-
--- neither word begins the text
-pub no-args : (bytes : List ℕ) → ((rest : List ℕ) → ¬ (bytes ≡ codes " to " ++ rest)) → ((rest : List ℕ) → ¬ (bytes ≡ codes " new $$c" ++ rest)) → ((t : NumberedTerm) → ¬ IsNumberedTerm bytes t) → (m : NumberedModal) (t : NumberedTerm) → ¬ IsNumberedArgs bytes m t
-no-args bytes no_to no_new none no_numbered_modal t h = none t (record { written = h.written; same = h.same })
-no-args bytes no_to no_new none (to_number k) t h = no_to (decimal k ++ numbered_term_text t) h.same
-no-args bytes no_to no_new none (by_character k) t h = no_new (decimal k ++ numbered_term_text t) h.same
 
 -- ---- steps
 

@@ -17,14 +17,6 @@ and-both : (a b : Bool) → IsTrue a → IsTrue b → IsTrue (a && b)
 and-both true b ha hb = hb
 and-both false b ha hb = ha
 
-pub has-front : {A : Type 0} (same : A → A → Bool) (ys zs : List A) (x : A) → IsTrue (has same ys x) → IsTrue (has same (ys ++ zs) x)
-has-front same [] zs x h = absurd (true≢false (sym h))
-has-front {A} same (y ∷ ys) zs x h = by (same y x) refl (has-front same ys zs x)
-  where
-    by : (b : Bool) → same y x ≡ b → (IsTrue (has same ys x) → IsTrue (has same (ys ++ zs) x)) → IsTrue (same y x || has same (ys ++ zs) x)
-    by true e rest = ap (λ c. c || has same (ys ++ zs) x) e
-    by false e rest = ap (λ c. c || has same (ys ++ zs) x) e ∙ rest (ap (λ c. c || has same ys x) (sym e) ∙ h)
-
 abbrev others : {A : Type 0} → (A → A → Bool) → A → List A → List A
 others same z ys = filter (λ y. not (same z y)) ys
 

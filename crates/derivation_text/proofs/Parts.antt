@@ -1,5 +1,5 @@
 -- Homes and terms that are a whole text, and that nothing else is.
-use Rattle.std.proofs.Common.{◌≡◌, ℕ, ◌+◌, List, [], ◌∷◌, ◌++◌, length, drop, IsTrue, refl, ◌∙◌, ap, sym, subst, append-nil, arith, codes}
+use Rattle.std.proofs.Common.{◌≡◌, ℕ, ◌+◌, List, [], ◌++◌, length, IsTrue, ◌∙◌, ap, sym, subst, append-nil, arith, codes}
 use Rattle.calculus.specs.Syntax.{Symbol, Term}
 use Rattle.calculus.specs.Problems.{are_distinct}
 use Rattle.calculus.specs.Derivations.{Label, Home, anywhere, home_at}
@@ -32,17 +32,6 @@ term-rest symbols apart bytes u to h t k =
     let e = (IsTermAt-unique symbols apart bytes 0 to (0 + length (term_text symbols 0 t)) u t h (term-at symbols bytes t k)).1 in
     let f : length bytes ≡ length (term_text symbols 0 t) = ap length k.same in
     omega arith
-
--- nothing stands behind it
-pub whole-term : (symbols : List Symbol) (bytes : List ℕ) (to : ℕ) (t : Term) → IsTermAt symbols bytes 0 to t → to ≡ length bytes → IsTerm symbols bytes t
-whole-term symbols bytes to t h e = record { written = h.written; same = h.stands.there ∙ ap (λ l. term_text symbols 0 t ++ l) (past bytes to e) ∙ append-nil (term_text symbols 0 t) }
-  where
-    past : (bs : List ℕ) (k : ℕ) → k ≡ length bs → drop k bs ≡ []
-    past bs k g = ap (λ m. drop m bs) g ∙ all bs
-      where
-        all : (cs : List ℕ) → drop (length cs) cs ≡ []
-        all [] = refl
-        all (c ∷ cs) = all cs
 
 pub no-whole : (symbols : List Symbol) → IsTrue (are_distinct symbols) → (bytes : List ℕ) (to : ℕ) (u : Term) → IsTermAt symbols bytes 0 to u → ¬ (to ≡ length bytes) → (t : Term) → ¬ IsTerm symbols bytes t
 no-whole symbols d bytes to u h not t k = not (term-rest symbols d bytes u to h t k)

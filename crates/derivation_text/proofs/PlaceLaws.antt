@@ -86,10 +86,6 @@ numbers-put places numbers grown q n h same few lt new e = record { few = few; t
     told : (p : ℕ) → get_or (set grown q n) p 0 ≡ first_number (places ++ q ∷ []) p
     told p = by p (q == p) refl
 
--- numbers that only grew
-pub numbers-same : (places numbers grown : List ℕ) → AreNumbers places numbers → ((p : ℕ) → get_or grown p 0 ≡ get_or numbers p 0) → AreNumbers places grown
-numbers-same places numbers grown h same = record { few = h.few; told = λ p. same p ∙ h.told p }
-
 -- one place more
 pub numbers-listed : (places numbers grown after : List ℕ) (q n : ℕ) → AreNumbers places numbers → ((p : ℕ) → get_or grown p 0 ≡ get_or numbers p 0) → q < length grown → n ≡ suc (length places) → n < 2 ^ 32
     → (0 < get_or grown q 0 → after ≡ grown) → (get_or grown q 0 ≡ 0 → after ≡ set grown q n) → AreNumbers (places ++ q ∷ []) after
@@ -233,15 +229,6 @@ items-apart table d places apart within once i j hi hj e =
     let lj : j < length places = omega (arith, n, hj) in
     once i j li lj (apart (get_or places i 0) (get_or places j 0) (within-at table places i within li) (within-at table places j within lj)
     (sym (get_or-map (λ q. get_or table q d) places i 0 d li) ∙ e ∙ get_or-map (λ q. get_or table q d) places j 0 d lj))
-
--- the item of a number
-pub item-numbered : {A : Type 0} (table : List A) (d : A) (places : List ℕ) (k : ℕ) → IsTrue (is_among (length (items_at table d places)) k) → IsTrue (is_among (length places) k) × (numbered (items_at table d places) k d ≡ get_or table (numbered places k 0) d)
-item-numbered table d places zero h = absurd (true≢false (sym h))
-item-numbered table d places (suc i) h =
-    let n = length-map places (λ q. get_or table q d) in
-    let m = subst (λ l. IsTrue (is_among l (suc i))) n h in
-    let le = leb-true (suc i) (length places) (and_parts (nat_le 1 (suc i)) (nat_le (suc i) (length places)) m).1 in
-    (m, get_or-map (λ q. get_or table q d) places i 0 d (omega (arith, le)))
 
 pub place-within : {A : Type 0} (table : List A) (places : List ℕ) (k : ℕ) → AreWithin table places → IsTrue (is_among (length places) k) → numbered places k 0 < length table
 place-within table places zero h m = absurd (true≢false (sym m))
