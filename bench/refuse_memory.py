@@ -27,6 +27,8 @@ STRUCTURE = "leancop structure 1\nlogic classical\nworlds 1\nelements 1\nrelatio
 RUNS = ["prove first.p", "check first.p =first.p", "prove drinker.p", "check drinker.p =drinker.p",
         "prove excluded.p --logic=intuitionistic", "check excluded.p =excluded.p --logic=intuitionistic",
         "transfer excluded.p =excluded.p", "prove long.p", "check long.p =long.p",
+        "prove equal.p --format=2", "check equal.p ==equal.p", "migrate equal.p =equal.p", "migrate modal.p =modal.p --logic=t",
+        "migrate drinker.p ==drinker.p", "migrate first.p first.p", "migrate first.p none.txt",
         *("prove modal.p --logic=%s --domains=%s" % (logic, domains)
           for logic in ("d", "t", "s4", "s5") for domains in ("constant", "cumulative", "varying")),
         "check modal.p =modal.p --logic=t", "prove more.p --logic=t --domains=varying", "prove equal.p", "check equal.p =equal.p",
@@ -83,7 +85,8 @@ def refuse_each(refuser, words, every):
 
 
 def write_texts(refuser):
-    """The texts, and the derivations that are judged: `=FILE` is that of FILE in the logic of the words."""
+    """The texts, and the derivations that are judged: `=FILE` is that of FILE in the logic of the words, `==FILE` the same in
+    version 2."""
     for name, text in TEXTS.items():
         with open(name, "w") as file:
             file.write(text)
@@ -91,9 +94,10 @@ def write_texts(refuser):
         name = next((word for word in words if word.startswith("=")), None)
         if name is None:
             continue
-        logic = ["--logic=intuitionistic"] if name == "=excluded.p" else [word for word in words if word.startswith("--logic")]
+        logic = ["--logic=intuitionistic"] if name.lstrip("=") == "excluded.p" else [word for word in words if word.startswith("--logic")]
+        version = ["--format=2"] if name.startswith("==") else []
         with open(name, "wb") as file:
-            file.write(refuser.run(["prove", name[1:], *logic]).output)
+            file.write(refuser.run(["prove", name.lstrip("="), *logic, *version]).output)
 
 
 def main():
