@@ -11,7 +11,6 @@ use Rattle.calculus.specs.declared.kind.ModalPart.{ModalPart}
 use Rattle.calculus.specs.declared.kind.ModalPart.TheVariants.{Plain, Nu, Pi}
 use Rattle.calculus.specs.Syntax.{Problem}
 use Rattle.calculus.specs.Ground.{Value, term, steps}
-use Rattle.calculus.specs.Sizes.{value_list_size}
 use Rattle.calculus.specs.Kinds.{shape_of, modal_of}
 use Rattle.calculus.specs.Positions.{Node, node}
 use Rattle.calculus.specs.Skolem.{Reached, take_string, after_modal, take_term, after_shape, after_node, at_root, way_to, is_step, is_empty, fits_along, fits_way}
@@ -20,7 +19,6 @@ use Rattle.calculus.specs.ComputedInstances.{Part, reached_at, instance_of}
 use Rattle.calculus.specs.Tableaux.{Tableau, instances}
 use Rattle.conversion_theory.specs.Turns.{Name, turns_of_instance, turns_of, names_mentioned, names_introduced, last_but_one, IsParent, IsAgenda}
 use Rattle.calculus.proofs.Members.{Among, contains-at, at-contains, among-contains, contains-among, among-joined, joined-among}
-use Rattle.conversion_theory.proofs.NameLaws.{value_list_size-append, below-mentioned, size-introduced}
 use Rattle.calculus.proofs.SpotLaws.{LeadsTo, way-here}
 use Rattle.calculus.proofs.InstanceLaws.{OnPart}
 use Rattle.calculus.proofs.CasesLaws.{Cases, cases-by_instance_of}
@@ -192,17 +190,6 @@ earlier Before never agenda h i j x y e f b = elim (cases_eq i j) [
     order : (m n : ℕ) → (m < n) ⊎ (n ≤ m)
     order m n = grind arith
 
--- by the size of the values, then by the position
-abbrev pub ComesBefore : Turn → Turn → Type 0
-ComesBefore y x = (value_list_size y.values < value_list_size x.values) ⊎ ((value_list_size y.values ≡ value_list_size x.values) × (y.position < x.position))
-
-pub not-before_itself : (x : Turn) → ComesBefore x x → ⊥
-not-before_itself x (inl lt) = absurd (omega arith)
-not-before_itself x (inr p) = let lt = p.1 in absurd (omega arith)
-
-abbrev pub IsInOrder : List Turn → Type 0
-IsInOrder agenda = InOrderBy ComesBefore agenda
-
 -- ---- what the order gives
 
 -- the end of a list that ends in x is x
@@ -321,20 +308,3 @@ module _ (Before : Turn → Turn → Type 0) (never : (x : Turn) → Before x x 
         let found = at-contains agenda y ((all y).0 k) in
         (found.0, earlier Before never agenda ordered i found.0 x y e found.1 (introduces-before x y n (among-contains (names_mentioned P x) n m) (among-contains (names_introduced P y) n h)), found.1);
   }
-
--- a parent is no larger, and the turn that introduces a name is smaller than one that mentions it
-above-smaller : (P : Problem) (t : Tableau) (x y : Turn) → IsAbove P t y x → ComesBefore y x
-above-smaller P t x y h =
-    let total = ap value_list_size h.values in
-    let sizes = value_list_size-append y.values h.own in
-    let lower = h.lower in
-    elim (cases_eq (value_list_size y.values) (value_list_size x.values)) [ inl e ↦ inr (e, lower) | inr d ↦ inl (omega arith) ]
-
-introduces-smaller : (P : Problem) (x y : Turn) (n : Name) → Among (names_mentioned P x) n → Among (names_introduced P y) n → ComesBefore y x
-introduces-smaller P x y n h k =
-    let lt = below-mentioned P x n h in
-    let e = size-introduced P y n k in
-    inl (omega arith)
-
-pub agenda-in_order : (P : Problem) (t : Tableau) (agenda : List Turn) → ((x : Turn) → Contains (turns_of P t) x ↔ Contains agenda x) → ((i j : ℕ) (x : Turn) → slice_get agenda i ≡ Some x → slice_get agenda j ≡ Some x → i ≡ j) → IsInOrder agenda → IsAgenda P t agenda
-agenda-in_order P t agenda all once ordered = agenda-by ComesBefore not-before_itself P t (above-smaller P t) (introduces-smaller P) agenda all once ordered

@@ -1,15 +1,13 @@
 -- A name is larger than the names inside it, and so are the values of a turn than the names that it mentions.
-use Rattle.std.proofs.Common.{◌≡◌, ◌⊎◌, ℕ, Bool, true, false, if◌then◌else◌, suc, ◌+◌, ◌<◌, ◌≤◌, List, [], ◌∷◌, ◌++◌, flat_map, refl, sym, ◌∙◌, ap, subst, inl, inr, arith}
+use Rattle.std.proofs.Common.{◌≡◌, ◌⊎◌, ℕ, Bool, true, false, if◌then◌else◌, suc, ◌+◌, List, [], ◌∷◌, flat_map, refl, sym, inl, inr, arith}
 use Rattle.calculus.specs.Syntax.{Problem}
-use Rattle.calculus.specs.Ground.{GroundTerm, GroundTerms, GroundMark, Marks, Value, Values, g_fun, g_eigen, common, own, no_g_terms, more_g_terms, g_new_mark, g_spare_mark, no_marks, more_marks, term, steps, no_values, more_values, marks_list, values_list, values_tree}
-use Rattle.calculus.specs.Sizes.{g_term_size, g_terms_size, mark_size, marks_size, value_size, values_size, value_list_size}
-use Rattle.calculus.specs.Lists.{values_tree-values_list}
-use Rattle.calculus.specs.Skolem.{label_of, is_delta_position, is_pi_position}
+use Rattle.calculus.specs.Ground.{GroundTerm, GroundTerms, GroundMark, Marks, Value, Values, g_fun, g_eigen, common, own, no_g_terms, more_g_terms, g_new_mark, g_spare_mark, no_marks, more_marks, term, steps, no_values, more_values, values_tree}
+use Rattle.calculus.specs.Sizes.{g_term_size, g_terms_size, mark_size, marks_size, value_size, values_size}
+use Rattle.calculus.specs.Skolem.{is_delta_position, is_pi_position}
 use Rattle.calculus.specs.Instances.{Turn}
 use Rattle.conversion_theory.specs.Turns.{Name, term_name, mark_name, names_of_term, names_of_terms, names_of_mark, names_of_marks, names_of_value, names_of_values, names_of_home, names_mentioned, names_introduced}
-use Rattle.calculus.proofs.Members.{Among, among-left, among-right, among-append, among-joined, joined-among}
+use Rattle.calculus.proofs.Members.{Among, among-left, among-right, among-append, joined-among}
 use Rattle.conversion_theory.proofs.BelowLaws.{Below, below-append, below-cons, below-none, below-more}
-use Rattle.conversion_theory.proofs.HomeMarks.{Each, each-label}
 
 -- the size of the values inside a name
 abbrev pub inner_size : Name → ℕ
@@ -46,53 +44,7 @@ mutual
   below-values no_values = below-none inner_size 0
   below-values (more_values v vs) = below-append inner_size (value_size v) (values_size vs) (suc (value_size v + values_size vs)) (names_of_value v) (names_of_values vs) (below-value v) (below-values vs) (omega arith) (omega arith)
 
-pub below-value_list : (vs : List Value) → Below inner_size (value_list_size vs) (flat_map names_of_value vs)
-below-value_list [] = below-none inner_size 0
-below-value_list (v ∷ vs) = below-append inner_size (value_size v) (value_list_size vs) (suc (value_size v + value_list_size vs)) (names_of_value v) (flat_map names_of_value vs) (below-value v) (below-value_list vs) (omega arith) (omega arith)
-
--- ---- sizes of lists of values
-
-pub value_list_size-append : (xs ys : List Value) → value_list_size (xs ++ ys) ≡ value_list_size xs + value_list_size ys
-value_list_size-append [] ys = omega arith
-value_list_size-append (x ∷ xs) ys = let h = value_list_size-append xs ys in omega arith
-
--- ---- the marks of a label are no larger than the values that led there
-
-size-in-string : (w : Marks) → Each (λ m. mark_size m ≤ suc (marks_size w)) (marks_list w)
-size-in-string no_marks m i = elim i [ ]
-size-in-string (more_marks x ms) m (inl e) = let h : mark_size x ≤ suc (suc (mark_size x + marks_size ms)) = omega arith in subst (λ y. mark_size y ≤ suc (suc (mark_size x + marks_size ms))) e h
-size-in-string (more_marks x ms) m (inr i) = let h = size-in-string ms m i in omega arith
-
-within-label : (P : Problem) (p : ℕ) (vs : List Value) → Each (λ m. mark_size m ≤ suc (value_list_size vs)) (label_of P p vs)
-within-label P p vs = each-label (λ m. mark_size m ≤ suc (value_list_size vs)) vs (record {
-  given = λ us ws s e m i. (let h = size-in-string s m i in let whole = ap value_list_size e in let parts = value_list_size-append us (steps s ∷ ws) in omega arith);
-  made = λ q us ws e. (let whole = ap value_list_size e in let parts = value_list_size-append us ws in omega arith);
-}) P p
-
 -- ---- names in homes
-
-pub below-home : (P : Problem) (m n : Name) → Among (names_of_home P m) n → inner_size n ≤ inner_size m
-below-home P (term_name (g_eigen p vs)) n h =
-    let found = among-joined names_of_mark (label_of P p (values_list vs)) n h in
-    let le = within-label P p (values_list vs) found.0 found.1 in
-    let lt = below-mark found.0 n found.2 in
-    let same = ap values_size (values_tree-values_list vs) in
-    omega arith
-below-home P (term_name (g_fun f ts)) n h = elim h [ ]
-below-home P (term_name (common k)) n h = elim h [ ]
-below-home P (term_name (own k w)) n h = elim h [ ]
-below-home P (mark_name m) n h = elim h [ ]
-
--- the names that a turn mentions are smaller than its values
-pub below-mentioned : (P : Problem) (x : Turn) → Below inner_size (value_list_size x.values) (names_mentioned P x)
-below-mentioned P x n h = elim (among-append (flat_map names_of_value x.values) (flat_map (names_of_home P) (flat_map names_of_value x.values)) n h) [
-  | inl k ↦ below-value_list x.values n k
-  | inr k ↦
-      let found = among-joined (names_of_home P) (flat_map names_of_value x.values) n k in
-      let lt = below-value_list x.values found.0 found.1 in
-      let le = below-home P found.0 n found.2 in
-      omega arith
-]
 
 -- those that it introduces are as large
 abbrev one_if : Bool → Name → List Name
@@ -109,9 +61,6 @@ introduced-cases P y n h = elim (among-append (one_if (is_delta_position P y.pos
   | inl k ↦ let r = among-one_if (is_delta_position P y.position) (term_name (g_eigen y.position (values_tree y.values))) n k in inl (r.0, sym r.1)
   | inr k ↦ let r = among-one_if (is_pi_position P y.position) (mark_name (g_new_mark y.position (values_tree y.values))) n k in inr (r.0, sym r.1)
 ]
-
-pub size-introduced : (P : Problem) (y : Turn) (n : Name) → Among (names_introduced P y) n → inner_size n ≡ value_list_size y.values
-size-introduced P y n h = elim (introduced-cases P y n h) [ inl e ↦ ap inner_size e.1 | inr e ↦ ap inner_size e.1 ]
 
 one-here : (b : Bool) (x : Name) → b ≡ true → Among (one_if b x) x
 one-here true x e = inl refl

@@ -139,12 +139,6 @@ inside-smaller (term_name (common k)) m i = elim i [ ]
 inside-smaller (mark_name (g_new_mark p vs)) m i = below-values vs m i
 inside-smaller (mark_name (g_spare_mark k)) m i = elim i [ ]
 
-abbrev pub AreInOrder : List Name → Type 0
-AreInOrder names = AreOrderedBy inner_size names
-
-pub numbering-in_order : (P : Problem) (t : Tableau) (names : List Name) → ((n : Name) → Contains (names_of_tableau P t) n ↔ Contains names n) → ((i j : ℕ) (n : Name) → slice_get names i ≡ Some n → slice_get names j ≡ Some n → i ≡ j) → AreInOrder names → IsNumbering P t names
-numbering-in_order P t names all once ordered = numbering-by inner_size inside-smaller P t names all once ordered
-
 -- ---- numbers are places
 
 -- the number is the place of the name

@@ -1,10 +1,9 @@
 -- Turns that a sort has put in order: by the size of their values, or by their depth and number, and then by their position.
 use Rattle.std.proofs.Common.{◌≡◌, ◌⊎◌, ℕ, zero, suc, ◌<◌, ◌≤◌, List, [], ◌∷◌, Some, length, sym, subst, inl, inr, slice_get, arith}
-use Rattle.calculus.specs.Sizes.{value_list_size}
 use Rattle.calculus.specs.Instances.{Turn}
 use Rattle.calculus.proofs.WalkLaws.{none_some, some_injective}
 use Rattle.conversion_theory.specs.Depths.{value_list_depth}
-use Rattle.conversion_theory.proofs.AgendaLaws.{InOrderBy, ComesBefore, IsInOrder, not-before_itself}
+use Rattle.conversion_theory.proofs.AgendaLaws.{InOrderBy}
 use Rattle.conversion_theory.proofs.DepthAgenda.{ComesShorter, ComesLessDeep, IsInDepthOrder, not-less_deep_itself}
 
 -- of two keys the first decides, and where they are the same the rest does
@@ -58,17 +57,6 @@ module _ (Before : Turn → Turn → Type 0) (never : (x : Turn) → Before x x 
   in_order-by (z ∷ zs) h zero j x y e f lt b = first-lowest z zs h j y f (subst (λ u. Before y u) (sym (some_injective z e)) b)
   in_order-by (z ∷ zs) h (suc i) zero x y e f lt b = absurd (omega arith)
   in_order-by (z ∷ zs) h (suc i) (suc j) x y e f lt b = in_order-by zs (rising-tail z zs h) i j x y e f (omega arith) b
-
--- ---- by the size of the values
-
-pub not-before-chain : (x y z : Turn) → (ComesBefore y x → ⊥) → (ComesBefore z y → ⊥) → ComesBefore z x → ⊥
-not-before-chain x y z h g b = first-chain (value_list_size x.values) (value_list_size y.values) (value_list_size z.values) (y.position < x.position) (z.position < y.position) (z.position < x.position) (last-chain x.position y.position z.position) h g b
-
-abbrev pub IsRising : List Turn → Type 0
-IsRising agenda = IsRisingBy ComesBefore agenda
-
-pub in_order-rising : (agenda : List Turn) → IsRising agenda → IsInOrder agenda
-in_order-rising agenda h = in_order-by ComesBefore not-before_itself not-before-chain agenda h
 
 -- ---- by their depth and number
 

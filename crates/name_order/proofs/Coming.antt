@@ -1,5 +1,5 @@
 -- What a converter takes from the places: parents and those waited for come earlier, and once they are done a turn can come.
-use Rattle.std.proofs.Common.{◌≡◌, ◌⊎◌, ℕ, zero, suc, ◌<◌, List, [], ◌∷◌, ◌++◌, length, take, drop, Option, Some, None, Contains, slice_get, refl, sym, ◌∙◌, ap, subst, inl, inr, take-append-drop, append_assoc}
+use Rattle.std.proofs.Common.{◌≡◌, ◌⊎◌, ℕ, ◌<◌, List, ◌++◌, length, take, drop, Option, Some, None, Contains, slice_get, refl, sym, ◌∙◌, ap, subst, inl, inr, take-append-drop}
 use Rattle.std.specs.List.{flat_map}
 use Rattle.std.specs.Option.{option_map_or}
 use Rattle.calculus.specs.Ground.{Value}
@@ -9,10 +9,9 @@ use Rattle.calculus.specs.Tableaux.{Tableau}
 use Rattle.conversion_theory.specs.Turns.{Name, turns_of, names_of_value, names_of_home, names_mentioned, names_introduced, parent_position, IsParent, IsAgenda}
 use Rattle.conversion_theory.proofs.AgendaLaws.{TurnOf}
 use Rattle.conversion_theory.proofs.BranchLaws.{IsComplete}
-use Rattle.conversion_theory.proofs.HitLaws.{turn}
 use Rattle.conversion_theory.proofs.LedLaws.{CanCome, parent-done}
 use Rattle.calculus.proofs.Members.{Among, among-contains, contains-among, among-left, among-right, among-append, among-joined, joined-among, contains-at, at-contains}
-use Rattle.name_order.specs.Prerequisites.{ParentsTell, WaitsTell, IsAwaited, own_part, count_before}
+use Rattle.name_order.specs.Prerequisites.{ParentsTell, WaitsTell, own_part, count_before}
 use Rattle.name_order.proofs.Collecting.{flat_map-append}
 
 module _ (P : Problem) where
@@ -89,5 +88,3 @@ module _ (P : Problem) (t : Tableau) (agenda : List Turn) (ag : IsAgenda P t age
             let count : count_before agenda (Some j) ≡ length y.0.values = ap (λ o. option_map_or (λ (v : Turn). length v.values) o 0) y.1 in
             let same : take (count_before agenda (Some j)) x.values ≡ y.0.values = ap (λ m. take m x.values) count ∙ sym y.2.values in
             complete.names y.0 z n (f j y.0 refl y.1) c (subst (λ us. Mentions P us n) same a) q
-
-pub ruleset coming = (can-come)

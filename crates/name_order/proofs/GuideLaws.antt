@@ -1,24 +1,21 @@
 -- Turns that are found by their keys are those of the agenda: so the places are right.
-use Rattle.std.proofs.Common.{◌≡◌, ◌⊎◌, ◌↔◌, ℕ, zero, suc, ◌+◌, ◌-◌, ◌<◌, ◌≤◌, List, [], ◌∷◌, ◌++◌, length, take, drop, map, Bool, true, false, not, nat_lt, IsTrue, IsSome, Option, Some, None, option_and_then, position, slice_get, slice_index_or, get_or, Contains, arith, refl, sym, ◌∙◌, ap, subst, inl, inr, if◌then◌else◌, append-nil, append_assoc}
-use Rattle.std.specs.List.{AllByRecursion, IsDistinct, flat_map, position_or_len, list_any}
-use Rattle.std.specs.Option.{option_map_or}
-use Rattle.std.proofs.lemmas.Bool.{cases_Bool, true≢false}
+use Rattle.std.proofs.Common.{◌≡◌, ℕ, ◌<◌, List, [], ◌∷◌, ◌++◌, length, map, Bool, true, false, nat_lt, IsSome, Some, position, slice_get, get_or, arith, refl, sym, ◌∙◌, ap, subst, inl, inr, append-nil, append_assoc}
+use Rattle.std.specs.List.{AllByRecursion, IsDistinct, position_or_len, list_any}
+use Rattle.std.proofs.lemmas.Bool.{true≢false}
 use Rattle.std.proofs.lemmas.Bool.Decides.{nat_tests}
 use Rattle.std.proofs.lemmas.List.Quantifiers.{position-Some}
 use Rattle.std.proofs.lemmas.Option.{slice_get-get_or}
-use Rattle.std.proofs.lemmas.List.Sorted.{Contains-permutation}
-use Rattle.std.proofs.lemmas.Map.Keys.{IsDistinct-IsPermutation, IsDistinct-head, IsDistinct-tail}
+use Rattle.std.proofs.lemmas.Map.Keys.{IsDistinct-head, IsDistinct-tail}
 use Rattle.calculus.specs.Instances.{Turn}
-use Rattle.calculus.proofs.Members.{Among, among-at, at-among, among-all, among-append, joined-among, contains-among, among-contains, all-among}
-use Rattle.calculus.proofs.WalkLaws.{none_some, some_injective}
-use Rattle.name_order.specs.Arranged.{IsArranged, joined}
+use Rattle.calculus.proofs.Members.{Among, among-all, among-append, joined-among, all-among}
+use Rattle.name_order.specs.Arranged.{joined}
 use Rattle.name_order.specs.Found.{find_in}
-use Rattle.name_order.specs.Keeping.{keep, keep_all, turn_eq}
+use Rattle.name_order.specs.Keeping.{keep_all, turn_eq}
 use Rattle.name_order.specs.Words.{words_eq, words_of_turn}
 use Rattle.name_order.proofs.Arranging.{turn_eq-tells}
-use Rattle.name_order.proofs.KeepingLaws.{any-among, flips, kept-distinct, kept-more}
+use Rattle.name_order.proofs.KeepingLaws.{any-among}
 use Rattle.name_order.proofs.NumberOrder.{at-map}
-use Rattle.name_order.proofs.WordLaws.{words_eq-tells, words_of_turn-inj, keep_all-words}
+use Rattle.name_order.proofs.WordLaws.{words_eq-tells, words_of_turn-inj}
 
 -- ---- positions in a list
 
@@ -58,7 +55,7 @@ pub found-some : (agenda : List Turn) (keys : List (List ℕ)) → keys ≡ map 
 found-some agenda keys k x h = position-found (words_eq (words_of_turn x)) keys (words_of_turn x) (subst (λ ks. Among ks (words_of_turn x)) (sym k) (among-map words_of_turn agenda x h)) ((words_eq-tells (words_of_turn x) (words_of_turn x)).1 refl)
 
 -- turns once each keep their order
-kept-all : (ks xs : List Turn) → IsDistinct turn_eq xs → ((x : Turn) → Among xs x → Among ks x → ⊥) → keep_all turn_eq ks xs ≡ ks ++ xs
+pub kept-all : (ks xs : List Turn) → IsDistinct turn_eq xs → ((x : Turn) → Among xs x → Among ks x → ⊥) → keep_all turn_eq ks xs ≡ ks ++ xs
 kept-all ks [] d h = sym (append-nil ks)
 kept-all ks (x ∷ xs) d h = by (list_any (turn_eq x) ks) refl (kept-all (ks ++ x ∷ []) xs (IsDistinct-tail turn_eq x xs d) apart)
   where
@@ -74,19 +71,6 @@ kept-all ks (x ∷ xs) d h = by (list_any (turn_eq x) ks) refl (kept-all (ks ++ 
     by : (b : Bool) → list_any (turn_eq x) ks ≡ b → keep_all turn_eq (ks ++ x ∷ []) xs ≡ (ks ++ x ∷ []) ++ xs → keep_all turn_eq ks (x ∷ xs) ≡ ks ++ x ∷ xs
     by true e r = absurd (h x (inl refl) (any-among turn_eq turn_eq-tells ks x e))
     by false e r = rw e (r ∙ append_assoc ks (x ∷ []) xs)
-
-pub agenda-keys : (turns agenda : List Turn) (keys : List (List ℕ)) → IsArranged turns agenda → keys ≡ keep_all words_eq [] (map words_of_turn agenda) → keys ≡ map words_of_turn agenda
-unfolding IsDistinct
-agenda-keys turns agenda keys h e =
-    let kept = keep_all turn_eq [] turns in
-    let once = IsDistinct-IsPermutation turn_eq (flips turn_eq turn_eq-tells) kept agenda h.moved (kept-distinct turn_eq turn_eq-tells [] turns tt) in
-    e ∙ keep_all-words turn_eq turn_eq-tells words_of_turn words_of_turn-inj [] agenda ∙ ap (map words_of_turn) (kept-all [] agenda once (λ x i j. j))
-
--- each turn that was collected stands in the agenda
-pub arranged-has : (turns agenda : List Turn) → IsArranged turns agenda → (x : Turn) → Among turns x → Among agenda x
-arranged-has turns agenda h x i =
-    let kept = keep_all turn_eq [] turns in
-    among-contains agenda x (Contains-permutation kept agenda x h.moved (contains-among kept x (kept-more turn_eq turn_eq-tells [] turns x (inr i))))
 
 -- ---- the order
 

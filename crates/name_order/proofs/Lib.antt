@@ -1,5 +1,4 @@
 pub mod Wanting
-pub mod Ordered
 pub mod Collecting
 pub mod KeepingLaws
 pub mod Arranging
@@ -8,12 +7,11 @@ pub mod WalkTurns
 pub mod WalkSmall
 pub mod WordLaws
 pub mod PlaceLaws
-pub mod NameKeys
-pub mod NameSteps
 pub mod MentionLaws
 pub mod NumberOrder
 pub mod GuideLaws
 pub mod ParentLaws
 pub mod Promises
 pub mod Coming
-pub mod DigestLaws
+pub mod NumberPlaces
+pub mod ByNumber

@@ -1,31 +1,23 @@
 -- The names that are gathered are those that turns mention and introduce.
-use Rattle.std.proofs.Common.{◌≡◌, ◌⊎◌, ◌↔◌, ℕ, List, [], ◌∷◌, ◌++◌, Contains, refl, sym, ◌∙◌, ap, subst, inl, inr}
-use Rattle.std.specs.List.{flat_map, IsDistinct}
-use Rattle.calculus.specs.Ground.{Value, g_eigen, values_tree}
+use Rattle.std.proofs.Common.{◌≡◌, ◌↔◌, List, [], ◌∷◌, ◌++◌, refl, sym, ap, subst, inl, inr}
+use Rattle.std.specs.List.{flat_map}
+use Rattle.calculus.specs.Ground.{Value}
 use Rattle.calculus.specs.Instances.{Turn}
-use Rattle.calculus.specs.Lists.{values_list-values_tree}
 use Rattle.conversion_theory.specs.Numbering.{name_eq}
-use Rattle.calculus.specs.Skolem.{label_of}
 use Rattle.calculus.specs.Syntax.{Problem}
-use Rattle.calculus.specs.Tableaux.{Tableau}
-use Rattle.conversion_theory.specs.Turns.{Name, term_name, names_of_mark, names_of_value, names_of_values, names_of_home, names_mentioned, names_introduced, names_of_tableau, turns_of, IsAgenda}
-use Rattle.calculus.proofs.Members.{Among, contains-among, among-contains, among-left, among-right, among-append, among-joined, joined-among}
+use Rattle.conversion_theory.specs.Turns.{Name, names_of_value, names_of_home, names_mentioned, names_introduced}
+use Rattle.calculus.proofs.Members.{Among, among-left, among-right, among-append, among-joined, joined-among}
 use Rattle.conversion_theory.proofs.NumberLaws.{name_eq-tells}
 use Rattle.name_order.specs.Keeping.{keep_all}
 use Rattle.name_order.specs.Mentioned.{names_in, with_home, with_homes, mentioned_in, names_in_turn, names_by}
 use Rattle.name_order.proofs.KeepingLaws.{kept-more, kept-only}
 
-pub home-is : (P : Problem) (p : ℕ) (vs : List Value) → names_of_home P (term_name (g_eigen p (values_tree vs))) ≡ flat_map names_of_mark (label_of P p vs)
-home-is P p vs = ap (λ us. flat_map names_of_mark (label_of P p us)) (values_list-values_tree vs)
-
-pub ruleset home_names = (home-is)
-
-names-in-values : (vs : List Value) → names_in vs ≡ flat_map names_of_value vs
+pub names-in-values : (vs : List Value) → names_in vs ≡ flat_map names_of_value vs
 names-in-values [] = refl
 names-in-values (v ∷ vs) = ap (λ ns. names_of_value v ++ ns) (names-in-values vs)
 
 -- names once each are among the same
-same-kept : (ns : List Name) (n : Name) → Among (keep_all name_eq [] ns) n ↔ Among ns n
+pub same-kept : (ns : List Name) (n : Name) → Among (keep_all name_eq [] ns) n ↔ Among ns n
 same-kept ns n = (
   λ h. elim (kept-only name_eq name_eq-tells [] ns n h) [ inl k ↦ elim k [ ] | inr k ↦ k ],
   λ h. kept-more name_eq name_eq-tells [] ns n (inr h),
@@ -82,5 +74,3 @@ names-same P xs ys h n = (λ k. out ((same-kept (names_by P ys) n).0 k), λ k. (
       ]))
       | inr i ↦ let r = among-joined (names_introduced P) ys n i in joined-among turn_names xs r.0 n ((h r.0).1 r.1) (among-right (names_mentioned P r.0) (names_introduced P r.0) n r.2)
     ]
-
-pub ruleset lists_back = (values_list-values_tree)

@@ -1,8 +1,7 @@
 -- The parents of turns, and what they wait for, by the keys of an agenda.
-use Rattle.std.proofs.Common.{◌≡◌, ◌⊎◌, ◌↔◌, ℕ, zero, suc, ◌+◌, ◌-◌, ◌<◌, List, [], ◌∷◌, ◌++◌, length, take, drop, map, Bool, true, false, IsTrue, Option, Some, None, option_and_then, slice_get, Contains, arith, refl, sym, ◌∙◌, ap, subst, inl, inr, if◌then◌else◌, append-nil, append_assoc}
+use Rattle.std.proofs.Common.{◌≡◌, ◌↔◌, ℕ, ◌+◌, ◌-◌, List, [], ◌∷◌, ◌++◌, length, take, drop, map, Bool, true, false, IsTrue, Option, Some, None, option_and_then, slice_get, arith, refl, sym, ◌∙◌, ap, subst, inl, inr, if◌then◌else◌, append-nil, append_assoc}
 use Rattle.std.proofs.Math.Seq.{take-append_seam}
 use Rattle.std.proofs.lemmas.List.{length-append, length-map}
-use Rattle.std.specs.List.{flat_map}
 use Rattle.std.specs.Option.{option_map_or}
 use Rattle.calculus.specs.declared.sign.Sign.{Sign}
 use Rattle.calculus.specs.declared.setting.Logic.{Logic}
@@ -14,19 +13,19 @@ use Rattle.calculus.specs.Kinds.{shape_of, modal_of}
 use Rattle.calculus.specs.Lists.{values_list-values_tree, values_tree-values_list}
 use Rattle.conversion_theory.specs.Numbering.{name_eq}
 use Rattle.calculus.specs.Positions.{Node, node}
-use Rattle.calculus.specs.Skolem.{Reached, at_root, way_to, is_empty, fits_along, fits_way, is_delta_position, is_pi_position}
+use Rattle.calculus.specs.Skolem.{Reached, at_root, way_to, fits_along, fits_way}
 use Rattle.calculus.specs.ComputedInstances.{reached_at}
 use Rattle.calculus.specs.Syntax.{Formula, Problem}
 use Rattle.calculus.specs.Tableaux.{Tableau}
 use Rattle.conversion_theory.specs.Turns.{Name, term_name, mark_name, turns_of, names_mentioned, names_introduced, last_but_one, parent_position, IsParent, IsAgenda}
 use Rattle.conversion_theory.proofs.AgendaLaws.{TurnOf, Anything, turn-works, work-position, work-way, last_but_one-two}
 use Rattle.conversion_theory.proofs.HitLaws.{Moves, plain, by_string, by_character}
-use Rattle.calculus.proofs.Members.{Among, among-contains, contains-among, among-at, contains-at, joined-among, among-joined}
+use Rattle.calculus.proofs.Members.{Among, among-contains, contains-among, among-at, joined-among, among-joined}
 use Rattle.conversion_theory.proofs.NameLaws.{introduced-cases, introduced-eigen, introduced-mark}
 use Rattle.conversion_theory.proofs.PlaceLaws.{Parent, HasParent, Work, Takes, nothing_more, one_term}
 use Rattle.calculus.proofs.SpotLaws.{LeadsTo, fits-LeadsTo, is_gamma}
 use Rattle.calculus.proofs.WalkLaws.{none_some, some_injective}
-use Rattle.name_order.specs.Found.{find_in, above_in, before_in, parent_in, introducer_in, listed, introducers_in, waits_in}
+use Rattle.name_order.specs.Found.{find_in, above_in, before_in, parent_in, introducer_in, listed, waits_in}
 use Rattle.name_order.specs.Keeping.{keep_all}
 use Rattle.name_order.specs.Mentioned.{mentioned_in}
 use Rattle.name_order.specs.Places.{Place, place, places_of, is_delta_in, is_pi_in}
@@ -122,7 +121,7 @@ module _ (P : Problem) (t : Tableau) where
       }
 
   -- what is found for a turn
-  data Tells (agenda : List Turn) (x : Turn) (o : Option ℕ) : Type 0 where
+  pub data Tells (agenda : List Turn) (x : Turn) (o : Option ℕ) : Type 0 where
     is_root : o ≡ None → parent_position P x.position ≡ None → before_in (places_of P) x ≡ 0 → Tells agenda x o
     has_parent : (j : ℕ) (y : Turn) → o ≡ Some j → slice_get agenda j ≡ Some y → IsParent P y x → before_in (places_of P) x ≡ length y.values → Tells agenda x o
 
@@ -144,7 +143,7 @@ module _ (P : Problem) (t : Tableau) where
             let found = found-some agenda keys known p.above there in
             has_parent found.0 p.above (ap (option_and_then (λ q. find_in keys (the_turn_at q (take (before_in (places_of P) x) x.values)))) some ∙ ap (find_in keys) same ∙ found.1) (found-at agenda keys known p.above found.0 found.1) (above-parent x w p) (before-is x w ∙ ap length (sym p.values))
 
-    tells-at : (parents : List (Option ℕ)) → parents ≡ map (parent_in (places_of P) keys) agenda → (i : ℕ) (x : Turn) (o : Option ℕ) → slice_get parents i ≡ Some o → slice_get agenda i ≡ Some x → Tells agenda x o
+    pub tells-at : (parents : List (Option ℕ)) → parents ≡ map (parent_in (places_of P) keys) agenda → (i : ℕ) (x : Turn) (o : Option ℕ) → slice_get parents i ≡ Some o → slice_get agenda i ≡ Some x → Tells agenda x o
     tells-at parents e i x o g h =
         let m = at-map (parent_in (places_of P) keys) agenda i o (subst (λ ps. slice_get ps i ≡ Some o) e g) in
         let same : m.0 ≡ x = some_injective m.0 (sym m.1 ∙ h) in
@@ -222,7 +221,7 @@ module _ (P : Problem) (t : Tableau) where
     count-is x o (is_root n q b) = ap (count_before agenda) n ∙ sym b
     count-is x o (has_parent j y q a r b) = ap (count_before agenda) q ∙ ap (λ z. option_map_or (λ (v : Turn). length v.values) z 0) a ∙ sym b
 
-    waits-is : (x : Turn) (o : Option ℕ) (k : ℕ) → Tells agenda x o → Among (waits_in P (places_of P) keys x) k ↔ IsAwaited P agenda o x k
+    pub waits-is : (x : Turn) (o : Option ℕ) (k : ℕ) → Tells agenda x o → Among (waits_in P (places_of P) keys x) k ↔ IsAwaited P agenda o x k
     waits-is x o k told = (
       λ h. (let r = among-joined (λ n. listed (introducer_in (places_of P) keys n)) names k h in let i = introducer-is r.0 k (listed-is (introducer_in (places_of P) keys r.0) k r.2) in (i.0, r.0, i.1, contains-among (names_mentioned P (own_part agenda o x)) r.0 ((same r.0).0 r.1), contains-among (names_introduced P i.0) r.0 i.2)),
       λ h. joined-among (λ n. listed (introducer_in (places_of P) keys n)) names h.1 k ((same h.1).1 (among-contains (names_mentioned P (own_part agenda o x)) h.1 h.3)) (is-listed (introducer_in (places_of P) keys h.1) k (introducer-of h.0 h.1 k h.2 (among-contains (names_introduced P h.0) h.1 h.4))),

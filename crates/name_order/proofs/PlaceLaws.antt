@@ -10,7 +10,7 @@ use Rattle.calculus.specs.declared.kind.Shape.{Shape}
 use Rattle.calculus.specs.declared.kind.Shape.TheVariants.{Literal}
 use Rattle.calculus.specs.declared.kind.ModalPart.{ModalPart}
 use Rattle.calculus.specs.Kinds.{other, Signed, components, shape_of, modal_of}
-use Rattle.calculus.specs.Positions.{size, Node, node, way_from, way}
+use Rattle.calculus.specs.Positions.{size, Node, node, way_from}
 use Rattle.calculus.specs.Skolem.{last_node, way_to, is_delta, is_pi, is_delta_position, is_pi_position}
 use Rattle.calculus.specs.Syntax.{Formula, atom, neg, conj, disj, imp, all, ex, box, dia, Problem}
 use Rattle.conversion_theory.specs.Turns.{last_but_one, parent_position}

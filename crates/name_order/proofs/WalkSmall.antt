@@ -1,7 +1,7 @@
 -- The positions of a problem have numbers of 32 bits.
-use Rattle.std.proofs.Common.{ℕ, ◌<◌, ◌≤◌, ◌^◌, IsTrue, arith}
+use Rattle.std.proofs.Common.{◌<◌, ◌≤◌, ◌^◌, IsTrue, arith}
 use Rattle.std.proofs.lemmas.Bool.{leb-true}
-use Rattle.calculus.specs.Measures.{node_count, term_nodes, terms_nodes}
+use Rattle.calculus.specs.Measures.{node_count}
 use Rattle.calculus.specs.Positions.{size}
 use Rattle.calculus.specs.Problems.{is_problem}
 use Rattle.calculus.specs.Syntax.{Formula, atom, neg, conj, disj, imp, all, ex, box, dia, Problem}

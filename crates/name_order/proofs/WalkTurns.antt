@@ -1,5 +1,5 @@
 -- The walk of an allowed instance finds its turns.
-use Rattle.std.proofs.Common.{◌≡◌, ℕ, suc, ◌+◌, List, [], ◌∷◌, ◌++◌, length, take, drop, true, false, IsTrue, refl, sym, ◌∙◌, ap, subst, append_assoc, append-nil, arith, map}
+use Rattle.std.proofs.Common.{◌≡◌, ℕ, suc, List, [], ◌∷◌, ◌++◌, length, take, drop, IsTrue, refl, sym, ◌∙◌, ap, subst, append_assoc, append-nil, arith, map}
 use Rattle.std.proofs.Math.Seq.{take-append_seam, drop-append_seam}
 use Rattle.std.specs.List.{flat_map}
 use Rattle.std.specs.Option.{option_map_or}
@@ -9,20 +9,18 @@ use Rattle.calculus.specs.declared.sign.Side.{Side}
 use Rattle.calculus.specs.declared.sign.Side.TheVariants.{Left, Right}
 use Rattle.calculus.specs.declared.setting.Logic.{Logic}
 use Rattle.calculus.specs.declared.kind.Shape.{Shape}
-use Rattle.calculus.specs.declared.kind.Shape.TheVariants.{Literal, Alpha, Beta, Gamma, Delta}
-use Rattle.calculus.specs.declared.kind.ModalPart.TheVariants.{Plain, Nu, Pi}
 use Rattle.calculus.specs.Syntax.{Formula, Problem}
 use Rattle.calculus.specs.Ground.{Value, term, steps, g_eigen, values_tree}
 use Rattle.calculus.specs.Positions.{size}
 use Rattle.calculus.specs.Kinds.{Signed, components, modal_of, shape_of}
-use Rattle.calculus.specs.Instances.{Spot, root_spot, down_by, spot_inside, after_string, after_character, clause_instance, Turn, Share, Gives, by_plain, by_nu, by_pi, Shaped, is_literal, by_only, by_left, by_right, by_both, by_gamma, by_delta, ClauseInstance}
-use Rattle.calculus.specs.ComputedInstances.{Part, is_allowed_instance, instance_of}
+use Rattle.calculus.specs.Instances.{Spot, root_spot, down_by, spot_inside, after_string, after_character, clause_instance, Share, Gives, by_plain, by_nu, by_pi, Shaped, is_literal, by_only, by_left, by_right, by_both, by_gamma, by_delta, ClauseInstance}
+use Rattle.calculus.specs.ComputedInstances.{Part, is_allowed_instance}
 use Rattle.calculus.specs.Tableaux.{Tableau, instances, is_closed}
 use Rattle.conversion_theory.specs.Turns.{turns_of_instance, turns_of}
 use Rattle.conversion_theory.proofs.HitLaws.{turn}
 use Rattle.calculus.proofs.CasesLaws.{is_allowed_instance-exact, instance_of-by_cases}
 use Rattle.conversion_theory.proofs.ClosedLaws.{AreAllowed, all-allowed}
-use Rattle.name_order.specs.Walks.{Walked, walked, Walk, strings_at, terms_at, values_at, with_turn, walk_node, walk, turns_by}
+use Rattle.name_order.specs.Walks.{Walked, walked, Walk, terms_at, values_at, with_turn, walk_node, walk, turns_by}
 use Rattle.name_order.proofs.WalkByShape.{walk_below, walk-by}
 
 -- a position takes the values that stand in front

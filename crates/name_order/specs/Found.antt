@@ -2,7 +2,7 @@
 use Rattle.std.specs.Prelude.{ℕ, ◌-◌, List, [], ◌∷◌, length, take, drop, position, Option, Some, None, option_and_then, slice_get, if◌then◌else◌}
 use Rattle.std.specs.List.{flat_map}
 use Rattle.std.specs.Option.{option_map_or}
-use Rattle.calculus.specs.Ground.{Value, g_eigen, g_new_mark, values_list}
+use Rattle.calculus.specs.Ground.{g_eigen, g_new_mark, values_list}
 use Rattle.calculus.specs.Instances.{Turn}
 use Rattle.conversion_theory.specs.Numbering.{name_eq}
 use Rattle.calculus.specs.Syntax.{Problem}

@@ -1,7 +1,4 @@
-pub mod TurnView
-pub mod NameView
 pub mod NamedView
-pub mod Order
 pub mod Walks
 pub mod Keeping
 pub mod Arranged
@@ -9,10 +6,7 @@ pub mod WalkView
 pub mod Words
 pub mod Places
 pub mod PlaceView
-pub mod NameSetView
 pub mod Mentioned
-pub mod Numbered
 pub mod Found
 pub mod Prerequisites
-pub mod Digests
-pub mod DigestView
+pub mod ByNumber

@@ -1,15 +1,14 @@
 -- The turns of an instance as its sides and values give them, without labels and without terms.
 use Rattle.std.specs.Prelude.{ℕ, suc, ◌+◌, List, [], ◌∷◌, ◌++◌, take, drop, Bool, true, false, if◌then◌else◌}
-use Rattle.std.specs.List.{flat_map}
 use Rattle.calculus.specs.declared.sign.Sign.{Sign}
 use Rattle.calculus.specs.declared.sign.Sign.TheVariants.{F}
 use Rattle.calculus.specs.declared.sign.Side.{Side}
-use Rattle.calculus.specs.declared.sign.Side.TheVariants.{Left, Right}
+use Rattle.calculus.specs.declared.sign.Side.TheVariants.{Right}
 use Rattle.calculus.specs.declared.setting.Logic.{Logic}
 use Rattle.calculus.specs.declared.kind.Shape.{Shape}
-use Rattle.calculus.specs.declared.kind.Shape.TheVariants.{Alpha, Beta, Gamma, Delta}
+use Rattle.calculus.specs.declared.kind.Shape.TheVariants.{Beta, Gamma}
 use Rattle.calculus.specs.declared.kind.ModalPart.{ModalPart}
-use Rattle.calculus.specs.declared.kind.ModalPart.TheVariants.{Plain, Nu, Pi}
+use Rattle.calculus.specs.declared.kind.ModalPart.TheVariants.{Nu}
 use Rattle.calculus.specs.Syntax.{Formula, atom, neg, conj, disj, imp, all, ex, box, dia, Problem}
 use Rattle.calculus.specs.Ground.{Value}
 use Rattle.calculus.specs.Kinds.{other, shape_of, modal_of}

@@ -2,10 +2,9 @@
 use Rattle.std.specs.Prelude.{ℕ, List, [], ◌∷◌, ◌++◌, Bool, ◌==◌}
 use Rattle.std.specs.Cmp.Lexicographic.{pointwise}
 use base.Stored.{Gv, gnil, gnum, gcons}
-use Rattle.calculus.specs.Codes.{g_term_gv, g_terms_gv, mark_gv, marks_gv, value_gv, values_gv}
-use Rattle.calculus.specs.Ground.{GroundTerm, GroundTerms, GroundMark, Marks, Value, Values, values_tree}
+use Rattle.calculus.specs.Codes.{values_gv}
+use Rattle.calculus.specs.Ground.{Value, values_tree}
 use Rattle.calculus.specs.Instances.{Turn}
-use Rattle.conversion_theory.specs.Turns.{Name, term_name, mark_name}
 
 -- a code in preorder, each part behind the number of its kind
 abbrev pub flat : Gv → List ℕ
@@ -18,10 +17,6 @@ words_of_values vs = flat (values_gv (values_tree vs))
 
 abbrev pub words_of_turn : Turn → List ℕ
 words_of_turn x = x.position ∷ words_of_values x.values
-
-abbrev pub words_of_name : Name → List ℕ
-words_of_name (term_name t) = 0 ∷ flat (g_term_gv t)
-words_of_name (mark_name m) = 1 ∷ flat (mark_gv m)
 
 abbrev pub words_eq : List ℕ → List ℕ → Bool
 words_eq = pointwise ◌==◌

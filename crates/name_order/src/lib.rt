@@ -2,24 +2,21 @@
 #![tactic(auto)]
 
 mod agenda;
+mod awaited;
 mod collect;
-mod digest;
+mod depth;
 mod guide;
+mod inside;
 mod keys;
-mod look_up;
-mod mention;
-mod name_set;
 mod named;
 mod names;
+mod naming;
 mod numbering;
-mod order;
 mod place;
-mod size;
+mod reached;
 mod turn;
 mod walk;
-mod words;
 
-pub use digest::digest_value;
 pub use named::{Named, name};
 pub use names::Name;
-pub use turn::{Turn, TurnList};
+pub use turn::Turn;

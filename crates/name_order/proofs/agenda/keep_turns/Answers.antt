@@ -1,11 +1,15 @@
-use Rattle.std.proofs.Common.{arith}
-use Rattle.name_order.specs.Order.{the_turns}
-use Rattle.name_order.proofs.Arranging.{list-step}
+use Rattle.std.proofs.Common.{arith, refl, ap, ◌∙◌}
+use Rattle.name_order.specs.Arranged.{joined}
+use Rattle.name_order.specs.ByNumber.Collected.{the_list, the_lists}
+use Rattle.name_order.specs.ByNumber.ReachedView.{the_all}
+use Rattle.name_order.specs.Keeping.{keep_all, turn_eq}
+use Rattle.name_order.proofs.ByNumber.SetLaws.{kept-step}
 use Rattle.name_order.proofs.agenda.keep_turns.Goals as goal
 
 pub loop-list-preserved : goal.loop-list-preserved
-loop-list-preserved c = record {
-  keyed = c.in_ok-keep_list.ensures.keyed;
-  kept = list-step (the_turns c.loop-list.kept.turns.items) (the_turns c.keep_list.new.kept.turns.items) c.args.lists.now c.loop-list.list-index c.list-item.result _ _ _ (omega arith) c.list-item.is c.in_ok-keep_list.ensures.kept c.items.ensures c.loop-list.invariant.kept;
-  sized = c.in_ok-keep_list.ensures.sized c.loop-list.invariant.sized;
-}
+loop-list-preserved c =
+    let ls = c.args.table.now in
+    record {
+      normal = c.in_ok-keep_list.ensures.normal;
+      kept = kept-step turn_eq (λ xs. joined (the_lists ls xs)) (the_list ls) (λ x xs. refl) (the_all ls c.loop-list.kept.keys) (the_all ls c.keep_list.new.kept.keys) _ c.args.lists.now c.loop-list.list-index c.list-item.result _ (omega arith) c.list-item.is (c.in_ok-keep_list.ensures.kept ∙ ap (λ rs. keep_all turn_eq (the_all ls c.loop-list.kept.keys) (the_all ls rs)) c.deref.ensures.value) c.loop-list.invariant.kept;
+    }

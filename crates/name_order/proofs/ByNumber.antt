@@ -1,0 +1,15 @@
+pub mod SetLaws
+pub mod ReachedLaws
+pub mod NameSets
+pub mod GrowLaws
+pub mod WalkStep
+pub mod OrderLaws
+pub mod InsideLaws
+pub mod HomeLaws
+pub mod NumberLaws
+pub mod WaitLaws
+pub mod NamingLaws
+pub mod Promises
+pub mod CollectLaws
+pub mod Collecting
+pub mod DepthLaws
