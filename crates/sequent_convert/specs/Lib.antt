@@ -1,10 +1,4 @@
 pub mod Conversion
-pub mod SpotView
-pub mod PastView
-pub mod NodeView
-pub mod NodeList
-pub mod NodeKeys
-pub mod MadeView
 pub mod Numbers
 pub mod AheadView
 pub mod State
@@ -12,3 +6,4 @@ pub mod RunView
 pub mod Pairs
 pub mod Working
 pub mod Atoms
+pub mod ByNumber

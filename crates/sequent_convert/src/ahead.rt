@@ -1,13 +1,14 @@
 //! What is ahead of a branch: turns of an instance, and what closes the branch at the literals among them.
 
-ghost use Rattle.std.specs.Prelude.{◌≡◌, ◌-◌, ◌&&◌, IfSome, MatchOption, if◌then◌else◌, length, take, drop, nat_le, nat_lt, nat_eq};
+ghost use Rattle.std.specs.Prelude.{◌≡◌, ◌-◌, ◌&&◌, IfSome, List, MatchOption, if◌then◌else◌, length, map, take, drop, nat_le, nat_lt, nat_eq};
 ghost use Rattle.conversion_theory.specs.Leading.{ends_at, ends_of};
 ghost use Rattle.calculus.specs.Lists.{closings_tree};
-ghost use Rattle.calculus.specs.Tableaux.{instances_below, instances_of_all};
-ghost use Rattle.sequent_convert.specs.AheadView.{IsExtended, IsNotExtended, closing_ends, instance_count, starts_with, the_ends};
-ghost use Rattle.tableau_core.specs.ClosingView.{the_closing};
+ghost use Rattle.formula_core.specs.GroundLists.{GroundList};
+ghost use Rattle.sequent_convert.specs.AheadView.{IsExtended, IsNotExtended, instance_count};
+ghost use Rattle.sequent_convert.specs.ByNumber.AheadView.{closings_count, instances_in_all, instances_in_closing, starts_with, the_ends};
+ghost use Rattle.tableau_core.specs.Numbered.ClosingView.{closing_in, the_closing};
 
-use tableau_core::{Closing, ClosingList};
+use tableau_core::shared::{Closing, ClosingList};
 
 /// What closes a branch that has come to a literal of an instance.
 #[derive(Clone, Copy)]
@@ -28,9 +29,9 @@ pub struct Ends<'t> {
 
 impl<'t> Ends<'t> {
     /// Those of the start clause.
-    #[tactic(auto, using(crate::proofs::Ends::starting))]
+    #[tactic(auto, using(crate::proofs::ByNumber::Ends::starting))]
     pub fn of_start(goals: &'t ClosingList) -> Ends<'t>
-        ensures { the_ends result ≡ ends_of (closings_tree goals.now) }
+        ensures { (ls : List GroundList) → the_ends ls result ≡ ends_of (closings_tree (map (closing_in ls) goals.now)) }
     {
         let goals = goals.items();
         Ends {
@@ -41,9 +42,9 @@ impl<'t> Ends<'t> {
     }
 
     /// Those of an extension by the literal at the place.
-    #[tactic(auto, using(crate::proofs::Ends::extension))]
+    #[tactic(auto, using(crate::proofs::ByNumber::Ends::extension))]
     pub fn of_extension(goals: &'t ClosingList, place: usize) -> Ends<'t>
-        ensures { the_ends result ≡ ends_at place (closings_tree goals.now) }
+        ensures { (ls : List GroundList) → the_ends ls result ≡ ends_at place (closings_tree (map (closing_in ls) goals.now)) }
     {
         let goals = goals.items();
         Ends {
@@ -55,7 +56,7 @@ impl<'t> Ends<'t> {
 
     /// The first one.
     fn first(&self) -> Option<End<'t>>
-        ensures { starts_with (the_ends self.now) result }
+        ensures { (ls : List GroundList) → starts_with ls (the_ends ls self.now) result }
     {
         if let Some((goal, _)) = self.before.split_first() {
             return Some(End::By(goal));
@@ -70,10 +71,10 @@ impl<'t> Ends<'t> {
     }
 
     /// The place of the connected literal and the goals of the first one, where it is an extension.
-    #[tactic(auto, using(crate::proofs::Ends::starts))]
+    #[tactic(auto, using(crate::proofs::ByNumber::Ends::starts))]
     pub fn extension(&self) -> Option<(usize, &'t ClosingList)>
-        ensures { MatchOption result (IsNotExtended (the_ends self.now))
-            (λ r. IsExtended (the_ends self.now) r.0 (closings_tree r.1.now)) }
+        ensures { (ls : List GroundList) → MatchOption result (IsNotExtended (the_ends ls self.now))
+            (λ r. IsExtended (the_ends ls self.now) r.0 (closings_tree (map (closing_in ls) r.1.now))) }
     {
         match self.first() {
             Some(End::By(Closing::Extend { literal, goals, .. })) => {
@@ -86,9 +87,9 @@ impl<'t> Ends<'t> {
     }
 
     /// The first n.
-    #[tactic(auto, using(crate::proofs::Ends::parts))]
+    #[tactic(auto, using(crate::proofs::ByNumber::Ends::parts))]
     pub fn take(&self, n: usize) -> Ends<'t>
-        ensures { the_ends result ≡ take n (the_ends self.now) }
+        ensures { (ls : List GroundList) → the_ends ls result ≡ take n (the_ends ls self.now) }
     {
         let rest = n.saturating_sub(self.before.len());
         Ends {
@@ -99,9 +100,9 @@ impl<'t> Ends<'t> {
     }
 
     /// Those behind the first n.
-    #[tactic(auto, using(crate::proofs::Ends::parts))]
+    #[tactic(auto, using(crate::proofs::ByNumber::Ends::parts))]
     pub fn skip(&self, n: usize) -> Ends<'t>
-        ensures { the_ends result ≡ drop n (the_ends self.now) }
+        ensures { (ls : List GroundList) → the_ends ls result ≡ drop n (the_ends ls self.now) }
     {
         let rest = n.saturating_sub(self.before.len());
         Ends {
@@ -112,9 +113,9 @@ impl<'t> Ends<'t> {
     }
 
     /// How many instances their closings have.
-    #[tactic(auto, using(crate::proofs::Ends::together))]
+    #[tactic(auto, using(crate::proofs::ByNumber::Ends::together))]
     pub fn instances(&self) -> Option<usize>
-        ensures { IfSome result (λ n. n ≡ instance_count (the_ends self.now)) }
+        ensures { IfSome result (λ n. (ls : List GroundList) → n ≡ instance_count (the_ends ls self.now)) }
     {
         instances_among(self.before)?.checked_add(instances_among(self.after)?)
     }
@@ -167,9 +168,9 @@ fn past_first<'t>(goals: &'t [Closing], n: usize) -> &'t [Closing]
 }
 
 // How many instances some closings have.
-#[tactic(auto, using(crate::proofs::Ends::counting))]
+#[tactic(auto, using(crate::proofs::ByNumber::Ends::counting))]
 fn instances_among(goals: &[Closing]) -> Option<usize>
-    ensures { IfSome result (λ n. n ≡ instance_count (closing_ends goals.now)) }
+    ensures { IfSome result (λ n. n ≡ closings_count goals.now) }
 {
     let mut count: usize = 0;
     for goal in goals {
@@ -181,7 +182,7 @@ fn instances_among(goals: &[Closing]) -> Option<usize>
 // The recursion goes as deep as extensions are nested.
 #[cycle(instances)]
 fn instances_in(goal: &Closing) -> Option<usize>
-    ensures { IfSome result (λ n. n ≡ length (instances_below (the_closing goal.now))) }
+    ensures { IfSome result (λ n. n ≡ instances_in_closing (the_closing goal.now)) }
 {
     match goal {
         Closing::Reduce { .. } => Some(0),
@@ -190,9 +191,9 @@ fn instances_in(goal: &Closing) -> Option<usize>
 }
 
 #[cycle(instances)]
-#[tactic(auto, using(crate::proofs::Ends::counting))]
+#[tactic(auto, using(crate::proofs::ByNumber::Ends::counting))]
 fn instances_of(goals: &ClosingList) -> Option<usize>
-    ensures { IfSome result (λ n. n ≡ length (instances_of_all (closings_tree goals.now))) }
+    ensures { IfSome result (λ n. n ≡ instances_in_all goals.now) }
 {
     let mut count: usize = 0;
     for goal in goals.items() {

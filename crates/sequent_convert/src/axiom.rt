@@ -1,78 +1,23 @@
 //! Axioms: a T node and an F node of one atom at one label.
 
-ghost use Rattle.std.specs.Prelude.{◌≡◌, ◌<◌, ◌∷◌, [], suc, ℕ, Some, IsTrue, IfOk, OnOk, MatchOption, length, map, slice_get, true, false};
-ghost use Rattle.calculus.specs.Calculus.{connects};
-ghost use Rattle.conversion_theory.specs.Branches.{Item, entry_of_item};
-ghost use Rattle.calculus.specs.Derivations as derivation;
-ghost use Rattle.conversion_theory.specs.Numbering.{number_of};
+ghost use Rattle.std.specs.Prelude.{◌≡◌, ◌↔◌, ◌<◌, ℕ, IsTrue, IfOk, MatchOption, length, map, ◌∷◌, suc, Some, OnOk, true};
+ghost use Rattle.calculus.specs.Lists.{terms_tree};
+ghost use Rattle.sequent_convert.specs.ByNumber.NodeView.{the_node};
+ghost use Rattle.sequent_convert.specs.ByNumber.Pairs.{ArePair, AreSameLiterals, MakeAxiom, MakesAxiomAt, SameAtoms};
+ghost use Rattle.sequent_convert.specs.ByNumber.SpotView.{the_spot};
 ghost use Rattle.calculus.specs.Text.{is_number};
-ghost use Rattle.sequent_calc.specs.EntryView.{the_entry};
-ghost use Rattle.sequent_convert.specs.NodeView.{the_node};
-ghost use Rattle.sequent_convert.specs.Pairs.{ArePair, connected_at};
 
-use crate::entry::literal_entry;
+use crate::alike::{are_alike, are_same_labels};
 use crate::node::Node;
-use crate::source::Source;
-use cop_base::NoMemory;
-use formula_core::Sign;
-use sequent_calc::{ApplyFault, Entry, Step, addition_of};
+use crate::spot::Spot;
+use cop_base::{NoMemory, SymbolId};
+use formula_core::{GroundTable, Sign, Terms};
 
 /// The numbers of the two nodes of an axiom, counted from 1.
 #[derive(Clone, Copy)]
 pub struct Pair {
     pub given: u32,
     pub shown: u32,
-}
-
-// Whether the first entry and the second make an axiom, as the rules say.
-fn are_connected(source: &Source, entries: &[Entry]) -> Result<bool, NoMemory>
-    ensures { IfOk result (λ b. (x : derivation.Entry) (y : derivation.Entry) → map the_entry entries.now ≡ x ∷ y ∷ [] → b ≡ connects x y) }
-{
-    let step = Step::Axiom { given: 1, shown: 2 };
-    let problem = source.problem.problem();
-    match addition_of(source.alloc, problem, source.names, entries, &step) {
-        Ok(_) => Ok(true),
-        Err(ApplyFault::Fault(_)) => Ok(false),
-        Err(ApplyFault::NoMemory) => Err(NoMemory),
-    }
-}
-
-// Whether the two nodes make an axiom.
-fn are_pair(source: &Source, given: &Node, shown: &Node) -> Result<bool, NoMemory>
-    ensures { IfOk result (λ b. b ≡ connects (entry_of_item (number_of source.now.named.now.names) (the_node given.now)) (entry_of_item (number_of source.now.named.now.names) (the_node shown.now))) }
-{
-    match (given.part.formula.as_atom(), shown.part.formula.as_atom()) {
-        (Some((p, ts)), Some((q, us))) => {
-            let mut entries = Vec::new(source.alloc);
-            entries.push(literal_entry(source.alloc, source.named, given, p, ts)?)?;
-            entries.push(literal_entry(source.alloc, source.named, shown, q, us)?)?;
-            let connected = are_connected(source, entries.as_slice())?;
-            Ok(connected)
-        }
-        _ => Ok(false),
-    }
-}
-
-/// The pair of the nodes at two places, if they make an axiom.
-pub fn pair_at(
-    source: &Source,
-    nodes: &[Node],
-    given: usize,
-    shown: usize,
-) -> Result<Option<Pair>, NoMemory>
-    requires given { given < length nodes.now }
-    requires shown { shown < length nodes.now }
-    ensures { IfOk result (λ o. MatchOption o (connected_at source.now.named.now.names (map the_node nodes.now) given shown ≡ false)
-        (λ p. ArePair source.now.named.now.names (map the_node nodes.now) p)) }
-{
-    if are_pair(source, &nodes[given], &nodes[shown])? {
-        Ok(Some(Pair {
-            given: entry_number(given)?,
-            shown: entry_number(shown)?,
-        }))
-    } else {
-        Ok(None)
-    }
 }
 
 /// The number of the entry at a place.
@@ -89,14 +34,92 @@ pub fn entry_number(place: usize) -> Result<u32, NoMemory>
     }
 }
 
+// Whether both are the same atom at the same label.
+fn are_same_literals(
+    table: &GroundTable,
+    a: &Spot,
+    p: SymbolId,
+    ts: &Terms,
+    b: &Spot,
+    q: SymbolId,
+    us: &Terms,
+) -> bool
+    ensures { IsTrue result ↔ AreSameLiterals (the_spot table.now a.now) p.0 (terms_tree ts.now) (the_spot table.now b.now) q.0 (terms_tree us.now) }
+{
+    p == q
+        && are_alike(
+            table,
+            a.env.as_ref().as_slice(),
+            ts,
+            b.env.as_ref().as_slice(),
+            us,
+        )
+        && are_same_labels(
+            table,
+            a.label.as_ref().as_slice(),
+            b.label.as_ref().as_slice(),
+        )
+}
+
+// Whether both are atoms, and the same one at the same label.
+#[tactic(auto, using(crate::proofs::ByNumber::PairLaws::atoms))]
+fn are_same_atoms(table: &GroundTable, given: &Node, shown: &Node) -> bool
+    ensures { IsTrue result ↔ SameAtoms (the_node table.now given.now) (the_node table.now shown.now) }
+{
+    let Some((p, ts)) = given.part.formula.as_atom() else {
+        return false;
+    };
+    let Some((q, us)) = shown.part.formula.as_atom() else {
+        return false;
+    };
+    are_same_literals(table, &given.spot, p, ts, &shown.spot, q, us)
+}
+
+// Whether the two nodes make an axiom.
+#[tactic(auto, using(crate::proofs::ByNumber::PairLaws::atoms))]
+fn are_pair(table: &GroundTable, given: &Node, shown: &Node) -> bool
+    ensures { IsTrue result ↔ MakeAxiom (the_node table.now given.now) (the_node table.now shown.now) }
+{
+    match given.part.sign {
+        Sign::F => false,
+        Sign::T => match shown.part.sign {
+            Sign::T => false,
+            Sign::F => are_same_atoms(table, given, shown),
+        },
+    }
+}
+
+/// The pair of the nodes at two places, if they make an axiom.
+#[tactic(auto, using(crate::proofs::ByNumber::PairLaws::places))]
+pub fn pair_at(
+    table: &GroundTable,
+    nodes: &[Node],
+    given: usize,
+    shown: usize,
+) -> Result<Option<Pair>, NoMemory>
+    requires given { given < length nodes.now }
+    requires shown { shown < length nodes.now }
+    ensures { IfOk result (λ o. MatchOption o (¬ (MakesAxiomAt (map (the_node table.now) nodes.now) given shown))
+        (λ p. ArePair (map (the_node table.now) nodes.now) p)) }
+{
+    if are_pair(table, &nodes[given], &nodes[shown]) {
+        Ok(Some(Pair {
+            given: entry_number(given)?,
+            shown: entry_number(shown)?,
+        }))
+    } else {
+        Ok(None)
+    }
+}
+
 // A node that makes an axiom with the given one.
-fn pair_with(source: &Source, nodes: &[Node], given: usize) -> Result<Option<Pair>, NoMemory>
+fn pair_with(table: &GroundTable, nodes: &[Node], given: usize) -> Result<Option<Pair>, NoMemory>
     requires { given < length nodes.now }
-    ensures { IfOk result (λ o. MatchOption o ((k : ℕ) → k < length nodes.now → connected_at source.now.named.now.names (map the_node nodes.now) given k ≡ false)
-        (λ p. ArePair source.now.named.now.names (map the_node nodes.now) p)) }
+    ensures { IfOk result (λ o. MatchOption o ((k : ℕ) → k < length nodes.now → ¬ (MakesAxiomAt (map (the_node table.now) nodes.now) given k))
+        (λ p. ArePair (map (the_node table.now) nodes.now) p)) }
 {
     for shown in 0..nodes.len() {
-        if let Some(pair) = pair_at(source, nodes, given, shown)? {
+        if let Some(pair) = pair_at(table, nodes, given, shown)? {
             return Ok(Some(pair));
         }
     }
@@ -104,12 +127,12 @@ fn pair_with(source: &Source, nodes: &[Node], given: usize) -> Result<Option<Pai
 }
 
 /// An axiom of the branch, if there is one.
-pub fn any_pair(source: &Source, nodes: &[Node]) -> Result<Option<Pair>, NoMemory>
-    ensures { IfOk result (λ o. MatchOption o ((j : ℕ) (k : ℕ) → j < length nodes.now → k < length nodes.now → connected_at source.now.named.now.names (map the_node nodes.now) j k ≡ false)
-        (λ p. ArePair source.now.named.now.names (map the_node nodes.now) p)) }
+pub fn any_pair(table: &GroundTable, nodes: &[Node]) -> Result<Option<Pair>, NoMemory>
+    ensures { IfOk result (λ o. MatchOption o ((j : ℕ) (k : ℕ) → j < length nodes.now → k < length nodes.now → ¬ (MakesAxiomAt (map (the_node table.now) nodes.now) j k))
+        (λ p. ArePair (map (the_node table.now) nodes.now) p)) }
 {
     for given in 0..nodes.len() {
-        if let Some(pair) = pair_with(source, nodes, given)? {
+        if let Some(pair) = pair_with(table, nodes, given)? {
             return Ok(Some(pair));
         }
     }

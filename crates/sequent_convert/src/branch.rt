@@ -1,144 +1,106 @@
 //! The branch at hand.
 
-ghost use Rattle.std.specs.Prelude.{◌≡◌, ◌++◌, ◌∷◌, [], IfOk, OnOk, IfSome, map, take};
-ghost use Rattle.sequent_convert.specs.NodeView.{the_node};
-ghost use Rattle.sequent_convert.specs.Pairs.{ArePair};
+ghost use Rattle.std.specs.Prelude.{◌≡◌, ◌<◌, ◌++◌, ◌∷◌, [], IfOk, OnOk, IfSome, length, map, take};
+ghost use Rattle.sequent_convert.specs.ByNumber.NodeView.{the_node};
+ghost use Rattle.sequent_convert.specs.ByNumber.Pairs.{ArePair};
+ghost use Rattle.sequent_convert.specs.ByNumber.RunView.{the_lists};
 
 use crate::axiom::{Pair, pair_at};
-use crate::done::{Done, number_at, put_number};
-use crate::entry::literal_entry;
+use crate::done::Done;
 use crate::literals::Literals;
 use crate::node::Node;
-use crate::nodes::Nodes;
 use crate::source::Source;
 use cop_base::NoMemory;
-use formula_core::{Formula, Sign};
+use formula_core::shared::Values;
+use formula_core::{Formula, GroundTable, Sign};
+use indexmap::IndexMap;
 use std::alloc::Global;
 
 /// The nodes of the branch, and the turns that are done there.
 #[derive(Drop)]
 pub struct Branch<'a> {
-    pub nodes: Nodes<'a>,
+    pub nodes: Vec<Node<'a>>,
     pub done: Done,
     literals: Literals,
-    // The number of the first and of the second node that each turn made, counted from 1. One may be stale, as truncation leaves
-    // them alone: they are hints for `find`.
-    first: Vec<usize>,
-    second: Vec<usize>,
-}
-
-/// Which component of its turn a node is.
-#[derive(Clone, Copy, PartialEq, Eq)]
-pub enum Part {
-    First,
-    Second,
+    // The place of a node at a position by the number of the values that were taken on the way there. One may be stale, as
+    // truncation leaves them alone: they are hints.
+    places: IndexMap<(u32, u32), usize>,
 }
 
 impl<'a> Branch<'a> {
-    /// The branch with the problem's formula.
-    pub fn new(alloc: Global) -> Branch<'a>
+    /// The branch without nodes. The table begins with that of the names.
+    pub fn new(alloc: Global, table: GroundTable) -> Branch<'a>
         ensures nodes { result.nodes.items ≡ [] }
         ensures done { result.done ≡ [] }
     {
         Branch {
-            nodes: Nodes::new(alloc),
+            nodes: Vec::new(alloc),
             done: Done::new(alloc),
-            literals: Literals::new(alloc),
-            first: Vec::new(alloc),
-            second: Vec::new(alloc),
+            literals: Literals::new(alloc, table),
+            places: IndexMap::new(alloc),
         }
     }
 
-    fn hint(&self, turn: usize, part: Part) -> usize {
-        let number = match part {
-            Part::First => number_at(&self.first, turn),
-            Part::Second => number_at(&self.second, turn),
-        };
-        if number == 0 {
-            self.nodes.len()
-        } else {
-            number - 1
+    /// Where the node at a position may stand on the way to which these values were taken.
+    pub fn hint(&self, position: u32, taken: Values) -> usize {
+        match self.places.get(&(position, taken.0)) {
+            Some(place) => *place,
+            None => self.nodes.len(),
         }
     }
 
-    /// Where the component of a turn at a position may stand.
-    pub fn hint_at(&self, turn: usize, position: u32) -> usize {
-        let first = self.hint(turn, Part::First);
-        if first < self.nodes.len() {
-            if self.nodes.as_slice()[first].spot.position == position {
-                return first;
-            }
-        }
-        self.hint(turn, Part::Second)
-    }
-
-    fn note(&mut self, turn: usize, part: Part) -> Result<(), NoMemory>
+    fn note(&mut self, node: &Node) -> Result<(), NoMemory>
         ensures nodes { self.new.nodes.items ≡ self.old.nodes.items }
         ensures done { self.new.done ≡ self.old.done }
     {
-        let number = self.nodes.as_slice().len() + 1;
-        match part {
-            Part::First => put_number(&mut self.first, turn, number),
-            Part::Second => put_number(&mut self.second, turn, number),
+        let place = self.nodes.len();
+        if !node.past {
+            self.places
+                .insert((node.spot.position, node.spot.taken.0), place)?;
         }
-    }
-
-    /// Adds a node that a turn makes, and tells an axiom that it brings, if one is seen.
-    #[tactic(auto, using(crate::proofs::PairLaws::pairs))]
-    pub fn add(
-        &mut self,
-        source: &Source,
-        turn: usize,
-        part: Part,
-        node: Node<'a>,
-    ) -> Result<Option<Pair>, NoMemory>
-        ensures nodes { OnOk result (map the_node self.new.nodes.items ≡ map the_node self.old.nodes.items ++ the_node node.entry ∷ []) }
-        ensures done { OnOk result (self.new.done ≡ self.old.done) }
-        ensures seen { IfOk result (λ o. IfSome o (ArePair source.now.named.now.names (map the_node self.new.nodes.items))) }
-    {
-        self.note(turn, part)?;
-        self.add_node(source, node)
-    }
-
-    /// Adds the nodes that a turn makes.
-    #[tactic(auto, using(crate::proofs::PairLaws::pairs))]
-    pub fn add_all(
-        &mut self,
-        source: &Source,
-        turn: usize,
-        nodes: Vec<Node<'a>>,
-    ) -> Result<Option<Pair>, NoMemory>
-        ensures nodes { OnOk result (map the_node self.new.nodes.items ≡ map the_node self.old.nodes.items ++ map the_node nodes.entry.items) }
-        ensures done { OnOk result (self.new.done ≡ self.old.done) }
-        ensures seen { IfOk result (λ o. IfSome o (ArePair source.now.named.now.names (map the_node self.new.nodes.items))) }
-    {
-        let mut seen = None;
-        let mut part = Part::First;
-        for node in nodes {
-            let pair = self.add(source, turn, part, node)?;
-            if pair.is_some() {
-                seen = pair;
-            }
-            part = Part::Second;
-        }
-        Ok(seen)
+        Ok(())
     }
 
     /// Adds a node, and tells an axiom that it brings, if one is seen.
-    #[tactic(auto, using(crate::proofs::PairLaws::pairs))]
-    pub fn add_node(&mut self, source: &Source, node: Node<'a>) -> Result<Option<Pair>, NoMemory>
-        ensures nodes { OnOk result (map the_node self.new.nodes.items ≡ map the_node self.old.nodes.items ++ the_node node.entry ∷ []) }
+    #[tactic(auto, using(crate::proofs::ByNumber::PairLaws::pairs))]
+    pub fn add(&mut self, source: &Source, node: Node<'a>) -> Result<Option<Pair>, NoMemory>
+        ensures nodes { OnOk result (map (the_node (the_lists source.now)) self.new.nodes.items ≡ map (the_node (the_lists source.now)) self.old.nodes.items ++ the_node (the_lists source.now) node.entry ∷ []) }
         ensures done { OnOk result (self.new.done ≡ self.old.done) }
-        ensures seen { IfOk result (λ o. IfSome o (ArePair source.now.named.now.names (map the_node self.new.nodes.items))) }
+        ensures seen { IfOk result (λ o. IfSome o (ArePair (map (the_node (the_lists source.now)) self.new.nodes.items))) }
     {
         let place = self.nodes.len();
         let sign = node.part.sign;
+        self.note(&node)?;
         let complement = complement_of(source, &mut self.literals, &node)?;
         self.nodes.push(node)?;
         match complement {
             None => Ok(None),
-            Some(other) => seen_pair(source, self.nodes.as_slice(), sign, place, other),
+            Some(other) => {
+                let seen = seen_pair(source, self.nodes.as_slice(), sign, place, other)?;
+                Ok(seen)
+            }
         }
+    }
+
+    /// Adds the nodes that a turn makes.
+    #[tactic(auto, using(crate::proofs::ByNumber::PairLaws::pairs))]
+    pub fn add_all(
+        &mut self,
+        source: &Source,
+        nodes: Vec<Node<'a>>,
+    ) -> Result<Option<Pair>, NoMemory>
+        ensures nodes { OnOk result (map (the_node (the_lists source.now)) self.new.nodes.items ≡ map (the_node (the_lists source.now)) self.old.nodes.items ++ map (the_node (the_lists source.now)) nodes.entry.items) }
+        ensures done { OnOk result (self.new.done ≡ self.old.done) }
+        ensures seen { IfOk result (λ o. IfSome o (ArePair (map (the_node (the_lists source.now)) self.new.nodes.items))) }
+    {
+        let mut seen = None;
+        for node in nodes {
+            let pair = self.add(source, node)?;
+            if pair.is_some() {
+                seen = pair;
+            }
+        }
+        Ok(seen)
     }
 
     /// Takes off what came past the first `nodes` nodes and `done` turns.
@@ -159,8 +121,7 @@ fn complement_of(
 ) -> Result<Option<usize>, NoMemory> {
     match node.part.formula {
         Formula::Atom(symbol, arguments) => {
-            let entry = literal_entry(source.alloc, source.named, node, *symbol, arguments)?;
-            literals.add(source.alloc, &entry)
+            literals.add(source.alloc, node.part.sign, &node.spot, *symbol, arguments)
         }
         _ => {
             literals.add_other()?;
@@ -176,13 +137,29 @@ fn seen_pair(
     place: usize,
     other: usize,
 ) -> Result<Option<Pair>, NoMemory>
-    ensures { IfOk result (λ o. IfSome o (ArePair source.now.named.now.names (map the_node nodes.now))) }
+    ensures { IfOk result (λ o. IfSome o (ArePair (map (the_node (the_lists source.now)) nodes.now))) }
 {
     if other >= nodes.len() || place >= nodes.len() {
         return Ok(None);
     }
     match sign {
-        Sign::T => pair_at(source, nodes, place, other),
-        Sign::F => pair_at(source, nodes, other, place),
+        Sign::T => told_pair(source, nodes, place, other),
+        Sign::F => told_pair(source, nodes, other, place),
     }
+}
+
+// The pair of the nodes at two places, by the table of the names.
+fn told_pair(
+    source: &Source,
+    nodes: &[Node],
+    given: usize,
+    shown: usize,
+) -> Result<Option<Pair>, NoMemory>
+    requires given { given < length nodes.now }
+    requires shown { shown < length nodes.now }
+    ensures { IfOk result (λ o. IfSome o (ArePair (map (the_node (the_lists source.now)) nodes.now))) }
+{
+    let table = source.named.table();
+    let pair = pair_at(table, nodes, given, shown)?;
+    Ok(pair)
 }

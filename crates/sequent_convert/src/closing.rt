@@ -2,14 +2,13 @@
 
 ghost use Rattle.std.specs.Prelude.{◌≡◌, ◌<◌, ◌++◌, ◌∷◌, [], ℕ, true, false, OnOk, length, map, take};
 ghost use Rattle.calculus.specs.Derivations as derivation;
-ghost use Rattle.sequent_convert.specs.AheadView.{the_ahead};
-ghost use Rattle.sequent_convert.specs.NodeView.{the_node};
-ghost use Rattle.sequent_convert.specs.Pairs.{connected_at};
-ghost use Rattle.sequent_convert.specs.RunView.{IsSeen, the_run, the_source};
-ghost use Rattle.sequent_convert.specs.State.{IsAxiom, IsBasis, IsOpenRun, Moves};
+ghost use Rattle.sequent_convert.specs.ByNumber.AheadView.{the_ahead};
+ghost use Rattle.sequent_convert.specs.ByNumber.NodeView.{the_node};
+ghost use Rattle.sequent_convert.specs.ByNumber.Pairs.{ArePair, MakesAxiomAt};
+ghost use Rattle.sequent_convert.specs.ByNumber.RunView.{IsSeen, the_lists, the_run, the_source, the_table};
+ghost use Rattle.sequent_convert.specs.State.{IsBasis, IsOpenRun, Moves};
 
 use crate::axiom::{Pair, any_pair};
-use crate::branch::Part;
 use crate::run::{Run, Waiting};
 use crate::source::Source;
 use cop_base::NoMemory;
@@ -30,13 +29,13 @@ impl<'a> Run<'a> {
     pub(crate) fn end_now(&mut self, source: &Source<'a>) -> Result<(), NoMemory>
         requires basis { IsBasis (the_source source.now) }
         requires is_open { self.old.is_open ≡ true }
-        requires run { IsOpenRun (the_source source.now) (the_run self.old) }
+        requires run { IsOpenRun (the_source source.now) (the_run source.now self.old) }
         requires pair { ((j : ℕ) → (m : ℕ) → j < length self.old.branch.nodes.items → m < length self.old.branch.nodes.items
-            → connected_at source.now.named.now.names (map the_node self.old.branch.nodes.items) j m ≡ false) → ⊥ }
-        ensures moves { OnOk result (Moves (the_source source.now) (the_run self.old) (the_run self.new)) }
-        ensures seen { OnOk result (IsSeen (the_source source.now) (map the_node self.new.branch.nodes.items) self.new.seen) }
+            → MakesAxiomAt (map (the_node (the_lists source.now)) self.old.branch.nodes.items) j m → ⊥) → ⊥ }
+        ensures moves { OnOk result (Moves (the_source source.now) (the_run source.now self.old) (the_run source.now self.new)) }
+        ensures seen { OnOk result (IsSeen (map (the_node (the_lists source.now)) self.new.branch.nodes.items) self.new.seen) }
     {
-        match any_pair(source, self.branch.nodes.as_slice())? {
+        match any_pair(source.named.table(), self.branch.nodes.as_slice())? {
             Some(pair) => {
                 self.close(source, pair)?;
                 Ok(())
@@ -46,14 +45,14 @@ impl<'a> Run<'a> {
     }
 
     // Closes the branch at hand and goes on with the one that waited last.
-    #[tactic(auto, using(crate::proofs::PairLaws::pairs))]
+    #[tactic(auto, using(crate::proofs::ByNumber::PairLaws::pairs))]
     pub(crate) fn close(&mut self, source: &Source<'a>, pair: Pair) -> Result<(), NoMemory>
         requires basis { IsBasis (the_source source.now) }
         requires is_open { self.old.is_open ≡ true }
-        requires run { IsOpenRun (the_source source.now) (the_run self.old) }
-        requires pair { IsAxiom (the_source source.now) (map the_node self.old.branch.nodes.items) pair.given pair.shown }
-        ensures moves { OnOk result (Moves (the_source source.now) (the_run self.old) (the_run self.new)) }
-        ensures seen { OnOk result (IsSeen (the_source source.now) (map the_node self.new.branch.nodes.items) self.new.seen) }
+        requires run { IsOpenRun (the_source source.now) (the_run source.now self.old) }
+        requires pair { ArePair (map (the_node (the_lists source.now)) self.old.branch.nodes.items) pair }
+        ensures moves { OnOk result (Moves (the_source source.now) (the_run source.now self.old) (the_run source.now self.new)) }
+        ensures seen { OnOk result (IsSeen (map (the_node (the_lists source.now)) self.new.branch.nodes.items) self.new.seen) }
     {
         push_axiom(&mut self.steps, pair)?;
         self.seen = None;
@@ -69,19 +68,19 @@ impl<'a> Run<'a> {
         }
     }
 
-    #[tactic(auto, using(crate::proofs::PairLaws::pairs))]
+    #[tactic(auto, using(crate::proofs::ByNumber::PairLaws::pairs))]
     fn resume(&mut self, source: &Source<'a>, next: Waiting<'a>) -> Result<(), NoMemory>
         requires basis { IsBasis (the_source source.now) }
-        ensures run { OnOk result (the_run self.new ≡ record (the_run self.old) {
-          items = take next.entry.nodes (map the_node self.old.branch.nodes.items) ++ the_node next.entry.node ∷ [];
+        ensures run { OnOk result (the_run source.now self.new ≡ record (the_run source.now self.old) {
+          items = take next.entry.nodes (map (the_node (the_lists source.now)) self.old.branch.nodes.items) ++ the_node (the_lists source.now) next.entry.node ∷ [];
           done = take next.entry.done self.old.branch.done;
-          ahead = the_ahead next.entry.ahead;
+          ahead = the_ahead (the_table source.now) next.entry.ahead;
         }) }
-        ensures seen { OnOk result (IsSeen (the_source source.now) (map the_node self.new.branch.nodes.items) self.new.seen) }
+        ensures seen { OnOk result (IsSeen (map (the_node (the_lists source.now)) self.new.branch.nodes.items) self.new.seen) }
     {
         self.branch.truncate(next.nodes, next.done);
         self.ahead = next.ahead;
-        self.seen = self.branch.add(source, next.turn, Part::Second, next.node)?;
+        self.seen = self.branch.add(source, next.node)?;
         Ok(())
     }
 }

@@ -6,14 +6,14 @@ ghost use Rattle.calculus.specs.Derivations as derivation;
 ghost use Rattle.calculus.specs.Derivations.{no_term};
 ghost use Rattle.calculus.specs.Text.{is_number};
 ghost use Rattle.sequent_calc.specs.StepView.{the_modal, the_term_arg};
-ghost use Rattle.sequent_convert.specs.AheadView.{the_ahead};
-ghost use Rattle.sequent_convert.specs.NodeView.{the_node};
-ghost use Rattle.sequent_convert.specs.RunView.{IsSeen, WorksAt, own_values, the_run, the_source};
+ghost use Rattle.sequent_convert.specs.ByNumber.AheadView.{the_ahead};
+ghost use Rattle.sequent_convert.specs.ByNumber.NodeView.{the_node};
+ghost use Rattle.sequent_convert.specs.ByNumber.RunView.{IsSeen, WorksAt, own_values, the_lists, the_run, the_source, the_table};
+ghost use Rattle.sequent_convert.specs.declared.source.Source.{Source as TheSource};
 ghost use Rattle.sequent_convert.specs.State.{ComesFor, IsBasis, IsFirst, IsOpenRun, Moves, made_of};
 
 use crate::ahead::Ahead;
 use crate::axiom::entry_number;
-use crate::branch::Part;
 use crate::make::Made;
 use crate::node::Node;
 use crate::parts::parts_at;
@@ -39,7 +39,7 @@ fn push_use(
 
 impl<'a> Run<'a> {
     // Makes a turn that can come, or passes it over where it works on no node of the branch.
-    #[tactic(auto, using(crate::proofs::PairLaws::pairs))]
+    #[tactic(auto, using(crate::proofs::ByNumber::PairLaws::pairs))]
     pub(crate) fn make_turn(
         &mut self,
         source: &Source<'a>,
@@ -47,12 +47,12 @@ impl<'a> Run<'a> {
         first: usize,
     ) -> Result<(), NoMemory>
         requires basis { IsBasis (the_source source.now) }
-        requires run { IsOpenRun (the_source source.now) (the_run self.old) }
-        requires first { IsFirst (the_run self.old) first }
+        requires run { IsOpenRun (the_source source.now) (the_run source.now self.old) }
+        requires first { IsFirst (the_run source.now self.old) first }
         requires comes { ComesFor (the_source source.now) self.old.branch.done first turn }
         requires unseen { self.old.seen ≡ None }
-        ensures moves { OnOk result (Moves (the_source source.now) (the_run self.old) (the_run self.new)) }
-        ensures seen { OnOk result (IsSeen (the_source source.now) (map the_node self.new.branch.nodes.items) self.new.seen) }
+        ensures moves { OnOk result (Moves (the_source source.now) (the_run source.now self.old) (the_run source.now self.new)) }
+        ensures seen { OnOk result (IsSeen (map (the_node (the_lists source.now)) self.new.branch.nodes.items) self.new.seen) }
     {
         match find_node(source, &self.branch, turn) {
             None => {
@@ -67,7 +67,7 @@ impl<'a> Run<'a> {
     }
 
     // Makes a turn that works on the node at the place.
-    #[tactic(auto, using(crate::proofs::PairLaws::pairs))]
+    #[tactic(auto, using(crate::proofs::ByNumber::PairLaws::pairs))]
     fn make_at(
         &mut self,
         source: &Source<'a>,
@@ -76,13 +76,13 @@ impl<'a> Run<'a> {
         place: usize,
     ) -> Result<(), NoMemory>
         requires basis { IsBasis (the_source source.now) }
-        requires run { IsOpenRun (the_source source.now) (the_run self.old) }
-        requires first { IsFirst (the_run self.old) first }
+        requires run { IsOpenRun (the_source source.now) (the_run source.now self.old) }
+        requires first { IsFirst (the_run source.now self.old) first }
         requires comes { ComesFor (the_source source.now) self.old.branch.done first turn }
-        requires works { WorksAt (the_source source.now) self.old.branch.nodes.items turn place }
+        requires works { WorksAt (the_source source.now) (map (the_node (the_lists source.now)) self.old.branch.nodes.items) turn place }
         requires unseen { self.old.seen ≡ None }
-        ensures moves { OnOk result (Moves (the_source source.now) (the_run self.old) (the_run self.new)) }
-        ensures seen { OnOk result (IsSeen (the_source source.now) (map the_node self.new.branch.nodes.items) self.new.seen) }
+        ensures moves { OnOk result (Moves (the_source source.now) (the_run source.now self.old) (the_run source.now self.new)) }
+        ensures seen { OnOk result (IsSeen (map (the_node (the_lists source.now)) self.new.branch.nodes.items) self.new.seen) }
     {
         let made = made_at(source, &self.branch, place, turn)?;
         match made {
@@ -105,7 +105,8 @@ impl<'a> Run<'a> {
     // The turn is done, and changes nothing.
     fn pass_over(&mut self, turn: usize) -> Result<(), NoMemory>
         requires new { ¬ (Contains self.old.branch.done turn) }
-        ensures run { OnOk result (the_run self.new ≡ record (the_run self.old) { done = self.old.branch.done ++ turn ∷ [] }) }
+        ensures run { OnOk result ((s : TheSource) → the_run s self.new ≡ record (the_run s self.old) { done = self.old.branch.done ++ turn ∷ [] }) }
+        ensures nodes { self.new.branch.nodes.items ≡ self.old.branch.nodes.items }
         ensures seen { self.new.seen ≡ self.old.seen }
     {
         self.branch.done.push(turn)?;
@@ -125,14 +126,14 @@ impl<'a> Run<'a> {
         right: Node<'a>,
     ) -> Result<(), NoMemory>
         requires basis { IsBasis (the_source source.now) }
-        requires run { IsOpenRun (the_source source.now) (the_run self.old) }
-        requires first { IsFirst (the_run self.old) first }
+        requires run { IsOpenRun (the_source source.now) (the_run source.now self.old) }
+        requires first { IsFirst (the_run source.now self.old) first }
         requires comes { ComesFor (the_source source.now) self.old.branch.done first turn }
-        requires works { WorksAt (the_source source.now) self.old.branch.nodes.items turn place }
-        requires made { (i : Item) → slice_get (map the_node self.old.branch.nodes.items) place ≡ Some i
-            → splits (the_modal modal) (the_node left) (the_node right) ≡ made_of (the_source source.now) i (own_values (the_source source.now) turn i) }
-        ensures moves { OnOk result (Moves (the_source source.now) (the_run self.old) (the_run self.new)) }
-        ensures seen { OnOk result (IsSeen (the_source source.now) (map the_node self.new.branch.nodes.items) self.new.seen) }
+        requires works { WorksAt (the_source source.now) (map (the_node (the_lists source.now)) self.old.branch.nodes.items) turn place }
+        requires made { (i : Item) → slice_get (map (the_node (the_lists source.now)) self.old.branch.nodes.items) place ≡ Some i
+            → splits (the_modal modal) (the_node (the_lists source.now) left) (the_node (the_lists source.now) right) ≡ made_of (the_source source.now) i (own_values (the_source source.now) turn i) }
+        ensures moves { OnOk result (Moves (the_source source.now) (the_run source.now self.old) (the_run source.now self.new)) }
+        ensures seen { OnOk result (IsSeen (map (the_node (the_lists source.now)) self.new.branch.nodes.items) self.new.seen) }
     {
         if turn == first {
             self.split_ahead(source, turn, place, modal, left, right)?;
@@ -154,14 +155,14 @@ impl<'a> Run<'a> {
         right: Node<'a>,
     ) -> Result<(), NoMemory>
         requires basis { IsBasis (the_source source.now) }
-        requires run { IsOpenRun (the_source source.now) (the_run self.old) }
-        requires first { IsFirst (the_run self.old) turn }
+        requires run { IsOpenRun (the_source source.now) (the_run source.now self.old) }
+        requires first { IsFirst (the_run source.now self.old) turn }
         requires comes { ComesFor (the_source source.now) self.old.branch.done turn turn }
-        requires works { WorksAt (the_source source.now) self.old.branch.nodes.items turn place }
-        requires made { (i : Item) → slice_get (map the_node self.old.branch.nodes.items) place ≡ Some i
-            → splits (the_modal modal) (the_node left) (the_node right) ≡ made_of (the_source source.now) i (own_values (the_source source.now) turn i) }
-        ensures moves { OnOk result (Moves (the_source source.now) (the_run self.old) (the_run self.new)) }
-        ensures seen { OnOk result (IsSeen (the_source source.now) (map the_node self.new.branch.nodes.items) self.new.seen) }
+        requires works { WorksAt (the_source source.now) (map (the_node (the_lists source.now)) self.old.branch.nodes.items) turn place }
+        requires made { (i : Item) → slice_get (map (the_node (the_lists source.now)) self.old.branch.nodes.items) place ≡ Some i
+            → splits (the_modal modal) (the_node (the_lists source.now) left) (the_node (the_lists source.now) right) ≡ made_of (the_source source.now) i (own_values (the_source source.now) turn i) }
+        ensures moves { OnOk result (Moves (the_source source.now) (the_run source.now self.old) (the_run source.now self.new)) }
+        ensures seen { OnOk result (IsSeen (map (the_node (the_lists source.now)) self.new.branch.nodes.items) self.new.seen) }
     {
         let parts = parts_at(source, &self.ahead, right.spot.position)?;
         self.fork(source, turn, place, modal, left, right, parts.0, parts.1)?;
@@ -180,15 +181,15 @@ impl<'a> Run<'a> {
         right: Node<'a>,
     ) -> Result<(), NoMemory>
         requires basis { IsBasis (the_source source.now) }
-        requires run { IsOpenRun (the_source source.now) (the_run self.old) }
+        requires run { IsOpenRun (the_source source.now) (the_run source.now self.old) }
         requires other { first ≢ turn }
-        requires first { IsFirst (the_run self.old) first }
+        requires first { IsFirst (the_run source.now self.old) first }
         requires comes { ComesFor (the_source source.now) self.old.branch.done first turn }
-        requires works { WorksAt (the_source source.now) self.old.branch.nodes.items turn place }
-        requires made { (i : Item) → slice_get (map the_node self.old.branch.nodes.items) place ≡ Some i
-            → splits (the_modal modal) (the_node left) (the_node right) ≡ made_of (the_source source.now) i (own_values (the_source source.now) turn i) }
-        ensures moves { OnOk result (Moves (the_source source.now) (the_run self.old) (the_run self.new)) }
-        ensures seen { OnOk result (IsSeen (the_source source.now) (map the_node self.new.branch.nodes.items) self.new.seen) }
+        requires works { WorksAt (the_source source.now) (map (the_node (the_lists source.now)) self.old.branch.nodes.items) turn place }
+        requires made { (i : Item) → slice_get (map (the_node (the_lists source.now)) self.old.branch.nodes.items) place ≡ Some i
+            → splits (the_modal modal) (the_node (the_lists source.now) left) (the_node (the_lists source.now) right) ≡ made_of (the_source source.now) i (own_values (the_source source.now) turn i) }
+        ensures moves { OnOk result (Moves (the_source source.now) (the_run source.now self.old) (the_run source.now self.new)) }
+        ensures seen { OnOk result (IsSeen (map (the_node (the_lists source.now)) self.new.branch.nodes.items) self.new.seen) }
     {
         let ahead = self.ahead;
         self.fork(source, turn, place, modal, left, right, ahead, ahead)?;
@@ -196,7 +197,7 @@ impl<'a> Run<'a> {
     }
 
     // Makes a turn that adds nodes.
-    #[tactic(auto, using(crate::proofs::PairLaws::pairs))]
+    #[tactic(auto, using(crate::proofs::ByNumber::PairLaws::pairs))]
     fn grow(
         &mut self,
         source: &Source<'a>,
@@ -208,22 +209,22 @@ impl<'a> Run<'a> {
     ) -> Result<(), NoMemory>
         requires new { ¬ (Contains self.old.branch.done turn) }
         requires basis { IsBasis (the_source source.now) }
-        ensures run { OnOk result (the_run self.new ≡ record (the_run self.old) {
+        ensures run { OnOk result (the_run source.now self.new ≡ record (the_run source.now self.old) {
           steps = self.old.steps ++ derivation.apply_to (suc place) (the_modal modal) (the_term_arg term) ∷ [];
-          items = map the_node self.old.branch.nodes.items ++ map the_node nodes.entry.items;
+          items = map (the_node (the_lists source.now)) self.old.branch.nodes.items ++ map (the_node (the_lists source.now)) nodes.entry.items;
           done = self.old.branch.done ++ turn ∷ [];
         }) }
         ensures number { OnOk result (is_number (suc place) ≡ true) }
-        ensures seen { OnOk result (IsSeen (the_source source.now) (map the_node self.new.branch.nodes.items) self.new.seen) }
+        ensures seen { OnOk result (IsSeen (map (the_node (the_lists source.now)) self.new.branch.nodes.items) self.new.seen) }
     {
         push_use(&mut self.steps, place, modal, term)?;
         self.branch.done.push(turn)?;
-        self.seen = self.branch.add_all(source, turn, nodes)?;
+        self.seen = self.branch.add_all(source, nodes)?;
         Ok(())
     }
 
     // Makes a turn that forks the branch.
-    #[tactic(auto, using(crate::proofs::PairLaws::pairs))]
+    #[tactic(auto, using(crate::proofs::ByNumber::PairLaws::pairs))]
     fn fork(
         &mut self,
         source: &Source<'a>,
@@ -237,27 +238,26 @@ impl<'a> Run<'a> {
     ) -> Result<(), NoMemory>
         requires basis { IsBasis (the_source source.now) }
         requires new { ¬ (Contains self.old.branch.done turn) }
-        ensures run { OnOk result (the_run self.new ≡ record (the_run self.old) {
+        ensures run { OnOk result (the_run source.now self.new ≡ record (the_run source.now self.old) {
           steps = self.old.steps ++ derivation.apply_to (suc place) (the_modal modal) no_term ∷ [];
-          items = map the_node self.old.branch.nodes.items ++ the_node left.entry ∷ [];
+          items = map (the_node (the_lists source.now)) self.old.branch.nodes.items ++ the_node (the_lists source.now) left.entry ∷ [];
           done = self.old.branch.done ++ turn ∷ [];
-          ahead = the_ahead here.entry;
-          waiting = record { nodes = length (map the_node self.old.branch.nodes.items); done = length self.old.branch.done + 1; node = the_node right.entry; ahead = the_ahead there.entry } ∷ (the_run self.old).waiting;
+          ahead = the_ahead (the_table source.now) here.entry;
+          waiting = record { nodes = length (map (the_node (the_lists source.now)) self.old.branch.nodes.items); done = length self.old.branch.done + 1; node = the_node (the_lists source.now) right.entry; ahead = the_ahead (the_table source.now) there.entry } ∷ (the_run source.now self.old).waiting;
         }) }
         ensures number { OnOk result (is_number (suc place) ≡ true) }
-        ensures seen { OnOk result (IsSeen (the_source source.now) (map the_node self.new.branch.nodes.items) self.new.seen) }
+        ensures seen { OnOk result (IsSeen (map (the_node (the_lists source.now)) self.new.branch.nodes.items) self.new.seen) }
     {
         push_use(&mut self.steps, place, modal, TermArg::None)?;
         self.branch.done.push(turn)?;
         self.waiting.push(Waiting {
             nodes: self.branch.nodes.len(),
             done: self.branch.done.len(),
-            turn,
             node: right,
             ahead: there,
         })?;
         self.ahead = here;
-        self.seen = self.branch.add(source, turn, Part::First, left)?;
+        self.seen = self.branch.add(source, left)?;
         Ok(())
     }
 }

@@ -2,9 +2,12 @@
 
 ghost use Rattle.std.specs.Prelude.{◌≡◌, None, true, OnOk, Contains, map, drop};
 ghost use Rattle.calculus.specs.Lists.{closings_tree};
-ghost use Rattle.sequent_convert.specs.AheadView.{IsExtended, the_ends};
-ghost use Rattle.sequent_convert.specs.NodeView.{the_node};
-ghost use Rattle.sequent_convert.specs.RunView.{IsSeen, WorksAt, the_run, the_source};
+ghost use Rattle.sequent_convert.specs.AheadView.{IsExtended};
+ghost use Rattle.sequent_convert.specs.ByNumber.AheadView.{the_ends};
+ghost use Rattle.sequent_convert.specs.declared.source.Source.{Source as TheSource};
+ghost use Rattle.tableau_core.specs.Numbered.ClosingView.{closing_in};
+ghost use Rattle.sequent_convert.specs.ByNumber.NodeView.{the_node};
+ghost use Rattle.sequent_convert.specs.ByNumber.RunView.{IsSeen, WorksAt, the_lists, the_run, the_source, the_table};
 ghost use Rattle.sequent_convert.specs.State.{IsBasis, IsFirst, IsForkAhead, IsLiteralAhead, IsOpenRun, Moves};
 
 use crate::ahead::{Ahead, Ends};
@@ -14,20 +17,21 @@ use crate::run::Run;
 use crate::source::Source;
 use crate::turns::{begins, begins_somewhere, find_node};
 use cop_base::NoMemory;
-use tableau_core::{ClosingList, Parts, components_of};
+use tableau_core::shared::ClosingList;
+use tableau_core::{Parts, components_of};
 
 impl<'a> Run<'a> {
     // The turn ahead is done: goes on to what it left.
-    #[tactic(auto, using(crate::proofs::StateLaws::states))]
+    #[tactic(auto, using(crate::proofs::ByNumber::StateLaws::states))]
     pub(crate) fn follow(&mut self, source: &Source<'a>, turn: usize) -> Result<(), NoMemory>
         requires basis { IsBasis (the_source source.now) }
         requires is_open { self.old.is_open ≡ true }
-        requires run { IsOpenRun (the_source source.now) (the_run self.old) }
-        requires first { IsFirst (the_run self.old) turn }
+        requires run { IsOpenRun (the_source source.now) (the_run source.now self.old) }
+        requires first { IsFirst (the_run source.now self.old) turn }
         requires done { Contains self.old.branch.done turn }
         requires unseen { self.old.seen ≡ None }
-        ensures moves { OnOk result (Moves (the_source source.now) (the_run self.old) (the_run self.new)) }
-        ensures seen { OnOk result (IsSeen (the_source source.now) (map the_node self.new.branch.nodes.items) self.new.seen) }
+        ensures moves { OnOk result (Moves (the_source source.now) (the_run source.now self.old) (the_run source.now self.new)) }
+        ensures seen { OnOk result (IsSeen (map (the_node (the_lists source.now)) self.new.branch.nodes.items) self.new.seen) }
     {
         match find_node(source, &self.branch, turn) {
             None => unreachable!(),
@@ -42,13 +46,13 @@ impl<'a> Run<'a> {
     fn follow_at(&mut self, source: &Source<'a>, turn: usize, place: usize) -> Result<(), NoMemory>
         requires basis { IsBasis (the_source source.now) }
         requires is_open { self.old.is_open ≡ true }
-        requires run { IsOpenRun (the_source source.now) (the_run self.old) }
-        requires first { IsFirst (the_run self.old) turn }
+        requires run { IsOpenRun (the_source source.now) (the_run source.now self.old) }
+        requires first { IsFirst (the_run source.now self.old) turn }
         requires done { Contains self.old.branch.done turn }
-        requires works { WorksAt (the_source source.now) self.old.branch.nodes.items turn place }
+        requires works { WorksAt (the_source source.now) (map (the_node (the_lists source.now)) self.old.branch.nodes.items) turn place }
         requires unseen { self.old.seen ≡ None }
-        ensures moves { OnOk result (Moves (the_source source.now) (the_run self.old) (the_run self.new)) }
-        ensures seen { OnOk result (IsSeen (the_source source.now) (map the_node self.new.branch.nodes.items) self.new.seen) }
+        ensures moves { OnOk result (Moves (the_source source.now) (the_run source.now self.old) (the_run source.now self.new)) }
+        ensures seen { OnOk result (IsSeen (map (the_node (the_lists source.now)) self.new.branch.nodes.items) self.new.seen) }
     {
         let nodes = self.branch.nodes.as_slice();
         let node = &nodes[place];
@@ -83,10 +87,10 @@ impl<'a> Run<'a> {
 
     // Goes on to the turn behind the first one ahead.
     fn go_on(&mut self)
-        ensures run { the_run self.new ≡ record (the_run self.old) {
+        ensures run { (s : TheSource) → the_run s self.new ≡ record (the_run s self.old) {
           ahead = record {
             turns = drop 1 self.old.ahead.turns.now;
-            ends = the_ends self.old.ahead.ends;
+            ends = the_ends (the_table s) self.old.ahead.ends;
             instance = self.old.ahead.instance;
           };
         } }
@@ -98,11 +102,11 @@ impl<'a> Run<'a> {
     // Goes on to the part of a fork that stands on the branch. The second part begins at the position.
     fn choose(&mut self, source: &Source<'a>, second: u32) -> Result<(), NoMemory>
         requires basis { IsBasis (the_source source.now) }
-        requires run { IsOpenRun (the_source source.now) (the_run self.old) }
-        requires ahead { IsForkAhead (the_source source.now) (the_run self.old) second }
+        requires run { IsOpenRun (the_source source.now) (the_run source.now self.old) }
+        requires ahead { IsForkAhead (the_source source.now) (the_run source.now self.old) second }
         requires unseen { self.old.seen ≡ None }
-        ensures moves { OnOk result (Moves (the_source source.now) (the_run self.old) (the_run self.new)) }
-        ensures seen { OnOk result (IsSeen (the_source source.now) (map the_node self.new.branch.nodes.items) self.new.seen) }
+        ensures moves { OnOk result (Moves (the_source source.now) (the_run source.now self.old) (the_run source.now self.new)) }
+        ensures seen { OnOk result (IsSeen (map (the_node (the_lists source.now)) self.new.branch.nodes.items) self.new.seen) }
     {
         let parts = parts_at(source, &self.ahead, second)?;
         if begins(source, &self.branch, parts.1.turns) {
@@ -121,11 +125,11 @@ impl<'a> Run<'a> {
     fn end(&mut self, source: &Source<'a>) -> Result<(), NoMemory>
         requires basis { IsBasis (the_source source.now) }
         requires is_open { self.old.is_open ≡ true }
-        requires run { IsOpenRun (the_source source.now) (the_run self.old) }
-        requires ahead { IsLiteralAhead (the_source source.now) (the_run self.old) }
+        requires run { IsOpenRun (the_source source.now) (the_run source.now self.old) }
+        requires ahead { IsLiteralAhead (the_source source.now) (the_run source.now self.old) }
         requires unseen { self.old.seen ≡ None }
-        ensures moves { OnOk result (Moves (the_source source.now) (the_run self.old) (the_run self.new)) }
-        ensures seen { OnOk result (IsSeen (the_source source.now) (map the_node self.new.branch.nodes.items) self.new.seen) }
+        ensures moves { OnOk result (Moves (the_source source.now) (the_run source.now self.old) (the_run source.now self.new)) }
+        ensures seen { OnOk result (IsSeen (map (the_node (the_lists source.now)) self.new.branch.nodes.items) self.new.seen) }
     {
         match self.ahead.ends.extension() {
             None => {
@@ -147,12 +151,12 @@ impl<'a> Run<'a> {
         goals: &'a ClosingList,
     ) -> Result<(), NoMemory>
         requires basis { IsBasis (the_source source.now) }
-        requires run { IsOpenRun (the_source source.now) (the_run self.old) }
-        requires ahead { IsLiteralAhead (the_source source.now) (the_run self.old) }
-        requires extended { IsExtended (the_ends self.old.ahead.ends) place (closings_tree goals.now) }
+        requires run { IsOpenRun (the_source source.now) (the_run source.now self.old) }
+        requires ahead { IsLiteralAhead (the_source source.now) (the_run source.now self.old) }
+        requires extended { IsExtended (the_ends (the_table source.now) self.old.ahead.ends) place (closings_tree (map (closing_in (the_table source.now)) goals.now)) }
         requires unseen { self.old.seen ≡ None }
-        ensures moves { OnOk result (Moves (the_source source.now) (the_run self.old) (the_run self.new)) }
-        ensures seen { OnOk result (IsSeen (the_source source.now) (map the_node self.new.branch.nodes.items) self.new.seen) }
+        ensures moves { OnOk result (Moves (the_source source.now) (the_run source.now self.old) (the_run source.now self.new)) }
+        ensures seen { OnOk result (IsSeen (map (the_node (the_lists source.now)) self.new.branch.nodes.items) self.new.seen) }
     {
         let turns = source.named.order(self.ahead.instance);
         let ends = Ends::of_extension(goals, place);

@@ -2,11 +2,11 @@
 #![tactic(auto)]
 
 mod ahead;
+mod alike;
 mod axiom;
 mod branch;
 mod closing;
 mod done;
-mod entry;
 mod expansion;
 mod following;
 mod literals;
@@ -22,21 +22,21 @@ mod source;
 mod spot;
 mod turns;
 
-ghost use Rattle.std.specs.Prelude.{◌≡◌, ◌≤◌, ◌++◌, IfOk, OnOk, IsTrue, false};
+ghost use Rattle.std.specs.Prelude.{◌≡◌, ◌≤◌, ◌++◌, IfOk, OnOk, false, IsTrue};
+ghost use Rattle.formula_core.specs.FormulaView.{the_formula};
+ghost use Rattle.sequent_convert.specs.Atoms.{atoms_of};
 ghost use Rattle.calculus.specs.DerivationText.{is_limit};
 ghost use Rattle.calculus.specs.Derivations.{axiom_count};
 ghost use Rattle.calculus.specs.Tableaux.{is_closed};
 ghost use Rattle.conversion_theory.specs.Turns.{closings_count, has_introduced_names};
-ghost use Rattle.formula_core.specs.FormulaView.{the_formula};
 ghost use Rattle.sequent_calc.specs.DerivationView.{the_derivation, the_names};
-ghost use Rattle.sequent_convert.specs.Atoms.{atoms_of};
 ghost use Rattle.sequent_convert.specs.Conversion.{IsConverted};
-ghost use Rattle.sequent_convert.specs.RunView.{the_source};
+ghost use Rattle.sequent_convert.specs.ByNumber.RunView.{the_named, the_source};
 ghost use Rattle.sequent_convert.specs.State.{IsBasis};
-ghost use Rattle.tableau_core.specs.TableauView.{the_tableau};
+ghost use Rattle.tableau_core.specs.Numbered.TableauView.{the_tableau};
 
 use cop_base::NoMemory;
-use formula_core::Formula;
+use formula_core::{Formula, GroundTable};
 use logic_rules::Problem;
 use name_order::{Named, name};
 use names::name_lines;
@@ -44,7 +44,8 @@ use run::Run;
 use sequent_calc::{Derivation, Names, StepList};
 use source::Source;
 use std::alloc::Global;
-use tableau_core::{SizedProblem, Tableau};
+use tableau_core::SizedProblem;
+use tableau_core::shared::Tableau;
 
 // Whether there is an atom at each position, in preorder.
 fn put_atoms(f: &Formula, atoms: &mut Vec<bool>) -> Result<(), NoMemory>
@@ -65,28 +66,28 @@ fn put_atoms(f: &Formula, atoms: &mut Vec<bool>) -> Result<(), NoMemory>
     Ok(())
 }
 
-// The steps that close all branches.
-#[tactic(auto, using(crate::proofs::Loop::running))]
-fn steps_by(source: &Source) -> Result<StepList, NoMemory>
-    requires basis { IsBasis (the_source source.now) }
-    requires limit { IsTrue (is_limit source.now.limit) }
-    ensures converted { IfOk result (λ s. IsConverted source.now.problem.now source.now.limit (record { limit = source.now.limit; names = the_names source.now.names.now; steps = s })) }
-    ensures short { IfOk result (λ s. has_introduced_names (the_tableau source.now.tableau.now) ≡ false
-        → axiom_count s ≤ closings_count (the_tableau source.now.tableau.now).goals) }
-{
-    let mut run = Run::new(source)?;
-    while run.is_open {
-        run.advance(source)?;
-    }
-    Ok(run.steps)
-}
-
 fn atoms_in(alloc: Global, f: &Formula) -> Result<Vec<bool>, NoMemory>
     ensures { IfOk result (λ atoms. atoms.items ≡ atoms_of (the_formula f.now)) }
 {
     let mut atoms = Vec::new(alloc);
     put_atoms(f, &mut atoms)?;
     Ok(atoms)
+}
+
+// The steps that close all branches.
+#[tactic(auto, using(crate::proofs::Loop::running))]
+fn steps_by(source: &Source, finder: GroundTable) -> Result<StepList, NoMemory>
+    requires basis { IsBasis (the_source source.now) }
+    requires limit { IsTrue (is_limit source.now.limit) }
+    ensures converted { IfOk result (λ s. IsConverted source.now.problem.now source.now.limit (record { limit = source.now.limit; names = the_names source.now.names.now; steps = s })) }
+    ensures short { IfOk result (λ s. has_introduced_names (the_tableau source.now.tableau.now) ≡ false
+        → axiom_count s ≤ closings_count (the_tableau source.now.tableau.now).goals) }
+{
+    let mut run = Run::new(source, finder)?;
+    while run.is_open {
+        run.advance(source)?;
+    }
+    Ok(run.steps)
 }
 
 // The derivation by the names of the tableau and by the lines that tell them.
@@ -98,12 +99,13 @@ fn derivation_by(
     named: &Named,
     names: Names,
     atoms: &[bool],
+    finder: GroundTable,
 ) -> Result<Derivation, NoMemory>
     requires basis { IsBasis (record {
       problem = problem.now;
       tableau = the_tableau t.now;
       limit = limit;
-      named = named.now;
+      named = the_named named.now;
       lines = the_names names;
       atoms = atoms.now;
     }) }
@@ -121,7 +123,7 @@ fn derivation_by(
         names: &names,
         atoms,
     };
-    let steps = steps_by(&source)?;
+    let steps = steps_by(&source, finder)?;
     Ok(Derivation {
         limit,
         names,
@@ -148,7 +150,17 @@ pub fn convert(
     let sized = SizedProblem::new(alloc, problem)?;
     let atoms = atoms_in(alloc, problem.formula())?;
     let named = name(alloc, problem, t)?;
-    let names = name_lines(alloc, &sized, &named)?;
-    let derivation = derivation_by(alloc, &sized, t, limit, &named, names, atoms.as_slice())?;
+    let mut finder = named.table().copy(alloc)?;
+    let names = name_lines(alloc, &sized, &named, &mut finder)?;
+    let derivation = derivation_by(
+        alloc,
+        &sized,
+        t,
+        limit,
+        &named,
+        names,
+        atoms.as_slice(),
+        finder,
+    )?;
     Ok(derivation)
 }

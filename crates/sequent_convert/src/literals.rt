@@ -1,11 +1,11 @@
 //! Where the literals of a branch stand.
 
 use crate::done::{number_at, put_number};
-use cop_base::NoMemory;
-use formula_core::{Formula, Sign, Term, Terms};
+use crate::spot::Spot;
+use cop_base::{NoMemory, SymbolId};
+use formula_core::shared::{GroundTerm, GroundTerms};
+use formula_core::{GroundTable, Sign, Term, Terms};
 use indexmap::IndexSet;
-use logic_rules::Mark;
-use sequent_calc::Entry;
 use std::alloc::Global;
 
 // The literal of a node: the number of its atom at its label, and its sign.
@@ -18,76 +18,62 @@ struct Literal {
 /// A table of the literals of a branch. What it answers is a hint alone, which its callers check.
 #[derive(Drop)]
 pub struct Literals {
-    atoms: IndexSet<Vec<u32>>,
+    // Begins with that of the names, and has the arguments and labels of atoms besides.
+    table: GroundTable,
+    // The symbol, and the numbers of the arguments and of the label.
+    atoms: IndexSet<(u32, u32, u32)>,
     nodes: Vec<Option<Literal>>,
     // The number of the first T node and of the first F node of each atom. One may be stale, as truncation leaves them alone.
     given: Vec<usize>,
     shown: Vec<usize>,
 }
 
-#[cycle(word)]
-fn put_term(term: &Term, word: &mut Vec<u32>) -> Result<(), NoMemory> {
+// What stands for a variable.
+fn bound(env: &[GroundTerm], k: u32) -> GroundTerm {
+    match env.get(k as usize) {
+        Some(term) => *term,
+        None => GroundTerm::Common(0),
+    }
+}
+
+#[cycle(numbers)]
+fn put_term(
+    alloc: Global,
+    table: &mut GroundTable,
+    env: &[GroundTerm],
+    term: &Term,
+) -> Result<GroundTerm, NoMemory> {
     match term {
-        Term::Var(k) => {
-            word.push(0)?;
-            word.push(*k)?;
-        }
+        Term::Var(k) => Ok(bound(env, *k)),
         Term::Fun(f, arguments) => {
-            word.push(1)?;
-            word.push(f.0)?;
-            put_terms(arguments, word)?;
+            let list = put_terms(alloc, table, env, arguments)?;
+            Ok(GroundTerm::Fun(*f, list))
         }
-        Term::Eigen(n) => {
-            word.push(2)?;
-            word.push(*n)?;
-        }
-        Term::Spare(n) => {
-            word.push(3)?;
-            word.push(*n)?;
-        }
+        Term::Eigen(_) | Term::Spare(_) => Ok(GroundTerm::Common(0)),
     }
-    Ok(())
 }
 
-#[cycle(word)]
+// The number of the terms under what is put for their variables.
+#[cycle(numbers)]
 #[tactic(auto, using(formula_core::specs::TermFalls::falling))]
-fn put_terms(terms: &Terms, word: &mut Vec<u32>) -> Result<(), NoMemory> {
+fn put_terms(
+    alloc: Global,
+    table: &mut GroundTable,
+    env: &[GroundTerm],
+    terms: &Terms,
+) -> Result<GroundTerms, NoMemory> {
+    let mut all = Vec::new(alloc);
     for term in terms.items() {
-        put_term(term, word)?;
+        all.push(put_term(alloc, table, env, term)?)?;
     }
-    Ok(())
-}
-
-fn put_marks(marks: &[Mark], word: &mut Vec<u32>) -> Result<(), NoMemory> {
-    for mark in marks {
-        match mark {
-            Mark::New(n) => {
-                word.push(0)?;
-                word.push(*n)?;
-            }
-            Mark::Spare(n) => {
-                word.push(1)?;
-                word.push(*n)?;
-            }
-        }
-    }
-    Ok(())
-}
-
-// The symbol, the arguments and the label in a row. The arities of symbols tell where each ends.
-fn word_of(alloc: Global, entry: &Entry) -> Result<Vec<u32>, NoMemory> {
-    let mut word = Vec::new(alloc);
-    if let Formula::Atom(symbol, arguments) = &entry.formula {
-        word.push(symbol.0)?;
-        put_terms(arguments, &mut word)?;
-    }
-    put_marks(entry.label.items(), &mut word)?;
-    Ok(word)
+    table.add_terms(all.as_slice())
 }
 
 impl Literals {
-    pub fn new(alloc: Global) -> Literals {
+    /// No literals, over a table that begins with that of the names.
+    pub fn new(alloc: Global, table: GroundTable) -> Literals {
         Literals {
+            table,
             atoms: IndexSet::new(alloc),
             nodes: Vec::new(alloc),
             given: Vec::new(alloc),
@@ -124,6 +110,25 @@ impl Literals {
         }
     }
 
+    // The number of an atom at its label.
+    fn atom(
+        &mut self,
+        alloc: Global,
+        spot: &Spot,
+        symbol: SymbolId,
+        arguments: &Terms,
+    ) -> Result<usize, NoMemory> {
+        let list = put_terms(
+            alloc,
+            &mut self.table,
+            spot.env.as_ref().as_slice(),
+            arguments,
+        )?;
+        let label = self.table.add_marks(spot.label.as_ref().as_slice())?;
+        let (atom, _) = self.atoms.insert_full((symbol.0, list.0, label.0))?;
+        Ok(atom)
+    }
+
     /// Notes that the next node is no atom.
     pub fn add_other(&mut self) -> Result<(), NoMemory> {
         self.nodes.push(None)?;
@@ -131,10 +136,15 @@ impl Literals {
     }
 
     /// Notes the literal of the next node, and tells the place of a node that may have the complementary one.
-    pub fn add(&mut self, alloc: Global, entry: &Entry) -> Result<Option<usize>, NoMemory> {
-        let word = word_of(alloc, entry)?;
-        let (atom, _) = self.atoms.insert_full(word)?;
-        let sign = entry.sign;
+    pub fn add(
+        &mut self,
+        alloc: Global,
+        sign: Sign,
+        spot: &Spot,
+        symbol: SymbolId,
+        arguments: &Terms,
+    ) -> Result<Option<usize>, NoMemory> {
+        let atom = self.atom(alloc, spot, symbol, arguments)?;
         if self.find(sign, atom).is_none() {
             self.put(sign, atom)?;
         }

@@ -3,8 +3,10 @@
 ghost use Rattle.std.specs.Prelude.{◌≡◌, ◌+◌, ◌<◌, ◌∷◌, ℕ, List, IfOk, length, take, drop, if◌then◌else◌};
 ghost use Rattle.std.specs.List.{AllByRecursion};
 ghost use Rattle.conversion_theory.specs.Leading as leading;
-ghost use Rattle.sequent_convert.specs.AheadView.{instance_count, the_ahead, the_ends};
-ghost use Rattle.sequent_convert.specs.RunView.{the_source};
+ghost use Rattle.formula_core.specs.GroundLists.{GroundList};
+ghost use Rattle.sequent_convert.specs.AheadView.{instance_count};
+ghost use Rattle.sequent_convert.specs.ByNumber.AheadView.{the_ahead, the_ends};
+ghost use Rattle.sequent_convert.specs.ByNumber.RunView.{the_source, the_table};
 ghost use Rattle.sequent_convert.specs.State.{IsBasis, first_part, second_part, turn_at, turns_at};
 
 use crate::ahead::{Ahead, Ends};
@@ -12,7 +14,7 @@ use crate::source::Source;
 use cop_base::NoMemory;
 
 // 1 where the turn is on an atom, else 0.
-#[tactic(auto, using(crate::proofs::StateLaws::states))]
+#[tactic(auto, using(crate::proofs::ByNumber::StateLaws::states))]
 fn literal_at(source: &Source, turn: usize) -> usize
     requires basis { IsBasis (the_source source.now) }
     requires within { turn < length source.now.named.now.agenda }
@@ -44,7 +46,7 @@ pub(crate) fn turns_from<'t>(turns: &'t [usize], n: usize) -> &'t [usize]
 }
 
 // How many of the turns are on atoms.
-#[tactic(auto, using(crate::proofs::StateLaws::states))]
+#[tactic(auto, using(crate::proofs::ByNumber::StateLaws::states))]
 fn literals_among(source: &Source, turns: &[usize]) -> usize
     requires basis { IsBasis (the_source source.now) }
     requires within { AllByRecursion (λ k. k < length source.now.named.now.agenda) turns.now }
@@ -58,7 +60,7 @@ fn literals_among(source: &Source, turns: &[usize]) -> usize
 }
 
 // How many of the turns at the front have positions before the given one.
-#[tactic(auto, using(crate::proofs::StateLaws::states))]
+#[tactic(auto, using(crate::proofs::ByNumber::StateLaws::states))]
 fn turns_before(source: &Source, turns: &[usize], position: u32) -> usize
     requires within { AllByRecursion (λ k. k < length source.now.named.now.agenda) turns.now }
     ensures { result ≡ leading.turns_before position (turns_at (the_source source.now) turns.now) }
@@ -74,7 +76,7 @@ fn turns_before(source: &Source, turns: &[usize], position: u32) -> usize
 
 // The place behind the instances of the ends.
 fn behind(instance: usize, ends: &Ends) -> Result<usize, NoMemory>
-    ensures { IfOk result (λ n. n ≡ instance + instance_count (the_ends ends.now)) }
+    ensures { IfOk result (λ n. (ls : List GroundList) → n ≡ instance + instance_count (the_ends ls ends.now)) }
 {
     match ends.instances() {
         Some(count) => match instance.checked_add(count) {
@@ -86,7 +88,7 @@ fn behind(instance: usize, ends: &Ends) -> Result<usize, NoMemory>
 }
 
 // The two parts of what is ahead behind its first turn, where the second part begins at the position.
-#[tactic(auto, using(crate::proofs::StateLaws::states))]
+#[tactic(auto, using(crate::proofs::ByNumber::StateLaws::states))]
 pub(crate) fn parts_at<'a>(
     source: &Source,
     ahead: &Ahead<'a>,
@@ -96,8 +98,8 @@ pub(crate) fn parts_at<'a>(
     requires within { AllByRecursion (λ k. k < length source.now.named.now.agenda) ahead.now.turns.now }
     requires some { 0 < length ahead.now.turns.now }
     ensures { IfOk result (λ r. (k : ℕ) (ks : List ℕ) → ahead.now.turns.now ≡ k ∷ ks
-        → (the_ahead r.0 ≡ first_part (the_source source.now) position ks (the_ahead ahead.now))
-        × (the_ahead r.1 ≡ second_part (the_source source.now) position ks (the_ahead ahead.now))) }
+        → (the_ahead (the_table source.now) r.0 ≡ first_part (the_source source.now) position ks (the_ahead (the_table source.now) ahead.now))
+        × (the_ahead (the_table source.now) r.1 ≡ second_part (the_source source.now) position ks (the_ahead (the_table source.now) ahead.now))) }
 {
     let turns = turns_from(ahead.turns, 1);
     let middle = turns_before(source, turns, position);

@@ -1,8 +1,11 @@
 //! The loop of the converter.
 
 ghost use Rattle.std.specs.Prelude.{◌≡◌, ◌<◌, None, true, IfOk, OnOk, length, map};
-ghost use Rattle.sequent_convert.specs.NodeView.{the_node};
-ghost use Rattle.sequent_convert.specs.RunView.{IsSeen, the_run, the_source};
+ghost use Rattle.calculus.specs.declared.sign.Sign.TheVariants.{F};
+ghost use Rattle.calculus.specs.Instances.{root_spot};
+ghost use Rattle.conversion_theory.specs.Branches.{item};
+ghost use Rattle.sequent_convert.specs.ByNumber.NodeView.{the_node};
+ghost use Rattle.sequent_convert.specs.ByNumber.RunView.{IsSeen, the_lists, the_run, the_source};
 ghost use Rattle.sequent_convert.specs.State.{IsBasis, IsOpenRun, IsRun, Moves};
 
 use crate::ahead::{Ahead, Ends};
@@ -13,6 +16,7 @@ use crate::source::Source;
 use crate::spot::Spot;
 use crate::turns::next_turn;
 use cop_base::NoMemory;
+use formula_core::GroundTable;
 use sequent_calc::StepList;
 
 /// The second branch of a fork: where it begins to differ, its first node there, and what is ahead.
@@ -20,7 +24,6 @@ use sequent_calc::StepList;
 pub struct Waiting<'a> {
     pub nodes: usize,
     pub done: usize,
-    pub turn: usize,
     pub node: Node<'a>,
     pub ahead: Ahead<'a>,
 }
@@ -36,27 +39,33 @@ pub struct Run<'a> {
     pub waiting: Vec<Waiting<'a>>,
 }
 
+// The problem's formula at the root.
+fn root_node<'a>(source: &Source<'a>) -> Result<Node<'a>, NoMemory>
+    ensures { IfOk result (λ n. the_node (the_lists source.now) n ≡ item root_spot F source.now.problem.now.formula) }
+{
+    let _few = source.named.table().len();
+    Ok(Node {
+        spot: Spot::root(source.alloc)?,
+        part: source.problem.whole(),
+        past: false,
+    })
+}
+
 impl<'a> Run<'a> {
-    /// Before the first step.
-    #[tactic(auto, using(crate::proofs::OrderLaws::orders, crate::proofs::PairLaws::pairs))]
-    pub fn new(source: &Source<'a>) -> Result<Run<'a>, NoMemory>
+    /// Before the first step. The finder begins with the table of the names.
+    #[tactic(auto, using(crate::proofs::OrderLaws::orders, crate::proofs::ByNumber::PairLaws::pairs))]
+    pub fn new(source: &Source<'a>, finder: GroundTable) -> Result<Run<'a>, NoMemory>
         requires basis { IsBasis (the_source source.now) }
-        ensures run { IfOk result (λ r. IsRun (the_source source.now) (the_run r)) }
-        ensures seen { IfOk result (λ r. IsSeen (the_source source.now) (map the_node r.branch.nodes.items) r.seen) }
+        ensures run { IfOk result (λ r. IsRun (the_source source.now) (the_run source.now r)) }
+        ensures seen { IfOk result (λ r. IsSeen (map (the_node (the_lists source.now)) r.branch.nodes.items) r.seen) }
     {
         let steps = StepList::new(source.alloc);
-        let mut branch = Branch::new(source.alloc);
+        let mut branch = Branch::new(source.alloc, finder);
         let turns = source.named.order(0);
         let ends = Ends::of_start(&source.tableau.goals);
         let waiting = Vec::new(source.alloc);
-        let spot = Spot::root(source.alloc);
-        let whole = source.problem.whole();
-        let root = Node {
-            spot,
-            part: whole,
-            past: false,
-        };
-        let seen = branch.add_node(source, root)?;
+        let root = root_node(source)?;
+        let seen = branch.add(source, root)?;
         Ok(Run {
             is_open: true,
             steps,
@@ -72,14 +81,14 @@ impl<'a> Run<'a> {
     }
 
     /// Goes on with the branch at hand.
-    #[tactic(auto, using(crate::proofs::StateLaws::states))]
+    #[tactic(auto, using(crate::proofs::ByNumber::StateLaws::states))]
     pub fn advance(&mut self, source: &Source<'a>) -> Result<(), NoMemory>
         requires basis { IsBasis (the_source source.now) }
         requires is_open { self.old.is_open ≡ true }
-        requires run { IsOpenRun (the_source source.now) (the_run self.old) }
-        requires seen { IsSeen (the_source source.now) (map the_node self.old.branch.nodes.items) self.old.seen }
-        ensures moves { OnOk result (Moves (the_source source.now) (the_run self.old) (the_run self.new)) }
-        ensures seen { OnOk result (IsSeen (the_source source.now) (map the_node self.new.branch.nodes.items) self.new.seen) }
+        requires run { IsOpenRun (the_source source.now) (the_run source.now self.old) }
+        requires seen { IsSeen (map (the_node (the_lists source.now)) self.old.branch.nodes.items) self.old.seen }
+        ensures moves { OnOk result (Moves (the_source source.now) (the_run source.now self.old) (the_run source.now self.new)) }
+        ensures seen { OnOk result (IsSeen (map (the_node (the_lists source.now)) self.new.branch.nodes.items) self.new.seen) }
     {
         match self.seen {
             Some(pair) => {
@@ -94,15 +103,15 @@ impl<'a> Run<'a> {
     }
 
     // Makes the turn ahead, or first one that it waits for; where it is done, goes on from it.
-    #[tactic(auto, using(crate::proofs::StateLaws::states))]
+    #[tactic(auto, using(crate::proofs::ByNumber::StateLaws::states))]
     fn lead(&mut self, source: &Source<'a>) -> Result<(), NoMemory>
         requires basis { IsBasis (the_source source.now) }
         requires some { 0 < length self.old.ahead.turns.now }
         requires is_open { self.old.is_open ≡ true }
-        requires run { IsOpenRun (the_source source.now) (the_run self.old) }
+        requires run { IsOpenRun (the_source source.now) (the_run source.now self.old) }
         requires unseen { self.old.seen ≡ None }
-        ensures moves { OnOk result (Moves (the_source source.now) (the_run self.old) (the_run self.new)) }
-        ensures seen { OnOk result (IsSeen (the_source source.now) (map the_node self.new.branch.nodes.items) self.new.seen) }
+        ensures moves { OnOk result (Moves (the_source source.now) (the_run source.now self.old) (the_run source.now self.new)) }
+        ensures seen { OnOk result (IsSeen (map (the_node (the_lists source.now)) self.new.branch.nodes.items) self.new.seen) }
     {
         let turn = self.ahead.turns[0];
         if self.branch.done.has(turn) {

@@ -1,170 +1,177 @@
 //! Spots: where a signed formula of the problem stands on a branch.
 
-ghost use Rattle.std.specs.Prelude.{◌≡◌, IfOk, ◌++◌, ◌∷◌, [], map};
-ghost use Rattle.calculus.specs.Ground.{term, steps, g_new_mark, marks_tree, values_tree};
+ghost use Rattle.std.specs.Prelude.{◌≡◌, ◌≤◌, IfOk, ◌++◌, ◌∷◌, [], List, length, map};
+ghost use Rattle.calculus.specs.Ground.{marks_tree};
 ghost use Rattle.calculus.specs.Instances.{root_spot, down_by, spot_inside, after_string, after_character};
-ghost use Rattle.calculus.specs.Labels.{nu_label, pi_label};
-ghost use Rattle.formula_core.specs.GroundView.{the_g_term, the_mark};
-ghost use Rattle.sequent_convert.specs.SpotView.{the_spot};
+ghost use Rattle.formula_core.specs.GroundLists.{GroundList, no_list, the_g_term, the_mark, the_values};
+ghost use Rattle.sequent_convert.specs.ByNumber.SpotView.{kept_marks, taken_is, the_spot};
 
 use cop_base::{NoMemory, PosId};
-use formula_core::{GroundLabel, GroundMark, GroundTerm, GroundTerms, Value, Values};
+use formula_core::GroundTable;
+use formula_core::shared::{GroundMark, GroundTerm, Values};
 use logic_rules::Logic;
 use std::alloc::Global;
+use std::rc::Rc;
 
 /// The position, its label, the values taken on the way to it and the terms put for the variables, the innermost
-/// quantifier's first.
+/// quantifier's first. What they name are lists of one table. Spots of one branch share labels and terms.
 #[derive(Drop)]
 pub struct Spot {
     pub position: u32,
-    pub label: GroundLabel,
+    pub label: Rc<Vec<GroundMark>>,
     pub taken: Values,
-    pub env: GroundTerms,
+    pub env: Rc<Vec<GroundTerm>>,
 }
 
 // The terms behind another one.
-fn with_term(alloc: Global, term: &GroundTerm, terms: &GroundTerms) -> Result<GroundTerms, NoMemory>
-    ensures { IfOk result (λ r. r ≡ the_g_term term.now ∷ terms.now) }
-{
-    let mut more = GroundTerms::new(alloc);
-    more.push(term.copy(alloc)?)?;
-    for item in terms.items() {
-        more.push(item.copy(alloc)?)?;
-    }
-    Ok(more)
-}
-
-// The label of a nu step by the string, which in S5 is the whole new label.
-fn after_nu(
+fn with_term(
     alloc: Global,
-    logic: Logic,
-    label: &GroundLabel,
-    string: &GroundLabel,
-) -> Result<GroundLabel, NoMemory>
-    ensures { IfOk result (λ r. r ≡ nu_label logic label.now string.now) }
+    term: GroundTerm,
+    terms: &[GroundTerm],
+) -> Result<Rc<Vec<GroundTerm>>, NoMemory>
+    ensures { IfOk result (λ r. r.value.items ≡ term ∷ terms.now) }
 {
-    match logic {
-        Logic::S5 => string.copy(alloc),
-        Logic::Classical | Logic::Intuitionistic | Logic::D | Logic::T | Logic::S4 => {
-            joined(alloc, label, string)
-        }
-    }
+    let mut more = Vec::new(alloc);
+    more.push(term)?;
+    more.extend_from_slice(terms)?;
+    Ok(Rc::new(alloc, more)?)
 }
 
-fn joined(alloc: Global, label: &GroundLabel, string: &GroundLabel) -> Result<GroundLabel, NoMemory>
-    ensures { IfOk result (λ r. r ≡ label.now ++ string.now) }
+// The label from which a step of the logic goes on: in S5 that is the root.
+fn start(alloc: Global, logic: Logic, label: &[GroundMark]) -> Result<Vec<GroundMark>, NoMemory>
+    ensures { IfOk result (λ v. v.items ≡ kept_marks logic label.now) }
 {
-    let mut longer = label.copy(alloc)?;
-    for mark in string.items() {
-        longer.push(mark.copy(alloc)?)?;
+    let mut all = Vec::new(alloc);
+    if logic.keeps_prefix() {
+        all.extend_from_slice(label)?;
     }
-    Ok(longer)
-}
-
-// The label of a pi step with the character.
-fn after_pi(
-    alloc: Global,
-    logic: Logic,
-    label: &GroundLabel,
-    mark: GroundMark,
-) -> Result<GroundLabel, NoMemory>
-    ensures { IfOk result (λ r. r ≡ pi_label logic label.now (the_mark mark)) }
-{
-    let mut longer = match logic {
-        Logic::S5 => GroundLabel::new(alloc),
-        Logic::Classical | Logic::Intuitionistic | Logic::D | Logic::T | Logic::S4 => {
-            label.copy(alloc)?
-        }
-    };
-    longer.push(mark)?;
-    Ok(longer)
+    Ok(all)
 }
 
 impl Spot {
     /// The root.
-    pub fn root(alloc: Global) -> Spot
-        ensures { the_spot result ≡ root_spot }
+    pub fn root(alloc: Global) -> Result<Spot, NoMemory>
+        ensures { IfOk result (λ c. (ls : List GroundList) → length ls ≤ no_list → the_spot ls c ≡ root_spot) }
     {
-        Spot {
+        let label = Rc::new(alloc, Vec::new(alloc))?;
+        let env = Rc::new(alloc, Vec::new(alloc))?;
+        Ok(Spot {
             position: 0,
-            label: GroundLabel::new(alloc),
-            taken: Values::new(alloc),
-            env: GroundTerms::new(alloc),
-        }
+            label,
+            taken: Values(GroundTable::EMPTY),
+            env,
+        })
     }
 
-    /// A spot that is equal to this one.
-    pub fn copy(&self, alloc: Global) -> Result<Spot, NoMemory>
-        ensures { IfOk result (λ c. the_spot c ≡ the_spot self.now) }
+    /// The characters of the label.
+    pub fn marks(&self) -> &[GroundMark]
+        ensures { result.now ≡ self.now.label.value.items }
+    {
+        self.label.as_ref().as_slice()
+    }
+
+    /// The terms put for the variables.
+    pub fn terms(&self) -> &[GroundTerm]
+        ensures { result.now ≡ self.now.env.value.items }
+    {
+        self.env.as_ref().as_slice()
+    }
+
+    /// The same spot, once these values are taken.
+    pub fn taking(&self, taken: Values) -> Result<Spot, NoMemory>
+        ensures { IfOk result (λ c. (ls : List GroundList) → the_spot ls c ≡ taken_is (the_values ls taken) (the_spot ls self.now)) }
     {
         Ok(Spot {
             position: self.position,
-            label: self.label.copy(alloc)?,
-            taken: self.taken.copy(alloc)?,
-            env: self.env.copy(alloc)?,
+            label: self.label.clone()?,
+            taken,
+            env: self.env.clone()?,
         })
     }
 
     /// The spot of a component n positions further.
-    pub fn down_by(&self, alloc: Global, n: u32) -> Result<Spot, NoMemory>
-        ensures { IfOk result (λ c. the_spot c ≡ down_by n (the_spot self.now)) }
+    pub fn down_by(&self, n: u32) -> Result<Spot, NoMemory>
+        ensures { IfOk result (λ c. (ls : List GroundList) → the_spot ls c ≡ down_by n (the_spot ls self.now)) }
     {
         match self.position.checked_add(n) {
             Some(position) => Ok(Spot {
                 position,
-                label: self.label.copy(alloc)?,
-                taken: self.taken.copy(alloc)?,
-                env: self.env.copy(alloc)?,
+                label: self.label.clone()?,
+                taken: self.taken,
+                env: self.env.clone()?,
             }),
             None => Err(NoMemory),
         }
     }
 
-    /// The spot inside a quantifier whose variable gets the term.
-    pub fn inside(&self, alloc: Global, term: &GroundTerm, taken: Values) -> Result<Spot, NoMemory>
-        ensures { IfOk result (λ c. the_spot c ≡ spot_inside (the_g_term term.now) taken (the_spot self.now)) }
+    /// The spot inside a quantifier whose variable gets the term, once what is taken there is taken.
+    pub fn inside(&self, alloc: Global, term: GroundTerm) -> Result<Spot, NoMemory>
+        ensures { IfOk result (λ c. (ls : List GroundList) → the_spot ls c ≡ spot_inside (the_g_term ls term) (the_spot ls self.now).taken (the_spot ls self.now)) }
     {
         match self.position.checked_add(1) {
             Some(position) => Ok(Spot {
                 position,
-                label: self.label.copy(alloc)?,
-                taken,
-                env: with_term(alloc, term, &self.env)?,
+                label: self.label.clone()?,
+                taken: self.taken,
+                env: with_term(alloc, term, self.terms())?,
             }),
             None => Err(NoMemory),
         }
     }
 
-    /// The spot after the nu step with the string.
-    #[tactic(auto, using(crate::proofs::Numbering::strings))]
+    // The label behind these marks.
+    fn moved(
+        &self,
+        alloc: Global,
+        logic: Logic,
+        marks: &[GroundMark],
+    ) -> Result<Rc<Vec<GroundMark>>, NoMemory>
+        ensures { IfOk result (λ r. r.value.items ≡ kept_marks logic self.now.label.value.items ++ marks.now) }
+    {
+        let mut longer = start(alloc, logic, self.marks())?;
+        longer.extend_from_slice(marks)?;
+        Ok(Rc::new(alloc, longer)?)
+    }
+
+    // The spot with this label, once these values are taken.
+    fn with_label(&self, label: Rc<Vec<GroundMark>>, taken: Values) -> Result<Spot, NoMemory>
+        ensures { IfOk result (λ c. (ls : List GroundList) → the_spot ls c ≡ record { position = self.now.position; label = map (the_mark ls) label.value.items; taken = the_values ls taken; env = map (the_g_term ls) self.now.env.value.items }) }
+    {
+        Ok(Spot {
+            position: self.position,
+            label,
+            taken,
+            env: self.env.clone()?,
+        })
+    }
+
+    /// The spot after the nu step with the string, once these values are taken.
     pub fn after_string(
         &self,
         alloc: Global,
         logic: Logic,
-        string: &GroundLabel,
+        string: &[GroundMark],
+        taken: Values,
     ) -> Result<Spot, NoMemory>
-        ensures { IfOk result (λ c. the_spot c ≡ after_string logic (marks_tree string.now) (the_spot self.now)) }
+        ensures { IfOk result (λ c. (ls : List GroundList) → the_spot ls c ≡ taken_is (the_values ls taken) (after_string logic (marks_tree (map (the_mark ls) string.now)) (the_spot ls self.now))) }
     {
-        let mut taken = self.taken.copy(alloc)?;
-        taken.push(Value::Steps(string.copy(alloc)?))?;
-        Ok(Spot {
-            position: self.position,
-            label: after_nu(alloc, logic, &self.label, string)?,
-            taken,
-            env: self.env.copy(alloc)?,
-        })
+        let label = self.moved(alloc, logic, string)?;
+        let spot = self.with_label(label, taken)?;
+        Ok(spot)
     }
 
-    /// The spot after the pi step, whose character is named by the position and the values taken.
-    pub fn after_character(&self, alloc: Global, logic: Logic) -> Result<Spot, NoMemory>
-        ensures { IfOk result (λ c. the_spot c ≡ after_character logic (the_spot self.now)) }
+    /// The spot after the pi step, whose character is named by the position and the values taken, once these values are taken.
+    pub fn after_character(
+        &self,
+        alloc: Global,
+        logic: Logic,
+        taken: Values,
+    ) -> Result<Spot, NoMemory>
+        ensures { IfOk result (λ c. (ls : List GroundList) → the_spot ls c ≡ taken_is (the_values ls taken) (after_character logic (the_spot ls self.now))) }
     {
-        let mark = GroundMark::New(PosId(self.position), self.taken.copy(alloc)?);
-        Ok(Spot {
-            position: self.position,
-            label: after_pi(alloc, logic, &self.label, mark)?,
-            taken: self.taken.copy(alloc)?,
-            env: self.env.copy(alloc)?,
-        })
+        let mark = GroundMark::New(PosId(self.position), self.taken);
+        let label = self.moved(alloc, logic, &[mark])?;
+        let spot = self.with_label(label, taken)?;
+        Ok(spot)
     }
 }

@@ -3,20 +3,21 @@
 ghost use Rattle.std.specs.Prelude.{◌≡◌, ◌<◌, ℕ, Some, IsTrue, IfOk, MatchOption, Contains, length, map, slice_get, drop};
 ghost use Rattle.std.specs.List.{AllByRecursion};
 ghost use Rattle.conversion_theory.specs.Branches.{Item};
-ghost use Rattle.sequent_convert.specs.MadeView.{the_made};
-ghost use Rattle.sequent_convert.specs.NodeView.{the_node};
-ghost use Rattle.sequent_convert.specs.RunView.{WorksAt, own_values, the_source};
+ghost use Rattle.sequent_convert.specs.ByNumber.MadeView.{the_made};
+ghost use Rattle.sequent_convert.specs.ByNumber.NodeView.{the_node};
+ghost use Rattle.sequent_convert.specs.ByNumber.RunView.{TakesAll, WorksAt, own_values, the_lists, the_source};
 ghost use Rattle.sequent_convert.specs.State.{Begins, BeginsNot, ComesFor, IsAwaitedBy, IsBasis, WorksOnNone, made_of};
 
 use crate::branch::Branch;
 use crate::make::{Made, make};
-use crate::nodes::works_on;
+use crate::nodes::{find, works_on};
 use crate::source::Source;
 use cop_base::NoMemory;
-use formula_core::Value;
+use formula_core::GroundTable;
+use formula_core::shared::{Value, Values};
 
 // A turn that is not done, by which this one is awaited: its parent, or one that introduces a name which it mentions.
-#[tactic(auto, using(crate::proofs::StateLaws::states))]
+#[tactic(auto, using(crate::proofs::ByNumber::StateLaws::states))]
 fn awaited(source: &Source, branch: &Branch, turn: usize) -> Option<usize>
     requires basis { IsBasis (the_source source.now) }
     requires within { turn < length source.now.named.now.agenda }
@@ -37,7 +38,7 @@ fn awaited(source: &Source, branch: &Branch, turn: usize) -> Option<usize>
 }
 
 // The turn, or one that it waits for, which can come.
-#[tactic(auto, using(crate::proofs::StateLaws::states))]
+#[tactic(auto, using(crate::proofs::ByNumber::StateLaws::states))]
 pub(crate) fn next_turn(source: &Source, branch: &Branch, turn: usize) -> usize
     requires basis { IsBasis (the_source source.now) }
     requires within { turn < length source.now.named.now.agenda }
@@ -51,40 +52,51 @@ pub(crate) fn next_turn(source: &Source, branch: &Branch, turn: usize) -> usize
     next
 }
 
-// Where the node that a turn works on may stand.
-#[tactic(auto, using(crate::proofs::StateLaws::states))]
-fn hint(source: &Source, branch: &Branch, turn: usize) -> usize
+// The values taken before the own ones of a turn: those of its parent.
+#[tactic(auto, using(crate::proofs::ByNumber::StateLaws::states))]
+fn taken_before(source: &Source, turn: usize) -> Values
     requires basis { IsBasis (the_source source.now) }
     requires within { turn < length source.now.named.now.agenda }
 {
     let agenda = source.named.agenda();
     match source.named.parent(turn) {
-        None => 0,
-        Some(parent) => branch.hint_at(parent, agenda[turn].position.0),
+        None => Values(GroundTable::EMPTY),
+        Some(parent) => agenda[parent].values,
     }
 }
 
-#[tactic(auto, using(crate::proofs::StateLaws::states))]
+// Where the node that a turn works on may stand.
+#[tactic(auto, using(crate::proofs::ByNumber::StateLaws::states))]
+fn hint(source: &Source, branch: &Branch, turn: usize) -> usize
+    requires basis { IsBasis (the_source source.now) }
+    requires within { turn < length source.now.named.now.agenda }
+{
+    let agenda = source.named.agenda();
+    branch.hint(agenda[turn].position.0, taken_before(source, turn))
+}
+
+#[tactic(auto, using(crate::proofs::ByNumber::StateLaws::states))]
 pub(crate) fn find_node(source: &Source, branch: &Branch, turn: usize) -> Option<usize>
     requires basis { IsBasis (the_source source.now) }
     requires within { turn < length source.now.named.now.agenda }
-    ensures { MatchOption result (WorksOnNone (the_source source.now) turn (map the_node branch.now.nodes.items))
-        (λ n. WorksAt (the_source source.now) branch.now.nodes.items turn n) }
+    ensures { MatchOption result (WorksOnNone (the_source source.now) turn (map (the_node (the_lists source.now)) branch.now.nodes.items))
+        (λ n. WorksAt (the_source source.now) (map (the_node (the_lists source.now)) branch.now.nodes.items) turn n) }
 {
     let agenda = source.named.agenda();
     let hint = hint(source, branch, turn);
-    match branch.nodes.find(hint, &agenda[turn]) {
+    let nodes = branch.nodes.as_slice();
+    match find(source.named.table(), nodes, hint, agenda[turn]) {
         None => None,
         Some(place) => Some(place),
     }
 }
 
 // Whether the first of the turns works on the node that is hinted at.
-#[tactic(auto, using(crate::proofs::StateLaws::states))]
+#[tactic(auto, using(crate::proofs::ByNumber::StateLaws::states))]
 pub(crate) fn begins(source: &Source, branch: &Branch, turns: &[usize]) -> bool
     requires basis { IsBasis (the_source source.now) }
     requires within { AllByRecursion (λ k. k < length source.now.named.now.agenda) turns.now }
-    ensures { IsTrue result → Begins (the_source source.now) (map the_node branch.now.nodes.items) turns.now }
+    ensures { IsTrue result → Begins (the_source source.now) (map (the_node (the_lists source.now)) branch.now.nodes.items) turns.now }
 {
     match turns.first() {
         None => false,
@@ -93,7 +105,7 @@ pub(crate) fn begins(source: &Source, branch: &Branch, turns: &[usize]) -> bool
             let place = hint(source, branch, *turn);
             let nodes = branch.nodes.as_slice();
             if place < nodes.len() {
-                works_on(&agenda[*turn], &nodes[place])
+                works_on(source.named.table(), agenda[*turn], &nodes[place])
             } else {
                 false
             }
@@ -102,12 +114,12 @@ pub(crate) fn begins(source: &Source, branch: &Branch, turns: &[usize]) -> bool
 }
 
 // Whether the first of the turns works on any node.
-#[tactic(auto, using(crate::proofs::StateLaws::states))]
+#[tactic(auto, using(crate::proofs::ByNumber::StateLaws::states))]
 pub(crate) fn begins_somewhere(source: &Source, branch: &Branch, turns: &[usize]) -> bool
     requires basis { IsBasis (the_source source.now) }
     requires within { AllByRecursion (λ k. k < length source.now.named.now.agenda) turns.now }
-    ensures yes { IsTrue result → Begins (the_source source.now) (map the_node branch.now.nodes.items) turns.now }
-    ensures no { ¬ (IsTrue result) → BeginsNot (the_source source.now) (map the_node branch.now.nodes.items) turns.now }
+    ensures yes { IsTrue result → Begins (the_source source.now) (map (the_node (the_lists source.now)) branch.now.nodes.items) turns.now }
+    ensures no { ¬ (IsTrue result) → BeginsNot (the_source source.now) (map (the_node (the_lists source.now)) branch.now.nodes.items) turns.now }
 {
     match turns.first() {
         None => false,
@@ -127,7 +139,7 @@ fn values_from<'v>(values: &'v [Value], n: usize) -> &'v [Value]
 }
 
 // What the turn does to the node at a place.
-#[tactic(auto, using(crate::proofs::StateLaws::states))]
+#[tactic(auto, using(crate::proofs::ByNumber::StateLaws::states))]
 pub(crate) fn made_at<'a>(
     source: &Source,
     branch: &Branch<'a>,
@@ -135,15 +147,18 @@ pub(crate) fn made_at<'a>(
     turn: usize,
 ) -> Result<Made<'a>, NoMemory>
     requires within { turn < length source.now.named.now.agenda }
-    requires works { WorksAt (the_source source.now) branch.now.nodes.items turn place }
-    ensures { IfOk result (λ m. (i : Item) → slice_get (map the_node branch.now.nodes.items) place ≡ Some i
-        → the_made m ≡ made_of (the_source source.now) i (own_values (the_source source.now) turn i)) }
+    requires works { WorksAt (the_source source.now) (map (the_node (the_lists source.now)) branch.now.nodes.items) turn place }
+    requires taken { (i : Item) → slice_get (map (the_node (the_lists source.now)) branch.now.nodes.items) place ≡ Some i → TakesAll (the_source source.now) turn i }
+    ensures { IfOk result (λ m. (i : Item) → slice_get (map (the_node (the_lists source.now)) branch.now.nodes.items) place ≡ Some i
+        → the_made (the_lists source.now) m ≡ made_of (the_source source.now) i (own_values (the_source source.now) turn i)) }
 {
     let agenda = source.named.agenda();
     let nodes = branch.nodes.as_slice();
     let node = &nodes[place];
-    let taken = node.spot.taken.items().len();
-    let own = values_from(agenda[turn].values.items(), taken);
+    let table = source.named.table();
+    let taken = table.values(node.spot.taken).len();
+    let all = agenda[turn].values;
+    let own = values_from(table.values(all), taken);
     let made = make(
         source.alloc,
         source.named,
@@ -151,6 +166,7 @@ pub(crate) fn made_at<'a>(
         &node.spot,
         node.part,
         own,
+        all,
     )?;
     Ok(made)
 }

@@ -1,11 +1,13 @@
 //! Tableaux of the tests, by arrays that tell their names and instances.
 
 use cop_base::{NoMemory, PosId, SymbolId};
-use formula_core::{GroundLabel, GroundMark, GroundTerm, GroundTerms, Sign, Value, Values};
+use formula_core::shared::{GroundLabel, GroundMark, GroundTerm, GroundTerms, Value, Values};
+use formula_core::{GroundTable, Sign};
 use std::alloc::Global;
-use tableau_core::{
-    ClauseInstance, Closing, ClosingList, GroundLiteral, LiteralList, Selection, Side, Tableau,
+use tableau_core::shared::{
+    ClauseInstance, Closing, ClosingList, GroundLiteral, LiteralList, Tableau,
 };
+use tableau_core::{Selection, Side};
 
 // A value: the empty string, or by its place a character or a term of the case.
 #[derive(Clone, Copy)]
@@ -92,111 +94,143 @@ pub(crate) struct Case<'a> {
     pub goals: &'a [InstanceIs],
 }
 
+// The characters and the terms of a case, by the lists of a table.
 #[derive(Drop)]
 struct Ground {
     marks: Vec<GroundMark>,
     terms: Vec<GroundTerm>,
 }
 
-fn label(alloc: Global, ground: &Ground, places: Places) -> Result<GroundLabel, NoMemory> {
-    let mut label = GroundLabel::new(alloc);
+fn label(
+    alloc: Global,
+    table: &mut GroundTable,
+    ground: &Ground,
+    places: Places,
+) -> Result<GroundLabel, NoMemory> {
+    let mut marks = Vec::new(alloc);
     for place in places.from..places.to {
         if let Some(mark) = ground.marks.get(place) {
-            label.push(mark.copy(alloc)?)?;
+            marks.push(*mark)?;
         }
     }
-    Ok(label)
+    table.add_marks(marks.as_slice())
 }
 
-fn term(alloc: Global, ground: &Ground, place: usize) -> Result<GroundTerm, NoMemory> {
+fn term(ground: &Ground, place: usize) -> Result<GroundTerm, NoMemory> {
     match ground.terms.get(place) {
-        Some(term) => term.copy(alloc),
+        Some(term) => Ok(*term),
         None => Err(NoMemory),
     }
 }
 
-fn value(alloc: Global, ground: &Ground, v: ValueIs) -> Result<Value, NoMemory> {
+fn value(
+    alloc: Global,
+    table: &mut GroundTable,
+    ground: &Ground,
+    v: ValueIs,
+) -> Result<Value, NoMemory> {
     match v {
-        ValueIs::Stay => Ok(Value::Steps(GroundLabel::new(alloc))),
+        ValueIs::Stay => Ok(Value::Steps(table.add_marks(&[])?)),
         ValueIs::Step(place) => {
-            let string = label(alloc, ground, from_to(place, place.saturating_add(1)))?;
+            let places = from_to(place, place.saturating_add(1));
+            let string = label(alloc, table, ground, places)?;
             Ok(Value::Steps(string))
         }
-        ValueIs::Term(place) => Ok(Value::Term(term(alloc, ground, place)?)),
+        ValueIs::Term(place) => Ok(Value::Term(term(ground, place)?)),
     }
 }
 
 fn values(
     alloc: Global,
+    table: &mut GroundTable,
     ground: &Ground,
     all: &[ValueIs],
     places: Places,
 ) -> Result<Values, NoMemory> {
-    let mut values = Values::new(alloc);
+    let mut values = Vec::new(alloc);
     for place in places.from..places.to {
         if let Some(v) = all.get(place) {
-            values.push(value(alloc, ground, *v)?)?;
+            values.push(value(alloc, table, ground, *v)?)?;
         }
     }
-    Ok(values)
+    table.add_values(values.as_slice())
 }
 
-fn taken(alloc: Global, ground: &Ground, v: Option<ValueIs>) -> Result<Values, NoMemory> {
+fn taken(
+    alloc: Global,
+    table: &mut GroundTable,
+    ground: &Ground,
+    v: Option<ValueIs>,
+) -> Result<Values, NoMemory> {
     match v {
-        Some(v) => values(alloc, ground, &[v], from_to(0, 1)),
-        None => Ok(Values::new(alloc)),
+        Some(v) => values(alloc, table, ground, &[v], from_to(0, 1)),
+        None => table.add_values(&[]),
     }
 }
 
-fn mark_of(alloc: Global, ground: &Ground, mark: MarkIs) -> Result<GroundMark, NoMemory> {
+fn mark_of(
+    alloc: Global,
+    table: &mut GroundTable,
+    ground: &Ground,
+    mark: MarkIs,
+) -> Result<GroundMark, NoMemory> {
     match mark {
-        MarkIs::New(p, v) => Ok(GroundMark::New(PosId(p), taken(alloc, ground, v)?)),
+        MarkIs::New(p, v) => Ok(GroundMark::New(PosId(p), taken(alloc, table, ground, v)?)),
         MarkIs::Spare(k) => Ok(GroundMark::Spare(k)),
     }
 }
 
-fn term_of(alloc: Global, ground: &Ground, term: TermIs) -> Result<GroundTerm, NoMemory> {
+fn term_of(
+    alloc: Global,
+    table: &mut GroundTable,
+    ground: &Ground,
+    term: TermIs,
+) -> Result<GroundTerm, NoMemory> {
     match term {
         TermIs::Common(k) => Ok(GroundTerm::Common(k)),
         TermIs::Own(k) => {
-            let label = label(alloc, ground, from_to(0, ground.marks.len()))?;
+            let label = label(alloc, table, ground, from_to(0, ground.marks.len()))?;
             Ok(GroundTerm::Own(k, label))
         }
-        TermIs::Eigen(p, v) => Ok(GroundTerm::Eigen(PosId(p), taken(alloc, ground, v)?)),
+        TermIs::Eigen(p, v) => Ok(GroundTerm::Eigen(PosId(p), taken(alloc, table, ground, v)?)),
     }
 }
 
-fn ground_of(alloc: Global, case: &Case) -> Result<Ground, NoMemory> {
+fn ground_of(alloc: Global, table: &mut GroundTable, case: &Case) -> Result<Ground, NoMemory> {
     let mut ground = Ground {
         marks: Vec::new(alloc),
         terms: Vec::new(alloc),
     };
     for mark in case.marks {
-        let next = mark_of(alloc, &ground, *mark)?;
+        let next = mark_of(alloc, table, &ground, *mark)?;
         ground.marks.push(next)?;
     }
     for term in case.terms {
-        let next = term_of(alloc, &ground, *term)?;
+        let next = term_of(alloc, table, &ground, *term)?;
         ground.terms.push(next)?;
     }
     Ok(ground)
 }
 
 fn arguments(
-    alloc: Global,
+    table: &mut GroundTable,
     ground: &Ground,
     argument: Option<usize>,
 ) -> Result<GroundTerms, NoMemory> {
-    let mut args = GroundTerms::new(alloc);
-    if let Some(place) = argument {
-        args.push(term(alloc, ground, place)?)?;
+    match argument {
+        Some(place) => table.add_terms(&[term(ground, place)?]),
+        None => table.add_terms(&[]),
     }
-    Ok(args)
 }
 
-fn literal(alloc: Global, ground: &Ground, l: LiteralIs) -> Result<GroundLiteral, NoMemory> {
-    let args = arguments(alloc, ground, l.argument)?;
-    let label = label(alloc, ground, l.label)?;
+fn literal(
+    alloc: Global,
+    table: &mut GroundTable,
+    ground: &Ground,
+    l: LiteralIs,
+) -> Result<GroundLiteral, NoMemory> {
+    let args = arguments(table, ground, l.argument)?;
+    let label = label(alloc, table, ground, l.label)?;
     Ok(GroundLiteral {
         sign: l.sign,
         symbol: SymbolId(0),
@@ -207,6 +241,7 @@ fn literal(alloc: Global, ground: &Ground, l: LiteralIs) -> Result<GroundLiteral
 
 fn literals(
     alloc: Global,
+    table: &mut GroundTable,
     ground: &Ground,
     all: &[LiteralIs],
     places: Places,
@@ -214,7 +249,7 @@ fn literals(
     let mut literals = LiteralList::new(alloc);
     for place in places.from..places.to {
         if let Some(l) = all.get(place) {
-            literals.push(literal(alloc, ground, *l)?)?;
+            literals.push(literal(alloc, table, ground, *l)?)?;
         }
     }
     Ok(literals)
@@ -228,13 +263,14 @@ fn selection(alloc: Global, side: Side) -> Result<Selection, NoMemory> {
 
 fn instance(
     alloc: Global,
+    table: &mut GroundTable,
     ground: &Ground,
     case: &Case,
     i: InstanceIs,
 ) -> Result<ClauseInstance, NoMemory> {
     let selection = selection(alloc, i.side)?;
-    let values = values(alloc, ground, case.values, i.values)?;
-    let literals = literals(alloc, ground, case.literals, i.literals)?;
+    let values = values(alloc, table, ground, case.values, i.values)?;
+    let literals = literals(alloc, table, ground, case.literals, i.literals)?;
     Ok(ClauseInstance {
         selection,
         values,
@@ -242,10 +278,15 @@ fn instance(
     })
 }
 
-fn goals(alloc: Global, ground: &Ground, case: &Case) -> Result<ClosingList, NoMemory> {
+fn goals(
+    alloc: Global,
+    table: &mut GroundTable,
+    ground: &Ground,
+    case: &Case,
+) -> Result<ClosingList, NoMemory> {
     let mut closings = ClosingList::new(alloc);
     for goal in case.goals {
-        let instance = instance(alloc, ground, case, *goal)?;
+        let instance = instance(alloc, table, ground, case, *goal)?;
         closings.push(Closing::Extend {
             instance,
             literal: 0,
@@ -256,8 +297,13 @@ fn goals(alloc: Global, ground: &Ground, case: &Case) -> Result<ClosingList, NoM
 }
 
 pub(crate) fn tableau(alloc: Global, case: &Case) -> Result<Tableau, NoMemory> {
-    let ground = ground_of(alloc, case)?;
-    let start = instance(alloc, &ground, case, case.start)?;
-    let goals = goals(alloc, &ground, case)?;
-    Ok(Tableau { start, goals })
+    let mut table = GroundTable::new(alloc);
+    let ground = ground_of(alloc, &mut table, case)?;
+    let start = instance(alloc, &mut table, &ground, case, case.start)?;
+    let goals = goals(alloc, &mut table, &ground, case)?;
+    Ok(Tableau {
+        table,
+        start,
+        goals,
+    })
 }

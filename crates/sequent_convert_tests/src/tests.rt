@@ -1,5 +1,6 @@
 //! Tableaux by hand, and derivations of these that are accepted.
 
+use crate::deep::deep_tableau;
 use crate::example_tableaux::{
     Case, MarkIs, TermIs, ValueIs, from_to, given, instance_of, shown, tableau,
 };
@@ -10,7 +11,8 @@ use logic_rules::{Domains, Logic, Problem};
 use sequent_convert::convert;
 use std::alloc::Global;
 use std::test::Fail;
-use tableau_core::{Side, Tableau, is_closed};
+use tableau_core::Side;
+use tableau_core::shared::{Tableau, is_closed};
 use test_problems::proving;
 
 // How many steps the derivation has to which the tableau leads within limit 1, where it is closed and
@@ -142,5 +144,26 @@ fn converts_a_box_that_is_used_twice(rt: HostRuntime) -> Result<(), Fail> {
     let formula = b"#box:![X]:![Y]:p(X) => (#box:![X]:p(X) & #box:![X]:p(X))";
     let problem = proving(alloc, Logic::D, Domains::Constant, formula)?;
     assert!(rt; both_worlds_convert(alloc, &problem)?);
+    Ok(())
+}
+
+#[test]
+fn converts_terms_of_many_levels(rt: HostRuntime) -> Result<(), Fail> {
+    let alloc = rt.alloc();
+    let formula = b"![X]:p(f(X)) => ?[Y]:p(Y)";
+    let problem = proving(alloc, Logic::Classical, Domains::Constant, formula)?;
+    let t = deep_tableau(alloc, 2_000)?;
+    assert!(rt; converted(alloc, &problem, &t)? == Some(4));
+    Ok(())
+}
+
+#[test]
+fn converts_no_terms_of_too_many_levels(rt: HostRuntime) -> Result<(), Fail> {
+    let alloc = rt.alloc();
+    let formula = b"![X]:p(f(X)) => ?[Y]:p(Y)";
+    let problem = proving(alloc, Logic::Classical, Domains::Constant, formula)?;
+    let t = deep_tableau(alloc, 10_001)?;
+    assert!(rt; is_closed(alloc, &problem, &t, 1)?);
+    assert!(rt; converted(alloc, &problem, &t).is_err());
     Ok(())
 }

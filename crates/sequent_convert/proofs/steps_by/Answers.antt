@@ -1,4 +1,4 @@
-use Rattle.sequent_convert.specs.RunView.{the_source}
+use Rattle.sequent_convert.specs.ByNumber.RunView.{the_source}
 use Rattle.sequent_convert.proofs.Converted.{converted-here}
 use Rattle.sequent_convert.proofs.steps_by.Goals as goal
 

@@ -1,12 +1,11 @@
-use Rattle.std.proofs.Common.{◌≡◌, length, map, take}
-use Rattle.calculus.specs.Lists.{closings_tree}
-use Rattle.calculus.specs.Tableaux.{instances_of_all}
-use Rattle.tableau_core.specs.ClosingSizes.{closing_size, closing_list_size}
-use Rattle.tableau_core.specs.ClosingView.{the_closing}
+use Rattle.std.proofs.Common.{◌≡◌, map, take}
+use Rattle.tableau_core.specs.Numbered.Closings.{closing_size, closing_list_size}
+use Rattle.tableau_core.specs.Numbered.ClosingView.{the_closing}
+use Rattle.sequent_convert.specs.ByNumber.AheadView.{closings_count}
 use Rattle.sequent_convert.proofs.ahead.+instances.Given as goal
 
 abbrev pub invariant-instances_of-loop-goal : goal.invariant-instances_of-loop-goal
-invariant-instances_of-loop-goal l = l.count ≡ length (instances_of_all (closings_tree (map the_closing (take l.goal-index l.goal-items))))
+invariant-instances_of-loop-goal l = l.count ≡ closings_count (take l.goal-index l.goal-items)
 
 abbrev pub decreases-instances_in : goal.decreases-instances_in
 decreases-instances_in l = closing_size (the_closing l.goal.now)

@@ -1,6 +1,6 @@
 use Rattle.std.proofs.Common.{◌≡◌, ◌≤◌, take}
 use Rattle.conversion_theory.specs.Leading.{literals_among}
-use Rattle.sequent_convert.specs.RunView.{the_source}
+use Rattle.sequent_convert.specs.ByNumber.RunView.{the_source}
 use Rattle.sequent_convert.specs.State.{turns_at}
 use Rattle.sequent_convert.proofs.parts.literals_among.Given as goal
 

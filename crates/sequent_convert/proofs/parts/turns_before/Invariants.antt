@@ -1,6 +1,6 @@
 use Rattle.std.proofs.Common.{◌≡◌, ◌+◌, drop}
 use Rattle.conversion_theory.specs.Leading.{turns_before}
-use Rattle.sequent_convert.specs.RunView.{the_source}
+use Rattle.sequent_convert.specs.ByNumber.RunView.{the_source}
 use Rattle.sequent_convert.specs.State.{turns_at}
 use Rattle.sequent_convert.proofs.parts.turns_before.Given as goal
 

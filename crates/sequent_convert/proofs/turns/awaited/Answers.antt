@@ -1,5 +1,5 @@
 use Rattle.std.proofs.Common.{◌∙◌, Some, Contains, ap, inl, inr, slice_index_or}
-use Rattle.sequent_convert.specs.RunView.{the_source}
+use Rattle.sequent_convert.specs.ByNumber.RunView.{the_source}
 use Rattle.sequent_convert.specs.State.{IsAwaitedBy}
 use Rattle.sequent_convert.proofs.AwaitedLaws.{not-there, item-in, waits-step, awaits-all}
 use Rattle.sequent_convert.proofs.ComingLaws.{awaited-before}

@@ -1,5 +1,5 @@
 use Rattle.std.proofs.Common.{sym, subst, inl, inr, arith}
-use Rattle.sequent_convert.specs.RunView.{the_source}
+use Rattle.sequent_convert.specs.ByNumber.RunView.{the_source}
 use Rattle.sequent_convert.specs.State.{IsAwaitedBy}
 use Rattle.sequent_convert.proofs.turns.next_turn.Goals as goal
 

@@ -1,0 +1,16 @@
+pub mod SpotLaws
+pub mod MadeLaws
+pub mod AlikeLaws
+pub mod PairLaws
+pub mod PairsAt
+pub mod StateLaws
+pub mod NodeLaws
+pub mod StandLaws
+pub mod TakenLaws
+pub mod TurnsAt
+pub mod Ends
+pub mod NameLines
+pub mod MadeNames
+pub mod Stack
+pub mod PastLaws
+pub mod TaskLaws
