@@ -40,7 +40,7 @@ use Rattle.search_theory.proofs.PassingLaws.{passes-ended, passes-keep, passes-l
 use Rattle.search_theory.proofs.RankLaws.{rank_of}
 use Rattle.search_theory.proofs.SoundLaws.{dead-unsound, sound-state}
 use Rattle.search_theory.proofs.Dropping.{drop-front}
-use Rattle.tableau_core.specs.TableauView.{the_tableau}
+use Rattle.tableau_core.specs.Numbered.TableauView.{the_tableau}
 use Rattle.term_store.specs.StoreView.{the_mark}
 use Rattle.connection_search.specs.Cutting.{AreLevelPoints, IsCountedAt, IsCutEnded, IsCutExploring, IsCutFailed, IsCutVisiting, IsPassing}
 use Rattle.connection_search.specs.Deciding.{IsEnded, IsSolving}

@@ -238,5 +238,5 @@ module _ (P : Problem) (m : List MatrixClause) (base d : ℕ) (s : Store) (steps
 
   pub decided-end : (budget : ℕ) (new : Store) (w : Visit) → IsSolving P m s steps goals mid after → IsDecided P m d v.choices s steps goals mid after budget new w → IsEnd P d begun after budget w
   decided-end budget new visit.On k h = tt
-  decided-end budget new (visit.Closed t) k h = h
+  decided-end budget new (visit.Closed t) k h = h.0
   decided-end budget new visit.Steps k h = (h.ended, solving-ended P m base d s steps goals first points later begun used mid after left space v whole taken budget k h)

@@ -15,6 +15,11 @@ pub mod SystemGrowth
 pub mod GatheringLaws
 -- reading off the tableau
 pub mod ReadingLaws
+pub mod GroundLaws
+pub mod PartLaws
+pub mod MakingLaws
+pub mod ReadOffLaws
+pub mod StackLaws
 -- copies
 pub mod ClassicalGammas
 pub mod ClassicalCopies
@@ -52,6 +57,5 @@ pub mod SearchedLaws
 -- deepening
 pub mod DeepeningLaws
 -- the search that does not return to solved goals
-pub mod ListingLaws
 pub mod CuttingLaws
 pub mod CutDeepening

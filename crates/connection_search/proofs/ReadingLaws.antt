@@ -1,27 +1,29 @@
 -- What is read off of the program's tree stands in its store.
-use Rattle.std.proofs.Common.{◌≡◌, ◌+◌, ◌-◌, ◌<◌, ◌≤◌, ℕ, zero, suc, List, [], ◌∷◌, ◌++◌, drop, length, map, take, Bool, ◌&&◌, IsTrue, refl, sym, ◌∙◌, ap, subst, Option, None, Some, slice_get, get_or, arith, nat_lt, ltb-true}
-use Rattle.std.specs.List.{AllByRecursion, list_all}
+use Rattle.std.proofs.Common.{◌≡◌, ◌+◌, ◌-◌, ◌<◌, ◌≤◌, ℕ, zero, suc, List, [], ◌∷◌, ◌++◌, drop, length, map, take, Bool, true, false, ◌&&◌, ◌||◌, IsTrue, refl, sym, ◌∙◌, ap, subst, Option, None, Some, slice_get, get_or, arith, nat_lt, ltb-true, lt-ltb}
+use Rattle.std.specs.List.{AllByRecursion, flat_map, list_all}
 use Rattle.std.proofs.lemmas.Bool.{and_from, and_parts}
+use Rattle.std.proofs.lemmas.Option.{slice_get_within}
+use Rattle.calculus.specs.declared.sort.Sort.{Sort}
+use Rattle.calculus.specs.declared.sort.Sort.TheVariants.{TermSort, MarkSort, StringSort}
 use Rattle.std.proofs.lemmas.List.{drop-map, take-map, take_rest}
 use Rattle.store_theory.specs.Bindings.{IsEnd, KeepsMarks, places_from}
 use Rattle.calculus.specs.Choices.{Choice}
-use Rattle.store_theory.specs.Stores.{EndsAt, IsGood, Store, TrailMark, cells_bound_by, cut_at, names_below}
+use Rattle.store_theory.specs.Stores.{EndsAt, IsGood, Store, TrailMark, GammaCell, cells_bound_by, cut_at, has_sort_at, names_below}
 use Rattle.calculus.specs.Syntax.{Problem}
-use Rattle.store_theory.specs.Systems.{CellAtom}
+use Rattle.store_theory.specs.Systems.{CellAtom, has_label_sort_at, is_gamma_cell, is_label}
 use Rattle.calculus.proofs.PlaceLists.{all-at}
 use Rattle.store_theory.proofs.StoreLaws.{length-bound}
 use Rattle.search_theory.specs.Matrix.{MatrixClause}
 use Rattle.search_theory.specs.States.{atom_is_below, choice_is_below}
 use Rattle.search_theory.proofs.BelowLaws.{all-weaken, choice-more}
-use Rattle.search_theory.proofs.ExploreLaws.{all-more}
-use Rattle.search_theory.proofs.SystemLaws.{all-apart}
+use Rattle.search_theory.proofs.SolvingLaws.{system-parts}
+use Rattle.search_theory.proofs.SpareLaws.{cell-sorted}
 use Rattle.term_store.specs.ClauseView.{the_atom}
 use Rattle.term_store.specs.RefView.{the_places}
 use Rattle.term_store.specs.declared.clause.CellAtom as program
-use Rattle.connection_search.specs.Readable.{IsReadableStep, IsThere}
-use Rattle.connection_search.specs.declared.terms.Task.{Task}
+use Rattle.connection_search.specs.Readable.{IsReadableStep, is_gamma_below}
 use Rattle.connection_search.specs.Running.{StandsFor}
-use Rattle.connection_search.specs.Trees.{IsBuiltStep, inserted, the_step}
+use Rattle.connection_search.specs.Trees.{IsBuiltStep, gammas_of, inserted, the_step, tree_system}
 use Rattle.connection_search.specs.declared.tree.Goal.{Goal}
 use Rattle.connection_search.specs.declared.tree.Step.{Step}
 use Rattle.connection_search.specs.declared.tree.Step.TheVariants.{Extend, Reduce, Start}
@@ -34,18 +36,6 @@ cell-below n rs i r h e = ltb-true r n (all-at (λ k. nat_lt k n) rs i r h e)
 pub end-of : (s : Store) (r e : ℕ) → EndsAt s r e → IsEnd s e
 end-of s r e (EndsAt.stays {c = c} h f) = (c, h, f)
 end-of s r e (EndsAt.goes_on h more) = end-of s _ e more
-
--- ---- tasks
-
--- the last task and those below it are there
-pub last-there : (s : Store) (items rest : List Task) (w : Task) → items ≡ rest ++ w ∷ [] → AllByRecursion (IsThere s) items → AllByRecursion (IsThere s) rest × IsThere s w
-last-there s items rest w e h =
-    let p = all-apart (IsThere s) rest (w ∷ []) (subst (AllByRecursion (IsThere s)) e h) in
-    (p.0, p.1.0)
-
--- one more
-pub there-more : (s : Store) (items before : List Task) (w : Task) → items ≡ before ++ w ∷ [] → AllByRecursion (IsThere s) before → IsThere s w → AllByRecursion (IsThere s) items
-there-more s items before w e h k = subst (AllByRecursion (IsThere s)) (sym e) (all-more (IsThere s) before w h k)
 
 -- ---- variables that stand side by side
 
@@ -149,3 +139,33 @@ cells-stay k s t good whole keeps =
     let bound = length-bound (take k.entries t.trail) 0 (take k.cells t.cells) in
     let short = take-shorter k.cells t.cells in
     omega (arith, same, bound, short)
+
+-- ---- gamma terms that can be read
+
+sorted-below : (s : Store) (n : ℕ) → length s.cells ≤ n → (sort : Sort) (r : ℕ) → IsTrue (has_sort_at s sort r) → IsTrue (nat_lt r n)
+sorted-below s n l sort r h =
+    let t = cell-sorted s sort r h in
+    let w = slice_get_within s.cells r t.0 t.1 in
+    lt-ltb r n (omega (arith, w, l))
+
+item-below : (s : Store) (n : ℕ) → length s.cells ≤ n → (r : ℕ) → IsTrue (has_label_sort_at s r) → IsTrue (nat_lt r n)
+item-below s n l r h = by (has_sort_at s MarkSort r) refl h
+  where
+    by : (b : Bool) → has_sort_at s MarkSort r ≡ b → IsTrue (b || has_sort_at s StringSort r) → IsTrue (nat_lt r n)
+    by true e x = sorted-below s n l MarkSort r e
+    by false e x = sorted-below s n l StringSort r x
+
+gamma-there : (s : Store) (n : ℕ) → length s.cells ≤ n → (g : GammaCell) → IsTrue (is_gamma_cell s g) → IsTrue (is_gamma_below n g)
+gamma-there s n l g k =
+    let p = and_parts (has_sort_at s TermSort g.term) (is_label s g.label) k in
+    and_from (nat_lt g.term n) (names_below n g.label) (sorted-below s n l TermSort g.term p.0) (all-weaken (has_label_sort_at s) (λ r. nat_lt r n) (item-below s n l) g.label p.1)
+
+-- they stay so as the store grows
+pub gammas-there : (P : Problem) (m : List MatrixClause) (base d : ℕ) (c : List Choice) (s t : Store) (steps : List Step) (goals : List Goal) (first : Option ℕ) → StandsFor P m base d c s steps goals first → length s.cells ≤ length t.cells → IsTrue (list_all (is_gamma_below (length t.cells)) (flat_map gammas_of steps))
+gammas-there P m base d c s t steps goals first (cs, x, at) l = all-weaken (is_gamma_cell s) (is_gamma_below (length t.cells)) (gamma-there s (length t.cells) l) (flat_map gammas_of steps) (system-parts s (tree_system m steps goals x.all_goals) at.running.system.well).gammas
+
+-- an item of a list of which all are so
+pub all-there : {A : Type 0} (Q : A → Type 0) (xs : List A) (k : ℕ) (x : A) → AllByRecursion Q xs → slice_get xs k ≡ Some x → Q x
+all-there Q [] k x h e = cc e
+all-there Q (y ∷ ys) zero x h e = let q : y ≡ x = cc e in subst Q q h.0
+all-there Q (y ∷ ys) (suc k) x h e = all-there Q ys k x h.1 e

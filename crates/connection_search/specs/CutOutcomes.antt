@@ -6,7 +6,7 @@ use Rattle.calculus.specs.Cut.{HasCut, IsCut}
 use Rattle.calculus.specs.Space.{IsMember, member_cmp}
 use Rattle.calculus.specs.Syntax.{Problem}
 use Rattle.calculus.specs.declared.sign.Side.{Side}
-use Rattle.tableau_core.specs.TableauView.{the_tableau}
+use Rattle.tableau_core.specs.Numbered.TableauView.{the_tableau}
 use Rattle.connection_search.specs.declared.cutting.CutAnswer.{CutAnswer}
 use Rattle.connection_search.specs.declared.cutting.CutAnswer.TheVariants as answer
 

@@ -13,7 +13,7 @@ use Rattle.search_theory.specs.Cutting.{AreLevels, FailsFrom, IsNext, IsToldOf, 
 use Rattle.search_theory.specs.Exploring.{IsMemberAt, Passes}
 use Rattle.search_theory.specs.Matrix.{MatrixClause}
 use Rattle.search_theory.specs.States.{CellGoal}
-use Rattle.tableau_core.specs.TableauView.{the_tableau}
+use Rattle.tableau_core.specs.Numbered.TableauView.{the_tableau}
 use Rattle.connection_search.specs.Exploring.{IsBefore}
 use Rattle.connection_search.specs.Points.{IsPoint}
 use Rattle.connection_search.specs.Running.{StandsFor}

@@ -1,6 +1,6 @@
 -- What a list of choices without open goals comes to.
 use Rattle.std.specs.Prelude.{◌≡◌, ◌-◌, ℕ, List, false, IsTrue}
-use Rattle.calculus.specs.Choices.{Choice}
+use Rattle.calculus.specs.Choices.{Choice, choices_of, ground_choices}
 use Rattle.calculus.specs.Counting.{MoreThan}
 use Rattle.calculus.specs.Space.{has_labels, lengths_cmp}
 use Rattle.store_theory.specs.Stores.{Store}
@@ -13,7 +13,7 @@ use Rattle.prefix_split.specs.declared.solving.Solved.TheVariants as solved
 use Rattle.search_theory.specs.Exploring.{IsClosedList}
 use Rattle.search_theory.specs.Matrix.{MatrixClause}
 use Rattle.search_theory.specs.States.{CellGoal}
-use Rattle.tableau_core.specs.TableauView.{the_tableau}
+use Rattle.tableau_core.specs.Numbered.TableauView.{the_tableau}
 use Rattle.connection_search.specs.Trees.{AreGoals, tree_system}
 use Rattle.connection_search.specs.declared.exploring.Visit.{Visit}
 use Rattle.connection_search.specs.declared.exploring.Visit.TheVariants as visit
@@ -43,8 +43,8 @@ pub record IsEnded (P : Problem) (m : List MatrixClause) (s : Store) (steps : Li
   pub ended : after ≡ budget
   pub more_early : (xs : List CellGoal) → AreGoals steps goals goals xs → MoreThan lengths_cmp (AreEarly P.setting.logic (AllAllowed P) s (tree_system m steps goals xs)) (after - before)
 
--- what the list comes to: no closed tableau has it, or one is found, or the budget is used up
+-- what the list comes to: no closed tableau has it, or one that has it is found, or the budget is used up
 abbrev pub IsDecided : Problem → List MatrixClause → ℕ → List Choice → Store → List Step → List Goal → ℕ → ℕ → ℕ → Store → Visit → Type 0
 IsDecided P m d c s steps goals before after budget new visit.On = (¬ IsClosedList P d c) × (new ≡ s)
-IsDecided P m d c s steps goals before after budget new (visit.Closed t) = IsTrue (is_closed P d (the_tableau t))
+IsDecided P m d c s steps goals before after budget new (visit.Closed t) = IsTrue (is_closed P d (the_tableau t)) × (choices_of (ground_choices (the_tableau t)) ≡ c)
 IsDecided P m d c s steps goals before after budget new visit.Steps = IsEnded P m s steps goals before after budget

@@ -13,7 +13,7 @@ use Rattle.search_theory.specs.Exploring.{behind}
 use Rattle.search_theory.specs.Matrix.{MatrixClause}
 use Rattle.search_theory.specs.Searching.{IsSearch}
 use Rattle.search_theory.specs.States.{CellGoal}
-use Rattle.tableau_core.specs.TableauView.{the_tableau}
+use Rattle.tableau_core.specs.Numbered.TableauView.{the_tableau}
 use Rattle.term_store.specs.StoreView.{the_mark}
 use Rattle.connection_search.specs.Points.{IsPoint}
 use Rattle.connection_search.specs.Running.{IsMatrixOf, StandsFor}

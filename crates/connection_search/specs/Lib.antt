@@ -7,6 +7,8 @@ pub mod Sameness
 pub mod Heads
 -- what is read off
 pub mod Readable
+pub mod Grounds
+pub mod Reading
 -- the answers
 pub mod Outcomes
 -- states

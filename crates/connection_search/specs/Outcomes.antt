@@ -5,7 +5,7 @@ use Rattle.calculus.specs.Tableaux.{HasClosed, is_closed}
 use Rattle.calculus.specs.Choices.{IsLeft}
 use Rattle.calculus.specs.Counting.{MoreThan}
 use Rattle.calculus.specs.Space.{IsAnswer, ComesNoLater, derived, exhausted, no_tableau, member_cmp}
-use Rattle.tableau_core.specs.TableauView.{the_tableau}
+use Rattle.tableau_core.specs.Numbered.TableauView.{the_tableau}
 use Rattle.connection_search.specs.declared.deepening.Answer.{Answer}
 use Rattle.connection_search.specs.declared.deepening.Answer.TheVariants as answer
 use Rattle.connection_search.specs.declared.searching.Outcome.{Outcome}

@@ -1,26 +1,29 @@
 -- Cells and copied clauses that can be read off.
-use Rattle.std.specs.Prelude.{ℕ, List, ◌<◌, ◌≤◌, length, IsTrue, ⊤}
+use Rattle.std.specs.Prelude.{ℕ, List, ◌<◌, ◌≤◌, length, nat_lt, Bool, ◌&&◌, IsTrue, ⊤}
 use Rattle.std.specs.List.{list_all}
-use Rattle.store_theory.specs.Stores.{Store, names_below}
+use Rattle.store_theory.specs.Bindings.{IsEnd}
+use Rattle.store_theory.specs.Stores.{GammaCell, Store, names_below}
 use Rattle.search_theory.specs.Matrix.{MatrixClause}
 use Rattle.search_theory.specs.States.{atom_is_below}
 use Rattle.term_store.specs.ClauseView.{the_atom}
 use Rattle.term_store.specs.RefView.{the_places}
+use Rattle.term_store.specs.declared.cell.Ref.{Ref}
 use Rattle.term_store.specs.declared.clause.CellAtom as program
-use Rattle.connection_search.specs.declared.terms.Task.{Task}
-use Rattle.connection_search.specs.declared.terms.Task.TheVariants as task
+use Rattle.connection_search.specs.declared.homes.Homes.{Homes}
 use Rattle.connection_search.specs.declared.tree.Copied.{Copied}
 use Rattle.connection_search.specs.declared.tree.Step.{Step}
 use Rattle.connection_search.specs.declared.tree.Step.TheVariants.{Start, Reduce, Extend}
 
--- a cell that is wanted is there
-abbrev pub IsThere : Store → Task → Type 0
-IsThere s (task.Cell r levels) = r.0 < length s.cells
-IsThere s (task.Fun f n) = ⊤
-IsThere s (task.Eigen p n) = ⊤
-IsThere s (task.New p n) = ⊤
-IsThere s (task.Marks n) = ⊤
-IsThere s (task.Own v n) = ⊤
+-- bindings end at the cell
+abbrev pub IsPlace : Store → Ref → Type 0
+IsPlace s r = IsEnd s r.0
+
+-- a gamma term and the items of its label are cells of the store
+abbrev pub is_gamma_below : ℕ → GammaCell → Bool
+is_gamma_below n g = nat_lt g.term n && names_below n g.label
+
+abbrev pub AreHomesBelow : Store → Homes → Type 0
+AreHomesBelow s h = IsTrue (list_all (is_gamma_below (length s.cells)) h.gammas)
 
 -- its clause is one of the matrix, and its variables and literals are cells of the store
 pub record IsReadable (s : Store) (m : List MatrixClause) (c : Copied) : Type 0 where

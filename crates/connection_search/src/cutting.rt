@@ -19,7 +19,6 @@ ghost use Rattle.connection_search.specs.Exploring.{IfOn, IsSpace};
 ghost use Rattle.connection_search.specs.Weights.{work_left};
 
 use crate::exploring::Visit;
-use crate::listing::has_choices;
 use crate::moves::Work;
 use crate::point::Point;
 use crate::pruning::Pruning;
@@ -29,7 +28,7 @@ use cop_base::{ClauseId, Ledger, NoMemory};
 use logic_rules::Problem;
 use matrix_build::Matrix;
 use std::alloc::Global;
-use tableau_core::Tableau;
+use tableau_core::shared::Tableau;
 use term_store::Store;
 
 /// What the search that does not return to solved goals answers.
@@ -99,12 +98,7 @@ impl Space<'_> {
                 match decided {
                     Visit::On => Ok(Visit::On),
                     Visit::Steps => Ok(Visit::Steps),
-                    Visit::Closed(tableau) => {
-                        if !has_choices(&tableau, self.matrix, &work.tree) {
-                            return Err(NoMemory);
-                        }
-                        Ok(Visit::Closed(tableau))
-                    }
+                    Visit::Closed(tableau) => Ok(Visit::Closed(tableau)),
                 }
             }
             Some(goal) => {

@@ -1,36 +1,40 @@
 //! Lists of choices without open goals: what they ask of labels is solved, and the tableau is read
 //! off and judged.
 
-ghost use Rattle.std.specs.Prelude.{◌≡◌, ℕ, IfOk, IsTrue, List, None, true};
-ghost use Rattle.std.specs.List.{AllByRecursion, list_all};
+ghost use Rattle.std.specs.Prelude.{◌≡◌, ℕ, IfOk, IsTrue, List, None, length, true};
+ghost use Rattle.std.specs.List.{AllByRecursion, flat_map, list_all};
 ghost use Rattle.store_theory.specs.Bindings.{KeepsMarks};
-ghost use Rattle.calculus.specs.Choices.{Choice};
+ghost use Rattle.calculus.specs.Choices.{Choice, choices_of, ground_choices};
 ghost use Rattle.calculus.specs.Instances.{gamma_is_allowed};
 ghost use Rattle.calculus.specs.Space.{has_labels};
 ghost use Rattle.store_theory.specs.Systems.{AllAllowed, NamesItsStrings, is_system};
 ghost use Rattle.calculus.specs.Tableaux as tableaux;
 ghost use Rattle.prefix_split.specs.LengthSearch.{IsCounted};
-ghost use Rattle.tableau_core.specs.TableauView.{the_tableau};
+ghost use Rattle.tableau_core.specs.Numbered.TableauView.{the_tableau};
 ghost use Rattle.term_store.specs.Room.{KeepsRoom};
 ghost use Rattle.term_store.specs.SystemView.{the_system};
 ghost use Rattle.connection_search.specs.Deciding.{IsDecided, IsSolved, IsSolvedTree, IsSolving};
 ghost use Rattle.connection_search.specs.Exploring.{IsSpace};
-ghost use Rattle.connection_search.specs.Readable.{IsReadableStep};
+ghost use Rattle.connection_search.specs.Listing.{names_of};
+ghost use Rattle.connection_search.specs.Readable.{IsReadableStep, is_gamma_below};
+ghost use Rattle.connection_search.specs.Reading.{IsStarted};
 ghost use Rattle.connection_search.specs.Running.{StandsFor};
+ghost use Rattle.connection_search.specs.Trees.{gammas_of};
 
+use crate::closings::tableau_of;
 use crate::exploring::Visit;
 use crate::homes::homes_of;
 use crate::moves::Work;
-use crate::reading::tableau_of;
+use crate::reading::Source;
 use crate::space::Space;
-use crate::system::system_of;
+use crate::system::{all_gammas, system_of};
 use calculus::setting::{Domains, Logic};
 use cop_base::{Ledger, NoMemory};
 use domain_cond::{ConstantDemand, CumulativeDemand, VaryingDemand};
 use logic_rules::Problem;
 use prefix_split::{Solved, solve};
 use std::alloc::Global;
-use tableau_core::{Tableau, is_closed};
+use tableau_core::shared::{Tableau, is_closed};
 use term_store::{Demand, Store, System};
 
 pub(crate) fn has_labels(logic: Logic) -> bool
@@ -141,13 +145,25 @@ impl Space<'_> {
 
     // The tableau of the tree, where it is closed. Should it not be, the search has no answer.
     fn answer(&self, store: &Store, work: &Work) -> Result<Tableau, NoMemory>
-        requires { AllByRecursion (IsReadableStep store.now.store self.now.matrix.now)
+        requires steps { AllByRecursion (IsReadableStep store.now.store self.now.matrix.now)
             work.now.tree.steps.items }
-        ensures { IfOk result (λ t. IsTrue (tableaux.is_closed self.now.problem.now self.now.limit
+        requires gammas { IsTrue (list_all (is_gamma_below (length store.now.store.cells))
+            (flat_map gammas_of work.now.tree.steps.items)) }
+        requires started { IsStarted work.now.tree.steps.items }
+        ensures closed { IfOk result (λ t. IsTrue (tableaux.is_closed self.now.problem.now self.now.limit
             (the_tableau t))) }
+        ensures names { IfOk result (λ t. choices_of (ground_choices (the_tableau t))
+            ≡ names_of self.now.matrix.now work.now.tree.steps.items) }
     {
-        let homes = homes_of(work.alloc, &work.tree, self.problem.common_spares())?;
-        let tableau = tableau_of(work.alloc, store, &homes, self.matrix, &work.tree)?;
+        let gammas = all_gammas(work.alloc, &work.tree)?;
+        let homes = homes_of(work.alloc, store, gammas, self.problem.common_spares())?;
+        let from = Source {
+            alloc: work.alloc,
+            store,
+            homes: &homes,
+            matrix: self.matrix,
+        };
+        let tableau = tableau_of(&from, &work.tree)?;
         if is_closed(work.alloc, self.problem, &tableau, self.limit)? {
             return Ok(tableau);
         }

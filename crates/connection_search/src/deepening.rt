@@ -9,7 +9,7 @@ use cop_base::{Ledger, NoMemory};
 use logic_rules::Problem;
 use matrix_build::Matrix;
 use std::alloc::Global;
-use tableau_core::Tableau;
+use tableau_core::shared::Tableau;
 
 /// What deepening answers.
 #[derive(Drop)]

@@ -3,15 +3,18 @@
 
 mod ahead;
 mod atoms;
+mod building;
+mod closings;
 mod cutting;
 mod deciding;
 mod deepening;
 mod exploring;
+mod grounds;
 mod heads;
 mod homes;
-mod listing;
 mod moves;
 mod pair;
+mod parts;
 mod point;
 mod pruning;
 mod reading;
@@ -19,7 +22,6 @@ mod regular;
 mod searching;
 mod space;
 mod system;
-mod terms;
 mod tree;
 
 pub use cutting::{CutAnswer, deepen_cut};

@@ -1,31 +1,44 @@
-//! The tableau of a tree without open goals, by own spares. Nothing is promised of it but that
-//! reading is safe: it is judged afterwards.
+//! Literals and instances of a tree without open goals, by own spares.
 
-ghost use Rattle.std.specs.Prelude.{◌≤◌, IsTrue, length, map};
-ghost use Rattle.std.specs.List.{AllByRecursion, list_all};
-ghost use Rattle.store_theory.specs.Stores.{names_below};
-ghost use Rattle.search_theory.specs.States.{atom_is_below};
+ghost use Rattle.std.specs.Prelude.{◌≡◌, ◌≤◌, ◌-◌, IfOk, IsTrue, OnOk, length, map, slice_get};
+ghost use Rattle.std.specs.List.{list_all};
+ghost use Rattle.formula_core.specs.GroundLists.{IsGrown};
+ghost use Rattle.store_theory.specs.Stores.{Solution, names_below};
+ghost use Rattle.search_theory.specs.OrderedChoices.{selection_of};
+ghost use Rattle.search_theory.specs.States.{atom_is_below, label_by, literal_by, terms_by, values_by};
 ghost use Rattle.term_store.specs.ClauseView.{the_atom};
 ghost use Rattle.term_store.specs.RefView.{the_place, the_places};
-ghost use Rattle.connection_search.specs.Readable.{IsReadable, IsReadableStep};
+ghost use Rattle.connection_search.specs.Grounds.{AreSparesAt, IsReading};
+ghost use Rattle.connection_search.specs.Readable.{AreHomesBelow, IsReadable};
+ghost use Rattle.connection_search.specs.Reading.{AreMarksOf, AreTermsOf, AreValuesOf, IsLiteralOf};
 
 use crate::atoms::reference_at;
+use crate::grounds::Grounds;
 use crate::homes::Homes;
 use crate::system::variable_at;
-use crate::terms::{Ground, add_item, as_value, ground_of};
-use crate::tree::{Copied, Step, Tree};
+use crate::tree::Copied;
 use calculus::sign::Side;
 use cop_base::NoMemory;
-use formula_core::{GroundLabel, GroundTerms, Values};
+use formula_core::shared::{GroundLabel, GroundTerms, Values};
 use matrix_build::Matrix;
 use std::alloc::Global;
-use tableau_core::{
-    ClauseInstance, Closing, ClosingList, GroundLiteral, LiteralList, Selection, Tableau,
-};
+use tableau_core::Selection;
+use tableau_core::shared::{ClauseInstance, GroundLiteral, LiteralList};
 use term_store::{CellAtom, Ref, Store, Variables};
 
+/// What is read off: cells of the store, with the homes of their spares, and clauses of the matrix.
+#[derive(Clone, Copy)]
+pub(crate) struct Source<'a> {
+    pub alloc: Global,
+    pub store: &'a Store,
+    pub homes: &'a Homes,
+    pub matrix: &'a Matrix,
+}
+
 // The sides, as a list of their own.
-fn copy_selection(alloc: Global, sides: &[Side]) -> Result<Selection, NoMemory> {
+fn copy_selection(alloc: Global, sides: &[Side]) -> Result<Selection, NoMemory>
+    ensures { IfOk result (λ s. s ≡ sides.now) }
+{
     let mut selection = Selection::new(alloc);
     for side in sides {
         selection.push(*side)?;
@@ -33,70 +46,114 @@ fn copy_selection(alloc: Global, sides: &[Side]) -> Result<Selection, NoMemory> 
     Ok(selection)
 }
 
-// The terms of the cells.
-fn terms_of(
-    alloc: Global,
-    store: &Store,
-    homes: &Homes,
-    refs: &[Ref],
-) -> Result<GroundTerms, NoMemory>
-    requires { IsTrue (names_below (length store.now.store.cells) (map the_place refs.now)) }
+// Makes what stands for these cells.
+fn make_all(from: &Source<'_>, grounds: &mut Grounds, refs: &[Ref]) -> Result<(), NoMemory>
+    requires homes { AreHomesBelow from.now.store.now.store from.now.homes.now }
+    requires reading { IsReading from.now.store.now.store from.now.homes.now grounds.old }
+    requires below { IsTrue (names_below (length from.now.store.now.store.cells) (map the_place refs.now)) }
+    ensures reading { OnOk result (IsReading from.now.store.now.store from.now.homes.now grounds.new) }
+    ensures grown { OnOk result (IsGrown grounds.old.table grounds.new.table) }
 {
-    let mut terms = GroundTerms::new(alloc);
     for i in 0..refs.len() {
-        match ground_of(alloc, store, homes, reference_at(refs, i))? {
-            Ground::Term(term) => terms.push(term)?,
-            _ => return Err(NoMemory),
-        }
+        let _made = grounds.ground_of(from.alloc, from.store, from.homes, reference_at(refs, i))?;
     }
+    Ok(())
+}
+
+// The terms of the cells.
+fn terms_of(from: &Source<'_>, grounds: &mut Grounds, refs: &[Ref]) -> Result<GroundTerms, NoMemory>
+    requires homes { AreHomesBelow from.now.store.now.store from.now.homes.now }
+    requires reading { IsReading from.now.store.now.store from.now.homes.now grounds.old }
+    requires below { IsTrue (names_below (length from.now.store.now.store.cells) (map the_place refs.now)) }
+    ensures terms { IfOk result (λ n. (σ : Solution) → AreSparesAt from.now.store.now.store from.now.homes.now σ
+        → AreTermsOf grounds.new.table n (terms_by σ (map the_place refs.now))) }
+    ensures reading { IfOk result (λ n. IsReading from.now.store.now.store from.now.homes.now grounds.new) }
+    ensures grown { IfOk result (λ n. IsGrown grounds.old.table grounds.new.table) }
+{
+    make_all(from, grounds, refs)?;
+    let items = grounds.terms(from.alloc, from.store, refs)?;
+    let terms = grounds.table.add_terms(&items)?;
     Ok(terms)
 }
 
 // The label of the cells.
-fn label_of(
-    alloc: Global,
-    store: &Store,
-    homes: &Homes,
-    refs: &[Ref],
-) -> Result<GroundLabel, NoMemory>
-    requires { IsTrue (names_below (length store.now.store.cells) (map the_place refs.now)) }
+fn label_of(from: &Source<'_>, grounds: &mut Grounds, refs: &[Ref]) -> Result<GroundLabel, NoMemory>
+    requires homes { AreHomesBelow from.now.store.now.store from.now.homes.now }
+    requires reading { IsReading from.now.store.now.store from.now.homes.now grounds.old }
+    requires below { IsTrue (names_below (length from.now.store.now.store.cells) (map the_place refs.now)) }
+    ensures label { IfOk result (λ n. (σ : Solution) → AreSparesAt from.now.store.now.store from.now.homes.now σ
+        → AreMarksOf grounds.new.table n (label_by σ (map the_place refs.now))) }
+    ensures reading { IfOk result (λ n. IsReading from.now.store.now.store from.now.homes.now grounds.new) }
+    ensures grown { IfOk result (λ n. IsGrown grounds.old.table grounds.new.table) }
 {
-    let mut label = GroundLabel::new(alloc);
-    for i in 0..refs.len() {
-        let item = ground_of(alloc, store, homes, reference_at(refs, i))?;
-        add_item(alloc, item, &mut label)?;
-    }
+    make_all(from, grounds, refs)?;
+    let items = grounds.marks(from.alloc, from.store, refs)?;
+    let label = grounds.table.add_marks(&items)?;
     Ok(label)
+}
+
+// The variables one by one.
+fn all_variables(alloc: Global, variables: Variables) -> Result<Vec<Ref>, NoMemory>
+    ensures { IfOk result (λ v. map the_place v.items ≡ the_places variables) }
+{
+    let mut refs = Vec::new(alloc);
+    for k in 0..variables.count {
+        refs.push(variable_at(variables, k)?)?;
+    }
+    Ok(refs)
+}
+
+// The values of the cells.
+fn values_at(from: &Source<'_>, grounds: &mut Grounds, refs: &[Ref]) -> Result<Values, NoMemory>
+    requires homes { AreHomesBelow from.now.store.now.store from.now.homes.now }
+    requires reading { IsReading from.now.store.now.store from.now.homes.now grounds.old }
+    requires below { IsTrue (names_below (length from.now.store.now.store.cells) (map the_place refs.now)) }
+    ensures values { IfOk result (λ n. (σ : Solution) → AreSparesAt from.now.store.now.store from.now.homes.now σ
+        → AreValuesOf grounds.new.table n (values_by σ (map the_place refs.now))) }
+    ensures reading { IfOk result (λ n. IsReading from.now.store.now.store from.now.homes.now grounds.new) }
+    ensures grown { IfOk result (λ n. IsGrown grounds.old.table grounds.new.table) }
+{
+    make_all(from, grounds, refs)?;
+    let items = grounds.values(from.alloc, from.store, refs)?;
+    let values = grounds.table.add_values(&items)?;
+    Ok(values)
 }
 
 // The values of the variables.
 fn values_of(
-    alloc: Global,
-    store: &Store,
-    homes: &Homes,
+    from: &Source<'_>,
+    grounds: &mut Grounds,
     variables: Variables,
 ) -> Result<Values, NoMemory>
-    requires { IsTrue (names_below (length store.now.store.cells) (the_places variables)) }
+    requires homes { AreHomesBelow from.now.store.now.store from.now.homes.now }
+    requires reading { IsReading from.now.store.now.store from.now.homes.now grounds.old }
+    requires below { IsTrue (names_below (length from.now.store.now.store.cells) (the_places variables)) }
+    ensures values { IfOk result (λ n. (σ : Solution) → AreSparesAt from.now.store.now.store from.now.homes.now σ
+        → AreValuesOf grounds.new.table n (values_by σ (the_places variables))) }
+    ensures reading { IfOk result (λ n. IsReading from.now.store.now.store from.now.homes.now grounds.new) }
+    ensures grown { IfOk result (λ n. IsGrown grounds.old.table grounds.new.table) }
 {
-    let mut values = Values::new(alloc);
-    for k in 0..variables.count {
-        let ground = ground_of(alloc, store, homes, variable_at(variables, k)?)?;
-        values.push(as_value(ground)?)?;
-    }
+    let refs = all_variables(from.alloc, variables)?;
+    let values = values_at(from, grounds, &refs)?;
     Ok(values)
 }
 
 // The ground literal of an atom.
 fn literal_of(
-    alloc: Global,
-    store: &Store,
-    homes: &Homes,
+    from: &Source<'_>,
+    grounds: &mut Grounds,
     atom: &CellAtom,
 ) -> Result<GroundLiteral, NoMemory>
-    requires { IsTrue (atom_is_below (length store.now.store.cells) (the_atom atom.now)) }
+    requires homes { AreHomesBelow from.now.store.now.store from.now.homes.now }
+    requires reading { IsReading from.now.store.now.store from.now.homes.now grounds.old }
+    requires below { IsTrue (atom_is_below (length from.now.store.now.store.cells) (the_atom atom.now)) }
+    ensures literal { IfOk result (λ x. (σ : Solution) → AreSparesAt from.now.store.now.store from.now.homes.now σ
+        → IsLiteralOf grounds.new.table x (literal_by σ (the_atom atom.now))) }
+    ensures reading { IfOk result (λ n. IsReading from.now.store.now.store from.now.homes.now grounds.new) }
+    ensures grown { IfOk result (λ n. IsGrown grounds.old.table grounds.new.table) }
 {
-    let args = terms_of(alloc, store, homes, atom.args.items())?;
-    let label = label_of(alloc, store, homes, atom.label.items())?;
+    let args = terms_of(from, grounds, atom.args.items())?;
+    let label = label_of(from, grounds, atom.label.items())?;
     Ok(GroundLiteral {
         sign: atom.sign,
         symbol: atom.symbol,
@@ -107,17 +164,20 @@ fn literal_of(
 
 // Appends the ground literals of the atoms.
 fn add_literals(
-    alloc: Global,
-    store: &Store,
-    homes: &Homes,
+    from: &Source<'_>,
+    grounds: &mut Grounds,
     atoms: &[CellAtom],
     literals: &mut LiteralList,
 ) -> Result<(), NoMemory>
-    requires { IsTrue (list_all (atom_is_below (length store.now.store.cells))
+    requires homes { AreHomesBelow from.now.store.now.store from.now.homes.now }
+    requires reading { IsReading from.now.store.now.store from.now.homes.now grounds.old }
+    requires below { IsTrue (list_all (atom_is_below (length from.now.store.now.store.cells))
         (map the_atom atoms.now)) }
+    ensures reading { OnOk result (IsReading from.now.store.now.store from.now.homes.now grounds.new) }
+    ensures grown { OnOk result (IsGrown grounds.old.table grounds.new.table) }
 {
     for i in 0..atoms.len() {
-        let literal = literal_of(alloc, store, homes, &atoms[i])?;
+        let literal = literal_of(from, grounds, &atoms[i])?;
         literals.push(literal)?;
     }
     Ok(())
@@ -125,17 +185,20 @@ fn add_literals(
 
 // The instance of the copied clause with these literals.
 fn instance_of(
-    alloc: Global,
-    store: &Store,
-    homes: &Homes,
-    matrix: &Matrix,
+    from: &Source<'_>,
+    grounds: &mut Grounds,
     copied: &Copied,
     literals: LiteralList,
 ) -> Result<ClauseInstance, NoMemory>
-    requires { IsReadable store.now.store matrix.now copied.now }
+    requires homes { AreHomesBelow from.now.store.now.store from.now.homes.now }
+    requires reading { IsReading from.now.store.now.store from.now.homes.now grounds.old }
+    requires readable { IsReadable from.now.store.now.store from.now.matrix.now copied.now }
+    ensures selection { IfOk result (λ i. i.selection ≡ selection_of (slice_get from.now.matrix.now copied.now.clause.0)) }
+    ensures reading { IfOk result (λ n. IsReading from.now.store.now.store from.now.homes.now grounds.new) }
+    ensures grown { IfOk result (λ n. IsGrown grounds.old.table grounds.new.table) }
 {
-    let selection = copy_selection(alloc, matrix.selection(copied.clause).items())?;
-    let values = values_of(alloc, store, homes, copied.copy.variables)?;
+    let selection = copy_selection(from.alloc, from.matrix.selection(copied.clause).items())?;
+    let values = values_of(from, grounds, copied.copy.variables)?;
     Ok(ClauseInstance {
         selection,
         values,
@@ -143,134 +206,46 @@ fn instance_of(
     })
 }
 
-// Takes so many closings from the stack, the top first.
-fn take_closings(
-    alloc: Global,
-    stack: &mut Vec<Closing>,
-    count: usize,
-) -> Result<ClosingList, NoMemory> {
-    let mut closings = ClosingList::new(alloc);
-    for _i in 0..count {
-        match stack.pop() {
-            Some(closing) => closings.push(closing)?,
-            None => {}
-        }
-    }
-    Ok(closings)
-}
-
-// The instance of a start clause, all of whose literals are goals.
-fn start_instance(
-    alloc: Global,
-    store: &Store,
-    homes: &Homes,
-    matrix: &Matrix,
+/// The instance of a start clause, all of whose literals are goals.
+pub(crate) fn start_instance(
+    from: &Source<'_>,
+    grounds: &mut Grounds,
     copied: &Copied,
 ) -> Result<ClauseInstance, NoMemory>
-    requires { IsReadable store.now.store matrix.now copied.now }
+    requires homes { AreHomesBelow from.now.store.now.store from.now.homes.now }
+    requires reading { IsReading from.now.store.now.store from.now.homes.now grounds.old }
+    requires readable { IsReadable from.now.store.now.store from.now.matrix.now copied.now }
+    ensures selection { IfOk result (λ i. i.selection ≡ selection_of (slice_get from.now.matrix.now copied.now.clause.0)) }
+    ensures reading { IfOk result (λ n. IsReading from.now.store.now.store from.now.homes.now grounds.new) }
+    ensures grown { IfOk result (λ n. IsGrown grounds.old.table grounds.new.table) }
 {
-    let mut literals = LiteralList::new(alloc);
-    add_literals(
-        alloc,
-        store,
-        homes,
-        copied.copy.literals.items(),
-        &mut literals,
-    )?;
-    instance_of(alloc, store, homes, matrix, copied, literals)
+    let mut literals = LiteralList::new(from.alloc);
+    add_literals(from, grounds, copied.copy.literals.items(), &mut literals)?;
+    instance_of(from, grounds, copied, literals)
 }
 
-// The instance of a clause with the connected literal put back at its place.
-fn connected_instance(
-    alloc: Global,
-    store: &Store,
-    homes: &Homes,
-    matrix: &Matrix,
+/// The instance of a clause with the connected literal put back at its place.
+pub(crate) fn connected_instance(
+    from: &Source<'_>,
+    grounds: &mut Grounds,
     copied: &Copied,
     place: usize,
     atom: &CellAtom,
 ) -> Result<ClauseInstance, NoMemory>
-    requires readable { IsReadable store.now.store matrix.now copied.now }
+    requires homes { AreHomesBelow from.now.store.now.store from.now.homes.now }
+    requires reading { IsReading from.now.store.now.store from.now.homes.now grounds.old }
+    requires readable { IsReadable from.now.store.now.store from.now.matrix.now copied.now }
     requires place { place ≤ length copied.now.copy.literals }
-    requires atom { IsTrue (atom_is_below (length store.now.store.cells) (the_atom atom.now)) }
+    requires atom { IsTrue (atom_is_below (length from.now.store.now.store.cells) (the_atom atom.now)) }
+    ensures selection { IfOk result (λ i. i.selection ≡ selection_of (slice_get from.now.matrix.now copied.now.clause.0)) }
+    ensures reading { IfOk result (λ n. IsReading from.now.store.now.store from.now.homes.now grounds.new) }
+    ensures grown { IfOk result (λ n. IsGrown grounds.old.table grounds.new.table) }
 {
     let goals = copied.copy.literals.items();
-    let mut literals = LiteralList::new(alloc);
-    add_literals(alloc, store, homes, &goals[..place], &mut literals)?;
-    let connected = literal_of(alloc, store, homes, atom)?;
+    let mut literals = LiteralList::new(from.alloc);
+    add_literals(from, grounds, &goals[..place], &mut literals)?;
+    let connected = literal_of(from, grounds, atom)?;
     literals.push(connected)?;
-    add_literals(alloc, store, homes, &goals[place..], &mut literals)?;
-    instance_of(alloc, store, homes, matrix, copied, literals)
-}
-
-// The closing of the goal at which the choice was made comes to the stack, in the place of those of
-// the goals below it.
-fn add_closing(
-    alloc: Global,
-    store: &Store,
-    homes: &Homes,
-    matrix: &Matrix,
-    step: &Step,
-    stack: &mut Vec<Closing>,
-) -> Result<(), NoMemory>
-    requires { IsReadableStep store.now.store matrix.now step.now }
-{
-    match step {
-        Step::Start(_) => {}
-        Step::Reduce(_, up, _) => stack.push(Closing::Reduce { up: *up })?,
-        Step::Extend(_, copied, place, atom) => {
-            let instance = connected_instance(
-                alloc,
-                store,
-                homes,
-                matrix,
-                copied,
-                *place as usize,
-                atom,
-            )?;
-            let goals = take_closings(alloc, stack, copied.copy.literals.items().len())?;
-            stack.push(Closing::Extend {
-                instance,
-                literal: *place,
-                goals,
-            })?;
-        }
-    }
-    Ok(())
-}
-
-/// The tableau of the tree: closings are read off from the last choice to the first one.
-pub(crate) fn tableau_of(
-    alloc: Global,
-    store: &Store,
-    homes: &Homes,
-    matrix: &Matrix,
-    tree: &Tree,
-) -> Result<Tableau, NoMemory>
-    requires { AllByRecursion (IsReadableStep store.now.store matrix.now) tree.now.steps.items }
-{
-    let count = tree.steps.len();
-    let mut stack = Vec::new(alloc);
-    for passed in 0..count {
-        add_closing(
-            alloc,
-            store,
-            homes,
-            matrix,
-            &tree.steps[count - 1 - passed],
-            &mut stack,
-        )?;
-    }
-    let closings = stack.len();
-    let goals = take_closings(alloc, &mut stack, closings)?;
-    if count == 0 {
-        return Err(NoMemory);
-    }
-    match &tree.steps[0] {
-        Step::Start(copied) => {
-            let start = start_instance(alloc, store, homes, matrix, copied)?;
-            Ok(Tableau { start, goals })
-        }
-        _ => Err(NoMemory),
-    }
+    add_literals(from, grounds, &goals[place..], &mut literals)?;
+    instance_of(from, grounds, copied, literals)
 }

@@ -262,7 +262,7 @@ fn add_gammas(alloc: Global, items: &[GammaUse], gammas: &mut GammaList) -> Resu
     Ok(())
 }
 
-fn all_gammas(alloc: Global, tree: &Tree) -> Result<GammaList, NoMemory>
+pub(crate) fn all_gammas(alloc: Global, tree: &Tree) -> Result<GammaList, NoMemory>
     ensures { IfOk result (λ gammas. gammas ≡ flat_map gammas_of tree.now.steps.items) }
 {
     let mut gammas = GammaList::new(alloc);

@@ -12,7 +12,7 @@ use Rattle.calculus.proofs.AnswerLaws.{closed-mono}
 use Rattle.command_line.specs.CommandLine.{Bounds}
 use Rattle.connection_search.specs.CutOutcomes.{IsCutAnswer}
 use Rattle.connection_search.specs.declared.cutting.CutAnswer.TheVariants as answer
-use Rattle.tableau_core.specs.TableauView.{the_tableau}
+use Rattle.tableau_core.specs.Numbered.TableauView.{the_tableau}
 use Rattle.leancop_top.specs.TableauSearch.{IsCutMissed, IsLeastCut, IsLimit, SearchEnds, SufficesForCut}
 use Rattle.leancop_top.specs.TableauSearch.{least, cut, exhausted, no_tableau, steps_ended, too_large}
 use Rattle.leancop_top.specs.Commands.Prove.{IsDerivedAt, ProveEnds, derived, fruitless}

@@ -11,7 +11,7 @@ use Rattle.connection_search.specs.Outcomes.{IsDeepAnswer}
 use Rattle.connection_search.specs.declared.deepening.Answer.TheVariants as deep
 use Rattle.matrix_build.specs.Fits.{FitsMatrix}
 use Rattle.calculus.specs.Tableaux.{Tableau}
-use Rattle.tableau_core.specs.TableauView.{the_tableau}
+use Rattle.tableau_core.specs.Numbered.TableauView.{the_tableau}
 use Rattle.leancop_top.proofs.LimitLaws.{none_below, none_within}
 use Rattle.command_line.specs.CommandLine.{Bounds}
 use Rattle.leancop_top.specs.TableauSearch.{IsCutMissed, IsFound, IsLimit, IsOnlyAnswer, SearchEnds, cut, least, exhausted, no_tableau, steps_ended}

@@ -9,7 +9,7 @@ use Rattle.calculus.specs.Space.{Answer, IsAnswer, ComesNoLater, IsMember, membe
 use Rattle.calculus.specs.Space as space
 use Rattle.command_line.specs.CommandLine.{Bounds}
 use Rattle.matrix_build.specs.Fits.{FitsMatrix}
-use Rattle.tableau_core.specs.TableauView.{the_tableau}
+use Rattle.tableau_core.specs.Numbered.TableauView.{the_tableau}
 use Rattle.leancop_top.specs.declared.tableau_search.Searched as program
 use Rattle.leancop_top.specs.declared.tableau_search.Searched.TheVariants.{Found, Fruitless}
 use Rattle.leancop_top.specs.declared.status.Status.{Status}

@@ -5,7 +5,7 @@ ghost use Rattle.calculus.specs.Tableaux.{is_closed};
 ghost use Rattle.command_line.specs.CommandView.{the_bounds};
 ghost use Rattle.leancop_top.specs.TableauSearch.{IsCutMissed, IsLeastCut, IsSearched};
 ghost use Rattle.search_theory.specs.Matrix.{IsTemplateMatrix};
-ghost use Rattle.tableau_core.specs.TableauView.{the_tableau};
+ghost use Rattle.tableau_core.specs.Numbered.TableauView.{the_tableau};
 
 use crate::status::Status;
 use command_line::Bounds;
@@ -14,7 +14,7 @@ use cop_base::{Ledger, NoMemory};
 use logic_rules::Problem;
 use matrix_build::{Matrix, MatrixFault, build_matrix};
 use std::alloc::Global;
-use tableau_core::Tableau;
+use tableau_core::shared::Tableau;
 
 /// A tableau and the path limit within which it is closed, or the status that tells why there is
 /// none.

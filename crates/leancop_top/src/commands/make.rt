@@ -8,7 +8,7 @@ ghost use Rattle.command_line.specs.CommandLine as words;
 ghost use Rattle.command_line.specs.CommandView.{the_bounds, the_generated_problem};
 ghost use Rattle.leancop_top.specs.Commands.Make.{IsMade, MakeEnds, made_text, output_of};
 ghost use Rattle.leancop_top.specs.Derived.{IsDerivation};
-ghost use Rattle.tableau_core.specs.TableauView.{the_tableau};
+ghost use Rattle.tableau_core.specs.Numbered.TableauView.{the_tableau};
 
 use crate::commands::prove::derivation_text;
 use crate::made_lines::made_output;
@@ -23,7 +23,7 @@ use derivation_check::Verdict;
 use derivation_text::Version;
 use logic_rules::Problem;
 use std::alloc::Global;
-use tableau_core::Tableau;
+use tableau_core::shared::Tableau;
 
 // The name by which the text is read.
 const MAIN: &str = "m.p";

@@ -13,7 +13,7 @@ ghost use Rattle.leancop_top.specs.Run.{Ends};
 ghost use Rattle.leancop_top.specs.Statuses.{IsCounted};
 ghost use Rattle.sequent_convert.specs.Conversion.{IsConverted};
 ghost use Rattle.sequent_calc.specs.DerivationView.{the_derivation};
-ghost use Rattle.tableau_core.specs.TableauView.{the_tableau};
+ghost use Rattle.tableau_core.specs.Numbered.TableauView.{the_tableau};
 
 use crate::problem::{Reading, read_problem};
 use crate::reply::{Reply, line_reply};
@@ -24,9 +24,9 @@ use cop_base::{Library, NoMemory};
 use derivation_text::{Version, print};
 use logic_rules::Problem;
 use sequent_calc::Derivation;
-use sequent_convert::convert;
+use sequent_convert::shared::convert;
 use std::alloc::Global;
-use tableau_core::Tableau;
+use tableau_core::shared::Tableau;
 
 // Gives the tableau back, which may be large, before the derivation is printed.
 fn derive(

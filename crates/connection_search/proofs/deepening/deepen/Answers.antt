@@ -2,7 +2,7 @@ use Rattle.std.proofs.Common.{◌≡◌, ◌-◌, ◌<◌, ◌∙◌, arith, ref
 use Rattle.std.proofs.lemmas.Bool.{false≢true}
 use Rattle.calculus.specs.Counting.{MoreThan}
 use Rattle.calculus.specs.Space.{ComesNoLater, member_cmp}
-use Rattle.tableau_core.specs.TableauView.{the_tableau}
+use Rattle.tableau_core.specs.Numbered.TableauView.{the_tableau}
 use Rattle.connection_search.proofs.DeepeningLaws.{deepened-derived, deepened-exhausted, deepened-more, deepened-no_tableau, deepened-none, deepened-steps}
 use Rattle.connection_search.proofs.deepening.deepen.Goals as goal
 

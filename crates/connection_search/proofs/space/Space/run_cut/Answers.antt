@@ -4,7 +4,7 @@ use Rattle.search_theory.proofs.CutLimits.{told-itself}
 use Rattle.connection_search.proofs.CuttingLaws.{cut-fails-more, passing-counted, passing-first, passing-start}
 use Rattle.connection_search.proofs.SearchedLaws.{starts_from}
 use Rattle.search_theory.specs.OrderedChoices.{selection_of}
-use Rattle.tableau_core.specs.TableauView.{the_tableau}
+use Rattle.tableau_core.specs.Numbered.TableauView.{the_tableau}
 use Rattle.calculus.specs.Cut.{Cuts}
 use Rattle.connection_search.proofs.space.Space.run_cut.Goals as goal
 

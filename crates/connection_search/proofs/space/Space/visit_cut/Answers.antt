@@ -1,7 +1,5 @@
-use Rattle.std.proofs.Common.{◌≤◌, ◌++◌, ◌∷◌, ◌∙◌, [], Some, arith, refl, sym, ap, subst, map, take}
+use Rattle.std.proofs.Common.{◌≤◌, ◌++◌, ◌∷◌, ◌∙◌, [], Some, arith, refl, sym, ap, subst, take}
 use Rattle.search_theory.specs.Cutting.{pending_on}
-use Rattle.search_theory.specs.States.{name_of}
-use Rattle.tableau_core.specs.TableauView.{the_tableau}
 use Rattle.connection_search.specs.Cutting.{IsCountedAt, IsCutExploring}
 use Rattle.connection_search.specs.Deciding.{IsDecided}
 use Rattle.connection_search.specs.Weights.{work_left}
@@ -52,19 +50,13 @@ returns-in-Steps-clause-end c = λ base sides later begun space v.
 pub returns-in-Steps-clause-counted : goal.returns-in-Steps-clause-counted
 returns-in-Steps-clause-counted c = λ base sides later begun space v. cut-counted c.args.self.now.problem.now c.args.self.now.matrix.now base c.args.self.now.limit sides c.args.store.now.store c.args.work.now.tree.steps.items c.args.work.now.tree.goals.items c.args.work.now.tree.open c.args.points.now.items later begun c.args.ledger.now.used c.take.new.self.used c.decide.new.ledger.used c.args.left.now space v c.in-None.is (is-used c.take.result c.args.ledger.now.used c.take.new.self.used c.take.ensures.used c.if-not-take.false) c.decide.ensures.counted
 
-pub has_choices-requires : goal.has_choices-requires
-has_choices-requires c = let (base, sides, later, begun, space, v) = c.requires in v.stands.2.tree.built
+pub returns-in-Closed-clause-end : goal.returns-in-Closed-clause-end
+returns-in-Closed-clause-end c = λ base sides later begun space v.
+    let (closed, reached) = subst (IsDecided c.args.self.now.problem.now c.args.self.now.matrix.now c.args.self.now.limit v.choices c.args.store.now.store c.args.work.now.tree.steps.items c.args.work.now.tree.goals.items c.take.new.self.used c.decide.new.ledger.used c.decide.new.ledger.budget c.decide.new.store.store) c.in-Closed.is (c.in_ok-decided-in-None.ensures.decided base v.choices v.stands) in
+    (v.choices, cut-closed c.args.self.now.problem.now c.args.self.now.matrix.now base c.args.self.now.limit sides c.args.store.now.store c.args.work.now.tree.steps.items c.args.work.now.tree.goals.items c.args.work.now.tree.open c.args.points.now.items later begun c.args.ledger.now.used c.args.left.now c.in-Closed.tableau v c.in-None.is closed reached)
 
-pub returns-then-not-has_choices-clause-counted : goal.returns-then-not-has_choices-clause-counted
-returns-then-not-has_choices-clause-counted c = λ base sides later begun space v. cut-counted c.args.self.now.problem.now c.args.self.now.matrix.now base c.args.self.now.limit sides c.args.store.now.store c.args.work.now.tree.steps.items c.args.work.now.tree.goals.items c.args.work.now.tree.open c.args.points.now.items later begun c.args.ledger.now.used c.take.new.self.used c.decide.new.ledger.used c.args.left.now space v c.in-None.is (is-used c.take.result c.args.ledger.now.used c.take.new.self.used c.take.ensures.used c.if-not-take.false) c.decide.ensures.counted
-
-pub returns-else-not-has_choices-clause-end : goal.returns-else-not-has_choices-clause-end
-returns-else-not-has_choices-clause-end c = λ base sides later begun space v.
-    let closed = subst (IsDecided c.args.self.now.problem.now c.args.self.now.matrix.now c.args.self.now.limit v.choices c.args.store.now.store c.args.work.now.tree.steps.items c.args.work.now.tree.goals.items c.take.new.self.used c.decide.new.ledger.used c.decide.new.ledger.budget c.decide.new.store.store) c.in-Closed.is (c.in_ok-decided-in-None.ensures.decided base v.choices v.stands) in
-    (v.choices, cut-closed c.args.self.now.problem.now c.args.self.now.matrix.now base c.args.self.now.limit sides c.args.store.now.store c.args.work.now.tree.steps.items c.args.work.now.tree.goals.items c.args.work.now.tree.open c.args.points.now.items later begun c.args.ledger.now.used c.args.left.now c.in-Closed.tableau v c.in-None.is closed (c.has_choices.ensures c.if-not-has_choices.false ∙ ap (map name_of) v.stands.2.tree.made ∙ v.stands.2.running.state.names))
-
-pub returns-else-not-has_choices-clause-counted : goal.returns-else-not-has_choices-clause-counted
-returns-else-not-has_choices-clause-counted c = λ base sides later begun space v. cut-counted c.args.self.now.problem.now c.args.self.now.matrix.now base c.args.self.now.limit sides c.args.store.now.store c.args.work.now.tree.steps.items c.args.work.now.tree.goals.items c.args.work.now.tree.open c.args.points.now.items later begun c.args.ledger.now.used c.take.new.self.used c.decide.new.ledger.used c.args.left.now space v c.in-None.is (is-used c.take.result c.args.ledger.now.used c.take.new.self.used c.take.ensures.used c.if-not-take.false) c.decide.ensures.counted
+pub returns-in-Closed-clause-counted : goal.returns-in-Closed-clause-counted
+returns-in-Closed-clause-counted c = λ base sides later begun space v. cut-counted c.args.self.now.problem.now c.args.self.now.matrix.now base c.args.self.now.limit sides c.args.store.now.store c.args.work.now.tree.steps.items c.args.work.now.tree.goals.items c.args.work.now.tree.open c.args.points.now.items later begun c.args.ledger.now.used c.take.new.self.used c.decide.new.ledger.used c.args.left.now space v c.in-None.is (is-used c.take.result c.args.ledger.now.used c.take.new.self.used c.take.ensures.used c.if-not-take.false) c.decide.ensures.counted
 
 pub index-requires : goal.index-requires
 index-requires c =

@@ -2,7 +2,7 @@ use Rattle.std.proofs.Common.{subst}
 use Rattle.command_line.specs.CommandView.{the_bounds}
 use Rattle.leancop_top.specs.Commands.Make.{derived, fruitless}
 use Rattle.leancop_top.specs.TableauSearch.{IsSearched}
-use Rattle.tableau_core.specs.TableauView.{the_tableau}
+use Rattle.tableau_core.specs.Numbered.TableauView.{the_tableau}
 use Rattle.leancop_top.proofs.commands.make.prove_made.Goals as goal
 
 pub returns-in_ok-accept-in-Found : goal.returns-in_ok-accept-in-Found

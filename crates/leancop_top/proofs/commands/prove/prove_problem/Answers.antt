@@ -3,7 +3,7 @@ use Rattle.command_line.specs.CommandView.{the_bounds}
 use Rattle.leancop_top.proofs.Ends.{line-ends}
 use Rattle.leancop_top.specs.Commands.Prove.{ProveEnds, derived, fruitless}
 use Rattle.leancop_top.specs.TableauSearch.{IsSearched}
-use Rattle.tableau_core.specs.TableauView.{the_tableau}
+use Rattle.tableau_core.specs.Numbered.TableauView.{the_tableau}
 use Rattle.leancop_top.proofs.commands.prove.prove_problem.Goals as goal
 
 pub returns-in_ok-output-in-Found : goal.returns-in_ok-output-in-Found

@@ -1,0 +1,200 @@
+//! What stands for cells by own spares: an unbound variable for a term or a mark stands for a spare
+//! of its own, at its home if it has one, an unbound string for the empty one. What stands for a cell
+//! is made once, and names its parts by the numbers of a table.
+
+ghost use Rattle.std.specs.Prelude.{◌≡◌, ◌<◌, ◌++◌, ℕ, IfOk, IfSome, IsTrue, OnOk, Some, length, map, set, slice_get};
+ghost use Rattle.formula_core.specs.GroundLists.{the_g_term, the_mark, the_value};
+ghost use Rattle.store_theory.specs.Bindings.{IsEnd};
+ghost use Rattle.store_theory.specs.Stores.{Solution, Solves, names_below};
+ghost use Rattle.store_theory.specs.Stores as cells;
+ghost use Rattle.store_theory.specs.Templates.{as_label, as_term, as_value};
+ghost use Rattle.search_theory.specs.States.{label_by, values_by};
+ghost use Rattle.term_store.specs.RefView.{the_place};
+ghost use Rattle.connection_search.specs.Grounds.{AreMade, IsGroundOf, IsReading};
+
+use crate::atoms::reference_at;
+use crate::homes::Homes;
+use cop_base::NoMemory;
+use formula_core::GroundTable;
+use formula_core::shared::{GroundLabel, GroundMark, GroundTerm, Value};
+use std::alloc::Global;
+use term_store::{Ref, Store};
+
+/// What stands for a cell.
+#[derive(Clone, Copy)]
+pub(crate) enum Ground {
+    Term(GroundTerm),
+    Mark(GroundMark),
+    Marks(GroundLabel),
+}
+
+/// What stands for cells so far, by the ends of their bindings, and the table whose lists it names.
+#[derive(Drop)]
+pub(crate) struct Grounds {
+    pub table: GroundTable,
+    pub made: Vec<Option<Ground>>,
+}
+
+impl Grounds {
+    /// Nothing is made yet.
+    pub fn new(alloc: Global, store: &Store, homes: &Homes) -> Result<Grounds, NoMemory>
+        ensures { IfOk result (λ g. IsReading store.now.store homes.now g) }
+    {
+        let _ghost = homes;
+        let mut made = Vec::new(alloc);
+        for _cell in 0..store.size() - store.spare() {
+            made.push(None)?;
+        }
+        Ok(Grounds {
+            table: GroundTable::new(alloc),
+            made,
+        })
+    }
+
+    /// What stands for the cell, if it is made.
+    pub fn at(&self, end: Ref) -> Option<Ground>
+        ensures { IfSome result (λ g. slice_get self.now.made.items end.0 ≡ Some (Some g)) }
+    {
+        let place = end.0 as usize;
+        if place < self.made.len() {
+            return self.made[place];
+        }
+        None
+    }
+
+    /// Notes what stands for the cell.
+    pub fn note(&mut self, end: Ref, ground: Ground)
+        requires { end.0 < length self.old.made.items }
+        ensures table { self.new.table ≡ self.old.table }
+        ensures made { self.new.made.items ≡ set self.old.made.items end.0 (Some ground) }
+    {
+        self.made[end.0 as usize] = Some(ground);
+    }
+
+    // What stands for the cell of this place in the list, if it is made.
+    fn made_for(&self, store: &Store, refs: &[Ref], i: usize) -> Option<Ground>
+        requires place { i < length refs.now }
+        requires below { IsTrue (names_below (length store.now.store.cells) (map the_place refs.now)) }
+        ensures { IfSome result (λ g. (σ : Solution) → Solves store.now.store σ
+            → AreMade self.now.table σ self.now.made.items
+            → (k : ℕ) → slice_get (map the_place refs.now) i ≡ Some k → IsGroundOf self.now.table g (σ k)) }
+    {
+        let end = store.walk(reference_at(refs, i));
+        self.at(end)
+    }
+
+    /// The end of the first of these cells for which nothing is made.
+    pub fn first_unmade(&self, store: &Store, refs: &[Ref]) -> Option<Ref>
+        requires { IsTrue (names_below (length store.now.store.cells) (map the_place refs.now)) }
+        ensures { IfSome result (λ r. IsEnd store.now.store r.0) }
+    {
+        for i in 0..refs.len() {
+            if self.made_for(store, refs, i).is_none() {
+                return Some(store.walk(reference_at(refs, i)));
+            }
+        }
+        None
+    }
+
+    /// The terms that stand for these cells.
+    pub fn terms(
+        &self,
+        alloc: Global,
+        store: &Store,
+        refs: &[Ref],
+    ) -> Result<Vec<GroundTerm>, NoMemory>
+        requires below { IsTrue (names_below (length store.now.store.cells) (map the_place refs.now)) }
+        ensures { IfOk result (λ v. (σ : Solution) → Solves store.now.store σ
+            → AreMade self.now.table σ self.now.made.items
+            → map (the_g_term self.now.table) v.items ≡ map (λ k. as_term (σ k)) (map the_place refs.now)) }
+    {
+        let mut terms = Vec::new(alloc);
+        for i in 0..refs.len() {
+            match self.made_for(store, refs, i) {
+                Some(Ground::Term(term)) => terms.push(term)?,
+                _ => return Err(NoMemory),
+            }
+        }
+        Ok(terms)
+    }
+
+    // The term or string that stands for the cell of this place in the list, if it is made.
+    fn value_for(&self, store: &Store, refs: &[Ref], i: usize) -> Option<Value>
+        requires place { i < length refs.now }
+        requires below { IsTrue (names_below (length store.now.store.cells) (map the_place refs.now)) }
+        ensures { IfSome result (λ v. (σ : Solution) → Solves store.now.store σ
+            → AreMade self.now.table σ self.now.made.items
+            → (k : ℕ) → slice_get (map the_place refs.now) i ≡ Some k → the_value self.now.table v ≡ as_value (σ k)) }
+    {
+        match self.made_for(store, refs, i) {
+            Some(Ground::Term(term)) => Some(Value::Term(term)),
+            Some(Ground::Marks(label)) => Some(Value::Steps(label)),
+            _ => None,
+        }
+    }
+
+    /// The terms and strings that stand for these cells.
+    pub fn values(&self, alloc: Global, store: &Store, refs: &[Ref]) -> Result<Vec<Value>, NoMemory>
+        requires below { IsTrue (names_below (length store.now.store.cells) (map the_place refs.now)) }
+        ensures { IfOk result (λ v. (σ : Solution) → Solves store.now.store σ
+            → AreMade self.now.table σ self.now.made.items
+            → map (the_value self.now.table) v.items ≡ values_by σ (map the_place refs.now)) }
+    {
+        let mut values = Vec::new(alloc);
+        for i in 0..refs.len() {
+            match self.value_for(store, refs, i) {
+                Some(value) => values.push(value)?,
+                None => return Err(NoMemory),
+            }
+        }
+        Ok(values)
+    }
+
+    // Appends the marks of what stands for the cell of this place in the list.
+    fn add_marks_for(
+        &self,
+        store: &Store,
+        refs: &[Ref],
+        i: usize,
+        marks: &mut Vec<GroundMark>,
+    ) -> Result<(), NoMemory>
+        requires place { i < length refs.now }
+        requires below { IsTrue (names_below (length store.now.store.cells) (map the_place refs.now)) }
+        ensures { OnOk result ((σ : Solution) → Solves store.now.store σ
+            → AreMade self.now.table σ self.now.made.items
+            → (k : ℕ) → slice_get (map the_place refs.now) i ≡ Some k
+            → map (the_mark self.now.table) marks.new.items
+            ≡ map (the_mark self.now.table) marks.old.items ++ as_label (σ k)) }
+    {
+        match self.made_for(store, refs, i) {
+            Some(Ground::Mark(mark)) => {
+                marks.push(mark)?;
+                Ok(())
+            }
+            Some(Ground::Marks(label)) => {
+                marks.extend_from_slice(self.table.marks(label))?;
+                Ok(())
+            }
+            _ => Err(NoMemory),
+        }
+    }
+
+    /// The marks of the label that these cells join.
+    pub fn marks(
+        &self,
+        alloc: Global,
+        store: &Store,
+        refs: &[Ref],
+    ) -> Result<Vec<GroundMark>, NoMemory>
+        requires below { IsTrue (names_below (length store.now.store.cells) (map the_place refs.now)) }
+        ensures { IfOk result (λ v. (σ : Solution) → Solves store.now.store σ
+            → AreMade self.now.table σ self.now.made.items
+            → map (the_mark self.now.table) v.items ≡ label_by σ (map the_place refs.now)) }
+    {
+        let mut marks = Vec::new(alloc);
+        for i in 0..refs.len() {
+            self.add_marks_for(store, refs, i, &mut marks)?;
+        }
+        Ok(marks)
+    }
+}
