@@ -21,6 +21,8 @@ pub mod Weights
 pub mod Exploring
 -- the loop that does not return to solved goals
 pub mod Cutting
+-- what contracts say of the moments of both
+pub mod Moments
 -- its answers
 pub mod CutOutcomes
 -- the choices of a tree and of a tableau

@@ -21,6 +21,8 @@ use Rattle.connection_search.specs.OwnStores.{AreOwn}
 use Rattle.connection_search.specs.Trees.{IsTree, atom_at, tree_system}
 use Rattle.connection_search.specs.declared.tree.Goal.{Goal}
 use Rattle.connection_search.specs.declared.tree.Step.{Step}
+use Rattle.connection_search.specs.declared.tree.Tree.{Tree}
+use Rattle.term_store.specs.Room.{TermStore}
 
 -- each unbound string from the number `base` on is one of the system's
 abbrev pub NamesStringsFrom : ℕ → Store → System → Type 0
@@ -94,3 +96,14 @@ pub record IsLeftFound (P : Problem) (d : ℕ) (c : List Choice) (g : CellGoal) 
   pub is_left : left ≡ true → known ≡ false → IsLeft P d
   pub unknown : left ≡ false → known ≡ false
   pub dead : left ≡ false → length g.path ≡ d → (sides : List Side) (place : ℕ) → IsChoiceAt P (d + 1) g (extension sides place) → IsDead P (c ++ extension sides place ∷ [])
+
+-- ---- the same, by the program's store and tree
+
+abbrev pub TreeStands : Problem → List MatrixClause → ℕ → ℕ → List Choice → TermStore → Tree → Type 0
+TreeStands P m base d c s t = StandsFor P m base d c s.store t.steps.items t.goals.items t.open
+
+abbrev pub TreeStandsDeep : Problem → List MatrixClause → ℕ → ℕ → List Choice → TermStore → Tree → ℕ → Type 0
+TreeStandsDeep P m base d c s t n = StandsDeep P m base d c s.store t.steps.items t.goals.items t.open n
+
+abbrev pub GoalStands : Problem → List MatrixClause → ℕ → ℕ → List Choice → TermStore → Tree → ℕ → CellGoal → Type 0
+GoalStands P m base d c s t goal g = IsAtGoal P m base d c s.store t.steps.items t.goals.items goal g

@@ -18,7 +18,7 @@ ghost use Rattle.term_store.specs.ClauseView.{the_atom, the_pattern_atom};
 ghost use Rattle.connection_search.specs.Ahead.{HasNoHope, IsHopelessMove, IsLost, IsNextLeft};
 ghost use Rattle.connection_search.specs.Points.{HasUntried, IsMoveAt, IsSamePoint};
 ghost use Rattle.connection_search.specs.Pruning.{IsPruned};
-ghost use Rattle.connection_search.specs.Running.{IsAtGoal, IsMatrixOf, StandsFor};
+ghost use Rattle.connection_search.specs.Running.{IsAtGoal, IsMatrixOf, TreeStands};
 ghost use Rattle.connection_search.specs.Trees.{IsGoalAt};
 ghost use Rattle.connection_search.specs.Weights.{weight};
 
@@ -248,13 +248,12 @@ impl Space<'_> {
     /// Whether no bindings close the leftmost open goal within the limit, or an open one beside it.
     pub(crate) fn is_stuck(&self, store: &Store, tree: &Tree) -> bool
         requires { (base : ℕ) × (c : List Choice)
-            × StandsFor self.now.problem.now self.now.matrix.now base self.now.limit c
-            store.now.store tree.now.steps.items tree.now.goals.items tree.now.open }
+            × TreeStands self.now.problem.now self.now.matrix.now base self.now.limit c store.now
+            tree.now }
         ensures { result ≡ true → (base : ℕ) (c : List Choice)
             → IsMatrixOf self.now.problem.now self.now.matrix.now
-            → StandsFor self.now.problem.now self.now.matrix.now base self.now.limit c
-            store.now.store tree.now.steps.items tree.now.goals.items tree.now.open
-            → IsTrue (is_not_empty c) → IsPruned self.now.problem.now self.now.limit c }
+            → TreeStands self.now.problem.now self.now.matrix.now base self.now.limit c store.now
+            tree.now → IsTrue (is_not_empty c) → IsPruned self.now.problem.now self.now.limit c }
     {
         let mut next = tree.open;
         let mut depth = 0;

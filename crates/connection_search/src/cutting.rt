@@ -1,21 +1,20 @@
 //! The search that does not return to solved goals (leanCoP's restricted backtracking): as soon as a
 //! goal is solved, the choices that it has left are dropped.
 
-ghost use Rattle.std.specs.Prelude.{◌≡◌, ◌≤◌, ◌<◌, ◌-◌, ◌++◌, ◌∷◌, [], ℕ, IfOk, List};
-ghost use Rattle.std.specs.Prelude.{length, slice_get};
+ghost use Rattle.std.specs.Prelude.{◌≡◌, ◌≤◌, ◌<◌, ◌-◌, ◌++◌, ◌∷◌, [], ℕ, IfOk, List, length};
 ghost use Rattle.calculus.specs.Choices.{Choice, start};
 ghost use Rattle.calculus.specs.Counting.{AtLeastMany};
 ghost use Rattle.calculus.specs.Cut.{HasCut};
-ghost use Rattle.calculus.specs.declared.sign.Side.{Side};
 ghost use Rattle.calculus.specs.Space.{IsMember, member_cmp};
 ghost use Rattle.search_theory.specs.Cutting.{IsToldOf};
 ghost use Rattle.search_theory.specs.Matrix.{IsTemplateMatrix};
-ghost use Rattle.search_theory.specs.OrderedChoices.{selection_of};
-ghost use Rattle.connection_search.specs.Cutting.{IsCountedAt, IsCutEnd, IsCutExploring};
-ghost use Rattle.connection_search.specs.Cutting.{IsCutFailed, IsCutVisiting, IsLimitEnd};
-ghost use Rattle.connection_search.specs.Cutting.{IsPassing};
+ghost use Rattle.connection_search.specs.Cutting.{IsCountedAt, IsCutEnd, IsCutFailed, IsLimitEnd};
 ghost use Rattle.connection_search.specs.CutOutcomes.{IfCutEnded, IsCutAnswer, IsCutLimit};
-ghost use Rattle.connection_search.specs.Exploring.{IfOn, IsSpace};
+ghost use Rattle.connection_search.specs.Exploring.{IfOn};
+ghost use Rattle.connection_search.specs.Moments.{CutCountedAt, CutEndedAt, CutExploringAt};
+ghost use Rattle.connection_search.specs.Moments.{CutFailedAt, CutHolds, CutLeads, CutVisitingAt};
+ghost use Rattle.connection_search.specs.Moments.{IsSpaceOf, PassesNext, sides_of, start_by};
+ghost use Rattle.connection_search.specs.Moments.{the_moment};
 ghost use Rattle.connection_search.specs.Weights.{work_left};
 
 use crate::exploring::Visit;
@@ -55,34 +54,18 @@ impl Space<'_> {
         points: &mut Vec<Point>,
         left: &mut bool,
     ) -> Result<Visit, NoMemory>
-        requires { (base : ℕ) × (sides : List Side) × (later : List (List Choice)) × (begun : ℕ)
-            × IsSpace self.now.problem.now self.now.matrix.now self.now.limit
-            × IsCutVisiting self.now.problem.now self.now.matrix.now base self.now.limit sides
-            store.old.store work.old.tree.steps.items work.old.tree.goals.items work.old.tree.open
-            points.old.items later begun ledger.old.used left.old }
-        ensures on { IfOk result (λ v. IfOn v ((base : ℕ) (sides : List Side) (later : List (List
-            Choice)) (begun : ℕ)
-            → IsSpace self.now.problem.now self.now.matrix.now self.now.limit
-            → IsCutVisiting self.now.problem.now self.now.matrix.now base self.now.limit sides
-            store.old.store work.old.tree.steps.items work.old.tree.goals.items work.old.tree.open
-            points.old.items later begun ledger.old.used left.old
-            → IsCutExploring self.now.problem.now self.now.matrix.now base self.now.limit sides
-            store.new.store work.new.tree.steps.items work.new.tree.goals.items points.new.items
-            later begun ledger.new.used left.new)) }
-        ensures end { IfOk result (λ v. (base : ℕ) (sides : List Side) (later : List (List Choice))
-            (begun : ℕ)
-            → IsSpace self.now.problem.now self.now.matrix.now self.now.limit
-            → IsCutVisiting self.now.problem.now self.now.matrix.now base self.now.limit sides
-            store.old.store work.old.tree.steps.items work.old.tree.goals.items work.old.tree.open
-            points.old.items later begun ledger.old.used left.old
-            → IsCutEnd self.now.problem.now self.now.limit sides begun ledger.new.used
-            ledger.new.budget v) }
-        ensures counted { (base : ℕ) (sides : List Side) (later : List (List Choice)) (begun : ℕ)
-            → IsSpace self.now.problem.now self.now.matrix.now self.now.limit
-            → IsCutVisiting self.now.problem.now self.now.matrix.now base self.now.limit sides
-            store.old.store work.old.tree.steps.items work.old.tree.goals.items work.old.tree.open
-            points.old.items later begun ledger.old.used left.old
-            → IsCountedAt self.now.problem.now self.now.limit begun ledger.new.used }
+        requires { CutHolds self.now
+            (CutVisitingAt (the_moment store.old work.old points.old.items ledger.old left.old)) }
+        ensures on { IfOk result (λ v. IfOn v (CutLeads self.now
+            (CutVisitingAt (the_moment store.old work.old points.old.items ledger.old left.old))
+            (CutExploringAt (the_moment store.new work.new points.new.items ledger.new
+            left.new)))) }
+        ensures end { IfOk result (λ v. CutLeads self.now
+            (CutVisitingAt (the_moment store.old work.old points.old.items ledger.old left.old))
+            (CutEndedAt (the_moment store.new work.new points.new.items ledger.new left.new) v)) }
+        ensures counted { CutLeads self.now
+            (CutVisitingAt (the_moment store.old work.old points.old.items ledger.old left.old))
+            (CutCountedAt (the_moment store.new work.new points.new.items ledger.new left.new)) }
         ensures budget { ledger.new.budget ≡ ledger.old.budget }
         ensures falls { IfOk result (λ v. IfOn v (
             work_left ledger.old.budget ledger.new.used points.new.items
@@ -122,34 +105,22 @@ impl Space<'_> {
         left: &mut bool,
         last: Point,
     ) -> Result<Visit, NoMemory>
-        requires { (base : ℕ) × (sides : List Side) × (later : List (List Choice)) × (begun : ℕ)
-            × IsSpace self.now.problem.now self.now.matrix.now self.now.limit
-            × IsCutExploring self.now.problem.now self.now.matrix.now base self.now.limit sides
-            store.old.store work.old.tree.steps.items work.old.tree.goals.items
-            (points.old.items ++ last ∷ []) later begun ledger.old.used left.old }
-        ensures on { IfOk result (λ v. IfOn v ((base : ℕ) (sides : List Side) (later : List (List
-            Choice)) (begun : ℕ)
-            → IsSpace self.now.problem.now self.now.matrix.now self.now.limit
-            → IsCutExploring self.now.problem.now self.now.matrix.now base self.now.limit sides
-            store.old.store work.old.tree.steps.items work.old.tree.goals.items (points.old.items ++
-            last ∷ []) later begun ledger.old.used left.old
-            → IsCutExploring self.now.problem.now self.now.matrix.now base self.now.limit sides
-            store.new.store work.new.tree.steps.items work.new.tree.goals.items points.new.items
-            later begun ledger.new.used left.new)) }
-        ensures end { IfOk result (λ v. (base : ℕ) (sides : List Side) (later : List (List Choice))
-            (begun : ℕ)
-            → IsSpace self.now.problem.now self.now.matrix.now self.now.limit
-            → IsCutExploring self.now.problem.now self.now.matrix.now base self.now.limit sides
-            store.old.store work.old.tree.steps.items work.old.tree.goals.items (points.old.items ++
-            last ∷ []) later begun ledger.old.used left.old
-            → IsCutEnd self.now.problem.now self.now.limit sides begun ledger.new.used
-            ledger.new.budget v) }
-        ensures counted { (base : ℕ) (sides : List Side) (later : List (List Choice)) (begun : ℕ)
-            → IsSpace self.now.problem.now self.now.matrix.now self.now.limit
-            → IsCutExploring self.now.problem.now self.now.matrix.now base self.now.limit sides
-            store.old.store work.old.tree.steps.items work.old.tree.goals.items (points.old.items ++
-            last ∷ []) later begun ledger.old.used left.old
-            → IsCountedAt self.now.problem.now self.now.limit begun ledger.new.used }
+        requires { CutHolds self.now
+            (CutExploringAt (the_moment store.old work.old (points.old.items ++ last ∷ [])
+            ledger.old left.old)) }
+        ensures on { IfOk result (λ v. IfOn v (CutLeads self.now
+            (CutExploringAt (the_moment store.old work.old (points.old.items ++ last ∷ [])
+            ledger.old left.old))
+            (CutExploringAt (the_moment store.new work.new points.new.items ledger.new
+            left.new)))) }
+        ensures end { IfOk result (λ v. CutLeads self.now
+            (CutExploringAt (the_moment store.old work.old (points.old.items ++ last ∷ [])
+            ledger.old left.old))
+            (CutEndedAt (the_moment store.new work.new points.new.items ledger.new left.new) v)) }
+        ensures counted { CutLeads self.now
+            (CutExploringAt (the_moment store.old work.old (points.old.items ++ last ∷ [])
+            ledger.old left.old))
+            (CutCountedAt (the_moment store.new work.new points.new.items ledger.new left.new)) }
         ensures budget { ledger.new.budget ≡ ledger.old.budget }
         ensures falls { IfOk result (λ v. IfOn v (
             work_left ledger.old.budget ledger.new.used points.new.items
@@ -181,33 +152,17 @@ impl Space<'_> {
         points: &mut Vec<Point>,
         left: &mut bool,
     ) -> Result<Visit, NoMemory>
-        requires { (base : ℕ) × (sides : List Side) × (later : List (List Choice)) × (begun : ℕ)
-            × IsSpace self.now.problem.now self.now.matrix.now self.now.limit
-            × IsCutExploring self.now.problem.now self.now.matrix.now base self.now.limit sides
-            store.old.store work.old.tree.steps.items work.old.tree.goals.items
-            points.old.items later begun ledger.old.used left.old }
-        ensures on { IfOk result (λ v. IfOn v ((base : ℕ) (sides : List Side) (later : List (List
-            Choice)) (begun : ℕ)
-            → IsSpace self.now.problem.now self.now.matrix.now self.now.limit
-            → IsCutExploring self.now.problem.now self.now.matrix.now base self.now.limit sides
-            store.old.store work.old.tree.steps.items work.old.tree.goals.items points.old.items
-            later begun ledger.old.used left.old
-            → IsCutFailed self.now.problem.now self.now.limit sides later begun ledger.new.used
-            left.new)) }
-        ensures end { IfOk result (λ v. (base : ℕ) (sides : List Side) (later : List (List Choice))
-            (begun : ℕ)
-            → IsSpace self.now.problem.now self.now.matrix.now self.now.limit
-            → IsCutExploring self.now.problem.now self.now.matrix.now base self.now.limit sides
-            store.old.store work.old.tree.steps.items work.old.tree.goals.items points.old.items
-            later begun ledger.old.used left.old
-            → IsCutEnd self.now.problem.now self.now.limit sides begun ledger.new.used
-            ledger.new.budget v) }
-        ensures counted { (base : ℕ) (sides : List Side) (later : List (List Choice)) (begun : ℕ)
-            → IsSpace self.now.problem.now self.now.matrix.now self.now.limit
-            → IsCutExploring self.now.problem.now self.now.matrix.now base self.now.limit sides
-            store.old.store work.old.tree.steps.items work.old.tree.goals.items points.old.items
-            later begun ledger.old.used left.old
-            → IsCountedAt self.now.problem.now self.now.limit begun ledger.new.used }
+        requires { CutHolds self.now
+            (CutExploringAt (the_moment store.old work.old points.old.items ledger.old left.old)) }
+        ensures on { IfOk result (λ v. IfOn v (CutLeads self.now
+            (CutExploringAt (the_moment store.old work.old points.old.items ledger.old left.old))
+            (CutFailedAt (the_moment store.new work.new points.new.items ledger.new left.new)))) }
+        ensures end { IfOk result (λ v. CutLeads self.now
+            (CutExploringAt (the_moment store.old work.old points.old.items ledger.old left.old))
+            (CutEndedAt (the_moment store.new work.new points.new.items ledger.new left.new) v)) }
+        ensures counted { CutLeads self.now
+            (CutExploringAt (the_moment store.old work.old points.old.items ledger.old left.old))
+            (CutCountedAt (the_moment store.new work.new points.new.items ledger.new left.new)) }
         ensures budget { ledger.new.budget ≡ ledger.old.budget }
     {
         while let Some(point) = points.pop() {
@@ -228,28 +183,21 @@ impl Space<'_> {
         clause: ClauseId,
         left: &mut bool,
     ) -> Result<Visit, NoMemory>
-        requires passing { (later : List (List Choice)) × (begun : ℕ)
-            × IsSpace self.now.problem.now self.now.matrix.now self.now.limit
-            × IsPassing self.now.problem.now self.now.limit
-            ((start (selection_of (slice_get self.now.matrix.now clause.0)) ∷ []) ∷ later)
-            begun ledger.old.used }
+        requires passing { (later : List (List Choice)) × (begun : ℕ) × IsSpaceOf self.now
+            × PassesNext self.now ledger.old (start_by self.now clause.0 ∷ later) begun }
         requires clause { clause.0 < length self.now.matrix.now }
         ensures on { IfOk result (λ v. IfOn v ((later : List (List Choice)) (begun : ℕ)
-            → IsSpace self.now.problem.now self.now.matrix.now self.now.limit
-            → IsPassing self.now.problem.now self.now.limit ((start (selection_of (slice_get
-            self.now.matrix.now clause.0)) ∷ []) ∷ later) begun ledger.old.used
-            → IsCutFailed self.now.problem.now self.now.limit (selection_of (slice_get
-            self.now.matrix.now clause.0)) later begun ledger.new.used left.new)) }
+            → IsSpaceOf self.now
+            → PassesNext self.now ledger.old (start_by self.now clause.0 ∷ later) begun
+            → IsCutFailed self.now.problem.now self.now.limit (sides_of self.now clause.0) later
+            begun ledger.new.used left.new)) }
         ensures end { IfOk result (λ v. (later : List (List Choice)) (begun : ℕ)
-            → IsSpace self.now.problem.now self.now.matrix.now self.now.limit
-            → IsPassing self.now.problem.now self.now.limit ((start (selection_of (slice_get
-            self.now.matrix.now clause.0)) ∷ []) ∷ later) begun ledger.old.used
-            → IsCutEnd self.now.problem.now self.now.limit (selection_of (slice_get
-            self.now.matrix.now clause.0)) begun ledger.new.used ledger.new.budget v) }
-        ensures counted { (later : List (List Choice)) (begun : ℕ)
-            → IsSpace self.now.problem.now self.now.matrix.now self.now.limit
-            → IsPassing self.now.problem.now self.now.limit ((start (selection_of (slice_get
-            self.now.matrix.now clause.0)) ∷ []) ∷ later) begun ledger.old.used
+            → IsSpaceOf self.now
+            → PassesNext self.now ledger.old (start_by self.now clause.0 ∷ later) begun
+            → IsCutEnd self.now.problem.now self.now.limit (sides_of self.now clause.0) begun
+            ledger.new.used ledger.new.budget v) }
+        ensures counted { (later : List (List Choice)) (begun : ℕ) → IsSpaceOf self.now
+            → PassesNext self.now ledger.old (start_by self.now clause.0 ∷ later) begun
             → IsCountedAt self.now.problem.now self.now.limit begun ledger.new.used }
         ensures budget { ledger.new.budget ≡ ledger.old.budget }
     {
@@ -279,7 +227,7 @@ impl Space<'_> {
         ledger: &mut Ledger,
         left: &mut bool,
     ) -> Result<Visit, NoMemory>
-        requires { IsSpace self.now.problem.now self.now.matrix.now self.now.limit }
+        requires { IsSpaceOf self.now }
         ensures none { IfOk result (λ v. IfOn v ((e : ℕ) → IsToldOf self.now.limit left.new e
             → ¬ HasCut self.now.problem.now e)) }
         ensures end { IfOk result (λ v. IsLimitEnd self.now.problem.now self.now.limit

@@ -14,11 +14,11 @@ ghost use Rattle.tableau_core.specs.Numbered.TableauView.{the_tableau};
 ghost use Rattle.term_store.specs.Room.{KeepsRoom};
 ghost use Rattle.term_store.specs.SystemView.{the_system};
 ghost use Rattle.connection_search.specs.Deciding.{IsDecided, IsSolved, IsSolvedTree, IsSolving};
-ghost use Rattle.connection_search.specs.Exploring.{IsSpace};
 ghost use Rattle.connection_search.specs.Listing.{names_of};
+ghost use Rattle.connection_search.specs.Moments.{IsSpaceOf};
 ghost use Rattle.connection_search.specs.Readable.{IsReadableStep, is_gamma_below};
 ghost use Rattle.connection_search.specs.Reading.{IsStarted};
-ghost use Rattle.connection_search.specs.Running.{StandsFor};
+ghost use Rattle.connection_search.specs.Running.{TreeStands};
 ghost use Rattle.connection_search.specs.Trees.{gammas_of};
 
 use crate::closings::tableau_of;
@@ -115,18 +115,15 @@ impl Space<'_> {
         store: &mut Store,
         work: &Work,
     ) -> Result<Solved, NoMemory>
-        requires { (base : ℕ) × (c : List Choice)
-            × IsSpace self.now.problem.now self.now.matrix.now self.now.limit
-            × StandsFor self.now.problem.now self.now.matrix.now base self.now.limit c
-            store.old.store work.now.tree.steps.items work.now.tree.goals.items
-            work.now.tree.open }
+        requires { (base : ℕ) × (c : List Choice) × IsSpaceOf self.now
+            × TreeStands self.now.problem.now self.now.matrix.now base self.now.limit c store.old
+            work.now.tree }
         ensures solved { IfOk result (λ a. (base : ℕ) (c : List Choice)
-            → StandsFor self.now.problem.now self.now.matrix.now base self.now.limit c
-            store.old.store work.now.tree.steps.items work.now.tree.goals.items
-            work.now.tree.open
+            → TreeStands self.now.problem.now self.now.matrix.now base self.now.limit c store.old
+            work.now.tree
             → IsSolvedTree self.now.problem.now self.now.matrix.now store.old.store
-            work.now.tree.steps.items work.now.tree.goals.items
-            ledger.old.used ledger.new.used ledger.new.budget store.new.store a) }
+            work.now.tree.steps.items work.now.tree.goals.items ledger.old.used ledger.new.used
+            ledger.new.budget store.new.store a) }
         ensures counted { IsSolving self.now.problem.now self.now.matrix.now store.old.store
             work.now.tree.steps.items work.now.tree.goals.items
             ledger.old.used ledger.new.used }
@@ -178,18 +175,15 @@ impl Space<'_> {
         store: &mut Store,
         work: &Work,
     ) -> Result<Visit, NoMemory>
-        requires { (base : ℕ) × (c : List Choice)
-            × IsSpace self.now.problem.now self.now.matrix.now self.now.limit
-            × StandsFor self.now.problem.now self.now.matrix.now base self.now.limit c
-            store.old.store work.now.tree.steps.items work.now.tree.goals.items
-            work.now.tree.open }
+        requires { (base : ℕ) × (c : List Choice) × IsSpaceOf self.now
+            × TreeStands self.now.problem.now self.now.matrix.now base self.now.limit c store.old
+            work.now.tree }
         ensures decided { IfOk result (λ v. (base : ℕ) (c : List Choice)
-            → StandsFor self.now.problem.now self.now.matrix.now base self.now.limit c
-            store.old.store work.now.tree.steps.items work.now.tree.goals.items
-            work.now.tree.open
+            → TreeStands self.now.problem.now self.now.matrix.now base self.now.limit c store.old
+            work.now.tree
             → IsDecided self.now.problem.now self.now.matrix.now self.now.limit c store.old.store
-            work.now.tree.steps.items work.now.tree.goals.items
-            ledger.old.used ledger.new.used ledger.new.budget store.new.store v) }
+            work.now.tree.steps.items work.now.tree.goals.items ledger.old.used ledger.new.used
+            ledger.new.budget store.new.store v) }
         ensures counted { IsSolving self.now.problem.now self.now.matrix.now store.old.store
             work.now.tree.steps.items work.now.tree.goals.items
             ledger.old.used ledger.new.used }

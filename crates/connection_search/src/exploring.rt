@@ -1,13 +1,12 @@
 //! The loop of the search: a stack of choice points, all of whose choices are tried in order.
 
-ghost use Rattle.std.specs.Prelude.{◌≡◌, ◌<◌, ◌++◌, ◌∷◌, [], ℕ, IfOk, List, OnOk};
+ghost use Rattle.std.specs.Prelude.{◌≡◌, ◌<◌, ◌++◌, ◌∷◌, [], ℕ, IfOk, OnOk};
 ghost use Rattle.store_theory.specs.Bindings.{KeepsMarks};
-ghost use Rattle.calculus.specs.Choices.{Choice};
 ghost use Rattle.store_theory.specs.Stores.{IsGood, TrailMark};
 ghost use Rattle.term_store.specs.Room.{KeepsRoom};
-ghost use Rattle.connection_search.specs.Exploring.{AreAbove, ArePushed, IfOn, IsCounted, IsEnd};
-ghost use Rattle.connection_search.specs.Exploring.{IsExploring, IsSearched, IsSpace, IsVisiting};
-ghost use Rattle.connection_search.specs.Exploring.{KeepsMoment};
+ghost use Rattle.connection_search.specs.Exploring.{AreAbove, ArePushed, IfOn, KeepsMoment};
+ghost use Rattle.connection_search.specs.Moments.{CountedAt, EndedAt, ExploringAt, Holds, Leads};
+ghost use Rattle.connection_search.specs.Moments.{SearchedAt, VisitingAt, the_moment};
 ghost use Rattle.connection_search.specs.Weights.{work_left};
 
 use crate::moves::Work;
@@ -35,38 +34,17 @@ impl Space<'_> {
         points: &mut Vec<Point>,
         left: &mut bool,
     ) -> Result<Visit, NoMemory>
-        requires { (base : ℕ) × (later : List (List Choice)) × (begun : ℕ)
-            × IsSpace self.now.problem.now self.now.matrix.now self.now.limit
-            × IsVisiting self.now.problem.now self.now.matrix.now base self.now.limit
-            store.old.store
-            work.old.tree.steps.items work.old.tree.goals.items work.old.tree.open
-            points.old.items later begun ledger.old.used left.old }
-        ensures on { IfOk result (λ v. IfOn v ((base : ℕ)
-            (later : List (List Choice)) (begun : ℕ)
-            → IsSpace self.now.problem.now self.now.matrix.now self.now.limit
-            → IsVisiting self.now.problem.now self.now.matrix.now base self.now.limit
-            store.old.store
-            work.old.tree.steps.items work.old.tree.goals.items work.old.tree.open
-            points.old.items later begun ledger.old.used left.old
-            → IsExploring self.now.problem.now self.now.matrix.now base self.now.limit
-            store.new.store
-            work.new.tree.steps.items work.new.tree.goals.items
-            points.new.items later begun ledger.new.used left.new)) }
-        ensures end { IfOk result (λ v. (base : ℕ)
-            (later : List (List Choice)) (begun : ℕ)
-            → IsSpace self.now.problem.now self.now.matrix.now self.now.limit
-            → IsVisiting self.now.problem.now self.now.matrix.now base self.now.limit
-            store.old.store
-            work.old.tree.steps.items work.old.tree.goals.items work.old.tree.open
-            points.old.items later begun ledger.old.used left.old
-            → IsEnd self.now.problem.now self.now.limit begun ledger.new.used ledger.new.budget v) }
-        ensures counted { (base : ℕ) (later : List (List Choice)) (begun : ℕ)
-            → IsSpace self.now.problem.now self.now.matrix.now self.now.limit
-            → IsVisiting self.now.problem.now self.now.matrix.now base self.now.limit
-            store.old.store
-            work.old.tree.steps.items work.old.tree.goals.items work.old.tree.open
-            points.old.items later begun ledger.old.used left.old
-            → IsCounted self.now.problem.now self.now.limit begun ledger.new.used }
+        requires { Holds self.now
+            (VisitingAt (the_moment store.old work.old points.old.items ledger.old left.old)) }
+        ensures on { IfOk result (λ v. IfOn v (Leads self.now
+            (VisitingAt (the_moment store.old work.old points.old.items ledger.old left.old))
+            (ExploringAt (the_moment store.new work.new points.new.items ledger.new left.new)))) }
+        ensures end { IfOk result (λ v. Leads self.now
+            (VisitingAt (the_moment store.old work.old points.old.items ledger.old left.old))
+            (EndedAt (the_moment store.new work.new points.new.items ledger.new left.new) v)) }
+        ensures counted { Leads self.now
+            (VisitingAt (the_moment store.old work.old points.old.items ledger.old left.old))
+            (CountedAt (the_moment store.new work.new points.new.items ledger.new left.new)) }
         ensures budget { ledger.new.budget ≡ ledger.old.budget }
         ensures points { IfOk result (λ v. IfOn v
             (ArePushed points.old.items points.new.items ledger.old.used ledger.new.used)) }
@@ -108,38 +86,17 @@ impl Space<'_> {
         points: &mut Vec<Point>,
         left: &mut bool,
     ) -> Result<Visit, NoMemory>
-        requires { (base : ℕ) × (later : List (List Choice)) × (begun : ℕ)
-            × IsSpace self.now.problem.now self.now.matrix.now self.now.limit
-            × IsVisiting self.now.problem.now self.now.matrix.now base self.now.limit
-            store.old.store
-            work.old.tree.steps.items work.old.tree.goals.items work.old.tree.open
-            points.old.items later begun ledger.old.used left.old }
-        ensures on { IfOk result (λ v. IfOn v ((base : ℕ)
-            (later : List (List Choice)) (begun : ℕ)
-            → IsSpace self.now.problem.now self.now.matrix.now self.now.limit
-            → IsVisiting self.now.problem.now self.now.matrix.now base self.now.limit
-            store.old.store
-            work.old.tree.steps.items work.old.tree.goals.items work.old.tree.open
-            points.old.items later begun ledger.old.used left.old
-            → IsExploring self.now.problem.now self.now.matrix.now base self.now.limit
-            store.new.store
-            work.new.tree.steps.items work.new.tree.goals.items
-            points.new.items later begun ledger.new.used left.new)) }
-        ensures end { IfOk result (λ v. (base : ℕ)
-            (later : List (List Choice)) (begun : ℕ)
-            → IsSpace self.now.problem.now self.now.matrix.now self.now.limit
-            → IsVisiting self.now.problem.now self.now.matrix.now base self.now.limit
-            store.old.store
-            work.old.tree.steps.items work.old.tree.goals.items work.old.tree.open
-            points.old.items later begun ledger.old.used left.old
-            → IsEnd self.now.problem.now self.now.limit begun ledger.new.used ledger.new.budget v) }
-        ensures counted { (base : ℕ) (later : List (List Choice)) (begun : ℕ)
-            → IsSpace self.now.problem.now self.now.matrix.now self.now.limit
-            → IsVisiting self.now.problem.now self.now.matrix.now base self.now.limit
-            store.old.store
-            work.old.tree.steps.items work.old.tree.goals.items work.old.tree.open
-            points.old.items later begun ledger.old.used left.old
-            → IsCounted self.now.problem.now self.now.limit begun ledger.new.used }
+        requires { Holds self.now
+            (VisitingAt (the_moment store.old work.old points.old.items ledger.old left.old)) }
+        ensures on { IfOk result (λ v. IfOn v (Leads self.now
+            (VisitingAt (the_moment store.old work.old points.old.items ledger.old left.old))
+            (ExploringAt (the_moment store.new work.new points.new.items ledger.new left.new)))) }
+        ensures end { IfOk result (λ v. Leads self.now
+            (VisitingAt (the_moment store.old work.old points.old.items ledger.old left.old))
+            (EndedAt (the_moment store.new work.new points.new.items ledger.new left.new) v)) }
+        ensures counted { Leads self.now
+            (VisitingAt (the_moment store.old work.old points.old.items ledger.old left.old))
+            (CountedAt (the_moment store.new work.new points.new.items ledger.new left.new)) }
         ensures budget { ledger.new.budget ≡ ledger.old.budget }
         ensures points { IfOk result (λ v. IfOn v
             (ArePushed points.old.items points.new.items ledger.old.used ledger.new.used)) }
@@ -167,38 +124,21 @@ impl Space<'_> {
         left: &mut bool,
         last: Point,
     ) -> Result<Visit, NoMemory>
-        requires { (base : ℕ) × (later : List (List Choice)) × (begun : ℕ)
-            × IsSpace self.now.problem.now self.now.matrix.now self.now.limit
-            × IsExploring self.now.problem.now self.now.matrix.now base self.now.limit
-            store.old.store
-            work.old.tree.steps.items work.old.tree.goals.items
-            (points.old.items ++ last ∷ []) later begun ledger.old.used left.old }
-        ensures on { IfOk result (λ v. IfOn v ((base : ℕ)
-            (later : List (List Choice)) (begun : ℕ)
-            → IsSpace self.now.problem.now self.now.matrix.now self.now.limit
-            → IsExploring self.now.problem.now self.now.matrix.now base self.now.limit
-            store.old.store
-            work.old.tree.steps.items work.old.tree.goals.items
-            (points.old.items ++ last ∷ []) later begun ledger.old.used left.old
-            → IsExploring self.now.problem.now self.now.matrix.now base self.now.limit
-            store.new.store
-            work.new.tree.steps.items work.new.tree.goals.items
-            points.new.items later begun ledger.new.used left.new)) }
-        ensures end { IfOk result (λ v. (base : ℕ)
-            (later : List (List Choice)) (begun : ℕ)
-            → IsSpace self.now.problem.now self.now.matrix.now self.now.limit
-            → IsExploring self.now.problem.now self.now.matrix.now base self.now.limit
-            store.old.store
-            work.old.tree.steps.items work.old.tree.goals.items
-            (points.old.items ++ last ∷ []) later begun ledger.old.used left.old
-            → IsEnd self.now.problem.now self.now.limit begun ledger.new.used ledger.new.budget v) }
-        ensures counted { (base : ℕ) (later : List (List Choice)) (begun : ℕ)
-            → IsSpace self.now.problem.now self.now.matrix.now self.now.limit
-            → IsExploring self.now.problem.now self.now.matrix.now base self.now.limit
-            store.old.store
-            work.old.tree.steps.items work.old.tree.goals.items
-            (points.old.items ++ last ∷ []) later begun ledger.old.used left.old
-            → IsCounted self.now.problem.now self.now.limit begun ledger.new.used }
+        requires { Holds self.now
+            (ExploringAt (the_moment store.old work.old (points.old.items ++ last ∷ []) ledger.old
+            left.old)) }
+        ensures on { IfOk result (λ v. IfOn v (Leads self.now
+            (ExploringAt (the_moment store.old work.old (points.old.items ++ last ∷ []) ledger.old
+            left.old))
+            (ExploringAt (the_moment store.new work.new points.new.items ledger.new left.new)))) }
+        ensures end { IfOk result (λ v. Leads self.now
+            (ExploringAt (the_moment store.old work.old (points.old.items ++ last ∷ []) ledger.old
+            left.old))
+            (EndedAt (the_moment store.new work.new points.new.items ledger.new left.new) v)) }
+        ensures counted { Leads self.now
+            (ExploringAt (the_moment store.old work.old (points.old.items ++ last ∷ []) ledger.old
+            left.old))
+            (CountedAt (the_moment store.new work.new points.new.items ledger.new left.new)) }
         ensures budget { ledger.new.budget ≡ ledger.old.budget }
         ensures falls { IfOk result (λ v. IfOn v (
             work_left ledger.old.budget ledger.new.used points.new.items
@@ -236,35 +176,17 @@ impl Space<'_> {
         points: &mut Vec<Point>,
         left: &mut bool,
     ) -> Result<Visit, NoMemory>
-        requires { (base : ℕ) × (later : List (List Choice)) × (begun : ℕ)
-            × IsSpace self.now.problem.now self.now.matrix.now self.now.limit
-            × IsExploring self.now.problem.now self.now.matrix.now base self.now.limit
-            store.old.store
-            work.old.tree.steps.items work.old.tree.goals.items
-            points.old.items later begun ledger.old.used left.old }
-        ensures on { IfOk result (λ v. IfOn v ((base : ℕ)
-            (later : List (List Choice)) (begun : ℕ)
-            → IsSpace self.now.problem.now self.now.matrix.now self.now.limit
-            → IsExploring self.now.problem.now self.now.matrix.now base self.now.limit
-            store.old.store
-            work.old.tree.steps.items work.old.tree.goals.items
-            points.old.items later begun ledger.old.used left.old
-            → IsSearched self.now.problem.now self.now.limit later begun ledger.new.used left.new)) }
-        ensures end { IfOk result (λ v. (base : ℕ)
-            (later : List (List Choice)) (begun : ℕ)
-            → IsSpace self.now.problem.now self.now.matrix.now self.now.limit
-            → IsExploring self.now.problem.now self.now.matrix.now base self.now.limit
-            store.old.store
-            work.old.tree.steps.items work.old.tree.goals.items
-            points.old.items later begun ledger.old.used left.old
-            → IsEnd self.now.problem.now self.now.limit begun ledger.new.used ledger.new.budget v) }
-        ensures counted { (base : ℕ) (later : List (List Choice)) (begun : ℕ)
-            → IsSpace self.now.problem.now self.now.matrix.now self.now.limit
-            → IsExploring self.now.problem.now self.now.matrix.now base self.now.limit
-            store.old.store
-            work.old.tree.steps.items work.old.tree.goals.items
-            points.old.items later begun ledger.old.used left.old
-            → IsCounted self.now.problem.now self.now.limit begun ledger.new.used }
+        requires { Holds self.now
+            (ExploringAt (the_moment store.old work.old points.old.items ledger.old left.old)) }
+        ensures on { IfOk result (λ v. IfOn v (Leads self.now
+            (ExploringAt (the_moment store.old work.old points.old.items ledger.old left.old))
+            (SearchedAt (the_moment store.new work.new points.new.items ledger.new left.new)))) }
+        ensures end { IfOk result (λ v. Leads self.now
+            (ExploringAt (the_moment store.old work.old points.old.items ledger.old left.old))
+            (EndedAt (the_moment store.new work.new points.new.items ledger.new left.new) v)) }
+        ensures counted { Leads self.now
+            (ExploringAt (the_moment store.old work.old points.old.items ledger.old left.old))
+            (CountedAt (the_moment store.new work.new points.new.items ledger.new left.new)) }
         ensures budget { ledger.new.budget ≡ ledger.old.budget }
         ensures moment { (k : TrailMark) → IsGood k store.old.store → AreAbove k points.old.items
             → KeepsMoment k store.old.store store.new.store }

@@ -14,8 +14,8 @@ ghost use Rattle.search_theory.specs.OrderedChoices.{extension_at, selection_of}
 ghost use Rattle.search_theory.specs.States.{CellChoice, CellGoal, CellGrowth};
 ghost use Rattle.term_store.specs.Room.{KeepsRoom};
 ghost use Rattle.connection_search.specs.Points.{IsMoveAt, the_move};
-ghost use Rattle.connection_search.specs.Running.{ExtendsBy, IsAt, IsAtGoal, IsMatrixOf};
-ghost use Rattle.connection_search.specs.Running.{ReducesBy, StandsDeep, StandsFor};
+ghost use Rattle.connection_search.specs.Running.{ExtendsBy, GoalStands, IsAt, IsMatrixOf};
+ghost use Rattle.connection_search.specs.Running.{ReducesBy, TreeStands, TreeStandsDeep};
 ghost use Rattle.connection_search.specs.Trees.{KeepsTree};
 
 use crate::atoms::unify_all;
@@ -73,12 +73,10 @@ impl Work {
         requires steps { self.old.tree.steps.items ≡ [] }
         requires goals { self.old.tree.goals.items ≡ [] }
         ensures started { OnOk result ((P : Problem) (d : ℕ) → IsMatrixOf P matrix.now
-            → option_map (λ (x : MatrixClause). all_shown x.template)
-            (slice_get matrix.now clause.0) ≡ Some true
-            → StandsFor P matrix.now (length store.old.store.cells) d
-            (start (selection_of (slice_get matrix.now clause.0)) ∷ [])
-            store.new.store self.new.tree.steps.items self.new.tree.goals.items
-            self.new.tree.open) }
+            → option_map (λ (x : MatrixClause). all_shown x.template) (slice_get matrix.now
+            clause.0) ≡ Some true
+            → TreeStands P matrix.now (length store.old.store.cells) d (start (selection_of
+            (slice_get matrix.now clause.0)) ∷ []) store.new self.new.tree) }
         ensures marks { KeepsMarks store.old.store store.new.store }
         ensures room { KeepsRoom store.old store.new }
     {
@@ -98,20 +96,16 @@ impl Work {
     ) -> Result<bool, NoMemory>
         requires { (P : Problem) × (m : List MatrixClause) × (base : ℕ) × (d : ℕ)
             × (c : List Choice) × (g : CellGoal)
-            × IsAtGoal P m base d c store.old.store self.old.tree.steps.items
-            self.old.tree.goals.items goal g
+            × GoalStands P m base d c store.old self.old.tree goal g
             × ReducesBy self.old.tree.steps.items self.old.tree.goals.items g up ancestor }
         ensures made { IfOk result (λ made. made ≡ true
             → (P : Problem) (m : List MatrixClause) (base d : ℕ) (c : List Choice) (g : CellGoal)
-            → IsAtGoal P m base d c store.old.store self.old.tree.steps.items
-            self.old.tree.goals.items goal g
+            → GoalStands P m base d c store.old self.old.tree goal g
             → ReducesBy self.old.tree.steps.items self.old.tree.goals.items g up ancestor
-            → StandsFor P m base d (c ++ reduction up ∷ []) store.new.store
-            self.new.tree.steps.items self.new.tree.goals.items self.new.tree.open) }
+            → TreeStands P m base d (c ++ reduction up ∷ []) store.new self.new.tree) }
         ensures refused { IfOk result (λ made. made ≡ false
             → (P : Problem) (m : List MatrixClause) (base d : ℕ) (c : List Choice) (g : CellGoal)
-            → IsAtGoal P m base d c store.old.store self.old.tree.steps.items
-            self.old.tree.goals.items goal g
+            → GoalStands P m base d c store.old self.old.tree goal g
             → ReducesBy self.old.tree.steps.items self.old.tree.goals.items g up ancestor
             → IsDead P (c ++ reduction up ∷ [])) }
         ensures kept { OnOk result (KeepsTree self.old.tree.steps.items self.old.tree.goals.items
@@ -140,32 +134,23 @@ impl Work {
     ) -> Result<bool, NoMemory>
         requires { (P : Problem) × (base : ℕ) × (d : ℕ) × (c : List Choice) × (g : CellGoal)
             × IsMatrixOf P matrix.now
-            × IsAtGoal P matrix.now base d c store.old.store self.old.tree.steps.items
-            self.old.tree.goals.items goal g
+            × GoalStands P matrix.now base d c store.old self.old.tree goal g
             × ExtendsBy matrix.now d g (the_place place) }
         ensures made { IfOk result (λ made. made ≡ true
-            → (P : Problem) (base d : ℕ) (c : List Choice) (g : CellGoal)
-            → IsMatrixOf P matrix.now
-            → IsAtGoal P matrix.now base d c store.old.store self.old.tree.steps.items
-            self.old.tree.goals.items goal g
+            → (P : Problem) (base d : ℕ) (c : List Choice) (g : CellGoal) → IsMatrixOf P matrix.now
+            → GoalStands P matrix.now base d c store.old self.old.tree goal g
             → ExtendsBy matrix.now d g (the_place place)
-            → StandsFor P matrix.now base d (c ++ extension_at matrix.now (the_place place) ∷ [])
-            store.new.store self.new.tree.steps.items self.new.tree.goals.items
-            self.new.tree.open) }
+            → TreeStands P matrix.now base d (c ++ extension_at matrix.now (the_place place) ∷ [])
+            store.new self.new.tree) }
         ensures deep { IfOk result (λ made. made ≡ true
-            → (P : Problem) (base d : ℕ) (c : List Choice) (g : CellGoal)
-            → IsMatrixOf P matrix.now
-            → IsAtGoal P matrix.now base d c store.old.store self.old.tree.steps.items
-            self.old.tree.goals.items goal g
+            → (P : Problem) (base d : ℕ) (c : List Choice) (g : CellGoal) → IsMatrixOf P matrix.now
+            → GoalStands P matrix.now base d c store.old self.old.tree goal g
             → ExtendsBy matrix.now d g (the_place place)
-            → StandsDeep P matrix.now base d (c ++ extension_at matrix.now (the_place place) ∷ [])
-            store.new.store self.new.tree.steps.items self.new.tree.goals.items self.new.tree.open
-            (length g.path)) }
+            → TreeStandsDeep P matrix.now base d (c ++ extension_at matrix.now (the_place place) ∷
+            []) store.new self.new.tree (length g.path)) }
         ensures refused { IfOk result (λ made. made ≡ false
-            → (P : Problem) (base d : ℕ) (c : List Choice) (g : CellGoal)
-            → IsMatrixOf P matrix.now
-            → IsAtGoal P matrix.now base d c store.old.store self.old.tree.steps.items
-            self.old.tree.goals.items goal g
+            → (P : Problem) (base d : ℕ) (c : List Choice) (g : CellGoal) → IsMatrixOf P matrix.now
+            → GoalStands P matrix.now base d c store.old self.old.tree goal g
             → ExtendsBy matrix.now d g (the_place place)
             → IsDead P (c ++ extension_at matrix.now (the_place place) ∷ [])) }
         ensures kept { OnOk result (KeepsTree self.old.tree.steps.items self.old.tree.goals.items
@@ -202,13 +187,10 @@ impl Work {
     // Whether the leftmost open goal is the same as none above it.
     fn is_leftmost_new(&mut self, store: &Store) -> Result<bool, NoMemory>
         requires { (P : Problem) × (m : List MatrixClause) × (base : ℕ) × (d : ℕ)
-            × (c : List Choice)
-            × StandsFor P m base d c store.now.store self.old.tree.steps.items
-            self.old.tree.goals.items self.old.tree.open }
+            × (c : List Choice) × TreeStands P m base d c store.now self.old.tree }
         ensures repeated { IfOk result (λ new. new ≡ false
             → (P : Problem) (m : List MatrixClause) (base d : ℕ) (c : List Choice)
-            → StandsFor P m base d c store.now.store self.old.tree.steps.items
-            self.old.tree.goals.items self.old.tree.open → IsDead P c) }
+            → TreeStands P m base d c store.now self.old.tree → IsDead P c) }
         ensures tree { self.new.tree ≡ self.old.tree }
     {
         match self.tree.open {
@@ -224,13 +206,10 @@ impl Work {
     // them.
     fn is_regular_from(&mut self, store: &Store, first: usize) -> Result<bool, NoMemory>
         requires { (P : Problem) × (m : List MatrixClause) × (base : ℕ) × (d : ℕ)
-            × (c : List Choice)
-            × StandsFor P m base d c store.now.store self.old.tree.steps.items
-            self.old.tree.goals.items self.old.tree.open }
+            × (c : List Choice) × TreeStands P m base d c store.now self.old.tree }
         ensures repeated { IfOk result (λ new. new ≡ false
             → (P : Problem) (m : List MatrixClause) (base d : ℕ) (c : List Choice)
-            → StandsFor P m base d c store.now.store self.old.tree.steps.items
-            self.old.tree.goals.items self.old.tree.open → IsDead P c) }
+            → TreeStands P m base d c store.now self.old.tree → IsDead P c) }
         ensures tree { self.new.tree ≡ self.old.tree }
     {
         if first < self.tree.goals.len() {
@@ -251,22 +230,17 @@ impl Work {
     ) -> Result<bool, NoMemory>
         requires { (P : Problem) × (base : ℕ) × (d : ℕ) × (c : List Choice) × (g : CellGoal)
             × IsMatrixOf P matrix.now
-            × IsAtGoal P matrix.now base d c store.old.store self.old.tree.steps.items
-            self.old.tree.goals.items goal g
+            × GoalStands P matrix.now base d c store.old self.old.tree goal g
             × IsMoveAt matrix.now d self.old.tree.steps.items self.old.tree.goals.items g choice }
         ensures made { IfOk result (λ made. made ≡ true
-            → (P : Problem) (base d : ℕ) (c : List Choice) (g : CellGoal)
-            → IsMatrixOf P matrix.now
-            → IsAtGoal P matrix.now base d c store.old.store self.old.tree.steps.items
-            self.old.tree.goals.items goal g
+            → (P : Problem) (base d : ℕ) (c : List Choice) (g : CellGoal) → IsMatrixOf P matrix.now
+            → GoalStands P matrix.now base d c store.old self.old.tree goal g
             → IsMoveAt matrix.now d self.old.tree.steps.items self.old.tree.goals.items g choice
-            → StandsFor P matrix.now base d (c ++ the_move matrix.now choice ∷ []) store.new.store
-            self.new.tree.steps.items self.new.tree.goals.items self.new.tree.open) }
+            → TreeStands P matrix.now base d (c ++ the_move matrix.now choice ∷ []) store.new
+            self.new.tree) }
         ensures refused { IfOk result (λ made. made ≡ false
-            → (P : Problem) (base d : ℕ) (c : List Choice) (g : CellGoal)
-            → IsMatrixOf P matrix.now
-            → IsAtGoal P matrix.now base d c store.old.store self.old.tree.steps.items
-            self.old.tree.goals.items goal g
+            → (P : Problem) (base d : ℕ) (c : List Choice) (g : CellGoal) → IsMatrixOf P matrix.now
+            → GoalStands P matrix.now base d c store.old self.old.tree goal g
             → IsMoveAt matrix.now d self.old.tree.steps.items self.old.tree.goals.items g choice
             → IsDead P (c ++ the_move matrix.now choice ∷ [])) }
         ensures kept { OnOk result (KeepsTree self.old.tree.steps.items self.old.tree.goals.items
@@ -289,9 +263,7 @@ impl Work {
     /// Whether no goal is the same as one above it.
     pub fn is_regular(&mut self, store: &Store) -> Result<bool, NoMemory>
         requires { (P : Problem) × (m : List MatrixClause) × (base : ℕ) × (d : ℕ)
-            × (c : List Choice)
-            × StandsFor P m base d c store.now.store self.old.tree.steps.items
-            self.old.tree.goals.items self.old.tree.open }
+            × (c : List Choice) × TreeStands P m base d c store.now self.old.tree }
         ensures new { IfOk result (λ new. new ≡ true
             → (P : Problem) (m : List MatrixClause) (base d : ℕ) (c : List Choice)
             (cs : List CellChoice) (x : CellGrowth)
@@ -300,8 +272,7 @@ impl Work {
             → HasNoSamePair (record { store = store.now.store; choices = cs; growth = x })) }
         ensures repeated { IfOk result (λ new. new ≡ false
             → (P : Problem) (m : List MatrixClause) (base d : ℕ) (c : List Choice)
-            → StandsFor P m base d c store.now.store self.old.tree.steps.items
-            self.old.tree.goals.items self.old.tree.open → IsDead P c) }
+            → TreeStands P m base d c store.now self.old.tree → IsDead P c) }
         ensures tree { self.new.tree ≡ self.old.tree }
     {
         let new = are_new_from(&mut self.unifier, store, &self.tree, 0)?;
@@ -314,13 +285,10 @@ impl Work {
     /// call, when the search has gone back.
     pub fn is_found_irregular(&mut self, store: &Store) -> Result<bool, NoMemory>
         requires { (P : Problem) × (m : List MatrixClause) × (base : ℕ) × (d : ℕ)
-            × (c : List Choice)
-            × StandsFor P m base d c store.now.store self.old.tree.steps.items
-            self.old.tree.goals.items self.old.tree.open }
+            × (c : List Choice) × TreeStands P m base d c store.now self.old.tree }
         ensures irregular { IfOk result (λ found. found ≡ true
             → (P : Problem) (m : List MatrixClause) (base d : ℕ) (c : List Choice)
-            → StandsFor P m base d c store.now.store self.old.tree.steps.items
-            self.old.tree.goals.items self.old.tree.open → IsDead P c) }
+            → TreeStands P m base d c store.now self.old.tree → IsDead P c) }
         ensures tree { self.new.tree ≡ self.old.tree }
     {
         if self.tried < self.tree.goals.len().saturating_mul(CHOICES_PER_GOAL) {

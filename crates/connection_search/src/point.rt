@@ -16,7 +16,7 @@ ghost use Rattle.term_store.specs.Room.{KeepsRoom};
 ghost use Rattle.connection_search.specs.Weights.{greatest_weight, weight};
 ghost use Rattle.connection_search.specs.Points.{HasExtensions, HasUntried, IsHere, IsMoveAt};
 ghost use Rattle.connection_search.specs.Points.{IsNextAncestor, IsPoint, IsSamePoint, the_move};
-ghost use Rattle.connection_search.specs.Running.{ExtendsBy, IsAtGoal};
+ghost use Rattle.connection_search.specs.Running.{ExtendsBy, GoalStands};
 ghost use Rattle.connection_search.specs.Trees.{IsGoalAt, IsPath};
 
 use crate::atoms::{meets, other};
@@ -95,11 +95,9 @@ impl Point {
             (if nat_lt (length g.path) d
             then extensions g.literal.symbol (kinds.other g.literal.sign) matrix.now else []) }
         ensures point { (P : Problem) (base d : ℕ) (c : List Choice) (g : CellGoal)
-            → IsAtGoal P matrix.now base d c store.now.store
-            tree.now.steps.items tree.now.goals.items goal g
-            → limit ≡ d → d ≤ 201
-            → IsPoint P matrix.now base d store.now.store
-            tree.now.steps.items tree.now.goals.items result c (choices_at matrix.now d g) g }
+            → GoalStands P matrix.now base d c store.now tree.now goal g → limit ≡ d → d ≤ 201
+            → IsPoint P matrix.now base d store.now.store tree.now.steps.items tree.now.goals.items
+            result c (choices_at matrix.now d g) g }
         ensures here { IsHere result store.now.store tree.now.steps.items tree.now.goals.items (Some goal) }
         ensures goal { result.goal ≡ goal }
         ensures light { weight result ≤ greatest_weight }

@@ -4,7 +4,7 @@ ghost use Rattle.std.specs.Prelude.{◌≡◌, ℕ, IfOk, IsTrue, List, true};
 ghost use Rattle.calculus.specs.Choices.{Choice};
 ghost use Rattle.search_theory.proofs.BeginningLaws.{is_not_empty};
 ghost use Rattle.connection_search.specs.Pruning.{IsPruned};
-ghost use Rattle.connection_search.specs.Running.{IsMatrixOf, StandsFor};
+ghost use Rattle.connection_search.specs.Running.{IsMatrixOf, TreeStands};
 
 use crate::deciding::has_labels;
 use crate::moves::Work;
@@ -87,14 +87,12 @@ impl Space<'_> {
     // Whether the labels of the connections made so far cannot be equal.
     fn is_refuted(&self, store: &Store, work: &Work) -> Result<bool, NoMemory>
         requires { (base : ℕ) × (c : List Choice)
-            × StandsFor self.now.problem.now self.now.matrix.now base self.now.limit c
-            store.now.store work.now.tree.steps.items work.now.tree.goals.items
-            work.now.tree.open }
+            × TreeStands self.now.problem.now self.now.matrix.now base self.now.limit c store.now
+            work.now.tree }
         ensures { IfOk result (λ refuted. refuted ≡ true → (base : ℕ) (c : List Choice)
-            → StandsFor self.now.problem.now self.now.matrix.now base self.now.limit c
-            store.now.store work.now.tree.steps.items work.now.tree.goals.items
-            work.now.tree.open
-            → IsTrue (is_not_empty c) → IsPruned self.now.problem.now self.now.limit c) }
+            → TreeStands self.now.problem.now self.now.matrix.now base self.now.limit c store.now
+            work.now.tree → IsTrue (is_not_empty c)
+            → IsPruned self.now.problem.now self.now.limit c) }
     {
         let logic = self.problem.setting().logic();
         if !has_labels(logic) {
@@ -127,16 +125,14 @@ impl Space<'_> {
         left: bool,
     ) -> Result<bool, NoMemory>
         requires { (base : ℕ) × (c : List Choice)
-            × StandsFor self.now.problem.now self.now.matrix.now base self.now.limit c
-            store.now.store work.old.tree.steps.items work.old.tree.goals.items
-            work.old.tree.open }
+            × TreeStands self.now.problem.now self.now.matrix.now base self.now.limit c store.now
+            work.old.tree }
         ensures left { IfOk result (λ pruned. pruned ≡ true → left ≡ true) }
         ensures pruned { IfOk result (λ pruned. pruned ≡ true → (base : ℕ) (c : List Choice)
             → IsMatrixOf self.now.problem.now self.now.matrix.now
-            → StandsFor self.now.problem.now self.now.matrix.now base self.now.limit c
-            store.now.store work.old.tree.steps.items work.old.tree.goals.items
-            work.old.tree.open
-            → IsTrue (is_not_empty c) → IsPruned self.now.problem.now self.now.limit c) }
+            → TreeStands self.now.problem.now self.now.matrix.now base self.now.limit c store.now
+            work.old.tree → IsTrue (is_not_empty c)
+            → IsPruned self.now.problem.now self.now.limit c) }
         ensures tree { work.new.tree ≡ work.old.tree }
     {
         if !left {

@@ -1,16 +1,16 @@
 //! The search at one path limit.
 
-ghost use Rattle.std.specs.Prelude.{◌≡◌, ◌≤◌, ◌<◌, ◌-◌, ◌∷◌, [], ℕ, IfOk, List, OnOk};
-ghost use Rattle.std.specs.Prelude.{length, slice_get, true};
+ghost use Rattle.std.specs.Prelude.{◌≡◌, ◌≤◌, ◌<◌, ◌-◌, ◌∷◌, [], ℕ, IfOk, List, OnOk, length, true};
 ghost use Rattle.store_theory.specs.Bindings.{KeepsMarks};
 ghost use Rattle.calculus.specs.Choices.{Choice, start};
 ghost use Rattle.calculus.specs.Counting.{AtLeastMany, MoreThan};
 ghost use Rattle.calculus.specs.Space.{IsEarly, member_cmp};
 ghost use Rattle.search_theory.specs.Matrix.{IsTemplateMatrix};
-ghost use Rattle.search_theory.specs.OrderedChoices.{selection_of};
 ghost use Rattle.term_store.specs.Room.{KeepsRoom, spare};
-ghost use Rattle.connection_search.specs.Exploring.{IfOn, IsCounted, IsEnd, IsSearched};
-ghost use Rattle.connection_search.specs.Exploring.{IsSpace, IsVisiting};
+ghost use Rattle.connection_search.specs.Exploring.{IfOn, IsCounted, IsEnd};
+ghost use Rattle.connection_search.specs.Moments.{ComesNext, CountedAt, EndedAt, Holds, IsSpaceOf};
+ghost use Rattle.connection_search.specs.Moments.{Leads, SearchedAt, VisitingAt, start_by};
+ghost use Rattle.connection_search.specs.Moments.{the_moment};
 ghost use Rattle.connection_search.specs.Outcomes.{IfSteps, IsOutcome};
 
 use crate::exploring::Visit;
@@ -54,36 +54,17 @@ impl Space<'_> {
         work: &mut Work,
         left: &mut bool,
     ) -> Result<Visit, NoMemory>
-        requires { (base : ℕ) × (later : List (List Choice)) × (begun : ℕ)
-            × IsSpace self.now.problem.now self.now.matrix.now self.now.limit
-            × IsVisiting self.now.problem.now self.now.matrix.now base self.now.limit
-            store.old.store
-            work.old.tree.steps.items work.old.tree.goals.items work.old.tree.open
-            [] later begun ledger.old.used left.old }
-        ensures on { IfOk result (λ v. IfOn v ((base : ℕ)
-            (later : List (List Choice)) (begun : ℕ)
-            → IsSpace self.now.problem.now self.now.matrix.now self.now.limit
-            → IsVisiting self.now.problem.now self.now.matrix.now base self.now.limit
-            store.old.store
-            work.old.tree.steps.items work.old.tree.goals.items work.old.tree.open
-            [] later begun ledger.old.used left.old
-            → IsSearched self.now.problem.now self.now.limit later begun ledger.new.used left.new)) }
-        ensures end { IfOk result (λ v. (base : ℕ)
-            (later : List (List Choice)) (begun : ℕ)
-            → IsSpace self.now.problem.now self.now.matrix.now self.now.limit
-            → IsVisiting self.now.problem.now self.now.matrix.now base self.now.limit
-            store.old.store
-            work.old.tree.steps.items work.old.tree.goals.items work.old.tree.open
-            [] later begun ledger.old.used left.old
-            → IsEnd self.now.problem.now self.now.limit begun ledger.new.used ledger.new.budget v) }
-        ensures counted { (base : ℕ)
-            (later : List (List Choice)) (begun : ℕ)
-            → IsSpace self.now.problem.now self.now.matrix.now self.now.limit
-            → IsVisiting self.now.problem.now self.now.matrix.now base self.now.limit
-            store.old.store
-            work.old.tree.steps.items work.old.tree.goals.items work.old.tree.open
-            [] later begun ledger.old.used left.old
-            → IsCounted self.now.problem.now self.now.limit begun ledger.new.used }
+        requires { Holds self.now
+            (VisitingAt (the_moment store.old work.old [] ledger.old left.old)) }
+        ensures on { IfOk result (λ v. IfOn v (Leads self.now
+            (VisitingAt (the_moment store.old work.old [] ledger.old left.old))
+            (SearchedAt (the_moment store.new work.new [] ledger.new left.new)))) }
+        ensures end { IfOk result (λ v. Leads self.now
+            (VisitingAt (the_moment store.old work.old [] ledger.old left.old))
+            (EndedAt (the_moment store.new work.new [] ledger.new left.new) v)) }
+        ensures counted { Leads self.now
+            (VisitingAt (the_moment store.old work.old [] ledger.old left.old))
+            (CountedAt (the_moment store.new work.new [] ledger.new left.new)) }
         ensures budget { ledger.new.budget ≡ ledger.old.budget }
         ensures marks { KeepsMarks store.old.store store.new.store }
         ensures room { KeepsRoom store.old store.new }
@@ -108,31 +89,21 @@ impl Space<'_> {
         clause: ClauseId,
         left: &mut bool,
     ) -> Result<Visit, NoMemory>
-        requires searched { (later : List (List Choice)) × (begun : ℕ)
-            × IsSpace self.now.problem.now self.now.matrix.now self.now.limit
-            × IsSearched self.now.problem.now self.now.limit
-            ((start (selection_of (slice_get self.now.matrix.now clause.0)) ∷ []) ∷ later)
-            begun ledger.old.used left.old }
+        requires searched { (later : List (List Choice)) × (begun : ℕ) × IsSpaceOf self.now
+            × ComesNext self.now ledger.old left.old (start_by self.now clause.0 ∷ later) begun }
         requires clause { clause.0 < length self.now.matrix.now }
         requires steps { work.old.tree.steps.items ≡ [] }
         requires goals { work.old.tree.goals.items ≡ [] }
         ensures on { IfOk result (λ v. IfOn v ((later : List (List Choice)) (begun : ℕ)
-            → IsSpace self.now.problem.now self.now.matrix.now self.now.limit
-            → IsSearched self.now.problem.now self.now.limit
-            ((start (selection_of (slice_get self.now.matrix.now clause.0)) ∷ []) ∷ later)
-            begun ledger.old.used left.old
-            → IsSearched self.now.problem.now self.now.limit later begun ledger.new.used left.new)) }
+            → IsSpaceOf self.now
+            → ComesNext self.now ledger.old left.old (start_by self.now clause.0 ∷ later) begun
+            → ComesNext self.now ledger.new left.new later begun)) }
         ensures end { IfOk result (λ v. (later : List (List Choice)) (begun : ℕ)
-            → IsSpace self.now.problem.now self.now.matrix.now self.now.limit
-            → IsSearched self.now.problem.now self.now.limit
-            ((start (selection_of (slice_get self.now.matrix.now clause.0)) ∷ []) ∷ later)
-            begun ledger.old.used left.old
+            → IsSpaceOf self.now
+            → ComesNext self.now ledger.old left.old (start_by self.now clause.0 ∷ later) begun
             → IsEnd self.now.problem.now self.now.limit begun ledger.new.used ledger.new.budget v) }
-        ensures counted { (later : List (List Choice)) (begun : ℕ)
-            → IsSpace self.now.problem.now self.now.matrix.now self.now.limit
-            → IsSearched self.now.problem.now self.now.limit
-            ((start (selection_of (slice_get self.now.matrix.now clause.0)) ∷ []) ∷ later)
-            begun ledger.old.used left.old
+        ensures counted { (later : List (List Choice)) (begun : ℕ) → IsSpaceOf self.now
+            → ComesNext self.now ledger.old left.old (start_by self.now clause.0 ∷ later) begun
             → IsCounted self.now.problem.now self.now.limit begun ledger.new.used }
         ensures budget { ledger.new.budget ≡ ledger.old.budget }
         ensures store { OnOk result (store.new.store ≡ store.old.store) }
@@ -160,7 +131,7 @@ impl Space<'_> {
         ledger: &mut Ledger,
         store: &mut Store,
     ) -> Result<Outcome, NoMemory>
-        requires { IsSpace self.now.problem.now self.now.matrix.now self.now.limit }
+        requires { IsSpaceOf self.now }
         ensures outcome { IfOk result (IsOutcome self.now.problem.now self.now.limit) }
         ensures steps { IfOk result (λ o. IfSteps o ((ledger.new.used ≡ ledger.new.budget)
             × MoreThan member_cmp (IsEarly self.now.problem.now self.now.limit)

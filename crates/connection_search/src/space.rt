@@ -13,8 +13,7 @@ ghost use Rattle.search_theory.specs.OrderedChoices.{extension_at};
 ghost use Rattle.search_theory.specs.States.{CellGoal};
 ghost use Rattle.term_store.specs.Room.{KeepsRoom};
 ghost use Rattle.connection_search.specs.Points.{IsHere};
-ghost use Rattle.connection_search.specs.Running.{ExtendsBy, IsAtGoal};
-ghost use Rattle.connection_search.specs.Running.{IsMatrixOf, IsLeftFound};
+ghost use Rattle.connection_search.specs.Running.{ExtendsBy, GoalStands, IsLeftFound, IsMatrixOf};
 
 use crate::moves::Work;
 use crate::point::Point;
@@ -46,23 +45,20 @@ impl Space<'_> {
     ) -> Result<bool, NoMemory>
         requires at { (P : Problem) × (base : ℕ) × (d : ℕ) × (c : List Choice) × (g : CellGoal)
             × IsMatrixOf P self.now.matrix.now
-            × IsAtGoal P self.now.matrix.now base (d + 1) c store.old.store
-            work.old.tree.steps.items work.old.tree.goals.items here.goal g
+            × GoalStands P self.now.matrix.now base (d + 1) c store.old work.old.tree here.goal g
             × ExtendsBy self.now.matrix.now (d + 1) g (the_place place) }
         requires here { IsHere here store.old.store work.old.tree.steps.items
             work.old.tree.goals.items work.old.tree.open }
         ensures left { IfOk result (λ left. left ≡ true
             → (P : Problem) (base d : ℕ) (c : List Choice) (g : CellGoal)
             → IsMatrixOf P self.now.matrix.now
-            → IsAtGoal P self.now.matrix.now base (d + 1) c store.old.store
-            work.old.tree.steps.items work.old.tree.goals.items here.goal g
+            → GoalStands P self.now.matrix.now base (d + 1) c store.old work.old.tree here.goal g
             → ExtendsBy self.now.matrix.now (d + 1) g (the_place place) → length g.path ≡ d
             → IsLeft P d) }
         ensures dead { IfOk result (λ left. left ≡ false
             → (P : Problem) (base d : ℕ) (c : List Choice) (g : CellGoal)
             → IsMatrixOf P self.now.matrix.now
-            → IsAtGoal P self.now.matrix.now base (d + 1) c store.old.store
-            work.old.tree.steps.items work.old.tree.goals.items here.goal g
+            → GoalStands P self.now.matrix.now base (d + 1) c store.old work.old.tree here.goal g
             → ExtendsBy self.now.matrix.now (d + 1) g (the_place place)
             → IsDead P (c ++ extension_at self.now.matrix.now (the_place place) ∷ [])) }
         ensures store { OnOk result (store.new.store ≡ store.old.store) }
@@ -86,22 +82,19 @@ impl Space<'_> {
     fn is_left_at(&self, store: &mut Store, work: &mut Work, goal: usize) -> Result<bool, NoMemory>
         requires { (P : Problem) × (base : ℕ) × (d : ℕ) × (c : List Choice) × (g : CellGoal)
             × IsMatrixOf P self.now.matrix.now
-            × IsAtGoal P self.now.matrix.now base d c store.old.store work.old.tree.steps.items
-            work.old.tree.goals.items goal g
+            × GoalStands P self.now.matrix.now base d c store.old work.old.tree goal g
             × (self.now.limit ≡ d) × (d ≤ 200) × (work.old.tree.open ≡ Some goal) }
         ensures left { IfOk result (λ left. left ≡ true
             → (P : Problem) (base d : ℕ) (c : List Choice) (g : CellGoal)
             → IsMatrixOf P self.now.matrix.now
-            → IsAtGoal P self.now.matrix.now base d c store.old.store work.old.tree.steps.items
-            work.old.tree.goals.items goal g
+            → GoalStands P self.now.matrix.now base d c store.old work.old.tree goal g
             → self.now.limit ≡ d → d ≤ 200 → length g.path ≡ d → IsLeft P d) }
         ensures dead { IfOk result (λ left. left ≡ false
             → (P : Problem) (base d : ℕ) (c : List Choice) (g : CellGoal)
             → IsMatrixOf P self.now.matrix.now
-            → IsAtGoal P self.now.matrix.now base d c store.old.store work.old.tree.steps.items
-            work.old.tree.goals.items goal g
-            → self.now.limit ≡ d → d ≤ 200
-            → (sides : List Side) (place : ℕ) → IsChoiceAt P (d + 1) g (extension sides place)
+            → GoalStands P self.now.matrix.now base d c store.old work.old.tree goal g
+            → self.now.limit ≡ d → d ≤ 200 → (sides : List Side) (place : ℕ)
+            → IsChoiceAt P (d + 1) g (extension sides place)
             → IsDead P (c ++ extension sides place ∷ [])) }
         ensures store { OnOk result (store.new.store ≡ store.old.store) }
         ensures tree { OnOk result ((work.new.tree.steps.items ≡ work.old.tree.steps.items)
@@ -137,14 +130,11 @@ impl Space<'_> {
     ) -> Result<bool, NoMemory>
         requires { (P : Problem) × (base : ℕ) × (d : ℕ) × (c : List Choice) × (g : CellGoal)
             × IsMatrixOf P self.now.matrix.now
-            × IsAtGoal P self.now.matrix.now base d c store.old.store work.old.tree.steps.items
-            work.old.tree.goals.items goal g
+            × GoalStands P self.now.matrix.now base d c store.old work.old.tree goal g
             × (self.now.limit ≡ d) × (d ≤ 200) × (work.old.tree.open ≡ Some goal) }
-        ensures found { IfOk result (λ left.
-            (P : Problem) (base d : ℕ) (c : List Choice) (g : CellGoal)
-            → IsMatrixOf P self.now.matrix.now
-            → IsAtGoal P self.now.matrix.now base d c store.old.store work.old.tree.steps.items
-            work.old.tree.goals.items goal g
+        ensures found { IfOk result (λ left. (P : Problem) (base d : ℕ) (c : List Choice)
+            (g : CellGoal) → IsMatrixOf P self.now.matrix.now
+            → GoalStands P self.now.matrix.now base d c store.old work.old.tree goal g
             → self.now.limit ≡ d → d ≤ 200 → IsLeftFound P d c g known left) }
         ensures store { OnOk result (store.new.store ≡ store.old.store) }
         ensures tree { OnOk result ((work.new.tree.steps.items ≡ work.old.tree.steps.items)
