@@ -23,7 +23,7 @@ use crate::point::Point;
 use crate::pruning::Pruning;
 use crate::searching::clause_id;
 use crate::space::Space;
-use cop_base::{ClauseId, Ledger, NoMemory};
+use cop_base::{ClauseId, Ledger, NoMemory, PathLimit};
 use logic_rules::Problem;
 use matrix_build::Matrix;
 use std::alloc::Global;
@@ -256,22 +256,20 @@ pub fn deepen_cut(
     alloc: Global,
     problem: &Problem,
     matrix: &Matrix,
-    cut_limit: u8,
+    cut_limit: PathLimit,
     ledger: &mut Ledger,
 ) -> Result<CutAnswer, NoMemory>
-    requires matrix { IsTemplateMatrix problem.now matrix.now }
-    requires from_one { 1 ≤ cut_limit }
-    requires to_200 { cut_limit ≤ 200 }
+    requires { IsTemplateMatrix problem.now matrix.now }
     ensures answer { IfOk result
-        (IsCutAnswer problem.now cut_limit (ledger.old.budget - ledger.old.used)) }
+        (IsCutAnswer problem.now cut_limit.number (ledger.old.budget - ledger.old.used)) }
     ensures ended { IfOk result (λ a. IfCutEnded a (ledger.new.used ≡ ledger.new.budget)) }
-    ensures count { (e : ℕ) → IsCutLimit problem.now cut_limit e
+    ensures count { (e : ℕ) → IsCutLimit problem.now cut_limit.number e
         → AtLeastMany member_cmp (IsMember problem.now e) (ledger.new.used - ledger.old.used) }
     ensures rises { ledger.old.used ≤ ledger.new.used }
     ensures budget { ledger.new.budget ≡ ledger.old.budget }
 {
     let _setting = problem.setting();
-    for passed in 0..cut_limit {
+    for passed in 0..cut_limit.number {
         let limit = passed + 1;
         let space = Space {
             problem,

@@ -5,7 +5,7 @@ ghost use Rattle.search_theory.specs.Matrix.{IsTemplateMatrix};
 ghost use Rattle.connection_search.specs.Outcomes.{IfEnded, IsDeepAnswer};
 
 use crate::searching::{Outcome, search};
-use cop_base::{Ledger, NoMemory};
+use cop_base::{Ledger, NoMemory, PathLimit};
 use logic_rules::Problem;
 use matrix_build::Matrix;
 use std::alloc::Global;
@@ -30,29 +30,35 @@ pub fn deepen(
     alloc: Global,
     problem: &Problem,
     matrix: &Matrix,
-    max_limit: u8,
+    max_limit: PathLimit,
     ledger: &mut Ledger,
 ) -> Result<Answer, NoMemory>
-    requires matrix { IsTemplateMatrix problem.now matrix.now }
-    requires from_one { 1 ≤ max_limit }
-    requires to_200 { max_limit ≤ 200 }
+    requires { IsTemplateMatrix problem.now matrix.now }
     ensures answer { IfOk result
-        (IsDeepAnswer problem.now max_limit (ledger.old.budget - ledger.old.used)) }
+        (IsDeepAnswer problem.now max_limit.number (ledger.old.budget - ledger.old.used)) }
     ensures ended { IfOk result (λ a. IfEnded a (ledger.new.used ≡ ledger.new.budget)) }
     ensures rises { ledger.old.used ≤ ledger.new.used }
     ensures budget { ledger.new.budget ≡ ledger.old.budget }
 {
-    for passed in 0..max_limit {
-        let limit = passed + 1;
+    for passed in 0..max_limit.number {
+        let number = passed + 1;
+        let limit = PathLimit { number };
         match search(alloc, problem, matrix, limit, ledger)? {
-            Outcome::Closed(tableau) => return Ok(Answer::Closed { limit, tableau }),
+            Outcome::Closed(tableau) => {
+                return Ok(Answer::Closed {
+                    limit: number,
+                    tableau,
+                });
+            }
             Outcome::Steps => return Ok(Answer::Steps { limit: passed }),
             Outcome::Empty { left } => {
                 if !left {
-                    return Ok(Answer::NoTableau { limit });
+                    return Ok(Answer::NoTableau { limit: number });
                 }
             }
         }
     }
-    Ok(Answer::Exhausted { limit: max_limit })
+    Ok(Answer::Exhausted {
+        limit: max_limit.number,
+    })
 }

@@ -17,7 +17,7 @@ use crate::exploring::Visit;
 use crate::moves::Work;
 use crate::pruning::Pruning;
 use crate::space::Space;
-use cop_base::{ClauseId, Ledger, NoMemory};
+use cop_base::{ClauseId, Ledger, NoMemory, PathLimit};
 use logic_rules::Problem;
 use matrix_build::Matrix;
 use std::alloc::Global;
@@ -165,18 +165,17 @@ pub fn search_with(
     alloc: Global,
     problem: &Problem,
     matrix: &Matrix,
-    limit: u8,
+    limit: PathLimit,
     ledger: &mut Ledger,
     store: &mut Store,
     pruning: Pruning,
 ) -> Result<Outcome, NoMemory>
-    requires matrix { IsTemplateMatrix problem.now matrix.now }
-    requires from_one { 1 ≤ limit }
-    requires to_200 { limit ≤ 200 }
-    ensures outcome { IfOk result (IsOutcome problem.now limit) }
+    requires { IsTemplateMatrix problem.now matrix.now }
+    ensures outcome { IfOk result (IsOutcome problem.now limit.number) }
     ensures steps { IfOk result (λ o. IfSteps o ((ledger.new.used ≡ ledger.new.budget)
-        × MoreThan member_cmp (IsEarly problem.now limit) (ledger.old.budget - ledger.old.used))) }
-    ensures count { AtLeastMany member_cmp (IsEarly problem.now limit)
+        × MoreThan member_cmp (IsEarly problem.now limit.number)
+        (ledger.old.budget - ledger.old.used))) }
+    ensures count { AtLeastMany member_cmp (IsEarly problem.now limit.number)
         (ledger.new.used - ledger.old.used) }
     ensures rises { ledger.old.used ≤ ledger.new.used }
     ensures budget { ledger.new.budget ≡ ledger.old.budget }
@@ -188,7 +187,7 @@ pub fn search_with(
     let space = Space {
         problem,
         matrix,
-        limit,
+        limit: limit.number,
         pruning,
     };
     let outcome = space.run(alloc, ledger, store);
@@ -201,17 +200,16 @@ pub fn search_in(
     alloc: Global,
     problem: &Problem,
     matrix: &Matrix,
-    limit: u8,
+    limit: PathLimit,
     ledger: &mut Ledger,
     store: &mut Store,
 ) -> Result<Outcome, NoMemory>
-    requires matrix { IsTemplateMatrix problem.now matrix.now }
-    requires from_one { 1 ≤ limit }
-    requires to_200 { limit ≤ 200 }
-    ensures outcome { IfOk result (IsOutcome problem.now limit) }
+    requires { IsTemplateMatrix problem.now matrix.now }
+    ensures outcome { IfOk result (IsOutcome problem.now limit.number) }
     ensures steps { IfOk result (λ o. IfSteps o ((ledger.new.used ≡ ledger.new.budget)
-        × MoreThan member_cmp (IsEarly problem.now limit) (ledger.old.budget - ledger.old.used))) }
-    ensures count { AtLeastMany member_cmp (IsEarly problem.now limit)
+        × MoreThan member_cmp (IsEarly problem.now limit.number)
+        (ledger.old.budget - ledger.old.used))) }
+    ensures count { AtLeastMany member_cmp (IsEarly problem.now limit.number)
         (ledger.new.used - ledger.old.used) }
     ensures rises { ledger.old.used ≤ ledger.new.used }
     ensures budget { ledger.new.budget ≡ ledger.old.budget }
@@ -227,16 +225,15 @@ pub fn search(
     alloc: Global,
     problem: &Problem,
     matrix: &Matrix,
-    limit: u8,
+    limit: PathLimit,
     ledger: &mut Ledger,
 ) -> Result<Outcome, NoMemory>
-    requires matrix { IsTemplateMatrix problem.now matrix.now }
-    requires from_one { 1 ≤ limit }
-    requires to_200 { limit ≤ 200 }
-    ensures outcome { IfOk result (IsOutcome problem.now limit) }
+    requires { IsTemplateMatrix problem.now matrix.now }
+    ensures outcome { IfOk result (IsOutcome problem.now limit.number) }
     ensures steps { IfOk result (λ o. IfSteps o ((ledger.new.used ≡ ledger.new.budget)
-        × MoreThan member_cmp (IsEarly problem.now limit) (ledger.old.budget - ledger.old.used))) }
-    ensures count { AtLeastMany member_cmp (IsEarly problem.now limit)
+        × MoreThan member_cmp (IsEarly problem.now limit.number)
+        (ledger.old.budget - ledger.old.used))) }
+    ensures count { AtLeastMany member_cmp (IsEarly problem.now limit.number)
         (ledger.new.used - ledger.old.used) }
     ensures rises { ledger.old.used ≤ ledger.new.used }
     ensures budget { ledger.new.budget ≡ ledger.old.budget }

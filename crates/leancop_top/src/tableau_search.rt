@@ -10,7 +10,7 @@ ghost use Rattle.tableau_core.specs.Numbered.TableauView.{the_tableau};
 use crate::status::Status;
 use command_line::Bounds;
 use connection_search::{Answer, CutAnswer, deepen, deepen_cut};
-use cop_base::{Ledger, NoMemory};
+use cop_base::{Ledger, NoMemory, PathLimit};
 use logic_rules::Problem;
 use matrix_build::{Matrix, MatrixFault, build_matrix};
 use std::alloc::Global;
@@ -44,7 +44,8 @@ fn search_cut(
     let Some(cut) = bounds.cut else {
         return Ok(None);
     };
-    let greatest = cut.number.min(bounds.limit.number);
+    let number = cut.number.min(bounds.limit.number);
+    let greatest = PathLimit { number };
     match deepen_cut(alloc, problem, matrix, greatest, ledger)? {
         CutAnswer::Closed { limit, tableau } => Ok(Some((limit, tableau))),
         CutAnswer::Open => Ok(None),
@@ -68,7 +69,7 @@ pub fn search(alloc: Global, problem: &Problem, bounds: Bounds) -> Result<Search
         return Ok(Searched::Found { limit, tableau });
     }
     let mut ledger = Ledger::new(steps);
-    match deepen(alloc, problem, &matrix, bounds.limit.number, &mut ledger)? {
+    match deepen(alloc, problem, &matrix, bounds.limit, &mut ledger)? {
         Answer::Closed { limit, tableau } => Ok(Searched::Found { limit, tableau }),
         Answer::Exhausted { limit } => Ok(Searched::Fruitless(Status::Exhausted { limit })),
         Answer::NoTableau { limit } => Ok(Searched::Fruitless(Status::NoTableau { limit })),

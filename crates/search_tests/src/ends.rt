@@ -1,9 +1,7 @@
 //! What a search of a problem comes to.
 
-ghost use Rattle.std.specs.Prelude.{◌≤◌};
-
 use connection_search::{Answer, CutAnswer, deepen, deepen_cut};
-use cop_base::Ledger;
+use cop_base::{Ledger, PathLimit};
 use logic_rules::Problem;
 use matrix_build::{MatrixFault, build_matrix};
 use std::alloc::Global;
@@ -41,7 +39,8 @@ fn cut_end_of(answer: CutAnswer) -> End {
 pub fn deepened(alloc: Global, problem: &Problem, budget: u64) -> Result<(End, u64), MatrixFault> {
     let matrix = build_matrix(alloc, problem)?;
     let mut ledger = Ledger::new(budget);
-    let answer = deepen(alloc, problem, &matrix, 10, &mut ledger)?;
+    let limit = PathLimit { number: 10 };
+    let answer = deepen(alloc, problem, &matrix, limit, &mut ledger)?;
     Ok((end_of(answer), ledger.used))
 }
 
@@ -49,12 +48,9 @@ pub fn deepened(alloc: Global, problem: &Problem, budget: u64) -> Result<(End, u
 pub fn cut(
     alloc: Global,
     problem: &Problem,
-    limit: u8,
+    limit: PathLimit,
     budget: u64,
-) -> Result<(End, u64), MatrixFault>
-    requires from_one { 1 ≤ limit }
-    requires to_200 { limit ≤ 200 }
-{
+) -> Result<(End, u64), MatrixFault> {
     let matrix = build_matrix(alloc, problem)?;
     let mut ledger = Ledger::new(budget);
     let answer = deepen_cut(alloc, problem, &matrix, limit, &mut ledger)?;

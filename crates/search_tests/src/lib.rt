@@ -17,6 +17,8 @@ mod pruned;
 #[cfg(test)]
 mod searches;
 #[cfg(test)]
+mod shared_values;
+#[cfg(test)]
 mod stores;
 #[cfg(test)]
 mod unifying;

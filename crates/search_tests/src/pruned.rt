@@ -1,11 +1,10 @@
 //! Searches of random clause sets by all that drops lists early and by none of it: they answer the
 //! same, with no more steps.
 
-ghost use Rattle.std.specs.Prelude.{◌≤◌};
 ghost use Rattle.search_theory.specs.Matrix.{IsTemplateMatrix};
 
 use connection_search::{Outcome, Pruning, search_with};
-use cop_base::{Ledger, NoMemory};
+use cop_base::{Ledger, NoMemory, PathLimit};
 use logic_rules::{Domains, Logic, Problem};
 use matrix_build::{Matrix, MatrixFault, build_matrix};
 use std::alloc::Global;
@@ -37,12 +36,10 @@ fn searched(
     alloc: Global,
     problem: &Problem,
     matrix: &Matrix,
-    limit: u8,
+    limit: PathLimit,
     pruning: Pruning,
 ) -> Result<(End, u64), MatrixFault>
-    requires matrix { IsTemplateMatrix problem.now matrix.now }
-    requires from_one { 1 ≤ limit }
-    requires to_200 { limit ≤ 200 }
+    requires { IsTemplateMatrix problem.now matrix.now }
 {
     let mut store = Store::new(alloc)?;
     let mut ledger = Ledger::new(STEPS);
@@ -95,7 +92,7 @@ impl Seen {
 fn compare(alloc: Global, problem: &Problem, seen: &mut Seen) -> Result<(), MatrixFault> {
     let matrix = build_matrix(alloc, problem)?;
     for passed in 0..4 {
-        let limit = passed + 1;
+        let limit = PathLimit { number: passed + 1 };
         let none = searched(alloc, problem, &matrix, limit, NONE)?;
         let ahead = searched(alloc, problem, &matrix, limit, AHEAD)?;
         let all = searched(alloc, problem, &matrix, limit, Pruning::all())?;

@@ -2,7 +2,7 @@
 
 use crate::ends::{End, deepened};
 use connection_search::{Outcome, search_in};
-use cop_base::{Ledger, NoMemory};
+use cop_base::{Ledger, NoMemory, PathLimit};
 use logic_rules::{Domains, Logic, Problem};
 use matrix_build::{MatrixFault, build_matrix};
 use std::alloc::Global;
@@ -57,7 +57,8 @@ fn size_after(alloc: Global, problem: &Problem) -> Result<usize, MatrixFault> {
     let matrix = build_matrix(alloc, problem)?;
     let mut ledger = Ledger::new(10_000_000);
     let mut store = Store::new(alloc)?;
-    match search_in(alloc, problem, &matrix, 41, &mut ledger, &mut store)? {
+    let limit = PathLimit { number: 41 };
+    match search_in(alloc, problem, &matrix, limit, &mut ledger, &mut store)? {
         Outcome::Closed(_) => Ok(store.size()),
         _ => Ok(0),
     }

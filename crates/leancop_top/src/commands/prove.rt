@@ -24,7 +24,7 @@ use cop_base::{Library, NoMemory};
 use derivation_text::{Version, print};
 use logic_rules::Problem;
 use sequent_calc::Derivation;
-use sequent_convert::shared::convert;
+use sequent_convert::convert;
 use std::alloc::Global;
 use tableau_core::shared::Tableau;
 

@@ -9,14 +9,8 @@ use Rattle.connection_search.proofs.deepening.deepen.Goals as goal
 pub loop-passed-init : goal.loop-passed-init
 loop-passed-init c = record { passed = deepened-none c.args.problem.now c.args.ledger.now.used; budget = refl }
 
-pub search-requires-clause-matrix : goal.search-requires-clause-matrix
-search-requires-clause-matrix c = c.requires.matrix
-
-pub search-requires-clause-from_one : goal.search-requires-clause-from_one
-search-requires-clause-from_one c = omega arith
-
-pub search-requires-clause-to_200 : goal.search-requires-clause-to_200
-search-requires-clause-to_200 c = let l = c.requires.to_200 in omega arith
+pub search-requires : goal.search-requires
+search-requires c = c.requires
 
 pub returns-in_err-tableau-clause-rises : goal.returns-in_err-tableau-clause-rises
 returns-in_err-tableau-clause-rises c = let a = c.loop-passed.invariant.passed.rises in let b = c.search.ensures.rises in omega (arith, a, b)
@@ -27,8 +21,8 @@ returns-in_err-tableau-clause-budget c = c.search.ensures.budget ∙ c.loop-pass
 pub returns-in-Closed-clause-answer : goal.returns-in-Closed-clause-answer
 returns-in-Closed-clause-answer c =
     let closed = rw c.in-Closed.is at c.in_ok-tableau.ensures.outcome in
-    let l : c.loop-passed.passed < c.args.max_limit = omega arith in
-    (deepened-derived c.args.problem.now c.args.max_limit c.loop-passed.passed c.args.ledger.now.used c.loop-passed.ledger.used c.loop-passed.invariant.passed l (record { tableau = the_tableau c.in-Closed.tableau; closed = closed }), closed)
+    let l : c.loop-passed.passed < c.args.max_limit.number = omega arith in
+    (deepened-derived c.args.problem.now c.args.max_limit.number c.loop-passed.passed c.args.ledger.now.used c.loop-passed.ledger.used c.loop-passed.invariant.passed l (record { tableau = the_tableau c.in-Closed.tableau; closed = closed }), closed)
 
 pub returns-in-Closed-clause-rises : goal.returns-in-Closed-clause-rises
 returns-in-Closed-clause-rises c = let a = c.loop-passed.invariant.passed.rises in let b = c.search.ensures.rises in omega (arith, a, b)
@@ -39,7 +33,7 @@ returns-in-Closed-clause-budget c = c.search.ensures.budget ∙ c.loop-passed.in
 pub returns-in-Steps-clause-answer : goal.returns-in-Steps-clause-answer
 returns-in-Steps-clause-answer c =
     let ended = rw c.in-Steps.is at c.in_ok-tableau.ensures.steps in
-    let l : c.loop-passed.passed < c.args.max_limit = omega arith in
+    let l : c.loop-passed.passed < c.args.max_limit.number = omega arith in
     let more = deepened-steps c.args.problem.now c.loop-passed.passed c.args.ledger.now.used c.loop-passed.ledger.used c.loop-passed.ledger.budget c.loop-passed.invariant.passed ended.1 in
     (l, more.0, subst (λ b. MoreThan member_cmp (ComesNoLater c.args.problem.now c.loop-passed.passed) (b - c.args.ledger.now.used)) c.loop-passed.invariant.budget more.1)
 
@@ -55,8 +49,8 @@ returns-in-Steps-clause-budget c = c.search.ensures.budget ∙ c.loop-passed.inv
 pub returns-then-not-left-clause-answer : goal.returns-then-not-left-clause-answer
 returns-then-not-left-clause-answer c =
     let none = rw c.in-Empty.is at c.in_ok-tableau.ensures.outcome in
-    let l : c.loop-passed.passed < c.args.max_limit = omega arith in
-    deepened-no_tableau c.args.problem.now c.args.max_limit c.loop-passed.passed c.args.ledger.now.used c.loop-passed.ledger.used c.loop-passed.invariant.passed l none.0 (λ left. false≢true (sym c.if-not-left.true ∙ none.2 left))
+    let l : c.loop-passed.passed < c.args.max_limit.number = omega arith in
+    deepened-no_tableau c.args.problem.now c.args.max_limit.number c.loop-passed.passed c.args.ledger.now.used c.loop-passed.ledger.used c.loop-passed.invariant.passed l none.0 (λ left. false≢true (sym c.if-not-left.true ∙ none.2 left))
 
 pub returns-then-not-left-clause-rises : goal.returns-then-not-left-clause-rises
 returns-then-not-left-clause-rises c = let a = c.loop-passed.invariant.passed.rises in let b = c.search.ensures.rises in omega (arith, a, b)
@@ -73,7 +67,7 @@ loop-passed-preserved c =
     }
 
 pub returns-clause-answer : goal.returns-clause-answer
-returns-clause-answer c = let l : c.loop-passed.passed ≡ c.args.max_limit = omega arith in deepened-exhausted c.args.problem.now c.args.max_limit c.loop-passed.passed c.args.ledger.now.used c.loop-passed.ledger.used c.loop-passed.invariant.passed c.requires.from_one l
+returns-clause-answer c = let l : c.loop-passed.passed ≡ c.args.max_limit.number = omega arith in deepened-exhausted c.args.problem.now c.args.max_limit.number c.loop-passed.passed c.args.ledger.now.used c.loop-passed.ledger.used c.loop-passed.invariant.passed c.args.max_limit.from_one l
 
 pub returns-clause-rises : goal.returns-clause-rises
 returns-clause-rises c = c.loop-passed.invariant.passed.rises

@@ -7,14 +7,8 @@ returns-in_err-store-clause-count c = ([], record { rising = tt; members = tt },
 pub returns-in_err-store-clause-rises : goal.returns-in_err-store-clause-rises
 returns-in_err-store-clause-rises c = omega arith
 
-pub search_in-requires-clause-matrix : goal.search_in-requires-clause-matrix
-search_in-requires-clause-matrix c = c.requires.matrix
-
-pub search_in-requires-clause-from_one : goal.search_in-requires-clause-from_one
-search_in-requires-clause-from_one c = c.requires.from_one
-
-pub search_in-requires-clause-to_200 : goal.search_in-requires-clause-to_200
-search_in-requires-clause-to_200 c = c.requires.to_200
+pub search_in-requires : goal.search_in-requires
+search_in-requires c = c.requires
 
 pub returns-clause-outcome : goal.returns-clause-outcome
 returns-clause-outcome c = c.search_in.ensures.outcome

@@ -1,13 +1,7 @@
 use Rattle.connection_search.proofs.searching.search_in.Goals as goal
 
-pub search_with-requires-clause-matrix : goal.search_with-requires-clause-matrix
-search_with-requires-clause-matrix c = c.requires.matrix
-
-pub search_with-requires-clause-from_one : goal.search_with-requires-clause-from_one
-search_with-requires-clause-from_one c = c.requires.from_one
-
-pub search_with-requires-clause-to_200 : goal.search_with-requires-clause-to_200
-search_with-requires-clause-to_200 c = c.requires.to_200
+pub search_with-requires : goal.search_with-requires
+search_with-requires c = c.requires
 
 pub returns-clause-outcome : goal.returns-clause-outcome
 returns-clause-outcome c = c.search_with.ensures.outcome

@@ -7,7 +7,7 @@ use Rattle.connection_search.proofs.SearchedLaws.{ok-map, room-both, space-of, s
 use Rattle.connection_search.proofs.searching.search_with.Goals as goal
 
 pub run-outcome-requires : goal.run-outcome-requires
-run-outcome-requires c = space-of c.args.problem.now c.args.matrix.now c.args.limit c.setting-setting.ensures.well c.requires.matrix c.requires.from_one c.requires.to_200
+run-outcome-requires c = space-of c.args.problem.now c.args.matrix.now c.args.limit.number c.setting-setting.ensures.well c.requires c.args.limit.from_one c.args.limit.to_most
 
 pub undo-requires : goal.undo-requires
 undo-requires c = (c.run-outcome.ensures.marks (the_mark c.mark-start.result) c.mark-start.ensures.good).0
@@ -17,10 +17,10 @@ returns-clause-outcome c = c.run-outcome.ensures.outcome
 
 pub returns-clause-steps : goal.returns-clause-steps
 returns-clause-steps c =
-    let Before : Type 0 = (c.run-outcome.new.ledger.used ≡ c.run-outcome.new.ledger.budget) × MoreThan member_cmp (IsEarly c.args.problem.now c.args.limit) (c.run-outcome.new.ledger.used - c.args.ledger.now.used) in
-    let After : Type 0 = (c.run-outcome.new.ledger.used ≡ c.run-outcome.new.ledger.budget) × MoreThan member_cmp (IsEarly c.args.problem.now c.args.limit) (c.args.ledger.now.budget - c.args.ledger.now.used) in
+    let Before : Type 0 = (c.run-outcome.new.ledger.used ≡ c.run-outcome.new.ledger.budget) × MoreThan member_cmp (IsEarly c.args.problem.now c.args.limit.number) (c.run-outcome.new.ledger.used - c.args.ledger.now.used) in
+    let After : Type 0 = (c.run-outcome.new.ledger.used ≡ c.run-outcome.new.ledger.budget) × MoreThan member_cmp (IsEarly c.args.problem.now c.args.limit.number) (c.args.ledger.now.budget - c.args.ledger.now.used) in
     ok-map c.run-outcome.result (λ o. IfSteps o Before) (λ o. IfSteps o After)
-    (λ o h. steps-map o Before After (λ e. (e.0, subst (MoreThan member_cmp (IsEarly c.args.problem.now c.args.limit)) (ap (λ n. n - c.args.ledger.now.used) (e.0 ∙ c.run-outcome.ensures.budget)) e.1)) h)
+    (λ o h. steps-map o Before After (λ e. (e.0, subst (MoreThan member_cmp (IsEarly c.args.problem.now c.args.limit.number)) (ap (λ n. n - c.args.ledger.now.used) (e.0 ∙ c.run-outcome.ensures.budget)) e.1)) h)
     c.run-outcome.ensures.steps
 
 pub returns-clause-count : goal.returns-clause-count
