@@ -1,6 +1,6 @@
 # shellcheck shell=bash disable=SC2154
-# bench/fuzz.py, bench/deep.py and bench/refuse_memory.py: a few cases of each, and false programs, which they tell.
-for script in fuzz deep refuse_memory; do
+# bench/fuzz.py, bench/deep.py, bench/refuse_memory.py and bench/shared.py: a few cases of each, and false programs, which they tell.
+for script in fuzz deep refuse_memory shared; do
     same "bench/$script.py --help" "$("bench/$script.py" --help | sed -n 1p)" "bench/$script.py [options]"
     "bench/$script.py" --prgoram=x >/dev/null 2>&1
     same "an unknown option of bench/$script.py" "$?" 1
@@ -25,6 +25,8 @@ has 'bench/deep.py with that program' "$(bench/deep.py "--program=$folder/false"
 false_program 'echo "bad word $$"; exit 5'
 same 'bench/fuzz.py with a program that answers anew each time' "$(fuzz "--program=$folder/false" | last)" '20 cases, 20 broke'
 has 'bench/deep.py' "$(bench/deep.py "--program=$LEANCOP" --stacks=8192 --filter='^(490|501) negations$' | last)" '2 inputs, 0 told'
+has 'bench/shared.py with that program' "$(bench/shared.py "--program=$folder/false" --filter='^boxes-d-10$' | last)" '1 problems, 1 without'
+has 'bench/shared.py' "$(bench/shared.py "--program=$LEANCOP" --filter='^(quantifiers|boxes-s4)-30$' | last)" '2 problems, 0 without'
 
 if command -v cc >/dev/null; then
     refuse() { bench/refuse_memory.py --filter='^prove first.p$' "$@" | last; }
