@@ -1,11 +1,11 @@
-//! Small formulas, symbols and ground values, worked out by hand.
+//! Small formulas and symbols, worked out by hand.
 
 ghost use Rattle.std.specs.Prelude.{◌≤◌, ◌^◌};
 
 use cop_base::{NoMemory, PosId, SymbolId, Text};
 use formula_core::{
-    Formula, GroundLabel, GroundMark, GroundTerm, GroundTerms, Shape, Sign, Symbol, SymbolClass,
-    Symbols, Term, Terms, Value, Values, clause_count, literal_count, nesting, node_count,
+    Formula, Shape, Sign, Symbol, SymbolClass, Symbols, Term, Terms, clause_count, literal_count,
+    nesting, node_count,
 };
 use logic_rules::{Domains, Logic, Problem};
 use std::alloc::Global;
@@ -135,68 +135,5 @@ fn numbers_two(alloc: Global, symbols: &mut Symbols) -> bool {
 fn numbers_symbols(rt: HostRuntime) -> Result<(), Fail> {
     let mut symbols = Symbols::new(rt.alloc());
     assert!(rt; numbers_two(rt.alloc(), &mut symbols));
-    Ok(())
-}
-
-fn spare_label(alloc: Global, number: u32) -> Result<GroundLabel, NoMemory> {
-    let mut label = GroundLabel::new(alloc);
-    label.push(GroundMark::Spare(number))?;
-    Ok(label)
-}
-
-fn two_values(alloc: Global, number: u32) -> Result<Values, NoMemory> {
-    let mut values = Values::new(alloc);
-    values.push(Value::Term(GroundTerm::Common(0)))?;
-    values.push(Value::Steps(spare_label(alloc, number)?))?;
-    Ok(values)
-}
-
-fn new_label(alloc: Global, number: u32) -> Result<GroundLabel, NoMemory> {
-    let mut label = GroundLabel::new(alloc);
-    label.push(GroundMark::New(PosId(0), two_values(alloc, number)?))?;
-    Ok(label)
-}
-
-fn three_terms(alloc: Global, number: u32) -> Result<GroundTerms, NoMemory> {
-    let mut terms = GroundTerms::new(alloc);
-    terms.push(GroundTerm::Fun(SymbolId(0), GroundTerms::new(alloc)))?;
-    terms.push(GroundTerm::Eigen(PosId(0), two_values(alloc, 0)?))?;
-    terms.push(GroundTerm::Own(0, new_label(alloc, number)?))?;
-    Ok(terms)
-}
-
-fn parts(term: &GroundTerm) -> usize {
-    match term {
-        GroundTerm::Fun(_, args) => args.items().len(),
-        GroundTerm::Eigen(_, values) => values.items().len(),
-        GroundTerm::Common(_) => 0,
-        GroundTerm::Own(_, label) => label.items().len(),
-    }
-}
-
-fn are_three(terms: &GroundTerms) -> bool {
-    match terms.items() {
-        [first, second, third] => parts(first) == 0 && parts(second) == 2 && parts(third) == 1,
-        _ => false,
-    }
-}
-
-fn is_copied(alloc: Global) -> Result<bool, NoMemory> {
-    let terms = three_terms(alloc, 0)?;
-    let copy = terms.copy(alloc)?;
-    Ok(are_three(&terms) && terms == copy)
-}
-
-// The last mark of the last term makes two lists differ.
-fn differ(alloc: Global) -> Result<bool, NoMemory> {
-    let terms = three_terms(alloc, 0)?;
-    let others = three_terms(alloc, 1)?;
-    Ok(terms != others)
-}
-
-#[test]
-fn compares_terms(rt: HostRuntime) -> Result<(), Fail> {
-    assert!(rt; is_copied(rt.alloc())?);
-    assert!(rt; differ(rt.alloc())?);
     Ok(())
 }

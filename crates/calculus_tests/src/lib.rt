@@ -7,6 +7,4 @@ mod formulas;
 #[cfg(test)]
 mod rules;
 #[cfg(test)]
-mod shared;
-#[cfg(test)]
 mod tableaux;

@@ -13,12 +13,12 @@ use Rattle.search_theory.specs.States.{label_by, terms_by, values_by}
 use Rattle.term_store.specs.Shown.{head_of}
 use Rattle.term_store.specs.declared.cell.Head.{Head}
 use Rattle.formula_core.specs.GroundLists.{GroundList, IsGrown, no_list, the_g_term, the_mark, the_value, the_terms, the_marks, the_values, AreNormalTerms, AreNormalMarks, AreNormalValues}
-use Rattle.formula_core.specs.declared.shared.GroundTerm.{GroundTerm}
-use Rattle.formula_core.specs.declared.shared.GroundTerm.TheVariants as program
-use Rattle.formula_core.specs.declared.shared.GroundMark.TheVariants as mark
-use Rattle.formula_core.specs.declared.shared.GroundMark.{GroundMark}
-use Rattle.formula_core.specs.declared.shared.Value.{Value}
-use Rattle.formula_core.specs.declared.shared.Value.TheVariants as value
+use Rattle.formula_core.specs.declared.ground.GroundTerm.{GroundTerm}
+use Rattle.formula_core.specs.declared.ground.GroundTerm.TheVariants as program
+use Rattle.formula_core.specs.declared.ground.GroundMark.TheVariants as mark
+use Rattle.formula_core.specs.declared.ground.GroundMark.{GroundMark}
+use Rattle.formula_core.specs.declared.ground.Value.{Value}
+use Rattle.formula_core.specs.declared.ground.Value.TheVariants as value
 use Rattle.formula_core.proofs.GrownLaws.{term-grown, mark-grown, marks-grown, term-normal-grown, mark-normal-grown}
 use Rattle.connection_search.specs.Grounds.{AreMade, AreRead, AreSparesAt, IsGroundOf, IsSpareAt, Needs, home_of, made_of, needs_of, or_nothing, spare_at}
 use Rattle.connection_search.specs.declared.grounds.Ground.{Ground}

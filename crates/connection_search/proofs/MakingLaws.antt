@@ -11,14 +11,14 @@ use Rattle.search_theory.specs.States.{label_by, values_by}
 use Rattle.term_store.specs.Shown.{head_of}
 use Rattle.term_store.specs.declared.cell.Head.{Head}
 use Rattle.formula_core.specs.GroundLists.{GroundList, IsGrown, no_list, the_g_term, the_mark, the_value, the_marks}
-use Rattle.formula_core.specs.declared.shared.GroundTerm.{GroundTerm}
-use Rattle.formula_core.specs.declared.shared.GroundMark.{GroundMark}
-use Rattle.formula_core.specs.declared.shared.Value.{Value}
-use Rattle.formula_core.specs.declared.shared.Value.TheVariants as value
+use Rattle.formula_core.specs.declared.ground.GroundTerm.{GroundTerm}
+use Rattle.formula_core.specs.declared.ground.GroundMark.{GroundMark}
+use Rattle.formula_core.specs.declared.ground.Value.{Value}
+use Rattle.formula_core.specs.declared.ground.Value.TheVariants as value
 use Rattle.connection_search.specs.Grounds.{AreMade, AreSparesAt, IsGroundOf, IsReading, Needs, home_of, made_of}
 use Rattle.term_store.specs.RefView.{the_place}
 use Rattle.term_store.specs.declared.cell.Ref.{Ref}
-use Rattle.formula_core.specs.declared.shared.GroundLabel.{GroundLabel}
+use Rattle.formula_core.specs.declared.ground.GroundLabel.{GroundLabel}
 use Rattle.connection_search.specs.declared.grounds.Ground.{Ground}
 use Rattle.connection_search.specs.declared.grounds.Ground.TheVariants as ground
 use Rattle.connection_search.specs.declared.grounds.Grounds.{Grounds}
@@ -26,7 +26,7 @@ use Rattle.connection_search.specs.declared.homes.Homes.{Homes}
 use Rattle.connection_search.proofs.GroundLaws.{ground-grown, ground-there, label-more, mark-label, string-label, string-value, term-value, terms-more, values-more}
 use Rattle.calculus.specs.Ground.{g_spare_mark}
 use Rattle.formula_core.proofs.EntryLaws.{empty-marks}
-use Rattle.formula_core.specs.declared.shared.GroundMark.TheVariants as mark
+use Rattle.formula_core.specs.declared.ground.GroundMark.TheVariants as mark
 use Rattle.store_theory.specs.Stores.{a_mark, a_string}
 
 -- ---- one more is made

@@ -11,15 +11,15 @@ use Rattle.search_theory.specs.Matrix.{MatrixClause}
 use Rattle.search_theory.specs.OrderedChoices.{selection_of}
 use Rattle.search_theory.specs.States.{label_by, literal_by, terms_by, values_by}
 use Rattle.formula_core.specs.GroundLists.{GroundList, IsGrown, the_g_term, the_mark, the_value, the_terms, the_marks, the_values, AreNormalTerms, AreNormalMarks, AreNormalValues}
-use Rattle.formula_core.specs.declared.shared.GroundTerms.{GroundTerms}
-use Rattle.formula_core.specs.declared.shared.GroundLabel.{GroundLabel}
-use Rattle.formula_core.specs.declared.shared.Values.{Values}
-use Rattle.formula_core.specs.declared.shared.GroundTerm.{GroundTerm}
-use Rattle.formula_core.specs.declared.shared.GroundMark.{GroundMark}
-use Rattle.formula_core.specs.declared.shared.Value.{Value}
+use Rattle.formula_core.specs.declared.ground.GroundTerms.{GroundTerms}
+use Rattle.formula_core.specs.declared.ground.GroundLabel.{GroundLabel}
+use Rattle.formula_core.specs.declared.ground.Values.{Values}
+use Rattle.formula_core.specs.declared.ground.GroundTerm.{GroundTerm}
+use Rattle.formula_core.specs.declared.ground.GroundMark.{GroundMark}
+use Rattle.formula_core.specs.declared.ground.Value.{Value}
 use Rattle.formula_core.proofs.GrownLaws.{terms-grown}
 use Rattle.tableau_core.specs.Numbered.LiteralView.{the_literal}
-use Rattle.tableau_core.specs.declared.shared.literal.GroundLiteral.{GroundLiteral}
+use Rattle.tableau_core.specs.declared.literal.GroundLiteral.{GroundLiteral}
 use Rattle.connection_search.specs.Grounds.{AreMade, AreSparesAt, IsReading}
 use Rattle.connection_search.specs.Reading.{AreMarksOf, AreTermsOf, AreValuesOf, IsLiteralOf}
 use Rattle.connection_search.specs.declared.grounds.Grounds.{Grounds}

@@ -14,10 +14,10 @@ use Rattle.search_theory.specs.States.{State, choice_at, clause_at, growth_at, n
 use Rattle.tableau_core.specs.Numbered.ClosingView.{the_closing, closing_in, closings_in}
 use Rattle.tableau_core.specs.Numbered.Closings as numbered
 use Rattle.tableau_core.specs.Numbered.TableauView.{the_tableau}
-use Rattle.tableau_core.specs.declared.shared.closing.Closing.{Closing}
-use Rattle.tableau_core.specs.declared.shared.closing.Closing.TheVariants as program
-use Rattle.tableau_core.specs.declared.shared.instance.ClauseInstance.{ClauseInstance}
-use Rattle.tableau_core.specs.declared.shared.tableau.Tableau.{Tableau}
+use Rattle.tableau_core.specs.declared.closing.Closing.{Closing}
+use Rattle.tableau_core.specs.declared.closing.Closing.TheVariants as program
+use Rattle.tableau_core.specs.declared.instance.ClauseInstance.{ClauseInstance}
+use Rattle.tableau_core.specs.declared.tableau.Tableau.{Tableau}
 use Rattle.connection_search.specs.Listing.{names_of}
 use Rattle.connection_search.specs.Reading.{IsInner, IsStarted, IsStartedBy, closing_names, closings_names, names_in, stacked, stacked_names, stacked_on}
 use Rattle.connection_search.specs.Running.{StandsFor}

@@ -5,14 +5,14 @@ use Rattle.calculus.specs.Choices.{Choice, extension, reduction}
 use Rattle.calculus.specs.Ground as tree
 use Rattle.calculus.specs.Lists.{g_terms_tree}
 use Rattle.formula_core.specs.GroundLists.{GroundList, the_terms, the_marks, the_values, AreNormalTerms, AreNormalMarks, AreNormalValues}
-use Rattle.formula_core.specs.declared.shared.GroundTerms.{GroundTerms}
-use Rattle.formula_core.specs.declared.shared.GroundLabel.{GroundLabel}
-use Rattle.formula_core.specs.declared.shared.Values.{Values}
+use Rattle.formula_core.specs.declared.ground.GroundTerms.{GroundTerms}
+use Rattle.formula_core.specs.declared.ground.GroundLabel.{GroundLabel}
+use Rattle.formula_core.specs.declared.ground.Values.{Values}
 use Rattle.tableau_core.specs.Numbered.ClosingView.{the_closing}
 use Rattle.tableau_core.specs.Numbered.Closings as numbered
 use Rattle.tableau_core.specs.Numbered.LiteralView.{the_literal}
-use Rattle.tableau_core.specs.declared.shared.closing.Closing.{Closing}
-use Rattle.tableau_core.specs.declared.shared.literal.GroundLiteral.{GroundLiteral}
+use Rattle.tableau_core.specs.declared.closing.Closing.{Closing}
+use Rattle.tableau_core.specs.declared.literal.GroundLiteral.{GroundLiteral}
 use Rattle.connection_search.specs.declared.tree.Copied.{Copied}
 use Rattle.connection_search.specs.declared.tree.Step.{Step}
 use Rattle.connection_search.specs.declared.tree.Step.TheVariants.{Start, Reduce, Extend}

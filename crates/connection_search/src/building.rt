@@ -17,8 +17,7 @@ use crate::homes::Homes;
 use crate::parts::needs;
 use calculus::sort::Sort;
 use cop_base::{NoMemory, PosId, SymbolId};
-use formula_core::GroundTable;
-use formula_core::shared::{GroundLabel, GroundMark, GroundTerm};
+use formula_core::{GroundLabel, GroundMark, GroundTable, GroundTerm};
 use std::alloc::Global;
 use term_store::{Head, Ref, Store};
 

@@ -18,7 +18,7 @@ use crate::reading::{Source, connected_instance, start_instance};
 use crate::tree::{Copied, Step, Tree};
 use cop_base::NoMemory;
 use std::alloc::Global;
-use tableau_core::shared::{Closing, ClosingList, Tableau};
+use tableau_core::{Closing, ClosingList, Tableau};
 use term_store::CellAtom;
 
 // Takes so many closings from the stack, the top first.

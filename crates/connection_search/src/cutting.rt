@@ -27,7 +27,7 @@ use cop_base::{ClauseId, Ledger, NoMemory, PathLimit};
 use logic_rules::Problem;
 use matrix_build::Matrix;
 use std::alloc::Global;
-use tableau_core::shared::Tableau;
+use tableau_core::Tableau;
 use term_store::Store;
 
 /// What the search that does not return to solved goals answers.

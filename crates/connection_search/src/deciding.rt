@@ -34,7 +34,7 @@ use domain_cond::{ConstantDemand, CumulativeDemand, VaryingDemand};
 use logic_rules::Problem;
 use prefix_split::{Solved, solve};
 use std::alloc::Global;
-use tableau_core::shared::{Tableau, is_closed};
+use tableau_core::{Tableau, is_closed};
 use term_store::{Demand, Store, System};
 
 pub(crate) fn has_labels(logic: Logic) -> bool

@@ -9,7 +9,7 @@ use cop_base::{Ledger, NoMemory, PathLimit};
 use logic_rules::Problem;
 use matrix_build::Matrix;
 use std::alloc::Global;
-use tableau_core::shared::Tableau;
+use tableau_core::Tableau;
 
 /// What deepening answers.
 #[derive(Drop)]

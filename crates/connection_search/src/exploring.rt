@@ -13,7 +13,7 @@ use crate::moves::Work;
 use crate::point::Point;
 use crate::space::Space;
 use cop_base::{Ledger, NoMemory};
-use tableau_core::shared::Tableau;
+use tableau_core::Tableau;
 use term_store::Store;
 
 /// What a list of choices came to.

@@ -15,8 +15,7 @@ ghost use Rattle.connection_search.specs.Grounds.{AreMade, IsGroundOf, IsReading
 use crate::atoms::reference_at;
 use crate::homes::Homes;
 use cop_base::NoMemory;
-use formula_core::GroundTable;
-use formula_core::shared::{GroundLabel, GroundMark, GroundTerm, Value};
+use formula_core::{GroundLabel, GroundMark, GroundTable, GroundTerm, Value};
 use std::alloc::Global;
 use term_store::{Ref, Store};
 

@@ -19,11 +19,10 @@ use crate::system::variable_at;
 use crate::tree::Copied;
 use calculus::sign::Side;
 use cop_base::NoMemory;
-use formula_core::shared::{GroundLabel, GroundTerms, Values};
+use formula_core::{GroundLabel, GroundTerms, Values};
 use matrix_build::Matrix;
 use std::alloc::Global;
-use tableau_core::Selection;
-use tableau_core::shared::{ClauseInstance, GroundLiteral, LiteralList};
+use tableau_core::{ClauseInstance, GroundLiteral, LiteralList, Selection};
 use term_store::{CellAtom, Ref, Store, Variables};
 
 /// What is read off: cells of the store, with the homes of their spares, and clauses of the matrix.

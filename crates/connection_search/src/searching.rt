@@ -21,7 +21,7 @@ use cop_base::{ClauseId, Ledger, NoMemory, PathLimit};
 use logic_rules::Problem;
 use matrix_build::Matrix;
 use std::alloc::Global;
-use tableau_core::shared::Tableau;
+use tableau_core::Tableau;
 use term_store::Store;
 
 /// What a search at one limit answers.

@@ -12,17 +12,17 @@ use Rattle.std.specs.Cmp.Lexicographic.{pointwise, pointwise_decides}
 use Rattle.std.specs.List.{list_any}
 use Rattle.indexmap.specs.IndexSet.{insert_key}
 use Rattle.formula_core.specs.GroundLists.{GroundList, of_terms, of_marks, of_values, terms_in, marks_in, values_in, the_terms, the_marks, the_values, list_at, no_list, IsGrown}
-use Rattle.formula_core.specs.declared.shared.GroundTerms.{GroundTerms}
-use Rattle.formula_core.specs.declared.shared.GroundLabel.{GroundLabel}
-use Rattle.formula_core.specs.declared.shared.Values.{Values}
+use Rattle.formula_core.specs.declared.ground.GroundTerms.{GroundTerms}
+use Rattle.formula_core.specs.declared.ground.GroundLabel.{GroundLabel}
+use Rattle.formula_core.specs.declared.ground.Values.{Values}
 use Rattle.formula_core.specs.GroundTables.{Items, some_terms, some_marks, some_values, items_of, list_of, lists_from, AreNormalItems, IsTable, IsRead}
-use Rattle.formula_core.specs.declared.shared.GroundTerm.{GroundTerm}
-use Rattle.formula_core.specs.declared.shared.GroundMark.{GroundMark}
+use Rattle.formula_core.specs.declared.ground.GroundTerm.{GroundTerm}
+use Rattle.formula_core.specs.declared.ground.GroundMark.{GroundMark}
 use Rattle.formula_core.proofs.SharedEq.{term-decides, mark-decides}
-use Rattle.formula_core.specs.declared.shared.Value.{Value}
+use Rattle.formula_core.specs.declared.ground.Value.{Value}
 use Rattle.formula_core.specs.declared.table.Entry.{Entry}
 use Rattle.formula_core.specs.declared.table.Entry.TheVariants as entry
-use Rattle.formula_core.specs.contracts.shared.ValuePartialEq.TheImpl as value
+use Rattle.formula_core.specs.contracts.ground.ValuePartialEq.TheImpl as value
 use Rattle.formula_core.specs.contracts.table.EntryPartialEq.TheImpl.{eq-value}
 use Rattle.formula_core.proofs.GroundTableLaws.{is-read, lists-length, lists-push, list_of-stays, table-push}
 

@@ -11,15 +11,15 @@ use Rattle.calculus.specs.Ground as tree
 use Rattle.calculus.specs.Lists.{g_terms_tree, g_terms_tree-inj, marks_tree-inj, values_tree-inj}
 use Rattle.formula_core.specs.GroundLists.{GroundList, of_terms, of_marks, of_values, terms_in, marks_in, values_in, list_at, the_terms, the_marks, the_values, the_g_term, the_mark, the_value, no_list, IsNormal, IsNormalTerm, IsNormalMark, IsNormalValue, AreNormalTerms, AreNormalMarks, AreNormalValues, IsLower, IsLowerTerm, IsLowerMark, IsLowerValue, IsGrown}
 use Rattle.formula_core.specs.GroundTables.{Items, some_terms, some_marks, some_values, list_of, lists_from, AreNormalItems, AreLowerItems, AreNormal, AreApart, IsTable, IsRead}
-use Rattle.formula_core.specs.declared.shared.GroundTerms.{GroundTerms}
-use Rattle.formula_core.specs.declared.shared.GroundLabel.{GroundLabel}
-use Rattle.formula_core.specs.declared.shared.Values.{Values}
-use Rattle.formula_core.specs.declared.shared.GroundTerm.{GroundTerm}
-use Rattle.formula_core.specs.declared.shared.GroundTerm.TheVariants as term
-use Rattle.formula_core.specs.declared.shared.GroundMark.{GroundMark}
-use Rattle.formula_core.specs.declared.shared.GroundMark.TheVariants as mark
-use Rattle.formula_core.specs.declared.shared.Value.{Value}
-use Rattle.formula_core.specs.declared.shared.Value.TheVariants as value
+use Rattle.formula_core.specs.declared.ground.GroundTerms.{GroundTerms}
+use Rattle.formula_core.specs.declared.ground.GroundLabel.{GroundLabel}
+use Rattle.formula_core.specs.declared.ground.Values.{Values}
+use Rattle.formula_core.specs.declared.ground.GroundTerm.{GroundTerm}
+use Rattle.formula_core.specs.declared.ground.GroundTerm.TheVariants as term
+use Rattle.formula_core.specs.declared.ground.GroundMark.{GroundMark}
+use Rattle.formula_core.specs.declared.ground.GroundMark.TheVariants as mark
+use Rattle.formula_core.specs.declared.ground.Value.{Value}
+use Rattle.formula_core.specs.declared.ground.Value.TheVariants as value
 
 -- ---- one list
 

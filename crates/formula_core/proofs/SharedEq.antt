@@ -1,10 +1,10 @@
 -- The `==` of ground terms and characters holds between equal ones alone.
 use Rattle.std.proofs.Common.{◌≡◌, true, rules, subst}
 use Rattle.std.specs.Bool.{Decides}
-use Rattle.formula_core.specs.declared.shared.GroundTerm.{GroundTerm}
-use Rattle.formula_core.specs.declared.shared.GroundMark.{GroundMark}
-use Rattle.formula_core.specs.contracts.shared.GroundTermPartialEq.TheImpl as term
-use Rattle.formula_core.specs.contracts.shared.GroundMarkPartialEq.TheImpl as mark
+use Rattle.formula_core.specs.declared.ground.GroundTerm.{GroundTerm}
+use Rattle.formula_core.specs.declared.ground.GroundMark.{GroundMark}
+use Rattle.formula_core.specs.contracts.ground.GroundTermPartialEq.TheImpl as term
+use Rattle.formula_core.specs.contracts.ground.GroundMarkPartialEq.TheImpl as mark
 
 term-exact : (a b : GroundTerm) → term.eq-value.it a b ≡ true → a ≡ b
 term-exact a b h = search rules

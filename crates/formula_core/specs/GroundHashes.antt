@@ -1,10 +1,10 @@
 -- What a ground term and a character feed a hasher.
 use Rattle.std.specs.Prelude.{◌++◌}
 use Rattle.std.specs.Hash as fed
-use Rattle.formula_core.specs.declared.shared.GroundTerm.{GroundTerm}
-use Rattle.formula_core.specs.declared.shared.GroundTerm.TheVariants as term
-use Rattle.formula_core.specs.declared.shared.GroundMark.{GroundMark}
-use Rattle.formula_core.specs.declared.shared.GroundMark.TheVariants as mark
+use Rattle.formula_core.specs.declared.ground.GroundTerm.{GroundTerm}
+use Rattle.formula_core.specs.declared.ground.GroundTerm.TheVariants as term
+use Rattle.formula_core.specs.declared.ground.GroundMark.{GroundMark}
+use Rattle.formula_core.specs.declared.ground.GroundMark.TheVariants as mark
 
 abbrev pub term_writes : GroundTerm → fed.HashWrites
 term_writes (term.Fun f ts) = fed.u8 0 ++ fed.u32 f.0 ++ fed.u32 ts.0

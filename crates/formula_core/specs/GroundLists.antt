@@ -5,15 +5,15 @@ use Rattle.std.specs.List.{AllByRecursion}
 use Rattle.std.proofs.Common.{get_or}
 use Rattle.calculus.specs.Ground as tree
 use Rattle.calculus.specs.Lists.{g_terms_tree}
-use Rattle.formula_core.specs.declared.shared.GroundTerms.{GroundTerms}
-use Rattle.formula_core.specs.declared.shared.GroundLabel.{GroundLabel}
-use Rattle.formula_core.specs.declared.shared.Values.{Values}
-use Rattle.formula_core.specs.declared.shared.GroundTerm.{GroundTerm}
-use Rattle.formula_core.specs.declared.shared.GroundTerm.TheVariants as term
-use Rattle.formula_core.specs.declared.shared.GroundMark.{GroundMark}
-use Rattle.formula_core.specs.declared.shared.GroundMark.TheVariants as mark
-use Rattle.formula_core.specs.declared.shared.Value.{Value}
-use Rattle.formula_core.specs.declared.shared.Value.TheVariants as value
+use Rattle.formula_core.specs.declared.ground.GroundTerms.{GroundTerms}
+use Rattle.formula_core.specs.declared.ground.GroundLabel.{GroundLabel}
+use Rattle.formula_core.specs.declared.ground.Values.{Values}
+use Rattle.formula_core.specs.declared.ground.GroundTerm.{GroundTerm}
+use Rattle.formula_core.specs.declared.ground.GroundTerm.TheVariants as term
+use Rattle.formula_core.specs.declared.ground.GroundMark.{GroundMark}
+use Rattle.formula_core.specs.declared.ground.GroundMark.TheVariants as mark
+use Rattle.formula_core.specs.declared.ground.Value.{Value}
+use Rattle.formula_core.specs.declared.ground.Value.TheVariants as value
 
 -- a list of one of the three kinds
 pub data GroundList : Type 0 where

@@ -2,9 +2,9 @@
 use Rattle.std.specs.Prelude.{◌≡◌, ℕ, ◌<◌, ◌≤◌, List, [], ◌∷◌, ◌++◌, map, length}
 use Rattle.std.specs.List.{AllByRecursion}
 use Rattle.formula_core.specs.GroundLists.{GroundList, of_terms, of_marks, of_values, list_at, the_g_term, the_mark, the_value, IsNormalTerm, IsNormalMark, IsNormalValue, IsLowerTerm, IsLowerMark, IsLowerValue, no_list}
-use Rattle.formula_core.specs.declared.shared.GroundTerm.{GroundTerm}
-use Rattle.formula_core.specs.declared.shared.GroundMark.{GroundMark}
-use Rattle.formula_core.specs.declared.shared.Value.{Value}
+use Rattle.formula_core.specs.declared.ground.GroundTerm.{GroundTerm}
+use Rattle.formula_core.specs.declared.ground.GroundMark.{GroundMark}
+use Rattle.formula_core.specs.declared.ground.Value.{Value}
 use Rattle.formula_core.specs.declared.table.Entry.{Entry}
 use Rattle.formula_core.specs.declared.table.Entry.TheVariants as entry
 

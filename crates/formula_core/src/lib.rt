@@ -6,7 +6,6 @@ mod count;
 mod formula;
 mod ground;
 mod place;
-pub mod shared;
 mod symbol;
 mod table;
 mod term;

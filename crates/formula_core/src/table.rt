@@ -7,7 +7,7 @@ ghost use Rattle.formula_core.specs.GroundLists.{IsNormalTerm, IsNormalMark, IsN
 ghost use Rattle.formula_core.specs.GroundLists.{IsLowerTerm, IsLowerMark, IsLowerValue, IsGrown};
 ghost use Rattle.formula_core.specs.GroundTables.{items_of, list_of, AreNormalItems, AreApart, IsRead};
 
-use crate::shared::{GroundLabel, GroundMark, GroundTerm, GroundTerms, Value, Values};
+use crate::ground::{GroundLabel, GroundMark, GroundTerm, GroundTerms, Value, Values};
 use cop_base::NoMemory;
 use indexmap::IndexSet;
 use std::alloc::Global;

@@ -14,7 +14,7 @@ use cop_base::{Ledger, NoMemory, PathLimit};
 use logic_rules::Problem;
 use matrix_build::{Matrix, MatrixFault, build_matrix};
 use std::alloc::Global;
-use tableau_core::shared::Tableau;
+use tableau_core::Tableau;
 
 /// A tableau and the path limit within which it is closed, or the status that tells why there is
 /// none.

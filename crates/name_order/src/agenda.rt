@@ -21,8 +21,7 @@ use cop_base::NoMemory;
 use formula_core::GroundTable;
 use indexmap::IndexSet;
 use std::alloc::Global;
-use tableau_core::SizedProblem;
-use tableau_core::shared::Tableau;
+use tableau_core::{SizedProblem, Tableau};
 
 /// The turns of a tableau: those of each instance, and the agenda.
 #[derive(Drop)]

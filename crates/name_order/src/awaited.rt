@@ -22,12 +22,10 @@ use crate::place::{Place, is_delta, is_pi, place_at};
 use crate::reached::Reached;
 use crate::walk::values_at;
 use cop_base::{NoMemory, PosId};
-use formula_core::GroundTable;
-use formula_core::shared::{GroundMark, GroundTerm, Value, Values};
+use formula_core::{GroundMark, GroundTable, GroundTerm, Value, Values};
 use indexmap::IndexSet;
 use std::alloc::Global;
-use tableau_core::SizedProblem;
-use tableau_core::shared::{MarkAt, eigen_home};
+use tableau_core::{MarkAt, SizedProblem, eigen_home};
 
 /// How many values are taken before the turn's own.
 pub fn taken_before(table: &GroundTable, places: &[Place], turn: &Reached) -> usize

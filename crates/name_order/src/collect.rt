@@ -13,8 +13,7 @@ use crate::walk::walk_instance;
 use cop_base::NoMemory;
 use formula_core::GroundTable;
 use std::alloc::Global;
-use tableau_core::SizedProblem;
-use tableau_core::shared::{Closing, ClosingList, Tableau};
+use tableau_core::{Closing, ClosingList, SizedProblem, Tableau};
 
 /// The positions that an instance reaches, in preorder.
 #[derive(Drop)]

@@ -10,8 +10,7 @@ ghost use Rattle.formula_core.specs.GroundLists.{IsLowerTerm, IsLowerMark, IsLow
 ghost use Rattle.name_order.specs.ByNumber.Depths.{AreDepths, KnowsDepths, list_depth, known_depth};
 
 use cop_base::NoMemory;
-use formula_core::GroundTable;
-use formula_core::shared::{GroundLabel, GroundMark, GroundTerm, GroundTerms, Value, Values};
+use formula_core::{GroundLabel, GroundMark, GroundTable, GroundTerm, GroundTerms, Value, Values};
 use std::alloc::Global;
 
 // The depth of a list that is known, or of the empty one.

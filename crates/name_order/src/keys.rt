@@ -9,8 +9,7 @@ ghost use Rattle.name_order.specs.WalkView.{the_turn_at};
 
 use crate::reached::{Reached, reached_by};
 use cop_base::NoMemory;
-use formula_core::GroundTable;
-use formula_core::shared::{Value, Values};
+use formula_core::{GroundTable, Value, Values};
 use indexmap::IndexSet;
 use std::alloc::Global;
 

@@ -29,14 +29,12 @@ use crate::numbering::number_names;
 use crate::place::{Place, all_places};
 use crate::turn::Turn;
 use cop_base::{NoMemory, PosId};
-use formula_core::GroundTable;
-use formula_core::shared::{GroundMark, GroundTerm, Values};
+use formula_core::{GroundMark, GroundTable, GroundTerm, Values};
 use indexmap::IndexSet;
 use logic_rules::Problem;
 use std::alloc::Global;
 use std::marker::Model;
-use tableau_core::SizedProblem;
-use tableau_core::shared::Tableau;
+use tableau_core::{SizedProblem, Tableau};
 
 /// The names of a tableau, numbered from 1 in their order, and its turns in the order in which they
 /// are made, by the numbers of a table of its own that begins with the tableau's. Turns are told by

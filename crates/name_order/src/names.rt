@@ -8,8 +8,7 @@ ghost use Rattle.name_order.specs.ByNumber.NameView.{the_name, IsNormalName};
 ghost use Rattle.name_order.specs.Keeping.{keep};
 
 use cop_base::NoMemory;
-use formula_core::GroundTable;
-use formula_core::shared::{GroundMark, GroundTerm};
+use formula_core::{GroundMark, GroundTable, GroundTerm};
 use indexmap::IndexSet;
 
 /// An eigenvariable or a spare constant, or a character.

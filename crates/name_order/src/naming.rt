@@ -22,12 +22,10 @@ use crate::place::{Place, is_delta, is_pi};
 use crate::reached::Reached;
 use crate::turn::Turn;
 use cop_base::{NoMemory, PosId};
-use formula_core::GroundTable;
-use formula_core::shared::{GroundMark, GroundTerm, Value, Values};
+use formula_core::{GroundMark, GroundTable, GroundTerm, Value, Values};
 use indexmap::IndexSet;
 use std::alloc::Global;
-use tableau_core::SizedProblem;
-use tableau_core::shared::{MarkAt, eigen_home};
+use tableau_core::{MarkAt, SizedProblem, eigen_home};
 
 /// The names once each and the turns in order, by the numbers of a table that begins with the lists
 /// of the tableau's.

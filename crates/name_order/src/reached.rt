@@ -6,8 +6,7 @@ ghost use Rattle.name_order.specs.ByNumber.ReachedView.{the_reached, IsNormalRea
 ghost use Rattle.name_order.specs.WalkView.{the_turn_at};
 
 use cop_base::NoMemory;
-use formula_core::GroundTable;
-use formula_core::shared::Value;
+use formula_core::{GroundTable, Value};
 use std::alloc::Global;
 
 /// The number of a position with the values taken on the way to it, its own included.

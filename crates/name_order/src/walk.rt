@@ -13,12 +13,10 @@ ghost use Rattle.tableau_core.specs.Numbered.InstanceView.{the_instance};
 
 use crate::reached::{Reached, reached_by};
 use cop_base::NoMemory;
-use formula_core::GroundTable;
-use formula_core::shared::Value;
+use formula_core::{GroundTable, Value};
 use logic_rules::{Kind, Logic, ModalPart, Shape, kind_of};
 use std::alloc::Global;
-use tableau_core::shared::ClauseInstance;
-use tableau_core::{Part, Parts, Side, SizedProblem, components_of};
+use tableau_core::{ClauseInstance, Part, Parts, Side, SizedProblem, components_of};
 
 /// How many values a position of this kind takes: a string, a term, or both.
 pub fn values_at(kind: Kind) -> usize

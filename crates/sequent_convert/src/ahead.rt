@@ -8,7 +8,7 @@ ghost use Rattle.sequent_convert.specs.AheadView.{IsExtended, IsNotExtended, ins
 ghost use Rattle.sequent_convert.specs.ByNumber.AheadView.{closings_count, instances_in_all, instances_in_closing, starts_with, the_ends};
 ghost use Rattle.tableau_core.specs.Numbered.ClosingView.{closing_in, the_closing};
 
-use tableau_core::shared::{Closing, ClosingList};
+use tableau_core::{Closing, ClosingList};
 
 /// What closes a branch that has come to a literal of an instance.
 #[derive(Clone, Copy)]

@@ -8,8 +8,7 @@ ghost use Rattle.calculus.specs.Syntax as problem_tree;
 ghost use Rattle.formula_core.specs.GroundLists.{the_g_term, the_mark, the_terms};
 ghost use Rattle.formula_core.specs.TermView.{the_term};
 
-use formula_core::shared::{GroundMark, GroundTerm, GroundTerms};
-use formula_core::{GroundTable, Term, Terms};
+use formula_core::{GroundMark, GroundTable, GroundTerm, GroundTerms, Term, Terms};
 
 // What stands for a variable. Of variables that nothing binds a problem has none.
 #[tactic(auto, using(tableau_core::proofs::Environments::environment))]

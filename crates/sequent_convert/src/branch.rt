@@ -11,8 +11,7 @@ use crate::literals::Literals;
 use crate::node::Node;
 use crate::source::Source;
 use cop_base::NoMemory;
-use formula_core::shared::Values;
-use formula_core::{Formula, GroundTable, Sign};
+use formula_core::{Formula, GroundTable, Sign, Values};
 use indexmap::IndexMap;
 use std::alloc::Global;
 

@@ -17,8 +17,7 @@ use crate::run::Run;
 use crate::source::Source;
 use crate::turns::{begins, begins_somewhere, find_node};
 use cop_base::NoMemory;
-use tableau_core::shared::ClosingList;
-use tableau_core::{Parts, components_of};
+use tableau_core::{ClosingList, Parts, components_of};
 
 impl<'a> Run<'a> {
     // The turn ahead is done: goes on to what it left.

@@ -44,8 +44,7 @@ use run::Run;
 use sequent_calc::{Derivation, Names, StepList};
 use source::Source;
 use std::alloc::Global;
-use tableau_core::SizedProblem;
-use tableau_core::shared::Tableau;
+use tableau_core::{SizedProblem, Tableau};
 
 // Whether there is an atom at each position, in preorder.
 fn put_atoms(f: &Formula, atoms: &mut Vec<bool>) -> Result<(), NoMemory>

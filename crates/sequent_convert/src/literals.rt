@@ -3,8 +3,7 @@
 use crate::done::{number_at, put_number};
 use crate::spot::Spot;
 use cop_base::{NoMemory, SymbolId};
-use formula_core::shared::{GroundTerm, GroundTerms};
-use formula_core::{GroundTable, Sign, Term, Terms};
+use formula_core::{GroundTable, GroundTerm, GroundTerms, Sign, Term, Terms};
 use indexmap::IndexSet;
 use std::alloc::Global;
 

@@ -12,14 +12,12 @@ ghost use Rattle.tableau_core.specs.Numbered.SpotView.{the_mark_at};
 
 use crate::numbered::{label_of, mark_of};
 use cop_base::{NoMemory, PosId};
-use formula_core::GroundTable;
-use formula_core::shared::{GroundLabel, GroundMark, GroundTerm, Value, Values};
+use formula_core::{GroundLabel, GroundMark, GroundTable, GroundTerm, Value, Values};
 use logic_rules::{Label, Mark};
 use name_order::{Name, Named};
 use sequent_calc::{Home, Names};
 use std::alloc::Global;
-use tableau_core::SizedProblem;
-use tableau_core::shared::{MarkAt, eigen_home};
+use tableau_core::{MarkAt, SizedProblem, eigen_home};
 
 // Whether both lists have the same values.
 #[tactic(auto, using(formula_core::specs::GroundEq::tree_equality, tableau_core::proofs::Places::values_equality))]

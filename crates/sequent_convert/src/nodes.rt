@@ -8,8 +8,7 @@ ghost use Rattle.sequent_convert.specs.ByNumber.NodeView.{the_node};
 ghost use Rattle.sequent_convert.specs.Working.{IsFront, IsOn};
 
 use crate::node::Node;
-use formula_core::GroundTable;
-use formula_core::shared::Value;
+use formula_core::{GroundTable, Value};
 use name_order::Turn;
 
 #[tactic(auto, using(formula_core::specs::GroundEq::tree_equality, crate::proofs::ByNumber::NodeLaws::front_short))]

@@ -5,13 +5,12 @@ ghost use Rattle.calculus.specs.Syntax as tree;
 ghost use Rattle.conversion_theory.specs.Numbering.{number_of, numbered_label, numbered_mark, numbered_term};
 ghost use Rattle.formula_core.specs.GroundLists.{the_g_term, the_mark};
 ghost use Rattle.formula_core.specs.TermView.{the_term};
-ghost use Rattle.formula_core.specs.declared.shared.GroundTerm.TheVariants.{Fun};
+ghost use Rattle.formula_core.specs.declared.ground.GroundTerm.TheVariants.{Fun};
 ghost use Rattle.logic_rules.specs.MarkView.{the_character};
 ghost use Rattle.sequent_convert.specs.ByNumber.TaskView.{all_done, done_by, standing};
 
 use cop_base::{NoMemory, SymbolId};
-use formula_core::shared::{GroundMark, GroundTerm, GroundTerms};
-use formula_core::{Term, Terms};
+use formula_core::{GroundMark, GroundTerm, GroundTerms, Term, Terms};
 use logic_rules::{Label, Mark};
 use name_order::Named;
 use std::alloc::Global;

@@ -14,7 +14,7 @@ ghost use Rattle.sequent_convert.specs.ByNumber.SpotView.{the_spot};
 use crate::numbered::label_of;
 use crate::spot::Spot;
 use cop_base::{NoMemory, PosId};
-use formula_core::shared::{GroundLabel, Value, Values};
+use formula_core::{GroundLabel, Value, Values};
 use logic_rules::{Logic, ModalPart};
 use name_order::Named;
 use sequent_calc::ModalArg;

@@ -3,8 +3,7 @@
 use name_order::Named;
 use sequent_calc::Names;
 use std::alloc::Global;
-use tableau_core::SizedProblem;
-use tableau_core::shared::Tableau;
+use tableau_core::{SizedProblem, Tableau};
 
 /// The problem, the names and turns of its tableau, and the name lines of the derivation.
 #[derive(Clone, Copy)]

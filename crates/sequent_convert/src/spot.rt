@@ -7,8 +7,7 @@ ghost use Rattle.formula_core.specs.GroundLists.{GroundList, no_list, the_g_term
 ghost use Rattle.sequent_convert.specs.ByNumber.SpotView.{kept_marks, taken_is, the_spot};
 
 use cop_base::{NoMemory, PosId};
-use formula_core::GroundTable;
-use formula_core::shared::{GroundMark, GroundTerm, Values};
+use formula_core::{GroundMark, GroundTable, GroundTerm, Values};
 use logic_rules::Logic;
 use std::alloc::Global;
 use std::rc::Rc;

@@ -13,8 +13,7 @@ use crate::make::{Made, make};
 use crate::nodes::{find, works_on};
 use crate::source::Source;
 use cop_base::NoMemory;
-use formula_core::GroundTable;
-use formula_core::shared::{Value, Values};
+use formula_core::{GroundTable, Value, Values};
 
 // A turn that is not done, by which this one is awaited: its parent, or one that introduces a name which it mentions.
 #[tactic(auto, using(crate::proofs::ByNumber::StateLaws::states))]

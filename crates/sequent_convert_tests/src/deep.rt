@@ -1,13 +1,11 @@
 //! Tableaux of `![X]:p(f(X)) => ?[Y]:p(Y)` whose terms nest deep.
 
 use cop_base::{NoMemory, SymbolId};
-use formula_core::shared::{GroundTerm, Value};
-use formula_core::{GroundTable, Sign};
+use formula_core::{GroundTable, GroundTerm, Sign, Value};
 use std::alloc::Global;
-use tableau_core::shared::{
-    ClauseInstance, Closing, ClosingList, GroundLiteral, LiteralList, Tableau,
+use tableau_core::{
+    ClauseInstance, Closing, ClosingList, GroundLiteral, LiteralList, Selection, Side, Tableau,
 };
-use tableau_core::{Selection, Side};
 
 const P: SymbolId = SymbolId(0);
 

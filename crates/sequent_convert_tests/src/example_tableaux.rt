@@ -1,13 +1,13 @@
 //! Tableaux of the tests, by arrays that tell their names and instances.
 
 use cop_base::{NoMemory, PosId, SymbolId};
-use formula_core::shared::{GroundLabel, GroundMark, GroundTerm, GroundTerms, Value, Values};
-use formula_core::{GroundTable, Sign};
-use std::alloc::Global;
-use tableau_core::shared::{
-    ClauseInstance, Closing, ClosingList, GroundLiteral, LiteralList, Tableau,
+use formula_core::{
+    GroundLabel, GroundMark, GroundTable, GroundTerm, GroundTerms, Sign, Value, Values,
 };
-use tableau_core::{Selection, Side};
+use std::alloc::Global;
+use tableau_core::{
+    ClauseInstance, Closing, ClosingList, GroundLiteral, LiteralList, Selection, Side, Tableau,
+};
 
 // A value: the empty string, or by its place a character or a term of the case.
 #[derive(Clone, Copy)]

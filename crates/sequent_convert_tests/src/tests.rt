@@ -11,8 +11,7 @@ use logic_rules::{Domains, Logic, Problem};
 use sequent_convert::convert;
 use std::alloc::Global;
 use std::test::Fail;
-use tableau_core::Side;
-use tableau_core::shared::{Tableau, is_closed};
+use tableau_core::{Side, Tableau, is_closed};
 use test_problems::proving;
 
 // How many steps the derivation has to which the tableau leads within limit 1, where it is closed and

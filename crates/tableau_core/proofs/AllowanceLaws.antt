@@ -1,5 +1,5 @@
 -- Names by their values and labels as lists, and functions with arguments.
-use Rattle.std.proofs.Common.{◌≡◌, ℕ, List, [], ◌∷◌, length, map, Bool, true, false, ◌==◌, refl, sym, ◌∙◌, arith, true≢false}
+use Rattle.std.proofs.Common.{◌≡◌, ℕ, List, [], ◌∷◌, length, map, Bool, true, ◌==◌, refl, sym, ◌∙◌, arith, true≢false}
 use Rattle.std.proofs.lemmas.Bool.Decides.{nat_tests}
 use Rattle.calculus.specs.declared.setting.Domains.TheVariants.{Constant}
 use Rattle.calculus.specs.declared.setting.Domains.{Domains}
@@ -7,7 +7,7 @@ use Rattle.calculus.specs.Equality.{mark_eq}
 use Rattle.calculus.specs.Ground.{GroundTerm, GroundMark, Value, g_fun, g_eigen, own, marks_tree, values_tree}
 use Rattle.calculus.specs.Labels.{home_allows}
 use Rattle.calculus.specs.Lists.{g_terms_tree, marks_list-marks_tree, values_list-values_tree}
-use Rattle.calculus.specs.Skolem.{is_allowed, are_allowed, label_of, common_spares}
+use Rattle.calculus.specs.Skolem.{is_allowed, label_of, common_spares}
 use Rattle.calculus.specs.Syntax.{Problem}
 
 pub eigen-allowed : (P : Problem) (w h : List GroundMark) (p : ℕ) (vs us : List Value) (b : Bool) → us ≡ vs → h ≡ label_of P p us → b ≡ home_allows mark_eq P.setting.domains h w → b ≡ is_allowed P w (g_eigen p (values_tree vs))
@@ -22,9 +22,5 @@ own-allowed P w h us k b u d = d ∙ rw (u, marks_list-marks_tree h) refl
 pub fun-none : {X : Type 0} (f : X → GroundTerm) (P : Problem) (w : List GroundMark) (n : ℕ) (xs : List X) (ts : List GroundTerm) (b : Bool) → map f xs ≡ ts → b ≡ (length xs == 0) → b ≡ true → common_spares P ≡ is_allowed P w (g_fun n (g_terms_tree ts))
 fun-none f P w n [] ts b e h t = rw (sym e) refl
 fun-none f P w n (x ∷ xs) ts b e h t = absurd (true≢false (sym t ∙ h ∙ grind (arith, nat_tests)))
-
-pub fun-some : {X : Type 0} (f : X → GroundTerm) (P : Problem) (w : List GroundMark) (n : ℕ) (xs : List X) (ts : List GroundTerm) (b : Bool) → map f xs ≡ ts → b ≡ (length xs == 0) → b ≡ false → are_allowed P w (g_terms_tree ts) ≡ is_allowed P w (g_fun n (g_terms_tree ts))
-fun-some f P w n [] ts b e h t = absurd (true≢false (sym h ∙ t))
-fun-some f P w n (x ∷ xs) ts b e h t = rw (sym e) refl
 
 pub ruleset allowance = (eigen-allowed, eigen-constant, own-allowed)

@@ -1,5 +1,5 @@
 -- Closed goals, with what is counted of their instances.
-use Rattle.std.specs.Prelude.{◌≡◌, ℕ, zero, suc, ◌+◌, ◌<◌, ◌≤◌, max, List, [], ◌∷◌, ◌++◌, length, Bool, true, false, ◌&&◌, Option, Some, None, nat_lt, slice_get, remove, if◌then◌else◌, map, take, drop}
+use Rattle.std.specs.Prelude.{◌≡◌, ℕ, zero, suc, ◌+◌, ◌<◌, ◌≤◌, max, List, [], ◌∷◌, ◌++◌, length, Bool, true, false, ◌&&◌, Option, Some, None, nat_lt, slice_get, remove, if◌then◌else◌, map, drop}
 use Rattle.std.proofs.Common.{refl, ap, sym, ◌∙◌, arith, get_or}
 use Rattle.std.proofs.lemmas.List.{length-map}
 use Rattle.std.proofs.lemmas.List.Sums.{sum_by-cons, sum_by-append}
@@ -37,31 +37,11 @@ counted-else false n k w e = refl
 same-some : (m n : Count) → Some m ≡ Some n → m ≡ n
 same-some m n e = cc
 
--- the list without an item
-pub removed : {X : Type 0} (f : X → GroundLiteral) (xs : List X) (k : ℕ) → map f (take k xs) ++ map f (drop (suc k) xs) ≡ remove (map f xs) k
-removed f [] zero = refl
-removed f [] (suc k) = refl
-removed f (x ∷ xs) zero = refl
-removed f (x ∷ xs) (suc k) = ap (λ ys. f x ∷ ys) (removed f xs k)
-
 drop-all : {X : Type 0} (xs : List X) (n : ℕ) → length xs ≤ n → drop n xs ≡ []
 drop-all [] zero h = refl
 drop-all [] (suc n) h = refl
 drop-all (x ∷ xs) zero h = absurd (omega arith)
 drop-all (x ∷ xs) (suc n) h = drop-all xs n (omega arith)
-
-take-more : {X : Type 0} (xs : List X) (n : ℕ) → length xs ≤ n → take n xs ≡ xs
-take-more [] zero h = refl
-take-more [] (suc n) h = refl
-take-more (x ∷ xs) zero h = absurd (omega arith)
-take-more (x ∷ xs) (suc n) h = ap (λ ys. x ∷ ys) (take-more xs n (omega arith))
-
--- what stands before the item, then what stands after it
-pub two-parts : {X : Type 0} (f : X → GroundLiteral) (xs : List X) (k n m j : ℕ) (gs : List GroundLiteral) → j ≡ suc k → length (drop (suc k) xs) ≤ n → length (take n (drop j xs)) ≤ m → gs ≡ map f (take k xs) ++ map f (take m (take n (drop j xs))) → gs ≡ remove (map f xs) k
-two-parts f xs k n m j gs i h p e =
-    let whole : take n (drop (suc k) xs) ≡ drop (suc k) xs = take-more (drop (suc k) xs) n h in
-    let all : take m (take n (drop j xs)) ≡ drop (suc k) xs = take-more (take n (drop j xs)) m p ∙ ap (λ l. take n (drop l xs)) i ∙ whole in
-    e ∙ ap (λ ys. map f (take k xs) ++ map f ys) all ∙ removed f xs k
 
 -- a place where a complement stands is inside the list
 some-inside : (goal : GroundLiteral) (xs : List GroundLiteral) (k : ℕ) → is_complement goal (slice_get xs k) ≡ true → k < length xs

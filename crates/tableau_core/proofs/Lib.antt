@@ -9,7 +9,6 @@ pub mod PathLaws
 pub mod CountLaws
 pub mod CloseLaws
 pub mod AllowanceLaws
-pub mod ReferenceLaws
 pub mod FittingLaws
 pub mod StringLaws
 pub mod Examples

@@ -1,14 +1,14 @@
 -- Which values are those of a name, told without labels.
-use Rattle.std.specs.Prelude.{ℕ, List, [], ◌∷◌, length, Bool, true, false, ◌&&◌, ◌==◌, nat_le, Option, Some, None, option_and_then, if◌then◌else◌}
+use Rattle.std.specs.Prelude.{List, [], ◌∷◌, length, Bool, false, ◌&&◌, Option, Some, None, option_and_then, if◌then◌else◌}
 use Rattle.std.specs.Option.{option_map_or}
 use Rattle.calculus.specs.declared.setting.Logic.{Logic}
 use Rattle.calculus.specs.declared.kind.Shape.{Shape}
 use Rattle.calculus.specs.declared.kind.Shape.TheVariants.{Gamma}
 use Rattle.calculus.specs.declared.kind.ModalPart.{ModalPart}
 use Rattle.calculus.specs.declared.kind.ModalPart.TheVariants.{Nu}
-use Rattle.calculus.specs.Ground.{GroundMark, Value, term, steps, marks_list}
+use Rattle.calculus.specs.Ground.{Value, term, steps, marks_list}
 use Rattle.calculus.specs.Kinds.{shape_of, modal_of}
-use Rattle.calculus.specs.Labels.{is_step_length, keeps_prefix}
+use Rattle.calculus.specs.Labels.{is_step_length}
 use Rattle.calculus.specs.Positions.{Node}
 use Rattle.calculus.specs.Skolem.{is_delta, is_pi, is_empty, last_node}
 use Rattle.tableau_core.specs.declared.way.Maker.{Maker}
@@ -49,7 +49,3 @@ is_maker maker.Pi m h = is_pi m
 -- a way ends where such a name is made, and the values are those of the way
 unfoldable pub is_made : Maker → Logic → List Node → List Value → Bool
 is_made k l ns vs = option_map_or (λ (n : Node). is_maker k (modal_of l n.sign n.formula) (shape_of n.sign n.formula)) (last_node ns) false && fits l ns vs
-
--- the label from which a step goes on
-abbrev pub start_of : Logic → List GroundMark → List GroundMark
-start_of l w = if keeps_prefix l then w else []

@@ -1,23 +1,12 @@
 -- ==== what public contracts cite: which trees the program's values stand for
 
-pub mod LiteralView
-pub mod InstanceView
-pub mod ClosingView
-pub mod TableauView
 pub mod ChoiceView
 -- ==== what models of lists need: codes and sizes
 
 pub mod LiteralCodes
-pub mod ClosingCodes
-pub mod ClosingSizes
-pub mod ClosingFalls
 -- ==== what only private contracts cite
 
 -- values, literals and places of an instance by reference
-pub mod ValuesAt
-pub mod PathView
-pub mod SpotView
-pub mod SpotEq
 -- names and the ways to their positions
 pub mod Fitting
 pub mod InsideView

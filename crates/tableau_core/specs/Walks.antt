@@ -1,5 +1,5 @@
 -- What a walk through an instance leaves.
-use Rattle.std.specs.Prelude.{◌&&◌, Bool, true, false, ℕ, ◌+◌, min, List, [], ◌∷◌, map, Option, Some, None, option_map, if◌then◌else◌}
+use Rattle.std.specs.Prelude.{◌&&◌, Bool, true, false, ℕ, ◌+◌, min, List, [], ◌∷◌, Option, Some, None, option_map, if◌then◌else◌}
 use Rattle.std.specs.List.{list_all}
 use Rattle.calculus.specs.declared.sign.Sign.{Sign}
 use Rattle.calculus.specs.declared.setting.Logic.{Logic}
@@ -13,24 +13,12 @@ use Rattle.calculus.specs.Kinds.{Signed}
 use Rattle.calculus.specs.Positions.{size}
 use Rattle.calculus.specs.Skolem.{is_empty}
 use Rattle.calculus.specs.Syntax.{Formula, Terms, atom, Problem}
-use Rattle.formula_core.specs.GroundView.{the_value}
-use Rattle.tableau_core.specs.LiteralView.{the_literal}
-use Rattle.tableau_core.specs.SpotView.{the_bound, the_mark_at}
-use Rattle.tableau_core.specs.ValuesAt.{values_at}
-use Rattle.tableau_core.specs.declared.walk.Spot.{Spot}
-use Rattle.tableau_core.specs.declared.walk.Rest.{Rest}
-
-abbrev pub the_spot : Spot → tree.Spot
-the_spot c = record { position = c.position; label = map the_mark_at c.label.now; taken = values_at c.taken.now; env = map the_bound c.env.now }
 
 -- what is still to be used of an instance, and the number of its nu and pi steps so far
 pub record Left : Type 0 where
   pub supply : Supply
   pub literals : List GroundLiteral
   pub steps : ℕ
-
-abbrev pub the_left : Rest → Left
-the_left r = record { supply = record { sides = r.sides.now; values = map the_value r.values.now }; literals = map the_literal r.literals.now; steps = r.steps }
 
 -- a number that stops at the end of 64 bits
 abbrev pub capped : ℕ → ℕ

@@ -1,7 +1,7 @@
 //! Closed goals and tableaux as trees.
 
 ghost use Rattle.std.specs.Prelude.{◌≡◌, ◌++◌, ◌∷◌, [], map, OnOk, OnErr};
-ghost use Rattle.tableau_core.specs.ClosingView.{the_closing};
+ghost use Rattle.tableau_core.specs.Numbered.ClosingView.{the_closing};
 
 use crate::instance::ClauseInstance;
 use cop_base::NoMemory;
@@ -33,21 +33,21 @@ pub struct ClosingList {
 
 impl Model for ClosingList {
     ghost use Rattle.std.specs.Prelude.{List, map};
-    ghost use Rattle.calculus.specs.Tableaux as tableau;
-    ghost use Rattle.tableau_core.specs.ClosingCodes.{closing_list_code};
-    ghost use Rattle.tableau_core.specs.ClosingSizes.{closing_list_size};
+    ghost use Rattle.tableau_core.specs.Numbered.Closings as numbered;
+    ghost use Rattle.tableau_core.specs.Numbered.ClosingCodes.{closing_list_code};
+    ghost use Rattle.tableau_core.specs.Numbered.Closings.{closing_list_size};
 
-    ghost Value = { List tableau.Closing };
+    ghost Value = { List numbered.Closing };
 
     ghost coded = { closing_list_code };
 
-    ghost use Rattle.tableau_core.specs.ClosingView.{the_closing};
+    ghost use Rattle.tableau_core.specs.Numbered.ClosingView.{the_closing};
 
     ghost view = { λ a. map the_closing a.items.items };
 
     ghost size = { closing_list_size };
 
-    ghost use Rattle.tableau_core.specs.ClosingFalls.{closing-falls};
+    ghost use Rattle.tableau_core.specs.Numbered.ClosingFalls.{closing-falls};
 
     ghost size_decreases = { λ a _. closing-falls a.items.items };
 }

@@ -1,10 +1,10 @@
-//! What is counted of instances.
+//! What is counted of the values of instances.
 
 ghost use Rattle.std.specs.Prelude.{◌≡◌, map, max};
-ghost use Rattle.formula_core.specs.GroundView.{the_value};
-ghost use Rattle.tableau_core.specs.Counted.{and_more, is_short_count, longest_string, string_length};
+ghost use Rattle.formula_core.specs.GroundLists.{the_value};
+ghost use Rattle.tableau_core.specs.Counted.{longest_string, string_length, and_more, is_short_count};
 
-use formula_core::Value;
+use formula_core::{GroundTable, Value};
 use logic_rules::Logic;
 
 /// The number of nu and pi steps of instances, or the largest number where there are more, and the
@@ -20,26 +20,6 @@ pub fn larger(a: u64, b: u64) -> u64
     ensures { result ≡ max a b }
 {
     if a < b { b } else { a }
-}
-
-fn string_length(value: &Value) -> u64
-    ensures { result ≡ string_length (the_value value.now) }
-{
-    match value {
-        Value::Term(_) => 0,
-        Value::Steps(string) => string.items().len() as u64,
-    }
-}
-
-/// The length of the longest string among the values.
-pub fn longest_string(values: &[Value]) -> u64
-    ensures { result ≡ longest_string (map the_value values.now) }
-{
-    let mut longest = 0;
-    for value in values {
-        longest = larger(longest, string_length(value));
-    }
-    longest
 }
 
 /// The count with so many steps more, and a string of this length.
@@ -60,4 +40,24 @@ pub fn is_short(logic: Logic, count: Count) -> bool
         Some(_) => true,
         None => count.longest <= count.steps,
     }
+}
+
+fn string_length(table: &GroundTable, value: Value) -> u64
+    ensures { result ≡ string_length (the_value table.now value) }
+{
+    match value {
+        Value::Term(_) => 0,
+        Value::Steps(string) => table.marks(string).len() as u64,
+    }
+}
+
+/// The length of the longest string among the values.
+pub fn longest_string(table: &GroundTable, values: &[Value]) -> u64
+    ensures { result ≡ longest_string (map (the_value table.now) values.now) }
+{
+    let mut longest = 0;
+    for value in values {
+        longest = larger(longest, string_length(table, *value));
+    }
+    longest
 }

@@ -10,46 +10,46 @@ ghost use Rattle.calculus.specs.Skolem.{after_shape, label_along, label_of, take
 ghost use Rattle.calculus.specs.declared.setting.Logic.{Logic as TheLogic};
 ghost use Rattle.formula_core.specs.FormulaView.{the_formula};
 ghost use Rattle.tableau_core.specs.Reaching.{reach, rest_of};
-ghost use Rattle.tableau_core.specs.SpotView.{the_mark_at};
-ghost use Rattle.tableau_core.specs.ValuesAt.{values_at};
+ghost use Rattle.formula_core.specs.GroundLists.{GroundList, the_marks, the_value};
+ghost use Rattle.tableau_core.specs.Numbered.SpotView.{the_mark_at};
 
 use crate::part::Part;
 use crate::references::{copy_label, with_mark, with_string};
 use crate::sized::SizedProblem;
-use crate::spot::{MarkAt, Taken};
+use crate::spot::MarkAt;
 use crate::way::towards;
 use cop_base::{NoMemory, PosId};
-use formula_core::{GroundLabel, Value};
+use formula_core::{GroundLabel, GroundTable, Value};
 use logic_rules::{Logic, ModalPart, Shape, kind_of};
 use std::alloc::Global;
 
 // The string at a place of the values.
-fn string_at<'a>(values: &[&'a Value], place: usize) -> Option<&'a GroundLabel>
+fn string_at(table: &GroundTable, values: &[Value], place: usize) -> Option<GroundLabel>
     ensures found { (l : TheLogic) (w : List tree.GroundMark) →
-        option_map (λ s. reach (nu_label l w s.now) (values_at values.now) (place + 1)) result
-        ≡ take_string l (reach w (values_at values.now) place) (drop place (values_at values.now)) }
+        option_map (λ s. reach (nu_label l w (the_marks table.now s)) (map (the_value table.now) values.now) (place + 1)) result
+        ≡ take_string l (reach w (map (the_value table.now) values.now) place) (drop place (map (the_value table.now) values.now)) }
     ensures within { IfSome result (λ s. place < length values.now) }
 {
     if place >= values.len() {
         return None;
     }
-    let value = values[place];
+    let value = &values[place];
     match value {
-        Value::Steps(string) => Some(string),
+        Value::Steps(string) => Some(*string),
         Value::Term(_) => None,
     }
 }
 
 // How many values are taken once a term is, where one stands at the place.
-fn past_term(values: &[&Value], place: usize) -> Option<usize>
-    ensures found { (w : List tree.GroundMark) → option_map (reach w (values_at values.now)) result
-        ≡ take_term (reach w (values_at values.now) place) (drop place (values_at values.now)) }
+fn past_term(table: &GroundTable, values: &[Value], place: usize) -> Option<usize>
+    ensures found { (w : List tree.GroundMark) → option_map (reach w (map (the_value table.now) values.now)) result
+        ≡ take_term (reach w (map (the_value table.now) values.now) place) (drop place (map (the_value table.now) values.now)) }
     ensures within { IfSome result (λ next. next ≤ length values.now) }
 {
     if place >= values.len() {
         return None;
     }
-    let value = values[place];
+    let value = &values[place];
     match value {
         Value::Term(_) => Some(place + 1),
         Value::Steps(_) => None,
@@ -57,14 +57,14 @@ fn past_term(values: &[&Value], place: usize) -> Option<usize>
 }
 
 // How many values are taken past the shape's part.
-fn past_shape(shape: Shape, values: &[&Value], place: usize) -> Option<usize>
+fn past_shape(table: &GroundTable, shape: Shape, values: &[Value], place: usize) -> Option<usize>
     requires { place ≤ length values.now }
-    ensures found { (w : List tree.GroundMark) → option_map (reach w (values_at values.now)) result
-        ≡ after_shape shape (reach w (values_at values.now) place) }
+    ensures found { (w : List tree.GroundMark) → option_map (reach w (map (the_value table.now) values.now)) result
+        ≡ after_shape shape (reach w (map (the_value table.now) values.now) place) }
     ensures within { IfSome result (λ next. next ≤ length values.now) }
 {
     match shape {
-        Shape::Gamma => past_term(values, place),
+        Shape::Gamma => past_term(table, values, place),
         Shape::Alpha | Shape::Beta | Shape::Delta | Shape::Literal => Some(place),
     }
 }
@@ -74,37 +74,39 @@ fn past_shape(shape: Shape, values: &[&Value], place: usize) -> Option<usize>
 #[cycle(home)]
 fn home_below<'a>(
     alloc: Global,
+    table: &GroundTable,
     logic: Logic,
     part: Part,
     place: u32,
     position: u32,
-    values: &'a [&'a Value],
+    values: &'a [Value],
     taken: usize,
     label: &[MarkAt<'a>],
 ) -> Result<Vec<MarkAt<'a>>, NoMemory>
     requires small { position + size (the_formula part.formula.now) < 2 ^ 32 }
     requires inside { place < size (the_formula part.formula.now) }
     requires taken { taken ≤ length values.now }
-    ensures { IfOk result (λ w. map the_mark_at w.items
+    ensures { IfOk result (λ w. map (the_mark_at table.now) w.items
         ≡ label_along logic (way_from position part.entry.sign (the_formula part.entry.formula.now) place)
-        (reach (map the_mark_at label.now) (values_at values.now) taken)) }
+        (reach (map (the_mark_at table.now) label.now) (map (the_value table.now) values.now) taken)) }
 {
     match kind_of(logic, part.sign, part.formula).modal {
         ModalPart::Plain => {
             let w = home_shape(
-                alloc, logic, part, place, position, values, taken, label, label,
+                alloc, table, logic, part, place, position, values, taken, label, label,
             )?;
             Ok(w)
         }
-        ModalPart::Nu => match string_at(values, taken) {
+        ModalPart::Nu => match string_at(table, values, taken) {
             None => {
                 let w = copy_label(alloc, label)?;
                 Ok(w)
             }
             Some(string) => {
-                let moved = with_string(alloc, logic, label, string.items())?;
+                let moved = with_string(alloc, logic, label, table.marks(string))?;
                 let w = home_shape(
                     alloc,
+                    table,
                     logic,
                     part,
                     place,
@@ -118,13 +120,10 @@ fn home_below<'a>(
             }
         },
         ModalPart::Pi => {
-            let before = Taken {
-                values: &values[..taken],
-            };
-            let mark = MarkAt::Made(PosId(position), before);
+            let mark = MarkAt::Made(PosId(position), &values[..taken]);
             let moved = with_mark(alloc, logic, label, mark)?;
             let w = home_shape(
-                alloc, logic, part, place, position, values, taken, &moved, label,
+                alloc, table, logic, part, place, position, values, taken, &moved, label,
             )?;
             Ok(w)
         }
@@ -135,11 +134,12 @@ fn home_below<'a>(
 #[cycle(home)]
 fn home_shape<'a>(
     alloc: Global,
+    table: &GroundTable,
     logic: Logic,
     part: Part,
     place: u32,
     position: u32,
-    values: &'a [&'a Value],
+    values: &'a [Value],
     taken: usize,
     label: &[MarkAt<'a>],
     before: &[MarkAt<'a>],
@@ -147,14 +147,14 @@ fn home_shape<'a>(
     requires small { position + size (the_formula part.formula.now) < 2 ^ 32 }
     requires inside { place < size (the_formula part.formula.now) }
     requires taken { taken ≤ length values.now }
-    ensures { IfOk result (λ w. map the_mark_at w.items
+    ensures { IfOk result (λ w. map (the_mark_at table.now) w.items
         ≡ option_map_or (label_along logic (rest_of (way_from position part.entry.sign (the_formula part.entry.formula.now) place)))
         (after_shape (shape_of part.entry.sign (the_formula part.entry.formula.now))
-        (reach (map the_mark_at label.now) (values_at values.now) taken))
-        (map the_mark_at before.now)) }
+        (reach (map (the_mark_at table.now) label.now) (map (the_value table.now) values.now) taken))
+        (map (the_mark_at table.now) before.now)) }
 {
     let shape = part.formula.components(part.sign).shape();
-    let Some(past) = past_shape(shape, values, taken) else {
+    let Some(past) = past_shape(table, shape, values, taken) else {
         let w = copy_label(alloc, before)?;
         return Ok(w);
     };
@@ -165,6 +165,7 @@ fn home_shape<'a>(
     let next = towards(part, place);
     let w = home_below(
         alloc,
+        table,
         logic,
         next.part,
         next.place,
@@ -180,10 +181,11 @@ fn home_shape<'a>(
 pub fn eigen_home<'a>(
     alloc: Global,
     problem: &SizedProblem,
+    table: &GroundTable,
     p: PosId,
-    values: &'a [&'a Value],
+    values: &'a [Value],
 ) -> Result<Vec<MarkAt<'a>>, NoMemory>
-    ensures { IfOk result (λ w. map the_mark_at w.items ≡ label_of problem.now p.0 (values_at values.now)) }
+    ensures { IfOk result (λ w. map (the_mark_at table.now) w.items ≡ label_of problem.now p.0 (map (the_value table.now) values.now)) }
 {
     let whole = problem.whole();
     let root = Vec::new(alloc);
@@ -191,6 +193,6 @@ pub fn eigen_home<'a>(
         return Ok(root);
     }
     let logic = problem.setting().logic();
-    let w = home_below(alloc, logic, whole, p.0, 0, values, 0, &root)?;
+    let w = home_below(alloc, table, logic, whole, p.0, 0, values, 0, &root)?;
     Ok(w)
 }

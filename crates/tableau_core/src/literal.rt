@@ -1,7 +1,6 @@
 //! Signed ground atoms at labels.
 
-ghost use Rattle.std.specs.Prelude.{◌≡◌, ◌++◌, ◌∷◌, [], map, OnOk, OnErr};
-ghost use Rattle.tableau_core.specs.LiteralView.{the_literal};
+ghost use Rattle.std.specs.Prelude.{◌≡◌, ◌++◌, ◌∷◌, [], OnOk, OnErr};
 
 use cop_base::{NoMemory, SymbolId};
 use formula_core::{GroundLabel, GroundTerms, Sign};
@@ -9,7 +8,7 @@ use std::alloc::Global;
 use std::marker::Model;
 
 /// A signed ground atom at the label of its world. Sign F marks what is to be shown.
-#[derive(Drop)]
+#[derive(Clone, Copy)]
 pub struct GroundLiteral {
     pub sign: Sign,
     pub symbol: SymbolId,
@@ -24,17 +23,12 @@ pub struct LiteralList {
 }
 
 impl Model for LiteralList {
-    ghost use Rattle.std.specs.Prelude.{List, map};
-    ghost use Rattle.calculus.specs.Ground as tree;
-    ghost use Rattle.tableau_core.specs.LiteralCodes.{literal_code};
-    ghost use Rattle.std.specs.Coded.{coded_list};
-    ghost use Rattle.tableau_core.specs.LiteralView.{the_literal};
+    ghost use Rattle.std.specs.Prelude.{List};
+    ghost use Rattle.tableau_core.specs.declared.literal.GroundLiteral.{GroundLiteral as Literal};
 
-    ghost Value = { List tree.GroundLiteral };
+    ghost Value = { List Literal };
 
-    ghost coded = { coded_list literal_code };
-
-    ghost view = { λ a. map the_literal a.items.items };
+    ghost view = { λ a. a.items.items };
 }
 
 impl LiteralList {
@@ -49,7 +43,7 @@ impl LiteralList {
 
     /// Appends the item. Want of memory leaves the list as it was.
     pub fn push(&mut self, item: GroundLiteral) -> Result<(), NoMemory>
-        ensures ok { OnOk result (self.new ≡ self.old ++ the_literal item ∷ []) }
+        ensures ok { OnOk result (self.new ≡ self.old ++ item ∷ []) }
         ensures err { OnErr result (self.new ≡ self.old) }
     {
         self.items.push(item)?;
@@ -58,7 +52,7 @@ impl LiteralList {
 
     /// The items in order.
     pub fn items(&self) -> &[GroundLiteral]
-        ensures { map the_literal result.now ≡ self.now }
+        ensures { result.now ≡ self.now }
     {
         self.items.as_slice()
     }

@@ -1,11 +1,9 @@
-//! Lists of references that go on by one step. What they refer to is not copied.
+//! Lists that go on by one step.
 
-ghost use Rattle.std.specs.Prelude.{◌≡◌, ◌++◌, ◌∷◌, [], map, IfOk, OnOk};
+ghost use Rattle.std.specs.Prelude.{◌≡◌, ◌++◌, ◌∷◌, [], List, map, IfOk};
 ghost use Rattle.calculus.specs.Labels.{nu_label, pi_label};
-ghost use Rattle.formula_core.specs.GroundView.{the_mark, the_value};
-ghost use Rattle.tableau_core.specs.Fitting.{start_of};
-ghost use Rattle.tableau_core.specs.SpotView.{the_bound, the_mark_at};
-ghost use Rattle.tableau_core.specs.ValuesAt.{values_at};
+ghost use Rattle.formula_core.specs.GroundLists.{GroundList, the_mark};
+ghost use Rattle.tableau_core.specs.Numbered.SpotView.{the_bound, the_mark_at, start_marks};
 
 use crate::spot::{Bound, MarkAt};
 use cop_base::NoMemory;
@@ -13,40 +11,23 @@ use formula_core::{GroundMark, Value};
 use logic_rules::Logic;
 use std::alloc::Global;
 
-/// The characters, by reference.
-pub fn given<'a>(alloc: Global, marks: &'a [GroundMark]) -> Result<Vec<MarkAt<'a>>, NoMemory>
-    ensures { IfOk result (λ v. map the_mark_at v.items ≡ map the_mark marks.now) }
+/// The characters of a string or a home.
+pub fn given<'a>(alloc: Global, marks: &[GroundMark]) -> Result<Vec<MarkAt<'a>>, NoMemory>
+    ensures { IfOk result (λ v. (ls : List GroundList) → map (the_mark_at ls) v.items ≡ map (the_mark ls) marks.now) }
 {
     let mut all = Vec::new(alloc);
     for mark in marks {
-        all.push(MarkAt::Given(mark))?;
-    }
-    Ok(all)
-}
-
-/// The values, by reference.
-pub fn references<'a>(alloc: Global, values: &'a [Value]) -> Result<Vec<&'a Value>, NoMemory>
-    ensures { IfOk result (λ v. values_at v.items ≡ map the_value values.now) }
-{
-    let mut all = Vec::new(alloc);
-    for value in values {
-        all.push(value)?;
+        all.push(MarkAt::Given(*mark))?;
     }
     Ok(all)
 }
 
 /// These values and one more.
-pub fn with_value<'a>(
-    alloc: Global,
-    taken: &[&'a Value],
-    value: &'a Value,
-) -> Result<Vec<&'a Value>, NoMemory>
-    ensures { IfOk result (λ v. values_at v.items ≡ values_at taken.now ++ the_value value.now ∷ []) }
+pub fn with_value(alloc: Global, taken: &[Value], value: Value) -> Result<Vec<Value>, NoMemory>
+    ensures { IfOk result (λ v. v.items ≡ taken.now ++ value ∷ []) }
 {
     let mut all = Vec::new(alloc);
-    for item in taken {
-        all.push(*item)?;
-    }
+    all.extend_from_slice(taken)?;
     all.push(value)?;
     Ok(all)
 }
@@ -57,30 +38,26 @@ pub fn with_bound<'a>(
     bound: Bound<'a>,
     env: &[Bound<'a>],
 ) -> Result<Vec<Bound<'a>>, NoMemory>
-    ensures { IfOk result (λ v. map the_bound v.items ≡ the_bound bound.entry ∷ map the_bound env.now) }
+    ensures { IfOk result (λ v. v.items ≡ bound.entry ∷ env.now) }
 {
     let mut all = Vec::new(alloc);
     all.push(bound)?;
-    for item in env {
-        all.push(*item)?;
-    }
+    all.extend_from_slice(env)?;
     Ok(all)
 }
 
 /// A label with the same characters.
 pub fn copy_label<'a>(alloc: Global, label: &[MarkAt<'a>]) -> Result<Vec<MarkAt<'a>>, NoMemory>
-    ensures { IfOk result (λ v. map the_mark_at v.items ≡ map the_mark_at label.now) }
+    ensures { IfOk result (λ v. v.items ≡ label.now) }
 {
     let mut all = Vec::new(alloc);
-    for item in label {
-        all.push(*item)?;
-    }
+    all.extend_from_slice(label)?;
     Ok(all)
 }
 
 // The label from which a step of the logic goes on: in S5 that is the root.
 fn start<'a>(alloc: Global, logic: Logic, label: &[MarkAt<'a>]) -> Result<Vec<MarkAt<'a>>, NoMemory>
-    ensures { IfOk result (λ v. map the_mark_at v.items ≡ start_of logic (map the_mark_at label.now)) }
+    ensures { IfOk result (λ v. v.items ≡ start_marks logic label.now) }
 {
     if !logic.keeps_prefix() {
         return Ok(Vec::new(alloc));
@@ -90,15 +67,15 @@ fn start<'a>(alloc: Global, logic: Logic, label: &[MarkAt<'a>]) -> Result<Vec<Ma
 }
 
 /// The label of a pi step.
-#[tactic(auto, using(crate::proofs::ReferenceLaws::labels))]
+#[tactic(auto, using(crate::proofs::Numbered::LabelLaws::labels))]
 pub fn with_mark<'a>(
     alloc: Global,
     logic: Logic,
     label: &[MarkAt<'a>],
     mark: MarkAt<'a>,
 ) -> Result<Vec<MarkAt<'a>>, NoMemory>
-    ensures { IfOk result (λ v. map the_mark_at v.items
-        ≡ pi_label logic (map the_mark_at label.now) (the_mark_at mark.entry)) }
+    ensures { IfOk result (λ v. (ls : List GroundList) → map (the_mark_at ls) v.items
+        ≡ pi_label logic (map (the_mark_at ls) label.now) (the_mark_at ls mark.entry)) }
 {
     let mut all = start(alloc, logic, label)?;
     all.push(mark)?;
@@ -106,19 +83,19 @@ pub fn with_mark<'a>(
 }
 
 /// The label of a nu step.
-#[tactic(auto, using(crate::proofs::ReferenceLaws::labels))]
+#[tactic(auto, using(crate::proofs::Numbered::LabelLaws::labels))]
 pub fn with_string<'a>(
     alloc: Global,
     logic: Logic,
     label: &[MarkAt<'a>],
-    string: &'a [GroundMark],
+    string: &[GroundMark],
 ) -> Result<Vec<MarkAt<'a>>, NoMemory>
-    ensures { IfOk result (λ v. map the_mark_at v.items
-        ≡ nu_label logic (map the_mark_at label.now) (map the_mark string.now)) }
+    ensures { IfOk result (λ v. (ls : List GroundList) → map (the_mark_at ls) v.items
+        ≡ nu_label logic (map (the_mark_at ls) label.now) (map (the_mark ls) string.now)) }
 {
     let mut all = start(alloc, logic, label)?;
     for mark in string {
-        all.push(MarkAt::Given(mark))?;
+        all.push(MarkAt::Given(*mark))?;
     }
     Ok(all)
 }

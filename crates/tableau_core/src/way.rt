@@ -1,22 +1,22 @@
-//! The ways to the positions of a formula, and the values that are those of a name.
+//! The values that are those of a name.
 
-ghost use Rattle.std.specs.Prelude.{◌≡◌, ℕ, ◌<◌, ◌≤◌, ◌+◌, ◌^◌, ◌∷◌, [], map};
+ghost use Rattle.std.specs.Prelude.{◌≡◌, ℕ, ◌<◌, ◌^◌, map, ◌≤◌, ◌+◌, ◌∷◌, []};
 ghost use Rattle.std.specs.Option.{option_map};
-ghost use Rattle.calculus.specs.Kinds.{components};
 ghost use Rattle.calculus.specs.Positions.{size, way_from};
 ghost use Rattle.calculus.specs.Skolem.{way_to};
 ghost use Rattle.formula_core.specs.FormulaView.{the_formula};
-ghost use Rattle.formula_core.specs.GroundView.{the_value};
-ghost use Rattle.tableau_core.specs.Fitting.{is_made, is_maker, past_modal, past_node, past_shape, past_string, past_term};
+ghost use Rattle.formula_core.specs.GroundLists.{the_value};
+ghost use Rattle.tableau_core.specs.Fitting.{is_made, past_modal, past_node, past_shape, past_string, past_term, is_maker};
+ghost use Rattle.tableau_core.specs.Numbered.SpotView.{values_left};
+ghost use Rattle.calculus.specs.Kinds.{components};
 ghost use Rattle.tableau_core.specs.InsideView.{LeadsOn, the_inside};
 ghost use Rattle.tableau_core.specs.PartView.{the_part};
-ghost use Rattle.tableau_core.specs.ValuesAt.{values_left};
 
 use crate::part::Part;
 use crate::parts::{Parts, components_of};
 use crate::sized::SizedProblem;
 use cop_base::PosId;
-use formula_core::Value;
+use formula_core::{GroundTable, Value};
 use logic_rules::{Kind, Logic, ModalPart, Shape, kind_of};
 
 /// What makes a name: a delta position an eigenvariable, a pi position a character.
@@ -26,57 +26,13 @@ pub enum Maker {
     Pi,
 }
 
-fn past_string(logic: Logic, values: &[Value]) -> Option<&[Value]>
-    ensures { option_map values_left result ≡ past_string logic (map the_value values.now) }
-{
-    match values.split_first() {
-        Some((Value::Steps(string), rest)) => {
-            if logic.is_step_length(string.items().len()) {
-                Some(rest)
-            } else {
-                None
-            }
-        }
-        Some((Value::Term(_), _)) | None => None,
-    }
-}
-
-fn past_modal(logic: Logic, modal: ModalPart, values: &[Value]) -> Option<&[Value]>
-    ensures { option_map values_left result ≡ past_modal logic modal (map the_value values.now) }
-{
-    match modal {
-        ModalPart::Nu => past_string(logic, values),
-        ModalPart::Plain | ModalPart::Pi => Some(values),
-    }
-}
-
-fn past_term(values: &[Value]) -> Option<&[Value]>
-    ensures { option_map values_left result ≡ past_term (map the_value values.now) }
-{
-    match values.split_first() {
-        Some((Value::Term(_), rest)) => Some(rest),
-        Some((Value::Steps(_), _)) | None => None,
-    }
-}
-
-fn past_shape(shape: Shape, values: &[Value]) -> Option<&[Value]>
-    ensures { option_map values_left result ≡ past_shape shape (map the_value values.now) }
-{
-    match shape {
-        Shape::Gamma => past_term(values),
-        Shape::Alpha | Shape::Beta | Shape::Delta | Shape::Literal => Some(values),
-    }
-}
-
-// The values left past a position of this kind.
-fn past_node(logic: Logic, kind: Kind, values: &[Value]) -> Option<&[Value]>
-    ensures { option_map values_left result
-        ≡ past_node logic kind.modal kind.shape (map the_value values.now) }
-{
-    match past_modal(logic, kind.modal, values) {
-        None => None,
-        Some(rest) => past_shape(kind.shape, rest),
-    }
+/// The component on the way to a place below a part: how many positions further it stands, and the
+/// place from there.
+#[derive(Clone, Copy)]
+pub struct Inside<'a> {
+    pub part: Part<'a>,
+    pub further: u32,
+    pub place: u32,
 }
 
 /// Whether a position of this kind makes such names.
@@ -87,15 +43,6 @@ pub fn is_maker(maker: Maker, kind: Kind) -> bool
         Maker::Delta => kind.shape == Shape::Delta,
         Maker::Pi => kind.modal == ModalPart::Pi,
     }
-}
-
-/// The component on the way to a place below a part: how many positions further it stands, and the
-/// place from there.
-#[derive(Clone, Copy)]
-pub struct Inside<'a> {
-    pub part: Part<'a>,
-    pub further: u32,
-    pub place: u32,
 }
 
 #[tactic(auto, using(crate::proofs::WayLaws::inside))]
@@ -158,34 +105,110 @@ pub fn towards(whole: Part, place: u32) -> Inside
     }
 }
 
+fn past_string<'v>(table: &GroundTable, logic: Logic, values: &'v [Value]) -> Option<&'v [Value]>
+    ensures { option_map (values_left table.now) result ≡ past_string logic (map (the_value table.now) values.now) }
+{
+    match values.split_first() {
+        Some((Value::Steps(string), rest)) => {
+            if logic.is_step_length(table.marks(*string).len()) {
+                Some(rest)
+            } else {
+                None
+            }
+        }
+        Some((Value::Term(_), _)) | None => None,
+    }
+}
+
+fn past_modal<'v>(
+    table: &GroundTable,
+    logic: Logic,
+    modal: ModalPart,
+    values: &'v [Value],
+) -> Option<&'v [Value]>
+    ensures { option_map (values_left table.now) result ≡ past_modal logic modal (map (the_value table.now) values.now) }
+{
+    match modal {
+        ModalPart::Nu => past_string(table, logic, values),
+        ModalPart::Plain | ModalPart::Pi => Some(values),
+    }
+}
+
+fn past_term<'v>(table: &GroundTable, values: &'v [Value]) -> Option<&'v [Value]>
+    ensures { option_map (values_left table.now) result ≡ past_term (map (the_value table.now) values.now) }
+{
+    match values.split_first() {
+        Some((Value::Term(_), rest)) => Some(rest),
+        Some((Value::Steps(_), _)) | None => None,
+    }
+}
+
+fn past_shape<'v>(table: &GroundTable, shape: Shape, values: &'v [Value]) -> Option<&'v [Value]>
+    ensures { option_map (values_left table.now) result ≡ past_shape shape (map (the_value table.now) values.now) }
+{
+    match shape {
+        Shape::Gamma => past_term(table, values),
+        Shape::Alpha | Shape::Beta | Shape::Delta | Shape::Literal => Some(values),
+    }
+}
+
+// The values left past a position of this kind.
+fn past_node<'v>(
+    table: &GroundTable,
+    logic: Logic,
+    kind: Kind,
+    values: &'v [Value],
+) -> Option<&'v [Value]>
+    ensures { option_map (values_left table.now) result
+        ≡ past_node logic kind.modal kind.shape (map (the_value table.now) values.now) }
+{
+    match past_modal(table, logic, kind.modal, values) {
+        None => None,
+        Some(rest) => past_shape(table, kind.shape, rest),
+    }
+}
+
 // The same below a part, at a place from there.
 #[tactic(auto, using(crate::proofs::WayLaws::made))]
-fn is_made_below(maker: Maker, logic: Logic, part: Part, place: u32, values: &[Value]) -> bool
+fn is_made_below(
+    table: &GroundTable,
+    maker: Maker,
+    logic: Logic,
+    part: Part,
+    place: u32,
+    values: &[Value],
+) -> bool
     requires small { size (the_formula part.formula.now) < 2 ^ 32 }
     requires inside { place < size (the_formula part.formula.now) }
     ensures { (q : ℕ) → result
         ≡ is_made maker logic (way_from q part.entry.sign (the_formula part.entry.formula.now) place)
-        (map the_value values.now) }
+        (map (the_value table.now) values.now) }
 {
     let kind = kind_of(logic, part.sign, part.formula);
-    let Some(rest) = past_node(logic, kind, values) else {
+    let Some(rest) = past_node(table, logic, kind, values) else {
         return false;
     };
     if place == 0 {
         return is_maker(maker, kind) && rest.is_empty();
     }
     let next = towards(part, place);
-    is_made_below(maker, logic, next.part, next.place, rest)
+    is_made_below(table, maker, logic, next.part, next.place, rest)
 }
 
 /// Whether a name of this position has these values.
-pub fn is_made(problem: &SizedProblem, maker: Maker, p: PosId, values: &[Value]) -> bool
+pub fn is_made(
+    problem: &SizedProblem,
+    table: &GroundTable,
+    maker: Maker,
+    p: PosId,
+    values: &[Value],
+) -> bool
     ensures { result
-        ≡ is_made maker problem.now.setting.logic (way_to problem.now p.0) (map the_value values.now) }
+        ≡ is_made maker problem.now.setting.logic (way_to problem.now p.0) (map (the_value table.now) values.now) }
 {
     let whole = problem.whole();
     if p.0 >= whole.size() {
         return false;
     }
-    is_made_below(maker, problem.setting().logic(), whole, p.0, values)
+    is_made_below(table, maker, problem.setting().logic(), whole, p.0, values)
 }

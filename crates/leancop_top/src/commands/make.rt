@@ -23,7 +23,7 @@ use derivation_check::Verdict;
 use derivation_text::Version;
 use logic_rules::Problem;
 use std::alloc::Global;
-use tableau_core::shared::Tableau;
+use tableau_core::Tableau;
 
 // The name by which the text is read.
 const MAIN: &str = "m.p";

@@ -26,7 +26,7 @@ use logic_rules::Problem;
 use sequent_calc::Derivation;
 use sequent_convert::convert;
 use std::alloc::Global;
-use tableau_core::shared::Tableau;
+use tableau_core::Tableau;
 
 // Gives the tableau back, which may be large, before the derivation is printed.
 fn derive(

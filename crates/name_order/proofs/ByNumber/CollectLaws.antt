@@ -12,7 +12,7 @@ use Rattle.tableau_core.specs.Numbered.Closings as numbered
 use Rattle.tableau_core.specs.Numbered.ClosingView.{closing_in}
 use Rattle.tableau_core.specs.Numbered.InstanceView.{the_instance}
 use Rattle.tableau_core.proofs.Numbered.ClosingLaws.{closings-in}
-use Rattle.tableau_core.specs.declared.shared.instance.ClauseInstance.{ClauseInstance}
+use Rattle.tableau_core.specs.declared.instance.ClauseInstance.{ClauseInstance}
 
 pub extended : (P : Problem) (ls : List GroundList) (i : ClauseInstance) (k : ℕ) (goals : List numbered.Closing) (old mid new : List ReachedList) (turns : ReachedList) → the_list ls turns ≡ turns_by P (the_instance ls i) → mid ≡ old ++ turns ∷ [] → the_lists ls new ≡ the_lists ls mid ++ map (turns_by P) (instances_of_all (closings_tree (map (closing_in ls) goals))) → the_lists ls new ≡ the_lists ls old ++ map (turns_by P) (instances_below (closing_in ls (numbered.extend i k (numbered.closings_tree goals))))
 extended P ls i k goals old mid new turns walked pushed collected =

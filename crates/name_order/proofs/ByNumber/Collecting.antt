@@ -3,7 +3,7 @@ use Rattle.std.proofs.Common.{◌≡◌, ℕ, zero, suc, ◌<◌, length, get_or
 use Rattle.std.proofs.lemmas.List.{map-append}
 use Rattle.tableau_core.specs.Numbered.Closings.{closing_size, closing_list_size}
 use Rattle.tableau_core.specs.Numbered.ClosingView.{the_closing}
-use Rattle.tableau_core.specs.declared.shared.closing.Closing.{Closing}
+use Rattle.tableau_core.specs.declared.closing.Closing.{Closing}
 
 -- an item of the list is smaller than the list
 pub closing_size-item : (cs : List Closing) (k : ℕ) (c d : Closing) → k < length cs → c ≡ get_or cs k d → closing_size (the_closing c) < closing_list_size (map the_closing cs)

@@ -9,9 +9,9 @@ use Rattle.calculus.specs.Ground.{marks_tree, values_tree}
 use Rattle.calculus.specs.Lists.{g_terms_tree}
 use Rattle.conversion_theory.specs.Depths.{terms_depth, marks_depth, values_depth}
 use Rattle.formula_core.specs.GroundLists.{GroundList, of_terms, of_marks, of_values, list_at, no_list, terms_in, marks_in, values_in, the_terms, the_marks, the_values, AreNormalTerms, AreNormalMarks, AreNormalValues, IsLower}
-use Rattle.formula_core.specs.declared.shared.GroundTerms.{GroundTerms}
-use Rattle.formula_core.specs.declared.shared.GroundLabel.{GroundLabel}
-use Rattle.formula_core.specs.declared.shared.Values.{Values}
+use Rattle.formula_core.specs.declared.ground.GroundTerms.{GroundTerms}
+use Rattle.formula_core.specs.declared.ground.GroundLabel.{GroundLabel}
+use Rattle.formula_core.specs.declared.ground.Values.{Values}
 use Rattle.name_order.specs.ByNumber.Depths.{KnowsDepths, known_depth, list_depth}
 
 -- a list that is not empty is of one kind

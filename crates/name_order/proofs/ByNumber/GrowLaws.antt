@@ -3,8 +3,8 @@ use Rattle.std.proofs.Common.{◌≡◌, ℕ, ◌+◌, ◌<◌, List, [], ◌∷
 use Rattle.std.specs.List.{AllByRecursion}
 use Rattle.std.proofs.lemmas.List.{map-append, take_more}
 use Rattle.formula_core.specs.GroundLists.{GroundList, the_value, AreNormalValues, IsNormalValue, IsGrown}
-use Rattle.formula_core.specs.declared.shared.Value.{Value}
-use Rattle.formula_core.specs.declared.shared.Values.{Values}
+use Rattle.formula_core.specs.declared.ground.Value.{Value}
+use Rattle.formula_core.specs.declared.ground.Values.{Values}
 use Rattle.formula_core.proofs.GrownLaws.{grown-both, value-grown, values-grown}
 use Rattle.name_order.specs.ByNumber.Inside.{the_names, AreNormalNames}
 use Rattle.name_order.specs.ByNumber.Naming.{IsNaming, Keeps}

@@ -16,9 +16,9 @@ use Rattle.conversion_theory.specs.Numbering.{name_eq}
 use Rattle.conversion_theory.specs.Turns.{Name, names_of_terms, names_of_marks, names_of_values}
 use Rattle.conversion_theory.proofs.NumberLaws.{name_eq-tells}
 use Rattle.formula_core.specs.GroundLists.{GroundList, of_terms, of_marks, of_values, list_at, terms_in, marks_in, values_in, the_terms, the_marks, the_values}
-use Rattle.formula_core.specs.declared.shared.GroundTerms.{GroundTerms}
-use Rattle.formula_core.specs.declared.shared.GroundLabel.{GroundLabel}
-use Rattle.formula_core.specs.declared.shared.Values.{Values}
+use Rattle.formula_core.specs.declared.ground.GroundTerms.{GroundTerms}
+use Rattle.formula_core.specs.declared.ground.GroundLabel.{GroundLabel}
+use Rattle.formula_core.specs.declared.ground.Values.{Values}
 use Rattle.name_order.specs.ByNumber.Inside.{has, is_ahead, names_in, the_names, AreNormalNames}
 use Rattle.name_order.specs.ByNumber.Seeing.{sees, Sees}
 use Rattle.name_order.specs.Keeping.{keep}

@@ -11,8 +11,8 @@ use Rattle.conversion_theory.specs.Turns.{Name, mark_name}
 use Rattle.conversion_theory.proofs.NumberLaws.{name_eq-tells}
 use Rattle.formula_core.specs.GroundLists.{GroundList, of_terms, values_in, the_values, AreNormalValues, IsGrown}
 use Rattle.formula_core.specs.GroundTables.{AreApart}
-use Rattle.formula_core.specs.declared.shared.GroundMark.TheVariants as mark
-use Rattle.formula_core.specs.declared.shared.Values.{Values}
+use Rattle.formula_core.specs.declared.ground.GroundMark.TheVariants as mark
+use Rattle.formula_core.specs.declared.ground.Values.{Values}
 use Rattle.formula_core.proofs.GroundTableLaws.{values-inj}
 use Rattle.formula_core.proofs.GrownLaws.{values-grown}
 use Rattle.name_order.specs.ByNumber.Inside.{AreNormalNames}

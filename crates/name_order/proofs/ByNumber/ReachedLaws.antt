@@ -7,8 +7,8 @@ use Rattle.std.proofs.lemmas.Bool.{and_parts, eqb-true}
 use Rattle.calculus.specs.Instances as tree
 use Rattle.formula_core.specs.GroundLists.{GroundList, the_value, IsNormalValue}
 use Rattle.formula_core.specs.GroundTables.{AreApart}
-use Rattle.formula_core.specs.contracts.shared.ValuePartialEq.TheImpl as value
-use Rattle.formula_core.specs.declared.shared.Value.{Value}
+use Rattle.formula_core.specs.contracts.ground.ValuePartialEq.TheImpl as value
+use Rattle.formula_core.specs.declared.ground.Value.{Value}
 use Rattle.formula_core.proofs.GroundTableLaws.{value-inj}
 use Rattle.indexmap.specs.IndexSet.{insert_key}
 use Rattle.name_order.specs.ByNumber.ReachedView.{the_reached, the_all, the_keys, IsNormalReached, AreNormalReached}

@@ -10,13 +10,13 @@ use Rattle.calculus.specs.Skolem.{label_of}
 use Rattle.calculus.specs.Syntax.{Problem}
 use Rattle.conversion_theory.specs.Turns.{Name, mark_name, term_name}
 use Rattle.formula_core.specs.GroundLists.{GroundList, the_value}
-use Rattle.formula_core.specs.declared.shared.Value.{Value}
+use Rattle.formula_core.specs.declared.ground.Value.{Value}
 use Rattle.name_order.specs.ByNumber.Inside.{home_marks}
 use Rattle.name_order.specs.Found.{above_in, before_in, find_in, introducer_in, introducers_in, listed, parent_in}
 use Rattle.name_order.specs.Places.{Place, is_delta_in, is_pi_in}
 use Rattle.name_order.specs.WalkView.{the_turn_at}
 use Rattle.tableau_core.specs.Numbered.SpotView.{the_mark_at}
-use Rattle.tableau_core.specs.declared.shared.spot.MarkAt.{MarkAt}
+use Rattle.tableau_core.specs.declared.spot.MarkAt.{MarkAt}
 use Rattle.name_order.proofs.Collecting.{flat_map-append}
 
 pub parent-found : (ls : List GroundList) (ps : List Place) (ks : List (List ℕ)) (x : Turn) (vs : List Value) (b q : ℕ) (r : Option ℕ) → map (the_value ls) vs ≡ x.values → b ≡ before_in ps x → Some q ≡ above_in ps x.position → r ≡ find_in ks (the_turn_at q (map (the_value ls) (take b vs))) → r ≡ parent_in ps ks x

@@ -9,7 +9,7 @@ use Rattle.formula_core.specs.GroundLists.{GroundList}
 use Rattle.tableau_core.specs.Numbered.Closings as numbered
 use Rattle.tableau_core.specs.Numbered.Closings.{closing_size, closing_list_size}
 use Rattle.tableau_core.specs.Numbered.ClosingView.{closing_in, closings_in, the_closing}
-use Rattle.tableau_core.specs.declared.shared.closing.Closing as program
+use Rattle.tableau_core.specs.declared.closing.Closing as program
 use Rattle.tableau_core.proofs.Numbered.ClosingLaws.{closings-in}
 use Rattle.sequent_convert.specs.AheadView.{IsExtended, IsNotExtended, meeting, end_instances, ends_instances, instance_count}
 use Rattle.sequent_convert.specs.ByNumber.AheadView.{the_end, starts_with, closing_ends, instances_in_closing, instances_below, instances_in_all, closings_count}

@@ -12,10 +12,10 @@ use Rattle.calculus.specs.Ground.{g_new_mark, values_tree}
 use Rattle.calculus.specs.Lists.{values_tree-inj}
 use Rattle.cop_base.specs.declared.PosId.{PosId}
 use Rattle.formula_core.specs.GroundLists.{GroundList, the_value, the_values}
-use Rattle.formula_core.specs.declared.shared.GroundMark.{GroundMark}
-use Rattle.formula_core.specs.declared.shared.GroundMark.TheVariants as mark
-use Rattle.formula_core.specs.declared.shared.Value.{Value}
-use Rattle.formula_core.specs.declared.shared.Values.{Values}
+use Rattle.formula_core.specs.declared.ground.GroundMark.{GroundMark}
+use Rattle.formula_core.specs.declared.ground.GroundMark.TheVariants as mark
+use Rattle.formula_core.specs.declared.ground.Value.{Value}
+use Rattle.formula_core.specs.declared.ground.Values.{Values}
 use Rattle.name_order.specs.ByNumber.NameView.{the_name}
 use Rattle.name_order.specs.declared.names.Name.{Name}
 use Rattle.name_order.specs.declared.names.Name.TheVariants as name

@@ -12,12 +12,12 @@ use Rattle.calculus.specs.Lists.{marks_list-marks_tree, values_list-values_tree}
 use Rattle.calculus.specs.Skolem.{label_of}
 use Rattle.conversion_theory.specs.Numbering.{eigen_home, numbered_label}
 use Rattle.formula_core.specs.GroundLists.{GroundList, the_mark, the_marks, the_value, the_values}
-use Rattle.formula_core.specs.declared.shared.GroundLabel.{GroundLabel}
-use Rattle.formula_core.specs.declared.shared.GroundMark.{GroundMark}
-use Rattle.formula_core.specs.declared.shared.Value.{Value}
-use Rattle.formula_core.specs.declared.shared.Values.{Values}
+use Rattle.formula_core.specs.declared.ground.GroundLabel.{GroundLabel}
+use Rattle.formula_core.specs.declared.ground.GroundMark.{GroundMark}
+use Rattle.formula_core.specs.declared.ground.Value.{Value}
+use Rattle.formula_core.specs.declared.ground.Values.{Values}
 use Rattle.tableau_core.specs.Numbered.SpotView.{the_mark_at}
-use Rattle.tableau_core.specs.declared.shared.spot.MarkAt.{MarkAt}
+use Rattle.tableau_core.specs.declared.spot.MarkAt.{MarkAt}
 use Rattle.name_order.specs.ByNumber.NameView.{the_name}
 use Rattle.name_order.specs.declared.names.Name.{Name}
 

@@ -8,7 +8,7 @@ use Rattle.calculus.specs.Ground as tree
 use Rattle.calculus.specs.Instances.{Turn}
 use Rattle.conversion_theory.specs.Branches.{Item, Made}
 use Rattle.formula_core.specs.GroundLists.{GroundList, the_value}
-use Rattle.formula_core.specs.declared.shared.Value as value
+use Rattle.formula_core.specs.declared.ground.Value as value
 use Rattle.name_order.specs.ByNumber.TurnView.{the_turn}
 use Rattle.name_order.specs.declared.turn.Turn as program
 use Rattle.sequent_convert.specs.ByNumber.NodeView.{the_node}

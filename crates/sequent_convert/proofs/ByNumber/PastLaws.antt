@@ -10,10 +10,10 @@ use Rattle.conversion_theory.specs.Branches.{past_string}
 use Rattle.conversion_theory.specs.Numbering.{numbered_label}
 use Rattle.conversion_theory.specs.Turns.{Name}
 use Rattle.formula_core.specs.GroundLists.{GroundList, the_mark, the_marks, the_value, the_values}
-use Rattle.formula_core.specs.declared.shared.GroundLabel.{GroundLabel}
-use Rattle.formula_core.specs.declared.shared.GroundMark.{GroundMark}
-use Rattle.formula_core.specs.declared.shared.Value.{Value}
-use Rattle.formula_core.specs.declared.shared.Values.{Values}
+use Rattle.formula_core.specs.declared.ground.GroundLabel.{GroundLabel}
+use Rattle.formula_core.specs.declared.ground.GroundMark.{GroundMark}
+use Rattle.formula_core.specs.declared.ground.Value.{Value}
+use Rattle.formula_core.specs.declared.ground.Values.{Values}
 use Rattle.sequent_calc.specs.StepView.{the_modal}
 use Rattle.sequent_calc.specs.declared.step.ModalArg.{ModalArg}
 use Rattle.sequent_convert.specs.ByNumber.PastView.{taking, the_past}

@@ -8,10 +8,10 @@ use Rattle.calculus.specs.Instances.{after_character, after_string, root_spot}
 use Rattle.calculus.specs.Labels.{nu_label, pi_label}
 use Rattle.calculus.specs.Lists.{marks_list-marks_tree}
 use Rattle.formula_core.specs.GroundLists.{GroundList, no_list, of_terms, the_g_term, the_mark, the_values, values_in}
-use Rattle.formula_core.specs.declared.shared.GroundMark.{GroundMark}
-use Rattle.formula_core.specs.declared.shared.GroundMark.TheVariants as mark
-use Rattle.formula_core.specs.declared.shared.GroundTerm.{GroundTerm}
-use Rattle.formula_core.specs.declared.shared.Values.{Values}
+use Rattle.formula_core.specs.declared.ground.GroundMark.{GroundMark}
+use Rattle.formula_core.specs.declared.ground.GroundMark.TheVariants as mark
+use Rattle.formula_core.specs.declared.ground.GroundTerm.{GroundTerm}
+use Rattle.formula_core.specs.declared.ground.Values.{Values}
 use Rattle.sequent_convert.specs.ByNumber.SpotView.{kept_marks, taken_is, the_spot}
 use Rattle.sequent_convert.specs.declared.spot.Spot.{Spot}
 

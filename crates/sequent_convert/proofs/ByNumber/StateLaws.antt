@@ -7,7 +7,7 @@ use Rattle.std.proofs.lemmas.Option.{slice_get_within, slice_get-get_or}
 use Rattle.calculus.specs.Instances.{Turn}
 use Rattle.conversion_theory.specs.Leading.{is_literal_position, turns_before}
 use Rattle.formula_core.specs.GroundLists.{GroundList, the_value}
-use Rattle.formula_core.specs.declared.shared.Value as value
+use Rattle.formula_core.specs.declared.ground.Value as value
 use Rattle.name_order.specs.ByNumber.TurnView.{the_turn}
 use Rattle.name_order.specs.declared.turn.Turn as program
 use Rattle.sequent_convert.specs.State.{Basis, IsBasis, turn_at, turns_at}

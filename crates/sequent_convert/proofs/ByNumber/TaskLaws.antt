@@ -10,9 +10,9 @@ use Rattle.conversion_theory.specs.Turns.{Name}
 use Rattle.cop_base.specs.declared.SymbolId.{SymbolId}
 use Rattle.formula_core.specs.GroundLists.{GroundList, the_g_term, the_terms}
 use Rattle.formula_core.specs.TermView.{the_term}
-use Rattle.formula_core.specs.declared.shared.GroundTerm.{GroundTerm}
-use Rattle.formula_core.specs.declared.shared.GroundTerm.TheVariants.{Fun}
-use Rattle.formula_core.specs.declared.shared.GroundTerms.{GroundTerms}
+use Rattle.formula_core.specs.declared.ground.GroundTerm.{GroundTerm}
+use Rattle.formula_core.specs.declared.ground.GroundTerm.TheVariants.{Fun}
+use Rattle.formula_core.specs.declared.ground.GroundTerms.{GroundTerms}
 use Rattle.formula_core.specs.declared.term.Term.{Term}
 use Rattle.sequent_convert.specs.ByNumber.TaskView.{all_done, done_by, standing}
 use Rattle.sequent_convert.specs.declared.numbered.Task.{Task}

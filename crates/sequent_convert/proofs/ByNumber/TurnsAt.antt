@@ -8,7 +8,7 @@ use Rattle.calculus.specs.declared.setting.Logic.{Logic}
 use Rattle.conversion_theory.specs.Branches.{Item, made, past_modal}
 use Rattle.conversion_theory.specs.Numbering.{number_of}
 use Rattle.formula_core.specs.GroundLists.{GroundList, the_value, the_values}
-use Rattle.formula_core.specs.declared.shared.Value as value
+use Rattle.formula_core.specs.declared.ground.Value as value
 use Rattle.name_order.specs.ByNumber.TurnView.{the_turn}
 use Rattle.name_order.specs.declared.turn.Turn as program
 use Rattle.sequent_convert.specs.ByNumber.MadeView.{the_made}

@@ -4,7 +4,7 @@ use Rattle.conversion_theory.specs.Leading as leading
 use Rattle.formula_core.specs.GroundLists.{GroundList}
 use Rattle.tableau_core.specs.Numbered.Closings as numbered
 use Rattle.tableau_core.specs.Numbered.ClosingView.{closing_in, the_closing}
-use Rattle.tableau_core.specs.declared.shared.closing.Closing as closing
+use Rattle.tableau_core.specs.declared.closing.Closing as closing
 use Rattle.sequent_convert.specs.AheadView.{Ahead, meeting}
 use Rattle.sequent_convert.specs.declared.ahead.Ahead as ahead
 use Rattle.sequent_convert.specs.declared.ahead.Ends as ends

@@ -5,7 +5,7 @@ use Rattle.calculus.specs.Instances as tree
 use Rattle.calculus.specs.Labels.{keeps_prefix}
 use Rattle.calculus.specs.declared.setting.Logic.{Logic}
 use Rattle.formula_core.specs.GroundLists.{GroundList, the_g_term, the_mark, the_values}
-use Rattle.formula_core.specs.declared.shared.GroundMark.{GroundMark}
+use Rattle.formula_core.specs.declared.ground.GroundMark.{GroundMark}
 use Rattle.sequent_convert.specs.declared.spot.Spot as program
 
 abbrev pub the_spot : List GroundList → program.Spot → tree.Spot

@@ -17,8 +17,8 @@ use Rattle.calculus.specs.Lists.{g_terms_tree}
 use Rattle.calculus.specs.Skolem.{are_allowed, common_spares, is_allowed}
 use Rattle.calculus.specs.Syntax.{Problem}
 use Rattle.formula_core.specs.GroundLists.{GroundList, the_terms, the_g_term}
-use Rattle.formula_core.specs.declared.shared.GroundTerms.{GroundTerms as TermList}
-use Rattle.formula_core.specs.declared.shared.GroundTerm.{GroundTerm}
+use Rattle.formula_core.specs.declared.ground.GroundTerms.{GroundTerms as TermList}
+use Rattle.formula_core.specs.declared.ground.GroundTerm.{GroundTerm}
 use Rattle.tableau_core.specs.Numbered.Ahead.{are_ahead_allowed, bound, is_list_allowed}
 
 -- ---- tests of all

@@ -8,7 +8,7 @@ use Rattle.formula_core.specs.GroundLists.{GroundList}
 use Rattle.tableau_core.specs.Numbered.Closings as numbered
 use Rattle.tableau_core.specs.Numbered.ClosingView.{closing_in, closings_in, the_closing}
 use Rattle.std.proofs.lemmas.Simd.{map-map}
-use Rattle.tableau_core.specs.declared.shared.closing.Closing.{Closing}
+use Rattle.tableau_core.specs.declared.closing.Closing.{Closing}
 
 pub closings-in : (ls : List GroundList) (cs : List numbered.Closing) → closings_in ls (numbered.closings_tree cs) ≡ closings_tree (map (closing_in ls) cs)
 closings-in ls [] = refl

@@ -14,11 +14,11 @@ use Rattle.calculus.specs.Lists.{g_terms_tree}
 use Rattle.calculus.specs.Skolem.{is_admitted, are_admitted, are_admitted_marks, are_admitted_values, are_allowed, is_allowed, common_spares}
 use Rattle.calculus.specs.Syntax.{Problem}
 use Rattle.formula_core.specs.GroundLists.{GroundList, of_terms, of_marks, of_values, list_at, terms_in, marks_in, values_in, the_terms, the_marks, the_values, IsLowerTerm, IsLowerMark, IsLowerValue, IsLower}
-use Rattle.formula_core.specs.declared.shared.GroundTerms.{GroundTerms as TermList}
-use Rattle.formula_core.specs.declared.shared.GroundTerm.{GroundTerm}
-use Rattle.formula_core.specs.declared.shared.GroundTerm.TheVariants as term
-use Rattle.formula_core.specs.declared.shared.GroundMark.{GroundMark as GroundMarkN}
-use Rattle.formula_core.specs.declared.shared.Value.{Value}
+use Rattle.formula_core.specs.declared.ground.GroundTerms.{GroundTerms as TermList}
+use Rattle.formula_core.specs.declared.ground.GroundTerm.{GroundTerm}
+use Rattle.formula_core.specs.declared.ground.GroundTerm.TheVariants as term
+use Rattle.formula_core.specs.declared.ground.GroundMark.{GroundMark as GroundMarkN}
+use Rattle.formula_core.specs.declared.ground.Value.{Value}
 use Rattle.tableau_core.specs.Numbered.Known.{admitted_in, KnowsAdmitted}
 
 -- ---- one list

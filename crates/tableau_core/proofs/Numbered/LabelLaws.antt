@@ -18,11 +18,11 @@ use Rattle.calculus.specs.Skolem.{after_modal, is_empty, take_string}
 use Rattle.calculus.proofs.EqualityLaws.{label_eq-tells, mark_eq-tells}
 use Rattle.formula_core.specs.GroundEq.{g_terms_eq-tells}
 use Rattle.formula_core.specs.GroundLists.{GroundList, the_mark}
-use Rattle.formula_core.specs.declared.shared.GroundMark.{GroundMark}
+use Rattle.formula_core.specs.declared.ground.GroundMark.{GroundMark}
 use Rattle.tableau_core.specs.Reaching.{reach}
 use Rattle.tableau_core.specs.Numbered.SpotView.{the_mark_at, start_marks}
-use Rattle.tableau_core.specs.declared.shared.spot.MarkAt.{MarkAt}
-use Rattle.tableau_core.specs.declared.shared.spot.MarkAt.TheVariants as mark
+use Rattle.tableau_core.specs.declared.spot.MarkAt.{MarkAt}
+use Rattle.tableau_core.specs.declared.spot.MarkAt.TheVariants as mark
 
 pub pi-made : (ls : List GroundList) (l : Logic) (w : List MarkAt) (m : MarkAt) → map (the_mark_at ls) (start_marks l w ++ m ∷ []) ≡ pi_label l (map (the_mark_at ls) w) (the_mark_at ls m)
 pi-made ls Classical w m = map-append (the_mark_at ls) w (m ∷ [])

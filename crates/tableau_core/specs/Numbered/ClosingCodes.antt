@@ -4,8 +4,8 @@ use Rattle.std.specs.Coded.{Coded, coded_list}
 use base.Stored.{Gv, gnil, gnum, gcons}
 use Rattle.tableau_core.specs.LiteralCodes.{sign_gv, sign_gv-inj, side_list_code}
 use Rattle.tableau_core.specs.Numbered.Closings.{Closing, Closings, reduce, extend, no_closings, more_closings}
-use Rattle.tableau_core.specs.declared.shared.literal.GroundLiteral.{GroundLiteral}
-use Rattle.tableau_core.specs.declared.shared.instance.ClauseInstance.{ClauseInstance}
+use Rattle.tableau_core.specs.declared.literal.GroundLiteral.{GroundLiteral}
+use Rattle.tableau_core.specs.declared.instance.ClauseInstance.{ClauseInstance}
 
 abbrev pub literal_gv : GroundLiteral → Gv
 literal_gv x = gcons (sign_gv x.sign) (gcons (gnum x.symbol.0) (gcons (gnum x.args.0) (gnum x.label.0)))

@@ -4,9 +4,9 @@ use Rattle.std.proofs.Common.{arith, ap, get_or, zero, suc}
 use denote.Param.Weighed.{most, w_this}
 use Rattle.tableau_core.specs.Numbered.Closings.{closing_size, closing_list_size}
 use Rattle.tableau_core.specs.Numbered.ClosingView.{the_closing}
-use Rattle.tableau_core.specs.declared.shared.closing.Closing.{Closing}
-use Rattle.tableau_core.specs.declared.shared.closing.Closing.TheVariants.{Reduce, Extend, the_data}
-use Rattle.tableau_core.specs.declared.shared.closing.ClosingList.TheDeep.{deep-Closing}
+use Rattle.tableau_core.specs.declared.closing.Closing.{Closing}
+use Rattle.tableau_core.specs.declared.closing.Closing.TheVariants.{Reduce, Extend, the_data}
+use Rattle.tableau_core.specs.declared.closing.ClosingList.TheDeep.{deep-Closing}
 
 pub deep-Closing-le-size : (c : Closing) → deep-Closing c ≤ closing_size (the_closing c)
 deep-Closing-le-size (Reduce n) = omega arith

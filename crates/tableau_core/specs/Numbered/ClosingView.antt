@@ -4,8 +4,8 @@ use Rattle.calculus.specs.Tableaux as tree
 use Rattle.formula_core.specs.GroundLists.{GroundList}
 use Rattle.tableau_core.specs.Numbered.Closings as numbered
 use Rattle.tableau_core.specs.Numbered.InstanceView.{the_instance}
-use Rattle.tableau_core.specs.declared.shared.closing.Closing.{Closing}
-use Rattle.tableau_core.specs.declared.shared.closing.Closing.TheVariants.{Reduce, Extend}
+use Rattle.tableau_core.specs.declared.closing.Closing.{Closing}
+use Rattle.tableau_core.specs.declared.closing.Closing.TheVariants.{Reduce, Extend}
 
 abbrev pub the_closing : Closing → numbered.Closing
 the_closing (Reduce up) = numbered.reduce up

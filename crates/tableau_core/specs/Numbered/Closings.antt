@@ -1,6 +1,6 @@
 -- Closings as the program has them: their instances name ground values by numbers.
 use Rattle.std.specs.Prelude.{ℕ, suc, ◌+◌, List, [], ◌∷◌}
-use Rattle.tableau_core.specs.declared.shared.instance.ClauseInstance.{ClauseInstance}
+use Rattle.tableau_core.specs.declared.instance.ClauseInstance.{ClauseInstance}
 
 mutual
   pub data Closing : Type 0 where

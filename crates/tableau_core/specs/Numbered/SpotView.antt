@@ -5,11 +5,11 @@ use Rattle.calculus.specs.Ground as tree
 use Rattle.calculus.specs.declared.setting.Logic.{Logic}
 use Rattle.calculus.specs.Labels.{keeps_prefix}
 use Rattle.formula_core.specs.GroundLists.{GroundList, the_g_term, the_mark, the_value}
-use Rattle.formula_core.specs.declared.shared.Value.{Value}
-use Rattle.tableau_core.specs.declared.shared.spot.MarkAt.{MarkAt}
-use Rattle.tableau_core.specs.declared.shared.spot.MarkAt.TheVariants as mark
-use Rattle.tableau_core.specs.declared.shared.spot.Bound.{Bound}
-use Rattle.tableau_core.specs.declared.shared.spot.Bound.TheVariants as bound
+use Rattle.formula_core.specs.declared.ground.Value.{Value}
+use Rattle.tableau_core.specs.declared.spot.MarkAt.{MarkAt}
+use Rattle.tableau_core.specs.declared.spot.MarkAt.TheVariants as mark
+use Rattle.tableau_core.specs.declared.spot.Bound.{Bound}
+use Rattle.tableau_core.specs.declared.spot.Bound.TheVariants as bound
 
 abbrev pub the_mark_at : List GroundList → MarkAt → tree.GroundMark
 the_mark_at ls (mark.Given m) = the_mark ls m

@@ -5,8 +5,8 @@ use Rattle.formula_core.specs.GroundLists.{GroundList, the_value}
 use Rattle.tableau_core.specs.Walks.{Left}
 use Rattle.tableau_core.specs.Numbered.LiteralView.{the_literal}
 use Rattle.tableau_core.specs.Numbered.SpotView.{the_bound, the_mark_at}
-use Rattle.tableau_core.specs.declared.shared.walk.Spot.{Spot}
-use Rattle.tableau_core.specs.declared.shared.walk.Rest.{Rest}
+use Rattle.tableau_core.specs.declared.walk.Spot.{Spot}
+use Rattle.tableau_core.specs.declared.walk.Rest.{Rest}
 
 abbrev pub the_spot : List GroundList → Spot → tree.Spot
 the_spot ls c = record { position = c.position; label = map (the_mark_at ls) c.label.now; taken = map (the_value ls) c.taken.now; env = map (the_bound ls) c.env.now }

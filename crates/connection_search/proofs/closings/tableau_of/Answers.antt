@@ -1,6 +1,6 @@
 use Rattle.std.proofs.Common.{◌≡◌, ◌∙◌, arith, length, subst, sym}
 use Rattle.std.specs.List.{AllByRecursion}
-use Rattle.tableau_core.specs.declared.shared.tableau.Tableau.{Tableau}
+use Rattle.tableau_core.specs.declared.tableau.Tableau.{Tableau}
 use Rattle.connection_search.specs.Reading.{IsStarted}
 use Rattle.connection_search.specs.Readable.{IsReadableStep}
 use Rattle.connection_search.proofs.StackLaws.{started-inner, started-parts, whole-names}

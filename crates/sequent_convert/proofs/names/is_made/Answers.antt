@@ -1,5 +1,5 @@
 use Rattle.std.proofs.Common.{◌≡◌, sym, ◌∙◌}
-use Rattle.formula_core.specs.declared.shared.GroundMark.TheVariants as mark
+use Rattle.formula_core.specs.declared.ground.GroundMark.TheVariants as mark
 use Rattle.sequent_convert.proofs.ByNumber.MadeNames.{made-told}
 use Rattle.sequent_convert.proofs.names.is_made.Goals as goal
 

@@ -1,8 +1,9 @@
--- The formula gets smaller; the modal part comes first, then the shape, then the components.
 use Rattle.std.proofs.Common.{◌+◌, ◌*◌}
 use Rattle.calculus.specs.Positions.{size}
 use Rattle.formula_core.specs.FormulaView.{the_formula}
 use Rattle.tableau_core.proofs.walk.+walk.Given as goal
+
+-- The formula gets smaller; the modal part comes first, then the shape, then the components.
 
 abbrev pub decreases-walk : goal.decreases-walk
 decreases-walk l = 4 * size (the_formula l.a.formula.now) + 3

@@ -1,6 +1,6 @@
 use Rattle.std.proofs.Common.{Global, Vec, ◌∙◌, ap, refl}
-use Rattle.formula_core.specs.declared.shared.GroundMark.{GroundMark}
-use Rattle.formula_core.specs.declared.shared.GroundTerm.{GroundTerm}
+use Rattle.formula_core.specs.declared.ground.GroundMark.{GroundMark}
+use Rattle.formula_core.specs.declared.ground.GroundTerm.{GroundTerm}
 use Rattle.sequent_convert.proofs.ByNumber.SpotLaws.{root-by}
 use Rattle.sequent_convert.proofs.spot.Spot.root.Goals as goal
 

@@ -1,5 +1,0 @@
-use Rattle.tableau_core.proofs.Numbered.LabelLaws.{mark-told}
-use Rattle.tableau_core.proofs.shared.allowance.is_same_mark.Goals as goal
-
-pub returns : goal.returns
-returns c = mark-told _ _ _ c.is_same.ensures

@@ -1,5 +1,0 @@
-use Rattle.tableau_core.proofs.Numbered.LabelLaws.{terms-told}
-use Rattle.tableau_core.proofs.shared.atom.are_same_terms.Goals as goal
-
-pub returns : goal.returns
-returns c = terms-told _ _ _ c.are_same_terms.ensures

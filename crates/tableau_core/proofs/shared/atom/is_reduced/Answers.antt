@@ -1,8 +1,0 @@
-use Rattle.std.proofs.Common.{◌∙◌, ap, sym, arith, refl}
-use Rattle.calculus.specs.Tableaux.{is_complement}
-use Rattle.tableau_core.specs.Numbered.LiteralView.{the_literal}
-use Rattle.tableau_core.proofs.PathLaws.{ancestor-at}
-use Rattle.tableau_core.proofs.shared.atom.is_reduced.Goals as goal
-
-pub returns : goal.returns
-returns c = c.are_complementary.ensures ∙ sym (ap (is_complement ((the_literal c.args.table.now) c.args.goal)) (ancestor-at (the_literal c.args.table.now) c.args.path.now c.args.up _ _ (omega arith) (omega arith) refl))
