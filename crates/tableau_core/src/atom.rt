@@ -49,7 +49,8 @@ fn is_same(table: &GroundTable, a: GroundLiteral, b: GroundLiteral) -> bool
     is_same_sign(a.sign, b.sign) && is_same_atom(table, a, b)
 }
 
-fn are_complementary(table: &GroundTable, a: GroundLiteral, b: GroundLiteral) -> bool
+/// Whether both have the same atom at the same label, with opposite signs.
+pub fn are_complementary(table: &GroundTable, a: GroundLiteral, b: GroundLiteral) -> bool
     ensures { result ≡ are_complementary (the_literal table.now a) (the_literal table.now b) }
 {
     !is_same_sign(a.sign, b.sign) && is_same_atom(table, a, b)

@@ -32,9 +32,9 @@ pub fn counted(closed: bool, so_far: Count) -> Option<Count>
     if closed { Some(so_far) } else { None }
 }
 
-// The literals but the one at the place.
+/// The literals but the one at the place.
 #[tactic(auto, using(crate::proofs::Numbered::ClosingLaws::removing))]
-fn goals_but(
+pub fn goals_but(
     alloc: Global,
     literals: &[GroundLiteral],
     place: u32,
@@ -196,7 +196,8 @@ fn closes_all(
     Ok(Some(count))
 }
 
-fn are_shown(table: &GroundTable, literals: &[GroundLiteral]) -> bool
+/// Whether each literal is one that is to be shown.
+pub fn are_shown(table: &GroundTable, literals: &[GroundLiteral]) -> bool
     ensures { result ≡ list_all is_shown (map (the_literal table.now) literals.now) }
 {
     for literal in literals {
