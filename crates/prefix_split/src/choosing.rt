@@ -120,8 +120,10 @@ fn assume(
     settle(order, unifier, store, nodes)
 }
 
-// Closes open gaps one way or the other, with at most so many choices, until none is open. The
-// order is refuted only where no labels are as it told. Answers how many choices are left.
+// Closes open gaps one way or the other, with at most so many choices, until none is open. Tried first
+// is that the first node begins the second one: where that is chosen for both of two nodes by marks,
+// they are the same, so labels stay as short as can be. The order is refuted only where no labels are
+// as it told. Answers how many choices are left.
 pub(crate) fn choose(
     order: &mut LabelOrder,
     unifier: &mut Unifier,
@@ -140,12 +142,12 @@ pub(crate) fn choose(
         return Ok(choices);
     };
     let mut first = order.copy()?;
-    assume(&mut first, unifier, store, nodes, gap.second, gap.parent)?;
+    assume(&mut first, unifier, store, nodes, gap.first, gap.second)?;
     let left = choose(&mut first, unifier, store, nodes, choices - 1)?;
     if !first.is_refuted {
         *order = first;
         return Ok(left);
     }
-    assume(order, unifier, store, nodes, gap.first, gap.second)?;
+    assume(order, unifier, store, nodes, gap.second, gap.parent)?;
     choose(order, unifier, store, nodes, left)
 }
