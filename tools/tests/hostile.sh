@@ -1,6 +1,7 @@
 # shellcheck shell=bash disable=SC2154
-# bench/fuzz.py, bench/deep.py, bench/refuse_memory.py and bench/shared.py: a few cases of each, and false programs, which they tell.
-for script in fuzz deep refuse_memory shared; do
+# bench/fuzz.py, bench/deep.py, bench/refuse_memory.py, bench/shared.py and bench/modalities.py: a few cases of each, and false programs,
+# which they tell.
+for script in fuzz deep refuse_memory shared modalities; do
     same "bench/$script.py --help" "$("bench/$script.py" --help | sed -n 1p)" "bench/$script.py [options]"
     "bench/$script.py" --prgoram=x >/dev/null 2>&1
     same "an unknown option of bench/$script.py" "$?" 1
@@ -27,6 +28,8 @@ same 'bench/fuzz.py with a program that answers anew each time' "$(fuzz "--progr
 has 'bench/deep.py' "$(bench/deep.py "--program=$LEANCOP" --stacks=8192 --filter='^(490|501) negations$' | last)" '2 inputs, 0 told'
 has 'bench/shared.py with that program' "$(bench/shared.py "--program=$folder/false" --filter='^boxes-d-10$' | last)" '1 problems, 1 without'
 has 'bench/shared.py' "$(bench/shared.py "--program=$LEANCOP" --filter='^(quantifiers|boxes-s4)-30$' | last)" '2 problems, 0 without'
+has 'bench/modalities.py with that program' "$(bench/modalities.py "--program=$folder/false" --logic=s4 --signs=1 | last)" '3 problems, 3 not'
+has 'bench/modalities.py' "$(bench/modalities.py "--program=$LEANCOP" --signs=2 --only=20 --all | last)" '80 problems, 0 not'
 
 if command -v cc >/dev/null; then
     refuse() { bench/refuse_memory.py --filter='^prove first.p$' "$@" | last; }
