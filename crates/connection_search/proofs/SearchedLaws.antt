@@ -137,6 +137,7 @@ steps-map outcome.Steps A B f a = f a
 
 pub space-of : (P : Problem) (m : List MatrixClause) (d : ℕ) → IsTrue (is_problem P) → IsTemplateMatrix P m → 1 ≤ d → d ≤ 200 → IsSpace P m d
 space-of P m d h matrix from to = record {
+  problem = h;
   matrix = record { fits = (kept P h).formula; matrix = matrix };
   from_one = from;
   to_200 = to;

@@ -4,6 +4,7 @@ use Rattle.std.specs.List.{AllByRecursion}
 use Rattle.store_theory.specs.Bindings.{IsEarlier}
 use Rattle.calculus.specs.Choices.{Choice}
 use Rattle.calculus.specs.Counting.{AtLeastMany, MoreThan}
+use Rattle.calculus.specs.Problems.{is_problem}
 use Rattle.calculus.specs.Space.{IsEarly, Member, member_cmp}
 use Rattle.store_theory.specs.Stores.{IsGood, Store, TrailMark, cut_at}
 use Rattle.calculus.specs.Syntax.{Problem}
@@ -26,6 +27,7 @@ use Rattle.connection_search.specs.declared.tree.Step.{Step}
 
 -- the space of a problem at this limit
 pub record IsSpace (P : Problem) (m : List MatrixClause) (d : ℕ) : Type 0 where
+  pub problem : IsTrue (is_problem P)
   pub matrix : IsMatrixOf P m
   pub from_one : 1 ≤ d
   pub to_200 : d ≤ 200

@@ -27,7 +27,7 @@ use cop_base::{ClauseId, Ledger, NoMemory, PathLimit};
 use logic_rules::Problem;
 use matrix_build::Matrix;
 use std::alloc::Global;
-use tableau_core::Tableau;
+use tableau_core::{SizedProblem, Tableau};
 use term_store::Store;
 
 /// What the search that does not return to solved goals answers.
@@ -249,13 +249,11 @@ impl Space<'_> {
     }
 }
 
-/// Searches the limits from 1 to `cut_limit` without returning to solved goals, over the problem's
-/// own matrix. Steps are used as by `search`. Where the search fails at a limit and nothing shows
-/// that the limit is left, it would fail at each greater one in the same way, and ends.
-pub fn deepen_cut(
+// As `deepen_cut`, where the sizes of the problem's parts are known.
+fn deepen_cut_sized<'a>(
     alloc: Global,
-    problem: &Problem,
-    matrix: &Matrix,
+    problem: &'a SizedProblem<'a>,
+    matrix: &'a Matrix,
     cut_limit: PathLimit,
     ledger: &mut Ledger,
 ) -> Result<CutAnswer, NoMemory>
@@ -268,7 +266,7 @@ pub fn deepen_cut(
     ensures rises { ledger.old.used ≤ ledger.new.used }
     ensures budget { ledger.new.budget ≡ ledger.old.budget }
 {
-    let _setting = problem.setting();
+    let _setting = problem.problem().setting();
     for passed in 0..cut_limit.number {
         let limit = passed + 1;
         let space = Space {
@@ -289,4 +287,27 @@ pub fn deepen_cut(
         }
     }
     Ok(CutAnswer::Open)
+}
+
+/// Searches the limits from 1 to `cut_limit` without returning to solved goals, over the problem's
+/// own matrix. Steps are used as by `search`. Where the search fails at a limit and nothing shows
+/// that the limit is left, it would fail at each greater one in the same way, and ends.
+pub fn deepen_cut(
+    alloc: Global,
+    problem: &Problem,
+    matrix: &Matrix,
+    cut_limit: PathLimit,
+    ledger: &mut Ledger,
+) -> Result<CutAnswer, NoMemory>
+    requires { IsTemplateMatrix problem.now matrix.now }
+    ensures answer { IfOk result
+        (IsCutAnswer problem.now cut_limit.number (ledger.old.budget - ledger.old.used)) }
+    ensures ended { IfOk result (λ a. IfCutEnded a (ledger.new.used ≡ ledger.new.budget)) }
+    ensures count { (e : ℕ) → IsCutLimit problem.now cut_limit.number e
+        → AtLeastMany member_cmp (IsMember problem.now e) (ledger.new.used - ledger.old.used) }
+    ensures rises { ledger.old.used ≤ ledger.new.used }
+    ensures budget { ledger.new.budget ≡ ledger.old.budget }
+{
+    let sized = SizedProblem::new(alloc, problem)?;
+    deepen_cut_sized(alloc, &sized, matrix, cut_limit, ledger)
 }

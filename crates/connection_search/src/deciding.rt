@@ -31,10 +31,9 @@ use crate::system::{all_gammas, system_of};
 use calculus::setting::{Domains, Logic};
 use cop_base::{Ledger, NoMemory};
 use domain_cond::{ConstantDemand, CumulativeDemand, VaryingDemand};
-use logic_rules::Problem;
 use prefix_split::{Solved, solve};
 use std::alloc::Global;
-use tableau_core::{Tableau, is_closed};
+use tableau_core::{SizedProblem, Tableau, is_closed};
 use term_store::{Demand, Store, System};
 
 pub(crate) fn has_labels(logic: Logic) -> bool
@@ -49,7 +48,7 @@ pub(crate) fn has_labels(logic: Logic) -> bool
 // Solves the system by what the domains ask.
 fn solve_by<M: Demand>(
     alloc: Global,
-    problem: &Problem,
+    problem: &SizedProblem,
     ledger: &mut Ledger,
     store: &mut Store,
     system: &System,
@@ -73,9 +72,9 @@ fn solve_by<M: Demand>(
 }
 
 // Solves the system of a problem whose logic has labels.
-fn solve_system(
+fn solve_system<'a>(
     alloc: Global,
-    problem: &Problem,
+    problem: &'a SizedProblem<'a>,
     ledger: &mut Ledger,
     store: &mut Store,
     system: &System,
@@ -97,11 +96,11 @@ fn solve_system(
             solve_by(alloc, problem, ledger, store, system, &mut demand)
         }
         Domains::Cumulative => {
-            let mut demand = CumulativeDemand::new(alloc, problem)?;
+            let mut demand = CumulativeDemand::new(alloc, problem);
             solve_by(alloc, problem, ledger, store, system, &mut demand)
         }
         Domains::Varying => {
-            let mut demand = VaryingDemand::new(alloc, problem)?;
+            let mut demand = VaryingDemand::new(alloc, problem);
             solve_by(alloc, problem, ledger, store, system, &mut demand)
         }
     }
@@ -161,7 +160,7 @@ impl Space<'_> {
             matrix: self.matrix,
         };
         let tableau = tableau_of(&from, &work.tree)?;
-        if is_closed(work.alloc, self.problem, &tableau, self.limit)? {
+        if is_closed(work.alloc, self.problem.problem(), &tableau, self.limit)? {
             return Ok(tableau);
         }
         Err(NoMemory)

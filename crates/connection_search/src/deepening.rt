@@ -4,12 +4,12 @@ ghost use Rattle.std.specs.Prelude.{◌≡◌, ◌≤◌, ◌-◌, IfOk, true};
 ghost use Rattle.search_theory.specs.Matrix.{IsTemplateMatrix};
 ghost use Rattle.connection_search.specs.Outcomes.{IfEnded, IsDeepAnswer};
 
-use crate::searching::{Outcome, search};
+use crate::searching::{Outcome, search_new};
 use cop_base::{Ledger, NoMemory, PathLimit};
 use logic_rules::Problem;
 use matrix_build::Matrix;
 use std::alloc::Global;
-use tableau_core::Tableau;
+use tableau_core::{SizedProblem, Tableau};
 
 /// What deepening answers.
 #[derive(Drop)]
@@ -22,6 +22,44 @@ pub enum Answer {
     NoTableau { limit: u8 },
     /// The budget is used up; this is the last limit that was searched whole, or 0.
     Steps { limit: u8 },
+}
+
+// As `deepen`, where the sizes of the problem's parts are known.
+fn deepen_sized(
+    alloc: Global,
+    problem: &SizedProblem,
+    matrix: &Matrix,
+    max_limit: PathLimit,
+    ledger: &mut Ledger,
+) -> Result<Answer, NoMemory>
+    requires { IsTemplateMatrix problem.now matrix.now }
+    ensures answer { IfOk result
+        (IsDeepAnswer problem.now max_limit.number (ledger.old.budget - ledger.old.used)) }
+    ensures ended { IfOk result (λ a. IfEnded a (ledger.new.used ≡ ledger.new.budget)) }
+    ensures rises { ledger.old.used ≤ ledger.new.used }
+    ensures budget { ledger.new.budget ≡ ledger.old.budget }
+{
+    for passed in 0..max_limit.number {
+        let number = passed + 1;
+        let limit = PathLimit { number };
+        match search_new(alloc, problem, matrix, limit, ledger)? {
+            Outcome::Closed(tableau) => {
+                return Ok(Answer::Closed {
+                    limit: number,
+                    tableau,
+                });
+            }
+            Outcome::Steps => return Ok(Answer::Steps { limit: passed }),
+            Outcome::Empty { left } => {
+                if !left {
+                    return Ok(Answer::NoTableau { limit: number });
+                }
+            }
+        }
+    }
+    Ok(Answer::Exhausted {
+        limit: max_limit.number,
+    })
 }
 
 /// Searches the limits from 1 to `max_limit` (leanCoP's iterative deepening), over the problem's
@@ -40,25 +78,6 @@ pub fn deepen(
     ensures rises { ledger.old.used ≤ ledger.new.used }
     ensures budget { ledger.new.budget ≡ ledger.old.budget }
 {
-    for passed in 0..max_limit.number {
-        let number = passed + 1;
-        let limit = PathLimit { number };
-        match search(alloc, problem, matrix, limit, ledger)? {
-            Outcome::Closed(tableau) => {
-                return Ok(Answer::Closed {
-                    limit: number,
-                    tableau,
-                });
-            }
-            Outcome::Steps => return Ok(Answer::Steps { limit: passed }),
-            Outcome::Empty { left } => {
-                if !left {
-                    return Ok(Answer::NoTableau { limit: number });
-                }
-            }
-        }
-    }
-    Ok(Answer::Exhausted {
-        limit: max_limit.number,
-    })
+    let sized = SizedProblem::new(alloc, problem)?;
+    deepen_sized(alloc, &sized, matrix, max_limit, ledger)
 }

@@ -21,7 +21,7 @@ use cop_base::{ClauseId, Ledger, NoMemory, PathLimit};
 use logic_rules::Problem;
 use matrix_build::Matrix;
 use std::alloc::Global;
-use tableau_core::Tableau;
+use tableau_core::{SizedProblem, Tableau};
 use term_store::Store;
 
 /// What a search at one limit answers.
@@ -157,6 +157,71 @@ impl Space<'_> {
     }
 }
 
+// As `search_with`, where the sizes of the problem's parts are known.
+fn search_sized<'a>(
+    alloc: Global,
+    problem: &'a SizedProblem<'a>,
+    matrix: &'a Matrix,
+    limit: PathLimit,
+    ledger: &mut Ledger,
+    store: &mut Store,
+    pruning: Pruning,
+) -> Result<Outcome, NoMemory>
+    requires { IsTemplateMatrix problem.now matrix.now }
+    ensures outcome { IfOk result (IsOutcome problem.now limit.number) }
+    ensures steps { IfOk result (λ o. IfSteps o ((ledger.new.used ≡ ledger.new.budget)
+        × MoreThan member_cmp (IsEarly problem.now limit.number)
+        (ledger.old.budget - ledger.old.used))) }
+    ensures count { AtLeastMany member_cmp (IsEarly problem.now limit.number)
+        (ledger.new.used - ledger.old.used) }
+    ensures rises { ledger.old.used ≤ ledger.new.used }
+    ensures budget { ledger.new.budget ≡ ledger.old.budget }
+    ensures store { store.new.store ≡ store.old.store }
+    ensures spare { spare store.old ≤ spare store.new }
+{
+    let _setting = problem.problem().setting();
+    let start = store.mark();
+    let space = Space {
+        problem,
+        matrix,
+        limit: limit.number,
+        pruning,
+    };
+    let outcome = space.run(alloc, ledger, store);
+    store.undo(start);
+    outcome
+}
+
+// As `search`, where the sizes of the problem's parts are known.
+pub(crate) fn search_new(
+    alloc: Global,
+    problem: &SizedProblem,
+    matrix: &Matrix,
+    limit: PathLimit,
+    ledger: &mut Ledger,
+) -> Result<Outcome, NoMemory>
+    requires { IsTemplateMatrix problem.now matrix.now }
+    ensures outcome { IfOk result (IsOutcome problem.now limit.number) }
+    ensures steps { IfOk result (λ o. IfSteps o ((ledger.new.used ≡ ledger.new.budget)
+        × MoreThan member_cmp (IsEarly problem.now limit.number)
+        (ledger.old.budget - ledger.old.used))) }
+    ensures count { AtLeastMany member_cmp (IsEarly problem.now limit.number)
+        (ledger.new.used - ledger.old.used) }
+    ensures rises { ledger.old.used ≤ ledger.new.used }
+    ensures budget { ledger.new.budget ≡ ledger.old.budget }
+{
+    let mut store = Store::new(alloc)?;
+    search_sized(
+        alloc,
+        problem,
+        matrix,
+        limit,
+        ledger,
+        &mut store,
+        Pruning::all(),
+    )
+}
+
 /// Searches for a tableau that is closed within the limit, over new cells of the store, which are
 /// given back. A step is used for each list of choices that is not dropped; where the logic has
 /// labels, also for each list of string lengths that is tried at a list of choices without open
@@ -182,17 +247,8 @@ pub fn search_with(
     ensures store { store.new.store ≡ store.old.store }
     ensures spare { spare store.old ≤ spare store.new }
 {
-    let _setting = problem.setting();
-    let start = store.mark();
-    let space = Space {
-        problem,
-        matrix,
-        limit: limit.number,
-        pruning,
-    };
-    let outcome = space.run(alloc, ledger, store);
-    store.undo(start);
-    outcome
+    let sized = SizedProblem::new(alloc, problem)?;
+    search_sized(alloc, &sized, matrix, limit, ledger, store, pruning)
 }
 
 /// Searches as `search_with` does, where lists are dropped by all that `Pruning` names.
@@ -238,6 +294,6 @@ pub fn search(
     ensures rises { ledger.old.used ≤ ledger.new.used }
     ensures budget { ledger.new.budget ≡ ledger.old.budget }
 {
-    let mut store = Store::new(alloc)?;
-    search_in(alloc, problem, matrix, limit, ledger, &mut store)
+    let sized = SizedProblem::new(alloc, problem)?;
+    search_new(alloc, &sized, matrix, limit, ledger)
 }

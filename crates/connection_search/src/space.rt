@@ -19,15 +19,15 @@ use crate::moves::Work;
 use crate::point::Point;
 use crate::pruning::Pruning;
 use cop_base::NoMemory;
-use logic_rules::Problem;
 use matrix_build::{Matrix, Place};
+use tableau_core::SizedProblem;
 use term_store::Store;
 
 /// The problem with its matrix, the greatest number of goals that the path of an extension has, plus
 /// one, and by what lists are dropped early.
 #[derive(Clone, Copy)]
 pub(crate) struct Space<'a> {
-    pub problem: &'a Problem,
+    pub problem: &'a SizedProblem<'a>,
     pub matrix: &'a Matrix,
     pub limit: u8,
     pub pruning: Pruning,

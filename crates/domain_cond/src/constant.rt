@@ -7,20 +7,20 @@ ghost use Rattle.calculus.specs.Instances.{gamma_is_allowed};
 ghost use Rattle.calculus.specs.Skolem.{common_spares};
 
 use cop_base::NoMemory;
-use logic_rules::Problem;
 use std::alloc::Global;
+use tableau_core::SizedProblem;
 use term_store::{Demand, Equation, HomeList, Store, System};
 
 /// Constant domains ask nothing: each term may stand at each label.
 #[derive(Drop)]
 pub struct ConstantDemand<'a> {
-    problem: &'a Problem,
+    problem: &'a SizedProblem<'a>,
     ghost constant: { problem.now.setting.domains ≡ Constant },
 }
 
 impl<'a> ConstantDemand<'a> {
     /// The condition of a problem with constant domains.
-    pub fn new(problem: &'a Problem) -> ConstantDemand<'a>
+    pub fn new(problem: &'a SizedProblem<'a>) -> ConstantDemand<'a>
         requires { problem.now.setting.domains ≡ Constant }
         ensures { result.problem.now ≡ problem.now }
     {

@@ -9,7 +9,6 @@ ghost use Rattle.calculus.specs.Skolem.{common_spares};
 use crate::homes::forced_homes;
 use crate::unmet::unmet;
 use cop_base::NoMemory;
-use logic_rules::Problem;
 use std::alloc::Global;
 use tableau_core::SizedProblem;
 use term_store::{Demand, Equation, HomeList, Store, System};
@@ -19,34 +18,33 @@ use term_unify::Unifier;
 #[derive(Drop)]
 pub struct CumulativeDemand<'a> {
     alloc: Global,
-    problem: SizedProblem<'a>,
+    problem: &'a SizedProblem<'a>,
     unifier: Unifier,
-    ghost cumulative: { problem.setting.domains ≡ Cumulative },
+    ghost cumulative: { problem.now.setting.domains ≡ Cumulative },
 }
 
 impl<'a> CumulativeDemand<'a> {
     /// The condition of a problem with cumulative domains.
-    pub fn new(alloc: Global, problem: &'a Problem) -> Result<CumulativeDemand<'a>, NoMemory>
+    pub fn new(alloc: Global, problem: &'a SizedProblem<'a>) -> CumulativeDemand<'a>
         requires domains { problem.now.setting.domains ≡ Cumulative }
-        ensures { IfOk result (λ d. d.problem ≡ problem.now) }
+        ensures { result.problem.now ≡ problem.now }
     {
-        let problem = SizedProblem::new(alloc, problem)?;
-        Ok(CumulativeDemand {
+        CumulativeDemand {
             alloc,
             problem,
             unifier: Unifier::new(alloc),
-        })
+        }
     }
 }
 
 impl Demand for CumulativeDemand<'_> {
-    ghost holds_for = { λ d. list_all (gamma_is_allowed d.problem) };
+    ghost holds_for = { λ d. list_all (gamma_is_allowed d.problem.now) };
 
-    ghost common = { λ d. common_spares d.problem };
+    ghost common = { λ d. common_spares d.problem.now };
 
     fn next(&mut self, store: &mut Store, system: &System) -> Result<Option<Equation>, NoMemory> {
         let _now = store.mark();
-        let equation = unmet(self.alloc, &mut self.unifier, &self.problem, store, system)?;
+        let equation = unmet(self.alloc, &mut self.unifier, self.problem, store, system)?;
         Ok(equation)
     }
 
@@ -56,7 +54,7 @@ impl Demand for CumulativeDemand<'_> {
         store: &mut Store,
         system: &System,
     ) -> Result<HomeList, NoMemory> {
-        let homes = forced_homes(alloc, &self.problem, store, system)?;
+        let homes = forced_homes(alloc, self.problem, store, system)?;
         Ok(homes)
     }
 }

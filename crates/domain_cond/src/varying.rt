@@ -15,7 +15,6 @@ use crate::homes::forced_homes;
 use crate::own::unmet_by_spares;
 use crate::unmet::unmet;
 use cop_base::NoMemory;
-use logic_rules::Problem;
 use std::alloc::Global;
 use tableau_core::SizedProblem;
 use term_store::{Demand, Equation, HomeList, Store, System};
@@ -25,23 +24,22 @@ use term_unify::Unifier;
 #[derive(Drop)]
 pub struct VaryingDemand<'a> {
     alloc: Global,
-    problem: SizedProblem<'a>,
+    problem: &'a SizedProblem<'a>,
     unifier: Unifier,
-    ghost varying: { problem.setting.domains ≡ Varying },
+    ghost varying: { problem.now.setting.domains ≡ Varying },
 }
 
 impl<'a> VaryingDemand<'a> {
     /// The condition of a problem with varying domains.
-    pub fn new(alloc: Global, problem: &'a Problem) -> Result<VaryingDemand<'a>, NoMemory>
+    pub fn new(alloc: Global, problem: &'a SizedProblem<'a>) -> VaryingDemand<'a>
         requires { problem.now.setting.domains ≡ Varying }
-        ensures { IfOk result (λ d. d.problem ≡ problem.now) }
+        ensures { result.problem.now ≡ problem.now }
     {
-        let problem = SizedProblem::new(alloc, problem)?;
-        Ok(VaryingDemand {
+        VaryingDemand {
             alloc,
             problem,
             unifier: Unifier::new(alloc),
-        })
+        }
     }
 }
 
@@ -76,13 +74,13 @@ fn next_equation(
 }
 
 impl Demand for VaryingDemand<'_> {
-    ghost holds_for = { λ d. list_all (gamma_is_allowed d.problem) };
+    ghost holds_for = { λ d. list_all (gamma_is_allowed d.problem.now) };
 
-    ghost common = { λ d. common_spares d.problem };
+    ghost common = { λ d. common_spares d.problem.now };
 
     fn next(&mut self, store: &mut Store, system: &System) -> Result<Option<Equation>, NoMemory> {
         let unifier = &mut self.unifier;
-        let equation = next_equation(self.alloc, unifier, &self.problem, store, system)?;
+        let equation = next_equation(self.alloc, unifier, self.problem, store, system)?;
         Ok(equation)
     }
 
@@ -92,7 +90,7 @@ impl Demand for VaryingDemand<'_> {
         store: &mut Store,
         system: &System,
     ) -> Result<HomeList, NoMemory> {
-        let homes = forced_homes(alloc, &self.problem, store, system)?;
+        let homes = forced_homes(alloc, self.problem, store, system)?;
         Ok(homes)
     }
 }

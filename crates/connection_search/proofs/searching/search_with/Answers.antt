@@ -1,39 +1,40 @@
-use Rattle.std.proofs.Common.{◌≡◌, ◌-◌, ◌∙◌, ap, subst}
-use Rattle.calculus.specs.Counting.{MoreThan}
+use Rattle.std.proofs.Common.{◌≡◌, ◌-◌, [], arith, refl, subst, sym}
+use Rattle.std.specs.Prelude.{IfOk}
+use Rattle.calculus.specs.Counting.{AtLeastMany, MoreThan}
 use Rattle.calculus.specs.Space.{IsEarly, member_cmp}
-use Rattle.term_store.specs.StoreView.{the_mark}
-use Rattle.connection_search.specs.Outcomes.{IfSteps}
-use Rattle.connection_search.proofs.SearchedLaws.{ok-map, room-both, space-of, spare-kept, steps-map}
+use Rattle.search_theory.specs.Matrix.{IsTemplateMatrix}
+use Rattle.connection_search.specs.Outcomes.{IfSteps, IsOutcome}
 use Rattle.connection_search.proofs.searching.search_with.Goals as goal
 
-pub run-outcome-requires : goal.run-outcome-requires
-run-outcome-requires c = space-of c.args.problem.now c.args.matrix.now c.args.limit.number c.setting-setting.ensures.well c.requires c.args.limit.from_one c.args.limit.to_most
+pub returns-in_err-sized-clause-count : goal.returns-in_err-sized-clause-count
+returns-in_err-sized-clause-count c = ([], record { rising = tt; members = tt }, omega arith)
 
-pub undo-requires : goal.undo-requires
-undo-requires c = (c.run-outcome.ensures.marks (the_mark c.mark-start.result) c.mark-start.ensures.good).0
+pub returns-in_err-sized-clause-rises : goal.returns-in_err-sized-clause-rises
+returns-in_err-sized-clause-rises c = omega arith
+
+pub returns-in_err-sized-clause-spare : goal.returns-in_err-sized-clause-spare
+returns-in_err-sized-clause-spare c = omega arith
+
+pub search_sized-requires : goal.search_sized-requires
+search_sized-requires c = subst (λ P. IsTemplateMatrix P c.args.matrix.now) (sym c.in_ok-sized.ensures) c.requires
 
 pub returns-clause-outcome : goal.returns-clause-outcome
-returns-clause-outcome c = c.run-outcome.ensures.outcome
+returns-clause-outcome c = subst (λ P. IfOk c.search_sized.result (IsOutcome P c.args.limit.number)) c.in_ok-sized.ensures c.search_sized.ensures.outcome
 
 pub returns-clause-steps : goal.returns-clause-steps
-returns-clause-steps c =
-    let Before : Type 0 = (c.run-outcome.new.ledger.used ≡ c.run-outcome.new.ledger.budget) × MoreThan member_cmp (IsEarly c.args.problem.now c.args.limit.number) (c.run-outcome.new.ledger.used - c.args.ledger.now.used) in
-    let After : Type 0 = (c.run-outcome.new.ledger.used ≡ c.run-outcome.new.ledger.budget) × MoreThan member_cmp (IsEarly c.args.problem.now c.args.limit.number) (c.args.ledger.now.budget - c.args.ledger.now.used) in
-    ok-map c.run-outcome.result (λ o. IfSteps o Before) (λ o. IfSteps o After)
-    (λ o h. steps-map o Before After (λ e. (e.0, subst (MoreThan member_cmp (IsEarly c.args.problem.now c.args.limit.number)) (ap (λ n. n - c.args.ledger.now.used) (e.0 ∙ c.run-outcome.ensures.budget)) e.1)) h)
-    c.run-outcome.ensures.steps
+returns-clause-steps c = subst (λ P. IfOk c.search_sized.result (λ o. IfSteps o ((c.search_sized.new.ledger.used ≡ c.search_sized.new.ledger.budget) × MoreThan member_cmp (IsEarly P c.args.limit.number) (c.args.ledger.now.budget - c.args.ledger.now.used)))) c.in_ok-sized.ensures c.search_sized.ensures.steps
 
 pub returns-clause-count : goal.returns-clause-count
-returns-clause-count c = c.run-outcome.ensures.counted.1
+returns-clause-count c = subst (λ P. AtLeastMany member_cmp (IsEarly P c.args.limit.number) (c.search_sized.new.ledger.used - c.args.ledger.now.used)) c.in_ok-sized.ensures c.search_sized.ensures.count
 
 pub returns-clause-rises : goal.returns-clause-rises
-returns-clause-rises c = c.run-outcome.ensures.counted.0
+returns-clause-rises c = c.search_sized.ensures.rises
 
 pub returns-clause-budget : goal.returns-clause-budget
-returns-clause-budget c = c.run-outcome.ensures.budget
+returns-clause-budget c = c.search_sized.ensures.budget
 
 pub returns-clause-store : goal.returns-clause-store
-returns-clause-store c = (c.undo.ensures.store ∙ (c.run-outcome.ensures.marks (the_mark c.mark-start.result) c.mark-start.ensures.good).1 ∙ c.mark-start.ensures.whole)
+returns-clause-store c = c.search_sized.ensures.store
 
 pub returns-clause-spare : goal.returns-clause-spare
-returns-clause-spare c = spare-kept c.args.store.now c.undo.new.self (c.undo.ensures.store ∙ (c.run-outcome.ensures.marks (the_mark c.mark-start.result) c.mark-start.ensures.good).1 ∙ c.mark-start.ensures.whole) (room-both c.args.store.now c.run-outcome.new.store c.undo.new.self c.run-outcome.ensures.room c.undo.ensures.room)
+returns-clause-spare c = c.search_sized.ensures.spare

@@ -1,6 +1,6 @@
 use Rattle.std.proofs.Common.{◌≡◌}
 use Rattle.connection_search.proofs.CutDeepening.{CutTo}
-use Rattle.connection_search.proofs.cutting.deepen_cut.Given as goal
+use Rattle.connection_search.proofs.cutting.deepen_cut_sized.Given as goal
 
 abbrev pub invariant-loop-passed : goal.invariant-loop-passed
 invariant-loop-passed l = record {

@@ -1,6 +1,6 @@
 use Rattle.std.proofs.Common.{◌≡◌}
 use Rattle.connection_search.proofs.DeepeningLaws.{DeepenedTo}
-use Rattle.connection_search.proofs.deepening.deepen.Given as goal
+use Rattle.connection_search.proofs.deepening.deepen_sized.Given as goal
 
 abbrev pub invariant-loop-passed : goal.invariant-loop-passed
 invariant-loop-passed l = record {
