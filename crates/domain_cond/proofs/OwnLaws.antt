@@ -102,4 +102,4 @@ own-met P s y well d common fits allow own =
     let needs = ranked-by_no_need_cycle R s (homes-cells s y.gammas own.home well.fits own.tells) own.no_cycle in
     let σ = rule_value R s bound in
     let spares = own-by_homes s y.gammas own.home (need_rank R s) bound well.fits needs (homes-by_labels s y.gammas own.home own.tells) in
-    subst (λ b. OwnSparesMeet b (AllAllowed P) s y) (sym common) (met-own P s (rank_of s) bound y σ (λ r. r) well.fits ranked (system-parts s y fits).gammas d spares own.agree (λ j g at. allow j g at σ spares.solves) own.constants)
+    subst (λ b. OwnSparesMeet b (AllAllowed P) s y) (sym common) (met-own P s (rank_of s) bound y σ well.fits ranked (system-parts s y fits).gammas d spares own.agree (λ j g at. allow j g at σ spares.solves) own.constants)

@@ -292,7 +292,6 @@ met-common P s rank limit y h ranked cells c homes =
     let σ = own_value s limit in
     let spares = own-apart s rank limit y.gammas h ranked in (
       σ,
-      (λ r. r),
       spares,
       meets-by_stands P s rank limit y σ h ranked spares.solves cells (λ j g at. record {
         eigens = homes j g at;
@@ -302,14 +301,13 @@ met-common P s rank limit y h ranked cells c homes =
     )
 
 -- where they do not, and there are own spares
-pub met-own : (P : Problem) (s : Store) (rank : ℕ → ℕ) (limit : ℕ) (y : System) (σ : Solution) (number : ℕ → ℕ) → IsTrue (is_store s) → IsRanked s rank limit → IsTrue (list_all (is_gamma_cell s) y.gammas) → P.setting.domains ≡ Varying → AreOwnSpares false s y.gammas σ number → HomesAgree s y.gammas → ((j : ℕ) (g : GammaCell) → slice_get y.gammas j ≡ Some g → HomesAllow P s σ g) → ((j : ℕ) (g : GammaCell) → slice_get y.gammas j ≡ Some g → HasNoConstant s g) → OwnSparesMeet false (AllAllowed P) s y
-met-own P s rank limit y σ number h ranked cells d spares agree homes constants = (
+pub met-own : (P : Problem) (s : Store) (rank : ℕ → ℕ) (limit : ℕ) (y : System) (σ : Solution) → IsTrue (is_store s) → IsRanked s rank limit → IsTrue (list_all (is_gamma_cell s) y.gammas) → P.setting.domains ≡ Varying → AreOwnSpares false s y.gammas σ (λ v. v) → HomesAgree s y.gammas → ((j : ℕ) (g : GammaCell) → slice_get y.gammas j ≡ Some g → HomesAllow P s σ g) → ((j : ℕ) (g : GammaCell) → slice_get y.gammas j ≡ Some g → HasNoConstant s g) → OwnSparesMeet false (AllAllowed P) s y
+met-own P s rank limit y σ h ranked cells d spares agree homes constants = (
   σ,
-  number,
   spares,
   meets-by_stands P s rank limit y σ h ranked spares.solves cells (λ j g at. record {
     eigens = homes j g at;
-    variables = λ v o e. own-spare P s y.gammas σ number d agree spares v j g at o e;
+    variables = λ v o e. own-spare P s y.gammas σ (λ u. u) d agree spares v j g at o e;
     constants = λ e f o at'. absurd (constants j g at e f o at');
   }),
 )

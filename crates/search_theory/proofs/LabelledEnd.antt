@@ -12,7 +12,7 @@ use Rattle.calculus.specs.Tableaux.{Tableau, is_closed, instances}
 use Rattle.calculus.specs.Choices.{start, reduction, extension, Choice, choices_of, ground_choices, choices_cmp, IsLive}
 use Rattle.calculus.specs.Counting.{IsRising, AtLeastMany}
 use Rattle.calculus.specs.Space.{Member, with_choices, with_lengths, member_cmp, member_of, IsEarly, lengths_cmp, has_labels, string_lengths}
-use Rattle.store_theory.specs.Stores.{Cell, Store, has_sort_at, has_value_sort_at, is_store, has_sort, Solution, Solves, GammaCell}
+use Rattle.store_theory.specs.Stores.{Cell, Store, has_sort_at, has_value_sort_at, is_store, has_sort, Solution, Solves, GammaCell, AreOwnSpares}
 use Rattle.calculus.specs.declared.sort.Sort.TheVariants.{TermSort, StringSort}
 use Rattle.store_theory.specs.Systems.{System, is_gamma_cell, AllAllowed, AreTried, HasSolution, IsBoundedSolution, OwnSparesSolve, AreEarly}
 use Rattle.calculus.proofs.OrderLaws.{choices_cmp_total, choices_cmp-IsAntisymmetric, lengths_cmp_total}
@@ -84,12 +84,12 @@ bounded-back l Demanded old new y ns σ t b = record {
 }
 
 -- own spares give a closed tableau with the state's list, and its strings have the lengths that were found
-pub closed-by_found : (b : Bool) (P : Problem) (d : ℕ) (c : List Choice) (S : State) (y : System) (In : ℕ → Type 0) (new : Store) (rank : ℕ → ℕ) (bound : ℕ) → IsTreeOf P d c S → IsSystemOf P S y → S.growth.open_goals ≡ [] → IsSolvedFor P In S y new rank bound → OwnSparesSolve b P.setting.logic (AllAllowed P) new y → (σ : Solution) × IsTableauOf P d (map (choice_at σ) S.choices)
-closed-by_found b P d c S y In new rank bound h k o solved (σ, number, spares, (ns, bounded)) =
-    let good = good-cells P In new rank bound σ solved.store solved.ranked solved.labelled spares.solves (own-good b P In new y.gammas σ number solved.closed.no_open_string solved.gammas solved.labels spares) in
+pub closed-by_found : (b : Bool) (P : Problem) (d : ℕ) (c : List Choice) (S : State) (y : System) (In : ℕ → Type 0) (new : Store) (rank : ℕ → ℕ) (bound : ℕ) → IsTreeOf P d c S → IsSystemOf P S y → S.growth.open_goals ≡ [] → IsSolvedFor P In S y new rank bound → OwnSparesSolve b P.setting.logic (AllAllowed P) new y → (σ : Solution) × AreOwnSpares b new y.gammas σ (λ v. v) × IsTableauOf P d (map (choice_at σ) S.choices)
+closed-by_found b P d c S y In new rank bound h k o solved (σ, spares, (ns, bounded)) =
+    let good = good-cells P In new rank bound σ solved.store solved.ranked solved.labelled spares.solves (own-good b P In new y.gammas σ (λ v. v) solved.closed.no_open_string solved.gammas solved.labels spares) in
     let back = solved.back σ spares.solves in
     let ground : IsGround P S σ = record { solves = back; admitted = admitted-good P In new σ spares.solves good S.choices solved.choices } in
-    (σ, (closed-by_solution P d c S y ns σ h k o ground (bounded-back P.setting.logic (AllAllowed P) S.store new y ns σ back bounded)).0)
+    (σ, spares, (closed-by_solution P d c S y ns σ h k o ground (bounded-back P.setting.logic (AllAllowed P) S.store new y ns σ back bounded)).0)
 
 -- ---- steps
 

@@ -290,12 +290,11 @@ equal-now s σ t (e ∷ es) h = (h.0 σ t, equal-now s σ t es h.1)
 
 -- own spares are a bounded solution where they meet the demand, each equation is made equal, and no pair is the same
 pub found : (b : Bool) (l : Logic) (Demanded : List GammaUse → Type 0) (old new : Store) (y : System) (ns : List ℕ) (rank : ℕ → ℕ) (bound : ℕ) (In : ℕ → Type 0) → IsTrue (is_store new) → IsRanked new rank bound → IsClosedSet In new → HasPairsIn In new y → IsSolving l Demanded old y ns new → AreTried l y ns → AllByRecursion (AreEqualNow new) y.equations → AllByRecursion (IsApartNow new) y.pairs → OwnSparesMeet b Demanded new y → OwnSparesSolve b l Demanded new y
-found b l Demanded old new y ns rank bound In h ranked closed cells solving tried equal apart (σ, number, spares, met) =
-    let d = own-distinct b In new y.gammas σ number closed spares in
+found b l Demanded old new y ns rank bound In h ranked closed cells solving tried equal apart (σ, spares, met) =
+    let d = own-distinct b In new y.gammas σ (λ v. v) closed spares in
     let lengths = (solving.back σ spares.solves).1 in
     let both = and_parts (length ns == length y.strings) (list_all (is_tried_length l (bound_of y)) ns) tried in (
       σ,
-      number,
       spares,
       (
         ns,
@@ -305,7 +304,7 @@ found b l Demanded old new y ns rank bound In h ranked closed cells solving trie
             equal = equal-now new σ spares.solves y.equations equal;
             steps = steps-by_lengths l (bound_of y) σ y.strings ns both.1 lengths;
             demanded = met;
-            apart = differ-own In new rank bound σ number h ranked d y.pairs cells.pairs apart;
+            apart = differ-own In new rank bound σ (λ v. v) h ranked d y.pairs cells.pairs apart;
           };
           tried = tried;
           lengths = lengths;

@@ -80,7 +80,7 @@ own (suc (suc zero)) sort e = absurd (false≢true (ap is_variable e))
 own (suc (suc (suc n))) sort e = absurd (false≢true (ap is_variable e))
 
 spares : OwnSparesGive true store [] (λ σ. ⊤)
-spares = (by_string [], λ n. n, record { solves = solves []; spares = own; apart = λ v w sort e f p. p }, tt)
+spares = (by_string [], record { solves = solves []; spares = own; apart = λ v w sort e f p. p }, tt)
 
 -- the only unbound string is one of the system's strings
 named : NamesItsStrings store system
