@@ -38,7 +38,7 @@ use Rattle.search_theory.proofs.LeftLabels.{regular-by_distinct}
 use Rattle.search_theory.proofs.LevelLaws.{all-solved, levels-depths, levels-start, settled, trying-first, trying-less, trying-next}
 use Rattle.search_theory.proofs.PassingLaws.{passes-ended, passes-keep, passes-lengths, passes-less, passes-many, passes-start, passes-visit}
 use Rattle.search_theory.proofs.RankLaws.{rank_of}
-use Rattle.search_theory.proofs.SoundLaws.{dead-unsound, sound-state}
+use Rattle.search_theory.proofs.SoundLaws.{dead-unsound, sound-start, sound-state}
 use Rattle.search_theory.proofs.Dropping.{drop-front}
 use Rattle.tableau_core.specs.Numbered.TableauView.{the_tableau}
 use Rattle.term_store.specs.StoreView.{the_mark}
@@ -78,6 +78,13 @@ running-sound P base d c S y h new =
 
 pub stands-sound : (P : Problem) (m : List MatrixClause) (base d : ℕ) (c : List Choice) (s : Store) (steps : List Step) (goals : List Goal) (first : Option ℕ) → StandsFor P m base d c s steps goals first → ((cs : List CellChoice) (x : CellGrowth) → IsAt P m base d c s steps goals first cs x → HasNoSamePair (record { store = s; choices = cs; growth = x })) → IsRegularLive P d c
 stands-sound P m base d c s steps goals first (cs, x, at) new = running-sound P base d c (record { store = s; choices = cs; growth = x }) (tree_system m steps goals x.all_goals) at.running (new cs x at)
+
+-- so is the list of a start
+stands-start : (P : Problem) (m : List MatrixClause) (base d : ℕ) (sides : List Side) (s : Store) (steps : List Step) (goals : List Goal) (first : Option ℕ) → StandsFor P m base d (start sides ∷ []) s steps goals first → IsRegularLive P d (start sides ∷ [])
+stands-start P m base d sides s steps goals first (cs, x, at) =
+    let S : State = record { store = s; choices = cs; growth = x } in
+    let (σ, number, distinct, ground) = running-ground P base d (start sides ∷ []) S (tree_system m steps goals x.all_goals) at.running in
+    sound-start P d sides S σ at.running.state ground
 
 -- how deep its open goals lie
 stands-depths : (P : Problem) (m : List MatrixClause) (base d : ℕ) (c : List Choice) (s : Store) (steps : List Step) (goals : List Goal) (first : Option ℕ) → (h : StandsFor P m base d c s steps goals first) → cell_path_lengths h.1.open_goals ≡ open_depths P c
@@ -316,6 +323,7 @@ cut-made P m base d sides s t steps after goals all first points later begun use
   choices = h.before ++ the_move m choice ∷ [];
   stands = stands;
   not_empty = not-empty h.before (the_move m choice);
+  sound = sound;
   levels = record { before = h.before; choice = the_move m choice; rest = h.rest; waiting = h.waiting } ∷ h.levels;
   goals_left = goals_added P (the_move m choice);
   solving = λ e told. trying-next P e sides h.levels h.waiting h.before (the_move m choice) h.rest (h.trying e told) (no-start m choice) (sound-more P d e (h.before ++ the_move m choice ∷ []) (told-from d e left told) sound);
@@ -456,6 +464,7 @@ cut-started P m base d sides s steps goals first points later begun used left e 
   choices = start sides ∷ [];
   stands = stands;
   not_empty = refl;
+  sound = stands-start P m base d sides s steps goals first stands;
   levels = [];
   goals_left = clause_size P sides;
   solving = λ e told. levels-start P e sides;

@@ -18,8 +18,10 @@ pub mod ReadingLaws
 pub mod GroundLaws
 pub mod PartLaws
 pub mod MakingLaws
+pub mod HeldLaws
 pub mod ReadOffLaws
 pub mod StackLaws
+pub mod BuiltLaws
 -- copies
 pub mod ClassicalGammas
 pub mod ClassicalCopies
@@ -43,6 +45,7 @@ pub mod SpentLaws
 pub mod VisitLaws
 -- lists without open goals
 pub mod DecidingLaws
+pub mod FoundLaws
 -- lists that labels refute
 pub mod PruneLaws
 -- the loop over the points

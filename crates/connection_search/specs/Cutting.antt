@@ -3,7 +3,7 @@ use Rattle.std.specs.Prelude.{◌≡◌, ◌≤◌, ◌+◌, ◌-◌, ℕ, List,
 use Rattle.std.specs.List.{AllByRecursion}
 use Rattle.calculus.specs.Choices.{Choice}
 use Rattle.calculus.specs.Counting.{AtLeastMany, MoreThan}
-use Rattle.calculus.specs.Cut.{Cuts, IsCut}
+use Rattle.calculus.specs.Cut.{Cuts, IsCut, IsRegularLive}
 use Rattle.calculus.specs.Space.{Member, member_cmp}
 use Rattle.store_theory.specs.Stores.{Store}
 use Rattle.calculus.specs.Syntax.{Problem}
@@ -55,6 +55,7 @@ pub record IsCutVisiting (P : Problem) (m : List MatrixClause) (base d : ℕ) (s
   pub choices : List Choice
   pub stands : StandsFor P m base d choices s steps goals first
   pub not_empty : IsTrue (is_not_empty choices)
+  pub sound : IsRegularLive P d choices
   pub levels : List Level
   pub goals_left : ℕ
   pub solving : (e : ℕ) → IsToldOf d left e → AreLevels P e sides levels goals_left choices

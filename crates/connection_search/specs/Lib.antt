@@ -8,6 +8,7 @@ pub mod Heads
 -- what is read off
 pub mod Readable
 pub mod Grounds
+pub mod Held
 pub mod Reading
 -- the answers
 pub mod Outcomes

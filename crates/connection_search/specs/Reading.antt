@@ -1,17 +1,21 @@
 -- What is read off of a tree: by own spares its literals and instances, and the choices by which goals are closed.
-use Rattle.std.specs.Prelude.{◌≡◌, ℕ, List, [], ◌∷◌, ◌++◌, ⊤}
+use Rattle.std.specs.Prelude.{◌≡◌, ℕ, List, [], ◌∷◌, ◌++◌, map, ⊤}
 use Rattle.std.specs.List.{AllByRecursion}
 use Rattle.calculus.specs.Choices.{Choice, extension, reduction}
 use Rattle.calculus.specs.Ground as tree
+use Rattle.calculus.specs.Instances as instances
+use Rattle.calculus.specs.Tableaux as tableaux
 use Rattle.calculus.specs.Lists.{g_terms_tree}
 use Rattle.formula_core.specs.GroundLists.{GroundList, the_terms, the_marks, the_values, AreNormalTerms, AreNormalMarks, AreNormalValues}
 use Rattle.formula_core.specs.declared.ground.GroundTerms.{GroundTerms}
 use Rattle.formula_core.specs.declared.ground.GroundLabel.{GroundLabel}
 use Rattle.formula_core.specs.declared.ground.Values.{Values}
-use Rattle.tableau_core.specs.Numbered.ClosingView.{the_closing}
+use Rattle.tableau_core.specs.Numbered.ClosingView.{the_closing, closing_in}
 use Rattle.tableau_core.specs.Numbered.Closings as numbered
+use Rattle.tableau_core.specs.Numbered.InstanceView.{the_instance}
 use Rattle.tableau_core.specs.Numbered.LiteralView.{the_literal}
 use Rattle.tableau_core.specs.declared.closing.Closing.{Closing}
+use Rattle.tableau_core.specs.declared.instance.ClauseInstance.{ClauseInstance}
 use Rattle.tableau_core.specs.declared.literal.GroundLiteral.{GroundLiteral}
 use Rattle.connection_search.specs.declared.tree.Copied.{Copied}
 use Rattle.connection_search.specs.declared.tree.Step.{Step}
@@ -36,6 +40,36 @@ pub record IsLiteralOf (ls : List GroundList) (x : GroundLiteral) (y : tree.Grou
   pub args : AreNormalTerms ls x.args
   pub label : AreNormalMarks ls x.label
   pub value : the_literal ls x ≡ y
+
+-- what it stands for stays as the table grows
+abbrev pub IsNormalLiteral : List GroundList → GroundLiteral → Type 0
+IsNormalLiteral ls x = AreNormalTerms ls x.args × AreNormalMarks ls x.label
+
+abbrev pub IsNormalInstance : List GroundList → ClauseInstance → Type 0
+IsNormalInstance ls i = AreNormalValues ls i.values × AllByRecursion (IsNormalLiteral ls) i.literals
+
+pub record AreLiteralsOf (ls : List GroundList) (xs : List GroundLiteral) (ys : List tree.GroundLiteral) : Type 0 where
+  pub normal : AllByRecursion (IsNormalLiteral ls) xs
+  pub value : map (the_literal ls) xs ≡ ys
+
+pub record IsInstanceOf (ls : List GroundList) (i : ClauseInstance) (j : instances.ClauseInstance) : Type 0 where
+  pub normal : IsNormalInstance ls i
+  pub value : the_instance ls i ≡ j
+
+-- ---- closings
+
+abbrev mutual
+  pub IsNormalClosing : List GroundList → numbered.Closing → Type 0
+  IsNormalClosing ls (numbered.reduce up) = ⊤
+  IsNormalClosing ls (numbered.extend i place below) = IsNormalInstance ls i × AreNormalClosings ls below
+
+  pub AreNormalClosings : List GroundList → numbered.Closings → Type 0
+  AreNormalClosings ls numbered.no_closings = ⊤
+  AreNormalClosings ls (numbered.more_closings c cs) = IsNormalClosing ls c × AreNormalClosings ls cs
+
+pub record AreClosingsOf (ls : List GroundList) (cs : List numbered.Closing) (ds : List tableaux.Closing) : Type 0 where
+  pub normal : AllByRecursion (IsNormalClosing ls) cs
+  pub value : map (closing_in ls) cs ≡ ds
 
 -- ---- choices
 

@@ -1,5 +1,5 @@
 -- States of the search, and the program's tree that stands for one.
-use Rattle.std.specs.Prelude.{◌≡◌, ◌==◌, ◌+◌, ℕ, suc, List, [], ◌∷◌, ◌++◌, ◌≤◌, length, not, Bool, true, false, Option, Some, slice_get, nat_le, nat_lt, IsTrue}
+use Rattle.std.specs.Prelude.{◌≡◌, ◌==◌, ◌+◌, ℕ, suc, List, [], ◌∷◌, ◌++◌, ◌≤◌, length, not, Bool, true, false, Option, None, Some, slice_get, nat_le, nat_lt, IsTrue}
 use Rattle.std.specs.List.{AllByRecursion, list_all, list_any}
 use Rattle.calculus.specs.declared.sign.Side.{Side}
 use Rattle.store_theory.specs.Bindings.{IsWellFormed}
@@ -13,6 +13,7 @@ use Rattle.store_theory.specs.Systems.{CellAtom, IsOpenString, System, cells_of}
 use Rattle.search_theory.proofs.BeginningLaws.{IsDead}
 use Rattle.search_theory.specs.Goals.{IsChoiceAt}
 use Rattle.search_theory.specs.Matrix.{IsTemplateMatrix, MatrixClause, MatrixPlace}
+use Rattle.search_theory.specs.Regular.{HasNoSamePair}
 use Rattle.search_theory.proofs.LabelledEnd.{IsChoiceIn}
 use Rattle.search_theory.proofs.LeftLabels.{IsGoalIn}
 use Rattle.search_theory.specs.StateSystems.{IsSystemOf}
@@ -55,7 +56,11 @@ pub record IsMatrixOf (P : Problem) (m : List MatrixClause) : Type 0 where
 abbrev pub StandsFor : Problem → List MatrixClause → ℕ → ℕ → List Choice → Store → List Step → List Goal → Option ℕ → Type 0
 StandsFor P m base d c s steps goals first = (cs : List CellChoice) × (x : CellGrowth) × IsAt P m base d c s steps goals first cs x
 
--- the same, where an extension was made from a path of n goals
+-- they stand for one without open goals, none of whose goals is the same as one above it
+abbrev pub StandsWhole : Problem → List MatrixClause → ℕ → ℕ → List Choice → Store → List Step → List Goal → Option ℕ → Type 0
+StandsWhole P m base d c s steps goals first = (cs : List CellChoice) × (x : CellGrowth) × IsAt P m base d c s steps goals first cs x × HasNoSamePair (record { store = s; choices = cs; growth = x }) × (first ≡ None)
+
+-- the same as `StandsFor`, where an extension was made from a path of n goals
 abbrev pub StandsDeep : Problem → List MatrixClause → ℕ → ℕ → List Choice → Store → List Step → List Goal → Option ℕ → ℕ → Type 0
 StandsDeep P m base d c s steps goals first n = (cs : List CellChoice) × (x : CellGrowth) × IsAt P m base d c s steps goals first cs x × IsTrue (list_any (λ k. k == n) x.depths)
 
@@ -101,6 +106,9 @@ pub record IsLeftFound (P : Problem) (d : ℕ) (c : List Choice) (g : CellGoal) 
 
 abbrev pub TreeStands : Problem → List MatrixClause → ℕ → ℕ → List Choice → TermStore → Tree → Type 0
 TreeStands P m base d c s t = StandsFor P m base d c s.store t.steps.items t.goals.items t.open
+
+abbrev pub TreeStandsWhole : Problem → List MatrixClause → ℕ → ℕ → List Choice → TermStore → Tree → Type 0
+TreeStandsWhole P m base d c s t = StandsWhole P m base d c s.store t.steps.items t.goals.items t.open
 
 abbrev pub TreeStandsDeep : Problem → List MatrixClause → ℕ → ℕ → List Choice → TermStore → Tree → ℕ → Type 0
 TreeStandsDeep P m base d c s t n = StandsDeep P m base d c s.store t.steps.items t.goals.items t.open n

@@ -1,17 +1,22 @@
 //! The tableau of a tree without open goals: its closings, from the last choice to the first one.
 
-ghost use Rattle.std.specs.Prelude.{◌≡◌, ◌≤◌, ◌-◌, ◌∷◌, ◌++◌, [], IfOk, MatchOption, OnOk, length, slice_get};
+ghost use Rattle.std.specs.Prelude.{◌≡◌, ◌≤◌, ◌-◌, ◌∷◌, ◌++◌, [], IfOk, List, MatchOption, OnOk};
+ghost use Rattle.std.specs.Prelude.{drop, length, map, slice_get, take};
 ghost use Rattle.std.specs.List.{AllByRecursion};
-ghost use Rattle.calculus.specs.Choices.{choices_of, extension, ground_choices, reduction};
-ghost use Rattle.formula_core.specs.GroundLists.{IsGrown};
+ghost use Rattle.calculus.specs.Choices.{GroundChoice, choices_of, extension, ground_choices, reduction};
+ghost use Rattle.formula_core.specs.GroundLists.{GroundList, IsGrown};
+ghost use Rattle.search_theory.specs.Joined.{IsTableauBy, closings_by};
 ghost use Rattle.search_theory.specs.OrderedChoices.{selection_of};
-ghost use Rattle.search_theory.specs.States.{name_of};
+ghost use Rattle.search_theory.specs.States.{choice_at, clause_at, name_of};
+ghost use Rattle.store_theory.specs.Stores.{Solution};
 ghost use Rattle.tableau_core.specs.Numbered.TableauView.{the_tableau};
-ghost use Rattle.connection_search.specs.Grounds.{IsReading};
+ghost use Rattle.connection_search.specs.Grounds.{AreSparesAt, IsReading};
 ghost use Rattle.connection_search.specs.Listing.{names_of};
 ghost use Rattle.connection_search.specs.Readable.{AreHomesBelow, IsReadableExtension, IsReadableStep};
-ghost use Rattle.connection_search.specs.Reading.{IsInner, IsStarted, IsStartedBy, stacked, stacked_names};
-ghost use Rattle.connection_search.specs.Trees.{the_step};
+ghost use Rattle.connection_search.specs.Reading.{AreClosingsOf, IsInner, IsStarted, IsStartedBy};
+ghost use Rattle.connection_search.specs.Reading.{stacked, stacked_names};
+ghost use Rattle.connection_search.specs.Trees.{clause_with, inserted, the_step};
+ghost use Rattle.term_store.specs.ClauseView.{the_atom};
 
 use crate::grounds::Grounds;
 use crate::reading::{Source, connected_instance, start_instance};
@@ -29,6 +34,8 @@ fn take_closings(
 ) -> Result<ClosingList, NoMemory>
     ensures taken { IfOk result (λ cs. stacked stack.old.items ≡ cs ++ stacked stack.new.items) }
     ensures fewer { IfOk result (λ cs. length stack.new.items ≤ length stack.old.items - count) }
+    ensures front { IfOk result (λ cs. cs ≡ take count (stacked stack.old.items)) }
+    ensures others { IfOk result (λ cs. stacked stack.new.items ≡ drop count (stacked stack.old.items)) }
 {
     let mut closings = ClosingList::new(alloc);
     for _i in 0..count {
@@ -42,7 +49,10 @@ fn take_closings(
 
 // The closing by an ancestor comes to the stack.
 fn add_reduction(stack: &mut Vec<Closing>, up: u32) -> Result<(), NoMemory>
-    ensures { OnOk result (stacked_names stack.new.items ≡ reduction up ∷ stacked_names stack.old.items) }
+    ensures names { OnOk result (stacked_names stack.new.items ≡ reduction up ∷ stacked_names stack.old.items) }
+    ensures built { OnOk result ((ls : List GroundList) (gs : List GroundChoice)
+        → AreClosingsOf ls (stacked stack.old.items) (closings_by gs)
+        → AreClosingsOf ls (stacked stack.new.items) (closings_by (reduction up ∷ gs))) }
 {
     stack.push(Closing::Reduce { up })?;
     Ok(())
@@ -64,6 +74,11 @@ fn add_extension(
     ensures names { OnOk result (stacked_names stack.new.items
         ≡ extension (selection_of (slice_get from.now.matrix.now copied.now.clause.0)) place
         ∷ stacked_names stack.old.items) }
+    ensures built { OnOk result ((σ : Solution) → AreSparesAt from.now.store.now.store from.now.homes.now σ
+        → (gs : List GroundChoice) → AreClosingsOf grounds.old.table (stacked stack.old.items) (closings_by gs)
+        → AreClosingsOf grounds.new.table (stacked stack.new.items) (closings_by (extension (clause_at σ
+        (clause_with from.now.matrix.now copied.now (inserted place (the_atom atom.now) copied.now.copy.literals)))
+        place ∷ gs))) }
     ensures reading { OnOk result (IsReading from.now.store.now.store from.now.homes.now grounds.new) }
     ensures grown { OnOk result (IsGrown grounds.old.table grounds.new.table) }
 {
@@ -91,6 +106,10 @@ fn add_closing(
     requires inner { IsInner step.now }
     ensures names { OnOk result (stacked_names stack.new.items
         ≡ name_of (the_step from.now.matrix.now step.now) ∷ stacked_names stack.old.items) }
+    ensures built { OnOk result ((σ : Solution) → AreSparesAt from.now.store.now.store from.now.homes.now σ
+        → (gs : List GroundChoice) → AreClosingsOf grounds.old.table (stacked stack.old.items) (closings_by gs)
+        → AreClosingsOf grounds.new.table (stacked stack.new.items)
+        (closings_by (choice_at σ (the_step from.now.matrix.now step.now) ∷ gs))) }
     ensures reading { OnOk result (IsReading from.now.store.now.store from.now.homes.now grounds.new) }
     ensures grown { OnOk result (IsGrown grounds.old.table grounds.new.table) }
 {
@@ -116,6 +135,10 @@ fn add_closings(
     requires inner { AllByRecursion IsInner steps.now }
     ensures names { OnOk result (stacked_names stack.new.items
         ≡ names_of from.now.matrix.now steps.now ++ stacked_names stack.old.items) }
+    ensures built { OnOk result ((σ : Solution) → AreSparesAt from.now.store.now.store from.now.homes.now σ
+        → (gs : List GroundChoice) → AreClosingsOf grounds.old.table (stacked stack.old.items) (closings_by gs)
+        → AreClosingsOf grounds.new.table (stacked stack.new.items)
+        (closings_by (map (choice_at σ) (map (the_step from.now.matrix.now) steps.now) ++ gs))) }
     ensures reading { OnOk result (IsReading from.now.store.now.store from.now.homes.now grounds.new) }
     ensures grown { OnOk result (IsGrown grounds.old.table grounds.new.table) }
 {
@@ -156,8 +179,10 @@ pub(crate) fn tableau_of(from: &Source<'_>, tree: &Tree) -> Result<Tableau, NoMe
     requires steps { AllByRecursion (IsReadableStep from.now.store.now.store from.now.matrix.now)
         tree.now.steps.items }
     requires started { IsStarted tree.now.steps.items }
-    ensures { IfOk result (λ t. choices_of (ground_choices (the_tableau t))
+    ensures names { IfOk result (λ t. choices_of (ground_choices (the_tableau t))
         ≡ names_of from.now.matrix.now tree.now.steps.items) }
+    ensures built { IfOk result (λ t. (σ : Solution) → AreSparesAt from.now.store.now.store from.now.homes.now σ
+        → IsTableauBy (map (choice_at σ) (map (the_step from.now.matrix.now) tree.now.steps.items)) (the_tableau t)) }
 {
     let (copied, others) = start_of(&tree.steps);
     let mut grounds = Grounds::new(from.alloc, from.store, from.homes)?;

@@ -1,7 +1,7 @@
 //! Lists of choices without open goals: what they ask of labels is solved, and the tableau is read
-//! off and judged.
+//! off and, where there are labels, judged.
 
-ghost use Rattle.std.specs.Prelude.{◌≡◌, ℕ, IfOk, IsTrue, List, None, length, true};
+ghost use Rattle.std.specs.Prelude.{◌≡◌, ℕ, IfOk, IsTrue, List, None, false, length, true};
 ghost use Rattle.std.specs.List.{AllByRecursion, flat_map, list_all};
 ghost use Rattle.store_theory.specs.Bindings.{KeepsMarks};
 ghost use Rattle.calculus.specs.Choices.{Choice, choices_of, ground_choices};
@@ -10,15 +10,17 @@ ghost use Rattle.calculus.specs.Space.{has_labels};
 ghost use Rattle.store_theory.specs.Systems.{AllAllowed, NamesItsStrings, is_system};
 ghost use Rattle.calculus.specs.Tableaux as tableaux;
 ghost use Rattle.prefix_split.specs.LengthSearch.{IsCounted};
+ghost use Rattle.prefix_split.specs.declared.solving.Solved.TheVariants as solved;
 ghost use Rattle.tableau_core.specs.Numbered.TableauView.{the_tableau};
 ghost use Rattle.term_store.specs.Room.{KeepsRoom};
 ghost use Rattle.term_store.specs.SystemView.{the_system};
-ghost use Rattle.connection_search.specs.Deciding.{IsDecided, IsSolved, IsSolvedTree, IsSolving};
+ghost use Rattle.connection_search.specs.Deciding.{HasOwnTableau, IsDecided, IsSolved, IsSolvedTree};
+ghost use Rattle.connection_search.specs.Deciding.{IsSolving};
 ghost use Rattle.connection_search.specs.Listing.{names_of};
 ghost use Rattle.connection_search.specs.Moments.{IsSpaceOf};
 ghost use Rattle.connection_search.specs.Readable.{IsReadableStep, is_gamma_below};
 ghost use Rattle.connection_search.specs.Reading.{IsStarted};
-ghost use Rattle.connection_search.specs.Running.{TreeStands};
+ghost use Rattle.connection_search.specs.Running.{TreeStands, TreeStandsWhole};
 ghost use Rattle.connection_search.specs.Trees.{gammas_of};
 
 use crate::closings::tableau_of;
@@ -115,8 +117,12 @@ impl Space<'_> {
         work: &Work,
     ) -> Result<Solved, NoMemory>
         requires { (base : ℕ) × (c : List Choice) × IsSpaceOf self.now
-            × TreeStands self.now.problem.now self.now.matrix.now base self.now.limit c store.old
+            × TreeStandsWhole self.now.problem.now self.now.matrix.now base self.now.limit c store.old
             work.now.tree }
+        ensures own { IfOk result (λ a. a ≡ solved.Found
+            → has_labels self.now.problem.now.setting.logic ≡ false
+            → HasOwnTableau self.now.problem.now self.now.matrix.now self.now.limit store.new.store
+            work.now.tree.steps.items) }
         ensures solved { IfOk result (λ a. (base : ℕ) (c : List Choice)
             → TreeStands self.now.problem.now self.now.matrix.now base self.now.limit c store.old
             work.now.tree
@@ -139,13 +145,17 @@ impl Space<'_> {
         Ok(solved)
     }
 
-    // The tableau of the tree, where it is closed. Should it not be, the search has no answer.
+    // The tableau of the tree, where it is closed. Should it not be, the search has no answer. Without
+    // labels it is closed by what the search knows of the tree.
     fn answer(&self, store: &Store, work: &Work) -> Result<Tableau, NoMemory>
         requires steps { AllByRecursion (IsReadableStep store.now.store self.now.matrix.now)
             work.now.tree.steps.items }
         requires gammas { IsTrue (list_all (is_gamma_below (length store.now.store.cells))
             (flat_map gammas_of work.now.tree.steps.items)) }
         requires started { IsStarted work.now.tree.steps.items }
+        requires own { has_labels self.now.problem.now.setting.logic ≡ false
+            → HasOwnTableau self.now.problem.now self.now.matrix.now self.now.limit store.now.store
+            work.now.tree.steps.items }
         ensures closed { IfOk result (λ t. IsTrue (tableaux.is_closed self.now.problem.now self.now.limit
             (the_tableau t))) }
         ensures names { IfOk result (λ t. choices_of (ground_choices (the_tableau t))
@@ -160,6 +170,9 @@ impl Space<'_> {
             matrix: self.matrix,
         };
         let tableau = tableau_of(&from, &work.tree)?;
+        if !has_labels(self.problem.setting().logic()) {
+            return Ok(tableau);
+        }
         if is_closed(work.alloc, self.problem.problem(), &tableau, self.limit)? {
             return Ok(tableau);
         }
@@ -175,7 +188,7 @@ impl Space<'_> {
         work: &Work,
     ) -> Result<Visit, NoMemory>
         requires { (base : ℕ) × (c : List Choice) × IsSpaceOf self.now
-            × TreeStands self.now.problem.now self.now.matrix.now base self.now.limit c store.old
+            × TreeStandsWhole self.now.problem.now self.now.matrix.now base self.now.limit c store.old
             work.now.tree }
         ensures decided { IfOk result (λ v. (base : ℕ) (c : List Choice)
             → TreeStands self.now.problem.now self.now.matrix.now base self.now.limit c store.old

@@ -1,88 +1,79 @@
 //! Homes of spare constants, where domains vary and no constant exists: the spare of a variable
 //! stands at the label of the first gamma term that holds the variable, or else at the root.
 
-ghost use Rattle.std.specs.Prelude.{◌≡◌, ◌<◌, IfOk, IsTrue, OnOk, length, map, option_map, slice_get};
-ghost use Rattle.std.specs.List.{AllByRecursion, list_all};
-ghost use Rattle.store_theory.specs.Bindings.{IsEnd};
-ghost use Rattle.store_theory.specs.Stores.{names_below};
+ghost use Rattle.std.specs.Prelude.{◌≡◌, IfOk, IsTrue, List, length, map, option_map, slice_get};
+ghost use Rattle.std.specs.List.{list_all};
+ghost use Rattle.store_theory.specs.Stores as cells;
+ghost use Rattle.store_theory.specs.Stores.{AreOwnSpares};
 ghost use Rattle.term_store.specs.ClauseView.{the_gamma};
 ghost use Rattle.term_store.specs.RefView.{the_place};
-ghost use Rattle.connection_search.specs.Grounds.{home_of, label_numbered, number_in};
-ghost use Rattle.connection_search.specs.Readable.{AreHomesBelow, IsPlace, is_gamma_below};
+ghost use Rattle.connection_search.specs.Grounds.{AreSparesAt, home_of, label_numbered, number_in};
+ghost use Rattle.connection_search.specs.Held.{AreFirst, mark_all, mark_at};
+ghost use Rattle.connection_search.specs.Readable.{AreHomesBelow, is_gamma_below};
 
+use crate::atoms::reference_at;
 use cop_base::NoMemory;
+use domain_cond::leaves;
 use std::alloc::Global;
-use term_store::{GammaList, GammaUse, Head, Ref, Store};
+use term_store::{GammaList, GammaUse, Ref, Store};
 
 /// Where the spare constants of variables stand.
 #[derive(Drop)]
 pub(crate) struct Homes {
     common: bool,
     gammas: GammaList,
-    // For each cell the number of the first gamma term that holds it, if one does.
+    // For each leaf the number of the first gamma term that holds it, if one does.
     first: Vec<Option<usize>>,
 }
 
-// Asks for the arguments of a term.
-fn want_arguments(store: &Store, end: Ref, wanted: &mut Vec<Ref>) -> Result<(), NoMemory>
-    requires end { IsEnd store.now.store end.0 }
-    requires there { AllByRecursion (IsPlace store.now.store) wanted.old.items }
-    ensures { OnOk result (AllByRecursion (IsPlace store.now.store) wanted.new.items) }
+// No gamma term holds any cell.
+fn none_held(alloc: Global, store: &Store) -> Result<Vec<Option<usize>>, NoMemory>
+    ensures { IfOk result (λ v. (gs : List cells.GammaCell) → AreFirst store.now.store gs 0 v.items) }
 {
-    match store.head(end) {
-        Head::Fun(_) => {
-            for i in 0..store.parts(end) {
-                wanted.push(store.walk(store.part(end, i)))?;
-            }
-            Ok(())
+    let mut first = Vec::new(alloc);
+    for _cell in 0..store.size() - store.spare() {
+        first.push(None)?;
+    }
+    Ok(first)
+}
+
+// Gives the cell the number, unless it has one.
+fn mark_cell(first: &mut Vec<Option<usize>>, place: usize, number: usize)
+    ensures { first.new.items ≡ mark_at first.old.items place number }
+{
+    if place < first.len() {
+        match first[place] {
+            Some(_) => {}
+            None => first[place] = Some(number),
         }
-        _ => Ok(()),
     }
 }
 
-// Marks the cell as held by the gamma term of this number, unless it is marked, and asks for its
-// arguments.
-fn mark_cell(
-    store: &Store,
-    end: Ref,
-    number: usize,
-    first: &mut Vec<Option<usize>>,
-    wanted: &mut Vec<Ref>,
-) -> Result<(), NoMemory>
-    requires end { IsEnd store.now.store end.0 }
-    requires all { length first.old.items ≡ length store.now.store.cells }
-    requires there { AllByRecursion (IsPlace store.now.store) wanted.old.items }
-    ensures all { length first.new.items ≡ length store.now.store.cells }
-    ensures there { OnOk result (AllByRecursion (IsPlace store.now.store) wanted.new.items) }
+// Gives these cells the number, unless they have one.
+fn mark_cells(first: &mut Vec<Option<usize>>, refs: &[Ref], number: usize)
+    ensures { first.new.items ≡ mark_all first.old.items (map the_place refs.now) number }
 {
-    if first[end.0 as usize].is_some() {
-        return Ok(());
+    for i in 0..refs.len() {
+        mark_cell(first, reference_at(refs, i).0 as usize, number);
     }
-    first[end.0 as usize] = Some(number);
-    want_arguments(store, end, wanted)
 }
 
-// Marks what the term holds, outside the values of names, and no gamma term before this one.
-fn mark_held(
+// For each leaf the number of the first of the gamma terms that hold it.
+fn first_held(
     alloc: Global,
     store: &Store,
-    term: Ref,
-    number: usize,
-    first: &mut Vec<Option<usize>>,
-) -> Result<(), NoMemory>
-    requires term { term.0 < length store.now.store.cells }
-    requires all { length first.old.items ≡ length store.now.store.cells }
-    ensures { length first.new.items ≡ length store.now.store.cells }
+    gammas: &[GammaUse],
+) -> Result<Vec<Option<usize>>, NoMemory>
+    requires { IsTrue (list_all (is_gamma_below (length store.now.store.cells)) (map the_gamma gammas.now)) }
+    ensures { IfOk result (λ v. AreFirst store.now.store (map the_gamma gammas.now)
+        (length gammas.now) v.items) }
 {
-    let mut wanted = Vec::new(alloc);
-    wanted.push(store.walk(term))?;
-    for _round in 0..u64::MAX {
-        match wanted.pop() {
-            Some(end) => mark_cell(store, end, number, first, &mut wanted)?,
-            None => break,
-        }
+    let mut first = none_held(alloc, store)?;
+    for i in 0..gammas.len() {
+        let held = leaves(alloc, store, gammas[i].term)?;
+        mark_cells(&mut first, &held, i);
     }
-    Ok(())
+    Ok(first)
 }
 
 /// The homes of the variables that these gamma terms hold. Spares of every domain have none.
@@ -94,19 +85,17 @@ pub(crate) fn homes_of(
 ) -> Result<Homes, NoMemory>
     requires { IsTrue (list_all (is_gamma_below (length store.now.store.cells)) gammas) }
     ensures below { IfOk result (λ h. AreHomesBelow store.now.store h) }
-    ensures common { IfOk result (λ h. h.common ≡ common) }
-    ensures gammas { IfOk result (λ h. h.gammas ≡ gammas) }
+    ensures spares { IfOk result (λ h. (σ : cells.Solution)
+        → AreOwnSpares common store.now.store gammas σ (λ v. v) → AreSparesAt store.now.store h σ) }
 {
-    let mut first = Vec::new(alloc);
-    for _cell in 0..store.size() - store.spare() {
-        first.push(None)?;
+    if common {
+        return Ok(Homes {
+            common,
+            gammas,
+            first: Vec::new(alloc),
+        });
     }
-    if !common {
-        let items = gammas.items();
-        for i in 0..items.len() {
-            mark_held(alloc, store, items[i].term, i, &mut first)?;
-        }
-    }
+    let first = first_held(alloc, store, gammas.items())?;
     Ok(Homes {
         common,
         gammas,

@@ -1,16 +1,21 @@
 //! Literals and instances of a tree without open goals, by own spares.
 
-ghost use Rattle.std.specs.Prelude.{◌≡◌, ◌≤◌, ◌-◌, IfOk, IsTrue, OnOk, length, map, slice_get};
+ghost use Rattle.std.specs.Prelude.{◌≡◌, ◌≤◌, ◌-◌, ◌++◌, IfOk, IsTrue, List, OnOk, length, map, slice_get};
 ghost use Rattle.std.specs.List.{list_all};
+ghost use Rattle.calculus.specs.Ground as tree;
 ghost use Rattle.formula_core.specs.GroundLists.{IsGrown};
 ghost use Rattle.store_theory.specs.Stores.{Solution, names_below};
+ghost use Rattle.store_theory.specs.Systems as cells;
 ghost use Rattle.search_theory.specs.OrderedChoices.{selection_of};
-ghost use Rattle.search_theory.specs.States.{atom_is_below, label_by, literal_by, terms_by, values_by};
+ghost use Rattle.search_theory.specs.States.{atom_is_below, clause_at, label_by, literal_by, terms_by};
+ghost use Rattle.search_theory.specs.States.{values_by};
 ghost use Rattle.term_store.specs.ClauseView.{the_atom};
 ghost use Rattle.term_store.specs.RefView.{the_place, the_places};
 ghost use Rattle.connection_search.specs.Grounds.{AreSparesAt, IsReading};
 ghost use Rattle.connection_search.specs.Readable.{AreHomesBelow, IsReadable};
-ghost use Rattle.connection_search.specs.Reading.{AreMarksOf, AreTermsOf, AreValuesOf, IsLiteralOf};
+ghost use Rattle.connection_search.specs.Reading.{AreLiteralsOf, AreMarksOf, AreTermsOf, AreValuesOf};
+ghost use Rattle.connection_search.specs.Reading.{IsInstanceOf, IsLiteralOf};
+ghost use Rattle.connection_search.specs.Trees.{clause_with, inserted};
 
 use crate::atoms::reference_at;
 use crate::grounds::Grounds;
@@ -172,6 +177,9 @@ fn add_literals(
     requires reading { IsReading from.now.store.now.store from.now.homes.now grounds.old }
     requires below { IsTrue (list_all (atom_is_below (length from.now.store.now.store.cells))
         (map the_atom atoms.now)) }
+    ensures literals { OnOk result ((σ : Solution) → AreSparesAt from.now.store.now.store from.now.homes.now σ
+        → (ys : List tree.GroundLiteral) → AreLiteralsOf grounds.old.table literals.old ys
+        → AreLiteralsOf grounds.new.table literals.new (ys ++ map (literal_by σ) (map the_atom atoms.now))) }
     ensures reading { OnOk result (IsReading from.now.store.now.store from.now.homes.now grounds.new) }
     ensures grown { OnOk result (IsGrown grounds.old.table grounds.new.table) }
 {
@@ -193,6 +201,9 @@ fn instance_of(
     requires reading { IsReading from.now.store.now.store from.now.homes.now grounds.old }
     requires readable { IsReadable from.now.store.now.store from.now.matrix.now copied.now }
     ensures selection { IfOk result (λ i. i.selection ≡ selection_of (slice_get from.now.matrix.now copied.now.clause.0)) }
+    ensures is_instance { IfOk result (λ i. (σ : Solution) → AreSparesAt from.now.store.now.store from.now.homes.now σ
+        → (atoms : List cells.CellAtom) → AreLiteralsOf grounds.old.table literals (map (literal_by σ) atoms)
+        → IsInstanceOf grounds.new.table i (clause_at σ (clause_with from.now.matrix.now copied.now atoms))) }
     ensures reading { IfOk result (λ n. IsReading from.now.store.now.store from.now.homes.now grounds.new) }
     ensures grown { IfOk result (λ n. IsGrown grounds.old.table grounds.new.table) }
 {
@@ -215,6 +226,9 @@ pub(crate) fn start_instance(
     requires reading { IsReading from.now.store.now.store from.now.homes.now grounds.old }
     requires readable { IsReadable from.now.store.now.store from.now.matrix.now copied.now }
     ensures selection { IfOk result (λ i. i.selection ≡ selection_of (slice_get from.now.matrix.now copied.now.clause.0)) }
+    ensures is_instance { IfOk result (λ i. (σ : Solution) → AreSparesAt from.now.store.now.store from.now.homes.now σ
+        → IsInstanceOf grounds.new.table i
+        (clause_at σ (clause_with from.now.matrix.now copied.now copied.now.copy.literals))) }
     ensures reading { IfOk result (λ n. IsReading from.now.store.now.store from.now.homes.now grounds.new) }
     ensures grown { IfOk result (λ n. IsGrown grounds.old.table grounds.new.table) }
 {
@@ -237,6 +251,9 @@ pub(crate) fn connected_instance(
     requires place { place ≤ length copied.now.copy.literals }
     requires atom { IsTrue (atom_is_below (length from.now.store.now.store.cells) (the_atom atom.now)) }
     ensures selection { IfOk result (λ i. i.selection ≡ selection_of (slice_get from.now.matrix.now copied.now.clause.0)) }
+    ensures is_instance { IfOk result (λ i. (σ : Solution) → AreSparesAt from.now.store.now.store from.now.homes.now σ
+        → IsInstanceOf grounds.new.table i (clause_at σ
+        (clause_with from.now.matrix.now copied.now (inserted place (the_atom atom.now) copied.now.copy.literals)))) }
     ensures reading { IfOk result (λ n. IsReading from.now.store.now.store from.now.homes.now grounds.new) }
     ensures grown { IfOk result (λ n. IsGrown grounds.old.table grounds.new.table) }
 {

@@ -15,7 +15,7 @@ ghost use Rattle.term_store.specs.Room.{KeepsRoom};
 ghost use Rattle.term_store.specs.SystemView.{the_system};
 ghost use Rattle.domain_cond.specs.Conditions.{AddsHomes, HomeAllows, IsEigen};
 
-use crate::leaves::leaves;
+use crate::leaf::leaves;
 use crate::unmet::{eigen_home, gamma_at, is_eigen, leaf_at, prefix_of};
 use cop_base::NoMemory;
 use logic_rules::Domains;

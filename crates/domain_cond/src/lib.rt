@@ -5,7 +5,7 @@ mod constant;
 mod cumulative;
 mod home;
 mod homes;
-mod leaves;
+mod leaf;
 mod own;
 mod ranking;
 mod standing;
@@ -14,4 +14,5 @@ mod varying;
 
 pub use constant::ConstantDemand;
 pub use cumulative::CumulativeDemand;
+pub use leaf::leaves;
 pub use varying::VaryingDemand;

@@ -13,7 +13,7 @@ ghost use Rattle.domain_cond.specs.StandingView.{the_standing};
 ghost use Rattle.domain_cond.specs.Standings.{home_marks};
 
 use crate::home::{is_same_sort, value_at};
-use crate::leaves::push_parts;
+use crate::leaf::push_parts;
 use crate::standing::{Standing, contains, standing_at};
 use cop_base::NoMemory;
 use std::alloc::Global;

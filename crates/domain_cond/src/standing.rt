@@ -17,7 +17,7 @@ ghost use Rattle.domain_cond.specs.StandingView.{the_standing};
 ghost use Rattle.domain_cond.specs.Standings.{AgreeWith, AreStandings, ConstantStands, IsStanding};
 ghost use Rattle.domain_cond.specs.Standings.{LabelsAgree, NoConstantStands, share};
 
-use crate::leaves::leaves;
+use crate::leaf::leaves;
 use crate::unmet::{gamma_at, leaf_at, prefix_of};
 use cop_base::NoMemory;
 use std::alloc::Global;

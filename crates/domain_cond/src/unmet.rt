@@ -19,7 +19,7 @@ ghost use Rattle.domain_cond.specs.Conditions.{HomeAllows, IsCompared, IsEigen, 
 ghost use Rattle.domain_cond.specs.Ways.{IsFoundHome};
 
 use crate::home::home;
-use crate::leaves::{leaves, push_parts};
+use crate::leaf::{leaves, push_parts};
 use cop_base::NoMemory;
 use logic_rules::Domains;
 use std::alloc::Global;

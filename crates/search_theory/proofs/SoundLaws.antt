@@ -1,11 +1,17 @@
 -- Which lists are sound: live, and by a regular tree.
-use Rattle.std.proofs.Common.{◌≡◌, ℕ, List, map, IsTrue, refl, ◌∙◌, Option, Some, None, IsSomeAnd, inl}
+use Rattle.std.proofs.Common.{◌≡◌, ℕ, List, [], ◌∷◌, map, Bool, true, false, ◌&&◌, IsTrue, refl, ◌∙◌, subst, Option, Some, None, IsSomeAnd, inl, option_and_then, if◌then◌else◌}
+use Rattle.std.specs.List.{list_all}
+use Rattle.calculus.specs.ComputedInstances.{is_instance}
+use Rattle.calculus.specs.Ground.{GroundLiteral}
+use Rattle.calculus.specs.Instances.{ClauseInstance}
+use Rattle.calculus.specs.Tableaux.{is_new_on, is_shown}
+use Rattle.calculus.specs.declared.sign.Side.{Side}
 use Rattle.calculus.specs.Syntax.{Problem}
-use Rattle.calculus.specs.Choices.{Choice, Growth, growth_of, is_within, is_regular, IsLive}
+use Rattle.calculus.specs.Choices.{start, reduction, extension, Choice, Goal, Growth, goals_on, grow, growth_of, is_within, is_regular, IsLive}
 use Rattle.calculus.proofs.GrowthLaws.{on-some}
 use Rattle.calculus.specs.Cut.{IsRegularLive, followed_by}
 use Rattle.store_theory.specs.Stores.{Store, Solution}
-use Rattle.search_theory.specs.States.{CellChoice, CellGoal, State, IsStateOf, IsGround, choice_at, growth_at}
+use Rattle.search_theory.specs.States.{CellChoice, CellGoal, State, IsStateOf, IsGround, choice_at, clause_at, growth_at, name_of}
 use Rattle.search_theory.specs.Matrix.{MatrixClause, IsTemplateMatrix}
 use Rattle.search_theory.specs.OrderedChoices.{choices_at}
 use Rattle.search_theory.proofs.BeginningLaws.{is_not_empty, ClosedBeginning, IsDead, dead-regular}
@@ -44,6 +50,30 @@ sound-state P d c S σ h ground regular = (
   record { choices = names-image σ S.choices ∙ h.names; grows = on-some (λ x. IsTrue (is_within d x)) (growth_of P (map (choice_at σ) S.choices)) (growth_at σ S.growth) (h.sound σ ground) h.within },
   on-some (λ x. IsTrue (is_regular x)) (growth_of P (map (choice_at σ) S.choices)) (growth_at σ S.growth) (h.sound σ ground) regular,
 )
+
+-- what a start grows
+abbrev started_by : ClauseInstance → Growth
+started_by i = record { open_goals = goals_on [] i.literals; all_goals = goals_on [] i.literals; depths = [] }
+
+-- no goal of a start has goals above it
+start-regular : (P : Problem) (σ : Solution) (sides : List Side) (cs : List CellChoice) (x : Growth) → map name_of cs ≡ start sides ∷ [] → growth_of P (map (choice_at σ) cs) ≡ Some x → IsTrue (is_regular x)
+start-regular P σ sides [] x e g = cc e
+start-regular P σ sides (reduction up ∷ cs) x e g = cc e
+start-regular P σ sides (extension i place ∷ cs) x e g = cc e
+start-regular P σ sides (start i ∷ c ∷ cs) x e g = cc e
+start-regular P σ sides (start i ∷ []) x e g = by (is_instance P (clause_at σ i) && list_all is_shown (clause_at σ i).literals) g
+  where
+    goals-new : (xs : List GroundLiteral) → IsTrue (list_all (λ (h : Goal). is_new_on h.path h.literal) (goals_on [] xs))
+    goals-new [] = refl
+    goals-new (y ∷ xs) = goals-new xs
+
+    by : (b : Bool) → option_and_then (grow P []) (if b then Some (started_by (clause_at σ i)) else None) ≡ Some x → IsTrue (is_regular x)
+    by true q = let z : started_by (clause_at σ i) ≡ x = cc q in subst (λ y. IsTrue (is_regular y)) z (goals-new (clause_at σ i).literals)
+    by false q = let z : None ≡ Some x = q in cc z
+
+-- so the list of a start is sound
+pub sound-start : (P : Problem) (d : ℕ) (sides : List Side) (S : State) (σ : Solution) → IsStateOf P d (start sides ∷ []) S → IsGround P S σ → IsRegularLive P d (start sides ∷ [])
+sound-start P d sides S σ h ground = sound-state P d (start sides ∷ []) S σ h ground (start-regular P σ sides S.choices (growth_at σ S.growth) h.names (h.sound σ ground))
 
 -- each choice that makes the list of a state sound is one of the choices of its leftmost open goal
 pub all-untried : (P : Problem) (m : List MatrixClause) (d : ℕ) (c : List Choice) (s : Store) (cs : List CellChoice) (g : CellGoal) (gs every : List CellGoal) (ds : List ℕ) → IsTemplateMatrix P m → IsStateOf P d c (state_at s cs g gs every ds) → IsTrue (is_not_empty c) → AreUntried P d c (choices_at m d g)

@@ -1,14 +1,19 @@
-use Rattle.std.proofs.Common.{OnOk, ◌∷◌, ◌≡◌, subst, sym}
-use Rattle.search_theory.specs.States.{name_of}
-use Rattle.connection_search.specs.Reading.{IsInner, stacked_names}
+use Rattle.std.proofs.Common.{List, OnOk, ◌∷◌, ◌≡◌, subst, sym}
+use Rattle.calculus.specs.Choices.{GroundChoice}
+use Rattle.store_theory.specs.Stores.{Solution}
+use Rattle.search_theory.specs.Joined.{closings_by}
+use Rattle.search_theory.specs.States.{choice_at, name_of}
+use Rattle.connection_search.specs.Grounds.{AreSparesAt}
+use Rattle.connection_search.specs.Reading.{AreClosingsOf, IsInner, stacked, stacked_names}
 use Rattle.connection_search.specs.Readable.{IsReadableStep}
 use Rattle.connection_search.specs.Trees.{the_step}
+use Rattle.connection_search.proofs.BuiltLaws.{on-weaker}
 use Rattle.connection_search.proofs.GroundLaws.{grown-self}
 use Rattle.connection_search.proofs.ReadOffLaws.{on-ok}
 use Rattle.connection_search.proofs.closings.add_closing.Goals as goal
 
 pub returns-in-Reduce-clause-names : goal.returns-in-Reduce-clause-names
-returns-in-Reduce-clause-names c = subst (λ x. OnOk c.add_reduction.result (stacked_names c.add_reduction.new.stack.items ≡ name_of (the_step c.args.from.now.matrix.now x) ∷ stacked_names c.args.stack.now.items)) (sym c.in-Reduce.is) c.add_reduction.ensures
+returns-in-Reduce-clause-names c = subst (λ x. OnOk c.add_reduction.result (stacked_names c.add_reduction.new.stack.items ≡ name_of (the_step c.args.from.now.matrix.now x) ∷ stacked_names c.args.stack.now.items)) (sym c.in-Reduce.is) c.add_reduction.ensures.names
 
 pub returns-in-Reduce-clause-reading : goal.returns-in-Reduce-clause-reading
 returns-in-Reduce-clause-reading c = on-ok c.add_reduction.result _ c.requires.reading
@@ -21,3 +26,10 @@ add_extension-requires-clause-step c = subst (IsReadableStep c.args.from.now.sto
 
 pub returns-in-Extend-clause-names : goal.returns-in-Extend-clause-names
 returns-in-Extend-clause-names c = subst (λ x. OnOk c.add_extension.result (stacked_names c.add_extension.new.stack.items ≡ name_of (the_step c.args.from.now.matrix.now x) ∷ stacked_names c.args.stack.now.items)) (sym c.in-Extend.is) c.add_extension.ensures.names
+
+pub returns-in-Reduce-clause-built : goal.returns-in-Reduce-clause-built
+returns-in-Reduce-clause-built c = subst (λ x. OnOk c.add_reduction.result ((σ : Solution) → AreSparesAt c.args.from.now.store.now.store c.args.from.now.homes.now σ → (gs : List GroundChoice) → AreClosingsOf c.args.grounds.now.table (stacked c.args.stack.now.items) (closings_by gs) → AreClosingsOf c.args.grounds.now.table (stacked c.add_reduction.new.stack.items) (closings_by (choice_at σ (the_step c.args.from.now.matrix.now x) ∷ gs)))) (sym c.in-Reduce.is)
+    (on-weaker c.add_reduction.result _ _ (λ h σ sp gs k. h c.args.grounds.now.table gs k) c.add_reduction.ensures.built)
+
+pub returns-in-Extend-clause-built : goal.returns-in-Extend-clause-built
+returns-in-Extend-clause-built c = subst (λ x. OnOk c.add_extension.result ((σ : Solution) → AreSparesAt c.args.from.now.store.now.store c.args.from.now.homes.now σ → (gs : List GroundChoice) → AreClosingsOf c.args.grounds.now.table (stacked c.args.stack.now.items) (closings_by gs) → AreClosingsOf c.add_extension.new.grounds.table (stacked c.add_extension.new.stack.items) (closings_by (choice_at σ (the_step c.args.from.now.matrix.now x) ∷ gs)))) (sym c.in-Extend.is) c.add_extension.ensures.built

@@ -1,7 +1,9 @@
-use Rattle.std.proofs.Common.{◌∙◌, ap}
+use Rattle.std.proofs.Common.{◌∙◌, ap, sym}
+use Rattle.std.proofs.lemmas.Bool.{false≢true}
 use Rattle.calculus.specs.Syntax.{Setting}
 use Rattle.term_store.specs.SystemView.{the_system}
 use Rattle.connection_search.proofs.DecidingLaws.{found-tree, labels-of, made-counted, made-fits, made-solved, unsolved}
+use Rattle.connection_search.proofs.FoundLaws.{unlabelled-tableau, whole-stands}
 use Rattle.connection_search.proofs.space.Space.solve_tree.Goals as goal
 
 pub system_of-requires-clause-linked : goal.system_of-requires-clause-linked
@@ -14,10 +16,10 @@ pub system_of-requires-clause-goals : goal.system_of-requires-clause-goals
 system_of-requires-clause-goals c = (c.requires.3.1.all_goals, c.requires.3.2.tree.goals)
 
 pub solve_system-requires-clause-fits : goal.solve_system-requires-clause-fits
-solve_system-requires-clause-fits c = (made-fits c.args.self.now.problem.now c.args.self.now.matrix.now c.requires.0 c.args.self.now.limit c.requires.1 c.args.store.now.store c.args.work.now.tree.steps.items c.args.work.now.tree.goals.items c.args.work.now.tree.open (the_system c.in_ok-system.system) c.requires.3 c.in_ok-system.ensures).0
+solve_system-requires-clause-fits c = (made-fits c.args.self.now.problem.now c.args.self.now.matrix.now c.requires.0 c.args.self.now.limit c.requires.1 c.args.store.now.store c.args.work.now.tree.steps.items c.args.work.now.tree.goals.items c.args.work.now.tree.open (the_system c.in_ok-system.system) (whole-stands c.args.self.now.problem.now c.args.self.now.matrix.now c.requires.0 c.args.self.now.limit c.requires.1 c.args.store.now.store c.args.work.now.tree.steps.items c.args.work.now.tree.goals.items c.args.work.now.tree.open c.requires.3) c.in_ok-system.ensures).0
 
 pub solve_system-requires-clause-named : goal.solve_system-requires-clause-named
-solve_system-requires-clause-named c = (made-fits c.args.self.now.problem.now c.args.self.now.matrix.now c.requires.0 c.args.self.now.limit c.requires.1 c.args.store.now.store c.args.work.now.tree.steps.items c.args.work.now.tree.goals.items c.args.work.now.tree.open (the_system c.in_ok-system.system) c.requires.3 c.in_ok-system.ensures).1
+solve_system-requires-clause-named c = (made-fits c.args.self.now.problem.now c.args.self.now.matrix.now c.requires.0 c.args.self.now.limit c.requires.1 c.args.store.now.store c.args.work.now.tree.steps.items c.args.work.now.tree.goals.items c.args.work.now.tree.open (the_system c.in_ok-system.system) (whole-stands c.args.self.now.problem.now c.args.self.now.matrix.now c.requires.0 c.args.self.now.limit c.requires.1 c.args.store.now.store c.args.work.now.tree.steps.items c.args.work.now.tree.goals.items c.args.work.now.tree.open c.requires.3) c.in_ok-system.ensures).1
 
 pub solve_system-requires-clause-labels : goal.solve_system-requires-clause-labels
 solve_system-requires-clause-labels c = (labels-of c.args.self.now.problem.now c.logic-logic.result _ (c.logic-logic.ensures ∙ ap (λ (z : Setting). z.logic) c.setting.ensures.setting) c.has_labels.ensures c.if-not-has_labels.false)
@@ -39,3 +41,9 @@ returns-clause-solved c = λ base p h. made-solved c.args.self.now.problem.now c
 
 pub returns-clause-counted : goal.returns-clause-counted
 returns-clause-counted c = made-counted c.args.self.now.problem.now c.args.self.now.matrix.now c.args.store.now.store c.args.work.now.tree.steps.items c.args.work.now.tree.goals.items c.args.ledger.now.used c.solve_system.new.ledger.used (the_system c.in_ok-system.system) (labels-of c.args.self.now.problem.now c.logic-logic.result _ (c.logic-logic.ensures ∙ ap (λ (z : Setting). z.logic) c.setting.ensures.setting) c.has_labels.ensures c.if-not-has_labels.false) c.in_ok-system.ensures c.solve_system.ensures.counted
+
+pub returns-then-not-has_labels-clause-own : goal.returns-then-not-has_labels-clause-own
+returns-then-not-has_labels-clause-own c = λ found labels. unlabelled-tableau c.args.self.now.problem.now c.args.self.now.matrix.now c.requires.0 c.args.self.now.limit c.requires.1 c.args.store.now.store c.args.work.now.tree.steps.items c.args.work.now.tree.goals.items c.args.work.now.tree.open c.requires.2.problem labels c.requires.3
+
+pub returns-clause-own : goal.returns-clause-own
+returns-clause-own c = λ found labels. absurd (false≢true (sym labels ∙ labels-of c.args.self.now.problem.now c.logic-logic.result _ (c.logic-logic.ensures ∙ ap (λ (z : Setting). z.logic) c.setting.ensures.setting) c.has_labels.ensures c.if-not-has_labels.false))

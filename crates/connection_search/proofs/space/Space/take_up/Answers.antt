@@ -1,6 +1,7 @@
 use Rattle.std.proofs.Common.{◌++◌, ◌∷◌, ◌∙◌, [], Some, arith, refl, sym, ap, subst, inl, inr}
 use Rattle.store_theory.proofs.BindingLaws.{KeepsMarks-same}
 use Rattle.connection_search.specs.Exploring.{AreAbove, IsCounted, IsExploring}
+use Rattle.connection_search.specs.Running.{StandsWhole}
 use Rattle.connection_search.specs.declared.tree.Tree.{Tree}
 use Rattle.connection_search.proofs.DecidingLaws.{decided-end, decided-on, on-when, solving-counted, visiting-in}
 use Rattle.connection_search.proofs.MoveLaws.{goal-here}
@@ -47,8 +48,8 @@ returns-then-not-take-clause-marks c = KeepsMarks-same c.args.store.now.store
 pub decide-requires : goal.decide-requires
 decide-requires c =
     let (base, later, begun, space, v) = c.requires in
-    let w = (visiting-in c.args.self.now.problem.now c.args.self.now.matrix.now base c.args.self.now.limit c.args.store.now.store c.is_regular.new.self.tree c.args.work.now.tree c.args.points.now.items later begun c.args.ledger.now.used c.args.left.now c.in_ok-is_regular-in-None.ensures.tree v) in
-    (base, w.choices, space, w.stands)
+    let new = c.in_ok-is_regular-in-None.ensures.new c.if-not-branch.false c.args.self.now.problem.now c.args.self.now.matrix.now base c.args.self.now.limit v.choices v.stands.0 v.stands.1 v.stands.2 in
+    (base, v.choices, space, subst (λ (z : Tree). StandsWhole c.args.self.now.problem.now c.args.self.now.matrix.now base c.args.self.now.limit v.choices c.args.store.now.store z.steps.items z.goals.items z.open) (sym c.in_ok-is_regular-in-None.ensures.tree) (v.stands.0, v.stands.1, v.stands.2, new, c.in-None.is))
 
 pub returns-in_err-decided-in-None-clause-counted : goal.returns-in_err-decided-in-None-clause-counted
 returns-in_err-decided-in-None-clause-counted c = λ base later begun space v.

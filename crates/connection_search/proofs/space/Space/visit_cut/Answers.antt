@@ -4,6 +4,7 @@ use Rattle.connection_search.specs.Cutting.{IsCountedAt, IsCutExploring}
 use Rattle.connection_search.specs.Deciding.{IsDecided}
 use Rattle.connection_search.specs.Weights.{work_left}
 use Rattle.connection_search.proofs.CuttingLaws.{cut-closed, cut-counted, cut-ended, cut-exploring-moved, cut-falls, cut-undecided, cut-visit-goal, none-falls, passing-counted, passing-ended, passing-one}
+use Rattle.connection_search.proofs.FoundLaws.{sound-new}
 use Rattle.connection_search.proofs.MoveLaws.{goal-here, goal-within}
 use Rattle.connection_search.proofs.Places.{read-there}
 use Rattle.connection_search.proofs.PointLaws.{depth-of}
@@ -21,7 +22,7 @@ pub returns-then-not-take-clause-counted : goal.returns-then-not-take-clause-cou
 returns-then-not-take-clause-counted c = λ base sides later begun space v. subst (IsCountedAt c.args.self.now.problem.now c.args.self.now.limit begun) (sym (not-used c.take.result c.args.ledger.now.used c.take.new.self.used c.take.ensures.used c.if-not-take.true)) (passing-counted c.args.self.now.problem.now c.args.self.now.limit (v.choices ∷ pending_on v.levels ++ later) begun c.args.ledger.now.used v.passing)
 
 pub decide-requires : goal.decide-requires
-decide-requires c = let (base, sides, later, begun, space, v) = c.requires in (base, v.choices, space, v.stands)
+decide-requires c = let (base, sides, later, begun, space, v) = c.requires in (base, v.choices, space, sound-new c.args.self.now.problem.now c.args.self.now.matrix.now base c.args.self.now.limit v.choices c.args.store.now.store c.args.work.now.tree.steps.items c.args.work.now.tree.goals.items c.args.work.now.tree.open v.sound c.in-None.is v.stands)
 
 pub returns-in_err-decided-in-None-clause-counted : goal.returns-in_err-decided-in-None-clause-counted
 returns-in_err-decided-in-None-clause-counted c = λ base sides later begun space v. cut-counted c.args.self.now.problem.now c.args.self.now.matrix.now base c.args.self.now.limit sides c.args.store.now.store c.args.work.now.tree.steps.items c.args.work.now.tree.goals.items c.args.work.now.tree.open c.args.points.now.items later begun c.args.ledger.now.used c.take.new.self.used c.decide.new.ledger.used c.args.left.now space v c.in-None.is (is-used c.take.result c.args.ledger.now.used c.take.new.self.used c.take.ensures.used c.if-not-take.false) c.decide.ensures.counted

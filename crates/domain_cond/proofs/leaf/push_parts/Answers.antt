@@ -3,7 +3,7 @@ use Rattle.store_theory.specs.Stores.{parts_of}
 use Rattle.term_store.specs.RefView.{the_place}
 use Rattle.term_unify.proofs.FlatLaws.{all-added}
 use Rattle.term_unify.proofs.PairLaws.{all-done}
-use Rattle.domain_cond.proofs.leaves.push_parts.Goals as goal
+use Rattle.domain_cond.proofs.leaf.push_parts.Goals as goal
 
 pub loop-i-preserved : goal.loop-i-preserved
 loop-i-preserved c = λ d e.

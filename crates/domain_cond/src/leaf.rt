@@ -39,8 +39,8 @@ pub(crate) fn push_parts(store: &Store, end: Ref, items: &mut Vec<Ref>) -> Resul
 }
 
 /// The leaves of the term: its variables, constants and names outside the values of names. Each
-/// cell with arguments is looked at once.
-pub(crate) fn leaves(alloc: Global, store: &Store, term: Ref) -> Result<Vec<Ref>, NoMemory>
+/// cell with arguments is looked at once. Fails where memory ends.
+pub fn leaves(alloc: Global, store: &Store, term: Ref) -> Result<Vec<Ref>, NoMemory>
     requires { term.0 < length store.now.store.cells }
     ensures { IfOk result (λ es. AreLeaves store.now.store term.0 (map the_place es.items)) }
 {

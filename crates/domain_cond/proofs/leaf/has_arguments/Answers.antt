@@ -1,6 +1,6 @@
 use Rattle.std.proofs.Common.{sym, ◌∙◌}
 use Rattle.domain_cond.proofs.LeafLaws.{arguments-count, arguments-head}
-use Rattle.domain_cond.proofs.leaves.has_arguments.Goals as goal
+use Rattle.domain_cond.proofs.leaf.has_arguments.Goals as goal
 
 pub returns-in-Fun : goal.returns-in-Fun
 returns-in-Fun c d at = arguments-count c.args.store.now.store c.args.end.0 c.parts.result c.head.result c.in-Fun.field-0 d at c.requires c.head.ensures c.in-Fun.is c.parts.ensures.count

@@ -4,7 +4,7 @@ use Rattle.term_store.specs.RefView.{the_place}
 use Rattle.term_unify.proofs.PairLaws.{looks-less, map-last}
 use Rattle.domain_cond.specs.Leaves.{is_among}
 use Rattle.domain_cond.proofs.LeafLaws.{leaf-of, looking-again, looking-end, looking-leaf, looking-parts, looking-start, looking-top, open-lighter, or-cond}
-use Rattle.domain_cond.proofs.leaves.leaves.Goals as goal
+use Rattle.domain_cond.proofs.leaf.leaves.Goals as goal
 
 pub loop-r-init : goal.loop-r-init
 loop-r-init c = looking-start c.args.store.now.store c.args.term.0 (map the_place c.push.new.self.items) (map the_place c.new-leaves.result.items) c.new-seen.result.keys (ap (map the_place) (c.in_ok-push.ensures.items ∙ ap (λ xs. xs ++ c.args.term ∷ []) c.new-pending.ensures.items)) (ap (map the_place) c.new-leaves.ensures.items) c.new-seen.ensures.empty c.requires
