@@ -1,0 +1,9 @@
+pub mod VerdictView
+pub mod SpotView
+pub mod Made
+pub mod Numbers
+pub mod Gathering
+pub mod Resolving
+pub mod Judging
+pub mod Building
+pub mod Exact
