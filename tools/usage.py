@@ -46,10 +46,9 @@ class Sources:
             text = source.read()
         self.commands = dict(re.findall(r'"([a-z]+)" => Some\(CommandName::(\w+)\)', text))
         fronts = {name: front for name, front in re.findall(r'OptionName::(\w+) => "(--[a-z]+=)"', text)}
-        self.built = self.arms(text, "is_built", "CommandName", r"true")
         self.options = {name: {fronts[o] for o in re.findall(r"OptionName::(\w+)", body)}
                         for name, body in self.arms(text, "options_of", "CommandName", r"(?:\{\s*)?&\[[^]]*\]").items()}
-        if not (self.commands and self.built and fronts and self.options):
+        if not (self.commands and fronts and self.options):
             sys.exit("usage.py: crates/command_line/src/table.rt has another shape than this script reads")
 
     @staticmethod
@@ -62,7 +61,7 @@ class Sources:
 
     def knows(self, command, option=None):
         name = self.commands.get(command)
-        return name in self.built and (option is None or option[:option.index("=") + 1] in self.options[name])
+        return name in self.options and (option is None or option[:option.index("=") + 1] in self.options[name])
 
 
 def values_of(option):

@@ -7,7 +7,7 @@ use Rattle.calculus.specs.declared.setting.Domains.TheVariants.{Constant, Varyin
 use Rattle.calculus.specs.declared.setting.Logic.TheVariants.{Classical, S4}
 use Rattle.calculus.specs.declared.version.Version.TheVariants.{One, Two}
 use Rattle.command_line.specs.Table.{Word}
-use Rattle.command_line.specs.CommandLine.{ProblemFile, Bounds, command_of, prove, check, check_translated, transfer, migrate, make, model, bad}
+use Rattle.command_line.specs.CommandLine.{ProblemFile, Bounds, command_of, prove, check, check_translated, transfer, migrate, make, model, tableau, tcheck, convert, bad}
 
 in_classical : ProblemFile
 in_classical = record { name = codes "m.p"; root = []; setting = setting_of Classical Constant }
@@ -114,10 +114,28 @@ plain_migrate : command_of (codes "migrate" ∷ codes "m.p" ∷ codes "d.txt" �
 unfolding in_classical digits
 plain_migrate = refl
 
--- ---- what is not built is a bad word
+-- ---- texts of tableaux
 
-not_built : command_of (codes "tcheck" ∷ codes "m.p" ∷ codes "t.txt" ∷ []) ≡ bad 1
-not_built = refl
+tableau_by_cut : command_of (codes "tableau" ∷ codes "--cut=5" ∷ codes "m.p" ∷ []) ≡ tableau in_classical (record { limit = 100; steps = 10000000; cut = Some 5 })
+unfolding in_classical digits
+tableau_by_cut = refl
+
+format_of_tableau : command_of (codes "tableau" ∷ codes "m.p" ∷ codes "--format=1" ∷ []) ≡ bad 3
+unfolding digits
+format_of_tableau = refl
+
+plain_tcheck : command_of (codes "tcheck" ∷ codes "m.p" ∷ codes "t.txt" ∷ []) ≡ tcheck in_classical (codes "t.txt")
+unfolding in_classical digits
+plain_tcheck = refl
+
+as_of_tcheck : command_of (codes "tcheck" ∷ codes "m.p" ∷ codes "t.txt" ∷ codes "--as=s4" ∷ []) ≡ bad 4
+unfolding digits
+as_of_tcheck = refl
+
+modal_convert : command_of (codes "convert" ∷ codes "--domains=varying" ∷ codes "m.p" ∷ codes "t.txt" ∷ codes "--logic=s4" ∷ [])
+    ≡ convert (record { name = codes "m.p"; root = []; setting = setting_of S4 Varying }) (codes "t.txt")
+unfolding digits
+modal_convert = refl
 
 -- ---- generated problems
 

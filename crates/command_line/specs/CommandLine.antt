@@ -15,8 +15,7 @@ use Rattle.calculus.specs.declared.version.Version.{Version}
 use Rattle.calculus.specs.declared.version.Version.TheVariants.{One}
 use Rattle.calculus.specs.Problems.{is_modal}
 use Rattle.calculus.specs.Syntax.{Setting, setting_of}
-use Rattle.command_line.specs.Table.{Word, command_named, front_of, is, is_built}
-use Rattle.command_line.specs.Table.{operands_of, options_of}
+use Rattle.command_line.specs.Table.{Word, command_named, front_of, is, operands_of, options_of}
 use Rattle.command_line.specs.Values.{domains_of, family_of, is_operand, is_value, logic_of}
 use Rattle.command_line.specs.Values.{number_of, version_of}
 use Rattle.command_line.specs.declared.value.TheConstants.{MAX_SIZE, MAX_STEPS}
@@ -67,6 +66,9 @@ pub data Command : Type 0 where
   migrate : (problem : ProblemFile) (derivation : Word) → Command
   make : (problem : GeneratedProblem) (bounds : Bounds) → Command
   model : (problem : ProblemFile) (structure : Word) (steps : ℕ) → Command
+  tableau : (problem : ProblemFile) (bounds : Bounds) → Command
+  tcheck : (problem : ProblemFile) (text : Word) → Command
+  convert : (problem : ProblemFile) (text : Word) → Command
   bad : (place : ℕ) → Command
 
 -- ---- what the words behind the command give, of which the first stands at place 2
@@ -212,11 +214,12 @@ request command.Transfer ws = transfer (intuitionistic_in ws) (operand_in 1 ws)
 request command.Migrate ws = migrate (problem_in ws) (operand_in 1 ws)
 request command.Make ws = make (generated_in ws) (bounds_in ws)
 request command.Model ws = model (problem_in ws) (operand_in 1 ws) (steps_in ws)
-request _ ws = bad 1
+request command.Tableau ws = tableau (problem_in ws) (bounds_in ws)
+request command.Tcheck ws = tcheck (problem_in ws) (operand_in 1 ws)
+request command.Convert ws = convert (problem_in ws) (operand_in 1 ws)
 
 abbrev pub command_by : CommandName → List Word → Command
-command_by c ws =
-    if is_built c then on (first_bad c [] ws) bad (on (misfit c ws) bad (request c ws)) else bad 1
+command_by c ws = on (first_bad c [] ws) bad (on (misfit c ws) bad (request c ws))
 
 abbrev pub command_of : List Word → Command
 command_of [] = bad 1

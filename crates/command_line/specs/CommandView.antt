@@ -42,4 +42,10 @@ the_command (command.Make problem bounds) =
     words.make (the_generated_problem problem) (the_bounds bounds)
 the_command (command.Model problem structure steps) =
     words.model (the_problem_file problem) structure.now steps
+the_command (command.Tableau problem bounds) =
+    words.tableau (the_problem_file problem) (the_bounds bounds)
+the_command (command.Tcheck problem tableau) =
+    words.tcheck (the_problem_file problem) tableau.now
+the_command (command.Convert problem tableau) =
+    words.convert (the_problem_file problem) tableau.now
 the_command (command.Bad place) = words.bad place

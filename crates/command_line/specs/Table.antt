@@ -1,5 +1,5 @@
 -- What each command takes.
-use Rattle.std.specs.Prelude.{ℕ, List, [], ◌∷◌, Bool, true, false, ◌==◌, if◌then◌else◌}
+use Rattle.std.specs.Prelude.{ℕ, List, [], ◌∷◌, Bool, ◌==◌, if◌then◌else◌}
 use Rattle.std.specs.Prelude.{Option, None, Some, codes}
 use Rattle.calculus.specs.Equality.{list_eq}
 use Rattle.command_line.specs.declared.table.CommandName.{CommandName}
@@ -29,16 +29,6 @@ command_named w =
     else (if is w (codes "tableau") then Some Tableau
     else (if is w (codes "tcheck") then Some Tcheck
     else (if is w (codes "convert") then Some Convert else None))))))))
-
--- the word of a command that is not built is a bad one
-abbrev pub is_built : CommandName → Bool
-is_built Prove = true
-is_built Check = true
-is_built Make = true
-is_built Migrate = true
-is_built Model = true
-is_built Transfer = true
-is_built _ = false
 
 -- the operands of a command, in their order; all are wanted
 abbrev pub operands_of : CommandName → List Operand

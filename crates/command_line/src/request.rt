@@ -34,7 +34,7 @@ ghost use Rattle.command_line.specs.Values.{number_of};
 use crate::bounds::Bounds;
 use crate::given::{given, is_given, operand, operand_in, value_in};
 use crate::good_words::first_bad;
-use crate::table::{CommandName, OptionName, command_named, is_built};
+use crate::table::{CommandName, OptionName, command_named};
 use crate::value::{MAX_SIZE, MAX_STEPS, domains_of, family_of, logic_of, number_of, version_of};
 use calculus::family::Family;
 use calculus::limits::MAX_PATH_LIMIT;
@@ -116,6 +116,18 @@ pub enum Command<'a> {
         problem: ProblemFile<'a>,
         structure: &'a str,
         steps: u64,
+    },
+    Tableau {
+        problem: ProblemFile<'a>,
+        bounds: Bounds,
+    },
+    Tcheck {
+        problem: ProblemFile<'a>,
+        tableau: &'a str,
+    },
+    Convert {
+        problem: ProblemFile<'a>,
+        tableau: &'a str,
     },
     Bad {
         place: u64,
@@ -317,16 +329,24 @@ fn request(command: CommandName, words: &[String]) -> Command<'_>
             structure: operand_in(1, words),
             steps: steps_in(words),
         },
-        _ => Command::Bad { place: 1 },
+        CommandName::Tableau => Command::Tableau {
+            problem: problem_in(words),
+            bounds: bounds_in(words),
+        },
+        CommandName::Tcheck => Command::Tcheck {
+            problem: problem_in(words),
+            tableau: operand_in(1, words),
+        },
+        CommandName::Convert => Command::Convert {
+            problem: problem_in(words),
+            tableau: operand_in(1, words),
+        },
     }
 }
 
 fn command_by(command: CommandName, words: &[String]) -> Command<'_>
     ensures { the_command result ≡ command_by command (map string_bytes words.now) }
 {
-    if !is_built(command) {
-        return Command::Bad { place: 1 };
-    }
     if let Some(place) = first_bad(command, words) {
         return Command::Bad { place };
     }

@@ -1,13 +1,7 @@
 //! What each command takes: a row for each command, and one for each option.
 
 ghost use Rattle.std.specs.Prelude.{◌≡◌};
-ghost use Rattle.command_line.specs.Table.{
-  command_named,
-  front_of,
-  is_built,
-  operands_of,
-  options_of,
-};
+ghost use Rattle.command_line.specs.Table.{command_named, front_of, operands_of, options_of};
 
 #[derive(Clone, Copy)]
 pub enum CommandName {
@@ -58,21 +52,6 @@ pub fn command_named(word: &str) -> Option<CommandName>
         "tcheck" => Some(CommandName::Tcheck),
         "convert" => Some(CommandName::Convert),
         _ => None,
-    }
-}
-
-/// The word of a command that is not built is a bad one.
-pub fn is_built(command: CommandName) -> bool
-    ensures { result ≡ is_built command }
-{
-    match command {
-        CommandName::Prove
-        | CommandName::Check
-        | CommandName::Make
-        | CommandName::Migrate
-        | CommandName::Model
-        | CommandName::Transfer => true,
-        CommandName::Tableau | CommandName::Tcheck | CommandName::Convert => false,
     }
 }
 
