@@ -16,6 +16,8 @@ use Rattle.tableau_core.specs.Numbered.TableauView.{the_tableau}
 use Rattle.leancop_top.specs.TableauSearch.{IsCutMissed, IsLeastCut, IsLimit, SearchEnds, SufficesForCut}
 use Rattle.leancop_top.specs.TableauSearch.{least, cut, exhausted, no_tableau, steps_ended, too_large}
 use Rattle.leancop_top.specs.Commands.Prove.{IsDerivedAt, ProveEnds, derived, fruitless}
+use Rattle.leancop_top.specs.Commands.Tableau.{IsTableauFoundAt, TableauEnds}
+use Rattle.leancop_top.specs.Commands.Tableau as tableau_ends
 use Rattle.leancop_top.specs.declared.status.Status.{Status}
 
 -- ---- what the search answers
@@ -97,3 +99,7 @@ search-found P b e s _ (too_large h) = h s.fits
 pub prove-by_cut : (P : Problem) (b : Bounds) (v : Version) (e : ℕ) → SufficesForCut P b e → (s : Status) (bytes : List ℕ) → ProveEnds P b v s bytes → IsDerivedAt e s
 prove-by_cut P b v e s _ _ (derived d bytes h) = limit-decided P b e s d h.limit_is
 prove-by_cut P b v e s _ _ (fruitless t h) = absurd (search-found P b e s t h)
+
+pub tableau-by_cut : (P : Problem) (b : Bounds) (e : ℕ) → SufficesForCut P b e → (s : Status) (bytes : List ℕ) → TableauEnds P b s bytes → IsTableauFoundAt e s
+tableau-by_cut P b e s _ _ (tableau_ends.found d bytes h) = limit-decided P b e s d h.limit_is
+tableau-by_cut P b e s _ _ (tableau_ends.fruitless t h) = absurd (search-found P b e s t h)

@@ -11,12 +11,14 @@ use Rattle.calculus.specs.declared.version.Version.{Version}
 use Rattle.calculus.specs.Translation.{translated_problem}
 use Rattle.cop_base.specs.Outside.{Files, file_in, Rose}
 use Rattle.cop_base.specs.Reads.{Read}
-use Rattle.command_line.specs.CommandLine.{Bounds, Command, GeneratedProblem, ProblemFile, in_intuitionistic, prove, check, check_translated, transfer, migrate, make, model, bad}
+use Rattle.command_line.specs.CommandLine.{Bounds, Command, GeneratedProblem, ProblemFile, in_intuitionistic, prove, check, check_translated, transfer, migrate, make, model, tableau, tcheck, convert, bad}
 use Rattle.command_line.specs.Table.{Word}
 use Rattle.problem_build.specs.Refusals.{Refusal}
 use Rattle.leancop_top.proofs.Budgets.{not_steps_ended}
-use Rattle.leancop_top.proofs.Cuts.{prove-by_cut}
+use Rattle.leancop_top.proofs.Cuts.{prove-by_cut, tableau-by_cut}
 use Rattle.leancop_top.specs.Commands.Check.{CheckEnds, IsJudged, TranslatedCheckEnds, accepted, rejected, not_fetched, not_translated, translated}
+use Rattle.leancop_top.specs.Commands.Convert.{ConvertEnds, IsConvertDecided}
+use Rattle.leancop_top.specs.Commands.Convert as convert_ends
 use Rattle.leancop_top.specs.Commands.Make.{IsMakeable, MakeEnds, made_file, made_files}
 use Rattle.leancop_top.specs.Commands.Make as made
 use Rattle.leancop_top.specs.Commands.Migrate.{IsMigrateDecided, MigrateEnds}
@@ -25,6 +27,10 @@ use Rattle.leancop_top.specs.Commands.Model.{IsModel, IsNoModel, IsTold, ModelEn
 use Rattle.leancop_top.specs.Commands.Model as modelled
 use Rattle.leancop_top.proofs.ModelLaws.{judged-truth, same-bytes, same-status, same-ways, truth-not_bad}
 use Rattle.leancop_top.specs.Commands.Prove.{IsDecided, ProveEnds, derived, fruitless}
+use Rattle.leancop_top.specs.Commands.Tableau.{IsTableauDecided, TableauEnds}
+use Rattle.leancop_top.specs.Commands.Tableau as tableau_ends
+use Rattle.leancop_top.specs.Commands.Tcheck.{IsTcheckDecided, TcheckEnds}
+use Rattle.leancop_top.specs.Commands.Tcheck as tcheck_ends
 use Rattle.leancop_top.specs.Commands.Transfer.{IsTransferDecided, TransferEnds, transferred}
 use Rattle.leancop_top.specs.Commands.Transfer as transfer_ends
 use Rattle.leancop_top.specs.Reading.{EndsOn, IsRead, Reading, ReadingEnds, refused, unread, with_problem, without_problem}
@@ -68,17 +74,21 @@ for-problem told files p P ends m n f g after t read quiet _ _ (without_problem 
 for-problem told files p P ends m n f g after t read quiet _ _ (with_problem Q s bytes r h) counted =
     subst (λ X. ends X s bytes) (same_problem told files p P Q t read r) h
 
--- ---- prove
+-- ---- prove and tableau
 
-search-decided : (P : Problem) (b : Bounds) → Suffices P b → (s : Status) → SearchEnds P b s → IsDecided s
-search-decided P b e _ (exhausted d h) = tt
-search-decided P b e _ (no_tableau d h) = tt
+search-decided : (P : Problem) (b : Bounds) → Suffices P b → (s : Status) → SearchEnds P b s → IsDecided s × IsTableauDecided s
+search-decided P b e _ (exhausted d h) = (tt, tt)
+search-decided P b e _ (no_tableau d h) = (tt, tt)
 search-decided P b e _ (steps_ended d k h) = absurd (not_steps_ended P b d k e.answer e.answers e.enough h)
 search-decided P b e _ (too_large h) = absurd (h e.fits)
 
 prove-decided : (P : Problem) (b : Bounds) (v : Version) → Suffices P b → (s : Status) (bytes : List ℕ) → ProveEnds P b v s bytes → IsDecided s
 prove-decided P b v e _ _ (derived d bytes h) = tt
-prove-decided P b v e _ _ (fruitless s h) = search-decided P b e s h
+prove-decided P b v e _ _ (fruitless s h) = (search-decided P b e s h).0
+
+tableau-decided : (P : Problem) (b : Bounds) → Suffices P b → (s : Status) (bytes : List ℕ) → TableauEnds P b s bytes → IsTableauDecided s
+tableau-decided P b e _ _ (tableau_ends.found d bytes h) = tt
+tableau-decided P b e _ _ (tableau_ends.fruitless s h) = (search-decided P b e s h).1
 
 -- ---- check
 
@@ -123,13 +133,25 @@ migrate-decided told files P d text m n f g after t held quiet _ _ (migrate_ends
 migrate-decided told files P d text m n f g after t held quiet _ _ (migrate_ends.rejected line fault h) counted = tt
 migrate-decided told files P d text m n f g after t held quiet _ _ (migrate_ends.not_fetched s h) counted = absurd (fetched told files d text m n f g after t held quiet s h counted)
 
+-- ---- tcheck and convert
+
+tcheck-decided : (told : Option Files) (files : Files) (P : Problem) (name : Word) (text : List ℕ) (m n f g : ℕ) (after : List Read) → told ≡ Some files → file_in files name ≡ Some text → ¬ Rose f g → (s : Status) (bytes : List ℕ) → TcheckEnds told P name s bytes → IsCounted m n f g after s → IsTcheckDecided s
+tcheck-decided told files P d text m n f g after t held quiet _ _ (tcheck_ends.accepted u limit h) counted = tt
+tcheck-decided told files P d text m n f g after t held quiet _ _ (tcheck_ends.rejected line fault h) counted = tt
+tcheck-decided told files P d text m n f g after t held quiet _ _ (tcheck_ends.not_fetched s h) counted = absurd (fetched told files d text m n f g after t held quiet s h counted)
+
+convert-decided : (told : Option Files) (files : Files) (P : Problem) (name : Word) (text : List ℕ) (m n f g : ℕ) (after : List Read) → told ≡ Some files → file_in files name ≡ Some text → ¬ Rose f g → (s : Status) (bytes : List ℕ) → ConvertEnds told P name s bytes → IsCounted m n f g after s → IsConvertDecided s
+convert-decided told files P d text m n f g after t held quiet _ _ (convert_ends.converted bytes h) counted = tt
+convert-decided told files P d text m n f g after t held quiet _ _ (convert_ends.rejected line fault h) counted = tt
+convert-decided told files P d text m n f g after t held quiet _ _ (convert_ends.not_fetched s h) counted = absurd (fetched told files d text m n f g after t held quiet s h counted)
+
 -- ---- make
 
 make-decided : (g : GeneratedProblem) (b : Bounds) → IsMakeable g b → (s : Status) (bytes : List ℕ) → MakeEnds g b s bytes → IsDecided s
 make-decided g b e _ _ (made.derived P d text h k) = tt
 make-decided g b e _ _ (made.fruitless P s h k) =
     let same = same_problem (Some (made_files g)) (made_files g) (made_file g) e.problem P refl e.read h in
-    search-decided e.problem b e.suffices s (subst (λ Q. SearchEnds Q b s) same k)
+    (search-decided e.problem b e.suffices s (subst (λ Q. SearchEnds Q b s) same k)).0
 make-decided g b e _ _ (made.refused r h k) =
     absurd (ok-err e.problem r (Ok e.problem) (Err r) refl refl (read_is (Some (made_files g)) (made_files g) (made_file g) e.problem (Err r) refl e.read k))
 
@@ -194,6 +216,14 @@ decided told (model p d b) s bytes m n f g after ends counted quiet = (
   λ h. model-told told p d b m n f g after quiet h s bytes (for-problem told h.held.files p h.problem (λ P. ModelEnds told P d b) m n f g after h.held.tells h.held.read quiet s bytes ends counted) counted,
   λ line cause h. model-bad told p d b line cause m n f g after quiet h s bytes (for-problem told h.held.files p h.problem (λ P. ModelEnds told P d b) m n f g after h.held.tells h.held.read quiet s bytes ends counted) counted,
 )
+decided told (tableau p b) s bytes m n f g after ends counted quiet = (
+  λ h. tableau-decided h.problem b h.suffices s bytes (for-problem told h.files p h.problem (λ P. TableauEnds P b) m n f g after h.tells h.read quiet s bytes ends counted),
+  λ d h. tableau-by_cut h.problem b d h.suffices s bytes (for-problem told h.files p h.problem (λ P. TableauEnds P b) m n f g after h.tells h.read quiet s bytes ends counted),
+)
+decided told (tcheck p d) s bytes m n f g after ends counted quiet = λ h.
+    tcheck-decided told h.files h.problem d h.bytes m n f g after h.tells h.given quiet s bytes (for-problem told h.files p h.problem (λ P. TcheckEnds told P d) m n f g after h.tells h.read quiet s bytes ends counted) counted
+decided told (convert p d) s bytes m n f g after ends counted quiet = λ h.
+    convert-decided told h.files h.problem d h.bytes m n f g after h.tells h.given quiet s bytes (for-problem told h.files p h.problem (λ P. ConvertEnds told P d) m n f g after h.tells h.read quiet s bytes ends counted) counted
 decided told (bad place) s bytes m n f g after ends counted quiet = tt
 
 -- so it is where anything is answered

@@ -7,10 +7,12 @@ use Rattle.cop_base.specs.declared.NoMemory.{NoMemory}
 use Rattle.calculus.specs.Syntax.{Problem}
 use Rattle.calculus.specs.declared.version.Version.{Version}
 use Rattle.calculus.specs.Translation.{translated_problem}
-use Rattle.command_line.specs.CommandLine.{Bounds, Command, GeneratedProblem, ProblemFile, in_intuitionistic, prove, check, check_translated, transfer, migrate, make, model, bad}
+use Rattle.command_line.specs.CommandLine.{Bounds, Command, GeneratedProblem, ProblemFile, in_intuitionistic, prove, check, check_translated, transfer, migrate, make, model, tableau, tcheck, convert, bad}
 use Rattle.command_line.specs.Table.{Word}
 use Rattle.problem_build.specs.Refusals.{Refusal, missing, input_too_large, nesting_too_deep, formula_too_large, too_many_symbols, bad as bad_problem}
 use Rattle.leancop_top.specs.Commands.Check.{CheckEnds, TranslatedCheckEnds, accepted, rejected, not_fetched, not_translated, translated}
+use Rattle.leancop_top.specs.Commands.Convert.{ConvertEnds}
+use Rattle.leancop_top.specs.Commands.Convert as convert_ends
 use Rattle.leancop_top.specs.Commands.Make.{IsOfText, MakeEnds}
 use Rattle.leancop_top.specs.Commands.Make as made
 use Rattle.leancop_top.specs.Commands.Migrate.{MigrateEnds}
@@ -18,6 +20,10 @@ use Rattle.leancop_top.specs.Commands.Migrate as migrate_ends
 use Rattle.leancop_top.specs.Commands.Model.{ModelEnds}
 use Rattle.leancop_top.specs.Commands.Model as modelled
 use Rattle.leancop_top.specs.Commands.Prove.{ProveEnds, derived, fruitless}
+use Rattle.leancop_top.specs.Commands.Tableau.{TableauEnds}
+use Rattle.leancop_top.specs.Commands.Tableau as tableau_ends
+use Rattle.leancop_top.specs.Commands.Tcheck.{TcheckEnds}
+use Rattle.leancop_top.specs.Commands.Tcheck as tcheck_ends
 use Rattle.leancop_top.specs.Commands.Transfer.{TransferEnds, transferred}
 use Rattle.leancop_top.specs.Commands.Transfer as transfer_ends
 use Rattle.leancop_top.specs.Reading.{EndsOn, IsRead, ReadingEnds, refused, refusal_status, unread, with_problem, without_problem}
@@ -63,6 +69,14 @@ prove-counted P b v m n f g after _ _ (fruitless s h) = search-counted P b m n f
 pub proved-counted : (P : Problem) (b : Bounds) (v : Version) (m n f g : ℕ) (after : List Read) (r : Result Reply NoMemory) → IfOk r (λ x. ProveEnds P b v x.status x.output.items) → IfOk r (λ x. IsCounted m n f g after x.status)
 proved-counted P b v m n f g after (Ok x) h = prove-counted P b v m n f g after x.status x.output.items h
 proved-counted P b v m n f g after (Err k) h = tt
+
+tableau-counted : (P : Problem) (b : Bounds) (m n f g : ℕ) (after : List Read) (s : Status) (bytes : List ℕ) → TableauEnds P b s bytes → IsCounted m n f g after s
+tableau-counted P b m n f g after _ _ (tableau_ends.found d bytes h) = tt
+tableau-counted P b m n f g after _ _ (tableau_ends.fruitless s h) = search-counted P b m n f g after s h
+
+pub found-counted : (P : Problem) (b : Bounds) (m n f g : ℕ) (after : List Read) (r : Result Reply NoMemory) → IfOk r (λ x. TableauEnds P b x.status x.output.items) → IfOk r (λ x. IsCounted m n f g after x.status)
+found-counted P b m n f g after (Ok x) h = tableau-counted P b m n f g after x.status x.output.items h
+found-counted P b m n f g after (Err k) h = tt
 
 -- ---- translating fetches nothing
 
@@ -174,6 +188,23 @@ model-told told P d n _ _ (modelled.bad_structure line cause h) = refl
 model-told told P d n _ _ (modelled.steps_ended h) = refl
 model-told told P d n _ _ (modelled.not_fetched s h) = fetch-told told d s h
 
+tableau-told : (P : Problem) (b : Bounds) (s : Status) (bytes : List ℕ) → TableauEnds P b s bytes → is_silent s ≡ false
+unfolding is_silent
+tableau-told P b _ _ (tableau_ends.found d bytes h) = refl
+tableau-told P b _ _ (tableau_ends.fruitless s h) = search-told P b s h
+
+tcheck-told : (told : Option Files) (P : Problem) (name : Word) (s : Status) (bytes : List ℕ) → TcheckEnds told P name s bytes → is_silent s ≡ false
+unfolding is_silent
+tcheck-told told P d _ _ (tcheck_ends.accepted t limit h) = refl
+tcheck-told told P d _ _ (tcheck_ends.rejected line fault h) = refl
+tcheck-told told P d _ _ (tcheck_ends.not_fetched s h) = fetch-told told d s h
+
+convert-told : (told : Option Files) (P : Problem) (name : Word) (s : Status) (bytes : List ℕ) → ConvertEnds told P name s bytes → is_silent s ≡ false
+unfolding is_silent
+convert-told told P d _ _ (convert_ends.converted bytes h) = refl
+convert-told told P d _ _ (convert_ends.rejected line fault h) = refl
+convert-told told P d _ _ (convert_ends.not_fetched s h) = fetch-told told d s h
+
 bad-told : (place : ℕ) (s : Status) → s ≡ status.BadWords place → is_silent s ≡ false
 unfolding is_silent
 bad-told place s e = rw e refl
@@ -186,6 +217,9 @@ told files (transfer p d) s bytes h = on-told files (in_intuitionistic p) (λ P.
 told files (migrate p d) s bytes h = on-told files p (λ P. MigrateEnds files P d) (λ P. migrate-told files P d) s bytes h
 told files (make g b) s bytes h = make-told g b s bytes h
 told files (model p d n) s bytes h = on-told files p (λ P. ModelEnds files P d n) (λ P. model-told files P d n) s bytes h
+told files (tableau p b) s bytes h = on-told files p (λ P. TableauEnds P b) (λ P. tableau-told P b) s bytes h
+told files (tcheck p d) s bytes h = on-told files p (λ P. TcheckEnds files P d) (λ P. tcheck-told files P d) s bytes h
+told files (convert p d) s bytes h = on-told files p (λ P. ConvertEnds files P d) (λ P. convert-told files P d) s bytes h
 told files (bad place) s bytes h = bad-told place s h.0
 
 true-false : (t : Bool) → t ≡ true → t ≡ false → ⊥

@@ -7,6 +7,7 @@ pub mod Refusals
 pub mod NoIncludes
 pub mod Made
 pub mod ModelLaws
+pub mod Tableaux
 pub mod Ends
 pub mod Translations
 pub mod Decisions

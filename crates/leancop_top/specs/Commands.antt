@@ -4,3 +4,6 @@ pub mod Transfer
 pub mod Migrate
 pub mod Model
 pub mod Make
+pub mod Tableau
+pub mod Tcheck
+pub mod Convert

@@ -6,6 +6,8 @@ use Rattle.calculus.specs.declared.fault.StepFault.{StepFault}
 use Rattle.calculus.specs.declared.fault.StepFault.TheVariants as step
 use Rattle.calculus.specs.declared.fault.StructureCause.{StructureCause}
 use Rattle.calculus.specs.declared.fault.StructureCause.TheVariants as structure
+use Rattle.calculus.specs.declared.fault.TableauFault.{TableauFault}
+use Rattle.calculus.specs.declared.fault.TableauFault.TheVariants as tableau
 use Rattle.calculus.specs.declared.fault.TextCause.{TextCause}
 use Rattle.calculus.specs.declared.fault.TextCause.TheVariants as cause
 use Rattle.problem_build.specs.declared.fault.Cause.{Cause}
@@ -68,3 +70,20 @@ structure_cause_text structure.Worlds = codes "worlds"
 structure_cause_text structure.Domains = codes "domains"
 structure_cause_text structure.Function = codes "function"
 structure_cause_text structure.Persistence = codes "persistence"
+
+abbrev pub tableau_fault_text : TableauFault → List ℕ
+tableau_fault_text tableau.Version = codes "version"
+tableau_fault_text tableau.Setting = codes "setting"
+tableau_fault_text tableau.Formula = codes "formula"
+tableau_fault_text tableau.Limit = codes "limit"
+tableau_fault_text tableau.Line = codes "line"
+tableau_fault_text tableau.TextAfterEnd = codes "text after end"
+tableau_fault_text tableau.AllClosed = codes "all closed"
+tableau_fault_text tableau.PathLimit = codes "path limit"
+tableau_fault_text tableau.NoInstance = codes "no instance"
+tableau_fault_text tableau.NotAllowed = codes "not allowed"
+tableau_fault_text tableau.NotPositive = codes "not positive"
+tableau_fault_text tableau.NoConnection = codes "no connection"
+tableau_fault_text tableau.NotRegular = codes "not regular"
+tableau_fault_text tableau.StillOpen = codes "still open"
+tableau_fault_text tableau.StringTooLong = codes "string too long"

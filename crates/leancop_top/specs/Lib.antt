@@ -7,6 +7,7 @@ pub mod Translating
 pub mod TableauSearch
 pub mod Derived
 pub mod Accepted
+pub mod TableauTexts
 pub mod MadeLines
 pub mod Commands
 pub mod Run

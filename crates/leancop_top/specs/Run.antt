@@ -5,14 +5,17 @@ use Rattle.cop_base.specs.Outside.{Files}
 use Rattle.cop_sink.specs.Output.{with_bytes}
 use Rattle.cop_base.specs.Reads.{Read}
 use Rattle.command_line.specs.CommandLine.{Command, prove, check, check_translated, transfer, migrate, make, model, bad}
-use Rattle.command_line.specs.CommandLine.{in_intuitionistic}
+use Rattle.command_line.specs.CommandLine.{tableau, tcheck, convert, in_intuitionistic}
 use Rattle.leancop_top.specs.Commands.Check.{CheckEnds, IsCheckable, IsJudged}
 use Rattle.leancop_top.specs.Commands.Check.{IsCheckableTranslated, TranslatedCheckEnds}
+use Rattle.leancop_top.specs.Commands.Convert.{ConvertEnds, IsConvertDecided}
 use Rattle.leancop_top.specs.Commands.Make.{IsMakeable, MakeEnds}
 use Rattle.leancop_top.specs.Commands.Migrate.{IsMigrateDecided, MigrateEnds}
 use Rattle.leancop_top.specs.Commands.Model.{IsModel, IsNoModel, IsTold, ModelEnds}
 use Rattle.leancop_top.specs.Commands.Prove.{IsDecided, IsDerivedAt, IsProvable}
 use Rattle.leancop_top.specs.Commands.Prove.{IsProvableByCut, ProveEnds}
+use Rattle.leancop_top.specs.Commands.Tableau.{IsTableauDecided, IsTableauFoundAt, TableauEnds}
+use Rattle.leancop_top.specs.Commands.Tcheck.{IsTcheckDecided, TcheckEnds}
 use Rattle.leancop_top.specs.Commands.Transfer.{IsTransferDecided, TransferEnds}
 use Rattle.leancop_top.specs.Reading.{EndsOn}
 use Rattle.leancop_top.specs.Statuses.{IsCounted, status_line}
@@ -33,6 +36,11 @@ Ends told (migrate p derivation) status bytes =
 Ends told (make g b) status bytes = MakeEnds g b status bytes
 Ends told (model p structure steps) status bytes =
     EndsOn told p (λ P. ModelEnds told P structure steps) status bytes
+Ends told (tableau p b) status bytes = EndsOn told p (λ P. TableauEnds P b) status bytes
+Ends told (tcheck p text) status bytes =
+    EndsOn told p (λ P. TcheckEnds told P text) status bytes
+Ends told (convert p text) status bytes =
+    EndsOn told p (λ P. ConvertEnds told P text) status bytes
 Ends told (bad place) status bytes =
     (status ≡ BadWords place) × (bytes ≡ status_line status)
 
@@ -70,4 +78,9 @@ Decides told (model p structure steps) status =
     (IsModel told p structure steps → IsTold status)
     × ((line : ℕ) (cause : StructureCause) → IsNoModel told p structure line cause
     → status ≡ BadStructure line cause)
+Decides told (tableau p b) status =
+    (IsProvable told p b → IsTableauDecided status)
+    × ((limit : ℕ) → IsProvableByCut told p b limit → IsTableauFoundAt limit status)
+Decides told (tcheck p text) status = IsCheckable told p text → IsTcheckDecided status
+Decides told (convert p text) status = IsCheckable told p text → IsConvertDecided status
 Decides told (bad place) status = ⊤

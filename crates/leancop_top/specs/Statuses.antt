@@ -4,6 +4,7 @@ use Rattle.cop_base.specs.Outside.{Rose}
 use Rattle.cop_base.specs.Reads as seen
 use Rattle.cop_base.specs.Reads.{EndsWith, Read}
 use Rattle.leancop_top.specs.FaultTexts.{cause_text, fault_text, structure_cause_text}
+use Rattle.leancop_top.specs.FaultTexts.{tableau_fault_text}
 use Rattle.leancop_top.specs.declared.status.Status.{Status}
 use Rattle.leancop_top.specs.declared.status.Status.TheVariants.{Derived, Exhausted, NoTableau}
 use Rattle.leancop_top.specs.declared.status.Status.TheVariants.{StepsEnded, Accepted, Rejected}
@@ -15,6 +16,8 @@ use Rattle.leancop_top.specs.declared.status.Status.TheVariants.{InputTooLarge, 
 use Rattle.leancop_top.specs.declared.status.Status.TheVariants.{FormulaTooLarge, TooManySymbols}
 use Rattle.leancop_top.specs.declared.status.Status.TheVariants.{MatrixTooLarge, NoMemory}
 use Rattle.leancop_top.specs.declared.status.Status.TheVariants.{Migrated, Transferred}
+use Rattle.leancop_top.specs.declared.status.Status.TheVariants.{TableauFound, Converted}
+use Rattle.leancop_top.specs.declared.status.Status.TheVariants.{TableauRejected}
 
 -- the line that tells a status, and the exit status of the process
 pub record Row : Type 0 where
@@ -24,8 +27,8 @@ pub record Row : Type 0 where
 abbrev pub row : ℕ → List ℕ → Row
 row exit line = record { line = line ++ codes "\n"; exit = exit }
 
--- no line tells that a derivation was printed, that the output cannot be written, or that memory
--- ended
+-- no line tells that a derivation or a tableau was printed, that the output cannot be written, or
+-- that memory ended
 abbrev pub without_line : ℕ → Row
 without_line exit = record { line = []; exit = exit }
 
@@ -47,6 +50,10 @@ row_of (Missing name) = row 6 (codes "missing: " ++ name)
 row_of (ReadFault name) = row 6 (codes "read fault: " ++ name)
 row_of Transferred = without_line 0
 row_of Migrated = without_line 0
+row_of (TableauFound d) = without_line 0
+row_of (TableauRejected line fault) =
+    row 8 (codes "rejected at line " ++ decimal line ++ codes ": " ++ tableau_fault_text fault)
+row_of Converted = without_line 0
 row_of WriteFault = without_line 6
 row_of (BadProblem file offset cause) =
     row 4 (file ++ codes ":" ++ decimal offset ++ codes ": " ++ cause_text cause)

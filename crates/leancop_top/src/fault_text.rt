@@ -6,11 +6,12 @@ ghost use Rattle.leancop_top.specs.FaultTexts.{
   fault_text,
   step_fault_text,
   structure_cause_text,
+  tableau_fault_text,
   text_cause_text,
 };
 
 use crate::status::Cause;
-use calculus::fault::StructureCause;
+use calculus::fault::{StructureCause, TableauFault};
 use derivation_check::CheckFault;
 use derivation_text::TextCause;
 use sequent_calc::StepFault;
@@ -92,5 +93,27 @@ pub fn structure_cause_text(cause: StructureCause) -> &'static [u8]
         StructureCause::Domains => b"domains",
         StructureCause::Function => b"function",
         StructureCause::Persistence => b"persistence",
+    }
+}
+
+pub fn tableau_fault_text(fault: TableauFault) -> &'static [u8]
+    ensures { result.now ≡ tableau_fault_text fault }
+{
+    match fault {
+        TableauFault::Version => b"version",
+        TableauFault::Setting => b"setting",
+        TableauFault::Formula => b"formula",
+        TableauFault::Limit => b"limit",
+        TableauFault::Line => b"line",
+        TableauFault::TextAfterEnd => b"text after end",
+        TableauFault::AllClosed => b"all closed",
+        TableauFault::PathLimit => b"path limit",
+        TableauFault::NoInstance => b"no instance",
+        TableauFault::NotAllowed => b"not allowed",
+        TableauFault::NotPositive => b"not positive",
+        TableauFault::NoConnection => b"no connection",
+        TableauFault::NotRegular => b"not regular",
+        TableauFault::StillOpen => b"still open",
+        TableauFault::StringTooLong => b"string too long",
     }
 }

@@ -13,10 +13,13 @@ ghost use Rattle.leancop_top.specs.Run.{Decides, Ends, IsAnswered, IsCutOff};
 ghost use Rattle.leancop_top.specs.Statuses.{IsCounted, OnAnswer};
 
 use crate::commands::check::{check, check_translated};
+use crate::commands::convert::convert;
 use crate::commands::make::make;
 use crate::commands::migrate::migrate;
 use crate::commands::model::model;
 use crate::commands::prove::prove;
+use crate::commands::tableau::tableau;
+use crate::commands::tcheck::tcheck;
 use crate::commands::transfer::transfer;
 use crate::reply::{Reply, line_reply};
 use crate::status::Status;
@@ -65,6 +68,9 @@ fn answer<L: Library>(alloc: Global, words: &[String], lib: &mut L) -> Result<Re
             structure,
             steps,
         } => model(alloc, lib, problem, structure, steps),
+        Command::Tableau { problem, bounds } => tableau(alloc, lib, problem, bounds),
+        Command::Tcheck { problem, tableau } => tcheck(alloc, lib, problem, tableau),
+        Command::Convert { problem, tableau } => convert(alloc, lib, problem, tableau),
         Command::Bad { place } => line_reply(alloc, Status::BadWords { place }),
     }
 }

@@ -3,7 +3,7 @@
 ghost use Rattle.std.specs.Prelude.{◌≡◌};
 ghost use Rattle.leancop_top.specs.Statuses.{exit_of};
 
-use calculus::fault::StructureCause;
+use calculus::fault::{StructureCause, TableauFault};
 use cop_base::Text;
 use derivation_check::CheckFault;
 
@@ -32,16 +32,29 @@ pub enum Status {
         limit: u8,
         steps: u64,
     },
-    /// The bytes are the text of a derivation that derives the problem's formula.
+    /// A tableau was printed, which is closed within the path limit. The limit is as for `Derived`.
+    TableauFound {
+        limit: u8,
+    },
+    /// The bytes are the text of a derivation that derives the problem's formula, or of a tableau that
+    /// is closed within the limit that it states.
     Accepted,
     /// A derivation of the problem's translation into S4 was printed.
     Transferred,
     /// The derivation of the bytes was printed in version 2.
     Migrated,
-    /// The bytes are no such text; the fault stands at this line, counted from 1.
+    /// The derivation to which the tableau of the bytes leads was printed.
+    Converted,
+    /// The bytes are no text of a derivation that derives; the fault stands at this line, counted from
+    /// 1.
     Rejected {
         line: u64,
         fault: CheckFault,
+    },
+    /// The bytes are no text of a closed tableau; the fault stands at this line, counted from 1.
+    TableauRejected {
+        line: u64,
+        fault: TableauFault,
     },
     /// The formula is true at the root of the structure.
     TrueAtRoot,
@@ -92,9 +105,11 @@ pub fn exit_code(status: &Status) -> u8
 {
     match status {
         Status::Derived { .. }
+        | Status::TableauFound { .. }
         | Status::Accepted
         | Status::Transferred
         | Status::Migrated
+        | Status::Converted
         | Status::TrueAtRoot => 0,
         Status::Exhausted { .. } => 1,
         Status::NoTableau { .. } => 2,
@@ -108,7 +123,7 @@ pub fn exit_code(status: &Status) -> u8
         Status::BadWords { .. } => 5,
         Status::Missing { .. } | Status::ReadFault { .. } | Status::WriteFault => 6,
         Status::NoMemory => 7,
-        Status::Rejected { .. } => 8,
+        Status::Rejected { .. } | Status::TableauRejected { .. } => 8,
         Status::FalseAtRoot => 9,
         Status::BadStructure { .. } => 10,
     }

@@ -1,18 +1,23 @@
 //! The line that tells a status.
 
 ghost use Rattle.std.specs.Prelude.{◌≡◌, ◌++◌, IfOk, codes, decimal};
-ghost use Rattle.leancop_top.specs.FaultTexts.{cause_text, fault_text, structure_cause_text};
+ghost use Rattle.leancop_top.specs.FaultTexts.{
+  cause_text,
+  fault_text,
+  structure_cause_text,
+  tableau_fault_text,
+};
 ghost use Rattle.leancop_top.specs.Statuses.{status_line};
 
-use crate::fault_text::{cause_text, fault_text, structure_cause_text};
+use crate::fault_text::{cause_text, fault_text, structure_cause_text, tableau_fault_text};
 use crate::status::{Cause, Status};
 use calculus::fault::StructureCause;
 use cop_base::{NoMemory, Text};
-use derivation_check::CheckFault;
 use itoa::Buffer;
 use std::alloc::{AllocError, Global};
 
-/// A derivation has its own text, and no line tells that writing failed or that memory ended.
+/// A derivation or a tableau has its own text, and no line tells that writing failed or that memory
+/// ended.
 pub fn status_line(alloc: Global, status: &Status) -> Result<Vec<u8>, NoMemory>
     ensures { IfOk result (λ line. line.items ≡ status_line status.now) }
 {
@@ -38,7 +43,10 @@ pub fn status_line(alloc: Global, status: &Status) -> Result<Vec<u8>, NoMemory>
             offset,
             cause,
         } => problem_line(alloc, file, *offset, *cause),
-        Status::Rejected { line, fault } => { rejection_line(alloc, *line, *fault) }
+        Status::Rejected { line, fault } => rejection_line(alloc, *line, fault_text(*fault)),
+        Status::TableauRejected { line, fault } => {
+            rejection_line(alloc, *line, tableau_fault_text(*fault))
+        }
         Status::BadStructure { line, cause } => structure_line(alloc, *line, *cause),
         Status::TrueAtRoot => Ok(Vec::from_slice(alloc, b"true at the root\n")?),
         Status::FalseAtRoot => Ok(Vec::from_slice(alloc, b"false at the root\n")?),
@@ -51,6 +59,8 @@ pub fn status_line(alloc: Global, status: &Status) -> Result<Vec<u8>, NoMemory>
         Status::Derived { .. }
         | Status::Transferred
         | Status::Migrated
+        | Status::TableauFound { .. }
+        | Status::Converted
         | Status::WriteFault
         | Status::NoMemory => Ok(Vec::new(alloc)),
     }
@@ -93,16 +103,15 @@ fn problem_line(alloc: Global, file: &Text, offset: u64, cause: Cause) -> Result
     Ok(line)
 }
 
-fn rejection_line(alloc: Global, number: u64, fault: CheckFault) -> Result<Vec<u8>, NoMemory>
+fn rejection_line(alloc: Global, number: u64, fault: &[u8]) -> Result<Vec<u8>, NoMemory>
     ensures { IfOk result (λ line. line.items
-        ≡ codes "rejected at line " ++ decimal number ++ codes ": " ++ fault_text fault
-        ++ codes "\n") }
+        ≡ codes "rejected at line " ++ decimal number ++ codes ": " ++ fault.now ++ codes "\n") }
 {
     let mut buffer = Buffer::new();
     let mut line = Vec::from_slice(alloc, b"rejected at line ")?;
     line.extend_from_slice(buffer.format(number).as_bytes())?;
     line.extend_from_slice(b": ")?;
-    line.extend_from_slice(fault_text(fault))?;
+    line.extend_from_slice(fault)?;
     line.extend_from_slice(b"\n")?;
     Ok(line)
 }

@@ -20,6 +20,8 @@ mod runs;
 #[cfg(test)]
 mod stream_tests;
 #[cfg(test)]
+mod tableau_tests;
+#[cfg(test)]
 mod transfer_tests;
 #[cfg(test)]
 mod version_tests;

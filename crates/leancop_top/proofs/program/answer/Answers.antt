@@ -29,6 +29,18 @@ pub returns-in-Model-clause-ends : goal.returns-in-Model-clause-ends
 returns-in-Model-clause-ends g c = λ told w.
     subst (λ a. IfOk c.model.result (λ r. Ends told a r.status r.output.items)) (sym (ap the_command c.in-Model.is) ∙ c.command_of.ensures) (c.model.ensures.ends told w)
 
+pub returns-in-Tableau-clause-ends : goal.returns-in-Tableau-clause-ends
+returns-in-Tableau-clause-ends g c = λ told w.
+    subst (λ a. IfOk c.tableau.result (λ r. Ends told a r.status r.output.items)) (sym (ap the_command c.in-Tableau.is) ∙ c.command_of.ensures) (c.tableau.ensures.ends told w)
+
+pub returns-in-Tcheck-clause-ends : goal.returns-in-Tcheck-clause-ends
+returns-in-Tcheck-clause-ends g c = λ told w.
+    subst (λ a. IfOk c.tcheck.result (λ r. Ends told a r.status r.output.items)) (sym (ap the_command c.in-Tcheck.is) ∙ c.command_of.ensures) (c.tcheck.ensures.ends told w)
+
+pub returns-in-Convert-clause-ends : goal.returns-in-Convert-clause-ends
+returns-in-Convert-clause-ends g c = λ told w.
+    subst (λ a. IfOk c.convert.result (λ r. Ends told a r.status r.output.items)) (sym (ap the_command c.in-Convert.is) ∙ c.command_of.ensures) (c.convert.ensures.ends told w)
+
 pub returns-in-Make-clause-counted : goal.returns-in-Make-clause-counted
 returns-in-Make-clause-counted g c =
     made-counted (the_generated_problem c.in-Make.problem) (the_bounds c.in-Make.bounds) _ _ _ _ _ c.make.result c.make.ensures
