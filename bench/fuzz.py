@@ -1,8 +1,8 @@
 #!/usr/bin/env python3
 """bench/fuzz.py [options]
-Alters problems, derivations, structures and words, and runs the built program on them. Each run is to end with a status of
-docs/FORMATS.md and what belongs to it, within time and memory that are linear in the input, and a second one in the same way;
-a derivation that is printed is to be accepted. What breaks is kept, with all that is needed to run it again.
+Alters problems, derivations, tableaux, structures and words, and runs the built program on them. Each run is to end with a status
+of docs/FORMATS.md and what belongs to it, within time and memory that are linear in the input, and a second one in the same way;
+a derivation or a tableau that is printed is to be accepted. What breaks is kept, with all that is needed to run it again.
   --program=FILE   the program (crates/leancop/out/leancop, which ./leancop builds)
   --seed=N         the number that all is drawn from (1): the same one gives the same cases
   --cases=N        so many (1000)
@@ -100,7 +100,7 @@ def nest(draw, text, _):
 
 
 def alter_one_line(draw, text, other):
-    """A small change behind the head of a derivation or structure, so that the head stays right."""
+    """A small change behind the head of a derivation, tableau or structure, so that the head stays right."""
     lines = text.split(b"\n")
     at = draw.randrange(min(4, len(lines) - 1), len(lines))
     change = draw.choice([alter_number, alter_number, exchange_words, flip, nest])
@@ -144,7 +144,7 @@ def alter_words(draw, words):
 def bounded(words, steps):
     """The words with a budget that a run can use up in a short time."""
     words = [re.sub(r"^(--steps=)(\d{5,})$", lambda found: found[1] + found[2][:4], word) for word in words]
-    if words[:1] in (["prove"], ["make"], ["model"]) and not any(word.startswith("--steps=") for word in words):
+    if words[:1] in (["prove"], ["make"], ["model"], ["tableau"]) and not any(word.startswith("--steps=") for word in words):
         words.append("--steps=%d" % steps)
     return words
 
@@ -155,7 +155,7 @@ def read(file):
 
 
 def read_seeds(program, steps):
-    """The gallery, and the derivations that the program prints for it, in both versions."""
+    """The gallery, and what the program prints for it: derivations in both versions, and tableaux."""
     seeds = [Seed(["make", family, "3", "--limit=9"], []) for family in ("chain", "shift")]
     seeds.append(Seed(["make", "tower", "2", "--logic=s4"], []))
     for line in read("examples/expected.tsv").decode().splitlines():
@@ -171,12 +171,15 @@ def read_seeds(program, steps):
             continue
         if len(seeds) % 3 == 0:
             seeds.append(Seed([command, *files, *options, *bounds, "--cut=%d" % (1 + len(seeds) % 5)], texts))
+        seeds.append(Seed(["tableau", *files, *options, *bounds], texts))
         write(texts)
         derivation = run([program, command, "0.p", *options, "--steps=100000"], 20)
         if derivation.code != 0:
             continue
+        tableau = run([program, "tableau", "0.p", *options, "--steps=100000"], 20)
         texts = [*texts, derivation.output]
         judging = [word for word in options if word.startswith(("--logic", "--domains"))]
+        seeds += [Seed([word, "0.p", "1.p", *judging], [texts[0], tableau.output]) for word in ("tcheck", "convert")]
         write(texts)
         migrated = run([program, "migrate", "0.p", "1.p", *judging], 20)
         for text in (derivation.output, migrated.output):
@@ -246,20 +249,21 @@ def fault_of(program, words, texts):
     second = run([program, *words], seconds)
     if second[:2] != first[:2]:
         return "another answer the second time: %d, %r" % (second.code, second.output[:100]), first
-    if first.code == 0 and first.output.startswith(b"leancop derivation"):
+    if first.code == 0 and first.output.startswith(b"leancop "):
         return judge_printed(program, words, first.output), first
     return None, first
 
 
-def judge_printed(program, words, derivation):
-    """A derivation that was printed is accepted, of the problem that the words name."""
+def judge_printed(program, words, text):
+    """A derivation or tableau that was printed is accepted, of the problem that the words name."""
     with open("printed", "wb") as file:
-        file.write(derivation)
+        file.write(text)
     problem = next((word for word in words[1:] if not word.startswith("--")), "")
     options = [word for word in words if word.startswith(("--logic=", "--domains=", "--root="))]
     if words[0] == "transfer":
         options += ["--logic=intuitionistic", "--as=s4"]
-    judged = run([program, "check", problem, "printed", *options], 20)
+    judging = "tcheck" if text.startswith(b"leancop tableau") else "check"
+    judged = run([program, judging, problem, "printed", *options], 20)
     if judged.output != b"accepted\n":
         return "what it printed is not accepted: %r" % judged.output[:100]
     return None

@@ -7,15 +7,16 @@ PROGRAM = os.path.abspath(os.path.join(HERE, "../crates/leancop/out/leancop"))
 Run = collections.namedtuple("Run", "code output seconds kilobytes")
 
 # What a run may write, by its exit status (docs/FORMATS.md).
-DERIVATION = r"leancop derivation [12]\nlogic [^\n]*\nformula [^\n]*\nlimit \d+\n(?s:.*\n)?end\n"
+PRINTED = r"leancop (derivation [12]|tableau 1)\nlogic [^\n]*\nformula [^\n]*\nlimit \d+\n(?s:.*\n)?end\n"
 MADE = r"made (chain|shift|tower) \d+: \d+ bytes\n"
 CAUSE = "(syntax|unsupported|reserved word|wrong language|second conjecture|unknown role|include too deep|include name absent|no formula)"
 TEXT_FAULT = "version|setting|formula|limit|name|line|text after end|label|term|table"
 STEP_FAULT = "no entry|no connection|wrong arguments|unknown name|not reachable|not new|wrong home|not allowed|all closed|still open"
+TABLEAU_FAULT = "path limit|no instance|not positive|not regular|string too long" # and some of those above
 STRUCTURE_FAULT = ("version|setting|size|line|text after end|empty domain|serial|reflexive|transitive|total|worlds|domains"
                    "|function|persistence")
 ANSWERS = {code: re.compile(pattern.encode()) for code, pattern in {
-    0: f"accepted\n|true at the root\n|{MADE}derived at limit \\d+\naccepted\n|{DERIVATION}",
+    0: f"accepted\n|true at the root\n|{MADE}derived at limit \\d+\naccepted\n|{PRINTED}",
     1: f"({MADE})?exhausted at limit \\d+\n",
     2: f"({MADE})?no tableau at limit \\d+\n",
     3: f"({MADE})?steps ended after limit \\d+ at \\d+ steps\n",
@@ -23,7 +24,7 @@ ANSWERS = {code: re.compile(pattern.encode()) for code, pattern in {
     5: r"bad word \d+\n",
     6: r"(missing|read fault): (?s:.*)\n|",
     7: "",
-    8: f"rejected at line \\d+: ({TEXT_FAULT}|{STEP_FAULT})\n",
+    8: f"rejected at line \\d+: ({TEXT_FAULT}|{STEP_FAULT}|{TABLEAU_FAULT})\n",
     9: "false at the root\n",
     10: f"rejected structure at line \\d+: ({STRUCTURE_FAULT})\n",
 }.items()}

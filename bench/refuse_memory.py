@@ -22,11 +22,14 @@ EQUAL = "fof(e,axiom,a = b).\nfof(f,axiom,p(a)).\nfof(c,conjecture,p(b)).\n"
 KEPT = "fof(a,axiom,p(a)).\nfof(b,axiom,p(b)).\nfof(c,axiom,q(b)).\nfof(d,axiom,r => q(a)).\nfof(e,axiom,r).\n" \
        "fof(g,conjecture,?[X]:(p(X) & q(X))).\n"
 INCLUDING = "include('ax.p',[b]).\ninclude('ax.p').\nfof(c,conjecture,q).\n"
+TABLEAU = "leancop tableau 1\nlogic classical\nformula ?[X1]:![X2]:(d(X1) => d(X2))\nlimit 1\nstart r {$$s1}\n" \
+          "extend 0 l {$$e1{$$s1}}\nend\n"
 STRUCTURE = "leancop structure 1\nlogic classical\nworlds 1\nelements 1\nrelation 1 1\ndomain 1 1\npredicate p 0 1 %d\nend\n"
 # The words of each run; its files are those of the texts below.
 RUNS = ["prove first.p", "check first.p =first.p", "prove drinker.p", "check drinker.p =drinker.p",
         "prove excluded.p --logic=intuitionistic", "check excluded.p =excluded.p --logic=intuitionistic",
-        "transfer excluded.p =excluded.p", "prove long.p", "check long.p =long.p",
+        "transfer excluded.p =excluded.p", "prove long.p", "check long.p =long.p", "tableau drinker.p", "tcheck drinker.p drinker.txt",
+        "convert drinker.p drinker.txt", "tableau modal.p --logic=s4 --domains=varying", "tcheck first.p drinker.txt",
         "prove equal.p --format=2", "check equal.p ==equal.p", "migrate equal.p =equal.p", "migrate modal.p =modal.p --logic=t",
         "migrate drinker.p ==drinker.p", "migrate first.p first.p", "migrate first.p none.txt",
         *("prove modal.p --logic=%s --domains=%s" % (logic, domains)
@@ -37,7 +40,7 @@ RUNS = ["prove first.p", "check first.p =first.p", "prove drinker.p", "check dri
         "model single.p first.p", "prove including.p", "prove including.p --root=.", "prove absent.p", "prove missing.p", "prove round.p",
         "check including.p =including.p", "prove first.p --limit=0", "check first.p none.txt"]
 TEXTS = {"first.p": FIRST, "drinker.p": DRINKER, "excluded.p": EXCLUDED, "long.p": LONG, "modal.p": MODAL, "more.p": MORE,
-         "equal.p": EQUAL, "kept.p": KEPT, "single.p": "fof(c,conjecture,p).\n", "true.txt": STRUCTURE % 1, "false.txt": STRUCTURE % 0,
+         "drinker.txt": TABLEAU, "equal.p": EQUAL, "kept.p": KEPT, "single.p": "fof(c,conjecture,p).\n", "true.txt": STRUCTURE % 1, "false.txt": STRUCTURE % 0,
          "including.p": INCLUDING, "ax.p": "fof(a,axiom,p). fof(b,axiom,p => q).\n", "absent.p": "include('ax.p',[z]).\n",
          "missing.p": "include('none.p').\n", "round.p": "include('round.p').\n"}
 CALLS = ["alloc", "open", "read", "write"]

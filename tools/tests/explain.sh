@@ -67,7 +67,7 @@ explained 'The item before it ends with' prove "$folder/m.p"
 explained 'column 3001:' prove "$folder/m.p"
 same 'a long line is cut' "$(wc -L <"$folder/said" | awk '{ print ($1 < 200) }')" 1
 
-# Answers of commands that come later, by a stand-in.
+# Answers of commands that need a text of their own, by a stand-in.
 # shellcheck disable=SC2016
 printf '%s\n' '#!/bin/sh' 'echo "$ANSWER"' 'exit "$ENDS"' >"$folder/later"
 chmod +x "$folder/later"
