@@ -7,11 +7,12 @@ use Rattle.leancop_top.specs.declared.status.Status.TheVariants.{TableauRejected
 use Rattle.tableau_core.specs.Numbered.TableauView.{the_tableau}
 use Rattle.leancop_top.proofs.commands.convert.convert_bytes.Goals as goal
 
-pub derivation_text-requires : goal.derivation_text-requires
-derivation_text-requires c = record {
-  closed = c.in-Ok.ensures.closed.closed;
-  limit = stated-limit c.args.problem.now (the_tableau c.in-Ok.tableau) c.in-Ok.limit c.args.bytes.now c.in-Ok.ensures.closed;
-}
+pub derivation_text-requires-clause-closed : goal.derivation_text-requires-clause-closed
+derivation_text-requires-clause-closed c = c.in-Ok.ensures.closed.closed
+
+pub derivation_text-requires-clause-limit : goal.derivation_text-requires-clause-limit
+derivation_text-requires-clause-limit c =
+    stated-limit c.args.problem.now (the_tableau c.in-Ok.tableau) c.in-Ok.limit c.args.bytes.now c.in-Ok.ensures.closed
 
 pub returns-in_ok-output-in-Ok-clause-ends : goal.returns-in_ok-output-in-Ok-clause-ends
 returns-in_ok-output-in-Ok-clause-ends c = λ told name held.
