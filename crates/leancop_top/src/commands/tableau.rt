@@ -22,7 +22,7 @@ use cop_base::{Library, NoMemory};
 use logic_rules::Problem;
 use std::alloc::Global;
 use tableau_cert::print_tableau;
-use tableau_core::shared::Tableau;
+use tableau_core::Tableau;
 
 // The text of the tableau, which may be large and is given back here.
 fn tableau_text(
