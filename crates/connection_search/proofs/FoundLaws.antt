@@ -1,13 +1,13 @@
 -- By own spares the tree's choices give a closed tableau: without labels, where no goal is the same as one above it.
-use Rattle.std.proofs.Common.{◌≡◌, ◌≤◌, ◌+◌, ◌-◌, ℕ, zero, suc, List, [], ◌∷◌, ◌++◌, length, map, Bool, true, false, ◌&&◌, ◌||◌, ◌==◌, IsTrue, refl, sym, ◌∙◌, ap, subst, Option, None, Some, option_map, slice_get, arith, nat_le, nat_lt, leb-true, if◌then◌else◌}
+use Rattle.std.proofs.Common.{◌≡◌, ◌≤◌, ◌+◌, ◌-◌, ℕ, zero, suc, List, [], ◌∷◌, ◌++◌, length, map, Bool, true, false, ◌&&◌, ◌||◌, ◌==◌, IsTrue, refl, sym, ◌∙◌, ap, subst, Option, None, Some, option_map, slice_get, arith, inl, inr, nat_le, nat_lt, leb-true, if◌then◌else◌}
 use Rattle.std.specs.List.{AllByRecursion, flat_map, list_all}
 use Rattle.std.specs.Option.{option_map_or}
-use Rattle.std.proofs.lemmas.Bool.{and_parts, false≢true}
+use Rattle.std.proofs.lemmas.Bool.{and_parts, cases_lt, false≢true}
 use Rattle.calculus.specs.Choices.{start, reduction, extension, Choice, GroundChoice}
 use Rattle.calculus.specs.Tableaux.{Tableau, is_closed}
 use Rattle.calculus.specs.Equality.{sort_eq}
 use Rattle.calculus.specs.Kinds.{modal_of, other}
-use Rattle.calculus.specs.Instances.{GammaUse}
+use Rattle.calculus.specs.Instances.{GammaUse, gamma_is_allowed}
 use Rattle.calculus.specs.Positions.{Node, node, size, way_from}
 use Rattle.calculus.specs.Problems.{formula_fits, is_modal, is_problem, setting_fits}
 use Rattle.calculus.specs.Skolem.{common_spares, fits_way, is_pi, is_pi_position, last_node}
@@ -24,13 +24,17 @@ use Rattle.calculus.specs.declared.sort.Sort.TheVariants.{TermSort, MarkSort, St
 use Rattle.calculus.proofs.PlaceLists.{all-at}
 use Rattle.domain_cond.proofs.ConstantLaws.{met-constant}
 use Rattle.logic_rules.proofs.ProblemFacts.{kept}
-use Rattle.store_theory.specs.Stores.{Cell, variable, fun_cell, eigen_cell, new_cell, string_cell, Store, GammaCell, has_sort_at, sort_of, Solution, label_at}
-use Rattle.store_theory.specs.Systems.{AllAllowed, AreEqualNow, AreTried, CellAtom, Equation, HaveLengths, OwnSparesSolve, Pair, System, cells_of, cells_of_atom, has_label_sort_at, is_equation, is_label}
+use Rattle.store_theory.specs.Bindings.{IsWellFormed}
+use Rattle.store_theory.proofs.BindingLaws.{ends-once}
+use Rattle.prefix_split.specs.Later.{IsFoundIn, IsLater}
+use Rattle.prefix_split.proofs.TryingLaws.{ends-open}
+use Rattle.store_theory.specs.Stores.{EndsAt, here, Cell, variable, fun_cell, eigen_cell, new_cell, string_cell, Store, GammaCell, has_sort_at, sort_of, Solution, label_at}
+use Rattle.store_theory.specs.Systems.{AllAllowed, IsOpenString, AreEqualNow, AreTried, CellAtom, Equation, HaveLengths, OwnSparesSolve, Pair, System, cells_of, cells_of_atom, has_label_sort_at, is_equation, is_label}
 use Rattle.search_theory.specs.Joined.{IsTableauBy}
 use Rattle.search_theory.specs.Regular.{AreSame, HasNoSamePair, HasSamePair, IsNewGoal}
 use Rattle.search_theory.specs.Solving.{IsClosedSet, IsSolving}
 use Rattle.search_theory.specs.StateSystems.{pairs_of, pairs_with}
-use Rattle.search_theory.specs.LabelledCells.{sort_values}
+use Rattle.search_theory.specs.LabelledCells.{AreLabelled, sort_values}
 use Rattle.search_theory.specs.Matrix.{MatrixClause}
 use Rattle.search_theory.specs.States.{CellChoice, CellGoal, CellGrowth, State, choice_at}
 use Rattle.search_theory.proofs.LabelledEnd.{IsSolvedFor, closed-by_found}
@@ -39,18 +43,21 @@ use Rattle.calculus.specs.Cut.{IsRegularLive}
 use Rattle.search_theory.proofs.BeginningLaws.{dead-same}
 use Rattle.search_theory.proofs.SoundLaws.{dead-unsound}
 use Rattle.search_theory.proofs.SolvingLaws.{IsApartNow, found, system-parts}
-use Rattle.search_theory.proofs.SpareLaws.{cell-sorted}
-use Rattle.search_theory.proofs.SystemCells.{labels-in, pairs-in}
+use Rattle.search_theory.proofs.SpareLaws.{cell-sorted, sort-same}
+use Rattle.search_theory.proofs.SystemCells.{labels-in, pairs-in, system-stays}
 use Rattle.search_theory.proofs.SystemLaws.{all-joined, split-all, tree-by_state}
-use Rattle.connection_search.specs.Deciding.{HasOwnTableau}
+use Rattle.term_store.specs.Asking.{Asks}
+use Rattle.connection_search.specs.Deciding.{HasOwnTableau, IsFound}
 use Rattle.connection_search.specs.Grounds.{AreSparesAt}
 use Rattle.connection_search.specs.OwnStores.{AreOwn, is_search_cell}
-use Rattle.connection_search.specs.Running.{IsRunning, StandsFor, StandsWhole}
+use Rattle.connection_search.specs.Running.{IsRunning, NamesStringsFrom, StandsFor, StandsWhole}
 use Rattle.connection_search.specs.Trees.{the_step, tree_system}
 use Rattle.connection_search.specs.declared.homes.Homes.{Homes}
 use Rattle.connection_search.specs.declared.tree.Goal.{Goal}
 use Rattle.connection_search.specs.declared.tree.Step.{Step}
+use Rattle.connection_search.proofs.DecidingLaws.{IsMade}
 use Rattle.connection_search.proofs.DistinctStores.{well-ranked}
+use Rattle.connection_search.proofs.KeptLaws.{KeepsSorts, choices_in-kept}
 use Rattle.connection_search.proofs.SpentLaws.{none-open}
 
 pub whole-stands : (P : Problem) (m : List MatrixClause) (base d : ℕ) (c : List Choice) (s : Store) (steps : List Step) (goals : List Goal) (first : Option ℕ) → StandsWhole P m base d c s steps goals first → StandsFor P m base d c s steps goals first
@@ -269,6 +276,44 @@ module _ (P : Problem) (base d : ℕ) (c : List Choice) (S : State) (y : System)
     choices = h.choices;
   }
 
+-- ---- with labels
+
+-- a string that is still unbound would be one of the system's, which are built
+no-open : (base : ℕ) (l : Logic) (b : Bool) (s new : Store) (y : System) → NamesStringsFrom base s y → IsFoundIn l b y s new → (v : ℕ) → base ≤ v → ¬ IsOpenString new v
+no-open base l b s new y named found v from o = elim (cases_lt v (length s.cells)) [
+  | inr more ↦ found.later.fresh v more o
+  | inl less ↦
+      let (i, r, e, ends) = named v from (found.later.strings v v less o here).1 in
+      let (w, ms, ends_w, string) = found.built i r e in
+      let same : v ≡ w = ends-once new r v w (ends-open s new found.later r v ends o) ends_w in
+      let z : Some (variable StringSort None) ≡ Some (string_cell ms) = sym o ∙ ap (slice_get new.cells) same ∙ string in
+      cc z
+]
+
+sorts-kept : (s new : Store) → IsLater s new → KeepsSorts s new
+sorts-kept s new later r sort e =
+    let has : IsTrue (has_sort_at s sort r) = ap (λ o. option_map_or (sort_eq sort) o false) e ∙ self sort in
+    let (c, at, is) = cell-sorted new sort r (later.sorts sort r has) in
+    ap (option_map sort_of) at ∙ ap Some (sym (sort-same sort (sort_of c) is))
+  where
+    self : (x : Sort) → sort_eq x x ≡ true
+    self TermSort = refl
+    self MarkSort = refl
+    self StringSort = refl
+
+-- what solving leaves, where its cells are built right
+pub labelled-solved : (P : Problem) (base d : ℕ) (c : List Choice) (S : State) (y : System) (b : Bool) (new : Store) → IsRunning P base d c S y → IsFoundIn P.setting.logic b y S.store new → IsWellFormed new → AreLabelled P (Own base) new → IsSolvedFor P (Own base) S y new (rank_of new) (suc (length new.cells))
+labelled-solved P base d c S y b new h found well right = record {
+  store = well.fits;
+  ranked = well-ranked new well;
+  labelled = right;
+  closed = record { no_open_string = no-open base P.setting.logic b S.store new y h.strings found; names = right.names };
+  back = found.back;
+  gammas = (system-parts new y (system-stays S.store new y found.later.sorts h.system.well)).gammas;
+  labels = labels-in (Own base) y (cells-own base (cells_of y) h.cells);
+  choices = choices_in-kept (Own base) S.store new (sorts-kept S.store new found.later) S.choices h.choices;
+}
+
 -- ---- the tableau
 
 -- where own spares solve the tree's system, they give a closed tableau with its choices
@@ -278,6 +323,17 @@ own-tableau P m base d c s new steps goals first In rank bound (cs, x, at) whole
     let y = tree_system m steps goals x.all_goals in
     let (σ, spares, t) = closed-by_found (common_spares P) P d c S y In new rank bound (tree-by_state P d c S at.running.state) at.running.system (none-open steps goals first x.open_goals at.tree.open_goals whole) solved solve in
     record { solution = σ; spares = spares; tableau = t.tableau; is_built = subst (λ ks. IsTableauBy (map (choice_at σ) ks) t.tableau) (sym at.tree.made) t.is_built; closed = t.closed }
+
+-- with labels they do where the domains ask nothing
+pub labelled-tableau : (P : Problem) (m : List MatrixClause) (base d : ℕ) (c : List Choice) (s new : Store) (steps : List Step) (goals : List Goal) (first : Option ℕ) (y : System) → StandsWhole P m base d c s steps goals first → IsMade m steps goals y → IsFound P true s y new → HasOwnTableau P m d new steps
+labelled-tableau P m base d c s new steps goals first y (cs, x, at, distinct, whole) made found = by (subst (λ z. IsFound P true s z new) (made x.all_goals at.tree.goals) found)
+  where
+    by : IsFound P true s (tree_system m steps goals x.all_goals) new → HasOwnTableau P m d new steps
+    by f =
+        let S : State = record { store = s; choices = cs; growth = x } in
+        let z = tree_system m steps goals x.all_goals in
+        let right = f.found.right P refl refl base at.running.from at.running.cells at.running.own.labelled in
+        own-tableau P m base d c s new steps goals first (Own base) (rank_of new) (suc (length new.cells)) (cs, x, at) whole (labelled-solved P base d c S z true new at.running f.found f.well right) f.spares
 
 -- without labels they do
 pub unlabelled-tableau : (P : Problem) (m : List MatrixClause) (base d : ℕ) (c : List Choice) (s : Store) (steps : List Step) (goals : List Goal) (first : Option ℕ) → IsTrue (is_problem P) → has_labels P.setting.logic ≡ false → StandsWhole P m base d c s steps goals first → HasOwnTableau P m d s steps
@@ -303,3 +359,11 @@ read-closed P m d s h steps t own spares read = by (map (choice_at own.solution)
 
 pub unlabelled-of : (P : Problem) (l : Logic) (b : Bool) → l ≡ P.setting.logic → b ≡ has_labels l → b ≡ false → has_labels P.setting.logic ≡ false
 unlabelled-of P l b e f g = ap has_labels (sym e) ∙ sym f ∙ g
+
+-- what solving by a demand found, which is what the problem's domains ask
+pub found-of : (P : Problem) (n : Bool) (s new : Store) (y : System) (l : Logic) (f : List GammaUse → Bool) (b : Bool) → l ≡ P.setting.logic → f ≡ list_all (gamma_is_allowed P) → b ≡ common_spares P → IsWellFormed new → IsFoundIn l n y s new → OwnSparesSolve b l (Asks f) new y → IsFound P n s y new
+found-of P n s new y l f b el ef eb well found spares = record {
+  well = well;
+  found = subst (λ k. IsFoundIn k n y s new) el found;
+  spares = subst (λ t. OwnSparesSolve (common_spares P) P.setting.logic (Asks t) new y) ef (subst (λ k. OwnSparesSolve (common_spares P) k (Asks f) new y) el (subst (λ t. OwnSparesSolve t l (Asks f) new y) eb spares));
+}

@@ -1,14 +1,16 @@
 -- What a list of choices without open goals comes to.
-use Rattle.std.specs.Prelude.{◌≡◌, ◌-◌, ℕ, List, map, false, IsTrue}
+use Rattle.std.specs.Prelude.{◌≡◌, ◌-◌, ℕ, List, map, Bool, false, IsTrue}
 use Rattle.std.specs.List.{flat_map}
 use Rattle.calculus.specs.Choices.{Choice, choices_of, ground_choices}
 use Rattle.calculus.specs.Counting.{MoreThan}
 use Rattle.calculus.specs.Space.{has_labels, lengths_cmp}
 use Rattle.calculus.specs.Skolem.{common_spares}
+use Rattle.store_theory.specs.Bindings.{IsWellFormed}
 use Rattle.store_theory.specs.Stores.{AreOwnSpares, Solution, Store}
 use Rattle.calculus.specs.Syntax.{Problem}
-use Rattle.store_theory.specs.Systems.{AllAllowed, AreEarly, HasBoundedSolution, System}
+use Rattle.store_theory.specs.Systems.{AllAllowed, AreEarly, HasBoundedSolution, OwnSparesSolve, System}
 use Rattle.calculus.specs.Tableaux.{Tableau, is_closed}
+use Rattle.prefix_split.specs.Later.{IsFoundIn}
 use Rattle.prefix_split.specs.LengthSearch.{IsCounted}
 use Rattle.prefix_split.specs.declared.solving.Solved.{Solved}
 use Rattle.prefix_split.specs.declared.solving.Solved.TheVariants as solved
@@ -34,6 +36,12 @@ pub record IsSolved (P : Problem) (s : Store) (y : System) (before after budget 
 pub record IsSolvedTree (P : Problem) (m : List MatrixClause) (s : Store) (steps : List Step) (goals : List Goal) (before after budget : ℕ) (new : Store) (a : Solved) : Type 0 where
   pub labels : ¬ (a ≡ solved.Found) → IsTrue (has_labels P.setting.logic)
   pub solved : ¬ (a ≡ solved.Found) → (xs : List CellGoal) → AreGoals steps goals goals xs → IsSolved P s (tree_system m steps goals xs) before after budget new a
+
+-- own spares of the new store solve the system, and what it has kept of the old one
+pub record IsFound (P : Problem) (asks_nothing : Bool) (s : Store) (y : System) (new : Store) : Type 0 where
+  pub well : IsWellFormed new
+  pub found : IsFoundIn P.setting.logic asks_nothing y s new
+  pub spares : OwnSparesSolve (common_spares P) P.setting.logic (AllAllowed P) new y
 
 -- by own spares of the store the tree's choices give a closed tableau
 pub record HasOwnTableau (P : Problem) (m : List MatrixClause) (d : ℕ) (s : Store) (steps : List Step) : Type 0 where

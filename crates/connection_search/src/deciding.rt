@@ -1,11 +1,13 @@
 //! Lists of choices without open goals: what they ask of labels is solved, and the tableau is read
 //! off and, where there are labels, judged.
 
-ghost use Rattle.std.specs.Prelude.{◌≡◌, ℕ, IfOk, IsTrue, List, None, false, length, true};
+ghost use Rattle.std.specs.Prelude.{◌≡◌, ℕ, IfOk, IsTrue, List, None, length, true};
 ghost use Rattle.std.specs.List.{AllByRecursion, flat_map, list_all};
 ghost use Rattle.store_theory.specs.Bindings.{KeepsMarks};
 ghost use Rattle.calculus.specs.Choices.{Choice, choices_of, ground_choices};
 ghost use Rattle.calculus.specs.Instances.{gamma_is_allowed};
+ghost use Rattle.calculus.specs.declared.setting.Domains.TheVariants.{Constant};
+ghost use Rattle.calculus.specs.Skolem.{common_spares};
 ghost use Rattle.calculus.specs.Space.{has_labels};
 ghost use Rattle.store_theory.specs.Systems.{AllAllowed, NamesItsStrings, is_system};
 ghost use Rattle.calculus.specs.Tableaux as tableaux;
@@ -14,8 +16,8 @@ ghost use Rattle.prefix_split.specs.declared.solving.Solved.TheVariants as solve
 ghost use Rattle.tableau_core.specs.Numbered.TableauView.{the_tableau};
 ghost use Rattle.term_store.specs.Room.{KeepsRoom};
 ghost use Rattle.term_store.specs.SystemView.{the_system};
-ghost use Rattle.connection_search.specs.Deciding.{HasOwnTableau, IsDecided, IsSolved, IsSolvedTree};
-ghost use Rattle.connection_search.specs.Deciding.{IsSolving};
+ghost use Rattle.connection_search.specs.Deciding.{HasOwnTableau, IsDecided, IsFound, IsSolved};
+ghost use Rattle.connection_search.specs.Deciding.{IsSolvedTree, IsSolving};
 ghost use Rattle.connection_search.specs.Listing.{names_of};
 ghost use Rattle.connection_search.specs.Moments.{IsSpaceOf};
 ghost use Rattle.connection_search.specs.Readable.{IsReadableStep, is_gamma_below};
@@ -47,6 +49,16 @@ pub(crate) fn has_labels(logic: Logic) -> bool
     }
 }
 
+fn is_constant(domains: Domains) -> bool
+    ensures { result ≡ true → domains ≡ Constant }
+{
+    match domains {
+        Domains::Constant => true,
+        Domains::Cumulative => false,
+        Domains::Varying => false,
+    }
+}
+
 // Solves the system by what the domains ask.
 fn solve_by<M: Demand>(
     alloc: Global,
@@ -60,6 +72,9 @@ fn solve_by<M: Demand>(
     requires named { NamesItsStrings store.old.store (the_system system.now) }
     requires labels { IsTrue (has_labels problem.now.setting.logic) }
     requires demand { M.holds_for demand.old ≡ list_all (gamma_is_allowed problem.now) }
+    requires common { M.common demand.old ≡ common_spares problem.now }
+    ensures found { IfOk result (λ a. a ≡ solved.Found → IsFound problem.now M.asks_nothing
+        store.old.store (the_system system.now) store.new.store) }
     ensures solved { IfOk result (IsSolved problem.now store.old.store (the_system system.now)
         ledger.old.used ledger.new.used ledger.new.budget store.new.store) }
     ensures counted { IsCounted problem.now.setting.logic (AllAllowed problem.now) store.old.store
@@ -70,6 +85,7 @@ fn solve_by<M: Demand>(
 {
     let logic = problem.setting().logic();
     let solved = solve(alloc, store, logic, system, demand, ledger)?;
+    let _after = store.mark();
     Ok(solved)
 }
 
@@ -84,6 +100,8 @@ fn solve_system<'a>(
     requires fits { IsTrue (is_system store.old.store (the_system system.now)) }
     requires named { NamesItsStrings store.old.store (the_system system.now) }
     requires labels { IsTrue (has_labels problem.now.setting.logic) }
+    ensures found { IfOk result (λ a. a ≡ solved.Found → problem.now.setting.domains ≡ Constant
+        → IsFound problem.now true store.old.store (the_system system.now) store.new.store) }
     ensures solved { IfOk result (IsSolved problem.now store.old.store (the_system system.now)
         ledger.old.used ledger.new.used ledger.new.budget store.new.store) }
     ensures counted { IsCounted problem.now.setting.logic (AllAllowed problem.now) store.old.store
@@ -120,7 +138,7 @@ impl Space<'_> {
             × TreeStandsWhole self.now.problem.now self.now.matrix.now base self.now.limit c store.old
             work.now.tree }
         ensures own { IfOk result (λ a. a ≡ solved.Found
-            → has_labels self.now.problem.now.setting.logic ≡ false
+            → self.now.problem.now.setting.domains ≡ Constant
             → HasOwnTableau self.now.problem.now self.now.matrix.now self.now.limit store.new.store
             work.now.tree.steps.items) }
         ensures solved { IfOk result (λ a. (base : ℕ) (c : List Choice)
@@ -145,15 +163,15 @@ impl Space<'_> {
         Ok(solved)
     }
 
-    // The tableau of the tree, where it is closed. Should it not be, the search has no answer. Without
-    // labels it is closed by what the search knows of the tree.
+    // The tableau of the tree, where it is closed. Should it not be, the search has no answer. With
+    // constant domains it is closed by what the search knows of the tree.
     fn answer(&self, store: &Store, work: &Work) -> Result<Tableau, NoMemory>
         requires steps { AllByRecursion (IsReadableStep store.now.store self.now.matrix.now)
             work.now.tree.steps.items }
         requires gammas { IsTrue (list_all (is_gamma_below (length store.now.store.cells))
             (flat_map gammas_of work.now.tree.steps.items)) }
         requires started { IsStarted work.now.tree.steps.items }
-        requires own { has_labels self.now.problem.now.setting.logic ≡ false
+        requires own { self.now.problem.now.setting.domains ≡ Constant
             → HasOwnTableau self.now.problem.now self.now.matrix.now self.now.limit store.now.store
             work.now.tree.steps.items }
         ensures closed { IfOk result (λ t. IsTrue (tableaux.is_closed self.now.problem.now self.now.limit
@@ -170,7 +188,7 @@ impl Space<'_> {
             matrix: self.matrix,
         };
         let tableau = tableau_of(&from, &work.tree)?;
-        if !has_labels(self.problem.setting().logic()) {
+        if is_constant(self.problem.setting().domains()) {
             return Ok(tableau);
         }
         if is_closed(work.alloc, self.problem.problem(), &tableau, self.limit)? {

@@ -1,6 +1,6 @@
 //! Cumulative domains.
 
-ghost use Rattle.std.specs.Prelude.{◌≡◌, IfOk};
+ghost use Rattle.std.specs.Prelude.{◌≡◌, IfOk, false};
 ghost use Rattle.std.specs.List.{list_all};
 ghost use Rattle.calculus.specs.declared.setting.Domains.TheVariants.{Cumulative};
 ghost use Rattle.calculus.specs.Instances.{gamma_is_allowed};
@@ -41,6 +41,8 @@ impl Demand for CumulativeDemand<'_> {
     ghost holds_for = { λ d. list_all (gamma_is_allowed d.problem.now) };
 
     ghost common = { λ d. common_spares d.problem.now };
+
+    ghost asks_nothing = { false };
 
     fn next(&mut self, store: &mut Store, system: &System) -> Result<Option<Equation>, NoMemory> {
         let _now = store.mark();

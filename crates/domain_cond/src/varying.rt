@@ -1,6 +1,6 @@
 //! Varying domains.
 
-ghost use Rattle.std.specs.Prelude.{◌≡◌, IfOk, IfSome, IsTrue, None, OnErr};
+ghost use Rattle.std.specs.Prelude.{◌≡◌, IfOk, IfSome, IsTrue, None, OnErr, false};
 ghost use Rattle.std.specs.List.{list_all};
 ghost use Rattle.calculus.specs.declared.setting.Domains.TheVariants.{Varying};
 ghost use Rattle.calculus.specs.Instances.{gamma_is_allowed};
@@ -77,6 +77,8 @@ impl Demand for VaryingDemand<'_> {
     ghost holds_for = { λ d. list_all (gamma_is_allowed d.problem.now) };
 
     ghost common = { λ d. common_spares d.problem.now };
+
+    ghost asks_nothing = { false };
 
     fn next(&mut self, store: &mut Store, system: &System) -> Result<Option<Equation>, NoMemory> {
         let unifier = &mut self.unifier;

@@ -1,11 +1,12 @@
 -- Making lists of marks the same, and equations equal, one by one.
-use Rattle.std.proofs.Common.{◌≡◌, ◌⊎◌, ℕ, zero, suc, ◌+◌, ◌<◌, ◌≤◌, List, [], ◌∷◌, drop, length, map, IsTrue, refl, sym, ◌∙◌, ap, subst, Some, slice_get, inl, inr, arith, ltb-true, nat_lt}
-use Rattle.std.specs.List.{list_all, AllByRecursion}
+use Rattle.std.proofs.Common.{◌≡◌, ◌⊎◌, ℕ, zero, suc, ◌+◌, ◌<◌, ◌≤◌, List, [], ◌∷◌, ◌++◌, drop, length, map, IsTrue, refl, sym, ◌∙◌, ap, subst, Some, slice_get, inl, inr, arith, leb-true, ltb-true, nat_le, nat_lt}
+use Rattle.std.specs.List.{flat_map, list_all, AllByRecursion}
+use Rattle.calculus.specs.Syntax.{Problem}
 use Rattle.std.proofs.lemmas.Bool.{and_from, and_parts}
 use Rattle.std.proofs.lemmas.List.{length-map}
 use Rattle.calculus.specs.declared.sort.Sort.TheVariants.{MarkSort, StringSort}
-use Rattle.store_theory.specs.Bindings.{AreApart, BindsOnly, BindsWithin, KeepsMarks, Unifies}
-use Rattle.store_theory.specs.Stores.{Store, has_sort_at, Solution, Solves}
+use Rattle.store_theory.specs.Bindings.{AreApart, BindsOnly, BindsWithin, KeepsMarks, NamesFrom, Unifies}
+use Rattle.store_theory.specs.Stores.{Store, has_sort_at, is_store, Solution, Solves}
 use Rattle.store_theory.specs.Systems.{Equation, AreEqual, has_label_sort_at, is_equation, is_label}
 use Rattle.calculus.proofs.PlaceLists.{all-at}
 use Rattle.term_store.specs.RefView.{the_place}
@@ -17,9 +18,12 @@ use Rattle.search_theory.specs.Steps.{IsUnified}
 use Rattle.search_theory.proofs.BelowLaws.{all-weaken}
 use Rattle.search_theory.proofs.BuildingLaws.{agree-both}
 use Rattle.search_theory.proofs.GivingLaws.{IsFlat, NeverSame, SameMarks, equation-made, equation-never, narrowed-not, never-first, never-later, never-length, same-more, same-none}
+use Rattle.search_theory.proofs.FromLaws.{labelled-unified, names-labelled}
 use Rattle.search_theory.proofs.SpareLaws.{or-both}
+use Rattle.search_theory.proofs.SystemLaws.{split-all}
 use Rattle.search_theory.proofs.SolvingLaws.{equal-agree, label-below}
-use Rattle.prefix_split.specs.Later.{HasNoString, HasNoStringIn, IsLater}
+use Rattle.prefix_split.specs.Equated.{equation_cells}
+use Rattle.prefix_split.specs.Later.{HasNoString, HasNoStringIn, IsLater, KeepsRight}
 use Rattle.prefix_split.proofs.LaterLaws.{later-both, later-same, later-unified, no_string-later}
 use Rattle.prefix_split.proofs.LengthLaws.{sorted-later, sorted-within}
 use Rattle.prefix_split.proofs.ListItems.{all-drop, drop-end, drop-there}
@@ -88,6 +92,38 @@ same-all old new ms ns i t l m = t.rest new (subst (λ xs. IsNarrowed new new (S
 
 pub mapped-differ : (xs ys : List Ref) → ¬ (length xs ≡ length ys) → ¬ (length (map the_place xs) ≡ length (map the_place ys))
 mapped-differ xs ys n e = n (sym (length-map xs the_place) ∙ e ∙ length-map ys the_place)
+
+-- ---- what is made equal stays built right
+
+pub from-left : (base : ℕ) (xs ys : List ℕ) (i r : ℕ) → IsTrue (list_all (nat_le base) (xs ++ ys)) → slice_get xs i ≡ Some r → base ≤ r
+from-left base xs ys i r h e = leb-true base r (all-at (nat_le base) xs i r (split-all (nat_le base) xs ys h).0 e)
+
+pub from-right : (base : ℕ) (xs ys : List ℕ) (i r : ℕ) → IsTrue (list_all (nat_le base) (xs ++ ys)) → slice_get ys i ≡ Some r → base ≤ r
+from-right base xs ys i r h e = leb-true base r (all-at (nat_le base) ys i r (split-all (nat_le base) xs ys h).1 e)
+
+from-both : (base : ℕ) (xs ys : List ℕ) → IsTrue (list_all (nat_le base) xs) → IsTrue (list_all (nat_le base) ys) → IsTrue (list_all (nat_le base) (xs ++ ys))
+from-both base [] ys h k = k
+from-both base (x ∷ xs) ys h k = let p = and_parts (nat_le base x) (list_all (nat_le base) xs) h in and_from (nat_le base x) (list_all (nat_le base) (xs ++ ys)) p.0 (from-both base xs ys p.1 k)
+
+-- a pair of marks was unified
+pub right-next : (P : Problem) (old mid new : Store) (ms ns : List ℕ) (i a b : ℕ) → IsTrue (is_store mid) → KeepsRight P (ms ++ ns) old mid → slice_get ms i ≡ Some a → slice_get ns i ≡ Some b → BindsOnly mid new → BindsWithin a b mid new → KeepsRight P (ms ++ ns) old new
+right-next P old mid new ms ns i a b st h ea eb binds within base l from k = labelled-unified P base a b mid new st binds within (from-left base ms ns i a from ea) (from-right base ms ns i b from eb) (h base l from k)
+
+-- labels are made equal by their marks
+pub right-flat : (P : Problem) (old new : Store) (left right ms ns : List ℕ) → ((base : ℕ) → NamesFrom base old → IsTrue (list_all (nat_le base) left) → IsTrue (list_all (nat_le base) ms)) → ((base : ℕ) → NamesFrom base old → IsTrue (list_all (nat_le base) right) → IsTrue (list_all (nat_le base) ns)) → KeepsRight P (ms ++ ns) old new → KeepsRight P (left ++ right) old new
+right-flat P old new left right ms ns f g h base l from a =
+    let names = names-labelled P base old a in
+    let parts = split-all (nat_le base) left right from in
+    h base l (from-both base ms ns (f base names parts.0) (g base names parts.1)) a
+
+-- one of the equations was made equal
+pub right-equation : (P : Problem) (es : List Equation) (i : ℕ) (e : Equation) (left right : List ℕ) (s t : Store) → slice_get es i ≡ Some e → left ≡ e.left → right ≡ e.right → KeepsRight P (left ++ right) s t → KeepsRight P (flat_map equation_cells es) s t
+right-equation P es i e left right s t at el er h base l from a = h base l (subst (λ xs. IsTrue (list_all (nat_le base) (xs ++ right))) (sym el) (subst (λ ys. IsTrue (list_all (nat_le base) (e.left ++ ys))) (sym er) (cells-at es i at from))) a
+  where
+    cells-at : (xs : List Equation) (j : ℕ) → slice_get xs j ≡ Some e → IsTrue (list_all (nat_le base) (flat_map equation_cells xs)) → IsTrue (list_all (nat_le base) (equation_cells e))
+    cells-at [] j q k = cc q
+    cells-at (x ∷ xs) zero q k = let z : x ≡ e = cc q in subst (λ y. IsTrue (list_all (nat_le base) (equation_cells y))) z (split-all (nat_le base) (equation_cells x) (flat_map equation_cells xs) k).0
+    cells-at (x ∷ xs) (suc j) q k = cells-at xs j q (split-all (nat_le base) (equation_cells x) (flat_map equation_cells xs) k).1
 
 -- ---- equations
 

@@ -2,14 +2,15 @@
 use Rattle.std.proofs.Common.{◌≡◌, ◌⊎◌, ℕ, zero, suc, ◌<◌, ◌≤◌, List, [], ◌∷◌, length, IsTrue, refl, sym, ◌∙◌, ap, subst, Option, Some, None, slice_get, inl, inr, arith}
 use Rattle.calculus.specs.declared.sort.Sort.{Sort}
 use Rattle.calculus.specs.declared.sort.Sort.TheVariants.{StringSort}
-use Rattle.store_theory.specs.Bindings.{AddsBuilt, nothing_more, one_more, BindsOnly, BindsWithin, KeepsMarks}
+use Rattle.std.proofs.lemmas.Bool.{cases_lt, false≢true}
+use Rattle.store_theory.specs.Bindings.{AddsBuilt, nothing_more, one_more, BindsOnly, BindsWithin, KeepsMarks, is_variable, with_cell}
 use Rattle.store_theory.specs.Patterns.{Grows}
 use Rattle.store_theory.specs.Stores.{Cell, variable, string_cell, Store, parts_of, sort_of, has_sort_at, is_store, is_bound, OccursIn, here, in_part, EndsAt, stays, goes_on}
 use Rattle.store_theory.specs.Systems.{IsOpenString}
 use Rattle.store_theory.proofs.BindingLaws.{KeepsMarks-both, KeepsMarks-same, has_sort-from, kept, parts-within, sorted_cell}
 use Rattle.store_theory.proofs.PatternLaws.{Grows-built, KeepsMarks-built, grown-cell, grown-sort}
-use Rattle.calculus.proofs.PlaceLists.{get-there, get-within}
-use Rattle.search_theory.proofs.BuildingLaws.{adds-longer}
+use Rattle.calculus.proofs.PlaceLists.{get-end, get-there, get-within}
+use Rattle.search_theory.proofs.BuildingLaws.{adds-longer, length-plus}
 use Rattle.term_unify.proofs.FlatLaws.{no_string-part}
 use Rattle.prefix_split.specs.Later.{IsBuiltString, HasNoStringIn, IsLater}
 
@@ -17,13 +18,14 @@ some-same : {A : Type 0} (o : Option A) (x y : A) → o ≡ Some x → o ≡ Som
 some-same o x y e f = let q : Some x ≡ Some y = sym e ∙ f in cc q
 
 pub later-same : (s : Store) → IsLater s s
-later-same s = record { longer = omega arith; sorts = λ sort r h. h; strings = λ v r l o w. (w, o); built = λ r b. b; bound = λ r k sort e. e; marks = KeepsMarks-same s }
+later-same s = record { longer = omega arith; sorts = λ sort r h. h; strings = λ v r l o w. (w, o); fresh = λ v l o. (let k = get-within s.cells v (variable StringSort None) o in omega (arith, l, k)); built = λ r b. b; bound = λ r k sort e. e; marks = KeepsMarks-same s }
 
 pub later-both : (s t u : Store) → IsLater s t → IsLater t u → IsLater s u
 later-both s t u h k = record {
   longer = let a = h.longer in let b = k.longer in omega (arith, a, b);
   sorts = λ sort r q. k.sorts sort r (h.sorts sort r q);
   strings = λ v r l o w. (let a = h.longer in let (x, y) = k.strings v r (omega (arith, l, a)) o w in h.strings v r l y x);
+  fresh = λ v l o. elim (cases_lt v (length t.cells)) [ inl less ↦ h.fresh v l (k.strings v v less o here).1 | inr more ↦ k.fresh v more o ];
   built = λ r b. k.built r (h.built r b);
   bound = λ r j sort e. k.bound r j sort (h.bound r j sort e);
   marks = KeepsMarks-both s t u h.marks k.marks;
@@ -45,8 +47,8 @@ pub ends-grown : (s t : Store) → Grows s t → (r v : ℕ) → EndsAt s r v �
 ends-grown s t g r v (stays {c = c} e b) = stays (grown-cell s t r c g e) b
 ends-grown s t g r v (goes_on {k = k} {sort = sort} e more) = goes_on (grown-cell s t r (variable sort (Some k)) g e) (ends-grown s t g k v more)
 
-pub later-grown : (s t : Store) → IsTrue (is_store s) → Grows s t → length s.cells ≤ length t.cells → KeepsMarks s t → IsLater s t
-later-grown s t h g longer marks = record {
+pub later-grown : (s t : Store) → IsTrue (is_store s) → Grows s t → length s.cells ≤ length t.cells → ((v : ℕ) → length s.cells ≤ v → ¬ IsOpenString t v) → KeepsMarks s t → IsLater s t
+later-grown s t h g longer fresh marks = record {
   longer = longer;
   sorts = λ sort r q. grown-sort s t sort r g q;
   strings = λ v r l o w. (
@@ -54,16 +56,29 @@ later-grown s t h g longer marks = record {
       let (d, f) = get-there s.cells v below in
       (x, f ∙ ap Some (some-same (slice_get t.cells v) d (variable StringSort None) (grown-cell s t v d g f) o))
       );
+  fresh = fresh;
   built = λ r b. (b.0, b.1, ends-grown s t g r b.0 b.2, grown-cell s t b.0 (string_cell b.1) g b.3);
   bound = λ r k sort e. grown-cell s t r (variable sort (Some k)) g e;
   marks = marks;
 }
 
+-- no unbound string is built
+fresh-added : (s t : Store) → AddsBuilt s t → (v : ℕ) → length s.cells ≤ v → ¬ IsOpenString t v
+fresh-added s t nothing_more v l o = let k = get-within s.cells v (variable StringSort None) o in omega (arith, l, k)
+fresh-added s t (one_more c h f built more) v l o = elim (cases_lt (length s.cells) v) [
+  | inl less ↦ fresh-added (with_cell c s) t more v (let n = length-plus c s in omega (arith, n, less)) o
+  | inr last ↦
+      let same : v ≡ length s.cells = omega (arith, l, last) in
+      let at : slice_get t.cells (length s.cells) ≡ Some c = grown-cell (with_cell c s) t (length s.cells) c (Grows-built (with_cell c s) t more) (get-end s.cells c) in
+      let q : c ≡ variable StringSort None = some-same (slice_get t.cells (length s.cells)) c (variable StringSort None) at (ap (slice_get t.cells) (sym same) ∙ o) in
+      false≢true (sym built ∙ ap is_variable q)
+]
+
 pub later-added : (s t : Store) → AddsBuilt s t → IsLater s t
 later-added s t nothing_more = later-same s
 later-added s t (one_more c h f v more) =
     let a : AddsBuilt s t = one_more c h f v more in
-    later-grown s t h (Grows-built s t a) (adds-longer s t a) (KeepsMarks-built s t a)
+    later-grown s t h (Grows-built s t a) (adds-longer s t a) (fresh-added s t a) (KeepsMarks-built s t a)
 
 -- ---- bindings
 
@@ -142,6 +157,7 @@ later-targets s t b free marks = record {
       let n = b.same_length in
       (occurs-before s t b free v r (omega (arith, n, l)) open_then w, open_then)
       );
+  fresh = λ v l o. (let n = b.same_length in let k = get-within t.cells v (variable StringSort None) o in omega (arith, n, l, k));
   built = λ r u. (u.0, u.1, ends-bound s t b r u.0 u.1 u.2 u.3, string-bound s t b u.0 u.1 u.3);
   bound = λ r k sort e. elim (b.cells r (variable sort (Some k)) e) [
     | inl g ↦ g

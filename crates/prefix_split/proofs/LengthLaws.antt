@@ -16,14 +16,18 @@ use Rattle.store_theory.proofs.SolutionLaws.{Solves-bound, Solves-unbound, ends-
 use Rattle.term_store.proofs.MarkLaws.{length-marks, variables-fit}
 use Rattle.term_unify.proofs.PairLaws.{BindsOnly-with_binding, told}
 pub use Rattle.term_unify.proofs.FlatLaws.{ends-sorted}
+use Rattle.calculus.specs.Labels.{is_step_length}
+use Rattle.calculus.specs.Syntax.{Problem}
+use Rattle.search_theory.specs.LabelledCells.{AreLabelled}
 use Rattle.search_theory.specs.Solving.{CannotHave, IsNarrowed}
 use Rattle.search_theory.specs.Steps.{IsUnified}
 use Rattle.search_theory.proofs.BelowLaws.{all-weaken}
 use Rattle.search_theory.proofs.BuildingLaws.{AreStores, length-plus}
+use Rattle.search_theory.proofs.FromLaws.{IsFrom, labelled-bound, labelled-plus}
 use Rattle.search_theory.proofs.GivingLaws.{length-given, length-other, length-there, lengths-fail-first, lengths-fail-later, lengths-more, lengths-none}
 use Rattle.search_theory.proofs.SolvingLaws.{all-below}
 use Rattle.prefix_split.specs.Giving.{HasLength, IsBuiltEnd, IsGiven, IsUnboundString}
-use Rattle.prefix_split.specs.Later.{HasNoStringIn, IsBuiltString, IsLater}
+use Rattle.prefix_split.specs.Later.{HasNoStringIn, IsBuiltString, IsLater, KeepsRight}
 use Rattle.prefix_split.proofs.ListItems.{all-drop, drop-end, drop-there}
 use Rattle.prefix_split.proofs.LaterLaws.{HasStringFreeTargets, ends-grown, later-both, later-grown, later-same, later-targets}
 
@@ -87,6 +91,9 @@ open-string n s v o = elim (get-last (marked n s).cells v (variable StringSort N
   | inr (q, same) ↦ cc same
 ]
 
+fresh-string : (n : ℕ) (s : Store) (v : ℕ) → length s.cells ≤ v → ¬ IsOpenString (with_string n s) v
+fresh-string n s v l o = let k = get-within s.cells v (variable StringSort None) (open-string n s v o) in omega (arith, l, k)
+
 top : ℕ → Store → ℕ
 top n s = length (marked n s).cells
 
@@ -141,11 +148,11 @@ pub later-given : (n : ℕ) (s : Store) (v : ℕ) → IsTrue (is_store s) → Is
 later-given n s v h e a b =
     let mid = with_string n s in
     later-both s mid (with_binding v (length s.cells + n) mid)
-    (later-grown s mid h (grown n s) (let x = top-is n s in let y = long n s in omega (arith, x, y)) a)
+    (later-grown s mid h (grown n s) (let x = top-is n s in let y = long n s in omega (arith, x, y)) (fresh-string n s) a)
     (subst (λ p. KeepsMarks mid (with_binding v p mid) → IsLater mid (with_binding v p mid)) (top-is n s) (λ k. later-targets mid (with_binding v (top n s) mid) (BindsOnly-with_binding v (top n s) mid StringSort (unbound-there n s v e)) (targets n s v e) k) b)
 
 pub later-string : (n : ℕ) (s : Store) → IsTrue (is_store s) → KeepsMarks s (with_string n s) → IsLater s (with_string n s)
-later-string n s h a = later-grown s (with_string n s) h (grown n s) (let x = top-is n s in let y = long n s in omega (arith, x, y)) a
+later-string n s h a = later-grown s (with_string n s) h (grown n s) (let x = top-is n s in let y = long n s in omega (arith, x, y)) (fresh-string n s) a
 
 ends-extended : (s : Store) (r v p : ℕ) (rs : List ℕ) → slice_get s.cells v ≡ Some (variable StringSort None) → slice_get s.cells p ≡ Some (string_cell rs) → EndsAt s r v → EndsAt (with_binding v p s) r p
 ends-extended s r v p rs e f (stays {c = c} g b) = goes_on here-bound (stays there refl)
@@ -189,6 +196,39 @@ given-top n s r v h ends e l =
 
 pub given-bound : (n : ℕ) (s : Store) (r v : ℕ) → IsTrue (is_store s) → EndsAt s r v → IsUnboundString s v → r < length s.cells → IsGiven s (with_binding v (length s.cells + n) (with_string n s)) r n
 given-bound n s r v h ends e l = subst (λ p. IsGiven s (with_binding v p (with_string n s)) r n) (top-is n s) (given-top n s r v h ends e l)
+
+-- ---- what is built is right
+
+pub right-both : (P : Problem) (ks : List ℕ) (s t u : Store) → length s.cells ≤ length t.cells → KeepsRight P ks s t → KeepsRight P ks t u → KeepsRight P ks s u
+right-both P ks s t u longer h k base l from a = k base (omega (arith, longer, l)) from (h base l from a)
+
+pub right-more : (P : Problem) (ks : List ℕ) (s t : Store) → KeepsRight P [] s t → KeepsRight P ks s t
+right-more P ks s t h base l from a = h base l refl a
+
+length-places : (start n : ℕ) → length (places_from start n) ≡ n
+length-places start zero = refl
+length-places start (suc n) = ap suc (length-places (suc start) n)
+
+labelled-marked : (P : Problem) (base n : ℕ) (s : Store) → IsTrue (is_store s) → AreLabelled P (IsFrom base) s → AreLabelled P (IsFrom base) (marked n s)
+labelled-marked P base zero s h a = a
+labelled-marked P base (suc n) s h a = labelled-marked P base n (with_cell (variable MarkSort None) s) (is_store-with_cell (variable MarkSort None) s h refl refl) (labelled-plus P base s (variable MarkSort None) h refl refl a)
+
+-- the string is a step where its length is one
+pub right-given : (P : Problem) (n : ℕ) (s : Store) (v : ℕ) → IsTrue (is_store s) → IsUnboundString s v → IsTrue (is_step_length P.setting.logic n) → KeepsRight P [] s (with_binding v (length s.cells + n) (with_string n s))
+right-given P n s v h e step base l none a = subst (λ p. AreLabelled P (IsFrom base) (with_binding v p (with_string n s))) (top-is n s) bound
+  where
+    mid : AreLabelled P (IsFrom base) (with_string n s)
+    mid = labelled-plus P base (marked n s) (string_cell (places_from (length s.cells) n)) (marked-store n s h) (places-from base (length s.cells) n l) (subst (λ m. IsTrue (is_step_length P.setting.logic m)) (sym (length-places (length s.cells) n)) step) (labelled-marked P base n s h a)
+
+    bound : AreLabelled P (IsFrom base) (with_binding v (top n s) (with_string n s))
+    bound = labelled-bound P base (with_string n s) (with_binding v (top n s) (with_string n s)) v StringSort (top n s) (is_store-with_cell (string_cell (places_from (length s.cells) n)) (marked n s) (marked-store n s h) (fits n s) refl)
+        (record {
+          size = length-bind v (top n s) (with_string n s).cells;
+          was = unbound-there n s v e;
+          is = get-bound v (top n s) (with_string n s).cells ∙ ap (option_map (bound_to (top n s))) (unbound-there n s v e);
+          rest = λ r other. get-unbound v (top n s) r (with_string n s).cells (λ q. other (sym q));
+        })
+        (let t = top-is n s in omega (arith, l, t)) mid
 
 -- ---- a string that is built
 

@@ -16,6 +16,7 @@ use Rattle.search_theory.proofs.BuildingLaws.{adds-back, adds-forth}
 use Rattle.search_theory.proofs.LabelledEnd.{early-by_smaller}
 use Rattle.search_theory.proofs.SolvingLaws.{bounded-agree}
 use Rattle.term_store.specs.Asking.{Asks}
+use Rattle.prefix_split.specs.Later.{IsFoundIn}
 use Rattle.prefix_split.specs.LengthLists.{least_of, AreWithin, IsFirst, IsLast, IsNext}
 use Rattle.prefix_split.specs.LengthSearch.{IsCounted, IsRangeOf, StandsAt}
 use Rattle.prefix_split.proofs.LengthListLaws.{tried-within, within-tried}
@@ -112,8 +113,8 @@ found-moved b c l f g u y p q h =
     subst (λ z. OwnSparesSolve z l (Asks f) u y) p
     (subst (λ z. OwnSparesSolve c l (Asks z) u y) q h)
 
-pub back-moved : (s t u : Store) → t ≡ s → ((σ : Solution) → Solves u σ → Solves t σ) → (σ : Solution) → Solves u σ → Solves s σ
-back-moved s t u e h σ k = subst (λ z. Solves z σ) e (h σ k)
+pub back-moved : (l : Logic) (b : Bool) (y : System) (s t u : Store) → t ≡ s → IsFoundIn l b y t u → IsFoundIn l b y s u
+back-moved l b y s t u e h = subst (λ z. IsFoundIn l b y z u) e h
 
 pub bounded-moved : (l : Logic) (f g : List GammaUse → Bool) (s t : Store) (y : System) → g ≡ f → t ≡ s → ¬ HasBoundedSolution l (Asks g) t y → ¬ HasBoundedSolution l (Asks f) s y
 bounded-moved l f g s t y p q h =

@@ -1,20 +1,27 @@
 -- One list of lengths: what each step that fails shows, and what is found at the end.
-use Rattle.std.proofs.Common.{◌≡◌, ℕ, suc, List, [], ◌∷◌, length, Bool, IsTrue, refl, sym, ◌∙◌, ap, Option, Some, None, slice_get, arith}
-use Rattle.std.specs.List.{AllByRecursion}
+use Rattle.std.proofs.Common.{◌≡◌, ◌&&◌, ◌==◌, ℕ, suc, List, [], ◌∷◌, ◌++◌, length, Bool, IsTrue, refl, sym, ◌∙◌, ap, subst, Option, Some, None, slice_get, arith, nat_le}
+use Rattle.std.specs.List.{AllByRecursion, flat_map, list_all}
+use Rattle.std.proofs.lemmas.Bool.{and_parts}
+use Rattle.calculus.specs.Labels.{is_step_length}
+use Rattle.calculus.specs.Space.{is_tried_length}
+use Rattle.calculus.specs.Syntax.{Problem}
 use Rattle.calculus.specs.declared.setting.Logic.{Logic}
 use Rattle.calculus.specs.declared.sort.Sort.TheVariants.{StringSort}
 use Rattle.store_theory.specs.Bindings.{IsWellFormed}
 use Rattle.calculus.specs.Instances.{GammaUse}
-use Rattle.store_theory.specs.Stores.{variable, string_cell, Store, EndsAt, stays, goes_on, Solution, Solves}
-use Rattle.store_theory.specs.Systems.{Equation, Pair, System, AreEqual, AreEqualNow, AreTried, HasBuiltStrings, HasNoOpenString, HasSolution, HaveLengths, IsOpenString, MeetsDemand, NamesItsStrings, OccursInSystem, OwnSparesMeet, OwnSparesSolve, is_system}
+use Rattle.store_theory.specs.Stores.{variable, string_cell, GammaCell, Store, EndsAt, stays, goes_on, Solution, Solves}
+use Rattle.store_theory.specs.Systems.{Equation, Pair, System, AreEqual, AreEqualNow, AreTried, HasBuiltStrings, HasNoOpenString, HasSolution, HaveLengths, IsOpenString, MeetsDemand, NamesItsStrings, OccursInSystem, OwnSparesMeet, OwnSparesSolve, bound_of, cells_of, cells_of_atom, is_system}
 use Rattle.store_theory.proofs.BindingLaws.{HasNoCycle-rank, ends-once}
 use Rattle.search_theory.specs.Regular.{AreSame}
 use Rattle.search_theory.specs.Solving.{CannotHave, IsNarrowed, IsSolving}
 use Rattle.search_theory.proofs.BuildingLaws.{agree-both}
 use Rattle.search_theory.proofs.RankLaws.{rank_of, ranked-by_no_cycle}
-use Rattle.search_theory.proofs.SolvingLaws.{carried, found, none-by_pair, system-cells, system-parts, system-set}
+use Rattle.search_theory.proofs.SolvingLaws.{carried, found, none-by_pair, system-cells, system-parts, system-set, tried-step}
+use Rattle.search_theory.proofs.BelowLaws.{all-weaken}
 use Rattle.search_theory.proofs.SystemCells.{pairs-in}
-use Rattle.prefix_split.specs.Later.{IsLater}
+use Rattle.search_theory.proofs.SystemLaws.{split-all}
+use Rattle.prefix_split.specs.Equated.{equation_cells}
+use Rattle.prefix_split.specs.Later.{IsLater, KeepsRight}
 use Rattle.prefix_split.specs.Meeting.{IsForced}
 use Rattle.prefix_split.specs.Same.{DifferNow}
 use Rattle.prefix_split.specs.Trying.{IsSetTo}
@@ -26,7 +33,8 @@ some-same o x y e f = let q : Some x ≡ Some y = sym e ∙ f in cc q
 
 -- ---- setting the lengths
 
-ends-open : (s t : Store) → IsLater s t → (r v : ℕ) → EndsAt s r v → IsOpenString t v → EndsAt t r v
+-- bindings stay, so they lead to what is still unbound
+pub ends-open : (s t : Store) → IsLater s t → (r v : ℕ) → EndsAt s r v → IsOpenString t v → EndsAt t r v
 ends-open s t l r v (stays e b) o = stays o refl
 ends-open s t l r v (goes_on {k = k} {sort = sort} e more) o = goes_on (l.bound r k sort e) (ends-open s t l k v more o)
 
@@ -58,6 +66,26 @@ set-both s t u y ns fits first rest = record {
       (υ, uh, agree-both (length s.cells) (length t.cells) σ τ υ first.longer agree more)
       );
 }
+
+-- ---- what stays built right
+
+abbrev gamma_cells : GammaCell → List ℕ
+gamma_cells g = g.term ∷ g.label
+
+abbrev pair_cells : Pair → List ℕ
+pair_cells p = cells_of_atom p.upper ++ cells_of_atom p.lower
+
+-- the cells of the equations are some of the system's
+pub right-system : (P : Problem) (y : System) (s t : Store) → KeepsRight P (flat_map equation_cells y.equations) s t → KeepsRight P (cells_of y) s t
+right-system P y s t h base l from a =
+    let one = split-all (nat_le base) (flat_map equation_cells y.equations ++ y.strings ++ flat_map gamma_cells y.gammas) (flat_map pair_cells y.pairs) from in
+    let two = split-all (nat_le base) (flat_map equation_cells y.equations ++ y.strings) (flat_map gamma_cells y.gammas) one.0 in
+    let three = split-all (nat_le base) (flat_map equation_cells y.equations) y.strings two.0 in
+    h base l three.0 a
+
+-- lengths that are tried are steps
+pub steps-tried : (P : Problem) (l : Logic) (y : System) (ns : List ℕ) → P.setting.logic ≡ l → AreTried l y ns → IsTrue (list_all (is_step_length P.setting.logic) ns)
+steps-tried P l y ns e tried = all-weaken (is_tried_length l (bound_of y)) (is_step_length P.setting.logic) (λ n q. subst (λ k. IsTrue (is_step_length k n)) (sym e) (tried-step l (bound_of y) n q)) ns (and_parts (length ns == length y.strings) (list_all (is_tried_length l (bound_of y)) ns) tried).1
 
 -- ---- trying
 

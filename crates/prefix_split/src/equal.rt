@@ -1,7 +1,8 @@
 //! Making the two sides of equations equal, mark by mark.
 
 ghost use Rattle.std.specs.Prelude.{◌≡◌, ◌++◌, ℕ, Some, IfOk, IsTrue, false, map, slice_get, true};
-ghost use Rattle.std.specs.List.{AllByRecursion, list_all};
+ghost use Rattle.std.specs.List.{AllByRecursion, flat_map, list_all};
+ghost use Rattle.calculus.specs.Syntax.{Problem};
 ghost use Rattle.calculus.specs.declared.sort.Sort.TheVariants.{MarkSort};
 ghost use Rattle.store_theory.specs.Bindings.{BindsOnly};
 ghost use Rattle.store_theory.specs.Stores.{Solution, Solves, has_sort_at};
@@ -12,8 +13,8 @@ ghost use Rattle.search_theory.proofs.GivingLaws.{NeverSame, SameMarks};
 ghost use Rattle.term_store.specs.RefView.{the_place};
 ghost use Rattle.term_store.specs.Room.{KeepsRoom};
 ghost use Rattle.term_store.specs.SystemView.{the_equation};
-ghost use Rattle.prefix_split.specs.Equated.{equated};
-ghost use Rattle.prefix_split.specs.Later.{HasNoString, IsLater};
+ghost use Rattle.prefix_split.specs.Equated.{equated, equation_cells};
+ghost use Rattle.prefix_split.specs.Later.{HasNoString, IsLater, KeepsRight};
 
 use crate::places::{equation_at, reference_at};
 use cop_base::NoMemory;
@@ -36,6 +37,8 @@ fn unify_marks(
     requires free_right { HasNoString store.old.store (map the_place ys.now) }
     ensures same { IfOk result (λ same. same ≡ true → IsNarrowed store.old.store store.new.store
         (SameMarks (map the_place xs.now) (map the_place ys.now))) }
+    ensures right { IfOk result (λ same. same ≡ true → (P : Problem) → KeepsRight P
+        (map the_place xs.now ++ map the_place ys.now) store.old.store store.new.store) }
     ensures never { IfOk result (λ same. same ≡ false
         → NeverSame store.old.store (map the_place xs.now) (map the_place ys.now)) }
     ensures binds { BindsOnly store.old.store store.new.store }
@@ -46,6 +49,7 @@ fn unify_marks(
         return Ok(false);
     }
     for i in 0..xs.len() {
+        let _now = store.mark();
         if !unifier.unify(store, reference_at(xs, i), reference_at(ys, i))? {
             return Ok(false);
         }
@@ -67,6 +71,8 @@ pub(crate) fn make_equal(
     requires free_right { HasNoString store.old.store (map the_place right.now) }
     ensures made { IfOk result (λ made. made ≡ true → IsNarrowed store.old.store store.new.store
         (λ σ. AreEqual σ (equated (map the_place left.now) (map the_place right.now)))) }
+    ensures right { IfOk result (λ made. made ≡ true → (P : Problem) → KeepsRight P
+        (map the_place left.now ++ map the_place right.now) store.old.store store.new.store) }
     ensures never { IfOk result (λ made. made ≡ false → CannotEqual store.old.store
         (equated (map the_place left.now) (map the_place right.now))) }
     ensures binds { BindsOnly store.old.store store.new.store }
@@ -93,6 +99,8 @@ pub(crate) fn make_all_equal(
         → HasNoString store.old.store e.left × HasNoString store.old.store e.right }
     ensures made { IfOk result (λ made. made ≡ true → IsNarrowed store.old.store store.new.store
         (λ σ. AllByRecursion (AreEqual σ) (map the_equation equations.now))) }
+    ensures right { IfOk result (λ made. made ≡ true → (P : Problem) → KeepsRight P
+        (flat_map equation_cells (map the_equation equations.now)) store.old.store store.new.store) }
     ensures never { IfOk result (λ made. made ≡ false → (σ : Solution) → Solves store.old.store σ
         → ¬ AllByRecursion (AreEqual σ) (map the_equation equations.now)) }
     ensures later { IsLater store.old.store store.new.store }

@@ -1,8 +1,10 @@
 //! Giving the strings of a system their lengths.
 
-ghost use Rattle.std.specs.Prelude.{◌≡◌, ◌<◌, ℕ, Some, None, IfOk, IsTrue, false};
+ghost use Rattle.std.specs.Prelude.{◌≡◌, ◌<◌, [], ℕ, Some, None, IfOk, IsTrue, false};
 ghost use Rattle.std.specs.Prelude.{length, map, slice_get, true};
 ghost use Rattle.std.specs.List.{list_all};
+ghost use Rattle.calculus.specs.Labels.{is_step_length};
+ghost use Rattle.calculus.specs.Syntax.{Problem};
 ghost use Rattle.calculus.specs.declared.sort.Sort.TheVariants.{StringSort};
 ghost use Rattle.store_theory.specs.Bindings.{IsEnd};
 ghost use Rattle.store_theory.specs.Stores.{EndsAt, Solution, Solves, has_sort_at};
@@ -12,7 +14,7 @@ ghost use Rattle.search_theory.specs.Solving.{CannotHave, IsNarrowed};
 ghost use Rattle.term_store.specs.RefView.{the_place};
 ghost use Rattle.term_store.specs.Room.{KeepsRoom};
 ghost use Rattle.prefix_split.specs.Giving.{HasLength, IsGiven, IsUnboundString, IsBuiltEnd};
-ghost use Rattle.prefix_split.specs.Later.{IsBuiltString, IsLater};
+ghost use Rattle.prefix_split.specs.Later.{IsBuiltString, IsLater, KeepsRight};
 
 use crate::places::{length_at, reference_at};
 use cop_base::NoMemory;
@@ -40,6 +42,8 @@ fn bind_length(store: &mut Store, string: Ref, end: Ref, n: u32) -> Result<(), N
     requires unbound { IsUnboundString store.old.store end.0 }
     requires within { string.0 < length store.old.store.cells }
     ensures given { IfOk result (λ _. IsGiven store.old.store store.new.store string.0 n) }
+    ensures right { IfOk result (λ _. (P : Problem) → IsTrue (is_step_length P.setting.logic n)
+        → KeepsRight P [] store.old.store store.new.store) }
     ensures later { IsLater store.old.store store.new.store }
     ensures room { KeepsRoom store.old store.new }
 {
@@ -55,6 +59,9 @@ fn give_length(store: &mut Store, string: Ref, n: u32) -> Result<bool, NoMemory>
     requires { IsTrue (has_sort_at store.old.store StringSort string.0) }
     ensures given { IfOk result (λ given. given ≡ true
         → IsGiven store.old.store store.new.store string.0 n) }
+    ensures right { IfOk result (λ given. given ≡ true → (P : Problem)
+        → IsTrue (is_step_length P.setting.logic n)
+        → KeepsRight P [] store.old.store store.new.store) }
     ensures cannot { IfOk result (λ given. given ≡ false → (σ : Solution)
         → Solves store.old.store σ → ¬ HasLength σ string.0 n) }
     ensures later { IsLater store.old.store store.new.store }
@@ -82,6 +89,9 @@ pub(crate) fn give_lengths(
         (λ σ. HaveLengths σ (map the_place strings.now) lengths.now)) }
     ensures built { IfOk result (λ given. given ≡ true → (i : ℕ) (r : ℕ)
         → slice_get (map the_place strings.now) i ≡ Some r → IsBuiltString store.new.store r) }
+    ensures right { IfOk result (λ given. given ≡ true → (P : Problem)
+        → IsTrue (list_all (is_step_length P.setting.logic) lengths.now)
+        → KeepsRight P [] store.old.store store.new.store) }
     ensures cannot { IfOk result (λ given. given ≡ false
         → CannotHave store.old.store (map the_place strings.now) lengths.now) }
     ensures later { IsLater store.old.store store.new.store }

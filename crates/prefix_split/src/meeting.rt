@@ -34,6 +34,8 @@ pub(crate) fn meet_demand<M: Demand>(
     ensures never { IfOk result (λ met. met ≡ false → (σ : Solution) → Solves store.old.store σ
         → ¬ MeetsDemand (Asks (M.holds_for more.old)) (the_system system.now) σ) }
     ensures later { IsLater store.old.store store.new.store }
+    ensures nothing { IfOk result (λ met. met ≡ true → M.asks_nothing ≡ true
+        → store.new.store ≡ store.old.store) }
     ensures room { KeepsRoom store.old store.new }
     ensures same { M.holds_for more.new ≡ M.holds_for more.old }
     ensures same_common { M.common more.new ≡ M.common more.old }

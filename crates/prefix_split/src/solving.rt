@@ -5,12 +5,12 @@ ghost use Rattle.std.specs.Prelude.{false, true};
 ghost use Rattle.store_theory.specs.Bindings.{KeepsMarks};
 ghost use Rattle.calculus.specs.Counting.{MoreThan};
 ghost use Rattle.calculus.specs.Space.{has_labels, lengths_cmp};
-ghost use Rattle.store_theory.specs.Stores.{Solution, Solves};
 ghost use Rattle.store_theory.specs.Systems.{AreEarly, HasBoundedSolution, NamesItsStrings};
 ghost use Rattle.store_theory.specs.Systems.{OwnSparesSolve, is_system};
 ghost use Rattle.term_store.specs.Asking.{Asks};
 ghost use Rattle.term_store.specs.Room.{KeepsRoom};
 ghost use Rattle.term_store.specs.SystemView.{the_system};
+ghost use Rattle.prefix_split.specs.Later.{IsFoundIn};
 ghost use Rattle.prefix_split.specs.LengthSearch.{IsCounted};
 
 use crate::next_lengths::{LengthRange, first_lengths, is_single, next_lengths, range_of};
@@ -102,8 +102,8 @@ fn solve_apart<M: Demand>(
     ensures found { IfOk result (λ o. IfSome o (λ a. a ≡ Solved.Found
         → OwnSparesSolve (M.common more.old) logic (Asks (M.holds_for more.old)) store.new.store
         (the_system system.now))) }
-    ensures back { IfOk result (λ o. IfSome o (λ a. a ≡ Solved.Found → (σ : Solution)
-        → Solves store.new.store σ → Solves store.old.store σ)) }
+    ensures back { IfOk result (λ o. IfSome o (λ a. a ≡ Solved.Found
+        → IsFoundIn logic M.asks_nothing (the_system system.now) store.old.store store.new.store)) }
     ensures none { IfOk result (λ o. IfSome o (λ a. a ≡ Solved.None → ¬ HasBoundedSolution logic
         (Asks (M.holds_for more.old)) store.old.store (the_system system.now))) }
     ensures decided { IfOk result (λ o. IfSome o (λ a. ¬ (a ≡ Solved.Steps))) }
@@ -157,8 +157,8 @@ fn solve_by_order<M: Demand>(
     ensures found { IfOk result (λ o. IfSome o (λ a. a ≡ Solved.Found
         → OwnSparesSolve (M.common more.old) logic (Asks (M.holds_for more.old)) store.new.store
         (the_system system.now))) }
-    ensures back { IfOk result (λ o. IfSome o (λ a. a ≡ Solved.Found → (σ : Solution)
-        → Solves store.new.store σ → Solves store.old.store σ)) }
+    ensures back { IfOk result (λ o. IfSome o (λ a. a ≡ Solved.Found
+        → IsFoundIn logic M.asks_nothing (the_system system.now) store.old.store store.new.store)) }
     ensures none { IfOk result (λ o. IfSome o (λ a. a ≡ Solved.None → ¬ HasBoundedSolution logic
         (Asks (M.holds_for more.old)) store.old.store (the_system system.now))) }
     ensures decided { IfOk result (λ o. IfSome o (λ a. ¬ (a ≡ Solved.Steps))) }
@@ -205,8 +205,8 @@ pub fn solve<M: Demand>(
     requires labels { IsTrue (has_labels logic) }
     ensures found { IfOk result (λ a. a ≡ Solved.Found → OwnSparesSolve (M.common more.old) logic
         (Asks (M.holds_for more.old)) store.new.store (the_system system.now)) }
-    ensures back { IfOk result (λ a. a ≡ Solved.Found → (σ : Solution)
-        → Solves store.new.store σ → Solves store.old.store σ) }
+    ensures back { IfOk result (λ a. a ≡ Solved.Found
+        → IsFoundIn logic M.asks_nothing (the_system system.now) store.old.store store.new.store) }
     ensures none { IfOk result (λ a. a ≡ Solved.None → ¬ HasBoundedSolution logic
         (Asks (M.holds_for more.old)) store.old.store (the_system system.now)) }
     ensures steps { IfOk result (λ a. a ≡ Solved.Steps → ledger.new.used ≡ ledger.new.budget) }

@@ -1,15 +1,18 @@
 //! Trying one list of lengths.
 
 ghost use Rattle.std.specs.Prelude.{◌≡◌, IfOk, IsTrue, OnErr, false, length, true};
+ghost use Rattle.std.specs.List.{list_all};
+ghost use Rattle.calculus.specs.Labels.{is_step_length};
+ghost use Rattle.calculus.specs.Syntax.{Problem};
 ghost use Rattle.store_theory.specs.Bindings.{KeepsMarks};
 ghost use Rattle.store_theory.specs.Stores.{Solution, Solves};
-ghost use Rattle.store_theory.specs.Systems.{AreTried, HasBuiltStrings, HasNoOpenString};
+ghost use Rattle.store_theory.specs.Systems.{AreTried, HasBuiltStrings, HasNoOpenString, cells_of};
 ghost use Rattle.store_theory.specs.Systems.{HasSolution, NamesItsStrings, OwnSparesSolve, is_system};
 ghost use Rattle.search_theory.specs.Solving.{IsNarrowed};
 ghost use Rattle.term_store.specs.Asking.{Asks};
 ghost use Rattle.term_store.specs.Room.{KeepsRoom};
 ghost use Rattle.term_store.specs.SystemView.{the_system};
-ghost use Rattle.prefix_split.specs.Later.{IsLater};
+ghost use Rattle.prefix_split.specs.Later.{IsFoundIn, IsLater, KeepsRight};
 ghost use Rattle.prefix_split.specs.Trying.{IsSetTo};
 
 use crate::equal::make_all_equal;
@@ -39,6 +42,9 @@ fn set_lengths(
         → HasBuiltStrings store.new.store (the_system system.now)) }
     ensures free { IfOk result (λ set. set ≡ true
         → HasNoOpenString store.new.store (the_system system.now)) }
+    ensures right { IfOk result (λ set. set ≡ true → (P : Problem)
+        → IsTrue (list_all (is_step_length P.setting.logic) lengths.now)
+        → KeepsRight P (cells_of (the_system system.now)) store.old.store store.new.store) }
     ensures cannot { IfOk result (λ set. set ≡ false → (σ : Solution)
         → Solves store.old.store σ → ¬ IsSetTo (the_system system.now) lengths.now σ) }
     ensures later { IsLater store.old.store store.new.store }
@@ -70,8 +76,9 @@ fn try_lengths<M: Demand>(
         → AreTried logic (the_system system.now) lengths.now
         → OwnSparesSolve (M.common more.old) logic (Asks (M.holds_for more.old))
         store.new.store (the_system system.now)) }
-    ensures back { IfOk result (λ found. found ≡ true → (σ : Solution)
-        → Solves store.new.store σ → Solves store.old.store σ) }
+    ensures back { IfOk result (λ found. found ≡ true
+        → AreTried logic (the_system system.now) lengths.now
+        → IsFoundIn logic M.asks_nothing (the_system system.now) store.old.store store.new.store) }
     ensures none { IfOk result (λ found. found ≡ false
         → ¬ HasSolution logic (Asks (M.holds_for more.old)) store.old.store
         (the_system system.now) lengths.now) }
@@ -115,8 +122,9 @@ pub(crate) fn try_or_undo<M: Demand>(
         → AreTried logic (the_system system.now) lengths.now
         → OwnSparesSolve (M.common more.old) logic (Asks (M.holds_for more.old))
         store.new.store (the_system system.now)) }
-    ensures back { IfOk result (λ found. found ≡ true → (σ : Solution)
-        → Solves store.new.store σ → Solves store.old.store σ) }
+    ensures back { IfOk result (λ found. found ≡ true
+        → AreTried logic (the_system system.now) lengths.now
+        → IsFoundIn logic M.asks_nothing (the_system system.now) store.old.store store.new.store) }
     ensures none { IfOk result (λ found. found ≡ false
         → ¬ HasSolution logic (Asks (M.holds_for more.old)) store.old.store
         (the_system system.now) lengths.now) }

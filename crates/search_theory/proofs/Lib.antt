@@ -62,6 +62,7 @@ pub mod OwnHomes
 pub mod NeedRanks
 pub mod SystemCells
 pub mod KeepingLaws
+pub mod FromLaws
 pub mod LabelledBuilt
 pub mod TemplateSorts
 pub mod ProperPatterns

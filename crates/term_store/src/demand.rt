@@ -1,6 +1,6 @@
 //! What a domain condition asks of gamma terms.
 
-ghost use Rattle.std.specs.Prelude.{◌≡◌, Bool, IfOk, IfSome, IsTrue, List, None, OnErr};
+ghost use Rattle.std.specs.Prelude.{◌≡◌, Bool, IfOk, IfSome, IsTrue, List, None, OnErr, true};
 ghost use Rattle.store_theory.specs.Bindings.{AddsBuilt, KeepsMarks};
 ghost use Rattle.calculus.specs.Instances as instances;
 ghost use Rattle.store_theory.specs.Stores.{Solution, Solves};
@@ -26,6 +26,9 @@ pub trait Demand {
     // whether spare constants of every domain exist
     ghost common: { Self → Bool };
 
+    // whether it has no equation in any store
+    ghost asks_nothing: { Bool };
+
     /// An equation that the condition forces and that does not hold yet. None is left only where
     /// giving each unbound variable its own spare meets the condition. It may add built cells, and
     /// binds nothing. Want of memory leaves the store as it was.
@@ -38,6 +41,8 @@ pub trait Demand {
         ensures none { IfOk result (λ o. o ≡ None → OwnSparesMeet (common self.old)
             (Asks (holds_for self.old)) store.new.store (the_system system.now)) }
         ensures adds { AddsBuilt store.old.store store.new.store }
+        ensures nothing { asks_nothing ≡ true → store.new.store ≡ store.old.store }
+        ensures no_equation { IfOk result (λ o. asks_nothing ≡ true → o ≡ None) }
         ensures err { OnErr result (store.new.store ≡ store.old.store) }
         ensures marks { KeepsMarks store.old.store store.new.store }
         ensures room { KeepsRoom store.old store.new }

@@ -1,10 +1,10 @@
 -- Labels become lists of marks item by item.
-use Rattle.std.proofs.Common.{◌≡◌, ◌⊎◌, ℕ, zero, suc, ◌+◌, ◌<◌, ◌≤◌, List, [], ◌∷◌, ◌++◌, drop, length, map, take, Bool, true, false, ◌||◌, IsTrue, refl, sym, ◌∙◌, ap, subst, Option, None, Some, slice_get, inl, inr, arith, append_assoc}
+use Rattle.std.proofs.Common.{◌≡◌, ◌⊎◌, ℕ, zero, suc, ◌+◌, ◌<◌, ◌≤◌, List, [], ◌∷◌, ◌++◌, drop, length, map, take, Bool, true, false, ◌||◌, IsTrue, refl, sym, ◌∙◌, ap, subst, Option, None, Some, slice_get, inl, inr, arith, append_assoc, nat_le, le-leb, leb-true}
 use Rattle.std.specs.List.{list_all}
-use Rattle.std.proofs.lemmas.Bool.{false≢true}
+use Rattle.std.proofs.lemmas.Bool.{and_from, and_parts, false≢true}
 use Rattle.calculus.specs.declared.sort.Sort.{Sort}
 use Rattle.calculus.specs.declared.sort.Sort.TheVariants.{TermSort, MarkSort, StringSort}
-use Rattle.store_theory.specs.Bindings.{EndsIn, IsEnd}
+use Rattle.store_theory.specs.Bindings.{EndsIn, IsEnd, NamesFrom}
 use Rattle.store_theory.specs.Patterns.{Grows}
 use Rattle.store_theory.specs.Stores.{Cell, Store, fun_cell, eigen_cell, new_cell, string_cell, variable, parts_of, is_bound, sort_of, has_sort_at, is_store, OccursIn, here, in_part, EndsAt, stays, goes_on, Solution, Solves, join_label, label_at}
 use Rattle.store_theory.specs.Systems.{has_label_sort_at, is_label, IsOpenString}
@@ -104,6 +104,25 @@ all-added s r i c ref items before e end t h =
     map-last the_place items ref ∙ ap (λ xs. xs ++ ref.0 ∷ []) h ∙ append_assoc (map the_place before) (take i (parts_of c)) (ref.0 ∷ []) ∙ ap (λ xs. map the_place before ++ xs) (sym (take-more i (parts_of c) ref.0 at))
 
 -- ---- one item
+
+-- what stands for an item of a label that names cells from the number `base` on
+pub flat-from : (base : ℕ) (s : Store) (label before after ks : List ℕ) (i w : ℕ) → NamesFrom base s → IsTrue (list_all (nat_le base) label) → slice_get label i ≡ Some w → IsFlatItem s w ks → after ≡ before ++ ks → IsTrue (list_all (nat_le base) before) → IsTrue (list_all (nat_le base) after)
+flat-from base s label before after ks i w names h at (v, ends, item) e b = subst (λ xs. IsTrue (list_all (nat_le base) xs)) (sym e) (joined before ks b (by item))
+  where
+    joined : (xs ys : List ℕ) → IsTrue (list_all (nat_le base) xs) → IsTrue (list_all (nat_le base) ys) → IsTrue (list_all (nat_le base) (xs ++ ys))
+    joined [] ys j k = k
+    joined (x ∷ xs) ys j k = let p = and_parts (nat_le base x) (list_all (nat_le base) xs) j in and_from (nat_le base x) (list_all (nat_le base) (xs ++ ys)) p.0 (joined xs ys p.1 k)
+
+    from : (r u : ℕ) → EndsAt s r u → base ≤ r → base ≤ u
+    from r u (stays f g) l = l
+    from r u (goes_on {k = k} {sort = sort} f more) l = from k u more (leb-true base k (and_parts (nat_le base k) true (names r (variable sort (Some k)) l f)).0)
+
+    low : base ≤ v
+    low = from w v ends (leb-true base w (all-at (nat_le base) label i w h at))
+
+    by : (((ks ≡ v ∷ []) × IsTrue (has_sort_at s MarkSort v)) ⊎ IsStringOf s v ks) → IsTrue (list_all (nat_le base) ks)
+    by (inl (f, sort)) = subst (λ xs. IsTrue (list_all (nat_le base) xs)) (sym f) (and_from (nat_le base v) true (le-leb base v low) refl)
+    by (inr f) = names v (string_cell ks) low f
 
 flat-item : (s : Store) (w : ℕ) (ks ws ms : List ℕ) → IsTrue (is_store s) → IsFlatItem s w ks → IsFlat s ws ms → IsFlat s (w ∷ ws) (ks ++ ms)
 flat-item s w ks ws ms h (v, ends, inl (e, sort)) f =

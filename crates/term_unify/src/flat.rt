@@ -1,9 +1,10 @@
 //! Labels as lists of marks.
 
 ghost use Rattle.std.specs.Prelude.{◌≡◌, ◌<◌, ◌++◌, ℕ, List, IfOk, IsTrue, OnOk, Some, false};
-ghost use Rattle.std.specs.Prelude.{length, map, slice_get, true};
+ghost use Rattle.std.specs.Prelude.{length, map, nat_le, slice_get, true};
+ghost use Rattle.std.specs.List.{list_all};
 ghost use Rattle.calculus.specs.declared.sort.Sort.TheVariants.{MarkSort};
-ghost use Rattle.store_theory.specs.Bindings.{IsEnd};
+ghost use Rattle.store_theory.specs.Bindings.{IsEnd, NamesFrom};
 ghost use Rattle.store_theory.specs.Stores.{has_sort_at};
 ghost use Rattle.store_theory.specs.Systems.{has_label_sort_at, is_label};
 ghost use Rattle.search_theory.proofs.GivingLaws.{IsFlat};
@@ -74,6 +75,9 @@ pub fn flat_label(alloc: Global, store: &Store, label: &[Ref]) -> Result<Vec<Ref
     ensures flat { IfOk result (λ marks. IsFlat store.now.store (map the_place label.now)
         (map the_place marks.items)) }
     ensures free { IfOk result (λ marks. HasNoString store.now.store (map the_place marks.items)) }
+    ensures from { IfOk result (λ marks. (base : ℕ) → NamesFrom base store.now.store
+        → IsTrue (list_all (nat_le base) (map the_place label.now))
+        → IsTrue (list_all (nat_le base) (map the_place marks.items))) }
 {
     let _now = store.mark();
     let mut marks = Vec::new(alloc);

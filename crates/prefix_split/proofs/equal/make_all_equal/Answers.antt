@@ -4,14 +4,17 @@ use Rattle.store_theory.specs.Systems.{AreEqual, is_label}
 use Rattle.term_store.specs.RefView.{the_place}
 use Rattle.term_store.specs.SystemView.{the_equation}
 use Rattle.search_theory.specs.Solving.{CannotEqual, IsNarrowed}
-use Rattle.prefix_split.specs.Equated.{equated}
+use Rattle.std.specs.List.{flat_map}
+use Rattle.std.proofs.lemmas.Bool.{false≢true}
+use Rattle.prefix_split.specs.Equated.{equated, equation_cells}
 use Rattle.prefix_split.specs.Later.{HasNoString}
-use Rattle.prefix_split.proofs.EqualLaws.{equation-at, free-later, label-at, made-all, made-next, made-start, never-made}
+use Rattle.prefix_split.proofs.EqualLaws.{equation-at, free-later, label-at, made-all, made-next, made-start, never-made, right-equation}
 use Rattle.prefix_split.proofs.LaterLaws.{later-both}
+use Rattle.prefix_split.proofs.LengthLaws.{right-both}
 use Rattle.prefix_split.proofs.equal.make_all_equal.Goals as goal
 
 pub loop-i-init : goal.loop-i-init
-loop-i-init c = record { made = made-start c.args.store.now.store (map the_equation c.args.equations.now); room = (omega arith, omega arith) }
+loop-i-init c = record { made = made-start c.args.store.now.store (map the_equation c.args.equations.now); right = λ P base l from a. a; room = (omega arith, omega arith) }
 
 pub make_equal-requires-clause-left : goal.make_equal-requires-clause-left
 make_equal-requires-clause-left c = subst (λ xs. IsTrue (is_label c.loop-i.store.store xs)) (sym c.items.ensures) (equation-at c.args.store.now.store c.loop-i.store.store (map the_equation c.args.equations.now) c.loop-i.i (the_equation c.equation_at-e.result.now) c.requires.fits c.loop-i.invariant.made.later c.equation_at-e.ensures).0
@@ -43,6 +46,7 @@ loop-i-preserved c =
     let b = c.make_equal.ensures.room in
     record {
       made = made-next c.args.store.now.store c.loop-i.store.store c.make_equal.new.store.store (map the_equation c.args.equations.now) c.loop-i.i (the_equation c.equation_at-e.result.now) c.requires.fits c.loop-i.invariant.made c.equation_at-e.ensures (subst (λ x. IsNarrowed c.loop-i.store.store c.make_equal.new.store.store (λ σ. AreEqual σ x)) same (c.in_ok-make_equal.ensures.made c.if-not-branch.false)) c.make_equal.ensures.later;
+      right = λ P. right-both P (flat_map equation_cells (map the_equation c.args.equations.now)) c.args.store.now.store c.loop-i.store.store c.make_equal.new.store.store c.loop-i.invariant.made.later.longer (c.loop-i.invariant.right P) (right-equation P (map the_equation c.args.equations.now) c.loop-i.i (the_equation c.equation_at-e.result.now) (map the_place c.items.result.now) (map the_place c.items-in-loop-i.result.now) c.loop-i.store.store c.make_equal.new.store.store c.equation_at-e.ensures c.items.ensures c.items-in-loop-i.ensures (c.in_ok-make_equal.ensures.right c.if-not-branch.false P));
       room = (omega (arith, a, b), omega (arith, a, b));
     }
 
@@ -53,3 +57,9 @@ returns-clause-made c = λ e.
 
 pub returns-clause-later : goal.returns-clause-later
 returns-clause-later c = c.loop-i.invariant.made.later
+
+pub returns-then-not-branch-clause-right : goal.returns-then-not-branch-clause-right
+returns-then-not-branch-clause-right c = λ e. absurd (false≢true e)
+
+pub returns-clause-right : goal.returns-clause-right
+returns-clause-right c = λ e. c.loop-i.invariant.right

@@ -1,4 +1,4 @@
-use Rattle.std.proofs.Common.{IsTrue, map, subst, sym}
+use Rattle.std.proofs.Common.{IsTrue, map, nat_le, subst, sym}
 use Rattle.std.specs.List.{list_all}
 use Rattle.calculus.specs.declared.sort.Sort.TheVariants.{MarkSort}
 use Rattle.store_theory.specs.Stores.{has_sort_at}
@@ -7,6 +7,7 @@ use Rattle.term_store.specs.RefView.{the_place}
 use Rattle.term_unify.proofs.PairLaws.{BindsOnly-same}
 use Rattle.search_theory.proofs.GivingLaws.{NeverSame, SameMarks, equation-made, equation-never}
 use Rattle.prefix_split.specs.Equated.{equated}
+use Rattle.prefix_split.proofs.EqualLaws.{right-flat}
 use Rattle.prefix_split.proofs.LaterLaws.{later-same}
 use Rattle.prefix_split.proofs.equal.make_equal.Goals as goal
 
@@ -40,3 +41,9 @@ returns-in_err-ys-clause-binds c = BindsOnly-same c.args.store.now.store
 
 pub returns-in_err-ys-clause-later : goal.returns-in_err-ys-clause-later
 returns-in_err-ys-clause-later c = later-same c.args.store.now.store
+
+pub returns-clause-right : goal.returns-clause-right
+returns-clause-right c = λ e P. right-flat P c.args.store.now.store c.unify_marks.new.store.store (map the_place c.args.left.now) (map the_place c.args.right.now) (map the_place c.deref.result.now) (map the_place c.deref-2.result.now)
+    (λ base names k. subst (λ xs. IsTrue (list_all (nat_le base) (map the_place xs))) (sym c.deref.ensures.value) (c.in_ok-xs.ensures.from base names k))
+    (λ base names k. subst (λ xs. IsTrue (list_all (nat_le base) (map the_place xs))) (sym c.deref-2.ensures.value) (c.in_ok-ys.ensures.from base names k))
+    (c.in_ok-made.ensures.right e P)

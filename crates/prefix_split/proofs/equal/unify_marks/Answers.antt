@@ -1,10 +1,11 @@
 use Rattle.std.proofs.Common.{arith, map}
+use Rattle.std.proofs.lemmas.Bool.{false≢true}
 use Rattle.std.proofs.lemmas.List.{length-map}
 use Rattle.calculus.specs.declared.sort.Sort.TheVariants.{MarkSort}
 use Rattle.term_store.specs.RefView.{the_place}
 use Rattle.term_unify.proofs.PairLaws.{BindsOnly-same}
 use Rattle.search_theory.proofs.GivingLaws.{never-length}
-use Rattle.prefix_split.proofs.EqualLaws.{AreMarks, binds-next, later-next, mapped-differ, mark-within, never-next, same-all, same-next, same-start}
+use Rattle.prefix_split.proofs.EqualLaws.{AreMarks, binds-next, later-next, mapped-differ, mark-within, never-next, right-next, same-all, same-next, same-start}
 use Rattle.prefix_split.proofs.LaterLaws.{later-same}
 use Rattle.prefix_split.proofs.equal.unify_marks.Goals as goal
 
@@ -18,7 +19,7 @@ pub returns-then-xs-ys-clause-later : goal.returns-then-xs-ys-clause-later
 returns-then-xs-ys-clause-later c = later-same c.args.store.now.store
 
 pub loop-i-init : goal.loop-i-init
-loop-i-init c = record { same = same-start c.args.store.now.store (map the_place c.args.xs.now) (map the_place c.args.ys.now); room = (omega arith, omega arith) }
+loop-i-init c = record { same = same-start c.args.store.now.store (map the_place c.args.xs.now) (map the_place c.args.ys.now); right = λ P base l from a. a; room = (omega arith, omega arith) }
 
 pub unify-requires-clause-left : goal.unify-requires-clause-left
 unify-requires-clause-left c = mark-within c.args.store.now.store c.loop-i.store.store (map the_place c.args.xs.now) c.loop-i.i c.reference_at.result.0 c.requires.left c.loop-i.invariant.same.later c.reference_at.ensures
@@ -58,6 +59,7 @@ loop-i-preserved c =
     let b = c.unify.ensures.room in
     record {
       same = same-next c.args.store.now.store c.loop-i.store.store c.unify.new.store.store (map the_place c.args.xs.now) (map the_place c.args.ys.now) c.loop-i.i c.reference_at.result.0 c.reference_at-in-loop-i.result.0 l r c.loop-i.invariant.same c.reference_at.ensures c.reference_at-in-loop-i.ensures (c.in_ok-unify.ensures.unifies c.if-not-branch.false) c.unify.ensures.binds c.unify.ensures.within c.unify.ensures.marks;
+      right = λ P. right-next P c.args.store.now.store c.loop-i.store.store c.unify.new.store.store (map the_place c.args.xs.now) (map the_place c.args.ys.now) c.loop-i.i c.reference_at.result.0 c.reference_at-in-loop-i.result.0 c.mark-now.ensures.well.fits (c.loop-i.invariant.right P) c.reference_at.ensures c.reference_at-in-loop-i.ensures c.unify.ensures.binds c.unify.ensures.within;
       room = (omega (arith, a, b), omega (arith, a, b));
     }
 
@@ -72,3 +74,12 @@ returns-clause-binds c = c.loop-i.invariant.same.binds
 
 pub returns-clause-later : goal.returns-clause-later
 returns-clause-later c = c.loop-i.invariant.same.later
+
+pub returns-then-xs-ys-clause-right : goal.returns-then-xs-ys-clause-right
+returns-then-xs-ys-clause-right c = λ e. absurd (false≢true e)
+
+pub returns-then-not-branch-clause-right : goal.returns-then-not-branch-clause-right
+returns-then-not-branch-clause-right c = λ e. absurd (false≢true e)
+
+pub returns-clause-right : goal.returns-clause-right
+returns-clause-right c = λ e. c.loop-i.invariant.right

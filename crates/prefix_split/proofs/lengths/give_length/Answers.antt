@@ -18,3 +18,9 @@ returns-clause-given c = given-there c.args.store.now.store c.args.string.0 c.wa
 
 pub returns-clause-cannot : goal.returns-clause-cannot
 returns-clause-cannot c = never-given c.args.store.now.store c.args.string.0 c.walk-end.result.0 c.args.n c.parts.result c.walk-end.ensures.ends (c.is_unbound.ensures.built c.if-is_unbound.false) c.parts.ensures.count
+
+pub returns-then-is_unbound-clause-right : goal.returns-then-is_unbound-clause-right
+returns-then-is_unbound-clause-right c = λ e P step. c.in_ok-bind_length.ensures.right P step
+
+pub returns-clause-right : goal.returns-clause-right
+returns-clause-right c = λ e P step base l from a. a

@@ -1,4 +1,5 @@
-use Rattle.std.proofs.Common.{◌∙◌, ap₂, arith, subst, sym}
+use Rattle.std.proofs.Common.{None, Some, ◌∙◌, ◌≡◌, ap₂, arith, refl, subst, sym}
+use Rattle.std.proofs.lemmas.Bool.{false≢true}
 use Rattle.store_theory.specs.Systems.{AreEqual, IsDemandEquation}
 use Rattle.term_store.specs.Asking.{Asks}
 use Rattle.term_store.specs.SystemView.{the_equation, the_system}
@@ -6,8 +7,11 @@ use Rattle.search_theory.specs.Solving.{CannotEqual, IsNarrowed}
 use Rattle.prefix_split.specs.Equated.{equated}
 use Rattle.prefix_split.specs.Later.{HasNoString}
 use Rattle.prefix_split.proofs.LaterLaws.{later-both}
-use Rattle.prefix_split.proofs.MeetingLaws.{fewer-open, forced-added, meeting-added, meeting-never, meeting-next, open-later, sides-free, system-later}
+use Rattle.prefix_split.proofs.MeetingLaws.{fewer-open, forced-added, meeting-added, meeting-never, meeting-next, meeting-start, open-later, sides-free, system-later}
 use Rattle.prefix_split.proofs.meeting.meet_demand.Goals as goal
+
+pub loop-e-init : goal.loop-e-init
+loop-e-init g c = record { meeting = meeting-start (Asks (g.M.Demand.holds_for c.args.more.now)) (the_system c.args.system.now) c.args.store.now.store; same = refl; same_common = refl; nothing = λ free. refl; room = (omega arith, omega arith) }
 
 pub next-requires-clause-fits : goal.next-requires-clause-fits
 next-requires-clause-fits g c = system-later c.args.store.now.store c.loop-e.store.store (the_system c.args.system.now) c.loop-e.invariant.meeting.later c.requires.fits
@@ -72,6 +76,7 @@ loop-e-preserved g c =
           (subst (λ x. IsNarrowed t c.make_equal.new.store.store (λ σ. AreEqual σ x)) (ap₂ equated c.items.ensures c.items-in-Some.ensures) (c.in_ok-make_equal.ensures.made c.if-not-branch.false)) c.make_equal.ensures.later;
       same = c.next.ensures.same ∙ c.loop-e.invariant.same;
       same_common = c.next.ensures.same_common ∙ c.loop-e.invariant.same_common;
+      nothing = λ free. (let z : Some c.in-Some.e ≡ None = sym c.in-Some.is ∙ c.in_ok-e.ensures.no_equation free in absurd (cc z));
       room = (omega (arith, a, b, k), omega (arith, a, b, k));
     }
 
@@ -80,3 +85,9 @@ returns-clause-forced g c = λ q. forced-added (Asks (g.M.Demand.holds_for c.arg
 
 pub returns-clause-later : goal.returns-clause-later
 returns-clause-later g c = (meeting-added (Asks (g.M.Demand.holds_for c.args.more.now)) (the_system c.args.system.now) c.args.store.now.store c.loop-e.store.store c.next.new.store.store c.loop-e.invariant.meeting c.next.ensures.adds).later
+
+pub returns-clause-nothing : goal.returns-clause-nothing
+returns-clause-nothing g c = λ met free. c.next.ensures.nothing free ∙ c.loop-e.invariant.nothing free
+
+pub returns-then-not-branch-clause-nothing : goal.returns-then-not-branch-clause-nothing
+returns-then-not-branch-clause-nothing g c = λ met. absurd (false≢true met)

@@ -153,7 +153,7 @@ returns-then-found-clause-found g c = λ e.
     (c.in_ok-found.ensures.found c.if-found.true (subst (AreTried c.args.logic (the_system c.args.system.now)) (sym c.deref.ensures.value) h.stands.tried))
 
 pub returns-then-found-clause-back : goal.returns-then-found-clause-back
-returns-then-found-clause-back g c = λ e. back-moved c.args.store.now.store c.loop-unifier.store.store c.try_or_undo.new.store.store c.loop-unifier.invariant.unchanged (c.in_ok-found.ensures.back c.if-found.true)
+returns-then-found-clause-back g c = λ e. back-moved c.args.logic g.M.Demand.asks_nothing (the_system c.args.system.now) c.args.store.now.store c.loop-unifier.store.store c.try_or_undo.new.store.store c.loop-unifier.invariant.unchanged (c.in_ok-found.ensures.back c.if-found.true (subst (AreTried c.args.logic (the_system c.args.system.now)) (sym c.deref.ensures.value) c.loop-unifier.invariant.stands.tried))
 
 pub returns-then-found-clause-counted : goal.returns-then-found-clause-counted
 returns-then-found-clause-counted g c = stands-counted c.args.logic (Asks (g.M.Demand.holds_for c.args.more.now)) c.args.store.now.store (the_system c.args.system.now) c.loop-unifier.lengths.items c.args.ledger.now.used c.loop-unifier.ledger.used c.loop-unifier.ledger.used c.loop-unifier.invariant.stands (omega arith) (omega arith)

@@ -1,8 +1,8 @@
 use Rattle.std.proofs.Common.{◌∙◌, IsTrue, ap, length, subst, sym}
-use Rattle.store_theory.specs.Stores.{Solves}
 use Rattle.store_theory.specs.Systems.{AreTried, NamesItsStrings, is_system}
 use Rattle.term_store.specs.SystemView.{the_system}
 use Rattle.prefix_split.proofs.LengthListLaws.{tried-within}
+use Rattle.prefix_split.proofs.SearchLaws.{back-moved}
 use Rattle.prefix_split.proofs.solving.solve_apart.Goals as goal
 
 pub returns-in_err-tree-clause-marks : goal.returns-in_err-tree-clause-marks
@@ -40,4 +40,6 @@ returns-then-found-clause-found g c = λ e.
     c.in_ok-found.ensures.found c.if-found.true (subst (AreTried c.args.logic (the_system c.args.system.now)) (sym c.deref-2.ensures.value) tried)
 
 pub returns-then-found-clause-back : goal.returns-then-found-clause-back
-returns-then-found-clause-back g c = λ e σ t. subst (λ s. Solves s σ) c.tree_of.ensures.unchanged (c.in_ok-found.ensures.back c.if-found.true σ t)
+returns-then-found-clause-back g c = λ e.
+    let tried = rw c.in-Some.is at c.in_ok-lengths.ensures in
+    back-moved c.args.logic g.M.Demand.asks_nothing (the_system c.args.system.now) c.args.store.now.store c.tree_of.new.store.store c.try_or_undo.new.store.store c.tree_of.ensures.unchanged (c.in_ok-found.ensures.back c.if-found.true (subst (AreTried c.args.logic (the_system c.args.system.now)) (sym c.deref-2.ensures.value) tried))

@@ -34,7 +34,7 @@ returns-in-Some-clause-found g c = λ e.
 pub returns-in-Some-clause-back : goal.returns-in-Some-clause-back
 returns-in-Some-clause-back g c = λ e.
     let back = rw c.in-Some.is at c.in_ok-answer.ensures.back in
-    back-moved c.args.store.now.store c.loop.store.store c.solve_apart.new.store.store c.loop.invariant.unchanged (back e)
+    back-moved c.args.logic g.M.Demand.asks_nothing (the_system c.args.system.now) c.args.store.now.store c.loop.store.store c.solve_apart.new.store.store c.loop.invariant.unchanged (back e)
 
 pub returns-in-Some-clause-none : goal.returns-in-Some-clause-none
 returns-in-Some-clause-none g c = λ e.
