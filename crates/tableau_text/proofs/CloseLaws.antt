@@ -1,7 +1,7 @@
 -- The item of a list that closes.
 use Rattle.std.specs.Prelude.{Vec}
 use Rattle.std.specs.declared.alloc.Global.{Global}
-use Rattle.std.proofs.Common.{◌≡◌, ℕ, List, [], ◌∷◌, ◌++◌, suc, length, map, refl, sym, ◌∙◌, ap, subst}
+use Rattle.std.proofs.Common.{◌≡◌, ℕ, List, [], ◌∷◌, suc, length, map, refl, sym, ◌∙◌, ap, subst}
 use Rattle.calculus.specs.declared.symbol.SymbolClass.TheVariants.{Function}
 use Rattle.calculus.specs.Syntax.{Symbol}
 use Rattle.calculus.specs.Ground.{marks_tree, values_tree}
@@ -19,7 +19,7 @@ use Rattle.formula_core.specs.declared.ground.GroundMark.TheVariants as mark
 use Rattle.formula_core.specs.declared.ground.Value.{Value}
 use Rattle.formula_text.specs.Frames.{IsFunction, NoFunction}
 use Rattle.formula_text.proofs.Frames.{contains-at}
-use Rattle.tableau_text.specs.Items.{Item, a_term, a_mark, of_value, of_args, of_own, of_steps, of_eigen, of_new, of_root, Made}
+use Rattle.tableau_text.specs.Items.{Item, a_term, of_args, of_own, of_steps, of_eigen, of_new, of_root, Made}
 use Rattle.tableau_text.specs.ItemView.{the_item}
 use Rattle.tableau_text.specs.OpenView.{the_head, the_items}
 use Rattle.tableau_text.specs.declared.item.TableItem.TheVariants as item

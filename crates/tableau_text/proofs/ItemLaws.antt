@@ -1,17 +1,12 @@
 -- Items and lists of items: their texts, and that an item is told by its head and its list.
-use Rattle.std.proofs.Common.{◌≡◌, ℕ, suc, List, [], ◌∷◌, ◌++◌, length, Bool, true, false, ◌&&◌, IsTrue, refl, sym, ◌∙◌, ap, subst, append_assoc, Some}
-use Rattle.std.specs.List.{list_all}
-use Rattle.std.proofs.lemmas.Bool.{false≢true, and_parts, and_from}
+use Rattle.std.proofs.Common.{◌≡◌, ℕ, suc, List, [], ◌∷◌, ◌++◌, length, ◌&&◌, IsTrue, refl, sym, ◌∙◌, ap, append_assoc}
 use Rattle.calculus.specs.Syntax.{Symbol}
 use Rattle.calculus.specs.Problems.{are_distinct}
-use Rattle.calculus.specs.Skolem.{has_function}
 use Rattle.calculus.specs.declared.symbol.SymbolClass.TheVariants.{Function}
 use Rattle.calculus.specs.Ground.{GroundTerm, GroundTerms, GroundMark, Marks, Value, Values, g_fun, g_eigen, own, no_g_terms, more_g_terms, g_new_mark, no_marks, more_marks, term, steps, no_values, more_values, g_terms_list}
 use Rattle.calculus.specs.TableauText.{ground_text, ground_args_text, more_ground_args_text, marks_text, more_marks_text, values_text, more_values_text, grounds_are_written, marks_are_written, values_are_written}
 use Rattle.calculus.proofs.TermTextLaws.{same-symbol}
-use Rattle.formula_text.specs.Frames.{IsFunction}
-use Rattle.formula_text.proofs.Frames.{function-has, function-text}
-use Rattle.tableau_text.specs.Items.{Item, a_term, a_mark, a_string, all_values, of_value, of_terms, of_marks, of_values, item_text, item_is_written, are_written_items, tail_text, front_text, list_text, Head, of_args, of_own, of_steps, of_eigen, of_new, of_root, opening, closing, head_text, head_is_written, may_be_empty, fits, is_a_term, is_a_mark, is_a_value, Made}
+use Rattle.tableau_text.specs.Items.{Item, a_term, a_mark, a_string, all_values, of_value, of_terms, of_marks, of_values, item_text, item_is_written, are_written_items, tail_text, front_text, list_text, Head, of_args, of_own, of_steps, of_eigen, of_new, of_root, Made}
 
 -- ---- the texts of lists
 

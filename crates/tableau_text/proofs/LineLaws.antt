@@ -1,9 +1,8 @@
 -- Reading lines into a table that grows, and how many there are.
-use Rattle.std.proofs.Common.{◌≡◌, ℕ, zero, suc, ◌+◌, ◌≤◌, ◌<◌, ◌^◌, List, [], ◌∷◌, ◌++◌, length, map, drop, Bool, true, false, IsTrue, Result, Err, refl, sym, ◌∙◌, ap, subst, append_assoc, append-nil, arith, length-append, flat_map, codes}
+use Rattle.std.proofs.Common.{◌≡◌, ℕ, suc, ◌+◌, ◌≤◌, List, [], ◌∷◌, ◌++◌, length, map, drop, Bool, true, false, refl, sym, ◌∙◌, ap, subst, arith, length-append, flat_map}
 use Rattle.std.specs.List.{AllByRecursion}
 use Rattle.calculus.specs.declared.fault.TableauFault.{TableauFault}
-use Rattle.calculus.specs.Syntax.{Symbol, Problem}
-use Rattle.calculus.specs.Problems.{is_problem}
+use Rattle.calculus.specs.Syntax.{Problem}
 use Rattle.calculus.specs.DerivationText.{line_bytes}
 use Rattle.calculus.specs.TableauText as tree
 use Rattle.calculus.specs.TableauText.{IsWrongTableauText, tableau_rejected, tableau_head}
@@ -11,9 +10,9 @@ use Rattle.formula_core.specs.GroundLists.{GroundList, AreNormalValues, IsGrown}
 use Rattle.formula_core.specs.declared.ground.Values.{Values}
 use Rattle.formula_core.specs.declared.ground.GroundMark.TheVariants as mark
 use Rattle.formula_core.proofs.GrownLaws.{values-grown, mark-normal-grown}
-use Rattle.text_lines.specs.Lines.{AreRead, IsLineAt}
+use Rattle.text_lines.specs.Lines.{IsLineAt}
 use Rattle.tableau_text.specs.MovesView.{IsNormalMove, the_chosen, the_move}
-use Rattle.tableau_text.specs.MoveLines.{Line, of_start, of_move, last, line_text, body_to, IsReadTo, with_move}
+use Rattle.tableau_text.specs.MoveLines.{of_move, last, line_text, body_to, IsReadTo, with_move}
 use Rattle.tableau_text.specs.Reading.{IsLineRead, moves_by}
 use Rattle.tableau_text.specs.declared.moves.Chosen.{Chosen}
 use Rattle.tableau_text.specs.declared.moves.Move.{Move}

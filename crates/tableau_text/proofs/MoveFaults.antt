@@ -1,8 +1,8 @@
 -- Reading the text of a tableau line by line, and where it is wrong first.
-use Rattle.std.proofs.Common.{◌≡◌, ℕ, suc, ◌+◌, ◌≤◌, List, [], ◌∷◌, ◌++◌, length, map, take, drop, Bool, true, false, ◌&&◌, IsTrue, Option, None, Some, refl, sym, ◌∙◌, ap, subst, append_assoc, append-nil, flat_map, codes, decimal, if◌then◌else◌, arith}
+use Rattle.std.proofs.Common.{◌≡◌, ℕ, ◌+◌, List, [], ◌∷◌, ◌++◌, length, map, take, drop, Bool, true, false, ◌&&◌, IsTrue, None, Some, refl, sym, ◌∙◌, ap, subst, append_assoc, append-nil, flat_map, codes, if◌then◌else◌}
 use Rattle.std.specs.List.{list_all, list_any}
 use Rattle.std.proofs.Math.Seq.{take-append_seam}
-use Rattle.std.proofs.lemmas.Bool.{and_from, and_parts, true≢false}
+use Rattle.std.proofs.lemmas.Bool.{and_from, and_parts}
 use Rattle.std.proofs.lemmas.List.Folds.{list_all-append}
 use Rattle.calculus.specs.declared.fault.TableauFault.{TableauFault}
 use Rattle.calculus.specs.declared.fault.TableauFault.TheVariants as fault
@@ -10,17 +10,16 @@ use Rattle.calculus.specs.Syntax.{Symbol, Problem}
 use Rattle.calculus.specs.Problems.{is_problem}
 use Rattle.calculus.specs.DerivationText.{is_limit, line_bytes}
 use Rattle.calculus.specs.Judgement.{is_end_line, whole_lines}
-use Rattle.calculus.specs.TableauText.{Chosen, Move, reduction, extension, Moves, chosen_text, move_line, chosen_is_written, move_is_written, are_written, tableau_head, moves_lines, moves_text, IsMovesText, IsMovesUpTo, IsMovesRight, IsMovesFaulty, tableau_cause_after, tableau_cause_at, tableau_rejected, IsWrongTableauText}
+use Rattle.calculus.specs.TableauText.{Chosen, Move, reduction, extension, Moves, chosen_text, move_line, chosen_is_written, move_is_written, are_written, tableau_head, moves_lines, IsMovesText, IsMovesUpTo, IsMovesFaulty, tableau_cause_after, tableau_cause_at, tableau_rejected, IsWrongTableauText}
 use Rattle.text_lines.specs.Head.{IsHeadFault, IsHeadRead, formula_line, limit_line, setting_line}
 use Rattle.text_lines.specs.Lines.{AreRead, IsLineAt}
-use Rattle.text_lines.specs.declared.head_line.HeadLine.{HeadLine}
 use Rattle.text_lines.specs.declared.head_line.HeadLine.TheVariants.{First, Setting, Formula, Limit}
 use Rattle.text_lines.proofs.FirstWrong.{IsBegun, IsFirstWrong, IsRightUpTo, first-wrong}
-use Rattle.text_lines.proofs.StagedLines.{AreReadTo, IsKind, Kind, Has, run, run-append, Spells, wrong-line, wrong-end}
+use Rattle.text_lines.proofs.StagedLines.{AreReadTo, Has, run, wrong-line, wrong-end}
 use Rattle.text_lines.proofs.WholeLines.{more-read}
 use Rattle.tableau_text.specs.MoveLines.{Line, of_start, of_move, last, line_text, line_is_written, Stage, starting, moving, ended, stage_after, body_to, fault_at, IsReadTo, with_move, IsChosenText, IsMoveLine}
 use Rattle.tableau_text.proofs.MoveFeeds.{moves-feed, written-moves}
-use Rattle.tableau_text.proofs.MoveKinds.{the_kind, is-kind, map-moves}
+use Rattle.tableau_text.proofs.MoveKinds.{the_kind, is-kind}
 
 -- ---- what is wrong first
 

@@ -1,16 +1,16 @@
 -- No line of the text of a tableau has a line feed in it.
-use Rattle.std.proofs.Common.{◌≡◌, ℕ, zero, suc, List, [], ◌∷◌, ◌++◌, length, map, Bool, true, ◌&&◌, IsTrue, refl, sym, ◌∙◌, ap, subst, codes, decimal}
+use Rattle.std.proofs.Common.{◌≡◌, ℕ, zero, suc, List, [], ◌∷◌, ◌++◌, length, map, true, ◌&&◌, IsTrue, refl, sym, ◌∙◌, ap, subst, codes, decimal}
 use Rattle.std.specs.List.{list_all}
 use Rattle.std.proofs.lemmas.Bool.{and_from, and_parts}
 use Rattle.std.proofs.lemmas.List.Folds.{list_all-append}
 use Rattle.calculus.specs.declared.sign.Side.{Side}
 use Rattle.calculus.specs.declared.sign.Side.TheVariants.{Left, Right}
-use Rattle.calculus.specs.Syntax.{Symbol, Term, Terms, fun, spare, no_terms, more_terms, arity_of, Problem}
+use Rattle.calculus.specs.Syntax.{Symbol, Terms, fun, spare, no_terms, more_terms, arity_of, Problem}
 use Rattle.calculus.specs.Problems.{is_problem, symbol_fits}
 use Rattle.calculus.specs.Skolem.{has_function}
 use Rattle.calculus.specs.Ground.{GroundTerm, GroundTerms, GroundMark, Marks, Value, Values, g_fun, g_eigen, common, own, no_g_terms, more_g_terms, g_new_mark, g_spare_mark, no_marks, more_marks, term, steps, no_values, more_values, values_tree, g_terms_list}
 use Rattle.calculus.specs.DerivationText.{is_limit, terms_are_written}
-use Rattle.calculus.specs.Text.{args_text, is_number, symbol_at, term_text}
+use Rattle.calculus.specs.Text.{args_text, is_number, symbol_at}
 use Rattle.calculus.specs.TableauText.{ground_text, ground_args_text, more_ground_args_text, ground_mark_text, marks_text, more_marks_text, value_text, values_text, more_values_text, ground_is_written, grounds_are_written, ground_mark_is_written, marks_are_written, value_is_written, values_are_written, Chosen, Move, reduction, extension, Moves, side_text, sides_text, chosen_text, move_line, chosen_is_written, move_is_written, are_written, tableau_head, moves_lines}
 use Rattle.logic_rules.proofs.ProblemFacts.{kept}
 use Rattle.text_lines.proofs.LineFeeds.{AreNoFeeds, NoFeed, head-feed, is_no_feed, join, lines-join, lines-map, small-feed, term-feed}

@@ -1,16 +1,15 @@
 -- The text of a tableau as a text of staged lines.
-use Rattle.std.proofs.Common.{◌≡◌, ℕ, suc, ◌+◌, ◌≤◌, List, [], ◌∷◌, ◌++◌, length, map, Bool, true, false, ◌&&◌, IsTrue, Option, None, Some, refl, sym, ◌∙◌, ap, subst, append_assoc, append-nil, flat_map, codes, decimal}
+use Rattle.std.proofs.Common.{◌≡◌, ℕ, List, [], ◌∷◌, ◌++◌, map, true, IsTrue, Some, refl, sym, ◌∙◌, ap, append_assoc, flat_map, codes}
 use Rattle.std.specs.List.{list_all}
-use Rattle.std.proofs.lemmas.Bool.{and_from, and_parts, true≢false}
-use Rattle.std.proofs.lemmas.List.Folds.{list_all-append}
+use Rattle.std.proofs.lemmas.Bool.{and_from, and_parts}
 use Rattle.calculus.specs.Syntax.{Symbol, Problem}
 use Rattle.calculus.specs.Problems.{are_distinct, is_problem}
-use Rattle.calculus.specs.TableauText.{Chosen, Move, reduction, extension, Moves, chosen_text, move_line, chosen_is_written, move_is_written, are_written, tableau_head, moves_lines, moves_text, IsMovesText}
+use Rattle.calculus.specs.TableauText.{Chosen, Move, reduction, extension, Moves, chosen_text, move_line, chosen_is_written, move_is_written, are_written, tableau_head, moves_lines, moves_text}
 use Rattle.calculus.specs.DerivationText.{line_bytes}
 use Rattle.calculus.proofs.DerivationTextLaws.{clash}
 use Rattle.calculus.proofs.TableauTextUnique.{moves-unique}
 use Rattle.logic_rules.proofs.ProblemFacts.{kept}
-use Rattle.text_lines.proofs.StagedLines.{IsKind, Kind, Has, run}
+use Rattle.text_lines.proofs.StagedLines.{IsKind, Kind, run}
 use Rattle.tableau_text.specs.MoveLines.{Line, of_start, of_move, last, line_text, line_is_written, Stage, starting, moving, ended, stage_after, body_to}
 use Rattle.tableau_text.proofs.MoveFeeds.{moves-feed, written-moves}
 

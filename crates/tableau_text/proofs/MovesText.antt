@@ -1,11 +1,11 @@
 -- The text of moves, written piece by piece.
-use Rattle.std.proofs.Common.{◌≡◌, ℕ, zero, suc, ◌<◌, List, [], ◌∷◌, ◌++◌, map, length, get_or, Bool, ◌&&◌, IsTrue, refl, sym, ◌∙◌, ap, subst, append_assoc, append-nil, flat_map, codes, decimal, arith}
+use Rattle.std.proofs.Common.{◌≡◌, ℕ, zero, suc, ◌<◌, List, [], ◌∷◌, ◌++◌, map, length, get_or, Bool, ◌&&◌, IsTrue, refl, sym, ◌∙◌, ap, subst, append_assoc, flat_map, codes, arith}
 use Rattle.std.specs.List.{list_all}
 use Rattle.std.proofs.lemmas.Bool.{and_parts}
 use Rattle.calculus.specs.Syntax.{Symbol, Problem}
 use Rattle.calculus.specs.Ground.{Value, values_tree}
 use Rattle.calculus.specs.DerivationText.{line_bytes}
-use Rattle.calculus.specs.TableauText.{Chosen, Move, Moves, chosen_is_written, chosen_text, move_line, moves_lines, moves_text, sides_text, tableau_head, value_is_written, values_are_written, values_text, are_written, IsMovesText}
+use Rattle.calculus.specs.TableauText.{Chosen, Move, Moves, chosen_text, move_line, moves_text, sides_text, tableau_head, value_is_written, values_are_written, values_text, are_written, IsMovesText}
 
 -- what holds of each item of a list that contracts see through a view holds of the view of each item
 pub all-item : {X Y : Type 0} (f : X → Y) (p : Y → Bool) (xs : List X) (k : ℕ) (x d : X) → k < length xs → x ≡ get_or xs k d → IsTrue (list_all p (map f xs)) → IsTrue (p (f x))

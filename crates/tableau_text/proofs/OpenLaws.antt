@@ -1,20 +1,15 @@
 -- Open lists: a stack of them, items that are put in them, and tables that grow meanwhile.
-use Rattle.std.proofs.Common.{◌≡◌, ℕ, List, [], ◌∷◌, ◌++◌, length, map, Bool, false, true, IsTrue, refl, sym, ◌∙◌, ap, subst, append_assoc, append-nil}
+use Rattle.std.proofs.Common.{◌≡◌, List, [], ◌∷◌, ◌++◌, map, refl, sym, ◌∙◌, ap, subst}
 use Rattle.std.specs.List.{AllByRecursion}
-use Rattle.calculus.specs.Syntax.{Symbol}
 use Rattle.calculus.specs.Ground as tree
 use Rattle.calculus.specs.Ground.{marks_tree, values_tree}
 use Rattle.calculus.specs.Lists.{g_terms_tree}
-use Rattle.formula_core.specs.GroundLists.{GroundList, the_terms, the_marks, the_values, the_g_term, the_mark, the_value, IsNormalTerm, IsNormalMark, IsNormalValue, AreNormalTerms, AreNormalMarks, AreNormalValues, IsGrown, no_list, list_at}
-use Rattle.formula_core.specs.declared.ground.GroundTerms.{GroundTerms}
-use Rattle.formula_core.specs.declared.ground.GroundLabel.{GroundLabel}
-use Rattle.formula_core.specs.declared.ground.Values.{Values}
+use Rattle.formula_core.specs.GroundLists.{GroundList, the_g_term, the_mark, the_value, IsNormalTerm, IsNormalMark, IsNormalValue, IsGrown}
 use Rattle.formula_core.specs.declared.ground.GroundTerm.{GroundTerm}
 use Rattle.formula_core.specs.declared.ground.GroundMark.{GroundMark}
 use Rattle.formula_core.specs.declared.ground.Value.{Value}
-use Rattle.formula_core.specs.declared.ground.Value.TheVariants as value
 use Rattle.formula_core.proofs.GrownLaws.{marks-grown, values-grown, term-grown, mark-grown, value-grown, term-normal-grown, mark-normal-grown, value-normal-grown}
-use Rattle.tableau_text.specs.Items.{Item, a_term, a_mark, a_string, all_values, of_value, of_terms, of_marks, of_values, Head, of_args, of_own, of_steps, of_eigen, of_new, of_root, Frame, fits}
+use Rattle.tableau_text.specs.Items.{a_term, a_mark, a_string, all_values, of_value, of_terms, of_marks, of_values, Frame}
 use Rattle.tableau_text.specs.ItemView.{the_item, IsNormalItem}
 use Rattle.tableau_text.specs.OpenView.{the_head, the_items, IsNormalList, the_frame, frames_over, frames, AreNormalLists}
 use Rattle.tableau_text.specs.declared.item.TableItem.{TableItem}

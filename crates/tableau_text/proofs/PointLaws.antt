@@ -1,19 +1,19 @@
 -- How the reading of a list of values goes on.
-use Rattle.std.proofs.Common.{◌≡◌, ℕ, List, [], ◌∷◌, ◌++◌, length, Bool, true, false, ◌||◌, ◌==◌, ◌&&◌, IsTrue, refl, sym, ◌∙◌, ap, subst, append_assoc, append-nil, codes, decimal}
+use Rattle.std.proofs.Common.{◌≡◌, ℕ, List, [], ◌∷◌, ◌++◌, length, true, false, ◌==◌, IsTrue, refl, sym, ◌∙◌, ap, subst, append_assoc, append-nil}
 use Rattle.std.specs.List.{list_all}
 use Rattle.std.proofs.lemmas.Bool.{true≢false, false≢true, and_parts, and_from}
 use Rattle.std.proofs.lemmas.List.Folds.{list_all-append}
 use Rattle.calculus.specs.Syntax.{Symbol}
 use Rattle.calculus.specs.Skolem.{has_function}
 use Rattle.calculus.specs.Problems.{are_distinct, symbol_fits}
-use Rattle.calculus.specs.Ground.{GroundTerm, GroundTerms, GroundMark, Marks, Value, Values, g_fun, g_eigen, own, no_g_terms, more_g_terms, g_new_mark, no_marks, more_marks, term, steps, no_values, more_values, g_terms_list}
-use Rattle.calculus.specs.Text.{StopsAt, is_lower, is_lower_word, is_word_byte, name_text, escaped, symbol_at}
-use Rattle.calculus.specs.TableauText.{ground_args_text, marks_text, values_text, grounds_are_written, values_are_written}
-use Rattle.calculus.proofs.TextLaws.{cons-head, cons-tail, nil-cons}
+use Rattle.calculus.specs.Ground.{GroundTerms, Marks, Values, no_g_terms, more_g_terms, no_marks, more_marks, term, steps, no_values, more_values, g_terms_list}
+use Rattle.calculus.specs.Text.{name_text, symbol_at}
+use Rattle.calculus.specs.TableauText.{ground_args_text, values_text, grounds_are_written, values_are_written}
+use Rattle.calculus.proofs.TextLaws.{cons-head, cons-tail}
 use Rattle.formula_text.proofs.Frames.{function-has, function-text}
-use Rattle.tableau_text.specs.Items.{Item, a_term, a_mark, a_string, all_values, of_value, of_terms, of_marks, of_values, item_text, item_is_written, are_written_items, tail_text, front_text, list_text, Head, of_args, of_own, of_steps, of_eigen, of_new, of_root, opening, closing, head_text, head_is_written, may_be_empty, fits, is_a_term, is_a_mark, is_a_value, Made, Frame, with_item, frame_text, frame_is_written, before, Behind, Ahead}
-use Rattle.tableau_text.specs.Tokens.{Follows, IsItemOn, IsListOn, Beginning, whole, opened, IsBeginning, NoItem}
-use Rattle.tableau_text.specs.Points.{Point, ahead, behind, inside, point_text, point_is_written, is_good, IsRightAt, Leads, NoneFrom}
+use Rattle.tableau_text.specs.Items.{Item, a_term, a_mark, a_string, all_values, of_terms, of_marks, of_values, item_text, item_is_written, are_written_items, tail_text, front_text, list_text, Head, of_args, of_own, of_steps, of_eigen, of_new, of_root, opening, closing, head_text, head_is_written, may_be_empty, fits, is_a_term, is_a_mark, is_a_value, Made, Frame, with_item, frame_text, frame_is_written, before, Behind, Ahead}
+use Rattle.tableau_text.specs.Tokens.{Follows, IsItemOn, whole, opened, IsBeginning, NoItem}
+use Rattle.tableau_text.specs.Points.{Point, ahead, behind, inside, is_good, IsRightAt, Leads, NoneFrom}
 use Rattle.tableau_text.proofs.ItemLaws.{args-list, marks-list, values-list, terms-written, marks-written, values-written, terms-length, list-last, front-last, made-one}
 use Rattle.tableau_text.proofs.TokenLaws.{no-item-before}
 

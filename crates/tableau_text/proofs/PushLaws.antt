@@ -10,7 +10,7 @@ use Rattle.formula_core.specs.declared.ground.GroundTerm.{GroundTerm}
 use Rattle.formula_core.specs.declared.ground.GroundMark.{GroundMark}
 use Rattle.formula_core.specs.declared.ground.Value.{Value}
 use Rattle.formula_core.specs.declared.ground.Value.TheVariants as value
-use Rattle.tableau_text.specs.OpenView.{IsPushed, NoPush}
+use Rattle.tableau_text.specs.OpenView.{IsPushed}
 use Rattle.tableau_text.specs.declared.item.TableItem.TheVariants as item
 use Rattle.tableau_text.specs.declared.open_list.OpenList.TheVariants as lists
 use Rattle.tableau_text.proofs.OpenLaws.{all-last, map-last}

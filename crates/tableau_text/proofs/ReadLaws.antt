@@ -1,5 +1,5 @@
 -- What the reader of a text tells.
-use Rattle.std.proofs.Common.{◌≡◌, ℕ, zero, suc, ◌+◌, ◌≤◌, List, [], ◌∷◌, ◌++◌, length, map, drop, Bool, true, false, IsTrue, Result, Err, refl, sym, ◌∙◌, ap, subst, codes, arith}
+use Rattle.std.proofs.Common.{◌≡◌, ℕ, zero, suc, ◌+◌, ◌≤◌, List, [], ◌∷◌, ◌++◌, length, drop, Bool, true, false, IsTrue, Result, Err, refl, sym, ◌∙◌, ap, subst, codes, arith}
 use Rattle.calculus.specs.declared.fault.TableauFault.{TableauFault}
 use Rattle.calculus.specs.declared.fault.TableauFault.TheVariants as fault
 use Rattle.calculus.specs.Syntax.{Symbol, Problem}
@@ -10,7 +10,6 @@ use Rattle.calculus.proofs.DerivationTextLaws.{cancel}
 use Rattle.formula_core.specs.GroundLists.{GroundList, IsGrown}
 use Rattle.formula_text.specs.declared.read.TextRead.{TextRead}
 use Rattle.formula_text.specs.declared.read.TextRead.TheVariants.{None}
-use Rattle.text_lines.specs.Head.{IsHeadRead}
 use Rattle.text_lines.specs.Lines.{IsLineAt}
 use Rattle.tableau_text.specs.MoveLines.{IsChosenText, fault_at}
 use Rattle.tableau_text.specs.Reading.{IsLineRead, NoLine, moves_by}
@@ -19,7 +18,7 @@ use Rattle.tableau_text.specs.declared.fault.ReadFault.TheVariants.{Wrong}
 use Rattle.tableau_text.specs.declared.moves.Chosen.{Chosen as GivenChosen}
 use Rattle.tableau_text.specs.declared.moves.Move.{Move}
 use Rattle.tableau_text.proofs.LineLaws.{IsReadBy, few-lines, line-step, told}
-use Rattle.tableau_text.proofs.MoveFaults.{all-read, fault-after, fault-end, fault-move, fault-no_start, fault-start, lines_read}
+use Rattle.tableau_text.proofs.MoveFaults.{all-read, fault-after, fault-end, fault-move}
 
 pub told-wrong : {A : Type 0} (P : Problem) (bytes : List ℕ) (m line : ℕ) (c why : TableauFault) → ◌≡◌ {A = Result A ReadFault} (Err (Wrong m c)) (Err (Wrong line why)) → IsWrongTableauText P bytes (tableau_rejected m c) → IsWrongTableauText P bytes (tableau_rejected line why)
 told-wrong P bytes m line c why e h =

@@ -1,12 +1,12 @@
 -- The parts of the lines behind the head.
-use Rattle.std.proofs.Common.{◌≡◌, ℕ, suc, List, [], ◌∷◌, ◌++◌, length, map, Bool, true, false, ◌&&◌, ◌==◌, ◌⊎◌, inl, inr, IsTrue, refl, sym, ◌∙◌, ap, subst, append_assoc, append-nil, codes, decimal, arith, eqb-true}
+use Rattle.std.proofs.Common.{◌≡◌, ℕ, suc, List, [], ◌∷◌, ◌++◌, length, map, Bool, true, false, ◌&&◌, ◌==◌, ◌⊎◌, inl, inr, refl, sym, ◌∙◌, ap, append_assoc, codes, decimal, arith, eqb-true}
 use Rattle.std.specs.List.{list_all}
 use Rattle.std.proofs.lemmas.Bool.{and_from, and_parts, true≢false}
 use Rattle.calculus.specs.declared.sign.Side.{Side}
 use Rattle.calculus.specs.declared.sign.Side.TheVariants.{Left, Right}
 use Rattle.calculus.specs.Syntax.{Symbol}
-use Rattle.calculus.specs.Ground.{Value, values_tree, values_list}
-use Rattle.calculus.specs.Text.{is_number, StopsAt, is_digit}
+use Rattle.calculus.specs.Ground.{Value, values_tree}
+use Rattle.calculus.specs.Text.{is_number}
 use Rattle.calculus.specs.TableauText.{Chosen, Move, reduction, extension, side_text, sides_text, chosen_text, move_line, chosen_is_written, value_is_written, values_are_written, values_text}
 use Rattle.calculus.proofs.TextLaws.{cons-head, cons-tail, decimal-split}
 use Rattle.calculus.proofs.TermTextLaws.{small-number}

@@ -1,7 +1,7 @@
 -- The steps of reading a list of values, by the lists that the program keeps.
 use Rattle.std.specs.Prelude.{Vec}
 use Rattle.std.specs.declared.alloc.Global.{Global}
-use Rattle.std.proofs.Common.{◌≡◌, ℕ, suc, ◌≤◌, ◌<◌, List, [], ◌∷◌, ◌++◌, length, map, Bool, true, false, IsTrue, refl, sym, ◌∙◌, ap, subst, arith}
+use Rattle.std.proofs.Common.{◌≡◌, ℕ, ◌≤◌, List, [], ◌∷◌, ◌++◌, length, map, IsTrue, refl, sym, ◌∙◌, ap, subst, arith}
 use Rattle.std.specs.List.{AllByRecursion, list_all}
 use Rattle.calculus.specs.Syntax.{Symbol}
 use Rattle.calculus.specs.Problems.{are_distinct, symbol_fits}
@@ -18,7 +18,7 @@ use Rattle.formula_core.specs.declared.ground.Value.{Value}
 use Rattle.formula_core.proofs.EntryLaws.{empty-terms}
 use Rattle.formula_core.proofs.GrownLaws.{grown-both}
 use Rattle.formula_text.specs.Frames.{IsFunction}
-use Rattle.tableau_text.specs.Items.{Item, a_term, Head, closing, may_be_empty, fits, Made, Frame, with_item}
+use Rattle.tableau_text.specs.Items.{Item, a_term, closing, may_be_empty, Made, with_item}
 use Rattle.tableau_text.specs.Tokens.{IsBegunAt, by_name, whole}
 use Rattle.tableau_text.specs.Points.{Point, ahead, behind, inside, Leads, NoneFrom}
 use Rattle.tableau_text.specs.ItemView.{the_item, IsNormalItem}

@@ -1,21 +1,20 @@
 -- How items begin: each has one token, and what follows the token tells how it goes on.
-use Rattle.std.proofs.Common.{◌≡◌, ℕ, zero, suc, List, [], ◌∷◌, ◌++◌, length, Bool, true, false, ◌||◌, ◌==◌, ◌&&◌, ◌⊎◌, IsTrue, Some, refl, sym, ◌∙◌, ap, subst, append_assoc, slice_get, codes, decimal, flat_map, if◌then◌else◌, inl, inr}
+use Rattle.std.proofs.Common.{◌≡◌, ℕ, zero, suc, List, [], ◌∷◌, ◌++◌, length, Bool, true, false, ◌==◌, ◌⊎◌, IsTrue, Some, refl, sym, ◌∙◌, ap, subst, append_assoc, slice_get, codes, decimal, flat_map, if◌then◌else◌, inl, inr}
 use Rattle.std.specs.List.{list_all}
-use Rattle.std.specs.Prelude.{Contains}
 use Rattle.std.proofs.lemmas.Bool.{true≢false, false≢true, and_parts, and_from}
 use Rattle.calculus.specs.declared.symbol.SymbolClass.TheVariants.{Function}
 use Rattle.calculus.specs.Syntax.{Symbol}
 use Rattle.calculus.specs.Skolem.{has_function}
-use Rattle.calculus.specs.Problems.{are_distinct, is_name, symbol_fits}
-use Rattle.calculus.specs.Ground.{GroundTerm, GroundTerms, GroundMark, Marks, Value, Values, g_fun, g_eigen, common, own, no_g_terms, more_g_terms, g_new_mark, g_spare_mark, no_marks, more_marks, no_values, more_values, g_terms_list}
+use Rattle.calculus.specs.Problems.{are_distinct, symbol_fits}
+use Rattle.calculus.specs.Ground.{GroundTerms, Marks, Values, g_fun, g_eigen, common, own, no_g_terms, more_g_terms, g_new_mark, g_spare_mark, no_marks, more_marks, no_values, more_values, g_terms_list}
 use Rattle.calculus.specs.Text.{StopsAt, is_digit, is_lower, is_lower_word, is_number, is_word_byte, name_text, escaped}
-use Rattle.calculus.specs.TableauText.{ground_args_text, marks_text, values_text, ground_text, ground_is_written, grounds_are_written, ground_mark_text, marks_are_written, values_are_written}
-use Rattle.calculus.proofs.TextLaws.{cons-head, cons-tail, nil-cons, decimal-split, name-split, name-dollar}
+use Rattle.calculus.specs.TableauText.{ground_args_text, marks_text, values_text, grounds_are_written, marks_are_written, values_are_written}
+use Rattle.calculus.proofs.TextLaws.{cons-head, cons-tail, decimal-split, name-split, name-dollar}
 use Rattle.calculus.proofs.TermTextLaws.{same-symbol, small-number}
 use Rattle.calculus.proofs.DerivationTextLaws.{clash, cancel}
 use Rattle.formula_text.specs.Frames.{IsFunction, NoFunction}
 use Rattle.formula_text.proofs.Frames.{contains-at, function-has, function-text, named}
-use Rattle.tableau_text.specs.Items.{Item, a_term, a_mark, a_string, all_values, of_terms, of_marks, of_values, item_text, item_is_written, are_written_items, list_text, closing, Head, of_args, of_own, of_steps, of_eigen, of_new, of_root}
+use Rattle.tableau_text.specs.Items.{Item, a_term, a_mark, a_string, all_values, of_terms, of_marks, of_values, are_written_items, closing, Head, of_args, of_own, of_steps, of_eigen, of_new, of_root}
 use Rattle.tableau_text.specs.Tokens.{Token, by_name, by_number, by_bracket, kind_text, IsToken, Follows, IsItemOn, IsListOn, whole, opened, IsBegunAt, NoneAt, NoItem}
 use Rattle.tableau_text.specs.declared.token.NameKind.{NameKind}
 use Rattle.tableau_text.specs.declared.token.NameKind.TheVariants.{Eigen, New, Constant, Spare}

@@ -1,5 +1,5 @@
 -- The steps of reading a token.
-use Rattle.std.proofs.Common.{◌≡◌, ℕ, suc, ◌+◌, ◌<◌, ◌≤◌, List, [], ◌∷◌, ◌++◌, length, drop, Bool, true, false, IsTrue, refl, sym, ◌∙◌, ap, subst, codes, decimal, arith, length-append, flat_map, if◌then◌else◌}
+use Rattle.std.proofs.Common.{◌≡◌, ℕ, ◌+◌, ◌<◌, List, [], ◌∷◌, ◌++◌, length, drop, Bool, true, false, IsTrue, refl, sym, ◌∙◌, ap, subst, codes, decimal, arith, length-append, flat_map, if◌then◌else◌}
 use Rattle.std.proofs.lemmas.Bool.{true≢false}
 use Rattle.calculus.specs.DerivationText.{IsNameAt}
 use Rattle.calculus.specs.Problems.{is_name}

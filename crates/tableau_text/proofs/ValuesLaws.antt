@@ -1,15 +1,14 @@
 -- A list of values that is the whole text.
-use Rattle.std.proofs.Common.{◌≡◌, ℕ, List, [], ◌∷◌, ◌++◌, IsTrue, refl, sym, ◌∙◌, ap, subst}
+use Rattle.std.proofs.Common.{◌≡◌, ℕ, List, [], ◌∷◌, sym, ◌∙◌, ap, subst}
 use Rattle.calculus.specs.Syntax.{Symbol}
 use Rattle.calculus.specs.Ground as tree
 use Rattle.calculus.specs.Ground.{no_values, more_values, values_tree}
-use Rattle.calculus.specs.TableauText.{values_are_written, values_text}
 use Rattle.formula_core.specs.GroundLists.{GroundList, the_values, AreNormalValues}
 use Rattle.formula_core.specs.declared.ground.Values.{Values}
 use Rattle.formula_core.specs.declared.ground.GroundLabel.{GroundLabel}
 use Rattle.formula_core.specs.declared.ground.GroundMark.{GroundMark}
 use Rattle.formula_core.specs.declared.ground.GroundTerm.{GroundTerm}
-use Rattle.tableau_text.specs.Items.{Item, a_mark, a_string, a_term, all_values, of_root}
+use Rattle.tableau_text.specs.Items.{a_mark, a_string, a_term, all_values, of_root}
 use Rattle.tableau_text.specs.ItemView.{the_item, IsNormalItem}
 use Rattle.tableau_text.specs.Points.{Leads, NoneFrom, IsValuesText, IsWhole, behind, inside}
 use Rattle.tableau_text.specs.declared.item.TableItem.{TableItem}

@@ -1,15 +1,11 @@
 -- Writing lists: their beginnings, and what is left of them.
-use Rattle.std.proofs.Common.{◌≡◌, ℕ, zero, suc, ◌+◌, ◌≤◌, ◌<◌, List, [], ◌∷◌, ◌++◌, length, map, drop, Bool, true, false, ◌&&◌, IsTrue, Option, Some, None, refl, sym, ◌∙◌, ap, subst, append_assoc, append-nil, arith, get_or, slice_get, codes, decimal}
-use Rattle.std.specs.List.{list_all}
+use Rattle.std.proofs.Common.{◌≡◌, ℕ, zero, suc, ◌≤◌, ◌<◌, List, [], ◌∷◌, ◌++◌, length, map, drop, false, IsTrue, Some, refl, sym, ◌∙◌, ap, subst, append-nil, arith, get_or, slice_get, codes}
 use Rattle.std.specs.Option.{option_map_or}
-use Rattle.std.proofs.lemmas.Bool.{and_from, and_parts, false≢true}
+use Rattle.std.proofs.lemmas.Bool.{and_parts, false≢true}
 use Rattle.std.proofs.lemmas.Option.{slice_get-get_or}
-use Rattle.calculus.specs.declared.symbol.SymbolClass.{SymbolClass}
-use Rattle.calculus.specs.declared.symbol.SymbolClass.TheVariants.{Function}
 use Rattle.calculus.specs.Syntax.{Symbol}
 use Rattle.calculus.specs.Skolem.{has_function}
-use Rattle.calculus.specs.Ground as tree
-use Rattle.calculus.specs.Ground.{marks_tree, values_tree, g_terms_list}
+use Rattle.calculus.specs.Ground.{marks_tree, values_tree}
 use Rattle.calculus.specs.Lists.{g_terms_tree}
 use Rattle.calculus.specs.TableauText.{ground_args_text, ground_text, grounds_are_written, marks_are_written, marks_text, values_are_written, values_text}
 use Rattle.calculus.proofs.TermTextLaws.{function-at}
@@ -21,7 +17,7 @@ use Rattle.formula_core.specs.declared.ground.GroundTerm.{GroundTerm}
 use Rattle.formula_core.specs.declared.ground.GroundMark.{GroundMark}
 use Rattle.formula_core.specs.declared.ground.Value.{Value}
 use Rattle.formula_text.specs.Known.{is_named, is_named_class}
-use Rattle.tableau_text.specs.Items.{Item, a_term, a_mark, a_string, all_values, of_value, of_terms, of_marks, of_values, item_text, item_is_written, are_written_items, tail_text, list_text}
+use Rattle.tableau_text.specs.Items.{Item, a_term, a_mark, a_string, all_values, of_value, item_text, item_is_written, are_written_items, tail_text}
 use Rattle.tableau_text.specs.ItemView.{the_item}
 use Rattle.tableau_text.specs.Points.{is_good}
 use Rattle.tableau_text.specs.Pieces.{piece_text, piece_is_written, Wrote}

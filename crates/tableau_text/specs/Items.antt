@@ -1,6 +1,6 @@
 -- What a text of ground values consists of: items, which stand in lists, and what stands before a list. A list that is open is told by
 -- what stands before it and by the items that are whole.
-use Rattle.std.specs.Prelude.{◌≡◌, ⊤, ℕ, List, [], ◌∷◌, ◌++◌, length, Bool, true, false, ◌&&◌, IsTrue, codes, decimal}
+use Rattle.std.specs.Prelude.{◌≡◌, ℕ, List, [], ◌∷◌, ◌++◌, length, Bool, true, false, ◌&&◌, IsTrue, codes, decimal}
 use Rattle.std.specs.List.{list_all}
 use Rattle.calculus.specs.Syntax.{Symbol}
 use Rattle.calculus.specs.Ground.{GroundTerm, GroundTerms, GroundMark, Marks, Value, Values, g_fun, g_eigen, own, no_g_terms, more_g_terms, g_new_mark, no_marks, more_marks, term, steps, no_values, more_values}

@@ -1,9 +1,9 @@
 -- The lines behind the head, as values, and the order in which they stand.
-use Rattle.std.specs.Prelude.{◌≡◌, ℕ, List, [], ◌∷◌, ◌++◌, map, Bool, true, false, IsTrue, codes, Option, None, Some, if◌then◌else◌}
+use Rattle.std.specs.Prelude.{◌≡◌, ℕ, List, [], ◌∷◌, ◌++◌, map, Bool, true, false, IsTrue, codes, Option, None, Some}
 use Rattle.calculus.specs.declared.fault.TableauFault.{TableauFault}
 use Rattle.calculus.specs.declared.fault.TableauFault.TheVariants as fault
 use Rattle.calculus.specs.Syntax.{Symbol, Problem}
-use Rattle.calculus.specs.TableauText.{Chosen, Move, Moves, chosen_text, move_line, chosen_is_written, move_is_written, are_written, tableau_head, moves_lines, IsWrongTableauText, tableau_rejected}
+use Rattle.calculus.specs.TableauText.{Chosen, Move, Moves, chosen_text, move_line, chosen_is_written, move_is_written, are_written, tableau_head}
 use Rattle.text_lines.specs.Lines.{AreRead}
 
 pub data Line : Type 0 where

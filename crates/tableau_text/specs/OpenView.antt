@@ -2,7 +2,7 @@
 use Rattle.std.specs.Prelude.{◌≡◌, ℕ, List, [], ◌∷◌, ◌++◌, map, IsTrue, false}
 use Rattle.std.specs.List.{AllByRecursion}
 use Rattle.formula_core.specs.GroundLists.{GroundList, the_g_term, the_mark, the_value, IsNormalTerm, IsNormalMark, IsNormalValue}
-use Rattle.tableau_text.specs.Items.{Item, a_term, a_mark, of_value, Head, of_args, of_own, of_steps, of_eigen, of_new, of_root, Frame, with_item, fits}
+use Rattle.tableau_text.specs.Items.{Item, a_term, a_mark, of_value, Head, of_args, of_own, of_steps, of_eigen, of_new, of_root, Frame, fits}
 use Rattle.tableau_text.specs.Tokens.{Token, by_name, by_number, by_bracket, Beginning, whole, opened}
 use Rattle.tableau_text.specs.Points.{Point, ahead, behind}
 use Rattle.tableau_text.specs.declared.item.TableItem.{TableItem}

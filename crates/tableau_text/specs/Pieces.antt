@@ -1,9 +1,9 @@
 -- What is left to be written, by the lists of a table.
-use Rattle.std.specs.Prelude.{◌≡◌, ℕ, ◌+◌, ◌*◌, ◌≤◌, List, [], ◌∷◌, ◌++◌, length, map, drop, Bool, true, ◌&&◌, IsTrue}
+use Rattle.std.specs.Prelude.{◌≡◌, ℕ, ◌+◌, ◌*◌, ◌≤◌, List, [], ◌∷◌, ◌++◌, length, map, drop, Bool, IsTrue}
 use Rattle.std.specs.List.{list_all}
 use Rattle.calculus.specs.Syntax.{Symbol}
 use Rattle.formula_core.specs.GroundLists.{GroundList, the_terms, the_marks, the_values}
-use Rattle.tableau_text.specs.Items.{Item, a_term, a_mark, of_value, item_text, item_is_written, are_written_items, tail_text}
+use Rattle.tableau_text.specs.Items.{a_term, a_mark, of_value, item_text, are_written_items, tail_text}
 use Rattle.tableau_text.specs.Points.{is_good}
 use Rattle.tableau_text.specs.ItemView.{the_item}
 use Rattle.tableau_text.specs.declared.piece.Piece.{Piece}

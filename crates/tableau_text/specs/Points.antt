@@ -1,6 +1,6 @@
 -- Where the reading of a list of values stands, and that one such point leads to another: the text is the same, and what is right goes on
 -- to be right.
-use Rattle.std.specs.Prelude.{◌≡◌, ⊤, ℕ, List, [], ◌∷◌, ◌++◌, Bool, true, false, ◌&&◌, IsTrue}
+use Rattle.std.specs.Prelude.{◌≡◌, ℕ, List, [], ◌∷◌, ◌++◌, Bool, ◌&&◌, IsTrue}
 use Rattle.std.specs.List.{list_all}
 use Rattle.calculus.specs.Syntax.{Symbol}
 use Rattle.calculus.specs.Ground.{Values}

@@ -1,5 +1,5 @@
 -- The parts of the lines behind the head.
-use Rattle.std.specs.Prelude.{◌≡◌, ℕ, List, [], ◌∷◌, ◌++◌, map, IsTrue, codes, decimal, ⊤}
+use Rattle.std.specs.Prelude.{◌≡◌, ℕ, List, ◌∷◌, ◌++◌, map, IsTrue, decimal}
 use Rattle.calculus.specs.declared.sign.Side.{Side}
 use Rattle.calculus.specs.Syntax.{Symbol}
 use Rattle.calculus.specs.Text.{is_number}

@@ -1,5 +1,5 @@
 -- How items begin.
-use Rattle.std.specs.Prelude.{◌≡◌, ⊤, ℕ, List, [], ◌∷◌, ◌++◌, Bool, true, false, IsTrue, codes, decimal}
+use Rattle.std.specs.Prelude.{◌≡◌, ℕ, List, [], ◌∷◌, ◌++◌, Bool, false, IsTrue, codes, decimal}
 use Rattle.calculus.specs.Syntax.{Symbol}
 use Rattle.calculus.specs.Problems.{is_name}
 use Rattle.calculus.specs.Text.{StopsAt, is_digit, is_number, is_word_byte, name_text}

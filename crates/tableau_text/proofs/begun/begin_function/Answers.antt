@@ -1,4 +1,3 @@
-use Rattle.std.proofs.Common.{refl}
 use Rattle.tableau_text.proofs.TokenLaws.{args-begun}
 use Rattle.tableau_text.proofs.begun.begin_function.Goals as goal
 

@@ -1,8 +1,7 @@
-use Rattle.std.proofs.Common.{refl}
 use Rattle.formula_text.proofs.Passing.{error-passed}
 use Rattle.tableau_text.specs.MovesView.{the_chosen}
 use Rattle.tableau_text.proofs.StepLaws.{grown-same}
-use Rattle.tableau_text.proofs.SideLaws.{extension-line, no-extension, no-move, no-reduction, reduction-read}
+use Rattle.tableau_text.proofs.SideLaws.{extension-line, no-extension, reduction-read}
 use Rattle.tableau_text.proofs.line_reader.read_move.Goals as goal
 
 pub returns-in-Some-clause-ok : goal.returns-in-Some-clause-ok

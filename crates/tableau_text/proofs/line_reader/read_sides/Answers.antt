@@ -1,4 +1,4 @@
-use Rattle.std.proofs.Common.{refl, subst, sym}
+use Rattle.std.proofs.Common.{subst, sym}
 use Rattle.tableau_text.specs.Sides.{AreSidesOn}
 use Rattle.tableau_text.proofs.line_reader.read_sides.Goals as goal
 

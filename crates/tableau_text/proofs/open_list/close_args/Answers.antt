@@ -1,4 +1,3 @@
-use Rattle.std.proofs.Common.{sym, ◌∙◌, ap}
 use Rattle.formula_text.proofs.Passing.{error-passed}
 use Rattle.tableau_text.proofs.CloseLaws.{args-made, no-args_made}
 use Rattle.tableau_text.proofs.open_list.close_args.Goals as goal

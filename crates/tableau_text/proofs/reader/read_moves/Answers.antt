@@ -1,4 +1,4 @@
-use Rattle.std.proofs.Common.{◌≤◌, ◌+◌, [], refl, sym, subst, arith, ap, Err, length, false}
+use Rattle.std.proofs.Common.{◌+◌, refl, sym, subst, arith, ap, Err, false}
 use Rattle.calculus.specs.TableauText.{IsWrongTableauText, tableau_rejected}
 use Rattle.logic_rules.proofs.ProblemFacts.{kept}
 use Rattle.tableau_text.proofs.LineLaws.{IsReadBy, read-first}

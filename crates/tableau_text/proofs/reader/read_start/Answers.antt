@@ -1,6 +1,4 @@
-use Rattle.std.proofs.Common.{refl, subst, sym}
-use Rattle.std.specs.List.{list_all}
-use Rattle.calculus.specs.Problems.{are_distinct, symbol_fits}
+use Rattle.std.proofs.Common.{refl}
 use Rattle.logic_rules.proofs.ProblemFacts.{kept}
 use Rattle.formula_text.proofs.Passing.{error-passed}
 use Rattle.tableau_text.proofs.MoveFaults.{fault-no_start, fault-start, start-read}

@@ -1,8 +1,5 @@
-use Rattle.std.proofs.Common.{List, ◌∷◌, ◌∙◌, ap, refl, sym, length}
+use Rattle.std.proofs.Common.{◌∷◌, ◌∙◌, ap, refl, sym}
 use Rattle.formula_text.proofs.Passing.{error-passed}
-use Rattle.tableau_text.specs.ItemView.{the_item}
-use Rattle.tableau_text.specs.OpenView.{frames}
-use Rattle.tableau_text.specs.Points.{Point, behind}
 use Rattle.tableau_text.proofs.StepLaws.{put-close, put-comma, put-no_fit, put-no_follower, put-no_made}
 use Rattle.tableau_text.proofs.values_reader.put_item.Goals as goal
 

@@ -1,4 +1,4 @@
-use Rattle.std.proofs.Common.{map, subst, sym, ◌∙◌, IsTrue}
+use Rattle.std.proofs.Common.{map, subst, sym, IsTrue}
 use Rattle.std.specs.List.{list_all}
 use Rattle.calculus.specs.TableauText.{chosen_is_written, move_is_written}
 use Rattle.tableau_text.proofs.MoveFeeds.{written-moves}
