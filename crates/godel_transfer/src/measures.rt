@@ -8,11 +8,8 @@ ghost use Rattle.godel_transfer.specs.TranslationMeasures.{boxed_nesting, boxes_
 ghost use Rattle.godel_transfer.specs.declared.fault.TransferFault.TheVariants as fault;
 
 use crate::fault::TransferFault;
+use calculus::limits::{MAX_ITEM_NESTING, MAX_NODES};
 use formula_core::{Formula, nesting, node_count};
-
-const MOST_NODES: u64 = 4_000_000;
-
-const MOST_NESTING: u64 = 1_000;
 
 // How many boxes the translation adds, or `limit` + 1 where there are more.
 fn boxes_added(f: &Formula, limit: u64) -> u64
@@ -45,11 +42,11 @@ fn boxed_nesting(f: &Formula) -> u64
     }
 }
 
-// The nodes of the translation, or more than `MOST_NODES` where there are more.
+// The nodes of the translation, or more than `MAX_NODES` where there are more.
 fn translation_nodes(f: &Formula) -> u64
     ensures { result ≡ min (node_count (translation_of (the_formula f.now))) 4000001 }
 {
-    (node_count(f, MOST_NODES) + boxes_added(f, MOST_NODES)).min(MOST_NODES + 1)
+    (node_count(f, MAX_NODES) + boxes_added(f, MAX_NODES)).min(MAX_NODES + 1)
 }
 
 /// Why a formula's translation is too large.
@@ -61,10 +58,10 @@ pub fn refusal(f: &Formula) -> Option<TransferFault>
         × (4000000 < node_count (translation_of (the_formula f.now)))) }
     ensures memory { ¬ (result ≡ Some fault.NoMemory) }
 {
-    if boxed_nesting(f) > MOST_NESTING {
+    if boxed_nesting(f) > MAX_ITEM_NESTING {
         return Some(TransferFault::NestingTooDeep);
     }
-    if translation_nodes(f) > MOST_NODES {
+    if translation_nodes(f) > MAX_NODES {
         return Some(TransferFault::FormulaTooLarge);
     }
     None

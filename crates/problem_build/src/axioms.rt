@@ -6,8 +6,9 @@ ghost use Rattle.formula_core.specs.FormulaView.{the_formula};
 ghost use Rattle.problem_build.specs.Measuring.{congruence_of, flat_nodes, listed_axiom, measured};
 ghost use Rattle.problem_build.specs.EqualityAxioms.{congruence_of_function, congruence_of_predicate, equal_arguments, equality_axioms, equations, for_each, function_axiom, left_variables, predicate_axiom, reflexivity, right_variables, symmetry, transitivity, variables};
 
-use crate::counts::{MAX_NESTING, MAX_NODES, sum};
+use crate::counts::sum;
 use crate::expansion::{all_times, equality_atom, joined_chain};
+use calculus::limits::{MAX_ITEM_NESTING, MAX_NODES};
 use cop_base::{NoMemory, SymbolId};
 use formula_core::{Formula, Symbol, SymbolClass, Symbols, Term, Terms, nesting, node_count};
 use std::alloc::{AllocError, Global};
@@ -263,7 +264,7 @@ pub fn equality_axioms(alloc: Global, symbols: &Symbols) -> Result<Vec<Formula>,
 fn flat_nodes(formula: &Formula) -> Option<u64>
     ensures { result ≡ flat_nodes (the_formula formula.now) }
 {
-    if nesting(formula) > MAX_NESTING {
+    if nesting(formula) > MAX_ITEM_NESTING {
         None
     } else {
         Some(node_count(formula, MAX_NODES))

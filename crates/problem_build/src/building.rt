@@ -23,7 +23,7 @@ ghost use Rattle.problem_build.specs.Passing.{AreRead, the_passed};
 ghost use Rattle.tptp_reader.specs.SourceView.{the_source};
 
 use crate::axioms::{axioms_nodes, equality_axioms};
-use crate::counts::{MAX_NODES, sum};
+use crate::counts::sum;
 use crate::expansion::joined_chain;
 use crate::fault::{BuildFault, Cause};
 use crate::faults::bad;
@@ -33,6 +33,7 @@ use crate::items::{
 use crate::passed::Passed;
 use crate::symbols::equality_symbol;
 use crate::walk::walk_files;
+use calculus::limits::MAX_NODES;
 use cop_base::{Library, NoMemory, Text};
 use formula_core::{AddFault, Formula, Symbols};
 use logic_rules::{Logic, Problem, Setting};

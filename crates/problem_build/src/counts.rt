@@ -7,15 +7,10 @@ ghost use Rattle.tptp_reader.specs.Lists.{terms_tree};
 ghost use Rattle.tptp_reader.specs.SourceView.{the_source};
 ghost use Rattle.tptp_reader.specs.TermView.{the_source_term};
 
+use calculus::limits::MAX_NODES;
 use cop_base::NoMemory;
 use std::alloc::{AllocError, Global};
 use tptp_reader::{BinaryKind, Source, SourceTerm, SourceTerms};
-
-/// The most nodes of a problem's formula.
-pub const MAX_NODES: u64 = 4_000_000;
-
-/// The greatest nesting of an expanded item or an axiom of equality.
-pub const MAX_NESTING: u64 = 1000;
 
 // Counts of nodes stop here.
 const MANY: u64 = MAX_NODES + 1;

@@ -9,11 +9,12 @@ ghost use Rattle.problem_build.specs.Measuring.{bodies, first_measured, first_of
 ghost use Rattle.problem_build.specs.Passing.{the_passed};
 ghost use Rattle.tptp_reader.specs.SourceView.{the_source};
 
-use crate::counts::{MAX_NESTING, nesting_of, nodes_of, sum};
+use crate::counts::{nesting_of, nodes_of, sum};
 use crate::expansion::closed;
 use crate::passed::Passed;
 use crate::symbols::add_symbols;
 use crate::variables::free_variables;
+use calculus::limits::MAX_ITEM_NESTING;
 use cop_base::NoMemory;
 use formula_core::{AddFault, Formula, Symbols};
 use std::alloc::{AllocError, Global};
@@ -78,12 +79,12 @@ fn closed_nodes(alloc: Global, body: &Source) -> Result<Option<u64>, NoMemory>
     ensures { IfOk result (λ n. (symbols : List tree.Symbol) → n ≡ flat_nodes (closed symbols (the_source body.now))) }
 {
     let inner = nesting_of(alloc, body)?;
-    if inner > MAX_NESTING {
+    if inner > MAX_ITEM_NESTING {
         return Ok(None);
     }
     let free = free_variables(alloc, body)?;
     let count = free.len() as u64;
-    if inner.saturating_add(count) > MAX_NESTING {
+    if inner.saturating_add(count) > MAX_ITEM_NESTING {
         return Ok(None);
     }
     Ok(Some(sum(count, nodes_of(body))))

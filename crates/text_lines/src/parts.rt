@@ -4,6 +4,7 @@ ghost use Rattle.std.specs.Prelude.{◌≡◌, ◌++◌, ◌∷◌, [], ℕ, Lis
 ghost use Rattle.calculus.specs.Derivations as derivation;
 ghost use Rattle.text_lines.specs.Spelling.{IsLabel, IsLabelBefore, IsLimit, IsNameNumber, IsNumber, IsNumberBefore};
 
+use calculus::limits::MAX_PATH_LIMIT;
 use formula_text::{TextRead, read_label, read_number};
 use logic_rules::Label;
 use std::alloc::Global;
@@ -49,7 +50,7 @@ pub fn read_limit(text: &[u8]) -> Option<u8>
     ensures none { IsNone result → (n : ℕ) → ¬ IsLimit text.now n }
 {
     let n = read_whole_number(text)?;
-    if n >= 1 && n <= 200 {
+    if n >= 1 && n <= u32::from(MAX_PATH_LIMIT) {
         Some(n as u8)
     } else {
         None
