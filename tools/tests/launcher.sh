@@ -8,7 +8,7 @@ cp leancop "$checkout/"
 cp -r tools "$checkout/"
 touch "$checkout/crates.txt" "$checkout/HANDLES"
 cp "$LEANCOP" "$checkout/crates/leancop/out/leancop"
-touch "$checkout/crates/leancop/out/leancop.stamp"
+touch "$checkout/crates/leancop/out/launcher.stamp"
 
 # at_prompt WORD..: runs the words as the leader of a terminal's session, and prints what the terminal shows and the exit status
 at_prompt() {
