@@ -63,6 +63,7 @@ pub mod NeedRanks
 pub mod SystemCells
 pub mod KeepingLaws
 pub mod FromLaws
+pub mod RightWays
 pub mod LabelledBuilt
 pub mod TemplateSorts
 pub mod ProperPatterns

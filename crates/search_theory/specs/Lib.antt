@@ -22,6 +22,7 @@ pub mod Solving
 pub mod Demanding
 pub mod StateSystems
 pub mod LabelledCells
+pub mod KeepingCells
 pub mod RightPatterns
 -- early pruning
 pub mod Pruning
