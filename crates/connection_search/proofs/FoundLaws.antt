@@ -279,8 +279,8 @@ module _ (P : Problem) (base d : ℕ) (c : List Choice) (S : State) (y : System)
 -- ---- with labels
 
 -- a string that is still unbound would be one of the system's, which are built
-no-open : (base : ℕ) (l : Logic) (b : Bool) (s new : Store) (y : System) → NamesStringsFrom base s y → IsFoundIn l b y s new → (v : ℕ) → base ≤ v → ¬ IsOpenString new v
-no-open base l b s new y named found v from o = elim (cases_lt v (length s.cells)) [
+no-open : (base : ℕ) (P : Problem) (s new : Store) (y : System) → NamesStringsFrom base s y → IsFoundIn P.setting.logic P y s new → (v : ℕ) → base ≤ v → ¬ IsOpenString new v
+no-open base P s new y named found v from o = elim (cases_lt v (length s.cells)) [
   | inr more ↦ found.later.fresh v more o
   | inl less ↦
       let (i, r, e, ends) = named v from (found.later.strings v v less o here).1 in
@@ -302,12 +302,12 @@ sorts-kept s new later r sort e =
     self StringSort = refl
 
 -- what solving leaves, where its cells are built right
-pub labelled-solved : (P : Problem) (base d : ℕ) (c : List Choice) (S : State) (y : System) (b : Bool) (new : Store) → IsRunning P base d c S y → IsFoundIn P.setting.logic b y S.store new → IsWellFormed new → AreLabelled P (Own base) new → IsSolvedFor P (Own base) S y new (rank_of new) (suc (length new.cells))
-labelled-solved P base d c S y b new h found well right = record {
+pub labelled-solved : (P : Problem) (base d : ℕ) (c : List Choice) (S : State) (y : System) (new : Store) → IsRunning P base d c S y → IsFoundIn P.setting.logic P y S.store new → IsWellFormed new → AreLabelled P (Own base) new → IsSolvedFor P (Own base) S y new (rank_of new) (suc (length new.cells))
+labelled-solved P base d c S y new h found well right = record {
   store = well.fits;
   ranked = well-ranked new well;
   labelled = right;
-  closed = record { no_open_string = no-open base P.setting.logic b S.store new y h.strings found; names = right.names };
+  closed = record { no_open_string = no-open base P S.store new y h.strings found; names = right.names };
   back = found.back;
   gammas = (system-parts new y (system-stays S.store new y found.later.sorts h.system.well)).gammas;
   labels = labels-in (Own base) y (cells-own base (cells_of y) h.cells);
@@ -324,16 +324,17 @@ own-tableau P m base d c s new steps goals first In rank bound (cs, x, at) whole
     let (σ, spares, t) = closed-by_found (common_spares P) P d c S y In new rank bound (tree-by_state P d c S at.running.state) at.running.system (none-open steps goals first x.open_goals at.tree.open_goals whole) solved solve in
     record { solution = σ; spares = spares; tableau = t.tableau; is_built = subst (λ ks. IsTableauBy (map (choice_at σ) ks) t.tableau) (sym at.tree.made) t.is_built; closed = t.closed }
 
--- with labels they do where the domains ask nothing
-pub labelled-tableau : (P : Problem) (m : List MatrixClause) (base d : ℕ) (c : List Choice) (s new : Store) (steps : List Step) (goals : List Goal) (first : Option ℕ) (y : System) → StandsWhole P m base d c s steps goals first → IsMade m steps goals y → IsFound P true s y new → HasOwnTableau P m d new steps
-labelled-tableau P m base d c s new steps goals first y (cs, x, at, distinct, whole) made found = by (subst (λ z. IsFound P true s z new) (made x.all_goals at.tree.goals) found)
+-- with labels they do
+pub labelled-tableau : (P : Problem) (m : List MatrixClause) (base d : ℕ) (c : List Choice) (s new : Store) (steps : List Step) (goals : List Goal) (first : Option ℕ) (y : System) → StandsWhole P m base d c s steps goals first → IsMade m steps goals y → IsFound P s y new → HasOwnTableau P m d new steps
+labelled-tableau P m base d c s new steps goals first y (cs, x, at, distinct, whole) made found = by (subst (λ z. IsFound P s z new) (made x.all_goals at.tree.goals) found)
   where
-    by : IsFound P true s (tree_system m steps goals x.all_goals) new → HasOwnTableau P m d new steps
+    by : IsFound P s (tree_system m steps goals x.all_goals) new → HasOwnTableau P m d new steps
     by f =
         let S : State = record { store = s; choices = cs; growth = x } in
         let z = tree_system m steps goals x.all_goals in
-        let right = f.found.right P refl refl base at.running.from at.running.cells at.running.own.labelled in
-        own-tableau P m base d c s new steps goals first (Own base) (rank_of new) (suc (length new.cells)) (cs, x, at) whole (labelled-solved P base d c S z true new at.running f.found f.well right) f.spares
+        let (σ, spares, solved) = f.spares in
+        let right = f.found.right refl σ spares.solves base at.running.from at.running.cells at.running.own.labelled in
+        own-tableau P m base d c s new steps goals first (Own base) (rank_of new) (suc (length new.cells)) (cs, x, at) whole (labelled-solved P base d c S z new at.running f.found f.well right) f.spares
 
 -- without labels they do
 pub unlabelled-tableau : (P : Problem) (m : List MatrixClause) (base d : ℕ) (c : List Choice) (s : Store) (steps : List Step) (goals : List Goal) (first : Option ℕ) → IsTrue (is_problem P) → has_labels P.setting.logic ≡ false → StandsWhole P m base d c s steps goals first → HasOwnTableau P m d s steps
@@ -361,9 +362,9 @@ pub unlabelled-of : (P : Problem) (l : Logic) (b : Bool) → l ≡ P.setting.log
 unlabelled-of P l b e f g = ap has_labels (sym e) ∙ sym f ∙ g
 
 -- what solving by a demand found, which is what the problem's domains ask
-pub found-of : (P : Problem) (n : Bool) (s new : Store) (y : System) (l : Logic) (f : List GammaUse → Bool) (b : Bool) → l ≡ P.setting.logic → f ≡ list_all (gamma_is_allowed P) → b ≡ common_spares P → IsWellFormed new → IsFoundIn l n y s new → OwnSparesSolve b l (Asks f) new y → IsFound P n s y new
-found-of P n s new y l f b el ef eb well found spares = record {
+pub found-of : (P Q : Problem) (s new : Store) (y : System) (l : Logic) (f : List GammaUse → Bool) (b : Bool) → Q ≡ P → l ≡ P.setting.logic → f ≡ list_all (gamma_is_allowed P) → b ≡ common_spares P → IsWellFormed new → IsFoundIn l Q y s new → OwnSparesSolve b l (Asks f) new y → IsFound P s y new
+found-of P Q s new y l f b eq el ef eb well found spares = record {
   well = well;
-  found = subst (λ k. IsFoundIn k n y s new) el found;
+  found = subst (λ k. IsFoundIn k P y s new) el (subst (λ p. IsFoundIn l p y s new) eq found);
   spares = subst (λ t. OwnSparesSolve (common_spares P) P.setting.logic (Asks t) new y) ef (subst (λ k. OwnSparesSolve (common_spares P) k (Asks f) new y) el (subst (λ t. OwnSparesSolve t l (Asks f) new y) eb spares));
 }

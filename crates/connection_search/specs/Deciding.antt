@@ -1,5 +1,5 @@
 -- What a list of choices without open goals comes to.
-use Rattle.std.specs.Prelude.{◌≡◌, ◌-◌, ℕ, List, map, Bool, false, IsTrue}
+use Rattle.std.specs.Prelude.{◌≡◌, ◌-◌, ℕ, List, map, false, IsTrue}
 use Rattle.std.specs.List.{flat_map}
 use Rattle.calculus.specs.Choices.{Choice, choices_of, ground_choices}
 use Rattle.calculus.specs.Counting.{MoreThan}
@@ -38,9 +38,9 @@ pub record IsSolvedTree (P : Problem) (m : List MatrixClause) (s : Store) (steps
   pub solved : ¬ (a ≡ solved.Found) → (xs : List CellGoal) → AreGoals steps goals goals xs → IsSolved P s (tree_system m steps goals xs) before after budget new a
 
 -- own spares of the new store solve the system, and what it has kept of the old one
-pub record IsFound (P : Problem) (asks_nothing : Bool) (s : Store) (y : System) (new : Store) : Type 0 where
+pub record IsFound (P : Problem) (s : Store) (y : System) (new : Store) : Type 0 where
   pub well : IsWellFormed new
-  pub found : IsFoundIn P.setting.logic asks_nothing y s new
+  pub found : IsFoundIn P.setting.logic P y s new
   pub spares : OwnSparesSolve (common_spares P) P.setting.logic (AllAllowed P) new y
 
 -- by own spares of the store the tree's choices give a closed tableau

@@ -1,12 +1,11 @@
 //! Lists of choices without open goals: what they ask of labels is solved, and the tableau is read
-//! off and, where there are labels, judged.
+//! off.
 
-ghost use Rattle.std.specs.Prelude.{◌≡◌, ℕ, IfOk, IsTrue, List, None, length, true};
+ghost use Rattle.std.specs.Prelude.{◌≡◌, ℕ, IfOk, IsTrue, List, None, length};
 ghost use Rattle.std.specs.List.{AllByRecursion, flat_map, list_all};
 ghost use Rattle.store_theory.specs.Bindings.{KeepsMarks};
 ghost use Rattle.calculus.specs.Choices.{Choice, choices_of, ground_choices};
 ghost use Rattle.calculus.specs.Instances.{gamma_is_allowed};
-ghost use Rattle.calculus.specs.declared.setting.Domains.TheVariants.{Constant};
 ghost use Rattle.calculus.specs.Skolem.{common_spares};
 ghost use Rattle.calculus.specs.Space.{has_labels};
 ghost use Rattle.store_theory.specs.Systems.{AllAllowed, NamesItsStrings, is_system};
@@ -37,7 +36,7 @@ use cop_base::{Ledger, NoMemory};
 use domain_cond::{ConstantDemand, CumulativeDemand, VaryingDemand};
 use prefix_split::{Solved, solve};
 use std::alloc::Global;
-use tableau_core::{SizedProblem, Tableau, is_closed};
+use tableau_core::{SizedProblem, Tableau};
 use term_store::{Demand, Store, System};
 
 pub(crate) fn has_labels(logic: Logic) -> bool
@@ -46,16 +45,6 @@ pub(crate) fn has_labels(logic: Logic) -> bool
     match logic {
         Logic::Classical => false,
         _ => true,
-    }
-}
-
-fn is_constant(domains: Domains) -> bool
-    ensures { result ≡ true → domains ≡ Constant }
-{
-    match domains {
-        Domains::Constant => true,
-        Domains::Cumulative => false,
-        Domains::Varying => false,
     }
 }
 
@@ -73,8 +62,9 @@ fn solve_by<M: Demand>(
     requires labels { IsTrue (has_labels problem.now.setting.logic) }
     requires demand { M.holds_for demand.old ≡ list_all (gamma_is_allowed problem.now) }
     requires common { M.common demand.old ≡ common_spares problem.now }
-    ensures found { IfOk result (λ a. a ≡ solved.Found → IsFound problem.now M.asks_nothing
-        store.old.store (the_system system.now) store.new.store) }
+    requires problem { M.problem demand.old ≡ problem.now }
+    ensures found { IfOk result (λ a. a ≡ solved.Found → IsFound problem.now store.old.store
+        (the_system system.now) store.new.store) }
     ensures solved { IfOk result (IsSolved problem.now store.old.store (the_system system.now)
         ledger.old.used ledger.new.used ledger.new.budget store.new.store) }
     ensures counted { IsCounted problem.now.setting.logic (AllAllowed problem.now) store.old.store
@@ -100,8 +90,8 @@ fn solve_system<'a>(
     requires fits { IsTrue (is_system store.old.store (the_system system.now)) }
     requires named { NamesItsStrings store.old.store (the_system system.now) }
     requires labels { IsTrue (has_labels problem.now.setting.logic) }
-    ensures found { IfOk result (λ a. a ≡ solved.Found → problem.now.setting.domains ≡ Constant
-        → IsFound problem.now true store.old.store (the_system system.now) store.new.store) }
+    ensures found { IfOk result (λ a. a ≡ solved.Found → IsFound problem.now store.old.store
+        (the_system system.now) store.new.store) }
     ensures solved { IfOk result (IsSolved problem.now store.old.store (the_system system.now)
         ledger.old.used ledger.new.used ledger.new.budget store.new.store) }
     ensures counted { IsCounted problem.now.setting.logic (AllAllowed problem.now) store.old.store
@@ -138,7 +128,6 @@ impl Space<'_> {
             × TreeStandsWhole self.now.problem.now self.now.matrix.now base self.now.limit c store.old
             work.now.tree }
         ensures own { IfOk result (λ a. a ≡ solved.Found
-            → self.now.problem.now.setting.domains ≡ Constant
             → HasOwnTableau self.now.problem.now self.now.matrix.now self.now.limit store.new.store
             work.now.tree.steps.items) }
         ensures solved { IfOk result (λ a. (base : ℕ) (c : List Choice)
@@ -163,17 +152,16 @@ impl Space<'_> {
         Ok(solved)
     }
 
-    // The tableau of the tree, where it is closed. Should it not be, the search has no answer. With
-    // constant domains it is closed by what the search knows of the tree.
+    // The tableau of the tree, which is closed: own spares give the tree's choices a closed tableau,
+    // and this is the one that is read off.
     fn answer(&self, store: &Store, work: &Work) -> Result<Tableau, NoMemory>
         requires steps { AllByRecursion (IsReadableStep store.now.store self.now.matrix.now)
             work.now.tree.steps.items }
         requires gammas { IsTrue (list_all (is_gamma_below (length store.now.store.cells))
             (flat_map gammas_of work.now.tree.steps.items)) }
         requires started { IsStarted work.now.tree.steps.items }
-        requires own { self.now.problem.now.setting.domains ≡ Constant
-            → HasOwnTableau self.now.problem.now self.now.matrix.now self.now.limit store.now.store
-            work.now.tree.steps.items }
+        requires own { HasOwnTableau self.now.problem.now self.now.matrix.now self.now.limit
+            store.now.store work.now.tree.steps.items }
         ensures closed { IfOk result (λ t. IsTrue (tableaux.is_closed self.now.problem.now self.now.limit
             (the_tableau t))) }
         ensures names { IfOk result (λ t. choices_of (ground_choices (the_tableau t))
@@ -188,13 +176,7 @@ impl Space<'_> {
             matrix: self.matrix,
         };
         let tableau = tableau_of(&from, &work.tree)?;
-        if is_constant(self.problem.setting().domains()) {
-            return Ok(tableau);
-        }
-        if is_closed(work.alloc, self.problem.problem(), &tableau, self.limit)? {
-            return Ok(tableau);
-        }
-        Err(NoMemory)
+        Ok(tableau)
     }
 
     /// Decides a list of choices without open goals, none of whose goals is the same as one above

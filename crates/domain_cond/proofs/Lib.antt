@@ -8,3 +8,5 @@ pub mod StandingLaws
 pub mod RankingLaws
 pub mod OwnLaws
 pub mod HomeListLaws
+pub mod RightLaws
+pub mod AskingLaws

@@ -20,7 +20,7 @@ use Rattle.search_theory.proofs.RuleLaws.{homes, own-by_homes, rule_value}
 use Rattle.search_theory.proofs.SolvingLaws.{system-parts}
 use Rattle.search_theory.proofs.SpareLaws.{own-apart, own_value}
 use Rattle.term_unify.specs.Flat.{HasNoString}
-use Rattle.domain_cond.specs.Conditions.{IsForced}
+use Rattle.domain_cond.specs.Conditions.{IsForced, IsNeverEqual}
 use Rattle.domain_cond.specs.Standings.{AreStandings, ConstantStands, HasOwnSpares, LabelsAgree, Standing, home_marks}
 use Rattle.domain_cond.proofs.ConditionLaws.{free-sides}
 use Rattle.domain_cond.proofs.StandingLaws.{tells-homes}
@@ -41,6 +41,15 @@ filled : {x : GroundMark} (w : List GroundMark) → Some (x ∷ []) ≡ Some w �
 filled {x} w e f = let z : x ∷ [] ≡ w = cc e in cc (z ∙ sym f)
 
 -- the empty label is not that of one mark
+pub never-solved : (old new : Store) (m : ℕ) (e : Equation) → new ≡ with_cell (new_cell 0 []) old → m ≡ length old.cells → e.left ≡ [] → e.right ≡ m ∷ [] → IsNeverEqual new e
+never-solved old new m e is place left right σ t (w, l, r) =
+    let there : slice_get new.cells m ≡ Some (new_cell 0 []) = ap (λ (s : Store). slice_get s.cells m) is ∙ ap (slice_get (old.cells ++ new_cell 0 [] ∷ [])) place ∙ get-end old.cells (new_cell 0 []) in
+    let (vs, at, is-mark) = t m (new_cell 0 []) there in
+    let empty : [] ≡ w = let z : Some [] ≡ Some w = sym (ap (label_at σ) left) ∙ l in cc z in
+    let one : label_at σ (m ∷ []) ≡ Some w = ap (label_at σ) (sym right) ∙ r in
+    let shown = sym (ap (λ v. join_label v (Some [])) is-mark) ∙ one in
+    filled w shown empty
+
 pub never-equal : (old new : Store) (m : ℕ) (e : Equation) → new ≡ with_cell (new_cell 0 []) old → IsWellFormed new → m ≡ length old.cells → e.left ≡ [] → e.right ≡ m ∷ [] → IsForced new (λ σ. ⊥) e
 never-equal old new m e is well place left right = record {
   fits = and_from (is_label new e.left) (is_label new e.right) (subst (λ xs. IsTrue (is_label new xs)) (sym left) refl) (subst (λ xs. IsTrue (is_label new xs)) (sym right) mark-sorted);
@@ -48,7 +57,7 @@ never-equal old new m e is well place left right = record {
   unequal = λ now. (
       let σ = own_value new (suc (length new.cells)) in
       let solves = (own-apart new (rank_of new) (suc (length new.cells)) [] well.fits (ranked-by_no_cycle new well.fits (HasNoCycle-rank new well.rank))).solves in
-      apart σ solves (now σ solves));
+      never-solved old new m e is place left right σ solves (now σ solves));
   forced = λ σ t none. absurd none;
 }
   where
@@ -61,14 +70,6 @@ never-equal old new m e is well place left right = record {
     mark-free : HasNoString new (m ∷ [])
     mark-free v zero r o x occurs = let q : m ≡ r = cc x in mark-only new v m there o (subst (OccursIn new v) (sym q) occurs)
     mark-free v (suc i) r o x occurs = cc x
-
-    apart : (σ : Solution) → Solves new σ → ¬ AreEqual σ e
-    apart σ t (w, l, r) =
-        let (vs, at, is-mark) = t m (new_cell 0 []) there in
-        let empty : [] ≡ w = let z : Some [] ≡ Some w = sym (ap (label_at σ) left) ∙ l in cc z in
-        let one : label_at σ (m ∷ []) ≡ Some w = ap (label_at σ) (sym right) ∙ r in
-        let shown = sym (ap (λ v. join_label v (Some [])) is-mark) ∙ one in
-        filled w shown empty
 
 -- a demand that is never met forces it
 pub never-demanded : (P : Problem) (old new : Store) (y : System) (e : Equation) → AddsBuilt old new → ((σ : Solution) → Solves old σ → ¬ MeetsDemand (AllAllowed P) y σ) → IsForced new (λ σ. ⊥) e → IsDemandEquation (AllAllowed P) new y e

@@ -149,7 +149,7 @@ all-last : (p : ℕ → Bool) (w : List ℕ) (r : ℕ) → IsTrue (list_all p w)
 all-last p [] r a b = and_from (p r) true b refl
 all-last p (x ∷ w) r a b = let q = and_parts (p x) (list_all p w) a in and_from (p x) (list_all p (w ++ r ∷ [])) q.0 (all-last p w r q.1 b)
 
-with-item : (l : Logic) (p : ℕ → Bool) (w : List ℕ) (r : ℕ) → IsTrue (list_all p w) → IsTrue (p r) → IsTrue (list_all p (pi_label l w r))
+pub with-item : (l : Logic) (p : ℕ → Bool) (w : List ℕ) (r : ℕ) → IsTrue (list_all p w) → IsTrue (p r) → IsTrue (list_all p (pi_label l w r))
 with-item Classical p w r a b = all-last p w r a b
 with-item Intuitionistic p w r a b = all-last p w r a b
 with-item D p w r a b = all-last p w r a b

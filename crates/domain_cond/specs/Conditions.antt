@@ -1,13 +1,14 @@
 -- Equations that homes force.
-use Rattle.std.specs.Prelude.{◌≡◌, ◌++◌, ℕ, List, Some, slice_get, IsTrue}
-use Rattle.std.specs.List.{AllByRecursion, list_all}
+use Rattle.std.specs.Prelude.{◌≡◌, ◌++◌, ℕ, List, Some, slice_get, nat_le, IsTrue}
+use Rattle.std.specs.List.{AllByRecursion, flat_map, list_all}
 use Rattle.calculus.specs.Equality.{mark_eq}
 use Rattle.calculus.specs.Labels.{home_allows}
 use Rattle.calculus.specs.Skolem.{label_of}
-use Rattle.store_theory.specs.Stores.{eigen_cell, Store, Solution, Solves, OccursIn}
+use Rattle.store_theory.specs.Stores.{eigen_cell, GammaCell, Store, Solution, Solves, OccursIn}
 use Rattle.calculus.specs.Syntax.{Problem}
 use Rattle.store_theory.specs.Systems.{Equation, AreEqual, AreEqualNow, IsOpenString, is_equation, is_label}
 use Rattle.search_theory.specs.Demanding.{IsHomeAt, equation}
+use Rattle.search_theory.specs.KeepingCells.{equation_cells, gamma_cells}
 use Rattle.search_theory.specs.States.{label_by, values_by}
 use Rattle.term_store.specs.Homes.{BeginsLabel, Home, is_home}
 use Rattle.term_unify.specs.Flat.{HasNoString}
@@ -18,6 +19,14 @@ pub record IsForced (s : Store) (M : Solution → Type 0) (e : Equation) : Type 
   pub no_open_string : (v i r : ℕ) → IsOpenString s v → slice_get (e.left ++ e.right) i ≡ Some r → ¬ OccursIn s v r
   pub unequal : ¬ AreEqualNow s e
   pub forced : (σ : Solution) → Solves s σ → M σ → AreEqual σ e
+
+-- no solution makes its sides equal
+abbrev pub IsNeverEqual : Store → Equation → Type 0
+IsNeverEqual s e = (σ : Solution) → Solves s σ → ¬ AreEqual σ e
+
+-- a number that is above no cell of these gamma terms and their labels is above none of its sides
+abbrev pub NamesGammas : List GammaCell → Equation → Type 0
+NamesGammas gs e = (base : ℕ) → IsTrue (list_all (nat_le base) (flat_map gamma_cells gs)) → IsTrue (list_all (nat_le base) (equation_cells e))
 
 abbrev pub IsEigen : Store → ℕ → Type 0
 IsEigen s e = (p : ℕ) × (rs : List ℕ) × (slice_get s.cells e ≡ Some (eigen_cell p rs))

@@ -1,12 +1,12 @@
 -- How far the way to a position was followed by the values of a name.
-use Rattle.std.specs.Prelude.{◌≡◌, ◌⊎◌, ℕ, suc, ◌+◌, List, take, drop, None, Some, slice_get, IsTrue}
+use Rattle.std.specs.Prelude.{◌≡◌, ◌⊎◌, ℕ, suc, ◌+◌, List, ◌++◌, take, drop, None, Some, slice_get, IsTrue}
 use Rattle.calculus.specs.declared.sort.Sort.{Sort}
 use Rattle.calculus.specs.declared.sort.Sort.TheVariants.{TermSort, StringSort}
 use Rattle.calculus.specs.declared.kind.Shape.{Shape}
 use Rattle.calculus.specs.declared.kind.Shape.TheVariants.{Alpha, Beta, Gamma, Delta, Literal}
 use Rattle.calculus.specs.declared.kind.ModalPart.{ModalPart}
 use Rattle.calculus.specs.declared.kind.ModalPart.TheVariants.{Plain, Nu, Pi}
-use Rattle.store_theory.specs.Stores.{Store, has_sort_at}
+use Rattle.store_theory.specs.Stores.{Store, has_sort_at, new_cell}
 use Rattle.calculus.specs.declared.setting.Logic.{Logic}
 use Rattle.store_theory.specs.Systems.{is_label}
 use Rattle.calculus.specs.Kinds.{Signed}
@@ -15,6 +15,8 @@ use Rattle.term_unify.specs.Flat.{HasNoString}
 use Rattle.calculus.specs.Syntax.{Problem}
 use Rattle.search_theory.specs.Demanding.{IsHomeAt}
 use Rattle.search_theory.specs.HomeCells.{CellReached, PassesModal}
+use Rattle.search_theory.specs.KeepingCells.{AddsRight}
+use Rattle.search_theory.specs.LabelledCells.{is_labelled_cell}
 
 -- the label that is reached when k of the values are taken
 abbrev pub reaching : List ℕ → List ℕ → ℕ → CellReached
@@ -59,6 +61,10 @@ pub record IsPushed (l : Logic) (old new : Store) (m : ModalPart) (q : ℕ) (rs 
   pub passes : (n : ℕ) → TakesString old m rs k n → PassesModal l new q m (reaching before rs k) (reaching after rs n)
   pub sorted : IsTrue (is_label old before) → IsTrue (is_label new after)
   pub free : IsTrue (is_label old before) → HasNoString old rs → HasNoString old before → HasNoString new after
+
+-- what is added past the modal part is built right where a mark of the position, named by the values taken, would be
+abbrev pub PushesRight : Store → Store → ModalPart → ℕ → List ℕ → ℕ → List ℕ → List ℕ → Type 0
+PushesRight old new m q rs k before after = (P : Problem) → (m ≡ Pi → IsTrue (is_labelled_cell P old (new_cell q (take k rs)))) → AddsRight P (rs ++ before) old new after
 
 -- the label ks is the home of the name of the position p with the values rs
 pub record IsFoundHome (P : Problem) (old new : Store) (p : ℕ) (rs ks : List ℕ) : Type 0 where

@@ -1,6 +1,6 @@
 //! Constant domains.
 
-ghost use Rattle.std.specs.Prelude.{◌≡◌, true};
+ghost use Rattle.std.specs.Prelude.{◌≡◌};
 ghost use Rattle.std.specs.List.{list_all};
 ghost use Rattle.calculus.specs.declared.setting.Domains.TheVariants.{Constant};
 ghost use Rattle.calculus.specs.Instances.{gamma_is_allowed};
@@ -33,7 +33,7 @@ impl Demand for ConstantDemand<'_> {
 
     ghost common = { λ d. common_spares d.problem.now };
 
-    ghost asks_nothing = { true };
+    ghost problem = { λ d. d.problem.now };
 
     fn next(&mut self, store: &mut Store, _system: &System) -> Result<Option<Equation>, NoMemory> {
         let _now = store.mark();

@@ -1,6 +1,6 @@
 //! Cumulative domains.
 
-ghost use Rattle.std.specs.Prelude.{◌≡◌, IfOk, false};
+ghost use Rattle.std.specs.Prelude.{◌≡◌, IfOk};
 ghost use Rattle.std.specs.List.{list_all};
 ghost use Rattle.calculus.specs.declared.setting.Domains.TheVariants.{Cumulative};
 ghost use Rattle.calculus.specs.Instances.{gamma_is_allowed};
@@ -42,7 +42,7 @@ impl Demand for CumulativeDemand<'_> {
 
     ghost common = { λ d. common_spares d.problem.now };
 
-    ghost asks_nothing = { false };
+    ghost problem = { λ d. d.problem.now };
 
     fn next(&mut self, store: &mut Store, system: &System) -> Result<Option<Equation>, NoMemory> {
         let _now = store.mark();

@@ -8,13 +8,16 @@ ghost use Rattle.calculus.specs.Equality.{sort_eq};
 ghost use Rattle.calculus.specs.Kinds.{components};
 ghost use Rattle.calculus.specs.Labels.{pi_label};
 ghost use Rattle.calculus.specs.Positions.{size};
+ghost use Rattle.calculus.specs.Skolem.{fits_way};
+ghost use Rattle.search_theory.specs.KeepingCells.{AddsRight};
+ghost use Rattle.search_theory.specs.LabelledCells.{sort_values};
 ghost use Rattle.store_theory.specs.Stores.{has_sort_at, has_value_sort_at};
 ghost use Rattle.formula_core.specs.FormulaView.{the_formula};
 ghost use Rattle.tableau_core.specs.InsideView.{the_inside};
 ghost use Rattle.term_store.specs.RefView.{the_place};
 ghost use Rattle.term_store.specs.Room.{KeepsRoom};
 ghost use Rattle.domain_cond.specs.Ways.{IsBelow, IsFoundHome, IsPushed, LacksString, LacksTerm};
-ghost use Rattle.domain_cond.specs.Ways.{LacksValue, TakesString, TakesTerm, TakesValue};
+ghost use Rattle.domain_cond.specs.Ways.{LacksValue, PushesRight, TakesString, TakesTerm, TakesValue};
 
 use cop_base::{NoMemory, PosId};
 use logic_rules::{Logic, ModalPart, Shape, kind_of};
@@ -141,6 +144,9 @@ fn push_modal(
     ensures pushed { OnOk result (IsPushed logic store.old.store store.new.store modal position.0
         (map the_place values.now) taken (map the_place label.old.items)
         (map the_place label.new.items)) }
+    ensures right { OnOk result (PushesRight store.old.store store.new.store modal position.0
+        (map the_place values.now) taken (map the_place label.old.items)
+        (map the_place label.new.items)) }
     ensures adds { AddsBuilt store.old.store store.new.store }
     ensures room { KeepsRoom store.old store.new }
 {
@@ -191,6 +197,9 @@ pub(crate) fn home(
     requires { IsTrue (list_all (has_value_sort_at store.old.store) (map the_place values.now)) }
     ensures found { IfOk result (λ label. IsFoundHome problem.now store.old.store store.new.store p.0
         (map the_place values.now) (map the_place label.items)) }
+    ensures right { IfOk result (λ label. IsTrue (fits_way problem.now p.0
+        (sort_values store.old.store (map the_place values.now))) → AddsRight problem.now
+        (map the_place values.now) store.old.store store.new.store (map the_place label.items)) }
     ensures adds { AddsBuilt store.old.store store.new.store }
     ensures room { KeepsRoom store.old store.new }
 {

@@ -5,10 +5,12 @@ ghost use Rattle.calculus.specs.declared.setting.Domains.TheVariants.{Varying};
 ghost use Rattle.store_theory.specs.Bindings.{AddsBuilt};
 ghost use Rattle.calculus.specs.Skolem.{common_spares};
 ghost use Rattle.calculus.specs.Syntax as syntax;
-ghost use Rattle.store_theory.specs.Systems.{AllAllowed, HasNoOpenString, IsDemandEquation, is_system};
+ghost use Rattle.store_theory.specs.Systems.{AllAllowed, HasNoOpenString, IsDemandEquation, cells_of};
+ghost use Rattle.store_theory.specs.Systems.{is_system};
+ghost use Rattle.search_theory.specs.KeepingCells.{EquatesRight};
 ghost use Rattle.term_store.specs.Room.{KeepsRoom};
 ghost use Rattle.term_store.specs.SystemView.{the_equation, the_system};
-ghost use Rattle.domain_cond.specs.Conditions.{IsForced};
+ghost use Rattle.domain_cond.specs.Conditions.{IsForced, IsNeverEqual};
 ghost use Rattle.domain_cond.specs.Standings.{HasOwnSpares};
 
 use crate::ranking::has_no_cycle;
@@ -21,6 +23,7 @@ use term_unify::Unifier;
 // As `impossible`, but a mark may be left.
 fn equation_with_mark(alloc: Global, store: &mut Store) -> Result<Equation, NoMemory>
     ensures never { IfOk result (λ e. IsForced store.new.store (λ σ. ⊥) (the_equation e)) }
+    ensures apart { IfOk result (λ e. IsNeverEqual store.new.store (the_equation e)) }
     ensures adds { AddsBuilt store.old.store store.new.store }
     ensures room { KeepsRoom store.old store.new }
 {
@@ -36,6 +39,7 @@ fn equation_with_mark(alloc: Global, store: &mut Store) -> Result<Equation, NoMe
 // An equation that nothing solves. Want of memory leaves the store as it was.
 fn impossible(alloc: Global, store: &mut Store) -> Result<Equation, NoMemory>
     ensures never { IfOk result (λ e. IsForced store.new.store (λ σ. ⊥) (the_equation e)) }
+    ensures apart { IfOk result (λ e. IsNeverEqual store.new.store (the_equation e)) }
     ensures adds { AddsBuilt store.old.store store.new.store }
     ensures err { OnErr result (store.new.store ≡ store.old.store) }
     ensures room { KeepsRoom store.old store.new }
@@ -67,6 +71,8 @@ pub(crate) fn unmet_by_spares(
         (the_equation e))) }
     ensures met { IfOk result (λ o. o ≡ None
         → HasOwnSpares store.old.store (the_system system.now).gammas) }
+    ensures right { IfOk result (λ o. IfSome o (λ e. (P : syntax.Problem) → EquatesRight P
+        (cells_of (the_system system.now)) store.old.store store.new.store (the_equation e))) }
     ensures unchanged { IfOk result (λ o. o ≡ None → store.new.store ≡ store.old.store) }
     ensures err { OnErr result (store.new.store ≡ store.old.store) }
     ensures adds { AddsBuilt store.old.store store.new.store }

@@ -11,7 +11,7 @@ ghost use Rattle.term_store.specs.RefView.{the_place};
 ghost use Rattle.term_store.specs.SystemView.{the_equation};
 ghost use Rattle.term_unify.specs.Flat.{HasNoString};
 ghost use Rattle.term_unify.specs.Same.{AreSameLabels};
-ghost use Rattle.domain_cond.specs.Conditions.{IsForced};
+ghost use Rattle.domain_cond.specs.Conditions.{IsForced, NamesGammas};
 ghost use Rattle.domain_cond.specs.Leaves.{IsLeaf, is_among};
 ghost use Rattle.domain_cond.specs.StandingView.{the_standing};
 ghost use Rattle.domain_cond.specs.Standings.{AgreeWith, AreStandings, ConstantStands, IsStanding};
@@ -193,6 +193,8 @@ fn unequal_label(
     requires place { place < length gammas.now }
     ensures unmet { IfOk result (λ o. IfSome o (λ e. IsForced store.now.store
         (LabelsAgree store.now.store (map the_gamma gammas.now)) (the_equation e))) }
+    ensures names { IfOk result (λ o. IfSome o (λ e. NamesGammas (map the_gamma gammas.now)
+        (the_equation e))) }
     ensures met { IfOk result (λ o. o ≡ None → (g : GammaCell)
         → slice_get (map the_gamma gammas.now) place ≡ Some g
         → AgreeWith store.now.store (map the_gamma gammas.now) g) }
@@ -226,6 +228,8 @@ pub(crate) fn unequal_labels(
         (map the_standing standings.now) }
     ensures unmet { IfOk result (λ o. IfSome o (λ e. IsForced store.now.store
         (LabelsAgree store.now.store (map the_gamma gammas.now)) (the_equation e))) }
+    ensures names { IfOk result (λ o. IfSome o (λ e. NamesGammas (map the_gamma gammas.now)
+        (the_equation e))) }
     ensures met { IfOk result (λ o. o ≡ None
         → HomesAgree store.now.store (map the_gamma gammas.now)) }
 {

@@ -1,14 +1,17 @@
 //! Homes that do not allow a label yet.
 
-ghost use Rattle.std.specs.Prelude.{◌≡◌, ◌<◌, ℕ, List, None, Some, IfOk, IfSome, IsTrue, OnErr};
-ghost use Rattle.std.specs.Prelude.{false, length, map, slice_get, true};
+ghost use Rattle.std.specs.Prelude.{◌≡◌, ◌<◌, ◌∷◌, [], ℕ, List, None, Some, IfOk, IfSome, IsTrue};
+ghost use Rattle.std.specs.Prelude.{OnErr, false, length, map, nat_le, slice_get, true};
+ghost use Rattle.std.specs.List.{list_all};
 ghost use Rattle.calculus.specs.declared.setting.Domains.TheVariants.{Constant};
-ghost use Rattle.store_theory.specs.Bindings.{AddsBuilt, IsEnd};
+ghost use Rattle.store_theory.specs.Bindings.{AddsBuilt, IsEnd, NamesFrom};
 ghost use Rattle.store_theory.specs.Stores.{Solution, Solves, eigen_cell};
 ghost use Rattle.store_theory.specs.Stores as tree;
 ghost use Rattle.calculus.specs.Syntax as syntax;
 ghost use Rattle.store_theory.specs.Systems.{AllAllowed, HasNoOpenString, IsDemandEquation};
-ghost use Rattle.store_theory.specs.Systems.{is_gamma_cell, is_label, is_system};
+ghost use Rattle.store_theory.specs.Systems.{cells_of, is_gamma_cell, is_label, is_system};
+ghost use Rattle.search_theory.specs.KeepingCells.{AddsRight, EquatesRight, equation_cells};
+ghost use Rattle.search_theory.specs.KeepingCells.{gamma_cells};
 ghost use Rattle.search_theory.proofs.DemandLaws.{HomesAllow};
 ghost use Rattle.term_store.specs.ClauseView.{the_gamma};
 ghost use Rattle.term_store.specs.RefView.{the_place};
@@ -62,6 +65,8 @@ pub(crate) fn eigen_home(
     ensures found { IfOk result (λ label. (p : ℕ) (rs : List ℕ)
         → slice_get store.old.store.cells eigen.0 ≡ Some (eigen_cell p rs)
         → IsFoundHome problem.now store.old.store store.new.store p rs (map the_place label.items)) }
+    ensures right { IfOk result (λ label. AddsRight problem.now (eigen.0 ∷ []) store.old.store
+        store.new.store (map the_place label.items)) }
     ensures adds { AddsBuilt store.old.store store.new.store }
     ensures room { KeepsRoom store.old store.new }
 {
@@ -89,9 +94,12 @@ fn part_for(
     requires free_home { HasNoString store.now.store (map the_place home.now) }
     requires free_label { HasNoString store.now.store (map the_place label.now) }
     requires not_constant { ¬ (domains ≡ Constant) }
-    ensures { IfOk result (λ part. (P : syntax.Problem) → P.setting.domains ≡ domains
+    ensures compared { IfOk result (λ part. (P : syntax.Problem) → P.setting.domains ≡ domains
         → IsCompared P store.now.store (map the_place home.now) (map the_place label.now)
         (map the_place part.items)) }
+    ensures from { IfOk result (λ part. (base : ℕ) → NamesFrom base store.now.store
+        → IsTrue (list_all (nat_le base) (map the_place label.now))
+        → IsTrue (list_all (nat_le base) (map the_place part.items))) }
 {
     let mut marks = flat_label(alloc, store, label)?;
     let Domains::Cumulative = domains else {
@@ -121,6 +129,9 @@ fn compare_home(
         (the_equation e))) }
     ensures met { IfOk result (λ o. o ≡ None → (σ : Solution) → Solves store.new.store σ
         → HomeAllows problem.now store.old.store eigen.0 (map the_place label.now) σ) }
+    ensures right { IfOk result (λ o. IfSome o (λ e. AddsRight problem.now
+        (eigen.0 ∷ map the_place label.now) store.old.store store.new.store
+        (equation_cells (the_equation e)))) }
     ensures adds { AddsBuilt store.old.store store.new.store }
     ensures room { KeepsRoom store.old store.new }
 {
@@ -172,6 +183,9 @@ fn unmet_leaf(
         (the_equation e))) }
     ensures met { IfOk result (λ o. o ≡ None → (σ : Solution) → Solves store.old.store σ
         → HomeAllows problem.now store.old.store leaf.0 (map the_place label.now) σ) }
+    ensures right { IfOk result (λ o. IfSome o (λ e. AddsRight problem.now
+        (leaf.0 ∷ map the_place label.now) store.old.store store.new.store
+        (equation_cells (the_equation e)))) }
     ensures unchanged { IfOk result (λ o. o ≡ None → store.new.store ≡ store.old.store) }
     ensures err { OnErr result (store.new.store ≡ store.old.store) }
     ensures adds { AddsBuilt store.old.store store.new.store }
@@ -210,6 +224,9 @@ fn unmet_term(
         (λ σ. HomesAllow problem.now store.old.store σ (the_gamma gamma.now)) (the_equation e))) }
     ensures met { IfOk result (λ o. o ≡ None → (σ : Solution) → Solves store.old.store σ
         → HomesAllow problem.now store.old.store σ (the_gamma gamma.now)) }
+    ensures right { IfOk result (λ o. IfSome o (λ e. AddsRight problem.now
+        (gamma_cells (the_gamma gamma.now)) store.old.store store.new.store
+        (equation_cells (the_equation e)))) }
     ensures unchanged { IfOk result (λ o. o ≡ None → store.new.store ≡ store.old.store) }
     ensures err { OnErr result (store.new.store ≡ store.old.store) }
     ensures adds { AddsBuilt store.old.store store.new.store }
@@ -243,6 +260,8 @@ pub(crate) fn unmet(
     ensures met { IfOk result (λ o. o ≡ None → (j : ℕ) (g : tree.GammaCell)
         → slice_get (the_system system.now).gammas j ≡ Some g → (σ : Solution)
         → Solves store.old.store σ → HomesAllow problem.now store.old.store σ g) }
+    ensures right { IfOk result (λ o. IfSome o (λ e. EquatesRight problem.now
+        (cells_of (the_system system.now)) store.old.store store.new.store (the_equation e))) }
     ensures unchanged { IfOk result (λ o. o ≡ None → store.new.store ≡ store.old.store) }
     ensures err { OnErr result (store.new.store ≡ store.old.store) }
     ensures adds { AddsBuilt store.old.store store.new.store }

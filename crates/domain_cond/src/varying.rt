@@ -1,13 +1,14 @@
 //! Varying domains.
 
-ghost use Rattle.std.specs.Prelude.{◌≡◌, IfOk, IfSome, IsTrue, None, OnErr, false};
+ghost use Rattle.std.specs.Prelude.{◌≡◌, IfOk, IfSome, IsTrue, None, OnErr};
 ghost use Rattle.std.specs.List.{list_all};
 ghost use Rattle.calculus.specs.declared.setting.Domains.TheVariants.{Varying};
 ghost use Rattle.calculus.specs.Instances.{gamma_is_allowed};
 ghost use Rattle.calculus.specs.Skolem.{common_spares};
 ghost use Rattle.store_theory.specs.Bindings.{AddsBuilt};
 ghost use Rattle.store_theory.specs.Systems.{AllAllowed, HasNoOpenString, IsDemandEquation};
-ghost use Rattle.store_theory.specs.Systems.{OwnSparesMeet, is_system};
+ghost use Rattle.store_theory.specs.Systems.{OwnSparesMeet, cells_of, is_system};
+ghost use Rattle.search_theory.specs.KeepingCells.{EquatesRight};
 ghost use Rattle.term_store.specs.Room.{KeepsRoom};
 ghost use Rattle.term_store.specs.SystemView.{the_equation, the_system};
 
@@ -58,6 +59,9 @@ fn next_equation(
         store.new.store (the_system system.now) (the_equation e))) }
     ensures none { IfOk result (λ o. o ≡ None → OwnSparesMeet (common_spares problem.now)
         (AllAllowed problem.now) store.new.store (the_system system.now)) }
+    ensures right { IfOk result (λ o. IfSome o (λ e. EquatesRight problem.now
+        (cells_of (the_system system.now)) store.old.store store.new.store (the_equation e))) }
+    ensures unchanged { IfOk result (λ o. o ≡ None → store.new.store ≡ store.old.store) }
     ensures adds { AddsBuilt store.old.store store.new.store }
     ensures err { OnErr result (store.new.store ≡ store.old.store) }
     ensures room { KeepsRoom store.old store.new }
@@ -78,7 +82,7 @@ impl Demand for VaryingDemand<'_> {
 
     ghost common = { λ d. common_spares d.problem.now };
 
-    ghost asks_nothing = { false };
+    ghost problem = { λ d. d.problem.now };
 
     fn next(&mut self, store: &mut Store, system: &System) -> Result<Option<Equation>, NoMemory> {
         let unifier = &mut self.unifier;

@@ -18,6 +18,7 @@ use Rattle.term_unify.proofs.PairLaws.{BindsOnly-with_binding, told}
 pub use Rattle.term_unify.proofs.FlatLaws.{ends-sorted}
 use Rattle.calculus.specs.Labels.{is_step_length}
 use Rattle.calculus.specs.Syntax.{Problem}
+use Rattle.search_theory.specs.KeepingCells.{SolvesRight}
 use Rattle.search_theory.specs.LabelledCells.{AreLabelled}
 use Rattle.search_theory.specs.Solving.{CannotHave, IsNarrowed}
 use Rattle.search_theory.specs.Steps.{IsUnified}
@@ -201,6 +202,9 @@ given-bound n s r v h ends e l = subst (λ p. IsGiven s (with_binding v p (with_
 
 pub right-both : (P : Problem) (ks : List ℕ) (s t u : Store) → length s.cells ≤ length t.cells → KeepsRight P ks s t → KeepsRight P ks t u → KeepsRight P ks s u
 right-both P ks s t u longer h k base l from a = k base (omega (arith, longer, l)) from (h base l from a)
+
+pub right-solved : (P : Problem) (ks : List ℕ) (s t u : Store) → length s.cells ≤ length t.cells → KeepsRight P ks s t → SolvesRight P ks t u → SolvesRight P ks s u
+right-solved P ks s t u longer h k σ solved = right-both P ks s t u longer h (k σ solved)
 
 pub right-more : (P : Problem) (ks : List ℕ) (s t : Store) → KeepsRight P [] s t → KeepsRight P ks s t
 right-more P ks s t h base l from a = h base l refl a

@@ -5,10 +5,12 @@ use Rattle.std.proofs.lemmas.Bool.{and_parts, and_from, false≢true}
 use Rattle.calculus.specs.declared.sort.Sort.{Sort}
 use Rattle.calculus.specs.declared.sort.Sort.TheVariants.{TermSort, MarkSort, StringSort}
 use Rattle.store_theory.specs.Bindings.{AddsBuilt, BindsOnly, is_variable, nothing_more, one_more, with_cell}
+use Rattle.calculus.specs.Syntax.{Problem}
 use Rattle.calculus.specs.Instances.{GammaUse}
 use Rattle.store_theory.specs.Stores.{Cell, variable, fun_cell, eigen_cell, new_cell, string_cell, Store, has_sort_at, is_store, is_bound, names_below, OccursIn, EndsAt, Solution, Solves, CellHolds, GammaCell}
 use Rattle.store_theory.specs.Systems.{CellAtom, Equation, Pair, System, is_label, is_equation, is_gamma_cell, is_cell_atom, is_pair, is_system, cells_of, cells_of_atom, AreEqual, AreEqualNow, AreUses, MeetsDemand, HasBuiltStrings, HasNoOpenString, IsDemandEquation, IsOpenString, OwnSparesMeet}
 use Rattle.calculus.proofs.PlaceLists.{all-at}
+use Rattle.search_theory.specs.KeepingCells.{EquatesRight, KeepsRight, SolvesRight, equation_cells, gamma_cells}
 use Rattle.search_theory.specs.Solving.{CannotEqual, IsNarrowed}
 use Rattle.search_theory.specs.States.{Agree}
 use Rattle.search_theory.proofs.BelowLaws.{all-join}
@@ -95,12 +97,6 @@ system-cells s y h =
 
 pub cell-within : (s : Store) (y : System) (i r : ℕ) → IsTrue (is_system s y) → slice_get (cells_of y) i ≡ Some r → r < length s.cells
 cell-within s y i r h e = ltb-true r (length s.cells) (all-at (λ x. nat_lt x (length s.cells)) (cells_of y) i r (system-cells s y h) e)
-
-abbrev equation_cells : Equation → List ℕ
-equation_cells e = e.left ++ e.right
-
-abbrev gamma_cells : GammaCell → List ℕ
-gamma_cells g = g.term ∷ g.label
 
 abbrev pair_cells : Pair → List ℕ
 pair_cells p = cells_of_atom p.upper ++ cells_of_atom p.lower
@@ -208,3 +204,12 @@ sides-free Asked t y e d = (
   (λ v i r o q w. (let (j, p) = item-left r e.left e.right (i, q) in d.no_open_string v j r o p w)),
   (λ v i r o q w. (let (j, p) = item-right r e.left e.right (i, q) in d.no_open_string v j r o p w)),
 )
+
+-- what was added and bound for an equation of the demand is built right where it was before
+pub right-equated : (P : Problem) (y : System) (start cur t u : Store) (e : Equation) → length start.cells ≤ length cur.cells → AddsBuilt cur t → IsNarrowed t u (λ σ. AreEqual σ e) → SolvesRight P (cells_of y) start cur → EquatesRight P (cells_of y) cur t e → KeepsRight P (equation_cells e) t u → SolvesRight P (cells_of y) start u
+right-equated P y start cur t u e longer adds narrowed before asked made σ k base low from a =
+    let (solved, equal) = narrowed.back σ k in
+    let more = adds-longer cur t adds in
+    let b = before σ (adds-back cur t adds σ solved) base low from a in
+    let (c, named) = asked σ solved equal base (omega (arith, longer, low)) from b in
+    made base (omega (arith, longer, low, more)) named c

@@ -9,6 +9,7 @@ use Rattle.store_theory.specs.Bindings.{AddsBuilt}
 use Rattle.calculus.specs.Counting.{IsRising, MoreThan}
 use Rattle.calculus.specs.Instances.{GammaUse}
 use Rattle.calculus.specs.Space.{has_labels, lengths_cmp}
+use Rattle.calculus.specs.Syntax.{Problem}
 use Rattle.store_theory.specs.Stores.{Store, Solution, Solves}
 use Rattle.store_theory.specs.Systems.{System, AreEarly, AreEqual, AreTried, Differ, HasBoundedSolution, HasSolution, IsStep, MeetsDemand, OwnSparesSolve, is_system}
 use Rattle.calculus.proofs.OrderLaws.{lengths_cmp-IsAntisymmetric, lengths_cmp_total}
@@ -113,8 +114,8 @@ found-moved b c l f g u y p q h =
     subst (λ z. OwnSparesSolve z l (Asks f) u y) p
     (subst (λ z. OwnSparesSolve c l (Asks z) u y) q h)
 
-pub back-moved : (l : Logic) (b : Bool) (y : System) (s t u : Store) → t ≡ s → IsFoundIn l b y t u → IsFoundIn l b y s u
-back-moved l b y s t u e h = subst (λ z. IsFoundIn l b y z u) e h
+pub back-moved : (l : Logic) (P Q : Problem) (y : System) (s t u : Store) → Q ≡ P → t ≡ s → IsFoundIn l Q y t u → IsFoundIn l P y s u
+back-moved l P Q y s t u p e h = subst (λ x. IsFoundIn l x y s u) p (subst (λ z. IsFoundIn l Q y z u) e h)
 
 pub bounded-moved : (l : Logic) (f g : List GammaUse → Bool) (s t : Store) (y : System) → g ≡ f → t ≡ s → ¬ HasBoundedSolution l (Asks g) t y → ¬ HasBoundedSolution l (Asks f) s y
 bounded-moved l f g s t y p q h =

@@ -9,10 +9,11 @@ use Rattle.calculus.specs.declared.setting.Logic.{Logic}
 use Rattle.calculus.specs.declared.sort.Sort.TheVariants.{StringSort}
 use Rattle.store_theory.specs.Bindings.{IsWellFormed}
 use Rattle.calculus.specs.Instances.{GammaUse}
-use Rattle.store_theory.specs.Stores.{variable, string_cell, GammaCell, Store, EndsAt, stays, goes_on, Solution, Solves}
+use Rattle.store_theory.specs.Stores.{variable, string_cell, Store, EndsAt, stays, goes_on, Solution, Solves}
 use Rattle.store_theory.specs.Systems.{Equation, Pair, System, AreEqual, AreEqualNow, AreTried, HasBuiltStrings, HasNoOpenString, HasSolution, HaveLengths, IsOpenString, MeetsDemand, NamesItsStrings, OccursInSystem, OwnSparesMeet, OwnSparesSolve, bound_of, cells_of, cells_of_atom, is_system}
 use Rattle.store_theory.proofs.BindingLaws.{HasNoCycle-rank, ends-once}
 use Rattle.search_theory.specs.Regular.{AreSame}
+use Rattle.search_theory.specs.KeepingCells.{equation_cells, gamma_cells}
 use Rattle.search_theory.specs.Solving.{CannotHave, IsNarrowed, IsSolving}
 use Rattle.search_theory.proofs.BuildingLaws.{agree-both}
 use Rattle.search_theory.proofs.RankLaws.{rank_of, ranked-by_no_cycle}
@@ -20,7 +21,6 @@ use Rattle.search_theory.proofs.SolvingLaws.{carried, found, none-by_pair, syste
 use Rattle.search_theory.proofs.BelowLaws.{all-weaken}
 use Rattle.search_theory.proofs.SystemCells.{pairs-in}
 use Rattle.search_theory.proofs.SystemLaws.{split-all}
-use Rattle.prefix_split.specs.Equated.{equation_cells}
 use Rattle.prefix_split.specs.Later.{IsLater, KeepsRight}
 use Rattle.prefix_split.specs.Meeting.{IsForced}
 use Rattle.prefix_split.specs.Same.{DifferNow}
@@ -68,9 +68,6 @@ set-both s t u y ns fits first rest = record {
 }
 
 -- ---- what stays built right
-
-abbrev gamma_cells : GammaCell → List ℕ
-gamma_cells g = g.term ∷ g.label
 
 abbrev pair_cells : Pair → List ℕ
 pair_cells p = cells_of_atom p.upper ++ cells_of_atom p.lower

@@ -1,9 +1,9 @@
 -- What each step of solving keeps of a store.
-use Rattle.std.specs.Prelude.{◌≡◌, ℕ, ◌<◌, ◌≤◌, List, length, Some, slice_get, nat_le, Bool, true, IsTrue}
-use Rattle.std.specs.List.{list_all}
+use Rattle.std.specs.Prelude.{◌≡◌, ℕ, ◌<◌, ◌≤◌, List, length, Some, slice_get, IsTrue}
 use Rattle.calculus.specs.Syntax.{Problem}
 use Rattle.calculus.specs.declared.setting.Logic.{Logic}
-use Rattle.search_theory.specs.LabelledCells.{AreLabelled}
+use Rattle.search_theory.specs.KeepingCells.{SolvesRight}
+pub use Rattle.search_theory.specs.KeepingCells.{KeepsRight}
 use Rattle.calculus.specs.declared.sort.Sort.{Sort}
 use Rattle.store_theory.specs.Bindings.{KeepsMarks}
 use Rattle.store_theory.specs.Stores.{Store, variable, string_cell, has_sort_at, OccursIn, EndsAt, Solution, Solves}
@@ -13,10 +13,6 @@ pub use Rattle.term_unify.specs.Flat.{HasNoString, HasNoStringIn}
 -- the bindings of the cell end at a built string
 abbrev pub IsBuiltString : Store → ℕ → Type 0
 IsBuiltString s r = (v : ℕ) × (rs : List ℕ) × EndsAt s r v × (slice_get s.cells v ≡ Some (string_cell rs))
-
--- the problem's cells from the number `base` on, which is above none of these cells, stay built right
-abbrev pub KeepsRight : Problem → List ℕ → Store → Store → Type 0
-KeepsRight P ks old new = (base : ℕ) → base ≤ length old.cells → IsTrue (list_all (nat_le base) ks) → AreLabelled P (λ r. base ≤ r) old → AreLabelled P (λ r. base ≤ r) new
 
 -- cells have the sorts that they had, bindings and built strings stay, an unbound string that occurs in an old cell occurred there before,
 -- and none came
@@ -29,10 +25,10 @@ pub record IsLater (old new : Store) : Type 0 where
   pub bound : (r k : ℕ) (sort : Sort) → slice_get old.cells r ≡ Some (variable sort (Some k)) → slice_get new.cells r ≡ Some (variable sort (Some k))
   pub marks : KeepsMarks old new
 
--- where a solution was found: the solutions of the new store are some of the old one, and the system's strings are built. Where the
--- demand asks nothing, cells stay built right
-pub record IsFoundIn (l : Logic) (asks_nothing : Bool) (y : System) (old new : Store) : Type 0 where
+-- where a solution was found: the solutions of the new store are some of the old one, the system's strings are built, and the cells of
+-- the problem, where it has this logic, stay built right
+pub record IsFoundIn (l : Logic) (P : Problem) (y : System) (old new : Store) : Type 0 where
   pub back : (σ : Solution) → Solves new σ → Solves old σ
   pub later : IsLater old new
   pub built : HasBuiltStrings new y
-  pub right : (P : Problem) → P.setting.logic ≡ l → asks_nothing ≡ true → KeepsRight P (cells_of y) old new
+  pub right : P.setting.logic ≡ l → SolvesRight P (cells_of y) old new

@@ -3,7 +3,8 @@
 ghost use Rattle.std.specs.Prelude.{◌≡◌, IfOk, IsTrue, false, true};
 ghost use Rattle.store_theory.specs.Stores.{Solution, Solves};
 ghost use Rattle.store_theory.specs.Systems.{HasBuiltStrings, HasNoOpenString, MeetsDemand};
-ghost use Rattle.store_theory.specs.Systems.{OwnSparesMeet, is_system};
+ghost use Rattle.store_theory.specs.Systems.{OwnSparesMeet, cells_of, is_system};
+ghost use Rattle.search_theory.specs.KeepingCells.{SolvesRight};
 ghost use Rattle.term_store.specs.Asking.{Asks};
 ghost use Rattle.term_store.specs.Room.{KeepsRoom};
 ghost use Rattle.term_store.specs.SystemView.{the_system};
@@ -34,11 +35,12 @@ pub(crate) fn meet_demand<M: Demand>(
     ensures never { IfOk result (λ met. met ≡ false → (σ : Solution) → Solves store.old.store σ
         → ¬ MeetsDemand (Asks (M.holds_for more.old)) (the_system system.now) σ) }
     ensures later { IsLater store.old.store store.new.store }
-    ensures nothing { IfOk result (λ met. met ≡ true → M.asks_nothing ≡ true
-        → store.new.store ≡ store.old.store) }
+    ensures right { IfOk result (λ met. met ≡ true → SolvesRight (M.problem more.old)
+        (cells_of (the_system system.now)) store.old.store store.new.store) }
     ensures room { KeepsRoom store.old store.new }
     ensures same { M.holds_for more.new ≡ M.holds_for more.old }
     ensures same_common { M.common more.new ≡ M.common more.old }
+    ensures same_problem { M.problem more.new ≡ M.problem more.old }
 {
     let _now = store.mark();
     while let Some(e) = more.next(store, system)? {

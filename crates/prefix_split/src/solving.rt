@@ -103,7 +103,8 @@ fn solve_apart<M: Demand>(
         → OwnSparesSolve (M.common more.old) logic (Asks (M.holds_for more.old)) store.new.store
         (the_system system.now))) }
     ensures back { IfOk result (λ o. IfSome o (λ a. a ≡ Solved.Found
-        → IsFoundIn logic M.asks_nothing (the_system system.now) store.old.store store.new.store)) }
+        → IsFoundIn logic (M.problem more.old) (the_system system.now) store.old.store
+        store.new.store)) }
     ensures none { IfOk result (λ o. IfSome o (λ a. a ≡ Solved.None → ¬ HasBoundedSolution logic
         (Asks (M.holds_for more.old)) store.old.store (the_system system.now))) }
     ensures decided { IfOk result (λ o. IfSome o (λ a. ¬ (a ≡ Solved.Steps))) }
@@ -114,6 +115,7 @@ fn solve_apart<M: Demand>(
     ensures room { KeepsRoom store.old store.new }
     ensures same { M.holds_for more.new ≡ M.holds_for more.old }
     ensures same_common { M.common more.new ≡ M.common more.old }
+    ensures same_problem { M.problem more.new ≡ M.problem more.old }
 {
     let tree = tree_of(alloc, store, logic, system, more, numbers)?;
     if tree.order.is_refuted {
@@ -158,7 +160,8 @@ fn solve_by_order<M: Demand>(
         → OwnSparesSolve (M.common more.old) logic (Asks (M.holds_for more.old)) store.new.store
         (the_system system.now))) }
     ensures back { IfOk result (λ o. IfSome o (λ a. a ≡ Solved.Found
-        → IsFoundIn logic M.asks_nothing (the_system system.now) store.old.store store.new.store)) }
+        → IsFoundIn logic (M.problem more.old) (the_system system.now) store.old.store
+        store.new.store)) }
     ensures none { IfOk result (λ o. IfSome o (λ a. a ≡ Solved.None → ¬ HasBoundedSolution logic
         (Asks (M.holds_for more.old)) store.old.store (the_system system.now))) }
     ensures decided { IfOk result (λ o. IfSome o (λ a. ¬ (a ≡ Solved.Steps))) }
@@ -169,6 +172,7 @@ fn solve_by_order<M: Demand>(
     ensures room { KeepsRoom store.old store.new }
     ensures same { M.holds_for more.new ≡ M.holds_for more.old }
     ensures same_common { M.common more.new ≡ M.common more.old }
+    ensures same_problem { M.problem more.new ≡ M.problem more.old }
 {
     if is_single(range) {
         return Ok(None);
@@ -206,7 +210,8 @@ pub fn solve<M: Demand>(
     ensures found { IfOk result (λ a. a ≡ Solved.Found → OwnSparesSolve (M.common more.old) logic
         (Asks (M.holds_for more.old)) store.new.store (the_system system.now)) }
     ensures back { IfOk result (λ a. a ≡ Solved.Found
-        → IsFoundIn logic M.asks_nothing (the_system system.now) store.old.store store.new.store) }
+        → IsFoundIn logic (M.problem more.old) (the_system system.now) store.old.store
+        store.new.store) }
     ensures none { IfOk result (λ a. a ≡ Solved.None → ¬ HasBoundedSolution logic
         (Asks (M.holds_for more.old)) store.old.store (the_system system.now)) }
     ensures steps { IfOk result (λ a. a ≡ Solved.Steps → ledger.new.used ≡ ledger.new.budget) }
@@ -223,6 +228,7 @@ pub fn solve<M: Demand>(
     ensures budget { ledger.new.budget ≡ ledger.old.budget }
     ensures same { M.holds_for more.new ≡ M.holds_for more.old }
     ensures same_common { M.common more.new ≡ M.common more.old }
+    ensures same_problem { M.problem more.new ≡ M.problem more.old }
 {
     let range = range_of(logic, system)?;
     let mut lengths = first_lengths(alloc, range, system.strings.items().len() as u32)?;

@@ -78,7 +78,8 @@ fn try_lengths<M: Demand>(
         store.new.store (the_system system.now)) }
     ensures back { IfOk result (λ found. found ≡ true
         → AreTried logic (the_system system.now) lengths.now
-        → IsFoundIn logic M.asks_nothing (the_system system.now) store.old.store store.new.store) }
+        → IsFoundIn logic (M.problem more.old) (the_system system.now) store.old.store
+        store.new.store) }
     ensures none { IfOk result (λ found. found ≡ false
         → ¬ HasSolution logic (Asks (M.holds_for more.old)) store.old.store
         (the_system system.now) lengths.now) }
@@ -86,6 +87,7 @@ fn try_lengths<M: Demand>(
     ensures room { KeepsRoom store.old store.new }
     ensures same { M.holds_for more.new ≡ M.holds_for more.old }
     ensures same_common { M.common more.new ≡ M.common more.old }
+    ensures same_problem { M.problem more.new ≡ M.problem more.old }
 {
     let _logic = logic;
     if !set_lengths(alloc, unifier, store, system, lengths)? {
@@ -124,7 +126,8 @@ pub(crate) fn try_or_undo<M: Demand>(
         store.new.store (the_system system.now)) }
     ensures back { IfOk result (λ found. found ≡ true
         → AreTried logic (the_system system.now) lengths.now
-        → IsFoundIn logic M.asks_nothing (the_system system.now) store.old.store store.new.store) }
+        → IsFoundIn logic (M.problem more.old) (the_system system.now) store.old.store
+        store.new.store) }
     ensures none { IfOk result (λ found. found ≡ false
         → ¬ HasSolution logic (Asks (M.holds_for more.old)) store.old.store
         (the_system system.now) lengths.now) }
@@ -135,6 +138,7 @@ pub(crate) fn try_or_undo<M: Demand>(
     ensures room { KeepsRoom store.old store.new }
     ensures same { M.holds_for more.new ≡ M.holds_for more.old }
     ensures same_common { M.common more.new ≡ M.common more.old }
+    ensures same_problem { M.problem more.new ≡ M.problem more.old }
 {
     let start = store.mark();
     let found = try_lengths(alloc, unifier, store, logic, system, more, lengths, same);

@@ -1,6 +1,6 @@
 //! Worked problems, with the steps that their searches take.
 
-use crate::ends::{End, deepened};
+use crate::ends::{End, deepened, is_proved};
 use connection_search::{Outcome, search_in};
 use cop_base::{Ledger, NoMemory, PathLimit};
 use logic_rules::{Domains, Logic, Problem};
@@ -33,6 +33,31 @@ fn answers_worked_problems(rt: HostRuntime) -> Result<(), Fail> {
         let problem = proving(alloc, *logic, Domains::Constant, formula)?;
         let found = deepened(alloc, &problem, *budget)?;
         assert!(rt; found == (*end, *used), "{found:?}");
+    }
+    Ok(())
+}
+
+// Which formulas are proved in classical and in intuitionistic logic.
+const THEOREMS: &[(&[u8], bool, bool)] = &[
+    (DRINKER, true, false),
+    (b"p(a) => ?[X]:p(X)", true, true),
+    (b"(?[X]:~p(X)) => ~(![X]:p(X))", true, true),
+    (b"(~(![X]:p(X))) => ?[X]:~p(X)", true, false),
+    (b"p => ~(~p)", true, true),
+    (b"(~(~p)) => p", true, false),
+];
+
+#[test]
+fn answers_closed_tableaux(rt: HostRuntime) -> Result<(), Fail> {
+    let alloc = rt.alloc();
+    for (row, (formula, classical, intuitionistic)) in THEOREMS.iter().enumerate() {
+        for (logic, proved) in [
+            (Logic::Classical, *classical),
+            (Logic::Intuitionistic, *intuitionistic),
+        ] {
+            let problem = proving(alloc, logic, Domains::Constant, formula)?;
+            assert!(rt; is_proved(alloc, &problem, 1000)? == proved, "row {row}");
+        }
     }
     Ok(())
 }

@@ -26,12 +26,12 @@ use Rattle.search_theory.proofs.SystemLaws.{split-all}
 
 -- ---- what a position takes
 
-pub strings_of : ModalPart → ℕ
+abbrev pub strings_of : ModalPart → ℕ
 strings_of Plain = 0
 strings_of Nu = 1
 strings_of Pi = 0
 
-pub terms_of : Shape → ℕ
+abbrev pub terms_of : Shape → ℕ
 terms_of Gamma = 1
 terms_of Alpha = 0
 terms_of Beta = 0
@@ -66,7 +66,6 @@ string-takes l q r next (steps s ∷ vs) e h =
     }
 
 modal-takes : (l : Logic) (q : ℕ) (m : ModalPart) (r next : Reached) → after_modal l q m r ≡ Some next → TakesMore (after_modal l q m) (strings_of m) r next
-unfolding strings_of
 modal-takes l q Plain r next h = let z : r ≡ next = cc h in same-takes (after_modal l q Plain) r next (λ vs. ap (λ (x : Reached). Some (with_rest x vs)) z) (ap (λ (x : Reached). x.rest) z) (sym (ap (λ (x : Reached). x.taken) z))
 modal-takes l q Pi r next h =
     let z : record { label = pi_label l r.label (g_new_mark q (values_tree r.taken)); taken = r.taken; rest = r.rest } ≡ next = cc h in
@@ -93,7 +92,6 @@ no-term-takes h r next plain e =
     same-takes (after_shape h) r next (λ vs. plain (with_rest r vs) ∙ ap (λ (x : Reached). Some (with_rest x vs)) z) (ap (λ (x : Reached). x.rest) z) (sym (ap (λ (x : Reached). x.taken) z))
 
 shape-takes : (h : Shape) (r next : Reached) → after_shape h r ≡ Some next → TakesMore (after_shape h) (terms_of h) r next
-unfolding terms_of
 shape-takes Gamma r next e = term-takes r next r.rest refl e
 shape-takes Alpha r next e = no-term-takes Alpha r next (λ x. refl) e
 shape-takes Beta r next e = no-term-takes Beta r next (λ x. refl) e

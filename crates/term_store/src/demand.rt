@@ -1,12 +1,14 @@
 //! What a domain condition asks of gamma terms.
 
-ghost use Rattle.std.specs.Prelude.{◌≡◌, Bool, IfOk, IfSome, IsTrue, List, None, OnErr, true};
+ghost use Rattle.std.specs.Prelude.{◌≡◌, Bool, IfOk, IfSome, IsTrue, List, None, OnErr};
 ghost use Rattle.store_theory.specs.Bindings.{AddsBuilt, KeepsMarks};
 ghost use Rattle.calculus.specs.Instances as instances;
+ghost use Rattle.calculus.specs.Syntax as syntax;
 ghost use Rattle.store_theory.specs.Stores.{Solution, Solves};
 ghost use Rattle.store_theory.specs.Systems.{HasBuiltStrings, HasNoOpenString, IsDemandEquation};
-ghost use Rattle.store_theory.specs.Systems.{MeetsDemand, OwnSparesMeet, is_system};
+ghost use Rattle.store_theory.specs.Systems.{MeetsDemand, OwnSparesMeet, cells_of, is_system};
 ghost use Rattle.std.specs.List.{AllByRecursion, list_all};
+ghost use Rattle.search_theory.specs.KeepingCells.{EquatesRight};
 ghost use Rattle.term_store.specs.Asking.{Asks};
 ghost use Rattle.term_store.specs.Homes.{BeginsLabel, is_home};
 ghost use Rattle.term_store.specs.Room.{KeepsRoom};
@@ -26,8 +28,8 @@ pub trait Demand {
     // whether spare constants of every domain exist
     ghost common: { Self → Bool };
 
-    // whether it has no equation in any store
-    ghost asks_nothing: { Bool };
+    // the problem whose names it judges
+    ghost problem: { Self → syntax.Problem };
 
     /// An equation that the condition forces and that does not hold yet. None is left only where
     /// giving each unbound variable its own spare meets the condition. It may add built cells, and
@@ -41,13 +43,15 @@ pub trait Demand {
         ensures none { IfOk result (λ o. o ≡ None → OwnSparesMeet (common self.old)
             (Asks (holds_for self.old)) store.new.store (the_system system.now)) }
         ensures adds { AddsBuilt store.old.store store.new.store }
-        ensures nothing { asks_nothing ≡ true → store.new.store ≡ store.old.store }
-        ensures no_equation { IfOk result (λ o. asks_nothing ≡ true → o ≡ None) }
+        ensures right { IfOk result (λ o. IfSome o (λ e. EquatesRight (problem self.old)
+            (cells_of (the_system system.now)) store.old.store store.new.store (the_equation e))) }
+        ensures unchanged { IfOk result (λ o. o ≡ None → store.new.store ≡ store.old.store) }
         ensures err { OnErr result (store.new.store ≡ store.old.store) }
         ensures marks { KeepsMarks store.old.store store.new.store }
         ensures room { KeepsRoom store.old store.new }
         ensures same { holds_for self.new ≡ holds_for self.old }
-        ensures same_common { common self.new ≡ common self.old };
+        ensures same_common { common self.new ≡ common self.old }
+        ensures same_problem { problem self.new ≡ problem self.old };
 
     /// The labels that the condition forces to be beginnings of others, whatever the strings are.
     /// It may add built cells, and binds nothing. Want of memory leaves the store as it was.

@@ -19,4 +19,4 @@ pub returns-clause-counted : goal.returns-clause-counted
 returns-clause-counted g c = counted-by c.args.problem.now c.args.store.now.store (the_system c.args.system.now) c.logic-logic.result (g.M.Demand.holds_for c.args.demand.now) c.args.ledger.now.used c.solve.new.ledger.used (c.logic-logic.ensures ∙ ap (λ (z : Setting). z.logic) c.setting.ensures.setting) c.requires.demand c.solve.ensures.counted
 
 pub returns-clause-found : goal.returns-clause-found
-returns-clause-found g c = λ e. found-of c.args.problem.now g.M.Demand.asks_nothing c.args.store.now.store c.solve.new.store.store (the_system c.args.system.now) c.logic-logic.result (g.M.Demand.holds_for c.args.demand.now) (g.M.Demand.common c.args.demand.now) (c.logic-logic.ensures ∙ ap (λ (z : Setting). z.logic) c.setting.ensures.setting) c.requires.demand c.requires.common c.mark-after.ensures.well (c.in_ok-solved.ensures.back e) (c.in_ok-solved.ensures.found e)
+returns-clause-found g c = λ e. found-of c.args.problem.now (g.M.Demand.problem c.args.demand.now) c.args.store.now.store c.solve.new.store.store (the_system c.args.system.now) c.logic-logic.result (g.M.Demand.holds_for c.args.demand.now) (g.M.Demand.common c.args.demand.now) c.requires.problem (c.logic-logic.ensures ∙ ap (λ (z : Setting). z.logic) c.setting.ensures.setting) c.requires.demand c.requires.common c.mark-after.ensures.well (c.in_ok-solved.ensures.back e) (c.in_ok-solved.ensures.found e)

@@ -1,4 +1,5 @@
-use Rattle.std.proofs.Common.{rules, ◌≡◌, ◌∙◌, None, ap, arith, map, subst, sym}
+use Rattle.std.proofs.Common.{rules, ◌≡◌, ◌∙◌, IsTrue, None, ap, arith, map, nat_le, refl, subst, sym}
+use Rattle.std.specs.List.{list_all}
 use Rattle.store_theory.specs.Bindings.{nothing_more}
 use Rattle.calculus.specs.Positions.{size}
 use Rattle.calculus.specs.Syntax.{Setting}
@@ -8,6 +9,7 @@ use Rattle.tableau_core.specs.InsideView.{the_inside}
 use Rattle.term_store.specs.RefView.{the_place}
 use Rattle.domain_cond.specs.Ways.{IsFoundHome}
 use Rattle.domain_cond.proofs.HomeSteps.{IsKind, step-last, step-next, step-no_string, step-no_term}
+use Rattle.domain_cond.proofs.RightLaws.{right-further, right-last, right-root, right-so_far}
 use Rattle.domain_cond.proofs.WayLaws.{found-outside, on-root}
 use Rattle.domain_cond.proofs.home.home.Goals as goal
 
@@ -24,6 +26,7 @@ loop-middle-init c =
     let h = c.whole-whole.ensures.small in
     record {
       way = on-root c.args.problem.now c.args.p.0 c.args.store.now.store (map the_place c.args.values.now) (map the_place c.new-label.result.items) c.whole-whole.result.sign (the_formula c.whole-whole.result.formula.now) (omega (arith, e, g)) c.requires c.mark-now.ensures.well.fits (ap (map the_place) c.new-label.ensures.items) c.whole-whole.ensures.sign c.whole-whole.ensures.formula;
+      right = right-root c.args.problem.now c.args.p.0 c.args.store.now.store (map the_place c.args.values.now) (map the_place c.new-label.result.items) c.whole-whole.result.sign (the_formula c.whole-whole.result.formula.now) (omega (arith, e, g)) (ap (map the_place) c.new-label.ensures.items) c.whole-whole.ensures.sign c.whole-whole.ensures.formula;
       inside = omega (arith, e, g);
       small = omega (arith, h);
       taken = omega arith;
@@ -140,8 +143,28 @@ loop-middle-preserved c =
     let b = c.push_modal.ensures.room in
     record {
       way = step-next P c.logic-logic.result c.kind_of-kind.result.modal c.kind_of-kind.result.shape c.args.p.0 c.args.store.now.store s c.push_modal.new.store.store rs label (map the_place c.push_modal.new.label.items) c.loop-middle.taken c.in-Some.middle c.in-Some-past_shape.next c.loop-middle.at.further part.sign f c.loop-middle.at.place (the_inside c.below-at.result) kind w c.loop-middle.invariant.inside (omega (arith, z)) c.in-Some.ensures.some c.in-Some-past_shape.ensures.some c.in_ok-push_modal.ensures.pushed c.push_modal.ensures.adds c.below-at.ensures.leads;
+      right = right-further P c.logic-logic.result c.kind_of-kind.result.modal c.kind_of-kind.result.shape c.args.p.0 c.args.store.now.store s c.push_modal.new.store.store rs label (map the_place c.push_modal.new.label.items) c.loop-middle.taken c.in-Some.middle c.in-Some-past_shape.next c.loop-middle.at.further part.sign f c.loop-middle.at.place (the_inside c.below-at.result) kind w c.loop-middle.invariant.right (let l = c.loop-middle.invariant.inside in omega (arith, z, l)) c.in-Some.ensures.some c.in-Some-past_shape.ensures.some c.in_ok-push_modal.ensures.right c.below-at.ensures.leads;
       inside = c.below-at.ensures.inside;
       small = c.below-at.ensures.small;
       taken = c.in-Some-past_shape.ensures.within;
       room = (omega (arith, a, b), omega (arith, a, b));
     }
+
+-- ---- what is built right
+
+pub returns-then-p-size-clause-right : goal.returns-then-p-size-clause-right
+returns-then-p-size-clause-right c = λ fits base low from a. (a, subst (λ xs. IsTrue (list_all (nat_le base) (map the_place xs))) (sym c.new-label.ensures.items) refl)
+
+pub returns-in_default-clause-right : goal.returns-in_default-clause-right
+returns-in_default-clause-right c = right-so_far c.args.problem.now c.args.p.0 c.args.store.now.store c.loop-middle.store.store (map the_place c.args.values.now) (map the_place c.loop-middle.label.items) c.loop-middle.taken c.loop-middle.at.further c.loop-middle.at.part.sign (the_formula c.loop-middle.at.part.formula.now) c.loop-middle.at.place c.loop-middle.invariant.right
+
+pub returns-in_default-past_shape-clause-right : goal.returns-in_default-past_shape-clause-right
+returns-in_default-past_shape-clause-right c = right-so_far c.args.problem.now c.args.p.0 c.args.store.now.store c.loop-middle.store.store (map the_place c.args.values.now) (map the_place c.loop-middle.label.items) c.loop-middle.taken c.loop-middle.at.further c.loop-middle.at.part.sign (the_formula c.loop-middle.at.part.formula.now) c.loop-middle.at.place c.loop-middle.invariant.right
+
+pub returns-then-at-eq0-clause-right : goal.returns-then-at-eq0-clause-right
+returns-then-at-eq0-clause-right c =
+    let P = c.args.problem.now in
+    let part = c.loop-middle.at.part in
+    let f = the_formula part.formula.now in
+    let kind : IsKind P c.logic-logic.result part.sign f c.kind_of-kind.result.modal c.kind_of-kind.result.shape = record { logic = c.logic-logic.ensures ∙ ap (λ (x : Setting). x.logic) c.setting.ensures.setting; modal_is = c.kind_of-kind.ensures.modal; shape_is = c.kind_of-kind.ensures.shape } in
+    right-last P c.logic-logic.result c.kind_of-kind.result.modal c.kind_of-kind.result.shape c.args.p.0 c.args.store.now.store c.loop-middle.store.store c.push_modal.new.store.store (map the_place c.args.values.now) (map the_place c.loop-middle.label.items) (map the_place c.push_modal.new.label.items) c.loop-middle.taken c.loop-middle.at.further part.sign f c.loop-middle.at.place kind c.loop-middle.invariant.way c.loop-middle.invariant.right c.in_ok-push_modal.ensures.right

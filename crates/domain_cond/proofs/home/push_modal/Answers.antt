@@ -5,7 +5,8 @@ use Rattle.store_theory.specs.Bindings.{with_cell, nothing_more}
 use Rattle.calculus.specs.Labels.{pi_label}
 use Rattle.store_theory.specs.Stores.{new_cell, parts_fit}
 use Rattle.term_store.specs.RefView.{the_place}
-use Rattle.domain_cond.specs.Ways.{IsPushed, TakesString}
+use Rattle.domain_cond.specs.Ways.{IsPushed, PushesRight, TakesString}
+use Rattle.domain_cond.proofs.RightLaws.{right-nothing, right-pushed, right-string}
 use Rattle.domain_cond.proofs.WayLaws.{pushed-mark, pushed-nothing, pushed-string, taken-fits, takes-within}
 use Rattle.domain_cond.proofs.home.push_modal.Goals as goal
 
@@ -39,3 +40,19 @@ returns-in_ok-push_item-in-Pi-clause-pushed c =
     subst (λ m. IsPushed c.args.logic s c.new_mark.new.self.store m c.args.position.0 rs c.args.taken label after) (sym c.in-Pi.is)
     (subst (λ t. IsPushed c.args.logic s t Pi c.args.position.0 rs c.args.taken label after) (sym (c.in_ok-mark-in-Pi.ensures.ok ∙ ap (λ xs. with_cell (new_cell c.args.position.0 xs) s) (sym (take-map the_place c.args.taken c.args.values.now))))
     (pushed-mark c.args.logic s c.args.position.0 rs c.args.taken label after c.mark-now.ensures.well.fits (taken-fits s c.args.position.0 rs c.args.taken c.requires.values) (c.in_ok-push_item-in-Pi.ensures ∙ ap (pi_label c.args.logic label) c.in_ok-mark-in-Pi.ensures.place)))
+
+pub returns-in-Plain-clause-right : goal.returns-in-Plain-clause-right
+returns-in-Plain-clause-right c = subst (λ m. PushesRight c.args.store.now.store c.args.store.now.store m c.args.position.0 (map the_place c.args.values.now) c.args.taken (map the_place c.args.label.now.items) (map the_place c.args.label.now.items)) (sym c.in-Plain.is) (right-nothing c.args.store.now.store c.args.position.0 (map the_place c.args.values.now) c.args.taken (map the_place c.args.label.now.items))
+
+pub returns-in_ok-push_item-in-Nu-clause-right : goal.returns-in_ok-push_item-in-Nu-clause-right
+returns-in_ok-push_item-in-Nu-clause-right c = subst (λ m. PushesRight c.args.store.now.store c.args.store.now.store m c.args.position.0 (map the_place c.args.values.now) c.args.taken (map the_place c.args.label.now.items) (map the_place c.push_item.new.label.items)) (sym c.in-Nu.is) (right-string c.args.logic c.args.store.now.store c.args.position.0 (map the_place c.args.values.now) c.args.taken c.value_at.result.0 (map the_place c.args.label.now.items) (map the_place c.push_item.new.label.items) c.value_at.ensures c.in_ok-push_item-in-Nu.ensures)
+
+pub returns-in_ok-push_item-in-Pi-clause-right : goal.returns-in_ok-push_item-in-Pi-clause-right
+returns-in_ok-push_item-in-Pi-clause-right c =
+    let label = map the_place c.args.label.now.items in
+    let after = map the_place c.push_item-in-Pi.new.label.items in
+    let s = c.args.store.now.store in
+    let rs = (map the_place c.args.values.now) in
+    subst (λ m. PushesRight s c.new_mark.new.self.store m c.args.position.0 rs c.args.taken label after) (sym c.in-Pi.is)
+    (subst (λ t. PushesRight s t Pi c.args.position.0 rs c.args.taken label after) (sym (c.in_ok-mark-in-Pi.ensures.ok ∙ ap (λ xs. with_cell (new_cell c.args.position.0 xs) s) (sym (take-map the_place c.args.taken c.args.values.now))))
+    (right-pushed c.args.logic s c.args.position.0 rs c.args.taken label after c.mark-now.ensures.well.fits c.requires.values (c.in_ok-push_item-in-Pi.ensures ∙ ap (pi_label c.args.logic label) c.in_ok-mark-in-Pi.ensures.place)))

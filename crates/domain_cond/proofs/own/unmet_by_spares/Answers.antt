@@ -1,11 +1,13 @@
 use Rattle.std.proofs.Common.{◌∙◌, IfSome, ap, map, slice_get, subst, sym}
 use Rattle.store_theory.specs.Bindings.{nothing_more}
+use Rattle.store_theory.specs.Systems.{cells_of}
 use Rattle.search_theory.proofs.OwnHomes.{homes-cells}
 use Rattle.term_store.specs.ClauseView.{the_gamma}
 use Rattle.term_store.specs.SystemView.{the_equation, the_system}
-use Rattle.domain_cond.specs.Conditions.{IsForced}
+use Rattle.domain_cond.specs.Conditions.{IsForced, NamesGammas}
 use Rattle.domain_cond.specs.StandingView.{the_standing}
 use Rattle.domain_cond.specs.Standings.{AreStandings, ConstantStands, HasOwnSpares, LabelsAgree, home_marks}
+use Rattle.domain_cond.proofs.AskingLaws.{right-labels, right-never}
 use Rattle.domain_cond.proofs.ConditionLaws.{gamma-free}
 use Rattle.domain_cond.proofs.OwnLaws.{constant-never, cycle-never, labels-demanded, never-demanded}
 use Rattle.domain_cond.proofs.StandingLaws.{tells-homes}
@@ -76,3 +78,18 @@ returns-clause-unmet c = λ P d common.
     let ts = map the_standing c.deref-3.result.now in
     let are : AreStandings s (map the_gamma c.items-gammas.result.now) ts = subst (λ xs. AreStandings s (map the_gamma c.items-gammas.result.now) (map the_standing xs)) (sym c.deref-3.ensures.value) c.in_ok-standings.ensures in
     never-demanded P s c.impossible-2.new.store.store y (the_equation c.in_ok-e-3.e) c.impossible-2.ensures.adds (cycle-never P s y ts d common c.mark-now.ensures.well (subst (λ gs. AreStandings s gs ts) c.items-gammas.ensures are) (c.in_ok-has_no_cycle.ensures.no c.if-branch.false)) c.in_ok-e-3.ensures.never
+
+-- ---- what is built right
+
+pub returns-then-constant_stands-clause-right : goal.returns-then-constant_stands-clause-right
+returns-then-constant_stands-clause-right c = λ P. right-never P (cells_of (the_system c.args.system.now)) c.args.store.now.store c.impossible.new.store.store (the_equation c.in_ok-e.e) c.in_ok-e.ensures.apart
+
+pub returns-in-Some-clause-right : goal.returns-in-Some-clause-right
+returns-in-Some-clause-right c = λ P.
+    let gs = map the_gamma c.items-gammas.result.now in
+    let e = the_equation c.in-Some.e in
+    let names : NamesGammas gs e = subst (λ o. IfSome o (λ x. NamesGammas gs (the_equation x))) c.in-Some.is c.in_ok-e-2.ensures.names in
+    right-labels P c.args.store.now.store (the_system c.args.system.now) e (subst (λ xs. NamesGammas xs e) c.items-gammas.ensures names)
+
+pub returns-clause-right : goal.returns-clause-right
+returns-clause-right c = λ P. right-never P (cells_of (the_system c.args.system.now)) c.args.store.now.store c.impossible-2.new.store.store (the_equation c.in_ok-e-3.e) c.in_ok-e-3.ensures.apart

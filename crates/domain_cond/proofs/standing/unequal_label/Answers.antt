@@ -7,6 +7,7 @@ use Rattle.term_store.specs.ClauseView.{the_gamma}
 use Rattle.domain_cond.specs.Conditions.{IsForced}
 use Rattle.domain_cond.specs.StandingView.{the_standing}
 use Rattle.domain_cond.specs.Standings.{LabelsAgree}
+use Rattle.domain_cond.proofs.AskingLaws.{names-labels}
 use Rattle.domain_cond.proofs.ConditionLaws.{gamma-parts}
 use Rattle.domain_cond.proofs.StandingLaws.{agree-next, agree-start, agree-whole, label-agrees, label-forced, standing-own}
 use Rattle.domain_cond.proofs.standing.unequal_label.Goals as goal
@@ -56,3 +57,11 @@ returns-clause-met c = λ q g at.
 
 pub loop-i-init : goal.loop-i-init
 loop-i-init c = agree-start c.args.store.now.store (map the_gamma c.args.gammas.now) (the_gamma c.gamma_at-gamma.result.now)
+
+pub returns-then-branch-clause-names : goal.returns-then-branch-clause-names
+returns-then-branch-clause-names c =
+    let g = the_gamma c.gamma_at-gamma.result.now in
+    let h = the_gamma c.gamma_at-other.result.now in
+    let left : c.in_ok-left.left ≡ g.label = c.in_ok-left.ensures ∙ c.items.ensures in
+    let right : c.in_ok-right.right ≡ h.label = c.in_ok-right.ensures ∙ c.items-then-branch.ensures in
+    names-labels (map the_gamma c.args.gammas.now) c.args.place c.loop-i.i g h (equation c.in_ok-left.left c.in_ok-right.right) c.gamma_at-gamma.ensures c.gamma_at-other.ensures left right

@@ -2,12 +2,14 @@ use Rattle.std.proofs.Common.{rules, ◌≡◌, ◌∙◌, IfSome, IsTrue, None,
 use Rattle.std.proofs.lemmas.List.{length-map}
 use Rattle.store_theory.specs.Bindings.{AddsBuilt}
 use Rattle.store_theory.specs.Stores.{Solution, Solves}
-use Rattle.store_theory.specs.Systems.{is_gamma_cell}
+use Rattle.store_theory.specs.Systems.{cells_of, is_gamma_cell}
+use Rattle.search_theory.specs.KeepingCells.{AddsRight, equation_cells, gamma_cells}
 use Rattle.term_store.specs.ClauseView.{the_gamma}
 use Rattle.search_theory.proofs.DemandLaws.{HomesAllow}
 use Rattle.term_store.specs.SystemView.{the_equation, the_system}
 use Rattle.term_unify.specs.Flat.{HasNoString, HasNoStringIn}
 use Rattle.domain_cond.specs.Conditions.{IsForced}
+use Rattle.domain_cond.proofs.AskingLaws.{right-asked, right-gamma}
 use Rattle.domain_cond.proofs.ConditionLaws.{each-all, each-next, each-start, gamma-at, gamma-demanded, gamma-free, same-added}
 use Rattle.domain_cond.proofs.unmet.unmet.Goals as goal
 
@@ -55,6 +57,18 @@ returns-in-Some-clause-unmet c =
     let at : slice_get (the_system c.args.system.now).gammas c.loop-i.i ≡ Some g = ap (λ xs. slice_get xs c.loop-i.i) (sym c.items-gammas.ensures) ∙ c.gamma_at-gamma.ensures in
     let adds : AddsBuilt s new = subst (λ t. AddsBuilt t new) c.loop-i.invariant.same c.unmet_term.ensures.adds in
     gamma-demanded P s new (the_system c.args.system.now) c.loop-i.i g (the_equation c.in-Some.e) adds at (subst (λ t. IsForced new (λ σ. HomesAllow P t σ g) (the_equation c.in-Some.e)) c.loop-i.invariant.same (subst (λ o. IfSome o (λ e. IsForced new (λ σ. HomesAllow P c.loop-i.store.store σ g) (the_equation e))) c.in-Some.is c.in_ok-e.ensures.unmet))
+
+pub returns-in-Some-clause-right : goal.returns-in-Some-clause-right
+returns-in-Some-clause-right c =
+    let P = c.args.problem.now in
+    let s = c.args.store.now.store in
+    let new = c.unmet_term.new.store.store in
+    let y = the_system c.args.system.now in
+    let g = the_gamma c.gamma_at-gamma.result.now in
+    let e = the_equation c.in-Some.e in
+    let at : slice_get y.gammas c.loop-i.i ≡ Some g = ap (λ xs. slice_get xs c.loop-i.i) (sym c.items-gammas.ensures) ∙ c.gamma_at-gamma.ensures in
+    let adds : AddsRight P (gamma_cells g) c.loop-i.store.store new (equation_cells e) = subst (λ o. IfSome o (λ x. AddsRight P (gamma_cells g) c.loop-i.store.store new (equation_cells (the_equation x)))) c.in-Some.is c.in_ok-e.ensures.right in
+    right-asked P (cells_of y) s new e (right-gamma P s new y c.loop-i.i g (equation_cells e) at (subst (λ t. AddsRight P (gamma_cells g) t new (equation_cells e)) c.loop-i.invariant.same adds))
 
 pub returns-clause-met : goal.returns-clause-met
 returns-clause-met c = λ e.

@@ -1,13 +1,15 @@
-use Rattle.std.proofs.Common.{rules, ◌≡◌, ◌∙◌, IfSome, IsTrue, None, Some, ap, arith, map, refl, slice_get, subst, sym}
+use Rattle.std.proofs.Common.{rules, ◌≡◌, ◌∙◌, ◌∷◌, IfSome, IsTrue, None, Some, ap, arith, map, refl, slice_get, subst, sym}
 use Rattle.std.proofs.lemmas.List.{length-map}
 use Rattle.store_theory.specs.Bindings.{nothing_more}
 use Rattle.store_theory.specs.Stores.{Solution, Solves}
 use Rattle.store_theory.specs.Systems.{is_label}
+use Rattle.search_theory.specs.KeepingCells.{AddsRight, equation_cells}
 use Rattle.term_store.specs.ClauseView.{the_gamma}
 use Rattle.term_store.specs.RefView.{the_place}
 use Rattle.term_unify.specs.Flat.{HasNoString, HasNoStringIn}
 use Rattle.term_store.specs.SystemView.{the_equation}
 use Rattle.domain_cond.specs.Conditions.{HomeAllows, IsForced}
+use Rattle.domain_cond.proofs.AskingLaws.{right-leaf}
 use Rattle.domain_cond.proofs.ConditionLaws.{allow-all, allow-next, allow-start, gamma-parts, holds-free, leaf-end, leaf-forced, same-added}
 use Rattle.domain_cond.proofs.unmet.unmet_term.Goals as goal
 
@@ -59,6 +61,17 @@ returns-in-Some-clause-unmet c =
     let at : slice_get (map the_place c.in_ok-leaves.leaves.items) c.loop-i.i ≡ Some leaf = ap (λ xs. slice_get (map the_place xs) c.loop-i.i) (sym c.deref.ensures.value) ∙ c.leaf_at-leaf.ensures in
     let forced : IsForced new (HomeAllows P s leaf c.args.gamma.now.label) (the_equation c.in-Some.e) = subst (λ t. IsForced new (HomeAllows P t leaf c.args.gamma.now.label) (the_equation c.in-Some.e)) c.loop-i.invariant.same (subst (λ ls. IsForced new (HomeAllows P c.loop-i.store.store leaf ls) (the_equation c.in-Some.e)) c.items-label.ensures (subst (λ o. IfSome o (λ e. IsForced new (HomeAllows P c.loop-i.store.store leaf (map the_place c.items-label.result.now)) (the_equation e))) c.in-Some.is c.in_ok-e.ensures.unmet)) in
     leaf-forced P s new (the_gamma c.args.gamma.now) (map the_place c.in_ok-leaves.leaves.items) c.loop-i.i leaf (the_equation c.in-Some.e) c.in_ok-leaves.ensures at forced
+
+pub returns-in-Some-clause-right : goal.returns-in-Some-clause-right
+returns-in-Some-clause-right c =
+    let P = c.args.problem.now in
+    let s = c.args.store.now.store in
+    let new = c.unmet_leaf.new.store.store in
+    let leaf = c.leaf_at-leaf.result.0 in
+    let at : slice_get (map the_place c.in_ok-leaves.leaves.items) c.loop-i.i ≡ Some leaf = ap (λ xs. slice_get (map the_place xs) c.loop-i.i) (sym c.deref.ensures.value) ∙ c.leaf_at-leaf.ensures in
+    let cells = equation_cells (the_equation c.in-Some.e) in
+    let adds : AddsRight P (leaf ∷ map the_place c.items-label.result.now) c.loop-i.store.store new cells = subst (λ o. IfSome o (λ e. AddsRight P (leaf ∷ map the_place c.items-label.result.now) c.loop-i.store.store new (equation_cells (the_equation e)))) c.in-Some.is c.in_ok-e.ensures.right in
+    right-leaf P s new (the_gamma c.args.gamma.now) (map the_place c.in_ok-leaves.leaves.items) c.loop-i.i leaf cells c.in_ok-leaves.ensures at (subst (λ t. AddsRight P (leaf ∷ c.args.gamma.now.label) t new cells) c.loop-i.invariant.same (subst (λ ls. AddsRight P (leaf ∷ ls) c.loop-i.store.store new cells) c.items-label.ensures adds))
 
 pub returns-in_err-leaves-clause-adds : goal.returns-in_err-leaves-clause-adds
 returns-in_err-leaves-clause-adds c = nothing_more

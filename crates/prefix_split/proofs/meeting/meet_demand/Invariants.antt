@@ -1,4 +1,6 @@
-use Rattle.std.proofs.Common.{◌≡◌, true}
+use Rattle.std.proofs.Common.{◌≡◌}
+use Rattle.store_theory.specs.Systems.{cells_of}
+use Rattle.search_theory.specs.KeepingCells.{SolvesRight}
 use Rattle.term_store.specs.Asking.{Asks}
 use Rattle.term_store.specs.Room.{KeepsRoom}
 use Rattle.term_store.specs.SystemView.{the_system}
@@ -10,7 +12,8 @@ invariant-loop-e g l = record {
   meeting : IsMeeting (Asks (g.M.Demand.holds_for l.initial.more)) (the_system l.system) l.initial.store.store l.store.store;
   same : g.M.Demand.holds_for l.more ≡ g.M.Demand.holds_for l.initial.more;
   same_common : g.M.Demand.common l.more ≡ g.M.Demand.common l.initial.more;
-  nothing : g.M.Demand.asks_nothing ≡ true → l.store.store ≡ l.initial.store.store;
+  same_problem : g.M.Demand.problem l.more ≡ g.M.Demand.problem l.initial.more;
+  right : SolvesRight (g.M.Demand.problem l.initial.more) (cells_of (the_system l.system)) l.initial.store.store l.store.store;
   room : KeepsRoom l.initial.store l.store;
 }
 

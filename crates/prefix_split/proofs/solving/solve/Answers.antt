@@ -122,6 +122,7 @@ loop-unifier-init g c =
       unchanged = rw c.in_default.is at c.in_ok-answer.ensures.unchanged;
       same = c.solve_by_order.ensures.same;
       same_common = c.solve_by_order.ensures.same_common;
+      same_problem = c.solve_by_order.ensures.same_problem;
       budget = c.take_step.ensures.budget;
       room = c.solve_by_order.ensures.room;
     }
@@ -153,7 +154,7 @@ returns-then-found-clause-found g c = λ e.
     (c.in_ok-found.ensures.found c.if-found.true (subst (AreTried c.args.logic (the_system c.args.system.now)) (sym c.deref.ensures.value) h.stands.tried))
 
 pub returns-then-found-clause-back : goal.returns-then-found-clause-back
-returns-then-found-clause-back g c = λ e. back-moved c.args.logic g.M.Demand.asks_nothing (the_system c.args.system.now) c.args.store.now.store c.loop-unifier.store.store c.try_or_undo.new.store.store c.loop-unifier.invariant.unchanged (c.in_ok-found.ensures.back c.if-found.true (subst (AreTried c.args.logic (the_system c.args.system.now)) (sym c.deref.ensures.value) c.loop-unifier.invariant.stands.tried))
+returns-then-found-clause-back g c = λ e. back-moved c.args.logic (g.M.Demand.problem c.args.more.now) (g.M.Demand.problem c.loop-unifier.more) (the_system c.args.system.now) c.args.store.now.store c.loop-unifier.store.store c.try_or_undo.new.store.store c.loop-unifier.invariant.same_problem c.loop-unifier.invariant.unchanged (c.in_ok-found.ensures.back c.if-found.true (subst (AreTried c.args.logic (the_system c.args.system.now)) (sym c.deref.ensures.value) c.loop-unifier.invariant.stands.tried))
 
 pub returns-then-found-clause-counted : goal.returns-then-found-clause-counted
 returns-then-found-clause-counted g c = stands-counted c.args.logic (Asks (g.M.Demand.holds_for c.args.more.now)) c.args.store.now.store (the_system c.args.system.now) c.loop-unifier.lengths.items c.args.ledger.now.used c.loop-unifier.ledger.used c.loop-unifier.ledger.used c.loop-unifier.invariant.stands (omega arith) (omega arith)
@@ -234,6 +235,7 @@ loop-unifier-preserved g c =
       unchanged = (c.in_ok-found.ensures.unchanged c.if-found.false ∙ c.loop-unifier.invariant.unchanged);
       same = c.try_or_undo.ensures.same ∙ h.same;
       same_common = c.try_or_undo.ensures.same_common ∙ h.same_common;
+      same_problem = c.try_or_undo.ensures.same_problem ∙ h.same_problem;
       budget = c.take_step-in-loop-unifier.ensures.budget ∙ h.budget;
       room = (omega (arith, a, b), omega (arith, a, b));
     }

@@ -11,6 +11,7 @@ invariant-loop-unifier g l = record {
   unchanged : l.store.store ≡ l.fn.store.store;
   same : g.M.Demand.holds_for l.more ≡ g.M.Demand.holds_for l.fn.more;
   same_common : g.M.Demand.common l.more ≡ g.M.Demand.common l.fn.more;
+  same_problem : g.M.Demand.problem l.more ≡ g.M.Demand.problem l.fn.more;
   budget : l.ledger.budget ≡ l.fn.ledger.budget;
   room : KeepsRoom l.fn.store l.store;
 }

@@ -1,4 +1,4 @@
-use Rattle.std.proofs.Common.{◌∙◌, IsTrue, ap, length, subst, sym}
+use Rattle.std.proofs.Common.{◌∙◌, IsTrue, ap, length, refl, subst, sym}
 use Rattle.store_theory.specs.Systems.{AreTried, NamesItsStrings, is_system}
 use Rattle.term_store.specs.SystemView.{the_system}
 use Rattle.prefix_split.proofs.LengthListLaws.{tried-within}
@@ -42,4 +42,4 @@ returns-then-found-clause-found g c = λ e.
 pub returns-then-found-clause-back : goal.returns-then-found-clause-back
 returns-then-found-clause-back g c = λ e.
     let tried = rw c.in-Some.is at c.in_ok-lengths.ensures in
-    back-moved c.args.logic g.M.Demand.asks_nothing (the_system c.args.system.now) c.args.store.now.store c.tree_of.new.store.store c.try_or_undo.new.store.store c.tree_of.ensures.unchanged (c.in_ok-found.ensures.back c.if-found.true (subst (AreTried c.args.logic (the_system c.args.system.now)) (sym c.deref-2.ensures.value) tried))
+    back-moved c.args.logic (g.M.Demand.problem c.args.more.now) (g.M.Demand.problem c.args.more.now) (the_system c.args.system.now) c.args.store.now.store c.tree_of.new.store.store c.try_or_undo.new.store.store refl c.tree_of.ensures.unchanged (c.in_ok-found.ensures.back c.if-found.true (subst (AreTried c.args.logic (the_system c.args.system.now)) (sym c.deref-2.ensures.value) tried))

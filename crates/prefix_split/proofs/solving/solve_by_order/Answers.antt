@@ -11,7 +11,7 @@ pub returns-then-is_single-clause-marks : goal.returns-then-is_single-clause-mar
 returns-then-is_single-clause-marks g c = KeepsMarks-same c.args.store.now.store
 
 pub loop-init : goal.loop-init
-loop-init g c = record { unchanged = refl; same = refl; same_common = refl; room = (omega arith, omega arith) }
+loop-init g c = record { unchanged = refl; same = refl; same_common = refl; same_problem = refl; room = (omega arith, omega arith) }
 
 pub solve_apart-requires-clause-fits : goal.solve_apart-requires-clause-fits
 solve_apart-requires-clause-fits g c = subst (λ z. IsTrue (is_system z (the_system c.args.system.now))) (sym c.loop.invariant.unchanged) c.requires.fits
@@ -34,7 +34,7 @@ returns-in-Some-clause-found g c = λ e.
 pub returns-in-Some-clause-back : goal.returns-in-Some-clause-back
 returns-in-Some-clause-back g c = λ e.
     let back = rw c.in-Some.is at c.in_ok-answer.ensures.back in
-    back-moved c.args.logic g.M.Demand.asks_nothing (the_system c.args.system.now) c.args.store.now.store c.loop.store.store c.solve_apart.new.store.store c.loop.invariant.unchanged (back e)
+    back-moved c.args.logic (g.M.Demand.problem c.args.more.now) (g.M.Demand.problem c.loop.more) (the_system c.args.system.now) c.args.store.now.store c.loop.store.store c.solve_apart.new.store.store c.loop.invariant.same_problem c.loop.invariant.unchanged (back e)
 
 pub returns-in-Some-clause-none : goal.returns-in-Some-clause-none
 returns-in-Some-clause-none g c = λ e.
@@ -70,6 +70,7 @@ loop-preserved g c =
       unchanged = unchanged ∙ h.unchanged;
       same = c.solve_apart.ensures.same ∙ h.same;
       same_common = c.solve_apart.ensures.same_common ∙ h.same_common;
+      same_problem = c.solve_apart.ensures.same_problem ∙ h.same_problem;
       room = (omega (arith, a, b), omega (arith, a, b));
     }
 

@@ -5,9 +5,9 @@ use Rattle.store_theory.specs.Systems.{cells_of, is_pair}
 use Rattle.search_theory.proofs.SolvingLaws.{system-parts}
 use Rattle.term_store.specs.Asking.{Asks}
 use Rattle.term_store.specs.SystemView.{the_system}
-use Rattle.prefix_split.specs.Later.{KeepsRight}
 use Rattle.prefix_split.specs.Same.{DifferNow}
 use Rattle.prefix_split.proofs.LaterLaws.{later-both}
+use Rattle.prefix_split.proofs.LengthLaws.{right-solved}
 use Rattle.prefix_split.proofs.MeetingLaws.{built-later, open-later, pair-free, system-later}
 use Rattle.prefix_split.proofs.TryingLaws.{found-by, none-met, none-same, solved-back, steps-tried}
 use Rattle.prefix_split.proofs.trying.try_lengths.Goals as goal
@@ -54,7 +54,8 @@ returns-in-None-clause-back g c = λ e tried. record {
   back = λ σ h. solved-back (Asks (g.M.Demand.holds_for c.args.more.now)) c.args.store.now.store c.set_lengths.new.store.store c.meet_demand.new.store.store (the_system c.args.system.now) c.args.lengths.now (c.in_ok-set_lengths.ensures.set c.if-not-branch.false) (c.in_ok-meet_demand.ensures.forced c.if-not-branch-2.false) σ h;
   later = later-both c.args.store.now.store c.set_lengths.new.store.store c.meet_demand.new.store.store c.set_lengths.ensures.later c.meet_demand.ensures.later;
   built = built-later c.set_lengths.new.store.store c.meet_demand.new.store.store (the_system c.args.system.now) c.meet_demand.ensures.later (c.in_ok-set_lengths.ensures.built c.if-not-branch.false);
-  right = λ P logic free. subst (KeepsRight P (cells_of (the_system c.args.system.now)) c.args.store.now.store) (sym (c.in_ok-meet_demand.ensures.nothing c.if-not-branch-2.false free)) (c.in_ok-set_lengths.ensures.right c.if-not-branch.false P (steps-tried P c.args.logic (the_system c.args.system.now) c.args.lengths.now logic tried));
+  right = λ logic. right-solved (g.M.Demand.problem c.args.more.now) (cells_of (the_system c.args.system.now)) c.args.store.now.store c.set_lengths.new.store.store c.meet_demand.new.store.store c.set_lengths.ensures.later.longer
+      (c.in_ok-set_lengths.ensures.right c.if-not-branch.false (g.M.Demand.problem c.args.more.now) (steps-tried (g.M.Demand.problem c.args.more.now) c.args.logic (the_system c.args.system.now) c.args.lengths.now logic tried)) (c.in_ok-meet_demand.ensures.right c.if-not-branch-2.false);
 }
 
 pub returns-in-Some-clause-none : goal.returns-in-Some-clause-none

@@ -25,7 +25,7 @@ pub answer-requires-clause-started : goal.answer-requires-clause-started
 answer-requires-clause-started c = stands-started c.args.self.now.problem.now c.args.self.now.matrix.now c.requires.0 c.args.self.now.limit c.requires.1 c.args.store.now.store c.args.work.now.tree.steps.items c.args.work.now.tree.goals.items c.args.work.now.tree.open (whole-stands c.args.self.now.problem.now c.args.self.now.matrix.now c.requires.0 c.args.self.now.limit c.requires.1 c.args.store.now.store c.args.work.now.tree.steps.items c.args.work.now.tree.goals.items c.args.work.now.tree.open c.requires.3)
 
 pub answer-requires-clause-own : goal.answer-requires-clause-own
-answer-requires-clause-own c = λ constant. c.in_ok-solve_tree.ensures.own c.in-Found.is constant
+answer-requires-clause-own c = c.in_ok-solve_tree.ensures.own c.in-Found.is
 
 pub returns-in_ok-tableau-in-Found-clause-decided : goal.returns-in_ok-tableau-in-Found-clause-decided
 returns-in_ok-tableau-in-Found-clause-decided c = λ base p h. (c.in_ok-tableau-in-Found.ensures.closed, c.in_ok-tableau-in-Found.ensures.names ∙ stands-named c.args.self.now.problem.now c.args.self.now.matrix.now base c.args.self.now.limit p c.args.store.now.store c.args.work.now.tree.steps.items c.args.work.now.tree.goals.items c.args.work.now.tree.open h)

@@ -42,7 +42,7 @@ pub returns-clause-counted : goal.returns-clause-counted
 returns-clause-counted c = made-counted c.args.self.now.problem.now c.args.self.now.matrix.now c.args.store.now.store c.args.work.now.tree.steps.items c.args.work.now.tree.goals.items c.args.ledger.now.used c.solve_system.new.ledger.used (the_system c.in_ok-system.system) (labels-of c.args.self.now.problem.now c.logic-logic.result _ (c.logic-logic.ensures ∙ ap (λ (z : Setting). z.logic) c.setting.ensures.setting) c.has_labels.ensures c.if-not-has_labels.false) c.in_ok-system.ensures c.solve_system.ensures.counted
 
 pub returns-then-not-has_labels-clause-own : goal.returns-then-not-has_labels-clause-own
-returns-then-not-has_labels-clause-own c = λ found k. unlabelled-tableau c.args.self.now.problem.now c.args.self.now.matrix.now c.requires.0 c.args.self.now.limit c.requires.1 c.args.store.now.store c.args.work.now.tree.steps.items c.args.work.now.tree.goals.items c.args.work.now.tree.open c.requires.2.problem (unlabelled-of c.args.self.now.problem.now c.logic-logic.result _ (c.logic-logic.ensures ∙ ap (λ (z : Setting). z.logic) c.setting.ensures.setting) c.has_labels.ensures c.if-not-has_labels.true) c.requires.3
+returns-then-not-has_labels-clause-own c = λ found. unlabelled-tableau c.args.self.now.problem.now c.args.self.now.matrix.now c.requires.0 c.args.self.now.limit c.requires.1 c.args.store.now.store c.args.work.now.tree.steps.items c.args.work.now.tree.goals.items c.args.work.now.tree.open c.requires.2.problem (unlabelled-of c.args.self.now.problem.now c.logic-logic.result _ (c.logic-logic.ensures ∙ ap (λ (z : Setting). z.logic) c.setting.ensures.setting) c.has_labels.ensures c.if-not-has_labels.true) c.requires.3
 
 pub returns-clause-own : goal.returns-clause-own
-returns-clause-own c = λ e k. labelled-tableau c.args.self.now.problem.now c.args.self.now.matrix.now c.requires.0 c.args.self.now.limit c.requires.1 c.args.store.now.store c.solve_system.new.store.store c.args.work.now.tree.steps.items c.args.work.now.tree.goals.items c.args.work.now.tree.open (the_system c.in_ok-system.system) c.requires.3 c.in_ok-system.ensures (c.in_ok-solved.ensures.found e k)
+returns-clause-own c = λ e. labelled-tableau c.args.self.now.problem.now c.args.self.now.matrix.now c.requires.0 c.args.self.now.limit c.requires.1 c.args.store.now.store c.solve_system.new.store.store c.args.work.now.tree.steps.items c.args.work.now.tree.goals.items c.args.work.now.tree.open (the_system c.in_ok-system.system) c.requires.3 c.in_ok-system.ensures (c.in_ok-solved.ensures.found e)

@@ -1,4 +1,3 @@
-use Rattle.std.proofs.Common.{refl}
 use Rattle.store_theory.specs.Bindings.{nothing_more}
 use Rattle.term_store.specs.SystemView.{the_system}
 use Rattle.domain_cond.proofs.ConstantLaws.{met-constant}
@@ -9,9 +8,3 @@ returns-clause-none c = λ e. met-constant c.args.self.now.problem.now c.args.st
 
 pub returns-clause-adds : goal.returns-clause-adds
 returns-clause-adds c = nothing_more
-
-pub returns-clause-nothing : goal.returns-clause-nothing
-returns-clause-nothing c = λ e. refl
-
-pub returns-clause-no_equation : goal.returns-clause-no_equation
-returns-clause-no_equation c = λ e. refl

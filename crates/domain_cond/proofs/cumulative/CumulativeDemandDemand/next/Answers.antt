@@ -1,5 +1,4 @@
 use Rattle.std.proofs.Common.{◌∙◌, subst, sym}
-use Rattle.std.proofs.lemmas.Bool.{false≢true}
 use Rattle.calculus.specs.Skolem.{common_spares}
 use Rattle.store_theory.specs.Systems.{AllAllowed, OwnSparesMeet}
 use Rattle.store_theory.proofs.PatternLaws.{KeepsMarks-built}
@@ -18,12 +17,3 @@ returns-clause-marks c = KeepsMarks-built c.args.store.now.store c.unmet.new.sto
 
 pub returns-in_err-equation-clause-marks : goal.returns-in_err-equation-clause-marks
 returns-in_err-equation-clause-marks c = KeepsMarks-built c.args.store.now.store c.unmet.new.store.store c.unmet.ensures.adds
-
-pub returns-clause-nothing : goal.returns-clause-nothing
-returns-clause-nothing c = λ e. absurd (false≢true e)
-
-pub returns-in_err-equation-clause-nothing : goal.returns-in_err-equation-clause-nothing
-returns-in_err-equation-clause-nothing c = λ e. absurd (false≢true e)
-
-pub returns-clause-no_equation : goal.returns-clause-no_equation
-returns-clause-no_equation c = λ e. absurd (false≢true e)
