@@ -75,3 +75,7 @@ pub mod DepthLaws
 pub mod SoundLaws
 pub mod CutEnds
 pub mod CutLimits
+-- jumps back
+pub mod SolvedLaws
+pub mod TransplantLaws
+pub mod JumpLaws

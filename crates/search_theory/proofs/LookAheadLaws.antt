@@ -65,14 +65,15 @@ closeable-on P d no_closings path (g ∷ goals) h = absurd (false≢true h)
 closeable-on P d (more_closings c cs) path (g ∷ goals) h = let p = and_parts (closes P d path g c) (closes_all P d path goals cs) h in ((c, p.0), closeable-on P d cs path goals p.1)
 
 mutual
-  closeable : (P : Problem) (d : ℕ) (c : Closing) (path : List GroundLiteral) (g : GroundLiteral) → IsTrue (closes P d path g c) → AllByRecursion (IsCloseable P d) (goals_below g path c)
+  -- so are all goals below one that is closed
+  pub closeable : (P : Problem) (d : ℕ) (c : Closing) (path : List GroundLiteral) (g : GroundLiteral) → IsTrue (closes P d path g c) → AllByRecursion (IsCloseable P d) (goals_below g path c)
   closeable P d (reduce up) path g h = tt
   closeable P d (extend i place below) path g h =
       let e = extended-parts P d path g i place below h in
       let others = remove i.literals place in
       both-hold (IsCloseable P d) (goals_on (g ∷ path) others) (goals_of_all others (g ∷ path) below) (closeable-on P d below (g ∷ path) others e.all_closed) (closeable-all P d below (g ∷ path) others e.all_closed)
 
-  closeable-all : (P : Problem) (d : ℕ) (cs : Closings) (path goals : List GroundLiteral) → IsTrue (closes_all P d path goals cs) → AllByRecursion (IsCloseable P d) (goals_of_all goals path cs)
+  pub closeable-all : (P : Problem) (d : ℕ) (cs : Closings) (path goals : List GroundLiteral) → IsTrue (closes_all P d path goals cs) → AllByRecursion (IsCloseable P d) (goals_of_all goals path cs)
   closeable-all P d no_closings path goals h = tt
   closeable-all P d (more_closings c cs) path [] h = tt
   closeable-all P d (more_closings c cs) path (g ∷ goals) h =
@@ -186,15 +187,18 @@ unanswered-cannot s g lacking up σ h opp = lacking (met-answered σ g.path (lit
 full-path : (d : ℕ) (σ : Solution) (path : List CellAtom) → d ≤ length path → d ≤ length (map (literal_by σ) path)
 full-path d σ path far = let e = length-map path (literal_by σ) in omega (arith, e, far)
 
--- a goal of the state has as many goals above it as the limit, and no reduction: no closed tableau begins with the list
+-- the image of a goal that has as many goals above it as the limit, and no reduction, is not closed
+pub full-lost : (P : Problem) (d : ℕ) (s : Store) (g : CellGoal) (σ : Solution) → d ≤ length g.path → ((up : ℕ) → CannotReduce s g up) → Solves s σ → ¬ IsCloseable P d (goal_at σ g)
+full-lost P d s g σ far none solves (y, y_closes) =
+    let path = map (literal_by σ) g.path in
+    let r = full-reduces P d path (literal_by σ g.literal) y (full-path d σ g.path far) y_closes in
+    none r.number σ solves (is_complement-opposite (literal_by σ g.literal) (ancestor path r.number) r.is_complement)
+
+-- where a goal of the state is so, no closed tableau begins with the list
 pub full-pruned : (P : Problem) (d : ℕ) (c : List Choice) (S : State) (g : CellGoal) → IsTrue (is_not_empty c) → IsStateOf P d c S → IsIn g S.growth.all_goals → d ≤ length g.path → ((up : ℕ) → CannotReduce S.store g up) → (b : List Choice) → IsClosedList P d b → ¬ BeginsWith c b
 full-pruned P d c S g n h at far none b closed begins =
     let k = closed-image P d c b S n h closed begins in
-    let σ = k.solution in
-    let (y, y_closes) = goal-closed P d S g at k in
-    let path = map (literal_by σ) g.path in
-    let r = full-reduces P d path (literal_by σ g.literal) y (full-path d σ g.path far) y_closes in
-    none r.number σ k.ground.solves (is_complement-opposite (literal_by σ g.literal) (ancestor path r.number) r.is_complement)
+    full-lost P d S.store g k.solution far none k.ground.solves (goal-closed P d S g at k)
 
 -- the same by symbols and signs, which the masks of paths tell
 pub unanswered-pruned : (P : Problem) (d : ℕ) (c : List Choice) (S : State) (g : CellGoal) → IsTrue (is_not_empty c) → IsStateOf P d c S → IsIn g S.growth.all_goals → d ≤ length g.path → ¬ IsAnswered g.path g.literal.symbol g.literal.sign → (b : List Choice) → IsClosedList P d b → ¬ BeginsWith c b
@@ -255,17 +259,13 @@ image-meets P σ g i place h opp t tm =
     let (a, at, is) = found-in-map (pattern_literal i.values) t.literals place b (sym (ap (λ xs. slice_get xs place) w.literals) ∙ there) in
     record { literal = a; stands = at; signs = subst (λ (z : GroundLiteral). IsTrue (not (sign_eq g.literal.sign z.sign))) is parts.signs; symbols = parts.symbols ∙ ap (λ (z : GroundLiteral). z.symbol) is }
 
--- a goal of the state has one goal less above it than the limit, no reduction, and each of its extensions is hopeless: no closed tableau
--- begins with the list
-pub nearly-pruned : (P : Problem) (m : List MatrixClause) (d : ℕ) (c : List Choice) (S : State) (g : CellGoal) → IsTemplateMatrix P m → IsTrue (is_not_empty c) → IsStateOf P d c S → IsIn g S.growth.all_goals → d ≤ length g.path + 1 → ((up : ℕ) → CannotReduce S.store g up) → ((p : MatrixPlace) → IsIn p (places m g.literal.symbol (other g.literal.sign)) → IsHopelessAt m p g) → (b : List Choice) → IsClosedList P d b → ¬ BeginsWith c b
-nearly-pruned P m d c S g tm n h at far none bad b closed begins =
-    let k = closed-image P d c b S n h closed begins in
-    let (y, y_closes) = goal-closed P d S g at k in
-    by k.solution k.ground.solves (nearly-full P d (map (literal_by k.solution) g.path) (literal_by k.solution g.literal) y y_closes)
+-- the image of a goal that has one goal less above it than the limit, no reduction, and hopeless extensions alone is not closed
+pub nearly-lost : (P : Problem) (m : List MatrixClause) (d : ℕ) (s : Store) (g : CellGoal) (σ : Solution) → IsTemplateMatrix P m → d ≤ length g.path + 1 → ((up : ℕ) → CannotReduce s g up) → ((p : MatrixPlace) → IsIn p (places m g.literal.symbol (other g.literal.sign)) → IsHopelessAt m p g) → Solves s σ → ¬ IsCloseable P d (goal_at σ g)
+nearly-lost P m d s g σ tm far none bad solves (y, y_closes) = by (nearly-full P d (map (literal_by σ) g.path) (literal_by σ g.literal) y y_closes)
   where
-    by : (σ : Solution) → Solves S.store σ → IsNearlyFull P d (map (literal_by σ) g.path) (literal_by σ g.literal) → ⊥
-    by σ s (reduces r) = none r.number σ s (is_complement-opposite (literal_by σ g.literal) (ancestor (map (literal_by σ) g.path) r.number) r.is_complement)
-    by σ s (extends i place is opp goals) =
+    by : IsNearlyFull P d (map (literal_by σ) g.path) (literal_by σ g.literal) → ⊥
+    by (reduces r) = none r.number σ solves (is_complement-opposite (literal_by σ g.literal) (ancestor (map (literal_by σ) g.path) r.number) r.is_complement)
+    by (extends i place is opp goals) =
         let inside = extensions-complete P m g.literal tm i.selection place (selection-in P i is) (image-meets P σ g i place is opp) in
         let among = subst (IsIn (extension i.selection place)) (sym (extensions-by_index m g.literal.symbol (other g.literal.sign))) inside in
         let (p, p_at, same) = found-in-map (extension_at m) (places m g.literal.symbol (other g.literal.sign)) among.0 (extension i.selection place) among.1 in
@@ -276,6 +276,12 @@ nearly-pruned P m d c S g tm n h at far none bad b closed begins =
         let hopeless = q.hopeless in
         hopeless.lacking (closed-answered P d σ (g.literal ∷ g.path) (remove i.literals place) hopeless.number (pattern_literal i.values hopeless.literal) (omega (arith, far)) goals
         (other-literal q.clause.template i place hopeless.number hopeless.literal w.literals (subst (λ k. slice_get (remove q.clause.template.literals k) hopeless.number ≡ Some hopeless.literal) placed hopeless.stands)))
+
+-- where a goal of the state is so, no closed tableau begins with the list
+pub nearly-pruned : (P : Problem) (m : List MatrixClause) (d : ℕ) (c : List Choice) (S : State) (g : CellGoal) → IsTemplateMatrix P m → IsTrue (is_not_empty c) → IsStateOf P d c S → IsIn g S.growth.all_goals → d ≤ length g.path + 1 → ((up : ℕ) → CannotReduce S.store g up) → ((p : MatrixPlace) → IsIn p (places m g.literal.symbol (other g.literal.sign)) → IsHopelessAt m p g) → (b : List Choice) → IsClosedList P d b → ¬ BeginsWith c b
+nearly-pruned P m d c S g tm n h at far none bad b closed begins =
+    let k = closed-image P d c b S n h closed begins in
+    nearly-lost P m d S.store g k.solution tm far none bad k.ground.solves (goal-closed P d S g at k)
 
 -- the same for the choice as the search has it
 pub hopeless-dropped : (P : Problem) (m : List MatrixClause) (d : ℕ) (c : List Choice) (s : Store) (cs : List CellChoice) (g : CellGoal) (gs every : List CellGoal) (ds : List ℕ) (p : MatrixPlace) → IsTemplateMatrix P m → IsStateOf P d c (state_at s cs g gs every ds) → d ≤ length g.path + 1 → IsHopelessAt m p g → (b : List Choice) → IsClosedList P d b → ¬ BeginsWith (c ++ extension_at m p ∷ []) b

@@ -122,7 +122,8 @@ regular-by_spares P base S rank bound h c n = goals-new P base S.store rank boun
 
 -- ---- irregular trees
 
-any-there : (x : GroundLiteral) (xs : List GroundLiteral) (j : ℕ) (y : GroundLiteral) → slice_get xs j ≡ Some y → x ≡ y → IsTrue (list_any (literal_eq x) xs)
+-- an item that is the same as one of the list
+pub any-there : (x : GroundLiteral) (xs : List GroundLiteral) (j : ℕ) (y : GroundLiteral) → slice_get xs j ≡ Some y → x ≡ y → IsTrue (list_any (literal_eq x) xs)
 any-there x [] j y e f = cc e
 any-there x (z ∷ zs) zero y e f = let q : z ≡ y = cc e in or-left (literal_eq x z) (list_any (literal_eq x) zs) ((literal_eq-tells x z).1 (f ∙ sym q))
   where

@@ -29,3 +29,5 @@ pub mod Pruning
 pub mod HomeCells
 -- the search that does not return to solved goals
 pub mod Cutting
+-- jumps back
+pub mod Jumps
