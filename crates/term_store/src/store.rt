@@ -198,6 +198,16 @@ impl Store {
         End { place, content }
     }
 
+    /// What the cell itself is bound to, if it is bound.
+    pub fn binding(&self, r: Ref) -> Option<Ref>
+        requires { r.0 < length self.now.store.cells }
+        ensures binding { MatchOption result (IsEnd self.now.store r.0) (λ to. (sort : Sort)
+            × (slice_get self.now.store.cells r.0 ≡ Some (variable sort (Some to.0)))) }
+        ensures well { IsWellFormed self.now.store }
+    {
+        target(self.content(r))
+    }
+
     /// The cell at which the bindings of this one end.
     pub fn walk(&self, r: Ref) -> Ref
         requires { r.0 < length self.now.store.cells }
