@@ -13,6 +13,7 @@ mod grounds;
 mod heads;
 mod homes;
 mod moves;
+mod occurrences;
 mod pair;
 mod parts;
 mod point;

@@ -20,14 +20,15 @@ ghost use Rattle.connection_search.specs.Trees.{KeepsTree};
 
 use crate::atoms::unify_all;
 use crate::heads::has_clash;
+use crate::occurrences::Occurrences;
 use crate::point::Move;
 use crate::pruning::Tests;
-use crate::regular::{are_new_from, first_repeated, is_new};
+use crate::regular::{are_new_from, are_others_new, first_repeated, is_new};
 use crate::tree::{Copied, Tree};
 use cop_base::{ClauseId, NoMemory};
 use matrix_build::{Matrix, Place};
 use std::alloc::Global;
-use term_store::Store;
+use term_store::{Store, Template};
 use term_unify::Unifier;
 
 // How many choices are tried for each goal of the tree before all its goals are looked at again.
@@ -40,6 +41,7 @@ pub(crate) struct Work {
     pub tree: Tree,
     pub unifier: Unifier,
     pub tests: Tests,
+    occurrences: Occurrences,
     // How many choices were tried since the last look at all goals ended.
     tried: usize,
     // How many goals this look has found new. Going back takes bindings away, so they stay new.
@@ -56,6 +58,7 @@ impl Work {
             tree: Tree::new(alloc),
             unifier: Unifier::new(alloc),
             tests: Tests::new(),
+            occurrences: Occurrences::new(alloc),
             tried: 0,
             seen: 0,
         }
@@ -180,7 +183,7 @@ impl Work {
         };
         let first = self.tree.goals.len();
         self.tree.extend(goal, copied, place.literal, head.atom)?;
-        let regular = self.is_regular_from(store, first)?;
+        let regular = self.is_regular_from(store, template, place, first)?;
         Ok(regular)
     }
 
@@ -202,9 +205,15 @@ impl Work {
         }
     }
 
-    // Whether the goals from this number on and the leftmost open goal are the same as none above
-    // them.
-    fn is_regular_from(&mut self, store: &Store, first: usize) -> Result<bool, NoMemory>
+    // Whether the goals from this number on, which the clause of the place gave, and the leftmost
+    // open goal are the same as none above them.
+    fn is_regular_from(
+        &mut self,
+        store: &Store,
+        template: &Template,
+        place: Place,
+        first: usize,
+    ) -> Result<bool, NoMemory>
         requires { (P : Problem) × (m : List MatrixClause) × (base : ℕ) × (d : ℕ)
             × (c : List Choice) × TreeStands P m base d c store.now self.old.tree }
         ensures repeated { IfOk result (λ new. new ≡ false
@@ -213,7 +222,10 @@ impl Work {
         ensures tree { self.new.tree ≡ self.old.tree }
     {
         if first < self.tree.goals.len() {
-            let new = are_new_from(&mut self.unifier, store, &self.tree, first)?;
+            let others = self
+                .occurrences
+                .others(place.clause, template, place.literal)?;
+            let new = are_others_new(&mut self.unifier, store, &self.tree, first, &others)?;
             return Ok(new);
         }
         let new = self.is_leftmost_new(store)?;
