@@ -13,7 +13,7 @@ ghost use Rattle.calculus.specs.Derivations as derivation;
 ghost use Rattle.sequent_calc.specs.ChildrenView.{children_by, faulty};
 ghost use Rattle.sequent_calc.specs.DerivationView.{the_names};
 ghost use Rattle.sequent_calc.specs.EntryView.{the_entry};
-ghost use Rattle.sequent_calc.specs.StepView.{the_modal, the_step, the_term_arg};
+ghost use Rattle.sequent_calc.specs.StepView.{the_modal, the_row_arg, the_step, the_term_arg};
 ghost use Rattle.std.specs.Option.{option_map};
 ghost use Rattle.std.specs.Prelude.{option_copied};
 
@@ -22,10 +22,11 @@ use crate::condition::{arguments_fit, home_is, is_known, is_new, is_reachable, t
 use crate::entry::{Entry, Sequent};
 use crate::names::Names;
 use crate::rules::ApplyFault;
-use crate::step::{ModalArg, Step, TermArg};
+use crate::step::{ModalArg, RowArg, Step, TermArg};
 use calculus::fault::StepFault;
 use cop_base::NoMemory;
 use formula_core::{Components, Formula, Sign, Term};
+use formula_text::term_of;
 use logic_rules::{Kind, Label, Logic, Mark, Problem, kind_of};
 use std::alloc::{AllocError, Global};
 
@@ -62,16 +63,19 @@ fn component(
     sign: Sign,
     formula: &Formula,
     at: &Label,
-    term: &TermArg,
+    term: &RowArg,
 ) -> Result<Entry, NoMemory>
     ensures { IfOk result (λ e. the_entry e
-        ≡ entry_at at.now (with_argument (the_term_arg term.now)
+        ≡ entry_at at.now (with_argument (the_row_arg term.now)
         (signed sign (the_formula formula.now)))) }
 {
     let formula = match term {
-        TermArg::None => formula.copy(alloc)?,
-        TermArg::Term(t) => formula.instance(alloc, t)?,
-        TermArg::Name(number) => formula.instance(alloc, &Term::Eigen(*number))?,
+        RowArg::None => formula.copy(alloc)?,
+        RowArg::Term(row) => {
+            let t = term_of(alloc, row)?;
+            formula.instance(alloc, &t)?
+        }
+        RowArg::Name(number) => formula.instance(alloc, &Term::Eigen(*number))?,
     };
     let label = at.copy(alloc)?;
     Ok(Entry {
@@ -101,15 +105,10 @@ fn both(alloc: Global, first: Entry, second: Entry) -> Result<Addition, NoMemory
 }
 
 // The components of an entry, at the label that the step leads to.
-fn components(
-    alloc: Global,
-    entry: &Entry,
-    at: &Label,
-    term: &TermArg,
-) -> Result<Addition, NoMemory>
+fn components(alloc: Global, entry: &Entry, at: &Label, term: &RowArg) -> Result<Addition, NoMemory>
     ensures { IfOk result (λ a. (s : List derivation.Entry) → children_by s a
         ≡ with_components (shape_of entry.now.sign (the_formula entry.now.formula)) s at.now
-        (map (with_argument (the_term_arg term.now)) (components entry.now.sign (the_formula entry.now.formula)))) }
+        (map (with_argument (the_row_arg term.now)) (components entry.now.sign (the_formula entry.now.formula)))) }
 {
     match entry.formula.components(entry.sign) {
         Components::Literal(_, _) => {
@@ -135,9 +134,9 @@ fn components(
 }
 
 // Whether the arguments are just those that the kind of formula asks for.
-fn is_fit(kind: Kind, modal: &ModalArg, term: &TermArg) -> bool
+fn is_fit(kind: Kind, modal: &ModalArg, term: &RowArg) -> bool
     ensures { result ≡ (modal_fits kind.modal (the_modal modal.now)
-        && term_fits kind.shape (the_term_arg term.now) && has_step kind.modal kind.shape) }
+        && term_fits kind.shape (the_row_arg term.now) && has_step kind.modal kind.shape) }
 {
     arguments_fit(kind, modal.form(), term.form())
 }
@@ -149,7 +148,7 @@ fn use_fault(
     sequent: &[Entry],
     entry: &Entry,
     modal: &ModalArg,
-    term: &TermArg,
+    term: &RowArg,
     kind: Kind,
     at: &Label,
 ) -> Option<StepFault>
@@ -160,7 +159,7 @@ fn use_fault(
         ≡ label_after problem.now.setting.logic entry.now.label (the_modal modal.now) }
     ensures { (c : calculus.Children) → first_fault
         (conditions_of_use problem.now (the_names names.now) (map the_entry sequent.now)
-        (the_entry entry.now) (the_modal modal.now) (the_term_arg term.now)) c
+        (the_entry entry.now) (the_modal modal.now) (the_row_arg term.now)) c
         ≡ faulty c result }
 {
     let logic = problem.setting().logic();
@@ -185,6 +184,32 @@ fn use_fault(
     None
 }
 
+fn added_by_row(
+    alloc: Global,
+    problem: &Problem,
+    names: &Names,
+    sequent: &[Entry],
+    entry: &Entry,
+    modal: &ModalArg,
+    term: &RowArg,
+) -> Result<Addition, ApplyFault>
+    ensures added { IfOk result (λ a. use_entry
+        problem.now (the_names names.now) (map the_entry sequent.now)
+        (Some (the_entry entry.now)) (the_modal modal.now) (the_row_arg term.now)
+        ≡ Ok (children_by (map the_entry sequent.now) a)) }
+    ensures fault { (f : StepFault) → result ≡ Err (ApplyFault.Fault f)
+        → use_entry problem.now (the_names names.now) (map the_entry sequent.now)
+        (Some (the_entry entry.now)) (the_modal modal.now) (the_row_arg term.now) ≡ Err f }
+{
+    let logic = problem.setting().logic();
+    let kind = kind_of(logic, entry.sign, &entry.formula);
+    let at = label_after(alloc, logic, &entry.label, modal)?;
+    if let Some(fault) = use_fault(problem, names, sequent, entry, modal, term, kind, &at) {
+        return Err(ApplyFault::Fault(fault));
+    }
+    Ok(components(alloc, entry, &at, term)?)
+}
+
 fn added_by_use(
     alloc: Global,
     problem: &Problem,
@@ -202,13 +227,8 @@ fn added_by_use(
         → use_entry problem.now (the_names names.now) (map the_entry sequent.now)
         (Some (the_entry entry.now)) (the_modal modal.now) (the_term_arg term.now) ≡ Err f }
 {
-    let logic = problem.setting().logic();
-    let kind = kind_of(logic, entry.sign, &entry.formula);
-    let at = label_after(alloc, logic, &entry.label, modal)?;
-    if let Some(fault) = use_fault(problem, names, sequent, entry, modal, term, kind, &at) {
-        return Err(ApplyFault::Fault(fault));
-    }
-    Ok(components(alloc, entry, &at, term)?)
+    let row = term.row(alloc)?;
+    added_by_row(alloc, problem, names, sequent, entry, modal, &row)
 }
 
 // Whether the entries are T and F of one atom at one label.

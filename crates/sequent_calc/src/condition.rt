@@ -9,13 +9,13 @@ ghost use Rattle.logic_rules.specs.MarkView.{the_character};
 ghost use Rattle.sequent_calc.specs.DerivationView.{the_names};
 ghost use Rattle.sequent_calc.specs.EntryView.{the_entry};
 ghost use Rattle.sequent_calc.specs.FormView.{fits_modal, fits_term, modal_form, term_form};
-ghost use Rattle.sequent_calc.specs.StepView.{the_modal, the_term_arg};
+ghost use Rattle.sequent_calc.specs.StepView.{the_modal, the_row_arg};
 
 use crate::entry::Entry;
 use crate::form::{ModalForm, TermForm};
-use crate::leaf::{LeafTest, any_leaf, any_leaf_in, eigen_named};
+use crate::leaf::{LeafTest, any_leaf_in, any_leaf_in_row, eigen_named};
 use crate::names::Names;
-use crate::step::{ModalArg, TermArg};
+use crate::step::{ModalArg, RowArg};
 use logic_rules::{Kind, Label, Logic, Mark, ModalPart, Problem, Shape};
 
 fn modal_fits(part: ModalPart, form: ModalForm) -> bool
@@ -67,13 +67,13 @@ pub fn arguments_fit(kind: Kind, modal: ModalForm, term: TermForm) -> bool
 }
 
 /// Whether each name of the argument is listed.
-pub fn is_known(names: &Names, term: &TermArg) -> bool
-    ensures { result ≡ is_known (the_names names.now) (the_term_arg term.now) }
+pub fn is_known(names: &Names, term: &RowArg) -> bool
+    ensures { result ≡ is_known (the_names names.now) (the_row_arg term.now) }
 {
     match term {
-        TermArg::None => true,
-        TermArg::Term(t) => !any_leaf(&LeafTest::IsUnknown(names), t),
-        TermArg::Name(number) => eigen_named(names, *number).is_some(),
+        RowArg::None => true,
+        RowArg::Term(t) => !any_leaf_in_row(&LeafTest::IsUnknown(names), t),
+        RowArg::Name(number) => eigen_named(names, *number).is_some(),
     }
 }
 
@@ -117,42 +117,42 @@ fn eigen_occurs(number: u32, sequent: &[Entry]) -> bool
 }
 
 /// Whether the mark or eigenvariable that the step brings occurs nowhere in the sequent.
-pub fn is_new(names: &Names, sequent: &[Entry], modal: &ModalArg, term: &TermArg) -> bool
+pub fn is_new(names: &Names, sequent: &[Entry], modal: &ModalArg, term: &RowArg) -> bool
     ensures { result
         ≡ (character_is_new (the_names names.now) (map the_entry sequent.now) (the_modal modal.now)
-        && eigen_is_new (map the_entry sequent.now) (the_term_arg term.now)) }
+        && eigen_is_new (map the_entry sequent.now) (the_row_arg term.now)) }
 {
     let mark_is_new = match modal {
         ModalArg::New(number) => !mark_occurs(names, Mark::New(*number), sequent),
         ModalArg::None | ModalArg::To(_) => true,
     };
     let eigen_is_new = match term {
-        TermArg::Name(number) => !eigen_occurs(*number, sequent),
-        TermArg::None | TermArg::Term(_) => true,
+        RowArg::Name(number) => !eigen_occurs(*number, sequent),
+        RowArg::None | RowArg::Term(_) => true,
     };
     mark_is_new && eigen_is_new
 }
 
 /// Whether the home of the eigenvariable is the label of the component.
-pub fn home_is(names: &Names, at: &Label, term: &TermArg) -> bool
-    ensures { result ≡ home_is (the_names names.now) at.now (the_term_arg term.now) }
+pub fn home_is(names: &Names, at: &Label, term: &RowArg) -> bool
+    ensures { result ≡ home_is (the_names names.now) at.now (the_row_arg term.now) }
 {
     match term {
-        TermArg::Name(number) => match eigen_named(names, *number) {
+        RowArg::Name(number) => match eigen_named(names, *number) {
             Some(name) => name.1.is_equal(at),
             None => false,
         },
-        TermArg::None | TermArg::Term(_) => true,
+        RowArg::None | RowArg::Term(_) => true,
     }
 }
 
 /// Whether the term of a gamma step may stand at the label of the component.
-pub fn term_allowed(problem: &Problem, names: &Names, at: &Label, term: &TermArg) -> bool
+pub fn term_allowed(problem: &Problem, names: &Names, at: &Label, term: &RowArg) -> bool
     ensures { result
-        ≡ term_allowed problem.now (the_names names.now) at.now (the_term_arg term.now) }
+        ≡ term_allowed problem.now (the_names names.now) at.now (the_row_arg term.now) }
 {
     match term {
-        TermArg::Term(t) => !any_leaf(&LeafTest::IsForbidden(problem, names, at), t),
-        TermArg::None | TermArg::Name(_) => true,
+        RowArg::Term(t) => !any_leaf_in_row(&LeafTest::IsForbidden(problem, names, at), t),
+        RowArg::None | RowArg::Name(_) => true,
     }
 }

@@ -1,7 +1,7 @@
 //! Tests of the leaves of terms: the variables, eigenvariables and spare constants that stand in
 //! them.
 
-ghost use Rattle.std.specs.Prelude.{◌≡◌, option_copied};
+ghost use Rattle.std.specs.Prelude.{◌≡◌, ◌∷◌, ◌||◌, List, option_copied};
 ghost use Rattle.std.specs.Option.{option_map};
 ghost use Rattle.calculus.specs.Calculus.{eigen_named, home_holds, spare_allowed, spare_named};
 ghost use Rattle.calculus.specs.Lists.{terms_tree};
@@ -9,6 +9,8 @@ ghost use Rattle.calculus.specs.Syntax as tree;
 ghost use Rattle.calculus.specs.Substitution.{any_leaf, any_leaf_in, any_leaf_of};
 ghost use Rattle.formula_core.specs.FormulaView.{the_formula};
 ghost use Rattle.formula_core.specs.TermView.{the_term};
+ghost use Rattle.formula_text.specs.Rows.{any_item};
+ghost use Rattle.formula_text.specs.declared.term_row.RowItem.{RowItem as Item};
 ghost use Rattle.logic_rules.specs.MarkView.{the_character};
 ghost use Rattle.sequent_calc.specs.DerivationView.{the_names};
 ghost use Rattle.sequent_calc.specs.LeafView.{the_test};
@@ -16,6 +18,7 @@ ghost use Rattle.sequent_calc.specs.NamesView.{the_eigen, the_home, the_spare};
 
 use crate::names::{Home, Names};
 use formula_core::{Formula, Term, Terms};
+use formula_text::{RowItem, TermRow};
 use logic_rules::{Label, Mark, Problem};
 
 /// What is asked of a leaf.
@@ -108,9 +111,33 @@ fn passes_variable(test: &LeafTest, number: u32) -> bool
     }
 }
 
-/// Whether some leaf of the term passes the test.
+fn passes(test: &LeafTest, item: RowItem) -> bool
+    ensures { (rest : List Item) → any_item (the_test test.now) (item ∷ rest)
+        ≡ (result || any_item (the_test test.now) rest) }
+{
+    match item {
+        RowItem::Var(number) => passes_variable(test, number),
+        RowItem::Fun(_, _) => false,
+        RowItem::Eigen(number) => passes_eigen(test, number),
+        RowItem::Spare(number) => passes_spare(test, number),
+    }
+}
+
+/// Whether some leaf of the term in a row passes the test.
+pub fn any_leaf_in_row(test: &LeafTest, row: &TermRow) -> bool
+    ensures { result ≡ any_leaf (the_test test.now) row.now }
+{
+    for item in row.items() {
+        if passes(test, *item) {
+            return true;
+        }
+    }
+    false
+}
+
+// Whether some leaf of the term passes the test.
 #[cycle(leaves)]
-pub fn any_leaf(test: &LeafTest, t: &Term) -> bool
+fn any_leaf(test: &LeafTest, t: &Term) -> bool
     ensures { result ≡ any_leaf (the_test test.now) (the_term t.now) }
 {
     match t {

@@ -17,11 +17,11 @@ mod rules;
 mod step;
 
 pub use addition::{Addition, addition_of};
-pub use condition::{arguments_fit, home_is, is_known, is_reachable, term_allowed};
+pub use condition::arguments_fit;
 pub use derivation::Derivation;
 pub use entry::{Entry, Sequent};
 pub use form::{ModalForm, TermForm};
 pub use leaf::{eigen_named, spare_named};
 pub use names::{EigenList, Home, Names, SpareList};
 pub use rules::{ApplyFault, Children, StepFault, apply};
-pub use step::{ModalArg, Step, StepList, TermArg};
+pub use step::{ModalArg, RowArg, Step, StepList, TermArg};

@@ -1,15 +1,15 @@
 ghost use Rattle.std.specs.Prelude.{◌≡◌, ◌++◌, ◌∷◌, [], map, IfOk, OnOk, OnErr};
 ghost use Rattle.calculus.specs.Derivations as derivation;
-ghost use Rattle.formula_core.specs.TermView.{the_term};
 ghost use Rattle.sequent_calc.specs.FormView.{modal_form, term_form};
-ghost use Rattle.sequent_calc.specs.StepView.{the_modal, the_step, the_term_arg};
+ghost use Rattle.sequent_calc.specs.StepView.{the_modal, the_row_arg, the_step, the_term_arg};
 
 use crate::form::{ModalForm, TermForm};
 use cop_base::NoMemory;
-use formula_core::Term;
+use formula_text::TermRow;
 use logic_rules::Label;
 use std::alloc::Global;
 use std::marker::Model;
+use term_table::SharedTerm;
 
 /// What a step with a modal part is given: the label of a nu step, or the number of a pi step's new
 /// mark. The label lies apart, since most steps have none and a derivation has many.
@@ -20,12 +20,20 @@ pub enum ModalArg {
     New(u32),
 }
 
-/// What a step on a quantifier is given: the term of a gamma step, which lies apart like a label, or
-/// the number of a delta step's eigenvariable.
+/// What a step on a quantifier is given: the term of a gamma step, or the number of a delta step's
+/// eigenvariable.
 #[derive(Drop)]
 pub enum TermArg {
     None,
-    Term(Box<Term>),
+    Term(SharedTerm),
+    Name(u32),
+}
+
+/// The same with the term in a row.
+#[derive(Drop)]
+pub enum RowArg {
+    None,
+    Term(TermRow),
     Name(u32),
 }
 
@@ -50,21 +58,30 @@ impl ModalArg {
 }
 
 impl TermArg {
-    /// The term of a gamma step.
-    pub fn term(alloc: Global, term: Term) -> Result<TermArg, NoMemory>
-        ensures { IfOk result (λ arg. the_term_arg arg ≡ derivation.by_term (the_term term)) }
-    {
-        Ok(TermArg::Term(Box::new(alloc, term)?))
-    }
-
-    /// What is given.
-    pub fn form(&self) -> TermForm
-        ensures { result ≡ term_form (the_term_arg self.now) }
+    /// What is given, with the term in a row.
+    pub fn row(&self, alloc: Global) -> Result<RowArg, NoMemory>
+        ensures { IfOk result (λ arg. the_row_arg arg ≡ the_term_arg self.now) }
     {
         match self {
-            TermArg::None => TermForm::None,
-            TermArg::Term(_) => TermForm::Term,
-            TermArg::Name(_) => TermForm::Name,
+            TermArg::None => Ok(RowArg::None),
+            TermArg::Term(term) => {
+                let row = term.row(alloc)?;
+                Ok(RowArg::Term(row))
+            }
+            TermArg::Name(number) => Ok(RowArg::Name(*number)),
+        }
+    }
+}
+
+impl RowArg {
+    /// What is given.
+    pub fn form(&self) -> TermForm
+        ensures { result ≡ term_form (the_row_arg self.now) }
+    {
+        match self {
+            RowArg::None => TermForm::None,
+            RowArg::Term(_) => TermForm::Term,
+            RowArg::Name(_) => TermForm::Name,
         }
     }
 }
