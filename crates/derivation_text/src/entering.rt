@@ -4,16 +4,14 @@ ghost use Rattle.std.specs.Prelude.{◌≡◌, IfOk, OnErr, OnOk};
 ghost use Rattle.calculus.specs.Versions.{home_number, numbered_arg, numbered_modal};
 ghost use Rattle.derivation_text.specs.Entering.{with_arg, with_home, with_modal};
 ghost use Rattle.derivation_text.specs.NumbersView.{the_numbered_arg, the_numbered_modal};
-ghost use Rattle.derivation_text.specs.RowView.{the_row_arg};
 ghost use Rattle.sequent_calc.specs.NamesView.{the_home};
-ghost use Rattle.sequent_calc.specs.StepView.{the_modal};
+ghost use Rattle.sequent_calc.specs.StepView.{the_modal, the_row_arg};
 
 use crate::label_list::LabelList;
 use crate::numbers::{NumberedModal, NumberedTerm};
-use crate::row_step::RowArg;
 use crate::term_list::TermList;
 use cop_base::NoMemory;
-use sequent_calc::{Home, ModalArg};
+use sequent_calc::{Home, ModalArg, RowArg};
 
 /// The number of the home of a spare constant, if it has one. Want of memory leaves the labels as they were.
 pub fn enter_home(labels: &mut LabelList, home: &Home) -> Result<Option<u32>, NoMemory>

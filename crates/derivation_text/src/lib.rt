@@ -22,6 +22,7 @@ mod numbering;
 mod numbers;
 mod parser;
 mod place_list;
+mod plain_writer;
 mod row_step;
 mod step_reader;
 mod table_writer;

@@ -7,50 +7,24 @@ ghost use Rattle.calculus.specs.Versions.{numbering, stated, stated_eigen, state
 ghost use Rattle.derivation_text.specs.Entering.{derivation_with, empty_of, put_step};
 ghost use Rattle.derivation_text.specs.Listed.{are_listed, has_home_among, is_arg_listed, may_have_home_among};
 ghost use Rattle.derivation_text.specs.NumbersView.{the_numbered_arg, the_numbered_eigen, the_numbered_spare, the_numbered_step};
-ghost use Rattle.derivation_text.specs.RowView.{the_row_arg};
-ghost use Rattle.formula_core.specs.TermView.{the_term};
 ghost use Rattle.sequent_calc.specs.DerivationView.{the_derivation};
 ghost use Rattle.sequent_calc.specs.NamesView.{the_eigen, the_spare};
-ghost use Rattle.sequent_calc.specs.StepView.{the_step, the_term_arg};
+ghost use Rattle.sequent_calc.specs.StepView.{the_row_arg, the_step};
 
-use crate::conversion::{home_of, modal_of};
+use crate::conversion::{home_of, modal_of, row_copy};
 use crate::numbers::{NumberedStep, NumberedTerm};
-use crate::row_step::RowArg;
 use crate::text_derivation::TextDerivation;
 use cop_base::NoMemory;
-use formula_core::Term;
-use formula_text::{TermRow, add_row};
 use logic_rules::Label;
-use sequent_calc::{Derivation, Home, Step, TermArg};
+use sequent_calc::{Derivation, Home, RowArg, Step};
 use std::alloc::Global;
-
-fn row_of(alloc: Global, t: &Term) -> Result<TermRow, NoMemory>
-    ensures { IfOk result (λ row. row ≡ the_term t.now) }
-{
-    let mut items = Vec::new(alloc);
-    add_row(&mut items, t)?;
-    Ok(TermRow::new(items))
-}
-
-fn arg_of(alloc: Global, arg: &TermArg) -> Result<RowArg, NoMemory>
-    ensures { IfOk result (λ a. the_row_arg a ≡ the_term_arg arg.now) }
-{
-    match arg {
-        TermArg::None => Ok(RowArg::None),
-        TermArg::Term(t) => {
-            let row = row_of(alloc, t)?;
-            Ok(RowArg::Term(row))
-        }
-        TermArg::Name(n) => Ok(RowArg::Name(*n)),
-    }
-}
 
 fn enter_step(alloc: Global, d: &mut TextDerivation, step: &Step) -> Result<(), NoMemory>
     ensures { OnOk result (d.new ≡ put_step d.old (the_step step.now)) }
 {
     match step {
         Step::Use { entry, modal, term } => {
-            let term = arg_of(alloc, term)?;
+            let term = term.row(alloc)?;
             d.enter_use(*entry, modal, term)?;
             Ok(())
         }
@@ -111,14 +85,6 @@ pub fn number(alloc: Global, d: &Derivation) -> Result<TextDerivation, NoMemory>
     let mut numbered = TextDerivation::new(alloc, d.limit);
     enter_all(alloc, d, &mut numbered)?;
     Ok(numbered)
-}
-
-fn row_copy(alloc: Global, row: &TermRow) -> Result<TermRow, NoMemory>
-    ensures { IfOk result (λ copy. copy ≡ row.now) }
-{
-    let mut items = Vec::new(alloc);
-    items.extend_from_slice(row.items())?;
-    Ok(TermRow::new(items))
 }
 
 fn row_arg_of(alloc: Global, d: &TextDerivation, term: NumberedTerm) -> Result<RowArg, NoMemory>

@@ -1,15 +1,6 @@
 //! Steps as they are read from a text of version 1: their terms stand in rows.
 
-use formula_text::TermRow;
-use sequent_calc::ModalArg;
-
-/// What a step on a quantifier is given, as `sequent_calc::TermArg`.
-#[derive(Drop)]
-pub enum RowArg {
-    None,
-    Term(TermRow),
-    Name(u32),
-}
+use sequent_calc::{ModalArg, RowArg};
 
 /// A step, as `sequent_calc::Step`.
 #[derive(Drop)]

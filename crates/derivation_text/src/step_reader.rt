@@ -4,13 +4,13 @@ ghost use Rattle.std.specs.Prelude.{◌≡◌, ◌++◌, ◌∷◌, [], ℕ, Lis
 ghost use Rattle.calculus.specs.Derivations as derivation;
 ghost use Rattle.calculus.specs.Syntax as tree;
 ghost use Rattle.derivation_text.specs.Spelling.{AreArgs, IsLabelAndArg, IsNameNumberAndArg, IsNumberPair, IsStep, IsTerm, IsTermArg, IsUse};
-ghost use Rattle.derivation_text.specs.RowView.{the_row_arg, the_row_step};
-ghost use Rattle.sequent_calc.specs.StepView.{the_modal};
+ghost use Rattle.derivation_text.specs.RowView.{the_row_step};
+ghost use Rattle.sequent_calc.specs.StepView.{the_modal, the_row_arg};
 
-use crate::row_step::{RowArg, RowStep};
+use crate::row_step::RowStep;
 use formula_text::{TermRow, TextRead, read_row};
 use logic_rules::{Label, Problem};
-use sequent_calc::ModalArg;
+use sequent_calc::{ModalArg, RowArg};
 use std::alloc::Global;
 use text_lines::{
     read_front_label, read_front_number, read_name_number, read_whole_number, rest_after,

@@ -8,19 +8,17 @@ ghost use Rattle.derivation_text.specs.Listed.{are_listed, has_home_among, may_h
 ghost use Rattle.derivation_text.specs.NumberedBody.{eigen_of, label_of, spare_of, step_of, term_of, with_numbered_line};
 ghost use Rattle.std.specs.List.{list_all};
 ghost use Rattle.derivation_text.specs.NumbersView.{AreAmong, the_numbered_eigen, the_numbered_spare, the_numbered_step};
-ghost use Rattle.derivation_text.specs.RowView.{the_row_arg};
 ghost use Rattle.sequent_calc.specs.NamesView.{the_eigen, the_spare};
-ghost use Rattle.sequent_calc.specs.StepView.{the_modal};
+ghost use Rattle.sequent_calc.specs.StepView.{the_modal, the_row_arg};
 
 use crate::entering::{enter_arg, enter_home, enter_modal};
 use crate::label_list::LabelList;
 use crate::numbers::NumberedStep;
-use crate::row_step::RowArg;
 use crate::term_list::TermList;
 use cop_base::NoMemory;
 use formula_text::TermRow;
 use logic_rules::Label;
-use sequent_calc::{Home, ModalArg};
+use sequent_calc::{Home, ModalArg, RowArg};
 use std::alloc::Global;
 use std::marker::Model;
 

@@ -11,6 +11,7 @@ ghost use Rattle.sequent_calc.specs.DerivationView.{the_derivation};
 use crate::head_reader::first_line;
 use crate::line_writer::{write_eigens, write_spares, write_steps};
 use crate::numbering::number;
+use crate::plain_writer::write_plain;
 use crate::table_writer::{write_label_lines, write_term_lines};
 use crate::text_derivation::TextDerivation;
 use calculus::version::Version;
@@ -66,6 +67,30 @@ pub fn write(
     Ok(out)
 }
 
+fn write_numbered(alloc: Global, problem: &Problem, d: &Derivation) -> Result<Vec<u8>, NoMemory>
+    requires { IsTrue (is_printable problem.now (the_derivation d.now)) }
+    ensures { IfOk result (λ bytes. IsTextIn Version.Two problem.now (the_derivation d.now) bytes.items) }
+{
+    let numbered = number(alloc, d)?;
+    let text = write(alloc, problem, &numbered, Version::Two)?;
+    Ok(text)
+}
+
+fn write_in(
+    alloc: Global,
+    problem: &Problem,
+    d: &Derivation,
+    version: Version,
+) -> Result<Vec<u8>, NoMemory>
+    requires { IsTrue (is_printable problem.now (the_derivation d.now)) }
+    ensures { IfOk result (λ bytes. IsTextIn version problem.now (the_derivation d.now) bytes.items) }
+{
+    match version {
+        Version::One => write_plain(alloc, problem, d),
+        Version::Two => write_numbered(alloc, problem, d),
+    }
+}
+
 /// The same of a derivation of the calculus.
 pub fn print(
     alloc: Global,
@@ -78,7 +103,8 @@ pub fn print(
     ensures one { IfOk result (λ bytes. AtMostOneInVersion problem.now bytes.items) }
     ensures formula { IfOk result (λ bytes. AtMostOneFormula problem.now bytes.items) }
 {
-    let numbered = number(alloc, d)?;
-    let text = write(alloc, problem, &numbered, version)?;
+    // Called for its contract alone, which says that symbols are distinct.
+    let _symbols = problem.symbols();
+    let text = write_in(alloc, problem, d, version)?;
     Ok(text)
 }

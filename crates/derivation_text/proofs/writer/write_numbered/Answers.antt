@@ -1,9 +1,10 @@
 use Rattle.std.proofs.Common.{sym, ◌∙◌, ap, subst, IsTrue}
 use Rattle.calculus.specs.DerivationText.{is_printable}
+use Rattle.calculus.specs.declared.version.Version.TheVariants.{Two}
 use Rattle.calculus.specs.Versions.{IsTextIn, numbering, stated}
 use Rattle.calculus.proofs.VersionLaws.{stated-numbering}
 use Rattle.sequent_calc.specs.DerivationView.{the_derivation}
-use Rattle.derivation_text.proofs.writer.print.Goals as goal
+use Rattle.derivation_text.proofs.writer.write_numbered.Goals as goal
 
 pub write-requires : goal.write-requires
 write-requires c =
@@ -13,7 +14,7 @@ write-requires c =
       numbers = c.in_ok-numbered.ensures ∙ ap numbering (sym same);
     }
 
-pub returns-clause-text : goal.returns-clause-text
-returns-clause-text c =
+pub returns : goal.returns
+returns c =
     let same = ap stated c.in_ok-numbered.ensures ∙ stated-numbering (the_derivation c.args.d.now) in
-    subst (λ d. IsTextIn c.args.version c.args.problem.now d c.in_ok-text.text.items) same c.in_ok-text.ensures.text
+    subst (λ d. IsTextIn Two c.args.problem.now d c.in_ok-text.text.items) same c.in_ok-text.ensures.text

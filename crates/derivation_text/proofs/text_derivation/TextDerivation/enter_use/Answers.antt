@@ -1,6 +1,6 @@
 use Rattle.std.proofs.Common.{sym, subst}
 use Rattle.derivation_text.specs.NumbersView.{AreAmong, the_numbered_derivation}
-use Rattle.derivation_text.specs.RowView.{the_row_arg}
+use Rattle.sequent_calc.specs.StepView.{the_row_arg}
 use Rattle.derivation_text.proofs.EnteredLaws.{both-entered, modal-entered, use-entered}
 use Rattle.sequent_calc.specs.StepView.{the_modal}
 use Rattle.derivation_text.proofs.text_derivation.TextDerivation.enter_use.Goals as goal

@@ -1,0 +1,8 @@
+use Rattle.std.proofs.Common.{◌≡◌, ◌++◌, map, drop}
+use Rattle.std.specs.List.{flat_map}
+use Rattle.calculus.specs.DerivationText.{spare_line, line_bytes}
+use Rattle.sequent_calc.specs.NamesView.{the_spare}
+use Rattle.derivation_text.proofs.plain_writer.write_spares.Given as goal
+
+abbrev pub invariant-loop-item : goal.invariant-loop-item
+invariant-loop-item l = l.out.items ++ flat_map line_bytes (map spare_line (map the_spare (drop l.item-index l.item-items))) ≡ l.fn.out.items ++ flat_map line_bytes (map spare_line l.spares)
