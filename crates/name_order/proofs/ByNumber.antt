@@ -13,3 +13,4 @@ pub mod Promises
 pub mod CollectLaws
 pub mod Collecting
 pub mod DepthLaws
+pub mod TermLaws

@@ -12,3 +12,4 @@ pub mod Inside
 pub mod Seeing
 pub mod Waiting
 pub mod Naming
+pub mod Numbered

@@ -14,6 +14,7 @@ mod naming;
 mod numbering;
 mod place;
 mod reached;
+mod terms;
 mod turn;
 mod walk;
 

@@ -5,12 +5,14 @@ ghost use Rattle.std.specs.Prelude.{slice_get};
 ghost use Rattle.std.specs.List.{AllByRecursion, AllZip};
 ghost use Rattle.calculus.specs.Ground.{g_eigen, g_new_mark, g_spare_mark, values_tree};
 ghost use Rattle.calculus.specs.Tableaux.{is_closed};
-ghost use Rattle.conversion_theory.specs.Numbering.{IsNumbering, NumbersTell, number_in};
+ghost use Rattle.conversion_theory.specs.Numbering.{IsNumbering, NumbersTell, number_in, number_of, numbered_term};
 ghost use Rattle.conversion_theory.specs.Turns.{IsAgenda, term_name, mark_name};
 ghost use Rattle.formula_core.specs.GroundLists.{the_g_term, the_values, IsGrown};
 ghost use Rattle.name_order.specs.ByNumber.Collected.{the_lists};
 ghost use Rattle.name_order.specs.ByNumber.Naming.{AreGathered, the_names as the_names_of, the_turns as the_turns_of, IsNaming};
+ghost use Rattle.name_order.specs.ByNumber.Inside.{AreNormalNames};
 ghost use Rattle.name_order.specs.ByNumber.NameView.{the_name, IsNormalName};
+ghost use Rattle.name_order.specs.ByNumber.Numbered.{AreNumbered};
 ghost use Rattle.name_order.specs.ByNumber.Order.{AreOrdered, IsOnce};
 ghost use Rattle.name_order.specs.ByNumber.ReachedView.{the_all, the_keys, AreNormalReached};
 ghost use Rattle.name_order.specs.ByNumber.TurnView.{the_turn, IsNormalTurn};
@@ -20,13 +22,15 @@ ghost use Rattle.name_order.specs.Mentioned.{gathered};
 ghost use Rattle.name_order.specs.PlaceView.{the_places};
 ghost use Rattle.name_order.specs.Prerequisites.{IsOrder, ParentsTell, WaitsTell};
 ghost use Rattle.tableau_core.specs.Numbered.TableauView.{the_tableau};
+ghost use Rattle.term_table.specs.SharedTerm.{the_shared_term};
 
 use crate::agenda::{Turns, all_turns};
 use crate::guide::{Guide, Numbers, guide_by};
-use crate::names::{Name, normal_name};
+use crate::names::Name;
 use crate::naming::{Naming, name_all};
 use crate::numbering::number_names;
 use crate::place::{Place, all_places};
+use crate::terms::{number_in, numbered, numbered_lists};
 use crate::turn::Turn;
 use cop_base::{NoMemory, PosId};
 use formula_core::{GroundMark, GroundTable, GroundTerm, Values};
@@ -34,7 +38,9 @@ use indexmap::IndexSet;
 use logic_rules::Problem;
 use std::alloc::Global;
 use std::marker::Model;
+use std::rc::Rc;
 use tableau_core::{SizedProblem, Tableau};
+use term_table::{SharedTerm, TermTable};
 
 /// The names of a tableau, numbered from 1 in their order, and its turns in the order in which they
 /// are made, by the numbers of a table of its own that begins with the tableau's. Turns are told by
@@ -43,6 +49,7 @@ use tableau_core::{SizedProblem, Tableau};
 pub struct Named {
     table: GroundTable,
     names: IndexSet<Name>,
+    terms: Rc<TermTable>,
     agenda: Vec<Turn>,
     order: Vec<Numbers>,
     parents: Vec<Option<usize>>,
@@ -51,6 +58,8 @@ pub struct Named {
 
 impl Model for Named {
     ghost use Rattle.std.specs.Prelude.{map, length, ◌<◌, ◌^◌};
+    ghost use Rattle.conversion_theory.specs.Numbering.{number_of};
+    ghost use Rattle.name_order.specs.ByNumber.Numbered.{AreNumbered};
     ghost use Rattle.std.specs.List.{AllByRecursion};
     ghost use Rattle.calculus.specs.Codes.{g_term_code, mark_code, value_code};
     ghost use Rattle.formula_core.specs.GroundListCodes.{ground_lists_code};
@@ -73,7 +82,8 @@ impl Model for Named {
     } };
 
     ghost invariant = { λ n. (length n.names.keys < 2 ^ 32) × (length n.agenda.items < 2 ^ 32)
-        × AllByRecursion (IsNormalName n.table) n.names.keys × AllByRecursion (IsNormalTurn n.table) n.agenda.items };
+        × AllByRecursion (IsNormalName n.table) n.names.keys × AllByRecursion (IsNormalTurn n.table) n.agenda.items
+        × AreNumbered (number_of (map (the_name n.table) n.names.keys)) n.table (length n.table) n.terms.value };
 }
 
 impl Named {
@@ -88,11 +98,7 @@ impl Named {
     fn number(&self, name: Name) -> Option<u32>
         ensures { result ≡ number_in self.now.names (the_name self.now.lists name) }
     {
-        let name = normal_name(&self.table, name);
-        match self.names.get_index_of(&name) {
-            Some(place) => Some(place as u32 + 1),
-            None => None,
-        }
+        number_in(&self.table, &self.names, name)
     }
 
     /// The number of the eigenvariable of a delta position by the values taken on the way to it.
@@ -140,6 +146,15 @@ impl Named {
         self.number(Name::Mark(GroundMark::Spare(k)))
     }
 
+    /// A term by the numbers of its names, over a table that these terms share.
+    pub fn term(&self, t: GroundTerm) -> Result<SharedTerm, NoMemory>
+        ensures { IfOk result (λ term. the_shared_term term ≡ numbered_term (number_of self.now.names) (the_g_term self.now.lists t)) }
+    {
+        let term = numbered(&self.table, &self.names, self.table.len(), t);
+        let terms = self.terms.clone()?;
+        Ok(SharedTerm::Table(terms, term))
+    }
+
     /// The names, that of number 1 first.
     pub fn names(&self) -> &[Name]
         ensures names { map (the_name self.now.lists) result.now ≡ self.now.names }
@@ -185,6 +200,21 @@ impl Named {
     }
 }
 
+// The lists of terms of the table by the numbers of their names.
+fn shared_lists(
+    alloc: Global,
+    table: &GroundTable,
+    names: &IndexSet<Name>,
+) -> Result<Rc<TermTable>, NoMemory>
+    requires normal { AreNormalNames table.now names.now.keys }
+    requires few { length names.now.keys < 2 ^ 32 }
+    ensures { IfOk result (λ terms. AreNumbered (number_of (map (the_name table.now) names.now.keys)) table.now (length table.now) terms.value) }
+{
+    let lists = numbered_lists(alloc, table, names)?;
+    let terms = Rc::new(alloc, lists)?;
+    Ok(terms)
+}
+
 // The names in order and the turns, with what leads a conversion by them.
 fn with_guide(alloc: Global, naming: Naming, guide: Guide) -> Result<Named, NoMemory>
     requires names { AllByRecursion (IsNormalName naming.table) naming.names.keys }
@@ -199,9 +229,11 @@ fn with_guide(alloc: Global, naming: Naming, guide: Guide) -> Result<Named, NoMe
     ensures waits { IfOk result (λ n. n.waits ≡ guide.waits.items) }
 {
     let names = number_names(alloc, &naming.table, naming.names.as_slice())?;
+    let terms = shared_lists(alloc, &naming.table, &names)?;
     Ok(Named {
         table: naming.table,
         names,
+        terms,
         agenda: naming.turns,
         order: guide.order,
         parents: guide.parents,
