@@ -18,7 +18,7 @@ pub mod TransferRight
 mod TransferExamples
 pub mod ImagesLaws
 pub mod ImagesUpdates
-pub mod TermImages
+pub mod RowImages
 pub mod BranchLaws
 pub mod BranchUpdates
 pub mod GrownLaws

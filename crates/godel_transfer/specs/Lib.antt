@@ -7,3 +7,5 @@ pub mod Sketch
 pub mod ImagesView
 pub mod BranchView
 pub mod OutView
+-- the images of the items of rows
+pub mod RowImages

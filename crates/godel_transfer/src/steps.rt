@@ -18,6 +18,7 @@ use label_table::label_at;
 use logic_rules::{Label, Mark};
 use sequent_calc::{ModalArg, Step, StepList, TermArg};
 use std::alloc::Global;
+use term_table::SharedTerm;
 
 // A new character gets the number of entries before it.
 fn modal_image(
@@ -53,8 +54,9 @@ fn argument_image(
     match term {
         TermArg::None => Ok(TermArg::None),
         TermArg::Term(t) => {
-            let image = term_image(alloc, &branches.eigens, t)?;
-            TermArg::term(alloc, image)
+            let row = t.row(alloc)?;
+            let image = term_image(alloc, &branches.eigens, &row)?;
+            Ok(TermArg::Term(SharedTerm::Row(image)))
         }
         TermArg::Name(_) => Ok(TermArg::Name(number)),
     }

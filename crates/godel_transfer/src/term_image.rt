@@ -1,52 +1,55 @@
 //! Images of terms.
 
-ghost use Rattle.std.specs.Prelude.{◌≡◌, IfOk};
-ghost use Rattle.calculus.specs.Lists.{terms_tree};
-ghost use Rattle.calculus.specs.Syntax as tree;
-ghost use Rattle.formula_core.specs.TermView.{the_term};
+ghost use Rattle.std.specs.Prelude.{◌≡◌, map, IfOk};
 ghost use Rattle.godel_transfer.specs.BranchView.{the_eigens};
 ghost use Rattle.godel_transfer.specs.ImagesView.{AreImages};
-ghost use Rattle.godel_transfer.specs.Transfer.{eigen_image, term_image, terms_image};
+ghost use Rattle.godel_transfer.specs.RowImages.{eigen_item, item_image};
+ghost use Rattle.godel_transfer.specs.Transfer.{term_image};
 
 use crate::images::Images;
 use cop_base::NoMemory;
-use formula_core::{Term, Terms};
+use formula_text::{RowItem, TermRow};
 use std::alloc::Global;
 
 // A name that no step introduced becomes the spare constant 1.
-fn eigen_image(eigens: &Images, number: u32) -> Term
+fn eigen_item(eigens: &Images, number: u32) -> RowItem
     requires images { AreImages eigens.now }
-    ensures { the_term result ≡ eigen_image (the_eigens eigens.now) number }
+    ensures { result ≡ eigen_item (the_eigens eigens.now) number }
 {
     match eigens.find(number) {
-        Some(image) => Term::Eigen(image),
-        None => Term::Spare(1),
+        Some(image) => RowItem::Eigen(image),
+        None => RowItem::Spare(1),
     }
+}
+
+fn item_image(eigens: &Images, item: RowItem) -> RowItem
+    requires images { AreImages eigens.now }
+    ensures { result ≡ item_image (the_eigens eigens.now) item }
+{
+    match item {
+        RowItem::Var(number) => RowItem::Var(number),
+        RowItem::Fun(symbol, count) => RowItem::Fun(symbol, count),
+        RowItem::Eigen(number) => eigen_item(eigens, number),
+        RowItem::Spare(_) => RowItem::Spare(1),
+    }
+}
+
+fn items_image(alloc: Global, eigens: &Images, items: &[RowItem]) -> Result<Vec<RowItem>, NoMemory>
+    requires images { AreImages eigens.now }
+    ensures { IfOk result (λ images. images.items ≡ map (item_image (the_eigens eigens.now)) items.now) }
+{
+    let mut images = Vec::new(alloc);
+    for item in items {
+        images.push(item_image(eigens, *item))?;
+    }
+    Ok(images)
 }
 
 /// The image of a term.
-#[cycle(term_image)]
-pub fn term_image(alloc: Global, eigens: &Images, t: &Term) -> Result<Term, NoMemory>
+pub fn term_image(alloc: Global, eigens: &Images, t: &TermRow) -> Result<TermRow, NoMemory>
     requires images { AreImages eigens.now }
-    ensures { IfOk result (λ r. the_term r ≡ term_image (the_eigens eigens.now) (the_term t.now)) }
+    ensures { IfOk result (λ r. r ≡ term_image (the_eigens eigens.now) t.now) }
 {
-    match t {
-        Term::Var(k) => Ok(Term::Var(*k)),
-        Term::Fun(f, args) => Ok(Term::Fun(*f, terms_image(alloc, eigens, args)?)),
-        Term::Eigen(number) => Ok(eigen_image(eigens, *number)),
-        Term::Spare(_) => Ok(Term::Spare(1)),
-    }
-}
-
-#[cycle(term_image)]
-#[tactic(auto, using(formula_core::specs::TermFalls::falling))]
-fn terms_image(alloc: Global, eigens: &Images, ts: &Terms) -> Result<Terms, NoMemory>
-    requires images { AreImages eigens.now }
-    ensures { IfOk result (λ r. terms_tree r ≡ terms_image (the_eigens eigens.now) (terms_tree ts.now)) }
-{
-    let mut images = Terms::new(alloc);
-    for t in ts.items() {
-        images.push(term_image(alloc, eigens, t)?)?;
-    }
-    Ok(images)
+    let items = items_image(alloc, eigens, t.items())?;
+    Ok(TermRow::new(items))
 }

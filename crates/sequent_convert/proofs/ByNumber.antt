@@ -13,4 +13,3 @@ pub mod NameLines
 pub mod MadeNames
 pub mod Stack
 pub mod PastLaws
-pub mod TaskLaws

@@ -5,4 +5,3 @@ pub mod MadeView
 pub mod AheadView
 pub mod Pairs
 pub mod RunView
-pub mod TaskView

@@ -16,7 +16,6 @@ ghost use Rattle.sequent_convert.specs.ByNumber.SpotView.{the_spot};
 ghost use Rattle.tableau_core.specs.PartView.{the_part};
 
 use crate::node::{Node, first, second};
-use crate::numbered::term_of;
 use crate::past::{Past, past_modal_part};
 use crate::spot::Spot;
 use cop_base::{NoMemory, PosId};
@@ -91,8 +90,8 @@ fn with_term<'a>(
 {
     let mut nodes = Vec::new(alloc);
     nodes.push(inside(alloc, &past.spot, term, a)?)?;
-    let arg = TermArg::term(alloc, term_of(alloc, named, term)?)?;
-    Ok(Made::Grows(past.arg, arg, nodes))
+    let term = named.term(term)?;
+    Ok(Made::Grows(past.arg, TermArg::Term(term), nodes))
 }
 
 // The next value of a gamma position is its term.
