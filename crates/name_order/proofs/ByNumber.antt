@@ -14,3 +14,4 @@ pub mod CollectLaws
 pub mod Collecting
 pub mod DepthLaws
 pub mod TermLaws
+pub mod HoldingLaws

@@ -13,3 +13,4 @@ pub mod Seeing
 pub mod Waiting
 pub mod Naming
 pub mod Numbered
+pub mod Holding

@@ -15,6 +15,7 @@ ghost use Rattle.name_order.specs.PlaceView.{the_places};
 ghost use Rattle.tableau_core.specs.Numbered.SpotView.{the_mark_at};
 
 use crate::guide::Numbers;
+use crate::holding::HoldingTable;
 use crate::inside::names_in_values;
 use crate::keys::find;
 use crate::names::Name;
@@ -208,7 +209,7 @@ fn numbers(alloc: Global, places: &[usize]) -> Result<Numbers, NoMemory>
 fn waits_of(
     alloc: Global,
     problem: &SizedProblem,
-    table: &GroundTable,
+    table: &HoldingTable<'_>,
     places: &[Place],
     agenda: &IndexSet<Reached>,
     turn: &Reached,
@@ -217,12 +218,30 @@ fn waits_of(
     ensures { IfOk result (WaitFor problem.now (the_places places.now) (the_keys table.now agenda.now.keys) (the_reached table.now turn.now)) }
 {
     let values = turn.values.as_slice();
-    let before = taken_before(table, places, turn);
+    let plain = table.table();
+    let before = taken_before(plain, places, turn);
     let names = names_in_values(alloc, table, &values[before..])?;
     let found = names.as_slice();
-    let waits = wait_for_names(alloc, problem, table, places, agenda, found)?;
+    let waits = wait_for_names(alloc, problem, plain, places, agenda, found)?;
     let turns = waits.as_slice();
     let all = numbers(alloc, turns)?;
+    Ok(all)
+}
+
+fn waits_by(
+    alloc: Global,
+    problem: &SizedProblem,
+    table: &HoldingTable<'_>,
+    places: &[Place],
+    agenda: &IndexSet<Reached>,
+) -> Result<Vec<Numbers>, NoMemory>
+    requires normal { AreNormalReached table.now agenda.now.keys }
+    ensures { IfOk result (λ all. AllZip (WaitFor problem.now (the_places places.now) (the_keys table.now agenda.now.keys)) (the_all table.now agenda.now.keys) all.items) }
+{
+    let mut all = Vec::new(alloc);
+    for turn in agenda.as_slice() {
+        all.push(waits_of(alloc, problem, table, places, agenda, turn)?)?;
+    }
     Ok(all)
 }
 
@@ -237,9 +256,7 @@ pub fn waits(
     requires normal { AreNormalReached table.now agenda.now.keys }
     ensures { IfOk result (λ all. AllZip (WaitFor problem.now (the_places places.now) (the_keys table.now agenda.now.keys)) (the_all table.now agenda.now.keys) all.items) }
 {
-    let mut all = Vec::new(alloc);
-    for turn in agenda.as_slice() {
-        all.push(waits_of(alloc, problem, table, places, agenda, turn)?)?;
-    }
+    let table = HoldingTable::new(alloc, table)?;
+    let all = waits_by(alloc, problem, &table, places, agenda)?;
     Ok(all)
 }

@@ -15,6 +15,7 @@ ghost use Rattle.name_order.specs.ByNumber.Seeing.{sees, Sees};
 ghost use Rattle.name_order.specs.Mentioned as inside;
 ghost use Rattle.tableau_core.specs.Numbered.Ahead.{bound};
 
+use crate::holding::HoldingTable;
 use crate::names::{Name, keep_name};
 use crate::reached::Reached;
 use cop_base::NoMemory;
@@ -41,16 +42,20 @@ fn start(alloc: Global) -> Search
     }
 }
 
-fn keep(table: &GroundTable, name: Name, search: &mut Search) -> Result<(), NoMemory>
+fn keep(table: &HoldingTable<'_>, name: Name, search: &mut Search) -> Result<(), NoMemory>
     requires normal { AreNormalNames table.now search.now.names.keys }
     ensures sees { IfOk result (λ _. Sees table.now search.old search.new (the_name table.now name ∷ [])) }
     ensures ahead { IfOk result (λ _. search.new.ahead.keys ≡ search.old.ahead.keys) }
 {
-    keep_name(table, name, &mut search.names)?;
+    keep_name(table.table(), name, &mut search.names)?;
     Ok(())
 }
 
-fn see_terms(table: &GroundTable, list: GroundTerms, search: &mut Search) -> Result<(), NoMemory>
+fn put_terms(
+    table: &HoldingTable<'_>,
+    list: GroundTerms,
+    search: &mut Search,
+) -> Result<(), NoMemory>
     requires normal { AreNormalNames table.now search.now.names.keys }
     ensures sees { IfOk result (λ _. Sees table.now search.old search.new (turns.names_of_terms (g_terms_tree (the_terms table.now list)))) }
     ensures bound { (m : ℕ) → IsLower (the_terms table.now list) list.0 m → bound search.old.ahead.keys ≤ m
@@ -63,7 +68,29 @@ fn see_terms(table: &GroundTable, list: GroundTerms, search: &mut Search) -> Res
     Ok(())
 }
 
-fn see_label(table: &GroundTable, list: GroundLabel, search: &mut Search) -> Result<(), NoMemory>
+#[tactic(auto, using(crate::proofs::ByNumber::HoldingLaws::holding))]
+fn see_terms(
+    table: &HoldingTable<'_>,
+    list: GroundTerms,
+    search: &mut Search,
+) -> Result<(), NoMemory>
+    requires normal { AreNormalNames table.now search.now.names.keys }
+    ensures sees { IfOk result (λ _. Sees table.now search.old search.new (turns.names_of_terms (g_terms_tree (the_terms table.now list)))) }
+    ensures bound { (m : ℕ) → IsLower (the_terms table.now list) list.0 m → bound search.old.ahead.keys ≤ m
+        → OnOk result (bound search.new.ahead.keys ≤ m) }
+{
+    if table.is_bare(list) {
+        return Ok(());
+    }
+    put_terms(table, list, search)?;
+    Ok(())
+}
+
+fn see_label(
+    table: &HoldingTable<'_>,
+    list: GroundLabel,
+    search: &mut Search,
+) -> Result<(), NoMemory>
     requires normal { AreNormalNames table.now search.now.names.keys }
     ensures sees { IfOk result (λ _. Sees table.now search.old search.new (turns.names_of_marks (marks_tree (the_marks table.now list)))) }
     ensures bound { (m : ℕ) → IsLower (the_marks table.now list) list.0 m → bound search.old.ahead.keys ≤ m
@@ -76,7 +103,7 @@ fn see_label(table: &GroundTable, list: GroundLabel, search: &mut Search) -> Res
     Ok(())
 }
 
-fn see_values(table: &GroundTable, list: Values, search: &mut Search) -> Result<(), NoMemory>
+fn see_values(table: &HoldingTable<'_>, list: Values, search: &mut Search) -> Result<(), NoMemory>
     requires normal { AreNormalNames table.now search.now.names.keys }
     ensures sees { IfOk result (λ _. Sees table.now search.old search.new (turns.names_of_values (values_tree (the_values table.now list)))) }
     ensures bound { (m : ℕ) → IsLower (the_values table.now list) list.0 m → bound search.old.ahead.keys ≤ m
@@ -90,7 +117,7 @@ fn see_values(table: &GroundTable, list: Values, search: &mut Search) -> Result<
 }
 
 #[tactic(auto, using(crate::proofs::ByNumber::InsideLaws::arms))]
-fn see_term(table: &GroundTable, term: GroundTerm, search: &mut Search) -> Result<(), NoMemory>
+fn see_term(table: &HoldingTable<'_>, term: GroundTerm, search: &mut Search) -> Result<(), NoMemory>
     requires normal { AreNormalNames table.now search.now.names.keys }
     ensures sees { IfOk result (λ _. Sees table.now search.old search.new (turns.names_of_term (the_g_term table.now term))) }
     ensures bound { (m : ℕ) → IsLowerTerm table.now m term → bound search.old.ahead.keys ≤ m
@@ -119,7 +146,7 @@ fn see_term(table: &GroundTable, term: GroundTerm, search: &mut Search) -> Resul
 }
 
 #[tactic(auto, using(crate::proofs::ByNumber::InsideLaws::arms))]
-fn see_mark(table: &GroundTable, mark: GroundMark, search: &mut Search) -> Result<(), NoMemory>
+fn see_mark(table: &HoldingTable<'_>, mark: GroundMark, search: &mut Search) -> Result<(), NoMemory>
     requires normal { AreNormalNames table.now search.now.names.keys }
     ensures sees { IfOk result (λ _. Sees table.now search.old search.new (turns.names_of_mark (the_mark table.now mark))) }
     ensures bound { (m : ℕ) → IsLowerMark table.now m mark → bound search.old.ahead.keys ≤ m
@@ -139,7 +166,7 @@ fn see_mark(table: &GroundTable, mark: GroundMark, search: &mut Search) -> Resul
 }
 
 #[tactic(auto, using(crate::proofs::ByNumber::InsideLaws::arms))]
-fn see_value(table: &GroundTable, value: Value, search: &mut Search) -> Result<(), NoMemory>
+fn see_value(table: &HoldingTable<'_>, value: Value, search: &mut Search) -> Result<(), NoMemory>
     requires normal { AreNormalNames table.now search.now.names.keys }
     ensures sees { IfOk result (λ _. Sees table.now search.old search.new (turns.names_of_value (the_value table.now value))) }
     ensures bound { (m : ℕ) → IsLowerValue table.now m value → bound search.old.ahead.keys ≤ m
@@ -159,7 +186,7 @@ fn see_value(table: &GroundTable, value: Value, search: &mut Search) -> Result<(
 
 // Looks at the terms of a list, where lists before it are ahead.
 fn look_at_terms(
-    table: &GroundTable,
+    table: &HoldingTable<'_>,
     list: GroundTerms,
     search: &mut Search,
 ) -> Result<(), NoMemory>
@@ -176,7 +203,7 @@ fn look_at_terms(
 }
 
 fn look_at_marks(
-    table: &GroundTable,
+    table: &HoldingTable<'_>,
     list: GroundLabel,
     search: &mut Search,
 ) -> Result<(), NoMemory>
@@ -192,7 +219,11 @@ fn look_at_marks(
     Ok(())
 }
 
-fn look_at_values(table: &GroundTable, list: Values, search: &mut Search) -> Result<(), NoMemory>
+fn look_at_values(
+    table: &HoldingTable<'_>,
+    list: Values,
+    search: &mut Search,
+) -> Result<(), NoMemory>
     requires normal { AreNormalNames table.now search.now.names.keys }
     requires bound { bound search.now.ahead.keys ≤ list.0 }
     ensures sees { IfOk result (λ _. Sees table.now search.old search.new (turns.names_of_values (values_tree (the_values table.now list)))) }
@@ -206,7 +237,7 @@ fn look_at_values(table: &GroundTable, list: Values, search: &mut Search) -> Res
 }
 
 // Looks at the list of a number, of whatever kind it is.
-fn look_at(table: &GroundTable, number: u32, search: &mut Search) -> Result<(), NoMemory>
+fn look_at(table: &HoldingTable<'_>, number: u32, search: &mut Search) -> Result<(), NoMemory>
     requires normal { AreNormalNames table.now search.now.names.keys }
     requires bound { bound search.now.ahead.keys ≤ number }
     ensures sees { IfOk result (λ _. Sees table.now search.old search.new (names_in (list_at table.now number))) }
@@ -219,7 +250,7 @@ fn look_at(table: &GroundTable, number: u32, search: &mut Search) -> Result<(), 
 }
 
 // Looks at values.
-fn see_all(table: &GroundTable, values: &[Value], search: &mut Search) -> Result<(), NoMemory>
+fn see_all(table: &HoldingTable<'_>, values: &[Value], search: &mut Search) -> Result<(), NoMemory>
     requires normal { AreNormalNames table.now search.now.names.keys }
     ensures { IfOk result (λ _. Sees table.now search.old search.new (inside.names_in (map (the_value table.now) values.now))) }
 {
@@ -230,7 +261,7 @@ fn see_all(table: &GroundTable, values: &[Value], search: &mut Search) -> Result
 }
 
 // The names once all lists that are ahead have been looked at.
-fn names_by(table: &GroundTable, mut search: Search) -> Result<IndexSet<Name>, NoMemory>
+fn names_by(table: &HoldingTable<'_>, mut search: Search) -> Result<IndexSet<Name>, NoMemory>
     requires normal { AreNormalNames table.now search.names.keys }
     ensures { IfOk result (λ names. (n : turns.Name) → has n (the_names table.now names.keys) ≡ sees table.now search n) }
 {
@@ -243,7 +274,7 @@ fn names_by(table: &GroundTable, mut search: Search) -> Result<IndexSet<Name>, N
 /// The names in the values.
 pub fn names_in_values(
     alloc: Global,
-    table: &GroundTable,
+    table: &HoldingTable<'_>,
     values: &[Value],
 ) -> Result<IndexSet<Name>, NoMemory>
     ensures { IfOk result (λ names. (n : turns.Name) → Contains (the_names table.now names.keys) n
@@ -251,6 +282,23 @@ pub fn names_in_values(
 {
     let mut search = start(alloc);
     see_all(table, values, &mut search)?;
+    let names = names_by(table, search)?;
+    Ok(names)
+}
+
+fn names_by_turns(
+    alloc: Global,
+    table: &HoldingTable<'_>,
+    reached: &[Reached],
+) -> Result<IndexSet<Name>, NoMemory>
+    ensures { IfOk result (λ names. (n : turns.Name) → Contains (the_names table.now names.keys) n
+        ↔ Contains (flat_map inside.names_in_turn (the_all table.now reached.now)) n) }
+{
+    let mut search = start(alloc);
+    for turn in reached {
+        let values = turn.values.as_slice();
+        see_all(table, values, &mut search)?;
+    }
     let names = names_by(table, search)?;
     Ok(names)
 }
@@ -264,11 +312,7 @@ pub fn names_in_turns(
     ensures { IfOk result (λ names. (n : turns.Name) → Contains (the_names table.now names.keys) n
         ↔ Contains (flat_map inside.names_in_turn (the_all table.now reached.now)) n) }
 {
-    let mut search = start(alloc);
-    for turn in reached {
-        let values = turn.values.as_slice();
-        see_all(table, values, &mut search)?;
-    }
-    let names = names_by(table, search)?;
+    let table = HoldingTable::new(alloc, table)?;
+    let names = names_by_turns(alloc, &table, reached)?;
     Ok(names)
 }

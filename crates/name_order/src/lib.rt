@@ -6,6 +6,7 @@ mod awaited;
 mod collect;
 mod depth;
 mod guide;
+mod holding;
 mod inside;
 mod keys;
 mod named;

@@ -5,7 +5,7 @@ use Rattle.name_order.specs.ByNumber.Inside.{has, AreNormalNames}
 use Rattle.name_order.specs.ByNumber.ReachedView.{the_all}
 use Rattle.name_order.specs.ByNumber.Seeing.{sees}
 use Rattle.name_order.specs.Mentioned.{names_in_turn}
-use Rattle.name_order.proofs.inside.names_in_turns.Given as goal
+use Rattle.name_order.proofs.inside.names_by_turns.Given as goal
 
 abbrev pub invariant-loop-turn : goal.invariant-loop-turn
 invariant-loop-turn l = record {

@@ -2,7 +2,7 @@ use Rattle.std.proofs.Common.{ap, length, refl, sym, ◌∙◌}
 use Rattle.std.proofs.lemmas.List.{length-map}
 use Rattle.formula_core.specs.GroundLists.{the_g_term, the_terms}
 use Rattle.name_order.proofs.ByNumber.InsideLaws.{put-bound, terms-put}
-use Rattle.name_order.proofs.inside.see_terms.Goals as goal
+use Rattle.name_order.proofs.inside.put_terms.Goals as goal
 
 pub returns-clause-sees : goal.returns-clause-sees
 returns-clause-sees c =
