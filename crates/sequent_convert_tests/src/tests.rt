@@ -151,18 +151,7 @@ fn converts_terms_of_many_levels(rt: HostRuntime) -> Result<(), Fail> {
     let alloc = rt.alloc();
     let formula = b"![X]:p(f(X)) => ?[Y]:p(Y)";
     let problem = proving(alloc, Logic::Classical, Domains::Constant, formula)?;
-    let t = deep_tableau(alloc, 2_000)?;
+    let t = deep_tableau(alloc, 200_000)?;
     assert!(rt; converted(alloc, &problem, &t)? == Some(4));
-    Ok(())
-}
-
-#[test]
-fn converts_no_terms_of_too_many_levels(rt: HostRuntime) -> Result<(), Fail> {
-    let alloc = rt.alloc();
-    let formula = b"![X]:p(f(X)) => ?[Y]:p(Y)";
-    let problem = proving(alloc, Logic::Classical, Domains::Constant, formula)?;
-    let t = deep_tableau(alloc, 10_001)?;
-    assert!(rt; is_closed(alloc, &problem, &t, 1)?);
-    assert!(rt; converted(alloc, &problem, &t).is_err());
     Ok(())
 }

@@ -3,7 +3,7 @@
 use crate::terms::nested_text;
 use cop_base::NoMemory;
 use derivation_check::{Verdict, check};
-use derivation_text::{ParseFault, parse};
+use derivation_text::parse;
 use logic_rules::{Domains, Logic};
 use std::alloc::Global;
 use std::test::Fail;
@@ -33,7 +33,6 @@ fn accepts_deep_terms(rt: HostRuntime) -> Result<(), Fail> {
     let problem = proving(alloc, Logic::Classical, Domains::Constant, formula)?;
     let text = deep_text(alloc, 30_000)?;
     assert!(rt; check(alloc, &problem, text.as_slice())? == Verdict::Accepted);
-    // no tree is made of it
-    assert!(rt; parse(alloc, &problem, text.as_slice()).err() == Some(ParseFault::NoMemory));
+    assert!(rt; parse(alloc, &problem, text.as_slice()).is_ok());
     Ok(())
 }
