@@ -7,7 +7,7 @@ use Rattle.std.proofs.lemmas.List.{length-take-le}
 use Rattle.std.proofs.lemmas.Option.{slice_get-map}
 use Rattle.calculus.specs.declared.sort.Sort.{Sort}
 use Rattle.calculus.specs.Equality.{contains}
-use Rattle.store_theory.specs.Stores.{Cell, variable, fun_cell, eigen_cell, new_cell, string_cell, Store, TrailMark, is_store, is_bound, cells_bound_by, cut_at, IsGood, parts_of, parts_fit, bound_cells, trail_fits, are_distinct_cells, EndsAt}
+use Rattle.store_theory.specs.Stores.{Cell, variable, fun_cell, eigen_cell, new_cell, string_cell, Store, TrailMark, is_store, is_bound, cells_bound_by, cut_at, IsGood, parts_of, parts_fit, bound_cells, trail_fits, are_distinct_cells, EndsAt, stays}
 use Rattle.store_theory.specs.Bindings.{bind_at, bound_to, with_binding, MayBind, IsWellFormed, HasRank, IsEnd, EndsIn}
 use Rattle.store_theory.proofs.BindingLaws.{is_store-with_binding, HasRank-with_binding, IsWellFormed-cut_at, kept, parts-within, ends-once, ends-there}
 use Rattle.term_store.specs.declared.cell.Ref.{Ref}
@@ -15,7 +15,7 @@ use Rattle.term_store.specs.declared.cell.Content.{Content}
 use Rattle.term_store.specs.declared.cell.Content.TheVariants.{Open, Bound, Fun, Eigen, New, Marks}
 use Rattle.term_store.specs.declared.cell.Slot.{Slot}
 use Rattle.term_store.specs.Slots.{bound_content, open_content, change_at, slots_bound_by}
-use Rattle.term_store.specs.Shown.{Shows, ShowsCell}
+use Rattle.term_store.specs.Shown.{Shows, ShowsCell, head_of, the_head}
 use Rattle.term_store.specs.StoreView.{the_cell, the_cell_at, the_store, part_count, IsLaid, IsWell}
 use Rattle.term_store.proofs.SlotLaws.{laid-change_at, length-change_at, count-bound, count-open}
 
@@ -254,3 +254,44 @@ ended-part s r v i e (w, c, f, g, l) =
     let (d, h, b) = ends-there s r v e in
     let q : d ≡ c = let p : Some d ≡ Some c = sym h ∙ at in cc in
     (c, at, ap is_bound (sym q) ∙ b, l)
+
+-- ---- the end of bindings
+
+pub shown-head : (k : Content) (c : Cell) → ShowsCell k c → head_of c ≡ the_head k
+shown-head (Open sort) c q = ap head_of q
+shown-head (Bound sort r) c q = ap head_of q
+shown-head (Fun f n) c (rs, q, l) = ap head_of q
+shown-head (Eigen p n) c (rs, q, l) = ap head_of q
+shown-head (New p n) c (rs, q, l) = ap head_of q
+shown-head (Marks n) c (rs, q, l) = ap head_of q
+
+pub shown-count : (k : Content) (c : Cell) → ShowsCell k c → is_bound c ≡ false → part_count k ≡ length (parts_of c)
+shown-count (Open sort) c q b = ap (λ x. length (parts_of x)) (sym q)
+shown-count (Bound sort r) c q b = absurd (false≢true (sym b ∙ ap is_bound q))
+shown-count (Fun f n) c (rs, q, l) b = sym l ∙ ap (λ x. length (parts_of x)) (sym q)
+shown-count (Eigen p n) c (rs, q, l) b = sym l ∙ ap (λ x. length (parts_of x)) (sym q)
+shown-count (New p n) c (rs, q, l) b = sym l ∙ ap (λ x. length (parts_of x)) (sym q)
+shown-count (Marks n) c (rs, q, l) b = sym l ∙ ap (λ x. length (parts_of x)) (sym q)
+
+-- the cell at the end of bindings
+pub shown-end : (s : Store) (r v : ℕ) (k : Content) → EndsAt s r v → Shows s v k → EndsIn s v (λ c. head_of c ≡ the_head k) × EndsIn s v (λ c. part_count k ≡ length (parts_of c))
+shown-end s r v k e (c, at, h) =
+    let (d, there, b) = ends-there s r v e in
+    let q : d ≡ c = let p : Some d ≡ Some c = sym there ∙ at in cc in
+    let unbound = ap is_bound (sym q) ∙ b in
+    ((v, c, stays at unbound, at, shown-head k c h), (v, c, stays at unbound, at, shown-count k c h unbound))
+
+-- the parts of a cell in the list of all parts
+pub parts-place : (slots : List Slot) (parts trail : List ℕ) (r : ℕ) (s : Slot) → IsWell slots parts trail → slice_get slots r ≡ Some s → IsEnd (the_store slots parts trail) r → (s.start + part_count s.content ≤ length parts) × EndsIn (the_store slots parts trail) r (λ c. take (part_count s.content) (drop s.start parts) ≡ parts_of c)
+parts-place slots parts trail r s w e (c, at, b) =
+    let there : slice_get (map (the_cell parts) slots) r ≡ Some (the_cell parts s) = slice_get-map (the_cell parts) slots r ∙ ap (option_map (the_cell parts)) e in
+    let same : the_cell parts s ≡ c = let q : Some (the_cell parts s) ≡ Some c = sym there ∙ at in cc in
+    (laid-at 0 slots (length parts) r s w.laid e, (r, c, stays at b, at, by s.content (ap is_bound same ∙ b) ∙ ap parts_of same))
+  where
+    by : (k : Content) → is_bound (the_cell_at parts s.start k) ≡ false → take (part_count k) (drop s.start parts) ≡ parts_of (the_cell_at parts s.start k)
+    by (Open sort) b = refl
+    by (Bound sort q) b = absurd (false≢true (sym b))
+    by (Fun f n) b = refl
+    by (Eigen p n) b = refl
+    by (New p n) b = refl
+    by (Marks n) b = refl

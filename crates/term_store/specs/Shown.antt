@@ -14,6 +14,15 @@ head_of (eigen_cell p rs) = head.Eigen (record { 0 = p })
 head_of (new_cell p rs) = head.New (record { 0 = p })
 head_of (string_cell rs) = head.Marks
 
+-- the kind and the name of a cell with this content
+abbrev pub the_head : Content → Head
+the_head (Open sort) = head.Open sort
+the_head (Bound sort r) = head.Open sort
+the_head (Fun f n) = head.Fun f
+the_head (Eigen p n) = head.Eigen p
+the_head (New p n) = head.New p
+the_head (Marks n) = head.Marks
+
 -- the content of a cell, but for its parts
 abbrev pub ShowsCell : Content → Cell → Type 0
 ShowsCell (Open sort) c = c ≡ variable sort None

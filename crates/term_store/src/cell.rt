@@ -32,6 +32,13 @@ pub enum Head {
     Marks,
 }
 
+/// A cell at which bindings end, and what it holds.
+#[derive(Clone, Copy, Debug)]
+pub struct End {
+    pub place: Ref,
+    pub content: Content,
+}
+
 // The kind and the name of a built cell.
 #[derive(Clone, Copy, Debug)]
 pub(crate) enum Name {
@@ -41,9 +48,10 @@ pub(crate) enum Name {
     Marks,
 }
 
-// What a cell holds; a built cell has this number of parts.
+/// What a cell holds: an unbound variable, one that is bound to this cell, or a built cell of this name with so many
+/// parts.
 #[derive(Clone, Copy, Debug)]
-pub(crate) enum Content {
+pub enum Content {
     Open(Sort),
     Bound(Sort, Ref),
     Fun(SymbolId, u32),

@@ -16,7 +16,7 @@ mod system;
 
 pub use calculus::sign::Sign;
 pub use calculus::sort::Sort;
-pub use cell::{Head, Ref, TrailMark, Variables};
+pub use cell::{Content, End, Head, Ref, TrailMark, Variables};
 pub use clause::{
     CellAtom, CellAtomList, CopiedClause, CopiedLiteral, GammaList, GammaUse, PatternAtom,
     PatternAtomList, PatternGamma, PatternGammaList, Prefix, RefList, SortList, Template,

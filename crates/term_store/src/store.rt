@@ -5,9 +5,9 @@ ghost use Rattle.store_theory.specs.Bindings.{EndsIn, IsEnd, IsWellFormed, Keeps
 ghost use Rattle.store_theory.specs.Stores.{Cell, EndsAt, HasNoCycle, IsGood, Store as TreeStore, cut_at, is_bound, parts_of, variable};
 ghost use Rattle.term_store.specs.Room.{KeepsRoom, spare};
 ghost use Rattle.term_store.specs.Shown.{Shows, head_of};
-ghost use Rattle.term_store.specs.StoreView.{the_mark};
+ghost use Rattle.term_store.specs.StoreView.{part_count, the_mark};
 
-use crate::cell::{Content, Head, Ref, Slot, TrailMark};
+use crate::cell::{Content, End, Head, Ref, Slot, TrailMark};
 use crate::slots::{bind_slot, cut, unbind};
 use calculus::sort::Sort;
 use cop_base::NoMemory;
@@ -17,13 +17,6 @@ use std::marker::Model;
 
 // How many cells a store can have: a place has 32 bits.
 const PLACES: usize = 4294967296;
-
-// A cell at which bindings end, and what it holds.
-#[derive(Clone, Copy)]
-struct End {
-    place: Ref,
-    content: Content,
-}
 
 // What a cell with this content is bound to, if it is bound.
 fn target(content: Content) -> Option<Ref>
@@ -38,6 +31,20 @@ fn target(content: Content) -> Option<Ref>
         Content::Eigen(_, _) => None,
         Content::New(_, _) => None,
         Content::Marks(_) => None,
+    }
+}
+
+// How many parts a cell with this content has.
+fn count_in(content: Content) -> u32
+    ensures { result ≡ part_count content }
+{
+    match content {
+        Content::Open(_) => 0,
+        Content::Bound(_, _) => 0,
+        Content::Fun(_, parts) => parts,
+        Content::Eigen(_, parts) => parts,
+        Content::New(_, parts) => parts,
+        Content::Marks(parts) => parts,
     }
 }
 
@@ -180,9 +187,9 @@ impl Store {
         self.cells.get(r.0 as usize).content
     }
 
-    // The cell at which the bindings of this one end, and what it holds. Each cell on the way is
-    // looked up once.
-    fn end(&self, r: Ref) -> End
+    /// The cell at which the bindings of this one end, and what it holds, by one look at each cell on
+    /// the way.
+    pub fn end(&self, r: Ref) -> End
         requires { r.0 < length self.now.store.cells }
         ensures ends { EndsAt self.now.store r.0 result.place.0 }
         ensures shows { Shows self.now.store result.place.0 result.content }
@@ -247,6 +254,17 @@ impl Store {
             Content::New(_, parts) => parts,
             Content::Marks(parts) => parts,
         }
+    }
+
+    /// The parts of a cell at which bindings end, by their places.
+    pub fn parts_at(&self, end: Ref) -> &[u32]
+        requires { IsEnd self.now.store end.0 }
+        ensures parts { EndsIn self.now.store end.0 (λ c. result.now ≡ parts_of c) }
+        ensures well { IsWellFormed self.now.store }
+    {
+        let slot = self.cells.get(end.0 as usize);
+        let start = slot.start as usize;
+        &self.parts[start..start + count_in(slot.content) as usize]
     }
 
     // The part of this number of a built cell.

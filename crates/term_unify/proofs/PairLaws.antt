@@ -64,6 +64,16 @@ part-there s r n i end t l =
     let m = told s r end.0 (λ d. n ≡ length (parts_of d)) end.1 end.2 t in
     tells s r end.0 (λ d. i < length (parts_of d)) end.1 end.2 (omega arith)
 
+-- a list of all parts tells each of them, and how many there are
+pub part-among : (s : Store) (r i k : ℕ) (xs : List ℕ) → EndsIn s r (λ d. xs ≡ parts_of d) → slice_get xs i ≡ Some k → EndsIn s r (λ d. slice_get (parts_of d) i ≡ Some k)
+part-among s r i k xs (v, c, e, at, q) h = (v, c, e, at, ap (λ ys. slice_get ys i) (sym q) ∙ h)
+
+pub parts-count : (s : Store) (r : ℕ) (xs : List ℕ) → EndsIn s r (λ d. xs ≡ parts_of d) → EndsIn s r (λ d. length xs ≡ length (parts_of d))
+parts-count s r xs (v, c, e, at, q) = (v, c, e, at, ap length q)
+
+pub part-inside : (s : Store) (r i k : ℕ) (xs : List ℕ) → IsWellFormed s → EndsIn s r (λ d. xs ≡ parts_of d) → slice_get xs i ≡ Some k → k < length s.cells
+part-inside s r i k xs w (v, c, e, at, q) h = parts-within s c i k ((kept s w.fits).fits v c at) (ap (λ ys. slice_get ys i) (sym q) ∙ h)
+
 -- ---- parts of two cells
 
 pub alike-unbound : (c d : Cell) → are_alike c d ≡ true → (is_bound c ≡ false) × (is_bound d ≡ false) × (length (parts_of c) ≡ length (parts_of d)) × (is_variable c ≡ false)
@@ -101,6 +111,12 @@ built-count s a b n w t =
     let u = alike-unbound w.left w.right w.alike in
     let m = told s a w.left (λ d. n ≡ length (parts_of d)) w.left_at u.0 t in
     tells s b w.right (λ d. n ≡ length (parts_of d)) w.right_at u.1 (m ∙ u.2)
+
+pub as-many : (s : Store) (a b : ℕ) (xs ys : List ℕ) → AreBuilt s a b → EndsIn s a (λ d. xs ≡ parts_of d) → EndsIn s b (λ d. ys ≡ parts_of d) → length xs ≡ length ys
+as-many s a b xs ys w t u =
+    let end = built-right s a b w in
+    told s b end.0 (λ d. length xs ≡ length (parts_of d)) end.1 end.2 (built-count s a b (length xs) w (parts-count s a xs t))
+    ∙ sym (ap length (told s b end.0 (λ d. ys ≡ parts_of d) end.1 end.2 u))
 
 pub pairs-added : (s : Store) (a b i : ℕ) (c d : Cell) (p q : Ref) (items before : List (Ref × Ref)) → AreBuilt s a b → slice_get s.cells a ≡ Some c → slice_get s.cells b ≡ Some d → EndsIn s a (λ e. slice_get (parts_of e) i ≡ Some p.0) → EndsIn s b (λ e. slice_get (parts_of e) i ≡ Some q.0) → map the_pair items ≡ map the_pair before ++ part_pairs (take i (parts_of c)) (take i (parts_of d)) → map the_pair (items ++ (p, q) ∷ []) ≡ map the_pair before ++ part_pairs (take (i + 1) (parts_of c)) (take (i + 1) (parts_of d))
 pairs-added s a b i c d p q items before w e f t u h =

@@ -8,7 +8,10 @@ use Rattle.store_theory.specs.Bindings.{EndsIn, are_alike, is_variable}
 use Rattle.store_theory.proofs.BindingLaws.{ends-once, ends-there, sort_eq-same, sort_eq-true, has_sort-from}
 use Rattle.store_theory.proofs.SolutionLaws.{ends-same, sorts-apart, equal-alike}
 use Rattle.term_store.specs.declared.cell.Head.{Head}
-use Rattle.term_store.specs.Shown.{head_of}
+use Rattle.term_store.specs.declared.cell.Content.{Content}
+use Rattle.term_store.specs.Shown.{Shows, head_of}
+use Rattle.term_store.specs.StoreView.{part_count}
+use Rattle.term_store.proofs.StoreFacts.{shown-end}
 use Rattle.term_unify.specs.Steps.{head_sort, is_open_head, same_name, IsBinding, AreBuilt, AreEnds}
 
 -- the cell at the end of bindings
@@ -26,6 +29,9 @@ ended s a x h e (v, c, f, g, k) =
     let at' : slice_get s.cells x ≡ Some c = ap (slice_get s.cells) same ∙ g in
     let q : d ≡ c = let p : Some d ≡ Some c = sym at ∙ at' in cc in
     record { ends = e; cell = c; at = at'; unbound = ap is_bound (sym q) ∙ b; shows = k }
+
+pub parts-counted : (s : Store) (r v : ℕ) (k : Content) (n : ℕ) → EndsAt s r v → Shows s v k → n ≡ part_count k → EndsIn s v (λ c. n ≡ length (parts_of c))
+parts-counted s r v k n e h q = let (w, c, f, at, l) = (shown-end s r v k e h).1 in (w, c, f, at, q ∙ l)
 
 head_sort-of : (c : Cell) → head_sort (head_of c) ≡ sort_of c
 head_sort-of (variable sort b) = refl

@@ -6,6 +6,7 @@ ghost use Rattle.store_theory.specs.Stores.{OccursIn};
 ghost use Rattle.term_store.specs.RefView.{the_place};
 ghost use Rattle.term_unify.specs.Steps.{AddsInner};
 
+use crate::compare::{count_in, part_in};
 use crate::visited::Visited;
 use cop_base::NoMemory;
 use term_store::{Ref, Store};
@@ -20,13 +21,14 @@ fn push_inner(store: &Store, v: Ref, r: Ref, places: &mut Vec<Ref>) -> Result<bo
     ensures added { IfOk result (λ found. found ≡ false → AddsInner store.now.store v.0 r.0
         (map the_place places.old.items) (map the_place places.new.items)) }
 {
-    for i in 0..store.parts(r) {
-        let part = store.walk(store.part(r, i));
-        if part.0 == v.0 {
+    let parts = store.parts_at(r);
+    for i in 0..parts.len() {
+        let part = store.end(part_in(parts, i));
+        if part.place.0 == v.0 {
             return Ok(true);
         }
-        if store.parts(part) != 0 {
-            places.push(part)?;
+        if count_in(part.content) != 0 {
+            places.push(part.place)?;
         }
     }
     Ok(false)

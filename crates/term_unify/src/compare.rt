@@ -1,14 +1,16 @@
 //! What one pair of cells comes to.
 
-ghost use Rattle.std.specs.Prelude.{◌≡◌, ◌<◌, OnOk, length, map};
+ghost use Rattle.std.specs.Prelude.{◌≡◌, ◌<◌, OnOk, Some, length, map, slice_get};
 ghost use Rattle.store_theory.specs.Bindings.{IsWellFormed};
 ghost use Rattle.calculus.specs.Equality.{sort_eq};
+ghost use Rattle.term_store.specs.Shown.{the_head};
+ghost use Rattle.term_store.specs.StoreView.{part_count};
 ghost use Rattle.term_unify.specs.Steps.{AddsParts, AreBuilt, IsStep, head_sort, is_open_head, same_name};
 ghost use Rattle.term_unify.specs.PairView.{the_pair};
 
 use calculus::sort::Sort;
 use cop_base::NoMemory;
-use term_store::{Head, Ref, Store};
+use term_store::{Content, Ref, Store};
 
 // What a pair comes to: its cells are equal, cannot be equal, are equal exactly where an unbound variable and another
 // cell at which bindings end are, or exactly where the parts of two built cells are.
@@ -19,27 +21,43 @@ pub(crate) enum Step {
     Parts(Ref, Ref),
 }
 
-fn sort_of_head(head: Head) -> Sort
-    ensures { result ≡ head_sort head }
+fn sort_of(content: Content) -> Sort
+    ensures { result ≡ head_sort (the_head content) }
 {
-    match head {
-        Head::Open(sort) => sort,
-        Head::Fun(_) => Sort::TermSort,
-        Head::Eigen(_) => Sort::TermSort,
-        Head::New(_) => Sort::MarkSort,
-        Head::Marks => Sort::StringSort,
+    match content {
+        Content::Open(sort) => sort,
+        Content::Bound(sort, _) => sort,
+        Content::Fun(_, _) => Sort::TermSort,
+        Content::Eigen(_, _) => Sort::TermSort,
+        Content::New(_, _) => Sort::MarkSort,
+        Content::Marks(_) => Sort::StringSort,
     }
 }
 
-fn is_open(head: Head) -> bool
-    ensures { result ≡ is_open_head head }
+fn is_open(content: Content) -> bool
+    ensures { result ≡ is_open_head (the_head content) }
 {
-    match head {
-        Head::Open(_) => true,
-        Head::Fun(_) => false,
-        Head::Eigen(_) => false,
-        Head::New(_) => false,
-        Head::Marks => false,
+    match content {
+        Content::Open(_) => true,
+        Content::Bound(_, _) => true,
+        Content::Fun(_, _) => false,
+        Content::Eigen(_, _) => false,
+        Content::New(_, _) => false,
+        Content::Marks(_) => false,
+    }
+}
+
+// How many parts a cell with this content has.
+pub(crate) fn count_in(content: Content) -> u32
+    ensures { result ≡ part_count content }
+{
+    match content {
+        Content::Open(_) => 0,
+        Content::Bound(_, _) => 0,
+        Content::Fun(_, parts) => parts,
+        Content::Eigen(_, parts) => parts,
+        Content::New(_, parts) => parts,
+        Content::Marks(parts) => parts,
     }
 }
 
@@ -55,14 +73,14 @@ fn are_same_sort(a: Sort, b: Sort) -> bool
 }
 
 // Built cells of one kind and name.
-fn have_same_name(a: Head, b: Head) -> bool
-    ensures { result ≡ same_name a b }
+fn have_same_name(a: Content, b: Content) -> bool
+    ensures { result ≡ same_name (the_head a) (the_head b) }
 {
     match (a, b) {
-        (Head::Fun(f), Head::Fun(g)) => f.0 == g.0,
-        (Head::Eigen(p), Head::Eigen(q)) => p.0 == q.0,
-        (Head::New(p), Head::New(q)) => p.0 == q.0,
-        (Head::Marks, Head::Marks) => true,
+        (Content::Fun(f, _), Content::Fun(g, _)) => f.0 == g.0,
+        (Content::Eigen(p, _), Content::Eigen(q, _)) => p.0 == q.0,
+        (Content::New(p, _), Content::New(q, _)) => p.0 == q.0,
+        (Content::Marks(_), Content::Marks(_)) => true,
         _ => false,
     }
 }
@@ -75,32 +93,38 @@ pub(crate) fn compare(store: &Store, a: Ref, b: Ref) -> Step
     ensures step { IsStep store.now.store a.0 b.0 result }
     ensures well { IsWellFormed store.now.store }
 {
-    let left = store.walk(a);
-    let right = store.walk(b);
-    if left.0 == right.0 {
+    let left = store.end(a);
+    let right = store.end(b);
+    if left.place.0 == right.place.0 {
         return Step::Same;
     }
-    let left_head = store.head(left);
-    let right_head = store.head(right);
-    if is_open(left_head) {
-        if !are_same_sort(sort_of_head(left_head), sort_of_head(right_head)) {
+    if is_open(left.content) {
+        if !are_same_sort(sort_of(left.content), sort_of(right.content)) {
             return Step::Apart;
         }
-        return Step::Bind(left, right);
+        return Step::Bind(left.place, right.place);
     }
-    if is_open(right_head) {
-        if !are_same_sort(sort_of_head(right_head), sort_of_head(left_head)) {
+    if is_open(right.content) {
+        if !are_same_sort(sort_of(right.content), sort_of(left.content)) {
             return Step::Apart;
         }
-        return Step::Bind(right, left);
+        return Step::Bind(right.place, left.place);
     }
-    if !have_same_name(left_head, right_head) {
+    if !have_same_name(left.content, right.content) {
         return Step::Apart;
     }
-    if store.parts(left) != store.parts(right) {
+    if count_in(left.content) != count_in(right.content) {
         return Step::Apart;
     }
-    Step::Parts(left, right)
+    Step::Parts(left.place, right.place)
+}
+
+// The part of this number.
+pub(crate) fn part_in(parts: &[u32], i: usize) -> Ref
+    requires { i < length parts.now }
+    ensures { slice_get parts.now i ≡ Some result.0 }
+{
+    Ref(parts[i])
 }
 
 // Appends the pairs of the parts of two built cells.
@@ -115,8 +139,12 @@ pub(crate) fn push_parts(
     ensures added { OnOk result (AddsParts store.now.store a.0 b.0 (map the_pair pairs.old.items)
         (map the_pair pairs.new.items)) }
 {
-    for i in 0..store.parts(a) {
-        pairs.push((store.part(a, i), store.part(b, i)))?;
+    let left = store.parts_at(a);
+    let right = store.parts_at(b);
+    for i in 0..left.len() {
+        let x = part_in(left, i);
+        let y = part_in(right, i);
+        pairs.push((x, y))?;
     }
     Ok(())
 }
