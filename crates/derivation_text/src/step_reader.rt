@@ -8,7 +8,7 @@ ghost use Rattle.derivation_text.specs.RowView.{the_row_step};
 ghost use Rattle.sequent_calc.specs.StepView.{the_modal, the_row_arg};
 
 use crate::row_step::RowStep;
-use formula_text::{TermRow, TextRead, read_row};
+use formula_text::{TermRow, TextRead, read_term};
 use logic_rules::{Label, Problem};
 use sequent_calc::{ModalArg, RowArg};
 use std::alloc::Global;
@@ -21,7 +21,7 @@ pub fn read_whole_row(alloc: Global, problem: &Problem, text: &[u8]) -> Result<T
     ensures ok { IfOk result (λ t. IsTerm problem.now.symbols text.now t) }
     ensures none { result ≡ Err TextRead.None → (t : tree.Term) → ¬ IsTerm problem.now.symbols text.now t }
 {
-    let (row, to) = read_row(alloc, problem.symbols(), text, 0)?;
+    let (row, to) = read_term(alloc, problem.symbols(), text, 0)?;
     if to == text.len() {
         Ok(row)
     } else {

@@ -4,7 +4,6 @@ use Rattle.std.proofs.lemmas.List.{take_at, drop_at}
 use Rattle.calculus.specs.Lists.{terms_list, terms_tree, terms_tree-terms_list}
 use Rattle.calculus.specs.Substitution.{any_leaf, any_leaf_of}
 use Rattle.calculus.specs.Syntax.{Term, Terms, var, fun, eigen, spare, no_terms, more_terms, arity_of}
-use Rattle.cop_base.specs.declared.SymbolId.{SymbolId}
 use Rattle.formula_text.specs.Rows.{any_item, root_of, row_of, rows_of, terms_in}
 use Rattle.formula_text.specs.declared.term_row.RowItem.{RowItem}
 use Rattle.formula_text.specs.declared.term_row.RowItem.TheVariants.{Var, Fun, Eigen, Spare}
@@ -81,13 +80,8 @@ mutual
   any-rows test no_terms = refl
   any-rows test (more_terms t ts) = any-both test (row_of t) (rows_of ts) ∙ (λ i. any-row test t i || any-rows test ts i)
 
--- ---- a symbol before its arguments
+-- ---- counts of arguments
 
 pub arity-tree : (ts : List Term) → length ts ≡ arity_of (terms_tree ts)
 arity-tree [] = refl
 arity-tree (t ∷ ts) = ap suc (arity-tree ts)
-
--- a symbol and the rows of its arguments
-pub row-symbol : (old pushed new : List RowItem) (f : SymbolId) (count : ℕ) (ts : List Term) → count ≡ length ts → pushed ≡ old ++ Fun f count ∷ [] → new ≡ pushed ++ rows_of (terms_tree ts) → new ≡ old ++ row_of (fun f.0 (terms_tree ts))
-row-symbol old pushed new f count ts e p q =
-    q ∙ ap (λ l. l ++ rows_of (terms_tree ts)) p ∙ append_assoc old (Fun f count ∷ []) (rows_of (terms_tree ts)) ∙ ap (λ n. old ++ Fun f n ∷ rows_of (terms_tree ts)) (e ∙ arity-tree ts)

@@ -13,7 +13,7 @@ use Rattle.formula_text.specs.Rows.{row_of, rows_of}
 use Rattle.formula_text.specs.declared.term_row.RowItem.{RowItem}
 use Rattle.formula_text.specs.declared.term_row.RowItem.TheVariants.{Var, Fun, Eigen, Spare}
 use Rattle.formula_text.specs.RowReading.{AreOpen, IsBegun, IsLeaf, IsOpenAt, IsOpened, IsOpening, IsPut, IsRead, IsRowTo, kept, leaf_of, open_row, open_rows}
-use Rattle.formula_text.specs.declared.row_reader.OpenTerm.{OpenTerm}
+use Rattle.formula_text.specs.declared.term_reader.OpenTerm.{OpenTerm}
 use Rattle.formula_text.proofs.Closings.{further-read, further-written, new_frame, none-at, onward, open-onward, open-read, open-written, out-read, read-at, whole-written, with_args}
 use Rattle.formula_text.proofs.Frames.{arity-push, frames-pop, function-has, function-text, no_close_end, no_close_function, no_follower, no_head}
 use Rattle.formula_text.proofs.Places.{onward-drop, stands-by}

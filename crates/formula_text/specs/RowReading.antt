@@ -8,11 +8,11 @@ use Rattle.cop_base.specs.declared.SymbolId.{SymbolId}
 use Rattle.formula_text.specs.Rows.{row_of, rows_of}
 use Rattle.formula_text.specs.declared.term_row.RowItem.{RowItem}
 use Rattle.formula_text.specs.declared.term_row.RowItem.TheVariants.{Var, Fun, Eigen, Spare}
-use Rattle.formula_text.specs.declared.row_reader.Head.{Head}
-use Rattle.formula_text.specs.declared.row_reader.Head.TheVariants.{Open, Leaf}
-use Rattle.formula_text.specs.declared.row_reader.Next.{Next}
-use Rattle.formula_text.specs.declared.row_reader.Next.TheVariants.{Argument, Whole}
-use Rattle.formula_text.specs.declared.row_reader.OpenTerm.{OpenTerm}
+use Rattle.formula_text.specs.declared.term_reader.Head.{Head}
+use Rattle.formula_text.specs.declared.term_reader.Head.TheVariants.{Open, Leaf}
+use Rattle.formula_text.specs.declared.term_reader.Next.{Next}
+use Rattle.formula_text.specs.declared.term_reader.Next.TheVariants.{Argument, Whole}
+use Rattle.formula_text.specs.declared.term_reader.OpenTerm.{OpenTerm}
 use Rattle.formula_text.specs.Frames.{Frame, IsFunction, IsWhole, frames_are_written, stack_text}
 
 -- what stands at the place of a symbol that is not known yet

@@ -5,10 +5,11 @@
 //! spellings of a value, as `f(a, b)`, `'a'` and `$$e01`, are refused.
 //!
 //! # Depth
-//! A term is read into a row, with its open terms on a stack on the heap, so that memory alone bounds its depth. As a tree it has at
-//! most 20,001 levels; a deeper one is answered as where memory ends, so that trees can be copied and dropped. These call themselves as
-//! deep as the term is, and so does writing: in a program as `rt run` builds it, on a stack of 8 MB, writing passes at 104,000 levels and dies at 105,000, dropping
-//! passes at 130,000 and dies at 131,000, and `Term::copy` of `formula_core` passes at 29,000 and dies at 30,000.
+//! A term is read into a row, with its open terms on a stack on the heap, and a row is written so, so that memory alone bounds its depth.
+//! The tree that `term_of` makes of a row has at most 20,001 levels; for a deeper one the answer is that there is no memory, so that trees
+//! can be copied and dropped. These call themselves as deep as the term is, and so does writing a tree: in a program as `rt run` builds it,
+//! on a stack of 8 MB, writing passes at 104,000 levels and dies at 105,000, dropping passes at 130,000 and dies at 131,000, and
+//! `Term::copy` of `formula_core` passes at 29,000 and dies at 30,000.
 #![tactic(auto, using(crate::proofs::Extending::extending))]
 
 mod append;
@@ -20,7 +21,6 @@ mod name;
 mod name_reader;
 mod read;
 mod row_hash;
-mod row_reader;
 mod row_term;
 mod row_writer;
 mod scan;
@@ -36,11 +36,10 @@ pub use label_reader::read_label;
 pub use name::write_name;
 pub use name_reader::read_name;
 pub use read::TextRead;
-pub use row_reader::read_row;
 pub use row_term::term_of;
 pub use row_writer::write_row;
 pub use scan::read_number;
 pub use setting::write_setting;
 pub use term::write_term;
 pub use term_reader::read_term;
-pub use term_row::{RowItem, TermRow, add_row};
+pub use term_row::{RowItem, TermRow};

@@ -1,15 +1,9 @@
 //! The labels, the numbers and the outline of a branch.
 
-ghost use Rattle.std.specs.Prelude.{◌≡◌, IfOk};
-ghost use Rattle.formula_core.specs.TermView.{the_term};
-
-use cop_base::NoMemory;
 use derivation_branch::{NumberSet, Outline, add_eigens};
-use formula_core::Term;
-use formula_text::{TermRow, add_row};
+use formula_text::read_term;
 use label_table::{Labels, is_home_at, reaches};
 use logic_rules::{Domains, Logic, Mark};
-use std::alloc::Global;
 use std::test::Fail;
 use test_problems::proving;
 
@@ -28,20 +22,15 @@ fn finds_labels(rt: HostRuntime) -> Result<(), Fail> {
     Ok(())
 }
 
-fn row_of(alloc: Global, term: &Term) -> Result<TermRow, NoMemory>
-    ensures { IfOk result (λ t. t ≡ the_term term.now) }
-{
-    let mut items = Vec::new(alloc);
-    add_row(&mut items, term)?;
-    Ok(TermRow::new(items))
-}
-
 #[test]
 fn keeps_numbers(rt: HostRuntime) -> Result<(), Fail> {
     let alloc = rt.alloc();
+    let problem = proving(alloc, Logic::Classical, Domains::Constant, b"p")?;
     let mut set = NumberSet::new(alloc);
     set.add(3)?;
-    add_eigens(&mut set, &row_of(alloc, &Term::Eigen(5))?)?;
+    if let Ok((row, _)) = read_term(alloc, problem.symbols(), b"$$e5", 0) {
+        add_eigens(&mut set, &row)?;
+    }
     set.add(4)?;
     assert!(rt; set.holds(4) && set.holds(5));
     set.cut(2);

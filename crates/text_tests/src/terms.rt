@@ -7,7 +7,8 @@ ghost use Rattle.formula_core.specs.TermView.{the_term};
 use cop_base::{NoMemory, Text};
 use formula_core::{Symbol, SymbolClass, Symbols, Term};
 use formula_text::{
-    TextRead, read_label, read_name, read_term, write_label, write_name, write_setting, write_term,
+    TermRow, TextRead, read_label, read_name, read_term, term_of, write_label, write_name,
+    write_row, write_setting, write_term,
 };
 use logic_rules::{Domains, Label, Logic, Mark, Problem, Setting};
 use std::alloc::Global;
@@ -95,13 +96,26 @@ fn writes_term(alloc: Global, symbols: &Symbols, term: &Term, text: &[u8]) -> bo
     write_term(&mut out, symbols, term).is_ok() && out.as_slice() == text
 }
 
+// Whether a term in a row, and the same term as a tree, are written like this.
+fn writes_row(alloc: Global, symbols: &Symbols, row: &TermRow, text: &[u8]) -> bool
+    requires { IsTrue (term_is_written symbols.now row.now) }
+{
+    let mut out = Vec::new(alloc);
+    let Ok(term) = term_of(alloc, row) else {
+        return false;
+    };
+    write_row(alloc, &mut out, symbols, row).is_ok()
+        && out.as_slice() == text
+        && writes_term(alloc, symbols, &term, text)
+}
+
 // Whether the text begins with a term of the problem that ends at this place, and that is written
 // again as it stands there; `None` where no term is to stand there.
 fn reads_term(alloc: Global, problem: &Problem, text: &[u8], place: Option<usize>) -> bool {
     let symbols = problem.symbols();
     match (read_term(alloc, symbols, text, 0), place) {
-        (Ok((term, end)), Some(place)) => {
-            end == place && writes_term(alloc, symbols, &term, &text[..end])
+        (Ok((row, end)), Some(place)) => {
+            end == place && writes_row(alloc, symbols, &row, &text[..end])
         }
         (Err(fault), None) => fault == TextRead::None,
         _ => false,
@@ -150,23 +164,20 @@ pub fn nested_text(alloc: Global, leaf: &[u8], levels: usize) -> Result<Vec<u8>,
     Ok(text)
 }
 
-// What reading a constant inside of this many terms stops at.
-fn nested_fault(
-    alloc: Global,
-    problem: &Problem,
-    levels: usize,
-) -> Result<Option<TextRead>, NoMemory> {
-    let text = nested_text(alloc, b"a", levels)?;
-    Ok(read_term(alloc, problem.symbols(), text.as_slice(), 0).err())
+// Whether the text is a term, of which no tree is made.
+fn reads_row_alone(alloc: Global, problem: &Problem, text: &[u8]) -> bool {
+    match read_term(alloc, problem.symbols(), text, 0) {
+        Ok((row, end)) => end == text.len() && term_of(alloc, &row).is_err(),
+        Err(_) => false,
+    }
 }
 
 #[test]
-fn stops_at_deep_terms(rt: HostRuntime) -> Result<(), Fail> {
+fn reads_deep_terms(rt: HostRuntime) -> Result<(), Fail> {
     let alloc = rt.alloc();
     let problem = proving(alloc, Logic::Classical, Domains::Constant, b"p(f(a))")?;
-    // A test has less stack than the program, where terms of 20,000 levels are let go.
-    assert!(rt; nested_fault(alloc, &problem, 1_000)? == None);
-    assert!(rt; nested_fault(alloc, &problem, 20_001)? == Some(TextRead::NoMemory));
+    let text = nested_text(alloc, b"a", 200_000)?;
+    assert!(rt; reads_row_alone(alloc, &problem, text.as_slice()));
     Ok(())
 }
 

@@ -4,7 +4,7 @@ use Rattle.formula_text.proofs.Closings.{no_term-at}
 use Rattle.formula_text.proofs.Passing.{error-passed}
 use Rattle.formula_text.proofs.RowsRead.{row-told}
 use Rattle.formula_text.specs.Frames.{NoTerm}
-use Rattle.formula_text.proofs.row_reader.read_row.Goals as goal
+use Rattle.formula_text.proofs.term_reader.read_term.Goals as goal
 
 pub returns-in_err-items-clause-none : goal.returns-in_err-items-clause-none
 returns-in_err-items-clause-none c = λ e.

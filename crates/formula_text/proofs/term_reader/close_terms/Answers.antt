@@ -2,7 +2,7 @@ use Rattle.std.proofs.Common.{◌≤◌, arith, sym, ◌∙◌}
 use Rattle.std.proofs.lemmas.Bool.{false≢true}
 use Rattle.formula_text.proofs.Passing.{error-passed}
 use Rattle.formula_text.proofs.RowsRead.{argument, closed, none-end, none-follower, none-function, read-in, symbol-within}
-use Rattle.formula_text.proofs.row_reader.close_terms.Goals as goal
+use Rattle.formula_text.proofs.term_reader.close_terms.Goals as goal
 
 pub returns-then-has_byte-clause-ok : goal.returns-then-has_byte-clause-ok
 returns-then-has_byte-clause-ok c =

@@ -1,5 +1,5 @@
 use Rattle.formula_text.proofs.RowsRead.{error-again, none-begun, opened}
-use Rattle.formula_text.proofs.row_reader.read_on.Goals as goal
+use Rattle.formula_text.proofs.term_reader.read_on.Goals as goal
 
 pub returns-in_ok-open_term-in-Ok-Open-clause-ok : goal.returns-in_ok-open_term-in-Ok-Open-clause-ok
 returns-in_ok-open_term-in-Ok-Open-clause-ok c =

@@ -3,7 +3,7 @@ use Rattle.std.proofs.lemmas.Bool.{false≢true}
 use Rattle.formula_text.proofs.Heads.{no_made, no_name, no_constant, not_known}
 use Rattle.formula_text.proofs.Passing.{error-passed}
 use Rattle.formula_text.proofs.RowsRead.{constant-leaf, made-leaf}
-use Rattle.formula_text.proofs.row_reader.read_head.Goals as goal
+use Rattle.formula_text.proofs.term_reader.read_head.Goals as goal
 
 pub returns-in-Some-clause-ok : goal.returns-in-Some-clause-ok
 returns-in-Some-clause-ok c = made-leaf c.args.symbols.now c.args.text.now c.args.from c.in-Some.end c.in-Some.item c.in-Some.ensures.some c.in-Some.ensures.within

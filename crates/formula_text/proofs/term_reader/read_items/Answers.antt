@@ -1,5 +1,5 @@
 use Rattle.formula_text.proofs.RowsRead.{error-again}
-use Rattle.formula_text.proofs.row_reader.read_items.Goals as goal
+use Rattle.formula_text.proofs.term_reader.read_items.Goals as goal
 
 pub returns-in-Ok-Whole-clause-ok : goal.returns-in-Ok-Whole-clause-ok
 returns-in-Ok-Whole-clause-ok c = rw c.in-Ok-Whole.field-0-is at c.in-Ok-Whole.ensures.ok

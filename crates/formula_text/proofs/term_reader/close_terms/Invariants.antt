@@ -1,6 +1,6 @@
 use Rattle.std.proofs.Common.{◌≤◌, vec_len}
 use Rattle.formula_text.specs.RowReading.{IsRead}
-use Rattle.formula_text.proofs.row_reader.close_terms.Given as goal
+use Rattle.formula_text.proofs.term_reader.close_terms.Given as goal
 
 abbrev pub invariant-loop-term : goal.invariant-loop-term
 invariant-loop-term l = record {

@@ -1,7 +1,7 @@
 use Rattle.std.proofs.Common.{refl, sym, ◌∙◌}
 use Rattle.std.proofs.lemmas.Bool.{false≢true}
 use Rattle.formula_text.proofs.Heads.{no_numbered, no_made_end}
-use Rattle.formula_text.proofs.row_reader.read_made.Goals as goal
+use Rattle.formula_text.proofs.term_reader.read_made.Goals as goal
 
 pub returns-in_err-found-clause-none : goal.returns-in_err-found-clause-none
 returns-in_err-found-clause-none c = λ _. no_numbered c.args.text.now c.args.from (c.in_err-found.ensures.none refl)
