@@ -12,7 +12,6 @@ ghost use Rattle.sequent_calc.specs.StepView.{the_modal, the_step, the_term_arg}
 use crate::numbers::{NumberedModal, NumberedStep, NumberedTerm};
 use crate::text_derivation::TextDerivation;
 use cop_base::NoMemory;
-use formula_text::TermRow;
 use sequent_calc::{
     Derivation, EigenList, Home, ModalArg, Names, SpareList, Step, StepList, TermArg,
 };
@@ -52,15 +51,6 @@ pub fn modal_of(
     }
 }
 
-/// The same row again.
-pub fn row_copy(alloc: Global, row: &TermRow) -> Result<TermRow, NoMemory>
-    ensures { IfOk result (λ copy. copy ≡ row.now) }
-{
-    let mut items = Vec::new(alloc);
-    items.extend_from_slice(row.items())?;
-    Ok(TermRow::new(items))
-}
-
 fn arg_of(alloc: Global, d: &TextDerivation, term: NumberedTerm) -> Result<TermArg, NoMemory>
     requires { IsTrue (is_arg_listed (length d.now.terms) (the_numbered_arg term)) }
     ensures { IfOk result (λ t. the_term_arg t ≡ stated_term d.now.terms (the_numbered_arg term)) }
@@ -68,7 +58,7 @@ fn arg_of(alloc: Global, d: &TextDerivation, term: NumberedTerm) -> Result<TermA
     match term {
         NumberedTerm::None => Ok(TermArg::None),
         NumberedTerm::Term(number) => {
-            let row = row_copy(alloc, d.terms().row(number))?;
+            let row = d.terms().row(number).copy(alloc)?;
             Ok(TermArg::Term(SharedTerm::Row(row)))
         }
         NumberedTerm::Name(number) => Ok(TermArg::Name(number)),

@@ -11,7 +11,7 @@ ghost use Rattle.sequent_calc.specs.DerivationView.{the_derivation};
 ghost use Rattle.sequent_calc.specs.NamesView.{the_eigen, the_spare};
 ghost use Rattle.sequent_calc.specs.StepView.{the_row_arg, the_step};
 
-use crate::conversion::{home_of, modal_of, row_copy};
+use crate::conversion::{home_of, modal_of};
 use crate::numbers::{NumberedStep, NumberedTerm};
 use crate::text_derivation::TextDerivation;
 use cop_base::NoMemory;
@@ -94,7 +94,7 @@ fn row_arg_of(alloc: Global, d: &TextDerivation, term: NumberedTerm) -> Result<R
     match term {
         NumberedTerm::None => Ok(RowArg::None),
         NumberedTerm::Term(number) => {
-            let row = row_copy(alloc, d.terms().row(number))?;
+            let row = d.terms().row(number).copy(alloc)?;
             Ok(RowArg::Term(row))
         }
         NumberedTerm::Name(number) => Ok(RowArg::Name(number)),

@@ -1,13 +1,14 @@
 //! Terms in rows: each symbol stands before its arguments, so that a large term is one block of
 //! memory and is walked from its beginning to its end.
 
-ghost use Rattle.std.specs.Prelude.{◌≡◌};
+ghost use Rattle.std.specs.Prelude.{◌≡◌, IfOk};
 ghost use Rattle.std.proofs.Common.{rules};
 ghost use Rattle.calculus.specs.Syntax as tree;
 ghost use Rattle.formula_text.specs.Rows.{row_of};
 ghost use Rattle.formula_text.specs.ItemHash.{item_hashed};
 
-use cop_base::SymbolId;
+use cop_base::{NoMemory, SymbolId};
+use std::alloc::Global;
 use std::hash::{Hash, Hasher};
 use std::marker::Model;
 
@@ -62,6 +63,15 @@ impl TermRow {
         ensures { (t : tree.Term) → items.items ≡ row_of t → result ≡ t }
     {
         TermRow { items }
+    }
+
+    /// The same term in another row.
+    pub fn copy(&self, alloc: Global) -> Result<TermRow, NoMemory>
+        ensures { IfOk result (λ row. row ≡ self.now) }
+    {
+        let mut items = Vec::new(alloc);
+        items.extend_from_slice(self.items())?;
+        Ok(TermRow::new(items))
     }
 
     /// The row of the term.

@@ -18,14 +18,6 @@ pub enum SharedTerm {
     Table(Rc<TermTable>, TableTerm),
 }
 
-fn copied(alloc: Global, row: &TermRow) -> Result<TermRow, NoMemory>
-    ensures { IfOk result (λ copy. copy ≡ row.now) }
-{
-    let mut items = Vec::new(alloc);
-    items.extend_from_slice(row.items())?;
-    Ok(TermRow::new(items))
-}
-
 fn table_row(alloc: Global, table: &TermTable, term: TableTerm) -> Result<TermRow, NoMemory>
     ensures { IfOk result (λ row. row ≡ the_table_term table.now term) }
 {
@@ -39,7 +31,7 @@ impl SharedTerm {
         ensures { IfOk result (λ row. row ≡ the_shared_term self.now) }
     {
         match self {
-            SharedTerm::Row(row) => copied(alloc, row),
+            SharedTerm::Row(row) => row.copy(alloc),
             SharedTerm::Table(table, term) => table_row(alloc, table, *term),
         }
     }
