@@ -1,6 +1,6 @@
 //! Copies of clauses, at once or the connected literal first.
 
-ghost use Rattle.std.specs.Prelude.{◌≡◌, ◌<◌, ◌+◌, ◌++◌, ◌&&◌, IfOk, IsTrue, OnErr, OnOk, Some, length, map, slice_get};
+ghost use Rattle.std.specs.Prelude.{◌≡◌, ◌<◌, ◌≤◌, ◌+◌, ◌++◌, ◌&&◌, IfOk, IsTrue, OnErr, OnOk, Some, length, map, slice_get};
 ghost use Rattle.std.specs.List.{list_all};
 ghost use Rattle.store_theory.specs.Bindings.{AddsBuilt, AddsOver, KeepsMarks, NamesFrom, NamesOver, places_from, with_variables_of};
 ghost use Rattle.store_theory.specs.Patterns.{Grows, HaveSortsAt, IsAtomCopy, IsClauseCopy, PatternAtom as TreeAtom, atom_fits, atom_is_from, clause_fits, clause_is_from, template_fits, without_literal};
@@ -8,23 +8,29 @@ ghost use Rattle.store_theory.specs.Systems.{is_cell_atom};
 ghost use Rattle.term_store.specs.ClauseView.{the_atom, the_pattern_atom};
 ghost use Rattle.term_store.specs.Copying.{with_literals};
 ghost use Rattle.term_store.specs.RefView.{the_places};
-ghost use Rattle.term_store.specs.Room.{KeepsRoom};
+ghost use Rattle.term_store.specs.Room.{KeepsRoom, spare};
 ghost use Rattle.term_store.specs.Signatures.{BuildsWithin, allows_atom, allows_template};
 ghost use Rattle.term_store.specs.TemplateView.{the_clause, the_template};
 
 use crate::cell::{Ref, Variables};
 use crate::clause::{CellAtomList, CopiedClause, CopiedLiteral, PatternAtom, SortList, Template};
-use crate::store::Store;
+use crate::store::{PLACES, Store};
 use cop_base::NoMemory;
 
 impl Store {
-    // The place of the next cell.
-    fn next_place(&mut self) -> Result<u32, NoMemory>
+    // Makes room for so many variables and one cell more, so that the places of the variables and their
+    // end have 32 bits. The place of the first one.
+    fn reserve_variables(&mut self, count: usize) -> Result<u32, NoMemory>
         ensures place { IfOk result (λ n. n ≡ length self.old.store.cells) }
+        ensures fits { OnOk result (length self.old.store.cells + count < 4294967296) }
+        ensures spare { OnOk result (count ≤ spare self.new) }
         ensures store { self.new.store ≡ self.old.store }
         ensures room { KeepsRoom self.old self.new }
     {
-        self.reserve(1)?;
+        if count >= PLACES {
+            return Err(NoMemory);
+        }
+        self.reserve(count + 1)?;
         Ok(self.cells.len() as u32)
     }
 
@@ -35,15 +41,14 @@ impl Store {
         ensures marks { KeepsMarks self.old.store self.new.store }
         ensures room { KeepsRoom self.old self.new }
     {
-        let first = self.next_place()?;
-        self.reserve(sorts.items().len())?;
+        let count = sorts.items().len();
+        let first = self.reserve_variables(count)?;
         for sort in sorts.items() {
             let _variable = self.fresh(*sort);
         }
-        let end = self.next_place()?;
         Ok(Variables {
             first: Ref(first),
-            count: end - first,
+            count: count as u32,
         })
     }
 

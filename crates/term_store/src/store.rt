@@ -16,7 +16,7 @@ use std::alloc::Global;
 use std::marker::Model;
 
 // How many cells a store can have: a place has 32 bits.
-const PLACES: usize = 4294967296;
+pub(crate) const PLACES: usize = 4294967296;
 
 // What a cell with this content is bound to, if it is bound.
 fn target(content: Content) -> Option<Ref>

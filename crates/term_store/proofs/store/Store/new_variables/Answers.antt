@@ -1,19 +1,19 @@
 use Rattle.std.proofs.Common.{◌∙◌, ◌∷◌, [], None, ap, ap₂, arith, get_or, length, length-append, refl, take}
-use Rattle.std.proofs.lemmas.List.{take_all}
 use Rattle.store_theory.specs.Bindings.{places_from, with_cell, with_variables_of}
 use Rattle.calculus.specs.declared.sort.Sort.TheVariants.{TermSort}
 use Rattle.store_theory.specs.Stores.{variable}
 use Rattle.store_theory.proofs.BindingLaws.{KeepsMarks-both}
-use Rattle.store_theory.proofs.PatternLaws.{length-variables}
 use Rattle.term_store.proofs.MarkLaws.{take-more, variables-last}
 use Rattle.term_store.proofs.store.Store.new_variables.Goals as goal
 
 pub fresh-variable-requires : goal.fresh-variable-requires
-fresh-variable-requires c = let n = c.loop-sort.invariant.spare in omega arith
+fresh-variable-requires c =
+    let n = c.loop-sort.invariant.spare in
+    omega arith
 
 pub loop-sort-preserved : goal.loop-sort-preserved
 loop-sort-preserved c =
-    let s = c.reserve.new.self.store in
+    let s = c.reserve_variables.new.self.store in
     let items = c.items-sort-items.result.now in
     let i = c.loop-sort.sort-index in
     let sort = get_or items i TermSort in
@@ -30,21 +30,5 @@ loop-sort-preserved c =
       spare = omega arith;
     }
 
-pub overflow_sub-result : goal.overflow_sub-result
-overflow_sub-result c =
-    let e = c.in_ok-end.ensures.place in
-    let f = c.in_ok-first.ensures.place in
-    let g = ap (λ x. length x.cells) c.in_ok-first.ensures.store in
-    let m = ap (λ x. length x.cells) c.loop-sort.invariant.store ∙ length-variables (take c.loop-sort.sort-index c.items-sort-items.result.now) c.reserve.new.self.store in
-    let same = ap (λ x. length x.cells) c.in_ok-reserve.ensures.store in
-    omega arith
-
 pub returns-clause-places : goal.returns-clause-places
-returns-clause-places c =
-    let e = c.in_ok-end.ensures.place in
-    let f = c.in_ok-first.ensures.place in
-    let g = ap (λ x. length x.cells) c.in_ok-first.ensures.store in
-    let m = ap (λ x. length x.cells) c.loop-sort.invariant.store ∙ length-variables (take c.loop-sort.sort-index c.items-sort-items.result.now) c.reserve.new.self.store in
-    let same = ap (λ x. length x.cells) c.in_ok-reserve.ensures.store in
-    let all = ap length (take_all c.loop-sort.sort-index c.items-sort-items.result.now (omega arith) ∙ c.items-sort-items.ensures) in
-    ap₂ places_from f (omega arith)
+returns-clause-places c = ap₂ places_from c.in_ok-first.ensures.place (ap length c.items-count.ensures)
