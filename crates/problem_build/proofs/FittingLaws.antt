@@ -58,7 +58,7 @@ listed-all (p ∷ ps) h =
 
 -- the symbols of formulas that were read
 pub symbols-fit : (modal : Bool) (items : List Passed) → AreRead modal items → IsTrue (list_all symbol_fits (symbols_of items))
-symbols-fit modal items h = seen-all symbol_fits [] (listed items) (listed-all items (h names_fit (λ text is r. read-names modal text is r)))
+symbols-fit modal items h = seen-all symbol_fits [] (listed items) (listed-all items (h names_fit (λ text is l r. read-names modal text is r)))
 
 well-item : (m : Bool) (is : List Item) → IsTrue (list_all (is_well_item m) is) → IsTrue (list_all (item_passes (is_well m)) is)
 well-item m [] h = refl
@@ -72,7 +72,7 @@ pub kept-fit : (l : Logic) (keep : Passed → Bool) (items : List Passed) → Ar
 kept-fit l keep items h =
     ap (list_all (formula_fits l (symbols_of items) 0)) (bodies-formulas (symbols_of items) (filter keep items))
     ∙ formulas-fit l (filter keep items) items
-    (filter-all (λ (p : Passed). is_well (is_modal l) p.body) keep items (h (is_well (is_modal l)) (λ text is r. well-item (is_modal l) is (read-well (is_modal l) text is r))))
+    (filter-all (λ (p : Passed). is_well (is_modal l) p.body) keep items (h (is_well (is_modal l)) (λ text is few r. well-item (is_modal l) is (read-well (is_modal l) text is r))))
     (filter-listed (λ x. list_any (symbol_eq x) (symbols_of items)) keep items (all-seen (listed items)))
 
 equality_axioms-fit : (l : Logic) (symbols : List Symbol) → IsTrue (list_any (symbol_eq equality_symbol) symbols) → IsTrue (list_all (formula_fits l symbols 0) (equality_axioms symbols))

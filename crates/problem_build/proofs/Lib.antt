@@ -24,6 +24,8 @@ pub mod ReadingLaws
 pub mod MeasuringLaws
 pub mod LimitLaws
 pub mod NameLaws
+-- a text has no more names than bytes
+pub mod NameCountLaws
 pub mod ItemLaws
 pub mod FittingLaws
 pub mod ProblemLaws

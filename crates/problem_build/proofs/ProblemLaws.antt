@@ -11,6 +11,7 @@ use Rattle.problem_build.specs.Building.{axioms_of, conjectures, formulas_of, li
 use Rattle.problem_build.specs.EqualityAxioms.{equality_axioms}
 use Rattle.problem_build.specs.Expansion.{closed, equality_symbol}
 use Rattle.problem_build.specs.Measuring.{bodies, both_nodes, first_measured, listed_if, measured}
+use Rattle.problem_build.specs.NameCount.{is_narrow, is_short}
 use Rattle.problem_build.specs.Passing.{AreRead}
 use Rattle.problem_build.specs.Refusals.{Refusal, formula_too_large, nesting_too_deep, too_many_symbols}
 use Rattle.problem_build.specs.Walk.{Passed}
@@ -18,6 +19,7 @@ use Rattle.problem_build.proofs.FittingLaws.{conjectures-fit, premises-fit, symb
 use Rattle.problem_build.proofs.ItemLaws.{bodies-formulas}
 use Rattle.problem_build.proofs.LimitLaws.{deep-part, large-formula, many-symbols, no-formula, problem-fits_all, problem_with, whole-problem}
 use Rattle.problem_build.proofs.MeasuringLaws.{measured-append}
+use Rattle.problem_build.proofs.NameCountLaws.{all-short, kept-short, symbols-narrow}
 
 -- the axioms are there where they are asked for
 abbrev pub Asked : Setting → List Symbol → Bool → Type 0
@@ -98,6 +100,15 @@ over-conjectures s items symbols cs p q h = (λ i. list_all (formula_fits s.logi
 
 pub over-names : (modal : Bool) (items : List Passed) (symbols : List Symbol) → symbols ≡ symbols_of items → AreRead modal items → IsTrue (list_all symbol_fits symbols)
 over-names modal items symbols p h = ap (list_all symbol_fits) p ∙ symbols-fit modal items h
+
+pub over-arities : (modal : Bool) (items : List Passed) (symbols : List Symbol) → symbols ≡ symbols_of items → AreRead modal items → IsTrue (list_all is_narrow symbols)
+over-arities modal items symbols p h = ap (list_all is_narrow) p ∙ symbols-narrow items (all-short modal items h)
+
+pub over-short_premises : (modal : Bool) (items : List Passed) (ps : List Source) → ps ≡ bodies (premises items) → AreRead modal items → IsTrue (list_all is_short ps)
+over-short_premises modal items ps q h = ap (list_all is_short) q ∙ kept-short (λ (p : Passed). not p.is_conjecture) items (all-short modal items h)
+
+pub over-short_conjectures : (modal : Bool) (items : List Passed) (cs : List Source) → cs ≡ bodies (conjectures items) → AreRead modal items → IsTrue (list_all is_short cs)
+over-short_conjectures modal items cs q h = ap (list_all is_short) q ∙ kept-short (λ (p : Passed). p.is_conjecture) items (all-short modal items h)
 
 pub full-problem : (e : Refusal) (s : Setting) (items : List Passed) → 65536 < length (symbols_of items) → Err too_many_symbols ≡ problem_of e s items
 full-problem e s items h = many-symbols e s (symbols_of items) (premises_of s (symbols_of items) items) (formulas_of (symbols_of items) (conjectures items)) h

@@ -17,5 +17,6 @@ pub mod Walking
 pub mod Counting
 pub mod Adding
 pub mod Quantifying
+pub mod NameCount
 pub mod Passing
 pub mod Measuring

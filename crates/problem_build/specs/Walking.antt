@@ -1,6 +1,6 @@
 -- What the parts of the walk promise. The outcome of a walk is told over the files as they are and, for each name, over
 -- the files without it: so a file that cannot be read is one at which the walk over the others would end.
-use Rattle.std.specs.Prelude.{◌≡◌, ◌⊎◌, ℕ, zero, suc, List, [], ◌∷◌, ◌++◌, map, reverse, Bool, Option, None, Some, Result, Ok, Err, IfSome, IsTrue}
+use Rattle.std.specs.Prelude.{◌≡◌, ◌⊎◌, ◌≤◌, ℕ, zero, suc, List, [], ◌∷◌, ◌++◌, length, map, reverse, Bool, Option, None, Some, Result, Ok, Err, IfSome, IsTrue}
 use Rattle.std.specs.Prelude.{Vec}
 use Rattle.std.specs.List.{list_all}
 use Rattle.std.specs.declared.alloc.Global.{Global}
@@ -16,7 +16,7 @@ use Rattle.problem_build.specs.declared.fault.BuildFault.TheVariants.{Missing, F
 use Rattle.problem_build.specs.declared.progress.Walk.{Walk}
 use Rattle.problem_build.specs.Answers.{the_refusal}
 use Rattle.problem_build.specs.Refusals.{Refusal, missing, input_too_large, nesting_too_deep, formula_too_large, too_many_symbols, bad}
-use Rattle.problem_build.specs.Walk.{FileWalk, Passed, Progress, Reader, Walked, bytes_walk, file_walk, items_walk, names_of, unless_absent, walked, with_passed}
+use Rattle.problem_build.specs.Walk.{FileWalk, Passed, Progress, Reader, Walked, bytes_walk, file_walk, greatest_input, items_walk, names_of, unless_absent, walked, with_passed}
 use Rattle.problem_build.specs.Building.{without}
 use Rattle.problem_build.specs.Passing.{item_passes, the_passed}
 
@@ -110,9 +110,9 @@ IsSelected file absent (Err fault) = IfSome (the_refusal fault) (λ r. (next : R
 
 -- ---- what is read
 
--- a test that the formulas of all texts pass
+-- a test that the formulas of all texts of at most 16 MiB pass
 abbrev pub HoldsOfTexts : Bool → (Source → Bool) → Type 0
-HoldsOfTexts modal test = (text : List ℕ) (items : List Item) → IsReading modal text (reads items) → IsTrue (list_all (item_passes test) items)
+HoldsOfTexts modal test = (text : List ℕ) (items : List Item) → length text ≤ greatest_input → IsReading modal text (reads items) → IsTrue (list_all (item_passes test) items)
 
 abbrev pub AllPass : (Source → Bool) → Walk → Type 0
 AllPass test walk = IsTrue (list_all (λ (p : Passed). test p.body) (map the_passed walk.passed.items))

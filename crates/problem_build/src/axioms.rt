@@ -1,9 +1,11 @@
 //! The axioms of equality.
 
-ghost use Rattle.std.specs.Prelude.{◌≡◌, ◌+◌, ◌<◌, ◌≤◌, ◌++◌, ◌∷◌, [], ℕ, List, None, true, length, map, option_map, IfOk, OnOk};
+ghost use Rattle.std.specs.Prelude.{◌≡◌, ◌+◌, ◌<◌, ◌≤◌, ◌++◌, ◌∷◌, [], ℕ, List, None, true, length, map, option_map, IfOk, IsTrue, OnOk};
+ghost use Rattle.std.specs.List.{list_all};
 ghost use Rattle.calculus.specs.Syntax as tree;
 ghost use Rattle.formula_core.specs.FormulaView.{the_formula};
 ghost use Rattle.problem_build.specs.Measuring.{congruence_of, flat_nodes, listed_axiom, measured};
+ghost use Rattle.problem_build.specs.NameCount.{is_narrow};
 ghost use Rattle.problem_build.specs.EqualityAxioms.{congruence_of_function, congruence_of_predicate, equal_arguments, equality_axioms, equations, for_each, function_axiom, left_variables, predicate_axiom, reflexivity, right_variables, symmetry, transitivity, variables};
 
 use crate::counts::sum;
@@ -137,8 +139,7 @@ pub fn predicate_axiom(
     Ok(formula)
 }
 
-// The axiom for the symbol of this number, where it is a function symbol with arguments. There is
-// no memory for more variables than 32 bits can number.
+// The axiom for the symbol of this number, where it is a function symbol with arguments.
 #[tactic(auto, using(crate::proofs::MeasuringLaws::congruent))]
 fn congruence_of_function(
     alloc: Global,
@@ -146,6 +147,7 @@ fn congruence_of_function(
     id: SymbolId,
     symbol: &Symbol,
 ) -> Result<Option<Formula>, NoMemory>
+    requires { symbol.now.arity ≤ 2147483647 }
     ensures { IfOk result (λ a. listed_axiom (option_map the_formula a)
         ≡ congruence_of_function symbols.now id.0 symbol.now.class symbol.now.arity) }
 {
@@ -155,9 +157,6 @@ fn congruence_of_function(
     }
     if symbol.arity == 0 {
         return Ok(None);
-    }
-    if symbol.arity > u32::MAX / 2 {
-        return Err(NoMemory);
     }
     let formula = function_axiom(alloc, symbols, id, symbol.arity)?;
     Ok(Some(formula))
@@ -171,6 +170,7 @@ fn congruence_of_predicate(
     id: SymbolId,
     symbol: &Symbol,
 ) -> Result<Option<Formula>, NoMemory>
+    requires { symbol.now.arity ≤ 2147483647 }
     ensures { IfOk result (λ a. listed_axiom (option_map the_formula a)
         ≡ congruence_of_predicate symbols.now id.0 symbol.now.class symbol.now.arity) }
 {
@@ -180,9 +180,6 @@ fn congruence_of_predicate(
     }
     if symbol.arity == 0 {
         return Ok(None);
-    }
-    if symbol.arity > u32::MAX / 2 {
-        return Err(NoMemory);
     }
     let formula = predicate_axiom(alloc, symbols, id, symbol.arity)?;
     Ok(Some(formula))
@@ -196,6 +193,7 @@ fn congruence(
     id: SymbolId,
     symbol: &Symbol,
 ) -> Result<Option<Formula>, NoMemory>
+    requires { symbol.now.arity ≤ 2147483647 }
     ensures { IfOk result (λ a. listed_axiom (option_map the_formula a)
         ≡ congruence_of sort symbols.now id.0 symbol.now.class symbol.now.arity) }
 {
@@ -223,6 +221,7 @@ fn push_congruences(
     sort: Sort,
     axioms: &mut Vec<Formula>,
 ) -> Result<(), NoMemory>
+    requires { IsTrue (list_all is_narrow symbols.now) }
     ensures { OnOk result (map the_formula axioms.new.items
         ≡ map the_formula axioms.old.items ++ for_each (congruence_of sort symbols.now) 0 symbols.now) }
 {
@@ -252,6 +251,7 @@ fn first_axioms(alloc: Global, symbols: &Symbols) -> Result<Vec<Formula>, NoMemo
 
 /// The axioms of equality over the symbols.
 pub fn equality_axioms(alloc: Global, symbols: &Symbols) -> Result<Vec<Formula>, NoMemory>
+    requires { IsTrue (list_all is_narrow symbols.now) }
     ensures { IfOk result (λ fs. map the_formula fs.items ≡ equality_axioms symbols.now) }
 {
     let mut axioms = first_axioms(alloc, symbols)?;
@@ -317,6 +317,7 @@ fn congruence_nodes(
     id: SymbolId,
     symbol: &Symbol,
 ) -> Result<Option<u64>, NoMemory>
+    requires { symbol.now.arity ≤ 2147483647 }
     ensures { IfOk result (λ n. n ≡ measured (congruence_of sort symbols.now id.0 symbol.now.class symbol.now.arity)) }
 {
     if is_too_wide(sort, symbol) {
@@ -327,6 +328,7 @@ fn congruence_nodes(
 }
 
 fn congruences_nodes(alloc: Global, symbols: &Symbols, sort: Sort) -> Result<Option<u64>, NoMemory>
+    requires { IsTrue (list_all is_narrow symbols.now) }
     ensures { IfOk result (λ n. n ≡ measured (for_each (congruence_of sort symbols.now) 0 symbols.now)) }
 {
     let mut total = 0;
@@ -347,6 +349,7 @@ fn congruences_nodes(alloc: Global, symbols: &Symbols, sort: Sort) -> Result<Opt
 /// is built to be measured and dropped again.
 #[tactic(auto, using(crate::proofs::MeasuringLaws::whole))]
 pub fn axioms_nodes(alloc: Global, symbols: &Symbols) -> Result<Option<u64>, NoMemory>
+    requires { IsTrue (list_all is_narrow symbols.now) }
     ensures { IfOk result (λ n. n ≡ measured (equality_axioms symbols.now)) }
 {
     let of_functions = congruences_nodes(alloc, symbols, Sort::Functions)?;

@@ -15,6 +15,7 @@ ghost use Rattle.problem_build.specs.Building.{IsProblemOf, WalkFetches, axioms_
 ghost use Rattle.problem_build.specs.EqualityAxioms.{equality_axioms};
 ghost use Rattle.problem_build.specs.Expansion.{closed, equality_symbol};
 ghost use Rattle.problem_build.specs.Measuring.{both_nodes, first_measured, first_of, listed_if, measured};
+ghost use Rattle.problem_build.specs.NameCount.{is_narrow, is_short};
 ghost use Rattle.problem_build.specs.Occurring.{HasItsSymbols};
 ghost use Rattle.problem_build.specs.Outside.{is_inside};
 ghost use Rattle.problem_build.specs.Refusals as refusal;
@@ -77,6 +78,7 @@ fn nodes_of_axioms(
     symbols: &Symbols,
     with_axioms: bool,
 ) -> Result<Option<u64>, NoMemory>
+    requires { IsTrue (list_all is_narrow symbols.now) }
     ensures { IfOk result (λ n. n ≡ measured (listed_if with_axioms (equality_axioms symbols.now))) }
 {
     if with_axioms {
@@ -95,6 +97,7 @@ fn problem_nodes(
     with_axioms: bool,
     parts: &Parts,
 ) -> Result<Option<u64>, NoMemory>
+    requires { IsTrue (list_all is_narrow symbols.now) }
     ensures { IfOk result (λ n. n ≡ both_nodes
         (both_nodes (measured (listed_if with_axioms (equality_axioms symbols.now)))
         (measured (map (closed symbols.now) (map the_source parts.now.premises.items))))
@@ -121,6 +124,7 @@ fn asked_axioms(
     symbols: &Symbols,
     with_axioms: bool,
 ) -> Result<Vec<Formula>, NoMemory>
+    requires { IsTrue (list_all is_narrow symbols.now) }
     ensures { IfOk result (λ fs. map the_formula fs.items ≡ listed_if with_axioms (equality_axioms symbols.now)) }
 {
     if with_axioms {
@@ -137,6 +141,8 @@ fn premise_formulas(
     with_axioms: bool,
     parts: &Parts,
 ) -> Result<Vec<Formula>, NoMemory>
+    requires arities { IsTrue (list_all is_narrow symbols.now) }
+    requires premises { IsTrue (list_all is_short (map the_source parts.now.premises.items)) }
     ensures { IfOk result (λ fs. map the_formula fs.items ≡ listed_if with_axioms (equality_axioms symbols.now)
         ++ map (closed symbols.now) (map the_source parts.now.premises.items)) }
 {
@@ -177,6 +183,9 @@ fn formula_of(
     with_axioms: bool,
     parts: &Parts,
 ) -> Result<Option<Formula>, NoMemory>
+    requires arities { IsTrue (list_all is_narrow symbols.now) }
+    requires premises { IsTrue (list_all is_short (map the_source parts.now.premises.items)) }
+    requires conjectures { IsTrue (list_all is_short (map the_source parts.now.conjectures.items)) }
     ensures { IfOk result (λ f. option_map the_formula f ≡ problem_formula
         (listed_if with_axioms (equality_axioms symbols.now)
         ++ map (closed symbols.now) (map the_source parts.now.premises.items))
@@ -198,6 +207,9 @@ fn problem_over(
     parts: Parts,
 ) -> Result<Problem, BuildFault>
     requires names { IsTrue (list_all symbol_fits symbols) }
+    requires arities { IsTrue (list_all is_narrow symbols) }
+    requires short_premises { IsTrue (list_all is_short (map the_source parts.premises.items)) }
+    requires short_conjectures { IsTrue (list_all is_short (map the_source parts.conjectures.items)) }
     requires premises { IsTrue (list_all (formula_fits (the_setting setting).logic symbols 0)
         (axioms_of (the_setting setting) symbols ++ map (closed symbols) (map the_source parts.premises.items))) }
     requires conjectures { IsTrue (list_all (formula_fits (the_setting setting).logic symbols 0)

@@ -1,12 +1,13 @@
 //! The formula of an item.
 
-ghost use Rattle.std.specs.Prelude.{◌≡◌, map, reverse, IfOk, OnOk};
+ghost use Rattle.std.specs.Prelude.{◌≡◌, ◌≤◌, ◌+◌, length, map, reverse, IfOk, OnOk};
 ghost use Rattle.calculus.specs.Lists.{terms_tree};
 ghost use Rattle.formula_core.specs.FormulaView.{the_formula};
 ghost use Rattle.formula_core.specs.SymbolView.{the_symbol};
 ghost use Rattle.formula_core.specs.TermView.{the_term};
 ghost use Rattle.problem_build.specs.EqualityAxioms.{for_all_times};
 ghost use Rattle.problem_build.specs.Expansion.{binary_formula, closed, equality_atom, expanded, expanded_term, expanded_terms, joined_chain, number_of, place_of, same_name, true_formula};
+ghost use Rattle.problem_build.specs.NameCount.{name_count, term_list_name_count, term_name_count};
 ghost use Rattle.problem_build.specs.Quantifying.{ex_times};
 ghost use Rattle.tptp_reader.specs.Lists.{terms_tree as source_terms};
 ghost use Rattle.tptp_reader.specs.SourceView.{the_source};
@@ -34,7 +35,8 @@ fn number_of(symbols: &Symbols, symbol: &Symbol) -> SymbolId
 
 // How many quantifiers stand between the variable and its own; all of them where it has none.
 fn variable_place(scope: &[Text], name: &Text) -> usize
-    ensures { result ≡ place_of (same_name name.now) (reverse scope.now) }
+    ensures place { result ≡ place_of (same_name name.now) (reverse scope.now) }
+    ensures within { result ≤ length scope.now }
 {
     let mut left = scope.len();
     while left > 0 {
@@ -46,14 +48,12 @@ fn variable_place(scope: &[Text], name: &Text) -> usize
     scope.len()
 }
 
-// There is no memory for more variables than 32 bits can number.
-fn variable(scope: &[Text], name: &Text) -> Result<u32, NoMemory>
-    ensures { IfOk result (λ k. k ≡ place_of (same_name name.now) (reverse scope.now)) }
+// The same, where as many variables as are in scope have numbers of 32 bits.
+fn variable(scope: &[Text], name: &Text) -> u32
+    requires { length scope.now ≤ 4294967295 }
+    ensures { result ≡ place_of (same_name name.now) (reverse scope.now) }
 {
-    match u32::try_from(variable_place(scope, name)) {
-        Ok(place) => Ok(place),
-        Err(_) => Err(NoMemory),
-    }
+    variable_place(scope, name) as u32
 }
 
 #[cycle(term_of)]
@@ -63,13 +63,12 @@ fn term_of(
     scope: &[Text],
     term: &SourceTerm,
 ) -> Result<Term, NoMemory>
+    requires scope { length scope.now ≤ 4294967295 }
+    requires names { term_name_count (the_source_term term.now) ≤ 4294967295 }
     ensures { IfOk result (λ t. the_term t ≡ expanded_term symbols.now (reverse scope.now) (the_source_term term.now)) }
 {
     match term {
-        SourceTerm::Var(x) => {
-            let place = variable(scope, x)?;
-            Ok(Term::Var(place))
-        }
+        SourceTerm::Var(x) => Ok(Term::Var(variable(scope, x))),
         SourceTerm::Fun(f, args) => {
             let symbol = function_symbol(alloc, f, args)?;
             let number = number_of(symbols, &symbol);
@@ -80,13 +79,15 @@ fn term_of(
 }
 
 #[cycle(term_of)]
-#[tactic(auto, using(crate::proofs::FallingLaws::falling))]
+#[tactic(auto, using(crate::proofs::FallingLaws::falling, crate::proofs::NameCountLaws::counted))]
 fn terms_of(
     alloc: Global,
     symbols: &Symbols,
     scope: &[Text],
     terms: &SourceTerms,
 ) -> Result<Terms, NoMemory>
+    requires scope { length scope.now ≤ 4294967295 }
+    requires names { term_list_name_count terms.now ≤ 4294967295 }
     ensures { IfOk result (λ ts. terms_tree ts ≡ expanded_terms symbols.now (reverse scope.now) (source_terms terms.now)) }
 {
     let mut made = Terms::new(alloc);
@@ -119,6 +120,8 @@ fn equation(
     left: &SourceTerm,
     right: &SourceTerm,
 ) -> Result<Formula, NoMemory>
+    requires scope { length scope.now ≤ 4294967295 }
+    requires names { term_name_count (the_source_term left.now) + term_name_count (the_source_term right.now) ≤ 4294967295 }
     ensures { IfOk result (λ f. the_formula f ≡ equality_atom symbols.now
         (expanded_term symbols.now (reverse scope.now) (the_source_term left.now))
         (expanded_term symbols.now (reverse scope.now) (the_source_term right.now))) }
@@ -219,13 +222,14 @@ pub fn joined_chain(
 }
 
 // The formula inside of quantifiers over the variables of the scope, the innermost last.
-#[tactic(auto, using(crate::proofs::FallingLaws::falling))]
+#[tactic(auto, using(crate::proofs::FallingLaws::falling, crate::proofs::NameCountLaws::counted))]
 fn expand(
     alloc: Global,
     symbols: &Symbols,
     scope: &mut Vec<Text>,
     source: &Source,
 ) -> Result<Formula, NoMemory>
+    requires { length scope.old.items + name_count (the_source source.now) ≤ 4294967295 }
     ensures scope { OnOk result (scope.new.items ≡ scope.old.items) }
     ensures expanded { IfOk result (λ f. the_formula f
         ≡ expanded symbols.now (reverse scope.old.items) (the_source source.now)) }
@@ -306,6 +310,7 @@ fn expand(
 
 /// The formula of an item, with universal quantifiers for its free variables round it.
 pub fn closed(alloc: Global, symbols: &Symbols, source: &Source) -> Result<Formula, NoMemory>
+    requires { name_count (the_source source.now) ≤ 16777216 }
     ensures { IfOk result (λ f. the_formula f ≡ closed symbols.now (the_source source.now)) }
 {
     let free = free_variables(alloc, source)?;

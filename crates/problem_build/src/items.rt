@@ -1,12 +1,15 @@
 //! The formulas of the items that pass: their symbols, how large they are, and what they expand to.
 
-ghost use Rattle.std.specs.Prelude.{◌≡◌, ◌++◌, ◌∷◌, [], ◌<◌, List, Err, length, map, option_map, IfOk, OnOk};
+ghost use Rattle.std.specs.Prelude.{◌≡◌, ◌++◌, ◌∷◌, [], ◌<◌, List, Err, length, map, option_map, IfOk, IsTrue, OnOk};
+ghost use Rattle.std.specs.List.{list_all};
 ghost use Rattle.calculus.specs.Syntax as tree;
 ghost use Rattle.formula_core.specs.FormulaView.{the_formula};
 ghost use Rattle.problem_build.specs.Building.{conjectures, premises, symbols_of};
 ghost use Rattle.problem_build.specs.Expansion.{closed};
 ghost use Rattle.problem_build.specs.Measuring.{bodies, first_measured, first_of, flat_nodes, measured};
+ghost use Rattle.problem_build.specs.NameCount.{is_short};
 ghost use Rattle.problem_build.specs.Passing.{the_passed};
+ghost use Rattle.problem_build.specs.Walk as definition;
 ghost use Rattle.tptp_reader.specs.SourceView.{the_source};
 
 use crate::counts::{nesting_of, nodes_of, sum};
@@ -22,6 +25,7 @@ use tptp_reader::Source;
 
 /// The symbols of the formulas, in the order in which they first stand there.
 pub fn symbols_of(alloc: Global, passed: &[Passed]) -> Result<Symbols, AddFault>
+    requires { IsTrue (list_all (λ (p : definition.Passed). is_short p.body) (map the_passed passed.now)) }
     ensures all { IfOk result (λ ss. ss ≡ symbols_of (map the_passed passed.now)) }
     ensures full { result ≡ Err AddFault.Full → 65536 < length (symbols_of (map the_passed passed.now)) }
 {
@@ -130,6 +134,7 @@ pub fn push_closed(
     items: &[Source],
     formulas: &mut Vec<Formula>,
 ) -> Result<(), NoMemory>
+    requires { IsTrue (list_all is_short (map the_source items.now)) }
     ensures { OnOk result (map the_formula formulas.new.items
         ≡ map the_formula formulas.old.items ++ map (closed symbols.now) (map the_source items.now)) }
 {
@@ -146,6 +151,7 @@ pub fn conjecture(
     symbols: &Symbols,
     conjectures: &[Source],
 ) -> Result<Option<Formula>, NoMemory>
+    requires { IsTrue (list_all is_short (map the_source conjectures.now)) }
     ensures { IfOk result (λ f. option_map the_formula f
         ≡ first_of (map (closed symbols.now) (map the_source conjectures.now))) }
 {

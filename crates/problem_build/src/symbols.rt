@@ -1,10 +1,11 @@
 //! The symbols of formulas, in the order in which they first stand in the expanded formulas.
 
-ghost use Rattle.std.specs.Prelude.{◌≡◌, ◌++◌, ◌∷◌, [], List, IfOk, if◌then◌else◌};
+ghost use Rattle.std.specs.Prelude.{◌≡◌, ◌≤◌, ◌+◌, ◌++◌, ◌∷◌, [], List, IfOk, if◌then◌else◌};
 ghost use Rattle.calculus.specs.Syntax as tree;
 ghost use Rattle.formula_core.specs.SymbolView.{the_symbol};
 ghost use Rattle.problem_build.specs.Adding.{Adds};
 ghost use Rattle.problem_build.specs.Expansion.{argument_count, binary_symbols, equality_symbol, function_symbol, predicate_symbol, symbols_in, term_symbols, terms_symbols, truth_symbol};
+ghost use Rattle.problem_build.specs.NameCount.{name_count, term_list_name_count, term_name_count};
 ghost use Rattle.tptp_reader.specs.Lists.{terms_tree};
 ghost use Rattle.tptp_reader.specs.SourceView.{the_source};
 ghost use Rattle.tptp_reader.specs.TermView.{the_source_term};
@@ -43,30 +44,29 @@ pub fn truth_symbol(alloc: Global) -> Result<Symbol, NoMemory>
     new_symbol(alloc, b"$$o", SymbolClass::Truth, 0)
 }
 
-// There is no memory for more arguments than 32 bits can count.
-fn arity_of(args: &SourceTerms) -> Result<u32, NoMemory>
-    ensures { IfOk result (λ n. n ≡ argument_count (terms_tree args.now)) }
+fn arity_of(args: &SourceTerms) -> u32
+    requires { term_list_name_count args.now ≤ 4294967295 }
+    ensures { result ≡ argument_count (terms_tree args.now) }
 {
-    match u32::try_from(args.items().len()) {
-        Ok(arity) => Ok(arity),
-        Err(_) => Err(NoMemory),
-    }
+    args.items().len() as u32
 }
 
 /// The function symbol of this name with so many arguments.
 pub fn function_symbol(alloc: Global, name: &Text, args: &SourceTerms) -> Result<Symbol, NoMemory>
+    requires { term_list_name_count args.now ≤ 4294967295 }
     ensures { IfOk result (λ s. the_symbol s ≡ function_symbol name.now (argument_count (terms_tree args.now))) }
 {
-    let arity = arity_of(args)?;
+    let arity = arity_of(args);
     let symbol = new_symbol(alloc, name.bytes(), SymbolClass::Function, arity)?;
     Ok(symbol)
 }
 
 /// The predicate symbol of this name with so many arguments.
 pub fn predicate_symbol(alloc: Global, name: &Text, args: &SourceTerms) -> Result<Symbol, NoMemory>
+    requires { term_list_name_count args.now ≤ 4294967295 }
     ensures { IfOk result (λ s. the_symbol s ≡ predicate_symbol name.now (argument_count (terms_tree args.now))) }
 {
-    let arity = arity_of(args)?;
+    let arity = arity_of(args);
     let symbol = new_symbol(alloc, name.bytes(), SymbolClass::Predicate, arity)?;
     Ok(symbol)
 }
@@ -83,6 +83,7 @@ fn add(symbols: &mut Symbols, symbol: Symbol) -> Result<(), AddFault>
 
 #[cycle(add_term)]
 fn add_term(alloc: Global, symbols: &mut Symbols, term: &SourceTerm) -> Result<(), AddFault>
+    requires { term_name_count (the_source_term term.now) ≤ 4294967295 }
     ensures { Adds symbols.old symbols.new (term_symbols (the_source_term term.now)) result }
 {
     match term {
@@ -100,8 +101,9 @@ fn add_term(alloc: Global, symbols: &mut Symbols, term: &SourceTerm) -> Result<(
 }
 
 #[cycle(add_term)]
-#[tactic(auto, using(crate::proofs::FallingLaws::falling))]
+#[tactic(auto, using(crate::proofs::FallingLaws::falling, crate::proofs::NameCountLaws::counted))]
 fn add_terms(alloc: Global, symbols: &mut Symbols, terms: &SourceTerms) -> Result<(), AddFault>
+    requires { term_list_name_count terms.now ≤ 4294967295 }
     ensures { Adds symbols.old symbols.new (terms_symbols (terms_tree terms.now)) result }
 {
     for term in terms.items() {
@@ -118,6 +120,7 @@ fn add_equation(
     left: &SourceTerm,
     right: &SourceTerm,
 ) -> Result<(), AddFault>
+    requires { term_name_count (the_source_term left.now) + term_name_count (the_source_term right.now) ≤ 4294967295 }
     ensures { Adds symbols.old symbols.new
         (equality_symbol ∷ (term_symbols (the_source_term left.now) ++ term_symbols (the_source_term right.now))) result }
 {
@@ -145,8 +148,9 @@ fn is_turned(kind: BinaryKind) -> bool
 }
 
 /// Adds those of the formula's symbols that are new. `Full` where there are too many.
-#[tactic(auto, using(crate::proofs::FallingLaws::falling))]
+#[tactic(auto, using(crate::proofs::FallingLaws::falling, crate::proofs::NameCountLaws::counted))]
 pub fn add_symbols(alloc: Global, symbols: &mut Symbols, source: &Source) -> Result<(), AddFault>
+    requires { name_count (the_source source.now) ≤ 4294967295 }
     ensures { Adds symbols.old symbols.new (symbols_in (the_source source.now)) result }
 {
     match source {

@@ -3,7 +3,11 @@ use Rattle.formula_core.specs.SymbolView.{the_symbol}
 use Rattle.problem_build.specs.EqualityAxioms.{for_each}
 use Rattle.problem_build.specs.Measuring.{both_nodes, congruence_of, measured}
 use Rattle.problem_build.proofs.MeasuringLaws.{measured-capped, measured-end, measured-step, step-deep}
+use Rattle.problem_build.proofs.NameCountLaws.{narrow-item}
 use Rattle.problem_build.proofs.axioms.congruences_nodes.Goals as goal
+
+pub congruence_nodes-requires : goal.congruence_nodes-requires
+congruence_nodes-requires c = narrow-item c.args.symbols.now c.loop-number.number (the_symbol c.get-symbol.result.now) c.get-symbol.ensures c.requires
 
 pub loop-number-init : goal.loop-number-init
 loop-number-init c = (omega arith, measured-capped (for_each (congruence_of c.args.sort c.args.symbols.now) 0 c.args.symbols.now))

@@ -4,7 +4,11 @@ use Rattle.formula_core.specs.SymbolView.{the_symbol}
 use Rattle.problem_build.specs.EqualityAxioms.{for_each}
 use Rattle.problem_build.specs.Measuring.{congruence_of, listed_axiom}
 use Rattle.problem_build.proofs.MeasuringLaws.{listed-end, listed-step}
+use Rattle.problem_build.proofs.NameCountLaws.{narrow-item}
 use Rattle.problem_build.proofs.axioms.push_congruences.Goals as goal
+
+pub congruence-requires : goal.congruence-requires
+congruence-requires c = narrow-item c.args.symbols.now c.loop-number.number (the_symbol c.get-symbol.result.now) c.get-symbol.ensures c.requires
 
 pub loop-number-preserved : goal.loop-number-preserved
 loop-number-preserved c =

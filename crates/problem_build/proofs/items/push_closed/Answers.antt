@@ -2,7 +2,11 @@ use Rattle.std.proofs.Common.{◌∷◌, [], ◌∙◌, ap, arith, map}
 use Rattle.std.proofs.lemmas.List.{map-append}
 use Rattle.formula_core.specs.FormulaView.{the_formula}
 use Rattle.problem_build.proofs.ItemLaws.{pushed-end, pushed-next}
+use Rattle.problem_build.proofs.NameCountLaws.{short-item}
 use Rattle.problem_build.proofs.items.push_closed.Goals as goal
+
+pub closed-requires : goal.closed-requires
+closed-requires c = short-item c.args.items.now c.loop-body.body-index c.body-item.result c.body-item.result (omega arith) c.body-item.is c.requires
 
 pub loop-body-preserved : goal.loop-body-preserved
 loop-body-preserved c =
