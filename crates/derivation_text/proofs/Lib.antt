@@ -2,6 +2,7 @@ pub mod Items
 pub mod Parts
 pub mod Args
 pub mod PlainLaws
+pub mod TermWritingLaws
 pub mod Printable
 pub mod BodyLaws
 pub mod LineFeeds

@@ -14,3 +14,4 @@ pub mod NumberedBody
 pub mod NumberedReading
 pub mod Difference
 pub mod Writing
+pub mod TermWriting

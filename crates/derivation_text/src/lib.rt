@@ -27,6 +27,7 @@ mod row_step;
 mod step_reader;
 mod table_writer;
 mod term_list;
+mod term_writer;
 mod text_derivation;
 mod writer;
 

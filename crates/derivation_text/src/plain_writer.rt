@@ -1,26 +1,27 @@
-//! Writing a derivation of the calculus in version 1, in which labels and terms stand where they are used. Only the term at hand stands
-//! in a row.
+//! Writing a derivation of the calculus in version 1, in which labels and terms stand where they are used.
 
 ghost use Rattle.std.specs.Prelude.{◌≡◌, ◌++◌, map, IsTrue, IfOk, OnOk};
 ghost use Rattle.std.specs.List.{flat_map, list_all};
 ghost use Rattle.calculus.specs.DerivationText.{eigen_line, home_is_written, home_text, is_printable, line_bytes};
 ghost use Rattle.calculus.specs.DerivationText.{modal_is_written, modal_text, spare_line, step_is_written, step_line};
-ghost use Rattle.calculus.specs.DerivationText.{term_arg_is_written, term_arg_text};
+ghost use Rattle.calculus.specs.DerivationText.{term_arg_is_written, term_arg_text, term_is_written};
+ghost use Rattle.calculus.specs.Text.{term_text};
 ghost use Rattle.calculus.specs.Versions.{IsTextIn};
 ghost use Rattle.derivation_text.specs.Written.{eigen_is_written, spare_is_written};
 ghost use Rattle.sequent_calc.specs.DerivationView.{the_derivation};
 ghost use Rattle.sequent_calc.specs.NamesView.{the_eigen, the_home, the_spare};
-ghost use Rattle.sequent_calc.specs.StepView.{the_modal, the_row_arg, the_step, the_term_arg};
+ghost use Rattle.sequent_calc.specs.StepView.{the_modal, the_step, the_term_arg};
+ghost use Rattle.term_table.specs.SharedTerm.{the_shared_term};
 
+use crate::term_writer::write_table_term;
 use calculus::version::Version;
 use cop_base::NoMemory;
 use formula_core::Symbols;
 use formula_text::{write_bytes, write_label, write_number, write_row};
 use logic_rules::{Label, Problem};
-use sequent_calc::{
-    Derivation, EigenList, Home, ModalArg, RowArg, SpareList, Step, StepList, TermArg,
-};
+use sequent_calc::{Derivation, EigenList, Home, ModalArg, SpareList, Step, StepList, TermArg};
 use std::alloc::Global;
+use term_table::SharedTerm;
 use text_lines::write_head;
 
 fn write_eigen(out: &mut Vec<u8>, number: u32, home: &Label) -> Result<(), NoMemory>
@@ -94,25 +95,18 @@ fn write_modal(out: &mut Vec<u8>, modal: &ModalArg) -> Result<(), NoMemory>
     }
 }
 
-fn write_row_arg(
+fn write_shared(
     alloc: Global,
     out: &mut Vec<u8>,
     symbols: &Symbols,
-    arg: &RowArg,
+    term: &SharedTerm,
 ) -> Result<(), NoMemory>
-    requires { IsTrue (term_arg_is_written symbols.now (the_row_arg arg.now)) }
-    ensures { OnOk result (out.new.items ≡ out.old.items ++ term_arg_text symbols.now (the_row_arg arg.now)) }
+    requires { IsTrue (term_is_written symbols.now (the_shared_term term.now)) }
+    ensures { OnOk result (out.new.items ≡ out.old.items ++ term_text symbols.now 0 (the_shared_term term.now)) }
 {
-    match arg {
-        RowArg::None => Ok(()),
-        RowArg::Term(row) => {
-            write_bytes(out, b" term ")?;
-            write_row(alloc, out, symbols, row)
-        }
-        RowArg::Name(n) => {
-            write_bytes(out, b" name $$e")?;
-            write_number(out, u64::from(*n))
-        }
+    match term {
+        SharedTerm::Row(row) => write_row(alloc, out, symbols, row),
+        SharedTerm::Table(table, term) => write_table_term(alloc, out, symbols, table, *term),
     }
 }
 
@@ -125,8 +119,17 @@ fn write_term_arg(
     requires { IsTrue (term_arg_is_written symbols.now (the_term_arg arg.now)) }
     ensures { OnOk result (out.new.items ≡ out.old.items ++ term_arg_text symbols.now (the_term_arg arg.now)) }
 {
-    let row = arg.row(alloc)?;
-    write_row_arg(alloc, out, symbols, &row)
+    match arg {
+        TermArg::None => Ok(()),
+        TermArg::Term(term) => {
+            write_bytes(out, b" term ")?;
+            write_shared(alloc, out, symbols, term)
+        }
+        TermArg::Name(n) => {
+            write_bytes(out, b" name $$e")?;
+            write_number(out, u64::from(*n))
+        }
+    }
 }
 
 fn write_step(
