@@ -18,13 +18,12 @@ use Rattle.search_theory.specs.Matrix.{MatrixClause, MatrixPlace, places}
 use Rattle.search_theory.specs.OrderedChoices.{extension_at, meets}
 use Rattle.search_theory.specs.States.{CellGoal, atom_is_below, goal_is_below}
 use Rattle.search_theory.specs.Steps.{Clash}
-use Rattle.search_theory.proofs.BeginningLaws.{is_not_empty}
-use Rattle.search_theory.proofs.LookAheadLaws.{bit-alone, full-pruned, hopeless-dropped, nearly-pruned, none-reduces, unmarked-lacks}
+use Rattle.search_theory.proofs.LookAheadLaws.{bit-alone, hopeless-dropped, unmarked-lacks}
 use Rattle.search_theory.proofs.PruningLaws.{search-pruned}
 use Rattle.store_theory.specs.Patterns.{PatternAtom, Template}
 use Rattle.store_theory.specs.Stores.{Store, names_below}
 use Rattle.store_theory.specs.Systems.{CellAtom}
-use Rattle.connection_search.specs.Ahead.{HasNoHope, IsHopelessMove, IsLost, IsNextLeft}
+use Rattle.connection_search.specs.Ahead.{HasNoHope, IsHopelessMove, IsNextLeft}
 use Rattle.connection_search.specs.Exploring.{IsSearched}
 use Rattle.connection_search.specs.Points.{HasUntried, IsMoveAt, IsSamePoint, the_move}
 use Rattle.connection_search.specs.Pruning.{IsPruned}
@@ -37,7 +36,7 @@ use Rattle.connection_search.specs.declared.tree.Goal.{Goal}
 use Rattle.connection_search.specs.declared.tree.Step.{Step}
 use Rattle.connection_search.proofs.PlaceLaws.{place-found, place-stands}
 use Rattle.connection_search.proofs.SeenLaws.{goal-wanted}
-use Rattle.connection_search.proofs.TreeLaws.{atom-found, goal-at, same-item}
+use Rattle.connection_search.proofs.TreeLaws.{atom-found, same-item}
 
 -- ---- marks
 
@@ -161,17 +160,6 @@ hopeless-all m items x i e l h p (k, at) =
 
 -- ---- goals that no bindings close
 
--- what of it each number of the tree tells
-pub lost-pruned : (P : Problem) (m : List MatrixClause) (base d : ℕ) (c : List Choice) (s : Store) (steps : List Step) (goals : List Goal) (first : Option ℕ) (goal : ℕ) (at : Goal) → IsMatrixOf P m → StandsFor P m base d c s steps goals first → slice_get goals goal ≡ Some at → ((x : CellGoal) → IsGoalAt steps goals goal x → IsLost m d s x) → IsTrue (is_not_empty c) → IsPruned P d c
-lost-pruned P m base d c s steps goals first goal at tm (cs, y, h) there lost n =
-    let (z, on, stands) = goal-at steps goals y.all_goals goal at h.tree.goals there in
-    let k = lost z stands in
-    by z on k k.full
-  where
-    by : (z : CellGoal) → slice_get y.all_goals goal ≡ Some z → IsLost m d s z → (d ≤ length z.path) ⊎ ((d ≤ length z.path + 1) × HasNoHope m z) → IsPruned P d c
-    by z on k (inl full) = full-pruned P d c (record { store = s; choices = cs; growth = y }) z n h.running.state (goal, on) full (none-reduces s z k.none)
-    by z on k (inr (near, none)) = nearly-pruned P m d c (record { store = s; choices = cs; growth = y }) z tm.matrix n h.running.state (goal, on) near (none-reduces s z k.none) none
-
 -- a goal of the tree is over cells of the store
 pub goal-cells : (P : Problem) (m : List MatrixClause) (base d : ℕ) (c : List Choice) (s : Store) (steps : List Step) (goals : List Goal) (first : Option ℕ) (goal : ℕ) (x : CellGoal) → StandsFor P m base d c s steps goals first → IsGoalAt steps goals goal x → (z : CellGoal) × IsGoalAt steps goals goal z × IsTrue (goal_is_below (length s.cells) z)
 goal-cells P m base d c s steps goals first goal x (cs, y, h) at = goal-wanted steps goals (length s.cells) goal y.all_goals h.tree.goals h.running.state.cells.all_goals (slice_get_within goals goal at.goal at.stands)
@@ -233,6 +221,8 @@ pub passes-left : (P : Problem) (m : List MatrixClause) (base d : ℕ) (c : List
 passes-left P m base d c s steps goals goal g untried now after o tm at near h next = record {
   passed = h.passed;
   pruned = passed-pruned P m base d c s steps goals goal g h.passed tm at near h.hopeless;
+  hopeless = h.hopeless;
+  near = inr near;
   known = inr refl;
   next = by o next;
 }
@@ -243,7 +233,7 @@ passes-left P m base d c s steps goals goal g untried now after o tm at near h n
 
 -- none was passed over
 pub next-left : (P : Problem) (m : List MatrixClause) (d : ℕ) (c : List Choice) (steps : List Step) (goals : List Goal) (after : Point) (g : CellGoal) (untried : List Choice) (left : Bool) (o : Option Move) → MatchOption o (untried ≡ []) (λ x. IsMoveAt m d steps goals g x × ((rest : List Choice) × (untried ≡ the_move m x ∷ rest) × HasUntried m d steps goals after g rest)) → IsNextLeft P m d c steps goals after g untried left o
-next-left P m d c steps goals after g untried left o next = record { passed = []; pruned = tt; known = inl refl; next = by o next }
+next-left P m d c steps goals after g untried left o next = record { passed = []; pruned = tt; hopeless = tt; near = inl refl; known = inl refl; next = by o next }
   where
     by : (o : Option Move) → MatchOption o (untried ≡ []) (λ x. IsMoveAt m d steps goals g x × ((rest : List Choice) × (untried ≡ the_move m x ∷ rest) × HasUntried m d steps goals after g rest)) → MatchOption o (untried ≡ [] ++ []) (λ x. IsMoveAt m d steps goals g x × ((rest : List Choice) × (untried ≡ [] ++ the_move m x ∷ rest) × HasUntried m d steps goals after g rest))
     by None e = e
@@ -253,7 +243,7 @@ pub known-left : (P : Problem) (m : List MatrixClause) (d : ℕ) (c : List Choic
 known-left P m d c steps goals after g untried left o e h = subst (λ l. IsNextLeft P m d c steps goals after g untried l o) (sym e) h
 
 pub same-both : (p q r : Point) → IsSamePoint p q → IsSamePoint q r → IsSamePoint p r
-same-both p q r h k = record { mark = k.mark ∙ h.mark; steps = k.steps ∙ h.steps; goals = k.goals ∙ h.goals; goal = k.goal ∙ h.goal; depth = k.depth ∙ h.depth }
+same-both p q r h k = record { mark = k.mark ∙ h.mark; steps = k.steps ∙ h.steps; goals = k.goals ∙ h.goals; goal = k.goal ∙ h.goal; depth = k.depth ∙ h.depth; lowest = k.lowest ∙ h.lowest }
 
 pub less-both : (x y z : ℕ) → x < y → y ≤ z → x < z
 less-both x y z l k = omega (arith, l, k)

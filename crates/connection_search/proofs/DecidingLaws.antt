@@ -1,5 +1,5 @@
 -- What deciding a list without open goals comes to: the lists of lengths for which solving used a step, and what the tree's system asks.
-use Rattle.std.proofs.Common.{◌≡◌, ◌+◌, ◌-◌, ◌≤◌, ℕ, suc, List, [], ◌∷◌, ◌++◌, length, map, Bool, true, false, IsTrue, refl, sym, ◌∙◌, ap, subst, Option, None, arith, nat_le, leb-true}
+use Rattle.std.proofs.Common.{◌≡◌, ◌+◌, ◌-◌, ◌≤◌, ℕ, suc, List, [], ◌∷◌, ◌++◌, length, map, Bool, true, false, IsTrue, refl, sym, ◌∙◌, ap, subst, Option, None, arith, nat_le, leb-true, reverse}
 use Rattle.std.specs.List.{AllByRecursion, list_all}
 use Rattle.std.proofs.lemmas.Bool.{false≢true}
 use Rattle.std.proofs.lemmas.List.{length-append, length-map}
@@ -23,6 +23,8 @@ use Rattle.search_theory.proofs.SystemLaws.{member-tried, no-closed-list, tree-b
 use Rattle.search_theory.proofs.WholeLaws.{search-lengths}
 use Rattle.term_store.specs.Asking.{Asks}
 use Rattle.connection_search.specs.Deciding.{IsDecided, IsEnded, IsSolved, IsSolvedTree, IsSolving}
+use Rattle.connection_search.specs.Seeing.{HasSeen}
+use Rattle.connection_search.proofs.StandingLaws.{stack-forgotten}
 use Rattle.connection_search.specs.Exploring.{IfOn, IsCounted, IsEnd, IsExploring, IsSpace, IsVisiting}
 use Rattle.connection_search.specs.OwnStores.{AreOwn}
 use Rattle.connection_search.specs.Running.{IsRunning, StandsFor}
@@ -141,7 +143,7 @@ module _ (P : Problem) (m : List MatrixClause) (base d : ℕ) (s : Store) (steps
       let q = length-map t.tried (with_lengths d v.choices) in
       record {
         pending = v.pending;
-        points = v.points;
+        points = stack-forgotten P m base d s steps goals (reverse points) v.pending (subst (λ k. HasSeen k (reverse points)) whole v.seen) v.points.are;
         searched = record {
           spent = v.searched.spent ++ with_choices d v.choices ∷ map (with_lengths d v.choices) t.tried;
           search = search-lengths P d v.searched.spent v.choices (v.pending ++ later) left S t.tried v.searched.search space.from_one v.not_empty at.running.state (none-open steps goals first v.stands.1.open_goals at.tree.open_goals whole) (stands-live P m base d v.choices s steps goals first v.stands) t.rising t.members none;

@@ -31,7 +31,7 @@ path-kept : (steps more : List Step) (goals others : List Goal) (k : Option ℕ)
 path-kept steps more goals others k [] h = h
 path-kept steps more goals others k (a ∷ path) (i, g, e, at, atom, rest) = (i, g, e, get-kept goals others i g at, atom-kept steps more g a atom, path-kept steps more goals others g.above path rest)
 
-goal-kept : (steps more : List Step) (goals others : List Goal) (g : Goal) (x : CellGoal) → IsGoal steps goals g x → IsGoal (steps ++ more) (goals ++ others) g x
+pub goal-kept : (steps more : List Step) (goals others : List Goal) (g : Goal) (x : CellGoal) → IsGoal steps goals g x → IsGoal (steps ++ more) (goals ++ others) g x
 goal-kept steps more goals others g x h = record { literal = atom-kept steps more g x.literal h.literal; path = path-kept steps more goals others g.above x.path h.path; depth = h.depth }
 
 open-kept : (steps more : List Step) (goals others : List Goal) (k : Option ℕ) (xs : List CellGoal) → AreOpen steps goals k xs → AreOpen (steps ++ more) (goals ++ others) k xs

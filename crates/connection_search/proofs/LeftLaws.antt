@@ -96,7 +96,7 @@ at-deeper P m base d c s steps goals goal g h =
       every = h.every;
       depths = h.depths;
       at = record {
-        running = record { state = state-more P d (d + 1) c (record { store = s; choices = h.made; growth = record { open_goals = g ∷ h.behind; all_goals = h.every; depths = h.depths } }) (omega arith) r.state; well = r.well; from = r.from; own = r.own; choices = r.choices; open_goals = r.open_goals; goals = r.goals; system = r.system; cells = r.cells; strings = r.strings };
+        running = record { state = state-more P d (d + 1) c (record { store = s; choices = h.made; growth = record { open_goals = g ∷ h.behind; all_goals = h.every; depths = h.depths } }) (omega arith) r.state; well = r.well; from = r.from; own = r.own; choices = r.choices; open_goals = r.open_goals; goals = r.goals; system = r.system; cells = r.cells; strings = r.strings; variables = r.variables };
         tree = h.at.tree;
       };
     }

@@ -28,6 +28,7 @@ pub mod ClassicalCopies
 -- a search's own cells
 pub mod KeptLaws
 pub mod OpenStrings
+pub mod OpenVariables
 pub mod OwnLaws
 pub mod OwnCopies
 -- states
@@ -54,7 +55,13 @@ pub mod DeadLaws
 -- looking ahead at the limit
 pub mod WayUpLaws
 pub mod AheadLaws
+pub mod GivenUpLaws
+pub mod StandingLaws
 pub mod TryingLaws
+pub mod JumpingLaws
+pub mod BindingKept
+pub mod LookingLaws
+pub mod GoingBackLaws
 -- the search at one limit
 pub mod SearchedLaws
 -- deepening

@@ -20,11 +20,11 @@ use Rattle.search_theory.specs.StateSystems.{extended_system, reduced_system, st
 use Rattle.search_theory.specs.States.{CellChoice, CellGoal, CellGrowth, cell_goals_on, extended, goal_is_below, new_cell_goals, reduced, started}
 use Rattle.search_theory.specs.Steps.{AreUnified, Clash}
 use Rattle.search_theory.proofs.AtomLaws.{IsAtomIn}
-use Rattle.search_theory.proofs.BeginningLaws.{IsDead, dead-same, refused}
+use Rattle.search_theory.proofs.BeginningLaws.{IsDead, dead-same}
 use Rattle.search_theory.proofs.ExtensionLaws.{extended_state, no-extension, reduced_state}
 use Rattle.search_theory.proofs.LeftLabels.{IsGoalIn}
 use Rattle.search_theory.proofs.RegularLaws.{each-at}
-use Rattle.search_theory.proofs.StepLaws.{start_state}
+use Rattle.search_theory.proofs.StepLaws.{Grows, start_state}
 use Rattle.search_theory.proofs.VariableSorts.{sorts-kept}
 use Rattle.term_store.specs.ClauseView.{the_atom}
 use Rattle.term_store.specs.RefView.{the_places}
@@ -74,9 +74,9 @@ leftmost-repeated P m base d c s steps goals first next (cs, y, h) e repeated =
 pub goals-wanted : (P : Problem) (m : List MatrixClause) (base d : ℕ) (c : List Choice) (s : Store) (steps : List Step) (goals : List Goal) (first : Option ℕ) → StandsFor P m base d c s steps goals first → (xs : List CellGoal) × AreGoals steps goals goals xs × IsTrue (list_all (goal_is_below (length s.cells)) xs)
 goals-wanted P m base d c s steps goals first (cs, y, h) = (y.all_goals, h.tree.goals, h.running.state.cells.all_goals)
 
-pub goals-repeated : (P : Problem) (m : List MatrixClause) (base d : ℕ) (c : List Choice) (s : Store) (steps : List Step) (goals : List Goal) (first : Option ℕ) → StandsFor P m base d c s steps goals first → ((xs : List CellGoal) → AreGoals steps goals goals xs → AnyRepeated s xs) → IsDead P c
-goals-repeated P m base d c s steps goals first (cs, y, h) repeated =
-    let (i, x, on, (j, a, path, same)) = repeated y.all_goals h.tree.goals in
+pub goals-repeated : (P : Problem) (m : List MatrixClause) (base d : ℕ) (c : List Choice) (s : Store) (steps : List Step) (goals : List Goal) (first : Option ℕ) (n : ℕ) → StandsFor P m base d c s steps goals first → ((xs : List CellGoal) → AreGoals steps goals goals xs → AnyRepeated s n xs) → IsDead P c
+goals-repeated P m base d c s steps goals first n (cs, y, h) repeated =
+    let (i, x, l, on, (j, a, path, same)) = repeated y.all_goals h.tree.goals in
     dead-same P d c (record { store = s; choices = cs; growth = y }) h.running.state (i, j, x, a, on, path, same)
 
 pub goals-new : (P : Problem) (m : List MatrixClause) (base d : ℕ) (c : List Choice) (s : Store) (steps : List Step) (goals : List Goal) (first : Option ℕ) (cs : List CellChoice) (x : CellGrowth) → IsAt P m base d c s steps goals first cs x → ((Q : Problem) (b : ℕ) (xs : List CellGoal) → AreGoals steps goals goals xs → AreOwn Q b s → AllByRecursion (IsGoalIn (λ r. b ≤ r) s) xs → AllByRecursion (IsNewGoal s) (drop 0 xs)) → HasNoSamePair (record { store = s; choices = cs; growth = x })
@@ -147,10 +147,10 @@ at-reduced P m base d c old new steps after goals all goal up ancestor first g x
       },
     )
 
-pub reduction-refused : (P : Problem) (m : List MatrixClause) (base d : ℕ) (c : List Choice) (s : Store) (steps : List Step) (goals : List Goal) (goal up ancestor : ℕ) (g : CellGoal) (xs ys : List ℕ) → IsAtGoal P m base d c s steps goals goal g → (r : ReducesBy steps goals g up ancestor) → xs ≡ g.literal.args → ys ≡ r.atom.args → Clash s xs ys → IsDead P (c ++ reduction up ∷ [])
-reduction-refused P m base d c s steps goals goal up ancestor g xs ys h r ex ey clash =
+pub reduction-cannot : (P : Problem) (m : List MatrixClause) (base d : ℕ) (c : List Choice) (s : Store) (steps : List Step) (goals : List Goal) (goal up ancestor : ℕ) (g : CellGoal) (xs ys : List ℕ) → IsAtGoal P m base d c s steps goals goal g → (r : ReducesBy steps goals g up ancestor) → xs ≡ g.literal.args → ys ≡ r.atom.args → Clash s xs ys → ¬ Grows P (c ++ reduction up ∷ [])
+reduction-cannot P m base d c s steps goals goal up ancestor g xs ys h r ex ey clash =
     let met = subst (λ us. Clash s us r.atom.args) ex (subst (Clash s xs) ey clash) in
-    subst (λ n. IsDead P (c ++ reduction n ∷ [])) (sym r.is_number) (refused (no-reduction-by_clash P base d c s h.made g h.behind h.every h.depths r.number r.atom (tree_system m steps goals h.every) h.at.running r.on_path met))
+    subst (λ n. ¬ Grows P (c ++ reduction n ∷ [])) (sym r.is_number) (no-reduction-by_clash P base d c s h.made g h.behind h.every h.depths r.number r.atom (tree_system m steps goals h.every) h.at.running r.on_path met)
 
 -- ---- the clause of an extension
 
@@ -259,16 +259,16 @@ unfolding at-extended
 extended-deep P m base d c old mid met new steps after goals all goal place first g t copied atom xs ys h e k head ex ey unified binds names rest well tree system = let r = at-extended P m base d c old mid met new steps after goals all goal place first g t copied atom xs ys h e k head ex ey unified binds names rest well tree system in (r.0, r.1, r.2, any-last h.depths (length g.path))
 
 -- the copy cannot be met
-pub extension-refused : (P : Problem) (m : List MatrixClause) (base d : ℕ) (c : List Choice) (old mid : Store) (steps : List Step) (goals : List Goal) (goal k place : ℕ) (g : CellGoal) (t : Template) (vs : List ℕ) (p : PatternAtom) (b : CellAtom) (xs ys : List ℕ) → IsAtGoal P m base d c old steps goals goal g → ClauseFor P m k t → HeadCopied old mid t place vs p b → xs ≡ g.literal.args → ys ≡ b.args → Clash mid xs ys → IsDead P (c ++ extension_at m (place_of k place) ∷ [])
-extension-refused P m base d c old mid steps goals goal k place g t vs p b xs ys h f head ex ey clash =
+pub extension-cannot : (P : Problem) (m : List MatrixClause) (base d : ℕ) (c : List Choice) (old mid : Store) (steps : List Step) (goals : List Goal) (goal k place : ℕ) (g : CellGoal) (t : Template) (vs : List ℕ) (p : PatternAtom) (b : CellAtom) (xs ys : List ℕ) → IsAtGoal P m base d c old steps goals goal g → ClauseFor P m k t → HeadCopied old mid t place vs p b → xs ≡ g.literal.args → ys ≡ b.args → Clash mid xs ys → ¬ Grows P (c ++ extension_at m (place_of k place) ∷ [])
+extension-cannot P m base d c old mid steps goals goal k place g t vs p b xs ys h f head ex ey clash =
     let met = subst (λ us. Clash mid us b.args) ex (subst (Clash mid xs) ey clash) in
-    refused (no-extension-by_clash P base d c old mid h.made g h.behind h.every h.depths (selection_of (slice_get m k)) t place vs p b (tree_system m steps goals h.every) h.at.running f.template f.own.sorts head met)
+    no-extension-by_clash P base d c old mid h.made g h.behind h.every h.depths (selection_of (slice_get m k)) t place vs p b (tree_system m steps goals h.every) h.at.running f.template f.own.sorts head met
 
 -- the outermost names differ
-pub extension-clashes : (P : Problem) (m : List MatrixClause) (base d : ℕ) (c : List Choice) (s : Store) (steps : List Step) (goals : List Goal) (goal k place : ℕ) (g : CellGoal) (t : Template) (p : PatternAtom) (a : CellAtom) → IsAtGoal P m base d c s steps goals goal g → ClauseFor P m k t → slice_get t.literals place ≡ Some p → ((h : Goal) → slice_get goals goal ≡ Some h → atom_at steps h ≡ Some a) → HasClash s a p → IsDead P (c ++ extension_at m (place_of k place) ∷ [])
+pub extension-clashes : (P : Problem) (m : List MatrixClause) (base d : ℕ) (c : List Choice) (s : Store) (steps : List Step) (goals : List Goal) (goal k place : ℕ) (g : CellGoal) (t : Template) (p : PatternAtom) (a : CellAtom) → IsAtGoal P m base d c s steps goals goal g → ClauseFor P m k t → slice_get t.literals place ≡ Some p → ((h : Goal) → slice_get goals goal ≡ Some h → atom_at steps h ≡ Some a) → HasClash s a p → ¬ Grows P (c ++ extension_at m (place_of k place) ∷ [])
 extension-clashes P m base d c s steps goals goal k place g t p a h f there at clash =
     let same : a ≡ g.literal = atom-found steps goals goal g a (goal-here P m base d c s steps goals goal g h) at in
-    refused (no-extension P d c s h.made g h.behind h.every h.depths (selection_of (slice_get m k)) t place h.at.running.state f.template (cannot-extend-by_names s t g.literal p place there (subst (λ x. HasClash s x p) same clash)))
+    no-extension P d c s h.made g h.behind h.every h.depths (selection_of (slice_get m k)) t place h.at.running.state f.template (cannot-extend-by_names s t g.literal p place there (subst (λ x. HasClash s x p) same clash))
 
 -- the other literals, as they were copied
 pub rest-copied : (met new : Store) (t : Template) (place : ℕ) (vs : List ℕ) (clause : CopiedClause) → IsClauseCopy new vs (without_literal place t) clause → IsTrue (clause_fits new clause) → NamesOver vs (length met.cells) (λ base. clause_is_from base clause) → AddsOver vs met new → BuildsWithin (λ g. allows_template g (without_literal place t)) met new → RestCopied met new t place vs clause

@@ -1,10 +1,10 @@
 -- Lists of choices that labels refute: the equations and strings of the tree's system alone, and dropping the list.
-use Rattle.std.proofs.Common.{◌≡◌, ℕ, List, [], ◌∷◌, ◌++◌, Bool, true, IsTrue, refl, sym, ◌∙◌, ap, subst, Option, Some, append-nil, slice_get}
+use Rattle.std.proofs.Common.{◌≡◌, ℕ, List, [], ◌∷◌, ◌++◌, Bool, true, IsTrue, refl, sym, ◌∙◌, ap, subst, Option, Some, append-nil, slice_get, reverse, length, arith}
 use Rattle.std.specs.List.{AllByRecursion, flat_map}
 use Rattle.std.proofs.lemmas.Bool.{and_from}
 use Rattle.calculus.specs.declared.setting.Logic.{Logic}
 use Rattle.calculus.specs.Choices.{Choice}
-use Rattle.calculus.specs.Space.{has_labels}
+use Rattle.calculus.specs.Space.{Member, has_labels}
 use Rattle.store_theory.specs.Stores.{GammaCell, Solution, Solves, Store}
 use Rattle.calculus.specs.Syntax.{Problem}
 use Rattle.store_theory.specs.Systems.{AreEqual, IsStep, NamesItsStrings, Pair, System, cells_of, cells_of_atom, is_system}
@@ -14,8 +14,12 @@ use Rattle.search_theory.proofs.BeginningLaws.{is_not_empty}
 use Rattle.search_theory.proofs.BuildingLaws.{get-kept}
 use Rattle.search_theory.proofs.PruningLaws.{pruned-by_none, search-pruned}
 use Rattle.search_theory.proofs.SolvingLaws.{system-parts}
+use Rattle.connection_search.specs.GivenUp.{HasLost}
+use Rattle.connection_search.proofs.GivenUpLaws.{lost-dropped}
+use Rattle.connection_search.proofs.StandingLaws.{points-goals, stack-cleared, stack-lost}
 use Rattle.connection_search.specs.Exploring.{IsExploring, IsVisiting}
 use Rattle.connection_search.specs.Pruning.{IsPruned, labels_alone}
+use Rattle.connection_search.specs.Seeing.{SeeMore}
 use Rattle.connection_search.specs.Running.{StandsFor}
 use Rattle.connection_search.specs.Trees.{tree_system}
 use Rattle.connection_search.specs.declared.point.Point.{Point}
@@ -47,17 +51,22 @@ tree-pruned P m base d c s steps goals first y l el (cs, x, at) e labels n none 
     let alone = subst (λ (w : System). (σ : Solution) → Solves s σ → AllByRecursion (IsStep P.setting.logic σ) w.strings → ¬ AllByRecursion (AreEqual σ) w.equations) e (subst (λ k. (σ : Solution) → Solves s σ → AllByRecursion (IsStep k σ) y.strings → ¬ AllByRecursion (AreEqual σ) y.equations) el none) in
     pruned-by_none P d c (record { store = s; choices = cs; growth = x }) z labels n at.running.state at.running.system (λ σ h. alone σ h.ground.solves h.steps h.equal)
 
-pub visit-pruned : (P : Problem) (m : List MatrixClause) (base d : ℕ) (s : Store) (steps : List Step) (goals : List Goal) (first : Option ℕ) (points : List Point) (later : List (List Choice)) (begun used : ℕ) (left : Bool) → (v : IsVisiting P m base d s steps goals first points later begun used left) → left ≡ true → IsPruned P d v.choices → IsExploring P m base d s steps goals points later begun used left
-visit-pruned P m base d s steps goals first points later begun used left v known pruned = record {
+-- lists that are given up where it is known that the limit is left
+drop-known : (P : Problem) (d : ℕ) (spent : List Member) (c : List Choice) (ps : List (List Choice)) (l : Bool) → l ≡ true → IsPruned P d c → IsSearch P d spent (c ∷ ps) l → IsSearch P d spent ps l
+drop-known P d spent c ps l e pruned h = subst (IsSearch P d spent ps) (sym e) (search-pruned P d spent c ps (subst (IsSearch P d spent (c ∷ ps)) e h) pruned)
+
+-- by labels
+pub visit-pruned : (P : Problem) (m : List MatrixClause) (base d : ℕ) (s : Store) (steps : List Step) (goals : List Goal) (first : Option ℕ) (points after : List Point) (later : List (List Choice)) (begun used : ℕ) (left : Bool) → (v : IsVisiting P m base d s steps goals first points later begun used left) → left ≡ true → IsPruned P d v.choices → SeeMore 0 points after → IsExploring P m base d s steps goals after later begun used left
+visit-pruned P m base d s steps goals first points after later begun used left v known pruned more = record {
   pending = v.pending;
-  points = v.points;
-  searched = record {
-    spent = v.searched.spent;
-    search = drop left known v.searched.search;
-    from = v.searched.from;
-    count = v.searched.count;
-  };
+  points = stack-cleared P m base d s steps goals points after v.pending more v.points.are;
+  searched = record { spent = v.searched.spent; search = drop-known P d v.searched.spent v.choices (v.pending ++ later) left known pruned v.searched.search; from = v.searched.from; count = v.searched.count };
 }
-  where
-    drop : (l : Bool) → l ≡ true → IsSearch P d v.searched.spent (v.choices ∷ v.pending ++ later) l → IsSearch P d v.searched.spent (v.pending ++ later) l
-    drop l e h = subst (IsSearch P d v.searched.spent (v.pending ++ later)) (sym e) (search-pruned P d v.searched.spent v.choices (v.pending ++ later) (subst (IsSearch P d v.searched.spent (v.choices ∷ v.pending ++ later)) e h) pruned)
+
+-- by a goal that cannot be closed
+pub visit-stuck : (P : Problem) (m : List MatrixClause) (base d : ℕ) (s : Store) (steps : List Step) (goals : List Goal) (first : Option ℕ) (points : List Point) (later : List (List Choice)) (begun used : ℕ) (left : Bool) → (v : IsVisiting P m base d s steps goals first points later begun used left) → left ≡ true → HasLost P d v.choices (length goals) first → IsExploring P m base d s steps goals points later begun used left
+visit-stuck P m base d s steps goals first points later begun used left v known lost = record {
+  pending = v.pending;
+  points = stack-lost P m base d s steps goals v.choices (length goals) first (reverse points) v.pending v.not_empty lost (points-goals P m base d s steps goals (reverse points) v.pending v.points.are) v.seen v.points;
+  searched = record { spent = v.searched.spent; search = drop-known P d v.searched.spent v.choices (v.pending ++ later) left known (lost-dropped P d v.choices (length goals) first v.not_empty lost) v.searched.search; from = v.searched.from; count = v.searched.count };
+}

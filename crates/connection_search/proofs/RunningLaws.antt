@@ -48,6 +48,7 @@ use Rattle.connection_search.specs.OwnStores.{AreOwn}
 use Rattle.connection_search.specs.Running.{IsMatrixOf, IsRunning}
 use Rattle.connection_search.proofs.DistinctStores.{distinct-own, well-ranked}
 use Rattle.connection_search.proofs.KeptLaws.{KeepsSorts, args-from, atom-in, atom-there, atom_in-kept, atoms-equation, atoms-in, choices_in-kept, clause-in, clause-there, goal_in-kept, goals_in-kept, goals_in-on, is_equation_from, label-from, system-added, variables-valued, with_added}
+use Rattle.connection_search.proofs.OpenVariables.{variables-extended, variables-reduced, variables-started}
 use Rattle.connection_search.proofs.OpenStrings.{AreNamed, KeepsCells, cells-built, cells-copied, named-bound, named-built, named-none, named-variables, sorts-both, sorts-of_bound, sorts-of_cells}
 use Rattle.connection_search.proofs.OwnCopies.{Allowed, IsOwnTemplate, allowed-head, allowed-rest, allowed-whole, own-copied, template-own}
 use Rattle.connection_search.proofs.OwnLaws.{own-binds, own-names, own-none}
@@ -84,6 +85,7 @@ running-reduced P base d c old new cs g gs every ds k a y h at sign symbol unifi
   system = system-reduced P d c old new cs g gs every ds k a y (tree-by_state P d c (state_at old cs g gs every ds) h.state) h.system met at (subst (λ z. IsTrue (is_system new z)) (sym same) added.0);
   cells = subst (λ z. IsTrue (list_all (nat_le base) (cells_of z))) (sym same) added.1;
   strings = named-bound base old new y.strings binds h.strings;
+  variables = variables-reduced base old new cs (suc k) binds h.variables;
 }
   where
     met : IsReduced old new g (suc k)
@@ -335,6 +337,7 @@ running-extended P base d c old mid met new cs g gs every ds sides t place vs p 
   system = system-extended P d c old new cs g gs every ds i place b y (string_cells t.sorts vs) clause.gammas clause.pis (tree-by_state P d c (state_at old cs g gs every ds) h.state) h.system (λ σ s. (extended.back σ s).0) meets (inserted-at place b clause.literals (others-room new vs t.literals clause.literals place rest.copy.literals (get-within t.literals place p head.stands))) brings (subst (λ z. IsTrue (is_system new z)) (sym same) added.0);
   cells = subst (λ z. IsTrue (list_all (nat_le base) (cells_of z))) (sym same) added.1;
   strings = stage.named;
+  variables = variables-extended base old mid met new cs t.sorts i place head.variables head.built meet.binds rest.adds.built h.variables;
 }
   where
     i : CellClause
@@ -424,6 +427,7 @@ running-started P d old new sides t vs clause w template own shown copied well =
   system = system-started P d (start sides ∷ []) new i (string_cells t.sorts vs) clause.gammas clause.pis (tree-by_state P d (start sides ∷ []) (start_state new i) state) brings (subst (λ z. IsTrue (is_system new z)) (sym same) added.0);
   cells = subst (λ z. IsTrue (list_all (nat_le base) (cells_of z))) (sym same) added.1;
   strings = named-built base (with_variables_of t.sorts old) new (string_cells t.sorts vs) copied.built (named-variables base t.sorts old [] vs copied.variables (named-none old));
+  variables = variables-started old new t.sorts i copied.variables copied.built;
 }
   where
     base : ℕ

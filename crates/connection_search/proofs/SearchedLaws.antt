@@ -39,7 +39,7 @@ searched-dead P d p later begun used left n dead h = record { spent = h.spent; s
 
 -- the list of a start comes first, where its tree stands
 pub visiting-first : (P : Problem) (m : List MatrixClause) (base d : ℕ) (c : List Choice) (s : Store) (steps : List Step) (goals : List Goal) (first : Option ℕ) (later : List (List Choice)) (begun used : ℕ) (left : Bool) → IsTrue (is_not_empty c) → StandsFor P m base d c s steps goals first → IsSearched P d (c ∷ later) begun used left → IsVisiting P m base d s steps goals first [] later begun used left
-visiting-first P m base d c s steps goals first later begun used left n h k = record { choices = c; stands = h; not_empty = n; pending = []; points = refl; searched = k }
+visiting-first P m base d c s steps goals first later begun used left n h k = record { choices = c; stands = h; not_empty = n; pending = []; points = record { are = refl; solved = tt }; seen = tt; searched = k }
 
 -- no point is there
 pub visiting-none : (P : Problem) (m : List MatrixClause) (base d : ℕ) (s : Store) (steps : List Step) (goals : List Goal) (first : Option ℕ) (points : List Point) (later : List (List Choice)) (begun used : ℕ) (left : Bool) → points ≡ [] → IsVisiting P m base d s steps goals first [] later begun used left → IsVisiting P m base d s steps goals first points later begun used left

@@ -94,11 +94,11 @@ new-all s steps goals first i h l P base xs g c q =
     let n = goals-length steps goals goals xs g in
     h P base xs g c q (subst (AllByRecursion (IsNewGoal s)) (sym (drop-end xs i (omega (arith, n, l)))) tt)
 
-pub repeated-at : (s : Store) (steps : List Step) (goals : List Goal) (i : ℕ) → i < length goals → ((x : CellGoal) → IsGoalAt steps goals i x → IsRepeated s x) → (xs : List CellGoal) → AreGoals steps goals goals xs → AnyRepeated s xs
-repeated-at s steps goals i l repeated xs g =
+pub repeated-at : (s : Store) (steps : List Step) (goals : List Goal) (n i : ℕ) → n ≤ i → i < length goals → ((x : CellGoal) → IsGoalAt steps goals i x → IsRepeated s x) → (xs : List CellGoal) → AreGoals steps goals goals xs → AnyRepeated s n xs
+repeated-at s steps goals n i m l repeated xs g =
     let (k, at) = item-there goals i l in
     let (x, on, is) = goal-at steps goals xs i k g at in
-    (i, x, on, repeated x is)
+    (i, x, m, on, repeated x is)
 
 -- what is_new asks for
 pub goal-wanted : (steps : List Step) (goals : List Goal) (n i : ℕ) (xs : List CellGoal) → AreGoals steps goals goals xs → IsTrue (list_all (goal_is_below n) xs) → i < length goals → (x : CellGoal) × IsGoalAt steps goals i x × IsTrue (goal_is_below n x)

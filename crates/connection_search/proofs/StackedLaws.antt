@@ -42,7 +42,7 @@ point-kept P m base d s t steps after goals all p c untried g marks kept h =
       choices = untried-moved m d (take p.steps steps) (take p.steps after) (take p.goals goals) (take p.goals all) p g untried es eg h.choices;
     }
 
-pub points-kept : (P : Problem) (m : List MatrixClause) (base d : ℕ) (s t : Store) (steps after : List Step) (goals all : List Goal) (points : List Point) (pending : List (List Choice)) → KeepsMarks s t → KeepsTree steps goals after all → ArePointsFrom P m base d s steps goals points pending → ArePointsFrom P m base d t after all points pending
+unfoldable pub points-kept : (P : Problem) (m : List MatrixClause) (base d : ℕ) (s t : Store) (steps after : List Step) (goals all : List Goal) (points : List Point) (pending : List (List Choice)) → KeepsMarks s t → KeepsTree steps goals after all → ArePointsFrom P m base d s steps goals points pending → ArePointsFrom P m base d t after all points pending
 points-kept P m base d s t steps after goals all [] pending marks kept h = h
 points-kept P m base d s t steps after goals all (p ∷ points) pending marks kept (c, untried, g, below, e, h, before, rest) = (c, untried, g, below, e, point-kept P m base d s t steps after goals all p c untried g marks kept h, before, points-kept P m base d s t steps after goals all points below marks kept rest)
 
@@ -63,7 +63,7 @@ point-back P m base d s steps goals p q c untried g b h =
       choices = untried-moved m d (take q.steps steps) (take q.steps (take p.steps steps)) (take q.goals goals) (take q.goals (take p.goals goals)) q g untried es eg h.choices;
     }
 
-pub points-back : (P : Problem) (m : List MatrixClause) (base d : ℕ) (s : Store) (steps : List Step) (goals : List Goal) (p : Point) (points : List Point) (pending : List (List Choice)) → AllByRecursion (IsBefore p) points → ArePointsFrom P m base d s steps goals points pending → ArePointsFrom P m base d (cut_at (the_mark p.mark) s) (take p.steps steps) (take p.goals goals) points pending
+unfoldable pub points-back : (P : Problem) (m : List MatrixClause) (base d : ℕ) (s : Store) (steps : List Step) (goals : List Goal) (p : Point) (points : List Point) (pending : List (List Choice)) → AllByRecursion (IsBefore p) points → ArePointsFrom P m base d s steps goals points pending → ArePointsFrom P m base d (cut_at (the_mark p.mark) s) (take p.steps steps) (take p.goals goals) points pending
 points-back P m base d s steps goals p [] pending b h = h
 points-back P m base d s steps goals p (q ∷ points) pending b (c, untried, g, below, e, h, before, rest) = (c, untried, g, below, e, point-back P m base d s steps goals p q c untried g b.0 h, before, points-back P m base d s steps goals p points below b.1 rest)
 
@@ -101,11 +101,11 @@ pub all-pushed : {A : Type 0} (Q : A → Type 0) (xs : List A) (x : A) → AllBy
 all-pushed Q [] x h k = (k, tt)
 all-pushed Q (y ∷ xs) x h k = (h.0, all-pushed Q xs x h.1 k)
 
--- the points with the last one at its next choice
-pub above-next : (k : TrailMark) (points : List Point) (p q : Point) → IsSamePoint p q → AreAbove k (points ++ p ∷ []) → AreAbove k (points ++ q ∷ [])
-above-next k points p q same h =
+-- another point of the same moment in place of the last one
+pub above-marked : (k : TrailMark) (points : List Point) (p q : Point) → q.mark ≡ p.mark → AreAbove k (points ++ p ∷ []) → AreAbove k (points ++ q ∷ [])
+above-marked k points p q same h =
     let (rest, last) = all-end (λ (x : Point). IsEarlier k (the_mark x.mark)) points p h in
-    all-pushed (λ (x : Point). IsEarlier k (the_mark x.mark)) points q rest (subst (IsEarlier k) (sym (ap the_mark same.mark)) last)
+    all-pushed (λ (x : Point). IsEarlier k (the_mark x.mark)) points q rest (subst (IsEarlier k) (sym (ap the_mark same)) last)
 
 pub above-rest : (k : TrailMark) (points : List Point) (p : Point) → AreAbove k (points ++ p ∷ []) → AreAbove k points
 above-rest k points p h = (all-end (λ (x : Point). IsEarlier k (the_mark x.mark)) points p h).0

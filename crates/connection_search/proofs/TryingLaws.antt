@@ -1,13 +1,13 @@
 -- The next choice of the last point: back at the point, its choice, and what comes of it.
-use Rattle.std.proofs.Common.{◌≡◌, ◌⊎◌, ◌+◌, ◌-◌, ◌*◌, ◌<◌, ◌≤◌, ℕ, suc, Bool, true, List, [], ◌∷◌, ◌++◌, Option, None, Some, MatchOption, IsTrue, reverse, sum_by, take, refl, sym, ◌∙◌, ap, subst, arith, append_assoc, inl, inr}
+use Rattle.std.proofs.Common.{◌≡◌, ◌⊎◌, ◌+◌, ◌-◌, ◌*◌, ◌<◌, ◌≤◌, ℕ, suc, Bool, true, List, [], ◌∷◌, ◌++◌, Option, None, Some, MatchOption, IsTrue, reverse, sum_by, take, refl, sym, ◌∙◌, ap, subst, arith, append_assoc, inl, inr, length}
 use Rattle.std.proofs.Math.Nat.{mul-le-mul_right}
 use Rattle.std.specs.Bool.{⊤}
 use Rattle.std.specs.List.{AllByRecursion}
-use Rattle.std.proofs.lemmas.List.{reverse-append}
+use Rattle.std.proofs.lemmas.List.{length-append, reverse-append}
 use Rattle.std.proofs.lemmas.List.Sums.{sum_by-append}
 use Rattle.store_theory.specs.Bindings.{KeepsMarks}
 use Rattle.calculus.specs.Choices.{Choice}
-use Rattle.store_theory.specs.Stores.{IsGood, Store, cut_at}
+use Rattle.store_theory.specs.Stores.{IsGood, Store, TrailMark, cut_at}
 use Rattle.calculus.specs.Syntax.{Problem}
 use Rattle.store_theory.proofs.StoreLaws.{take-less}
 use Rattle.search_theory.specs.Exploring.{behind}
@@ -18,12 +18,17 @@ use Rattle.search_theory.proofs.SearchSteps.{search-dead}
 use Rattle.term_store.specs.Room.{KeepsRoom, TermStore}
 use Rattle.term_store.specs.StoreView.{the_mark}
 use Rattle.connection_search.specs.Ahead.{IsNextLeft}
-use Rattle.connection_search.specs.Pruning.{IsPruned}
-use Rattle.connection_search.specs.Exploring.{ArePointsFrom, ArePushed, IfOn, IsBefore, IsExploring, IsSearched, IsVisiting}
+use Rattle.connection_search.specs.Exploring.{AreAbove, ArePointsFrom, ArePushed, IfOn, IsBefore, IsExploring, IsSearched, IsSpentAt, IsStack, IsVisiting, choice_point, traced}
+use Rattle.connection_search.specs.GivenUp.{IsGivenUp}
+use Rattle.connection_search.specs.Seeing.{SeeMore, HasSeen, no_goal, seeing, seen_after}
+use Rattle.connection_search.specs.declared.tree.Tree.{Tree}
+use Rattle.search_theory.specs.Jumps.{AreSolvedBehind, ChoicePoint, StandsAtPoint}
+use Rattle.search_theory.proofs.JumpLaws.{solved-tried}
+use Rattle.connection_search.proofs.StandingLaws.{HasGoals, goals-all, last-of, length-take, points-goals, seen-made, solved-near, stack-cleared, stack-kept, stack-lost, stack-refused, stack-seeing, stands-all, stands-steps, traced-back}
 use Rattle.connection_search.specs.Points.{HasUntried, IsMoveAt, IsPoint, IsSamePoint, the_move}
 use Rattle.connection_search.specs.Running.{IsAtGoal, IsMatrixOf, StandsFor}
 use Rattle.connection_search.specs.Trees.{KeepsTree}
-use Rattle.connection_search.specs.Weights.{greatest_weight, weight, work_left}
+use Rattle.connection_search.specs.Weights.{greatest_weight, weight, weight_of_all, work_left}
 use Rattle.connection_search.specs.declared.exploring.Visit.{Visit}
 use Rattle.connection_search.specs.declared.exploring.Visit.TheVariants as visit
 use Rattle.connection_search.specs.declared.point.Move.{Move}
@@ -32,7 +37,7 @@ use Rattle.connection_search.specs.declared.tree.Goal.{Goal}
 use Rattle.connection_search.specs.declared.tree.Step.{Step}
 use Rattle.connection_search.proofs.AheadLaws.{passed-over}
 use Rattle.connection_search.proofs.DeadLaws.{live-not_empty, search-dead_behind}
-use Rattle.connection_search.proofs.StackedLaws.{before-same, mark-itself, point-back, point-next, points-back, points-kept, untried-moved}
+use Rattle.connection_search.proofs.StackedLaws.{above-marked, before-same, mark-itself, point-back, point-next, points-back, untried-moved}
 use Rattle.connection_search.proofs.SpentLaws.{stands-live}
 use Rattle.connection_search.proofs.VisitLaws.{exploring-moved}
 
@@ -51,14 +56,15 @@ pub record IsBackAt (P : Problem) (m : List MatrixClause) (base d : ℕ) (s : St
   pub point : IsPoint P m base d s steps goals p choices untried goal
   pub before : AllByRecursion (IsBefore p) points
   pub rest : ArePointsFrom P m base d s steps goals points below
+  pub solved : AreSolvedBehind P d no_goal [] (choice_point p choices untried ∷ traced P m base d s steps goals points below rest)
   pub searched : IsSearched P d (behind choices untried ++ (below ++ later)) begun used left
 
 back-moved : (P : Problem) (m : List MatrixClause) (base d : ℕ) (s t : Store) (steps after : List Step) (goals all : List Goal) (p : Point) (points : List Point) (later : List (List Choice)) (begun used : ℕ) (left : Bool) → t ≡ s → after ≡ steps → all ≡ goals → IsBackAt P m base d s steps goals p points later begun used left → IsBackAt P m base d t after all p points later begun used left
 back-moved P m base d s t steps after goals all p points later begun used left es ea eb h = rw (es, ea, eb) h
 
 -- of the points, the last one first
-last-first : (P : Problem) (m : List MatrixClause) (base d : ℕ) (s : Store) (steps : List Step) (goals : List Goal) (p : Point) (points : List Point) (pending later : List (List Choice)) (begun used : ℕ) (left : Bool) → ArePointsFrom P m base d s steps goals (p ∷ points) pending → IsSearched P d (pending ++ later) begun used left → IsBackAt P m base d (cut_at (the_mark p.mark) s) (take p.steps steps) (take p.goals goals) p points later begun used left
-last-first P m base d s steps goals p points pending later begun used left (c, untried, g, below, e, h, before, rest) searched =
+last-first : (P : Problem) (m : List MatrixClause) (base d : ℕ) (s : Store) (steps : List Step) (goals : List Goal) (p : Point) (points : List Point) (pending later : List (List Choice)) (begun used : ℕ) (left : Bool) → (h : ArePointsFrom P m base d s steps goals (p ∷ points) pending) → AreSolvedBehind P d no_goal [] (traced P m base d s steps goals (p ∷ points) pending h) → IsSearched P d (pending ++ later) begun used left → IsBackAt P m base d (cut_at (the_mark p.mark) s) (take p.steps steps) (take p.goals goals) p points later begun used left
+last-first P m base d s steps goals p points pending later begun used left (c, untried, g, below, e, h, before, rest) solved searched =
     let itself : IsBefore p p = record { marks = mark-itself (the_mark p.mark); steps = omega arith; goals = omega arith } in
     record {
       choices = c;
@@ -72,27 +78,42 @@ last-first P m base d s steps goals p points pending later begun used left (c, u
       point = point-back P m base d s steps goals p p c untried g itself h;
       before = before;
       rest = points-back P m base d s steps goals p points below before rest;
+      solved = subst (λ qs. AreSolvedBehind P d no_goal [] (choice_point p c untried ∷ qs)) (sym (traced-back P m base d s steps goals p points below before rest)) solved;
       searched = subst (λ xs. IsSearched P d xs begun used left) (ap (λ xs. xs ++ later) e ∙ append_assoc (behind c untried) below later) searched;
     }
 
 pub back-at : (P : Problem) (m : List MatrixClause) (base d : ℕ) (s t : Store) (steps after : List Step) (goals all : List Goal) (points : List Point) (p : Point) (later : List (List Choice)) (begun used : ℕ) (left : Bool) → IsExploring P m base d s steps goals (points ++ p ∷ []) later begun used left → t ≡ cut_at (the_mark p.mark) s → after ≡ take p.steps steps → all ≡ take p.goals goals → IsBackAt P m base d t after all p (reverse points) later begun used left
 back-at P m base d s t steps after goals all points p later begun used left h es ea eb =
     back-moved P m base d (cut_at (the_mark p.mark) s) t (take p.steps steps) after (take p.goals goals) all p (reverse points) later begun used left es ea eb
-    (last-first P m base d s steps goals p (reverse points) h.pending later begun used left (subst (λ ps. ArePointsFrom P m base d s steps goals ps h.pending) (reverse-append points (p ∷ [])) h.points) h.searched)
+    (let k = subst (λ ps. IsStack P m base d s steps goals [] ps h.pending) (reverse-append points (p ∷ [])) h.points in
+    last-first P m base d s steps goals p (reverse points) h.pending later begun used left k.are k.solved h.searched)
 
 -- the last point's mark is good
 pub last-good : (P : Problem) (m : List MatrixClause) (base d : ℕ) (s : Store) (steps : List Step) (goals : List Goal) (points : List Point) (p : Point) (later : List (List Choice)) (begun used : ℕ) (left : Bool) → IsExploring P m base d s steps goals (points ++ p ∷ []) later begun used left → IsGood (the_mark p.mark) s
-last-good P m base d s steps goals points p later begun used left h = by (subst (λ ps. ArePointsFrom P m base d s steps goals ps h.pending) (reverse-append points (p ∷ [])) h.points)
+last-good P m base d s steps goals points p later begun used left h = by (subst (λ ps. IsStack P m base d s steps goals [] ps h.pending) (reverse-append points (p ∷ [])) h.points).are
   where
     by : ArePointsFrom P m base d s steps goals (p ∷ reverse points) h.pending → IsGood (the_mark p.mark) s
     by (c, untried, g, below, e, k, before, rest) = k.good
 
+-- the point with the others, whatever it has left to try
+points-all : (P : Problem) (m : List MatrixClause) (base d : ℕ) (s : Store) (steps : List Step) (goals : List Goal) (p : Point) (points : List Point) (later : List (List Choice)) (begun used : ℕ) (left : Bool) → (h : IsBackAt P m base d s steps goals p points later begun used left) → (xs : List Choice) → AllByRecursion (StandsAtPoint P d) (choice_point p h.choices xs ∷ traced P m base d s steps goals points h.below h.rest) × AllByRecursion (HasGoals (length goals)) (choice_point p h.choices xs ∷ traced P m base d s steps goals points h.below h.rest)
+points-all P m base d s steps goals p points later begun used left h xs =
+    let are : ArePointsFrom P m base d s steps goals (p ∷ points) (behind h.choices h.untried ++ h.below) = (h.choices, h.untried, h.goal, h.below, refl, h.point, h.before, h.rest) in
+    let stand = stands-all P m base d s steps goals (p ∷ points) (behind h.choices h.untried ++ h.below) are in
+    let many = goals-all P m base d s steps goals (p ∷ points) (behind h.choices h.untried ++ h.below) are in
+    ((record { state = stand.0.state; is_state = stand.0.is_state; goals = stand.0.goals }, stand.1), ((many.0.0, many.0.1), many.1))
+
 -- no choice is left, but for those that were passed over
-pub none-left : (P : Problem) (m : List MatrixClause) (base d : ℕ) (s : Store) (steps : List Step) (goals : List Goal) (points : List Point) (p : Point) (later : List (List Choice)) (begun used : ℕ) (left : Bool) → (h : IsBackAt P m base d s steps goals p (reverse points) later begun used left) → (passed : List Choice) → AllByRecursion (λ x. IsPruned P d (h.choices ++ x ∷ [])) passed → (passed ≡ []) ⊎ (left ≡ true) → h.untried ≡ passed ++ [] → IsExploring P m base d s steps goals points later begun used left
-none-left P m base d s steps goals points p later begun used left h passed pruned known e = record {
-  pending = h.below;
-  points = h.rest;
-  searched = passed-over P d h.choices passed [] h.untried (h.below ++ later) begun used left pruned known e h.searched;
+pub none-left : (P : Problem) (m : List MatrixClause) (base d : ℕ) (s : Store) (steps : List Step) (goals : List Goal) (points : List Point) (p : Point) (later : List (List Choice)) (begun used : ℕ) (left : Bool) → IsMatrixOf P m → (h : IsBackAt P m base d s steps goals p points later begun used left) → (after : Point) → IsNextLeft P m d h.choices steps goals after h.goal h.untried left None → IsSpentAt P m base d s steps goals p points later begun used left
+none-left P m base d s steps goals points p later begun used left tm h after n = record {
+  choices = h.choices;
+  goal = h.goal;
+  below = h.below;
+  at = h.at;
+  before = h.before;
+  rest = h.rest;
+  solved = solved-near P m base d h.choices s steps goals p.goal h.goal p n.passed [] (traced P m base d s steps goals points h.below h.rest) tm h.at n.near n.hopeless (points-all P m base d s steps goals p points later begun used left h) (subst (λ xs. AreSolvedBehind P d no_goal [] (choice_point p h.choices xs ∷ traced P m base d s steps goals points h.below h.rest)) n.next h.solved);
+  searched = passed-over P d h.choices n.passed [] h.untried (h.below ++ later) begun used left n.pruned n.known n.next h.searched;
 }
 
 -- the tree is that of a state whose leftmost open goal is the point's
@@ -100,12 +121,12 @@ pub stands-back : (P : Problem) (m : List MatrixClause) (base d : ℕ) (s : Stor
 stands-back P m base d s steps goals first p points later begun used left e h = subst (StandsFor P m base d h.choices s steps goals) (sym e) (h.at.made, record { open_goals = h.goal ∷ h.at.behind; all_goals = h.at.every; depths = h.at.depths }, h.at.at)
 
 -- the tree is irregular
-pub dead-left : (P : Problem) (m : List MatrixClause) (base d : ℕ) (s : Store) (steps : List Step) (goals : List Goal) (first : Option ℕ) (points : List Point) (p : Point) (later : List (List Choice)) (begun used : ℕ) (left : Bool) → first ≡ Some p.goal → (h : IsBackAt P m base d s steps goals p (reverse points) later begun used left) → IsDead P h.choices → IsExploring P m base d s steps goals points later begun used left
-dead-left P m base d s steps goals first points p later begun used left e h dead =
+pub dead-left : (P : Problem) (m : List MatrixClause) (base d : ℕ) (s : Store) (steps : List Step) (goals : List Goal) (first : Option ℕ) (points others : List Point) (p : Point) (later : List (List Choice)) (begun used : ℕ) (left : Bool) → first ≡ Some p.goal → (h : IsBackAt P m base d s steps goals p (reverse points) later begun used left) → SeeMore 0 points others → IsDead P h.choices → IsExploring P m base d s steps goals others later begun used left
+dead-left P m base d s steps goals first points others p later begun used left e h more dead =
     let live = stands-live P m base d h.choices s steps goals first (stands-back P m base d s steps goals first p (reverse points) later begun used left e h) in
     record {
       pending = h.below;
-      points = h.rest;
+      points = stack-cleared P m base d s steps goals points others h.below more h.rest;
       searched = record {
         spent = h.searched.spent;
         search = search-dead_behind P d h.searched.spent h.choices h.untried (h.below ++ later) left (live-not_empty P d h.choices live) dead h.searched.search;
@@ -123,7 +144,7 @@ pub record IsTrying (P : Problem) (m : List MatrixClause) (base d : ℕ) (s : St
   pub at : IsAtGoal P m base d choices s steps goals goal at_goal
   pub move : IsMoveAt m d steps goals at_goal choice
   pub pending : List (List Choice)
-  pub points : ArePointsFrom P m base d s steps goals stack pending
+  pub points : IsStack P m base d s steps goals ((choices ++ the_move m choice ∷ []) ∷ []) stack pending
   pub searched : IsSearched P d ((choices ++ the_move m choice ∷ []) ∷ pending ++ later) begun used left
 
 -- what the next choice says
@@ -139,19 +160,26 @@ pub lighter-some : (before after : Point) (o : Option Move) (choice : Move) → 
 lighter-some before after None choice h e = let z : None ≡ Some choice = e in absurd (cc z)
 lighter-some before after (Some x) choice h e = h
 
+same-choice_point : (p q : Point) (c xs : List Choice) → IsSamePoint p q → choice_point p c xs ≡ choice_point q c xs
+same-choice_point p q c xs same = λ i. record { list = c; goals = sym same.goals i; lowest = sym same.lowest i; pending = behind c xs }
+
 -- the point q has some choices fewer to try than p, and takes its place
-pub next-tried : (P : Problem) (m : List MatrixClause) (base d : ℕ) (s : Store) (steps : List Step) (goals : List Goal) (points stack : List Point) (p q : Point) (later : List (List Choice)) (begun used : ℕ) (left : Bool) (choice : Move) → stack ≡ points ++ q ∷ [] → IsSamePoint p q → (h : IsBackAt P m base d s steps goals p (reverse points) later begun used left) → IsNextLeft P m d h.choices steps goals q h.goal h.untried left (Some choice) → IsTrying P m base d s steps goals (reverse stack) later begun used left q.goal choice
-next-tried P m base d s steps goals points stack p q later begun used left choice is same h n =
+pub next-tried : (P : Problem) (m : List MatrixClause) (base d : ℕ) (s : Store) (steps : List Step) (goals : List Goal) (points : List Point) (p q : Point) (later : List (List Choice)) (begun used : ℕ) (left : Bool) (choice : Move) → IsMatrixOf P m → IsSamePoint p q → (h : IsBackAt P m base d s steps goals p points later begun used left) → IsNextLeft P m d h.choices steps goals q h.goal h.untried left (Some choice) → IsTrying P m base d s steps goals (q ∷ points) later begun used left q.goal choice
+next-tried P m base d s steps goals points p q later begun used left choice tm same h n =
     let (move, (rest, e, has)) = n.next in
     let left_over : HasUntried m d (take p.steps steps) (take p.goals goals) q h.goal rest = untried-moved m d steps (take p.steps steps) goals (take p.goals goals) q h.goal rest h.whole_steps h.whole_goals has in
-    let stacked : ArePointsFrom P m base d s steps goals (q ∷ reverse points) (behind h.choices rest ++ h.below) = (h.choices, rest, h.goal, h.below, refl, point-next P m base d s steps goals p q h.choices h.untried rest h.goal h.point same left_over, before-same p q (reverse points) same h.before, h.rest) in
+    let qs = traced P m base d s steps goals points h.below h.rest in
+    let solved = solved-near P m base d h.choices s steps goals p.goal h.goal p n.passed (the_move m choice ∷ rest) qs tm h.at n.near n.hopeless (points-all P m base d s steps goals p points later begun used left h) (subst (λ xs. AreSolvedBehind P d no_goal [] (choice_point p h.choices xs ∷ qs)) e h.solved) in
     record {
       choices = h.choices;
       at_goal = h.goal;
       at = subst (λ n. IsAtGoal P m base d h.choices s steps goals n h.goal) (sym same.goal) h.at;
       move = move;
       pending = behind h.choices rest ++ h.below;
-      points = subst (λ ps. ArePointsFrom P m base d s steps goals ps (behind h.choices rest ++ h.below)) (sym (ap reverse is ∙ reverse-append points (q ∷ []))) stacked;
+      points = record {
+        are = (h.choices, rest, h.goal, h.below, refl, point-next P m base d s steps goals p q h.choices h.untried rest h.goal h.point same left_over, before-same p q points same h.before, h.rest);
+        solved = subst (λ (x : ChoicePoint). AreSolvedBehind P d no_goal ((h.choices ++ the_move m choice ∷ []) ∷ []) (x ∷ qs)) (same-choice_point p q h.choices rest same) (solved-tried P d no_goal (choice_point p h.choices (the_move m choice ∷ rest)) (h.choices ++ the_move m choice ∷ []) (behind h.choices rest) qs refl solved);
+      };
       searched = subst (λ xs. IsSearched P d xs begun used left) (ap (λ xs. (h.choices ++ the_move m choice ∷ []) ∷ xs) (sym (append_assoc (behind h.choices rest) h.below later))) (passed-over P d h.choices n.passed (the_move m choice ∷ rest) h.untried (h.below ++ later) begun used left n.pruned n.known e h.searched);
     }
 
@@ -160,35 +188,61 @@ abbrev pub NextAt : List MatrixClause → ℕ → Problem → List Step → List
 NextAt m d P steps goals p q left o = (base : ℕ) (c : List Choice) (s : Store) (g : CellGoal) (untried : List Choice) → IsMatrixOf P m → IsAtGoal P m base d c s steps goals p.goal g → HasUntried m d steps goals p g untried → IsNextLeft P m d c steps goals q g untried left o
 
 -- the same from the points before
-pub tried-at : (P : Problem) (m : List MatrixClause) (base d : ℕ) (s t : Store) (steps after : List Step) (goals all : List Goal) (points stack : List Point) (p q : Point) (later : List (List Choice)) (begun used : ℕ) (left : Bool) (o : Option Move) (choice : Move) → t ≡ cut_at (the_mark p.mark) s → after ≡ take p.steps steps → all ≡ take p.goals goals → stack ≡ points ++ q ∷ [] → IsSamePoint p q → IsMatrixOf P m → NextAt m d P after all p q left o → o ≡ Some choice → IsExploring P m base d s steps goals (points ++ p ∷ []) later begun used left → IsTrying P m base d t after all (reverse stack) later begun used left q.goal choice
-tried-at P m base d s t steps after goals all points stack p q later begun used left o choice es ea eb is same tm next some h =
+pub tried-at : (P : Problem) (m : List MatrixClause) (base d : ℕ) (s t : Store) (steps after : List Step) (goals all : List Goal) (points : List Point) (p q : Point) (later : List (List Choice)) (begun used : ℕ) (left : Bool) (o : Option Move) (choice : Move) → t ≡ cut_at (the_mark p.mark) s → after ≡ take p.steps steps → all ≡ take p.goals goals → IsSamePoint p q → IsMatrixOf P m → NextAt m d P after all p q left o → o ≡ Some choice → IsExploring P m base d s steps goals (points ++ p ∷ []) later begun used left → IsTrying P m base d t after all (q ∷ reverse points) later begun used left q.goal choice
+tried-at P m base d s t steps after goals all points p q later begun used left o choice es ea eb same tm next some h =
     let b = back-at P m base d s t steps after goals all points p later begun used left h es ea eb in
-    next-tried P m base d t after all points stack p q later begun used left choice is same b
+    next-tried P m base d t after all (reverse points) p q later begun used left choice tm same b
     (subst (IsNextLeft P m d b.choices after all q b.goal b.untried left) some (next base b.choices t b.goal b.untried tm b.at b.has))
 
 -- no choice is left
-pub none-at : (P : Problem) (m : List MatrixClause) (base d : ℕ) (s t : Store) (steps after : List Step) (goals all : List Goal) (points : List Point) (p q : Point) (later : List (List Choice)) (begun used : ℕ) (left : Bool) (o : Option Move) → t ≡ cut_at (the_mark p.mark) s → after ≡ take p.steps steps → all ≡ take p.goals goals → IsMatrixOf P m → NextAt m d P after all p q left o → o ≡ None → IsExploring P m base d s steps goals (points ++ p ∷ []) later begun used left → IsExploring P m base d t after all points later begun used left
+pub none-at : (P : Problem) (m : List MatrixClause) (base d : ℕ) (s t : Store) (steps after : List Step) (goals all : List Goal) (points : List Point) (p q : Point) (later : List (List Choice)) (begun used : ℕ) (left : Bool) (o : Option Move) → t ≡ cut_at (the_mark p.mark) s → after ≡ take p.steps steps → all ≡ take p.goals goals → IsMatrixOf P m → NextAt m d P after all p q left o → o ≡ None → IsExploring P m base d s steps goals (points ++ p ∷ []) later begun used left → IsSpentAt P m base d t after all p (reverse points) later begun used left
 none-at P m base d s t steps after goals all points p q later begun used left o es ea eb tm next none h =
     let b = back-at P m base d s t steps after goals all points p later begun used left h es ea eb in
-    let n = subst (IsNextLeft P m d b.choices after all q b.goal b.untried left) none (next base b.choices t b.goal b.untried tm b.at b.has) in
-    none-left P m base d t after all points p later begun used left b n.passed n.pruned n.known n.next
+    none-left P m base d t after all (reverse points) p later begun used left tm b q (subst (IsNextLeft P m d b.choices after all q b.goal b.untried left) none (next base b.choices t b.goal b.untried tm b.at b.has))
 
 -- the tree is irregular
-pub dead-at : (P : Problem) (m : List MatrixClause) (base d : ℕ) (s t : Store) (steps after now : List Step) (goals all these : List Goal) (first : Option ℕ) (points : List Point) (p : Point) (later : List (List Choice)) (begun used : ℕ) (left : Bool) → t ≡ cut_at (the_mark p.mark) s → after ≡ take p.steps steps → all ≡ take p.goals goals → first ≡ Some p.goal → now ≡ after → these ≡ all → ((P : Problem) (m : List MatrixClause) (base d : ℕ) (c : List Choice) → StandsFor P m base d c t after all first → IsDead P c) → IsExploring P m base d s steps goals (points ++ p ∷ []) later begun used left → IsExploring P m base d t now these points later begun used left
-dead-at P m base d s t steps after now goals all these first points p later begun used left es ea eb ef en et dead h =
+pub dead-at : (P : Problem) (m : List MatrixClause) (base d : ℕ) (s t : Store) (steps after now : List Step) (goals all these : List Goal) (first : Option ℕ) (points others : List Point) (p : Point) (later : List (List Choice)) (begun used : ℕ) (left : Bool) → t ≡ cut_at (the_mark p.mark) s → after ≡ take p.steps steps → all ≡ take p.goals goals → first ≡ Some p.goal → now ≡ after → these ≡ all → SeeMore 0 points others → ((P : Problem) (m : List MatrixClause) (base d : ℕ) (c : List Choice) → StandsFor P m base d c t after all first → IsDead P c) → IsExploring P m base d s steps goals (points ++ p ∷ []) later begun used left → IsExploring P m base d t now these others later begun used left
+dead-at P m base d s t steps after now goals all these first points others p later begun used left es ea eb ef en et more dead h =
     let b = back-at P m base d s t steps after goals all points p later begun used left h es ea eb in
-    exploring-moved P m base d t t after now all these points later begun used left refl en et
-    (dead-left P m base d t after all first points p later begun used left ef b (dead P m base d b.choices (stands-back P m base d t after all first p (reverse points) later begun used left ef b)))
+    exploring-moved P m base d t t after now all these others later begun used left refl en et
+    (dead-left P m base d t after all first points others p later begun used left ef b more (dead P m base d b.choices (stands-back P m base d t after all first p (reverse points) later begun used left ef b)))
 
 not-empty : (c : List Choice) (x : Choice) → IsTrue (is_not_empty (c ++ x ∷ []))
 not-empty [] x = refl
 not-empty (y ∷ c) x = refl
 
+-- the last point first, with what it has seen
+abbrev pub IsPushed : ℕ → Point → List Point → List Point → Type 0
+IsPushed n q points after = after ≡ points ++ seeing n q ∷ []
+
+pub is-pushed : (n k : ℕ) (q r : Point) (points after : List Point) → after ≡ points ++ r ∷ [] → r ≡ seeing k q → k ≡ n → IsPushed n q points after
+is-pushed n k q r points after e same number = e ∙ ap (λ x. points ++ x ∷ []) (same ∙ ap (λ i. seeing i q) number)
+
+pub lighter-seen : (p q r : Point) (n : ℕ) → r ≡ seeing n q → weight q < weight p → weight r < weight p
+lighter-seen p q r n e l = subst (λ x. weight x < weight p) (sym e) l
+
+-- the point has the number of the choices that were made
+pub steps-here : (P : Problem) (m : List MatrixClause) (base d : ℕ) (s t : Store) (steps after : List Step) (goals all : List Goal) (points : List Point) (p q : Point) (later : List (List Choice)) (begun used : ℕ) (left : Bool) → t ≡ cut_at (the_mark p.mark) s → after ≡ take p.steps steps → all ≡ take p.goals goals → IsSamePoint p q → IsExploring P m base d s steps goals (points ++ p ∷ []) later begun used left → q.steps ≡ length after
+steps-here P m base d s t steps after goals all points p q later begun used left es ea eb same h =
+    let b = back-at P m base d s t steps after goals all points p later begun used left h es ea eb in
+    same.steps ∙ sym (length-take p.steps after b.point.steps_within) ∙ ap length b.whole_steps
+
+reverse-pushed : (n : ℕ) (q : Point) (points after : List Point) → IsPushed n q points after → reverse after ≡ seeing n q ∷ reverse points
+reverse-pushed n q points after e = ap reverse e ∙ reverse-append points (seeing n q ∷ [])
+
+-- how many choices were made at the point
+steps-at : (P : Problem) (m : List MatrixClause) (base d : ℕ) (s t : Store) (steps after : List Step) (goals all : List Goal) (first : Option ℕ) (goal before : ℕ) (g : CellGoal) (c : List Choice) (x : Choice) → IsAtGoal P m base d c s steps goals goal g → before ≡ length steps → StandsFor P m base d (c ++ x ∷ []) t after all first → before < length after
+steps-at P m base d s t steps after goals all first goal before g c x at e stands =
+    let old = stands-steps P m base d c s steps goals (Some goal) (at.made, record { open_goals = g ∷ at.behind; all_goals = at.every; depths = at.depths }, at.at) in
+    let new = stands-steps P m base d (c ++ x ∷ []) t after all first stands in
+    let long = length-append c (x ∷ []) in
+    omega (arith, old, new, long, e)
+
 -- the choice cannot be made
-pub trying-refused : (P : Problem) (m : List MatrixClause) (base d : ℕ) (s t : Store) (steps after : List Step) (goals all : List Goal) (points : List Point) (later : List (List Choice)) (begun used : ℕ) (left : Bool) (goal : ℕ) (choice : Move) → (h : IsTrying P m base d s steps goals (reverse points) later begun used left goal choice) → KeepsMarks s t → KeepsTree steps goals after all → IsDead P (h.choices ++ the_move m choice ∷ []) → IsExploring P m base d t after all points later begun used left
-trying-refused P m base d s t steps after goals all points later begun used left goal choice h marks kept dead = record {
+pub trying-refused : (P : Problem) (m : List MatrixClause) (base d : ℕ) (s : Store) (t : TermStore) (steps : List Step) (goals : List Goal) (tree : Tree) (points after : List Point) (q : Point) (later : List (List Choice)) (begun used : ℕ) (left : Bool) (choice : Move) → (h : IsTrying P m base d s steps goals (q ∷ reverse points) later begun used left q.goal choice) → KeepsMarks s t.store → KeepsTree steps goals tree.steps.items tree.goals.items → IsDead P (h.choices ++ the_move m choice ∷ []) → IsGivenUp P m base d (h.choices ++ the_move m choice ∷ []) (length goals) t tree → q.steps ≡ length steps → IsPushed (seen_after q.steps (length tree.steps.items) tree.open) q points after → IsExploring P m base d t.store tree.steps.items tree.goals.items after later begun used left
+trying-refused P m base d s t steps goals tree points after q later begun used left choice h marks kept dead given count pushed = record {
   pending = h.pending;
-  points = points-kept P m base d s t steps after goals all (reverse points) h.pending marks kept h.points;
+  points = subst (λ ps. IsStack P m base d t.store tree.steps.items tree.goals.items [] ps h.pending) (sym (reverse-pushed (seen_after q.steps (length tree.steps.items) tree.open) q points after pushed)) (by given);
   searched = record {
     spent = h.searched.spent;
     search = search-dead P d h.searched.spent (h.choices ++ the_move m choice ∷ []) (h.pending ++ later) left h.searched.search (not-empty h.choices (the_move m choice)) dead;
@@ -196,23 +250,43 @@ trying-refused P m base d s t steps after goals all points later begun used left
     count = h.searched.count;
   };
 }
+  where
+    c : List Choice
+    c = h.choices ++ the_move m choice ∷ []
+
+    n : ℕ
+    n = seen_after q.steps (length tree.steps.items) tree.open
+
+    seen : IsStack P m base d t.store tree.steps.items tree.goals.items (c ∷ []) (seeing n q ∷ reverse points) h.pending
+    seen = stack-seeing P m base d t.store tree.steps.items tree.goals.items (c ∷ []) n q (reverse points) h.pending (stack-kept P m base d s t.store steps tree.steps.items goals tree.goals.items (c ∷ []) (q ∷ reverse points) h.pending marks kept h.points)
+
+    by : IsGivenUp P m base d c (length goals) t tree → IsStack P m base d t.store tree.steps.items tree.goals.items [] (seeing n q ∷ reverse points) h.pending
+    by (inl none) = stack-refused P m base d t.store tree.steps.items tree.goals.items c (seeing n q ∷ reverse points) h.pending (not-empty h.choices (the_move m choice)) none seen
+    by (inr (stands, lost)) =
+        let made = steps-at P m base d s t.store steps tree.steps.items goals tree.goals.items tree.open q.goal q.steps h.at_goal h.choices (the_move m choice) h.at count stands in
+        stack-lost P m base d t.store tree.steps.items tree.goals.items c (length goals) tree.open (seeing n q ∷ reverse points) h.pending (not-empty h.choices (the_move m choice)) lost (points-goals P m base d s steps goals (q ∷ reverse points) h.pending h.points.are) (seen-made q.steps (length tree.steps.items) tree.open q (reverse points) made) seen
 
 -- it was made
-pub trying-made : (P : Problem) (m : List MatrixClause) (base d : ℕ) (s t : Store) (steps after : List Step) (goals all : List Goal) (first : Option ℕ) (points : List Point) (later : List (List Choice)) (begun used : ℕ) (left : Bool) (goal : ℕ) (choice : Move) → (h : IsTrying P m base d s steps goals (reverse points) later begun used left goal choice) → KeepsMarks s t → KeepsTree steps goals after all → StandsFor P m base d (h.choices ++ the_move m choice ∷ []) t after all first → IsVisiting P m base d t after all first points later begun used left
-trying-made P m base d s t steps after goals all first points later begun used left goal choice h marks kept stands = record {
+pub trying-made : (P : Problem) (m : List MatrixClause) (base d : ℕ) (s t : Store) (steps after : List Step) (goals all : List Goal) (first : Option ℕ) (points pushed : List Point) (q : Point) (later : List (List Choice)) (begun used : ℕ) (left : Bool) (choice : Move) → (h : IsTrying P m base d s steps goals (q ∷ reverse points) later begun used left q.goal choice) → KeepsMarks s t → KeepsTree steps goals after all → StandsFor P m base d (h.choices ++ the_move m choice ∷ []) t after all first → q.steps ≡ length steps → IsPushed (seen_after q.steps (length after) first) q points pushed → IsVisiting P m base d t after all first pushed later begun used left
+trying-made P m base d s t steps after goals all first points pushed q later begun used left choice h marks kept stands count is = record {
   choices = h.choices ++ the_move m choice ∷ [];
   stands = stands;
   not_empty = not-empty h.choices (the_move m choice);
   pending = h.pending;
-  points = points-kept P m base d s t steps after goals all (reverse points) h.pending marks kept h.points;
+  points = subst (λ ps. IsStack P m base d t after all ((h.choices ++ the_move m choice ∷ []) ∷ []) ps h.pending) (sym number)
+      (stack-seeing P m base d t after all ((h.choices ++ the_move m choice ∷ []) ∷ []) (seen_after q.steps (length after) first) q (reverse points) h.pending (stack-kept P m base d s t steps after goals all ((h.choices ++ the_move m choice ∷ []) ∷ []) (q ∷ reverse points) h.pending marks kept h.points));
+  seen = subst (HasSeen first) (sym number) (seen-made q.steps (length after) first q (reverse points) (steps-at P m base d s t steps after goals all first q.goal q.steps h.at_goal h.choices (the_move m choice) h.at count stands));
   searched = h.searched;
 }
+  where
+    number : reverse pushed ≡ seeing (seen_after q.steps (length after) first) q ∷ reverse points
+    number = reverse-pushed (seen_after q.steps (length after) first) q points pushed is
 
 -- ---- nothing is left on the stack
 
 pub explored-all : (P : Problem) (m : List MatrixClause) (base d : ℕ) (s : Store) (steps : List Step) (goals : List Goal) (points : List Point) (later : List (List Choice)) (begun used : ℕ) (left : Bool) → IsExploring P m base d s steps goals points later begun used left → points ≡ [] → IsSearched P d later begun used left
 explored-all P m base d s steps goals points later begun used left h e =
-    let none : h.pending ≡ [] = subst (λ ps. ArePointsFrom P m base d s steps goals (reverse ps) h.pending) e h.points in
+    let none : h.pending ≡ [] = (subst (λ ps. IsStack P m base d s steps goals [] (reverse ps) h.pending) e h.points).are in
     subst (λ xs. IsSearched P d (xs ++ later) begun used left) none h.searched
 
 -- ---- what is left to do falls
@@ -260,11 +334,36 @@ used-falls budget used after xs ys l falls = by ((budget - after) * (greatest_we
     by : (x y w n : ℕ) → x ≤ y → y + w < n → x + w < n
     by x y w n l f = omega (arith, l, f)
 
+-- the last point is dropped, and no more is left to try at the others
+pub fewer-falls : (budget used : ℕ) (points after : List Point) (p : Point) → weight_of_all after ≤ weight_of_all points → work_left budget used after < work_left budget used (points ++ p ∷ [])
+fewer-falls budget used points after p l = by ((budget - used) * (greatest_weight + 1)) (sum_by weight after) (sum_by weight points) (work_left budget used (points ++ p ∷ [])) l (dropped-falls budget used points p)
+  where
+    by : (a n k m : ℕ) → n ≤ k → a + k < m → a + n < m
+    by a n k m l f = omega (arith, l, f)
+
 pub visit-falls : (budget used after_used : ℕ) (points before after : List Point) (p q : Point) → ArePushed before after used after_used → before ≡ points ++ q ∷ [] → after_used ≤ budget → weight q < weight p → work_left budget after_used after < work_left budget used (points ++ p ∷ [])
 visit-falls budget used after_used points before after p q h e l less = elim h [
-  | inl (same, more) ↦ subst (λ ps. work_left budget after_used ps < work_left budget used (points ++ p ∷ [])) (sym (same ∙ e)) (used-falls budget used after_used (points ++ q ∷ []) (points ++ p ∷ []) more (next-falls budget used points p q less))
+  | inl (light, more) ↦ used-falls budget used after_used after (points ++ p ∷ []) more (by ((budget - used) * (greatest_weight + 1)) (sum_by weight after) (sum_by weight before) (sum_by weight (points ++ q ∷ [])) (work_left budget used (points ++ p ∷ [])) light (ap weight_of_all e) (next-falls budget used points p q less))
   | inr (new, pushed, one, light) ↦ subst (λ u. work_left budget u after < work_left budget used (points ++ p ∷ [])) (sym one) (subst (λ ps. work_left budget (used + 1) ps < work_left budget used (points ++ p ∷ [])) (sym (pushed ∙ ap (λ ps. ps ++ new ∷ []) e)) (pushed-falls budget used points p q new (omega (arith, l, one)) less light))
 ]
+  where
+    by : (a n k j m : ℕ) → n ≤ k → k ≡ j → a + j < m → a + n < m
+    by a n k j m l e f = omega (arith, l, e, f)
+
+-- what the last point has seen changes neither what is left to try nor the moments of the points
+pub seen-weight : (n : ℕ) (before after : List Point) → SeeMore n before after → weight_of_all after ≤ weight_of_all before
+seen-weight n before after more = let e = by (last-of before) in omega (arith, e)
+  where
+    by : (before ≡ []) ⊎ ((ys : List Point) × (y : Point) × (before ≡ ys ++ y ∷ [])) → weight_of_all after ≡ weight_of_all before
+    by (inl e) = ap weight_of_all (more.none e ∙ sym e)
+    by (inr (ys, y, e)) = ap weight_of_all (more.last ys y e) ∙ weights-end ys (seeing n y) ∙ sym (ap weight_of_all e ∙ weights-end ys y)
+
+pub above-seen : (k : TrailMark) (n : ℕ) (before after : List Point) → SeeMore n before after → AreAbove k before → AreAbove k after
+above-seen k n before after more h = by (last-of before)
+  where
+    by : (before ≡ []) ⊎ ((ys : List Point) × (y : Point) × (before ≡ ys ++ y ∷ [])) → AreAbove k after
+    by (inl e) = subst (AreAbove k) (sym (more.none e)) tt
+    by (inr (ys, y, e)) = subst (AreAbove k) (sym (more.last ys y e)) (above-marked k ys y (seeing n y) refl (subst (AreAbove k) e h))
 
 -- ---- what a visit comes to
 

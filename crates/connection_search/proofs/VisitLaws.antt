@@ -1,5 +1,5 @@
 -- What a visit of the next pending list comes to.
-use Rattle.std.proofs.Common.{◌≡◌, ◌⊎◌, ◌↔◌, if◌then◌else◌, ◌+◌, ◌<◌, ◌≤◌, ℕ, zero, suc, List, [], ◌∷◌, ◌++◌, length, reverse, take, Bool, true, false, IsTrue, refl, sym, ◌∙◌, ap, subst, Option, Some, arith, append_assoc, inl, inr}
+use Rattle.std.proofs.Common.{◌≡◌, ◌⊎◌, ◌↔◌, if◌then◌else◌, ◌+◌, ◌<◌, ◌≤◌, ℕ, zero, suc, List, [], ◌∷◌, ◌++◌, length, reverse, take, Bool, true, false, IsTrue, refl, sym, ◌∙◌, ap, subst, Option, Some, arith, append_assoc, inl, inr, None}
 use Rattle.std.specs.List.{AllByRecursion}
 use Rattle.std.proofs.lemmas.Bool.{false≢true}
 use Rattle.std.proofs.lemmas.List.{length-append, reverse-append}
@@ -17,7 +17,9 @@ use Rattle.search_theory.specs.States.{CellGoal}
 use Rattle.search_theory.proofs.BeginningLaws.{IsDead}
 use Rattle.search_theory.proofs.SearchSteps.{search-dead, search-left, search-visit}
 use Rattle.term_store.specs.StoreView.{the_mark}
-use Rattle.connection_search.specs.Exploring.{AreAbove, ArePointsFrom, IsBefore, IsExploring, IsSearched, IsSpace, IsVisiting}
+use Rattle.connection_search.specs.Seeing.{HasSeen, no_goal}
+use Rattle.connection_search.proofs.StandingLaws.{stack-forgotten, stack-pushed}
+use Rattle.connection_search.specs.Exploring.{IsStack, AreAbove, ArePointsFrom, IsBefore, IsExploring, IsSearched, IsSpace, IsVisiting}
 use Rattle.connection_search.specs.Points.{IsHere, IsPoint}
 use Rattle.connection_search.specs.Running.{IsAt, IsAtGoal, IsLeftFound, StandsFor}
 use Rattle.connection_search.specs.declared.point.Point.{Point}
@@ -55,10 +57,10 @@ goal-of P m base d c s steps goals first goal (cs, x, at) e =
 
 -- ---- a goal is the same as one above it
 
-pub visit-dead : (P : Problem) (m : List MatrixClause) (base d : ℕ) (s : Store) (steps : List Step) (goals : List Goal) (first : Option ℕ) (points : List Point) (later : List (List Choice)) (begun used : ℕ) (left : Bool) → (v : IsVisiting P m base d s steps goals first points later begun used left) → IsDead P v.choices → IsExploring P m base d s steps goals points later begun used left
-visit-dead P m base d s steps goals first points later begun used left v dead = record {
+pub visit-dead : (P : Problem) (m : List MatrixClause) (base d : ℕ) (s : Store) (steps : List Step) (goals : List Goal) (first : Option ℕ) (points : List Point) (later : List (List Choice)) (begun used : ℕ) (left : Bool) → (v : IsVisiting P m base d s steps goals first points later begun used left) → first ≡ None → IsDead P v.choices → IsExploring P m base d s steps goals points later begun used left
+visit-dead P m base d s steps goals first points later begun used left v none dead = record {
   pending = v.pending;
-  points = v.points;
+  points = stack-forgotten P m base d s steps goals (reverse points) v.pending (subst (λ k. HasSeen k (reverse points)) none v.seen) v.points.are;
   searched = record {
     spent = v.searched.spent;
     search = search-dead P d v.searched.spent v.choices (v.pending ++ later) left v.searched.search v.not_empty dead;
@@ -96,14 +98,14 @@ searched-left P d c g pending begun used known true h k = elim (known-left P d c
 searched-left P d c g pending begun used known false h k = subst (IsSearched P d pending begun used) (h.unknown refl) k
 
 -- the goal's choices come next
-pub visit-goal : (P : Problem) (m : List MatrixClause) (base d : ℕ) (s : Store) (steps : List Step) (goals : List Goal) (first : Option ℕ) (points : List Point) (later : List (List Choice)) (begun used after : ℕ) (known left : Bool) (goal : ℕ) (g : CellGoal) (p : Point) → IsSpace P m d → (v : IsVisiting P m base d s steps goals first points later begun used known) → IsAtGoal P m base d v.choices s steps goals goal g → IsLeftFound P d v.choices g known left → IsPoint P m base d s steps goals p v.choices (choices_at m d g) g → IsHere p s steps goals (Some goal) → after ≡ used + 1 → IsExploring P m base d s steps goals (points ++ p ∷ []) later begun after left
-visit-goal P m base d s steps goals first points later begun used after known left goal g p space v at found point here k =
+pub visit-goal : (P : Problem) (m : List MatrixClause) (base d : ℕ) (s : Store) (steps : List Step) (goals : List Goal) (first : Option ℕ) (points : List Point) (later : List (List Choice)) (begun used after : ℕ) (known left : Bool) (goal : ℕ) (g : CellGoal) (p : Point) → IsSpace P m d → (v : IsVisiting P m base d s steps goals first points later begun used known) → IsAtGoal P m base d v.choices s steps goals goal g → IsLeftFound P d v.choices g known left → IsPoint P m base d s steps goals p v.choices (choices_at m d g) g → IsHere p s steps goals (Some goal) → p.lowest ≡ no_goal → first ≡ Some goal → after ≡ used + 1 → IsExploring P m base d s steps goals (points ++ p ∷ []) later begun after left
+visit-goal P m base d s steps goals first points later begun used after known left goal g p space v at found point here fresh leftmost k =
     let n = searched-left P d v.choices g (v.choices ∷ v.pending ++ later) begun used known left found v.searched in
     let visited = search-visit P m d n.spent v.choices (v.pending ++ later) left s at.made g at.behind at.every at.depths space.matrix.matrix space.from_one n.search v.not_empty at.at.running.state (stands-live P m base d v.choices s steps goals first v.stands) found.dead in
     record {
       pending = behind v.choices (choices_at m d g) ++ v.pending;
-      points = subst (λ ps. ArePointsFrom P m base d s steps goals ps (behind v.choices (choices_at m d g) ++ v.pending)) (sym (reverse-append points (p ∷ [])))
-          (v.choices, choices_at m d g, g, v.pending, refl, point, points-before P m base d s steps goals (Some goal) p (reverse points) v.pending here v.points, v.points);
+      points = subst (λ ps. IsStack P m base d s steps goals [] ps (behind v.choices (choices_at m d g) ++ v.pending)) (sym (reverse-append points (p ∷ [])))
+          (stack-pushed P m base d s steps goals goal g p v.choices (reverse points) v.pending space v.not_empty at (subst (λ k. HasSeen k (reverse points)) leftmost v.seen) point here fresh (points-before P m base d s steps goals (Some goal) p (reverse points) v.pending here v.points.are) v.points);
       searched = record {
         spent = n.spent ++ with_choices d v.choices ∷ [];
         search = subst (λ ps. IsSearch P d (n.spent ++ with_choices d v.choices ∷ []) ps left) (sym (append_assoc (behind v.choices (choices_at m d g)) v.pending later)) visited;

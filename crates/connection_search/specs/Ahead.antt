@@ -8,6 +8,7 @@ use Rattle.matrix_build.specs.MatrixView.{the_place}
 use Rattle.search_theory.specs.Ahead.{HasNoReduction, IsHopelessAt}
 use Rattle.search_theory.specs.Exploring.{IsIn}
 use Rattle.search_theory.specs.Matrix.{MatrixClause, MatrixPlace, places}
+use Rattle.search_theory.specs.OrderedChoices.{extension_at}
 use Rattle.search_theory.specs.States.{CellGoal}
 use Rattle.store_theory.specs.Stores.{Store}
 use Rattle.connection_search.specs.Points.{HasUntried, IsMoveAt, the_move}
@@ -37,5 +38,7 @@ IsHopelessMove m g (Extend place) = IsHopelessAt m (the_place place) g
 pub record IsNextLeft (P : Problem) (m : List MatrixClause) (d : ℕ) (c : List Choice) (steps : List Step) (goals : List Goal) (after : Point) (g : CellGoal) (untried : List Choice) (left : Bool) (o : Option Move) : Type 0 where
   pub passed : List Choice
   pub pruned : AllByRecursion (λ x. IsPruned P d (c ++ x ∷ [])) passed
+  pub hopeless : AllByRecursion (λ x. (p : MatrixPlace) × (x ≡ extension_at m p) × IsHopelessAt m p g) passed
+  pub near : (passed ≡ []) ⊎ (d ≤ length g.path + 1)
   pub known : (passed ≡ []) ⊎ (left ≡ true)
   pub next : MatchOption o (untried ≡ passed ++ []) (λ x. IsMoveAt m d steps goals g x × ((rest : List Choice) × (untried ≡ passed ++ the_move m x ∷ rest) × HasUntried m d steps goals after g rest))

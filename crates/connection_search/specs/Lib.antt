@@ -15,8 +15,13 @@ pub mod Outcomes
 -- states
 pub mod OwnStores
 pub mod Running
+-- lists that are given up because of one goal
+pub mod GivenUp
 -- choice points
 pub mod Points
+pub mod Seeing
+pub mod Binding
+pub mod Looking
 pub mod Weights
 -- the loop
 pub mod Exploring
@@ -24,6 +29,8 @@ pub mod Exploring
 pub mod Cutting
 -- what contracts say of the moments of both
 pub mod Moments
+-- going back over points
+pub mod GoingBack
 -- its answers
 pub mod CutOutcomes
 -- the choices of a tree and of a tableau

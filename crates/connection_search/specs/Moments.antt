@@ -1,5 +1,5 @@
 -- The moments of a search, and what one moment says of another. Contracts name the program's values once for each moment.
-use Rattle.std.specs.Prelude.{ℕ, List, [], ◌∷◌, Bool, Option, slice_get}
+use Rattle.std.specs.Prelude.{ℕ, List, [], ◌∷◌, Bool, Option, reverse, slice_get}
 use Rattle.calculus.specs.Choices.{Choice, start}
 use Rattle.calculus.specs.declared.sign.Side.{Side}
 use Rattle.cop_base.specs.declared.ledger.Ledger.{Ledger}
@@ -7,7 +7,7 @@ use Rattle.search_theory.specs.OrderedChoices.{selection_of}
 use Rattle.store_theory.specs.Stores.{Store}
 use Rattle.term_store.specs.Room.{TermStore}
 use Rattle.connection_search.specs.Cutting.{IsCountedAt, IsCutEnd, IsCutExploring, IsCutFailed, IsCutVisiting, IsPassing}
-use Rattle.connection_search.specs.Exploring.{IsCounted, IsEnd, IsExploring, IsSearched, IsSpace, IsVisiting}
+use Rattle.connection_search.specs.Exploring.{IsCounted, IsEnd, IsExploring, IsSearched, IsSpace, IsSpentAt, IsVisiting}
 use Rattle.connection_search.specs.declared.exploring.Visit.{Visit}
 use Rattle.connection_search.specs.declared.moves.Work.{Work}
 use Rattle.connection_search.specs.declared.point.Point.{Point}
@@ -50,6 +50,10 @@ VisitingAt m x base later begun = IsVisiting x.problem.now x.matrix.now base x.l
 -- what is pending on the points comes next
 abbrev pub ExploringAt : Moment → Space → ℕ → List (List Choice) → ℕ → Type 0
 ExploringAt m x base later begun = IsExploring x.problem.now x.matrix.now base x.limit m.store m.steps m.goals m.points later begun m.used m.left
+
+-- all choices of this point, which is the last one no more, were tried: what is pending on the points comes next
+abbrev pub SpentAt : Moment → Point → Space → ℕ → List (List Choice) → ℕ → Type 0
+SpentAt m p x base later begun = IsSpentAt x.problem.now x.matrix.now base x.limit m.store m.steps m.goals p (reverse m.points) later begun m.used m.left
 
 -- the later lists come next
 abbrev pub SearchedAt : Moment → Space → ℕ → List (List Choice) → ℕ → Type 0

@@ -57,6 +57,7 @@ pub record IsSamePoint (before after : Point) : Type 0 where
   pub goals : after.goals ≡ before.goals
   pub goal : after.goal ≡ before.goal
   pub depth : after.depth ≡ before.depth
+  pub lowest : after.lowest ≡ before.lowest
 
 -- the point is this moment
 pub record IsHere (p : Point) (s : Store) (steps : List Step) (goals : List Goal) (first : Option ℕ) : Type 0 where

@@ -12,6 +12,7 @@ use Rattle.calculus.specs.Syntax.{Problem}
 use Rattle.store_theory.specs.Systems.{CellAtom, IsOpenString, System, cells_of}
 use Rattle.search_theory.proofs.BeginningLaws.{IsDead}
 use Rattle.search_theory.specs.Goals.{IsChoiceAt}
+use Rattle.search_theory.specs.Jumps.{NamesVariables}
 use Rattle.search_theory.specs.Matrix.{IsTemplateMatrix, MatrixClause, MatrixPlace}
 use Rattle.search_theory.specs.Regular.{HasNoSamePair}
 use Rattle.search_theory.proofs.LabelledEnd.{IsChoiceIn}
@@ -41,6 +42,7 @@ pub record IsRunning (P : Problem) (base d : ℕ) (c : List Choice) (S : State) 
   pub system : IsSystemOf P S y
   pub cells : IsTrue (list_all (nat_le base) (cells_of y))
   pub strings : NamesStringsFrom base S.store y
+  pub variables : NamesVariables base S.store S.choices
 
 -- the program's store and tree stand for such a state
 pub record IsAt (P : Problem) (m : List MatrixClause) (base d : ℕ) (c : List Choice) (s : Store) (steps : List Step) (goals : List Goal) (first : Option ℕ) (cs : List CellChoice) (x : CellGrowth) : Type 0 where

@@ -9,15 +9,14 @@ ghost use Rattle.calculus.specs.Choices.{Choice};
 ghost use Rattle.calculus.specs.Kinds as kinds;
 ghost use Rattle.calculus.specs.Syntax.{Problem};
 ghost use Rattle.matrix_build.specs.MatrixView.{the_place};
-ghost use Rattle.search_theory.proofs.BeginningLaws.{is_not_empty};
 ghost use Rattle.search_theory.specs.Ahead.{HasNoReduction, IsApart, IsHopelessAt, MarksPath};
 ghost use Rattle.search_theory.specs.Ahead as marking;
 ghost use Rattle.search_theory.specs.States.{CellGoal, atom_is_below, goal_is_below};
 ghost use Rattle.store_theory.specs.Stores as stores;
 ghost use Rattle.term_store.specs.ClauseView.{the_atom, the_pattern_atom};
+ghost use Rattle.connection_search.specs.GivenUp.{HasLost};
 ghost use Rattle.connection_search.specs.Ahead.{HasNoHope, IsHopelessMove, IsLost, IsNextLeft};
 ghost use Rattle.connection_search.specs.Points.{HasUntried, IsMoveAt, IsSamePoint};
-ghost use Rattle.connection_search.specs.Pruning.{IsPruned};
 ghost use Rattle.connection_search.specs.Running.{IsAtGoal, IsMatrixOf, TreeStands};
 ghost use Rattle.connection_search.specs.Trees.{IsGoalAt};
 ghost use Rattle.connection_search.specs.Weights.{weight};
@@ -250,25 +249,27 @@ impl Space<'_> {
         requires { (base : ℕ) × (c : List Choice)
             × TreeStands self.now.problem.now self.now.matrix.now base self.now.limit c store.now
             tree.now }
-        ensures { result ≡ true → (base : ℕ) (c : List Choice)
+        ensures { result ≡ true → (base n : ℕ) (c : List Choice)
             → IsMatrixOf self.now.problem.now self.now.matrix.now
             → TreeStands self.now.problem.now self.now.matrix.now base self.now.limit c store.now
-            tree.now → IsTrue (is_not_empty c) → IsPruned self.now.problem.now self.now.limit c }
+            tree.now → HasLost self.now.problem.now self.now.limit c n tree.now.open }
     {
+        let first = match tree.open {
+            None => return false,
+            Some(leftmost) => leftmost,
+        };
         let mut next = tree.open;
-        let mut depth = 0;
         for _i in 0..tree.goals.len() {
             match next {
                 None => return false,
                 Some(goal) => {
                     let at = tree.goals[goal];
-                    if at.depth < depth {
+                    if goal < first {
                         return false;
                     }
                     if self.is_lost(store, tree, goal) {
                         return true;
                     }
-                    depth = at.depth;
                     next = at.behind;
                 }
             }

@@ -11,6 +11,7 @@ ghost use Rattle.connection_search.specs.Weights.{work_left};
 
 use crate::moves::Work;
 use crate::point::Point;
+use crate::seeing::{lower, seen};
 use crate::space::Space;
 use cop_base::{Ledger, NoMemory};
 use tableau_core::Tableau;
@@ -105,7 +106,11 @@ impl Space<'_> {
         ensures marks { KeepsMarks store.old.store store.new.store }
         ensures room { KeepsRoom store.old store.new }
     {
-        if self.is_pruned(store, work, *left)? {
+        if self.is_stuck_early(store, work, *left) {
+            return Ok(Visit::On);
+        }
+        if self.is_refuted_early(store, work, *left)? {
+            lower(points, 0);
             return Ok(Visit::On);
         }
         let visit = self.take_up(ledger, store, work, points, left)?;
@@ -152,15 +157,24 @@ impl Space<'_> {
     {
         last.return_to(store, &mut work.tree);
         if work.is_found_irregular(store)? {
+            lower(points, 0);
             return Ok(Visit::On);
         }
         let mut point = last;
         let choice = match self.next_choice(&work.tree, &mut point, *left)? {
             Some(choice) => choice,
-            None => return Ok(Visit::On),
+            None => {
+                self.jump(store, work, points, last, *left)?;
+                return Ok(Visit::On);
+            }
         };
+        work.look.count();
+        let made = work.make(store, self.matrix, point.goal, choice)?;
+        let steps = point.steps;
+        let first = seen(&work.tree, steps);
+        point.see(first);
         points.push(point)?;
-        if !work.make(store, self.matrix, point.goal, choice)? {
+        if !made {
             return Ok(Visit::On);
         }
         let visit = self.visit(ledger, store, work, points, left)?;

@@ -13,6 +13,7 @@ ghost use Rattle.search_theory.specs.Regular.{HasNoSamePair};
 ghost use Rattle.search_theory.specs.OrderedChoices.{extension_at, selection_of};
 ghost use Rattle.search_theory.specs.States.{CellChoice, CellGoal, CellGrowth};
 ghost use Rattle.term_store.specs.Room.{KeepsRoom};
+ghost use Rattle.connection_search.specs.GivenUp.{HasLost, IsGivenUp};
 ghost use Rattle.connection_search.specs.Points.{IsMoveAt, the_move};
 ghost use Rattle.connection_search.specs.Running.{ExtendsBy, GoalStands, IsAt, IsMatrixOf};
 ghost use Rattle.connection_search.specs.Running.{ReducesBy, TreeStands, TreeStandsDeep};
@@ -20,6 +21,7 @@ ghost use Rattle.connection_search.specs.Trees.{KeepsTree};
 
 use crate::atoms::unify_all;
 use crate::heads::has_clash;
+use crate::jumping::Look;
 use crate::occurrences::Occurrences;
 use crate::point::Move;
 use crate::pruning::Tests;
@@ -42,6 +44,7 @@ pub(crate) struct Work {
     pub unifier: Unifier,
     pub tests: Tests,
     occurrences: Occurrences,
+    pub look: Look,
     // How many choices were tried since the last look at all goals ended.
     tried: usize,
     // How many goals this look has found new. Going back takes bindings away, so they stay new.
@@ -59,6 +62,7 @@ impl Work {
             unifier: Unifier::new(alloc),
             tests: Tests::new(),
             occurrences: Occurrences::new(alloc),
+            look: Look::new(alloc),
             tried: 0,
             seen: 0,
         }
@@ -111,6 +115,12 @@ impl Work {
             → GoalStands P m base d c store.old self.old.tree goal g
             → ReducesBy self.old.tree.steps.items self.old.tree.goals.items g up ancestor
             → IsDead P (c ++ reduction up ∷ [])) }
+        ensures given_up { IfOk result (λ made. made ≡ false
+            → (P : Problem) (m : List MatrixClause) (base d : ℕ) (c : List Choice) (g : CellGoal)
+            → GoalStands P m base d c store.old self.old.tree goal g
+            → ReducesBy self.old.tree.steps.items self.old.tree.goals.items g up ancestor
+            → IsGivenUp P m base d (c ++ reduction up ∷ []) (length self.old.tree.goals.items)
+            store.new self.new.tree) }
         ensures kept { OnOk result (KeepsTree self.old.tree.steps.items self.old.tree.goals.items
             self.new.tree.steps.items self.new.tree.goals.items) }
         ensures marks { KeepsMarks store.old.store store.new.store }
@@ -156,6 +166,12 @@ impl Work {
             → GoalStands P matrix.now base d c store.old self.old.tree goal g
             → ExtendsBy matrix.now d g (the_place place)
             → IsDead P (c ++ extension_at matrix.now (the_place place) ∷ [])) }
+        ensures given_up { IfOk result (λ made. made ≡ false
+            → (P : Problem) (base d : ℕ) (c : List Choice) (g : CellGoal) → IsMatrixOf P matrix.now
+            → GoalStands P matrix.now base d c store.old self.old.tree goal g
+            → ExtendsBy matrix.now d g (the_place place)
+            → IsGivenUp P matrix.now base d (c ++ extension_at matrix.now (the_place place) ∷ []) (length self.old.tree.goals.items)
+            store.new self.new.tree) }
         ensures kept { OnOk result (KeepsTree self.old.tree.steps.items self.old.tree.goals.items
             self.new.tree.steps.items self.new.tree.goals.items) }
         ensures marks { KeepsMarks store.old.store store.new.store }
@@ -194,6 +210,10 @@ impl Work {
         ensures repeated { IfOk result (λ new. new ≡ false
             → (P : Problem) (m : List MatrixClause) (base d : ℕ) (c : List Choice)
             → TreeStands P m base d c store.now self.old.tree → IsDead P c) }
+        ensures lost { IfOk result (λ new. new ≡ false
+            → (P : Problem) (m : List MatrixClause) (base d n : ℕ) (c : List Choice)
+            → TreeStands P m base d c store.now self.old.tree
+            → HasLost P d c n self.old.tree.open) }
         ensures tree { self.new.tree ≡ self.old.tree }
     {
         match self.tree.open {
@@ -219,6 +239,10 @@ impl Work {
         ensures repeated { IfOk result (λ new. new ≡ false
             → (P : Problem) (m : List MatrixClause) (base d : ℕ) (c : List Choice)
             → TreeStands P m base d c store.now self.old.tree → IsDead P c) }
+        ensures lost { IfOk result (λ new. new ≡ false
+            → (P : Problem) (m : List MatrixClause) (base d : ℕ) (c : List Choice)
+            → TreeStands P m base d c store.now self.old.tree
+            → HasLost P d c first self.old.tree.open) }
         ensures tree { self.new.tree ≡ self.old.tree }
     {
         if first < self.tree.goals.len() {
@@ -255,6 +279,12 @@ impl Work {
             → GoalStands P matrix.now base d c store.old self.old.tree goal g
             → IsMoveAt matrix.now d self.old.tree.steps.items self.old.tree.goals.items g choice
             → IsDead P (c ++ the_move matrix.now choice ∷ [])) }
+        ensures given_up { IfOk result (λ made. made ≡ false
+            → (P : Problem) (base d : ℕ) (c : List Choice) (g : CellGoal) → IsMatrixOf P matrix.now
+            → GoalStands P matrix.now base d c store.old self.old.tree goal g
+            → IsMoveAt matrix.now d self.old.tree.steps.items self.old.tree.goals.items g choice
+            → IsGivenUp P matrix.now base d (c ++ the_move matrix.now choice ∷ []) (length self.old.tree.goals.items)
+            store.new self.new.tree) }
         ensures kept { OnOk result (KeepsTree self.old.tree.steps.items self.old.tree.goals.items
             self.new.tree.steps.items self.new.tree.goals.items) }
         ensures marks { KeepsMarks store.old.store store.new.store }

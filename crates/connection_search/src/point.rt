@@ -17,6 +17,7 @@ ghost use Rattle.connection_search.specs.Weights.{greatest_weight, weight};
 ghost use Rattle.connection_search.specs.Points.{HasExtensions, HasUntried, IsHere, IsMoveAt};
 ghost use Rattle.connection_search.specs.Points.{IsNextAncestor, IsPoint, IsSamePoint, the_move};
 ghost use Rattle.connection_search.specs.Running.{ExtendsBy, GoalStands};
+ghost use Rattle.connection_search.specs.Seeing.{no_goal, seeing};
 ghost use Rattle.connection_search.specs.Trees.{IsGoalAt, IsPath};
 
 use crate::atoms::{meets, other};
@@ -48,6 +49,9 @@ pub(crate) struct Point {
     up: u32,
     next: usize,
     end: usize,
+    /// The lowest number of a goal that was the leftmost open one since then, or 0 where that does
+    /// not matter any more. The goal was not solved since then where `goals` is not above it.
+    pub lowest: usize,
 }
 
 // As many places as there are, where the path may grow.
@@ -101,6 +105,7 @@ impl Point {
         ensures here { IsHere result store.now.store tree.now.steps.items tree.now.goals.items (Some goal) }
         ensures goal { result.goal ≡ goal }
         ensures light { weight result ≤ greatest_weight }
+        ensures lowest { result.lowest ≡ no_goal }
     {
         let at = tree.goals[goal];
         let atom = tree.atom(goal);
@@ -119,6 +124,16 @@ impl Point {
             up: 0,
             next: 0,
             end,
+            lowest: usize::MAX,
+        }
+    }
+
+    /// Keeps in mind that a goal of this number was the leftmost open one.
+    pub fn see(&mut self, goal: usize)
+        ensures { self.new ≡ seeing goal self.old }
+    {
+        if goal < self.lowest {
+            self.lowest = goal;
         }
     }
 

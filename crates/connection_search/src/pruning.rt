@@ -3,6 +3,7 @@
 ghost use Rattle.std.specs.Prelude.{◌≡◌, ℕ, IfOk, IsTrue, List, true};
 ghost use Rattle.calculus.specs.Choices.{Choice};
 ghost use Rattle.search_theory.proofs.BeginningLaws.{is_not_empty};
+ghost use Rattle.connection_search.specs.GivenUp.{HasLost};
 ghost use Rattle.connection_search.specs.Pruning.{IsPruned};
 ghost use Rattle.connection_search.specs.Running.{IsMatrixOf, TreeStands};
 
@@ -30,6 +31,8 @@ pub struct Pruning {
     pub ahead: bool,
     /// The labels of the connections made so far cannot be equal.
     pub labels: bool,
+    /// A goal that none of its choices closes is as it was before choices that came after it.
+    pub jumps: bool,
 }
 
 impl Pruning {
@@ -38,6 +41,7 @@ impl Pruning {
         Pruning {
             ahead: true,
             labels: true,
+            jumps: true,
         }
     }
 }
@@ -114,11 +118,25 @@ impl Space<'_> {
         }
     }
 
-    /// Whether the list of choices may be dropped: it is known that the limit is left, and no closed
-    /// tableau begins with it, as open goals or labels show. The labels of a list whose leftmost open
-    /// goal can only be reduced are not tested, since a test costs more than the few lists that come
-    /// next.
-    pub(crate) fn is_pruned(
+    /// Whether open goals show that no closed tableau begins with the list, where it is known that the
+    /// limit is left.
+    pub(crate) fn is_stuck_early(&self, store: &Store, work: &Work, left: bool) -> bool
+        requires { (base : ℕ) × (c : List Choice)
+            × TreeStands self.now.problem.now self.now.matrix.now base self.now.limit c store.now
+            work.now.tree }
+        ensures left { result ≡ true → left ≡ true }
+        ensures lost { result ≡ true → (base n : ℕ) (c : List Choice)
+            → IsMatrixOf self.now.problem.now self.now.matrix.now
+            → TreeStands self.now.problem.now self.now.matrix.now base self.now.limit c store.now
+            work.now.tree
+            → HasLost self.now.problem.now self.now.limit c n work.now.tree.open }
+    {
+        left && self.pruning.ahead && self.is_stuck(store, &work.tree)
+    }
+
+    /// Whether labels show it. The labels of a list whose leftmost open goal can only be reduced are
+    /// not tested, since a test costs more than the few lists that come next.
+    pub(crate) fn is_refuted_early(
         &self,
         store: &Store,
         work: &mut Work,
@@ -127,21 +145,14 @@ impl Space<'_> {
         requires { (base : ℕ) × (c : List Choice)
             × TreeStands self.now.problem.now self.now.matrix.now base self.now.limit c store.now
             work.old.tree }
-        ensures left { IfOk result (λ pruned. pruned ≡ true → left ≡ true) }
-        ensures pruned { IfOk result (λ pruned. pruned ≡ true → (base : ℕ) (c : List Choice)
-            → IsMatrixOf self.now.problem.now self.now.matrix.now
+        ensures left { IfOk result (λ refuted. refuted ≡ true → left ≡ true) }
+        ensures pruned { IfOk result (λ refuted. refuted ≡ true → (base : ℕ) (c : List Choice)
             → TreeStands self.now.problem.now self.now.matrix.now base self.now.limit c store.now
             work.old.tree → IsTrue (is_not_empty c)
             → IsPruned self.now.problem.now self.now.limit c) }
         ensures tree { work.new.tree ≡ work.old.tree }
     {
-        if !left {
-            return Ok(false);
-        }
-        if self.pruning.ahead && self.is_stuck(store, &work.tree) {
-            return Ok(true);
-        }
-        if !self.pruning.labels || !self.has_room(work) || !work.tests.is_due() {
+        if !left || !self.pruning.labels || !self.has_room(work) || !work.tests.is_due() {
             return Ok(false);
         }
         let refuted = self.is_refuted(store, work)?;

@@ -71,7 +71,7 @@ pub(crate) fn first_repeated(
     ensures repeated { IfOk result (λ found. (goal : ℕ) → found ≡ Some goal
         → (xs : List CellGoal)
         → AreGoals tree.now.steps.items tree.now.goals.items tree.now.goals.items xs
-        → AnyRepeated store.now.store xs) }
+        → AnyRepeated store.now.store first xs) }
 {
     for goal in first..tree.goals.len() {
         if !is_new(unifier, store, tree, goal)? {
@@ -98,7 +98,7 @@ pub(crate) fn are_new_from(
         → AllByRecursion (IsNewGoal store.now.store) (drop first xs)) }
     ensures repeated { IfOk result (λ new. new ≡ false → (xs : List CellGoal)
         → AreGoals tree.now.steps.items tree.now.goals.items tree.now.goals.items xs
-        → AnyRepeated store.now.store xs) }
+        → AnyRepeated store.now.store first xs) }
 {
     let repeated = first_repeated(unifier, store, tree, first)?;
     match repeated {
@@ -121,7 +121,7 @@ pub(crate) fn are_others_new(
         × IsTrue (list_all (goal_is_below (length store.now.store.cells)) xs) }
     ensures repeated { IfOk result (λ new. new ≡ false → (xs : List CellGoal)
         → AreGoals tree.now.steps.items tree.now.goals.items tree.now.goals.items xs
-        → AnyRepeated store.now.store xs) }
+        → AnyRepeated store.now.store first xs) }
 {
     for goal in first..tree.goals.len() {
         if others.may_repeat(tree.goals[goal].literal) {

@@ -58,11 +58,19 @@ fn searched(
 const NONE: Pruning = Pruning {
     ahead: false,
     labels: false,
+    jumps: false,
 };
 
 const AHEAD: Pruning = Pruning {
     ahead: true,
     labels: false,
+    jumps: false,
+};
+
+const JUMPS: Pruning = Pruning {
+    ahead: false,
+    labels: false,
+    jumps: true,
 };
 
 // What was seen: searches that ended both ways, those of them that took fewer steps, and those that
@@ -95,8 +103,10 @@ fn compare(alloc: Global, problem: &Problem, seen: &mut Seen) -> Result<(), Matr
         let limit = PathLimit { number: passed + 1 };
         let none = searched(alloc, problem, &matrix, limit, NONE)?;
         let ahead = searched(alloc, problem, &matrix, limit, AHEAD)?;
+        let jumps = searched(alloc, problem, &matrix, limit, JUMPS)?;
         let all = searched(alloc, problem, &matrix, limit, Pruning::all())?;
         seen.add(none, ahead);
+        seen.add(none, jumps);
         seen.add(ahead, all);
     }
     Ok(())

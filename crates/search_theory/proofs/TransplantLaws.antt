@@ -247,7 +247,7 @@ goal-alike R σ τ g h i = λ m. record { literal = atom-alike R σ τ g.literal
 -- ---- the cut of a mark
 
 -- the cell, unbound where the trail does not name it
-abbrev cut_cell : Bool → Cell → Cell
+abbrev pub cut_cell : Bool → Cell → Cell
 cut_cell b (variable sort o) = variable sort (if b then o else None)
 cut_cell b (fun_cell f rs) = fun_cell f rs
 cut_cell b (eigen_cell p rs) = eigen_cell p rs
@@ -270,6 +270,13 @@ cut-cells t n (suc i) (suc k) (fun_cell f rs ∷ cs) c e = let (d, g, q) = cut-c
 cut-cells t n (suc i) (suc k) (eigen_cell f rs ∷ cs) c e = let (d, g, q) = cut-cells t (suc n) i k cs c e in let z : suc n + i ≡ n + suc i = omega arith in (d, g, q ∙ ap (λ j. cut_cell (contains t j) d) z)
 cut-cells t n (suc i) (suc k) (new_cell f rs ∷ cs) c e = let (d, g, q) = cut-cells t (suc n) i k cs c e in let z : suc n + i ≡ n + suc i = omega arith in (d, g, q ∙ ap (λ j. cut_cell (contains t j) d) z)
 cut-cells t n (suc i) (suc k) (string_cell rs ∷ cs) c e = let (d, g, q) = cut-cells t (suc n) i k cs c e in let z : suc n + i ≡ n + suc i = omega arith in (d, g, q ∙ ap (λ j. cut_cell (contains t j) d) z)
+
+-- each cell of the cut is one of the store, bound or not
+pub cut-is : (m : TrailMark) (s : Store) (r : ℕ) (c d : Cell) → slice_get (cut_at m s).cells r ≡ Some c → slice_get s.cells r ≡ Some d → (b : Bool) × (c ≡ cut_cell b d)
+cut-is m s r c d e f =
+    let (x, g, q) = cut-cells (take m.entries s.trail) 0 r m.cells s.cells c e in
+    let same : x ≡ d = let z : Some x ≡ Some d = sym g ∙ f in cc z in
+    (contains (take m.entries s.trail) (0 + r), q ∙ ap (cut_cell (contains (take m.entries s.trail) (0 + r))) same)
 
 same-cell : (b : Bool) (d : Cell) → is_bound (cut_cell b d) ≡ is_bound d → cut_cell b d ≡ d
 same-cell true (variable sort o) e = refl

@@ -6,7 +6,7 @@ pub is_new-requires : goal.is_new-requires
 is_new-requires c = goal-wanted c.args.tree.now.steps.items c.args.tree.now.goals.items (length c.args.store.now.store.cells) c.loop-goal.goal c.requires.0 c.requires.1 c.requires.2 (omega arith)
 
 pub returns-then-not-branch-clause-repeated : goal.returns-then-not-branch-clause-repeated
-returns-then-not-branch-clause-repeated c = λ i t. repeated-at c.args.store.now.store c.args.tree.now.steps.items c.args.tree.now.goals.items c.loop-goal.goal (omega arith) (c.in_ok-is_new.ensures.repeated c.if-not-branch.true)
+returns-then-not-branch-clause-repeated c = λ i t. repeated-at c.args.store.now.store c.args.tree.now.steps.items c.args.tree.now.goals.items c.args.first c.loop-goal.goal (omega arith) (omega arith) (c.in_ok-is_new.ensures.repeated c.if-not-branch.true)
 
 pub loop-goal-preserved : goal.loop-goal-preserved
 loop-goal-preserved c = new-next c.args.store.now.store c.args.tree.now.steps.items c.args.tree.now.goals.items c.args.first c.loop-goal.goal c.loop-goal.invariant (omega arith) (c.in_ok-is_new.ensures.new c.if-not-branch.false)

@@ -1,10 +1,12 @@
-use Rattle.std.proofs.Common.{◌++◌, ◌∷◌, [], map, sym, subst}
+use Rattle.std.proofs.Common.{◌++◌, ◌∷◌, [], inl, length, map, sym, subst}
 use Rattle.calculus.specs.Choices.{reduction}
 use Rattle.term_store.specs.ClauseView.{the_atom}
 use Rattle.term_store.specs.RefView.{the_place}
 use Rattle.connection_search.specs.Running.{StandsFor}
 use Rattle.connection_search.specs.declared.tree.Tree.{Tree}
-use Rattle.connection_search.proofs.MoveLaws.{ancestor-sorted, ancestor-terms, at-reduced, goal-sorted, goal-terms, goal-within, reduction-refused}
+use Rattle.connection_search.proofs.MoveLaws.{ancestor-sorted, ancestor-terms, at-reduced, goal-sorted, goal-terms, goal-within, reduction-cannot}
+use Rattle.connection_search.proofs.GivenUpLaws.{given-up}
+use Rattle.search_theory.proofs.BeginningLaws.{refused}
 use Rattle.connection_search.proofs.NewBindingLaws.{closed-none}
 use Rattle.connection_search.proofs.moves.Work.reduce.Goals as goal
 
@@ -18,7 +20,7 @@ pub unify_all-requires-clause-right : goal.unify_all-requires-clause-right
 unify_all-requires-clause-right c = ancestor-sorted c.requires.0 c.requires.1 c.requires.2 c.requires.3 c.requires.4 c.args.store.now.store c.args.self.now.tree.steps.items c.args.self.now.tree.goals.items c.args.goal c.args.up c.args.ancestor c.requires.5 (map the_place c.items-ys.result.now) c.requires.6 c.requires.7 (ancestor-terms c.args.self.now.tree.steps.items c.args.self.now.tree.goals.items c.requires.5 c.args.up c.args.ancestor (the_atom c.atom-2.result.now) (map the_place c.items-ys.result.now) c.requires.7 c.atom-2.ensures c.items-ys.ensures)
 
 pub returns-then-not-branch-clause-refused : goal.returns-then-not-branch-clause-refused
-returns-then-not-branch-clause-refused c = λ f P m base d p g h r. reduction-refused P m base d p c.args.store.now.store c.args.self.now.tree.steps.items c.args.self.now.tree.goals.items c.args.goal c.args.up c.args.ancestor g (map the_place c.items-xs.result.now) (map the_place c.items-ys.result.now) h r (goal-terms P m base d p c.args.store.now.store c.args.self.now.tree.steps.items c.args.self.now.tree.goals.items c.args.goal g (the_atom c.atom.result.now) (map the_place c.items-xs.result.now) h c.atom.ensures c.items-xs.ensures) (ancestor-terms c.args.self.now.tree.steps.items c.args.self.now.tree.goals.items g c.args.up c.args.ancestor (the_atom c.atom-2.result.now) (map the_place c.items-ys.result.now) r c.atom-2.ensures c.items-ys.ensures) (c.in_ok-unify_all.ensures.clash c.if-not-branch.true)
+returns-then-not-branch-clause-refused c = λ f P m base d p g h r. refused (reduction-cannot P m base d p c.args.store.now.store c.args.self.now.tree.steps.items c.args.self.now.tree.goals.items c.args.goal c.args.up c.args.ancestor g (map the_place c.items-xs.result.now) (map the_place c.items-ys.result.now) h r (goal-terms P m base d p c.args.store.now.store c.args.self.now.tree.steps.items c.args.self.now.tree.goals.items c.args.goal g (the_atom c.atom.result.now) (map the_place c.items-xs.result.now) h c.atom.ensures c.items-xs.ensures) (ancestor-terms c.args.self.now.tree.steps.items c.args.self.now.tree.goals.items g c.args.up c.args.ancestor (the_atom c.atom-2.result.now) (map the_place c.items-ys.result.now) r c.atom-2.ensures c.items-ys.ensures) (c.in_ok-unify_all.ensures.clash c.if-not-branch.true))
 
 pub reduce-requires : goal.reduce-requires
 reduce-requires c = record { goal = goal-within c.requires.0 c.requires.1 c.requires.2 c.requires.3 c.requires.4 c.args.store.now.store c.args.self.now.tree.steps.items c.args.self.now.tree.goals.items c.args.goal c.requires.5 c.requires.6 }
@@ -31,3 +33,11 @@ returns-clause-made c = λ t P m base d p g h r. subst (λ (z : Tree). StandsFor
 
 pub returns-clause-refused : goal.returns-clause-refused
 returns-clause-refused c = λ f P m base d p g h r. c.in_ok-new.ensures.repeated f P m base d (p ++ reduction c.args.up ∷ []) (at-reduced P m base d p c.args.store.now.store c.unify_all.new.store.store c.args.self.now.tree.steps.items c.reduce.new.self.steps.items c.args.self.now.tree.goals.items c.reduce.new.self.goals.items c.args.goal c.args.up c.args.ancestor c.reduce.new.self.open g (map the_place c.items-xs.result.now) (map the_place c.items-ys.result.now) h r (goal-terms P m base d p c.args.store.now.store c.args.self.now.tree.steps.items c.args.self.now.tree.goals.items c.args.goal g (the_atom c.atom.result.now) (map the_place c.items-xs.result.now) h c.atom.ensures c.items-xs.ensures) (ancestor-terms c.args.self.now.tree.steps.items c.args.self.now.tree.goals.items g c.args.up c.args.ancestor (the_atom c.atom-2.result.now) (map the_place c.items-ys.result.now) r c.atom-2.ensures c.items-ys.ensures) (c.in_ok-unify_all.ensures.unified c.if-not-branch.false) c.unify_all.ensures.binds c.unify_all.ensures.names c.mark-met.ensures.well c.in_ok-reduce.ensures.tree c.in_ok-reduce.ensures.system)
+
+pub returns-then-not-branch-clause-given_up : goal.returns-then-not-branch-clause-given_up
+returns-then-not-branch-clause-given_up c = λ f P m base d p g h r. inl (reduction-cannot P m base d p c.args.store.now.store c.args.self.now.tree.steps.items c.args.self.now.tree.goals.items c.args.goal c.args.up c.args.ancestor g (map the_place c.items-xs.result.now) (map the_place c.items-ys.result.now) h r (goal-terms P m base d p c.args.store.now.store c.args.self.now.tree.steps.items c.args.self.now.tree.goals.items c.args.goal g (the_atom c.atom.result.now) (map the_place c.items-xs.result.now) h c.atom.ensures c.items-xs.ensures) (ancestor-terms c.args.self.now.tree.steps.items c.args.self.now.tree.goals.items g c.args.up c.args.ancestor (the_atom c.atom-2.result.now) (map the_place c.items-ys.result.now) r c.atom-2.ensures c.items-ys.ensures) (c.in_ok-unify_all.ensures.clash c.if-not-branch.true))
+
+pub returns-clause-given_up : goal.returns-clause-given_up
+returns-clause-given_up c = λ f P m base d p g h r.
+    let stands = (at-reduced P m base d p c.args.store.now.store c.unify_all.new.store.store c.args.self.now.tree.steps.items c.reduce.new.self.steps.items c.args.self.now.tree.goals.items c.reduce.new.self.goals.items c.args.goal c.args.up c.args.ancestor c.reduce.new.self.open g (map the_place c.items-xs.result.now) (map the_place c.items-ys.result.now) h r (goal-terms P m base d p c.args.store.now.store c.args.self.now.tree.steps.items c.args.self.now.tree.goals.items c.args.goal g (the_atom c.atom.result.now) (map the_place c.items-xs.result.now) h c.atom.ensures c.items-xs.ensures) (ancestor-terms c.args.self.now.tree.steps.items c.args.self.now.tree.goals.items g c.args.up c.args.ancestor (the_atom c.atom-2.result.now) (map the_place c.items-ys.result.now) r c.atom-2.ensures c.items-ys.ensures) (c.in_ok-unify_all.ensures.unified c.if-not-branch.false) c.unify_all.ensures.binds c.unify_all.ensures.names c.mark-met.ensures.well c.in_ok-reduce.ensures.tree c.in_ok-reduce.ensures.system) in
+    given-up P m base d (p ++ reduction c.args.up ∷ []) (length c.args.self.now.tree.goals.items) c.unify_all.new.store c.reduce.new.self _ c.in_ok-new.ensures.tree stands (c.in_ok-new.ensures.lost f P m base d (length c.args.self.now.tree.goals.items) (p ++ reduction c.args.up ∷ []) stands)

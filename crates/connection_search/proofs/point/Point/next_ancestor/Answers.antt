@@ -26,7 +26,7 @@ returns-then-meets-clause-next c = λ g at path. ancestor-met c.args.tree.now.st
 pub loop-i-preserved : goal.loop-i-preserved
 loop-i-preserved c = record {
   passed = λ g at path. ancestor-passed c.args.tree.now.steps.items c.args.tree.now.goals.items g c.args.self.now c.loop-i.self _ c.loop-i._i c.in-Some.ancestor (the_atom c.atom.result.now) (the_atom c.atom-in-Some.result.now) c.index-in-Some.result.now (c.loop-i.invariant.passed g at path) c.in-Some.is c.in_ok-number-in-Some.ensures (let w = ancestor-there c.args.tree.now.steps.items c.args.tree.now.goals.items g c.args.self.now c.loop-i.self c.loop-i._i c.in-Some.ancestor (c.loop-i.invariant.passed g at path) c.in-Some.is in read-there c.args.tree.now.goals.items c.in-Some.ancestor c.index-in-Some.result.now w.goal w.stands c.index-in-Some.ensures) refl (atom-found c.args.tree.now.steps.items c.args.tree.now.goals.items c.loop-i.self.goal g (the_atom c.atom.result.now) (subst (λ n. IsGoalAt c.args.tree.now.steps.items c.args.tree.now.goals.items n g) (sym c.loop-i.invariant.same.goal) at) c.atom.ensures) c.atom-in-Some.ensures (sym c.meets.ensures ∙ c.if-meets.false);
-  same = record { mark = c.loop-i.invariant.same.mark; steps = c.loop-i.invariant.same.steps; goals = c.loop-i.invariant.same.goals; goal = c.loop-i.invariant.same.goal; depth = c.loop-i.invariant.same.depth };
+  same = record { mark = c.loop-i.invariant.same.mark; steps = c.loop-i.invariant.same.steps; goals = c.loop-i.invariant.same.goals; goal = c.loop-i.invariant.same.goal; depth = c.loop-i.invariant.same.depth; lowest = c.loop-i.invariant.same.lowest };
   next = c.loop-i.invariant.next;
   end = c.loop-i.invariant.end;
 }

@@ -13,7 +13,7 @@ marks_of-marks-requires c = (c.requires.0, c.requires.2)
 pub loop-choice-init : goal.loop-choice-init
 loop-choice-init c = record {
   passes = λ g untried at has. passes-first c.args.self.now.matrix.now c.args.self.now.limit c.args.tree.now.steps.items c.args.tree.now.goals.items g untried c.args.point.now has;
-  same = record { mark = refl; steps = refl; goals = refl; goal = refl; depth = refl };
+  same = record { mark = refl; steps = refl; goals = refl; goal = refl; depth = refl; lowest = refl };
   weight_is = omega arith;
 }
 

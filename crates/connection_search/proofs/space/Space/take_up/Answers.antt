@@ -16,7 +16,7 @@ pub returns-in_err-is_regular-in-None-clause-counted : goal.returns-in_err-is_re
 returns-in_err-is_regular-in-None-clause-counted c = λ base later begun space v. counted c.args.self.now.problem.now c.args.self.now.limit (v.choices ∷ v.pending ++ later) begun c.args.ledger.now.used c.args.left.now v.searched
 
 pub returns-then-not-branch-clause-on : goal.returns-then-not-branch-clause-on
-returns-then-not-branch-clause-on c = λ base later begun space v. subst (λ (z : Tree). IsExploring c.args.self.now.problem.now c.args.self.now.matrix.now base c.args.self.now.limit c.args.store.now.store z.steps.items z.goals.items c.args.points.now.items later begun c.args.ledger.now.used c.args.left.now) (sym c.in_ok-is_regular-in-None.ensures.tree) (visit-dead c.args.self.now.problem.now c.args.self.now.matrix.now base c.args.self.now.limit c.args.store.now.store c.args.work.now.tree.steps.items c.args.work.now.tree.goals.items c.args.work.now.tree.open c.args.points.now.items later begun c.args.ledger.now.used c.args.left.now v (c.in_ok-is_regular-in-None.ensures.repeated c.if-not-branch.true c.args.self.now.problem.now c.args.self.now.matrix.now base c.args.self.now.limit v.choices v.stands))
+returns-then-not-branch-clause-on c = λ base later begun space v. subst (λ (z : Tree). IsExploring c.args.self.now.problem.now c.args.self.now.matrix.now base c.args.self.now.limit c.args.store.now.store z.steps.items z.goals.items c.args.points.now.items later begun c.args.ledger.now.used c.args.left.now) (sym c.in_ok-is_regular-in-None.ensures.tree) (visit-dead c.args.self.now.problem.now c.args.self.now.matrix.now base c.args.self.now.limit c.args.store.now.store c.args.work.now.tree.steps.items c.args.work.now.tree.goals.items c.args.work.now.tree.open c.args.points.now.items later begun c.args.ledger.now.used c.args.left.now v c.in-None.is (c.in_ok-is_regular-in-None.ensures.repeated c.if-not-branch.true c.args.self.now.problem.now c.args.self.now.matrix.now base c.args.self.now.limit v.choices v.stands))
 
 pub returns-then-not-branch-clause-end : goal.returns-then-not-branch-clause-end
 returns-then-not-branch-clause-end c = λ base later begun space v. tt
@@ -25,7 +25,7 @@ pub returns-then-not-branch-clause-counted : goal.returns-then-not-branch-clause
 returns-then-not-branch-clause-counted c = λ base later begun space v. counted c.args.self.now.problem.now c.args.self.now.limit (v.choices ∷ v.pending ++ later) begun c.args.ledger.now.used c.args.left.now v.searched
 
 pub returns-then-not-branch-clause-points : goal.returns-then-not-branch-clause-points
-returns-then-not-branch-clause-points c = inl (refl, omega arith)
+returns-then-not-branch-clause-points c = inl (omega arith, omega arith)
 
 pub returns-then-not-branch-clause-above : goal.returns-then-not-branch-clause-above
 returns-then-not-branch-clause-above c = λ k good h. h
@@ -80,7 +80,7 @@ returns-in_ok-decided-in-None-clause-points c = on-when c.in_ok-decided-in-None.
     let w = visiting-in c.args.self.now.problem.now c.args.self.now.matrix.now base c.args.self.now.limit c.args.store.now.store c.is_regular.new.self.tree c.args.work.now.tree c.args.points.now.items later begun c.args.ledger.now.used c.args.left.now c.in_ok-is_regular-in-None.ensures.tree v in
     let f = (c.decide.ensures.counted.counted w.stands.1.all_goals w.stands.2.tree.goals).from in
     let t = is-used c.take.result c.args.ledger.now.used c.take.new.self.used c.take.ensures.used c.if-not-take.false in
-    inl (refl, omega (arith, f, t)))
+    inl (omega arith, omega (arith, f, t)))
 
 pub returns-in_ok-decided-in-None-clause-above : goal.returns-in_ok-decided-in-None-clause-above
 returns-in_ok-decided-in-None-clause-above c = λ k good h. h
@@ -121,7 +121,7 @@ returns-in_ok-push-in-Some-clause-on c = λ base later begun space v.
     let w = goal-of c.args.self.now.problem.now c.args.self.now.matrix.now base c.args.self.now.limit v.choices c.args.store.now.store c.args.work.now.tree.steps.items c.args.work.now.tree.goals.items c.args.work.now.tree.open c.in-Some.goal v.stands c.in-Some.is in
     let found = c.in_ok-left-in-Some.ensures.found c.args.self.now.problem.now base c.args.self.now.limit v.choices w.0 space.matrix w.1 refl space.to_200 in
     let point = c.new-point.ensures.point c.args.self.now.problem.now base c.args.self.now.limit v.choices w.0 w.1 refl (later-limit c.args.self.now.limit space.to_200) in
-    let here = visit-goal c.args.self.now.problem.now c.args.self.now.matrix.now base c.args.self.now.limit c.args.store.now.store c.args.work.now.tree.steps.items c.args.work.now.tree.goals.items c.args.work.now.tree.open c.args.points.now.items later begun c.args.ledger.now.used c.take-in-Some.new.self.used c.args.left.now c.in_ok-left-in-Some.field-0 c.in-Some.goal w.0 c.new-point.result space v w.1 found point c.new-point.ensures.here (is-used c.take-in-Some.result c.args.ledger.now.used c.take-in-Some.new.self.used c.take-in-Some.ensures.used c.if-not-take-2.false) in
+    let here = visit-goal c.args.self.now.problem.now c.args.self.now.matrix.now base c.args.self.now.limit c.args.store.now.store c.args.work.now.tree.steps.items c.args.work.now.tree.goals.items c.args.work.now.tree.open c.args.points.now.items later begun c.args.ledger.now.used c.take-in-Some.new.self.used c.args.left.now c.in_ok-left-in-Some.field-0 c.in-Some.goal w.0 c.new-point.result space v w.1 found point c.new-point.ensures.here c.new-point.ensures.lowest c.in-Some.is (is-used c.take-in-Some.result c.args.ledger.now.used c.take-in-Some.new.self.used c.take-in-Some.ensures.used c.if-not-take-2.false) in
     subst (λ ps. IsExploring c.args.self.now.problem.now c.args.self.now.matrix.now base c.args.self.now.limit c.is_left.new.store.store c.is_left.new.work.tree.steps.items c.is_left.new.work.tree.goals.items ps later begun c.take-in-Some.new.self.used c.in_ok-left-in-Some.field-0) (sym c.in_ok-push-in-Some.ensures.items)
     (exploring-moved c.args.self.now.problem.now c.args.self.now.matrix.now base c.args.self.now.limit c.args.store.now.store c.is_left.new.store.store c.args.work.now.tree.steps.items c.is_left.new.work.tree.steps.items c.args.work.now.tree.goals.items c.is_left.new.work.tree.goals.items (c.args.points.now.items ++ c.new-point.result ∷ []) later begun c.take-in-Some.new.self.used c.in_ok-left-in-Some.field-0 c.in_ok-left-in-Some.ensures.store c.in_ok-left-in-Some.ensures.tree.0 c.in_ok-left-in-Some.ensures.tree.1 here)
 

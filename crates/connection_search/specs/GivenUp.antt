@@ -1,0 +1,25 @@
+-- Lists that are given up because of a goal that cannot be closed, and of goals below it alone: what they say of the goals above it.
+use Rattle.std.specs.Prelude.{◌≡◌, ◌⊎◌, ◌≤◌, ℕ, List, Option, Some, slice_get}
+use Rattle.calculus.specs.Choices.{Choice}
+use Rattle.calculus.specs.Syntax.{Problem}
+use Rattle.search_theory.proofs.JumpLaws.{CannotClose}
+use Rattle.search_theory.proofs.StepLaws.{Grows}
+use Rattle.search_theory.specs.Matrix.{MatrixClause}
+use Rattle.search_theory.specs.States.{CellGoal, IsStateOf, State}
+use Rattle.term_store.specs.Room.{TermStore}
+use Rattle.connection_search.specs.Running.{TreeStands}
+use Rattle.connection_search.specs.declared.tree.Tree.{Tree}
+
+-- a goal of the list's tree cannot be closed within d: one that came behind the first n goals, or one from the leftmost open one on
+pub record HasLost (P : Problem) (d : ℕ) (c : List Choice) (n : ℕ) (first : Option ℕ) : Type 0 where
+  pub state : State
+  pub is_state : IsStateOf P d c state
+  pub number : ℕ
+  pub goal : CellGoal
+  pub stands : slice_get state.growth.all_goals number ≡ Some goal
+  pub later : (n ≤ number) ⊎ ((k : ℕ) × (first ≡ Some k) × (k ≤ number))
+  pub cannot : CannotClose P d state goal
+
+-- no tree follows the list, or its tree has such a goal
+abbrev pub IsGivenUp : Problem → List MatrixClause → ℕ → ℕ → List Choice → ℕ → TermStore → Tree → Type 0
+IsGivenUp P m base d c n s t = (¬ Grows P c) ⊎ (TreeStands P m base d c s t × HasLost P d c n t.open)
