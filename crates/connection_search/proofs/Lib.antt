@@ -1,7 +1,7 @@
 -- lists by places
 pub mod Places
 -- unifying and comparing atoms
-pub mod NewBindingLaws
+pub mod CopiedBelow
 pub mod UnifyingLaws
 pub mod DistinctStores
 pub mod SamenessLaws

@@ -1,7 +1,6 @@
 -- the tree of a search as the program has it
 pub mod Trees
 -- binding new variables
-pub mod NewBindings
 -- comparing atoms and goals
 pub mod Sameness
 pub mod Heads

@@ -9,7 +9,6 @@ ghost use Rattle.calculus.specs.Equality.{sign_eq};
 ghost use Rattle.calculus.specs.Kinds as kinds;
 ghost use Rattle.store_theory.specs.Stores.{has_sort_at};
 ghost use Rattle.calculus.specs.Syntax.{Problem};
-ghost use Rattle.connection_search.specs.NewBindings.{IsClosedBelow};
 ghost use Rattle.connection_search.specs.OwnStores.{AreOwn};
 ghost use Rattle.search_theory.proofs.AtomLaws.{IsAtomIn};
 ghost use Rattle.search_theory.specs.Regular.{AreSame};
@@ -19,6 +18,7 @@ ghost use Rattle.search_theory.specs.Steps.{AreUnified, Clash};
 ghost use Rattle.term_store.specs.ClauseView.{the_atom};
 ghost use Rattle.term_store.specs.RefView.{the_place};
 ghost use Rattle.term_store.specs.Room.{KeepsRoom};
+ghost use Rattle.term_unify.specs.Closed.{IsClosedBelow};
 
 use crate::pair::unify_pair;
 use calculus::sign::Sign;

@@ -6,3 +6,4 @@ pub mod InnerLaws
 pub mod ListItems
 pub mod FlatLaws
 pub mod SameLaws
+pub mod ClosedLaws

@@ -3,3 +3,4 @@ pub mod Visits
 pub mod Steps
 pub mod Flat
 pub mod Same
+pub mod Closed

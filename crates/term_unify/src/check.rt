@@ -4,6 +4,7 @@ ghost use Rattle.std.specs.Prelude.{◌≡◌, IfOk, false, map, true};
 ghost use Rattle.store_theory.specs.Bindings.{IsEnd, IsWellFormed};
 ghost use Rattle.store_theory.specs.Stores.{OccursIn};
 ghost use Rattle.term_store.specs.RefView.{the_place};
+ghost use Rattle.term_unify.specs.Closed.{IsClosedBelow};
 ghost use Rattle.term_unify.specs.Steps.{AddsInner};
 
 use crate::compare::{count_in, part_in};
@@ -65,4 +66,31 @@ pub(crate) fn occurs(
         }
     }
     Ok(false)
+}
+
+// As `occurs`. Cells whose numbers are below `below` name such cells alone, so a variable whose number is not occurs in
+// none of them.
+#[inline(always)]
+pub(crate) fn occurs_from(
+    store: &Store,
+    below: usize,
+    v: Ref,
+    r: Ref,
+    places: &mut Vec<Ref>,
+    visited: &mut Visited,
+) -> Result<bool, NoMemory>
+    requires variable { IsEnd store.now.store v.0 }
+    requires end { IsEnd store.now.store r.0 }
+    requires other { ¬ (v.0 ≡ r.0) }
+    requires closed { IsClosedBelow below store.now.store }
+    ensures yes { IfOk result (λ found. found ≡ true → OccursIn store.now.store v.0 r.0) }
+    ensures no { IfOk result (λ found. found ≡ false → ¬ OccursIn store.now.store v.0 r.0) }
+{
+    if (r.0 as usize) < below {
+        if below <= v.0 as usize {
+            return Ok(false);
+        }
+    }
+    let found = occurs(store, v, r, places, visited)?;
+    Ok(found)
 }

@@ -1,6 +1,6 @@
 //! What one pair of cells comes to.
 
-ghost use Rattle.std.specs.Prelude.{◌≡◌, ◌<◌, OnOk, Some, length, map, slice_get};
+ghost use Rattle.std.specs.Prelude.{◌≡◌, ◌<◌, OnOk, Some, false, length, map, slice_get, true};
 ghost use Rattle.store_theory.specs.Bindings.{IsWellFormed};
 ghost use Rattle.calculus.specs.Equality.{sort_eq};
 ghost use Rattle.term_store.specs.Shown.{the_head};
@@ -10,7 +10,7 @@ ghost use Rattle.term_unify.specs.PairView.{the_pair};
 
 use calculus::sort::Sort;
 use cop_base::NoMemory;
-use term_store::{Content, Ref, Store};
+use term_store::{Content, End, Ref, Store};
 
 // What a pair comes to: its cells are equal, cannot be equal, are equal exactly where an unbound variable and another
 // cell at which bindings end are, or exactly where the parts of two built cells are.
@@ -85,6 +85,21 @@ fn have_same_name(a: Content, b: Content) -> bool
     }
 }
 
+// Whether the one on the right is to be bound: an unbound variable, the newer one of two.
+fn is_right_bound(left: End, right: End) -> bool
+    ensures open { result ≡ true → is_open_head (the_head right.content) ≡ true }
+    ensures built { result ≡ false → is_open_head (the_head left.content) ≡ false
+        → is_open_head (the_head right.content) ≡ false }
+{
+    if !is_open(right.content) {
+        return false;
+    }
+    if !is_open(left.content) {
+        return true;
+    }
+    left.place.0 < right.place.0
+}
+
 // Looks at the ends of the bindings.
 #[inline(always)]
 pub(crate) fn compare(store: &Store, a: Ref, b: Ref) -> Step
@@ -98,17 +113,17 @@ pub(crate) fn compare(store: &Store, a: Ref, b: Ref) -> Step
     if left.place.0 == right.place.0 {
         return Step::Same;
     }
+    if is_right_bound(left, right) {
+        if !are_same_sort(sort_of(right.content), sort_of(left.content)) {
+            return Step::Apart;
+        }
+        return Step::Bind(right.place, left.place);
+    }
     if is_open(left.content) {
         if !are_same_sort(sort_of(left.content), sort_of(right.content)) {
             return Step::Apart;
         }
         return Step::Bind(left.place, right.place);
-    }
-    if is_open(right.content) {
-        if !are_same_sort(sort_of(right.content), sort_of(left.content)) {
-            return Step::Apart;
-        }
-        return Step::Bind(right.place, left.place);
     }
     if !have_same_name(left.content, right.content) {
         return Step::Apart;

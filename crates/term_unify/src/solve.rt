@@ -1,14 +1,16 @@
 //! Unification.
 
-ghost use Rattle.std.specs.Prelude.{◌≡◌, ◌<◌, ◌≤◌, IfOk, OnErr, OnOk, false, length, map, true};
-ghost use Rattle.store_theory.specs.Bindings.{AreApart, BindsOnly, BindsWithin, IsWellFormed, KeepsMarks, SolvesPairs, Unifies};
-ghost use Rattle.store_theory.specs.Stores.{Solution, Solves};
+ghost use Rattle.std.specs.Prelude.{◌≡◌, ◌<◌, ◌≤◌, IfOk, None, OnErr, OnOk, Some, false, length, map, slice_get, true};
+ghost use Rattle.calculus.specs.declared.sort.Sort.{Sort};
+ghost use Rattle.store_theory.specs.Bindings.{AreApart, BindsOnly, BindsWithin, IsWellFormed, KeepsMarks, SolvesPairs, Unifies, with_binding};
+ghost use Rattle.store_theory.specs.Stores.{Solution, Solves, Store as TreeStore, variable};
 ghost use Rattle.term_store.specs.Room.{KeepsRoom};
+ghost use Rattle.term_unify.specs.Closed.{IsClosedBelow};
 ghost use Rattle.term_unify.specs.PairView.{the_pair};
 ghost use Rattle.term_unify.specs.Steps.{AreBuilt, AreCells, AreDifferent};
 ghost use Rattle.term_unify.specs.Steps.{BindsInPairs, IsNext, SolvesAll};
 
-use crate::check::occurs;
+use crate::check::occurs_from;
 use crate::compare::{Step, compare, push_parts};
 use crate::visited::Visited;
 use cop_base::NoMemory;
@@ -50,15 +52,34 @@ fn next_binding(
     Ok(Next::Done)
 }
 
-// Binds until all pairs are equal. Otherwise it leaves some bindings behind.
+// The number below which cells name such cells alone when the variable is bound to the cell, where they did so below
+// `below`.
+fn closed_by(below: usize, v: Ref, to: Ref) -> usize
+    ensures { (s : TreeStore) (sort : Sort) → slice_get s.cells v.0 ≡ Some (variable sort None)
+        → IsClosedBelow below s → IsClosedBelow result (with_binding v.0 to.0 s) }
+{
+    if below <= v.0 as usize {
+        return below;
+    }
+    if (to.0 as usize) < below {
+        return below;
+    }
+    0
+}
+
+// Binds until all pairs are equal. Otherwise it leaves some bindings behind. Cells below the number name such cells
+// alone, before and after.
 fn solve_pairs(
     store: &mut Store,
+    below: &mut usize,
     pairs: &mut Vec<(Ref, Ref)>,
     places: &mut Vec<Ref>,
     visited: &mut Visited,
 ) -> Result<bool, NoMemory>
-    requires { AreCells store.old.store (map the_pair pairs.old.items) }
+    requires cells { AreCells store.old.store (map the_pair pairs.old.items) }
+    requires closed { IsClosedBelow below.old store.old.store }
     ensures solved { IfOk result (λ equal. equal ≡ true → SolvesAll store.old.store store.new.store (map the_pair pairs.old.items)) }
+    ensures closed { IfOk result (λ equal. equal ≡ true → IsClosedBelow below.new store.new.store) }
     ensures apart { IfOk result (λ equal. equal ≡ false → (σ : Solution) → Solves store.old.store σ → ¬ SolvesPairs σ (map the_pair pairs.old.items)) }
     ensures marks { KeepsMarks store.old.store store.new.store }
     ensures binds { BindsOnly store.old.store store.new.store }
@@ -72,11 +93,12 @@ fn solve_pairs(
             Next::Done => return Ok(true),
             Next::Apart => return Ok(false),
             Next::Bind(v, to) => {
-                if occurs(store, v, to, places, visited)? {
+                if occurs_from(store, *below, v, to, places, visited)? {
                     return Ok(false);
                 }
                 store.reserve(1)?;
                 store.bind(v, to);
+                *below = closed_by(*below, v, to);
             }
         }
     }
@@ -85,13 +107,17 @@ fn solve_pairs(
 // As `solve_pairs`, but otherwise the store is as before.
 fn unify_pairs(
     store: &mut Store,
+    below: &mut usize,
     pairs: &mut Vec<(Ref, Ref)>,
     places: &mut Vec<Ref>,
     visited: &mut Visited,
 ) -> Result<bool, NoMemory>
-    requires { AreCells store.old.store (map the_pair pairs.old.items) }
+    requires cells { AreCells store.old.store (map the_pair pairs.old.items) }
+    requires closed { IsClosedBelow below.old store.old.store }
     ensures solved { IfOk result (λ equal. equal ≡ true
         → SolvesAll store.old.store store.new.store (map the_pair pairs.old.items)) }
+    ensures closed { IfOk result (λ equal. equal ≡ true
+        → IsClosedBelow below.new store.new.store) }
     ensures apart { IfOk result (λ equal. equal ≡ false → (σ : Solution)
         → Solves store.old.store σ → ¬ SolvesPairs σ (map the_pair pairs.old.items)) }
     ensures unchanged { IfOk result (λ equal. equal ≡ false → store.new.store ≡ store.old.store) }
@@ -103,7 +129,7 @@ fn unify_pairs(
     ensures well { IsWellFormed store.new.store }
 {
     let start = store.mark();
-    let answer = solve_pairs(store, pairs, places, visited);
+    let answer = solve_pairs(store, below, pairs, places, visited);
     if let Ok(true) = answer {
         return answer;
     }
@@ -144,29 +170,67 @@ impl Unifier {
         ensures within { BindsWithin a.0 b.0 store.old.store store.new.store }
         ensures room { KeepsRoom store.old store.new }
     {
+        let mut below = 0;
+        let equal = self.unify_below(store, &mut below, a, b)?;
+        Ok(equal)
+    }
+
+    /// As `unify`. While cells whose numbers are below a number name such cells alone, as those do that were there before
+    /// a copy was made, a variable of the copy is bound to one of them without a look for it. Where the answer is true, the
+    /// number that is left is one of which this holds afterwards.
+    pub fn unify_below(
+        &mut self,
+        store: &mut Store,
+        below: &mut usize,
+        a: Ref,
+        b: Ref,
+    ) -> Result<bool, NoMemory>
+        requires left { a.0 < length store.old.store.cells }
+        requires right { b.0 < length store.old.store.cells }
+        requires closed { IsClosedBelow below.old store.old.store }
+        ensures unifies { IfOk result (λ equal. equal ≡ true → Unifies a.0 b.0 store.old.store store.new.store) }
+        ensures closed { IfOk result (λ equal. equal ≡ true → IsClosedBelow below.new store.new.store) }
+        ensures apart { IfOk result (λ equal. equal ≡ false → AreApart a.0 b.0 store.old.store) }
+        ensures unchanged { IfOk result (λ equal. equal ≡ false → store.new.store ≡ store.old.store) }
+        ensures no_memory { OnErr result (store.new.store ≡ store.old.store) }
+        ensures marks { KeepsMarks store.old.store store.new.store }
+        ensures binds { BindsOnly store.old.store store.new.store }
+        ensures within { BindsWithin a.0 b.0 store.old.store store.new.store }
+        ensures room { KeepsRoom store.old store.new }
+    {
         match compare(store, a, b) {
             Step::Same => Ok(true),
             Step::Apart => Ok(false),
             Step::Bind(v, to) => {
-                if occurs(store, v, to, &mut self.places, &mut self.visited)? {
+                if occurs_from(store, *below, v, to, &mut self.places, &mut self.visited)? {
                     return Ok(false);
                 }
                 store.reserve(1)?;
                 store.bind(v, to);
+                *below = closed_by(*below, v, to);
                 Ok(true)
             }
             Step::Parts(left, right) => {
-                let equal = self.unify_parts(store, left, right)?;
+                let equal = self.unify_parts(store, below, left, right)?;
                 Ok(equal)
             }
         }
     }
 
-    // As `unify`, of built cells that are alike.
-    fn unify_parts(&mut self, store: &mut Store, a: Ref, b: Ref) -> Result<bool, NoMemory>
-        requires { AreBuilt store.old.store a.0 b.0 }
+    // As `unify_below`, of built cells that are alike.
+    fn unify_parts(
+        &mut self,
+        store: &mut Store,
+        below: &mut usize,
+        a: Ref,
+        b: Ref,
+    ) -> Result<bool, NoMemory>
+        requires built { AreBuilt store.old.store a.0 b.0 }
+        requires closed { IsClosedBelow below.old store.old.store }
         ensures unifies { IfOk result (λ equal. equal ≡ true
             → Unifies a.0 b.0 store.old.store store.new.store) }
+        ensures closed { IfOk result (λ equal. equal ≡ true
+            → IsClosedBelow below.new store.new.store) }
         ensures apart { IfOk result (λ equal. equal ≡ false → AreApart a.0 b.0 store.old.store) }
         ensures unchanged { IfOk result (λ equal. equal ≡ false
             → store.new.store ≡ store.old.store) }
@@ -178,7 +242,13 @@ impl Unifier {
     {
         self.pairs.clear();
         push_parts(store, a, b, &mut self.pairs)?;
-        let equal = unify_pairs(store, &mut self.pairs, &mut self.places, &mut self.visited)?;
+        let equal = unify_pairs(
+            store,
+            below,
+            &mut self.pairs,
+            &mut self.places,
+            &mut self.visited,
+        )?;
         Ok(equal)
     }
 }

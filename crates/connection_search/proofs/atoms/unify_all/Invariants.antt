@@ -1,7 +1,7 @@
 use Rattle.std.proofs.Common.{map}
 use Rattle.term_store.specs.RefView.{the_place}
 use Rattle.term_store.specs.Room.{KeepsRoom}
-use Rattle.connection_search.specs.NewBindings.{IsClosedBelow}
+use Rattle.term_unify.specs.Closed.{IsClosedBelow}
 use Rattle.connection_search.proofs.UnifyingLaws.{UnifiedTo}
 use Rattle.connection_search.proofs.atoms.unify_all.Given as goal
 

@@ -8,7 +8,7 @@ use Rattle.connection_search.specs.GivenUp.{HasLost}
 use Rattle.connection_search.specs.Running.{StandsDeep, StandsFor}
 use Rattle.connection_search.specs.declared.tree.Tree.{Tree}
 use Rattle.connection_search.proofs.MoveLaws.{at-extended, clause-for, extended-deep, extension-cannot, extension-clashes, goal-sorted, goal-terms, goal-within, head-copied, head-kept, literal-found, literal-within, place-clause, place_of, rest-copied, sorts-bound}
-use Rattle.connection_search.proofs.NewBindingLaws.{closed-copied}
+use Rattle.connection_search.proofs.CopiedBelow.{closed-copied}
 use Rattle.connection_search.proofs.GivenUpLaws.{given-up}
 use Rattle.search_theory.proofs.BeginningLaws.{refused}
 use Rattle.connection_search.proofs.RunningLaws.{HeadCopied, RestCopied, others-room}
