@@ -1,19 +1,22 @@
 -- Different outermost names rule an extension out.
-use Rattle.std.proofs.Common.{◌≡◌, ℕ, zero, suc, List, [], ◌∷◌, true, false, not, eq-eqb, ◌==◌, refl, sym, ◌∙◌, ap, ap₂, None, Some, slice_get}
+use Rattle.std.proofs.Common.{◌≡◌, ◌<◌, arith, ℕ, zero, suc, List, [], ◌∷◌, true, false, not, eq-eqb, ◌==◌, refl, sym, ◌∙◌, ap, ap₂, None, Some, slice_get}
 use Rattle.std.proofs.lemmas.Bool.{false≢true}
-use Rattle.calculus.specs.Ground.{Value, g_eigen, g_fun}
+use Rattle.calculus.specs.Ground.{Value, common, g_eigen, g_fun}
 use Rattle.store_theory.specs.Bindings.{EndsIn}
-use Rattle.store_theory.specs.Patterns.{Pattern, PatternAtom, Template, p_eigen, p_fun, p_new, p_var, patterns_tree}
-use Rattle.store_theory.specs.Stores.{Cell, CellHolds, Solution, Store, eigen_cell, fun_cell, new_cell, string_cell, variable}
+use Rattle.store_theory.specs.Patterns.{Pattern, PatternAtom, Template, p_eigen, p_fun, p_new, p_var, pattern_list_size, pattern_size, patterns_tree}
+use Rattle.store_theory.specs.Stores.{Cell, CellHolds, EndsAt, Solution, Store, eigen_cell, fun_cell, is_bound, new_cell, parts_of, string_cell, variable}
+use Rattle.store_theory.proofs.BindingLaws.{ends-there}
 use Rattle.store_theory.specs.Systems.{CellAtom}
 use Rattle.store_theory.specs.Templates.{as_term, literals_by, pattern_literal, pattern_terms, pattern_value}
 use Rattle.store_theory.proofs.SolutionLaws.{ends-same}
 use Rattle.search_theory.specs.States.{literal_by, terms_by}
 use Rattle.search_theory.specs.Steps.{CannotExtend, Clash}
+use Rattle.search_theory.proofs.AtomLaws.{terms_at-by}
 use Rattle.search_theory.proofs.MeetingLaws.{literal-there, opposite-parts, opposite-some}
 use Rattle.term_store.specs.Shown.{head_of}
 use Rattle.term_store.specs.declared.cell.Head.{Head}
-use Rattle.connection_search.specs.Heads.{HasClash, ends_differ, names_differ}
+use Rattle.term_unify.proofs.PairLaws.{told}
+use Rattle.connection_search.specs.Heads.{HasClash, HavePartsApart, IsApart, ends_differ, names_differ}
 use Rattle.connection_search.proofs.SamenessLaws.{item-equal}
 
 -- equal lists have equal items
@@ -65,12 +68,52 @@ values-differ σ e (string_cell rs) vs q h d same = by q d
     by (p_eigen f ps) d = false≢true d
     by (p_new f ps) d = false≢true d
 
+-- a cell with another name than the pattern
+pub apart-by_names : (s : Store) (r e : ℕ) (h : Head) (q : Pattern) → EndsAt s r e → EndsIn s e (λ c. head_of c ≡ h) → names_differ h q ≡ true → IsApart s r q
+apart-by_names s r e h q at (v, c, o, stands, is) d σ vs solves same =
+    values-differ σ v c vs q (solves v c stands) (ap (λ k. names_differ k q) is ∙ d) (ap as_term (sym (ends-same s σ r e solves at ∙ ends-same s σ e v solves o)) ∙ same)
+
+-- a cell with a part that is equal to no copy of the pattern's
+pub apart-by_parts : (s : Store) (r e g : ℕ) (ps : List Pattern) → EndsAt s r e → HavePartsApart s e ps → IsApart s r (p_fun g (patterns_tree ps))
+apart-by_parts s r e g ps at (i, k, q, inside, p, apart) σ vs solves same =
+    let (c, there, unbound) = ends-there s r e at in
+    by c there unbound (told s e c (λ d. slice_get (parts_of d) i ≡ Some k) there unbound inside)
+  where
+    value-is : as_term (σ e) ≡ g_fun g (pattern_terms vs (patterns_tree ps))
+    value-is = ap as_term (sym (ends-same s σ r e solves at)) ∙ same
+
+    by : (c : Cell) → slice_get s.cells e ≡ Some c → is_bound c ≡ false → slice_get (parts_of c) i ≡ Some k → ⊥
+    by (variable t None) there unbound part = let z : None ≡ Some k = part in absurd (cc z)
+    by (variable t (Some x)) there unbound part = false≢true (sym unbound)
+    by (fun_cell j rs) there unbound part =
+        let (ts, are, value) = solves e (fun_cell j rs) there in
+        let terms : g_fun j ts ≡ g_fun g (pattern_terms vs (patterns_tree ps)) = ap as_term (sym value) ∙ value-is in
+        let equal : ts ≡ pattern_terms vs (patterns_tree ps) = cc terms in
+        apart σ vs solves (items-equal σ vs rs ps i k q (terms_at-by σ rs ts are ∙ equal) part p)
+    by (eigen_cell j rs) there unbound part =
+        let (us, are, value) = solves e (eigen_cell j rs) there in
+        let z : g_eigen j us ≡ g_fun g (pattern_terms vs (patterns_tree ps)) = ap as_term (sym value) ∙ value-is in
+        cc z
+    by (new_cell j rs) there unbound part =
+        let (us, are, value) = solves e (new_cell j rs) there in
+        let z : common 0 ≡ g_fun g (pattern_terms vs (patterns_tree ps)) = ap as_term (sym value) ∙ value-is in
+        cc z
+    by (string_cell rs) there unbound part =
+        let (w, are, value) = solves e (string_cell rs) there in
+        let z : common 0 ≡ g_fun g (pattern_terms vs (patterns_tree ps)) = ap as_term (sym value) ∙ value-is in
+        cc z
+
+-- a pattern of a list is smaller than the list
+pub size-there : (ps : List Pattern) (i : ℕ) (p : Pattern) → slice_get ps i ≡ Some p → pattern_size p < pattern_list_size ps
+size-there [] i p e = let z : None ≡ Some p = e in absurd (cc z)
+size-there (q ∷ ps) zero p e = let same : q ≡ p = cc e in let f = ap pattern_size same in omega (arith, f)
+size-there (q ∷ ps) (suc i) p e = let f = size-there ps i p e in omega (arith, f)
+
 -- no copy of the literal can be connected
 pub cannot-extend-by_names : (s : Store) (t : Template) (goal : CellAtom) (p : PatternAtom) (place : ℕ) → slice_get t.literals place ≡ Some p → HasClash s goal p → CannotExtend s t goal place
-cannot-extend-by_names s t goal p place at (k, r, q, ea, eb, (e, c, o, stands, d)) σ solves vs sorts opposite =
+cannot-extend-by_names s t goal p place at (k, r, q, ea, eb, apart) σ solves vs sorts opposite =
     let parts = opposite-parts (literal_by σ goal) (pattern_literal vs p) (opposite-some (literal_by σ goal) (slice_get (literals_by vs t) place) (pattern_literal vs p) (literal-there (pattern_literal vs) t.literals place p at) opposite) in
-    let same = items-equal σ vs goal.args p.args k r q parts.args ea eb in
-    values-differ σ e c vs q (solves e c stands) d (ap as_term (sym (ends-same s σ r e solves o)) ∙ same)
+    apart σ vs solves (items-equal σ vs goal.args p.args k r q parts.args ea eb)
 
 -- ---- two ends
 

@@ -1,30 +1,98 @@
-//! Outermost names, by which most connections are refused without a copy or a binding.
+//! Names, by which most connections are refused without a copy or a binding.
 
-ghost use Rattle.std.specs.Prelude.{◌≡◌, ◌<◌, IsTrue, length, map, true};
+ghost use Rattle.std.specs.Prelude.{◌≡◌, ◌<◌, IsTrue, Some, length, map, slice_get, true};
+ghost use Rattle.store_theory.specs.Bindings.{IsEnd};
 ghost use Rattle.store_theory.specs.Stores.{names_below};
 ghost use Rattle.term_store.specs.ClauseView.{the_atom, the_pattern_atom};
 ghost use Rattle.term_store.specs.PatternView.{the_pattern};
 ghost use Rattle.term_store.specs.RefView.{the_place};
+ghost use Rattle.term_store.specs.Shown.{the_head};
 ghost use Rattle.search_theory.specs.Steps.{Clash};
-ghost use Rattle.connection_search.specs.Heads.{HasClash, ends_differ, names_differ};
+ghost use Rattle.connection_search.specs.Heads.{HasClash, HavePartsApart, IsApart};
+ghost use Rattle.connection_search.specs.Heads.{ends_differ, names_differ};
 
 use crate::atoms::reference_at;
-use term_store::{CellAtom, Head, Pattern, PatternAtom, Ref, Store};
+use term_store::{CellAtom, Content, Head, Pattern, PatternAtom, Patterns, Ref, Store};
 
-fn names_differ(head: Head, pattern: &Pattern) -> bool
-    ensures { result ≡ names_differ head (the_pattern pattern.now) }
+fn names_differ(content: Content, pattern: &Pattern) -> bool
+    ensures { result ≡ names_differ (the_head content) (the_pattern pattern.now) }
 {
-    match (head, pattern) {
-        (Head::Fun(f), Pattern::Fun(g, _)) => f.0 != g.0,
-        (Head::Fun(_), Pattern::Eigen(_, _)) => true,
-        (Head::Eigen(p), Pattern::Eigen(q, _)) => p.0 != q.0,
-        (Head::Eigen(_), Pattern::Fun(_, _)) => true,
+    match (content, pattern) {
+        (Content::Fun(f, _), Pattern::Fun(g, _)) => f.0 != g.0,
+        (Content::Fun(_, _), Pattern::Eigen(_, _)) => true,
+        (Content::Eigen(p, _), Pattern::Eigen(q, _)) => p.0 != q.0,
+        (Content::Eigen(_, _), Pattern::Fun(_, _)) => true,
         _ => false,
     }
 }
 
-/// Whether an argument of the goal has another outermost name than that of the literal, so that no
-/// copy of the literal can be connected to the goal.
+fn is_variable(pattern: &Pattern) -> bool {
+    match pattern {
+        Pattern::Var(_) => true,
+        Pattern::Fun(_, _) => false,
+        Pattern::Eigen(_, _) => false,
+        Pattern::New(_, _) => false,
+    }
+}
+
+// The cell of this number.
+fn part_at(parts: &[u32], i: usize) -> Ref
+    requires { i < length parts.now }
+    ensures { slice_get parts.now i ≡ Some result.0 }
+{
+    Ref(parts[i])
+}
+
+// The pattern of this number.
+fn pattern_at(patterns: &[Pattern], i: usize) -> &Pattern
+    requires { i < length patterns.now }
+    ensures { slice_get (map the_pattern patterns.now) i ≡ Some (the_pattern result.now) }
+{
+    &patterns[i]
+}
+
+// Whether names show that a part of the cell, at which bindings end, is equal to no copy of the
+// pattern of its number.
+#[cycle(is_apart)]
+fn have_parts_apart(store: &Store, end: Ref, patterns: &Patterns) -> bool
+    requires { IsEnd store.now.store end.0 }
+    ensures { result ≡ true → HavePartsApart store.now.store end.0 patterns.now }
+{
+    let parts = store.parts_at(end);
+    let items = patterns.items();
+    for i in 0..parts.len().min(items.len()) {
+        let part = part_at(parts, i);
+        let item = pattern_at(items, i);
+        if is_apart(store, part, item) {
+            return true;
+        }
+    }
+    false
+}
+
+// Whether names show that the term of the cell is equal to no copy of the pattern.
+#[cycle(is_apart)]
+fn is_apart(store: &Store, r: Ref, pattern: &Pattern) -> bool
+    requires { r.0 < length store.now.store.cells }
+    ensures { result ≡ true → IsApart store.now.store r.0 (the_pattern pattern.now) }
+{
+    if is_variable(pattern) {
+        return false;
+    }
+    let at = store.end(r);
+    if names_differ(at.content, pattern) {
+        return true;
+    }
+    match pattern {
+        Pattern::Var(_k) => false,
+        Pattern::Fun(_f, parts) => have_parts_apart(store, at.place, parts),
+        Pattern::Eigen(_p, _parts) => false,
+        Pattern::New(_p, _parts) => false,
+    }
+}
+
+/// Whether names show that an argument of the goal is equal to that of no copy of the literal, so
+/// that no copy can be connected to the goal.
 pub(crate) fn has_clash(store: &Store, goal: &CellAtom, literal: &PatternAtom) -> bool
     requires { IsTrue (names_below (length store.now.store.cells) (the_atom goal.now).args) }
     ensures { result ≡ true
@@ -33,7 +101,9 @@ pub(crate) fn has_clash(store: &Store, goal: &CellAtom, literal: &PatternAtom) -
     let terms = goal.args.items();
     let patterns = literal.args.items();
     for i in 0..terms.len().min(patterns.len()) {
-        if names_differ(store.head(reference_at(terms, i)), &patterns[i]) {
+        let term = reference_at(terms, i);
+        let pattern = pattern_at(patterns, i);
+        if is_apart(store, term, pattern) {
             return true;
         }
     }
