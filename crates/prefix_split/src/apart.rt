@@ -7,7 +7,7 @@ ghost use Rattle.term_store.specs.SystemView.{the_pair, the_system};
 ghost use Rattle.prefix_split.specs.Beginnings.{AllApart, Holds, NodesFit};
 ghost use Rattle.prefix_split.specs.Growing.{ComeApart, IsPairApart};
 
-use crate::choosing::choose;
+use crate::choosing::{Gaps, choose};
 use crate::growing::seek;
 use crate::joining::settle;
 use crate::node::Node;
@@ -129,7 +129,7 @@ fn shorten(
     shorter.add(u, v, Relation::Strict);
     settle(&mut shorter, unifier, store, nodes)?;
     let mut chosen = shorter.copy()?;
-    let _left = choose(&mut chosen, unifier, store, nodes, choices)?;
+    let _left = choose(&mut chosen, unifier, store, nodes, choices, Gaps::All)?;
     if chosen.is_refuted {
         return Ok(false);
     }
@@ -194,6 +194,7 @@ pub(crate) fn told_apart(
     nodes: &[Node],
     apart: &[(usize, usize)],
     choices: u32,
+    first: Gaps,
 ) -> Result<Option<LabelOrder>, NoMemory>
     requires { NodesFit (length store.now.store.cells) nodes.now }
     ensures { IfOk result (λ o. IfSome o (λ told. told.is_refuted ≡ false)) }
@@ -205,7 +206,7 @@ pub(crate) fn told_apart(
     for i in 0..apart.len() {
         tell_apart(&mut told, unifier, store, nodes, both_at(apart, i), choices)?;
     }
-    let _left = choose(&mut told, unifier, store, nodes, choices)?;
+    let _left = choose(&mut told, unifier, store, nodes, choices, first)?;
     if told.is_refuted {
         return Ok(None);
     }

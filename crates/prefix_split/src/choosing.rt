@@ -5,7 +5,7 @@ ghost use Rattle.calculus.specs.Ground.{GroundMark};
 ghost use Rattle.store_theory.specs.Stores.{Solution, Solves};
 ghost use Rattle.prefix_split.specs.Beginnings.{AreValues, Begins, Holds, NodesFit, Refutes};
 
-use crate::joining::{mark_of, settle};
+use crate::joining::{have_other_marks, mark_of, settle};
 use crate::node::Node;
 use crate::order::{LabelOrder, Relation};
 use crate::rules::short_parent;
@@ -49,8 +49,32 @@ fn is_open(order: &LabelOrder, gap: Gap) -> bool {
     !order.begins(gap.second, gap.parent) && !order.begins(gap.first, gap.second)
 }
 
+// All open gaps, or those of two marks that may be one.
+#[derive(Clone, Copy)]
+pub(crate) enum Gaps {
+    All,
+    Alike,
+}
+
+fn is_among(gaps: Gaps, store: &Store, nodes: &[Node], y: usize, z: usize) -> bool
+    requires { NodesFit (length store.now.store.cells) nodes.now }
+{
+    match gaps {
+        Gaps::All => true,
+        Gaps::Alike => !have_other_marks(store, nodes, y, z),
+    }
+}
+
 // The open gap of y and z, where z is by a mark.
-fn open_gap_with(order: &LabelOrder, nodes: &[Node], y: usize, z: usize) -> Option<Gap>
+fn open_gap_with(
+    order: &LabelOrder,
+    store: &Store,
+    nodes: &[Node],
+    y: usize,
+    z: usize,
+    gaps: Gaps,
+) -> Option<Gap>
+    requires { NodesFit (length store.now.store.cells) nodes.now }
     ensures { IfSome result (λ g. (σ : Solution) (value : ℕ → List GroundMark)
         → AreValues σ value nodes.now → Holds value order.now
         → Begins (value g.second) (value g.parent) ⊎ Begins (value g.first) (value g.second)) }
@@ -64,14 +88,21 @@ fn open_gap_with(order: &LabelOrder, nodes: &[Node], y: usize, z: usize) -> Opti
     let Some(gap) = gap_below(order, nodes, y, z, w) else {
         return None;
     };
-    if is_open(order, gap) {
+    if is_open(order, gap) && is_among(gaps, store, nodes, y, z) {
         return Some(gap);
     }
     None
 }
 
 // An open gap of y, which is by a mark.
-fn open_gap_of(order: &LabelOrder, nodes: &[Node], y: usize) -> Option<Gap>
+fn open_gap_of(
+    order: &LabelOrder,
+    store: &Store,
+    nodes: &[Node],
+    y: usize,
+    gaps: Gaps,
+) -> Option<Gap>
+    requires { NodesFit (length store.now.store.cells) nodes.now }
     ensures { IfSome result (λ g. (σ : Solution) (value : ℕ → List GroundMark)
         → AreValues σ value nodes.now → Holds value order.now
         → Begins (value g.second) (value g.parent) ⊎ Begins (value g.first) (value g.second)) }
@@ -80,26 +111,42 @@ fn open_gap_of(order: &LabelOrder, nodes: &[Node], y: usize) -> Option<Gap>
         return None;
     }
     for z in 0..nodes.len() {
-        if let Some(gap) = open_gap_with(order, nodes, y, z) {
+        if let Some(gap) = open_gap_with(order, store, nodes, y, z, gaps) {
             return Some(gap);
         }
     }
     None
 }
 
-// An open gap of two nodes that are by marks. Where there is none, each string can be as short as
-// the greatest label by a mark below it.
-fn open_gap(order: &LabelOrder, nodes: &[Node]) -> Option<Gap>
+// An open gap of two nodes that are by marks.
+fn open_gap_among(order: &LabelOrder, store: &Store, nodes: &[Node], gaps: Gaps) -> Option<Gap>
+    requires { NodesFit (length store.now.store.cells) nodes.now }
     ensures { IfSome result (λ g. (σ : Solution) (value : ℕ → List GroundMark)
         → AreValues σ value nodes.now → Holds value order.now
         → Begins (value g.second) (value g.parent) ⊎ Begins (value g.first) (value g.second)) }
 {
     for y in 0..nodes.len() {
-        if let Some(gap) = open_gap_of(order, nodes, y) {
+        if let Some(gap) = open_gap_of(order, store, nodes, y, gaps) {
             return Some(gap);
         }
     }
     None
+}
+
+// An open gap of two nodes that are by marks, of those that come first if there is one. Where there
+// is none, each string can be as short as the greatest label by a mark below it.
+fn open_gap(order: &LabelOrder, store: &Store, nodes: &[Node], first: Gaps) -> Option<Gap>
+    requires { NodesFit (length store.now.store.cells) nodes.now }
+    ensures { IfSome result (λ g. (σ : Solution) (value : ℕ → List GroundMark)
+        → AreValues σ value nodes.now → Holds value order.now
+        → Begins (value g.second) (value g.parent) ⊎ Begins (value g.first) (value g.second)) }
+{
+    if let Gaps::Alike = first {
+        if let Some(gap) = open_gap_among(order, store, nodes, Gaps::Alike) {
+            return Some(gap);
+        }
+    }
+    open_gap_among(order, store, nodes, Gaps::All)
 }
 
 // Adds that the one label begins the other, and all that follows.
@@ -122,14 +169,16 @@ fn assume(
 
 // Closes open gaps one way or the other, with at most so many choices, until none is open. Tried first
 // is that the first node begins the second one: where that is chosen for both of two nodes by marks,
-// they are the same, so labels stay as short as can be. The order is refuted only where no labels are
-// as it told. Answers how many choices are left.
+// they are the same, so labels stay as short as can be. Where gaps of marks that may be one come
+// first, copies of a clause get the same labels before other marks come between theirs. The order is
+// refuted only where no labels are as it told. Answers how many choices are left.
 pub(crate) fn choose(
     order: &mut LabelOrder,
     unifier: &mut Unifier,
     store: &Store,
     nodes: &[Node],
     choices: u32,
+    first: Gaps,
 ) -> Result<u32, NoMemory>
     requires { NodesFit (length store.now.store.cells) nodes.now }
     ensures refuted { IfOk result (λ left. Refutes store.now.store nodes.now order.old order.new) }
@@ -138,16 +187,16 @@ pub(crate) fn choose(
     if choices == 0 || order.is_refuted {
         return Ok(choices);
     }
-    let Some(gap) = open_gap(order, nodes) else {
+    let Some(gap) = open_gap(order, store, nodes, first) else {
         return Ok(choices);
     };
-    let mut first = order.copy()?;
-    assume(&mut first, unifier, store, nodes, gap.first, gap.second)?;
-    let left = choose(&mut first, unifier, store, nodes, choices - 1)?;
-    if !first.is_refuted {
-        *order = first;
+    let mut tried = order.copy()?;
+    assume(&mut tried, unifier, store, nodes, gap.first, gap.second)?;
+    let left = choose(&mut tried, unifier, store, nodes, choices - 1, first)?;
+    if !tried.is_refuted {
+        *order = tried;
         return Ok(left);
     }
     assume(order, unifier, store, nodes, gap.second, gap.parent)?;
-    choose(order, unifier, store, nodes, left)
+    choose(order, unifier, store, nodes, left, first)
 }

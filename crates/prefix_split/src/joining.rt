@@ -112,7 +112,7 @@ fn is_other_mark(store: &Store, nodes: &[Node], r: Ref, z: usize) -> bool
 }
 
 // Whether the nodes are by marks of two positions.
-fn have_other_marks(store: &Store, nodes: &[Node], y: usize, z: usize) -> bool
+pub(crate) fn have_other_marks(store: &Store, nodes: &[Node], y: usize, z: usize) -> bool
     requires { NodesFit (length store.now.store.cells) nodes.now }
     ensures { result ≡ true → (σ : Solution) (value : ℕ → List GroundMark)
         → Solves store.now.store σ → AreValues σ value nodes.now → ¬ (value y ≡ value z) }

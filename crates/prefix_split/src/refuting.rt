@@ -15,7 +15,7 @@ ghost use Rattle.prefix_split.specs.Beginnings.{IsRelated, Keeps, NodesFit};
 ghost use Rattle.prefix_split.specs.Growing.{HasRoot, step_relation};
 
 use crate::apart::{nodes_apart, refute_equal, told_apart};
-use crate::choosing::choose;
+use crate::choosing::{Gaps, choose};
 use crate::growing::{ask_equations, ask_homes, ask_needed};
 use crate::joining::settle;
 use crate::node::{Node, Step};
@@ -132,6 +132,7 @@ fn chosen(
     pairs: &[(usize, usize)],
     apart: &[(usize, usize)],
     choices: u32,
+    first: Gaps,
 ) -> Result<LabelOrder, NoMemory>
     requires { NodesFit (length store.now.store.cells) nodes.now }
     ensures { IfOk result (λ order. order.is_refuted ≡ true → (σ : Solution)
@@ -140,10 +141,10 @@ fn chosen(
 {
     let mut order = settled(alloc, unifier, store, nodes, pairs)?;
     refute_equal(&mut order, apart);
-    if let Some(told) = told_apart(&order, unifier, store, nodes, apart, choices)? {
+    if let Some(told) = told_apart(&order, unifier, store, nodes, apart, choices, first)? {
         return Ok(told);
     }
-    let _left = choose(&mut order, unifier, store, nodes, choices)?;
+    let _left = choose(&mut order, unifier, store, nodes, choices, first)?;
     Ok(order)
 }
 
@@ -157,8 +158,8 @@ pub(crate) struct LabelTree {
 // The tree of the labels of the equations, and of those that the demand forces to be beginnings of
 // others. Its order is refuted only where no solution of the store, whose strings are steps of the
 // logic, makes the equations equal and meets the demand, while the goals of each pair differ. It
-// tells the pairs of these numbers apart, where it can. At most so many choices are made. Marks are
-// added to the store.
+// tells the pairs of these numbers apart, where it can. At most so many choices are made, and these
+// gaps come first. Marks are added to the store.
 pub(crate) fn demanded_tree<M: Demand>(
     alloc: Global,
     store: &mut Store,
@@ -167,6 +168,7 @@ pub(crate) fn demanded_tree<M: Demand>(
     more: &M,
     numbers: &[usize],
     choices: u32,
+    first: Gaps,
 ) -> Result<LabelTree, NoMemory>
     requires fits { IsTrue (is_system store.old.store (the_system system.now)) }
     requires named { NamesItsStrings store.old.store (the_system system.now) }
@@ -193,7 +195,16 @@ pub(crate) fn demanded_tree<M: Demand>(
         &mut pairs,
         homes.items(),
     )?;
-    let order = chosen(alloc, &mut unifier, store, &nodes, &pairs, &apart, choices)?;
+    let order = chosen(
+        alloc,
+        &mut unifier,
+        store,
+        &nodes,
+        &pairs,
+        &apart,
+        choices,
+        first,
+    )?;
     Ok(LabelTree { nodes, order })
 }
 

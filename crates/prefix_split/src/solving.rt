@@ -13,6 +13,7 @@ ghost use Rattle.term_store.specs.SystemView.{the_system};
 ghost use Rattle.prefix_split.specs.Later.{IsFoundIn};
 ghost use Rattle.prefix_split.specs.LengthSearch.{IsCounted};
 
+use crate::choosing::Gaps;
 use crate::next_lengths::{LengthRange, first_lengths, is_single, next_lengths, range_of};
 use crate::proposing::propose;
 use crate::refuting::{LabelTree, demanded_tree};
@@ -47,8 +48,8 @@ fn take_step(ledger: &mut Ledger) -> bool
     ledger.take()
 }
 
-// The tree of the system's labels, which tells the pairs of these numbers apart. The store is as
-// before.
+// The tree of the system's labels, which tells the pairs of these numbers apart, and closes these
+// gaps first. The store is as before.
 fn tree_of<M: Demand>(
     alloc: Global,
     store: &mut Store,
@@ -56,6 +57,7 @@ fn tree_of<M: Demand>(
     system: &System,
     more: &M,
     numbers: &[usize],
+    first: Gaps,
 ) -> Result<LabelTree, NoMemory>
     requires fits { IsTrue (is_system store.old.store (the_system system.now)) }
     requires named { NamesItsStrings store.old.store (the_system system.now) }
@@ -67,7 +69,16 @@ fn tree_of<M: Demand>(
     ensures room { KeepsRoom store.old store.new }
 {
     let start = store.mark();
-    let made = demanded_tree(alloc, store, logic, system, more, numbers, MANY_CHOICES);
+    let made = demanded_tree(
+        alloc,
+        store,
+        logic,
+        system,
+        more,
+        numbers,
+        MANY_CHOICES,
+        first,
+    );
     store.undo(start);
     made
 }
@@ -96,6 +107,7 @@ fn solve_apart<M: Demand>(
     system: &System,
     more: &mut M,
     numbers: &mut Vec<usize>,
+    first: Gaps,
 ) -> Result<Option<Solved>, NoMemory>
     requires fits { IsTrue (is_system store.old.store (the_system system.now)) }
     requires named { NamesItsStrings store.old.store (the_system system.now) }
@@ -117,7 +129,7 @@ fn solve_apart<M: Demand>(
     ensures same_common { M.common more.new ≡ M.common more.old }
     ensures same_problem { M.problem more.new ≡ M.problem more.old }
 {
-    let tree = tree_of(alloc, store, logic, system, more, numbers)?;
+    let tree = tree_of(alloc, store, logic, system, more, numbers, first)?;
     if tree.order.is_refuted {
         return Ok(Some(Solved::None));
     }
@@ -143,9 +155,25 @@ fn solve_apart<M: Demand>(
     Ok(None)
 }
 
+// Whether there is one more round: where no pair was told apart in this one, gaps of marks that may
+// be one come first from then on, if they did not yet.
+fn goes_on(is_told: bool, first: &mut Gaps) -> bool {
+    if is_told {
+        return true;
+    }
+    match *first {
+        Gaps::All => {
+            *first = Gaps::Alike;
+            true
+        }
+        Gaps::Alike => false,
+    }
+}
+
 // Answers `Found` or `None` by the order of label beginnings, where that can be: as long as lengths
-// that it proposes make goals of a pair the same, they are told apart. Where each string has but one
-// length, trying the one list costs less.
+// that it proposes make goals of a pair the same, they are told apart. Where lengths do not serve
+// otherwise, the order is made once more with gaps of marks that may be one first. Where each string
+// has but one length, trying the one list costs less.
 fn solve_by_order<M: Demand>(
     alloc: Global,
     store: &mut Store,
@@ -178,12 +206,13 @@ fn solve_by_order<M: Demand>(
         return Ok(None);
     }
     let mut numbers = Vec::new(alloc);
-    for _ in 0..system.pairs.items().len().saturating_add(1) {
+    let mut first = Gaps::All;
+    for _ in 0..system.pairs.items().len().saturating_add(2) {
         let told = numbers.len();
-        if let Some(answer) = solve_apart(alloc, store, logic, system, more, &mut numbers)? {
+        if let Some(answer) = solve_apart(alloc, store, logic, system, more, &mut numbers, first)? {
             return Ok(Some(answer));
         }
-        if numbers.len() == told {
+        if !goes_on(numbers.len() > told, &mut first) {
             return Ok(None);
         }
     }

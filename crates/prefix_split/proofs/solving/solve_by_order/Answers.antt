@@ -52,13 +52,13 @@ returns-in-Some-clause-unchanged g c = λ other.
 pub returns-in-Some-clause-marks : goal.returns-in-Some-clause-marks
 returns-in-Some-clause-marks g c = subst (λ z. KeepsMarks z c.solve_apart.new.store.store) c.loop.invariant.unchanged c.solve_apart.ensures.marks
 
-pub returns-then-len-told-clause-unchanged : goal.returns-then-len-told-clause-unchanged
-returns-then-len-told-clause-unchanged g c =
+pub returns-then-not-goes_on-clause-unchanged : goal.returns-then-not-goes_on-clause-unchanged
+returns-then-not-goes_on-clause-unchanged g c =
     let unchanged = rw c.in_default.is at c.in_ok-answer.ensures.unchanged in
     unchanged ∙ c.loop.invariant.unchanged
 
-pub returns-then-len-told-clause-marks : goal.returns-then-len-told-clause-marks
-returns-then-len-told-clause-marks g c = subst (λ z. KeepsMarks z c.solve_apart.new.store.store) c.loop.invariant.unchanged c.solve_apart.ensures.marks
+pub returns-then-not-goes_on-clause-marks : goal.returns-then-not-goes_on-clause-marks
+returns-then-not-goes_on-clause-marks g c = subst (λ z. KeepsMarks z c.solve_apart.new.store.store) c.loop.invariant.unchanged c.solve_apart.ensures.marks
 
 pub loop-preserved : goal.loop-preserved
 loop-preserved g c =
