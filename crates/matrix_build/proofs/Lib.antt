@@ -1,5 +1,6 @@
 pub mod Behind
 mod Examples
+pub mod FewLaws
 pub mod MatrixLaws
 pub mod PartLaws
 pub mod Rows

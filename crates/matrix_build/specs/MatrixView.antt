@@ -1,5 +1,5 @@
 -- The matrix of the definitions, and where its literals stand.
-use Rattle.std.specs.Prelude.{◌≡◌, ℕ, ◌+◌, ◌*◌, ◌==◌, List, [], ◌∷◌, map, slice_get, if◌then◌else◌}
+use Rattle.std.specs.Prelude.{◌≡◌, ◌≤◌, ℕ, ◌+◌, ◌*◌, ◌==◌, List, [], ◌∷◌, length, map, slice_get, if◌then◌else◌}
 use Rattle.std.specs.Option.{option_map_or}
 use Rattle.calculus.specs.declared.sign.Sign.{Sign}
 use Rattle.calculus.specs.declared.sign.Sign.TheVariants.{T, F}
@@ -15,6 +15,10 @@ the_clause c = record { selection = c.selection; template = the_template c.templ
 
 abbrev pub the_place : Place → matrix.MatrixPlace
 the_place p = record { clause = p.clause.0; literal = p.literal }
+
+-- its literals have numbers of 32 bits
+abbrev pub HasFewLiterals : matrix.MatrixClause → Type 0
+HasFewLiterals c = length c.template.literals ≤ 8000000
 
 -- ---- the table
 

@@ -1,5 +1,5 @@
 -- What a walk over a signed formula adds to a clause.
-use Rattle.std.specs.Prelude.{◌≡◌, ℕ, ◌+◌, List, [], ◌∷◌, ◌++◌, length, Some, None}
+use Rattle.std.specs.Prelude.{◌≡◌, ◌≤◌, ℕ, ◌+◌, List, [], ◌∷◌, ◌++◌, length, Some, None}
 use Rattle.calculus.specs.declared.kind.Shape.{Shape}
 use Rattle.calculus.specs.declared.kind.Shape.TheVariants.{Alpha, Literal}
 use Rattle.calculus.specs.declared.setting.Logic.{Logic}
@@ -23,6 +23,18 @@ pub record BuiltPart : Type 0 where
 
 abbrev pub with_part : BuiltPart → PatternPart → BuiltPart
 with_part b y = record { literals = b.literals ++ y.literals; gammas = b.gammas ++ y.gammas; pis = b.pis + y.pis; sorts = b.sorts ++ y.sorts; sides = y.sides }
+
+-- how many of its literals, pi steps and variables there are: these have numbers of 32 bits
+abbrev pub numbered : BuiltPart → ℕ
+numbered b = length b.literals + b.pis + length b.sorts
+
+-- before a position: each of those before it adds at most two, one by its modal part and one by its shape
+abbrev pub IsFewBefore : ℕ → BuiltPart → Type 0
+IsFewBefore q b = numbered b ≤ q + q
+
+-- behind the modal part of a position
+abbrev pub IsFewAt : ℕ → BuiltPart → Type 0
+IsFewAt q b = numbered b ≤ q + q + 1
 
 abbrev pub with_sort : Sort → BuiltPart → BuiltPart
 with_sort s b = record b { sorts = b.sorts ++ s ∷ [] }

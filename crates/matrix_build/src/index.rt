@@ -1,9 +1,10 @@
 //! The places of the literals by symbol and sign.
 
-ghost use Rattle.std.specs.Prelude.{◌≡◌, ◌<◌, ◌+◌, ◌++◌, ℕ, IfOk, length, map};
+ghost use Rattle.std.specs.Prelude.{◌≡◌, ◌<◌, ◌≤◌, ◌+◌, ◌++◌, ℕ, IfOk, length, map};
+ghost use Rattle.std.specs.List.{AllByRecursion};
 ghost use Rattle.calculus.specs.declared.sign.Sign as declared;
 ghost use Rattle.search_theory.specs.Matrix.{places_among};
-ghost use Rattle.matrix_build.specs.MatrixView.{IsIndex, if_equal, places_at, row_of};
+ghost use Rattle.matrix_build.specs.MatrixView.{HasFewLiterals, IsIndex, if_equal, places_at, row_of};
 ghost use Rattle.matrix_build.specs.MatrixView.{the_clause, the_place};
 
 use crate::clause::Clause;
@@ -41,23 +42,15 @@ fn row_of(symbol: SymbolId, sign: Sign) -> usize
     }
 }
 
-// Numbers beyond 32 bits are beyond memory.
-fn number_of(place: usize) -> Result<u32, NoMemory>
-    ensures { IfOk result (λ n. n ≡ place) }
-{
-    match u32::try_from(place) {
-        Ok(n) => Ok(n),
-        Err(_) => Err(NoMemory),
-    }
-}
-
 impl Index {
     pub fn new(alloc: Global, clauses: &[Clause]) -> Result<Index, NoMemory>
+        requires clauses { length clauses.now ≤ 4294967295 }
+        requires literals { AllByRecursion HasFewLiterals (map the_clause clauses.now) }
         ensures { IfOk result (λ index. IsIndex index.rows.items (map the_clause clauses.now)) }
     {
         let mut rows = Vec::new(alloc);
         for (number, clause) in clauses.iter().enumerate() {
-            let clause_id = ClauseId(number_of(number)?);
+            let clause_id = ClauseId(number as u32);
             add_clause(alloc, &mut rows, clause_id, &clause.template.literals)?;
         }
         Ok(Index { rows })
@@ -79,6 +72,7 @@ fn add_clause(
     clause: ClauseId,
     literals: &PatternAtomList,
 ) -> Result<(), NoMemory>
+    requires { length literals.now ≤ 4294967295 }
     ensures { IfOk result (λ _. (symbol : ℕ) (sign : declared.Sign)
         → places_at (row_of symbol sign) rows.new.items
         ≡ places_at (row_of symbol sign) rows.old.items
@@ -88,7 +82,7 @@ fn add_clause(
     for (place, literal) in items.iter().enumerate() {
         let found = Place {
             clause,
-            literal: number_of(place)?,
+            literal: place as u32,
         };
         add(alloc, rows, row_of(literal.symbol, literal.sign), found)?;
     }

@@ -1,11 +1,14 @@
 //! The matrix of a problem.
 
-ghost use Rattle.std.specs.Prelude.{◌≡◌, ◌<◌, Some, IfOk, IsOk, length, map, option_map, slice_get};
+ghost use Rattle.std.specs.Prelude.{◌≡◌, ◌<◌, ◌≤◌, Some, IfOk, IsOk, length, map, option_map, slice_get};
+ghost use Rattle.std.specs.List.{AllByRecursion};
+ghost use Rattle.calculus.specs.Positions.{size};
 ghost use Rattle.calculus.specs.ComputedInstances.{ComputesInstances};
 ghost use Rattle.search_theory.specs.Matrix.{IsTemplateMatrix, MatrixClause, all_shown, places};
 ghost use Rattle.formula_core.specs.FormulaView.{the_formula};
 ghost use Rattle.matrix_build.specs.Fits.{AreTemplatesIfAny, FitsMatrix};
-ghost use Rattle.matrix_build.specs.MatrixView.{the_clause, the_place};
+ghost use Rattle.matrix_build.specs.MatrixView.{HasFewLiterals, the_clause, the_place};
+ghost use Rattle.matrix_build.specs.Sizes.{sizes_of};
 ghost use Rattle.matrix_build.specs.declared.matrix.MatrixFault.TheVariants as fault;
 ghost use Rattle.term_store.specs.TemplateView.{the_template};
 
@@ -89,18 +92,29 @@ pub fn build_matrix(alloc: Global, problem: &Problem) -> Result<Matrix, MatrixFa
     Ok(Matrix { clauses, index })
 }
 
-// A template for each selection.
-fn clauses_of(alloc: Global, logic: Logic, formula: &Formula) -> Result<Vec<Clause>, NoMemory>
-    ensures { IfOk result (λ cs. AreTemplatesIfAny logic (the_formula formula.now)
-        (map the_clause cs.items)) }
+// What a walk over the formula goes by.
+fn plan_of(alloc: Global, logic: Logic, formula: &Formula) -> Result<Plan, NoMemory>
+    requires { size (the_formula formula.now) ≤ 4000000 }
+    ensures logic { IfOk result (λ p. p.logic ≡ logic) }
+    ensures sizes { IfOk result (λ p. p.sizes.items ≡ sizes_of (the_formula formula.now)) }
 {
     let mut sizes = Vec::new(alloc);
     add_sizes(&mut sizes, formula)?;
-    let plan = Plan {
+    Ok(Plan {
         alloc,
         logic,
         sizes,
-    };
+    })
+}
+
+// A template for each selection.
+fn clauses_of(alloc: Global, logic: Logic, formula: &Formula) -> Result<Vec<Clause>, NoMemory>
+    requires { size (the_formula formula.now) ≤ 4000000 }
+    ensures templates { IfOk result (λ cs. AreTemplatesIfAny logic (the_formula formula.now)
+        (map the_clause cs.items)) }
+    ensures few { IfOk result (λ cs. AllByRecursion HasFewLiterals (map the_clause cs.items)) }
+{
+    let plan = plan_of(alloc, logic, formula)?;
     let selections = selections(alloc, formula, Sign::F)?;
     let mut clauses = Vec::with_capacity(alloc, selections.len())?;
     for selection in selections {

@@ -1,11 +1,11 @@
 //! A clause as far as it is built.
 
-ghost use Rattle.std.specs.Prelude.{◌≡◌, ◌∷◌, ◌++◌, ◌+◌, [], OnOk, IfOk, MatchOption, length};
+ghost use Rattle.std.specs.Prelude.{◌≡◌, ◌<◌, ◌≤◌, ◌∷◌, ◌++◌, ◌+◌, [], OnOk, IfOk, MatchOption, length};
 ghost use Rattle.calculus.specs.Lists.{terms_tree};
 ghost use Rattle.store_theory.specs.Patterns.{p_var};
 ghost use Rattle.search_theory.specs.TemplateOf.{patterns_of};
 ghost use Rattle.matrix_build.specs.PartView.{the_part};
-ghost use Rattle.matrix_build.specs.Parts.{with_gamma, with_literal, with_pi, with_side, with_sort};
+ghost use Rattle.matrix_build.specs.Parts.{numbered, with_gamma, with_literal, with_pi, with_side, with_sort};
 
 use crate::pattern::{copy_all, patterns_of};
 use crate::way::Way;
@@ -39,33 +39,32 @@ fn first_side(sides: &[Side]) -> Option<(Side, &[Side])>
 }
 
 impl Part<'_> {
-    /// A variable of this sort, and its number. Numbers beyond 32 bits are beyond memory.
+    /// A variable of this sort, and its number.
     pub fn add_variable(&mut self, sort: Sort) -> Result<u32, NoMemory>
+        requires { numbered (the_part self.old) ≤ 4294967295 }
         ensures number { IfOk result (λ n. n ≡ length (the_part self.old).sorts) }
         ensures part { OnOk result (the_part self.new ≡ with_sort sort (the_part self.old)) }
+        ensures count { OnOk result (numbered (the_part self.new) ≡ numbered (the_part self.old) + 1) }
     {
-        let Ok(n) = u32::try_from(self.sorts.items().len()) else {
-            return Err(NoMemory);
-        };
+        let n = self.sorts.items().len() as u32;
         self.sorts.push(sort)?;
         Ok(n)
     }
 
     /// One pi step more.
-    pub fn add_pi(&mut self) -> Result<(), NoMemory>
-        ensures { OnOk result (the_part self.new ≡ with_pi (the_part self.old)) }
+    pub fn add_pi(&mut self)
+        requires { numbered (the_part self.old) < 4294967295 }
+        ensures part { the_part self.new ≡ with_pi (the_part self.old) }
+        ensures count { numbered (the_part self.new) ≡ numbered (the_part self.old) + 1 }
     {
-        let Some(pis) = self.pis.checked_add(1) else {
-            return Err(NoMemory);
-        };
-        self.pis = pis;
-        Ok(())
+        self.pis += 1;
     }
 
     /// The variable `n` as a gamma term at the label that is reached.
     pub fn add_gamma(&mut self, alloc: Global, n: u32, way: &Way) -> Result<(), NoMemory>
-        ensures { OnOk result (the_part self.new
+        ensures part { OnOk result (the_part self.new
             ≡ with_gamma (record { term = p_var n; label = way.now.label }) (the_part self.old)) }
+        ensures count { OnOk result (numbered (the_part self.new) ≡ numbered (the_part self.old)) }
     {
         let label = copy_all(alloc, &way.label)?;
         let term = Pattern::Var(n);
@@ -82,12 +81,13 @@ impl Part<'_> {
         args: &Terms,
         way: &Way,
     ) -> Result<(), NoMemory>
-        ensures { OnOk result (the_part self.new ≡ with_literal (record {
+        ensures part { OnOk result (the_part self.new ≡ with_literal (record {
           sign = sign;
           symbol = symbol.0;
           args = patterns_of way.now.env (terms_tree args.now);
           label = way.now.label;
         }) (the_part self.old)) }
+        ensures count { OnOk result (numbered (the_part self.new) ≡ numbered (the_part self.old) + 1) }
     {
         let args = patterns_of(alloc, &way.env, args)?;
         let label = copy_all(alloc, &way.label)?;
@@ -110,8 +110,9 @@ impl Part<'_> {
 
     /// Uses the next side.
     pub fn next_side(&mut self) -> Option<Side>
-        ensures { MatchOption result ((the_part self.old).sides ≡ [])
+        ensures side { MatchOption result ((the_part self.old).sides ≡ [])
             (λ side. the_part self.old ≡ with_side side (the_part self.new)) }
+        ensures count { numbered (the_part self.new) ≡ numbered (the_part self.old) }
     {
         match first_side(self.sides) {
             None => None,

@@ -1,6 +1,6 @@
 //! The template of a selection.
 
-ghost use Rattle.std.specs.Prelude.{◌≡◌, ◌+◌, IfOk};
+ghost use Rattle.std.specs.Prelude.{◌≡◌, ◌≤◌, IfOk, length};
 ghost use Rattle.store_theory.specs.Templates.{strings_from};
 ghost use Rattle.formula_core.specs.FormulaView.{the_formula};
 ghost use Rattle.matrix_build.specs.Parts.{IsTemplateIfAny, nothing_built};
@@ -19,27 +19,16 @@ use term_store::{Pattern, PatternAtomList, PatternGammaList, Patterns, Sort, Sor
 
 // The variables of sort string, in order.
 fn strings_of(alloc: Global, sorts: &[Sort]) -> Result<Patterns, NoMemory>
+    requires { length sorts.now ≤ 4294967295 }
     ensures { IfOk result (λ ps. ps ≡ strings_from 0 sorts.now) }
 {
     let mut strings = Patterns::new(alloc);
-    let mut n: u32 = 0;
-    for sort in sorts {
+    for (n, sort) in sorts.iter().enumerate() {
         if *sort == Sort::StringSort {
-            strings.push(Pattern::Var(n))?;
+            strings.push(Pattern::Var(n as u32))?;
         }
-        n = next_number(n)?;
     }
     Ok(strings)
-}
-
-// Numbers beyond 32 bits are beyond memory.
-fn next_number(n: u32) -> Result<u32, NoMemory>
-    ensures { IfOk result (λ m. m ≡ n + 1) }
-{
-    match n.checked_add(1) {
-        Some(m) => Ok(m),
-        None => Err(NoMemory),
-    }
 }
 
 // A clause of which nothing is built.
@@ -60,8 +49,9 @@ impl Plan {
     #[tactic(auto, using(crate::proofs::SizeTable::whole))]
     pub fn template_of(&self, f: &Formula, sides: &[Side]) -> Result<Template, NoMemory>
         requires { self.now.sizes.items ≡ sizes_of (the_formula f.now) }
-        ensures { IfOk result (λ t. IsTemplateIfAny self.now.logic (the_formula f.now) sides.now
+        ensures template { IfOk result (λ t. IsTemplateIfAny self.now.logic (the_formula f.now) sides.now
             (the_template t)) }
+        ensures few { IfOk result (λ t. length (the_template t).literals ≤ 8000000) }
     {
         let mut part = no_part(self.alloc, sides);
         let way = Way::root(self.alloc);

@@ -1,6 +1,6 @@
 //! The walk over the formula that builds the clause of a selection.
 
-ghost use Rattle.std.specs.Prelude.{◌≡◌, ◌+◌, IfOk, suc};
+ghost use Rattle.std.specs.Prelude.{◌≡◌, ◌<◌, ◌≤◌, ◌+◌, IfOk, length, suc};
 ghost use Rattle.calculus.specs.Kinds.{components, shape_of};
 ghost use Rattle.calculus.specs.Positions.{size};
 ghost use Rattle.calculus.specs.declared.kind.Shape.TheVariants.{Alpha, Beta, Delta, Gamma};
@@ -8,7 +8,7 @@ ghost use Rattle.search_theory.specs.TemplateOf.{pattern_part, pattern_quantifie
 ghost use Rattle.formula_core.specs.ComponentsView.{the_signed};
 ghost use Rattle.formula_core.specs.FormulaView.{the_formula};
 ghost use Rattle.matrix_build.specs.PartView.{the_part};
-ghost use Rattle.matrix_build.specs.Parts.{Adds, body_by, signed_part};
+ghost use Rattle.matrix_build.specs.Parts.{Adds, IsFewAt, IsFewBefore, body_by, signed_part};
 ghost use Rattle.matrix_build.specs.SizedParts.{HasTwo};
 ghost use Rattle.matrix_build.specs.Sizes.{HasSizes};
 ghost use Rattle.matrix_build.specs.WayView.{spot_at};
@@ -28,21 +28,12 @@ pub(crate) struct Plan {
     pub alloc: Global,
     pub logic: Logic,
     pub sizes: Vec<usize>,
-}
-
-// The position as names have it. Positions beyond 32 bits are beyond memory.
-fn number_of(position: usize) -> Result<u32, NoMemory>
-    ensures { IfOk result (λ n. n ≡ position) }
-{
-    match u32::try_from(position) {
-        Ok(n) => Ok(n),
-        Err(_) => Err(NoMemory),
-    }
+    ghost few: { length sizes.items ≤ 4000000 },
 }
 
 impl Plan {
     /// Adds what the signed formula at this position gives by the sides of the part. Where these
-    /// are no sides of its clauses nothing is said.
+    /// are no sides of its clauses nothing is said. Each position adds at most two that have numbers.
     #[cycle(add_part)]
     pub fn add_part(
         &self,
@@ -52,9 +43,11 @@ impl Plan {
         way: &Way,
         part: &mut Part,
     ) -> Result<(), NoMemory>
-        requires { HasSizes self.now.sizes.items position (the_formula f.now) }
-        ensures { IfOk result (λ _. Adds (pattern_part self.now.logic (the_formula f.now) sign)
+        requires few { IsFewBefore position (the_part part.old) }
+        requires sizes { HasSizes self.now.sizes.items position (the_formula f.now) }
+        ensures adds { IfOk result (λ _. Adds (pattern_part self.now.logic (the_formula f.now) sign)
             (spot_at position way.now) (the_part part.old) (the_part part.new)) }
+        ensures few { IfOk result (λ _. IsFewBefore (position + size (the_formula f.now)) (the_part part.new)) }
     {
         match kind_of(self.logic, sign, f).modal {
             ModalPart::Plain => self.add_body(f, sign, position, way, part),
@@ -64,12 +57,20 @@ impl Plan {
                 self.add_body(f, sign, position, &after, part)
             }
             ModalPart::Pi => {
-                part.add_pi()?;
-                let at = number_of(position)?;
+                part.add_pi();
+                let at = self.number_of(position);
                 let after = way.after_pi(self.alloc, self.logic, at)?;
                 self.add_body(f, sign, position, &after, part)
             }
         }
+    }
+
+    // The position as names have it.
+    fn number_of(&self, position: usize) -> u32
+        requires { position < length self.now.sizes.items }
+        ensures { result ≡ position }
+    {
+        position as u32
     }
 
     // The same without the modal part.
@@ -82,10 +83,12 @@ impl Plan {
         way: &Way,
         part: &mut Part,
     ) -> Result<(), NoMemory>
-        requires { HasSizes self.now.sizes.items position (the_formula f.now) }
-        ensures { IfOk result (λ _. Adds (body_by self.now.logic (shape_of sign (the_formula f.now))
+        requires few { IsFewAt position (the_part part.old) }
+        requires sizes { HasSizes self.now.sizes.items position (the_formula f.now) }
+        ensures adds { IfOk result (λ _. Adds (body_by self.now.logic (shape_of sign (the_formula f.now))
             (components sign (the_formula f.now)))
             (spot_at position way.now) (the_part part.old) (the_part part.new)) }
+        ensures few { IfOk result (λ _. IsFewBefore (position + size (the_formula f.now)) (the_part part.new)) }
     {
         match f.components(sign) {
             Components::Literal(p, args) => part.add_literal(self.alloc, sign, p, args, way),
@@ -107,11 +110,13 @@ impl Plan {
         way: &Way,
         part: &mut Part,
     ) -> Result<(), NoMemory>
-        requires { HasTwo self.now.sizes.items position (the_signed a) (the_signed b) }
-        ensures { IfOk result (λ _. Adds (pattern_two Alpha (size (the_formula a.entry.formula.now))
+        requires few { IsFewAt position (the_part part.old) }
+        requires sizes { HasTwo self.now.sizes.items position (the_signed a) (the_signed b) }
+        ensures adds { IfOk result (λ _. Adds (pattern_two Alpha (size (the_formula a.entry.formula.now))
             (signed_part self.now.logic (the_signed a.entry))
             (signed_part self.now.logic (the_signed b.entry)))
             (spot_at position way.now) (the_part part.old) (the_part part.new)) }
+        ensures few { IfOk result (λ _. IsFewBefore (position + suc (size (the_formula a.entry.formula.now) + size (the_formula b.entry.formula.now))) (the_part part.new)) }
     {
         match part.next_side() {
             None => Ok(()),
@@ -133,11 +138,13 @@ impl Plan {
         way: &Way,
         part: &mut Part,
     ) -> Result<(), NoMemory>
-        requires { HasTwo self.now.sizes.items position (the_signed a) (the_signed b) }
-        ensures { IfOk result (λ _. Adds (pattern_two Beta (size (the_formula a.entry.formula.now))
+        requires few { IsFewAt position (the_part part.old) }
+        requires sizes { HasTwo self.now.sizes.items position (the_signed a) (the_signed b) }
+        ensures adds { IfOk result (λ _. Adds (pattern_two Beta (size (the_formula a.entry.formula.now))
             (signed_part self.now.logic (the_signed a.entry))
             (signed_part self.now.logic (the_signed b.entry)))
             (spot_at position way.now) (the_part part.old) (the_part part.new)) }
+        ensures few { IfOk result (λ _. IsFewBefore (position + suc (size (the_formula a.entry.formula.now) + size (the_formula b.entry.formula.now))) (the_part part.new)) }
     {
         self.add_part(a.formula, a.sign, position + 1, way, part)?;
         let second = self.second(position, a, b);
@@ -163,10 +170,12 @@ impl Plan {
         way: &Way,
         part: &mut Part,
     ) -> Result<(), NoMemory>
-        requires { HasSizes self.now.sizes.items (position + 1) (the_formula a.formula.now) }
-        ensures { IfOk result (λ _. Adds
+        requires few { IsFewAt position (the_part part.old) }
+        requires sizes { HasSizes self.now.sizes.items (position + 1) (the_formula a.formula.now) }
+        ensures adds { IfOk result (λ _. Adds
             (pattern_quantifier Gamma (signed_part self.now.logic (the_signed a.entry)))
             (spot_at position way.now) (the_part part.old) (the_part part.new)) }
+        ensures few { IfOk result (λ _. IsFewBefore (position + suc (size (the_formula a.entry.formula.now))) (the_part part.new)) }
     {
         let n = part.add_variable(Sort::TermSort)?;
         part.add_gamma(self.alloc, n, way)?;
@@ -184,12 +193,14 @@ impl Plan {
         way: &Way,
         part: &mut Part,
     ) -> Result<(), NoMemory>
-        requires { HasSizes self.now.sizes.items (position + 1) (the_formula a.formula.now) }
-        ensures { IfOk result (λ _. Adds
+        requires few { IsFewAt position (the_part part.old) }
+        requires sizes { HasSizes self.now.sizes.items (position + 1) (the_formula a.formula.now) }
+        ensures adds { IfOk result (λ _. Adds
             (pattern_quantifier Delta (signed_part self.now.logic (the_signed a.entry)))
             (spot_at position way.now) (the_part part.old) (the_part part.new)) }
+        ensures few { IfOk result (λ _. IsFewBefore (position + suc (size (the_formula a.entry.formula.now))) (the_part part.new)) }
     {
-        let at = number_of(position)?;
+        let at = self.number_of(position);
         let inside = way.inside_delta(self.alloc, at)?;
         self.add_part(a.formula, a.sign, position + 1, &inside, part)?;
         Ok(())
