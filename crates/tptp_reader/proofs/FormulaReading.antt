@@ -78,7 +78,7 @@ may_stand modal Necessity = modal
 may_stand modal Possibility = modal
 may_stand modal _ = true
 
-prefix-is : (modal : Bool) (x : Terminal) (k : Prefix) → prefix_in modal x ≡ Some k → (x ≡ prefix_token k) × (may_stand modal k ≡ true)
+pub prefix-is : (modal : Bool) (x : Terminal) (k : Prefix) → prefix_in modal x ≡ Some k → (x ≡ prefix_token k) × (may_stand modal k ≡ true)
 prefix-is true open_round k e = subst (λ z. (open_round ≡ prefix_token z) × (may_stand true z ≡ true)) (some-is e) (refl, refl)
 prefix-is false open_round k e = subst (λ z. (open_round ≡ prefix_token z) × (may_stand false z ≡ true)) (some-is e) (refl, refl)
 prefix-is true tilde k e = subst (λ z. (tilde ≡ prefix_token z) × (may_stand true z ≡ true)) (some-is e) (refl, refl)

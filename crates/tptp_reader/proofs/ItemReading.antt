@@ -76,7 +76,7 @@ file-is : (x : Terminal) (w : List ℕ) → file_in x ≡ Some w → x ≡ quote
 file-is (quoted v) w e = ap quoted (some-is e)
 file-is _ w e = absurd (none-some e)
 
-include-is : (x : Terminal) → is_include_word x ≡ true → x ≡ lower (codes "include")
+pub include-is : (x : Terminal) → is_include_word x ≡ true → x ≡ lower (codes "include")
 include-is (lower v) e = ap lower (word-is v (codes "include") e)
 include-is _ e = absurd (false≢true e)
 
@@ -86,24 +86,24 @@ square_end-is _ e = absurd (false≢true e)
 
 -- ---- kinds
 
-abbrev language_of : ItemKind → List ℕ
+abbrev pub language_of : ItemKind → List ℕ
 language_of Fof = codes "fof"
 language_of Cnf = codes "cnf"
 language_of Qmf = codes "qmf"
 
-abbrev kind_fits : Bool → ItemKind → Bool
+abbrev pub kind_fits : Bool → ItemKind → Bool
 kind_fits modal Fof = not modal
 kind_fits modal Cnf = not modal
 kind_fits modal Qmf = modal
 
-record Kind (modal : Bool) (x : Terminal) (k : ItemKind) : Type 0 where
-  word : x ≡ lower (language_of k)
-  fits : kind_fits modal k ≡ true
+pub record Kind (modal : Bool) (x : Terminal) (k : ItemKind) : Type 0 where
+  pub word : x ≡ lower (language_of k)
+  pub fits : kind_fits modal k ≡ true
 
 kind-is : (modal : Bool) (w : List ℕ) (k l : ItemKind) → is_word w (language_of k) ≡ true → kind_fits modal k ≡ true → Some k ≡ Some l → Kind modal (lower w) l
 kind-is modal w k l h f e = subst (Kind modal (lower w)) (some-is e) (record { word = ap lower (word-is w (language_of k) h); fits = f })
 
-kind-found : (modal : Bool) (x : Terminal) (k : ItemKind) → kind_in modal x ≡ Some k → Kind modal x k
+pub kind-found : (modal : Bool) (x : Terminal) (k : ItemKind) → kind_in modal x ≡ Some k → Kind modal x k
 kind-found true (lower w) k e = by (is_word w (codes "qmf")) refl e
   where
     by : (b : Bool) → is_word w (codes "qmf") ≡ b → (if b then Some Qmf else None) ≡ Some k → Kind true (lower w) k

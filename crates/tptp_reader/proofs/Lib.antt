@@ -43,5 +43,13 @@ pub mod FormulaEnds
 pub mod StageLaws
 pub mod TextEnds
 pub mod Totality
+-- where the way over a text goes wrong, and that a reader stops there alone
+pub mod FailLaws
+pub mod TermFails
+pub mod AtomFails
+pub mod FormulaFails
+pub mod ClauseFails
+pub mod ItemFails
+pub mod EndFails
 -- worked examples
 mod Examples

@@ -34,3 +34,4 @@ pub mod Spans
 pub mod Standing
 pub mod ClauseStanding
 pub mod ItemStanding
+pub mod Failing

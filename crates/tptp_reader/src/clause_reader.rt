@@ -1,8 +1,9 @@
 //! Clauses. Where one begins with a bracket, it stands in brackets as a whole, or the atom of its first literal does.
 
-ghost use Rattle.std.specs.Prelude.{◌≡◌, ◌<◌, ◌≤◌, ◌==◌, ◌||◌, IfOk, false, length};
+ghost use Rattle.std.specs.Prelude.{◌≡◌, ◌<◌, ◌≤◌, ◌==◌, ◌||◌, ◌∷◌, [], Bool, IfOk, false, length};
 ghost use Rattle.tptp_reader.specs.ClauseStanding.{ClauseRead, DisjunctionRead, InsideRead, LiteralRead, MoreRead, OpenedRead, OthersRead, OutsideRead, UnsignedRead};
 ghost use Rattle.tptp_reader.specs.Expecting as way;
+ghost use Rattle.tptp_reader.specs.Failing.{SettlesAt, bracketed_parts};
 ghost use Rattle.tptp_reader.specs.SourceView.{the_source};
 ghost use Rattle.tptp_reader.specs.TerminalView.{the_terminal};
 
@@ -37,6 +38,7 @@ fn read_unsigned<'a>(
     requires within { p.end ≤ length text.now }
     requires shallow { depth ≤ 2 }
     ensures read { IfOk result (UnsignedRead text.now depth p.entry) }
+    ensures settles { (modal : Bool) → SettlesAt modal text.now (way.unsigned depth ∷ []) p.entry result }
     ensures onward { IfOk result (λ r. p.entry.end < r.1.end) }
     ensures within { IfOk result (λ r. r.1.end ≤ length text.now) }
 {
@@ -57,6 +59,7 @@ fn read_literal<'a>(
     requires within { p.end ≤ length text.now }
     requires shallow { depth ≤ 1 }
     ensures read { IfOk result (LiteralRead text.now depth p.entry) }
+    ensures settles { (modal : Bool) → SettlesAt modal text.now (way.literal depth ∷ []) p.entry result }
     ensures onward { IfOk result (λ r. p.entry.end < r.1.end) }
     ensures within { IfOk result (λ r. r.1.end ≤ length text.now) }
 {
@@ -80,6 +83,7 @@ fn read_more<'a>(
     requires within { p.end ≤ length text.now }
     requires shallow { depth ≤ 1 }
     ensures read { IfOk result (MoreRead text.now depth before p.entry) }
+    ensures settles { (modal : Bool) → SettlesAt modal text.now (way.literals_rest depth ∷ []) p.entry result }
     ensures ended { IfOk result (λ r. (way.form (the_terminal r.1.terminal) == 4) ≡ false) }
     ensures onward { IfOk result (λ r. p.entry.end ≤ r.1.end) }
     ensures within { IfOk result (λ r. r.1.end ≤ length text.now) }
@@ -106,6 +110,7 @@ fn read_others<'a>(
     requires within { p.end ≤ length text.now }
     requires shallow { depth ≤ 1 }
     ensures read { IfOk result (OthersRead text.now depth (the_source first) p.entry) }
+    ensures settles { (modal : Bool) → SettlesAt modal text.now (way.literals_rest depth ∷ []) p.entry result }
     ensures onward { IfOk result (λ r. p.entry.end ≤ r.1.end) }
     ensures within { IfOk result (λ r. r.1.end ≤ length text.now) }
 {
@@ -127,6 +132,7 @@ fn read_literals<'a>(
     requires within { p.end ≤ length text.now }
     requires shallow { depth ≤ 1 }
     ensures read { IfOk result (DisjunctionRead text.now depth p.entry) }
+    ensures settles { (modal : Bool) → SettlesAt modal text.now (way.literal depth ∷ way.literals_rest depth ∷ []) p.entry result }
     ensures onward { IfOk result (λ r. p.entry.end < r.1.end) }
     ensures within { IfOk result (λ r. r.1.end ≤ length text.now) }
 {
@@ -142,6 +148,7 @@ fn read_bracketed<'a>(
 ) -> Result<(Source, Piece<'a>), Stop>
     requires { p.end ≤ length text.now }
     ensures read { IfOk result (OpenedRead text.now p.entry) }
+    ensures settles { (modal : Bool) → SettlesAt modal text.now (bracketed_parts 1) p.entry result }
     ensures onward { IfOk result (λ r. p.entry.end < r.1.end) }
     ensures within { IfOk result (λ r. r.1.end ≤ length text.now) }
 {
@@ -158,6 +165,7 @@ fn read_inside<'a>(
 ) -> Result<(Source, Piece<'a>), Stop>
     requires { p.end ≤ length text.now }
     ensures read { IfOk result (InsideRead text.now (the_source first) p.entry) }
+    ensures settles { (modal : Bool) → SettlesAt modal text.now (way.literals_rest 1 ∷ way.this way.a_closing 1 ∷ []) p.entry result }
     ensures onward { IfOk result (λ r. p.entry.end < r.1.end) }
     ensures within { IfOk result (λ r. r.1.end ≤ length text.now) }
 {
@@ -174,6 +182,7 @@ fn read_outside<'a>(
 ) -> Result<(Source, Piece<'a>), Stop>
     requires { close.end ≤ length text.now }
     ensures read { IfOk result (OutsideRead text.now (the_source first) close.entry) }
+    ensures settles { (modal : Bool) → SettlesAt modal text.now (way.this way.a_closing 1 ∷ way.literals_rest 0 ∷ []) close.entry result }
     ensures onward { IfOk result (λ r. close.entry.end < r.1.end) }
     ensures within { IfOk result (λ r. r.1.end ≤ length text.now) }
 {
@@ -185,6 +194,7 @@ fn read_outside<'a>(
 fn read_opened<'a>(alloc: Global, text: &'a [u8], p: Piece<'a>) -> Result<(Source, Piece<'a>), Stop>
     requires { p.end ≤ length text.now }
     ensures read { IfOk result (OpenedRead text.now p.entry) }
+    ensures settles { (modal : Bool) → SettlesAt modal text.now (way.atom 1 ∷ way.clause_rest ∷ []) p.entry result }
     ensures onward { IfOk result (λ r. p.entry.end < r.1.end) }
     ensures within { IfOk result (λ r. r.1.end ≤ length text.now) }
 {
@@ -210,6 +220,7 @@ pub fn read_clause<'a>(
 ) -> Result<(Source, Piece<'a>), Stop>
     requires { p.end ≤ length text.now }
     ensures read { IfOk result (ClauseRead text.now p.entry) }
+    ensures settles { (modal : Bool) → SettlesAt modal text.now (way.clause ∷ []) p.entry result }
     ensures onward { IfOk result (λ r. p.entry.end < r.1.end) }
     ensures within { IfOk result (λ r. r.1.end ≤ length text.now) }
 {

@@ -1,8 +1,9 @@
 //! Atoms and formulas from tokens. As in `term_reader` each part tests its nesting, so the recursion ends within 500 levels.
 //! Chains are read by loops.
 
-ghost use Rattle.std.specs.Prelude.{◌≡◌, ◌<◌, ◌≤◌, ◌==◌, ◌++◌, ◌∷◌, [], List, ℕ, IfOk, OnOk, Some, length};
+ghost use Rattle.std.specs.Prelude.{◌≡◌, ◌<◌, ◌≤◌, ◌==◌, ◌++◌, ◌∷◌, [], Bool, List, ℕ, IfErr, IfOk, OnOk, None, Some, false, length};
 ghost use Rattle.tptp_reader.specs.Expecting as way;
+ghost use Rattle.tptp_reader.specs.Failing.{Missing, SettlesAt, SettlesBehind, SettlesNext, SettlesTo, quantifier_parts, side_part};
 ghost use Rattle.tptp_reader.specs.Standing.{AtomRead, BinaryRead, ChainRead, EndRead, FormulaRead, InnerRead, IsClosed, RightRead, SideRead, UnitRead, VariablesRead, binary_in, chain_in, is_chain, prefix_in, truth_in, variable_in};
 ghost use Rattle.tptp_reader.specs.declared.formula_reader.Prefix.TheVariants as prefix;
 ghost use Rattle.tptp_reader.specs.SourceView.{the_source};
@@ -58,6 +59,7 @@ fn read_right<'a>(
 ) -> Result<(SourceTerm, Piece<'a>), Stop>
     requires { sign.end ≤ length text.now }
     ensures read { IfOk result (RightRead text.now depth sign.entry) }
+    ensures settles { (modal : Bool) → SettlesBehind modal text.now (way.term depth ∷ []) sign.entry.end result }
     ensures onward { IfOk result (λ r. sign.entry.end ≤ r.1.end) }
     ensures within { IfOk result (λ r. r.1.end ≤ length text.now) }
 {
@@ -75,6 +77,7 @@ fn read_side<'a>(
 ) -> Result<(Source, Piece<'a>), Stop>
     requires { sign.end ≤ length text.now }
     ensures read { IfOk result (SideRead text.now depth (the_source_term left) sign.entry) }
+    ensures settles { (modal : Bool) → SettlesAt modal text.now (side_part (the_source_term left) depth ∷ []) sign.entry result }
     ensures onward { IfOk result (λ r. sign.entry.end ≤ r.1.end) }
     ensures within { IfOk result (λ r. r.1.end ≤ length text.now) }
 {
@@ -101,6 +104,7 @@ pub fn read_atom<'a>(
 ) -> Result<(Source, Piece<'a>), Stop>
     requires { p.end ≤ length text.now }
     ensures read { IfOk result (AtomRead text.now depth p.entry) }
+    ensures settles { (modal : Bool) → SettlesAt modal text.now (way.atom depth ∷ []) p.entry result }
     ensures onward { IfOk result (λ r. p.entry.end < r.1.end) }
     ensures within { IfOk result (λ r. r.1.end ≤ length text.now) }
 {
@@ -120,6 +124,7 @@ pub fn read_atom<'a>(
 fn behind_closing<'a>(text: &'a [u8], close: Piece<'a>) -> Result<Piece<'a>, Stop>
     requires { close.end ≤ length text.now }
     ensures read { IfOk result (Span text.now close.entry (close_round ∷ [])) }
+    ensures settles { (modal : Bool) (d : ℕ) → SettlesTo modal text.now (way.this way.a_closing d ∷ []) close.entry result }
     ensures onward { IfOk result (λ q. close.entry.end < q.end) }
     ensures within { IfOk result (λ q. q.end ≤ length text.now) }
 {
@@ -137,6 +142,7 @@ pub fn closed<'a>(
 ) -> Result<(Source, Piece<'a>), Stop>
     requires { close.end ≤ length text.now }
     ensures read { IfOk result (IsClosed text.now (the_source source) close.entry) }
+    ensures settles { (modal : Bool) (d : ℕ) → SettlesAt modal text.now (way.this way.a_closing d ∷ []) close.entry result }
     ensures onward { IfOk result (λ r. close.entry.end < r.1.end) }
     ensures within { IfOk result (λ r. r.1.end ≤ length text.now) }
 {
@@ -179,7 +185,8 @@ fn prefix_of(modal: bool, x: Terminal) -> Option<Prefix>
 }
 
 fn read_variable(alloc: Global, x: Terminal) -> Result<Text, Stop>
-    ensures { IfOk result (λ t. variable_in (the_terminal x.entry) ≡ Some t) }
+    ensures name { IfOk result (λ t. variable_in (the_terminal x.entry) ≡ Some t) }
+    ensures none { IfErr result (Missing (variable_in (the_terminal x.entry) ≡ None)) }
 {
     match x {
         Terminal::Upper(name) => Ok(Text::new(alloc, name)?),
@@ -188,8 +195,9 @@ fn read_variable(alloc: Global, x: Terminal) -> Result<Text, Stop>
 }
 
 fn push_variable(alloc: Global, names: &mut TextList, x: Terminal) -> Result<(), Stop>
-    ensures { OnOk result ((t : List ℕ) × (variable_in (the_terminal x.entry) ≡ Some t)
+    ensures pushed { OnOk result ((t : List ℕ) × (variable_in (the_terminal x.entry) ≡ Some t)
         × (names.new ≡ names.old ++ t ∷ [])) }
+    ensures none { IfErr result (Missing (variable_in (the_terminal x.entry) ≡ None)) }
 {
     let name = read_variable(alloc, x)?;
     names.push(name)?;
@@ -206,6 +214,8 @@ fn closes_square(x: Terminal) -> bool
 fn quantifier_end<'a>(text: &'a [u8], square: Piece<'a>) -> Result<Piece<'a>, Stop>
     requires { square.end ≤ length text.now }
     ensures read { IfOk result (EndRead text.now square.entry) }
+    ensures settles { (way.form (the_terminal square.entry.terminal) == 14) ≡ false
+        → (modal : Bool) (d : ℕ) → SettlesTo modal text.now (way.variables d ∷ []) square.entry result }
     ensures onward { IfOk result (λ q. square.entry.end < q.end) }
     ensures within { IfOk result (λ q. q.end ≤ length text.now) }
 {
@@ -223,6 +233,7 @@ fn quantifier_end<'a>(text: &'a [u8], square: Piece<'a>) -> Result<Piece<'a>, St
 fn behind_square<'a>(text: &'a [u8], p: Piece<'a>) -> Result<Piece<'a>, Stop>
     requires { p.end ≤ length text.now }
     ensures read { IfOk result (Span text.now p.entry (the_terminal p.entry.terminal ∷ open_square ∷ [])) }
+    ensures settles { (modal : Bool) (d : ℕ) → SettlesNext modal text.now (way.this way.a_square d ∷ []) p.entry.end result }
     ensures onward { IfOk result (λ q. p.entry.end < q.end) }
     ensures within { IfOk result (λ q. q.end ≤ length text.now) }
 {
@@ -241,6 +252,7 @@ fn read_variables<'a>(
 ) -> Result<(TextList, Piece<'a>), Stop>
     requires { p.end ≤ length text.now }
     ensures read { IfOk result (VariablesRead text.now p.entry) }
+    ensures settles { (modal : Bool) (d : ℕ) → SettlesBehind modal text.now (quantifier_parts d) p.entry.end result }
     ensures onward { IfOk result (λ r. p.entry.end < r.1.end) }
     ensures within { IfOk result (λ r. r.1.end ≤ length text.now) }
 {
@@ -263,6 +275,7 @@ fn read_variables<'a>(
 fn behind_operator<'a>(text: &'a [u8], p: Piece<'a>) -> Result<Piece<'a>, Stop>
     requires { p.end ≤ length text.now }
     ensures read { IfOk result (Span text.now p.entry (the_terminal p.entry.terminal ∷ colon ∷ [])) }
+    ensures settles { (modal : Bool) (d : ℕ) → SettlesNext modal text.now (way.this way.a_colon d ∷ []) p.entry.end result }
     ensures onward { IfOk result (λ q. p.entry.end < q.end) }
     ensures within { IfOk result (λ q. q.end ≤ length text.now) }
 {
@@ -317,6 +330,7 @@ fn read_unit<'a>(
 ) -> Result<(Source, Piece<'a>), Stop>
     requires { p.end ≤ length text.now }
     ensures read { IfOk result (UnitRead modal text.now depth p.entry) }
+    ensures settles { SettlesAt modal text.now (way.unit depth ∷ []) p.entry result }
     ensures onward { IfOk result (λ r. p.entry.end < r.1.end) }
     ensures within { IfOk result (λ r. r.1.end ≤ length text.now) }
 {
@@ -344,6 +358,7 @@ fn read_bracketed<'a>(
     requires within { p.end ≤ length text.now }
     requires prefix { prefix_in modal (the_terminal p.terminal) ≡ Some prefix.Bracket }
     ensures read { IfOk result (UnitRead modal text.now depth p.entry) }
+    ensures settles { SettlesAt modal text.now (way.unit depth ∷ []) p.entry result }
     ensures onward { IfOk result (λ r. p.entry.end < r.1.end) }
     ensures within { IfOk result (λ r. r.1.end ≤ length text.now) }
 {
@@ -364,6 +379,7 @@ fn read_inner<'a>(
 ) -> Result<(SourceBox, Piece<'a>), Stop>
     requires { p.end ≤ length text.now }
     ensures read { IfOk result (InnerRead modal text.now depth p.entry) }
+    ensures settles { SettlesAt modal text.now (way.unit depth ∷ []) p.entry result }
     ensures onward { IfOk result (λ r. p.entry.end < r.1.end) }
     ensures within { IfOk result (λ r. r.1.end ≤ length text.now) }
 {
@@ -383,6 +399,7 @@ fn read_negation<'a>(
     requires within { p.end ≤ length text.now }
     requires prefix { prefix_in modal (the_terminal p.terminal) ≡ Some prefix.Negation }
     ensures read { IfOk result (UnitRead modal text.now depth p.entry) }
+    ensures settles { SettlesAt modal text.now (way.unit depth ∷ []) p.entry result }
     ensures onward { IfOk result (λ r. p.entry.end < r.1.end) }
     ensures within { IfOk result (λ r. r.1.end ≤ length text.now) }
 {
@@ -403,6 +420,7 @@ fn read_universal<'a>(
     requires within { p.end ≤ length text.now }
     requires prefix { prefix_in modal (the_terminal p.terminal) ≡ Some prefix.Universal }
     ensures read { IfOk result (UnitRead modal text.now depth p.entry) }
+    ensures settles { SettlesAt modal text.now (way.unit depth ∷ []) p.entry result }
     ensures onward { IfOk result (λ r. p.entry.end < r.1.end) }
     ensures within { IfOk result (λ r. r.1.end ≤ length text.now) }
 {
@@ -423,6 +441,7 @@ fn read_existential<'a>(
     requires within { p.end ≤ length text.now }
     requires prefix { prefix_in modal (the_terminal p.terminal) ≡ Some prefix.Existential }
     ensures read { IfOk result (UnitRead modal text.now depth p.entry) }
+    ensures settles { SettlesAt modal text.now (way.unit depth ∷ []) p.entry result }
     ensures onward { IfOk result (λ r. p.entry.end < r.1.end) }
     ensures within { IfOk result (λ r. r.1.end ≤ length text.now) }
 {
@@ -443,6 +462,7 @@ fn read_necessity<'a>(
     requires within { p.end ≤ length text.now }
     requires prefix { prefix_in modal (the_terminal p.terminal) ≡ Some prefix.Necessity }
     ensures read { IfOk result (UnitRead modal text.now depth p.entry) }
+    ensures settles { SettlesAt modal text.now (way.unit depth ∷ []) p.entry result }
     ensures onward { IfOk result (λ r. p.entry.end < r.1.end) }
     ensures within { IfOk result (λ r. r.1.end ≤ length text.now) }
 {
@@ -463,6 +483,7 @@ fn read_possibility<'a>(
     requires within { p.end ≤ length text.now }
     requires prefix { prefix_in modal (the_terminal p.terminal) ≡ Some prefix.Possibility }
     ensures read { IfOk result (UnitRead modal text.now depth p.entry) }
+    ensures settles { SettlesAt modal text.now (way.unit depth ∷ []) p.entry result }
     ensures onward { IfOk result (λ r. p.entry.end < r.1.end) }
     ensures within { IfOk result (λ r. r.1.end ≤ length text.now) }
 {
@@ -483,6 +504,7 @@ pub fn read_tree<'a>(
 ) -> Result<(Source, Piece<'a>), Stop>
     requires { p.end ≤ length text.now }
     ensures read { IfOk result (FormulaRead modal text.now depth p.entry) }
+    ensures settles { SettlesAt modal text.now (way.formula depth ∷ []) p.entry result }
     ensures onward { IfOk result (λ r. p.entry.end < r.1.end) }
     ensures within { IfOk result (λ r. r.1.end ≤ length text.now) }
 {
@@ -509,6 +531,7 @@ fn read_binary<'a>(
 ) -> Result<(Source, Piece<'a>), Stop>
     requires { sign.end ≤ length text.now }
     ensures read { IfOk result (BinaryRead modal text.now depth kind (the_source first) sign.entry) }
+    ensures settles { SettlesBehind modal text.now (way.unit depth ∷ []) sign.entry.end result }
     ensures onward { IfOk result (λ r. sign.entry.end < r.1.end) }
     ensures within { IfOk result (λ r. r.1.end ≤ length text.now) }
 {
@@ -531,6 +554,7 @@ fn read_chain<'a>(
 ) -> Result<(Source, Piece<'a>), Stop>
     requires { sign.end ≤ length text.now }
     ensures read { IfOk result (ChainRead modal text.now depth kind (the_source first) sign.entry) }
+    ensures settles { SettlesBehind modal text.now (way.unit depth ∷ way.chain_rest kind depth ∷ []) sign.entry.end result }
     ensures onward { IfOk result (λ r. sign.entry.end < r.1.end) }
     ensures within { IfOk result (λ r. r.1.end ≤ length text.now) }
 {

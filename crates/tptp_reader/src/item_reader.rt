@@ -1,8 +1,10 @@
 //! Items.
 
-ghost use Rattle.std.specs.Prelude.{◌≡◌, ◌<◌, ◌≤◌, ◌==◌, ◌++◌, ◌∷◌, [], IfOk, OnOk, List, ℕ, Some, false, true, length, reverse};
+ghost use Rattle.std.specs.Prelude.{◌≡◌, ◌<◌, ◌≤◌, ◌==◌, ◌&&◌, ◌++◌, ◌∷◌, [], Bool, IfErr, IfOk, OnOk, List, ℕ, None, Some, false, true, length, reverse};
 ghost use Rattle.tptp_reader.specs.Expecting as way;
 ghost use Rattle.tptp_reader.specs.ExpectedView.{the_fixed};
+ghost use Rattle.tptp_reader.specs.Failing.{At, Behind, Missing, Settles, SettlesAt, SettlesEnd, SettlesItem, SettlesTo, body_part, head_parts};
+ghost use Rattle.tptp_reader.specs.Following.{closing};
 ghost use Rattle.tptp_reader.specs.ItemStanding.{BodyRead, DotRead, EndRead, HeadRead, IncludeRead, ItemRead, NamesRead, NotesRead, RestRead, SelectedEnd, SelectedRead, file_in, is_clause, is_include_word, is_square, kind_in, name_in, note_after, role_in};
 ghost use Rattle.tptp_reader.specs.Pieces.{placed};
 ghost use Rattle.tptp_reader.specs.SourceView.{the_source};
@@ -47,7 +49,8 @@ fn kind_of(modal: bool, x: Terminal) -> Option<ItemKind>
 
 // The name of an item.
 fn read_name(alloc: Global, x: Terminal) -> Result<Text, Stop>
-    ensures { IfOk result (λ t. name_in (the_terminal x.entry) ≡ Some t) }
+    ensures name { IfOk result (λ t. name_in (the_terminal x.entry) ≡ Some t) }
+    ensures none { IfErr result (Missing (name_in (the_terminal x.entry) ≡ None)) }
 {
     match x {
         Terminal::Number(digits) => {
@@ -66,7 +69,8 @@ fn read_name(alloc: Global, x: Terminal) -> Result<Text, Stop>
 }
 
 fn read_role(alloc: Global, x: Terminal) -> Result<Text, Stop>
-    ensures { IfOk result (λ t. role_in (the_terminal x.entry) ≡ Some t) }
+    ensures role { IfOk result (λ t. role_in (the_terminal x.entry) ≡ Some t) }
+    ensures none { IfErr result (Missing (role_in (the_terminal x.entry) ≡ None)) }
 {
     let Terminal::Lower(word) = x else {
         return Err(Stop::NotThere);
@@ -77,7 +81,8 @@ fn read_role(alloc: Global, x: Terminal) -> Result<Text, Stop>
 
 // The name of a file.
 fn read_file(alloc: Global, x: Terminal) -> Result<Text, Stop>
-    ensures { IfOk result (λ t. file_in (the_terminal x.entry) ≡ Some t) }
+    ensures file { IfOk result (λ t. file_in (the_terminal x.entry) ≡ Some t) }
+    ensures none { IfErr result (Missing (file_in (the_terminal x.entry) ≡ None)) }
 {
     match x {
         Terminal::Quoted(_) => {
@@ -108,6 +113,7 @@ fn behind<'a>(text: &'a [u8], form: Fixed, p: Piece<'a>) -> Result<Piece<'a>, St
     requires { p.end ≤ length text.now }
     ensures formed { IfOk result (λ _. (way.form (the_terminal p.entry.terminal) == way.form_of (the_fixed form)) ≡ true) }
     ensures next { IfOk result (λ q. Follow text.now p.entry.end (placed q ∷ []) q.end) }
+    ensures settles { (modal : Bool) → SettlesTo modal text.now (way.this (the_fixed form) 0 ∷ []) p.entry result }
     ensures onward { IfOk result (λ q. p.entry.end < q.end) }
     ensures within { IfOk result (λ q. q.end ≤ length text.now) }
 {
@@ -121,6 +127,7 @@ fn behind<'a>(text: &'a [u8], form: Fixed, p: Piece<'a>) -> Result<Piece<'a>, St
 fn read_dot<'a>(text: &'a [u8], p: Piece<'a>) -> Result<Piece<'a>, Stop>
     requires { p.end ≤ length text.now }
     ensures read { IfOk result (DotRead text.now p.entry) }
+    ensures settles { (modal : Bool) → SettlesEnd (λ q. q) modal text.now (way.this way.a_closing 0 ∷ []) p.entry result }
     ensures onward { IfOk result (λ q. p.entry.end < q.end) }
     ensures within { IfOk result (λ q. q.end ≤ length text.now) }
 {
@@ -152,6 +159,7 @@ fn read_body<'a>(
 ) -> Result<(Source, Piece<'a>), Stop>
     requires { p.end ≤ length text.now }
     ensures read { IfOk result (BodyRead modal kind text.now p.entry) }
+    ensures settles { SettlesAt modal text.now (body_part kind ∷ []) p.entry result }
     ensures onward { IfOk result (λ r. p.entry.end < r.1.end) }
     ensures within { IfOk result (λ r. r.1.end ≤ length text.now) }
 {
@@ -170,7 +178,8 @@ fn open_note(waiting: &mut Vec<bool>, round: bool) -> Result<(), NoMemory>
 }
 
 fn close_note(waiting: &mut Vec<bool>, round: bool) -> Result<(), Stop>
-    ensures { OnOk result (reverse waiting.old.items ≡ round ∷ reverse waiting.new.items) }
+    ensures closed { OnOk result (reverse waiting.old.items ≡ round ∷ reverse waiting.new.items) }
+    ensures none { IfErr result (Missing (note_after (reverse waiting.old.items) (closing round) ≡ None)) }
 {
     match waiting.pop() {
         Some(open) => {
@@ -185,7 +194,8 @@ fn close_note(waiting: &mut Vec<bool>, round: bool) -> Result<(), Stop>
 
 // A token within notes.
 fn pass_note(waiting: &mut Vec<bool>, x: Terminal) -> Result<(), Stop>
-    ensures { OnOk result (note_after (reverse waiting.old.items) (the_terminal x.entry) ≡ Some (reverse waiting.new.items)) }
+    ensures passed { OnOk result (note_after (reverse waiting.old.items) (the_terminal x.entry) ≡ Some (reverse waiting.new.items)) }
+    ensures none { IfErr result (Missing (note_after (reverse waiting.old.items) (the_terminal x.entry) ≡ None)) }
 {
     match x {
         Terminal::OpenRound => open_note(waiting, true)?,
@@ -197,20 +207,26 @@ fn pass_note(waiting: &mut Vec<bool>, x: Terminal) -> Result<(), Stop>
     Ok(())
 }
 
+// Notes may end here: no bracket of theirs is open, and this one closes.
+fn ends_notes(waiting: &[bool], x: Terminal) -> bool
+    ensures { result ≡ ((length waiting.now == 0) && (way.form (the_terminal x.entry) == 11)) }
+{
+    waiting.is_empty() && has_form(Fixed::Closing, x)
+}
+
 // The dot of an item, from its first note on.
 fn skip_notes<'a>(alloc: Global, text: &'a [u8], p: Piece<'a>) -> Result<Piece<'a>, Stop>
     requires { p.end ≤ length text.now }
     ensures read { IfOk result (NotesRead text.now p.entry) }
+    ensures settles { (modal : Bool) → SettlesEnd (λ q. q) modal text.now (way.notes [] ∷ []) p.entry result }
     ensures onward { IfOk result (λ r. p.entry.end < r.end) }
     ensures within { IfOk result (λ r. r.end ≤ length text.now) }
 {
     let mut waiting: Vec<bool> = Vec::new(alloc);
     let mut here = p;
     'notes: loop {
-        if waiting.as_slice().is_empty() {
-            if has_form(Fixed::Closing, here.terminal) {
-                return read_dot(text, here);
-            }
+        if ends_notes(waiting.as_slice(), here.terminal) {
+            return read_dot(text, here);
         }
         let next = next_token(text, here.end)?;
         pass_note(&mut waiting, here.terminal)?;
@@ -222,6 +238,7 @@ fn skip_notes<'a>(alloc: Global, text: &'a [u8], p: Piece<'a>) -> Result<Piece<'
 fn read_end<'a>(alloc: Global, text: &'a [u8], p: Piece<'a>) -> Result<Piece<'a>, Stop>
     requires { p.end ≤ length text.now }
     ensures read { IfOk result (EndRead text.now p.entry) }
+    ensures settles { (modal : Bool) → SettlesEnd (λ q. q) modal text.now (way.after_body ∷ []) p.entry result }
     ensures onward { IfOk result (λ r. p.entry.end < r.end) }
     ensures within { IfOk result (λ r. r.end ≤ length text.now) }
 {
@@ -245,6 +262,7 @@ fn ended<'a>(
     requires { after.end ≤ length text.now }
     ensures read { IfOk result (λ r. (the_source r.0 ≡ the_source source)
         × EndRead text.now after.entry r.1) }
+    ensures settles { (modal : Bool) → SettlesEnd (λ r. r.1) modal text.now (way.after_body ∷ []) after.entry result }
     ensures onward { IfOk result (λ r. after.entry.end < r.1.end) }
     ensures within { IfOk result (λ r. r.1.end ≤ length text.now) }
 {
@@ -262,6 +280,7 @@ fn read_rest<'a>(
 ) -> Result<(Source, Piece<'a>), Stop>
     requires { p.end ≤ length text.now }
     ensures read { IfOk result (RestRead modal kind text.now p.entry) }
+    ensures settles { SettlesEnd (λ r. r.1) modal text.now (body_part kind ∷ way.after_body ∷ []) p.entry result }
     ensures onward { IfOk result (λ r. p.entry.end < r.1.end) }
     ensures within { IfOk result (λ r. r.1.end ≤ length text.now) }
 {
@@ -284,6 +303,7 @@ pub struct Head<'a> {
 fn read_head<'a>(alloc: Global, text: &'a [u8], p: Piece<'a>) -> Result<Head<'a>, Stop>
     requires { p.end ≤ length text.now }
     ensures read { IfOk result (HeadRead text.now p.entry) }
+    ensures settles { (modal : Bool) → Settles (Behind modal text.now p.entry.end) head_parts (λ h. At modal text.now h.body) result }
     ensures onward { IfOk result (λ h. p.entry.end < h.body.end) }
     ensures within { IfOk result (λ h. h.body.end ≤ length text.now) }
 {
@@ -314,6 +334,7 @@ fn read_formula_item<'a>(
     requires within { p.end ≤ length text.now }
     requires kind { kind_in modal (the_terminal p.terminal) ≡ Some kind }
     ensures read { IfOk result (ItemRead modal text.now p.entry) }
+    ensures settles { SettlesItem modal text.now p.entry result }
     ensures onward { IfOk result (λ r. p.entry.end < r.1.end) }
     ensures within { IfOk result (λ r. r.1.end ≤ length text.now) }
 {
@@ -333,8 +354,9 @@ fn read_formula_item<'a>(
 // ---- includes
 
 fn push_name(alloc: Global, names: &mut NamePlaces, p: Piece) -> Result<(), Stop>
-    ensures { OnOk result ((t : List ℕ) × (name_in (the_terminal p.entry.terminal) ≡ Some t)
+    ensures pushed { OnOk result ((t : List ℕ) × (name_in (the_terminal p.entry.terminal) ≡ Some t)
         × (names.new ≡ names.old ++ (t, p.entry.start) ∷ [])) }
+    ensures none { IfErr result (Missing (name_in (the_terminal p.entry.terminal) ≡ None)) }
 {
     let name = read_name(alloc, p.terminal)?;
     names.push((name, p.start as u64))?;
@@ -349,6 +371,8 @@ fn read_names<'a>(
 ) -> Result<(NamePlaces, Piece<'a>), Stop>
     requires { p.end ≤ length text.now }
     ensures read { IfOk result (NamesRead text.now p.entry) }
+    ensures settles { (modal : Bool) → Settles (At modal text.now p.entry) (way.name ∷ way.names_rest ∷ []) (λ r es. At modal text.now r.1 (way.names_rest ∷ es)) result }
+    ensures ended { IfOk result (λ r. (way.form (the_terminal r.1.terminal) == 14) ≡ false) }
     ensures onward { IfOk result (λ r. p.entry.end < r.1.end) }
     ensures within { IfOk result (λ r. r.1.end ≤ length text.now) }
 {
@@ -367,6 +391,8 @@ fn read_names<'a>(
 fn read_square<'a>(text: &'a [u8], p: Piece<'a>) -> Result<Piece<'a>, Stop>
     requires { p.end ≤ length text.now }
     ensures read { IfOk result (SelectedEnd text.now p.entry) }
+    ensures settles { (way.form (the_terminal p.entry.terminal) == 14) ≡ false
+        → (modal : Bool) → SettlesEnd (λ q. q) modal text.now (way.names_rest ∷ []) p.entry result }
     ensures onward { IfOk result (λ r. p.entry.end < r.end) }
     ensures within { IfOk result (λ r. r.end ≤ length text.now) }
 {
@@ -385,6 +411,8 @@ fn selected<'a>(
 ) -> Result<(NamePlaces, Piece<'a>), Stop>
     requires { p.end ≤ length text.now }
     ensures read { IfOk result (λ r. (r.0 ≡ names) × SelectedEnd text.now p.entry r.1) }
+    ensures settles { (way.form (the_terminal p.entry.terminal) == 14) ≡ false
+        → (modal : Bool) → SettlesEnd (λ r. r.1) modal text.now (way.names_rest ∷ []) p.entry result }
     ensures onward { IfOk result (λ r. p.entry.end < r.1.end) }
     ensures within { IfOk result (λ r. r.1.end ≤ length text.now) }
 {
@@ -400,6 +428,7 @@ fn read_selected<'a>(
 ) -> Result<(NamePlaces, Piece<'a>), Stop>
     requires { p.end ≤ length text.now }
     ensures read { IfOk result (SelectedRead text.now p.entry) }
+    ensures settles { (modal : Bool) → SettlesEnd (λ r. r.1) modal text.now (way.this way.a_square 0 ∷ way.name ∷ way.names_rest ∷ []) p.entry result }
     ensures onward { IfOk result (λ r. p.entry.end < r.1.end) }
     ensures within { IfOk result (λ r. r.1.end ≤ length text.now) }
 {
@@ -413,6 +442,7 @@ fn read_include<'a>(alloc: Global, text: &'a [u8], p: Piece<'a>) -> Result<(Item
     requires within { p.end ≤ length text.now }
     requires word { is_include_word (the_terminal p.terminal) ≡ true }
     ensures read { IfOk result (IncludeRead text.now p.entry) }
+    ensures settles { (modal : Bool) → SettlesItem modal text.now p.entry result }
     ensures onward { IfOk result (λ r. p.entry.end < r.1.end) }
     ensures within { IfOk result (λ r. r.1.end ≤ length text.now) }
 {
@@ -451,6 +481,7 @@ pub fn read_item<'a>(
 ) -> Result<(Item, Piece<'a>), Stop>
     requires { p.end ≤ length text.now }
     ensures read { IfOk result (ItemRead modal text.now p.entry) }
+    ensures settles { SettlesItem modal text.now p.entry result }
     ensures onward { IfOk result (λ r. p.entry.end < r.1.end) }
     ensures within { IfOk result (λ r. r.1.end ≤ length text.now) }
 {

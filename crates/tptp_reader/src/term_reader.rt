@@ -1,8 +1,9 @@
 //! Terms from tokens. Each reader tests the nesting of the place where its part begins, so the recursion ends within 500
 //! calls.
 
-ghost use Rattle.std.specs.Prelude.{◌≡◌, ◌<◌, ◌≤◌, ◌==◌, ◌∷◌, [], IfOk, Some, true, false, length, suc};
+ghost use Rattle.std.specs.Prelude.{◌≡◌, ◌<◌, ◌≤◌, ◌==◌, ◌∷◌, [], Bool, IfErr, IfOk, None, Some, true, false, length, suc};
 ghost use Rattle.tptp_reader.specs.Expecting as way;
+ghost use Rattle.tptp_reader.specs.Failing.{Missing, SettlesAt, SettlesNext};
 ghost use Rattle.tptp_reader.specs.Following.{is_shallow};
 ghost use Rattle.tptp_reader.specs.Pieces.{placed};
 ghost use Rattle.tptp_reader.specs.Standing.{ArgumentsRead, TermRead, word_in};
@@ -21,12 +22,14 @@ use std::alloc::{AllocFailed, Global};
 pub fn next_token(text: &[u8], from: usize) -> Result<Piece<'_>, Stop>
     requires { from ≤ length text.now }
     ensures next { IfOk result (λ q. Follow text.now from (placed q ∷ []) q.end) }
+    ensures settles { (modal : Bool) → SettlesNext modal text.now [] from result }
     ensures onward { IfOk result (λ q. from < q.end) }
     ensures within { IfOk result (λ q. q.end ≤ length text.now) }
 {
     match next_piece(text, from) {
         Ok(Some(piece)) => Ok(piece),
-        _ => Err(Stop::NotThere),
+        Ok(None) => Err(Stop::NotThere),
+        Err(_) => Err(Stop::NotThere),
     }
 }
 
@@ -34,6 +37,7 @@ pub fn next_token(text: &[u8], from: usize) -> Result<Piece<'_>, Stop>
 pub fn inside(depth: u32) -> Result<u32, Stop>
     ensures inner { IfOk result (λ n. n ≡ suc depth) }
     ensures shallow { IfOk result (λ _. is_shallow depth ≡ true) }
+    ensures deep { IfErr result (Missing (is_shallow depth ≡ false)) }
 {
     if depth > 500 {
         return Err(Stop::NotThere);
@@ -67,7 +71,8 @@ fn unquoted(alloc: Global, quoted: &[u8]) -> Result<Text, NoMemory>
 
 /// The name that a word stands for.
 pub fn read_word(alloc: Global, x: Terminal) -> Result<Text, Stop>
-    ensures { IfOk result (λ t. word_in (the_terminal x.entry) ≡ Some t) }
+    ensures word { IfOk result (λ t. word_in (the_terminal x.entry) ≡ Some t) }
+    ensures none { IfErr result (Missing (word_in (the_terminal x.entry) ≡ None)) }
 {
     match x {
         Terminal::Lower(word) => Ok(Text::new(alloc, word)?),
@@ -85,6 +90,7 @@ pub fn read_term<'a>(
 ) -> Result<(SourceTerm, Piece<'a>), Stop>
     requires { p.end ≤ length text.now }
     ensures read { IfOk result (TermRead text.now depth p.entry) }
+    ensures settles { (modal : Bool) → SettlesAt modal text.now (way.term depth ∷ []) p.entry result }
     ensures onward { IfOk result (λ r. p.entry.end < r.1.end) }
     ensures within { IfOk result (λ r. r.1.end ≤ length text.now) }
 {
@@ -109,6 +115,7 @@ pub fn read_arguments<'a>(
 ) -> Result<(SourceTerms, Piece<'a>), Stop>
     requires { p.end ≤ length text.now }
     ensures read { IfOk result (ArgumentsRead text.now depth p.entry) }
+    ensures settles { (modal : Bool) → SettlesAt modal text.now (way.some_arguments depth ∷ []) p.entry result }
     ensures onward { IfOk result (λ r. p.entry.end ≤ r.1.end) }
     ensures within { IfOk result (λ r. r.1.end ≤ length text.now) }
 {

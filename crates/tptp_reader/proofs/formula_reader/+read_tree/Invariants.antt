@@ -1,4 +1,6 @@
-use Rattle.std.proofs.Common.{◌≤◌, ◌-◌, ◌*◌, ◌+◌, length}
+use Rattle.std.proofs.Common.{◌≤◌, ◌-◌, ◌*◌, ◌+◌, ◌∷◌, [], length}
+use Rattle.tptp_reader.specs.Expecting.{unit, chain_rest}
+use Rattle.tptp_reader.specs.Failing.{LeadsBehind}
 use Rattle.tptp_reader.specs.SourceView.{the_source}
 use Rattle.tptp_reader.specs.Standing.{ChainUpTo}
 use Rattle.tptp_reader.proofs.formula_reader.+read_tree.Given as goal
@@ -39,6 +41,7 @@ decreases-read_chain l = 3 * (length l.text.now - l.sign.end) + 2
 abbrev pub invariant-read_chain-loop-units : goal.invariant-read_chain-loop-units
 invariant-read_chain-loop-units l = record {
   read : ChainUpTo l.modal l.text l.depth l.kind (the_source l.fn.first) l.sign l.units l.here;
+  settles : LeadsBehind l.modal l.text (unit l.depth ∷ chain_rest l.kind l.depth ∷ []) l.sign.end (unit l.depth ∷ chain_rest l.kind l.depth ∷ []) l.here.end;
   onward : l.sign.end ≤ l.here.end;
   within : l.here.end ≤ length l.text;
 }
