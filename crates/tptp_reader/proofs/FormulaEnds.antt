@@ -1,6 +1,6 @@
 -- A formula in a text: its faults, and its value.
 use Rattle.std.proofs.Common.{◌≡◌, ℕ, Bool, true, List, [], ◌∷◌, refl, sym, subst, length}
-use Rattle.std.specs.Prelude.{Result, Ok, Err, IfSome}
+use Rattle.std.specs.Prelude.{Err, IfSome}
 use Rattle.tptp_reader.specs.declared.fault.ReadCause.TheVariants.{Syntax}
 use Rattle.tptp_reader.specs.declared.following.Ending.{Ending}
 use Rattle.tptp_reader.specs.declared.following.Ending.TheVariants as ending
@@ -19,7 +19,7 @@ use Rattle.tptp_reader.specs.SourceView.{the_source}
 use Rattle.tptp_reader.specs.Answers.{the_formula_reading}
 use Rattle.tptp_reader.specs.Reading.{HoldsFormula, Outcome, reads, fails, IsFormulaReading}
 use Rattle.tptp_reader.proofs.OneReading.{one-formula-reading}
-use Rattle.tptp_reader.specs.Following.{Ran, RanStuck, RanDeep, HasEnding}
+use Rattle.tptp_reader.specs.Following.{Ran, RanStuck, RanDeep, HasEnding, IsFormulaFault}
 use Rattle.tptp_reader.specs.Standing.{FormulaRead}
 use Rattle.tptp_reader.proofs.EndingLaws.{formula-for, stuck-fault, deep-fault, no_token-fault, end-fault, not-whole}
 use Rattle.tptp_reader.proofs.SpanLaws.{span-tokens}
@@ -73,10 +73,8 @@ formula-holds {text} {from} {first} {stop} modal source f r e =
       place = refl;
     }
 
--- a reading that is answered is the only one
-pub formula-alone : (modal : Bool) (text : List ℕ) (from : ℕ) (r : Result (program.Source × ℕ) ReadFault) → IfSome (the_formula_reading r) (λ o. IsFormulaReading modal text from o)
-    → IfSome (the_formula_reading r) (λ o. (other : Outcome (Source × ℕ)) → IsFormulaReading modal text from other → other ≡ o)
-formula-alone modal text from (Ok r) h = λ other k. one-formula-reading modal text from other (reads (the_source r.0, r.1)) k h
-formula-alone modal text from (Err (fault.At offset cause)) h = λ other k. one-formula-reading modal text from other (fails (wrong offset cause)) k h
-formula-alone modal text from (Err (fault.TooDeep offset)) h = λ other k. one-formula-reading modal text from other (fails (too_deep offset)) k h
-formula-alone modal text from (Err fault.NoMemory) h = h
+-- a fault that is found is the only reading
+pub fault-alone : (modal : Bool) (text : List ℕ) (from : ℕ) (f : ReadFault) → IsFormulaFault modal text from f → IfSome (the_formula_reading (Err f)) (λ o. (other : Outcome (Source × ℕ)) → IsFormulaReading modal text from other → other ≡ o)
+fault-alone modal text from (fault.At offset cause) h = λ other k. one-formula-reading modal text from other (fails (wrong offset cause)) k h
+fault-alone modal text from (fault.TooDeep offset) h = λ other k. one-formula-reading modal text from other (fails (too_deep offset)) k h
+fault-alone modal text from fault.NoMemory h = absurd h

@@ -1,5 +1,5 @@
 -- Reading the items of a text.
-use Rattle.std.proofs.Common.{◌≡◌, ℕ, suc, Bool, List, [], ◌∷◌, ◌++◌, Result, Ok, Err, refl, sym, ◌∙◌, ap, append_assoc, append-nil, subst, length, drop}
+use Rattle.std.proofs.Common.{◌≡◌, ℕ, suc, Bool, List, [], ◌∷◌, ◌++◌, Err, refl, sym, ◌∙◌, ap, append_assoc, append-nil, subst, length, drop}
 use Rattle.std.specs.Prelude.{IfSome}
 use Rattle.tptp_lex.specs.Answers.{OnlySpace}
 use Rattle.tptp_reader.specs.declared.fault.ReadFault.{ReadFault}
@@ -16,6 +16,7 @@ use Rattle.tptp_reader.specs.Nesting.{item_nestings, text_nestings}
 use Rattle.tptp_reader.specs.Faults.{TextLanguage, AreShallow, wrong, too_deep}
 use Rattle.tptp_reader.specs.Reading.{HoldsItems, Outcome, reads, fails, IsReading}
 use Rattle.tptp_reader.specs.Answers.{the_reading}
+use Rattle.tptp_reader.specs.Following.{IsTextFault}
 use Rattle.tptp_reader.specs.Spans.{AreRead}
 use Rattle.tptp_reader.specs.ItemStanding.{ItemRead, ItemsUpTo}
 use Rattle.tptp_reader.proofs.FaultLaws.{terminals-append}
@@ -85,9 +86,8 @@ items-done {modal} {text} {read} {place} u o = record {
 
 -- ---- the reading
 
--- a reading that is answered is the only one
-pub reading-alone : (modal : Bool) (text : List ℕ) (r : Result (List tree.Item) ReadFault) → IfSome (the_reading r) (λ o. IsReading modal text o) → IfSome (the_reading r) (λ o. (other : Outcome (List tree.Item)) → IsReading modal text other → other ≡ o)
-reading-alone modal text (Ok r) h = λ other k. one-reading modal text other (reads r) k h
-reading-alone modal text (Err (fault.At offset cause)) h = λ other k. one-reading modal text other (fails (wrong offset cause)) k h
-reading-alone modal text (Err (fault.TooDeep offset)) h = λ other k. one-reading modal text other (fails (too_deep offset)) k h
-reading-alone modal text (Err fault.NoMemory) h = h
+-- a fault that is found is the only reading
+pub fault-alone : (modal : Bool) (text : List ℕ) (f : ReadFault) → IsTextFault modal text f → IfSome (the_reading (Err f)) (λ o. (other : Outcome (List tree.Item)) → IsReading modal text other → other ≡ o)
+fault-alone modal text (fault.At offset cause) h = λ other k. one-reading modal text other (fails (wrong offset cause)) k h
+fault-alone modal text (fault.TooDeep offset) h = λ other k. one-reading modal text other (fails (too_deep offset)) k h
+fault-alone modal text fault.NoMemory h = absurd h

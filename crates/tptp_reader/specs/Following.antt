@@ -116,9 +116,9 @@ HasEnding modal text from es now ending.End = (to : ℕ) × Ran modal text from 
 abbrev pub IsFormulaFault : Bool → List ℕ → ℕ → ReadFault → Type 0
 IsFormulaFault modal text from (fault.At offset cause) = HasFault text from (FormulaLanguage modal) FormulaCauses (wrong offset cause)
 IsFormulaFault modal text from (fault.TooDeep offset) = HasFault text from (FormulaLanguage modal) FormulaCauses (too_deep offset)
-IsFormulaFault modal text from fault.NoMemory = Unit {0}
+IsFormulaFault modal text from fault.NoMemory = ⊥
 
 abbrev pub IsTextFault : Bool → List ℕ → ReadFault → Type 0
 IsTextFault modal text (fault.At offset cause) = HasFault text 0 (TextLanguage modal) (TextCauses modal) (wrong offset cause)
 IsTextFault modal text (fault.TooDeep offset) = HasFault text 0 (TextLanguage modal) (TextCauses modal) (too_deep offset)
-IsTextFault modal text fault.NoMemory = Unit {0}
+IsTextFault modal text fault.NoMemory = ⊥

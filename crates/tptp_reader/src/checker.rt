@@ -1,7 +1,8 @@
-//! The fault of a text of items.
+//! The fault of a text of items that has one.
 
-ghost use Rattle.std.specs.Prelude.{◌≡◌, ◌∷◌, [], IfErr, IfOk};
+ghost use Rattle.std.specs.Prelude.{◌≡◌, ◌∷◌, [], IfOk};
 ghost use Rattle.tptp_reader.specs.Expecting as way;
+ghost use Rattle.tptp_reader.specs.Failing.{Fails};
 ghost use Rattle.tptp_reader.specs.Faults.{cause_at, is_word_in, item_cause, unsupported_words, wrong_words};
 ghost use Rattle.tptp_reader.specs.Following.{IsTextFault, place_now, stack_now};
 ghost use Rattle.tptp_reader.specs.TerminalView.{the_terminal};
@@ -76,34 +77,36 @@ fn items_machine(alloc: Global) -> Result<Machine, NoMemory>
     Ok(machine)
 }
 
-/// The fault of the text, where it has one.
-pub fn check_text(alloc: Global, text: &[u8], modal: bool) -> Result<(), ReadFault>
-    ensures { IfErr result (IsTextFault modal text.now) }
+/// The fault of the text, which has one.
+pub fn text_fault(alloc: Global, text: &[u8], modal: bool) -> Result<ReadFault, NoMemory>
+    requires { Fails modal text.now (way.items ∷ []) 0 }
+    ensures { IfOk result (IsTextFault modal text.now) }
 {
     let mut machine = items_machine(alloc)?;
     let ending = follow(text, 0, modal, &mut machine)?;
     match ending {
-        Ending::Stuck(piece) => Err(ReadFault::At {
+        Ending::Stuck(piece) => Ok(ReadFault::At {
             offset: piece.start as u64,
             cause: text_cause(&machine, modal, piece.terminal),
         }),
-        Ending::TooDeep(offset) => Err(ReadFault::TooDeep {
+        Ending::TooDeep(offset) => Ok(ReadFault::TooDeep {
             offset: offset as u64,
         }),
-        Ending::NoToken(offset) => Err(ReadFault::At {
+        Ending::NoToken(offset) => Ok(ReadFault::At {
             offset: offset as u64,
             cause: ReadCause::Syntax,
         }),
         Ending::End => {
+            // Items that end here have no fault.
             if machine.is_at_item() {
-                return Ok(());
+                unreachable!();
             }
-            Err(ReadFault::At {
+            Ok(ReadFault::At {
                 offset: text.len() as u64,
                 cause: ReadCause::Syntax,
             })
         }
         // Behind each item another one may come.
-        Ending::Done(_) => Err(ReadFault::NoMemory),
+        Ending::Done(_) => unreachable!(),
     }
 }

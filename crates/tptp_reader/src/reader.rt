@@ -2,6 +2,7 @@
 
 ghost use Rattle.std.specs.Prelude.{◌≡◌, ◌≤◌, ◌∷◌, [], length, IfErr, IfOk, IfSome, ℕ};
 ghost use Rattle.tptp_reader.specs.Answers.{the_formula_reading};
+ghost use Rattle.tptp_reader.specs.Failing.{Fails, Missing};
 ghost use Rattle.tptp_reader.specs.Faults.{formula_cause, is_stop};
 ghost use Rattle.tptp_reader.specs.Following.{IsFormulaFault, stack_now};
 ghost use Rattle.tptp_reader.specs.Expecting as way;
@@ -49,27 +50,33 @@ fn formula_machine(alloc: Global) -> Result<Machine, NoMemory>
     Ok(machine)
 }
 
-// The fault of the formula that begins at or after the place.
-fn check_formula(alloc: Global, text: &[u8], from: usize, modal: bool) -> Result<(), ReadFault>
-    requires { from ≤ length text.now }
-    ensures { IfErr result (IsFormulaFault modal text.now from) }
+// The fault of the text from the place on, where no formula stands that has none.
+fn formula_fault(
+    alloc: Global,
+    text: &[u8],
+    from: usize,
+    modal: bool,
+) -> Result<ReadFault, NoMemory>
+    requires within { from ≤ length text.now }
+    requires fails { Fails modal text.now (way.formula 0 ∷ way.stop ∷ []) from }
+    ensures { IfOk result (IsFormulaFault modal text.now from) }
 {
     let mut machine = formula_machine(alloc)?;
     let ending = follow(text, from, modal, &mut machine)?;
     match ending {
-        Ending::Done(_) => Ok(()),
-        Ending::Stuck(piece) => Err(ReadFault::At {
+        Ending::Done(_) => unreachable!(),
+        Ending::Stuck(piece) => Ok(ReadFault::At {
             offset: piece.start as u64,
             cause: formula_cause(piece.terminal),
         }),
-        Ending::TooDeep(offset) => Err(ReadFault::TooDeep {
+        Ending::TooDeep(offset) => Ok(ReadFault::TooDeep {
             offset: offset as u64,
         }),
-        Ending::NoToken(offset) => Err(ReadFault::At {
+        Ending::NoToken(offset) => Ok(ReadFault::At {
             offset: offset as u64,
             cause: ReadCause::Syntax,
         }),
-        Ending::End => Err(ReadFault::At {
+        Ending::End => Ok(ReadFault::At {
             offset: text.len() as u64,
             cause: ReadCause::Syntax,
         }),
@@ -83,7 +90,7 @@ fn is_stop(x: Terminal) -> bool
     matches!(x, Terminal::Comma | Terminal::CloseRound)
 }
 
-// A formula that has no fault.
+// A formula that has no fault, where one stands.
 fn build_formula(
     alloc: Global,
     text: &[u8],
@@ -91,7 +98,8 @@ fn build_formula(
     modal: bool,
 ) -> Result<(Source, usize), Stop>
     requires { from ≤ length text.now }
-    ensures { IfOk result (λ r. HoldsFormula modal text.now from (the_source r.0) r.1) }
+    ensures holds { IfOk result (λ r. HoldsFormula modal text.now from (the_source r.0) r.1) }
+    ensures none { IfErr result (Missing (Fails modal text.now (way.formula 0 ∷ way.stop ∷ []) from)) }
 {
     let first = next_token(text, from)?;
     let (source, stop) = read_tree(alloc, text, modal, 0, first)?;
@@ -118,9 +126,8 @@ pub fn read_formula(
         Ok(r) => Ok(r),
         Err(Stop::NoMemory) => Err(ReadFault::NoMemory),
         Err(Stop::NotThere) => {
-            check_formula(alloc, text, from, modal)?;
-            // No text comes here: the readers find each formula that has no fault.
-            Err(ReadFault::NoMemory)
+            let fault = formula_fault(alloc, text, from, modal)?;
+            Err(fault)
         }
     }
 }

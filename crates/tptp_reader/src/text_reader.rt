@@ -1,11 +1,13 @@
 //! The readers of texts.
 
-ghost use Rattle.std.specs.Prelude.{◌≡◌, IfOk, IfSome, List, false};
+ghost use Rattle.std.specs.Prelude.{◌≡◌, ◌∷◌, [], IfErr, IfOk, IfSome, List, false};
 ghost use Rattle.tptp_reader.specs.Answers.{the_reading};
+ghost use Rattle.tptp_reader.specs.Expecting as way;
+ghost use Rattle.tptp_reader.specs.Failing.{Fails, Missing};
 ghost use Rattle.tptp_reader.specs.Reading.{HoldsItems, IsReading, Outcome};
 ghost use Rattle.tptp_reader.specs.Sources as tree;
 
-use crate::checker::check_text;
+use crate::checker::text_fault;
 use crate::fault::ReadFault;
 use crate::item::ItemList;
 use crate::item_reader::read_item;
@@ -15,7 +17,8 @@ use std::alloc::Global;
 
 // The items of a text that has no fault.
 fn build_items(alloc: Global, text: &[u8], modal: bool) -> Result<ItemList, Stop>
-    ensures { IfOk result (λ items. HoldsItems modal text.now items) }
+    ensures holds { IfOk result (λ items. HoldsItems modal text.now items) }
+    ensures none { IfErr result (Missing (Fails modal text.now (way.items ∷ []) 0)) }
 {
     let mut items = ItemList::new(alloc);
     let mut place = 0;
@@ -40,9 +43,8 @@ pub fn read_text(alloc: Global, text: &[u8], modal: bool) -> Result<ItemList, Re
         Ok(items) => Ok(items),
         Err(Stop::NoMemory) => Err(ReadFault::NoMemory),
         Err(Stop::NotThere) => {
-            check_text(alloc, text, modal)?;
-            // No text comes here: the readers find the items of each text that has no fault.
-            Err(ReadFault::NoMemory)
+            let fault = text_fault(alloc, text, modal)?;
+            Err(fault)
         }
     }
 }

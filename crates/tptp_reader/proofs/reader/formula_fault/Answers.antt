@@ -1,5 +1,8 @@
+use Rattle.std.proofs.Common.{sym, subst}
 use Rattle.tptp_reader.proofs.FormulaEnds.{found-stuck, found-deep, found-no_token, found-end}
-use Rattle.tptp_reader.proofs.reader.check_formula.Goals as goal
+use Rattle.tptp_reader.specs.Failing.{Fails}
+use Rattle.tptp_reader.proofs.EndFails.{ran-out}
+use Rattle.tptp_reader.proofs.reader.formula_fault.Goals as goal
 
 pub returns-in-Stuck : goal.returns-in-Stuck
 returns-in-Stuck c = rw c.formula_cause.ensures (found-stuck c.args.modal c.args.text.now c.args.from _ _ c.in_ok-ending.ending c.in-Stuck.piece c.in_ok-ending.ensures c.in_ok-machine.ensures c.in-Stuck.is)
@@ -12,3 +15,6 @@ returns-in-NoToken c = found-no_token c.args.modal c.args.text.now c.args.from _
 
 pub returns : goal.returns
 returns c = found-end c.args.modal c.args.text.now c.args.from _ _ c.in_ok-ending.ending c.in_ok-ending.ensures c.in_ok-machine.ensures c.in-End.is
+
+pub unreachable-requires : goal.unreachable-requires
+unreachable-requires c = ran-out c.args.modal c.args.text.now c.args.from _ _ c.in_ok-ending.ending c.in-Done.field-0 c.in_ok-ending.ensures c.in-Done.is (subst (λ z. Fails c.args.modal c.args.text.now z c.args.from) (sym c.in_ok-machine.ensures) c.requires.fails)
