@@ -43,14 +43,14 @@ problem 'qmf(c,conjecture,a = b).'
 status_of 'GaveUp for m.p' 2 --logic=d "$folder/m.p"
 problem 'qmf(c,conjecture,(p <=> q)).'
 status_of 'CounterSatisfiable for m.p' 2 --logic=d "$folder/m.p"
-# Memory ends in the middle of a proof whose terms are deep.
+# Memory ends in the middle of a proof whose terms are deep: its text has 27 MB.
 deep="$(printf 'f(%.0s' {1..450})X$(printf ')%.0s' {1..450})"
 {
     echo 'cnf(first,axiom,p0(a)).'
-    for i in {0..49}; do echo "cnf(c$i,axiom,~p$i(X) | p$((i + 1))($deep))."; done
-    echo 'cnf(last,negated_conjecture,~p50(X)).'
+    for i in {0..197}; do echo "cnf(c$i,axiom,~p$i(X) | p$((i + 1))($deep))."; done
+    echo 'cnf(last,negated_conjecture,~p198(X)).'
 } >"$folder/m.p"
-status_of 'MemoryOut for m.p' 7 --limit=60 "$folder/m.p"
+status_of 'MemoryOut for m.p' 7 --limit=200 --memory=40 "$folder/m.p"
 
 # Includes: beside the problem, else below $TPTP.
 mkdir -p "$folder/beside/axioms" "$folder/tptp/Axioms"
