@@ -11,7 +11,7 @@ ghost use Rattle.sequent_convert.specs.ByNumber.RunView.{IsSeen, WorksAt, the_li
 ghost use Rattle.sequent_convert.specs.State.{IsBasis, IsFirst, IsForkAhead, IsLiteralAhead, IsOpenRun, Moves};
 
 use crate::ahead::{Ahead, Ends};
-use crate::node::second_position;
+use crate::component::second_position;
 use crate::parts::{parts_at, turns_from};
 use crate::run::Run;
 use crate::source::Source;
@@ -61,7 +61,7 @@ impl<'a> Run<'a> {
                 Ok(())
             }
             Parts::Beta(a, _) => {
-                let second = second_position(node.spot.position, a)?;
+                let second = second_position(node.spot.position, a);
                 self.choose(source, second)?;
                 Ok(())
             }

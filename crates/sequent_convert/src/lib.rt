@@ -6,6 +6,7 @@ mod alike;
 mod axiom;
 mod branch;
 mod closing;
+mod component;
 mod done;
 mod expansion;
 mod following;

@@ -1,10 +1,11 @@
 //! What a turn does to the signed formula that it works on.
 
-ghost use Rattle.std.specs.Prelude.{◌≡◌, ◌++◌, ◌∷◌, [], IfOk, List, map};
+ghost use Rattle.std.specs.Prelude.{◌≡◌, ◌≤◌, ◌+◌, ◌++◌, ◌∷◌, [], IfOk, List, map, suc};
 ghost use Rattle.conversion_theory.specs.Branches.{grows, item, made, made_alpha, made_beta, made_delta, made_literal, past_modal};
 ghost use Rattle.calculus.specs.Derivations.{by_term};
 ghost use Rattle.calculus.specs.Instances.{spot_inside};
 ghost use Rattle.calculus.specs.Kinds.{modal_of, shape_of};
+ghost use Rattle.calculus.specs.Positions.{size};
 ghost use Rattle.conversion_theory.specs.Numbering.{number_of, numbered_term};
 ghost use Rattle.formula_core.specs.FormulaView.{the_formula};
 ghost use Rattle.formula_core.specs.GroundLists.{GroundList, the_g_term, the_value, the_values};
@@ -15,7 +16,8 @@ ghost use Rattle.sequent_convert.specs.ByNumber.PastView.{gamma_taken, made_take
 ghost use Rattle.sequent_convert.specs.ByNumber.SpotView.{the_spot};
 ghost use Rattle.tableau_core.specs.PartView.{the_part};
 
-use crate::node::{Node, first, second};
+use crate::component::{first, second};
+use crate::node::Node;
 use crate::past::{Past, past_modal_part};
 use crate::spot::Spot;
 use cop_base::{NoMemory, PosId};
@@ -36,6 +38,7 @@ pub enum Made<'a> {
 
 // One component.
 fn one<'a>(alloc: Global, past: Past, a: Part<'a>) -> Result<Made<'a>, NoMemory>
+    requires { past.spot.position + suc (size (the_formula a.formula.now)) ≤ 4294967295 }
     ensures { IfOk result (λ m. (ls : List GroundList) → the_made ls m ≡ made_alpha (the_past ls past.entry) (the_part a.entry ∷ [])) }
 {
     let mut nodes = Vec::new(alloc);
@@ -45,6 +48,7 @@ fn one<'a>(alloc: Global, past: Past, a: Part<'a>) -> Result<Made<'a>, NoMemory>
 
 // Two components on one branch.
 fn both<'a>(alloc: Global, past: Past, a: Part<'a>, b: Part<'a>) -> Result<Made<'a>, NoMemory>
+    requires { past.spot.position + suc (size (the_formula a.formula.now) + size (the_formula b.formula.now)) ≤ 4294967295 }
     ensures { IfOk result (λ m. (ls : List GroundList) → the_made ls m ≡ made_alpha (the_past ls past.entry) (the_part a.entry ∷ the_part b.entry ∷ [])) }
 {
     let mut nodes = Vec::new(alloc);
@@ -55,6 +59,7 @@ fn both<'a>(alloc: Global, past: Past, a: Part<'a>, b: Part<'a>) -> Result<Made<
 
 // Two components on two branches.
 fn either<'a>(past: Past, a: Part<'a>, b: Part<'a>) -> Result<Made<'a>, NoMemory>
+    requires { past.spot.position + suc (size (the_formula a.formula.now) + size (the_formula b.formula.now)) ≤ 4294967295 }
     ensures { IfOk result (λ m. (ls : List GroundList) → the_made ls m ≡ made_beta (the_past ls past.entry) (the_part a.entry ∷ the_part b.entry ∷ [])) }
 {
     let first = first(&past.spot, a)?;
@@ -69,6 +74,7 @@ fn inside<'a>(
     term: GroundTerm,
     a: Part<'a>,
 ) -> Result<Node<'a>, NoMemory>
+    requires { spot.now.position + suc (size (the_formula a.formula.now)) ≤ 4294967295 }
     ensures { IfOk result (λ n. (ls : List GroundList) → the_node ls n ≡ item (spot_inside (the_g_term ls term) (the_spot ls spot.now).taken (the_spot ls spot.now)) a.entry.sign (the_formula a.entry.formula.now)) }
 {
     Ok(Node {
@@ -86,6 +92,7 @@ fn with_term<'a>(
     term: GroundTerm,
     a: Part<'a>,
 ) -> Result<Made<'a>, NoMemory>
+    requires { past.spot.position + suc (size (the_formula a.formula.now)) ≤ 4294967295 }
     ensures { IfOk result (λ m. the_made named.now.lists m ≡ grows (the_modal past.entry.arg) (by_term (numbered_term (number_of named.now.names) (the_g_term named.now.lists term))) (item (spot_inside (the_g_term named.now.lists term) (the_spot named.now.lists past.entry.spot).taken (the_spot named.now.lists past.entry.spot)) a.entry.sign (the_formula a.entry.formula.now) ∷ [])) }
 {
     let mut nodes = Vec::new(alloc);
@@ -96,6 +103,7 @@ fn with_term<'a>(
 
 // The next value of a gamma position is its term.
 fn gamma<'a>(alloc: Global, named: &Named, past: Past, a: Part<'a>) -> Result<Made<'a>, NoMemory>
+    requires { past.spot.position + suc (size (the_formula a.formula.now)) ≤ 4294967295 }
     ensures { IfOk result (λ m. the_made named.now.lists m ≡ gamma_taken (number_of named.now.names) (the_past named.now.lists past.entry) (the_past named.now.lists past.entry).rest (the_part a.entry ∷ [])) }
 {
     match past.rest.split_first() {
@@ -110,6 +118,7 @@ fn gamma<'a>(alloc: Global, named: &Named, past: Past, a: Part<'a>) -> Result<Ma
 
 // A delta position has its eigenvariable.
 fn delta<'a>(alloc: Global, named: &Named, past: Past, a: Part<'a>) -> Result<Made<'a>, NoMemory>
+    requires { past.spot.position + suc (size (the_formula a.formula.now)) ≤ 4294967295 }
     ensures { IfOk result (λ m. the_made named.now.lists m ≡ made_delta (number_of named.now.names) (the_past named.now.lists past.entry) (the_part a.entry ∷ [])) }
 {
     let position = PosId(past.spot.position);
@@ -129,6 +138,7 @@ fn make_past<'a>(
     past: Past,
     part: Part<'a>,
 ) -> Result<Made<'a>, NoMemory>
+    requires { past.spot.position + size (the_formula part.formula.now) ≤ 4294967295 }
     ensures { IfOk result (λ m. the_made named.now.lists m ≡ made_taken (number_of named.now.names) (shape_of part.entry.sign (the_formula part.entry.formula.now)) modal (the_past named.now.lists past.entry) part.entry.sign (the_formula part.entry.formula.now)) }
 {
     match components_of(part) {
@@ -148,6 +158,7 @@ fn at_atom<'a>(
     past: Past,
     part: Part<'a>,
 ) -> Result<Made<'a>, NoMemory>
+    requires { past.spot.position + size (the_formula part.formula.now) ≤ 4294967295 }
     ensures { IfOk result (λ m. (ls : List GroundList) → the_made ls m ≡ made_literal modal (the_past ls past.entry) part.entry.sign (the_formula part.entry.formula.now)) }
 {
     match (modal, part.formula) {
@@ -185,6 +196,7 @@ pub fn make<'a>(
     own: &[Value],
     all: Values,
 ) -> Result<Made<'a>, NoMemory>
+    requires within { spot.now.position + size (the_formula part.formula.now) ≤ 4294967295 }
     requires taken { taken_after (shape_of part.sign (the_formula part.formula.now)) (past_modal (number_of named.now.names) logic (modal_of logic part.sign (the_formula part.formula.now)) (the_spot named.now.lists spot.now) (map (the_value named.now.lists) own.now)) ≡ the_values named.now.lists all }
     ensures { IfOk result (λ m. the_made named.now.lists m ≡ made (number_of named.now.names) logic (the_spot named.now.lists spot.now) part.entry.sign (the_formula part.entry.formula.now) (map (the_value named.now.lists) own.now)) }
 {

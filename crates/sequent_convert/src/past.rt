@@ -34,7 +34,8 @@ fn unmoved<'v>(
     own: &'v [Value],
     all: Values,
 ) -> Result<Past<'v>, NoMemory>
-    ensures { IfOk result (λ p. the_past named.now.lists p ≡ taking (the_values named.now.lists all) (record { spot = the_spot named.now.lists spot.now; arg = no_modal; rest = map (the_value named.now.lists) own.now })) }
+    ensures position { IfOk result (λ p. p.spot.position ≡ spot.now.position) }
+    ensures past { IfOk result (λ p. the_past named.now.lists p ≡ taking (the_values named.now.lists all) (record { spot = the_spot named.now.lists spot.now; arg = no_modal; rest = map (the_value named.now.lists) own.now })) }
 {
     let _table = named.table();
     Ok(Past {
@@ -53,7 +54,8 @@ fn by_string<'v>(
     rest: &'v [Value],
     all: Values,
 ) -> Result<Past<'v>, NoMemory>
-    ensures { IfOk result (λ p. the_past named.now.lists p ≡ taking (the_values named.now.lists all) (past_string (number_of named.now.names) logic (the_spot named.now.lists spot.now) (tree.steps (marks_tree (the_marks named.now.lists string)) ∷ map (the_value named.now.lists) rest.now))) }
+    ensures position { IfOk result (λ p. p.spot.position ≡ spot.now.position) }
+    ensures past { IfOk result (λ p. the_past named.now.lists p ≡ taking (the_values named.now.lists all) (past_string (number_of named.now.names) logic (the_spot named.now.lists spot.now) (tree.steps (marks_tree (the_marks named.now.lists string)) ∷ map (the_value named.now.lists) rest.now))) }
 {
     let table = named.table();
     let characters = table.marks(string);
@@ -76,7 +78,8 @@ fn by_character<'v>(
     own: &'v [Value],
     all: Values,
 ) -> Result<Past<'v>, NoMemory>
-    ensures { IfOk result (λ p. the_past named.now.lists p ≡ taking (the_values named.now.lists all) (past_modal (number_of named.now.names) logic Pi (the_spot named.now.lists spot.now) (map (the_value named.now.lists) own.now))) }
+    ensures position { IfOk result (λ p. p.spot.position ≡ spot.now.position) }
+    ensures past { IfOk result (λ p. the_past named.now.lists p ≡ taking (the_values named.now.lists all) (past_modal (number_of named.now.names) logic Pi (the_spot named.now.lists spot.now) (map (the_value named.now.lists) own.now))) }
 {
     Ok(Past {
         spot: spot.after_character(alloc, logic, all)?,
@@ -93,7 +96,8 @@ fn by_first<'v>(
     own: &'v [Value],
     all: Values,
 ) -> Result<Past<'v>, NoMemory>
-    ensures { IfOk result (λ p. the_past named.now.lists p ≡ taking (the_values named.now.lists all) (past_string (number_of named.now.names) logic (the_spot named.now.lists spot.now) (map (the_value named.now.lists) own.now))) }
+    ensures position { IfOk result (λ p. p.spot.position ≡ spot.now.position) }
+    ensures past { IfOk result (λ p. the_past named.now.lists p ≡ taking (the_values named.now.lists all) (past_string (number_of named.now.names) logic (the_spot named.now.lists spot.now) (map (the_value named.now.lists) own.now))) }
 {
     match own.split_first() {
         Some((Value::Steps(string), rest)) => {
@@ -117,7 +121,8 @@ pub fn past_modal_part<'v>(
     own: &'v [Value],
     all: Values,
 ) -> Result<Past<'v>, NoMemory>
-    ensures { IfOk result (λ p. the_past named.now.lists p ≡ taking (the_values named.now.lists all) (past_modal (number_of named.now.names) logic modal (the_spot named.now.lists spot.now) (map (the_value named.now.lists) own.now))) }
+    ensures position { IfOk result (λ p. p.spot.position ≡ spot.now.position) }
+    ensures past { IfOk result (λ p. the_past named.now.lists p ≡ taking (the_values named.now.lists all) (past_modal (number_of named.now.names) logic modal (the_spot named.now.lists spot.now) (map (the_value named.now.lists) own.now))) }
 {
     match modal {
         ModalPart::Plain => {

@@ -1,6 +1,6 @@
 //! Spots: where a signed formula of the problem stands on a branch.
 
-ghost use Rattle.std.specs.Prelude.{◌≡◌, ◌≤◌, IfOk, ◌++◌, ◌∷◌, [], List, length, map};
+ghost use Rattle.std.specs.Prelude.{◌≡◌, ◌≤◌, IfOk, ◌+◌, ◌++◌, ◌∷◌, [], List, length, map};
 ghost use Rattle.calculus.specs.Ground.{marks_tree};
 ghost use Rattle.calculus.specs.Instances.{root_spot, down_by, spot_inside, after_string, after_character};
 ghost use Rattle.formula_core.specs.GroundLists.{GroundList, no_list, the_g_term, the_mark, the_values};
@@ -50,7 +50,8 @@ fn start(alloc: Global, logic: Logic, label: &[GroundMark]) -> Result<Vec<Ground
 impl Spot {
     /// The root.
     pub fn root(alloc: Global) -> Result<Spot, NoMemory>
-        ensures { IfOk result (λ c. (ls : List GroundList) → length ls ≤ no_list → the_spot ls c ≡ root_spot) }
+        ensures spot { IfOk result (λ c. (ls : List GroundList) → length ls ≤ no_list → the_spot ls c ≡ root_spot) }
+        ensures position { IfOk result (λ c. c.position ≡ 0) }
     {
         let label = Rc::new(alloc, Vec::new(alloc))?;
         let env = Rc::new(alloc, Vec::new(alloc))?;
@@ -78,7 +79,8 @@ impl Spot {
 
     /// The same spot, once these values are taken.
     pub fn taking(&self, taken: Values) -> Result<Spot, NoMemory>
-        ensures { IfOk result (λ c. (ls : List GroundList) → the_spot ls c ≡ taken_is (the_values ls taken) (the_spot ls self.now)) }
+        ensures spot { IfOk result (λ c. (ls : List GroundList) → the_spot ls c ≡ taken_is (the_values ls taken) (the_spot ls self.now)) }
+        ensures position { IfOk result (λ c. c.position ≡ self.now.position) }
     {
         Ok(Spot {
             position: self.position,
@@ -90,32 +92,30 @@ impl Spot {
 
     /// The spot of a component n positions further.
     pub fn down_by(&self, n: u32) -> Result<Spot, NoMemory>
-        ensures { IfOk result (λ c. (ls : List GroundList) → the_spot ls c ≡ down_by n (the_spot ls self.now)) }
+        requires { self.now.position + n ≤ 4294967295 }
+        ensures spot { IfOk result (λ c. (ls : List GroundList) → the_spot ls c ≡ down_by n (the_spot ls self.now)) }
+        ensures position { IfOk result (λ c. c.position ≡ self.now.position + n) }
     {
-        match self.position.checked_add(n) {
-            Some(position) => Ok(Spot {
-                position,
-                label: self.label.clone()?,
-                taken: self.taken,
-                env: self.env.clone()?,
-            }),
-            None => Err(NoMemory),
-        }
+        Ok(Spot {
+            position: self.position + n,
+            label: self.label.clone()?,
+            taken: self.taken,
+            env: self.env.clone()?,
+        })
     }
 
     /// The spot inside a quantifier whose variable gets the term, once what is taken there is taken.
     pub fn inside(&self, alloc: Global, term: GroundTerm) -> Result<Spot, NoMemory>
-        ensures { IfOk result (λ c. (ls : List GroundList) → the_spot ls c ≡ spot_inside (the_g_term ls term) (the_spot ls self.now).taken (the_spot ls self.now)) }
+        requires { self.now.position + 1 ≤ 4294967295 }
+        ensures spot { IfOk result (λ c. (ls : List GroundList) → the_spot ls c ≡ spot_inside (the_g_term ls term) (the_spot ls self.now).taken (the_spot ls self.now)) }
+        ensures position { IfOk result (λ c. c.position ≡ self.now.position + 1) }
     {
-        match self.position.checked_add(1) {
-            Some(position) => Ok(Spot {
-                position,
-                label: self.label.clone()?,
-                taken: self.taken,
-                env: with_term(alloc, term, self.terms())?,
-            }),
-            None => Err(NoMemory),
-        }
+        Ok(Spot {
+            position: self.position + 1,
+            label: self.label.clone()?,
+            taken: self.taken,
+            env: with_term(alloc, term, self.terms())?,
+        })
     }
 
     // The label behind these marks.
@@ -134,7 +134,8 @@ impl Spot {
 
     // The spot with this label, once these values are taken.
     fn with_label(&self, label: Rc<Vec<GroundMark>>, taken: Values) -> Result<Spot, NoMemory>
-        ensures { IfOk result (λ c. (ls : List GroundList) → the_spot ls c ≡ record { position = self.now.position; label = map (the_mark ls) label.value.items; taken = the_values ls taken; env = map (the_g_term ls) self.now.env.value.items }) }
+        ensures position { IfOk result (λ c. c.position ≡ self.now.position) }
+        ensures spot { IfOk result (λ c. (ls : List GroundList) → the_spot ls c ≡ record { position = self.now.position; label = map (the_mark ls) label.value.items; taken = the_values ls taken; env = map (the_g_term ls) self.now.env.value.items }) }
     {
         Ok(Spot {
             position: self.position,
@@ -152,7 +153,8 @@ impl Spot {
         string: &[GroundMark],
         taken: Values,
     ) -> Result<Spot, NoMemory>
-        ensures { IfOk result (λ c. (ls : List GroundList) → the_spot ls c ≡ taken_is (the_values ls taken) (after_string logic (marks_tree (map (the_mark ls) string.now)) (the_spot ls self.now))) }
+        ensures position { IfOk result (λ c. c.position ≡ self.now.position) }
+        ensures spot { IfOk result (λ c. (ls : List GroundList) → the_spot ls c ≡ taken_is (the_values ls taken) (after_string logic (marks_tree (map (the_mark ls) string.now)) (the_spot ls self.now))) }
     {
         let label = self.moved(alloc, logic, string)?;
         let spot = self.with_label(label, taken)?;
@@ -166,7 +168,8 @@ impl Spot {
         logic: Logic,
         taken: Values,
     ) -> Result<Spot, NoMemory>
-        ensures { IfOk result (λ c. (ls : List GroundList) → the_spot ls c ≡ taken_is (the_values ls taken) (after_character logic (the_spot ls self.now))) }
+        ensures position { IfOk result (λ c. c.position ≡ self.now.position) }
+        ensures spot { IfOk result (λ c. (ls : List GroundList) → the_spot ls c ≡ taken_is (the_values ls taken) (after_character logic (the_spot ls self.now))) }
     {
         let mark = GroundMark::New(PosId(self.position), self.taken);
         let label = self.moved(alloc, logic, &[mark])?;

@@ -22,6 +22,6 @@ returns c =
     let own = map (the_value ls) c.args.own.now in
     let kind = c.kind_of-kind.ensures.modal in
     c.in_ok-made.ensures
-    ∙ ap (λ (q : Past). made_taken num (shape_of s f) c.kind_of-kind.result.modal q s f) c.in_ok-past.ensures
+    ∙ ap (λ (q : Past). made_taken num (shape_of s f) c.kind_of-kind.result.modal q s f) c.in_ok-past.ensures.past
     ∙ ap (λ (m : ModalPart). made_taken num (shape_of s f) m (taking all (past_modal num l m spot own)) s f) kind
     ∙ made-same num (shape_of s f) (modal_of l s f) (past_modal num l (modal_of l s f) spot own) all s f c.requires.taken

@@ -17,7 +17,7 @@ pub choose-requires-clause-ahead : goal.choose-requires-clause-ahead
 choose-requires-clause-ahead c =
     let w = c.requires.works in
     let same = node-at (the_lists c.args.source.now) c.args.self.now.branch.nodes.items c.args.place c.index-nodes-place.result w.0 w.1 (subst (λ (ns : List Node). c.index-nodes-place.result ≡ get_or ns c.args.place c.index-nodes-place.result) c.as_slice-nodes.ensures.value c.index-nodes-place.is) in
-    fork-ahead (the_source c.args.source.now) (the_run c.args.source.now c.args.self.now) c.in_ok-second-in-Beta.second c.args.turn c.args.place (the_node (the_lists c.args.source.now) c.index-nodes-place.result) (the_part c.in-Beta.a) (the_part c.in-Beta.field-1) c.requires.first c.requires.done w same c.in-Beta.ensures.shape c.in-Beta.ensures.components c.in_ok-second-in-Beta.ensures
+    fork-ahead (the_source c.args.source.now) (the_run c.args.source.now c.args.self.now) c.second_position-second.result c.args.turn c.args.place (the_node (the_lists c.args.source.now) c.index-nodes-place.result) (the_part c.in-Beta.a) (the_part c.in-Beta.field-1) c.requires.first c.requires.done w same c.in-Beta.ensures.shape c.in-Beta.ensures.components c.second_position-second.ensures
 
 pub returns-in-One-clause-moves : goal.returns-in-One-clause-moves
 returns-in-One-clause-moves c =
