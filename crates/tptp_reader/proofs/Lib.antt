@@ -26,6 +26,8 @@ pub mod Deciding
 -- the tokens of the program
 pub mod PieceLaws
 pub mod StackViews
+-- how deep the parts stand that wait
+pub mod NestingLaws
 pub mod RunLaws
 pub mod EndingLaws
 pub mod SpanLaws

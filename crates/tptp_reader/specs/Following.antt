@@ -1,5 +1,5 @@
 -- How the program keeps what is expected, and what it finds on its way to a fault.
-use Rattle.std.specs.Prelude.{◌≡◌, ℕ, List, [], ◌∷◌, ◌++◌, Bool, true, false, not, IsTrue, Option, None, Some, take, reverse, nat_lt, if◌then◌else◌}
+use Rattle.std.specs.Prelude.{◌≡◌, ◌≤◌, ℕ, List, [], ◌∷◌, ◌++◌, Bool, true, false, not, IsTrue, Option, None, Some, take, reverse, nat_lt, if◌then◌else◌}
 use Rattle.std.specs.List.{list_all}
 use Rattle.tptp_lex.specs.Answers.{IsFault, OnlySpace}
 use Rattle.tptp_reader.specs.declared.expected.Expected.{Expected}
@@ -30,6 +30,32 @@ with_notes true waiting es = way.notes (reverse waiting) ∷ es
 
 abbrev pub stack_now : Machine → List way.Expected
 stack_now m = with_notes m.in_notes m.waiting.items (stack_of m.expected.items)
+
+-- the nesting of a part's place
+abbrev pub nesting_of : way.Expected → ℕ
+nesting_of (way.this k d) = d
+nesting_of (way.term d) = d
+nesting_of (way.arguments d) = d
+nesting_of (way.some_arguments d) = d
+nesting_of (way.some_equation d) = d
+nesting_of (way.equation d) = d
+nesting_of (way.atom d) = d
+nesting_of (way.variables d) = d
+nesting_of (way.unit d) = d
+nesting_of (way.formula d) = d
+nesting_of (way.formula_rest d) = d
+nesting_of (way.chain_rest c d) = d
+nesting_of (way.literal d) = d
+nesting_of (way.unsigned d) = d
+nesting_of (way.literals_rest d) = d
+nesting_of way.clause_open = 1
+nesting_of way.clause_rest = 1
+nesting_of _ = 0
+
+-- none of the parts stands deeper than this
+abbrev pub AreWithin : ℕ → List way.Expected → Type 0
+AreWithin n [] = Unit {0}
+AreWithin n (e ∷ es) = (nesting_of e ≤ n) × AreWithin n es
 
 -- one bracket that is open, or none; a bracket that closes
 abbrev pub the_bracket : Option Bool → List Bool

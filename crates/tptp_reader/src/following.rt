@@ -1,7 +1,7 @@
 //! The way to a fault: over the tokens of a text, or of a formula in a text, to where they end or go wrong.
 
 ghost use Rattle.std.specs.Prelude.{◌≡◌, ◌≤◌, IfOk, length, true};
-ghost use Rattle.tptp_reader.specs.Following.{HasEnding, is_open, stack_now};
+ghost use Rattle.tptp_reader.specs.Following.{AreWithin, HasEnding, is_open, stack_now};
 
 use crate::machine::{Machine, Step};
 use crate::terminal::{Piece, next_piece};
@@ -31,6 +31,7 @@ pub fn follow<'a>(
 ) -> Result<Ending<'a>, NoMemory>
     requires within { from ≤ length text.now }
     requires expects { is_open (stack_now machine.old) ≡ true }
+    requires shallow { AreWithin 501 (stack_now machine.old) }
     ensures { IfOk result (HasEnding modal text.now from (stack_now machine.old) (stack_now machine.new)) }
 {
     let mut place = from;

@@ -3,7 +3,7 @@
 ghost use Rattle.std.specs.Prelude.{◌≡◌, ◌++◌, ◌∷◌, ◌≤◌, [], IfOk, IfSome, OnOk, false, true, not, length};
 ghost use Rattle.tptp_reader.specs.Expecting as way;
 ghost use Rattle.tptp_reader.specs.ExpectedView.{the_expected, the_parts, the_rest};
-ghost use Rattle.tptp_reader.specs.Following.{found, closing, is_open, stack_after, stack_now, stack_of, the_bracket, told};
+ghost use Rattle.tptp_reader.specs.Following.{AreWithin, found, closing, is_open, stack_after, stack_now, stack_of, the_bracket, told};
 ghost use Rattle.tptp_reader.specs.TerminalView.{the_terminal};
 
 use crate::expected::{Expected, Fixed, Move, Parts, Rest};
@@ -35,26 +35,23 @@ pub struct Machine {
 
 // What the token begins, in the place of the last part that may not be left out or of one behind it, and how many parts
 // stay below.
-fn find_move(
-    modal: bool,
-    expected: &[Expected],
-    x: Terminal,
-) -> Result<Option<(usize, Move)>, NoMemory>
-    ensures found { IfOk result (λ o. found expected.now o ≡ way.step modal (stack_of expected.now) (the_terminal x.entry)) }
-    ensures within { IfOk result (λ o. IfSome o (λ r. r.0 ≤ length expected.now)) }
+fn find_move(modal: bool, expected: &[Expected], x: Terminal) -> Option<(usize, Move)>
+    requires { AreWithin 501 (stack_of expected.now) }
+    ensures found { found expected.now result ≡ way.step modal (stack_of expected.now) (the_terminal x.entry) }
+    ensures within { IfSome result (λ r. r.0 ≤ length expected.now) }
 {
     let mut depth = expected.len();
     while depth > 0 {
         let part = expected[depth - 1];
-        if let Some(next) = next_move(modal, part, x)? {
-            return Ok(Some((depth - 1, next)));
+        if let Some(next) = next_move(modal, part, x) {
+            return Some((depth - 1, next));
         }
         if !part.is_optional() {
-            return Ok(None);
+            return None;
         }
         depth -= 1;
     }
-    Ok(None)
+    None
 }
 
 impl Machine {
@@ -211,13 +208,14 @@ impl Machine {
 
     /// Takes the token, where it can stand here and is not too deep; else nothing changes.
     pub fn step(&mut self, modal: bool, x: Terminal) -> Result<Step, NoMemory>
+        requires { AreWithin 501 (stack_now self.old) }
         ensures told { IfOk result (λ s. s ≡ told (way.step modal (stack_now self.old) (the_terminal x.entry))) }
         ensures after { IfOk result (λ s. stack_now self.new ≡ stack_after (way.step modal (stack_now self.old) (the_terminal x.entry)) (stack_now self.old)) }
     {
         if self.in_notes {
             return self.step_in_notes(modal, x);
         }
-        let Some((kept, next)) = find_move(modal, self.expected.as_slice(), x)? else {
+        let Some((kept, next)) = find_move(modal, self.expected.as_slice(), x) else {
             return Ok(Step::Stuck);
         };
         if next.nesting > 500 {

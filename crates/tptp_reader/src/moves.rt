@@ -1,24 +1,25 @@
 //! What a token begins in the place of a part that is expected.
 
-ghost use Rattle.std.specs.Prelude.{ℕ, ◌==◌, ◌≡◌, ◌∷◌, [], IfOk, suc};
+ghost use Rattle.std.specs.Prelude.{ℕ, ◌==◌, ◌≡◌, ◌≤◌, ◌∷◌, [], suc};
 ghost use Rattle.std.specs.List.{list_all};
 ghost use Rattle.calculus.specs.Text as text;
 ghost use Rattle.tptp_lex.specs.Tokens.{is_digits};
 ghost use Rattle.tptp_reader.specs.Expecting as way;
 ghost use Rattle.tptp_reader.specs.ExpectedView.{the_expected, the_fixed, the_move, the_next, the_rest};
+ghost use Rattle.tptp_reader.specs.Following.{nesting_of};
 ghost use Rattle.tptp_reader.specs.TerminalView.{the_terminal};
 
 use crate::expected::{Expected, Fixed, Move, Parts, Rest};
 use crate::source::ChainKind;
 use crate::terminal::Terminal;
 use calculus::byte::is_digit;
-use cop_base::NoMemory;
 
-// A nesting is far from the limits of numbers: above 500 nothing is read.
-fn inside(nesting: u32) -> Result<u32, NoMemory>
-    ensures { IfOk result (λ n. n ≡ suc nesting) }
+// The nesting inside of a place with this nesting. No part waits deeper than 501, since no token deeper than 500 is taken.
+fn inside(nesting: u32) -> u32
+    requires { nesting ≤ 501 }
+    ensures { result ≡ suc nesting }
 {
-    nesting.checked_add(1).ok_or(NoMemory)
+    nesting + 1
 }
 
 fn term_parts(d: u32, x: Terminal) -> Option<Parts>
@@ -41,16 +42,14 @@ fn arguments_parts(d: u32, x: Terminal) -> Option<Parts>
     }
 }
 
-fn some_arguments_parts(d: u32, x: Terminal) -> Result<Option<Parts>, NoMemory>
-    ensures { IfOk result (λ o. the_move d o ≡ way.some_arguments_move d (the_terminal x.entry)) }
+fn some_arguments_parts(d: u32, x: Terminal) -> Option<Parts>
+    requires { d ≤ 501 }
+    ensures { the_move d result ≡ way.some_arguments_move d (the_terminal x.entry) }
 {
-    let inner = inside(d)?;
+    let inner = inside(d);
     match x {
-        Terminal::OpenRound => Ok(Some(Parts::Two(
-            Expected::Term(inner),
-            Expected::Arguments(inner),
-        ))),
-        _ => Ok(None),
+        Terminal::OpenRound => Some(Parts::Two(Expected::Term(inner), Expected::Arguments(inner))),
+        _ => None,
     }
 }
 
@@ -107,33 +106,34 @@ fn is_modality(word: &[u8]) -> bool
     word == b"#box".as_slice() || word == b"#dia".as_slice()
 }
 
-fn unit_parts(modal: bool, d: u32, x: Terminal) -> Result<Option<Parts>, NoMemory>
-    ensures { IfOk result (λ o. the_move d o ≡ way.unit_move modal d (the_terminal x.entry)) }
+fn unit_parts(modal: bool, d: u32, x: Terminal) -> Option<Parts>
+    requires { d ≤ 501 }
+    ensures { the_move d result ≡ way.unit_move modal d (the_terminal x.entry) }
 {
-    let inner = inside(d)?;
+    let inner = inside(d);
     match x {
-        Terminal::OpenRound => Ok(Some(Parts::Two(
+        Terminal::OpenRound => Some(Parts::Two(
             Expected::Formula(inner),
             Expected::This(Fixed::Closing, inner),
-        ))),
-        Terminal::Tilde => Ok(Some(Parts::One(Expected::Unit(inner)))),
-        Terminal::Exclamation | Terminal::Question => Ok(Some(Parts::Four(
+        )),
+        Terminal::Tilde => Some(Parts::One(Expected::Unit(inner))),
+        Terminal::Exclamation | Terminal::Question => Some(Parts::Four(
             Expected::This(Fixed::Square, d),
             Expected::This(Fixed::Upper, d),
             Expected::Variables(d),
             Expected::Unit(inner),
-        ))),
+        )),
         Terminal::Hash(word) => {
             if modal && is_modality(word) {
-                Ok(Some(Parts::Two(Expected::This(Fixed::Colon, d), Expected::Unit(inner))))
+                Some(Parts::Two(Expected::This(Fixed::Colon, d), Expected::Unit(inner)))
             } else {
-                Ok(None)
+                None
             }
         }
         Terminal::Dollar(_) | Terminal::Upper(_) | Terminal::Lower(_) | Terminal::Quoted(_) => {
-            Ok(atom_parts(d, x))
+            atom_parts(d, x)
         }
-        _ => Ok(None),
+        _ => None,
     }
 }
 
@@ -167,39 +167,38 @@ fn chain_rest_parts(kind: ChainKind, d: u32, x: Terminal) -> Option<Parts>
     }
 }
 
-fn unsigned_parts(d: u32, x: Terminal) -> Result<Option<Parts>, NoMemory>
-    ensures { IfOk result (λ o. the_move d o ≡ way.unsigned_move d (the_terminal x.entry)) }
+fn unsigned_parts(d: u32, x: Terminal) -> Option<Parts>
+    requires { d ≤ 501 }
+    ensures { the_move d result ≡ way.unsigned_move d (the_terminal x.entry) }
 {
-    let inner = inside(d)?;
+    let inner = inside(d);
     match x {
-        Terminal::OpenRound => Ok(Some(Parts::Two(
+        Terminal::OpenRound => Some(Parts::Two(
             Expected::Atom(inner),
             Expected::This(Fixed::Closing, inner),
-        ))),
+        )),
         Terminal::Dollar(_) | Terminal::Upper(_) | Terminal::Lower(_) | Terminal::Quoted(_) => {
-            Ok(atom_parts(d, x))
+            atom_parts(d, x)
         }
-        _ => Ok(None),
+        _ => None,
     }
 }
 
-fn literal_parts(d: u32, x: Terminal) -> Result<Option<Parts>, NoMemory>
-    ensures { IfOk result (λ o. the_move d o ≡ way.literal_move d (the_terminal x.entry)) }
+fn literal_parts(d: u32, x: Terminal) -> Option<Parts>
+    requires { d ≤ 501 }
+    ensures { the_move d result ≡ way.literal_move d (the_terminal x.entry) }
 {
     match x {
         Terminal::Tilde => {
-            let inner = inside(d)?;
-            Ok(Some(Parts::One(Expected::Unsigned(inner))))
+            let inner = inside(d);
+            Some(Parts::One(Expected::Unsigned(inner)))
         }
         Terminal::OpenRound
         | Terminal::Dollar(_)
         | Terminal::Upper(_)
         | Terminal::Lower(_)
-        | Terminal::Quoted(_) => {
-            let parts = unsigned_parts(d, x)?;
-            Ok(parts)
-        }
-        _ => Ok(None),
+        | Terminal::Quoted(_) => unsigned_parts(d, x),
+        _ => None,
     }
 }
 
@@ -439,24 +438,25 @@ fn this_parts(fixed: Fixed, x: Terminal) -> Option<Parts>
 }
 
 /// What the token begins in the place of this part, if it may stand there.
-pub fn next_move(modal: bool, part: Expected, x: Terminal) -> Result<Option<Move>, NoMemory>
-    ensures { IfOk result (λ m. the_next m ≡ way.move modal (the_expected part) (the_terminal x.entry)) }
+pub fn next_move(modal: bool, part: Expected, x: Terminal) -> Option<Move>
+    requires { nesting_of (the_expected part) ≤ 501 }
+    ensures { the_next result ≡ way.move modal (the_expected part) (the_terminal x.entry) }
 {
-    let next = match part {
+    match part {
         Expected::This(fixed, d) => only(d, this_parts(fixed, x)),
         Expected::Term(d) => only(d, term_parts(d, x)),
         Expected::Arguments(d) => only(d, arguments_parts(d, x)),
-        Expected::SomeArguments(d) => only(d, some_arguments_parts(d, x)?),
+        Expected::SomeArguments(d) => only(d, some_arguments_parts(d, x)),
         Expected::SomeEquation(d) | Expected::Equation(d) => only(d, equation_parts(d, x)),
         Expected::Atom(d) => only(d, atom_parts(d, x)),
         Expected::Variables(d) => only(d, variables_parts(d, x)),
-        Expected::Unit(d) => only(d, unit_parts(modal, d, x)?),
-        Expected::Formula(d) => and_then(d, unit_parts(modal, d, x)?, Rest::Formula),
+        Expected::Unit(d) => only(d, unit_parts(modal, d, x)),
+        Expected::Formula(d) => and_then(d, unit_parts(modal, d, x), Rest::Formula),
         Expected::FormulaRest(d) => only(d, formula_rest_parts(d, x)),
         Expected::ChainRest(kind, d) => only(d, chain_rest_parts(kind, d, x)),
         Expected::Stop => only(0, stop_parts(x)),
-        Expected::Literal(d) => only(d, literal_parts(d, x)?),
-        Expected::Unsigned(d) => only(d, unsigned_parts(d, x)?),
+        Expected::Literal(d) => only(d, literal_parts(d, x)),
+        Expected::Unsigned(d) => only(d, unsigned_parts(d, x)),
         Expected::LiteralsRest(d) => only(d, literals_rest_parts(d, x)),
         Expected::Clause => clause_move(x),
         Expected::ClauseOpen => clause_open_move(x),
@@ -467,6 +467,5 @@ pub fn next_move(modal: bool, part: Expected, x: Terminal) -> Result<Option<Move
         Expected::FirstNote => only(0, first_note_parts(x)),
         Expected::IncludeRest => only(0, include_rest_parts(x)),
         Expected::NamesRest => only(0, names_rest_parts(x)),
-    };
-    Ok(next)
+    }
 }
