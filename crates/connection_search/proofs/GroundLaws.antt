@@ -18,7 +18,6 @@ use Rattle.formula_core.specs.declared.ground.GroundTerm.TheVariants as program
 use Rattle.formula_core.specs.declared.ground.GroundMark.TheVariants as mark
 use Rattle.formula_core.specs.declared.ground.GroundMark.{GroundMark}
 use Rattle.formula_core.specs.declared.ground.Value.{Value}
-use Rattle.formula_core.specs.declared.ground.Value.TheVariants as value
 use Rattle.formula_core.proofs.GrownLaws.{term-grown, mark-grown, marks-grown, term-normal-grown, mark-normal-grown}
 use Rattle.connection_search.specs.Grounds.{AreMade, AreRead, AreSparesAt, IsGroundOf, IsSpareAt, Needs, home_of, made_of, needs_of, or_nothing, spare_at}
 use Rattle.connection_search.specs.declared.grounds.Ground.{Ground}
@@ -52,10 +51,10 @@ take-next xs i x e =
     let q : get_or xs i x ≡ x = let z : Some (get_or xs i x) ≡ Some x = sym (slice_get-get_or xs i x l) ∙ e in cc z in
     take_more xs i x l ∙ ap (λ y. take i xs ++ y ∷ []) q
 
-pub terms-more : (ls : List GroundList) (σ : Solution) (refs : List ℕ) (i k : ℕ) (items : List GroundTerm) (t : GroundTerm) → slice_get refs i ≡ Some k → IsGroundOf ls (ground.Term t) (σ k) → map (the_g_term ls) items ≡ map (λ r. as_term (σ r)) (take i refs) → map (the_g_term ls) (items ++ t ∷ []) ≡ map (λ r. as_term (σ r)) (take (i + 1) refs)
+pub terms-more : (ls : List GroundList) (σ : Solution) (refs : List ℕ) (i k : ℕ) (items : List GroundTerm) (t : GroundTerm) → slice_get refs i ≡ Some k → the_g_term ls t ≡ as_term (σ k) → map (the_g_term ls) items ≡ map (λ r. as_term (σ r)) (take i refs) → map (the_g_term ls) (items ++ t ∷ []) ≡ map (λ r. as_term (σ r)) (take (i + 1) refs)
 terms-more ls σ refs i k items t e g h =
     map-append (the_g_term ls) items (t ∷ [])
-    ∙ ap₂ (λ xs (x : tree.GroundTerm). xs ++ x ∷ []) h (ap as_term g.value)
+    ∙ ap₂ (λ xs (x : tree.GroundTerm). xs ++ x ∷ []) h g
     ∙ sym (map-append (λ r. as_term (σ r)) (take i refs) (k ∷ []))
     ∙ ap (map (λ r. as_term (σ r))) (sym (take-next refs i k e))
 
@@ -65,12 +64,6 @@ values-more ls σ refs i k items v e g h =
     ∙ ap₂ (λ xs (x : tree.Value). xs ++ x ∷ []) h g
     ∙ sym (map-append (λ r. as_value (σ r)) (take i refs) (k ∷ []))
     ∙ ap (values_by σ) (sym (take-next refs i k e))
-
-pub term-value : (ls : List GroundList) (t : GroundTerm) (v : CellValue) → IsGroundOf ls (ground.Term t) v → the_value ls (value.Term t) ≡ as_value v
-term-value ls t v g = ap as_value g.value
-
-pub string-value : (ls : List GroundList) (w : _) (v : CellValue) → IsGroundOf ls (ground.Marks w) v → the_value ls (value.Steps w) ≡ as_value v
-string-value ls w v g = ap as_value g.value
 
 pub label-end : (σ : Solution) (rs : List ℕ) (k : ℕ) → label_by σ (rs ++ k ∷ []) ≡ label_by σ rs ++ as_label (σ k)
 label-end σ [] k = append-nil (as_label (σ k))

@@ -18,6 +18,7 @@ pub mod ReadingLaws
 pub mod GroundLaws
 pub mod PartLaws
 pub mod MakingLaws
+pub mod WaitingLaws
 pub mod HeldLaws
 pub mod ReadOffLaws
 pub mod StackLaws

@@ -7,6 +7,7 @@ pub mod Heads
 -- what is read off
 pub mod Readable
 pub mod Grounds
+pub mod Waiting
 pub mod Held
 pub mod Reading
 -- the answers

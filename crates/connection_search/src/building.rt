@@ -1,16 +1,17 @@
 //! What stands for a cell is made of what stands for the cells that it needs, which are made first.
 
-ghost use Rattle.std.specs.Prelude.{◌≡◌, ◌<◌, ◌≤◌, IfOk, IsTrue, OnOk, Some, length, map};
+ghost use Rattle.std.specs.Prelude.{◌≡◌, ◌<◌, ◌≤◌, ◌+◌, ◌++◌, ◌∷◌, [], ℕ, IfOk, IsTrue, OnOk, length, map};
 ghost use Rattle.std.specs.List.{AllByRecursion};
 ghost use Rattle.formula_core.specs.GroundLists.{IsGrown, no_list};
 ghost use Rattle.store_theory.specs.Bindings.{IsEnd};
-ghost use Rattle.store_theory.specs.Stores.{Solution, Solves, names_below};
+ghost use Rattle.store_theory.specs.Stores.{EndsAt, Solution, Solves, names_below};
 ghost use Rattle.store_theory.specs.Stores as cells;
 ghost use Rattle.calculus.specs.Ground.{g_eigen, g_fun, g_new_mark, values_tree};
 ghost use Rattle.search_theory.specs.States.{label_by, terms_by, values_by};
 ghost use Rattle.term_store.specs.RefView.{the_place};
-ghost use Rattle.connection_search.specs.Grounds.{AreMade, AreSparesAt, IsGroundOf, IsReading, Needs, home_of, spare_at};
+ghost use Rattle.connection_search.specs.Grounds.{AreMade, AreSparesAt, IsBegun, IsGroundOf, IsReading, Needs, home_of, spare_at};
 ghost use Rattle.connection_search.specs.Readable.{AreHomesBelow, IsPlace};
+ghost use Rattle.connection_search.specs.Waiting.{AreAllMade, IsAsked, IsMade, WaitBySpares, unasked, weight};
 
 use crate::grounds::{Ground, Grounds};
 use crate::homes::Homes;
@@ -33,9 +34,11 @@ impl Grounds {
         requires below { IsTrue (names_below (length store.now.store.cells) (map the_place refs.now)) }
         ensures value { IfOk result (λ g. (σ : Solution) → Solves store.now.store σ
             → AreMade self.old.table σ self.old.made.items
+            → AreAllMade store.now.store self.old.made.items (map the_place refs.now)
             → IsGroundOf self.new.table g (cells.a_term (g_fun f.0 (terms_by σ (map the_place refs.now))))) }
         ensures grown { IfOk result (λ g. IsGrown self.old.table self.new.table) }
         ensures made { IfOk result (λ g. self.new.made ≡ self.old.made) }
+        ensures asked { IfOk result (λ g. self.new.asked ≡ self.old.asked) }
     {
         let items = self.terms(alloc, store, refs)?;
         let args = self.table.add_terms(&items)?;
@@ -53,9 +56,11 @@ impl Grounds {
         requires below { IsTrue (names_below (length store.now.store.cells) (map the_place refs.now)) }
         ensures value { IfOk result (λ g. (σ : Solution) → Solves store.now.store σ
             → AreMade self.old.table σ self.old.made.items
+            → AreAllMade store.now.store self.old.made.items (map the_place refs.now)
             → IsGroundOf self.new.table g (cells.a_term (g_eigen p.0 (values_tree (values_by σ (map the_place refs.now)))))) }
         ensures grown { IfOk result (λ g. IsGrown self.old.table self.new.table) }
         ensures made { IfOk result (λ g. self.new.made ≡ self.old.made) }
+        ensures asked { IfOk result (λ g. self.new.asked ≡ self.old.asked) }
     {
         let items = self.values(alloc, store, refs)?;
         let values = self.table.add_values(&items)?;
@@ -73,9 +78,11 @@ impl Grounds {
         requires below { IsTrue (names_below (length store.now.store.cells) (map the_place refs.now)) }
         ensures value { IfOk result (λ g. (σ : Solution) → Solves store.now.store σ
             → AreMade self.old.table σ self.old.made.items
+            → AreAllMade store.now.store self.old.made.items (map the_place refs.now)
             → IsGroundOf self.new.table g (cells.a_mark (g_new_mark p.0 (values_tree (values_by σ (map the_place refs.now)))))) }
         ensures grown { IfOk result (λ g. IsGrown self.old.table self.new.table) }
         ensures made { IfOk result (λ g. self.new.made ≡ self.old.made) }
+        ensures asked { IfOk result (λ g. self.new.asked ≡ self.old.asked) }
     {
         let items = self.values(alloc, store, refs)?;
         let values = self.table.add_values(&items)?;
@@ -87,9 +94,11 @@ impl Grounds {
         requires below { IsTrue (names_below (length store.now.store.cells) (map the_place refs.now)) }
         ensures value { IfOk result (λ g. (σ : Solution) → Solves store.now.store σ
             → AreMade self.old.table σ self.old.made.items
+            → AreAllMade store.now.store self.old.made.items (map the_place refs.now)
             → IsGroundOf self.new.table g (cells.a_string (label_by σ (map the_place refs.now)))) }
         ensures grown { IfOk result (λ g. IsGrown self.old.table self.new.table) }
         ensures made { IfOk result (λ g. self.new.made ≡ self.old.made) }
+        ensures asked { IfOk result (λ g. self.new.asked ≡ self.old.asked) }
     {
         let items = self.marks(alloc, store, refs)?;
         let label = self.table.add_marks(&items)?;
@@ -109,9 +118,11 @@ impl Grounds {
         requires below { IsTrue (names_below (length store.now.store.cells) (map the_place refs.now)) }
         ensures value { IfOk result (λ g. (σ : Solution) → Solves store.now.store σ
             → AreMade self.old.table σ self.old.made.items
+            → AreAllMade store.now.store self.old.made.items (map the_place refs.now)
             → IsGroundOf self.new.table g (spare_at (home_of homes.now v.0) v.0 (label_by σ (map the_place refs.now)))) }
         ensures grown { IfOk result (λ g. IsGrown self.old.table self.new.table) }
         ensures made { IfOk result (λ g. self.new.made ≡ self.old.made) }
+        ensures asked { IfOk result (λ g. self.new.asked ≡ self.old.asked) }
     {
         if homes.is_common() {
             return Ok(Ground::Term(GroundTerm::Common(v.0)));
@@ -136,9 +147,11 @@ impl Grounds {
         requires below { IsTrue (names_below (length store.now.store.cells) (map the_place refs.now)) }
         ensures value { IfOk result (λ g. (σ : Solution) → AreSparesAt store.now.store homes.now σ
             → AreMade self.old.table σ self.old.made.items
+            → AreAllMade store.now.store self.old.made.items (map the_place refs.now)
             → IsGroundOf self.new.table g (σ end.0)) }
         ensures grown { IfOk result (λ g. IsGrown self.old.table self.new.table) }
         ensures made { IfOk result (λ g. self.new.made ≡ self.old.made) }
+        ensures asked { IfOk result (λ g. self.new.asked ≡ self.old.asked) }
     {
         match store.head(end) {
             Head::Open(Sort::TermSort) => self.spare(alloc, store, homes, end, refs),
@@ -149,6 +162,44 @@ impl Grounds {
             Head::New(p) => self.new_mark(alloc, store, p, refs),
             Head::Marks => self.string(alloc, store, refs),
         }
+    }
+
+    // Lets the top wait for the cell, which is asked for. Where it was asked for before, it waits for
+    // itself: no values with own spares solve the store, and nothing is asked for any more.
+    fn wait_for(
+        &mut self,
+        store: &Store,
+        homes: &Homes,
+        top: Ref,
+        part: Ref,
+        waiting: &mut Vec<Ref>,
+    ) -> Result<(), NoMemory>
+        requires top { IsEnd store.now.store top.0 }
+        requires part { IsEnd store.now.store part.0 }
+        requires reading { IsBegun store.now.store homes.now self.old }
+        requires there { AllByRecursion (IsPlace store.now.store) waiting.old.items }
+        requires unmade { ¬ (IsMade self.old part.0) }
+        requires lighter { (σ : Solution) → AreSparesAt store.now.store homes.now σ → weight (σ part.0) < weight (σ top.0) }
+        requires waits { WaitBySpares store.now.store homes.now self.old (waiting.old.items ++ top ∷ []) }
+        ensures there { OnOk result (AllByRecursion (IsPlace store.now.store) waiting.new.items) }
+        ensures table { self.new.table ≡ self.old.table }
+        ensures made { self.new.made ≡ self.old.made }
+        ensures marked { length self.new.asked.items ≡ length self.old.asked.items }
+        ensures asked { OnOk result ((r : ℕ) → IsAsked self.old r → IsAsked self.new r) }
+        ensures waits { OnOk result (WaitBySpares store.now.store homes.now self.new waiting.new.items) }
+        ensures falls { OnOk result (unasked self.new.asked.items + unasked self.new.asked.items + length waiting.new.items
+            ≤ unasked self.old.asked.items + unasked self.old.asked.items + length waiting.old.items) }
+    {
+        let _store = store;
+        let _homes = homes;
+        if self.is_asked(part) {
+            waiting.clear();
+            return Ok(());
+        }
+        self.ask(part);
+        waiting.push(top)?;
+        waiting.push(part)?;
+        Ok(())
     }
 
     // Makes what stands for the cell on the top, or asks for one of those of which it is made.
@@ -162,16 +213,21 @@ impl Grounds {
     ) -> Result<(), NoMemory>
         requires end { IsEnd store.now.store top.0 }
         requires homes { AreHomesBelow store.now.store homes.now }
-        requires reading { IsReading store.now.store homes.now self.old }
+        requires reading { IsBegun store.now.store homes.now self.old }
         requires there { AllByRecursion (IsPlace store.now.store) waiting.old.items }
+        requires waits { WaitBySpares store.now.store homes.now self.old (waiting.old.items ++ top ∷ []) }
         ensures there { OnOk result (AllByRecursion (IsPlace store.now.store) waiting.new.items) }
-        ensures reading { OnOk result (IsReading store.now.store homes.now self.new) }
+        ensures reading { OnOk result (IsBegun store.now.store homes.now self.new) }
         ensures grown { OnOk result (IsGrown self.old.table self.new.table) }
+        ensures asked { OnOk result ((r : ℕ) → IsAsked self.old r → IsAsked self.new r) }
+        ensures kept { OnOk result ((r : ℕ) → IsMade self.old r → IsMade self.new r) }
+        ensures waits { OnOk result (WaitBySpares store.now.store homes.now self.new waiting.new.items) }
+        ensures falls { OnOk result (unasked self.new.asked.items + unasked self.new.asked.items + length waiting.new.items
+            ≤ unasked self.old.asked.items + unasked self.old.asked.items + length waiting.old.items) }
     {
         let refs = needs(alloc, store, homes, top)?;
         if let Some(part) = self.first_unmade(store, &refs) {
-            waiting.push(top)?;
-            waiting.push(part)?;
+            self.wait_for(store, homes, top, part, waiting)?;
             return Ok(());
         }
         let ground = self.build(alloc, store, homes, top, &refs)?;
@@ -179,7 +235,36 @@ impl Grounds {
         Ok(())
     }
 
-    /// What stands for the cell. Cells of which others wait to be made are on a stack of their own.
+    // Makes what stands for the cell, unless it was asked for before. Cells of which others wait to be
+    // made are on a stack of their own.
+    fn make(
+        &mut self,
+        alloc: Global,
+        store: &Store,
+        homes: &Homes,
+        end: Ref,
+    ) -> Result<(), NoMemory>
+        requires end { IsEnd store.now.store end.0 }
+        requires homes { AreHomesBelow store.now.store homes.now }
+        requires reading { IsReading store.now.store homes.now self.old }
+        ensures reading { OnOk result (IsReading store.now.store homes.now self.new) }
+        ensures grown { OnOk result (IsGrown self.old.table self.new.table) }
+        ensures asked { OnOk result (IsAsked self.new end.0) }
+        ensures kept { OnOk result ((r : ℕ) → IsMade self.old r → IsMade self.new r) }
+    {
+        if self.is_asked(end) {
+            return Ok(());
+        }
+        self.ask(end);
+        let mut waiting = Vec::new(alloc);
+        waiting.push(end)?;
+        while let Some(top) = waiting.pop() {
+            self.make_top(alloc, store, homes, top, &mut waiting)?;
+        }
+        Ok(())
+    }
+
+    /// What stands for the cell.
     pub fn ground_of(
         &mut self,
         alloc: Global,
@@ -194,19 +279,16 @@ impl Grounds {
             → IsGroundOf self.new.table g (σ r.0)) }
         ensures reading { IfOk result (λ g. IsReading store.now.store homes.now self.new) }
         ensures grown { IfOk result (λ g. IsGrown self.old.table self.new.table) }
+        ensures made { IfOk result (λ g. (σ : Solution) → AreSparesAt store.now.store homes.now σ
+            → (e : ℕ) → EndsAt store.now.store r.0 e → IsMade self.new e) }
+        ensures kept { IfOk result (λ g. (k : ℕ) → IsMade self.old k → IsMade self.new k) }
     {
         let end = store.walk(r);
-        let mut waiting = Vec::new(alloc);
-        waiting.push(end)?;
-        for _round in 0..u64::MAX {
-            match waiting.pop() {
-                Some(top) => self.make_top(alloc, store, homes, top, &mut waiting)?,
-                None => break,
-            }
-        }
+        self.make(alloc, store, homes, end)?;
         match self.at(end) {
             Some(ground) => Ok(ground),
-            None => Err(NoMemory),
+            // No values with own spares solve the store.
+            None => Ok(Ground::Marks(GroundLabel(GroundTable::EMPTY))),
         }
     }
 }

@@ -13,6 +13,7 @@ ghost use Rattle.term_store.specs.ClauseView.{the_atom};
 ghost use Rattle.term_store.specs.RefView.{the_place, the_places};
 ghost use Rattle.connection_search.specs.Grounds.{AreSparesAt, IsReading};
 ghost use Rattle.connection_search.specs.Readable.{AreHomesBelow, IsReadable};
+ghost use Rattle.connection_search.specs.Waiting.{AreAllMade};
 ghost use Rattle.connection_search.specs.Reading.{AreLiteralsOf, AreMarksOf, AreTermsOf, AreValuesOf};
 ghost use Rattle.connection_search.specs.Reading.{IsInstanceOf, IsLiteralOf};
 ghost use Rattle.connection_search.specs.Trees.{clause_with, inserted};
@@ -57,6 +58,8 @@ fn make_all(from: &Source<'_>, grounds: &mut Grounds, refs: &[Ref]) -> Result<()
     requires below { IsTrue (names_below (length from.now.store.now.store.cells) (map the_place refs.now)) }
     ensures reading { OnOk result (IsReading from.now.store.now.store from.now.homes.now grounds.new) }
     ensures grown { OnOk result (IsGrown grounds.old.table grounds.new.table) }
+    ensures made { OnOk result ((σ : Solution) → AreSparesAt from.now.store.now.store from.now.homes.now σ
+        → AreAllMade from.now.store.now.store grounds.new.made.items (map the_place refs.now)) }
 {
     for i in 0..refs.len() {
         let _made = grounds.ground_of(from.alloc, from.store, from.homes, reference_at(refs, i))?;

@@ -1,10 +1,13 @@
-use Rattle.std.proofs.Common.{length, map}
+use Rattle.std.proofs.Common.{arith, map}
 use Rattle.term_store.specs.RefView.{the_place}
-use Rattle.connection_search.proofs.ReadingLaws.{cell-below, end-of}
+use Rattle.connection_search.proofs.MakingLaws.{all-made, made-to, none-made_to}
 use Rattle.connection_search.proofs.grounds.Grounds.first_unmade.Goals as goal
 
-pub walk-requires : goal.walk-requires
-walk-requires c = cell-below (length c.args.store.now.store.cells) (map the_place c.args.refs.now) c.loop-i.i c.reference_at.result.0 c.requires c.reference_at.ensures
+pub loop-i-init : goal.loop-i-init
+loop-i-init c = none-made_to c.args.store.now.store c.args.self.now.made.items (map the_place c.args.refs.now)
 
-pub returns-then-is_none : goal.returns-then-is_none
-returns-then-is_none c = end-of c.args.store.now.store c.reference_at.result.0 c.walk.result.0 c.walk.ensures.ends
+pub loop-i-preserved : goal.loop-i-preserved
+loop-i-preserved c = made-to c.args.store.now.store c.args.self.now.made.items (map the_place c.args.refs.now) c.loop-i.i c.loop-i.invariant c.in_default.ensures
+
+pub returns : goal.returns
+returns c = all-made c.args.store.now.store c.args.self.now.made.items c.args.refs.now c.loop-i.i (omega arith) c.loop-i.invariant

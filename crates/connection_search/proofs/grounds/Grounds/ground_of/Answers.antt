@@ -1,21 +1,21 @@
-use Rattle.formula_core.proofs.GrownLaws.{grown-both}
-use Rattle.connection_search.proofs.GroundLaws.{grown-self}
-use Rattle.connection_search.proofs.PartLaws.{ends-last, ends-more, no-ends}
-use Rattle.connection_search.proofs.MakingLaws.{end-made}
+use Rattle.std.proofs.Common.{subst}
+use Rattle.store_theory.proofs.BindingLaws.{ends-once}
+use Rattle.connection_search.specs.Waiting.{IsMade}
+use Rattle.connection_search.proofs.MakingLaws.{end-made, end-unmade}
 use Rattle.connection_search.proofs.ReadingLaws.{end-of}
 use Rattle.connection_search.proofs.grounds.Grounds.ground_of.Goals as goal
 
-pub loop-round-init : goal.loop-round-init
-loop-round-init c = record { there = ends-more c.args.store.now.store c.push.new.self.items c.new-waiting.result.items c.walk-end.result c.in_ok-push.ensures.items (no-ends c.args.store.now.store c.new-waiting.result.items c.new-waiting.ensures.items) (end-of c.args.store.now.store c.args.r.0 c.walk-end.result.0 c.walk-end.ensures.ends); reading = c.requires.reading; grown = grown-self c.args.self.now.table c.requires.reading.most }
+pub make-requires-clause-end : goal.make-requires-clause-end
+make-requires-clause-end c = end-of c.args.store.now.store c.args.r.0 c.walk-end.result.0 c.walk-end.ensures.ends
 
-pub make_top-requires-clause-end : goal.make_top-requires-clause-end
-make_top-requires-clause-end c = (ends-last c.args.store.now.store c.loop-round.waiting.items c.pop.new.self.items c.in-Some.top c.in-Some.ensures.items c.loop-round.invariant.there).1
+pub returns-in-Some-clause-ground : goal.returns-in-Some-clause-ground
+returns-in-Some-clause-ground c = λ σ sp. end-made c.args.store.now.store c.args.homes.now c.make.new.self c.args.r.0 c.walk-end.result.0 c.in-Some.ground c.at.result σ c.in_ok-make.ensures.reading c.walk-end.ensures.ends c.in-Some.is c.at.ensures sp
 
-pub make_top-requires-clause-there : goal.make_top-requires-clause-there
-make_top-requires-clause-there c = (ends-last c.args.store.now.store c.loop-round.waiting.items c.pop.new.self.items c.in-Some.top c.in-Some.ensures.items c.loop-round.invariant.there).0
+pub returns-in-Some-clause-made : goal.returns-in-Some-clause-made
+returns-in-Some-clause-made c = λ σ sp e w. subst (IsMade c.make.new.self) (ends-once c.args.store.now.store c.args.r.0 c.walk-end.result.0 e c.walk-end.ensures.ends w) (c.in_ok-make.ensures.reading.settled σ sp c.walk-end.result.0 c.in_ok-make.ensures.asked)
 
-pub loop-round-preserved : goal.loop-round-preserved
-loop-round-preserved c = record { there = c.in_ok-make_top-in-Some.ensures.there; reading = c.in_ok-make_top-in-Some.ensures.reading; grown = grown-both _ _ _ c.loop-round.invariant.grown c.in_ok-make_top-in-Some.ensures.grown }
+pub returns-in-None-clause-ground : goal.returns-in-None-clause-ground
+returns-in-None-clause-ground c = λ σ sp. absurd (end-unmade c.make.new.self c.walk-end.result.0 c.at.result c.in-None.is c.at.ensures (c.in_ok-make.ensures.reading.settled σ sp c.walk-end.result.0 c.in_ok-make.ensures.asked))
 
-pub returns-in-Some-at-clause-ground : goal.returns-in-Some-at-clause-ground
-returns-in-Some-at-clause-ground c = λ σ sp. end-made c.args.store.now.store c.args.homes.now c.loop-round.self c.args.r.0 c.walk-end.result.0 c.in-Some-at.ground c.at.result σ c.loop-round.invariant.reading c.walk-end.ensures.ends c.in-Some-at.is c.at.ensures sp
+pub returns-in-None-clause-made : goal.returns-in-None-clause-made
+returns-in-None-clause-made c = λ σ sp e w. subst (IsMade c.make.new.self) (ends-once c.args.store.now.store c.args.r.0 c.walk-end.result.0 e c.walk-end.ensures.ends w) (c.in_ok-make.ensures.reading.settled σ sp c.walk-end.result.0 c.in_ok-make.ensures.asked)
