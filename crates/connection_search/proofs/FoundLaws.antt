@@ -28,7 +28,7 @@ use Rattle.store_theory.specs.Bindings.{IsWellFormed}
 use Rattle.store_theory.proofs.BindingLaws.{ends-once}
 use Rattle.prefix_split.specs.Later.{IsFoundIn, IsLater}
 use Rattle.prefix_split.proofs.TryingLaws.{ends-open}
-use Rattle.store_theory.specs.Stores.{EndsAt, here, Cell, variable, fun_cell, eigen_cell, new_cell, string_cell, Store, GammaCell, has_sort_at, sort_of, Solution, label_at}
+use Rattle.store_theory.specs.Stores.{EndsAt, here, Cell, variable, fun_cell, eigen_cell, new_cell, string_cell, Store, GammaCell, AreOwnSpares, has_sort_at, sort_of, Solution, label_at}
 use Rattle.store_theory.specs.Systems.{AllAllowed, IsOpenString, AreEqualNow, AreTried, CellAtom, Equation, HaveLengths, OwnSparesSolve, Pair, System, cells_of, cells_of_atom, has_label_sort_at, is_equation, is_label}
 use Rattle.search_theory.specs.Joined.{IsTableauBy}
 use Rattle.search_theory.specs.Regular.{AreSame, HasNoSamePair, HasSamePair, IsNewGoal}
@@ -51,7 +51,7 @@ use Rattle.connection_search.specs.Deciding.{HasOwnTableau, IsFound}
 use Rattle.connection_search.specs.Grounds.{AreSparesAt}
 use Rattle.connection_search.specs.OwnStores.{AreOwn, is_search_cell}
 use Rattle.connection_search.specs.Running.{IsRunning, NamesStringsFrom, StandsFor, StandsWhole}
-use Rattle.connection_search.specs.Trees.{the_step, tree_system}
+use Rattle.connection_search.specs.Trees.{the_step, tree_system, gammas_of}
 use Rattle.connection_search.specs.declared.homes.Homes.{Homes}
 use Rattle.connection_search.specs.declared.tree.Goal.{Goal}
 use Rattle.connection_search.specs.declared.tree.Step.{Step}
@@ -347,6 +347,11 @@ unlabelled-tableau P m base d c s steps goals first problem labels (cs, x, at, n
     (unlabelled-solve P base d c S y at.running u problem new)
 
 -- ---- what is read off
+
+-- own spares stand at the homes that were found
+pub own-spares : (P : Problem) (m : List MatrixClause) (d : ℕ) (s : Store) (h : Homes) (steps : List Step) (b : Bool) (gs : List GammaCell) → (own : HasOwnTableau P m d s steps) → b ≡ common_spares P → gs ≡ flat_map gammas_of steps
+    → ((σ : Solution) → AreOwnSpares b s gs σ (λ v. v) → AreSparesAt s h σ) → AreSparesAt s h own.solution
+own-spares P m d s h steps b gs own e f at = at own.solution (subst (λ xs. AreOwnSpares b s xs own.solution (λ v. v)) (sym f) (subst (λ c. AreOwnSpares c s (flat_map gammas_of steps) own.solution (λ v. v)) (sym e) own.spares))
 
 -- the tableau that is read off is the one that own spares give
 pub read-closed : (P : Problem) (m : List MatrixClause) (d : ℕ) (s : Store) (h : Homes) (steps : List Step) (t : Tableau) → (own : HasOwnTableau P m d s steps) → AreSparesAt s h own.solution → ((σ : Solution) → AreSparesAt s h σ → IsTableauBy (map (choice_at σ) (map (the_step m) steps)) t) → IsTrue (is_closed P d t)

@@ -76,7 +76,7 @@ reading-grown s h before after k grown same asked = record {
   all = ap (λ v. length v.items) same ∙ k.all;
   marked = ap (λ v. length v.items) asked ∙ k.marked;
   read = λ σ sp r x e. ground-grown before.table after.table grown x (σ r) (k.read σ sp r x (sym (ap (λ v. slice_get v.items r) same) ∙ e));
-  settled = λ σ sp r a. subst (λ v. IsMadeIn v.items r) (sym same) (k.settled σ sp r (sym (ap (λ v. slice_get v.items r) asked) ∙ a));
+  settled = λ r a. subst (λ v. IsMadeIn v.items r) (sym same) (k.settled r (sym (ap (λ v. slice_get v.items r) asked) ∙ a));
 }
 
 -- nothing is made
@@ -134,7 +134,7 @@ reading-none s h g i n table none new e l = record {
   all = none.1 ∙ e ∙ l;
   marked = new.1 ∙ e ∙ l;
   read = λ σ sp. nothing-made g.table σ g.made.items none.0;
-  settled = λ σ sp r a. absurd (new-at g.asked.items r new.0 a);
+  settled = λ r a. absurd (new-at g.asked.items r new.0 a);
 }
 
 -- what stands at the end of the bindings
@@ -142,9 +142,9 @@ pub end-made : (s : Store) (h : Homes) (g : Grounds) (r end : ℕ) (x : Ground) 
 end-made s h g r end x o σ k ends e at sp =
     subst (IsGroundOf g.table x) (sym (ends-same s σ r end sp.solves ends)) (k.read σ sp end x (subst (λ z. MatchOption z (¬ (IsMadeIn g.made.items end)) (λ y. slice_get g.made.items end ≡ Some (Some y))) e at))
 
--- nothing stands there
-pub end-unmade : (g : Grounds) (end : ℕ) (o : Option Ground) → o ≡ None → MatchOption o (¬ (IsMadeIn g.made.items end)) (λ y. slice_get g.made.items end ≡ Some (Some y)) → ¬ (IsMadeIn g.made.items end)
-end-unmade g end o e at = subst (λ z. MatchOption z (¬ (IsMadeIn g.made.items end)) (λ y. slice_get g.made.items end ≡ Some (Some y))) e at
+-- what is made stands there
+pub end-there : (g : Grounds) (end : ℕ) (o : Option Ground) → o ≡ None → MatchOption o (¬ (IsMadeIn g.made.items end)) (λ y. slice_get g.made.items end ≡ Some (Some y)) → IsMadeIn g.made.items end → ⊥
+end-there g end o e at m = subst (λ z. MatchOption z (¬ (IsMadeIn g.made.items end)) (λ y. slice_get g.made.items end ≡ Some (Some y))) e at m
 
 pub made-at : (s : Store) (ls : List GroundList) (made : List (Option Ground)) (refs : List ℕ) (i r end : ℕ) (x : Ground) → slice_get refs i ≡ Some r → EndsAt s r end → slice_get made end ≡ Some (Some x) → (σ : Solution) → Solves s σ → AreMade ls σ made → (k : ℕ) → slice_get refs i ≡ Some k → IsGroundOf ls x (σ k)
 made-at s ls made refs i r end x at ends e σ t h k f =
@@ -152,31 +152,25 @@ made-at s ls made refs i r end x at ends e σ t h k f =
     subst (λ n. IsGroundOf ls x (σ n)) same (subst (IsGroundOf ls x) (sym (ends-same s σ r end t ends)) (h end x e))
 
 abbrev pub TermsTo : Store → List GroundList → List (Option Ground) → List ℕ → ℕ → List GroundTerm → Type 0
-TermsTo s ls made refs i items = (σ : Solution) → Solves s σ → AreMade ls σ made → AreAllMade s made refs → map (the_g_term ls) items ≡ map (λ k. as_term (σ k)) (take i refs)
+TermsTo s ls made refs i items = (σ : Solution) → Solves s σ → AreMade ls σ made → map (the_g_term ls) items ≡ map (λ k. as_term (σ k)) (take i refs)
 
 abbrev pub ValuesTo : Store → List GroundList → List (Option Ground) → List ℕ → ℕ → List Value → Type 0
-ValuesTo s ls made refs i items = (σ : Solution) → Solves s σ → AreMade ls σ made → AreAllMade s made refs → map (the_value ls) items ≡ values_by σ (take i refs)
+ValuesTo s ls made refs i items = (σ : Solution) → Solves s σ → AreMade ls σ made → map (the_value ls) items ≡ values_by σ (take i refs)
 
 abbrev pub MarksTo : Store → List GroundList → List (Option Ground) → List ℕ → ℕ → List GroundMark → Type 0
-MarksTo s ls made refs i items = (σ : Solution) → Solves s σ → AreMade ls σ made → AreAllMade s made refs → map (the_mark ls) items ≡ label_by σ (take i refs)
+MarksTo s ls made refs i items = (σ : Solution) → Solves s σ → AreMade ls σ made → map (the_mark ls) items ≡ label_by σ (take i refs)
 
 -- what is made for the cell at a place
 abbrev pub IsMadeAt : Store → List GroundList → List (Option Ground) → List ℕ → ℕ → Ground → Type 0
 IsMadeAt s ls made refs i g = (σ : Solution) → Solves s σ → AreMade ls σ made → (k : ℕ) → slice_get refs i ≡ Some k → IsGroundOf ls g (σ k)
 
--- where nothing is made for it, not all are made
-abbrev pub IsMadeFor : Store → List GroundList → List (Option Ground) → List ℕ → ℕ → Option Ground → Type 0
-IsMadeFor s ls made refs i o = MatchOption o (¬ (AreAllMade s made refs)) (IsMadeAt s ls made refs i)
-
-pub made-for : (s : Store) (ls : List GroundList) (made : List (Option Ground)) (refs : List ℕ) (i r end : ℕ) (o : Option Ground) → slice_get refs i ≡ Some r → EndsAt s r end → MatchOption o (¬ (IsMadeIn made end)) (λ g. slice_get made end ≡ Some (Some g)) → IsMadeFor s ls made refs i o
-made-for s ls made refs i r end None at ends h = λ all. h (all i r end at ends)
-made-for s ls made refs i r end (Some x) at ends h = made-at s ls made refs i r end x at ends h
+pub made-for : (s : Store) (ls : List GroundList) (made : List (Option Ground)) (refs : List ℕ) (i r end : ℕ) (o : Option Ground) (x : Ground) → slice_get refs i ≡ Some r → EndsAt s r end → o ≡ Some x → MatchOption o (¬ (IsMadeIn made end)) (λ g. slice_get made end ≡ Some (Some g)) → IsMadeAt s ls made refs i x
+made-for s ls made refs i r end o x at ends e h = made-at s ls made refs i r end x at ends (subst (λ z. MatchOption z (¬ (IsMadeIn made end)) (λ g. slice_get made end ≡ Some (Some g))) e h)
 
 -- what a ground value is taken for
-told : {X : Type 0} (of : CellValue → X) (x : X) (s : Store) (ls : List GroundList) (made : List (Option Ground)) (refs : List ℕ) (i : ℕ) (o : Option Ground) → ((g : Ground) → o ≡ Some g → x ≡ of (the_ground ls g)) → IsMadeFor s ls made refs i o
-    → (σ : Solution) → Solves s σ → AreMade ls σ made → AreAllMade s made refs → (k : ℕ) → slice_get refs i ≡ Some k → x ≡ of (σ k)
-told of x s ls made refs i None h m σ sv am all k at = absurd (m all)
-told of x s ls made refs i (Some g) h m σ sv am all k at = h g refl ∙ ap of (m σ sv am k at).value
+told : {X : Type 0} (of : CellValue → X) (x : X) (s : Store) (ls : List GroundList) (made : List (Option Ground)) (refs : List ℕ) (i : ℕ) (g : Ground) → x ≡ of (the_ground ls g) → IsMadeAt s ls made refs i g
+    → (σ : Solution) → Solves s σ → AreMade ls σ made → (k : ℕ) → slice_get refs i ≡ Some k → x ≡ of (σ k)
+told of x s ls made refs i g h m σ sv am k at = h ∙ ap of (m σ sv am k at).value
 
 -- nothing is made for the end
 pub unmade-there : (s : Store) (made : List (Option Ground)) (refs : List ℕ) (i r end : ℕ) (o : Option Ground) → slice_get refs i ≡ Some r → EndsAt s r end → o ≡ None → MatchOption o (¬ (IsMadeIn made end)) (λ g. slice_get made end ≡ Some (Some g)) → IsUnmade s made refs end
@@ -224,50 +218,43 @@ all-made s made refs n l h i k e at ends = h i k e (let w = slice_get_within (ma
 pub made-still : (s : Store) (made more : List (Option Ground)) (refs : List ℕ) (n : ℕ) → AreMadeTo s made refs n → ((r : ℕ) → IsMadeIn made r → IsMadeIn more r) → AreMadeTo s more refs n
 made-still s made more refs n h keep i k e l at ends = keep e (h i k e l at ends)
 
-some-made : (N : Type 0) (Q : Ground → Type 0) (o : Option Ground) (g : Ground) → o ≡ Some g → MatchOption o N Q → Q g
-some-made N Q o g e h = subst (λ x. MatchOption x N Q) e h
-
 place-of : (refs : List Ref) (i : ℕ) → i < length refs → (k : ℕ) × (slice_get (map the_place refs) i ≡ Some k)
 place-of [] i l = absurd (omega (arith, l))
 place-of (r ∷ refs) zero l = (r.0, refl)
 place-of (r ∷ refs) (suc i) l = place-of refs i (omega (arith, l))
 
-pub terms-step : (s : Store) (ls : List GroundList) (made : List (Option Ground)) (refs : List Ref) (i : ℕ) (items before : List GroundTerm) (t : GroundTerm) (o : Option Ground) → items ≡ before ++ t ∷ [] → i < length refs → ((g : Ground) → o ≡ Some g → the_g_term ls t ≡ as_term (the_ground ls g)) → IsMadeFor s ls made (map the_place refs) i o → TermsTo s ls made (map the_place refs) i before → TermsTo s ls made (map the_place refs) (i + 1) items
-terms-step s ls made refs i items before t o q l e g h σ sv am all =
+pub terms-step : (s : Store) (ls : List GroundList) (made : List (Option Ground)) (refs : List Ref) (i : ℕ) (items before : List GroundTerm) (t : GroundTerm) (g : Ground) → items ≡ before ++ t ∷ [] → i < length refs → the_g_term ls t ≡ as_term (the_ground ls g) → IsMadeAt s ls made (map the_place refs) i g → TermsTo s ls made (map the_place refs) i before → TermsTo s ls made (map the_place refs) (i + 1) items
+terms-step s ls made refs i items before t g q l e m h σ sv am =
     let (k, at) = place-of refs i l in
-    ap (map (the_g_term ls)) q ∙ terms-more ls σ (map the_place refs) i k before t at (told as_term (the_g_term ls t) s ls made (map the_place refs) i o e g σ sv am all k at) (h σ sv am all)
+    ap (map (the_g_term ls)) q ∙ terms-more ls σ (map the_place refs) i k before t at (told as_term (the_g_term ls t) s ls made (map the_place refs) i g e m σ sv am k at) (h σ sv am)
 
 -- what is made, as marks
-pub made-mark : (s : Store) (ls : List GroundList) (made : List (Option Ground)) (refs : List ℕ) (i : ℕ) (items before : List GroundMark) (m : GroundMark) (o : Option Ground) → items ≡ before ++ m ∷ [] → o ≡ Some (ground.Mark m) → IsMadeFor s ls made refs i o → (σ : Solution) → Solves s σ → AreMade ls σ made → (k : ℕ) → slice_get refs i ≡ Some k → map (the_mark ls) items ≡ map (the_mark ls) before ++ as_label (σ k)
-made-mark s ls made refs i items before m o q e g σ sv am k at =
+pub made-mark : (s : Store) (ls : List GroundList) (made : List (Option Ground)) (refs : List ℕ) (i : ℕ) (items before : List GroundMark) (m : GroundMark) (g : Ground) → items ≡ before ++ m ∷ [] → g ≡ ground.Mark m → IsMadeAt s ls made refs i g → (σ : Solution) → Solves s σ → AreMade ls σ made → (k : ℕ) → slice_get refs i ≡ Some k → map (the_mark ls) items ≡ map (the_mark ls) before ++ as_label (σ k)
+made-mark s ls made refs i items before m g q e h σ sv am k at =
     ap (map (the_mark ls)) q ∙ map-append (the_mark ls) before (m ∷ [])
-    ∙ ap (λ w. map (the_mark ls) before ++ w) (mark-label ls m (σ k) (some-made (¬ (AreAllMade s made refs)) (IsMadeAt s ls made refs i) o (ground.Mark m) e g σ sv am k at))
+    ∙ ap (λ w. map (the_mark ls) before ++ w) (mark-label ls m (σ k) (subst (IsMadeAt s ls made refs i) e h σ sv am k at))
 
-pub made-marks : (s : Store) (ls : List GroundList) (made : List (Option Ground)) (refs : List ℕ) (i : ℕ) (items before more : List GroundMark) (w : GroundLabel) (o : Option Ground) → items ≡ before ++ more → map (the_mark ls) more ≡ the_marks ls w → o ≡ Some (ground.Marks w) → IsMadeFor s ls made refs i o → (σ : Solution) → Solves s σ → AreMade ls σ made → (k : ℕ) → slice_get refs i ≡ Some k → map (the_mark ls) items ≡ map (the_mark ls) before ++ as_label (σ k)
-made-marks s ls made refs i items before more w o q n e g σ sv am k at =
+pub made-marks : (s : Store) (ls : List GroundList) (made : List (Option Ground)) (refs : List ℕ) (i : ℕ) (items before more : List GroundMark) (w : GroundLabel) (g : Ground) → items ≡ before ++ more → map (the_mark ls) more ≡ the_marks ls w → g ≡ ground.Marks w → IsMadeAt s ls made refs i g → (σ : Solution) → Solves s σ → AreMade ls σ made → (k : ℕ) → slice_get refs i ≡ Some k → map (the_mark ls) items ≡ map (the_mark ls) before ++ as_label (σ k)
+made-marks s ls made refs i items before more w g q n e h σ sv am k at =
     ap (map (the_mark ls)) q ∙ map-append (the_mark ls) before more
-    ∙ ap (λ v. map (the_mark ls) before ++ v) (string-label ls w more (σ k) n (some-made (¬ (AreAllMade s made refs)) (IsMadeAt s ls made refs i) o (ground.Marks w) e g σ sv am k at))
+    ∙ ap (λ v. map (the_mark ls) before ++ v) (string-label ls w more (σ k) n (subst (IsMadeAt s ls made refs i) e h σ sv am k at))
 
 -- a term has no marks
-pub made-no_marks : (s : Store) (ls : List GroundList) (made : List (Option Ground)) (refs : List ℕ) (i : ℕ) (items : List GroundMark) (t : GroundTerm) (o : Option Ground) → o ≡ Some (ground.Term t) → IsMadeFor s ls made refs i o → (σ : Solution) → Solves s σ → AreMade ls σ made → (k : ℕ) → slice_get refs i ≡ Some k → map (the_mark ls) items ≡ map (the_mark ls) items ++ as_label (σ k)
-made-no_marks s ls made refs i items t o e g σ sv am k at =
+pub made-no_marks : (s : Store) (ls : List GroundList) (made : List (Option Ground)) (refs : List ℕ) (i : ℕ) (items : List GroundMark) (t : GroundTerm) (g : Ground) → g ≡ ground.Term t → IsMadeAt s ls made refs i g → (σ : Solution) → Solves s σ → AreMade ls σ made → (k : ℕ) → slice_get refs i ≡ Some k → map (the_mark ls) items ≡ map (the_mark ls) items ++ as_label (σ k)
+made-no_marks s ls made refs i items t g e h σ sv am k at =
     sym (append-nil (map (the_mark ls) items))
-    ∙ ap (λ w. map (the_mark ls) items ++ as_label w) (some-made (¬ (AreAllMade s made refs)) (IsMadeAt s ls made refs i) o (ground.Term t) e g σ sv am k at).value
-
--- not all are made
-pub not-all : (s : Store) (ls : List GroundList) (made : List (Option Ground)) (refs : List ℕ) (i : ℕ) (o : Option Ground) → o ≡ None → IsMadeFor s ls made refs i o → ¬ (AreAllMade s made refs)
-not-all s ls made refs i o e g = subst (IsMadeFor s ls made refs i) e g
+    ∙ ap (λ w. map (the_mark ls) items ++ as_label w) (subst (IsMadeAt s ls made refs i) e h σ sv am k at).value
 
 -- one more is gone through
-pub values-step : (s : Store) (ls : List GroundList) (made : List (Option Ground)) (refs : List Ref) (i : ℕ) (items before : List Value) (v : Value) (o : Option Ground) → items ≡ before ++ v ∷ [] → i < length refs → ((g : Ground) → o ≡ Some g → the_value ls v ≡ as_value (the_ground ls g)) → IsMadeFor s ls made (map the_place refs) i o → ValuesTo s ls made (map the_place refs) i before → ValuesTo s ls made (map the_place refs) (i + 1) items
-values-step s ls made refs i items before v o q l e g h σ sv am all =
+pub values-step : (s : Store) (ls : List GroundList) (made : List (Option Ground)) (refs : List Ref) (i : ℕ) (items before : List Value) (v : Value) (g : Ground) → items ≡ before ++ v ∷ [] → i < length refs → the_value ls v ≡ as_value (the_ground ls g) → IsMadeAt s ls made (map the_place refs) i g → ValuesTo s ls made (map the_place refs) i before → ValuesTo s ls made (map the_place refs) (i + 1) items
+values-step s ls made refs i items before v g q l e m h σ sv am =
     let (k, at) = place-of refs i l in
-    ap (map (the_value ls)) q ∙ values-more ls σ (map the_place refs) i k before v at (told as_value (the_value ls v) s ls made (map the_place refs) i o e g σ sv am all k at) (h σ sv am all)
+    ap (map (the_value ls)) q ∙ values-more ls σ (map the_place refs) i k before v at (told as_value (the_value ls v) s ls made (map the_place refs) i g e m σ sv am k at) (h σ sv am)
 
-pub marks-step : (s : Store) (ls : List GroundList) (made : List (Option Ground)) (refs : List Ref) (i : ℕ) (items before : List GroundMark) → i < length refs → ((σ : Solution) → Solves s σ → AreMade ls σ made → AreAllMade s made (map the_place refs) → (k : ℕ) → slice_get (map the_place refs) i ≡ Some k → map (the_mark ls) items ≡ map (the_mark ls) before ++ as_label (σ k)) → MarksTo s ls made (map the_place refs) i before → MarksTo s ls made (map the_place refs) (i + 1) items
-marks-step s ls made refs i items before l g h σ sv am all =
+pub marks-step : (s : Store) (ls : List GroundList) (made : List (Option Ground)) (refs : List Ref) (i : ℕ) (items before : List GroundMark) → i < length refs → ((σ : Solution) → Solves s σ → AreMade ls σ made → (k : ℕ) → slice_get (map the_place refs) i ≡ Some k → map (the_mark ls) items ≡ map (the_mark ls) before ++ as_label (σ k)) → MarksTo s ls made (map the_place refs) i before → MarksTo s ls made (map the_place refs) (i + 1) items
+marks-step s ls made refs i items before l g h σ sv am =
     let (k, at) = place-of refs i l in
-    g σ sv am all k at ∙ label-more σ (map the_place refs) i k _ at (h σ sv am all)
+    g σ sv am k at ∙ label-more σ (map the_place refs) i k _ at (h σ sv am)
 
 -- all were gone through
 take-places : (refs : List Ref) (i : ℕ) → length refs ≤ i → take i (map the_place refs) ≡ map the_place refs
@@ -276,20 +263,20 @@ take-places [] (suc i) l = refl
 take-places (r ∷ refs) zero l = absurd (omega (arith, l))
 take-places (r ∷ refs) (suc i) l = ap (λ xs. r.0 ∷ xs) (take-places refs i (omega (arith, l)))
 
-pub terms-end : (s : Store) (ls : List GroundList) (made : List (Option Ground)) (refs : List Ref) (i : ℕ) (items : List GroundTerm) → length refs ≤ i → TermsTo s ls made (map the_place refs) i items → (σ : Solution) → Solves s σ → AreMade ls σ made → AreAllMade s made (map the_place refs) → map (the_g_term ls) items ≡ map (λ k. as_term (σ k)) (map the_place refs)
-terms-end s ls made refs i items l h σ sv am all = h σ sv am all ∙ ap (map (λ k. as_term (σ k))) (take-places refs i l)
+pub terms-end : (s : Store) (ls : List GroundList) (made : List (Option Ground)) (refs : List Ref) (i : ℕ) (items : List GroundTerm) → length refs ≤ i → TermsTo s ls made (map the_place refs) i items → (σ : Solution) → Solves s σ → AreMade ls σ made → map (the_g_term ls) items ≡ map (λ k. as_term (σ k)) (map the_place refs)
+terms-end s ls made refs i items l h σ sv am = h σ sv am ∙ ap (map (λ k. as_term (σ k))) (take-places refs i l)
 
-pub values-end : (s : Store) (ls : List GroundList) (made : List (Option Ground)) (refs : List Ref) (i : ℕ) (items : List Value) → length refs ≤ i → ValuesTo s ls made (map the_place refs) i items → (σ : Solution) → Solves s σ → AreMade ls σ made → AreAllMade s made (map the_place refs) → map (the_value ls) items ≡ values_by σ (map the_place refs)
-values-end s ls made refs i items l h σ sv am all = h σ sv am all ∙ ap (values_by σ) (take-places refs i l)
+pub values-end : (s : Store) (ls : List GroundList) (made : List (Option Ground)) (refs : List Ref) (i : ℕ) (items : List Value) → length refs ≤ i → ValuesTo s ls made (map the_place refs) i items → (σ : Solution) → Solves s σ → AreMade ls σ made → map (the_value ls) items ≡ values_by σ (map the_place refs)
+values-end s ls made refs i items l h σ sv am = h σ sv am ∙ ap (values_by σ) (take-places refs i l)
 
-pub marks-end : (s : Store) (ls : List GroundList) (made : List (Option Ground)) (refs : List Ref) (i : ℕ) (items : List GroundMark) → length refs ≤ i → MarksTo s ls made (map the_place refs) i items → (σ : Solution) → Solves s σ → AreMade ls σ made → AreAllMade s made (map the_place refs) → map (the_mark ls) items ≡ label_by σ (map the_place refs)
-marks-end s ls made refs i items l h σ sv am all = h σ sv am all ∙ ap (label_by σ) (take-places refs i l)
+pub marks-end : (s : Store) (ls : List GroundList) (made : List (Option Ground)) (refs : List Ref) (i : ℕ) (items : List GroundMark) → length refs ≤ i → MarksTo s ls made (map the_place refs) i items → (σ : Solution) → Solves s σ → AreMade ls σ made → map (the_mark ls) items ≡ label_by σ (map the_place refs)
+marks-end s ls made refs i items l h σ sv am = h σ sv am ∙ ap (label_by σ) (take-places refs i l)
 
 -- ---- what is built
 
 -- what is built for a head, for any solution, is the value of the cell for one by own spares
-pub built-there : (s : Store) (h : Homes) (v : ℕ) (rs : List ℕ) (x y : Head) (old new : List GroundList) (made : List (Option Ground)) {E : Type 0} (result : Result Ground E) → IsEnd s v → Needs s h v rs → EndsIn s v (λ d. head_of d ≡ y) → y ≡ x → IfOk result (λ g. (σ : Solution) → Solves s σ → AreMade old σ made → AreAllMade s made rs → IsGroundOf new g (made_of (home_of h v) σ v x rs)) → IfOk result (λ g. (σ : Solution) → AreSparesAt s h σ → AreMade old σ made → AreAllMade s made rs → IsGroundOf new g (σ v))
-built-there s h v rs x y old new made result end n ends e k = IfOk-weaker result _ _ (λ g f σ sp am all. ground-there s h v rs σ x new g end n (subst (λ z. EndsIn s v (λ d. head_of d ≡ z)) e ends) sp (f σ sp.solves am all)) k
+pub built-there : (s : Store) (h : Homes) (v : ℕ) (rs : List ℕ) (x y : Head) (old new : List GroundList) (made : List (Option Ground)) {E : Type 0} (result : Result Ground E) → IsEnd s v → Needs s h v rs → EndsIn s v (λ d. head_of d ≡ y) → y ≡ x → IfOk result (λ g. (σ : Solution) → Solves s σ → AreMade old σ made → IsGroundOf new g (made_of (home_of h v) σ v x rs)) → IfOk result (λ g. (σ : Solution) → AreSparesAt s h σ → AreMade old σ made → IsGroundOf new g (σ v))
+built-there s h v rs x y old new made result end n ends e k = IfOk-weaker result _ _ (λ g f σ sp am. ground-there s h v rs σ x new g end n (subst (λ z. EndsIn s v (λ d. head_of d ≡ z)) e ends) sp (f σ sp.solves am)) k
 
 pub spare-mark_made : (ls : List GroundList) (v : ℕ) → IsGroundOf ls (ground.Mark (mark.Spare v)) (a_mark (g_spare_mark v))
 spare-mark_made ls v = record { normal = refl; value = refl }

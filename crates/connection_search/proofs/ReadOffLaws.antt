@@ -21,7 +21,6 @@ use Rattle.formula_core.proofs.GrownLaws.{terms-grown}
 use Rattle.tableau_core.specs.Numbered.LiteralView.{the_literal}
 use Rattle.tableau_core.specs.declared.literal.GroundLiteral.{GroundLiteral}
 use Rattle.connection_search.specs.Grounds.{AreMade, AreSparesAt, IsReading}
-use Rattle.connection_search.specs.Waiting.{AreAllMade}
 use Rattle.connection_search.specs.Reading.{AreMarksOf, AreTermsOf, AreValuesOf, IsLiteralOf}
 use Rattle.connection_search.specs.declared.grounds.Grounds.{Grounds}
 use Rattle.connection_search.specs.declared.homes.Homes.{Homes}
@@ -30,22 +29,22 @@ use Rattle.term_store.specs.declared.cell.Ref.{Ref}
 use Rattle.connection_search.proofs.GroundLaws.{terms-tree}
 use Rattle.connection_search.proofs.PartLaws.{places-more}
 
-pub terms-read : (s : Store) (h : Homes) (g : Grounds) (new : List GroundList) (rs : List ℕ) (n : GroundTerms) (items given : List GroundTerm) → IsReading s h g → ((σ : Solution) → AreSparesAt s h σ → AreAllMade s g.made.items rs) → ((σ : Solution) → Solves s σ → AreMade g.table σ g.made.items → AreAllMade s g.made.items rs → map (the_g_term g.table) items ≡ map (λ k. as_term (σ k)) rs) → given ≡ items → AreNormalTerms new n → the_terms new n ≡ map (the_g_term g.table) given → (σ : Solution) → AreSparesAt s h σ → AreTermsOf new n (terms_by σ rs)
-terms-read s h g new rs n items given k all read e normal list σ sp = record {
+pub terms-read : (s : Store) (h : Homes) (g : Grounds) (new : List GroundList) (rs : List ℕ) (n : GroundTerms) (items given : List GroundTerm) → IsReading s h g → ((σ : Solution) → Solves s σ → AreMade g.table σ g.made.items → map (the_g_term g.table) items ≡ map (λ k. as_term (σ k)) rs) → given ≡ items → AreNormalTerms new n → the_terms new n ≡ map (the_g_term g.table) given → (σ : Solution) → AreSparesAt s h σ → AreTermsOf new n (terms_by σ rs)
+terms-read s h g new rs n items given k read e normal list σ sp = record {
   normal = normal;
-  value = ap g_terms_tree (list ∙ ap (map (the_g_term g.table)) e ∙ read σ sp.solves (k.read σ sp) (all σ sp)) ∙ terms-tree σ rs;
+  value = ap g_terms_tree (list ∙ ap (map (the_g_term g.table)) e ∙ read σ sp.solves (k.read σ sp)) ∙ terms-tree σ rs;
 }
 
-pub marks-read : (s : Store) (h : Homes) (g : Grounds) (new : List GroundList) (rs : List ℕ) (n : GroundLabel) (items given : List GroundMark) → IsReading s h g → ((σ : Solution) → AreSparesAt s h σ → AreAllMade s g.made.items rs) → ((σ : Solution) → Solves s σ → AreMade g.table σ g.made.items → AreAllMade s g.made.items rs → map (the_mark g.table) items ≡ label_by σ rs) → given ≡ items → AreNormalMarks new n → the_marks new n ≡ map (the_mark g.table) given → (σ : Solution) → AreSparesAt s h σ → AreMarksOf new n (label_by σ rs)
-marks-read s h g new rs n items given k all read e normal list σ sp = record {
+pub marks-read : (s : Store) (h : Homes) (g : Grounds) (new : List GroundList) (rs : List ℕ) (n : GroundLabel) (items given : List GroundMark) → IsReading s h g → ((σ : Solution) → Solves s σ → AreMade g.table σ g.made.items → map (the_mark g.table) items ≡ label_by σ rs) → given ≡ items → AreNormalMarks new n → the_marks new n ≡ map (the_mark g.table) given → (σ : Solution) → AreSparesAt s h σ → AreMarksOf new n (label_by σ rs)
+marks-read s h g new rs n items given k read e normal list σ sp = record {
   normal = normal;
-  value = list ∙ ap (map (the_mark g.table)) e ∙ read σ sp.solves (k.read σ sp) (all σ sp);
+  value = list ∙ ap (map (the_mark g.table)) e ∙ read σ sp.solves (k.read σ sp);
 }
 
-pub values-read : (s : Store) (h : Homes) (g : Grounds) (new : List GroundList) (rs : List ℕ) (n : Values) (items given : List Value) → IsReading s h g → ((σ : Solution) → AreSparesAt s h σ → AreAllMade s g.made.items rs) → ((σ : Solution) → Solves s σ → AreMade g.table σ g.made.items → AreAllMade s g.made.items rs → map (the_value g.table) items ≡ values_by σ rs) → given ≡ items → AreNormalValues new n → the_values new n ≡ map (the_value g.table) given → (σ : Solution) → AreSparesAt s h σ → AreValuesOf new n (values_by σ rs)
-values-read s h g new rs n items given k all read e normal list σ sp = record {
+pub values-read : (s : Store) (h : Homes) (g : Grounds) (new : List GroundList) (rs : List ℕ) (n : Values) (items given : List Value) → IsReading s h g → ((σ : Solution) → Solves s σ → AreMade g.table σ g.made.items → map (the_value g.table) items ≡ values_by σ rs) → given ≡ items → AreNormalValues new n → the_values new n ≡ map (the_value g.table) given → (σ : Solution) → AreSparesAt s h σ → AreValuesOf new n (values_by σ rs)
+values-read s h g new rs n items given k read e normal list σ sp = record {
   normal = normal;
-  value = list ∙ ap (map (the_value g.table)) e ∙ read σ sp.solves (k.read σ sp) (all σ sp);
+  value = list ∙ ap (map (the_value g.table)) e ∙ read σ sp.solves (k.read σ sp);
 }
 
 pub literal-read : (a b : List GroundList) → IsGrown a b → (x : GroundLiteral) (atom : CellAtom) (rs qs : List ℕ) (σ : Solution) → rs ≡ atom.args → qs ≡ atom.label → x.sign ≡ atom.sign → x.symbol.0 ≡ atom.symbol → AreTermsOf a x.args (terms_by σ rs) → AreMarksOf b x.label (label_by σ qs) → IsLiteralOf b x (literal_by σ atom)

@@ -10,7 +10,7 @@ use Rattle.search_theory.proofs.ExploreLaws.{all-more}
 use Rattle.search_theory.proofs.SystemLaws.{all-apart}
 use Rattle.term_store.specs.declared.cell.Ref.{Ref}
 use Rattle.formula_core.specs.GroundLists.{no_list}
-use Rattle.connection_search.specs.Grounds.{AreSparesAt, IsBegun, IsGroundOf, IsReading, IsSpareAt, Needs, home_of, needs_of, or_nothing}
+use Rattle.connection_search.specs.Grounds.{AreSparesAt, HasSparesAt, IsBegun, IsGroundOf, IsReading, IsSpareAt, Needs, home_of, needs_of, or_nothing}
 use Rattle.connection_search.specs.Waiting.{AreFalling, AreHeavier, AreWaiting, IsAsked, IsMade, IsMadeIn, IsUnmade, WaitBySpares, Waits, unasked, weight}
 use Rattle.connection_search.specs.declared.grounds.Ground.{Ground}
 use Rattle.connection_search.specs.declared.grounds.Grounds.{Grounds}
@@ -276,9 +276,16 @@ itself σ g xs top part w a u l = elim (w.known part.0 a) [
   ])
 ]
 
-pub waits-cleared : (s : Store) (h : Homes) (g new : Grounds) (xs ys : List Ref) (top part : Ref) → WaitBySpares s h g (xs ++ top ∷ []) → slice_get g.asked.items part.0 ≡ Some true → ¬ (IsMade g part.0)
-    → ((σ : Solution) → AreSparesAt s h σ → weight (σ part.0) < weight (σ top.0)) → WaitBySpares s h new ys
-waits-cleared s h g new xs ys top part w a u l = λ σ sp. absurd (itself σ g xs top part (w σ sp) a u (l σ sp))
+not-true : (asked : List Bool) (i : ℕ) → i < length asked → ¬ (slice_get asked i ≡ Some true) → slice_get asked i ≡ Some false
+not-true [] i l n = absurd (omega (arith, l))
+not-true (true ∷ asked) zero l n = absurd (n refl)
+not-true (false ∷ asked) zero l n = refl
+not-true (x ∷ asked) (suc i) l n = not-true asked i (omega (arith, l)) n
+
+-- so the part was not asked for
+pub part-new : (s : Store) (h : Homes) (g : Grounds) (xs : List Ref) (top part : Ref) → HasSparesAt s h → WaitBySpares s h g (xs ++ top ∷ []) → part.0 < length g.asked.items → ¬ (IsMade g part.0)
+    → ((σ : Solution) → AreSparesAt s h σ → weight (σ part.0) < weight (σ top.0)) → slice_get g.asked.items part.0 ≡ Some false
+part-new s h g xs top part (σ, sp) w n u l = not-true g.asked.items part.0 n (λ a. itself σ g xs top part (w σ sp) a u (l σ sp))
 
 -- one cell more is asked for
 pub waits-asked : (s : Store) (h : Homes) (g new : Grounds) (xs ys zs : List Ref) (top part : Ref) → WaitBySpares s h g (xs ++ top ∷ []) → new.made ≡ g.made → new.asked.items ≡ set g.asked.items part.0 true
@@ -322,30 +329,30 @@ waits-first s h g new none xs end k made asked n e = λ σ sp.
       falling = (tt, tt);
       known = λ r a. (elim (set-at g.asked.items end.0 r true true (sym (ap (λ rs. slice_get rs r) asked) ∙ a)) [
         | inl q ↦ inr (inl (sym q.0))
-        | inr q ↦ inl (same-made g new made r (k.settled σ sp r q))
+        | inr q ↦ inl (same-made g new made r (k.settled r q))
       ]);
     })
 
 -- ---- beginning and end
 
-pub stack-empty : (xs : List Ref) → length xs ≡ 0 → xs ≡ []
-stack-empty [] e = refl
-stack-empty (x ∷ xs) e = absurd (omega (arith, e))
-
 pub begun-of : (s : Store) (h : Homes) (g : Grounds) → IsReading s h g → IsBegun s h g
 begun-of s h g k = record { most = k.most; all = k.all; marked = k.marked; read = k.read }
 
 -- no cell waits any more
-pub reading-settled : (s : Store) (h : Homes) (g : Grounds) (xs : List Ref) → IsBegun s h g → WaitBySpares s h g xs → xs ≡ [] → IsReading s h g
-reading-settled s h g xs k w e = record {
+pub last-made : (s : Store) (h : Homes) (g : Grounds) (xs : List Ref) (r : ℕ) → HasSparesAt s h → WaitBySpares s h g xs → length xs ≡ 0 → IsAsked g r → IsMade g r
+last-made s h g [] r (σ, sp) w e a = elim ((w σ sp).known r a) [
+  | inl m ↦ m
+  | inr q ↦ absurd q
+]
+last-made s h g (x ∷ xs) r has w e a = absurd (omega (arith, e))
+
+pub reading-settled : (s : Store) (h : Homes) (g : Grounds) (xs : List Ref) → HasSparesAt s h → IsBegun s h g → WaitBySpares s h g xs → length xs ≡ 0 → IsReading s h g
+reading-settled s h g xs has k w e = record {
   most = k.most;
   all = k.all;
   marked = k.marked;
   read = k.read;
-  settled = λ σ sp r a. (elim ((w σ sp).known r a) [
-    | inl m ↦ m
-    | inr q ↦ (let z : Waits [] r = subst (λ rs. Waits rs r) e q in absurd z)
-  ]);
+  settled = λ r a. last-made s h g xs r has w e a;
 }
 
 -- the table and what is made stay, and another cell is asked for

@@ -69,6 +69,10 @@ pub record AreSparesAt (s : Store) (h : Homes) (σ : Solution) : Type 0 where
   pub solves : Solves s σ
   pub spares : (v : ℕ) (sort : Sort) → slice_get s.cells v ≡ Some (variable sort None) → IsSpareAt (home_of h v) σ sort v
 
+-- some values are so: what is read off is there
+abbrev pub HasSparesAt : Store → Homes → Type 0
+HasSparesAt s h = (σ : Solution) × AreSparesAt s h σ
+
 -- what is made so far are the values by own spares
 abbrev pub AreRead : Store → Homes → List GroundList → List (Option Ground) → Type 0
 AreRead s h ls made = (σ : Solution) → AreSparesAt s h σ → AreMade ls σ made
@@ -80,13 +84,13 @@ pub record IsBegun (s : Store) (h : Homes) (g : Grounds) : Type 0 where
   pub marked : length g.asked.items ≡ length s.cells
   pub read : AreRead s h g.table g.made.items
 
--- and by the values with own spares all that was asked for is made
+-- and all that was asked for is made
 pub record IsReading (s : Store) (h : Homes) (g : Grounds) : Type 0 where
   pub most : length g.table ≤ no_list
   pub all : length g.made.items ≡ length s.cells
   pub marked : length g.asked.items ≡ length s.cells
   pub read : AreRead s h g.table g.made.items
-  pub settled : (σ : Solution) → AreSparesAt s h σ → (r : ℕ) → slice_get g.asked.items r ≡ Some true → (x : Ground) × (slice_get g.made.items r ≡ Some (Some x))
+  pub settled : (r : ℕ) → slice_get g.asked.items r ≡ Some true → (x : Ground) × (slice_get g.made.items r ≡ Some (Some x))
 
 -- ---- what a value is made of
 

@@ -9,7 +9,7 @@ ghost use Rattle.store_theory.specs.Stores as cells;
 ghost use Rattle.calculus.specs.Ground.{g_eigen, g_fun, g_new_mark, values_tree};
 ghost use Rattle.search_theory.specs.States.{label_by, terms_by, values_by};
 ghost use Rattle.term_store.specs.RefView.{the_place};
-ghost use Rattle.connection_search.specs.Grounds.{AreMade, AreSparesAt, IsBegun, IsGroundOf, IsReading, Needs, home_of, spare_at};
+ghost use Rattle.connection_search.specs.Grounds.{AreMade, AreSparesAt, HasSparesAt, IsBegun, IsGroundOf, IsReading, Needs, home_of, spare_at};
 ghost use Rattle.connection_search.specs.Readable.{AreHomesBelow, IsPlace};
 ghost use Rattle.connection_search.specs.Waiting.{AreAllMade, IsAsked, IsMade, WaitBySpares, unasked, weight};
 
@@ -32,9 +32,9 @@ impl Grounds {
         refs: &[Ref],
     ) -> Result<Ground, NoMemory>
         requires below { IsTrue (names_below (length store.now.store.cells) (map the_place refs.now)) }
+        requires made { AreAllMade store.now.store self.old.made.items (map the_place refs.now) }
         ensures value { IfOk result (λ g. (σ : Solution) → Solves store.now.store σ
             → AreMade self.old.table σ self.old.made.items
-            → AreAllMade store.now.store self.old.made.items (map the_place refs.now)
             → IsGroundOf self.new.table g (cells.a_term (g_fun f.0 (terms_by σ (map the_place refs.now))))) }
         ensures grown { IfOk result (λ g. IsGrown self.old.table self.new.table) }
         ensures made { IfOk result (λ g. self.new.made ≡ self.old.made) }
@@ -54,9 +54,9 @@ impl Grounds {
         refs: &[Ref],
     ) -> Result<Ground, NoMemory>
         requires below { IsTrue (names_below (length store.now.store.cells) (map the_place refs.now)) }
+        requires made { AreAllMade store.now.store self.old.made.items (map the_place refs.now) }
         ensures value { IfOk result (λ g. (σ : Solution) → Solves store.now.store σ
             → AreMade self.old.table σ self.old.made.items
-            → AreAllMade store.now.store self.old.made.items (map the_place refs.now)
             → IsGroundOf self.new.table g (cells.a_term (g_eigen p.0 (values_tree (values_by σ (map the_place refs.now)))))) }
         ensures grown { IfOk result (λ g. IsGrown self.old.table self.new.table) }
         ensures made { IfOk result (λ g. self.new.made ≡ self.old.made) }
@@ -76,9 +76,9 @@ impl Grounds {
         refs: &[Ref],
     ) -> Result<Ground, NoMemory>
         requires below { IsTrue (names_below (length store.now.store.cells) (map the_place refs.now)) }
+        requires made { AreAllMade store.now.store self.old.made.items (map the_place refs.now) }
         ensures value { IfOk result (λ g. (σ : Solution) → Solves store.now.store σ
             → AreMade self.old.table σ self.old.made.items
-            → AreAllMade store.now.store self.old.made.items (map the_place refs.now)
             → IsGroundOf self.new.table g (cells.a_mark (g_new_mark p.0 (values_tree (values_by σ (map the_place refs.now)))))) }
         ensures grown { IfOk result (λ g. IsGrown self.old.table self.new.table) }
         ensures made { IfOk result (λ g. self.new.made ≡ self.old.made) }
@@ -92,9 +92,9 @@ impl Grounds {
     // The string of the marks of these cells.
     fn string(&mut self, alloc: Global, store: &Store, refs: &[Ref]) -> Result<Ground, NoMemory>
         requires below { IsTrue (names_below (length store.now.store.cells) (map the_place refs.now)) }
+        requires made { AreAllMade store.now.store self.old.made.items (map the_place refs.now) }
         ensures value { IfOk result (λ g. (σ : Solution) → Solves store.now.store σ
             → AreMade self.old.table σ self.old.made.items
-            → AreAllMade store.now.store self.old.made.items (map the_place refs.now)
             → IsGroundOf self.new.table g (cells.a_string (label_by σ (map the_place refs.now)))) }
         ensures grown { IfOk result (λ g. IsGrown self.old.table self.new.table) }
         ensures made { IfOk result (λ g. self.new.made ≡ self.old.made) }
@@ -116,9 +116,9 @@ impl Grounds {
     ) -> Result<Ground, NoMemory>
         requires most { length self.old.table ≤ no_list }
         requires below { IsTrue (names_below (length store.now.store.cells) (map the_place refs.now)) }
+        requires made { AreAllMade store.now.store self.old.made.items (map the_place refs.now) }
         ensures value { IfOk result (λ g. (σ : Solution) → Solves store.now.store σ
             → AreMade self.old.table σ self.old.made.items
-            → AreAllMade store.now.store self.old.made.items (map the_place refs.now)
             → IsGroundOf self.new.table g (spare_at (home_of homes.now v.0) v.0 (label_by σ (map the_place refs.now)))) }
         ensures grown { IfOk result (λ g. IsGrown self.old.table self.new.table) }
         ensures made { IfOk result (λ g. self.new.made ≡ self.old.made) }
@@ -145,9 +145,9 @@ impl Grounds {
         requires end { IsEnd store.now.store end.0 }
         requires needs { Needs store.now.store homes.now end.0 (map the_place refs.now) }
         requires below { IsTrue (names_below (length store.now.store.cells) (map the_place refs.now)) }
+        requires made { AreAllMade store.now.store self.old.made.items (map the_place refs.now) }
         ensures value { IfOk result (λ g. (σ : Solution) → AreSparesAt store.now.store homes.now σ
             → AreMade self.old.table σ self.old.made.items
-            → AreAllMade store.now.store self.old.made.items (map the_place refs.now)
             → IsGroundOf self.new.table g (σ end.0)) }
         ensures grown { IfOk result (λ g. IsGrown self.old.table self.new.table) }
         ensures made { IfOk result (λ g. self.new.made ≡ self.old.made) }
@@ -164,8 +164,8 @@ impl Grounds {
         }
     }
 
-    // Lets the top wait for the cell, which is asked for. Where it was asked for before, it waits for
-    // itself: no values with own spares solve the store, and nothing is asked for any more.
+    // Lets the top wait for the cell, which is asked for. It was not before: what is asked for and not
+    // made waits, and is not lighter than the top.
     fn wait_for(
         &mut self,
         store: &Store,
@@ -176,6 +176,7 @@ impl Grounds {
     ) -> Result<(), NoMemory>
         requires top { IsEnd store.now.store top.0 }
         requires part { IsEnd store.now.store part.0 }
+        requires spares { HasSparesAt store.now.store homes.now }
         requires reading { IsBegun store.now.store homes.now self.old }
         requires there { AllByRecursion (IsPlace store.now.store) waiting.old.items }
         requires unmade { ¬ (IsMade self.old part.0) }
@@ -192,10 +193,6 @@ impl Grounds {
     {
         let _store = store;
         let _homes = homes;
-        if self.is_asked(part) {
-            waiting.clear();
-            return Ok(());
-        }
         self.ask(part);
         waiting.push(top)?;
         waiting.push(part)?;
@@ -213,6 +210,7 @@ impl Grounds {
     ) -> Result<(), NoMemory>
         requires end { IsEnd store.now.store top.0 }
         requires homes { AreHomesBelow store.now.store homes.now }
+        requires spares { HasSparesAt store.now.store homes.now }
         requires reading { IsBegun store.now.store homes.now self.old }
         requires there { AllByRecursion (IsPlace store.now.store) waiting.old.items }
         requires waits { WaitBySpares store.now.store homes.now self.old (waiting.old.items ++ top ∷ []) }
@@ -246,10 +244,11 @@ impl Grounds {
     ) -> Result<(), NoMemory>
         requires end { IsEnd store.now.store end.0 }
         requires homes { AreHomesBelow store.now.store homes.now }
+        requires spares { HasSparesAt store.now.store homes.now }
         requires reading { IsReading store.now.store homes.now self.old }
         ensures reading { OnOk result (IsReading store.now.store homes.now self.new) }
         ensures grown { OnOk result (IsGrown self.old.table self.new.table) }
-        ensures asked { OnOk result (IsAsked self.new end.0) }
+        ensures made { OnOk result (IsMade self.new end.0) }
         ensures kept { OnOk result ((r : ℕ) → IsMade self.old r → IsMade self.new r) }
     {
         if self.is_asked(end) {
@@ -274,21 +273,20 @@ impl Grounds {
     ) -> Result<Ground, NoMemory>
         requires cell { r.0 < length store.now.store.cells }
         requires homes { AreHomesBelow store.now.store homes.now }
+        requires spares { HasSparesAt store.now.store homes.now }
         requires reading { IsReading store.now.store homes.now self.old }
         ensures ground { IfOk result (λ g. (σ : Solution) → AreSparesAt store.now.store homes.now σ
             → IsGroundOf self.new.table g (σ r.0)) }
         ensures reading { IfOk result (λ g. IsReading store.now.store homes.now self.new) }
         ensures grown { IfOk result (λ g. IsGrown self.old.table self.new.table) }
-        ensures made { IfOk result (λ g. (σ : Solution) → AreSparesAt store.now.store homes.now σ
-            → (e : ℕ) → EndsAt store.now.store r.0 e → IsMade self.new e) }
+        ensures made { IfOk result (λ g. (e : ℕ) → EndsAt store.now.store r.0 e → IsMade self.new e) }
         ensures kept { IfOk result (λ g. (k : ℕ) → IsMade self.old k → IsMade self.new k) }
     {
         let end = store.walk(r);
         self.make(alloc, store, homes, end)?;
         match self.at(end) {
             Some(ground) => Ok(ground),
-            // No values with own spares solve the store.
-            None => Ok(Ground::Marks(GroundLabel(GroundTable::EMPTY))),
+            None => unreachable!(),
         }
     }
 }

@@ -10,7 +10,7 @@ ghost use Rattle.search_theory.specs.OrderedChoices.{selection_of};
 ghost use Rattle.search_theory.specs.States.{choice_at, clause_at, name_of};
 ghost use Rattle.store_theory.specs.Stores.{Solution};
 ghost use Rattle.tableau_core.specs.Numbered.TableauView.{the_tableau};
-ghost use Rattle.connection_search.specs.Grounds.{AreSparesAt, IsReading};
+ghost use Rattle.connection_search.specs.Grounds.{AreSparesAt, HasSparesAt, IsReading};
 ghost use Rattle.connection_search.specs.Listing.{names_of};
 ghost use Rattle.connection_search.specs.Readable.{AreHomesBelow, IsReadableExtension, IsReadableStep};
 ghost use Rattle.connection_search.specs.Reading.{AreClosingsOf, IsInner, IsStarted, IsStartedBy};
@@ -69,6 +69,7 @@ fn add_extension(
     stack: &mut Vec<Closing>,
 ) -> Result<(), NoMemory>
     requires homes { AreHomesBelow from.now.store.now.store from.now.homes.now }
+    requires spares { HasSparesAt from.now.store.now.store from.now.homes.now }
     requires reading { IsReading from.now.store.now.store from.now.homes.now grounds.old }
     requires step { IsReadableExtension from.now.store.now.store from.now.matrix.now copied.now place atom.now }
     ensures names { OnOk result (stacked_names stack.new.items
@@ -101,6 +102,7 @@ fn add_closing(
     stack: &mut Vec<Closing>,
 ) -> Result<(), NoMemory>
     requires homes { AreHomesBelow from.now.store.now.store from.now.homes.now }
+    requires spares { HasSparesAt from.now.store.now.store from.now.homes.now }
     requires reading { IsReading from.now.store.now.store from.now.homes.now grounds.old }
     requires step { IsReadableStep from.now.store.now.store from.now.matrix.now step.now }
     requires inner { IsInner step.now }
@@ -130,6 +132,7 @@ fn add_closings(
     stack: &mut Vec<Closing>,
 ) -> Result<(), NoMemory>
     requires homes { AreHomesBelow from.now.store.now.store from.now.homes.now }
+    requires spares { HasSparesAt from.now.store.now.store from.now.homes.now }
     requires reading { IsReading from.now.store.now.store from.now.homes.now grounds.old }
     requires steps { AllByRecursion (IsReadableStep from.now.store.now.store from.now.matrix.now) steps.now }
     requires inner { AllByRecursion IsInner steps.now }
@@ -176,6 +179,7 @@ fn start_of(steps: &[Step]) -> (&Copied, &[Step])
 /// The tableau of the tree: closings are read off from the last choice to the first one.
 pub(crate) fn tableau_of(from: &Source<'_>, tree: &Tree) -> Result<Tableau, NoMemory>
     requires homes { AreHomesBelow from.now.store.now.store from.now.homes.now }
+    requires spares { HasSparesAt from.now.store.now.store from.now.homes.now }
     requires steps { AllByRecursion (IsReadableStep from.now.store.now.store from.now.matrix.now)
         tree.now.steps.items }
     requires started { IsStarted tree.now.steps.items }

@@ -37,26 +37,24 @@ pub(crate) struct Grounds {
 }
 
 // The term that a ground value is. Another value counts as the spare constant 0, as in the definitions.
-fn term_of(ground: Option<Ground>) -> GroundTerm
-    ensures { (ls : List GroundList) (g : Ground) → ground ≡ Some g → the_g_term ls result ≡ as_term (the_ground ls g) }
+fn term_of(ground: Ground) -> GroundTerm
+    ensures { (ls : List GroundList) → the_g_term ls result ≡ as_term (the_ground ls ground) }
 {
     match ground {
-        Some(Ground::Term(term)) => term,
-        Some(Ground::Mark(_)) => GroundTerm::Common(0),
-        Some(Ground::Marks(_)) => GroundTerm::Common(0),
-        None => GroundTerm::Common(0),
+        Ground::Term(term) => term,
+        Ground::Mark(_) => GroundTerm::Common(0),
+        Ground::Marks(_) => GroundTerm::Common(0),
     }
 }
 
 // The term or string that a ground value is. A mark counts as the spare constant 0, as in the definitions.
-fn value_of(ground: Option<Ground>) -> Value
-    ensures { (ls : List GroundList) (g : Ground) → ground ≡ Some g → the_value ls result ≡ as_value (the_ground ls g) }
+fn value_of(ground: Ground) -> Value
+    ensures { (ls : List GroundList) → the_value ls result ≡ as_value (the_ground ls ground) }
 {
     match ground {
-        Some(Ground::Term(term)) => Value::Term(term),
-        Some(Ground::Marks(label)) => Value::Steps(label),
-        Some(Ground::Mark(_)) => Value::Term(GroundTerm::Common(0)),
-        None => Value::Term(GroundTerm::Common(0)),
+        Ground::Term(term) => Value::Term(term),
+        Ground::Marks(label) => Value::Steps(label),
+        Ground::Mark(_) => Value::Term(GroundTerm::Common(0)),
     }
 }
 
@@ -119,18 +117,20 @@ impl Grounds {
         self.asked[end.0 as usize] = true;
     }
 
-    // What stands for the cell of this place in the list, if it is made.
-    fn made_for(&self, store: &Store, refs: &[Ref], i: usize) -> Option<Ground>
+    // What stands for the cell of this place in the list.
+    fn made_for(&self, store: &Store, refs: &[Ref], i: usize) -> Ground
         requires place { i < length refs.now }
         requires below { IsTrue (names_below (length store.now.store.cells) (map the_place refs.now)) }
-        ensures { MatchOption result
-            (¬ (AreAllMade store.now.store self.now.made.items (map the_place refs.now)))
-            (λ g. (σ : Solution) → Solves store.now.store σ
+        requires made { AreAllMade store.now.store self.now.made.items (map the_place refs.now) }
+        ensures { (σ : Solution) → Solves store.now.store σ
             → AreMade self.now.table σ self.now.made.items
-            → (k : ℕ) → slice_get (map the_place refs.now) i ≡ Some k → IsGroundOf self.now.table g (σ k)) }
+            → (k : ℕ) → slice_get (map the_place refs.now) i ≡ Some k → IsGroundOf self.now.table result (σ k) }
     {
         let end = store.walk(reference_at(refs, i));
-        self.at(end)
+        match self.at(end) {
+            Some(ground) => ground,
+            None => unreachable!(),
+        }
     }
 
     // The end of the cell of this place in the list, if nothing is made for it.
@@ -170,9 +170,9 @@ impl Grounds {
         refs: &[Ref],
     ) -> Result<Vec<GroundTerm>, NoMemory>
         requires below { IsTrue (names_below (length store.now.store.cells) (map the_place refs.now)) }
+        requires made { AreAllMade store.now.store self.now.made.items (map the_place refs.now) }
         ensures { IfOk result (λ v. (σ : Solution) → Solves store.now.store σ
             → AreMade self.now.table σ self.now.made.items
-            → AreAllMade store.now.store self.now.made.items (map the_place refs.now)
             → map (the_g_term self.now.table) v.items ≡ map (λ k. as_term (σ k)) (map the_place refs.now)) }
     {
         let mut terms = Vec::new(alloc);
@@ -186,9 +186,9 @@ impl Grounds {
     /// The terms and strings that stand for these cells.
     pub fn values(&self, alloc: Global, store: &Store, refs: &[Ref]) -> Result<Vec<Value>, NoMemory>
         requires below { IsTrue (names_below (length store.now.store.cells) (map the_place refs.now)) }
+        requires made { AreAllMade store.now.store self.now.made.items (map the_place refs.now) }
         ensures { IfOk result (λ v. (σ : Solution) → Solves store.now.store σ
             → AreMade self.now.table σ self.now.made.items
-            → AreAllMade store.now.store self.now.made.items (map the_place refs.now)
             → map (the_value self.now.table) v.items ≡ values_by σ (map the_place refs.now)) }
     {
         let mut values = Vec::new(alloc);
@@ -209,24 +209,23 @@ impl Grounds {
     ) -> Result<(), NoMemory>
         requires place { i < length refs.now }
         requires below { IsTrue (names_below (length store.now.store.cells) (map the_place refs.now)) }
+        requires made { AreAllMade store.now.store self.now.made.items (map the_place refs.now) }
         ensures { OnOk result ((σ : Solution) → Solves store.now.store σ
             → AreMade self.now.table σ self.now.made.items
-            → AreAllMade store.now.store self.now.made.items (map the_place refs.now)
             → (k : ℕ) → slice_get (map the_place refs.now) i ≡ Some k
             → map (the_mark self.now.table) marks.new.items
             ≡ map (the_mark self.now.table) marks.old.items ++ as_label (σ k)) }
     {
         match self.made_for(store, refs, i) {
-            Some(Ground::Mark(mark)) => {
+            Ground::Mark(mark) => {
                 marks.push(mark)?;
                 Ok(())
             }
-            Some(Ground::Marks(label)) => {
+            Ground::Marks(label) => {
                 marks.extend_from_slice(self.table.marks(label))?;
                 Ok(())
             }
-            Some(Ground::Term(_)) => Ok(()),
-            None => Ok(()),
+            Ground::Term(_) => Ok(()),
         }
     }
 
@@ -238,9 +237,9 @@ impl Grounds {
         refs: &[Ref],
     ) -> Result<Vec<GroundMark>, NoMemory>
         requires below { IsTrue (names_below (length store.now.store.cells) (map the_place refs.now)) }
+        requires made { AreAllMade store.now.store self.now.made.items (map the_place refs.now) }
         ensures { IfOk result (λ v. (σ : Solution) → Solves store.now.store σ
             → AreMade self.now.table σ self.now.made.items
-            → AreAllMade store.now.store self.now.made.items (map the_place refs.now)
             → map (the_mark self.now.table) v.items ≡ label_by σ (map the_place refs.now)) }
     {
         let mut marks = Vec::new(alloc);

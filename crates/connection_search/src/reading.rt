@@ -11,7 +11,7 @@ ghost use Rattle.search_theory.specs.States.{atom_is_below, clause_at, label_by,
 ghost use Rattle.search_theory.specs.States.{values_by};
 ghost use Rattle.term_store.specs.ClauseView.{the_atom};
 ghost use Rattle.term_store.specs.RefView.{the_place, the_places};
-ghost use Rattle.connection_search.specs.Grounds.{AreSparesAt, IsReading};
+ghost use Rattle.connection_search.specs.Grounds.{AreSparesAt, HasSparesAt, IsReading};
 ghost use Rattle.connection_search.specs.Readable.{AreHomesBelow, IsReadable};
 ghost use Rattle.connection_search.specs.Waiting.{AreAllMade};
 ghost use Rattle.connection_search.specs.Reading.{AreLiteralsOf, AreMarksOf, AreTermsOf, AreValuesOf};
@@ -54,12 +54,13 @@ fn copy_selection(alloc: Global, sides: &[Side]) -> Result<Selection, NoMemory>
 // Makes what stands for these cells.
 fn make_all(from: &Source<'_>, grounds: &mut Grounds, refs: &[Ref]) -> Result<(), NoMemory>
     requires homes { AreHomesBelow from.now.store.now.store from.now.homes.now }
+    requires spares { HasSparesAt from.now.store.now.store from.now.homes.now }
     requires reading { IsReading from.now.store.now.store from.now.homes.now grounds.old }
     requires below { IsTrue (names_below (length from.now.store.now.store.cells) (map the_place refs.now)) }
     ensures reading { OnOk result (IsReading from.now.store.now.store from.now.homes.now grounds.new) }
     ensures grown { OnOk result (IsGrown grounds.old.table grounds.new.table) }
-    ensures made { OnOk result ((σ : Solution) → AreSparesAt from.now.store.now.store from.now.homes.now σ
-        → AreAllMade from.now.store.now.store grounds.new.made.items (map the_place refs.now)) }
+    ensures made { OnOk result (AreAllMade from.now.store.now.store grounds.new.made.items
+        (map the_place refs.now)) }
 {
     for i in 0..refs.len() {
         let _made = grounds.ground_of(from.alloc, from.store, from.homes, reference_at(refs, i))?;
@@ -70,6 +71,7 @@ fn make_all(from: &Source<'_>, grounds: &mut Grounds, refs: &[Ref]) -> Result<()
 // The terms of the cells.
 fn terms_of(from: &Source<'_>, grounds: &mut Grounds, refs: &[Ref]) -> Result<GroundTerms, NoMemory>
     requires homes { AreHomesBelow from.now.store.now.store from.now.homes.now }
+    requires spares { HasSparesAt from.now.store.now.store from.now.homes.now }
     requires reading { IsReading from.now.store.now.store from.now.homes.now grounds.old }
     requires below { IsTrue (names_below (length from.now.store.now.store.cells) (map the_place refs.now)) }
     ensures terms { IfOk result (λ n. (σ : Solution) → AreSparesAt from.now.store.now.store from.now.homes.now σ
@@ -86,6 +88,7 @@ fn terms_of(from: &Source<'_>, grounds: &mut Grounds, refs: &[Ref]) -> Result<Gr
 // The label of the cells.
 fn label_of(from: &Source<'_>, grounds: &mut Grounds, refs: &[Ref]) -> Result<GroundLabel, NoMemory>
     requires homes { AreHomesBelow from.now.store.now.store from.now.homes.now }
+    requires spares { HasSparesAt from.now.store.now.store from.now.homes.now }
     requires reading { IsReading from.now.store.now.store from.now.homes.now grounds.old }
     requires below { IsTrue (names_below (length from.now.store.now.store.cells) (map the_place refs.now)) }
     ensures label { IfOk result (λ n. (σ : Solution) → AreSparesAt from.now.store.now.store from.now.homes.now σ
@@ -113,6 +116,7 @@ fn all_variables(alloc: Global, variables: Variables) -> Result<Vec<Ref>, NoMemo
 // The values of the cells.
 fn values_at(from: &Source<'_>, grounds: &mut Grounds, refs: &[Ref]) -> Result<Values, NoMemory>
     requires homes { AreHomesBelow from.now.store.now.store from.now.homes.now }
+    requires spares { HasSparesAt from.now.store.now.store from.now.homes.now }
     requires reading { IsReading from.now.store.now.store from.now.homes.now grounds.old }
     requires below { IsTrue (names_below (length from.now.store.now.store.cells) (map the_place refs.now)) }
     ensures values { IfOk result (λ n. (σ : Solution) → AreSparesAt from.now.store.now.store from.now.homes.now σ
@@ -133,6 +137,7 @@ fn values_of(
     variables: Variables,
 ) -> Result<Values, NoMemory>
     requires homes { AreHomesBelow from.now.store.now.store from.now.homes.now }
+    requires spares { HasSparesAt from.now.store.now.store from.now.homes.now }
     requires reading { IsReading from.now.store.now.store from.now.homes.now grounds.old }
     requires below { IsTrue (names_below (length from.now.store.now.store.cells) (the_places variables)) }
     ensures values { IfOk result (λ n. (σ : Solution) → AreSparesAt from.now.store.now.store from.now.homes.now σ
@@ -152,6 +157,7 @@ fn literal_of(
     atom: &CellAtom,
 ) -> Result<GroundLiteral, NoMemory>
     requires homes { AreHomesBelow from.now.store.now.store from.now.homes.now }
+    requires spares { HasSparesAt from.now.store.now.store from.now.homes.now }
     requires reading { IsReading from.now.store.now.store from.now.homes.now grounds.old }
     requires below { IsTrue (atom_is_below (length from.now.store.now.store.cells) (the_atom atom.now)) }
     ensures literal { IfOk result (λ x. (σ : Solution) → AreSparesAt from.now.store.now.store from.now.homes.now σ
@@ -177,6 +183,7 @@ fn add_literals(
     literals: &mut LiteralList,
 ) -> Result<(), NoMemory>
     requires homes { AreHomesBelow from.now.store.now.store from.now.homes.now }
+    requires spares { HasSparesAt from.now.store.now.store from.now.homes.now }
     requires reading { IsReading from.now.store.now.store from.now.homes.now grounds.old }
     requires below { IsTrue (list_all (atom_is_below (length from.now.store.now.store.cells))
         (map the_atom atoms.now)) }
@@ -201,6 +208,7 @@ fn instance_of(
     literals: LiteralList,
 ) -> Result<ClauseInstance, NoMemory>
     requires homes { AreHomesBelow from.now.store.now.store from.now.homes.now }
+    requires spares { HasSparesAt from.now.store.now.store from.now.homes.now }
     requires reading { IsReading from.now.store.now.store from.now.homes.now grounds.old }
     requires readable { IsReadable from.now.store.now.store from.now.matrix.now copied.now }
     ensures selection { IfOk result (λ i. i.selection ≡ selection_of (slice_get from.now.matrix.now copied.now.clause.0)) }
@@ -226,6 +234,7 @@ pub(crate) fn start_instance(
     copied: &Copied,
 ) -> Result<ClauseInstance, NoMemory>
     requires homes { AreHomesBelow from.now.store.now.store from.now.homes.now }
+    requires spares { HasSparesAt from.now.store.now.store from.now.homes.now }
     requires reading { IsReading from.now.store.now.store from.now.homes.now grounds.old }
     requires readable { IsReadable from.now.store.now.store from.now.matrix.now copied.now }
     ensures selection { IfOk result (λ i. i.selection ≡ selection_of (slice_get from.now.matrix.now copied.now.clause.0)) }
@@ -249,6 +258,7 @@ pub(crate) fn connected_instance(
     atom: &CellAtom,
 ) -> Result<ClauseInstance, NoMemory>
     requires homes { AreHomesBelow from.now.store.now.store from.now.homes.now }
+    requires spares { HasSparesAt from.now.store.now.store from.now.homes.now }
     requires reading { IsReading from.now.store.now.store from.now.homes.now grounds.old }
     requires readable { IsReadable from.now.store.now.store from.now.matrix.now copied.now }
     requires place { place ≤ length copied.now.copy.literals }

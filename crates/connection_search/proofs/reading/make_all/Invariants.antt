@@ -1,8 +1,7 @@
 use Rattle.std.proofs.Common.{map}
 use Rattle.formula_core.specs.GroundLists.{IsGrown}
-use Rattle.store_theory.specs.Stores.{Solution}
 use Rattle.term_store.specs.RefView.{the_place}
-use Rattle.connection_search.specs.Grounds.{AreSparesAt, IsReading}
+use Rattle.connection_search.specs.Grounds.{IsReading}
 use Rattle.connection_search.proofs.MakingLaws.{AreMadeTo}
 use Rattle.connection_search.proofs.reading.make_all.Given as goal
 
@@ -10,5 +9,5 @@ abbrev pub invariant-loop-i : goal.invariant-loop-i
 invariant-loop-i l = record {
   reading : IsReading l.from.store.now.store l.from.homes.now l.grounds;
   grown : IsGrown l.initial.grounds.table l.grounds.table;
-  made : (σ : Solution) → AreSparesAt l.from.store.now.store l.from.homes.now σ → AreMadeTo l.from.store.now.store l.grounds.made.items (map the_place l.refs) l.i;
+  made : AreMadeTo l.from.store.now.store l.grounds.made.items (map the_place l.refs) l.i;
 }

@@ -6,7 +6,7 @@ use Rattle.connection_search.proofs.ReadOffLaws.{values-read}
 use Rattle.connection_search.proofs.reading.values_at.Goals as goal
 
 pub returns-clause-values : goal.returns-clause-values
-returns-clause-values c = values-read c.args.from.now.store.now.store c.args.from.now.homes.now c.make_all.new.grounds c.add_values.new.self (map the_place c.args.refs.now) c.in_ok-values.values c.in_ok-items.items.items c.deref.result.now c.in_ok-make_all.ensures.reading c.in_ok-make_all.ensures.made c.in_ok-items.ensures c.deref.ensures.value c.in_ok-values.ensures.normal c.in_ok-values.ensures.list
+returns-clause-values c = values-read c.args.from.now.store.now.store c.args.from.now.homes.now c.make_all.new.grounds c.add_values.new.self (map the_place c.args.refs.now) c.in_ok-values.values c.in_ok-items.items.items c.deref.result.now c.in_ok-make_all.ensures.reading c.in_ok-items.ensures c.deref.ensures.value c.in_ok-values.ensures.normal c.in_ok-values.ensures.list
 
 pub returns-clause-reading : goal.returns-clause-reading
 returns-clause-reading c = reading-grown c.args.from.now.store.now.store c.args.from.now.homes.now c.make_all.new.grounds _ c.in_ok-make_all.ensures.reading c.add_values.ensures.grown refl refl

@@ -12,10 +12,10 @@ pub returns-in-Open-TermSort-clause-value : goal.returns-in-Open-TermSort-clause
 returns-in-Open-TermSort-clause-value c = built-there c.args.store.now.store c.args.homes.now c.args.end.0 (map the_place c.args.refs.now) (head.Open TermSort) c.head.result c.args.self.now.table c.spare.new.self.table c.args.self.now.made.items c.spare.result c.requires.end c.requires.needs c.head.ensures (c.in-Open-TermSort.is ∙ ap head.Open c.in-Open-TermSort.field-0-is) c.spare.ensures.value
 
 pub returns-in-Open-MarkSort-clause-value : goal.returns-in-Open-MarkSort-clause-value
-returns-in-Open-MarkSort-clause-value c = λ σ sp am all. ground-there c.args.store.now.store c.args.homes.now c.args.end.0 (map the_place c.args.refs.now) σ (head.Open MarkSort) c.args.self.now.table _ c.requires.end c.requires.needs (subst (λ z. EndsIn c.args.store.now.store c.args.end.0 (λ d. head_of d ≡ z)) (c.in-Open-MarkSort.is ∙ ap head.Open c.in-Open-MarkSort.field-0-is) c.head.ensures) sp (spare-mark_made c.args.self.now.table c.args.end.0)
+returns-in-Open-MarkSort-clause-value c = λ σ sp am. ground-there c.args.store.now.store c.args.homes.now c.args.end.0 (map the_place c.args.refs.now) σ (head.Open MarkSort) c.args.self.now.table _ c.requires.end c.requires.needs (subst (λ z. EndsIn c.args.store.now.store c.args.end.0 (λ d. head_of d ≡ z)) (c.in-Open-MarkSort.is ∙ ap head.Open c.in-Open-MarkSort.field-0-is) c.head.ensures) sp (spare-mark_made c.args.self.now.table c.args.end.0)
 
 pub returns-in-Open-StringSort-clause-value : goal.returns-in-Open-StringSort-clause-value
-returns-in-Open-StringSort-clause-value c = λ σ sp am all. ground-there c.args.store.now.store c.args.homes.now c.args.end.0 (map the_place c.args.refs.now) σ (head.Open StringSort) c.args.self.now.table _ c.requires.end c.requires.needs (subst (λ z. EndsIn c.args.store.now.store c.args.end.0 (λ d. head_of d ≡ z)) (c.in-Open-StringSort.is ∙ ap head.Open c.in-Open-StringSort.field-0-is) c.head.ensures) sp (empty-made c.args.self.now.table _ c.requires.most refl)
+returns-in-Open-StringSort-clause-value c = λ σ sp am. ground-there c.args.store.now.store c.args.homes.now c.args.end.0 (map the_place c.args.refs.now) σ (head.Open StringSort) c.args.self.now.table _ c.requires.end c.requires.needs (subst (λ z. EndsIn c.args.store.now.store c.args.end.0 (λ d. head_of d ≡ z)) (c.in-Open-StringSort.is ∙ ap head.Open c.in-Open-StringSort.field-0-is) c.head.ensures) sp (empty-made c.args.self.now.table _ c.requires.most refl)
 
 pub returns-in-Fun-clause-value : goal.returns-in-Fun-clause-value
 returns-in-Fun-clause-value c = built-there c.args.store.now.store c.args.homes.now c.args.end.0 (map the_place c.args.refs.now) (head.Fun c.in-Fun.f) c.head.result c.args.self.now.table c.function.new.self.table c.args.self.now.made.items c.function.result c.requires.end c.requires.needs c.head.ensures c.in-Fun.is c.function.ensures.value

@@ -1,11 +1,11 @@
-use Rattle.std.proofs.Common.{◌∙◌, ap, length, subst, sym, arith}
+use Rattle.std.proofs.Common.{Some, ◌∙◌, ap, length, subst, sym, arith}
 use Rattle.formula_core.specs.GroundLists.{IsGrown}
 use Rattle.formula_core.proofs.GrownLaws.{grown-both}
 use Rattle.connection_search.specs.Waiting.{WaitBySpares}
 use Rattle.connection_search.proofs.GroundLaws.{grown-self}
 use Rattle.connection_search.proofs.MakingLaws.{set-length}
 use Rattle.connection_search.proofs.PartLaws.{end-within, ends-last, ends-more, no-ends}
-use Rattle.connection_search.proofs.WaitingLaws.{asked-there, begun-asked, begun-of, reading-settled, same-made, stack-empty, waits-first}
+use Rattle.connection_search.proofs.WaitingLaws.{asked-there, begun-asked, begun-of, last-made, reading-settled, same-made, waits-first}
 use Rattle.connection_search.proofs.grounds.Grounds.make.Goals as goal
 
 pub is_asked-requires : goal.is_asked-requires
@@ -16,6 +16,9 @@ ask-requires c = omega (arith, end-within c.args.store.now.store c.args.end.0 c.
 
 pub returns-then-is_asked-clause-grown : goal.returns-then-is_asked-clause-grown
 returns-then-is_asked-clause-grown c = grown-self c.args.self.now.table c.requires.reading.most
+
+pub returns-then-is_asked-clause-made : goal.returns-then-is_asked-clause-made
+returns-then-is_asked-clause-made c = c.requires.reading.settled c.args.end.0 (c.is_asked.ensures ∙ ap Some c.if-is_asked.true)
 
 pub loop-top-init : goal.loop-top-init
 loop-top-init c = record {
@@ -47,4 +50,7 @@ loop-top-preserved c = record {
 }
 
 pub returns-clause-reading : goal.returns-clause-reading
-returns-clause-reading c = reading-settled c.args.store.now.store c.args.homes.now c.loop-top.self c.loop-top.waiting.items c.loop-top.invariant.reading c.loop-top.invariant.waits (stack-empty c.loop-top.waiting.items (let n = c.in_default.ensures.cases.0 in omega (arith, n, c.loop-top.waiting.ok.0)))
+returns-clause-reading c = reading-settled c.args.store.now.store c.args.homes.now c.loop-top.self c.loop-top.waiting.items c.requires.spares c.loop-top.invariant.reading c.loop-top.invariant.waits (let n = c.in_default.ensures.cases.0 in omega (arith, n, c.loop-top.waiting.ok.0))
+
+pub returns-clause-made : goal.returns-clause-made
+returns-clause-made c = last-made c.args.store.now.store c.args.homes.now c.loop-top.self c.loop-top.waiting.items c.args.end.0 c.requires.spares c.loop-top.invariant.waits (let n = c.in_default.ensures.cases.0 in omega (arith, n, c.loop-top.waiting.ok.0)) c.loop-top.invariant.asked

@@ -38,6 +38,9 @@ build-requires-clause-needs c = subst (λ xs. Needs c.args.store.now.store c.arg
 pub build-requires-clause-below : goal.build-requires-clause-below
 build-requires-clause-below c = subst (λ xs. IsTrue (names_below (length c.args.store.now.store.cells) (map the_place xs))) (sym c.deref-2.ensures.value) c.in_ok-refs.ensures.below
 
+pub build-requires-clause-made : goal.build-requires-clause-made
+build-requires-clause-made c = subst (λ xs. AreAllMade c.args.store.now.store c.args.self.now.made.items (map the_place xs)) (c.deref.ensures.value ∙ sym c.deref-2.ensures.value) c.in_default.ensures
+
 pub build-requires-clause-most : goal.build-requires-clause-most
 build-requires-clause-most c = c.requires.reading.most
 
@@ -46,8 +49,7 @@ note-requires c = subst (λ n. c.args.top.0 < n) (sym (ap (λ v. length v.items)
 
 pub returns-clause-reading : goal.returns-clause-reading
 returns-clause-reading c =
-    reading-noted c.args.store.now.store c.args.homes.now c.args.self.now c.build.new.self c.note.new.self c.args.top.0 c.in_ok-ground.ground c.requires.reading c.in_ok-ground.ensures.grown c.in_ok-ground.ensures.made (c.note.ensures.asked ∙ c.in_ok-ground.ensures.asked) c.note.ensures.table c.note.ensures.made
-    (λ σ sp am. c.in_ok-ground.ensures.value σ sp am (subst (λ xs. AreAllMade c.args.store.now.store c.args.self.now.made.items (map the_place xs)) (c.deref.ensures.value ∙ sym c.deref-2.ensures.value) c.in_default.ensures))
+    reading-noted c.args.store.now.store c.args.homes.now c.args.self.now c.build.new.self c.note.new.self c.args.top.0 c.in_ok-ground.ground c.requires.reading c.in_ok-ground.ensures.grown c.in_ok-ground.ensures.made (c.note.ensures.asked ∙ c.in_ok-ground.ensures.asked) c.note.ensures.table c.note.ensures.made c.in_ok-ground.ensures.value
 
 pub returns-clause-kept : goal.returns-clause-kept
 returns-clause-kept c = keeps-made c.args.self.now c.build.new.self c.note.new.self c.args.top.0 c.in_ok-ground.ground c.in_ok-ground.ensures.made c.note.ensures.made

@@ -7,10 +7,10 @@ use Rattle.connection_search.proofs.PartLaws.{home-common, home-own}
 use Rattle.connection_search.proofs.grounds.Grounds.spare.Goals as goal
 
 pub returns-then-is_common-clause-value : goal.returns-then-is_common-clause-value
-returns-then-is_common-clause-value c = λ σ sv am all. common-made c.args.self.now.table c.args.v.0 _ (label_by σ (map the_place c.args.refs.now)) (home-common c.args.homes.now c.args.v.0 (sym c.is_common.ensures ∙ c.if-is_common.true))
+returns-then-is_common-clause-value c = λ σ sv am. common-made c.args.self.now.table c.args.v.0 _ (label_by σ (map the_place c.args.refs.now)) (home-common c.args.homes.now c.args.v.0 (sym c.is_common.ensures ∙ c.if-is_common.true))
 
 pub returns-then-is_common-clause-grown : goal.returns-then-is_common-clause-grown
 returns-then-is_common-clause-grown c = grown-self c.args.self.now.table c.requires.most
 
 pub returns-clause-value : goal.returns-clause-value
-returns-clause-value c = λ σ sv am all. own-made c.add_marks.new.self σ c.args.v.0 _ _ (map the_place c.args.refs.now) c.in_ok-label.label _ (home-own c.args.homes.now c.args.v.0 (sym c.is_common.ensures ∙ c.if-is_common.false)) c.in_ok-label.ensures.normal c.in_ok-label.ensures.list (ap (map (the_mark c.args.self.now.table)) c.deref.ensures.value ∙ c.in_ok-items.ensures σ sv am all)
+returns-clause-value c = λ σ sv am. own-made c.add_marks.new.self σ c.args.v.0 _ _ (map the_place c.args.refs.now) c.in_ok-label.label _ (home-own c.args.homes.now c.args.v.0 (sym c.is_common.ensures ∙ c.if-is_common.false)) c.in_ok-label.ensures.normal c.in_ok-label.ensures.list (ap (map (the_mark c.args.self.now.table)) c.deref.ensures.value ∙ c.in_ok-items.ensures σ sv am)

@@ -1,23 +1,11 @@
-use Rattle.std.proofs.Common.{◌≡◌, ◌+◌, ◌∷◌, [], ◌∙◌, Some, ap, length, length-append, set, suc, true, arith}
+use Rattle.std.proofs.Common.{◌≡◌, ◌+◌, ◌∷◌, [], ◌∙◌, ap, length, length-append, set, suc, true, arith}
 use Rattle.connection_search.specs.Waiting.{unasked}
 use Rattle.connection_search.proofs.PartLaws.{end-within}
-use Rattle.connection_search.proofs.WaitingLaws.{keeps-asked, unasked-falls, waits-asked, waits-cleared}
+use Rattle.connection_search.proofs.WaitingLaws.{keeps-asked, part-new, unasked-falls, waits-asked}
 use Rattle.connection_search.proofs.grounds.Grounds.wait_for.Goals as goal
-
-pub is_asked-requires : goal.is_asked-requires
-is_asked-requires c = omega (arith, end-within c.args.store.now.store c.args.part.0 c.requires.part, c.requires.reading.marked)
 
 pub ask-requires : goal.ask-requires
 ask-requires c = omega (arith, end-within c.args.store.now.store c.args.part.0 c.requires.part, c.requires.reading.marked)
-
--- ---- it waits for itself
-
-pub returns-then-is_asked-clause-waits : goal.returns-then-is_asked-clause-waits
-returns-then-is_asked-clause-waits c =
-    waits-cleared c.args.store.now.store c.args.homes.now c.args.self.now c.args.self.now c.args.waiting.now.items c.clear.new.self.items c.args.top c.args.part c.requires.waits (c.is_asked.ensures ∙ ap Some c.if-is_asked.true)
-    c.requires.unmade c.requires.lighter
-
--- ---- it is asked for
 
 pub returns-clause-asked : goal.returns-clause-asked
 returns-clause-asked c = keeps-asked c.args.self.now c.ask.new.self c.args.part.0 c.ask.ensures.asked
@@ -29,7 +17,8 @@ returns-clause-waits c =
 
 pub returns-clause-falls : goal.returns-clause-falls
 returns-clause-falls c =
-    let f : suc (unasked (set c.args.self.now.asked.items c.args.part.0 true)) ≡ unasked c.args.self.now.asked.items = unasked-falls c.args.self.now.asked.items c.args.part.0 (c.is_asked.ensures ∙ ap Some c.if-is_asked.false) in
+    let new = part-new c.args.store.now.store c.args.homes.now c.args.self.now c.args.waiting.now.items c.args.top c.args.part c.requires.spares c.requires.waits (omega (arith, end-within c.args.store.now.store c.args.part.0 c.requires.part, c.requires.reading.marked)) c.requires.unmade c.requires.lighter in
+    let f : suc (unasked (set c.args.self.now.asked.items c.args.part.0 true)) ≡ unasked c.args.self.now.asked.items = unasked-falls c.args.self.now.asked.items c.args.part.0 new in
     let u : unasked c.ask.new.self.asked.items ≡ unasked (set c.args.self.now.asked.items c.args.part.0 true) = ap unasked c.ask.ensures.asked in
     let l : length c.push.new.self.items ≡ length c.args.waiting.now.items + 1 = ap length c.in_ok-push.ensures.items ∙ length-append c.args.waiting.now.items (c.args.top ∷ []) in
     let m : length c.push-2.new.self.items ≡ length c.push.new.self.items + 1 = ap length c.in_ok-push-2.ensures.items ∙ length-append c.push.new.self.items (c.args.part ∷ []) in

@@ -1,20 +1,18 @@
 use Rattle.std.proofs.Common.{IsTrue, length, subst, sym}
-use Rattle.std.specs.List.{flat_map, list_all}
-use Rattle.store_theory.specs.Stores.{AreOwnSpares}
+use Rattle.std.specs.List.{list_all}
 use Rattle.tableau_core.specs.Numbered.TableauView.{the_tableau}
 use Rattle.connection_search.specs.Readable.{is_gamma_below}
-use Rattle.connection_search.specs.Trees.{gammas_of}
-use Rattle.connection_search.proofs.FoundLaws.{read-closed}
+use Rattle.connection_search.proofs.FoundLaws.{own-spares, read-closed}
 use Rattle.connection_search.proofs.space.Space.answer.Goals as goal
 
 pub homes_of-requires : goal.homes_of-requires
 homes_of-requires c = subst (λ gs. IsTrue (list_all (is_gamma_below (length c.args.store.now.store.cells)) gs)) (sym c.in_ok-gammas.ensures) c.requires.gammas
 
+pub tableau_of-requires-clause-spares : goal.tableau_of-requires-clause-spares
+tableau_of-requires-clause-spares c = (c.requires.own.solution, own-spares c.args.self.now.problem.now c.args.self.now.matrix.now c.args.self.now.limit c.args.store.now.store c.in_ok-homes.homes c.args.work.now.tree.steps.items c.common_spares.result _ c.requires.own c.common_spares.ensures c.in_ok-gammas.ensures c.in_ok-homes.ensures.spares)
+
 pub returns-clause-closed : goal.returns-clause-closed
 returns-clause-closed c =
-    let P = c.args.self.now.problem.now in
-    let s = c.args.store.now.store in
-    let own = c.requires.own in
-    read-closed P c.args.self.now.matrix.now c.args.self.now.limit s c.in_ok-homes.homes c.args.work.now.tree.steps.items (the_tableau c.in_ok-tableau.tableau) own
-    (c.in_ok-homes.ensures.spares own.solution (subst (λ gs. AreOwnSpares c.common_spares.result s gs own.solution (λ v. v)) (sym c.in_ok-gammas.ensures) (subst (λ b. AreOwnSpares b s (flat_map gammas_of c.args.work.now.tree.steps.items) own.solution (λ v. v)) (sym c.common_spares.ensures) own.spares)))
+    read-closed c.args.self.now.problem.now c.args.self.now.matrix.now c.args.self.now.limit c.args.store.now.store c.in_ok-homes.homes c.args.work.now.tree.steps.items (the_tableau c.in_ok-tableau.tableau) c.requires.own
+    (own-spares c.args.self.now.problem.now c.args.self.now.matrix.now c.args.self.now.limit c.args.store.now.store c.in_ok-homes.homes c.args.work.now.tree.steps.items c.common_spares.result _ c.requires.own c.common_spares.ensures c.in_ok-gammas.ensures c.in_ok-homes.ensures.spares)
     c.in_ok-tableau.ensures.built
