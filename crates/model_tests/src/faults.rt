@@ -9,7 +9,7 @@ use std::test::Fail;
 use test_problems::{NoProblem, proving};
 
 // One function and one predicate, each of one argument.
-fn problem_in(alloc: Global, logic: Logic, domains: Domains) -> Result<Problem, NoProblem> {
+fn problem_in(alloc: Global, logic: Logic, domains: Domains) -> Result<Box<Problem>, NoProblem> {
     proving(alloc, logic, domains, b"![X]:p(f(X))")
 }
 

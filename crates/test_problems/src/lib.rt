@@ -39,17 +39,24 @@ fn built(alloc: Global, setting: Setting, text: &[u8]) -> Result<Problem, BuildF
     build(alloc, &mut library, &name, &root, setting)
 }
 
-/// The problem of a file with this text, with the domains that the logic keeps of these.
+fn boxed(alloc: Global, problem: Problem) -> Result<Box<Problem>, NoMemory>
+    ensures { IfOk result (λ p. p.value.setting ≡ problem.setting) }
+{
+    Ok(Box::new(alloc, problem)?)
+}
+
+/// The problem of a file with this text, with the domains that the logic keeps of these. It is boxed
+/// because a test that owns a box is cheaper to prove: its drop is one call at each exit.
 pub fn problem_of(
     alloc: Global,
     logic: Logic,
     domains: Domains,
     text: &[u8],
-) -> Result<Problem, NoProblem>
-    ensures { IfOk result (λ p. p.setting ≡ setting_of logic domains) }
+) -> Result<Box<Problem>, NoProblem>
+    ensures { IfOk result (λ p. p.value.setting ≡ setting_of logic domains) }
 {
     match built(alloc, Setting::new(logic, domains), text) {
-        Ok(problem) => Ok(problem),
+        Ok(problem) => Ok(boxed(alloc, problem)?),
         Err(_) => Err(NoProblem),
     }
 }
@@ -73,8 +80,8 @@ pub fn proving(
     logic: Logic,
     domains: Domains,
     formula: &[u8],
-) -> Result<Problem, NoProblem>
-    ensures { IfOk result (λ p. p.setting ≡ setting_of logic domains) }
+) -> Result<Box<Problem>, NoProblem>
+    ensures { IfOk result (λ p. p.value.setting ≡ setting_of logic domains) }
 {
     let text = conjecture(alloc, logic, formula)?;
     problem_of(alloc, logic, domains, text.as_slice())

@@ -10,7 +10,7 @@ use test_problems::{NoProblem, proving};
 // The first four lines of a derivation.
 const HEAD: &[u8] = b"leancop derivation 1\nlogic classical\nformula (p => p)\nlimit 1\n";
 
-fn implication(alloc: Global) -> Result<Problem, NoProblem> {
+fn implication(alloc: Global) -> Result<Box<Problem>, NoProblem> {
     proving(alloc, Logic::Classical, Domains::Constant, b"p => p")
 }
 

@@ -11,7 +11,7 @@ const HEAD_ONE: &[u8] = b"leancop derivation 1\nlogic classical\nformula (p => p
 
 const HEAD_TWO: &[u8] = b"leancop derivation 2\nlogic classical\nformula (p => p)\nlimit 1\n";
 
-fn implication(alloc: Global) -> Result<Problem, NoProblem> {
+fn implication(alloc: Global) -> Result<Box<Problem>, NoProblem> {
     proving(alloc, Logic::Classical, Domains::Constant, b"p => p")
 }
 
