@@ -78,15 +78,26 @@ fn nodes_with_term(alloc: Global, body: &Formula) -> Result<u64, NoMemory> {
     Ok(node_count(&instance, 100))
 }
 
+fn counts_of_body(f: &Formula) -> bool {
+    counts(f, Sign::F, 100, 4, 4, 20) && nesting(f) == 7
+}
+
+// Whether the problem's body has the counts, the parts and the nodes that were worked out for it.
+fn has_body(alloc: Global, problem: &Problem) -> Result<bool, NoMemory> {
+    match body_of(alloc, problem)? {
+        Some(body) => Ok(
+            counts_of_body(&body) && parts_of_body(&body) && nodes_with_term(alloc, &body)? == 26,
+        ),
+        None => Ok(false),
+    }
+}
+
 #[test]
 fn takes_apart_and_puts_terms(rt: HostRuntime) -> Result<(), Fail> {
     let alloc = rt.alloc();
     let formula = b"![E]:![V]:![U]:((p(U,V) & ~#box:p(U,E)) => (![Y]:?[Z]:p(U,f(Y,V)) | #dia:q))";
     let problem = proving(alloc, Logic::T, Domains::Constant, formula)?;
-    let body = body_of(alloc, &problem)?.ok_or("body")?;
-    assert!(rt; counts(&body, Sign::F, 100, 4, 4, 20) && nesting(&body) == 7);
-    assert!(rt; parts_of_body(&body));
-    assert!(rt; nodes_with_term(alloc, &body)? == 26);
+    assert!(rt; has_body(alloc, &problem)?);
     Ok(())
 }
 
