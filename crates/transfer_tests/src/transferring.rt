@@ -1,27 +1,81 @@
 //! Worked derivations, what they become, and the judgement of that.
 
-ghost use Rattle.std.specs.Prelude.{◌≡◌};
+ghost use Rattle.std.specs.Prelude.{◌≡◌, IfOk, IsTrue};
+ghost use Rattle.calculus.specs.Calculus.{Derives};
+ghost use Rattle.calculus.specs.DerivationText.{is_printable};
+ghost use Rattle.calculus.specs.Translation.{translated_problem};
 ghost use Rattle.calculus.specs.declared.setting.Logic.TheVariants.{Intuitionistic};
+ghost use Rattle.sequent_calc.specs.DerivationView.{the_derivation};
 
+use cop_base::NoMemory;
 use derivation_check::{Verdict, accept, check};
 use derivation_text::{Version, derivation_of, print};
 use godel_transfer::{transfer, translate};
 use logic_rules::{Domains, Logic, Problem};
+use sequent_calc::Derivation;
 use std::alloc::Global;
 use std::test::Fail;
 use test_problems::proving;
 
-// The text of what a derivation of the problem becomes, with the judgement of it.
-fn transferred(alloc: Global, problem: &Problem, text: &[u8]) -> Result<(Vec<u8>, Verdict), Fail>
-    requires { problem.now.setting.logic ≡ Intuitionistic }
+// Each function owns little: what a function owns is dropped at each of its exits, and each drop is
+// proved.
+
+// The derivation of the problem that the text is.
+fn derivation_from(alloc: Global, problem: &Problem, text: &[u8]) -> Result<Derivation, Fail>
+    ensures printable { IfOk result (λ d. IsTrue (is_printable problem.now (the_derivation d))) }
+    ensures derives { IfOk result (λ d. Derives problem.now (the_derivation d)) }
 {
     let (_, accepted) = accept(alloc, problem, text)?;
     let derivation = derivation_of(alloc, &accepted)?;
+    Ok(derivation)
+}
+
+// The problem of S4.
+fn target_of(alloc: Global, problem: &Problem) -> Result<Box<Problem>, Fail>
+    requires { problem.now.setting.logic ≡ Intuitionistic }
+    ensures { IfOk result (λ p. p.value ≡ translated_problem problem.now) }
+{
     let target = translate(alloc, problem)?;
-    let moved = transfer(alloc, problem, &derivation)?;
-    let printed = print(alloc, &target, &moved, Version::One)?;
-    let verdict = check(alloc, &target, printed.as_slice())?;
-    Ok((printed, verdict))
+    Ok(Box::new(alloc, target)?)
+}
+
+// The text of what the derivation becomes.
+fn text_in(
+    alloc: Global,
+    problem: &Problem,
+    target: &Problem,
+    derivation: &Derivation,
+) -> Result<Vec<u8>, Fail>
+    requires intuitionistic { problem.now.setting.logic ≡ Intuitionistic }
+    requires target { target.now ≡ translated_problem problem.now }
+    requires printable { IsTrue (is_printable problem.now (the_derivation derivation.now)) }
+    requires derives { Derives problem.now (the_derivation derivation.now) }
+{
+    let moved = transfer(alloc, problem, derivation)?;
+    let text = print(alloc, target, &moved, Version::One)?;
+    Ok(text)
+}
+
+// Whether the text is this one, and a derivation of the problem of S4.
+fn is_derivation(
+    alloc: Global,
+    target: &Problem,
+    text: &[u8],
+    expected: &[u8],
+) -> Result<bool, NoMemory> {
+    let verdict = check(alloc, target, text)?;
+    Ok(verdict == Verdict::Accepted && text == expected)
+}
+
+// Whether the derivation of the problem that the text is becomes the one that is expected.
+fn becomes(alloc: Global, problem: &Problem, text: &[u8], expected: &[u8]) -> Result<bool, Fail>
+    requires { problem.now.setting.logic ≡ Intuitionistic }
+{
+    let derivation = derivation_from(alloc, problem, text)?;
+    let target = target_of(alloc, problem)?;
+    let moved = text_in(alloc, problem, &target, &derivation)?;
+    let good = is_derivation(alloc, &target, moved.as_slice(), expected)?;
+    Ok(good)
 }
 
 // A formula, a derivation of it, and what that becomes. Excluded middle twice denied, and an atom
@@ -42,11 +96,9 @@ const ROWS: &[(&[u8], &[u8], &[u8])] = &[
 #[test]
 fn transfers_derivations(rt: HostRuntime) -> Result<(), Fail> {
     let alloc = rt.alloc();
-    for (formula, text, becomes) in ROWS {
+    for (formula, text, expected) in ROWS {
         let problem = proving(alloc, Logic::Intuitionistic, Domains::Cumulative, formula)?;
-        let (moved, verdict) = transferred(alloc, &problem, text)?;
-        assert!(rt; moved.as_slice() == *becomes);
-        assert!(rt; verdict == Verdict::Accepted);
+        assert!(rt; becomes(alloc, &problem, text, expected)?);
     }
     Ok(())
 }
