@@ -65,11 +65,21 @@ fn tells_faults_of_the_text(rt: HostRuntime) -> Result<(), Fail> {
         let fault = fault_of(alloc, &classical, ONE_WORLD, *number, other)?;
         assert!(rt; fault == Some((*line, *cause)));
     }
-    let whole = text_with(alloc, ONE_WORLD, 0, "")?;
-    let judged = judged_by(alloc, &classical, whole.as_slice(), 10)?;
-    assert!(rt; judged == Some((Judged::False, 3)));
     let cut = fault_of(alloc, &classical, &ONE_WORLD[..8], 0, "")?;
     assert!(rt; cut == Some((9, StructureCause::Line)));
+    Ok(())
+}
+
+// What the structure says of the problem, and how many steps were taken.
+fn judged(alloc: Global, problem: &Problem) -> Result<Option<(Judged, u64)>, NoMemory> {
+    let whole = text_with(alloc, ONE_WORLD, 0, "")?;
+    judged_by(alloc, problem, whole.as_slice(), 10)
+}
+
+#[test]
+fn judges_the_text(rt: HostRuntime) -> Result<(), Fail> {
+    let classical = problem_in(rt.alloc(), Logic::Classical, Domains::Constant)?;
+    assert!(rt; judged(rt.alloc(), &classical)? == Some((Judged::False, 3)));
     Ok(())
 }
 
@@ -88,93 +98,181 @@ fn counts_entries(rt: HostRuntime) -> Result<(), Fail> {
     Ok(())
 }
 
-// Each table of two worlds with two elements, the second line telling the setting.
-fn two_worlds(
+// A setting, a structure of two or three worlds, and the condition of the setting that it breaks.
+const CONDITIONS: &[(Logic, Domains, &[&str], Option<(u64, StructureCause)>)] = &[
+    (
+        Logic::D,
+        Domains::Varying,
+        &[
+            "leancop structure 1",
+            "logic d varying",
+            "worlds 2",
+            "elements 2",
+            "relation 1 2",
+            "relation 2",
+            "domain 1 1 2",
+            "domain 2 1 2",
+            "function f 1 1 2",
+            "predicate p 1 1 10",
+            "predicate p 1 2 11",
+            "end",
+        ],
+        Some((6, StructureCause::Serial)),
+    ),
+    (
+        Logic::S4,
+        Domains::Constant,
+        &[
+            "leancop structure 1",
+            "logic s4 constant",
+            "worlds 2",
+            "elements 2",
+            "relation 1 1 2",
+            "relation 2 2",
+            "domain 1 1 2",
+            "domain 2 1",
+            "function f 1 1 2",
+            "predicate p 1 1 10",
+            "predicate p 1 2 11",
+            "end",
+        ],
+        Some((8, StructureCause::Domains)),
+    ),
+    (
+        Logic::S4,
+        Domains::Cumulative,
+        &[
+            "leancop structure 1",
+            "logic s4 cumulative",
+            "worlds 2",
+            "elements 2",
+            "relation 1 1 2",
+            "relation 2 2",
+            "domain 1 1 2",
+            "domain 2 1",
+            "function f 1 1 2",
+            "predicate p 1 1 10",
+            "predicate p 1 2 11",
+            "end",
+        ],
+        Some((7, StructureCause::Domains)),
+    ),
+    (
+        Logic::S4,
+        Domains::Constant,
+        &[
+            "leancop structure 1",
+            "logic s4 constant",
+            "worlds 3",
+            "elements 1",
+            "relation 1 1 2",
+            "relation 2 2 3",
+            "relation 3 3",
+            "domain 1 1",
+            "domain 2 1",
+            "domain 3 1",
+            "function f 1 1",
+            "predicate p 1 1 0",
+            "predicate p 1 2 0",
+            "predicate p 1 3 0",
+            "end",
+        ],
+        Some((5, StructureCause::Transitive)),
+    ),
+    (
+        Logic::S5,
+        Domains::Constant,
+        &[
+            "leancop structure 1",
+            "logic s5 constant",
+            "worlds 2",
+            "elements 2",
+            "relation 1 1 2",
+            "relation 2 2",
+            "domain 1 1 2",
+            "domain 2 1 2",
+            "function f 1 1 2",
+            "predicate p 1 1 10",
+            "predicate p 1 2 11",
+            "end",
+        ],
+        Some((6, StructureCause::Total)),
+    ),
+    (
+        Logic::Classical,
+        Domains::Constant,
+        &[
+            "leancop structure 1",
+            "logic classical",
+            "worlds 2",
+            "elements 2",
+            "relation 1 1 2",
+            "relation 2 1 2",
+            "domain 1 1 2",
+            "domain 2 1 2",
+            "function f 1 1 2",
+            "predicate p 1 1 10",
+            "predicate p 1 2 11",
+            "end",
+        ],
+        Some((3, StructureCause::Worlds)),
+    ),
+    (
+        Logic::Intuitionistic,
+        Domains::Cumulative,
+        &[
+            "leancop structure 1",
+            "logic intuitionistic",
+            "worlds 2",
+            "elements 2",
+            "relation 1 1 2",
+            "relation 2 1 2",
+            "domain 1 1 2",
+            "domain 2 1 2",
+            "function f 1 1 2",
+            "predicate p 1 1 10",
+            "predicate p 1 2 11",
+            "end",
+        ],
+        Some((11, StructureCause::Persistence)),
+    ),
+    (
+        Logic::Intuitionistic,
+        Domains::Cumulative,
+        &[
+            "leancop structure 1",
+            "logic intuitionistic",
+            "worlds 2",
+            "elements 2",
+            "relation 1 1 2",
+            "relation 2 2",
+            "domain 1 1 2",
+            "domain 2 1 2",
+            "function f 1 1 2",
+            "predicate p 1 1 10",
+            "predicate p 1 2 11",
+            "end",
+        ],
+        None,
+    ),
+];
+
+// Where and why the structure is rejected in the setting.
+fn fault_in(
     alloc: Global,
-    setting: &str,
-    relation: [&str; 2],
-    domains: [&str; 2],
-    rows: [&str; 2],
-) -> Result<Vec<u8>, NoMemory> {
-    let lines = [
-        "leancop structure 1",
-        setting,
-        "worlds 2",
-        "elements 2",
-        relation[0],
-        relation[1],
-        domains[0],
-        domains[1],
-        "function f 1 1 2",
-        rows[0],
-        rows[1],
-        "end",
-    ];
-    text_with(alloc, &lines, 0, "")
+    logic: Logic,
+    domains: Domains,
+    lines: &[&str],
+) -> Result<Option<(u64, StructureCause)>, Fail> {
+    let problem = problem_in(alloc, logic, domains)?;
+    let fault = fault_of(alloc, &problem, lines, 0, "")?;
+    Ok(fault)
 }
 
 #[test]
 fn tells_broken_conditions(rt: HostRuntime) -> Result<(), Fail> {
-    let alloc = rt.alloc();
-    let whole = ["domain 1 1 2", "domain 2 1 2"];
-    let less = ["domain 1 1 2", "domain 2 1"];
-    let rows = ["predicate p 1 1 10", "predicate p 1 2 11"];
-    let all = ["relation 1 1 2", "relation 2 1 2"];
-    let up = ["relation 1 1 2", "relation 2 2"];
-
-    let d = problem_in(alloc, Logic::D, Domains::Varying)?;
-    let text = two_worlds(
-        alloc,
-        "logic d varying",
-        ["relation 1 2", "relation 2"],
-        whole,
-        rows,
-    )?;
-    assert!(rt; rejected_at(alloc, &d, text.as_slice())? == Some((6, StructureCause::Serial)));
-
-    let s4 = problem_in(alloc, Logic::S4, Domains::Constant)?;
-    let text = two_worlds(alloc, "logic s4 constant", up, less, rows)?;
-    assert!(rt; rejected_at(alloc, &s4, text.as_slice())? == Some((8, StructureCause::Domains)));
-
-    let grown = problem_in(alloc, Logic::S4, Domains::Cumulative)?;
-    let text = two_worlds(alloc, "logic s4 cumulative", up, less, rows)?;
-    assert!(rt; rejected_at(alloc, &grown, text.as_slice())? == Some((7, StructureCause::Domains)));
-
-    let three = [
-        "leancop structure 1",
-        "logic s4 constant",
-        "worlds 3",
-        "elements 1",
-        "relation 1 1 2",
-        "relation 2 2 3",
-        "relation 3 3",
-        "domain 1 1",
-        "domain 2 1",
-        "domain 3 1",
-        "function f 1 1",
-        "predicate p 1 1 0",
-        "predicate p 1 2 0",
-        "predicate p 1 3 0",
-        "end",
-    ];
-    let text = text_with(alloc, &three, 0, "")?;
-    assert!(rt; rejected_at(alloc, &s4, text.as_slice())? == Some((5, StructureCause::Transitive)));
-
-    let s5 = problem_in(alloc, Logic::S5, Domains::Constant)?;
-    let text = two_worlds(alloc, "logic s5 constant", up, whole, rows)?;
-    assert!(rt; rejected_at(alloc, &s5, text.as_slice())? == Some((6, StructureCause::Total)));
-
-    let classical = problem_in(alloc, Logic::Classical, Domains::Constant)?;
-    let text = two_worlds(alloc, "logic classical", all, whole, rows)?;
-    assert!(rt;
-        rejected_at(alloc, &classical, text.as_slice())? == Some((3, StructureCause::Worlds))
-    );
-
-    let intuitionistic = problem_in(alloc, Logic::Intuitionistic, Domains::Cumulative)?;
-    let text = two_worlds(alloc, "logic intuitionistic", all, whole, rows)?;
-    let fault = rejected_at(alloc, &intuitionistic, text.as_slice())?;
-    assert!(rt; fault == Some((11, StructureCause::Persistence)));
-    let text = two_worlds(alloc, "logic intuitionistic", up, whole, rows)?;
-    assert!(rt; rejected_at(alloc, &intuitionistic, text.as_slice())? == None);
+    for (logic, domains, lines, fault) in CONDITIONS {
+        assert!(rt; fault_in(rt.alloc(), *logic, *domains, lines)? == *fault);
+    }
     Ok(())
 }
