@@ -28,9 +28,10 @@ impl Store {
         Ref(variables.first.0 + k)
     }
 
-    // A copy of the pattern. `places` is a stack for the parts of the patterns that are being copied.
+    /// A copy of the pattern. `places` is a stack for the parts of the patterns that are being copied. Want of memory
+    /// leaves some cells behind, and more on the stack.
     #[cycle(copy_pattern)]
-    pub(crate) fn copy_pattern(
+    pub fn copy_pattern(
         &mut self,
         pattern: &Pattern,
         variables: Variables,
