@@ -7,3 +7,8 @@ pub mod ListItems
 pub mod FlatLaws
 pub mod SameLaws
 pub mod ClosedLaws
+pub mod MatchLaws
+pub mod MatchCells
+pub mod MatchShapes
+pub mod MatchedLaws
+pub mod MatchBuilt

@@ -70,7 +70,7 @@ open-cell c h b e o = by c b (ap is_open_head e ∙ o) ∙ ap (λ t. variable t 
     by (new_cell f rs) b o = absurd (false≢true o)
     by (string_cell rs) b o = absurd (false≢true o)
 
-built-cell : (c : Cell) (h : Head) → head_of c ≡ h → is_open_head h ≡ false → is_variable c ≡ false
+pub built-cell : (c : Cell) (h : Head) → head_of c ≡ h → is_open_head h ≡ false → is_variable c ≡ false
 built-cell c h e o = by c (ap is_open_head e ∙ o)
   where
     by : (c : Cell) → is_open_head (head_of c) ≡ false → is_variable c ≡ false

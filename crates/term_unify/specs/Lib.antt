@@ -4,3 +4,4 @@ pub mod Steps
 pub mod Flat
 pub mod Same
 pub mod Closed
+pub mod Matching

@@ -34,7 +34,7 @@ fn sort_of(content: Content) -> Sort
     }
 }
 
-fn is_open(content: Content) -> bool
+pub(crate) fn is_open(content: Content) -> bool
     ensures { result ≡ is_open_head (the_head content) }
 {
     match content {

@@ -4,6 +4,7 @@
 mod check;
 mod compare;
 mod flat;
+mod matching;
 mod same;
 mod solve;
 mod visited;

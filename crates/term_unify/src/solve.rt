@@ -143,6 +143,8 @@ pub struct Unifier {
     pairs: Vec<(Ref, Ref)>,
     places: Vec<Ref>,
     visited: Visited,
+    // The parts of patterns that are being copied.
+    pub(crate) stack: Vec<u32>,
 }
 
 impl Unifier {
@@ -152,6 +154,7 @@ impl Unifier {
             pairs: Vec::new(alloc),
             places: Vec::new(alloc),
             visited: Visited::new(alloc),
+            stack: Vec::new(alloc),
         }
     }
 
