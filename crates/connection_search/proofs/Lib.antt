@@ -70,3 +70,4 @@ pub mod DeepeningLaws
 -- the search that does not return to solved goals
 pub mod CuttingLaws
 pub mod CutDeepening
+pub mod MatchingLaws

@@ -3,16 +3,17 @@ use Rattle.std.proofs.Common.{◌≡◌, ◌<◌, ◌≤◌, ℕ, zero, suc, Lis
 use Rattle.std.specs.Prelude.{remove}
 use Rattle.std.specs.List.{AllByRecursion, list_all, list_any}
 use Rattle.std.proofs.lemmas.Bool.{and_parts, false≢true}
-use Rattle.store_theory.specs.Bindings.{AddsBuilt, AddsOver, BindsOnly, IsWellFormed, NamesFrom, NamesOver, places_from, with_variables_of}
+use Rattle.store_theory.specs.Bindings.{AddsBuilt, AddsOver, BindsOnly, IsWellFormed, NamesFrom, NamesOver, nothing_more, places_from, with_variables_of}
 use Rattle.calculus.specs.Choices.{Choice, extension, reduction, start}
-use Rattle.store_theory.specs.Patterns.{CopiedClause, HaveSortsAt, IsAtomCopy, IsClauseCopy, PatternAtom, Template, atom_is_from, clause_fits, clause_is_from, without_literal}
+use Rattle.store_theory.specs.Patterns.{AreCopies, CopiedClause, HaveSortsAt, IsClauseCopy, PatternAtom, Template, clause_fits, clause_is_from, patterns_tree, template_fits, without_literal}
 use Rattle.store_theory.specs.Stores.{Cell, Store, has_sort_at, names_below, sort_of}
 use Rattle.calculus.specs.Syntax.{Problem}
 use Rattle.calculus.specs.declared.sort.Sort.{Sort}
 use Rattle.calculus.specs.declared.sort.Sort.TheVariants.{TermSort}
 use Rattle.store_theory.specs.Systems.{CellAtom, is_cell_atom, is_label}
 use Rattle.store_theory.specs.Templates.{IsTemplateOf}
-use Rattle.calculus.proofs.PlaceLists.{get-within}
+use Rattle.calculus.proofs.PlaceLists.{all-at, get-within}
+use Rattle.store_theory.proofs.PatternLaws.{Grows-built, grown-copies, grown-label}
 use Rattle.search_theory.specs.Matrix.{MatrixClause, MatrixPlace, all_shown}
 use Rattle.search_theory.specs.Regular.{HasNoSamePair, IsNewGoal}
 use Rattle.search_theory.specs.OrderedChoices.{extension_at, selection_of}
@@ -29,9 +30,14 @@ use Rattle.search_theory.proofs.VariableSorts.{sorts-kept}
 use Rattle.term_store.specs.ClauseView.{the_atom}
 use Rattle.term_store.specs.RefView.{the_places}
 use Rattle.term_store.specs.TemplateView.{the_clause}
-use Rattle.term_store.specs.Signatures.{BuildsWithin, allows_atom, allows_template}
+use Rattle.term_store.specs.Fitting.{atom_fits_in, label_fits_in, parts_fit_in}
+use Rattle.term_store.specs.Signatures.{BuildsOver, BuildsWithin, allows_all, allows_template}
+use Rattle.term_store.proofs.FitLaws.{have-new, literals-fit, placed-atoms}
+use Rattle.term_store.proofs.OwnLaws.{over-both, own-later}
 use Rattle.term_store.specs.declared.clause.CellAtom as program
+use Rattle.term_unify.specs.Matching.{AddsAndBinds, AllNamesKept, HoldsNowhere, MatchTo, Narrows}
 use Rattle.connection_search.specs.Heads.{HasClash}
+use Rattle.connection_search.specs.MetAtom.{met_atom}
 use Rattle.connection_search.specs.OwnStores.{AreOwn}
 use Rattle.connection_search.specs.Running.{ExtendsBy, IsAt, IsAtGoal, IsMatrixOf, IsRunning, ReducesBy, StandsDeep, StandsFor}
 use Rattle.connection_search.specs.Sameness.{AnyRepeated, IsRepeated}
@@ -40,10 +46,10 @@ use Rattle.connection_search.specs.declared.tree.Copied.{Copied}
 use Rattle.connection_search.specs.declared.tree.Goal.{Goal}
 use Rattle.connection_search.specs.declared.tree.Step.{Step}
 use Rattle.connection_search.proofs.KeptLaws.{args-from, args-sorted, terms-kept}
-use Rattle.connection_search.proofs.OpenStrings.{cells-copied, sorts-of_bound, sorts-of_cells}
+use Rattle.connection_search.proofs.OpenStrings.{cells-built, cells-copied, sorts-both, sorts-of_bound, sorts-of_cells}
 use Rattle.connection_search.proofs.OwnCopies.{IsOwnTemplate}
 use Rattle.connection_search.proofs.OwnLaws.{own-names}
-use Rattle.connection_search.proofs.RunningLaws.{HeadCopied, HeadMet, RestCopied, StartCopied, clause-at, no-extension-by_clash, no-reduction-by_clash, running-extended, running-reduced, running-started}
+use Rattle.connection_search.proofs.RunningLaws.{HeadMatched, RestCopied, StartCopied, clause-at, no-extension-by_mismatch, no-reduction-by_clash, running-extended, running-reduced, running-started}
 use Rattle.connection_search.proofs.HeadLaws.{cannot-extend-by_names}
 use Rattle.connection_search.proofs.TreeLaws.{atom-found, goal-at, literal-below, same-item}
 
@@ -182,14 +188,47 @@ literal-found m d g p t e h =
 pub literal-within : (m : List MatrixClause) (d : ℕ) (g : CellGoal) (p : MatrixPlace) (t : Template) → ExtendsBy m d g p → option_map (λ (x : MatrixClause). x.template) (slice_get m p.clause) ≡ Some t → p.literal < length t.literals
 literal-within m d g p t e h = get-within t.literals p.literal e.literal (literal-found m d g p t e h)
 
--- the connected literal, as it was copied
-pub head-copied : (old mid : Store) (t : Template) (place : ℕ) (vs : List ℕ) (p : PatternAtom) (b : CellAtom) → slice_get t.literals place ≡ Some p → vs ≡ places_from (length old.cells) (length t.sorts) → HaveSortsAt mid t.sorts vs → (a : PatternAtom) × (slice_get t.literals place ≡ Some a) × IsAtomCopy mid vs a b → IsTrue (is_cell_atom mid b) → IsTrue (atom_is_from (length old.cells) b) → NamesFrom (length old.cells) mid → AddsBuilt (with_variables_of t.sorts old) mid → ((a : PatternAtom) → slice_get t.literals place ≡ Some a → BuildsWithin (λ g. list_all g.sorts t.sorts && allows_atom g t.sorts a) old mid) → HeadCopied old mid t place vs p b
-head-copied old mid t place vs p b e variables have (a, at, copy) sorted own names built within =
-    let same : a ≡ p = same-item (slice_get t.literals place) a p at e in
-    record { stands = e; variables = variables; have = have; copy = subst (λ x. IsAtomCopy mid vs x b) same copy; sorted = sorted; own = own; names = names; built = built; within = within p e }
+-- the connected literal, as it was matched
+pub head-matched_by : (old begun met : Store) (t : Template) (place : ℕ) (vs xs : List ℕ) (q p : PatternAtom) → begun ≡ with_variables_of t.sorts old → slice_get t.literals place ≡ Some q → slice_get t.literals place ≡ Some p → vs ≡ places_from (length old.cells) (length t.sorts) → Narrows (λ σ. (length xs ≡ length q.args) × MatchTo vs xs q.args (length q.args) σ) begun met → AddsAndBinds begun met → AllNamesKept vs xs begun met → BuildsOver vs (λ sorts g. allows_all g sorts (patterns_tree q.args)) begun met → HeadMatched old met t place vs p xs
+head-matched_by old begun met t place vs xs q p eb aq ap_at ev narrows cells names within =
+    let same : q ≡ p = same-item (slice_get t.literals place) q p aq ap_at in
+    subst (λ z. HeadMatched old met t place vs z xs) same (record {
+      stands = aq;
+      variables = ev;
+      narrows = subst (λ b. Narrows (λ σ. (length xs ≡ length q.args) × MatchTo vs xs q.args (length q.args) σ) b met) eb narrows;
+      cells = subst (λ b. AddsAndBinds b met) eb cells;
+      names = subst (λ b. AllNamesKept vs xs b met) eb names;
+      within = subst (λ b. BuildsOver vs (λ sorts g. allows_all g sorts (patterns_tree q.args)) b met) eb within;
+    })
 
-pub head-kept : (old mid : Store) (t : Template) (rs : List ℕ) → AddsBuilt (with_variables_of t.sorts old) mid → IsTrue (list_all (has_sort_at old TermSort) rs) → IsTrue (list_all (has_sort_at mid TermSort) rs)
-head-kept old mid t rs built = terms-kept old mid (sorts-of_cells old mid (cells-copied t.sorts old mid built)) rs
+-- its label and the other literals, as they were copied
+pub rest-copied : (met mid new : Store) (t : Template) (place : ℕ) (vs label : List ℕ) (p : PatternAtom) (clause : CopiedClause) → slice_get t.literals place ≡ Some p → (a : PatternAtom) × (slice_get t.literals place ≡ Some a) × AreCopies mid vs (patterns_tree a.label) label → IsTrue (is_label mid label) → NamesOver vs (length met.cells) (λ base. list_all (nat_le base) label) → AddsOver vs met mid → ((a : PatternAtom) → slice_get t.literals place ≡ Some a → BuildsWithin (λ g. allows_all g t.sorts (patterns_tree a.label)) met mid) → IsClauseCopy new vs (without_literal place t) clause → IsTrue (clause_fits new clause) → NamesOver vs (length mid.cells) (λ base. clause_is_from base clause) → AddsOver vs mid new → BuildsWithin (λ g. allows_template g (without_literal place t)) mid new → RestCopied met new t place vs p label clause
+rest-copied met mid new t place vs label p clause at (a, aa, copies) label_sorted label_own label_adds label_within copy sorted own adds within =
+    let same : a ≡ p = same-item (slice_get t.literals place) a p aa at in
+    let grows = Grows-built mid new adds.built in
+    record {
+      copy = copy;
+      sorted = sorted;
+      own = own-later vs met mid (λ base. clause_is_from base clause) (Grows-built met mid label_adds.built) own;
+      label_copy = subst (λ (z : PatternAtom). AreCopies new vs (patterns_tree z.label) label) same (grown-copies mid new vs (patterns_tree a.label) label grows copies);
+      label_sorted = grown-label mid new label grows label_sorted;
+      label_own = label_own;
+      adds = over-both vs met mid new label_adds adds;
+      within = λ g base h k. let w = and_parts (allows_all g t.sorts (patterns_tree p.label)) (allows_template g (without_literal place t)) h in within g base w.1 (label_within p at g base w.0 k);
+    }
+
+-- the patterns of the literal fit the variables
+pub head-fits : (old begun : Store) (t : Template) (place : ℕ) (vs : List ℕ) (q : PatternAtom) → IsTrue (template_fits t) → begun ≡ with_variables_of t.sorts old → slice_get t.literals place ≡ Some q → vs ≡ places_from (length old.cells) (length t.sorts) → (sort : Sort) × (strings : Bool) × IsTrue (parts_fit_in begun vs sort strings (patterns_tree q.args))
+head-fits old begun t place vs q fits eb at ev =
+    let have = have-new vs t.sorts old begun eb ev in
+    (TermSort, false, (and_parts (parts_fit_in begun vs TermSort false (patterns_tree q.args)) (label_fits_in begun vs q.label) (all-at (atom_fits_in begun vs) t.literals place q (placed-atoms begun vs t.sorts have t.literals (literals-fit t fits)) at)).0)
+
+pub head-kept : (old begun : Store) (t : Template) (rs : List ℕ) → begun ≡ with_variables_of t.sorts old → IsTrue (list_all (has_sort_at old TermSort) rs) → IsTrue (list_all (has_sort_at begun TermSort) rs)
+head-kept old begun t rs e h = subst (λ b. IsTrue (list_all (has_sort_at b TermSort) rs)) (sym e) (terms-kept old (with_variables_of t.sorts old) (sorts-of_cells old (with_variables_of t.sorts old) (cells-copied t.sorts old (with_variables_of t.sorts old) nothing_more)) rs h)
+
+-- the variables keep their sorts while the literal is matched
+pub sorts-matched : (begun met : Store) (sorts : List Sort) (rs : List ℕ) → AddsAndBinds begun met → HaveSortsAt begun sorts rs → HaveSortsAt met sorts rs
+sorts-matched begun met sorts rs h k = sorts-kept begun met (sorts-both begun h.mid met (sorts-of_cells begun h.mid (cells-built begun h.mid h.built)) (sorts-of_bound h.mid met h.binds)) sorts rs k
 
 pub atom-terms : (s : Store) (a : CellAtom) (rs : List ℕ) → IsTrue (is_cell_atom s a) → rs ≡ a.args → IsTrue (list_all (has_sort_at s TermSort) rs)
 atom-terms s a rs h e = subst (λ xs. IsTrue (list_all (has_sort_at s TermSort) xs)) (sym e) (and_parts (list_all (has_sort_at s TermSort) a.args) (is_label s a.label) h).0
@@ -223,21 +262,21 @@ ExtendsSystem steps goals goal copied place atom after all = (m : List MatrixCla
 strings-copied : (m : List MatrixClause) (copied : Copied) (t : Template) → sorts_of (slice_get m copied.clause.0) ≡ t.sorts → strings_in m copied ≡ string_cells t.sorts (the_places copied.copy.variables)
 strings-copied m copied t e = ap (λ sorts. string_cells sorts (the_places copied.copy.variables)) e
 
-pub at-extended : (P : Problem) (m : List MatrixClause) (base d : ℕ) (c : List Choice) (old mid met new : Store) (steps after : List Step) (goals all : List Goal) (goal place : ℕ) (first : Option ℕ) (g : CellGoal) (t : Template) (copied : Copied) (atom : program.CellAtom) (xs ys : List ℕ) → IsAtGoal P m base d c old steps goals goal g → (e : ExtendsBy m d g (place_of copied.clause.0 place)) → ClauseFor P m copied.clause.0 t → HeadCopied old mid t place (the_places copied.copy.variables) e.literal (the_atom atom) → xs ≡ g.literal.args → ys ≡ (the_atom atom).args → AreUnified mid met xs ys → BindsOnly mid met → ((b : ℕ) → NamesFrom b mid → IsTrue (list_all (nat_le b) xs) → IsTrue (list_all (nat_le b) ys) → NamesFrom b met) → RestCopied met new t place (the_places copied.copy.variables) (the_clause copied.copy) → IsWellFormed new → ExtendsTree steps goals goal copied place atom after all first → ExtendsSystem steps goals goal copied place atom after all → StandsFor P m base d (c ++ extension_at m (place_of copied.clause.0 place) ∷ []) new after all first
-at-extended P m base d c old mid met new steps after goals all goal place first g t copied atom xs ys h e k head ex ey unified binds names rest well tree system =
+pub at-extended : (P : Problem) (m : List MatrixClause) (base d : ℕ) (c : List Choice) (old met new : Store) (steps after : List Step) (goals all : List Goal) (goal place : ℕ) (first : Option ℕ) (g : CellGoal) (t : Template) (copied : Copied) (atom : program.CellAtom) (xs label : List ℕ) → IsAtGoal P m base d c old steps goals goal g → (e : ExtendsBy m d g (place_of copied.clause.0 place)) → ClauseFor P m copied.clause.0 t → HeadMatched old met t place (the_places copied.copy.variables) e.literal xs → xs ≡ g.literal.args → the_atom atom ≡ met_atom e.literal xs label → RestCopied met new t place (the_places copied.copy.variables) e.literal label (the_clause copied.copy) → IsWellFormed new → ExtendsTree steps goals goal copied place atom after all first → ExtendsSystem steps goals goal copied place atom after all → StandsFor P m base d (c ++ extension_at m (place_of copied.clause.0 place) ∷ []) new after all first
+at-extended P m base d c old met new steps after goals all goal place first g t copied atom xs label h e k head ex ea rest well tree system =
+    let vs = the_places copied.copy.variables in
+    let sides = selection_of (slice_get m copied.clause.0) in
+    let y = tree_system m steps goals h.every in
+    let is : the_atom atom ≡ met_atom e.literal g.literal.args label = ea ∙ ap (λ us. met_atom e.literal us label) ex in
     let i = clause_with m copied (inserted place (the_atom atom) copied.copy.literals) in
-    let meet : HeadMet mid met g.literal.args (the_atom atom).args = record {
-      unified = subst (λ us. AreUnified mid met us (the_atom atom).args) ex (subst (AreUnified mid met xs) ey unified);
-      binds = binds;
-      names = λ b n l r. names b n (subst (λ us. IsTrue (list_all (nat_le b) us)) (sym ex) l) (subst (λ us. IsTrue (list_all (nat_le b) us)) (sym ey) r);
-    } in
     let strings = strings-copied m copied t k.sorts_are in
-    let state = running-extended P base d c old mid met new h.made g h.behind h.every h.depths (selection_of (slice_get m copied.clause.0)) t place (the_places copied.copy.variables) e.literal (the_atom atom) (the_clause copied.copy) (tree_system m steps goals h.every) h.at.running e.deep k.template k.own e.signs e.symbols head meet rest well in
-    let same = system m h.made g h.behind h.every h.depths h.at.tree ∙ ap (λ ss. extended_system (tree_system m steps goals h.every) g i place (the_atom atom) ss copied.copy.gammas copied.copy.pis) strings in (
+    let state = subst (λ z. IsRunning P base d (c ++ extension sides place ∷ []) (extended_state new h.made g h.behind h.every h.depths (clause_with m copied (inserted place z copied.copy.literals)) place) (extended_system y g (clause_with m copied (inserted place z copied.copy.literals)) place z (string_cells t.sorts vs) copied.copy.gammas copied.copy.pis)) (sym is)
+        (running-extended P base d c old met new h.made g h.behind h.every h.depths sides t place vs label e.literal (the_clause copied.copy) y h.at.running e.deep k.template k.own e.signs e.symbols (subst (HeadMatched old met t place vs e.literal) ex head) rest well) in
+    let same = system m h.made g h.behind h.every h.depths h.at.tree ∙ ap (λ ss. extended_system y g i place (the_atom atom) ss copied.copy.gammas copied.copy.pis) strings in (
       h.made ++ extension i place ∷ [],
       extended g h.behind i place (record { open_goals = g ∷ h.behind; all_goals = h.every; depths = h.depths }),
       record {
-        running = subst (IsRunning P base d (c ++ extension (selection_of (slice_get m copied.clause.0)) place ∷ []) (extended_state new h.made g h.behind h.every h.depths i place)) (sym same) state;
+        running = subst (IsRunning P base d (c ++ extension sides place ∷ []) (extended_state new h.made g h.behind h.every h.depths i place)) (sym same) state;
         tree = tree m h.made g h.behind h.every h.depths (get-within m copied.clause.0 e.clause e.stands) h.at.tree;
       },
     )
@@ -254,25 +293,22 @@ any-last : (xs : List ℕ) (n : ℕ) → IsTrue (list_any (λ k. k == n) (xs ++ 
 any-last [] n = or-true (n == n) false (eq-eqb n n refl)
 any-last (x ∷ xs) n = or-later (x == n) (list_any (λ k. k == n) (xs ++ n ∷ [])) (any-last xs n)
 
-pub extended-deep : (P : Problem) (m : List MatrixClause) (base d : ℕ) (c : List Choice) (old mid met new : Store) (steps after : List Step) (goals all : List Goal) (goal place : ℕ) (first : Option ℕ) (g : CellGoal) (t : Template) (copied : Copied) (atom : program.CellAtom) (xs ys : List ℕ) → IsAtGoal P m base d c old steps goals goal g → (e : ExtendsBy m d g (place_of copied.clause.0 place)) → ClauseFor P m copied.clause.0 t → HeadCopied old mid t place (the_places copied.copy.variables) e.literal (the_atom atom) → xs ≡ g.literal.args → ys ≡ (the_atom atom).args → AreUnified mid met xs ys → BindsOnly mid met → ((b : ℕ) → NamesFrom b mid → IsTrue (list_all (nat_le b) xs) → IsTrue (list_all (nat_le b) ys) → NamesFrom b met) → RestCopied met new t place (the_places copied.copy.variables) (the_clause copied.copy) → IsWellFormed new → ExtendsTree steps goals goal copied place atom after all first → ExtendsSystem steps goals goal copied place atom after all → StandsDeep P m base d (c ++ extension_at m (place_of copied.clause.0 place) ∷ []) new after all first (length g.path)
+pub extended-deep : (P : Problem) (m : List MatrixClause) (base d : ℕ) (c : List Choice) (old met new : Store) (steps after : List Step) (goals all : List Goal) (goal place : ℕ) (first : Option ℕ) (g : CellGoal) (t : Template) (copied : Copied) (atom : program.CellAtom) (xs label : List ℕ) → IsAtGoal P m base d c old steps goals goal g → (e : ExtendsBy m d g (place_of copied.clause.0 place)) → ClauseFor P m copied.clause.0 t → HeadMatched old met t place (the_places copied.copy.variables) e.literal xs → xs ≡ g.literal.args → the_atom atom ≡ met_atom e.literal xs label → RestCopied met new t place (the_places copied.copy.variables) e.literal label (the_clause copied.copy) → IsWellFormed new → ExtendsTree steps goals goal copied place atom after all first → ExtendsSystem steps goals goal copied place atom after all → StandsDeep P m base d (c ++ extension_at m (place_of copied.clause.0 place) ∷ []) new after all first (length g.path)
 unfolding at-extended
-extended-deep P m base d c old mid met new steps after goals all goal place first g t copied atom xs ys h e k head ex ey unified binds names rest well tree system = let r = at-extended P m base d c old mid met new steps after goals all goal place first g t copied atom xs ys h e k head ex ey unified binds names rest well tree system in (r.0, r.1, r.2, any-last h.depths (length g.path))
+extended-deep P m base d c old met new steps after goals all goal place first g t copied atom xs label h e k head ex ea rest well tree system = let r = at-extended P m base d c old met new steps after goals all goal place first g t copied atom xs label h e k head ex ea rest well tree system in (r.0, r.1, r.2, any-last h.depths (length g.path))
 
--- the copy cannot be met
-pub extension-cannot : (P : Problem) (m : List MatrixClause) (base d : ℕ) (c : List Choice) (old mid : Store) (steps : List Step) (goals : List Goal) (goal k place : ℕ) (g : CellGoal) (t : Template) (vs : List ℕ) (p : PatternAtom) (b : CellAtom) (xs ys : List ℕ) → IsAtGoal P m base d c old steps goals goal g → ClauseFor P m k t → HeadCopied old mid t place vs p b → xs ≡ g.literal.args → ys ≡ b.args → Clash mid xs ys → ¬ Grows P (c ++ extension_at m (place_of k place) ∷ [])
-extension-cannot P m base d c old mid steps goals goal k place g t vs p b xs ys h f head ex ey clash =
-    let met = subst (λ us. Clash mid us b.args) ex (subst (Clash mid xs) ey clash) in
-    no-extension-by_clash P base d c old mid h.made g h.behind h.every h.depths (selection_of (slice_get m k)) t place vs p b (tree_system m steps goals h.every) h.at.running f.template f.own.sorts head met
+-- the literal cannot be matched
+pub extension-cannot : (P : Problem) (m : List MatrixClause) (base d : ℕ) (c : List Choice) (old : Store) (steps : List Step) (goals : List Goal) (goal k place : ℕ) (g : CellGoal) (t : Template) (p : PatternAtom) (vs xs : List ℕ) → IsAtGoal P m base d c old steps goals goal g → ClauseFor P m k t → slice_get t.literals place ≡ Some p → vs ≡ places_from (length old.cells) (length t.sorts) → xs ≡ g.literal.args → HoldsNowhere (λ σ. (length xs ≡ length p.args) × MatchTo vs xs p.args (length p.args) σ) (with_variables_of t.sorts old) → ¬ Grows P (c ++ extension_at m (place_of k place) ∷ [])
+extension-cannot P m base d c old steps goals goal k place g t p vs xs h f at ev ex none =
+    no-extension-by_mismatch P base d c old h.made g h.behind h.every h.depths (selection_of (slice_get m k)) t place p (tree_system m steps goals h.every) h.at.running f.template f.own.sorts at
+    (subst (λ us. HoldsNowhere (λ σ. (length us ≡ length p.args) × MatchTo (places_from (length old.cells) (length t.sorts)) us p.args (length p.args) σ) (with_variables_of t.sorts old)) ex
+    (subst (λ v. HoldsNowhere (λ σ. (length xs ≡ length p.args) × MatchTo v xs p.args (length p.args) σ) (with_variables_of t.sorts old)) ev none))
 
 -- the outermost names differ
 pub extension-clashes : (P : Problem) (m : List MatrixClause) (base d : ℕ) (c : List Choice) (s : Store) (steps : List Step) (goals : List Goal) (goal k place : ℕ) (g : CellGoal) (t : Template) (p : PatternAtom) (a : CellAtom) → IsAtGoal P m base d c s steps goals goal g → ClauseFor P m k t → slice_get t.literals place ≡ Some p → ((h : Goal) → slice_get goals goal ≡ Some h → atom_at steps h ≡ Some a) → HasClash s a p → ¬ Grows P (c ++ extension_at m (place_of k place) ∷ [])
 extension-clashes P m base d c s steps goals goal k place g t p a h f there at clash =
     let same : a ≡ g.literal = atom-found steps goals goal g a (goal-here P m base d c s steps goals goal g h) at in
     no-extension P d c s h.made g h.behind h.every h.depths (selection_of (slice_get m k)) t place h.at.running.state f.template (cannot-extend-by_names s t g.literal p place there (subst (λ x. HasClash s x p) same clash))
-
--- the other literals, as they were copied
-pub rest-copied : (met new : Store) (t : Template) (place : ℕ) (vs : List ℕ) (clause : CopiedClause) → IsClauseCopy new vs (without_literal place t) clause → IsTrue (clause_fits new clause) → NamesOver vs (length met.cells) (λ base. clause_is_from base clause) → AddsOver vs met new → BuildsWithin (λ g. allows_template g (without_literal place t)) met new → RestCopied met new t place vs clause
-rest-copied met new t place vs clause copy sorted own adds within = record { copy = copy; sorted = sorted; own = own; adds = adds; within = within }
 
 -- ---- starts
 

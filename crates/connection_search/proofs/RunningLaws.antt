@@ -7,50 +7,56 @@ use Rattle.store_theory.specs.Bindings.{AddsBuilt, AddsOver, BindsOnly, IsWellFo
 use Rattle.calculus.specs.Choices.{Choice, IsLeft, IsLive, extension, growth_of, has_depth, is_opposite, is_regular, is_within, reduction, start}
 use Rattle.calculus.specs.ComputedInstances.{is_instance}
 use Rattle.calculus.specs.Equality.{sign_eq}
-use Rattle.store_theory.specs.Patterns.{AreAtomCopies, AreGammaCopies, CopiedClause, HaveSortsAt, IsAtomCopy, IsClauseCopy, PatternAtom, Template, atom_is_from, clause_fits, clause_is_from, gamma_is_from, without_literal}
-use Rattle.store_theory.specs.Stores.{Cell, GammaCell, Solution, Solves, Store, eigen_cell, fun_cell, has_sort_at, has_value_sort_at, is_bound, is_store, new_cell, parts_of, string_cell, variable}
+use Rattle.store_theory.specs.Patterns.{AreAtomCopies, AreCopies, AreGammaCopies, CopiedClause, HaveSortsAt, IsClauseCopy, PatternAtom, Template, patterns_tree, template_fits, atom_is_from, clause_fits, clause_is_from, gamma_is_from, without_literal}
+use Rattle.store_theory.specs.Stores.{Cell, GammaCell, Solution, Solves, Store, eigen_cell, fun_cell, has_sort_at, has_value_sort_at, is_bound, is_store, names_below, new_cell, parts_of, string_cell, variable}
 use Rattle.calculus.specs.Syntax.{Problem}
-use Rattle.store_theory.specs.Systems.{CellAtom, System, cells_of, is_cell_atom, is_equation, is_gamma_cell, is_system}
+use Rattle.store_theory.specs.Systems.{CellAtom, System, cells_of, is_cell_atom, is_equation, is_gamma_cell, is_label, is_system}
 use Rattle.store_theory.specs.Templates.{IsTemplateOf, have_sorts}
 use Rattle.calculus.specs.declared.sign.Side.{Side}
 use Rattle.calculus.specs.declared.sort.Sort.{Sort}
 use Rattle.calculus.specs.declared.sort.Sort.TheVariants.{TermSort, MarkSort, StringSort}
 use Rattle.store_theory.proofs.BindingLaws.{is_store-with_cell}
 use Rattle.calculus.proofs.GrowthLaws.{on-some}
-use Rattle.calculus.proofs.PlaceLists.{get-within}
+use Rattle.calculus.proofs.PlaceLists.{all-at, get-within}
 use Rattle.store_theory.proofs.SolutionLaws.{some_solution}
 use Rattle.search_theory.specs.Matrix.{MatrixClause, all_shown}
 use Rattle.search_theory.specs.Regular.{HasNoSamePair}
 use Rattle.search_theory.specs.StateSystems.{Brings, extended_system, pairs_of, reduced_system, started_system, string_cells}
 use Rattle.search_theory.specs.States.{CellChoice, CellClause, CellGoal, IsGround, IsStateOf, State, choice_at, clause_at, cell_goals_on, growth_at, literal_by, new_cell_goals, values_by}
-use Rattle.search_theory.specs.Steps.{AreUnified, Clash, IsExtended, IsFreshClause, IsHeadCopy, IsReduced}
+use Rattle.search_theory.specs.Steps.{AreUnified, Clash, IsExtended, IsFreshClause, IsReduced, IsRestCopy}
 use Rattle.search_theory.proofs.AtomLaws.{IsAtomIn}
 use Rattle.search_theory.proofs.BelowLaws.{all-join, all-remove, all-weaken}
 use Rattle.search_theory.proofs.BringsLaws.{brings-by_template, uses-built}
-use Rattle.search_theory.proofs.BuildingLaws.{AreStores, AreValueCells, KeepsBuilt, adds-longer, built_atom-kept, copy-by_cells, head-by_cells, is_value_cell, is_variable_sort, length-variables, rest-by_cells, solved-valued, value-cell}
+use Rattle.search_theory.proofs.BuildingLaws.{AreStores, AreValueCells, KeepsBuilt, adds-longer, built-label, copy-by_cells, is_value_cell, is_variable_sort, length-variables, rest-by_cells, solved-valued, value-cell}
 use Rattle.search_theory.proofs.ClassicalSteps.{built-binds}
 use Rattle.search_theory.proofs.DeepenLaws.{all-of-both}
 use Rattle.search_theory.proofs.DistinctLaws.{AreDistinct}
 use Rattle.search_theory.proofs.ExtensionLaws.{extended_state, no-extension, no-reduction, reduced_state, state-extended, state-reduced, state_at}
 use Rattle.search_theory.proofs.LabelledEnd.{IsChoiceIn, admitted-good}
 use Rattle.search_theory.proofs.LeftLabels.{IsGoalIn, regular-by_distinct}
-use Rattle.search_theory.proofs.MeetingLaws.{cannot-extend-by_clash, cannot-reduce-by_clash, extended-by_stages, reduced-by_unifying}
+use Rattle.search_theory.proofs.MeetingLaws.{cannot-reduce-by_clash, reduced-by_unifying}
 use Rattle.search_theory.proofs.RankLaws.{rank_of}
 use Rattle.search_theory.proofs.RegularLaws.{each-at}
-use Rattle.search_theory.proofs.StageLaws.{copies-inserted, inserted}
+use Rattle.search_theory.proofs.StageLaws.{inserted}
 use Rattle.search_theory.proofs.StepLaws.{Grows, admitted-all, instance-at, live-state, start_state, state-started}
 use Rattle.search_theory.proofs.SystemLaws.{tree-by_state}
 use Rattle.search_theory.proofs.SystemSteps.{pairs-append, pairs-none, system-extended, system-reduced, system-started}
 use Rattle.search_theory.proofs.VariableSorts.{sorts-kept, strings-sorted}
-use Rattle.term_store.specs.Signatures.{BuildsWithin, allows_atom, allows_template}
-use Rattle.term_store.proofs.FitLaws.{have-new}
+use Rattle.term_store.specs.Fitting.{atom_fits_in, label_fits_in, parts_fit_in}
+use Rattle.term_store.specs.Signatures.{BuildsOver, BuildsWithin, allows_all, allows_atom, allows_template}
+use Rattle.term_store.proofs.FitLaws.{have-new, literals-fit, placed-atoms}
+use Rattle.term_store.proofs.OwnLaws.{names-variables}
+use Rattle.term_store.proofs.SignatureLaws.{within-variables}
+use Rattle.term_unify.specs.Matching.{AddsAndBinds, AllNamesKept, HoldsNowhere, MatchTo, Narrows}
+use Rattle.connection_search.specs.MetAtom.{met_atom}
 use Rattle.connection_search.specs.OwnStores.{AreOwn}
 use Rattle.connection_search.specs.Running.{IsMatrixOf, IsRunning}
 use Rattle.connection_search.proofs.DistinctStores.{distinct-own, well-ranked}
-use Rattle.connection_search.proofs.KeptLaws.{KeepsSorts, args-from, atom-in, atom-there, atom_in-kept, atoms-equation, atoms-in, choices_in-kept, clause-in, clause-there, goal_in-kept, goals_in-kept, goals_in-on, is_equation_from, label-from, system-added, variables-valued, with_added}
+use Rattle.connection_search.proofs.KeptLaws.{KeepsSorts, args-from, atom-in, atom-there, atom_in-kept, atoms-equation, atoms-in, choices_in-kept, clause-in, clause-there, goal_in-kept, goals_in-kept, goals_in-on, is_equation_from, label-from, system-added, terms-kept, variables-valued, with_added}
+use Rattle.connection_search.proofs.MatchingLaws.{IsHeadMatch, cannot-extend-by_mismatch, extended-by_match, head-matched, head-mismatched, rest-with_head}
 use Rattle.connection_search.proofs.OpenVariables.{variables-extended, variables-reduced, variables-started}
 use Rattle.connection_search.proofs.OpenStrings.{AreNamed, KeepsCells, cells-built, cells-copied, named-bound, named-built, named-none, named-variables, sorts-both, sorts-of_bound, sorts-of_cells}
-use Rattle.connection_search.proofs.OwnCopies.{Allowed, IsOwnTemplate, allowed-head, allowed-rest, allowed-whole, own-copied, template-own}
+use Rattle.connection_search.proofs.OwnCopies.{Allowed, IsOwnTemplate, own_signature, allowed-head, allowed-rest, allowed-whole, own-copied, template-own}
 use Rattle.connection_search.proofs.OwnLaws.{own-binds, own-names, own-none}
 
 -- ---- reductions
@@ -211,31 +217,25 @@ clause-brings P s sides t i gammas template selection have sorts values copies f
 
 -- ---- extensions
 
--- what copying the connected literal gives
-pub record HeadCopied (old mid : Store) (t : Template) (place : ℕ) (vs : List ℕ) (p : PatternAtom) (b : CellAtom) : Type 0 where
+-- what matching the connected literal against the goal's arguments gives
+pub record HeadMatched (old met : Store) (t : Template) (place : ℕ) (vs : List ℕ) (p : PatternAtom) (args : List ℕ) : Type 0 where
   pub stands : slice_get t.literals place ≡ Some p
   pub variables : vs ≡ places_from (length old.cells) (length t.sorts)
-  pub have : HaveSortsAt mid t.sorts vs
-  pub copy : IsAtomCopy mid vs p b
-  pub sorted : IsTrue (is_cell_atom mid b)
-  pub own : IsTrue (atom_is_from (length old.cells) b)
-  pub names : NamesFrom (length old.cells) mid
-  pub built : AddsBuilt (with_variables_of t.sorts old) mid
-  pub within : BuildsWithin (λ g. list_all g.sorts t.sorts && allows_atom g t.sorts p) old mid
+  pub narrows : Narrows (λ σ. (length args ≡ length p.args) × MatchTo vs args p.args (length p.args) σ) (with_variables_of t.sorts old) met
+  pub cells : AddsAndBinds (with_variables_of t.sorts old) met
+  pub names : AllNamesKept vs args (with_variables_of t.sorts old) met
+  pub within : BuildsOver vs (λ sorts g. allows_all g sorts (patterns_tree p.args)) (with_variables_of t.sorts old) met
 
--- what unifying it with the goal gives
-pub record HeadMet (mid met : Store) (xs ys : List ℕ) : Type 0 where
-  pub unified : AreUnified mid met xs ys
-  pub binds : BindsOnly mid met
-  pub names : (base : ℕ) → NamesFrom base mid → IsTrue (list_all (nat_le base) xs) → IsTrue (list_all (nat_le base) ys) → NamesFrom base met
-
--- what copying the other literals gives
-pub record RestCopied (met new : Store) (t : Template) (place : ℕ) (vs : List ℕ) (clause : CopiedClause) : Type 0 where
+-- what copying the label of the connected literal and the other literals gives
+pub record RestCopied (met new : Store) (t : Template) (place : ℕ) (vs : List ℕ) (p : PatternAtom) (label : List ℕ) (clause : CopiedClause) : Type 0 where
   pub copy : IsClauseCopy new vs (without_literal place t) clause
   pub sorted : IsTrue (clause_fits new clause)
   pub own : NamesOver vs (length met.cells) (λ base. clause_is_from base clause)
+  pub label_copy : AreCopies new vs (patterns_tree p.label) label
+  pub label_sorted : IsTrue (is_label new label)
+  pub label_own : NamesOver vs (length met.cells) (λ base. list_all (nat_le base) label)
   pub adds : AddsOver vs met new
-  pub within : BuildsWithin (λ g. allows_template g (without_literal place t)) met new
+  pub within : BuildsWithin (λ g. allows_all g t.sorts (patterns_tree p.label) && allows_template g (without_literal place t)) met new
 
 all-inserted : (q : CellAtom → Bool) (place : ℕ) (a : CellAtom) (xs : List CellAtom) → IsTrue (q a) → IsTrue (list_all q xs) → IsTrue (list_all q (inserted place a xs))
 all-inserted q zero a xs h k = and_from (q a) (list_all q xs) h k
@@ -265,13 +265,37 @@ others-room s vs ps xs k h l =
     let b = removed-count ps k l in
     omega (arith, a, b, l)
 
-head-copy : (old mid : Store) (t : Template) (place : ℕ) (vs : List ℕ) (p : PatternAtom) (b : CellAtom) → IsTrue (is_store old) → IsTrue (list_all is_variable_sort t.sorts) → HeadCopied old mid t place vs p b → IsHeadCopy old mid t vs p b
-head-copy old mid t place vs p b w k h = subst (λ v. IsHeadCopy old mid t v p b) (sym h.variables) (head-by_cells old mid t p b (stores-of t.sorts old w) k h.built (subst (λ v. IsAtomCopy mid v p b) h.variables h.copy))
+-- what holds of a store with the template's variables
+record Begun (old : Store) (t : Template) (p : PatternAtom) (args : List ℕ) : Type 0 where
+  stores : AreStores t.sorts old
+  values : IsTrue (list_all (has_value_sort_at (with_variables_of t.sorts old)) (places_from (length old.cells) (length t.sorts)))
+  fits : IsTrue (parts_fit_in (with_variables_of t.sorts old) (places_from (length old.cells) (length t.sorts)) TermSort false (patterns_tree p.args))
+  sorted : IsTrue (list_all (has_sort_at (with_variables_of t.sorts old) TermSort) args)
+  below : IsTrue (names_below (length old.cells) args)
 
--- where the connected literal cannot be met, no tree follows the extension
-pub no-extension-by_clash : (P : Problem) (base d : ℕ) (c : List Choice) (old mid : Store) (cs : List CellChoice) (g : CellGoal) (gs every : List CellGoal) (ds : List ℕ) (sides : List Side) (t : Template) (place : ℕ) (vs : List ℕ) (p : PatternAtom) (b : CellAtom) (y : System) → IsRunning P base d c (state_at old cs g gs every ds) y → IsTemplateOf P sides t → IsTrue (list_all is_variable_sort t.sorts) → HeadCopied old mid t place vs p b → Clash mid g.literal.args b.args → ¬ Grows P (c ++ extension sides place ∷ [])
-no-extension-by_clash P base d c old mid cs g gs every ds sides t place vs p b y h template sorts head clash =
-    no-extension P d c old cs g gs every ds sides t place h.state template (cannot-extend-by_clash old mid t vs g.literal p b place (head-copy old mid t place vs p b h.well.fits sorts head) head.stands clash (atom-there old g.literal (goal-in P base d c old cs g gs every ds y h).literal.sorted))
+begun : (old : Store) (t : Template) (place : ℕ) (p : PatternAtom) (a : CellAtom) → IsTrue (is_store old) → IsTrue (list_all is_variable_sort t.sorts) → IsTrue (template_fits t) → slice_get t.literals place ≡ Some p → IsTrue (is_cell_atom old a) → Begun old t p a.args
+begun old t place p a w k fits at sorted =
+    let new = with_variables_of t.sorts old in
+    let places = places_from (length old.cells) (length t.sorts) in
+    let have = have-new places t.sorts old new refl refl in
+    let atom = all-at (atom_fits_in new places) t.literals place p (placed-atoms new places t.sorts have t.literals (literals-fit t fits)) at in
+    record {
+      stores = stores-of t.sorts old w;
+      values = variables-valued new t.sorts places have k;
+      fits = (and_parts (parts_fit_in new places TermSort false (patterns_tree p.args)) (label_fits_in new places p.label) atom).0;
+      sorted = terms-kept old new (sorts-of_cells old new (cells-copied t.sorts old new nothing_more)) a.args (and_parts (list_all (has_sort_at old TermSort) a.args) (is_label old a.label) sorted).0;
+      below = (and_parts (names_below (length old.cells) a.args) (names_below (length old.cells) a.label) (atom-there old a sorted)).0;
+    }
+
+head-met : (old met : Store) (t : Template) (place : ℕ) (vs : List ℕ) (p : PatternAtom) (args : List ℕ) → IsTrue (list_all is_variable_sort t.sorts) → Begun old t p args → HeadMatched old met t place vs p args → IsHeadMatch old met t vs p args
+head-met old met t place vs p args k b h =
+    subst (λ v. IsHeadMatch old met t v p args) (sym h.variables) (head-matched old met t p args b.stores k b.values b.fits b.sorted b.below (subst (λ v. Narrows (λ σ. (length args ≡ length p.args) × MatchTo v args p.args (length p.args) σ) (with_variables_of t.sorts old) met) h.variables h.narrows))
+
+-- where the connected literal cannot be matched, no tree follows the extension
+pub no-extension-by_mismatch : (P : Problem) (base d : ℕ) (c : List Choice) (old : Store) (cs : List CellChoice) (g : CellGoal) (gs every : List CellGoal) (ds : List ℕ) (sides : List Side) (t : Template) (place : ℕ) (p : PatternAtom) (y : System) → IsRunning P base d c (state_at old cs g gs every ds) y → IsTemplateOf P sides t → IsTrue (list_all is_variable_sort t.sorts) → slice_get t.literals place ≡ Some p → HoldsNowhere (λ σ. (length g.literal.args ≡ length p.args) × MatchTo (places_from (length old.cells) (length t.sorts)) g.literal.args p.args (length p.args) σ) (with_variables_of t.sorts old) → ¬ Grows P (c ++ extension sides place ∷ [])
+no-extension-by_mismatch P base d c old cs g gs every ds sides t place p y h template sorts at none =
+    let b = begun old t place p g.literal h.well.fits sorts template.fits at (goal-in P base d c old cs g gs every ds y h).literal.sorted in
+    no-extension P d c old cs g gs every ds sides t place h.state template (cannot-extend-by_mismatch old t g.literal p place at (head-mismatched old t p g.literal.args b.stores sorts b.values b.fits b.sorted b.below none))
 
 -- the stores of an extension, one after the other
 record Stages (P : Problem) (base : ℕ) (old met new : Store) (t : Template) (vs strings : List ℕ) : Type 0 where
@@ -283,50 +307,63 @@ record Stages (P : Problem) (base : ℕ) (old met new : Store) (t : Template) (v
   kept : KeepsSorts old new
   named : AreNamed base new (strings ++ string_cells t.sorts vs)
 
-stages : (P : Problem) (base : ℕ) (old mid met new : Store) (t : Template) (place : ℕ) (vs xs strings : List ℕ) (p : PatternAtom) (b : CellAtom) (clause : CopiedClause) → IsTrue (is_store old) → base ≤ length old.cells → AreOwn P base old → AreNamed base old strings → IsTrue (list_all (nat_le base) xs) → Allowed P t → HeadCopied old mid t place vs p b → HeadMet mid met xs b.args → RestCopied met new t place vs clause → IsTrue (is_store new) → Stages P base old met new t vs strings
-stages P base old mid met new t place vs xs strings p b clause st from own named goal allowed head meet rest well = record {
+stages : (P : Problem) (base : ℕ) (old met new : Store) (t : Template) (place : ℕ) (vs xs strings label : List ℕ) (p : PatternAtom) (clause : CopiedClause) → IsTrue (is_store old) → base ≤ length old.cells → AreOwn P base old → AreNamed base old strings → IsTrue (list_all (nat_le base) xs) → Allowed P t → HeadMatched old met t place vs p xs → RestCopied met new t place vs p label clause → IsTrue (is_store new) → Stages P base old met new t vs strings
+stages P base old met new t place vs xs strings label p clause st from own named goal allowed head rest well = record {
   from = base_met;
   longer = (let m = adds-longer met new rest.adds.built in omega (arith, base_met, m));
   variables = variables;
-  own = own-copied P base met new (λ g. allows_template g (without_literal place t)) (store-before met new rest.adds.built well) rest.within (allowed-rest P t place allowed) (rest.adds.names base base_met variables names_met)
-      (own-binds P base mid met (store-behind (with_variables_of t.sorts old) mid head.built (store-variables t.sorts old st)) meet.binds names_met
-      (own-copied P base old mid (λ g. list_all g.sorts t.sorts && allows_atom g t.sorts p) st head.within (allowed-head P t place p allowed head.stands) names_mid own));
-  have = sorts-kept mid new behind t.sorts vs head.have;
-  kept = sorts-both old mid new (sorts-of_cells old mid kept_mid) behind;
+  own = own-copied P base met new (λ g. allows_all g t.sorts (patterns_tree p.label) && allows_template g (without_literal place t)) (store-before met new rest.adds.built well) rest.within (and_from (allows_all (own_signature P) t.sorts (patterns_tree p.label)) (allows_template (own_signature P) (without_literal place t)) atom_allowed.1 (allowed-rest P t place allowed)) (rest.adds.names base base_met variables names_met)
+      (own-copied P base old met (λ g. list_all g.sorts t.sorts && allows_all g t.sorts (patterns_tree p.args)) st within_met (and_from (list_all (own_signature P).sorts t.sorts) (allows_all (own_signature P) t.sorts (patterns_tree p.args)) head_allowed.0 atom_allowed.0) names_met own);
+  have = sorts-kept begun_store new behind t.sorts vs have_begun;
+  kept = sorts-both old begun_store new (sorts-of_cells old begun_store kept_begun) behind;
   named = named-built base met new (strings ++ string_cells t.sorts vs) rest.adds.built
-      (named-bound base mid met (strings ++ string_cells t.sorts vs) meet.binds
-      (named-built base (with_variables_of t.sorts old) mid (strings ++ string_cells t.sorts vs) head.built
+      (named-bound base head.cells.mid met (strings ++ string_cells t.sorts vs) head.cells.binds
+      (named-built base begun_store head.cells.mid (strings ++ string_cells t.sorts vs) head.cells.built
       (named-variables base t.sorts old strings vs head.variables named)));
 }
   where
-    kept_mid : KeepsCells old mid
-    kept_mid = cells-copied t.sorts old mid head.built
+    begun_store : Store
+    begun_store = with_variables_of t.sorts old
 
-    behind : KeepsSorts mid new
-    behind = sorts-both mid met new (sorts-of_bound mid met meet.binds) (sorts-of_cells met new (cells-built met new rest.adds.built))
+    head_allowed : IsTrue (list_all (own_signature P).sorts t.sorts) × IsTrue (allows_atom (own_signature P) t.sorts p)
+    head_allowed = and_parts (list_all (own_signature P).sorts t.sorts) (allows_atom (own_signature P) t.sorts p) (allowed-head P t place p allowed head.stands)
 
-    names_mid : NamesFrom base mid
-    names_mid = names-longer base old mid kept_mid from (own-names P base old own) head.names
+    atom_allowed : IsTrue (allows_all (own_signature P) t.sorts (patterns_tree p.args)) × IsTrue (allows_all (own_signature P) t.sorts (patterns_tree p.label))
+    atom_allowed = and_parts (allows_all (own_signature P) t.sorts (patterns_tree p.args)) (allows_all (own_signature P) t.sorts (patterns_tree p.label)) head_allowed.1
 
-    names_met : NamesFrom base met
-    names_met = meet.names base names_mid goal (and_parts (list_all (nat_le base) b.args) (list_all (nat_le base) b.label) (atom-lower base (length old.cells) from b head.own)).0
+    have_begun : HaveSortsAt begun_store t.sorts vs
+    have_begun = have-new vs t.sorts old begun_store refl head.variables
 
-    base_met : base ≤ length met.cells
-    base_met =
-        let v = length-variables t.sorts old in
-        let a = adds-longer (with_variables_of t.sorts old) mid head.built in
-        let m = meet.binds.same_length in
-        omega (arith, from, v, a, m)
+    within_met : BuildsWithin (λ g. list_all g.sorts t.sorts && allows_all g t.sorts (patterns_tree p.args)) old met
+    within_met = within-variables (λ g. allows_all g t.sorts (patterns_tree p.args)) t.sorts old begun_store met refl (head.within t.sorts have_begun)
+
+    kept_begun : KeepsCells old begun_store
+    kept_begun = cells-copied t.sorts old begun_store nothing_more
+
+    behind : KeepsSorts begun_store new
+    behind = sorts-both begun_store met new (sorts-both begun_store head.cells.mid met (sorts-of_cells begun_store head.cells.mid (cells-built begun_store head.cells.mid head.cells.built)) (sorts-of_bound head.cells.mid met head.cells.binds)) (sorts-of_cells met new (cells-built met new rest.adds.built))
+
+    base_begun : base ≤ length begun_store.cells
+    base_begun = let v = length-variables t.sorts old in omega (arith, from, v)
 
     variables : IsTrue (list_all (nat_le base) vs)
     variables = subst (λ v. IsTrue (list_all (nat_le base) v)) (sym head.variables) (places-from_base base (length old.cells) (length t.sorts) from)
+
+    names_met : NamesFrom base met
+    names_met = head.names base base_begun variables goal (names-variables base t.sorts old (own-names P base old own))
+
+    base_met : base ≤ length met.cells
+    base_met =
+        let a = adds-longer begun_store head.cells.mid head.cells.built in
+        let m = head.cells.binds.same_length in
+        omega (arith, base_begun, a, m)
 
 extended-added : (y : System) (g : CellGoal) (i : CellClause) (place : ℕ) (b : CellAtom) (strings : List ℕ) (gammas : List GammaCell) (pis : ℕ) (every : List CellGoal) → y.pairs ≡ pairs_of every → extended_system y g i place b strings gammas pis ≡ with_added y (record { left = g.literal.label; right = b.label } ∷ []) strings gammas (y.pis + pis) (pairs_of (every ++ new_cell_goals g i place))
 extended-added y g i place b strings gammas pis every e = ap (λ ps. with_added y (record { left = g.literal.label; right = b.label } ∷ []) strings gammas (y.pis + pis) ps) (ap (λ ps. ps ++ pairs_of (new_cell_goals g i place)) e ∙ sym (pairs-append every (new_cell_goals g i place)))
 
 -- the state after an extension
-pub running-extended : (P : Problem) (base d : ℕ) (c : List Choice) (old mid met new : Store) (cs : List CellChoice) (g : CellGoal) (gs every : List CellGoal) (ds : List ℕ) (sides : List Side) (t : Template) (place : ℕ) (vs : List ℕ) (p : PatternAtom) (b : CellAtom) (clause : CopiedClause) (y : System) → IsRunning P base d c (state_at old cs g gs every ds) y → IsTrue (nat_lt (length g.path) d) → IsTemplateOf P sides t → IsOwnTemplate P t → IsTrue (not (sign_eq g.literal.sign p.sign)) → g.literal.symbol ≡ p.symbol → HeadCopied old mid t place vs p b → HeadMet mid met g.literal.args b.args → RestCopied met new t place vs clause → IsWellFormed new → IsRunning P base d (c ++ extension sides place ∷ []) (extended_state new cs g gs every ds (record { selection = sides; values = vs; literals = inserted place b clause.literals }) place) (extended_system y g (record { selection = sides; values = vs; literals = inserted place b clause.literals }) place b (string_cells t.sorts vs) clause.gammas clause.pis)
-running-extended P base d c old mid met new cs g gs every ds sides t place vs p b clause y h deep template own sign symbol head meet rest well = record {
+pub running-extended : (P : Problem) (base d : ℕ) (c : List Choice) (old met new : Store) (cs : List CellChoice) (g : CellGoal) (gs every : List CellGoal) (ds : List ℕ) (sides : List Side) (t : Template) (place : ℕ) (vs label : List ℕ) (p : PatternAtom) (clause : CopiedClause) (y : System) → IsRunning P base d c (state_at old cs g gs every ds) y → IsTrue (nat_lt (length g.path) d) → IsTemplateOf P sides t → IsOwnTemplate P t → IsTrue (not (sign_eq g.literal.sign p.sign)) → g.literal.symbol ≡ p.symbol → HeadMatched old met t place vs p g.literal.args → RestCopied met new t place vs p label clause → IsWellFormed new → IsRunning P base d (c ++ extension sides place ∷ []) (extended_state new cs g gs every ds (record { selection = sides; values = vs; literals = inserted place (met_atom p g.literal.args label) clause.literals }) place) (extended_system y g (record { selection = sides; values = vs; literals = inserted place (met_atom p g.literal.args label) clause.literals }) place (met_atom p g.literal.args label) (string_cells t.sorts vs) clause.gammas clause.pis)
+running-extended P base d c old met new cs g gs every ds sides t place vs label p clause y h deep template own sign symbol head rest well = record {
   state = state-extended P d c old new cs g gs every ds sides t i place h.state deep template extended;
   well = well;
   from = stage.longer;
@@ -337,9 +374,12 @@ running-extended P base d c old mid met new cs g gs every ds sides t place vs p 
   system = system-extended P d c old new cs g gs every ds i place b y (string_cells t.sorts vs) clause.gammas clause.pis (tree-by_state P d c (state_at old cs g gs every ds) h.state) h.system (λ σ s. (extended.back σ s).0) meets (inserted-at place b clause.literals (others-room new vs t.literals clause.literals place rest.copy.literals (get-within t.literals place p head.stands))) brings (subst (λ z. IsTrue (is_system new z)) (sym same) added.0);
   cells = subst (λ z. IsTrue (list_all (nat_le base) (cells_of z))) (sym same) added.1;
   strings = stage.named;
-  variables = variables-extended base old mid met new cs t.sorts i place head.variables head.built meet.binds rest.adds.built h.variables;
+  variables = variables-extended base old head.cells.mid met new cs t.sorts i place head.variables head.cells.built head.cells.binds rest.adds.built h.variables;
 }
   where
+    b : CellAtom
+    b = met_atom p g.literal.args label
+
     i : CellClause
     i = record { selection = sides; values = vs; literals = inserted place b clause.literals }
 
@@ -347,16 +387,19 @@ running-extended P base d c old mid met new cs g gs every ds sides t place vs p 
     here = goal-in P base d c old cs g gs every ds y h
 
     stage : Stages P base old met new t vs y.strings
-    stage = stages P base old mid met new t place vs g.literal.args y.strings p b clause h.well.fits h.from h.own h.strings (args-from base old g.literal here.literal) own.allowed head meet rest well.fits
+    stage = stages P base old met new t place vs g.literal.args y.strings label p clause h.well.fits h.from h.own h.strings (args-from base old g.literal here.literal) own.allowed head rest well.fits
 
     parts : ClauseParts base new clause
     parts = clause-parts base new clause rest.sorted (rest.own base stage.from stage.variables)
 
+    here_new : IsGoalIn (λ r. base ≤ r) new g
+    here_new = goal_in-kept (λ r. base ≤ r) old new stage.kept g here
+
+    args_sorted : IsTrue (list_all (has_sort_at new TermSort) g.literal.args)
+    args_sorted = (and_parts (list_all (has_sort_at new TermSort) g.literal.args) (is_label new g.literal.label) here_new.literal.sorted).0
+
     head_in : IsAtomIn (λ r. base ≤ r) new b
-    head_in = atom_in-kept (λ r. base ≤ r) mid new behind b (atom-in base mid b head.sorted (atom-lower base (length old.cells) h.from b head.own))
-      where
-        behind : KeepsSorts mid new
-        behind = sorts-both mid met new (sorts-of_bound mid met meet.binds) (sorts-of_cells met new (cells-built met new rest.adds.built))
+    head_in = atom-in base new b (and_from (list_all (has_sort_at new TermSort) g.literal.args) (is_label new label) args_sorted rest.label_sorted) (and_from (list_all (nat_le base) g.literal.args) (list_all (nat_le base) label) (args-from base old g.literal here.literal) (rest.label_own base stage.from stage.variables))
 
     valued : IsTrue (list_all (has_value_sort_at new) vs)
     valued = variables-valued new t.sorts vs stage.have own.sorts
@@ -365,13 +408,20 @@ running-extended P base d c old mid met new cs g gs every ds sides t place vs p 
     sorted = all-inserted (is_cell_atom new) place b clause.literals head_in.sorted parts.literals
 
     literals_from : IsTrue (list_all (atom_is_from base) (inserted place b clause.literals))
-    literals_from = all-inserted (atom_is_from base) place b clause.literals (atom-lower base (length old.cells) h.from b head.own) parts.literals_from
+    literals_from = all-inserted (atom_is_from base) place b clause.literals (and_from (list_all (nat_le base) g.literal.args) (list_all (nat_le base) label) (args-from base old g.literal here.literal) (rest.label_own base stage.from stage.variables)) parts.literals_from
 
-    copies : AreAtomCopies new vs t.literals (inserted place b clause.literals)
-    copies = copies-inserted new vs t.literals place p clause.literals b head.stands rest.copy.literals (built_atom-kept met new (keeps-built met new rest.adds.built) vs p b (built_atom-kept mid met (built-binds mid met meet.binds) vs p b head.copy))
+    met_head : IsHeadMatch old met t vs p g.literal.args
+    met_head = head-met old met t place vs p g.literal.args own.sorts (begun old t place p g.literal h.well.fits own.sorts template.fits head.stands here.literal.sorted) head
+
+    others : CellClause
+    others = record { selection = sides; values = vs; literals = clause.literals }
+
+    copied : IsRestCopy met new sides t i
+    copied = rest-with_head old met new sides t vs clause.literals p b place met_head head.stands refl refl (λ σ s. built-label new σ s vs (value-cells new σ s vs valued) p.label label rest.label_copy) (clause-there new i valued sorted)
+        (rest-by_cells met new sides (without_literal place t) others refl (clause-there new others valued parts.literals) rest.adds.built valued rest.copy.literals)
 
     extended : IsExtended old new sides t i g.literal place
-    extended = extended-by_stages old mid met new sides t i g.literal p b place (head-copy old mid t place vs p b h.well.fits own.sorts head) head.stands sign symbol meet.unified (rest-by_cells met new sides t i refl (clause-there new i valued sorted) rest.adds.built valued copies) (atom-there old g.literal here.literal.sorted)
+    extended = extended-by_match old met new sides t i g.literal p place met_head head.stands sign symbol copied
 
     meets : (σ : Solution) → IsGround P (extended_state new cs g gs every ds i place) σ → IsTrue (is_instance P (clause_at σ i)) × IsTrue (is_opposite (literal_by σ g.literal) (slice_get (map (literal_by σ) i.literals) place))
     meets σ u =
@@ -380,9 +430,6 @@ running-extended P base d c old mid met new cs g gs every ds sides t place vs p 
 
     brings : Brings P new i (string_cells t.sorts vs) clause.gammas clause.pis
     brings = subst (Brings P new i (string_cells t.sorts vs) clause.gammas) (sym rest.copy.pis) (clause-brings P new sides t i clause.gammas template refl stage.have own.sorts (λ σ s. (extended.back σ s).1) rest.copy.gammas parts.gammas)
-
-    here_new : IsGoalIn (λ r. base ≤ r) new g
-    here_new = goal_in-kept (λ r. base ≤ r) old new stage.kept g here
 
     fresh : AllByRecursion (IsGoalIn (λ r. base ≤ r) new) (new_cell_goals g i place)
     fresh = goals_in-on (λ r. base ≤ r) new (g.literal ∷ g.path) (remove i.literals place) (here_new.literal, here_new.path) (atoms-in base new (remove i.literals place) (all-remove (is_cell_atom new) i.literals place sorted) (all-remove (atom_is_from base) i.literals place literals_from))

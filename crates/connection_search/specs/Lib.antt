@@ -41,3 +41,4 @@ pub mod Deciding
 pub mod Pruning
 -- goals that no bindings close within the limit
 pub mod Ahead
+pub mod MetAtom

@@ -15,15 +15,18 @@ ghost use Rattle.search_theory.specs.Regular.{AreSame};
 ghost use Rattle.search_theory.specs.OrderedChoices as choices;
 ghost use Rattle.search_theory.specs.States.{atom_is_below};
 ghost use Rattle.search_theory.specs.Steps.{AreUnified, Clash};
-ghost use Rattle.term_store.specs.ClauseView.{the_atom};
+ghost use Rattle.connection_search.specs.MetAtom.{met_atom};
+ghost use Rattle.term_store.specs.ClauseView.{the_atom, the_pattern_atom};
 ghost use Rattle.term_store.specs.RefView.{the_place};
 ghost use Rattle.term_store.specs.Room.{KeepsRoom};
 ghost use Rattle.term_unify.specs.Closed.{IsClosedBelow};
 
 use crate::pair::unify_pair;
+use crate::system::copy_refs;
 use calculus::sign::Sign;
 use cop_base::NoMemory;
-use term_store::{CellAtom, Ref, Store};
+use std::alloc::Global;
+use term_store::{CellAtom, PatternAtom, Prefix, Ref, Store};
 use term_unify::{Unifier, are_same_cells};
 
 pub(crate) fn are_same_sign(a: Sign, b: Sign) -> bool
@@ -103,6 +106,25 @@ pub(crate) fn unify_all(
         }
     }
     Ok(true)
+}
+
+/// The connected literal with the goal's own arguments, which matching has made equal to it.
+pub(crate) fn met_atom(
+    alloc: Global,
+    literal: &PatternAtom,
+    terms: &[Ref],
+    label: Prefix,
+) -> Result<CellAtom, NoMemory>
+    ensures { IfOk result (λ atom. the_atom atom ≡ met_atom (the_pattern_atom literal.now) (map
+        the_place terms.now) label) }
+{
+    let args = copy_refs(alloc, terms)?;
+    Ok(CellAtom {
+        sign: literal.sign,
+        symbol: literal.symbol,
+        args,
+        label,
+    })
 }
 
 /// Whether the bindings make the two the same signed atom at one label.

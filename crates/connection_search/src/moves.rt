@@ -19,7 +19,7 @@ ghost use Rattle.connection_search.specs.Running.{ExtendsBy, GoalStands, IsAt, I
 ghost use Rattle.connection_search.specs.Running.{ReducesBy, TreeStands, TreeStandsDeep};
 ghost use Rattle.connection_search.specs.Trees.{KeepsTree};
 
-use crate::atoms::unify_all;
+use crate::atoms::{met_atom, unify_all};
 use crate::heads::has_clash;
 use crate::jumping::Look;
 use crate::occurrences::Occurrences;
@@ -181,24 +181,29 @@ impl Work {
         let template = matrix.template(place.clause);
         let at = place.literal as usize;
         let signed = self.tree.atom(goal);
-        if has_clash(store, signed, &template.literals.items()[at]) {
+        let literal = &template.literals.items()[at];
+        if has_clash(store, signed, literal) {
             return Ok(false);
         }
         let cells = store.size() - store.spare();
-        let head = store.copy_literal(template, at)?;
+        let variables = store.new_variables(&template.sorts)?;
         let terms = signed.args.items();
-        let literal = head.atom.args.items();
-        if !unify_all(&mut self.unifier, store, cells, terms, literal)? {
+        if !self
+            .unifier
+            .match_all(store, cells, terms, &literal.args, variables)?
+        {
             return Ok(false);
         }
-        let copy = store.copy_rest(template, head.variables, at)?;
+        let label = store.copy_label(template, variables, at)?;
+        let copy = store.copy_rest(template, variables, at)?;
         let _after = store.mark();
+        let atom = met_atom(self.alloc, literal, terms, label)?;
         let copied = Copied {
             clause: place.clause,
             copy,
         };
         let first = self.tree.goals.len();
-        self.tree.extend(goal, copied, place.literal, head.atom)?;
+        self.tree.extend(goal, copied, place.literal, atom)?;
         let regular = self.is_regular_from(store, template, place, first)?;
         Ok(regular)
     }

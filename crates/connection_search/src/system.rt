@@ -29,7 +29,7 @@ use term_store::{
 // ---- copies
 
 // The references, as a list of their own.
-fn copy_refs(alloc: Global, refs: &[Ref]) -> Result<RefList, NoMemory>
+pub(crate) fn copy_refs(alloc: Global, refs: &[Ref]) -> Result<RefList, NoMemory>
     ensures { IfOk result (λ copied. copied ≡ map the_place refs.now) }
 {
     let mut copied = RefList::with_capacity(alloc, refs.len())?;

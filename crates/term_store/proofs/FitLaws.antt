@@ -10,7 +10,7 @@ use Rattle.calculus.specs.Equality.{sort_eq}
 use Rattle.store_theory.specs.Stores.{Cell, Store, sort_of, sort_at, has_sort_at, has_value_sort_at}
 use Rattle.store_theory.specs.Patterns.{Pattern, Patterns, p_var, p_fun, p_eigen, p_new, no_patterns, more_patterns, patterns_tree, Grows, PatternAtom, PatternGamma, Template, HaveSortsAt, pattern_fits, are_term_patterns, are_value_patterns, is_label_pattern, atom_fits, gamma_fits, template_fits}
 use Rattle.store_theory.specs.Bindings.{places_from, with_variables_of}
-use Rattle.calculus.proofs.PlaceLists.{all-append, all-more}
+use Rattle.calculus.proofs.PlaceLists.{all-append, all-at, all-more}
 use Rattle.store_theory.proofs.BindingLaws.{or-more}
 use Rattle.store_theory.proofs.PatternLaws.{variables-have, grown-cell, grown-sort, and-more, and-both}
 use Rattle.term_store.specs.Fitting.{fits_in, parts_fit_in, part_sort_at, label_fits_in, atom_fits_in, gamma_fits_in}
@@ -113,6 +113,10 @@ pub literals-fit : (m : Template) → IsTrue (template_fits m) → IsTrue (list_
 literals-fit m h =
     let a = and_parts (list_all (atom_fits m.sorts) m.literals && list_all (pattern_fits m.sorts StringSort) m.strings) (list_all (gamma_fits m.sorts) m.gammas) h in
     (and_parts (list_all (atom_fits m.sorts) m.literals) (list_all (pattern_fits m.sorts StringSort) m.strings) a.0).0
+
+-- the label of a literal
+pub label-fits-at : (t : Store) (vs : List ℕ) (m : Template) (place : ℕ) (a : PatternAtom) → HaveSortsAt t m.sorts vs → IsTrue (template_fits m) → slice_get m.literals place ≡ Some a → IsTrue (label_fits_in t vs a.label)
+label-fits-at t vs m place a have h at = (and_parts (parts_fit_in t vs TermSort false (patterns_tree a.args)) (label_fits_in t vs a.label) (all-at (atom_fits_in t vs) m.literals place a (placed-atoms t vs m.sorts have m.literals (literals-fit m h)) at)).1
 
 pub template-strings : (t : Store) (vs : List ℕ) (m : Template) → HaveSortsAt t m.sorts vs → IsTrue (template_fits m) → IsTrue (parts_fit_in t vs StringSort false (patterns_tree m.strings))
 template-strings t vs m e h =

@@ -1,19 +1,21 @@
 //! Copies of clauses, at once or the connected literal first.
 
-ghost use Rattle.std.specs.Prelude.{◌≡◌, ◌<◌, ◌≤◌, ◌+◌, ◌++◌, ◌&&◌, IfOk, IsTrue, OnErr, OnOk, Some, length, map, slice_get};
+ghost use Rattle.std.specs.Prelude.{◌≡◌, ◌<◌, ◌≤◌, ◌+◌, ◌++◌, ◌&&◌, IfOk, IsTrue, OnErr, OnOk, Some, length, map, nat_le, slice_get};
 ghost use Rattle.std.specs.List.{list_all};
 ghost use Rattle.store_theory.specs.Bindings.{AddsBuilt, AddsOver, KeepsMarks, NamesFrom, NamesOver, places_from, with_variables_of};
-ghost use Rattle.store_theory.specs.Patterns.{Grows, HaveSortsAt, IsAtomCopy, IsClauseCopy, PatternAtom as TreeAtom, atom_fits, atom_is_from, clause_fits, clause_is_from, template_fits, without_literal};
-ghost use Rattle.store_theory.specs.Systems.{is_cell_atom};
+ghost use Rattle.store_theory.specs.Patterns.{AreCopies, Grows, HaveSortsAt, IsAtomCopy, IsClauseCopy, PatternAtom as TreeAtom, atom_fits, atom_is_from, clause_fits, clause_is_from, patterns_tree, template_fits, without_literal};
+ghost use Rattle.store_theory.specs.Systems.{is_cell_atom, is_label};
 ghost use Rattle.term_store.specs.ClauseView.{the_atom, the_pattern_atom};
 ghost use Rattle.term_store.specs.Copying.{with_literals};
 ghost use Rattle.term_store.specs.RefView.{the_places};
 ghost use Rattle.term_store.specs.Room.{KeepsRoom, spare};
-ghost use Rattle.term_store.specs.Signatures.{BuildsWithin, allows_atom, allows_template};
+ghost use Rattle.term_store.specs.Signatures.{BuildsWithin, allows_all, allows_atom, allows_template};
 ghost use Rattle.term_store.specs.TemplateView.{the_clause, the_template};
 
 use crate::cell::{Ref, Variables};
-use crate::clause::{CellAtomList, CopiedClause, CopiedLiteral, PatternAtom, SortList, Template};
+use crate::clause::{
+    CellAtomList, CopiedClause, CopiedLiteral, PatternAtom, Prefix, SortList, Template,
+};
 use crate::store::{PLACES, Store};
 use cop_base::NoMemory;
 
@@ -34,10 +36,11 @@ impl Store {
         Ok(self.cells.len() as u32)
     }
 
-    // New variables of these sorts.
-    fn new_variables(&mut self, sorts: &SortList) -> Result<Variables, NoMemory>
+    /// New variables of these sorts, which are the first new cells.
+    pub fn new_variables(&mut self, sorts: &SortList) -> Result<Variables, NoMemory>
         ensures places { IfOk result (λ v. the_places v ≡ places_from (length self.old.store.cells) (length sorts.now)) }
         ensures ok { OnOk result (self.new.store ≡ with_variables_of sorts.now self.old.store) }
+        ensures err { OnErr result (self.new.store ≡ self.old.store) }
         ensures marks { KeepsMarks self.old.store self.new.store }
         ensures room { KeepsRoom self.old self.new }
     {
@@ -176,6 +179,33 @@ impl Store {
                 Err(NoMemory)
             }
         }
+    }
+
+    /// The label of the literal at this place, over variables that are in the store. Want of memory leaves some cells
+    /// behind.
+    pub fn copy_label(
+        &mut self,
+        t: &Template,
+        variables: Variables,
+        place: usize,
+    ) -> Result<Prefix, NoMemory>
+        requires template { IsTrue (template_fits (the_template t.now)) }
+        requires variables { HaveSortsAt self.old.store t.now.sorts (the_places variables) }
+        requires place { place < length t.now.literals }
+        ensures copy { IfOk result (λ label. (a : TreeAtom) × (slice_get t.now.literals place ≡ Some a) × AreCopies self.new.store (the_places variables) (patterns_tree a.label) label) }
+        ensures sorts { IfOk result (λ label. IsTrue (is_label self.new.store label)) }
+        ensures own { IfOk result (λ label. NamesOver (the_places variables) (length self.old.store.cells) (λ base. list_all (nat_le base) label)) }
+        ensures adds { AddsOver (the_places variables) self.old.store self.new.store }
+        ensures within { OnOk result ((a : TreeAtom) → slice_get t.now.literals place ≡ Some a → BuildsWithin (λ g. allows_all g t.now.sorts (patterns_tree a.label)) self.old.store self.new.store) }
+        ensures room { KeepsRoom self.old self.new }
+    {
+        let mut places = Vec::new(self.alloc);
+        let label = self.copy_refs(
+            &t.literals.items()[place].label,
+            variables,
+            &mut places,
+        )?;
+        Ok(label)
     }
 
     // As `copy_rest`. Want of memory leaves some cells behind.
