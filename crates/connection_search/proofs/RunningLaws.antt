@@ -1,5 +1,5 @@
 -- A state of the search with its system, and what starts, reductions and extensions make of it.
-use Rattle.std.proofs.Common.{◌≡◌, ◌<◌, ◌≤◌, ◌+◌, ℕ, zero, suc, List, [], ◌∷◌, ◌++◌, length, map, Bool, true, false, not, ◌&&◌, ◌==◌, IsTrue, refl, sym, ◌∙◌, ap, subst, Option, None, Some, slice_get, arith, append-nil, nat_le, nat_lt, le-leb, leb-true}
+use Rattle.std.proofs.Common.{◌≡◌, ◌<◌, ◌≤◌, ◌+◌, ℕ, zero, suc, List, [], ◌∷◌, ◌++◌, length, map, Bool, true, false, not, ◌&&◌, ◌==◌, IsTrue, refl, sym, ◌∙◌, ap, subst, None, Some, slice_get, arith, append-nil, nat_le, nat_lt, le-leb}
 use Rattle.std.specs.Prelude.{Contains, remove}
 use Rattle.std.specs.List.{AllByRecursion, list_all, list_any}
 use Rattle.std.proofs.lemmas.Bool.{and_from, and_parts}
@@ -8,7 +8,7 @@ use Rattle.calculus.specs.Choices.{Choice, IsLeft, IsLive, extension, growth_of,
 use Rattle.calculus.specs.ComputedInstances.{is_instance}
 use Rattle.calculus.specs.Equality.{sign_eq}
 use Rattle.store_theory.specs.Patterns.{AreAtomCopies, AreCopies, AreGammaCopies, CopiedClause, HaveSortsAt, IsClauseCopy, PatternAtom, Template, patterns_tree, template_fits, atom_is_from, clause_fits, clause_is_from, gamma_is_from, without_literal}
-use Rattle.store_theory.specs.Stores.{Cell, GammaCell, Solution, Solves, Store, eigen_cell, fun_cell, has_sort_at, has_value_sort_at, is_bound, is_store, names_below, new_cell, parts_of, string_cell, variable}
+use Rattle.store_theory.specs.Stores.{Cell, GammaCell, Solution, Solves, Store, eigen_cell, fun_cell, has_sort_at, has_value_sort_at, is_bound, is_store, names_below, new_cell, string_cell, variable}
 use Rattle.calculus.specs.Syntax.{Problem}
 use Rattle.store_theory.specs.Systems.{CellAtom, System, cells_of, is_cell_atom, is_equation, is_gamma_cell, is_label, is_system}
 use Rattle.store_theory.specs.Templates.{IsTemplateOf, have_sorts}
@@ -27,8 +27,7 @@ use Rattle.search_theory.specs.Steps.{AreUnified, Clash, IsExtended, IsFreshClau
 use Rattle.search_theory.proofs.AtomLaws.{IsAtomIn}
 use Rattle.search_theory.proofs.BelowLaws.{all-join, all-remove, all-weaken}
 use Rattle.search_theory.proofs.BringsLaws.{brings-by_template, uses-built}
-use Rattle.search_theory.proofs.BuildingLaws.{AreStores, AreValueCells, KeepsBuilt, adds-longer, built-label, copy-by_cells, is_value_cell, is_variable_sort, length-variables, rest-by_cells, solved-valued, value-cell}
-use Rattle.search_theory.proofs.ClassicalSteps.{built-binds}
+use Rattle.search_theory.proofs.BuildingLaws.{AreStores, AreValueCells, adds-longer, built-label, copy-by_cells, is_value_cell, is_variable_sort, length-variables, rest-by_cells, solved-valued, value-cell}
 use Rattle.search_theory.proofs.DeepenLaws.{all-of-both}
 use Rattle.search_theory.proofs.DistinctLaws.{AreDistinct}
 use Rattle.search_theory.proofs.ExtensionLaws.{extended_state, no-extension, no-reduction, reduced_state, state-extended, state-reduced, state_at}
@@ -52,7 +51,7 @@ use Rattle.connection_search.specs.MetAtom.{met_atom}
 use Rattle.connection_search.specs.OwnStores.{AreOwn}
 use Rattle.connection_search.specs.Running.{IsMatrixOf, IsRunning}
 use Rattle.connection_search.proofs.DistinctStores.{distinct-own, well-ranked}
-use Rattle.connection_search.proofs.KeptLaws.{KeepsSorts, args-from, atom-in, atom-there, atom_in-kept, atoms-equation, atoms-in, choices_in-kept, clause-in, clause-there, goal_in-kept, goals_in-kept, goals_in-on, is_equation_from, label-from, system-added, terms-kept, variables-valued, with_added}
+use Rattle.connection_search.proofs.KeptLaws.{KeepsSorts, args-from, atom-in, atom-there, atoms-equation, atoms-in, choices_in-kept, clause-in, clause-there, goal_in-kept, goals_in-kept, goals_in-on, is_equation_from, label-from, system-added, terms-kept, variables-valued, with_added}
 use Rattle.connection_search.proofs.MatchingLaws.{IsHeadMatch, cannot-extend-by_mismatch, extended-by_match, head-matched, head-mismatched, rest-with_head}
 use Rattle.connection_search.proofs.OpenVariables.{variables-extended, variables-reduced, variables-started}
 use Rattle.connection_search.proofs.OpenStrings.{AreNamed, KeepsCells, cells-built, cells-copied, named-bound, named-built, named-none, named-variables, sorts-both, sorts-of_bound, sorts-of_cells}
@@ -120,28 +119,6 @@ no-reduction-by_clash P base d c s cs g gs every ds k a y h at clash = no-reduct
 
 -- ---- stores that are copied
 
-keeps-built : (s t : Store) → AddsBuilt s t → KeepsBuilt s t
-keeps-built s t built n c b e = cells-built s t built n c e
-
-nothing-there : {A : Type 0} (xs : List A) (n : ℕ) → slice_get xs n ≡ None → length xs ≤ n
-nothing-there [] n e = omega arith
-nothing-there (x ∷ xs) zero e = let z : Some x ≡ None = e in absurd (cc z)
-nothing-there (x ∷ xs) (suc n) e = let q = nothing-there xs n e in omega (arith, q)
-
-from-lower : (m n : ℕ) → m ≤ n → (rs : List ℕ) → IsTrue (list_all (nat_le n) rs) → IsTrue (list_all (nat_le m) rs)
-from-lower m n l = all-weaken (nat_le n) (nat_le m) (λ r h. let q = leb-true n r h in le-leb m r (omega (arith, l, q)))
-
--- new cells that name new ones alone leave the search's own cells
-names-longer : (base : ℕ) (old new : Store) → KeepsCells old new → base ≤ length old.cells → NamesFrom base old → NamesFrom (length old.cells) new → NamesFrom base new
-names-longer base old new k l h g n c low e = by (slice_get old.cells n) refl
-  where
-    by : (o : Option Cell) → slice_get old.cells n ≡ o → IsTrue (list_all (nat_le base) (parts_of c))
-    by None q = from-lower base (length old.cells) l (parts_of c) (g n c (nothing-there old.cells n q) e)
-    by (Some b) q =
-        let same : Some b ≡ Some c = sym (k n b q) ∙ e in
-        let here : b ≡ c = cc same in
-        subst (λ (z : Cell). IsTrue (list_all (nat_le base) (parts_of z))) here (h n b low q)
-
 stores-of : (sorts : List Sort) (s : Store) → IsTrue (is_store s) → AreStores sorts s
 stores-of [] s h = h
 stores-of (sort ∷ sorts) s h = (h, stores-of sorts (with_cell (variable sort None) s) (is_store-with_cell (variable sort None) s h refl refl))
@@ -169,11 +146,6 @@ store-variables (sort ∷ sorts) s h = store-variables sorts (with_cell (variabl
 places-from_base : (base n k : ℕ) → base ≤ n → IsTrue (list_all (nat_le base) (places_from n k))
 places-from_base base n zero l = refl
 places-from_base base n (suc k) l = and_from (nat_le base n) (list_all (nat_le base) (places_from (suc n) k)) (le-leb base n l) (places-from_base base (suc n) k (omega (arith, l)))
-
-atom-lower : (m n : ℕ) → m ≤ n → (a : CellAtom) → IsTrue (atom_is_from n a) → IsTrue (atom_is_from m a)
-atom-lower m n l a h =
-    let w = and_parts (list_all (nat_le n) a.args) (list_all (nat_le n) a.label) h in
-    and_from (list_all (nat_le m) a.args) (list_all (nat_le m) a.label) (from-lower m n l a.args w.0) (from-lower m n l a.label w.1)
 
 -- ---- clauses
 

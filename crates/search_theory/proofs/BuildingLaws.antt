@@ -14,7 +14,7 @@ use Rattle.store_theory.specs.Patterns.{Pattern, Patterns, p_var, p_fun, p_eigen
 use Rattle.store_theory.specs.Templates.{as_term, as_value, as_label, cell_value, value_of_variable, pattern_value, pattern_terms, pattern_values, pattern_label, pattern_literal, has_value_sort, have_sorts}
 use Rattle.store_theory.specs.Bindings.{with_cell, is_variable, with_variables_of, places_from, AddsBuilt, nothing_more, one_more}
 use Rattle.search_theory.specs.States.{CellClause, clause_is_below, terms_by, label_by, values_by, literal_by, Agree}
-use Rattle.search_theory.specs.Steps.{IsFreshClause, IsHeadCopy, IsRestCopy}
+use Rattle.search_theory.specs.Steps.{IsFreshClause, IsRestCopy}
 use Rattle.search_theory.proofs.BelowLaws.{all-weaken}
 use Rattle.search_theory.proofs.SpareLaws.{IsPart, own_cell, cell-fits, cell-sorted, all-at, terms-there, values-there, marks-there, cell-alike, sort-same, or-both}
 use Rattle.search_theory.proofs.GeneralLaws.{term-parts}
@@ -321,25 +321,6 @@ built-literals s σ h variables k [] xs b = ap (map (literal_by σ)) b
 built-literals s σ h variables k (p ∷ ps) xs (a, ys, e, b, c) = ap (map (literal_by σ)) e ∙ ap₂ (λ y zs. y ∷ zs) (built-literal s σ h variables k p a b) (built-literals s σ h variables k ps ys c)
 
 -- ---- the laws
-
--- the connected literal: variables, and then the cells of one literal
-pub head-by_cells : (old new : Store) (t : Template) (p : PatternAtom) (b : CellAtom) → AreStores t.sorts old → IsTrue (list_all is_variable_sort t.sorts) → AddsBuilt (with_variables_of t.sorts old) new → IsAtomCopy new (places_from (length old.cells) (length t.sorts)) p b → IsHeadCopy old new t (places_from (length old.cells) (length t.sorts)) p b
-head-by_cells old new t p b stores sorts adds built = record {
-  longer = let l = variables-longer t.sorts old in let m = adds-longer mid new adds in omega (arith, l, m);
-  variables_below = places-below (length old.cells) (length new.cells) t.sorts (let l = length-variables t.sorts old in let m = adds-longer mid new adds in omega (arith, l, m));
-  back = λ σ h.
-      let k = adds-back mid new adds σ h in
-      let v = variables-sorted t.sorts old (length old.cells) refl sorts σ k in
-      (variables-back t.sorts old σ k, v.0, built-literal new σ h (places_from (length old.cells) (length t.sorts)) v.1 p b built);
-  forth = λ σ h vs k.
-      let (τ, solved, agree, values) = variables-forth t.sorts old (length old.cells) refl stores σ h vs k in
-      let (ρ, done, further) = adds-forth mid new adds τ solved in
-      let l = variables-longer t.sorts old in
-      (ρ, done, agree-both (length old.cells) (length mid.cells) σ τ ρ l agree further, sym (values-agree (length mid.cells) τ ρ further (places_from (length old.cells) (length t.sorts)) (places-below (length old.cells) (length mid.cells) t.sorts (let m = length-variables t.sorts old in omega (arith, m)))) ∙ values);
-}
-  where
-    mid : Store
-    mid = with_variables_of t.sorts old
 
 pub value-cell : (v : CellValue) → IsTrue (has_sort TermSort v || has_sort StringSort v) → IsTrue (is_value_cell v)
 value-cell (a_term t) h = refl

@@ -1,5 +1,5 @@
 -- What copying and unification give: the steps of the search, and where there is none.
-use Rattle.std.proofs.Common.{◌≡◌, ℕ, zero, suc, ◌<◌, List, length, map, not, ◌&&◌, ◌==◌, IsTrue, sym, ◌∙◌, ap, subst, Option, Some, None, option_map, slice_get, ltb-true, lt-ltb, arith, eq-eqb, eqb-true}
+use Rattle.std.proofs.Common.{◌≡◌, ℕ, zero, suc, List, length, map, not, ◌&&◌, ◌==◌, IsTrue, sym, ◌∙◌, ap, subst, Option, Some, None, option_map, slice_get, arith, eq-eqb, eqb-true}
 use Rattle.std.proofs.lemmas.Bool.{false≢true, and_parts, and_from}
 use Rattle.std.proofs.lemmas.Option.{slice_get-map}
 use Rattle.calculus.specs.declared.sign.Side.{Side}
@@ -12,10 +12,9 @@ use Rattle.store_theory.specs.Systems.{CellAtom}
 use Rattle.calculus.proofs.EqualityLaws.{grounds_eq-tells}
 use Rattle.store_theory.specs.Patterns.{PatternAtom, Template}
 use Rattle.store_theory.specs.Templates.{pattern_literal, literals_by}
-use Rattle.search_theory.specs.States.{CellClause, CellGoal, atom_is_below, clause_is_below, terms_by, values_by, literal_by}
-use Rattle.search_theory.specs.Steps.{AreUnified, Clash, IsFreshClause, IsExtended, CannotExtend, IsReduced, CannotReduce, IsHeadCopy, IsRestCopy}
-use Rattle.search_theory.proofs.ImageLaws.{values-agree, literal-agree}
-use Rattle.search_theory.proofs.BelowLaws.{names-more}
+use Rattle.search_theory.specs.States.{CellClause, CellGoal, atom_is_below, clause_is_below, literal_by}
+use Rattle.search_theory.specs.Steps.{AreUnified, Clash, IsFreshClause, IsExtended, CannotExtend, IsReduced, CannotReduce}
+use Rattle.search_theory.proofs.ImageLaws.{literal-agree}
 
 -- ---- opposite literals
 
@@ -66,40 +65,6 @@ extended-by_copy old mid new sides t i goal b place k at signs symbols u below =
       let opp_τ = subst (λ x. IsTrue (are_opposite x (literal_by τ b))) (literal-agree (length old.cells) σ τ agree goal below) opp_b in
       (τ, u.forth τ st (opposite-parts (literal_by τ goal) (literal_by τ b) opp_τ).args, agree, v);
 }
-
--- copy the head, unify, and copy the rest
-pub extended-by_stages : (old mid met new : Store) (sides : List Side) (t : Template) (i : CellClause) (goal : CellAtom) (p : PatternAtom) (b : CellAtom) (place : ℕ) → IsHeadCopy old mid t i.values p b → slice_get t.literals place ≡ Some p → IsTrue (not (sign_eq goal.sign p.sign)) → goal.symbol ≡ p.symbol → AreUnified mid met goal.args b.args → IsRestCopy met new sides t i → IsTrue (atom_is_below (length old.cells) goal) → IsExtended old new sides t i goal place
-extended-by_stages old mid met new sides t i goal p b place k at signs symbols u r below = record {
-  selection = r.selection;
-  longer = let e = u.size in let l = k.longer in let m = r.longer in omega (arith, e, l, m);
-  names = r.names;
-  back = λ σ s.
-      let x = r.back σ s in
-      let v = u.back σ x.0 in
-      let w = k.back σ v.0 in
-      let there : slice_get (map (literal_by σ) i.literals) place ≡ Some (pattern_literal (values_by σ i.values) p) = ap (λ xs. slice_get xs place) x.1 ∙ literal-there (pattern_literal (values_by σ i.values)) t.literals place p at in
-      (w.0, w.1, x.1, some-opposite (literal_by σ goal) (slice_get (map (literal_by σ) i.literals) place) (pattern_literal (values_by σ i.values) p) there (opposite-from (literal_by σ goal) (pattern_literal (values_by σ i.values) p) (record { signs = signs; symbols = symbols; args = v.1 ∙ ap (λ (y : GroundLiteral). y.args) w.2 })));
-  forth = λ σ s vs sorts opp.
-      let (τ, st, agree, v) = k.forth σ s vs sorts in
-      let w = k.back τ st in
-      let same : literal_by τ b ≡ pattern_literal vs p = w.2 ∙ ap (λ us. pattern_literal us p) v in
-      let opp_p = opposite-some (literal_by σ goal) (slice_get (literals_by vs t) place) (pattern_literal vs p) (literal-there (pattern_literal vs) t.literals place p at) opp in
-      let args = (opposite-parts (literal_by σ goal) (pattern_literal vs p) opp_p).args in
-      let args_τ : terms_by τ goal.args ≡ terms_by τ b.args = sym (ap (λ (y : GroundLiteral). y.args) (literal-agree (length old.cells) σ τ agree goal below)) ∙ args ∙ sym (ap (λ (y : GroundLiteral). y.args) same) in
-      let (ρ, sr, further) = r.forth τ (u.forth τ st args_τ) in
-      let kept : values_by ρ i.values ≡ vs = sym (values-agree (length met.cells) τ ρ further i.values (names-more (length mid.cells) (length met.cells) (let e = u.size in omega (arith, e)) i.values k.variables_below)) ∙ v in
-      (ρ, sr, (λ c l. agree c l ∙ further c (let e = u.size in let m = k.longer in let q : c < length old.cells = ltb-true c (length old.cells) l in lt-ltb c (length met.cells) (omega (arith, e, m, q)))), kept);
-}
-
--- the head does not unify
-pub cannot-extend-by_clash : (old mid : Store) (t : Template) (variables : List ℕ) (goal : CellAtom) (p : PatternAtom) (b : CellAtom) (place : ℕ) → IsHeadCopy old mid t variables p b → slice_get t.literals place ≡ Some p → Clash mid goal.args b.args → IsTrue (atom_is_below (length old.cells) goal) → CannotExtend old t goal place
-cannot-extend-by_clash old mid t variables goal p b place k at clash below σ s vs sorts opp =
-    let (τ, st, agree, v) = k.forth σ s vs sorts in
-    let w = k.back τ st in
-    let same : literal_by τ b ≡ pattern_literal vs p = w.2 ∙ ap (λ us. pattern_literal us p) v in
-    let opp_p = opposite-some (literal_by σ goal) (slice_get (literals_by vs t) place) (pattern_literal vs p) (literal-there (pattern_literal vs) t.literals place p at) opp in
-    let args = (opposite-parts (literal_by σ goal) (pattern_literal vs p) opp_p).args in
-    clash τ st (sym (ap (λ (y : GroundLiteral). y.args) (literal-agree (length old.cells) σ τ agree goal below)) ∙ args ∙ sym (ap (λ (y : GroundLiteral). y.args) same))
 
 -- the head has the same sign or another symbol
 pub cannot-extend-by_sign : (s : Store) (t : Template) (goal : CellAtom) (p : PatternAtom) (place : ℕ) → slice_get t.literals place ≡ Some p → IsTrue (sign_eq goal.sign p.sign) → CannotExtend s t goal place

@@ -4,10 +4,10 @@ use Rattle.calculus.specs.declared.sign.Side.{Side}
 use Rattle.calculus.specs.Ground.{Value}
 use Rattle.calculus.specs.Tableaux.{ancestor}
 use Rattle.calculus.specs.Choices.{is_opposite}
-use Rattle.store_theory.specs.Stores.{Store, Solution, Solves, names_below}
+use Rattle.store_theory.specs.Stores.{Store, Solution, Solves}
 use Rattle.store_theory.specs.Systems.{CellAtom}
-use Rattle.store_theory.specs.Patterns.{PatternAtom, Template}
-use Rattle.store_theory.specs.Templates.{pattern_literal, literals_by, have_sorts}
+use Rattle.store_theory.specs.Patterns.{Template}
+use Rattle.store_theory.specs.Templates.{literals_by, have_sorts}
 use Rattle.search_theory.specs.States.{CellClause, CellGoal, clause_is_below, terms_by, values_by, literal_by, Agree}
 
 -- the solutions of the new store are those of the old one by which the two lists of terms are equal
@@ -51,14 +51,7 @@ pub record IsReduced (old new : Store) (g : CellGoal) (up : ℕ) : Type 0 where
 abbrev pub CannotReduce : Store → CellGoal → ℕ → Type 0
 CannotReduce s g up = (σ : Solution) → Solves s σ → ¬ IsTrue (is_opposite (literal_by σ g.literal) (ancestor (map (literal_by σ) g.path) up))
 
--- ---- the fast order: the connected literal is copied, then unified, and only then the other literals are copied
-
--- the variables are new, which no solution of the old store constrains, and the atom b is the pattern p over them
-pub record IsHeadCopy (old new : Store) (t : Template) (variables : List ℕ) (p : PatternAtom) (b : CellAtom) : Type 0 where
-  pub longer : length old.cells ≤ length new.cells
-  pub variables_below : IsTrue (names_below (length new.cells) variables)
-  pub back : (σ : Solution) → Solves new σ → Solves old σ × IsTrue (have_sorts t.sorts (values_by σ variables)) × (literal_by σ b ≡ pattern_literal (values_by σ variables) p)
-  pub forth : (σ : Solution) → Solves old σ → (vs : List Value) → IsTrue (have_sorts t.sorts vs) → (τ : Solution) × Solves new τ × Agree (length old.cells) σ τ × (values_by τ variables ≡ vs)
+-- ---- the fast order: the connected literal is matched with the goal, and only then the other literals are copied
 
 -- the literals of the clause i are those of the template over variables that are there already
 pub record IsRestCopy (old new : Store) (sides : List Side) (t : Template) (i : CellClause) : Type 0 where

@@ -3,7 +3,7 @@ use Rattle.std.proofs.Common.{◌≡◌, ◌++◌, ◌∷◌, ◌&&◌, ◌<◌,
 use Rattle.std.specs.List.{list_all}
 use Rattle.std.proofs.lemmas.Bool.{and_from, and_parts}
 use Rattle.calculus.specs.declared.sort.Sort.{Sort}
-use Rattle.calculus.specs.declared.sort.Sort.TheVariants.{TermSort, MarkSort}
+use Rattle.calculus.specs.declared.sort.Sort.TheVariants.{TermSort}
 use Rattle.store_theory.specs.Bindings.{AddsBuilt, BindsOnly, with_cell, with_variables_of}
 use Rattle.store_theory.specs.Patterns as tree
 use Rattle.store_theory.specs.Patterns.{AreCopies, Grows, HaveSortsAt, IsCopy, no_patterns, more_patterns, p_eigen, p_fun, p_new, p_var, patterns_tree}

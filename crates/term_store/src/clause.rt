@@ -376,10 +376,3 @@ pub struct CopiedClause {
     pub pis: u32,
     pub gammas: GammaList,
 }
-
-/// The first literal that is copied of a clause, and the variables of all its literals.
-#[derive(Drop)]
-pub struct CopiedLiteral {
-    pub variables: Variables,
-    pub atom: CellAtom,
-}

@@ -1,21 +1,19 @@
-//! Copies of clauses, at once or the connected literal first.
+//! Copies of clauses, whole or without the connected literal.
 
 ghost use Rattle.std.specs.Prelude.{◌≡◌, ◌<◌, ◌≤◌, ◌+◌, ◌++◌, ◌&&◌, IfOk, IsTrue, OnErr, OnOk, Some, length, map, nat_le, slice_get};
 ghost use Rattle.std.specs.List.{list_all};
 ghost use Rattle.store_theory.specs.Bindings.{AddsBuilt, AddsOver, KeepsMarks, NamesFrom, NamesOver, places_from, with_variables_of};
-ghost use Rattle.store_theory.specs.Patterns.{AreCopies, Grows, HaveSortsAt, IsAtomCopy, IsClauseCopy, PatternAtom as TreeAtom, atom_fits, atom_is_from, clause_fits, clause_is_from, patterns_tree, template_fits, without_literal};
-ghost use Rattle.store_theory.specs.Systems.{is_cell_atom, is_label};
-ghost use Rattle.term_store.specs.ClauseView.{the_atom, the_pattern_atom};
+ghost use Rattle.store_theory.specs.Patterns.{AreCopies, HaveSortsAt, IsClauseCopy, PatternAtom as TreeAtom, atom_fits, clause_fits, clause_is_from, patterns_tree, template_fits, without_literal};
+ghost use Rattle.store_theory.specs.Systems.{is_label};
+ghost use Rattle.term_store.specs.ClauseView.{the_pattern_atom};
 ghost use Rattle.term_store.specs.Copying.{with_literals};
 ghost use Rattle.term_store.specs.RefView.{the_places};
 ghost use Rattle.term_store.specs.Room.{KeepsRoom, spare};
-ghost use Rattle.term_store.specs.Signatures.{BuildsWithin, allows_all, allows_atom, allows_template};
+ghost use Rattle.term_store.specs.Signatures.{BuildsWithin, allows_all, allows_template};
 ghost use Rattle.term_store.specs.TemplateView.{the_clause, the_template};
 
 use crate::cell::{Ref, Variables};
-use crate::clause::{
-    CellAtomList, CopiedClause, CopiedLiteral, PatternAtom, Prefix, SortList, Template,
-};
+use crate::clause::{CellAtomList, CopiedClause, PatternAtom, Prefix, SortList, Template};
 use crate::store::{PLACES, Store};
 use cop_base::NoMemory;
 
@@ -133,54 +131,6 @@ impl Store {
         }
     }
 
-    // As `copy_literal`. Want of memory leaves some cells behind.
-    fn add_literal(&mut self, t: &Template, place: usize) -> Result<CopiedLiteral, NoMemory>
-        requires template { IsTrue (template_fits (the_template t.now)) }
-        requires place { place < length t.now.literals }
-        ensures variables { IfOk result (λ c. the_places c.variables ≡ places_from (length self.old.store.cells) (length t.now.sorts)) }
-        ensures have { IfOk result (λ c. HaveSortsAt self.new.store t.now.sorts (the_places c.variables)) }
-        ensures copy { IfOk result (λ c. (a : TreeAtom) × (slice_get t.now.literals place ≡ Some a) × IsAtomCopy self.new.store (the_places c.variables) a (the_atom c.atom)) }
-        ensures sorts { IfOk result (λ c. IsTrue (is_cell_atom self.new.store (the_atom c.atom))) }
-        ensures own { IfOk result (λ c. IsTrue (atom_is_from (length self.old.store.cells) (the_atom c.atom))) }
-        ensures names { OnOk result (NamesFrom (length self.old.store.cells) self.new.store) }
-        ensures built { OnOk result (AddsBuilt (with_variables_of t.now.sorts self.old.store) self.new.store) }
-        ensures within { OnOk result ((a : TreeAtom) → slice_get t.now.literals place ≡ Some a → BuildsWithin (λ g. list_all g.sorts t.now.sorts && allows_atom g t.now.sorts a) self.old.store self.new.store) }
-        ensures marks { KeepsMarks self.old.store self.new.store }
-        ensures room { KeepsRoom self.old self.new }
-    {
-        let mut places = Vec::new(self.alloc);
-        let variables = self.new_variables(&t.sorts)?;
-        let atom = self.copy_atom(&t.literals.items()[place], variables, &mut places)?;
-        Ok(CopiedLiteral { variables, atom })
-    }
-
-    /// New variables for the template, which are the first new cells, and the literal at this place over them. A search
-    /// unifies it with its goal, and copies the rest of the clause only where that succeeds.
-    pub fn copy_literal(&mut self, t: &Template, place: usize) -> Result<CopiedLiteral, NoMemory>
-        requires template { IsTrue (template_fits (the_template t.now)) }
-        requires place { place < length t.now.literals }
-        ensures variables { IfOk result (λ c. the_places c.variables ≡ places_from (length self.old.store.cells) (length t.now.sorts)) }
-        ensures have { IfOk result (λ c. HaveSortsAt self.new.store t.now.sorts (the_places c.variables)) }
-        ensures copy { IfOk result (λ c. (a : TreeAtom) × (slice_get t.now.literals place ≡ Some a) × IsAtomCopy self.new.store (the_places c.variables) a (the_atom c.atom)) }
-        ensures sorts { IfOk result (λ c. IsTrue (is_cell_atom self.new.store (the_atom c.atom))) }
-        ensures own { IfOk result (λ c. IsTrue (atom_is_from (length self.old.store.cells) (the_atom c.atom))) }
-        ensures names { OnOk result (NamesFrom (length self.old.store.cells) self.new.store) }
-        ensures built { OnOk result (AddsBuilt (with_variables_of t.now.sorts self.old.store) self.new.store) }
-        ensures within { OnOk result ((a : TreeAtom) → slice_get t.now.literals place ≡ Some a → BuildsWithin (λ g. list_all g.sorts t.now.sorts && allows_atom g t.now.sorts a) self.old.store self.new.store) }
-        ensures err { OnErr result (self.new.store ≡ self.old.store) }
-        ensures marks { KeepsMarks self.old.store self.new.store }
-        ensures room { KeepsRoom self.old self.new }
-    {
-        let start = self.mark();
-        match self.add_literal(t, place) {
-            Ok(literal) => Ok(literal),
-            Err(NoMemory) => {
-                self.undo(start);
-                Err(NoMemory)
-            }
-        }
-    }
-
     /// The label of the literal at this place, over variables that are in the store. Want of memory leaves some cells
     /// behind.
     pub fn copy_label(
@@ -200,11 +150,7 @@ impl Store {
         ensures room { KeepsRoom self.old self.new }
     {
         let mut places = Vec::new(self.alloc);
-        let label = self.copy_refs(
-            &t.literals.items()[place].label,
-            variables,
-            &mut places,
-        )?;
+        let label = self.copy_refs(&t.literals.items()[place].label, variables, &mut places)?;
         Ok(label)
     }
 

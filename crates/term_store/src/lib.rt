@@ -18,8 +18,8 @@ pub use calculus::sign::Sign;
 pub use calculus::sort::Sort;
 pub use cell::{Content, End, Head, Ref, TrailMark, Variables};
 pub use clause::{
-    CellAtom, CellAtomList, CopiedClause, CopiedLiteral, GammaList, GammaUse, PatternAtom,
-    PatternAtomList, PatternGamma, PatternGammaList, Prefix, RefList, SortList, Template,
+    CellAtom, CellAtomList, CopiedClause, GammaList, GammaUse, PatternAtom, PatternAtomList,
+    PatternGamma, PatternGammaList, Prefix, RefList, SortList, Template,
 };
 pub use demand::Demand;
 pub use home::{Home, HomeList};
