@@ -306,7 +306,7 @@ seen-made before now first p points l = subst (λ n. HasSeen first (seeing n p �
     by (Some k) = omega arith
 
 -- the last item is set
-set-last : (xs : List Point) (p q : Point) (k : ℕ) → k ≡ length xs → slice_set (xs ++ p ∷ []) k q ≡ xs ++ q ∷ []
+pub set-last : (xs : List Point) (p q : Point) (k : ℕ) → k ≡ length xs → slice_set (xs ++ p ∷ []) k q ≡ xs ++ q ∷ []
 set-last xs p q k e = subst (λ n. slice_set (xs ++ p ∷ []) n q ≡ xs ++ q ∷ []) (sym e) (by xs)
   where
     by : (ys : List Point) → slice_set (ys ++ p ∷ []) (length ys) q ≡ ys ++ q ∷ []

@@ -1,8 +1,9 @@
 -- The next choice of the last point: back at the point, its choice, and what comes of it.
-use Rattle.std.proofs.Common.{◌≡◌, ◌⊎◌, ◌+◌, ◌-◌, ◌*◌, ◌<◌, ◌≤◌, ℕ, suc, Bool, true, List, [], ◌∷◌, ◌++◌, Option, None, Some, MatchOption, IsTrue, reverse, sum_by, take, refl, sym, ◌∙◌, ap, subst, arith, append_assoc, inl, inr, length}
+use Rattle.std.proofs.Common.{◌≡◌, ◌⊎◌, ◌+◌, ◌-◌, ◌*◌, ◌<◌, ◌≤◌, ℕ, suc, Bool, true, List, [], ◌∷◌, ◌++◌, Option, None, Some, MatchOption, IsTrue, reverse, slice_set, sum_by, take, refl, sym, ◌∙◌, ap, subst, arith, append_assoc, inl, inr, length}
 use Rattle.std.proofs.Math.Nat.{mul-le-mul_right}
 use Rattle.std.specs.Bool.{⊤}
 use Rattle.std.specs.List.{AllByRecursion}
+use Rattle.std.proofs.Math.Seq.{take-append_seam}
 use Rattle.std.proofs.lemmas.List.{length-append, reverse-append}
 use Rattle.std.proofs.lemmas.List.Sums.{sum_by-append}
 use Rattle.store_theory.specs.Bindings.{KeepsMarks}
@@ -24,7 +25,7 @@ use Rattle.connection_search.specs.Seeing.{SeeMore, HasSeen, no_goal, seeing, se
 use Rattle.connection_search.specs.declared.tree.Tree.{Tree}
 use Rattle.search_theory.specs.Jumps.{AreSolvedBehind, ChoicePoint, StandsAtPoint}
 use Rattle.search_theory.proofs.JumpLaws.{solved-tried}
-use Rattle.connection_search.proofs.StandingLaws.{HasGoals, goals-all, last-of, length-take, points-goals, seen-made, solved-near, stack-cleared, stack-kept, stack-lost, stack-refused, stack-seeing, stands-all, stands-steps, traced-back}
+use Rattle.connection_search.proofs.StandingLaws.{HasGoals, goals-all, last-of, length-take, points-goals, seen-made, set-last, solved-near, stack-cleared, stack-kept, stack-lost, stack-refused, stack-seeing, stands-all, stands-steps, traced-back}
 use Rattle.connection_search.specs.Points.{HasUntried, IsMoveAt, IsPoint, IsSamePoint, the_move}
 use Rattle.connection_search.specs.Running.{IsAtGoal, IsMatrixOf, StandsFor}
 use Rattle.connection_search.specs.Trees.{KeepsTree}
@@ -194,11 +195,24 @@ tried-at P m base d s t steps after goals all points p q later begun used left o
     next-tried P m base d t after all (reverse points) p q later begun used left choice tm same b
     (subst (IsNextLeft P m d b.choices after all q b.goal b.untried left) some (next base b.choices t b.goal b.untried tm b.at b.has))
 
--- no choice is left
-pub none-at : (P : Problem) (m : List MatrixClause) (base d : ℕ) (s t : Store) (steps after : List Step) (goals all : List Goal) (points : List Point) (p q : Point) (later : List (List Choice)) (begun used : ℕ) (left : Bool) (o : Option Move) → t ≡ cut_at (the_mark p.mark) s → after ≡ take p.steps steps → all ≡ take p.goals goals → IsMatrixOf P m → NextAt m d P after all p q left o → o ≡ None → IsExploring P m base d s steps goals (points ++ p ∷ []) later begun used left → IsSpentAt P m base d t after all p (reverse points) later begun used left
-none-at P m base d s t steps after goals all points p q later begun used left o es ea eb tm next none h =
+-- no choice is left at the point, as it is now
+pub spent-same : (P : Problem) (m : List MatrixClause) (base d : ℕ) (s : Store) (steps : List Step) (goals : List Goal) (p q : Point) (points : List Point) (later : List (List Choice)) (begun used : ℕ) (left : Bool) → IsSamePoint p q → IsSpentAt P m base d s steps goals p points later begun used left → IsSpentAt P m base d s steps goals q points later begun used left
+spent-same P m base d s steps goals p q points later begun used left same h = record {
+  choices = h.choices;
+  goal = h.goal;
+  below = h.below;
+  at = subst (λ n. IsAtGoal P m base d h.choices s steps goals n h.goal) (sym same.goal) h.at;
+  before = before-same p q points same h.before;
+  rest = h.rest;
+  solved = subst (λ (x : ChoicePoint). AreSolvedBehind P d no_goal [] (x ∷ traced P m base d s steps goals points h.below h.rest)) (same-choice_point p q h.choices [] same) h.solved;
+  searched = h.searched;
+}
+
+pub none-at : (P : Problem) (m : List MatrixClause) (base d : ℕ) (s t : Store) (steps after : List Step) (goals all : List Goal) (points : List Point) (p q : Point) (later : List (List Choice)) (begun used : ℕ) (left : Bool) (o : Option Move) → t ≡ cut_at (the_mark p.mark) s → after ≡ take p.steps steps → all ≡ take p.goals goals → IsSamePoint p q → IsMatrixOf P m → NextAt m d P after all p q left o → o ≡ None → IsExploring P m base d s steps goals (points ++ p ∷ []) later begun used left → IsSpentAt P m base d t after all q (reverse points) later begun used left
+none-at P m base d s t steps after goals all points p q later begun used left o es ea eb same tm next none h =
     let b = back-at P m base d s t steps after goals all points p later begun used left h es ea eb in
-    none-left P m base d t after all (reverse points) p later begun used left tm b q (subst (IsNextLeft P m d b.choices after all q b.goal b.untried left) none (next base b.choices t b.goal b.untried tm b.at b.has))
+    spent-same P m base d t after all p q (reverse points) later begun used left same
+    (none-left P m base d t after all (reverse points) p later begun used left tm b q (subst (IsNextLeft P m d b.choices after all q b.goal b.untried left) none (next base b.choices t b.goal b.untried tm b.at b.has)))
 
 -- the tree is irregular
 pub dead-at : (P : Problem) (m : List MatrixClause) (base d : ℕ) (s t : Store) (steps after now : List Step) (goals all these : List Goal) (first : Option ℕ) (points others : List Point) (p : Point) (later : List (List Choice)) (begun used : ℕ) (left : Bool) → t ≡ cut_at (the_mark p.mark) s → after ≡ take p.steps steps → all ≡ take p.goals goals → first ≡ Some p.goal → now ≡ after → these ≡ all → SeeMore 0 points others → ((P : Problem) (m : List MatrixClause) (base d : ℕ) (c : List Choice) → StandsFor P m base d c t after all first → IsDead P c) → IsExploring P m base d s steps goals (points ++ p ∷ []) later begun used left → IsExploring P m base d t now these others later begun used left
@@ -281,6 +295,26 @@ trying-made P m base d s t steps after goals all first points pushed q later beg
   where
     number : reverse pushed ≡ seeing (seen_after q.steps (length after) first) q ∷ reverse points
     number = reverse-pushed (seen_after q.steps (length after) first) q points pushed is
+
+-- ---- the last point is changed in its place
+
+-- the points below it stay
+pub set-end : (xs : List Point) (k : ℕ) (p q : Point) → xs ≡ take k xs ++ p ∷ [] → suc k ≡ length xs → slice_set xs k q ≡ take k xs ++ q ∷ []
+set-end xs k p q are e =
+    let l = ap length are in
+    let m = length-append (take k xs) (p ∷ []) in
+    ap (λ zs. slice_set zs k q) are ∙ set-last (take k xs) p q k (omega (arith, e, l, m))
+
+-- and are left where it goes
+pub cut-end : (xs : List Point) (k : ℕ) (p q : Point) → xs ≡ take k xs ++ p ∷ [] → suc k ≡ length xs → take k (slice_set xs k q) ≡ take k xs
+cut-end xs k p q are e =
+    let l = ap length are in
+    let m = length-append (take k xs) (p ∷ []) in
+    let number : k ≡ length (take k xs) = omega (arith, e, l, m) in
+    ap (take k) (set-end xs k p q are e) ∙ ap (λ n. take n (take k xs ++ q ∷ [])) number ∙ take-append_seam (take k xs) (q ∷ [])
+
+pub exploring-at : (P : Problem) (m : List MatrixClause) (base d : ℕ) (s : Store) (steps : List Step) (goals : List Goal) (xs ys : List Point) (later : List (List Choice)) (begun used : ℕ) (left : Bool) → xs ≡ ys → IsExploring P m base d s steps goals xs later begun used left → IsExploring P m base d s steps goals ys later begun used left
+exploring-at P m base d s steps goals xs ys later begun used left e h = subst (λ ps. IsExploring P m base d s steps goals ps later begun used left) e h
 
 -- ---- nothing is left on the stack
 

@@ -1,6 +1,6 @@
 //! The loop of the search: a stack of choice points, all of whose choices are tried in order.
 
-ghost use Rattle.std.specs.Prelude.{◌≡◌, ◌<◌, ◌++◌, ◌∷◌, [], ℕ, IfOk, OnOk};
+ghost use Rattle.std.specs.Prelude.{◌≡◌, ◌<◌, ◌++◌, ◌∷◌, [], ℕ, IfOk, OnOk, length};
 ghost use Rattle.store_theory.specs.Bindings.{KeepsMarks};
 ghost use Rattle.store_theory.specs.Stores.{IsGood, TrailMark};
 ghost use Rattle.term_store.specs.Room.{KeepsRoom};
@@ -119,7 +119,7 @@ impl Space<'_> {
 
     // Goes back to the last choice point, makes its next choice and visits what came of it. The
     // point stays where a choice was left, and goes where its tree is found to be irregular, since
-    // so is each tree that is grown from it.
+    // so is each tree that is grown from it. It is changed in its place: copies are dear here.
     fn try_next(
         &self,
         ledger: &mut Ledger,
@@ -127,53 +127,50 @@ impl Space<'_> {
         work: &mut Work,
         points: &mut Vec<Point>,
         left: &mut bool,
-        last: Point,
     ) -> Result<Visit, NoMemory>
-        requires { Holds self.now
-            (ExploringAt (the_moment store.old work.old (points.old.items ++ last ∷ []) ledger.old
-            left.old)) }
+        requires some { 0 < length points.old.items }
+        requires exploring { Holds self.now
+            (ExploringAt (the_moment store.old work.old points.old.items ledger.old left.old)) }
         ensures on { IfOk result (λ v. IfOn v (Leads self.now
-            (ExploringAt (the_moment store.old work.old (points.old.items ++ last ∷ []) ledger.old
-            left.old))
+            (ExploringAt (the_moment store.old work.old points.old.items ledger.old left.old))
             (ExploringAt (the_moment store.new work.new points.new.items ledger.new left.new)))) }
         ensures end { IfOk result (λ v. Leads self.now
-            (ExploringAt (the_moment store.old work.old (points.old.items ++ last ∷ []) ledger.old
-            left.old))
+            (ExploringAt (the_moment store.old work.old points.old.items ledger.old left.old))
             (EndedAt (the_moment store.new work.new points.new.items ledger.new left.new) v)) }
         ensures counted { Leads self.now
-            (ExploringAt (the_moment store.old work.old (points.old.items ++ last ∷ []) ledger.old
-            left.old))
+            (ExploringAt (the_moment store.old work.old points.old.items ledger.old left.old))
             (CountedAt (the_moment store.new work.new points.new.items ledger.new left.new)) }
         ensures budget { ledger.new.budget ≡ ledger.old.budget }
         ensures falls { IfOk result (λ v. IfOn v (
             work_left ledger.old.budget ledger.new.used points.new.items
-            < work_left ledger.old.budget ledger.old.used (points.old.items ++ last ∷ []))) }
+            < work_left ledger.old.budget ledger.old.used points.old.items)) }
         ensures above { OnOk result ((k : TrailMark) → IsGood k store.old.store
-            → AreAbove k (points.old.items ++ last ∷ []) → AreAbove k points.new.items) }
-        ensures moment { (k : TrailMark) → IsGood k store.old.store
-            → AreAbove k (points.old.items ++ last ∷ [])
+            → AreAbove k points.old.items → AreAbove k points.new.items) }
+        ensures moment { (k : TrailMark) → IsGood k store.old.store → AreAbove k points.old.items
             → KeepsMoment k store.old.store store.new.store }
         ensures room { KeepsRoom store.old store.new }
     {
-        last.return_to(store, &mut work.tree);
+        let below = points.len() - 1;
+        let point = &mut points[below];
+        point.return_to(store, &mut work.tree);
         if work.is_found_irregular(store)? {
+            points.truncate(below);
             lower(points, 0);
             return Ok(Visit::On);
         }
-        let mut point = last;
-        let choice = match self.next_choice(&work.tree, &mut point, *left)? {
+        let choice = match self.next_choice(&work.tree, point, *left)? {
             Some(choice) => choice,
             None => {
-                self.jump(store, work, points, last, *left)?;
+                let spent = *point;
+                points.truncate(below);
+                self.jump(store, work, points, spent, *left)?;
                 return Ok(Visit::On);
             }
         };
         work.look.count();
         let made = work.make(store, self.matrix, point.goal, choice)?;
-        let steps = point.steps;
-        let first = seen(&work.tree, steps);
+        let first = seen(&work.tree, point.steps);
         point.see(first);
-        points.push(point)?;
         if !made {
             return Ok(Visit::On);
         }
@@ -206,8 +203,8 @@ impl Space<'_> {
             → KeepsMoment k store.old.store store.new.store }
         ensures room { KeepsRoom store.old store.new }
     {
-        while let Some(point) = points.pop() {
-            match self.try_next(ledger, store, work, points, left, point)? {
+        while points.len() > 0 {
+            match self.try_next(ledger, store, work, points, left)? {
                 Visit::On => {}
                 Visit::Closed(tableau) => return Ok(Visit::Closed(tableau)),
                 Visit::Steps => return Ok(Visit::Steps),

@@ -6,8 +6,8 @@ use Rattle.connection_search.specs.Moments.{ExploringAt, Leads, the_moment}
 use Rattle.connection_search.specs.Weights.{work_left}
 use Rattle.connection_search.proofs.space.Space.explore.Given as goal
 
-abbrev pub invariant-loop-point : goal.invariant-loop-point
-invariant-loop-point l = record {
+abbrev pub invariant-loop-ledger : goal.invariant-loop-ledger
+invariant-loop-ledger l = record {
   exploring : Leads l.self (ExploringAt (the_moment l.initial.store l.initial.work l.initial.points.items l.initial.ledger l.initial.left)) (ExploringAt (the_moment l.store l.work l.points.items l.ledger l.left));
   budget : l.ledger.budget ≡ l.initial.ledger.budget;
   moment : (k : TrailMark) → IsGood k l.initial.store.store → AreAbove k l.initial.points.items → KeepsMoment k l.initial.store.store l.store.store;
@@ -15,5 +15,5 @@ invariant-loop-point l = record {
   room : KeepsRoom l.initial.store l.store;
 }
 
-abbrev pub decreases-loop-point : goal.decreases-loop-point
-decreases-loop-point l = work_left l.ledger.budget l.ledger.used l.points.items
+abbrev pub decreases-loop-ledger : goal.decreases-loop-ledger
+decreases-loop-ledger l = work_left l.ledger.budget l.ledger.used l.points.items
