@@ -1,6 +1,7 @@
 -- Looking ahead at the path limit: goals that no bindings close within it, and lists that are dropped where the limit is known to be left.
 use Rattle.std.proofs.Common.{◌≡◌, ◌≢◌, ◌⊎◌, ◌&&◌, ◌==◌, ◌+◌, ◌-◌, ◌<◌, ◌≤◌, ◌%◌, ◌^◌, ◌*◌, ℕ, zero, suc, Bool, List, [], ◌∷◌, ◌++◌, length, max, not, true, false, IsTrue, MatchOption, refl, sym, ◌∙◌, ap, subst, Option, Some, None, option_map, slice_get, remove, inl, inr, arith, append_assoc, bit_or, eq-eqb}
 use Rattle.std.specs.Int.{bit_at}
+use Rattle.std.specs.Bool.{⊤}
 use Rattle.std.specs.List.{AllByRecursion}
 use Rattle.std.proofs.lemmas.Bool.{and_parts, cases_eq, false≢true}
 use Rattle.std.proofs.lemmas.Option.{slice_get_within}
@@ -15,15 +16,19 @@ use Rattle.matrix_build.specs.MatrixView.{the_place}
 use Rattle.search_theory.specs.Ahead.{IsApart, IsHopelessAt, MarksPath, bit_of, by_args, by_sign, by_symbol}
 use Rattle.search_theory.specs.Exploring.{behind}
 use Rattle.search_theory.specs.Matrix.{MatrixClause, MatrixPlace, places}
-use Rattle.search_theory.specs.OrderedChoices.{extension_at, meets}
+use Rattle.search_theory.specs.OrderedChoices.{meets}
 use Rattle.search_theory.specs.States.{CellGoal, atom_is_below, goal_is_below}
 use Rattle.search_theory.specs.Steps.{Clash}
 use Rattle.search_theory.proofs.LookAheadLaws.{bit-alone, hopeless-dropped, unmarked-lacks}
+use Rattle.search_theory.proofs.BeginningLaws.{not-empty-behind, refused}
 use Rattle.search_theory.proofs.PruningLaws.{search-pruned}
+use Rattle.search_theory.proofs.SearchSteps.{search-dead}
+use Rattle.search_theory.specs.Searching.{IsSearch}
+use Rattle.calculus.specs.Space.{Member}
 use Rattle.store_theory.specs.Patterns.{PatternAtom, Template}
 use Rattle.store_theory.specs.Stores.{Store, names_below}
 use Rattle.store_theory.specs.Systems.{CellAtom}
-use Rattle.connection_search.specs.Ahead.{HasNoHope, IsHopelessMove, IsNextLeft}
+use Rattle.connection_search.specs.Ahead.{HasNoHope, IsHopelessMove, IsNextLeft, IsPassed}
 use Rattle.connection_search.specs.Exploring.{IsSearched}
 use Rattle.connection_search.specs.Points.{HasUntried, IsMoveAt, IsSamePoint, the_move}
 use Rattle.connection_search.specs.Pruning.{IsPruned}
@@ -34,6 +39,7 @@ use Rattle.connection_search.specs.declared.point.Move.TheVariants.{Reduce, Exte
 use Rattle.connection_search.specs.declared.point.Point.{Point}
 use Rattle.connection_search.specs.declared.tree.Goal.{Goal}
 use Rattle.connection_search.specs.declared.tree.Step.{Step}
+use Rattle.connection_search.proofs.MoveLaws.{goal-here}
 use Rattle.connection_search.proofs.PlaceLaws.{place-found, place-stands}
 use Rattle.connection_search.proofs.SeenLaws.{goal-wanted}
 use Rattle.connection_search.proofs.TreeLaws.{atom-found, same-item}
@@ -183,64 +189,51 @@ leftmost-open steps goals next goal (x ∷ xs) (i, g, is, at, goal_is, rest) e =
 
 -- ---- choices that are passed over
 
--- extensions without hope were passed over, and these choices are left
-pub record PassesTo (m : List MatrixClause) (d : ℕ) (steps : List Step) (goals : List Goal) (g : CellGoal) (untried : List Choice) (now : Point) : Type 0 where
+-- these choices were passed over, and those are left
+pub record PassesTo (P : Problem) (m : List MatrixClause) (d : ℕ) (c : List Choice) (steps : List Step) (goals : List Goal) (g : CellGoal) (untried : List Choice) (left : Bool) (now : Point) : Type 0 where
   pub passed : List Choice
-  pub hopeless : AllByRecursion (λ x. (p : MatrixPlace) × (x ≡ extension_at m p) × IsHopelessAt m p g) passed
+  pub each : AllByRecursion (IsPassed P m d c g left) passed
   pub rest : List Choice
   pub are : untried ≡ passed ++ rest
   pub has : HasUntried m d steps goals now g rest
 
-pub passes-first : (m : List MatrixClause) (d : ℕ) (steps : List Step) (goals : List Goal) (g : CellGoal) (untried : List Choice) (now : Point) → HasUntried m d steps goals now g untried → PassesTo m d steps goals g untried now
-passes-first m d steps goals g untried now h = record { passed = []; hopeless = tt; rest = untried; are = refl; has = h }
+pub passes-first : (P : Problem) (m : List MatrixClause) (d : ℕ) (c : List Choice) (steps : List Step) (goals : List Goal) (g : CellGoal) (untried : List Choice) (left : Bool) (now : Point) → HasUntried m d steps goals now g untried → PassesTo P m d c steps goals g untried left now
+passes-first P m d c steps goals g untried left now h = record { passed = []; each = tt; rest = untried; are = refl; has = h }
 
 all-with : {A : Type 0} (Q : A → Type 0) (xs : List A) (x : A) → AllByRecursion Q xs → Q x → AllByRecursion Q (xs ++ x ∷ [])
 all-with Q [] x h k = (k, tt)
 all-with Q (y ∷ xs) x h k = (h.0, all-with Q xs x h.1 k)
 
-pub passes-next : (m : List MatrixClause) (d : ℕ) (steps : List Step) (goals : List Goal) (g : CellGoal) (untried : List Choice) (now after : Point) (choice : Move) → (h : PassesTo m d steps goals g untried now) → (rest : List Choice) × (h.rest ≡ the_move m choice ∷ rest) × HasUntried m d steps goals after g rest → IsHopelessMove m g choice → PassesTo m d steps goals g untried after
-passes-next m d steps goals g untried now after (Reduce up ancestor) h n bad = absurd bad
-passes-next m d steps goals g untried now after (Extend place) h (rest, e, has) bad = record {
-  passed = h.passed ++ extension_at m (the_place place) ∷ [];
-  hopeless = all-with (λ x. (p : MatrixPlace) × (x ≡ extension_at m p) × IsHopelessAt m p g) h.passed (extension_at m (the_place place)) h.hopeless (the_place place, refl, bad);
+pub passes-next : (P : Problem) (m : List MatrixClause) (d : ℕ) (c : List Choice) (steps : List Step) (goals : List Goal) (g : CellGoal) (untried : List Choice) (left : Bool) (now after : Point) (choice : Move) → (h : PassesTo P m d c steps goals g untried left now) → (rest : List Choice) × (h.rest ≡ the_move m choice ∷ rest) × HasUntried m d steps goals after g rest → IsPassed P m d c g left (the_move m choice) → PassesTo P m d c steps goals g untried left after
+passes-next P m d c steps goals g untried left now after choice h (rest, e, has) why = record {
+  passed = h.passed ++ the_move m choice ∷ [];
+  each = all-with (IsPassed P m d c g left) h.passed (the_move m choice) h.each why;
   rest = rest;
-  are = h.are ∙ ap (λ xs. h.passed ++ xs) e ∙ sym (append_assoc h.passed (extension_at m (the_place place) ∷ []) rest);
+  are = h.are ∙ ap (λ xs. h.passed ++ xs) e ∙ sym (append_assoc h.passed (the_move m choice ∷ []) rest);
   has = has;
 }
 
--- no closed tableau begins with one of them
-passed-pruned : (P : Problem) (m : List MatrixClause) (base d : ℕ) (c : List Choice) (s : Store) (steps : List Step) (goals : List Goal) (goal : ℕ) (g : CellGoal) (passed : List Choice) → IsMatrixOf P m → IsAtGoal P m base d c s steps goals goal g → d ≤ length g.path + 1 → AllByRecursion (λ x. (p : MatrixPlace) × (x ≡ extension_at m p) × IsHopelessAt m p g) passed → AllByRecursion (λ x. IsPruned P d (c ++ x ∷ [])) passed
-passed-pruned P m base d c s steps goals goal g [] tm h near k = tt
-passed-pruned P m base d c s steps goals goal g (x ∷ passed) tm h near ((p, is, bad), k) = (
-  subst (λ z. IsPruned P d (c ++ z ∷ [])) (sym is) (hopeless-dropped P m d c s h.made g h.behind h.every h.depths p tm.matrix h.at.running.state near bad),
-  passed-pruned P m base d c s steps goals goal g passed tm h near k,
-)
-
 -- what comes next behind them
-pub passes-left : (P : Problem) (m : List MatrixClause) (base d : ℕ) (c : List Choice) (s : Store) (steps : List Step) (goals : List Goal) (goal : ℕ) (g : CellGoal) (untried : List Choice) (now after : Point) (o : Option Move) → IsMatrixOf P m → IsAtGoal P m base d c s steps goals goal g → d ≤ length g.path + 1 → (h : PassesTo m d steps goals g untried now) → MatchOption o (h.rest ≡ []) (λ x. IsMoveAt m d steps goals g x × ((rest : List Choice) × (h.rest ≡ the_move m x ∷ rest) × HasUntried m d steps goals after g rest)) → IsNextLeft P m d c steps goals after g untried true o
-passes-left P m base d c s steps goals goal g untried now after o tm at near h next = record {
-  passed = h.passed;
-  pruned = passed-pruned P m base d c s steps goals goal g h.passed tm at near h.hopeless;
-  hopeless = h.hopeless;
-  near = inr near;
-  known = inr refl;
-  next = by o next;
-}
+pub passes-left : (P : Problem) (m : List MatrixClause) (d : ℕ) (c : List Choice) (steps : List Step) (goals : List Goal) (g : CellGoal) (untried : List Choice) (left : Bool) (now after : Point) (o : Option Move) → (h : PassesTo P m d c steps goals g untried left now) → MatchOption o (h.rest ≡ []) (λ x. IsMoveAt m d steps goals g x × ((rest : List Choice) × (h.rest ≡ the_move m x ∷ rest) × HasUntried m d steps goals after g rest)) → IsNextLeft P m d c steps goals after g untried left o
+passes-left P m d c steps goals g untried left now after o h next = record { passed = h.passed; each = h.each; next = by o next }
   where
     by : (o : Option Move) → MatchOption o (h.rest ≡ []) (λ x. IsMoveAt m d steps goals g x × ((rest : List Choice) × (h.rest ≡ the_move m x ∷ rest) × HasUntried m d steps goals after g rest)) → MatchOption o (untried ≡ h.passed ++ []) (λ x. IsMoveAt m d steps goals g x × ((rest : List Choice) × (untried ≡ h.passed ++ the_move m x ∷ rest) × HasUntried m d steps goals after g rest))
     by None e = h.are ∙ ap (λ xs. h.passed ++ xs) e
     by (Some x) (move, (rest, e, has)) = (move, (rest, h.are ∙ ap (λ xs. h.passed ++ xs) e, has))
 
--- none was passed over
-pub next-left : (P : Problem) (m : List MatrixClause) (d : ℕ) (c : List Choice) (steps : List Step) (goals : List Goal) (after : Point) (g : CellGoal) (untried : List Choice) (left : Bool) (o : Option Move) → MatchOption o (untried ≡ []) (λ x. IsMoveAt m d steps goals g x × ((rest : List Choice) × (untried ≡ the_move m x ∷ rest) × HasUntried m d steps goals after g rest)) → IsNextLeft P m d c steps goals after g untried left o
-next-left P m d c steps goals after g untried left o next = record { passed = []; pruned = tt; hopeless = tt; near = inl refl; known = inl refl; next = by o next }
+-- by these marks the move is an extension without hope
+pub passed-by_marks : (P : Problem) (m : List MatrixClause) (d : ℕ) (c : List Choice) (g : CellGoal) (left : Bool) (choice : Move) (o : Option ℕ) (marks : ℕ) → o ≡ Some marks → MatchOption o ⊤ (λ marks. (left ≡ true) × (d ≤ length g.path + 1) × MarksPath marks (g.literal ∷ g.path)) → ((x : CellGoal) → MarksPath marks (x.literal ∷ x.path) → IsHopelessMove m x choice) → IsPassed P m d c g left (the_move m choice)
+passed-by_marks P m d c g left choice None marks e h bad = let z : None ≡ Some marks = e in absurd (cc z)
+passed-by_marks P m d c g left choice (Some n) marks e (known, near, marked) bad = by choice (bad g (subst (λ k. MarksPath k (g.literal ∷ g.path)) (let z : n ≡ marks = cc e in z) marked))
   where
-    by : (o : Option Move) → MatchOption o (untried ≡ []) (λ x. IsMoveAt m d steps goals g x × ((rest : List Choice) × (untried ≡ the_move m x ∷ rest) × HasUntried m d steps goals after g rest)) → MatchOption o (untried ≡ [] ++ []) (λ x. IsMoveAt m d steps goals g x × ((rest : List Choice) × (untried ≡ [] ++ the_move m x ∷ rest) × HasUntried m d steps goals after g rest))
-    by None e = e
-    by (Some x) h = h
+    by : (x : Move) → IsHopelessMove m g x → IsPassed P m d c g left (the_move m x)
+    by (Reduce up ancestor) none = absurd none
+    by (Extend place) none = inr (known, near, (the_place place, refl, none))
 
-pub known-left : (P : Problem) (m : List MatrixClause) (d : ℕ) (c : List Choice) (steps : List Step) (goals : List Goal) (after : Point) (g : CellGoal) (untried : List Choice) (left : Bool) (o : Option Move) → left ≡ true → IsNextLeft P m d c steps goals after g untried true o → IsNextLeft P m d c steps goals after g untried left o
-known-left P m d c steps goals after g untried left o e h = subst (λ l. IsNextLeft P m d c steps goals after g untried l o) (sym e) h
+-- the marks by which choices at the goal may be passed over, if any
+pub marks-here : (P : Problem) (m : List MatrixClause) (base d : ℕ) (c : List Choice) (s : Store) (steps : List Step) (goals : List Goal) (goal : ℕ) (g : CellGoal) (left : Bool) (o : Option ℕ) → IsAtGoal P m base d c s steps goals goal g → MatchOption o ⊤ (λ marks. (left ≡ true) × ((x : CellGoal) → IsGoalAt steps goals goal x → (d ≤ length x.path + 1) × MarksPath marks (x.literal ∷ x.path))) → MatchOption o ⊤ (λ marks. (left ≡ true) × (d ≤ length g.path + 1) × MarksPath marks (g.literal ∷ g.path))
+marks-here P m base d c s steps goals goal g left None at h = tt
+marks-here P m base d c s steps goals goal g left (Some marks) at (known, each) = let w = each g (goal-here P m base d c s steps goals goal g at) in (known, w.0, w.1)
 
 pub same-both : (p q r : Point) → IsSamePoint p q → IsSamePoint q r → IsSamePoint p r
 same-both p q r h k = record { mark = k.mark ∙ h.mark; steps = k.steps ∙ h.steps; goals = k.goals ∙ h.goals; goal = k.goal ∙ h.goal; depth = k.depth ∙ h.depth; lowest = k.lowest ∙ h.lowest }
@@ -253,18 +246,21 @@ less-le x y z l k = omega (arith, l, k)
 
 -- ---- the search without them
 
-dropped : (P : Problem) (d : ℕ) (c passed rest : List Choice) (later : List (List Choice)) (begun used : ℕ) → AllByRecursion (λ x. IsPruned P d (c ++ x ∷ [])) passed → IsSearched P d (behind c (passed ++ rest) ++ later) begun used true → IsSearched P d (behind c rest ++ later) begun used true
-dropped P d c [] rest later begun used k h = h
-dropped P d c (x ∷ passed) rest later begun used (none, k) h = dropped P d c passed rest later begun used k (record {
+-- one that is passed over goes from what is pending
+passed-first : (P : Problem) (m : List MatrixClause) (base d : ℕ) (c : List Choice) (s : Store) (steps : List Step) (goals : List Goal) (goal : ℕ) (g : CellGoal) (left : Bool) (x : Choice) (spent : List Member) (pending : List (List Choice)) → IsMatrixOf P m → IsAtGoal P m base d c s steps goals goal g → IsPassed P m d c g left x → IsSearch P d spent ((c ++ x ∷ []) ∷ pending) left → IsSearch P d spent pending left
+passed-first P m base d c s steps goals goal g left x spent pending tm at (inl none) h = search-dead P d spent (c ++ x ∷ []) pending left h (not-empty-behind c x) (refused none)
+passed-first P m base d c s steps goals goal g left x spent pending tm at (inr (known, near, (p, is, bad))) h =
+    subst (IsSearch P d spent pending) (sym known)
+    (search-pruned P d spent (c ++ x ∷ []) pending (subst (IsSearch P d spent ((c ++ x ∷ []) ∷ pending)) known h) (subst (λ z. IsPruned P d (c ++ z ∷ [])) (sym is) (hopeless-dropped P m d c s at.made g at.behind at.every at.depths p tm.matrix at.at.running.state near bad)))
+
+dropped : (P : Problem) (m : List MatrixClause) (base d : ℕ) (c : List Choice) (s : Store) (steps : List Step) (goals : List Goal) (goal : ℕ) (g : CellGoal) (left : Bool) (passed rest : List Choice) (later : List (List Choice)) (begun used : ℕ) → IsMatrixOf P m → IsAtGoal P m base d c s steps goals goal g → AllByRecursion (IsPassed P m d c g left) passed → IsSearched P d (behind c (passed ++ rest) ++ later) begun used left → IsSearched P d (behind c rest ++ later) begun used left
+dropped P m base d c s steps goals goal g left [] rest later begun used tm at k h = h
+dropped P m base d c s steps goals goal g left (x ∷ passed) rest later begun used tm at (why, k) h = dropped P m base d c s steps goals goal g left passed rest later begun used tm at k (record {
   spent = h.spent;
-  search = search-pruned P d h.spent (c ++ x ∷ []) (behind c (passed ++ rest) ++ later) h.search none;
+  search = passed-first P m base d c s steps goals goal g left x h.spent (behind c (passed ++ rest) ++ later) tm at why h.search;
   from = h.from;
   count = h.count;
 })
 
-pub passed-over : (P : Problem) (d : ℕ) (c passed rest untried : List Choice) (later : List (List Choice)) (begun used : ℕ) (left : Bool) → AllByRecursion (λ x. IsPruned P d (c ++ x ∷ [])) passed → (passed ≡ []) ⊎ (left ≡ true) → untried ≡ passed ++ rest → IsSearched P d (behind c untried ++ later) begun used left → IsSearched P d (behind c rest ++ later) begun used left
-passed-over P d c passed rest untried later begun used left k (inl none) e h = subst (λ xs. IsSearched P d (behind c xs ++ later) begun used left) (e ∙ ap (λ xs. xs ++ rest) none) h
-passed-over P d c passed rest untried later begun used left k (inr known) e h = by left known (subst (λ xs. IsSearched P d (behind c xs ++ later) begun used left) e h)
-  where
-    by : (l : Bool) → l ≡ true → IsSearched P d (behind c (passed ++ rest) ++ later) begun used l → IsSearched P d (behind c rest ++ later) begun used l
-    by l q h = subst (IsSearched P d (behind c rest ++ later) begun used) (sym q) (dropped P d c passed rest later begun used k (subst (IsSearched P d (behind c (passed ++ rest) ++ later) begun used) q h))
+pub passed-over : (P : Problem) (m : List MatrixClause) (base d : ℕ) (c : List Choice) (s : Store) (steps : List Step) (goals : List Goal) (goal : ℕ) (g : CellGoal) (left : Bool) (passed rest untried : List Choice) (later : List (List Choice)) (begun used : ℕ) → IsMatrixOf P m → IsAtGoal P m base d c s steps goals goal g → AllByRecursion (IsPassed P m d c g left) passed → untried ≡ passed ++ rest → IsSearched P d (behind c untried ++ later) begun used left → IsSearched P d (behind c rest ++ later) begun used left
+passed-over P m base d c s steps goals goal g left passed rest untried later begun used tm at k e h = dropped P m base d c s steps goals goal g left passed rest later begun used tm at k (subst (λ xs. IsSearched P d (behind c xs ++ later) begun used left) e h)

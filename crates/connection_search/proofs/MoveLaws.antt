@@ -271,7 +271,7 @@ at-extended P m base d c old met new steps after goals all goal place first g t 
     let i = clause_with m copied (inserted place (the_atom atom) copied.copy.literals) in
     let strings = strings-copied m copied t k.sorts_are in
     let state = subst (λ z. IsRunning P base d (c ++ extension sides place ∷ []) (extended_state new h.made g h.behind h.every h.depths (clause_with m copied (inserted place z copied.copy.literals)) place) (extended_system y g (clause_with m copied (inserted place z copied.copy.literals)) place z (string_cells t.sorts vs) copied.copy.gammas copied.copy.pis)) (sym is)
-        (running-extended P base d c old met new h.made g h.behind h.every h.depths sides t place vs label e.literal (the_clause copied.copy) y h.at.running e.deep k.template k.own e.signs e.symbols (subst (HeadMatched old met t place vs e.literal) ex head) rest well) in
+    (running-extended P base d c old met new h.made g h.behind h.every h.depths sides t place vs label e.literal (the_clause copied.copy) y h.at.running e.deep k.template k.own e.signs e.symbols (subst (HeadMatched old met t place vs e.literal) ex head) rest well) in
     let same = system m h.made g h.behind h.every h.depths h.at.tree ∙ ap (λ ss. extended_system y g i place (the_atom atom) ss copied.copy.gammas copied.copy.pis) strings in (
       h.made ++ extension i place ∷ [],
       extended g h.behind i place (record { open_goals = g ∷ h.behind; all_goals = h.every; depths = h.depths }),

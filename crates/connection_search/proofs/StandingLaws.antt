@@ -10,13 +10,14 @@ use Rattle.store_theory.specs.Systems.{CellAtom}
 use Rattle.search_theory.specs.Exploring.{behind}
 use Rattle.search_theory.specs.OrderedChoices.{choices_at, extension_at}
 use Rattle.search_theory.specs.Jumps.{AreSolvedBehind, ChoicePoint, StandsAtPoint}
-use Rattle.search_theory.specs.Ahead.{IsHopelessAt}
-use Rattle.search_theory.specs.Matrix.{MatrixClause, MatrixPlace}
+use Rattle.search_theory.specs.Matrix.{MatrixClause}
 use Rattle.search_theory.specs.States.{CellGoal, name_of}
-use Rattle.search_theory.proofs.BeginningLaws.{is_not_empty}
+use Rattle.search_theory.proofs.BeginningLaws.{is_not_empty, not-empty-behind}
 use Rattle.search_theory.proofs.JumpLaws.{LeadsNowhere, LeadsOn, cannot-solved, nowhere-passed, solved-cannot, new_point, solved-nothing, solved-on, solved-passed, solved-pushed, solved-refused, solved-seen, solved-started}
+use Rattle.search_theory.proofs.SolvedLaws.{refused-unsolved}
 use Rattle.search_theory.proofs.StepLaws.{Grows}
 use Rattle.term_store.specs.StoreView.{the_mark}
+use Rattle.connection_search.specs.Ahead.{IsPassed}
 use Rattle.connection_search.specs.Exploring.{ArePointsFrom, IsBefore, IsSpace, IsStack, choice_point, traced}
 use Rattle.connection_search.specs.GivenUp.{HasLost}
 use Rattle.connection_search.specs.Points.{IsHere, IsPoint}
@@ -266,21 +267,25 @@ nowhere-always : (P : Problem) (d n low : ℕ) (c : List Choice) (qs : List Choi
 nowhere-always P d n low c [] g h = tt
 nowhere-always P d n low c (q ∷ qs) g h = ((λ l b k. h.0 g.0.1 b k), nowhere-always P d n low c qs g.1 h.1)
 
--- extensions without hope go from what is pending on the point
-pub solved-hopeless : (P : Problem) (m : List MatrixClause) (base d : ℕ) (c : List Choice) (s : Store) (steps : List Step) (goals : List Goal) (goal : ℕ) (g : CellGoal) (p : Point) (passed rest : List Choice) (qs : List ChoicePoint) → IsMatrixOf P m → IsAtGoal P m base d c s steps goals goal g → d ≤ length g.path + 1 → AllByRecursion (λ x. (k : MatrixPlace) × (x ≡ extension_at m k) × IsHopelessAt m k g) passed → ((xs : List Choice) → AllByRecursion (StandsAtPoint P d) (choice_point p c xs ∷ qs) × AllByRecursion (HasGoals (length goals)) (choice_point p c xs ∷ qs)) → AreSolvedBehind P d no_goal [] (choice_point p c (passed ++ rest) ∷ qs) → AreSolvedBehind P d no_goal [] (choice_point p c rest ∷ qs)
-solved-hopeless P m base d c s steps goals goal g p [] rest qs tm at near bad all h = h
-solved-hopeless P m base d c s steps goals goal g p (x ∷ passed) rest qs tm at near ((k, is, hopeless), bad) all h =
-    let these = all (x ∷ (passed ++ rest)) in
+-- no list that closes the goal of a point begins with one that is passed over
+nowhere-passed_over : (P : Problem) (m : List MatrixClause) (base d : ℕ) (c : List Choice) (s : Store) (steps : List Step) (goals : List Goal) (goal : ℕ) (g : CellGoal) (left : Bool) (x : Choice) (qs : List ChoicePoint) → IsMatrixOf P m → IsAtGoal P m base d c s steps goals goal g → IsPassed P m d c g left x → AllByRecursion (StandsAtPoint P d) qs → AllByRecursion (HasGoals (length goals)) qs → AllByRecursion (LeadsNowhere P d no_goal (c ++ x ∷ [])) qs
+nowhere-passed_over P m base d c s steps goals goal g left x qs tm at (inl none) stand many = each qs
+  where
+    each : (rs : List ChoicePoint) → AllByRecursion (LeadsNowhere P d no_goal (c ++ x ∷ [])) rs
+    each [] = tt
+    each (r ∷ rs) = ((λ l b k. refused-unsolved P d r.list (c ++ x ∷ []) b (not-empty-behind c x) none k), each rs)
+nowhere-passed_over P m base d c s steps goals goal g left x qs tm at (inr (known, near, (k, is, hopeless))) stand many =
     let count : length at.every ≡ length goals = goals-length steps goals goals at.every at.at.tree.goals in
-    let nowhere = nowhere-passed P m d c s at.made g at.behind at.every at.depths k (choice_point p c (x ∷ (passed ++ rest)) ∷ qs) tm.matrix at.at.running.state near hopeless these.0 in
-    let always = nowhere-always P d (length at.every) no_goal (c ++ extension_at m k ∷ []) (choice_point p c (x ∷ (passed ++ rest)) ∷ qs) (subst (λ n. AllByRecursion (HasGoals n) (choice_point p c (x ∷ (passed ++ rest)) ∷ qs)) (sym count) these.1) nowhere in
-    solved-hopeless P m base d c s steps goals goal g p passed rest qs tm at near bad all
-    (solved-passed P d no_goal (choice_point p c (x ∷ (passed ++ rest))) (c ++ x ∷ []) (behind c (passed ++ rest)) qs refl (subst (λ z. AllByRecursion (LeadsNowhere P d no_goal (c ++ z ∷ [])) (choice_point p c (x ∷ (passed ++ rest)) ∷ qs)) (sym is) always) h)
+    subst (λ z. AllByRecursion (LeadsNowhere P d no_goal (c ++ z ∷ [])) qs) (sym is)
+    (nowhere-always P d (length at.every) no_goal (c ++ extension_at m k ∷ []) qs (subst (λ n. AllByRecursion (HasGoals n) qs) (sym count) many) (nowhere-passed P m d c s at.made g at.behind at.every at.depths k qs tm.matrix at.at.running.state near hopeless stand))
 
--- where none was passed over, nothing changes
-pub solved-near : (P : Problem) (m : List MatrixClause) (base d : ℕ) (c : List Choice) (s : Store) (steps : List Step) (goals : List Goal) (goal : ℕ) (g : CellGoal) (p : Point) (passed rest : List Choice) (qs : List ChoicePoint) → IsMatrixOf P m → IsAtGoal P m base d c s steps goals goal g → (passed ≡ []) ⊎ (d ≤ length g.path + 1) → AllByRecursion (λ x. (k : MatrixPlace) × (x ≡ extension_at m k) × IsHopelessAt m k g) passed → ((xs : List Choice) → AllByRecursion (StandsAtPoint P d) (choice_point p c xs ∷ qs) × AllByRecursion (HasGoals (length goals)) (choice_point p c xs ∷ qs)) → AreSolvedBehind P d no_goal [] (choice_point p c (passed ++ rest) ∷ qs) → AreSolvedBehind P d no_goal [] (choice_point p c rest ∷ qs)
-solved-near P m base d c s steps goals goal g p passed rest qs tm at (inl none) bad all h = subst (λ xs. AreSolvedBehind P d no_goal [] (choice_point p c (xs ++ rest) ∷ qs)) none h
-solved-near P m base d c s steps goals goal g p passed rest qs tm at (inr near) bad all h = solved-hopeless P m base d c s steps goals goal g p passed rest qs tm at near bad all h
+-- choices that are passed over go from what is pending on the point
+pub solved-passed_over : (P : Problem) (m : List MatrixClause) (base d : ℕ) (c : List Choice) (s : Store) (steps : List Step) (goals : List Goal) (goal : ℕ) (g : CellGoal) (left : Bool) (p : Point) (passed rest : List Choice) (qs : List ChoicePoint) → IsMatrixOf P m → IsAtGoal P m base d c s steps goals goal g → AllByRecursion (IsPassed P m d c g left) passed → ((xs : List Choice) → AllByRecursion (StandsAtPoint P d) (choice_point p c xs ∷ qs) × AllByRecursion (HasGoals (length goals)) (choice_point p c xs ∷ qs)) → AreSolvedBehind P d no_goal [] (choice_point p c (passed ++ rest) ∷ qs) → AreSolvedBehind P d no_goal [] (choice_point p c rest ∷ qs)
+solved-passed_over P m base d c s steps goals goal g left p [] rest qs tm at each all h = h
+solved-passed_over P m base d c s steps goals goal g left p (x ∷ passed) rest qs tm at (why, each) all h =
+    let these = all (x ∷ (passed ++ rest)) in
+    solved-passed_over P m base d c s steps goals goal g left p passed rest qs tm at each all
+    (solved-passed P d no_goal (choice_point p c (x ∷ (passed ++ rest))) (c ++ x ∷ []) (behind c (passed ++ rest)) qs refl (nowhere-passed_over P m base d c s steps goals goal g left x (choice_point p c (x ∷ (passed ++ rest)) ∷ qs) tm at why these.0 these.1) h)
 
 -- ---- how many choices were made
 

@@ -25,7 +25,7 @@ use Rattle.connection_search.specs.Seeing.{SeeMore, HasSeen, no_goal, seeing, se
 use Rattle.connection_search.specs.declared.tree.Tree.{Tree}
 use Rattle.search_theory.specs.Jumps.{AreSolvedBehind, ChoicePoint, StandsAtPoint}
 use Rattle.search_theory.proofs.JumpLaws.{solved-tried}
-use Rattle.connection_search.proofs.StandingLaws.{HasGoals, goals-all, last-of, length-take, points-goals, seen-made, set-last, solved-near, stack-cleared, stack-kept, stack-lost, stack-refused, stack-seeing, stands-all, stands-steps, traced-back}
+use Rattle.connection_search.proofs.StandingLaws.{HasGoals, goals-all, last-of, length-take, points-goals, seen-made, set-last, solved-passed_over, stack-cleared, stack-kept, stack-lost, stack-refused, stack-seeing, stands-all, stands-steps, traced-back}
 use Rattle.connection_search.specs.Points.{HasUntried, IsMoveAt, IsPoint, IsSamePoint, the_move}
 use Rattle.connection_search.specs.Running.{IsAtGoal, IsMatrixOf, StandsFor}
 use Rattle.connection_search.specs.Trees.{KeepsTree}
@@ -113,8 +113,8 @@ none-left P m base d s steps goals points p later begun used left tm h after n =
   at = h.at;
   before = h.before;
   rest = h.rest;
-  solved = solved-near P m base d h.choices s steps goals p.goal h.goal p n.passed [] (traced P m base d s steps goals points h.below h.rest) tm h.at n.near n.hopeless (points-all P m base d s steps goals p points later begun used left h) (subst (λ xs. AreSolvedBehind P d no_goal [] (choice_point p h.choices xs ∷ traced P m base d s steps goals points h.below h.rest)) n.next h.solved);
-  searched = passed-over P d h.choices n.passed [] h.untried (h.below ++ later) begun used left n.pruned n.known n.next h.searched;
+  solved = solved-passed_over P m base d h.choices s steps goals p.goal h.goal left p n.passed [] (traced P m base d s steps goals points h.below h.rest) tm h.at n.each (points-all P m base d s steps goals p points later begun used left h) (subst (λ xs. AreSolvedBehind P d no_goal [] (choice_point p h.choices xs ∷ traced P m base d s steps goals points h.below h.rest)) n.next h.solved);
+  searched = passed-over P m base d h.choices s steps goals p.goal h.goal left n.passed [] h.untried (h.below ++ later) begun used tm h.at n.each n.next h.searched;
 }
 
 -- the tree is that of a state whose leftmost open goal is the point's
@@ -170,7 +170,7 @@ next-tried P m base d s steps goals points p q later begun used left choice tm s
     let (move, (rest, e, has)) = n.next in
     let left_over : HasUntried m d (take p.steps steps) (take p.goals goals) q h.goal rest = untried-moved m d steps (take p.steps steps) goals (take p.goals goals) q h.goal rest h.whole_steps h.whole_goals has in
     let qs = traced P m base d s steps goals points h.below h.rest in
-    let solved = solved-near P m base d h.choices s steps goals p.goal h.goal p n.passed (the_move m choice ∷ rest) qs tm h.at n.near n.hopeless (points-all P m base d s steps goals p points later begun used left h) (subst (λ xs. AreSolvedBehind P d no_goal [] (choice_point p h.choices xs ∷ qs)) e h.solved) in
+    let solved = solved-passed_over P m base d h.choices s steps goals p.goal h.goal left p n.passed (the_move m choice ∷ rest) qs tm h.at n.each (points-all P m base d s steps goals p points later begun used left h) (subst (λ xs. AreSolvedBehind P d no_goal [] (choice_point p h.choices xs ∷ qs)) e h.solved) in
     record {
       choices = h.choices;
       at_goal = h.goal;
@@ -181,19 +181,19 @@ next-tried P m base d s steps goals points p q later begun used left choice tm s
         are = (h.choices, rest, h.goal, h.below, refl, point-next P m base d s steps goals p q h.choices h.untried rest h.goal h.point same left_over, before-same p q points same h.before, h.rest);
         solved = subst (λ (x : ChoicePoint). AreSolvedBehind P d no_goal ((h.choices ++ the_move m choice ∷ []) ∷ []) (x ∷ qs)) (same-choice_point p q h.choices rest same) (solved-tried P d no_goal (choice_point p h.choices (the_move m choice ∷ rest)) (h.choices ++ the_move m choice ∷ []) (behind h.choices rest) qs refl solved);
       };
-      searched = subst (λ xs. IsSearched P d xs begun used left) (ap (λ xs. (h.choices ++ the_move m choice ∷ []) ∷ xs) (sym (append_assoc (behind h.choices rest) h.below later))) (passed-over P d h.choices n.passed (the_move m choice ∷ rest) h.untried (h.below ++ later) begun used left n.pruned n.known e h.searched);
+      searched = subst (λ xs. IsSearched P d xs begun used left) (ap (λ xs. (h.choices ++ the_move m choice ∷ []) ∷ xs) (sym (append_assoc (behind h.choices rest) h.below later))) (passed-over P m base d h.choices s steps goals p.goal h.goal left n.passed (the_move m choice ∷ rest) h.untried (h.below ++ later) begun used tm h.at n.each e h.searched);
     }
 
 -- what comes next at the point
-abbrev pub NextAt : List MatrixClause → ℕ → Problem → List Step → List Goal → Point → Point → Bool → Option Move → Type 0
-NextAt m d P steps goals p q left o = (base : ℕ) (c : List Choice) (s : Store) (g : CellGoal) (untried : List Choice) → IsMatrixOf P m → IsAtGoal P m base d c s steps goals p.goal g → HasUntried m d steps goals p g untried → IsNextLeft P m d c steps goals q g untried left o
+abbrev pub NextAt : List MatrixClause → ℕ → Problem → Store → List Step → List Goal → Point → Point → Bool → Option Move → Type 0
+NextAt m d P s steps goals p q left o = (base : ℕ) (c : List Choice) (g : CellGoal) (untried : List Choice) → IsMatrixOf P m → IsAtGoal P m base d c s steps goals p.goal g → HasUntried m d steps goals p g untried → IsNextLeft P m d c steps goals q g untried left o
 
 -- the same from the points before
-pub tried-at : (P : Problem) (m : List MatrixClause) (base d : ℕ) (s t : Store) (steps after : List Step) (goals all : List Goal) (points : List Point) (p q : Point) (later : List (List Choice)) (begun used : ℕ) (left : Bool) (o : Option Move) (choice : Move) → t ≡ cut_at (the_mark p.mark) s → after ≡ take p.steps steps → all ≡ take p.goals goals → IsSamePoint p q → IsMatrixOf P m → NextAt m d P after all p q left o → o ≡ Some choice → IsExploring P m base d s steps goals (points ++ p ∷ []) later begun used left → IsTrying P m base d t after all (q ∷ reverse points) later begun used left q.goal choice
+pub tried-at : (P : Problem) (m : List MatrixClause) (base d : ℕ) (s t : Store) (steps after : List Step) (goals all : List Goal) (points : List Point) (p q : Point) (later : List (List Choice)) (begun used : ℕ) (left : Bool) (o : Option Move) (choice : Move) → t ≡ cut_at (the_mark p.mark) s → after ≡ take p.steps steps → all ≡ take p.goals goals → IsSamePoint p q → IsMatrixOf P m → NextAt m d P t after all p q left o → o ≡ Some choice → IsExploring P m base d s steps goals (points ++ p ∷ []) later begun used left → IsTrying P m base d t after all (q ∷ reverse points) later begun used left q.goal choice
 tried-at P m base d s t steps after goals all points p q later begun used left o choice es ea eb same tm next some h =
     let b = back-at P m base d s t steps after goals all points p later begun used left h es ea eb in
     next-tried P m base d t after all (reverse points) p q later begun used left choice tm same b
-    (subst (IsNextLeft P m d b.choices after all q b.goal b.untried left) some (next base b.choices t b.goal b.untried tm b.at b.has))
+    (subst (IsNextLeft P m d b.choices after all q b.goal b.untried left) some (next base b.choices b.goal b.untried tm b.at b.has))
 
 -- no choice is left at the point, as it is now
 pub spent-same : (P : Problem) (m : List MatrixClause) (base d : ℕ) (s : Store) (steps : List Step) (goals : List Goal) (p q : Point) (points : List Point) (later : List (List Choice)) (begun used : ℕ) (left : Bool) → IsSamePoint p q → IsSpentAt P m base d s steps goals p points later begun used left → IsSpentAt P m base d s steps goals q points later begun used left
@@ -208,11 +208,11 @@ spent-same P m base d s steps goals p q points later begun used left same h = re
   searched = h.searched;
 }
 
-pub none-at : (P : Problem) (m : List MatrixClause) (base d : ℕ) (s t : Store) (steps after : List Step) (goals all : List Goal) (points : List Point) (p q : Point) (later : List (List Choice)) (begun used : ℕ) (left : Bool) (o : Option Move) → t ≡ cut_at (the_mark p.mark) s → after ≡ take p.steps steps → all ≡ take p.goals goals → IsSamePoint p q → IsMatrixOf P m → NextAt m d P after all p q left o → o ≡ None → IsExploring P m base d s steps goals (points ++ p ∷ []) later begun used left → IsSpentAt P m base d t after all q (reverse points) later begun used left
+pub none-at : (P : Problem) (m : List MatrixClause) (base d : ℕ) (s t : Store) (steps after : List Step) (goals all : List Goal) (points : List Point) (p q : Point) (later : List (List Choice)) (begun used : ℕ) (left : Bool) (o : Option Move) → t ≡ cut_at (the_mark p.mark) s → after ≡ take p.steps steps → all ≡ take p.goals goals → IsSamePoint p q → IsMatrixOf P m → NextAt m d P t after all p q left o → o ≡ None → IsExploring P m base d s steps goals (points ++ p ∷ []) later begun used left → IsSpentAt P m base d t after all q (reverse points) later begun used left
 none-at P m base d s t steps after goals all points p q later begun used left o es ea eb same tm next none h =
     let b = back-at P m base d s t steps after goals all points p later begun used left h es ea eb in
     spent-same P m base d t after all p q (reverse points) later begun used left same
-    (none-left P m base d t after all (reverse points) p later begun used left tm b q (subst (IsNextLeft P m d b.choices after all q b.goal b.untried left) none (next base b.choices t b.goal b.untried tm b.at b.has)))
+    (none-left P m base d t after all (reverse points) p later begun used left tm b q (subst (IsNextLeft P m d b.choices after all q b.goal b.untried left) none (next base b.choices b.goal b.untried tm b.at b.has)))
 
 -- the tree is irregular
 pub dead-at : (P : Problem) (m : List MatrixClause) (base d : ℕ) (s t : Store) (steps after now : List Step) (goals all these : List Goal) (first : Option ℕ) (points others : List Point) (p : Point) (later : List (List Choice)) (begun used : ℕ) (left : Bool) → t ≡ cut_at (the_mark p.mark) s → after ≡ take p.steps steps → all ≡ take p.goals goals → first ≡ Some p.goal → now ≡ after → these ≡ all → SeeMore 0 points others → ((P : Problem) (m : List MatrixClause) (base d : ℕ) (c : List Choice) → StandsFor P m base d c t after all first → IsDead P c) → IsExploring P m base d s steps goals (points ++ p ∷ []) later begun used left → IsExploring P m base d t now these others later begun used left

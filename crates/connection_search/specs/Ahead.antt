@@ -1,10 +1,11 @@
--- Looking ahead at the path limit: goals that no bindings close within it, and choices that give such a goal.
+-- Looking ahead: goals that no bindings close within the path limit, and choices that are passed over.
 use Rattle.std.specs.Prelude.{◌≡◌, ◌⊎◌, ◌+◌, ◌≤◌, ℕ, List, [], ◌∷◌, ◌++◌, length, Bool, true, Option, MatchOption}
 use Rattle.std.specs.List.{AllByRecursion}
 use Rattle.calculus.specs.Choices.{Choice}
 use Rattle.calculus.specs.Kinds.{other}
 use Rattle.calculus.specs.Syntax.{Problem}
 use Rattle.matrix_build.specs.MatrixView.{the_place}
+use Rattle.search_theory.proofs.StepLaws.{Grows}
 use Rattle.search_theory.specs.Ahead.{HasNoReduction, IsHopelessAt}
 use Rattle.search_theory.specs.Exploring.{IsIn}
 use Rattle.search_theory.specs.Matrix.{MatrixClause, MatrixPlace, places}
@@ -12,7 +13,6 @@ use Rattle.search_theory.specs.OrderedChoices.{extension_at}
 use Rattle.search_theory.specs.States.{CellGoal}
 use Rattle.store_theory.specs.Stores.{Store}
 use Rattle.connection_search.specs.Points.{HasUntried, IsMoveAt, the_move}
-use Rattle.connection_search.specs.Pruning.{IsPruned}
 use Rattle.connection_search.specs.declared.point.Move.{Move}
 use Rattle.connection_search.specs.declared.point.Move.TheVariants.{Reduce, Extend}
 use Rattle.connection_search.specs.declared.point.Point.{Point}
@@ -33,12 +33,13 @@ abbrev pub IsHopelessMove : List MatrixClause → CellGoal → Move → Type 0
 IsHopelessMove m g (Reduce up ancestor) = ⊥
 IsHopelessMove m g (Extend place) = IsHopelessAt m (the_place place) g
 
--- what comes next at a point behind choices that were passed over: no tableau that is closed within d begins with one of them, and any
--- were passed over only where it is known that the limit is left
+-- why the choice x at the goal g of the list c is passed over: no tree follows it, or it is such an extension of a path that has room for one
+-- at most within d, and it is known that the limit is left
+abbrev pub IsPassed : Problem → List MatrixClause → ℕ → List Choice → CellGoal → Bool → Choice → Type 0
+IsPassed P m d c g left x = (¬ Grows P (c ++ x ∷ [])) ⊎ ((left ≡ true) × (d ≤ length g.path + 1) × ((p : MatrixPlace) × (x ≡ extension_at m p) × IsHopelessAt m p g))
+
+-- what comes next at a point behind choices that are passed over
 pub record IsNextLeft (P : Problem) (m : List MatrixClause) (d : ℕ) (c : List Choice) (steps : List Step) (goals : List Goal) (after : Point) (g : CellGoal) (untried : List Choice) (left : Bool) (o : Option Move) : Type 0 where
   pub passed : List Choice
-  pub pruned : AllByRecursion (λ x. IsPruned P d (c ++ x ∷ [])) passed
-  pub hopeless : AllByRecursion (λ x. (p : MatrixPlace) × (x ≡ extension_at m p) × IsHopelessAt m p g) passed
-  pub near : (passed ≡ []) ⊎ (d ≤ length g.path + 1)
-  pub known : (passed ≡ []) ⊎ (left ≡ true)
+  pub each : AllByRecursion (IsPassed P m d c g left) passed
   pub next : MatchOption o (untried ≡ passed ++ []) (λ x. IsMoveAt m d steps goals g x × ((rest : List Choice) × (untried ≡ passed ++ the_move m x ∷ rest) × HasUntried m d steps goals after g rest))

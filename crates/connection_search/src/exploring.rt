@@ -158,7 +158,7 @@ impl Space<'_> {
             lower(points, 0);
             return Ok(Visit::On);
         }
-        let choice = match self.next_choice(&work.tree, point, *left)? {
+        let choice = match self.next_choice(store, &work.tree, point, *left)? {
             Some(choice) => choice,
             None => {
                 let spent = *point;

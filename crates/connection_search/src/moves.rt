@@ -20,7 +20,6 @@ ghost use Rattle.connection_search.specs.Running.{ReducesBy, TreeStands, TreeSta
 ghost use Rattle.connection_search.specs.Trees.{KeepsTree};
 
 use crate::atoms::{met_atom, unify_all};
-use crate::heads::has_clash;
 use crate::jumping::Look;
 use crate::occurrences::Occurrences;
 use crate::point::Move;
@@ -182,9 +181,6 @@ impl Work {
         let at = place.literal as usize;
         let signed = self.tree.atom(goal);
         let literal = &template.literals.items()[at];
-        if has_clash(store, signed, literal) {
-            return Ok(false);
-        }
         let cells = store.size() - store.spare();
         let variables = store.new_variables(&template.sorts)?;
         let terms = signed.args.items();

@@ -15,16 +15,13 @@ use Rattle.connection_search.specs.MetAtom.{met_atom}
 use Rattle.connection_search.specs.Running.{StandsDeep, StandsFor}
 use Rattle.connection_search.specs.declared.tree.Tree.{Tree}
 use Rattle.connection_search.proofs.KeptLaws.{variables-valued}
-use Rattle.connection_search.proofs.MoveLaws.{at-extended, clause-for, extended-deep, extension-cannot, extension-clashes, goal-sorted, goal-terms, goal-within, head-fits, head-kept, head-matched_by, literal-found, literal-within, place-clause, place_of, rest-copied, sorts-matched}
+use Rattle.connection_search.proofs.MoveLaws.{at-extended, clause-for, extended-deep, extension-cannot, goal-sorted, goal-terms, goal-within, head-fits, head-kept, head-matched_by, literal-found, literal-within, place-clause, place_of, rest-copied, sorts-matched}
 use Rattle.connection_search.proofs.CopiedBelow.{closed-copied}
 use Rattle.connection_search.proofs.GivenUpLaws.{given-up}
 use Rattle.connection_search.proofs.TreeLaws.{same-item}
 use Rattle.search_theory.proofs.BeginningLaws.{refused}
 use Rattle.connection_search.proofs.RunningLaws.{HeadMatched, RestCopied, others-room}
 use Rattle.connection_search.proofs.moves.Work.extend.Goals as goal
-
-pub returns-then-has_clash-clause-refused : goal.returns-then-has_clash-clause-refused
-returns-then-has_clash-clause-refused c = λ f P base d p g cm h e. refused (extension-clashes P c.args.matrix.now base d p c.args.store.now.store c.args.self.now.tree.steps.items c.args.self.now.tree.goals.items c.args.goal c.args.place.clause.0 c.args.place.literal g (the_template c.template-template.result.now) (the_pattern_atom c.index-items-at.result) (the_atom c.atom-signed.result.now) h (clause-for P c.args.matrix.now c.args.place.clause.0 (the_template c.template-template.result.now) cm (place-clause c.args.matrix.now d g (place_of c.args.place.clause.0 c.args.place.literal) e) c.template-template.ensures) (literal-there the_pattern_atom c.items.result.now c.template-template.result.now.literals c.args.place.literal c.index-items-at.result c.items.ensures (literal-within c.args.matrix.now d g (place_of c.args.place.clause.0 c.args.place.literal) (the_template c.template-template.result.now) e c.template-template.ensures) c.index-items-at.is) c.atom-signed.ensures (c.has_clash.ensures c.if-has_clash.true))
 
 pub match_all-requires-clause-sorted : goal.match_all-requires-clause-sorted
 match_all-requires-clause-sorted c = head-kept c.args.store.now.store c.new_variables.new.self.store (the_template c.template-template.result.now) (map the_place c.items-terms.result.now) c.in_ok-variables.ensures.ok (goal-sorted c.requires.0 c.args.matrix.now c.requires.1 c.requires.2 c.requires.3 c.args.store.now.store c.args.self.now.tree.steps.items c.args.self.now.tree.goals.items c.args.goal c.requires.4 (map the_place c.items-terms.result.now) c.requires.6 (goal-terms c.requires.0 c.args.matrix.now c.requires.1 c.requires.2 c.requires.3 c.args.store.now.store c.args.self.now.tree.steps.items c.args.self.now.tree.goals.items c.args.goal c.requires.4 (the_atom c.atom-signed.result.now) (map the_place c.items-terms.result.now) c.requires.6 c.atom-signed.ensures c.items-terms.ensures))
@@ -79,9 +76,6 @@ returns-clause-deep c = λ t P base d p g cm h e. subst (λ (z : Tree). StandsDe
 
 pub returns-clause-refused : goal.returns-clause-refused
 returns-clause-refused c = λ f P base d p g cm h e. c.in_ok-regular.ensures.repeated f P c.args.matrix.now base d (p ++ extension_at c.args.matrix.now (place_of c.args.place.clause.0 c.args.place.literal) ∷ []) (at-extended P c.args.matrix.now base d p c.args.store.now.store c.match_all.new.store.store c.copy_rest.new.self.store c.args.self.now.tree.steps.items c.extend.new.self.steps.items c.args.self.now.tree.goals.items c.extend.new.self.goals.items c.args.goal c.args.place.literal c.extend.new.self.open g (the_template c.template-template.result.now) (record { clause = c.args.place.clause; copy = c.in_ok-copy.copy }) c.in_ok-atom.atom (map the_place c.items-terms.result.now) c.in_ok-label.label h e (clause-for P c.args.matrix.now c.args.place.clause.0 (the_template c.template-template.result.now) cm (place-clause c.args.matrix.now d g (place_of c.args.place.clause.0 c.args.place.literal) e) c.template-template.ensures) (subst (λ v. HeadMatched c.args.store.now.store c.match_all.new.store.store (the_template c.template-template.result.now) c.args.place.literal (the_places v) e.literal (map the_place c.items-terms.result.now)) (sym c.in_ok-copy.ensures.variables) (head-matched_by c.args.store.now.store c.new_variables.new.self.store c.match_all.new.store.store (the_template c.template-template.result.now) c.args.place.literal (the_places c.in_ok-variables.variables) (map the_place c.items-terms.result.now) (the_pattern_atom c.index-items-at.result) e.literal c.in_ok-variables.ensures.ok (literal-there the_pattern_atom c.items.result.now c.template-template.result.now.literals c.args.place.literal c.index-items-at.result c.items.ensures (literal-within c.args.matrix.now d g (place_of c.args.place.clause.0 c.args.place.literal) (the_template c.template-template.result.now) e c.template-template.ensures) c.index-items-at.is) (literal-found c.args.matrix.now d g (place_of c.args.place.clause.0 c.args.place.literal) (the_template c.template-template.result.now) e c.template-template.ensures) c.in_ok-variables.ensures.places (c.in_ok-match_all.ensures.met c.if-not-branch.false) c.match_all.ensures.cells c.match_all.ensures.names (c.in_ok-match_all.ensures.within c.if-not-branch.false))) (goal-terms P c.args.matrix.now base d p c.args.store.now.store c.args.self.now.tree.steps.items c.args.self.now.tree.goals.items c.args.goal g (the_atom c.atom-signed.result.now) (map the_place c.items-terms.result.now) h c.atom-signed.ensures c.items-terms.ensures) (c.in_ok-atom.ensures ∙ ap (λ q. met_atom q (map the_place c.items-terms.result.now) c.in_ok-label.label) (same-item (slice_get c.template-template.result.now.literals c.args.place.literal) (the_pattern_atom c.index-items-at.result) e.literal (literal-there the_pattern_atom c.items.result.now c.template-template.result.now.literals c.args.place.literal c.index-items-at.result c.items.ensures (literal-within c.args.matrix.now d g (place_of c.args.place.clause.0 c.args.place.literal) (the_template c.template-template.result.now) e c.template-template.ensures) c.index-items-at.is) (literal-found c.args.matrix.now d g (place_of c.args.place.clause.0 c.args.place.literal) (the_template c.template-template.result.now) e c.template-template.ensures))) (subst (λ v. RestCopied c.match_all.new.store.store c.copy_rest.new.self.store (the_template c.template-template.result.now) c.args.place.literal (the_places v) e.literal c.in_ok-label.label (the_clause c.in_ok-copy.copy)) (sym c.in_ok-copy.ensures.variables) (rest-copied c.match_all.new.store.store c.copy_label.new.self.store c.copy_rest.new.self.store (the_template c.template-template.result.now) c.args.place.literal (the_places c.in_ok-variables.variables) c.in_ok-label.label e.literal (the_clause c.in_ok-copy.copy) (literal-found c.args.matrix.now d g (place_of c.args.place.clause.0 c.args.place.literal) (the_template c.template-template.result.now) e c.template-template.ensures) c.in_ok-label.ensures.copy c.in_ok-label.ensures.sorts c.in_ok-label.ensures.own c.in_ok-label.ensures.adds c.in_ok-label.ensures.within c.in_ok-copy.ensures.copy c.in_ok-copy.ensures.sorts c.in_ok-copy.ensures.own c.in_ok-copy.ensures.adds c.in_ok-copy.ensures.within)) c.mark-after.ensures.well c.in_ok-extend.ensures.tree c.in_ok-extend.ensures.system)
-
-pub returns-then-has_clash-clause-given_up : goal.returns-then-has_clash-clause-given_up
-returns-then-has_clash-clause-given_up c = λ f P base d p g cm h e. inl (extension-clashes P c.args.matrix.now base d p c.args.store.now.store c.args.self.now.tree.steps.items c.args.self.now.tree.goals.items c.args.goal c.args.place.clause.0 c.args.place.literal g (the_template c.template-template.result.now) (the_pattern_atom c.index-items-at.result) (the_atom c.atom-signed.result.now) h (clause-for P c.args.matrix.now c.args.place.clause.0 (the_template c.template-template.result.now) cm (place-clause c.args.matrix.now d g (place_of c.args.place.clause.0 c.args.place.literal) e) c.template-template.ensures) (literal-there the_pattern_atom c.items.result.now c.template-template.result.now.literals c.args.place.literal c.index-items-at.result c.items.ensures (literal-within c.args.matrix.now d g (place_of c.args.place.clause.0 c.args.place.literal) (the_template c.template-template.result.now) e c.template-template.ensures) c.index-items-at.is) c.atom-signed.ensures (c.has_clash.ensures c.if-has_clash.true))
 
 pub returns-then-not-branch-clause-given_up : goal.returns-then-not-branch-clause-given_up
 returns-then-not-branch-clause-given_up c = λ f P base d p g cm h e. inl (extension-cannot P c.args.matrix.now base d p c.args.store.now.store c.args.self.now.tree.steps.items c.args.self.now.tree.goals.items c.args.goal c.args.place.clause.0 c.args.place.literal g (the_template c.template-template.result.now) (the_pattern_atom c.index-items-at.result) (the_places c.in_ok-variables.variables) (map the_place c.items-terms.result.now) h (clause-for P c.args.matrix.now c.args.place.clause.0 (the_template c.template-template.result.now) cm (place-clause c.args.matrix.now d g (place_of c.args.place.clause.0 c.args.place.literal) e) c.template-template.ensures) (literal-there the_pattern_atom c.items.result.now c.template-template.result.now.literals c.args.place.literal c.index-items-at.result c.items.ensures (literal-within c.args.matrix.now d g (place_of c.args.place.clause.0 c.args.place.literal) (the_template c.template-template.result.now) e c.template-template.ensures) c.index-items-at.is) c.in_ok-variables.ensures.places (goal-terms P c.args.matrix.now base d p c.args.store.now.store c.args.self.now.tree.steps.items c.args.self.now.tree.goals.items c.args.goal g (the_atom c.atom-signed.result.now) (map the_place c.items-terms.result.now) h c.atom-signed.ensures c.items-terms.ensures) (subst (HoldsNowhere (λ σ. (length (map the_place c.items-terms.result.now) ≡ length c.index-items-at.result.args) × MatchTo (the_places c.in_ok-variables.variables) (map the_place c.items-terms.result.now) c.index-items-at.result.args (length c.index-items-at.result.args) σ)) c.in_ok-variables.ensures.ok (c.in_ok-match_all.ensures.apart c.if-not-branch.true)))

@@ -6,7 +6,6 @@ use Rattle.connection_search.specs.Weights.{work_left}
 use Rattle.connection_search.specs.declared.point.Point.{Point}
 use Rattle.connection_search.specs.declared.tree.Tree.{Tree}
 use Rattle.connection_search.proofs.GoingBackLaws.{last-read}
-use Rattle.connection_search.proofs.MoveLaws.{goal-here}
 use Rattle.connection_search.proofs.StackedLaws.{above-marked, above-rest, moment-back, moment-both, moment-kept}
 use Rattle.connection_search.proofs.TryingLaws.{above-seen, back-at, cut-end, dead-at, exploring-at, fewer-falls, if_on, is-pushed, last-good, lighter-seen, lighter-some, next-falls, none-at, room-both, seen-weight, set-end, stands-back, steps-here, tried-at, trying-made, trying-refused, visit-falls}
 use Rattle.connection_search.proofs.SpentLaws.{counted}
@@ -90,7 +89,7 @@ next_choice-requires c =
     let (base, later, begun, space, given) = c.requires.exploring in
     let e = exploring-at c.args.self.now.problem.now c.args.self.now.matrix.now base c.args.self.now.limit c.args.store.now.store c.args.work.now.tree.steps.items c.args.work.now.tree.goals.items c.args.points.now.items ((take (c.len-below.result - 1) c.args.points.now.items) ++ c.index_mut-point.result.now ∷ []) later begun c.args.ledger.now.used c.args.left.now ends given in
     let b = back-at c.args.self.now.problem.now c.args.self.now.matrix.now base c.args.self.now.limit c.args.store.now.store c.return_to.new.store.store c.args.work.now.tree.steps.items c.is_found_irregular.new.self.tree.steps.items c.args.work.now.tree.goals.items c.is_found_irregular.new.self.tree.goals.items (take (c.len-below.result - 1) c.args.points.now.items) c.index_mut-point.result.now later begun c.args.ledger.now.used c.args.left.now e c.return_to.ensures.store (ap (λ (t : Tree). t.steps.items) c.is_found_irregular.ensures.tree ∙ c.return_to.ensures.steps) (ap (λ (t : Tree). t.goals.items) c.is_found_irregular.ensures.tree ∙ c.return_to.ensures.goals) in
-    (b.goal, b.untried, goal-here c.args.self.now.problem.now c.args.self.now.matrix.now base c.args.self.now.limit b.choices c.return_to.new.store.store c.is_found_irregular.new.self.tree.steps.items c.is_found_irregular.new.self.tree.goals.items c.index_mut-point.result.now.goal b.goal b.at, b.has)
+    (c.args.self.now.problem.now, base, b.choices, b.goal, b.untried, space.matrix, b.at, b.has)
 
 pub returns-in_err-choice-clause-counted : goal.returns-in_err-choice-clause-counted
 returns-in_err-choice-clause-counted c =
