@@ -1,5 +1,5 @@
 -- What copies are made of.
-use Rattle.std.specs.Prelude.{◌≡◌, ℕ, List, ◌++◌, length, Bool, true, false, IsTrue}
+use Rattle.std.specs.Prelude.{◌≡◌, ℕ, List, ◌++◌, Bool, true, false, IsTrue}
 use Rattle.std.specs.List.{list_all}
 use Rattle.store_theory.specs.Bindings.{NamesOver}
 use Rattle.store_theory.specs.Patterns as tree

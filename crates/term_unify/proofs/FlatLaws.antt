@@ -6,8 +6,8 @@ use Rattle.calculus.specs.declared.sort.Sort.{Sort}
 use Rattle.calculus.specs.declared.sort.Sort.TheVariants.{TermSort, MarkSort, StringSort}
 use Rattle.store_theory.specs.Bindings.{EndsIn, IsEnd, NamesFrom}
 use Rattle.store_theory.specs.Patterns.{Grows}
-use Rattle.store_theory.specs.Stores.{Cell, Store, fun_cell, eigen_cell, new_cell, string_cell, variable, parts_of, is_bound, sort_of, has_sort_at, is_store, OccursIn, here, in_part, EndsAt, stays, goes_on, Solution, Solves, join_label, label_at}
-use Rattle.store_theory.specs.Systems.{has_label_sort_at, is_label, IsOpenString}
+use Rattle.store_theory.specs.Stores.{Cell, Store, fun_cell, eigen_cell, new_cell, string_cell, variable, parts_of, is_bound, sort_of, has_sort_at, is_store, OccursIn, here, in_part, EndsAt, stays, goes_on, join_label, label_at}
+use Rattle.store_theory.specs.Systems.{has_label_sort_at, is_label}
 use Rattle.store_theory.proofs.BindingLaws.{has_sort-from, kept, parts-within, sorted_cell}
 use Rattle.store_theory.proofs.PatternLaws.{grown-cell}
 use Rattle.calculus.proofs.PlaceLists.{all-at, get-there}
@@ -17,8 +17,7 @@ use Rattle.term_store.specs.declared.cell.Head.{Head}
 use Rattle.term_store.specs.declared.cell.Ref.{Ref}
 use Rattle.term_store.specs.declared.cell.Head.TheVariants.{Open}
 use Rattle.term_unify.proofs.PairLaws.{map-last, take-more, told}
-use Rattle.search_theory.proofs.GivingLaws.{IsFlat, flat-mark, flat-none, flat-string, joined-mark, ends-same}
-use Rattle.search_theory.proofs.BuildingLaws.{solved-sorted}
+use Rattle.search_theory.proofs.GivingLaws.{IsFlat, flat-mark, flat-none, flat-string, ends-same}
 use Rattle.term_unify.specs.Flat.{HasNoString, HasNoStringIn, IsFlatItem, IsStringOf}
 use Rattle.term_unify.proofs.ListItems.{drop-end, drop-there}
 

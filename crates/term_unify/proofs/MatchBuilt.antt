@@ -1,5 +1,5 @@
 -- A pattern with parts against a cell whose bindings end at a built one.
-use Rattle.std.proofs.Common.{◌≡◌, ◌≤◌, ◌&&◌, ◌∷◌, [], ℕ, List, length, Bool, true, false, Some, slice_get, IsTrue, sym, ◌∙◌, ap, subst, nat_le, leb-true}
+use Rattle.std.proofs.Common.{◌≡◌, ◌≤◌, ℕ, List, length, true, false, Some, slice_get, IsTrue, sym, ◌∙◌, ap, subst, nat_le, leb-true}
 use Rattle.std.specs.List.{list_all}
 use Rattle.std.proofs.lemmas.Bool.{false≢true, and_parts}
 use Rattle.calculus.specs.declared.sort.Sort.{Sort}
@@ -8,7 +8,6 @@ use Rattle.store_theory.specs.Patterns.{Pattern, p_var, p_fun, p_eigen, p_new, p
 use Rattle.store_theory.specs.Stores.{Store, parts_of, variable, has_value_sort_at, EndsAt, stays, goes_on, Solution, Solves}
 use Rattle.search_theory.specs.States.{values_by}
 use Rattle.term_store.specs.Fitting.{fits_in}
-use Rattle.term_store.specs.Shown.{head_of}
 use Rattle.term_store.specs.Signatures.{BuildsOver, allows, allows_all, number_of_patterns, sorts_of_patterns}
 use Rattle.term_store.specs.declared.cell.Head.{Head}
 use Rattle.term_unify.specs.Matching.{ArePartsAt, HasParts, HoldsNowhere, MatchTo, Matches, NamesKept, Narrows, StandsBuilt, has_head}

@@ -1,22 +1,21 @@
 -- Cells and bindings that come while patterns are matched against cells.
-use Rattle.std.proofs.Common.{◌≡◌, ◌⊎◌, ◌+◌, ◌<◌, ◌≤◌, ◌&&◌, ◌||◌, ◌++◌, ◌∷◌, [], ℕ, zero, suc, List, length, map, Bool, true, false, None, Option, Some, slice_get, IsTrue, refl, sym, ◌∙◌, ap, subst, arith, inl, inr, nat_le, nat_lt, lt-ltb, length-append, option_map, le-leb, leb-true}
+use Rattle.std.proofs.Common.{◌≡◌, ◌+◌, ◌<◌, ◌≤◌, ◌&&◌, ◌||◌, ◌++◌, ◌∷◌, [], ℕ, List, length, Bool, true, false, None, Option, Some, slice_get, IsTrue, refl, sym, ◌∙◌, ap, arith, inl, inr, nat_le, nat_lt, lt-ltb, length-append, leb-true}
 use Rattle.std.specs.List.{list_all}
 use Rattle.std.specs.Option.{option_map_or}
-use Rattle.std.proofs.lemmas.Bool.{false≢true, and_parts, and_from}
+use Rattle.std.proofs.lemmas.Bool.{false≢true}
 use Rattle.calculus.specs.declared.sort.Sort.{Sort}
 use Rattle.calculus.specs.declared.sort.Sort.TheVariants.{TermSort, MarkSort, StringSort}
 use Rattle.calculus.specs.Equality.{sort_eq}
-use Rattle.calculus.proofs.PlaceLists.{all-at, all-more, get-front, get-last, get-there, get-within}
-use Rattle.store_theory.specs.Bindings.{AddsBuilt, nothing_more, one_more, AddsOver, BindsOnly, BindsWithin, NamesFrom, with_cell, is_variable}
-use Rattle.store_theory.specs.Patterns.{Pattern, Patterns, p_var, p_fun, p_eigen, p_new, no_patterns, more_patterns, HaveSortsAt}
-use Rattle.store_theory.specs.Stores.{Cell, variable, fun_cell, eigen_cell, new_cell, string_cell, Store, is_bound, is_store, parts_of, parts_fit, sort_of, sort_at, has_sort_at, has_value_sort_at, names_below}
+use Rattle.calculus.proofs.PlaceLists.{all-more, get-front, get-last, get-there, get-within}
+use Rattle.store_theory.specs.Bindings.{AddsBuilt, nothing_more, one_more, AddsOver, BindsOnly, BindsWithin, with_cell, is_variable}
+use Rattle.store_theory.specs.Patterns.{Pattern, Patterns, p_var, p_fun, p_eigen, p_new, no_patterns, more_patterns}
+use Rattle.store_theory.specs.Stores.{Cell, variable, fun_cell, eigen_cell, new_cell, string_cell, Store, is_bound, is_store, parts_of, sort_of, has_sort_at, has_value_sort_at, names_below}
 use Rattle.store_theory.proofs.BindingLaws.{has_sort-from, is_store-with_cell, or-more, parts-within, parts_fit-more, sorted_cell}
 use Rattle.store_theory.proofs.PatternLaws.{AddsBuilt-both, Grows-built, and-both, and-more, grown-sort}
 use Rattle.search_theory.proofs.BuildingLaws.{adds-longer}
 use Rattle.search_theory.proofs.WithinLaws.{names-within}
 use Rattle.term_store.specs.Fitting.{fits_in, parts_fit_in}
-use Rattle.term_store.specs.Signatures.{BuildsOver, Signature, allows_all}
-use Rattle.term_store.proofs.FitLaws.{have-grown}
+use Rattle.term_store.specs.Signatures.{BuildsOver, Signature}
 use Rattle.term_store.proofs.SignatureLaws.{allowed-binds}
 use Rattle.term_unify.specs.Closed.{IsClosedBelow}
 use Rattle.term_unify.specs.Matching.{AddsAndBinds, NamesKept}

@@ -1,18 +1,18 @@
 -- Matching patterns against cells: what cells and patterns of one name come to, and one pattern after the other.
-use Rattle.std.proofs.Common.{◌≡◌, ◌⊎◌, ◌+◌, ◌<◌, ◌≤◌, ◌==◌, ◌&&◌, ◌||◌, ◌++◌, ◌∷◌, [], ℕ, zero, suc, List, length, map, Bool, true, false, not, None, Option, Some, slice_get, IsTrue, refl, sym, ◌∙◌, ap, ap₂, subst, arith, inl, inr, nat_lt, lt-ltb, ltb-true, eq-eqb, eqb-true}
+use Rattle.std.proofs.Common.{◌≡◌, ◌⊎◌, ◌+◌, ◌<◌, ◌∷◌, [], ℕ, zero, suc, List, length, Bool, Option, Some, slice_get, IsTrue, refl, sym, ◌∙◌, ap, ap₂, arith, inl, inr, lt-ltb}
 use Rattle.std.specs.List.{list_all}
-use Rattle.std.proofs.lemmas.Bool.{false≢true, and_parts, and_from, cases_Bool}
-use Rattle.calculus.specs.declared.sort.Sort.TheVariants.{TermSort, MarkSort, StringSort}
-use Rattle.calculus.specs.Ground.{GroundTerms, Value, Values, g_fun, g_eigen, no_g_terms, more_g_terms, g_new_mark, term, steps, no_values, more_values, marks_list, marks_tree, values_tree}
+use Rattle.std.proofs.lemmas.Bool.{false≢true, and_parts}
+use Rattle.calculus.specs.declared.sort.Sort.TheVariants.{TermSort}
+use Rattle.calculus.specs.Ground.{Value, more_g_terms, more_values, marks_list, marks_tree, values_tree}
 use Rattle.calculus.specs.Lists.{marks_list-marks_tree}
-use Rattle.store_theory.specs.Bindings.{AddsBuilt, Unifies, AreApart, is_variable}
-use Rattle.store_theory.specs.Patterns.{Pattern, Patterns, p_var, p_fun, p_eigen, p_new, no_patterns, more_patterns, patterns_tree, IsCopy}
-use Rattle.store_theory.specs.Stores.{Cell, variable, fun_cell, eigen_cell, new_cell, string_cell, Store, parts_of, has_sort_at, has_value_sort_at, CellValue, a_term, a_mark, a_string, has_sort, Solution, terms_at, values_at, CellHolds, Solves, EndsAt, names_below}
-use Rattle.store_theory.specs.Templates.{as_term, as_value, cell_value, pattern_value, pattern_terms, pattern_values}
+use Rattle.store_theory.specs.Bindings.{AddsBuilt, Unifies, AreApart}
+use Rattle.store_theory.specs.Patterns.{Pattern, patterns_tree, IsCopy}
+use Rattle.store_theory.specs.Stores.{Store, has_value_sort_at, CellValue, a_term, a_mark, a_string, has_sort, Solution, Solves, EndsAt, names_below}
+use Rattle.store_theory.specs.Templates.{as_term, as_value, pattern_value, pattern_terms, pattern_values}
 use Rattle.store_theory.proofs.SolutionLaws.{ends-same}
 use Rattle.search_theory.specs.States.{Agree, terms_by, values_by}
 use Rattle.search_theory.proofs.BelowLaws.{all-weaken}
-use Rattle.search_theory.proofs.BuildingLaws.{AreValueCells, adds-back, adds-forth, adds-longer, agree-both, built-value, is_value_cell, solved-sorted, solved-valued, value-cell}
+use Rattle.search_theory.proofs.BuildingLaws.{AreValueCells, adds-back, adds-forth, adds-longer, agree-both, built-value, is_value_cell, solved-valued, value-cell}
 use Rattle.search_theory.proofs.ImageLaws.{values-agree}
 use Rattle.search_theory.proofs.UnifyLaws.{term-same}
 use Rattle.term_unify.specs.Matching.{HoldsNowhere, MatchTo, Matches, Narrows}

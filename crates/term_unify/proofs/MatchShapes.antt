@@ -1,16 +1,16 @@
 -- A built cell and a pattern with parts: they are equal exactly where their names and their parts are.
-use Rattle.std.proofs.Common.{◌≡◌, ◌<◌, ◌==◌, ◌&&◌, ◌||◌, ◌∷◌, [], ℕ, zero, suc, List, length, Bool, true, false, Option, None, Some, slice_get, IsTrue, refl, sym, ◌∙◌, ap, ap₂, subst, arith, eq-eqb, eqb-true}
+use Rattle.std.proofs.Common.{◌≡◌, ◌==◌, ◌&&◌, ◌||◌, ◌∷◌, [], ℕ, List, length, Bool, true, false, Option, None, Some, slice_get, IsTrue, refl, sym, ◌∙◌, ap, ap₂, subst, eq-eqb, eqb-true}
 use Rattle.std.specs.List.{list_all}
 use Rattle.std.specs.Option.{option_map_or}
 use Rattle.std.proofs.lemmas.Bool.{false≢true, and_parts}
 use Rattle.calculus.specs.declared.sort.Sort.{Sort}
 use Rattle.calculus.specs.declared.sort.Sort.TheVariants.{TermSort, MarkSort, StringSort}
 use Rattle.calculus.specs.Equality.{sort_eq}
-use Rattle.calculus.specs.Ground.{GroundTerms, Value, Values, g_fun, g_eigen, g_new_mark, values_tree}
+use Rattle.calculus.specs.Ground.{g_fun, g_eigen, g_new_mark, values_tree}
 use Rattle.calculus.proofs.PlaceLists.{get-within}
 use Rattle.store_theory.specs.Bindings.{is_variable}
 use Rattle.store_theory.specs.Patterns.{Pattern, Patterns, p_var, p_fun, p_eigen, p_new, patterns_tree}
-use Rattle.store_theory.specs.Stores.{Cell, variable, fun_cell, eigen_cell, new_cell, string_cell, Store, is_store, parts_of, has_sort_at, has_value_sort_at, CellValue, a_term, a_mark, a_string, has_sort, Solution, terms_at, values_at, Solves}
+use Rattle.store_theory.specs.Stores.{Cell, variable, fun_cell, eigen_cell, new_cell, string_cell, Store, is_store, parts_of, has_sort_at, has_value_sort_at, a_term, a_mark, a_string, has_sort, Solution, values_at, Solves}
 use Rattle.store_theory.specs.Templates.{pattern_terms, pattern_value, pattern_values}
 use Rattle.store_theory.proofs.BindingLaws.{kept, sort_eq-true}
 use Rattle.search_theory.specs.States.{terms_by, values_by}

@@ -1,20 +1,20 @@
 -- The loops that match one pattern after the other.
-use Rattle.std.proofs.Common.{◌≡◌, ◌+◌, ◌<◌, ◌≤◌, ◌&&◌, ◌∷◌, [], ℕ, zero, suc, List, length, map, Bool, true, false, Option, None, Some, option_map, slice_get, IsTrue, refl, sym, ◌∙◌, ap, subst, arith, inl, inr, nat_le, leb-true}
+use Rattle.std.proofs.Common.{◌≡◌, ◌+◌, ◌<◌, ◌∷◌, [], ℕ, zero, suc, List, length, true, false, Some, option_map, slice_get, IsTrue, sym, ◌∙◌, ap, subst, arith, inl, inr, nat_le, leb-true}
 use Rattle.std.specs.List.{list_all}
 use Rattle.std.specs.Option.{option_map_or}
 use Rattle.std.proofs.lemmas.Bool.{false≢true, and_parts}
 use Rattle.calculus.specs.declared.sort.Sort.{Sort}
 use Rattle.calculus.specs.Equality.{sort_eq}
-use Rattle.calculus.proofs.PlaceLists.{all-at, get-there, get-within}
-use Rattle.store_theory.specs.Bindings.{EndsIn, IsEnd, IsWellFormed, KeepsMarks, NamesFrom, is_variable}
+use Rattle.calculus.proofs.PlaceLists.{all-at}
+use Rattle.store_theory.specs.Bindings.{EndsIn, IsEnd, IsWellFormed, KeepsMarks, is_variable}
 use Rattle.store_theory.specs.Patterns.{HaveSortsAt, Pattern, patterns_tree}
-use Rattle.store_theory.specs.Stores.{Cell, variable, fun_cell, eigen_cell, new_cell, string_cell, Store, is_bound, is_store, parts_of, sort_at, sort_of, has_sort_at, has_value_sort_at, Solution, Solves}
+use Rattle.store_theory.specs.Stores.{Cell, Store, is_bound, is_store, parts_of, sort_at, sort_of, has_value_sort_at}
 use Rattle.store_theory.proofs.BindingLaws.{KeepsMarks-both, KeepsMarks-same, kept, parts-within, sort_eq-same, sorted_cell}
 use Rattle.store_theory.proofs.PatternLaws.{Grows-built, grown-cell}
-use Rattle.term_store.specs.Fitting.{fits_in, parts_fit_in}
+use Rattle.term_store.specs.Fitting.{fits_in}
 use Rattle.term_store.specs.Signatures.{BuildsOver, Signature, allows, allows_all}
 use Rattle.term_unify.specs.Matching.{AddsAndBinds, AllNamesKept, ArePartsAt, HoldsNowhere, MatchTo, Matches, NamesKept, Narrows, StandsBuilt}
-use Rattle.term_unify.proofs.MatchCells.{SortsStay, adds-both, adds-longer_both, adds-none, fits-stay, parts_fit-stay, sorts-stay, unbound, value-below, values-stay}
+use Rattle.term_unify.proofs.MatchCells.{SortsStay, adds-both, adds-longer_both, adds-none, fits-stay, sorts-stay, unbound, value-below, values-stay}
 use Rattle.term_unify.proofs.MatchLaws.{narrows-more, narrows-none, narrows-same, nowhere-later, one-cell}
 use Rattle.term_unify.proofs.PairLaws.{part-among, told}
 

@@ -1,31 +1,24 @@
 -- Whether the bindings make cells and labels the same: values of unbound variables tell where they do not.
-use Rattle.std.proofs.Common.{◌≡◌, ◌⊎◌, ℕ, zero, suc, ◌+◌, ◌<◌, ◌≤◌, List, [], ◌∷◌, drop, length, map, replicate, Bool, true, false, IsTrue, refl, sym, ◌∙◌, ap, ap₂, subst, Option, Some, None, slice_get, inl, inr, arith, nat_lt, ltb-true}
-use Rattle.std.specs.List.{list_all, AllByRecursion}
+use Rattle.std.proofs.Common.{◌≡◌, ℕ, zero, suc, ◌+◌, ◌<◌, ◌≤◌, List, [], ◌∷◌, drop, length, map, replicate, false, IsTrue, refl, sym, ◌∙◌, ap, ap₂, subst, Some, None, slice_get, inl, inr, arith, nat_lt, ltb-true}
 use Rattle.std.specs.Option.{option_map_or}
-use Rattle.std.proofs.lemmas.Bool.{false≢true, and_parts}
+use Rattle.std.proofs.lemmas.Bool.{false≢true}
 use Rattle.std.proofs.lemmas.List.{length-map}
-use Rattle.calculus.specs.declared.sign.Sign.{Sign}
-use Rattle.calculus.specs.declared.sign.Sign.TheVariants.{T, F}
 use Rattle.calculus.specs.declared.sort.Sort.{Sort}
 use Rattle.calculus.specs.declared.sort.Sort.TheVariants.{TermSort, MarkSort, StringSort}
 use Rattle.store_theory.specs.Bindings.{IsEnd, IsWellFormed}
-use Rattle.calculus.specs.Equality.{sign_eq}
-use Rattle.calculus.specs.Ground.{GroundLiteral, GroundMark, GroundTerms, g_fun, g_eigen, common, g_new_mark, g_spare_mark, no_g_terms, more_g_terms}
-use Rattle.store_theory.specs.Stores.{Cell, variable, fun_cell, eigen_cell, new_cell, string_cell, Store, sort_of, has_sort_at, is_bound, names_below, CellValue, a_term, a_mark, a_string, has_sort, Solution, Solves, CellHolds, cons_mark, marks_at}
-use Rattle.store_theory.specs.Systems.{CellAtom, Pair, is_cell_atom, is_label, is_pair}
-use Rattle.store_theory.specs.Templates.{as_term}
+use Rattle.calculus.specs.Ground.{GroundMark, g_fun, g_eigen, common, g_new_mark, g_spare_mark}
+use Rattle.store_theory.specs.Stores.{Cell, variable, fun_cell, eigen_cell, new_cell, string_cell, Store, sort_of, is_bound, names_below, CellValue, a_term, a_mark, a_string, has_sort, Solution, Solves, CellHolds, cons_mark, marks_at}
+use Rattle.store_theory.specs.Systems.{is_label}
 use Rattle.store_theory.proofs.BindingLaws.{sorted_cell}
 use Rattle.calculus.proofs.PlaceLists.{all-at}
 use Rattle.store_theory.proofs.SolutionLaws.{FitsOpen, solution_by, some_solution}
 use Rattle.term_store.specs.RefView.{the_place}
 use Rattle.term_store.specs.declared.cell.Ref.{Ref}
-use Rattle.term_unify.specs.Steps.{AreDifferent, DiffersBy, IsBinding}
-use Rattle.search_theory.specs.States.{terms_by, label_by, literal_by}
-use Rattle.search_theory.proofs.BuildingLaws.{solved-sorted}
+use Rattle.term_unify.specs.Steps.{AreDifferent}
+use Rattle.search_theory.specs.States.{label_by}
 use Rattle.search_theory.proofs.GeneralLaws.{mark-parts}
 use Rattle.search_theory.proofs.GivingLaws.{IsFlat, length-marks}
-use Rattle.search_theory.proofs.SolvingLaws.{label-there, all-below}
-use Rattle.search_theory.proofs.UnifyLaws.{term-same}
+use Rattle.search_theory.proofs.SolvingLaws.{label-there}
 use Rattle.term_unify.specs.Same.{AreSameCells, AreSameLabels, DifferAt}
 use Rattle.term_unify.proofs.ListItems.{drop-end, drop-there}
 

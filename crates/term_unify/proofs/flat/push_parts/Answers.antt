@@ -1,5 +1,5 @@
 use Rattle.std.proofs.Common.{◌≡◌, ◌++◌, ◌∙◌, ap, arith, map, take}
-use Rattle.store_theory.specs.Stores.{parts_of, string_cell}
+use Rattle.store_theory.specs.Stores.{string_cell}
 use Rattle.term_store.specs.RefView.{the_place}
 use Rattle.term_unify.proofs.FlatLaws.{all-added}
 use Rattle.term_unify.proofs.PairLaws.{all-done}

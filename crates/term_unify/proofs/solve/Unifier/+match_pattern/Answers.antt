@@ -1,4 +1,4 @@
-use Rattle.std.proofs.Common.{◌≡◌, ◌<◌, ◌∙◌, IsTrue, Some, ap, arith, length, map, slice_get, subst, sym}
+use Rattle.std.proofs.Common.{◌≡◌, ◌<◌, ◌∙◌, IsTrue, ap, arith, length, subst, sym}
 use Rattle.std.proofs.lemmas.List.{length-map}
 use Rattle.store_theory.specs.Patterns.{pattern_list_size, patterns_tree}
 use Rattle.store_theory.specs.Stores.{parts_of}
@@ -12,10 +12,9 @@ use Rattle.term_store.proofs.CopyLaws.{fits-at, some-sort}
 use Rattle.term_store.proofs.ListLaws.{literal-there}
 use Rattle.term_store.proofs.StoreFacts.{shown-end}
 use Rattle.term_unify.specs.Matching.{MatchTo, Narrows}
-use Rattle.term_unify.proofs.MatchBuilt.{built-apart, built-names, built-narrows, built-nowhere, built-stands, built-within, count-apart, count-there}
+use Rattle.term_unify.proofs.MatchBuilt.{built-apart, built-names, built-narrows, built-nowhere, built-within, count-apart}
 use Rattle.term_unify.proofs.MatchCells.{adds-both, adds-none}
-use Rattle.term_unify.proofs.MatchShapes.{parts-fit}
-use Rattle.term_unify.proofs.MatchedLaws.{MatchedTo, matched-fits, matched-more, matched-none, matched-nowhere, matched-values, names-next, names-parts, part-before, parts-forth, stands-stays}
+use Rattle.term_unify.proofs.MatchedLaws.{matched-fits, matched-more, matched-none, matched-nowhere, matched-values, names-next, names-parts, part-before, parts-forth, stands-stays}
 use Rattle.term_unify.proofs.StepLaws.{ended, parts-counted}
 use Rattle.term_unify.proofs.solve.Unifier.+match_pattern.Goals as goal
 

@@ -1,5 +1,4 @@
-use Rattle.std.proofs.Common.{◌≡◌, ◌<◌, ◌∙◌, IsTrue, Some, ap, arith, length, map, slice_get, refl, subst, sym}
-use Rattle.std.specs.List.{list_all}
+use Rattle.std.proofs.Common.{◌∙◌, IsTrue, ap, arith, length, map, refl, subst, sym}
 use Rattle.std.proofs.lemmas.List.{length-map}
 use Rattle.calculus.specs.declared.sort.Sort.TheVariants.{TermSort}
 use Rattle.calculus.proofs.PlaceLists.{all-at}
@@ -12,9 +11,8 @@ use Rattle.term_store.specs.RefView.{the_place, the_places}
 use Rattle.term_store.specs.Signatures.{BuildsOver, allows_all}
 use Rattle.term_store.proofs.CopyLaws.{fits-at, some-sort}
 use Rattle.term_store.proofs.ListLaws.{literal-there}
-use Rattle.term_unify.specs.Matching.{MatchTo}
 use Rattle.term_unify.proofs.MatchCells.{adds-both, adds-none, sort-within}
-use Rattle.term_unify.proofs.MatchedLaws.{MatchedTo, matched-all, matched-below, matched-fits, matched-more, matched-none, matched-nowhere, matched-values, names-next, nowhere-all}
+use Rattle.term_unify.proofs.MatchedLaws.{matched-all, matched-below, matched-fits, matched-more, matched-none, matched-nowhere, matched-values, names-next, nowhere-all}
 use Rattle.term_unify.proofs.solve.Unifier.match_all.Goals as goal
 
 pub returns-then-cells-items-clause-apart : goal.returns-then-cells-items-clause-apart

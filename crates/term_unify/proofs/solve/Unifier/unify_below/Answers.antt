@@ -1,4 +1,4 @@
-use Rattle.std.proofs.Common.{◌≡◌, ◌∙◌, ap, subst, sym}
+use Rattle.std.proofs.Common.{◌∙◌, ap, subst, sym}
 use Rattle.store_theory.specs.Bindings.{with_binding}
 use Rattle.term_unify.specs.Closed.{IsClosedBelow}
 use Rattle.term_unify.proofs.OnePairLaws.{apart-ends, binds-pair, occurs-pair, unifies-ends, unifies-same, within-ends}

@@ -1,6 +1,6 @@
-use Rattle.std.proofs.Common.{◌≡◌, arith, length}
+use Rattle.std.proofs.Common.{arith}
 use Rattle.store_theory.proofs.BindingLaws.{KeepsMarks-both}
-use Rattle.store_theory.proofs.PatternLaws.{Grows-built, KeepsMarks-built}
+use Rattle.store_theory.proofs.PatternLaws.{KeepsMarks-built}
 use Rattle.search_theory.proofs.BuildingLaws.{adds-longer}
 use Rattle.term_store.specs.PatternView.{the_pattern}
 use Rattle.term_store.specs.RefView.{the_places}
