@@ -9,6 +9,8 @@ mod doubling;
 #[cfg(test)]
 mod ends;
 #[cfg(test)]
+mod matching;
+#[cfg(test)]
 mod matrices;
 #[cfg(test)]
 mod modal;

@@ -1,21 +1,32 @@
-//! The clause p(f(X, X), X), copied.
+//! The clause p(f(X, X), X), copied, and new variables.
 
-ghost use Rattle.std.specs.Prelude.{◌<◌, IfOk, IsTrue, length};
-ghost use Rattle.store_theory.specs.Patterns.{template_fits};
+ghost use Rattle.std.specs.Prelude.{IfOk, IsTrue};
+ghost use Rattle.calculus.specs.declared.sort.Sort.TheVariants.{TermSort};
+ghost use Rattle.store_theory.specs.Patterns.{Grows, template_fits};
+ghost use Rattle.store_theory.specs.Stores.{has_sort_at};
 ghost use Rattle.term_store.specs.TemplateView.{the_template};
 
 use cop_base::{NoMemory, SymbolId};
 use std::alloc::Global;
 use std::test::Fail;
 use term_store::{
-    Pattern, PatternAtom, PatternAtomList, PatternGammaList, Patterns, Sign, Sort, SortList, Store,
-    Template,
+    Pattern, PatternAtom, PatternAtomList, PatternGammaList, Patterns, Ref, Sign, Sort, SortList,
+    Store, Template,
 };
 
-/// The clause p(f(X, X), X).
-pub fn doubled(alloc: Global) -> Result<Template, NoMemory>
-    ensures fits { IfOk result (λ t. IsTrue (template_fits (the_template t))) }
-    ensures literal { IfOk result (λ t. 0 < length t.literals) }
+/// A new variable.
+pub fn variable(store: &mut Store) -> Result<Ref, NoMemory>
+    ensures term { IfOk result (λ r. IsTrue (has_sort_at store.new.store TermSort r.0)) }
+    ensures grows { Grows store.old.store store.new.store }
+{
+    store.reserve(1)?;
+    let fresh = store.fresh(Sort::TermSort);
+    Ok(fresh)
+}
+
+// The clause p(f(X, X), X).
+fn doubled(alloc: Global) -> Result<Template, NoMemory>
+    ensures { IfOk result (λ t. IsTrue (template_fits (the_template t))) }
 {
     let mut inner = Patterns::new(alloc);
     inner.push(Pattern::Var(0))?;

@@ -1,40 +1,50 @@
 use Rattle.std.proofs.Common.{arith}
-use Rattle.term_store.specs.ClauseView.{the_atom}
-use Rattle.search_tests.proofs.DoublingLaws.{arg-cell, longer}
+use Rattle.calculus.specs.declared.sort.Sort.TheVariants.{TermSort}
+use Rattle.store_theory.proofs.PatternLaws.{Grows-built}
+use Rattle.term_store.specs.PatternView.{the_pattern}
+use Rattle.term_store.proofs.OwnLaws.{length-grown}
+use Rattle.search_tests.proofs.DoublingLaws.{term-within, doubled-fits}
 use Rattle.search_tests.proofs.doubling.double.Goals as goal
 
-pub returns-then-args-lt2-clause-cell : goal.returns-then-args-lt2-clause-cell
-returns-then-args-lt2-clause-cell c =
-    let l = longer c.args.t.now.sorts c.args.store.now.store c.copy_literal.new.self.store c.in_ok-copied.ensures.built in
-    let k = c.requires.cell in
-    omega (arith, l, k)
-
-pub returns-then-args-lt2-clause-longer : goal.returns-then-args-lt2-clause-longer
-returns-then-args-lt2-clause-longer c = longer c.args.t.now.sorts c.args.store.now.store c.copy_literal.new.self.store c.in_ok-copied.ensures.built
+pub copy_pattern-requires : goal.copy_pattern-requires
+copy_pattern-requires c = (TermSort, doubled-fits c.variable.new.store.store c.in_ok-y.y.0 (the_pattern c.args.pattern.now) c.requires.pattern c.in_ok-y.ensures.term)
 
 pub unify-requires-clause-left : goal.unify-requires-clause-left
 unify-requires-clause-left c =
-    let l = longer c.args.t.now.sorts c.args.store.now.store c.copy_literal.new.self.store c.in_ok-copied.ensures.built in
     let k = c.requires.cell in
-    omega (arith, l, k)
+    let l = length-grown c.args.store.now.store c.variable.new.store.store c.in_ok-y.ensures.grows in
+    let m = length-grown c.variable.new.store.store c.copy_pattern.new.self.store (Grows-built c.variable.new.store.store c.copy_pattern.new.self.store c.in_ok-term.ensures.adds.built) in
+    omega (arith, k, l, m)
 
 pub unify-requires-clause-right : goal.unify-requires-clause-right
-unify-requires-clause-right c = arg-cell c.copy_literal.new.self.store (the_atom c.in_ok-copied.copied.atom) c.items-args.result.now 0 _ c.in_ok-copied.ensures.sorts c.items-args.ensures (omega arith)
-
-pub returns-in_err-_bound-clause-longer : goal.returns-in_err-_bound-clause-longer
-returns-in_err-_bound-clause-longer c =
-    let l = longer c.args.t.now.sorts c.args.store.now.store c.copy_literal.new.self.store c.in_ok-copied.ensures.built in
-    let e = c.in_err-_bound.ensures.binds.same_length in
-    omega (arith, l, e)
+unify-requires-clause-right c = term-within c.copy_pattern.new.self.store c.in_ok-term.term.0 (c.in_ok-term.ensures.sorts TermSort (doubled-fits c.variable.new.store.store c.in_ok-y.y.0 (the_pattern c.args.pattern.now) c.requires.pattern c.in_ok-y.ensures.term))
 
 pub returns-clause-cell : goal.returns-clause-cell
 returns-clause-cell c =
-    let a = arg-cell c.copy_literal.new.self.store (the_atom c.in_ok-copied.copied.atom) c.items-args.result.now 1 (record { 0 = 0 }) c.in_ok-copied.ensures.sorts c.items-args.ensures (omega arith) in
+    let k = term-within c.variable.new.store.store c.in_ok-y.y.0 c.in_ok-y.ensures.term in
+    let m = length-grown c.variable.new.store.store c.copy_pattern.new.self.store (Grows-built c.variable.new.store.store c.copy_pattern.new.self.store c.in_ok-term.ensures.adds.built) in
     let e = c.in_ok-_bound.ensures.binds.same_length in
-    omega (arith, a, e)
+    omega (arith, k, m, e)
 
 pub returns-clause-longer : goal.returns-clause-longer
 returns-clause-longer c =
-    let l = longer c.args.t.now.sorts c.args.store.now.store c.copy_literal.new.self.store c.in_ok-copied.ensures.built in
+    let l = length-grown c.args.store.now.store c.variable.new.store.store c.in_ok-y.ensures.grows in
+    let m = length-grown c.variable.new.store.store c.copy_pattern.new.self.store (Grows-built c.variable.new.store.store c.copy_pattern.new.self.store c.in_ok-term.ensures.adds.built) in
     let e = c.in_ok-_bound.ensures.binds.same_length in
-    omega (arith, l, e)
+    omega (arith, l, m, e)
+
+pub returns-in_err-_bound-clause-longer : goal.returns-in_err-_bound-clause-longer
+returns-in_err-_bound-clause-longer c =
+    let l = length-grown c.args.store.now.store c.variable.new.store.store c.in_ok-y.ensures.grows in
+    let m = length-grown c.variable.new.store.store c.copy_pattern.new.self.store (Grows-built c.variable.new.store.store c.copy_pattern.new.self.store c.in_ok-term.ensures.adds.built) in
+    let e = c.in_err-_bound.ensures.binds.same_length in
+    omega (arith, l, m, e)
+
+pub returns-in_err-term-clause-longer : goal.returns-in_err-term-clause-longer
+returns-in_err-term-clause-longer c =
+    let l = length-grown c.args.store.now.store c.variable.new.store.store c.in_ok-y.ensures.grows in
+    let m = length-grown c.variable.new.store.store c.copy_pattern.new.self.store (Grows-built c.variable.new.store.store c.copy_pattern.new.self.store c.in_err-term.ensures.adds.built) in
+    omega (arith, l, m)
+
+pub returns-in_err-y-clause-longer : goal.returns-in_err-y-clause-longer
+returns-in_err-y-clause-longer c = length-grown c.args.store.now.store c.variable.new.store.store c.in_err-y.ensures.grows
