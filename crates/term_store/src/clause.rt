@@ -15,7 +15,7 @@ use std::marker::Model;
 /// References in order.
 #[derive(Drop)]
 pub struct RefList {
-    items: Vec<Ref>,
+    pub(crate) items: Vec<Ref>,
 }
 
 impl Model for RefList {
@@ -78,7 +78,7 @@ pub struct CellAtom {
 /// Atoms in order.
 #[derive(Drop)]
 pub struct CellAtomList {
-    items: Vec<CellAtom>,
+    pub(crate) items: Vec<CellAtom>,
 }
 
 impl Model for CellAtomList {
@@ -137,7 +137,7 @@ pub struct GammaUse {
 /// Gamma terms in order.
 #[derive(Drop)]
 pub struct GammaList {
-    items: Vec<GammaUse>,
+    pub(crate) items: Vec<GammaUse>,
 }
 
 impl Model for GammaList {

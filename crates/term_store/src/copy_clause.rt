@@ -75,7 +75,7 @@ impl Store {
     {
         let mut places = Vec::new(self.alloc);
         let count = front.len() + back.len();
-        let mut literals = CellAtomList::with_capacity(self.alloc, count)?;
+        let mut literals = self.empty_atoms(count)?;
         self.copy_atoms(front, variables, &mut places, &mut literals)?;
         self.copy_atoms(back, variables, &mut places, &mut literals)?;
         let strings = self.copy_refs(&t.strings, variables, &mut places)?;

@@ -24,7 +24,7 @@ use cop_base::NoMemory;
 
 impl Store {
     // Copies of the patterns; `places` is a stack for the parts of the patterns that are being
-    // copied.
+    // copied. Most lists are empty: they get no memory, and no loop.
     pub(crate) fn copy_refs(
         &mut self,
         patterns: &Patterns,
@@ -40,7 +40,29 @@ impl Store {
         ensures room { KeepsRoom self.old self.new }
     {
         let count = patterns.items().len();
-        let mut refs = RefList::with_capacity(self.alloc, count)?;
+        if count == 0 {
+            return Ok(RefList::new(self.alloc));
+        }
+        self.copy_all_refs(patterns, variables, places)
+    }
+
+    // As `copy_refs`.
+    fn copy_all_refs(
+        &mut self,
+        patterns: &Patterns,
+        variables: Variables,
+        places: &mut Vec<u32>,
+    ) -> Result<RefList, NoMemory>
+        requires { (sort : Sort) × (strings : Bool) × IsTrue (parts_fit_in self.old.store (the_places variables) sort strings (patterns_tree patterns.now)) }
+        ensures copies { IfOk result (λ refs. AreCopies self.new.store (the_places variables) (patterns_tree patterns.now) refs) }
+        ensures sorts { IfOk result (λ refs. (sort : Sort) (strings : Bool) → IsTrue (parts_fit_in self.old.store (the_places variables) sort strings (patterns_tree patterns.now)) → IsTrue (list_all (part_sort_at self.new.store sort strings) refs)) }
+        ensures own { IfOk result (λ refs. NamesOver (the_places variables) (length self.old.store.cells) (λ base. list_all (nat_le base) refs)) }
+        ensures adds { AddsOver (the_places variables) self.old.store self.new.store }
+        ensures within { OnOk result (BuildsOver (the_places variables) (λ sorts g. allows_all g sorts (patterns_tree patterns.now)) self.old.store self.new.store) }
+        ensures room { KeepsRoom self.old self.new }
+    {
+        let count = patterns.items().len();
+        let mut refs = self.empty_refs(count)?;
         for part in patterns.items() {
             let copied = self.copy_pattern(part, variables, places)?;
             refs.push(copied)?;
@@ -62,7 +84,7 @@ impl Store {
         ensures within { OnOk result (BuildsOver (the_places variables) (λ sorts g. allows_atom g sorts (the_pattern_atom atom.now)) self.old.store self.new.store) }
         ensures room { KeepsRoom self.old self.new }
     {
-        let args = self.copy_refs(&atom.args, variables, places)?;
+        let args = self.copy_all_refs(&atom.args, variables, places)?;
         let label = self.copy_refs(&atom.label, variables, places)?;
         Ok(CellAtom {
             sign: atom.sign,
@@ -126,7 +148,7 @@ impl Store {
         ensures within { OnOk result (BuildsOver (the_places variables) (λ sorts g. list_all (allows_gamma g sorts) gammas.now) self.old.store self.new.store) }
         ensures room { KeepsRoom self.old self.new }
     {
-        let mut copied = GammaList::with_capacity(self.alloc, gammas.items().len())?;
+        let mut copied = self.empty_gammas(gammas.items().len())?;
         for gamma in gammas.items() {
             let copy = self.copy_gamma(gamma, variables, places)?;
             copied.push(copy)?;

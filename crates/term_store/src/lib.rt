@@ -8,6 +8,7 @@ mod copy;
 mod copy_clause;
 mod copy_lists;
 mod demand;
+mod free_lists;
 mod home;
 mod pattern;
 mod slots;

@@ -8,6 +8,7 @@ ghost use Rattle.term_store.specs.Shown.{Shows, head_of};
 ghost use Rattle.term_store.specs.StoreView.{part_count, the_mark};
 
 use crate::cell::{Content, End, Head, Ref, Slot, TrailMark};
+use crate::free_lists::FreeLists;
 use crate::slots::{bind_slot, cut, unbind};
 use calculus::sort::Sort;
 use cop_base::NoMemory;
@@ -57,6 +58,7 @@ pub struct Store {
     // The parts of the built cells, cell by cell.
     pub(crate) parts: Vec<u32>,
     pub(crate) trail: Cells<u32>,
+    pub(crate) free: FreeLists,
 }
 
 impl Model for Store {
@@ -86,6 +88,7 @@ impl Store {
             cells: Cells::new(alloc),
             parts: Vec::new(alloc),
             trail: Cells::new(alloc),
+            free: FreeLists::new(alloc),
         })
     }
 

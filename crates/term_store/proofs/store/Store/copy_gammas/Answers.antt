@@ -1,11 +1,13 @@
 use Rattle.std.proofs.Common.{[], IsTrue, arith, length, map, subst, sym, take}
 use Rattle.std.specs.List.{list_all}
 use Rattle.std.proofs.lemmas.List.{take_all}
+use Rattle.store_theory.specs.Bindings.{AddsOver}
 use Rattle.store_theory.proofs.PatternLaws.{Grows-built}
 use Rattle.cop_base.proofs.Items.{map-take-item}
 use Rattle.term_store.specs.ClauseView.{the_gamma, the_pattern_gamma}
 use Rattle.term_store.specs.Fitting.{gamma_fits_in}
 use Rattle.term_store.specs.RefView.{the_places}
+use Rattle.term_store.specs.Room.{KeepsRoom, TermStore}
 use Rattle.term_store.proofs.CopyLaws.{all-item}
 use Rattle.term_store.proofs.FitLaws.{grown-gamma_fits}
 use Rattle.term_store.proofs.ListLaws.{GammasCopied, gamma-more, gammas-none}
@@ -15,12 +17,16 @@ use Rattle.term_store.specs.Signatures.{BuildsOver, allows_gamma}
 use Rattle.term_store.proofs.store.Store.copy_gammas.Goals as goal
 
 pub loop-gamma-init : goal.loop-gamma-init
-loop-gamma-init c = record {
-  copied = subst (λ xs. GammasCopied c.args.self.now.store (the_places c.args.variables) (length c.args.self.now.store.cells) xs []) (sym c.in_ok-copied.ensures) (gammas-none c.args.self.now.store (the_places c.args.variables) (length c.args.self.now.store.cells));
-  adds = names-same (the_places c.args.variables) c.args.self.now.store;
-  within = λ sorts have g base h k. k;
-  room = (omega arith, omega arith);
-}
+loop-gamma-init c =
+    let s = c.args.self.now.store in
+    let vs = the_places c.args.variables in
+    let same = sym c.in_ok-copied.ensures.same in
+    record {
+      copied = subst (λ (z : TermStore). GammasCopied z.store vs (length s.cells) c.in_ok-copied.copied []) same (subst (λ xs. GammasCopied s vs (length s.cells) xs []) (sym c.in_ok-copied.ensures.none) (gammas-none s vs (length s.cells)));
+      adds = subst (λ (z : TermStore). AddsOver vs s z.store) same (names-same vs s);
+      within = subst (λ (z : TermStore). BuildsOver vs (λ sorts g. list_all (allows_gamma g sorts) []) s z.store) same (λ sorts have g base h k. k);
+      room = subst (λ (z : TermStore). KeepsRoom c.args.self.now z) same (omega arith, omega arith);
+    }
 
 pub copy_gamma-requires : goal.copy_gamma-requires
 copy_gamma-requires c =
@@ -45,7 +51,7 @@ loop-gamma-preserved c =
     }
 
 pub returns-in_err-copied-clause-adds : goal.returns-in_err-copied-clause-adds
-returns-in_err-copied-clause-adds c = names-same (the_places c.args.variables) c.args.self.now.store
+returns-in_err-copied-clause-adds c = subst (λ (z : TermStore). AddsOver (the_places c.args.variables) c.args.self.now.store z.store) (sym c.in_err-copied.ensures.same) (names-same (the_places c.args.variables) c.args.self.now.store)
 
 pub returns-in_err-copy-clause-adds : goal.returns-in_err-copy-clause-adds
 returns-in_err-copy-clause-adds c = over-both (the_places c.args.variables) c.args.self.now.store c.loop-gamma.self.store c.copy_gamma.new.self.store c.loop-gamma.invariant.adds c.in_err-copy.ensures.adds

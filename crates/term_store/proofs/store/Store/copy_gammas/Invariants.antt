@@ -10,8 +10,8 @@ use Rattle.term_store.proofs.store.Store.copy_gammas.Given as goal
 
 abbrev pub invariant-loop-gamma : goal.invariant-loop-gamma
 invariant-loop-gamma l = record {
-  copied : GammasCopied l.self.store (the_places l.variables) (length l.initial.self.store.cells) l.copied (map the_pattern_gamma (take l.gamma-index l.gamma-items));
-  adds : AddsOver (the_places l.variables) l.initial.self.store l.self.store;
-  within : BuildsOver (the_places l.variables) (λ sorts g. list_all (allows_gamma g sorts) (map the_pattern_gamma (take l.gamma-index l.gamma-items))) l.initial.self.store l.self.store;
-  room : KeepsRoom l.initial.self l.self;
+  copied : GammasCopied l.self.store (the_places l.variables) (length l.fn.self.store.cells) l.copied (map the_pattern_gamma (take l.gamma-index l.gamma-items));
+  adds : AddsOver (the_places l.variables) l.fn.self.store l.self.store;
+  within : BuildsOver (the_places l.variables) (λ sorts g. list_all (allows_gamma g sorts) (map the_pattern_gamma (take l.gamma-index l.gamma-items))) l.fn.self.store l.self.store;
+  room : KeepsRoom l.fn.self l.self;
 }
