@@ -22,10 +22,8 @@ ghost use Rattle.term_store.specs.Room.{KeepsRoom};
 ghost use Rattle.term_unify.specs.Closed.{IsClosedBelow};
 
 use crate::pair::unify_pair;
-use crate::system::copy_refs;
 use calculus::sign::Sign;
 use cop_base::NoMemory;
-use std::alloc::Global;
 use term_store::{CellAtom, PatternAtom, Prefix, Ref, Store};
 use term_unify::{Unifier, are_same_cells};
 
@@ -110,15 +108,16 @@ pub(crate) fn unify_all(
 
 /// The connected literal with the goal's own arguments, which matching has made equal to it.
 pub(crate) fn met_atom(
-    alloc: Global,
+    store: &mut Store,
     literal: &PatternAtom,
     terms: &[Ref],
     label: Prefix,
 ) -> Result<CellAtom, NoMemory>
-    ensures { IfOk result (λ atom. the_atom atom ≡ met_atom (the_pattern_atom literal.now) (map
+    ensures atom { IfOk result (λ atom. the_atom atom ≡ met_atom (the_pattern_atom literal.now) (map
         the_place terms.now) label) }
+    ensures store { store.new ≡ store.old }
 {
-    let args = copy_refs(alloc, terms)?;
+    let args = store.list_of(terms)?;
     Ok(CellAtom {
         sign: literal.sign,
         symbol: literal.symbol,

@@ -192,8 +192,8 @@ impl Work {
         }
         let label = store.copy_label(template, variables, at)?;
         let copy = store.copy_rest(template, variables, at)?;
+        let atom = met_atom(store, literal, terms, label)?;
         let _after = store.mark();
-        let atom = met_atom(self.alloc, literal, terms, label)?;
         let copied = Copied {
             clause: place.clause,
             copy,

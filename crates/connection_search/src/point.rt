@@ -87,7 +87,7 @@ impl Point {
         ensures room { KeepsRoom store.old store.new }
     {
         store.undo(self.mark);
-        tree.cut(self.steps, self.goals, Some(self.goal));
+        tree.cut(store, self.steps, self.goals, Some(self.goal));
     }
 
     /// All choices of the goal, whose path may have fewer goals than the limit for an extension.

@@ -120,7 +120,7 @@ impl Space<'_> {
         work.start(store, self.matrix, clause)?;
         let found = self.search_from(ledger, store, work, left)?;
         store.undo(mark);
-        work.tree.cut(0, 0, None);
+        work.tree.cut(store, 0, 0, None);
         Ok(found)
     }
 

@@ -16,7 +16,7 @@ ghost use Rattle.connection_search.specs.Trees.{link_from, strings_in, the_step,
 
 use cop_base::{ClauseId, NoMemory};
 use std::alloc::Global;
-use term_store::{CellAtom, CopiedClause};
+use term_store::{CellAtom, CopiedClause, Store};
 
 /// A clause that was copied into the store. Its goals are the literals of the copy, which lacks the
 /// connected one.
@@ -83,6 +83,20 @@ fn link(first: usize, behind: Option<usize>, j: usize, count: usize) -> Option<u
     Some(first + j)
 }
 
+// Gives the lists of the step to the store.
+fn free_step(store: &mut Store, step: Step)
+    ensures { store.new ≡ store.old }
+{
+    match step {
+        Step::Start(copied) => store.free_clause(copied.copy),
+        Step::Reduce(_, _, _) => {}
+        Step::Extend(_, copied, _, atom) => {
+            store.free_clause(copied.copy);
+            store.free_atom(atom);
+        }
+    }
+}
+
 impl Tree {
     /// No choice, and no goal.
     pub fn new(alloc: Global) -> Tree
@@ -109,13 +123,19 @@ impl Tree {
         &goals_of(&self.steps[at.step])[at.literal]
     }
 
-    /// Back to so many choices and goals, when `first` was the leftmost open goal.
-    pub fn cut(&mut self, steps: usize, goals: usize, first: Option<usize>)
+    /// Back to so many choices and goals, when `first` was the leftmost open goal. The store takes
+    /// the lists of the choices that go.
+    pub fn cut(&mut self, store: &mut Store, steps: usize, goals: usize, first: Option<usize>)
         ensures steps { self.new.steps.items ≡ take steps self.old.steps.items }
         ensures goals { self.new.goals.items ≡ take goals self.old.goals.items }
         ensures first { self.new.open ≡ first }
+        ensures store { store.new ≡ store.old }
     {
-        self.steps.truncate(steps);
+        while self.steps.len() > steps {
+            if let Some(step) = self.steps.pop() {
+                free_step(store, step);
+            }
+        }
         self.goals.truncate(goals);
         self.open = first;
     }

@@ -1,7 +1,8 @@
-use Rattle.std.proofs.Common.{[], ◌∷◌, ◌∙◌, Some, ap, length, refl, slice_get}
+use Rattle.std.proofs.Common.{[], ◌∷◌, ◌∙◌, Some, ap, length, refl, slice_get, subst, sym}
 use Rattle.store_theory.proofs.BindingLaws.{KeepsMarks-both, KeepsMarks-same}
 use Rattle.calculus.specs.Choices.{start}
 use Rattle.search_theory.specs.OrderedChoices.{selection_of}
+use Rattle.term_store.specs.Room.{KeepsRoom, TermStore}
 use Rattle.term_store.specs.StoreView.{the_mark}
 use Rattle.connection_search.proofs.SearchedLaws.{SearchesList, SearchesTree, back-again, marks-of_same, on-map, room-both, searched-refused, visiting-first}
 use Rattle.connection_search.proofs.SpentLaws.{counted}
@@ -80,7 +81,7 @@ pub returns-clause-budget : goal.returns-clause-budget
 returns-clause-budget c = c.search_from.ensures.budget
 
 pub returns-clause-store : goal.returns-clause-store
-returns-clause-store c = (back-again (the_mark c.mark-mark.result) c.args.store.now.store c.start.new.store.store c.search_from.new.store.store c.undo.new.self.store c.mark-mark.ensures.good c.mark-mark.ensures.whole c.start.ensures.marks c.search_from.ensures.marks c.undo.ensures.store)
+returns-clause-store c = ap (λ (z : TermStore). z.store) c.cut.ensures.store ∙ (back-again (the_mark c.mark-mark.result) c.args.store.now.store c.start.new.store.store c.search_from.new.store.store c.undo.new.self.store c.mark-mark.ensures.good c.mark-mark.ensures.whole c.start.ensures.marks c.search_from.ensures.marks c.undo.ensures.store)
 
 pub returns-clause-steps : goal.returns-clause-steps
 returns-clause-steps c = c.cut.ensures.steps
@@ -89,7 +90,7 @@ pub returns-clause-goals : goal.returns-clause-goals
 returns-clause-goals c = c.cut.ensures.goals
 
 pub returns-clause-marks : goal.returns-clause-marks
-returns-clause-marks c = marks-of_same c.args.store.now.store c.undo.new.self.store (back-again (the_mark c.mark-mark.result) c.args.store.now.store c.start.new.store.store c.search_from.new.store.store c.undo.new.self.store c.mark-mark.ensures.good c.mark-mark.ensures.whole c.start.ensures.marks c.search_from.ensures.marks c.undo.ensures.store)
+returns-clause-marks c = marks-of_same c.args.store.now.store c.cut.new.store.store (ap (λ (z : TermStore). z.store) c.cut.ensures.store ∙ back-again (the_mark c.mark-mark.result) c.args.store.now.store c.start.new.store.store c.search_from.new.store.store c.undo.new.self.store c.mark-mark.ensures.good c.mark-mark.ensures.whole c.start.ensures.marks c.search_from.ensures.marks c.undo.ensures.store)
 
 pub returns-clause-room : goal.returns-clause-room
-returns-clause-room c = room-both c.args.store.now c.search_from.new.store c.undo.new.self (room-both c.args.store.now c.start.new.store c.search_from.new.store c.start.ensures.room c.search_from.ensures.room) c.undo.ensures.room
+returns-clause-room c = subst (λ (z : TermStore). KeepsRoom c.args.store.now z) (sym c.cut.ensures.store) (room-both c.args.store.now c.search_from.new.store c.undo.new.self (room-both c.args.store.now c.start.new.store c.search_from.new.store c.start.ensures.room c.search_from.ensures.room) c.undo.ensures.room)
