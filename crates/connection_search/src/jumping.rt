@@ -31,6 +31,9 @@ use term_store::{CellAtom, Ref, Store};
 // How many cells one look visits at most.
 const MOST_CELLS: usize = 1024;
 
+// How many cells all looks visit at most for each choice that was tried.
+const CELLS_PER_CHOICE: u64 = 2;
+
 /// The bound cells that occur in a goal and in those above it.
 #[derive(Drop)]
 pub(crate) struct Look {
@@ -82,7 +85,7 @@ impl Look {
 
     // Whether looks cost little so far, beside the choices that were tried.
     fn is_due(&self) -> bool {
-        self.visited <= self.tried
+        self.visited / CELLS_PER_CHOICE <= self.tried
     }
 
     fn add_atom(&mut self, atom: &CellAtom) -> Result<(), NoMemory>
