@@ -1,5 +1,5 @@
 -- Looking ahead at the path limit: goals that no bindings close within it, and lists that are dropped where the limit is known to be left.
-use Rattle.std.proofs.Common.{◌≡◌, ◌≢◌, ◌⊎◌, ◌&&◌, ◌==◌, ◌+◌, ◌-◌, ◌<◌, ◌≤◌, ◌%◌, ◌^◌, ◌*◌, ℕ, zero, suc, Bool, List, [], ◌∷◌, ◌++◌, length, max, not, true, false, IsTrue, MatchOption, refl, sym, ◌∙◌, ap, subst, Option, Some, None, option_map, slice_get, remove, inl, inr, arith, append_assoc, bit_or, eq-eqb}
+use Rattle.std.proofs.Common.{◌≡◌, ◌≢◌, ◌⊎◌, ◌&&◌, ◌==◌, ◌+◌, ◌<◌, ◌≤◌, ◌%◌, ◌^◌, ◌*◌, ℕ, zero, suc, Bool, List, [], ◌∷◌, ◌++◌, length, max, not, true, false, IsTrue, MatchOption, refl, sym, ◌∙◌, ap, subst, Option, Some, None, option_map, slice_get, remove, inl, inr, arith, append_assoc, bit_or, eq-eqb}
 use Rattle.std.specs.Int.{bit_at}
 use Rattle.std.specs.Bool.{⊤}
 use Rattle.std.specs.List.{AllByRecursion}

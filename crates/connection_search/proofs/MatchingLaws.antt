@@ -1,20 +1,20 @@
 -- An extension whose connected literal is matched against the goal and not copied.
-use Rattle.std.proofs.Common.{◌≡◌, ◌+◌, ◌<◌, ◌≤◌, ◌&&◌, ◌∷◌, [], ℕ, zero, suc, List, length, map, remove, Bool, true, false, not, Option, None, Some, slice_get, IsTrue, refl, sym, ◌∙◌, ap, ap₂, subst, arith, ltb-true, lt-ltb, nat_lt}
+use Rattle.std.proofs.Common.{◌≡◌, ◌≤◌, ◌∷◌, [], ℕ, zero, suc, List, length, map, remove, true, false, not, Some, slice_get, IsTrue, refl, sym, ◌∙◌, ap, ap₂, arith, ltb-true, lt-ltb, nat_lt}
 use Rattle.std.specs.List.{list_all}
 use Rattle.std.proofs.lemmas.Bool.{and_from, and_parts}
 use Rattle.calculus.specs.declared.sign.Side.{Side}
 use Rattle.calculus.specs.declared.sort.Sort.TheVariants.{TermSort}
 use Rattle.calculus.specs.Equality.{sign_eq}
-use Rattle.calculus.specs.Ground.{GroundLiteral, Value}
-use Rattle.store_theory.specs.Bindings.{AddsBuilt, nothing_more, places_from, with_variables_of}
+use Rattle.calculus.specs.Ground.{Value}
+use Rattle.store_theory.specs.Bindings.{nothing_more, places_from, with_variables_of}
 use Rattle.store_theory.specs.Patterns.{PatternAtom, Template, patterns_tree, without_literal}
 use Rattle.store_theory.specs.Stores.{Store, has_sort_at, has_value_sort_at, Solution, Solves, names_below}
 use Rattle.store_theory.specs.Systems.{CellAtom}
 use Rattle.store_theory.specs.Templates.{have_sorts, literals_by, pattern_label, pattern_literal, pattern_terms}
-use Rattle.search_theory.specs.States.{Agree, CellClause, atom_is_below, clause_is_below, label_by, literal_by, terms_by, values_by}
+use Rattle.search_theory.specs.States.{Agree, CellClause, clause_is_below, label_by, literal_by, terms_by, values_by}
 use Rattle.search_theory.specs.Steps.{CannotExtend, IsExtended, IsRestCopy}
 use Rattle.search_theory.proofs.BuildingLaws.{AreStores, agree-both, copy-by_cells, is_variable_sort, variables-back, variables-longer, variables-sorted}
-use Rattle.search_theory.proofs.ImageLaws.{literal-agree, terms-agree, values-agree}
+use Rattle.search_theory.proofs.ImageLaws.{terms-agree, values-agree}
 use Rattle.search_theory.proofs.MeetingLaws.{literal-there, opposite-from, opposite-parts, opposite-some, some-opposite}
 use Rattle.search_theory.proofs.StageLaws.{inserted}
 use Rattle.term_store.specs.Fitting.{parts_fit_in}

@@ -1,12 +1,11 @@
 -- Reductions, extensions and the tests of goals on the program's tree.
-use Rattle.std.proofs.Common.{◌≡◌, ◌<◌, ◌≤◌, ℕ, zero, suc, List, [], ◌∷◌, ◌++◌, drop, length, Bool, true, false, ◌&&◌, ◌||◌, ◌==◌, IsTrue, refl, sym, ◌∙◌, ap, subst, Option, None, Some, option_map, slice_get, arith, nat_le, ltb-true, eq-eqb, inl, inr}
-use Rattle.std.specs.Prelude.{remove}
+use Rattle.std.proofs.Common.{◌≡◌, ◌<◌, ◌≤◌, ℕ, zero, suc, List, [], ◌∷◌, ◌++◌, drop, length, Bool, true, false, ◌&&◌, ◌||◌, ◌==◌, IsTrue, refl, sym, ◌∙◌, ap, subst, Option, None, Some, option_map, slice_get, arith, nat_le, ltb-true, eq-eqb}
 use Rattle.std.specs.List.{AllByRecursion, list_all, list_any}
 use Rattle.std.proofs.lemmas.Bool.{and_parts, false≢true}
 use Rattle.store_theory.specs.Bindings.{AddsBuilt, AddsOver, BindsOnly, IsWellFormed, NamesFrom, NamesOver, nothing_more, places_from, with_variables_of}
 use Rattle.calculus.specs.Choices.{Choice, extension, reduction, start}
 use Rattle.store_theory.specs.Patterns.{AreCopies, CopiedClause, HaveSortsAt, IsClauseCopy, PatternAtom, Template, clause_fits, clause_is_from, patterns_tree, template_fits, without_literal}
-use Rattle.store_theory.specs.Stores.{Cell, Store, has_sort_at, names_below, sort_of}
+use Rattle.store_theory.specs.Stores.{Store, has_sort_at, names_below}
 use Rattle.calculus.specs.Syntax.{Problem}
 use Rattle.calculus.specs.declared.sort.Sort.{Sort}
 use Rattle.calculus.specs.declared.sort.Sort.TheVariants.{TermSort}

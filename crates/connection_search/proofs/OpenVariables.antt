@@ -1,5 +1,5 @@
 -- The unbound variables among a search's own cells: each is one of a clause that was copied.
-use Rattle.std.proofs.Common.{◌≡◌, ◌⊎◌, ◌≤◌, ◌<◌, ℕ, zero, suc, List, [], ◌∷◌, ◌++◌, length, true, false, sym, ◌∙◌, ap, refl, Option, None, Some, slice_get, arith, inl, inr}
+use Rattle.std.proofs.Common.{◌≡◌, ◌⊎◌, ℕ, suc, List, [], ◌∷◌, ◌++◌, length, true, false, sym, ◌∙◌, ap, refl, None, Some, slice_get, arith, inl, inr}
 use Rattle.store_theory.specs.Bindings.{AddsBuilt, BindsOnly, is_variable, nothing_more, one_more, places_from, with_cell, with_variables_of}
 use Rattle.store_theory.specs.Stores.{Store, variable}
 use Rattle.calculus.specs.Choices.{start, reduction, extension}

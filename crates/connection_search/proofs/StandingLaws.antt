@@ -1,5 +1,5 @@
 -- What the points on the stack tell of goals that were not solved: a list that is given up, a new point, and points that go.
-use Rattle.std.proofs.Common.{◌≡◌, ◌⊎◌, ◌<◌, ◌≤◌, ◌+◌, ℕ, zero, suc, List, [], ◌∷◌, ◌++◌, length, min, reverse, take, IsTrue, refl, sym, ◌∙◌, ap, ap₂, subst, Option, None, Some, slice_get, slice_set, inl, inr, arith, nat_le, leb-true, Bool, true, false, if◌then◌else◌}
+use Rattle.std.proofs.Common.{◌≡◌, ◌⊎◌, ◌<◌, ◌≤◌, ℕ, zero, suc, List, [], ◌∷◌, ◌++◌, length, min, reverse, take, IsTrue, refl, sym, ◌∙◌, ap, ap₂, subst, Option, None, Some, slice_get, slice_set, inl, inr, arith, nat_le, leb-true, Bool, true, false}
 use Rattle.std.specs.List.{AllByRecursion}
 use Rattle.std.proofs.lemmas.List.{length-append, length-map, reverse-append}
 use Rattle.store_theory.specs.Bindings.{KeepsMarks}

@@ -1,5 +1,5 @@
 -- The next choice of the last point: back at the point, its choice, and what comes of it.
-use Rattle.std.proofs.Common.{◌≡◌, ◌⊎◌, ◌+◌, ◌-◌, ◌*◌, ◌<◌, ◌≤◌, ℕ, suc, Bool, true, List, [], ◌∷◌, ◌++◌, Option, None, Some, MatchOption, IsTrue, reverse, slice_set, sum_by, take, refl, sym, ◌∙◌, ap, subst, arith, append_assoc, inl, inr, length}
+use Rattle.std.proofs.Common.{◌≡◌, ◌⊎◌, ◌+◌, ◌-◌, ◌*◌, ◌<◌, ◌≤◌, ℕ, suc, Bool, List, [], ◌∷◌, ◌++◌, Option, None, Some, MatchOption, IsTrue, reverse, slice_set, sum_by, take, refl, sym, ◌∙◌, ap, subst, arith, append_assoc, inl, inr, length}
 use Rattle.std.proofs.Math.Nat.{mul-le-mul_right}
 use Rattle.std.specs.Bool.{⊤}
 use Rattle.std.specs.List.{AllByRecursion}

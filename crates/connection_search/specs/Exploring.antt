@@ -1,5 +1,5 @@
 -- The loop of the search: the choice points on the stack, and how far the search at one limit has come.
-use Rattle.std.specs.Prelude.{◌≡◌, ◌⊎◌, ◌≤◌, ◌+◌, ◌-◌, ℕ, List, [], ◌∷◌, ◌++◌, Bool, true, Option, IsTrue, ⊤, length, reverse}
+use Rattle.std.specs.Prelude.{◌≡◌, ◌⊎◌, ◌≤◌, ◌+◌, ◌-◌, ℕ, List, [], ◌∷◌, ◌++◌, Bool, Option, IsTrue, ⊤, length, reverse}
 use Rattle.std.specs.List.{AllByRecursion}
 use Rattle.store_theory.specs.Bindings.{IsEarlier}
 use Rattle.calculus.specs.Choices.{Choice}

@@ -6,7 +6,6 @@ use Rattle.store_theory.specs.Patterns.{Pattern, PatternAtom, p_eigen, p_fun}
 use Rattle.store_theory.specs.Stores.{Solution, Solves, Store, parts_of}
 use Rattle.store_theory.specs.Systems.{CellAtom}
 use Rattle.store_theory.specs.Templates.{as_term, pattern_value}
-use Rattle.term_store.specs.Shown.{head_of}
 use Rattle.term_store.specs.declared.cell.Head.{Head}
 use Rattle.term_store.specs.declared.cell.Head.TheVariants as head
 

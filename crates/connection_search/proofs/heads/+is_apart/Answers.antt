@@ -1,4 +1,4 @@
-use Rattle.std.proofs.Common.{◌∙◌, ap, arith, length, map, slice_get, subst, sym}
+use Rattle.std.proofs.Common.{◌∙◌, ap, arith, slice_get, subst, sym}
 use Rattle.store_theory.specs.Patterns.{pattern_size}
 use Rattle.store_theory.proofs.BindingLaws.{ends-there}
 use Rattle.term_store.specs.PatternView.{the_pattern}
