@@ -6,6 +6,7 @@ use Rattle.store_theory.specs.Patterns.{Pattern, PatternAtom, p_eigen, p_fun}
 use Rattle.store_theory.specs.Stores.{Solution, Solves, Store, parts_of}
 use Rattle.store_theory.specs.Systems.{CellAtom}
 use Rattle.store_theory.specs.Templates.{as_term, pattern_value}
+use Rattle.search_theory.specs.States.{values_by}
 use Rattle.term_store.specs.declared.cell.Head.{Head}
 use Rattle.term_store.specs.declared.cell.Head.TheVariants as head
 
@@ -20,6 +21,10 @@ names_differ _ _ = false
 -- no solution makes the cell equal to a copy of the pattern
 abbrev pub IsApart : Store → ℕ → Pattern → Type 0
 IsApart s r q = (σ : Solution) (vs : List Value) → Solves s σ → ¬ (as_term (σ r) ≡ as_term (pattern_value vs q))
+
+-- no solution makes the cell equal to the pattern over these variables
+abbrev pub IsApartAt : Store → List ℕ → ℕ → Pattern → Type 0
+IsApartAt s vs r q = (σ : Solution) → Solves s σ → ¬ (as_term (σ r) ≡ as_term (pattern_value (values_by σ vs) q))
 
 -- a part of the cell at the end of bindings is so
 abbrev pub HavePartsApart : Store → ℕ → List Pattern → Type 0

@@ -41,4 +41,5 @@ pub mod Deciding
 pub mod Pruning
 -- goals that no bindings close within the limit
 pub mod Ahead
+pub mod Uncopied
 pub mod MetAtom

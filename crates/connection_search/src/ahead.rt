@@ -55,32 +55,31 @@ fn is_marked(marks: u64, symbol: SymbolId, sign: Sign) -> bool
     (marks >> bit) % 2 == 1
 }
 
-// The marks, and that of the atom's symbol under its sign.
-fn with_mark(marks: u64, atom: &CellAtom) -> u64
-    ensures own { bit_at result (marking.bit_of (the_atom atom.now).symbol (the_atom
-        atom.now).sign) ≡ 1 }
+/// The marks, and that of the symbol under the sign.
+pub(crate) fn with_mark(marks: u64, symbol: SymbolId, sign: Sign) -> u64
+    ensures own { bit_at result (marking.bit_of symbol.0 sign) ≡ 1 }
     ensures others { (bit : ℕ) → bit_at marks bit ≡ 1 → bit_at result bit ≡ 1 }
 {
-    let bit = bit_of(atom.symbol, atom.sign);
+    let bit = bit_of(symbol, sign);
     marks | (1 << bit)
 }
 
-// The marks of the goal and of those above it.
-fn marks_of(tree: &Tree, goal: usize) -> u64
+/// The marks of the goal and of those above it.
+pub(crate) fn marks_of(tree: &Tree, goal: usize) -> u64
     requires { (x : CellGoal) × IsGoalAt tree.now.steps.items tree.now.goals.items goal x }
     ensures { (x : CellGoal) → IsGoalAt tree.now.steps.items tree.now.goals.items goal x
         → MarksPath result (x.literal ∷ x.path) }
 {
     let at = tree.goals[goal];
     let own = tree.atom(goal);
-    let mut marks = with_mark(0, own);
+    let mut marks = with_mark(0, own.symbol, own.sign);
     let mut above = at.above;
     for _i in 0..at.depth {
         match above {
             None => return marks,
             Some(ancestor) => {
                 let signed = tree.atom(ancestor);
-                let more = with_mark(marks, signed);
+                let more = with_mark(marks, signed.symbol, signed.sign);
                 marks = more;
                 above = tree.goals[ancestor].above;
             }
@@ -101,8 +100,8 @@ fn lacks_mark(marks: u64, literal: &PatternAtom) -> bool
     true
 }
 
-// The literal of this number.
-fn literal_at(literals: &[PatternAtom], i: usize) -> &PatternAtom
+/// The literal of this number.
+pub(crate) fn literal_at(literals: &[PatternAtom], i: usize) -> &PatternAtom
     requires { i < length literals.now }
     ensures { slice_get (map the_pattern_atom literals.now) i ≡ Some (the_pattern_atom result.now) }
 {
@@ -195,6 +194,22 @@ fn place_at(places: &[Place], i: usize) -> Place
     places[i]
 }
 
+/// Whether each literal of the matrix that extends a goal of this symbol and sign, which has these
+/// marks with those above it, gives a goal without such a mark.
+pub(crate) fn has_no_hope_by(matrix: &Matrix, symbol: SymbolId, sign: Sign, marks: u64) -> bool
+    ensures { result ≡ true → (x : CellGoal) → x.literal.symbol ≡ symbol.0 → x.literal.sign ≡ sign
+        → MarksPath marks (x.literal ∷ x.path) → HasNoHope matrix.now x }
+{
+    let places = matrix.places(symbol, other(sign));
+    for i in 0..places.len() {
+        let place = place_at(places, i);
+        if !is_hopeless_place(matrix, place, marks) {
+            return false;
+        }
+    }
+    true
+}
+
 impl Space<'_> {
     // How many extensions the goal's path has room for.
     fn room(&self, tree: &Tree, goal: usize) -> usize
@@ -214,14 +229,7 @@ impl Space<'_> {
     {
         let marks = marks_of(tree, goal);
         let atom = tree.atom(goal);
-        let places = self.matrix.places(atom.symbol, other(atom.sign));
-        for i in 0..places.len() {
-            let place = place_at(places, i);
-            if !is_hopeless_place(self.matrix, place, marks) {
-                return false;
-            }
-        }
-        true
+        has_no_hope_by(self.matrix, atom.symbol, atom.sign, marks)
     }
 
     // Whether no bindings close the goal within the limit, where its path has room for one extension

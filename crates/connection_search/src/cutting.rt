@@ -133,7 +133,7 @@ impl Space<'_> {
             None => return Ok(Visit::On),
         };
         points.push(point)?;
-        if !work.make(store, self.matrix, point.goal, choice)? {
+        if !work.make(store, self.matrix, point.goal, choice, None)? {
             return Ok(Visit::On);
         }
         if !work.is_regular(store)? {

@@ -168,7 +168,8 @@ impl Space<'_> {
             }
         };
         work.look.count();
-        let made = work.make(store, self.matrix, point.goal, choice)?;
+        let ahead = self.limit_ahead(*left);
+        let made = work.make(store, self.matrix, point.goal, choice, ahead)?;
         let first = seen(&work.tree, point.steps);
         point.see(first);
         if !made {

@@ -2,17 +2,23 @@
 
 ghost use Rattle.std.specs.Prelude.{◌≡◌, ◌<◌, IsTrue, Some, length, map, slice_get, true};
 ghost use Rattle.store_theory.specs.Bindings.{IsEnd};
-ghost use Rattle.store_theory.specs.Stores.{names_below};
+ghost use Rattle.calculus.specs.declared.sort.Sort.{Sort};
+ghost use Rattle.calculus.specs.declared.sort.Sort.TheVariants.{TermSort};
+ghost use Rattle.store_theory.specs.Patterns.{patterns_tree};
+ghost use Rattle.store_theory.specs.Stores.{Solution, Solves, names_below};
+ghost use Rattle.store_theory.specs.Templates.{pattern_terms};
+ghost use Rattle.search_theory.specs.States.{terms_by, values_by};
+ghost use Rattle.term_store.specs.Fitting.{fits_in, parts_fit_in};
 ghost use Rattle.term_store.specs.ClauseView.{the_atom, the_pattern_atom};
 ghost use Rattle.term_store.specs.PatternView.{the_pattern};
-ghost use Rattle.term_store.specs.RefView.{the_place};
+ghost use Rattle.term_store.specs.RefView.{the_place, the_places};
 ghost use Rattle.term_store.specs.Shown.{the_head};
 ghost use Rattle.search_theory.specs.Steps.{Clash};
-ghost use Rattle.connection_search.specs.Heads.{HasClash, HavePartsApart, IsApart};
+ghost use Rattle.connection_search.specs.Heads.{HasClash, HavePartsApart, IsApart, IsApartAt};
 ghost use Rattle.connection_search.specs.Heads.{ends_differ, names_differ};
 
 use crate::atoms::reference_at;
-use term_store::{CellAtom, Content, Head, Pattern, PatternAtom, Patterns, Ref, Store};
+use term_store::{CellAtom, Content, Head, Pattern, PatternAtom, Patterns, Ref, Store, Variables};
 
 fn names_differ(content: Content, pattern: &Pattern) -> bool
     ensures { result ≡ names_differ (the_head content) (the_pattern pattern.now) }
@@ -134,6 +140,52 @@ pub(crate) fn have_clash(store: &Store, xs: &[Ref], ys: &[Ref]) -> bool
         let left = store.head(x);
         let right = store.head(y);
         if ends_differ(left, right) {
+            return true;
+        }
+    }
+    false
+}
+
+// Whether names show that no bindings make the cell equal to the pattern over these variables.
+fn is_apart_over(store: &Store, r: Ref, pattern: &Pattern, variables: Variables) -> bool
+    requires cell { r.0 < length store.now.store.cells }
+    requires fits { (sort : Sort) × IsTrue (fits_in store.now.store (the_places variables) sort
+        (the_pattern pattern.now)) }
+    ensures { result ≡ true → IsApartAt store.now.store (the_places variables) r.0 (the_pattern
+        pattern.now) }
+{
+    match pattern {
+        Pattern::Var(k) => {
+            let variable = store.variable(variables, *k);
+            let left = store.head(variable);
+            let right = store.head(r);
+            ends_differ(left, right)
+        }
+        Pattern::Fun(_, _) => names_differ(store.end(r).content, pattern),
+        Pattern::Eigen(_, _) => names_differ(store.end(r).content, pattern),
+        Pattern::New(_, _) => false,
+    }
+}
+
+/// Whether a term and the pattern over these variables at its place have different outermost names.
+pub(crate) fn have_clash_over(
+    store: &Store,
+    xs: &[Ref],
+    patterns: &Patterns,
+    variables: Variables,
+) -> bool
+    requires cells { IsTrue (names_below (length store.now.store.cells) (map the_place xs.now)) }
+    requires fits { IsTrue (parts_fit_in store.now.store (the_places variables) TermSort false
+        (patterns_tree patterns.now)) }
+    ensures { result ≡ true → (σ : Solution) → Solves store.now.store σ
+        → ¬ (terms_by σ (map the_place xs.now)
+        ≡ pattern_terms (values_by σ (the_places variables)) (patterns_tree patterns.now)) }
+{
+    let items = patterns.items();
+    for i in 0..xs.len().min(items.len()) {
+        let x = reference_at(xs, i);
+        let pattern = pattern_at(items, i);
+        if is_apart_over(store, x, pattern, variables) {
             return true;
         }
     }

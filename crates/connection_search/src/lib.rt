@@ -26,6 +26,7 @@ mod seeing;
 mod space;
 mod system;
 mod tree;
+mod uncopied;
 
 pub use cutting::{CutAnswer, deepen_cut};
 pub use deepening::{Answer, deepen};

@@ -13,7 +13,7 @@ ghost use Rattle.search_theory.specs.Regular.{HasNoSamePair};
 ghost use Rattle.search_theory.specs.OrderedChoices.{extension_at, selection_of};
 ghost use Rattle.search_theory.specs.States.{CellChoice, CellGoal, CellGrowth};
 ghost use Rattle.term_store.specs.Room.{KeepsRoom};
-ghost use Rattle.connection_search.specs.GivenUp.{HasLost, IsGivenUp};
+ghost use Rattle.connection_search.specs.GivenUp.{HasLost, IsGivenUp, IsRuledOut, LooksAhead};
 ghost use Rattle.connection_search.specs.Points.{IsMoveAt, the_move};
 ghost use Rattle.connection_search.specs.Running.{ExtendsBy, GoalStands, IsAt, IsMatrixOf};
 ghost use Rattle.connection_search.specs.Running.{ReducesBy, TreeStands, TreeStandsDeep};
@@ -24,12 +24,13 @@ use crate::jumping::Look;
 use crate::occurrences::Occurrences;
 use crate::point::Move;
 use crate::pruning::Tests;
-use crate::regular::{are_new_from, are_others_new, first_repeated, is_new};
+use crate::regular::{are_new_from, first_repeated, is_new};
 use crate::tree::{Copied, Tree};
+use crate::uncopied::is_set_aside;
 use cop_base::{ClauseId, NoMemory};
 use matrix_build::{Matrix, Place};
 use std::alloc::Global;
-use term_store::{Store, Template};
+use term_store::Store;
 use term_unify::Unifier;
 
 // How many choices are tried for each goal of the tree before all its goals are looked at again.
@@ -136,13 +137,16 @@ impl Work {
         Ok(new)
     }
 
-    /// Extends the goal by the literal at the place, which has its symbol and the other sign.
+    /// Extends the goal by the literal at the place, which has its symbol and the other sign. The
+    /// other literals are looked at before they are copied: no goal is to be the same as one above
+    /// it, nor one that cannot be closed within the limit that is looked at, if any.
     pub fn extend(
         &mut self,
         store: &mut Store,
         matrix: &Matrix,
         goal: usize,
         place: Place,
+        ahead: Option<usize>,
     ) -> Result<bool, NoMemory>
         requires { (P : Problem) × (base : ℕ) × (d : ℕ) × (c : List Choice) × (g : CellGoal)
             × IsMatrixOf P matrix.now
@@ -163,12 +167,12 @@ impl Work {
         ensures refused { IfOk result (λ made. made ≡ false
             → (P : Problem) (base d : ℕ) (c : List Choice) (g : CellGoal) → IsMatrixOf P matrix.now
             → GoalStands P matrix.now base d c store.old self.old.tree goal g
-            → ExtendsBy matrix.now d g (the_place place)
-            → IsDead P (c ++ extension_at matrix.now (the_place place) ∷ [])) }
+            → ExtendsBy matrix.now d g (the_place place) → LooksAhead ahead d
+            → IsRuledOut P d (c ++ extension_at matrix.now (the_place place) ∷ []) ahead) }
         ensures given_up { IfOk result (λ made. made ≡ false
             → (P : Problem) (base d : ℕ) (c : List Choice) (g : CellGoal) → IsMatrixOf P matrix.now
             → GoalStands P matrix.now base d c store.old self.old.tree goal g
-            → ExtendsBy matrix.now d g (the_place place)
+            → ExtendsBy matrix.now d g (the_place place) → LooksAhead ahead d
             → IsGivenUp P matrix.now base d (c ++ extension_at matrix.now (the_place place) ∷ []) (length self.old.tree.goals.items)
             store.new self.new.tree) }
         ensures kept { OnOk result (KeepsTree self.old.tree.steps.items self.old.tree.goals.items
@@ -190,6 +194,23 @@ impl Work {
         {
             return Ok(false);
         }
+        if template.literals.items().len() > 1 {
+            let others = self.occurrences.others(place.clause, template, place.literal)?;
+            if is_set_aside(
+                &mut self.unifier,
+                store,
+                matrix,
+                &self.tree,
+                goal,
+                template,
+                at,
+                variables,
+                &others,
+                ahead,
+            )? {
+                return Ok(false);
+            }
+        }
         let label = store.copy_label(template, variables, at)?;
         let copy = store.copy_rest(template, variables, at)?;
         let atom = met_atom(store, literal, terms, label)?;
@@ -200,7 +221,7 @@ impl Work {
         };
         let first = self.tree.goals.len();
         self.tree.extend(goal, copied, place.literal, atom)?;
-        let regular = self.is_regular_from(store, template, place, first)?;
+        let regular = self.is_regular_from(store, first)?;
         Ok(regular)
     }
 
@@ -226,15 +247,9 @@ impl Work {
         }
     }
 
-    // Whether the goals from this number on, which the clause of the place gave, and the leftmost
-    // open goal are the same as none above them.
-    fn is_regular_from(
-        &mut self,
-        store: &Store,
-        template: &Template,
-        place: Place,
-        first: usize,
-    ) -> Result<bool, NoMemory>
+    // Whether the leftmost open goal is the same as none above it. Goals from this number on, which
+    // the extension gave, were looked at before they were built.
+    fn is_regular_from(&mut self, store: &Store, first: usize) -> Result<bool, NoMemory>
         requires { (P : Problem) × (m : List MatrixClause) × (base : ℕ) × (d : ℕ)
             × (c : List Choice) × TreeStands P m base d c store.now self.old.tree }
         ensures repeated { IfOk result (λ new. new ≡ false
@@ -247,23 +262,21 @@ impl Work {
         ensures tree { self.new.tree ≡ self.old.tree }
     {
         if first < self.tree.goals.len() {
-            let others = self
-                .occurrences
-                .others(place.clause, template, place.literal)?;
-            let new = are_others_new(&mut self.unifier, store, &self.tree, first, &others)?;
-            return Ok(new);
+            return Ok(true);
         }
         let new = self.is_leftmost_new(store)?;
         Ok(new)
     }
 
-    /// Makes the choice at the goal, where it can be made.
+    /// Makes the choice at the goal, where it can be made, and where a limit is looked at, where no
+    /// goal that it gives shows that it cannot be closed within the limit.
     pub fn make(
         &mut self,
         store: &mut Store,
         matrix: &Matrix,
         goal: usize,
         choice: Move,
+        ahead: Option<usize>,
     ) -> Result<bool, NoMemory>
         requires { (P : Problem) × (base : ℕ) × (d : ℕ) × (c : List Choice) × (g : CellGoal)
             × IsMatrixOf P matrix.now
@@ -279,12 +292,12 @@ impl Work {
             → (P : Problem) (base d : ℕ) (c : List Choice) (g : CellGoal) → IsMatrixOf P matrix.now
             → GoalStands P matrix.now base d c store.old self.old.tree goal g
             → IsMoveAt matrix.now d self.old.tree.steps.items self.old.tree.goals.items g choice
-            → IsDead P (c ++ the_move matrix.now choice ∷ [])) }
+            → LooksAhead ahead d → IsRuledOut P d (c ++ the_move matrix.now choice ∷ []) ahead) }
         ensures given_up { IfOk result (λ made. made ≡ false
             → (P : Problem) (base d : ℕ) (c : List Choice) (g : CellGoal) → IsMatrixOf P matrix.now
             → GoalStands P matrix.now base d c store.old self.old.tree goal g
             → IsMoveAt matrix.now d self.old.tree.steps.items self.old.tree.goals.items g choice
-            → IsGivenUp P matrix.now base d (c ++ the_move matrix.now choice ∷ []) (length self.old.tree.goals.items)
+            → LooksAhead ahead d → IsGivenUp P matrix.now base d (c ++ the_move matrix.now choice ∷ []) (length self.old.tree.goals.items)
             store.new self.new.tree) }
         ensures kept { OnOk result (KeepsTree self.old.tree.steps.items self.old.tree.goals.items
             self.new.tree.steps.items self.new.tree.goals.items) }
@@ -297,7 +310,7 @@ impl Work {
                 Ok(made)
             }
             Move::Extend(place) => {
-                let made = self.extend(store, matrix, goal, place)?;
+                let made = self.extend(store, matrix, goal, place, ahead)?;
                 Ok(made)
             }
         }

@@ -125,15 +125,10 @@ impl Others<'_> {
         0
     }
 
-    /// Whether the other literal of this number may be the same as a goal above it, since it has no
-    /// variable of its own.
-    pub fn may_repeat(&self, other: usize) -> bool {
+    /// Whether the literal of this number may give a goal that is the same as one above it, since it
+    /// has no variable of its own.
+    pub fn may_repeat(&self, literal: usize) -> bool {
         let connected = self.bits_at(self.connected);
-        let own = if other < self.connected {
-            self.bits_at(other)
-        } else {
-            self.bits_at(other.saturating_add(1))
-        };
-        own | connected == connected
+        self.bits_at(literal) | connected == connected
     }
 }

@@ -1,6 +1,6 @@
 //! Lists of choices that are dropped before they are whole.
 
-ghost use Rattle.std.specs.Prelude.{◌≡◌, ℕ, IfOk, IsTrue, List, true};
+ghost use Rattle.std.specs.Prelude.{◌≡◌, ℕ, IfOk, IsTrue, List, MatchOption, true, ⊤};
 ghost use Rattle.calculus.specs.Choices.{Choice};
 ghost use Rattle.search_theory.proofs.BeginningLaws.{is_not_empty};
 ghost use Rattle.connection_search.specs.GivenUp.{HasLost};
@@ -118,8 +118,19 @@ impl Space<'_> {
         }
     }
 
+    /// The limit, where it is known that it is left, and goals that cannot be closed within it are
+    /// looked for.
+    pub(crate) fn limit_ahead(&self, left: bool) -> Option<usize>
+        ensures { MatchOption result ⊤ (λ k. (k ≡ self.now.limit) × (left ≡ true)) }
+    {
+        if left && self.pruning.ahead {
+            return Some(self.limit as usize);
+        }
+        None
+    }
+
     /// Whether open goals show that no closed tableau begins with the list, where it is known that the
-    /// limit is left.
+    /// limit is left. The goals of an extension were looked at before they were built.
     pub(crate) fn is_stuck_early(&self, store: &Store, work: &Work, left: bool) -> bool
         requires { (base : ℕ) × (c : List Choice)
             × TreeStands self.now.problem.now self.now.matrix.now base self.now.limit c store.now
@@ -131,7 +142,7 @@ impl Space<'_> {
             work.now.tree
             → HasLost self.now.problem.now self.now.limit c n work.now.tree.open }
     {
-        left && self.pruning.ahead && self.is_stuck(store, &work.tree)
+        left && self.pruning.ahead && !work.tree.is_extended() && self.is_stuck(store, &work.tree)
     }
 
     /// Whether labels show it. The labels of a list whose leftmost open goal can only be reduced are

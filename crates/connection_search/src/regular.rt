@@ -12,7 +12,6 @@ ghost use Rattle.connection_search.specs.Sameness.{AnyRepeated, IsRepeated};
 ghost use Rattle.connection_search.specs.Trees.{AreGoals, IsGoalAt};
 
 use crate::atoms::are_same;
-use crate::occurrences::Others;
 use crate::tree::Tree;
 use cop_base::NoMemory;
 use term_store::Store;
@@ -105,30 +104,4 @@ pub(crate) fn are_new_from(
         None => Ok(true),
         Some(_goal) => Ok(false),
     }
-}
-
-/// Whether each goal from this number on, which are other literals of a clause than the connected
-/// one, is the same as none above it. Those that cannot be are not looked at.
-pub(crate) fn are_others_new(
-    unifier: &mut Unifier,
-    store: &Store,
-    tree: &Tree,
-    first: usize,
-    others: &Others<'_>,
-) -> Result<bool, NoMemory>
-    requires { (xs : List CellGoal)
-        × AreGoals tree.now.steps.items tree.now.goals.items tree.now.goals.items xs
-        × IsTrue (list_all (goal_is_below (length store.now.store.cells)) xs) }
-    ensures repeated { IfOk result (λ new. new ≡ false → (xs : List CellGoal)
-        → AreGoals tree.now.steps.items tree.now.goals.items tree.now.goals.items xs
-        → AnyRepeated store.now.store first xs) }
-{
-    for goal in first..tree.goals.len() {
-        if others.may_repeat(tree.goals[goal].literal) {
-            if !is_new(unifier, store, tree, goal)? {
-                return Ok(false);
-            }
-        }
-    }
-    Ok(true)
 }

@@ -68,7 +68,7 @@ impl Space<'_> {
         ensures marks { KeepsMarks store.old.store store.new.store }
         ensures room { KeepsRoom store.old store.new }
     {
-        if !work.extend(store, self.matrix, here.goal, place)? {
+        if !work.extend(store, self.matrix, here.goal, place, None)? {
             here.return_to(store, &mut work.tree);
             return Ok(false);
         }

@@ -123,6 +123,17 @@ impl Tree {
         &goals_of(&self.steps[at.step])[at.literal]
     }
 
+    /// Whether the leftmost open goal came with the last choice, an extension.
+    pub fn is_extended(&self) -> bool {
+        match (self.steps.last(), self.open) {
+            (Some(Step::Extend(_, _, _, _)), Some(goal)) => match self.goals.get(goal) {
+                Some(at) => at.step + 1 == self.steps.len(),
+                None => false,
+            },
+            _ => false,
+        }
+    }
+
     /// Back to so many choices and goals, when `first` was the leftmost open goal. The store takes
     /// the lists of the choices that go.
     pub fn cut(&mut self, store: &mut Store, steps: usize, goals: usize, first: Option<usize>)

@@ -6,7 +6,7 @@ use Rattle.calculus.specs.Syntax.{Problem}
 use Rattle.calculus.specs.Tableaux.{Closing, closes}
 use Rattle.calculus.specs.Choices.{start, reduction, extension, Choice, GroundChoice, choices_of, choices_below, Goal, Growth, growth_of, is_within}
 use Rattle.store_theory.specs.Stores.{Cell, variable, Store, parts_of}
-use Rattle.search_theory.specs.Exploring.{Covers, IsIn}
+use Rattle.search_theory.specs.Exploring.{BeginsWith, Covers, IsIn}
 use Rattle.search_theory.specs.States.{CellChoice, State, IsStateOf}
 
 -- the list b closes the leftmost open goal of c: a tree that follows c within the limit d is grown by choices that close this goal
@@ -46,6 +46,10 @@ pub record StandsAtPoint (P : Problem) (d : ℕ) (p : ChoicePoint) : Type 0 wher
   pub state : State
   pub is_state : IsStateOf P d p.list state
   pub goals : length state.growth.all_goals ≡ p.goals
+
+-- no list that closes the goal of a point at which the tree had at most n goals begins with the list c
+abbrev pub IsFruitless : Problem → ℕ → List Choice → ℕ → Type 0
+IsFruitless P d c n = (q : ChoicePoint) → StandsAtPoint P d q → q.goals ≤ n → (b : List Choice) → IsSolvedList P d q.list b → ¬ BeginsWith c b
 
 -- ---- what an older store says of a goal
 

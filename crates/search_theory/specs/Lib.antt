@@ -17,6 +17,8 @@ pub mod OrderedChoices
 pub mod Searching
 -- looking ahead at the path limit
 pub mod Ahead
+-- literals that are looked at before their cells are built
+pub mod Uncopied
 -- solving systems
 pub mod Solving
 pub mod Demanding

@@ -102,14 +102,6 @@ impl CellAtomList {
         }
     }
 
-    /// The empty list, with room for so many items.
-    pub fn with_capacity(alloc: Global, count: usize) -> Result<CellAtomList, NoMemory>
-        ensures { IfOk result (λ list. list ≡ []) }
-    {
-        let items = Vec::with_capacity(alloc, count)?;
-        Ok(CellAtomList { items })
-    }
-
     /// Appends the item. Want of memory leaves the list as it was.
     pub fn push(&mut self, item: CellAtom) -> Result<(), NoMemory>
         ensures ok { OnOk result (self.new ≡ self.old ++ the_atom item ∷ []) }
@@ -159,14 +151,6 @@ impl GammaList {
         GammaList {
             items: Vec::new(alloc),
         }
-    }
-
-    /// The empty list, with room for so many items.
-    pub fn with_capacity(alloc: Global, count: usize) -> Result<GammaList, NoMemory>
-        ensures { IfOk result (λ list. list ≡ []) }
-    {
-        let items = Vec::with_capacity(alloc, count)?;
-        Ok(GammaList { items })
     }
 
     /// Appends the item. Want of memory leaves the list as it was.

@@ -19,8 +19,8 @@ use crate::store::Store;
 use cop_base::NoMemory;
 
 impl Store {
-    // The variable of this number.
-    fn variable(&self, variables: Variables, k: u32) -> Ref
+    /// The variable of this number.
+    pub fn variable(&self, variables: Variables, k: u32) -> Ref
         requires { (sort : Sort) × IsTrue (fits_in self.now.store (the_places variables) sort (p_var k)) }
         ensures { slice_get (the_places variables) k ≡ Some result.0 }
     {

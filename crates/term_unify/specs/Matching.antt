@@ -2,11 +2,13 @@
 -- built.
 use Rattle.std.specs.Prelude.{◌≡◌, ◌==◌, ◌≤◌, ◌<◌, ℕ, List, length, Bool, false, Some, slice_get, IsTrue, nat_le}
 use Rattle.std.specs.List.{list_all}
+use Rattle.calculus.specs.declared.sort.Sort.{Sort}
 use Rattle.store_theory.specs.Bindings.{AddsBuilt, BindsOnly, NamesFrom, is_variable}
 use Rattle.store_theory.specs.Patterns.{Pattern, p_var, p_fun, p_eigen, p_new, patterns_tree}
 use Rattle.store_theory.specs.Stores.{Cell, Store, parts_of, Solution, Solves}
 use Rattle.store_theory.specs.Templates.{pattern_value}
 use Rattle.search_theory.specs.States.{Agree, values_by}
+use Rattle.term_store.specs.Fitting.{fits_in}
 use Rattle.term_store.specs.declared.cell.Head.{Head}
 use Rattle.term_store.specs.declared.cell.Head.TheVariants.{Fun, Eigen, New}
 
@@ -59,6 +61,10 @@ has_head _ _ = false
 -- the cells are the parts of the cell x
 abbrev pub ArePartsAt : Store → ℕ → (List ℕ → Type 0) → Type 0
 ArePartsAt s x P = (c : Cell) → slice_get s.cells x ≡ Some c → P (parts_of c)
+
+-- each pattern has some sort over the variables
+abbrev pub EachFits : Store → List ℕ → List Pattern → Type 0
+EachFits s vs ps = (i : ℕ) (p : Pattern) → slice_get ps i ≡ Some p → (sort : Sort) × IsTrue (fits_in s vs sort p)
 
 -- a built cell stands there
 abbrev pub StandsBuilt : Store → ℕ → Type 0

@@ -4,6 +4,7 @@
 mod check;
 mod compare;
 mod flat;
+mod matched;
 mod matching;
 mod same;
 mod solve;
