@@ -142,10 +142,14 @@ row_of m x = places m x.literal.symbol (other x.literal.sign)
 pub row-same : (m : List MatrixClause) (items : List MatrixPlace) (a : CellAtom) (sign : Sign) (x : CellGoal) → items ≡ places m a.symbol sign → sign ≡ other a.sign → a ≡ x.literal → items ≡ row_of m x
 row-same m items a sign x e es ea = e ∙ ap (places m a.symbol) es ∙ ap (λ (z : CellAtom). places m z.symbol (other z.sign)) ea
 
-pub row-clause : (m : List MatrixClause) (items : List MatrixPlace) (x : CellGoal) (i : ℕ) (p : MatrixPlace) → items ≡ row_of m x → slice_get items i ≡ Some p → p.clause < length m
-row-clause m items x i p e at =
-    let w = place-stands m x.literal.symbol (other x.literal.sign) i p (subst (λ ps. slice_get ps i ≡ Some p) e at) in
-    get-within m p.clause w.clause (place-found m x.literal.symbol (other x.literal.sign) p w)
+pub row-by : (m : List MatrixClause) (items : List MatrixPlace) (symbol : ℕ) (sign facing : Sign) (x : CellGoal) → items ≡ places m symbol facing → facing ≡ other sign → x.literal.symbol ≡ symbol → x.literal.sign ≡ sign → items ≡ row_of m x
+row-by m items symbol sign facing x e ef es eg = e ∙ ap (places m symbol) (ef ∙ ap other (sym eg)) ∙ ap (λ n. places m n (other x.literal.sign)) (sym es)
+
+-- the clause of a literal of the index
+pub places-clause : (m : List MatrixClause) (items : List MatrixPlace) (symbol : ℕ) (sign : Sign) (i : ℕ) (p : MatrixPlace) → items ≡ places m symbol sign → slice_get items i ≡ Some p → p.clause < length m
+places-clause m items symbol sign i p e at =
+    let w = place-stands m symbol sign i p (subst (λ ps. slice_get ps i ≡ Some p) e at) in
+    get-within m p.clause w.clause (place-found m symbol sign p w)
 
 -- the first i of them are hopeless
 abbrev pub AreHopelessTo : List MatrixClause → CellGoal → ℕ → Type 0
