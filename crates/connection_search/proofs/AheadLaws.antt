@@ -1,8 +1,6 @@
 -- Looking ahead at the path limit: goals that no bindings close within it, and lists that are dropped where the limit is known to be left.
-use Rattle.std.proofs.Common.{◌≡◌, ◌≢◌, ◌⊎◌, ◌&&◌, ◌==◌, ◌+◌, ◌<◌, ◌≤◌, ◌%◌, ◌^◌, ◌*◌, ℕ, zero, suc, Bool, List, [], ◌∷◌, ◌++◌, length, max, not, true, false, IsTrue, MatchOption, refl, sym, ◌∙◌, ap, subst, Option, Some, None, option_map, slice_get, remove, inl, inr, arith, append_assoc, bit_or, eq-eqb}
+use Rattle.std.proofs.Common.{◌≡◌, ◌≢◌, ◌⊎◌, ◌&&◌, ◌==◌, ◌+◌, ◌<◌, ◌≤◌, ◌%◌, ◌^◌, ◌*◌, ℕ, zero, suc, Bool, List, [], ◌∷◌, length, max, not, true, false, IsTrue, refl, sym, ◌∙◌, ap, subst, Option, Some, None, option_map, slice_get, remove, inl, inr, arith, bit_or, eq-eqb}
 use Rattle.std.specs.Int.{bit_at}
-use Rattle.std.specs.Bool.{⊤}
-use Rattle.std.specs.List.{AllByRecursion}
 use Rattle.std.proofs.lemmas.Bool.{and_parts, cases_eq, false≢true}
 use Rattle.std.proofs.lemmas.Option.{slice_get_within}
 use Rattle.std.proofs.lemmas.Nat.Bits.{bit_at-lt, bit_at_or}
@@ -12,34 +10,22 @@ use Rattle.calculus.specs.Equality.{sign_eq}
 use Rattle.calculus.specs.Kinds.{other}
 use Rattle.calculus.specs.Syntax.{Problem}
 use Rattle.calculus.proofs.PlaceLists.{get-within}
-use Rattle.matrix_build.specs.MatrixView.{the_place}
 use Rattle.search_theory.specs.Ahead.{IsApart, IsHopelessAt, MarksPath, bit_of, by_args, by_sign, by_symbol}
 use Rattle.search_theory.specs.Exploring.{behind}
 use Rattle.search_theory.specs.Matrix.{MatrixClause, MatrixPlace, places}
 use Rattle.search_theory.specs.OrderedChoices.{meets}
 use Rattle.search_theory.specs.States.{CellGoal, atom_is_below, goal_is_below}
 use Rattle.search_theory.specs.Steps.{Clash}
-use Rattle.search_theory.proofs.LookAheadLaws.{bit-alone, hopeless-dropped, unmarked-lacks}
-use Rattle.search_theory.proofs.BeginningLaws.{not-empty-behind, refused}
-use Rattle.search_theory.proofs.PruningLaws.{search-pruned}
-use Rattle.search_theory.proofs.SearchSteps.{search-dead}
-use Rattle.search_theory.specs.Searching.{IsSearch}
-use Rattle.calculus.specs.Space.{Member}
+use Rattle.search_theory.proofs.LookAheadLaws.{bit-alone, unmarked-lacks}
 use Rattle.store_theory.specs.Patterns.{PatternAtom, Template}
 use Rattle.store_theory.specs.Stores.{Store, names_below}
 use Rattle.store_theory.specs.Systems.{CellAtom}
-use Rattle.connection_search.specs.Ahead.{HasNoHope, IsHopelessMove, IsNextLeft, IsPassed}
-use Rattle.connection_search.specs.Exploring.{IsSearched}
-use Rattle.connection_search.specs.Points.{HasUntried, IsMoveAt, IsSamePoint, the_move}
-use Rattle.connection_search.specs.Pruning.{IsPruned}
-use Rattle.connection_search.specs.Running.{IsAtGoal, IsMatrixOf, StandsFor}
+use Rattle.connection_search.specs.Points.{row_of}
+use Rattle.connection_search.specs.Ahead.{HasNoHope}
+use Rattle.connection_search.specs.Running.{StandsFor}
 use Rattle.connection_search.specs.Trees.{AreOpen, IsGoalAt, atom_at}
-use Rattle.connection_search.specs.declared.point.Move.{Move}
-use Rattle.connection_search.specs.declared.point.Move.TheVariants.{Reduce, Extend}
-use Rattle.connection_search.specs.declared.point.Point.{Point}
 use Rattle.connection_search.specs.declared.tree.Goal.{Goal}
 use Rattle.connection_search.specs.declared.tree.Step.{Step}
-use Rattle.connection_search.proofs.MoveLaws.{goal-here}
 use Rattle.connection_search.proofs.PlaceLaws.{place-found, place-stands}
 use Rattle.connection_search.proofs.SeenLaws.{goal-wanted}
 use Rattle.connection_search.proofs.TreeLaws.{atom-found, same-item}
@@ -135,13 +121,6 @@ terms-below n a xs e h = subst (λ us. IsTrue (names_below n us)) (sym e) (and_p
 
 -- ---- the row of a goal
 
--- the literals that may extend it
-abbrev pub row_of : List MatrixClause → CellGoal → List MatrixPlace
-row_of m x = places m x.literal.symbol (other x.literal.sign)
-
-pub row-same : (m : List MatrixClause) (items : List MatrixPlace) (a : CellAtom) (sign : Sign) (x : CellGoal) → items ≡ places m a.symbol sign → sign ≡ other a.sign → a ≡ x.literal → items ≡ row_of m x
-row-same m items a sign x e es ea = e ∙ ap (places m a.symbol) es ∙ ap (λ (z : CellAtom). places m z.symbol (other z.sign)) ea
-
 pub row-by : (m : List MatrixClause) (items : List MatrixPlace) (symbol : ℕ) (sign facing : Sign) (x : CellGoal) → items ≡ places m symbol facing → facing ≡ other sign → x.literal.symbol ≡ symbol → x.literal.sign ≡ sign → items ≡ row_of m x
 row-by m items symbol sign facing x e ef es eg = e ∙ ap (places m symbol) (ef ∙ ap other (sym eg)) ∙ ap (λ n. places m n (other x.literal.sign)) (sym es)
 
@@ -190,81 +169,3 @@ leftmost-open steps goals next goal (x ∷ xs) (i, g, is, at, goal_is, rest) e =
       at = record { goal = g; stands = there; is_goal = goal_is };
       rest = λ k f. (xs, subst (λ (z : Goal). AreOpen steps goals z.behind xs) (same-item (slice_get goals goal) g k there f) rest);
     }
-
--- ---- choices that are passed over
-
--- these choices were passed over, and those are left
-pub record PassesTo (P : Problem) (m : List MatrixClause) (d : ℕ) (c : List Choice) (steps : List Step) (goals : List Goal) (g : CellGoal) (untried : List Choice) (left : Bool) (now : Point) : Type 0 where
-  pub passed : List Choice
-  pub each : AllByRecursion (IsPassed P m d c g left) passed
-  pub rest : List Choice
-  pub are : untried ≡ passed ++ rest
-  pub has : HasUntried m d steps goals now g rest
-
-pub passes-first : (P : Problem) (m : List MatrixClause) (d : ℕ) (c : List Choice) (steps : List Step) (goals : List Goal) (g : CellGoal) (untried : List Choice) (left : Bool) (now : Point) → HasUntried m d steps goals now g untried → PassesTo P m d c steps goals g untried left now
-passes-first P m d c steps goals g untried left now h = record { passed = []; each = tt; rest = untried; are = refl; has = h }
-
-all-with : {A : Type 0} (Q : A → Type 0) (xs : List A) (x : A) → AllByRecursion Q xs → Q x → AllByRecursion Q (xs ++ x ∷ [])
-all-with Q [] x h k = (k, tt)
-all-with Q (y ∷ xs) x h k = (h.0, all-with Q xs x h.1 k)
-
-pub passes-next : (P : Problem) (m : List MatrixClause) (d : ℕ) (c : List Choice) (steps : List Step) (goals : List Goal) (g : CellGoal) (untried : List Choice) (left : Bool) (now after : Point) (choice : Move) → (h : PassesTo P m d c steps goals g untried left now) → (rest : List Choice) × (h.rest ≡ the_move m choice ∷ rest) × HasUntried m d steps goals after g rest → IsPassed P m d c g left (the_move m choice) → PassesTo P m d c steps goals g untried left after
-passes-next P m d c steps goals g untried left now after choice h (rest, e, has) why = record {
-  passed = h.passed ++ the_move m choice ∷ [];
-  each = all-with (IsPassed P m d c g left) h.passed (the_move m choice) h.each why;
-  rest = rest;
-  are = h.are ∙ ap (λ xs. h.passed ++ xs) e ∙ sym (append_assoc h.passed (the_move m choice ∷ []) rest);
-  has = has;
-}
-
--- what comes next behind them
-pub passes-left : (P : Problem) (m : List MatrixClause) (d : ℕ) (c : List Choice) (steps : List Step) (goals : List Goal) (g : CellGoal) (untried : List Choice) (left : Bool) (now after : Point) (o : Option Move) → (h : PassesTo P m d c steps goals g untried left now) → MatchOption o (h.rest ≡ []) (λ x. IsMoveAt m d steps goals g x × ((rest : List Choice) × (h.rest ≡ the_move m x ∷ rest) × HasUntried m d steps goals after g rest)) → IsNextLeft P m d c steps goals after g untried left o
-passes-left P m d c steps goals g untried left now after o h next = record { passed = h.passed; each = h.each; next = by o next }
-  where
-    by : (o : Option Move) → MatchOption o (h.rest ≡ []) (λ x. IsMoveAt m d steps goals g x × ((rest : List Choice) × (h.rest ≡ the_move m x ∷ rest) × HasUntried m d steps goals after g rest)) → MatchOption o (untried ≡ h.passed ++ []) (λ x. IsMoveAt m d steps goals g x × ((rest : List Choice) × (untried ≡ h.passed ++ the_move m x ∷ rest) × HasUntried m d steps goals after g rest))
-    by None e = h.are ∙ ap (λ xs. h.passed ++ xs) e
-    by (Some x) (move, (rest, e, has)) = (move, (rest, h.are ∙ ap (λ xs. h.passed ++ xs) e, has))
-
--- by these marks the move is an extension without hope
-pub passed-by_marks : (P : Problem) (m : List MatrixClause) (d : ℕ) (c : List Choice) (g : CellGoal) (left : Bool) (choice : Move) (o : Option ℕ) (marks : ℕ) → o ≡ Some marks → MatchOption o ⊤ (λ marks. (left ≡ true) × (d ≤ length g.path + 1) × MarksPath marks (g.literal ∷ g.path)) → ((x : CellGoal) → MarksPath marks (x.literal ∷ x.path) → IsHopelessMove m x choice) → IsPassed P m d c g left (the_move m choice)
-passed-by_marks P m d c g left choice None marks e h bad = let z : None ≡ Some marks = e in absurd (cc z)
-passed-by_marks P m d c g left choice (Some n) marks e (known, near, marked) bad = by choice (bad g (subst (λ k. MarksPath k (g.literal ∷ g.path)) (let z : n ≡ marks = cc e in z) marked))
-  where
-    by : (x : Move) → IsHopelessMove m g x → IsPassed P m d c g left (the_move m x)
-    by (Reduce up ancestor) none = absurd none
-    by (Extend place) none = inr (known, near, (the_place place, refl, none))
-
--- the marks by which choices at the goal may be passed over, if any
-pub marks-here : (P : Problem) (m : List MatrixClause) (base d : ℕ) (c : List Choice) (s : Store) (steps : List Step) (goals : List Goal) (goal : ℕ) (g : CellGoal) (left : Bool) (o : Option ℕ) → IsAtGoal P m base d c s steps goals goal g → MatchOption o ⊤ (λ marks. (left ≡ true) × ((x : CellGoal) → IsGoalAt steps goals goal x → (d ≤ length x.path + 1) × MarksPath marks (x.literal ∷ x.path))) → MatchOption o ⊤ (λ marks. (left ≡ true) × (d ≤ length g.path + 1) × MarksPath marks (g.literal ∷ g.path))
-marks-here P m base d c s steps goals goal g left None at h = tt
-marks-here P m base d c s steps goals goal g left (Some marks) at (known, each) = let w = each g (goal-here P m base d c s steps goals goal g at) in (known, w.0, w.1)
-
-pub same-both : (p q r : Point) → IsSamePoint p q → IsSamePoint q r → IsSamePoint p r
-same-both p q r h k = record { mark = k.mark ∙ h.mark; steps = k.steps ∙ h.steps; goals = k.goals ∙ h.goals; goal = k.goal ∙ h.goal; depth = k.depth ∙ h.depth; lowest = k.lowest ∙ h.lowest }
-
-pub less-both : (x y z : ℕ) → x < y → y ≤ z → x < z
-less-both x y z l k = omega (arith, l, k)
-
-pub less-le : (x y z : ℕ) → x < y → y ≤ z → x ≤ z
-less-le x y z l k = omega (arith, l, k)
-
--- ---- the search without them
-
--- one that is passed over goes from what is pending
-passed-first : (P : Problem) (m : List MatrixClause) (base d : ℕ) (c : List Choice) (s : Store) (steps : List Step) (goals : List Goal) (goal : ℕ) (g : CellGoal) (left : Bool) (x : Choice) (spent : List Member) (pending : List (List Choice)) → IsMatrixOf P m → IsAtGoal P m base d c s steps goals goal g → IsPassed P m d c g left x → IsSearch P d spent ((c ++ x ∷ []) ∷ pending) left → IsSearch P d spent pending left
-passed-first P m base d c s steps goals goal g left x spent pending tm at (inl none) h = search-dead P d spent (c ++ x ∷ []) pending left h (not-empty-behind c x) (refused none)
-passed-first P m base d c s steps goals goal g left x spent pending tm at (inr (known, near, (p, is, bad))) h =
-    subst (IsSearch P d spent pending) (sym known)
-    (search-pruned P d spent (c ++ x ∷ []) pending (subst (IsSearch P d spent ((c ++ x ∷ []) ∷ pending)) known h) (subst (λ z. IsPruned P d (c ++ z ∷ [])) (sym is) (hopeless-dropped P m d c s at.made g at.behind at.every at.depths p tm.matrix at.at.running.state near bad)))
-
-dropped : (P : Problem) (m : List MatrixClause) (base d : ℕ) (c : List Choice) (s : Store) (steps : List Step) (goals : List Goal) (goal : ℕ) (g : CellGoal) (left : Bool) (passed rest : List Choice) (later : List (List Choice)) (begun used : ℕ) → IsMatrixOf P m → IsAtGoal P m base d c s steps goals goal g → AllByRecursion (IsPassed P m d c g left) passed → IsSearched P d (behind c (passed ++ rest) ++ later) begun used left → IsSearched P d (behind c rest ++ later) begun used left
-dropped P m base d c s steps goals goal g left [] rest later begun used tm at k h = h
-dropped P m base d c s steps goals goal g left (x ∷ passed) rest later begun used tm at (why, k) h = dropped P m base d c s steps goals goal g left passed rest later begun used tm at k (record {
-  spent = h.spent;
-  search = passed-first P m base d c s steps goals goal g left x h.spent (behind c (passed ++ rest) ++ later) tm at why h.search;
-  from = h.from;
-  count = h.count;
-})
-
-pub passed-over : (P : Problem) (m : List MatrixClause) (base d : ℕ) (c : List Choice) (s : Store) (steps : List Step) (goals : List Goal) (goal : ℕ) (g : CellGoal) (left : Bool) (passed rest untried : List Choice) (later : List (List Choice)) (begun used : ℕ) → IsMatrixOf P m → IsAtGoal P m base d c s steps goals goal g → AllByRecursion (IsPassed P m d c g left) passed → untried ≡ passed ++ rest → IsSearched P d (behind c untried ++ later) begun used left → IsSearched P d (behind c rest ++ later) begun used left
-passed-over P m base d c s steps goals goal g left passed rest untried later begun used tm at k e h = dropped P m base d c s steps goals goal g left passed rest later begun used tm at k (subst (λ xs. IsSearched P d (behind c xs ++ later) begun used left) e h)

@@ -304,10 +304,8 @@ extension-cannot P m base d c old steps goals goal k place g t p vs xs h f at ev
     (subst (λ v. HoldsNowhere (λ σ. (length xs ≡ length p.args) × MatchTo v xs p.args (length p.args) σ) (with_variables_of t.sorts old)) ev none))
 
 -- the outermost names differ
-pub extension-clashes : (P : Problem) (m : List MatrixClause) (base d : ℕ) (c : List Choice) (s : Store) (steps : List Step) (goals : List Goal) (goal k place : ℕ) (g : CellGoal) (t : Template) (p : PatternAtom) (a : CellAtom) → IsAtGoal P m base d c s steps goals goal g → ClauseFor P m k t → slice_get t.literals place ≡ Some p → ((h : Goal) → slice_get goals goal ≡ Some h → atom_at steps h ≡ Some a) → HasClash s a p → ¬ Grows P (c ++ extension_at m (place_of k place) ∷ [])
-extension-clashes P m base d c s steps goals goal k place g t p a h f there at clash =
-    let same : a ≡ g.literal = atom-found steps goals goal g a (goal-here P m base d c s steps goals goal g h) at in
-    no-extension P d c s h.made g h.behind h.every h.depths (selection_of (slice_get m k)) t place h.at.running.state f.template (cannot-extend-by_names s t g.literal p place there (subst (λ x. HasClash s x p) same clash))
+pub extension-clashes : (P : Problem) (m : List MatrixClause) (base d : ℕ) (c : List Choice) (s : Store) (steps : List Step) (goals : List Goal) (goal k place : ℕ) (g : CellGoal) (t : Template) (p : PatternAtom) (a : CellAtom) → IsAtGoal P m base d c s steps goals goal g → ClauseFor P m k t → slice_get t.literals place ≡ Some p → a ≡ g.literal → HasClash s a p → ¬ Grows P (c ++ extension_at m (place_of k place) ∷ [])
+extension-clashes P m base d c s steps goals goal k place g t p a h f there same clash = no-extension P d c s h.made g h.behind h.every h.depths (selection_of (slice_get m k)) t place h.at.running.state f.template (cannot-extend-by_names s t g.literal p place there (subst (λ x. HasClash s x p) same clash))
 
 -- ---- starts
 

@@ -1,6 +1,6 @@
 -- Choice points: the next choice of a goal.
-use Rattle.std.proofs.Common.{◌≡◌, ◌+◌, ◌-◌, ◌<◌, ◌≤◌, ℕ, zero, suc, List, [], ◌∷◌, ◌++◌, drop, length, map, take, Bool, true, false, not, ◌==◌, refl, sym, ◌∙◌, ap, ap₂, subst, Option, None, Some, slice_get, slice_index_or, arith, nat_lt, if◌then◌else◌, eqb-true}
-use Rattle.std.proofs.lemmas.Bool.{and_parts}
+use Rattle.std.proofs.Common.{◌≡◌, ◌+◌, ◌-◌, ◌<◌, ◌≤◌, ℕ, zero, suc, List, [], ◌∷◌, ◌++◌, drop, length, map, take, Bool, true, false, not, ◌==◌, refl, sym, ◌∙◌, ap, ap₂, subst, Option, None, Some, slice_get, slice_index_or, arith, nat_lt, if◌then◌else◌, eq-eqb, eqb-true}
+use Rattle.std.proofs.lemmas.Bool.{and_parts, false≢true}
 use Rattle.std.proofs.lemmas.List.{length-map, take_all}
 use Rattle.std.proofs.lemmas.Option.{slice_get_within}
 use Rattle.calculus.specs.Choices.{Choice, reduction}
@@ -16,7 +16,7 @@ use Rattle.search_theory.specs.Matrix.{MatrixClause, MatrixPlace, places}
 use Rattle.search_theory.specs.OrderedChoices.{choices_at, extension_at, extensions, meets, reductions_from}
 use Rattle.search_theory.specs.States.{CellGoal}
 use Rattle.search_theory.proofs.ChoiceLaws.{extensions-by_index}
-use Rattle.connection_search.specs.Points.{HasExtensions, HasUntried, IsMoveAt, IsNextAncestor, IsPoint, the_move}
+use Rattle.connection_search.specs.Points.{HasExtensions, HasUntried, IsMoveAt, IsNextAncestor, IsPoint, row_of, the_move}
 use Rattle.connection_search.specs.Running.{ExtendsBy, IsAtGoal}
 use Rattle.connection_search.specs.Weights.{weight}
 use Rattle.connection_search.specs.Trees.{IsGoalAt, IsPath, atom_at}
@@ -27,7 +27,7 @@ use Rattle.connection_search.specs.declared.point.Point.{Point}
 use Rattle.connection_search.specs.declared.tree.Goal.{Goal}
 use Rattle.connection_search.specs.declared.tree.Step.{Step}
 use Rattle.connection_search.proofs.MoveLaws.{goal-here}
-use Rattle.connection_search.proofs.TreeLaws.{AncestorAt, ancestor-on, same-item}
+use Rattle.connection_search.proofs.TreeLaws.{AncestorAt, ancestor-on, atom-found, same-item}
 use Rattle.connection_search.proofs.PlaceLaws.{about-sign, about-symbol, place-found, place-stands}
 use Rattle.connection_search.proofs.Places.{drop-end, drop-there}
 
@@ -122,6 +122,10 @@ places-same m items symbol sign a b e es en ab = e ∙ ap₂ (places m) es en �
 
 pub places-count : (m : List MatrixClause) (items : List Place) (symbol : ℕ) (sign : Sign) (a b : CellAtom) → map the_place items ≡ places m symbol sign → symbol ≡ a.symbol → sign ≡ other a.sign → a ≡ b → length items ≡ length (places m b.symbol (other b.sign))
 places-count m items symbol sign a b e es en ab = sym (length-map items the_place) ∙ ap length (places-same m items symbol sign a b e es en ab)
+
+-- the row of the index for a goal of the tree
+pub goal-row : (m : List MatrixClause) (steps : List Step) (goals : List Goal) (goal : ℕ) (g : CellGoal) (items : List Place) (a : CellAtom) (sign : Sign) → IsGoalAt steps goals goal g → ((x : Goal) → slice_get goals goal ≡ Some x → atom_at steps x ≡ Some a) → map the_place items ≡ places m a.symbol sign → sign ≡ other a.sign → map the_place items ≡ row_of m g
+goal-row m steps goals goal g items a sign at f e es = places-same m items a.symbol sign a g.literal e refl es (atom-found steps goals goal g a at f)
 
 pub depth-of : (steps : List Step) (goals : List Goal) (goal : ℕ) (g : CellGoal) (at : Goal) → IsGoalAt steps goals goal g → slice_get goals goal ≡ Some at → at.depth ≡ length g.path
 depth-of steps goals goal g at h e = sym (ap (λ (x : Goal). x.depth) (same-item (slice_get goals goal) h.goal at h.stands e)) ∙ h.is_goal.depth
@@ -233,18 +237,17 @@ untried-reduction m d steps goals before after g untried up j h n en ee ed = (
 pub untried-later : (m : List MatrixClause) (d : ℕ) (steps : List Step) (goals : List Goal) (before after : Point) (g : CellGoal) (untried : List Choice) → (h : HasUntried m d steps goals before g untried) → IsNextAncestor steps goals g before after None → untried ≡ h.later
 untried-later m d steps goals before after g untried h n = h.are ∙ ap (λ xs. xs ++ h.later) (n.left ∙ ap (reductions_from (suc after.up) g.literal) (n.ended refl))
 
+pub untried-behind : (m : List MatrixClause) (d : ℕ) (steps : List Step) (goals : List Goal) (before mid after : Point) (g : CellGoal) (untried rest : List Choice) → HasUntried m d steps goals before g untried → IsNextAncestor steps goals g before mid None → HasExtensions m d after g rest → after.above ≡ mid.above → after.up ≡ mid.up → after.depth ≡ before.depth → HasUntried m d steps goals after g rest
+untried-behind m d steps goals before mid after g untried rest h n ext ea eu ed = record {
+  above = subst (λ k. IsPath steps goals k (drop after.up g.path)) (sym ea) (subst (λ k. IsPath steps goals mid.above (drop k g.path)) (sym eu) n.above);
+  depth = ed ∙ h.depth;
+  later = rest;
+  extensions = ext;
+  are = sym (ap (λ xs. reductions_from (suc after.up) g.literal xs ++ rest) (ap (λ k. drop k g.path) eu ∙ n.ended refl));
+}
+
 pub untried-extension : (m : List MatrixClause) (d : ℕ) (steps : List Step) (goals : List Goal) (before mid after : Point) (g : CellGoal) (untried rest : List Choice) (x : Choice) → (h : HasUntried m d steps goals before g untried) → IsNextAncestor steps goals g before mid None → h.later ≡ x ∷ rest → HasExtensions m d after g rest → after.above ≡ mid.above → after.up ≡ mid.up → after.depth ≡ before.depth → (others : List Choice) × (untried ≡ x ∷ others) × HasUntried m d steps goals after g others
-untried-extension m d steps goals before mid after g untried rest x h n e ext ea eu ed = (
-  rest,
-  untried-later m d steps goals before mid g untried h n ∙ e,
-  record {
-    above = subst (λ k. IsPath steps goals k (drop after.up g.path)) (sym ea) (subst (λ k. IsPath steps goals mid.above (drop k g.path)) (sym eu) n.above);
-    depth = ed ∙ h.depth;
-    later = rest;
-    extensions = ext;
-    are = sym (ap (λ xs. reductions_from (suc after.up) g.literal xs ++ rest) (ap (λ k. drop k g.path) eu ∙ n.ended refl));
-  },
-)
+untried-extension m d steps goals before mid after g untried rest x h n e ext ea eu ed = (rest, untried-later m d steps goals before mid g untried h n ∙ e, untried-behind m d steps goals before mid after g untried rest h n ext ea eu ed)
 
 pub untried-step : (m : List MatrixClause) (d : ℕ) (steps : List Step) (goals : List Goal) (before after : Point) (g : CellGoal) (untried : List Choice) (step : Move) → HasUntried m d steps goals before g untried → IsNextAncestor steps goals g before after (Some step) → after.next ≡ before.next → after.end ≡ before.end → after.depth ≡ before.depth → IsMoveAt m d steps goals g step × ((rest : List Choice) × (untried ≡ the_move m step ∷ rest) × HasUntried m d steps goals after g rest)
 untried-step m d steps goals before after g untried (Reduce up j) h n en ee ed = (n.move, untried-reduction m d steps goals before after g untried up j h n en ee ed)
@@ -257,20 +260,23 @@ viewed-or f (y ∷ xs) zero d l = refl
 viewed-or f (y ∷ xs) (suc i) d l = viewed-or f xs i d (omega (arith, l))
 
 -- the place that is read is one that was left
-pub place-left : (m : List MatrixClause) (d : ℕ) (p : Point) (g : CellGoal) (xs : List Choice) (items : List Place) (a : CellAtom) (sign : Sign) (x : Place) → HasExtensions m d p g xs → ¬ (p.next ≡ p.end) → map the_place items ≡ places m a.symbol sign → sign ≡ other a.sign → a ≡ g.literal → slice_get (places m g.literal.symbol (other g.literal.sign)) p.next ≡ Some (the_place (slice_index_or items p.next x))
-place-left m d p g xs items a sign x h n e es ag =
-    let same = places-same m items a.symbol sign a g.literal e refl es ag in
-    let count = places-count m items a.symbol sign a g.literal e refl es ag in
+pub place-left : (m : List MatrixClause) (d : ℕ) (p : Point) (g : CellGoal) (xs : List Choice) (items : List Place) (x : Place) → HasExtensions m d p g xs → ¬ (p.next ≡ p.end) → map the_place items ≡ row_of m g → slice_get (row_of m g) p.next ≡ Some (the_place (slice_index_or items p.next x))
+place-left m d p g xs items x h n e =
+    let count = sym (length-map items the_place) ∙ ap length e in
     let l = h.next in
     let k = h.end in
-    subst (λ ps. slice_get ps p.next ≡ Some (the_place (slice_index_or items p.next x))) same (viewed-or the_place items p.next x (omega (arith, l, k, n, count)))
+    subst (λ ps. slice_get ps p.next ≡ Some (the_place (slice_index_or items p.next x))) e (viewed-or the_place items p.next x (omega (arith, l, k, n, count)))
+
+-- by the program's test
+pub places-remain : (p : Point) → (p.next == p.end) ≡ false → ¬ (p.next ≡ p.end)
+places-remain p f e = false≢true (sym f ∙ eq-eqb p.next p.end e)
 
 -- ---- what is left falls
 
 less-left : (depth up next end depth_after up_after next_after end_after : ℕ) → depth_after ≡ depth → next_after ≡ next → end_after ≡ end → up < up_after → up < depth → (depth_after - up_after) + (end_after - next_after) + 1 < (depth - up) + (end - next) + 1
 less-left depth up next end depth_after up_after next_after end_after ed en ee l k = omega (arith, ed, en, ee, l, k)
 
-less-places : (depth up next end depth_after up_after next_after end_after : ℕ) → depth_after ≡ depth → up ≤ up_after → end_after ≡ end → next < end → next_after ≡ next + 1 → (depth_after - up_after) + (end_after - next_after) + 1 < (depth - up) + (end - next) + 1
+less-places : (depth up next end depth_after up_after next_after end_after : ℕ) → depth_after ≡ depth → up ≤ up_after → end_after ≡ end → next < next_after → next_after ≤ end → (depth_after - up_after) + (end_after - next_after) + 1 < (depth - up) + (end - next) + 1
 less-places depth up next end depth_after up_after next_after end_after ed l ee k en = omega (arith, ed, l, ee, k, en)
 
 -- by the next ancestor
@@ -280,8 +286,8 @@ ancestor-falls m d steps goals before after g untried step h n en ee ed =
     let deep = h.depth in
     less-left before.depth before.up before.next before.end after.depth after.up after.next after.end ed en ee up (omega (arith, within, deep))
 
--- by the next place, where no ancestor is left
-pub extension-falls : (steps : List Step) (goals : List Goal) (before mid after : Point) (g : CellGoal) → IsNextAncestor steps goals g before mid None → mid.next ≡ before.next → mid.end ≡ before.end → mid.depth ≡ before.depth → after.up ≡ mid.up → after.depth ≡ mid.depth → after.next ≡ mid.next + 1 → mid.next < mid.end → after.end ≡ mid.end → weight after < weight before
+-- by a later place, where no ancestor is left
+pub extension-falls : (steps : List Step) (goals : List Goal) (before mid after : Point) (g : CellGoal) → IsNextAncestor steps goals g before mid None → mid.next ≡ before.next → mid.end ≡ before.end → mid.depth ≡ before.depth → after.up ≡ mid.up → after.depth ≡ mid.depth → mid.next < after.next → after.next ≤ mid.end → after.end ≡ mid.end → weight after < weight before
 extension-falls steps goals before mid after g n en ee ed up deep more within end =
     let r = n.rises in
-    less-places before.depth before.up before.next before.end after.depth after.up after.next after.end (deep ∙ ed) (omega (arith, r, up)) (end ∙ ee) (omega (arith, within, en, ee)) (omega (arith, more, en))
+    less-places before.depth before.up before.next before.end after.depth after.up after.next after.end (deep ∙ ed) (omega (arith, r, up)) (end ∙ ee) (omega (arith, more, en)) (omega (arith, within, ee))

@@ -36,7 +36,7 @@ use Rattle.connection_search.specs.declared.point.Move.{Move}
 use Rattle.connection_search.specs.declared.point.Point.{Point}
 use Rattle.connection_search.specs.declared.tree.Goal.{Goal}
 use Rattle.connection_search.specs.declared.tree.Step.{Step}
-use Rattle.connection_search.proofs.AheadLaws.{passed-over}
+use Rattle.connection_search.proofs.PassingOver.{passed-over}
 use Rattle.connection_search.proofs.DeadLaws.{live-not_empty, search-dead_behind}
 use Rattle.connection_search.proofs.StackedLaws.{above-marked, before-same, mark-itself, point-back, point-next, points-back, untried-moved}
 use Rattle.connection_search.proofs.SpentLaws.{stands-live}

@@ -5,7 +5,7 @@ use Rattle.calculus.specs.Kinds.{other}
 use Rattle.store_theory.specs.Stores.{IsGood, Store, cut_at}
 use Rattle.calculus.specs.Syntax.{Problem}
 use Rattle.matrix_build.specs.MatrixView.{the_place}
-use Rattle.search_theory.specs.Matrix.{MatrixClause, places}
+use Rattle.search_theory.specs.Matrix.{MatrixClause, MatrixPlace, places}
 use Rattle.search_theory.specs.OrderedChoices.{extension_at, reductions_from}
 use Rattle.search_theory.specs.States.{CellGoal}
 use Rattle.term_store.specs.StoreView.{the_mark}
@@ -16,6 +16,10 @@ use Rattle.connection_search.specs.declared.point.Move.TheVariants.{Reduce, Exte
 use Rattle.connection_search.specs.declared.point.Point.{Point}
 use Rattle.connection_search.specs.declared.tree.Goal.{Goal}
 use Rattle.connection_search.specs.declared.tree.Step.{Step}
+
+-- the literals that may extend the goal, in the order of the index
+abbrev pub row_of : List MatrixClause → CellGoal → List MatrixPlace
+row_of m g = places m g.literal.symbol (other g.literal.sign)
 
 -- the extensions that a point still has to try: those by the places from `next` up to `end`
 pub record HasExtensions (m : List MatrixClause) (d : ℕ) (p : Point) (g : CellGoal) (xs : List Choice) : Type 0 where

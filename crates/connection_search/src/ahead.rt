@@ -2,34 +2,27 @@
 //! reduction, so no closed tableau has one that no ancestor may close, nor one with a goal less above
 //! it each of whose choices gives such a goal.
 
-ghost use Rattle.std.specs.Prelude.{◌≡◌, ◌≤◌, ◌<◌, ◌+◌, ◌-◌, ◌++◌, ◌∷◌, [], ℕ, Bool, IfOk, IsTrue, List};
-ghost use Rattle.std.specs.Prelude.{MatchOption, OnOk, Some, false, length, map, slice_get, true, ⊤};
+ghost use Rattle.std.specs.Prelude.{◌≡◌, ◌<◌, ◌-◌, ◌∷◌, ℕ, IsTrue, List, Some, false};
+ghost use Rattle.std.specs.Prelude.{length, map, slice_get, true};
 ghost use Rattle.std.specs.Int.{bit_at};
 ghost use Rattle.calculus.specs.Choices.{Choice};
 ghost use Rattle.calculus.specs.Kinds as kinds;
-ghost use Rattle.calculus.specs.Syntax.{Problem};
 ghost use Rattle.matrix_build.specs.MatrixView.{the_place};
 ghost use Rattle.search_theory.specs.Ahead.{HasNoReduction, IsApart, IsHopelessAt, MarksPath};
 ghost use Rattle.search_theory.specs.Ahead as marking;
-ghost use Rattle.search_theory.specs.OrderedChoices.{extension_at};
-ghost use Rattle.search_theory.proofs.StepLaws.{Grows};
 ghost use Rattle.search_theory.specs.States.{CellGoal, atom_is_below, goal_is_below};
 ghost use Rattle.term_store.specs.ClauseView.{the_atom, the_pattern_atom};
 ghost use Rattle.connection_search.specs.GivenUp.{HasLost};
-ghost use Rattle.connection_search.specs.Ahead.{HasNoHope, IsHopelessMove, IsLost, IsNextLeft};
-ghost use Rattle.connection_search.specs.Ahead.{IsPassed};
-ghost use Rattle.connection_search.specs.Points.{HasUntried, IsMoveAt, IsSamePoint, the_move};
-ghost use Rattle.connection_search.specs.Running.{ExtendsBy, GoalStands, IsMatrixOf, TreeStands};
+ghost use Rattle.connection_search.specs.Ahead.{HasNoHope, IsLost};
+ghost use Rattle.connection_search.specs.Running.{IsMatrixOf, TreeStands};
 ghost use Rattle.connection_search.specs.Trees.{IsGoalAt};
-ghost use Rattle.connection_search.specs.Weights.{weight};
 
 use crate::atoms::{meets, other};
-use crate::heads::{has_clash, have_clash};
-use crate::point::{Move, Point};
+use crate::heads::have_clash;
 use crate::space::Space;
-use crate::tree::{Goal, Step, Tree};
+use crate::tree::Tree;
 use calculus::sign::Sign;
-use cop_base::{NoMemory, SymbolId};
+use cop_base::SymbolId;
 use matrix_build::{Matrix, Place};
 use term_store::{CellAtom, PatternAtom, Store};
 
@@ -108,8 +101,8 @@ pub(crate) fn literal_at(literals: &[PatternAtom], i: usize) -> &PatternAtom
     &literals[i]
 }
 
-// Whether another literal of the clause than the one at the place lacks such a mark.
-fn is_hopeless_place(matrix: &Matrix, place: Place, marks: u64) -> bool
+/// Whether another literal of the clause than the one at the place lacks such a mark.
+pub(crate) fn is_hopeless_place(matrix: &Matrix, place: Place, marks: u64) -> bool
     requires { place.clause.0 < length matrix.now }
     ensures { result ≡ true → (g : CellGoal) → MarksPath marks (g.literal ∷ g.path)
         → IsHopelessAt matrix.now (the_place place) g }
@@ -126,19 +119,6 @@ fn is_hopeless_place(matrix: &Matrix, place: Place, marks: u64) -> bool
         }
     }
     false
-}
-
-// Whether the choice is an extension that gives a goal without such a mark.
-fn is_hopeless(matrix: &Matrix, choice: Move, marks: u64) -> bool
-    requires { (d : ℕ) × (steps : List Step) × (goals : List Goal) × (g : CellGoal)
-        × IsMoveAt matrix.now d steps goals g choice }
-    ensures { result ≡ true → (g : CellGoal) → MarksPath marks (g.literal ∷ g.path)
-        → IsHopelessMove matrix.now g choice }
-{
-    match choice {
-        Move::Reduce(_, _) => false,
-        Move::Extend(place) => is_hopeless_place(matrix, place, marks),
-    }
 }
 
 // ---- goals that an ancestor may close
@@ -211,8 +191,8 @@ pub(crate) fn has_no_hope_by(matrix: &Matrix, symbol: SymbolId, sign: Sign, mark
 }
 
 impl Space<'_> {
-    // How many extensions the goal's path has room for.
-    fn room(&self, tree: &Tree, goal: usize) -> usize
+    /// How many extensions the goal's path has room for.
+    pub(crate) fn room(&self, tree: &Tree, goal: usize) -> usize
         requires { (x : CellGoal) × IsGoalAt tree.now.steps.items tree.now.goals.items goal x }
         ensures { (x : CellGoal) → IsGoalAt tree.now.steps.items tree.now.goals.items goal x
             → result ≡ self.now.limit - length x.path }
@@ -285,152 +265,5 @@ impl Space<'_> {
             }
         }
         false
-    }
-
-    // Whether names show that no copy of the literal at the place can be connected to the goal.
-    fn is_clashing_place(&self, store: &Store, tree: &Tree, goal: usize, place: Place) -> bool
-        requires { (P : Problem) × (base : ℕ) × (c : List Choice) × (g : CellGoal)
-            × IsMatrixOf P self.now.matrix.now
-            × GoalStands P self.now.matrix.now base self.now.limit c store.now tree.now goal g
-            × ExtendsBy self.now.matrix.now self.now.limit g (the_place place) }
-        ensures { result ≡ true → (P : Problem) (base : ℕ) (c : List Choice) (g : CellGoal)
-            → IsMatrixOf P self.now.matrix.now
-            → GoalStands P self.now.matrix.now base self.now.limit c store.now tree.now goal g
-            → ExtendsBy self.now.matrix.now self.now.limit g (the_place place)
-            → ¬ Grows P (c ++ extension_at self.now.matrix.now (the_place place) ∷ []) }
-    {
-        let template = self.matrix.template(place.clause);
-        let signed = tree.atom(goal);
-        let literal = literal_at(template.literals.items(), place.literal as usize);
-        if has_clash(store, signed, literal) {
-            return true;
-        }
-        false
-    }
-
-    // Whether the choice is an extension by a literal that names show not to be connected to the goal.
-    fn is_clashing(&self, store: &Store, tree: &Tree, goal: usize, choice: Move) -> bool
-        requires { (P : Problem) × (base : ℕ) × (c : List Choice) × (g : CellGoal)
-            × IsMatrixOf P self.now.matrix.now
-            × GoalStands P self.now.matrix.now base self.now.limit c store.now tree.now goal g
-            × IsMoveAt self.now.matrix.now self.now.limit tree.now.steps.items
-            tree.now.goals.items g choice }
-        ensures { result ≡ true → (P : Problem) (base : ℕ) (c : List Choice) (g : CellGoal)
-            → IsMatrixOf P self.now.matrix.now
-            → GoalStands P self.now.matrix.now base self.now.limit c store.now tree.now goal g
-            → IsMoveAt self.now.matrix.now self.now.limit tree.now.steps.items
-            tree.now.goals.items g choice
-            → ¬ Grows P (c ++ the_move self.now.matrix.now choice ∷ []) }
-    {
-        match choice {
-            Move::Reduce(_, _) => false,
-            Move::Extend(place) => self.is_clashing_place(store, tree, goal, place),
-        }
-    }
-
-    // Whether extensions of the goal may be passed over.
-    fn may_pass(&self, tree: &Tree, goal: usize, left: bool) -> bool
-        requires { (x : CellGoal) × IsGoalAt tree.now.steps.items tree.now.goals.items goal x }
-        ensures left { result ≡ true → left ≡ true }
-        ensures near { result ≡ true → (x : CellGoal)
-            → IsGoalAt tree.now.steps.items tree.now.goals.items goal x
-            → self.now.limit ≤ length x.path + 1 }
-    {
-        if !self.pruning.ahead {
-            return false;
-        }
-        if !left {
-            return false;
-        }
-        let room = self.room(tree, goal);
-        if room > 1 {
-            return false;
-        }
-        true
-    }
-
-    // The marks by which extensions of the goal may be passed over, where they may be.
-    fn marks_to_pass(&self, tree: &Tree, goal: usize, left: bool) -> Option<u64>
-        requires { (x : CellGoal) × IsGoalAt tree.now.steps.items tree.now.goals.items goal x }
-        ensures { MatchOption result ⊤ (λ marks. (left ≡ true) × ((x : CellGoal)
-            → IsGoalAt tree.now.steps.items tree.now.goals.items goal x
-            → (self.now.limit ≤ length x.path + 1) × MarksPath marks (x.literal ∷ x.path))) }
-    {
-        if self.may_pass(tree, goal, left) {
-            let marks = marks_of(tree, goal);
-            return Some(marks);
-        }
-        None
-    }
-
-    // Whether no tree follows the choice, or it is without hope by these marks.
-    fn is_passed(
-        &self,
-        store: &Store,
-        tree: &Tree,
-        goal: usize,
-        choice: Move,
-        marks: Option<u64>,
-    ) -> bool
-        requires { (P : Problem) × (base : ℕ) × (c : List Choice) × (g : CellGoal)
-            × IsMatrixOf P self.now.matrix.now
-            × GoalStands P self.now.matrix.now base self.now.limit c store.now tree.now goal g
-            × IsMoveAt self.now.matrix.now self.now.limit tree.now.steps.items
-            tree.now.goals.items g choice }
-        ensures { result ≡ true → (P : Problem) (base : ℕ) (c : List Choice) (g : CellGoal)
-            (left : Bool) → IsMatrixOf P self.now.matrix.now
-            → GoalStands P self.now.matrix.now base self.now.limit c store.now tree.now goal g
-            → IsMoveAt self.now.matrix.now self.now.limit tree.now.steps.items
-            tree.now.goals.items g choice
-            → MatchOption marks ⊤ (λ marks. (left ≡ true) × (self.now.limit ≤ length g.path + 1)
-            × MarksPath marks (g.literal ∷ g.path))
-            → IsPassed P self.now.matrix.now self.now.limit c g left
-            (the_move self.now.matrix.now choice) }
-    {
-        if let Some(marks) = marks {
-            if is_hopeless(self.matrix, choice, marks) {
-                return true;
-            }
-        }
-        if self.is_clashing(store, tree, goal, choice) {
-            return true;
-        }
-        false
-    }
-
-    /// The next choice of the point, to which the search has gone back. Extensions by literals that
-    /// names show not to be connected are passed over, and where it is known that the limit is
-    /// left, also those with which no closed tableau begins.
-    pub(crate) fn next_choice(
-        &self,
-        store: &Store,
-        tree: &Tree,
-        point: &mut Point,
-        left: bool,
-    ) -> Result<Option<Move>, NoMemory>
-        requires { (P : Problem) × (base : ℕ) × (c : List Choice) × (g : CellGoal)
-            × (untried : List Choice) × IsMatrixOf P self.now.matrix.now
-            × GoalStands P self.now.matrix.now base self.now.limit c store.now tree.now
-            point.old.goal g
-            × HasUntried self.now.matrix.now self.now.limit tree.now.steps.items
-            tree.now.goals.items point.old g untried }
-        ensures next { IfOk result (λ o. (P : Problem) (base : ℕ) (c : List Choice) (g : CellGoal)
-            (untried : List Choice) → IsMatrixOf P self.now.matrix.now
-            → GoalStands P self.now.matrix.now base self.now.limit c store.now tree.now
-            point.old.goal g
-            → HasUntried self.now.matrix.now self.now.limit tree.now.steps.items
-            tree.now.goals.items point.old g untried
-            → IsNextLeft P self.now.matrix.now self.now.limit c tree.now.steps.items
-            tree.now.goals.items point.new g untried left o) }
-        ensures falls { IfOk result (λ o. MatchOption o ⊤ (λ x. weight point.new < weight point.old)) }
-        ensures same { OnOk result (IsSamePoint point.old point.new) }
-    {
-        let marks = self.marks_to_pass(tree, point.goal, left);
-        while let Some(choice) = point.next(self.matrix, tree)? {
-            if !self.is_passed(store, tree, point.goal, choice, marks) {
-                return Ok(Some(choice));
-            }
-        }
-        Ok(None)
     }
 }

@@ -17,6 +17,7 @@ mod moves;
 mod occurrences;
 mod pair;
 mod parts;
+mod passing;
 mod point;
 mod pruning;
 mod reading;

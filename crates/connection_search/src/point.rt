@@ -1,7 +1,7 @@
 //! Choice points.
 
-ghost use Rattle.std.specs.Prelude.{◌≡◌, ◌≤◌, ◌<◌, ◌+◌, ◌++◌, ◌∷◌, [], ℕ, IfOk, List};
-ghost use Rattle.std.specs.Prelude.{MatchOption, OnOk, Some, drop, if◌then◌else◌, length};
+ghost use Rattle.std.specs.Prelude.{◌≡◌, ◌==◌, ◌≤◌, ◌<◌, ◌+◌, ◌∷◌, [], ℕ, IfOk, List};
+ghost use Rattle.std.specs.Prelude.{MatchOption, OnOk, Some, drop, if◌then◌else◌, length, map};
 ghost use Rattle.std.specs.Prelude.{nat_lt, take, ⊤};
 ghost use Rattle.store_theory.specs.Bindings.{KeepsEarlier};
 ghost use Rattle.calculus.specs.Choices.{Choice};
@@ -9,13 +9,15 @@ ghost use Rattle.calculus.specs.Kinds as kinds;
 ghost use Rattle.store_theory.specs.Stores.{IsGood, cut_at};
 ghost use Rattle.calculus.specs.Syntax.{Problem};
 ghost use Rattle.matrix_build.specs.MatrixView.{the_place};
+ghost use Rattle.search_theory.specs.Matrix.{MatrixClause};
 ghost use Rattle.search_theory.specs.OrderedChoices.{choices_at, extension_at, extensions};
 ghost use Rattle.search_theory.specs.States.{CellGoal};
 ghost use Rattle.term_store.specs.StoreView.{the_mark};
 ghost use Rattle.term_store.specs.Room.{KeepsRoom};
 ghost use Rattle.connection_search.specs.Weights.{greatest_weight, weight};
 ghost use Rattle.connection_search.specs.Points.{HasExtensions, HasUntried, IsHere, IsMoveAt};
-ghost use Rattle.connection_search.specs.Points.{IsNextAncestor, IsPoint, IsSamePoint, the_move};
+ghost use Rattle.connection_search.specs.Points.{IsNextAncestor, IsPoint, IsSamePoint, row_of};
+ghost use Rattle.connection_search.specs.Points.{the_move};
 ghost use Rattle.connection_search.specs.Running.{ExtendsBy, GoalStands};
 ghost use Rattle.connection_search.specs.Seeing.{no_goal, seeing};
 ghost use Rattle.connection_search.specs.Trees.{IsGoalAt, IsPath};
@@ -137,9 +139,9 @@ impl Point {
         }
     }
 
-    // The next ancestor with the goal's symbol and the other sign. Numbers beyond 32 bits are
-    // beyond memory.
-    fn next_ancestor(&mut self, tree: &Tree) -> Result<Option<Move>, NoMemory>
+    /// The next ancestor with the goal's symbol and the other sign. Numbers beyond 32 bits are
+    /// beyond memory.
+    pub fn next_ancestor(&mut self, tree: &Tree) -> Result<Option<Move>, NoMemory>
         requires { (g : CellGoal)
             × IsGoalAt tree.now.steps.items tree.now.goals.items self.old.goal g
             × IsPath tree.now.steps.items tree.now.goals.items self.old.above
@@ -210,11 +212,39 @@ impl Point {
         ensures way { (self.new.above ≡ self.old.above) × (self.new.up ≡ self.old.up) }
         ensures unchanged { MatchOption result (self.new ≡ self.old) (λ q. ⊤) }
     {
-        if self.next == self.end {
+        if self.has_no_extension() {
             return None;
         }
         let atom = tree.atom(self.goal);
-        let place = matrix.places(atom.symbol, other(atom.sign))[self.next];
+        self.take_place(matrix.places(atom.symbol, other(atom.sign)))
+    }
+
+    /// Whether no extension is left to try.
+    pub fn has_no_extension(&self) -> bool
+        ensures { result ≡ (self.now.next == self.now.end) }
+    {
+        self.next == self.end
+    }
+
+    /// The next of these places, which are those of the goal's symbol and the other sign.
+    pub fn take_place(&mut self, places: &[Place]) -> Option<Place>
+        requires { (m : List MatrixClause) × (d : ℕ) × (g : CellGoal) × (xs : List Choice)
+            × (map the_place places.now ≡ row_of m g) × HasExtensions m d self.old g xs }
+        ensures next { (m : List MatrixClause) (d : ℕ) (g : CellGoal) (xs : List Choice)
+            → map the_place places.now ≡ row_of m g → HasExtensions m d self.old g xs
+            → MatchOption result (xs ≡ []) (λ q. ExtendsBy m d g (the_place q)
+            × ((rest : List Choice) × (xs ≡ extension_at m (the_place q) ∷ rest)
+            × HasExtensions m d self.new g rest)) }
+        ensures counted { MatchOption result ⊤ (λ q. (self.new.next ≡ self.old.next + 1)
+            × (self.old.next < self.old.end) × (self.new.end ≡ self.old.end)) }
+        ensures same { IsSamePoint self.old self.new }
+        ensures way { (self.new.above ≡ self.old.above) × (self.new.up ≡ self.old.up) }
+        ensures unchanged { MatchOption result (self.new ≡ self.old) (λ q. ⊤) }
+    {
+        if self.has_no_extension() {
+            return None;
+        }
+        let place = places[self.next];
         self.next += 1;
         Some(place)
     }

@@ -1,4 +1,4 @@
-use Rattle.std.proofs.Common.{◌∙◌, subst, sym}
+use Rattle.std.proofs.Common.{◌∙◌, arith, subst, sym}
 use Rattle.matrix_build.specs.MatrixView.{the_place}
 use Rattle.search_theory.specs.OrderedChoices.{extension_at}
 use Rattle.connection_search.specs.Points.{IsNextAncestor}
@@ -29,4 +29,4 @@ returns-in-Some-next_extension-clause-falls c =
     let (d, g, untried, at, h) = c.requires in
     let n = subst (λ o. IsNextAncestor c.args.tree.now.steps.items c.args.tree.now.goals.items g c.args.self.now c.next_ancestor.new.self o) c.in_default.is (c.in_ok-step.ensures.next g at h.above) in
     let k = c.in-Some-next_extension.ensures.counted in
-    extension-falls c.args.tree.now.steps.items c.args.tree.now.goals.items c.args.self.now c.next_ancestor.new.self c.next_extension.new.self g n c.next_ancestor.ensures.places.0 c.next_ancestor.ensures.places.1 c.next_ancestor.ensures.same.depth c.next_extension.ensures.way.1 c.next_extension.ensures.same.depth k.0 k.1 k.2
+    extension-falls c.args.tree.now.steps.items c.args.tree.now.goals.items c.args.self.now c.next_ancestor.new.self c.next_extension.new.self g n c.next_ancestor.ensures.places.0 c.next_ancestor.ensures.places.1 c.next_ancestor.ensures.same.depth c.next_extension.ensures.way.1 c.next_extension.ensures.same.depth (let e = k.0 in omega (arith, e)) (let e = k.0 in let l = k.1 in omega (arith, e, l)) k.2
