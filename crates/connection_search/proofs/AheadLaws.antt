@@ -69,7 +69,7 @@ marked-literal steps goals goal marks a x g f h = subst (λ (z : CellAtom). bit_
 -- ---- extensions without hope
 
 -- another item stands among those that are left
-other-there : {A : Type 0} (xs : List A) (place i : ℕ) (x : A) → i ≢ place → slice_get xs i ≡ Some x → (n : ℕ) × (slice_get (remove xs place) n ≡ Some x)
+pub other-there : {A : Type 0} (xs : List A) (place i : ℕ) (x : A) → i ≢ place → slice_get xs i ≡ Some x → (n : ℕ) × (slice_get (remove xs place) n ≡ Some x)
 other-there [] place i x n e = let z : None ≡ Some x = e in absurd (cc z)
 other-there (y ∷ xs) zero zero x n e = absurd (n refl)
 other-there (y ∷ xs) zero (suc i) x n e = (i, e)

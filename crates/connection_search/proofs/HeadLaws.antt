@@ -1,22 +1,26 @@
 -- Different outermost names rule an extension out.
-use Rattle.std.proofs.Common.{◌≡◌, ◌<◌, arith, ℕ, zero, suc, List, [], ◌∷◌, true, false, not, eq-eqb, ◌==◌, refl, sym, ◌∙◌, ap, ap₂, None, Some, slice_get}
-use Rattle.std.proofs.lemmas.Bool.{false≢true}
+use Rattle.std.proofs.Common.{◌≡◌, ◌<◌, ◌&&◌, ◌||◌, arith, ℕ, zero, suc, Bool, List, [], ◌∷◌, true, false, not, IsTrue, eq-eqb, ◌==◌, refl, sym, ◌∙◌, ap, ap₂, subst, None, Some, slice_get}
+use Rattle.std.proofs.lemmas.Bool.{and_parts, false≢true}
+use Rattle.calculus.specs.declared.sort.Sort.{Sort}
+use Rattle.calculus.specs.declared.sort.Sort.TheVariants.{StringSort}
 use Rattle.calculus.specs.Ground.{Value, common, g_eigen, g_fun}
 use Rattle.store_theory.specs.Bindings.{EndsIn}
 use Rattle.store_theory.specs.Patterns.{Pattern, PatternAtom, Template, p_eigen, p_fun, p_new, p_var, pattern_list_size, pattern_size, patterns_tree}
-use Rattle.store_theory.specs.Stores.{Cell, CellHolds, EndsAt, Solution, Store, eigen_cell, fun_cell, is_bound, new_cell, parts_of, string_cell, variable}
+use Rattle.store_theory.specs.Stores.{Cell, CellHolds, CellValue, EndsAt, Solution, Solves, Store, a_mark, a_string, a_term, eigen_cell, fun_cell, is_bound, new_cell, parts_of, string_cell, variable}
 use Rattle.store_theory.proofs.BindingLaws.{ends-there}
 use Rattle.store_theory.specs.Systems.{CellAtom}
-use Rattle.store_theory.specs.Templates.{as_term, literals_by, pattern_literal, pattern_terms, pattern_value}
+use Rattle.store_theory.specs.Templates.{as_term, as_value, cell_value, literals_by, pattern_literal, pattern_terms, pattern_value}
 use Rattle.store_theory.proofs.SolutionLaws.{ends-same}
-use Rattle.search_theory.specs.States.{literal_by, terms_by}
+use Rattle.search_theory.specs.States.{literal_by, terms_by, values_by}
 use Rattle.search_theory.specs.Steps.{CannotExtend, Clash}
 use Rattle.search_theory.proofs.AtomLaws.{terms_at-by}
 use Rattle.search_theory.proofs.MeetingLaws.{literal-there, opposite-parts, opposite-some}
+use Rattle.term_store.specs.Fitting.{fits_in, parts_fit_in}
 use Rattle.term_store.specs.Shown.{head_of}
 use Rattle.term_store.specs.declared.cell.Head.{Head}
+use Rattle.term_unify.specs.Matching.{EachFits}
 use Rattle.term_unify.proofs.PairLaws.{told}
-use Rattle.connection_search.specs.Heads.{HasClash, HavePartsApart, IsApart, ends_differ, names_differ}
+use Rattle.connection_search.specs.Heads.{HasClash, HavePartsApart, IsApart, IsApartAt, ends_differ, names_differ}
 use Rattle.connection_search.proofs.SamenessLaws.{item-equal}
 
 -- equal lists have equal items
@@ -159,3 +163,49 @@ pub clash-by_ends : (s : Store) (xs ys : List ℕ) (k x y : ℕ) (a b : Head) �
 clash-by_ends s xs ys k x y a b ex ey (e, c, o, stands, is) (g, d, q, there, are) apart σ solves same =
     ends-apart σ e g c d (solves e c stands) (solves g d there) (ap₂ ends_differ is are ∙ apart)
     (ap as_term (sym (ends-same s σ x e solves o)) ∙ item-equal σ xs ys k x y same ex ey ∙ ap as_term (ends-same s σ y g solves q))
+
+-- ---- names of cells and of patterns over variables
+
+-- of the value of a cell the term is kept, whatever its sort
+term-kept : (v : CellValue) → as_term (cell_value (as_value v)) ≡ as_term v
+term-kept (a_term t) = refl
+term-kept (a_mark m) = refl
+term-kept (a_string w) = refl
+
+variable-term : (σ : Solution) (vs : List ℕ) (k v : ℕ) → slice_get vs k ≡ Some v → as_term (pattern_value (values_by σ vs) (p_var k)) ≡ as_term (σ v)
+variable-term σ [] k v e = let z : None ≡ Some v = e in absurd (cc z)
+variable-term σ (x ∷ vs) zero v e = let same : x ≡ v = cc e in term-kept (σ x) ∙ ap (λ z. as_term (σ z)) same
+variable-term σ (x ∷ vs) (suc k) v e = variable-term σ vs k v e
+
+-- a cell with another name than the variable's
+pub variable-apart : (s : Store) (vs : List ℕ) (r k v : ℕ) (a b : Head) → slice_get vs k ≡ Some v → EndsIn s v (λ c. head_of c ≡ a) → EndsIn s r (λ c. head_of c ≡ b) → ends_differ a b ≡ true → IsApartAt s vs r (p_var k)
+variable-apart s vs r k v a b at (e, c, o, stands, is) (g, d, q, there, are) differ σ solves same =
+    ends-apart σ e g c d (solves e c stands) (solves g d there) (ap₂ ends_differ is are ∙ differ)
+    (ap as_term (sym (ends-same s σ v e solves o)) ∙ sym (variable-term σ vs k v at) ∙ sym same ∙ ap as_term (ends-same s σ r g solves q))
+
+-- equal to no copy, so not to that over these variables
+pub apart-over : (s : Store) (vs : List ℕ) (r : ℕ) (q : Pattern) → IsApart s r q → IsApartAt s vs r q
+apart-over s vs r q h σ solves = h σ (values_by σ vs) solves
+
+pub clash-over : (s : Store) (vs rs : List ℕ) (ps : List Pattern) (i r : ℕ) (q : Pattern) → slice_get rs i ≡ Some r → slice_get ps i ≡ Some q → IsApartAt s vs r q → (σ : Solution) → Solves s σ → ¬ (terms_by σ rs ≡ pattern_terms (values_by σ vs) (patterns_tree ps))
+clash-over s vs rs ps i r q er eq apart σ solves same = apart σ solves (items-equal σ (values_by σ vs) rs ps i r q same er eq)
+
+-- ---- sorts of patterns
+
+part-fits : (s : Store) (vs : List ℕ) (sort : Sort) (strings : Bool) (p : Pattern) → IsTrue (fits_in s vs sort p || (strings && fits_in s vs StringSort p)) → (b : Sort) × IsTrue (fits_in s vs b p)
+part-fits s vs sort strings p h = by (fits_in s vs sort p) refl h
+  where
+    by : (t : Bool) → fits_in s vs sort p ≡ t → IsTrue (t || (strings && fits_in s vs StringSort p)) → (b : Sort) × IsTrue (fits_in s vs b p)
+    by true e k = (sort, e)
+    by false e k = (StringSort, (and_parts strings (fits_in s vs StringSort p) k).1)
+
+-- each part has a sort
+pub parts-sorted : (s : Store) (vs : List ℕ) (sort : Sort) (strings : Bool) (ps : List Pattern) → IsTrue (parts_fit_in s vs sort strings (patterns_tree ps)) → EachFits s vs ps
+parts-sorted s vs sort strings [] h i p e = let z : None ≡ Some p = e in absurd (cc z)
+parts-sorted s vs sort strings (q ∷ ps) h zero p e =
+    let same : q ≡ p = cc e in
+    let k = and_parts (fits_in s vs sort q || (strings && fits_in s vs StringSort q)) (parts_fit_in s vs sort strings (patterns_tree ps)) h in
+    subst (λ u. (b : Sort) × IsTrue (fits_in s vs b u)) same (part-fits s vs sort strings q k.0)
+parts-sorted s vs sort strings (q ∷ ps) h (suc i) p e =
+    let k = and_parts (fits_in s vs sort q || (strings && fits_in s vs StringSort q)) (parts_fit_in s vs sort strings (patterns_tree ps)) h in
+    parts-sorted s vs sort strings ps k.1 i p e

@@ -50,7 +50,7 @@ places-same σ [] (y ∷ ys) e = cc e
 places-same σ (x ∷ xs) [] e = cc e
 places-same σ (x ∷ xs) (y ∷ ys) e = let p : σ x ≡ σ y = cc e in let q : map σ xs ≡ map σ ys = cc e in ap₂ (λ v w. as_label v ++ w) p (places-same σ xs ys q)
 
-sign-equal : (x y : Sign) → sign_eq x y ≡ true → x ≡ y
+pub sign-equal : (x y : Sign) → sign_eq x y ≡ true → x ≡ y
 sign-equal T T e = refl
 sign-equal T F e = absurd (false≢true e)
 sign-equal F T e = absurd (false≢true e)

@@ -1,6 +1,6 @@
 //! Names, by which most connections are refused without a copy or a binding.
 
-ghost use Rattle.std.specs.Prelude.{◌≡◌, ◌<◌, IsTrue, Some, length, map, slice_get, true};
+ghost use Rattle.std.specs.Prelude.{◌≡◌, ◌<◌, IsTrue, Some, false, length, map, slice_get, true};
 ghost use Rattle.store_theory.specs.Bindings.{IsEnd};
 ghost use Rattle.calculus.specs.declared.sort.Sort.{Sort};
 ghost use Rattle.calculus.specs.declared.sort.Sort.TheVariants.{TermSort};

@@ -1,14 +1,14 @@
 //! The other literals of an extension's clause, looked at before their cells are built: most
 //! extensions that are not made end here.
 
-ghost use Rattle.std.specs.Prelude.{◌≡◌, ◌<◌, ◌+◌, ◌∷◌, Bool, ℕ, IfOk, IsTrue, List, false, length, true};
+ghost use Rattle.std.specs.Prelude.{◌≡◌, ◌∷◌, ℕ, IfOk, IsTrue, Option, Some, false, length, true};
 ghost use Rattle.std.specs.List.{list_all};
-ghost use Rattle.search_theory.specs.States.{CellGoal, atom_is_below, goal_is_below};
+ghost use Rattle.search_theory.specs.States.{CellGoal, atom_is_below, goal_is_below, literal_by};
+ghost use Rattle.search_theory.specs.States.{values_by};
 ghost use Rattle.search_theory.specs.Uncopied.{HasNoReductionOver, IsApartOver, IsRepeatedOver};
 ghost use Rattle.store_theory.specs.Patterns.{HaveSortsAt, template_fits};
 ghost use Rattle.store_theory.specs.Stores.{Solution, Solves, has_value_sort_at};
 ghost use Rattle.store_theory.specs.Templates.{pattern_literal};
-ghost use Rattle.search_theory.specs.States.{literal_by, values_by};
 ghost use Rattle.term_store.specs.ClauseView.{the_atom, the_pattern_atom};
 ghost use Rattle.term_store.specs.Fitting.{atom_fits_in};
 ghost use Rattle.term_store.specs.RefView.{the_places};
@@ -29,12 +29,7 @@ use term_unify::Unifier;
 // ---- literals that something above them may close
 
 // Whether some bindings may make the literal and the atom opposite.
-fn may_meet(
-    store: &Store,
-    literal: &PatternAtom,
-    variables: Variables,
-    atom: &CellAtom,
-) -> bool
+fn may_meet(store: &Store, literal: &PatternAtom, variables: Variables, atom: &CellAtom) -> bool
     requires literal { IsTrue (atom_fits_in store.now.store (the_places variables)
         (the_pattern_atom literal.now)) }
     requires atom { IsTrue (atom_is_below (length store.now.store.cells) (the_atom atom.now)) }
