@@ -6,17 +6,13 @@ use Rattle.std.proofs.lemmas.Bool.{false≢true}
 use Rattle.std.proofs.lemmas.Option.{slice_get-map}
 use Rattle.calculus.specs.Syntax.{Problem}
 use Rattle.calculus.specs.Space.{Member}
-use Rattle.calculus.specs.declared.sign.Side.{Side}
-use Rattle.calculus.specs.Choices.{Choice, extension}
-use Rattle.store_theory.specs.Patterns.{Template}
-use Rattle.store_theory.specs.Templates.{IsTemplateOf}
-use Rattle.search_theory.specs.Ahead.{IsHopeless, IsHopelessAt}
+use Rattle.calculus.specs.Choices.{Choice}
 use Rattle.store_theory.specs.Stores.{Store, Solution}
 use Rattle.store_theory.specs.Systems.{CellAtom}
 use Rattle.search_theory.specs.Exploring.{BeginsWith, BeginsWithOne, IsClosedList, behind, IsIn}
-use Rattle.search_theory.specs.Jumps.{ChoicePoint, AreSolvedBehind, IsSolvedBehind, IsSolvedList, StandsAtPoint}
-use Rattle.search_theory.specs.Matrix.{MatrixClause, MatrixPlace, IsTemplateMatrix}
-use Rattle.search_theory.specs.OrderedChoices.{choices_at, extension_at, selection_of}
+use Rattle.search_theory.specs.Jumps.{ChoicePoint, AreSolvedBehind, IsFruitless, IsSolvedBehind, IsSolvedList, StandsAtPoint}
+use Rattle.search_theory.specs.Matrix.{MatrixClause, IsTemplateMatrix}
+use Rattle.search_theory.specs.OrderedChoices.{choices_at}
 use Rattle.search_theory.specs.Regular.{AreSame}
 use Rattle.search_theory.specs.Searching.{IsSearch}
 use Rattle.search_theory.specs.States.{CellChoice, CellGoal, State, literal_by, goal_at, IsGround, IsStateOf}
@@ -25,8 +21,8 @@ use Rattle.search_theory.proofs.ExploreLaws.{begins-left, begins-right}
 use Rattle.search_theory.proofs.ExtensionLaws.{state_at}
 use Rattle.search_theory.proofs.LookAheadLaws.{IsCloseable, closed-image, goal-closed}
 use Rattle.search_theory.proofs.PruningLaws.{search-pruned}
-use Rattle.search_theory.proofs.RegularLaws.{any-there, each-at}
-use Rattle.search_theory.proofs.SolvedLaws.{closed-new, hopeless-unsolved, refused-unsolved, solved-first, solved-goals, solved-image, solved-later, unsolved-open}
+use Rattle.search_theory.proofs.RegularLaws.{any-there}
+use Rattle.search_theory.proofs.SolvedLaws.{closed-new, refused-unsolved, solved-first, solved-goals, solved-image, solved-later, unsolved-open}
 use Rattle.search_theory.proofs.StepLaws.{Grows}
 use Rattle.search_theory.proofs.TransplantLaws.{IsGoalOf, Transplanted, goal-alike}
 
@@ -174,19 +170,10 @@ nowhere-cannot P d j c S g (q ∷ qs) n h at cannot stand = (
 pub solved-cannot : (P : Problem) (d low j : ℕ) (c : List Choice) (S : State) (g : CellGoal) (p : ChoicePoint) (qs : List ChoicePoint) → IsTrue (is_not_empty c) → IsStateOf P d c S → slice_get S.growth.all_goals j ≡ Some g → CannotClose P d S g → AllByRecursion (StandsAtPoint P d) (p ∷ qs) → p.lowest ≤ j → AreSolvedBehind P d low (c ∷ []) (p ∷ qs) → AreSolvedBehind P d low [] (p ∷ qs)
 solved-cannot P d low j c S g p qs n h at cannot stand l k = solved-dropped P d low j c p qs l (nowhere-cannot P d j c S g (p ∷ qs) n h at cannot stand) k
 
--- an extension without hope
-pub nowhere-hopeless : (P : Problem) (d : ℕ) (c : List Choice) (s : Store) (cs : List CellChoice) (g : CellGoal) (gs every : List CellGoal) (ds : List ℕ) (sides : List Side) (t : Template) (place : ℕ) (qs : List ChoicePoint) → IsStateOf P d c (state_at s cs g gs every ds) → IsTemplateOf P sides t → d ≤ length g.path + 1 → IsHopeless t place g → AllByRecursion (StandsAtPoint P d) qs → AllByRecursion (LeadsNowhere P d (length every) (c ++ extension sides place ∷ [])) qs
-nowhere-hopeless P d c s cs g gs every ds sides t place [] h tm far bad stand = tt
-nowhere-hopeless P d c s cs g gs every ds sides t place (q ∷ qs) h tm far bad stand = (
-  (λ l b k. (let e = stand.0.goals in hopeless-unsolved P d q.list c b s cs g gs every ds (length stand.0.state.growth.all_goals) sides t place h tm far bad k (solved-goals P d q.list b stand.0.state stand.0.is_state k) (omega (arith, e, l)))),
-  nowhere-hopeless P d c s cs g gs every ds sides t place qs h tm far bad stand.1,
-)
-
--- the same for the choice as the search has it
-pub nowhere-passed : (P : Problem) (m : List MatrixClause) (d : ℕ) (c : List Choice) (s : Store) (cs : List CellChoice) (g : CellGoal) (gs every : List CellGoal) (ds : List ℕ) (p : MatrixPlace) (qs : List ChoicePoint) → IsTemplateMatrix P m → IsStateOf P d c (state_at s cs g gs every ds) → d ≤ length g.path + 1 → IsHopelessAt m p g → AllByRecursion (StandsAtPoint P d) qs → AllByRecursion (LeadsNowhere P d (length every) (c ++ extension_at m p ∷ [])) qs
-nowhere-passed P m d c s cs g gs every ds p qs tm h far bad stand =
-    let is = each-at (λ (x : MatrixClause). IsTemplateOf P x.selection x.template) m p.clause bad.clause tm.templates bad.stands in
-    subst (λ o. AllByRecursion (LeadsNowhere P d (length every) (c ++ extension (selection_of o) p.literal ∷ [])) qs) (sym bad.stands) (nowhere-hopeless P d c s cs g gs every ds bad.clause.selection bad.clause.template p.literal qs h is far bad.hopeless stand)
+-- it closes the goal of no point at which the tree had at most n goals
+pub nowhere-fruitless : (P : Problem) (d n : ℕ) (c : List Choice) (qs : List ChoicePoint) → IsFruitless P d c n → AllByRecursion (StandsAtPoint P d) qs → AllByRecursion (LeadsNowhere P d n c) qs
+nowhere-fruitless P d n c [] h stand = tt
+nowhere-fruitless P d n c (q ∷ qs) h stand = (h q stand.0, nowhere-fruitless P d n c qs h stand.1)
 
 -- a list of the last point is passed over
 pub solved-passed : (P : Problem) (d low : ℕ) (p : ChoicePoint) (x : List Choice) (xs : List (List Choice)) (qs : List ChoicePoint) → p.pending ≡ x ∷ xs → AllByRecursion (LeadsNowhere P d low x) (p ∷ qs) → AreSolvedBehind P d low [] (p ∷ qs) → AreSolvedBehind P d low [] (with_pending p xs ∷ qs)

@@ -79,3 +79,4 @@ pub mod CutLimits
 pub mod SolvedLaws
 pub mod TransplantLaws
 pub mod JumpLaws
+pub mod BarrenLaws

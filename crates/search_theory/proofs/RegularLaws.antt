@@ -136,7 +136,7 @@ any-there x (z ∷ zs) (suc j) y e f = or-right (literal_eq x z) (list_any (lite
     or-right true b k = refl
     or-right false b k = k
 
-not-all : {A : Type 0} (p : A → Bool) (xs : List A) (i : ℕ) (x : A) → slice_get xs i ≡ Some x → p x ≡ false → list_all p xs ≡ false
+pub not-all : {A : Type 0} (p : A → Bool) (xs : List A) (i : ℕ) (x : A) → slice_get xs i ≡ Some x → p x ≡ false → list_all p xs ≡ false
 not-all p [] i x e f = cc e
 not-all p (y ∷ ys) zero x e f = let q : y ≡ x = cc e in and-left (p y) (list_all p ys) (ap p q ∙ f)
   where

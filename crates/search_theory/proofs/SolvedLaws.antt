@@ -5,17 +5,13 @@ use Rattle.std.specs.List.{list_all, AllByRecursion}
 use Rattle.std.proofs.lemmas.Bool.{and_parts, and_from}
 use Rattle.std.proofs.lemmas.List.{length-append, length-map}
 use Rattle.std.proofs.lemmas.Option.{slice_get-map}
-use Rattle.calculus.specs.declared.sign.Side.{Side}
 use Rattle.calculus.specs.Syntax.{Problem}
 use Rattle.calculus.specs.Ground.{GroundLiteral}
 use Rattle.calculus.specs.ComputedInstances.{is_instance}
 use Rattle.calculus.specs.Tableaux.{Closing, Closings, reduce, extend, no_closings, more_closings, ancestor, is_complement, is_new_on, is_shown, closes, closes_all}
 use Rattle.calculus.specs.Choices.{start, reduction, extension, Choice, GroundChoice, choice_of, choices_of, choices_below, choices_of_all, Goal, Growth, is_opposite, goals_on, after_start, grow_at, grow, growth_of, is_within}
 use Rattle.calculus.proofs.GrowthLaws.{extended-parts, goals_below, goals_of_all, depths_below, depths_of_all, grown_at, is_below, run}
-use Rattle.store_theory.specs.Patterns.{Template}
 use Rattle.store_theory.specs.Stores.{Store, Solution}
-use Rattle.store_theory.specs.Templates.{IsTemplateOf, pattern_literal}
-use Rattle.search_theory.specs.Ahead.{IsHopeless}
 use Rattle.search_theory.specs.Exploring.{BeginsWith, BeginsWithOne, behind}
 use Rattle.search_theory.specs.Goals.{IsChoiceAt}
 use Rattle.search_theory.specs.Jumps.{IsSolvedList, IsSolvedBehind}
@@ -29,13 +25,13 @@ use Rattle.search_theory.proofs.ExploreLaws.{begins-behind}
 use Rattle.search_theory.proofs.ExtensionLaws.{extension-of, last-at, reduction-of, state_at}
 use Rattle.search_theory.proofs.ImageLaws.{names-image}
 use Rattle.search_theory.proofs.LastChoice.{grow_once, none≢some}
-use Rattle.search_theory.proofs.LookAheadLaws.{IsCloseable, closeable, closed-answered, other-literal}
+use Rattle.search_theory.proofs.LookAheadLaws.{IsCloseable, closeable}
 use Rattle.search_theory.proofs.NextLaws.{extension-shape, grown_state, not-start, reduction-shape}
-use Rattle.search_theory.proofs.StepLaws.{Grows, by-template, if-some, same-some}
+use Rattle.search_theory.proofs.StepLaws.{Grows, if-some, same-some}
 
 -- ---- where a goal stands in a list
 
-get-behind : {A : Type 0} (xs ys : List A) (i : ℕ) → slice_get (xs ++ ys) (length xs + i) ≡ slice_get ys i
+pub get-behind : {A : Type 0} (xs ys : List A) (i : ℕ) → slice_get (xs ++ ys) (length xs + i) ≡ slice_get ys i
 get-behind [] ys i = ap (slice_get ys) (let e : 0 + i ≡ i = omega arith in e)
 get-behind (x ∷ xs) ys i = ap (slice_get (x ∷ (xs ++ ys))) (let e : suc (length xs) + i ≡ suc (length xs + i) = omega arith in e) ∙ get-behind xs ys i
 
@@ -225,6 +221,19 @@ below-at P d c b p k h n j x l m at =
       each-at (IsDeeper (length k.goal.path)) goals (j - n) x (deeper-below (length k.goal.path) k.goal.literal k.goal.path k.closing (omega arith)) found,
     )
 
+-- the tree that a beginning grows: its goals from the number n on are closed
+pub record LaterClosed (P : Problem) (d : ℕ) (p : List Choice) (n : ℕ) : Type 0 where
+  pub choices : List GroundChoice
+  pub growth : Growth
+  pub names : choices_of choices ≡ p
+  pub grows : growth_of P choices ≡ Some growth
+  pub goals : (j : ℕ) (x : Goal) → n ≤ j → slice_get growth.all_goals j ≡ Some x → IsCloseable P d x
+
+pub later-closed : (P : Problem) (d : ℕ) (c p b : List Choice) (S : State) → IsTrue (is_not_empty p) → IsStateOf P d c S → IsSolvedList P d c b → BeginsWith p b → LaterClosed P d p (length S.growth.all_goals)
+later-closed P d c p b S n h k begins =
+    let g = begun P d c b p k n begins in
+    record { choices = g.choices; growth = g.growth; names = g.names; grows = g.grows; goals = λ j x l at. (below-at P d c b p k g (length S.growth.all_goals) j x (solved-goals P d c b S h k) l at).0 }
+
 pub solved-image : (P : Problem) (d : ℕ) (c p b : List Choice) (S : State) (n : ℕ) → IsTrue (is_not_empty p) → IsStateOf P d p S → (k : IsSolvedList P d c b) → length k.growth.all_goals ≡ n → BeginsWith p b → SolvedImage P d S n (length k.goal.path)
 solved-image P d c p b S n m h k l begins =
     let g = begun P d c b p k m begins in
@@ -289,29 +298,6 @@ solved-later P m d c p b s cs g gs every ds n j tm h not_empty k l later at begi
         let deep = r.deeper j g later at in
         let long = length-map g.path (literal_by σ) in
         omega (arith, shallow, deep, long)
-
--- ---- an extension without hope
-
-all-by : {A : Type 0} (Q : A → Type 0) (xs : List A) → ((i : ℕ) (x : A) → slice_get xs i ≡ Some x → Q x) → AllByRecursion Q xs
-all-by Q [] h = tt
-all-by Q (x ∷ xs) h = (h zero x refl, all-by Q xs (λ i y e. h (suc i) y e))
-
--- no list that closes an earlier goal goes on by an extension that gives a goal whose path lacks its symbol with the other sign, where
--- one goal less is above the goal than the limit
-pub hopeless-unsolved : (P : Problem) (d : ℕ) (c p b : List Choice) (s : Store) (cs : List CellChoice) (g : CellGoal) (gs every : List CellGoal) (ds : List ℕ) (n : ℕ) (sides : List Side) (t : Template) (place : ℕ) → IsStateOf P d p (state_at s cs g gs every ds) → IsTemplateOf P sides t → d ≤ length g.path + 1 → IsHopeless t place g → (k : IsSolvedList P d c b) → length k.growth.all_goals ≡ n → n ≤ length every → ¬ BeginsWith (p ++ extension sides place ∷ []) b
-hopeless-unsolved P d c p b s cs g gs every ds n sides t place h tm far bad k l later begins =
-    let z = begun P d c b (p ++ extension sides place ∷ []) k (not-empty-behind p (extension sides place)) begins in
-    let r = last-at P d p (state_at s cs g gs every ds) (extension sides place) h refl z.choices z.growth z.names z.grows in
-    let σ = r.solution in
-    let (j, is, selected) = extension-of r.last sides place r.last_name in
-    let q = if-some (is_instance P j && is_opposite (literal_by σ g.literal) (slice_get j.literals place)) _ z.growth (ap (λ x. grow_once P x (grown_state g gs every ds σ)) (sym is) ∙ r.grown) in
-    let a = and_parts (is_instance P j) (is_opposite (literal_by σ g.literal) (slice_get j.literals place)) q.0 in
-    let new = goals_on (literal_by σ g.literal ∷ map (literal_by σ) g.path) (remove j.literals place) in
-    let long = length-map every (goal_at σ) in
-    let closed : AllByRecursion (IsCloseable P d) new = all-by (IsCloseable P d) new (λ i x e.
-    (below-at P d c b (p ++ extension sides place ∷ []) k z n (length (map (goal_at σ) every) + i) x l (omega (arith, later, long)) (ap (λ (y : Growth). slice_get y.all_goals (length (map (goal_at σ) every) + i)) (sym q.1) ∙ get-behind (map (goal_at σ) every) new i ∙ e)).0) in
-    let w = by-template P sides t tm j selected a.0 in
-    bad.lacking (closed-answered P d σ (g.literal ∷ g.path) (remove j.literals place) bad.number (pattern_literal j.values bad.literal) (omega (arith, far)) closed (other-literal t j place bad.number bad.literal w.literals bad.stands))
 
 -- ---- nothing is pending
 

@@ -5,7 +5,6 @@ use Rattle.std.specs.Int.{bit_at}
 use Rattle.calculus.specs.declared.sign.Sign.{Sign}
 use Rattle.calculus.specs.declared.sign.Sign.TheVariants.{T, F}
 use Rattle.calculus.specs.Equality.{sign_eq}
-use Rattle.calculus.specs.Kinds.{other}
 use Rattle.store_theory.specs.Patterns.{PatternAtom, Template}
 use Rattle.store_theory.specs.Stores.{Store}
 use Rattle.store_theory.specs.Systems.{CellAtom}
@@ -53,14 +52,3 @@ bit_of symbol T = (2 * symbol + 1) % 64
 -- the bit of each atom of the path is set
 abbrev pub MarksPath : ℕ → List CellAtom → Type 0
 MarksPath mask path = (k : ℕ) (a : CellAtom) → slice_get path k ≡ Some a → bit_at mask (bit_of a.symbol a.sign) ≡ 1
-
--- another literal of the clause than the one at the place has the symbol of this bit and the other sign
-pub record IsNeeded (t : Template) (place bit : ℕ) : Type 0 where
-  pub number : ℕ
-  pub literal : PatternAtom
-  pub stands : slice_get (remove t.literals place) number ≡ Some literal
-  pub is_bit : bit_of literal.symbol (other literal.sign) ≡ bit
-
--- each bit that is set is one that a closed goal at the limit needs on its path, for some other literal of the clause
-abbrev pub MarksNeeds : ℕ → Template → ℕ → Type 0
-MarksNeeds mask t place = (bit : ℕ) → bit_at mask bit ≡ 1 → IsNeeded t place bit
