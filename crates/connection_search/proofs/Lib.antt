@@ -72,3 +72,4 @@ pub mod DeepeningLaws
 pub mod CuttingLaws
 pub mod CutDeepening
 pub mod MatchingLaws
+pub mod UncopiedLaws

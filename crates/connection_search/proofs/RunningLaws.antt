@@ -263,6 +263,10 @@ head-met : (old met : Store) (t : Template) (place : ℕ) (vs : List ℕ) (p : P
 head-met old met t place vs p args k b h =
     subst (λ v. IsHeadMatch old met t v p args) (sym h.variables) (head-matched old met t p args b.stores k b.values b.fits b.sorted b.below (subst (λ v. Narrows (λ σ. (length args ≡ length p.args) × MatchTo v args p.args (length p.args) σ) (with_variables_of t.sorts old) met) h.variables h.narrows))
 
+-- the same for the leftmost open goal
+pub head-match : (P : Problem) (base d : ℕ) (c : List Choice) (old met : Store) (cs : List CellChoice) (g : CellGoal) (gs every : List CellGoal) (ds : List ℕ) (sides : List Side) (t : Template) (place : ℕ) (vs : List ℕ) (p : PatternAtom) (y : System) → IsRunning P base d c (state_at old cs g gs every ds) y → IsTemplateOf P sides t → IsTrue (list_all is_variable_sort t.sorts) → HeadMatched old met t place vs p g.literal.args → IsHeadMatch old met t vs p g.literal.args
+head-match P base d c old met cs g gs every ds sides t place vs p y h template sorts head = head-met old met t place vs p g.literal.args sorts (begun old t place p g.literal h.well.fits sorts template.fits head.stands (goal-in P base d c old cs g gs every ds y h).literal.sorted) head
+
 -- where the connected literal cannot be matched, no tree follows the extension
 pub no-extension-by_mismatch : (P : Problem) (base d : ℕ) (c : List Choice) (old : Store) (cs : List CellChoice) (g : CellGoal) (gs every : List CellGoal) (ds : List ℕ) (sides : List Side) (t : Template) (place : ℕ) (p : PatternAtom) (y : System) → IsRunning P base d c (state_at old cs g gs every ds) y → IsTemplateOf P sides t → IsTrue (list_all is_variable_sort t.sorts) → slice_get t.literals place ≡ Some p → HoldsNowhere (λ σ. (length g.literal.args ≡ length p.args) × MatchTo (places_from (length old.cells) (length t.sorts)) g.literal.args p.args (length p.args) σ) (with_variables_of t.sorts old) → ¬ Grows P (c ++ extension sides place ∷ [])
 no-extension-by_mismatch P base d c old cs g gs every ds sides t place p y h template sorts at none =
@@ -383,7 +387,7 @@ running-extended P base d c old met new cs g gs every ds sides t place vs label 
     literals_from = all-inserted (atom_is_from base) place b clause.literals (and_from (list_all (nat_le base) g.literal.args) (list_all (nat_le base) label) (args-from base old g.literal here.literal) (rest.label_own base stage.from stage.variables)) parts.literals_from
 
     met_head : IsHeadMatch old met t vs p g.literal.args
-    met_head = head-met old met t place vs p g.literal.args own.sorts (begun old t place p g.literal h.well.fits own.sorts template.fits head.stands here.literal.sorted) head
+    met_head = head-match P base d c old met cs g gs every ds sides t place vs p y h template own.sorts head
 
     others : CellClause
     others = record { selection = sides; values = vs; literals = clause.literals }
