@@ -1,5 +1,5 @@
 -- A pattern with parts against a cell whose bindings end at a built one.
-use Rattle.std.proofs.Common.{◌≡◌, ◌≤◌, ℕ, List, length, true, false, Some, slice_get, IsTrue, sym, ◌∙◌, ap, subst, nat_le, leb-true}
+use Rattle.std.proofs.Common.{◌≡◌, ◌≤◌, ℕ, List, length, true, false, Some, slice_get, IsTrue, refl, sym, ◌∙◌, ap, subst, nat_le, leb-true}
 use Rattle.std.specs.List.{list_all}
 use Rattle.std.proofs.lemmas.Bool.{false≢true, and_parts}
 use Rattle.calculus.specs.declared.sort.Sort.{Sort}
@@ -10,7 +10,8 @@ use Rattle.search_theory.specs.States.{values_by}
 use Rattle.term_store.specs.Fitting.{fits_in}
 use Rattle.term_store.specs.Signatures.{BuildsOver, allows, allows_all, number_of_patterns, sorts_of_patterns}
 use Rattle.term_store.specs.declared.cell.Head.{Head}
-use Rattle.term_unify.specs.Matching.{ArePartsAt, HasParts, HoldsNowhere, MatchTo, Matches, NamesKept, Narrows, StandsBuilt, has_head}
+use Rattle.term_store.specs.declared.cell.Head.TheVariants.{Open, Fun, Eigen, New, Marks}
+use Rattle.term_unify.specs.Matching.{ArePartsAt, HasParts, HoldsAlways, HoldsNowhere, MatchTo, Matches, NamesKept, Narrows, StandsBuilt, has_head}
 use Rattle.term_unify.specs.Steps.{is_open_head}
 use Rattle.term_unify.proofs.MatchLaws.{AllMatch, matches-end, narrows-same, one-cell}
 use Rattle.term_unify.proofs.MatchShapes.{all-match, built-matches, match-all, matches-built}
@@ -58,6 +59,18 @@ built-narrows s t vs r x count h p ps good w o put name many e k =
 pub built-nowhere : (s : Store) (vs : List ℕ) (r x count : ℕ) (h : Head) (p : Pattern) (ps : List Pattern) → IsWellFormed s → Ended s r x h → is_open_head h ≡ false → IsPut s vs p ps → has_head h p ≡ true → EndsIn s x (λ c. count ≡ length (parts_of c)) → count ≡ length ps → ArePartsAt s x (λ rs. HoldsNowhere (MatchTo vs rs ps (length ps)) s) → HoldsNowhere (Matches vs r p) s
 built-nowhere s vs r x count h p ps good w o put name many e k σ g m =
     k w.cell w.at σ g ((parts-both s vs r x h p ps good w o put name (sym (counted s r x h w count many) ∙ e) σ g).1 m)
+
+pub built-always : (s : Store) (vs : List ℕ) (r x count : ℕ) (h : Head) (p : Pattern) (ps : List Pattern) → IsWellFormed s → Ended s r x h → is_open_head h ≡ false → IsPut s vs p ps → has_head h p ≡ true → EndsIn s x (λ c. count ≡ length (parts_of c)) → count ≡ length ps → ArePartsAt s x (λ rs. HoldsAlways (MatchTo vs rs ps (length ps)) s) → HoldsAlways (Matches vs r p) s
+built-always s vs r x count h p ps good w o put name many e k σ g =
+    (parts-both s vs r x h p ps good w o put name (sym (counted s r x h w count many) ∙ e) σ g).0 (k w.cell w.at σ g)
+
+-- a cell with a pattern's name is built
+pub named-built : (h : Head) (p : Pattern) → has_head h p ≡ true → is_open_head h ≡ false
+named-built (Open sort) p e = absurd (false≢true e)
+named-built (Fun f) p e = refl
+named-built (Eigen f) p e = refl
+named-built (New f) p e = refl
+named-built Marks p e = refl
 
 -- what the pattern allows its parts allow
 pub built-within : (s t : Store) (vs : List ℕ) (p : Pattern) (ps : List Pattern) → HasParts p ps → BuildsOver vs (λ sorts g. allows_all g sorts (patterns_tree ps)) s t → BuildsOver vs (λ sorts g. allows g sorts p) s t

@@ -39,21 +39,20 @@ below-next (suc j) (suc n) l = elim (below-next j n (omega (arith, l))) [ inl m 
 pub one-cell : {A : Type 0} (o : Option A) (x y : A) → o ≡ Some x → o ≡ Some y → x ≡ y
 one-cell o x y e f = let q : Some x ≡ Some y = sym e ∙ f in cc q
 
+-- one more is matched
+pub next-matches : (vs rs : List ℕ) (ps : List Pattern) (n r : ℕ) (p : Pattern) (σ : Solution) → slice_get rs n ≡ Some r → slice_get ps n ≡ Some p → MatchTo vs rs ps n σ → Matches vs r p σ → MatchTo vs rs ps (n + 1) σ
+next-matches vs rs ps n r p σ er ep first next j q u m e f = elim (below-next j n m) [
+  | inl k ↦ first j q u k e f
+  | inr k ↦
+      let sq : r ≡ q = one-cell (slice_get rs n) r q er (sym (ap (slice_get rs) k) ∙ e) in
+      let su : p ≡ u = one-cell (slice_get ps n) p u ep (sym (ap (slice_get ps) k) ∙ f) in
+      ap σ (sym sq) ∙ next ∙ ap (pattern_value (values_by σ vs)) su
+]
+
 pub narrows-more : (old mid new : Store) (vs rs : List ℕ) (ps : List Pattern) (n r : ℕ) (p : Pattern) → IsTrue (names_below (length old.cells) vs) → r < length old.cells → slice_get rs n ≡ Some r → slice_get ps n ≡ Some p → Narrows (MatchTo vs rs ps n) old mid → Narrows (Matches vs r p) mid new → Narrows (MatchTo vs rs ps (n + 1)) old new
 narrows-more old mid new vs rs ps n r p b l er ep first second = record {
   longer = let x = first.longer in let y = second.longer in omega (arith, x, y);
-  back = λ σ h.
-      let y = second.back σ h in
-      let x = first.back σ y.0 in (
-        x.0,
-        λ j q u m e f. elim (below-next j n m) [
-          | inl k ↦ x.1 j q u k e f
-          | inr k ↦
-              let sq : r ≡ q = one-cell (slice_get rs n) r q er (sym (ap (slice_get rs) k) ∙ e) in
-              let su : p ≡ u = one-cell (slice_get ps n) p u ep (sym (ap (slice_get ps) k) ∙ f) in
-              ap σ (sym sq) ∙ y.1 ∙ ap (pattern_value (values_by σ vs)) su
-        ],
-      );
+  back = λ σ h. let y = second.back σ h in let x = first.back σ y.0 in (x.0, next-matches vs rs ps n r p σ er ep x.1 y.1);
   forth = λ σ h q.
       let (τ, ht, at) = first.forth σ h (λ j k u m e f. q j k u (omega (arith, m)) e f) in
       let here = matches-agree (length old.cells) σ τ vs r p at b l (q n r p (omega arith) er ep) in

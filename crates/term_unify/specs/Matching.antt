@@ -30,6 +30,10 @@ pub record Narrows (Q : Solution → Type 0) (old new : Store) : Type 0 where
 abbrev pub HoldsNowhere : (Solution → Type 0) → Store → Type 0
 HoldsNowhere Q s = (σ : Solution) → Solves s σ → ¬ Q σ
 
+-- Q holds of all solutions
+abbrev pub HoldsAlways : (Solution → Type 0) → Store → Type 0
+HoldsAlways Q s = (σ : Solution) → Solves s σ → Q σ
+
 -- built cells and bindings came; the same comes of all these cells and then all these bindings
 pub record AddsAndBinds (before after : Store) : Type 0 where
   pub mid : Store

@@ -23,7 +23,7 @@ use cop_base::NoMemory;
 use term_store::{Content, Pattern, Patterns, Ref, Store, Variables};
 
 // Whether a built cell with this content has the pattern's kind and name.
-fn has_name(content: Content, pattern: &Pattern) -> bool
+pub(crate) fn has_name(content: Content, pattern: &Pattern) -> bool
     ensures { result ≡ has_head (the_head content) (the_pattern pattern.now) }
 {
     match (content, pattern) {
@@ -35,7 +35,7 @@ fn has_name(content: Content, pattern: &Pattern) -> bool
 }
 
 // The cell at the place.
-fn cell_at(cells: &[Ref], i: usize) -> Ref
+pub(crate) fn cell_at(cells: &[Ref], i: usize) -> Ref
     requires { i < length cells.now }
     ensures { slice_get (map the_place cells.now) i ≡ Some result.0 }
 {
@@ -43,7 +43,7 @@ fn cell_at(cells: &[Ref], i: usize) -> Ref
 }
 
 // The part of this number of a built cell.
-fn part_of(store: &Store, end: Ref, i: usize) -> Ref
+pub(crate) fn part_of(store: &Store, end: Ref, i: usize) -> Ref
     requires end { StandsBuilt store.now.store end.0 }
     requires there { ArePartsAt store.now.store end.0 (λ rs. i < length rs) }
     ensures part { ArePartsAt store.now.store end.0 (λ rs. slice_get rs i ≡ Some result.0) }
