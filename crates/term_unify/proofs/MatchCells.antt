@@ -6,7 +6,7 @@ use Rattle.std.proofs.lemmas.Bool.{false≢true}
 use Rattle.calculus.specs.declared.sort.Sort.{Sort}
 use Rattle.calculus.specs.declared.sort.Sort.TheVariants.{TermSort, MarkSort, StringSort}
 use Rattle.calculus.specs.Equality.{sort_eq}
-use Rattle.calculus.proofs.PlaceLists.{all-more, get-front, get-last, get-there, get-within}
+use Rattle.calculus.proofs.PlaceLists.{all-at, all-more, get-front, get-last, get-there, get-within}
 use Rattle.store_theory.specs.Bindings.{AddsBuilt, nothing_more, one_more, AddsOver, BindsOnly, BindsWithin, with_cell, is_variable}
 use Rattle.store_theory.specs.Patterns.{Pattern, Patterns, p_var, p_fun, p_eigen, p_new, no_patterns, more_patterns}
 use Rattle.store_theory.specs.Stores.{Cell, variable, fun_cell, eigen_cell, new_cell, string_cell, Store, is_bound, is_store, parts_of, sort_of, has_sort_at, has_value_sort_at, names_below}
@@ -154,6 +154,9 @@ adds-longer_both s t h = let x = adds-longer s h.mid h.built in let y = h.binds.
 
 pub names-copy : (vs : List ℕ) (r q : ℕ) (s t u : Store) → AddsOver vs s t → ((base : ℕ) → base ≤ length s.cells → IsTrue (list_all (nat_le base) vs) → IsTrue (nat_le base q)) → BindsOnly t u → BindsWithin r q t u → NamesKept vs r s u
 names-copy vs r q s t u adds own binds within base l h k n = names-within base r q t u binds within (adds.names base l h n) k (leb-true base q (own base l h))
+
+pub names-variable : (vs : List ℕ) (k r q : ℕ) (s t : Store) → slice_get vs k ≡ Some q → BindsOnly s t → BindsWithin r q s t → NamesKept vs r s t
+names-variable vs k r q s t e binds within base l h b n = names-within base r q s t binds within n b (leb-true base q (all-at (nat_le base) vs k q h e))
 
 pub names-built : (vs : List ℕ) (r : ℕ) (s t : Store) → AddsOver vs s t → NamesKept vs r s t
 names-built vs r s t adds base l h k n = adds.names base l h n

@@ -1,16 +1,22 @@
 -- One pair of cells: what holds of the ends of their bindings, or of the pairs of their parts, holds of the pair.
-use Rattle.std.proofs.Common.{◌⊎◌, ◌≡◌, ◌<◌, ◌∷◌, [], None, Some, length, ℕ, List, refl, sym, ◌∙◌, subst, inl, inr}
+use Rattle.std.proofs.Common.{◌⊎◌, ◌≡◌, ◌<◌, ◌≤◌, arith, true, ◌∷◌, [], None, Some, length, ℕ, List, refl, sym, ◌∙◌, subst, inl, inr}
 use Rattle.std.specs.Prelude.{slice_get}
 use Rattle.calculus.specs.declared.sort.Sort.{Sort}
+use Rattle.calculus.specs.Equality.{sort_eq}
 use Rattle.store_theory.specs.Stores.{variable, Store, OccursIn, here, EndsAt, stays, Solution, Solves}
-use Rattle.store_theory.specs.Bindings.{IsWellFormed, SolvesPairs, with_binding, BindsOnly, BindsWithin, Unifies, AreApart}
+use Rattle.store_theory.specs.Bindings.{IsWellFormed, MayBind, SolvesPairs, with_binding, BindsOnly, BindsWithin, Unifies, AreApart}
 use Rattle.calculus.proofs.PlaceLists.{get-within}
 use Rattle.store_theory.proofs.SolutionLaws.{occurs-apart, some_solution}
+use Rattle.term_store.specs.declared.cell.End.{End}
 use Rattle.term_store.specs.declared.cell.Ref.{Ref}
+use Rattle.term_store.specs.Shown.{Shows, the_head}
+use Rattle.term_store.proofs.StoreFacts.{shown-end}
 use Rattle.term_unify.specs.declared.compare.Step.TheVariants as step
-use Rattle.term_unify.specs.Steps.{AreBuilt, AddsParts, AreDifferent, BindsInPairs, DiffersBy, IsBinding, IsStep, OccursBefore, OccursInPairs, SolvesAll}
+use Rattle.term_unify.specs.Closed.{IsClosedBelow}
+use Rattle.term_unify.specs.Steps.{AreBuilt, AddsParts, AreDifferent, BindsInPairs, DiffersBy, IsBinding, IsStep, OccursBefore, OccursInPairs, SolvesAll, head_sort, is_open_head}
+use Rattle.term_unify.proofs.ClosedLaws.{newer-apart}
 use Rattle.term_unify.proofs.PairLaws.{ComesTo, alike-unbound, comes-binding, comes-ends, comes-first, comes-parts, occurs-built, occurs-from_end, unified-binding, unified-done, unified-first}
-use Rattle.term_unify.proofs.StepLaws.{both-ends}
+use Rattle.term_unify.proofs.StepLaws.{both-ends, ended, step-right}
 
 -- ---- a list of one pair
 
@@ -46,6 +52,24 @@ binds-pair s t a b v r w k l (binding, equal, ends) n e =
       within-one s (with_binding v.0 r.0 s) a b u.within,
     )
 
+-- an unbound variable that may be bound at once
+pub record IsNewer (s : Store) (a b : ℕ) (r v : Ref) : Type 0 where
+  pub binds : IsStep s a b (step.Bind v r)
+  pub free : ¬ OccursIn s v.0 r.0
+
+-- it is not below the number, and the other cell is
+pub newer-pair : (s : Store) (n a b : ℕ) (left right : End) → EndsAt s a left.place.0 → Shows s left.place.0 left.content → EndsAt s b right.place.0 → Shows s right.place.0 right.content → is_open_head (the_head right.content) ≡ true → sort_eq (head_sort (the_head right.content)) (head_sort (the_head left.content)) ≡ true → left.place.0 < n → n ≤ right.place.0 → IsClosedBelow n s → IsNewer s a b left.place right.place
+newer-pair s n a b left right e f g h o t l m w =
+    let x = ended s a left.place.0 (the_head left.content) e (shown-end s a left.place.0 left.content e f).0 in
+    let y = ended s b right.place.0 (the_head right.content) g (shown-end s b right.place.0 right.content g h).0 in
+    record {
+      binds = step-right s a b left.place.0 right.place.0 (the_head left.content) (the_head right.content) x y (λ q. omega (arith, l, m, q)) t o;
+      free = newer-apart n s right.place.0 left.place.0 w l m;
+    }
+
+pub newer-may : (s : Store) (a b : ℕ) (r v : Ref) → IsNewer s a b r v → MayBind s v.0 r.0
+newer-may s a b r v h = let (binding, equal, ends) = h.binds in record { sort = binding.sort; open_cell = binding.open_cell; same_sort = binding.same_sort; no_cycle = h.free }
+
 -- what occurs in the cell that it would be bound to
 pub occurs-pair : (s : Store) (a b : ℕ) (v r : Ref) → IsStep s a b (step.Bind v r) → OccursIn s v.0 r.0 → AreApart a b s
 occurs-pair s a b v r (binding, equal, ends) o σ h q = occurs-apart s σ v.0 r.0 binding.end.0 h binding.end.1 (occurs-built s v.0 r.0 binding o) o binding.other ((equal σ h).0 q)
@@ -59,8 +83,8 @@ differs-binding s a b v r (binding, equal, ends) = record {
 
 -- ---- from the ends of bindings to the pair
 
-pub unifies-ends : (s t : Store) (a b x y : ℕ) → AreBuilt s x y × EndsAt s a x × EndsAt s b y → Unifies x y s t → Unifies a b s t
-unifies-ends s t a b x y (u, f, g) (h, some) = (
+pub unifies-ends : (s t : Store) (a b x y : ℕ) → EndsAt s a x → EndsAt s b y → Unifies x y s t → Unifies a b s t
+unifies-ends s t a b x y f g (h, some) = (
   λ σ. (
     λ k. let p = (h σ).0 k in (p.0, (both-ends s σ a b x y p.0 f g).1 p.1),
     λ k q. (h σ).1 k ((both-ends s σ a b x y k f g).0 q),
@@ -68,11 +92,11 @@ unifies-ends s t a b x y (u, f, g) (h, some) = (
   some,
 )
 
-pub apart-ends : (s : Store) (a b x y : ℕ) → AreBuilt s x y × EndsAt s a x × EndsAt s b y → AreApart x y s → AreApart a b s
-apart-ends s a b x y (u, f, g) h σ k q = h σ k ((both-ends s σ a b x y k f g).0 q)
+pub apart-ends : (s : Store) (a b x y : ℕ) → EndsAt s a x → EndsAt s b y → AreApart x y s → AreApart a b s
+apart-ends s a b x y f g h σ k q = h σ k ((both-ends s σ a b x y k f g).0 q)
 
-pub within-ends : (s t : Store) (a b x y : ℕ) → AreBuilt s x y × EndsAt s a x × EndsAt s b y → BindsWithin x y s t → BindsWithin a b s t
-within-ends s t a b x y (u, f, g) w = record {
+pub within-ends : (s t : Store) (a b x y : ℕ) → EndsAt s a x → EndsAt s b y → BindsWithin x y s t → BindsWithin a b s t
+within-ends s t a b x y f g w = record {
   bound = λ v k sort e o. up v (w.bound v k sort e o);
   target = λ v k sort e o. up k (w.target v k sort e o);
 }

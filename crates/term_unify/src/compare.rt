@@ -21,7 +21,7 @@ pub(crate) enum Step {
     Parts(Ref, Ref),
 }
 
-fn sort_of(content: Content) -> Sort
+pub(crate) fn sort_of(content: Content) -> Sort
     ensures { result ≡ head_sort (the_head content) }
 {
     match content {
@@ -61,7 +61,7 @@ pub(crate) fn count_in(content: Content) -> u32
     }
 }
 
-fn are_same_sort(a: Sort, b: Sort) -> bool
+pub(crate) fn are_same_sort(a: Sort, b: Sort) -> bool
     ensures { result ≡ sort_eq a b }
 {
     match (a, b) {

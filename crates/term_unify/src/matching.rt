@@ -5,7 +5,7 @@ ghost use Rattle.std.specs.List.{list_all};
 ghost use Rattle.calculus.specs.declared.sort.Sort.{Sort};
 ghost use Rattle.calculus.specs.declared.sort.Sort.TheVariants.{TermSort};
 ghost use Rattle.store_theory.specs.Bindings.{IsWellFormed, KeepsMarks};
-ghost use Rattle.store_theory.specs.Patterns.{patterns_tree};
+ghost use Rattle.store_theory.specs.Patterns.{p_var, patterns_tree};
 ghost use Rattle.store_theory.specs.Stores.{has_sort_at, has_value_sort_at};
 ghost use Rattle.term_store.specs.Fitting.{fits_in, parts_fit_in};
 ghost use Rattle.term_store.specs.PatternView.{the_pattern};
@@ -82,6 +82,35 @@ impl Unifier {
 }
 
 impl Unifier {
+    // Matches the variable of this number against the cell.
+    fn match_variable(
+        &mut self,
+        store: &mut Store,
+        below: &mut usize,
+        cell: Ref,
+        k: u32,
+        variables: Variables,
+    ) -> Result<bool, NoMemory>
+        requires cell { cell.0 < length store.old.store.cells }
+        requires fits { (sort : Sort) × IsTrue (fits_in store.old.store (the_places variables) sort (p_var k)) }
+        requires values { IsTrue (list_all (has_value_sort_at store.old.store) (the_places variables)) }
+        requires closed { IsClosedBelow below.old store.old.store }
+        ensures met { IfOk result (λ equal. equal ≡ true → Narrows (Matches (the_places variables) cell.0 (p_var k)) store.old.store store.new.store) }
+        ensures apart { IfOk result (λ equal. equal ≡ false → HoldsNowhere (Matches (the_places variables) cell.0 (p_var k)) store.old.store) }
+        ensures within { IfOk result (λ equal. equal ≡ true → BuildsOver (the_places variables) (λ sorts g. allows g sorts (p_var k)) store.old.store store.new.store) }
+        ensures closed { IfOk result (λ equal. equal ≡ true → IsClosedBelow below.new store.new.store) }
+        ensures cells { AddsAndBinds store.old.store store.new.store }
+        ensures names { NamesKept (the_places variables) cell.0 store.old.store store.new.store }
+        ensures marks { KeepsMarks store.old.store store.new.store }
+        ensures room { KeepsRoom store.old store.new }
+    {
+        let variable = store.variable(variables, k);
+        let equal = self.unify_newer(store, below, cell, variable)?;
+        Ok(equal)
+    }
+}
+
+impl Unifier {
     // Matches the pattern against the cell. Where they cannot be equal, some bindings may be left.
     #[cycle(match_pattern)]
     fn match_pattern(
@@ -106,7 +135,7 @@ impl Unifier {
         ensures room { KeepsRoom store.old store.new }
     {
         match pattern {
-            Pattern::Var(_) => self.unify_copy(store, below, cell, pattern, variables),
+            Pattern::Var(k) => self.match_variable(store, below, cell, *k, variables),
             Pattern::Fun(_, parts) => {
                 self.match_built(store, below, cell, pattern, parts, variables)
             }

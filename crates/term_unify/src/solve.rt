@@ -2,20 +2,22 @@
 
 ghost use Rattle.std.specs.Prelude.{◌≡◌, ◌<◌, ◌≤◌, IfOk, None, OnErr, OnOk, Some, false, length, map, slice_get, true};
 ghost use Rattle.calculus.specs.declared.sort.Sort.{Sort};
+ghost use Rattle.calculus.specs.Equality.{sort_eq};
 ghost use Rattle.store_theory.specs.Bindings.{AreApart, BindsOnly, BindsWithin, IsWellFormed, KeepsMarks, SolvesPairs, Unifies, with_binding};
 ghost use Rattle.store_theory.specs.Stores.{Solution, Solves, Store as TreeStore, variable};
 ghost use Rattle.term_store.specs.Room.{KeepsRoom};
+ghost use Rattle.term_store.specs.Shown.{the_head};
 ghost use Rattle.term_unify.specs.Closed.{IsClosedBelow};
 ghost use Rattle.term_unify.specs.PairView.{the_pair};
 ghost use Rattle.term_unify.specs.Steps.{AreBuilt, AreCells, AreDifferent};
-ghost use Rattle.term_unify.specs.Steps.{BindsInPairs, IsNext, SolvesAll};
+ghost use Rattle.term_unify.specs.Steps.{BindsInPairs, IsNext, SolvesAll, head_sort, is_open_head};
 
 use crate::check::occurs_from;
-use crate::compare::{Step, compare, push_parts};
+use crate::compare::{Step, are_same_sort, compare, is_open, push_parts, sort_of};
 use crate::visited::Visited;
 use cop_base::NoMemory;
 use std::alloc::Global;
-use term_store::{Ref, Store};
+use term_store::{End, Ref, Store};
 
 // What pairs come to: all are equal, one cannot be, or an unbound variable and a cell are to be equal beside those that
 // are left.
@@ -137,6 +139,27 @@ fn unify_pairs(
     answer
 }
 
+// Whether the right one is an unbound variable whose number is not below `below`, and the left one a cell of its sort
+// whose number is.
+#[inline(always)]
+fn is_newer(below: usize, left: End, right: End) -> bool
+    ensures open { result ≡ true → is_open_head (the_head right.content) ≡ true }
+    ensures sorts { result ≡ true → sort_eq (head_sort (the_head right.content)) (head_sort (the_head left.content)) ≡ true }
+    ensures older { result ≡ true → left.place.0 < below }
+    ensures newer { result ≡ true → below ≤ right.place.0 }
+{
+    if !is_open(right.content) {
+        return false;
+    }
+    if (right.place.0 as usize) < below {
+        return false;
+    }
+    if below <= left.place.0 as usize {
+        return false;
+    }
+    are_same_sort(sort_of(right.content), sort_of(left.content))
+}
+
 /// Unification, with room for its work that is used again from call to call.
 #[derive(Drop)]
 pub struct Unifier {
@@ -218,6 +241,38 @@ impl Unifier {
                 Ok(equal)
             }
         }
+    }
+
+    // As `unify_below`, but an unbound variable on the right that is newer than the other cell, as a pattern's variable
+    // is where it occurs for the first time, is bound at once.
+    #[inline(always)]
+    pub(crate) fn unify_newer(
+        &mut self,
+        store: &mut Store,
+        below: &mut usize,
+        a: Ref,
+        b: Ref,
+    ) -> Result<bool, NoMemory>
+        requires left { a.0 < length store.old.store.cells }
+        requires right { b.0 < length store.old.store.cells }
+        requires closed { IsClosedBelow below.old store.old.store }
+        ensures unifies { IfOk result (λ equal. equal ≡ true → Unifies a.0 b.0 store.old.store store.new.store) }
+        ensures closed { IfOk result (λ equal. equal ≡ true → IsClosedBelow below.new store.new.store) }
+        ensures apart { IfOk result (λ equal. equal ≡ false → AreApart a.0 b.0 store.old.store) }
+        ensures marks { KeepsMarks store.old.store store.new.store }
+        ensures binds { BindsOnly store.old.store store.new.store }
+        ensures within { BindsWithin a.0 b.0 store.old.store store.new.store }
+        ensures room { KeepsRoom store.old store.new }
+    {
+        let left = store.end(a);
+        let right = store.end(b);
+        if is_newer(*below, left, right) {
+            store.reserve(1)?;
+            store.bind(right.place, left.place);
+            return Ok(true);
+        }
+        let equal = self.unify_below(store, below, left.place, right.place)?;
+        Ok(equal)
     }
 
     // As `unify_below`, of built cells that are alike.

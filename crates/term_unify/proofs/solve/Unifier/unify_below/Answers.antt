@@ -25,10 +25,10 @@ pub returns-in_ok-reserve-in-Bind-clause-within : goal.returns-in_ok-reserve-in-
 returns-in_ok-reserve-in-Bind-clause-within c = (binds-pair c.args.store.now.store c.bind.new.self.store c.args.a.0 c.args.b.0 c.in-Bind.v c.in-Bind.to c.in-Bind.ensures.well c.requires.left c.requires.right c.in-Bind.ensures.step (c.in_ok-occurs_from-in-Bind.ensures.no c.if-branch.false) (c.bind.ensures.store ∙ ap (with_binding c.in-Bind.v.0 c.in-Bind.to.0) c.in_ok-reserve-in-Bind.ensures.store)).2
 
 pub returns-in_ok-equal-in-Parts-clause-unifies : goal.returns-in_ok-equal-in-Parts-clause-unifies
-returns-in_ok-equal-in-Parts-clause-unifies c = λ t. unifies-ends c.args.store.now.store c.unify_parts.new.store.store c.args.a.0 c.args.b.0 c.in-Parts.left.0 c.in-Parts.right.0 c.in-Parts.ensures.step (c.in_ok-equal-in-Parts.ensures.unifies t)
+returns-in_ok-equal-in-Parts-clause-unifies c = λ t. unifies-ends c.args.store.now.store c.unify_parts.new.store.store c.args.a.0 c.args.b.0 c.in-Parts.left.0 c.in-Parts.right.0 c.in-Parts.ensures.step.1 c.in-Parts.ensures.step.2 (c.in_ok-equal-in-Parts.ensures.unifies t)
 
 pub returns-in_ok-equal-in-Parts-clause-apart : goal.returns-in_ok-equal-in-Parts-clause-apart
-returns-in_ok-equal-in-Parts-clause-apart c = λ t. apart-ends c.args.store.now.store c.args.a.0 c.args.b.0 c.in-Parts.left.0 c.in-Parts.right.0 c.in-Parts.ensures.step (c.in_ok-equal-in-Parts.ensures.apart t)
+returns-in_ok-equal-in-Parts-clause-apart c = λ t. apart-ends c.args.store.now.store c.args.a.0 c.args.b.0 c.in-Parts.left.0 c.in-Parts.right.0 c.in-Parts.ensures.step.1 c.in-Parts.ensures.step.2 (c.in_ok-equal-in-Parts.ensures.apart t)
 
 pub returns-in_ok-equal-in-Parts-clause-within : goal.returns-in_ok-equal-in-Parts-clause-within
-returns-in_ok-equal-in-Parts-clause-within c = within-ends c.args.store.now.store c.unify_parts.new.store.store c.args.a.0 c.args.b.0 c.in-Parts.left.0 c.in-Parts.right.0 c.in-Parts.ensures.step c.unify_parts.ensures.within
+returns-in_ok-equal-in-Parts-clause-within c = within-ends c.args.store.now.store c.unify_parts.new.store.store c.args.a.0 c.args.b.0 c.in-Parts.left.0 c.in-Parts.right.0 c.in-Parts.ensures.step.1 c.in-Parts.ensures.step.2 c.unify_parts.ensures.within
