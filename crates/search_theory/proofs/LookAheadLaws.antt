@@ -201,7 +201,7 @@ full-lost P d s g σ far none solves (y, y_closes) =
     none r.number σ solves (is_complement-opposite (literal_by σ g.literal) (ancestor path r.number) r.is_complement)
 
 -- a literal of an instance by a template, at its place among the others
-pub other-literal : (t : Template) (j : ClauseInstance) (place k : ℕ) (q : PatternAtom) → j.literals ≡ map (pattern_literal j.values) t.literals → slice_get (remove t.literals place) k ≡ Some q → slice_get (remove j.literals place) k ≡ Some (pattern_literal j.values q)
+other-literal : (t : Template) (j : ClauseInstance) (place k : ℕ) (q : PatternAtom) → j.literals ≡ map (pattern_literal j.values) t.literals → slice_get (remove t.literals place) k ≡ Some q → slice_get (remove j.literals place) k ≡ Some (pattern_literal j.values q)
 other-literal t j place k q e at = ap (λ xs. slice_get (remove xs place) k) e ∙ ap (λ xs. slice_get xs k) (remove-map (pattern_literal j.values) t.literals place) ∙ literal-there (pattern_literal j.values) (remove t.literals place) k q at
 
 -- a goal at the limit that is closed has an ancestor of cells with its symbol and the other sign
