@@ -1,15 +1,19 @@
 -- Goals that cannot be closed: those that are the same as one above them, and those that the limit leaves no room for.
-use Rattle.std.proofs.Common.{◌≡◌, ◌⊎◌, ◌≤◌, ◌+◌, ℕ, List, length, IsTrue, Option, Some, slice_get, inl, inr, arith, subst, sym}
+use Rattle.std.proofs.Common.{◌≡◌, ◌⊎◌, ◌≤◌, ◌+◌, ◌∷◌, ℕ, Bool, true, List, length, IsTrue, MatchOption, None, Option, Some, slice_get, inl, inr, arith, refl, subst, sym}
+use Rattle.std.specs.Bool.{⊤}
 use Rattle.calculus.specs.Choices.{Choice}
+use Rattle.calculus.specs.Space.{Member}
 use Rattle.calculus.specs.Syntax.{Problem}
 use Rattle.store_theory.specs.Stores.{Solution, Solves, Store}
-use Rattle.search_theory.proofs.BeginningLaws.{is_not_empty}
+use Rattle.search_theory.proofs.BeginningLaws.{IsDead, is_not_empty}
 use Rattle.search_theory.proofs.JumpLaws.{cannot-pruned, repeated-cannot}
 use Rattle.search_theory.proofs.LookAheadLaws.{IsCloseable, full-lost, nearly-lost, none-reduces}
+use Rattle.search_theory.proofs.PruningLaws.{search-pruned}
 use Rattle.search_theory.specs.Matrix.{MatrixClause}
+use Rattle.search_theory.specs.Searching.{IsSearch}
 use Rattle.search_theory.specs.States.{CellGoal, goal_at}
 use Rattle.connection_search.specs.Ahead.{HasNoHope, IsLost}
-use Rattle.connection_search.specs.GivenUp.{HasLost, IsGivenUp}
+use Rattle.connection_search.specs.GivenUp.{HasLost, IsGivenUp, IsRuledOut, LooksAhead}
 use Rattle.connection_search.specs.Pruning.{IsPruned}
 use Rattle.connection_search.specs.Running.{IsMatrixOf, StandsFor, TreeStands}
 use Rattle.connection_search.specs.Sameness.{AnyRepeated, IsRepeated}
@@ -76,4 +80,27 @@ lost-dropped P d c n first m h = cannot-pruned P d c h.state h.goal m h.is_state
 
 -- a tree that was made and has such a goal
 pub given-up : (P : Problem) (m : List MatrixClause) (base d : ℕ) (c : List Choice) (n : ℕ) (s : TermStore) (t z : Tree) → z ≡ t → StandsFor P m base d c s.store t.steps.items t.goals.items t.open → HasLost P d c n t.open → IsGivenUp P m base d c n s z
-given-up P m base d c n s t z e h k = inr (subst (λ (x : Tree). TreeStands P m base d c s x × HasLost P d c n x.open) (sym e) (h, k))
+given-up P m base d c n s t z e h k = inr (inl (subst (λ (x : Tree). TreeStands P m base d c s x × HasLost P d c n x.open) (sym e) (h, k)))
+
+-- ---- the limit that is looked at
+
+-- where none is, the list is a dead end
+pub dead-alone : (P : Problem) (d : ℕ) (c : List Choice) → IsRuledOut P d c None → IsDead P c
+dead-alone P d c (inl dead) = dead
+dead-alone P d c (inr (looked, pruned)) = absurd (looked refl)
+
+-- it is looked at where it is known to be left
+abbrev pub LooksWhereLeft : Option ℕ → ℕ → Bool → Type 0
+LooksWhereLeft ahead d left = MatchOption ahead ⊤ (λ k. (k ≡ d) × (left ≡ true))
+
+pub looks-ahead : (ahead : Option ℕ) (d : ℕ) (left : Bool) → LooksWhereLeft ahead d left → LooksAhead ahead d
+looks-ahead None d left h = tt
+looks-ahead (Some k) d left h = h.0
+
+pub looked-left : (ahead : Option ℕ) (d : ℕ) (left : Bool) → LooksWhereLeft ahead d left → ¬ (ahead ≡ None) → left ≡ true
+looked-left None d left h looked = absurd (looked refl)
+looked-left (Some k) d left h looked = h.1
+
+-- where the limit is known to be left, a list that begins no closed tableau goes
+pub drop-known : (P : Problem) (d : ℕ) (spent : List Member) (c : List Choice) (ps : List (List Choice)) (l : Bool) → l ≡ true → IsPruned P d c → IsSearch P d spent (c ∷ ps) l → IsSearch P d spent ps l
+drop-known P d spent c ps l e pruned h = subst (IsSearch P d spent ps) (sym e) (search-pruned P d spent c ps (subst (IsSearch P d spent (c ∷ ps)) e h) pruned)

@@ -21,6 +21,8 @@ use Rattle.search_theory.specs.States.{CellChoice, CellGoal, CellGrowth, cell_go
 use Rattle.search_theory.specs.Steps.{AreUnified, Clash}
 use Rattle.search_theory.proofs.AtomLaws.{IsAtomIn}
 use Rattle.search_theory.proofs.BeginningLaws.{IsDead, dead-same}
+use Rattle.search_theory.proofs.BelowLaws.{goal-more}
+use Rattle.search_theory.proofs.BuildingLaws.{variables-longer}
 use Rattle.search_theory.proofs.ExtensionLaws.{extended_state, no-extension, reduced_state}
 use Rattle.search_theory.proofs.LeftLabels.{IsGoalIn}
 use Rattle.search_theory.proofs.RegularLaws.{each-at}
@@ -36,7 +38,7 @@ use Rattle.term_store.proofs.OwnLaws.{over-both, own-later}
 use Rattle.term_store.specs.declared.clause.CellAtom as program
 use Rattle.term_unify.specs.Matching.{AddsAndBinds, AllNamesKept, HoldsNowhere, MatchTo, Narrows}
 use Rattle.connection_search.specs.Heads.{HasClash}
-use Rattle.connection_search.specs.MetAtom.{met_atom}
+use Rattle.connection_search.specs.MetAtom.{HeadMatched, met_atom}
 use Rattle.connection_search.specs.OwnStores.{AreOwn}
 use Rattle.connection_search.specs.Running.{ExtendsBy, IsAt, IsAtGoal, IsMatrixOf, IsRunning, ReducesBy, StandsDeep, StandsFor}
 use Rattle.connection_search.specs.Sameness.{AnyRepeated, IsRepeated}
@@ -48,7 +50,7 @@ use Rattle.connection_search.proofs.KeptLaws.{args-from, args-sorted, terms-kept
 use Rattle.connection_search.proofs.OpenStrings.{cells-built, cells-copied, sorts-both, sorts-of_bound, sorts-of_cells}
 use Rattle.connection_search.proofs.OwnCopies.{IsOwnTemplate}
 use Rattle.connection_search.proofs.OwnLaws.{own-names}
-use Rattle.connection_search.proofs.RunningLaws.{HeadMatched, RestCopied, StartCopied, clause-at, no-extension-by_mismatch, no-reduction-by_clash, running-extended, running-reduced, running-started}
+use Rattle.connection_search.proofs.RunningLaws.{RestCopied, StartCopied, clause-at, no-extension-by_mismatch, no-reduction-by_clash, running-extended, running-reduced, running-started}
 use Rattle.connection_search.proofs.HeadLaws.{cannot-extend-by_names}
 use Rattle.connection_search.proofs.TreeLaws.{atom-found, goal-at, literal-below, same-item}
 
@@ -187,6 +189,9 @@ literal-found m d g p t e h =
 pub literal-within : (m : List MatrixClause) (d : ℕ) (g : CellGoal) (p : MatrixPlace) (t : Template) → ExtendsBy m d g p → option_map (λ (x : MatrixClause). x.template) (slice_get m p.clause) ≡ Some t → p.literal < length t.literals
 literal-within m d g p t e h = get-within t.literals p.literal e.literal (literal-found m d g p t e h)
 
+abbrev pub place_of : ℕ → ℕ → MatrixPlace
+place_of k place = record { clause = k; literal = place }
+
 -- the connected literal, as it was matched
 pub head-matched_by : (old begun met : Store) (t : Template) (place : ℕ) (vs xs : List ℕ) (q p : PatternAtom) → begun ≡ with_variables_of t.sorts old → slice_get t.literals place ≡ Some q → slice_get t.literals place ≡ Some p → vs ≡ places_from (length old.cells) (length t.sorts) → Narrows (λ σ. (length xs ≡ length q.args) × MatchTo vs xs q.args (length q.args) σ) begun met → AddsAndBinds begun met → AllNamesKept vs xs begun met → BuildsOver vs (λ sorts g. allows_all g sorts (patterns_tree q.args)) begun met → HeadMatched old met t place vs p xs
 head-matched_by old begun met t place vs xs q p eb aq ap_at ev narrows cells names within =
@@ -229,6 +234,25 @@ head-kept old begun t rs e h = subst (λ b. IsTrue (list_all (has_sort_at b Term
 pub sorts-matched : (begun met : Store) (sorts : List Sort) (rs : List ℕ) → AddsAndBinds begun met → HaveSortsAt begun sorts rs → HaveSortsAt met sorts rs
 sorts-matched begun met sorts rs h k = sorts-kept begun met (sorts-both begun h.mid met (sorts-of_cells begun h.mid (cells-built begun h.mid h.built)) (sorts-of_bound h.mid met h.binds)) sorts rs k
 
+-- what was matched, over the literal of the place
+pub head-met : (m : List MatrixClause) (d : ℕ) (g : CellGoal) (k place : ℕ) (old begun met : Store) (t : Template) (vs xs : List ℕ) (q : PatternAtom) → option_map (λ (x : MatrixClause). x.template) (slice_get m k) ≡ Some t → (e : ExtendsBy m d g (place_of k place)) → begun ≡ with_variables_of t.sorts old → slice_get t.literals place ≡ Some q → vs ≡ places_from (length old.cells) (length t.sorts) → Narrows (λ σ. (length xs ≡ length q.args) × MatchTo vs xs q.args (length q.args) σ) begun met → AddsAndBinds begun met → AllNamesKept vs xs begun met → BuildsOver vs (λ sorts g. allows_all g sorts (patterns_tree q.args)) begun met → HeadMatched old met t place vs e.literal xs
+head-met m d g k place old begun met t vs xs q there e eb at ev narrows cells names within = head-matched_by old begun met t place vs xs q e.literal eb at (literal-found m d g (place_of k place) t e there) ev narrows cells names within
+
+-- the variables have their sorts still
+pub variables-matched : (old met : Store) (t : Template) (place : ℕ) (vs xs : List ℕ) (p : PatternAtom) → HeadMatched old met t place vs p xs → HaveSortsAt met t.sorts vs
+variables-matched old met t place vs xs p h = sorts-matched (with_variables_of t.sorts old) met t.sorts vs h.cells (have-new vs t.sorts old (with_variables_of t.sorts old) refl h.variables)
+
+-- and the goal is there still
+pub goal-matched : (P : Problem) (m : List MatrixClause) (base d : ℕ) (c : List Choice) (old met : Store) (steps : List Step) (goals : List Goal) (goal place : ℕ) (g : CellGoal) (t : Template) (vs xs : List ℕ) (p : PatternAtom) → IsAtGoal P m base d c old steps goals goal g → HeadMatched old met t place vs p xs → IsTrue (goal_is_below (length met.cells) g)
+goal-matched P m base d c old met steps goals goal place g t vs xs p h head =
+    let l = variables-longer t.sorts old in
+    let k = head.narrows.longer in
+    goal-more (length old.cells) (length met.cells) (omega (arith, l, k)) g (and_parts (goal_is_below (length old.cells) g) (list_all (goal_is_below (length old.cells)) h.behind) h.at.running.state.cells.open_goals).0
+
+-- the template of a clause is one
+pub same-template : (m : List MatrixClause) (k : ℕ) (t u : Template) → option_map (λ (x : MatrixClause). x.template) (slice_get m k) ≡ Some t → option_map (λ (x : MatrixClause). x.template) (slice_get m k) ≡ Some u → t ≡ u
+same-template m k t u = same-item (option_map (λ (x : MatrixClause). x.template) (slice_get m k)) t u
+
 pub atom-terms : (s : Store) (a : CellAtom) (rs : List ℕ) → IsTrue (is_cell_atom s a) → rs ≡ a.args → IsTrue (list_all (has_sort_at s TermSort) rs)
 atom-terms s a rs h e = subst (λ xs. IsTrue (list_all (has_sort_at s TermSort) xs)) (sym e) (and_parts (list_all (has_sort_at s TermSort) a.args) (is_label s a.label) h).0
 
@@ -250,9 +274,6 @@ goal-depth P m base d c s steps goals goal g p h e k at =
 -- what the tree's own step gives
 abbrev pub ExtendsTree : List Step → List Goal → ℕ → Copied → ℕ → program.CellAtom → List Step → List Goal → Option ℕ → Type 0
 ExtendsTree steps goals goal copied place atom after all first = (m : List MatrixClause) (cs : List CellChoice) (g : CellGoal) (gs every : List CellGoal) (ds : List ℕ) → copied.clause.0 < length m → IsTree m steps goals (Some goal) cs (record { open_goals = g ∷ gs; all_goals = every; depths = ds }) → IsTree m after all first (cs ++ extension (clause_with m copied (inserted place (the_atom atom) copied.copy.literals)) place ∷ []) (extended g gs (clause_with m copied (inserted place (the_atom atom) copied.copy.literals)) place (record { open_goals = g ∷ gs; all_goals = every; depths = ds }))
-
-abbrev pub place_of : ℕ → ℕ → MatrixPlace
-place_of k place = record { clause = k; literal = place }
 
 abbrev pub ExtendsSystem : List Step → List Goal → ℕ → Copied → ℕ → program.CellAtom → List Step → List Goal → Type 0
 ExtendsSystem steps goals goal copied place atom after all = (m : List MatrixClause) (cs : List CellChoice) (g : CellGoal) (gs every : List CellGoal) (ds : List ℕ) → IsTree m steps goals (Some goal) cs (record { open_goals = g ∷ gs; all_goals = every; depths = ds }) → tree_system m after all (every ++ new_cell_goals g (clause_with m copied (inserted place (the_atom atom) copied.copy.literals)) place) ≡ extended_system (tree_system m steps goals every) g (clause_with m copied (inserted place (the_atom atom) copied.copy.literals)) place (the_atom atom) (strings_in m copied) copied.copy.gammas copied.copy.pis

@@ -47,7 +47,7 @@ use Rattle.term_store.proofs.FitLaws.{have-new, literals-fit, placed-atoms}
 use Rattle.term_store.proofs.OwnLaws.{names-variables}
 use Rattle.term_store.proofs.SignatureLaws.{within-variables}
 use Rattle.term_unify.specs.Matching.{AddsAndBinds, AllNamesKept, HoldsNowhere, MatchTo, Narrows}
-use Rattle.connection_search.specs.MetAtom.{met_atom}
+pub use Rattle.connection_search.specs.MetAtom.{HeadMatched, met_atom}
 use Rattle.connection_search.specs.OwnStores.{AreOwn}
 use Rattle.connection_search.specs.Running.{IsMatrixOf, IsRunning}
 use Rattle.connection_search.proofs.DistinctStores.{distinct-own, well-ranked}
@@ -188,15 +188,6 @@ clause-brings P s sides t i gammas template selection have sorts values copies f
     (strings-sorted s t.sorts i.values have) fit
 
 -- ---- extensions
-
--- what matching the connected literal against the goal's arguments gives
-pub record HeadMatched (old met : Store) (t : Template) (place : ℕ) (vs : List ℕ) (p : PatternAtom) (args : List ℕ) : Type 0 where
-  pub stands : slice_get t.literals place ≡ Some p
-  pub variables : vs ≡ places_from (length old.cells) (length t.sorts)
-  pub narrows : Narrows (λ σ. (length args ≡ length p.args) × MatchTo vs args p.args (length p.args) σ) (with_variables_of t.sorts old) met
-  pub cells : AddsAndBinds (with_variables_of t.sorts old) met
-  pub names : AllNamesKept vs args (with_variables_of t.sorts old) met
-  pub within : BuildsOver vs (λ sorts g. allows_all g sorts (patterns_tree p.args)) (with_variables_of t.sorts old) met
 
 -- what copying the label of the connected literal and the other literals gives
 pub record RestCopied (met new : Store) (t : Template) (place : ℕ) (vs : List ℕ) (p : PatternAtom) (label : List ℕ) (clause : CopiedClause) : Type 0 where

@@ -1,9 +1,10 @@
 //! Start, reduction and extension.
 
 ghost use Rattle.std.specs.Prelude.{◌≡◌, ◌<◌, ◌++◌, ◌∷◌, [], ℕ, List, IfOk, IsTrue};
-ghost use Rattle.std.specs.Prelude.{OnOk, Some, drop, false, length, option_map, slice_get, true};
+ghost use Rattle.std.specs.Prelude.{None, OnOk, Some, drop, false, length, option_map, slice_get, true};
 ghost use Rattle.std.specs.List.{AllByRecursion};
 ghost use Rattle.store_theory.specs.Bindings.{KeepsMarks};
+ghost use Rattle.store_theory.specs.Patterns.{Template};
 ghost use Rattle.calculus.specs.Choices.{Choice, reduction, start};
 ghost use Rattle.calculus.specs.Syntax.{Problem};
 ghost use Rattle.matrix_build.specs.MatrixView.{the_place};
@@ -12,8 +13,10 @@ ghost use Rattle.search_theory.specs.Matrix.{MatrixClause, all_shown};
 ghost use Rattle.search_theory.specs.Regular.{HasNoSamePair};
 ghost use Rattle.search_theory.specs.OrderedChoices.{extension_at, selection_of};
 ghost use Rattle.search_theory.specs.States.{CellChoice, CellGoal, CellGrowth};
+ghost use Rattle.term_store.specs.RefView.{the_places};
 ghost use Rattle.term_store.specs.Room.{KeepsRoom};
 ghost use Rattle.connection_search.specs.GivenUp.{HasLost, IsGivenUp, IsRuledOut, LooksAhead};
+ghost use Rattle.connection_search.specs.MetAtom.{HeadMatched};
 ghost use Rattle.connection_search.specs.Points.{IsMoveAt, the_move};
 ghost use Rattle.connection_search.specs.Running.{ExtendsBy, GoalStands, IsAt, IsMatrixOf};
 ghost use Rattle.connection_search.specs.Running.{ReducesBy, TreeStands, TreeStandsDeep};
@@ -30,7 +33,7 @@ use crate::uncopied::is_set_aside;
 use cop_base::{ClauseId, NoMemory};
 use matrix_build::{Matrix, Place};
 use std::alloc::Global;
-use term_store::Store;
+use term_store::{Store, Variables};
 use term_unify::Unifier;
 
 // How many choices are tried for each goal of the tree before all its goals are looked at again.
@@ -49,6 +52,65 @@ pub(crate) struct Work {
     tried: usize,
     // How many goals this look has found new. Going back takes bindings away, so they stay new.
     seen: usize,
+}
+
+// The variables of a copy of the place's clause, over which its literal was matched with the goal,
+// where that can be done, and where no other literal gives a goal that is the same as one above it,
+// nor one that cannot be closed within the limit that is looked at, if any.
+fn meet(
+    unifier: &mut Unifier,
+    occurrences: &mut Occurrences,
+    store: &mut Store,
+    matrix: &Matrix,
+    tree: &Tree,
+    goal: usize,
+    place: Place,
+    ahead: Option<usize>,
+) -> Result<Option<Variables>, NoMemory>
+    requires { (P : Problem) × (base : ℕ) × (d : ℕ) × (c : List Choice) × (g : CellGoal)
+        × IsMatrixOf P matrix.now × GoalStands P matrix.now base d c store.old tree.now goal g
+        × ExtendsBy matrix.now d g (the_place place) }
+    ensures met { IfOk result (λ found. (v : Variables) → found ≡ Some v
+        → (P : Problem) (base d : ℕ) (c : List Choice) (g : CellGoal) (t : Template)
+        → GoalStands P matrix.now base d c store.old tree.now goal g
+        → (e : ExtendsBy matrix.now d g (the_place place))
+        → option_map (λ (x : MatrixClause). x.template) (slice_get matrix.now place.clause.0) ≡ Some t
+        → HeadMatched store.old.store store.new.store t place.literal (the_places v) e.literal
+        g.literal.args) }
+    ensures refused { IfOk result (λ found. found ≡ None
+        → (P : Problem) (base d : ℕ) (c : List Choice) (g : CellGoal) → IsMatrixOf P matrix.now
+        → GoalStands P matrix.now base d c store.old tree.now goal g
+        → ExtendsBy matrix.now d g (the_place place) → LooksAhead ahead d
+        → IsRuledOut P d (c ++ extension_at matrix.now (the_place place) ∷ []) ahead) }
+    ensures given_up { IfOk result (λ found. found ≡ None
+        → (P : Problem) (base d : ℕ) (c : List Choice) (g : CellGoal) → IsMatrixOf P matrix.now
+        → GoalStands P matrix.now base d c store.old tree.now goal g
+        → ExtendsBy matrix.now d g (the_place place) → LooksAhead ahead d
+        → IsGivenUp P matrix.now base d (c ++ extension_at matrix.now (the_place place) ∷ [])
+        (length tree.now.goals.items) store.new tree.now) }
+    ensures marks { KeepsMarks store.old.store store.new.store }
+    ensures room { KeepsRoom store.old store.new }
+{
+    let _before = store.mark();
+    let template = matrix.template(place.clause);
+    let at = place.literal as usize;
+    let signed = tree.atom(goal);
+    let literal = &template.literals.items()[at];
+    let cells = store.size() - store.spare();
+    let variables = store.new_variables(&template.sorts)?;
+    let terms = signed.args.items();
+    if !unifier.match_all(store, cells, terms, &literal.args, variables)? {
+        return Ok(None);
+    }
+    if template.literals.items().len() > 1 {
+        let others = occurrences.others(place.clause, template, place.literal)?;
+        if is_set_aside(
+            unifier, store, matrix, tree, goal, template, at, variables, &others, ahead,
+        )? {
+            return Ok(None);
+        }
+    }
+    Ok(Some(variables))
 }
 
 impl Work {
@@ -180,39 +242,27 @@ impl Work {
         ensures marks { KeepsMarks store.old.store store.new.store }
         ensures room { KeepsRoom store.old store.new }
     {
-        let _before = store.mark();
+        let found = meet(
+            &mut self.unifier,
+            &mut self.occurrences,
+            store,
+            matrix,
+            &self.tree,
+            goal,
+            place,
+            ahead,
+        )?;
+        let variables = match found {
+            Some(variables) => variables,
+            None => return Ok(false),
+        };
         let template = matrix.template(place.clause);
         let at = place.literal as usize;
-        let signed = self.tree.atom(goal);
-        let literal = &template.literals.items()[at];
-        let cells = store.size() - store.spare();
-        let variables = store.new_variables(&template.sorts)?;
-        let terms = signed.args.items();
-        if !self
-            .unifier
-            .match_all(store, cells, terms, &literal.args, variables)?
-        {
-            return Ok(false);
-        }
-        if template.literals.items().len() > 1 {
-            let others = self.occurrences.others(place.clause, template, place.literal)?;
-            if is_set_aside(
-                &mut self.unifier,
-                store,
-                matrix,
-                &self.tree,
-                goal,
-                template,
-                at,
-                variables,
-                &others,
-                ahead,
-            )? {
-                return Ok(false);
-            }
-        }
         let label = store.copy_label(template, variables, at)?;
         let copy = store.copy_rest(template, variables, at)?;
+        let signed = self.tree.atom(goal);
+        let literal = &template.literals.items()[at];
+        let terms = signed.args.items();
         let atom = met_atom(store, literal, terms, label)?;
         let _after = store.mark();
         let copied = Copied {
