@@ -4,18 +4,17 @@ use Rattle.std.specs.List.{AllByRecursion, flat_map}
 use Rattle.std.proofs.lemmas.Bool.{and_from}
 use Rattle.calculus.specs.declared.setting.Logic.{Logic}
 use Rattle.calculus.specs.Choices.{Choice}
-use Rattle.calculus.specs.Space.{Member, has_labels}
+use Rattle.calculus.specs.Space.{has_labels}
 use Rattle.store_theory.specs.Stores.{GammaCell, Solution, Solves, Store}
 use Rattle.calculus.specs.Syntax.{Problem}
 use Rattle.store_theory.specs.Systems.{AreEqual, IsStep, NamesItsStrings, Pair, System, cells_of, cells_of_atom, is_system}
 use Rattle.search_theory.specs.Matrix.{MatrixClause}
-use Rattle.search_theory.specs.Searching.{IsSearch}
 use Rattle.search_theory.proofs.BeginningLaws.{is_not_empty}
 use Rattle.search_theory.proofs.BuildingLaws.{get-kept}
-use Rattle.search_theory.proofs.PruningLaws.{pruned-by_none, search-pruned}
+use Rattle.search_theory.proofs.PruningLaws.{pruned-by_none}
 use Rattle.search_theory.proofs.SolvingLaws.{system-parts}
 use Rattle.connection_search.specs.GivenUp.{HasLost}
-use Rattle.connection_search.proofs.GivenUpLaws.{lost-dropped}
+use Rattle.connection_search.proofs.GivenUpLaws.{drop-known, lost-dropped}
 use Rattle.connection_search.proofs.StandingLaws.{points-goals, stack-cleared, stack-lost}
 use Rattle.connection_search.specs.Exploring.{IsExploring, IsVisiting}
 use Rattle.connection_search.specs.Pruning.{IsPruned, labels_alone}
@@ -52,8 +51,6 @@ tree-pruned P m base d c s steps goals first y l el (cs, x, at) e labels n none 
     pruned-by_none P d c (record { store = s; choices = cs; growth = x }) z labels n at.running.state at.running.system (λ σ h. alone σ h.ground.solves h.steps h.equal)
 
 -- lists that are given up where it is known that the limit is left
-drop-known : (P : Problem) (d : ℕ) (spent : List Member) (c : List Choice) (ps : List (List Choice)) (l : Bool) → l ≡ true → IsPruned P d c → IsSearch P d spent (c ∷ ps) l → IsSearch P d spent ps l
-drop-known P d spent c ps l e pruned h = subst (IsSearch P d spent ps) (sym e) (search-pruned P d spent c ps (subst (IsSearch P d spent (c ∷ ps)) e h) pruned)
 
 -- by labels
 pub visit-pruned : (P : Problem) (m : List MatrixClause) (base d : ℕ) (s : Store) (steps : List Step) (goals : List Goal) (first : Option ℕ) (points after : List Point) (later : List (List Choice)) (begun used : ℕ) (left : Bool) → (v : IsVisiting P m base d s steps goals first points later begun used left) → left ≡ true → IsPruned P d v.choices → SeeMore 0 points after → IsExploring P m base d s steps goals after later begun used left

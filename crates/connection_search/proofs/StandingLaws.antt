@@ -9,7 +9,7 @@ use Rattle.calculus.specs.Syntax.{Problem}
 use Rattle.store_theory.specs.Systems.{CellAtom}
 use Rattle.search_theory.specs.Exploring.{behind}
 use Rattle.search_theory.specs.OrderedChoices.{choices_at, extension_at}
-use Rattle.search_theory.specs.Jumps.{AreSolvedBehind, ChoicePoint, StandsAtPoint}
+use Rattle.search_theory.specs.Jumps.{AreSolvedBehind, ChoicePoint, IsFruitless, StandsAtPoint}
 use Rattle.search_theory.specs.Matrix.{MatrixClause}
 use Rattle.search_theory.specs.States.{CellGoal, name_of}
 use Rattle.search_theory.proofs.BarrenLaws.{nowhere-passed}
@@ -129,6 +129,23 @@ stack-lost P m base d s steps goals c n first points pending ne h few seen k = r
   are = k.are;
   solved = solved-lost P d no_goal c n first (traced P m base d s steps goals points pending k.are) ne h (stands-all P m base d s steps goals points pending k.are) (few-traced P m base d s steps goals n points pending few k.are) (last-seen P m base d s steps goals points pending k.are first seen) k.solved;
 }
+
+-- no list that closes the goal of one of the points begins with it
+pub stack-fruitless : (P : Problem) (m : List MatrixClause) (base d : ℕ) (s : Store) (steps : List Step) (goals : List Goal) (c : List Choice) (n : ℕ) (points : List Point) (pending : List (List Choice)) → IsFruitless P d c n → AllByRecursion (λ (p : Point). p.goals ≤ n) points → IsStack P m base d s steps goals (c ∷ []) points pending → IsStack P m base d s steps goals [] points pending
+stack-fruitless P m base d s steps goals c n points pending none few k = record {
+  are = k.are;
+  solved = solved-on P d no_goal no_goal (c ∷ []) [] (traced P m base d s steps goals points pending k.are) (omega arith) (each (traced P m base d s steps goals points pending k.are) (stands-all P m base d s steps goals points pending k.are) (few-traced P m base d s steps goals n points pending few k.are)) k.solved;
+}
+  where
+    each : (rs : List ChoicePoint) → AllByRecursion (StandsAtPoint P d) rs → AllByRecursion (HasGoals n) rs → AllByRecursion (LeadsOn P d no_goal (c ∷ []) []) rs
+    each [] stand many = tt
+    each (r ∷ rs) stand many = (
+      (λ l b solved begins. elim begins [
+        | inl x ↦ absurd (none r stand.0 many.0.1 b solved x)
+        | inr x ↦ absurd x
+      ]),
+      each rs stand.1 many.1,
+    )
 
 -- nothing is said of goals that were not solved where the last point has seen that all are closed
 pub stack-forgotten : (P : Problem) (m : List MatrixClause) (base d : ℕ) (s : Store) (steps : List Step) (goals : List Goal) (points : List Point) (pending : List (List Choice)) → HasSeen None points → ArePointsFrom P m base d s steps goals points pending → IsStack P m base d s steps goals [] points pending

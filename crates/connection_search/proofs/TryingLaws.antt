@@ -13,6 +13,7 @@ use Rattle.calculus.specs.Syntax.{Problem}
 use Rattle.store_theory.proofs.StoreLaws.{take-less}
 use Rattle.search_theory.specs.Exploring.{behind}
 use Rattle.search_theory.specs.Matrix.{MatrixClause}
+use Rattle.search_theory.specs.Searching.{IsSearch}
 use Rattle.search_theory.specs.States.{CellGoal}
 use Rattle.search_theory.proofs.BeginningLaws.{IsDead, is_not_empty}
 use Rattle.search_theory.proofs.SearchSteps.{search-dead}
@@ -20,12 +21,12 @@ use Rattle.term_store.specs.Room.{KeepsRoom, TermStore}
 use Rattle.term_store.specs.StoreView.{the_mark}
 use Rattle.connection_search.specs.Ahead.{IsNextLeft}
 use Rattle.connection_search.specs.Exploring.{AreAbove, ArePointsFrom, ArePushed, IfOn, IsBefore, IsExploring, IsSearched, IsSpentAt, IsStack, IsVisiting, choice_point, traced}
-use Rattle.connection_search.specs.GivenUp.{IsGivenUp}
+use Rattle.connection_search.specs.GivenUp.{IsGivenUp, IsRuledOut}
 use Rattle.connection_search.specs.Seeing.{SeeMore, HasSeen, no_goal, seeing, seen_after}
 use Rattle.connection_search.specs.declared.tree.Tree.{Tree}
 use Rattle.search_theory.specs.Jumps.{AreSolvedBehind, ChoicePoint, StandsAtPoint}
 use Rattle.search_theory.proofs.JumpLaws.{solved-tried}
-use Rattle.connection_search.proofs.StandingLaws.{HasGoals, goals-all, last-of, length-take, points-goals, seen-made, set-last, solved-passed_over, stack-cleared, stack-kept, stack-lost, stack-refused, stack-seeing, stands-all, stands-steps, traced-back}
+use Rattle.connection_search.proofs.StandingLaws.{HasGoals, goals-all, last-of, length-take, points-goals, seen-made, set-last, solved-passed_over, stack-cleared, stack-fruitless, stack-kept, stack-lost, stack-refused, stack-seeing, stands-all, stands-steps, traced-back}
 use Rattle.connection_search.specs.Points.{HasUntried, IsMoveAt, IsPoint, IsSamePoint, the_move}
 use Rattle.connection_search.specs.Running.{IsAtGoal, IsMatrixOf, StandsFor}
 use Rattle.connection_search.specs.Trees.{KeepsTree}
@@ -38,6 +39,7 @@ use Rattle.connection_search.specs.declared.tree.Goal.{Goal}
 use Rattle.connection_search.specs.declared.tree.Step.{Step}
 use Rattle.connection_search.proofs.PassingOver.{passed-over}
 use Rattle.connection_search.proofs.DeadLaws.{live-not_empty, search-dead_behind}
+use Rattle.connection_search.proofs.GivenUpLaws.{LooksWhereLeft, drop-known, looked-left}
 use Rattle.connection_search.proofs.StackedLaws.{above-marked, before-same, mark-itself, point-back, point-next, points-back, untried-moved}
 use Rattle.connection_search.proofs.SpentLaws.{stands-live}
 use Rattle.connection_search.proofs.VisitLaws.{exploring-moved}
@@ -252,14 +254,14 @@ steps-at P m base d s t steps after goals all first goal before g c x at e stand
     let long = length-append c (x ∷ []) in
     omega (arith, old, new, long, e)
 
--- the choice cannot be made
-pub trying-refused : (P : Problem) (m : List MatrixClause) (base d : ℕ) (s : Store) (t : TermStore) (steps : List Step) (goals : List Goal) (tree : Tree) (points after : List Point) (q : Point) (later : List (List Choice)) (begun used : ℕ) (left : Bool) (choice : Move) → (h : IsTrying P m base d s steps goals (q ∷ reverse points) later begun used left q.goal choice) → KeepsMarks s t.store → KeepsTree steps goals tree.steps.items tree.goals.items → IsDead P (h.choices ++ the_move m choice ∷ []) → IsGivenUp P m base d (h.choices ++ the_move m choice ∷ []) (length goals) t tree → q.steps ≡ length steps → IsPushed (seen_after q.steps (length tree.steps.items) tree.open) q points after → IsExploring P m base d t.store tree.steps.items tree.goals.items after later begun used left
-trying-refused P m base d s t steps goals tree points after q later begun used left choice h marks kept dead given count pushed = record {
+-- the choice is not made
+pub trying-refused : (P : Problem) (m : List MatrixClause) (base d : ℕ) (s : Store) (t : TermStore) (steps : List Step) (goals : List Goal) (tree : Tree) (points after : List Point) (q : Point) (later : List (List Choice)) (begun used : ℕ) (left : Bool) (choice : Move) (ahead : Option ℕ) → (h : IsTrying P m base d s steps goals (q ∷ reverse points) later begun used left q.goal choice) → KeepsMarks s t.store → KeepsTree steps goals tree.steps.items tree.goals.items → LooksWhereLeft ahead d left → IsRuledOut P d (h.choices ++ the_move m choice ∷ []) ahead → IsGivenUp P m base d (h.choices ++ the_move m choice ∷ []) (length goals) t tree → q.steps ≡ length steps → IsPushed (seen_after q.steps (length tree.steps.items) tree.open) q points after → IsExploring P m base d t.store tree.steps.items tree.goals.items after later begun used left
+trying-refused P m base d s t steps goals tree points after q later begun used left choice ahead h marks kept looks out given count pushed = record {
   pending = h.pending;
   points = subst (λ ps. IsStack P m base d t.store tree.steps.items tree.goals.items [] ps h.pending) (sym (reverse-pushed (seen_after q.steps (length tree.steps.items) tree.open) q points after pushed)) (by given);
   searched = record {
     spent = h.searched.spent;
-    search = search-dead P d h.searched.spent (h.choices ++ the_move m choice ∷ []) (h.pending ++ later) left h.searched.search (not-empty h.choices (the_move m choice)) dead;
+    search = dropped out;
     from = h.searched.from;
     count = h.searched.count;
   };
@@ -267,6 +269,10 @@ trying-refused P m base d s t steps goals tree points after q later begun used l
   where
     c : List Choice
     c = h.choices ++ the_move m choice ∷ []
+
+    dropped : IsRuledOut P d c ahead → IsSearch P d h.searched.spent (h.pending ++ later) left
+    dropped (inl dead) = search-dead P d h.searched.spent c (h.pending ++ later) left h.searched.search (not-empty h.choices (the_move m choice)) dead
+    dropped (inr (looked, pruned)) = drop-known P d h.searched.spent c (h.pending ++ later) left (looked-left ahead d left looks looked) pruned h.searched.search
 
     n : ℕ
     n = seen_after q.steps (length tree.steps.items) tree.open
@@ -276,7 +282,8 @@ trying-refused P m base d s t steps goals tree points after q later begun used l
 
     by : IsGivenUp P m base d c (length goals) t tree → IsStack P m base d t.store tree.steps.items tree.goals.items [] (seeing n q ∷ reverse points) h.pending
     by (inl none) = stack-refused P m base d t.store tree.steps.items tree.goals.items c (seeing n q ∷ reverse points) h.pending (not-empty h.choices (the_move m choice)) none seen
-    by (inr (stands, lost)) =
+    by (inr (inr none)) = stack-fruitless P m base d t.store tree.steps.items tree.goals.items c (length goals) (seeing n q ∷ reverse points) h.pending none (points-goals P m base d s steps goals (q ∷ reverse points) h.pending h.points.are) seen
+    by (inr (inl (stands, lost))) =
         let made = steps-at P m base d s t.store steps tree.steps.items goals tree.goals.items tree.open q.goal q.steps h.at_goal h.choices (the_move m choice) h.at count stands in
         stack-lost P m base d t.store tree.steps.items tree.goals.items c (length goals) tree.open (seeing n q ∷ reverse points) h.pending (not-empty h.choices (the_move m choice)) lost (points-goals P m base d s steps goals (q ∷ reverse points) h.pending h.points.are) (seen-made q.steps (length tree.steps.items) tree.open q (reverse points) made) seen
 

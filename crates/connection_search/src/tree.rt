@@ -127,7 +127,7 @@ impl Tree {
     pub fn is_extended(&self) -> bool {
         match (self.steps.last(), self.open) {
             (Some(Step::Extend(_, _, _, _)), Some(goal)) => match self.goals.get(goal) {
-                Some(at) => at.step + 1 == self.steps.len(),
+                Some(at) => at.step.saturating_add(1) == self.steps.len(),
                 None => false,
             },
             _ => false,

@@ -4,6 +4,7 @@ use Rattle.store_theory.proofs.BindingLaws.{KeepsMarks-same}
 use Rattle.matrix_build.specs.MatrixView.{the_place}
 use Rattle.search_theory.specs.OrderedChoices.{extension_at}
 use Rattle.term_store.specs.StoreView.{the_mark}
+use Rattle.connection_search.proofs.GivenUpLaws.{dead-alone}
 use Rattle.connection_search.proofs.LeftLaws.{back-list, back-store, left-by_tree}
 use Rattle.connection_search.proofs.space.Space.is_left_by.Goals as goal
 
@@ -11,7 +12,7 @@ pub return_to-requires : goal.return_to-requires
 return_to-requires c = (c.extend.ensures.marks (the_mark c.args.here.mark) c.requires.here.good).0
 
 pub returns-then-not-branch-clause-dead : goal.returns-then-not-branch-clause-dead
-returns-then-not-branch-clause-dead c = λ f P base d p g cm h e. c.in_ok-extend.ensures.refused c.if-not-branch.true P base (d + 1) p g cm h e
+returns-then-not-branch-clause-dead c = λ f P base d p g cm h e. dead-alone P (d + 1) (p ++ extension_at c.args.self.now.matrix.now (the_place c.args.place) ∷ []) (c.in_ok-extend.ensures.refused c.if-not-branch.true P base (d + 1) p g cm h e tt)
 
 pub returns-then-not-branch-clause-store : goal.returns-then-not-branch-clause-store
 returns-then-not-branch-clause-store c = (back-store c.args.here c.args.store.now.store c.extend.new.store.store c.return_to.new.store.store c.args.work.now.tree.steps.items c.args.work.now.tree.goals.items c.args.work.now.tree.open c.requires.here c.extend.ensures.marks c.return_to.ensures.store)

@@ -7,6 +7,7 @@ use Rattle.search_theory.specs.Cutting.{pending_on}
 use Rattle.connection_search.specs.Points.{the_move}
 use Rattle.connection_search.specs.Weights.{work_left}
 use Rattle.connection_search.proofs.CuttingLaws.{cut-back-at, cut-last-good, cut-made, cut-none-at, cut-refused, cut-tried-at, kept-in, next-less, passing-counted, stands-in, stands-sound}
+use Rattle.connection_search.proofs.GivenUpLaws.{dead-alone}
 use Rattle.connection_search.proofs.MoveLaws.{goal-here}
 use Rattle.connection_search.proofs.TryingLaws.{dropped-falls, if_on, lighter-some, next-falls}
 use Rattle.connection_search.proofs.space.Space.next_cut.Goals as goal
@@ -63,7 +64,7 @@ make-requires c = let (base, sides, later, begun, space, e) = c.requires in
 pub returns-then-not-branch-clause-on : goal.returns-then-not-branch-clause-on
 returns-then-not-branch-clause-on c = λ base sides later begun space e.
     let t = cut-tried-at c.args.self.now.problem.now c.args.self.now.matrix.now base c.args.self.now.limit sides c.args.store.now.store c.return_to.new.store.store c.args.work.now.tree.steps.items c.return_to.new.tree.steps.items c.args.work.now.tree.goals.items c.return_to.new.tree.goals.items c.args.points.now.items c.push.new.self.items c.args.last c.next.new.self later begun c.args.ledger.now.used c.args.left.now _ c.in-Some.choice c.return_to.ensures.store c.return_to.ensures.steps c.return_to.ensures.goals c.in_ok-push.ensures.items c.in_ok-choice.ensures.same c.in_ok-choice.ensures.next c.in-Some.is e in
-    cut-refused c.args.self.now.problem.now c.args.self.now.matrix.now base c.args.self.now.limit sides c.return_to.new.store.store c.make.new.store.store c.return_to.new.tree.steps.items c.make.new.self.tree.steps.items c.return_to.new.tree.goals.items c.make.new.self.tree.goals.items c.push.new.self.items later begun c.args.ledger.now.used c.args.left.now c.next.new.self.goal c.in-Some.choice t c.make.ensures.marks c.in_ok-make.ensures.kept (c.in_ok-make.ensures.refused c.if-not-branch.true c.args.self.now.problem.now base c.args.self.now.limit t.before t.at_goal space.matrix t.at t.move)
+    cut-refused c.args.self.now.problem.now c.args.self.now.matrix.now base c.args.self.now.limit sides c.return_to.new.store.store c.make.new.store.store c.return_to.new.tree.steps.items c.make.new.self.tree.steps.items c.return_to.new.tree.goals.items c.make.new.self.tree.goals.items c.push.new.self.items later begun c.args.ledger.now.used c.args.left.now c.next.new.self.goal c.in-Some.choice t c.make.ensures.marks c.in_ok-make.ensures.kept (dead-alone c.args.self.now.problem.now c.args.self.now.limit (t.before ++ the_move c.args.self.now.matrix.now c.in-Some.choice ∷ []) (c.in_ok-make.ensures.refused c.if-not-branch.true c.args.self.now.problem.now base c.args.self.now.limit t.before t.at_goal space.matrix t.at t.move tt))
 
 pub returns-then-not-branch-clause-falls : goal.returns-then-not-branch-clause-falls
 returns-then-not-branch-clause-falls c = subst (λ ps. work_left c.args.ledger.now.budget c.args.ledger.now.used ps < work_left c.args.ledger.now.budget c.args.ledger.now.used (c.args.points.now.items ++ c.args.last ∷ [])) (sym c.in_ok-push.ensures.items) (next-falls c.args.ledger.now.budget c.args.ledger.now.used c.args.points.now.items c.args.last c.next.new.self (lighter-some c.args.last c.next.new.self _ c.in-Some.choice c.in_ok-choice.ensures.falls c.in-Some.is))

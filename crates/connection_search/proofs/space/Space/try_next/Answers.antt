@@ -5,6 +5,7 @@ use Rattle.connection_search.specs.Seeing.{seen_after}
 use Rattle.connection_search.specs.Weights.{work_left}
 use Rattle.connection_search.specs.declared.point.Point.{Point}
 use Rattle.connection_search.specs.declared.tree.Tree.{Tree}
+use Rattle.connection_search.proofs.GivenUpLaws.{looks-ahead}
 use Rattle.connection_search.proofs.GoingBackLaws.{last-read}
 use Rattle.connection_search.proofs.StackedLaws.{above-marked, above-rest, moment-back, moment-both, moment-kept}
 use Rattle.connection_search.proofs.TryingLaws.{above-seen, back-at, cut-end, dead-at, exploring-at, fewer-falls, if_on, is-pushed, last-good, lighter-seen, lighter-some, next-falls, none-at, room-both, seen-weight, set-end, stands-back, steps-here, tried-at, trying-made, trying-refused, visit-falls}
@@ -210,7 +211,8 @@ returns-then-not-made-clause-on c =
     λ base later begun space given.
     let e = exploring-at c.args.self.now.problem.now c.args.self.now.matrix.now base c.args.self.now.limit c.args.store.now.store c.args.work.now.tree.steps.items c.args.work.now.tree.goals.items c.args.points.now.items ((take (c.len-below.result - 1) c.args.points.now.items) ++ c.index_mut-point.result.now ∷ []) later begun c.args.ledger.now.used c.args.left.now ends given in
     let t = tried-at c.args.self.now.problem.now c.args.self.now.matrix.now base c.args.self.now.limit c.args.store.now.store c.return_to.new.store.store c.args.work.now.tree.steps.items c.is_found_irregular.new.self.tree.steps.items c.args.work.now.tree.goals.items c.is_found_irregular.new.self.tree.goals.items (take (c.len-below.result - 1) c.args.points.now.items) c.index_mut-point.result.now c.next_choice.new.point later begun c.args.ledger.now.used c.args.left.now _ c.in-Some.choice c.return_to.ensures.store (ap (λ (t : Tree). t.steps.items) c.is_found_irregular.ensures.tree ∙ c.return_to.ensures.steps) (ap (λ (t : Tree). t.goals.items) c.is_found_irregular.ensures.tree ∙ c.return_to.ensures.goals) c.in_ok-choice.ensures.same space.matrix (c.in_ok-choice.ensures.next c.args.self.now.problem.now) c.in-Some.is e in
-    trying-refused c.args.self.now.problem.now c.args.self.now.matrix.now base c.args.self.now.limit c.return_to.new.store.store c.make.new.store c.is_found_irregular.new.self.tree.steps.items c.is_found_irregular.new.self.tree.goals.items c.make.new.self.tree (take (c.len-below.result - 1) c.args.points.now.items) (slice_set c.args.points.now.items (c.len-below.result - 1) c.see.new.self) c.next_choice.new.point later begun c.args.ledger.now.used c.args.left.now c.in-Some.choice t c.make.ensures.marks c.in_ok-made.ensures.kept (c.in_ok-made.ensures.refused c.if-not-made.true c.args.self.now.problem.now base c.args.self.now.limit t.choices t.at_goal space.matrix t.at t.move) (c.in_ok-made.ensures.given_up c.if-not-made.true c.args.self.now.problem.now base c.args.self.now.limit t.choices t.at_goal space.matrix t.at t.move) (steps-here c.args.self.now.problem.now c.args.self.now.matrix.now base c.args.self.now.limit c.args.store.now.store c.return_to.new.store.store c.args.work.now.tree.steps.items c.is_found_irregular.new.self.tree.steps.items c.args.work.now.tree.goals.items c.is_found_irregular.new.self.tree.goals.items (take (c.len-below.result - 1) c.args.points.now.items) c.index_mut-point.result.now c.next_choice.new.point later begun c.args.ledger.now.used c.args.left.now c.return_to.ensures.store (ap (λ (t : Tree). t.steps.items) c.is_found_irregular.ensures.tree ∙ c.return_to.ensures.steps) (ap (λ (t : Tree). t.goals.items) c.is_found_irregular.ensures.tree ∙ c.return_to.ensures.goals) c.in_ok-choice.ensures.same e) (is-pushed (seen_after c.next_choice.new.point.steps (length c.make.new.self.tree.steps.items) c.make.new.self.tree.open) c.seen-first.result c.next_choice.new.point c.see.new.self (take (c.len-below.result - 1) c.args.points.now.items) (slice_set c.args.points.now.items (c.len-below.result - 1) c.see.new.self) changed c.see.ensures c.seen-first.ensures)
+    let looks = looks-ahead c.limit_ahead-ahead.result c.args.self.now.limit c.args.left.now c.limit_ahead-ahead.ensures in
+    trying-refused c.args.self.now.problem.now c.args.self.now.matrix.now base c.args.self.now.limit c.return_to.new.store.store c.make.new.store c.is_found_irregular.new.self.tree.steps.items c.is_found_irregular.new.self.tree.goals.items c.make.new.self.tree (take (c.len-below.result - 1) c.args.points.now.items) (slice_set c.args.points.now.items (c.len-below.result - 1) c.see.new.self) c.next_choice.new.point later begun c.args.ledger.now.used c.args.left.now c.in-Some.choice c.limit_ahead-ahead.result t c.make.ensures.marks c.in_ok-made.ensures.kept c.limit_ahead-ahead.ensures (c.in_ok-made.ensures.refused c.if-not-made.true c.args.self.now.problem.now base c.args.self.now.limit t.choices t.at_goal space.matrix t.at t.move looks) (c.in_ok-made.ensures.given_up c.if-not-made.true c.args.self.now.problem.now base c.args.self.now.limit t.choices t.at_goal space.matrix t.at t.move looks) (steps-here c.args.self.now.problem.now c.args.self.now.matrix.now base c.args.self.now.limit c.args.store.now.store c.return_to.new.store.store c.args.work.now.tree.steps.items c.is_found_irregular.new.self.tree.steps.items c.args.work.now.tree.goals.items c.is_found_irregular.new.self.tree.goals.items (take (c.len-below.result - 1) c.args.points.now.items) c.index_mut-point.result.now c.next_choice.new.point later begun c.args.ledger.now.used c.args.left.now c.return_to.ensures.store (ap (λ (t : Tree). t.steps.items) c.is_found_irregular.ensures.tree ∙ c.return_to.ensures.steps) (ap (λ (t : Tree). t.goals.items) c.is_found_irregular.ensures.tree ∙ c.return_to.ensures.goals) c.in_ok-choice.ensures.same e) (is-pushed (seen_after c.next_choice.new.point.steps (length c.make.new.self.tree.steps.items) c.make.new.self.tree.open) c.seen-first.result c.next_choice.new.point c.see.new.self (take (c.len-below.result - 1) c.args.points.now.items) (slice_set c.args.points.now.items (c.len-below.result - 1) c.see.new.self) changed c.see.ensures c.seen-first.ensures)
 
 pub returns-then-not-made-clause-counted : goal.returns-then-not-made-clause-counted
 returns-then-not-made-clause-counted c =
