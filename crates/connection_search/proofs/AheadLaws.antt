@@ -11,7 +11,6 @@ use Rattle.calculus.specs.Kinds.{other}
 use Rattle.calculus.specs.Syntax.{Problem}
 use Rattle.calculus.proofs.PlaceLists.{get-within}
 use Rattle.search_theory.specs.Ahead.{IsApart, IsHopelessAt, MarksPath, bit_of, by_args, by_sign, by_symbol}
-use Rattle.search_theory.specs.Exploring.{behind}
 use Rattle.search_theory.specs.Matrix.{MatrixClause, MatrixPlace, places}
 use Rattle.search_theory.specs.OrderedChoices.{meets}
 use Rattle.search_theory.specs.States.{CellGoal, atom_is_below, goal_is_below}

@@ -112,7 +112,7 @@ impl Space<'_> {
         ensures way { (point.new.above ≡ point.old.above) × (point.new.up ≡ point.old.up)
             × (point.new.end ≡ point.old.end) }
     {
-        // Before marks are made.
+        // Marks are made only where there is an extension to look at.
         if point.has_no_extension() {
             return None;
         }
