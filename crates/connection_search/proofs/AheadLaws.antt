@@ -15,13 +15,7 @@ use Rattle.search_theory.specs.Matrix.{MatrixClause, MatrixPlace, places}
 use Rattle.search_theory.specs.OrderedChoices.{meets}
 use Rattle.search_theory.specs.States.{CellGoal, atom_is_below, goal_is_below}
 use Rattle.search_theory.specs.Steps.{Clash}
-use Rattle.search_theory.proofs.BarrenLaws.{hopeless-dropped}
 use Rattle.search_theory.proofs.LookAheadLaws.{bit-alone, unmarked-lacks}
-use Rattle.search_theory.proofs.BeginningLaws.{not-empty-behind, refused}
-use Rattle.search_theory.proofs.PruningLaws.{search-pruned}
-use Rattle.search_theory.proofs.SearchSteps.{search-dead}
-use Rattle.search_theory.specs.Searching.{IsSearch}
-use Rattle.calculus.specs.Space.{Member}
 use Rattle.store_theory.specs.Patterns.{PatternAtom, Template}
 use Rattle.store_theory.specs.Stores.{Store, names_below}
 use Rattle.store_theory.specs.Systems.{CellAtom}

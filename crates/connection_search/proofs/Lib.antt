@@ -56,6 +56,7 @@ pub mod DeadLaws
 -- looking ahead at the limit
 pub mod WayUpLaws
 pub mod AheadLaws
+pub mod PassingOver
 pub mod LookingOver
 pub mod GivenUpLaws
 pub mod StandingLaws

@@ -1,13 +1,13 @@
 -- Lists of choices that labels refute: the equations and strings of the tree's system alone, and dropping the list.
-use Rattle.std.proofs.Common.{◌≡◌, ℕ, List, [], ◌∷◌, ◌++◌, Bool, true, IsTrue, refl, sym, ◌∙◌, ap, subst, Option, Some, append-nil, slice_get, reverse, length, arith}
-use Rattle.std.specs.List.{AllByRecursion, flat_map}
+use Rattle.std.proofs.Common.{◌≡◌, ℕ, List, [], ◌++◌, Bool, true, IsTrue, refl, ◌∙◌, subst, Option, Some, append-nil, slice_get, reverse, length}
+use Rattle.std.specs.List.{AllByRecursion}
 use Rattle.std.proofs.lemmas.Bool.{and_from}
 use Rattle.calculus.specs.declared.setting.Logic.{Logic}
 use Rattle.calculus.specs.Choices.{Choice}
 use Rattle.calculus.specs.Space.{has_labels}
-use Rattle.store_theory.specs.Stores.{GammaCell, Solution, Solves, Store}
+use Rattle.store_theory.specs.Stores.{Solution, Solves, Store}
 use Rattle.calculus.specs.Syntax.{Problem}
-use Rattle.store_theory.specs.Systems.{AreEqual, IsStep, NamesItsStrings, Pair, System, cells_of, cells_of_atom, is_system}
+use Rattle.store_theory.specs.Systems.{AreEqual, IsStep, NamesItsStrings, System, is_system}
 use Rattle.search_theory.specs.Matrix.{MatrixClause}
 use Rattle.search_theory.proofs.BeginningLaws.{is_not_empty}
 use Rattle.search_theory.proofs.BuildingLaws.{get-kept}

@@ -42,11 +42,11 @@ use Rattle.search_theory.proofs.SystemLaws.{tree-by_state}
 use Rattle.search_theory.proofs.SystemSteps.{pairs-append, pairs-none, system-extended, system-reduced, system-started}
 use Rattle.search_theory.proofs.VariableSorts.{sorts-kept, strings-sorted}
 use Rattle.term_store.specs.Fitting.{atom_fits_in, label_fits_in, parts_fit_in}
-use Rattle.term_store.specs.Signatures.{BuildsOver, BuildsWithin, allows_all, allows_atom, allows_template}
+use Rattle.term_store.specs.Signatures.{BuildsWithin, allows_all, allows_atom, allows_template}
 use Rattle.term_store.proofs.FitLaws.{have-new, literals-fit, placed-atoms}
 use Rattle.term_store.proofs.OwnLaws.{names-variables}
 use Rattle.term_store.proofs.SignatureLaws.{within-variables}
-use Rattle.term_unify.specs.Matching.{AddsAndBinds, AllNamesKept, HoldsNowhere, MatchTo, Narrows}
+use Rattle.term_unify.specs.Matching.{HoldsNowhere, MatchTo, Narrows}
 pub use Rattle.connection_search.specs.MetAtom.{HeadMatched, met_atom}
 use Rattle.connection_search.specs.OwnStores.{AreOwn}
 use Rattle.connection_search.specs.Running.{IsMatrixOf, IsRunning}

@@ -1,7 +1,5 @@
-use Rattle.std.proofs.Common.{arith, ◌≡◌, ◌∙◌, ◌++◌, ◌∷◌, [], ap, inl, inr, length, map, slice_get, subst, sym}
-use Rattle.store_theory.specs.Bindings.{KeepsMarks, nothing_more, with_variables_of}
-use Rattle.store_theory.proofs.BindingLaws.{KeepsMarks-both}
-use Rattle.search_theory.specs.OrderedChoices.{extension_at}
+use Rattle.std.proofs.Common.{arith, ◌≡◌, [], inl, inr, length, map, subst, sym}
+use Rattle.store_theory.specs.Bindings.{nothing_more, with_variables_of}
 use Rattle.search_theory.proofs.BeginningLaws.{refused}
 use Rattle.term_store.specs.ClauseView.{the_atom, the_pattern_atom}
 use Rattle.term_store.specs.RefView.{the_place, the_places}
