@@ -11,9 +11,13 @@ use Rattle.calculus.specs.Derivations.{Entry, Sequent, Names, ModalArg, TermArg,
 use Rattle.calculus.specs.Calculus.{Children, closed, one, two, conditions_of_use, children_of, connects, entry_of, use_entry, close_branch, apply, Closes, leaf, single, fork, Derives}
 use Rattle.calculus.specs.Text.{is_number}
 use Rattle.calculus.specs.DerivationText.{modal_is_written, term_arg_is_written, step_is_written, names_are_written, is_limit, is_printable}
-use Rattle.calculus.specs.Judgement.{accepted, IsJudgement}
+use Rattle.calculus.specs.Judgement.{accepted}
 use Rattle.calculus.specs.Structures.{Structure, is_structure, is_true}
 use Rattle.calculus.specs.Models.{Model, IsModel}
+use Rattle.calculus.specs.declared.version.Version.{Version}
+use Rattle.calculus.specs.declared.version.Version.TheVariants.{One, Two}
+use Rattle.calculus.specs.Versions.{is_printable_in, is_count, numbering}
+use Rattle.calculus.specs.VersionJudgement.{IsVersionJudgement}
 use Rattle.calculus.specs.Soundness.{HasNoDerivation, IsNeverAccepted, IsTrueOver, IsTrueInStructures, IsSound}
 use Rattle.calculus.proofs.SequentLaws.{are_met, met-children}
 use Rattle.calculus.proofs.StructureLaws.{conditions}
@@ -112,8 +116,14 @@ refuted-underived P problem S structure false_at_root =
     let names : Term → ℕ = λ t. 0 in
     false-underived P problem (model_of l S) (is-model P S (conditions P S structure)) names (truth-computed l S names P.symbols 0 P.formula (fits-problem P problem) [] 0 ∙ false_at_root)
 
+-- what can be printed in a version can be printed
+pub printable-plain : (version : Version) (P : Problem) (d : Derivation) → IsTrue (is_printable_in version P d) → IsTrue (is_printable P d)
+printable-plain One P d h = h
+printable-plain Two P d h = (and_parts (is_printable P d) (is_count (length (numbering d).labels) && is_count (length (numbering d).terms)) h).0
+
 pub refuted-never_accepted : (P : Problem) → IsTrue (is_problem P) → (S : Structure) → IsTrue (is_structure P S) → is_true P S ≡ false → IsNeverAccepted P
-refuted-never_accepted P problem S structure false_at_root bytes judged = refuted-underived P problem S structure false_at_root judged.derivation judged.text.printable judged.derives
+refuted-never_accepted P problem S structure false_at_root bytes judged =
+    refuted-underived P problem S structure false_at_root judged.derivation (printable-plain judged.version P judged.derivation judged.text.printable) judged.derives
 
 -- ---- what a contract says
 
@@ -123,8 +133,8 @@ derived-true P problem d printable derives = record {
   over_numbers = derived-valid ℕ ℕ P problem d printable derives;
 }
 
-pub accepted-true : (P : Problem) → IsTrue (is_problem P) → (bytes : List ℕ) → IsJudgement P bytes accepted → IsTrueInStructures P
-accepted-true P problem bytes judged = derived-true P problem judged.derivation judged.text.printable judged.derives
+pub accepted-true : (P : Problem) → IsTrue (is_problem P) → (bytes : List ℕ) → IsVersionJudgement P bytes accepted → IsTrueInStructures P
+accepted-true P problem bytes judged = derived-true P problem judged.derivation (printable-plain judged.version P judged.derivation judged.text.printable) judged.derives
 
 pub sound : (P : Problem) → IsTrue (is_problem P) → IsSound P
 sound P problem = record {

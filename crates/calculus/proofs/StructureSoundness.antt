@@ -1,17 +1,10 @@
 -- What the text of a structure proves: where it makes the formula false at the root, no derivation derives the problem.
-use Rattle.std.proofs.Common.{◌≡◌, ℕ, List, length, Bool, true, false, ◌&&◌, inl, inr, Option, Some, None, IsTrue, refl, sym, ◌∙◌, ap}
-use Rattle.std.proofs.lemmas.Bool.{true≢false, false≢true, and_parts}
-use Rattle.calculus.specs.declared.version.Version.{Version}
-use Rattle.calculus.specs.declared.version.Version.TheVariants.{One, Two}
+use Rattle.std.proofs.Common.{◌≡◌, ℕ, List, Bool, true, false, inl, inr, Option, Some, None, IsTrue, refl, sym, ◌∙◌, ap}
+use Rattle.std.proofs.lemmas.Bool.{true≢false, false≢true}
 use Rattle.calculus.specs.Syntax.{Problem}
-use Rattle.calculus.specs.Derivations.{Derivation}
-use Rattle.calculus.specs.DerivationText.{is_printable}
-use Rattle.calculus.specs.Versions.{is_printable_in, is_count, numbering}
 use Rattle.calculus.specs.Problems.{is_problem}
 use Rattle.calculus.specs.Structures.{Structure, is_structure, is_true}
 use Rattle.calculus.specs.Soundness.{HasNoDerivation, IsNeverAccepted}
-use Rattle.calculus.specs.Judgement.{accepted}
-use Rattle.calculus.specs.VersionJudgement.{IsVersionJudgement}
 use Rattle.calculus.specs.StructureText.{Condition, conditions, first_broken, IsStructureText, StructureVerdict, false_at_root, bad_structure, truth_verdict, verdict_after_conditions, structure_verdict, IsStructureJudgement}
 use Rattle.calculus.proofs.StructureTextLaws.{unbroken-structure}
 use Rattle.calculus.proofs.SoundnessLaws.{refuted-underived, refuted-never_accepted}
@@ -70,18 +63,6 @@ judged-read P bytes truth (inr x) = by (first_broken (conditions P x.structure))
 pub false-underived : (P : Problem) → IsTrue (is_problem P) → (bytes : List ℕ) → IsStructureJudgement P bytes false_at_root → HasNoDerivation P
 false-underived P problem bytes judged = let r = judged-read P bytes false judged in refuted-underived P problem r.structure r.fits r.value
 
--- no bytes are accepted for the problem, in version 1 of the text
+-- no bytes are accepted for the problem, in either version of the text
 pub false-never_accepted : (P : Problem) → IsTrue (is_problem P) → (bytes : List ℕ) → IsStructureJudgement P bytes false_at_root → IsNeverAccepted P
 false-never_accepted P problem bytes judged = let r = judged-read P bytes false judged in refuted-never_accepted P problem r.structure r.fits r.value
-
--- what can be printed in a version can be printed
-printable-one : (P : Problem) (v : Version) (d : Derivation) → IsTrue (is_printable_in v P d) → IsTrue (is_printable P d)
-printable-one P One d h = h
-printable-one P Two d h = (and_parts (is_printable P d) (is_count (length (numbering d).labels) && is_count (length (numbering d).terms)) h).0
-
--- and in neither version
-pub refuted-never_in : (P : Problem) → IsTrue (is_problem P) → (S : Structure) → IsTrue (is_structure P S) → is_true P S ≡ false → (bytes : List ℕ) → ¬ IsVersionJudgement P bytes accepted
-refuted-never_in P problem S structure refuted bytes proof = refuted-underived P problem S structure refuted proof.derivation (printable-one P proof.version proof.derivation proof.text.printable) proof.derives
-
-pub false-never_in : (P : Problem) → IsTrue (is_problem P) → (bytes : List ℕ) → IsStructureJudgement P bytes false_at_root → (text : List ℕ) → ¬ IsVersionJudgement P text accepted
-false-never_in P problem bytes judged = let r = judged-read P bytes false judged in refuted-never_in P problem r.structure r.fits r.value

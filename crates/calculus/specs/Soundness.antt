@@ -4,17 +4,18 @@ use Rattle.calculus.specs.Syntax.{Term, Problem}
 use Rattle.calculus.specs.Derivations.{Derivation}
 use Rattle.calculus.specs.Calculus.{Derives}
 use Rattle.calculus.specs.DerivationText.{is_printable}
-use Rattle.calculus.specs.Judgement.{accepted, IsJudgement}
+use Rattle.calculus.specs.Judgement.{accepted}
 use Rattle.calculus.specs.Structures.{Structure, is_structure, is_true}
 use Rattle.calculus.specs.Models.{Model, IsModel}
+use Rattle.calculus.specs.VersionJudgement.{IsVersionJudgement}
 
 -- no derivation that is printable for the problem derives it
 abbrev pub HasNoDerivation : Problem → Type 0
 HasNoDerivation P = (d : Derivation) → IsTrue (is_printable P d) → ¬ Derives P d
 
--- no bytes are judged as a derivation of the problem
+-- no bytes are judged as a derivation of the problem, in either version of the text
 abbrev pub IsNeverAccepted : Problem → Type 0
-IsNeverAccepted P = (bytes : List ℕ) → ¬ IsJudgement P bytes accepted
+IsNeverAccepted P = (bytes : List ℕ) → ¬ IsVersionJudgement P bytes accepted
 
 -- the formula is true at the root of each structure of the problem's setting with worlds and
 -- elements of these types
@@ -37,7 +38,8 @@ pub record IsTrueInStructures (P : Problem) : Type 0 where
 pub record IsSound (P : Problem) : Type 0 where
   pub derived_true :
       (d : Derivation) → IsTrue (is_printable P d) → Derives P d → IsTrueInStructures P
-  pub accepted_true : (bytes : List ℕ) → IsJudgement P bytes accepted → IsTrueInStructures P
+  pub accepted_true :
+      (bytes : List ℕ) → IsVersionJudgement P bytes accepted → IsTrueInStructures P
   pub underived :
       (S : Structure) → IsTrue (is_structure P S) → is_true P S ≡ false → HasNoDerivation P
   pub never_accepted :

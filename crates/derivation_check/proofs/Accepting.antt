@@ -1,23 +1,18 @@
 -- What the verdict on a text says of the derivation that is handed on, and of what is told.
-use Rattle.std.proofs.Common.{◌≡◌, ℕ, List, ◌∷◌, [], length, Result, Err, IsTrue, refl, sym, ◌∙◌, ap, inl, inr, subst, ◌&&◌}
-use Rattle.std.proofs.lemmas.Bool.{and_parts}
+use Rattle.std.proofs.Common.{◌≡◌, ℕ, List, ◌∷◌, [], length, Result, Err, IsTrue, refl, sym, ◌∙◌, ap, inl, inr, subst}
 use Rattle.calculus.specs.declared.fault.CheckFault.{CheckFault}
 use Rattle.calculus.specs.declared.fault.CheckFault.TheVariants.{Text as InText}
 use Rattle.calculus.specs.declared.fault.TextCause.{TextCause}
 use Rattle.calculus.specs.declared.version.Version.{Version}
-use Rattle.calculus.specs.declared.version.Version.TheVariants.{One, Two}
 use Rattle.calculus.specs.Calculus.{Derives}
 use Rattle.calculus.specs.Derivations.{Derivation, first_sequent}
-use Rattle.calculus.specs.DerivationText.{is_printable}
 use Rattle.calculus.specs.Judgement as judgement
 use Rattle.calculus.specs.Judgement.{accepted, rejected}
 use Rattle.calculus.specs.Problems.{are_distinct, is_problem}
-use Rattle.calculus.specs.Soundness.{IsTrueInStructures}
 use Rattle.calculus.specs.Syntax.{Problem}
-use Rattle.calculus.specs.Versions.{IsTextIn, is_count, is_printable_in, numbering}
+use Rattle.calculus.specs.Versions.{IsTextIn}
 use Rattle.calculus.specs.VersionJudgement.{IsVersionJudgement, step_line_in, verdict_in}
 use Rattle.calculus.proofs.SequentLaws.{accepted_at_iff_derives}
-use Rattle.calculus.proofs.SoundnessLaws.{derived-true}
 use Rattle.calculus.proofs.VerdictLaws.{verdict_from-rejected}
 use Rattle.calculus.proofs.VersionJudgementLaws.{version_judgement-unique}
 use Rattle.logic_rules.proofs.ProblemFacts.{kept}
@@ -62,14 +57,6 @@ only-one P distinct bytes v h = record { judged = h; alone = λ w g. version_jud
 pub accepted-in : (P : Problem) → IsTrue (is_problem P) → (version : Version) (d : Derivation) (bytes : List ℕ) → IsTextIn version P d bytes → Derives P d → IsOnlyVersionJudgement P bytes accepted
 accepted-in P well version d bytes text derives =
     only-one P (kept P well).distinct bytes accepted (record { version = version; derivation = d; text = text; derives = derives })
-
-pub printable-plain : (version : Version) (P : Problem) (d : Derivation) → IsTrue (is_printable_in version P d) → IsTrue (is_printable P d)
-printable-plain One P d h = h
-printable-plain Two P d h = (and_parts (is_printable P d) (is_count (length (numbering d).labels) && is_count (length (numbering d).terms)) h).0
-
--- what is accepted is true in each structure
-pub accepted-valid : (P : Problem) → IsTrue (is_problem P) → (bytes : List ℕ) → IsVersionJudgement P bytes accepted → IsTrueInStructures P
-accepted-valid P well bytes h = derived-true P well h.derivation (printable-plain h.version P h.derivation h.text.printable) h.derives
 
 -- ---- what the program tells
 

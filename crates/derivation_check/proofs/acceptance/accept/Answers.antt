@@ -2,7 +2,8 @@ use Rattle.std.proofs.Common.{Err, ap, refl}
 use Rattle.calculus.specs.Versions.{stated}
 use Rattle.derivation_check.specs.declared.acceptance.AcceptFault.TheVariants as answer
 use Rattle.derivation_check.specs.declared.verdict.Verdict.TheVariants.{Accepted, Rejected}
-use Rattle.derivation_check.proofs.Accepting.{accepted-derives, of-rejection, of-text, only, printable-plain}
+use Rattle.calculus.proofs.SoundnessLaws.{printable-plain}
+use Rattle.derivation_check.proofs.Accepting.{accepted-derives, of-rejection, of-text, only}
 use Rattle.derivation_check.proofs.acceptance.accept.Goals as goal
 
 pub returns-in-Err-Text-clause-rejected : goal.returns-in-Err-Text-clause-rejected

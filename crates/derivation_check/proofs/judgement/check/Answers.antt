@@ -1,10 +1,10 @@
 use Rattle.logic_rules.proofs.ProblemFacts.{kept}
 use Rattle.std.proofs.Common.{subst}
 use Rattle.calculus.proofs.SequentLaws.{same_rest}
-use Rattle.calculus.proofs.SoundnessLaws.{sound}
+use Rattle.calculus.proofs.SoundnessLaws.{accepted-true, sound}
 use Rattle.calculus.specs.VersionJudgement.{IsVersionJudgement}
 use Rattle.derivation_check.specs.VerdictView.{the_verdict}
-use Rattle.derivation_check.proofs.Accepting.{accepted-valid, only-one}
+use Rattle.derivation_check.proofs.Accepting.{only-one}
 use Rattle.derivation_check.proofs.judgement.check.Goals as goal
 
 pub returns-clause-judgement : goal.returns-clause-judgement
@@ -24,4 +24,4 @@ pub returns-in_err-verdict-clause-sound : goal.returns-in_err-verdict-clause-sou
 returns-in_err-verdict-clause-sound c = sound c.args.problem.now c.judgement_of.ensures.well
 
 pub returns-clause-valid : goal.returns-clause-valid
-returns-clause-valid c e = accepted-valid c.args.problem.now c.judgement_of.ensures.well c.args.bytes.now (subst (λ v. IsVersionJudgement c.args.problem.now c.args.bytes.now (the_verdict v)) e c.in_ok-verdict.ensures.judgement)
+returns-clause-valid c e = accepted-true c.args.problem.now c.judgement_of.ensures.well c.args.bytes.now (subst (λ v. IsVersionJudgement c.args.problem.now c.args.bytes.now (the_verdict v)) e c.in_ok-verdict.ensures.judgement)
