@@ -1,6 +1,9 @@
 -- What the fetches of a library answered, and the files that agree with it.
-use Rattle.std.specs.Prelude.{◌≡◌, ◌<◌, ℕ, ⊤, List, [], ◌∷◌, ◌++◌, length, Option, Some, None, IfSome, IsSomeAnd, Result, Ok, Err, Vec}
+use Rattle.std.specs.Prelude.{◌≡◌, ◌≢◌, ◌⊎◌, ◌<◌, ℕ, ⊤, List, [], ◌∷◌, ◌++◌, length, Option, Some, None, IfSome, IsSomeAnd, Result, Ok, Err, Vec}
 use Rattle.std.specs.declared.alloc.Global.{Global}
+use Rattle.std.specs.declared.io.ErrorKind.{ErrorKind}
+use Rattle.std.specs.declared.io.ErrorKind.TheVariants as kind
+use Rattle.std.specs.Str.{IsUtf8}
 use Rattle.cop_base.specs.declared.library.FetchFault.{FetchFault}
 use Rattle.cop_base.specs.declared.library.FetchFault.TheVariants as fault
 use Rattle.cop_base.specs.Outside.{Files, file_in}
@@ -64,11 +67,13 @@ abbrev pub EndsWith : List Read → List ℕ → Answer → Type 0
 EndsWith [] name answer = ⊥
 EndsWith (r ∷ reads) name answer = r ≡ read name answer
 
--- the bytes, or that they are more than so many, are those of an opened reader, where it tells what
--- it has left
-abbrev pub IsReadFrom : {File : Type 0} → (File → Option (List ℕ)) → (File → Type 0) → ℕ → Result (Vec ℕ Global) FetchFault → Type 0
-IsReadFrom {File = File} remaining opened limit (Ok bytes) = (file : File) × opened file × IfSome (remaining file) (λ all. bytes.items ≡ all)
-IsReadFrom remaining opened limit (Err fault.Missing) = ⊤
-IsReadFrom remaining opened limit (Err fault.Failed) = ⊤
-IsReadFrom {File = File} remaining opened limit (Err fault.TooLarge) = (file : File) × opened file × IfSome (remaining file) (λ all. limit < length all)
-IsReadFrom remaining opened limit (Err fault.NoMemory) = ⊤
+-- The bytes, or that they are more than so many, are those of an opened reader, where it tells what it has left. A file is missing
+-- whose opening was refused as that of one which is not there, or whose name is no path, which is UTF-8; reading fails where the opening
+-- was refused for another reason, or a reader was opened, which tells nothing of a read that fails
+abbrev pub IsReadFrom : {File : Type 0} → (File → Option (List ℕ)) → (File → Type 0) → (ErrorKind → Type 0) → List ℕ → ℕ → Result (Vec ℕ Global) FetchFault → Type 0
+IsReadFrom {File = File} remaining opened refused name limit (Ok bytes) = (file : File) × opened file × IfSome (remaining file) (λ all. bytes.items ≡ all)
+IsReadFrom remaining opened refused name limit (Err fault.Missing) = (¬ IsUtf8 name) ⊎ refused kind.NotFound
+IsReadFrom {File = File} remaining opened refused name limit (Err fault.Failed) =
+    ((why : ErrorKind) × (why ≢ kind.NotFound) × refused why) ⊎ ((file : File) × opened file)
+IsReadFrom {File = File} remaining opened refused name limit (Err fault.TooLarge) = (file : File) × opened file × IfSome (remaining file) (λ all. limit < length all)
+IsReadFrom remaining opened refused name limit (Err fault.NoMemory) = ⊤

@@ -2,7 +2,9 @@
 //! answer by answer.
 
 ghost use Rattle.std.specs.Prelude.{◌≡◌, ◌≢◌, ◌+◌, ◌<◌, ◌≤◌, ℕ, List, [], None, IfOk, IfSome};
-ghost use Rattle.std.specs.Prelude.{Option, IsSomeAnd, length, vec_len};
+ghost use Rattle.std.specs.Prelude.{Option, IfErr, IsSomeAnd, length, vec_len};
+ghost use Rattle.std.specs.IoError.{error_kind};
+ghost use Rattle.std.specs.declared.io.ErrorKind.{ErrorKind as Kind};
 ghost use Rattle.cop_base.specs.Outside as tree;
 ghost use Rattle.cop_base.specs.Outside.{Rose};
 ghost use Rattle.cop_base.specs.Reads.{AgreesSince, Answers, IsReadFrom, ReadsOn, answered};
@@ -22,16 +24,22 @@ pub trait Open {
     // which files may be opened by a path, where the bytes of the path are told
     ghost opens: { Self → List ℕ → Self.File → Type 0 };
 
+    // why the opening of a path may be refused, where that is told
+    ghost refuses: { Self → List ℕ → Kind → Type 0 };
+
     /// Opens the file of this path to read it.
     fn open(&self, path: &str) -> io::Result<Self::File>
-        ensures { IfOk result (λ file. opens self.now path.now file) };
+        ensures opened { IfOk result (λ file. opens self.now path.now file) }
+        ensures refused { IfErr result (λ e. refuses self.now path.now (error_kind e)) };
 }
 
-/// The runtime tells nothing of what it opens.
+/// The runtime tells nothing of what it opens or refuses.
 impl<R: Files> Open for R {
     type File = R::File;
 
     ghost opens = { λ _ _ _. Unit {0} };
+
+    ghost refuses = { λ _ _ _. Unit {0} };
 
     fn open(&self, path: &str) -> io::Result<R::File> {
         fs::open(self, path)
@@ -66,7 +74,8 @@ impl<'a, R: Open> FileLibrary<'a, R> {
 }
 
 fn read_fault(error: &io::Error) -> FetchFault
-    ensures { result ≢ FetchFault.TooLarge }
+    ensures limited { result ≢ FetchFault.TooLarge }
+    ensures missing { result ≢ FetchFault.Missing }
 {
     match error.kind() {
         ErrorKind::OutOfMemory => FetchFault::NoMemory,
@@ -75,7 +84,9 @@ fn read_fault(error: &io::Error) -> FetchFault
 }
 
 fn open_fault(error: &io::Error) -> FetchFault
-    ensures { result ≢ FetchFault.TooLarge }
+    ensures limited { result ≢ FetchFault.TooLarge }
+    ensures missing { result ≡ FetchFault.Missing → error_kind error.now ≡ ErrorKind.NotFound }
+    ensures failed { result ≡ FetchFault.Failed → error_kind error.now ≢ ErrorKind.NotFound }
 {
     match error.kind() {
         ErrorKind::NotFound => FetchFault::Missing,
@@ -109,7 +120,8 @@ fn read_file<R: Open>(
 ) -> Result<Vec<u8>, FetchFault>
     ensures within { IfOk result (λ bytes. vec_len bytes ≤ limit) }
     ensures limited { result ≡ Err FetchFault.TooLarge → limit ≢ u64.MAX }
-    ensures read { IsReadFrom R.File.remaining (R.opens runtime.now name.now) limit result }
+    ensures read { IsReadFrom R.File.remaining (R.opens runtime.now name.now)
+        (R.refuses runtime.now name.now) name.now limit result }
 {
     let Ok(path) = str::from_utf8(name.bytes()) else {
         return Err(FetchFault::Missing);
@@ -155,9 +167,9 @@ impl<'a, R: Open> Library for FileLibrary<'a, R> {
             → Answers (tree.file_in files name.now) limit result }
         ensures reads_on { ReadsOn None self.old.history.reads self.new.history.reads }
 
-        // The answer is what a reader had left that was opened by the name.
+        // The answer is what a reader had left that was opened by the name, or why there is none.
         ensures read { IsReadFrom R.File.remaining (R.opens self.old.runtime.now name.now)
-            limit result }
+            (R.refuses self.old.runtime.now name.now) name.now limit result }
     {
         let answer = read_file(self.alloc, self.runtime, name, limit);
         self.faults = faults_after(&answer, self.faults);

@@ -26,3 +26,7 @@ pub record WentOutInPieces (size : ℕ) (before after : List (List ℕ)) : Type 
   pub pieces : List (List ℕ)
   pub went_out : after ≡ pieces ++ before
   pub are_pieces : ArePieces size pieces
+
+-- there is a writer, and bytes of which it may take none
+abbrev pub MayRefuse : {W : Type 0} → (W → List ℕ → Type 0) → Type 0
+MayRefuse {W = W} refuses = (writer : W) × (rest : List ℕ) × refuses writer rest

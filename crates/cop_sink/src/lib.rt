@@ -7,4 +7,4 @@ mod writer;
 
 pub use record::PutRecord;
 pub use sink::{MemSink, PutFault, Sink};
-pub use writer::WriteSink;
+pub use writer::{Output, WriteSink};
