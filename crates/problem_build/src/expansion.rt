@@ -2,11 +2,12 @@
 
 ghost use Rattle.std.specs.Prelude.{◌≡◌, ◌≤◌, ◌+◌, length, map, reverse, IfOk, OnOk};
 ghost use Rattle.calculus.specs.Lists.{terms_tree};
+ghost use Rattle.calculus.specs.Syntax as tree;
 ghost use Rattle.formula_core.specs.FormulaView.{the_formula};
 ghost use Rattle.formula_core.specs.SymbolView.{the_symbol};
 ghost use Rattle.formula_core.specs.TermView.{the_term};
 ghost use Rattle.problem_build.specs.EqualityAxioms.{for_all_times};
-ghost use Rattle.problem_build.specs.Expansion.{binary_formula, closed, equality_atom, expanded, expanded_term, expanded_terms, joined_chain, number_of, place_of, same_name, true_formula};
+ghost use Rattle.problem_build.specs.Expansion.{argument_count, binary_formula, closed, equality_atom, expanded, expanded_term, expanded_terms, joined_chain, number_of, place_of, predicate_symbol, same_name, true_formula};
 ghost use Rattle.problem_build.specs.NameCount.{name_count, term_list_name_count, term_name_count};
 ghost use Rattle.problem_build.specs.Quantifying.{ex_times};
 ghost use Rattle.tptp_reader.specs.Lists.{terms_tree as source_terms};
@@ -128,8 +129,44 @@ fn equation(
 {
     let left = term_of(alloc, symbols, scope, left)?;
     let right = term_of(alloc, symbols, scope, right)?;
-    let atom = equality_atom(alloc, symbols, left, right)?;
-    Ok(atom)
+    equality_atom(alloc, symbols, left, right)
+}
+
+// The negation of an equation.
+fn unequal(
+    alloc: Global,
+    symbols: &Symbols,
+    scope: &[Text],
+    left: &SourceTerm,
+    right: &SourceTerm,
+) -> Result<Formula, NoMemory>
+    requires scope { length scope.now ≤ 4294967295 }
+    requires names { term_name_count (the_source_term left.now) + term_name_count (the_source_term right.now) ≤ 4294967295 }
+    ensures { IfOk result (λ f. the_formula f ≡ tree.neg (equality_atom symbols.now
+        (expanded_term symbols.now (reverse scope.now) (the_source_term left.now))
+        (expanded_term symbols.now (reverse scope.now) (the_source_term right.now)))) }
+{
+    let equal = equation(alloc, symbols, scope, left, right)?;
+    Formula::not(alloc, equal)
+}
+
+fn atom(
+    alloc: Global,
+    symbols: &Symbols,
+    scope: &[Text],
+    name: &Text,
+    args: &SourceTerms,
+) -> Result<Formula, NoMemory>
+    requires scope { length scope.now ≤ 4294967295 }
+    requires names { term_list_name_count args.now ≤ 4294967295 }
+    ensures { IfOk result (λ f. the_formula f
+        ≡ tree.atom (number_of symbols.now (predicate_symbol name.now (argument_count (source_terms args.now))))
+        (expanded_terms symbols.now (reverse scope.now) (source_terms args.now))) }
+{
+    let symbol = predicate_symbol(alloc, name, args)?;
+    let number = number_of(symbols, &symbol);
+    let terms = terms_of(alloc, symbols, scope, args)?;
+    Ok(Formula::Atom(number, terms))
 }
 
 fn true_formula(alloc: Global, symbols: &Symbols) -> Result<Formula, NoMemory>
@@ -139,20 +176,32 @@ fn true_formula(alloc: Global, symbols: &Symbols) -> Result<Formula, NoMemory>
     let number = number_of(symbols, &truth);
     let left = Formula::Atom(number, Terms::new(alloc));
     let right = Formula::Atom(number, Terms::new(alloc));
-    let formula = Formula::imp(alloc, left, right)?;
-    Ok(formula)
+    Formula::imp(alloc, left, right)
+}
+
+fn false_formula(alloc: Global, symbols: &Symbols) -> Result<Formula, NoMemory>
+    ensures { IfOk result (λ f. the_formula f ≡ tree.neg (true_formula symbols.now)) }
+{
+    let truth = true_formula(alloc, symbols)?;
+    Formula::not(alloc, truth)
+}
+
+// The implication between copies of both.
+fn implication(alloc: Global, a: &Formula, b: &Formula) -> Result<Formula, NoMemory>
+    ensures { IfOk result (λ f. the_formula f ≡ tree.imp (the_formula a.now) (the_formula b.now)) }
+{
+    let given = a.copy(alloc)?;
+    let shown = b.copy(alloc)?;
+    Formula::imp(alloc, given, shown)
 }
 
 // Both implications.
 fn equivalence(alloc: Global, a: Formula, b: Formula) -> Result<Formula, NoMemory>
     ensures { IfOk result (λ f. the_formula f ≡ binary_formula BinaryKind.Iff (the_formula a) (the_formula b)) }
 {
-    let a_again = a.copy(alloc)?;
-    let b_again = b.copy(alloc)?;
+    let back = implication(alloc, &b, &a)?;
     let forth = Formula::imp(alloc, a, b)?;
-    let back = Formula::imp(alloc, b_again, a_again)?;
-    let both = Formula::and(alloc, forth, back)?;
-    Ok(both)
+    Formula::and(alloc, forth, back)
 }
 
 fn binary_formula(
@@ -235,50 +284,27 @@ fn expand(
         ≡ expanded symbols.now (reverse scope.old.items) (the_source source.now)) }
 {
     match source {
-        Source::Atom(p, args) => {
-            let symbol = predicate_symbol(alloc, p, args)?;
-            let number = number_of(symbols, &symbol);
-            let terms = terms_of(alloc, symbols, scope, args)?;
-            Ok(Formula::Atom(number, terms))
-        }
-        Source::True => {
-            let truth = true_formula(alloc, symbols)?;
-            Ok(truth)
-        }
-        Source::False => {
-            let truth = true_formula(alloc, symbols)?;
-            let formula = Formula::not(alloc, truth)?;
-            Ok(formula)
-        }
-        Source::Equal(s, t) => {
-            let formula = equation(alloc, symbols, scope, s, t)?;
-            Ok(formula)
-        }
-        Source::Unequal(s, t) => {
-            let atom = equation(alloc, symbols, scope, s, t)?;
-            let formula = Formula::not(alloc, atom)?;
-            Ok(formula)
-        }
+        Source::Atom(p, args) => atom(alloc, symbols, scope, p, args),
+        Source::True => true_formula(alloc, symbols),
+        Source::False => false_formula(alloc, symbols),
+        Source::Equal(s, t) => equation(alloc, symbols, scope, s, t),
+        Source::Unequal(s, t) => unequal(alloc, symbols, scope, s, t),
         Source::Not(a) => {
             let inner = expand(alloc, symbols, scope, a.get())?;
-            let formula = Formula::not(alloc, inner)?;
-            Ok(formula)
+            Formula::not(alloc, inner)
         }
         Source::Nec(a) => {
             let inner = expand(alloc, symbols, scope, a.get())?;
-            let formula = Formula::nec(alloc, inner)?;
-            Ok(formula)
+            Formula::nec(alloc, inner)
         }
         Source::Poss(a) => {
             let inner = expand(alloc, symbols, scope, a.get())?;
-            let formula = Formula::poss(alloc, inner)?;
-            Ok(formula)
+            Formula::poss(alloc, inner)
         }
         Source::Binary(kind, a, b) => {
             let left = expand(alloc, symbols, scope, a.get())?;
             let right = expand(alloc, symbols, scope, b.get())?;
-            let formula = binary_formula(alloc, *kind, left, right)?;
-            Ok(formula)
+            binary_formula(alloc, *kind, left, right)
         }
         Source::Chain(kind, units) => {
             let mut formulas = Vec::new(alloc);
