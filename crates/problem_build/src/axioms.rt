@@ -2,11 +2,14 @@
 
 ghost use Rattle.std.specs.Prelude.{◌≡◌, ◌+◌, ◌<◌, ◌≤◌, ◌++◌, ◌∷◌, [], ℕ, List, None, true, length, map, option_map, IfOk, IsTrue, OnOk};
 ghost use Rattle.std.specs.List.{list_all};
+ghost use Rattle.calculus.specs.Lists.{terms_tree};
 ghost use Rattle.calculus.specs.Syntax as tree;
 ghost use Rattle.formula_core.specs.FormulaView.{the_formula};
+ghost use Rattle.formula_core.specs.TermView.{the_term};
 ghost use Rattle.problem_build.specs.Measuring.{congruence_of, flat_nodes, listed_axiom, measured};
 ghost use Rattle.problem_build.specs.NameCount.{is_narrow};
-ghost use Rattle.problem_build.specs.EqualityAxioms.{congruence_of_function, congruence_of_predicate, equal_arguments, equality_axioms, equations, for_each, function_axiom, left_variables, predicate_axiom, reflexivity, right_variables, symmetry, transitivity, variables};
+ghost use Rattle.problem_build.specs.Expansion.{equality_atom};
+ghost use Rattle.problem_build.specs.EqualityAxioms.{congruence_of_function, congruence_of_predicate, equal_arguments, equality_axioms, equations, for_all_times, for_each, function_axiom, left_variables, predicate_axiom, reflexivity, right_variables, symmetry, transitivity, variables};
 
 use crate::counts::sum;
 use crate::expansion::{all_times, equality_atom, joined_chain};
@@ -97,6 +100,67 @@ fn equations(alloc: Global, symbols: &Symbols, count: u32) -> Result<Vec<Formula
     Ok(made)
 }
 
+// What is given and what follows from it, for all arguments on both sides.
+fn congruent(alloc: Global, count: u32, given: Formula, shown: Formula) -> Result<Formula, NoMemory>
+    requires { count + count ≤ 4294967295 }
+    ensures { IfOk result (λ a. the_formula a
+        ≡ for_all_times (count + count) (tree.imp (the_formula given) (the_formula shown))) }
+{
+    let body = Formula::imp(alloc, given, shown)?;
+    all_times(alloc, (count + count) as usize, body)
+}
+
+// The function of so many variables; `inside` quantifiers stand inside of theirs.
+fn value(alloc: Global, f: SymbolId, inside: u32, count: u32) -> Result<Term, NoMemory>
+    requires { inside + count ≤ 4294967295 }
+    ensures { IfOk result (λ t. the_term t ≡ tree.fun f.0 (terms_tree (variables inside count))) }
+{
+    let args = variables(alloc, inside, count)?;
+    Ok(Term::Fun(f, args))
+}
+
+// The equation of the function's values on both sides.
+fn equal_values(
+    alloc: Global,
+    symbols: &Symbols,
+    f: SymbolId,
+    count: u32,
+) -> Result<Formula, NoMemory>
+    requires { count + count ≤ 4294967295 }
+    ensures { IfOk result (λ a. the_formula a ≡ equality_atom symbols.now
+        (tree.fun f.0 (terms_tree (left_variables count))) (tree.fun f.0 (terms_tree (right_variables count)))) }
+{
+    let left = value(alloc, f, count, count)?;
+    let right = value(alloc, f, 0, count)?;
+    equality_atom(alloc, symbols, left, right)
+}
+
+// The predicate of so many variables; `inside` quantifiers stand inside of theirs.
+fn held(alloc: Global, p: SymbolId, inside: u32, count: u32) -> Result<Formula, NoMemory>
+    requires { inside + count ≤ 4294967295 }
+    ensures { IfOk result (λ a. the_formula a ≡ tree.atom p.0 (terms_tree (variables inside count))) }
+{
+    let args = variables(alloc, inside, count)?;
+    Ok(Formula::Atom(p, args))
+}
+
+// The arguments are equal, and the predicate holds of those on the left.
+fn held_of_equal(
+    alloc: Global,
+    symbols: &Symbols,
+    p: SymbolId,
+    count: u32,
+) -> Result<Formula, NoMemory>
+    requires some { 1 ≤ count }
+    requires within { count + count ≤ 4294967295 }
+    ensures { IfOk result (λ a. the_formula a ≡ tree.conj (equal_arguments symbols.now count)
+        (tree.atom p.0 (terms_tree (left_variables count)))) }
+{
+    let equal = equal_arguments(alloc, symbols, count)?;
+    let held = held(alloc, p, count, count)?;
+    Formula::and(alloc, equal, held)
+}
+
 pub fn function_axiom(
     alloc: Global,
     symbols: &Symbols,
@@ -108,14 +172,8 @@ pub fn function_axiom(
     ensures { IfOk result (λ a. the_formula a ≡ function_axiom symbols.now f.0 count) }
 {
     let equal = equal_arguments(alloc, symbols, count)?;
-    let given = variables(alloc, count, count)?;
-    let others = variables(alloc, 0, count)?;
-    let left = Term::Fun(f, given);
-    let right = Term::Fun(f, others);
-    let values = equality_atom(alloc, symbols, left, right)?;
-    let body = Formula::imp(alloc, equal, values)?;
-    let formula = all_times(alloc, (count + count) as usize, body)?;
-    Ok(formula)
+    let values = equal_values(alloc, symbols, f, count)?;
+    congruent(alloc, count, equal, values)
 }
 
 pub fn predicate_axiom(
@@ -128,15 +186,9 @@ pub fn predicate_axiom(
     requires within { count + count ≤ 4294967295 }
     ensures { IfOk result (λ a. the_formula a ≡ predicate_axiom symbols.now p.0 count) }
 {
-    let equal = equal_arguments(alloc, symbols, count)?;
-    let given = variables(alloc, count, count)?;
-    let others = variables(alloc, 0, count)?;
-    let left = Formula::Atom(p, given);
-    let right = Formula::Atom(p, others);
-    let both = Formula::and(alloc, equal, left)?;
-    let body = Formula::imp(alloc, both, right)?;
-    let formula = all_times(alloc, (count + count) as usize, body)?;
-    Ok(formula)
+    let given = held_of_equal(alloc, symbols, p, count)?;
+    let held = held(alloc, p, 0, count)?;
+    congruent(alloc, count, given, held)
 }
 
 // The axiom for the symbol of this number, where it is a function symbol with arguments.
