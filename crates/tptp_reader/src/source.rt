@@ -227,17 +227,24 @@ impl SourceList {
         }
     }
 
-    pub fn push(&mut self, item: Source) -> Result<(), NoMemory>
-        ensures ok { OnOk result (self.new ≡ self.old ++ the_source item ∷ []) }
-        ensures err { OnErr result (self.new ≡ self.old) }
+    // Room for one more. Most chains have two formulas, and few have more than four.
+    fn make_room(&mut self) -> Result<(), NoMemory>
+        ensures { self.new ≡ self.old }
     {
-        // Most chains have two formulas, and few have more than four.
         let len = self.items.as_slice().len();
         if len == 0 {
             self.items.reserve_exact(2)?;
         } else if len < 4 {
             self.items.reserve_exact(1)?;
         }
+        Ok(())
+    }
+
+    pub fn push(&mut self, item: Source) -> Result<(), NoMemory>
+        ensures ok { OnOk result (self.new ≡ self.old ++ the_source item ∷ []) }
+        ensures err { OnErr result (self.new ≡ self.old) }
+    {
+        self.make_room()?;
         self.items.push(item)?;
         Ok(())
     }
