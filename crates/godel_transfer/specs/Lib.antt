@@ -1,5 +1,7 @@
 -- the size of a translation
 pub mod TranslationMeasures
+-- a translated formula by the connective over its parts
+pub mod TranslationParts
 -- the steps that a derivation becomes
 pub mod Transfer
 -- the same by the way of the code

@@ -6,6 +6,7 @@ ghost use Rattle.calculus.specs.Measures.{nesting, node_count};
 ghost use Rattle.calculus.specs.Translation.{translated_problem, translation_of};
 ghost use Rattle.formula_core.specs.FormulaView.{the_formula};
 ghost use Rattle.formula_core.specs.SymbolView.{the_symbol};
+ghost use Rattle.godel_transfer.specs.TranslationParts.{over_part, over_parts};
 ghost use Rattle.godel_transfer.specs.declared.fault.TransferFault.TheVariants as fault;
 
 use crate::fault::TransferFault;
@@ -15,36 +16,56 @@ use formula_core::{AddFault, Formula, Symbol, Symbols};
 use logic_rules::{Domains, Logic, Problem, Setting};
 use std::alloc::{AllocError, Global};
 
+// The connective of `f` over another part, with its box. An atom or a formula of two parts has none
+// to be exchanged.
+fn over_part(alloc: Global, f: &Formula, part: Formula) -> Result<Formula, NoMemory>
+    ensures { IfOk result (λ g. the_formula g ≡ over_part (the_formula f.now) (the_formula part)) }
+{
+    match f {
+        Formula::Not(_) => Formula::nec(alloc, Formula::not(alloc, part)?),
+        Formula::All(_) => Formula::nec(alloc, Formula::all(alloc, part)?),
+        Formula::Ex(_) => Formula::ex(alloc, part),
+        Formula::Nec(_) => Formula::nec(alloc, part),
+        Formula::Poss(_) => Formula::poss(alloc, part),
+        Formula::Atom(_, _) | Formula::And(_, _) | Formula::Or(_, _) | Formula::Imp(_, _) => {
+            Ok(part)
+        }
+    }
+}
+
+// The connective of `f` over two other parts, with its box, where it has two.
+fn over_parts(alloc: Global, f: &Formula, a: Formula, b: Formula) -> Result<Formula, NoMemory>
+    ensures { IfOk result (λ g. the_formula g
+        ≡ over_parts (the_formula f.now) (the_formula a) (the_formula b)) }
+{
+    match f {
+        Formula::And(_, _) => Formula::and(alloc, a, b),
+        Formula::Or(_, _) => Formula::or(alloc, a, b),
+        Formula::Imp(_, _) => Formula::nec(alloc, Formula::imp(alloc, a, b)?),
+        Formula::Atom(_, _)
+        | Formula::Not(_)
+        | Formula::All(_)
+        | Formula::Ex(_)
+        | Formula::Nec(_)
+        | Formula::Poss(_) => Ok(a),
+    }
+}
+
 // A box before an atom, a negation, an implication and a universal quantifier.
 fn translation_of(alloc: Global, f: &Formula) -> Result<Formula, NoMemory>
     ensures { IfOk result (λ g. the_formula g ≡ translation_of (the_formula f.now)) }
 {
     match f {
         Formula::Atom(_, _) => Formula::nec(alloc, f.copy(alloc)?),
-        Formula::Not(a) => {
-            let part = translation_of(alloc, a)?;
-            Formula::nec(alloc, Formula::not(alloc, part)?)
-        }
-        Formula::All(a) => {
-            let part = translation_of(alloc, a)?;
-            Formula::nec(alloc, Formula::all(alloc, part)?)
-        }
-        Formula::Imp(a, b) => {
+        Formula::And(a, b) | Formula::Or(a, b) | Formula::Imp(a, b) => {
             let left = translation_of(alloc, a)?;
             let right = translation_of(alloc, b)?;
-            Formula::nec(alloc, Formula::imp(alloc, left, right)?)
+            over_parts(alloc, f, left, right)
         }
-        Formula::And(a, b) => {
-            let left = translation_of(alloc, a)?;
-            Formula::and(alloc, left, translation_of(alloc, b)?)
+        Formula::Not(a) | Formula::All(a) | Formula::Ex(a) | Formula::Nec(a) | Formula::Poss(a) => {
+            let part = translation_of(alloc, a)?;
+            over_part(alloc, f, part)
         }
-        Formula::Or(a, b) => {
-            let left = translation_of(alloc, a)?;
-            Formula::or(alloc, left, translation_of(alloc, b)?)
-        }
-        Formula::Ex(a) => Formula::ex(alloc, translation_of(alloc, a)?),
-        Formula::Nec(a) => Formula::nec(alloc, translation_of(alloc, a)?),
-        Formula::Poss(a) => Formula::poss(alloc, translation_of(alloc, a)?),
     }
 }
 
