@@ -21,15 +21,15 @@ use Rattle.calculus.proofs.SoundnessLaws.{fits-problem}
 
 -- ---- the structure
 
-abbrev meaning_by : Bool → SymbolClass → Meaning
+abbrev pub meaning_by : Bool → SymbolClass → Meaning
 meaning_by b Function = value_table (0 ∷ [])
 meaning_by b _ = truth_tables ((b ∷ []) ∷ [])
 
-abbrev meanings_by : (ℕ → Bool) → ℕ → List Symbol → List Meaning
+abbrev pub meanings_by : (ℕ → Bool) → ℕ → List Symbol → List Meaning
 meanings_by v k [] = []
 meanings_by v k (s ∷ ss) = meaning_by (v k) s.class ∷ meanings_by v (suc k) ss
 
-abbrev structure_by : (ℕ → Bool) → Problem → Structure
+abbrev pub structure_by : (ℕ → Bool) → Problem → Structure
 structure_by v P = record { elements = 1; successors = (0 ∷ []) ∷ []; domains = (0 ∷ []) ∷ []; meanings = meanings_by v 0 P.symbols }
 
 -- ---- it is one of the setting
@@ -93,7 +93,7 @@ domains-by v P Constant = refl
 domains-by v P Cumulative = refl
 domains-by v P Varying = refl
 
-structure-by : (v : ℕ → Bool) (P : Problem) → P.setting.logic ≡ Classical → is_structure P (structure_by v P) ≡ true
+pub structure-by : (v : ℕ → Bool) (P : Problem) → P.setting.logic ≡ Classical → is_structure P (structure_by v P) ≡ true
 structure-by v P classical =
     let S = structure_by v P in
     rw (classical, tables-by v P 0 P.symbols, domains-by v P P.setting.domains, functions-by v P 0 P.symbols) refl
@@ -113,7 +113,7 @@ symbol-truth v k (s ∷ ss) (suc p) h =
     let place : suc k + p ≡ k + suc p = omega arith in
     symbol-truth v (suc k) ss p h ∙ ap v place
 
-truth-by : (v : ℕ → Bool) (P : Problem) (a : Formula) → is_propositional a ≡ true → formula_fits Classical P.symbols 0 a ≡ true → is_true_at Classical (structure_by v P) a [] 0 ≡ truth_value v a
+pub truth-by : (v : ℕ → Bool) (P : Problem) (a : Formula) → is_propositional a ≡ true → formula_fits Classical P.symbols 0 a ≡ true → is_true_at Classical (structure_by v P) a [] 0 ≡ truth_value v a
 truth-by v P (atom p no_terms) h fits =
     let place : 0 + p ≡ p = omega arith in
     symbol-truth v 0 P.symbols p (and_parts (has_predicate P.symbols p 0) true fits).0 ∙ ap v place

@@ -7,7 +7,6 @@ pub mod PropositionalLaws
 -- propositional logic is decided
 pub mod DecisionLaws
 -- and the other way it has a finite structure that refutes it
-pub mod TruthTables
 pub mod StructureLaws
 -- problems whose ground terms are finitely many
 pub mod RangeLaws

@@ -6,7 +6,7 @@ use Rattle.calculus.specs.Problems.{formula_fits, is_problem}
 use Rattle.calculus.specs.Propositional.{IsPropositional}
 use Rattle.calculus.specs.Structures.{is_true_at}
 use Rattle.calculus.proofs.SoundnessLaws.{fits-problem}
-use Rattle.decision_theory.proofs.TruthTables.{structure_by, structure-by, truth-by}
+use Rattle.calculus.proofs.TautologyLaws.{structure_by, structure-by, truth-by}
 use Rattle.decision_theory.specs.Decision.{IsRefuted, HasCounterexample}
 
 pub counterexample_where_refuted : (P : Problem) → IsTrue (is_problem P) → IsPropositional P → IsRefuted P → HasCounterexample P

@@ -26,10 +26,8 @@ use Rattle.calculus.specs.DerivationText.{term_arg_is_written, modal_is_written,
 use Rattle.calculus.specs.Text.{is_number}
 use Rattle.calculus.specs.Judgement.{accepted}
 use Rattle.calculus.specs.VersionJudgement.{IsVersionJudgement}
-use Rattle.calculus.specs.Versions.{is_printable_in, is_count, numbering}
-use Rattle.calculus.specs.declared.version.Version.{Version}
-use Rattle.calculus.specs.declared.version.Version.TheVariants.{One, Two}
 use Rattle.calculus.specs.Calculus.{Children, closed, one, two, eigen_named, spare_named, holds_character, is_in_home, is_eigen, character_occurs, eigen_occurs, modal_fits, term_fits, has_step, label_after, is_reachable, character_is_new, eigen_is_new, children_of, conditions_of_use, is_atom, connects, entry_of, use_entry, close_branch, apply, Closes, leaf, single, fork, Derives}
+use Rattle.calculus.proofs.SoundnessLaws.{printable-plain}
 use Rattle.calculus.proofs.EqualityLaws.{mark_eq-tells, sign_eq-tells, formula_eq-tells, list_eq-tells, character_eq-tells, grounds_eq-tells, label_eq-tells, nat_eq-tells}
 use Rattle.calculus.proofs.InstanceLaws.{root-stands}
 use Rattle.calculus.proofs.SpotLaws.{proper-marks, all-append, mark-proper}
@@ -401,12 +399,8 @@ derived-closes P problem d printable derives = let s = derived-spans P problem d
 
 -- ---- and so has what is accepted
 
-printable-one : (P : Problem) (v : Version) (d : Derivation) → IsTrue (is_printable_in v P d) → IsTrue (is_printable P d)
-printable-one P One d h = h
-printable-one P Two d h = (and_parts (is_printable P d) (is_count (length (numbering d).labels) && is_count (length (numbering d).terms)) h).0
-
 pub accepted-closes : (P : Problem) → IsTrue (is_problem P) → (bytes : List ℕ) → IsVersionJudgement P bytes accepted → (e : ℕ) × HasClosed P e
-accepted-closes P problem bytes judged = derived-closes P problem judged.derivation (printable-one P judged.version judged.derivation judged.text.printable) judged.derives
+accepted-closes P problem bytes judged = derived-closes P problem judged.derivation (printable-plain judged.version P judged.derivation judged.text.printable) judged.derives
 
 -- where no tableau is closed within any limit, no bytes are accepted as a derivation, in either version of the text
 pub none-accepted : (P : Problem) → IsTrue (is_problem P) → ((e : ℕ) → HasClosed P e → ⊥) → (bytes : List ℕ) → IsVersionJudgement P bytes accepted → ⊥
