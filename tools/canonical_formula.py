@@ -198,21 +198,30 @@ def text(f, env):
     return "(%s %s %s)" % (text(f[1], env), {"equal": "=", "and": "&", "or": "|", "imp": "=>"}[kind], text(f[2], env))
 
 
-def formula_of(file, root, logic):
+def parts_of(file, root, logic):
+    """The premises and the conjecture of a problem, each with its name; an axiom of equality has none, and there may be no conjecture."""
     premises, conjecture, functions, predicates = [], None, {}, {}
     equations = False
-    for _, _, role, formula in passing(file, root, []):
+    for _, name, role, formula in passing(file, root, []):
         equations |= symbols(formula, functions, predicates)
         if role == "conjecture":
-            conjecture = formula
+            conjecture = (name, formula)
         else:
-            premises.append(formula)
+            premises.append((name, formula))
     if equations and logic in ("classical", "intuitionistic"):
-        premises = [*equality_axioms(functions, predicates), *premises]
+        premises = [*((None, axiom) for axiom in equality_axioms(functions, predicates)), *premises]
+    return premises, conjecture
+
+
+def joined_formula(premises, conjecture):
     if not premises:
-        return text(conjecture, {None: 0})
-    given = balanced("and", premises)
-    return text(("not", given) if conjecture is None else ("imp", given, conjecture), {None: 0})
+        return conjecture[1]
+    given = balanced("and", [formula for _, formula in premises])
+    return ("not", given) if conjecture is None else ("imp", given, conjecture[1])
+
+
+def formula_of(file, root, logic):
+    return text(joined_formula(*parts_of(file, root, logic)), {None: 0})
 
 
 def check(words, derivation):
@@ -223,24 +232,32 @@ def check(words, derivation):
     return told.stdout.decode("latin-1").strip(), told.returncode
 
 
-def main(words):
-    files, options = [w for w in words if not w.startswith("--")], [w for w in words if w.startswith("--")]
+def confirmed(file, options):
+    """The formula, where the program finds it to be that of the problem, or nothing; what the program said, and its exit status."""
     given = dict(w.split("=", 1) for w in options if "=" in w)
-    if len(files) != 1:
-        sys.exit(__doc__)
-    told, status = check(words, b"")  # the files hold a problem where only the derivation is wrong
+    told, status = check([file, *options], b"")  # the files hold a problem where only the derivation is wrong
     if told == "rejected at line 1: version":
         sys.setrecursionlimit(100000)
         logic, domains = given.get("--logic", "classical"), given.get("--domains", "constant")
-        formula = formula_of(files[0], given.get("--root"), logic).encode("latin-1")
+        formula = formula_of(file, given.get("--root"), logic).encode("latin-1")
         if logic not in ("classical", "intuitionistic"):
             logic += " constant" if (logic, domains) == ("s5", "cumulative") else " " + domains
-        told, status = check(words, b"leancop derivation 1\nlogic %s\nformula %s\nlimit 1\nend\n" % (logic.encode(), formula))
+        told, status = check([file, *options], b"leancop derivation 1\nlogic %s\nformula %s\nlimit 1\nend\n" % (logic.encode(), formula))
         if told == "rejected at line 5: still open":
-            sys.stdout.buffer.write(formula + b"\n")
-            return 0
-    print("canonical_formula.py: " + (told or "no answer"), file=sys.stderr)
-    return status or 70
+            return formula, told, 0
+    return None, told, status or 70
+
+
+def main(words):
+    files, options = [w for w in words if not w.startswith("--")], [w for w in words if w.startswith("--")]
+    if len(files) != 1:
+        sys.exit(__doc__)
+    formula, told, status = confirmed(files[0], options)
+    if formula is None:
+        print("canonical_formula.py: " + (told or "no answer"), file=sys.stderr)
+    else:
+        sys.stdout.buffer.write(formula + b"\n")
+    return status
 
 
 if __name__ == "__main__":
