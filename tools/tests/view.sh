@@ -1,6 +1,6 @@
 # shellcheck shell=bash disable=SC2154
-# tools/leancop-view: only what the program accepts is drawn, the text comes whole, and nothing of it runs. And the formula of a
-# problem, which a page of a structure shows.
+# tools/leancop-view: only what the program accepts is drawn, the text comes whole, and nothing of it runs; the page judges as the
+# program does. And the formula of a problem, which a page of a structure shows.
 
 # text_in PAGE: the text in a page, as a browser reads it
 text_in() {
@@ -32,8 +32,19 @@ refused 8 'leancop-view: rejected at line 3: formula' examples/even.p examples/d
 refused 8 'leancop-view: rejected at line 2: setting' --logic=t examples/modal/serial.p examples/modal/serial.txt
 refused 6 'leancop-view: missing: none.p' none.p examples/drinker.txt
 refused 8 'leancop-view: rejected at line 1: version' examples/even.p examples/even.p
-refused 6 'cat: none.txt: No such file or directory' examples/even.p none.txt
-refused 5 'leancop-view PROBLEM TEXT [--logic=L] [--domains=D] [--root=FOLDER] > page.html' examples/even.p
+refused 6 'leancop-view: none.txt: No such file or directory' examples/even.p none.txt
+refused 5 'leancop-view PROBLEM TEXT [--logic=L] [--domains=D] [--root=FOLDER] [--as=s4] [--name=NAME] > page.html' examples/even.p
+has 'leancop-view --help' "$(tools/leancop-view --help)" 'Prints a page for a browser'
+
+# The page has the names of the problem's file: its own, and those of premises (by position) and variables (in the order of quantifiers).
+told() { sed -n 's/^<pre id="told" hidden>\(.*\)<\/pre>$/\1/p'; }
+"$LEANCOP" prove examples/even.p >"$folder/even.txt"
+same 'names of a problem' "$(tools/leancop-view examples/even.p "$folder/even.txt" | told)" \
+    '{"problem": "even.p", "answer": "accepted", "variables": ["X"], "names": {"2": "start", "3": "step", "7": "two"}}'
+has 'a name that is given' "$(tools/leancop-view --name='a < b' examples/even.p "$folder/even.txt" | told)" '"problem": "a &lt; b"'
+printf 'fof(c,conjecture,p(\x27\xe9\x27) => p(\x27\xe9\x27)).\n' >"$folder/latin.p" # a byte that is no UTF-8
+"$LEANCOP" prove "$folder/latin.p" >"$folder/latin.txt"
+has 'a text that is no UTF-8' "$(tools/leancop-view "$folder/latin.p" "$folder/latin.txt")" "formula (p('é') =&gt; p('é'))"
 
 # The text is escaped, and the page's policy allows its own script alone, by the checksum.
 same 'hostile names are escaped' "$(sed -n '/^<pre id="given"/,/<\/pre>/p' "$folder/names.html" | grep -c '<script\|<img')" 0
@@ -57,23 +68,16 @@ has 'canonical_formula.py with all forms' "$(tools/canonical_formula.py "$folder
 got="$(tools/canonical_formula.py examples/modal/barcan.p 2>&1)"
 same 'canonical_formula.py in another logic' "$? $got" "4 canonical_formula.py: examples/modal/barcan.p:$("$LEANCOP" prove examples/modal/barcan.p | cut -d: -f2): wrong language"
 
-# Tableaux and version 2: where the program does not have their commands yet, a stand-in accepts them.
-# shellcheck disable=SC2016
-printf '%s\n' '#!/bin/sh' 'case $1 in' 'tcheck) echo accepted ;;' \
-    '*) if [ -f "$3" ] && [ "$(sed 1q "$3")" = "leancop derivation 2" ]; then echo accepted; else exec "$PROGRAM" "$@"; fi ;;' 'esac' >"$folder/later"
-chmod +x "$folder/later"
-export PROGRAM="$LEANCOP"
-later() { # later COMMAND: the program that has it
-    LEANCOP="$PROGRAM"
-    knows "$1" || LEANCOP="$folder/later"
-}
-later migrate
 viewed examples/drinker.p tools/tests/texts/drinker_two.txt
-later tcheck
 viewed examples/even.p tools/tests/texts/even_tableau.txt
-LEANCOP="$PROGRAM"
 
 # The structures of the gallery, by its table. The page judges them once more, by itself.
+# listed PROBLEM TEXT WORD..: a line of the list of texts for mutants.js, with the options that tell the problem
+listed() {
+    local problem="$1" text="$2"
+    shift 2
+    printf '%s\t%s\t%s\n' "$problem" "$(printf '%s\n' "$@" | grep -E '^--(logic|domains|root)=' | paste -sd ' ')" "$text" >>"$folder/gallery"
+}
 structures=0
 while IFS=$'\t' read -r _ _ words; do
     case "$words" in 'model '*) ;; *) continue ;; esac
@@ -82,39 +86,44 @@ while IFS=$'\t' read -r _ _ words; do
     tools/leancop-view "${list[@]: -2}" >"$folder/page.html"
     text_in "$folder/page.html" >"$folder/structure$structures.txt"
     has "the formula for ${list[-1]}" "$(tail -n 1 "$folder/structure$structures.txt")" 'formula '
+    listed "${list[-2]}" "$folder/structure$structures.txt" "${list[@]}"
 done <examples/expected.tsv
 
 if command -v node >/dev/null; then
     reads() { node tools/tests/page.js tools/leancop-view.html "$@"; }
+    # What prove and tableau print of the gallery.
     count=0
     while IFS=$'\t' read -r status _ words; do
         case "$status $words" in '0 prove'*) ;; *) continue ;; esac
         read -r -a list <<<"$words"
         count=$((count + 1))
-        "$LEANCOP" "${list[@]}" >"$folder/gallery$count.txt"
+        for form in 'prove --format=1' 'prove --format=2' tableau; do
+            text="$folder/gallery_${form: -1}$count.txt"
+            # shellcheck disable=SC2086
+            "$LEANCOP" $form "${list[@]:1}" >"$text"
+            [ "$(wc -l <"$text")" -gt 200 ] || listed "${list[-1]}" "$text" "${list[@]}"
+        done
     done <examples/expected.tsv
-    same 'closings of the gallery' "$(reads "$folder"/gallery*.txt)" "$(cat "$folder"/gallery*.txt | grep -c '^axiom')"
+    same 'closings of the gallery' "$(reads "$folder"/gallery_1*.txt)" "$(cat "$folder"/gallery_1*.txt | grep -c '^axiom')"
+    same 'closings of the gallery in version 2' "$(reads "$folder"/gallery_2*.txt)" "$(cat "$folder"/gallery_2*.txt | grep -c '^axiom')"
+    same 'closings of tableaux of the gallery' "$(reads "$folder"/gallery_u*.txt)" "$(cat "$folder"/gallery_u*.txt | grep -cE '^(reduce|extend)')"
     same 'closings of version 2' "$(reads tools/tests/texts/*_two.txt)" 2
     same 'closings of tableaux' "$(reads tools/tests/texts/*_tableau.txt)" 4
     same 'structures that refute' "$(reads "$folder"/structure*.txt)" "$structures"
-    # What later commands print of the gallery, where the program has them.
-    if knows tableau; then
-        count=0
-        while IFS=$'\t' read -r status _ words; do
-            case "$status $words" in '0 prove'*) ;; *) continue ;; esac
-            read -r -a list <<<"$words"
-            count=$((count + 1))
-            "$LEANCOP" tableau "${list[@]:1}" >"$folder/gallery_tableau$count.txt"
-            "$LEANCOP" prove --format=2 "${list[@]:1}" >"$folder/gallery_two$count.txt"
-        done <examples/expected.tsv
-        same 'closings of tableaux of the gallery' "$(reads "$folder"/gallery_tableau*.txt)" "$(cat "$folder"/gallery_tableau*.txt | grep -cE '^(reduce|extend)')"
-        same 'closings of the gallery in version 2' "$(reads "$folder"/gallery_two*.txt)" "$(cat "$folder"/gallery_two*.txt | grep -c '^axiom')"
-    else
-        skip 'the program prints no tableaux yet'
-    fi
-    # What is drawn of a text that a reader pastes, which nobody judged, has no element of the text.
-    sed '2s/$/ <img src=x>/' "$folder/names.txt" >"$folder/hostile.txt"
-    got="$(reads --draw "$folder/hostile.txt")"
+
+    # The page judges as the program does: a text that seems right, and many that are changed at random.
+    printf '%s\n' 'leancop derivation 1' 'logic classical' 'formula (p => q)' 'limit 1' 'use 1' 'axiom 2 3' end >"$folder/wrong.txt"
+    same 'a wrong derivation' "$(reads --verdict "$folder/wrong.txt")" 'rejected at line 6: no connection'
+    same 'texts that are changed' "$(node tools/tests/mutants.js tools/leancop-view.html 500 "$folder/gallery")" '500 alike, some accepted'
+
+    # What the page shows of a derivation without idle steps is a derivation.
+    "$LEANCOP" prove examples/pelletier46.p >"$folder/long.txt"
+    reads --trim "$folder/long.txt" >"$folder/trimmed.txt"
+    same 'a derivation without idle steps' "$("$LEANCOP" check examples/pelletier46.p "$folder/trimmed.txt")" accepted
+    same 'its steps' "$(grep -cE '^(use|axiom)' "$folder/trimmed.txt") of $(grep -cE '^(use|axiom)' "$folder/long.txt")" '59 of 735'
+
+    # What is drawn of a text that a reader pastes has no element of the text.
+    got="$(reads --draw "$folder/names.txt")"
     has 'a hostile text is drawn' "$got" '&lt;script&gt;'
     same 'elements of a hostile text' "$(grep -c '<script\|<img' <<<"$got")" 0
 else
@@ -127,8 +136,25 @@ if command -v chromium >/dev/null; then
     # What would stand in the page in spite of that does not run either.
     sed 's|<div id="page"></div>|&<script>document.title="script"</script><img src=x onerror="document.title=1">|' "$folder/names.html" >"$folder/broken.html"
     got="$(timeout 60 chromium --headless --no-sandbox --disable-gpu --virtual-time-budget=2000 --dump-dom "file://$folder/broken.html" 2>/dev/null)"
-    has 'what the policy of the page stops' "$got" '<title>leancop: a proof to look at</title>'
-    same 'scripts of a hostile text in a browser' "$(sed -n 's/.*<title>\(.*\)<\/title>.*/\1/p' "$folder/dom") $(grep -c '<img' "$folder/dom")" 'leancop: a proof to look at 0'
+    has 'what the policy of the page stops' "$got" '<title>names.p: a derivation</title>'
+    same 'scripts of a hostile text in a browser' "$(sed -n 's/.*<title>\(.*\)<\/title>.*/\1/p' "$folder/dom") $(grep -c '<img' "$folder/dom")" 'names.p: a derivation 0'
 else
     skip 'chromium is not here'
+fi
+
+# Pages as readers see them: on a desk and on a phone, light and dark, by keys, printed, in a frame.
+if command -v chromium >/dev/null && command -v node >/dev/null; then
+    mkdir "$folder/pages"
+    "$LEANCOP" prove examples/pigeonhole3.p >"$folder/pigeonhole3.txt"
+    tools/leancop-view examples/even.p "$folder/even.txt" >"$folder/pages/even.html"
+    tools/leancop-view examples/pigeonhole3.p "$folder/pigeonhole3.txt" >"$folder/pages/long.html"
+    tools/leancop-view examples/pelletier46.p "$folder/long.txt" >"$folder/pages/trimmed.html"
+    tools/leancop-view examples/modal/converse_barcan.p "$folder/d.txt" >"$folder/pages/worlds.html"
+    tools/leancop-view examples/drinker.p tools/tests/texts/drinker_tableau.txt >"$folder/pages/tableau.html"
+    tools/leancop-view examples/modal/barcan.p examples/structures/barcan.s4.cumulative.txt >"$folder/pages/structure.html"
+    got="$(timeout 300 node tools/tests/view_pages.js "$folder/pages" tools/leancop-view.html)"
+    same 'pages as readers see them' "${got//[0-9]/}" ' held'
+    has 'how many checks held' "$got" '130 held'
+else
+    skip 'chromium or node is not here'
 fi
