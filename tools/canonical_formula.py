@@ -198,21 +198,31 @@ def text(f, env):
     return "(%s %s %s)" % (text(f[1], env), {"equal": "=", "and": "&", "or": "|", "imp": "=>"}[kind], text(f[2], env))
 
 
-def formula_of(file, root, logic):
+def parts_of(file, root, logic):
+    """What the problem's formula is made of: the axioms of equality that it needs, the items that are premises, and the conjecture's
+    item or None."""
     premises, conjecture, functions, predicates = [], None, {}, {}
     equations = False
-    for _, _, role, formula in passing(file, root, []):
-        equations |= symbols(formula, functions, predicates)
-        if role == "conjecture":
-            conjecture = formula
+    for item in passing(file, root, []):
+        equations |= symbols(item[3], functions, predicates)
+        if item[2] == "conjecture":
+            conjecture = item
         else:
-            premises.append(formula)
-    if equations and logic in ("classical", "intuitionistic"):
-        premises = [*equality_axioms(functions, predicates), *premises]
-    if not premises:
-        return text(conjecture, {None: 0})
-    given = balanced("and", premises)
-    return text(("not", given) if conjecture is None else ("imp", given, conjecture), {None: 0})
+            premises.append(item)
+    needed = equations and logic in ("classical", "intuitionistic")
+    return list(equality_axioms(functions, predicates)) if needed else [], premises, conjecture
+
+
+def joined_parts(equality, premises, conjecture):
+    """The problem's formula."""
+    given = equality + [item[3] for item in premises]
+    if not given:
+        return conjecture[3]
+    return ("not", balanced("and", given)) if conjecture is None else ("imp", balanced("and", given), conjecture[3])
+
+
+def formula_of(file, root, logic):
+    return text(joined_parts(*parts_of(file, root, logic)), {None: 0})
 
 
 def check(words, derivation):

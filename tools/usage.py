@@ -139,6 +139,7 @@ def man(commands, options, statuses):
             ".TP", ".BI leancop\\-view \" PROBLEM TEXT\" \" > \" PAGE.html", "draws an accepted text as a page for a browser.",
             ".TP", ".BI leancop\\-szs \" PROBLEM\" \" [\\-\\-time=\" SECONDS ]", "tells the answer as an SZS status.",
             ".TP", ".BI leancop\\-coq \" PROBLEM DERIVATION\" \" > \" FILE.v", "prints an accepted derivation as a theorem of Coq with its proof.",
+            ".TP", ".BI leancop\\-tstp \" PROBLEM DERIVATION\" \" > \" FILE", "prints an accepted derivation of classical logic in TSTP.",
             ".PP", "They find the program by the environment variable LEANCOP, or by PATH."]
     return "\n".join(out) + "\n"
 

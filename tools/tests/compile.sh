@@ -1,6 +1,6 @@
 # shellcheck shell=bash disable=SC2154
 # Each script can be read by its language.
-for file in tools/*.py tools/leancop-coq bench/run.py examples/embed/check.py; do
+for file in tools/*.py tools/tests/*.py tools/leancop-coq tools/leancop-tstp bench/run.py examples/embed/check.py; do
     got="$(python3 -c 'import sys; compile(open(sys.argv[1]).read(), sys.argv[1], "exec")' "$file" 2>&1)"
     same "$file" "$got" ''
 done
