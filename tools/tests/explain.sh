@@ -21,8 +21,32 @@ wrong() {
 explained '' prove examples/even.p
 explained '' check examples/drinker.p examples/drinker.txt
 explained 'is missing' prove
-explained 'leancop check FILE DERIVATION' --help
-explained 'Word 3, --limit=0,' prove examples/even.p --limit=0
+explained 'check FILE DERIVATION' --help
+# A bad word has one cause, and the usage is that of its command where it helps.
+explained 'prove takes FILE' prove
+explained '--limit= and its value are one word, as in --limit=3.' prove examples/even.p --limit 3
+explained '--limit= is a number from 1 to 200' prove examples/even.p --limit=0
+explained '--limit= stands twice, as word 3' prove examples/even.p --limit=1 --limit=2
+explained '--logic=S4 is written --logic=s4' prove examples/even.p --logic=S4
+explained '--logic=intuitionist is written --logic=intuitionistic' prove examples/even.p --logic=intuitionist
+explained 'is one of classical, intuitionistic, d, t, s4, s5' prove examples/even.p --logic=K
+explained 'Is --logic=s4 meant?' prove examples/even.p --logik=s4
+explained 'check has no option --limit=; prove, make, tableau have it' check examples/drinker.p examples/drinker.txt --limit=3
+explained 'is one operand too many: prove takes FILE' prove examples/even.p examples/drinker.p
+explained 'a logic is named by --logic=s4' prove examples/even.p s4
+explained 'needs --logic=intuitionistic' check examples/drinker.p examples/drinker.txt --as=s4
+explained 'N is a number from 1 to 150' make chain 151
+explained 'FAMILY is one of chain, shift, tower' make ring 3
+explained 'a family of a modal logic' make tower 3
+explained 'Is prove meant?' Prove examples/even.p
+explained 'as in leancop prove examples/even.p' examples/even.p
+same 'the usage of one command' "$(tools/leancop-explain check 2>&1 >/dev/null </dev/null | grep -c 'leancop ')" 1
+same 'no usage with a cause' "$(tools/leancop-explain make chain 151 2>&1 >/dev/null </dev/null | wc -l)" 1
+"$LEANCOP" tableau examples/even.p >"$folder/t.txt"
+explained 'tcheck judges it' check examples/even.p "$folder/t.txt"
+explained 'check judges it' tcheck examples/drinker.p examples/drinker.txt
+explained 'model tells' check examples/drinker.p examples/structures/drinker.txt
+explained 'This is a problem' check examples/even.p examples/even.p
 explained 'needs a modal logic' prove examples/even.p --domains=varying
 explained 'There is no file none.p' prove none.p
 explained '/dev/stdin' prove -
