@@ -68,7 +68,7 @@ mark="line 2, column 24:
       fof(c,conjecture,p & q | r).
                              ^
   There is no precedence"
-wrong 'p & q | r' "$mark"
+wrong 'p & q | r' "$mark" # and the formula in TPTP behind it
 wrong 'p => q => p' 'There is no precedence'
 wrong 'P => P' 'is a variable, and no predicate'
 wrong 'P(a)' 'is a variable, and no predicate'
@@ -83,6 +83,31 @@ wrong 'p))' 'one closing bracket too many'
 wrong 'p(1)' 'are no terms here'
 # shellcheck disable=SC2016
 wrong '$$p' '$true and $false'
+# The same formula in TPTP, where it can be read, and none where it cannot in one way.
+if command -v python3 >/dev/null; then
+    wrong 'p -> p' 'fof(c,conjecture,p => p).'
+    wrong '∀x p(x)' 'fof(c,conjecture,![X]: p(X)).'
+    wrong '∀x. p(x) → ∃y. q(x,y)' 'fof(c,conjecture,![X]: (p(X) => ?[Y]: q(X,Y))).'
+    wrong '[]p' 'with a modal logic (--logic=d, t, s4 or s5): qmf(c,conjecture,#box:p).'
+    wrong 'p & q | r' 'fof(c,conjecture,(p & q) | r).'
+    wrong 'p => q => r' 'fof(c,conjecture,p => (q => r)).'
+    wrong 'P & Q -> R' 'fof(c,conjecture,(p & q) => r).'
+    wrong 'P(a) /\ ~Q' 'fof(c,conjecture,p(a) & ~q).'
+    for formula in 'P & p => p' 'p q' 'forall x. x' 'p -> '; do
+        printf 'fof(c,conjecture,%s).\n' "$formula" >"$folder/m.p"
+        tools/leancop-explain prove "$folder/m.p" >/dev/null 2>"$folder/said"
+        same "no other reading of $formula" "$(grep -c 'As the program reads it' "$folder/said")" 0
+    done
+    printf 'qmf(c,conjecture,[](p -> q) -> <>p).\n' >"$folder/m.p"
+    explained 'reads it: qmf(c,conjecture,#box:(p => q) => #dia:p).' prove --logic=s4 "$folder/m.p"
+    printf 'P -> P\n' >"$folder/m.p"
+    explained 'fof(c,conjecture,p => p).' prove "$folder/m.p"
+    printf "fof(a,axiom,q). %% all\\nfof(b,axiom,r).\n  fof('a b',hypothesis,\n  p & q -> r).\nfof(c,conjecture,r).\n" >"$folder/m.p"
+    explained "fof('a b',hypothesis,(p & q) => r)." prove "$folder/m.p"
+    same 'formula_in_tptp.py --help' "$(tools/formula_in_tptp.py --help | sed -n 1p)" 'formula_in_tptp.py FILE OFFSET [--logic=L]'
+else
+    skip 'python3 is not here'
+fi
 printf 'fof(c,conjecture,p)' >"$folder/m.p"
 explained 'The text ends here' prove "$folder/m.p"
 printf 'fof(a,axiom,p)\nfof(c,conjecture,p).' >"$folder/m.p"
