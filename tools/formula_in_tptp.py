@@ -186,7 +186,7 @@ def item_round(text: str, offset: int) -> tuple[str, str, str]:
 
 def is_read(item: str, logic: str) -> bool:
     beside = os.path.join(os.path.dirname(os.path.realpath(__file__)), "../leancop")
-    program = os.environ.get("LEANCOP") or (beside if os.path.exists(beside) else "leancop")
+    program = os.environ.get("LEANCOP") or (beside if os.path.isfile(beside) else "leancop")
     with tempfile.NamedTemporaryFile("w", suffix=".p") as problem:
         problem.write(item + "\n")
         problem.flush()

@@ -4,7 +4,7 @@ for file in tools/*.py tools/tests/*.py tools/leancop-coq tools/leancop-tstp ben
     got="$(python3 -c 'import sys; compile(open(sys.argv[1]).read(), sys.argv[1], "exec")' "$file" 2>&1)"
     same "$file" "$got" ''
 done
-for file in tools/leancop-explain tools/leancop-szs tools/leancop-view tools/starexec_run_default tools/make-deb leancop .ci/tools .ci/library; do
+for file in tools/leancop-explain tools/leancop-szs tools/leancop-view tools/starexec_run_default tools/make-deb tools/make-release tools/leancop-installed leancop .ci/tools .ci/library; do
     interpreter="$(sed -n '1s/^#!//p' "$file")"
     read -r -a command <<<"$interpreter"
     same "$file" "$("${command[@]}" -n "$file" 2>&1)" ''

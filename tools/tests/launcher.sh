@@ -11,15 +11,6 @@ touch "$checkout/crates.txt" "$checkout/HANDLES"
 cp "$LEANCOP" "$checkout/crates/leancop/out/leancop"
 touch "$checkout/crates/leancop/out/launcher.stamp"
 
-# at_prompt WORD..: runs the words as the leader of a terminal's session, and prints what the terminal shows and the exit status
-at_prompt() {
-    LEANCOP='' python3 -c 'import os, pty, sys
-def show(fd):
-    data = os.read(fd, 65536)
-    return data
-status = pty.spawn(sys.argv[1:], show)
-print("status", os.waitstatus_to_exitcode(status))' "$@" </dev/null
-}
 has 'leancop at a prompt' "$(at_prompt "$checkout/leancop" prove none.p)" 'There is no file none.p'
 has 'its status' "$(at_prompt "$checkout/leancop" prove none.p)" 'status 6'
 same 'leancop called by a program at a terminal' "$(at_prompt sh -c '"$0" prove none.p; exit $?' "$checkout/leancop" | tr -d '\r' | tr '\n' ' ')" 'missing: none.p status 6 '
