@@ -169,7 +169,7 @@ def man(commands, operands, options, statuses):
             "leancop prove \\-\\-root=$HOME/TPTP $HOME/TPTP/Problems/GRP/GRP001\\-1.p", ".EE", ".SH COMPANIONS",
             ".TP", ".BI leancop\\-explain \" WORD ...\"", "runs the program, and says on standard error what its answer means.",
             ".TP", ".BI leancop\\-view \" PROBLEM TEXT\" \" > \" PAGE.html", "draws an accepted text as a page for a browser.",
-            ".TP", ".BI leancop\\-szs \" PROBLEM\" \" [\\-\\-time=\" SECONDS ]", "tells the answer as an SZS status.",
+            ".TP", ".BI leancop\\-szs \" PROBLEM\" \" [\\-\\-time=\" SECONDS \"] [\\-\\-schedule]\"", "tells the answer as an SZS status.",
             ".TP", ".BI leancop\\-coq \" PROBLEM DERIVATION\" \" > \" FILE.v", "prints an accepted derivation as a theorem of Coq with its proof.",
             ".TP", ".BI leancop\\-tstp \" PROBLEM DERIVATION\" \" > \" FILE", "prints an accepted derivation of classical logic in TSTP.",
             ".PP", "They find the program by the environment variable LEANCOP, or by PATH."]
