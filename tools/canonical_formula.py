@@ -199,30 +199,29 @@ def text(f, env):
 
 
 def parts_of(file, root, logic):
-    """What the problem's formula is made of: the axioms of equality that it needs, the items that are premises, and the conjecture's
-    item or None."""
+    """The premises and the conjecture of a problem, each with its name; an axiom of equality has none, and there may be no conjecture."""
     premises, conjecture, functions, predicates = [], None, {}, {}
     equations = False
-    for item in passing(file, root, []):
-        equations |= symbols(item[3], functions, predicates)
-        if item[2] == "conjecture":
-            conjecture = item
+    for _, name, role, formula in passing(file, root, []):
+        equations |= symbols(formula, functions, predicates)
+        if role == "conjecture":
+            conjecture = (name, formula)
         else:
-            premises.append(item)
-    needed = equations and logic in ("classical", "intuitionistic")
-    return list(equality_axioms(functions, predicates)) if needed else [], premises, conjecture
+            premises.append((name, formula))
+    if equations and logic in ("classical", "intuitionistic"):
+        premises = [*((None, axiom) for axiom in equality_axioms(functions, predicates)), *premises]
+    return premises, conjecture
 
 
-def joined_parts(equality, premises, conjecture):
-    """The problem's formula."""
-    given = equality + [item[3] for item in premises]
-    if not given:
-        return conjecture[3]
-    return ("not", balanced("and", given)) if conjecture is None else ("imp", balanced("and", given), conjecture[3])
+def joined_formula(premises, conjecture):
+    if not premises:
+        return conjecture[1]
+    given = balanced("and", [formula for _, formula in premises])
+    return ("not", given) if conjecture is None else ("imp", given, conjecture[1])
 
 
 def formula_of(file, root, logic):
-    return text(joined_parts(*parts_of(file, root, logic)), {None: 0})
+    return text(joined_formula(*parts_of(file, root, logic)), {None: 0})
 
 
 def check(words, derivation):
