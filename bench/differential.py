@@ -3,8 +3,8 @@
 
 Random formulas in each logic and with each domain condition, given to `leancop prove` and to the search for a structure that refutes. It is
 a fault where a formula has a derivation and a structure, where `leancop model` or the judge of tools/refutation/words.py does not find a
-structure's formula false, where the derivation is not accepted, or where a random structure refutes what the search said that no structure
-of this size does. Told, and no fault: `no tableau` where no structure of up to four worlds and four elements was found. --keep= gets the
+structure's formula false, where the derivation is not accepted, or where a structure was missed: a random one refutes what the search said
+that none of this size does, or a greater size has none. Told, and no fault: `no tableau` where no structure of up to four worlds and four elements was found. --keep= gets the
 problems of both kinds. Prints a table by logic. Ends with 1 where there is a fault, and with 77 where no solver is here.
 
 LEANCOP names the program; without it, it is that of this checkout."""
@@ -22,7 +22,7 @@ sys.dont_write_bytecode = True
 sys.path.insert(0, os.path.join(os.path.dirname(os.path.realpath(__file__)), "../tools"))
 from refutation import program, words  # noqa: E402
 from refutation.formulas import EQUALITY, Problem, Symbol  # noqa: E402
-from refutation.search import Bounds, Search  # noqa: E402
+from refutation.search import Bounds, Found, Search  # noqa: E402
 from refutation.solver import find_solver  # noqa: E402
 
 LOGICS = ["classical", "intuitionistic", "d", "t", "s4", "s5"]
@@ -194,7 +194,14 @@ class Trial:
         self.counts[logic]["refuted"] += 1
         if derived:
             self.fault(logic, "a derivation and a structure", text, problem.setting)
-        for structure in (found.text, search.smaller(found).text):
+        structures = [found.text, search.smaller(found).text]
+        size = self.chance.choice(search.sizes())
+        other = search.attempt(size, SECONDS)
+        if isinstance(other, Found):
+            structures.append(other.text)
+        elif other is False and search.covers(size, found.size):
+            self.fault(logic, f"a structure was missed, {size}", text, problem.setting)
+        for structure in dict.fromkeys(structures):
             if question.judged(structure) != "false at the root":
                 self.fault(logic, "the program does not find it false", text, problem.setting)
             if not is_false(problem, words.Finite.read(structure)):
