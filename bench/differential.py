@@ -30,6 +30,7 @@ DOMAINS = ["constant", "cumulative", "varying"]
 GREATEST = 4  # worlds and elements
 SECONDS = 4.0  # for a search for a structure
 STEPS = "--steps=3000"
+COLUMNS = ["formulas", "derived", "refuted", "no tableau and no structure", "out of time", "fault"]
 RANDOM_STRUCTURES = 60
 
 
@@ -232,13 +233,14 @@ def main(arguments: list[str]) -> int:
         print(f"differential.py: {answer.said}")
         return 77
     end = time.monotonic() + float(options.get("--time", "60"))
-    with tempfile.TemporaryDirectory() as folder:
-        while time.monotonic() < end:
-            trial.one(os.path.join(folder, "m.p"))
-    columns = ["formulas", "derived", "refuted", "no tableau and no structure", "out of time", "fault"]
-    print("\t".join(["logic", *columns]))
-    for logic, count in trial.counts.items():
-        print("\t".join([logic, *(str(count[column]) for column in columns)]))
+    try:
+        with tempfile.TemporaryDirectory() as folder:
+            while time.monotonic() < end:
+                trial.one(os.path.join(folder, "m.p"))
+    finally:  # also where it is ended
+        print("\t".join(["logic", *COLUMNS]))
+        for logic, count in trial.counts.items():
+            print("\t".join([logic, *(str(count[column]) for column in COLUMNS)]))
     return 1 if trial.faults else 0
 
 
