@@ -183,7 +183,7 @@ class Trial:
         found = search.run()
         proved = question.ask("prove", "--limit=4", STEPS, seconds=2.0)
         derived = proved is not None and proved.status == 0
-        if derived:
+        if proved is not None and derived:
             self.counts[logic]["derived"] += 1
             if not question.accepts(proved.output):
                 self.fault(logic, "a derivation is not accepted", text, problem.setting)

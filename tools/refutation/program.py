@@ -49,7 +49,17 @@ def end_with_children() -> None:
     """Where this process is asked to end, what it runs ends too."""
     for number in (signal.SIGHUP, signal.SIGINT, signal.SIGTERM):
         signal.signal(number, stop)
-    signal.signal(signal.SIGPIPE, signal.SIG_DFL)
+
+
+def put(output: bytes) -> bool:
+    """Writes all to standard output, and tells whether that went well."""
+    try:
+        sys.stdout.buffer.write(output)
+        sys.stdout.flush()
+    except OSError:
+        os.dup2(os.open(os.devnull, os.O_WRONLY), sys.stdout.fileno())  # so that the end of the run says nothing more
+        return False
+    return True
 
 
 def find_program() -> str:

@@ -3,7 +3,7 @@ from __future__ import annotations
 
 import itertools
 import time
-from collections.abc import Callable, Sequence
+from collections.abc import Callable, Iterator, Sequence
 
 import canonical_formula as canonical
 
@@ -43,7 +43,7 @@ class Structure:
         self.constant = problem.domains == "constant" or worlds == 1
         self.last = T  # the greatest variable
         self.clauses: list[int] = [T, 0]  # each ends with 0
-        self.count = 1
+        self.count, self.ticks = 1, 0
         self.contradiction = False  # an empty clause
         self.tables: dict[Symbol, Table] = {}
         self.values: dict[tuple[Symbol, Elements], Elements] = {}
@@ -57,6 +57,9 @@ class Structure:
         return self.last
 
     def add(self, *literals: int) -> None:
+        self.ticks += 1
+        if self.ticks % 4096 == 0 and time.monotonic() > self.deadline:
+            raise Late
         if T in literals:
             return
         if F in literals:
@@ -67,8 +70,6 @@ class Structure:
         self.clauses += literals
         self.clauses.append(0)
         self.count += 1
-        if self.count % 4096 == 0 and time.monotonic() > self.deadline:
-            raise Late
 
     # ---- worlds
 
@@ -193,17 +194,20 @@ class Structure:
         if len(self.elements) < 3 or not self.named:
             return
         used = [T if d == 0 else F for d in self.elements]
-        steps: list[tuple[int | None, Elements]] = [(None, found) for found in self.named[1:]]
-        for m in self.elements:
-            for function in self.problem.functions:
-                for arguments in itertools.product(range(m + 1), repeat=function[1]) if function[1] else ():
-                    if max(arguments) == m and (function, arguments) in self.values:
-                        steps.append((m, self.values[function, arguments]))
-        for argument, found in steps[:6 * len(self.elements)]:
+        for argument, found in itertools.islice(self.named_in_order(), 6 * len(self.elements)):
             if argument is not None:
                 for d in self.elements[2:]:
                     self.add(-used[argument], -found[d], used[d - 1])
             used = [self.either(x, y) for x, y in zip(used, found)]
+
+    def named_in_order(self) -> Iterator[tuple[int | None, Elements]]:
+        """Constants, and the values of functions, each with the greatest of its arguments."""
+        yield from ((None, found) for found in self.named[1:])
+        for m in self.elements:
+            for function in self.problem.functions:
+                for arguments in itertools.product(range(m + 1), repeat=function[1]) if function[1] else ():
+                    if max(arguments) == m and (function, arguments) in self.values:
+                        yield m, self.values[function, arguments]
 
     def either(self, x: int, y: int) -> int:
         if T in (x, y):
@@ -253,7 +257,7 @@ class Structure:
                 row.append(str(names.get(next(d for d, x in enumerate(found) if holds(x)), 1)))
             lines.append(" ".join(["function", canonical_name(name), str(arity), *row]))
         for predicate in problem.predicates:
-            known = self.tables.get(predicate, {})
+            known: dict[Elements, list[int]] = self.tables.get(predicate, {})
             for w in self.worlds:
                 bits = ""
                 for arguments in itertools.product(there, repeat=predicate[1]):

@@ -10,6 +10,7 @@ import canonical_formula as canonical
 from .formulas import Formula, collect, parts_of
 
 LONGEST = 90  # characters of a formula that are shown
+MOST_PARTS = 2_000  # of a formula that is written out
 MOST_LOOKS = 2_000_000
 MOST_ALIKE = 4  # reasons for one thing of which all are shown
 Elements = tuple[int, ...]
@@ -154,8 +155,18 @@ def written(name: str | None) -> str:
     return canonical.text(("atom", name, ()), {})
 
 
+def size(f: Formula, known: dict[int, int]) -> int:
+    """How many parts a formula has; those that it has in several places count at each."""
+    if id(f) not in known:
+        known[id(f)] = 1 + sum(size(part, known) for part in parts_of(f))
+    return known[id(f)]
+
+
 def show(seen: Seen) -> str:
     """The formula with elements for its free variables."""
+    parts = size(seen.formula, {})
+    if parts > MOST_PARTS:
+        return f"a formula of {parts:,} parts"
     text = canonical.text(seen.formula, {None: 0, **{name: str(d) for name, d in seen.environment.items()}})
     text = text.replace("($$o => $$o)", "$true")
     if len(text) > LONGEST:

@@ -132,8 +132,9 @@ ended 'leancop-szs of a theorem' 0 tools/leancop-szs examples/even.p
 ended 'leancop-szs where no finite structure refutes' 2 tools/leancop-szs --logic=intuitionistic examples/intuitionistic/double_negation_shift.p
 has 'its status' "$(cat "$folder/out")" '% SZS status GaveUp for double_negation_shift.p'
 
-# Why, in words.
+# Why, as a page and in words.
 tools/leancop-refute --logic=intuitionistic examples/intuitionistic/peirce.p >"$folder/s.txt" 2>/dev/null
+has 'the page of what was found' "$(tools/leancop-view examples/intuitionistic/peirce.p "$folder/s.txt")" 'predicate p 0 2 1'
 ended 'explain a structure' 9 tools/leancop-explain model --logic=intuitionistic examples/intuitionistic/peirce.p "$folder/s.txt"
 has 'the reason' "$(cat "$folder/said")" 'at world 1 p => q does not hold, since at world 2 p holds and q does not'
 while IFS=$'\t' read -r _ _ words; do
