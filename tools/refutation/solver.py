@@ -5,7 +5,6 @@ import os
 import shutil
 import tempfile
 import time
-from collections.abc import Sequence
 
 from .program import Answer, Ended, run
 from .structures import Structure, T
@@ -28,8 +27,8 @@ def find_solver(named: str | None) -> str:
     raise Answer(70, f"no SAT solver is here: install one of the Debian packages {', '.join(SOLVERS[:3])} or cryptominisat")
 
 
-def dimacs(clauses: Sequence[int]) -> str:
-    return " ".join(map(str, clauses)).replace(" 0 ", " 0\n") + "\n"
+def dimacs(clauses: list[int]) -> str:
+    return str(clauses)[1:-1].replace(",", "").replace(" 0 ", " 0\n") + "\n"  # faster than a number at a time
 
 
 class Solver:

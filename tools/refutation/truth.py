@@ -283,7 +283,15 @@ class Refutation(Structure):
         own = self.places_of(self.nodes[number])
         if own is None:
             choose = chosen(places)
-            return lambda values: self.literal(number, choose(values), w, sign) * sign
+            known: dict[Elements, int] = {}
+
+            def read(values: Elements) -> int:
+                slots = choose(values)
+                if slots not in known:
+                    known[slots] = self.literal(number, slots, w, sign) * sign
+                return known[slots]
+
+            return read
         choose = chosen(tuple(places[i] for i in own))
         table = self.table((self.nodes[number][1], len(own)))
         if sign == 1:
