@@ -2,11 +2,11 @@
 # tools/leancop-refute, leancop-decide, and what leancop-szs and leancop-explain say of structures: what is printed the program judges to
 # be false, and each formula of the gallery without a proof is refuted within two seconds, save the one that no finite structure refutes.
 
-# ended WHAT STATUS WORD..: the words end so; the output stands in $folder/out, standard error in $folder/said
+# ended WHAT STATUS WORD..: the words end so; the output stands in $folder/answer, standard error in $folder/said
 ended() {
     local what="$1" wanted="$2"
     shift 2
-    "$@" >"$folder/out" 2>"$folder/said" </dev/null
+    "$@" >"$folder/answer" 2>"$folder/said" </dev/null
     same "$what" "$?" "$wanted"
 }
 here() { for solver in cadical minisat picosat cryptominisat5; do command -v "$solver"; done; }
@@ -18,7 +18,7 @@ ln -s "$(command -v env)" "$folder/few/env"
 ended 'refute without a solver' 70 env PATH="$folder/few" tools/leancop-refute examples/quantifiers.p
 has 'what is said without a solver' "$(cat "$folder/said")" 'leancop-refute: no SAT solver is here'
 ended 'decide without a solver' 2 env PATH="$folder/few" tools/leancop-decide examples/quantifiers.p
-same 'what decide prints without a solver' "$(cat "$folder/out")" 'no tableau at limit 1'
+same 'what decide prints without a solver' "$(cat "$folder/answer")" 'no tableau at limit 1'
 cp -R tools "$folder/checkout/tools"
 # shellcheck disable=SC2016
 printf '#!/bin/sh\ntouch "$0.ran"\n' >"$folder/checkout/leancop"
@@ -48,7 +48,7 @@ while IFS=$'\t' read -r _ _ words; do
         ended "refute ${asked[*]}" 2 tools/leancop-refute --time=2 "${asked[@]}" ;;
     *)
         ended "refute ${asked[*]}" 0 tools/leancop-refute --time=2 "${asked[@]}"
-        same "the structure for ${asked[*]}" "$("$LEANCOP" model "${asked[@]}" "$folder/out")" 'false at the root'
+        same "the structure for ${asked[*]}" "$("$LEANCOP" model "${asked[@]}" "$folder/answer")" 'false at the root'
         ;;
     esac
 done < <(grep "^[12]	" examples/expected.tsv)
@@ -56,7 +56,7 @@ done < <(grep "^[12]	" examples/expected.tsv)
 # What is no theorem has no derivation, and what has one no structure.
 ended 'refute a theorem' 2 tools/leancop-refute examples/even.p
 has 'what is said of a theorem' "$(cat "$folder/said")" 'derives the formula'
-same 'no structure of a theorem' "$(cat "$folder/out")" ''
+same 'no structure of a theorem' "$(cat "$folder/answer")" ''
 ended 'refute a missing file' 6 tools/leancop-refute none.p
 same 'the missing file' "$(cat "$folder/said")" 'leancop-refute: missing: none.p'
 ended 'refute without --root=' 6 tools/leancop-refute examples/order.p
@@ -69,7 +69,7 @@ done
 printf '%s\n' "fof(a,axiom,![X]:('a b'(X,X) | f(X) = 'c\\\\d'))." >"$folder/inside.ax"
 printf '%s\n' "include('inside.ax'). fof(c,conjecture, ?[X]: ~ 'a b'(f(X),X))." >"$folder/m.p"
 ended 'refute with an include' 0 tools/leancop-refute "--root=$folder" "$folder/m.p"
-same 'its structure' "$("$LEANCOP" model "--root=$folder" "$folder/m.p" "$folder/out")" 'false at the root'
+same 'its structure' "$("$LEANCOP" model "--root=$folder" "$folder/m.p" "$folder/answer")" 'false at the root'
 got="$(tools/leancop-refute /dev/stdin <examples/quantifiers.p 2>"$folder/said")"
 same 'refute a pipe' "$(printf '%s\n' "$got" | "$LEANCOP" model examples/quantifiers.p /dev/stdin)" 'false at the root'
 got="$(echo 'p q' | tools/leancop-refute /dev/stdin 2>&1)"
@@ -86,13 +86,13 @@ printf '%s\n' '#!/bin/sh' 'if [ "$1" = model ]; then echo "true at the root"; el
 chmod +x "$folder/other"
 export PROGRAM="$LEANCOP"
 LEANCOP="$folder/other" ended 'a program that does not agree' 70 tools/leancop-refute examples/quantifiers.p
-same 'what is printed then' "$(cat "$folder/out")" ''
+same 'what is printed then' "$(cat "$folder/answer")" ''
 
 # The first answer of the two, and what is known where there is none.
 ended 'decide a theorem' 0 tools/leancop-decide examples/even.p
-same 'its derivation' "$("$LEANCOP" check examples/even.p "$folder/out")" accepted
+same 'its derivation' "$("$LEANCOP" check examples/even.p "$folder/answer")" accepted
 ended 'decide no theorem' 9 tools/leancop-decide --logic=intuitionistic examples/intuitionistic/peirce.p
-same 'its structure' "$("$LEANCOP" model --logic=intuitionistic examples/intuitionistic/peirce.p "$folder/out")" 'false at the root'
+same 'its structure' "$("$LEANCOP" model --logic=intuitionistic examples/intuitionistic/peirce.p "$folder/answer")" 'false at the root'
 ended 'decide what no finite structure refutes' 2 tools/leancop-decide --logic=intuitionistic examples/intuitionistic/double_negation_shift.p
 has 'what is known of it' "$(cat "$folder/said")" 'instances of the double negation shift'
 ended 'decide where the time ends' 124 tools/leancop-decide --time=1 --steps=1099511627776 bench/problems/fam/set_distr.p
@@ -115,8 +115,8 @@ refuted() { # refuted SZS PROBLEM WORD..
     local szs="$1" problem="$2"
     shift 2
     ended "leancop-szs $problem $*" 9 tools/leancop-szs "$problem" "$@"
-    same "the status of $problem $*" "$(head -n 1 "$folder/out")" "% SZS status $szs for ${problem##*/}"
-    sed '1,/^% SZS output start FiniteModel/d; /^% SZS output end FiniteModel/,$d' "$folder/out" >"$folder/s.txt"
+    same "the status of $problem $*" "$(head -n 1 "$folder/answer")" "% SZS status $szs for ${problem##*/}"
+    sed '1,/^% SZS output start FiniteModel/d; /^% SZS output end FiniteModel/,$d' "$folder/answer" >"$folder/s.txt"
     same "the structure of $problem $*" "$("$LEANCOP" model "$problem" "$folder/s.txt" "$@")" 'false at the root'
 }
 printf 'fof(a,axiom,![X]: (p(X) | q)). fof(b,axiom,~ q).\n' >"$folder/f.p"
@@ -130,7 +130,7 @@ refuted Satisfiable "$folder/f.p" --logic=intuitionistic
 for logic in d t s4 s5; do refuted Satisfiable "$folder/q.p" "--logic=$logic" --domains=varying; done
 ended 'leancop-szs of a theorem' 0 tools/leancop-szs examples/even.p
 ended 'leancop-szs where no finite structure refutes' 2 tools/leancop-szs --logic=intuitionistic examples/intuitionistic/double_negation_shift.p
-has 'its status' "$(cat "$folder/out")" '% SZS status GaveUp for double_negation_shift.p'
+has 'its status' "$(cat "$folder/answer")" '% SZS status GaveUp for double_negation_shift.p'
 
 # Why, as a page and in words.
 tools/leancop-refute --logic=intuitionistic examples/intuitionistic/peirce.p >"$folder/s.txt" 2>/dev/null
