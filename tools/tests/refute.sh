@@ -12,22 +12,22 @@ ended() {
 here() { for solver in cadical minisat picosat cryptominisat5; do command -v "$solver"; done; }
 
 # Without a solver, and without a program: one line, and no build.
-mkdir "$folder/few" "$folder/checkout" "$folder/checkout/crates" "$folder/checkout/crates/leancop"
+mkdir "$folder/few" "$folder/unbuilt" "$folder/unbuilt/crates" "$folder/unbuilt/crates/leancop"
 ln -s "$(python3 -c 'import sys; print(sys.executable)')" "$folder/few/python3"
 ln -s "$(command -v env)" "$folder/few/env"
 ended 'refute without a solver' 70 env PATH="$folder/few" tools/leancop-refute examples/quantifiers.p
 has 'what is said without a solver' "$(cat "$folder/said")" 'leancop-refute: no SAT solver is here'
 ended 'decide without a solver' 2 env PATH="$folder/few" tools/leancop-decide examples/quantifiers.p
 same 'what decide prints without a solver' "$(cat "$folder/answer")" 'no tableau at limit 1'
-cp -R tools "$folder/checkout/tools"
+cp -R tools "$folder/unbuilt/tools"
 # shellcheck disable=SC2016
-printf '#!/bin/sh\ntouch "$0.ran"\n' >"$folder/checkout/leancop"
-chmod +x "$folder/checkout/leancop"
+printf '#!/bin/sh\ntouch "$0.ran"\n' >"$folder/unbuilt/leancop"
+chmod +x "$folder/unbuilt/leancop"
 for command in leancop-refute leancop-decide; do
-    ended "$command that is not built" 70 env LEANCOP='' "$folder/checkout/tools/$command" examples/quantifiers.p
+    ended "$command that is not built" 70 env LEANCOP='' "$folder/unbuilt/tools/$command" examples/quantifiers.p
     same "what $command says" "$(cat "$folder/said")" "$command: the program is not built: run ./leancop once, or name it by LEANCOP"
 done
-same 'the launcher was not asked' "$([ -e "$folder/checkout/leancop.ran" ] || echo no)" no
+same 'the launcher was not asked' "$([ -e "$folder/unbuilt/leancop.ran" ] || echo no)" no
 ended 'refute --help' 0 tools/leancop-refute --help
 ended 'decide --help' 0 tools/leancop-decide --help
 ended 'refute with a bad word' 5 tools/leancop-refute examples/quantifiers.p --worlds-max=0
