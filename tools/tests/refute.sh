@@ -143,5 +143,14 @@ while IFS=$'\t' read -r _ _ words; do
 done < <(grep "^9	" examples/expected.tsv)
 ended 'no reason where it is true' 1 tools/structure_in_words.py examples/first.p "$folder/s.txt"
 
-# Random formulas, for some seconds.
+# Random formulas, for some seconds; and programs that are false, which are found out.
 ended 'bench/differential.py' 0 bench/differential.py --time=15 --seed="$(date +%j)"
+# shellcheck disable=SC2016
+printf '%s\n' '#!/bin/sh' 'case $1 in prove | check) echo accepted ;; *) exec "$PROGRAM" "$@" ;; esac' >"$folder/other"
+LEANCOP="$folder/other" ended 'bench/differential.py with a program that derives all' 1 bench/differential.py --time=2 --keep="$folder/kept_formulas"
+has 'what it finds' "$(cat "$folder/answer")" 'a derivation and a structure'
+same 'what it keeps' "$([ -n "$(ls "$folder/kept_formulas")" ] || echo nothing)" ''
+# shellcheck disable=SC2016
+printf '%s\n' '#!/bin/sh' 'if [ "$1" = model ]; then echo "true at the root"; else exec "$PROGRAM" "$@"; fi' >"$folder/other"
+LEANCOP="$folder/other" ended 'bench/differential.py with a program that calls all true' 1 bench/differential.py --time=2
+has 'what it finds of that' "$(cat "$folder/answer")" 'the program does not find it false'
