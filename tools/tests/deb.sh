@@ -24,7 +24,10 @@ if command -v dpkg-deb >/dev/null; then
     has 'leancop-tstp of the package' "$(installed leancop-tstp examples/drinker.p examples/drinker.txt)" 'fof(drinker_proved,theorem,'
     has 'leancop-view of the package' "$(installed leancop-view examples/drinker.p examples/drinker.txt)" 'use 1 term '
     has 'leancop-coq of the package' "$(installed leancop-coq examples/drinker.p examples/drinker.txt)" 'Theorem the_problem'
-    for name in leancop leancop-szs leancop-view; do
+    has 'leancop-refute of the package' "$(installed leancop-refute examples/even.p 2>&1)" 'leancop-refute: no '
+    same 'leancop-decide of the package' "$(installed leancop-decide examples/first.p | sed -n 1p)" 'leancop derivation 1'
+    has 'a structure explained by the package' "$(installed leancop-explain model examples/quantifiers.p examples/structures/quantifiers.txt 2>&1)" 'friend(2,1) does not hold'
+    for name in leancop leancop-szs leancop-view leancop-refute leancop-decide; do
         has "the man page of $name" "$(gzip -dc "$folder/installed/usr/share/man/man1/$name.1.gz")" ".SH SYNOPSIS"
     done
     # The archive: the same files, with sums, and the program runs where it is unpacked.

@@ -1,11 +1,11 @@
 # shellcheck shell=bash disable=SC2154
 # tools/leancop-szs: each SZS status, the exit status, includes, standard input, limits, and the scripts beside it.
 
-# status_of SZS EXIT WORD..: the first line of the answer and the exit status
+# status_of SZS EXIT WORD..: the first line of the answer and the exit status, where no structure is looked for (refute.sh does)
 status_of() {
     local szs="$1" ended="$2" got
     shift 2
-    got="$(tools/leancop-szs "$@" </dev/null 2>"$folder/said")"
+    got="$(tools/leancop-szs --no-structures "$@" </dev/null 2>"$folder/said")"
     same "exit status of leancop-szs $*" "$?" "$ended"
     has "leancop-szs $*" "$got" "% SZS status $szs"
 }
@@ -108,7 +108,7 @@ same 'standard input' "$(head -n 1 "$folder/szs")" '% SZS status Theorem for std
 sed '1,/^% SZS output start Proof/d; /^% SZS output end Proof/,$d' "$folder/szs" >"$folder/d.txt"
 same 'the derivation in the output' "$("$LEANCOP" check examples/even.p "$folder/d.txt")" accepted
 # Where it is ended, it tells so, and the program ends too.
-tools/leancop-szs --steps=1099511627776 bench/problems/fam/set_distr.p >"$folder/szs" &
+tools/leancop-szs --no-structures --steps=1099511627776 bench/problems/fam/set_distr.p >"$folder/szs" &
 running=$!
 sleep 0.5
 kill "$running"
