@@ -14,7 +14,9 @@ class Tool(benchexec.tools.template.BaseTool2):
         return "leancop"
 
     def cmdline(self, executable, options, task, rlimits):
-        limit = ["--time=%d" % rlimits.cputime] if rlimits.cputime else []
+        # with a time the greatest budget and path limit hold, where the options have no others
+        seconds = rlimits.cputime or rlimits.walltime
+        limit = ["--time=%d" % seconds] if seconds else []
         return [executable, *options, *limit, task.single_input_file]
 
     def determine_result(self, run):

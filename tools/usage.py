@@ -17,7 +17,12 @@ SOURCE = os.path.join(HERE, "../crates/command_line/src/table.rt")
 def read_table():
     with open(os.path.join(HERE, "commands.tsv")) as table:
         rows = [line.rstrip("\n").split("\t") for line in table if not line.startswith("#")]
-    return [[row[1:] for row in rows if row[0] == kind] for kind in ("command", "option", "status")]
+    return [[row[1:] for row in rows if row[0] == kind] for kind in ("command", "operand", "option", "status")]
+
+
+def read_version():
+    with open(os.path.join(HERE, "../VERSION")) as version:
+        return version.read().strip()
 
 
 class Asked:
@@ -35,6 +40,10 @@ class Asked:
 
     def knows(self, *words):
         return self.first_bad(*words) > len(words)
+
+    def takes(self, *words):
+        """As knows, where the words are a whole command, which is not run: one more is bad."""
+        return self.first_bad(*words, "--none") > len(words)
 
 
 class Sources:
@@ -66,7 +75,10 @@ class Sources:
 
 def values_of(option):
     """Values that are taken, and some that are not."""
-    values = option[4]
+    return values_named(option[4])
+
+
+def values_named(values):
     if values == "folder":
         return ["x"], [""]
     if ".." in values:
@@ -77,8 +89,13 @@ def values_of(option):
 
 def known(asked, faults):
     """The table without what the program does not know."""
-    commands, options, statuses = read_table()
+    commands, operands, options, statuses = read_table()
     commands = [c for c in commands if asked.knows(c[0])]
+    for name, command, _, values in operands if asked.checks_values else []:
+        before = ["chain"] if name == "N" else []
+        good, bad = values_named(values)
+        faults += ["%s refuses %s as %s" % (command, v, name) for v in good if not asked.takes(command, *before, v)]
+        faults += ["%s takes %s as %s" % (command, v, name) for v in bad if asked.takes(command, *before, v)]
     kept = []
     for option in options:
         good, bad = values_of(option)
@@ -90,7 +107,7 @@ def known(asked, faults):
         if has:
             kept.append(option[:2] + [has] + option[3:])
     names = [c[0] for c in commands]
-    return commands, kept, [s for s in statuses if set(s[2].split()) & set(names)]
+    return commands, operands, kept, [s for s in statuses if set(s[2].split()) & set(names)]
 
 
 def synopsis(command, options):
@@ -105,27 +122,42 @@ def told_values(option):
     return values if option[5] == "none" else "%s (without it %s)" % (values, option[5])
 
 
-def usage(commands, options):
-    lines = [" ".join(["leancop", name, operands, *words]) for name, operands, words in (synopsis(c, options) for c in commands)]
-    wide = max(len(o[0] + o[1]) for o in options)
-    return "\n".join(lines + ["  %-*s  %s: %s" % (wide, o[0] + o[1], o[3], told_values(o)) for o in options]) + "\n"
+def usage(commands, operands, options):
+    """A paragraph for all commands, and one for each."""
+    wide = max(len(c[0] + c[1]) for c in commands) + 1
+    told = [["leancop COMMAND OPERAND.. [OPTION..]", *("  %-*s  %s" % (wide, c[0] + " " + c[1], c[2]) for c in commands),
+             "leancop help COMMAND tells the options of a command, leancop --version the version."]]
+    for c in commands:
+        rows = [(o[0], told_operand(o)) for o in operands if o[1] == c[0]]
+        rows += [(o[0] + o[1], "%s: %s" % (o[3], told_values(o))) for o in options if c[0] in o[2]]
+        wide = max(len(name) for name, _ in rows)
+        told.append(["leancop %s %s [OPTION..]" % (c[0], c[1]), c[2], *("  %-*s  %s" % (wide, *row) for row in rows)])
+    return "\n\n".join("\n".join(lines) for lines in told) + "\n"
+
+
+def told_operand(operand):
+    values = operand[3].replace("..", " to ") if ".." in operand[3] else operand[3].replace(" ", ", ")
+    return "%s: %s" % (operand[2], values)
 
 
 def escaped(text):
     return text.replace("\\", "\\e").replace("-", "\\-")
 
 
-def man(commands, options, statuses):
-    out = [".\\\" Written by tools/usage.py.", ".TH LEANCOP 1", ".SH NAME",
+def man(commands, operands, options, statuses):
+    out = [".\\\" Written by tools/usage.py.", '.TH LEANCOP 1 "" "leancop %s"' % read_version(), ".SH NAME",
            "leancop \\- prove formulas of first\\-order logic, and judge derivations", ".SH SYNOPSIS"]
     for c in commands:
-        name, operands, words = synopsis(c, options)
-        out += [".B leancop " + name, ".I " + operands, escaped(" ".join(words)), ".br"]
+        name, taken, words = synopsis(c, options)
+        out += [".B leancop " + name, ".I " + taken, escaped(" ".join(words)), ".br"]
     out += [".SH DESCRIPTION",
             "Problems are texts of TPTP (fof and cnf items) or, with a modal logic, of QMLTP (qmf items).",
             "Standard output has the answer, and nothing is written to standard error."]
     for c in commands:
         out += [".TP", ".BI %s \" %s\"" % (c[0], c[1]), escaped(c[2]) + "."]
+        out += ["%s is %s." % (o[0], escaped(told_operand(o))) for o in operands if o[1] == c[0]]
+    out += [".PP", "Without words, and with", ".BR help ,", ".B help", ".IR COMMAND ,", ".B \\-\\-help", "or", ".BR \\-\\-version ,",
+            "the installed leancop and that of a checkout tell of themselves."]
     out += [".SH OPTIONS", "They stand anywhere behind the command, each at most once."]
     for o in options:
         out += [".TP", ".BI %s %s" % (escaped(o[0]), o[1]), escaped("%s: %s." % (o[3], told_values(o)))]
@@ -137,17 +169,23 @@ def man(commands, options, statuses):
             "leancop prove \\-\\-root=$HOME/TPTP $HOME/TPTP/Problems/GRP/GRP001\\-1.p", ".EE", ".SH COMPANIONS",
             ".TP", ".BI leancop\\-explain \" WORD ...\"", "runs the program, and says on standard error what its answer means.",
             ".TP", ".BI leancop\\-view \" PROBLEM TEXT\" \" > \" PAGE.html", "draws an accepted text as a page for a browser.",
-            ".TP", ".BI leancop\\-szs \" PROBLEM\" \" [\\-\\-time=\" SECONDS ]", "tells the answer as an SZS status.",
+            ".TP", ".BI leancop\\-szs \" PROBLEM\" \" [\\-\\-time=\" SECONDS \"] [\\-\\-schedule]\"", "tells the answer as an SZS status.",
             ".TP", ".BI leancop\\-coq \" PROBLEM DERIVATION\" \" > \" FILE.v", "prints an accepted derivation as a theorem of Coq with its proof.",
+            ".TP", ".BI leancop\\-tstp \" PROBLEM DERIVATION\" \" > \" FILE", "prints an accepted derivation of classical logic in TSTP.",
             ".PP", "They find the program by the environment variable LEANCOP, or by PATH."]
     return "\n".join(out) + "\n"
 
 
-def completion(commands, options):
+def completion(commands, operands, options):
     out = ["# Completion of bash for leancop. Written by tools/usage.py.", "_leancop() {",
            '    local word="${COMP_WORDS[COMP_CWORD]}" before="${COMP_WORDS[COMP_CWORD - 1]}" options=', "    COMPREPLY=()",
            '    if [ "$COMP_CWORD" = 1 ]; then',
-           "        mapfile -t COMPREPLY < <(compgen -W '%s' -- \"$word\")" % " ".join(c[0] for c in commands), "        return", "    fi",
+           "        mapfile -t COMPREPLY < <(compgen -W '%s help --help --version' -- \"$word\")" % " ".join(c[0] for c in commands),
+           "        return", "    fi",
+           '    case "$COMP_CWORD ${COMP_WORDS[1]}" in',
+           "    '2 help') mapfile -t COMPREPLY < <(compgen -W '%s' -- \"$word\"); return ;;" % " ".join(c[0] for c in commands),
+           *("    '2 %s') mapfile -t COMPREPLY < <(compgen -W '%s' -- \"$word\"); return ;;" % (o[1], o[3])
+             for o in operands if ".." not in o[3]), "    esac",
            "    # The value of an option is a word of its own here, as = parts words.",
            '    [ "$word" = = ] && word=', '    [ "$before" = = ] && before="${COMP_WORDS[COMP_CWORD - 2]}"', '    case "$before" in']
     for o in options:
@@ -173,7 +211,7 @@ def lacking():
     for file in glob.glob(os.path.join(HERE, "../crates/*/src/*.rt")):
         with open(file, encoding="utf-8") as source:
             named |= set(re.findall(r'"(--[a-z]+=)"|"([a-z]+)" => Some\(CommandName::', source.read()))
-    commands, options, _ = read_table()
+    commands, _, options, _ = read_table()
     return sorted({a or b for a, b in named} - {row[0] for row in commands + options})
 
 
@@ -183,7 +221,7 @@ def main(words):
         sys.exit(__doc__)
     faults = ["the sources have %s, and the table does not" % o for o in lacking()]
     table = known(Sources() if "--sources" in options else Asked(options.get("--program") or PROGRAM), faults)
-    files = {"usage.txt": usage(*table[:2]), "leancop.1": man(*table), "leancop.bash-completion": completion(*table[:2])}
+    files = {"usage.txt": usage(*table[:3]), "leancop.1": man(*table), "leancop.bash-completion": completion(*table[:3])}
     os.makedirs(GENERATED, exist_ok=True)
     for name, text in files.items():
         path = os.path.join(GENERATED, name)

@@ -36,12 +36,12 @@ static leancop_bytes read_file(const char *name) {
 
 static leancop_bytes need_file(const char *name) {
     leancop_bytes read = read_file(name);
-    if (read.bytes == NULL) {
-        perror(name);
-        exit(6);
-    }
+    if (read.bytes == NULL) perror(name);
     return read;
 }
+
+/* The exit status of the program where a file is not there. */
+enum { NO_FILE = 6 };
 
 static uint32_t number(int count, char **words, int place) {
     return count > place ? (uint32_t)strtoul(words[place], NULL, 10) : 0;
@@ -49,13 +49,14 @@ static uint32_t number(int count, char **words, int place) {
 
 static int judge(int count, char **words) {
     leancop_bytes problem = need_file(words[1]), derivation = need_file(words[2]);
-    leancop_judgement told;
-    leancop_check(number(count, words, 3), number(count, words, 4), problem.bytes, problem.length, derivation.bytes,
-                  derivation.length, &told);
+    leancop_judgement told = {NO_FILE, 0, 0, 0};
+    if (problem.bytes != NULL && derivation.bytes != NULL)
+        leancop_check(number(count, words, 3), number(count, words, 4), problem.bytes, problem.length, derivation.bytes,
+                      derivation.length, &told);
     switch (told.status) {
-    case LEANCOP_ACCEPTED: puts("accepted"); break;
-    case LEANCOP_REJECTED: printf("rejected at line %" PRIu64 ": %" PRIu32 "\n", told.line, told.fault); break;
-    case LEANCOP_BAD_PROBLEM:
+    case LEANCOP_STATUS_ACCEPTED: puts("accepted"); break;
+    case LEANCOP_STATUS_REJECTED: printf("rejected at line %" PRIu64 ": %" PRIu32 "\n", told.line, told.fault); break;
+    case LEANCOP_STATUS_BAD_PROBLEM:
         if (told.offset == UINT64_MAX) printf("%s: %" PRIu32 "\n", words[1], told.fault);
         else printf("%s:%" PRIu64 ": %" PRIu32 "\n", words[1], told.offset, told.fault);
         break;
@@ -68,16 +69,21 @@ static int judge(int count, char **words) {
 
 static int formula(int count, char **words) {
     leancop_bytes problem = need_file(words[2]);
+    if (problem.bytes == NULL) return NO_FILE;
     uint32_t logic = number(count, words, 3), domains = number(count, words, 4);
     uint8_t small[64], *room = small;
     uint64_t length;
     uint32_t status = leancop_formula(logic, domains, problem.bytes, problem.length, room, sizeof small, &length);
     if (length > sizeof small) { /* nothing is written yet: once more, with the room that is needed */
         room = malloc(length);
-        status = room == NULL ? LEANCOP_NO_MEMORY
+        status = room == NULL ? LEANCOP_STATUS_NO_MEMORY
                               : leancop_formula(logic, domains, problem.bytes, problem.length, room, length, &length);
     }
-    if (status == 0) printf("formula %.*s\n", (int)length, (const char *)room);
+    if (status == LEANCOP_STATUS_ACCEPTED) { /* may be longer than what %.*s takes, which is an int */
+        fputs("formula ", stdout);
+        fwrite(room, 1, length, stdout);
+        putchar('\n');
+    }
     if (room != small) free(room);
     free((void *)problem.bytes);
     return (int)status;
@@ -88,7 +94,11 @@ static int formula(int count, char **words) {
 static int run(int count, char **words) {
     leancop_bytes *given = calloc(count + 1, sizeof *given);
     leancop_file *files = calloc(count + 1, sizeof *files);
-    if (given == NULL || files == NULL) return LEANCOP_NO_MEMORY;
+    if (given == NULL || files == NULL) {
+        free(files);
+        free(given);
+        return LEANCOP_STATUS_NO_MEMORY;
+    }
     size_t word_count = 0, file_count = 0;
     for (int i = 2; i < count; i++) {
         leancop_bytes word = {(const uint8_t *)words[i], strlen(words[i])};
@@ -98,11 +108,11 @@ static int run(int count, char **words) {
     }
     uint64_t had = 65536, length = 0;
     uint8_t *room = malloc(had);
-    uint32_t status = room == NULL ? LEANCOP_NO_MEMORY : leancop_run(given, word_count, files, file_count, room, had, &length);
+    uint32_t status = room == NULL ? LEANCOP_STATUS_NO_MEMORY : leancop_run(given, word_count, files, file_count, room, had, &length);
     if (length > had) { /* nothing is written yet: once more, with the room that is needed */
         free(room);
         room = malloc(had = length);
-        status = room == NULL ? LEANCOP_NO_MEMORY : leancop_run(given, word_count, files, file_count, room, had, &length);
+        status = room == NULL ? LEANCOP_STATUS_NO_MEMORY : leancop_run(given, word_count, files, file_count, room, had, &length);
     }
     if (room != NULL && length <= had) fwrite(room, 1, length, stdout);
     free(room);
@@ -117,5 +127,5 @@ int main(int count, char **words) {
     if (count > 1 && strcmp(words[1], "--run") == 0) return run(count, words);
     if (count > 2) return judge(count, words);
     fputs("check PROBLEM DERIVATION [LOGIC [DOMAINS]]\n", stderr);
-    return LEANCOP_NO_SETTING;
+    return LEANCOP_STATUS_NO_SETTING;
 }

@@ -49,6 +49,11 @@ as_program() {
     same "leancop_check of $problem and $derivation, $*" "$(judged "$problem" "$derivation" "$logic" "$domains")" "$ended $wanted"
 }
 
+# The header and the example, without the library too.
+if command -v cc >/dev/null; then
+    same 'warnings of examples/embed/check.c' "$(cc -std=c11 -Wall -Wextra -Wpedantic -Iinclude -fsyntax-only examples/embed/check.c 2>&1)" ''
+    same 'warnings of leancop.h in C++' "$(cc -xc++ -Wall -Wextra -Wpedantic -fsyntax-only include/leancop.h 2>&1 | grep -v 'pragma once')" ''
+fi
 if [ ! -e "$archive" ]; then
     skip "$archive is not built: rt lib, in crates/leancop_c"
 else
@@ -87,6 +92,7 @@ else
     same 'a problem with an include' "$(judged "$folder/m.p" examples/drinker.txt 0 0)" '6 '
     same 'a number of no logic' "$(judged examples/drinker.p examples/drinker.txt 6 0)" '5 '
     same 'a number of no domains' "$(judged examples/drinker.p examples/drinker.txt 0 3)" '5 '
+    same 'a problem that is not there' "$("$folder/embedded" none.p examples/drinker.txt 2>/dev/null; echo "$?")" 6
     same 'bad words' "$("$folder/embedded" --run prove --limit=0 examples/first.p)" 'bad word 2'
     same 'a word that is not UTF-8' "$("$folder/embedded" --run $'\xff'; echo "$?")" 6
     same 'make' "$("$folder/embedded" --run make chain 100)" "$("$LEANCOP" make chain 100)"

@@ -21,8 +21,32 @@ wrong() {
 explained '' prove examples/even.p
 explained '' check examples/drinker.p examples/drinker.txt
 explained 'is missing' prove
-explained 'leancop check FILE DERIVATION' --help
-explained 'Word 3, --limit=0,' prove examples/even.p --limit=0
+explained 'check FILE DERIVATION' --help
+# A bad word has one cause, and the usage is that of its command where it helps.
+explained 'prove takes FILE' prove
+explained '--limit= and its value are one word, as in --limit=3.' prove examples/even.p --limit 3
+explained '--limit= is a number from 1 to 200' prove examples/even.p --limit=0
+explained '--limit= stands twice, as word 3' prove examples/even.p --limit=1 --limit=2
+explained '--logic=S4 is written --logic=s4' prove examples/even.p --logic=S4
+explained '--logic=intuitionist is written --logic=intuitionistic' prove examples/even.p --logic=intuitionist
+explained 'is one of classical, intuitionistic, d, t, s4, s5' prove examples/even.p --logic=K
+explained 'Is --logic=s4 meant?' prove examples/even.p --logik=s4
+explained 'check has no option --limit=; prove, make, tableau have it' check examples/drinker.p examples/drinker.txt --limit=3
+explained 'is one operand too many: prove takes FILE' prove examples/even.p examples/drinker.p
+explained 'a logic is named by --logic=s4' prove examples/even.p s4
+explained 'needs --logic=intuitionistic' check examples/drinker.p examples/drinker.txt --as=s4
+explained 'N is a number from 1 to 150' make chain 151
+explained 'FAMILY is one of chain, shift, tower' make ring 3
+explained 'a family of a modal logic' make tower 3
+explained 'Is prove meant?' Prove examples/even.p
+explained 'as in leancop prove examples/even.p' examples/even.p
+same 'the usage of one command' "$(tools/leancop-explain check 2>&1 >/dev/null </dev/null | grep -c 'leancop ')" 1
+same 'no usage with a cause' "$(tools/leancop-explain make chain 151 2>&1 >/dev/null </dev/null | wc -l)" 1
+"$LEANCOP" tableau examples/even.p >"$folder/t.txt"
+explained 'tcheck judges it' check examples/even.p "$folder/t.txt"
+explained 'check judges it' tcheck examples/drinker.p examples/drinker.txt
+explained 'model tells' check examples/drinker.p examples/structures/drinker.txt
+explained 'This is a problem' check examples/even.p examples/even.p
 explained 'needs a modal logic' prove examples/even.p --domains=varying
 explained 'There is no file none.p' prove none.p
 explained '/dev/stdin' prove -
@@ -44,7 +68,7 @@ mark="line 2, column 24:
       fof(c,conjecture,p & q | r).
                              ^
   There is no precedence"
-wrong 'p & q | r' "$mark"
+wrong 'p & q | r' "$mark" # and the formula in TPTP behind it
 wrong 'p => q => p' 'There is no precedence'
 wrong 'P => P' 'is a variable, and no predicate'
 wrong 'P(a)' 'is a variable, and no predicate'
@@ -59,6 +83,31 @@ wrong 'p))' 'one closing bracket too many'
 wrong 'p(1)' 'are no terms here'
 # shellcheck disable=SC2016
 wrong '$$p' '$true and $false'
+# The same formula in TPTP, where it can be read, and none where it cannot in one way.
+if command -v python3 >/dev/null; then
+    wrong 'p -> p' 'fof(c,conjecture,p => p).'
+    wrong '∀x p(x)' 'fof(c,conjecture,![X]: p(X)).'
+    wrong '∀x. p(x) → ∃y. q(x,y)' 'fof(c,conjecture,![X]: (p(X) => ?[Y]: q(X,Y))).'
+    wrong '[]p' 'with a modal logic (--logic=d, t, s4 or s5): qmf(c,conjecture,#box:p).'
+    wrong 'p & q | r' 'fof(c,conjecture,(p & q) | r).'
+    wrong 'p => q => r' 'fof(c,conjecture,p => (q => r)).'
+    wrong 'P & Q -> R' 'fof(c,conjecture,(p & q) => r).'
+    wrong 'P(a) /\ ~Q' 'fof(c,conjecture,p(a) & ~q).'
+    for formula in 'P & p => p' 'p q' 'forall x. x' 'p -> '; do
+        printf 'fof(c,conjecture,%s).\n' "$formula" >"$folder/m.p"
+        tools/leancop-explain prove "$folder/m.p" >/dev/null 2>"$folder/said"
+        same "no other reading of $formula" "$(grep -c 'As the program reads it' "$folder/said")" 0
+    done
+    printf 'qmf(c,conjecture,[](p -> q) -> <>p).\n' >"$folder/m.p"
+    explained 'reads it: qmf(c,conjecture,#box:(p => q) => #dia:p).' prove --logic=s4 "$folder/m.p"
+    printf 'P -> P\n' >"$folder/m.p"
+    explained 'fof(c,conjecture,p => p).' prove "$folder/m.p"
+    printf "fof(a,axiom,q). %% all\\nfof(b,axiom,r).\n  fof('a b',hypothesis,\n  p & q -> r).\nfof(c,conjecture,r).\n" >"$folder/m.p"
+    explained "fof('a b',hypothesis,(p & q) => r)." prove "$folder/m.p"
+    same 'formula_in_tptp.py --help' "$(tools/formula_in_tptp.py --help | sed -n 1p)" 'formula_in_tptp.py FILE OFFSET [--logic=L]'
+else
+    skip 'python3 is not here'
+fi
 printf 'fof(c,conjecture,p)' >"$folder/m.p"
 explained 'The text ends here' prove "$folder/m.p"
 printf 'fof(a,axiom,p)\nfof(c,conjecture,p).' >"$folder/m.p"

@@ -6,22 +6,27 @@ checkout="$folder/checkout"
 mkdir -p "$checkout/crates/leancop/out"
 cp leancop "$checkout/"
 cp -r tools "$checkout/"
+cp VERSION "$checkout/"
 touch "$checkout/crates.txt" "$checkout/HANDLES"
 cp "$LEANCOP" "$checkout/crates/leancop/out/leancop"
 touch "$checkout/crates/leancop/out/launcher.stamp"
 
-# at_prompt WORD..: runs the words as the leader of a terminal's session, and prints what the terminal shows and the exit status
-at_prompt() {
-    LEANCOP='' python3 -c 'import os, pty, sys
-def show(fd):
-    data = os.read(fd, 65536)
-    return data
-status = pty.spawn(sys.argv[1:], show)
-print("status", os.waitstatus_to_exitcode(status))' "$@" </dev/null
-}
 has 'leancop at a prompt' "$(at_prompt "$checkout/leancop" prove none.p)" 'There is no file none.p'
 has 'its status' "$(at_prompt "$checkout/leancop" prove none.p)" 'status 6'
 same 'leancop called by a program at a terminal' "$(at_prompt sh -c '"$0" prove none.p; exit $?' "$checkout/leancop" | tr -d '\r' | tr '\n' ' ')" 'missing: none.p status 6 '
 same 'leancop in a script' "$(LEANCOP='' "$checkout/leancop" prove none.p 2>&1)" 'missing: none.p'
 same 'leancop-explain by ./leancop at a prompt tells once' "$(at_prompt "$checkout/tools/leancop-explain" prove none.p | grep -c 'There is no file')" 1
 has 'leancop-szs by ./leancop' "$(LEANCOP='' "$checkout/tools/leancop-szs" examples/even.p)" '% SZS status Theorem for even.p'
+
+# Words that ask about leancop itself, here and where it is installed.
+version="$(cat VERSION)"
+same 'leancop --version' "$(LEANCOP='' "$checkout/leancop" --version)" "leancop $version"
+for word in --help -h help; do
+    same "leancop $word" "$(LEANCOP='' "$checkout/leancop" "$word"; echo "$?")" "$(awk -v RS= 'NR == 1' tools/generated/usage.txt)
+0"
+done
+has 'leancop help make' "$(LEANCOP='' "$checkout/leancop" help make)" 'chain, shift, tower'
+same 'leancop make --help' "$(LEANCOP='' "$checkout/leancop" make --help)" "$(LEANCOP='' "$checkout/leancop" help make)"
+same 'leancop without words' "$(LEANCOP='' "$checkout/leancop" 2>"$folder/said"; echo "$?")" 5
+has 'what it says then' "$(cat "$folder/said")" 'prove FILE '
+same 'a file whose name is -h' "$(LEANCOP='' "$checkout/leancop" check -h none.txt)" 'missing: -h'

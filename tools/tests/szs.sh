@@ -1,11 +1,11 @@
 # shellcheck shell=bash disable=SC2154
 # tools/leancop-szs: each SZS status, the exit status, includes, standard input, limits, and the scripts beside it.
 
-# status_of SZS EXIT WORD..: the first line of the answer and the exit status
+# status_of SZS EXIT WORD..: the first line of the answer and the exit status, where no structure is looked for (refute.sh does)
 status_of() {
     local szs="$1" ended="$2" got
     shift 2
-    got="$(tools/leancop-szs "$@" </dev/null 2>"$folder/said")"
+    got="$(tools/leancop-szs --no-structures "$@" </dev/null 2>"$folder/said")"
     same "exit status of leancop-szs $*" "$?" "$ended"
     has "leancop-szs $*" "$got" "% SZS status $szs"
 }
@@ -21,7 +21,21 @@ status_of UsageError 5
 status_of UsageError 5 a b
 status_of UsageError 5 a --time=x
 status_of 'UsageError for even.p' 5 examples/even.p --limit=0
-status_of 'Timeout for set_distr.p' 124 --time=1 --steps=1099511627776 bench/problems/fam/set_distr.p
+status_of 'ResourceOut for set_distr.p' 3 --time=60 --steps=1000 bench/problems/fam/set_distr.p
+# With a time, the greatest path limit and budget hold where no others stand.
+status_of 'Timeout for set_distr.p' 124 --time=1 bench/problems/fam/set_distr.p
+status_of 'GaveUp for chain100.p' 1 bench/problems/fam/chain100.p
+status_of 'Theorem for chain100.p' 0 --time=60 bench/problems/fam/chain100.p
+# A schedule: the setting that gave the answer is told.
+status_of 'Theorem for p56.p' 0 --schedule --time=10 bench/problems/pel/p56.p
+same 'the setting of an answer' "$(tools/leancop-szs --schedule --time=10 bench/problems/pel/p56.p | sed -n 2p)" '% setting: --cut=6'
+printf '%s\n' '#!/bin/sh' 'case "$*" in *--cut=6*) echo "steps ended after limit 1 at 9 steps" && exit 3 ;; esac' "exec '$LEANCOP' \"\$@\"" >"$folder/second"
+chmod +x "$folder/second"
+same 'the setting of another' "$(LEANCOP="$folder/second" tools/leancop-szs --schedule --time=10 examples/even.p | sed -n 1,2p | tr '\n' ' ')" \
+    '% SZS status Theorem for even.p % setting: without --cut= '
+status_of 'Timeout for p55.p' 124 --schedule --time=2 bench/problems/pel/p55.p
+status_of 'OSError for none.p' 6 --schedule none.p
+status_of UsageError 5 --schedule --cut=3 examples/even.p
 # Without a conjecture; a comment or another role that names one is none.
 problem 'cnf(a,axiom,p). cnf(conjecture,axiom,~p). % fof(c,conjecture,p).'
 status_of 'Unsatisfiable for m.p' 0 "$folder/m.p"
@@ -62,6 +76,29 @@ status_of 'OSError for two.p' 6 "$folder/beside/two.p"
 export TPTP="$folder/tptp"
 status_of 'Theorem for one.p' 0 "$folder/beside/one.p"
 status_of 'Theorem for two.p' 0 "$folder/beside/two.p"
+# One beside the problem and one below $TPTP; the conjecture is in one of them, behind another include, and by its name.
+echo "include('Axioms/two.ax'). fof(c,conjecture,p). fof(d,conjecture,q)." >"$folder/beside/axioms/asked.ax"
+echo "include('axioms/asked.ax',[a,c])." >"$folder/beside/both.p"
+status_of 'Theorem for both.p' 0 "$folder/beside/both.p"
+echo "include('axioms/asked.ax',[a]). cnf(n,axiom,~p)." >"$folder/beside/both.p"
+status_of 'Unsatisfiable for both.p' 0 "$folder/beside/both.p"
+echo "include('../beside/axioms/one.ax'). fof(c,conjecture,p)." >"$folder/beside/up.p"
+status_of 'Theorem for up.p' 0 "$folder/beside/up.p"
+# What is wrong with an included file is told of the file itself.
+echo 'fof(a,axiom,p' >"$folder/tptp/Axioms/open.ax"
+echo "include('axioms/one.ax'). include('Axioms/open.ax')." >"$folder/beside/open.p"
+status_of 'SyntaxError for open.p' 4 "$folder/beside/open.p"
+same 'the place in an included file' "$(tools/leancop-szs "$folder/beside/open.p" | sed -n 2p)" "% $(readlink -f "$folder")/tptp/Axioms/open.ax:14: syntax"
+echo "include('Axioms/none.ax')." >"$folder/beside/none.p"
+status_of 'OSError for none.p' 6 "$folder/beside/none.p"
+same 'a file that is nowhere' "$(tools/leancop-szs "$folder/beside/none.p" | sed -n 2p)" "% missing: $folder/beside/Axioms/none.ax"
+# A modal problem with equality in an included file alone.
+echo 'qmf(a,axiom,a = b).' >"$folder/tptp/Axioms/equal.ax"
+echo "qmf(a,axiom,('a=b' => q)). % a = b" >"$folder/tptp/Axioms/none_equal.ax"
+echo "include('Axioms/equal.ax'). qmf(c,conjecture,p)." >"$folder/beside/equal.p"
+status_of 'GaveUp for equal.p' 2 --logic=d "$folder/beside/equal.p"
+echo "include('Axioms/none_equal.ax'). qmf(c,conjecture,p)." >"$folder/beside/equal.p"
+status_of 'CounterSatisfiable for equal.p' 2 --logic=d "$folder/beside/equal.p"
 unset TPTP
 status_of 'Theorem for two.p' 0 "--root=$folder/tptp" "$folder/beside/two.p"
 
@@ -71,7 +108,7 @@ same 'standard input' "$(head -n 1 "$folder/szs")" '% SZS status Theorem for std
 sed '1,/^% SZS output start Proof/d; /^% SZS output end Proof/,$d' "$folder/szs" >"$folder/d.txt"
 same 'the derivation in the output' "$("$LEANCOP" check examples/even.p "$folder/d.txt")" accepted
 # Where it is ended, it tells so, and the program ends too.
-tools/leancop-szs --steps=1099511627776 bench/problems/fam/set_distr.p >"$folder/szs" &
+tools/leancop-szs --no-structures --steps=1099511627776 bench/problems/fam/set_distr.p >"$folder/szs" &
 running=$!
 sleep 0.5
 kill "$running"
@@ -103,7 +140,7 @@ import benchexec_leancop
 tool, space = benchexec_leancop.Tool(), types.SimpleNamespace
 told = [tool.determine_result(space(output=lines)) for lines in (
     ["% SZS status Theorem for m.p", "x"], ["% SZS status CounterSatisfiable for m.p"], ["% SZS status Timeout for m.p"], [])]
-print(*tool.cmdline("leancop-szs", ["--logic=d"], space(single_input_file="m.p"), space(cputime=9)), *told)
+print(*tool.cmdline("leancop-szs", ["--logic=d"], space(single_input_file="m.p"), space(cputime=9, walltime=None)), *told)
 PYTHON
 )"
 same 'benchexec_leancop.py' "$got" 'leancop-szs --logic=d --time=9 m.p true false unknown(Timeout) ERROR'

@@ -19,6 +19,8 @@ complete_words() {
     bash -c 'compopt() { :; }; . tools/generated/leancop.bash-completion; COMP_WORDS=("$@"); COMP_CWORD=$(($# - 1)); _leancop; echo "${COMPREPLY[*]}"' _ "$@"
 }
 has 'completion of commands' "$(complete_words leancop '')" 'prove check'
+same 'completion of a family' "$(complete_words leancop make '')" 'chain shift tower'
+same 'completion of help' "$(complete_words leancop help mo)" model
 same 'completion of a logic' "$(complete_words leancop prove --logic = c)" classical
 same 'completion of an option' "$(complete_words leancop prove --st)" '--steps='
 same 'completion of another command'"'"'s option' "$(complete_words leancop check --st)" ''
