@@ -69,7 +69,9 @@ class Search:
 
     def cost(self, size: Size) -> float:
         work = sum(parts * size.elements ** width for width, parts in self.widths.items()) + 20
-        return work * size.worlds ** 1.6 * (1.3 ** (size.elements - 1)) ** (self.problem.equality + 1)
+        # One world is classical, and what is asked in intuitionistic logic is mostly true there. With `=` it is much less work.
+        least = 2 if self.problem.logic == "intuitionistic" and not self.problem.equality else 1
+        return work * max(size.worlds, least) ** 1.6 * (1.3 ** (size.elements - 1)) ** (self.problem.equality + 1)
 
     def sizes(self) -> list[Size]:
         problem, bounds = self.problem, self.bounds
@@ -106,7 +108,7 @@ class Search:
         return any(self.covers(other, size) for other in self.refused)
 
     def run(self) -> Found | None:
-        share = max(0.3, self.bounds.seconds * 0.05)
+        share = max(0.3, self.bounds.seconds * 0.1)
         todo = [(turn, self.cost(size), size, share) for turn, size in self.turns()]
         heapq.heapify(todo)
         while todo and time.monotonic() < self.end:
