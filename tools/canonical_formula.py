@@ -227,6 +227,7 @@ def formula_of(file, root, logic):
 def check(words, derivation):
     """What the program says of a derivation, and its exit status."""
     beside = os.path.join(os.path.dirname(os.path.realpath(__file__)), "../leancop")
+    os.environ["LEANCOP_BUILD"] = "no"  # an unbuilt checkout says so, and does not begin an hour of proofs
     os.environ["LEANCOP"] = os.environ.get("LEANCOP") or (beside if os.path.isfile(beside) else "leancop")
     told = subprocess.run([os.environ["LEANCOP"], "check", *words, "/dev/stdin"], input=derivation, stdout=subprocess.PIPE)
     return told.stdout.decode("latin-1").strip(), told.returncode

@@ -186,6 +186,7 @@ def item_round(text: str, offset: int) -> tuple[str, str, str]:
 
 def is_read(item: str, logic: str) -> bool:
     beside = os.path.join(os.path.dirname(os.path.realpath(__file__)), "../leancop")
+    os.environ["LEANCOP_BUILD"] = "no"
     program = os.environ.get("LEANCOP") or (beside if os.path.isfile(beside) else "leancop")
     with tempfile.NamedTemporaryFile("w", suffix=".p") as problem:
         problem.write(item + "\n")
