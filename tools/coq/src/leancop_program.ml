@@ -113,3 +113,27 @@ let prove ~logic ~options ~until problem =
      | _ -> ());
     (match said with Said text -> show text | _ -> ());
     said
+
+(* ---- the finder of structures, where it is there *)
+
+let refuter () =
+  let name = "leancop-refute" in
+  let beside = if String.contains (program ()) '/' then [ Filename.dirname (program ()) ] else [] in
+  let places = List.concat_map (fun f -> List.map (Filename.concat f) [ name; "tools/" ^ name ]) beside @ on_path name in
+  match variable "LEANCOP_REFUTE" with
+  | None -> List.find_opt executable places
+  | file -> file
+
+(* The text of a structure that makes the problem's formula false, as the program judges it. *)
+let refute ~logic ~until problem =
+  let logic = "--logic=" ^ logic in
+  let ask = answer ~quiet:true ~until in
+  let found finder =
+    with_file problem (fun file ->
+        match ask [| finder; file; logic; Printf.sprintf "--time=%d" (whole_seconds until) |] with
+        | text, 0 ->
+          show text;
+          let judged = with_file text (fun structure -> ask [| program (); "model"; file; structure; logic |]) in
+          if judged = ("false at the root\n", 9) then Some text else None
+        | _ -> None) in
+  try Option.bind (refuter ()) found with Time_ended -> None
