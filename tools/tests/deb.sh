@@ -27,6 +27,8 @@ if command -v dpkg-deb >/dev/null; then
     has 'leancop-refute of the package' "$(installed leancop-refute examples/even.p 2>&1)" 'leancop-refute: no '
     same 'leancop-decide of the package' "$(installed leancop-decide examples/first.p | sed -n 1p)" 'leancop derivation 1'
     has 'a structure explained by the package' "$(installed leancop-explain model examples/quantifiers.p examples/structures/quantifiers.txt 2>&1)" 'friend(2,1) does not hold'
+    same 'the tactics of the package' "$(cd "$folder/installed/usr/share/leancop" && find coq hol-light -type f | sort)" \
+        "$(cd tools && git ls-files coq hol-light | grep -v '/\.gitignore$' | sort)"
     for name in leancop leancop-szs leancop-view leancop-refute leancop-decide; do
         has "the man page of $name" "$(gzip -dc "$folder/installed/usr/share/man/man1/$name.1.gz")" ".SH SYNOPSIS"
     done
