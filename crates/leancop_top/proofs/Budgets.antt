@@ -44,7 +44,7 @@ behind P m d less p (no_tableau e) h = elim (cases_lt d e) [
 
 pub not_steps_ended : (P : Problem) (b : Bounds) (d steps : ℕ) (a : Answer) → IsAnswer P b.limit a → AtMostMany member_cmp (IsMember P (limit_of a)) b.steps → IsStepsEnded P b d steps → ⊥
 not_steps_ended P b d steps a h enough s =
-    let le = behind P b.limit d s.below (record { left = s.left; none = s.none }) a h in
+    let le = behind P b.limit d s.below (record { left = s.left; none = s.unclosed.none }) a h in
     let many = s.more in
     let most = enough many.0 (record { rising = many.1.rising; members = all-members P d (limit_of a) many.0 le many.1.members }) in
     absurd (omega (arith, most, many.2, s.budget))

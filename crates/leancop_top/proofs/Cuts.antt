@@ -92,7 +92,7 @@ limit-decided P b e s d (cut fits h) = cut-unique P b d e h s.least
 
 search-found : (P : Problem) (b : Bounds) (e : ℕ) → SufficesForCut P b e → (s : Status) → SearchEnds P b s → ⊥
 search-found P b e s _ (exhausted d h) = not-closed P b e b.limit s.least s.least.within h.answer.answers.1
-search-found P b e s _ (no_tableau d h) = h.never e (cut-closes P e s.least.has)
+search-found P b e s _ (no_tableau d h) = h.never.none e (cut-closes P e s.least.has)
 search-found P b e s _ (steps_ended d k h) = within-budget P b e s h.missed
 search-found P b e s _ (too_large h) = h s.fits
 

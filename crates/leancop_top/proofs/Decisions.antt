@@ -1,18 +1,24 @@
 -- What the files hold is decided, where no file fails, the sink does not fail and memory does not end.
-use Rattle.std.proofs.Common.{◌≡◌, List, ℕ, Option, None, Some, Result, Ok, Err, arith, refl, subst, sym}
+use Rattle.std.proofs.Common.{◌≡◌, List, ℕ, ◌≤◌, Option, None, Some, Result, Ok, Err, arith, refl, subst, sym}
 use Rattle.std.specs.Prelude.{IfSome}
+use Rattle.calculus.proofs.AnswerLaws.{closed-mono}
 use Rattle.calculus.proofs.StructureTextUnique.{structure_judgement-unique}
 use Rattle.calculus.specs.declared.fault.StructureCause.{StructureCause}
 use Rattle.calculus.specs.Structures.{is_true}
 use Rattle.calculus.specs.StructureText.{IsStructureJudgement, IsStructureText, truth_verdict}
 use Rattle.calculus.specs.StructureText as verdict
+use Rattle.calculus.specs.Propositional.{IsPropositional, IsTautology}
 use Rattle.calculus.specs.Syntax.{Problem}
+use Rattle.calculus.specs.Tableaux.{HasClosed}
 use Rattle.calculus.specs.declared.version.Version.{Version}
 use Rattle.calculus.specs.Translation.{translated_problem}
 use Rattle.cop_base.specs.Outside.{Files, file_in, Rose}
 use Rattle.cop_base.specs.Reads.{Read}
 use Rattle.command_line.specs.CommandLine.{Bounds, Command, GeneratedProblem, ProblemFile, in_intuitionistic, prove, check, check_translated, transfer, migrate, make, model, tableau, tcheck, convert, bad}
 use Rattle.command_line.specs.Table.{Word}
+use Rattle.decision_theory.proofs.DecisionLaws.{tautology_closes_within}
+use Rattle.decision_theory.proofs.ExclusionLaws.{tautology_where_closed}
+use Rattle.decision_theory.specs.Decision.{proposition_count}
 use Rattle.problem_build.specs.Refusals.{Refusal}
 use Rattle.leancop_top.proofs.Budgets.{not_steps_ended}
 use Rattle.leancop_top.proofs.Cuts.{prove-by_cut, tableau-by_cut}
@@ -26,8 +32,8 @@ use Rattle.leancop_top.specs.Commands.Migrate as migrate_ends
 use Rattle.leancop_top.specs.Commands.Model.{IsModel, IsNoModel, IsTold, ModelEnds}
 use Rattle.leancop_top.specs.Commands.Model as modelled
 use Rattle.leancop_top.proofs.ModelLaws.{judged-truth, same-bytes, same-status, same-ways, truth-not_bad}
-use Rattle.leancop_top.specs.Commands.Prove.{IsDecided, ProveEnds, derived, fruitless}
-use Rattle.leancop_top.specs.Commands.Tableau.{IsTableauDecided, TableauEnds}
+use Rattle.leancop_top.specs.Commands.Prove.{IsDecided, IsProblemDecided, ProveEnds, derived, fruitless}
+use Rattle.leancop_top.specs.Commands.Tableau.{IsTableauDecided, IsTableauProblemDecided, TableauEnds}
 use Rattle.leancop_top.specs.Commands.Tableau as tableau_ends
 use Rattle.leancop_top.specs.Commands.Tcheck.{IsTcheckDecided, TcheckEnds}
 use Rattle.leancop_top.specs.Commands.Tcheck as tcheck_ends
@@ -38,7 +44,7 @@ use Rattle.leancop_top.specs.Run.{Decides, Ends}
 use Rattle.leancop_top.specs.SecondFile.{FetchEnds, Lacks}
 use Rattle.leancop_top.specs.SecondFile as second
 use Rattle.leancop_top.specs.Statuses.{IsCounted, OnAnswer}
-use Rattle.leancop_top.specs.TableauSearch.{SearchEnds, Suffices, exhausted, no_tableau, steps_ended, too_large}
+use Rattle.leancop_top.specs.TableauSearch.{IsLimit, SearchEnds, Suffices, least, cut, exhausted, no_tableau, steps_ended, too_large}
 use Rattle.leancop_top.specs.Translating.{IsTranslatable, TranslatingEnds, too_deep}
 use Rattle.leancop_top.specs.Translating as translating
 use Rattle.leancop_top.specs.declared.status.Status.{Status}
@@ -76,19 +82,51 @@ for-problem told files p P ends m n f g after t read quiet _ _ (with_problem Q s
 
 -- ---- prove and tableau
 
-search-decided : (P : Problem) (b : Bounds) → Suffices P b → (s : Status) → SearchEnds P b s → IsDecided s × IsTableauDecided s
-search-decided P b e _ (exhausted d h) = (tt, tt)
-search-decided P b e _ (no_tableau d h) = (tt, tt)
+limit-within : (P : Problem) (b : Bounds) (d : ℕ) → IsLimit P b d → d ≤ b.limit
+limit-within P b d (least h missed) = h.answer.answers.1
+limit-within P b d (cut fits h) = h.within
+
+search-decided : (P : Problem) (b : Bounds) → Suffices P b → (s : Status) → SearchEnds P b s → IsDecided (HasClosed P b.limit) s × IsTableauDecided (HasClosed P b.limit) s
+search-decided P b e _ (exhausted d h) = (h.answer.answers.1, h.answer.answers.1)
+search-decided P b e _ (no_tableau d h) = (h.never.none b.limit, h.never.none b.limit)
 search-decided P b e _ (steps_ended d k h) = absurd (not_steps_ended P b d k e.answer e.answers e.enough h)
 search-decided P b e _ (too_large h) = absurd (h e.fits)
 
-prove-decided : (P : Problem) (b : Bounds) (v : Version) → Suffices P b → (s : Status) (bytes : List ℕ) → ProveEnds P b v s bytes → IsDecided s
-prove-decided P b v e _ _ (derived d bytes h) = tt
-prove-decided P b v e _ _ (fruitless s h) = (search-decided P b e s h).0
+prove-closed : (P : Problem) (b : Bounds) (v : Version) → Suffices P b → (s : Status) (bytes : List ℕ) → ProveEnds P b v s bytes → IsDecided (HasClosed P b.limit) s
+prove-closed P b v e _ _ (derived d bytes h) = closed-mono P d b.limit (limit-within P b d h.limit_is) h.closed
+prove-closed P b v e _ _ (fruitless s h) = (search-decided P b e s h).0
 
-tableau-decided : (P : Problem) (b : Bounds) → Suffices P b → (s : Status) (bytes : List ℕ) → TableauEnds P b s bytes → IsTableauDecided s
-tableau-decided P b e _ _ (tableau_ends.found d bytes h) = tt
-tableau-decided P b e _ _ (tableau_ends.fruitless s h) = (search-decided P b e s h).1
+tableau-closed : (P : Problem) (b : Bounds) → Suffices P b → (s : Status) (bytes : List ℕ) → TableauEnds P b s bytes → IsTableauDecided (HasClosed P b.limit) s
+tableau-closed P b e _ _ (tableau_ends.found d bytes h) = closed-mono P d b.limit (limit-within P b d h.limit_is) (record { tableau = h.tableau; closed = h.written.text.closed })
+tableau-closed P b e _ _ (tableau_ends.fruitless s h) = (search-decided P b e s h).1
+
+-- what holds exactly where another thing does is decided with it
+same-decided : (A B : Type 0) → (A → B) → (B → A) → (s : Status) → IsDecided A s → IsDecided B s
+same-decided A B f g (status.Derived d) h = f h
+same-decided A B f g (status.Exhausted d) h = λ b. h (g b)
+same-decided A B f g (status.NoTableau d) h = λ b. h (g b)
+same-decided A B f g _ h = h
+
+same-tableau_decided : (A B : Type 0) → (A → B) → (B → A) → (s : Status) → IsTableauDecided A s → IsTableauDecided B s
+same-tableau_decided A B f g (status.TableauFound d) h = f h
+same-tableau_decided A B f g (status.Exhausted d) h = λ b. h (g b)
+same-tableau_decided A B f g (status.NoTableau d) h = λ b. h (g b)
+same-tableau_decided A B f g _ h = h
+
+-- a tautology has a tableau closed within the number of its propositions
+within-limit : (P : Problem) (b : Bounds) → IsPropositional P → proposition_count P.formula ≤ b.limit → IsTautology P → HasClosed P b.limit
+within-limit P b h enough t = closed-mono P (proposition_count P.formula) b.limit enough (tautology_closes_within P h t)
+
+problem-decided : (P : Problem) (b : Bounds) (s : Status) → IsDecided (HasClosed P b.limit) s → IsProblemDecided P b s
+problem-decided P b s h = record { closed = h; tautology = λ p enough. same-decided (HasClosed P b.limit) (IsTautology P) (tautology_where_closed P p b.limit) (within-limit P b p enough) s h }
+
+prove-decided : (P : Problem) (b : Bounds) (v : Version) → Suffices P b → (s : Status) (bytes : List ℕ) → ProveEnds P b v s bytes → IsProblemDecided P b s
+prove-decided P b v e s bytes h = problem-decided P b s (prove-closed P b v e s bytes h)
+
+tableau-decided : (P : Problem) (b : Bounds) → Suffices P b → (s : Status) (bytes : List ℕ) → TableauEnds P b s bytes → IsTableauProblemDecided P b s
+tableau-decided P b e s bytes h =
+    let closed = tableau-closed P b e s bytes h in
+    record { closed = closed; tautology = λ p enough. same-tableau_decided (HasClosed P b.limit) (IsTautology P) (tautology_where_closed P p b.limit) (within-limit P b p enough) s closed }
 
 -- ---- check
 
@@ -147,11 +185,13 @@ convert-decided told files P d text m n f g after t held quiet _ _ (convert_ends
 
 -- ---- make
 
-make-decided : (g : GeneratedProblem) (b : Bounds) → IsMakeable g b → (s : Status) (bytes : List ℕ) → MakeEnds g b s bytes → IsDecided s
-make-decided g b e _ _ (made.derived P d text h k) = tt
+make-decided : (g : GeneratedProblem) (b : Bounds) → (e : IsMakeable g b) → (s : Status) (bytes : List ℕ) → MakeEnds g b s bytes → IsProblemDecided e.problem b s
+make-decided g b e _ _ (made.derived P d text h k) =
+    let same = same_problem (Some (made_files g)) (made_files g) (made_file g) e.problem P refl e.read h in
+    problem-decided e.problem b (status.Derived d) (subst (λ Q. HasClosed Q b.limit) same (closed-mono P d b.limit (limit-within P b d k.limit_is) k.closed))
 make-decided g b e _ _ (made.fruitless P s h k) =
     let same = same_problem (Some (made_files g)) (made_files g) (made_file g) e.problem P refl e.read h in
-    (search-decided e.problem b e.suffices s (subst (λ Q. SearchEnds Q b s) same k)).0
+    problem-decided e.problem b s (search-decided e.problem b e.suffices s (subst (λ Q. SearchEnds Q b s) same k)).0
 make-decided g b e _ _ (made.refused r h k) =
     absurd (ok-err e.problem r (Ok e.problem) (Err r) refl refl (read_is (Some (made_files g)) (made_files g) (made_file g) e.problem (Err r) refl e.read k))
 

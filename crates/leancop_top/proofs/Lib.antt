@@ -1,13 +1,16 @@
 pub mod Pieces
 pub mod LimitLaws
 pub mod Budgets
+pub mod Unclosed
 pub mod Searches
 pub mod Cuts
 pub mod Refusals
 pub mod NoIncludes
 pub mod Made
 pub mod ModelLaws
+pub mod Theorems
 pub mod Tableaux
 pub mod Ends
 pub mod Translations
 pub mod Decisions
+pub mod Laws

@@ -1,6 +1,7 @@
 -- What deepening answers is what ends the search.
-use Rattle.std.proofs.Common.{◌≡◌, ℕ, ◌≤◌, IsTrue, refl, subst, arith, nat_le}
+use Rattle.std.proofs.Common.{◌≡◌, ℕ, ◌≤◌, IsTrue, refl, subst, sym, arith, nat_le}
 use Rattle.std.proofs.lemmas.Bool.{and_from, le-leb}
+use Rattle.calculus.specs.Problems.{is_problem}
 use Rattle.calculus.specs.Syntax.{Problem}
 use Rattle.calculus.specs.declared.limits.TheConstants.{MAX_PATH_LIMIT}
 use Rattle.calculus.specs.Counting.{MoreThan}
@@ -10,9 +11,10 @@ use Rattle.calculus.proofs.AnswerLaws.{answer-unique}
 use Rattle.connection_search.specs.Outcomes.{IsDeepAnswer}
 use Rattle.connection_search.specs.declared.deepening.Answer.TheVariants as deep
 use Rattle.matrix_build.specs.Fits.{FitsMatrix}
-use Rattle.calculus.specs.Tableaux.{Tableau}
+use Rattle.calculus.specs.Tableaux.{HasClosed, Tableau}
 use Rattle.tableau_core.specs.Numbered.TableauView.{the_tableau}
 use Rattle.leancop_top.proofs.LimitLaws.{none_below, none_within}
+use Rattle.leancop_top.proofs.Unclosed.{never-closed, unclosed}
 use Rattle.command_line.specs.CommandLine.{Bounds}
 use Rattle.leancop_top.specs.TableauSearch.{IsCutMissed, IsFound, IsLimit, IsOnlyAnswer, SearchEnds, cut, least, exhausted, no_tableau, steps_ended}
 use Rattle.leancop_top.specs.declared.status.Status.TheVariants as status
@@ -26,20 +28,20 @@ found P b n d t fits missed h = record {
   closed = h.1;
 }
 
-pub exhausted-ends : (P : Problem) (b : Bounds) (n d : ℕ) → FitsMatrix P → IsDeepAnswer P b.limit n (deep.Exhausted d) → SearchEnds P b (status.Exhausted d)
-exhausted-ends P b n d fits h = exhausted d (record { fits = fits; answer = only P b _ h })
+pub exhausted-ends : (P : Problem) → IsTrue (is_problem P) → (b : Bounds) (n d : ℕ) → FitsMatrix P → IsDeepAnswer P b.limit n (deep.Exhausted d) → SearchEnds P b (status.Exhausted d)
+exhausted-ends P well b n d fits h = exhausted d (record { fits = fits; answer = only P b _ h; unclosed = unclosed P well d (subst (λ m. ¬ HasClosed P m) (sym h.0) h.1) })
 
-pub no_tableau-ends : (P : Problem) (b : Bounds) (n d : ℕ) → FitsMatrix P → IsDeepAnswer P b.limit n (deep.NoTableau d) → SearchEnds P b (status.NoTableau d)
-no_tableau-ends P b n d fits h = no_tableau d (record { fits = fits; answer = only P b _ h.0; never = h.1 })
+pub no_tableau-ends : (P : Problem) → IsTrue (is_problem P) → (b : Bounds) (n d : ℕ) → FitsMatrix P → IsDeepAnswer P b.limit n (deep.NoTableau d) → SearchEnds P b (status.NoTableau d)
+no_tableau-ends P well b n d fits h = no_tableau d (record { fits = fits; answer = only P b _ h.0; never = never-closed P well h.1 })
 
 -- nothing was used of the budget before
-pub steps-ends : (P : Problem) (b : Bounds) (n d : ℕ) → FitsMatrix P → IsCutMissed P b → n ≡ b.steps → IsDeepAnswer P b.limit n (deep.Steps d) → SearchEnds P b (status.StepsEnded d b.steps)
-steps-ends P b n d fits missed same h = steps_ended d b.steps (record {
+pub steps-ends : (P : Problem) → IsTrue (is_problem P) → (b : Bounds) (n d : ℕ) → FitsMatrix P → IsCutMissed P b → n ≡ b.steps → IsDeepAnswer P b.limit n (deep.Steps d) → SearchEnds P b (status.StepsEnded d b.steps)
+steps-ends P well b n d fits missed same h = steps_ended d b.steps (record {
   fits = fits;
   budget = refl;
   below = h.0;
   left = h.1.left;
-  none = none_within P d h.1.none;
+  unclosed = unclosed P well d (none_within P d h.1.none);
   more = subst (MoreThan member_cmp (ComesNoLater P d)) same h.2;
   missed = missed;
 })

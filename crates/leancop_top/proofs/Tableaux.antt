@@ -10,6 +10,7 @@ use Rattle.calculus.specs.Syntax.{Problem}
 use Rattle.calculus.specs.Tableaux.{Tableau}
 use Rattle.calculus.specs.TableauText.{IsClosedText, IsTableauJudgement, TableauVerdict, tableau_accepted, tableau_moves, chosen_is_written, move_is_written}
 use Rattle.command_line.specs.Table.{Word}
+use Rattle.decision_theory.proofs.ExclusionLaws.{tautology_where_closed}
 use Rattle.logic_rules.proofs.ProblemFacts.{kept}
 use Rattle.leancop_top.specs.Commands.Tcheck.{TcheckEnds, accepted}
 use Rattle.leancop_top.specs.SecondFile.{HasBytes}
@@ -22,7 +23,11 @@ only P well bytes v h = record { judged = h; alone = λ w g. tableau_judgement-u
 
 -- the text of a closed tableau is accepted
 pub stated : (P : Problem) → IsTrue (is_problem P) → (t : Tableau) (limit : ℕ) (bytes : List ℕ) → IsClosedText P t limit bytes → IsTableau P t limit bytes
-stated P well t limit bytes h = record { text = h; judged = only P well bytes tableau_accepted (text-accepted P t limit bytes h) }
+stated P well t limit bytes h = record {
+  text = h;
+  judged = only P well bytes tableau_accepted (text-accepted P t limit bytes h);
+  tautology = λ p. tautology_where_closed P p limit (record { tableau = t; closed = h.closed });
+}
 
 -- and its limit is one that can be written
 pub stated-limit : (P : Problem) (t : Tableau) (limit : ℕ) (bytes : List ℕ) → IsClosedText P t limit bytes → IsTrue (is_limit limit)

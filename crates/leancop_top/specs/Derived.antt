@@ -6,15 +6,22 @@ use Rattle.calculus.specs.Calculus.{Derives}
 use Rattle.calculus.specs.Judgement.{accepted}
 use Rattle.calculus.specs.Propositional.{IsPropositional, IsTautology}
 use Rattle.calculus.specs.Soundness.{IsTrueInStructures}
+use Rattle.calculus.specs.Tableaux.{HasClosed}
 use Rattle.calculus.specs.Versions.{IsTextIn}
 use Rattle.calculus.specs.declared.version.Version.{Version}
 use Rattle.derivation_check.specs.Only.{IsOnlyVersionJudgement}
 
+-- some tableau is closed within some limit
+abbrev pub HasTableau : Problem → Type 0
+HasTableau P = (limit : ℕ) × HasClosed P limit
+
 -- the formula is true in each structure of the setting; that of a propositional problem is a
--- tautology, true whatever truth values its propositions have
-pub record IsValid (P : Problem) : Type 0 where
+-- tautology, true whatever truth values its propositions have; and some tableau is closed within
+-- some limit, so that a search whose bounds suffice and reach that limit finds one
+pub record IsTheorem (P : Problem) : Type 0 where
   pub true_in_structures : IsTrueInStructures P
   pub tautology : IsPropositional P → IsTautology P
+  pub closed : HasTableau P
 
 -- the bytes are the text of this version of a derivation that derives the problem and carries the
 -- limit, and so their judgement is acceptance
@@ -24,4 +31,4 @@ pub record IsDerivation (version : Version) (P : Problem) (limit : ℕ) (bytes :
   pub derives : Derives P derivation
   pub text : IsTextIn version P derivation bytes
   pub judged : IsOnlyVersionJudgement P bytes accepted
-  pub valid : IsValid P
+  pub theorem : IsTheorem P

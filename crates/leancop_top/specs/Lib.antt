@@ -4,10 +4,12 @@ pub mod FaultView
 pub mod Reading
 pub mod SecondFile
 pub mod Translating
+pub mod Unclosed
 pub mod TableauSearch
 pub mod Derived
 pub mod Accepted
 pub mod TableauTexts
 pub mod MadeLines
 pub mod Commands
+pub mod Laws
 pub mod Run

@@ -12,9 +12,10 @@ use Rattle.leancop_top.specs.Commands.Convert.{ConvertEnds, IsConvertDecided}
 use Rattle.leancop_top.specs.Commands.Make.{IsMakeable, MakeEnds}
 use Rattle.leancop_top.specs.Commands.Migrate.{IsMigrateDecided, MigrateEnds}
 use Rattle.leancop_top.specs.Commands.Model.{IsModel, IsNoModel, IsTold, ModelEnds}
-use Rattle.leancop_top.specs.Commands.Prove.{IsDecided, IsDerivedAt, IsProvable}
+use Rattle.leancop_top.specs.Commands.Prove.{IsDerivedAt, IsProblemDecided, IsProvable}
 use Rattle.leancop_top.specs.Commands.Prove.{IsProvableByCut, ProveEnds}
-use Rattle.leancop_top.specs.Commands.Tableau.{IsTableauDecided, IsTableauFoundAt, TableauEnds}
+use Rattle.leancop_top.specs.Commands.Tableau.{IsTableauFoundAt, IsTableauProblemDecided}
+use Rattle.leancop_top.specs.Commands.Tableau.{TableauEnds}
 use Rattle.leancop_top.specs.Commands.Tcheck.{IsTcheckDecided, TcheckEnds}
 use Rattle.leancop_top.specs.Commands.Transfer.{IsTransferDecided, TransferEnds}
 use Rattle.leancop_top.specs.Reading.{EndsOn}
@@ -65,7 +66,7 @@ pub record IsCutOff (told : Option Files) (command : Command)
 -- what is decided where the files hold what the words ask for
 abbrev pub Decides : Option Files → Command → Status → Type 0
 Decides told (prove p b v) status =
-    (IsProvable told p b → IsDecided status)
+    ((h : IsProvable told p b) → IsProblemDecided h.problem b status)
     × ((limit : ℕ) → IsProvableByCut told p b limit → IsDerivedAt limit status)
 Decides told (check p derivation) status = IsCheckable told p derivation → IsJudged status
 Decides told (check_translated p derivation) status =
@@ -73,13 +74,13 @@ Decides told (check_translated p derivation) status =
 Decides told (transfer p derivation) status =
     IsCheckable told (in_intuitionistic p) derivation → IsTransferDecided status
 Decides told (migrate p derivation) status = IsCheckable told p derivation → IsMigrateDecided status
-Decides told (make g b) status = IsMakeable g b → IsDecided status
+Decides told (make g b) status = (h : IsMakeable g b) → IsProblemDecided h.problem b status
 Decides told (model p structure steps) status =
     (IsModel told p structure steps → IsTold status)
     × ((line : ℕ) (cause : StructureCause) → IsNoModel told p structure line cause
     → status ≡ BadStructure line cause)
 Decides told (tableau p b) status =
-    (IsProvable told p b → IsTableauDecided status)
+    ((h : IsProvable told p b) → IsTableauProblemDecided h.problem b status)
     × ((limit : ℕ) → IsProvableByCut told p b limit → IsTableauFoundAt limit status)
 Decides told (tcheck p text) status = IsCheckable told p text → IsTcheckDecided status
 Decides told (convert p text) status = IsCheckable told p text → IsConvertDecided status

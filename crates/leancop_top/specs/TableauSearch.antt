@@ -10,6 +10,7 @@ use Rattle.calculus.specs.Space as space
 use Rattle.command_line.specs.CommandLine.{Bounds}
 use Rattle.matrix_build.specs.Fits.{FitsMatrix}
 use Rattle.tableau_core.specs.Numbered.TableauView.{the_tableau}
+use Rattle.leancop_top.specs.Unclosed.{IsNeverClosed, IsUnclosed}
 use Rattle.leancop_top.specs.declared.tableau_search.Searched as program
 use Rattle.leancop_top.specs.declared.tableau_search.Searched.TheVariants.{Found, Fruitless}
 use Rattle.leancop_top.specs.declared.status.Status.{Status}
@@ -52,12 +53,13 @@ pub data IsLimit (P : Problem) (b : Bounds) (limit : ℕ) : Type 0 where
 pub record IsExhausted (P : Problem) (b : Bounds) (limit : ℕ) : Type 0 where
   pub fits : FitsMatrix P
   pub answer : IsOnlyAnswer P b (space.exhausted limit)
+  pub unclosed : IsUnclosed P limit
 
 -- the limit is the least one that is not left, and no tableau is closed within any limit at all
 pub record IsNoTableau (P : Problem) (b : Bounds) (limit : ℕ) : Type 0 where
   pub fits : FitsMatrix P
   pub answer : IsOnlyAnswer P b (space.no_tableau limit)
-  pub never : (e : ℕ) → ¬ HasClosed P e
+  pub never : IsNeverClosed P
 
 -- the budget was `steps`; each limit up to this one is left, and no tableau is closed within it;
 -- and more than `steps` members of the space up to the next limit come no later in the search than
@@ -67,7 +69,7 @@ pub record IsStepsEnded (P : Problem) (b : Bounds) (limit steps : ℕ) : Type 0 
   pub budget : steps ≡ b.steps
   pub below : limit < b.limit
   pub left : (e : ℕ) → 1 ≤ e → e ≤ limit → IsLeft P e
-  pub none : ¬ HasClosed P limit
+  pub unclosed : IsUnclosed P limit
   pub more : MoreThan member_cmp (ComesNoLater P limit) steps
   pub missed : IsCutMissed P b
 

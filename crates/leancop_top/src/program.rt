@@ -9,6 +9,7 @@ ghost use Rattle.cop_base.specs.Outside.{Files, Rose};
 ghost use Rattle.cop_base.specs.Reads.{ReadsOn};
 ghost use Rattle.cop_sink.specs.Output.{WentOutInPieces};
 ghost use Rattle.command_line.specs.CommandLine.{asked};
+ghost use Rattle.leancop_top.specs.Laws.{IsCharacterised, IsIndependent};
 ghost use Rattle.leancop_top.specs.Run.{Decides, Ends, IsAnswered, IsCutOff};
 ghost use Rattle.leancop_top.specs.Statuses.{IsCounted, OnAnswer};
 
@@ -77,7 +78,7 @@ fn answer<L: Library>(alloc: Global, words: &[String], lib: &mut L) -> Result<Re
 
 /// Does all that the program does. `words` are the words after the program's own name. The whole
 /// output is built before the first byte is written.
-#[tactic(auto, using(calculus::proofs::CasesLaws::computes_instances, calculus::proofs::SoundnessLaws::sound))]
+#[tactic(auto, using(calculus::proofs::CasesLaws::computes_instances, calculus::proofs::SoundnessLaws::sound, crate::proofs::Laws::characterised, crate::proofs::Laws::independent))]
 pub fn run<L: Library, K: Sink>(
     alloc: Global,
     words: &Vec<String>,
@@ -130,6 +131,10 @@ pub fn run<L: Library, K: Sink>(
     // formula that a finite structure makes false has none; and the clauses of tableaux are the
     // instances that the rules define by cases.
     ensures sound { (P : tree.Problem) → IsTrue (is_problem P) → IsSound P }
+    // Some tableau is closed within some limit exactly where some instances span, and where there
+    // is a derivation; and the bounds of a search decide nothing but what is reached.
+    ensures characterised { (P : tree.Problem) → IsTrue (is_problem P) → IsCharacterised P }
+    ensures independent { (P : tree.Problem) → IsIndependent P }
     ensures instances { (P : tree.Problem) → ComputesInstances P }
 {
     match answer(alloc, words.as_slice(), lib) {

@@ -58,6 +58,7 @@ fn search_cut(
 pub fn search(alloc: Global, problem: &Problem, bounds: Bounds) -> Result<Searched, NoMemory>
     ensures { IfOk result (λ s. IsSearched problem.now (the_bounds bounds) s) }
 {
+    let _symbols = problem.symbols(); // tells that it is a problem
     let matrix = match build_matrix(alloc, problem) {
         Ok(matrix) => matrix,
         Err(MatrixFault::TooLarge) => return Ok(Searched::Fruitless(Status::MatrixTooLarge)),

@@ -9,7 +9,7 @@ use Rattle.calculus.specs.Translation.{translated_problem}
 use Rattle.command_line.specs.CommandLine.{ProblemFile}
 use Rattle.derivation_check.specs.Only.{IsOnlyVersionJudgement}
 use Rattle.command_line.specs.Table.{Word}
-use Rattle.leancop_top.specs.Derived.{IsValid}
+use Rattle.leancop_top.specs.Derived.{IsTheorem}
 use Rattle.leancop_top.specs.Reading.{Reading}
 use Rattle.leancop_top.specs.SecondFile.{FetchEnds, HasBytes}
 use Rattle.leancop_top.specs.Statuses.{status_line}
@@ -27,7 +27,7 @@ pub record IsJudgedIn (told : Option Files) (P : Problem) (derivation : Word) (v
 -- why it ends with a status for the problem that is read, and what is written
 pub data CheckEnds (told : Option Files) (P : Problem) (derivation : Word)
     : Status → List ℕ → Type 0 where
-  accepted : IsJudgedIn told P derivation judgement.accepted → IsValid P
+  accepted : IsJudgedIn told P derivation judgement.accepted → IsTheorem P
       → CheckEnds told P derivation Accepted (status_line Accepted)
   rejected : (line : ℕ) (fault : CheckFault)
       → IsJudgedIn told P derivation (judgement.rejected line fault)

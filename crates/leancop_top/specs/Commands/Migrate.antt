@@ -12,7 +12,7 @@ use Rattle.command_line.specs.Table.{Word}
 use Rattle.derivation_check.specs.Only.{IsOnlyVersionJudgement}
 use Rattle.leancop_top.specs.Accepted.{IsAcceptedIn}
 use Rattle.leancop_top.specs.Commands.Check.{IsJudgedIn}
-use Rattle.leancop_top.specs.Derived.{IsValid}
+use Rattle.leancop_top.specs.Derived.{IsTheorem}
 use Rattle.leancop_top.specs.SecondFile.{FetchEnds}
 use Rattle.leancop_top.specs.Statuses.{status_line}
 use Rattle.leancop_top.specs.declared.status.Status.{Status}
@@ -27,7 +27,7 @@ pub record IsMigrated (told : Option Files) (P : Problem) (derivation : Word) (b
   pub derives : Derives P given
   pub text : IsTextIn Two P given bytes
   pub judged : IsOnlyVersionJudgement P bytes judgement.accepted
-  pub valid : IsValid P
+  pub theorem : IsTheorem P
 
 -- why it ends with a status for the problem that is read, and what is written
 pub data MigrateEnds (told : Option Files) (P : Problem) (derivation : Word)

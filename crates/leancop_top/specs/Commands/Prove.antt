@@ -1,10 +1,12 @@
 -- `prove FILE`: the derivation of a problem.
-use Rattle.std.specs.Prelude.{◌≡◌, ⊤, ℕ, List, Option, Some, Ok}
+use Rattle.std.specs.Prelude.{◌≡◌, ◌≤◌, ℕ, List, Option, Some, Ok}
 use Rattle.cop_base.specs.Outside.{Files}
+use Rattle.calculus.specs.Propositional.{IsPropositional, IsTautology}
 use Rattle.calculus.specs.Syntax.{Problem}
 use Rattle.calculus.specs.Tableaux.{HasClosed}
 use Rattle.command_line.specs.CommandLine.{Bounds, ProblemFile}
 use Rattle.calculus.specs.declared.version.Version.{Version}
+use Rattle.decision_theory.specs.Decision.{proposition_count}
 use Rattle.leancop_top.specs.Derived.{IsDerivation}
 use Rattle.leancop_top.specs.Reading.{Reading}
 use Rattle.leancop_top.specs.Statuses.{status_line}
@@ -35,12 +37,19 @@ pub record IsProvable (told : Option Files) (p : ProblemFile) (b : Bounds) : Typ
   pub read : Reading files p (Ok problem)
   pub suffices : Suffices problem b
 
--- then it is decided whether there is a derivation
-abbrev pub IsDecided : Status → Type 0
-IsDecided (Derived limit) = ⊤
-IsDecided (Exhausted limit) = ⊤
-IsDecided (NoTableau limit) = ⊤
-IsDecided _ = ⊥
+-- a derivation is printed exactly where this holds
+abbrev pub IsDecided : Type 0 → Status → Type 0
+IsDecided holds (Derived limit) = holds
+IsDecided holds (Exhausted limit) = ¬ holds
+IsDecided holds (NoTableau limit) = ¬ holds
+IsDecided holds _ = ⊥
+
+-- then it is decided whether some tableau is closed within the greatest limit; and where that limit
+-- is at least the number of a propositional problem's propositions, whether it is a tautology
+pub record IsProblemDecided (P : Problem) (b : Bounds) (status : Status) : Type 0 where
+  pub closed : IsDecided (HasClosed P b.limit) status
+  pub tautology :
+      IsPropositional P → proposition_count P.formula ≤ b.limit → IsDecided (IsTautology P) status
 
 -- the files hold the problem, and the bounds suffice to find its least cut, at this limit
 pub record IsProvableByCut (told : Option Files) (p : ProblemFile) (b : Bounds) (limit : ℕ)

@@ -18,17 +18,17 @@ returns-in-Closed c =
 pub returns-in-Exhausted : goal.returns-in-Exhausted
 returns-in-Exhausted c =
     let n = c.new-ledger.result.budget - c.new-ledger.result.used in
-    exhausted-ends c.args.problem.now (the_bounds c.args.bounds) n c.in-Exhausted.limit (c.in-Ok.ensures.fits refl)
+    exhausted-ends c.args.problem.now c.symbols-symbols.ensures.well (the_bounds c.args.bounds) n c.in-Exhausted.limit (c.in-Ok.ensures.fits refl)
     (subst (IsDeepAnswer c.args.problem.now c.args.bounds.limit.number n) c.in-Exhausted.is c.in_ok-limit-2.ensures.answer)
 
 pub returns-in-NoTableau : goal.returns-in-NoTableau
 returns-in-NoTableau c =
     let n = c.new-ledger.result.budget - c.new-ledger.result.used in
-    no_tableau-ends c.args.problem.now (the_bounds c.args.bounds) n c.in-NoTableau.limit (c.in-Ok.ensures.fits refl)
+    no_tableau-ends c.args.problem.now c.symbols-symbols.ensures.well (the_bounds c.args.bounds) n c.in-NoTableau.limit (c.in-Ok.ensures.fits refl)
     (subst (IsDeepAnswer c.args.problem.now c.args.bounds.limit.number n) c.in-NoTableau.is c.in_ok-limit-2.ensures.answer)
 
 pub returns : goal.returns
 returns c =
     let n = c.new-ledger.result.budget - c.new-ledger.result.used in
-    steps-ends c.args.problem.now (the_bounds c.args.bounds) n c.in-Steps.limit (c.in-Ok.ensures.fits refl) (c.in_ok-limit.ensures.missed (none-if c.in_ok-limit.field-0 c.in_default.not-Some)) (omega (arith, c.new-ledger.ensures.budget, c.new-ledger.ensures.used))
+    steps-ends c.args.problem.now c.symbols-symbols.ensures.well (the_bounds c.args.bounds) n c.in-Steps.limit (c.in-Ok.ensures.fits refl) (c.in_ok-limit.ensures.missed (none-if c.in_ok-limit.field-0 c.in_default.not-Some)) (omega (arith, c.new-ledger.ensures.budget, c.new-ledger.ensures.used))
     (subst (IsDeepAnswer c.args.problem.now c.args.bounds.limit.number n) c.in-Steps.is c.in_ok-limit-2.ensures.answer)

@@ -1,8 +1,7 @@
-use Rattle.calculus.proofs.SoundnessLaws.{derived-true}
-use Rattle.calculus.proofs.TautologyLaws.{tautology}
 use Rattle.calculus.specs.Versions.{stated}
 use Rattle.calculus.specs.declared.version.Version.TheVariants.{Two}
 use Rattle.derivation_check.proofs.Accepting.{accepted-in}
+use Rattle.leancop_top.proofs.Theorems.{derived-theorem}
 use Rattle.leancop_top.specs.Commands.Migrate.{migrated}
 use Rattle.leancop_top.proofs.commands.migrate.migrate_accepted.Goals as goal
 
@@ -13,12 +12,11 @@ returns-clause-ends c = λ told name h.
     let well = c.symbols-symbols.ensures.well in
     let bytes = c.in_ok-output.output.items in
     let text = c.in_ok-output.ensures.text in
-    let true_in = derived-true P well d c.requires.printable c.requires.derives in
     migrated bytes (record {
       given = d;
       accepted = h;
       derives = c.requires.derives;
       text = text;
       judged = accepted-in P well Two d bytes text c.requires.derives;
-      valid = record { true_in_structures = true_in; tautology = λ g. tautology P well g true_in };
+      theorem = derived-theorem P well d c.requires.printable c.requires.derives;
     })

@@ -1,7 +1,6 @@
-use Rattle.calculus.proofs.SoundnessLaws.{derived-true}
-use Rattle.calculus.proofs.TautologyLaws.{tautology}
 use Rattle.derivation_check.proofs.Accepting.{accepted-in}
 use Rattle.sequent_calc.specs.DerivationView.{the_derivation}
+use Rattle.leancop_top.proofs.Theorems.{derived-theorem}
 use Rattle.leancop_top.proofs.commands.prove.derivation_text.Goals as goal
 
 pub returns : goal.returns
@@ -10,12 +9,11 @@ returns c =
     let converted = c.in_ok-derivation.ensures in
     let text = c.in_ok-text.ensures.text in
     let well = c.symbols-symbols.ensures.well in
-    let true_in = derived-true c.args.problem.now well d converted.printable converted.derives in
     record {
       derivation = d;
       carries = converted.carries;
       derives = converted.derives;
       text = text;
       judged = accepted-in c.args.problem.now well c.args.version d c.in_ok-text.text.items text converted.derives;
-      valid = record { true_in_structures = true_in; tautology = λ h. tautology c.args.problem.now well h true_in };
+      theorem = derived-theorem c.args.problem.now well d converted.printable converted.derives;
     }

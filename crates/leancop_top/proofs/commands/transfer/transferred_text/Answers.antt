@@ -1,11 +1,10 @@
 use Rattle.std.proofs.Common.{Err, IsTrue, ap, arith, subst, sym}
-use Rattle.calculus.proofs.SoundnessLaws.{derived-true}
-use Rattle.calculus.proofs.TautologyLaws.{tautology}
 use Rattle.calculus.specs.Calculus.{Derives}
 use Rattle.calculus.specs.declared.version.Version.TheVariants.{One}
 use Rattle.calculus.specs.DerivationText.{is_printable}
 use Rattle.derivation_check.proofs.Accepting.{accepted-in}
 use Rattle.sequent_calc.specs.DerivationView.{the_derivation}
+use Rattle.leancop_top.proofs.Theorems.{derived-theorem}
 use Rattle.leancop_top.proofs.commands.transfer.transferred_text.Goals as goal
 
 pub print-requires : goal.print-requires
@@ -19,14 +18,13 @@ returns-in_ok-text-in-Ok c =
     let derives = subst (λ Q. Derives Q d) (sym c.requires.translated.same) c.in-Ok.ensures.derives in
     let text = c.in_ok-text-in-Ok.ensures.text in
     let well = c.symbols-symbols.ensures.well in
-    let true_in = derived-true P well d text.printable derives in
     record {
       derivation = d;
       carries = c.in-Ok.ensures.limit;
       derives = derives;
       text = text;
       judged = accepted-in P well One d c.in_ok-text-in-Ok.text.items text derives;
-      valid = record { true_in_structures = true_in; tautology = λ h. tautology P well h true_in };
+      theorem = derived-theorem P well d text.printable derives;
     }
 
 pub unreachable-requires : goal.unreachable-requires
