@@ -49,12 +49,13 @@ problem 'tff(c,conjecture,p).'
 status_of 'Inappropriate for m.p' 4 "$folder/m.p"
 problem 'fof(c,plain,p).'
 status_of 'SemanticError for m.p' 4 "$folder/m.p"
-# Where completeness is not known, no tableau says nothing.
+# No tableau tells that the formula is not valid, but of equality in modal logic, which is a predicate like others there.
 status_of 'CounterSatisfiable for b.p' 2 --logic=d examples/modal/b.p
-status_of 'GaveUp for b.p' 2 --logic=s4 examples/modal/b.p
-status_of 'GaveUp for excluded_middle.p' 2 --logic=intuitionistic examples/intuitionistic/excluded_middle.p
+status_of 'CounterSatisfiable for b.p' 2 --logic=s4 examples/modal/b.p
+status_of 'CounterSatisfiable for excluded_middle.p' 2 --logic=intuitionistic examples/intuitionistic/excluded_middle.p
 problem 'qmf(c,conjecture,a = b).'
 status_of 'GaveUp for m.p' 2 --logic=d "$folder/m.p"
+status_of 'GaveUp for m.p' 2 --logic=s4 "$folder/m.p"
 problem 'qmf(c,conjecture,(p <=> q)).'
 status_of 'CounterSatisfiable for m.p' 2 --logic=d "$folder/m.p"
 # Memory ends in the middle of a proof whose terms are deep: its text has 27 MB.
