@@ -1,5 +1,5 @@
 -- The laws that a run names: closed tableaux, spanning instances and derivations, and the bounds of a search.
-use Rattle.std.proofs.Common.{◌≡◌, ◌⊎◌, ℕ, ◌≤◌, List, Option, None, Some, IsTrue, inl, inr, refl, sym, ◌∙◌, ap, subst, arith}
+use Rattle.std.proofs.Common.{◌≡◌, ◌⊎◌, ℕ, ◌≤◌, List, Option, None, Some, IsTrue, inl, inr, refl, sym, ◌∙◌, ap, arith}
 use Rattle.calculus.specs.Problems.{is_problem}
 use Rattle.calculus.specs.Space.{Answer, derived, exhausted, no_tableau, IsAnswer}
 use Rattle.calculus.specs.Syntax.{Problem}
