@@ -98,7 +98,7 @@ typedef struct {
 
 /* Judges the second text as a derivation of the problem that the first one states without includes.
  *   0: the first text holds one problem in the setting, the second is the text of a derivation of it, and so the formula is
- *      true at the root of each structure of the setting, of any size;
+ *      true at the root of each structure of the setting, finite or over the natural numbers;
  *   8: it is none, and `line` and `fault` are those of its one judgement;
  *   4: the first text holds no problem, and `offset` and `fault` are those of its one first refusal. */
 void leancop_check(uint32_t logic, uint32_t domains, const uint8_t *problem, size_t problem_length,
