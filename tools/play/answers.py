@@ -22,9 +22,9 @@ from shown import LOGICS, Reader
 
 MODAL = ("d", "t", "s4", "s5")
 DOMAINS = ("constant", "cumulative", "varying")
-SETTINGS = [("classical", ""), ("intuitionistic", "")] + [(l, d) for l in MODAL for d in DOMAINS if (l, d) != ("s5", "cumulative")]
+SETTINGS = [("classical", ""), ("intuitionistic", "")] + [(m, d) for m in MODAL for d in DOMAINS if (m, d) != ("s5", "cumulative")]
 LONGEST_TEXT = 200_000  # characters of a field of the page, and of a derivation that comes from it
-FIRST_STEPS, MORE = 200_000, 6  # budgets of the search, one after the other: what is searched whole is known when the time is over
+FIRST_STEPS, MORE = 20_000, 8  # budgets of the search, one after the other: what is searched whole is known when the time is over
 Event = dict[str, Any]
 
 
@@ -316,7 +316,8 @@ class Work:
         return {"kind": "stopped" if self.job.stopped else "unknown", "known": self.known, "seconds": self.q.seconds}
 
     def prove(self, runs: set[Run], found: threading.Event) -> Event | None:
-        steps, cut, reached = FIRST_STEPS, [], ""
+        steps, reached = FIRST_STEPS, ""
+        cut: list[str] = []
         while self.left() > 0 and not found.is_set() and not self.job.stopped:
             ended = self.program("prove", f"--steps={steps}", *cut, seconds=self.left(), among=runs)
             said = ended.out.decode("latin-1", "replace").strip() if ended.status else ""

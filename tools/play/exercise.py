@@ -20,7 +20,10 @@ MOST_STEPS, LONGEST_STEP = 2_000, 4_000
 
 def formula_of(file: Path, logic: str) -> Tree:
     """The problem's formula, with the variables of its text. canonical_formula.py tells how it is made of the items."""
-    premises, conjecture, functions, predicates = [], None, {}, {}
+    premises: list[Tree] = []
+    conjecture: Tree = ()
+    functions: dict[tuple[str, int], None] = {}
+    predicates: dict[tuple[str, int], None] = {}
     equations = False
     for _, _, role, formula in canonical.passing(str(file), None, []):
         equations |= canonical.symbols(formula, functions, predicates)
@@ -33,7 +36,7 @@ def formula_of(file: Path, logic: str) -> Tree:
     if not premises:
         return conjecture
     given = canonical.balanced("and", premises)
-    return ("not", given) if conjecture is None else ("imp", given, conjecture)
+    return ("imp", given, conjecture) if conjecture else ("not", given)
 
 
 def setting_of(logic: str, domains: str) -> str:

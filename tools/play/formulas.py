@@ -105,7 +105,8 @@ class Parser:
     """One formula, or premises, a turnstile and a formula. Connectives bind as in books: ¬ □ ◇ ∀ ∃, then ∧, ∨, →, ↔."""
 
     def __init__(self, text: str) -> None:
-        self.tokens, self.at, self.bound, self.depth = tokens_of(text), 0, [], 0
+        self.tokens, self.at, self.depth = tokens_of(text), 0, 0
+        self.bound: list[str] = []
         self.modal: Token | None = None
         self.free: list[str] = []
 

@@ -264,7 +264,7 @@ function fill(words) {
 }
 function linked() {
   const words = Object.fromEntries(new URLSearchParams(location.hash.slice(1)));
-  if (!words.f) return;
+  if (!words.f) { $('formula').focus(); return; }
   fill(words);
   if (words.x === undefined) prove();
   else exercise(words.x ? words.x.split(';') : []);

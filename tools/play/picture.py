@@ -26,7 +26,8 @@ class Tree:
     """Each branch has a column, as broad as its lines and its forks need."""
 
     def __init__(self, root: Branch, reader: Reader) -> None:
-        self.reader, self.parts, self.bottom = reader, [], 0.0
+        self.reader, self.bottom = reader, 0.0
+        self.parts: list[str] = []
         self.widths: dict[int, float] = {}
         self.width = self.measured(root)
         self.draw(root, GAP, 60)
@@ -81,6 +82,7 @@ class Structure:
     def __init__(self, text: str, reader: Reader) -> None:
         self.reach: dict[int, list[int]] = {}
         self.there: dict[int, list[str]] = {}
+        self.functions: list[str] = []
         self.elements = int((re.search(r"^elements (\d+)", text, re.M) or ["", "1"])[1])
         for line in text.split("\n"):
             words = re.findall(r"'(?:\\.|[^'\\])*'|\S+", line)
@@ -90,22 +92,23 @@ class Structure:
                 self.there[int(words[1])] = ["elements " + ", ".join(words[2:])]
             if words[:1] == ["predicate"] and len(words) > 4:
                 self.there[int(words[3])] += list(self.atoms(reader, words[1], int(words[2]), words[4]))
-        self.functions = [self.function(reader, words[1:]) for words in re.findall(r"^(function) (\S+) (\d+) (.*)$", text, re.M)]
+            if words[:1] == ["function"]:
+                self.functions.append(self.function(reader, words[1], int(words[2]), words[3:]))
 
     def atoms(self, reader: Reader, name: str, arity: int, bits: str) -> Iterator[str]:
         for place, bit in enumerate(bits):
             if bit == "1" and name != "$$o":
-                elements = tuple(("fun", str(n), ()) for n in self.tuple(place, arity))
+                elements = tuple(("fun", str(n), ()) for n in self.elements_at(place, arity))
                 yield reader.formula(("equal", *elements) if name == "=" else ("atom", name.strip("'"), elements))
 
-    def tuple(self, place: int, arity: int) -> list[int]:
+    def elements_at(self, place: int, arity: int) -> list[int]:
         return [place // self.elements ** i % self.elements + 1 for i in reversed(range(arity))]
 
-    def function(self, reader: Reader, words: tuple[str, ...]) -> str:
-        name, values = reader.name("function", words[0].strip("'")), words[2].split(" ")
-        if words[1] == "0":
+    def function(self, reader: Reader, word: str, arity: int, values: list[str]) -> str:
+        name = reader.name("function", word.strip("'"))
+        if not arity:
             return f"{name} = {values[0]}"
-        return ", ".join(f"{name}({', '.join(map(str, self.tuple(i, int(words[1]))))}) = {v}" for i, v in enumerate(values))
+        return ", ".join(f"{name}({', '.join(map(str, self.elements_at(i, arity)))}) = {v}" for i, v in enumerate(values))
 
     def rows(self) -> list[list[int]]:
         """The worlds by their distance from the root."""

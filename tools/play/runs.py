@@ -52,8 +52,8 @@ def keep(folder: Path) -> None:
     """The keeper's work."""
     groups: set[int] = set()
     for line in sys.stdin:
-        sign, group = line.split()
-        (groups.add if sign == "+" else groups.discard)(int(group))
+        sign, number = line.split()
+        (groups.add if sign == "+" else groups.discard)(int(number))
     for group in groups:
         end_group(group)
     shutil.rmtree(folder, ignore_errors=True)

@@ -368,21 +368,22 @@ class Rest:
         parts = self.made.components(used, here)
         there = [next((e.number for e in entries if (e.sign, e.formula, e.label) == part), None) for part in parts]
         if len(node.below) == 2:
-            done = next((i for i in (0, 1) if there[i]), None)
-            if done is not None:
-                return self.carry(node.below[done], entries, {**numbers, node.made[0]: there[done]}, dict(names))
+            for below, number in zip(node.below, there):
+                if number is not None:
+                    return self.carry(below, entries, {**numbers, node.made[0]: number}, dict(names))
             self.out.append(here)
             number = len(self.made.steps) + len(self.out)
             for part, below in zip(parts, node.below):
                 entry = Entry(len(entries) + 1, *part, number, used.number)
                 self.carry(below, [*entries, entry], {**numbers, node.made[0]: entry.number}, dict(names))
             return None
-        if None in there:
+        present = [number for number in there if number is not None]
+        if len(present) < len(parts):
             self.out.append(here)
             number = len(self.made.steps) + len(self.out)
             made = [Entry(len(entries) + 1 + i, *part, number, used.number) for i, part in enumerate(parts)]
-            entries, there = [*entries, *made], [e.number for e in made]
-        self.carry(node.below[0], entries, {**numbers, **dict(zip(node.made, there))}, names)
+            entries, present = [*entries, *made], [e.number for e in made]
+        self.carry(node.below[0], entries, {**numbers, **dict(zip(node.made, present))}, names)
         return None
 
 
