@@ -499,6 +499,8 @@ def export(job: Job, question: Question, form: str, text: str) -> None:
             judged = work.said("model" if structure else "check", text)
             if judged != ("false at the root" if structure else "accepted"):
                 raise Refused(f"The program does not take the text: {judged}.")
+            if not structure:  # without the steps that nothing needs, which the program accepts too
+                text = Exercise(work.file, question.logic, question.domains, work.reader(), work.check).rest([], text)["text"]
             made = svg_of(work.file, text, question.logic, work.reader())
         else:
             raise Refused("there is no such form")

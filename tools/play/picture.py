@@ -13,7 +13,7 @@ from shown import LOGICS, Reader, world
 
 ROW, LETTER, GAP = 22, 8.4, 28  # pixels: height of a line, width of a letter, space between branches
 STYLE = ("text{font:14px 'DejaVu Sans',sans-serif;fill:#1d2430}.T{fill:#0b6b3a;font-weight:700}.F{fill:#9c2a10;font-weight:700}"
-         ".dim{fill:#59616d;font-size:12px}.at{fill:#2b4fa8;font-size:12px}line,path{stroke:#7a828e;fill:none;stroke-width:1.4}"
+         ".dim{fill:#59616d;font-size:12px}.at{fill:#2b4fa8;font-size:12px}marker path{fill:#7a828e}line,path{stroke:#7a828e;stroke-width:1.4}"
          "rect.world{fill:#f4f7fc;stroke:#2b4fa8;stroke-width:1.4}rect.root{fill:#fff3c4}")
 
 
