@@ -41,10 +41,10 @@ function draw() {
   if (state.done) say('Proved: leancop accepts your derivation of ' + state.steps.length + (state.steps.length === 1 ? ' step.' : ' steps.'), 'good');
   else if (fault) say('This line is not right.', 'bad');
   else say(open === 1 ? 'One branch is open.' : open + ' branches are open; the marked one comes first.');
-  const tools = element('div', { class: 'tools' }, state.done ? null : ruleForm(), hint ? element('div', { class: 'hint', role: 'status' }, hint) : null, buttons(), lines());
+  const tools = element('div', { class: 'tools' }, state.done ? null : ruleForm(), hint ? element('div', { class: 'hint', role: 'status' }, hint) : null, buttons());
   $('exercise').replaceChildren(
     element('p', { class: 'dim' }, 'Entry 1 says that the formula is false (F) at the root. Take entries apart until each branch says of one atom that it is true and that it is false.'),
-    element('div', { class: 'exercise' }, element('div', { class: 'proof', role: 'group', 'aria-label': 'Entries' }, branch(state.tree)), tools));
+    element('div', { class: 'exercise' }, element('div', {}, element('div', { class: 'proof', role: 'group', 'aria-label': 'Entries' }, branch(state.tree)), lines()), tools));
   $('actions').replaceChildren(copyLink(() => state.steps));
   $('shown').replaceChildren(...(state.done ? [frame(state.page, 'Your proof, step by step')] : []));
   $('text').hidden = !state.done;
