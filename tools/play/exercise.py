@@ -71,30 +71,29 @@ class Exercise:
 
     def judged(self, lines: list[str]) -> Judged:
         lines = lines[:MOST_STEPS]
-        while True:
-            made = Derivation(self.logic, self.formula)
-            for line in lines:
-                try:
-                    step = read_step(line)
-                    self.give_homes(made, step)
-                    made.apply(step)
-                except (Unreadable, Wrong):
-                    break
-            names = made.name_lines()
-            text = self.head + "".join(line + "\n" for line in [*names, *lines, "end"])
-            said = self.check(text)
-            if said == "accepted":
-                return Judged(made, text, done=True)
-            place = re.fullmatch(r"rejected at line (\d+): ([a-z ]+)", said)
-            if not place:
-                raise RuntimeError(said)
-            at, fault = int(place[1]) - 5 - len(names), place[2]
-            if at == len(lines) and fault == "still open" and len(made.steps) == len(lines):
-                return Judged(made, text)
-            if not 0 <= at < len(lines):
-                raise RuntimeError(said)
-            before = self.judged(lines[:at])  # the steps before it, judged for themselves: a fault of form is told before others
-            return before if before.fault else Judged(before.made, before.text, before.done, at, fault)
+        made = Derivation(self.logic, self.formula)
+        for line in lines:
+            try:
+                step = read_step(line)
+                self.give_homes(made, step)
+                made.apply(step)
+            except (Unreadable, Wrong):
+                break
+        names = made.name_lines()
+        text = self.head + "".join(line + "\n" for line in [*names, *lines, "end"])
+        said = self.check(text)
+        if said == "accepted":
+            return Judged(made, text, done=True)
+        place = re.fullmatch(r"rejected at line (\d+): ([a-z ]+)", said)
+        if not place:
+            raise RuntimeError(said)
+        at, fault = int(place[1]) - 5 - len(names), place[2]
+        if at == len(lines) and fault == "still open" and len(made.steps) == len(lines):
+            return Judged(made, text)
+        if not 0 <= at < len(lines):
+            raise RuntimeError(said)
+        before = self.judged(lines[:at])  # the steps before it, judged for themselves: a fault of form is told before others
+        return before if before.fault else Judged(before.made, before.text, before.done, at, fault)
 
     def give_homes(self, made: Derivation, step: Step) -> None:
         """A spare constant gets a home when a step first has it: any world, or with varying domains the one where the step puts it."""

@@ -72,8 +72,8 @@ export function question() {
   return { formula: $('formula').value, premises: $('premises').value, logic: $('logic').value, domains: $('domains').value,
     seconds: +$('seconds').value, megabytes: +$('megabytes').value };
 }
-function fragment(steps) {
-  const q = question(), words = { f: q.formula, l: q.logic };
+function fragment(steps, q = question()) {
+  const words = { f: q.formula, l: q.logic };
   if (q.premises.trim()) words.p = q.premises;
   if (MODAL.includes(q.logic)) words.d = q.domains;
   if (steps) words.x = steps.join(';');
@@ -141,11 +141,11 @@ function unknown(e, q) {
   const more = Math.min(600, e.seconds * 6);
   $('actions').replaceChildren(
     more > e.seconds || e.kind === 'stopped' ? element('button', { type: 'button', onclick: () => prove({ ...q, seconds: more }) }, 'Go on for ' + (more >= 60 ? more / 60 + ' min' : more + ' s')) : '',
-    copyLink());
+    copyLink(undefined, q));
 }
-export function copyLink(steps) {
+export function copyLink(steps, q) {
   return element('button', { type: 'button', onclick: async event => {
-    const link = new URL('..', location.href).href.replace(/[#?].*$/, '') + '#' + fragment(steps?.());
+    const link = new URL('..', location.href).href.replace(/[#?].*$/, '') + '#' + fragment(steps?.(), q);
     try { await navigator.clipboard.writeText(link); event.target.textContent = 'Link copied'; } catch { prompt('The link', link); }
   } }, 'Copy link');
 }
@@ -160,7 +160,7 @@ function actions(e, q, problem) {
     if (made.kind === 'export') save(made.text, FILES[form], form === 'svg' ? 'image/svg+xml' : undefined);
     else $('known').replaceChildren(element('p', { class: 'fault', role: 'alert' }, made.said));
   }) }, { tableau: 'Tableau', coq: 'Coq', svg: 'SVG' }[form]);
-  $('actions').replaceChildren(copyLink(),
+  $('actions').replaceChildren(copyLink(undefined, q),
     element('button', { type: 'button', onclick: () => save(problem(), 'problem.p') }, 'TPTP'),
     element('button', { type: 'button', onclick: () => save(e.text, e.kind + '.txt') }, e.kind === 'proof' ? 'Derivation' : 'Structure'),
     ...(e.kind === 'proof' ? [other('tableau'), other('coq')] : []), other('svg'));
@@ -199,8 +199,7 @@ function table() {
     if (!e.logic) { say(e.said, 'bad'); return; }
     const setting = { ...q, logic: e.logic, domains: e.domains || 'constant' }, where = cells[e.logic + ' ' + e.domains];
     const witness = (text, how) => element('button', { type: 'button', 'aria-label': text + ', ' + name(setting) + ': show why', onclick: () => {
-      show(e, setting, () => '');
-      $('actions').querySelectorAll('button')[1]?.remove();
+      show(e, setting, () => e.problem);
       $('shown').scrollIntoView({ block: 'nearest' });
     } }, element('span', { class: how }, text), ' why');
     where.replaceChildren(e.kind === 'proof' ? witness('yes', 'T') : e.kind === 'structure' ? witness('no', 'F')

@@ -21,7 +21,8 @@ from typing import Any
 from urllib.parse import urlsplit
 
 import answers
-from answers import Bench, Job, Question, Refused
+from answers import Question
+from jobs import Bench, Job, Refused, Tools
 from runs import Keeper
 
 HERE = Path(__file__).resolve().parent
@@ -216,7 +217,7 @@ def opened(bench: Bench, port: int | None) -> Server:
         return Server(0, bench)
 
 
-def serve(tools: answers.Tools, port: int | None, browser: bool, fragment: str) -> int:
+def serve(tools: Tools, port: int | None, browser: bool, fragment: str) -> int:
     sys.setrecursionlimit(20_000)
     threading.stack_size(64 << 20)  # formulas and long derivations are gone through by recursion; only what is used is taken
     signal.signal(signal.SIGINT, signal.SIG_DFL)

@@ -36,10 +36,12 @@ case "$got" in
 esac
 
 if command -v node >/dev/null && command -v chromium >/dev/null; then
-    tools/leancop-play --no-browser --port=0 >"$folder/played" &
+    tools/leancop-play --no-browser --port=0 'http://127.0.0.1:8642/#f=p' >"$folder/played" &
     player=$!
     awaited "$folder/played"
-    got="$(timeout 150 node tools/tests/play_browser.js "$(sed -n '1s/^leancop-play: //p' "$folder/played")" 2>&1)"
+    [ -s "$folder/played" ] || awaited "$folder/played" # a busy machine
+    has 'a link that is opened' "$(cat "$folder/played")" '/#f=p'
+    got="$(timeout 400 node tools/tests/play_browser.js "$(sed -n '1s/^leancop-play: \(.*\)#f=p$/\1/p' "$folder/played")" 2>&1)"
     if [[ "$got" =~ ^[0-9]+\ as\ wanted$ ]]; then pass; else fail "$got"; fi
     kill "$player"
     wait "$player" 2>/dev/null

@@ -73,7 +73,7 @@ async function looked(page, what) {
 }
 const drawn = '!!document.querySelector("#shown iframe")';
 
-async function answers(page) {
+async function answers(page, other) {
   await page.go(link);
   await page.until('document.querySelectorAll("#example option").length > 10');
   await looked(page, 'the start');
@@ -93,6 +93,8 @@ async function answers(page) {
   if (refutes) {
     same('a structure', await page.run(SAID), 'No theorem of intuitionistic logic: false in this structure of 2 worlds and 1 element, as leancop judges.');
     await looked(page, 'a structure');
+    await other.go(await page.run('document.querySelector("#shown a").href'));
+    same('its picture alone', await other.until('/makes the formula false/.test(document.body.innerText)'), true);
   } else same('without a structure', /^Not known in intuitionistic logic/.test(await page.run(SAID)), true);
 
   await page.go(asked({ f: '∀x (P(x) → )', l: 'classical' }));
@@ -179,7 +181,7 @@ async function exercises(page) {
   try {
     const page = await tab(browser), other = await tab(browser);
     await page.size(1280, 900);
-    await answers(page);
+    await answers(page, other);
     await alone(page, other);
     await stopped(page, other);
     await exercises(page);
