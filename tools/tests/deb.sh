@@ -32,11 +32,11 @@ if command -v dpkg-deb >/dev/null; then
     for name in leancop leancop-szs leancop-view leancop-refute leancop-decide; do
         has "the man page of $name" "$(gzip -dc "$folder/installed/usr/share/man/man1/$name.1.gz")" ".SH SYNOPSIS"
     done
-    LEANCOP='' PATH="$folder/installed/usr/bin:$PATH" leancop-play --no-browser --port=0 >"$folder/played" &
+    LEANCOP='' PATH="$folder/installed/usr/bin:$PATH" leancop-play --no-browser --port=0 >"$folder/installed_played" &
     player=$!
-    awaited "$folder/played"
-    [ -s "$folder/played" ] || awaited "$folder/played" # a busy machine
-    link="$(sed -n '1s/^leancop-play: //p' "$folder/played")"
+    awaited "$folder/installed_played"
+    [ -s "$folder/installed_played" ] || awaited "$folder/installed_played" # a busy machine
+    link="$(sed -n '1s/^leancop-play: //p' "$folder/installed_played")"
     has 'leancop-play of the package' "$(python3 -c 'import sys, urllib.request; print(urllib.request.urlopen(sys.argv[1]).read().decode())' "$link")" '<textarea id="formula"'
     kill "$player"
     wait "$player" 2>/dev/null
