@@ -35,7 +35,7 @@ if command -v dpkg-deb >/dev/null; then
     LEANCOP='' PATH="$folder/installed/usr/bin:$PATH" leancop-play --no-browser --port=0 >"$folder/installed_played" &
     player=$!
     awaited "$folder/installed_played"
-    [ -s "$folder/installed_played" ] || awaited "$folder/installed_played" # a busy machine
+    for _ in {1..9}; do [ -s "$folder/installed_played" ] || awaited "$folder/installed_played"; done # a busy machine
     link="$(sed -n '1s/^leancop-play: //p' "$folder/installed_played")"
     has 'leancop-play of the package' "$(python3 -c 'import sys, urllib.request; print(urllib.request.urlopen(sys.argv[1]).read().decode())' "$link")" '<textarea id="formula"'
     kill "$player"

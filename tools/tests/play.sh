@@ -39,7 +39,7 @@ if command -v node >/dev/null && command -v chromium >/dev/null; then
     tools/leancop-play --no-browser --port=0 'http://127.0.0.1:8642/#f=p' >"$folder/played" &
     player=$!
     awaited "$folder/played"
-    [ -s "$folder/played" ] || awaited "$folder/played" # a busy machine
+    for _ in {1..9}; do [ -s "$folder/played" ] || awaited "$folder/played"; done # a busy machine
     has 'a link that is opened' "$(cat "$folder/played")" '/#f=p'
     got="$(timeout 400 node tools/tests/play_browser.js "$(sed -n '1s/^leancop-play: \(.*\)#f=p$/\1/p' "$folder/played")" 2>&1)"
     if [[ "$got" =~ ^[0-9]+\ as\ wanted$ ]]; then pass; else fail "$got"; fi
