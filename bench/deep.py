@@ -9,8 +9,8 @@ than is expected, or with less stack in another way than with more, is told.
   --filter=RE      the inputs whose names match
   --kept=FOLDER    keeps the files of what was told there
 A line for each input: what it is, its bytes, and for each stack the status, the answer, seconds of the processor and MB."""
-import multiprocessing, os, re, resource, shutil, sys, tempfile
-from processes import find_program, is_an_answer, read_options, run, set_stack
+import os, re, resource, shutil, sys, tempfile
+from processes import Runner, find_program, is_an_answer, read_options
 
 MILLION = 1000000
 MEBIBYTES = 16 << 20
@@ -217,25 +217,6 @@ def write(texts):
         with open(file, "w") as opened:
             opened.write(text)
     return sum(map(len, texts.values())), list(texts)
-
-
-class Runner:
-    """A process that starts the runs: what this one has in memory would count for those that it starts."""
-
-    def __init__(self, gigabytes):
-        self.pipe, other = multiprocessing.Pipe()
-        multiprocessing.get_context("fork").Process(target=self.serve, args=(other, gigabytes), daemon=True).start()
-
-    def serve(self, pipe, gigabytes):
-        resource.setrlimit(resource.RLIMIT_AS, (gigabytes << 30, gigabytes << 30))
-        while True:
-            words, stack = pipe.recv()
-            set_stack(stack)
-            pipe.send(run(words, 60))
-
-    def run(self, words, stack):
-        self.pipe.send((words, stack))
-        return self.pipe.recv()
 
 
 def first_line(output):

@@ -1,5 +1,5 @@
-"""Runs a program with bounds, for fuzz.py, deep.py and refuse_memory.py; and their options."""
-import collections, os, re, resource, signal, sys
+"""Runs a program with bounds, for fuzz.py, deep.py, scale.py and refuse_memory.py; and their options."""
+import collections, multiprocessing, os, re, resource, signal, sys
 
 HERE = os.path.dirname(os.path.abspath(__file__))
 PROGRAM = os.path.abspath(os.path.join(HERE, "../crates/leancop/out/leancop"))
@@ -59,6 +59,29 @@ def run(words, seconds, variables=None, output="output"):
     with open(output, "rb") as written:
         text = written.read()
     return Run(os.waitstatus_to_exitcode(status), text, use.ru_utime + use.ru_stime, use.ru_maxrss)
+
+
+class Runner:
+    """A process that starts the runs: what this one has in memory would count for those that it starts."""
+
+    def __init__(self, gigabytes, seconds=60, processor_seconds=None):
+        self.pipe, other = multiprocessing.Pipe()
+        self.seconds, self.processor_seconds = seconds, processor_seconds
+        multiprocessing.get_context("fork").Process(target=self.serve, args=(other, gigabytes), daemon=True).start()
+
+    def serve(self, pipe, gigabytes):
+        resource.setrlimit(resource.RLIMIT_AS, (gigabytes << 30, gigabytes << 30))
+        if self.processor_seconds is not None:
+            resource.setrlimit(resource.RLIMIT_CPU, (self.processor_seconds, self.processor_seconds + 1))
+        while True:
+            words, stack = pipe.recv()
+            if stack is not None:
+                set_stack(stack)
+            pipe.send(run(words, self.seconds))
+
+    def run(self, words, stack=None):
+        self.pipe.send((words, stack))
+        return self.pipe.recv()
 
 
 def read_options(help_text):
