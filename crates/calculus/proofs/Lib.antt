@@ -49,9 +49,6 @@ pub mod Members
 pub mod SizeLaws
 -- the search with cuts
 pub mod CutLaws
--- intuitionistic truth stays, and is that of the translation in S4
-pub mod PersistenceLaws
-pub mod TranslationLaws
 -- the versions of a derivation's text, and the texts of structures and tableaux
 pub mod VersionLaws
 pub mod VersionJudgementLaws
@@ -63,6 +60,9 @@ pub mod TableauTextLaws
 pub mod GroundTextLaws
 pub mod TableauTextUnique
 pub mod TableauWritten
+-- ==== laws that are here for the reader
+
+mod ForReaders
 -- ==== examples that compute
 
 mod SpaceExamples

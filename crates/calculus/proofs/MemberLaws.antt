@@ -51,12 +51,6 @@ pub all-from_each : (p : ℕ → Bool) (xs : List ℕ) → ((x : ℕ) → contai
 all-from_each p [] h = refl
 all-from_each p (y ∷ ys) h = and_from (p y) (list_all p ys) (h y (contains-head y ys)) (all-from_each p ys (λ x m. h x (contains-tail y ys x m)))
 
-pub fails-from_one : (p : ℕ → Bool) (xs : List ℕ) (x : ℕ) → contains xs x ≡ true → p x ≡ false → list_all p xs ≡ false
-fails-from_one p xs x m e = elim (cases_Bool (list_all p xs)) [
-  | inl h ↦ absurd (false≢true (sym e ∙ all-contained p xs x h m))
-  | inr h ↦ h
-]
-
 -- numbers in a row
 pub all-numbers : (p : ℕ → Bool) (a n k : ℕ) → list_all p (numbers_from a n) ≡ true → k < n → p (a + k) ≡ true
 all-numbers p a zero k h less = absurd (omega arith)

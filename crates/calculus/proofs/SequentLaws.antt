@@ -1,51 +1,13 @@
--- A step's children extend the sequent, a list of steps has at most one reading, and the verdict on a derivation's steps is acceptance exactly where they derive.
-use Rattle.std.proofs.Common.{◌≡◌, ◌↔◌, ℕ, ◌+◌, List, [], ◌∷◌, map, Bool, true, false, refl, sym, ap, subst, Option, Some, None, Result, Ok, Err, inl, inr}
+-- What a step brings is new, a list of steps has at most one reading, and the verdict on a derivation's steps is acceptance exactly
+-- where they derive.
+use Rattle.std.proofs.Common.{◌≡◌, ◌↔◌, ℕ, ◌+◌, List, [], ◌∷◌, Bool, true, false, refl, sym, ap, subst, Option, Some, None, Result, Ok, Err, inl, inr}
 use Rattle.std.proofs.lemmas.Bool.{false≢true, cases_Bool, and_parts, not-true}
-use Rattle.calculus.specs.declared.kind.Shape.{Shape}
-use Rattle.calculus.specs.declared.kind.Shape.TheVariants.{Alpha, Beta, Gamma, Delta, Literal}
 use Rattle.calculus.specs.declared.fault.StepFault.{StepFault}
 use Rattle.calculus.specs.Syntax.{Problem}
-use Rattle.calculus.specs.Kinds.{Signed, shape_of}
-use Rattle.calculus.specs.Derivations.{Entry, Sequent, Names, Step, apply_to, close, Derivation, first_sequent, Label, ModalArg, no_modal, to, by_new, TermArg, no_term, by_term, by_name}
-use Rattle.calculus.specs.Calculus.{Children, closed, one, two, apply, Condition, first_fault, conditions_of_use, children_of, with_components, entry_at, entry_of, use_entry, close_branch, connects, character_is_new, eigen_is_new, Closes, leaf, single, fork, Derives}
-use Rattle.calculus.specs.StepFacts.{ChildrenExtend, IsFresh, IsCharacterFresh, IsEigenFresh}
-use Rattle.calculus.specs.Judgement.{Verdict, accepted, rejected, verdict_from, verdict_on, open_after}
-
--- ---- children extend the sequent
-
-with_components-extend : (h : Shape) (s : Sequent) (v : Label) (xs : List Signed) → ChildrenExtend s (with_components h s v xs)
-with_components-extend Beta s v [] = (map (entry_at v) [], refl)
-with_components-extend Beta s v (x ∷ []) = (map (entry_at v) (x ∷ []), refl)
-with_components-extend Beta s v (x ∷ y ∷ []) = ((entry_at v x ∷ [], refl), (entry_at v y ∷ [], refl))
-with_components-extend Beta s v (x ∷ y ∷ z ∷ xs) = (map (entry_at v) (x ∷ y ∷ z ∷ xs), refl)
-with_components-extend Alpha s v xs = (map (entry_at v) xs, refl)
-with_components-extend Gamma s v xs = (map (entry_at v) xs, refl)
-with_components-extend Delta s v xs = (map (entry_at v) xs, refl)
-with_components-extend Literal s v xs = (map (entry_at v) xs, refl)
-
-abbrev pub OnOkChildren : (Children → Type 0) → Result Children StepFault → Type 0
-OnOkChildren F (Ok c) = F c
-OnOkChildren F (Err f) = Unit {0}
-
-judged-ok : (F : Children → Type 0) (ds : List Condition) (c : Children) → F c → OnOkChildren F (first_fault ds c)
-judged-ok F [] c h = h
-judged-ok F (d ∷ ds) c h = elim (cases_Bool d.met) [ inl e ↦ rw e (judged-ok F ds c h) | inr e ↦ rw e tt ]
-
-use_entry-extend : (P : Problem) (names : Names) (s : Sequent) (o : Option Entry) (m : ModalArg) (t : TermArg) → OnOkChildren (ChildrenExtend s) (use_entry P names s o m t)
-use_entry-extend P names s None m t = tt
-use_entry-extend P names s (Some e) m t = judged-ok (ChildrenExtend s) (conditions_of_use P names s e m t) (children_of P.setting.logic s e m t) (with_components-extend (shape_of e.sign e.formula) s _ _)
-
-close_branch-extend : (s : Sequent) (a b : Option Entry) → OnOkChildren (ChildrenExtend s) (close_branch a b)
-close_branch-extend s (Some a) (Some b) = elim (cases_Bool (connects a b)) [ inl e ↦ rw e tt | inr e ↦ rw e tt ]
-close_branch-extend s (Some a) None = tt
-close_branch-extend s None b = tt
-
-apply-extend : (P : Problem) (names : Names) (s : Sequent) (x : Step) → OnOkChildren (ChildrenExtend s) (apply P names s x)
-apply-extend P names s (apply_to n m t) = use_entry-extend P names s (entry_of s n) m t
-apply-extend P names s (close n k) = close_branch-extend s (entry_of s n) (entry_of s k)
-
-pub children-extend : (P : Problem) (names : Names) (s : Sequent) (x : Step) (c : Children) → apply P names s x ≡ Ok c → ChildrenExtend s c
-children-extend P names s x c e = subst (OnOkChildren (ChildrenExtend s)) e (apply-extend P names s x)
+use Rattle.calculus.specs.Derivations.{Entry, Sequent, Names, Step, apply_to, close, Derivation, first_sequent, ModalArg, no_modal, to, by_new, TermArg, no_term, by_term, by_name}
+use Rattle.calculus.specs.Calculus.{Children, closed, one, two, apply, Condition, first_fault, conditions_of_use, children_of, entry_of, use_entry, character_is_new, eigen_is_new, Closes, leaf, single, fork, Derives}
+use Rattle.calculus.specs.StepFacts.{IsFresh, IsCharacterFresh, IsEigenFresh}
+use Rattle.calculus.specs.Judgement.{Verdict, accepted, rejected, verdict_from, open_after}
 
 -- ---- what a step brings is new
 
@@ -159,11 +121,4 @@ pub accepted_at_iff_derives : (P : Problem) (d : Derivation) (n : ℕ) → (verd
 accepted_at_iff_derives P d n = (
   λ h. derived_of_closed P d (closed_of_accepted P d.names d.steps (first_sequent P ∷ []) n h),
   λ c. accepted_of_closed P d.names c [] (λ m. refl) n,
-)
-
--- the verdict on the steps is acceptance exactly where they derive the problem
-pub accepted_iff_derives : (P : Problem) (d : Derivation) → (verdict_on P d ≡ accepted) ↔ Derives P d
-accepted_iff_derives P d = (
-  λ h. derived_of_closed P d (closed_of_accepted P d.names d.steps (first_sequent P ∷ []) _ h),
-  λ c. accepted_of_closed P d.names c [] (λ m. refl) _,
 )

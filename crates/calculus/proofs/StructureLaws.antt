@@ -3,8 +3,7 @@ use Rattle.std.proofs.Common.{◌≡◌, ℕ, zero, suc, ◌+◌, ◌<◌, List,
 use Rattle.std.specs.List.{list_all, list_any, flat_map}
 use Rattle.std.proofs.lemmas.Bool.{false≢true, and_parts, or_cases, or_left, ltb-true}
 use Rattle.std.proofs.lemmas.List.Folds.{list_all-append, list_all-map}
-use Rattle.calculus.specs.declared.setting.Logic.{Logic}
-use Rattle.calculus.specs.declared.setting.Logic.TheVariants.{Classical, Intuitionistic, D, T as LogicT, S4, S5}
+use Rattle.calculus.specs.declared.setting.Logic.TheVariants.{S5}
 use Rattle.calculus.specs.declared.setting.Domains.TheVariants.{Constant, Cumulative}
 use Rattle.calculus.specs.Syntax.{Symbol, Problem}
 use Rattle.calculus.specs.Equality.{contains}
@@ -99,21 +98,9 @@ abbrev pub first_of_list : List ℕ → ℕ
 first_of_list [] = 0
 first_of_list (x ∷ xs) = x
 
-abbrev pub next_world : Logic → Structure → ℕ → ℕ
-next_world D S w = first_of_list (successors_of S w)
-next_world _ S w = w
-
 pub first-contained : (xs : List ℕ) → has_element xs ≡ true → contains xs (first_of_list xs) ≡ true
 first-contained [] h = absurd (false≢true h)
 first-contained (x ∷ xs) h = or_left (x == x) (contains xs x) (eq-eqb x x refl)
-
-pub next-reached : (l : Logic) (S : Structure) → IsTrue (relation_fits l S) → (w : ℕ) → IsWorld S w → Reaches S w (next_world l S w)
-next-reached Classical S h w world = reaches-itself S (and_parts (length S.successors == 1) (is_reflexive S) h).1 w world
-next-reached Intuitionistic S h w world = reaches-itself S (and_parts (is_reflexive S) (is_transitive_relation S) h).0 w world
-next-reached D S h w world = first-contained (successors_of S w) (each-world S (λ v. has_element (successors_of S v)) h w world)
-next-reached LogicT S h w world = reaches-itself S h w world
-next-reached S4 S h w world = reaches-itself S (and_parts (is_reflexive S) (is_transitive_relation S) h).0 w world
-next-reached S5 S h w world = reaches-each S h w w world world
 
 -- ---- domains
 

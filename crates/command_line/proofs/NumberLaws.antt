@@ -23,9 +23,6 @@ not-equal xs ys h e = false≢true (h ∙ ap (λ l. pointwise eqb l ys) e ∙ po
 is-tells : (w v : Word) → (IsTrue (is w v) → w ≡ v) × (w ≡ v → IsTrue (is w v))
 is-tells w v = list_eq-tells ◌==◌ nat_eq-tells w v
 
-fits : ℕ → Word → ℕ → Bool
-fits most w n = is w (decimal n) && nat_le 1 n && nat_le n most
-
 if-fits : (t : Bool) (n : ℕ) → t ≡ true → (if t then Some n else None) ≡ Some n
 if-fits t n e = rw e refl
 

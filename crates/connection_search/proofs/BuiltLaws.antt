@@ -1,6 +1,6 @@
 -- The literals, instances and closings that are read off are those by own spares: what they stand for stays as the table grows, and each
 -- choice adds the closing that the list of choices asks for.
-use Rattle.std.proofs.Common.{◌≡◌, ◌+◌, ◌-◌, ◌≤◌, ℕ, zero, suc, List, [], ◌∷◌, ◌++◌, drop, length, map, remove, take, refl, sym, ◌∙◌, ap, ap₂, subst, OnOk, Result, Ok, Err, None, Some, slice_get, arith, append-nil}
+use Rattle.std.proofs.Common.{◌≡◌, ◌+◌, ◌-◌, ◌≤◌, ℕ, zero, suc, List, [], ◌∷◌, ◌++◌, drop, length, map, remove, take, refl, sym, ◌∙◌, ap, ap₂, subst, OnOk, Result, Ok, Err, Some, slice_get, arith, append-nil}
 use Rattle.std.specs.List.{AllByRecursion}
 use Rattle.std.proofs.lemmas.List.{drop-map, length-map, map-append, take-map, take_all}
 use Rattle.calculus.specs.Choices.{GroundChoice, extension, reduction}
@@ -194,22 +194,6 @@ taken-next n xs cs rest c e f =
         (ap (λ z. z ∷ []) same, others)
     by (suc k) [] q = cc q
     by (suc k) (y ∷ ys) q = let more = by k ys q in (ap (λ zs. y ∷ zs) more.0, more.1)
-
--- none is left
-pub taken-none : (n k : ℕ) (xs cs : List numbered.Closing) → n ≤ k → cs ≡ take n xs → [] ≡ drop n xs → (cs ≡ take k xs) × ([] ≡ drop k xs)
-taken-none n k xs cs l e f = let all_of_them = by n k xs l f in (e ∙ all_of_them.0, all_of_them.1)
-  where
-    nothing : (k : ℕ) (ys : List numbered.Closing) → ys ≡ [] → (ys ≡ take k ys) × ([] ≡ drop k ys)
-    nothing zero ys q = (q, sym q)
-    nothing (suc k) [] q = (refl, refl)
-    nothing (suc k) (y ∷ ys) q = cc q
-
-    by : (n k : ℕ) (ys : List numbered.Closing) → n ≤ k → [] ≡ drop n ys → (take n ys ≡ take k ys) × ([] ≡ drop k ys)
-    by zero k [] l q = nothing k [] refl
-    by zero k (y ∷ ys) l q = cc q
-    by (suc n) zero ys l q = absurd (omega (arith, l))
-    by (suc n) (suc k) [] l q = (refl, refl)
-    by (suc n) (suc k) (y ∷ ys) l q = let more = by n k ys (omega (arith, l)) q in (ap (λ zs. y ∷ zs) more.0, more.1)
 
 -- ---- the steps behind a step
 

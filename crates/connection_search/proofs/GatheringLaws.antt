@@ -1,18 +1,13 @@
 -- The loops that gather the system of the tree.
 use Rattle.std.proofs.Common.{◌≡◌, ◌+◌, ◌-◌, ◌<◌, ◌≤◌, append_assoc, append-nil, ℕ, suc, List, [], ◌∷◌, ◌++◌, drop, length, refl, sum_by, sym, ◌∙◌, ap, ap₂, subst, Option, None, Some, slice_get, arith}
-use Rattle.std.specs.Prelude.{option_map}
 use Rattle.std.specs.List.{flat_map}
-use Rattle.std.proofs.lemmas.List.Concat.{flat_map-cons}
-use Rattle.std.proofs.lemmas.List.Sums.{sum_by-cons}
 use Rattle.store_theory.specs.Bindings.{places_from}
 use Rattle.calculus.specs.declared.sort.Sort.{Sort}
 use Rattle.calculus.specs.declared.sort.Sort.TheVariants.{TermSort, MarkSort, StringSort}
-use Rattle.store_theory.specs.Patterns.{Template}
 use Rattle.store_theory.specs.Systems.{CellAtom, Pair}
-use Rattle.search_theory.specs.Matrix.{MatrixClause}
 use Rattle.search_theory.specs.StateSystems.{pairs_of, pairs_with, string_cells}
 use Rattle.search_theory.specs.States.{CellGoal}
-use Rattle.connection_search.specs.Trees.{AreGoals, HasAtom, IsGoalAt, IsPath, atom_at, sorts_of}
+use Rattle.connection_search.specs.Trees.{AreGoals, HasAtom, IsGoalAt, IsPath, atom_at}
 use Rattle.connection_search.specs.declared.tree.Goal.{Goal}
 use Rattle.connection_search.specs.declared.tree.Step.{Step}
 use Rattle.connection_search.proofs.Places.{drop-end, drop-there, item-there}
@@ -23,41 +18,10 @@ use Rattle.connection_search.proofs.TreeLaws.{AncestorAt, ancestor-on, goal-at, 
 abbrev pub Gathers : {X A : Type 0} → (X → List A) → List X → List A → ℕ → Type 0
 Gathers f xs out i = out ++ flat_map f (drop i xs) ≡ flat_map f xs
 
-pub gathers-first : {X A : Type 0} (f : X → List A) (xs : List X) (out : List A) → out ≡ [] → Gathers f xs out 0
-gathers-first f xs out e = ap (λ o. o ++ flat_map f xs) e
-
-pub gathers-next : {X A : Type 0} (f : X → List A) (xs : List X) (out new : List A) (i : ℕ) (x : X) → Gathers f xs out i → slice_get xs i ≡ Some x → new ≡ out ++ f x → Gathers f xs new (i + 1)
-gathers-next f xs out new i x h at e =
-    let more : i + 1 ≡ suc i = omega arith in
-    ap₂ (λ o n. o ++ flat_map f (drop n xs)) e more
-    ∙ append_assoc out (f x) (flat_map f (drop (suc i) xs))
-    ∙ ap (λ ys. out ++ ys) (sym (flat_map-cons f x (drop (suc i) xs)) ∙ ap (flat_map f) (sym (drop-there xs i x at)))
-    ∙ h
-
-pub gathers-end : {X A : Type 0} (f : X → List A) (xs : List X) (out : List A) (i : ℕ) → Gathers f xs out i → length xs ≤ i → out ≡ flat_map f xs
-gathers-end f xs out i h l = sym (append-nil out) ∙ ap (λ ys. out ++ flat_map f ys) (sym (drop-end xs i l)) ∙ h
-
 -- ---- the same with a sum
 
 abbrev pub Sums : {X : Type 0} → (X → ℕ) → List X → ℕ → ℕ → Type 0
 Sums f xs total i = total + sum_by f (drop i xs) ≡ sum_by f xs
-
-pub sums-first : {X : Type 0} (f : X → ℕ) (xs : List X) → Sums f xs 0 0
-sums-first f xs = omega arith
-
-pub sums-next : {X : Type 0} (f : X → ℕ) (xs : List X) (total new i : ℕ) (x : X) → Sums f xs total i → slice_get xs i ≡ Some x → new ≡ total + f x → Sums f xs new (i + 1)
-sums-next f xs total new i x h at e =
-    let more : i + 1 ≡ suc i = omega arith in
-    let here : sum_by f (drop i xs) ≡ f x + sum_by f (drop (suc i) xs) = ap (sum_by f) (drop-there xs i x at) ∙ sum_by-cons f x (drop (suc i) xs) in
-    ap (λ n. new + sum_by f (drop n xs)) more ∙ by (sum_by f (drop i xs)) (sum_by f (drop (suc i) xs)) (sum_by f xs) (f x) here h e
-  where
-    by : (rest left whole one : ℕ) → rest ≡ one + left → total + rest ≡ whole → new ≡ total + one → new + left ≡ whole
-    by rest left whole one p q r = omega (arith, p, q, r)
-
-pub sums-end : {X : Type 0} (f : X → ℕ) (xs : List X) (total i : ℕ) → Sums f xs total i → length xs ≤ i → total ≡ sum_by f xs
-sums-end f xs total i h l =
-    let none : total ≡ total + sum_by f [] = omega arith in
-    none ∙ ap (λ ys. total + sum_by f ys) (sym (drop-end xs i l)) ∙ h
 
 -- ---- the variables for strings
 
@@ -73,12 +37,6 @@ string-none (s ∷ sorts) = refl
 -- those of the first k variables were added
 abbrev pub StringsTo : List Sort → ℕ → ℕ → List ℕ → List ℕ → ℕ → Type 0
 StringsTo sorts first count start out k = out ++ string_cells (drop k sorts) (places_from (first + k) (count - k)) ≡ start ++ string_cells sorts (places_from first count)
-
-pub strings-first : (sorts : List Sort) (first count : ℕ) (out : List ℕ) → StringsTo sorts first count out out 0
-strings-first sorts first count out =
-    let a : first + 0 ≡ first = omega arith in
-    let b : count - 0 ≡ count = omega arith in
-    ap₂ (λ p n. out ++ string_cells sorts (places_from p n)) a b
 
 pub strings-next : (sorts : List Sort) (first count : ℕ) (start out new : List ℕ) (k : ℕ) (s : Sort) → StringsTo sorts first count start out k → k < count → slice_get sorts k ≡ Some s → new ≡ out ++ string_cells (s ∷ []) ((first + k) ∷ []) → StringsTo sorts first count start new (k + 1)
 strings-next sorts first count start out new k s h l at e =
@@ -101,23 +59,12 @@ strings-end sorts first count start out k h l =
 pub strings-out : (sorts : List Sort) (first count : ℕ) (start out : List ℕ) (k : ℕ) → StringsTo sorts first count start out k → length sorts ≤ k → out ≡ start ++ string_cells sorts (places_from first count)
 strings-out sorts first count start out k h l = sym (append-nil out) ∙ ap (λ ss. out ++ string_cells ss (places_from (first + k) (count - k))) (sym (drop-end sorts k l)) ∙ h
 
--- the sorts of the clause of a template
-pub sorts-are : (o : Option MatrixClause) (t : Template) → option_map (λ (x : MatrixClause). x.template) o ≡ Some t → t.sorts ≡ sorts_of o
-sorts-are None t e = let z : None ≡ Some t = e in absurd (cc z)
-sorts-are (Some c) t e = let q : c.template ≡ t = cc e in sym (ap (λ (x : Template). x.sorts) q)
-
 -- ---- the pairs of one goal
 
 -- those with the goals above it before `above` were added
 pub record PairsTo (steps : List Step) (goals : List Goal) (goal : ℕ) (start out : List Pair) (above : Option ℕ) (i : ℕ) : Type 0 where
   pub path : (x : CellGoal) → IsGoalAt steps goals goal x → IsPath steps goals above (drop i x.path)
   pub pairs : (x : CellGoal) → IsGoalAt steps goals goal x → out ++ pairs_with x.literal (drop i x.path) ≡ start ++ pairs_with x.literal x.path
-
-pub pairs-first : (steps : List Step) (goals : List Goal) (goal : ℕ) (out : List Pair) (at : Goal) → slice_get goals goal ≡ Some at → PairsTo steps goals goal out out at.above 0
-pairs-first steps goals goal out at e = record {
-  path = λ x h. subst (λ (g : Goal). IsPath steps goals g.above x.path) (same-item (slice_get goals goal) h.goal at h.stands e) h.is_goal.path;
-  pairs = λ x h. refl;
-}
 
 pub pair-ancestor : (steps : List Step) (goals : List Goal) (goal j i : ℕ) (start out : List Pair) (above : Option ℕ) (x : CellGoal) → PairsTo steps goals goal start out above i → above ≡ Some j → IsGoalAt steps goals goal x → AncestorAt steps goals x j i
 pair-ancestor steps goals goal j i start out above x h e g = ancestor-on steps goals x j i (subst (λ k. IsPath steps goals k (drop i x.path)) e (h.path x g))
@@ -158,9 +105,6 @@ pairs-end steps goals goal i start out above at h e l x g =
 -- those of the first i goals were added
 abbrev pub AllPairsTo : List Step → List Goal → List Pair → ℕ → Type 0
 AllPairsTo steps goals out i = (xs : List CellGoal) → AreGoals steps goals goals xs → out ++ pairs_of (drop i xs) ≡ pairs_of xs
-
-pub all_pairs-first : (steps : List Step) (goals : List Goal) (out : List Pair) → out ≡ [] → AllPairsTo steps goals out 0
-all_pairs-first steps goals out e = λ xs g. ap (λ o. o ++ pairs_of xs) e
 
 pub all_pairs-next : (steps : List Step) (goals : List Goal) (out new : List Pair) (i : ℕ) → AllPairsTo steps goals out i → i < length goals → ((x : CellGoal) → IsGoalAt steps goals i x → new ≡ out ++ pairs_with x.literal x.path) → AllPairsTo steps goals new (i + 1)
 all_pairs-next steps goals out new i h l added xs g =

@@ -16,8 +16,8 @@ use Rattle.connection_search.specs.Ahead.{HasNoHope, IsLost}
 use Rattle.connection_search.specs.GivenUp.{HasLost, IsGivenUp, IsRuledOut, LooksAhead}
 use Rattle.connection_search.specs.Pruning.{IsPruned}
 use Rattle.connection_search.specs.Running.{IsMatrixOf, StandsFor, TreeStands}
-use Rattle.connection_search.specs.Sameness.{AnyRepeated, IsRepeated}
-use Rattle.connection_search.specs.Trees.{AreGoals, IsGoalAt}
+use Rattle.connection_search.specs.Sameness.{IsRepeated}
+use Rattle.connection_search.specs.Trees.{IsGoalAt}
 use Rattle.connection_search.specs.declared.tree.Goal.{Goal}
 use Rattle.connection_search.specs.declared.tree.Step.{Step}
 use Rattle.connection_search.specs.declared.tree.Tree.{Tree}
@@ -39,20 +39,6 @@ lost-leftmost P m base d c s steps goals first n next (cs, y, h) e repeated =
       stands = on;
       later = inr (next, e, omega arith);
       cannot = repeated-cannot P d (record { store = s; choices = cs; growth = y }) z j a path same;
-    }
-
--- some goal from the number n on is
-pub lost-repeated : (P : Problem) (m : List MatrixClause) (base d : ℕ) (c : List Choice) (s : Store) (steps : List Step) (goals : List Goal) (first : Option ℕ) (n : ℕ) → StandsFor P m base d c s steps goals first → ((xs : List CellGoal) → AreGoals steps goals goals xs → AnyRepeated s n xs) → HasLost P d c n first
-lost-repeated P m base d c s steps goals first n (cs, y, h) repeated =
-    let (i, x, l, on, (j, a, path, same)) = repeated y.all_goals h.tree.goals in
-    record {
-      state = record { store = s; choices = cs; growth = y };
-      is_state = h.running.state;
-      number = i;
-      goal = x;
-      stands = on;
-      later = inl l;
-      cannot = repeated-cannot P d (record { store = s; choices = cs; growth = y }) x j a path same;
     }
 
 -- no bindings close the goal within the limit

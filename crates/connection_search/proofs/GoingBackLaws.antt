@@ -5,12 +5,12 @@ use Rattle.std.proofs.lemmas.List.{length-append, reverse-append, take-append-dr
 use Rattle.std.proofs.lemmas.List.Sums.{sum_by-append}
 use Rattle.std.proofs.lemmas.Option.{slice_get_read}
 use Rattle.std.proofs.Math.Seq.{take-append_seam}
-use Rattle.calculus.proofs.PlaceLists.{all-at, get-end, get-front}
+use Rattle.calculus.proofs.PlaceLists.{get-end, get-front}
 use Rattle.calculus.specs.Choices.{Choice}
 use Rattle.calculus.specs.Syntax.{Problem}
 use Rattle.search_theory.specs.Jumps.{AreSolvedBehind}
 use Rattle.search_theory.specs.Matrix.{MatrixClause}
-use Rattle.search_theory.specs.States.{CellGoal, IsStateOf, State, goal_is_below}
+use Rattle.search_theory.specs.States.{CellGoal, IsStateOf, State}
 use Rattle.search_theory.proofs.BeginningLaws.{is_not_empty}
 use Rattle.search_theory.proofs.JumpLaws.{CannotClose}
 use Rattle.store_theory.specs.Stores.{IsGood, Store, cut_at}
@@ -179,7 +179,3 @@ back-down o low s steps goals stack h (inr (p, es, ea, eb, before)) = rw (es, ea
 
 pub going-down : (o : Origin) (goal : ℕ) (bound : List ℕ) (low : ℕ) (s : Store) (steps : List Step) (goals : List Goal) (points : List Point) → GoesBack o goal bound low s steps goals points → HandsDown o.problem o.matrix o.base o.limit s steps goals low (reverse points) o.later o.begun o.used true
 going-down o goal bound low s steps goals points h = back-down o low s steps goals (reverse points) h.down h.back
-
--- the cells of the goal are those of the store
-pub goal-in-store : (P : Problem) (m : List MatrixClause) (base d : ℕ) (s : Store) (steps : List Step) (goals : List Goal) (p : Point) (stack : List Point) (later : List (List Choice)) (begun used : ℕ) (left : Bool) → IsSpentAt P m base d s steps goals p stack later begun used left → (x : CellGoal) × IsGoalAt steps goals p.goal x × IsTrue (goal_is_below (length s.cells) x)
-goal-in-store P m base d s steps goals p stack later begun used left h = (h.goal, goal-here P m base d h.choices s steps goals p.goal h.goal h.at, all-at (goal_is_below (length s.cells)) (h.goal ∷ h.at.behind) 0 h.goal h.at.at.running.state.cells.open_goals refl)

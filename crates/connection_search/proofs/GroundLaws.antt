@@ -19,7 +19,7 @@ use Rattle.formula_core.specs.declared.ground.GroundMark.TheVariants as mark
 use Rattle.formula_core.specs.declared.ground.GroundMark.{GroundMark}
 use Rattle.formula_core.specs.declared.ground.Value.{Value}
 use Rattle.formula_core.proofs.GrownLaws.{term-grown, mark-grown, marks-grown, term-normal-grown, mark-normal-grown}
-use Rattle.connection_search.specs.Grounds.{AreMade, AreRead, AreSparesAt, IsGroundOf, IsSpareAt, Needs, home_of, made_of, needs_of, or_nothing, spare_at}
+use Rattle.connection_search.specs.Grounds.{AreSparesAt, IsGroundOf, IsSpareAt, Needs, home_of, made_of, needs_of, or_nothing, spare_at}
 use Rattle.connection_search.specs.declared.grounds.Ground.{Ground}
 use Rattle.connection_search.specs.declared.grounds.Ground.TheVariants as ground
 use Rattle.connection_search.specs.declared.homes.Homes.{Homes}
@@ -33,12 +33,6 @@ ground-grown a b k (ground.Marks w) v h = record { normal = marks-normal-grown a
   where
     marks-normal-grown : (a b : List GroundList) → IsGrown a b → (w : _) → AreNormalMarks a w → AreNormalMarks b w
     marks-normal-grown a b k w n e = n (sym (marks-grown a b k w n) ∙ e)
-
-pub made-grown : (a b : List GroundList) → IsGrown a b → (σ : Solution) (made : List (Option Ground)) → AreMade a σ made → AreMade b σ made
-made-grown a b k σ made h r g e = ground-grown a b k g (σ r) (h r g e)
-
-pub read-grown : (a b : List GroundList) → IsGrown a b → (s : Store) (h : Homes) (made : List (Option Ground)) → AreRead s h a made → AreRead s h b made
-read-grown a b k s h made r σ spares = made-grown a b k σ made (r σ spares)
 
 pub grown-self : (ls : List GroundList) → length ls ≤ no_list → IsGrown ls ls
 grown-self ls l = record { added = []; grown = sym (append-nil ls); most = l }

@@ -196,13 +196,6 @@ tree-reduced m steps goals goal at up ancestor after first cs g gs every ds w h 
 
 -- ---- the loop that adds the goals
 
--- the link to the literal j of n
-pub link-end : (first : ℕ) (behind : Option ℕ) (j n : ℕ) → j ≡ n → behind ≡ link_from first behind j (n - j)
-link-end first behind j n e = let z : n - j ≡ 0 = omega (arith, e) in sym (ap (link_from first behind j) z)
-
-pub link-inside : (first : ℕ) (behind : Option ℕ) (j n : ℕ) → j ≤ n → ¬ (j ≡ n) → Some (first + j) ≡ link_from first behind j (n - j)
-link-inside first behind j n l d = let z : n - j ≡ suc (n - suc j) = omega (arith, l, d) in sym (ap (link_from first behind j) z)
-
 -- the goal of the literal j, and those behind it
 pub fresh-next : (step first depth j n : ℕ) (above behind link : Option ℕ) (items rest : List Goal) → j < n → link ≡ link_from first behind (j + 1) (n - (j + 1)) → items ++ fresh_goals step first above behind depth j (n - j) ≡ rest → (items ++ record { step = step; literal = j; above = above; behind = link; depth = depth } ∷ []) ++ fresh_goals step first above behind depth (j + 1) (n - (j + 1)) ≡ rest
 fresh-next step first depth j n above behind link items rest l e h =
@@ -214,8 +207,3 @@ fresh-next step first depth j n above behind link items rest l e h =
     ∙ ap (λ o. items ++ record { step = step; literal = j; above = above; behind = o; depth = depth } ∷ fresh_goals step first above behind depth (suc j) (n - suc j)) k
     ∙ sym (ap (λ i. items ++ fresh_goals step first above behind depth j i) z)
     ∙ h
-
-pub fresh-end : (step first depth j n : ℕ) (above behind : Option ℕ) (items rest : List Goal) → n ≤ j → items ++ fresh_goals step first above behind depth j (n - j) ≡ rest → items ≡ rest
-fresh-end step first depth j n above behind items rest l h =
-    let z : n - j ≡ 0 = omega (arith, l) in
-    sym (more-none items) ∙ sym (ap (λ i. items ++ fresh_goals step first above behind depth j i) z) ∙ h

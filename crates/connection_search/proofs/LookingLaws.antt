@@ -1,7 +1,7 @@
 -- What a look at a goal finds: the bound cells that occur in it, cell by cell.
 use Rattle.std.proofs.Common.{◌≡◌, ◌⊎◌, ◌+◌, ◌<◌, ◌≤◌, ℕ, zero, suc, true, false, List, [], ◌∷◌, ◌++◌, length, map, take, IsTrue, refl, sym, ◌∙◌, ap, subst, Option, None, Some, option_map, slice_get, inl, inr, arith, ltb-true, nat_lt, ◌≢◌, append_assoc}
-use Rattle.std.proofs.lemmas.Bool.{and_parts, cases_eq, false≢true}
-use Rattle.std.proofs.lemmas.List.{length-map, map-append}
+use Rattle.std.proofs.lemmas.Bool.{and_parts, false≢true}
+use Rattle.std.proofs.lemmas.List.{map-append}
 use Rattle.std.proofs.lemmas.Option.{slice_get-map, slice_get_within}
 use Rattle.calculus.proofs.PlaceLists.{all-at, get-front}
 use Rattle.calculus.specs.declared.sort.Sort.{Sort}
@@ -85,9 +85,6 @@ visits-parts s bound after waiting waiting_after r well (d, f, u) eb (w, c, ends
 
 -- ---- all cells are visited
 
-pub goes-first : (s : Store) (bound waiting : List ℕ) → GoesOn s bound waiting bound waiting
-goes-first s bound waiting = record { found = λ v k sort there h. h; below = λ h. h }
-
 pub goes-next : (s : Store) (bound waiting bound_then waiting_then bound_after waiting_after : List ℕ) → GoesOn s bound waiting bound_then waiting_then → GoesOn s bound_then waiting_then bound_after waiting_after → GoesOn s bound waiting bound_after waiting_after
 goes-next s bound waiting bound_then waiting_then bound_after waiting_after h k = record {
   found = λ v j sort there f. k.found v j sort there (h.found v j sort there f);
@@ -109,20 +106,7 @@ pub goes-popped : (s : Store) (bound_first waiting_first bound bound_after waiti
 goes-popped s bound_first waiting_first bound bound_after waiting_after before after r e h k =
     goes-next s bound_first waiting_first bound (map the_place after ++ r.0 ∷ []) bound_after waiting_after (subst (GoesOn s bound_first waiting_first bound) (waiting-popped before after r e) h) k
 
--- none is left
-pub finds-all : (s : Store) (bound_first waiting_first bound : List ℕ) (before : List Ref) → length before ≡ 0 → GoesOn s bound_first waiting_first bound (map the_place before) → FindsAll s bound_first waiting_first bound
-finds-all s bound_first waiting_first bound before none h = λ v k sort there f. elim (h.found v k sort there f) [
-  | inl on ↦ on
-  | inr (r, (i, on), o) ↦ absurd (let l = slice_get_within (map the_place before) i r on in let n = length-map before the_place in omega (arith, l, n, none))
-]
-
 -- ---- the cells of a goal
-
-pub among-front : (xs ys : List ℕ) → AreAmong xs (xs ++ ys)
-among-front xs ys = λ r on. in-front xs ys r on
-
-among-back : (xs ys : List ℕ) → AreAmong ys (xs ++ ys)
-among-back xs ys = λ r on. in-back xs ys r on
 
 pub among-came : (a b : CellAtom) (before after : List ℕ) → after ≡ before ++ atom_cells a → b ≡ a → AreAmong (atom_cells b) after
 among-came a b before after e same = λ r on. subst (IsIn r) (sym e) (in-back before (atom_cells a) r (subst (λ z. IsIn r (atom_cells z)) same on))
@@ -217,16 +201,6 @@ IsBoundAt s v = (sort : Sort) × (k : ℕ) × (slice_get s.cells v ≡ Some (var
 -- the first i of them are
 abbrev pub AreBoundTo : Store → List Ref → ℕ → Type 0
 AreBoundTo s bound i = (j : ℕ) (r : Ref) → j < i → slice_get bound j ≡ Some r → IsBoundAt s r.0
-
-pub bound-none : (s : Store) (bound : List Ref) → AreBoundTo s bound 0
-bound-none s bound = λ j r l e. absurd (omega (arith, l))
-
-pub bound-next : (s : Store) (bound : List Ref) (i : ℕ) (r : Ref) → AreBoundTo s bound i → slice_get bound i ≡ Some r → IsBoundAt s r.0 → AreBoundTo s bound (i + 1)
-bound-next s bound i r h at is = λ j q l e. by j q l e (cases_eq j i)
-  where
-    by : (j : ℕ) (q : Ref) → j < i + 1 → slice_get bound j ≡ Some q → (j ≡ i) ⊎ (j ≢ i) → IsBoundAt s q.0
-    by j q l e (inl same) = subst (λ (z : Ref). IsBoundAt s z.0) (same-item (slice_get bound i) r q at (subst (λ n. slice_get bound n ≡ Some q) same e)) is
-    by j q l e (inr other) = h j q (omega (arith, l, other)) e
 
 pub bound-all : (s : Store) (bound : List Ref) (i : ℕ) → AreBoundTo s bound i → length bound ≤ i → AreBound s (map the_place bound)
 bound-all s bound i h l = λ v on. by v on.0 (slice_get bound on.0) refl (sym (slice_get-map the_place bound on.0) ∙ on.1)

@@ -1,23 +1,22 @@
 -- Reductions, extensions and the tests of goals on the program's tree.
-use Rattle.std.proofs.Common.{◌≡◌, ◌<◌, ◌≤◌, ℕ, zero, suc, List, [], ◌∷◌, ◌++◌, drop, length, Bool, true, false, ◌&&◌, ◌||◌, ◌==◌, IsTrue, refl, sym, ◌∙◌, ap, subst, Option, None, Some, option_map, slice_get, arith, nat_le, ltb-true, eq-eqb}
-use Rattle.std.specs.List.{AllByRecursion, list_all, list_any}
+use Rattle.std.proofs.Common.{◌≡◌, ◌<◌, ◌≤◌, ℕ, zero, suc, List, [], ◌∷◌, ◌++◌, length, Bool, true, false, ◌&&◌, ◌||◌, ◌==◌, IsTrue, refl, sym, ◌∙◌, ap, subst, Option, None, Some, option_map, slice_get, arith, nat_le, eq-eqb}
+use Rattle.std.specs.List.{list_all, list_any}
 use Rattle.std.proofs.lemmas.Bool.{and_parts, false≢true}
 use Rattle.store_theory.specs.Bindings.{AddsBuilt, AddsOver, BindsOnly, IsWellFormed, NamesFrom, NamesOver, nothing_more, places_from, with_variables_of}
 use Rattle.calculus.specs.Choices.{Choice, extension, reduction, start}
 use Rattle.store_theory.specs.Patterns.{AreCopies, CopiedClause, HaveSortsAt, IsClauseCopy, PatternAtom, Template, clause_fits, clause_is_from, patterns_tree, template_fits, without_literal}
-use Rattle.store_theory.specs.Stores.{Store, has_sort_at, names_below}
+use Rattle.store_theory.specs.Stores.{Store, has_sort_at}
 use Rattle.calculus.specs.Syntax.{Problem}
 use Rattle.calculus.specs.declared.sort.Sort.{Sort}
 use Rattle.calculus.specs.declared.sort.Sort.TheVariants.{TermSort}
-use Rattle.store_theory.specs.Systems.{CellAtom, is_cell_atom, is_label}
+use Rattle.store_theory.specs.Systems.{CellAtom, is_label}
 use Rattle.store_theory.specs.Templates.{IsTemplateOf}
 use Rattle.calculus.proofs.PlaceLists.{all-at, get-within}
 use Rattle.store_theory.proofs.PatternLaws.{Grows-built, grown-copies, grown-label}
 use Rattle.search_theory.specs.Matrix.{MatrixClause, MatrixPlace, all_shown}
-use Rattle.search_theory.specs.Regular.{HasNoSamePair, IsNewGoal}
 use Rattle.search_theory.specs.OrderedChoices.{extension_at, selection_of}
 use Rattle.search_theory.specs.StateSystems.{extended_system, reduced_system, started_system, string_cells}
-use Rattle.search_theory.specs.States.{CellChoice, CellGoal, CellGrowth, cell_goals_on, extended, goal_is_below, new_cell_goals, reduced, started}
+use Rattle.search_theory.specs.States.{CellChoice, CellGoal, cell_goals_on, extended, goal_is_below, new_cell_goals, reduced, started}
 use Rattle.search_theory.specs.Steps.{AreUnified, Clash}
 use Rattle.search_theory.proofs.AtomLaws.{IsAtomIn}
 use Rattle.search_theory.proofs.BeginningLaws.{IsDead, dead-same}
@@ -39,8 +38,7 @@ use Rattle.term_store.specs.declared.clause.CellAtom as program
 use Rattle.term_unify.specs.Matching.{AddsAndBinds, AllNamesKept, HoldsNowhere, MatchTo, Narrows}
 use Rattle.connection_search.specs.Heads.{HasClash}
 use Rattle.connection_search.specs.MetAtom.{HeadMatched, met_atom}
-use Rattle.connection_search.specs.OwnStores.{AreOwn}
-use Rattle.connection_search.specs.Running.{ExtendsBy, IsAt, IsAtGoal, IsMatrixOf, IsRunning, ReducesBy, StandsDeep, StandsFor}
+use Rattle.connection_search.specs.Running.{ExtendsBy, IsAtGoal, IsMatrixOf, IsRunning, ReducesBy, StandsDeep, StandsFor}
 use Rattle.connection_search.specs.Sameness.{AnyRepeated, IsRepeated}
 use Rattle.connection_search.specs.Trees.{AreGoals, AreOpen, HasAtom, IsGoalAt, IsTree, atom_at, clause_with, inserted, sorts_of, strings_in, tree_system}
 use Rattle.connection_search.specs.declared.tree.Copied.{Copied}
@@ -52,7 +50,7 @@ use Rattle.connection_search.proofs.OwnCopies.{IsOwnTemplate}
 use Rattle.connection_search.proofs.OwnLaws.{own-names}
 use Rattle.connection_search.proofs.RunningLaws.{RestCopied, StartCopied, clause-at, no-extension-by_mismatch, no-reduction-by_clash, running-extended, running-reduced, running-started}
 use Rattle.connection_search.proofs.HeadLaws.{cannot-extend-by_names}
-use Rattle.connection_search.proofs.TreeLaws.{atom-found, goal-at, literal-below, same-item}
+use Rattle.connection_search.proofs.TreeLaws.{atom-found, goal-at, same-item}
 
 -- ---- the leftmost open goal
 
@@ -78,16 +76,10 @@ leftmost-repeated P m base d c s steps goals first next (cs, y, h) e repeated =
 
 -- ---- all goals
 
-pub goals-wanted : (P : Problem) (m : List MatrixClause) (base d : ℕ) (c : List Choice) (s : Store) (steps : List Step) (goals : List Goal) (first : Option ℕ) → StandsFor P m base d c s steps goals first → (xs : List CellGoal) × AreGoals steps goals goals xs × IsTrue (list_all (goal_is_below (length s.cells)) xs)
-goals-wanted P m base d c s steps goals first (cs, y, h) = (y.all_goals, h.tree.goals, h.running.state.cells.all_goals)
-
 pub goals-repeated : (P : Problem) (m : List MatrixClause) (base d : ℕ) (c : List Choice) (s : Store) (steps : List Step) (goals : List Goal) (first : Option ℕ) (n : ℕ) → StandsFor P m base d c s steps goals first → ((xs : List CellGoal) → AreGoals steps goals goals xs → AnyRepeated s n xs) → IsDead P c
 goals-repeated P m base d c s steps goals first n (cs, y, h) repeated =
     let (i, x, l, on, (j, a, path, same)) = repeated y.all_goals h.tree.goals in
     dead-same P d c (record { store = s; choices = cs; growth = y }) h.running.state (i, j, x, a, on, path, same)
-
-pub goals-new : (P : Problem) (m : List MatrixClause) (base d : ℕ) (c : List Choice) (s : Store) (steps : List Step) (goals : List Goal) (first : Option ℕ) (cs : List CellChoice) (x : CellGrowth) → IsAt P m base d c s steps goals first cs x → ((Q : Problem) (b : ℕ) (xs : List CellGoal) → AreGoals steps goals goals xs → AreOwn Q b s → AllByRecursion (IsGoalIn (λ r. b ≤ r) s) xs → AllByRecursion (IsNewGoal s) (drop 0 xs)) → HasNoSamePair (record { store = s; choices = cs; growth = x })
-goals-new P m base d c s steps goals first cs x h new = new P base x.all_goals h.tree.goals h.running.own h.running.goals
 
 -- ---- the goal at hand
 
@@ -99,9 +91,6 @@ goal-here P m base d c s steps goals goal g h =
 
 goal-own : (P : Problem) (m : List MatrixClause) (base d : ℕ) (c : List Choice) (s : Store) (steps : List Step) (goals : List Goal) (goal : ℕ) (g : CellGoal) → IsAtGoal P m base d c s steps goals goal g → IsGoalIn (λ r. base ≤ r) s g
 goal-own P m base d c s steps goals goal g h = h.at.running.open_goals.0
-
-pub goal-below : (P : Problem) (m : List MatrixClause) (base d : ℕ) (c : List Choice) (s : Store) (steps : List Step) (goals : List Goal) (goal : ℕ) (g : CellGoal) → IsAtGoal P m base d c s steps goals goal g → IsTrue (names_below (length s.cells) g.literal.args)
-goal-below P m base d c s steps goals goal g h = literal-below (length s.cells) g (and_parts (goal_is_below (length s.cells) g) (list_all (goal_is_below (length s.cells)) h.behind) h.at.running.state.cells.open_goals).0
 
 pub goal-within : (P : Problem) (m : List MatrixClause) (base d : ℕ) (c : List Choice) (s : Store) (steps : List Step) (goals : List Goal) (goal : ℕ) (g : CellGoal) → IsAtGoal P m base d c s steps goals goal g → goal < length goals
 goal-within P m base d c s steps goals goal g h = let at = goal-here P m base d c s steps goals goal g h in within goals goal at.goal at.stands
@@ -252,22 +241,6 @@ goal-matched P m base d c old met steps goals goal place g t vs xs p h head =
 -- the template of a clause is one
 pub same-template : (m : List MatrixClause) (k : ℕ) (t u : Template) → option_map (λ (x : MatrixClause). x.template) (slice_get m k) ≡ Some t → option_map (λ (x : MatrixClause). x.template) (slice_get m k) ≡ Some u → t ≡ u
 same-template m k t u = same-item (option_map (λ (x : MatrixClause). x.template) (slice_get m k)) t u
-
-pub atom-terms : (s : Store) (a : CellAtom) (rs : List ℕ) → IsTrue (is_cell_atom s a) → rs ≡ a.args → IsTrue (list_all (has_sort_at s TermSort) rs)
-atom-terms s a rs h e = subst (λ xs. IsTrue (list_all (has_sort_at s TermSort) xs)) (sym e) (and_parts (list_all (has_sort_at s TermSort) a.args) (is_label s a.label) h).0
-
-pub sorts-bound : (old new : Store) (sorts : List Sort) (rs : List ℕ) → BindsOnly old new → HaveSortsAt old sorts rs → HaveSortsAt new sorts rs
-sorts-bound old new sorts rs b h = sorts-kept old new (sorts-of_bound old new b) sorts rs h
-
--- the goal's path is short
-pub goal-depth : (P : Problem) (m : List MatrixClause) (base d : ℕ) (c : List Choice) (s : Store) (steps : List Step) (goals : List Goal) (goal : ℕ) (g : CellGoal) (p : MatrixPlace) → IsAtGoal P m base d c s steps goals goal g → ExtendsBy m d g p → (h : Goal) → slice_get goals goal ≡ Some h → h.depth ≤ 200
-goal-depth P m base d c s steps goals goal g p h e k at =
-    let w = goal-here P m base d c s steps goals goal g h in
-    let same = ap (λ (x : Goal). x.depth) (same-item (slice_get goals goal) w.goal k w.stands at) in
-    let n = w.is_goal.depth in
-    let deep = ltb-true (length g.path) d e.deep in
-    let limit = e.limit in
-    omega (arith, same, n, deep, limit)
 
 -- ---- extensions
 

@@ -64,9 +64,6 @@ unbound-variables (x ∷ sorts) s n v sort q e =
 
 -- ---- the steps of a search
 
-pub variables-bound : (base : ℕ) (s t : Store) (cs : List CellChoice) → BindsOnly s t → NamesVariables base s cs → NamesVariables base t cs
-variables-bound base s t cs b h v sort l e = h v sort l (unbound-bound s t b v sort e)
-
 pub variables-reduced : (base : ℕ) (s t : Store) (cs : List CellChoice) (up : ℕ) → BindsOnly s t → NamesVariables base s cs → NamesVariables base t (cs ++ reduction up ∷ [])
 variables-reduced base s t cs up b h v sort l e = value-more v cs (reduction up) (h v sort l (unbound-bound s t b v sort e))
 

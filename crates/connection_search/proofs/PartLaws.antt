@@ -25,9 +25,6 @@ use Rattle.std.proofs.Common.{option_map}
 
 -- ---- what a value is made of
 
-unbound-there : (s : Store) (v : ℕ) (c : Cell) → IsEnd s v → slice_get s.cells v ≡ Some c → is_bound c ≡ false
-unbound-there s v c (d, f, u) e = let q : d ≡ c = let z : Some d ≡ Some c = sym f ∙ e in cc z in subst (λ y. is_bound y ≡ false) q u
-
 pub needs-home : (s : Store) (h : Homes) (v : ℕ) (x : Head) (rs : List ℕ) → IsEnd s v → EndsIn s v (λ d. head_of d ≡ x) → is_open_term x ≡ true → rs ≡ or_nothing (home_of h v) → Needs s h v rs
 needs-home s h v x rs end ends open_term is = record { cell = end.0; stands = end.1; needs = is ∙ sym (by end.0 end.2 (ap is_open_term (head-there s v end.0 x end end.1 ends) ∙ open_term)) }
   where

@@ -67,9 +67,6 @@ pub record PassesTo (P : Problem) (m : List MatrixClause) (d : ℕ) (c : List Ch
   pub are : xs ≡ passed ++ rest
   pub has : HasExtensions m d now g rest
 
-pub passes-first : (P : Problem) (m : List MatrixClause) (d : ℕ) (c : List Choice) (g : CellGoal) (xs : List Choice) (left : Bool) (now : Point) → HasExtensions m d now g xs → PassesTo P m d c g xs left now
-passes-first P m d c g xs left now h = record { passed = []; each = tt; rest = xs; are = refl; has = h }
-
 all-with : {A : Type 0} (Q : A → Type 0) (xs : List A) (x : A) → AllByRecursion Q xs → Q x → AllByRecursion Q (xs ++ x ∷ [])
 all-with Q [] x h k = (k, tt)
 all-with Q (y ∷ xs) x h k = (h.0, all-with Q xs x h.1 k)

@@ -165,9 +165,6 @@ pub record PassedAncestors (steps : List Step) (goals : List Goal) (g : CellGoal
   pub above : IsPath steps goals now.above (drop now.up g.path)
   pub left : reductions_from (suc before.up) g.literal (drop before.up g.path) ≡ reductions_from (suc now.up) g.literal (drop now.up g.path)
 
-pub ancestors-start : (steps : List Step) (goals : List Goal) (g : CellGoal) (p : Point) → IsPath steps goals p.above (drop p.up g.path) → PassedAncestors steps goals g p p 0
-ancestors-start steps goals g p h = record { number = omega arith; above = h; left = refl }
-
 path-ended : (steps : List Step) (goals : List Goal) (k : Option ℕ) (path : List CellAtom) → IsPath steps goals k path → k ≡ None → path ≡ []
 path-ended steps goals k [] h e = refl
 path-ended steps goals k (a ∷ path) (i, x, is, stands, atom, rest) e = let z : None ≡ Some i = sym e ∙ is in absurd (cc z)

@@ -1,12 +1,12 @@
 -- What is read off of the program's tree stands in its store.
-use Rattle.std.proofs.Common.{◌≡◌, ◌+◌, ◌-◌, ◌<◌, ◌≤◌, ℕ, zero, suc, List, [], ◌∷◌, ◌++◌, drop, length, map, take, Bool, true, false, ◌&&◌, ◌||◌, IsTrue, refl, sym, ◌∙◌, ap, subst, Option, None, Some, slice_get, get_or, arith, nat_lt, ltb-true, lt-ltb}
+use Rattle.std.proofs.Common.{◌≡◌, ◌+◌, ◌-◌, ◌<◌, ◌≤◌, ℕ, zero, suc, List, [], ◌∷◌, ◌++◌, drop, length, map, take, Bool, true, false, ◌&&◌, ◌||◌, IsTrue, refl, sym, ◌∙◌, ap, subst, Option, Some, slice_get, get_or, arith, nat_lt, ltb-true, lt-ltb}
 use Rattle.std.specs.List.{AllByRecursion, flat_map, list_all}
 use Rattle.std.proofs.lemmas.Bool.{and_from, and_parts}
 use Rattle.std.proofs.lemmas.Option.{slice_get_within}
 use Rattle.calculus.specs.declared.sort.Sort.{Sort}
 use Rattle.calculus.specs.declared.sort.Sort.TheVariants.{TermSort, MarkSort, StringSort}
 use Rattle.std.proofs.lemmas.List.{drop-map, take-map, take_rest}
-use Rattle.store_theory.specs.Bindings.{IsEnd, KeepsMarks, places_from}
+use Rattle.store_theory.specs.Bindings.{IsEnd, KeepsMarks}
 use Rattle.calculus.specs.Choices.{Choice}
 use Rattle.store_theory.specs.Stores.{EndsAt, IsGood, Store, TrailMark, GammaCell, cells_bound_by, cut_at, has_sort_at, names_below}
 use Rattle.calculus.specs.Syntax.{Problem}
@@ -36,13 +36,6 @@ cell-below n rs i r h e = ltb-true r n (all-at (λ k. nat_lt k n) rs i r h e)
 pub end-of : (s : Store) (r e : ℕ) → EndsAt s r e → IsEnd s e
 end-of s r e (EndsAt.stays {c = c} h f) = (c, h, f)
 end-of s r e (EndsAt.goes_on h more) = end-of s _ e more
-
--- ---- variables that stand side by side
-
-pub place-there : (n c k : ℕ) → k < c → slice_get (places_from n c) k ≡ Some (n + k)
-place-there n zero k l = absurd (omega (arith, l))
-place-there n (suc c) zero l = ap Some (omega arith)
-place-there n (suc c) (suc k) l = place-there (suc n) c k (omega (arith, l)) ∙ ap Some (omega arith)
 
 -- ---- lists of atoms
 
@@ -74,14 +67,6 @@ pub all-back : (p : CellAtom → Bool) (n : ℕ) (xs : List CellAtom) → IsTrue
 all-back p zero xs h = h
 all-back p (suc n) [] h = refl
 all-back p (suc n) (x ∷ xs) h = all-back p n xs (and_parts (p x) (list_all p xs) h).1
-
--- ---- steps
-
--- a step that is read
-pub readable-at : (s : Store) (m : List MatrixClause) (steps : List Step) (k : ℕ) (step : Step) → AllByRecursion (IsReadableStep s m) steps → slice_get steps k ≡ Some step → IsReadableStep s m step
-readable-at s m [] k step h e = let z : None ≡ Some step = e in absurd (cc z)
-readable-at s m (x ∷ xs) zero step h e = let same : x ≡ step = cc e in subst (IsReadableStep s m) same h.0
-readable-at s m (x ∷ xs) (suc k) step h e = readable-at s m xs k step h.1 e
 
 -- ---- steps that can be read
 

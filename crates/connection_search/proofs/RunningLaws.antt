@@ -3,12 +3,12 @@ use Rattle.std.proofs.Common.{◌≡◌, ◌<◌, ◌≤◌, ◌+◌, ℕ, zero,
 use Rattle.std.specs.Prelude.{Contains, remove}
 use Rattle.std.specs.List.{AllByRecursion, list_all, list_any}
 use Rattle.std.proofs.lemmas.Bool.{and_from, and_parts}
-use Rattle.store_theory.specs.Bindings.{AddsBuilt, AddsOver, BindsOnly, IsWellFormed, NamesFrom, NamesOver, is_variable, nothing_more, one_more, places_from, with_cell, with_variables_of}
+use Rattle.store_theory.specs.Bindings.{AddsBuilt, AddsOver, BindsOnly, IsWellFormed, NamesFrom, NamesOver, nothing_more, one_more, places_from, with_cell, with_variables_of}
 use Rattle.calculus.specs.Choices.{Choice, IsLeft, IsLive, extension, growth_of, has_depth, is_opposite, is_regular, is_within, reduction, start}
 use Rattle.calculus.specs.ComputedInstances.{is_instance}
 use Rattle.calculus.specs.Equality.{sign_eq}
 use Rattle.store_theory.specs.Patterns.{AreAtomCopies, AreCopies, AreGammaCopies, CopiedClause, HaveSortsAt, IsClauseCopy, PatternAtom, Template, patterns_tree, template_fits, atom_is_from, clause_fits, clause_is_from, gamma_is_from, without_literal}
-use Rattle.store_theory.specs.Stores.{Cell, GammaCell, Solution, Solves, Store, eigen_cell, fun_cell, has_sort_at, has_value_sort_at, is_bound, is_store, names_below, new_cell, string_cell, variable}
+use Rattle.store_theory.specs.Stores.{GammaCell, Solution, Solves, Store, has_sort_at, has_value_sort_at, is_store, names_below, variable}
 use Rattle.calculus.specs.Syntax.{Problem}
 use Rattle.store_theory.specs.Systems.{CellAtom, System, cells_of, is_cell_atom, is_equation, is_gamma_cell, is_label, is_system}
 use Rattle.store_theory.specs.Templates.{IsTemplateOf, have_sorts}
@@ -127,21 +127,6 @@ stores-of (sort ∷ sorts) s h = (h, stores-of sorts (with_cell (variable sort N
 store-before : (s t : Store) → AddsBuilt s t → IsTrue (is_store t) → IsTrue (is_store s)
 store-before s _ nothing_more h = h
 store-before s t (one_more c i f b rest) h = i
-
-not-bound : (c : Cell) → is_variable c ≡ false → is_bound c ≡ false
-not-bound (variable sort b) e = let z : true ≡ false = e in absurd (cc z)
-not-bound (fun_cell f rs) e = refl
-not-bound (eigen_cell p rs) e = refl
-not-bound (new_cell p rs) e = refl
-not-bound (string_cell rs) e = refl
-
-store-behind : (s t : Store) → AddsBuilt s t → IsTrue (is_store s) → IsTrue (is_store t)
-store-behind s _ nothing_more h = h
-store-behind s t (one_more c i f b rest) h = store-behind (with_cell c s) t rest (is_store-with_cell c s i f (not-bound c b))
-
-store-variables : (sorts : List Sort) (s : Store) → IsTrue (is_store s) → IsTrue (is_store (with_variables_of sorts s))
-store-variables [] s h = h
-store-variables (sort ∷ sorts) s h = store-variables sorts (with_cell (variable sort None) s) (is_store-with_cell (variable sort None) s h refl refl)
 
 places-from_base : (base n k : ℕ) → base ≤ n → IsTrue (list_all (nat_le base) (places_from n k))
 places-from_base base n zero l = refl

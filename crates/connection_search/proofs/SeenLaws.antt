@@ -17,7 +17,7 @@ use Rattle.connection_search.specs.Trees.{AreGoals, IsGoalAt, IsPath, atom_at}
 use Rattle.connection_search.specs.declared.tree.Goal.{Goal}
 use Rattle.connection_search.specs.declared.tree.Step.{Step}
 use Rattle.connection_search.proofs.Places.{drop-end, drop-there, item-there}
-use Rattle.connection_search.proofs.TreeLaws.{AncestorAt, LooksFrom, ancestor-on, atom-found, goal-at, goals-length, looks-first, looks-next, looks-none, same-item}
+use Rattle.connection_search.proofs.TreeLaws.{AncestorAt, LooksFrom, ancestor-on, atom-found, goal-at, goals-length, looks-next, looks-none, same-item}
 
 -- ---- one goal
 
@@ -25,12 +25,6 @@ use Rattle.connection_search.proofs.TreeLaws.{AncestorAt, LooksFrom, ancestor-on
 pub record SeenTo (s : Store) (steps : List Step) (goals : List Goal) (goal : ℕ) (above : Option ℕ) (i : ℕ) : Type 0 where
   pub path : (x : CellGoal) → IsGoalAt steps goals goal x → IsPath steps goals above (drop i x.path)
   pub others : (P : Problem) (base : ℕ) (x : CellGoal) → IsGoalAt steps goals goal x → AreOwn P base s → IsGoalIn (λ r. base ≤ r) s x → LooksFrom s steps goals x above i
-
-pub seen-first : (s : Store) (steps : List Step) (goals : List Goal) (goal : ℕ) (at : Goal) → slice_get goals goal ≡ Some at → SeenTo s steps goals goal at.above 0
-seen-first s steps goals goal at e = record {
-  path = λ x h. (looks-first s steps goals goal x at e h).path;
-  others = λ P base x h c q. looks-first s steps goals goal x at e h;
-}
 
 -- one above it is looked at
 pub seen-ancestor : (s : Store) (steps : List Step) (goals : List Goal) (goal j i : ℕ) (x : CellGoal) → SeenTo s steps goals goal (Some j) i → IsGoalAt steps goals goal x → AncestorAt steps goals x j i

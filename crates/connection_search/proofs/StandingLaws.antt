@@ -264,13 +264,6 @@ reverse-seeing n before after h = elim (last-of before) [
   | inr k ↦ ap reverse (h.last k.0 k.1 k.2) ∙ reverse-append k.0 (seeing n k.1 ∷ []) ∙ sym (ap (λ xs. first-seeing n (reverse xs)) k.2 ∙ ap (first-seeing n) (reverse-append k.0 (k.1 ∷ [])))
 ]
 
-pub stack-more : (P : Problem) (m : List MatrixClause) (base d : ℕ) (s : Store) (steps : List Step) (goals : List Goal) (list : List (List Choice)) (n : ℕ) (before after : List Point) (pending : List (List Choice)) → SeeMore n before after → IsStack P m base d s steps goals list (reverse before) pending → IsStack P m base d s steps goals list (reverse after) pending
-stack-more P m base d s steps goals list n before after pending more h = subst (λ ps. IsStack P m base d s steps goals list ps pending) (sym (reverse-seeing n before after more)) (by (reverse before) h)
-  where
-    by : (ps : List Point) → IsStack P m base d s steps goals list ps pending → IsStack P m base d s steps goals list (first-seeing n ps) pending
-    by [] k = k
-    by (p ∷ ps) k = stack-seeing P m base d s steps goals list n p ps pending k
-
 -- where nothing more is to be told of goals that were not solved
 pub stack-cleared : (P : Problem) (m : List MatrixClause) (base d : ℕ) (s : Store) (steps : List Step) (goals : List Goal) (before after : List Point) (pending : List (List Choice)) → SeeMore 0 before after → ArePointsFrom P m base d s steps goals (reverse before) pending → IsStack P m base d s steps goals [] (reverse after) pending
 stack-cleared P m base d s steps goals before after pending more h = subst (λ ps. IsStack P m base d s steps goals [] ps pending) (sym (reverse-seeing 0 before after more)) (by (reverse before) h)

@@ -1,25 +1,16 @@
 -- The links of the program's tree.
-use Rattle.std.proofs.Common.{◌≡◌, ◌+◌, ◌≤◌, ℕ, zero, suc, List, [], ◌∷◌, drop, length, IsTrue, refl, sym, ◌∙◌, ap, subst, Option, None, Some, slice_get, arith}
-use Rattle.std.specs.List.{AllByRecursion, list_all}
-use Rattle.std.proofs.lemmas.Bool.{and_parts}
-use Rattle.store_theory.specs.Stores.{Store, names_below}
+use Rattle.std.proofs.Common.{◌≡◌, ◌+◌, ◌≤◌, ℕ, zero, suc, List, [], ◌∷◌, drop, length, refl, sym, ◌∙◌, ap, subst, Option, None, Some, slice_get, arith}
+use Rattle.std.specs.List.{AllByRecursion}
+use Rattle.store_theory.specs.Stores.{Store}
 use Rattle.store_theory.specs.Systems.{CellAtom}
 use Rattle.search_theory.specs.Regular.{AreSame, IsNewGoal}
-use Rattle.search_theory.specs.States.{CellGoal, atom_is_below, goal_is_below}
-use Rattle.connection_search.specs.Trees.{AreGoals, IsGoal, IsGoalAt, IsPath, atom_at, atom_in, goals_of}
+use Rattle.search_theory.specs.States.{CellGoal}
+use Rattle.connection_search.specs.Trees.{AreGoals, IsGoal, IsGoalAt, IsPath, atom_at}
 use Rattle.connection_search.specs.declared.tree.Goal.{Goal}
 use Rattle.connection_search.specs.declared.tree.Step.{Step}
 use Rattle.connection_search.proofs.Places.{drop-end, drop-there}
 
 -- ---- atoms
-
--- where the goal's atom stands
-pub atom-there : (steps : List Step) (g : Goal) (a : CellAtom) → atom_at steps g ≡ Some a → (s : Step) × (slice_get steps g.step ≡ Some s) × (slice_get (goals_of s) g.literal ≡ Some a)
-atom-there steps g a h = by (slice_get steps g.step) refl h
-  where
-    by : (o : Option Step) → slice_get steps g.step ≡ o → atom_in g.literal o ≡ Some a → (s : Step) × (slice_get steps g.step ≡ Some s) × (slice_get (goals_of s) g.literal ≡ Some a)
-    by None e q = let z : None ≡ Some a = q in absurd (cc z)
-    by (Some s) e q = (s, e, q)
 
 pub same-item : {A : Type 0} (o : Option A) (x y : A) → o ≡ Some x → o ≡ Some y → x ≡ y
 same-item o x y e f = let q : Some x ≡ Some y = sym e ∙ f in cc q
@@ -34,9 +25,6 @@ atom-found steps goals i x a h f = same-item (atom_at steps h.goal) a x.literal 
 pub record LooksFrom (s : Store) (steps : List Step) (goals : List Goal) (x : CellGoal) (above : Option ℕ) (i : ℕ) : Type 0 where
   pub path : IsPath steps goals above (drop i x.path)
   pub others : AllByRecursion (λ (a : CellAtom). ¬ AreSame s x.literal a) (drop i x.path) → IsNewGoal s x
-
-pub looks-first : (s : Store) (steps : List Step) (goals : List Goal) (i : ℕ) (x : CellGoal) (at : Goal) → slice_get goals i ≡ Some at → IsGoalAt steps goals i x → LooksFrom s steps goals x at.above 0
-looks-first s steps goals i x at e h = record { path = subst (λ (g : Goal). IsPath steps goals g.above x.path) (same-item (slice_get goals i) h.goal at h.stands e) h.is_goal.path; others = λ k. k }
 
 -- the ancestor that is looked at
 pub record AncestorAt (steps : List Step) (goals : List Goal) (x : CellGoal) (j i : ℕ) : Type 0 where
@@ -85,11 +73,6 @@ looks-none s steps goals x i h = h.others (by (drop i x.path) h.path)
 -- all above it were looked at
 pub looks-all : (s : Store) (steps : List Step) (goals : List Goal) (x : CellGoal) (above : Option ℕ) (i : ℕ) → LooksFrom s steps goals x above i → length x.path ≤ i → IsNewGoal s x
 looks-all s steps goals x above i h l = h.others (subst (AllByRecursion (λ (a : CellAtom). ¬ AreSame s x.literal a)) (sym (drop-end x.path i l)) tt)
-
--- ---- cells of goals
-
-pub literal-below : (n : ℕ) (x : CellGoal) → IsTrue (goal_is_below n x) → IsTrue (names_below n x.literal.args)
-literal-below n x h = (and_parts (names_below n x.literal.args) (names_below n x.literal.label) (and_parts (atom_is_below n x.literal) (list_all (atom_is_below n) x.path) h).0).0
 
 -- ---- all goals
 

@@ -1,5 +1,5 @@
 -- The loop that unifies two lists of terms pair by pair.
-use Rattle.std.proofs.Common.{◌≡◌, ◌+◌, ◌<◌, ◌≤◌, ℕ, suc, List, [], ◌∷◌, drop, length, map, Option, None, option_map, false, IsTrue, refl, sym, ◌∙◌, ap, subst, Some, slice_get, arith, nat_le, leb-true}
+use Rattle.std.proofs.Common.{◌≡◌, ◌+◌, ◌<◌, ℕ, suc, List, [], ◌∷◌, drop, length, map, Option, None, option_map, false, IsTrue, refl, sym, ◌∙◌, ap, subst, Some, slice_get, arith, nat_le, leb-true}
 use Rattle.std.specs.List.{list_all}
 use Rattle.std.specs.Option.{option_map_or}
 use Rattle.std.proofs.lemmas.Bool.{false≢true}
@@ -19,9 +19,9 @@ use Rattle.term_unify.proofs.PairLaws.{BindsOnly-both, BindsOnly-same}
 use Rattle.search_theory.specs.States.{terms_by}
 use Rattle.search_theory.specs.Steps.{AreUnified, Clash, IsUnified}
 use Rattle.search_theory.proofs.ClassicalSteps.{terms-binds}
-use Rattle.search_theory.proofs.UnifyLaws.{clash-first, clash-later, unified-more, unified-none}
+use Rattle.search_theory.proofs.UnifyLaws.{clash-first, clash-later, unified-more}
 use Rattle.search_theory.proofs.WithinLaws.{names-within}
-use Rattle.connection_search.proofs.Places.{drop-end, drop-there}
+use Rattle.connection_search.proofs.Places.{drop-there}
 
 -- the pairs before the place i are unified
 pub record UnifiedTo (old cur : Store) (xs ys : List ℕ) (i : ℕ) : Type 0 where
@@ -63,10 +63,6 @@ unified-next old mid new xs ys i a b h ea eb tx ty u binds within marks = record
 -- the pair at the place clashes
 pub unified-clash : (old mid : Store) (xs ys : List ℕ) (i a b : ℕ) → UnifiedTo old mid xs ys i → slice_get xs i ≡ Some a → slice_get ys i ≡ Some b → IsTrue (list_all (has_sort_at old TermSort) xs) → IsTrue (list_all (has_sort_at old TermSort) ys) → AreApart a b mid → Clash old xs ys
 unified-clash old mid xs ys i a b h ea eb tx ty apart = h.apart (subst (λ us. Clash mid us (drop i ys)) (sym (drop-there xs i a ea)) (subst (λ vs. Clash mid (a ∷ drop (suc i) xs) vs) (sym (drop-there ys i b eb)) (clash-first mid a b (drop (suc i) xs) (drop (suc i) ys) (terms-binds old mid h.binds a (all-at (has_sort_at old TermSort) xs i a tx ea)) (terms-binds old mid h.binds b (all-at (has_sort_at old TermSort) ys i b ty eb)) apart)))
-
--- all pairs are unified
-pub unified-all : (old new : Store) (xs ys : List ℕ) (i : ℕ) → UnifiedTo old new xs ys i → length xs ≤ i → length ys ≤ i → AreUnified old new xs ys
-unified-all old new xs ys i h lx ly = h.rest new (subst (λ us. AreUnified new new us (drop i ys)) (sym (drop-end xs i lx)) (subst (λ vs. AreUnified new new [] vs) (sym (drop-end ys i ly)) (unified-none new)))
 
 count : GroundTerms → ℕ
 count no_g_terms = 0

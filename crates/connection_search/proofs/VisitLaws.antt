@@ -83,9 +83,6 @@ points-before P m base d s steps goals first p (q ∷ ps) pending h (c, untried,
       points-before P m base d s steps goals first p ps below h rest,
     )
 
-true≢false : true ≡ false → ⊥
-true≢false e = false≢true (sym e)
-
 known-left : (P : Problem) (d : ℕ) (c : List Choice) (g : CellGoal) (known left : Bool) → IsLeftFound P d c g known left → left ≡ true → (known ≡ true) ⊎ IsLeft P d
 known-left P d c g true left h e = inl refl
 known-left P d c g false left h e = inr (h.is_left e refl)

@@ -1,30 +1,14 @@
 -- The turn ahead of a branch, where its parts divide, and a measure that each action of a led converter lowers, whichever turns it makes.
-use Rattle.std.proofs.Common.{◌≡◌, ◌⊎◌, ℕ, zero, suc, ◌+◌, ◌≤◌, ◌<◌, arith, List, [], ◌∷◌, ◌++◌, length, true, false, ◌==◌, IsTrue, refl, sym, ap, subst, inl, inr, lt-ltb, le-ltb}
+use Rattle.std.proofs.Common.{◌≡◌, ◌⊎◌, ℕ, zero, suc, ◌+◌, ◌≤◌, ◌<◌, arith, List, [], ◌∷◌, ◌++◌, length, true, false, ◌==◌, refl, sym, ap, subst, inl, inr, lt-ltb, le-ltb}
 use Rattle.std.proofs.lemmas.Bool.{false≢true, cases_Bool, and_parts, and_from, eqb-true}
-use Rattle.calculus.specs.Syntax.{Problem}
 use Rattle.calculus.specs.Equality.{list_eq, value_eq}
 use Rattle.calculus.specs.Instances.{Turn}
-use Rattle.calculus.specs.Tableaux.{Tableau, is_closed}
-use Rattle.conversion_theory.specs.Turns.{Name, names_mentioned, names_introduced, has_introduced_names}
-use Rattle.conversion_theory.specs.Leading.{End, turn_eq, is_done, undone, turns_before}
+use Rattle.conversion_theory.specs.Leading.{turn_eq, is_done, undone, turns_before}
 use Rattle.calculus.proofs.EqualityLaws.{list_eq-tells, value_eq-tells, nat_eq-tells}
 use Rattle.calculus.proofs.Members.{Among}
 use Rattle.conversion_theory.proofs.HitLaws.{turn}
-use Rattle.conversion_theory.proofs.AgendaLaws.{TurnOf}
-use Rattle.conversion_theory.proofs.RunLaws.{Branch, IsGood}
 use Rattle.conversion_theory.proofs.FollowLaws.{ArePlaced}
-use Rattle.conversion_theory.proofs.LedLaws.{CanCome, parent-done, come-free}
-use Rattle.conversion_theory.proofs.SegmentLaws.{Leads, leads-turn, leads-parent}
 use Rattle.conversion_theory.proofs.LeadingLaws.{room_for, measure-made}
-
-module _ (P : Problem) (d : ℕ) (t : Tableau) (names : List Name) (b : Branch) (good : IsGood P t names b) (y : Turn) (us : List Turn) (es : List End) (l : Leads P d t names b (y ∷ us) es) where
-  -- the turn ahead can come when the turns that introduce what it mentions are done
-  pub ahead-comes : (Among b.done y → ⊥) → ((z : Turn) (n : Name) → TurnOf P t z → Among (names_mentioned P y) n → Among (names_introduced P z) n → Among b.done z) → CanCome P t b.done y
-  ahead-comes new known = record { here = leads-turn P d t names b good y us es l; new = new; parents = parent-done P t b.done y (leads-turn P d t names b good y us es l) (leads-parent P d t names b good y us es l); names = known }
-
-  -- and where no introduced name occurs in the tableau, at once
-  pub ahead-comes_free : IsTrue (is_closed P d t) → has_introduced_names t ≡ false → (Among b.done y → ⊥) → CanCome P t b.done y
-  ahead-comes_free shut none new = come-free P d t shut none b.done y (leads-turn P d t names b good y us es l) new (leads-parent P d t names b good y us es l)
 
 -- ---- where the second part begins
 

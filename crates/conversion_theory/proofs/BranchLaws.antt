@@ -1,6 +1,6 @@
 -- Branches of a conversion: the turns that are done have left their results, each name is known by a turn that is done, and the next turn
 -- keeps this.
-use Rattle.std.proofs.Common.{◌≡◌, ◌⊎◌, ℕ, zero, suc, List, [], ◌∷◌, ◌++◌, length, true, false, IsTrue, Some, None, refl, sym, ◌∙◌, ap, subst, inl, inr, slice_get, arith, append_assoc, length-append}
+use Rattle.std.proofs.Common.{◌≡◌, ◌⊎◌, ℕ, zero, suc, List, [], ◌∷◌, ◌++◌, length, true, false, IsTrue, Some, refl, sym, ◌∙◌, ap, subst, inl, inr, slice_get, arith, append_assoc, length-append}
 use Rattle.std.specs.List.{AllByRecursion}
 use Rattle.std.proofs.lemmas.Option.{slice_get_within}
 use Rattle.calculus.specs.declared.sign.Sign.{Sign}
@@ -15,13 +15,13 @@ use Rattle.calculus.specs.Positions.{size, Node, node}
 use Rattle.calculus.specs.Instances.{grounds_of, Spot, down_by, GammaUse, Turn}
 use Rattle.calculus.specs.Problems.{formula_fits}
 use Rattle.calculus.specs.Tableaux.{Tableau}
-use Rattle.conversion_theory.specs.Turns.{Name, turns_of, names_mentioned, names_introduced, parent_position, IsParent, StandsBefore, IsAgenda}
+use Rattle.conversion_theory.specs.Turns.{Name, turns_of, names_mentioned, names_introduced, IsParent, StandsBefore, IsAgenda}
 pub use Rattle.conversion_theory.specs.Branches.{Item, item, landed, entry_of_item, entries_of}
-use Rattle.calculus.proofs.Members.{Among, at-among, at-contains, among-contains, contains-among, among-left, among-right, among-append}
+use Rattle.calculus.proofs.Members.{Among, at-among, among-contains, contains-among, among-left, among-right, among-append}
 use Rattle.conversion_theory.proofs.NumberLaws.{names_of_turn}
 use Rattle.conversion_theory.proofs.HitLaws.{Moves, plain, by_string, by_character, turn, literal_at, IsSaturated}
 use Rattle.conversion_theory.proofs.PlaceLaws.{Stood, Takes, nothing_more, one_term, Work, moves-position}
-use Rattle.conversion_theory.proofs.AgendaLaws.{only-parent, TurnOf, Anything, own-values, moves-values, takes-position}
+use Rattle.conversion_theory.proofs.AgendaLaws.{TurnOf, Anything, own-values, moves-values, takes-position}
 use Rattle.conversion_theory.proofs.NumberedLaws.{MarksIn, IsKnownTerm, marks-in-more, known-list-more}
 use Rattle.calculus.proofs.SpotLaws.{is_gamma}
 use Rattle.conversion_theory.proofs.ExpandLaws.{IsExpanded, expanded-literal, expanded-only, expanded-pair, expanded-either}
@@ -242,23 +242,6 @@ complete-more P t done x c here parents names = record {
   parents = λ y z h p. among-left done (x ∷ []) z (elim (among-append done (x ∷ []) y h) [ inl k ↦ c.parents y z k p | inr k ↦ elim k [ inl e ↦ parents z (subst (IsParent P z) (sym e) p) | inr q ↦ elim q [ ] ] ]);
   names = λ y z n h k m i. among-left done (x ∷ []) z (elim (among-append done (x ∷ []) y h) [ inl j ↦ c.names y z n j k m i | inr j ↦ elim j [ inl e ↦ names z n k (subst (λ w. Among (names_mentioned P w) n) (sym e) m) i | inr q ↦ elim q [ ] ] ]);
 }
-
--- the one parent is done, or there is none
-pub complete-child : (P : Problem) (t : Tableau) (done : List Turn) (x : Turn) → IsComplete P t done → TurnOf P t x → ((y : Turn) × IsParent P y x × Among done y) ⊎ (parent_position P x.position ≡ None) → ((z : Turn) (n : Name) → TurnOf P t z → Among (names_mentioned P x) n → Among (names_introduced P z) n → Among done z) → IsComplete P t (done ++ x ∷ [])
-complete-child P t done x c here parent names = complete-more P t done x c here (λ z p. by_parent parent z p) names
-  where
-    by_parent : ((y : Turn) × IsParent P y x × Among done y) ⊎ (parent_position P x.position ≡ None) → (z : Turn) → IsParent P z x → Among done z
-    by_parent (inl r) z p = subst (Among done) (only-parent P t x r.0 z here r.1 p) r.2
-    by_parent (inr e) z p = absurd (none_some (sym e ∙ p.position))
-
--- no turn of an agenda is its own parent
-pub no-own_parent : (P : Problem) (t : Tableau) (agenda : List Turn) → IsAgenda P t agenda → (x : Turn) → TurnOf P t x → IsParent P x x → ⊥
-no-own_parent P t agenda ag x h p =
-    let at = at-contains agenda x ((ag.all x).0 (contains-among (turns_of P t) x h)) in
-    let b = ag.parents at.0 x x at.1 p in
-    let same = ag.once b.0 at.0 x b.2 at.1 in
-    let lt = b.1 in
-    absurd (omega arith)
 
 -- ---- what the next turn leaves
 

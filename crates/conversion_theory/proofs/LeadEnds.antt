@@ -1,5 +1,6 @@
--- Where a led branch has come to a literal, an axiom closes it or the task is the next instance; where a led run begins, and where a fork leads.
-use Rattle.std.proofs.Common.{◌≡◌, ℕ, ◌+◌, ◌≤◌, ◌<◌, arith, List, [], ◌∷◌, length, ◌&&◌, true, IsTrue, refl, ap, inl, inr, slice_get, remove, nat_lt}
+-- Where a led branch has come to a literal, an instance begins there or a complementary literal stands on the path; and where a led
+-- run begins.
+use Rattle.std.proofs.Common.{◌≡◌, ℕ, ◌+◌, ◌≤◌, arith, List, [], ◌∷◌, length, ◌&&◌, true, IsTrue, refl, ap, inl, inr, slice_get, remove, nat_lt}
 use Rattle.std.specs.List.{AllByRecursion, list_all}
 use Rattle.std.proofs.lemmas.Bool.{false≢true, and_parts}
 use Rattle.calculus.specs.declared.sign.Sign.TheVariants.{F}
@@ -11,15 +12,14 @@ use Rattle.calculus.specs.ComputedInstances.{is_allowed_instance}
 use Rattle.calculus.specs.Text.{is_number}
 use Rattle.calculus.specs.Tableaux.{Closings, reduce, extend, Tableau, instances, instances_of_all, are_complementary, is_complement, ancestor, is_new_on, closes_all, is_closed, is_shown, is_short}
 use Rattle.conversion_theory.specs.Turns.{Name, turns_of_instance, closings_count}
-use Rattle.conversion_theory.specs.Numbering.{IsNumbering, number_of, name_lines_of}
-use Rattle.conversion_theory.specs.Branches.{item, entries_of}
-use Rattle.conversion_theory.specs.Leading.{End, meets_path, by_closing, closes_at_once, ends_of, ends_at, end_cost, ends_cost, closings_weight, end_weight, ends_weight, Task, whole_task, task_cost, task_weight}
+use Rattle.conversion_theory.specs.Numbering.{IsNumbering}
+use Rattle.conversion_theory.specs.Branches.{item}
+use Rattle.conversion_theory.specs.Leading.{End, meets_path, by_closing, closes_at_once, ends_of, ends_at, end_cost, closings_weight, Task, whole_task, task_cost, task_weight}
 use Rattle.calculus.proofs.Members.{Among, all-among}
 use Rattle.calculus.proofs.WalkLaws.{SomeIn, HasPair, pair_from, ancestor-All}
-use Rattle.conversion_theory.proofs.BranchLaws.{Holding, Known, complete-none}
-use Rattle.conversion_theory.proofs.EndLaws.{Axiom, axiom-of_pair}
+use Rattle.conversion_theory.proofs.BranchLaws.{Holding, complete-none}
 use Rattle.conversion_theory.proofs.RunLaws.{Branch, branch, IsGood, run-start}
-use Rattle.conversion_theory.proofs.TaskLaws.{IsEnd, ends-start, ends-extension, cost-start, cost-extension, weight-start, weight-extension, closing-positive, weight-positive}
+use Rattle.conversion_theory.proofs.TaskLaws.{IsEnd, ends-start, ends-extension, cost-start, weight-start, closing-positive}
 use Rattle.conversion_theory.proofs.LedLaws.{IsTask}
 use Rattle.conversion_theory.proofs.LeadLaws.{led, IsLed, whole-task}
 
@@ -33,24 +33,7 @@ pub end-positive : (e : End) → 1 ≤ end_cost e
 end-positive meets_path = omega arith
 end-positive (by_closing c) = closing-positive c
 
-pub end-heavy : (P : Problem) (e : End) → 1 ≤ end_weight P e
-end-heavy P meets_path = omega arith
-end-heavy P (by_closing c) = weight-positive P c
-
 module _ (P : Problem) (d : ℕ) (t : Tableau) (names : List Name) (shut : IsTrue (is_closed P d t)) (numbering : IsNumbering P t names) (long : IsTrue (is_number (length names))) where
-  -- an axiom, or the next instance, which costs no more and weighs less
-  pub data AtEnd (b : Branch) (k : Task) : Type 0 where
-    closes_here : Axiom P (name_lines_of (number_of names) P names) (entries_of (number_of names) b.items) → 1 ≤ task_cost k → 2 ≤ task_weight P k → AtEnd b k
-    extends_to : (j : Task) → IsTask P d t names b j → task_cost j ≤ task_cost k → task_weight P j < task_weight P k → AtEnd b k
-
-  axiom-here : (b : Branch) (k : Task) → IsGood P t names b → HasPair (Holding P.setting.logic b.items) → (e : End) → k.ends ≡ e ∷ [] → length k.share.turns ≡ 1 → AtEnd b k
-  axiom-here b k good pair e ends one =
-      let cost = ap ends_cost ends in
-      let weight = ap (ends_weight P) ends in
-      let positive = end-positive e in
-      let heavy = end-heavy P e in
-      closes_here (axiom-of_pair P (name_lines_of (number_of names) P names) b.done (number_of names) (Known P b.done) b.items good.branch.each pair) (omega arith) (omega arith)
-
   -- an instance begins at the literal
   pub end-extends : (b : Branch) (k : Task) → IsTask P d t names b k → IsGood P t names b → (x : GroundLiteral) → Holding P.setting.logic b.items x → (i : ClauseInstance) (place : ℕ) (below : Closings) → IsEnd P t d k.path x (by_closing (extend i place below)) → (j : Task) × IsTask P d t names b j × (j.share.turns ≡ turns_of_instance P i) × (j.ends ≡ ends_at place below)
   end-extends b k h good x holds i place below end =
@@ -69,20 +52,6 @@ module _ (P : Problem) (d : ℕ) (t : Tableau) (names : List Name) (shut : IsTru
       let parts = and_parts (is_new_on k.path x) (is_complement x (ancestor k.path up)) end.0 in
       pair_from (Holding P.setting.logic b.items) x (ancestor k.path up) holds (λ y e. ancestor-All (Holding P.setting.logic b.items) k.path up y h.path e) parts.1
   end-pair b k h x holds (by_closing (extend i place below)) once end = absurd (false≢true once)
-
-  pub at-end : (b : Branch) (k : Task) → IsTask P d t names b k → IsGood P t names b → (x : GroundLiteral) (e : End) → Holding P.setting.logic b.items x → IsEnd P t d k.path x e → k.ends ≡ e ∷ [] → length k.share.turns ≡ 1 → AtEnd b k
-  at-end b k h good x meets_path holds end ends one = axiom-here b k good (end-pair b k h x holds meets_path refl end) meets_path ends one
-  at-end b k h good x (by_closing (reduce up)) holds end ends one = axiom-here b k good (end-pair b k h x holds (by_closing (reduce up)) refl end) (by_closing (reduce up)) ends one
-  at-end b k h good x (by_closing (extend i place below)) holds end ends one =
-      let next = end-extends b k h good x holds i place below end in
-      let turns = ap length next.2 in
-      let next_cost = ap ends_cost next.3 in
-      let next_weight = ap (ends_weight P) next.3 in
-      let costs = cost-extension place below in
-      let weights = weight-extension P place below in
-      let cost = ap ends_cost ends in
-      let weight = ap (ends_weight P) ends in
-      extends_to next.0 next.1 (omega arith) (omega arith)
 
   -- ---- the start
 

@@ -1,19 +1,18 @@
 -- A conversion that its tableau leads, as it runs: each open branch has its task. One law for each thing that the run does.
-use Rattle.std.proofs.Common.{◌≡◌, ◌⊎◌, ℕ, suc, ◌+◌, List, [], ◌∷◌, ◌++◌, map, length, true, IsTrue, Some, Ok, refl, sym, ◌∙◌, ap, subst, inl, inr, slice_get}
+use Rattle.std.proofs.Common.{◌≡◌, ◌⊎◌, ℕ, suc, ◌+◌, List, [], ◌∷◌, ◌++◌, map, length, true, IsTrue, Some, refl, sym, ◌∙◌, ap, subst, inl, inr, slice_get}
 use Rattle.std.specs.List.{AllByRecursion}
 use Rattle.calculus.specs.declared.sign.Sign.TheVariants.{F}
 use Rattle.calculus.specs.Syntax.{Problem}
 use Rattle.calculus.specs.Ground.{Value, GroundLiteral}
 use Rattle.calculus.specs.Instances.{root_spot, Turn, Share, ClauseInstance}
 use Rattle.calculus.specs.ComputedInstances.{is_allowed_instance}
-use Rattle.calculus.specs.Derivations.{Step, apply_to, close, no_term}
-use Rattle.calculus.specs.Calculus.{closed, apply}
+use Rattle.calculus.specs.Derivations.{Step, apply_to, no_term}
 use Rattle.calculus.specs.Text.{is_number}
 use Rattle.calculus.specs.Tableaux.{Tableau, instances, is_closed}
 use Rattle.conversion_theory.specs.Turns.{Name, turns_of_instance, parent_position, last_but_one}
-use Rattle.conversion_theory.specs.Numbering.{IsNumbering, number_of, name_lines_of}
-use Rattle.conversion_theory.specs.Branches.{Item, entries_of, Made, rests, grows, splits, made}
-use Rattle.conversion_theory.specs.Leading.{End, Task, whole_task, task_cost, task_weight}
+use Rattle.conversion_theory.specs.Numbering.{IsNumbering, number_of}
+use Rattle.conversion_theory.specs.Branches.{Item, Made, rests, grows, splits, made}
+use Rattle.conversion_theory.specs.Leading.{End, Task, whole_task}
 use Rattle.calculus.proofs.Members.{Among, among-all, among-at, among-left, among-right, among-append, joined-among}
 use Rattle.calculus.proofs.CasesLaws.{is_allowed_instance-exact}
 use Rattle.conversion_theory.proofs.PlaceLaws.{root-stood}
@@ -21,7 +20,7 @@ use Rattle.conversion_theory.proofs.AgendaLaws.{TurnOf, stood-way}
 use Rattle.conversion_theory.proofs.ClosedLaws.{Allowed, Admitted, turns-by_cases}
 use Rattle.conversion_theory.proofs.BranchLaws.{Holding, IsReady, IsComplete}
 use Rattle.conversion_theory.proofs.MadeLaws.{front_same}
-use Rattle.conversion_theory.proofs.RunLaws.{Branch, branch, WorksOn, IsGood, IsRunning, Goes, run-made, run-skipped, run-closed, own_item, work_of}
+use Rattle.conversion_theory.proofs.RunLaws.{Branch, branch, WorksOn, IsGood, IsRunning, Goes, run-made, run-skipped, own_item, work_of}
 use Rattle.conversion_theory.proofs.TaskLaws.{AreEnds}
 use Rattle.conversion_theory.proofs.FollowLaws.{AreMade}
 use Rattle.conversion_theory.proofs.PartLaws.{IsPart, ArePart, made-part}
@@ -37,16 +36,6 @@ led b k = record { branch = b; task = k }
 
 abbrev pub branches_of : List Led → List Branch
 branches_of qs = map (λ (q : Led). q.branch) qs
-
--- the axioms that may still come
-abbrev pub led_cost : List Led → ℕ
-led_cost [] = 0
-led_cost (q ∷ qs) = task_cost q.task + led_cost qs
-
--- the turns and ends that may still come
-abbrev pub led_weight : Problem → List Led → ℕ
-led_weight P [] = 0
-led_weight P (q ∷ qs) = task_weight P q.task + led_weight P qs
 
 module _ (P : Problem) (d : ℕ) (t : Tableau) (names : List Name) where
   pub record IsKept (q : Led) : Type 0 where
@@ -64,18 +53,6 @@ module _ (P : Problem) (d : ℕ) (t : Tableau) (names : List Name) where
   LedGoes steps b k qs x n rests = IsLed steps (led (branch b.items (b.done ++ x ∷ [])) k ∷ qs)
   LedGoes steps b k qs x n (grows m u added) = IsLed (steps ++ apply_to (suc n) m u ∷ []) (led (branch (b.items ++ added) (b.done ++ x ∷ [])) k ∷ qs)
   LedGoes steps b k qs x n (splits m i j) = IsLed (steps ++ apply_to (suc n) m no_term ∷ []) (led (branch (b.items ++ i ∷ []) (b.done ++ x ∷ [])) k ∷ led (branch (b.items ++ j ∷ []) (b.done ++ x ∷ [])) k ∷ qs)
-
-  -- a branch takes up another task
-  pub led-task : (steps : List Step) (b : Branch) (k j : Task) (qs : List Led) → IsLed steps (led b k ∷ qs) → IsTask P d t names b j → IsLed steps (led b j ∷ qs)
-  led-task steps b k j qs h task = record { run = h.run; kept = (record { task = task; left = h.kept.0.left; complete = h.kept.0.complete }, h.kept.1) }
-
-  -- the two branches of a fork take up two others
-  pub led-two : (steps : List Step) (b e : Branch) (k m i j : Task) (qs : List Led) → IsLed steps (led b k ∷ led e m ∷ qs) → IsTask P d t names b i → IsTask P d t names e j → IsLed steps (led b i ∷ led e j ∷ qs)
-  led-two steps b e k m i j qs h first second = record { run = h.run; kept = (record { task = first; left = h.kept.0.left; complete = h.kept.0.complete }, (record { task = second; left = h.kept.1.0.left; complete = h.kept.1.0.complete }, h.kept.1.1)) }
-
-  -- an axiom closes the branch
-  pub led-closed : (steps : List Step) (b : Branch) (k : Task) (qs : List Led) → IsLed steps (led b k ∷ qs) → (given shown : ℕ) → apply P (name_lines_of (number_of names) P names) (entries_of (number_of names) b.items) (close given shown) ≡ Ok closed → is_number given ≡ true → is_number shown ≡ true → IsLed (steps ++ close given shown ∷ []) qs
-  led-closed steps b k qs h given shown e g s = record { run = run-closed P t names steps b (branches_of qs) h.run given shown e g s; kept = h.kept.1 }
 
   module _ (shut : IsTrue (is_closed P d t)) (numbering : IsNumbering P t names) (long : IsTrue (is_number (length names))) where
     -- the results of the turn x on the item i stand, and nothing that is done works on what is added

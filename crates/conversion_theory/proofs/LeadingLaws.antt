@@ -12,7 +12,7 @@ use Rattle.calculus.specs.Derivations.{Step, apply_to, close, no_term}
 use Rattle.calculus.specs.Calculus.{closed, apply}
 use Rattle.calculus.specs.Text.{is_number}
 use Rattle.calculus.specs.Tableaux.{Closings, extend, Tableau, is_closed}
-use Rattle.conversion_theory.specs.Turns.{Name, turns_of_instance, names_mentioned, names_introduced, closings_count, has_introduced_names}
+use Rattle.conversion_theory.specs.Turns.{Name, turns_of_instance, names_mentioned, names_introduced, has_introduced_names}
 use Rattle.conversion_theory.specs.Numbering.{IsNumbering, number_of, name_lines_of}
 use Rattle.conversion_theory.specs.Branches.{Item, item, entries_of, Made, rests, grows, splits, made}
 use Rattle.conversion_theory.specs.Leading.{End, by_closing, closes_at_once, ends_of, ends_at, end_cost, ends_cost, ends_weight}
@@ -22,7 +22,7 @@ use Rattle.conversion_theory.proofs.BranchLaws.{Known, IsComplete}
 use Rattle.conversion_theory.proofs.EndLaws.{Axiom, axiom-of_pair}
 use Rattle.conversion_theory.proofs.ShortLaws.{mentions-none, introduced-is}
 use Rattle.conversion_theory.proofs.RunLaws.{Branch, branch, WorksOn, IsGood, IsRunning, run-closed}
-use Rattle.conversion_theory.proofs.TaskLaws.{IsEnd, cost-start, cost-extension, weight-extension}
+use Rattle.conversion_theory.proofs.TaskLaws.{IsEnd, cost-extension, weight-extension}
 use Rattle.conversion_theory.proofs.LedLaws.{CanCome, AreLeft}
 use Rattle.conversion_theory.proofs.SegmentLaws.{Leads, Literals}
 use Rattle.conversion_theory.proofs.LeadLaws.{Led, led, branches_of, IsKept, IsLed, LedGoes, led-made, led-skipped}
@@ -47,10 +47,6 @@ ways_cost (o ∷ os) = ends_cost o.ends + ways_cost os
 
 abbrev pub way_weight : Problem → Way → ℕ
 way_weight P o = length o.turns + ends_weight P o.ends
-
-abbrev pub ways_weight : Problem → List Way → ℕ
-ways_weight P [] = 0
-ways_weight P (o ∷ os) = way_weight P o + ways_weight P os
 
 module _ (P : Problem) (d : ℕ) (t : Tableau) (names : List Name) where
   pub record IsKeptWay (o : Way) : Type 0 where
@@ -147,9 +143,6 @@ module _ (P : Problem) (d : ℕ) (t : Tableau) (names : List Name) where
           record { task = next.0; right = next.1; turns = next.2; ends = next.3 }
 
   -- ---- the count: no action that follows raises what may still come
-
-  pub start-cost : ways_cost (way (branch (item root_spot F P.formula ∷ []) []) (turns_of_instance P t.start) (ends_of t.goals) ∷ []) ≡ closings_count t.goals
-  start-cost = let c = cost-start t.goals in omega arith
 
   -- where no name is introduced, no turn waits for one that introduces
   pub none-awaited : IsTrue (is_closed P d t) → has_introduced_names t ≡ false → (x z : Turn) → TurnOf P t x → (n : Name) → Among (names_mentioned P x) n → Among (names_introduced P z) n → ⊥

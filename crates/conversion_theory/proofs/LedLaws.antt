@@ -1,26 +1,23 @@
 -- What stands on a branch that a tableau leads: the task of the branch, and what each turn that is done there has left.
-use Rattle.std.proofs.Common.{◌≡◌, ◌⊎◌, ℕ, suc, ◌+◌, ◌≤◌, ◌<◌, arith, List, [], ◌∷◌, ◌++◌, take, drop, length, length-append, false, IsTrue, Some, None, refl, sym, ◌∙◌, ap, subst, inl, inr, slice_get}
+use Rattle.std.proofs.Common.{◌≡◌, ◌⊎◌, ℕ, ◌+◌, ◌≤◌, ◌<◌, arith, List, [], ◌∷◌, ◌++◌, length, None, refl, sym, ◌∙◌, ap, subst, inl, inr}
 use Rattle.std.specs.List.{AllByRecursion}
 use Rattle.calculus.specs.declared.sign.Sign.{Sign}
 use Rattle.calculus.specs.Syntax.{Formula, Problem}
 use Rattle.calculus.specs.Ground.{Value, GroundLiteral}
 use Rattle.calculus.specs.Positions.{Node}
-use Rattle.calculus.specs.Instances.{Spot, Turn, Share, Gives}
-use Rattle.calculus.specs.Derivations.{ModalArg}
-use Rattle.calculus.specs.Tableaux.{Tableau, is_closed}
-use Rattle.conversion_theory.specs.Turns.{Name, IsAgenda, turns_of, names_mentioned, names_introduced, parent_position, IsParent, has_introduced_names}
+use Rattle.calculus.specs.Instances.{Spot, Turn, Gives}
+use Rattle.calculus.specs.Tableaux.{Tableau}
+use Rattle.conversion_theory.specs.Turns.{Name, names_mentioned, names_introduced, parent_position, IsParent}
 use Rattle.conversion_theory.specs.Numbering.{number_of}
 use Rattle.conversion_theory.specs.Branches.{Item, item, Made, rests, grows, splits, made}
-use Rattle.conversion_theory.specs.Leading.{End, ends_cost, ends_weight, Task, task_cost, task_weight}
-use Rattle.calculus.proofs.Members.{Among, among-contains, contains-among, contains-at, among-left, among-right}
+use Rattle.conversion_theory.specs.Leading.{End, Task, task_cost, task_weight}
+use Rattle.calculus.proofs.Members.{Among}
 use Rattle.conversion_theory.proofs.PlaceLaws.{Stood, HasParent}
 use Rattle.conversion_theory.proofs.AgendaLaws.{TurnOf, Anything, turn-works, parent-above, only-parent}
 use Rattle.conversion_theory.proofs.BranchLaws.{Has, Holding, IsReady, IsComplete, ready-complete, complete-more}
-use Rattle.conversion_theory.proofs.ShortLaws.{mentions-none, introduced-is}
 use Rattle.conversion_theory.proofs.RunLaws.{Branch, WorksOn}
-use Rattle.conversion_theory.proofs.TaskLaws.{IsEnd, AreEnds, cost-split, weight-split}
-use Rattle.conversion_theory.proofs.FollowLaws.{AreMade, IsSingle, IsBelowOf, below, Next, lands, goes, forks, Opened, opened}
-use Rattle.std.proofs.lemmas.Bool.{false≢true}
+use Rattle.conversion_theory.proofs.TaskLaws.{AreEnds}
+use Rattle.conversion_theory.proofs.FollowLaws.{AreMade, IsBelowOf, below, Next, lands, goes, forks, Opened, opened}
 use Rattle.calculus.proofs.WalkLaws.{none_some}
 
 -- ---- turns that can come next
@@ -45,27 +42,6 @@ come-ready P t done x c h = ready-complete P t done x c h.here h.new (own_parent
 
 pub come-complete : (P : Problem) (t : Tableau) (done : List Turn) (x : Turn) → IsComplete P t done → CanCome P t done x → IsComplete P t (done ++ x ∷ [])
 come-complete P t done x c h = complete-more P t done x c h.here h.parents h.names
-
--- the first turn of an agenda that is not done can come, so there is no standstill
-pub first-comes : (P : Problem) (t : Tableau) (agenda done : List Turn) → IsAgenda P t agenda → (k : ℕ) (x : Turn) → slice_get agenda k ≡ Some x → (Among done x → ⊥) → ((j : ℕ) (y : Turn) → j < k → slice_get agenda j ≡ Some y → Among done y) → CanCome P t done x
-first-comes P t agenda done ag k x e new before = record {
-  here = here;
-  new = new;
-  parents = λ z p. let b = ag.parents k x z e p in before b.0 z b.1 b.2;
-  names = λ z n h m i. let b = ag.names k x z n e (contains-among (names_mentioned P x) n m) (contains-among (turns_of P t) z h) (contains-among (names_introduced P z) n i) in before b.0 z b.1 b.2;
-}
-  where
-    here : TurnOf P t x
-    here = among-contains (turns_of P t) x ((ag.all x).1 (contains-at agenda k x e))
-
--- where no introduced name occurs in the tableau, it is enough that the parent is done
-pub come-free : (P : Problem) (d : ℕ) (t : Tableau) → IsTrue (is_closed P d t) → has_introduced_names t ≡ false → (done : List Turn) (x : Turn) → TurnOf P t x → (Among done x → ⊥) → ((y : Turn) × IsParent P y x × Among done y) ⊎ (parent_position P x.position ≡ None) → CanCome P t done x
-come-free P d t shut none done x here new parent = record {
-  here = here;
-  new = new;
-  parents = parent-done P t done x here parent;
-  names = λ z n h m i. absurd (false≢true (sym (mentions-none P d t shut none x here n m) ∙ introduced-is P z n i));
-}
 
 -- ---- what the turns that are done have left
 
@@ -148,12 +124,6 @@ module _ (P : Problem) (d : ℕ) (t : Tableau) (names : List Name) where
   pub turn-first : (b : Branch) (k : Task) (h : IsTask b k) → (us : List Turn) × (k.share.turns ≡ (task_turn b k h).here ∷ us)
   turn-first b k h = let o = task_turn b k h in first_is k.path o.here k.share.turns k.ends k.spot k.sign k.formula (made (number_of names) P.setting.logic k.spot k.sign k.formula o.own) o.next
 
-  head_same : (x y : Turn) (us vs : List Turn) → x ∷ us ≡ y ∷ vs → x ≡ y
-  head_same x y us vs e = cc
-
-  pub turn-same : (b e : Branch) (k : Task) (h : IsTask b k) (g : IsTask e k) → (task_turn b k h).here ≡ (task_turn e k g).here
-  turn-same b e k h g = let x = turn-first b k h in let y = turn-first e k g in head_same (task_turn b k h).here (task_turn e k g).here x.0 y.0 (sym x.1 ∙ y.1)
-
   -- it works on the task's signed formula
   pub turn-works_on : (b : Branch) (k : Task) (h : IsTask b k) → WorksOn P t names (task_turn b k h).here (item k.spot k.sign k.formula) (task_turn b k h).own
   turn-works_on b k h = let o = task_turn b k h in (refl, o.position, o.values)
@@ -163,14 +133,6 @@ module _ (P : Problem) (d : ℕ) (t : Tableau) (names : List Name) where
   turn-parent b k h = let o = task_turn b k h in h.above o.here o.own (sym o.position) o.values
 
   -- ---- where its turn is done
-
-  -- a literal of the instance with its end, or a part of the task, which costs no more and weighs less
-  pub data Followed (b : Branch) (k : Task) : Type 0 where
-    at_literal : (x : GroundLiteral) (e : End) → Holding P.setting.logic b.items x → IsEnd P t d k.path x e → k.ends ≡ e ∷ [] → length k.share.turns ≡ 1 → Followed b k
-    to_part : (j : Task) → IsTask b j → j.path ≡ k.path → task_cost j ≤ task_cost k → task_weight P j < task_weight P k → Followed b k
-
-  part : Spot → Sign → Formula → Share → List End → List GroundLiteral → Task
-  part c s f x es path = record { spot = c; sign = s; formula = f; share = x; ends = es; path = path }
 
   -- what is below the turn, where it stands and the turn is done
   pub part-task : (b : Branch) (k : Task) (h : IsTask b k) (y : Turn) → Among b.done y → (ts : List Turn) (es : List End) (c : Spot) (s : Sign) (f : Formula) → ((z : Turn) → Among ts z → Among k.share.turns z) → Has b.items c s f → IsBelowOf P t d k.path y ts es c s f → (j : Task) × IsTask b j × (j.path ≡ k.path) × (j.ends ≡ es) × (length j.share.turns ≡ length ts) × (j.share.turns ≡ ts)
@@ -193,53 +155,6 @@ module _ (P : Problem) (d : ℕ) (t : Tableau) (names : List Name) where
     turns,
   )
 
-  first-inside : (y : Turn) (us vs : List Turn) (ts : List Turn) → ts ≡ y ∷ (us ++ vs) → (z : Turn) → Among us z → Among ts z
-  first-inside y us vs ts e z m = subst (λ ws. Among ws z) (sym e) (inr (among-left us vs z m))
-
-  second-inside : (y : Turn) (us vs : List Turn) (ts : List Turn) → ts ≡ y ∷ (us ++ vs) → (z : Turn) → Among vs z → Among ts z
-  second-inside y us vs ts e z m = subst (λ ws. Among ws z) (sym e) (inr (among-right us vs z m))
-
-  only-inside : (y : Turn) (us : List Turn) (ts : List Turn) → ts ≡ y ∷ us → (z : Turn) → Among us z → Among ts z
-  only-inside y us ts e z m = subst (λ ws. Among ws z) (sym e) (inr m)
-
-  fork-length : (y : Turn) (us vs ts : List Turn) → ts ≡ y ∷ (us ++ vs) → length ts ≡ suc (length us + length vs)
-  fork-length y us vs ts e = let n = length-append us vs in ap length e ∙ ap suc n
-
-  followed-next : (b : Branch) (k : Task) (h : IsTask b k) (y : Turn) → Among b.done y → (m : Made) → AreMade b.items m → Next P t d k.path y k.share.turns k.ends k.spot k.sign k.formula m → Followed b k
-  followed-next b k h y done m left (lands x e one shape same z end holds) = at_literal x e (holds b.items h.stands left) end z (ap length same)
-  followed-next b k h y done m left (goes us g r f one shape same lower stands) =
-      let j = part-task b k h y done us k.ends g r f (only-inside y us k.share.turns same) (stands b.items left) lower in
-      let cost = ap ends_cost j.3 in
-      let weight = ap (ends_weight P) j.3 in
-      let turns = j.4 in
-      let whole = ap length same in
-      to_part j.0 j.1 j.2 (omega arith) (omega arith)
-  followed-next b k h y done m left (forks n us vs a c e q r f g both shape placed same first second) = elim (subst (AreMade b.items) both left) [
-    | inl stands ↦
-        let j = part-task b k h y done us (take n k.ends) c q f (first-inside y us vs k.share.turns same) stands first in
-        let cost = ap ends_cost j.3 in
-        let weight = ap (ends_weight P) j.3 in
-        let turns = j.4 in
-        let whole = fork-length y us vs k.share.turns same in
-        let costs = cost-split n k.ends in
-        let weights = weight-split P n k.ends in
-        to_part j.0 j.1 j.2 (omega arith) (omega arith)
-    | inr stands ↦
-        let j = part-task b k h y done vs (drop n k.ends) e r g (second-inside y us vs k.share.turns same) stands second in
-        let cost = ap ends_cost j.3 in
-        let weight = ap (ends_weight P) j.3 in
-        let turns = j.4 in
-        let whole = fork-length y us vs k.share.turns same in
-        let costs = cost-split n k.ends in
-        let weights = weight-split P n k.ends in
-        to_part j.0 j.1 j.2 (omega arith) (omega arith)
-  ]
-
-  pub follow : (b : Branch) (k : Task) (h : IsTask b k) → AreLeft P t names b → Among b.done (task_turn b k h).here → Followed b k
-  follow b k h left done =
-      let o = task_turn b k h in
-      followed-next b k h o.here done (made (number_of names) P.setting.logic k.spot k.sign k.formula o.own) (left o.here done (item k.spot k.sign k.formula) h.stands o.own (turn-works_on b k h)) o.next
-
   -- ---- where its turn forks the branch
 
   -- two parts of a task, on the two branches of a fork: they cost no more than the task, and weigh less
@@ -250,28 +165,3 @@ module _ (P : Problem) (d : ℕ) (t : Tableau) (names : List Name) where
     pub second_task : IsTask e second
     pub cost : task_cost first + task_cost second ≤ task_cost k
     pub weight : task_weight P first + task_weight P second < task_weight P k
-
-  -- what the turn does to a branch: nothing is forked, or the two branches get two parts of the task
-  pub data Makes (k : Task) (y : Turn) (m : Made) : Type 0 where
-    single : IsSingle m → Makes k y m
-    double : (a : ModalArg) (i j : Item) → m ≡ splits a i j → ((b e : Branch) → IsTask b k → IsTask e k → Among b.done y → Among e.done y → Among b.items i → Among e.items j → Forked b e k) → Makes k y m
-
-  makes-next : (k : Task) (y : Turn) (m : Made) → Next P t d k.path y k.share.turns k.ends k.spot k.sign k.formula m → Makes k y m
-  makes-next k y m (lands x e one shape same z end holds) = single one
-  makes-next k y m (goes us g r f one shape same lower stands) = single one
-  makes-next k y m (forks n us vs a c e q r f g both shape placed same first second) = double a (item c q f) (item e r g) both (λ b o h v i j first_stands second_stands.
-      let p = part-task b k h y i us (take n k.ends) c q f (first-inside y us vs k.share.turns same) first_stands first in
-      let s = part-task o k v y j vs (drop n k.ends) e r g (second-inside y us vs k.share.turns same) second_stands second in
-      let p_cost = ap ends_cost p.3 in
-      let s_cost = ap ends_cost s.3 in
-      let p_weight = ap (ends_weight P) p.3 in
-      let s_weight = ap (ends_weight P) s.3 in
-      let p_turns = p.4 in
-      let s_turns = s.4 in
-      let whole = fork-length y us vs k.share.turns same in
-      let costs = cost-split n k.ends in
-      let weights = weight-split P n k.ends in
-      record { first = p.0; second = s.0; first_task = p.1; second_task = s.1; cost = omega arith; weight = omega arith })
-
-  pub turn-makes : (b : Branch) (k : Task) (h : IsTask b k) → Makes k (task_turn b k h).here (made (number_of names) P.setting.logic k.spot k.sign k.formula (task_turn b k h).own)
-  turn-makes b k h = let o = task_turn b k h in makes-next k o.here (made (number_of names) P.setting.logic k.spot k.sign k.formula o.own) o.next

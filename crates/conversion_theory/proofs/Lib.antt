@@ -36,12 +36,13 @@ pub mod LedLaws
 pub mod SegmentLaws
 pub mod LeadLaws
 pub mod LeadEnds
-pub mod ShortConversion
 pub mod LeadingLaws
 pub mod LoopLaws
 pub mod LoopMeasures
 pub mod AheadLaws
-pub mod LedConversion
+-- ==== laws that are here for the reader
+
+mod ForReaders
 -- ==== examples that compute
 
 mod TableauExamples

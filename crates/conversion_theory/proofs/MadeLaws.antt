@@ -72,9 +72,6 @@ module _ (P : Problem) (names : List Name) (done : List Turn) (x : Turn) (items 
   IsMade (splits m i j) = IsForked m i j
 
 module _ (P : Problem) (t : Tableau) (names : List Name) (numbering : IsNumbering P t names) (done : List Turn) (x : Turn) (ready : IsReady P t done x) (w : Work P (TurnOf P t) (Allowed P) (Admitted P) x) (items : List Item) (b : IsBranch P done items) (k : ℕ) (at : slice_get items k ≡ Some (item w.from w.sign w.formula)) where
-  step_past : List Value → Past
-  step_past r = record { spot = w.past; arg = modal_arg (number_of names) P.setting.logic w.sign w.formula w.from w.past w.moves; rest = r }
-
   grown : (u : TermArg) (added : List Item) → OneStep P t names numbering done x ready w items b k at u added → IsGrown P names done x items k (modal_arg (number_of names) P.setting.logic w.sign w.formula w.from w.past w.moves) u added
   grown u added s = record { applies = s.applies; branch = s.branch; written = s.written }
 

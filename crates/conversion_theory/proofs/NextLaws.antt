@@ -30,7 +30,7 @@ use Rattle.conversion_theory.proofs.PlaceLaws.{Stood, Turned, Takes, Work, only-
 use Rattle.conversion_theory.proofs.AgendaLaws.{TurnOf, takes-position, work-position, stood-way}
 use Rattle.conversion_theory.proofs.ClosedLaws.{Allowed, Admitted}
 use Rattle.conversion_theory.proofs.WorkLaws.{NameOf, introduced-name, moves-env, moved-marks, pi-position, pi-takes-nothing, work-turned, work-label, takes-cases}
-use Rattle.conversion_theory.proofs.BranchLaws.{Item, item, landed, entry_of_item, entries_of, Has, Holding, Known, known-more, known-here, IsItem, Held, Meets, held-expanded, moves-plain, IsBranch, IsReady, IsBelow, branch-grows}
+use Rattle.conversion_theory.proofs.BranchLaws.{Item, item, landed, entry_of_item, entries_of, Has, Holding, Known, known-more, known-here, IsItem, Meets, moves-plain, IsBranch, IsReady, IsBelow, branch-grows}
 use Rattle.conversion_theory.proofs.FreshLaws.{introduced-unknown, known-named, eigen-new, character-new}
 use Rattle.conversion_theory.proofs.UseLaws.{can-use, modal_arg, modal_arg-fits, modal_arg-label, modal_arg-reachable, only-children, pair-children, either-children, atom-children, gamma-children, delta-children}
 use Rattle.conversion_theory.proofs.PutLaws.{shape_by, modal_by}
@@ -93,10 +93,6 @@ module _ (P : Problem) (t : Tableau) (names : List Name) (numbering : IsNumberin
   -- a turn on a signed formula that is not on the branch leaves it as it is
   pub skipped : (Has items w.from w.sign w.formula → ⊥) → IsBranch P (done ++ x ∷ []) items
   skipped none = subst (IsBranch P (done ++ x ∷ [])) (append-nil items) (branch-grows P t (Allowed P) (Admitted P) done x ready w items [] b (λ i h. elim h [ ]) (λ i h e. elim h [ ]) (λ h. absurd (none h)))
-
-  -- a signed formula that the literals of the branch make hold is left as it is
-  pub left-out : Held P.setting.logic items w.from.label w.from.env w.sign w.formula → IsBranch P (done ++ x ∷ []) items
-  left-out held = subst (IsBranch P (done ++ x ∷ [])) (append-nil items) (branch-grows P t (Allowed P) (Admitted P) done x ready w items [] b (λ i h. elim h [ ]) (λ i h e. elim h [ ]) (λ h. held-expanded P.setting.logic (items ++ []) w.from w.past w.sign w.formula x (subst (λ js. Held P.setting.logic js w.from.label w.from.env w.sign w.formula) (sym (append-nil items)) held) w.moves))
 
   -- a literal without a modal part stands as it is
   pub literal-rests : shape_of w.sign w.formula ≡ Literal → modal_of P.setting.logic w.sign w.formula ≡ Plain → IsBranch P (done ++ x ∷ []) items

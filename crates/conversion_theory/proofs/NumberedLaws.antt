@@ -10,10 +10,10 @@ use Rattle.calculus.specs.declared.setting.Domains.TheVariants.{Constant, Cumula
 use Rattle.calculus.specs.Syntax.{Problem}
 use Rattle.calculus.specs.Ground.{GroundTerm, GroundTerms, GroundMark, Marks, Values, g_fun, g_eigen, common, own, no_g_terms, more_g_terms, g_new_mark, g_spare_mark, no_marks, more_marks, marks_list, values_list}
 use Rattle.calculus.specs.Equality.{list_eq, mark_eq}
-use Rattle.calculus.specs.Labels.{is_prefix, steps_to, nu_label, pi_label, home_allows}
+use Rattle.calculus.specs.Labels.{is_prefix, steps_to, pi_label, home_allows}
 use Rattle.calculus.specs.Skolem.{label_of, is_allowed, are_allowed}
 use Rattle.conversion_theory.specs.Turns.{Name, term_name, mark_name, names_of_term, names_of_terms, names_of_mark, names_of_marks, names_of_home}
-use Rattle.calculus.specs.Derivations.{character_eq, EigenName, SpareName, Names}
+use Rattle.calculus.specs.Derivations.{character_eq, EigenName, SpareName}
 use Rattle.calculus.specs.Substitution.{any_leaf, any_leaf_of}
 use Rattle.calculus.specs.Calculus.{eigen_named, spare_named, is_unknown, is_forbidden}
 use Rattle.conversion_theory.specs.Numbering.{numbered_mark, numbered_label, numbered_term, numbered_terms, eigen_name, common_name, own_name, eigen_names, spare_names, name_lines_of}
@@ -58,18 +58,6 @@ module _ (S : Name → Type 0) (num : Name → ℕ) (apart : TellsApart S num) w
   list_eq-numbered (m ∷ w) [] h g = refl
   list_eq-numbered (m ∷ w) (k ∷ v) h g = λ i. character_eq-numbered m k h.0 g.0 i && list_eq-numbered w v h.1 g.1 i
 
-  -- labels are told apart
-  pub numbered_label-apart : (w v : List GroundMark) → MarksIn S w → MarksIn S v → numbered_label num w ≡ numbered_label num v → w ≡ v
-  numbered_label-apart [] [] h g e = refl
-  numbered_label-apart [] (k ∷ v) h g e = cc
-  numbered_label-apart (m ∷ w) [] h g e = cc
-  numbered_label-apart (m ∷ w) (k ∷ v) h g e =
-      let head : numbered_mark num m ≡ numbered_mark num k = cc in
-      let tail : numbered_label num w ≡ numbered_label num v = cc in
-      let x = numbered_mark-apart m k h.0 g.0 head in
-      let y = numbered_label-apart w v h.1 g.1 tail in
-      cc
-
   pub steps_to-numbered : (l : Logic) (w v : List GroundMark) → MarksIn S w → MarksIn S v → steps_to character_eq l (numbered_label num w) (numbered_label num v) ≡ steps_to mark_eq l w v
   steps_to-numbered Classical w v h g = list_eq-numbered w v h g
   steps_to-numbered Intuitionistic w v h g = is_prefix-numbered w v h g
@@ -89,18 +77,11 @@ pub numbered_label-append : (num : Name → ℕ) (w v : List GroundMark) → num
 numbered_label-append num [] v = refl
 numbered_label-append num (m ∷ w) v = ap (λ u. numbered_mark num m ∷ u) (numbered_label-append num w v)
 
-pub nu_label-numbered : (num : Name → ℕ) (l : Logic) (w v : List GroundMark) → numbered_label num (nu_label l w v) ≡ nu_label l (numbered_label num w) (numbered_label num v)
-nu_label-numbered num S5 w v = refl
-nu_label-numbered num _ w v = numbered_label-append num w v
-
 pub pi_label-numbered : (num : Name → ℕ) (l : Logic) (w : List GroundMark) (m : GroundMark) → numbered_label num (pi_label l w m) ≡ pi_label l (numbered_label num w) (numbered_mark num m)
 pi_label-numbered num S5 w m = refl
 pi_label-numbered num _ w m = numbered_label-append num w (m ∷ [])
 
 -- ---- the name lines of names
-
-eigen_number : ℕ → EigenName → Bool
-eigen_number k x = x.number == k
 
 found : {A : Type 0} (p : A → Bool) (x : A) (xs : List A) (b : Bool) → p x ≡ b → (o : Option A) → (b ≡ true → Some x ≡ o) → (b ≡ false → find p xs ≡ o) → find p (x ∷ xs) ≡ o
 found p x xs true e o h g = rw e (h refl)
@@ -201,9 +182,6 @@ abbrev mutual
 
 -- names with their homes, as the numbers of a tableau have them: a test of leaves
 module _ (S : Name → Type 0) (num : Name → ℕ) (apart : TellsApart S num) (P : Problem) (ns : List Name) (s : (n : Name) → Among ns n → S n) (whole : (n : Name) → S n → Among ns n) where
-  names : Names
-  names = name_lines_of num P ns
-
   pub eigen-known : (p : ℕ) (vs : Values) → S (term_name (g_eigen p vs)) → eigen_named (name_lines_of num P ns) (num (term_name (g_eigen p vs))) ≡ Some (eigen_name num P p vs)
   eigen-known p vs h = eigen_named-numbered S num apart P ns s p vs (whole (term_name (g_eigen p vs)) h)
 

@@ -1,7 +1,7 @@
 -- A conversion as it runs: the steps so far, the branch at hand and those that wait, each with the turns that are done there. One law for
 -- each thing that a run does. The turns may come in any order in which each is ready (`IsReady`): in that of the agenda, of which a
 -- branch has done the first ones, or in another on each branch.
-use Rattle.std.proofs.Common.{inr, ◌≡◌, ◌⊎◌, ℕ, zero, suc, ◌+◌, List, [], ◌∷◌, ◌++◌, map, take, drop, length, true, false, ◌&&◌, IsTrue, Some, None, Ok, append_assoc, refl, sym, ◌∙◌, ap, subst, inl, slice_get, add-one}
+use Rattle.std.proofs.Common.{◌≡◌, ℕ, suc, ◌+◌, List, [], ◌∷◌, ◌++◌, map, length, true, false, ◌&&◌, IsTrue, Some, Ok, refl, sym, ◌∙◌, ap, subst, inl, slice_get}
 use Rattle.std.specs.List.{AllByRecursion, list_all}
 use Rattle.std.proofs.lemmas.Bool.{and_parts, and_from}
 use Rattle.calculus.specs.declared.sign.Sign.TheVariants.{F}
@@ -14,31 +14,17 @@ use Rattle.calculus.specs.Calculus.{closed, apply, Derives}
 use Rattle.calculus.specs.Text.{is_number}
 use Rattle.calculus.specs.DerivationText.{step_is_written, is_limit, names_are_written, is_printable}
 use Rattle.calculus.specs.Tableaux.{Tableau, is_closed}
-use Rattle.conversion_theory.specs.Turns.{Name, turns_of, IsAgenda}
+use Rattle.conversion_theory.specs.Turns.{Name}
 use Rattle.conversion_theory.specs.Numbering.{IsNumbering, number_of, name_lines_of}
 use Rattle.conversion_theory.specs.Branches.{Item, item, entries_of, Made, rests, grows, splits, made}
-use Rattle.calculus.specs.declared.sign.Sign.{Sign}
-use Rattle.calculus.specs.declared.setting.Logic.{Logic}
-use Rattle.calculus.specs.Kinds.{shape_of}
-use Rattle.calculus.specs.Syntax.{Formula, atom}
-use Rattle.calculus.specs.Ground.{term}
-use Rattle.calculus.specs.Instances.{Spot}
-use Rattle.calculus.proofs.SpotLaws.{is_gamma}
-use Rattle.conversion_theory.proofs.HitLaws.{Moves, turn, IsSaturated}
-use Rattle.conversion_theory.proofs.PlaceLaws.{Takes, nothing_more, one_term, moves-position}
-use Rattle.conversion_theory.proofs.AgendaLaws.{Anything, own-values, moves-values, takes-position}
-use Rattle.conversion_theory.proofs.ExpandLaws.{IsExpanded}
-use Rattle.conversion_theory.proofs.BranchLaws.{Meets, Holding, held-expanded}
-use Rattle.calculus.proofs.Members.{Among, among-at, among-left, among-contains, contains-among}
-use Rattle.calculus.proofs.WalkLaws.{none_some, some_injective}
+use Rattle.calculus.proofs.Members.{Among, among-at, among-left}
 use Rattle.conversion_theory.proofs.PlaceLaws.{Work}
 use Rattle.conversion_theory.proofs.AgendaLaws.{TurnOf, work-position, work-values}
 use Rattle.conversion_theory.proofs.ClosedLaws.{Allowed, Admitted, closed-works}
 use Rattle.conversion_theory.proofs.WorkLaws.{work-from}
 use Rattle.conversion_theory.proofs.PutLaws.{none-formula}
-use Rattle.conversion_theory.proofs.BranchLaws.{Has, Held, Known, IsBranch, IsReady, ready-in_agenda}
-use Rattle.conversion_theory.proofs.NextLaws.{skipped, left-out}
-use Rattle.conversion_theory.proofs.EndLaws.{Axiom, ends-pair, axiom-of_pair}
+use Rattle.conversion_theory.proofs.BranchLaws.{Has, IsBranch, IsReady}
+use Rattle.conversion_theory.proofs.NextLaws.{skipped}
 use Rattle.conversion_theory.proofs.WholeLaws.{AreWritten, first-branch}
 use Rattle.conversion_theory.proofs.WrittenLaws.{names-written}
 use Rattle.conversion_theory.proofs.MadeLaws.{IsMade, made-right}
@@ -54,64 +40,9 @@ branch items done = record { items = items; done = done }
 
 -- ---- the first turns of an agenda
 
-take-next : (xs : List Turn) (k : ℕ) (x : Turn) → slice_get xs k ≡ Some x → take (suc k) xs ≡ take k xs ++ x ∷ []
-take-next [] k x e = absurd (none_some e)
-take-next (y ∷ ys) zero x e = ap (λ z. z ∷ []) (some_injective y e)
-take-next (y ∷ ys) (suc k) x e = ap (λ zs. y ∷ zs) (take-next ys k x e)
-
-split-at : (xs : List Turn) (k : ℕ) (x : Turn) → slice_get xs k ≡ Some x → take k xs ++ x ∷ drop (suc k) xs ≡ xs
-split-at [] k x e = absurd (none_some e)
-split-at (y ∷ ys) zero x e = ap (λ z. z ∷ ys) (sym (some_injective y e))
-split-at (y ∷ ys) (suc k) x e = ap (λ zs. y ∷ zs) (split-at ys k x e)
-
-take-whole : (xs : List Turn) (k : ℕ) → slice_get xs k ≡ None → take k xs ≡ xs
-take-whole [] zero e = refl
-take-whole [] (suc k) e = refl
-take-whole (y ∷ ys) zero e = absurd (none_some (sym e))
-take-whole (y ∷ ys) (suc k) e = ap (λ zs. y ∷ zs) (take-whole ys k e)
-
--- the turns of an agenda in its order
-pub agenda-ready : (P : Problem) (t : Tableau) (agenda : List Turn) → IsAgenda P t agenda → (at : ℕ) (x : Turn) → slice_get agenda at ≡ Some x → IsReady P t (take at agenda) x
-agenda-ready P t agenda ag at x e = ready-in_agenda P t (take at agenda) (drop (suc at) agenda) x (subst (IsAgenda P t) (sym (split-at agenda at x e)) ag)
-
-pub agenda-next : (agenda : List Turn) (at : ℕ) (x : Turn) → slice_get agenda at ≡ Some x → take (at + 1) agenda ≡ take at agenda ++ x ∷ []
-agenda-next agenda at x e = ap (λ n. take n agenda) (add-one at) ∙ take-next agenda at x e
-
-pub agenda-all : (P : Problem) (t : Tableau) (agenda : List Turn) → IsAgenda P t agenda → (at : ℕ) → slice_get agenda at ≡ None → (y : Turn) → TurnOf P t y → Among (take at agenda) y
-agenda-all P t agenda ag at e y h = subst (λ ys. Among ys y) (sym (take-whole agenda at e)) (among-contains agenda y ((ag.all y).0 (contains-among (turns_of P t) y h)))
-
 written-append : (P : Problem) (xs : List Step) (x : Step) → AreWritten P xs → step_is_written P.symbols x ≡ true → AreWritten P (xs ++ x ∷ [])
 written-append P [] x h g = and_from (step_is_written P.symbols x) true g refl
 written-append P (y ∷ ys) x h g = let p = and_parts (step_is_written P.symbols y) (list_all (step_is_written P.symbols) ys) h in and_from (step_is_written P.symbols y) (list_all (step_is_written P.symbols) (ys ++ x ∷ [])) p.0 (written-append P ys x p.1 g)
-
--- ---- turns that need not be made
-
--- the turn works on no item
-abbrev pub WorksOnNone : List Item → Turn → Type 0
-WorksOnNone items y = (i : Item) → Among items i → (own : List Value) → (i.past ≡ false) × (i.spot.position ≡ y.position) × (y.values ≡ i.spot.taken ++ own) → ⊥
-
--- a branch on which each turn of a set is done or works on no item is saturated for the set
-module _ (l : Logic) (done : List Turn) (items : List Item) (R : Turn → Type 0) (sat : IsSaturated l (Among done) (Meets l items) (Holding l items)) (dead : (y : Turn) → R y → Among done y ⊎ WorksOnNone items y) where
-  done-or-held : (c d : Spot) (s : Sign) (f : Formula) (y : Turn) → Meets l items c s f → Moves l s f c d → Takes Anything (shape_of s f) d y → R y → Among done y ⊎ IsExpanded l d s f y (Meets l items) (Holding l items)
-  done-or-held c d s f y (inr h) m k r = inr (held-expanded l items c d s f y h m)
-  done-or-held c d s f y (inl h) m k r = elim (dead y r) [
-    | inl q ↦ inl q
-    | inr none ↦
-        let a = own-values Anything (shape_of s f) d y k in
-        let e = moves-values l s f c d m in
-        absurd (none (item c s f) h (e.0 ++ a.0) (refl, sym (takes-position Anything (shape_of s f) d y k ∙ moves-position l s f c d m), a.1 ∙ ap (λ vs. vs ++ a.0) e.1 ∙ append_assoc c.taken e.0 a.0))
-  ]
-
-  saturated-all : IsSaturated l R (Meets l items) (Holding l items)
-  saturated-all = record {
-    literal = λ c d s p ts h m k. elim (done-or-held c d s (atom p ts) (turn d.position d.taken) h m (nothing_more refl) k) [ inl o ↦ sat.literal c d s p ts h m o | inr n ↦ n.literal p ts refl ];
-    only = λ c d s f a e q h m k. elim (done-or-held c d s f (turn d.position d.taken) h m (nothing_more (ap is_gamma e)) k) [ inl o ↦ sat.only c d s f a e q h m o | inr n ↦ n.only a e q ];
-    left = λ c d s f a z e q h m k. elim (done-or-held c d s f (turn d.position d.taken) h m (nothing_more (ap is_gamma e)) k) [ inl o ↦ sat.left c d s f a z e q h m o | inr n ↦ n.left a z e q ];
-    right = λ c d s f a z e q h m k. elim (done-or-held c d s f (turn d.position d.taken) h m (nothing_more (ap is_gamma e)) k) [ inl o ↦ sat.right c d s f a z e q h m o | inr n ↦ n.right a z e q ];
-    either = λ c d s f a z e q h m k. elim (done-or-held c d s f (turn d.position d.taken) h m (nothing_more (ap is_gamma e)) k) [ inl o ↦ sat.either c d s f a z e q h m o | inr n ↦ n.either a z e q ];
-    gamma = λ c d s f a u e q h m k. elim (done-or-held c d s f (turn d.position (d.taken ++ term u ∷ [])) h m (one_term u e tt) k) [ inl o ↦ sat.gamma c d s f a u e q h m o | inr n ↦ n.gamma a u e q refl ];
-    delta = λ c d s f a e q h m k. elim (done-or-held c d s f (turn d.position d.taken) h m (nothing_more (ap is_gamma e)) k) [ inl o ↦ sat.delta c d s f a e q h m o | inr n ↦ n.delta a e q ];
-  }
 
 -- ---- a run
 
@@ -208,19 +139,3 @@ module _ (P : Problem) (t : Tableau) (names : List Name) where
         let vs = work-values P (TurnOf P t) (Allowed P) (Admitted P) x w in
         let next = skipped P t names numbering b.done x ready w b.items h.good.0.branch (λ m. none (item w.from w.sign w.formula) m vs.0 (refl, sym (work-position P (TurnOf P t) (Allowed P) (Admitted P) x w), vs.1)) in
         record { open_ones = h.open_ones; good = (good_next b.items (b.done ++ x ∷ []) next h.good.0.root, h.good.1); written = h.written }
-
-    -- the literals of the branch make the item hold: the turn is left out
-    pub run-held : (steps : List Step) (b : Branch) (bs : List Branch) → IsRunning steps (b ∷ bs) → (x : Turn) → IsReady P t b.done x → (i : Item) → Among b.items i → (own : List Value) → WorksOn x i own → Held P.setting.logic b.items i.spot.label i.spot.env i.sign i.formula → IsRunning steps (branch b.items (b.done ++ x ∷ []) ∷ bs)
-    run-held steps b bs h x ready i m own on held =
-        let w = work_of b.done x ready in
-        let same = own_item b x ready h.good.0 i m own on in
-        let next = left-out P t names numbering b.done x ready w b.items h.good.0.branch (subst (λ (j : Item). Held P.setting.logic b.items j.spot.label j.spot.env j.sign j.formula) same held) in
-        record { open_ones = h.open_ones; good = (good_next b.items (b.done ++ x ∷ []) next h.good.0.root, h.good.1); written = h.written }
-
-    -- behind the last turn there is an axiom
-    pub run-end : (b : Branch) → IsGood b → ((y : Turn) → TurnOf P t y → Among b.done y) → Axiom P (name_lines_of (number_of names) P names) (entries_of (number_of names) b.items)
-    run-end b g all = axiom-of_pair P (name_lines_of (number_of names) P names) b.done (number_of names) (Known P b.done) b.items g.branch.each (ends-pair P d t shut b.done b.items g.branch.saturated all g.root)
-
-    -- and where each turn is done or works on no item of the branch
-    pub run-end_early : (b : Branch) → IsGood b → ((y : Turn) → TurnOf P t y → Among b.done y ⊎ WorksOnNone b.items y) → Axiom P (name_lines_of (number_of names) P names) (entries_of (number_of names) b.items)
-    run-end_early b g dead = axiom-of_pair P (name_lines_of (number_of names) P names) b.done (number_of names) (Known P b.done) b.items g.branch.each (ends-pair P d t shut (turns_of P t) b.items (saturated-all P.setting.logic b.done b.items (TurnOf P t) g.branch.saturated dead) (λ y h. h) g.root)

@@ -8,14 +8,13 @@ use Rattle.calculus.specs.Ground.{Value, g_fun, g_eigen, common, own}
 use Rattle.calculus.specs.Instances.{Turn, ClauseInstance}
 use Rattle.calculus.specs.ComputedInstances.{is_allowed_instance}
 use Rattle.calculus.specs.Tableaux.{Tableau, instances, is_closed}
-use Rattle.conversion_theory.specs.Turns.{Name, term_name, mark_name, names_of_value, names_of_literal, names_of_instance, names_of_home, names_mentioned, names_introduced, is_introduced, has_introduced_names, turns_of_instance, IsParent}
+use Rattle.conversion_theory.specs.Turns.{Name, term_name, mark_name, names_of_value, names_of_literal, names_of_instance, names_of_home, names_mentioned, names_introduced, is_introduced, has_introduced_names, turns_of_instance}
 use Rattle.calculus.proofs.Members.{Among, among-all, among-left, among-append, among-joined, joined-among}
 use Rattle.conversion_theory.proofs.NameLaws.{introduced-cases}
 use Rattle.calculus.proofs.CasesLaws.{is_allowed_instance-exact}
 use Rattle.conversion_theory.proofs.PlaceLaws.{root-works}
 use Rattle.conversion_theory.proofs.AgendaLaws.{TurnOf, Anything}
 use Rattle.conversion_theory.proofs.ClosedLaws.{all-allowed, turns-by_cases}
-use Rattle.conversion_theory.proofs.BranchLaws.{IsComplete}
 
 -- no name of the list is introduced by a position
 abbrev pub NoneIntroduced : List Name → Type 0
@@ -58,11 +57,3 @@ mentions-none P d t shut none x h n k =
 
 pub introduced-is : (P : Problem) (z : Turn) (n : Name) → Among (names_introduced P z) n → is_introduced n ≡ true
 introduced-is P z n h = elim (introduced-cases P z n h) [ inl e ↦ ap is_introduced e.1 | inr e ↦ ap is_introduced e.1 ]
-
--- so turns whose parents are done are complete, in any order
-pub complete-by_parents : (P : Problem) (d : ℕ) (t : Tableau) → IsTrue (is_closed P d t) → has_introduced_names t ≡ false → (done : List Turn) → ((y : Turn) → Among done y → TurnOf P t y) → ((y z : Turn) → Among done y → IsParent P z y → Among done z) → IsComplete P t done
-complete-by_parents P d t shut none done turns parents = record {
-  turns = turns;
-  parents = parents;
-  names = λ y z n h k m i. absurd (false≢true (sym (mentions-none P d t shut none y (turns y h) n m) ∙ introduced-is P z n i));
-}

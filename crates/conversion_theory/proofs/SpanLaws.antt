@@ -1,5 +1,5 @@
 -- The turns of a signed formula stand within its positions, and those on atoms are as many as the literals that it gives.
-use Rattle.std.proofs.Common.{◌≡◌, ℕ, suc, ◌+◌, ◌≤◌, ◌<◌, arith, List, [], ◌∷◌, ◌++◌, length, length-append, Bool, true, false, IsTrue, refl, sym, ◌∙◌, ap, subst, inl, inr}
+use Rattle.std.proofs.Common.{◌≡◌, ℕ, suc, ◌+◌, ◌≤◌, ◌<◌, arith, List, [], ◌∷◌, ◌++◌, length, length-append, Bool, true, false, refl, sym, ◌∙◌, ap, inl, inr}
 use Rattle.std.specs.Option.{option_map_or}
 use Rattle.calculus.specs.declared.sign.Sign.{Sign}
 use Rattle.calculus.specs.declared.setting.Logic.{Logic}
@@ -10,19 +10,15 @@ use Rattle.calculus.specs.Ground.{g_eigen, term, values_tree}
 use Rattle.calculus.specs.Kinds.{Signed, shape_of, components}
 use Rattle.calculus.specs.Positions.{size, Node, node}
 use Rattle.calculus.specs.Skolem.{last_node}
-use Rattle.calculus.specs.Instances.{Spot, root_spot, ClauseInstance, down_by, spot_inside, after_string, after_character, Turn, Share, Gives, Shaped, by_plain, by_nu, by_pi, is_literal, by_only, by_left, by_right, by_both, by_gamma, by_delta}
+use Rattle.calculus.specs.Instances.{Spot, down_by, spot_inside, after_string, after_character, Turn, Share, Gives, Shaped, by_plain, by_nu, by_pi, is_literal, by_only, by_left, by_right, by_both, by_gamma, by_delta}
 use Rattle.conversion_theory.specs.Leading.{is_literal_shape, is_literal_position, literals_among}
 use Rattle.calculus.proofs.Members.{Among, among-append}
-use Rattle.calculus.proofs.CasesLaws.{one≢two, is_allowed_instance-exact}
+use Rattle.calculus.proofs.CasesLaws.{one≢two}
 use Rattle.calculus.proofs.SpotLaws.{last_node-append}
 use Rattle.conversion_theory.proofs.HitLaws.{Moves, plain, by_string, by_character}
 use Rattle.conversion_theory.proofs.PlaceLaws.{Stood, turned, at_logic, moves-position, only-stood, first-stood, second-stood, inside-gamma-stood, inside-delta-stood}
 use Rattle.conversion_theory.proofs.AgendaLaws.{stood-way}
 use Rattle.calculus.proofs.PositionLaws.{size-pos}
-use Rattle.calculus.specs.declared.sign.Sign.TheVariants.{F}
-use Rattle.calculus.specs.ComputedInstances.{is_allowed_instance}
-use Rattle.conversion_theory.specs.Turns.{turns_of_instance}
-use Rattle.conversion_theory.proofs.ClosedLaws.{turns-by_cases}
 
 only-is : {x y : Signed} → x ∷ [] ≡ y ∷ [] → x ≡ y
 only-is {x} {y} e = cc
@@ -101,46 +97,6 @@ mutual
   spans_shaped l d s f x (by_gamma {x = y} {a = a} t e q g) z (inr i) = let n = size-only s f a q (gamma≢literal s f e) in wider d.position (d.position + 1) (size a.formula) (size f) z (omega arith) (omega arith) (spans l (spot_inside t (d.taken ++ term t ∷ []) d) a.sign a.formula y g z i)
   spans_shaped l d s f x (by_delta {x = y} {a = a} e q g) z (inl i) = own_within d.position (size f) _ z refl i (size-pos f)
   spans_shaped l d s f x (by_delta {x = y} {a = a} e q g) z (inr i) = let n = size-only s f a q (delta≢literal s f e) in wider d.position (d.position + 1) (size a.formula) (size f) z (omega arith) (omega arith) (spans l (spot_inside (g_eigen d.position (values_tree d.taken)) d.taken d) a.sign a.formula y g z i)
-
--- ---- the order
-
--- positions rise
-abbrev pub Rises : List Turn → Type 0
-Rises [] = Unit {0}
-Rises (x ∷ xs) = ((z : Turn) → Among xs z → x.position < z.position) × Rises xs
-
-rises-append : (p : ℕ) (us vs : List Turn) → ((z : Turn) → Among us z → z.position < p) → ((z : Turn) → Among vs z → p ≤ z.position) → Rises us → Rises vs → Rises (us ++ vs)
-rises-append p [] vs low high h g = g
-rises-append p (u ∷ us) vs low high h g = ((λ z m. elim (among-append us vs z m) [ inl k ↦ h.0 z k | inr k ↦ let a = low u (inl refl) in let b = high z k in omega arith ]), rises-append p us vs (λ z m. low z (inr m)) high h.1 g)
-
-rises-below : (y : Turn) (us : List Turn) (p n : ℕ) → y.position < p → ((z : Turn) → Among us z → IsWithin p n z) → Rises us → Rises (y ∷ us)
-rises-below y us p n lt within h = ((λ z m. let low = (within z m).0 in omega arith), h)
-
-mutual
-  pub rises : (l : Logic) (c : Spot) (s : Sign) (f : Formula) (x : Share) → Gives l c s f x → Rises x.turns
-  rises l c s f x (by_plain e g) = rises_shaped l c s f x g
-  rises l c s f x (by_nu {x = y} w e q g) = rises_shaped l (after_string l w c) s f y g
-  rises l c s f x (by_pi {x = y} e g) = rises_shaped l (after_character l c) s f y g
-
-  rises_shaped : (l : Logic) (d : Spot) (s : Sign) (f : Formula) (x : Share) → Shaped l d s f x → Rises x.turns
-  rises_shaped l d s f x is_literal = ((λ z m. elim m [ ]), tt)
-  rises_shaped l d s f x (by_only {x = y} {a = a} e q g) = rises-below (record { position = d.position; values = d.taken }) y.turns (d.position + 1) (size a.formula) (omega arith) (spans l (down_by 1 d) a.sign a.formula y g) (rises l (down_by 1 d) a.sign a.formula y g)
-  rises_shaped l d s f x (by_left {x = y} {a = a} {b = b} e q g) = rises-below (record { position = d.position; values = d.taken }) y.turns (d.position + 1) (size a.formula) (omega arith) (spans l (down_by 1 d) a.sign a.formula y g) (rises l (down_by 1 d) a.sign a.formula y g)
-  rises_shaped l d s f x (by_right {x = y} {a = a} {b = b} e q g) = rises-below (record { position = d.position; values = d.taken }) y.turns (d.position + suc (size a.formula)) (size b.formula) (omega arith) (spans l (down_by (suc (size a.formula)) d) b.sign b.formula y g) (rises l (down_by (suc (size a.formula)) d) b.sign b.formula y g)
-  rises_shaped l d s f x (by_both {x = y} {y = u} {a = a} {b = b} e q g j) =
-      let first = spans l (down_by 1 d) a.sign a.formula y g in
-      let second = spans l (down_by (suc (size a.formula)) d) b.sign b.formula u j in
-      rises-below (record { position = d.position; values = d.taken }) (y.turns ++ u.turns) (d.position + 1) (size a.formula + size b.formula) (omega arith)
-      (λ z m. elim (among-append y.turns u.turns z m) [ inl k ↦ let w = first z k in let low = w.0 in let high = w.1 in (omega arith, omega arith) | inr k ↦ let w = second z k in let low = w.0 in let high = w.1 in (omega arith, omega arith) ])
-      (rises-append (d.position + suc (size a.formula)) y.turns u.turns (λ z m. let high = (first z m).1 in omega arith) (λ z m. (second z m).0) (rises l (down_by 1 d) a.sign a.formula y g) (rises l (down_by (suc (size a.formula)) d) b.sign b.formula u j))
-  rises_shaped l d s f x (by_gamma {x = y} {a = a} t e q g) = rises-below (record { position = d.position; values = d.taken ++ term t ∷ [] }) y.turns (d.position + 1) (size a.formula) (omega arith) (spans l (spot_inside t (d.taken ++ term t ∷ []) d) a.sign a.formula y g) (rises l (spot_inside t (d.taken ++ term t ∷ []) d) a.sign a.formula y g)
-  rises_shaped l d s f x (by_delta {x = y} {a = a} e q g) = rises-below (record { position = d.position; values = d.taken }) y.turns (d.position + 1) (size a.formula) (omega arith) (spans l (spot_inside (g_eigen d.position (values_tree d.taken)) d.taken d) a.sign a.formula y g) (rises l (spot_inside (g_eigen d.position (values_tree d.taken)) d.taken d) a.sign a.formula y g)
-
--- the turns of an instance stand in the order of their positions, so none comes twice
-pub instance-rises : (P : Problem) (i : ClauseInstance) → IsTrue (is_allowed_instance P i) → Rises (turns_of_instance P i)
-instance-rises P i h =
-    let share = (is_allowed_instance-exact P i).0 h in
-    subst Rises (sym (turns-by_cases P i share.0 share.1 share.2)) (rises P.setting.logic root_spot F P.formula share.0 share.1.instance.given)
 
 -- ---- the literals
 

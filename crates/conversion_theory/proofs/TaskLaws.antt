@@ -6,7 +6,7 @@ use Rattle.calculus.specs.Ground.{GroundLiteral}
 use Rattle.calculus.specs.Derivations.{Step, apply_to, close, axiom_count}
 use Rattle.calculus.specs.Tableaux.{Closing, Closings, reduce, extend, no_closings, more_closings, Tableau, instances, instances_below, instances_of_all, are_complementary, is_complement, closes, closes_all}
 use Rattle.conversion_theory.specs.Turns.{closing_count, closings_count}
-use Rattle.conversion_theory.specs.Leading.{End, meets_path, by_closing, ends_of, ends_at, ends_cost, closing_weight, closings_weight, ends_weight}
+use Rattle.conversion_theory.specs.Leading.{End, meets_path, by_closing, ends_of, ends_at, ends_cost, closings_weight, ends_weight}
 use Rattle.calculus.proofs.WalkLaws.{SomeIn, AllByRecursion-append}
 use Rattle.calculus.proofs.Members.{Among}
 use Rattle.std.specs.List.{AllByRecursion}
@@ -74,10 +74,6 @@ weight-extension P (suc k) (more_closings c cs) = let r = weight-extension P k c
 pub closing-positive : (c : Closing) → 1 ≤ closing_count c
 closing-positive (reduce up) = omega arith
 closing-positive (extend i place below) = omega arith
-
-pub weight-positive : (P : Problem) (c : Closing) → 1 ≤ closing_weight P c
-weight-positive P (reduce up) = omega arith
-weight-positive P (extend i place below) = omega arith
 
 -- one step more
 pub count-step : (xs : List Step) (n : ℕ) (m : _) (u : _) → axiom_count (xs ++ apply_to n m u ∷ []) ≡ axiom_count xs

@@ -21,8 +21,8 @@ use Rattle.conversion_theory.specs.Turns.{Name, mark_name, turns_of, names_menti
 use Rattle.calculus.proofs.Members.{Among, among-left, among-right, joined-among}
 use Rattle.calculus.proofs.SpotLaws.{LeadsTo, LeadsTo-append, label-LeadsTo, fits-LeadsTo, last_node-append, is_gamma, NotBoth, gamma-no_pi, after_node-by, way-here}
 use Rattle.calculus.proofs.InstanceLaws.{is_step-label}
-use Rattle.conversion_theory.proofs.HitLaws.{Moves, plain, by_string, by_character, turn}
-use Rattle.conversion_theory.proofs.PlaceLaws.{HasParent, moves-position, Stood, Turned, turned, env_along, Takes, nothing_more, one_term, Parent, Work}
+use Rattle.conversion_theory.proofs.HitLaws.{Moves, plain, by_string, by_character}
+use Rattle.conversion_theory.proofs.PlaceLaws.{moves-position, Stood, Turned, turned, env_along, Takes, nothing_more, one_term, Parent, Work}
 use Rattle.conversion_theory.proofs.AgendaLaws.{TurnOf, Anything, turn-works, LeadsTo-same, end_same, takes-position, own-values, work-values, last_but_one-two, work-position, work-way, stood-way}
 use Rattle.conversion_theory.proofs.NameLaws.{introduced-mark, mentioned-value}
 use Rattle.conversion_theory.proofs.NumberedLaws.{MarksIn, marks-of-string}
@@ -251,23 +251,3 @@ child-parent P T G V x w e s f h v y p own q =
 pub record HasAbove (P : Problem) (T : Turn → Type 0) (y x : Turn) (w : Work P T Anything Anything x) : Type 0 where
   pub parent : Parent P T w.before w.from
   pub same : parent.above ≡ y
-
-pub parent-only : (P : Problem) (t : Tableau) (x y : Turn) (w : Work P (TurnOf P t) Anything Anything x) (v : Work P (TurnOf P t) Anything Anything y) (e : Spot) (s : Sign) (f : Formula) → Stood P (v.before ++ node v.past.position v.sign v.formula ∷ []) e s f → e.taken ≡ y.values → x.position ≡ e.position → (own : List Value) → x.values ≡ e.taken ++ own → HasAbove P (TurnOf P t) y x w
-parent-only P t x y w v e s f h taken p own q =
-    let n = node v.past.position v.sign v.formula in
-    let same = work-from P (TurnOf P t) Anything Anything x w (v.before ++ n ∷ []) e s f h p own q in
-    by_parent w.parent same.befores (ap (λ (c : Spot). c.taken) same.spots)
-  where
-    nonempty : (ns : List Node) (m : Node) → ns ++ m ∷ [] ≡ [] → ⊥
-    nonempty [] m z = cc
-    nonempty (k ∷ ns) m z = cc
-
-    by_parent : HasParent P (TurnOf P t) w.before w.from → v.before ++ node v.past.position v.sign v.formula ∷ [] ≡ w.before → e.taken ≡ w.from.taken → HasAbove P (TurnOf P t) y x w
-    by_parent (inl z) befores takens = absurd (nonempty v.before (node v.past.position v.sign v.formula) (befores ∙ z))
-    by_parent (inr r) befores takens =
-        let up = turn-works P t r.above r.among in
-        let up_way = work-way P (TurnOf P t) Anything Anything r.above up in
-        let ends = end_same up.before v.before (node up.from.position up.sign up.formula) (node v.past.position v.sign v.formula) (sym up_way ∙ r.way ∙ sym befores) in
-        let positions = work-position P (TurnOf P t) Anything Anything r.above up ∙ ap (λ (k : Node). k.position) ends.1 ∙ moves-position P.setting.logic v.sign v.formula v.from v.past v.moves ∙ sym (work-position P (TurnOf P t) Anything Anything y v) in
-        let values = r.values ∙ sym takens ∙ taken in
-        record { parent = r; same = λ i. turn (positions i) (values i) }

@@ -3,14 +3,6 @@ use Rattle.std.proofs.Common.{◌≡◌, ℕ, zero, suc, ◌+◌, ◌<◌, ◌�
 use Rattle.cop_cells.specs.Places.{somes, IsWritten, IsFront}
 use Rattle.cop_cells.specs.Pages.{put_at}
 
-pub none-somes : (X : Type 0) (n : ℕ) → somes {X = X} (replicate n None) ≡ []
-none-somes X zero = refl
-none-somes X (suc n) = none-somes X n
-
-pub none-front : (X : Type 0) (n : ℕ) → IsFront {X = X} (replicate n None)
-none-front X zero = tt
-none-front X (suc n) = none-somes X n
-
 -- a list of one value, cut
 pub take-same : {X : Type 0} (x : X) (m k n : ℕ) → k ≡ m + n → take m (replicate k x) ≡ replicate m x
 take-same x zero k n e = refl

@@ -45,11 +45,6 @@ module _ {T : Type 0} where
   put_at-set (y ∷ ys) zero x h = refl
   put_at-set (y ∷ ys) (suc i) x h = ap (λ r. y ∷ r) (put_at-set ys i x (omega (arith, h)))
 
-  pub put_at-push : (xs : List T) (i : ℕ) (x : T) → length xs ≤ i → put_at xs i x ≡ xs ++ x ∷ []
-  put_at-push [] i x h = refl
-  put_at-push (y ∷ ys) zero x h = absurd (omega (arith, h))
-  put_at-push (y ∷ ys) (suc i) x h = ap (λ r. y ∷ r) (put_at-push ys i x (omega (arith, h)))
-
   length-put_at : (xs : List T) (i : ℕ) (x : T) → i ≤ length xs
       → length (put_at xs i x) ≡ max (length xs) (suc i)
   length-put_at [] i x h = omega (arith, h)

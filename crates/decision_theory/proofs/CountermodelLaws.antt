@@ -12,13 +12,10 @@ use Rattle.calculus.specs.Ground.{GroundTerm, GroundTerms, g_fun, common, no_g_t
 use Rattle.calculus.specs.Equality.{ground_eq}
 use Rattle.calculus.specs.Instances.{root_spot, ground_of, grounds_of}
 use Rattle.calculus.specs.Models.{value_by, values_by, ForAll, ForSome, HasTruth, RelationFits, DomainsFit, IsModel}
-use Rattle.calculus.specs.Problems.{is_problem}
 use Rattle.calculus.specs.Skolem.{is_function, is_constant_symbol, has_function}
-use Rattle.calculus.specs.Soundness.{HasNoDerivation}
 use Rattle.calculus.specs.Tableaux.{HasClosed}
 use Rattle.calculus.proofs.EqualityLaws.{ground_eq-tells}
 use Rattle.calculus.proofs.Members.{Among, among-left}
-use Rattle.calculus.proofs.SoundnessLaws.{false-underived}
 use Rattle.decision_theory.specs.Countermodels.{tree, named_of, nameds_of, truth_named, is_one_of, structure_over, HasFiniteCountermodel}
 use Rattle.decision_theory.specs.Ranging.{truth_over, instances_over}
 use Rattle.decision_theory.specs.Atoms.{atom_count}
@@ -181,7 +178,3 @@ decided_finite P e d flat c = elim (decided_flat P e d flat) [
   | inl h ↦ inl h
   | inr r ↦ inr (countermodel_where_refuted P e d c r)
 ]
-
--- so it has no derivation
-pub underived_where_countermodel : (P : Problem) → IsTrue (is_problem P) → HasFiniteCountermodel P → HasNoDerivation P
-underived_where_countermodel P problem r = false-underived P problem (structure_over (terms_of P) r.values) r.fits (λ t. common 0) r.false_there

@@ -57,33 +57,6 @@ pub among-second : (xs ys : List ℕ) (y : ℕ) → Among ys y → Among (with_a
 among-second [] ys y h = h
 among-second (z ∷ xs) ys y h = among-kept z (with_all xs ys) y (among-second xs ys y h)
 
--- each stands there once
-abbrev pub AreOnce : List ℕ → Type 0
-AreOnce [] = Unit {0}
-AreOnce (x ∷ xs) = (contains xs x ≡ false) × AreOnce xs
-
-once-one : (x : ℕ) (ys : List ℕ) → AreOnce ys → AreOnce (with_one x ys)
-once-one x ys h = by (contains ys x) refl
-  where
-    by : (b : Bool) → contains ys x ≡ b → AreOnce (if b then ys else x ∷ ys)
-    by true e = h
-    by false e = (e, h)
-
-once-all : (xs ys : List ℕ) → AreOnce ys → AreOnce (with_all xs ys)
-once-all [] ys h = h
-once-all (x ∷ xs) ys h = once-one x (with_all xs ys) (once-all xs ys h)
-
-pub propositions-once : (f : Formula) → AreOnce (propositions f)
-propositions-once (atom p ts) = (refl, tt)
-propositions-once (neg a) = propositions-once a
-propositions-once (conj a b) = once-all (propositions a) (propositions b) (propositions-once b)
-propositions-once (disj a b) = once-all (propositions a) (propositions b) (propositions-once b)
-propositions-once (imp a b) = once-all (propositions a) (propositions b) (propositions-once b)
-propositions-once (all a) = propositions-once a
-propositions-once (ex a) = propositions-once a
-propositions-once (box a) = propositions-once a
-propositions-once (dia a) = propositions-once a
-
 -- ---- the literals of the picks are of these propositions
 
 abbrev pub atoms_of : List ℕ → List GroundLiteral

@@ -18,8 +18,7 @@ use Rattle.calculus.proofs.CasesLaws.{one≢two, first_of, second_of, is_alpha, 
 use Rattle.calculus.proofs.SpaceLaws.{instances-allowed}
 use Rattle.calculus.proofs.WalkLaws.{SomeIn, Hits, pair_of_closed}
 use Rattle.decision_theory.proofs.PropositionalLaws.{Says}
-use Rattle.decision_theory.specs.Decision.{proposition_count, IsRefuted}
-use Rattle.decision_theory.proofs.DecisionLaws.{tautology_closes_within}
+use Rattle.decision_theory.specs.Decision.{IsRefuted}
 
 -- the literal is true by these truth values
 abbrev signed_value : Sign → Bool → Bool
@@ -152,7 +151,3 @@ not_both P h d c r =
 -- what has a closed tableau is a tautology
 pub tautology_where_closed : (P : Problem) → IsPropositional P → (d : ℕ) → HasClosed P d → IsTautology P
 tautology_where_closed P h d c = record { at_each = λ v. true_from_ne_false (truth_value v P.formula) (λ e. not_both P h d c (record { values = v; false_there = e })) }
-
--- so within whatever limit a tableau is closed, one is closed within the number of propositions
-pub closed_within_propositions : (P : Problem) → IsPropositional P → (d : ℕ) → HasClosed P d → HasClosed P (proposition_count P.formula)
-closed_within_propositions P h d c = tautology_closes_within P h (tautology_where_closed P h d c)

@@ -18,5 +18,7 @@ pub mod CountermodelLaws
 pub mod AnswerLaws
 -- and a closed tableau excludes them
 pub mod ExclusionLaws
+-- laws that are here for the reader
+mod ForReaders
 -- the definitions at small formulas
 mod Examples

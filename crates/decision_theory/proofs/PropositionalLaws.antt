@@ -177,12 +177,6 @@ abbrev pub Says : (ℕ → Bool) → Sign → Formula → Type 0
 Says v T f = IsTrue (truth_value v f)
 Says v F f = truth_value v f ≡ false
 
-abbrev IsHit : (GroundLiteral → Bool) → Pick → Type 0
-IsHit has x = SomeIn (λ l. IsTrue (has l)) x.literals
-
-abbrev hits : (GroundLiteral → Bool) → Pick → Bool
-hits has x = list_any has x.literals
-
 pub hit-tells : (has : GroundLiteral → Bool) (ls : List GroundLiteral) → SomeIn (λ l. IsTrue (has l)) ls → IsTrue (list_any has ls)
 hit-tells has [] h = absurd h
 hit-tells has (l ∷ ls) (inl h) = or_left (has l) (list_any has ls) h

@@ -41,10 +41,6 @@ all_of : {A : Type 0} (P : A → Type 0) (xs : List A) → ((x : A) → P x) →
 all_of P [] f = tt
 all_of P (x ∷ xs) f = (f x, all_of P xs f)
 
-all_more : {A : Type 0} (P Q : A → Type 0) (xs : List A) → ((x : A) → P x → Q x) → AllByRecursion P xs → AllByRecursion Q xs
-all_more P Q [] f h = tt
-all_more P Q (x ∷ xs) f h = (f x h.0, all_more P Q xs f h.1)
-
 all_zipped : {A : Type 0} (P Q R : A → Type 0) (xs : List A) → ((x : A) → P x → Q x → R x) → AllByRecursion P xs → AllByRecursion Q xs → AllByRecursion R xs
 all_zipped P Q R [] f h k = tt
 all_zipped P Q R (x ∷ xs) f h k = (f x h.0 k.0, all_zipped P Q R xs f h.1 k.1)

@@ -45,12 +45,6 @@ after-step items all rest next x left h e = λ more. (
   (λ k. (h more).1 (e ∙ ap (λ l. x ++ l) k ∙ sym (append_assoc x left more))),
 )
 
-pub after-none : (items all rest x left : List RowItem) → IsAfter items all rest (x ++ left) → ((r : List RowItem) → ¬ (rest ≡ x ++ r)) → (r : List RowItem) → ¬ (items ≡ all ++ r)
-after-none items all rest x left h none = λ r k. none (left ++ r) ((h r).0 k ∙ append_assoc x left r)
-
-pub after-end : (items all rest : List RowItem) → IsAfter items all rest [] → items ≡ all ++ rest
-after-end items all rest h = (h rest).1 refl
-
 pub symbol-first : (items rest : List RowItem) (f : SymbolId) (count : ℕ) (u : Term) (ts : List Term) → fun f.0 (terms_tree ts) ≡ u → count ≡ length ts → items ≡ row_of u ++ rest → items ≡ Fun f count ∷ (rows_of (terms_tree ts) ++ rest)
 symbol-first items rest f count u ts e n h = h ∙ ap (λ v. row_of v ++ rest) (sym e) ∙ ap (λ m. Fun f m ∷ (rows_of (terms_tree ts) ++ rest)) (sym (n ∙ arity-tree ts))
 

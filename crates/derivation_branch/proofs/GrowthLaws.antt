@@ -11,7 +11,7 @@ use Rattle.calculus.specs.Kinds.{Signed, signed, components}
 use Rattle.calculus.specs.Syntax.{Term, Terms, var, fun, eigen, spare, no_terms, more_terms, Formula, atom, neg, conj, disj, imp, all, ex, box, dia}
 use Rattle.calculus.specs.Substitution.{put_for, term_with, terms_with, formula_with, instance, any_leaf, any_leaf_of, any_leaf_in}
 use Rattle.derivation_branch.specs.Occurring.{is_variable, binds_at, occurs}
-use Rattle.derivation_branch.specs.Putting.{IsClosed, AreClosed, is_var, formula_with_all}
+use Rattle.derivation_branch.specs.Putting.{IsClosed, is_var}
 use Rattle.derivation_branch.proofs.OccurrenceLaws.{IsOfNames, leaf-put, cmp-less, cmp-equal, cmp-greater, equal-apart}
 
 -- ---- truth values
@@ -169,7 +169,3 @@ bound-formula t d e (all a) h lt = bound-formula t (suc d) (suc e) a h (omega ar
 bound-formula t d e (ex a) h lt = bound-formula t (suc d) (suc e) a h (omega arith)
 bound-formula t d e (box a) h lt = bound-formula t d e a h lt
 bound-formula t d e (dia a) h lt = bound-formula t d e a h lt
-
-pub binds-all : (ts : List Term) (d e : ℕ) (f : Formula) → AreClosed ts → d < e → binds_at d (formula_with_all ts e f) ≡ binds_at d f
-binds-all [] d e f h lt = refl
-binds-all (t ∷ ts) d e f h lt = bound-formula t d e (formula_with_all ts (suc e) f) h.0 lt ∙ binds-all ts d (suc e) f h.1 (omega arith)

@@ -1,5 +1,5 @@
 -- Where the parts of a formula stand in its outline, and what is told of each.
-use Rattle.std.proofs.Common.{◌≡◌, ℕ, suc, ◌+◌, ◌-◌, ◌<◌, Bool, false, List, [], ◌∷◌, ◌++◌, length, get_or, refl, sym, ◌∙◌, ap, subst, arith}
+use Rattle.std.proofs.Common.{◌≡◌, ℕ, suc, ◌+◌, ◌-◌, ◌<◌, false, List, [], ◌∷◌, ◌++◌, length, get_or, refl, sym, ◌∙◌, ap, subst, arith}
 use Rattle.std.proofs.lemmas.List.{length-append, append_assoc, append-nil, get_or_at}
 use Rattle.calculus.specs.declared.kind.Shape.{Shape}
 use Rattle.calculus.specs.declared.kind.Shape.TheVariants.{Literal}
@@ -68,12 +68,6 @@ node-last : (nodes : List Node) (k : ℕ) (f : Formula) (d : Node) → IsNode no
 node-last nodes k f d h =
     let last = outline-last f in
     last-at nodes h.0 (before f) h.1 (node (quantifier_binds f) (second_in f)) d k (h.2 ∙ ap (λ l. (h.0 ++ l) ++ h.1) last) (h.3 ∙ ap (λ (l : List Node). length h.0 + length l) last)
-
-pub node-within : (nodes : List Node) (k : ℕ) (f : Formula) → IsNode nodes k f → k < length nodes
-node-within nodes k f h = (node-last nodes k f (node false 0) h).0
-
-pub node-binds : (nodes : List Node) (k : ℕ) (f : Formula) (d : Node) (b : Bool) → IsNode nodes k f → b ≡ (get_or nodes k d).binds → b ≡ quantifier_binds f
-node-binds nodes k f d b h e = e ∙ ap (λ (n : Node). n.binds) (node-last nodes k f d h).1
 
 -- the whole formula is the last part
 pub node-whole : (nodes : List Node) (k : ℕ) (f : Formula) → k ≡ length nodes - 1 → nodes ≡ outline_of f → IsNode nodes k f

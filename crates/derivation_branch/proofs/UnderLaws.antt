@@ -20,14 +20,6 @@ under-fun table k f ts = sym (fun-all (get_or table k []) 0 f (terms_tree ts) �
 pub under-atom : (table : List (List Term)) (k p : ℕ) (ts : List Term) → formula_under table k (atom p (terms_tree ts)) ≡ atom p (terms_tree (map (term_under table k) ts))
 under-atom table k p ts = atom-all (get_or table k []) 0 p (terms_tree ts) ∙ ap (atom p) (tree-all (get_or table k []) 0 ts)
 
--- a list under an empty substitution
-pub bare-list : (table : List (List Term)) (k : ℕ) (ts : List Term) → get_or table k [] ≡ [] → map (term_under table k) ts ≡ ts
-bare-list table k [] e = refl
-bare-list table k (t ∷ ts) e = λ i. bare t i ∷ bare-list table k ts e i
-  where
-    bare : (u : Term) → term_under table k u ≡ u
-    bare u = rw e refl
-
 pub under-value : (table : List (List Term)) (k n : ℕ) (v : Term) → AreClosed (get_or table k []) → v ≡ value_at (get_or table k []) n → v ≡ term_under table k (var n)
 under-value table k n v h e = e ∙ sym (value-put (get_or table k []) n h)
 

@@ -1,5 +1,5 @@
 -- Labels and steps by their numbers: where labels stand in a table, and where it grows.
-use Rattle.std.proofs.Common.{◌≡◌, ℕ, zero, suc, ◌+◌, ◌-◌, ◌<◌, ◌≤◌, ◌&&◌, Bool, true, List, [], ◌∷◌, ◌++◌, length, get_or, map, IsTrue, Option, refl, sym, ◌∙◌, ap, subst, arith, ◌⊎◌, inl, inr}
+use Rattle.std.proofs.Common.{◌≡◌, ℕ, zero, suc, ◌+◌, ◌-◌, ◌<◌, ◌≤◌, Bool, List, [], ◌∷◌, ◌++◌, length, get_or, map, IsTrue, Option, refl, sym, ◌∙◌, ap, subst, arith, ◌⊎◌, inl, inr}
 use Rattle.std.proofs.lemmas.Bool.{and_parts, cases_lt}
 use Rattle.std.proofs.lemmas.Bool.Decides.{nat_tests}
 use Rattle.std.proofs.lemmas.List.{length-append, length-map, get_or-map, get_or_append_left, get_or_push}
@@ -75,9 +75,6 @@ number-read xs n i d e = let next : n ≡ suc i = omega (arith, e) in ap (λ k. 
 
 pub among-parts : (n k : ℕ) → IsTrue (is_among n k) → (1 ≤ k) × (k ≤ n)
 among-parts n k h = grind (arith, nat_tests)
-
-pub among-next : (n i k : ℕ) → k ≡ i + 1 → i < n → IsTrue (is_among n k)
-among-next n i k e lt = grind (arith, nat_tests)
 
 -- a label by its number and by its place
 pub stated-at : (labels table : List Label) (places : List ℕ) (k p : ℕ) → ArePlaces labels table places → IsTrue (is_among (length places) k) → p ≡ get_or places (k - 1) 0 → (p < length table) × (get_or table p [] ≡ numbered labels k [])

@@ -1,8 +1,6 @@
 -- Homes of names stay at their places when the table of labels grows.
-use Rattle.std.proofs.Common.{◌≡◌, ℕ, ◌+◌, ◌-◌, ◌<◌, ◌==◌, ◌||◌, Bool, true, false, not, cond, List, [], ◌∷◌, length, get_or, map, drop, find, is_some, nat_eq, Option, None, Some, refl, sym, ◌∙◌, ap, subst, arith}
-use Rattle.std.proofs.lemmas.List.{drop_more, drop_all}
+use Rattle.std.proofs.Common.{◌≡◌, ℕ, ◌-◌, ◌||◌, Bool, true, false, not, List, [], ◌∷◌, map, is_some, Option, None, Some, refl, ◌∙◌, ap, arith}
 use Rattle.std.specs.Option.{option_map_or}
-use Rattle.indexmap.specs.IndexMap.{IndexMap, get}
 use Rattle.calculus.specs.Calculus.{holds_character, home_holds, is_forbidden, is_in_home, is_known, is_unknown, spare_allowed}
 use Rattle.calculus.specs.Labels.{home_allows}
 use Rattle.calculus.specs.Substitution.{any_leaf, any_leaf_of}
@@ -12,7 +10,7 @@ use Rattle.label_table.specs.Longer.{IsLonger}
 use Rattle.derivation_branch.specs.Occurring.{in_argument}
 use Rattle.label_table.specs.LabelTable.{IsLabelAt}
 use Rattle.label_table.proofs.TableLaws.{longer-at, longer-size}
-use Rattle.derivation_check.specs.HomesView.{AreEigenHomes, AreFound, AreHomes, AreSpareHomes, IsEigenHome, IsFound, IsHomeOfSpare, IsSpareHome, is_forbidden_at, is_in_home_at, is_known_at, is_place_allowed, is_unknown_at, place_holds}
+use Rattle.derivation_check.specs.HomesView.{AreHomes, IsEigenHome, IsFound, IsHomeOfSpare, IsSpareHome, is_forbidden_at, is_in_home_at, is_known_at, is_place_allowed, is_unknown_at, place_holds}
 use Rattle.derivation_check.specs.declared.homes.Homes.{Homes}
 use Rattle.derivation_check.specs.declared.homes.Place.{Place}
 use Rattle.derivation_check.specs.declared.homes.Place.TheVariants.{Anywhere, At}
@@ -42,18 +40,6 @@ module _ {A B : Type 0} (R Q : A → B → Type 0) (follows : (a : A) (b : B) �
   found-longer (Some a) None h = h
   found-longer (Some a) (Some b) h = follows a b h
 
-  module _ {S : Type 0} (number : B → ℕ) (m new : IndexMap ℕ A S) (items : List B) where
-    -- one more item in front, which is then found by its number
-    found-more : (a : A) (y : B) → Q a y → ((q : ℕ) → get nat_eq new q ≡ cond (nat_eq (number y) q) (Some a) (get nat_eq m q)) → AreFound R number m items → AreFound Q number new (y ∷ items)
-    found-more a y h updates found n = by (number y == n) refl
-      where
-        by : (b : Bool) → (number y == n) ≡ b → IsFound Q (get nat_eq new n) (find (λ (x : B). number x == n) (y ∷ items))
-        by true e = rw (updates n, e) h
-        by false e = rw (updates n, e) (found-longer (get nat_eq m n) (find (λ (x : B). number x == n) items) (found n))
-
-none-found : {A B S : Type 0} (R : A → B → Type 0) (number : B → ℕ) (m : IndexMap ℕ A S) (items : List B) → m.entries ≡ [] → items ≡ [] → AreFound R number m items
-none-found R number m items empty none n = rw (empty, none) tt
-
 pub homes-longer : (names : Names) (labels more : List Label) (homes : Homes) → IsLonger labels more → AreHomes names labels homes → AreHomes names more homes
 homes-longer names labels more homes long h = record {
   eigens = λ n. found-longer (IsEigenHome labels) (IsEigenHome more) (eigen-longer labels more long) _ _ (h.eigens n);
@@ -63,56 +49,6 @@ homes-longer names labels more homes long h = record {
 pub map-twice : {A B C : Type 0} (g : B → C) (f : A → B) (xs : List A) → map g (map f xs) ≡ map (λ x. g (f x)) xs
 map-twice g f [] = refl
 map-twice g f (x ∷ xs) = ap (λ l. g (f x) ∷ l) (map-twice g f xs)
-
--- ---- names from the end on
-
-rest-none : {X Y : Type 0} (f : X → Y) (items : List X) (left : ℕ) → left ≡ length items → map f (drop left items) ≡ []
-rest-none f items left e = ap (map f) (drop_all left items (omega (arith, e)))
-
-rest-more : {X Y : Type 0} (f : X → Y) (items : List X) (left : ℕ) (x : X) → 0 < left → left - 1 < length items → x ≡ get_or items (left - 1) x → map f (drop (left - 1) items) ≡ f x ∷ map f (drop left items)
-rest-more f items left x pos lt at =
-    let next : left - 1 + 1 ≡ left = omega (arith, pos) in
-    ap (map f) (drop_more items (left - 1) x lt) ∙ (λ i. f (sym at i) ∷ map f (drop (next i) items))
-
-pub eigens-none : {X S : Type 0} (f : X → EigenName) (labels : List Label) (m : IndexMap ℕ ℕ S) (items : List X) (left : ℕ) → m.entries ≡ [] → left ≡ length items → AreEigenHomes labels m (map f (drop left items))
-eigens-none f labels m items left empty e = none-found (IsEigenHome labels) (λ x. x.number) m (map f (drop left items)) empty (rest-none f items left e)
-
-pub spares-none : {X S : Type 0} (f : X → SpareName) (labels : List Label) (m : IndexMap ℕ Place S) (items : List X) (left : ℕ) → m.entries ≡ [] → left ≡ length items → AreSpareHomes labels m (map f (drop left items))
-spares-none f labels m items left empty e = none-found (IsHomeOfSpare labels) (λ x. x.number) m (map f (drop left items)) empty (rest-none f items left e)
-
-pub eigens-more : {X S : Type 0} (f : X → EigenName) (labels more : List Label) (m new : IndexMap ℕ ℕ S) (items : List X) (left place : ℕ) (x : X) → IsLonger labels more → 0 < left → left - 1 < length items → x ≡ get_or items (left - 1) x → IsLabelAt more place (f x).home
-    → ((q : ℕ) → get nat_eq new q ≡ cond (nat_eq (f x).number q) (Some place) (get nat_eq m q)) → AreEigenHomes labels m (map f (drop left items)) → AreEigenHomes more new (map f (drop (left - 1) items))
-eigens-more f labels more m new items left place x long pos lt at here updates found =
-    subst (AreEigenHomes more new) (sym (rest-more f items left x pos lt at))
-    (found-more (IsEigenHome labels) (IsEigenHome more) (eigen-longer labels more long) (λ y. y.number) m new (map f (drop left items)) place (f x) here updates found)
-
-pub spares-more : {X S : Type 0} (f : X → SpareName) (labels more : List Label) (m new : IndexMap ℕ Place S) (items : List X) (left : ℕ) (place : Place) (x : X) → IsLonger labels more → 0 < left → left - 1 < length items → x ≡ get_or items (left - 1) x → IsSpareHome more place (f x).home
-    → ((q : ℕ) → get nat_eq new q ≡ cond (nat_eq (f x).number q) (Some place) (get nat_eq m q)) → AreSpareHomes labels m (map f (drop left items)) → AreSpareHomes more new (map f (drop (left - 1) items))
-spares-more f labels more m new items left place x long pos lt at here updates found =
-    subst (AreSpareHomes more new) (sym (rest-more f items left x pos lt at))
-    (found-more (IsHomeOfSpare labels) (IsHomeOfSpare more) (spare-longer labels more long) (λ y. y.number) m new (map f (drop left items)) place (f x) here updates found)
-
--- ---- what is told of a name
-
-pub told-some : {A B : Type 0} (R : A → B → Type 0) (o : Option A) (p : Option B) (a : A) (f : B → Bool) (none r : Bool) → o ≡ Some a → IsFound R o p → ((b : B) → R a b → r ≡ f b) → r ≡ option_map_or f p none
-told-some R None p a f none r e h g = absurd cc
-told-some R (Some c) None a f none r e h g = absurd h
-told-some R (Some c) (Some b) a f none r e h g = g b (let same : c ≡ a = cc in subst (λ d. R d b) same h)
-
-pub told-none : {A B : Type 0} (R : A → B → Type 0) (o : Option A) (p : Option B) (f : B → Bool) (none r : Bool) → o ≡ None → IsFound R o p → r ≡ none → r ≡ option_map_or f p none
-told-none R None None f none r e h g = g
-told-none R None (Some b) f none r e h g = absurd h
-told-none R (Some a) p f none r e h g = absurd cc
-
-pub eigen-within : (labels : List Label) (o : Option ℕ) (p : Option EigenName) (k : ℕ) → o ≡ Some k → IsFound (IsEigenHome labels) o p → k < length labels
-eigen-within labels None p k e h = absurd cc
-eigen-within labels (Some c) None k e h = absurd h
-eigen-within labels (Some c) (Some x) k e h = let same : c ≡ k = cc in subst (λ d. d < length labels) same h.0
-
-pub spare-home : (labels : List Label) (o : Option Place) (p : Option SpareName) (a : Place) → o ≡ Some a → IsFound (IsHomeOfSpare labels) o p → (h : Home) × IsSpareHome labels a h
-spare-home labels None p a e h = absurd cc
-spare-home labels (Some c) None a e h = absurd h
-spare-home labels (Some c) (Some x) a e h = (x.home, let same : c ≡ a = cc in subst (λ d. IsSpareHome labels d x.home) same h)
 
 -- ---- leaves of terms
 

@@ -32,7 +32,7 @@ use Rattle.sequent_calc.specs.ChildrenView.{faulty}
 use Rattle.derivation_check.specs.OpenSequents.{IsLastOf, after_added, open_sequents, waiting}
 use Rattle.derivation_check.specs.StateView.{AreKept, AreWithin, HasArgument, IsClosedArgument, IsLabelAfter, LeadsTo, StandsOn, Tells, Wait, the_entry, the_sequent}
 use Rattle.derivation_check.specs.declared.open_sequents.BranchEntry.{BranchEntry}
-use Rattle.derivation_check.proofs.Keeping.{Brought, added-kept, children-told, cut-back, formula-longer, kept-longer, none-left, sequent-longer, shown-after, wait-longer, wait-more, waiting-longer, within-longer}
+use Rattle.derivation_check.proofs.Keeping.{Brought, added-kept, children-told, cut-back, formula-longer, none-left, sequent-longer, shown-after, wait-longer, wait-more, waiting-longer, within-longer}
 
 true-apart : false ≡ true → ⊥
 true-apart h = cc
@@ -279,10 +279,6 @@ pub after-of : (P : Problem) (names : Names) (table : List (List Term)) (labels 
 after-of P names table labels more E M o xs forks u at x g =
     let kept = label-kept P names table labels more E M o xs forks u at x g in
     (P.setting.logic, (g.label.0, g.label.1 ∙ ap (λ w. label_after P.setting.logic w x) (sym kept.1)))
-
-pub used-kept : (P : Problem) (names : Names) (table : List (List Term)) (labels more : List Label) (E M : List ℕ) (o : Bool) (xs : List BranchEntry) (forks : List (ℕ × BranchEntry)) (u : BranchEntry) (at : ℕ) (x : ModalArg) → Used P names table labels more E M o xs forks u at x
-    → AreKept names table more E M (open_sequents o xs forks)
-used-kept P names table labels more E M o xs forks u at x g = kept-longer names table table labels more E M (open_sequents o xs forks) (longer-self table) g.grown g.sequents
 
 -- what is on the branch is what was, by the longer table of labels
 pub used-leads : (P : Problem) (names : Names) (table : List (List Term)) (labels more : List Label) (E M : List ℕ) (o : Bool) (xs : List BranchEntry) (forks : List (ℕ × BranchEntry)) (u : BranchEntry) (at : ℕ) (x : ModalArg) (t : TermArg) (now : List Sequent) → Used P names table labels more E M o xs forks u at x

@@ -3,10 +3,10 @@ use Rattle.std.proofs.Common.{◌≡◌, ℕ, ◌+◌, Bool, true, false, List, 
 use Rattle.std.specs.Result.{OnOk}
 use Rattle.calculus.specs.declared.fault.StepFault.{StepFault}
 use Rattle.calculus.specs.declared.fault.StepFault.TheVariants.{NoConnection, NoEntry}
-use Rattle.calculus.specs.declared.fault.CheckFault.TheVariants.{Step as InStep, AllClosed, StillOpen}
+use Rattle.calculus.specs.declared.fault.CheckFault.TheVariants.{Step as InStep, AllClosed}
 use Rattle.calculus.specs.Calculus.{Children, closed, apply, close_branch, connects, use_entry}
 use Rattle.calculus.specs.Derivations.{Entry, Sequent, Label, Names, Step, ModalArg, TermArg}
-use Rattle.calculus.specs.Judgement.{at_end, open_after, rejected, accepted, verdict_after, verdict_from}
+use Rattle.calculus.specs.Judgement.{open_after, rejected, verdict_after, verdict_from}
 use Rattle.calculus.specs.Syntax.{Term, Problem}
 use Rattle.derivation_check.specs.OpenSequents.{open_sequents, waiting}
 use Rattle.derivation_check.specs.StateView.{LeadsTo, the_sequent}
@@ -35,12 +35,6 @@ failed P names table labels o xs forks x rest line f opened e =
 pub none-open : (P : Problem) (names : Names) (table : List (List Term)) (labels : List Label) (o : Bool) (xs : List BranchEntry) (forks : List (ℕ × BranchEntry)) (x : Step) (rest : List Step) (line : ℕ) → o ≡ false
     → verdict_from P names (map (the_sequent table labels) (open_sequents o xs forks)) (x ∷ rest) line ≡ rejected line AllClosed
 none-open P names table labels o xs forks x rest line shut = ap (λ b. verdict_from P names (map (the_sequent table labels) (open_sequents b xs forks)) (x ∷ rest) line) shut
-
-pub end-open : (table : List (List Term)) (labels : List Label) (o : Bool) (xs : List BranchEntry) (forks : List (ℕ × BranchEntry)) (line : ℕ) → o ≡ true → rejected line StillOpen ≡ at_end (map (the_sequent table labels) (open_sequents o xs forks)) line
-end-open table labels o xs forks line opened = ap (λ b. at_end (map (the_sequent table labels) (open_sequents b xs forks)) line) (sym opened)
-
-pub end-closed : (table : List (List Term)) (labels : List Label) (o : Bool) (xs : List BranchEntry) (forks : List (ℕ × BranchEntry)) (line : ℕ) → o ≡ false → accepted ≡ at_end (map (the_sequent table labels) (open_sequents o xs forks)) line
-end-closed table labels o xs forks line shut = ap (λ b. at_end (map (the_sequent table labels) (open_sequents b xs forks)) line) (sym shut)
 
 -- what is told of a result is told of what leads to it
 pub leads-as : {E : Type 0} (r : Result (Unit {0}) E) (K : Names → Type 0) (p q : Names → Result Children StepFault) (others now : List Sequent) → ((n : Names) → p n ≡ q n) → OnOk r ((n : Names) → K n → LeadsTo (p n) others now) → OnOk r ((n : Names) → K n → LeadsTo (q n) others now)

@@ -11,7 +11,6 @@ use Rattle.derivation_text.specs.NumberedBody.{IsNewAndArg, IsNumberAndArg, IsNu
 use Rattle.derivation_text.specs.Spelling.{IsTerm}
 use Rattle.text_lines.proofs.PartLaws.{number-unique}
 use Rattle.text_lines.specs.Spelling.{IsNumber, IsNumberBefore}
-use Rattle.derivation_text.proofs.Args.{cut, differ}
 
 -- ---- homes and terms behind their numbers
 
@@ -78,17 +77,6 @@ no-new_and-arg bytes rest m h none n t k = none t (record {
 
 pub none-new : (bytes : List ℕ) → ((k : ℕ) (rest : List ℕ) → ¬ IsNumberBefore bytes k rest) → (n : ℕ) (t : NumberedTerm) → ¬ IsNewAndArg bytes n t
 none-new bytes none n t k = none n (numbered_term_text t) (number-of_both bytes n t k.same (new-small n t k.written))
-
--- no argument for a variable begins like a modal one
-arg-no_to : (t : NumberedTerm) (r : List ℕ) → numbered_term_text t ≡ codes " to " ++ r → ⊥
-arg-no_to no_numbered_term r e = differ _ _ 0 e refl
-arg-no_to (by_number k) r e = differ _ _ 2 e refl
-arg-no_to (by_eigen k) r e = differ _ _ 1 e refl
-
-pub no-args_to : (bytes rest : List ℕ) → bytes ≡ codes " to " ++ rest → ((k : ℕ) (t : NumberedTerm) → ¬ IsNumberAndArg rest k t) → (m : NumberedModal) (t : NumberedTerm) → ¬ IsNumberedArgs bytes m t
-no-args_to bytes rest e none no_numbered_modal t h = arg-no_to t rest (sym h.same ∙ e)
-no-args_to bytes rest e none (to_number k) t h = none k t (record { written = h.written; same = cut (codes " to ") _ _ (sym e ∙ h.same) })
-no-args_to bytes rest e none (by_character k) t h = differ _ _ 1 (sym e ∙ h.same) refl
 
 -- ---- steps
 

@@ -1,11 +1,11 @@
 -- Places of a table by their numbers, and the items that stand at them.
-use Rattle.std.proofs.Common.{if◌then◌else◌, ◌≡◌, ℕ, zero, suc, ◌+◌, ◌-◌, ◌^◌, ◌<◌, List, [], ◌∷◌, ◌++◌, length, get_or, Bool, true, false, ◌||◌, ◌==◌, IsTrue, nat_lt, nat_le, refl, sym, ◌∙◌, ap, subst, arith, set, eq-eqb, eqb-true, ltb-true, lt-ltb, leb-true}
+use Rattle.std.proofs.Common.{if◌then◌else◌, ◌≡◌, ℕ, zero, suc, ◌+◌, ◌-◌, ◌^◌, ◌<◌, List, [], ◌∷◌, ◌++◌, length, get_or, Bool, true, false, ◌||◌, ◌==◌, nat_lt, refl, sym, ◌∙◌, ap, subst, arith, set, eq-eqb, eqb-true, ltb-true, lt-ltb}
 use Rattle.std.specs.List.{list_all}
 use Rattle.std.proofs.lemmas.Bool.{and_from, and_parts, true≢false}
 use Rattle.std.proofs.lemmas.Grind.{get_or-set_at}
 use Rattle.std.proofs.lemmas.List.{length-append, length-map, map-append, get_or-map, get_or_append_left}
 use Rattle.calculus.proofs.EqualityLaws.{Tells}
-use Rattle.calculus.specs.Versions.{is_among, number_in, numbered, place_in}
+use Rattle.calculus.specs.Versions.{number_in, place_in}
 use Rattle.label_table.specs.Longer.{IsLonger}
 use Rattle.derivation_text.specs.Entering.{entered, has}
 use Rattle.derivation_text.specs.Listing.{AreApart, AreNumbers, AreWithin, first_number, items_at, one_later}
@@ -229,9 +229,3 @@ items-apart table d places apart within once i j hi hj e =
     let lj : j < length places = omega (arith, n, hj) in
     once i j li lj (apart (get_or places i 0) (get_or places j 0) (within-at table places i within li) (within-at table places j within lj)
     (sym (get_or-map (λ q. get_or table q d) places i 0 d li) ∙ e ∙ get_or-map (λ q. get_or table q d) places j 0 d lj))
-
-pub place-within : {A : Type 0} (table : List A) (places : List ℕ) (k : ℕ) → AreWithin table places → IsTrue (is_among (length places) k) → numbered places k 0 < length table
-place-within table places zero h m = absurd (true≢false (sym m))
-place-within table places (suc i) h m =
-    let le = leb-true (suc i) (length places) (and_parts (nat_le 1 (suc i)) (nat_le (suc i) (length places)) m).1 in
-    within-at table places i h (omega (arith, le))

@@ -1,17 +1,17 @@
 -- Ranks by rounds: where a round changes nothing, no cell needs itself; where ranks still rise after as many rounds as there are cells, one does.
-use Rattle.std.proofs.Common.{◌≡◌, ◌⊎◌, ℕ, zero, suc, ◌+◌, ◌<◌, ◌≤◌, List, [], ◌∷◌, ◌++◌, drop, length, true, false, refl, sym, ◌∙◌, ap, subst, None, Some, slice_get, slice_index_or, inl, inr, arith, if◌then◌else◌}
+use Rattle.std.proofs.Common.{◌≡◌, ◌⊎◌, ℕ, zero, suc, ◌+◌, ◌<◌, ◌≤◌, List, [], ◌∷◌, drop, length, true, false, refl, sym, ◌∙◌, ap, subst, None, Some, slice_get, slice_index_or, inl, inr, arith, if◌then◌else◌}
 use Rattle.std.proofs.lemmas.Bool.{cases_lt, false≢true}
 use Rattle.calculus.specs.declared.sort.Sort.{Sort}
 use Rattle.calculus.specs.declared.sort.Sort.TheVariants.{TermSort, MarkSort, StringSort}
 use Rattle.store_theory.specs.Bindings.{IsWellFormed}
 use Rattle.store_theory.specs.Stores.{Cell, variable, fun_cell, eigen_cell, new_cell, string_cell, Store, EndsAt, stays, goes_on, is_bound, parts_of}
 use Rattle.store_theory.proofs.BindingLaws.{ends-on, ends-once}
-use Rattle.calculus.proofs.PlaceLists.{get-last, get-there, get-within}
+use Rattle.calculus.proofs.PlaceLists.{get-there, get-within}
 use Rattle.search_theory.proofs.NeedRanks.{HasNoNeedCycle, NeedsCells, need_rank, ranked-by_no_need_cycle}
 use Rattle.search_theory.proofs.OwnHomes.{Needs, at_once, by_way}
 use Rattle.search_theory.proofs.RuleLaws.{IsRankedBy, SpareRule, homes, needed}
 use Rattle.search_theory.proofs.SpareLaws.{IsPart}
-use Rattle.domain_cond.specs.Ranks.{IsAbove, IsAboveTo, IsRankOf, IsRound, rank_at}
+use Rattle.domain_cond.specs.Ranks.{IsAbove, IsRankOf, IsRound, rank_at}
 use Rattle.domain_cond.specs.Leaves.{is_among}
 use Rattle.domain_cond.specs.Standings.{Standing, home_marks}
 
@@ -33,30 +33,6 @@ rank-beyond (n ∷ ns) zero l = absurd (omega (arith, l))
 rank-beyond (n ∷ ns) (suc r) l = rank-beyond ns r (omega (arith, l))
 
 -- ---- the least number above others
-
-pub above-start : (f : ℕ → ℕ) (ks : List ℕ) → IsAboveTo f ks 0 0
-above-start f ks = record { each = λ j k l at. absurd (omega (arith, l)); least = inl refl }
-
-pub above-next : (f : ℕ → ℕ) (ks : List ℕ) (i b k c m : ℕ) → IsAboveTo f ks i b → slice_get ks i ≡ Some k → c ≡ f k → b ≤ m → c < m → ((m ≡ b) ⊎ (m ≡ suc c)) → IsAboveTo f ks (i + 1) m
-above-next f ks i b k c m h at e kept higher which = record {
-  each = λ j x l q. elim (cases_lt j i) [
-    | inl less ↦ (let a = h.each j x less q in omega (arith, a, kept))
-    | inr more ↦ (let same : j ≡ i = omega (arith, l, more) in let z : k ≡ x = let w : Some k ≡ Some x = sym at ∙ ap (slice_get ks) (sym same) ∙ q in cc w in subst (λ y. f y < m) z (omega (arith, e, higher)))
-  ];
-  least = elim which [
-    | inl s ↦ elim h.least [
-      | inl n ↦ inl (s ∙ n)
-      | inr w ↦ inr (w.0, w.1, w.2, s ∙ w.3)
-    ]
-    | inr s ↦ inr (i, k, at, s ∙ ap suc e)
-  ];
-}
-
-pub above-whole : (f : ℕ → ℕ) (ks : List ℕ) (i b : ℕ) → length ks ≤ i → IsAboveTo f ks i b → IsAbove f ks b
-above-whole f ks i b l h = record { each = λ j k m at. h.each j k (omega (arith, l, m)) at; least = h.least }
-
-pub above-none : (f : ℕ → ℕ) (ks : List ℕ) → ks ≡ [] → IsAbove f ks 0
-above-none f ks e = record { each = λ j k l at. (let z : slice_get [] j ≡ Some k = ap (λ xs. slice_get xs j) (sym e) ∙ at in cc z); least = inl refl }
 
 above-part : (f : ℕ → ℕ) (ks : List ℕ) (b k : ℕ) → IsAbove f ks b → IsPart k ks → f k < b
 above-part f ks b k h (i, at) = h.each i k (get-within ks i k at) at
@@ -92,19 +68,7 @@ home-next ts v i t h at among = ap (λ n. home_marks (drop n ts) v) (let q : i +
     by (x ∷ xs) zero e = let q : x ≡ t = cc e in sym (ap (λ (y : Standing). home_marks (y ∷ xs) v) q ∙ ap (λ b. if b then t.marks else home_marks xs v) among)
     by (x ∷ xs) (suc i) e = by xs i e
 
-pub home-none : (ts : List Standing) (v i : ℕ) → home_marks (drop i ts) v ≡ home_marks ts v → length ts ≤ i → home_marks ts v ≡ []
-home-none ts v i h l = sym h ∙ by ts i l
-  where
-    by : (ts : List Standing) (i : ℕ) → length ts ≤ i → home_marks (drop i ts) v ≡ []
-    by [] zero l = refl
-    by [] (suc i) l = refl
-    by (x ∷ xs) zero l = absurd (omega (arith, l))
-    by (x ∷ xs) (suc i) l = by xs i (omega (arith, l))
-
 -- ---- the rank of one cell
-
-pub rank-variable : (home : ℕ → List ℕ) (s : Store) (f : ℕ → ℕ) (r e b : ℕ) → EndsAt s r e → slice_get s.cells e ≡ Some (variable TermSort None) → IsAbove f (home e) b → IsRankOf (homes home) s f r b
-rank-variable home s f r e b ends at h = (e, variable TermSort None, ends, at, h)
 
 parts-needed : (home : ℕ → List ℕ) (e : ℕ) (c : Cell) → is_bound c ≡ false → ¬ (c ≡ variable TermSort None) → parts_of c ≡ needed (homes home) e c
 parts-needed home e (variable TermSort None) b other = absurd (other refl)
@@ -125,22 +89,6 @@ pub record RoundTo (R : SpareRule) (s : Store) (f : ℕ → ℕ) (ns : List ℕ)
   pub count : length ns ≡ i
   pub each : (r b : ℕ) → slice_get ns r ≡ Some b → IsRankOf R s f r b
 
-pub round-start : (R : SpareRule) (s : Store) (f : ℕ → ℕ) (ns : List ℕ) → ns ≡ [] → RoundTo R s f ns 0
-round-start R s f ns e = record { count = ap length e; each = λ r b at. (let z : slice_get [] r ≡ Some b = ap (λ xs. slice_get xs r) (sym e) ∙ at in cc z) }
-
-pub round-next : (R : SpareRule) (s : Store) (f : ℕ → ℕ) (ns after : List ℕ) (i b : ℕ) → RoundTo R s f ns i → IsRankOf R s f i b → after ≡ ns ++ b ∷ [] → RoundTo R s f after (i + 1)
-round-next R s f ns after i b h now e = subst (λ xs. RoundTo R s f xs (i + 1)) (sym e) (record {
-  count = let z = long ns in let c = h.count in omega (arith, z, c);
-  each = λ r m at. elim (get-last ns r m b at) [
-    | inl old ↦ h.each r m old
-    | inr new ↦ subst (λ x. IsRankOf R s f x m) (sym (new.0 ∙ h.count)) (subst (IsRankOf R s f i) new.1 now)
-  ];
-})
-  where
-    long : (xs : List ℕ) → length (xs ++ b ∷ []) ≡ length xs + 1
-    long [] = refl
-    long (x ∷ xs) = let q = long xs in omega (arith, q)
-
 pub round-whole : (R : SpareRule) (s : Store) (f : ℕ → ℕ) (ns : List ℕ) (i n : ℕ) → i ≡ n → RoundTo R s f ns i → IsRound R s n f (rank_at ns)
 round-whole R s f ns i n e h = record {
   inside = λ r l. (let q = get-there ns r (let c = h.count in omega (arith, l, e, c)) in subst (IsRankOf R s f r) (sym (rank-there ns r q.0 q.1)) (h.each r q.0 q.1));
@@ -154,13 +102,6 @@ pub record IsRanking (R : SpareRule) (s : Store) (n : ℕ) (f : ℕ → ℕ) (i 
   pub small : (r : ℕ) → f r ≤ i
   pub stays : (g : ℕ → ℕ) → IsRound R s n f g → (r : ℕ) → r < n → f r < i → g r ≡ f r
   pub below : (rank : ℕ → ℕ) → IsRankedBy R s rank (suc n) → ((r : ℕ) → f r ≤ rank r) × (i ≤ n + 1)
-
-pub ranking-start : (R : SpareRule) (s : Store) (n : ℕ) (ns : List ℕ) → ns ≡ [] → IsRanking R s n (rank_at ns) 0
-ranking-start R s n ns e = subst (λ xs. IsRanking R s n (rank_at xs) 0) (sym e) (record {
-  small = λ r. omega arith;
-  stays = λ g h r l m. absurd (omega (arith, m));
-  below = λ rank h. ((λ r. omega arith), omega arith);
-})
 
 -- an end is no higher than what leads to it
 end-below : (R : SpareRule) (s : Store) (rank : ℕ → ℕ) (bound r e : ℕ) → IsRankedBy R s rank bound → EndsAt s r e → rank e ≤ rank r

@@ -3,25 +3,19 @@ use Rattle.std.proofs.Common.{◌≡◌, ◌⊎◌, ◌||◌, ◌==◌, ℕ, zer
 use Rattle.std.specs.List.{list_all}
 use Rattle.std.proofs.lemmas.Bool.{or_left, or_right, cases_lt, false≢true, and_from}
 use Rattle.calculus.specs.declared.sort.Sort.TheVariants.{TermSort}
-use Rattle.store_theory.specs.Bindings.{EndsIn}
-use Rattle.store_theory.specs.Stores.{Cell, variable, fun_cell, eigen_cell, new_cell, string_cell, Store, GammaCell, Holds}
+use Rattle.store_theory.specs.Stores.{variable, Store, GammaCell, Holds}
 use Rattle.store_theory.specs.Systems.{AreEqualNow, is_gamma_cell, is_label}
 use Rattle.calculus.proofs.PlaceLists.{all-at, get-end, get-front, get-within}
-use Rattle.cop_base.specs.declared.SymbolId.{SymbolId}
-use Rattle.search_theory.specs.Demanding.{HasNoConstant, HomesAgree, equation}
+use Rattle.search_theory.specs.Demanding.{HomesAgree, equation}
 use Rattle.search_theory.proofs.DemandLaws.{now-label}
 use Rattle.search_theory.proofs.GivingLaws.{IsFlat}
 use Rattle.search_theory.proofs.OwnHomes.{IsHomeLabel, TellsHomes}
 use Rattle.search_theory.proofs.SpareLaws.{IsPart}
-use Rattle.term_store.specs.Shown.{head_of}
-use Rattle.term_store.specs.declared.cell.Head.{Head}
-use Rattle.term_store.specs.declared.cell.Head.TheVariants.{Fun}
 use Rattle.term_unify.specs.Flat.{HasNoString}
 use Rattle.term_unify.specs.Same.{AreSameLabels}
-use Rattle.term_unify.proofs.PairLaws.{told}
 use Rattle.domain_cond.specs.Conditions.{IsForced}
-use Rattle.domain_cond.specs.Leaves.{IsLeaf, has_arguments, is_among}
-use Rattle.domain_cond.specs.Standings.{AgreeWith, AreStandings, ConstantStands, IsStanding, LabelsAgree, Standing, home_marks, share}
+use Rattle.domain_cond.specs.Leaves.{IsLeaf, is_among}
+use Rattle.domain_cond.specs.Standings.{AgreeWith, AreStandings, IsStanding, LabelsAgree, Standing, home_marks, share}
 use Rattle.domain_cond.proofs.FirstLaws.{AllTo, all-next, all-whole}
 use Rattle.domain_cond.proofs.ConditionLaws.{free-sides, gamma-parts, now-equal}
 
@@ -61,9 +55,6 @@ pub record StandingsTo (s : Store) (gs : List GammaCell) (ts : List Standing) (i
   pub count : length ts ≡ i
   pub each : (j : ℕ) (g : GammaCell) → j < i → slice_get gs j ≡ Some g → (t : Standing) × (slice_get ts j ≡ Some t) × IsStanding s g t
 
-pub standings-start : (s : Store) (gs : List GammaCell) (ts : List Standing) → ts ≡ [] → StandingsTo s gs ts 0
-standings-start s gs ts e = record { count = ap length e; each = λ j g l at. absurd (omega (arith, l)) }
-
 length-last : {A : Type 0} (xs : List A) (x : A) → length (xs ++ x ∷ []) ≡ length xs + 1
 length-last [] x = refl
 length-last (y ∷ xs) x = let q = length-last xs x in omega (arith, q)
@@ -87,9 +78,6 @@ standings-whole s gs ts i e h = record { count = h.count ∙ e; each = λ j g at
 -- the standing at the place of a gamma term is its own
 pub standing-own : (s : Store) (gs : List GammaCell) (ts : List Standing) (j : ℕ) (g : GammaCell) (t : Standing) → AreStandings s gs ts → slice_get gs j ≡ Some g → slice_get ts j ≡ Some t → IsStanding s g t
 standing-own s gs ts j g t h at f = let q = h.each j g at in let z : q.0 ≡ t = let w : Some q.0 ≡ Some t = sym q.1 ∙ f in cc w in subst (IsStanding s g) z q.2
-
-pub standing-there : (s : Store) (gs : List GammaCell) (ts : List Standing) (i n : ℕ) → AreStandings s gs ts → length ts ≡ n → i < length gs → i < n
-standing-there s gs ts i n h c l = let k = h.count in omega (arith, k, c, l)
 
 -- ---- homes
 
@@ -115,31 +103,6 @@ home-label s v e (g ∷ gs) (t ∷ ts) h = by (is_among t.leaves v) refl (home-l
 
 pub tells-homes : (s : Store) (gs : List GammaCell) (ts : List Standing) → AreStandings s gs ts → TellsHomes s gs (home_marks ts)
 tells-homes s gs ts h v e = home-label s v e gs ts h
-
--- ---- constants
-
-pub constant-leaf : (s : Store) (v : ℕ) (head : Head) (f : SymbolId) → IsLeaf s v → EndsIn s v (λ c. head_of c ≡ head) → head ≡ Fun f → (g : ℕ) × (slice_get s.cells v ≡ Some (fun_cell g []))
-constant-leaf s v head f (c, at, b, none) t is = by c at none (told s v c (λ d. head_of d ≡ head) at b t ∙ is)
-  where
-    by : (d : Cell) → slice_get s.cells v ≡ Some d → has_arguments d ≡ false → head_of d ≡ Fun f → (g : ℕ) × (slice_get s.cells v ≡ Some (fun_cell g []))
-    by (fun_cell g []) e n h = (g, e)
-    by (fun_cell g (r ∷ rs)) e n h = absurd (false≢true (sym n))
-    by (variable sort k) e n h = cc h
-    by (eigen_cell q rs) e n h = cc h
-    by (new_cell q rs) e n h = cc h
-    by (string_cell rs) e n h = cc h
-
-pub constant-head : (s : Store) (v : ℕ) (head : Head) (f : ℕ) → slice_get s.cells v ≡ Some (fun_cell f []) → EndsIn s v (λ c. head_of c ≡ head) → Fun (record { 0 = f }) ≡ head
-constant-head s v head f at t = told s v (fun_cell f []) (λ c. head_of c ≡ head) at refl t
-
-pub leaf-within : (s : Store) (v : ℕ) → IsLeaf s v → v < length s.cells
-leaf-within s v (c, at, b, none) = get-within s.cells v c at
-
-pub leaf-constant : (s : Store) (gs : List GammaCell) (j i e f : ℕ) (g : GammaCell) (t : Standing) → slice_get gs j ≡ Some g → IsStanding s g t → slice_get t.leaves i ≡ Some e → slice_get s.cells e ≡ Some (fun_cell f []) → ConstantStands s gs
-leaf-constant s gs j i e f g t at h p q = (j, g, e, f, at, (h.leaves.held i e p).0, q)
-
-pub no-constant : (s : Store) (g : GammaCell) (t : Standing) → IsStanding s g t → ((i e f : ℕ) → slice_get t.leaves i ≡ Some e → ¬ (slice_get s.cells e ≡ Some (fun_cell f []))) → HasNoConstant s g
-no-constant s g t h none e f held at = let q = h.leaves.all_of_them e held (fun_cell f [], at, refl, refl) in none q.0 e f q.1 at
 
 -- ---- labels
 

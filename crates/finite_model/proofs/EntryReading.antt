@@ -16,7 +16,7 @@ use Rattle.calculus.specs.StructureText.{fits_table, is_size}
 use Rattle.finite_model.specs.declared.slot.Slot.{Slot}
 use Rattle.finite_model.specs.declared.head.Head.{Head}
 use Rattle.finite_model.specs.Reading.{AreEntriesRead, AreRead, IsFaultOf, IsHeadRead, IsLineAt, IsSlotAt, NoSlotAt, the_slot}
-use Rattle.finite_model.specs.Slots.{IsSlotLine, Place, are_entries, entry_lines, entry_text, head_of, is_entry, lines_of, slots}
+use Rattle.finite_model.specs.Slots.{Place, are_entries, entry_lines, entry_text, head_of, is_entry, lines_of, slots}
 use Rattle.finite_model.specs.StructureView.{the_lists}
 use Rattle.finite_model.proofs.SlotLaws.{entry-count, entries-joined, lines-joined}
 use Rattle.finite_model.proofs.SlotFaults.{all_apart, all_fill, can_fill, is_apart, slot-fault, end-fault, after-fault, lines-count}
@@ -109,15 +109,6 @@ more-behind P names bytes h es place to n head r e l apart =
     left = let w = l.within in omega (arith, apart, length-drop to bytes)
 
 -- ---- the line of a slot
-
-pub slot-read : (bytes : List ℕ) (from to : ℕ) (l : List ℕ) (s : Place) (xs : List ℕ) → IsLineAt bytes from to l → IsSlotLine s l xs → IsSlotAt bytes from to s xs
-slot-read bytes from to l s xs h k = record { fits = k.fits; line = subst (IsLineAt bytes from to) k.text h }
-
-first-line : (a b : List ℕ) (xs ys : List (List ℕ)) → a ∷ xs ≡ b ∷ ys → a ≡ b
-first-line a b xs ys e = cc
-
-pub slot-unread : (bytes : List ℕ) (from to : ℕ) (l : List ℕ) (s : Place) → IsLineAt bytes from to l → ((xs : List ℕ) → ¬ IsSlotLine s l xs) → NoSlotAt bytes from s
-slot-unread bytes from to l s h none xs more fits e = none xs (record { fits = fits; text = first-line l (s.front ++ entry_text s.form xs) (whole_lines (drop to bytes)) more (sym h.whole ∙ e) })
 
 pub slot-missing : (bytes : List ℕ) (from : ℕ) (s : Place) → whole_lines (drop from bytes) ≡ [] → NoSlotAt bytes from s
 slot-missing bytes from s none xs more fits e = let x = sym none ∙ e in absurd (cc)

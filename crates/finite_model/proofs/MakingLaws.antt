@@ -75,18 +75,7 @@ count-passed symbols i n all s b h e hn before = let k = count-at symbols i s fa
 pub count-done : (symbols : List Symbol) (i n all : ℕ) → length symbols ≡ i → n + function_count (drop i symbols) ≡ all → n ≡ all
 count-done symbols i n all h before = let k = ap function_count (drop_of_length-le symbols (let le : length symbols ≤ i = omega arith in le)) in omega (arith, k, before)
 
-pub count-most : (symbols : List Symbol) → function_count symbols ≤ length symbols
-count-most [] = omega arith
-count-most (s ∷ ss) = by (is_function s.class) (count-most ss)
-  where
-    by : (b : Bool) → function_count ss ≤ length ss → (if b then suc (function_count ss) else function_count ss) ≤ suc (length ss)
-    by true h = omega arith
-    by false h = omega arith
-
 -- ---- what symbols mean
-
-abbrev Bytes : Type 0
-Bytes = Vec ℕ Global
 
 pushed-meaning : (old new : List Meaning) (m : Meaning) → new ≡ old ++ m ∷ [] → map the_meaning new ≡ map the_meaning old ++ the_meaning m ∷ []
 pushed-meaning old new m e = ap (map the_meaning) e ∙ map-append the_meaning old (m ∷ [])

@@ -1,8 +1,6 @@
 -- What is told of a formula at the root says of the truth, of the steps, and of derivations.
-use Rattle.std.proofs.Common.{Result, Ok, Err, ◌≡◌, ℕ, ◌+◌, ◌-◌, ◌<◌, ◌≤◌, [], Bool, true, false, Some, IsTrue, refl, sym, ◌∙◌, ap, subst, arith, min, ◌^◌, leb-true}
-use Rattle.std.proofs.Math.Nat.{min-eq_left}
+use Rattle.std.proofs.Common.{Result, Ok, Err, ◌≡◌, ℕ, ◌+◌, ◌-◌, ◌<◌, ◌≤◌, [], Bool, true, false, Some, IsTrue, refl, sym, ◌∙◌, ap, subst, arith}
 use Rattle.calculus.specs.declared.setting.Logic.{Logic}
-use Rattle.calculus.specs.Measures.{nesting}
 use Rattle.calculus.specs.Problems.{is_problem}
 use Rattle.calculus.specs.Soundness.{HasNoDerivation, IsNeverAccepted}
 use Rattle.calculus.specs.Structures.{Structure, is_structure, is_true}
@@ -10,7 +8,6 @@ use Rattle.calculus.specs.StructureTruth.{Told, told_at, Tells, ways}
 use Rattle.calculus.specs.Syntax.{Formula, Problem}
 use Rattle.calculus.proofs.SoundnessLaws.{refuted-never_accepted, refuted-underived}
 use Rattle.calculus.proofs.StructureTruthLaws.{told-truth}
-use Rattle.logic_rules.proofs.ProblemFacts.{kept}
 use Rattle.cop_base.specs.declared.ledger.Ledger.{Ledger}
 use Rattle.finite_model.specs.declared.judging.Judged.{Judged}
 use Rattle.finite_model.specs.declared.judging.Judged.TheVariants as judged
@@ -76,11 +73,3 @@ root-answer P S l f before after r j same_logic same_formula same_answer h =
     subst (λ k. IsAnswer k after (told_at P.setting.logic S P.formula [] 0 before)) (sym same_answer)
     (answer-of r after (told_at P.setting.logic S P.formula [] 0 before)
     (subst (IsTold r after) (λ i. told_at (same_logic i) S (same_formula i) [] 0 before) h))
-
--- the elements of all variables that a formula of a problem binds have room
-pub enough-room : (P : Problem) → IsTrue (is_problem P) → (f : Formula) → f ≡ P.formula → (depth len : ℕ) → depth ≡ min (nesting f) (2 ^ 64 - 1) → len ≡ depth → 0 + nesting f ≤ len
-enough-room P h f e depth len d l =
-    let small = leb-true (nesting P.formula) 1100 (kept P h).nests in
-    let below : nesting f ≤ 1100 = subst (λ g. nesting g ≤ 1100) (sym e) small in
-    let same : depth ≡ nesting f = d ∙ min-eq_left (let within : nesting f ≤ 2 ^ 64 - 1 = omega arith in within) in
-    omega (arith, same, l)

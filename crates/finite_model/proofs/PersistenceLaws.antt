@@ -140,10 +140,6 @@ rows-as_long S p n w v rows h e lw lv =
 
 -- ---- the rows of a structure that is stated
 
-not-true : (b : Bool) → IsTrue (not b) → b ≡ false
-not-true true k = sym k
-not-true false k = refl
-
 tables-at : (S : Structure) (ss : List Symbol) (ms : List Meaning) (i : ℕ) (s : Symbol) → IsTrue (are_tables S ss ms) → slice_get ss i ≡ Some s → (m : Meaning) × (slice_get ms i ≡ Some m) × (IsTrue (is_table S s m))
 tables-at S [] ms i s h e = absurd (cc)
 tables-at S (t ∷ ss) [] i s h e = absurd (cc)

@@ -159,9 +159,6 @@ each-same f g h (x ∷ xs) n = ap (λ t. after_told t (λ b m. if b then each_to
 pub told-stepped : (r : Result Bool StepsEnded) (after : Ledger) (go : ℕ → Told) (n m : ℕ) → n ≡ suc m → IsTold r after (go m) → IsTold r after (with_step go n)
 told-stepped r after go n m e h = subst (λ k. IsTold r after (with_step go k)) (sym e) h
 
-pub told-as : (r : Result Bool StepsEnded) (after : Ledger) (s t : Told) → s ≡ t → IsTold r after s → IsTold r after t
-told-as r after s t e h = subst (IsTold r after) e h
-
 -- an error that a `?` passes on
 pub told-passed : (r : Result Bool StepsEnded) (y : StepsEnded) (after : Ledger) (t : Told) → IsErrAnd r (λ e. e ≡ y) → IsTold (Err y) after t → IsTold r after t
 told-passed r y after t h k = let p = err_from_is_err_and r h in subst (λ x. IsTold x after t) (sym p.1) k

@@ -22,12 +22,6 @@ pub power-of_one : (n : ℕ) → 1 ^ n ≡ 1
 power-of_one zero = refl
 power-of_one (suc n) = pow-suc 1 n ∙ (let h = power-of_one n in omega (arith, h))
 
-pub size-is : (n most : ℕ) → most ≡ 64 → 1 ≤ n → n ≤ most → IsTrue (is_size n)
-size-is n most e h k = and_from (nat_le 1 n) (nat_le n 64) (le-leb 1 n h) (le-leb n 64 (omega arith))
-
-pub size-least : (n : ℕ) → IsTrue (is_size n) → 1 ≤ n
-size-least n h = leb-true 1 n (and_parts (nat_le 1 n) (nat_le n 64) h).0
-
 pub size-most : (n : ℕ) → IsTrue (is_size n) → n ≤ 64
 size-most n h = leb-true n 64 (and_parts (nat_le 1 n) (nat_le n 64) h).1
 

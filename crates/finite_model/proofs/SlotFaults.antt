@@ -194,10 +194,6 @@ lines-count (z ∷ zs) (x ∷ xs) h = ap suc (lines-count zs xs (and_parts (is_e
 regroup : (h a r : List (List ℕ)) → (h ++ a) ++ r ≡ h ++ (a ++ r)
 regroup h a r = append_assoc h a r
 
-strip : (h xs ys : List (List ℕ)) → h ++ xs ≡ h ++ ys → xs ≡ ys
-strip [] xs ys e = e
-strip (k ∷ h) xs ys e = strip h xs ys (cons-parts k k (h ++ xs) (h ++ ys) e).1
-
 -- the line behind the entries of the first slots is none of the next slot
 pub slot-fault : (P : Problem) → IsTrue (list_all symbol_fits P.symbols) → (bytes : List ℕ) (W E : ℕ) (ss ts : List Place) (s : Place) (es : List (List ℕ)) (place : ℕ)
     → IsTrue (is_size W) → IsTrue (is_size E) → IsTrue (list_all (fits_table E) P.symbols) → slots P.symbols W E ≡ ss ++ s ∷ ts → IsTrue (are_entries ss es) → IsTrue (all_fill (s ∷ ts)) → IsTrue (all_apart ss)

@@ -1,5 +1,5 @@
 -- Tables, and the places of tuples in them.
-use Rattle.std.proofs.Common.{◌≡◌, inl, inr, ℕ, zero, suc, ◌+◌, ◌-◌, ◌*◌, ◌<◌, ◌≤◌, List, [], ◌∷◌, ◌++◌, length, map, get_or, reverse, min, Bool, true, false, ◌&&◌, Option, Some, refl, sym, ◌∙◌, ap, arith, slice_get, Bor, option_copied}
+use Rattle.std.proofs.Common.{◌≡◌, inl, inr, ℕ, zero, suc, ◌+◌, ◌-◌, ◌*◌, ◌<◌, ◌≤◌, List, [], ◌∷◌, length, map, get_or, reverse, min, Bool, true, false, ◌&&◌, Option, Some, refl, sym, ◌∙◌, ap, arith, slice_get, Bor, option_copied}
 use Rattle.std.specs.List.{list_all}
 use Rattle.std.specs.Option.{option_map, option_map_or}
 use Rattle.std.specs.Prelude.{Vec}
@@ -9,7 +9,7 @@ use Rattle.std.proofs.lemmas.Bool.{cases_lt}
 use Rattle.std.proofs.lemmas.List.{get_or_past, get_or-reverse, length-reverse}
 use Rattle.calculus.specs.declared.setting.Logic.{Logic}
 use Rattle.calculus.specs.declared.setting.Logic.TheVariants.{Classical, Intuitionistic, D, T as LogicT, S4, S5}
-use Rattle.calculus.specs.Structures.{Structure, list_at, bit_at, truth_in, place_from, from_here}
+use Rattle.calculus.specs.Structures.{Structure, list_at, bit_at, truth_in, from_here}
 use Rattle.calculus.specs.StructureTruth.{chosen_worlds}
 use Rattle.finite_model.specs.declared.structure.Meaning as program
 use Rattle.finite_model.specs.declared.structure.Meaning.TheVariants.{Truths}
@@ -87,11 +87,6 @@ far-place m e p v = elim (cases_lt m p) [
         ∙ ap (λ k. min (k + v) m) (min-eq_right a)
         ∙ min-eq_right (let y : m ≤ m + v = omega arith in y)
         ∙ sym (min-eq_right (let y : m ≤ p * suc e + v = omega (arith, b) in y))
-
--- with one element more at the end
-pub place-more : (e n : ℕ) (xs : List ℕ) (x : ℕ) → place_from e n (xs ++ x ∷ []) ≡ place_from e n xs * e + x
-place-more e n [] x = refl
-place-more e n (y ∷ xs) x = place-more e (n * e + y) xs x
 
 -- ---- variables
 

@@ -6,9 +6,9 @@ use Rattle.std.proofs.Math.Logic.{◌⊎◌, inl, inr}
 use Rattle.std.proofs.lemmas.Bool.{false≢true, cases_lt}
 use Rattle.calculus.specs.Ground as tree
 use Rattle.std.proofs.lemmas.Option.{get_or_from_slice_get}
-use Rattle.std.proofs.lemmas.List.{length-map, get_or-map, map-append, append-nil, get_or_past, length-append}
+use Rattle.std.proofs.lemmas.List.{length-map, get_or-map, map-append, append-nil, get_or_past}
 use Rattle.std.specs.Bool.{Decides}
-use Rattle.std.specs.Cmp.Lexicographic.{pointwise, pointwise_decides}
+use Rattle.std.specs.Cmp.Lexicographic.{pointwise_decides}
 use Rattle.std.specs.List.{list_any}
 use Rattle.indexmap.specs.IndexSet.{insert_key}
 use Rattle.formula_core.specs.GroundLists.{GroundList, of_terms, of_marks, of_values, terms_in, marks_in, values_in, the_terms, the_marks, the_values, list_at, no_list, IsGrown}
@@ -165,15 +165,6 @@ no-marks ls n h = ap marks_in (sym (list-past ls n.0 h))
 
 pub no-values : (ls : List GroundList) (n : Values) → length ls ≤ n.0 → [] ≡ the_values ls n
 no-values ls n h = ap values_in (sym (list-past ls n.0 h))
-
-pub read-terms : (ls : List GroundList) (n : GroundTerms) (e : Items) → IsRead ls n.0 e → terms_in (list_of ls e) ≡ the_terms ls n
-read-terms ls n e r = ap terms_in (sym r.list)
-
-pub read-marks : (ls : List GroundList) (n : GroundLabel) (e : Items) → IsRead ls n.0 e → marks_in (list_of ls e) ≡ the_marks ls n
-read-marks ls n e r = ap marks_in (sym r.list)
-
-pub read-values : (ls : List GroundList) (n : Values) (e : Items) → IsRead ls n.0 e → values_in (list_of ls e) ≡ the_values ls n
-read-values ls n e r = ap values_in (sym r.list)
 
 pub ruleset reading = (no-terms, no-marks, no-values)
 

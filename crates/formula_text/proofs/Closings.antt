@@ -1,6 +1,6 @@
 -- What the open terms are after a further term.
-use Rattle.std.proofs.Common.{◌≡◌, ℕ, ◌+◌, ◌<◌, ◌≤◌, List, [], ◌∷◌, ◌++◌, IsTrue, append_assoc, refl, sym, ◌∙◌, ap, subst, length, drop, arith}
-use Rattle.std.proofs.lemmas.List.{length-append, length-drop}
+use Rattle.std.proofs.Common.{◌≡◌, ℕ, ◌+◌, List, [], ◌∷◌, ◌++◌, IsTrue, append_assoc, refl, sym, ◌∙◌, ap, subst, length, drop}
+use Rattle.std.proofs.lemmas.List.{length-append}
 use Rattle.calculus.specs.Syntax.{Symbol, Term, fun}
 use Rattle.calculus.specs.DerivationText.{IsTermAt, term_is_written, terms_are_written}
 use Rattle.calculus.specs.Lists.{terms_tree}
@@ -67,12 +67,6 @@ open-read S bytes from place end items pushed name args p q e h =
 pub open-written : (S : List Symbol) (items pushed : List Frame) (name : List ℕ) (args : List Term) → args ≡ [] → pushed ≡ items ++ new_frame name args ∷ [] → IsTrue (frames_are_written S items) → IsTrue (frames_are_written S pushed)
 open-written S items pushed name args p q h =
     subst (λ l. IsTrue (frames_are_written S l)) (sym q) (frames-push S items (new_frame name args) h (subst (λ l. IsTrue (terms_are_written S (terms_tree l))) (sym p) refl))
-
-pub open-onward : (bytes name : List ℕ) (place end : ℕ) → place ≤ length bytes → end ≤ length bytes → drop place bytes ≡ name ++ 40 ∷ drop end bytes → place < end
-open-onward bytes name place end h k e = let l = ap length e in omega (arith, l, length-append name (40 ∷ drop end bytes), length-drop place bytes, length-drop end bytes)
-
-pub onward : (bytes t : List ℕ) (place end : ℕ) → place ≤ length bytes → end ≤ length bytes → drop place bytes ≡ t ++ drop end bytes → place ≤ end
-onward bytes t place end h k e = let l = ap length e in omega (arith, l, length-append t (drop end bytes), length-drop place bytes, length-drop end bytes)
 
 pub no_term-at : (S : List Symbol) (bytes : List ℕ) (from : ℕ) → NoTerm S (drop from bytes) → (to : ℕ) (t : Term) → ¬ IsTermAt S bytes from to t
 no_term-at S bytes from none to t h = none t (drop to bytes) h.written h.ends h.stands.there

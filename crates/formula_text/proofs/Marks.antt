@@ -134,9 +134,6 @@ label-on w r = ap (λ l. 91 ∷ l) (append_assoc (join_with_byte 44 (map mark_te
 pub label-inner : (bytes : List ℕ) (from to : ℕ) (w : Label) → drop from bytes ≡ 91 ∷ drop (from + 1) bytes → IsLabelAt bytes from to w → IsInnerAt bytes (from + 1) to w
 label-inner bytes from to w e h = record { written = h.written; stands = cons-tail (sym e ∙ h.stands.there ∙ label-on w (drop to bytes)) }
 
-pub label-first : (bytes : List ℕ) (from to : ℕ) (w : Label) → ((rest : List ℕ) → ¬ (drop from bytes ≡ 91 ∷ rest)) → ¬ IsLabelAt bytes from to w
-label-first bytes from to w wrong h = wrong _ (h.stands.there ∙ label-on w (drop to bytes))
-
 pub label-here : (bytes : List ℕ) (from to : ℕ) (w : Label) → from ≤ length bytes → to ≤ length bytes → drop from bytes ≡ 91 ∷ drop (from + 1) bytes → IsInnerAt bytes (from + 1) to w → Ends (drop to bytes) → IsLabelAt bytes from to w
 label-here bytes from to w h k e inner ends = record { written = inner.written; stands = stands-by bytes (label_text w) from to h k (e ∙ ap (λ l. 91 ∷ l) inner.stands ∙ sym (label-on w (drop to bytes))); ends = ends }
 

@@ -1,8 +1,8 @@
 -- Reading terms into rows, step by step. The laws on frames say what the text of the open terms leaves.
-use Rattle.std.proofs.Common.{◌≡◌, ℕ, ◌+◌, ◌<◌, ◌≤◌, Result, Err, true, List, [], ◌∷◌, ◌++◌, ◌&&◌, IsTrue, length, drop, refl, sym, ◌∙◌, ap, subst, append-nil, append_assoc, set, arith}
+use Rattle.std.proofs.Common.{◌≡◌, ℕ, ◌+◌, ◌<◌, ◌≤◌, Result, Err, true, List, [], ◌∷◌, ◌++◌, IsTrue, length, drop, refl, sym, ◌∙◌, ap, subst, append-nil, append_assoc, set, arith}
 use Rattle.std.proofs.lemmas.Bool.{and_from, false≢true}
-use Rattle.std.proofs.lemmas.List.{length-append, length-drop, set_at}
-use Rattle.calculus.specs.DerivationText.{IsNameAt, IsTermAt, term_is_written, terms_are_written}
+use Rattle.std.proofs.lemmas.List.{length-append, set_at}
+use Rattle.calculus.specs.DerivationText.{IsNameAt, IsTermAt, term_is_written}
 use Rattle.calculus.specs.Lists.{terms_tree}
 use Rattle.calculus.specs.Problems.{are_distinct}
 use Rattle.calculus.specs.Skolem.{has_function}
@@ -14,9 +14,9 @@ use Rattle.formula_text.specs.declared.term_row.RowItem.{RowItem}
 use Rattle.formula_text.specs.declared.term_row.RowItem.TheVariants.{Var, Fun, Eigen, Spare}
 use Rattle.formula_text.specs.RowReading.{AreOpen, IsBegun, IsLeaf, IsOpenAt, IsOpened, IsOpening, IsPut, IsRead, IsRowTo, kept, leaf_of, open_row, open_rows}
 use Rattle.formula_text.specs.declared.term_reader.OpenTerm.{OpenTerm}
-use Rattle.formula_text.proofs.Closings.{further-read, further-written, new_frame, none-at, onward, open-onward, open-read, open-written, out-read, read-at, whole-written, with_args}
+use Rattle.formula_text.proofs.Closings.{further-read, further-written, new_frame, none-at, open-read, open-written, out-read, read-at, whole-written, with_args}
 use Rattle.formula_text.proofs.Frames.{arity-push, frames-pop, function-has, function-text, no_close_end, no_close_function, no_follower, no_head}
-use Rattle.formula_text.proofs.Places.{onward-drop, stands-by}
+use Rattle.formula_text.proofs.Places.{onward-drop}
 use Rattle.formula_text.specs.Frames.{Frame, IsFunction, IsMadeAt, NoFunction, NoTerm, frames_are_written, stack_text}
 
 -- ---- the rows of open terms
@@ -65,10 +65,6 @@ open-pop bytes at (p ∷ os) o (f ∷ fs) h =
       last = moved bytes ((at + length (open_row f)) + length (open_rows k.rest)) (at + length (open_rows (f ∷ k.rest))) o k.frame (behind at (open_row f) (open_rows k.rest)) k.last;
     }
 
-none-open : (bytes : List ℕ) (fs : List Frame) → AreOpen bytes 0 [] fs → fs ≡ []
-none-open bytes [] h = refl
-none-open bytes (f ∷ fs) h = absurd h
-
 -- ---- how a term begins
 
 -- an error that is handed on
@@ -77,9 +73,6 @@ error-again {T} {U} {E} y z e = ap Err (same y z e)
   where
     same : (y z : E) → ◌≡◌ {A = Result U E} (Err y) (Err z) → y ≡ z
     same y z e = cc
-
-pub begun : (S : List Symbol) (bytes : List ℕ) → IsBegun S bytes 0 [] []
-begun S bytes = record { frames = []; stands = tt; row = refl; written = refl; text = refl; within = omega arith }
 
 pub made-leaf : (S : List Symbol) (bytes : List ℕ) (from to : ℕ) (item : RowItem) → IsMadeAt bytes from to (leaf_of item) → to ≤ length bytes → IsLeaf S bytes from to item
 made-leaf S bytes from to (Var k) h within = absurd (false≢true h.made)
@@ -118,25 +111,6 @@ opened S bytes place end os pushed items new h k p =
       text = open-read S bytes 0 place end h.frames (h.frames ++ f ∷ []) k.name [] refl refl h.text (opening-text bytes place end k);
       within = k.within;
     }
-
-pub further-open : (S : List Symbol) (bytes : List ℕ) (place end : ℕ) (os : List OpenTerm) (items : List RowItem) → IsBegun S bytes place os items → IsOpening bytes place end → place < end
-further-open S bytes place end os items h k = open-onward bytes (name_text k.name) place end h.within k.within (opening-text bytes place end k)
-
-pub leaf-read : (S : List Symbol) (bytes : List ℕ) (place end : ℕ) (os : List OpenTerm) (items new : List RowItem) (item : RowItem) → IsBegun S bytes place os items → IsLeaf S bytes place end item → new ≡ items ++ item ∷ [] → IsRead S bytes end os new
-leaf-read S bytes place end os items new item h k p = record {
-  frames = h.frames;
-  term = k.term;
-  stands = h.stands;
-  row = p ∙ (λ i. h.row i ++ sym k.row i);
-  written = h.written;
-  term_written = k.whole.written;
-  text = h.text ∙ ap (λ l. stack_text S h.frames ++ l) k.whole.text;
-  ends = k.whole.ends;
-  within = k.within;
-}
-
-pub leaf-onward : (S : List Symbol) (bytes : List ℕ) (place end : ℕ) (os : List OpenTerm) (items : List RowItem) (item : RowItem) → IsBegun S bytes place os items → IsLeaf S bytes place end item → place ≤ end
-leaf-onward S bytes place end os items item h k = onward bytes (term_text S 0 k.term) place end h.within k.within k.whole.text
 
 -- ---- what a term closes
 
@@ -246,21 +220,6 @@ none-function S d bytes end os o items h e none =
     none-at S (h.rest ++ h.frame ∷ []) (h.rest ++ h.frame ∷ []) h.term (drop end bytes) (41 ∷ drop (end + 1) bytes) bytes refl e (sym h.text)
     (no_close_function S d h.rest h.frame h.term (drop (end + 1) bytes) h.written h.term_written (subst (λ n. NoFunction S h.frame.name (n + 1)) h.last.count none))
 
--- ---- the term of the whole text
-
-pub all-read : (S : List Symbol) (bytes : List ℕ) (end : ℕ) (os : List OpenTerm) (items : List RowItem) → os ≡ [] → IsRead S bytes end os items → IsRowTo S bytes end items
-all-read S bytes end os items e h =
-    let none = none-open bytes h.frames (subst (λ l. AreOpen bytes 0 l h.frames) e h.stands) in record {
-      term = h.term;
-      row = h.row ∙ ap (λ l. open_rows l ++ row_of h.term) none;
-      stands = record {
-        written = h.term_written;
-        stands = stands-by bytes (term_text S 0 h.term) 0 end (omega arith) h.within (h.text ∙ ap (λ l. stack_text S l ++ (term_text S 0 h.term ++ drop end bytes)) none);
-        ends = h.ends;
-      };
-      within = h.within;
-    }
-
 -- ---- a term behind other text
 
 -- what stands at the beginning of the rest stands at its place in the whole
@@ -275,6 +234,3 @@ at-place S bytes rest from end t e h =
 
 pub row-told : (S : List Symbol) (bytes rest : List ℕ) (from end : ℕ) (items : List RowItem) (t : Term) → rest ≡ drop from bytes → (h : IsRowTo S rest end items) → t ≡ h.term → IsTermAt S bytes from (from + end) t
 row-told S bytes rest from end items t e h same = at-place S bytes rest from end t e (subst (λ u. IsTermAt S rest 0 end u) (sym same) h.stands)
-
-pub row-within : (S : List Symbol) (bytes rest : List ℕ) (from end : ℕ) (items : List RowItem) → from ≤ length bytes → rest ≡ drop from bytes → IsRowTo S rest end items → from + end ≤ length bytes
-row-within S bytes rest from end items w e h = let l = ap length e in let k = h.within in omega (arith, l, k, length-drop from bytes)

@@ -87,9 +87,6 @@ item-of S whole out counts y rest args left h k args_known arity text rows = rec
   next = λ new e. record { args = args; left = left; are_left = h; known = args_known; takes = arity; text = onward out new (item_text S y) (args_text S 0 args ++ left_text S left) whole e text; rows = rows };
 }
 
-leaf-text : (out s rest whole : List ℕ) → out ++ (s ++ rest) ≡ whole → out ++ (s ++ ([] ++ rest)) ≡ whole
-leaf-text out s rest whole h = h
-
 before-item : (S : List Symbol) (whole out counts : List ℕ) (x : RowItem) (rest : List RowItem) (t : Term) (left : List Terms) → AreLeft S counts left → IsTrue (term_is_known S t) → out ++ (term_text S 0 t ++ left_text S left) ≡ whole → x ∷ rest ≡ row_of t ++ left_rows left → ItemIn S whole out counts x rest
 before-item S whole out counts x rest (var k) left h known text rows =
     let zero_text : term_text S 0 (var k) ≡ item_text S (Var k) = ap (λ n. 88 ∷ decimal n) (let none : 0 - k ≡ 0 = omega arith in none) ∙ ap (λ l. 88 ∷ l) (decimal_digit 0 (omega arith)) in
@@ -125,16 +122,6 @@ all-written S whole out counts items i le (inl h) = absurd (none h.term (left_ro
     none (fun f ts) ys e = cc
     none (eigen n) ys e = cc
     none (spare n) ys e = cc
-
-pub first-before : (S : List Symbol) (out : List ℕ) (items : List RowItem) (t : Term) (counts : List ℕ) → IsTrue (term_is_known S t) → items ≡ row_of t → counts ≡ [] → IsWriting S (out ++ term_text S 0 t) out counts (drop 0 items)
-first-before S out items t counts k e f = inl (record {
-  term = t;
-  left = [];
-  are_left = record { by_count = f; known = refl };
-  known = k;
-  text = ap (λ l. out ++ l) (append-nil (term_text S 0 t));
-  rows = e ∙ sym (append-nil (row_of t));
-})
 
 -- ---- between two names
 

@@ -1,5 +1,5 @@
 -- Terms that are taken from the end of a stack and put there.
-use Rattle.std.proofs.Common.{◌≡◌, ℕ, zero, suc, List, [], ◌∷◌, ◌++◌, take, drop, get_or, map, reverse, refl, sym, ◌∙◌, ap, append-nil, append_assoc}
+use Rattle.std.proofs.Common.{◌≡◌, ℕ, List, [], ◌∷◌, ◌++◌, take, drop, get_or, map, reverse, sym, ◌∙◌, ap, append-nil}
 use Rattle.std.proofs.lemmas.List.{map-append, reverse-append}
 use Rattle.calculus.specs.Syntax as tree
 use Rattle.formula_core.specs.TermView.{the_term}
@@ -16,29 +16,6 @@ standing-push xs t = ap reverse (map-append the_term xs (t ∷ [])) ∙ reverse-
 pub record IsTaking (args : List tree.Term) (left : ℕ) (stack : List Term) (taken stays : List tree.Term) : Type 0 where
   pub taken_is : args ++ take left (standing stack) ≡ taken
   pub stays_is : drop left (standing stack) ≡ stays
-
-pub taking-one : (args more : List tree.Term) (left next : ℕ) (stack rest : List Term) (t : Term) (taken stays : List tree.Term) → left ≡ suc next → stack ≡ rest ++ t ∷ [] → more ≡ args ++ the_term t ∷ []
-    → IsTaking args left stack taken stays → IsTaking more next rest taken stays
-taking-one args more left next stack rest t taken stays e f g h =
-    let s : standing stack ≡ the_term t ∷ standing rest = ap standing f ∙ standing-push rest t in
-    record {
-      taken_is = ap (λ l. l ++ take next (standing rest)) g ∙ append_assoc args (the_term t ∷ []) (take next (standing rest)) ∙ (λ i. args ++ take (sym e i) (sym s i)) ∙ h.taken_is;
-      stays_is = (λ i. drop (sym e i) (sym s i)) ∙ h.stays_is;
-    }
-
-pub taking-none : (args : List tree.Term) (left next : ℕ) (stack rest : List Term) (taken stays : List tree.Term) → stack ≡ [] → rest ≡ [] → IsTaking args left stack taken stays → IsTaking args next rest taken stays
-taking-none args left next stack rest taken stays f g h = record {
-  taken_is = (λ i. args ++ take next (standing (g i))) ∙ ap (λ l. args ++ l) (take-nil next ∙ sym (take-nil left)) ∙ (λ i. args ++ take left (standing (sym f i))) ∙ h.taken_is;
-  stays_is = (λ i. drop next (standing (g i))) ∙ drop-nil next ∙ sym (drop-nil left) ∙ (λ i. drop left (standing (sym f i))) ∙ h.stays_is;
-}
-  where
-    take-nil : (n : ℕ) → take n (standing []) ≡ []
-    take-nil zero = refl
-    take-nil (suc n) = refl
-
-    drop-nil : (n : ℕ) → drop n (standing []) ≡ []
-    drop-nil zero = refl
-    drop-nil (suc n) = refl
 
 -- what a stack holds in the end
 pub term-standing : (stack rest : List Term) (t : Term) (items : List RowItem) (u : tree.Term) → stack ≡ rest ++ t ∷ [] → standing stack ≡ terms_in items → items ≡ row_of u → the_term t ≡ u

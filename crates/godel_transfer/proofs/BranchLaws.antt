@@ -1,5 +1,5 @@
 -- The entries of a branch by their numbers, which are counted from 1.
-use Rattle.std.proofs.Common.{◌≡◌, ℕ, zero, suc, ◌+◌, ◌-◌, ◌<◌, ◌≤◌, List, [], ◌∷◌, length, get_or, map, Option, None, Some, slice_get, refl, sym, ◌∙◌, ap, subst, arith}
+use Rattle.std.proofs.Common.{◌≡◌, ℕ, zero, suc, ◌-◌, ◌<◌, ◌≤◌, List, [], ◌∷◌, length, get_or, map, Some, slice_get, refl, sym, ◌∙◌, ap, subst, arith}
 use Rattle.std.specs.Option.{option_map}
 use Rattle.std.proofs.lemmas.Option.{slice_get-map, slice_get_read}
 use Rattle.calculus.specs.Calculus.{entry_of}
@@ -34,11 +34,3 @@ place-at xs n x pos lt e = let at : n ≡ suc (n - 1) = omega arith in item-at x
 
 pub place-past : (xs : List Entry) (n : ℕ) → 0 < n → length xs ≤ n - 1 → 0 ≡ place_of (map (λ (y : Entry). y.place) xs) n
 place-past xs n pos le = let at : n ≡ suc (n - 1) = omega arith in item-none xs (n - 1) le ∙ sym (ap (place_of (map (λ (y : Entry). y.place) xs)) at)
-
-entry-none : (labels : List derivation.Label) (xs : List Entry) (k : ℕ) → length xs ≤ k → None ≡ slice_get (map (the_entry labels) xs) k
-entry-none labels [] k le = refl
-entry-none labels (y ∷ xs) zero le = absurd (omega arith)
-entry-none labels (y ∷ xs) (suc k) le = entry-none labels xs k (omega arith)
-
-pub entry-past : (labels : List derivation.Label) (xs : List Entry) (n : ℕ) → 0 < n → length xs ≤ n - 1 → None ≡ entry_of (map (the_entry labels) xs) n
-entry-past labels xs n pos le = let at : n ≡ suc (n - 1) = omega arith in entry-none labels xs (n - 1) le ∙ sym (ap (entry_of (map (the_entry labels) xs)) at)

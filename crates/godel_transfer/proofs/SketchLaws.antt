@@ -448,12 +448,6 @@ entry-map : (f : Entry → Entry) (s : Sequent) (n : ℕ) → entry_of (map f s)
 entry-map f s zero = refl
 entry-map f s (suc j) = slice_get-map f s j
 
-append-sketches : (names : Names) (bs ks cs ds : List OpenBranch) → AreSketches names bs ks → AreSketches names cs ds → AreSketches names (bs ++ cs) (ks ++ ds)
-append-sketches names [] [] cs ds h g = g
-append-sketches names [] (k ∷ ks) cs ds h g = absurd h
-append-sketches names (b ∷ bs) [] cs ds h g = absurd h
-append-sketches names (b ∷ bs) (k ∷ ks) cs ds h g = (h.0, append-sketches names bs ks cs ds h.1 g)
-
 module _ (phi : Formula) (symbols : List Symbol) (names : Names) where
   -- what a step comes to
   record Stepped (b k : OpenBranch) (i : ℕ) (x : Step) : Type 0 where

@@ -5,8 +5,6 @@ use Rattle.std.specs.Option.{option_map_or}
 use Rattle.std.proofs.lemmas.Bool.{false≢true, cases_Bool, not-true, not_from_false}
 use Rattle.calculus.specs.declared.setting.Logic.TheVariants.{Intuitionistic, S4}
 use Rattle.calculus.specs.declared.setting.Domains.TheVariants.{Cumulative}
-use Rattle.calculus.specs.declared.kind.Shape.{Shape}
-use Rattle.calculus.specs.declared.kind.Shape.TheVariants.{Gamma, Delta}
 use Rattle.calculus.specs.declared.kind.ModalPart.{ModalPart}
 use Rattle.calculus.specs.declared.kind.ModalPart.TheVariants.{Plain, Nu, Pi}
 use Rattle.calculus.specs.Syntax.{Symbol, eigen, Formula, atom, neg, conj, disj, imp, all, ex, box, dia, setting_of, Problem}
@@ -15,7 +13,7 @@ use Rattle.calculus.specs.Kinds.{Signed, signed}
 use Rattle.calculus.specs.Labels.{is_prefix, home_allows}
 use Rattle.calculus.specs.Substitution.{instance, any_leaf, any_leaf_in}
 use Rattle.calculus.specs.Derivations.{new_mark, Label, character_eq, Entry, Sequent, EigenName, Names, ModalArg, no_modal, to, by_new, TermArg, no_term, by_term, by_name}
-use Rattle.calculus.specs.Calculus.{Children, eigen_named, holds_character, is_eigen, is_unknown, modal_fits, term_fits, is_known, label_after, is_reachable, character_is_new, eigen_is_new, home_is, is_forbidden, term_allowed, entry_at, with_argument, Condition, first_fault}
+use Rattle.calculus.specs.Calculus.{Children, eigen_named, holds_character, is_eigen, is_unknown, modal_fits, is_known, label_after, is_reachable, character_is_new, eigen_is_new, home_is, is_forbidden, term_allowed, entry_at, with_argument, Condition, first_fault}
 use Rattle.calculus.specs.Translation.{translation_of, translated_problem}
 use Rattle.godel_transfer.specs.Transfer.{CharacterImage, EigenImage, mark_image, label_image, eigen_image, term_image, formula_image, OpenBranch, numbers_for, modal_image, argument_image, new_character, characters_after, eigens_after, names_with}
 use Rattle.calculus.proofs.EqualityLaws.{list_eq-tells, character_eq-tells}
@@ -38,12 +36,6 @@ fits-image Plain b no_modal h = refl
 fits-image Nu b (to v) h = refl
 fits-image Pi b (by_new n) h = refl
 fits-image q b m h = absurd (false≢true h)
-
-pub term-fits-image : (h : Shape) (b : OpenBranch) (i : ℕ) (t : TermArg) → term_fits h t ≡ true → term_fits h (argument_image b i t) ≡ true
-term-fits-image h b i no_term g = g
-term-fits-image Gamma b i (by_term t) g = refl
-term-fits-image Delta b i (by_name n) g = refl
-term-fits-image h b i t g = absurd (false≢true g)
 
 pub reachable-image : (b : OpenBranch) (w : Label) (m : ModalArg) → is_reachable Intuitionistic w m ≡ true → is_reachable S4 (label_image b.characters w) (modal_image b m) ≡ true
 reachable-image b w no_modal h = refl

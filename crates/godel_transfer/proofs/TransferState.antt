@@ -173,10 +173,6 @@ new-eigen names i c (e ∷ s) h = rw (leaves-in (is_late names i c) (is_eigen i)
 
 -- ---- entries
 
-abbrev GetsIn : {A : Type 0} → Option A → A → Type 0
-GetsIn None x = ⊥
-GetsIn (Some y) x = y ≡ x
-
 pub entry-left : (s t : Sequent) (p : ℕ) (e : Entry) → entry_of s p ≡ Some e → entry_of (s ++ t) p ≡ Some e
 entry-left s t zero e h = cc
 entry-left [] t (suc k) e h = cc

@@ -9,14 +9,12 @@ use Rattle.calculus.specs.Syntax.{arity_of, Symbol, Term, Terms, var, fun, eigen
 use Rattle.calculus.specs.Skolem.{has_function}
 use Rattle.calculus.specs.Kinds.{components}
 use Rattle.calculus.specs.Derivations.{Mark, new_mark, Label, character_eq, Entry, Sequent, EigenName, Names, ModalArg, no_modal, to, by_new, TermArg, no_term, by_term, by_name, Step, apply_to, close, Derivation}
-use Rattle.calculus.specs.Calculus.{Children, closed, one, two, label_after, entry_of, apply, Derives}
+use Rattle.calculus.specs.Calculus.{Children, closed, one, two, label_after, entry_of, apply}
 use Rattle.calculus.specs.Text.{is_number}
-use Rattle.calculus.specs.DerivationText.{is_name_number, mark_is_written, label_is_written, term_is_written, terms_are_written, modal_is_written, term_arg_is_written, step_is_written, names_are_written, is_limit, is_printable, derivation_text}
-use Rattle.calculus.specs.Judgement.{accepted, IsJudgement}
-use Rattle.calculus.specs.Problems.{is_problem}
+use Rattle.calculus.specs.DerivationText.{is_name_number, mark_is_written, label_is_written, term_is_written, terms_are_written, modal_is_written, term_arg_is_written, step_is_written, names_are_written, is_limit, is_printable}
 use Rattle.calculus.specs.Translation.{translated_problem}
 use Rattle.godel_transfer.specs.Transfer.{CharacterImage, EigenImage, mark_image, label_image, eigen_image, term_image, terms_image, OpenBranch, first_branch, item_or_0, place_of, numbers_for, modal_image, argument_image, new_character, characters_after, eigens_after, use_steps, axiom_steps, places_added, count_after, branch_after, branches_by, steps_at, axiom_at, steps_for, names_at, names_for, branches_at, branches_for, steps_from, names_from, names_with, transferred}
-use Rattle.godel_transfer.proofs.TransferLaws.{names-rise, transfer-derives}
+use Rattle.godel_transfer.proofs.TransferLaws.{names-rise}
 
 all-append : {A : Type 0} (p : A → Bool) (xs ys : List A) → list_all p xs ≡ true → list_all p ys ≡ true → list_all p (xs ++ ys) ≡ true
 all-append p [] ys h g = g
@@ -293,11 +291,3 @@ transfer-printable P d h few =
     let E = names_from P d.names (b ∷ []) 1 d.steps in
     let names : names_are_written (names_with E) ≡ true = rw (names-rise P d.names (b ∷ []) 0 1 d.steps (omega arith)) (rw all.1 refl) in
     and_from (is_limit d.limit && names_are_written (names_with E)) (list_all (step_is_written P.symbols) (steps_from P d.names (b ∷ []) 1 d.steps)) (and_from (is_limit d.limit) (names_are_written (names_with E)) limit.0 names) all.0
-
--- so the text of what it makes is accepted for the translated problem
-pub transfer-accepted : (P : Problem) (d : Derivation) → IsTrue (is_problem P) → P.setting.logic ≡ Intuitionistic → IsTrue (is_printable P d) → 3 * length d.steps + 1 < 2 ^ 32 → Derives P d → IsJudgement (translated_problem P) (derivation_text (translated_problem P) (transferred P d)) accepted
-transfer-accepted P d is logic printable few derives = record {
-  derivation = transferred P d;
-  text = record { printable = transfer-printable P d printable few; text = refl };
-  derives = transfer-derives P d is logic derives;
-}

@@ -1,5 +1,5 @@
 -- How large the translation of a formula is.
-use Rattle.std.proofs.Common.{◌≡◌, suc, ◌+◌, ◌*◌, ◌≤◌, max, refl, ap, arith}
+use Rattle.std.proofs.Common.{◌≡◌, suc, ◌+◌, max, refl, ap, arith}
 use Rattle.calculus.specs.Syntax.{Formula, atom, neg, conj, disj, imp, all, ex, box, dia}
 use Rattle.calculus.specs.Measures.{node_count, nesting}
 use Rattle.calculus.specs.Translation.{translation_of}
@@ -27,26 +27,3 @@ translation-nesting (all a) = ap (λ n. suc (suc n)) (translation-nesting a)
 translation-nesting (ex a) = ap (λ n. suc n) (translation-nesting a)
 translation-nesting (box a) = ap (λ n. suc n) (translation-nesting a)
 translation-nesting (dia a) = ap (λ n. suc n) (translation-nesting a)
-
--- at most twice as many nodes, and at most twice the nesting
-pub nodes-double : (a : Formula) → node_count (translation_of a) ≤ 2 * node_count a
-nodes-double (atom p ts) = omega arith
-nodes-double (neg a) = let e = nodes-double a in omega arith
-nodes-double (conj a b) = let e = nodes-double a in let f = nodes-double b in omega arith
-nodes-double (disj a b) = let e = nodes-double a in let f = nodes-double b in omega arith
-nodes-double (imp a b) = let e = nodes-double a in let f = nodes-double b in omega arith
-nodes-double (all a) = let e = nodes-double a in omega arith
-nodes-double (ex a) = let e = nodes-double a in omega arith
-nodes-double (box a) = let e = nodes-double a in omega arith
-nodes-double (dia a) = let e = nodes-double a in omega arith
-
-pub nesting-double : (a : Formula) → nesting (translation_of a) ≤ 2 * nesting a
-nesting-double (atom p ts) = omega arith
-nesting-double (neg a) = let e = nesting-double a in omega arith
-nesting-double (conj a b) = let e = nesting-double a in let f = nesting-double b in grind arith
-nesting-double (disj a b) = let e = nesting-double a in let f = nesting-double b in grind arith
-nesting-double (imp a b) = let e = nesting-double a in let f = nesting-double b in grind arith
-nesting-double (all a) = let e = nesting-double a in omega arith
-nesting-double (ex a) = let e = nesting-double a in omega arith
-nesting-double (box a) = let e = nesting-double a in omega arith
-nesting-double (dia a) = let e = nesting-double a in omega arith

@@ -1,12 +1,11 @@
 -- Tables of lists by their links, and tables that grow.
-use Rattle.std.proofs.Common.{◌≡◌, ℕ, zero, suc, ◌+◌, ◌-◌, ◌<◌, ◌≤◌, List, [], ◌∷◌, ◌++◌, length, get_or, map, drop, take, sym, ◌∙◌, ap, subst, arith}
-use Rattle.std.proofs.lemmas.List.{length-append, length-map, map_push, get_or-map, append-nil, append_assoc, drop_more, drop_all, get_or_append_left, get_or_push}
+use Rattle.std.proofs.Common.{◌≡◌, ℕ, suc, ◌+◌, ◌-◌, ◌<◌, ◌≤◌, List, [], ◌∷◌, ◌++◌, length, get_or, map, drop, take, sym, ◌∙◌, ap, subst, arith}
+use Rattle.std.proofs.lemmas.List.{length-append, length-map, map_push, get_or-map, append-nil, append_assoc, drop_all, get_or_append_left, get_or_push}
 use Rattle.std.proofs.Math.Seq.{take-append_seam}
 use Rattle.calculus.specs.Derivations as derivation
-use Rattle.calculus.specs.Derivations.{character_eq}
 use Rattle.logic_rules.specs.declared.label.Mark.{Mark}
 use Rattle.logic_rules.specs.MarkView.{the_character}
-use Rattle.label_table.specs.Chains.{with_link, chains_from, chains, AreBackward}
+use Rattle.label_table.specs.Chains.{chains, AreBackward}
 use Rattle.label_table.specs.Longer.{IsLonger}
 use Rattle.label_table.proofs.ChainLaws.{chains-at, chains-first, chains-push, chains-length, backward-at, backward-push}
 
@@ -85,12 +84,6 @@ longer-at {A} xs ys k d h lt = ap (λ l. get_or l k d) h.1 ∙ get_or_append_lef
 -- a label that is read from the front
 pub root-read : (front : derivation.Label) (marks : List Mark) (w : derivation.Label) → front ≡ [] → map the_character marks ≡ w → front ++ map the_character marks ≡ w
 root-read front marks w e f = ap (λ l. l ++ map the_character marks) e ∙ f
-
-pub mark-read : (front after : derivation.Label) (marks : List Mark) (i : ℕ) (x d : Mark) (w : derivation.Label) → i < length marks → x ≡ get_or marks i d → after ≡ front ++ the_character x ∷ [] → front ++ map the_character (drop i marks) ≡ w → after ++ map the_character (drop (i + 1) marks) ≡ w
-mark-read front after marks i x d w lt at grown same =
-    let rest : drop i marks ≡ x ∷ drop (i + 1) marks = drop_more marks i d lt ∙ ap (λ y. y ∷ drop (i + 1) marks) (sym at) in
-    ap (λ l. l ++ map the_character (drop (i + 1) marks)) grown ∙ append_assoc front (the_character x ∷ []) (map the_character (drop (i + 1) marks))
-    ∙ ap (λ l. front ++ map the_character l) (sym rest) ∙ same
 
 pub marks-read : (front : derivation.Label) (marks : List Mark) (i : ℕ) (w : derivation.Label) → length marks ≤ i → front ++ map the_character (drop i marks) ≡ w → front ≡ w
 marks-read front marks i w le same = sym (append-nil front) ∙ ap (λ l. front ++ map the_character l) (sym (drop_all i marks le)) ∙ same

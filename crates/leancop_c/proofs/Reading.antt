@@ -1,9 +1,8 @@
 -- What is read of a text, and what is told of it.
-use Rattle.std.proofs.Common.{◌≡◌, List, ℕ, [], Option, Some, None, Result, Ok, Err, inl, inr, ◌∙◌, ap, refl, sym, subst, arith}
+use Rattle.std.proofs.Common.{◌≡◌, List, ℕ, [], Option, Some, None, Result, Ok, Err, ◌∙◌, ap, refl, sym, subst}
 use Rattle.std.specs.Prelude.{IfSome, length}
 use Rattle.calculus.specs.Syntax.{Problem, Setting}
-use Rattle.calculus.specs.Text.{formula_text}
-use Rattle.cop_base.specs.Outside.{Files, Rose}
+use Rattle.cop_base.specs.Outside.{Files}
 use Rattle.problem_build.specs.Answers.{refused as refused_by}
 use Rattle.problem_build.specs.Building.{IsProblemOf}
 use Rattle.problem_build.specs.Refusals.{Refusal}
@@ -12,11 +11,6 @@ use Rattle.leancop_c.specs.Told.{Holds, alone, placed, unread_status, unread_tol
 use Rattle.leancop_c.specs.Told.{IsTold, accepted, rejected, refused, no_memory}
 use Rattle.leancop_c.specs.Told.{IsCanonical, IsWritten, unread, without_memory, written}
 use Rattle.leancop_c.specs.declared.LeancopJudgement.{LeancopJudgement}
-
--- a count that is always 0 does not rise
-pub never_rose : ¬ Rose 0 0
-never_rose (inl h) = absurd (omega (arith, h))
-never_rose (inr e) = absurd (omega (arith, e))
 
 -- names that are empty, and the files that are the text's
 moved : (F : Files → List ℕ → List ℕ → Type 0) (f g : Files) (name root : List ℕ) → f ≡ g → name ≡ [] → root ≡ [] → F f name root → F g [] []
@@ -36,22 +30,12 @@ held-in (Some r) files name root s reading only k l = λ text e.
     let both = moved (Only s r) files (alone text) name root e k l (reading, only) in
     record { setting = s; is_asked = refl; reading = both.0; only = both.1 }
 
-pub of-text : (answer : Option (Result Problem Refusal)) (files : Files) (text : List ℕ) (s : Setting)
-    → IfSome answer (λ r. (t : List ℕ) → files ≡ alone t → Holds (Some s) t r) → files ≡ alone text
-    → IfSome answer (λ r. Holds (Some s) text r)
-of-text None files text s h e = tt
-of-text (Some r) files text s h e = h text e
-
 -- ---- what is told
 
 pub judged-told : (s : Setting) (p d : List ℕ) (P : Problem) (j : LeancopJudgement) → Holds (Some s) p (Ok P) → IsJudged P d j → IsTold (Some s) p d j
 judged-told s p d P _ held (is_accepted only valid) = accepted (record { told = P; held = held; judged = only; valid = valid })
 judged-told s p d P _ held (is_rejected line fault only) = rejected line fault (record { told = P; held = held; judged = only })
 judged-told s p d P _ held is_lost = no_memory s refl
-
-pub refusal-held : (o : Option Refusal) (s : Setting) (p : List ℕ) → IfSome (refused_by o) (λ r. Holds (Some s) p r) → IfSome o (λ r. Holds (Some s) p (Err r))
-refusal-held None s p h = tt
-refusal-held (Some r) s p h = h
 
 pub unread-is_told : (o : Option Refusal) (s : Setting) (p d : List ℕ) → IfSome (refused_by o) (λ r. Holds (Some s) p r) → IsTold (Some s) p d (unread_told o)
 unread-is_told None s p d h = no_memory s refl
@@ -72,6 +56,3 @@ pub is_placed : (a : Option Setting) (p room text slice after : List ℕ) (size 
 is_placed a p room text slice after size h e k l =
     subst (λ n. IsWritten a p room 0 after n) (sym l)
     (subst (λ x. IsWritten a p room 0 x (length text)) (sym (k ∙ ap (placed room) e)) (written text h))
-
-pub canonical : (s : Setting) (p text : List ℕ) (P : Problem) → Holds (Some s) p (Ok P) → text ≡ formula_text P.symbols 0 P.formula → IsCanonical (Some s) p text
-canonical s p text P h e = record { told = P; held = h; text_is = e }

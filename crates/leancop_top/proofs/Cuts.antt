@@ -25,15 +25,9 @@ use Rattle.leancop_top.specs.declared.status.Status.{Status}
 same-greatest : (o : Option ℕ) (l k : ℕ) → o ≡ Some l → o ≡ Some k → k ≡ l
 same-greatest o l k e f = cc
 
-not-asked : (o : Option ℕ) (l : ℕ) → o ≡ None → o ≡ Some l → ⊥
-not-asked o l e f = absurd (cc)
-
 pub none-if : {A : Type 0} (o : Option A) → ((a : A) → o ≡ Some a → ⊥) → o ≡ None
 none-if None h = refl
 none-if (Some a) h = absurd (h a refl)
-
-pub missed-unasked : (P : Problem) (b : Bounds) → b.cut ≡ None → IsCutMissed P b
-missed-unasked P b none = λ e c. absurd (not-asked b.cut c.greatest none c.asked)
 
 -- a limit that could be the answer is up to the greatest one that is searched
 searched : (P : Problem) (b : Bounds) (l m e : ℕ) → b.cut ≡ Some l → m ≡ min l b.limit → IsLeastCut P b e → e ≤ m

@@ -1,12 +1,8 @@
 -- Bytes that are put piece by piece.
-use Rattle.std.proofs.Common.{◌≡◌, ◌≤◌, ℕ, List, [], ◌∷◌, ◌++◌, length, take, drop, Option, Some, None, Result, Ok, Err, OnOk, OnErr, refl, sym, ◌∙◌, ap, subst, append_assoc, append-nil, arith}
+use Rattle.std.proofs.Common.{◌≡◌, ◌≤◌, ℕ, List, ◌∷◌, ◌++◌, length, take, drop, Option, Some, None, Result, Ok, Err, OnOk, OnErr, refl, sym, ◌∙◌, ap, subst, append_assoc, arith}
 use Rattle.std.proofs.lemmas.List.{length-take, take-append-drop}
 use Rattle.std.proofs.Math.Seq.{take-append_seam}
 use Rattle.cop_sink.specs.Output.{AreFull, WentOutInPieces, with_bytes}
-
-with_bytes-nil : (told : Option (List ℕ)) → told ≡ with_bytes told []
-with_bytes-nil None = refl
-with_bytes-nil (Some w) = ap Some (sym (append-nil w))
 
 with_bytes-append : (told : Option (List ℕ)) (xs ys : List ℕ) → with_bytes (with_bytes told xs) ys ≡ with_bytes told (xs ++ ys)
 with_bytes-append None xs ys = refl
@@ -18,18 +14,12 @@ pub record IsPut (start now : Option (List ℕ)) (bytes rest : List ℕ) : Type 
   pub whole : bytes ≡ front ++ rest
   pub written : now ≡ with_bytes start front
 
-pub put_none : (start : Option (List ℕ)) (bytes : List ℕ) → IsPut start start bytes bytes
-put_none start bytes = record { front = []; whole = refl; written = with_bytes-nil start }
-
 pub put_piece : (start now after : Option (List ℕ)) (bytes rest piece others : List ℕ) → IsPut start now bytes rest → rest ≡ piece ++ others → after ≡ with_bytes now piece → IsPut start after bytes others
 put_piece start now after bytes rest piece others p e w = record {
   front = p.front ++ piece;
   whole = p.whole ∙ ap (λ l. p.front ++ l) e ∙ sym (append_assoc p.front piece others);
   written = w ∙ ap (λ o. with_bytes o piece) p.written ∙ with_bytes-append start p.front piece;
 }
-
-pub put_last : (start now after : Option (List ℕ)) (bytes rest : List ℕ) → IsPut start now bytes rest → after ≡ with_bytes now rest → after ≡ with_bytes start bytes
-put_last start now after bytes rest p w = w ∙ ap (λ o. with_bytes o rest) p.written ∙ with_bytes-append start p.front rest ∙ ap (with_bytes start) (sym p.whole)
 
 take_front : (bytes front back : List ℕ) → bytes ≡ front ++ back → take (length front) bytes ≡ front
 take_front bytes front back e = ap (take (length front)) e ∙ take-append_seam front back
@@ -56,12 +46,6 @@ pub record IsOutInFull (before after : List (List ℕ)) : Type 0 where
   pub pieces : List (List ℕ)
   pub went_out : after ≡ pieces ++ before
   pub are_full : AreFull 4096 pieces
-
-pub none-out : (before : List (List ℕ)) → IsOutInFull before before
-none-out before = record { pieces = []; went_out = refl; are_full = tt }
-
-pub nothing-out : (before : List (List ℕ)) → WentOutInPieces 4096 before before
-nothing-out before = record { pieces = []; went_out = refl; are_pieces = tt }
 
 pub full-out : (before now after : List (List ℕ)) (piece : List ℕ) → IsOutInFull before now → length piece ≡ 4096 → after ≡ piece ∷ now → IsOutInFull before after
 full-out before now after piece p few e = record {

@@ -1,13 +1,12 @@
 -- Why reading a problem ends, and why a second file is not fetched.
-use Rattle.std.proofs.Common.{◌≡◌, List, ℕ, Option, Some, None, Result, Ok, Err, ap, refl, subst}
+use Rattle.std.proofs.Common.{◌≡◌, List, ℕ, Option, Some, None, Result, Ok, Err, refl, subst}
 use Rattle.std.specs.Prelude.{IfSome}
 use Rattle.calculus.specs.Syntax.{Problem}
 use Rattle.command_line.specs.CommandLine.{ProblemFile}
 use Rattle.command_line.specs.Table.{Word}
 use Rattle.cop_base.proofs.ReadLaws.{of-told}
-use Rattle.cop_base.specs.Outside.{Files, Rose, file_in}
-use Rattle.cop_base.specs.Reads as seen
-use Rattle.cop_base.specs.Reads.{AgreesSince, EndsWith, Read, ReadsOn}
+use Rattle.cop_base.specs.Outside.{Files, file_in}
+use Rattle.cop_base.specs.Reads.{AgreesSince, Read, ReadsOn}
 use Rattle.problem_build.specs.Answers.{the_answer}
 use Rattle.problem_build.specs.Building.{WalkFetches}
 use Rattle.problem_build.specs.Refusals.{Refusal, missing, input_too_large, nesting_too_deep, formula_too_large, too_many_symbols, bad}
@@ -17,9 +16,8 @@ use Rattle.leancop_top.specs.FaultView.{status_of}
 use Rattle.leancop_top.specs.Reading.{IsRead, Reading, ReadingEnds, refused, refusal_status, unread}
 use Rattle.leancop_top.specs.SecondFile.{FetchEnds, HasBytes}
 use Rattle.leancop_top.specs.SecondFile as second
-use Rattle.leancop_top.specs.Statuses.{IsCounted}
 use Rattle.leancop_top.specs.declared.status.Status.{Status}
-use Rattle.leancop_top.specs.declared.status.Status.TheVariants.{Missing, ReadFault, BadProblem}
+use Rattle.leancop_top.specs.declared.status.Status.TheVariants.{Missing, ReadFault}
 use Rattle.leancop_top.specs.declared.status.Status.TheVariants.{InputTooLarge, NestingTooDeep}
 use Rattle.leancop_top.specs.declared.status.Status.TheVariants.{FormulaTooLarge, TooManySymbols}
 
@@ -87,21 +85,6 @@ refused_as told old new p name root fault s e k w same h only f =
     (of-told told old new (IsAnswer (named name root p) (Err fault)) w h)
     (of-told told old new (IsOnlyAnswer (named name root p) (Err fault)) w only)
     (λ n q. of-told told old new (λ files. WalkFetches files name root p.setting n) w (f n q)))
-
--- ---- counts
-
-counted-failed : (m n f g : ℕ) (after : List Read) (fault : BuildFault) (s : Status) → status_of fault ≡ Some s → ((name : List ℕ) → fault ≡ build.Missing name → Rose m n × EndsWith after name seen.absent) → ((name : List ℕ) → fault ≡ build.Failed name → Rose f g × EndsWith after name seen.failed) → IsCounted m n f g after s
-counted-failed m n f g after (build.Missing name) s e h k = subst (IsCounted m n f g after) (same-status (Missing name) s e) (h name refl)
-counted-failed m n f g after (build.Failed name) s e h k = subst (IsCounted m n f g after) (same-status (ReadFault name) s e) (k name refl)
-counted-failed m n f g after build.InputTooLarge s e h k = subst (IsCounted m n f g after) (same-status InputTooLarge s e) tt
-counted-failed m n f g after build.NestingTooDeep s e h k = subst (IsCounted m n f g after) (same-status NestingTooDeep s e) tt
-counted-failed m n f g after build.FormulaTooLarge s e h k = subst (IsCounted m n f g after) (same-status FormulaTooLarge s e) tt
-counted-failed m n f g after build.TooManySymbols s e h k = subst (IsCounted m n f g after) (same-status TooManySymbols s e) tt
-counted-failed m n f g after (build.Bad file offset cause) s e h k = subst (IsCounted m n f g after) (same-status (BadProblem file offset cause) s e) tt
-counted-failed m n f g after build.NoMemory s e h k = absurd (no-status s e)
-
-pub refused-counted : (m n f g : ℕ) (after : List Read) (fault : BuildFault) (s : Status) → status_of fault ≡ Some s → ((name : List ℕ) → err fault ≡ Err (build.Missing name) → Rose m n) → ((name : List ℕ) → err fault ≡ Err (build.Missing name) → EndsWith after name seen.absent) → ((name : List ℕ) → err fault ≡ Err (build.Failed name) → Rose f g) → ((name : List ℕ) → err fault ≡ Err (build.Failed name) → EndsWith after name seen.failed) → IsCounted m n f g after s
-refused-counted m n f g after fault s e h h' k k' = counted-failed m n f g after fault s e (λ name q. (h name (ap err q), h' name (ap err q))) (λ name q. (k name (ap err q), k' name (ap err q)))
 
 -- ---- a second file
 

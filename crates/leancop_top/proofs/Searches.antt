@@ -1,22 +1,19 @@
 -- What deepening answers is what ends the search.
-use Rattle.std.proofs.Common.{◌≡◌, ℕ, ◌≤◌, IsTrue, refl, subst, sym, arith, nat_le}
-use Rattle.std.proofs.lemmas.Bool.{and_from, le-leb}
+use Rattle.std.proofs.Common.{◌≡◌, ℕ, IsTrue, refl, subst, sym}
 use Rattle.calculus.specs.Problems.{is_problem}
 use Rattle.calculus.specs.Syntax.{Problem}
-use Rattle.calculus.specs.declared.limits.TheConstants.{MAX_PATH_LIMIT}
 use Rattle.calculus.specs.Counting.{MoreThan}
-use Rattle.calculus.specs.DerivationText.{is_limit}
 use Rattle.calculus.specs.Space.{Answer, IsAnswer, ComesNoLater, member_cmp}
 use Rattle.calculus.proofs.AnswerLaws.{answer-unique}
 use Rattle.connection_search.specs.Outcomes.{IsDeepAnswer}
 use Rattle.connection_search.specs.declared.deepening.Answer.TheVariants as deep
 use Rattle.matrix_build.specs.Fits.{FitsMatrix}
-use Rattle.calculus.specs.Tableaux.{HasClosed, Tableau}
+use Rattle.calculus.specs.Tableaux.{HasClosed}
 use Rattle.tableau_core.specs.Numbered.TableauView.{the_tableau}
 use Rattle.leancop_top.proofs.LimitLaws.{none_below, none_within}
 use Rattle.leancop_top.proofs.Unclosed.{never-closed, unclosed}
 use Rattle.command_line.specs.CommandLine.{Bounds}
-use Rattle.leancop_top.specs.TableauSearch.{IsCutMissed, IsFound, IsLimit, IsOnlyAnswer, SearchEnds, cut, least, exhausted, no_tableau, steps_ended}
+use Rattle.leancop_top.specs.TableauSearch.{IsCutMissed, IsFound, IsOnlyAnswer, SearchEnds, least, exhausted, no_tableau, steps_ended}
 use Rattle.leancop_top.specs.declared.status.Status.TheVariants as status
 
 only : (P : Problem) (b : Bounds) (a : Answer) → IsAnswer P b.limit a → IsOnlyAnswer P b a
@@ -45,14 +42,3 @@ steps-ends P well b n d fits missed same h = steps_ended d b.steps (record {
   more = subst (MoreThan member_cmp (ComesNoLater P d)) same h.2;
   missed = missed;
 })
-
-within-limits : (d m : ℕ) → 1 ≤ d → d ≤ m → m ≤ MAX_PATH_LIMIT → IsTrue (is_limit d)
-within-limits d m from to most =
-    and_from (nat_le 1 d) (nat_le d MAX_PATH_LIMIT) (le-leb 1 d from) (le-leb d MAX_PATH_LIMIT (omega (arith, to, most)))
-
-written-at : (P : Problem) (b : Bounds) (d : ℕ) → b.limit ≤ MAX_PATH_LIMIT → IsLimit P b d → IsTrue (is_limit d)
-written-at P b d most (least h missed) = within-limits d b.limit h.answer.answers.0 h.answer.answers.1 most
-written-at P b d most (cut fits h) = within-limits d b.limit h.from_one h.within most
-
-pub limit-written : (P : Problem) (b : Bounds) (d : ℕ) (t : Tableau) → b.limit ≤ MAX_PATH_LIMIT → IsFound P b d t → IsTrue (is_limit d)
-limit-written P b d t most f = written-at P b d most f.limit_is

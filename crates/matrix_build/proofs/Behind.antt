@@ -1,7 +1,6 @@
 -- Selections behind sides.
-use Rattle.std.proofs.Common.{◌≡◌, ◌<◌, ◌≤◌, ℕ, suc, ◌+◌, List, [], ◌∷◌, ◌++◌, length, drop, map, get_or, refl, sym, ◌∙◌, ap, ap₂, append_assoc, append-nil, add-one}
+use Rattle.std.proofs.Common.{◌≡◌, ◌≤◌, ℕ, ◌+◌, List, [], ◌∷◌, ◌++◌, length, drop, map, refl, sym, ◌∙◌, ap, ap₂, append_assoc, append-nil}
 use Rattle.std.proofs.lemmas.List.{drop_all}
-use Rattle.std.proofs.Math.Seq.{drop-cons}
 use Rattle.calculus.specs.declared.kind.Shape.{Shape}
 use Rattle.calculus.specs.declared.kind.Shape.TheVariants.{Beta}
 use Rattle.calculus.specs.declared.sign.Sign.{Sign}
@@ -81,14 +80,3 @@ beta-added ds xs ys first second i before after h e f g =
     ∙ g
     ∙ ap₂ (λ fs ss. before ++ all_joined fs ss) e (f ∙ behind-none ys)
     ∙ ap (λ zs. before ++ zs) (behind-beta ds xs ys)
-
-drop-item : {A : Type 0} (xs : List A) (i : ℕ) (x d : A) → i < length xs → x ≡ get_or xs i d → drop i xs ≡ x ∷ drop (i + 1) xs
-drop-item xs i x d h e = rw add-one (drop-cons xs i d h ∙ ap (λ y. y ∷ drop (suc i) xs) (sym e))
-
-pub beta-step : (xs ys : List (List Side)) (i : ℕ) (x : List Side) (before after whole : List (List Side)) → i < length xs → x ≡ get_or xs i x → after ≡ before ++ behind x ys → before ++ all_joined (drop i xs) ys ≡ whole → after ++ all_joined (drop (i + 1) xs) ys ≡ whole
-beta-step xs ys i x before after whole h e a b =
-    let rest = all_joined (drop (i + 1) xs) ys in
-    ap (λ zs. zs ++ rest) a
-    ∙ append_assoc before (behind x ys) rest
-    ∙ ap (λ zs. before ++ all_joined zs ys) (sym (drop-item xs i x x h e))
-    ∙ b

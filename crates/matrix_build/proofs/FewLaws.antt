@@ -4,19 +4,12 @@ use Rattle.std.specs.List.{AllByRecursion}
 use Rattle.calculus.specs.Positions.{size}
 use Rattle.calculus.specs.Syntax.{Formula}
 use Rattle.matrix_build.specs.MatrixView.{HasFewLiterals, the_clause}
-use Rattle.matrix_build.specs.Parts.{BuiltPart, IsFewAt, IsFewBefore, numbered}
-use Rattle.matrix_build.specs.Sizes.{HasSizes, sizes_of}
+use Rattle.matrix_build.specs.Parts.{BuiltPart, IsFewBefore, numbered}
+use Rattle.matrix_build.specs.Sizes.{sizes_of}
 use Rattle.matrix_build.specs.declared.clause.Clause.{Clause}
-use Rattle.matrix_build.proofs.SizeTable.{length-sizes_of, sized-within}
+use Rattle.matrix_build.proofs.SizeTable.{length-sizes_of}
 
 -- ---- a walk
-
--- there is a number for one more
-pub room-before : (zs : List ℕ) (q : ℕ) (f : Formula) (b : BuiltPart) → length zs ≤ 4000000 → HasSizes zs q f → IsFewBefore q b → numbered b < 4294967295
-room-before zs q f b l h k = let w = sized-within f zs q h in omega (arith, l, w, k)
-
-pub room-at : (zs : List ℕ) (q : ℕ) (f : Formula) (b : BuiltPart) → length zs ≤ 4000000 → HasSizes zs (q + 1) f → IsFewAt q b → numbered b < 4294967295
-room-at zs q f b l h k = let w = sized-within f zs (q + 1) h in omega (arith, l, w, k)
 
 -- the whole formula, of whose part the other has the same
 pub few-whole : (zs : List ℕ) (f : Formula) (b d : BuiltPart) → length zs ≤ 4000000 → zs ≡ sizes_of f → d ≡ b → IsFewBefore (0 + size f) b → numbered d ≤ 8000000

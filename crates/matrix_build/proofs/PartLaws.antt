@@ -1,21 +1,20 @@
 -- What each step of a walk adds to a clause.
-use Rattle.std.proofs.Common.{◌≡◌, ℕ, suc, ◌+◌, List, [], ◌∷◌, ◌++◌, length, Option, Some, None, option_map, option_and_then, refl, sym, ◌∙◌, ap, ap₂, subst, arith, append_assoc, append-nil, length-append}
-use Rattle.calculus.specs.declared.kind.Shape.TheVariants.{Alpha, Beta, Gamma, Delta}
+use Rattle.std.proofs.Common.{◌≡◌, ℕ, suc, ◌+◌, List, [], ◌∷◌, ◌++◌, length, Option, Some, None, option_map, option_and_then, refl, sym, ◌∙◌, ap, ap₂, subst, arith, append_assoc, length-append}
+use Rattle.calculus.specs.declared.kind.Shape.TheVariants.{Beta, Gamma}
 use Rattle.calculus.specs.declared.kind.ModalPart.{ModalPart}
-use Rattle.calculus.specs.declared.kind.ModalPart.TheVariants.{Plain, Nu, Pi}
+use Rattle.calculus.specs.declared.kind.ModalPart.TheVariants.{Nu, Pi}
 use Rattle.calculus.specs.declared.setting.Logic.{Logic}
 use Rattle.calculus.specs.declared.sign.Sign.{Sign}
 use Rattle.calculus.specs.declared.sign.Sign.TheVariants.{T, F}
 use Rattle.calculus.specs.declared.sign.Side.{Side}
-use Rattle.calculus.specs.declared.sign.Side.TheVariants.{Left, Right}
 use Rattle.calculus.specs.declared.sort.Sort.{Sort}
 use Rattle.calculus.specs.declared.sort.Sort.TheVariants.{TermSort, StringSort}
 use Rattle.calculus.specs.Kinds.{components, modal_of, shape_of}
-use Rattle.store_theory.specs.Patterns.{Pattern, PatternAtom, Template, p_var, p_eigen, patterns_tree}
-use Rattle.calculus.specs.Syntax.{Terms, Formula, atom, neg, conj, disj, imp, all, ex, box, dia}
+use Rattle.store_theory.specs.Patterns.{Pattern, Template, p_var}
+use Rattle.calculus.specs.Syntax.{Formula, atom, neg, conj, disj, imp, all, ex, box, dia}
 use Rattle.store_theory.specs.Templates.{strings_from}
-use Rattle.search_theory.specs.TemplateOf.{root_pattern_spot, template_by, PatternBody, PatternPart, PatternSpot, of_sort, one_pi_more, pattern_down, pattern_inside, pattern_modal, pattern_turn, pattern_atom, joined_patterns, pattern_alpha, pattern_beta, pattern_one, pattern_two, with_pattern_gamma, pattern_quantifier, pattern_part, patterns_of}
-use Rattle.matrix_build.specs.Parts.{BuiltPart, with_part, with_sort, with_pi, with_gamma, with_literal, with_side, Adds, IsTemplateIfAny, body_by, nothing_built}
+use Rattle.search_theory.specs.TemplateOf.{root_pattern_spot, template_by, PatternBody, PatternPart, PatternSpot, of_sort, one_pi_more, pattern_down, pattern_inside, pattern_modal, pattern_turn, joined_patterns, pattern_beta, pattern_two, with_pattern_gamma, pattern_quantifier, pattern_part}
+use Rattle.matrix_build.specs.Parts.{BuiltPart, with_part, with_sort, with_pi, with_gamma, Adds, IsTemplateIfAny, body_by, nothing_built}
 use Rattle.matrix_build.specs.WayView.{nu_spot, pi_spot}
 
 -- ---- a signed formula by its modal part, its shape and its components
@@ -55,9 +54,6 @@ turned p vs o y e = let h = from-map _ o y e in (h.0, h.1, λ b. ap (with_part b
 
 -- ---- the modal part
 
-pub plain-adds : (l : Logic) (body : PatternBody) (c : PatternSpot) (b d : BuiltPart) → Adds body c b d → Adds (pattern_modal l Plain body) c b d
-plain-adds l body c b d h = h
-
 sort-joins : (s : Sort) (b : BuiltPart) (z : PatternPart) → with_part (with_sort s b) z ≡ with_part b (of_sort s z)
 sort-joins s b z = ap (λ ss. record (with_part b z) { sorts = ss }) (append_assoc b.sorts (s ∷ []) z.sorts)
 
@@ -95,34 +91,6 @@ pi-part l s f c inner b m d k j g h =
     part-of l s f Pi c b d k (pi-adds l (body-of l s f) c b d (subst (λ (x : PatternSpot). Adds (body-of l s f) x (with_pi b) d) g moved))
 
 -- ---- the shapes
-
-pub one-adds : (body : PatternBody) (c : PatternSpot) (b d : BuiltPart) → Adds body (pattern_down 1 c) b d → Adds (pattern_one body) c b d
-one-adds body c b d h y e =
-    let q = turned c.position c.taken (body (pattern_down 1 c) b.sides (length b.sorts)) y e in
-    h q.0 q.1 ∙ q.2 b
-
-pub left-adds : (k : ℕ) (first second : PatternBody) (c : PatternSpot) (b d : BuiltPart) → Adds first (pattern_down 1 c) b d → Adds (pattern_two Alpha k first second) c (with_side Left b) d
-left-adds k first second c b d h y e =
-    let q = turned c.position c.taken (first (pattern_down 1 c) b.sides (length b.sorts)) y e in
-    h q.0 q.1 ∙ q.2 b
-
-pub right-adds : (k : ℕ) (first second : PatternBody) (c : PatternSpot) (b d : BuiltPart) → Adds second (pattern_down (suc k) c) b d → Adds (pattern_two Alpha k first second) c (with_side Right b) d
-right-adds k first second c b d h y e =
-    let q = turned c.position c.taken (second (pattern_down (suc k) c) b.sides (length b.sorts)) y e in
-    h q.0 q.1 ∙ q.2 b
-
-no-alpha : (go and : List Side → Option PatternPart) (ss : List Side) → ss ≡ [] → (z : PatternPart) → pattern_alpha go and ss ≡ Some z → ⊥
-no-alpha go and [] g z f = cc
-no-alpha go and (s ∷ ss) g z f = cc
-
--- no clause takes a side that is not there
-pub no-side : (k : ℕ) (first second : PatternBody) (c : PatternSpot) (b d : BuiltPart) → b.sides ≡ [] → Adds (pattern_two Alpha k first second) c b d
-no-side k first second c b d h y e =
-    let n = length b.sorts in
-    let go : List Side → Option PatternPart = λ rest. first (pattern_down 1 c) rest n in
-    let and : List Side → Option PatternPart = λ rest. second (pattern_down (suc k) c) rest n in
-    let q = turned c.position c.taken (pattern_alpha go and b.sides) y e in
-    absurd (no-alpha go and b.sides h q.0 q.1)
 
 parts-join : (b : BuiltPart) (x z : PatternPart) → with_part (with_part b x) z ≡ with_part b (joined_patterns x z)
 parts-join b x z =
@@ -167,19 +135,6 @@ gamma-part body n c inner b m k d i j g e h =
     let put : k ≡ with_gamma (record { term = p_var (length b.sorts); label = c.label }) (with_sort TermSort b) = g ∙ ap₂ (λ (x : ℕ) (y : BuiltPart). with_gamma (record { term = p_var x; label = c.label }) y) i j in
     let spot : inner ≡ pattern_inside (p_var (length b.sorts)) (c.taken ++ p_var (length b.sorts) ∷ []) c = e ∙ ap (λ x. pattern_inside (p_var x) (c.taken ++ p_var x ∷ []) c) i in
     gamma-adds body c b d (subst (λ (x : PatternSpot). Adds body x (with_gamma (record { term = p_var (length b.sorts); label = c.label }) (with_sort TermSort b)) d) spot (subst (λ (x : BuiltPart). Adds body inner x d) put h))
-
-pub delta-adds : (body : PatternBody) (c : PatternSpot) (b d : BuiltPart) → Adds body (pattern_inside (p_eigen c.position (patterns_tree c.taken)) c.taken c) b d → Adds (pattern_quantifier Delta body) c b d
-delta-adds body c b d h y e =
-    let q = turned c.position c.taken (body (pattern_inside (p_eigen c.position (patterns_tree c.taken)) c.taken c) b.sides (length b.sorts)) y e in
-    h q.0 q.1 ∙ q.2 b
-
-pub literal-adds : (s : Sign) (p : ℕ) (ts : Terms) (c : PatternSpot) (b d : BuiltPart) → d ≡ with_literal (record { sign = s; symbol = p; args = patterns_of c.env ts; label = c.label }) b → Adds (pattern_atom s p ts) c b d
-literal-adds s p ts c b d h y e =
-    let a : PatternAtom = record { sign = s; symbol = p; args = patterns_of c.env ts; label = c.label } in
-    let x : PatternPart = record { literals = a ∷ []; turns = record { position = c.position; values = c.taken } ∷ []; gammas = []; pis = 0; sorts = []; sides = b.sides } in
-    let y_is : x ≡ y = cc e in
-    let pis : b.pis ≡ b.pis + 0 = omega arith in
-    h ∙ ap₂ (λ gs ss. record (with_literal a b) { gammas = gs; sorts = ss }) (sym (append-nil b.gammas)) (sym (append-nil b.sorts)) ∙ ap (λ n. record (with_part b x) { pis = n }) pis ∙ ap (with_part b) y_is
 
 -- ---- the whole clause
 

@@ -1,10 +1,7 @@
 -- One more place in a row of the table.
-use Rattle.std.proofs.Common.{◌≡◌, ◌≢◌, ℕ, zero, suc, ◌<◌, List, [], ◌∷◌, ◌++◌, ◌==◌, ◌&&◌, Bool, true, false, length, get_or, set, map, refl, sym, ◌∙◌, ap, subst, inl, inr, arith, eqb-true, eq-eqb, append-nil}
+use Rattle.std.proofs.Common.{◌≡◌, ◌≢◌, ℕ, zero, suc, ◌<◌, List, [], ◌∷◌, ◌++◌, ◌==◌, true, false, length, get_or, set, map, refl, sym, ◌∙◌, ap, subst, inl, inr, arith, eqb-true, eq-eqb, append-nil}
 use Rattle.std.proofs.lemmas.Bool.{false≢true, cases_Bool}
-use Rattle.calculus.specs.declared.sign.Sign.{Sign}
-use Rattle.calculus.specs.declared.sign.Sign.TheVariants.{T, F}
-use Rattle.calculus.specs.Equality.{sign_eq}
-use Rattle.matrix_build.specs.MatrixView.{the_place, row_of, if_equal, places_at}
+use Rattle.matrix_build.specs.MatrixView.{the_place, if_equal, places_at}
 use Rattle.matrix_build.specs.declared.index.Place.{Place}
 use Rattle.matrix_build.specs.declared.index.Places.{Places}
 
@@ -36,36 +33,3 @@ placed rows m before after p n h e f = elim (cases_Bool (m == n)) [
       rw q (subst (λ k. places_at k (set rows m after) ≡ places_at k rows ++ the_place p ∷ []) (eqb-true m n q) here)
   | inr q ↦ rw q (set-other rows m n after (λ r. false≢true (sym q ∙ eq-eqb m n r)) ∙ sym (append-nil (places_at n rows)))
 ]
-
--- ---- rows tell symbols and signs
-
-row_of-inj : (p q : ℕ) (s t : Sign) → row_of p s ≡ row_of q t → (p ≡ q) × (s ≡ t)
-row_of-inj p q F F h = (omega arith, refl)
-row_of-inj p q T T h = (omega arith, refl)
-row_of-inj p q F T h = absurd (omega arith)
-row_of-inj p q T F h = absurd (omega arith)
-
-sign_eq-same : (s : Sign) → sign_eq s s ≡ true
-sign_eq-same T = refl
-sign_eq-same F = refl
-
-about-same : (p q : ℕ) (s t : Sign) → p ≡ q → s ≡ t → (p == q && sign_eq s t) ≡ true
-about-same p q s t e f = rw (eq-eqb p q e) (subst (λ u. sign_eq s u ≡ true) f (sign_eq-same s))
-
-both : (s t : Sign) (b : Bool) → (b && sign_eq s t) ≡ true → (b ≡ true) × (s ≡ t)
-both T T true e = (refl, refl)
-both F F true e = (refl, refl)
-both T F true e = absurd (cc)
-both F T true e = absurd (cc)
-both s t false e = absurd (cc)
-
-bools-same : (a b : Bool) → (a ≡ true → b ≡ true) → (b ≡ true → a ≡ true) → a ≡ b
-bools-same true b h g = sym (h refl)
-bools-same false true h g = g refl
-bools-same false false h g = refl
-
--- the rows are one exactly where the literal has the symbol and the sign
-pub row-about : (p q : ℕ) (s t : Sign) → (row_of p s == row_of q t) ≡ (p == q && sign_eq s t)
-row-about p q s t = bools-same (row_of p s == row_of q t) (p == q && sign_eq s t)
-    (λ e. let h = row_of-inj p q s t (eqb-true (row_of p s) (row_of q t) e) in about-same p q s t h.0 h.1)
-    (λ e. let h = both s t (p == q) e in eq-eqb (row_of p s) (row_of q t) (ap (λ n. row_of n s) (eqb-true p q h.0) ∙ ap (row_of q) h.1))

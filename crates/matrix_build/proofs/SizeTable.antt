@@ -1,5 +1,5 @@
 -- The sizes of the parts of a formula stand where their positions are.
-use Rattle.std.proofs.Common.{◌≡◌, ℕ, suc, ◌+◌, ◌-◌, ◌<◌, ◌≤◌, List, [], ◌∷◌, ◌++◌, length, refl, sym, ◌∙◌, ap, subst, arith, append_assoc, append-nil, length-append, slice_set}
+use Rattle.std.proofs.Common.{◌≡◌, ℕ, suc, ◌+◌, ◌-◌, ◌<◌, List, [], ◌∷◌, ◌++◌, length, refl, sym, ◌∙◌, ap, subst, arith, append_assoc, append-nil, length-append, slice_set}
 use Rattle.std.proofs.Math.Seq.{get_or-append_seam, set-append_seam}
 use Rattle.calculus.specs.Syntax.{Formula, atom, neg, conj, disj, imp, all, ex, box, dia}
 use Rattle.calculus.specs.Positions.{size}
@@ -114,17 +114,3 @@ size-pos (all a) = omega arith
 size-pos (ex a) = omega arith
 size-pos (box a) = omega arith
 size-pos (dia a) = omega arith
-
-has-size-within : (zs : List ℕ) (q n : ℕ) → 0 < n → HasSize zs q n → q < length zs
-has-size-within zs q n p h = let w : q + n ≤ length zs = h.within in omega arith
-
-pub sized-within : (f : Formula) (zs : List ℕ) (q : ℕ) → HasSizes zs q f → q < length zs
-sized-within (atom p ts) zs q h = has-size-within zs q 1 (omega arith) h
-sized-within (neg a) zs q h = has-size-within zs q (size (neg a)) (size-pos (neg a)) h.0
-sized-within (conj a b) zs q h = has-size-within zs q (size (conj a b)) (size-pos (conj a b)) h.0
-sized-within (disj a b) zs q h = has-size-within zs q (size (disj a b)) (size-pos (disj a b)) h.0
-sized-within (imp a b) zs q h = has-size-within zs q (size (imp a b)) (size-pos (imp a b)) h.0
-sized-within (all a) zs q h = has-size-within zs q (size (all a)) (size-pos (all a)) h.0
-sized-within (ex a) zs q h = has-size-within zs q (size (ex a)) (size-pos (ex a)) h.0
-sized-within (box a) zs q h = has-size-within zs q (size (box a)) (size-pos (box a)) h.0
-sized-within (dia a) zs q h = has-size-within zs q (size (dia a)) (size-pos (dia a)) h.0

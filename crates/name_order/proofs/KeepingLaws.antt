@@ -33,10 +33,6 @@ module _ {A : Type 0} (eq : A → A → Bool) (tells : Tells eq) where
   none-among (k ∷ ks) x h (inl s) = true≢false (sym ((tells x k).1 (sym s)) ∙ (not-here (eq x k) (list_any (eq x) ks) h).0)
   none-among (k ∷ ks) x h (inr m) = none-among ks x (not-here (eq x k) (list_any (eq x) ks) h).1 m
 
-  all-apart : (ks : List A) (x : A) → (Among ks x → ⊥) → AllByRecursion (λ y. eq x y ≡ false) ks
-  all-apart [] x h = tt
-  all-apart (k ∷ ks) x h = (apart x k (λ e. h (inl (sym e))), all-apart ks x (λ m. h (inr m)))
-
   distinct-push : (ks : List A) (x : A) → (Among ks x → ⊥) → IsDistinct eq ks → IsDistinct eq (ks ++ x ∷ [])
   distinct-push [] x h d = IsDistinct-cons eq x [] tt d
   distinct-push (k ∷ ks) x h d = IsDistinct-cons eq k (ks ++ x ∷ []) (push ks (IsDistinct-head eq k ks d)) (distinct-push ks x (λ m. h (inr m)) (IsDistinct-tail eq k ks d))

@@ -29,7 +29,7 @@ use Rattle.name_order.specs.Found.{find_in, above_in, before_in, parent_in, intr
 use Rattle.name_order.specs.Keeping.{keep_all}
 use Rattle.name_order.specs.Mentioned.{mentioned_in}
 use Rattle.name_order.specs.Places.{Place, place, places_of, is_delta_in, is_pi_in}
-use Rattle.name_order.specs.Prerequisites.{ParentsTell, WaitsTell, IsAwaited, own_part, count_before}
+use Rattle.name_order.specs.Prerequisites.{ParentsTell, IsAwaited, own_part, count_before}
 use Rattle.name_order.specs.Walks.{strings_at, terms_at, values_at}
 use Rattle.name_order.specs.WalkView.{the_turn_at}
 use Rattle.name_order.specs.Words.{words_of_turn}
@@ -232,15 +232,3 @@ module _ (P : Problem) (t : Tableau) where
 
         same : (n : Name) → Among names n ↔ Among (names_mentioned P (own_part agenda o x)) n
         same n = subst (λ c. Among (keep_all name_eq [] (mentioned_in P (drop c x.values))) n ↔ Among (names_mentioned P (own_part agenda o x)) n) (count-is x o told) (mentioned-same P (own_part agenda o x) n)
-
-    pub tells-waits : (parents : List (Option ℕ)) (waits : List (List ℕ)) → parents ≡ map (parent_in (places_of P) keys) agenda → waits ≡ map (waits_in P (places_of P) keys) agenda → WaitsTell P agenda parents waits
-    tells-waits parents waits e g = record {
-      count = ap length g ∙ length-map agenda (waits_in P (places_of P) keys);
-      each = λ i x p w a b c k.
-          let m = at-map (waits_in P (places_of P) keys) agenda i w (subst (λ ws. slice_get ws i ≡ Some w) g c) in
-          let same : waits_in P (places_of P) keys x ≡ w = ap (waits_in P (places_of P) keys) (sym (some_injective m.0 (sym m.1 ∙ a))) ∙ m.2 in
-          let told = waits-is x p k (tells-at parents e i x p b a) in (
-            λ h. told.0 (subst (λ v. Among v k) (sym same) (among-contains w k h)),
-            λ h. contains-among w k (subst (λ v. Among v k) same (told.1 h)),
-          );
-    }

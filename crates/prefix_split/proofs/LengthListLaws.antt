@@ -124,10 +124,6 @@ least-first x p (suc n) t (m ∷ ms) h e f q =
 
 -- ---- what is taken off is the last of its sum
 
-last-nothing : (x p : ℕ) → IsLastOfSum x p []
-last-nothing x p [] h e f q = let z : Equal ≡ Less = q in cc z
-last-nothing x p (m ∷ ms) h e f q = absurd (let z : suc (length ms) ≡ 0 = e in omega (arith, z))
-
 last-more : (x p y : ℕ) (zs : List ℕ) → x ≤ y → IsLastOfSum x p zs → (above x zs ≡ 0) ⊎ (x + p ≤ y) → IsLastOfSum x p (y ∷ zs)
 last-more x p y zs a last o [] h e f q = absurd (let z : 0 ≡ suc (length zs) = e in omega (arith, z))
 last-more x p y zs a last o (m ∷ ms) h e f q =
@@ -264,9 +260,6 @@ first-list x p n =
 append-none : (xs : List ℕ) → xs ++ [] ≡ xs
 append-none [] = refl
 append-none (x ∷ xs) = ap (λ ys. x ∷ ys) (append-none xs)
-
-pub off-start : (x p : ℕ) (old : List ℕ) → IsTakenOff x p old old 0 0
-off-start x p old = record { off = []; whole = sym (append-none old); count = refl; height = refl; last = last-nothing x p }
 
 off-whole : (x p : ℕ) (old items rest : List ℕ) (y many t : ℕ) → (h : IsTakenOff x p old items many t) → items ≡ rest ++ y ∷ [] → old ≡ rest ++ y ∷ h.off
 off-whole x p old items rest y many t h e = h.whole ∙ ap (λ zs. zs ++ h.off) e ∙ append_assoc rest (y ∷ []) h.off

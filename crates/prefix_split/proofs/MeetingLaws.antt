@@ -1,14 +1,14 @@
 -- Meeting a demand: each equation binds a variable, and keeps what meets the demand.
-use Rattle.std.proofs.Common.{◌≡◌, ◌⊎◌, ℕ, zero, suc, ◌+◌, ◌<◌, ◌≤◌, List, [], ◌∷◌, ◌++◌, length, Bool, true, false, ◌&&◌, IsTrue, refl, sym, ◌∙◌, ap, ap₂, subst, Some, None, slice_get, inl, inr, arith, nat_lt, lt-ltb, ltb-true}
+use Rattle.std.proofs.Common.{◌≡◌, ◌⊎◌, ℕ, suc, ◌+◌, ◌<◌, ◌≤◌, List, [], ◌∷◌, ◌++◌, length, Bool, true, false, IsTrue, refl, sym, ◌∙◌, ap, ap₂, Some, None, slice_get, inl, inr, arith, nat_lt, lt-ltb, ltb-true}
 use Rattle.std.specs.List.{list_all, flat_map}
 use Rattle.std.proofs.lemmas.Bool.{and_parts, and_from, false≢true}
 use Rattle.calculus.specs.declared.sort.Sort.{Sort}
-use Rattle.calculus.specs.declared.sort.Sort.TheVariants.{TermSort, MarkSort, StringSort}
+use Rattle.calculus.specs.declared.sort.Sort.TheVariants.{TermSort, StringSort}
 use Rattle.store_theory.specs.Bindings.{AddsBuilt, BindsOnly, is_variable, nothing_more, one_more, with_cell}
 use Rattle.calculus.specs.Syntax.{Problem}
 use Rattle.calculus.specs.Instances.{GammaUse}
-use Rattle.store_theory.specs.Stores.{Cell, variable, fun_cell, eigen_cell, new_cell, string_cell, Store, has_sort_at, is_store, is_bound, names_below, OccursIn, EndsAt, Solution, Solves, CellHolds, GammaCell}
-use Rattle.store_theory.specs.Systems.{CellAtom, Equation, Pair, System, is_label, is_equation, is_gamma_cell, is_cell_atom, is_pair, is_system, cells_of, cells_of_atom, AreEqual, AreEqualNow, AreUses, MeetsDemand, HasBuiltStrings, HasNoOpenString, IsDemandEquation, IsOpenString, OwnSparesMeet}
+use Rattle.store_theory.specs.Stores.{Cell, variable, fun_cell, eigen_cell, new_cell, string_cell, Store, has_sort_at, names_below, Solution, Solves, GammaCell}
+use Rattle.store_theory.specs.Systems.{CellAtom, Equation, Pair, System, is_label, is_equation, is_gamma_cell, is_cell_atom, is_pair, is_system, cells_of, cells_of_atom, AreEqual, AreEqualNow, AreUses, MeetsDemand, HasBuiltStrings, HasNoOpenString, IsDemandEquation}
 use Rattle.calculus.proofs.PlaceLists.{all-at}
 use Rattle.search_theory.specs.KeepingCells.{EquatesRight, KeepsRight, SolvesRight, equation_cells, gamma_cells}
 use Rattle.search_theory.specs.Solving.{CannotEqual, IsNarrowed}
@@ -194,10 +194,6 @@ pub meeting-never : (Demanded : List GammaUse → Type 0) (y : System) (start t 
 meeting-never Demanded y start t e h m d never σ k met =
     let (τ, l, agree) = m.forced.forth σ k met in
     never τ l (d.forced τ l (meets-agree Demanded start y σ τ h agree met))
-
--- the sides of a demand's equation
-pub side-labels : (Asked : List GammaUse → Type 0) (t : Store) (y : System) (e : Equation) → IsDemandEquation Asked t y e → IsTrue (is_label t e.left) × IsTrue (is_label t e.right)
-side-labels Asked t y e d = and_parts (is_label t e.left) (is_label t e.right) d.fits
 
 pub sides-free : (Asked : List GammaUse → Type 0) (t : Store) (y : System) (e : Equation) → IsDemandEquation Asked t y e → HasNoString t e.left × HasNoString t e.right
 sides-free Asked t y e d = (

@@ -12,10 +12,9 @@ use Rattle.term_store.specs.declared.cell.Ref.{Ref}
 use Rattle.prefix_split.specs.declared.node.Node.{Node}
 use Rattle.prefix_split.specs.declared.node.Step.{Step}
 use Rattle.prefix_split.specs.declared.node.Step.TheVariants.{Root, Mark, Short, Long}
-use Rattle.prefix_split.specs.declared.order.LabelOrder.{LabelOrder}
 use Rattle.prefix_split.specs.declared.order.Relation.{Relation}
 use Rattle.prefix_split.specs.declared.order.Relation.TheVariants.{Unknown, Weak, Strict}
-use Rattle.prefix_split.specs.Beginnings.{AreValues, Begins, HasExtent, IsMarkNode, IsOtherMark, IsRelated, IsShortBehind, IsShorter, NodesFit, Refutes, are_other_names, is_short, item_of, joined, step_marks}
+use Rattle.prefix_split.specs.Beginnings.{AreValues, Begins, HasExtent, IsMarkNode, IsOtherMark, IsRelated, IsShortBehind, IsShorter, NodesFit, are_other_names, is_short, item_of, joined, step_marks}
 
 -- ---- lists
 
@@ -189,13 +188,3 @@ mark-within size nodes y r h (n, at, is) = h y n at r (ap item_of is)
 
 pub marks-other : (s : Store) (σ : Solution) (value : ℕ → List GroundMark) (nodes : List Node) (y z : ℕ) (r : Ref) → Solves s σ → AreValues σ value nodes → IsMarkNode nodes y r → IsOtherMark s nodes z r → ¬ (value y ≡ value z)
 marks-other s σ value nodes y z r t v (a, a_at, a_is) (q, (b, b_at, b_is), apart) same = apart σ t (marks-same σ value nodes y z a b r q v a_at b_at a_is b_is same)
-
--- ---- refutations
-
--- of an order that is refuted nothing holds
-pub refutes-itself : (s : Store) (nodes : List Node) (order : LabelOrder) → Refutes s nodes order order
-refutes-itself s nodes order e σ value t v h = false≢true (sym h.possible ∙ e)
-
--- an order that is not refuted refutes nothing
-pub refutes-none : (s : Store) (nodes : List Node) (before after : LabelOrder) → after.is_refuted ≡ false → Refutes s nodes before after
-refutes-none s nodes before after e f = absurd (false≢true (sym e ∙ f))

@@ -1,5 +1,5 @@
 -- One list of lengths: what each step that fails shows, and what is found at the end.
-use Rattle.std.proofs.Common.{◌≡◌, ◌&&◌, ◌==◌, ℕ, suc, List, [], ◌∷◌, ◌++◌, length, Bool, IsTrue, refl, sym, ◌∙◌, ap, subst, Option, Some, None, slice_get, arith, nat_le}
+use Rattle.std.proofs.Common.{◌≡◌, ◌==◌, ℕ, suc, List, [], ◌∷◌, ◌++◌, length, Bool, IsTrue, refl, sym, ◌∙◌, ap, subst, Option, Some, None, slice_get, arith, nat_le}
 use Rattle.std.specs.List.{AllByRecursion, flat_map, list_all}
 use Rattle.std.proofs.lemmas.Bool.{and_parts}
 use Rattle.calculus.specs.Labels.{is_step_length}
@@ -14,7 +14,7 @@ use Rattle.store_theory.specs.Systems.{Equation, Pair, System, AreEqual, AreEqua
 use Rattle.store_theory.proofs.BindingLaws.{HasNoCycle-rank, ends-once}
 use Rattle.search_theory.specs.Regular.{AreSame}
 use Rattle.search_theory.specs.KeepingCells.{equation_cells, gamma_cells}
-use Rattle.search_theory.specs.Solving.{CannotHave, IsNarrowed, IsSolving}
+use Rattle.search_theory.specs.Solving.{IsNarrowed, IsSolving}
 use Rattle.search_theory.proofs.BuildingLaws.{agree-both}
 use Rattle.search_theory.proofs.RankLaws.{rank_of, ranked-by_no_cycle}
 use Rattle.search_theory.proofs.SolvingLaws.{carried, found, none-by_pair, system-cells, system-parts, system-set, tried-step}
@@ -47,9 +47,6 @@ open-given s t y h names l built v o (i, r, e, w) =
     let same : v ≡ u = ends-once t q v u (ends-open s t l q v ends o) at in
     let z : variable StringSort None ≡ string_cell rs = some-same (slice_get t.cells u) (variable StringSort None) (string_cell rs) (ap (slice_get t.cells) (sym same) ∙ o) cell in
     cc z
-
-pub cannot-have : (s : Store) (y : System) (ns : List ℕ) → CannotHave s y.strings ns → (σ : Solution) → Solves s σ → ¬ IsSetTo y ns σ
-cannot-have s y ns never σ t (h, e) = never σ t h
 
 pub cannot-equal : (s t : Store) (y : System) (ns : List ℕ) → IsTrue (is_system s y) → IsNarrowed s t (λ σ. HaveLengths σ y.strings ns) → ((σ : Solution) → Solves t σ → ¬ AllByRecursion (AreEqual σ) y.equations) → (σ : Solution) → Solves s σ → ¬ IsSetTo y ns σ
 cannot-equal s t y ns fits n never σ k (h, e) =
@@ -103,9 +100,6 @@ solving-met l Demanded s t u y ns fits k f = record {
       (υ, uh, agree-both (length s.cells) (length t.cells) σ τ υ k.longer agree more)
       );
 }
-
-pub none-set : (l : Logic) (Demanded : List GammaUse → Type 0) (s : Store) (y : System) (ns : List ℕ) → ((σ : Solution) → Solves s σ → ¬ IsSetTo y ns σ) → ¬ HasSolution l Demanded s y ns
-none-set l Demanded s y ns never (σ, b) = never σ b.solution.solves (b.lengths, b.solution.equal)
 
 pub none-met : (l : Logic) (Demanded : List GammaUse → Type 0) (s t : Store) (y : System) (ns : List ℕ) → IsTrue (is_system s y) → IsNarrowed s t (IsSetTo y ns) → ((σ : Solution) → Solves t σ → ¬ MeetsDemand Demanded y σ) → ¬ HasSolution l Demanded s y ns
 none-met l Demanded s t y ns fits n never (σ, b) =

@@ -17,9 +17,6 @@ use Rattle.tptp_reader.specs.SourceView.{the_source}
 use Rattle.tptp_reader.specs.TermView.{the_source_term}
 use Rattle.problem_build.specs.Expansion.{free_in, free_in_all, same_name, symbols_in, symbols_in_all, term_symbols, terms_symbols, variables_in, variables_in_all}
 
-pub with_new-nothing : {A : Type 0} (same : A → A → Bool) (known : List A) → with_new same known [] ≡ known
-with_new-nothing same known = append-nil known
-
 pub with_new-more : {A : Type 0} (same : A → A → Bool) (known xs ys : List A) → with_new same known (xs ++ ys) ≡ with_new same (with_new same known xs) ys
 with_new-more same known [] ys = ap (λ k. with_new same k ys) (sym (append-nil known))
 with_new-more same known (x ∷ xs) ys = by (list_any (same x) known) (with_new-more same known xs ys) (with_new-more same (known ++ x ∷ []) xs ys)

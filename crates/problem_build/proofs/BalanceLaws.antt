@@ -36,9 +36,6 @@ balanced-is d join _ _ (halves xs ys x y e p q) (suc n) h =
     let s = halved-cut d join n (xs ++ ys) (omega arith) in
     ap (λ v. join v y) i ∙ ap (λ v. join (balanced_by join d n xs) v) j ∙ ap (λ v. join (balanced_by join d n v) (balanced_by join d n ys)) (sym t) ∙ ap (λ v. join (balanced_by join d n (take ((length (xs ++ ys) + 1) / 2) (xs ++ ys))) (balanced_by join d n v)) (sym r) ∙ sym s
 
-pub balanced-same : {A : Type 0} (join : A → A → A) (xs : List A) (x y : A) → IsBalanced join xs x → IsBalanced join xs y → x ≡ y
-balanced-same join xs x y p q = balanced-is x join xs x p (length xs) (omega arith) ∙ sym (balanced-is x join xs y q (length xs) (omega arith))
-
 two-halves : (n a b : ℕ) → a ≡ (n + 1) / 2 → b ≡ n - a → (a ≡ b) ⊎ (a ≡ suc b)
 two-halves n a b p q = grind arith
 

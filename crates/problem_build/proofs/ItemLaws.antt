@@ -118,11 +118,6 @@ symbols-next_full items i x known whole h e n k =
     symbols-full known (the_passed x) (map the_passed (drop (i + 1) items)) whole n
     (ap (λ ps. with_new symbol_eq known (listed ps)) (sym (next-item the_passed items i x h e)) ∙ k)
 
-pub symbols-end : (items : List program.Passed) (i : ℕ) (known whole : List Symbol) → length items ≤ i
-    → with_new symbol_eq known (listed (map the_passed (drop i items))) ≡ whole → known ≡ whole
-symbols-end items i known whole h k =
-    sym (append-nil known) ∙ ap (λ ps. with_new symbol_eq known (listed (map the_passed ps))) (sym (drop_all i items h)) ∙ k
-
 -- one item more, taken off the end of the reversed list
 pub part-next : (test : Passed → Bool) (xs ys : List program.Passed) (x : program.Passed) (done next whole : List Source) → xs ≡ ys ++ x ∷ []
     → next ≡ done ++ bodies (filter test (the_passed x ∷ [])) → done ++ bodies (filter test (map the_passed (reverse xs))) ≡ whole

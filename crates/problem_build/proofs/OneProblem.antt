@@ -1,5 +1,5 @@
 -- Files hold one problem or have one first refusal.
-use Rattle.std.proofs.Common.{◌≡◌, ℕ, List, Bool, Result, refl, sym, ◌∙◌, ap}
+use Rattle.std.proofs.Common.{◌≡◌, ℕ, List, Bool, Result, sym, ◌∙◌, ap}
 use Rattle.calculus.specs.Syntax.{Problem, Setting}
 use Rattle.calculus.specs.Problems.{is_modal}
 use Rattle.cop_base.specs.Outside.{Files}
@@ -8,16 +8,12 @@ use Rattle.tptp_reader.specs.Reading.{Outcome, IsReading}
 use Rattle.tptp_reader.proofs.OneReading.{one-reading}
 use Rattle.tptp_reader.proofs.Totality.{reading-of}
 use Rattle.problem_build.specs.Refusals.{Refusal}
-use Rattle.problem_build.specs.Walk.{Reader, walk}
+use Rattle.problem_build.specs.Walk.{Reader}
 use Rattle.problem_build.specs.Building.{IsProblemOf, IsExactReader, problem_in}
 
 -- there is one way to read all texts
 pub one-way : (modal : Bool) (a b : Reader) → IsExactReader modal a → IsExactReader modal b → a ≡ b
 one-way modal a b h k = λ i text. one-reading modal text (a text) (b text) (h text) (k text) i
-
--- the walk has one answer
-pub one-walk : (modal : Bool) (a b : Reader) → IsExactReader modal a → IsExactReader modal b → (files : Files) (name root : Name) → walk a files name root ≡ walk b files name root
-one-walk modal a b h k files name root = ap (λ read. walk read files name root) (one-way modal a b h k)
 
 pub one-problem : (files : Files) (name root : Name) (setting : Setting) (r s : Result Problem Refusal) → IsProblemOf files name root setting r → IsProblemOf files name root setting s → r ≡ s
 one-problem files name root setting r s h k =
@@ -31,9 +27,6 @@ exact_reading modal text = (reading-of modal text).0
 
 pub exact_reading-exact : (modal : Bool) → IsExactReader modal (exact_reading modal)
 exact_reading-exact modal text = (reading-of modal text).1
-
-pub some-problem : (files : Files) (name root : Name) (setting : Setting) → IsProblemOf files name root setting (problem_in (exact_reading (is_modal setting.logic)) files name root setting)
-some-problem files name root setting = (exact_reading (is_modal setting.logic), exact_reading-exact (is_modal setting.logic), refl)
 
 -- what a text is read as is what the exact way answers for it
 pub read-is : (modal : Bool) (read : Reader) → IsExactReader modal read → (text : List ℕ) (r : Outcome (List Item)) → IsReading modal text r → read text ≡ r

@@ -6,10 +6,10 @@ use Rattle.std.proofs.lemmas.Bool.{and_from, and_parts}
 use Rattle.calculus.specs.declared.sort.Sort.{Sort}
 use Rattle.calculus.specs.declared.sort.Sort.TheVariants.{TermSort}
 use Rattle.store_theory.specs.Bindings.{places_from, with_cell, with_variables_of}
-use Rattle.store_theory.specs.Patterns.{Grows, Pattern, PatternAtom, Template, more_patterns, no_patterns, p_fun, p_var, patterns_tree, template_fits}
+use Rattle.store_theory.specs.Patterns.{Pattern, PatternAtom, Template, more_patterns, no_patterns, p_fun, p_var, patterns_tree, template_fits}
 use Rattle.store_theory.specs.Stores.{Cell, Store, has_sort_at, sort_of, variable}
 use Rattle.store_theory.proofs.BindingLaws.{sorted_cell}
-use Rattle.store_theory.proofs.PatternLaws.{Grows-built, Grows-variables, Grows-with_cell}
+use Rattle.store_theory.proofs.PatternLaws.{Grows-built, Grows-variables}
 use Rattle.calculus.specs.Equality.{sort_eq}
 use Rattle.calculus.proofs.PlaceLists.{all-at, get-end, get-within}
 use Rattle.term_store.specs.Fitting.{atom_fits_in, fits_in, label_fits_in, parts_fit_in}
@@ -27,9 +27,6 @@ fresh-term s t r e f =
     let u = with_cell (variable TermSort None) s in
     let at : slice_get u.cells r ≡ Some (variable TermSort None) = ap (slice_get u.cells) f ∙ get-end s.cells (variable TermSort None) in
     subst (λ x. IsTrue (has_sort_at x TermSort r)) (sym e) (ap (λ (o : Option Cell). option_map_or (sort_eq TermSort) (option_map sort_of o) false) at)
-
-pub grows-fresh : (s t : Store) → t ≡ with_cell (variable TermSort None) s → Grows s t
-grows-fresh s t e = subst (λ x. Grows s x) (sym e) (Grows-with_cell (variable TermSort None) s)
 
 -- f(Y, Y) over a variable of terms
 pub doubled-fits : (s : Store) (r : ℕ) (p : Pattern) → p ≡ p_fun 1 (more_patterns (p_var 0) (more_patterns (p_var 0) no_patterns)) → IsTrue (has_sort_at s TermSort r) → IsTrue (fits_in s (r ∷ []) TermSort p)

@@ -1,10 +1,10 @@
 -- The beginnings of the choice list of a tree grow trees; what is refused or irregular at a beginning is so behind it.
-use Rattle.std.proofs.Common.{◌≡◌, ℕ, ◌+◌, List, [], ◌∷◌, ◌++◌, Bool, true, false, ◌&&◌, IsTrue, refl, sym, ◌∙◌, ap, ap₂, subst, Option, Some, None, option_and_then, nat_lt, IsSomeAnd}
+use Rattle.std.proofs.Common.{◌≡◌, ℕ, ◌+◌, List, [], ◌∷◌, ◌++◌, Bool, true, false, ◌&&◌, IsTrue, refl, sym, ◌∙◌, ap, ap₂, subst, Option, Some, None, option_and_then, nat_lt}
 use Rattle.std.specs.List.{list_all}
 use Rattle.std.proofs.lemmas.Bool.{false≢true, and_parts}
 use Rattle.calculus.specs.Syntax.{Problem}
 use Rattle.calculus.specs.Tableaux.{is_new_on}
-use Rattle.calculus.specs.Choices.{start, reduction, extension, Choice, GroundChoice, choices_of, ground_choices, Goal, Growth, after_start, grow_at, grow, growth_of, is_within, is_regular, has_depth, IsLive}
+use Rattle.calculus.specs.Choices.{start, reduction, extension, Choice, GroundChoice, choices_of, ground_choices, Goal, Growth, after_start, grow_at, grow, growth_of, is_within, is_regular, has_depth}
 use Rattle.calculus.proofs.GrowthLaws.{closed_growth, grown-closed, within-closed, regular-closed}
 use Rattle.search_theory.specs.States.{State, IsStateOf, growth_at}
 use Rattle.search_theory.specs.Regular.{HasSamePair}
@@ -84,9 +84,6 @@ regular-kept x y k r = (all-split (λ (g : Goal). is_new_on g.path g.literal) x.
 pub within-kept : (d : ℕ) (x y : Growth) → Keeps x y → IsTrue (is_within d y) → IsTrue (is_within d x)
 within-kept d x y k w = (all-split (λ n. nat_lt n d) x.depths k.more_depths (subst (λ ns. IsTrue (list_all (λ n. nat_lt n d) ns)) k.depths w)).0
 
-on-some : (o : Option Growth) (Q : Growth → Type 0) (x : Growth) → o ≡ Some x → Q x → IsSomeAnd o Q
-on-some o Q x e k = rw e k
-
 -- a beginning of the list of a closed tableau: live, and by a regular tree
 pub record ClosedBeginning (P : Problem) (d : ℕ) (p : List Choice) : Type 0 where
   pub choices : List GroundChoice
@@ -100,9 +97,6 @@ pub closed-beginning : (P : Problem) (d : ℕ) (p b : List Choice) → IsTrue (i
 closed-beginning P d p b n (t, c, e) (more, q) =
     let k = beginning P (ground_choices t) (closed_growth t) p more n (grown-closed P d t c) (e ∙ q) in
     record { choices = k.choices; growth = k.growth; names = k.names; grows = k.grows; within = within-kept d k.growth (closed_growth t) k.keeps (within-closed P d t c); regular = regular-kept k.growth (closed_growth t) k.keeps (regular-closed P d t c) }
-
-pub closed-live : (P : Problem) (d : ℕ) (p : List Choice) → ClosedBeginning P d p → IsLive P d p
-closed-live P d p k = (k.choices, record { choices = k.names; grows = on-some (growth_of P k.choices) (λ x. IsTrue (is_within d x)) k.growth k.grows k.within })
 
 -- a beginning of the list of a tree that shows that d is left
 pub record LeftParts (d : ℕ) (x : Growth) : Type 0 where

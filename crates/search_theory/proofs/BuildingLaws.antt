@@ -356,31 +356,3 @@ copy-by_cells old new sides t i stores sorts adds selection values names built =
   where
     mid : Store
     mid = with_variables_of t.sorts old
-
--- ---- built cells stay
-
--- no built cell changes: bindings and further cells alone came
-abbrev pub KeepsBuilt : Store → Store → Type 0
-KeepsBuilt before after = (n : ℕ) (c : Cell) → is_variable c ≡ false → slice_get before.cells n ≡ Some c → slice_get after.cells n ≡ Some c
-
-mutual
-  pub built-kept : (before after : Store) → KeepsBuilt before after → (variables : List ℕ) (p : Pattern) (r : ℕ) → IsCopy before variables p r → IsCopy after variables p r
-  built-kept before after k variables (p_var x) r b = b
-  built-kept before after k variables (p_fun f ps) r (rs, e, b) = (rs, k r (fun_cell f rs) refl e, all-built-kept before after k variables ps rs b)
-  built-kept before after k variables (p_eigen p ps) r (rs, e, b) = (rs, k r (eigen_cell p rs) refl e, all-built-kept before after k variables ps rs b)
-  built-kept before after k variables (p_new p ps) r (rs, e, b) = (rs, k r (new_cell p rs) refl e, all-built-kept before after k variables ps rs b)
-
-  all-built-kept : (before after : Store) → KeepsBuilt before after → (variables : List ℕ) (ps : Patterns) (rs : List ℕ) → AreCopies before variables ps rs → AreCopies after variables ps rs
-  all-built-kept before after k variables no_patterns rs b = b
-  all-built-kept before after k variables (more_patterns p ps) rs (r, qs, e, b, c) = (r, qs, e, built-kept before after k variables p r b, all-built-kept before after k variables ps qs c)
-
--- an atom that was built before the unification is that of the template after it
-pub built_atom-kept : (before after : Store) → KeepsBuilt before after → (variables : List ℕ) (p : PatternAtom) (a : CellAtom) → IsAtomCopy before variables p a → IsAtomCopy after variables p a
-built_atom-kept before after k variables p a b = record { sign = b.sign; symbol = b.symbol; args = all-built-kept before after k variables (patterns_tree p.args) a.args b.args; label = all-built-kept before after k variables (patterns_tree p.label) a.label b.label }
-
--- one cell more keeps what is built
-pub keeps-plus : (s : Store) (c : Cell) → KeepsBuilt s (with_cell c s)
-keeps-plus s c n d b e = get-kept s.cells (c ∷ []) n d e
-
-pub keeps-both : (s t u : Store) → KeepsBuilt s t → KeepsBuilt t u → KeepsBuilt s u
-keeps-both s t u h g n c b e = g n c b (h n c b e)

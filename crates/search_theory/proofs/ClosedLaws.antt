@@ -224,10 +224,3 @@ closed-by_short_growth P d (start i ∷ cs) x b e o j r w =
     short t same =
         let is : instances_in (start i ∷ cs) ≡ instances t = ap instances_in (sym same) ∙ instances_in-tableau t in
         subst (λ xs. IsTrue (if has_unbounded_strings P.setting.logic then list_all (strings_within (total_steps P xs)) xs else true)) is b
-
-short-bounded : (P : Problem) (gs : List GroundChoice) → has_unbounded_strings P.setting.logic ≡ false → IsTrue (are_short P gs)
-short-bounded P gs b = rw b refl
-
--- where strings have a bound of their own, as in the classical logic
-pub closed-by_growth : (P : Problem) (d : ℕ) (gs : List GroundChoice) (x : Growth) → has_unbounded_strings P.setting.logic ≡ false → growth_of P gs ≡ Some x → x.open_goals ≡ [] → IsTrue (are_joined P gs) → IsTrue (is_regular x) → IsTrue (is_within d x) → IsTableauOf P d gs
-closed-by_growth P d gs x b e o j r w = closed-by_short_growth P d gs x (short-bounded P gs b) e o j r w

@@ -1,8 +1,7 @@
 -- The start of a search at one limit, where a limit is left, and what deepening over the limits answers and counts.
-use Rattle.std.proofs.Common.{◌≡◌, ◌⊎◌, ℕ, zero, suc, ◌+◌, ◌*◌, ◌<◌, ◌≤◌, List, [], ◌∷◌, ◌++◌, length, map, ◌&&◌, IsTrue, refl, sym, ap, subst, Option, Some, None, slice_get, nat_lt, inl, inr, arith, IsSomeAnd, ltb-true, lt-ltb}
+use Rattle.std.proofs.Common.{◌≡◌, ◌⊎◌, ℕ, zero, suc, ◌+◌, ◌<◌, ◌≤◌, List, [], ◌∷◌, ◌++◌, ◌&&◌, IsTrue, refl, sym, ap, subst, Option, Some, None, slice_get, nat_lt, inl, inr, arith, IsSomeAnd, ltb-true, lt-ltb}
 use Rattle.std.specs.List.{list_all, AllByRecursion}
-use Rattle.std.proofs.lemmas.Bool.{cases_lt, and_parts, and_from}
-use Rattle.std.proofs.lemmas.List.{length-append}
+use Rattle.std.proofs.lemmas.Bool.{cases_lt, and_parts}
 use Rattle.std.specs.Ordering.{nat_cmp, ordering_then}
 use Rattle.std.specs.Cmp.{nat_cmp_is}
 use Rattle.std.specs.declared.cmp.Ordering.TheVariants.{Less, Greater}
@@ -11,22 +10,17 @@ use Rattle.calculus.specs.Syntax.{Problem}
 use Rattle.calculus.specs.Instances.{ClauseInstance}
 use Rattle.calculus.specs.ComputedInstances.{is_instance}
 use Rattle.calculus.specs.Tableaux.{HasClosed, is_shown}
-use Rattle.calculus.specs.Choices.{start, reduction, extension, Choice, GroundChoice, choices_of, ground_choices, selection_cmp, choice_cmp, choices_cmp, Growth, after_start, growth_of, is_within, has_depth, is_regular, IsLive, IsLeft}
-use Rattle.calculus.specs.Counting.{IsRising, MoreThan}
-use Rattle.calculus.specs.Space.{Member, with_choices, with_lengths, limit_of, IsMember, member_cmp, lengths_cmp, IsEarly, ComesNoLater, derived, exhausted, no_tableau, IsAnswer}
+use Rattle.calculus.specs.Choices.{start, reduction, extension, Choice, GroundChoice, choices_of, ground_choices, selection_cmp, choice_cmp, choices_cmp, Growth, after_start, growth_of, is_within, has_depth, is_regular, IsLeft}
+use Rattle.calculus.specs.Counting.{IsRising}
+use Rattle.calculus.specs.Space.{Member, with_choices, with_lengths, limit_of, IsMember, member_cmp, lengths_cmp, derived, exhausted, no_tableau, IsAnswer}
 use Rattle.calculus.proofs.GrowthLaws.{closed-parts, allowed-instance}
 use Rattle.calculus.proofs.LimitLaws.{none-beyond}
-use Rattle.search_theory.specs.States.{State, IsStateOf, growth_at, choice_at}
-use Rattle.search_theory.specs.Regular.{HasNoSamePair}
-use Rattle.search_theory.specs.Exploring.{BeginsWithOne, Covers, PartInOrder, IsLeftList, IsMemberAt, Explores, behind, IsIn}
+use Rattle.search_theory.specs.States.{State, IsStateOf}
+use Rattle.search_theory.specs.Exploring.{BeginsWithOne, Covers, PartInOrder, IsLeftList, Explores, behind, IsIn}
 use Rattle.search_theory.proofs.BelowLaws.{all-weaken}
 use Rattle.search_theory.proofs.LastChoice.{none≢some}
 use Rattle.search_theory.proofs.StepLaws.{if-some}
-use Rattle.search_theory.proofs.SpareLaws.{own_value}
-use Rattle.search_theory.proofs.RegularLaws.{regular-by_spares, ground-by_spares}
-use Rattle.search_theory.proofs.EndLaws.{IsClassicalState}
-use Rattle.search_theory.proofs.ExploreLaws.{rising-alone, parted-siblings, parted-rising, begins-behind}
-use Rattle.search_theory.proofs.EarlyLaws.{steps-ended}
+use Rattle.search_theory.proofs.ExploreLaws.{parted-siblings, parted-rising, begins-behind}
 
 -- ---- states at a greater limit
 
@@ -38,19 +32,6 @@ pub state-more : (P : Problem) (d e : ℕ) (c : List Choice) (S : State) → d �
 state-more P d e c S l h = record { names = h.names; within = all-weaken (λ n. nat_lt n d) (λ n. nat_lt n e) (λ n. cell-more n d e l) S.growth.depths h.within; cells = h.cells; sound = h.sound; complete = h.complete }
 
 -- ---- where the limit is left
-
-on-some : (o : Option Growth) (Q : Growth → Type 0) (x : Growth) → o ≡ Some x → Q x → IsSomeAnd o Q
-on-some o Q x e k = rw e k
-
--- a state within d + 1 with an extension from a path of d goals and without same pairs shows that d is left
-pub left-by_state : (P : Problem) (base d : ℕ) (c : List Choice) (S : State) (rank : ℕ → ℕ) (bound : ℕ) → IsStateOf P (d + 1) c S → IsClassicalState P base S rank bound → HasNoSamePair S → IsTrue (has_depth d (growth_at (own_value S.store bound) S.growth)) → IsLeft P d
-left-by_state P base d c S rank bound h q n deep =
-    let σ = own_value S.store bound in
-    let x = growth_at σ S.growth in (
-      map (choice_at σ) S.choices,
-      on-some (growth_of P (map (choice_at σ) S.choices)) (λ y. IsTrue (is_within (d + 1) y && has_depth d y && is_regular y)) x (h.sound σ (ground-by_spares P base S rank bound q.store q.choices))
-          (and_from (is_within (d + 1) x && has_depth d x) (is_regular x) (and_from (is_within (d + 1) x) (has_depth d x) h.within deep) (regular-by_spares P base S rank bound q.store q.goals n)),
-    )
 
 -- nothing is pending: the limit is not left
 pub not-left : (P : Problem) (d : ℕ) → Covers (IsLeftList P d) [] → ¬ IsLeft P d
@@ -190,29 +171,3 @@ spent-none P = record { rising = tt; members = tt }
 
 pub member-more : (P : Problem) (d e : ℕ) (m : Member) → d ≤ e → IsMember P d m → IsMember P e m
 member-more P d e m l h = record { from_one = h.from_one; up_to = (let u = h.up_to in omega (arith, u, l)); reached = h.reached }
-
--- a limit more is searched whole
-pub spent-more : (P : Problem) (d : ℕ) (spent more : List Member) (pending : List (List Choice)) → SpentTo P d spent → Explores P (suc d) more pending → SpentTo P (suc d) (spent ++ more)
-spent-more P d spent more pending h k = record {
-  rising = limits-join d spent more h.rising (rising-alone member_cmp more (map (with_choices (suc d)) pending) k.rising) (all-of-each (IsMember P d) (λ m. limit_of m ≤ d) (λ m q. q.up_to) spent h.members) (all-of-each (IsMemberAt P (suc d)) (λ m. d < limit_of m) (λ m q. let e = q.limit in omega (arith, e)) more k.members);
-  members = all-of-both (IsMember P (suc d)) spent more (all-of-each (IsMember P d) (IsMember P (suc d)) (λ m q. member-more P d (suc d) m (omega arith) q) spent h.members) (all-of-each (IsMemberAt P (suc d)) (IsMember P (suc d)) (λ m q. q.member) more k.members);
-}
-
--- where the budget ends at the limit d + 1, more members come no later than any closed tableau than steps were spent
-pub more-than-spent : (P : Problem) (d : ℕ) (spent more : List Member) (p : List Choice) (ps : List (List Choice)) → SpentTo P d spent → Explores P (d + 1) more (p ∷ ps) → IsLive P (d + 1) p → MoreThan member_cmp (ComesNoLater P d) (length spent + length more)
-more-than-spent P d spent more p ps h k live =
-    let ended = steps-ended P (d + 1) more p ps k (omega arith) live in
-    let last = ended.0 in (
-      spent ++ last,
-      record {
-        rising = limits-join d spent last h.rising ended.1.rising (all-of-each (IsMember P d) (λ m. limit_of m ≤ d) (λ m q. q.up_to) spent h.members) (all-of-each (IsEarly P (d + 1)) (λ m. d < limit_of m) (λ m q. let e = q.limit in omega (arith, e)) last ended.1.members);
-        members = all-of-both (ComesNoLater P d) spent last (all-of-each (IsMember P d) (ComesNoLater P d) (λ m q. inl q) spent h.members) (all-of-each (IsEarly P (d + 1)) (ComesNoLater P d) (λ m q. inr q) last ended.1.members);
-      },
-      (let e = length-append spent last in let l = ended.2 in omega (arith, e, l)),
-    )
-
--- ---- the visit ends: each visit of a list spends a step, and a list has at most c children
-
--- (budget - used) times (c + 1), and the number of pending lists
-pub measure-falls : (left c n kids : ℕ) → kids ≤ c → left * (c + 1) + (n + kids) < suc left * (c + 1) + suc n
-measure-falls left c n kids h = let e : suc left * (c + 1) ≡ left * (c + 1) + (c + 1) = omega arith in omega (arith, e, h)

@@ -4,7 +4,7 @@ use Rattle.std.proofs.Common.{◌≡◌, ℕ, zero, suc, ◌<◌, List, [], ◌�
 use Rattle.std.specs.List.{list_all}
 use Rattle.std.proofs.lemmas.Bool.{false≢true, and_parts, and_from}
 use Rattle.calculus.specs.declared.sort.Sort.TheVariants.{TermSort, MarkSort, StringSort}
-use Rattle.calculus.specs.declared.setting.Domains.TheVariants.{Constant, Cumulative, Varying}
+use Rattle.calculus.specs.declared.setting.Domains.TheVariants.{Constant, Varying}
 use Rattle.calculus.specs.Syntax.{Problem}
 use Rattle.calculus.specs.Ground.{GroundTerm, GroundTerms, GroundMark, g_fun, g_eigen, common, own, no_g_terms, more_g_terms, marks_tree, marks_list, values_list}
 use Rattle.calculus.specs.Lists.{marks_list-marks_tree, values_list-values_tree}
@@ -17,13 +17,13 @@ use Rattle.store_theory.specs.Systems.{System, is_label, is_gamma_cell, AreEqual
 use Rattle.calculus.proofs.EqualityLaws.{mark_eq-tells, list_eq-tells}
 use Rattle.store_theory.specs.Templates.{as_term}
 use Rattle.search_theory.specs.States.{terms_by, label_by, values_by}
-use Rattle.search_theory.specs.Demanding.{IsHomeAt, equation, StandsAt, HomesEqual, HasNoConstant, HomesAgree}
+use Rattle.search_theory.specs.Demanding.{IsHomeAt, equation, StandsAt, HasNoConstant, HomesAgree}
 use Rattle.search_theory.proofs.SpareLaws.{IsPart, IsRanked, cell-fits, cell-sorted, all-at, own_value, own-apart}
 use Rattle.search_theory.proofs.GeneralLaws.{term-parts, mark-parts}
 use Rattle.search_theory.proofs.BuildingLaws.{solved-sorted}
 use Rattle.search_theory.proofs.AtomLaws.{values_at-by, terms_at-by, label_at-by}
 use Rattle.search_theory.proofs.SolvingLaws.{label-there}
-use Rattle.search_theory.proofs.GivingLaws.{IsFlat, joined-mark, length-marks}
+use Rattle.search_theory.proofs.GivingLaws.{IsFlat, joined-mark}
 
 -- ---- what stands in an allowed term is allowed
 
@@ -131,14 +131,6 @@ prefix-take [] w k = refl
 prefix-take (m ∷ h) [] k = absurd (false≢true k)
 prefix-take (m ∷ h) (n ∷ w) k = let p = and_parts (mark_eq m n) (is_prefix mark_eq h w) k in ap₂ (λ x xs. x ∷ xs) ((mark_eq-tells m n).0 p.0) (prefix-take h w p.1)
 
--- with varying domains the home of an eigenvariable in a gamma term is the label of the term
-pub forced-varying : (P : Problem) (s : Store) (y : System) (σ : Solution) → P.setting.domains ≡ Varying → Solves s σ → MeetsDemand (AllAllowed P) y σ → (j e p : ℕ) (g : GammaCell) (rs ks : List ℕ) → slice_get y.gammas j ≡ Some g → Holds s e g.term → slice_get s.cells e ≡ Some (eigen_cell p rs) → IsHomeAt P s p rs ks → AreEqual σ (equation ks g.label)
-forced-varying P s y σ d h m j e p g rs ks at held cell home =
-    let (w, label, allowed) = met-gamma P y σ m j g at in
-    let k = eigen-home P w s σ h e p rs cell (held-allowed P w s σ h e g.term held allowed) in
-    let same : label_of P p (values_by σ rs) ≡ w = (list_eq-tells mark_eq mark_eq-tells (label_of P p (values_by σ rs)) w).0 (subst (λ x. IsTrue (home_allows mark_eq x (label_of P p (values_by σ rs)) w)) d k) in
-    (w, home σ h ∙ ap Some same, label)
-
 pub take-marks : (σ : Solution) (n : ℕ) (ms : List ℕ) (w : List GroundMark) → marks_at σ ms ≡ Some w → marks_at σ (take n ms) ≡ Some (take n w)
 take-marks σ zero ms w e = refl
 take-marks σ (suc n) [] w e = let q : [] ≡ w = cc e in ap (λ x. Some (take (suc n) x)) q
@@ -152,17 +144,6 @@ pub all-taken : (p : ℕ → Bool) (n : ℕ) (xs : List ℕ) → IsTrue (list_al
 all-taken p zero xs h = refl
 all-taken p (suc n) [] h = refl
 all-taken p (suc n) (x ∷ xs) h = let q = and_parts (p x) (list_all p xs) h in and_from (p x) (list_all p (take n xs)) q.0 (all-taken p n xs q.1)
-
--- with cumulative domains it is the beginning of this label
-pub forced-cumulative : (P : Problem) (s : Store) (y : System) (σ : Solution) → P.setting.domains ≡ Cumulative → Solves s σ → MeetsDemand (AllAllowed P) y σ → (j e p : ℕ) (g : GammaCell) (rs ks hs ms : List ℕ) → slice_get y.gammas j ≡ Some g → Holds s e g.term → slice_get s.cells e ≡ Some (eigen_cell p rs) → IsHomeAt P s p rs ks → IsFlat s ks hs → IsFlat s g.label ms → AreEqual σ (equation ks (take (length hs) ms))
-forced-cumulative P s y σ d h m j e p g rs ks hs ms at held cell home flat_home flat_label =
-    let (w, label, allowed) = met-gamma P y σ m j g at in
-    let k = eigen-home P w s σ h e p rs cell (held-allowed P w s σ h e g.term held allowed) in
-    let l = label_of P p (values_by σ rs) in
-    let begins : l ≡ take (length l) w = prefix-take l w (subst (λ x. IsTrue (home_allows mark_eq x l w)) d k) in
-    let long : length l ≡ length hs = length-marks σ hs l (sym (flat_home.same σ h) ∙ home σ h) in
-    let right = take-marks σ (length hs) ms w (sym (flat_label.same σ h) ∙ label) in
-    (l, home σ h, marks-label s σ h (take (length hs) ms) (all-taken (has_sort_at s MarkSort) (length hs) ms flat_label.sorted) ∙ right ∙ ap (λ n. Some (take n w)) (sym long) ∙ ap Some (sym begins))
 
 -- a term that is allowed at two labels, with varying domains and without common spares
 mutual
@@ -229,36 +210,14 @@ meets-by_stands P s rank limit y σ h ranked t cells stands = let m = each y.gam
 pub now-label : (s : Store) (σ : Solution) → Solves s σ → (ks ws : List ℕ) → AreEqualNow s (equation ks ws) → label_by σ ks ≡ label_by σ ws
 now-label s σ h ks ws e = let (w, l, r) = e σ h in label_at-by σ ks w l ∙ sym (label_at-by σ ws w r)
 
-prefix-same : (w : List GroundMark) → IsTrue (is_prefix mark_eq w w)
-prefix-same [] = refl
-prefix-same (m ∷ w) = and_from (mark_eq m m) (is_prefix mark_eq w w) ((mark_eq-tells m m).1 refl) (prefix-same w)
-
 pub prefix-taken : (n : ℕ) (w : List GroundMark) → IsTrue (is_prefix mark_eq (take n w) w)
 prefix-taken zero w = refl
 prefix-taken (suc n) [] = refl
 prefix-taken (suc n) (m ∷ w) = and_from (mark_eq m m) (is_prefix mark_eq (take n w) w) ((mark_eq-tells m m).1 refl) (prefix-taken n w)
 
--- with varying domains homes that equal the label allow it
-pub homes-varying : (P : Problem) (s : Store) (σ : Solution) (g : GammaCell) → P.setting.domains ≡ Varying → Solves s σ → HomesEqual P s g → (e p : ℕ) (rs : List ℕ) → Holds s e g.term → slice_get s.cells e ≡ Some (eigen_cell p rs) → IsTrue (home_allows mark_eq P.setting.domains (label_of P p (values_by σ rs)) (label_by σ g.label))
-homes-varying P s σ g d t h e p rs held cell =
-    let (ks, home, now) = h.homes e p rs held cell in
-    let l = label_of P p (values_by σ rs) in
-    let same : l ≡ label_by σ g.label = sym (label_at-by σ ks l (home σ t)) ∙ now-label s σ t ks g.label now in
-    subst (λ x. IsTrue (home_allows mark_eq x l (label_by σ g.label))) (sym d) ((list_eq-tells mark_eq mark_eq-tells l (label_by σ g.label)).1 same)
-
 -- with cumulative domains homes that equal a beginning of the label allow it
 pub record HomesBegin (P : Problem) (s : Store) (g : GammaCell) : Type 0 where
   pub homes : (e p : ℕ) (rs : List ℕ) → Holds s e g.term → slice_get s.cells e ≡ Some (eigen_cell p rs) → (ks : List ℕ) × (n : ℕ) × (ms : List ℕ) × IsHomeAt P s p rs ks × IsFlat s g.label ms × AreEqualNow s (equation ks (take n ms))
-
-pub homes-cumulative : (P : Problem) (s : Store) (σ : Solution) (g : GammaCell) → P.setting.domains ≡ Cumulative → Solves s σ → HomesBegin P s g → IsTrue (is_label s g.label) → (e p : ℕ) (rs : List ℕ) → Holds s e g.term → slice_get s.cells e ≡ Some (eigen_cell p rs) → IsTrue (home_allows mark_eq P.setting.domains (label_of P p (values_by σ rs)) (label_by σ g.label))
-homes-cumulative P s σ g d t h lab e p rs held cell =
-    let (ks, n, ms, home, flat, now) = h.homes e p rs held cell in
-    let l = label_of P p (values_by σ rs) in
-    let w = label_by σ g.label in
-    let whole : marks_at σ ms ≡ Some w = sym (flat.same σ t) ∙ label-there s σ t g.label lab in
-    let part : label_at σ (take n ms) ≡ Some (take n w) = marks-label s σ t (take n ms) (all-taken (has_sort_at s MarkSort) n ms flat.sorted) ∙ take-marks σ n ms w whole in
-    let same : l ≡ take n w = sym (label_at-by σ ks l (home σ t)) ∙ now-label s σ t ks (take n ms) now ∙ label_at-by σ (take n ms) (take n w) part in
-    subst (λ x. IsTrue (home_allows mark_eq x l w)) (sym d) (subst (λ x. IsTrue (is_prefix mark_eq x w)) (sym same) (prefix-taken n w))
 
 -- ---- own spares meet the demand
 

@@ -15,11 +15,6 @@ use Rattle.calculus.proofs.OrderLaws.{choices_cmp_total, member_cmp_total}
 use Rattle.search_theory.specs.Exploring.{BeginsWith, IsClosedList, IsMemberAt, Explores, PartInOrder}
 use Rattle.search_theory.proofs.ExploreLaws.{NotAfter, rising-alone, rising-front, rising-join, all-more, explored, early-first, member-live, first-not-after, member-against, parted-rising, covers-drop, member-choices, tail-parted}
 
-flip-equal : (o : Ordering) → ordering_reverse o ≡ Equal → o ≡ Equal
-flip-equal Less e = cc e
-flip-equal Equal e = e
-flip-equal Greater e = cc e
-
 -- what is before something that is not after z is before z
 pub before-not-after : {A : Type 0} {cmp : A → A → Ordering} → IsTotalOrder cmp → (x y z : A) → cmp x y ≡ Less → NotAfter (cmp y z) → cmp x z ≡ Less
 before-not-after {cmp = cmp} o x y z l n = by (cmp y z) refl

@@ -29,11 +29,6 @@ rising-front cmp [] p ys h = tt
 rising-front cmp (x ∷ []) p ys h = (h.0, tt)
 rising-front cmp (x ∷ y ∷ xs) p ys h = (h.0, rising-front cmp (y ∷ xs) p ys h.1)
 
-pub rising-back : {A : Type 0} (cmp : A → A → Ordering) (xs : List A) (p : A) (ys : List A) → IsRising cmp (xs ++ p ∷ ys) → IsRising cmp (p ∷ ys)
-rising-back cmp [] p ys h = h
-rising-back cmp (x ∷ []) p ys h = h.1
-rising-back cmp (x ∷ y ∷ xs) p ys h = rising-back cmp (y ∷ xs) p ys h.1
-
 pub rising-alone : {A : Type 0} (cmp : A → A → Ordering) (xs ys : List A) → IsRising cmp (xs ++ ys) → IsRising cmp xs
 rising-alone cmp [] ys h = tt
 rising-alone cmp (x ∷ []) ys h = tt
@@ -46,9 +41,6 @@ rising-skip o (x ∷ []) p (q ∷ ys) h = (o.trans x p q h.0 h.1.0, h.1.1)
 rising-skip o (x ∷ y ∷ xs) p ys h = (h.0, rising-skip o (y ∷ xs) p ys h.1)
 
 -- ---- lists and their beginnings
-
-then-less : (o : Ordering) → ordering_then Equal o ≡ o
-then-less o = refl
 
 pub choices-common : (c a b : List Choice) → choices_cmp (c ++ a) (c ++ b) ≡ choices_cmp a b
 choices-common [] a b = refl

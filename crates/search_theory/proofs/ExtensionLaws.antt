@@ -56,11 +56,6 @@ last-at P d c S x h n gs y e g =
         let (z, fz, lz) = growth-before P f fs last y (sym (ap (growth_of P) is) ∙ g) in
         grown-after (f ∷ fs) last is names last_name z fz lz
 
-abbrev pub ground_selection : GroundChoice → List Side
-ground_selection (start i) = i.selection
-ground_selection (reduction up) = []
-ground_selection (extension i place) = i.selection
-
 abbrev pub choice_selection : Choice → List Side
 choice_selection (start s) = s
 choice_selection (reduction up) = []

@@ -1,12 +1,11 @@
--- Own spares are most general: what they make equal, each ground solution makes equal.
-use Rattle.std.proofs.Common.{◌≡◌, ℕ, zero, suc, ◌+◌, ◌<◌, List, [], ◌∷◌, Bool, true, false, ◌||◌, IsTrue, refl, sym, ◌∙◌, ap, ap₂, subst, Option, Some, None, slice_get, arith, ◌≤◌}
-use Rattle.std.proofs.lemmas.Bool.{false≢true}
+-- Where lists of cells have equal values by one solution, and their cells carry over to another, the lists have equal values by that.
+use Rattle.std.proofs.Common.{◌≡◌, ℕ, zero, suc, List, [], ◌∷◌, Bool, true, false, ◌||◌, IsTrue, refl, sym, ◌∙◌, ap, ap₂, subst, Option, Some, None, slice_get}
 use Rattle.calculus.specs.declared.sort.Sort.{Sort}
 use Rattle.calculus.specs.declared.sort.Sort.TheVariants.{TermSort, MarkSort, StringSort}
 use Rattle.calculus.specs.Ground.{GroundTerm, GroundTerms, GroundMark, Value, Values, g_fun, g_eigen, common, own, no_g_terms, more_g_terms, g_new_mark, g_spare_mark, term, steps, no_values, more_values, marks_tree}
 use Rattle.calculus.specs.Lists.{marks_tree-inj}
-use Rattle.store_theory.specs.Stores.{Cell, variable, fun_cell, eigen_cell, new_cell, string_cell, Store, parts_of, has_sort_at, has_value_sort_at, parts_fit, is_store, is_bound, CellValue, a_term, a_mark, a_string, Solution, cons_term, terms_at, cons_value, values_at, cons_mark, marks_at, Solves, GammaCell, IsOwnSpare, AreOwnSpares}
-use Rattle.search_theory.proofs.SpareLaws.{IsPart, IsRanked, cell-fits, cell-sorted, all-at}
+use Rattle.store_theory.specs.Stores.{Cell, variable, fun_cell, eigen_cell, new_cell, string_cell, Store, parts_of, has_sort_at, has_value_sort_at, parts_fit, is_store, CellValue, a_term, a_mark, a_string, Solution, cons_term, terms_at, cons_value, values_at, cons_mark, marks_at}
+use Rattle.search_theory.proofs.SpareLaws.{IsPart, cell-fits, cell-sorted, all-at}
 
 -- ---- the parts of a list of values
 
@@ -135,29 +134,6 @@ value_tag (a_mark (g_new_mark p vs)) = 3
 value_tag (a_mark (g_spare_mark k)) = 4
 value_tag (a_string w) = 5
 
-abbrev cell_tag : Cell → ℕ
-cell_tag (variable TermSort None) = 0
-cell_tag (variable MarkSort None) = 4
-cell_tag (variable StringSort None) = 6
-cell_tag (variable sort (Some k)) = 7
-cell_tag (fun_cell f rs) = 1
-cell_tag (eigen_cell p rs) = 2
-cell_tag (new_cell p rs) = 3
-cell_tag (string_cell rs) = 5
-
--- from the number `base` on no string is unbound, and cells name cells from there on
-pub record IsOwn (base : ℕ) (s : Store) : Type 0 where
-  pub no_open_string : (v : ℕ) → base ≤ v → ¬ (slice_get s.cells v ≡ Some (variable StringSort None))
-  pub names_own : (r k : ℕ) (c : Cell) → base ≤ r → slice_get s.cells r ≡ Some c → IsPart k (parts_of c) → base ≤ k
-
-term-tag : (b : Bool) (s : Store) (gammas : List GammaCell) (σ : Solution) (v n : ℕ) → IsOwnSpare b s gammas σ TermSort v n → value_tag (σ v) ≡ 0
-term-tag true s gammas σ v n h = ap value_tag h
-term-tag false s gammas σ v n h = ap value_tag h.2
-
-term-number : (b : Bool) (s : Store) (gammas : List GammaCell) (σ : Solution) (v w m n : ℕ) → IsOwnSpare b s gammas σ TermSort v m → IsOwnSpare b s gammas σ TermSort w n → σ v ≡ σ w → m ≡ n
-term-number true s gammas σ v w m n h g e = let z : a_term (common m) ≡ a_term (common n) = sym h ∙ e ∙ g in cc z
-term-number false s gammas σ v w m n h g e = let z : a_term (own m (marks_tree h.0)) ≡ a_term (own n (marks_tree g.0)) = sym h.2 ∙ e ∙ g.2 in cc z
-
 -- the parts of a cell are cells
 pub part-cell : (s : Store) → IsTrue (is_store s) → (r k : ℕ) (c : Cell) → slice_get s.cells r ≡ Some c → IsPart k (parts_of c) → (d : Cell) × (slice_get s.cells k ≡ Some d)
 part-cell s h r k c e p = by c (cell-fits s h r c e) p
@@ -184,93 +160,5 @@ part-cell s h r k c e p = by c (cell-fits s h r c e) p
     by (new_cell x rs) f q = valued (all-at (has_value_sort_at s) rs q.0 k f q.1)
     by (string_cell rs) f q = sorted MarkSort (all-at (has_sort_at s MarkSort) rs q.0 k f q.1)
 
--- ---- the law
-
-ended-tag : (b : Bool) (s : Store) (gammas : List GammaCell) (σ : Solution) (number : ℕ → ℕ) → AreOwnSpares b s gammas σ number → (base : ℕ) → IsOwn base s → (r : ℕ) (c : Cell) → base ≤ r → slice_get s.cells r ≡ Some c → is_bound c ≡ false → value_tag (σ r) ≡ cell_tag c
-ended-tag b s gammas σ number h base own_from r (variable TermSort None) w e n = term-tag b s gammas σ r (number r) (h.spares r TermSort e)
-ended-tag b s gammas σ number h base own_from r (variable MarkSort None) w e n = ap value_tag (h.spares r MarkSort e)
-ended-tag b s gammas σ number h base own_from r (variable StringSort None) w e n = absurd (own_from.no_open_string r w e)
-ended-tag b s gammas σ number h base own_from r (variable sort (Some k)) w e n = absurd (false≢true (sym n))
-ended-tag b s gammas σ number h base own_from r (fun_cell f rs) w e n = ap value_tag (h.solves r (fun_cell f rs) e).2
-ended-tag b s gammas σ number h base own_from r (eigen_cell p rs) w e n = ap value_tag (h.solves r (eigen_cell p rs) e).2
-ended-tag b s gammas σ number h base own_from r (new_cell p rs) w e n = ap value_tag (h.solves r (new_cell p rs) e).2
-ended-tag b s gammas σ number h base own_from r (string_cell rs) w e n = ap value_tag (h.solves r (string_cell rs) e).2
-
 pub same-some : {A : Type 0} (o p : Option A) (x y : A) → o ≡ Some x → p ≡ Some y → o ≡ p → x ≡ y
 same-some o p x y e f g = let z : Some x ≡ Some y = sym e ∙ g ∙ f in cc z
-
--- two cells without bindings
-ended-same : (b : Bool) (s : Store) (gammas : List GammaCell) (σ : Solution) (number : ℕ → ℕ) → AreOwnSpares b s gammas σ number → (τ : Solution) → Solves s τ → (r k : ℕ) (c d : Cell) → slice_get s.cells r ≡ Some c → slice_get s.cells k ≡ Some d → cell_tag c ≡ cell_tag d → is_bound c ≡ false → is_bound d ≡ false → ¬ (c ≡ variable StringSort None) → ¬ (d ≡ variable StringSort None) → σ r ≡ σ k → Carries σ τ (parts_of c) (parts_of d) → τ r ≡ τ k
-ended-same b s gammas σ number h τ t r k (variable TermSort None) (variable TermSort None) e f same n m no_open no_open' q ih = ap τ (h.apart r k TermSort e f (term-number b s gammas σ r k (number r) (number k) (h.spares r TermSort e) (h.spares k TermSort f) q))
-ended-same b s gammas σ number h τ t r k (variable MarkSort None) (variable MarkSort None) e f same n m no_open no_open' q ih =
-    let z : a_mark (g_spare_mark (number r)) ≡ a_mark (g_spare_mark (number k)) = sym (h.spares r MarkSort e) ∙ q ∙ h.spares k MarkSort f in
-    let mm : number r ≡ number k = cc z in
-    ap τ (h.apart r k MarkSort e f mm)
-ended-same b s gammas σ number h τ t r k (variable StringSort None) d e f same n m no_open no_open' q ih = absurd (no_open refl)
-ended-same b s gammas σ number h τ t r k (variable sort (Some j)) d e f same n m no_open no_open' q ih = absurd (false≢true (sym n))
-ended-same b s gammas σ number h τ t r k (fun_cell x rs) (fun_cell y ks) e f same n m no_open no_open' q ih =
-    let (ts, at_r, is_r) = h.solves r (fun_cell x rs) e in
-    let (us, at_k, is_k) = h.solves k (fun_cell y ks) f in
-    let z : a_term (g_fun x ts) ≡ a_term (g_fun y us) = sym is_r ∙ q ∙ is_k in
-    let head : x ≡ y = cc z in
-    let args : ts ≡ us = cc z in
-    let (ts', at_r', is_r') = t r (fun_cell x rs) e in
-    let (us', at_k', is_k') = t k (fun_cell y ks) f in
-    let carried = terms-carried σ τ rs ks ts at_r (at_k ∙ ap Some (sym args)) ih in
-    is_r' ∙ ap₂ (λ g xs. a_term (g_fun g xs)) head (same-some (terms_at τ rs) (terms_at τ ks) ts' us' at_r' at_k' carried) ∙ sym is_k'
-ended-same b s gammas σ number h τ t r k (eigen_cell x rs) (eigen_cell y ks) e f same n m no_open no_open' q ih =
-    let (ts, at_r, is_r) = h.solves r (eigen_cell x rs) e in
-    let (us, at_k, is_k) = h.solves k (eigen_cell y ks) f in
-    let z : a_term (g_eigen x ts) ≡ a_term (g_eigen y us) = sym is_r ∙ q ∙ is_k in
-    let head : x ≡ y = cc z in
-    let args : ts ≡ us = cc z in
-    let (ts', at_r', is_r') = t r (eigen_cell x rs) e in
-    let (us', at_k', is_k') = t k (eigen_cell y ks) f in
-    let carried = values-carried σ τ rs ks ts at_r (at_k ∙ ap Some (sym args)) ih in
-    is_r' ∙ ap₂ (λ g xs. a_term (g_eigen g xs)) head (same-some (values_at τ rs) (values_at τ ks) ts' us' at_r' at_k' carried) ∙ sym is_k'
-ended-same b s gammas σ number h τ t r k (new_cell x rs) (new_cell y ks) e f same n m no_open no_open' q ih =
-    let (ts, at_r, is_r) = h.solves r (new_cell x rs) e in
-    let (us, at_k, is_k) = h.solves k (new_cell y ks) f in
-    let z : a_mark (g_new_mark x ts) ≡ a_mark (g_new_mark y us) = sym is_r ∙ q ∙ is_k in
-    let head : x ≡ y = cc z in
-    let args : ts ≡ us = cc z in
-    let (ts', at_r', is_r') = t r (new_cell x rs) e in
-    let (us', at_k', is_k') = t k (new_cell y ks) f in
-    let carried = values-carried σ τ rs ks ts at_r (at_k ∙ ap Some (sym args)) ih in
-    is_r' ∙ ap₂ (λ g xs. a_mark (g_new_mark g xs)) head (same-some (values_at τ rs) (values_at τ ks) ts' us' at_r' at_k' carried) ∙ sym is_k'
-ended-same b s gammas σ number h τ t r k (string_cell rs) (string_cell ks) e f same n m no_open no_open' q ih =
-    let (ts, at_r, is_r) = h.solves r (string_cell rs) e in
-    let (us, at_k, is_k) = h.solves k (string_cell ks) f in
-    let z : a_string ts ≡ a_string us = sym is_r ∙ q ∙ is_k in
-    let args : ts ≡ us = cc z in
-    let (ts', at_r', is_r') = t r (string_cell rs) e in
-    let (us', at_k', is_k') = t k (string_cell ks) f in
-    let carried = marks-carried σ τ rs ks ts at_r (at_k ∙ ap Some (sym args)) ih in
-    is_r' ∙ ap a_string (same-some (marks_at τ rs) (marks_at τ ks) ts' us' at_r' at_k' carried) ∙ sym is_k'
-ended-same b s gammas σ number h τ t r k c (variable StringSort None) e f same n m no_open no_open' q ih = absurd (no_open' refl)
-ended-same b s gammas σ number h τ t r k c (variable sort (Some j)) e f same n m no_open no_open' q ih = absurd (false≢true (sym m))
-ended-same b s gammas σ number h τ t r k c d e f same n m no_open no_open' q ih = absurd (omega (arith, same))
-
--- what own spares make equal, each solution makes equal
-pub most-general : (b : Bool) (s : Store) (rank : ℕ → ℕ) (bound : ℕ) (gammas : List GammaCell) (σ : Solution) (number : ℕ → ℕ) (base : ℕ) → IsTrue (is_store s) → IsRanked s rank bound → IsOwn base s → AreOwnSpares b s gammas σ number → (τ : Solution) → Solves s τ → (n r k : ℕ) (c d : Cell) → rank r + rank k < n → base ≤ r → base ≤ k → slice_get s.cells r ≡ Some c → slice_get s.cells k ≡ Some d → σ r ≡ σ k → τ r ≡ τ k
-most-general b s rank bound gammas σ number base h ranked own_from spares τ t zero r k c d l br bk e f q = absurd (omega (arith, l))
-most-general b s rank bound gammas σ number base h ranked own_from spares τ t (suc n) r k c d l br bk e f q = by c d e f (λ i j x y m bi bj a z w. most-general b s rank bound gammas σ number base h ranked own_from spares τ t n i j x y m bi bj a z w)
-  where
-    by : (x y : Cell) → slice_get s.cells r ≡ Some x → slice_get s.cells k ≡ Some y → ((i j : ℕ) (u v : Cell) → rank i + rank j < n → base ≤ i → base ≤ j → slice_get s.cells i ≡ Some u → slice_get s.cells j ≡ Some v → σ i ≡ σ j → τ i ≡ τ j) → τ r ≡ τ k
-    by (variable sort (Some i)) y a z ih =
-        let p = part-cell s h r i (variable sort (Some i)) a (0, refl) in
-        let fall = ranked.falls r i (variable sort (Some i)) a (0, refl) in
-        (t r (variable sort (Some i)) a).1 ∙ ih i k p.0 y (omega (arith, l, fall)) (own_from.names_own r i (variable sort (Some i)) br a (0, refl)) bk p.1 z (sym (spares.solves r (variable sort (Some i)) a).1 ∙ q)
-    by x (variable sort (Some j)) a z ih =
-        let p = part-cell s h k j (variable sort (Some j)) z (0, refl) in
-        let fall = ranked.falls k j (variable sort (Some j)) z (0, refl) in
-        ih r j x p.0 (omega (arith, l, fall)) br (own_from.names_own k j (variable sort (Some j)) bk z (0, refl)) a p.1 (q ∙ (spares.solves k (variable sort (Some j)) z).1) ∙ sym (t k (variable sort (Some j)) z).1
-    by x y a z ih = ended x y a z refl refl ih
-      where
-        ended : (u v : Cell) → slice_get s.cells r ≡ Some u → slice_get s.cells k ≡ Some v → is_bound u ≡ false → is_bound v ≡ false → ((i j : ℕ) (u' v' : Cell) → rank i + rank j < n → base ≤ i → base ≤ j → slice_get s.cells i ≡ Some u' → slice_get s.cells j ≡ Some v' → σ i ≡ σ j → τ i ≡ τ j) → τ r ≡ τ k
-        ended u v a' z' bu bv ih' =
-            let same = sym (ended-tag b s gammas σ number spares base own_from r u br a' bu) ∙ ap value_tag q ∙ ended-tag b s gammas σ number spares base own_from k v bk z' bv in
-            ended-same b s gammas σ number spares τ t r k u v a' z' same bu bv (λ g. own_from.no_open_string r br (a' ∙ ap Some g)) (λ g. own_from.no_open_string k bk (z' ∙ ap Some g)) q (λ i j pi pj eq.
-            let ci = part-cell s h r i u a' pi in
-            let cj = part-cell s h k j v z' pj in
-            ih' i j ci.0 cj.0 (let fi = ranked.falls r i u a' pi in let fj = ranked.falls k j v z' pj in omega (arith, l, fi, fj)) (own_from.names_own r i u br a' pi) (own_from.names_own k j v bk z' pj) ci.1 cj.1 eq)

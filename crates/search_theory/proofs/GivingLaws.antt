@@ -125,11 +125,6 @@ pub record IsFlat (s : Store) (ws ms : List ℕ) : Type 0 where
 pub flat-none : (s : Store) → IsFlat s [] []
 flat-none s = record { sorted = refl; same = λ σ h. refl }
 
-mark-value : (v : CellValue) → IsTrue (has_sort MarkSort v) → (m : GroundMark) × (v ≡ a_mark m)
-mark-value (a_mark m) h = (m, refl)
-mark-value (a_term t) h = absurd (false≢true h)
-mark-value (a_string w) h = absurd (false≢true h)
-
 pub joined-mark : (v : CellValue) → IsTrue (has_sort MarkSort v) → (o : Option (List GroundMark)) → join_label v o ≡ cons_mark v o
 joined-mark (a_mark m) h (Some w) = refl
 joined-mark (a_mark m) h None = refl

@@ -1,6 +1,5 @@
 -- The label that is followed by cells is the home of the eigenvariable, by each ground solution.
-use Rattle.std.proofs.Common.{◌≡◌, ℕ, List, [], ◌∷◌, ◌++◌, false, IsTrue, refl, sym, ◌∙◌, ap, Option, Some, option_and_then}
-use Rattle.std.specs.Option.{option_map_or}
+use Rattle.std.proofs.Common.{◌≡◌, ℕ, List, [], ◌∷◌, ◌++◌, false, IsTrue, refl, sym, ◌∙◌, ap, Some}
 use Rattle.std.proofs.lemmas.Bool.{false≢true}
 use Rattle.std.proofs.lemmas.List.{map-append}
 use Rattle.calculus.specs.declared.sort.Sort.TheVariants.{TermSort, StringSort}
@@ -9,22 +8,16 @@ use Rattle.calculus.specs.declared.setting.Logic.TheVariants.{Classical, Intuiti
 use Rattle.calculus.specs.declared.kind.Shape.{Shape}
 use Rattle.calculus.specs.declared.kind.Shape.TheVariants.{Alpha, Beta, Gamma, Delta, Literal}
 use Rattle.calculus.specs.declared.kind.ModalPart.{ModalPart}
-use Rattle.calculus.specs.Syntax.{Problem}
 use Rattle.calculus.specs.Ground.{GroundTerm, GroundMark, g_new_mark, term, steps, marks_list, marks_tree, values_tree}
 use Rattle.calculus.specs.Lists.{marks_list-marks_tree}
-use Rattle.calculus.specs.Kinds.{shape_of, modal_of}
-use Rattle.calculus.specs.Positions.{Node}
 use Rattle.calculus.specs.Labels.{nu_label, pi_label}
-use Rattle.calculus.specs.Skolem.{Reached, take_string, after_modal, take_term, after_shape, label_along, way_to}
+use Rattle.calculus.specs.Skolem.{Reached, take_string, after_modal, take_term, after_shape}
 use Rattle.store_theory.specs.Stores.{new_cell, Store, CellValue, a_term, a_mark, a_string, has_sort, Solution, Solves}
-use Rattle.store_theory.specs.Systems.{is_label}
 use Rattle.store_theory.specs.Templates.{as_value, as_label}
 use Rattle.search_theory.specs.States.{label_by, values_by}
-use Rattle.search_theory.specs.Demanding.{IsHomeAt}
-use Rattle.search_theory.specs.HomeCells.{CellReached, PassesModal, by_plain, by_string, by_mark, PassesShape, by_term, by_other, is_gamma_shape, LeadsToLabel, ended, passed, reached_by}
+use Rattle.search_theory.specs.HomeCells.{CellReached, PassesModal, by_plain, by_string, by_mark, PassesShape, by_term, by_other, is_gamma_shape, reached_by}
 use Rattle.search_theory.proofs.BuildingLaws.{solved-sorted}
 use Rattle.search_theory.proofs.AtomLaws.{values_at-by, label-append}
-use Rattle.search_theory.proofs.SolvingLaws.{label-there}
 
 append-none : {A : Type 0} (xs : List A) → xs ++ [] ≡ xs
 append-none [] = refl
@@ -84,16 +77,3 @@ shape-by s σ h x c d (by_other e) = other x e (reached_by σ c)
     other Delta e r = refl
     other Literal e r = refl
     other Gamma e r = absurd (false≢true (sym e))
-
-way-by : (l : Logic) (s : Store) (σ : Solution) → Solves s σ → (ns : List Node) (c : CellReached) (ks : List ℕ) → LeadsToLabel l s ns c ks → label_along l ns (reached_by σ c) ≡ label_by σ ks
-way-by l s σ h ns c ks ended = refl
-way-by l s σ h ns c ks (passed {n = n} {ns = rest} {c = c'} {d = d} {e = e} {ks = ks'} m x more) =
-    let first = modal-by l s σ h n.position (modal_of l n.sign n.formula) c d m in
-    let second = shape-by s σ h (shape_of n.sign n.formula) d e x in
-    ap (λ (o : Option Reached). option_map_or (λ (next : Reached). label_along l rest next) (option_and_then (after_shape (shape_of n.sign n.formula)) o) (label_by σ c.label)) first
-    ∙ ap (λ (o : Option Reached). option_map_or (λ (next : Reached). label_along l rest next) o (label_by σ c.label)) second
-    ∙ way-by l s σ h rest e ks more
-
--- the home of an eigenvariable by its values
-pub home-by_way : (P : Problem) (s : Store) (p : ℕ) (rs ks : List ℕ) → LeadsToLabel P.setting.logic s (way_to P p) (record { label = []; taken = []; rest = rs }) ks → IsTrue (is_label s ks) → IsHomeAt P s p rs ks
-home-by_way P s p rs ks way sorted σ h = label-there s σ h ks sorted ∙ ap Some (sym (way-by P.setting.logic s σ h (way_to P p) (record { label = []; taken = []; rest = rs }) ks way))

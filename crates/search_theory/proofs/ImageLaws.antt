@@ -8,7 +8,7 @@ use Rattle.calculus.specs.Choices.{start, reduction, extension, goals_on, choice
 use Rattle.store_theory.specs.Stores.{Solution, names_below}
 use Rattle.store_theory.specs.Systems.{CellAtom}
 use Rattle.store_theory.specs.Templates.{as_term, as_value, as_label}
-use Rattle.search_theory.specs.States.{CellClause, CellChoice, CellGoal, terms_by, label_by, values_by, literal_by, clause_at, choice_at, goal_at, cell_goals_on, new_cell_goals, atom_is_below, clause_is_below, choice_is_below, goal_is_below, name_of, Agree}
+use Rattle.search_theory.specs.States.{CellClause, CellChoice, CellGoal, terms_by, label_by, values_by, literal_by, clause_at, choice_at, goal_at, cell_goals_on, new_cell_goals, atom_is_below, clause_is_below, choice_is_below, name_of, Agree}
 
 -- ---- removing, and goals
 
@@ -76,11 +76,3 @@ choice-agree n σ τ a (extension i place) h = ap (λ j. extension j place) (cla
 
 pub choices-agree : (n : ℕ) (σ τ : Solution) → Agree n σ τ → (cs : List CellChoice) → IsTrue (list_all (choice_is_below n) cs) → map (choice_at σ) cs ≡ map (choice_at τ) cs
 choices-agree n σ τ a = map-agree (choice_is_below n) (choice_at σ) (choice_at τ) (choice-agree n σ τ a)
-
-pub goal-agree : (n : ℕ) (σ τ : Solution) → Agree n σ τ → (g : CellGoal) → IsTrue (goal_is_below n g) → goal_at σ g ≡ goal_at τ g
-goal-agree n σ τ a g h =
-    let p = and_parts (atom_is_below n g.literal) (list_all (atom_is_below n) g.path) h in
-    ap₂ (λ x xs. record { literal = x; path = xs }) (literal-agree n σ τ a g.literal p.0) (literals-agree n σ τ a g.path p.1)
-
-pub goals-agree : (n : ℕ) (σ τ : Solution) → Agree n σ τ → (gs : List CellGoal) → IsTrue (list_all (goal_is_below n) gs) → map (goal_at σ) gs ≡ map (goal_at τ) gs
-goals-agree n σ τ a = map-agree (goal_is_below n) (goal_at σ) (goal_at τ) (goal-agree n σ τ a)

@@ -4,18 +4,15 @@ use Rattle.std.specs.Option.{option_map_or}
 use Rattle.std.proofs.lemmas.Bool.{false≢true, cases_Bool, cases_lt}
 use Rattle.std.proofs.lemmas.Option.{slice_get_within}
 use Rattle.calculus.specs.declared.sort.Sort.{Sort}
-use Rattle.calculus.specs.declared.sort.Sort.TheVariants.{TermSort, StringSort}
+use Rattle.calculus.specs.declared.sort.Sort.TheVariants.{TermSort}
 use Rattle.calculus.specs.Syntax.{Problem}
 use Rattle.calculus.specs.Ground.{common, g_spare_mark, no_marks, more_marks, term, steps}
 use Rattle.calculus.specs.Equality.{sort_eq}
 use Rattle.calculus.specs.Skolem.{is_delta_position, is_pi_position, fits_way}
 use Rattle.store_theory.specs.Stores.{Cell, variable, fun_cell, eigen_cell, new_cell, string_cell, Store, sort_of, parts_of, has_sort_at, is_store}
-use Rattle.store_theory.specs.Bindings.{with_cell}
 use Rattle.search_theory.specs.LabelledCells.{sort_values, is_labelled_cell, AreLabelled}
-use Rattle.search_theory.specs.Solving.{IsClosedSet}
 use Rattle.search_theory.proofs.SpareLaws.{IsPart}
 use Rattle.search_theory.proofs.GeneralLaws.{part-cell}
-use Rattle.search_theory.proofs.BuildingLaws.{get-kept, get-more}
 
 -- the old cell d stays, or it is a variable that was bound to a cell of In
 abbrev pub StaysOrBinds : (ℕ → Type 0) → Store → ℕ → Cell → Type 0
@@ -68,27 +65,6 @@ cell-of P Old New old new h r c i e = elim (cases_lt r (length old.cells)) [
     by d f o (inl g) = stayed o (f ∙ ap Some (same-some (slice_get new.cells r) d c g e))
     by d f o (inr (sort, k, q, g, w)) = was_bound sort k o (f ∙ ap Some q) (sym (same-some (slice_get new.cells r) (variable sort (Some k)) c g e)) w
 
--- no string of the new set is unbound, and it has the parts of its cells
-pub closed-goes_on : (P : Problem) (Old New : ℕ → Type 0) (old new : Store) → GoesOn P Old New old new → ((r : ℕ) (c : Cell) → length old.cells ≤ r → New r → slice_get new.cells r ≡ Some c → ¬ (c ≡ variable StringSort None)) → IsClosedSet Old old → IsClosedSet New new
-closed-goes_on P Old New old new h no_string c = record {
-  no_open_string = λ v i e. opened v i e (cell-of P Old New old new h v (variable StringSort None) i e);
-  names = λ r k j x i e p. parts r k x i e (j, p) (cell-of P Old New old new h r x i e);
-}
-  where
-    opened : (v : ℕ) → New v → slice_get new.cells v ≡ Some (variable StringSort None) → CellOf P Old New old new v (variable StringSort None) → ⊥
-    opened v i e (is_new l) = no_string v (variable StringSort None) l i e refl
-    opened v i e (stayed o f) = c.no_open_string v o f
-    opened v i e (was_bound sort k o f q w) = cc q
-
-    parts : (r k : ℕ) (x : Cell) → New r → slice_get new.cells r ≡ Some x → IsPart k (parts_of x) → CellOf P Old New old new r x → New k
-    parts r k x i e p (is_new l) = h.new_parts r k x l i e p
-    parts r k x i e p (stayed o f) = h.kept k (c.names r k p.0 x o f p.1)
-    parts r k x i e p (was_bound sort j o f q w) = one (subst (λ y. IsPart k (parts_of y)) q p)
-      where
-        one : IsPart k (j ∷ []) → New k
-        one (zero, z) = let same : j ≡ k = cc z in subst New same w
-        one (suc n, z) = cc z
-
 -- the cells of the new set are built right
 pub labelled-goes_on : (P : Problem) (Old New : ℕ → Type 0) (old new : Store) → IsTrue (is_store old) → GoesOn P Old New old new → AreLabelled P Old old → AreLabelled P New new
 labelled-goes_on P Old New old new st h a = record {
@@ -119,27 +95,6 @@ some-cell s r l = each s.cells r l
     each [] n k = absurd (omega (arith, k))
     each (c ∷ cs) zero k = (c, refl)
     each (c ∷ cs) (suc n) k = each cs n (omega (arith, k))
-
--- the old set and the new cell
-abbrev pub with_last : (ℕ → Type 0) → Store → ℕ → Type 0
-with_last Old s r = Old r ⊎ (r ≡ length s.cells)
-
-pub goes_on-plus : (P : Problem) (Old : ℕ → Type 0) (s : Store) (c : Cell) → ((r : ℕ) → Old r → r < length s.cells) → ((k : ℕ) → IsPart k (parts_of c) → Old k) → IsTrue (is_labelled_cell P (with_cell c s) c) → GoesOn P Old (with_last Old s) s (with_cell c s)
-goes_on-plus P Old s c inside parts built = record {
-  kept = λ r o. inl o;
-  back = λ r l i. elim i [ inl o ↦ o | inr e ↦ absurd (omega (arith, l, e)) ];
-  others = λ r d e. ap (option_map sort_of) (get-kept s.cells (c ∷ []) r d e);
-  old_cells = λ r d o e. inl (get-kept s.cells (c ∷ []) r d e);
-  new_parts = λ r k x l i e p. inl (parts k (subst (λ y. IsPart k (parts_of y)) (last r x l e) p));
-  new_built = λ r x l i e. subst (λ y. IsTrue (is_labelled_cell P (with_cell c s) y)) (sym (last r x l e)) built;
-  below = some-cell s;
-}
-  where
-    last : (r : ℕ) (x : Cell) → length s.cells ≤ r → slice_get (with_cell c s).cells r ≡ Some x → x ≡ c
-    last r x l e = elim (get-more s.cells c r x e) [
-      | inl old ↦ (let k = slice_get_within s.cells r x old in absurd (omega (arith, k, l)))
-      | inr new ↦ sym new.1
-    ]
 
 -- ---- one binding
 

@@ -13,7 +13,6 @@ pub mod ClassicalLaws
 pub mod RegularLaws
 -- closed tableaux
 pub mod ClosedLaws
-pub mod EndLaws
 -- the depth-first visit
 pub mod ExploreLaws
 pub mod EarlyLaws

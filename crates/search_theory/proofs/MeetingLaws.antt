@@ -1,8 +1,7 @@
--- What copying and unification give: the steps of the search, and where there is none.
-use Rattle.std.proofs.Common.{◌≡◌, ℕ, zero, suc, List, length, map, not, ◌&&◌, ◌==◌, IsTrue, sym, ◌∙◌, ap, subst, Option, Some, None, option_map, slice_get, arith, eq-eqb, eqb-true}
+-- Literals that are opposite, and what unification gives for a reduction: the step, or that there is none.
+use Rattle.std.proofs.Common.{◌≡◌, ℕ, zero, suc, List, map, not, ◌&&◌, ◌==◌, IsTrue, sym, ◌∙◌, ap, Option, Some, None, option_map, slice_get, eq-eqb, eqb-true}
 use Rattle.std.proofs.lemmas.Bool.{false≢true, and_parts, and_from}
 use Rattle.std.proofs.lemmas.Option.{slice_get-map}
-use Rattle.calculus.specs.declared.sign.Side.{Side}
 use Rattle.calculus.specs.Ground.{GroundLiteral}
 use Rattle.calculus.specs.Equality.{sign_eq, grounds_eq}
 use Rattle.calculus.specs.Tableaux.{ancestor}
@@ -10,11 +9,8 @@ use Rattle.calculus.specs.Choices.{are_opposite, is_opposite}
 use Rattle.store_theory.specs.Stores.{Store}
 use Rattle.store_theory.specs.Systems.{CellAtom}
 use Rattle.calculus.proofs.EqualityLaws.{grounds_eq-tells}
-use Rattle.store_theory.specs.Patterns.{PatternAtom, Template}
-use Rattle.store_theory.specs.Templates.{pattern_literal, literals_by}
-use Rattle.search_theory.specs.States.{CellClause, CellGoal, atom_is_below, clause_is_below, literal_by}
-use Rattle.search_theory.specs.Steps.{AreUnified, Clash, IsFreshClause, IsExtended, CannotExtend, IsReduced, CannotReduce}
-use Rattle.search_theory.proofs.ImageLaws.{literal-agree}
+use Rattle.search_theory.specs.States.{CellGoal, literal_by}
+use Rattle.search_theory.specs.Steps.{AreUnified, Clash, IsReduced, CannotReduce}
 
 -- ---- opposite literals
 
@@ -44,44 +40,6 @@ some-opposite a o b e h = rw e h
 
 pub literal-there : {A B : Type 0} (f : A → B) (xs : List A) (k : ℕ) (x : A) → slice_get xs k ≡ Some x → slice_get (map f xs) k ≡ Some (f x)
 literal-there f xs k x e = slice_get-map f xs k ∙ ap (option_map f) e
-
--- ---- extension
-
--- copy and unify
-pub extended-by_copy : (old mid new : Store) (sides : List Side) (t : Template) (i : CellClause) (goal b : CellAtom) (place : ℕ) → IsFreshClause old mid sides t i → slice_get i.literals place ≡ Some b → IsTrue (not (sign_eq goal.sign b.sign)) → goal.symbol ≡ b.symbol → AreUnified mid new goal.args b.args → IsTrue (atom_is_below (length old.cells) goal) → IsExtended old new sides t i goal place
-extended-by_copy old mid new sides t i goal b place k at signs symbols u below = record {
-  selection = k.selection;
-  longer = let e = u.size in let l = k.longer in omega (arith, e, l);
-  names = subst (λ n. IsTrue (clause_is_below n i)) (sym u.size) k.names;
-  back = λ σ s.
-      let v = u.back σ s in
-      let w = k.back σ v.0 in
-      (w.0, w.1, w.2, some-opposite (literal_by σ goal) (slice_get (map (literal_by σ) i.literals) place) (literal_by σ b) (literal-there (literal_by σ) i.literals place b at) (opposite-from (literal_by σ goal) (literal_by σ b) (record { signs = signs; symbols = symbols; args = v.1 })));
-  forth = λ σ s vs sorts opp.
-      let (τ, st, agree, v) = k.forth σ s vs sorts in
-      let w = k.back τ st in
-      let same = w.2 ∙ ap (λ us. literals_by us t) v in
-      let opp_b = opposite-some (literal_by σ goal) (slice_get (literals_by vs t) place) (literal_by τ b) (sym (ap (λ xs. slice_get xs place) same) ∙ literal-there (literal_by τ) i.literals place b at) opp in
-      let opp_τ = subst (λ x. IsTrue (are_opposite x (literal_by τ b))) (literal-agree (length old.cells) σ τ agree goal below) opp_b in
-      (τ, u.forth τ st (opposite-parts (literal_by τ goal) (literal_by τ b) opp_τ).args, agree, v);
-}
-
--- the head has the same sign or another symbol
-pub cannot-extend-by_sign : (s : Store) (t : Template) (goal : CellAtom) (p : PatternAtom) (place : ℕ) → slice_get t.literals place ≡ Some p → IsTrue (sign_eq goal.sign p.sign) → CannotExtend s t goal place
-cannot-extend-by_sign s t goal p place at same σ h vs sorts opp =
-    let opp_p = opposite-some (literal_by σ goal) (slice_get (literals_by vs t) place) (pattern_literal vs p) (literal-there (pattern_literal vs) t.literals place p at) opp in
-    false≢true (sym (ap not same) ∙ (opposite-parts (literal_by σ goal) (pattern_literal vs p) opp_p).signs)
-
-pub cannot-extend-by_symbol : (s : Store) (t : Template) (goal : CellAtom) (p : PatternAtom) (place : ℕ) → slice_get t.literals place ≡ Some p → ¬ (goal.symbol ≡ p.symbol) → CannotExtend s t goal place
-cannot-extend-by_symbol s t goal p place at differs σ h vs sorts opp =
-    let opp_p = opposite-some (literal_by σ goal) (slice_get (literals_by vs t) place) (pattern_literal vs p) (literal-there (pattern_literal vs) t.literals place p at) opp in
-    differs (opposite-parts (literal_by σ goal) (pattern_literal vs p) opp_p).symbols
-
--- there is no literal at the place
-pub cannot-extend-by_place : (s : Store) (t : Template) (goal : CellAtom) (place : ℕ) → slice_get t.literals place ≡ None → CannotExtend s t goal place
-cannot-extend-by_place s t goal place at σ h vs sorts opp =
-    let none : slice_get (literals_by vs t) place ≡ None = slice_get-map (pattern_literal vs) t.literals place ∙ ap (option_map (pattern_literal vs)) at in
-    false≢true (rw none at opp)
 
 -- ---- reduction
 

@@ -11,7 +11,7 @@ use Rattle.calculus.specs.Syntax.{Problem}
 use Rattle.calculus.specs.Ground.{GroundMark}
 use Rattle.calculus.specs.Skolem.{common_spares}
 use Rattle.calculus.specs.Sizes.{g_term_size, mark_size, values_size}
-use Rattle.store_theory.specs.Stores.{Cell, variable, fun_cell, eigen_cell, new_cell, string_cell, Store, parts_of, has_sort_at, is_store, CellValue, a_term, a_mark, a_string, has_sort, Solution, marks_at, Solves, Holds, GammaCell, IsHome, AreOwnSpares}
+use Rattle.store_theory.specs.Stores.{Cell, variable, fun_cell, eigen_cell, new_cell, string_cell, Store, parts_of, has_sort_at, is_store, CellValue, a_term, a_mark, a_string, has_sort, Solution, marks_at, Solves, Holds, GammaCell, IsHome}
 use Rattle.store_theory.specs.Systems.{System, MeetsDemand, AllAllowed}
 use Rattle.search_theory.specs.States.{label_by}
 use Rattle.search_theory.proofs.BelowLaws.{all-weaken}
@@ -19,7 +19,7 @@ use Rattle.search_theory.proofs.SpareLaws.{IsPart, IsRanked, cell-fits, cell-sor
 use Rattle.search_theory.proofs.GeneralLaws.{mark-parts, part-cell}
 use Rattle.search_theory.proofs.BuildingLaws.{solved-sorted}
 use Rattle.search_theory.proofs.GivingLaws.{IsFlat}
-use Rattle.search_theory.proofs.RuleLaws.{SpareRule, needed, homes, rule_value, IsRankedBy, AreHomes, own-by_homes}
+use Rattle.search_theory.proofs.RuleLaws.{SpareRule, needed, homes, IsRankedBy, AreHomes}
 use Rattle.search_theory.proofs.AdmittedLaws.{weight, part-lighter, values-lighter}
 use Rattle.search_theory.proofs.DemandLaws.{met-gamma, held-allowed}
 use Rattle.search_theory.proofs.HomeRanks.{is_within, allowed-within}
@@ -210,13 +210,6 @@ ranked-by_met P s rank bound y σ home h ranked d c tells t met = record { falls
     falls r k (eigen_cell f rs) e p = part r k (eigen_cell f rs) e p
     falls r k (new_cell f rs) e p = part r k (new_cell f rs) e p
     falls r k (string_cell rs) e p = part r k (string_cell rs) e p
-
--- so there are own spares
-pub own-by_met : (P : Problem) (s : Store) (rank : ℕ → ℕ) (bound : ℕ) (y : System) (σ : Solution) (home : ℕ → List ℕ) → IsTrue (is_store s) → IsRanked s rank bound → P.setting.domains ≡ Varying → common_spares P ≡ false → TellsHomes s y.gammas home → Solves s σ → MeetsDemand (AllAllowed P) y σ → (τ : Solution) × AreOwnSpares false s y.gammas τ (λ r. r)
-own-by_met P s rank bound y σ home h ranked d c tells t met = (
-  rule_value (homes home) s (above (met_rank s σ rank bound) (length s.cells)),
-  own-by_homes s y.gammas home (met_rank s σ rank bound) (above (met_rank s σ rank bound) (length s.cells)) h (ranked-by_met P s rank bound y σ home h ranked d c tells t met) (homes-by_labels s y.gammas home tells),
-)
 
 -- ---- where a cell needs itself
 

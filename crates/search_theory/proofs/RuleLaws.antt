@@ -189,15 +189,3 @@ own-by_homes s gammas home rank bound h ranked is_home = record {
     by v TermSort e q = (label_by (rule_value (homes home) s bound) (home v), is_home v e (rule_value (homes home) s bound) solves, q)
     by v MarkSort e q = q
     by v StringSort e q = q
-
--- the ranks serve the store too
-pub ranked-homes : (s : Store) (home : ℕ → List ℕ) (rank : ℕ → ℕ) (bound : ℕ) → IsRankedBy (homes home) s rank bound → IsRanked s rank bound
-ranked-homes s home rank bound h = record { falls = λ r k c e p. h.falls r k c e (by r k c p); below = h.below }
-  where
-    by : (r k : ℕ) (c : Cell) → IsPart k (parts_of c) → IsPart k (needed (homes home) r c)
-    by r k (variable sort None) p = let z = p.1 in cc z
-    by r k (variable sort (Some j)) p = p
-    by r k (fun_cell f rs) p = p
-    by r k (eigen_cell x rs) p = p
-    by r k (new_cell x rs) p = p
-    by r k (string_cell rs) p = p

@@ -1,6 +1,6 @@
 -- Solving a system for one list of lengths: each step keeps the solutions, a step that fails shows that there is none, and at the end own
 -- spares are one.
-use Rattle.std.proofs.Common.{◌≡◌, ℕ, zero, suc, ◌≤◌, ◌==◌, List, [], ◌∷◌, ◌++◌, length, Bool, true, false, ◌&&◌, ◌||◌, not, nat_le, IsTrue, refl, sym, ◌∙◌, ap, ap₂, subst, Some, None, slice_get, nat_lt, inl, inr, arith, lt-ltb, ltb-true}
+use Rattle.std.proofs.Common.{◌≡◌, ℕ, zero, suc, ◌==◌, List, [], ◌∷◌, ◌++◌, length, Bool, true, false, ◌&&◌, ◌||◌, not, nat_le, IsTrue, refl, sym, ◌∙◌, ap, ap₂, subst, Some, None, slice_get, nat_lt, inl, inr, lt-ltb}
 use Rattle.std.specs.List.{list_all, AllByRecursion}
 use Rattle.std.proofs.lemmas.Bool.{false≢true, and_parts, and_from}
 use Rattle.std.proofs.lemmas.Option.{slice_get_within}
@@ -14,12 +14,12 @@ use Rattle.calculus.specs.Tableaux.{has_unbounded_strings}
 use Rattle.calculus.specs.Space.{is_tried_length}
 use Rattle.store_theory.specs.Stores.{Cell, variable, Store, parts_of, has_sort_at, is_store, OccursIn, here, in_part, CellValue, a_term, a_mark, a_string, has_sort, Solution, terms_at, label_at, cons_term, join_label, Solves, names_below, GammaCell, IsOwnSpare, AreOwnSpares}
 use Rattle.calculus.specs.Labels.{is_step_length}
-use Rattle.store_theory.specs.Systems.{CellAtom, Equation, Pair, System, is_label, is_equation, is_gamma_cell, is_cell_atom, is_pair, is_system, OccursInSystem, HasNoOpenString, AreEqual, IsLiteral, Differ, AreUses, MeetsDemand, bound_of, IsStep, AreEqualNow, AreTried, HaveLengths, IsBoundedSolution, HasSolution, OwnSparesSolve, OwnSparesMeet}
+use Rattle.store_theory.specs.Systems.{CellAtom, Equation, Pair, System, is_label, is_equation, is_gamma_cell, is_cell_atom, is_pair, is_system, OccursInSystem, HasNoOpenString, AreEqual, IsLiteral, Differ, AreUses, bound_of, IsStep, AreEqualNow, AreTried, HaveLengths, IsBoundedSolution, HasSolution, OwnSparesSolve, OwnSparesMeet}
 use Rattle.calculus.proofs.EqualityLaws.{literal_eq-tells}
 use Rattle.store_theory.specs.Templates.{as_label}
-use Rattle.search_theory.specs.States.{label_by, literal_by, atom_is_below, Agree}
+use Rattle.search_theory.specs.States.{label_by, literal_by, Agree}
 use Rattle.search_theory.specs.Regular.{AreSame}
-use Rattle.search_theory.specs.Solving.{IsNarrowed, CannotEqual, CannotHave, IsSolving, IsClosedSet, HasCells}
+use Rattle.search_theory.specs.Solving.{IsSolving, IsClosedSet, HasCells}
 use Rattle.search_theory.proofs.SpareLaws.{IsRanked, cell-sorted, terms-there, or-both}
 use Rattle.search_theory.proofs.BelowLaws.{all-weaken}
 use Rattle.search_theory.proofs.BuildingLaws.{solved-sorted}
@@ -44,9 +44,6 @@ label-below s (r ∷ rs) h =
     one : (t : Bool) → has_sort_at s MarkSort r ≡ t → IsTrue (t || has_sort_at s StringSort r) → IsTrue (nat_lt r (length s.cells))
     one true e k = sorted-below s MarkSort r e
     one false e k = sorted-below s StringSort r k
-
-atom-below : (s : Store) (a : CellAtom) → IsTrue (is_cell_atom s a) → IsTrue (atom_is_below (length s.cells) a)
-atom-below s a h = let p = and_parts (list_all (has_sort_at s TermSort) a.args) (is_label s a.label) h in and_from (names_below (length s.cells) a.args) (names_below (length s.cells) a.label) (all-below s TermSort a.args p.0) (label-below s a.label p.1)
 
 -- ---- solutions that agree on the old cells
 
@@ -137,57 +134,12 @@ carried l Demanded old new y ns h k σ b = let t = k.forth σ b in (t.0, t.1, t.
 
 -- ---- the steps
 
-pub solving-started : (l : Logic) (Demanded : List GammaUse → Type 0) (old new : Store) (y : System) (ns : List ℕ) → IsNarrowed old new (λ σ. HaveLengths σ y.strings ns) → IsSolving l Demanded old y ns new
-solving-started l Demanded old new y ns h = record { longer = h.longer; back = h.back; forth = λ σ b. h.forth σ b.solution.solves b.lengths }
-
-agree-both : (m n : ℕ) (σ τ υ : Solution) → m ≤ n → Agree m σ τ → Agree n τ υ → Agree m σ υ
-agree-both m n σ τ υ l a b r h = a r h ∙ b r (let k = ltb-true r m h in lt-ltb r n (omega (arith, k, l)))
-
--- the store was narrowed to what each bounded solution has
-pub solving-narrowed : (l : Logic) (Demanded : List GammaUse → Type 0) (old mid new : Store) (y : System) (ns : List ℕ) (Q : Solution → Type 0) → IsTrue (is_system old y) → IsSolving l Demanded old y ns mid → IsNarrowed mid new Q → ((τ : Solution) → Solves mid τ → IsBoundedSolution l Demanded old y ns τ → Q τ) → IsSolving l Demanded old y ns new
-solving-narrowed l Demanded old mid new y ns Q h k n q = record {
-  longer = let a = k.longer in let b = n.longer in omega (arith, a, b);
-  back = λ σ t. k.back σ (n.back σ t).0;
-  forth = λ σ b.
-      let c = carried l Demanded old mid y ns h k σ b in
-      let t = n.forth c.0 c.1 (q c.0 c.1 c.3) in
-      (t.0, t.1, agree-both (length old.cells) (length mid.cells) σ c.0 t.0 k.longer c.2 t.2);
-}
-
 each-at : {A : Type 0} (Q : A → Type 0) (xs : List A) (j : ℕ) (x : A) → AllByRecursion Q xs → slice_get xs j ≡ Some x → Q x
 each-at Q [] j x h e = cc e
 each-at Q (y ∷ ys) zero x h e = let q : y ≡ x = cc e in subst Q q h.0
 each-at Q (y ∷ ys) (suc j) x h e = each-at Q ys j x h.1 e
 
--- an equation of the system was made equal
-pub solving-equation : (l : Logic) (Demanded : List GammaUse → Type 0) (old mid new : Store) (y : System) (ns : List ℕ) (j : ℕ) (e : Equation) → IsTrue (is_system old y) → slice_get y.equations j ≡ Some e → IsSolving l Demanded old y ns mid → IsNarrowed mid new (λ σ. AreEqual σ e) → IsSolving l Demanded old y ns new
-solving-equation l Demanded old mid new y ns j e h at k n = solving-narrowed l Demanded old mid new y ns (λ σ. AreEqual σ e) h k n (λ τ t b. each-at (AreEqual τ) y.equations j e b.solution.equal at)
-
--- an equation that the demand forces was made equal
-pub solving-forced : (l : Logic) (Demanded : List GammaUse → Type 0) (old mid new : Store) (y : System) (ns : List ℕ) (e : Equation) → IsTrue (is_system old y) → ((σ : Solution) → Solves mid σ → MeetsDemand Demanded y σ → AreEqual σ e) → IsSolving l Demanded old y ns mid → IsNarrowed mid new (λ σ. AreEqual σ e) → IsSolving l Demanded old y ns new
-solving-forced l Demanded old mid new y ns e h forced k n = solving-narrowed l Demanded old mid new y ns (λ σ. AreEqual σ e) h k n (λ τ t b. forced τ t b.solution.demanded)
-
--- cells were added
-pub solving-added : (l : Logic) (Demanded : List GammaUse → Type 0) (old mid new : Store) (y : System) (ns : List ℕ) → IsTrue (is_system old y) → IsSolving l Demanded old y ns mid → IsNarrowed mid new (λ σ. Unit {0}) → IsSolving l Demanded old y ns new
-solving-added l Demanded old mid new y ns h k n = solving-narrowed l Demanded old mid new y ns (λ σ. Unit {0}) h k n (λ τ t b. tt)
-
--- what is equal stays equal
-pub equal-kept : (old new : Store) (Q : Solution → Type 0) (e : Equation) → IsNarrowed old new Q → AreEqualNow old e → AreEqualNow new e
-equal-kept old new Q e n h σ t = h σ (n.back σ t).0
-
-pub equal-made : (old new : Store) (e : Equation) → IsNarrowed old new (λ σ. AreEqual σ e) → AreEqualNow new e
-equal-made old new e n σ t = (n.back σ t).1
-
 -- ---- failures
-
-pub none-by_lengths : (l : Logic) (Demanded : List GammaUse → Type 0) (s : Store) (y : System) (ns : List ℕ) → CannotHave s y.strings ns → ¬ HasSolution l Demanded s y ns
-none-by_lengths l Demanded s y ns h (σ, b) = h σ b.solution.solves b.lengths
-
-pub none-by_equation : (l : Logic) (Demanded : List GammaUse → Type 0) (old new : Store) (y : System) (ns : List ℕ) (j : ℕ) (e : Equation) → IsTrue (is_system old y) → slice_get y.equations j ≡ Some e → IsSolving l Demanded old y ns new → CannotEqual new e → ¬ HasSolution l Demanded old y ns
-none-by_equation l Demanded old new y ns j e h at k n (σ, b) = let c = carried l Demanded old new y ns h k σ b in n c.0 c.1 (each-at (AreEqual c.0) y.equations j e c.3.solution.equal at)
-
-pub none-by_forced : (l : Logic) (Demanded : List GammaUse → Type 0) (old new : Store) (y : System) (ns : List ℕ) (e : Equation) → IsTrue (is_system old y) → ((σ : Solution) → Solves new σ → MeetsDemand Demanded y σ → AreEqual σ e) → IsSolving l Demanded old y ns new → CannotEqual new e → ¬ HasSolution l Demanded old y ns
-none-by_forced l Demanded old new y ns e h forced k n (σ, b) = let c = carried l Demanded old new y ns h k σ b in n c.0 c.1 (forced c.0 c.1 c.3.solution.demanded)
 
 pub none-by_pair : (l : Logic) (Demanded : List GammaUse → Type 0) (old new : Store) (y : System) (ns : List ℕ) (j : ℕ) (p : Pair) → IsTrue (is_system old y) → slice_get y.pairs j ≡ Some p → IsSolving l Demanded old y ns new → AreSame new p.upper p.lower → ¬ HasSolution l Demanded old y ns
 none-by_pair l Demanded old new y ns j p h at k same (σ, b) =
@@ -211,14 +163,6 @@ system-set s y h = record {
 
 pub system-cells : (s : Store) (y : System) → HasCells (OccursInSystem s y) y
 system-cells s y i r e = (i, r, e, here)
-
--- and whatever closed set has the system's cells has all that occurs there
-pub occurs-in-set : (In : ℕ → Type 0) (s : Store) → IsClosedSet In s → (v r : ℕ) → OccursIn s v r → In r → In v
-occurs-in-set In s h v r here m = m
-occurs-in-set In s h v r (in_part i {k = j} {c = c} e p more) m = occurs-in-set In s h v j more (h.names r j i c m e p)
-
-pub no-open-by_set : (In : ℕ → Type 0) (s : Store) (y : System) → IsClosedSet In s → HasCells In y → HasNoOpenString s y
-no-open-by_set In s y h c v o (i, r, e, w) = h.no_open_string v (occurs-in-set In s h v r w (c i r e)) o
 
 -- own spares tell the variables of a closed set apart
 pub own-distinct : (b : Bool) (In : ℕ → Type 0) (s : Store) (gammas : List GammaCell) (σ : Solution) (number : ℕ → ℕ) → IsClosedSet In s → AreOwnSpares b s gammas σ number → AreDistinct In s σ number

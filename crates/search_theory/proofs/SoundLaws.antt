@@ -7,7 +7,7 @@ use Rattle.calculus.specs.Instances.{ClauseInstance}
 use Rattle.calculus.specs.Tableaux.{is_new_on, is_shown}
 use Rattle.calculus.specs.declared.sign.Side.{Side}
 use Rattle.calculus.specs.Syntax.{Problem}
-use Rattle.calculus.specs.Choices.{start, reduction, extension, Choice, Goal, Growth, goals_on, grow, growth_of, is_within, is_regular, IsLive}
+use Rattle.calculus.specs.Choices.{start, reduction, extension, Choice, Goal, Growth, goals_on, grow, growth_of, is_within, is_regular}
 use Rattle.calculus.proofs.GrowthLaws.{on-some}
 use Rattle.calculus.specs.Cut.{IsRegularLive, followed_by}
 use Rattle.store_theory.specs.Stores.{Store, Solution}
@@ -35,9 +35,6 @@ beginning-sound P d c k = (
   record { choices = k.names; grows = on-some (λ x. IsTrue (is_within d x)) (growth_of P k.choices) k.growth k.grows k.within },
   on-some (λ x. IsTrue (is_regular x)) (growth_of P k.choices) k.growth k.grows k.regular,
 )
-
-pub sound-live : (P : Problem) (d : ℕ) (c : List Choice) → IsRegularLive P d c → IsLive P d c
-sound-live P d c (gs, follows, regular) = (gs, follows)
 
 -- a dead end is not sound
 pub dead-unsound : (P : Problem) (d : ℕ) (c : List Choice) → IsDead P c → ¬ IsRegularLive P d c

@@ -176,9 +176,6 @@ or-both true b c d f g h = rw (f refl) refl
 or-both false b true d f g h = refl
 or-both false b false d f g h = g h
 
-pub own_spares : Store → ℕ → Solution
-own_spares s bound = own_value s bound
-
 pub own-fixed : (s : Store) (rank : ℕ → ℕ) (bound : ℕ) → IsRanked s rank bound → (r : ℕ) (c : Cell) → slice_get s.cells r ≡ Some c → own_value s bound r ≡ own_cell (own_value s bound) r c
 own-fixed s rank bound h r c e = sym (stable s rank bound h bound r (h.below r)) ∙ ap (own_at (own_value s bound) r) e
 

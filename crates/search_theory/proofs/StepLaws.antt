@@ -91,13 +91,6 @@ live-state P d c S h σ g = (map (choice_at σ) S.choices, record { choices = na
     on-some : (o : Option Growth) (x : Growth) → o ≡ Some x → IsTrue (is_within d x) → IsSomeAnd o (λ y. IsTrue (is_within d y))
     on-some o x e k = rw e k
 
-pub grows-live : (P : Problem) (d : ℕ) (c : List Choice) → IsLive P d c → Grows P c
-grows-live P d c (gs, f) = by (growth_of P gs) refl f.grows
-  where
-    by : (o : Option Growth) → growth_of P gs ≡ o → IsSomeAnd o (λ x. IsTrue (is_within d x)) → Grows P c
-    by None e k = elim k [ ]
-    by (Some x) e k = (gs, x, f.choices, e)
-
 -- ---- the start
 
 abbrev pub start_state : Store → CellClause → State

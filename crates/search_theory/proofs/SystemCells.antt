@@ -1,16 +1,14 @@
 -- Where the cells of a system stand, that a system stays one, and what adding built cells is for solving.
-use Rattle.std.proofs.Common.{◌≡◌, ℕ, zero, suc, ◌+◌, List, [], ◌∷◌, ◌++◌, Bool, ◌&&◌, ◌||◌, IsTrue, ap, ◌∙◌, Some, slice_get}
+use Rattle.std.proofs.Common.{◌≡◌, ℕ, zero, suc, ◌+◌, List, [], ◌∷◌, ◌++◌, ◌&&◌, ◌||◌, IsTrue, ap, ◌∙◌, Some, slice_get}
 use Rattle.std.specs.List.{list_all, flat_map, AllByRecursion}
 use Rattle.std.proofs.lemmas.Bool.{and_parts, and_from}
 use Rattle.calculus.specs.declared.sort.Sort.{Sort}
 use Rattle.calculus.specs.declared.sort.Sort.TheVariants.{TermSort, MarkSort, StringSort}
 use Rattle.store_theory.specs.Stores.{Store, has_sort_at, GammaCell}
 use Rattle.store_theory.specs.Systems.{CellAtom, Equation, Pair, System, is_label, is_equation, is_gamma_cell, is_cell_atom, is_pair, is_system, cells_of_atom, cells_of}
-use Rattle.store_theory.specs.Bindings.{AddsBuilt}
-use Rattle.search_theory.specs.Solving.{IsNarrowed, HasCells}
+use Rattle.search_theory.specs.Solving.{HasCells}
 use Rattle.search_theory.proofs.BelowLaws.{all-weaken}
 use Rattle.search_theory.proofs.SpareLaws.{IsPart, or-both}
-use Rattle.search_theory.proofs.BuildingLaws.{adds-longer, adds-back, adds-forth}
 use Rattle.search_theory.proofs.SolvingLaws.{system-parts, PairIn, HasPairsIn}
 
 -- ---- parts of joined lists
@@ -64,12 +62,6 @@ pairs-in In s y well h = record { pairs = each y.pairs (system-parts s y well).p
           each ps q.1 (λ k x. i k (part-right k (pair_cells p) (flat_map pair_cells ps) x)),
         )
 
--- ---- built cells
-
--- adding built cells narrows nothing: as where a demand builds the names of a home
-pub narrowed-built : (s t : Store) → AddsBuilt s t → IsNarrowed s t (λ σ. Unit {0})
-narrowed-built s t adds = record { longer = adds-longer s t adds; back = λ σ h. (adds-back s t adds σ h, tt); forth = λ σ h q. adds-forth s t adds σ h }
-
 -- ---- sorts stay
 
 -- each cell of the old store has its sort in the new one
@@ -95,20 +87,3 @@ system-stays old new y k h =
     (all-weaken (has_sort_at old StringSort) (has_sort_at new StringSort) (k StringSort) y.strings p.strings))
     (all-weaken (is_gamma_cell old) (is_gamma_cell new) (λ g q. (let r = and_parts (has_sort_at old TermSort g.term) (is_label old g.label) q in and_from (has_sort_at new TermSort g.term) (is_label new g.label) (k TermSort g.term r.0) (label-stays old new k g.label r.1))) y.gammas p.gammas))
     (all-weaken (is_pair old) (is_pair new) (λ q w. (let r = and_parts (is_cell_atom old q.upper) (is_cell_atom old q.lower) w in and_from (is_cell_atom new q.upper) (is_cell_atom new q.lower) (atom-stays old new k q.upper r.0) (atom-stays old new k q.lower r.1))) y.pairs p.pairs)
-
-all-of-both : {A : Type 0} (p : A → Bool) (xs ys : List A) → IsTrue (list_all p xs) → IsTrue (list_all p ys) → IsTrue (list_all p (xs ++ ys))
-all-of-both p [] ys a b = b
-all-of-both p (x ∷ xs) ys a b = let q = and_parts (p x) (list_all p xs) a in and_from (p x) (list_all p (xs ++ ys)) q.0 (all-of-both p xs ys q.1 b)
-
--- the system that a choice adds to, from what it adds
-pub system-more : (s : Store) (y z : System) → IsTrue (is_system s y) → IsTrue (is_system s z) → IsTrue (is_system s (record { equations = y.equations ++ z.equations; strings = y.strings ++ z.strings; pis = y.pis + z.pis; gammas = y.gammas ++ z.gammas; pairs = y.pairs ++ z.pairs }))
-system-more s y z a b =
-    let p = system-parts s y a in
-    let q = system-parts s z b in
-    and_from (list_all (is_equation s) (y.equations ++ z.equations) && list_all (has_sort_at s StringSort) (y.strings ++ z.strings) && list_all (is_gamma_cell s) (y.gammas ++ z.gammas)) (list_all (is_pair s) (y.pairs ++ z.pairs))
-    (and_from (list_all (is_equation s) (y.equations ++ z.equations) && list_all (has_sort_at s StringSort) (y.strings ++ z.strings)) (list_all (is_gamma_cell s) (y.gammas ++ z.gammas))
-    (and_from (list_all (is_equation s) (y.equations ++ z.equations)) (list_all (has_sort_at s StringSort) (y.strings ++ z.strings))
-    (all-of-both (is_equation s) y.equations z.equations p.equations q.equations)
-    (all-of-both (has_sort_at s StringSort) y.strings z.strings p.strings q.strings))
-    (all-of-both (is_gamma_cell s) y.gammas z.gammas p.gammas q.gammas))
-    (all-of-both (is_pair s) y.pairs z.pairs p.pairs q.pairs)

@@ -15,7 +15,7 @@ use Rattle.calculus.specs.Labels.{is_step_length}
 use Rattle.calculus.specs.Lists.{marks_list-marks_tree}
 use Rattle.calculus.specs.Skolem.{are_admitted_marks, is_admitted_value}
 use Rattle.calculus.specs.Choices.{start, reduction, extension}
-use Rattle.store_theory.specs.Stores.{Cell, variable, fun_cell, eigen_cell, new_cell, string_cell, Store, TrailMark, parts_of, sort_of, is_bound, is_store, has_value_sort_at, cells_bound_by, cut_at, CellValue, a_term, a_mark, a_string, has_sort, Solution, cons_term, terms_at, cons_value, values_at, cons_mark, marks_at, CellHolds, Solves}
+use Rattle.store_theory.specs.Stores.{Cell, variable, fun_cell, eigen_cell, new_cell, string_cell, Store, TrailMark, parts_of, sort_of, is_store, has_value_sort_at, cells_bound_by, cut_at, CellValue, a_term, a_mark, a_string, has_sort, Solution, cons_term, terms_at, cons_value, values_at, cons_mark, marks_at, CellHolds, Solves}
 use Rattle.store_theory.specs.Systems.{CellAtom}
 use Rattle.store_theory.specs.Templates.{as_value, is_step_value, is_choice_of_values}
 use Rattle.store_theory.proofs.SolutionLaws.{FitsOpen, solution_by, solved-sort}
@@ -53,9 +53,6 @@ holds-alike σ τ r (fun_cell f rs) (ts, x, y) (us, z, w) parts free = w ∙ ap 
 holds-alike σ τ r (eigen_cell p rs) (ts, x, y) (us, z, w) parts free = w ∙ ap (λ q. a_term (g_eigen p q)) (same-item (values_at τ rs) (values_at σ rs) us ts (values-follow σ τ rs parts) z x) ∙ sym y
 holds-alike σ τ r (new_cell p rs) (ts, x, y) (us, z, w) parts free = w ∙ ap (λ q. a_mark (g_new_mark p q)) (same-item (values_at τ rs) (values_at σ rs) us ts (values-follow σ τ rs parts) z x) ∙ sym y
 holds-alike σ τ r (string_cell rs) (ts, x, y) (us, z, w) parts free = w ∙ ap a_string (same-item (marks_at τ rs) (marks_at σ rs) us ts (marks-follow σ τ rs parts) z x) ∙ sym y
-
-AgreeBelow : (ℕ → Type 0) → (ℕ → ℕ) → Solution → Solution → ℕ → Type 0
-AgreeBelow R rank σ τ n = (r : ℕ) → R r → rank r < n → τ r ≡ σ r
 
 module _ (R : ℕ → Type 0) (old new : Store) (rank : ℕ → ℕ) (bound : ℕ) (ranked : IsRanked new rank bound) (kept : AreKept R old new) (σ τ : Solution) (before : Solves old σ) (after : Solves new τ) (free : (v : ℕ) (sort : Sort) → R v → slice_get new.cells v ≡ Some (variable sort None) → τ v ≡ σ v) where
   agree-below : (n r : ℕ) → R r → rank r < n → τ r ≡ σ r
@@ -277,22 +274,6 @@ cut-is m s r c d e f =
     let (x, g, q) = cut-cells (take m.entries s.trail) 0 r m.cells s.cells c e in
     let same : x ≡ d = let z : Some x ≡ Some d = sym g ∙ f in cc z in
     (contains (take m.entries s.trail) (0 + r), q ∙ ap (cut_cell (contains (take m.entries s.trail) (0 + r))) same)
-
-same-cell : (b : Bool) (d : Cell) → is_bound (cut_cell b d) ≡ is_bound d → cut_cell b d ≡ d
-same-cell true (variable sort o) e = refl
-same-cell false (variable sort None) e = refl
-same-cell false (variable sort (Some k)) e = absurd (false≢true e)
-same-cell b (fun_cell f rs) e = refl
-same-cell b (eigen_cell f rs) e = refl
-same-cell b (new_cell f rs) e = refl
-same-cell b (string_cell rs) e = refl
-
--- a cell of the cut that is bound where it was bound is the same
-pub cut-same : (m : TrailMark) (s : Store) (r : ℕ) (c d : Cell) → slice_get (cut_at m s).cells r ≡ Some c → slice_get s.cells r ≡ Some d → is_bound c ≡ is_bound d → c ≡ d
-cut-same m s r c d e f b =
-    let (x, g, q) = cut-cells (take m.entries s.trail) 0 r m.cells s.cells c e in
-    let same : x ≡ d = let z : Some x ≡ Some d = sym g ∙ f in cc z in
-    q ∙ ap (cut_cell (contains (take m.entries s.trail) (0 + r))) same ∙ same-cell (contains (take m.entries s.trail) (0 + r)) d (ap is_bound (sym (q ∙ ap (cut_cell (contains (take m.entries s.trail) (0 + r))) same)) ∙ b)
 
 no-binding : (b : Bool) (sort : Sort) → cut_cell b (variable sort None) ≡ variable sort None
 no-binding true sort = refl

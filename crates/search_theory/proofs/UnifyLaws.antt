@@ -1,5 +1,5 @@
 -- Unifying two lists of terms pair by pair.
-use Rattle.std.proofs.Common.{◌≡◌, ℕ, List, [], ◌∷◌, IsTrue, refl, ◌∙◌, ap, ap₂}
+use Rattle.std.proofs.Common.{◌≡◌, ℕ, List, ◌∷◌, IsTrue, ◌∙◌, ap, ap₂}
 use Rattle.std.proofs.lemmas.Bool.{false≢true}
 use Rattle.calculus.specs.declared.sort.Sort.TheVariants.{TermSort}
 use Rattle.calculus.specs.Ground.{more_g_terms}
@@ -15,10 +15,6 @@ term-same (a_term x) (a_mark y) f g z = absurd (false≢true g)
 term-same (a_term x) (a_string y) f g z = absurd (false≢true g)
 term-same (a_mark x) v f g z = absurd (false≢true f)
 term-same (a_string x) v f g z = absurd (false≢true f)
-
--- no pair
-pub unified-none : (s : Store) → AreUnified s s [] []
-unified-none s = record { size = refl; back = λ σ h. (h, refl); forth = λ σ h e. h }
 
 -- the first pair, and then the others
 pub unified-more : (old mid new : Store) (a b : ℕ) (xs ys : List ℕ) → IsTrue (has_sort_at old TermSort a) → IsTrue (has_sort_at old TermSort b) → IsUnified old mid a b → AreUnified mid new xs ys → AreUnified old new (a ∷ xs) (b ∷ ys)
@@ -46,10 +42,3 @@ clash-later old mid a b xs ys ta tb first clash σ h e =
     let one : as_term (σ a) ≡ as_term (σ b) = cc e in
     let more : terms_by σ xs ≡ terms_by σ ys = cc e in
     clash σ (first.forth σ h (term-same (σ a) (σ b) (solved-sorted old σ h TermSort a ta) (solved-sorted old σ h TermSort b tb) one)) more
-
--- the lists differ in length
-pub clash-short : (s : Store) (b : ℕ) (ys : List ℕ) → Clash s [] (b ∷ ys)
-clash-short s b ys σ h e = cc e
-
-pub clash-long : (s : Store) (a : ℕ) (xs : List ℕ) → Clash s (a ∷ xs) []
-clash-long s a xs σ h e = cc e

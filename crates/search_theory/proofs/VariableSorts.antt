@@ -1,18 +1,14 @@
 -- The variables of a copy have the sorts of the template, in the store and in each store that goes on from it.
-use Rattle.std.proofs.Common.{◌≡◌, ℕ, zero, suc, List, [], ◌∷◌, Bool, true, false, IsTrue, refl, sym, ◌∙◌, ap, Option, Some, option_map, slice_get, if◌then◌else◌}
+use Rattle.std.proofs.Common.{◌≡◌, ℕ, List, [], ◌∷◌, true, false, IsTrue, refl, ◌∙◌, ap, Option, Some, option_map, slice_get}
 use Rattle.std.specs.List.{list_all}
 use Rattle.std.specs.Option.{option_map_or}
 use Rattle.std.proofs.lemmas.Bool.{and_from}
 use Rattle.calculus.specs.declared.sort.Sort.{Sort}
 use Rattle.calculus.specs.declared.sort.Sort.TheVariants.{TermSort, MarkSort, StringSort}
-use Rattle.calculus.specs.Ground.{common, g_spare_mark, no_marks, more_marks, term, steps}
 use Rattle.calculus.specs.Equality.{sort_eq}
 use Rattle.store_theory.specs.Stores.{Store, sort_of, has_sort_at}
 use Rattle.store_theory.specs.Patterns.{HaveSortsAt}
-use Rattle.search_theory.specs.LabelledCells.{sort_value}
 use Rattle.search_theory.specs.StateSystems.{string_cells}
-use Rattle.search_theory.specs.RightPatterns.{spare_values}
-use Rattle.search_theory.proofs.LabelledBuilt.{AreSortedBy}
 
 -- a store that keeps the sorts of cells keeps these
 pub sorts-kept : (old new : Store) → ((r : ℕ) (sort : Sort) → option_map sort_of (slice_get old.cells r) ≡ Some sort → option_map sort_of (slice_get new.cells r) ≡ Some sort) → (sorts : List Sort) (rs : List ℕ) → HaveSortsAt old sorts rs → HaveSortsAt new sorts rs
@@ -31,22 +27,3 @@ strings-sorted s (sort ∷ sorts) rs (r, qs, e, at, more) = ap (λ xs. list_all 
     by TermSort a m = m
     by MarkSort a m = m
     by StringSort a m = and_from (has_sort_at s StringSort r) (list_all (has_sort_at s StringSort) (string_cells sorts qs)) (sort-there s r StringSort StringSort a) m
-
--- and they have the spare values of their sorts
-pub sorted-by : (s : Store) (sorts : List Sort) (rs : List ℕ) → HaveSortsAt s sorts rs → AreSortedBy s sorts rs
-sorted-by s [] rs h k r e = let z : slice_get [] k ≡ Some r = sym (ap (λ xs. slice_get xs k) h) ∙ e in cc z
-sorted-by s (sort ∷ sorts) rs (q, qs, e, at, more) zero r f =
-    let z : slice_get (q ∷ qs) zero ≡ Some r = sym (ap (λ xs. slice_get xs zero) e) ∙ f in
-    let same : q ≡ r = cc z in
-    by sort (sym (ap (λ x. option_map sort_of (slice_get s.cells x)) same) ∙ at)
-  where
-    by : (x : Sort) → option_map sort_of (slice_get s.cells r) ≡ Some x → slice_get (spare_values (x ∷ sorts)) zero ≡ Some (sort_value s r)
-    by TermSort a = ap (λ (b : Bool). Some (if b then term (common 0) else steps (more_marks (g_spare_mark 0) no_marks))) (sym (sort-there s r TermSort TermSort a))
-    by MarkSort a = ap (λ (b : Bool). Some (if b then term (common 0) else steps (more_marks (g_spare_mark 0) no_marks))) (sym (sort-there s r TermSort MarkSort a))
-    by StringSort a = ap (λ (b : Bool). Some (if b then term (common 0) else steps (more_marks (g_spare_mark 0) no_marks))) (sym (sort-there s r TermSort StringSort a))
-sorted-by s (sort ∷ sorts) rs (q, qs, e, at, more) (suc k) r f = by sort (sorted-by s sorts qs more k r (sym (ap (λ xs. slice_get xs (suc k)) e) ∙ f))
-  where
-    by : (x : Sort) → slice_get (spare_values sorts) k ≡ Some (sort_value s r) → slice_get (spare_values (x ∷ sorts)) (suc k) ≡ Some (sort_value s r)
-    by TermSort g = g
-    by MarkSort g = g
-    by StringSort g = g

@@ -1,15 +1,12 @@
--- Where what is bound occurs in two cells, and so does what it is bound to, sets of cells that have both cells stay closed.
-use Rattle.std.proofs.Common.{◌≡◌, ◌≤◌, ℕ, zero, suc, [], ◌∷◌, refl, sym, ◌∙◌, ap, subst, Option, None, Some, IsTrue, inl, inr, arith, ◌⊎◌, nat_le, true, le-leb, leb-true}
+-- Where what is bound names cells from a place on alone, and so does what it is bound to, cells from there on still name only such.
+use Rattle.std.proofs.Common.{◌≡◌, ◌≤◌, ℕ, refl, sym, ◌∙◌, ap, subst, Option, None, Some, IsTrue, inl, inr, arith, ◌⊎◌, nat_le, true, le-leb, leb-true}
 use Rattle.std.specs.Prelude.{slice_get}
 use Rattle.std.specs.List.{list_all}
 use Rattle.std.proofs.lemmas.Bool.{and_from}
 use Rattle.calculus.specs.declared.sort.Sort.{Sort}
-use Rattle.calculus.specs.declared.sort.Sort.TheVariants.{StringSort}
 use Rattle.store_theory.specs.Stores.{Cell, variable, Store, parts_of, OccursIn, here, in_part}
 use Rattle.store_theory.specs.Bindings.{BindsOnly, BindsWithin, NamesFrom}
 use Rattle.calculus.proofs.PlaceLists.{get-within, get-there, all-at}
-use Rattle.search_theory.specs.Solving.{IsClosedSet}
-use Rattle.search_theory.proofs.SolvingLaws.{occurs-in-set}
 
 -- a cell of the new store was there before, or is a variable that was bound
 pub data BoundCell (old : Store) (n : ℕ) (c : Cell) : Type 0 where
@@ -46,25 +43,3 @@ names-within base a b old new binds within h low_a low_b n c low e = by (bound-c
         let at : slice_get new.cells n ≡ Some (variable sort (Some r)) = e ∙ ap Some q in
         let l : base ≤ r = either (base ≤ r) (OccursIn old r a) (OccursIn old r b) (within.target n r sort f at) (λ o. occurs-from base old h r a o low_a) (λ o. occurs-from base old h r b o low_b) in
         subst (λ d. IsTrue (list_all (nat_le base) (parts_of d))) (sym q) (and_from (nat_le base r) true (le-leb base r l) refl)
-
--- a closed set stays closed
-pub closed-within : (In : ℕ → Type 0) (a b : ℕ) (old new : Store) → BindsOnly old new → BindsWithin a b old new → IsClosedSet In old → In a → In b → IsClosedSet In new
-closed-within In a b old new binds within h in_a in_b = record {
-  no_open_string = λ v i e. opened v i (bound-cell old new v (variable StringSort None) binds e);
-  names = λ r k j c i e p. named r k j c i e p (bound-cell old new r c binds e);
-}
-  where
-    opened : (v : ℕ) → In v → BoundCell old v (variable StringSort None) → ⊥
-    opened v i (stayed f) = h.no_open_string v i f
-    opened v i (was_bound sort r f q) = cc q
-
-    named : (r k j : ℕ) (c : Cell) → In r → slice_get new.cells r ≡ Some c → slice_get (parts_of c) j ≡ Some k → BoundCell old r c → In k
-    named r k j c i e p (stayed f) = h.names r k j c i f p
-    named r k j c i e p (was_bound sort x f q) = one j (ap (λ d. slice_get (parts_of d) j) (sym q) ∙ p)
-      where
-        target : In x
-        target = either (In x) (OccursIn old x a) (OccursIn old x b) (within.target r x sort f (e ∙ ap Some q)) (λ o. occurs-in-set In old h x a o in_a) (λ o. occurs-in-set In old h x b o in_b)
-
-        one : (j : ℕ) → slice_get (x ∷ []) j ≡ Some k → In k
-        one zero z = let same : x ≡ k = cc z in subst In same target
-        one (suc n) z = cc z

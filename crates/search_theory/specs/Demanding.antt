@@ -26,10 +26,6 @@ pub record StandsAt (P : Problem) (s : Store) (σ : Solution) (w : List GroundMa
   pub variables : (v : ℕ) → Holds s v r → slice_get s.cells v ≡ Some (variable TermSort None) → IsTrue (is_allowed P w (as_term (σ v)))
   pub constants : (e f : ℕ) → Holds s e r → slice_get s.cells e ≡ Some (fun_cell f []) → common_spares P ≡ true
 
--- the home of each eigenvariable in the gamma term is its label already
-pub record HomesEqual (P : Problem) (s : Store) (g : GammaCell) : Type 0 where
-  pub homes : (e p : ℕ) (rs : List ℕ) → Holds s e g.term → slice_get s.cells e ≡ Some (eigen_cell p rs) → (ks : List ℕ) × IsHomeAt P s p rs ks × AreEqualNow s (equation ks g.label)
-
 -- no constant stands in the gamma term
 abbrev pub HasNoConstant : Store → GammaCell → Type 0
 HasNoConstant s g = (e f : ℕ) → Holds s e g.term → ¬ (slice_get s.cells e ≡ Some (fun_cell f []))

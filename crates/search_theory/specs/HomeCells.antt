@@ -6,9 +6,7 @@ use Rattle.calculus.specs.declared.kind.Shape.{Shape}
 use Rattle.calculus.specs.declared.kind.Shape.TheVariants.{Gamma}
 use Rattle.calculus.specs.declared.kind.ModalPart.{ModalPart}
 use Rattle.calculus.specs.declared.kind.ModalPart.TheVariants.{Plain, Nu, Pi}
-use Rattle.calculus.specs.Kinds.{shape_of, modal_of}
 use Rattle.calculus.specs.Labels.{pi_label}
-use Rattle.calculus.specs.Positions.{Node}
 use Rattle.calculus.specs.Skolem.{Reached}
 use Rattle.store_theory.specs.Stores.{new_cell, Store, has_sort_at, Solution}
 use Rattle.search_theory.specs.States.{label_by, values_by}
@@ -33,11 +31,6 @@ is_gamma_shape _ = false
 pub data PassesShape (s : Store) : Shape → CellReached → CellReached → Type 0 where
   by_term : (w taken rest : List ℕ) (r : ℕ) → IsTrue (has_sort_at s TermSort r) → PassesShape s Gamma (record { label = w; taken = taken; rest = r ∷ rest }) (record { label = w; taken = taken ++ r ∷ []; rest = rest })
   by_other : {h : Shape} {c : CellReached} → is_gamma_shape h ≡ false → PassesShape s h c c
-
--- the way leads to this label
-pub data LeadsToLabel (l : Logic) (s : Store) : List Node → CellReached → List ℕ → Type 0 where
-  ended : {c : CellReached} → LeadsToLabel l s [] c c.label
-  passed : {n : Node} {ns : List Node} {c d e : CellReached} {ks : List ℕ} → PassesModal l s n.position (modal_of l n.sign n.formula) c d → PassesShape s (shape_of n.sign n.formula) d e → LeadsToLabel l s ns e ks → LeadsToLabel l s (n ∷ ns) c ks
 
 -- what the cells stand for
 abbrev pub reached_by : Solution → CellReached → Reached

@@ -6,11 +6,10 @@ use Rattle.calculus.specs.declared.sort.Sort.TheVariants.{TermSort, MarkSort, St
 use Rattle.calculus.specs.Syntax.{Problem}
 use Rattle.calculus.specs.Ground.{Value, term, common}
 use Rattle.calculus.specs.Skolem.{has_function, is_delta_position, fits_way, is_empty}
-use Rattle.calculus.specs.Choices.{start, reduction, extension}
-use Rattle.store_theory.specs.Stores.{Cell, variable, fun_cell, eigen_cell, new_cell, string_cell, Store, Solution, Solves, has_sort_at, parts_of}
+use Rattle.store_theory.specs.Stores.{Cell, variable, fun_cell, eigen_cell, new_cell, string_cell, Store, Solution, Solves, parts_of}
 use Rattle.store_theory.specs.Systems.{CellAtom}
 use Rattle.store_theory.specs.Patterns.{Pattern, Patterns, p_var, p_fun, p_eigen, p_new, no_patterns, more_patterns, patterns_tree, PatternAtom, Template}
-use Rattle.search_theory.specs.States.{CellClause, CellChoice, CellGoal, State, literal_by}
+use Rattle.search_theory.specs.States.{CellGoal, State, literal_by}
 
 -- the same signed atom at the same label under the bindings: by each ground solution
 abbrev pub AreSame : Store → CellAtom → CellAtom → Type 0
@@ -48,26 +47,6 @@ is_own_cell P base c = is_classical_cell P c && list_all (nat_le base) (parts_of
 -- the cells from the number `base` on are the search's own. What is below was in the store before
 abbrev pub is_classical_store : Problem → ℕ → Store → Bool
 is_classical_store P base s = list_all (is_own_cell P base) (drop base s.cells)
-
--- a term among the search's own cells
-abbrev pub is_own_term : ℕ → Store → ℕ → Bool
-is_own_term base s r = nat_le base r && has_sort_at s TermSort r
-
--- an atom whose arguments are terms of the store, at the empty label
-abbrev pub is_classical_atom : ℕ → Store → CellAtom → Bool
-is_classical_atom base s a = list_all (is_own_term base s) a.args && is_empty a.label
-
-abbrev pub is_classical_goal : ℕ → Store → CellGoal → Bool
-is_classical_goal base s g = is_classical_atom base s g.literal && list_all (is_classical_atom base s) g.path
-
--- its variables and its literals
-abbrev pub is_classical_clause : ℕ → Store → CellClause → Bool
-is_classical_clause base s i = list_all (nat_le base) i.values && list_all (is_classical_atom base s) i.literals
-
-abbrev pub is_classical_choice : ℕ → Store → CellChoice → Bool
-is_classical_choice base s (start i) = is_classical_clause base s i
-is_classical_choice base s (reduction up) = true
-is_classical_choice base s (extension i place) = is_classical_clause base s i
 
 -- ---- what a classical template keeps
 

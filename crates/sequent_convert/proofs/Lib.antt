@@ -1,4 +1,3 @@
-pub mod Theorem
 pub mod TurnPlaces
 pub mod WaitingWays
 pub mod PartsAhead

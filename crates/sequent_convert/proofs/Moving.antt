@@ -2,29 +2,28 @@
 use Rattle.conversion_theory.specs.Branches.{entries_of}
 use Rattle.calculus.specs.Calculus.{closed, apply}
 use Rattle.std.proofs.lemmas.List.{length-map, length-take-le}
-use Rattle.std.proofs.Common.{◌≡◌, ◌⊎◌, ℕ, zero, suc, ◌+◌, ◌≤◌, ◌<◌, List, [], ◌∷◌, ◌++◌, map, length, length-append, take, drop, append-nil, Bool, true, false, IsTrue, Option, Some, None, Ok, Contains, refl, sym, ◌∙◌, ap, subst, inl, inr, slice_get, arith}
+use Rattle.std.proofs.Common.{◌≡◌, ℕ, suc, ◌+◌, ◌≤◌, ◌<◌, List, [], ◌∷◌, ◌++◌, length, length-append, take, append-nil, true, false, Some, Ok, Contains, refl, sym, ◌∙◌, ap, subst, slice_get, arith}
 use Rattle.std.specs.List.{AllByRecursion}
-use Rattle.std.proofs.lemmas.Bool.{false≢true, cases_Bool}
-use Rattle.calculus.specs.Instances.{Turn}
+use Rattle.std.proofs.lemmas.Bool.{false≢true}
 use Rattle.calculus.specs.Ground.{Value}
-use Rattle.calculus.specs.Derivations.{Step, ModalArg, TermArg, apply_to, close, no_term, axiom_count}
+use Rattle.calculus.specs.Derivations.{Step, close, axiom_count}
 use Rattle.calculus.specs.Text.{is_number}
 use Rattle.conversion_theory.specs.Turns.{closings_count, has_introduced_names}
 use Rattle.conversion_theory.specs.Numbering.{number_of}
-use Rattle.conversion_theory.specs.Branches.{Item, Made, rests, grows, splits, made}
-use Rattle.conversion_theory.specs.Leading.{End, ends_cost, ends_weight, undone}
-use Rattle.calculus.proofs.Members.{Among, at-among, among-at}
+use Rattle.conversion_theory.specs.Branches.{Item, Made}
+use Rattle.conversion_theory.specs.Leading.{ends_cost, ends_weight, undone}
+use Rattle.calculus.proofs.Members.{at-among}
 use Rattle.conversion_theory.proofs.BranchLaws.{IsComplete}
-use Rattle.conversion_theory.proofs.RunLaws.{Branch, branch, WorksOn, IsGood}
-use Rattle.conversion_theory.proofs.TaskLaws.{count-step, count-axiom}
+use Rattle.conversion_theory.proofs.RunLaws.{branch, WorksOn}
+use Rattle.conversion_theory.proofs.TaskLaws.{count-axiom}
 use Rattle.conversion_theory.proofs.LedLaws.{CanCome}
-use Rattle.conversion_theory.proofs.LeadingLaws.{Way, way, IsLeading, WayGoes, ways_cost, room_for, room-large, leading-one, leading-two, leading-closed, leading-made, leading-skipped}
-use Rattle.conversion_theory.proofs.LoopMeasures.{leads-cost, leads-turns}
+use Rattle.conversion_theory.proofs.LeadingLaws.{Way, way, IsLeading, WayGoes, ways_cost, room-large, leading-closed, leading-made, leading-skipped}
+use Rattle.conversion_theory.proofs.LoopMeasures.{leads-cost}
 use Rattle.conversion_theory.proofs.AheadLaws.{made-lowers}
 use Rattle.sequent_convert.specs.AheadView.{Ahead}
-use Rattle.sequent_convert.specs.State.{Basis, IsBasis, Waiting, State, turn_at, turns_at, way_of, waiting_ways, open_ways, Nest, IsAhead, IsOpenRun, IsRun, whole_weight, way_room, ways_room, room_of, WorksOnNone, made_of, ComesNext, ComesFor, resumed, with_step, IsAxiom, Moves, closes, skips, stays, adds}
-use Rattle.sequent_convert.proofs.TurnPlaces.{turn-in, turns-push, turn-of, listed, turn-done, done-turn, all-push, all-take}
-use Rattle.sequent_convert.proofs.WaitingWays.{nest-more, waiting-grown, waiting-later, waiting-cut, begins}
+use Rattle.sequent_convert.specs.State.{Basis, IsBasis, Waiting, State, turn_at, turns_at, way_of, waiting_ways, open_ways, Nest, IsAhead, IsOpenRun, IsRun, whole_weight, way_room, ways_room, room_of, WorksOnNone, made_of, ComesNext, resumed, with_step, IsAxiom}
+use Rattle.sequent_convert.proofs.TurnPlaces.{turns-push, listed, turn-done, all-push, all-take}
+use Rattle.sequent_convert.proofs.WaitingWays.{nest-more, waiting-grown, waiting-cut, begins}
 
 -- a turn whose awaited turns are done can come
 abbrev pub Coming : Basis → Type 0
@@ -83,9 +82,6 @@ module _ (B : Basis) (basis : IsBasis B) (coming : Coming B) where
           omega (arith, more, now, then, same),
         )
 
-    led_state : IsLed s.steps (way (branch s.items (turns_at B s.done)) (turns_at B s.ahead.turns) s.ahead.ends ∷ rest)
-    led_state = h.leading
-
     pub made-led : (k n : ℕ) (i : Item) (own : List Value) (m : Made) → ComesNext B s.done k → slice_get s.items n ≡ Some i → is_number (suc n) ≡ true → WorksOn B.problem B.tableau B.named.names (turn_at B k) i own → made_of B i own ≡ m → WayGoes B.problem B.limit B.tableau B.named.names s.steps (branch s.items (turns_at B s.done)) (turns_at B s.ahead.turns) s.ahead.ends rest (turn_at B k) n m
     made-led k n i own m next at number works e = subst (λ z. WayGoes B.problem B.limit B.tableau B.named.names s.steps (branch s.items (turns_at B s.done)) (turns_at B s.ahead.turns) s.ahead.ends rest (turn_at B k) n z) e (leading-made B.problem B.limit B.tableau B.named.names basis.shut basis.numbering basis.few s.steps (branch s.items (turns_at B s.done)) (turns_at B s.ahead.turns) s.ahead.ends rest h.leading (turn_at B k) (can-come s h k next) n i at number own works)
 
@@ -103,9 +99,6 @@ module _ (B : Basis) (basis : IsBasis B) (coming : Coming B) where
 
     abbrev forked_state : ℕ → List Step → Item → Item → Ahead → Ahead → State
     forked_state k steps p q a c = record s { steps = steps; items = s.items ++ p ∷ []; done = s.done ++ k ∷ []; ahead = a; waiting = second_way q c ∷ s.waiting }
-
-    weighs : Ahead → ℕ
-    weighs a = length a.turns + ends_weight B.problem a.ends
 
     pub forked : (k : ℕ) (steps : List Step) (p q : Item) (a c : Ahead) → ComesNext B s.done k → IsLed steps (way (branch (s.items ++ p ∷ []) (turns_at B s.done ++ turn_at B k ∷ [])) (turns_at B a.turns) a.ends ∷ way (branch (s.items ++ q ∷ []) (turns_at B s.done ++ turn_at B k ∷ [])) (turns_at B c.turns) c.ends ∷ rest) → IsAhead B a → IsAhead B c → length a.turns + ends_weight B.problem a.ends ≤ length s.ahead.turns + ends_weight B.problem s.ahead.ends → length c.turns + ends_weight B.problem c.ends ≤ length s.ahead.turns + ends_weight B.problem s.ahead.ends → (has_introduced_names B.tableau ≡ false → axiom_count steps + (ends_cost a.ends + (ends_cost c.ends + ways_cost rest)) ≤ closings_count B.tableau.goals) → IsRun B (forked_state k steps p q a c) × (room_of B (forked_state k steps p q a c) < room_of B s)
     forked k steps p q a c next led first second light slight cheap =

@@ -1,41 +1,40 @@
 -- What the loop does, case by case: each keeps the invariant and leaves less to do.
-use Rattle.std.proofs.Common.{◌≡◌, ◌⊎◌, ℕ, zero, suc, ◌+◌, ◌≤◌, ◌<◌, List, [], ◌∷◌, ◌++◌, map, length, length-append, take, drop, append_assoc, append-nil, Bool, true, false, IsTrue, Option, Some, None, Contains, flat_map, refl, sym, ◌∙◌, ap, subst, inl, inr, slice_get, arith}
+use Rattle.std.proofs.Common.{◌≡◌, ◌⊎◌, ℕ, zero, suc, ◌+◌, ◌≤◌, ◌<◌, List, [], ◌∷◌, ◌++◌, map, length, length-append, take, drop, append_assoc, append-nil, true, false, Option, Some, Contains, flat_map, refl, sym, ◌∙◌, ap, subst, inl, inr, slice_get, arith}
 use Rattle.std.specs.List.{AllByRecursion}
 use Rattle.std.proofs.lemmas.List.{length-map, take-append-drop, drop-drop}
 use Rattle.std.proofs.lemmas.Option.{slice_get_within}
 use Rattle.std.proofs.Math.Seq.{drop-append_seam}
-use Rattle.calculus.specs.declared.sign.Sign.{Sign}
 use Rattle.calculus.specs.declared.setting.Logic.{Logic}
 use Rattle.calculus.specs.declared.kind.Shape.TheVariants.{Beta, Literal}
 use Rattle.calculus.specs.declared.kind.ModalPart.{ModalPart}
 use Rattle.calculus.specs.declared.kind.ModalPart.TheVariants.{Plain, Nu, Pi}
-use Rattle.calculus.specs.Syntax.{Formula, Problem}
+use Rattle.calculus.specs.Syntax.{Problem}
 use Rattle.calculus.specs.Ground.{Value, term, steps}
 use Rattle.calculus.specs.Kinds.{Signed, shape_of, modal_of, components}
 use Rattle.calculus.specs.Positions.{size}
 use Rattle.calculus.specs.Instances.{Spot, Turn, ClauseInstance, down_by}
-use Rattle.calculus.specs.Derivations.{Step, ModalArg, TermArg, apply_to, close, no_term, axiom_count}
+use Rattle.calculus.specs.Derivations.{ModalArg, apply_to, no_term}
 use Rattle.calculus.specs.Text.{is_number}
-use Rattle.calculus.specs.Tableaux.{Closing, Closings, reduce, extend, no_closings, more_closings, instances_below, instances_of_all, instances}
-use Rattle.conversion_theory.specs.Turns.{Name, turns_of_instance, IsParent, names_of_value, names_of_home, names_mentioned, names_introduced, closings_count, has_introduced_names}
+use Rattle.calculus.specs.Tableaux.{Closings, extend, no_closings, more_closings, instances_below, instances_of_all, instances}
+use Rattle.conversion_theory.specs.Turns.{Name, turns_of_instance, IsParent, names_of_value, names_of_home, names_mentioned, names_introduced, has_introduced_names}
 use Rattle.conversion_theory.specs.Numbering.{number_of}
-use Rattle.conversion_theory.specs.Branches.{Item, item, Past, past_modal, Made, rests, grows, splits, made, made_beta}
-use Rattle.conversion_theory.specs.Leading.{End, meets_path, by_closing, ends_of, ends_at, ends_cost, ends_weight, turns_before}
-use Rattle.calculus.proofs.Members.{Among, at-among, among-at, among-left, among-right, among-append, among-joined, joined-among, contains-among, among-contains}
-use Rattle.conversion_theory.proofs.RunLaws.{Branch, branch, WorksOn, IsGood}
+use Rattle.conversion_theory.specs.Branches.{Item, item, Past, past_modal, rests, grows, splits, made_beta}
+use Rattle.conversion_theory.specs.Leading.{End, by_closing, ends_of, ends_at, ends_cost, ends_weight, turns_before}
+use Rattle.calculus.proofs.Members.{Among, among-at, among-left, among-right, among-append, among-joined, joined-among, among-contains}
+use Rattle.conversion_theory.proofs.RunLaws.{Branch, branch}
 use Rattle.conversion_theory.proofs.TaskLaws.{count-step, cost-split, weight-split}
 use Rattle.conversion_theory.proofs.FollowLaws.{has_one_part}
 use Rattle.conversion_theory.proofs.LedLaws.{parent-done}
 use Rattle.conversion_theory.proofs.MadeLaws.{made-by}
 use Rattle.conversion_theory.proofs.SegmentLaws.{Leads, leads-item, leads-parent, leads-part, Parts, leads-parts, leads-literal}
-use Rattle.conversion_theory.proofs.LeadingLaws.{Way, way, IsLeading, leading-one, leading-two, literal-extends, none-awaited, extension-cost, extension-weight}
+use Rattle.conversion_theory.proofs.LeadingLaws.{leading-one, leading-two, literal-extends, none-awaited, extension-cost, extension-weight}
 use Rattle.conversion_theory.proofs.LoopMeasures.{leads-turns}
 use Rattle.calculus.proofs.WalkLaws.{none_some, some_injective}
 use Rattle.name_order.specs.Prerequisites.{own_part, count_before}
 use Rattle.sequent_convert.specs.AheadView.{Ahead, end_instances, ends_instances, instance_count}
-use Rattle.sequent_convert.specs.State.{Basis, IsBasis, Waiting, State, turn_at, turns_at, way_of, waiting_ways, IsAhead, IsOpenRun, IsRun, room_of, Works, WorksOnNone, made_of, IsAwaitedBy, ComesNext, ComesFor, first_turns, first_count, first_part, second_part, IsDoneAhead, Begins, BeginsNot, Moves, closes, skips, stays, adds, forks_ahead, forks_other, passes, to_first, to_second, extends}
+use Rattle.sequent_convert.specs.State.{Basis, IsBasis, State, turn_at, turns_at, waiting_ways, IsAhead, IsOpenRun, IsRun, room_of, Works, made_of, IsAwaitedBy, ComesNext, ComesFor, first_turns, first_count, first_part, second_part, IsDoneAhead, Begins, BeginsNot, Moves, closes, skips, stays, adds, forks_ahead, forks_other, passes, to_first, to_second, extends}
 use Rattle.sequent_convert.proofs.TurnPlaces.{turn-in, turn-is, turns-are, turn-of, turn-done, done-turn, all-take, all-drop}
-use Rattle.sequent_convert.proofs.PartsAhead.{led-first, led-second, one-stands, parts-by_position, first-is, second-is}
+use Rattle.sequent_convert.proofs.PartsAhead.{led-first, led-second, parts-by_position, first-is, second-is}
 use Rattle.sequent_convert.proofs.Moving.{Coming, grown, made-led, unchanged, skipped, forked, ahead-changes, closed-kept}
 
 -- ---- ends and their instances
@@ -102,9 +101,6 @@ own-mentioned P agenda p x n h = elim (among-append (flat_map names_of_value (dr
     value m k = let r = among-joined names_of_value (drop (count_before agenda p) x.values) m k in joined-among names_of_value x.values r.0 m (dropped (count_before agenda p) x.values r.0 r.1) r.2
 
 module _ (B : Basis) (basis : IsBasis B) (coming : Coming B) where
-  abbrev IsLed : List Step → List Way → Type 0
-  IsLed ss ways = IsLeading B.problem B.limit B.tableau B.named.names ss ways
-
   -- the turns of an instance by its place
   pub order-is : (n : ℕ) (j : ClauseInstance) (rest : List ClauseInstance) (turns : List ℕ) → drop n (instances B.tableau) ≡ j ∷ rest → slice_get B.named.order n ≡ Some turns → (turns_at B turns ≡ turns_of_instance B.problem j) × AllByRecursion (λ k. k < length B.named.agenda) turns
   order-is n j rest turns row at = turns-are B turns (turns_of_instance B.problem j) (ordered n B.named.order (instances B.tableau) basis.order row at)

@@ -1,13 +1,10 @@
 -- The two parts of what is ahead of a branch, behind a turn that has two components.
-use Rattle.std.proofs.Common.{◌≡◌, ◌⊎◌, ℕ, suc, ◌+◌, ◌≤◌, ◌<◌, List, [], ◌∷◌, ◌++◌, map, length, take, drop, Some, refl, sym, ◌∙◌, ap, subst, inl, inr, slice_get, arith}
+use Rattle.std.proofs.Common.{◌≡◌, ℕ, ◌+◌, List, [], ◌∷◌, ◌++◌, length, take, drop, refl, sym, ◌∙◌, ap, subst, inl, inr}
 use Rattle.std.proofs.lemmas.List.{take-map, drop-map}
 use Rattle.std.proofs.Math.Seq.{take-append_seam, drop-append_seam}
 use Rattle.calculus.specs.declared.sign.Sign.{Sign}
-use Rattle.calculus.specs.declared.kind.Shape.TheVariants.{Beta}
 use Rattle.calculus.specs.Syntax.{Formula, Problem}
 use Rattle.calculus.specs.Ground.{Value, GroundLiteral}
-use Rattle.calculus.specs.Kinds.{shape_of}
-use Rattle.calculus.specs.Positions.{Node}
 use Rattle.calculus.specs.Instances.{Spot, Turn}
 use Rattle.calculus.specs.Derivations.{ModalArg}
 use Rattle.calculus.specs.Tableaux.{Tableau}
@@ -17,10 +14,9 @@ use Rattle.conversion_theory.specs.Branches.{Item, item, Made, splits, made}
 use Rattle.conversion_theory.specs.Leading.{End, literals_among, turns_before}
 use Rattle.calculus.proofs.Members.{Among, among-left, among-right}
 use Rattle.conversion_theory.proofs.AgendaLaws.{TurnOf, Anything, turn-works}
-use Rattle.conversion_theory.proofs.PlaceLaws.{Stood}
 use Rattle.conversion_theory.proofs.WorkLaws.{work-from}
 use Rattle.conversion_theory.proofs.RunLaws.{Branch, branch, WorksOn, IsGood}
-use Rattle.conversion_theory.proofs.FollowLaws.{ArePlaced, IsBelowOf, below, Next, lands, goes, forks, IsSingle, Opened, opened}
+use Rattle.conversion_theory.proofs.FollowLaws.{ArePlaced, IsBelowOf, below, Next, lands, goes, forks, IsSingle, opened}
 use Rattle.conversion_theory.proofs.LedLaws.{AreLeft, task_turn, turn-first, turn-works_on}
 use Rattle.conversion_theory.proofs.SegmentLaws.{Leads, leads-parts, leads-turn, same-item}
 use Rattle.conversion_theory.proofs.AheadLaws.{before-second}
@@ -60,9 +56,6 @@ module _ (B : Basis) where
         let r = leads-parts B.problem B.limit B.tableau B.named.names b good y (turns_at B ks) es l left done i there own works a p q two in
         let same = parts-by_position q.spot.position ks r.first r.second r.turns r.placed in
         subst (λ vs. IsLed b vs (drop (first_count B q.spot.position ks) es)) same.1 (subst (λ us. IsLed b r.second (drop (literals_among B.problem us) es)) same.0 (r.to_second stands))
-
-    pub one-stands : Among b.items p ⊎ Among b.items q
-    one-stands = (leads-parts B.problem B.limit B.tableau B.named.names b good y (turns_at B ks) es l left done i there own works a p q two).one_stands
 
 head_turn : (u v : Turn) (us vs : List Turn) → u ∷ us ≡ v ∷ vs → u ≡ v
 head_turn u v us vs q = cc

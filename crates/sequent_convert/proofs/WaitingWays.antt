@@ -1,5 +1,5 @@
 -- Branches that wait stay as they are while the branch at hand grows, and while it is cut back.
-use Rattle.std.proofs.Common.{◌≡◌, ℕ, suc, ◌+◌, ◌≤◌, List, [], ◌∷◌, ◌++◌, length, take, refl, sym, ◌∙◌, ap, subst, arith}
+use Rattle.std.proofs.Common.{◌≡◌, ℕ, ◌+◌, ◌≤◌, List, [], ◌∷◌, ◌++◌, length, take, refl, ◌∙◌, arith}
 use Rattle.std.proofs.lemmas.List.{take-append-le, take-take, take_all, length-take-le, length-append}
 use Rattle.conversion_theory.specs.Branches.{Item}
 use Rattle.sequent_convert.specs.AheadView.{Ahead}
@@ -20,10 +20,6 @@ module _ (B : Basis) where
 
   pub waiting-grown : (items added : List Item) (done more : List ℕ) (ws : List Waiting) → Nest (length items) (length done) ws → waiting_ways B (items ++ added) (done ++ more) ws ≡ waiting_ways B items done ws
   waiting-grown items added done more ws h = waiting-alike (length items) (length done) (items ++ added) items (done ++ more) done ws h (λ k le. take-append-le k items added le) (λ k le. take-append-le k done more le)
-
-  -- the turns alone
-  pub waiting-later : (items : List Item) (done more : List ℕ) (ws : List Waiting) → Nest (length items) (length done) ws → waiting_ways B items (done ++ more) ws ≡ waiting_ways B items done ws
-  waiting-later items done more ws h = waiting-alike (length items) (length done) items items (done ++ more) done ws h (λ k le. refl) (λ k le. take-append-le k done more le)
 
   cut_alike : (n k : ℕ) (items : List Item) (i : Item) → n ≤ length items → k ≤ n → take k (take n items ++ i ∷ []) ≡ take k items
   cut_alike n k items i le lt =

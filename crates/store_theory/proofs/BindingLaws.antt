@@ -463,9 +463,6 @@ KeepsEarlier-cut_at m s k e g = (IsGood-cut_at k m s e g, cut_at-cut_at k m s e)
 pub IsWellFormed-cut_at : (m : TrailMark) (s : Store) → IsWellFormed s → IsGood m s → IsWellFormed (cut_at m s)
 IsWellFormed-cut_at m s w g = record { fits = is_store-cut_at m s w.fits g; rank = HasRank-cut_at m s w.rank }
 
-pub IsWellFormed-with_cell : (c : Cell) (s : Store) → IsWellFormed s → IsTrue (parts_fit s c) → is_bound c ≡ false → IsWellFormed (with_cell c s)
-IsWellFormed-with_cell c s w f b = record { fits = is_store-with_cell c s w.fits f b; rank = HasRank-with_cell c s w.fits f w.rank }
-
 pub IsWellFormed-with_binding : (v r : ℕ) (s : Store) → IsWellFormed s → MayBind s v r → IsWellFormed (with_binding v r s)
 IsWellFormed-with_binding v r s w m = record { fits = is_store-with_binding v r s w.fits m; rank = HasRank-with_binding v r s m w.rank }
 

@@ -51,10 +51,6 @@ pub Grows-variables : (sorts : List Sort) (s : Store) → Grows s (with_variable
 Grows-variables [] s = Grows-same s
 Grows-variables (sort ∷ sorts) s = Grows-both s (with_cell (variable sort None) s) (with_variables_of sorts (with_cell (variable sort None) s)) (Grows-with_cell (variable sort None) s) (Grows-variables sorts (with_cell (variable sort None) s))
 
-pub KeepsMarks-variables : (sorts : List Sort) (s : Store) → KeepsMarks s (with_variables_of sorts s)
-KeepsMarks-variables [] s = KeepsMarks-same s
-KeepsMarks-variables (sort ∷ sorts) s = KeepsMarks-both s (with_cell (variable sort None) s) (with_variables_of sorts (with_cell (variable sort None) s)) (KeepsMarks-with_cell (variable sort None) s) (KeepsMarks-variables sorts (with_cell (variable sort None) s))
-
 pub length-variables : (sorts : List Sort) (s : Store) → length (with_variables_of sorts s).cells ≡ length s.cells + length sorts
 length-variables [] s = omega arith
 length-variables (sort ∷ sorts) s = let h = length-variables sorts (with_cell (variable sort None) s) in let e = length-append s.cells (variable sort None ∷ []) in omega (arith, h, e)

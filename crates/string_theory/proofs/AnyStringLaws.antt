@@ -1,16 +1,12 @@
 -- Strings longer than the bound close no further tableau, up to the path limit.
-use Rattle.std.proofs.Common.{◌≡◌, ◌⊎◌, ℕ, ◌<◌, ◌≤◌, length, ◌&&◌, IsTrue, refl, inl, inr, nat_le}
+use Rattle.std.proofs.Common.{◌⊎◌, ℕ, ◌<◌, ◌≤◌, length, IsTrue, inl, inr, nat_le}
 use Rattle.std.proofs.lemmas.Bool.{cases_Bool, leb-true, leb-false}
 use Rattle.calculus.specs.Syntax.{Problem}
-use Rattle.calculus.specs.Tableaux.{Tableau, instances, is_short, is_closed, HasClosed}
+use Rattle.calculus.specs.Tableaux.{Tableau, instances, HasClosed}
 use Rattle.calculus.proofs.AnswerLaws.{closed-mono}
 use Rattle.matrix_theory.specs.AnyStrings.{is_closed_by_any_strings}
 use Rattle.matrix_theory.proofs.CompletenessLaws.{spanning_by_any_strings}
 use Rattle.string_theory.proofs.StringLaws.{closed_where_instances_span}
-
--- with the bound it is what is closed
-pub closed_by_both : (P : Problem) (d : ℕ) (t : Tableau) → is_closed P d t ≡ (is_closed_by_any_strings P d t && is_short P t)
-closed_by_both P d t = refl
 
 -- where a tableau is closed by strings of any length, one is closed by short ones, within as many goals as the first has instances
 pub closed_by_short_strings : (P : Problem) (d : ℕ) (t : Tableau) → IsTrue (is_closed_by_any_strings P d t) → HasClosed P (length (instances t))

@@ -1,17 +1,14 @@
 -- Where the components of a formula stand, and at which labels the values on the way to a place are taken.
-use Rattle.std.proofs.Common.{◌≡◌, ℕ, suc, List, [], ◌∷◌, ◌++◌, Bool, true, false, refl, sym, ◌∙◌, ap, subst, option_and_then, arith, append_assoc}
-use Rattle.std.specs.Option.{option_map_or}
+use Rattle.std.proofs.Common.{◌≡◌, ℕ, suc, List, [], ◌∷◌, ◌++◌, Bool, true, false, refl, sym, ◌∙◌, ap, subst, arith, append_assoc}
 use Rattle.std.proofs.lemmas.Bool.{false≢true}
 use Rattle.calculus.specs.declared.sign.Sign.{Sign}
 use Rattle.calculus.specs.declared.setting.Logic.{Logic}
 use Rattle.calculus.specs.declared.kind.Shape.{Shape}
-use Rattle.calculus.specs.declared.kind.Shape.TheVariants.{Alpha, Beta, Gamma, Delta, Literal}
-use Rattle.calculus.specs.declared.kind.ModalPart.{ModalPart}
-use Rattle.calculus.specs.declared.kind.ModalPart.TheVariants.{Plain, Nu, Pi}
+use Rattle.calculus.specs.declared.kind.Shape.TheVariants.{Literal}
 use Rattle.calculus.specs.Syntax.{Formula, atom, neg, conj, disj, imp, all, ex, box, dia}
 use Rattle.calculus.specs.Kinds.{Signed, other, shape_of, modal_of, components}
 use Rattle.calculus.specs.Positions.{size, Node}
-use Rattle.calculus.specs.Skolem.{Reached, after_modal, after_shape}
+use Rattle.calculus.specs.Skolem.{Reached}
 use Rattle.calculus.proofs.SpotLaws.{LeadsTo}
 use Rattle.calculus.proofs.InstanceLaws.{WayDown, down-one, down-second, first-way, second-way}
 use Rattle.calculus.proofs.CasesLaws.{first_of, second_of, one≢two}
@@ -61,20 +58,3 @@ way-second p s (dia g) a b e = absurd (one≢two e)
 pub contexts-LeadsTo : (l : Logic) (ns ms : List Node) (r k : Reached) → LeadsTo l ns r k → contexts_along l (ns ++ ms) r ≡ contexts_along l ns r ++ contexts_along l ms k
 contexts-LeadsTo l [] ms r k e = ap (contexts_along l ms) e
 contexts-LeadsTo l (n ∷ ns) ms r k f = let taking = string_use (modal_of l n.sign n.formula) r.label ++ term_use (shape_of n.sign n.formula) in rw f.1 (ap (λ x. taking ++ x) (contexts-LeadsTo l ns ms f.0 k f.3) ∙ sym (append_assoc taking (contexts_along l ns f.0) (contexts_along l ms k)))
-
--- a position takes no value where none is left
-pub contexts-none : (l : Logic) (n : Node) (r : Reached) → r.rest ≡ [] → contexts_along l (n ∷ []) r ≡ []
-contexts-none l n r e = by (modal_of l n.sign n.formula) (shape_of n.sign n.formula)
-  where
-    by : (m : ModalPart) (h : Shape) → option_map_or (λ (next : Reached). (string_use m r.label ++ term_use h) ++ []) (option_and_then (after_shape h) (after_modal l n.position m r)) [] ≡ []
-    by Plain Alpha = refl
-    by Plain Beta = refl
-    by Plain Gamma = rw e refl
-    by Plain Delta = refl
-    by Plain Literal = refl
-    by Nu h = rw e refl
-    by Pi Alpha = refl
-    by Pi Beta = refl
-    by Pi Gamma = rw e refl
-    by Pi Delta = refl
-    by Pi Literal = refl

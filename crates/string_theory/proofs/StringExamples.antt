@@ -1,5 +1,5 @@
 -- A tableau that is closed but for its long strings, computed.
-use Rattle.std.proofs.Common.{◌≡◌, List, [], ◌∷◌, true, false, refl}
+use Rattle.std.proofs.Common.{◌≡◌, ℕ, List, [], ◌∷◌, ◌&&◌, true, false, refl}
 use Rattle.std.specs.Prelude.{codes}
 use Rattle.calculus.specs.declared.sign.Sign.{Sign}
 use Rattle.calculus.specs.declared.sign.Sign.TheVariants.{T, F}
@@ -11,9 +11,13 @@ use Rattle.calculus.specs.declared.setting.Domains.TheVariants.{Cumulative}
 use Rattle.calculus.specs.Syntax.{no_terms, atom, imp, box, dia, setting_of, Problem}
 use Rattle.calculus.specs.Ground.{GroundMark, g_spare_mark, no_g_terms, steps, marks_tree, GroundLiteral}
 use Rattle.calculus.specs.Instances.{ClauseInstance}
-use Rattle.calculus.specs.Tableaux.{extend, no_closings, more_closings, Tableau, is_closed, HasClosed}
+use Rattle.calculus.specs.Tableaux.{extend, no_closings, more_closings, Tableau, is_short, is_closed, HasClosed}
 use Rattle.matrix_theory.specs.AnyStrings.{is_closed_by_any_strings}
 use Rattle.string_theory.proofs.AnyStringLaws.{closed_by_short_strings}
+
+-- what is closed is what is closed by strings of any length and has short ones
+closed_by_both : (P : Problem) (d : ℕ) (t : Tableau) → is_closed P d t ≡ (is_closed_by_any_strings P d t && is_short P t)
+closed_by_both P d t = refl
 
 -- #box: p => #dia: p in S4
 example_problem : Problem

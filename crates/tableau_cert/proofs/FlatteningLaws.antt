@@ -13,7 +13,6 @@ use Rattle.tableau_core.specs.declared.closing.Closing as program
 use Rattle.tableau_core.specs.declared.instance.ClauseInstance.{ClauseInstance}
 use Rattle.tableau_text.specs.MovesView.{the_move}
 use Rattle.tableau_text.specs.declared.moves.Move.{Move}
-use Rattle.tableau_text.specs.declared.moves.Move.TheVariants.{Reduction}
 
 append-none : {X : Type 0} (xs : List X) → xs ++ [] ≡ xs
 append-none [] = refl
@@ -32,9 +31,6 @@ module _ (ls : List GroundList) where
 
   abbrev flat_items : List program.Closing → List TreeMove
   flat_items ys = moves_of_all (closings_tree (map closing ys))
-
-  pub flat-reduction : (old new : List Move) (up : ℕ) (c : numbered.Closing) → new ≡ old ++ Reduction up ∷ [] → c ≡ numbered.reduce up → flat new ≡ flat old ++ moves_of (closing_in ls c)
-  flat-reduction old new up c e h = ap flat e ∙ map-append (the_move ls) old (Reduction up ∷ []) ∙ ap (λ x. flat old ++ moves_of (closing_in ls x)) (sym h)
 
   pub flat-extension : (old mid new : List Move) (ext : Move) (i : ClauseInstance) (place : ℕ) (goals : List numbered.Closing) (c : numbered.Closing) → mid ≡ old ++ ext ∷ [] → the_move ls ext ≡ extension place (chosen_of (the_instance ls i)) → flat new ≡ flat mid ++ moves_of_all (closings_tree (map (closing_in ls) goals)) → c ≡ numbered.extend i place (numbered.closings_tree goals) → flat new ≡ flat old ++ moves_of (closing_in ls c)
   flat-extension old mid new ext i place goals c e h k m =

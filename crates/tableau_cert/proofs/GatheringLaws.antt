@@ -47,9 +47,6 @@ module _ (P : Problem) where
   abbrev Go : Type 0
   Go = Spot → Supply → Option Part
 
-  abbrev With : Gathered → ℕ → Bool → Gathered
-  With g n b = with_rest g n b g.rest
-
   after-turn : (g : Gathered) (p : ℕ) (vs : List Value) (o : Option Part) → gathered_after P g (with_turn p vs o) ≡ gathered_after P g o
   unfolding gathered_after
   after-turn g p vs None = refl

@@ -1,5 +1,5 @@
 -- The judgement of moves whose instances are found, goal by goal.
-use Rattle.std.proofs.Common.{◌≡◌, ℕ, zero, suc, ◌+◌, ◌-◌, ◌<◌, ◌≤◌, List, [], ◌∷◌, ◌++◌, length, map, reverse, take, drop, get_or, Bool, true, false, not, ◌&&◌, ◌||◌, ◌==◌, Some, None, Result, Ok, Err, refl, sym, ◌∙◌, ap, arith, subst, true≢false, if◌then◌else◌, nat_lt, slice_get, remove}
+use Rattle.std.proofs.Common.{◌≡◌, ℕ, zero, suc, ◌+◌, ◌-◌, ◌<◌, ◌≤◌, List, [], ◌∷◌, ◌++◌, length, map, reverse, take, drop, get_or, Bool, true, false, not, ◌&&◌, ◌||◌, ◌==◌, Some, Result, Ok, Err, refl, sym, ◌∙◌, ap, arith, subst, true≢false, if◌then◌else◌, nat_lt, slice_get, remove}
 use Rattle.std.specs.List.{list_all, list_any}
 use Rattle.std.proofs.lemmas.List.{reverse-append, reverse-reverse, length-reverse, get_or-reverse, length-map, length-append, map-append, drop_all}
 use Rattle.std.proofs.lemmas.List.Sorted.{IsPermutation-reverse, list_any-IsPermutation}
@@ -162,19 +162,6 @@ new-both false b = refl
 
 pub new-below : (ls : List GroundList) (path : List numbered.GroundLiteral) (g x : GroundLiteral) (a b : Bool) → a ≡ is_new_on (g ∷ []) x → b ≡ is_new_on (map (the_literal ls) path) x → (a && b) ≡ is_new_on (g ∷ the_path ls path) x
 new-below ls path g x a b e h = (λ i. e i && (h ∙ new-turned ls path x) i) ∙ new-both (literal_eq x g) (list_any (literal_eq x) (the_path ls path))
-
-pub no-ancestor : (g : GroundLiteral) (xs : List GroundLiteral) (up : ℕ) → up ≡ 0 → false ≡ is_complement g (ancestor xs up)
-no-ancestor g xs up e = rw e refl
-
-none-behind : {X : Type 0} (xs : List X) (k : ℕ) → length xs ≤ k → slice_get xs k ≡ None
-none-behind [] zero h = refl
-none-behind [] (suc k) h = refl
-none-behind (x ∷ xs) zero h = absurd (omega (arith, h))
-none-behind (x ∷ xs) (suc k) h = none-behind xs k (omega (arith, h))
-
-pub far-ancestor : (ls : List GroundList) (g : GroundLiteral) (path : List numbered.GroundLiteral) (up : ℕ) → length path < up → false ≡ is_complement g (ancestor (the_path ls path) up)
-far-ancestor ls g path zero h = absurd (omega (arith, h))
-far-ancestor ls g path (suc k) h = sym (ap (is_complement g) (none-behind (the_path ls path) k (let a = length-map (reverse path) (the_literal ls) in let b = length-reverse path in omega (arith, a, b, h))))
 
 pub at-ancestor : (ls : List GroundList) (path : List numbered.GroundLiteral) (up n : ℕ) (x d : numbered.GroundLiteral) → 0 < up → up ≤ length path → n ≡ length path - up → x ≡ get_or path n d → ancestor (the_path ls path) up ≡ Some (the_literal ls x)
 at-ancestor ls path up n x d p h e q =

@@ -62,10 +62,6 @@ some-number : (b : Bool) (k m : ℕ) → Some m ≡ (if b then Some k else None)
 some-number true k m e = cc
 some-number false k m e = cc
 
-none-test : (b : Bool) (k : ℕ) → None ≡ (if b then Some k else None) → b ≡ false
-none-test true k e = cc
-none-test false k e = refl
-
 counted-test : (b : Bool) (n m : Count) (k w : ℕ) → Some m ≡ counted b n k w → b ≡ true
 counted-test true n m k w e = refl
 counted-test false n m k w e = cc
@@ -97,10 +93,6 @@ second-false true true c e = cc
 second-false true false c e = refl
 second-false false s c e = refl
 
-first-false : (a s c : Bool) → a ≡ false → (a && s && c) ≡ false
-first-false true s c e = cc
-first-false false s c e = refl
-
 module _ (P : Problem) (limit : ℕ) (t : Tableau) where
   pub closed-by : (own : ℕ) (start all : Count) → Some own ≡ steps_if_allowed P t.start → list_all is_shown t.start.literals ≡ true → start.steps ≡ own → start.longest ≡ longest_string t.start.values → Some all ≡ closed_all P limit [] t.start.literals t.goals start → all.longest < 18446744073709551616 → is_short_count P.setting.logic all ≡ is_closed P limit t
   unfolding closed_all
@@ -118,9 +110,6 @@ module _ (P : Problem) (limit : ℕ) (t : Tableau) where
   -- what is counted of all goals, from the empty path
   pub from-start : (path goals : List GroundLiteral) (o : Option Count) (start : Count) → o ≡ closed_all P limit path goals t.goals start → path ≡ [] → goals ≡ t.start.literals → o ≡ closed_all P limit [] t.start.literals t.goals start
   from-start path goals o start e h k = e ∙ ap (λ p. closed_all P limit p goals t.goals start) h ∙ ap (λ g. closed_all P limit [] g t.goals start) k
-
-  pub not-allowed : None ≡ steps_if_allowed P t.start → false ≡ is_closed P limit t
-  not-allowed e = one-false (is_allowed_instance P t.start) _ _ _ (first-false (is_allowed_instance P t.start) (list_all is_shown t.start.literals) (closes_all P limit [] t.start.literals t.goals) (none-test _ _ e))
 
   pub not-shown : list_all is_shown t.start.literals ≡ false → false ≡ is_closed P limit t
   not-shown e = one-false (is_allowed_instance P t.start) _ _ _ (second-false (is_allowed_instance P t.start) (list_all is_shown t.start.literals) (closes_all P limit [] t.start.literals t.goals) e)

@@ -8,13 +8,6 @@ use Rattle.std.specs.declared.cmp.Ordering.{Ordering}
 use Rattle.std.specs.declared.cmp.Ordering.TheVariants.{Less, Equal, Greater}
 
 module _ {A : Type 0} (R : A → A → Ordering) where
-  -- places that are equal are passed over
-  pub compare-next : (xs ys : List A) (i : ℕ) (d e : A) → i < length xs → i < length ys → R (get_or xs i d) (get_or ys i e) ≡ Equal → slice_cmp R (drop (suc i) xs) (drop (suc i) ys) ≡ slice_cmp R (drop i xs) (drop i ys)
-  compare-next [] ys i d e h k q = absurd (omega arith)
-  compare-next (x ∷ xs) [] i d e h k q = absurd (omega arith)
-  compare-next (x ∷ xs) (y ∷ ys) zero d e h k q = ap (λ o. ordering_then o (slice_cmp R xs ys)) (sym q)
-  compare-next (x ∷ xs) (y ∷ ys) (suc i) d e h k q = compare-next xs ys i d e (omega arith) (omega arith) q
-
   -- the first place that differs decides
   pub compare-here : (xs ys : List A) (i : ℕ) (d e : A) (o : Ordering) → i < length xs → i < length ys → R (get_or xs i d) (get_or ys i e) ≡ o → (o ≢ Equal) → slice_cmp R (drop i xs) (drop i ys) ≡ o
   compare-here [] ys i d e o h k q n = absurd (omega arith)

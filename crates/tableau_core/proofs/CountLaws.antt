@@ -4,12 +4,12 @@ use Rattle.std.proofs.Common.{refl, ap, sym, ◌∙◌, arith, get_or}
 use Rattle.std.proofs.lemmas.List.{length-map}
 use Rattle.std.proofs.lemmas.List.Sums.{sum_by-cons, sum_by-append}
 use Rattle.calculus.specs.ComputedInstances.{is_allowed_instance, modal_steps}
-use Rattle.calculus.specs.Ground.{GroundLiteral, Value}
+use Rattle.calculus.specs.Ground.{GroundLiteral}
 use Rattle.calculus.specs.Instances.{ClauseInstance}
 use Rattle.calculus.specs.Syntax.{Problem}
 use Rattle.calculus.specs.Tableaux.{Closing, Closings, reduce, extend, no_closings, more_closings, closes, closes_all, instances_below, instances_of_all, is_complement, is_new_on, ancestor, total_steps}
 use Rattle.calculus.specs.Lists.{closings_tree}
-use Rattle.tableau_core.specs.Counted.{string_length, longest_string, longest_of, and_more, counted, closed_one, closed_all, extends, steps_if_extends}
+use Rattle.tableau_core.specs.Counted.{longest_string, longest_of, and_more, counted, closed_one, closed_all, extends, steps_if_extends}
 use Rattle.tableau_core.specs.Walks.{capped, steps_if_allowed}
 use Rattle.tableau_core.specs.declared.count.Count.{Count}
 
@@ -195,12 +195,3 @@ module _ (P : Problem) (d : ℕ) (path : List GroundLiteral) where
 
   pub loop-end : {X Y : Type 0} (f : X → GroundLiteral) (g : Y → Closing) (xs : List X) (ys : List Y) (k : ℕ) (n : Count) → length xs ≤ k → length ys ≤ k → n.steps < no_more → Some n ≡ closed_all P d path (map f (drop k xs)) (closings_tree (map g (drop k ys))) n
   loop-end f g xs ys k n p q h = all-none n h ∙ sym (ap (λ l. closed_all P d path (map f l) no_closings n) (drop-all xs k p)) ∙ sym (ap (λ l. closed_all P d path (map f (drop k xs)) (closings_tree (map g l)) n) (drop-all ys k q))
-
--- the loop over values
-longest-step : {X : Type 0} (f : X → Value) (xs : List X) (k : ℕ) (x a : X) (n m : ℕ) → k < length xs → x ≡ get_or xs k a → m ≡ max n (string_length (f x)) → max m (longest_string (map f (drop (suc k) xs))) ≡ max n (longest_string (map f (drop k xs)))
-longest-step f [] k x a n m h p e = absurd (omega arith)
-longest-step f (u ∷ xs) zero x a n m h p e = let q : string_length (f x) ≡ string_length (f u) = ap (λ z. string_length (f z)) p in omega arith
-longest-step f (u ∷ xs) (suc k) x a n m h p e = longest-step f xs k x a n m (omega arith) p e
-
-pub longest-next : {X : Type 0} (f : X → Value) (xs : List X) (k j : ℕ) (x a : X) (n m : ℕ) → j ≡ suc k → k < length xs → x ≡ get_or xs k a → m ≡ max n (string_length (f x)) → max m (longest_string (map f (drop j xs))) ≡ max n (longest_string (map f (drop k xs)))
-longest-next f xs k j x a n m r h p e = rw r (longest-step f xs k x a n m h p e)

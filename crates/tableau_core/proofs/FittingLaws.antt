@@ -1,9 +1,8 @@
 -- Values that fit a way, and names that are made there.
-use Rattle.std.proofs.Common.{true≢false, ◌≡◌, ℕ, ◌<◌, ◌≤◌, List, [], ◌∷◌, ◌++◌, length, Bool, true, false, ◌&&◌, nat_lt, Some, None, option_and_then, IsTrue, refl, ap, sym, ◌∙◌, arith, if◌then◌else◌}
+use Rattle.std.proofs.Common.{true≢false, ◌≡◌, ℕ, ◌≤◌, List, [], ◌∷◌, ◌++◌, length, Bool, true, false, ◌&&◌, nat_lt, Some, None, option_and_then, IsTrue, refl, ap, sym, ◌∙◌, arith, if◌then◌else◌}
 use Rattle.std.specs.Option.{option_map_or}
 use Rattle.std.proofs.lemmas.Bool.Decides.{nat_tests}
 use Rattle.std.proofs.lemmas.Bool.{leb-true}
-use Rattle.calculus.specs.declared.sign.Sign.TheVariants.{F}
 use Rattle.calculus.specs.declared.setting.Logic.{Logic}
 use Rattle.calculus.specs.declared.kind.Shape.{Shape}
 use Rattle.calculus.specs.declared.kind.Shape.TheVariants as shape
@@ -15,7 +14,7 @@ use Rattle.calculus.specs.Lists.{g_terms_tree, values_list-values_tree, g_terms_
 use Rattle.calculus.specs.Kinds.{shape_of, modal_of}
 use Rattle.calculus.specs.Labels.{nu_label, pi_label, steps_to}
 use Rattle.calculus.specs.Measures.{node_count}
-use Rattle.calculus.specs.Positions.{Node, size, way_from}
+use Rattle.calculus.specs.Positions.{Node, size}
 use Rattle.calculus.specs.Skolem.{has_function, is_admitted, are_admitted, is_admitted_mark, are_admitted_values, Reached, take_term, take_string, after_modal, after_shape, is_step, fits_along, fits_way, is_delta_position, is_pi_position, way_to, at_root}
 use Rattle.calculus.specs.Syntax.{Problem, Formula, atom, neg, conj, disj, imp, all, ex, box, dia}
 use Rattle.calculus.specs.Problems.{is_problem}
@@ -105,10 +104,6 @@ both-then false b r e h = absurd (true≢false (sym h))
 pub both-else : (a b r : Bool) → (a && b) ≡ r → a ≡ false → a ≡ r
 both-else true b r e h = absurd (true≢false h)
 both-else false b r e h = e
-
--- the way to a position of the formula, and to none
-pub way-inside : (P : Problem) (p n : ℕ) → n ≡ size P.formula → p < n → way_to P p ≡ way_from 0 F P.formula p
-way-inside P p n e h = let t : nat_lt p (size P.formula) ≡ true = grind (arith, nat_tests) in rw t refl
 
 pub way-outside : (P : Problem) (p n : ℕ) → n ≡ size P.formula → n ≤ p → way_to P p ≡ []
 way-outside P p n e h = let t : nat_lt p (size P.formula) ≡ false = grind (arith, nat_tests) in rw t refl

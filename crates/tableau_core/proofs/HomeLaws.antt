@@ -1,5 +1,5 @@
 -- Ways that are followed position by position.
-use Rattle.std.proofs.Common.{add-one, ◌≡◌, ℕ, zero, suc, ◌+◌, ◌<◌, ◌≤◌, List, [], ◌∷◌, length, map, ◌++◌, take, drop, get_or, Option, Some, None, option_and_then, refl, ap, sym, ◌∙◌, arith}
+use Rattle.std.proofs.Common.{add-one, ◌≡◌, ℕ, zero, suc, ◌+◌, ◌<◌, List, [], ◌∷◌, length, map, ◌++◌, take, drop, get_or, Option, Some, None, option_and_then, refl, ap, sym, ◌∙◌, arith}
 use Rattle.std.specs.Option.{option_map_or}
 use Rattle.std.proofs.lemmas.List.{take-map}
 use Rattle.calculus.specs.declared.sign.Sign.{Sign}
@@ -27,12 +27,6 @@ pub take-here : {X : Type 0} (f : X → Value) (xs : List X) (k : ℕ) (x d : X)
 take-here f [] k x d h e = absurd (omega arith)
 take-here f (a ∷ xs) zero x d h e = ap (λ y. f y ∷ []) (sym e)
 take-here f (a ∷ xs) (suc k) x d h e = ap (λ ys. f a ∷ ys) (take-here f xs k x d (omega arith) e)
-
-pub drop-none : {X : Type 0} (f : X → Value) (xs : List X) (k : ℕ) → length xs ≤ k → drop k (map f xs) ≡ []
-drop-none f [] zero h = refl
-drop-none f [] (suc k) h = refl
-drop-none f (a ∷ xs) zero h = absurd (omega arith)
-drop-none f (a ∷ xs) (suc k) h = drop-none f xs k (omega arith)
 
 -- past one position, given what its modal part leads to
 pub along : (l : Logic) (q : ℕ) (s : Sign) (f : Formula) (p : ℕ) (r : Reached) (o : Option Reached) → p < size f → o ≡ after_modal l q (modal_of l s f) r → label_along l (way_from q s f p) r ≡ option_map_or (label_along l (rest_of (way_from q s f p))) (option_and_then (after_shape (shape_of s f)) o) r.label

@@ -5,7 +5,7 @@ use Rattle.std.proofs.lemmas.Bool.{and_parts}
 use Rattle.calculus.specs.Syntax.{Symbol, Problem}
 use Rattle.calculus.specs.Ground.{Value, values_tree}
 use Rattle.calculus.specs.DerivationText.{line_bytes}
-use Rattle.calculus.specs.TableauText.{Chosen, Move, Moves, chosen_text, move_line, moves_text, sides_text, tableau_head, value_is_written, values_are_written, values_text, are_written, IsMovesText}
+use Rattle.calculus.specs.TableauText.{Chosen, Moves, chosen_text, move_line, moves_text, sides_text, tableau_head, value_is_written, values_are_written, values_text, are_written, IsMovesText}
 
 -- what holds of each item of a list that contracts see through a view holds of the view of each item
 pub all-item : {X Y : Type 0} (f : X → Y) (p : Y → Bool) (xs : List X) (k : ℕ) (x d : X) → k < length xs → x ≡ get_or xs k d → IsTrue (list_all p (map f xs)) → IsTrue (p (f x))
@@ -24,16 +24,6 @@ tree-written S vs h = by vs ∙ h
 pub chosen-by_steps : (S : List Symbol) (i : Chosen) (a b c d : List ℕ) → b ≡ a ++ sides_text i.sides → c ≡ b ++ codes " " → d ≡ c ++ values_text S (values_tree i.values) → d ≡ a ++ chosen_text S i
 chosen-by_steps S i a b c d e f g =
     g ∙ ap (λ l. l ++ values_text S (values_tree i.values)) (f ∙ ap (λ l. l ++ codes " ") e ∙ append_assoc a (sides_text i.sides) (codes " ")) ∙ append_assoc a (sides_text i.sides ++ codes " ") (values_text S (values_tree i.values))
-
--- an extension, piece by piece
-pub extension-by_steps : (number chosen a b c d e : List ℕ) → b ≡ a ++ codes "extend " → c ≡ b ++ number → d ≡ c ++ codes " " → e ≡ d ++ chosen → e ≡ a ++ (codes "extend " ++ number ++ codes " " ++ chosen)
-extension-by_steps number chosen a b c d e f g h k =
-    k ∙ ap (λ l. l ++ chosen) (h ∙ ap (λ l. l ++ codes " ") (g ∙ ap (λ l. l ++ number) f ∙ append_assoc a (codes "extend ") number) ∙ append_assoc a (codes "extend " ++ number) (codes " ")) ∙ append_assoc a (codes "extend " ++ number ++ codes " ") chosen
-
--- a line and what follows it
-pub line-written : (S : List Symbol) (m : Move) (ms : List Move) (a b c : List ℕ) → b ≡ a ++ move_line S m → c ≡ b ++ codes "\n" → c ++ flat_map line_bytes (map (move_line S) ms) ≡ a ++ flat_map line_bytes (map (move_line S) (m ∷ ms))
-line-written S m ms a b c e f =
-    ap (λ l. l ++ flat_map line_bytes (map (move_line S) ms)) (f ∙ ap (λ l. l ++ codes "\n") e ∙ append_assoc a (move_line S m) (codes "\n")) ∙ append_assoc a (move_line S m ++ codes "\n") (flat_map line_bytes (map (move_line S) ms))
 
 flat-append : (xs ys : List (List ℕ)) → flat_map line_bytes (xs ++ ys) ≡ flat_map line_bytes xs ++ flat_map line_bytes ys
 flat-append [] ys = refl

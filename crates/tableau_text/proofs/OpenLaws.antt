@@ -8,12 +8,9 @@ use Rattle.formula_core.specs.GroundLists.{GroundList, the_g_term, the_mark, the
 use Rattle.formula_core.specs.declared.ground.GroundTerm.{GroundTerm}
 use Rattle.formula_core.specs.declared.ground.GroundMark.{GroundMark}
 use Rattle.formula_core.specs.declared.ground.Value.{Value}
-use Rattle.formula_core.proofs.GrownLaws.{marks-grown, values-grown, term-grown, mark-grown, value-grown, term-normal-grown, mark-normal-grown, value-normal-grown}
-use Rattle.tableau_text.specs.Items.{a_term, a_mark, a_string, all_values, of_value, of_terms, of_marks, of_values, Frame}
-use Rattle.tableau_text.specs.ItemView.{the_item, IsNormalItem}
+use Rattle.formula_core.proofs.GrownLaws.{term-grown, mark-grown, value-grown, term-normal-grown, mark-normal-grown, value-normal-grown}
+use Rattle.tableau_text.specs.Items.{a_term, a_mark, of_value, of_terms, of_marks, of_values, Frame}
 use Rattle.tableau_text.specs.OpenView.{the_head, the_items, IsNormalList, the_frame, frames_over, frames, AreNormalLists}
-use Rattle.tableau_text.specs.declared.item.TableItem.{TableItem}
-use Rattle.tableau_text.specs.declared.item.TableItem.TheVariants as item
 use Rattle.tableau_text.specs.declared.open_list.OpenList.{OpenList}
 use Rattle.tableau_text.specs.declared.open_list.OpenList.TheVariants as lists
 
@@ -65,12 +62,6 @@ normal-rest ls stack new l e h = all-but_last (IsNormalList ls) stack l (subst (
 -- ---- a table that grows
 
 module _ (a b : List GroundList) (g : IsGrown a b) where
-  pub item-grown : (i : TableItem) → IsNormalItem a i → the_item b i ≡ the_item a i
-  item-grown (item.Term t) h = ap a_term (term-grown a b g t h)
-  item-grown (item.Mark m) h = ap a_mark (mark-grown a b g m h)
-  item-grown (item.Steps w) h = ap (λ l. a_string (marks_tree l)) (marks-grown a b g w h)
-  item-grown (item.Values vs) h = ap (λ l. all_values (values_tree l)) (values-grown a b g vs h)
-
   items-grown : (l : OpenList) → IsNormalList a l → the_items b l ≡ the_items a l
   items-grown (lists.Args name ts) h = map-same (IsNormalTerm a) _ _ (λ t k. ap a_term (term-grown a b g t k)) ts.items h
   items-grown (lists.Own k ms) h = map-same (IsNormalMark a) _ _ (λ t k. ap a_mark (mark-grown a b g t k)) ms.items h

@@ -155,19 +155,11 @@ extension-text S k i = on (codes "extend ") (decimal k) (chosen_text S i)
 pub extension-line : (S : List Symbol) (line rest : List ℕ) (k : ℕ) (i : Chosen) → line ≡ codes "extend " ++ rest → IsExtensionText S rest k i → IsMoveLine S line (extension k i)
 extension-line S line rest k i e h = record { written = and_from (is_number k) (chosen_is_written S i) h.small h.written; same = e ∙ ap (λ l. codes "extend " ++ l) h.text ∙ extension-text S k i }
 
-pub no-reduction : (S : List Symbol) (line rest : List ℕ) → line ≡ codes "reduce " ++ rest → ((k : ℕ) → ¬ IsNumber rest k) → (m : Move) → ¬ IsMoveLine S line m
-no-reduction S line rest e none (reduction k) h = none k (record { written = h.written; same = cancel (codes "reduce ") rest (decimal k) (sym e ∙ h.same) })
-no-reduction S line rest e none (extension k i) h = clash _ _ 0 (sym e ∙ h.same) refl
-
 pub no-extension : (S : List Symbol) (line rest : List ℕ) → line ≡ codes "extend " ++ rest → ((k : ℕ) (i : Chosen) → ¬ IsExtensionText S rest k i) → (m : Move) → ¬ IsMoveLine S line m
 no-extension S line rest e none (reduction k) h = clash _ _ 0 (sym e ∙ h.same) refl
 no-extension S line rest e none (extension k i) h =
     let p = and_parts (is_number k) (chosen_is_written S i) h.written in
     none k i (record { small = p.0; written = p.1; text = cancel (codes "extend ") rest (decimal k ++ 32 ∷ chosen_text S i) (sym e ∙ h.same ∙ sym (extension-text S k i)) })
-
-pub no-move : (S : List Symbol) (line : List ℕ) → ((rest : List ℕ) → ¬ (line ≡ codes "reduce " ++ rest)) → ((rest : List ℕ) → ¬ (line ≡ codes "extend " ++ rest)) → (m : Move) → ¬ IsMoveLine S line m
-no-move S line r x (reduction k) h = r (decimal k) h.same
-no-move S line r x (extension k i) h = x _ (h.same ∙ sym (extension-text S k i))
 
 -- ---- the tests of the program
 

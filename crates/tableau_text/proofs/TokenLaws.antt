@@ -288,9 +288,6 @@ steps-begun S fits rest bytes t = (refl, t, goes)
 
 -- ---- no item begins with a closing bracket
 
-abbrev begins_with : ℕ → List ℕ → Type 0
-begins_with b bytes = (s : List ℕ) × (bytes ≡ b ∷ s)
-
 name-closing : (h : Head) (a r s : List ℕ) → name_text a ++ r ≡ closing h ∷ s → ⊥
 name-closing h a r s e = by (is_lower_word a) refl
   where

@@ -1,14 +1,11 @@
 -- A list of values that is the whole text.
-use Rattle.std.proofs.Common.{◌≡◌, ℕ, List, [], ◌∷◌, sym, ◌∙◌, ap, subst}
+use Rattle.std.proofs.Common.{◌≡◌, ℕ, List, [], ◌∷◌, subst}
 use Rattle.calculus.specs.Syntax.{Symbol}
 use Rattle.calculus.specs.Ground as tree
 use Rattle.calculus.specs.Ground.{no_values, more_values, values_tree}
 use Rattle.formula_core.specs.GroundLists.{GroundList, the_values, AreNormalValues}
 use Rattle.formula_core.specs.declared.ground.Values.{Values}
-use Rattle.formula_core.specs.declared.ground.GroundLabel.{GroundLabel}
-use Rattle.formula_core.specs.declared.ground.GroundMark.{GroundMark}
-use Rattle.formula_core.specs.declared.ground.GroundTerm.{GroundTerm}
-use Rattle.tableau_text.specs.Items.{a_mark, a_string, a_term, all_values, of_root}
+use Rattle.tableau_text.specs.Items.{all_values, of_root}
 use Rattle.tableau_text.specs.ItemView.{the_item, IsNormalItem}
 use Rattle.tableau_text.specs.Points.{Leads, NoneFrom, IsValuesText, IsWhole, behind, inside}
 use Rattle.tableau_text.specs.declared.item.TableItem.{TableItem}
@@ -32,26 +29,3 @@ whole-read S text inner rest ls i n e k h =
 
 pub whole-normal : (ls : List GroundList) (i : TableItem) (n : Values) (rest : List ℕ) → (i ≡ item.Values n) × (rest ≡ []) → IsNormalItem ls i → AreNormalValues ls n
 whole-normal ls i n rest k h = subst (IsNormalItem ls) k.0 h
-
--- ---- what is no whole list
-
-pub no-whole_rest : (i : TableItem) (rest : List ℕ) → ¬ (rest ≡ []) → (ls : List GroundList) → ¬ IsWhole (the_item ls i) rest
-no-whole_rest i rest some ls w = some w.2
-
-pub no-whole_term : (i : TableItem) (t : GroundTerm) (rest : List ℕ) → i ≡ item.Term t → (ls : List GroundList) → ¬ IsWhole (the_item ls i) rest
-no-whole_term i t rest e ls w = apart (sym (ap (the_item ls) e) ∙ w.1)
-  where
-    apart : {x : tree.GroundTerm} {vs : tree.Values} → a_term x ≡ all_values vs → ⊥
-    apart f = cc f
-
-pub no-whole_mark : (i : TableItem) (m : GroundMark) (rest : List ℕ) → i ≡ item.Mark m → (ls : List GroundList) → ¬ IsWhole (the_item ls i) rest
-no-whole_mark i m rest e ls w = apart (sym (ap (the_item ls) e) ∙ w.1)
-  where
-    apart : {x : tree.GroundMark} {vs : tree.Values} → a_mark x ≡ all_values vs → ⊥
-    apart f = cc f
-
-pub no-whole_steps : (i : TableItem) (v : GroundLabel) (rest : List ℕ) → i ≡ item.Steps v → (ls : List GroundList) → ¬ IsWhole (the_item ls i) rest
-no-whole_steps i v rest e ls w = apart (sym (ap (the_item ls) e) ∙ w.1)
-  where
-    apart : {x : tree.Marks} {vs : tree.Values} → a_string x ≡ all_values vs → ⊥
-    apart f = cc f

@@ -9,7 +9,7 @@ use Rattle.calculus.specs.declared.sort.Sort.TheVariants.{TermSort, MarkSort, St
 use Rattle.calculus.specs.Equality.{sort_eq}
 use Rattle.store_theory.specs.Patterns as tree
 use Rattle.store_theory.specs.Patterns.{patterns_tree, IsCopy, AreCopies, Grows}
-use Rattle.store_theory.specs.Stores.{Cell, fun_cell, eigen_cell, new_cell, Store, has_sort_at, parts_fit}
+use Rattle.store_theory.specs.Stores.{Cell, fun_cell, eigen_cell, new_cell, Store, has_sort_at}
 use Rattle.store_theory.specs.Bindings.{with_cell, NamesOver}
 use Rattle.calculus.proofs.PlaceLists.{get-end, all-append}
 use Rattle.store_theory.proofs.BindingLaws.{has_sort-from, sort_eq-true}
@@ -18,10 +18,10 @@ use Rattle.term_store.specs.declared.cell.Name.{Name}
 use Rattle.term_store.specs.declared.cell.Name.TheVariants.{Fun, Eigen, New, Marks}
 use Rattle.term_store.specs.declared.pattern.Pattern.{Pattern}
 use Rattle.term_store.specs.Built.{named_cell}
-use Rattle.term_store.specs.Copying.{named_pattern, takes_strings}
+use Rattle.term_store.specs.Copying.{named_pattern}
 use Rattle.term_store.specs.Fitting.{fits_in, parts_fit_in, part_sort_at}
 use Rattle.term_store.specs.PatternView.{the_pattern}
-use Rattle.term_store.proofs.FitLaws.{grown-part_sorts, part_sorts-more, terms-sorted, values-sorted, grown-fits}
+use Rattle.term_store.proofs.FitLaws.{grown-part_sorts, part_sorts-more, grown-fits}
 use Rattle.term_store.proofs.OwnLaws.{length-grown}
 
 -- ---- parts
@@ -114,18 +114,6 @@ sort-named s t vs r sort (Eigen p) ps rs m e h = has_sort-from t sort r (eigen_c
 sort-named s t vs r sort (New p) ps rs m e h = has_sort-from t sort r (new_cell p.0 rs) e (sym (sort_eq-true sort MarkSort (and_parts (sort_eq sort MarkSort) (parts_fit_in s vs TermSort true ps) h).0))
 sort-named s t vs r sort Marks ps rs m e h = absurd (m refl)
 
-pub parts-named : (s : Store) (vs : List ℕ) (sort : Sort) (name : Name) (ps : tree.Patterns) → ¬ (name ≡ Marks) → IsTrue (fits_in s vs sort (named_pattern name ps)) → IsTrue (parts_fit_in s vs TermSort (takes_strings name) ps)
-parts-named s vs sort (Fun f) ps m h = (and_parts (sort_eq sort TermSort) (parts_fit_in s vs TermSort false ps) h).1
-parts-named s vs sort (Eigen p) ps m h = (and_parts (sort_eq sort TermSort) (parts_fit_in s vs TermSort true ps) h).1
-parts-named s vs sort (New p) ps m h = (and_parts (sort_eq sort MarkSort) (parts_fit_in s vs TermSort true ps) h).1
-parts-named s vs sort Marks ps m h = absurd (m refl)
-
-pub fit-named : (t : Store) (name : Name) (rs : List ℕ) → ¬ (name ≡ Marks) → IsTrue (list_all (part_sort_at t TermSort (takes_strings name)) rs) → IsTrue (parts_fit t (named_cell name rs))
-fit-named t (Fun f) rs m h = terms-sorted t rs h
-fit-named t (Eigen p) rs m h = values-sorted t rs h
-fit-named t (New p) rs m h = values-sorted t rs h
-fit-named t Marks rs m h = absurd (m refl)
-
 pub drop-front : (n : ℕ) (before more after : List ℕ) → n ≡ length before → after ≡ before ++ more → drop n after ≡ more
 drop-front n before more after h e = ap (drop n) e ∙ by n before h
   where
@@ -134,15 +122,6 @@ drop-front n before more after h e = ap (drop n) e ∙ by n before h
     by (suc n) [] h = absurd (omega arith)
     by zero (x ∷ before) h = absurd (omega arith)
     by (suc n) (x ∷ before) h = by n before (omega arith)
-
-pub take-front : (n : ℕ) (before more after : List ℕ) → n ≡ length before → after ≡ before ++ more → take n after ≡ before
-take-front n before more after h e = ap (take n) e ∙ by n before h
-  where
-    by : (n : ℕ) (before : List ℕ) → n ≡ length before → take n (before ++ more) ≡ before
-    by zero [] h = refl
-    by (suc n) [] h = absurd (omega arith)
-    by zero (x ∷ before) h = absurd (omega arith)
-    by (suc n) (x ∷ before) h = ap (λ xs. x ∷ xs) (by n before (omega arith))
 
 take-long : (k : ℕ) (xs : List ℕ) → length xs ≤ k → take k xs ≡ xs
 take-long zero [] h = refl

@@ -7,7 +7,7 @@ use Rattle.std.proofs.lemmas.Bool.{false≢true, and_parts, and_from}
 use Rattle.calculus.specs.declared.sort.Sort.{Sort}
 use Rattle.calculus.specs.declared.sort.Sort.TheVariants.{TermSort, MarkSort, StringSort}
 use Rattle.calculus.specs.Equality.{sort_eq}
-use Rattle.store_theory.specs.Stores.{Cell, Store, sort_of, sort_at, has_sort_at, has_value_sort_at}
+use Rattle.store_theory.specs.Stores.{Cell, Store, sort_of, sort_at, has_sort_at}
 use Rattle.store_theory.specs.Patterns.{Pattern, Patterns, p_var, p_fun, p_eigen, p_new, no_patterns, more_patterns, patterns_tree, Grows, PatternAtom, PatternGamma, Template, HaveSortsAt, pattern_fits, are_term_patterns, are_value_patterns, is_label_pattern, atom_fits, gamma_fits, template_fits}
 use Rattle.store_theory.specs.Bindings.{places_from, with_variables_of}
 use Rattle.calculus.proofs.PlaceLists.{all-append, all-at, all-more}
@@ -51,9 +51,6 @@ sorted-alone s b rs h = all-more (part_sort_at s b false) (has_sort_at s b) rs (
 
 pub terms-sorted : (s : Store) (rs : List ℕ) → IsTrue (list_all (part_sort_at s TermSort false) rs) → IsTrue (list_all (has_sort_at s TermSort) rs)
 terms-sorted s rs h = sorted-alone s TermSort rs h
-
-pub values-sorted : (s : Store) (rs : List ℕ) → IsTrue (list_all (part_sort_at s TermSort true) rs) → IsTrue (list_all (has_value_sort_at s) rs)
-values-sorted s rs h = h
 
 pub grown-atom_fits : (s t : Store) (vs : List ℕ) (a : PatternAtom) → Grows s t → IsTrue (atom_fits_in s vs a) → IsTrue (atom_fits_in t vs a)
 grown-atom_fits s t vs a g h = and-both (parts_fit_in s vs TermSort false (patterns_tree a.args)) (parts_fit_in t vs TermSort false (patterns_tree a.args)) (label_fits_in s vs a.label) (label_fits_in t vs a.label) (grown-parts_fit s t vs TermSort false (patterns_tree a.args) g) (grown-parts_fit s t vs MarkSort true (patterns_tree a.label) g) h

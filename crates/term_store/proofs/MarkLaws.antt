@@ -1,12 +1,12 @@
 -- New mark variables and the string of them.
-use Rattle.std.proofs.Common.{List, ◌≡◌, ◌+◌, ◌++◌, ◌∷◌, [], None, Some, IsTrue, length, ℕ, zero, suc, refl, sym, ap, ◌∙◌, arith, replicate, take, get_or, ◌<◌}
+use Rattle.std.proofs.Common.{List, ◌≡◌, ◌+◌, ◌++◌, ◌∷◌, [], None, Some, IsTrue, length, ℕ, zero, suc, refl, ap, ◌∙◌, arith, replicate, take, get_or, ◌<◌}
 use Rattle.std.proofs.lemmas.List.{length-replicate}
 use Rattle.std.specs.Prelude.{slice_get}
 use Rattle.std.specs.List.{list_all}
 use Rattle.std.proofs.lemmas.Bool.{and_from}
 use Rattle.calculus.specs.declared.sort.Sort.{Sort}
-use Rattle.calculus.specs.declared.sort.Sort.TheVariants.{MarkSort, StringSort}
-use Rattle.store_theory.specs.Stores.{variable, string_cell, Store, has_sort_at}
+use Rattle.calculus.specs.declared.sort.Sort.TheVariants.{MarkSort}
+use Rattle.store_theory.specs.Stores.{variable, Store, has_sort_at}
 use Rattle.store_theory.specs.Bindings.{with_cell, with_variables_of, places_from}
 use Rattle.store_theory.proofs.PatternLaws.{Grows-variables, grown-cell, length-variables}
 use Rattle.calculus.proofs.PlaceLists.{get-end}
@@ -42,12 +42,6 @@ variables-fit (suc n) sort s first e =
 
 pub length-marks : (n : ℕ) (s : Store) → length (with_variables_of (replicate n MarkSort) s).cells ≡ length s.cells + n
 length-marks n s = length-variables (replicate n MarkSort) s ∙ ap (λ k. length s.cells + k) (length-replicate n MarkSort)
-
--- what callers of `marks` use: the reference names a string
-pub string-sort : (n : ℕ) (s : Store) (rs : List ℕ) → IsTrue (has_sort_at (with_cell (string_cell rs) (with_variables_of (replicate n MarkSort) s)) StringSort (length s.cells + n))
-string-sort n s rs =
-    let t = with_variables_of (replicate n MarkSort) s in
-    has_sort-from (with_cell (string_cell rs) t) StringSort (length s.cells + n) (string_cell rs) (ap (slice_get (with_cell (string_cell rs) t).cells) (sym (length-marks n s)) ∙ get-end t.cells (string_cell rs)) refl
 
 pub take-more : (xs : List Sort) (i : ℕ) (x d : Sort) → i < length xs → x ≡ get_or xs i d → take i xs ++ x ∷ [] ≡ take (i + 1) xs
 take-more [] i x d l e = absurd (omega arith)

@@ -1,5 +1,5 @@
 -- What copies are made of.
-use Rattle.std.specs.Prelude.{◌≡◌, ℕ, List, ◌++◌, Bool, true, false, IsTrue}
+use Rattle.std.specs.Prelude.{◌≡◌, ℕ, List, ◌++◌, IsTrue}
 use Rattle.std.specs.List.{list_all}
 use Rattle.store_theory.specs.Bindings.{NamesOver}
 use Rattle.store_theory.specs.Patterns as tree
@@ -8,13 +8,6 @@ use Rattle.store_theory.specs.Stores.{Store}
 use Rattle.store_theory.specs.Systems.{CellAtom, is_cell_atom}
 use Rattle.term_store.specs.declared.cell.Name.{Name}
 use Rattle.term_store.specs.declared.cell.Name.TheVariants.{Fun, Eigen, New, Marks}
-
--- the parts may be strings
-abbrev pub takes_strings : Name → Bool
-takes_strings (Fun f) = false
-takes_strings (Eigen p) = true
-takes_strings (New p) = true
-takes_strings Marks = false
 
 -- the pattern of this name with these parts, where there is one
 abbrev pub named_pattern : Name → tree.Patterns → tree.Pattern

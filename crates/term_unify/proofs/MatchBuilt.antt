@@ -1,5 +1,5 @@
 -- A pattern with parts against a cell whose bindings end at a built one.
-use Rattle.std.proofs.Common.{◌≡◌, ◌≤◌, ℕ, List, length, true, false, Some, slice_get, IsTrue, refl, sym, ◌∙◌, ap, subst, nat_le, leb-true}
+use Rattle.std.proofs.Common.{◌≡◌, ◌≤◌, ℕ, List, length, true, false, Some, IsTrue, refl, sym, ◌∙◌, ap, subst, nat_le, leb-true}
 use Rattle.std.specs.List.{list_all}
 use Rattle.std.proofs.lemmas.Bool.{false≢true, and_parts}
 use Rattle.calculus.specs.declared.sort.Sort.{Sort}
@@ -11,9 +11,9 @@ use Rattle.term_store.specs.Fitting.{fits_in}
 use Rattle.term_store.specs.Signatures.{BuildsOver, allows, allows_all, number_of_patterns, sorts_of_patterns}
 use Rattle.term_store.specs.declared.cell.Head.{Head}
 use Rattle.term_store.specs.declared.cell.Head.TheVariants.{Open, Fun, Eigen, New, Marks}
-use Rattle.term_unify.specs.Matching.{ArePartsAt, HasParts, HoldsAlways, HoldsNowhere, MatchTo, Matches, NamesKept, Narrows, StandsBuilt, has_head}
+use Rattle.term_unify.specs.Matching.{ArePartsAt, HasParts, HoldsAlways, HoldsNowhere, MatchTo, Matches, NamesKept, Narrows, has_head}
 use Rattle.term_unify.specs.Steps.{is_open_head}
-use Rattle.term_unify.proofs.MatchLaws.{AllMatch, matches-end, narrows-same, one-cell}
+use Rattle.term_unify.proofs.MatchLaws.{AllMatch, matches-end, narrows-same}
 use Rattle.term_unify.proofs.MatchShapes.{all-match, built-matches, match-all, matches-built}
 use Rattle.term_unify.proofs.StepLaws.{Ended, built-cell, counted}
 
@@ -36,14 +36,6 @@ built-apart s vs r x h p ps good w o put n σ k m = false≢true (sym n ∙ (bui
 -- another number of parts
 pub count-apart : (s : Store) (vs : List ℕ) (r x count : ℕ) (h : Head) (p : Pattern) (ps : List Pattern) → IsWellFormed s → Ended s r x h → is_open_head h ≡ false → IsPut s vs p ps → EndsIn s x (λ c. count ≡ length (parts_of c)) → ¬ (count ≡ length ps) → HoldsNowhere (Matches vs r p) s
 count-apart s vs r x count h p ps good w o put many n σ k m = n (counted s r x h w count many ∙ (built-parts s vs r x h p ps good w o put σ k m).1.0)
-
-pub built-stands : (s : Store) (r x : ℕ) (h : Head) → Ended s r x h → is_open_head h ≡ false → StandsBuilt s x
-built-stands s r x h w o = (w.cell, w.at, built-cell w.cell h w.shows o)
-
-pub count-there : (s : Store) (r x count : ℕ) (h : Head) (ps : List Pattern) → Ended s r x h → EndsIn s x (λ c. count ≡ length (parts_of c)) → count ≡ length ps → ArePartsAt s x (λ rs. length rs ≡ length ps)
-count-there s r x count h ps w many e d f =
-    let same = one-cell (slice_get s.cells x) w.cell d w.at f in
-    ap (λ z. length (parts_of z)) (sym same) ∙ sym (counted s r x h w count many) ∙ e
 
 -- both ways between the cell and the parts of the built one
 parts-both : (s : Store) (vs : List ℕ) (r x : ℕ) (h : Head) (p : Pattern) (ps : List Pattern) → IsWellFormed s → (w : Ended s r x h) → is_open_head h ≡ false → IsPut s vs p ps → has_head h p ≡ true → length (parts_of w.cell) ≡ length ps → (σ : Solution) → Solves s σ → (MatchTo vs (parts_of w.cell) ps (length ps) σ → Matches vs r p σ) × (Matches vs r p σ → MatchTo vs (parts_of w.cell) ps (length ps) σ)

@@ -91,13 +91,6 @@ parts-of_eigen s vs sort g qs ps e f = subst (λ z. IsTrue (parts_fit_in s vs Te
 parts-of_new : (s : Store) (vs : List ℕ) (sort : Sort) (g : ℕ) (qs : Patterns) (ps : List Pattern) → qs ≡ patterns_tree ps → IsTrue (fits_in s vs sort (p_new g qs)) → IsTrue (parts_fit_in s vs TermSort true (patterns_tree ps))
 parts-of_new s vs sort g qs ps e f = subst (λ z. IsTrue (parts_fit_in s vs TermSort true z)) e (and_parts (sort_eq sort MarkSort) (parts_fit_in s vs TermSort true qs) f).1
 
--- the parts of a pattern fit
-pub parts-fit : (s : Store) (vs : List ℕ) (sort : Sort) (p : Pattern) (ps : List Pattern) → HasParts p ps → IsTrue (fits_in s vs sort p) → (b : Sort) × (strings : Bool) × IsTrue (parts_fit_in s vs b strings (patterns_tree ps))
-parts-fit s vs sort (p_var k) ps e f = absurd e
-parts-fit s vs sort (p_fun g qs) ps e f = (TermSort, false, parts-of_fun s vs sort g qs ps e f)
-parts-fit s vs sort (p_eigen g qs) ps e f = (TermSort, true, parts-of_eigen s vs sort g qs ps e f)
-parts-fit s vs sort (p_new g qs) ps e f = (TermSort, true, parts-of_new s vs sort g qs ps e f)
-
 same-name : (a b : ℕ) → a ≡ b → IsTrue (a == b)
 same-name a b e = eq-eqb a b e
 

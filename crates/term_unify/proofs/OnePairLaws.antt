@@ -1,9 +1,7 @@
 -- One pair of cells: what holds of the ends of their bindings, or of the pairs of their parts, holds of the pair.
-use Rattle.std.proofs.Common.{◌⊎◌, ◌≡◌, ◌<◌, ◌≤◌, arith, true, ◌∷◌, [], None, Some, length, ℕ, List, refl, sym, ◌∙◌, subst, inl, inr}
-use Rattle.std.specs.Prelude.{slice_get}
-use Rattle.calculus.specs.declared.sort.Sort.{Sort}
+use Rattle.std.proofs.Common.{◌⊎◌, ◌≡◌, ◌<◌, ◌≤◌, arith, true, ◌∷◌, [], length, ℕ, List, refl, sym, subst, inl, inr}
 use Rattle.calculus.specs.Equality.{sort_eq}
-use Rattle.store_theory.specs.Stores.{variable, Store, OccursIn, here, EndsAt, stays, Solution, Solves}
+use Rattle.store_theory.specs.Stores.{Store, OccursIn, here, EndsAt, stays, Solution, Solves}
 use Rattle.store_theory.specs.Bindings.{IsWellFormed, MayBind, SolvesPairs, with_binding, BindsOnly, BindsWithin, Unifies, AreApart}
 use Rattle.calculus.proofs.PlaceLists.{get-within}
 use Rattle.store_theory.proofs.SolutionLaws.{occurs-apart, some_solution}
@@ -29,12 +27,6 @@ unifies-one s t a b h w = (λ σ. (λ k. let p = (h σ).0 k in (p.0, p.1.0), λ 
 
 within-one : (s t : Store) (a b : ℕ) → BindsInPairs ((a, b) ∷ []) s t → BindsWithin a b s t
 within-one s t a b h = record { bound = λ v k sort f g. occurs-first s v a b (h v k sort f g).0; target = λ v k sort f g. occurs-first s k a b (h v k sort f g).1 }
-
-pub within-same : (s : Store) (a b : ℕ) → BindsWithin a b s s
-within-same s a b = record { bound = λ v k sort e f. absurd (none v k sort e f); target = λ v k sort e f. absurd (none v k sort e f) }
-  where
-    none : (v k : ℕ) (sort : Sort) → slice_get s.cells v ≡ Some (variable sort None) → slice_get s.cells v ≡ Some (variable sort (Some k)) → ⊥
-    none v k sort e f = let q : Some (variable sort None) ≡ Some (variable sort (Some k)) = sym e ∙ f in cc q
 
 -- ---- a pair that is decided at once
 

@@ -5,7 +5,6 @@ use Rattle.std.proofs.lemmas.Bool.{false≢true, and_parts}
 use Rattle.calculus.specs.declared.sort.Sort.{Sort}
 use Rattle.store_theory.specs.Stores.{Cell, variable, fun_cell, eigen_cell, new_cell, string_cell, Store, parts_of, is_bound, OccursIn, here, in_part, EndsAt, stays, goes_on, Solution, Solves}
 use Rattle.store_theory.specs.Bindings.{EndsIn, IsEnd, IsWellFormed, SolvesPairs, part_pairs, are_alike, is_variable, MayBind, with_binding, BindsOnly, KeepsMarks, bind_at, bound_to}
-use Rattle.calculus.proofs.PlaceLists.{get-within}
 use Rattle.store_theory.proofs.BindingLaws.{ends-once, kept, parts-within, get-bound, get-unbound, same_place, length-bind, KeepsMarks-same, KeepsMarks-both, KeepsMarks-with_binding, IsWellFormed-with_binding}
 use Rattle.store_theory.proofs.WeightLaws.{weight, weight_sum, weight_sum-none, weight_sum-more, weight_sum-append, weight-parts, weight-positive, weight-bound}
 use Rattle.store_theory.proofs.SolutionLaws.{ends-same, alike-parts, SolvesPairs-join, SolvesPairs-split, Solves-bound, Solves-unbound, occurs-apart}
@@ -57,12 +56,6 @@ pub all-done : (s : Store) (r n : ℕ) (c : Cell) → slice_get s.cells r ≡ So
 all-done s r n c e end t =
     let b : is_bound c ≡ false = let q : end.0 ≡ c = let w : Some end.0 ≡ Some c = sym end.1 ∙ e in cc in ap is_bound (sym q) ∙ end.2 in
     take-whole n (parts_of c) (told s r c (λ d. n ≡ length (parts_of d)) e b t)
-
--- there is a part of this number
-pub part-there : (s : Store) (r n i : ℕ) → IsEnd s r → EndsIn s r (λ d. n ≡ length (parts_of d)) → i < n → EndsIn s r (λ d. i < length (parts_of d))
-part-there s r n i end t l =
-    let m = told s r end.0 (λ d. n ≡ length (parts_of d)) end.1 end.2 t in
-    tells s r end.0 (λ d. i < length (parts_of d)) end.1 end.2 (omega arith)
 
 -- a list of all parts tells each of them, and how many there are
 pub part-among : (s : Store) (r i k : ℕ) (xs : List ℕ) → EndsIn s r (λ d. xs ≡ parts_of d) → slice_get xs i ≡ Some k → EndsIn s r (λ d. slice_get (parts_of d) i ≡ Some k)
@@ -148,11 +141,6 @@ occurs-end s v r e w (goes_on {k = k} {sort = sort} f o) =
     down : (r : ℕ) → OccursIn s v r → slice_get s.cells r ≡ Some (variable sort (Some k)) → OccursIn s v k
     down r here g = absurd (false≢true (sym w.2 ∙ ap is_bound (let q : w.0 ≡ variable sort (Some k) = let p : Some w.0 ≡ Some (variable sort (Some k)) = sym w.1 ∙ g in cc in q)))
     down r (in_part i {k = j} {c = c} h p x) g = let q : c ≡ variable sort (Some k) = let p : Some c ≡ Some (variable sort (Some k)) = sym h ∙ g in cc in subst (OccursIn s v) (bound-part sort k i j c q p) x
-
-among-at : (s : Store) (v : ℕ) (rs : List ℕ) (i k : ℕ) → slice_get rs i ≡ Some k → OccursIn s v k → OccursAmong s v rs
-among-at s v [] i k e o = absurd (cc)
-among-at s v (r ∷ rs) zero k e o = inl (subst (OccursIn s v) (let q : k ≡ r = cc in q) o)
-among-at s v (r ∷ rs) (suc i) k e o = inr (among-at s v rs i k e o)
 
 pub among-from : (s : Store) (v : ℕ) (rs : List ℕ) → OccursAmong s v rs → (i : ℕ) × (k : ℕ) × (slice_get rs i ≡ Some k) × OccursIn s v k
 among-from s v [] o = absurd o
@@ -392,12 +380,6 @@ BindsOnly-with_binding v r s sort o = record {
 pub may-bind : (s : Store) (v r : ℕ) → IsBinding s v r → ¬ OccursIn s v r → MayBind s v r
 may-bind s v r b n = record { sort = b.sort; open_cell = b.open_cell; same_sort = b.same_sort; no_cycle = n }
 
-pub binding-end : (s : Store) (v r : ℕ) → IsBinding s v r → IsEnd s v
-binding-end s v r b = (variable b.sort None, b.open_cell, refl)
-
-pub binding-cell : (s : Store) (v r : ℕ) → IsBinding s v r → r < length s.cells
-binding-cell s v r b = get-within s.cells r b.end.0 b.end.1
-
 pair_cells-more : (s u : Store) (ps : List (ℕ × ℕ)) → length u.cells ≡ length s.cells → AreCells s ps → AreCells u ps
 pair_cells-more s u [] e h = tt
 pair_cells-more s u (p ∷ ps) e h = (let a = h.0 in omega arith, let b = h.1 in omega arith, pair_cells-more s u ps e h.2)
@@ -465,9 +447,6 @@ unified-binding s t first left rest v r w b h before cells n = record {
 
 pub unified-done : (s t : Store) (first left : List (ℕ × ℕ)) → Unified s t first left → ((σ : Solution) → Solves t σ → SolvesPairs σ left) → SolvesAll s t first
 unified-done s t first left w h σ = (λ k. w.up σ k (h σ k), λ p. (w.down σ p.0 p.1).0)
-
-pub unified-apart : (s t : Store) (first left : List (ℕ × ℕ)) → Unified s t first left → ((σ : Solution) → Solves t σ → ¬ SolvesPairs σ left) → (σ : Solution) → Solves s σ → ¬ SolvesPairs σ first
-unified-apart s t first left w h σ k p = let a = w.down σ k p in h σ a.0 a.1
 
 pub occurs-built : (s : Store) (v r : ℕ) (b : IsBinding s v r) → OccursIn s v r → is_variable b.end.0 ≡ false
 occurs-built s v r b here = absurd (b.other refl)

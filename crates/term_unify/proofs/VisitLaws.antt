@@ -74,9 +74,6 @@ passed s v r e m rest rs sound end q f w (i, x, at, o, l) = elim (get-last rest 
 abbrev pub Notes : List (ℕ × ℕ) → List (ℕ × ℕ) → ℕ → ℕ → Type 0
 Notes before after a b = (x y : ℕ) → was_seen after x y ≡ true → (was_seen before x y ≡ true) ⊎ ((x ≡ a) × (y ≡ b))
 
-pub looks-none : (s : Store) (v t : ℕ) (rs : List ℕ) (seen : List (ℕ × ℕ)) → Looks s v t rs seen → rs ≡ [] → ¬ OccursIn s v t
-looks-none s v t rs seen w e o = let (i, x, at, p, l) = w.first o in absurd (let z : slice_get [] i ≡ Some x = ap (λ xs. slice_get xs i) (sym e) ∙ at in cc z)
-
 -- the parts of a cell are still to be looked at
 pub looks-on : (s : Store) (v t r e : ℕ) (c : Cell) (rest rs more : List ℕ) (seen noted : List (ℕ × ℕ)) → IsWellFormed s → Looks s v t rs seen → IsEnd s v → rs ≡ rest ++ r ∷ [] → EndsAt s r e → slice_get s.cells e ≡ Some c → ¬ (e ≡ v) → more ≡ rest ++ parts_of c → Notes seen noted v e → Looks s v t more noted
 looks-on s v t r e c rest rs more seen noted sound w end q f g n m k = record {
@@ -132,9 +129,6 @@ PairWaits s left a b = (σ : Solution) → Solves s σ → SolvesBelow s σ left
 pub record Comes (s : Store) (first left seen : List (ℕ × ℕ)) : Type 0 where
   pub comes : ComesTo s first left
   pub waits : (a b : ℕ) → was_seen seen a b ≡ true → PairWaits s left a b
-
-pub comes-start : (s : Store) (ps seen : List (ℕ × ℕ)) → ComesTo s ps ps → ((x y : ℕ) → was_seen seen x y ≡ false) → Comes s ps ps seen
-comes-start s ps seen h k = record { comes = h; waits = λ a b g. absurd (false≢true (sym (k a b) ∙ g)) }
 
 solves-at : (σ : Solution) (ps : List (ℕ × ℕ)) → SolvesPairs σ ps → (i : ℕ) (p : ℕ × ℕ) → slice_get ps i ≡ Some p → σ p.0 ≡ σ p.1
 solves-at σ [] h i p e = absurd (cc)

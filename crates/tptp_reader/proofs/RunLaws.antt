@@ -2,14 +2,14 @@
 use Rattle.std.proofs.Common.{◌≡◌, ◌&&◌, ℕ, Bool, true, false, not, List, [], ◌∷◌, ◌++◌, None, Some, refl, sym, ◌∙◌, ap}
 use Rattle.std.specs.Prelude.{nat_lt, if◌then◌else◌}
 use Rattle.std.specs.List.{list_all}
-use Rattle.std.proofs.lemmas.Bool.{and_from, false≢true}
+use Rattle.std.proofs.lemmas.Bool.{and_from}
 use Rattle.std.proofs.lemmas.List.Folds.{list_all-append}
 use Rattle.tptp_lex.proofs.Runs.{none-some, some-is}
 use Rattle.tptp_reader.specs.Terminals.{Terminal, Placed, terminals, Follow, no_token, a_token}
 use Rattle.tptp_reader.specs.Expecting as way
 use Rattle.tptp_reader.specs.Expecting.{Expected, step, run, run_on, run_after}
 use Rattle.tptp_reader.specs.Following.{Ran, RanDeep, told, stack_after, is_open, is_shallow}
-use Rattle.tptp_reader.specs.declared.machine.Step.TheVariants.{Onward, TooDeep, Stuck}
+use Rattle.tptp_reader.specs.declared.machine.Step.TheVariants.{Onward, TooDeep}
 use Rattle.tptp_reader.proofs.FaultLaws.{terminals-append}
 
 -- ---- the step that the program tells of
@@ -39,14 +39,6 @@ told-deep (Some m) e = by (nat_lt 500 m.0) refl e
     by : (b : Bool) → nat_lt 500 m.0 ≡ b → TooDeep ≡ (if b then TooDeep else Onward) → Deep (Some m)
     by true h k = record { step = m; is_move = refl; deep = h }
     by false h k = cc
-
-pub told-stuck : (m : way.Move) → Stuck ≡ told m → m ≡ None
-told-stuck None e = refl
-told-stuck (Some m) e = by (nat_lt 500 m.0) e
-  where
-    by : (b : Bool) → Stuck ≡ (if b then TooDeep else Onward) → Some m ≡ None
-    by true k = cc
-    by false k = cc
 
 -- ---- tokens and runs one behind the other
 
@@ -85,14 +77,6 @@ ran-more modal text from es now to r p end f n fs e h o = record {
   shallow = list_all-append is_shallow r.nestings (n ∷ []) ∙ and_from (list_all is_shallow r.nestings) (is_shallow n && true) r.shallow (and_from (is_shallow n) true h refl);
   expects = o;
 }
-
--- what there is no step for changes nothing
-pub stuck-same : (m : way.Move) (es fs : List Expected) → Stuck ≡ told m → fs ≡ stack_after m es → fs ≡ es
-stuck-same m es fs e h = h ∙ ap (λ z. stack_after z es) (told-stuck m e)
-
-pub open-or-none : (es : List Expected) → not (is_open es) ≡ true → es ≡ []
-open-or-none [] h = refl
-open-or-none (e ∷ es) h = absurd (false≢true h)
 
 pub is-open : (es : List Expected) → not (is_open es) ≡ false → is_open es ≡ true
 is-open [] h = cc

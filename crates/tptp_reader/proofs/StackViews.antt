@@ -1,7 +1,7 @@
 -- The program's parts as a stack.
 use Rattle.std.proofs.Common.{◌≡◌, ◌==◌, ◌&&◌, ◌||◌, not, rules, tests, ◌<◌, ◌≤◌, ◌+◌, ◌-◌, ℕ, Bool, true, false, List, [], ◌∷◌, ◌++◌, None, Some, refl, sym, ◌∙◌, ap, arith, length, take, get_or}
 use Rattle.std.proofs.lemmas.List.{take_more}
-use Rattle.std.proofs.lemmas.Bool.{eqb-true, false≢true}
+use Rattle.std.proofs.lemmas.Bool.{false≢true}
 use Rattle.tptp_reader.specs.Expecting as way
 use Rattle.tptp_reader.specs.ExpectedView.{the_expected, the_next, the_parts, the_rest}
 use Rattle.tptp_reader.specs.Following.{stack_of, is_open}
@@ -85,8 +85,3 @@ pub not-alone : (es : List Expected) → (length es == 1) ≡ false → way.is_a
 not-alone [] h = refl
 not-alone (e ∷ []) h = absurd (false≢true (sym h))
 not-alone (e ∷ f ∷ es) h = two-above (stack_of es) (the_expected f) (the_expected e)
-
-pub alone : (es : List Expected) (d : Expected) → (length es == 1) ≡ true → way.is_at_item (stack_of es) ≡ way.is_items (the_expected (get_or es 0 d))
-alone [] d h = absurd (false≢true h)
-alone (e ∷ []) d h = refl
-alone (e ∷ f ∷ es) d h = let n : length (e ∷ f ∷ es) ≡ 1 = eqb-true (length (e ∷ f ∷ es)) 1 h in absurd (omega (arith, n))

@@ -1,10 +1,10 @@
 -- The depths of the lists of a table, from the first one on.
-use Rattle.std.specs.Prelude.{◌≡◌, ℕ, suc, ◌+◌, ◌<◌, ◌≤◌, max, List, [], ◌∷◌, ◌++◌, length, drop, refl}
+use Rattle.std.specs.Prelude.{◌≡◌, ℕ, suc, ◌<◌, ◌≤◌, max, List, [], ◌∷◌, length, refl}
 use Rattle.std.specs.List.{AllByRecursion}
 use Rattle.std.proofs.Common.{ap, sym, subst, ◌∙◌, arith, get_or, zero}
 use Rattle.std.proofs.Math.Logic.{◌⊎◌, inl, inr}
 use Rattle.std.proofs.lemmas.Bool.{cases_lt}
-use Rattle.std.proofs.lemmas.List.{at_drop_all, at_drop_more, get_or_append_left, get_or_past, get_or_push, length-append}
+use Rattle.std.proofs.lemmas.List.{get_or_past}
 use Rattle.calculus.specs.Ground.{marks_tree, values_tree}
 use Rattle.calculus.specs.Lists.{g_terms_tree}
 use Rattle.conversion_theory.specs.Depths.{terms_depth, marks_depth, values_depth}
@@ -60,50 +60,9 @@ of-each (of_values vs) = omega arith
 
 pub ruleset kinds = (of-each)
 
--- one list more
-pub knows-none : (ls : List GroundList) → KnowsDepths ls []
-knows-none ls = record { few = omega arith; known = λ k h. absurd (omega (arith, h)); most = λ k h. absurd (omega (arith, h)) }
-
-pub knows-push : (ls : List GroundList) (told after : List ℕ) (d i : ℕ) → KnowsDepths ls told → length told ≡ i → i < no_list → d ≡ list_depth (list_at ls i) → d ≤ length told + 1 → after ≡ told ++ d ∷ [] → KnowsDepths ls after
-knows-push ls told after d i knows n room e most a = let made : KnowsDepths ls (told ++ d ∷ []) = record { few = omega (arith, m, n, room); known = λ k h. pushed k h (cases_lt k (length told)); most = λ k h. small k h (cases_lt k (length told)) } in subst (KnowsDepths ls) (sym a) made
-  where
-    m : length (told ++ d ∷ []) ≡ length told + 1
-    m = length-append told (d ∷ [])
-
-    pushed : (k : ℕ) → k < length (told ++ d ∷ []) → (k < length told) ⊎ (length told ≤ k) → known_depth (told ++ d ∷ []) k ≡ list_depth (list_at ls k)
-    pushed k h (inl g) = get_or_append_left told (d ∷ []) 0 k g ∙ knows.known k g
-    pushed k h (inr g) = let here : length told ≡ k = omega (arith, m, h, g) in get_or_push told d 0 k here ∙ e ∙ ap (λ j. list_depth (list_at ls j)) (sym n ∙ here)
-
-    small : (k : ℕ) → k < length (told ++ d ∷ []) → (k < length told) ⊎ (length told ≤ k) → known_depth (told ++ d ∷ []) k ≤ k + 1
-    small k h (inl g) = let at = get_or_append_left told (d ∷ []) 0 k g in let le = knows.most k g in omega (arith, at, le)
-    small k h (inr g) = let here : length told ≡ k = omega (arith, m, h, g) in let at = get_or_push told d 0 k here in omega (arith, at, most, here)
-
 -- ---- items
-
--- one item more of a list whose deepest one is sought
-pub deepest-step : {X : Type 0} (depth : List X → ℕ) (one : X → ℕ) → ((x : X) (xs : List X) → depth (x ∷ xs) ≡ max (suc (one x)) (depth xs)) → (xs : List X) (i : ℕ) (x d : X) (a b c all : ℕ) → i < length xs → x ≡ get_or xs i d → b ≡ one x → c ≡ max a (b + 1) → max a (depth (drop i xs)) ≡ all → max c (depth (drop (i + 1) xs)) ≡ all
-deepest-step depth one more xs i x d a b c all h e f g k =
-    let whole = at_drop_more depth xs i d h in
-    let split = more (get_or xs i d) (drop (i + 1) xs) in
-    let same = ap one e in
-    omega (arith, whole, split, same, f, g, k)
-
-pub deepest-end : {X : Type 0} (depth : List X → ℕ) → depth [] ≡ 0 → (xs : List X) (i a all : ℕ) → length xs ≤ i → max a (depth (drop i xs)) ≡ all → a ≡ all
-deepest-end depth none xs i a all h k = let past = at_drop_all depth xs i h in omega (arith, past, none, k)
 
 pub all-item : {X : Type 0} (Q : X → Type 0) (xs : List X) (k : ℕ) (x d : X) → AllByRecursion Q xs → k < length xs → x ≡ get_or xs k d → Q x
 all-item Q [] k x d h lt e = absurd (omega (arith, lt))
 all-item Q (y ∷ xs) zero x d h lt e = subst Q (sym e) h.0
 all-item Q (y ∷ xs) (suc k) x d h lt e = all-item Q xs k x d h.1 (omega (arith, lt)) e
-
--- each list stands before the end of the table
-pub no-term : (ls : List GroundList) (n : GroundTerms) → IsLower (the_terms ls n) n.0 (length ls)
-no-term ls n h = ap terms_in (get_or_past ls n.0 (of_terms []) h)
-
-pub no-mark : (ls : List GroundList) (n : GroundLabel) → IsLower (the_marks ls n) n.0 (length ls)
-no-mark ls n h = ap marks_in (get_or_past ls n.0 (of_terms []) h)
-
-pub no-value : (ls : List GroundList) (n : Values) → IsLower (the_values ls n) n.0 (length ls)
-no-value ls n h = ap values_in (get_or_past ls n.0 (of_terms []) h)
-
-pub ruleset past = (no-term, no-mark, no-value)

@@ -1,5 +1,5 @@
 -- Lists of terms that hold no name.
-use Rattle.std.proofs.Common.{◌≡◌, ◌<◌, ◌≤◌, ◌+◌, ℕ, List, [], ◌∷◌, ◌++◌, drop, length, get_or, map, Bool, true, false, arith, refl, sym, ◌∙◌, ap, subst}
+use Rattle.std.proofs.Common.{◌≡◌, ◌<◌, ◌≤◌, ◌+◌, ℕ, List, [], ◌∷◌, ◌++◌, drop, length, get_or, map, Bool, true, false, arith, sym, ◌∙◌, ap, subst}
 use Rattle.std.proofs.Math.Logic.{◌⊎◌, inl, inr}
 use Rattle.std.proofs.lemmas.Bool.{cases_lt, true≢false}
 use Rattle.std.proofs.lemmas.List.{at_drop_all, at_drop_more, get_or_append_left, get_or_past, get_or_push, length-append}
@@ -27,9 +27,6 @@ module _ (ls : List GroundList) where
 
   pub none-behind : (ts : List GroundTerm) (i : ℕ) → length ts ≤ i → Names (drop i ts) ≡ []
   none-behind ts i le = at_drop_all Names ts i le
-
-  pub no-terms : (ts : List GroundTerm) (list : GroundTerms) → map (the_g_term ls) ts ≡ the_terms ls list → ts ≡ [] → names_of_terms (g_terms_tree (the_terms ls list)) ≡ []
-  no-terms ts list told none = ap (λ us. names_of_terms (g_terms_tree us)) (sym told) ∙ ap Names none
 
   pub none-told : AreTold ls []
   none-told k h = absurd (true≢false h)

@@ -156,20 +156,11 @@ module _ (ls : List GroundList) where
   pub terms-put : (old new : Search) (list : GroundTerms) (n : ℕ) (b : Bool) → AreNormalNames ls old.names.keys → n ≡ length (the_terms ls list) → b ≡ (n == 0) → b ≡ false → new.names.keys ≡ old.names.keys → new.ahead.keys ≡ insert_key nat_cmp old.ahead.keys list.0 → Sees ls old new (names_of_terms (g_terms_tree (the_terms ls list)))
   terms-put old new list n b h m e t k a = subst (Sees ls old new) (terms-kind (list_at ls list.0) (filled (the_terms ls list) n b m e t)) (sees-put old new list.0 h k a)
 
-  pub terms-empty : (s : Search) (list : GroundTerms) (n : ℕ) (b : Bool) → AreNormalNames ls s.names.keys → n ≡ length (the_terms ls list) → b ≡ (n == 0) → b ≡ true → Sees ls s s (names_of_terms (g_terms_tree (the_terms ls list)))
-  terms-empty s list n b h m e t = subst (λ ts. Sees ls s s (names_of_terms (g_terms_tree ts))) (sym (empty (the_terms ls list) n b m e t)) (sees-none s h)
-
   pub label-put : (old new : Search) (list : GroundLabel) (n : ℕ) (b : Bool) → AreNormalNames ls old.names.keys → n ≡ length (the_marks ls list) → b ≡ (n == 0) → b ≡ false → new.names.keys ≡ old.names.keys → new.ahead.keys ≡ insert_key nat_cmp old.ahead.keys list.0 → Sees ls old new (names_of_marks (marks_tree (the_marks ls list)))
   label-put old new list n b h m e t k a = subst (Sees ls old new) (marks-kind (list_at ls list.0) (filled (the_marks ls list) n b m e t)) (sees-put old new list.0 h k a)
 
-  pub label-empty : (s : Search) (list : GroundLabel) (n : ℕ) (b : Bool) → AreNormalNames ls s.names.keys → n ≡ length (the_marks ls list) → b ≡ (n == 0) → b ≡ true → Sees ls s s (names_of_marks (marks_tree (the_marks ls list)))
-  label-empty s list n b h m e t = subst (λ ts. Sees ls s s (names_of_marks (marks_tree ts))) (sym (empty (the_marks ls list) n b m e t)) (sees-none s h)
-
   pub values-put : (old new : Search) (list : Values) (n : ℕ) (b : Bool) → AreNormalNames ls old.names.keys → n ≡ length (the_values ls list) → b ≡ (n == 0) → b ≡ false → new.names.keys ≡ old.names.keys → new.ahead.keys ≡ insert_key nat_cmp old.ahead.keys list.0 → Sees ls old new (names_of_values (values_tree (the_values ls list)))
   values-put old new list n b h m e t k a = subst (Sees ls old new) (values-kind (list_at ls list.0) (filled (the_values ls list) n b m e t)) (sees-put old new list.0 h k a)
-
-  pub values-empty : (s : Search) (list : Values) (n : ℕ) (b : Bool) → AreNormalNames ls s.names.keys → n ≡ length (the_values ls list) → b ≡ (n == 0) → b ≡ true → Sees ls s s (names_of_values (values_tree (the_values ls list)))
-  values-empty s list n b h m e t = subst (λ ts. Sees ls s s (names_of_values (values_tree ts))) (sym (empty (the_values ls list) n b m e t)) (sees-none s h)
 
   -- one item of a list, and those behind it
   pub see-step : {X : Type 0} (names : List X → List Name) (one : X → List Name) → ((x : X) (xs : List X) → names (x ∷ xs) ≡ one x ++ names xs) → (now new : Search) (xs : List X) (i : ℕ) (x d : X) (all : Name → Bool) → i < length xs → x ≡ get_or xs i d → Sees ls now new (one x) → ((n : Name) → (sees ls now n || has n (names (drop i xs))) ≡ all n) → (n : Name) → (sees ls new n || has n (names (drop (i + 1) xs))) ≡ all n
@@ -195,9 +186,6 @@ module _ (ls : List GroundList) where
       ∙ sym (or-assoc (has n (the_names ls old.names.keys)) (is_ahead ls popped.ahead.keys n) (has n (names_in (list_at ls k))))
       ∙ ap (λ b. has n (the_names ls old.names.keys) || b) (sym (append-any (λ j. has n (names_in (list_at ls j))) popped.ahead.keys k))
       ∙ ap (λ ks. has n (the_names ls old.names.keys) || is_ahead ls ks n) (sym a)
-
-  pub see-all : (s : Search) → s.ahead.keys ≡ [] → (n : Name) → has n (the_names ls s.names.keys) ≡ sees ls s n
-  see-all s e n = sym (or-false (has n (the_names ls s.names.keys))) ∙ ap (λ ks. has n (the_names ls s.names.keys) || is_ahead ls ks n) (sym e)
 
 pub bound-same : (m : ℕ) (ks us : List ℕ) → us ≡ ks → bound ks ≤ m → bound us ≤ m
 bound-same m ks us e h = let same = ap bound e in omega (arith, same, h)

@@ -73,10 +73,6 @@ module _ (ls : List GroundList) where
   ordered : (ts : List DeepTurn) → AreDeep ls ts → IsSortedByKeys ts → IsInDepthOrder (the_turns ls ts)
   ordered ts h s = depth_order-rising (the_turns ls ts) (rising ts h (λ k d lt. subst (λ n. is_lt (key_cmp (sort_key (slice_index_or ts n d)) (sort_key (slice_index_or ts k d))) ≡ false) (add-one k) (s k d (omega arith) (omega (arith, lt)))))
 
-  pub deep-push : (ts : List DeepTurn) (t : DeepTurn) → AreDeep ls ts → IsDeep t → AreDeep ls (ts ++ t ∷ [])
-  deep-push [] t h e = (e, tt)
-  deep-push (x ∷ ts) t h e = (h.0, deep-push ts t h.1 e)
-
   pub sorted-arranged : (deep sorted : List DeepTurn) (turns agenda : List tree.Turn) → the_turns ls deep ≡ keep_all turn_eq [] turns → AreDeep ls deep → IsPermutation deep sorted → IsSortedByKeys sorted → agenda ≡ keep_all turn_eq [] (the_turns ls sorted) → IsArranged turns agenda
   unfolding IsDistinct
   sorted-arranged deep sorted turns agenda e depths moved up a =
@@ -106,10 +102,6 @@ arranged-has turns agenda h x i =
     among-contains agenda x (Contains-permutation kept agenda x h.moved (contains-among kept x (kept-more turn_eq turn_eq-tells [] turns x (inr i))))
 
 -- ---- names
-
-pub depths-push : (ls : List GroundList) (ns : List DeepName) (n : DeepName) → HaveDepths ls ns → n.depth ≡ inner_depth (the_name ls n.name) → HaveDepths ls (ns ++ n ∷ [])
-depths-push ls [] n h e = (e, tt)
-depths-push ls (x ∷ ns) n h e = (h.0, depths-push ls ns n h.1 e)
 
 names-ordered : (ls : List GroundList) (ns : List DeepName) → HaveDepths ls ns → IsNonDecreasingBy name_depth ns → AreInDepthOrder (the_names ls ns)
 names-ordered ls ns depths up i j n m e f lt =

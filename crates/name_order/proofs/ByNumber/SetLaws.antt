@@ -1,7 +1,7 @@
 -- What a set by one test of equality shows is what is kept by another, where the two tests say the same.
-use Rattle.std.proofs.Common.{◌≡◌, ℕ, List, [], ◌∷◌, ◌++◌, map, Bool, true, false, position, drop, length, get_or, ◌+◌, ◌<◌, ◌≤◌, refl, sym, ◌∙◌, ap, subst, if◌then◌else◌}
+use Rattle.std.proofs.Common.{◌≡◌, ℕ, List, [], ◌∷◌, ◌++◌, map, Bool, true, false, position, drop, length, get_or, ◌+◌, ◌<◌, refl, sym, ◌∙◌, ap, subst, if◌then◌else◌}
 use Rattle.std.specs.List.{AllByRecursion, list_any, position_or_len}
-use Rattle.std.proofs.lemmas.List.{at_drop_all, at_drop_more, length-map, map-append}
+use Rattle.std.proofs.lemmas.List.{at_drop_more, length-map, map-append}
 use Rattle.indexmap.specs.IndexSet.{insert_key}
 use Rattle.name_order.specs.Keeping.{keep, keep_all}
 
@@ -56,6 +56,3 @@ module _ {B : Type 0} (eq : B → B → Bool) where
       ∙ ap (λ y. keep_all eq ks (all (y ∷ drop (i + 1) xs))) e
       ∙ sym (at_drop_more (λ ys. keep_all eq ks (all ys)) xs i d h)
       ∙ k
-
-  pub kept-end : {A : Type 0} (all : List A → List B) → all [] ≡ [] → (ks kept : List B) (xs : List A) (i : ℕ) → length xs ≤ i → keep_all eq ks (all (drop i xs)) ≡ kept → ks ≡ kept
-  kept-end all none ks kept xs i h k = ap (keep_all eq ks) (sym none ∙ sym (at_drop_all all xs i h)) ∙ k

@@ -1,22 +1,22 @@
 -- Lists of terms by the numbers of their names.
-use Rattle.std.proofs.Common.{◌≡◌, ◌<◌, ◌≤◌, ◌+◌, ℕ, suc, zero, List, [], ◌∷◌, ◌++◌, length, get_or, map, take, refl, sym, ◌∙◌, ap, subst, arith}
+use Rattle.std.proofs.Common.{◌≡◌, ◌<◌, ◌≤◌, ◌+◌, ℕ, suc, List, [], ◌∷◌, ◌++◌, length, get_or, map, take, refl, sym, ◌∙◌, ap, subst, arith}
 use Rattle.std.proofs.Math.Logic.{◌⊎◌, inl, inr}
 use Rattle.std.proofs.Math.Seq.{take-suc}
 use Rattle.std.proofs.lemmas.Bool.{cases_lt}
-use Rattle.std.proofs.lemmas.List.{get_or_append_left, get_or_past, get_or_push, map-append}
+use Rattle.std.proofs.lemmas.List.{get_or_append_left, get_or_push, map-append}
 use Rattle.std.specs.List.{AllByRecursion}
 use Rattle.calculus.specs.Ground.{GroundTerm}
 use Rattle.calculus.specs.Lists.{g_terms_tree, terms_tree}
-use Rattle.calculus.specs.Syntax.{Term, fun, more_terms, no_terms}
+use Rattle.calculus.specs.Syntax.{Term, fun, more_terms}
 use Rattle.conversion_theory.specs.Numbering.{numbered_term, numbered_terms}
 use Rattle.conversion_theory.specs.Turns.{Name}
 use Rattle.cop_base.specs.declared.SymbolId.{SymbolId}
-use Rattle.formula_core.specs.GroundLists.{GroundList, IsLowerTerm, of_terms, terms_in, marks_in, values_in, the_g_term, the_terms}
+use Rattle.formula_core.specs.GroundLists.{GroundList, IsLowerTerm, the_g_term, the_terms}
 use Rattle.formula_core.specs.declared.ground.GroundTerm as ground
 use Rattle.formula_core.specs.declared.ground.GroundTerm.TheVariants as given
 use Rattle.formula_core.specs.declared.ground.GroundTerms.{GroundTerms}
 use Rattle.name_order.specs.ByNumber.Numbered.{AreNumbered}
-use Rattle.term_table.specs.Table.{IsBelow, the_table_term}
+use Rattle.term_table.specs.Table.{the_table_term}
 use Rattle.term_table.specs.declared.table.TableTerm.{TableTerm}
 use Rattle.term_table.specs.declared.table.TableTerm.TheVariants as over
 
@@ -38,17 +38,6 @@ module _ (num : Name → ℕ) (ls : List GroundList) where
       let low : IsLowerTerm ls n (given.Fun f list) = subst (IsLowerTerm ls n) is lower in
       let none : the_terms ls list ≡ [] = low le in
       ap (λ ts. fun f.0 (numbered_terms num (g_terms_tree ts))) (sym none) ∙ ap (λ u. numbered_term num (the_g_term ls u)) (sym is)
-
-  -- lists that a table has are below their number
-  pub none-above : (t : ground.GroundTerm) → IsLowerTerm ls (length ls) t
-  none-above (given.Fun f list) = λ le. ap terms_in (get_or_past ls list.0 (of_terms []) le)
-  none-above (given.Eigen p vs) = λ le. ap values_in (get_or_past ls vs.0 (of_terms []) le)
-  none-above (given.Common k) = refl
-  none-above (given.Own k w) = λ le. ap marks_in (get_or_past ls w.0 (of_terms []) le)
-
-  -- no list is numbered yet
-  pub none-numbered : (lists : List (List Term)) → AreNumbered num ls 0 lists
-  none-numbered lists k lt = absurd (omega (arith, lt))
 
   -- one list more
   pub list-numbered : (n : ℕ) (old new : List (List Term)) (items : List TableTerm) → length old ≡ n → AreNumbered num ls n old → new ≡ old ++ map (the_table_term old) items ∷ []

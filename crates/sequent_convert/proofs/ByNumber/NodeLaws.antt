@@ -88,9 +88,6 @@ none-step ls nodes k x Q read h here n i lt at q = elim (cases_Bool (nat_lt n k)
 pub none-all : (ls : List GroundList) (nodes : List Node) (k : ℕ) (Q : Item → Type 0) → length nodes ≤ k → ((n : ℕ) (i : Item) → n < k → slice_get (map (the_node ls) nodes) n ≡ Some i → Q i → ⊥) → (n : ℕ) (i : Item) → slice_get (map (the_node ls) nodes) n ≡ Some i → Q i → ⊥
 none-all ls nodes k Q le h n i at q = let lt = node-place ls nodes n i at in h n i (omega (arith, lt, le)) at q
 
-pub works-place : (ls : List GroundList) (B : Basis) (nodes : List Node) (k n : ℕ) → WorksAt B (map (the_node ls) nodes) k n → n < length nodes
-works-place ls B nodes k n w = node-place ls nodes n w.0 w.1
-
 -- what a turn makes of the node at a place
 pub made-there : (ls : List GroundList) (B : Basis) (nodes : List Node) (n k taken : ℕ) (x : Node) (own : List tree.Value) (m : Made) → x ≡ get_or nodes n x → taken ≡ length (the_node ls x).spot.taken → own ≡ drop taken (turn_at B k).values → m ≡ made_of B (the_node ls x) own → (i : Item) → slice_get (map (the_node ls) nodes) n ≡ Some i → m ≡ made_of B i (own_values B k i)
 made-there ls B nodes n k taken x own m read count part made i at = made ∙ ap (made_of B (the_node ls x)) (part ∙ ap (λ j. drop j (turn_at B k).values) count) ∙ ap (λ j. made_of B j (own_values B k j)) (node-at ls nodes n x i at read)

@@ -11,5 +11,3 @@ stack-push s ws us w e = ap (λ xs. map (the_waiting s) (reverse xs)) e ∙ ap (
 pub stack-none : (s : Source) (ws us : List Waiting) → ws ≡ us ++ [] → length ws ≡ 0 → (map (the_waiting s) (reverse ws) ≡ []) × (map (the_waiting s) (reverse us) ≡ [])
 stack-none s [] us e n = (refl, ap (λ xs. map (the_waiting s) (reverse xs)) (sym (e ∙ append-nil us)))
 stack-none s (w ∷ ws) us e n = absurd (omega (arith, n))
-
-pub ruleset stack = (stack-push, stack-none)

@@ -1,16 +1,14 @@
 -- What the functions of the loop ask of its state, by the lists of the table.
-use Rattle.std.proofs.Common.{◌≡◌, ℕ, zero, suc, ◌+◌, ◌≤◌, ◌<◌, List, [], ◌∷◌, map, length, get_or, drop, Bool, false, if◌then◌else◌, nat_lt, lt-ltb, Some, None, inl, inr, sym, ◌∙◌, ap, subst, slice_get, add-one, drop-cons, arith}
-use Rattle.std.specs.List.{AllByRecursion}
-use Rattle.std.proofs.lemmas.Bool.{cases_Bool, ltb-true}
+use Rattle.std.proofs.Common.{◌≡◌, ℕ, zero, suc, ◌<◌, List, [], ◌∷◌, map, length, get_or, drop, Some, None, sym, ◌∙◌, ap, subst, slice_get, arith}
 use Rattle.std.proofs.lemmas.List.{length-map, drop-map}
 use Rattle.std.proofs.lemmas.Option.{slice_get_within, slice_get-get_or}
 use Rattle.calculus.specs.Instances.{Turn}
-use Rattle.conversion_theory.specs.Leading.{is_literal_position, turns_before}
+use Rattle.conversion_theory.specs.Leading.{is_literal_position}
 use Rattle.formula_core.specs.GroundLists.{GroundList, the_value}
 use Rattle.formula_core.specs.declared.ground.Value as value
 use Rattle.name_order.specs.ByNumber.TurnView.{the_turn}
 use Rattle.name_order.specs.declared.turn.Turn as program
-use Rattle.sequent_convert.specs.State.{Basis, IsBasis, turn_at, turns_at}
+use Rattle.sequent_convert.specs.State.{Basis, IsBasis, turn_at}
 use Rattle.sequent_convert.proofs.TurnPlaces.{turn-is}
 use Rattle.sequent_convert.proofs.StateLaws.{first-ahead, first-within, literals-step, item-within, some-ahead, head-of, head-within, parents-within, waits-within, parent-within, atoms-within}
 
@@ -42,29 +40,6 @@ pub atom-tells : (ls : List GroundList) (B : Basis) → IsBasis B → (xs : List
 atom-tells ls B basis xs k x d e lt read =
     let same = ap (λ (y : Turn). y.position) (agenda-turn ls B xs k x d e (let n = agenda-length ls B xs e in omega (arith, n, lt)) read) in
     ap (slice_get B.atoms) same ∙ atoms-within B basis k lt
-
--- one more turn before a position, and the first that is none
-module _ (ls : List GroundList) (B : Basis) (xs : List program.Turn) (turns : List ℕ) (p i : ℕ) (x d : program.Turn) (e : map (the_turn ls) xs ≡ B.named.agenda) (all : AllByRecursion (λ k. k < length B.named.agenda) turns) (lt : i < length turns) (read : x ≡ get_or xs (get_or turns i 0) d) where
-  before-first : turns_before p (turns_at B (drop i turns)) ≡ (if nat_lt x.position.0 p then suc (turns_before p (turns_at B (drop (suc i) turns))) else 0)
-  before-first =
-      let within = item-within turns (length B.named.agenda) i all lt in
-      let count = agenda-length ls B xs e in
-      let same = ap (λ (y : Turn). y.position) (agenda-turn ls B xs (get_or turns i 0) x d e (omega (arith, within, count)) read) in
-      ap (λ ks. turns_before p (turns_at B ks)) (drop-cons turns i 0 lt) ∙ ap (λ q. if nat_lt q p then suc (turns_before p (turns_at B (drop (suc i) turns))) else 0) (sym same)
-
-  pub before-step : x.position.0 < p → (n : ℕ) → n ≡ i + turns_before p (turns_at B (drop i turns)) → n ≡ (i + 1) + turns_before p (turns_at B (drop (i + 1) turns))
-  before-step less n h =
-      let first : turns_before p (turns_at B (drop i turns)) ≡ suc (turns_before p (turns_at B (drop (suc i) turns))) = before-first ∙ ap (λ (b : Bool). if b then suc (turns_before p (turns_at B (drop (suc i) turns))) else 0) (lt-ltb x.position.0 p less) in
-      let next : turns_before p (turns_at B (drop (i + 1) turns)) ≡ turns_before p (turns_at B (drop (suc i) turns)) = ap (λ j. turns_before p (turns_at B (drop j turns))) (add-one i) in
-      omega (arith, h, first, next)
-
-  pub before-end : p ≤ x.position.0 → (n : ℕ) → n ≡ i + turns_before p (turns_at B (drop i turns)) → i ≡ n
-  before-end le n h =
-      let first : turns_before p (turns_at B (drop i turns)) ≡ 0 = before-first ∙ ap (λ (b : Bool). if b then suc (turns_before p (turns_at B (drop (suc i) turns))) else 0) (not-less x.position.0 p le) in
-      omega (arith, h, first)
-    where
-      not-less : (a b : ℕ) → b ≤ a → nat_lt a b ≡ false
-      not-less a b le = elim (cases_Bool (nat_lt a b)) [ inl y ↦ absurd (let less = ltb-true a b y in omega (arith, le, less)) | inr n ↦ n ]
 
 -- a turn's values behind the first n
 pub own-part : (ls : List GroundList) (B : Basis) (xs : List program.Turn) (k n : ℕ) (x d : program.Turn) (vs own : List value.Value) → map (the_turn ls) xs ≡ B.named.agenda → k < length xs → x ≡ get_or xs k d → map (the_value ls) vs ≡ (the_turn ls x).values → own ≡ drop n vs → map (the_value ls) own ≡ drop n (turn_at B k).values

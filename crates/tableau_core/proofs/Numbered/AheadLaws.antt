@@ -36,10 +36,6 @@ pub and-true : (a : Bool) → (a && true) ≡ a
 and-true true = refl
 and-true false = refl
 
-group : (a b c : Bool) → (a && (b && c)) ≡ ((a && b) && c)
-group true b c = refl
-group false b c = refl
-
 -- a key that is put among the others is tested with them
 pub insert-all : (f : ℕ → Bool) (ks : List ℕ) (k : ℕ) → list_all f (insert_key nat_cmp ks k) ≡ (f k && list_all f ks)
 insert-all f [] k = refl
@@ -49,10 +45,6 @@ insert-all f (x ∷ ks) k = by (nat_cmp k x) refl (insert-all f ks k)
     by Less e h = refl
     by Equal e h = let same : k ≡ x = ranked k x Equal e in idem (f x) (list_all f ks) ∙ ap (λ j. f j && (f x && list_all f ks)) (sym same)
     by Greater e h = ap (λ b. f x && b) h ∙ swap (f x) (f k) (list_all f ks)
-
-pub append-all : (f : ℕ → Bool) (ks : List ℕ) (k : ℕ) → list_all f (ks ++ k ∷ []) ≡ (list_all f ks && f k)
-append-all f [] k = and-true (f k)
-append-all f (x ∷ ks) k = ap (λ b. f x && b) (append-all f ks k) ∙ group (f x) (list_all f ks) (f k)
 
 -- ---- bounds
 

@@ -1,20 +1,16 @@
 -- What is known of the lists of a table, number by number.
-use Rattle.std.specs.Prelude.{◌≡◌, ℕ, zero, suc, ◌+◌, ◌<◌, ◌≤◌, min, List, [], ◌∷◌, ◌++◌, Bool, true, false, ◌&&◌, ◌||◌, ◌==◌, map, drop, length, refl}
+use Rattle.std.specs.Prelude.{◌≡◌, ℕ, zero, suc, ◌<◌, ◌≤◌, List, [], ◌∷◌, Bool, true, false, ◌&&◌, ◌||◌, ◌==◌, length, refl}
 use Rattle.std.specs.List.{AllByRecursion}
-use Rattle.std.proofs.Common.{ap, sym, subst, ◌∙◌, arith, get_or, true≢false}
-use Rattle.std.proofs.Math.Logic.{◌⊎◌, inl, inr}
-use Rattle.std.proofs.lemmas.Bool.{cases_lt}
+use Rattle.std.proofs.Common.{ap, sym, subst, ◌∙◌, arith, get_or}
 use Rattle.std.proofs.lemmas.Bool.Decides.{nat_tests}
-use Rattle.std.proofs.lemmas.List.{get_or_append_left, get_or_default, get_or_past, get_or_push, length-append}
-use Rattle.calculus.specs.declared.setting.Domains.{Domains}
+use Rattle.std.proofs.lemmas.List.{get_or_default, get_or_past}
 use Rattle.calculus.specs.declared.setting.Domains.TheVariants.{Constant}
 use Rattle.calculus.specs.Ground as tree
 use Rattle.calculus.specs.Ground.{GroundMark, GroundTerms, g_fun, g_eigen, common, own, no_g_terms, more_g_terms, marks_tree, values_tree}
 use Rattle.calculus.specs.Lists.{g_terms_tree}
-use Rattle.calculus.specs.Skolem.{is_admitted, are_admitted, are_admitted_marks, are_admitted_values, are_allowed, is_allowed, common_spares}
+use Rattle.calculus.specs.Skolem.{are_admitted, are_admitted_marks, are_admitted_values, are_allowed, is_allowed}
 use Rattle.calculus.specs.Syntax.{Problem}
-use Rattle.formula_core.specs.GroundLists.{GroundList, of_terms, of_marks, of_values, list_at, terms_in, marks_in, values_in, the_terms, the_marks, the_values, IsLowerTerm, IsLowerMark, IsLowerValue, IsLower}
-use Rattle.formula_core.specs.declared.ground.GroundTerms.{GroundTerms as TermList}
+use Rattle.formula_core.specs.GroundLists.{GroundList, of_terms, of_marks, of_values, list_at, terms_in, marks_in, values_in, IsLowerTerm, IsLowerMark, IsLowerValue}
 use Rattle.formula_core.specs.declared.ground.GroundTerm.{GroundTerm}
 use Rattle.formula_core.specs.declared.ground.GroundTerm.TheVariants as term
 use Rattle.formula_core.specs.declared.ground.GroundMark.{GroundMark as GroundMarkN}
@@ -99,19 +95,6 @@ all-item Q (y ∷ xs) zero x d h lt e = subst Q (sym e) h.0
 all-item Q (y ∷ xs) (suc k) x d h lt e = all-item Q xs k x d h.1 (omega (arith, lt)) e
 
 -- ---- one list more
-
-knows-push : (f : ℕ → Bool) (known : List Bool) (b : Bool) → ((k : ℕ) → k < length known → get_or known k true ≡ f k) → b ≡ f (length known) → (k : ℕ) → k < length (known ++ b ∷ []) → get_or (known ++ b ∷ []) k true ≡ f k
-knows-push f known b look e k h = by (cases_lt k (length known))
-  where
-    n : length (known ++ b ∷ []) ≡ length known + 1
-    n = length-append known (b ∷ [])
-
-    by : (k < length known) ⊎ (length known ≤ k) → get_or (known ++ b ∷ []) k true ≡ f k
-    by (inl g) = get_or_append_left known (b ∷ []) true k g ∙ look k g
-    by (inr g) = let i : length known ≡ k = omega (arith, n, h, g) in get_or_push known b true k i ∙ e ∙ ap f i
-
-pub admitted-push : (P : Problem) (ls : List GroundList) (known after : List Bool) (b : Bool) (i : ℕ) → KnowsAdmitted P ls known → length known ≡ i → b ≡ admitted_in P (list_at ls i) → after ≡ known ++ b ∷ [] → KnowsAdmitted P ls after
-admitted-push P ls known after b i look n e a = subst (KnowsAdmitted P ls) (sym a) (knows-push (λ k. admitted_in P (list_at ls k)) known b look (e ∙ ap (λ k. admitted_in P (list_at ls k)) (sym n)))
 
 -- the values of an instance are those of a list of the table, or none
 pub values-past : (ls : List GroundList) (k n : ℕ) → length ls ≡ n → n ≤ k → values_in (list_at ls k) ≡ []

@@ -1,7 +1,7 @@
 use Rattle.std.proofs.Common.{◌++◌, ◌∙◌, ◌≡◌, ap, arith, drop, length, refl, subst, sym, take}
 use Rattle.tableau_core.specs.Numbered.ClosingView.{the_closing}
 use Rattle.connection_search.specs.Reading.{stacked}
-use Rattle.connection_search.proofs.BuiltLaws.{taken-next, taken-none}
+use Rattle.connection_search.proofs.BuiltLaws.{taken-next}
 use Rattle.connection_search.proofs.StackLaws.{fewer-more, stacked-more, taken-first, taken-more}
 use Rattle.connection_search.proofs.closings.take_closings.Goals as goal
 

@@ -15,7 +15,7 @@ use Rattle.prefix_split.specs.Later.{IsBuiltString, KeepsRight}
 use Rattle.prefix_split.proofs.LaterLaws.{later-both}
 use Rattle.prefix_split.proofs.LengthLaws.{right-both, right-more}
 use Rattle.prefix_split.proofs.MeetingLaws.{built-later, equation-free, open-later, system-later}
-use Rattle.prefix_split.proofs.TryingLaws.{cannot-equal, cannot-have, open-given, right-system, set-both}
+use Rattle.prefix_split.proofs.TryingLaws.{cannot-equal, open-given, right-system, set-both}
 use Rattle.prefix_split.proofs.trying.set_lengths.Goals as goal
 
 pub make_all_equal-requires-clause-fits : goal.make_all_equal-requires-clause-fits
