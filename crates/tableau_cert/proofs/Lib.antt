@@ -1,3 +1,27 @@
+-- How this crate is proved.
+--
+-- The instances of all moves are found first (`resolve`), over a copy of the moves' table that grows, and the moves are judged then over a
+-- table that stays (`verdict_of`), so the stack of open goals never meets a table that changes.
+--
+-- - *Instances.* `gather` walks through the formula with its stack on the heap. Where a part stands is told by numbers of the table
+--   (`Spot`), which stay the same when it grows (`IsNormalSpot`; `SteppingLaws` has this of spots, tasks and literals, and what is put
+--   together when a label or the values go on by one step). A part is entered past its modal step (`IsModal`, `IsEntered`; `EnteringLaws`)
+--   and opened (`IsOpened`; `OpeningLaws`). Both speak of `gathered`, what a part adds to what is gathered so far: `GatheringLaws` has it
+--   case by case, with `steps-joined` for a modal step and what is behind it, and `WalkingLaws` the loop (`begins`, `walk-goes_on`,
+--   `walk-stopped`, `ends-used`). `ResolvingLaws` leads from the summary of the walk to `literals_of`, `modal_steps` and
+--   `strings_are_short`, and `FoundLaws` to a move with its instance (`IsFound`, `IsCloser`) and to all of them (`IsResolved`). Steps are
+--   counted up to the end of 64 bits (`capped`), which no string in memory is longer than (`within-capped`).
+-- - *Judgement.* `closers_verdict` is `moves_verdict` over moves whose instances are found (`JudgingLaws.judged`). One path is shared: it
+--   is cut back to the goals above the next one (`the_open`, `AreNested`), so a goal is compared with its own path alone.
+-- - *Tableau.* `tableau_from` takes the moves from the end, each extension finding the closings of its goals on a stack (`built`).
+--   `BuiltLaws.built-closed` says that of accepted moves this is the closed tableau that writes them (`IsBuilt`).
+-- - *Printing.* `FlatteningLaws` says which moves a tableau has. `write` asks that all numbers have 32 bits. The types of the program say
+--   so, and a table's model does not: `moves_fit` goes once through the lists of the table, each naming lists before it. `NumberLaws` says
+--   that numbers have 32 bits in a list where they have in the lists before it (`list-numbers`, `one-list`), so in all (`all-values`), in
+--   moves and in the tableau that they are of (`tableau-numbers`), and with `closed-moves` that these moves can be written.
+-- - *Calls.* `CallLaws.exact` says of a problem which bytes are texts of closed tableaux (`AreTextsExact`): accepted ones are, a text has
+--   one tableau and limit, and a closed tableau with numbers of 32 bits one text with a limit from 1 to 200.
+
 mod GatheringLaws
 mod JudgingLaws
 mod SteppingLaws
