@@ -49,8 +49,8 @@ use Rattle.connection_search.specs.Points.{HasUntried, IsHere, IsMoveAt, IsPoint
 use Rattle.connection_search.specs.Running.{IsAt, IsAtGoal, IsLeftFound, IsMatrixOf, IsRunning, StandsFor}
 use Rattle.connection_search.specs.Trees.{IsGoalAt, KeepsTree, tree_system}
 use Rattle.connection_search.specs.Weights.{greatest_weight, weight, work_left}
-use Rattle.connection_search.specs.declared.exploring.Visit.{Visit}
-use Rattle.connection_search.specs.declared.exploring.Visit.TheVariants as visit
+use Rattle.connection_search.specs.declared.visit.Visit.{Visit}
+use Rattle.connection_search.specs.declared.visit.Visit.TheVariants as visit
 use Rattle.connection_search.specs.declared.point.Move.{Move}
 use Rattle.connection_search.specs.declared.point.Move.TheVariants.{Reduce, Extend}
 use Rattle.connection_search.specs.declared.point.Point.{Point}

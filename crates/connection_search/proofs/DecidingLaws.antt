@@ -29,8 +29,8 @@ use Rattle.connection_search.specs.Exploring.{IfOn, IsCounted, IsEnd, IsExplorin
 use Rattle.connection_search.specs.OwnStores.{AreOwn}
 use Rattle.connection_search.specs.Running.{IsRunning, StandsFor}
 use Rattle.connection_search.specs.Trees.{AreGoals, tree_system}
-use Rattle.connection_search.specs.declared.exploring.Visit.{Visit}
-use Rattle.connection_search.specs.declared.exploring.Visit.TheVariants as visit
+use Rattle.connection_search.specs.declared.visit.Visit.{Visit}
+use Rattle.connection_search.specs.declared.visit.Visit.TheVariants as visit
 use Rattle.connection_search.specs.declared.point.Point.{Point}
 use Rattle.connection_search.specs.declared.tree.Goal.{Goal}
 use Rattle.connection_search.specs.declared.tree.Step.{Step}

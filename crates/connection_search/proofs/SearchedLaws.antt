@@ -23,8 +23,8 @@ use Rattle.connection_search.proofs.RunningLaws.{clause-at}
 use Rattle.connection_search.specs.Exploring.{IfOn, IsExploring, IsSearched, IsSpace, IsVisiting}
 use Rattle.connection_search.specs.Outcomes.{IfSteps}
 use Rattle.connection_search.specs.Running.{IsMatrixOf, StandsFor}
-use Rattle.connection_search.specs.declared.exploring.Visit.{Visit}
-use Rattle.connection_search.specs.declared.exploring.Visit.TheVariants as visit
+use Rattle.connection_search.specs.declared.visit.Visit.{Visit}
+use Rattle.connection_search.specs.declared.visit.Visit.TheVariants as visit
 use Rattle.connection_search.specs.declared.point.Point.{Point}
 use Rattle.connection_search.specs.declared.searching.Outcome.{Outcome}
 use Rattle.connection_search.specs.declared.searching.Outcome.TheVariants as outcome

@@ -31,8 +31,8 @@ use Rattle.connection_search.specs.Points.{HasUntried, IsMoveAt, IsPoint, IsSame
 use Rattle.connection_search.specs.Running.{IsAtGoal, IsMatrixOf, StandsFor}
 use Rattle.connection_search.specs.Trees.{KeepsTree}
 use Rattle.connection_search.specs.Weights.{greatest_weight, weight, weight_of_all, work_left}
-use Rattle.connection_search.specs.declared.exploring.Visit.{Visit}
-use Rattle.connection_search.specs.declared.exploring.Visit.TheVariants as visit
+use Rattle.connection_search.specs.declared.visit.Visit.{Visit}
+use Rattle.connection_search.specs.declared.visit.Visit.TheVariants as visit
 use Rattle.connection_search.specs.declared.point.Move.{Move}
 use Rattle.connection_search.specs.declared.point.Point.{Point}
 use Rattle.connection_search.specs.declared.tree.Goal.{Goal}

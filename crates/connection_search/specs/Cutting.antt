@@ -17,8 +17,8 @@ use Rattle.tableau_core.specs.Numbered.TableauView.{the_tableau}
 use Rattle.connection_search.specs.Exploring.{IsBefore}
 use Rattle.connection_search.specs.Points.{IsPoint}
 use Rattle.connection_search.specs.Running.{StandsFor}
-use Rattle.connection_search.specs.declared.exploring.Visit.{Visit}
-use Rattle.connection_search.specs.declared.exploring.Visit.TheVariants as visit
+use Rattle.connection_search.specs.declared.visit.Visit.{Visit}
+use Rattle.connection_search.specs.declared.visit.Visit.TheVariants as visit
 use Rattle.connection_search.specs.declared.point.Point.{Point}
 use Rattle.connection_search.specs.declared.tree.Goal.{Goal}
 use Rattle.connection_search.specs.declared.tree.Step.{Step}

@@ -21,8 +21,8 @@ use Rattle.connection_search.specs.Points.{IsPoint}
 use Rattle.connection_search.specs.Running.{IsAtGoal, IsMatrixOf, StandsFor}
 use Rattle.connection_search.specs.Seeing.{HasSeen, no_goal}
 use Rattle.connection_search.specs.Weights.{greatest_weight, weight, weight_of_all}
-use Rattle.connection_search.specs.declared.exploring.Visit.{Visit}
-use Rattle.connection_search.specs.declared.exploring.Visit.TheVariants as visit
+use Rattle.connection_search.specs.declared.visit.Visit.{Visit}
+use Rattle.connection_search.specs.declared.visit.Visit.TheVariants as visit
 use Rattle.connection_search.specs.declared.point.Point.{Point}
 use Rattle.connection_search.specs.declared.tree.Goal.{Goal}
 use Rattle.connection_search.specs.declared.tree.Step.{Step}

@@ -6,7 +6,7 @@ use Rattle.search_theory.specs.States.{CellGoal, goal_is_below}
 use Rattle.store_theory.specs.Stores.{OccursIn, Store, variable}
 use Rattle.store_theory.specs.Systems.{CellAtom}
 use Rattle.term_store.specs.RefView.{the_place}
-use Rattle.connection_search.specs.declared.jumping.Look.{Look}
+use Rattle.connection_search.specs.declared.look.Look.{Look}
 
 -- the cells that were found to be bound, and those that are still to be visited
 abbrev pub bound_in : Look → List ℕ

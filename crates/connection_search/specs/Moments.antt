@@ -8,7 +8,7 @@ use Rattle.store_theory.specs.Stores.{Store}
 use Rattle.term_store.specs.Room.{TermStore}
 use Rattle.connection_search.specs.Cutting.{IsCountedAt, IsCutEnd, IsCutExploring, IsCutFailed, IsCutVisiting, IsPassing}
 use Rattle.connection_search.specs.Exploring.{IsCounted, IsEnd, IsExploring, IsSearched, IsSpace, IsSpentAt, IsVisiting}
-use Rattle.connection_search.specs.declared.exploring.Visit.{Visit}
+use Rattle.connection_search.specs.declared.visit.Visit.{Visit}
 use Rattle.connection_search.specs.declared.moves.Work.{Work}
 use Rattle.connection_search.specs.declared.point.Point.{Point}
 use Rattle.connection_search.specs.declared.space.Space.{Space}

@@ -17,12 +17,12 @@ ghost use Rattle.connection_search.specs.Moments.{IsSpaceOf, PassesNext, sides_o
 ghost use Rattle.connection_search.specs.Moments.{the_moment};
 ghost use Rattle.connection_search.specs.Weights.{work_left};
 
-use crate::exploring::Visit;
 use crate::moves::Work;
 use crate::point::Point;
 use crate::pruning::Pruning;
 use crate::searching::clause_id;
 use crate::space::Space;
+use crate::visit::Visit;
 use cop_base::{ClauseId, Ledger, NoMemory, PathLimit};
 use logic_rules::Problem;
 use matrix_build::Matrix;

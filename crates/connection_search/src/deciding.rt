@@ -1,7 +1,7 @@
 //! Lists of choices without open goals: what they ask of labels is solved, and the tableau is read
 //! off.
 
-ghost use Rattle.std.specs.Prelude.{◌≡◌, ℕ, IfOk, IsTrue, List, None, length};
+ghost use Rattle.std.specs.Prelude.{◌≡◌, ℕ, IfOk, IsTrue, List, length};
 ghost use Rattle.std.specs.List.{AllByRecursion, flat_map, list_all};
 ghost use Rattle.store_theory.specs.Bindings.{KeepsMarks};
 ghost use Rattle.calculus.specs.Choices.{Choice, choices_of, ground_choices};
@@ -25,28 +25,19 @@ ghost use Rattle.connection_search.specs.Running.{TreeStands, TreeStandsWhole};
 ghost use Rattle.connection_search.specs.Trees.{gammas_of};
 
 use crate::closings::tableau_of;
-use crate::exploring::Visit;
 use crate::homes::homes_of;
 use crate::moves::Work;
 use crate::reading::Source;
 use crate::space::Space;
 use crate::system::{all_gammas, system_of};
-use calculus::setting::{Domains, Logic};
+use crate::visit::Visit;
+use calculus::setting::Domains;
 use cop_base::{Ledger, NoMemory};
 use domain_cond::{ConstantDemand, CumulativeDemand, VaryingDemand};
 use prefix_split::{Solved, solve};
 use std::alloc::Global;
 use tableau_core::{SizedProblem, Tableau};
 use term_store::{Demand, Store, System};
-
-pub(crate) fn has_labels(logic: Logic) -> bool
-    ensures { result ≡ has_labels logic }
-{
-    match logic {
-        Logic::Classical => false,
-        _ => true,
-    }
-}
 
 // Solves the system by what the domains ask.
 fn solve_by<M: Demand>(
@@ -144,7 +135,7 @@ impl Space<'_> {
         ensures room { KeepsRoom store.old store.new }
     {
         let logic = self.problem.setting().logic();
-        if !has_labels(logic) {
+        if !logic.has_labels() {
             return Ok(Solved::Found);
         }
         let system = system_of(work.alloc, self.matrix, &work.tree)?;

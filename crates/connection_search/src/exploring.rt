@@ -1,6 +1,6 @@
 //! The loop of the search: a stack of choice points, all of whose choices are tried in order.
 
-ghost use Rattle.std.specs.Prelude.{◌≡◌, ◌<◌, ◌++◌, ◌∷◌, [], ℕ, IfOk, OnOk, length};
+ghost use Rattle.std.specs.Prelude.{◌≡◌, ◌<◌, IfOk, OnOk, length};
 ghost use Rattle.store_theory.specs.Bindings.{KeepsMarks};
 ghost use Rattle.store_theory.specs.Stores.{IsGood, TrailMark};
 ghost use Rattle.term_store.specs.Room.{KeepsRoom};
@@ -13,16 +13,9 @@ use crate::moves::Work;
 use crate::point::Point;
 use crate::seeing::{lower, seen};
 use crate::space::Space;
+use crate::visit::Visit;
 use cop_base::{Ledger, NoMemory};
-use tableau_core::Tableau;
 use term_store::Store;
-
-/// What a list of choices came to.
-pub(crate) enum Visit {
-    On,
-    Closed(Tableau),
-    Steps,
-}
 
 impl Space<'_> {
     // Spends a step for the list of choices. A list without open goals is decided here, where no

@@ -23,10 +23,10 @@ ghost use Rattle.connection_search.specs.Running.{ReducesBy, TreeStands, TreeSta
 ghost use Rattle.connection_search.specs.Trees.{KeepsTree};
 
 use crate::atoms::{met_atom, unify_all};
-use crate::jumping::Look;
+use crate::label_tests::Tests;
+use crate::look::Look;
 use crate::occurrences::Occurrences;
 use crate::point::Move;
-use crate::pruning::Tests;
 use crate::regular::{are_new_from, first_repeated, is_new};
 use crate::tree::{Copied, Tree};
 use crate::uncopied::is_set_aside;

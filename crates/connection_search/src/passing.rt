@@ -17,9 +17,9 @@ ghost use Rattle.connection_search.specs.Running.{ExtendsBy, GoalStands, IsMatri
 ghost use Rattle.connection_search.specs.Trees.{IsGoalAt};
 ghost use Rattle.connection_search.specs.Weights.{weight};
 
-use crate::ahead::{is_hopeless_place, literal_at, marks_of};
 use crate::atoms::other;
 use crate::heads::has_clash;
+use crate::literal_marks::{is_hopeless_place, literal_at, marks_of};
 use crate::point::{Move, Point};
 use crate::space::Space;
 use crate::tree::Tree;

@@ -13,10 +13,10 @@ ghost use Rattle.connection_search.specs.Moments.{Leads, SearchedAt, VisitingAt,
 ghost use Rattle.connection_search.specs.Moments.{the_moment};
 ghost use Rattle.connection_search.specs.Outcomes.{IfSteps, IsOutcome};
 
-use crate::exploring::Visit;
 use crate::moves::Work;
 use crate::pruning::Pruning;
 use crate::space::Space;
+use crate::visit::Visit;
 use cop_base::{ClauseId, Ledger, NoMemory, PathLimit};
 use logic_rules::Problem;
 use matrix_build::Matrix;

@@ -16,9 +16,9 @@ ghost use Rattle.term_store.specs.TemplateView.{the_template};
 ghost use Rattle.connection_search.specs.Trees.{IsGoalAt};
 ghost use Rattle.connection_search.specs.Uncopied.{IsLostOver, IsSetAside};
 
-use crate::ahead::{has_no_hope_by, literal_at, marks_of, with_mark};
 use crate::atoms::are_same_sign;
 use crate::heads::have_clash_over;
+use crate::literal_marks::{has_no_hope_by, literal_at, marks_of, with_mark};
 use crate::occurrences::Others;
 use crate::tree::Tree;
 use cop_base::NoMemory;
