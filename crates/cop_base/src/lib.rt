@@ -7,13 +7,15 @@ use std::alloc::{AllocError, AllocFailed};
 mod edge;
 mod ledger;
 mod library;
+mod mem_library;
 mod path_limit;
 mod record;
 mod text;
 
 pub use edge::{FileLibrary, Open, read_whole};
 pub use ledger::Ledger;
-pub use library::{FetchFault, Library, MemLibrary, count_up};
+pub use library::{FetchFault, Library, count_up};
+pub use mem_library::MemLibrary;
 pub use path_limit::PathLimit;
 pub use record::ReadRecord;
 pub use text::Text;

@@ -14,11 +14,11 @@ ghost use Rattle.name_order.specs.Keeping.{keep_all};
 ghost use Rattle.name_order.specs.PlaceView.{the_places};
 ghost use Rattle.tableau_core.specs.Numbered.SpotView.{the_mark_at};
 
-use crate::guide::Numbers;
 use crate::holding::HoldingTable;
 use crate::inside::names_in_values;
 use crate::keys::find;
 use crate::names::Name;
+use crate::numbers::Numbers;
 use crate::place::{Place, is_delta, is_pi, place_at};
 use crate::reached::Reached;
 use crate::walk::values_at;

@@ -1,33 +1,26 @@
 //! What leads a conversion: the turns of each instance, and each turn's parent and prerequisites, as
 //! places of the agenda.
 
-ghost use Rattle.std.specs.Prelude.{◌≡◌, ◌++◌, ◌∷◌, ◌≤◌, [], map, length, Some, IfOk, IsSome, OnErr, OnOk};
+ghost use Rattle.std.specs.Prelude.{◌≡◌, map, Some, IfOk, IsSome};
 ghost use Rattle.std.specs.List.{AllByRecursion, AllZip};
-ghost use Rattle.formula_core.specs.GroundLists.{the_value};
-ghost use Rattle.name_order.specs.ByNumber.Collected.{the_list, the_lists};
+ghost use Rattle.name_order.specs.ByNumber.Collected.{the_lists};
 ghost use Rattle.name_order.specs.ByNumber.ReachedView.{the_all, the_keys, the_reached, AreNormalReached};
 ghost use Rattle.name_order.specs.ByNumber.Waiting.{WaitFor};
-ghost use Rattle.name_order.specs.Found.{above_in, before_in, find_in, parent_in};
+ghost use Rattle.name_order.specs.Found.{above_in, find_in, parent_in};
 ghost use Rattle.name_order.specs.PlaceView.{the_places};
 
 use crate::agenda::Turns;
 use crate::awaited::{taken_before, waits};
 use crate::collect::ReachedList;
 use crate::keys::find;
+use crate::numbers::Numbers;
 use crate::place::{Place, place_at};
 use crate::reached::Reached;
 use cop_base::NoMemory;
 use formula_core::GroundTable;
 use indexmap::IndexSet;
 use std::alloc::Global;
-use std::marker::Model;
 use tableau_core::SizedProblem;
-
-/// Places of the agenda.
-#[derive(Drop)]
-pub struct Numbers {
-    items: Vec<usize>,
-}
 
 /// The turns of each instance, and each turn's parent and prerequisites.
 #[derive(Drop)]
@@ -35,41 +28,6 @@ pub struct Guide {
     pub order: Vec<Numbers>,
     pub parents: Vec<Option<usize>>,
     pub waits: Vec<Numbers>,
-}
-
-impl Model for Numbers {
-    ghost use Rattle.std.specs.Prelude.{List, ℕ};
-
-    ghost Value = { List ℕ };
-
-    ghost view = { λ n. n.items.items };
-}
-
-impl Numbers {
-    /// The empty list.
-    pub fn new(alloc: Global) -> Numbers
-        ensures { result ≡ [] }
-    {
-        Numbers {
-            items: Vec::new(alloc),
-        }
-    }
-
-    /// Appends the place. Want of memory leaves the list as it was.
-    pub fn push(&mut self, place: usize) -> Result<(), NoMemory>
-        ensures ok { OnOk result (self.new ≡ self.old ++ place ∷ []) }
-        ensures err { OnErr result (self.new ≡ self.old) }
-    {
-        self.items.push(place)?;
-        Ok(())
-    }
-
-    /// The places in order.
-    pub fn items(&self) -> &[usize]
-        ensures { result.now ≡ self.now }
-    {
-        self.items.as_slice()
-    }
 }
 
 /// The position above.

@@ -13,6 +13,7 @@ mod named;
 mod names;
 mod naming;
 mod numbering;
+mod numbers;
 mod place;
 mod reached;
 mod terms;

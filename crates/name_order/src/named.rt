@@ -25,10 +25,11 @@ ghost use Rattle.tableau_core.specs.Numbered.TableauView.{the_tableau};
 ghost use Rattle.term_table.specs.SharedTerm.{the_shared_term};
 
 use crate::agenda::{Turns, all_turns};
-use crate::guide::{Guide, Numbers, guide_by};
+use crate::guide::{Guide, guide_by};
 use crate::names::Name;
 use crate::naming::{Naming, name_all};
 use crate::numbering::number_names;
+use crate::numbers::Numbers;
 use crate::place::{Place, all_places};
 use crate::terms::{number_in, numbered, numbered_lists};
 use crate::turn::Turn;

@@ -4,9 +4,8 @@ ghost use Rattle.std.specs.Prelude.{◌≡◌, ◌++◌, ◌<◌, ◌≤◌, ℕ
 ghost use Rattle.std.specs.Prelude.{false, length, map, take, true};
 ghost use Rattle.std.specs.List.{AllByRecursion, list_all};
 ghost use Rattle.store_theory.specs.Bindings.{IsEnd};
-ghost use Rattle.calculus.specs.declared.sort.Sort.TheVariants.{MarkSort};
 ghost use Rattle.calculus.specs.Ground.{GroundMark};
-ghost use Rattle.store_theory.specs.Stores.{Solution, Solves, has_sort_at, names_below};
+ghost use Rattle.store_theory.specs.Stores.{Solution, Solves, names_below};
 ghost use Rattle.store_theory.specs.Systems.{AreEqual, IsOpenString, NamesItsStrings, is_equation};
 ghost use Rattle.store_theory.specs.Systems.{is_system};
 ghost use Rattle.store_theory.specs.Templates.{as_label};
@@ -21,18 +20,17 @@ ghost use Rattle.prefix_split.specs.Beginnings.{step_marks};
 ghost use Rattle.prefix_split.specs.Growing.{AreNamed, AreSteps, IsAsked, IsGrown, IsNamed};
 ghost use Rattle.prefix_split.specs.Growing.{IsNamedEquation, IsNodeOf, IsReached, IsTree};
 ghost use Rattle.prefix_split.specs.Growing.{has_short_steps};
-ghost use Rattle.prefix_split.specs.Growing.{is_mark_head, is_open_string_head};
 
+use crate::ends::{is_mark, is_open_string};
 use crate::joining::are_same_steps;
 use crate::node::{Node, Step};
 use crate::places::{equation_at, home_at, reference_at};
 use crate::rules::node_at;
 use crate::uses::Uses;
 use calculus::setting::Logic;
-use calculus::sort::Sort;
 use cop_base::NoMemory;
 use std::alloc::Global;
-use term_store::{Equation, Head, Home, Ref, Store, System};
+use term_store::{Equation, Home, Ref, Store, System};
 use term_unify::Unifier;
 
 fn has_short_steps(logic: Logic) -> bool
@@ -46,54 +44,6 @@ fn has_short_steps(logic: Logic) -> bool
         Logic::S4 => false,
         Logic::S5 => true,
     }
-}
-
-fn is_mark_head(head: Head) -> bool
-    ensures { result ≡ is_mark_head head }
-{
-    match head {
-        Head::Open(sort) => match sort {
-            Sort::TermSort => false,
-            Sort::MarkSort => true,
-            Sort::StringSort => false,
-        },
-        Head::Fun(_) => false,
-        Head::Eigen(_) => false,
-        Head::New(_) => true,
-        Head::Marks => false,
-    }
-}
-
-fn is_open_string_head(head: Head) -> bool
-    ensures { result ≡ is_open_string_head head }
-{
-    match head {
-        Head::Open(sort) => match sort {
-            Sort::TermSort => false,
-            Sort::MarkSort => false,
-            Sort::StringSort => true,
-        },
-        Head::Fun(_) => false,
-        Head::Eigen(_) => false,
-        Head::New(_) => false,
-        Head::Marks => false,
-    }
-}
-
-fn is_mark(store: &Store, end: Ref) -> bool
-    requires { IsEnd store.now.store end.0 }
-    ensures { result ≡ true → IsTrue (has_sort_at store.now.store MarkSort end.0) }
-{
-    let found = store.head(end);
-    is_mark_head(found)
-}
-
-pub(crate) fn is_open_string(store: &Store, end: Ref) -> bool
-    requires { IsEnd store.now.store end.0 }
-    ensures { result ≡ true → IsOpenString store.now.store end.0 }
-{
-    let found = store.head(end);
-    is_open_string_head(found)
 }
 
 // Whether an unbound string of at most one mark stands there.

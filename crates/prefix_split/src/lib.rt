@@ -4,6 +4,7 @@
 mod apart;
 mod bit_table;
 mod choosing;
+mod ends;
 mod equal;
 mod growing;
 mod joining;

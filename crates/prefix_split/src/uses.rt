@@ -4,7 +4,7 @@ ghost use Rattle.std.specs.Prelude.{◌≤◌, ◌<◌, IsTrue, length, map};
 ghost use Rattle.store_theory.specs.Stores.{names_below};
 ghost use Rattle.term_store.specs.RefView.{the_place};
 
-use crate::growing::is_open_string;
+use crate::ends::is_open_string;
 use crate::places::{equation_at, reference_at};
 use cop_base::NoMemory;
 use std::alloc::Global;

@@ -17,11 +17,11 @@ ghost use Rattle.sequent_calc.specs.StepView.{the_modal, the_row_arg, the_step, 
 ghost use Rattle.std.specs.Option.{option_map};
 ghost use Rattle.std.specs.Prelude.{option_copied};
 
+use crate::apply_fault::ApplyFault;
 use crate::atom::are_same_atom;
 use crate::condition::{arguments_fit, home_is, is_known, is_new, is_reachable, term_allowed};
 use crate::entry::{Entry, Sequent};
 use crate::names::Names;
-use crate::rules::ApplyFault;
 use crate::step::{ModalArg, RowArg, Step, TermArg};
 use calculus::fault::StepFault;
 use cop_base::NoMemory;

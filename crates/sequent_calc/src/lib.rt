@@ -5,6 +5,7 @@
 #![tactic(auto)]
 
 mod addition;
+mod apply_fault;
 mod atom;
 mod condition;
 mod derivation;
@@ -17,11 +18,12 @@ mod rules;
 mod step;
 
 pub use addition::{Addition, addition_of};
+pub use apply_fault::ApplyFault;
 pub use condition::arguments_fit;
 pub use derivation::Derivation;
 pub use entry::{Entry, Sequent};
 pub use form::{ModalForm, TermForm};
 pub use leaf::{eigen_named, spare_named};
 pub use names::{EigenList, Home, Names, SpareList};
-pub use rules::{ApplyFault, Children, StepFault, apply};
+pub use rules::{Children, StepFault, apply};
 pub use step::{ModalArg, RowArg, Step, StepList, TermArg};

@@ -2,20 +2,20 @@ ghost use Rattle.std.specs.Prelude.{◌≡◌, ◌∷◌, [], ◌++◌, IfOk, On
 ghost use Rattle.calculus.specs.Calculus.{apply};
 ghost use Rattle.calculus.specs.StepFacts.{ChildrenExtend, IsFresh};
 ghost use Rattle.calculus.specs.declared.fault.StepFault.{StepFault};
-ghost use Rattle.formula_core.specs.FormulaView.{the_formula};
 ghost use Rattle.sequent_calc.specs.ChildrenView.{the_children};
 ghost use Rattle.sequent_calc.specs.DerivationView.{the_names};
 ghost use Rattle.sequent_calc.specs.EntryView.{the_entry};
 ghost use Rattle.sequent_calc.specs.StepView.{the_step};
 
 use crate::addition::{Addition, addition_of};
+use crate::apply_fault::ApplyFault;
 use crate::entry::{Entry, Sequent};
 use crate::names::Names;
 use crate::step::Step;
 pub use calculus::fault::StepFault;
 use cop_base::NoMemory;
 use logic_rules::Problem;
-use std::alloc::{AllocError, AllocFailed, Global};
+use std::alloc::Global;
 
 /// The open sequents that a step leads to.
 #[derive(Drop)]
@@ -25,25 +25,6 @@ pub enum Children {
     One(Sequent),
     /// The branch splits, the first component before the second.
     Two(Sequent, Sequent),
-}
-
-/// Why a step leads to no children: the first demand of the rules that it does not meet, or want of
-/// memory.
-#[derive(Clone, Copy, Debug, PartialEq, Eq)]
-pub enum ApplyFault {
-    Fault(StepFault),
-    NoMemory,
-}
-
-impl From<NoMemory> for ApplyFault {
-    ghost use Rattle.std.specs.Prelude.{◌≡◌};
-    ghost use Rattle.sequent_calc.specs.declared.rules.ApplyFault.TheVariants as fault;
-
-    ghost from_gives = { λ _ r. r ≡ fault.NoMemory };
-
-    fn from(_error: NoMemory) -> ApplyFault {
-        ApplyFault::NoMemory
-    }
 }
 
 fn copy_entry(alloc: Global, entry: &Entry) -> Result<Entry, NoMemory>

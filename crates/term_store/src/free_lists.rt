@@ -1,11 +1,9 @@
 //! Lists that were used and are free, so that the next clause needs no new memory.
 
-ghost use Rattle.std.specs.Prelude.{◌≡◌, [], IfOk, map};
-ghost use Rattle.term_store.specs.RefView.{the_place};
+ghost use Rattle.std.specs.Prelude.{◌≡◌, [], IfOk};
 
 use crate::cell::Ref;
-use crate::clause::{CellAtom, CellAtomList, CopiedClause, GammaList, GammaUse, RefList};
-use crate::store::Store;
+use crate::clause::{CellAtom, CellAtomList, GammaList, GammaUse, RefList};
 use cop_base::NoMemory;
 use std::alloc::Global;
 
@@ -126,19 +124,19 @@ impl FreeLists {
     }
 
     #[inline(always)]
-    fn give_refs(&mut self, list: RefList) {
+    pub fn give_refs(&mut self, list: RefList) {
         if !list.items.is_empty() {
             self.refs.give(list.items);
         }
     }
 
     #[inline(always)]
-    fn give_atom(&mut self, atom: CellAtom) {
+    pub fn give_atom(&mut self, atom: CellAtom) {
         self.give_refs(atom.args);
         self.give_refs(atom.label);
     }
 
-    fn give_atoms(&mut self, list: CellAtomList) {
+    pub fn give_atoms(&mut self, list: CellAtomList) {
         let mut atoms = list.items;
         if !atoms.is_empty() {
             while let Some(atom) = atoms.pop() {
@@ -148,7 +146,7 @@ impl FreeLists {
         }
     }
 
-    fn give_gammas(&mut self, list: GammaList) {
+    pub fn give_gammas(&mut self, list: GammaList) {
         let mut gammas = list.items;
         if !gammas.is_empty() {
             while let Some(gamma) = gammas.pop() {
@@ -156,60 +154,5 @@ impl FreeLists {
             }
             self.gammas.give(gammas);
         }
-    }
-}
-
-impl Store {
-    // An empty list with room for so many references.
-    pub(crate) fn empty_refs(&mut self, count: usize) -> Result<RefList, NoMemory>
-        ensures none { IfOk result (λ list. list ≡ []) }
-        ensures same { self.new ≡ self.old }
-    {
-        self.free.refs(self.alloc, count)
-    }
-
-    // An empty list with room for so many atoms.
-    pub(crate) fn empty_atoms(&mut self, count: usize) -> Result<CellAtomList, NoMemory>
-        ensures none { IfOk result (λ list. list ≡ []) }
-        ensures same { self.new ≡ self.old }
-    {
-        self.free.atoms(self.alloc, count)
-    }
-
-    // An empty list with room for so many gamma terms.
-    pub(crate) fn empty_gammas(&mut self, count: usize) -> Result<GammaList, NoMemory>
-        ensures none { IfOk result (λ list. list ≡ []) }
-        ensures same { self.new ≡ self.old }
-    {
-        self.free.gammas(self.alloc, count)
-    }
-
-    /// The references, as a list of their own.
-    pub fn list_of(&mut self, refs: &[Ref]) -> Result<RefList, NoMemory>
-        ensures copied { IfOk result (λ copied. copied ≡ map the_place refs.now) }
-        ensures same { self.new ≡ self.old }
-    {
-        let mut copied = self.empty_refs(refs.len())?;
-        for item in refs {
-            let reference = *item;
-            copied.push(reference)?;
-        }
-        Ok(copied)
-    }
-
-    /// Takes the lists of an atom that is needed no more, for later clauses.
-    pub fn free_atom(&mut self, atom: CellAtom)
-        ensures { self.new ≡ self.old }
-    {
-        self.free.give_atom(atom);
-    }
-
-    /// Takes the lists of a clause that is needed no more, for later ones.
-    pub fn free_clause(&mut self, clause: CopiedClause)
-        ensures { self.new ≡ self.old }
-    {
-        self.free.give_atoms(clause.literals);
-        self.free.give_refs(clause.strings);
-        self.free.give_gammas(clause.gammas);
     }
 }

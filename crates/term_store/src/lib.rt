@@ -10,6 +10,7 @@ mod copy_lists;
 mod demand;
 mod free_lists;
 mod home;
+mod lists;
 mod pattern;
 mod slots;
 mod store;

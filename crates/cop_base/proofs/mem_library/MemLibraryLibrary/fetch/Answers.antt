@@ -2,8 +2,8 @@ use Rattle.std.proofs.Common.{Some, sym, subst}
 use Rattle.cop_base.specs.Outside.{file_in}
 use Rattle.cop_base.specs.Reads.{Answers}
 use Rattle.cop_base.proofs.ReadLaws.{read-answers, reads-answered}
-use Rattle.cop_base.proofs.library.MemLibraryLibrary.fetch.Goals as goal
-use Rattle.cop_base.proofs.library.MemLibraryLibrary.fetch.Goals.{then-contains, else-contains}
+use Rattle.cop_base.proofs.mem_library.MemLibraryLibrary.fetch.Goals as goal
+use Rattle.cop_base.proofs.mem_library.MemLibraryLibrary.fetch.Goals.{then-contains, else-contains}
 
 pub returns-clause-reads_on : goal.returns-clause-reads_on
 returns-clause-reads_on c =
