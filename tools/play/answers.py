@@ -2,6 +2,7 @@
 where `model` finds the formula false in it; what else is said is what the program answered, or that its time is over."""
 from __future__ import annotations
 
+import json
 import re
 import shutil
 import tempfile
@@ -16,7 +17,7 @@ from exercise import Exercise
 from jobs import Event, Job, Refused
 from picture import svg_of
 from runs import Ended, Run
-from shown import LOGICS, Reader
+from shown import INFIX, LOGICS, Reader
 
 MODAL = ("d", "t", "s4", "s5")
 DOMAINS = ("constant", "cumulative", "varying")
@@ -237,9 +238,12 @@ class Work:
         """The name of the page that leancop-view makes of a text, which it has judged once more."""
         if "leancop-view" not in self.tools.here:
             return None
-        given = self.folder / "drawn.txt"
+        given, names = self.folder / "drawn.txt", self.folder / "names.json"
         given.write_bytes(text.encode("latin-1"))
-        ended = self.job.run([self.tools.here["leancop-view"], str(self.file), str(given), *self.q.words()], 30, self.q.megabytes)
+        called = {**self.problem.names.by_kind(), "infix": INFIX if self.problem.read_as else {}}
+        names.write_text(json.dumps(called), encoding="utf-8")
+        words = [str(self.file), str(given), f"--name={self.problem.title()}", f"--names={names}", *self.q.words()]
+        ended = self.job.run([self.tools.here["leancop-view"], *words], 30, self.q.megabytes)
         if ended.status != 0:
             return None
         name = f"{self.job.name}.{len(self.bench.pages)}.{time.monotonic_ns()}"

@@ -223,7 +223,11 @@ class Exercise:
         return {"all closed": "All branches are closed: the proof is done."}.get(fault, f"The program says: {fault}.")
 
     def form(self, line: str) -> str:
-        """A line that is in no form of the format, or has a symbol that the problem does not have."""
+        """A line that is in no form of the format, stops before its end, or has a symbol that the problem does not have."""
+        words = line.split(" ")
+        behind = WANTED_BEHIND.get(words[-1]) or ("the number of the entry that it contradicts" if re.fullmatch(r"axiom \d+ ?", line) else None)
+        if behind or not line.strip():
+            return f"The line stops here: {behind or 'a step'} is missing."
         term = re.search(r" term (.*)$", line)
         has = ", ".join(self.reader.name("function", n) + (f" with {k} arguments" if k > 1 else " with 1 argument" if k else "") for n, k in self.functions)
         has = f"The problem's names are: {has}" if has else "The problem names nothing"
@@ -291,6 +295,10 @@ class Exercise:
         first = missing[0]
         asks = {"entry": first.entry, "rule": "axiom" if first.other is not None else "use"}
         return {"steps": [s.text() for s in missing], "hint": step_in_words(self.logic, entries, first, self.reader), "asks": asks, "text": text}
+
+
+WANTED_BEHIND = {"use": "the number of an entry", "axiom": "the number of an entry", "to": "the world that is reached", "new": "the new character",
+                 "term": "the term", "name": "the new name"}
 
 
 def term_name(name: str) -> str:

@@ -331,6 +331,10 @@ class Names:
         """The reader's name for a word of TPTP."""
         return next((name for (k, name), w in self.words.items() if k == kind and w == word), word)
 
+    def by_kind(self) -> dict[str, dict[str, str]]:
+        """The reader's names of all words, by kind."""
+        return {kind: {w: name for (k, name), w in self.words.items() if k == kind} for kind in ("variable", "function", "predicate")}
+
 
 def tptp(tree: Tree, names: Names) -> str:
     kind = tree[0]
@@ -372,6 +376,14 @@ class Problem:
     read_as: list[str]
     notes: list[str]
     names: Names
+
+    def title(self) -> str:
+        """What its pages are called by: the formula and its premises, as they were read."""
+        if not self.read_as:
+            return "your problem"
+        *premises, formula = self.read_as
+        said = ", ".join(premises) + " ⊢ " * bool(premises) + formula
+        return said if len(said) <= 80 else said[:79] + "…"
 
 
 class Misread(Exception):

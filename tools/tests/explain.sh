@@ -63,6 +63,15 @@ sed 's/$/\r/' examples/drinker.txt >"$folder/d.txt"
 explained 'carriage returns' check examples/drinker.p "$folder/d.txt"
 sed 's/^axiom .*/axiom 1 1/' examples/drinker.txt >"$folder/d.txt"
 explained 'axiom 1 1' check examples/drinker.p "$folder/d.txt"
+# What is wrong with a line that is in no form.
+head -n 5 examples/drinker.txt >"$folder/d.txt"
+explained 'The text stops before this line' check examples/drinker.p "$folder/d.txt"
+printf 'use' >>"$folder/d.txt"
+explained 'The text stops within this line' check examples/drinker.p "$folder/d.txt"
+sed 's/^use 1 term .*/use 1 term somebody/' examples/drinker.txt >"$folder/d.txt"
+explained 'The formula has no function or constant somebody.' check examples/drinker.p "$folder/d.txt"
+sed 's/^use 1 term .*/use 1 term  /' examples/drinker.txt >"$folder/d.txt"
+explained 'It is not in its form.' check examples/drinker.p "$folder/d.txt"
 
 mark="line 2, column 24:
       fof(c,conjecture,p & q | r).

@@ -1,6 +1,7 @@
 // node page.js PAGE TEXT..: reads texts by the page's own functions, and looks whether each one is accepted, whether each closing joins
 // an atom and its opposite at one label, and whether each structure makes its formula false. Prints how many closings there were.
 //   --verdict TEXT..: prints what the page says of each text, in the words of the program
+//   --why TEXT..: prints why each text is rejected, in words, and how many of its steps are drawn
 //   --trim TEXT: prints the derivation that the page shows, without idle steps, with the numbers that its entries then have
 //   --draw TEXT: prints what the page would put into its parts, so that it can be looked through for what a text must not bring
 'use strict';
@@ -66,7 +67,8 @@ function drawn(text) {
 
 if (require.main === module) {
   const [how, ...files] = process.argv.slice(3);
-  if (how === '--verdict') console.log(files.map(f => verdict(read(f))).join('\n'));
+  if (how === '--why') for (const d of files.map(f => page.readAny(read(f)))) console.log(d.fault.why + ' ' + d.steps.length);
+  else if (how === '--verdict') console.log(files.map(f => verdict(read(f))).join('\n'));
   else if (how === '--trim') process.stdout.write(Buffer.from(trimmed(read(files[0])), 'latin1'));
   else if (how === '--draw') console.log(drawn(read(files[0])));
   else console.log(closings([how, ...files]));

@@ -33,7 +33,7 @@ refused 8 'leancop-view: rejected at line 2: setting' --logic=t examples/modal/s
 refused 6 'leancop-view: missing: none.p' none.p examples/drinker.txt
 refused 8 'leancop-view: rejected at line 1: version' examples/even.p examples/even.p
 refused 6 'leancop-view: none.txt: No such file or directory' examples/even.p none.txt
-refused 5 'leancop-view PROBLEM TEXT [--logic=L] [--domains=D] [--root=FOLDER] [--as=s4] [--name=NAME] > page.html' examples/even.p
+refused 5 'leancop-view PROBLEM TEXT [--logic=L] [--domains=D] [--root=FOLDER] [--as=s4] [--name=NAME] [--names=FILE] > page.html' examples/even.p
 has 'leancop-view --help' "$(tools/leancop-view --help)" 'Prints a page for a browser'
 
 # The page has the names of the problem's file: its own, and those of premises (by position) and variables (in the order of quantifiers).
@@ -41,6 +41,11 @@ told() { sed -n 's/^<pre id="told" hidden>\(.*\)<\/pre>$/\1/p'; }
 "$LEANCOP" prove examples/even.p >"$folder/even.txt"
 same 'names of a problem' "$(tools/leancop-view examples/even.p "$folder/even.txt" | told)" \
     '{"problem": "even.p", "answer": "accepted", "variables": ["X"], "names": {"2": "start", "3": "step", "7": "two"}}'
+# What the words of its file are called on the page.
+echo '{"variable": {"X": "x"}, "function": {"zero": "0"}, "predicate": {"even": "Even"}, "infix": {}}' >"$folder/called.json"
+has 'names that are given' "$(tools/leancop-view "--names=$folder/called.json" examples/even.p "$folder/even.txt" | told)" \
+    '"variables": ["x"], "names": {"2": "start", "3": "step", "7": "two"}, "symbols": {"function": {"zero": "0"}, "predicate": {"even": "Even"}, "infix": {}}'
+refused 5 "leancop-view: $folder/even.txt: no names in JSON" "--names=$folder/even.txt" examples/even.p "$folder/even.txt"
 has 'a name that is given' "$(tools/leancop-view --name='a < b' examples/even.p "$folder/even.txt" | told)" '"problem": "a &lt; b"'
 printf 'fof(c,conjecture,p(\x27\xe9\x27) => p(\x27\xe9\x27)).\n' >"$folder/latin.p" # a byte that is no UTF-8
 "$LEANCOP" prove "$folder/latin.p" >"$folder/latin.txt"
@@ -114,6 +119,16 @@ if command -v node >/dev/null; then
     # The page judges as the program does: a text that seems right, and many that are changed at random.
     printf '%s\n' 'leancop derivation 1' 'logic classical' 'formula (p => q)' 'limit 1' 'use 1' 'axiom 2 3' end >"$folder/wrong.txt"
     same 'a wrong derivation' "$(reads --verdict "$folder/wrong.txt")" 'rejected at line 6: no connection'
+    # What is wrong with a line that is in no form is said in words, and the steps before it are drawn.
+    head -n 6 "$folder/even.txt" >"$folder/stops.txt"
+    sed 's/term zero/term one/' "$folder/even.txt" >"$folder/unknown.txt"
+    sed 's/term zero/term s(zero,zero)/' "$folder/even.txt" >"$folder/arity.txt"
+    sed '6s/use 2/use  2/' "$folder/even.txt" >"$folder/form.txt"
+    same 'faults in words' "$(reads --why "$folder/stops.txt" "$folder/unknown.txt" "$folder/arity.txt" "$folder/form.txt")" \
+        'The text stops here, before its last line, “end”. 2
+The formula has no constant one; it has zero, s with 1 argument. 2
+The formula has no function s with 2 arguments; it has zero, s with 1 argument. 2
+From column 5 on it is not in its form. 1'
     same 'texts that are changed' "$(node tools/tests/mutants.js tools/leancop-view.html 500 "$folder/gallery")" '500 alike, some accepted'
 
     # What the page shows of a derivation without idle steps is a derivation.
