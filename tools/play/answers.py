@@ -17,7 +17,7 @@ from exercise import Exercise
 from jobs import Event, Job, Refused
 from picture import svg_of
 from runs import Ended, Run
-from shown import INFIX, LOGICS, Reader
+from shown import LOGICS, Reader
 
 MODAL = ("d", "t", "s4", "s5")
 DOMAINS = ("constant", "cumulative", "varying")
@@ -240,7 +240,7 @@ class Work:
             return None
         given, names = self.folder / "drawn.txt", self.folder / "names.json"
         given.write_bytes(text.encode("latin-1"))
-        called = {**self.problem.names.by_kind(), "infix": INFIX if self.problem.read_as else {}}
+        called = {**self.problem.names.by_kind(), "infix": formulas.INFIX if self.problem.read_as else {}}
         names.write_text(json.dumps(called), encoding="utf-8")
         words = [str(self.file), str(given), f"--name={self.problem.title()}", f"--names={names}", *self.q.words()]
         ended = self.job.run([self.tools.here["leancop-view"], *words], 30, self.q.megabytes)

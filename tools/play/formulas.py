@@ -46,6 +46,7 @@ TOKEN = re.compile(r"(?P<space>\s+)|(?P<tex>\\[A-Za-z]+)|(?P<plain>\[\s+\]|%s)|(
 SAID = {"end": "the end of the formula", "word": "a name", "relation": "a sign"}
 BINARY = {"iff": "↔", "xor": "⊕", "imp": "→", "or": "∨", "and": "∧", "equal": "="}
 PREFIX = {"not": "¬", "box": "□", "dia": "◇", "all": "∀", "ex": "∃"}
+INFIX = {word: sign for sign, word in RELATIONS.items() if sign[0] != "\\"}
 
 
 class Unread(Exception):
@@ -360,6 +361,9 @@ def book(tree: Tree, inner: bool = False) -> str:
         return "⊤" if kind == "true" else "⊥"
     if kind == "var":
         return tree[1]
+    if kind == "atom" and tree[1] in INFIX and len(tree[2]) == 2:
+        text = f" {INFIX[tree[1]]} ".join(book(t) for t in tree[2])
+        return f"({text})" if inner else text
     if kind in ("fun", "atom"):
         return tree[1] + ("(" + ", ".join(book(t) for t in tree[2]) + ")" if tree[2] else "")
     if kind in PREFIX:

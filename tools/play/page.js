@@ -4,8 +4,9 @@ import { exercise } from './exercise.js';
 const $ = id => document.getElementById(id);
 const LOGICS = { classical: 'classical logic', intuitionistic: 'intuitionistic logic', d: 'D', t: 'T', s4: 'S4', s5: 'S5' };
 const MODAL = ['d', 't', 's4', 's5'];
-const SIGNS = [['∀', 'for all'], ['∃', 'there is'], ['¬', 'not'], ['∧', 'and'], ['∨', 'or'], ['→', 'implies'], ['↔', 'if and only if'],
-  ['□', 'necessary'], ['◇', 'possible'], ['=', 'equal'], ['⊤', 'true'], ['⊥', 'false'], ['⊢', 'from premises follows']];
+const SIGNS = [['∀', 'for all', 'forall'], ['∃', 'there is', 'exists'], ['¬', 'not', '~'], ['∧', 'and', '&'], ['∨', 'or', '|'], ['→', 'implies', '->'],
+  ['↔', 'if and only if', '<->'], ['□', 'necessary', '[]'], ['◇', 'possible', '<>'], ['=', 'equal', '='], ['⊤', 'true', '\\top'], ['⊥', 'false', '\\bot'],
+  ['⊢', 'from premises follows', '|-']];
 const TYPED = [['<->', '↔'], ['<=>', '↔'], ['->', '→'], ['=>', '→'], ['/\\', '∧'], ['\\/', '∨'], ['[]', '□'], ['<>', '◇'], ['|-', '⊢'],
   ['\\forall', '∀'], ['\\exists', '∃'], ['\\neg', '¬'], ['\\lnot', '¬'], ['\\land', '∧'], ['\\wedge', '∧'], ['\\lor', '∨'], ['\\vee', '∨'],
   ['\\to', '→'], ['\\leftrightarrow', '↔'], ['\\Box', '□'], ['\\Diamond', '◇'], ['\\vdash', '⊢']];
@@ -96,8 +97,8 @@ export function clear() {
 export function misread(e) {
   // Places count characters; a text here counts halves of those that are written in two.
   const field = $(e.place), text = field.value, place = n => [...text].slice(0, n).join('').length, start = place(e.start), end = place(Math.max(e.start + 1, e.end));
-  $(e.place + '-fault').replaceChildren(element('span', { class: 'copy' }, text.slice(0, start), element('mark', {}, text.slice(start, end).trim() || '␣'), text.slice(end)),
-    element('br'), e.said[0].toUpperCase() + e.said.slice(1) + (e.said.endsWith('.') ? '' : '.'));
+  $(e.place + '-fault').replaceChildren(element('span', { class: 'copy', 'aria-hidden': 'true' }, text.slice(0, start), element('mark', {}, text.slice(start, end).trim() || '␣'), text.slice(end)),
+    element('br'), element('span', { class: 'heard' }, 'At character ' + (e.start + 1) + (text.slice(start, end).trim() ? ', “' + text.slice(start, end).trim() + '”' : '') + ': '), e.said[0].toUpperCase() + e.said.slice(1) + (e.said.endsWith('.') ? '' : '.'));
   field.setAttribute('aria-invalid', 'true');
   field.focus();
   field.setSelectionRange(start, Math.min(end, text.length));
@@ -184,14 +185,14 @@ function table() {
   keep();
   say('Asking all logics ..');
   const cells = {}, cell = (l, d) => cells[l + ' ' + d] = element('td', {}, '..');
-  const head = ['Logic', 'constant domains', 'cumulative', 'varying'].map(t => element('th', { scope: 'col' }, t));
+  const head = ['Logic', 'constant', 'cumulative', 'varying'].map(t => element('th', { scope: 'col' }, t));
   const rows = Object.keys(LOGICS).map(l => {
     const row = element('tr', {}, element('th', { scope: 'row' }, l === 'classical' || l === 'intuitionistic' ? l : LOGICS[l]));
     if (!MODAL.includes(l)) { const c = cell(l, ''); c.colSpan = 3; row.append(c); } else if (l === 's5') row.append(cell(l, 'constant'), element('td', { class: 'dim' }, 'as constant'), cell(l, 'varying'));
     else row.append(...['constant', 'cumulative', 'varying'].map(d => cell(l, d)));
     return row;
   });
-  $('table').replaceChildren(element('div', { class: 'scroll' }, element('table', {}, element('caption', { class: 'dim' }, 'In which logics it is a theorem'), element('thead', {}, element('tr', {}, ...head)), element('tbody', {}, ...rows))));
+  $('table').replaceChildren(element('div', { class: 'scroll' }, element('table', {}, element('caption', { class: 'dim' }, 'In which logics it is a theorem, and with which domains'), element('thead', {}, element('tr', {}, ...head)), element('tbody', {}, ...rows))));
   let left = Object.keys(cells).length;
   const total = left, q = question();
   return ask('table', {}, e => {
@@ -234,7 +235,7 @@ function signs() {
     $(id).addEventListener('input', event => { if (!event.isComposing && event.inputType === 'insertText') typed($(id)); $(id + '-fault').replaceChildren(); $(id).removeAttribute('aria-invalid'); });
     $(id).addEventListener('keydown', event => { if (event.key === 'Enter' && !event.isComposing && (event.ctrlKey || event.metaKey || (id === 'formula' && !event.shiftKey && !/^\s*(%|fof|cnf|qmf|\/\*)/.test($(id).value)))) { event.preventDefault(); prove(); } });
   }
-  $('signs').append(...SIGNS.map(([sign, text], i) => element('button', { type: 'button', title: text, 'aria-label': text, tabindex: i ? -1 : 0, onclick: () => insert(last, sign) }, sign)));
+  $('signs').append(...SIGNS.map(([sign, text, keys], i) => element('button', { type: 'button', title: 'typed ' + keys, 'aria-label': text, tabindex: i ? -1 : 0, onclick: () => insert(last, sign) }, sign)));
   $('signs').addEventListener('keydown', event => { // one stop of Tab; the arrows go from sign to sign
     const buttons = [...$('signs').children], at = buttons.indexOf(document.activeElement), to = { ArrowRight: at + 1, ArrowLeft: at - 1, Home: 0, End: buttons.length - 1 }[event.key];
     if (to === undefined || !buttons[to]) return;

@@ -4,6 +4,7 @@ from __future__ import annotations
 import re
 from collections.abc import Callable
 
+from formulas import INFIX
 from sequent import Entry, Label, Step, Tree, kind_of
 
 SUBSCRIPT = str.maketrans("0123456789", "₀₁₂₃₄₅₆₇₈₉")
@@ -11,7 +12,6 @@ BINARY = {"and": "∧", "or": "∨", "imp": "→", "equal": "="}
 PREFIX = {"not": "¬", "box": "□", "dia": "◇", "all": "∀", "ex": "∃"}
 RESERVED = ("atom", None, ())  # the atom of $true, which is (o => o)
 TRUE = ("imp", RESERVED, RESERVED)
-INFIX = {"in": "∈", "less": "<", "leq": "≤", "greater": ">", "geq": "≥", "subset": "⊆"}
 LOGICS = {"classical": "classical logic", "intuitionistic": "intuitionistic logic", "d": "D", "t": "T", "s4": "S4", "s5": "S5"}
 
 

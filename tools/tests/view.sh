@@ -169,7 +169,7 @@ if command -v chromium >/dev/null && command -v node >/dev/null; then
     tools/leancop-view examples/modal/barcan.p examples/structures/barcan.s4.cumulative.txt >"$folder/pages/structure.html"
     got="$(timeout 300 node tools/tests/view_pages.js "$folder/pages" tools/leancop-view.html)"
     same 'pages as readers see them' "${got//[0-9]/}" ' held'
-    has 'how many checks held' "$got" '130 held'
+    has 'how many checks held' "$got" '132 held'
 else
     skip 'chromium or node is not here'
 fi
