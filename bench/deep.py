@@ -9,8 +9,17 @@ than is expected, or with less stack in another way than with more, is told.
   --filter=RE      the inputs whose names match
   --kept=FOLDER    keeps the files of what was told there
 A line for each input: what it is, its bytes, and for each stack the status, the answer, seconds of the processor and MB."""
-import os, re, resource, shutil, sys, tempfile
-from processes import Runner, find_program, is_an_answer, read_options
+from __future__ import annotations
+
+import os
+import re
+import resource
+import shutil
+import sys
+import tempfile
+from collections.abc import Callable, Iterator
+
+from processes import Run, Runner, find_program, is_an_answer, read_options
 
 MILLION = 1000000
 MEBIBYTES = 16 << 20
@@ -18,19 +27,19 @@ DEEP, ACCEPTED = "nesting too deep", "accepted"
 DERIVED = "leancop derivation"
 
 
-def fof(formula, role="conjecture"):
+def fof(formula: str, role: str = "conjecture") -> str:
     return "fof(c,%s,%s).\n" % (role, formula)
 
 
-def qmf(formula):
+def qmf(formula: str) -> str:
     return "qmf(c,conjecture,%s).\n" % formula
 
 
-def around(opening, count, inner, closing=""):
+def around(opening: str, count: int, inner: str, closing: str = "") -> str:
     return opening * count + inner + closing * count
 
 
-def derivation(formula, lines, setting="classical"):
+def derivation(formula: str, lines: list[str], setting: str = "classical") -> str:
     return "leancop derivation 1\nlogic %s\nformula %s\nlimit 1\n%send\n" % (setting, formula, "".join(lines))
 
 
@@ -55,7 +64,10 @@ CONSTRUCTS = {
 
 
 # Each input: its name, the words, the texts of its files or a function that makes them, and how the answer begins where that is fixed.
-def nested():
+Input = tuple[str, list[str], dict[str, str] | Callable[[], dict[str, str]], str | None]
+
+
+def nested() -> Iterator[Input]:
     for name, make in CONSTRUCTS.items():
         words = ["prove", "m.p", "--steps=1000"] + (["--logic=s4"] if "qmf" in make(1) else [])
         for count in (490, 500, 501, 100000):
@@ -65,7 +77,7 @@ def nested():
         yield "490 %s, intuitionistic" % name, ["prove", "m.p", "--logic=intuitionistic", "--steps=1000"], {"m.p": CONSTRUCTS[name](490)}, None
 
 
-def long_tokens():
+def long_tokens() -> Iterator[Input]:
     rest = MEBIBYTES - 100
     for name, make in {
         "one lower word": lambda: fof("a" * rest),
@@ -104,7 +116,7 @@ def long_tokens():
         yield "16 MiB: " + name, ["prove", "m.p", "--steps=1000"], lambda: {"m.p": make(), "a.p": ""}, None
 
 
-def terms():
+def terms() -> Iterator[Input]:
     for name, formula, problem in [("f(..)", "?[X1]:(p(X1) => p(X1))", "?[X]:(p(X) => p(X))")]:
         for levels in (20000, MILLION):
             term = around("f(", levels, "a", ")")
@@ -118,15 +130,15 @@ def terms():
         "m.p": fof("?[X]:(p(X) => p(X))"), "d": derivation("?[X1]:(p(X1) => p(X1))", ["use 1 term %s\n" % broad])}, "rejected at line 5: line"
 
 
-def numbered(count, form):
+def numbered(count: int, form: str) -> list[str]:
     return [form % (n + 1) for n in range(count)]
 
 
-def label_of(count):
+def label_of(count: int) -> str:
     return "[%s]" % ",".join(numbered(count, "$$d%d"))
 
 
-def names_and_labels():
+def names_and_labels() -> Iterator[Input]:
     first, formula = fof("p => p"), "(p => p)"
     lines = ["use 1\n", "axiom 2 3\n"]
     yield "1,000,000 names", ["check", "m.p", "d"], lambda: {
@@ -152,7 +164,7 @@ def names_and_labels():
     yield "1,000,000 empty lines", ["check", "m.p", "d"], {"m.p": forks, "d": "\n" * MILLION}, "rejected at line 1: version"
 
 
-def symbols():
+def symbols() -> Iterator[Input]:
     many = "".join("fof(a%d,axiom,p%d(f%d(a),X%%s)).\n" % (n, n, n) for n in range(30000)).replace("X%s", "a")
     yield "60,001 symbols with arguments", ["prove", "m.p", "--steps=1000"], {"m.p": many + fof("p7(f7(a),a)")}, DERIVED
     equal = "".join("fof(a%d,axiom,p%d(a)).\n" % (n, n) for n in range(30000))
@@ -164,7 +176,7 @@ def symbols():
     yield "65,000 functions in an atom", ["prove", "m.p", "--steps=1000"], {"m.p": fof("%s => %s" % (broad, broad))}, DERIVED
 
 
-def searches():
+def searches() -> Iterator[Input]:
     words = ["prove", "m.p", "--limit=200", "--steps=100000"]
     chain = "".join("fof(a%d,axiom,p%d => p%d).\n" % (n, n, n + 1) for n in range(198)) + fof("p198") + "fof(s,axiom,p0).\n"
     yield "a tableau 199 deep", words, {"m.p": chain}, DERIVED
@@ -190,7 +202,7 @@ def searches():
             "m.p": fof("%sp => %sp" % (nots, nots))}, DERIVED
 
 
-def others():
+def others() -> Iterator[Input]:
     nots = fof("~" * 240 + "p => " + "~" * 240 + "p")
     yield "a translation of 481 levels", ["transfer", "m.p", "d"], {"m.p": nots, "d": ""}, "rejected at line 1: version"
     text = derivation("(%sp => %sp)" % ("~" * 240, "~" * 240), ["use 1 new $$c1\n"], "intuitionistic")
@@ -211,7 +223,7 @@ def others():
     yield "includes that double 16 times", ["prove", "m0.p", "--steps=1"], {**doubled, "m16.p": "fof(a,axiom,p).\n"}, None
 
 
-def write(texts):
+def write(texts: dict[str, str]) -> tuple[int, list[str]]:
     """The files: their bytes together, and their names."""
     for file, text in texts.items():
         with open(file, "w") as opened:
@@ -219,11 +231,11 @@ def write(texts):
     return sum(map(len, texts.values())), list(texts)
 
 
-def first_line(output):
+def first_line(output: bytes) -> str:
     return output.split(b"\n")[0][:40].decode("latin-1")
 
 
-def faults_of(runs, wanted):
+def faults_of(runs: list[Run], wanted: str | None) -> list[str]:
     faults = ["no answer of the table" for got in runs if not is_an_answer(got)][:1]
     faults += ["memory ended" for got in runs if got.code == 7][:1]
     if any(got[:2] != runs[0][:2] for got in runs):
@@ -233,7 +245,7 @@ def faults_of(runs, wanted):
     return faults
 
 
-def main():
+def main() -> None:
     options = read_options(__doc__)
     program, stacks = find_program(options), [int(n) for n in options.get("stacks", "8192,1024").split(",")]
     kept = os.path.abspath(options["kept"]) if "kept" in options else None

@@ -12,8 +12,21 @@ a derivation or a tableau that is printed is to be accepted. What breaks is kept
   --stack=N        kilobytes of stack (8192)
   --kept=FOLDER    where what breaks is kept (fuzz_kept)
 The last line counts the cases; the status is 0 where nothing broke. The answers that were seen stand above it."""
-import collections, os, random, re, resource, shutil, sys, tempfile, time
-from processes import find_program, is_an_answer, read_options, run, set_stack
+from __future__ import annotations
+
+import collections
+import os
+import random
+import re
+import resource
+import shutil
+import sys
+import tempfile
+import time
+from collections.abc import Callable
+from typing import NamedTuple
+
+from processes import Run, find_program, is_an_answer, read_options, run, set_stack
 
 HERE = os.path.dirname(os.path.abspath(__file__))
 TOP = os.path.dirname(HERE)
@@ -32,36 +45,41 @@ BYTES = [b for b in b"()[]{}~&|=><!?:,.'\"\\%*/$#_ \t\n\r\0aXp019@^-+;`\x7f\x80\
 OPENING = [b"(", b"~", b"![X]:", b"?[Y]:", b"#box:", b"#dia:", b"f(", b"(p=>", b"(p&", b"(p|", b"[", b"'", b'"', b"/*", b"%", b"$$", b"!["]
 CLOSING = {b"(": b")", b"f(": b")", b"(p=>": b")", b"(p&": b")", b"(p|": b")", b"[": b"]"}
 DEPTHS = [1, 1, 2, 3, 10, 100, 499, 500, 501, 2000]
-# A case: the words, and the texts of the files 0.p and 1.p.
-Seed = collections.namedtuple("Seed", "words texts")
 
 
-def flip(draw, text, _):
+class Seed(NamedTuple):
+    """A case: the words, and the texts of the files 0.p and 1.p."""
+
+    words: list[str]
+    texts: list[bytes]
+
+
+def flip(draw: random.Random, text: bytes, _: bytes) -> bytes:
     at = draw.randrange(len(text) + 1)
     new = draw.choice(BYTES) if draw.random() < 0.8 else draw.randrange(256)
     return text[:at] + bytes([new]) + text[at + draw.randrange(2):]
 
 
-def delete(draw, text, _):
+def delete(draw: random.Random, text: bytes, _: bytes) -> bytes:
     at = draw.randrange(len(text) + 1)
     return text[:at] + text[at + draw.choice([1, 1, 2, 5, 20, 200]):]
 
 
-def cut(draw, text, _):
+def cut(draw: random.Random, text: bytes, _: bytes) -> bytes:
     return text[:draw.randrange(len(text) + 1)]
 
 
-def piece(draw, text):
+def piece(draw: random.Random, text: bytes) -> bytes:
     at = draw.randrange(len(text) + 1)
     return text[at:at + draw.choice([1, 3, 10, 40, 200])]
 
 
-def copy_piece(draw, text, other):
+def copy_piece(draw: random.Random, text: bytes, other: bytes) -> bytes:
     at = draw.randrange(len(text) + 1)
     return text[:at] + piece(draw, draw.choice([text, other])) * draw.choice([1, 1, 1, 2, 5, 50]) + text[at:]
 
 
-def alter_lines(draw, text, other):
+def alter_lines(draw: random.Random, text: bytes, other: bytes) -> bytes:
     lines = text.split(b"\n")
     at, to = draw.randrange(len(lines)), draw.randrange(len(lines))
     kind = draw.randrange(6)
@@ -80,7 +98,7 @@ def alter_lines(draw, text, other):
     return b"\n".join(lines)
 
 
-def alter_number(draw, text, _):
+def alter_number(draw: random.Random, text: bytes, _: bytes) -> bytes:
     found = list(re.finditer(rb"\d+", text))
     if not found:
         return text
@@ -91,7 +109,7 @@ def alter_number(draw, text, _):
     return text[:at.start()] + new.encode() + text[at.end():]
 
 
-def nest(draw, text, _):
+def nest(draw: random.Random, text: bytes, _: bytes) -> bytes:
     start = draw.randrange(len(text) + 1)
     end = start + draw.choice([0, 1, 5, 30])
     opening, depth = draw.choice(OPENING), draw.choice(DEPTHS)
@@ -99,7 +117,7 @@ def nest(draw, text, _):
     return text[:start] + opening * depth + text[start:end] + closing + text[end:]
 
 
-def alter_one_line(draw, text, other):
+def alter_one_line(draw: random.Random, text: bytes, other: bytes) -> bytes:
     """A small change behind the head of a derivation, tableau or structure, so that the head stays right."""
     lines = text.split(b"\n")
     at = draw.randrange(min(4, len(lines) - 1), len(lines))
@@ -110,7 +128,7 @@ def alter_one_line(draw, text, other):
     return b"\n".join(lines)
 
 
-def exchange_words(draw, text, other):
+def exchange_words(draw: random.Random, text: bytes, other: bytes) -> bytes:
     found = list(re.finditer(rb"[A-Za-z_$][\w$]*|[^\w\s]+", text))
     if not found:
         return text
@@ -120,10 +138,11 @@ def exchange_words(draw, text, other):
     return text[:at.start()] + new + text[at.end():]
 
 
-CHANGES = [flip, flip, delete, cut, copy_piece, alter_lines, alter_lines, alter_number, alter_number, nest, exchange_words, exchange_words]
+Change = Callable[[random.Random, bytes, bytes], bytes]
+CHANGES: list[Change] = [flip, flip, delete, cut, copy_piece, alter_lines, alter_lines, alter_number, alter_number, nest, exchange_words, exchange_words]
 
 
-def alter_words(draw, words):
+def alter_words(draw: random.Random, words: list[str]) -> list[str]:
     words = list(words)
     kind, at = draw.randrange(5), draw.randrange(len(words))
     if kind == 0:
@@ -141,7 +160,7 @@ def alter_words(draw, words):
     return words
 
 
-def bounded(words, steps):
+def bounded(words: list[str], steps: int) -> list[str]:
     """The words with a budget that a run can use up in a short time."""
     words = [re.sub(r"^(--steps=)(\d{5,})$", lambda found: found[1] + found[2][:4], word) for word in words]
     if words[:1] in (["prove"], ["make"], ["model"], ["tableau"]) and not any(word.startswith("--steps=") for word in words):
@@ -149,12 +168,12 @@ def bounded(words, steps):
     return words
 
 
-def read(file):
+def read(file: str) -> bytes:
     with open(os.path.join(TOP, file), "rb") as opened:
         return opened.read()
 
 
-def read_seeds(program, steps):
+def read_seeds(program: str, steps: int) -> list[Seed]:
     """The gallery, and what the program prints for it: derivations in both versions, and tableaux."""
     seeds = [Seed(["make", family, "3", "--limit=9"], []) for family in ("chain", "shift")]
     seeds.append(Seed(["make", "tower", "2", "--logic=s4"], []))
@@ -195,7 +214,7 @@ def read_seeds(program, steps):
     return seeds + [Seed(["prove", "0.p", "--steps=%d" % steps], [including, text]) for text in included]
 
 
-def make_case(seeds, draw, steps):
+def make_case(seeds: list[Seed], draw: random.Random, steps: int) -> tuple[list[str], list[bytes]]:
     seed = draw.choice(seeds)
     other = draw.choice(draw.choice([s for s in seeds if s.texts]).texts)
     texts, words = list(seed.texts), list(seed.words)
@@ -204,12 +223,12 @@ def make_case(seeds, draw, steps):
             words = alter_words(draw, words) if words else words
         else:
             at = draw.choice([0, 1, 1]) if len(texts) == 2 else 0
-            changes = [alter_one_line] if at == 1 and draw.random() < 0.6 else CHANGES
+            changes: list[Change] = [alter_one_line] if at == 1 and draw.random() < 0.6 else CHANGES
             texts[at] = draw.choice(changes)(draw, texts[at], other)
     return bounded(words, steps), texts
 
 
-def write(texts):
+def write(texts: list[bytes]) -> None:
     """The files of a case, and no others."""
     for name in ("0.p", "1.p"):
         if os.path.exists(name):
@@ -219,20 +238,20 @@ def write(texts):
             file.write(text)
 
 
-def steps_of(words):
+def steps_of(words: list[str]) -> int:
     """The steps that the words ask for, so far as one knows without reading them as the program does."""
     searches = 2 if any(word.startswith("--cut=") for word in words) else 1
     return searches * sum(int(word[8:]) for word in words if re.fullmatch(r"--steps=\d{1,7}", word))
 
 
-def kind_of(run):
+def kind_of(run: Run) -> tuple[int, str]:
     """The status, and what the answer says without its numbers and names."""
     line = run.output.split(b"\n")[0]
     told = line.split(b": ")[0 if run.code == 6 else -1]
     return run.code, re.sub(rb"\d+", b"N", told).decode("latin-1")
 
 
-def fault_of(program, words, texts):
+def fault_of(program: str, words: list[str], texts: list[bytes]) -> tuple[str | None, Run]:
     """What is wrong with a case, or nothing; and its run."""
     size = sum(map(len, texts)) + sum(map(len, words))
     steps = steps_of(words)
@@ -254,7 +273,7 @@ def fault_of(program, words, texts):
     return None, first
 
 
-def judge_printed(program, words, text):
+def judge_printed(program: str, words: list[str], text: bytes) -> str | None:
     """A derivation or tableau that was printed is accepted, of the problem that the words name."""
     with open("printed", "wb") as file:
         file.write(text)
@@ -269,7 +288,7 @@ def judge_printed(program, words, text):
     return None
 
 
-def keep(folder, number, fault, words, texts):
+def keep(folder: str, number: int, fault: str, words: list[str], texts: list[bytes]) -> None:
     place = os.path.join(folder, str(number))
     os.makedirs(place, exist_ok=True)
     for name, text in [*(("%d.p" % n, text) for n, text in enumerate(texts)), ("fault", fault.encode() + b"\n"),
@@ -278,7 +297,7 @@ def keep(folder, number, fault, words, texts):
             file.write(text)
 
 
-def main():
+def main() -> None:
     options = read_options(__doc__)
     program = find_program(options)
     first, count = int(options.get("first", 0)), int(options.get("cases", 1000))
@@ -288,7 +307,8 @@ def main():
     resource.setrlimit(resource.RLIMIT_CORE, (0, 0))
     folder = tempfile.mkdtemp(prefix="leancop-fuzz-")
     os.chdir(folder)
-    answers, broken, done = collections.Counter(), 0, 0
+    answers: collections.Counter[tuple[int, str]] = collections.Counter()
+    broken = done = 0
     try:
         steps = int(options.get("steps", 500))
         seeds = read_seeds(program, steps)

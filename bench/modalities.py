@@ -11,7 +11,15 @@ seven positive modalities, and in S5 the last sign counts.
   --all            those that do not hold too, none of which may be derived
 Each that holds and is not derived, or the other way round; for each logic how many were derived; and the longest run, in seconds of
 the processor."""
-import itertools, os, resource, shutil, sys, tempfile
+from __future__ import annotations
+
+import itertools
+import os
+import resource
+import shutil
+import tempfile
+from collections.abc import Iterator
+
 from processes import find_program, read_options, run
 
 SIGNS = {"b": "#box:", "d": "#dia:"}
@@ -19,11 +27,11 @@ SIGNS = {"b": "#box:", "d": "#dia:"}
 ABOVE = {"b": ("", "bdb"), "": ("d",), "bdb": ("bd", "db"), "bd": ("dbd",), "db": ("dbd",), "dbd": ("d",), "d": ()}
 
 
-def modalities(signs):
+def modalities(signs: int) -> list[str]:
     return ["".join(word) for n in range(signs + 1) for word in itertools.product("bd", repeat=n)]
 
 
-def in_s4(word):
+def in_s4(word: str) -> str:
     """The modality without repetitions, which is the same in S4."""
     word = "".join(sign for sign, _ in itertools.groupby(word))
     while "bdbd" in word or "dbdb" in word:
@@ -31,12 +39,12 @@ def in_s4(word):
     return word
 
 
-def is_below(a, b):
+def is_below(a: str, b: str) -> bool:
     """Whether the one of S4's modalities implies the other."""
     return a == b or any(is_below(c, b) for c in ABOVE[a])
 
 
-def is_weaker(a, b, resting):
+def is_weaker(a: str, b: str, resting: bool) -> bool:
     """Whether b comes from a by boxes that become diamonds and, where worlds see themselves, by boxes that go and diamonds that come."""
     if not a or not b:
         return a == b or resting and set(a) <= {"b"} and set(b) <= {"d"}
@@ -45,7 +53,7 @@ def is_weaker(a, b, resting):
     return resting and (a[0] == "b" and is_weaker(a[1:], b, resting) or b[0] == "d" and is_weaker(a, b[1:], resting))
 
 
-def implies(logic, a, b):
+def implies(logic: str, a: str, b: str) -> bool:
     """Whether the one modality implies the other in the logic."""
     if logic == "s4":
         return is_below(in_s4(a), in_s4(b))
@@ -54,19 +62,20 @@ def implies(logic, a, b):
     return is_weaker(a, b, logic == "t")
 
 
-def problems(logic, signs):
+def problems(logic: str, signs: int) -> Iterator[tuple[str, str, str, bool]]:
     for a, b in itertools.permutations(modalities(signs), 2):
         there, back = implies(logic, a, b), implies(logic, b, a)
         yield "=>", a, b, there
         yield "<=>", a, b, there and back
 
 
-def told(program, logic, options):
+def told(program: str, logic: str, options: dict[str, str]) -> tuple[int, int]:
     chosen = [p for p in problems(logic, int(options.get("signs", 4))) if p[3] or "all" in options]
     only = int(options.get("only", 0))
     if 0 < only < len(chosen):
         chosen = [chosen[k * len(chosen) // only] for k in range(only)]
-    count, longest, wrong = {}, (0, ""), 0
+    count: dict[tuple[bool, bool], int] = {}
+    longest, wrong = (0.0, ""), 0
     for sign, a, b, holds in chosen:
         text = "(%sp) %s (%sp)" % ("".join(SIGNS[s] for s in a), sign, "".join(SIGNS[s] for s in b))
         with open("m.p", "w") as opened:
@@ -85,7 +94,7 @@ def told(program, logic, options):
     return len(chosen), wrong
 
 
-def main():
+def main() -> None:
     options = read_options(__doc__)
     program = find_program(options)
     resource.setrlimit(resource.RLIMIT_CORE, (0, 0))

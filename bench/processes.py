@@ -1,10 +1,27 @@
 """Runs a program with bounds, for fuzz.py, deep.py, scale.py and refuse_memory.py; and their options."""
-import collections, multiprocessing, os, re, resource, signal, sys
+from __future__ import annotations
+
+import multiprocessing
+import os
+import re
+import resource
+import signal
+import sys
+from multiprocessing.connection import Connection
+from typing import NamedTuple
 
 HERE = os.path.dirname(os.path.abspath(__file__))
 PROGRAM = os.path.abspath(os.path.join(HERE, "../crates/leancop/out/leancop"))
-# code: the exit status, less than 0 a signal; seconds of the processor; kilobytes at the most
-Run = collections.namedtuple("Run", "code output seconds kilobytes")
+
+
+class Run(NamedTuple):
+    """How a run ended: code is the exit status, less than 0 a signal; seconds of the processor; kilobytes at the most."""
+
+    code: int
+    output: bytes
+    seconds: float
+    kilobytes: int
+
 
 # What a run may write, by its exit status (docs/FORMATS.md).
 PRINTED = r"leancop (derivation [12]|tableau 1)\nlogic [^\n]*\nformula [^\n]*\nlimit \d+\n(?s:.*\n)?end\n"
@@ -30,18 +47,18 @@ ANSWERS = {code: re.compile(pattern.encode()) for code, pattern in {
 }.items()}
 
 
-def is_an_answer(run):
+def is_an_answer(run: Run) -> bool:
     """Whether the run ended with a status of the table, and wrote what belongs to it."""
     return run.code in ANSWERS and ANSWERS[run.code].fullmatch(run.output) is not None
 
 
-def set_stack(kilobytes):
+def set_stack(kilobytes: int) -> None:
     """The stack of the processes that are started from here on."""
     hard = resource.getrlimit(resource.RLIMIT_STACK)[1]
     resource.setrlimit(resource.RLIMIT_STACK, (kilobytes * 1024, hard))
 
 
-def run(words, seconds, variables=None, output="output"):
+def run(words: list[str], seconds: float, variables: dict[str, str] | None = None, output: str = "output") -> Run:
     """A process in this folder, with no input; it is killed after ten times the seconds by the clock. It writes to a file."""
     opened = [(os.POSIX_SPAWN_OPEN, 0, "/dev/null", os.O_RDONLY, 0),
               (os.POSIX_SPAWN_OPEN, 1, output, os.O_WRONLY | os.O_CREAT | os.O_TRUNC, 0o600),
@@ -64,12 +81,12 @@ def run(words, seconds, variables=None, output="output"):
 class Runner:
     """A process that starts the runs: what this one has in memory would count for those that it starts."""
 
-    def __init__(self, gigabytes, seconds=60, processor_seconds=None):
+    def __init__(self, gigabytes: int, seconds: float = 60, processor_seconds: int | None = None) -> None:
         self.pipe, other = multiprocessing.Pipe()
         self.seconds, self.processor_seconds = seconds, processor_seconds
         multiprocessing.get_context("fork").Process(target=self.serve, args=(other, gigabytes), daemon=True).start()
 
-    def serve(self, pipe, gigabytes):
+    def serve(self, pipe: Connection, gigabytes: int) -> None:
         resource.setrlimit(resource.RLIMIT_AS, (gigabytes << 30, gigabytes << 30))
         if self.processor_seconds is not None:
             resource.setrlimit(resource.RLIMIT_CPU, (self.processor_seconds, self.processor_seconds + 1))
@@ -79,12 +96,12 @@ class Runner:
                 set_stack(stack)
             pipe.send(run(words, self.seconds))
 
-    def run(self, words, stack=None):
+    def run(self, words: list[str], stack: int | None = None) -> Run:
         self.pipe.send((words, stack))
         return self.pipe.recv()
 
 
-def read_options(help_text):
+def read_options(help_text: str) -> dict[str, str]:
     """The options of the words, each of which the help names as `  --NAME=`; ends where a word is none."""
     words = sys.argv[1:]
     if "--help" in words:
@@ -97,7 +114,7 @@ def read_options(help_text):
     return options
 
 
-def find_program(options):
+def find_program(options: dict[str, str]) -> str:
     program = os.path.abspath(options.get("program", PROGRAM))
     if not os.access(program, os.X_OK):
         sys.exit("%s is not built: ./leancop builds it" % program)

@@ -9,8 +9,17 @@ short read or write changes nothing.
   --every=N        each Nth allocation alone (1)
 It needs cc, for refuse.c, which stands between the program and the C library. A line for each run tells how many calls there
 were and how the refused ones ended; the last line counts all. The status is 0 where each ended as it should."""
-import collections, os, re, shutil, subprocess, sys, tempfile
-from processes import HERE, find_program, is_an_answer, read_options, run
+from __future__ import annotations
+
+import collections
+import os
+import re
+import shutil
+import subprocess
+import sys
+import tempfile
+
+from processes import HERE, Run, find_program, is_an_answer, read_options, run
 
 FIRST = "fof(c,conjecture,p => p).\n"
 DRINKER = "fof(c,conjecture,?[X]:![Y]:(d(X) => d(Y))).\n"
@@ -47,18 +56,18 @@ CALLS = ["alloc", "open", "read", "write"]
 
 
 class Refuser:
-    def __init__(self, program, library):
+    def __init__(self, program: str, library: str) -> None:
         self.program, self.variables = program, {"LD_PRELOAD": library}
 
-    def run(self, words, refused=""):
+    def run(self, words: list[str], refused: str = "") -> Run:
         return run([self.program, *words], 10, {**self.variables, "REFUSED": refused, "COUNTED": "counts"})
 
-    def counts(self):
+    def counts(self) -> dict[str, int]:
         with open("counts") as file:
             return dict(zip(CALLS, map(int, file.read().split())))
 
 
-def ends_well(call, whole, got):
+def ends_well(call: str, whole: Run, got: Run) -> str | None:
     """How a run with a refused call ended, beside the run without; None where it may not end so."""
     if got[:2] == whole[:2]:
         return "as without"
@@ -69,11 +78,12 @@ def ends_well(call, whole, got):
     return "write fault" if call == "write" and got.code == 6 and whole.output.startswith(got.output) else None
 
 
-def refuse_each(refuser, words, every):
+def refuse_each(refuser: Refuser, words: list[str], every: int) -> tuple[Run, dict[str, collections.Counter[str]], list[tuple[str, Run]]]:
     """Each call of the run refused in turn: counts of how they ended, by the call; and what ended otherwise."""
     whole = refuser.run(words)
     counts = refuser.counts()
-    ended, wrong = {}, []
+    ended: dict[str, collections.Counter[str]] = {}
+    wrong: list[tuple[str, Run]] = []
     if not is_an_answer(whole):
         wrong.append(("", whole))
     for call in [*CALLS, "short-read", "short-write"]:
@@ -87,15 +97,15 @@ def refuse_each(refuser, words, every):
     return whole, ended, wrong
 
 
-def write_texts(refuser):
+def write_texts(refuser: Refuser) -> None:
     """The texts, and the derivations that are judged: `=FILE` is that of FILE in the logic of the words, `==FILE` the same in
     version 2."""
     for name, text in TEXTS.items():
         with open(name, "w") as file:
             file.write(text)
     for words in (line.split() for line in RUNS if "=" in line):
-        name = next((word for word in words if word.startswith("=")), None)
-        if name is None:
+        name = next((word for word in words if word.startswith("=")), "")
+        if not name:
             continue
         logic = ["--logic=intuitionistic"] if name.lstrip("=") == "excluded.p" else [word for word in words if word.startswith("--logic")]
         version = ["--format=2"] if name.startswith("==") else []
@@ -103,7 +113,7 @@ def write_texts(refuser):
             file.write(refuser.run(["prove", name.lstrip("="), *logic, *version]).output)
 
 
-def main():
+def main() -> None:
     options = read_options(__doc__)
     program = find_program(options)
     if shutil.which("cc") is None:
@@ -112,7 +122,8 @@ def main():
     library = os.path.join(folder, "refuse.so")
     subprocess.run(["cc", "-O2", "-shared", "-fPIC", "-o", library, os.path.join(HERE, "refuse.c"), "-ldl"], check=True)
     os.chdir(folder)
-    total, faults = collections.Counter(), 0
+    total: collections.Counter[tuple[str, str]] = collections.Counter()
+    faults = 0
     try:
         refuser = Refuser(program, library)
         write_texts(refuser)

@@ -18,7 +18,18 @@ Runs the built program over problems whose status is known, and prints how many 
                      second on the same problems
 Answers: T a derivation, which `check` accepts; N no tableau; x exhausted, or steps ended; r refused; . out of time; ? other.
 A `!` after an answer: it contradicts the status."""
-import collections, concurrent.futures, math, os, re, shutil, subprocess, sys, tempfile, threading
+from __future__ import annotations
+
+import concurrent.futures
+import math
+import os
+import re
+import shutil
+import subprocess
+import sys
+import tempfile
+import threading
+from typing import NamedTuple, TextIO
 
 HERE = os.path.dirname(os.path.abspath(__file__))
 options = dict((a[2:] + "=1").split("=")[:2] for a in sys.argv[1:] if a.startswith("--"))
@@ -39,11 +50,23 @@ KEPT_WORDS = " ".join([*SETTING, *CUT, "--steps=" + STEPS, "--time=%g" % LIMIT])
 # problems, each with a path limit within which nothing is closed
 SPEED = {"fam/grpeq_rinv.p": 5, "fam/set_distr.p": 5, "pel/p34.p": 4, "fam/debruijn_n3.p": 4}
 TIMES = [0.1, 1, 10]
-Problem = collections.namedtuple("Problem", "file status")
-Run = collections.namedtuple("Run", "code output seconds kilobytes")
 
 
-def run(command, folder, limit):
+class Problem(NamedTuple):
+    file: str
+    status: str
+
+
+class Run(NamedTuple):
+    """How a run ended; the code is None where its time ran out."""
+
+    code: int | None
+    output: str
+    seconds: float
+    kilobytes: int
+
+
+def run(command: list[str], folder: str, limit: float) -> Run:
     """A process with its processor time; the code is None where its time ran out."""
     command = ["sh", "-c", 'ulimit -t "$0" && exec "$@"', str(math.ceil(limit)), *command]
     with tempfile.TemporaryFile() as out:
@@ -58,17 +81,17 @@ def run(command, folder, limit):
         return Run(code, out.read().decode("latin-1"), use.ru_utime + use.ru_stime, use.ru_maxrss)
 
 
-def place(problem):
+def place(problem: Problem) -> tuple[str, str]:
     full = os.path.join(PROBLEMS, problem.file)
     return os.path.basename(full), os.path.dirname(full)
 
 
-def words(command, problem, *more):
+def words(command: str, problem: Problem, *more: str) -> list[str]:
     name, folder = place(problem)
     return [PROGRAM, command, "--root=" + os.path.abspath(options.get("root", folder)), *SETTING, name, *more]
 
 
-def prove(problem):
+def prove(problem: Problem) -> tuple[str, Run]:
     name, folder = place(problem)
     got = run(words("prove", problem, "--limit=200", "--steps=" + STEPS, *CUT), folder, LIMIT)
     answer = {0: "T", 1: "x", 2: "N", 3: "x", 4: "r", None: "."}.get(got.code, "?")
@@ -82,28 +105,28 @@ def prove(problem):
     return answer, got
 
 
-def prove_in_prolog(problem, *more, limit=LIMIT):
+def prove_in_prolog(problem: Problem, *more: str, limit: float = LIMIT) -> tuple[str, Run]:
     name, folder = place(problem)
     command = ["swipl", "-O", "--stack_limit=4g", os.path.join(HERE, "baseline.pl"), name, *SETTING, "--root=" + os.path.abspath(options.get("root", folder)), "--time=%g" % limit, *more]
     got = run(command, folder, limit + 1)
     return {"Theorem": "T", "NoTableau": "N", "Exhausted": "x", "Timeout": "."}.get(got.output.split(" ")[0], "." if got.code is None else "?"), got
 
 
-def is_right(problem, answer):
+def is_right(problem: Problem, answer: str) -> bool:
     return (answer, problem.status) in [("T", "theorem"), ("N", "non-theorem")]
 
 
-def is_wrong(problem, answer):
+def is_wrong(problem: Problem, answer: str) -> bool:
     return (answer, problem.status) in [("N", "theorem"), ("T", "non-theorem")]
 
 
-def read_problems():
+def read_problems() -> list[Problem]:
     with open(os.path.join(PROBLEMS, "index.tsv")) as index:
         rows = [line.rstrip("\n").split("\t") for line in index if not line.startswith("#")]
     return [Problem(r[0], r[1]) for r in rows if re.search(options.get("filter", ""), r[0])]
 
 
-def read_table():
+def read_table() -> tuple[dict[tuple[str, str], tuple[str, Run]], TextIO | None]:
     """The answers that the table has, and the table to go on with, without a last line that was broken off."""
     if "table" not in options:
         return {}, None
@@ -119,12 +142,12 @@ def read_table():
     return known, table
 
 
-def solve(problems):
+def solve(problems: list[Problem]) -> None:
     provers = [("leancop", prove)] + ([("prolog", prove_in_prolog)] if "baseline" in options and HAS_PROLOG else [])
     seen = {name: [] for name, _ in provers}
     known, table = read_table()
 
-    def answers_of(problem):
+    def answers_of(problem: Problem) -> list[tuple[str, Run]]:
         return [known.get((problem.file, name)) or prover(problem) for name, prover in provers]
 
     with concurrent.futures.ThreadPoolExecutor(JOBS) as pool:
@@ -144,7 +167,11 @@ def solve(problems):
         print("| %s | %s | %d | %d | %d | %d | %d |" % (name, solved, *counts, sum(is_wrong(p, a) for p, a, _ in answers)))
 
 
-def measure_speed(problems):
+def show(form: str, x: float | None) -> str:
+    return form % x if x else "-"
+
+
+def measure_speed(problems: list[Problem]) -> None:
     """Times of one limit searched whole compare the two: Prolog counts an extension before it looks at regularity, and leancop after."""
     print("| problem | limit | leancop, s | Prolog, s | times less | leancop, steps a second | Prolog, steps a second |\n|---|---|---|---|---|---|---|")
     for problem in [p for p in problems if p.file in SPEED]:
@@ -161,7 +188,6 @@ def measure_speed(problems):
             told = re.search(r"steps=(\d+) kept=\d+ cpu=([\d.]+)", got.output)
             theirs = float(told.group(2)) if told and answer == "x" else None
             their_rate = int(told.group(1)) / max(float(told.group(2)), 1e-3) if told else None
-        show = lambda form, x: form % x if x else "-"
         ratio = theirs / mine if mine and theirs else None
         print("| %s | %d | %s | %s | %s | %s | %s |" % (problem.file, SPEED[problem.file], show("%.2f", mine), show("%.2f", theirs), show("%.1f", ratio), show("%.0f", rate), show("%.0f", their_rate)), flush=True)
 

@@ -9,48 +9,57 @@ terms that grow along a tableau. What should be linear in the size of the proble
   --print=NAME     writes the problem of this name to standard output, and runs nothing
 A line for each: its name, bytes, the answer, lines and bytes of the derivation, seconds of the processor and MB, and what `check`
 says of the derivation, with its seconds and MB. A run that takes less memory than this script is told with the script's."""
-import os, re, resource, shutil, sys, tempfile
-from processes import find_program, read_options, run
+from __future__ import annotations
+
+import os
+import re
+import resource
+import shutil
+import sys
+import tempfile
+from collections.abc import Iterator
+
+from processes import Run, find_program, read_options, run
 
 
-def fof(formula):
+def fof(formula: str) -> str:
     return "fof(c,conjecture,%s).\n" % formula
 
 
-def qmf(formula):
+def qmf(formula: str) -> str:
     return "qmf(c,conjecture,%s).\n" % formula
 
 
-def quantified(pairs):
+def quantified(pairs: int) -> str:
     side = "(%sp(X,Y))" % ("![X]:?[Y]:" * pairs)
     return fof("%s => %s" % (side, side))
 
 
-def boxed(pairs):
+def boxed(pairs: int) -> str:
     side = "(%sp)" % ("#box:#dia:" * pairs)
     return qmf("%s => %s" % (side, side))
 
 
-def negated(count):
+def negated(count: int) -> str:
     return fof("%sp => %sp" % ("~" * count, "~" * count))
 
 
 # q0(x, f(x)), and each further one goes twice as far: the last goes 2^k times.
-def doubling(clauses):
+def doubling(clauses: int) -> str:
     steps = ["![X]: q0(X,f(X))"]
     steps += ["![X,Y,Z]: ((q%d(X,Y) & q%d(Y,Z)) => q%d(X,Z))" % (n, n, n + 1) for n in range(clauses)]
     return "".join("fof(a%d,axiom,%s).\n" % (n, step) for n, step in enumerate(steps)) + fof("?[Z]: q%d(a,Z)" % clauses)
 
 
 # The term grows by 450 levels at each clause.
-def grown(clauses):
+def grown(clauses: int) -> str:
     term = "f(" * 450 + "X" + ")" * 450
     steps = "".join("cnf(c%d,axiom,~p%d(X) | p%d(%s)).\n" % (n, n, n + 1, term) for n in range(clauses))
     return "cnf(first,axiom,p0(a)).\n%scnf(last,negated_conjecture,~p%d(X)).\n" % (steps, clauses)
 
 
 # Each: its name, the words behind the problem's file, and its text.
-def problems():
+def problems() -> Iterator[tuple[str, list[str], str]]:
     for pairs in (10, 20, 30, 60, 120):
         yield "quantifiers-%d" % pairs, [], quantified(pairs)
     for logic in ("d", "t", "s4", "s5"):
@@ -64,15 +73,15 @@ def problems():
         yield "grown-%d" % clauses, ["--limit=200"], grown(clauses)
 
 
-def megabytes(got):
+def megabytes(got: Run) -> float:
     return got.kilobytes / 1024
 
 
-def first_line(output):
+def first_line(output: bytes) -> str:
     return output.split(b"\n")[0][:40].decode("latin-1")
 
 
-def told(program, words, text, seconds):
+def told(program: str, words: list[str], text: str, seconds: float) -> tuple[str, bool]:
     with open("m.p", "w") as opened:
         opened.write(text)
     got = run([program, "prove", "m.p", *words], seconds)
@@ -86,7 +95,7 @@ def told(program, words, text, seconds):
     return "%s; %s, %.2f s, %.1f MB" % (line, first_line(judged.output), judged.seconds, megabytes(judged)), judged.output == b"accepted\n"
 
 
-def main():
+def main() -> None:
     options = read_options(__doc__)
     if "print" in options:
         texts = {name: text for name, _, text in problems()}

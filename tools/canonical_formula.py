@@ -6,56 +6,70 @@ what a page needs to show a structure. It is worked out here, from a problem tha
 finds that it is the problem's own: a derivation of it without steps is rejected at its end, not at its formula.
 
 LEANCOP names the program; without it, it is looked for beside this folder, then by PATH."""
+from __future__ import annotations
+
 import os
 import re
 import subprocess
 import sys
+from collections.abc import Iterable, Iterator
+from typing import Any
 
+Formula = tuple[Any, ...]  # ("and", f, g), ("all", f, variable), ("atom", name, terms) and so on
 SKIPPED = re.compile(r"(?:[ \t\n\v\f\r]|%[^\n]*|/\*.*?\*/)*", re.S)
 TOKEN = re.compile(r"""[$]{0,2}[a-z]\w*|\#[a-z]\w*|[A-Z]\w*|'(?:\\.|[^'\\])+'|"(?:\\.|[^"\\])*"
     |[+-]?[0-9]+(?:/[0-9]+|[.][0-9]+)?(?:[eE][+-]?[0-9]+)?|<=>|<~>|=>|<=|~\||~&|!=|[()\[\],.:~!?&|=]""", re.X | re.A)
 TRUE = ("imp", ("atom", None, ()), ("atom", None, ()))  # None is the reserved atom
 
 
-def name_of(token):
+def name_of(token: str) -> str:
     return re.sub(r"\\(.)", r"\1", token[1:-1]) if token[0] == "'" else token
 
 
-def balanced(kind, formulas):
+def balanced(kind: str, formulas: list[Formula]) -> Formula:
     if len(formulas) == 1:
         return formulas[0]
     half = (len(formulas) + 1) // 2
     return (kind, balanced(kind, formulas[:half]), balanced(kind, formulas[half:]))
 
 
-def joined(op, a, b):
+def joined(op: str, a: Formula, b: Formula) -> Formula:
     both = ("and", ("imp", a, b), ("imp", b, a))
     return {"=>": ("imp", a, b), "<=": ("imp", b, a), "<=>": both, "<~>": ("not", both),
             "~|": ("not", ("or", a, b)), "~&": ("not", ("and", a, b))}[op]
 
 
+def behind_space(text: str, at: int) -> int:
+    found = SKIPPED.match(text, at)
+    return found.end() if found else at
+
+
 class Reader:
     """The items of a text, with what stands for something else written out."""
 
-    def __init__(self, text):
-        self.tokens, at = [], SKIPPED.match(text).end()
+    def __init__(self, text: str) -> None:
+        self.tokens: list[str] = []
+        self.bound: list[str] = []
+        self.free: list[str] = []
+        self.at, at = 0, behind_space(text, 0)
         while at < len(text):
             found = TOKEN.match(text, at)
+            if found is None:
+                raise ValueError(f"no token at {at}")
             self.tokens.append(found[0])
-            at = SKIPPED.match(text, found.end()).end()
-        self.at = 0
+            at = behind_space(text, found.end())
 
-    def take(self, *tokens):
+    def take(self, *tokens: str) -> str | None:
         if self.at < len(self.tokens) and self.tokens[self.at] in tokens:
             self.at += 1
             return self.tokens[self.at - 1]
         return None
 
-    def next(self):
+    def next(self) -> str:
         self.at += 1
         return self.tokens[self.at - 1]
 
-    def items(self):
+    def items(self) -> Iterator[tuple[Any, ...]]:
         """(kind, name, role, formula) for each formula, and ("include", file, names) for each include."""
         while self.at < len(self.tokens):
             kind, _, name = self.next(), self.next(), name_of(self.next())
@@ -79,7 +93,7 @@ class Reader:
                 depth += {"(": 1, "[": 1, ")": -1, "]": -1}.get(self.next(), 0)
             self.next()
 
-    def formula(self):
+    def formula(self) -> Formula:
         a = self.unit()
         op = self.take("&", "|", "=>", "<=", "<=>", "<~>", "~|", "~&")
         if op is None:
@@ -91,7 +105,7 @@ class Reader:
             units.append(self.unit())
         return balanced("and" if op == "&" else "or", units)
 
-    def unit(self):
+    def unit(self) -> Formula:
         if self.take("("):
             inside = self.formula()
             self.next()
@@ -117,7 +131,7 @@ class Reader:
             formula = ("all" if quantifier == "!" else "ex", formula, name)
         return formula
 
-    def atom(self):
+    def atom(self) -> Formula:
         truth = self.take("$true", "$false")
         if truth:
             return TRUE if truth == "$true" else ("not", TRUE)
@@ -128,7 +142,7 @@ class Reader:
             return equal if equation == "=" else ("not", equal)
         return ("atom",) + left[1:]
 
-    def term(self):
+    def term(self) -> Formula:
         token = self.next()
         if token[0].isupper():
             if token not in self.bound and token not in self.free:
@@ -142,7 +156,7 @@ class Reader:
         return ("fun", name_of(token), tuple(arguments))
 
 
-def passing(file, root, lists):
+def passing(file: str, root: str | None, lists: list[list[str]]) -> Iterator[tuple[Any, ...]]:
     """The items of a file and of those that it includes, whose names stand in each list that encloses them."""
     with open(file, encoding="latin-1", newline="") as text:
         items = list(Reader(text.read()).items())
@@ -154,7 +168,7 @@ def passing(file, root, lists):
             yield item
 
 
-def symbols(f, functions, predicates):
+def symbols(f: Formula, functions: dict[tuple[str, int], None], predicates: dict[tuple[str, int], None]) -> bool:
     """Collects symbols in the order of their first places, and tells whether there is an equation."""
     if f[0] == "var":
         return False
@@ -164,10 +178,10 @@ def symbols(f, functions, predicates):
     return any([f[0] == "equal"] + [symbols(x, functions, predicates) for x in parts])
 
 
-def equality_axioms(functions, predicates):
+def equality_axioms(functions: Iterable[tuple[str, int]], predicates: Iterable[tuple[str, int]]) -> Iterator[Formula]:
     x = [("var", "X%d" % i) for i in range(1, 1 + max([3] + [2 * n for _, n in [*functions, *predicates]]))]
 
-    def closed(n, formula):
+    def closed(n: int, formula: Formula) -> Formula:
         for i in reversed(range(n)):
             formula = ("all", formula, x[i][1])
         return formula
@@ -181,7 +195,7 @@ def equality_axioms(functions, predicates):
         yield closed(2 * n, ("imp", pairs, ("equal", left, right)) if kind == "fun" else ("imp", ("and", pairs, left), right))
 
 
-def text(f, env):
+def text(f: Formula, env: dict[Any, Any]) -> str:
     kind = f[0]
     if kind == "var":
         return env[f[1]]
@@ -198,9 +212,12 @@ def text(f, env):
     return "(%s %s %s)" % (text(f[1], env), {"equal": "=", "and": "&", "or": "|", "imp": "=>"}[kind], text(f[2], env))
 
 
-def parts_of(file, root, logic):
+def parts_of(file: str, root: str | None, logic: str) -> tuple[list[tuple[str | None, Formula]], tuple[str, Formula] | None]:
     """The premises and the conjecture of a problem, each with its name; an axiom of equality has none, and there may be no conjecture."""
-    premises, conjecture, functions, predicates = [], None, {}, {}
+    premises: list[tuple[str | None, Formula]] = []
+    conjecture: tuple[str, Formula] | None = None
+    functions: dict[tuple[str, int], None] = {}
+    predicates: dict[tuple[str, int], None] = {}
     equations = False
     for _, name, role, formula in passing(file, root, []):
         equations |= symbols(formula, functions, predicates)
@@ -213,18 +230,18 @@ def parts_of(file, root, logic):
     return premises, conjecture
 
 
-def joined_formula(premises, conjecture):
-    if not premises:
-        return conjecture[1]
-    given = balanced("and", [formula for _, formula in premises])
-    return ("not", given) if conjecture is None else ("imp", given, conjecture[1])
+def joined_formula(premises: list[tuple[str | None, Formula]], conjecture: tuple[str, Formula] | None) -> Formula:
+    given = balanced("and", [formula for _, formula in premises]) if premises else None
+    if conjecture is None:
+        return ("not", given)
+    return ("imp", given, conjecture[1]) if given else conjecture[1]
 
 
-def formula_of(file, root, logic):
+def formula_of(file: str, root: str | None, logic: str) -> str:
     return text(joined_formula(*parts_of(file, root, logic)), {None: 0})
 
 
-def check(words, derivation):
+def check(words: list[str], derivation: bytes) -> tuple[str, int]:
     """What the program says of a derivation, and its exit status."""
     beside = os.path.join(os.path.dirname(os.path.realpath(__file__)), "../leancop")
     os.environ["LEANCOP_BUILD"] = "no"  # an unbuilt checkout says so, and does not begin an hour of proofs
@@ -233,7 +250,7 @@ def check(words, derivation):
     return told.stdout.decode("latin-1").strip(), told.returncode
 
 
-def confirmed(file, options):
+def confirmed(file: str, options: list[str]) -> tuple[bytes | None, str, int]:
     """The formula, where the program finds it to be that of the problem, or nothing; what the program said, and its exit status."""
     given = dict(w.split("=", 1) for w in options if "=" in w)
     told, status = check([file, *options], b"")  # the files hold a problem where only the derivation is wrong
@@ -249,8 +266,11 @@ def confirmed(file, options):
     return None, told, status or 70
 
 
-def main(words):
+def main(words: list[str]) -> int:
     files, options = [w for w in words if not w.startswith("--")], [w for w in words if w.startswith("--")]
+    if "--help" in options:
+        print(__doc__)
+        return 0
     if len(files) != 1:
         sys.exit(__doc__)
     formula, told, status = confirmed(files[0], options)

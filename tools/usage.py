@@ -6,21 +6,28 @@ page and the completion of bash (tools/generated/). The program is asked which c
 so what it does not know is left out. --check writes nothing, and ends with 1 where the files are not those of this program, where
 it refuses a value of the table or takes a number next to its bounds, or where its sources have a command or an option that the table
 lacks. --sources asks the table of crates/command_line in place of the program, where that is not built yet."""
-import glob, os, re, subprocess, sys
+from __future__ import annotations
 
+import glob
+import os
+import re
+import subprocess
+import sys
+
+Row = list  # of the table: the fields of a line
 HERE = os.path.dirname(os.path.abspath(__file__))
 GENERATED = os.path.join(HERE, "generated")
 PROGRAM = os.path.join(HERE, "../crates/leancop/out/leancop")
 SOURCE = os.path.join(HERE, "../crates/command_line/src/table.rt")
 
 
-def read_table():
+def read_table() -> list[list[Row]]:
     with open(os.path.join(HERE, "commands.tsv")) as table:
         rows = [line.rstrip("\n").split("\t") for line in table if not line.startswith("#")]
     return [[row[1:] for row in rows if row[0] == kind] for kind in ("command", "operand", "option", "status")]
 
 
-def read_version():
+def read_version() -> str:
     with open(os.path.join(HERE, "../VERSION")) as version:
         return version.read().strip()
 
@@ -29,19 +36,19 @@ class Asked:
     """The program, which tells by its first bad word what it knows. A word that is no operand is looked at before any is missed."""
     checks_values = True
 
-    def __init__(self, program):
+    def __init__(self, program: str) -> None:
         self.program = program
 
-    def first_bad(self, *words):
+    def first_bad(self, *words: str) -> int:
         told = subprocess.run([self.program, *words], stdin=subprocess.DEVNULL, stdout=subprocess.PIPE, text=True).stdout
         if not told.startswith("bad word "):
             sys.exit("usage.py: %s answers %r to %s" % (self.program, told[:60], " ".join(words)))
         return int(told.split()[2])
 
-    def knows(self, *words):
+    def knows(self, *words: str) -> bool:
         return self.first_bad(*words) > len(words)
 
-    def takes(self, *words):
+    def takes(self, *words: str) -> bool:
         """As knows, where the words are a whole command, which is not run: one more is bad."""
         return self.first_bad(*words, "--none") > len(words)
 
@@ -50,7 +57,7 @@ class Sources:
     """What the program will know, by its own table. Values are not looked at."""
     checks_values = False
 
-    def __init__(self):
+    def __init__(self) -> None:
         with open(SOURCE, encoding="utf-8") as source:
             text = source.read()
         self.commands = dict(re.findall(r'"([a-z]+)" => Some\(CommandName::(\w+)\)', text))
@@ -61,24 +68,24 @@ class Sources:
             sys.exit("usage.py: crates/command_line/src/table.rt has another shape than this script reads")
 
     @staticmethod
-    def arms(text, function, kind, right):
+    def arms(text: str, function: str, kind: str, right: str) -> dict[str, str]:
         """The arms of a match: each name on the left, with what stands on the right."""
         body = re.search(r"\nfn %s|\npub fn %s" % (function, function), text)
         body = text[body.end():text.index("\n}\n", body.end())] if body else ""
         found = re.findall(r"((?:%s::\w+[\s|]*)+)=> (%s)" % (kind, right), body)
         return {name: told for names, told in found for name in re.findall(kind + r"::(\w+)", names)}
 
-    def knows(self, command, option=None):
+    def knows(self, command: str, option: str | None = None) -> bool:
         name = self.commands.get(command)
         return name in self.options and (option is None or option[:option.index("=") + 1] in self.options[name])
 
 
-def values_of(option):
+def values_of(option: Row) -> tuple[list[str], list[str]]:
     """Values that are taken, and some that are not."""
     return values_named(option[4])
 
 
-def values_named(values):
+def values_named(values: str) -> tuple[list[str], list[str]]:
     if values == "folder":
         return ["x"], [""]
     if ".." in values:
@@ -87,7 +94,7 @@ def values_named(values):
     return values.split(), ["x", ""]
 
 
-def known(asked, faults):
+def known(asked: Asked | Sources, faults: list[str]) -> tuple[list[Row], list[Row], list[Row], list[Row]]:
     """The table without what the program does not know."""
     commands, operands, options, statuses = read_table()
     commands = [c for c in commands if asked.knows(c[0])]
@@ -110,11 +117,11 @@ def known(asked, faults):
     return commands, operands, kept, [s for s in statuses if set(s[2].split()) & set(names)]
 
 
-def synopsis(command, options):
+def synopsis(command: Row, options: list[Row]) -> tuple[str, str, list[str]]:
     return command[0], command[1], ["[%s%s]" % (o[0], o[1]) for o in options if command[0] in o[2]]
 
 
-def told_values(option):
+def told_values(option: Row) -> str:
     """For people: the values, and which holds without the option."""
     if option[4] == "folder":
         return "without it, " + option[5]
@@ -122,7 +129,7 @@ def told_values(option):
     return values if option[5] == "none" else "%s (without it %s)" % (values, option[5])
 
 
-def usage(commands, operands, options):
+def usage(commands: list[Row], operands: list[Row], options: list[Row]) -> str:
     """A paragraph for all commands, and one for each."""
     wide = max(len(c[0] + c[1]) for c in commands) + 1
     told = [["leancop COMMAND OPERAND.. [OPTION..]", *("  %-*s  %s" % (wide, c[0] + " " + c[1], c[2]) for c in commands),
@@ -135,16 +142,16 @@ def usage(commands, operands, options):
     return "\n\n".join("\n".join(lines) for lines in told) + "\n"
 
 
-def told_operand(operand):
+def told_operand(operand: Row) -> str:
     values = operand[3].replace("..", " to ") if ".." in operand[3] else operand[3].replace(" ", ", ")
     return "%s: %s" % (operand[2], values)
 
 
-def escaped(text):
+def escaped(text: str) -> str:
     return text.replace("\\", "\\e").replace("-", "\\-")
 
 
-def man(commands, operands, options, statuses):
+def man(commands: list[Row], operands: list[Row], options: list[Row], statuses: list[Row]) -> str:
     out = [".\\\" Written by tools/usage.py.", '.TH LEANCOP 1 "" "leancop %s"' % read_version(), ".SH NAME",
            "leancop \\- prove formulas of first\\-order logic, and judge derivations", ".SH SYNOPSIS"]
     for c in commands:
@@ -167,8 +174,11 @@ def man(commands, operands, options, statuses):
     out += [".SH EXAMPLES", ".EX", "leancop prove group.p > d.txt && leancop check group.p d.txt",
             "leancop prove \\-\\-logic=s4 \\-\\-domains=varying barcan.p", "leancop prove /dev/stdin < group.p",
             "leancop prove \\-\\-root=$HOME/TPTP $HOME/TPTP/Problems/GRP/GRP001\\-1.p", ".EE", ".SH COMPANIONS",
+            ".TP", ".B leancop\\-play", "opens a page in the browser to type formulas into, as in a book.",
             ".TP", ".BI leancop\\-explain \" WORD ...\"", "runs the program, and says on standard error what its answer means.",
             ".TP", ".BI leancop\\-view \" PROBLEM TEXT\" \" > \" PAGE.html", "draws an accepted text as a page for a browser.",
+            ".TP", ".BI leancop\\-refute \" PROBLEM\"", "finds a finite structure in which the formula is false, by a SAT solver.",
+            ".TP", ".BI leancop\\-decide \" PROBLEM\"", "looks for a proof and for such a structure at once.",
             ".TP", ".BI leancop\\-szs \" PROBLEM\" \" [\\-\\-time=\" SECONDS \"] [\\-\\-schedule]\"", "tells the answer as an SZS status.",
             ".TP", ".BI leancop\\-coq \" PROBLEM DERIVATION\" \" > \" FILE.v", "prints an accepted derivation as a theorem of Coq with its proof.",
             ".TP", ".BI leancop\\-tstp \" PROBLEM DERIVATION\" \" > \" FILE", "prints an accepted derivation of classical logic in TSTP.",
@@ -176,7 +186,7 @@ def man(commands, operands, options, statuses):
     return "\n".join(out) + "\n"
 
 
-def completion(commands, operands, options):
+def completion(commands: list[Row], operands: list[Row], options: list[Row]) -> str:
     out = ["# Completion of bash for leancop. Written by tools/usage.py.", "_leancop() {",
            '    local word="${COMP_WORDS[COMP_CWORD]}" before="${COMP_WORDS[COMP_CWORD - 1]}" options=', "    COMPREPLY=()",
            '    if [ "$COMP_CWORD" = 1 ]; then',
@@ -205,7 +215,7 @@ def completion(commands, operands, options):
     return "\n".join(out) + "\n"
 
 
-def lacking():
+def lacking() -> list[str]:
     """Commands and options that the program's sources name and the table does not."""
     named = set()
     for file in glob.glob(os.path.join(HERE, "../crates/*/src/*.rt")):
@@ -215,8 +225,11 @@ def lacking():
     return sorted({a or b for a, b in named} - {row[0] for row in commands + options})
 
 
-def main(words):
+def main(words: list[str]) -> None:
     options = dict((w + "=").split("=")[:2] for w in words)
+    if "--help" in options:
+        print(__doc__)
+        return
     if set(options) - {"--check", "--program", "--sources"}:
         sys.exit(__doc__)
     faults = ["the sources have %s, and the table does not" % o for o in lacking()]

@@ -3,7 +3,12 @@
     check.py LIBRARY PROBLEM DERIVATION [LOGIC [DOMAINS]]   judges, with the numbers of logic and domains of leancop.h
     check.py LIBRARY --formula PROBLEM [LOGIC [DOMAINS]]    prints line 3 of a derivation of the problem
     check.py LIBRARY --run WORD..                           runs the program over the files that are named by words"""
-import ctypes, os, sys
+from __future__ import annotations
+
+import ctypes
+import os
+import sys
+from collections.abc import Callable
 from ctypes import POINTER, byref, c_char_p, c_size_t, c_uint32, c_uint64
 
 
@@ -22,7 +27,7 @@ class File(ctypes.Structure):
 class Leancop:
     """What leancop.h declares. The texts are of type bytes, which ctypes hands on without a copy."""
 
-    def __init__(self, path):
+    def __init__(self, path: str) -> None:
         library = ctypes.CDLL(os.path.abspath(path))
         self._check, self._formula, self._run = library.leancop_check, library.leancop_formula, library.leancop_run
         text, room = [c_char_p, c_size_t], [c_char_p, c_size_t, POINTER(c_uint64)]
@@ -31,12 +36,12 @@ class Leancop:
         self._run.argtypes = [POINTER(Bytes), c_size_t, POINTER(File), c_size_t] + room
         self._check.restype, self._formula.restype, self._run.restype = None, c_uint32, c_uint32
 
-    def check(self, problem, derivation, logic=0, domains=0):
+    def check(self, problem: bytes, derivation: bytes, logic: int = 0, domains: int = 0) -> Judgement:
         told = Judgement()
         self._check(logic, domains, problem, len(problem), derivation, len(derivation), byref(told))
         return told
 
-    def _with_room(self, call, size=65536):
+    def _with_room(self, call: Callable[..., int], size: int = 65536) -> tuple[int, bytes]:
         """The status and the output of a call, which is made again where it needs more room."""
         while True:
             room, length = ctypes.create_string_buffer(size), c_uint64()
@@ -45,22 +50,22 @@ class Leancop:
                 return status, room.raw[:length.value]
             size = length.value
 
-    def formula(self, problem, logic=0, domains=0):
+    def formula(self, problem: bytes, logic: int = 0, domains: int = 0) -> tuple[int, bytes]:
         return self._with_room(lambda *room: self._formula(logic, domains, problem, len(problem), *room))
 
-    def run(self, words, files):
+    def run(self, words: list[bytes], files: dict[bytes, bytes]) -> tuple[int, bytes]:
         """`files` is a dictionary of bytes by name."""
         given = (Bytes * max(1, len(words)))(*[Bytes(w, len(w)) for w in words])
         held = (File * max(1, len(files)))(*[File(Bytes(n, len(n)), Bytes(b, len(b))) for n, b in files.items()])
         return self._with_room(lambda *room: self._run(given, len(words), held, len(files), *room))
 
 
-def read(name):
+def read(name: str | bytes) -> bytes:
     with open(name, "rb") as file:
         return file.read()
 
 
-def main(library, *words):
+def main(library: str, *words: str) -> int:
     leancop = Leancop(library)
     if words[0] == "--run":
         given = [os.fsencode(w) for w in words[1:]]

@@ -12,6 +12,7 @@ import tempfile
 import threading
 import time
 from dataclasses import dataclass
+from io import BufferedReader
 from pathlib import Path
 
 LARGEST_OUTPUT = 8_000_000  # bytes of what a process prints; one that prints more is ended
@@ -87,7 +88,7 @@ class Run:
         except ProcessLookupError:  # it has ended
             pass
 
-    def read(self, pipe, parts: list[bytes]) -> None:  # noqa: ANN001
+    def read(self, pipe: BufferedReader, parts: list[bytes]) -> None:
         left = LARGEST_OUTPUT
         while part := pipe.read1(1 << 16):
             left -= len(part)

@@ -15,6 +15,7 @@ import sys
 import threading
 import webbrowser
 from collections.abc import Callable
+from functools import partial
 from http.server import BaseHTTPRequestHandler, ThreadingHTTPServer
 from pathlib import Path
 from typing import Any
@@ -178,14 +179,14 @@ class Handler(BaseHTTPRequestHandler):
             raise Refused("the steps are no list of lines")
         if what == "exercise":
             step = asked.get("asked")
-            work = lambda job: answers.exercise(job, question, steps, step if isinstance(step, dict) else None)  # noqa: E731
+            work: Callable[[Job], None] = partial(answers.exercise, question=question, steps=steps, asked=step if isinstance(step, dict) else None)
         elif what == "help":
-            work = lambda job: answers.help_exercise(job, question, steps)  # noqa: E731
+            work = partial(answers.help_exercise, question=question, steps=steps)
         elif what == "export":
             form, text = str(asked.get("form", "")), str(asked.get("text", ""))[:LONGEST_BODY]
-            work = lambda job: answers.export(job, question, form, text)  # noqa: E731
+            work = partial(answers.export, question=question, form=form, text=text)
         elif what in ("ask", "table"):
-            work = lambda job: (answers.ask if what == "ask" else answers.table)(job, question)  # noqa: E731
+            work = partial(answers.ask if what == "ask" else answers.table, question=question)
         else:
             raise Refused("there is no such question")
         self.server.bench.start(name, work)

@@ -32,6 +32,9 @@ if command -v dpkg-deb >/dev/null; then
     for name in leancop leancop-szs leancop-view leancop-refute leancop-decide; do
         has "the man page of $name" "$(gzip -dc "$folder/installed/usr/share/man/man1/$name.1.gz")" ".SH SYNOPSIS"
     done
+    for program in "$folder"/installed/usr/bin/leancop*; do
+        same "${program##*/} --help" "$(installed "$program" --help >/dev/null 2>&1 </dev/null; echo "$?")" 0
+    done
     LEANCOP='' PATH="$folder/installed/usr/bin:$PATH" leancop-play --no-browser --port=0 >"$folder/installed_played" &
     player=$!
     awaited "$folder/installed_played"

@@ -1,3 +1,4 @@
+# shellcheck shell=sh
 # closed.sh FILE.v: a file of Coq that prints what each proof of FILE.v rests on. Goals without a name are named in their order.
 name="$(basename "$1" .v)"
 echo "From LeancopTest Require $name."
