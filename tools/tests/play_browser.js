@@ -100,6 +100,7 @@ async function answers(page, other) {
   await page.go(asked({ f: '∀x (P(x) → )', l: 'classical' }));
   await page.until('document.querySelector("#formula-fault mark")');
   same('a formula that does not parse', await page.run('[document.querySelector("#formula-fault mark").textContent, document.activeElement.id, document.activeElement.selectionStart, document.activeElement.getAttribute("aria-invalid")]'), [')', 'formula', 11, 'true']);
+  same('what is heard of it', (await page.named()).filter(n => n.role.value === 'textbox' && n.name.value === 'Formula').map(n => n.description.value.replace(/\s+/g, ' ').trim()), ['At character 12, “)”: A formula is wanted here.']);
   await looked(page, 'a misread formula');
 
   await page.go(asked({ f: '□p → p', l: 't', d: 'varying' }));
@@ -117,6 +118,11 @@ async function alone(page, other) {
   await page.until(drawn);
   await other.go(await page.run('document.querySelector("#shown a").href') + '#2');
   same('the picture alone', await other.until('/use 1 term/.test(document.body.innerText)'), true);
+  same('it has the names that were typed', await other.run('[document.title, document.querySelector(".goal").textContent]'), ['∃x (D(x) → ∀y D(y)): a derivation', '∃x (D(x) → ∀y D(y))']);
+  await page.go(asked({ f: '∀x (x ∈ A → x ∈ B) → (a ∈ A → a ∈ B)', l: 'classical' }));
+  await page.until(drawn);
+  await other.go(await page.run('document.querySelector("#shown a").href'));
+  same('a relation between its arguments', await other.until('!!document.querySelector(".goal")') && await other.run('document.querySelector(".goal").textContent'), '∀x ((x ∈ A) → (x ∈ B)) → ((a ∈ A) → (a ∈ B))');
 }
 
 async function stopped(page, other) {

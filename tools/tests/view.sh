@@ -94,6 +94,20 @@ while IFS=$'\t' read -r _ _ words; do
     listed "${list[-2]}" "$folder/structure$structures.txt" "${list[@]}"
 done <examples/expected.tsv
 
+# Pages as readers see them are looked at beside what follows.
+"$LEANCOP" prove examples/pelletier46.p >"$folder/long.txt"
+if command -v chromium >/dev/null && command -v node >/dev/null; then
+    mkdir "$folder/pages"
+    "$LEANCOP" prove examples/pigeonhole3.p >"$folder/pigeonhole3.txt"
+    tools/leancop-view examples/even.p "$folder/even.txt" >"$folder/pages/even.html"
+    tools/leancop-view examples/pigeonhole3.p "$folder/pigeonhole3.txt" >"$folder/pages/long.html"
+    tools/leancop-view examples/pelletier46.p "$folder/long.txt" >"$folder/pages/trimmed.html"
+    tools/leancop-view examples/modal/converse_barcan.p "$folder/d.txt" >"$folder/pages/worlds.html"
+    tools/leancop-view examples/drinker.p tools/tests/texts/drinker_tableau.txt >"$folder/pages/tableau.html"
+    tools/leancop-view examples/modal/barcan.p examples/structures/barcan.s4.cumulative.txt >"$folder/pages/structure.html"
+    begin pages timeout 600 node tools/tests/view_pages.js "$folder/pages" tools/leancop-view.html
+fi
+
 if command -v node >/dev/null; then
     reads() { node tools/tests/page.js tools/leancop-view.html "$@"; }
     # What prove and tableau print of the gallery.
@@ -129,10 +143,9 @@ if command -v node >/dev/null; then
 The formula has no constant one; it has zero, s with 1 argument. 2
 The formula has no function s with 2 arguments; it has zero, s with 1 argument. 2
 From column 5 on it is not in its form. 1'
-    same 'texts that are changed' "$(node tools/tests/mutants.js tools/leancop-view.html 500 "$folder/gallery")" '500 alike, some accepted'
+    begin mutants node tools/tests/mutants.js tools/leancop-view.html 500 "$folder/gallery"
 
     # What the page shows of a derivation without idle steps is a derivation.
-    "$LEANCOP" prove examples/pelletier46.p >"$folder/long.txt"
     reads --trim "$folder/long.txt" >"$folder/trimmed.txt"
     same 'a derivation without idle steps' "$("$LEANCOP" check examples/pelletier46.p "$folder/trimmed.txt")" accepted
     same 'its steps' "$(grep -cE '^(use|axiom)' "$folder/trimmed.txt") of $(grep -cE '^(use|axiom)' "$folder/long.txt")" '59 of 735'
@@ -157,17 +170,14 @@ else
     skip 'chromium is not here'
 fi
 
+if [ -n "${begun[mutants]:-}" ]; then
+    finish mutants
+    same 'texts that are changed' "$got" '500 alike, some accepted'
+fi
+
 # Pages as readers see them: on a desk and on a phone, light and dark, by keys, printed, in a frame.
-if command -v chromium >/dev/null && command -v node >/dev/null; then
-    mkdir "$folder/pages"
-    "$LEANCOP" prove examples/pigeonhole3.p >"$folder/pigeonhole3.txt"
-    tools/leancop-view examples/even.p "$folder/even.txt" >"$folder/pages/even.html"
-    tools/leancop-view examples/pigeonhole3.p "$folder/pigeonhole3.txt" >"$folder/pages/long.html"
-    tools/leancop-view examples/pelletier46.p "$folder/long.txt" >"$folder/pages/trimmed.html"
-    tools/leancop-view examples/modal/converse_barcan.p "$folder/d.txt" >"$folder/pages/worlds.html"
-    tools/leancop-view examples/drinker.p tools/tests/texts/drinker_tableau.txt >"$folder/pages/tableau.html"
-    tools/leancop-view examples/modal/barcan.p examples/structures/barcan.s4.cumulative.txt >"$folder/pages/structure.html"
-    got="$(timeout 300 node tools/tests/view_pages.js "$folder/pages" tools/leancop-view.html)"
+if [ -n "${begun[pages]:-}" ]; then
+    finish pages
     same 'pages as readers see them' "${got//[0-9]/}" ' held'
     has 'how many checks held' "$got" '132 held'
 else

@@ -83,9 +83,11 @@ async function keys(p) {
   check('End in the tree stays in the tree', !(await count(p)).startsWith('322'));
   const { nodes } = await p.ask('Accessibility.getFullAXTree'), heard = nodes.filter(x => !x.ignored).map(x => [x.role.value, x.name ? x.name.value : '']);
   check('entries are heard with number and sign', heard.some(([role, name]) => role === 'treeitem' && /^entry\s?1\s?F/.test(name)));
-  check('what closes a branch is heard in words', heard.some(([role, name]) => role === 'treeitem' && /^closed by \d+ and \d+$/.test(name)));
   check('the step that is shown is told to a screen reader', await p.run('document.querySelectorAll("#tree [role=treeitem][aria-current=step]").length > 0'));
   check('lines are heard', heard.filter(([role]) => role === 'option').length > 300);
+  await p.open(url('even.html'));
+  const items = (await p.ask('Accessibility.getFullAXTree')).nodes.filter(x => !x.ignored && x.role.value === 'treeitem').map(x => x.name.value.trim());
+  check('what closes a branch is heard in words: ' + items, items.includes('closed by 7 and 3'));
 }
 
 async function trims(p) {
