@@ -4,8 +4,9 @@
 Random formulas in each logic and with each domain condition, given to `leancop prove` and to the search for a structure that refutes. It is
 a fault where a formula has a derivation and a structure, where `leancop model` or the judge of tools/refutation/words.py does not find a
 structure's formula false, where the derivation is not accepted, or where a structure was missed: a random one refutes what the search said
-that none of this size does, or a greater size has none. Told, and no fault: `no tableau` where no structure of up to four worlds and four elements was found. --keep= gets the
-problems of both kinds. Prints a table by logic. Ends with 1 where there is a fault, and with 77 where no solver is here.
+that none of this size does, or a greater size has none. Told, and no fault: `no tableau` where no structure of up to four worlds and four
+elements is there by the solver's word; such a problem is given fifteen times as long for that. --keep= gets the problems of both kinds.
+Prints a table by logic. Ends with 1 where there is a fault, and with 77 where no solver is here.
 
 LEANCOP names the program; without it, it is that of this checkout."""
 from __future__ import annotations
@@ -187,9 +188,13 @@ class Trial:
             self.counts[logic]["derived"] += 1
             if not question.accepts(proved.output):
                 self.fault(logic, "a derivation is not accepted", text, problem.setting)
+        has_no_tableau = proved is not None and proved.status == 2
+        if found is None and has_no_tableau and not search.exhausted:
+            search = Search(problem, Bounds(GREATEST, GREATEST, 15 * SECONDS), self.solver)
+            found = search.run()
         if found is None:
             self.without(logic, search, text)
-            if proved is not None and proved.status == 2:
+            if has_no_tableau and search.exhausted:
                 self.tell(logic, "no tableau and no structure", text, problem.setting)
             return
         self.counts[logic]["refuted"] += 1

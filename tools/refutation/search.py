@@ -8,22 +8,15 @@ from dataclasses import dataclass, field
 from typing import NamedTuple
 
 from .formulas import Problem
+from .root import Refutation
 from .solver import Solver, Truths, made_small
-from .structures import Late, are_trees
-from .truth import Refutation
+from .structures import Kind, Late, Size, are_trees
 
 FACTOR = 2.5  # from the cost of one turn's sizes to that of the next
 TABLE_ENTRIES = 1_000_000  # that the text of a structure has at most
 GREATEST = 64  # worlds or elements of a text
+KEPT = 6  # structures of sizes that have none, which may grow
 WORLDS, WORLDS_OF_TREES = 20, 40  # the most where nothing else is asked
-
-
-class Size(NamedTuple):
-    worlds: int
-    elements: int
-
-    def __str__(self) -> str:
-        return f"{self.worlds}x{self.elements}"
 
 
 @dataclass
@@ -40,11 +33,17 @@ class Found(NamedTuple):
 
     @property
     def size(self) -> Size:
-        return Size(len(self.refutation.worlds), len(self.refutation.elements))
+        return self.refutation.size
 
     @property
     def text(self) -> str:
         return self.refutation.text(self.true)
+
+
+class Attempt(NamedTuple):
+    """The clauses of a size, and what is still to be written."""
+    refutation: Refutation
+    writing: Iterator[None]
 
 
 @dataclass
@@ -56,7 +55,8 @@ class Search:
     refused: list[Size] = field(default_factory=list)
     notes: list[str] = field(default_factory=list)
     exhausted: bool = False
-    written: dict[Size, tuple[Refutation, Solver]] = field(default_factory=dict)  # what waits for more time
+    waiting: dict[Size, Attempt] = field(default_factory=dict)  # for more time
+    left: list[Refutation] = field(default_factory=list)  # of sizes without a structure, to grow
 
     def __post_init__(self) -> None:
         self.start = time.monotonic()
@@ -114,6 +114,7 @@ class Search:
         while todo and time.monotonic() < self.end:
             turn, cost, size, share = heapq.heappop(todo)
             if self.is_refused(size):
+                self.waiting.pop(size, None)
                 continue
             answer = self.attempt(size, min(share, self.end - time.monotonic()))
             if isinstance(answer, Found):
@@ -126,30 +127,47 @@ class Search:
     def attempt(self, size: Size, seconds: float) -> Found | bool | None:
         """A structure of the size, False where there is none, None where the time did not suffice."""
         began = time.monotonic()
-        written: tuple[Refutation, Solver] | None = None
+        refutation, writing = self.waiting.pop(size, None) or self.begin(size)
+        refutation.end = max(self.end, began + seconds)
         true: Truths | bool | None = None
         try:
-            written = self.written.pop(size, None) or self.write(size, began + seconds)
+            is_written = self.write(writing, began + seconds)
         except Late:
-            pass
+            return None
         ready = time.monotonic()
-        if written:
-            true = written[1].solve([], began + seconds - ready)
+        solver = Solver(self.solver, refutation) if is_written else None
+        if solver:
+            true = solver.solve([], began + seconds - ready)
         told = "found" if isinstance(true, list) else "late" if true is None else "none"
-        many = f"{written[0].last} variables {written[0].count} clauses, " if written else ""
-        self.notes.append(f"{size}: {many}written in {ready - began:.3f} s, solved in {time.monotonic() - ready:.3f} s: {told}")
-        if written and isinstance(true, list):
-            return Found(*written, true)
+        known = f", {refutation.known} of them before" if refutation.known else ""
+        self.notes.append(f"{size}: {refutation.last} variables {refutation.count} clauses{known}, written in {ready - began:.3f} s, "
+                          f"solved in {time.monotonic() - ready:.3f} s: {told}")
+        if solver and isinstance(true, list):
+            return Found(refutation, solver, true)
         if true is False:
             self.refused.append(size)
+            self.left = [*self.left[1 - KEPT:], refutation]
             return False
-        if written:
-            self.written[size] = written  # for a later turn
+        self.waiting[size] = Attempt(refutation, writing)
         return None
 
-    def write(self, size: Size, deadline: float) -> tuple[Refutation, Solver]:
-        refutation = Refutation(self.problem, *size, deadline)
-        return refutation, Solver(self.solver, refutation)
+    def begin(self, size: Size) -> Attempt:
+        """The clauses of a smaller size of the same kind grow, where there are any."""
+        kind = Kind.of(self.problem.logic, size)
+        fitting = [r for r in self.left if r.kind == kind and r.size.worlds <= size.worlds and r.size.elements <= size.elements]
+        if fitting:
+            refutation = max(fitting, key=lambda r: self.cost(r.size))
+            self.left.remove(refutation)
+        else:
+            refutation = Refutation(self.problem, kind, self.end)
+        return Attempt(refutation, refutation.grow(size))
+
+    def write(self, writing: Iterator[None], deadline: float) -> bool:
+        """Whether all is written in this time; else it goes on another time."""
+        for _ in writing:
+            if time.monotonic() > deadline:
+                return False
+        return True
 
     def smaller(self, found: Found) -> Found:
         """Sizes below it that were not refused, as long as the time suffices that was spent so far, and then fewer truths."""

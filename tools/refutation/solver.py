@@ -7,7 +7,7 @@ import tempfile
 import time
 
 from .program import Answer, Ended, run
-from .structures import Structure, T
+from .structures import Structure, T, dimacs
 
 SOLVERS = ("cadical", "minisat", "picosat", "cryptominisat5")
 WORDS = {"cadical": ["-q", "--phase=0"], "picosat": ["-i", "0"], "cryptominisat5": ["--verb=0"]}
@@ -27,23 +27,20 @@ def find_solver(named: str | None) -> str:
     raise Answer(70, f"no SAT solver is here: install one of the Debian packages {', '.join(SOLVERS[:3])} or cryptominisat")
 
 
-def dimacs(clauses: list[int]) -> str:
-    return str(clauses)[1:-1].replace(",", "").replace(" 0 ", " 0\n") + "\n"  # faster than a number at a time
-
-
 class Solver:
     """The clauses of a structure, to which others can be added for one call."""
 
     def __init__(self, name: str, structure: Structure) -> None:
         self.name, self.structure = name, structure
-        self.text = dimacs(structure.clauses)
+        self.lines = structure.lines()
 
     def solve(self, more: list[list[int]], seconds: float) -> Truths | bool | None:
         """The truth of each variable, False where there is no assignment, None where the time did not suffice."""
-        if self.structure.contradiction:
+        if self.lines is None:
             return False
-        head = f"p cnf {self.structure.last} {self.structure.count + len(more)}\n"
-        text = (head + self.text + "".join(dimacs(clause + [0]) for clause in more)).encode()
+        count, clauses = self.lines
+        head = f"p cnf {self.structure.last} {count + len(more)}\n"
+        text = (head + clauses + "".join(dimacs(clause + [0]) for clause in more)).encode()
         until = time.monotonic() + seconds
         told, answer = self.ask(text, max(0.05, until - time.monotonic()))
         if told is None or told.status not in (SATISFIABLE, UNSATISFIABLE):

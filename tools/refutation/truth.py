@@ -1,129 +1,195 @@
-"""The clauses that say that a formula is false at the root of a structure."""
+"""The clauses that say what it is for a part of a formula to be true or false at a world."""
 from __future__ import annotations
 
 import itertools
-from collections.abc import Callable, Iterator
-from operator import itemgetter
-from typing import NamedTuple
+from collections.abc import Iterator
+from dataclasses import dataclass, field
 
-from .formulas import EQUALITY, Formula, Part, Problem
-from .structures import Elements, F, Structure, T
+from .formulas import EQUALITY, Formula, Problem
+from .structures import NOTHING, Column, Elements, F, Kind, Size, Structure, T, chosen
 
-Places = tuple[int, ...]  # of slots, among values
+ROWS = 2000  # that are written at once
 
 
-class Signed(NamedTuple):
-    """A node that is true (1) or false (-1) at a world, and which values are those of its slots."""
-    sign: int
+class Term:
+    """A term with functions for values of its variables: the elements that it may have, each behind its literal."""
+
+    def __init__(self, number: int, values: Elements) -> None:
+        self.number, self.values = number, values
+        self.literals: list[int] = []
+        self.choices: list[tuple[int, int]] = []
+
+
+@dataclass
+class Meaning:
+    """A node at a world: its literals, by the values of its slots, and for each sign those whose meaning is written, some with an open clause:
+    what it takes to be true (sign 1) or false (-1)."""
     number: int
-    places: Places
     world: int
+    literals: dict[Elements, int] = field(default_factory=dict)
+    written: dict[int, dict[Elements, list[int]]] = field(default_factory=lambda: {1: {}, -1: {}})
 
 
-class Scheme(NamedTuple):
-    """A clause for all elements: the literals that all have, the world of each element beyond the given ones, and the formulas."""
-    fixed: tuple[int, ...]
-    added: tuple[int, ...]
-    formulas: tuple[Signed, ...]
+class Truth(Structure):
+    """Literals stand for parts of formulas by definitions in the one direction that is needed (Tseitin; Plaisted and Greenbaum). Parts are
+    defined for many values at once, and what was defined grows with the structure."""
 
-
-Reader = Callable[[Elements], int]
-
-
-def chosen(places: Places) -> Callable[[Elements], Elements]:
-    if len(places) > 1:
-        return itemgetter(*places)
-    if places:
-        place = places[0]
-        return lambda values: (values[place],)
-    return lambda values: ()
-
-
-def below(values: Elements, part: Part) -> Elements:
-    return tuple(values[i] for i in part[1])
-
-
-class Refutation(Structure):
-    """Clauses for: at the root of a structure the problem's formula is false. Literals stand for parts of formulas by definitions in the
-    one direction that is needed (Tseitin; Plaisted and Greenbaum)."""
-
-    def __init__(self, problem: Problem, worlds: int, elements: int, deadline: float) -> None:
+    def __init__(self, problem: Problem, kind: Kind, end: float) -> None:
+        super().__init__(problem, kind, end)
         self.nodes = problem.nodes.nodes
-        self.defined: dict[tuple[int, Elements, int], list[int]] = {}  # the literal, and the signs that are written
-        self.terms: dict[tuple[int, Elements], tuple[tuple[int, int], ...]] = {}
-        self.witnesses: dict[tuple[int, Places], tuple[int, Elements]] = {}
-        self.ready: dict[tuple[int, int, int], list[tuple[Scheme, list[Reader]]]] = {}
-        super().__init__(problem, worlds, elements, deadline)
-        for premise in problem.premises + ([] if self.identity else problem.equations):
-            self.given(premise, (), (), ())
-        if problem.conjecture is not None:
-            self.denied(problem.conjecture, (), (), ())
-        self.least_numbers()
+        self.meanings: dict[tuple[int, int], Meaning] = {}
+        self.terms: dict[tuple[int, Elements], Term] = {}
+
+    def grow_formulas(self) -> Iterator[None]:
+        growing = [(meaning, sign, list(rows)) for meaning in self.meanings.values() for sign, rows in meaning.written.items()
+                   if rows and self.grows(self.nodes[meaning.number][0])]
+        for term in list(self.terms.values()):
+            self.grow_term(term, self.old)
+            yield
+        for meaning, sign, rows in growing:
+            for part in in_parts(rows):
+                self.mean(meaning, sign, part, self.old)
+                yield
+
+    def grows(self, kind: str) -> bool:
+        return kind not in ("and", "or") and (self.intuitionistic or kind not in ("imp", "not"))
 
     # ---- terms and atoms
 
-    def term(self, number: int, values: Elements) -> tuple[tuple[int, int], ...]:
-        """The elements that a term may have, each behind its literal."""
-        node = self.nodes[number]
-        if node[0] == "var":
-            return ((T, values[0]),)
+    def term(self, number: int, values: Elements) -> list[tuple[int, int]]:
+        if self.nodes[number][0] == "var":
+            return [(T, values[0])]
         key = number, values
         if key not in self.terms:
-            function = node[1], len(node[2])
-            parts = [self.term(part[0], below(values, part)) for part in node[2]]
-            if all(len(part) == 1 for part in parts):
-                literals = self.value(function, tuple(part[0][1] for part in parts))
-            else:
-                literals = tuple(self.new() for _ in self.elements)
-                self.one_of(literals)
-                for choice in itertools.product(*parts):
-                    there = [-x for x, _ in choice]
-                    for x, y in zip(self.value(function, tuple(d for _, d in choice)), literals):
-                        self.add(-x, y, *there)
-            self.terms[key] = tuple((x, d) for d, x in enumerate(literals) if x != F)
-        return self.terms[key]
+            term = Term(number, values)
+            self.grow_term(term, NOTHING)
+            self.terms[key] = term
+        return self.terms[key].choices
+
+    def arguments(self, node: Formula, values: Elements) -> list[list[tuple[int, int]]]:
+        return [self.term(number, tuple(values[i] for i in where)) for number, where in node[2]]
+
+    def grow_term(self, term: Term, known: Size) -> None:
+        node = self.nodes[term.number]
+        function = node[1], len(node[2])
+        parts = self.arguments(node, term.values)
+        if all(len(part) == 1 for part in parts):
+            term.literals = self.value(function, tuple(part[0][1] for part in parts))
+        elif known.elements < self.size.elements:
+            if not term.literals:
+                self.open.append(term.literals)
+            term.literals += self.several(self.size.elements - len(term.literals))
+            self.at_most_one(term.literals, known.elements)
+            for choice in itertools.product(*parts):
+                there = [-x for x, _ in choice]
+                is_known = all(d < known.elements for _, d in choice)
+                found = self.value(function, tuple(d for _, d in choice))
+                first = known.elements if is_known else 0
+                self.add_rows([[-x for x in found[first:]], term.literals[first:], *there])
+        term.choices[:] = [(x, d) for d, x in enumerate(term.literals) if x != F]
+
+    def plain_atoms(self, node: Formula, rows: list[Elements], places: Elements, w: int) -> Column | None:
+        """The literals of an atom without functions."""
+        if any(self.nodes[number][0] != "var" for number, _ in node[2]):
+            return None
+        arguments = map(chosen(tuple(places[where[0]] for _, where in node[2])), rows)
+        if node[1] == EQUALITY[0] and self.identity:
+            return [T if left == right else F for left, right in arguments]
+        table = self.table((node[1], len(node[2])))
+        return [found[w] for found in map(table.__getitem__, arguments)]
+
+    # ---- definitions
+
+    def literals(self, number: int, rows: list[Elements], places: Elements, w: int, sign: int) -> Column:
+        """For each row of elements a literal that implies truth for sign 1, and that truth implies for sign -1. The places are those in a
+        row that the node's slots stand for."""
+        node = self.nodes[number]
+        kind = node[0]
+        if kind in ("true", "false"):
+            return [T if kind == "true" else F] * len(rows)
+        if kind == "not" and not self.intuitionistic:
+            return [-x for x in self.literals(node[1], rows, places, w, -sign)]
+        plain = self.plain_atoms(node, rows, places, w) if kind == "atom" else None
+        if plain is not None:
+            return plain
+        meaning = self.meanings.get((number, w))
+        if meaning is None:
+            meaning = self.meanings[number, w] = Meaning(number, w)
+        own = list(map(chosen(places), rows))
+        written = meaning.written[sign]
+        if None in map(written.get, own):
+            for part in in_parts([row for row in dict.fromkeys(own) if row not in written]):
+                self.define(meaning, sign, part)
+        return list(map(meaning.literals.__getitem__, own))
+
+    def define(self, meaning: Meaning, sign: int, rows: list[Elements]) -> None:
+        node, known, written = self.nodes[meaning.number], meaning.literals, meaning.written[sign]
+        if node[0] == "atom":
+            for row in rows:
+                parts = self.arguments(node, row)
+                if row not in known and all(len(part) == 1 for part in parts):
+                    known[row] = self.atom(node[1], tuple(part[0][1] for part in parts), meaning.world)
+        fresh = [row for row in rows if row not in known]
+        known.update(zip(fresh, self.several(len(fresh))))
+        written.update((row, []) for row in rows)
+        self.mean(meaning, sign, rows, NOTHING)
 
     def atom(self, name: str, arguments: Elements, w: int) -> int:
         if name == EQUALITY[0] and self.identity:
             return T if arguments[0] == arguments[1] else F
         return self.table((name, len(arguments)))[arguments][w]
 
-    def places_of(self, node: Formula) -> Places | None:
-        """Which slots the arguments of an atom without functions are, where the atom has a table."""
-        if node[0] != "atom" or node[1] == EQUALITY[0] and self.identity:
-            return None
-        if any(self.nodes[number][0] != "var" for number, _ in node[2]):
-            return None
-        return tuple(where[0] for _, where in node[2])
+    def said(self, number: int, rows: list[Elements], places: Elements, w: int, sign: int) -> Column:
+        """For each row a literal that says that a node is true (sign 1) or false (-1)."""
+        found = self.literals(number, rows, places, w, sign)
+        return found if sign == 1 else [-x for x in found]
 
-    # ---- definitions
+    def mean(self, meaning: Meaning, sign: int, rows: list[Elements], known: Size) -> None:
+        """Clauses that say of each row that its literal means truth or falsehood, as far as they were not written for the known size."""
+        node, w = self.nodes[meaning.number], meaning.world
+        kind, holds = node[0], sign == 1
+        own = [-sign * meaning.literals[row] for row in rows]
+        if kind == "atom":
+            for x, row in zip(own, rows):
+                self.mean_atom(x, node, row, w, sign, known)
+        elif not self.grows(kind):
+            columns = [self.said(number, rows, places, w, s) for number, places, s in parts_of(node, len(rows[0]), sign)]
+            for clause in [columns] if holds == (kind != "and") else [[column] for column in columns]:
+                self.add_rows([own, *clause])
+        else:
+            sought: list[Column] = []
+            for guards, columns in self.instances(node, rows, w, sign, known):
+                if holds == (kind in ("imp", "not", "all", "box")):
+                    self.add_rows([own, *(-x for x in guards), *columns])
+                else:
+                    sought.append(self.all_of([*guards, *columns], len(rows)))
+            if sought:
+                self.seek(meaning.written[sign], rows, own, sought)
 
-    def literal(self, number: int, values: Elements, w: int, sign: int) -> int:
-        """A literal that implies truth for sign 1, and that truth implies for sign -1."""
-        entry = self.defined.get((number, values, w))
-        if entry is None:
-            node = self.nodes[number]
-            kind = node[0]
-            if kind == "not" and not self.intuitionistic:
-                return -self.literal(node[1], values, w, -sign)
-            known = 0
-            if kind in ("true", "false"):
-                known = T if kind == "true" else F
-            elif kind == "atom":
-                parts = [self.term(part[0], below(values, part)) for part in node[2]]
-                if all(len(part) == 1 for part in parts):
-                    known = self.atom(node[1], tuple(part[0][1] for part in parts), w)
-            entry = [known, 1, 1] if known else [self.new(), 0, 0]
-            self.defined[number, values, w] = entry
-        x = entry[0]
-        if not entry[sign]:  # place 1 or, from the end, -1
-            entry[sign] = 1
-            for clause in self.meaning(self.nodes[number], values, w, sign):
-                self.add(-x * sign, *clause)
-        return x
+    def seek(self, written: dict[Elements, list[int]], rows: list[Elements], own: Column, sought: list[Column]) -> None:
+        """Adds to the open clause of each row."""
+        for row, x, more in zip(rows, own, zip(*sought)):
+            clause = written[row]
+            if not clause:
+                clause.append(x)
+                self.open.append(clause)
+            clause += more
 
-    def part(self, part: Part, values: Elements, w: int, sign: int) -> int:
-        return self.literal(part[0], below(values, part), w, sign) * sign
+    def all_of(self, columns: list[Column | int], height: int) -> Column:
+        """For each row a literal that implies those of all columns."""
+        left = [column for column in columns if column != T]
+        lists = [column for column in left if isinstance(column, list)]
+        if F in left:
+            return [F] * height
+        if any(T in column or F in column for column in lists):
+            return [self.both(*row) for row in zip(*(column if isinstance(column, list) else [column] * height for column in left))]
+        if len(left) == 1 and lists:
+            return lists[0]
+        found = self.several(height)
+        opposite = [-x for x in found]
+        for column in left:
+            self.add_rows([opposite, column])
+        return found
 
     def both(self, *literals: int) -> int:
         """A literal that implies these."""
@@ -137,223 +203,47 @@ class Refutation(Structure):
             self.add(-y, x)
         return y
 
-    def meaning(self, node: Formula, values: Elements, w: int, sign: int) -> Iterator[list[int] | tuple[int, ...]]:
-        """Clauses that say that the node is true (sign 1) or false (-1) at a world."""
-        kind, holds = node[0], sign == 1
-        if kind == "atom":
-            yield from self.meaning_of_atom(node, values, w, sign)
-        elif kind in ("and", "or"):
-            literals = [self.part(part, values, w, sign) for part in node[1:]]
-            if holds == (kind == "or"):
-                yield literals
-            else:
-                yield from ((x,) for x in literals)
-        elif kind in ("imp", "not"):
-            yield from self.meaning_of_step(node, values, w, sign)
-        else:
-            seeks = []
-            for reached, number, under, v in self.instances(node, values, w):
-                x = self.literal(number, under, v, sign) * sign
-                if holds == (kind in ("all", "box")):
-                    yield [-y for y in reached] + [x]
-                else:
-                    seeks.append(self.both(*reached, x))
-            if seeks:
-                yield seeks
-
-    def instances(self, node: Formula, values: Elements, w: int) -> Iterator[tuple[tuple[int, ...], int, Elements, int]]:
-        """Of what a quantifier or a modal operator speaks: the literals that say that it is there, the node, its values and its world."""
-        kind, number = node[0], node[1]
-        if kind in ("box", "dia"):
-            for v in self.worlds:
+    def instances(self, node: Formula, rows: list[Elements], w: int, sign: int,
+                  known: Size) -> Iterator[tuple[list[int], list[Column]]]:
+        """Of what a quantifier, a modal operator, or a step to later worlds speaks: the literals that say that it is there, and for each row
+        those of the parts. Only what is new, where a size is known."""
+        kind = node[0]
+        if kind in ("box", "dia", "imp", "not"):
+            parts = parts_of(node, len(rows[0]), sign)
+            for v in self.worlds[known.worlds:]:
                 if self.relation[w][v] != F:
-                    yield (self.relation[w][v],), number, values, v
+                    yield [self.relation[w][v]], [self.said(number, rows, places, v, s) for number, places, s in parts]
             return
         later = self.worlds if self.intuitionistic and kind == "all" else (w,)
+        last = len(rows[0])
+        places = tuple(last if i < 0 else i for i in node[2])
         for v in later:
             reached = self.relation[w][v] if len(later) > 1 else T
-            for d in self.elements if reached != F else ():
-                extended = values + (d,)
-                yield (reached, self.exists[v][d]), number, tuple(extended[i] for i in node[2]), v
-
-    def meaning_of_atom(self, node: Formula, values: Elements, w: int, sign: int) -> Iterator[list[int] | tuple[int, ...]]:
-        parts = [self.term(part[0], below(values, part)) for part in node[2]]
-        if node[1] == EQUALITY[0] and self.identity:
-            (left, right), unwanted = parts, sign == -1
-            for (x, a), (y, b) in itertools.product(left, right):
-                if unwanted == (a == b):
-                    yield (-x, -y)
-            return
-        for choice in itertools.product(*parts):
-            yield [-x for x, _ in choice] + [sign * self.atom(node[1], tuple(d for _, d in choice), w)]
-
-    def meaning_of_step(self, node: Formula, values: Elements, w: int, sign: int) -> Iterator[list[int] | tuple[int, ...]]:
-        """An implication or a negation, which in intuitionistic logic speaks of all later worlds."""
-        seeks = []
-        for v in self.worlds if self.intuitionistic else (w,):
-            reached = self.relation[w][v] if self.intuitionistic else T
             if reached == F:
                 continue
-            if node[0] == "imp":
-                literals = [self.part(node[1], values, v, -sign), self.part(node[2], values, v, sign)]
-            else:
-                literals = [-sign * self.literal(node[1], values, v, -sign)]
-            if sign == 1:
-                yield [-reached, *literals]
-            else:
-                seeks.append((reached, *literals))
-        if len(seeks) == 1:
-            yield from ((x,) for x in seeks[0])
-        elif seeks:
-            yield [self.both(*literals) for literals in seeks]
+            for d in self.elements[known.elements if v < known.worlds else 0:]:
+                yield [reached, self.exists[v][d]], [self.said(node[1], [row + (d,) for row in rows], places, v, sign)]
 
-    # ---- what is given at the root, without literals where clauses will do
+    def mean_atom(self, own: int, node: Formula, row: Elements, w: int, sign: int, known: Size) -> None:
+        """A clause for each choice of the arguments' elements."""
+        parts = self.arguments(node, row)
+        if all(len(part) == 1 for part in parts):
+            return
+        wide = [[-x for x, _ in part] for part in parts if len(part) > 1]
+        clauses = [(*there, sign * self.atom(node[1], elements, w))
+                   for there, elements in zip(itertools.product(*wide), itertools.product(*([d for _, d in part] for part in parts)))
+                   if not known.elements or max(elements) >= known.elements]
+        if clauses:
+            self.add_rows([own, *map(list, zip(*clauses))])
 
-    def given(self, number: int, values: Elements, names: Places, guards: tuple[int, ...]) -> None:
-        """True at the root, where the guards do not hold: these say that names have other elements than the values."""
-        node = self.nodes[number]
-        kind = node[0]
-        if kind == "and":
-            for part, where in node[1:]:
-                self.given(part, tuple(values[i] for i in where), tuple(names[i] for i in where), guards)
-        elif kind == "ex":
-            self.named_cases(self.given, number, values, names, guards)
-        elif kind == "not" and not self.intuitionistic:
-            self.denied(node[1], values, names, guards)
-        else:
-            for w in self.worlds if self.intuitionistic else (0,):
-                self.write(1, number, w, values, guards)
 
-    def denied(self, number: int, values: Elements, names: Places, guards: tuple[int, ...], alone: bool = True) -> None:
-        """False at the root. In intuitionistic logic what refutes an implication, a negation or a universal formula can be taken to be the
-        root itself, as long as it is all that is to be false."""
-        node = self.nodes[number]
-        kind = node[0]
-        if kind == "or" or kind == "imp" and alone:
-            (a, to_a), (b, to_b) = node[1:]
-            under_a = tuple(values[i] for i in to_a), tuple(names[i] for i in to_a), guards
-            under_b = tuple(values[i] for i in to_b), tuple(names[i] for i in to_b), guards
-            if kind == "imp":
-                self.given(a, *under_a)
-                self.denied(b, *under_b)
-            else:
-                alone = alone and not self.intuitionistic
-                self.denied(a, *under_a, alone)
-                self.denied(b, *under_b, alone)
-        elif kind == "not" and alone:
-            self.given(node[1], values, names, guards)
-        elif kind == "all" and alone:
-            self.named_cases(self.denied, number, values, names, guards)
-        else:
-            self.write(-1, number, 0, values, guards)
+def parts_of(node: Formula, width: int, sign: int) -> list[tuple[int, Elements, int]]:
+    """The parts of a node that is true (sign 1) or false (-1) with the places of their slots among those of the node, and their signs."""
+    if node[0] in ("not", "box", "dia"):
+        return [(node[1], tuple(range(width)), -sign if node[0] == "not" else sign)]
+    signs = (-sign, sign) if node[0] == "imp" else (sign, sign)
+    return [(number, where, s) for (number, where), s in zip(node[1:], signs)]
 
-    def named_cases(self, go_on: Callable[[int, Elements, Places, tuple[int, ...]], None], number: int, values: Elements, names: Places,
-                    guards: tuple[int, ...]) -> None:
-        """A name, like a constant, for the element of the root's domain that a formula asks for; a case for each element that it may be."""
-        key = number, names  # the names say which names the slots have
-        if key not in self.witnesses:
-            self.witnesses[key] = len(self.witnesses), self.name_at_root()
-        name, found = self.witnesses[key]
-        node = self.nodes[number]
-        for d, x in enumerate(found):
-            if x != F:
-                under, whose = values + (d,), names + (name,)
-                go_on(node[1], tuple(under[i] for i in node[2]), tuple(whose[i] for i in node[2]), guards + (-x,))
 
-    def write(self, sign: int, number: int, w: int, values: Elements, guards: tuple[int, ...]) -> None:
-        """Clauses that say that the node is true or false at the world, where the guards do not hold."""
-        key = sign, number, w
-        if key not in self.ready:
-            start = Signed(sign, number, tuple(range(self.problem.nodes.width[number])), w)
-            schemes = self.schemes(Scheme((), (), ()), [start], len(start.places), False)
-            self.ready[key] = [(scheme, [self.reader(f) for f in scheme.formulas]) for scheme in schemes]
-        for (fixed, added, _), readers in self.ready[key]:
-            always = [*guards, *fixed]
-            everywhere = all(x == T for w in added for x in self.exists[w])
-            for more in itertools.product(*([d for d in self.elements if self.exists[w][d] != F] for w in added)):
-                there = values + more
-                clause = [read(there) for read in readers]
-                if not everywhere:
-                    clause += [-self.exists[w][d] for w, d in zip(added, more)]
-                self.add(*always, *clause)
-
-    def reader(self, formula: Signed) -> Reader:
-        """What gives the literal of a formula for values."""
-        sign, number, places, w = formula
-        own = self.places_of(self.nodes[number])
-        if own is None:
-            choose = chosen(places)
-            known: dict[Elements, int] = {}
-
-            def read(values: Elements) -> int:
-                slots = choose(values)
-                if slots not in known:
-                    known[slots] = self.literal(number, slots, w, sign) * sign
-                return known[slots]
-
-            return read
-        choose = chosen(tuple(places[i] for i in own))
-        table = self.table((self.nodes[number][1], len(own)))
-        if sign == 1:
-            return lambda values: table[choose(values)][w]
-        return lambda values: -table[choose(values)][w]
-
-    def schemes(self, so_far: Scheme, todo: list[Signed], width: int, many: bool) -> Iterator[Scheme]:
-        """Takes a clause of formulas apart. In intuitionistic logic it is asked for at each world, and its literals are such that they stay
-        false along the relation. As long as there is but one true formula, what it says of later worlds is said there; where there are
-        many, or where one became a literal, what it says is said of this world."""
-        fixed, added, formulas = so_far
-        while todo:
-            many = many or sum(formula.sign == 1 for formula in todo) > 1
-            shapes = [self.shape(formula, many) for formula in todo]
-            turn = next((k for k, shape in enumerate(shapes) if shape != "split"), len(todo) - 1)
-            shape, formula = shapes[turn], todo[turn]
-            todo = todo[:turn] + todo[turn + 1:]
-            if shape == "literal" or shape == "split" and todo:
-                many = many or formula.sign == 1
-                formulas += (formula,)
-            elif shape == "join":
-                todo += self.under(formula)
-            else:
-                yield from self.split(Scheme(fixed, added, formulas), formula, width, many)
-                return
-        yield Scheme(fixed, added, formulas)
-
-    def split(self, so_far: Scheme, formula: Signed, width: int, many: bool) -> Iterator[Scheme]:
-        """A clause for each thing that the formula says."""
-        (fixed, added, formulas), (sign, _, places, w), node = so_far, formula, self.nodes[formula.number]
-        kind = node[0]
-        if kind in ("and", "or", "imp"):
-            for part in self.under(formula):
-                yield from self.schemes(so_far, [part], width, many)
-        elif kind in ("all", "ex"):
-            extended = places + (width,)
-            inside = Signed(sign, node[1], tuple(extended[i] for i in node[2]), w)
-            yield from self.schemes(Scheme(fixed, added + (w,), formulas), [inside], width + 1, many)
-        else:
-            for v in self.worlds:
-                if self.relation[w][v] != F:
-                    reached = fixed + (-self.relation[w][v],)
-                    yield from self.schemes(Scheme(reached, added, formulas), [Signed(sign, node[1], places, v)], width, many)
-
-    def shape(self, formula: Signed, many: bool) -> str:
-        sign, kind = formula.sign, self.nodes[formula.number][0]
-        if self.intuitionistic and kind in ("imp", "not", "all") and (sign == -1 or many):
-            return "literal"
-        if kind == "not":
-            return "join"
-        if kind in ("and", "or", "imp"):
-            return "join" if (kind == "and") == (sign == -1) else "split"
-        if kind in ("all", "ex"):
-            return "split" if (kind == "all") == (sign == 1) else "literal"
-        if kind in ("box", "dia"):  # below another box a literal for each world is less than a clause for each way
-            return "split" if (kind == "box") == (sign == 1) and (formula.world == 0 or self.logic == "s4") else "literal"
-        return "literal"
-
-    def under(self, formula: Signed) -> list[Signed]:
-        sign, number, places, w = formula
-        node = self.nodes[number]
-        if node[0] == "not":
-            return [Signed(-sign, node[1], places, w)]
-        signs = (-sign, sign) if node[0] == "imp" else (sign, sign)
-        return [Signed(s, part, tuple(places[i] for i in where), w) for s, (part, where) in zip(signs, node[1:])]
+def in_parts(rows: list[Elements]) -> Iterator[list[Elements]]:
+    return (rows[i:i + ROWS] for i in range(0, len(rows), ROWS))

@@ -38,7 +38,8 @@ if [ -z "$(here)" ]; then
     return
 fi
 
-# Each line of the gallery by which a search finds no proof.
+# Each line of the gallery by which a search finds no proof. The two seconds are of the processor, as other work may go on beside.
+TIMEFORMAT='%U'
 while IFS=$'\t' read -r _ _ words; do
     read -r -a list <<<"$words"
     asked=()
@@ -47,11 +48,13 @@ while IFS=$'\t' read -r _ _ words; do
     *double_negation_shift*) # no finite structure refutes it
         ended "refute ${asked[*]}" 2 tools/leancop-refute --time=2 "${asked[@]}" ;;
     *)
-        ended "refute ${asked[*]}" 0 tools/leancop-refute --time=2 "${asked[@]}"
+        { time ended "refute ${asked[*]}" 0 tools/leancop-refute --time=30 "${asked[@]}"; } 2>"$folder/seconds"
+        has "seconds for ${asked[*]}" "0. 1." "$(cut -c 1-2 "$folder/seconds")"
         same "the structure for ${asked[*]}" "$("$LEANCOP" model "${asked[@]}" "$folder/answer")" 'false at the root'
         ;;
     esac
 done < <(grep "^[12]	" examples/expected.tsv)
+unset TIMEFORMAT
 
 # What is no theorem has no derivation, and what has one no structure.
 ended 'refute a theorem' 2 tools/leancop-refute examples/even.p
