@@ -276,6 +276,7 @@ $('question').addEventListener('submit', event => { event.preventDefault(); prov
 $('which').addEventListener('click', table);
 $('yourself').addEventListener('click', () => exercise([]));
 $('stop').addEventListener('click', () => { if (current?.job) post('stop', { job: current.job }).catch(() => {}); });
+addEventListener('keydown', event => { if (event.key === 'Escape' && !event.isComposing && !$('stop').hidden) $('stop').click(); });
 $('logic').addEventListener('change', modal);
 addEventListener('hashchange', linked);
 try { localStorage.setItem('leancop-play', location.pathname); } catch { /* links without a token then need the command */ }

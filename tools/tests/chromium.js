@@ -2,7 +2,7 @@
 // test asks of it: a size, a colour scheme, keys, and what its script says.
 'use strict';
 const { spawn } = require('child_process'), fs = require('fs'), os = require('os'), path = require('path');
-const KEYS = { ArrowLeft: 37, ArrowUp: 38, ArrowRight: 39, ArrowDown: 40, Home: 36, End: 35, Tab: 9, Enter: 13 };
+const KEYS = { ArrowLeft: 37, ArrowUp: 38, ArrowRight: 39, ArrowDown: 40, Home: 36, End: 35, Tab: 9, Enter: 13, Escape: 27 };
 
 exports.start = async function () {
   const profile = fs.mkdtempSync(path.join(os.tmpdir(), 'chromium'));

@@ -138,7 +138,9 @@ async function stopped(page, other) {
   const { origin } = new URL(link);
   await other.go(origin + '/#' + new URLSearchParams({ f: 'p → p', l: 'classical' }));
   same('a second tab', await other.until(drawn) && (await other.run(SAID)).slice(0, 6), 'Proved');
-  await page.run('document.getElementById("stop").click()');
+  same('the row of buttons stays one row', await page.run('document.getElementById("stop").offsetTop === document.getElementById("prove").offsetTop'), true);
+  await page.ask('Page.bringToFront');
+  await page.key('Escape');
   same('stopped', await page.until(SAID + ' === "Stopped."', 4), true);
   same('it can go on', await page.run('/^Go on for/.test(document.querySelector("#actions button").textContent)'), true);
 }
