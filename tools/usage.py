@@ -70,8 +70,8 @@ class Sources:
     @staticmethod
     def arms(text: str, function: str, kind: str, right: str) -> dict[str, str]:
         """The arms of a match: each name on the left, with what stands on the right."""
-        body = re.search(r"\nfn %s|\npub fn %s" % (function, function), text)
-        body = text[body.end():text.index("\n}\n", body.end())] if body else ""
+        head = re.search(r"\nfn %s|\npub fn %s" % (function, function), text)
+        body = text[head.end():text.index("\n}\n", head.end())] if head else ""
         found = re.findall(r"((?:%s::\w+[\s|]*)+)=> (%s)" % (kind, right), body)
         return {name: told for names, told in found for name in re.findall(kind + r"::(\w+)", names)}
 
@@ -98,11 +98,12 @@ def known(asked: Asked | Sources, faults: list[str]) -> tuple[list[Row], list[Ro
     """The table without what the program does not know."""
     commands, operands, options, statuses = read_table()
     commands = [c for c in commands if asked.knows(c[0])]
-    for name, command, _, values in operands if asked.checks_values else []:
+    for name, command, _, values in operands if isinstance(asked, Asked) else []:
         before = ["chain"] if name == "N" else []
         good, bad = values_named(values)
-        faults += ["%s refuses %s as %s" % (command, v, name) for v in good if not asked.takes(command, *before, v)]
-        faults += ["%s takes %s as %s" % (command, v, name) for v in bad if asked.takes(command, *before, v)]
+        taken = {v for v in [*good, *bad] if isinstance(asked, Asked) and asked.takes(command, *before, v)}
+        faults += ["%s refuses %s as %s" % (command, v, name) for v in good if v not in taken]
+        faults += ["%s takes %s as %s" % (command, v, name) for v in bad if v in taken]
     kept = []
     for option in options:
         good, bad = values_of(option)
