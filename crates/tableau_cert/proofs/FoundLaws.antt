@@ -114,6 +114,10 @@ module _ (a b : List GroundList) (g : IsGrown a b) where
 
 -- ---- the loop over the moves
 
+pub moves-view : (P : Problem) (mt : List GroundList) (items : List stated.Move) → map (λ m. closer_of P (the_move mt m)) items ≡ map (closer_of P) (map (the_move mt) items)
+moves-view P mt [] = refl
+moves-view P mt (m ∷ ms) = ap (λ cs. closer_of P (the_move mt m) ∷ cs) (moves-view P mt ms)
+
 module _ (P : Problem) (mt before after : List GroundList) (items : List stated.Move) (i : ℕ) (x d : stated.Move) (l : i < length items) (q : x ≡ get_or items i d) where
   pub closers-next : (cs more : List program.Closer) (c : program.Closer) → IsGrown before after → map (the_closer before) cs ≡ map (closer_of P) (map (the_move mt) (take i items)) → AllByRecursion (IsNormalCloser before) cs → more ≡ cs ++ c ∷ [] → the_closer after c ≡ closer_of P (the_move mt x) → map (the_closer after) more ≡ map (closer_of P) (map (the_move mt) (take (i + 1) items))
   closers-next cs more c g h n e k =
@@ -123,6 +127,7 @@ module _ (P : Problem) (mt before after : List GroundList) (items : List stated.
       ∙ sym (map-append (closer_of P) (map (the_move mt) (take i items)) (the_move mt (get_or items i d) ∷ []))
       ∙ ap (map (closer_of P)) (sym (map-append (the_move mt) (take i items) (get_or items i d ∷ [])) ∙ sym (ap (map (the_move mt)) (take_more items i d l)))
 
+module _ (P : Problem) (mt : List GroundList) (items : List stated.Move) (i : ℕ) (x d : stated.Move) (l : i < length items) (q : x ≡ get_or items i d) where
   pub steps-so_far : (steps more new v : ℕ) → capped (steps + moves_steps P (map (the_move mt) (drop i items))) ≡ v → new ≡ capped (steps + more) → more ≡ capped (move_steps P (the_move mt x)) → capped (new + moves_steps P (map (the_move mt) (drop (i + 1) items))) ≡ v
   steps-so_far steps more new v h n e =
       let rest = moves_steps P (map (the_move mt) (drop (i + 1) items)) in
@@ -138,11 +143,11 @@ pub steps-whole : (n m : ℕ) → n ≡ capped m → n < 18446744073709551616
 steps-whole n m e = omega (arith, e)
 
 -- the steps of the start's instance and those of the moves are the steps of all
-pub steps-both : (P : Problem) (x : Moves) (n more steps : ℕ) → n ≡ capped (modal_steps P (bare x.start)) → more ≡ capped (moves_steps P x.moves) → steps ≡ capped (n + more) → steps ≡ capped (total_steps P (bare_instances x))
-steps-both P x n more steps e h k = by (modal_steps P (bare x.start)) (moves_steps P x.moves) (total_steps P (bare_instances x)) e h (all-steps P x)
+pub steps-begin : (P : Problem) (x : Moves) (n : ℕ) → n ≡ capped (modal_steps P (bare x.start)) → capped (n + moves_steps P x.moves) ≡ capped (total_steps P (bare_instances x))
+steps-begin P x n e = by (modal_steps P (bare x.start)) (moves_steps P x.moves) (total_steps P (bare_instances x)) e (all-steps P x)
   where
-    by : (m rest t : ℕ) → n ≡ capped m → more ≡ capped rest → t ≡ m + rest → steps ≡ capped t
-    by m rest t e h g = omega (arith, e, h, g, k)
+    by : (m rest t : ℕ) → n ≡ capped m → t ≡ m + rest → capped (n + rest) ≡ capped t
+    by m rest t e g = omega (arith, e, g)
 
 pub steps-end : (P : Problem) (mt : List GroundList) (items : List stated.Move) (i steps v : ℕ) → capped (steps + moves_steps P (map (the_move mt) (drop i items))) ≡ capped v → length items ≤ i → steps < 18446744073709551616 → steps ≡ capped v
 steps-end P mt items i steps v h l s = by steps v (sym (ap (λ xs. capped (steps + moves_steps P (map (the_move mt) xs))) (drop_all i items l)) ∙ h) s

@@ -16,7 +16,9 @@ use Rattle.formula_core.specs.GroundLists.{GroundList}
 use Rattle.tableau_core.specs.Numbered.LiteralView.{the_literal}
 use Rattle.tableau_core.specs.declared.literal.GroundLiteral as numbered
 use Rattle.tableau_cert.specs.Resolving.{Closer, closer_of, with_literals, found_of}
-use Rattle.tableau_cert.specs.Judging.{literals_in, closed_by, closers_verdict, last_verdict, resolved_verdict, the_path, the_open, AreNested, goal_of, IsNext, end_verdict}
+use Rattle.tableau_cert.specs.Gathering.{AreNormalLiterals}
+use Rattle.tableau_cert.specs.Judging.{literals_in, closed_by, closers_verdict, last_verdict, resolved_verdict, the_path, the_open, AreNested, AreNormalGoals, goal_of, IsNext, end_verdict}
+use Rattle.tableau_cert.proofs.NormalLaws.{next-normal}
 use Rattle.tableau_cert.specs.declared.judging.OpenGoal as program
 
 -- ---- the judgement is that of the moves
@@ -121,8 +123,8 @@ module _ (ls : List GroundList) (path : List numbered.GroundLiteral) (x : number
   nested-new [] (g ∷ gs) j h n = (omega (arith, h, n.0), n.1)
   nested-new (g ∷ goals) gs j h n = (h, nested-new goals gs (suc k) (omega arith) n)
 
-pub next : (ls : List GroundList) (path : List numbered.GroundLiteral) (goals : List program.OpenGoal) (g : program.OpenGoal) (below_it long : List numbered.GroundLiteral) (more : List program.OpenGoal) (r : Result (List OpenGoal) TableauFault) → AreNested (length path) (g ∷ reverse goals) → long ≡ take g.depth path ++ g.literal ∷ [] → more ≡ goals ++ reverse (map (goal_of (length long)) below_it) → Ok (below (the_literal ls g.literal ∷ the_path ls (take g.depth path)) (map (the_literal ls) below_it)) ≡ r → IsNext ls path goals long more r
-next ls path goals g below_it long more r n e h q =
+pub next : (ls : List GroundList) (path : List numbered.GroundLiteral) (goals : List program.OpenGoal) (g : program.OpenGoal) (below_it long : List numbered.GroundLiteral) (more : List program.OpenGoal) (r : Result (List OpenGoal) TableauFault) → AreNested (length path) (g ∷ reverse goals) → long ≡ take g.depth path ++ g.literal ∷ [] → more ≡ goals ++ reverse (map (goal_of (length long)) below_it) → Ok (below (the_literal ls g.literal ∷ the_path ls (take g.depth path)) (map (the_literal ls) below_it)) ≡ r → AreNormalGoals ls path (g ∷ goals) → AreNormalLiterals ls below_it → IsNext ls ls path goals long more r
+next ls path goals g below_it long more r n e h q kept below_kept =
     let k = g.depth in
     let l = longer ls path g.literal k n.0 in
     let back = ap reverse h ∙ reverse-append goals (reverse (map (goal_of (length long)) below_it)) ∙ ap (λ xs. xs ++ reverse goals) (reverse-reverse (map (goal_of (length long)) below_it)) in
@@ -135,6 +137,7 @@ next ls path goals g below_it long more r n e h q =
           ∙ (λ i. map (the_open ls (e i)) (map (goal_of (length (e i))) below_it) ++ map (the_open ls (e i)) (reverse goals))
           ∙ (λ i. news ls path g.literal k n.0 below_it i ++ others-stay ls path g.literal k n.0 k (reverse goals) (omega arith) n.1 i);
       nested = subst (AreNested (length long)) (sym (back ∙ ap (λ m. map (goal_of m) below_it ++ reverse goals) (ap length e ∙ longer-length ls path g.literal k n.0))) (nested-new ls path g.literal k n.0 below_it (reverse goals) (length long) (let d = ap length e ∙ longer-length ls path g.literal k n.0 in omega (arith, d)) n.1);
+      normal = next-normal ls path goals g below_it long more (length long) kept below_kept e h;
     }
 
 -- the last goal comes next
@@ -219,8 +222,8 @@ module _ {X : Type 0} (f : X → Closer) (ls : List GroundList) (limit : ℕ) (s
   pub loop-wrong : (n : ℕ) (rest : List program.OpenGoal) (g : program.OpenGoal) (c d : X) (w : TableauFault) → Holds → n ≡ i + 6 → goals ≡ rest ++ g ∷ [] → i < length cs → c ≡ get_or cs i d → closed_by limit (the_open ls path g) (f c) ≡ Err w → tableau_rejected n w ≡ v
   loop-wrong n rest g c d w h m e l q k = ap (λ x. tableau_rejected x w) m ∙ sym (wrong-next limit (last_verdict short) (the_open ls path g) (map (the_open ls path) (reverse rest)) (f c) (map f (drop (i + 1) cs)) (i + 6) w k) ∙ (λ j. closers_verdict limit (last_verdict short) (sym (popped-view ls path goals rest g e) j) (map f (sym (drop-next cs i c d l q) j)) (i + 6)) ∙ h
 
-  pub loop-next : (rest more : List program.OpenGoal) (g : program.OpenGoal) (long : List numbered.GroundLiteral) (c d : X) → Holds → goals ≡ rest ++ g ∷ [] → i < length cs → c ≡ get_or cs i d → IsNext ls path rest long more (closed_by limit (the_open ls path g) (f c)) → closers_verdict limit (last_verdict short) (map (the_open ls long) (reverse more)) (map f (drop (i + 1) cs)) (i + 1 + 6) ≡ v
-  loop-next rest more g long c d h e l q k =
+  pub loop-next : (grown : List GroundList) (rest more : List program.OpenGoal) (g : program.OpenGoal) (long : List numbered.GroundLiteral) (c d : X) → Holds → goals ≡ rest ++ g ∷ [] → i < length cs → c ≡ get_or cs i d → IsNext ls grown path rest long more (closed_by limit (the_open ls path g) (f c)) → closers_verdict limit (last_verdict short) (map (the_open grown long) (reverse more)) (map f (drop (i + 1) cs)) (i + 1 + 6) ≡ v
+  loop-next grown rest more g long c d h e l q k =
       (let s : i + 1 + 6 ≡ suc (i + 6) = omega arith in λ j. closers_verdict limit (last_verdict short) (k.opened j) (map f (drop (i + 1) cs)) (s j))
       ∙ sym (right-next limit (last_verdict short) (the_open ls path g) (map (the_open ls path) (reverse rest)) (f c) (map f (drop (i + 1) cs)) (i + 6) k.new k.closes)
       ∙ (λ j. closers_verdict limit (last_verdict short) (sym (popped-view ls path goals rest g e) j) (map f (sym (drop-next cs i c d l q) j)) (i + 6))

@@ -1,16 +1,19 @@
 -- The judgement of moves whose instances are found.
 use Rattle.std.specs.Prelude.{◌≡◌, ℕ, suc, ◌≤◌, List, [], ◌∷◌, ◌++◌, length, map, reverse, take, Bool, Option, Some, None, Result, Ok, Err, nat_lt, if◌then◌else◌}
-use Rattle.std.specs.List.{list_all}
+use Rattle.std.specs.List.{list_all, AllByRecursion}
 use Rattle.calculus.specs.declared.fault.TableauFault.{TableauFault}
 use Rattle.calculus.specs.declared.fault.TableauFault.TheVariants as fault
 use Rattle.calculus.specs.Ground.{GroundLiteral}
 use Rattle.calculus.specs.Instances.{ClauseInstance}
 use Rattle.calculus.specs.Tableaux.{ancestor, is_complement, is_shown}
-use Rattle.calculus.specs.TableauText.{OpenGoal, TableauVerdict, tableau_accepted, tableau_rejected, below, extended, verdict_after_move}
-use Rattle.formula_core.specs.GroundLists.{GroundList}
+use Rattle.calculus.specs.Syntax.{Problem}
+use Rattle.calculus.specs.TableauText.{Move, OpenGoal, TableauVerdict, tableau_accepted, tableau_rejected, below, extended, verdict_after_move}
+use Rattle.formula_core.specs.GroundLists.{GroundList, IsGrown}
+use Rattle.tableau_core.specs.Walks.{capped}
 use Rattle.tableau_core.specs.Numbered.LiteralView.{the_literal}
 use Rattle.tableau_core.specs.declared.literal.GroundLiteral as numbered
-use Rattle.tableau_cert.specs.Resolving.{Closer, by_reduction, by_extension}
+use Rattle.tableau_cert.specs.Gathering.{AreNormalLiterals, IsNormalLiteral}
+use Rattle.tableau_cert.specs.Resolving.{Closer, by_reduction, by_extension, closer_of, move_steps}
 use Rattle.tableau_cert.specs.declared.judging.OpenGoal as program
 use Rattle.tableau_cert.specs.declared.judging.Closed.{Closed}
 use Rattle.tableau_cert.specs.declared.judging.Closed.TheVariants.{Goals, Wrong}
@@ -60,16 +63,38 @@ AreNested k (g ∷ gs) = (g.depth ≤ k) × AreNested g.depth gs
 abbrev pub goal_of : ℕ → numbered.GroundLiteral → program.OpenGoal
 goal_of depth x = record { literal = x; depth = depth }
 
--- the goal that comes next is closed: these goals are open instead
-pub record IsNext (ls : List GroundList) (path : List numbered.GroundLiteral) (goals : List program.OpenGoal) (longer : List numbered.GroundLiteral) (more : List program.OpenGoal) (r : Result (List OpenGoal) TableauFault) : Type 0 where
+-- ---- literals that stay the same when the table grows
+
+abbrev pub IsNormalGoal : List GroundList → program.OpenGoal → Type 0
+IsNormalGoal ls g = IsNormalLiteral ls g.literal
+
+pub record AreNormalGoals (ls : List GroundList) (above : List numbered.GroundLiteral) (below_it : List program.OpenGoal) : Type 0 where
+  pub path : AreNormalLiterals ls above
+  pub goals : AllByRecursion (IsNormalGoal ls) below_it
+
+abbrev pub IsNormalClosed : List GroundList → Closed → Type 0
+IsNormalClosed ls (Goals v) = AreNormalLiterals ls v.items
+IsNormalClosed ls (Wrong f) = f ≡ f
+
+-- ---- one move
+
+-- the goal that comes next is closed: these goals are open instead, over the table that there is then
+pub record IsNext (before ls : List GroundList) (path : List numbered.GroundLiteral) (goals : List program.OpenGoal) (longer : List numbered.GroundLiteral) (more : List program.OpenGoal) (r : Result (List OpenGoal) TableauFault) : Type 0 where
   pub new : List OpenGoal
   pub closes : r ≡ Ok new
-  pub opened : map (the_open ls longer) (reverse more) ≡ new ++ map (the_open ls path) (reverse goals)
+  pub opened : map (the_open ls longer) (reverse more) ≡ new ++ map (the_open before path) (reverse goals)
   pub nested : AreNested (length longer) (reverse more)
+  pub normal : AreNormalGoals ls longer more
 
-abbrev pub Takes : List GroundList → List numbered.GroundLiteral → List program.OpenGoal → List numbered.GroundLiteral → List program.OpenGoal → Result (List OpenGoal) TableauFault → Option TableauFault → Type 0
-Takes ls path goals longer more r (Some f) = r ≡ Err f
-Takes ls path goals longer more r None = IsNext ls path goals longer more r
+abbrev pub Takes : List GroundList → List GroundList → List numbered.GroundLiteral → List program.OpenGoal → List numbered.GroundLiteral → List program.OpenGoal → Result (List OpenGoal) TableauFault → Option TableauFault → Type 0
+Takes before ls path goals longer more r (Some f) = r ≡ Err f
+Takes before ls path goals longer more r None = IsNext before ls path goals longer more r
+
+-- the goal that comes next is taken by the move, whose instance has so many steps
+pub record IsMoved (P : Problem) (limit : ℕ) (before : List GroundList) (path : List numbered.GroundLiteral) (goals : List program.OpenGoal) (g : program.OpenGoal) (m : Move) (after : List GroundList) (longer : List numbered.GroundLiteral) (more : List program.OpenGoal) (o : Option TableauFault) (n : ℕ) : Type 0 where
+  pub takes : Takes before after path goals longer more (closed_by limit (the_open before path g) (closer_of P m)) o
+  pub steps : n ≡ capped (move_steps P m)
+  pub grown : IsGrown before after
 
 abbrev pub end_verdict : Bool → Bool → ℕ → TableauVerdict
 end_verdict closed short line = if closed then last_verdict short line else tableau_rejected line fault.StillOpen

@@ -8,7 +8,7 @@ use Rattle.calculus.specs.ComputedInstances.{modal_steps}
 use Rattle.calculus.specs.Ground.{GroundLiteral}
 use Rattle.calculus.specs.Instances.{ClauseInstance}
 use Rattle.calculus.specs.Syntax.{Problem}
-use Rattle.calculus.specs.TableauText.{Chosen, Move, reduction, extension, Moves, literals_of, strings_are_short, bare, bare_instances}
+use Rattle.calculus.specs.TableauText.{Chosen, Move, reduction, extension, Moves, literals_of, bare}
 use Rattle.calculus.specs.Tableaux.{has_at_most}
 use Rattle.formula_core.specs.GroundLists.{GroundList, IsGrown, AreNormalValues}
 use Rattle.tableau_core.specs.Walks.{capped}
@@ -49,7 +49,6 @@ the_closer ls (Extension place o) = by_extension place (the_outcome ls o)
 pub record IsResolved (P : Problem) (x : Moves) (r : resolved.Resolved) : Type 0 where
   pub start : the_outcome r.table r.start ≡ found_of P x.start
   pub closers : map (the_closer r.table) r.closers.items ≡ map (closer_of P) x.moves
-  pub short : r.short ≡ strings_are_short P (bare_instances x)
 
 -- ---- one instance
 
@@ -88,10 +87,9 @@ pub record IsCloser (P : Problem) (before after : List GroundList) (m : Move) (c
   pub normal : IsNormalCloser after c
   pub grown : IsGrown before after
 
--- the moves with their instances, and the number of the steps of these
-pub record AreClosers (P : Problem) (before after : List GroundList) (ms : List Move) (cs : List program.Closer) (n : ℕ) : Type 0 where
+-- the moves with their instances
+pub record AreClosers (P : Problem) (before after : List GroundList) (ms : List Move) (cs : List program.Closer) : Type 0 where
   pub closers : map (the_closer after) cs ≡ map (closer_of P) ms
-  pub steps : n ≡ capped (moves_steps P ms)
   pub grown : IsGrown before after
 
 -- ---- the strings

@@ -15,7 +15,7 @@ ghost use Rattle.tableau_cert.specs.declared.parse_fault.TableauParse.TheVariant
 
 use crate::building::tableau_from;
 use crate::flattening::moves_of;
-use crate::judging::{judge, verdict_of};
+use crate::judging::judge;
 use crate::numbers::moves_fit;
 use crate::parse_fault::TableauParse;
 use crate::resolving::resolve;
@@ -43,16 +43,17 @@ pub fn print_tableau(
     Ok(text)
 }
 
-// The tableau of moves that are accepted.
+// The tableau of moves that are accepted. Their instances are found again once they are, so that what
+// is rejected costs no more than the lines up to the one that is wrong.
 fn tableau_of(alloc: Global, problem: &Problem, moves: &Moves) -> Result<Tableau, TableauParse>
     ensures built { IfOk result (λ t. IsBuilt problem.now (the_moves moves.now) (the_tableau t)) }
     ensures bad { (line : ℕ) (fault : TableauFault) → result ≡ Err (answer.Bad line fault) → tree.tableau_verdict problem.now (the_moves moves.now) ≡ tree.tableau_rejected line fault }
 {
-    let resolved = resolve(alloc, problem, moves)?;
-    let verdict = verdict_of(alloc, moves.limit, &resolved)?;
+    let verdict = judge(alloc, problem, moves)?;
     match verdict {
         TableauVerdict::Rejected { line, fault } => Err(TableauParse::Bad { line, fault }),
         TableauVerdict::Accepted => {
+            let resolved = resolve(alloc, problem, moves)?;
             let tableau = tableau_from(alloc, resolved)?;
             Ok(tableau)
         }

@@ -1,6 +1,6 @@
 //! The moves with their instances.
 
-ghost use Rattle.std.specs.Prelude.{◌≡◌, ℕ, List, map, IfOk, IfSome, Some, true};
+ghost use Rattle.std.specs.Prelude.{◌≡◌, ◌+◌, ℕ, List, map, IfOk, IfSome, Some, true};
 ghost use Rattle.std.specs.Option.{option_map};
 ghost use Rattle.std.specs.List.{list_all};
 ghost use Rattle.calculus.specs.Skolem.{is_admitted_value};
@@ -49,14 +49,19 @@ pub enum Closer {
     Extension { place: u32, outcome: Outcome },
 }
 
-/// The moves with their instances, the table that these name, and whether no string is longer than all
-/// instances have nu and pi steps.
+/// The moves with their instances, and the table that these name.
 #[derive(Drop)]
 pub struct Resolved {
     pub table: GroundTable,
     pub start: Outcome,
     pub closers: Vec<Closer>,
-    pub short: bool,
+}
+
+/// The steps so far with those of one more instance.
+pub fn steps_with(steps: u64, more: u64) -> u64
+    ensures { result ≡ capped (steps + more) }
+{
+    steps.saturating_add(more)
 }
 
 fn none() -> Found
@@ -122,8 +127,8 @@ fn judged(
     }
 }
 
-// The instance, whose new lists are put into the table.
-fn find(
+/// The instance, whose new lists are put into the table.
+pub fn find(
     alloc: Global,
     problem: &SizedProblem,
     given: &GroundTable,
@@ -158,8 +163,8 @@ fn extension(place: u32, found: Found) -> (Closer, u64)
     (closer, found.steps)
 }
 
-// The move with its instance, and the number of the instance's steps.
-fn closer_of(
+/// The move with its instance, and the number of the instance's steps.
+pub fn closer_of(
     alloc: Global,
     problem: &SizedProblem,
     given: &GroundTable,
@@ -226,7 +231,8 @@ fn are_all_within(moves: &Moves, steps: u64) -> bool
     true
 }
 
-fn are_short(problem: &SizedProblem, moves: &Moves, steps: u64) -> bool
+/// Whether no string is longer than all instances have nu and pi steps.
+pub fn are_short(problem: &SizedProblem, moves: &Moves, steps: u64) -> bool
     requires { steps ≡ capped (total_steps problem.now (bare_instances (the_moves moves.now))) }
     ensures { result ≡ strings_are_short problem.now (bare_instances (the_moves moves.now)) }
 {
@@ -236,8 +242,8 @@ fn are_short(problem: &SizedProblem, moves: &Moves, steps: u64) -> bool
     }
 }
 
-// The table to which the lists of the instances are added.
-fn table_of(alloc: Global, given: &GroundTable) -> Result<GroundTable, NoMemory>
+/// The table to which the lists of the instances are added.
+pub fn table_of(alloc: Global, given: &GroundTable) -> Result<GroundTable, NoMemory>
     ensures { IfOk result (λ t. IsGrown given.now t) }
 {
     let _count = given.len(); // tells that the table is no longer than one may be
@@ -245,8 +251,7 @@ fn table_of(alloc: Global, given: &GroundTable) -> Result<GroundTable, NoMemory>
     Ok(table)
 }
 
-// The moves with their instances, whose new lists are put into the table, and the number of the
-// steps of these, or the largest number where there are more.
+// The moves with their instances, whose new lists are put into the table.
 fn closers_of(
     alloc: Global,
     problem: &SizedProblem,
@@ -254,19 +259,17 @@ fn closers_of(
     admitted: &[bool],
     table: &mut GroundTable,
     moves: &[Move],
-) -> Result<(Vec<Closer>, u64), NoMemory>
+) -> Result<Vec<Closer>, NoMemory>
     requires admitted { AreAllAdmitted problem.now given.now admitted.now }
     requires grown { IsGrown given.now table.old }
-    ensures { IfOk result (λ r. AreClosers problem.now table.old table.new (map (the_move given.now) moves.now) r.0.items r.1) }
+    ensures { IfOk result (λ v. AreClosers problem.now table.old table.new (map (the_move given.now) moves.now) v.items) }
 {
     let mut closers = Vec::new(alloc);
-    let mut steps: u64 = 0;
     for given_move in moves {
-        let (closer, more) = closer_of(alloc, problem, given, admitted, table, given_move)?;
+        let (closer, _steps) = closer_of(alloc, problem, given, admitted, table, given_move)?;
         closers.push(closer)?;
-        steps = steps.saturating_add(more);
     }
-    Ok((closers, steps))
+    Ok(closers)
 }
 
 // Finds the instances of the moves over a table that begins with the lists of the moves.
@@ -291,7 +294,7 @@ fn resolve_over(
         &moves.start,
     )?;
     let given_moves = moves.moves.as_slice();
-    let (closers, more) = closers_of(
+    let closers = closers_of(
         alloc,
         problem,
         &moves.table,
@@ -299,13 +302,10 @@ fn resolve_over(
         &mut table,
         given_moves,
     )?;
-    let steps = start.steps.saturating_add(more);
-    let short = are_short(problem, moves, steps);
     Ok(Resolved {
         table,
         start: start.outcome,
         closers,
-        short,
     })
 }
 

@@ -1,10 +1,8 @@
-use Rattle.std.proofs.Common.{arith, ap, map, subst, sym, zero-add}
+use Rattle.std.proofs.Common.{arith, ap, map, subst, sym}
 use Rattle.std.specs.List.{AllByRecursion}
 use Rattle.formula_core.proofs.GrownLaws.{grown-both}
-use Rattle.tableau_core.specs.Walks.{capped}
-use Rattle.tableau_text.specs.MovesView.{the_move}
-use Rattle.tableau_cert.specs.Resolving.{IsNormalCloser, moves_steps, the_closer}
-use Rattle.tableau_cert.proofs.FoundLaws.{closers-end, closers-kept, closers-next, steps-end, steps-so_far, steps-whole}
+use Rattle.tableau_cert.specs.Resolving.{IsNormalCloser, the_closer}
+use Rattle.tableau_cert.proofs.FoundLaws.{closers-end, closers-kept, closers-next}
 use Rattle.tableau_cert.proofs.SteppingLaws.{grown-none}
 use Rattle.tableau_cert.proofs.resolving.closers_of.Goals as goal
 
@@ -16,8 +14,6 @@ loop-given_move-init c = let ls = c.args.table.now in record {
   grown = grown-none ls c.requires.grown.most;
   closers = ap (map (the_closer ls)) c.new-closers.ensures.items;
   normal = subst (AllByRecursion (IsNormalCloser ls)) (sym c.new-closers.ensures.items) tt;
-  steps = ap capped (zero-add (moves_steps c.args.problem.now (map (the_move c.args.given.now) c.args.moves.now)));
-  whole = omega arith;
 }
 
 pub loop-given_move-preserved : goal.loop-given_move-preserved
@@ -26,13 +22,10 @@ loop-given_move-preserved c = let P = c.args.problem.now in let given = c.args.g
       grown = grown-both _ _ _ inv.grown k.grown;
       closers = closers-next P given x.table c.closer_of.new.table items x.given_move-index m m (omega arith) c.given_move-item.is x.closers.items c.push.new.self.items c.in_ok-closer.closer k.grown inv.closers inv.normal c.in_ok-push.ensures.items k.closer;
       normal = closers-kept x.table c.closer_of.new.table x.closers.items c.push.new.self.items c.in_ok-closer.closer k.grown inv.normal c.in_ok-push.ensures.items k.normal;
-      steps = steps-so_far P given x.table c.closer_of.new.table items x.given_move-index m m (omega arith) c.given_move-item.is x.steps c.in_ok-closer.more _ _ inv.steps c.saturating_add-steps.ensures k.steps;
-      whole = steps-whole _ _ c.saturating_add-steps.ensures;
     }
 
 pub returns : goal.returns
 returns c = let P = c.args.problem.now in let given = c.args.given.now in let items = c.args.moves.now in let x = c.loop-given_move in record {
   closers = closers-end P given x.table items x.given_move-index x.closers.items x.invariant.closers (omega arith);
-  steps = steps-end P given items x.given_move-index x.steps (moves_steps P (map (the_move given) items)) x.invariant.steps (omega arith) x.invariant.whole;
   grown = x.invariant.grown;
 }
