@@ -132,7 +132,7 @@ refuted Satisfiable "$folder/f.p"
 refuted Satisfiable "$folder/f.p" --logic=intuitionistic
 for logic in d t s4 s5; do refuted Satisfiable "$folder/q.p" "--logic=$logic" --domains=varying; done
 ended 'leancop-szs of a theorem' 0 tools/leancop-szs examples/even.p
-ended 'leancop-szs where no finite structure refutes' 2 tools/leancop-szs --time=2 --logic=intuitionistic examples/intuitionistic/double_negation_shift.p
+ended 'leancop-szs where no finite structure refutes' 2 tools/leancop-szs --time=4 --logic=intuitionistic examples/intuitionistic/double_negation_shift.p
 has 'its status' "$(cat "$folder/answer")" '% SZS status CounterSatisfiable for double_negation_shift.p'
 
 # Why, as a page and in words.

@@ -103,6 +103,37 @@ status_of 'CounterSatisfiable for equal.p' 2 --logic=d "$folder/beside/equal.p"
 unset TPTP
 status_of 'Theorem for two.p' 0 "--root=$folder/tptp" "$folder/beside/two.p"
 
+# What it rests on where no structure is at hand: proved for propositional problems and those with finitely many ground terms.
+rests_on() { # rests_on WHAT WORD..
+    local what="$1"
+    shift
+    same "what $* rests on" "$(tools/leancop-szs --no-structures "$@" | sed -n 2p)" "% $what"
+}
+problem 'fof(c,conjecture,(p => q) => (q => p)).'
+rests_on 'proved: there are truth values at which the formula is false' "$folder/m.p"
+rests_on 'not proved here, but by Wallen: a valid formula has instances that span' --logic=intuitionistic "$folder/m.p"
+printf '%s\n' '#!/bin/sh' 'case $1 in prove) echo "exhausted at limit $LIMIT" && exit 1 ;; esac' "exec '$LEANCOP' \"\$@\"" >"$folder/second"
+export LIMIT=1
+LEANCOP="$folder/second" status_of 'GaveUp for m.p' 1 "$folder/m.p"
+LIMIT=2 LEANCOP="$folder/second" status_of 'CounterSatisfiable for m.p' 1 "$folder/m.p"
+LIMIT=2 LEANCOP="$folder/second" status_of 'GaveUp for m.p' 1 --cut=2 "$folder/m.p"
+problem 'fof(a,axiom,![X]:(p(X) => q(X))). fof(c,conjecture,![X]:(q(X) => p(X))).'
+rests_on 'proved: there is a structure of its ground terms in which the formula is false' "$folder/m.p"
+rests_on 'not proved here, but by Herbrand: a valid formula has instances that span' examples/quantifiers.p
+while read -r class; do
+    IFS=$'\t' read -r wanted text <<<"$class"
+    problem "fof(c,conjecture,$text)."
+    same "the class of $text" "$(tools/decided_class.py "$folder/m.p")" "$wanted"
+done <<'END'
+propositional 3	(p <=> q) | ~r
+ground	![X]: (p(X,a) => ?[Y]: p(Y,b))
+ground	![X,Y]: p(X,Y)
+	?[X]: ![Y]: p(X,Y)
+	(![X]: ?[Y]: p(X,Y)) => p(a,a)
+	p(f(a))
+	![X]: X = a
+END
+
 # What stands between the output lines is the derivation.
 tools/leancop-szs - <examples/even.p >"$folder/szs"
 same 'standard input' "$(head -n 1 "$folder/szs")" '% SZS status Theorem for stdin'
