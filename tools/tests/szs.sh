@@ -120,18 +120,17 @@ LIMIT=2 LEANCOP="$folder/second" status_of 'GaveUp for m.p' 1 --cut=2 "$folder/m
 problem 'fof(a,axiom,![X]:(p(X) => q(X))). fof(c,conjecture,![X]:(q(X) => p(X))).'
 rests_on 'proved: there is a structure of its ground terms in which the formula is false' "$folder/m.p"
 rests_on 'not proved here, but by Herbrand: a valid formula has instances that span' examples/quantifiers.p
-while read -r class; do
-    IFS=$'\t' read -r wanted text <<<"$class"
+while IFS=: read -r wanted text; do
     problem "fof(c,conjecture,$text)."
     same "the class of $text" "$(tools/decided_class.py "$folder/m.p")" "$wanted"
 done <<'END'
-propositional 3	(p <=> q) | ~r
-ground	![X]: (p(X,a) => ?[Y]: p(Y,b))
-ground	![X,Y]: p(X,Y)
-	?[X]: ![Y]: p(X,Y)
-	(![X]: ?[Y]: p(X,Y)) => p(a,a)
-	p(f(a))
-	![X]: X = a
+propositional 3:(p <=> q) | ~r
+ground:![X]: (p(X,a) => ?[Y]: p(Y,b))
+ground:![X,Y]: p(X,Y)
+:?[X]: ![Y]: p(X,Y)
+:(![X]: ?[Y]: p(X,Y)) => p(a,a)
+:p(f(a))
+:![X]: X = a
 END
 
 # What stands between the output lines is the derivation.
