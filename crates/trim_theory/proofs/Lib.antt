@@ -1,6 +1,6 @@
 -- How this crate is proved.
 --
--- **Carried by** `FoundLaws.is_trim-found`: what three walks over the steps find is a derivation of the same problem with the same limit,
+-- Carried by `FoundLaws.is_trim-found`: what three walks over the steps find is a derivation of the same problem with the same limit,
 -- which can be printed where the given one can, has no more steps and no more axioms, only the names that its steps mention, and no idle
 -- step.
 --

@@ -1,0 +1,2 @@
+-- the state of the walk
+pub mod MarkingView
