@@ -1,0 +1,2 @@
+-- the branch of the walk that tells how each step goes on
+pub mod BranchView
