@@ -95,13 +95,12 @@ while IFS=$'\t' read -r _ _ words; do
 done <examples/expected.tsv
 
 # Pages as readers see them are looked at beside what follows.
-"$LEANCOP" prove examples/pelletier46.p >"$folder/long.txt"
 if command -v chromium >/dev/null && command -v node >/dev/null; then
     mkdir "$folder/pages"
     "$LEANCOP" prove examples/pigeonhole3.p >"$folder/pigeonhole3.txt"
     tools/leancop-view examples/even.p "$folder/even.txt" >"$folder/pages/even.html"
     tools/leancop-view examples/pigeonhole3.p "$folder/pigeonhole3.txt" >"$folder/pages/long.html"
-    tools/leancop-view examples/pelletier46.p "$folder/long.txt" >"$folder/pages/trimmed.html"
+    tools/leancop-view examples/pelletier46.p tools/tests/texts/pelletier46_idle.txt >"$folder/pages/trimmed.html"
     tools/leancop-view examples/modal/converse_barcan.p "$folder/d.txt" >"$folder/pages/worlds.html"
     tools/leancop-view examples/drinker.p tools/tests/texts/drinker_tableau.txt >"$folder/pages/tableau.html"
     tools/leancop-view examples/modal/barcan.p examples/structures/barcan.s4.cumulative.txt >"$folder/pages/structure.html"
@@ -145,10 +144,13 @@ The formula has no function s with 2 arguments; it has zero, s with 1 argument. 
 From column 5 on it is not in its form. 1'
     begin mutants node tools/tests/mutants.js tools/leancop-view.html 500 "$folder/gallery"
 
-    # What the page shows of a derivation without idle steps is a derivation.
-    reads --trim "$folder/long.txt" >"$folder/trimmed.txt"
+    # What the page shows of a derivation without idle steps is a derivation, with the steps that the program leaves.
+    idle=tools/tests/texts/pelletier46_idle.txt
+    reads --trim "$idle" >"$folder/trimmed.txt"
     same 'a derivation without idle steps' "$("$LEANCOP" check examples/pelletier46.p "$folder/trimmed.txt")" accepted
-    same 'its steps' "$(grep -cE '^(use|axiom)' "$folder/trimmed.txt") of $(grep -cE '^(use|axiom)' "$folder/long.txt")" '59 of 735'
+    same 'its steps' "$(grep -cE '^(use|axiom)' "$folder/trimmed.txt") of $(grep -cE '^(use|axiom)' "$idle")" '59 of 735'
+    same 'the steps that the program leaves' "$(grep -E '^(use|axiom)' "$folder/trimmed.txt")" \
+        "$("$LEANCOP" prove examples/pelletier46.p | grep -E '^(use|axiom)')"
 
     # What is drawn of a text that a reader pastes has no element of the text.
     got="$(reads --draw "$folder/names.txt")"

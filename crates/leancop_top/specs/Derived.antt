@@ -1,8 +1,9 @@
 -- What is said of a derivation that is printed, or accepted.
-use Rattle.std.specs.Prelude.{◌≡◌, ℕ, List}
+use Rattle.std.specs.Prelude.{◌≡◌, ℕ, List, IsTrue}
 use Rattle.calculus.specs.Syntax.{Problem}
 use Rattle.calculus.specs.Derivations.{Derivation}
 use Rattle.calculus.specs.Calculus.{Derives}
+use Rattle.calculus.specs.DerivationText.{is_printable}
 use Rattle.calculus.specs.Judgement.{accepted}
 use Rattle.calculus.specs.Propositional.{IsPropositional, IsTautology}
 use Rattle.calculus.specs.Soundness.{IsTrueInStructures}
@@ -10,6 +11,7 @@ use Rattle.calculus.specs.Tableaux.{HasClosed}
 use Rattle.calculus.specs.Versions.{IsTextIn}
 use Rattle.calculus.specs.declared.version.Version.{Version}
 use Rattle.derivation_check.specs.Only.{IsOnlyVersionJudgement}
+use Rattle.trim_theory.specs.Trims.{IsTrim}
 
 -- some tableau is closed within some limit
 abbrev pub HasTableau : Problem → Type 0
@@ -32,3 +34,16 @@ pub record IsDerivation (version : Version) (P : Problem) (limit : ℕ) (bytes :
   pub text : IsTextIn version P derivation bytes
   pub judged : IsOnlyVersionJudgement P bytes accepted
   pub theorem : IsTheorem P
+
+-- the same of a derivation each step of which is needed: an entry that it adds is referred to below
+-- it, and on each side of a fork the one that it adds there
+pub record IsTrimmedDerivation (version : Version) (P : Problem) (limit : ℕ) (bytes : List ℕ) : Type 0 where
+  pub printed : IsDerivation version P limit bytes
+  pub trim : IsTrim P printed.derivation
+
+-- what is printed: it derives the problem, carries the limit, and each of its steps is needed
+pub record IsTrimmed (P : Problem) (limit : ℕ) (d : Derivation) : Type 0 where
+  pub derives : Derives P d
+  pub printable : IsTrue (is_printable P d)
+  pub carries : d.limit ≡ limit
+  pub trim : IsTrim P d

@@ -162,7 +162,8 @@ fn answers(
 }
 
 // In the third formula the only extension is irregular, and in the fourth no term makes both goals
-// equal. The fifth asks for ever longer paths.
+// equal. The fifth asks for ever longer paths. In the last one the step on F r, to a new world, adds
+// nothing that is used below it, so it is left out, and the entries behind it have lower numbers.
 const CONJECTURES: &[(&[u8], &str, u8, &[u8])] = &[
     (
         b"p => p",
@@ -194,6 +195,12 @@ const CONJECTURES: &[(&[u8], &str, u8, &[u8])] = &[
         "--steps=1",
         3,
         b"steps ended after limit 0 at 1 steps\n",
+    ),
+    (
+        b"(r & q) => r",
+        "--logic=intuitionistic",
+        0,
+        b"leancop derivation 1\nlogic intuitionistic\nformula ((r & q) => r)\nlimit 1\nuse 1 new $$c2\nuse 2\naxiom 4 3\nend\n",
     ),
 ];
 

@@ -7,7 +7,7 @@ use Rattle.calculus.specs.Syntax.{Problem}
 use Rattle.calculus.specs.Tableaux.{Tableau}
 use Rattle.calculus.specs.TableauText.{tableau_rejected}
 use Rattle.command_line.specs.Table.{Word}
-use Rattle.leancop_top.specs.Derived.{IsDerivation}
+use Rattle.leancop_top.specs.Derived.{IsTrimmedDerivation}
 use Rattle.leancop_top.specs.SecondFile.{FetchEnds}
 use Rattle.leancop_top.specs.Statuses.{status_line}
 use Rattle.leancop_top.specs.TableauTexts.{IsTableauIn, IsTableauJudgedIn}
@@ -21,7 +21,7 @@ pub record IsConvertedIn (told : Option Files) (P : Problem) (name : Word) (byte
   pub given : Tableau
   pub limit : ℕ
   pub accepted : IsTableauIn told P name given limit
-  pub written : IsDerivation One P limit bytes
+  pub written : IsTrimmedDerivation One P limit bytes
 
 -- why it ends with a status for the problem that is read, and what is written
 pub data ConvertEnds (told : Option Files) (P : Problem) (name : Word) : Status → List ℕ → Type 0 where

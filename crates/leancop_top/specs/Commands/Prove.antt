@@ -7,7 +7,7 @@ use Rattle.calculus.specs.Tableaux.{HasClosed}
 use Rattle.command_line.specs.CommandLine.{Bounds, ProblemFile}
 use Rattle.calculus.specs.declared.version.Version.{Version}
 use Rattle.decision_theory.specs.Decision.{proposition_count}
-use Rattle.leancop_top.specs.Derived.{IsDerivation}
+use Rattle.leancop_top.specs.Derived.{IsTrimmedDerivation}
 use Rattle.leancop_top.specs.Reading.{Reading}
 use Rattle.leancop_top.specs.Statuses.{status_line}
 use Rattle.leancop_top.specs.TableauSearch.{IsLimit, SearchEnds, Suffices, SufficesForCut}
@@ -20,7 +20,7 @@ pub record IsDerived (P : Problem) (b : Bounds) (version : Version) (limit : ℕ
     : Type 0 where
   pub closed : HasClosed P limit
   pub limit_is : IsLimit P b limit
-  pub written : IsDerivation version P limit bytes
+  pub written : IsTrimmedDerivation version P limit bytes
 
 -- why it ends with a status for the problem that is read, and what is written
 pub data ProveEnds (P : Problem) (b : Bounds) (version : Version) : Status → List ℕ → Type 0 where

@@ -7,7 +7,7 @@ ghost use Rattle.calculus.specs.Tableaux.{is_closed};
 ghost use Rattle.command_line.specs.CommandLine as words;
 ghost use Rattle.command_line.specs.CommandView.{the_bounds, the_generated_problem};
 ghost use Rattle.leancop_top.specs.Commands.Make.{IsMade, MakeEnds, made_text, output_of};
-ghost use Rattle.leancop_top.specs.Derived.{IsDerivation};
+ghost use Rattle.leancop_top.specs.Derived.{IsTrimmedDerivation};
 ghost use Rattle.tableau_core.specs.Numbered.TableauView.{the_tableau};
 
 use crate::commands::prove::derivation_text;
@@ -32,7 +32,7 @@ const MAIN: &str = "m.p";
 fn accept(alloc: Global, problem: &Problem, tableau: Tableau, limit: u8) -> Result<(), NoMemory>
     requires closed { IsTrue (is_closed problem.now limit (the_tableau tableau)) }
     requires limit { IsTrue (is_limit limit) }
-    ensures { IfOk result (λ _. (text : List ℕ) × IsDerivation One problem.now limit text) }
+    ensures { IfOk result (λ _. (text : List ℕ) × IsTrimmedDerivation One problem.now limit text) }
 {
     let text = derivation_text(alloc, problem, tableau, limit, Version::One)?;
     match derivation_check::check(alloc, problem, text.as_slice())? {

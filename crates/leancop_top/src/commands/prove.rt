@@ -8,7 +8,7 @@ ghost use Rattle.cop_base.specs.Reads.{ReadsOn};
 ghost use Rattle.command_line.specs.CommandLine.{prove};
 ghost use Rattle.command_line.specs.CommandView.{the_bounds, the_problem_file};
 ghost use Rattle.leancop_top.specs.Commands.Prove.{ProveEnds};
-ghost use Rattle.leancop_top.specs.Derived.{IsDerivation};
+ghost use Rattle.leancop_top.specs.Derived.{IsTrimmed, IsTrimmedDerivation};
 ghost use Rattle.leancop_top.specs.Run.{Ends};
 ghost use Rattle.leancop_top.specs.Statuses.{IsCounted};
 ghost use Rattle.sequent_convert.specs.Conversion.{IsConverted};
@@ -22,6 +22,7 @@ use crate::tableau_search::{Searched, search};
 use command_line::{Bounds, ProblemFile};
 use cop_base::{Library, NoMemory};
 use derivation_text::{Version, print};
+use derivation_trim::trim;
 use logic_rules::Problem;
 use sequent_calc::Derivation;
 use sequent_convert::convert;
@@ -42,7 +43,23 @@ fn derive(
     convert(alloc, problem, &tableau, limit)
 }
 
-/// The text of this version of the derivation to which the tableau leads.
+// Lets the derivation go, which may be large, before the one without idle steps is printed.
+fn derive_trimmed(
+    alloc: Global,
+    problem: &Problem,
+    tableau: Tableau,
+    limit: u8,
+) -> Result<Derivation, NoMemory>
+    requires closed { IsTrue (is_closed problem.now limit (the_tableau tableau)) }
+    requires limit { IsTrue (is_limit limit) }
+    ensures { IfOk result (λ d. IsTrimmed problem.now limit (the_derivation d)) }
+{
+    let derivation = derive(alloc, problem, tableau, limit)?;
+    let trimmed = trim(alloc, problem, &derivation)?;
+    Ok(trimmed)
+}
+
+/// The text of this version of the derivation to which the tableau leads, without its idle steps.
 pub fn derivation_text(
     alloc: Global,
     problem: &Problem,
@@ -52,9 +69,9 @@ pub fn derivation_text(
 ) -> Result<Vec<u8>, NoMemory>
     requires closed { IsTrue (is_closed problem.now limit (the_tableau tableau)) }
     requires limit { IsTrue (is_limit limit) }
-    ensures { IfOk result (λ text. IsDerivation version problem.now limit text.items) }
+    ensures { IfOk result (λ text. IsTrimmedDerivation version problem.now limit text.items) }
 {
-    let derivation = derive(alloc, problem, tableau, limit)?;
+    let derivation = derive_trimmed(alloc, problem, tableau, limit)?;
     let text = print(alloc, problem, &derivation, version)?;
     let _symbols = problem.symbols(); // tells that it is a problem
     Ok(text)

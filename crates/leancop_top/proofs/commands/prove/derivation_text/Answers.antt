@@ -10,10 +10,13 @@ returns c =
     let text = c.in_ok-text.ensures.text in
     let well = c.symbols-symbols.ensures.well in
     record {
-      derivation = d;
-      carries = converted.carries;
-      derives = converted.derives;
-      text = text;
-      judged = accepted-in c.args.problem.now well c.args.version d c.in_ok-text.text.items text converted.derives;
-      theorem = derived-theorem c.args.problem.now well d converted.printable converted.derives;
+      printed = record {
+        derivation = d;
+        carries = converted.carries;
+        derives = converted.derives;
+        text = text;
+        judged = accepted-in c.args.problem.now well c.args.version d c.in_ok-text.text.items text converted.derives;
+        theorem = derived-theorem c.args.problem.now well d converted.printable converted.derives;
+      };
+      trim = converted.trim;
     }
