@@ -1,14 +1,14 @@
 -- Where the problem of files is true in a structure in which `=` is identity, the conjecture follows from the premises there.
 use Rattle.std.proofs.Common.{◌≡◌, List, [], ◌∷◌, ◌++◌, length, Bool, true, false, not, ◌&&◌, IsTrue, refl, sym, ◌∙◌, ap, subst, Option, None, Some, Result, Ok, Err, nat_lt, if◌then◌else◌}
 use Rattle.std.specs.List.{list_all, list_any}
-use Rattle.std.proofs.lemmas.Bool.{and_from}
+use Rattle.std.proofs.lemmas.Bool.{and_from, and_parts}
 use Rattle.std.proofs.lemmas.List.Folds.{list_all-append}
 use Rattle.calculus.specs.declared.setting.Logic.{Logic}
 use Rattle.calculus.specs.Equality.{symbol_eq}
 use Rattle.calculus.specs.Measures.{node_count}
-use Rattle.calculus.specs.Problems.{is_modal, greatest_nodes, greatest_symbols}
+use Rattle.calculus.specs.Problems.{is_modal, setting_fits, greatest_nodes, greatest_symbols}
 use Rattle.calculus.specs.Syntax.{Symbol, Term, Formula, neg, conj, imp, Setting, Problem}
-use Rattle.calculus.specs.Models.{Model, IsWorld, IsModel}
+use Rattle.calculus.specs.Models.{Model, IsWorld, IsIn, IsModel}
 use Rattle.cop_base.specs.Outside.{Files}
 use Rattle.tptp_reader.specs.Sources.{Name}
 use Rattle.problem_build.specs.Refusals.{Refusal, formula_too_large, nesting_too_deep, too_many_symbols}
@@ -18,11 +18,14 @@ use Rattle.problem_build.specs.Expansion.{closed, equality_symbol}
 use Rattle.problem_build.specs.EqualityAxioms.{equality_axioms}
 use Rattle.problem_build.specs.Building.{are_flat, axioms_of, conjectures, formulas_of, limited, no_formula, premises, premises_of, problem_formula, problem_of, sized, symbols_of, IsExactReader, IsProblemOf}
 use Rattle.problem_build.proofs.BalanceLaws.{balanced-balanced}
-use Rattle.source_theory.specs.SourceTruth.{AreAlike, IsTrueClosed}
+use Rattle.source_theory.specs.SourceTruth.{AreAlike, IsTrueForAll}
 use Rattle.source_theory.specs.Following.{HasIdentity, AllAreTrue, FirstIsTrue, FollowsAt, MeansItems}
-use Rattle.source_theory.proofs.TruthLaws.{and-says, lasts-now}
+use Rattle.source_theory.proofs.TruthLaws.{alike, and-says, lasts-now}
 use Rattle.source_theory.proofs.ConnectiveLaws.{IsFor, is_true_in, itself, neg-means, imp-means, conjunction-all}
 use Rattle.source_theory.proofs.SourceLaws.{closed-means}
+use Rattle.source_theory.proofs.FreeLaws.{Grows, grows-in}
+use Rattle.source_theory.proofs.LastingLaws.{universal}
+use Rattle.source_theory.proofs.WellLaws.{is_well_passed, walk-well, kept-well}
 use Rattle.source_theory.proofs.EqualityTruth.{equality_axioms-true}
 
 -- ---- the problem that comes
@@ -73,7 +76,7 @@ abbrev FirstPasses : (Formula → Bool) → List Formula → Type 0
 FirstPasses test [] = ⊥
 FirstPasses test (c ∷ cs) = IsTrue (test c)
 
-module _ {W E : Type 0} (l : Logic) (M : Model W E) (symbols : List Symbol) (S : IsFor l M symbols) (names : Term → E) where
+module _ {W E : Type 0} (l : Logic) (M : Model W E) (symbols : List Symbol) (S : IsFor l M symbols) (names : Term → E) (grows : Grows l M) (inhabited : (w : W) → IsWorld M w → (x : E) × IsIn M w x) where
   formula-follows : (ps cs : List Formula) (f : Formula) → problem_formula ps cs ≡ Some f → (w : W) → IsWorld M w → IsTrue (M.truth names f [] w)
       → IsTrue (list_all (is_true_in M names [] w) ps) → FirstPasses (is_true_in M names [] w) cs
   formula-follows [] [] f e w at h all = absurd (subst IsNothing e tt)
@@ -93,14 +96,22 @@ module _ {W E : Type 0} (l : Logic) (M : Model W E) (symbols : List Symbol) (S :
 
   -- ---- items
 
-  items-mean : (items : List Passed) (w : W) → IsWorld M w → AreAlike (IsTrue (list_all (is_true_in M names [] w) (formulas_of symbols items))) (AllAreTrue l M symbols items w)
-  items-mean [] w at = (λ e. tt, λ u. refl)
-  items-mean (p ∷ ps) w at =
-      and-says (is_true_in M names [] w (closed symbols p.body)) (list_all (is_true_in M names [] w) (formulas_of symbols ps)) (closed-means l M symbols S names p.body w at) (items-mean ps w at)
+  body-means : (p : Passed) → IsTrue (is_well_passed (is_modal l) p) → (w : W) → IsWorld M w → AreAlike (IsTrue (is_true_in M names [] w (closed symbols p.body))) (IsTrueForAll l M symbols p.body w)
+  body-means p well w at =
+      alike (closed-means l M symbols S names p.body w at) (universal l M symbols S.steps S.relation grows p.body well w at (inhabited w at).0 (inhabited w at).1)
 
-  first-means : (items : List Passed) (w : W) → IsWorld M w → FirstPasses (is_true_in M names [] w) (formulas_of symbols items) → FirstIsTrue l M symbols items w
-  first-means [] w at h = h
-  first-means (p ∷ ps) w at h = (closed-means l M symbols S names p.body w at).0 h
+  items-mean : (items : List Passed) → IsTrue (list_all (is_well_passed (is_modal l)) items) → (w : W) → IsWorld M w
+      → AreAlike (IsTrue (list_all (is_true_in M names [] w) (formulas_of symbols items))) (AllAreTrue l M symbols items w)
+  items-mean [] well w at = (λ e. tt, λ u. refl)
+  items-mean (p ∷ ps) well w at =
+      let parts = and_parts (is_well_passed (is_modal l) p) (list_all (is_well_passed (is_modal l)) ps) well in
+      and-says (is_true_in M names [] w (closed symbols p.body)) (list_all (is_true_in M names [] w) (formulas_of symbols ps)) (body-means p parts.0 w at) (items-mean ps parts.1 w at)
+
+  first-means : (items : List Passed) → IsTrue (list_all (is_well_passed (is_modal l)) items) → (w : W) → IsWorld M w
+      → FirstPasses (is_true_in M names [] w) (formulas_of symbols items) → FirstIsTrue l M symbols items w
+  first-means [] well w at h = h
+  first-means (p ∷ ps) well w at h =
+      (body-means p (and_parts (is_well_passed (is_modal l) p) (list_all (is_well_passed (is_modal l)) ps) well).0 w at).0 h
 
   axioms-true : (setting : Setting) (w : W) → IsWorld M w → IsTrue (list_all (is_true_in M names [] w) (axioms_of setting symbols))
   axioms-true setting w at = by (not (is_modal setting.logic) && list_any (symbol_eq equality_symbol) symbols)
@@ -109,14 +120,14 @@ module _ {W E : Type 0} (l : Logic) (M : Model W E) (symbols : List Symbol) (S :
       by true = equality_axioms-true l M symbols S names w at
       by false = refl
 
-  pub problem-follows : (setting : Setting) (items : List Passed) (f : Formula) → problem_formula (premises_of setting symbols items) (formulas_of symbols (conjectures items)) ≡ Some f
+  pub problem-follows : (setting : Setting) (items : List Passed) → IsTrue (list_all (is_well_passed (is_modal l)) items) → (f : Formula) → problem_formula (premises_of setting symbols items) (formulas_of symbols (conjectures items)) ≡ Some f
       → (w : W) → IsWorld M w → IsTrue (M.truth names f [] w) → FollowsAt l M symbols items w
-  problem-follows setting items f e w at h given =
+  problem-follows setting items well f e w at h given =
       let test = is_true_in M names [] w in
-      first-means (conjectures items) w at
+      first-means (conjectures items) (kept-well (is_modal l) (λ (p : Passed). p.is_conjecture) items well) w at
       (formula-follows (premises_of setting symbols items) (formulas_of symbols (conjectures items)) f e w at h
        (list_all-append test (axioms_of setting symbols) (formulas_of symbols (premises items))
-        ∙ and_from (list_all test (axioms_of setting symbols)) (list_all test (formulas_of symbols (premises items))) (axioms-true setting w at) ((items-mean (premises items) w at).1 given)))
+        ∙ and_from (list_all test (axioms_of setting symbols)) (list_all test (formulas_of symbols (premises items))) (axioms-true setting w at) ((items-mean (premises items) (kept-well (is_modal l) (λ (p : Passed). not p.is_conjecture) items well) w at).1 given)))
 
 -- ---- structures
 
@@ -124,8 +135,8 @@ pub fit-structure : {W E : Type 0} (P : Problem) (M : Model W E) → IsModel P M
 fit-structure P M model identity = record { steps = model.successors; relation = model.relation; tells = model.truth; identity = identity }
 
 -- a problem of files means what the items that pass do
-pub means_items : {W E : Type 0} (files : Files) (name root : Name) (setting : Setting) (P : Problem) → IsProblemOf files name root setting (Ok P) → MeansItems W E files name root P
-means_items {W} {E} files name root setting P h =
+pub means_items : {W E : Type 0} (files : Files) (name root : Name) (setting : Setting) (P : Problem) → IsTrue (setting_fits P.setting.logic P.setting.domains) → IsProblemOf files name root setting (Ok P) → MeansItems W E files name root P
+means_items {W} {E} files name root setting P fits h =
     let reached = went-on (walk h.0 files name root) (λ w. problem_of (no_formula files name) setting w.progress.passed) P h.2 in
     let items : List Passed = reached.0.progress.passed in
     let parts : Comes setting (symbols_of items) (problem_formula (premises_of setting (symbols_of items) items) (formulas_of (symbols_of items) (conjectures items))) (Ok P) =
@@ -133,11 +144,13 @@ means_items {W} {E} files name root setting P h =
         (limited-comes (no_formula files name) setting (symbols_of items) (premises_of setting (symbols_of items) items) (formulas_of (symbols_of items) (conjectures items))) in
     let made : problem_formula (premises_of P.setting P.symbols items) (formulas_of P.symbols (conjectures items)) ≡ Some P.formula =
         (λ i. problem_formula (premises_of (parts.1 i) (parts.2 i) items) (formulas_of (parts.2 i) (conjectures items))) ∙ parts.0 in
+    let exact : IsExactReader (is_modal P.setting.logic) h.0 = subst (λ (s : Setting). IsExactReader (is_modal s.logic) h.0) (sym parts.1) h.1 in
+    let well = walk-well (is_modal P.setting.logic) h.0 exact files name root reached.0 reached.1 in
     let true_there : (M : Model W E) → IsModel P M → HasIdentity M P.symbols → (names : Term → E) → IsTrue (M.truth names P.formula [] M.root) → FollowsAt P.setting.logic M P.symbols items M.root =
-        λ M model identity names holds. problem-follows P.setting.logic M P.symbols (fit-structure P M model identity) names P.setting items P.formula made M.root model.root holds in
+        λ M model identity names holds. problem-follows P.setting.logic M P.symbols (fit-structure P M model identity) names (grows-in P.setting.logic P.setting.domains M fits model.domains) model.inhabited P.setting items well P.formula made M.root model.root holds in
     record {
       read = h.0;
-      exact = subst (λ (s : Setting). IsExactReader (is_modal s.logic) h.0) (sym parts.1) h.1;
+      exact = exact;
       reached = reached.0;
       walked = reached.1;
       where_true = true_there;

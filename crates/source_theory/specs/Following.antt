@@ -10,7 +10,7 @@ use Rattle.tptp_reader.specs.Sources.{Name}
 use Rattle.problem_build.specs.Expansion.{equality_symbol, number_of}
 use Rattle.problem_build.specs.Walk.{Passed, Reader, Walked, walk}
 use Rattle.problem_build.specs.Building.{IsExactReader, premises, conjectures}
-use Rattle.source_theory.specs.SourceTruth.{AreAlike, IsTrueClosed}
+use Rattle.source_theory.specs.SourceTruth.{AreAlike, IsTrueForAll}
 
 -- `=` is identity at each world
 abbrev pub HasIdentity : {W E : Type 0} → Model W E → List Symbol → Type 0
@@ -19,12 +19,12 @@ HasIdentity {W} {E} M symbols =
 
 abbrev pub AllAreTrue : {W E : Type 0} → Logic → Model W E → List Symbol → List Passed → W → Type 0
 AllAreTrue l M symbols [] w = Unit {0}
-AllAreTrue l M symbols (p ∷ ps) w = IsTrueClosed l M symbols p.body w × AllAreTrue l M symbols ps w
+AllAreTrue l M symbols (p ∷ ps) w = IsTrueForAll l M symbols p.body w × AllAreTrue l M symbols ps w
 
 -- of a list with at most one formula: it is true, and there is one
 abbrev pub FirstIsTrue : {W E : Type 0} → Logic → Model W E → List Symbol → List Passed → W → Type 0
 FirstIsTrue l M symbols [] w = ⊥
-FirstIsTrue l M symbols (p ∷ ps) w = IsTrueClosed l M symbols p.body w
+FirstIsTrue l M symbols (p ∷ ps) w = IsTrueForAll l M symbols p.body w
 
 -- where all premises are true the conjecture is; where there is none, not all premises are true
 abbrev pub FollowsAt : {W E : Type 0} → Logic → Model W E → List Symbol → List Passed → W → Type 0
