@@ -22,7 +22,7 @@ struct Run {
     output: Vec<u8>,
 }
 
-// The output could not be written, for want of memory, or memory ended before.
+// The output could not be written, which in memory is for want of it alone, or memory ended before.
 fn is_lost(status: &Status) -> bool
     ensures { result ≡ is_lost status.now }
 {
