@@ -3,8 +3,8 @@ use Rattle.std.proofs.Common.{◌≡◌, ◌⊎◌, List, [], ◌∷◌, Bool, t
 use Rattle.std.specs.List.{list_all, list_any}
 use Rattle.std.proofs.lemmas.List.Folds.{list_all-append, list_any-append}
 use Rattle.calculus.specs.declared.setting.Logic.{Logic}
-use Rattle.calculus.specs.Syntax.{Symbol, Term, no_terms, more_terms, Formula, atom, neg, conj, disj, imp, all, ex, box, dia}
-use Rattle.calculus.specs.Models.{Model, IsWorld, Reaches, IsIn, value_by, values_by, HasTruth, RelationFits}
+use Rattle.calculus.specs.Syntax.{Symbol, Term, no_terms, Formula, atom, neg, conj, disj, imp, all, ex, box, dia}
+use Rattle.calculus.specs.Models.{Model, IsWorld, Reaches, IsIn, value_by, HasTruth, RelationFits}
 use Rattle.tptp_reader.specs.declared.source.BinaryKind.{BinaryKind}
 use Rattle.tptp_reader.specs.declared.source.BinaryKind.TheVariants.{Imp, If, Iff, Xor, Nor, Nand}
 use Rattle.problem_build.specs.Balance.{IsBalanced, one, halves}
@@ -84,12 +84,13 @@ module _ {W E : Type 0} (l : Logic) (M : Model W E) (symbols : List Symbol) (S :
   -- ---- the connectives of TPTP
 
   pub truth-means : (env : List E) → Says M names (true_formula symbols) env (λ w. Unit {0})
-  truth-means env w at =
-      (λ h. tt,
-       λ h. (imp-means (atom (number_of symbols truth_symbol) no_terms) (atom (number_of symbols truth_symbol) no_terms) env
-            (λ v. IsTrue (M.truth names (atom (number_of symbols truth_symbol) no_terms) env v)) (λ v. IsTrue (M.truth names (atom (number_of symbols truth_symbol) no_terms) env v))
-            (itself (atom (number_of symbols truth_symbol) no_terms) env) (itself (atom (number_of symbols truth_symbol) no_terms) env) w at).1
-            (lasts-there l M S.steps (λ v. IsTrue (M.truth names (atom (number_of symbols truth_symbol) no_terms) env v) → IsTrue (M.truth names (atom (number_of symbols truth_symbol) no_terms) env v)) (λ v there x. x) w at))
+  truth-means env w at = (
+    λ h. tt,
+    λ h. (imp-means (atom (number_of symbols truth_symbol) no_terms) (atom (number_of symbols truth_symbol) no_terms) env
+        (λ v. IsTrue (M.truth names (atom (number_of symbols truth_symbol) no_terms) env v)) (λ v. IsTrue (M.truth names (atom (number_of symbols truth_symbol) no_terms) env v))
+        (itself (atom (number_of symbols truth_symbol) no_terms) env) (itself (atom (number_of symbols truth_symbol) no_terms) env) w at).1
+        (lasts-there l M S.steps (λ v. IsTrue (M.truth names (atom (number_of symbols truth_symbol) no_terms) env v) → IsTrue (M.truth names (atom (number_of symbols truth_symbol) no_terms) env v)) (λ v there x. x) w at),
+  )
 
   pub falsity-means : (env : List E) → Says M names (neg (true_formula symbols)) env (λ w. ⊥)
   falsity-means env w at =
@@ -99,8 +100,8 @@ module _ {W E : Type 0} (l : Logic) (M : Model W E) (symbols : List Symbol) (S :
   equality-means s t env w at =
       alike
       (lasts-says l M S.steps (λ v. M.holds (number_of symbols equality_symbol) v (value_by M names env s ∷ value_by M names env t ∷ [])) (λ v. value_by M names env s ≡ value_by M names env t)
-       (λ v there. S.identity v there (value_by M names env s) (value_by M names env t)) w at
-       (M.truth names (equality_atom symbols s t) env w) (S.tells names (equality_atom symbols s t) env w))
+      (λ v there. S.identity v there (value_by M names env s) (value_by M names env t)) w at
+      (M.truth names (equality_atom symbols s t) env w) (S.tells names (equality_atom symbols s t) env w))
       (lasts-always l M S.relation (value_by M names env s ≡ value_by M names env t) w at)
 
   pub unequal-means : (s t : Term) (env : List E) → Says M names (neg (equality_atom symbols s t)) env (λ w. ¬ (value_by M names env s ≡ value_by M names env t))

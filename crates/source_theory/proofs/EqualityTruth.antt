@@ -7,7 +7,7 @@ use Rattle.calculus.specs.declared.setting.Logic.{Logic}
 use Rattle.calculus.specs.declared.symbol.SymbolClass.{SymbolClass}
 use Rattle.calculus.specs.declared.symbol.SymbolClass.TheVariants.{Function, Predicate, Equality, Truth}
 use Rattle.calculus.specs.Lists.{terms_tree}
-use Rattle.calculus.specs.Syntax.{Symbol, Term, Terms, var, fun, Formula, atom, conj, imp, all}
+use Rattle.calculus.specs.Syntax.{Symbol, Term, Terms, var, fun, Formula, atom, conj, imp}
 use Rattle.calculus.specs.Models.{Model, IsWorld, values_by}
 use Rattle.problem_build.specs.Balance.{balanced}
 use Rattle.problem_build.specs.Expansion.{equality_atom}
@@ -31,20 +31,20 @@ module _ {W E : Type 0} (l : Logic) (M : Model W E) (symbols : List Symbol) (S :
   all-times-true zero f each env w at = each env w at
   all-times-true (suc n) f each env w at =
       (all-means l M symbols S names (for_all_times n f) env (λ x v. IsTrue (M.truth names (for_all_times n f) (x ∷ env) v))
-       (λ x. itself l M symbols S names (for_all_times n f) (x ∷ env)) w at).1
+      (λ x. itself l M symbols S names (for_all_times n f) (x ∷ env)) w at).1
       (lasts_for_each-there l M S.steps (λ x v. IsTrue (M.truth names (for_all_times n f) (x ∷ env) v)) (λ x v there. all-times-true n f each (x ∷ env) v there) w at)
 
   implied-true : (f g : Formula) (env : List E) → ((w : W) → IsWorld M w → IsTrue (M.truth names f env w) → IsTrue (M.truth names g env w))
       → (w : W) → IsWorld M w → IsTrue (M.truth names (imp f g) env w)
   implied-true f g env each w at =
       (imp-means l M symbols S names f g env (λ v. IsTrue (M.truth names f env v)) (λ v. IsTrue (M.truth names g env v))
-       (itself l M symbols S names f env) (itself l M symbols S names g env) w at).1
+      (itself l M symbols S names f env) (itself l M symbols S names g env) w at).1
       (lasts-there l M S.steps (λ v. IsTrue (M.truth names f env v) → IsTrue (M.truth names g env v)) each w at)
 
   both-true : (f g : Formula) (env : List E) (w : W) → IsWorld M w → IsTrue (M.truth names (conj f g) env w) → IsTrue (M.truth names f env w) × IsTrue (M.truth names g env w)
   both-true f g env w at h =
       (conj-means l M symbols S names f g env (λ v. IsTrue (M.truth names f env v)) (λ v. IsTrue (M.truth names g env v))
-       (itself l M symbols S names f env) (itself l M symbols S names g env) w at).0 h
+      (itself l M symbols S names f env) (itself l M symbols S names g env) w at).0 h
 
   -- ---- an equivalence
 
@@ -56,17 +56,17 @@ module _ {W E : Type 0} (l : Logic) (M : Model W E) (symbols : List Symbol) (S :
   symmetry-true w at =
       all-times-true 2 (imp (equality_atom symbols (var 1) (var 0)) (equality_atom symbols (var 0) (var 1)))
       (λ env. implied-true (equality_atom symbols (var 1) (var 0)) (equality_atom symbols (var 0) (var 1)) env
-       (λ v there h. (equality-means l M symbols S names (var 0) (var 1) env v there).1 (sym ((equality-means l M symbols S names (var 1) (var 0) env v there).0 h))))
+      (λ v there h. (equality-means l M symbols S names (var 0) (var 1) env v there).1 (sym ((equality-means l M symbols S names (var 1) (var 0) env v there).0 h))))
       [] w at
 
   transitivity-true : (w : W) → IsWorld M w → IsTrue (M.truth names (transitivity symbols) [] w)
   transitivity-true w at =
       all-times-true 3 (imp (conj (equality_atom symbols (var 2) (var 1)) (equality_atom symbols (var 1) (var 0))) (equality_atom symbols (var 2) (var 0)))
       (λ env. implied-true (conj (equality_atom symbols (var 2) (var 1)) (equality_atom symbols (var 1) (var 0))) (equality_atom symbols (var 2) (var 0)) env
-       (λ v there h.
-          let both = both-true (equality_atom symbols (var 2) (var 1)) (equality_atom symbols (var 1) (var 0)) env v there h in
-          (equality-means l M symbols S names (var 2) (var 0) env v there).1
-          ((equality-means l M symbols S names (var 2) (var 1) env v there).0 both.0 ∙ (equality-means l M symbols S names (var 1) (var 0) env v there).0 both.1)))
+      (λ v there h.
+      let both = both-true (equality_atom symbols (var 2) (var 1)) (equality_atom symbols (var 1) (var 0)) env v there h in
+      (equality-means l M symbols S names (var 2) (var 0) env v there).1
+      ((equality-means l M symbols S names (var 2) (var 1) env v there).0 both.0 ∙ (equality-means l M symbols S names (var 1) (var 0) env v there).0 both.1)))
       [] w at
 
   -- ---- equal arguments
@@ -92,10 +92,10 @@ module _ {W E : Type 0} (l : Logic) (M : Model W E) (symbols : List Symbol) (S :
       → (w : W) → IsWorld M w → IsTrue (M.truth names (atom p ts) env w) → IsTrue (M.truth names (atom p us) env w)
   atom-same p ts us env e w at h =
       (lasts-says l M S.steps (λ v. M.holds p v (values_by M names env us)) (λ v. IsTrue (M.holds p v (values_by M names env us))) (λ v there. (λ x. x, λ x. x)) w at
-       (M.truth names (atom p us) env w) (S.tells names (atom p us) env w)).1
+      (M.truth names (atom p us) env w) (S.tells names (atom p us) env w)).1
       (subst (λ es. Lasts l M (λ v. IsTrue (M.holds p v es)) w) e
-       ((lasts-says l M S.steps (λ v. M.holds p v (values_by M names env ts)) (λ v. IsTrue (M.holds p v (values_by M names env ts))) (λ v there. (λ x. x, λ x. x)) w at
-         (M.truth names (atom p ts) env w) (S.tells names (atom p ts) env w)).0 h))
+      ((lasts-says l M S.steps (λ v. M.holds p v (values_by M names env ts)) (λ v. IsTrue (M.holds p v (values_by M names env ts))) (λ v there. (λ x. x, λ x. x)) w at
+      (M.truth names (atom p ts) env w) (S.tells names (atom p ts) env w)).0 h))
 
   -- ---- congruence
 
@@ -105,7 +105,7 @@ module _ {W E : Type 0} (l : Logic) (M : Model W E) (symbols : List Symbol) (S :
       let t = fun f (terms_tree (right_variables (suc n))) in
       all-times-true (suc n + suc n) (imp (equal_arguments symbols (suc n)) (equality_atom symbols s t))
       (λ env. implied-true (equal_arguments symbols (suc n)) (equality_atom symbols s t) env
-       (λ v there h. (equality-means l M symbols S names s t env v there).1 (ap (M.value f) (arguments-equal n env v there h))))
+      (λ v there h. (equality-means l M symbols S names s t env v there).1 (ap (M.value f) (arguments-equal n env v there h))))
       [] w at
 
   predicate_axiom-true : (p n : ℕ) (w : W) → IsWorld M w → IsTrue (M.truth names (predicate_axiom symbols p (suc n)) [] w)
@@ -114,9 +114,9 @@ module _ {W E : Type 0} (l : Logic) (M : Model W E) (symbols : List Symbol) (S :
       let us = terms_tree (right_variables (suc n)) in
       all-times-true (suc n + suc n) (imp (conj (equal_arguments symbols (suc n)) (atom p ts)) (atom p us))
       (λ env. implied-true (conj (equal_arguments symbols (suc n)) (atom p ts)) (atom p us) env
-       (λ v there h.
-          let both = both-true (equal_arguments symbols (suc n)) (atom p ts) env v there h in
-          atom-same p ts us env (arguments-equal n env v there both.0) v there both.1))
+      (λ v there h.
+      let both = both-true (equal_arguments symbols (suc n)) (atom p ts) env v there h in
+      atom-same p ts us env (arguments-equal n env v there both.0) v there both.1))
       [] w at
 
   functions-true : (w : W) → IsWorld M w → (k : ℕ) (c : SymbolClass) (n : ℕ) → IsTrue (list_all (is_true_in M names [] w) (congruence_of_function symbols k c n))
@@ -140,7 +140,7 @@ module _ {W E : Type 0} (l : Logic) (M : Model W E) (symbols : List Symbol) (S :
       let gs = for_each (congruence_of_predicate symbols) 0 symbols in
       and_from (test (reflexivity symbols)) (list_all test (symmetry symbols ∷ transitivity symbols ∷ (fs ++ gs))) (reflexivity-true w at)
       (and_from (test (symmetry symbols)) (list_all test (transitivity symbols ∷ (fs ++ gs))) (symmetry-true w at)
-       (and_from (test (transitivity symbols)) (list_all test (fs ++ gs)) (transitivity-true w at)
-        (list_all-append test fs gs
-         ∙ and_from (list_all test fs) (list_all test gs) (for-each-true test (congruence_of_function symbols) (functions-true w at) 0 symbols)
-         (for-each-true test (congruence_of_predicate symbols) (predicates-true w at) 0 symbols))))
+      (and_from (test (transitivity symbols)) (list_all test (fs ++ gs)) (transitivity-true w at)
+      (list_all-append test fs gs
+      ∙ and_from (list_all test fs) (list_all test gs) (for-each-true test (congruence_of_function symbols) (functions-true w at) 0 symbols)
+      (for-each-true test (congruence_of_predicate symbols) (predicates-true w at) 0 symbols))))

@@ -12,7 +12,7 @@ use Rattle.calculus.specs.Models.{Model, IsWorld, IsIn, IsModel}
 use Rattle.cop_base.specs.Outside.{Files}
 use Rattle.tptp_reader.specs.Sources.{Name}
 use Rattle.problem_build.specs.Refusals.{Refusal, formula_too_large, nesting_too_deep, too_many_symbols}
-use Rattle.problem_build.specs.Walk.{Passed, Walked, go_on, walk}
+use Rattle.problem_build.specs.Walk.{Passed, go_on, walk}
 use Rattle.problem_build.specs.Balance.{balanced}
 use Rattle.problem_build.specs.Expansion.{closed, equality_symbol}
 use Rattle.problem_build.specs.EqualityAxioms.{equality_axioms}
@@ -51,7 +51,7 @@ limited-comes empty setting symbols ps cs =
     either-comes (nat_lt greatest_symbols (length symbols)) setting symbols (problem_formula ps cs) (Err too_many_symbols)
     (if are_flat (ps ++ cs) then sized empty setting symbols (problem_formula ps cs) else Err nesting_too_deep) tt
     (either-comes (are_flat (ps ++ cs)) setting symbols (problem_formula ps cs) (sized empty setting symbols (problem_formula ps cs)) (Err nesting_too_deep)
-     (sized-comes empty setting symbols (problem_formula ps cs)) tt)
+    (sized-comes empty setting symbols (problem_formula ps cs)) tt)
 
 abbrev IsRefused : Result Problem Refusal → Type 0
 IsRefused (Ok P) = ⊥
@@ -126,8 +126,8 @@ module _ {W E : Type 0} (l : Logic) (M : Model W E) (symbols : List Symbol) (S :
       let test = is_true_in M names [] w in
       first-means (conjectures items) (kept-well (is_modal l) (λ (p : Passed). p.is_conjecture) items well) w at
       (formula-follows (premises_of setting symbols items) (formulas_of symbols (conjectures items)) f e w at h
-       (list_all-append test (axioms_of setting symbols) (formulas_of symbols (premises items))
-        ∙ and_from (list_all test (axioms_of setting symbols)) (list_all test (formulas_of symbols (premises items))) (axioms-true setting w at) ((items-mean (premises items) (kept-well (is_modal l) (λ (p : Passed). not p.is_conjecture) items well) w at).1 given)))
+      (list_all-append test (axioms_of setting symbols) (formulas_of symbols (premises items))
+      ∙ and_from (list_all test (axioms_of setting symbols)) (list_all test (formulas_of symbols (premises items))) (axioms-true setting w at) ((items-mean (premises items) (kept-well (is_modal l) (λ (p : Passed). not p.is_conjecture) items well) w at).1 given)))
 
 -- ---- structures
 
@@ -140,14 +140,14 @@ means_items {W} {E} files name root setting P fits h =
     let reached = went-on (walk h.0 files name root) (λ w. problem_of (no_formula files name) setting w.progress.passed) P h.2 in
     let items : List Passed = reached.0.progress.passed in
     let parts : Comes setting (symbols_of items) (problem_formula (premises_of setting (symbols_of items) items) (formulas_of (symbols_of items) (conjectures items))) (Ok P) =
-        subst (Comes setting (symbols_of items) (problem_formula (premises_of setting (symbols_of items) items) (formulas_of (symbols_of items) (conjectures items)))) reached.2
-        (limited-comes (no_formula files name) setting (symbols_of items) (premises_of setting (symbols_of items) items) (formulas_of (symbols_of items) (conjectures items))) in
+    subst (Comes setting (symbols_of items) (problem_formula (premises_of setting (symbols_of items) items) (formulas_of (symbols_of items) (conjectures items)))) reached.2
+    (limited-comes (no_formula files name) setting (symbols_of items) (premises_of setting (symbols_of items) items) (formulas_of (symbols_of items) (conjectures items))) in
     let made : problem_formula (premises_of P.setting P.symbols items) (formulas_of P.symbols (conjectures items)) ≡ Some P.formula =
-        (λ i. problem_formula (premises_of (parts.1 i) (parts.2 i) items) (formulas_of (parts.2 i) (conjectures items))) ∙ parts.0 in
+    (λ i. problem_formula (premises_of (parts.1 i) (parts.2 i) items) (formulas_of (parts.2 i) (conjectures items))) ∙ parts.0 in
     let exact : IsExactReader (is_modal P.setting.logic) h.0 = subst (λ (s : Setting). IsExactReader (is_modal s.logic) h.0) (sym parts.1) h.1 in
     let well = walk-well (is_modal P.setting.logic) h.0 exact files name root reached.0 reached.1 in
     let true_there : (M : Model W E) → IsModel P M → HasIdentity M P.symbols → (names : Term → E) → IsTrue (M.truth names P.formula [] M.root) → FollowsAt P.setting.logic M P.symbols items M.root =
-        λ M model identity names holds. problem-follows P.setting.logic M P.symbols (fit-structure P M model identity) names (grows-in P.setting.logic P.setting.domains M fits model.domains) model.inhabited P.setting items well P.formula made M.root model.root holds in
+    λ M model identity names holds. problem-follows P.setting.logic M P.symbols (fit-structure P M model identity) names (grows-in P.setting.logic P.setting.domains M fits model.domains) model.inhabited P.setting items well P.formula made M.root model.root holds in
     record {
       read = h.0;
       exact = exact;

@@ -17,8 +17,8 @@ use Rattle.tptp_reader.specs.declared.source.BinaryKind.TheVariants.{Imp, If, If
 use Rattle.tptp_reader.specs.Sources.{Name, SourceTerm, variable, apply, SourceTerms, no_terms, more_terms, Source, atom, truth, falsity, equal, unequal, not, chain, binary, for_all, exists, nec, poss, Sources, no_sources, more_sources}
 use Rattle.problem_build.specs.Expansion.{first_seen, free_in, free_in_all, free_variables, same_name, unbound, variables_in, variables_in_all}
 use Rattle.problem_build.proofs.ExpansionLaws.{same-number}
-use Rattle.source_theory.specs.SourceTruth.{function_of, Holds, with_element, element_of, elements_of, Lasts, LastsForEach, AreAlike, JoinedBy, ForEach, ForSome, IsTrueAt, AreTrueAt, IsOneTrueAt, IsTrueClosed, IsTrueForAll}
-use Rattle.source_theory.proofs.TruthLaws.{IsClosed, lasts-now, not-alike, same-equation}
+use Rattle.source_theory.specs.SourceTruth.{function_of, Holds, with_element, element_of, elements_of, Lasts, LastsForEach, AreAlike, JoinedBy, ForEach, ForSome, IsTrueAt, AreTrueAt, IsOneTrueAt, IsTrueForAll}
+use Rattle.source_theory.proofs.TruthLaws.{IsTrueClosed, IsClosed, lasts-now, not-alike, same-equation}
 
 -- ---- names
 
@@ -107,7 +107,7 @@ both-alike : {A B C K : Type 0} → AreAlike A B → AreAlike C K → AreAlike (
 both-alike p q = (λ x. (p.0 x.0, q.0 x.1), λ y. (p.1 y.0, q.1 y.1))
 
 either-alike : {A B C K : Type 0} → AreAlike A B → AreAlike C K → AreAlike (A ⊎ C) (B ⊎ K)
-either-alike p q = (λ x. elim x [ | inl a ↦ inl (p.0 a) | inr c ↦ inr (q.0 c) ], λ y. elim y [ | inl b ↦ inl (p.1 b) | inr d ↦ inr (q.1 d) ])
+either-alike p q = (λ x. elim x [ inl a ↦ inl (p.0 a) | inr c ↦ inr (q.0 c) ], λ y. elim y [ inl b ↦ inl (p.1 b) | inr d ↦ inr (q.1 d) ])
 
 joined-alike : {W E : Type 0} (l : Logic) (M : Model W E) (c : BinaryKind) (A B C K : W → Type 0) → ((w : W) → AreAlike (A w) (B w)) → ((w : W) → AreAlike (C w) (K w))
     → (w : W) → AreAlike (JoinedBy l M c A C w) (JoinedBy l M c B K w)
@@ -141,7 +141,7 @@ module _ {W E : Type 0} (l : Logic) (M : Model W E) (symbols : List Symbol) wher
   for-each-same (y ∷ ys) bound fs A inside g h b f w =
       each-like l M (λ e v. ForEach l M ys A (with_element g y e) v) (λ e v. ForEach l M ys A (with_element h y e) v)
       (λ e v. for-each-same ys (bound ++ y ∷ []) fs A (λ i j c k. inside i j (subst (Agree i j) (append_assoc bound (y ∷ []) ys) c) k)
-              (with_element g y e) (with_element h y e) (agree-one_more g h y e bound b) (agree-kept g h y e fs f) v) w
+      (with_element g y e) (with_element h y e) (agree-one_more g h y e bound b) (agree-kept g h y e fs f) v) w
 
   for-some-same : (ys bound fs : List Name) (A : (Name → E) → W → Type 0)
       → ((g h : Name → E) → Agree g h (bound ++ ys) → Agree g h fs → (w : W) → AreAlike (A g w) (A h w))
@@ -150,7 +150,7 @@ module _ {W E : Type 0} (l : Logic) (M : Model W E) (symbols : List Symbol) wher
   for-some-same (y ∷ ys) bound fs A inside g h b f w =
       some-like M w (λ e. ForSome M ys A (with_element g y e) w) (λ e. ForSome M ys A (with_element h y e) w)
       (λ e. for-some-same ys (bound ++ y ∷ []) fs A (λ i j c k. inside i j (subst (Agree i j) (append_assoc bound (y ∷ []) ys) c) k)
-            (with_element g y e) (with_element h y e) (agree-one_more g h y e bound b) (agree-kept g h y e fs f) w)
+      (with_element g y e) (with_element h y e) (agree-one_more g h y e bound b) (agree-kept g h y e fs f) w)
 
   mutual
     pub truth-same : (a : Source) (bound : List Name) (g h : Name → E) → Agree g h bound → Agree g h (free_in bound a) → (w : W) → AreAlike (IsTrueAt l M symbols a g w) (IsTrueAt l M symbols a h w)

@@ -13,8 +13,8 @@ use Rattle.tptp_reader.specs.declared.source.BinaryKind.TheVariants.{Imp, If, If
 use Rattle.tptp_reader.specs.Sources.{Name, Source, atom, truth, falsity, equal, unequal, not, chain, binary, for_all, exists, nec, poss, Sources, no_sources, more_sources}
 use Rattle.problem_build.specs.Expansion.{free_variables}
 use Rattle.problem_build.proofs.ExpansionLaws.{is_well, are_well}
-use Rattle.source_theory.specs.SourceTruth.{with_element, AreAlike, JoinedBy, ForEach, ForSome, IsTrueAt, AreTrueAt, IsOneTrueAt, IsTrueClosed, IsTrueForAll}
-use Rattle.source_theory.proofs.TruthLaws.{IsClosed}
+use Rattle.source_theory.specs.SourceTruth.{with_element, AreAlike, JoinedBy, ForEach, ForSome, IsTrueAt, AreTrueAt, IsOneTrueAt, IsTrueForAll}
+use Rattle.source_theory.proofs.TruthLaws.{IsTrueClosed, IsClosed}
 use Rattle.source_theory.proofs.FreeLaws.{Grows, for_all-closed, closed-now}
 
 -- it stays true at each successor
@@ -54,7 +54,7 @@ module _ {W E : Type 0} (M : Model W E) (symbols : List Symbol) (transitive : Is
         (source-persists a parts.0 g w v at on k.0, all-persist bs parts.1 g w v at on k.1)
     source-persists (chain Or (more_sources a bs)) well g w v at on k =
         let parts = and_parts (is_well false a) (are_well false bs) well in
-        elim k [ | inl x ↦ inl (source-persists a parts.0 g w v at on x) | inr y ↦ inr (one-persists bs parts.1 g w v at on y) ]
+        elim k [ inl x ↦ inl (source-persists a parts.0 g w v at on x) | inr y ↦ inr (one-persists bs parts.1 g w v at on y) ]
     source-persists (binary c a b) well g w v at on k = joined-persists c (IsTrueAt Intuitionistic M symbols a g) (IsTrueAt Intuitionistic M symbols b g) w v at on k
     source-persists (for_all ys a) well g w v at on k = for-each-persists ys (IsTrueAt Intuitionistic M symbols a) (source-persists a well) g w v at on k
     source-persists (exists ys a) well g w v at on k = for-some-persists ys (IsTrueAt Intuitionistic M symbols a) (source-persists a well) g w v at on k
@@ -71,7 +71,7 @@ module _ {W E : Type 0} (M : Model W E) (symbols : List Symbol) (transitive : Is
     one-persists no_sources well g w v at on k = k
     one-persists (more_sources a bs) well g w v at on k =
         let parts = and_parts (is_well false a) (are_well false bs) well in
-        elim k [ | inl x ↦ inl (source-persists a parts.0 g w v at on x) | inr y ↦ inr (one-persists bs parts.1 g w v at on y) ]
+        elim k [ inl x ↦ inl (source-persists a parts.0 g w v at on x) | inr y ↦ inr (one-persists bs parts.1 g w v at on y) ]
 
 closed-for_all : {W E : Type 0} (l : Logic) (M : Model W E) (symbols : List Symbol) → IsClosed M → RelationFits l M → Grows l M → (a : Source) → IsTrue (is_well (is_modal l) a)
     → (w : W) → IsWorld M w → IsTrueClosed l M symbols a w → IsTrueForAll l M symbols a w

@@ -1,5 +1,5 @@
 -- The expanded formula is true exactly where the formula as it is written is.
-use Rattle.std.proofs.Common.{◌≡◌, ℕ, suc, List, [], ◌∷◌, ◌++◌, length, get_or, Bool, true, false, refl, sym, ◌∙◌, ap, subst, append_assoc, append-nil, IsTrue, if◌then◌else◌}
+use Rattle.std.proofs.Common.{◌≡◌, suc, List, [], ◌∷◌, ◌++◌, length, get_or, Bool, true, false, refl, sym, ◌∙◌, ap, subst, append_assoc, append-nil, IsTrue, if◌then◌else◌}
 use Rattle.std.specs.Prelude.{reverse}
 use Rattle.std.specs.List.{list_all, list_any}
 use Rattle.std.proofs.lemmas.Bool.{false≢true}
@@ -11,10 +11,10 @@ use Rattle.calculus.specs.Models.{Model, IsWorld, value_by, values_by}
 use Rattle.tptp_reader.specs.declared.source.ChainKind.TheVariants.{And, Or}
 use Rattle.tptp_reader.specs.Sources.{Name, SourceTerm, variable, apply, SourceTerms, no_terms, more_terms, Source, atom, truth, falsity, equal, unequal, not, chain, binary, for_all, exists, nec, poss, Sources, no_sources, more_sources}
 use Rattle.problem_build.specs.Balance.{balanced}
-use Rattle.problem_build.specs.Expansion.{argument_count, closed, equality_atom, expanded, expanded_all, expanded_term, expanded_terms, free_variables, function_symbol, number_of, place_of, predicate_symbol, quantified, same_name}
+use Rattle.problem_build.specs.Expansion.{argument_count, closed, expanded, expanded_all, expanded_term, expanded_terms, free_variables, function_symbol, number_of, place_of, predicate_symbol, quantified, same_name}
 use Rattle.problem_build.proofs.BalanceLaws.{balanced-balanced}
-use Rattle.source_theory.specs.SourceTruth.{Holds, with_element, element_of, elements_of, AreAlike, ForEach, ForSome, IsTrueAt, AreTrueAt, IsOneTrueAt, IsTrueClosed}
-use Rattle.source_theory.proofs.TruthLaws.{alike, not-alike, and-says, or-says, lasts-says, same-says, equal-says, same-equation}
+use Rattle.source_theory.specs.SourceTruth.{Holds, with_element, element_of, elements_of, AreAlike, ForEach, ForSome, IsTrueAt, AreTrueAt, IsOneTrueAt}
+use Rattle.source_theory.proofs.TruthLaws.{IsTrueClosed, alike, not-alike, and-says, or-says, lasts-says, same-says, equal-says, same-equation}
 use Rattle.source_theory.proofs.ConnectiveLaws.{IsFor, is_true_in, Says, neg-means, all-means, ex-means, box-means, dia-means, truth-means, falsity-means, equality-means, unequal-means, binary-means, conjunction-all, disjunction-any}
 
 -- ---- names
@@ -82,19 +82,19 @@ module _ {W E : Type 0} (l : Logic) (M : Model W E) (symbols : List Symbol) (S :
         let k = number_of symbols (predicate_symbol p (argument_count ts)) in
         lasts-says l M S.steps (λ v. M.holds k v (values_by M names env (expanded_terms symbols xs ts))) (λ v. Holds M symbols p v (elements_of M symbols elements ts))
         (λ v there. equal-says (M.holds k v (values_by M names env (expanded_terms symbols xs ts)))
-                    (M.holds (number_of symbols (predicate_symbol p (length (elements_of M symbols elements ts)))) v (elements_of M symbols elements ts))
-                    (sym (λ i. M.holds (number_of symbols (predicate_symbol p (n i))) v (e i))))
+        (M.holds (number_of symbols (predicate_symbol p (length (elements_of M symbols elements ts)))) v (elements_of M symbols elements ts))
+        (sym (λ i. M.holds (number_of symbols (predicate_symbol p (n i))) v (e i))))
         w at (is_true_in M names env w (tree.atom k (expanded_terms symbols xs ts))) (S.tells names (tree.atom k (expanded_terms symbols xs ts)) env w)
     source-means truth xs env elements h w at = truth-means l M symbols S names env w at
     source-means falsity xs env elements h w at = falsity-means l M symbols S names env w at
     source-means (equal s t) xs env elements h w at =
         alike (equality-means l M symbols S names (expanded_term symbols xs s) (expanded_term symbols xs t) env w at)
         (same-equation (element_of M symbols elements s) (element_of M symbols elements t) (value_by M names env (expanded_term symbols xs s)) (value_by M names env (expanded_term symbols xs t))
-         (term-means M symbols names s xs env elements h) (term-means M symbols names t xs env elements h))
+        (term-means M symbols names s xs env elements h) (term-means M symbols names t xs env elements h))
     source-means (unequal s t) xs env elements h w at =
         alike (unequal-means l M symbols S names (expanded_term symbols xs s) (expanded_term symbols xs t) env w at)
         (not-alike (same-equation (element_of M symbols elements s) (element_of M symbols elements t) (value_by M names env (expanded_term symbols xs s)) (value_by M names env (expanded_term symbols xs t))
-         (term-means M symbols names s xs env elements h) (term-means M symbols names t xs env elements h)))
+        (term-means M symbols names s xs env elements h) (term-means M symbols names t xs env elements h)))
     source-means (not a) xs env elements h w at =
         neg-means l M symbols S names (expanded symbols xs a) env (IsTrueAt l M symbols a elements) (source-means a xs env elements h) w at
     source-means (chain And no_sources) xs env elements h w at = truth-means l M symbols S names env w at

@@ -1,10 +1,13 @@
 -- A truth value is true exactly where what it says is.
-use Rattle.std.proofs.Common.{◌≡◌, ◌⊎◌, Bool, true, false, not, ◌&&◌, ◌||◌, IsTrue, refl, sym, ◌∙◌, inl, inr}
+use Rattle.std.proofs.Common.{◌≡◌, ◌⊎◌, List, Bool, true, false, not, ◌&&◌, ◌||◌, IsTrue, refl, sym, ◌∙◌, inl, inr}
 use Rattle.std.proofs.lemmas.Bool.{false≢true, and_parts, and_from}
 use Rattle.calculus.specs.declared.setting.Logic.{Logic}
 use Rattle.calculus.specs.declared.setting.Logic.TheVariants.{Intuitionistic}
 use Rattle.calculus.specs.Models.{Model, IsWorld, Reaches, IsIn, ForAll, ForSome as SomeIs, FromHere, EachElement, RelationFits}
-use Rattle.source_theory.specs.SourceTruth.{Lasts, LastsForEach, AreAlike}
+use Rattle.calculus.specs.Syntax.{Symbol}
+use Rattle.tptp_reader.specs.Sources.{Source}
+use Rattle.problem_build.specs.Expansion.{free_variables}
+use Rattle.source_theory.specs.SourceTruth.{Lasts, LastsForEach, AreAlike, ForEach, IsTrueAt}
 
 -- ---- connectives
 
@@ -28,7 +31,7 @@ and-says false b p q = (λ h. absurd (false≢true h), λ k. absurd (false≢tru
 
 pub or-says : {A B : Type 0} (a b : Bool) → AreAlike (IsTrue a) A → AreAlike (IsTrue b) B → AreAlike (IsTrue (a || b)) (A ⊎ B)
 or-says true b p q = (λ h. inl (p.0 refl), λ k. refl)
-or-says false b p q = (λ h. inr (q.0 h), λ k. elim k [ | inl x ↦ absurd (false≢true (p.1 x)) | inr y ↦ q.1 y ])
+or-says false b p q = (λ h. inr (q.0 h), λ k. elim k [ inl x ↦ absurd (false≢true (p.1 x)) | inr y ↦ q.1 y ])
 
 pub not-alike : {A B : Type 0} → AreAlike A B → AreAlike (¬ A) (¬ B)
 not-alike p = (λ h y. h (p.1 y), λ h x. h (p.0 x))
@@ -62,18 +65,12 @@ pub lasts_for_each-says : {W E : Type 0} (l : Logic) (M : Model W E) → IsClose
     → (w : W) → IsWorld M w → (b : Bool) → EachElement l M w test b → AreAlike (IsTrue b) (LastsForEach l M A w)
 lasts_for_each-says {W} {E} Intuitionistic M closed test A each w at b h =
     let says : AreAlike (IsTrue b) ((p : W × E) → IsTrue (M.reaches w p.0 && M.is_in p.0 p.1) → A p.1 p.0) =
-        each-says {A = W × E} (λ p. M.reaches w p.0 && M.is_in p.0 p.1) (λ p. test p.0 p.1) (λ p. A p.1 p.0)
-        (λ p k. let both = and_parts (M.reaches w p.0) (M.is_in p.0 p.1) k in each p.0 p.1 (closed w p.0 at both.0) both.1) b h in
-    (λ e v on x there. says.0 e (v, x) (and_from (M.reaches w v) (M.is_in v x) on there),
-     λ all. says.1 (λ p k. let both = and_parts (M.reaches w p.0) (M.is_in p.0 p.1) k in all p.0 both.0 p.1 both.1))
+    each-says {A = W × E} (λ p. M.reaches w p.0 && M.is_in p.0 p.1) (λ p. test p.0 p.1) (λ p. A p.1 p.0)
+    (λ p k. let both = and_parts (M.reaches w p.0) (M.is_in p.0 p.1) k in each p.0 p.1 (closed w p.0 at both.0) both.1) b h in (
+      λ e v on x there. says.0 e (v, x) (and_from (M.reaches w v) (M.is_in v x) on there),
+      λ all. says.1 (λ p k. let both = and_parts (M.reaches w p.0) (M.is_in p.0 p.1) k in all p.0 both.0 p.1 both.1),
+    )
 lasts_for_each-says _ M closed test A each w at b h = each-says (M.is_in w) (test w) (λ x. A x w) (λ x there. each w x at there) b h
-
--- what says the same at each world lasts alike
-pub lasts-alike : {W E : Type 0} (l : Logic) (M : Model W E) → IsClosed M → (A B : W → Type 0)
-    → ((w : W) → IsWorld M w → AreAlike (A w) (B w)) → (w : W) → IsWorld M w → AreAlike (Lasts l M A w) (Lasts l M B w)
-lasts-alike Intuitionistic M closed A B each w at =
-    (λ h v on. (each v (closed w v at on)).0 (h v on), λ h v on. (each v (closed w v at on)).1 (h v on))
-lasts-alike _ M closed A B each w at = each w at
 
 -- two things last where each does
 pub lasts-both : {W E : Type 0} (l : Logic) (M : Model W E) (A B : W → Type 0) (w : W) → AreAlike (Lasts l M A w × Lasts l M B w) (Lasts l M (λ v. A v × B v) w)
@@ -112,3 +109,10 @@ equal-says b c e = (λ h. sym e ∙ h, λ h. e ∙ h)
 
 pub same-equation : {E : Type 0} (a b c d : E) → a ≡ c → b ≡ d → AreAlike (c ≡ d) (a ≡ b)
 same-equation a b c d p q = (λ e. p ∙ e ∙ sym q, λ e. sym p ∙ e ∙ q)
+
+-- ---- items
+
+-- Free variables are universally quantified, round the formula, in the order of their first places, as the formula of an item has them.
+-- What stands for other names does not matter
+abbrev pub IsTrueClosed : {W E : Type 0} → Logic → Model W E → List Symbol → Source → W → Type 0
+IsTrueClosed l M symbols a w = ForEach l M (free_variables a) (IsTrueAt l M symbols a) (λ x. M.element) w

@@ -1,5 +1,5 @@
 -- The formulas that a walk over files lets pass have modal operators in modal logics alone, and no empty chain.
-use Rattle.std.proofs.Common.{◌≡◌, ℕ, zero, suc, ◌+◌, List, [], ◌∷◌, ◌++◌, length, Bool, true, false, ◌&&◌, IsTrue, refl, sym, ◌∙◌, subst, Option, None, Some, Result, Ok, Err, codes, nat_lt, filter, ◌==◌, if◌then◌else◌}
+use Rattle.std.proofs.Common.{◌≡◌, ℕ, zero, suc, ◌+◌, List, [], ◌∷◌, ◌++◌, length, Bool, true, false, ◌&&◌, IsTrue, refl, ◌∙◌, subst, Option, None, Some, Result, Ok, Err, codes, nat_lt, filter, ◌==◌, if◌then◌else◌}
 use Rattle.std.specs.List.{list_all, list_any}
 use Rattle.std.proofs.lemmas.Bool.{and_from, and_parts}
 use Rattle.std.proofs.lemmas.List.Folds.{list_all-append}
@@ -83,7 +83,7 @@ items-well m (Some deeper) d root file lists (include included names start ∷ i
     (λ v. unless_absent file (absent_in names v.reached) (items_walk (Some deeper) root file lists items (walked v.progress (w.reached ++ past_list names v.reached))))
     (d (fetched_name root included) (lists_inside names lists) w.progress h)
     (λ v k. unless-well m file (absent_in names v.reached) (items_walk (Some deeper) root file lists items (walked v.progress (w.reached ++ past_list names v.reached)))
-            (items-well m (Some deeper) d root file lists items (walked v.progress (w.reached ++ past_list names v.reached)) parts.1 k))
+    (items-well m (Some deeper) d root file lists items (walked v.progress (w.reached ++ past_list names v.reached)) parts.1 k))
 
 outcome-well : (m : Bool) (deeper : Option FileWalk) → IsWellWalk m deeper → (root file : Name) (lists : List (List Name)) (p : Progress) (text : List ℕ) (outcome : Outcome (List Item))
     → IsReading m text outcome → AreWell m p → WellWalked m (outcome_walk deeper root file lists p outcome)

@@ -10,7 +10,7 @@ use Rattle.tptp_reader.specs.declared.source.ChainKind.TheVariants.{And, Or}
 use Rattle.tptp_reader.specs.declared.source.BinaryKind.{BinaryKind}
 use Rattle.tptp_reader.specs.declared.source.BinaryKind.TheVariants.{Imp, If, Iff, Xor, Nor, Nand}
 use Rattle.tptp_reader.specs.Sources.{Name, SourceTerm, variable, apply, SourceTerms, no_terms, more_terms, Source, atom, truth, falsity, equal, unequal, not, chain, binary, for_all, exists, nec, poss, Sources, no_sources, more_sources}
-use Rattle.problem_build.specs.Expansion.{free_variables, function_symbol, predicate_symbol, number_of, same_name}
+use Rattle.problem_build.specs.Expansion.{function_symbol, predicate_symbol, number_of, same_name}
 
 -- ---- names
 
@@ -97,12 +97,7 @@ abbrev mutual
   IsOneTrueAt l M symbols no_sources elements w = ⊥
   IsOneTrueAt l M symbols (more_sources a bs) elements w = IsTrueAt l M symbols a elements w ⊎ IsOneTrueAt l M symbols bs elements w
 
--- Free variables are universally quantified, round the formula, in the order of their first places. What stands for other names does
--- not matter
-abbrev pub IsTrueClosed : {W E : Type 0} → Logic → Model W E → List Symbol → Source → W → Type 0
-IsTrueClosed l M symbols a w = ForEach l M (free_variables a) (IsTrueAt l M symbols a) (λ x. M.element) w
-
--- the same without a list of them: it is true whatever elements of the domain all names are
+-- Free variables stand for each element: it is true whatever elements of the domain all names are
 abbrev pub IsTrueForAll : {W E : Type 0} → Logic → Model W E → List Symbol → Source → W → Type 0
 IsTrueForAll {W} {E} l M symbols a =
     Lasts l M (λ v. (elements : Name → E) → ((x : Name) → IsIn M v (elements x)) → IsTrueAt l M symbols a elements v)
