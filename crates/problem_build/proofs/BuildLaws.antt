@@ -6,17 +6,20 @@ use Rattle.std.proofs.lemmas.Bool.{false≢true}
 use Rattle.calculus.specs.Problems.{is_modal}
 use Rattle.calculus.specs.Syntax.{Setting, Problem}
 use Rattle.cop_base.specs.Outside.{Files, file_in}
+use Rattle.cop_base.specs.Reads.{Read}
 use Rattle.tptp_reader.specs.Sources.{Name}
 use Rattle.problem_build.specs.declared.fault.Cause.TheVariants.{NoFormula}
 use Rattle.problem_build.specs.declared.fault.BuildFault.{BuildFault}
 use Rattle.problem_build.specs.declared.fault.BuildFault.TheVariants.{Missing, Failed}
 use Rattle.problem_build.specs.Answers.{refused, the_answer, the_refusal}
 use Rattle.problem_build.specs.Building.{IsExactReader, IsProblemOf, WalkFetches, no_formula, problem_of, without}
+use Rattle.problem_build.specs.Fetching.{ReadsOnly}
 use Rattle.problem_build.specs.Occurring.{HasItsSymbols}
 use Rattle.problem_build.specs.Outside.{is_inside}
 use Rattle.problem_build.specs.Refusals.{Refusal, bad, missing}
 use Rattle.problem_build.specs.Walk.{Passed, Reader, Walked, go_on, walk}
 use Rattle.problem_build.proofs.ConjectureLaws.{one-conjecture}
+use Rattle.problem_build.proofs.FetchingLaws.{only-wider}
 use Rattle.problem_build.proofs.StandingLaws.{problem-stands}
 use Rattle.problem_build.proofs.OneProblem.{exact_reading, exact_reading-exact, one-problem}
 
@@ -121,6 +124,13 @@ pub answered-fetch : (told : Option Files) (name root : Name) (s : Setting) (n :
 answered-fetch told name root s n modal e h =
     if-some told (λ files. (read : Reader) → IsExactReader modal read → walk read (without n files) name root ≡ Err (missing n))
     (λ files. WalkFetches files name root s n) (λ files k. fetches files name root s n (λ read x. k read (exact modal s read e x))) h
+
+-- each file that is read is one that the walk fetches
+pub reads-fetched : (files : Files) (name root : Name) (s : Setting) (modal : Bool) (old new : List Read) → modal ≡ is_modal s.logic
+    → ((read : Reader) → IsExactReader modal read → ReadsOnly (λ n. walk read (without n files) name root ≡ Err (missing n)) old new) → ReadsOnly (WalkFetches files name root s) old new
+reads-fetched files name root s modal old new e h =
+    let is_exact = exact_reading-exact (is_modal s.logic) in
+    only-wider (λ n k. (exact_reading (is_modal s.logic), is_exact, k)) (h (exact_reading (is_modal s.logic)) (exact modal s (exact_reading (is_modal s.logic)) e is_exact))
 
 -- ---- faults of the outside
 

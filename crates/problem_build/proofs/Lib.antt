@@ -51,6 +51,8 @@ pub mod ExpansionLaws
 pub mod CountingLaws
 pub mod AxiomLaws
 pub mod JoinedLaws
+-- the files that are read
+pub mod FetchingLaws
 -- the steps of the walk
 pub mod WalkLaws
 pub mod FileLaws

@@ -8,6 +8,8 @@ pub mod Balance
 pub mod Expansion
 pub mod EqualityAxioms
 pub mod Building
+-- which files are read
+pub mod Fetching
 pub mod Occurring
 pub mod Answers
 -- ---- what helpers of the program promise

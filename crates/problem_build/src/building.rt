@@ -14,6 +14,7 @@ ghost use Rattle.problem_build.specs.Answers.{the_answer};
 ghost use Rattle.problem_build.specs.Building.{IsProblemOf, WalkFetches, axioms_of, limited, problem_formula, problem_of};
 ghost use Rattle.problem_build.specs.EqualityAxioms.{equality_axioms};
 ghost use Rattle.problem_build.specs.Expansion.{closed, equality_symbol};
+ghost use Rattle.problem_build.specs.Fetching.{ReadsOnly};
 ghost use Rattle.problem_build.specs.Measuring.{both_nodes, first_measured, first_of, listed_if, measured};
 ghost use Rattle.problem_build.specs.NameCount.{is_narrow, is_short};
 ghost use Rattle.problem_build.specs.Occurring.{HasItsSymbols};
@@ -286,6 +287,9 @@ pub fn build<L: Library>(
     ensures agreeing_fetched { (n : Text) → result ≡ Err (BuildFault.Failed n)
         → (files : Files) → AgreesSince files (L.reads lib.old) (L.reads lib.new)
         → WalkFetches files name.now root.now (the_setting setting) n }
+    // Each file that is read is one that the walk fetches.
+    ensures reads_only { (files : Files) → AgreesSince files (L.reads lib.old) (L.reads lib.new)
+        → ReadsOnly (WalkFetches files name.now root.now (the_setting setting)) (L.reads lib.old) (L.reads lib.new) }
 
     // A file that is missing or could not be read is that of the last fetch.
     ensures last_missing { (n : Text) → result ≡ Err (BuildFault.Missing n) → EndsWith (L.reads lib.new) n seen.absent }

@@ -11,12 +11,13 @@ ghost use Rattle.tptp_reader.specs.ItemView.{the_item};
 ghost use Rattle.tptp_reader.specs.SourceView.{the_source};
 ghost use Rattle.tptp_reader.specs.Sources as tree;
 ghost use Rattle.problem_build.specs.Building.{IsExactReader, without};
+ghost use Rattle.problem_build.specs.Fetching.{ReadsOnly};
 ghost use Rattle.problem_build.specs.Outside.{is_inside};
 ghost use Rattle.problem_build.specs.Passing.{AreRead, WalksTo, item_passes, the_passed};
 ghost use Rattle.problem_build.specs.Refusals as refusal;
 ghost use Rattle.problem_build.specs.Walk as definition;
 ghost use Rattle.problem_build.specs.Walk.{Passed, Progress, Reader, first_absent, is_among, passed_on, past_list, premise_roles};
-ghost use Rattle.problem_build.specs.Walking.{AllPass, HoldsOfTexts, IsCounted, IsJudged, IsSelected, LeadsTo, LetsPass, ReadsTo, StepsTo, file_outcomes, items_outcomes, lists_of, pending_items, progress_of, with_list};
+ghost use Rattle.problem_build.specs.Walking.{AllPass, EndsIn, HoldsOfTexts, IsCounted, IsJudged, IsSelected, LeadsTo, LetsPass, ReadsTo, StepsTo, file_outcomes, items_outcomes, lists_of, pending_items, progress_of, with_list};
 
 use crate::fault::{BuildFault, Cause};
 use crate::faults::{bad, failed, missing, unread};
@@ -136,6 +137,7 @@ fn read_file<L: Library>(
     ensures more_faults { L.faults lib.old ≤ L.faults lib.new }
     ensures more_misses { L.misses lib.old ≤ L.misses lib.new }
     ensures reads_on { ReadsOn (L.holds lib.old) (L.reads lib.old) (L.reads lib.new) }
+    ensures fetched { ReadsOnly (λ n. n ≡ name.now) (L.reads lib.old) (L.reads lib.new) }
     ensures counted { IfErr result (IsCounted (L.faults lib.old) (L.faults lib.new) (L.misses lib.old) (L.misses lib.new) (L.reads lib.new)) }
 {
     let bytes = match lib.fetch(name, MAX_INPUT - walk.bytes) {
@@ -225,7 +227,7 @@ fn leave(
 }
 
 // Walks over an item, the names that are reached in it being added to those before.
-#[tactic(auto, using(cop_base::proofs::ReadLaws::reads_same))]
+#[tactic(auto, using(cop_base::proofs::ReadLaws::reads_same, crate::proofs::FetchingLaws::only_same))]
 #[cycle(walk)]
 fn walk_item<L: Library>(
     rules: &WalkRules,
@@ -247,6 +249,11 @@ fn walk_item<L: Library>(
     ensures more_faults { L.faults lib.old ≤ L.faults lib.new }
     ensures more_misses { L.misses lib.old ≤ L.misses lib.new }
     ensures reads_on { ReadsOn (L.holds lib.old) (L.reads lib.old) (L.reads lib.new) }
+    ensures fetches { (files : Files) → AgreesSince files (L.reads lib.old) (L.reads lib.new)
+        → (read : Reader) → IsExactReader rules.now.modal read
+        → (rest : List tree.Item)
+        → ReadsOnly (λ n. EndsIn (items_outcomes read files rules.now.root file.now depth (lists_of walk.old) (the_item item ∷ rest) (progress_of walk.old) reached.old.items) (BuildFault.Failed n))
+        (L.reads lib.old) (L.reads lib.new) }
     ensures counted { IfErr result (IsCounted (L.faults lib.old) (L.faults lib.new) (L.misses lib.old) (L.misses lib.new) (L.reads lib.new)) }
 {
     match item {
@@ -276,7 +283,7 @@ fn walk_item<L: Library>(
 }
 
 // Walks over an included file, and judges the names that the include selects.
-#[tactic(auto, using(cop_base::proofs::ReadLaws::reads_same))]
+#[tactic(auto, using(cop_base::proofs::ReadLaws::reads_same, crate::proofs::FetchingLaws::only_same))]
 #[cycle(walk)]
 fn walk_include<L: Library>(
     rules: &WalkRules,
@@ -300,6 +307,11 @@ fn walk_include<L: Library>(
     ensures more_faults { L.faults lib.old ≤ L.faults lib.new }
     ensures more_misses { L.misses lib.old ≤ L.misses lib.new }
     ensures reads_on { ReadsOn (L.holds lib.old) (L.reads lib.old) (L.reads lib.new) }
+    ensures fetches { (files : Files) → AgreesSince files (L.reads lib.old) (L.reads lib.new)
+        → (read : Reader) → IsExactReader rules.now.modal read
+        → (rest : List tree.Item)
+        → ReadsOnly (λ n. EndsIn (items_outcomes read files rules.now.root file.now depth (lists_of walk.old) (tree.include included names start ∷ rest) (progress_of walk.old) reached.old.items) (BuildFault.Failed n))
+        (L.reads lib.old) (L.reads lib.new) }
     ensures counted { IfErr result (IsCounted (L.faults lib.old) (L.faults lib.new) (L.misses lib.old) (L.misses lib.new) (L.reads lib.new)) }
 {
     if depth == 0 {
@@ -332,6 +344,10 @@ fn walk_file<L: Library>(
     ensures more_faults { L.faults lib.old ≤ L.faults lib.new }
     ensures more_misses { L.misses lib.old ≤ L.misses lib.new }
     ensures reads_on { ReadsOn (L.holds lib.old) (L.reads lib.old) (L.reads lib.new) }
+    ensures fetches { (files : Files) → AgreesSince files (L.reads lib.old) (L.reads lib.new)
+        → (read : Reader) → IsExactReader rules.now.modal read
+        → ReadsOnly (λ n. EndsIn (file_outcomes read files rules.now.root name.now depth (lists_of walk.old) (progress_of walk.old)) (BuildFault.Failed n))
+        (L.reads lib.old) (L.reads lib.new) }
     ensures counted { IfErr result (IsCounted (L.faults lib.old) (L.faults lib.new) (L.misses lib.old) (L.misses lib.new) (L.reads lib.new)) }
 {
     let items = read_file(rules, walk, lib, name)?;
@@ -340,7 +356,7 @@ fn walk_file<L: Library>(
 }
 
 // Walks over the items of a file, the last of which comes first.
-#[tactic(auto, using(cop_base::proofs::ReadLaws::reads_same))]
+#[tactic(auto, using(cop_base::proofs::ReadLaws::reads_same, crate::proofs::FetchingLaws::only_same))]
 #[cycle(walk)]
 fn walk_items<L: Library>(
     rules: &WalkRules,
@@ -361,6 +377,10 @@ fn walk_items<L: Library>(
     ensures more_faults { L.faults lib.old ≤ L.faults lib.new }
     ensures more_misses { L.misses lib.old ≤ L.misses lib.new }
     ensures reads_on { ReadsOn (L.holds lib.old) (L.reads lib.old) (L.reads lib.new) }
+    ensures fetches { (files : Files) → AgreesSince files (L.reads lib.old) (L.reads lib.new)
+        → (read : Reader) → IsExactReader rules.now.modal read
+        → ReadsOnly (λ n. EndsIn (items_outcomes read files rules.now.root file.now depth (lists_of walk.old) (pending_items items.items) (progress_of walk.old) []) (BuildFault.Failed n))
+        (L.reads lib.old) (L.reads lib.new) }
     ensures counted { IfErr result (IsCounted (L.faults lib.old) (L.faults lib.new) (L.misses lib.old) (L.misses lib.new) (L.reads lib.new)) }
 {
     let mut items = items;
@@ -374,7 +394,7 @@ fn walk_items<L: Library>(
 /// Walks over the file of this name and the files that it includes, by the rule on the root: an
 /// included file is fetched by its name behind the root and a `/`, where there is a root and the
 /// name does not begin with `/`.
-#[tactic(auto, using(cop_base::proofs::ReadLaws::reads_same))]
+#[tactic(auto, using(cop_base::proofs::ReadLaws::reads_same, crate::proofs::FetchingLaws::only_same))]
 pub fn walk_files<L: Library>(
     alloc: Global,
     lib: &mut L,
@@ -392,6 +412,10 @@ pub fn walk_files<L: Library>(
     ensures more_faults { L.faults lib.old ≤ L.faults lib.new }
     ensures more_misses { L.misses lib.old ≤ L.misses lib.new }
     ensures reads_on { ReadsOn (L.holds lib.old) (L.reads lib.old) (L.reads lib.new) }
+    ensures fetches { (files : Files) → AgreesSince files (L.reads lib.old) (L.reads lib.new)
+        → (read : Reader) → IsExactReader modal read
+        → ReadsOnly (λ n. definition.walk read (without n files) name.now root.now ≡ Err (refusal.missing n))
+        (L.reads lib.old) (L.reads lib.new) }
     ensures missing { (n : Text) → result ≡ Err (BuildFault.Missing n)
         → Rose (L.misses lib.old) (L.misses lib.new) × EndsWith (L.reads lib.new) n seen.absent }
     ensures failed { (n : Text) → result ≡ Err (BuildFault.Failed n)

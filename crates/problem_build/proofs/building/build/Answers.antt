@@ -9,7 +9,7 @@ use Rattle.problem_build.specs.Building.{IsProblemOf, WalkFetches}
 use Rattle.problem_build.specs.Occurring.{HasItsSymbols}
 use Rattle.problem_build.specs.Passing.{AreRead, the_passed}
 use Rattle.problem_build.specs.Refusals.{Refusal}
-use Rattle.problem_build.proofs.BuildLaws.{answered-alone, answered-fetch, answered-problem, answered-refusal, answered-symbols, not-failed, not-missing}
+use Rattle.problem_build.proofs.BuildLaws.{answered-alone, answered-fetch, answered-problem, answered-refusal, answered-symbols, reads-fetched, not-failed, not-missing}
 use Rattle.problem_build.proofs.ListLaws.{inner-fault}
 use Rattle.problem_build.proofs.building.build.Goals as goal
 
@@ -115,3 +115,15 @@ returns-clause-fetched g c = λ n e. absurd (not-failed c.problem_of.result n c.
 
 pub returns-clause-agreeing_fetched : goal.returns-clause-agreeing_fetched
 returns-clause-agreeing_fetched g c = λ n e files w. absurd (not-failed c.problem_of.result n c.problem_of.ensures.inside e)
+
+-- ---- which files are read
+
+pub returns-in-Err-clause-reads_only : goal.returns-in-Err-clause-reads_only
+returns-in-Err-clause-reads_only g c = λ files w.
+    reads-fetched files c.args.name.now c.args.root.now (the_setting c.args.setting) c.is_modal.result (g.L.Library.reads c.args.lib.now) (g.L.Library.reads c.walk_files.new.lib)
+    (c.is_modal.ensures ∙ ap is_modal c.logic.ensures) (c.in-Err.ensures.fetches files w)
+
+pub returns-clause-reads_only : goal.returns-clause-reads_only
+returns-clause-reads_only g c = λ files w.
+    reads-fetched files c.args.name.now c.args.root.now (the_setting c.args.setting) c.is_modal.result (g.L.Library.reads c.args.lib.now) (g.L.Library.reads c.walk_files.new.lib)
+    (c.is_modal.ensures ∙ ap is_modal c.logic.ensures) (c.in-Ok.ensures.fetches files w)

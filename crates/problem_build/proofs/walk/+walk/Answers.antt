@@ -2,9 +2,13 @@ use Rattle.std.proofs.Common.{rules, ◌≡◌, ◌∙◌, ◌-◌, suc, [], ◌
 use Rattle.cop_base.proofs.ReadLaws.{reads_parts, reads_then}
 use Rattle.tptp_reader.specs.ItemView.{the_item}
 use Rattle.tptp_reader.specs.Sources as tree
+use Rattle.problem_build.specs.declared.fault.BuildFault.TheVariants.{Failed}
+use Rattle.problem_build.specs.Fetching.{ReadsOnly}
 use Rattle.problem_build.specs.Passing.{item_passes}
 use Rattle.problem_build.specs.Walk.{names_of, walked}
 use Rattle.problem_build.specs.Walking.{EndsIn, GoesOn, file_outcomes, items_outcomes, lists_of, pending_items, progress_of}
+use Rattle.problem_build.proofs.FetchingLaws.{only-both, only-wider, only_same}
+use Rattle.problem_build.proofs.FileLaws.{failed-ends}
 use Rattle.problem_build.proofs.IncludeLaws.{file-included, left-reached, left-selected}
 use Rattle.problem_build.proofs.NameSetLaws.{one-entered}
 use Rattle.problem_build.proofs.StepLaws.{led, no-items, popped-pass, step-ends, step-goes, stopped, turns-end}
@@ -160,6 +164,12 @@ walk_items-loop-item-preserved g t c =
       more_faults = search rules;
       more_misses = search rules;
       reads_on = reads_then l.invariant.same_files l.invariant.reads_on c.in_ok-walk_item.ensures.reads_on;
+      fetches = λ files w. let p = reads_parts l.invariant.reads_on c.in_ok-walk_item.ensures.reads_on w in let h = l.invariant.goes files p.0 in let f = l.invariant.fetches files p.0 in let k = c.in_ok-walk_item.ensures.fetches files p.1 in λ read x.
+          only-both (f read x)
+          (only-wider (λ n. step-ends read files c.args.rules.now.root c.args.file.now c.args.depth (lists_of walk) (lists_of l.walk)
+          (items_outcomes read files c.args.rules.now.root c.args.file.now c.args.depth (lists_of walk) (pending_items c.args.items.items) (progress_of walk) [])
+          l.items.items c.pop.new.self.items c.in-Some.item (progress_of l.walk) l.reached.items (Failed n) c.in-Some.ensures.items (ap (map names_of) l.invariant.kept) (h read x))
+          (k read x (pending_items c.pop.new.self.items)));
     }
 
 -- ---- what was read
@@ -172,3 +182,87 @@ walk_file-returns-clause-reads_on g t c = reads_then c.in_ok-items.ensures.same_
 
 pub walk_items-returns-in_err-walk_item-clause-reads_on : goal.walk_items-returns-in_err-walk_item-clause-reads_on
 walk_items-returns-in_err-walk_item-clause-reads_on g t c = reads_then c.loop-item.invariant.same_files c.loop-item.invariant.reads_on c.in_err-walk_item.ensures.reads_on
+
+-- ---- which files are read
+
+pub walk_file-returns-in_err-items-clause-fetches : goal.walk_file-returns-in_err-items-clause-fetches
+walk_file-returns-in_err-items-clause-fetches g t c =
+    let walk = c.args.walk.now in
+    λ files w read x.
+    only-wider (λ n. failed-ends read files c.args.rules.now.root c.args.name.now c.args.depth (lists_of walk) (progress_of walk) (Failed n)) c.in_err-items.ensures.fetched
+
+pub walk_file-returns-in_err-reached-clause-fetches : goal.walk_file-returns-in_err-reached-clause-fetches
+walk_file-returns-in_err-reached-clause-fetches g t c =
+    let walk = c.args.walk.now in
+    let opened = c.read_file.new.walk in
+    let items = pending_items c.in_ok-items.items.items in
+    λ files w. let p = reads_parts c.in_ok-items.ensures.reads_on c.in_err-reached.ensures.reads_on w in let h = c.in_ok-items.ensures.reading files p.0 in let k = c.in_err-reached.ensures.fetches files p.1 in λ read x.
+    only-both
+    (only-wider (λ n. failed-ends read files c.args.rules.now.root c.args.name.now c.args.depth (lists_of walk) (progress_of walk) (Failed n)) c.in_ok-items.ensures.fetched)
+    (only-wider (λ n e. goes-ends (file_outcomes read files c.args.rules.now.root c.args.name.now c.args.depth (lists_of walk) (progress_of walk)) (items_outcomes read files c.args.rules.now.root c.args.name.now c.args.depth (lists_of walk) items (progress_of opened) [])
+    (h read x c.args.rules.now.root c.args.depth (lists_of walk)) (Failed n)
+    (subst (λ ls. EndsIn (items_outcomes read files c.args.rules.now.root c.args.name.now c.args.depth (map names_of ls) items (progress_of opened) []) (Failed n)) c.in_ok-items.ensures.kept e)) (k read x))
+
+pub walk_file-returns-clause-fetches : goal.walk_file-returns-clause-fetches
+walk_file-returns-clause-fetches g t c =
+    let walk = c.args.walk.now in
+    let opened = c.read_file.new.walk in
+    let items = pending_items c.in_ok-items.items.items in
+    λ files w. let p = reads_parts c.in_ok-items.ensures.reads_on c.in_ok-reached.ensures.reads_on w in let h = c.in_ok-items.ensures.reading files p.0 in let k = c.in_ok-reached.ensures.fetches files p.1 in λ read x.
+    only-both
+    (only-wider (λ n. failed-ends read files c.args.rules.now.root c.args.name.now c.args.depth (lists_of walk) (progress_of walk) (Failed n)) c.in_ok-items.ensures.fetched)
+    (only-wider (λ n e. goes-ends (file_outcomes read files c.args.rules.now.root c.args.name.now c.args.depth (lists_of walk) (progress_of walk)) (items_outcomes read files c.args.rules.now.root c.args.name.now c.args.depth (lists_of walk) items (progress_of opened) [])
+    (h read x c.args.rules.now.root c.args.depth (lists_of walk)) (Failed n)
+    (subst (λ ls. EndsIn (items_outcomes read files c.args.rules.now.root c.args.name.now c.args.depth (map names_of ls) items (progress_of opened) []) (Failed n)) c.in_ok-items.ensures.kept e)) (k read x))
+
+pub walk_include-returns-in_err-inner-clause-fetches : goal.walk_include-returns-in_err-inner-clause-fetches
+walk_include-returns-in_err-inner-clause-fetches g t c =
+    let walk = c.args.walk.now in
+    let deep : c.args.depth ≡ suc (c.args.depth - 1) = omega (arith, c.if-depth-eq0.false) in
+    λ files w. let h = c.in_err-inner.ensures.fetches files w in λ read x rest.
+    only-wider (λ n e. include-ends read files c.args.rules.now.root c.args.file.now (c.args.depth - 1) c.args.depth (lists_of walk) c.args.included c.args.names c.args.start rest (progress_of walk) c.args.reached.now.items deep (Failed n)
+    (file-included (λ o. EndsIn o (Failed n)) read files c.args.rules.now.root c.args.included c.in_ok-fetched.fetched (c.args.depth - 1) c.args.names walk.lists.items c.enter.new.lists.items (progress_of walk)
+    c.in_ok-fetched.ensures c.in_ok-is_list.ensures.entered e)) (h read x)
+
+pub walk_include-returns-in_err-leave-clause-fetches : goal.walk_include-returns-in_err-leave-clause-fetches
+walk_include-returns-in_err-leave-clause-fetches g t c =
+    let walk = c.args.walk.now in
+    let deep : c.args.depth ≡ suc (c.args.depth - 1) = omega (arith, c.if-depth-eq0.false) in
+    λ files w. let h = c.in_ok-inner.ensures.fetches files w in λ read x rest.
+    only-wider (λ n e. include-ends read files c.args.rules.now.root c.args.file.now (c.args.depth - 1) c.args.depth (lists_of walk) c.args.included c.args.names c.args.start rest (progress_of walk) c.args.reached.now.items deep (Failed n)
+    (file-included (λ o. EndsIn o (Failed n)) read files c.args.rules.now.root c.args.included c.in_ok-fetched.fetched (c.args.depth - 1) c.args.names walk.lists.items c.enter.new.lists.items (progress_of walk)
+    c.in_ok-fetched.ensures c.in_ok-is_list.ensures.entered e)) (h read x)
+
+pub walk_include-returns-clause-fetches : goal.walk_include-returns-clause-fetches
+walk_include-returns-clause-fetches g t c =
+    let walk = c.args.walk.now in
+    let deep : c.args.depth ≡ suc (c.args.depth - 1) = omega (arith, c.if-depth-eq0.false) in
+    λ files w. let h = c.in_ok-inner.ensures.fetches files w in λ read x rest.
+    only-wider (λ n e. include-ends read files c.args.rules.now.root c.args.file.now (c.args.depth - 1) c.args.depth (lists_of walk) c.args.included c.args.names c.args.start rest (progress_of walk) c.args.reached.now.items deep (Failed n)
+    (file-included (λ o. EndsIn o (Failed n)) read files c.args.rules.now.root c.args.included c.in_ok-fetched.fetched (c.args.depth - 1) c.args.names walk.lists.items c.enter.new.lists.items (progress_of walk)
+    c.in_ok-fetched.ensures c.in_ok-is_list.ensures.entered e)) (h read x)
+
+pub walk_items-returns-in_err-walk_item-clause-fetches : goal.walk_items-returns-in_err-walk_item-clause-fetches
+walk_items-returns-in_err-walk_item-clause-fetches g t c =
+    let walk = c.args.walk.now in
+    let l = c.loop-item in
+    λ files w. let p = reads_parts l.invariant.reads_on c.in_err-walk_item.ensures.reads_on w in let h = l.invariant.goes files p.0 in let f = l.invariant.fetches files p.0 in let k = c.in_err-walk_item.ensures.fetches files p.1 in λ read x.
+    only-both (f read x)
+    (only-wider (λ n. step-ends read files c.args.rules.now.root c.args.file.now c.args.depth (lists_of walk) (lists_of l.walk)
+    (items_outcomes read files c.args.rules.now.root c.args.file.now c.args.depth (lists_of walk) (pending_items c.args.items.items) (progress_of walk) [])
+    l.items.items c.pop.new.self.items c.in-Some.item (progress_of l.walk) l.reached.items (Failed n) c.in-Some.ensures.items (ap (map names_of) l.invariant.kept) (h read x))
+    (k read x (pending_items c.pop.new.self.items)))
+
+pub walk_item-returns-in_err-walk_include-in-Include-clause-fetches : goal.walk_item-returns-in_err-walk_include-in-Include-clause-fetches
+walk_item-returns-in_err-walk_include-in-Include-clause-fetches g t c =
+    let walk = c.args.walk.now in
+    λ files w. let h = c.in_err-walk_include-in-Include.ensures.fetches files w in λ read x rest.
+    subst (λ i. ReadsOnly (λ n. EndsIn (items_outcomes read files c.args.rules.now.root c.args.file.now c.args.depth (lists_of walk) (the_item i ∷ rest) (progress_of walk) c.args.reached.now.items) (Failed n))
+    (g.L.Library.reads c.args.lib.now) (g.L.Library.reads c.walk_include.new.lib)) (sym c.in-Include.is) (h read x rest)
+
+pub walk_item-returns-in_ok-walk_include-in-Include-clause-fetches : goal.walk_item-returns-in_ok-walk_include-in-Include-clause-fetches
+walk_item-returns-in_ok-walk_include-in-Include-clause-fetches g t c =
+    let walk = c.args.walk.now in
+    λ files w. let h = c.in_ok-walk_include-in-Include.ensures.fetches files w in λ read x rest.
+    subst (λ i. ReadsOnly (λ n. EndsIn (items_outcomes read files c.args.rules.now.root c.args.file.now c.args.depth (lists_of walk) (the_item i ∷ rest) (progress_of walk) c.args.reached.now.items) (Failed n))
+    (g.L.Library.reads c.args.lib.now) (g.L.Library.reads c.walk_include.new.lib)) (sym c.in-Include.is) (h read x rest)

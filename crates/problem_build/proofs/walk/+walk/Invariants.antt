@@ -4,9 +4,11 @@ use Rattle.cop_base.specs.Outside.{Files}
 use Rattle.cop_base.specs.Reads.{AgreesSince, ReadsOn}
 use Rattle.tptp_reader.specs.Sources.{Source}
 use Rattle.problem_build.specs.Building.{IsExactReader}
+use Rattle.problem_build.specs.declared.fault.BuildFault.TheVariants.{Failed}
+use Rattle.problem_build.specs.Fetching.{ReadsOnly}
 use Rattle.problem_build.specs.Passing.{item_passes}
 use Rattle.problem_build.specs.Walk.{Reader}
-use Rattle.problem_build.specs.Walking.{AllPass, GoesOn, HoldsOfTexts, items_outcomes, lists_of, pending_items, progress_of}
+use Rattle.problem_build.specs.Walking.{AllPass, EndsIn, GoesOn, HoldsOfTexts, items_outcomes, lists_of, pending_items, progress_of}
 use Rattle.problem_build.proofs.walk.+walk.Given as goal
 
 abbrev pub decreases-walk_include : goal.decreases-walk_include
@@ -36,4 +38,7 @@ invariant-walk_items-loop-item g l = record {
   more_faults : g.L.Library.faults l.fn.lib ≤ g.L.Library.faults l.lib;
   more_misses : g.L.Library.misses l.fn.lib ≤ g.L.Library.misses l.lib;
   reads_on : ReadsOn (g.L.Library.holds l.fn.lib) (g.L.Library.reads l.fn.lib) (g.L.Library.reads l.lib);
+  fetches : (files : Files) → AgreesSince files (g.L.Library.reads l.fn.lib) (g.L.Library.reads l.lib) → (read : Reader) → IsExactReader l.rules.modal read
+      → ReadsOnly (λ n. EndsIn (items_outcomes read files l.rules.root l.file l.depth (lists_of l.fn.walk) (pending_items l.fn.items.items) (progress_of l.fn.walk) []) (Failed n))
+      (g.L.Library.reads l.fn.lib) (g.L.Library.reads l.lib);
 }

@@ -3,6 +3,7 @@ use Rattle.std.specs.Option.{option_map_or}
 use Rattle.cop_base.specs.Outside.{file_in}
 use Rattle.cop_base.specs.Reads.{Answers}
 use Rattle.problem_build.specs.Walking.{pending_items, progress_of}
+use Rattle.problem_build.proofs.FetchingLaws.{fetched_only}
 use Rattle.problem_build.proofs.FileLaws.{failed-ends, large-ends, missing-ends, read-goes, reversed-reading, with_bytes}
 use Rattle.problem_build.proofs.walk.read_file.Goals as goal
 
@@ -36,3 +37,20 @@ returns-in-Ok-read_text-clause-bytes g c = λ files w.
     let bytes = c.in-Ok.bytes in
     let count : c.len.result ≡ length bytes.items = omega (arith, c.len.ensures, bytes.ok.0) in
     ap (λ n. c.args.walk.now.bytes + n) (count ∙ sym (ap (λ o. option_map_or length o 0) (c.in-Ok.ensures.answers files w)))
+
+-- ---- which file is read
+
+pub returns-in-Err-Missing-clause-fetched : goal.returns-in-Err-Missing-clause-fetched
+returns-in-Err-Missing-clause-fetched g c = fetched_only c.args.name.now _ _ _ _ c.fetch.ensures.answered
+
+pub returns-in-Err-Failed-clause-fetched : goal.returns-in-Err-Failed-clause-fetched
+returns-in-Err-Failed-clause-fetched g c = fetched_only c.args.name.now _ _ _ _ c.fetch.ensures.answered
+
+pub returns-in-Err-TooLarge-clause-fetched : goal.returns-in-Err-TooLarge-clause-fetched
+returns-in-Err-TooLarge-clause-fetched g c = fetched_only c.args.name.now _ _ _ _ c.fetch.ensures.answered
+
+pub returns-in-Ok-read_text-clause-fetched : goal.returns-in-Ok-read_text-clause-fetched
+returns-in-Ok-read_text-clause-fetched g c = fetched_only c.args.name.now _ _ _ _ c.fetch.ensures.answered
+
+pub returns-clause-fetched : goal.returns-clause-fetched
+returns-clause-fetched g c = fetched_only c.args.name.now _ _ _ _ c.fetch.ensures.answered

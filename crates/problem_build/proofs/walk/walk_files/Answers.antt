@@ -1,10 +1,13 @@
-use Rattle.std.proofs.Common.{◌≡◌, ◌∙◌, [], length, map, Ok, sym, ap, subst, refl, zero-add}
+use Rattle.std.proofs.Common.{◌≡◌, ◌∙◌, ℕ, List, [], length, map, Ok, sym, ap, subst, refl, zero-add}
 use Rattle.std.specs.Option.{option_map_or}
 use Rattle.cop_base.specs.Outside.{file_in}
 use Rattle.cop_base.proofs.ReadLaws.{reads_parts, reads_then}
+use Rattle.problem_build.specs.declared.fault.BuildFault.TheVariants.{Failed}
 use Rattle.problem_build.specs.Passing.{WalksTo, the_passed}
 use Rattle.problem_build.specs.Walk.{names_of, walk, walked}
 use Rattle.problem_build.specs.Walking.{EndsIn, GoesOn, file_outcomes, items_outcomes, lists_of, over, pending_items, progress_of}
+use Rattle.problem_build.proofs.FetchingLaws.{only-both, only-wider}
+use Rattle.problem_build.proofs.FileLaws.{failed-ends}
 use Rattle.problem_build.proofs.StepLaws.{residual-is}
 use Rattle.problem_build.proofs.WalkLaws.{goes-ends, goes-goes}
 use Rattle.problem_build.proofs.WholeWalk.{ends-failed, ends-refused, goes-ok, main-walk, started}
@@ -96,3 +99,47 @@ pub returns-clause-length : goal.returns-clause-length
 returns-clause-length g c = λ files w.
     let p = reads_parts c.in_ok-items.ensures.reads_on c.in_ok-walk_items.ensures.reads_on w in
     sym (c.in_ok-items.ensures.bytes files p.0 ∙ zero-add (option_map_or length (file_in files c.args.name.now) 0))
+
+pub returns-in_err-items-clause-fetches : goal.returns-in_err-items-clause-fetches
+returns-in_err-items-clause-fetches g c =
+    let name = c.args.name.now in
+    let root = c.args.root.now in
+    let made = c.in_ok-root.root in
+    let first = map the_passed c.new-passed.result.items in
+    λ files w read x.
+    only-wider (λ n e. main-walk (λ o. EndsIn o (Failed n)) read files name root made [] (map the_passed c.new-passed.result.items) (c.in_ok-root.ensures ∙ c.bytes.ensures) refl (ap (map the_passed) c.new-passed.ensures.items)
+    (failed-ends read files made name 16 [] (started first) (Failed n) e)) c.in_err-items.ensures.fetched
+
+pub returns-in_err-walk_items-clause-fetches : goal.returns-in_err-walk_items-clause-fetches
+returns-in_err-walk_items-clause-fetches g c =
+    let name = c.args.name.now in
+    let root = c.args.root.now in
+    let made = c.in_ok-root.root in
+    let opened = c.read_file.new.walk in
+    let lists = lists_of opened in
+    let first = map the_passed c.new-passed.result.items in
+    let none : lists ≡ [] = ap (map names_of) (c.in_ok-items.ensures.kept ∙ c.new-lists.ensures.items) in
+    λ files w. let p = reads_parts c.in_ok-items.ensures.reads_on c.in_err-walk_items.ensures.reads_on w in let h = c.in_ok-items.ensures.reading files p.0 in let k = c.in_err-walk_items.ensures.fetches files p.1 in λ read x.
+    let whole = λ (n : List ℕ) (e : EndsIn (file_outcomes read files made name 16 lists (started first)) (Failed n)).
+    main-walk (λ o. EndsIn o (Failed n)) read files name root made lists (map the_passed c.new-passed.result.items) (c.in_ok-root.ensures ∙ c.bytes.ensures) none (ap (map the_passed) c.new-passed.ensures.items) e in
+    only-both
+    (only-wider (λ n e. whole n (failed-ends read files made name 16 lists (started first) (Failed n) e)) c.in_ok-items.ensures.fetched)
+    (only-wider (λ n e. whole n (goes-ends (file_outcomes read files made name 16 lists (started first)) (items_outcomes read files made name 16 lists (pending_items c.in_ok-items.items.items) (progress_of opened) [])
+    (h read x made 16 lists) (Failed n) e)) (k read x))
+
+pub returns-clause-fetches : goal.returns-clause-fetches
+returns-clause-fetches g c =
+    let name = c.args.name.now in
+    let root = c.args.root.now in
+    let made = c.in_ok-root.root in
+    let opened = c.read_file.new.walk in
+    let lists = lists_of opened in
+    let first = map the_passed c.new-passed.result.items in
+    let none : lists ≡ [] = ap (map names_of) (c.in_ok-items.ensures.kept ∙ c.new-lists.ensures.items) in
+    λ files w. let p = reads_parts c.in_ok-items.ensures.reads_on c.in_ok-walk_items.ensures.reads_on w in let h = c.in_ok-items.ensures.reading files p.0 in let k = c.in_ok-walk_items.ensures.fetches files p.1 in λ read x.
+    let whole = λ (n : List ℕ) (e : EndsIn (file_outcomes read files made name 16 lists (started first)) (Failed n)).
+    main-walk (λ o. EndsIn o (Failed n)) read files name root made lists (map the_passed c.new-passed.result.items) (c.in_ok-root.ensures ∙ c.bytes.ensures) none (ap (map the_passed) c.new-passed.ensures.items) e in
+    only-both
+    (only-wider (λ n e. whole n (failed-ends read files made name 16 lists (started first) (Failed n) e)) c.in_ok-items.ensures.fetched)
+    (only-wider (λ n e. whole n (goes-ends (file_outcomes read files made name 16 lists (started first)) (items_outcomes read files made name 16 lists (pending_items c.in_ok-items.items.items) (progress_of opened) [])
+    (h read x made 16 lists) (Failed n) e)) (k read x))
