@@ -35,6 +35,7 @@ pub mod Unclosed
 pub mod Searches
 pub mod Cuts
 pub mod Refusals
+pub mod Opening
 pub mod NoIncludes
 pub mod Made
 pub mod ModelLaws

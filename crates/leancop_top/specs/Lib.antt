@@ -3,6 +3,7 @@ pub mod Statuses
 pub mod FaultView
 pub mod Reading
 pub mod SecondFile
+pub mod Opening
 pub mod Translating
 pub mod Unclosed
 pub mod TableauSearch

@@ -5,12 +5,14 @@ ghost use Rattle.calculus.specs.Syntax.{setting_of};
 ghost use Rattle.calculus.specs.declared.setting.Domains.TheVariants.{Cumulative};
 ghost use Rattle.calculus.specs.declared.setting.Logic.TheVariants.{Intuitionistic};
 ghost use Rattle.cop_base.specs.Outside.{Files};
-ghost use Rattle.cop_base.specs.Reads.{ReadsOn};
+ghost use Rattle.cop_base.specs.Reads.{AgreesSince, ReadsOn};
 ghost use Rattle.command_line.specs.CommandLine.{in_intuitionistic};
 ghost use Rattle.command_line.specs.CommandView.{the_intuitionistic_file, the_problem_file};
 ghost use Rattle.logic_rules.specs.SettingView.{the_setting};
 ghost use Rattle.leancop_top.specs.FaultView.{status_of};
 ghost use Rattle.leancop_top.specs.Reading.{IsReadIn, IsReading, IsReadingCounted};
+ghost use Rattle.problem_build.specs.Fetching.{ReadsOnly};
+ghost use Rattle.leancop_top.specs.Opening.{IsOfProblem};
 
 use crate::status::Status;
 use command_line::{IntuitionisticFile, ProblemFile};
@@ -60,6 +62,9 @@ pub fn read_problem<L: Library>(
     ensures more_faults { L.faults lib.old ≤ L.faults lib.new }
     ensures more_misses { L.misses lib.old ≤ L.misses lib.new }
     ensures reads_on { ReadsOn (L.holds lib.old) (L.reads lib.old) (L.reads lib.new) }
+    ensures reads_only { (files : Files) → AgreesSince files (L.reads lib.old) (L.reads lib.new)
+        → ReadsOnly (IsOfProblem files (the_problem_file file.entry))
+        (L.reads lib.old) (L.reads lib.new) }
     ensures reading { (told : Option Files) → ReadsOn told (L.reads lib.old) (L.reads lib.new)
         → IfOk result (λ r. IsReading told (the_problem_file file.entry) r) }
     ensures setting { IfOk result (λ r. IsReadIn (the_setting file.entry.setting) r) }
@@ -88,6 +93,9 @@ pub fn read_intuitionistic<L: Library>(
     ensures more_faults { L.faults lib.old ≤ L.faults lib.new }
     ensures more_misses { L.misses lib.old ≤ L.misses lib.new }
     ensures reads_on { ReadsOn (L.holds lib.old) (L.reads lib.old) (L.reads lib.new) }
+    ensures reads_only { (files : Files) → AgreesSince files (L.reads lib.old) (L.reads lib.new)
+        → ReadsOnly (IsOfProblem files (in_intuitionistic (the_intuitionistic_file file.entry)))
+        (L.reads lib.old) (L.reads lib.new) }
     ensures reading { (told : Option Files) → ReadsOn told (L.reads lib.old) (L.reads lib.new)
         → IfOk result (λ r. IsReading told (in_intuitionistic (the_intuitionistic_file file.entry)) r) }
     ensures setting { IfOk result (λ r. IsReadIn (setting_of Intuitionistic Cumulative) r) }

@@ -6,12 +6,14 @@ ghost use Rattle.calculus.specs.Problems.{is_problem};
 ghost use Rattle.calculus.specs.Soundness.{IsSound};
 ghost use Rattle.calculus.specs.Syntax as tree;
 ghost use Rattle.cop_base.specs.Outside.{Files, Rose};
-ghost use Rattle.cop_base.specs.Reads.{ReadsOn};
+ghost use Rattle.cop_base.specs.Reads.{AgreesSince, ReadsOn};
 ghost use Rattle.cop_sink.specs.Output.{WentOutInPieces};
 ghost use Rattle.command_line.specs.CommandLine.{asked};
 ghost use Rattle.leancop_top.specs.Laws.{IsCharacterised, IsIndependent};
 ghost use Rattle.leancop_top.specs.Run.{Decides, Ends, IsAnswered, IsCutOff};
 ghost use Rattle.leancop_top.specs.Statuses.{IsCounted, OnAnswer};
+ghost use Rattle.problem_build.specs.Fetching.{ReadsOnly};
+ghost use Rattle.leancop_top.specs.Opening.{MayRead};
 
 use crate::commands::check::{check, check_translated};
 use crate::commands::convert::convert;
@@ -30,11 +32,14 @@ use cop_base::{Library, NoMemory};
 use cop_sink::{PutFault, Sink};
 use std::alloc::Global;
 
+#[tactic(auto, using(problem_build::proofs::FetchingLaws::only_same))]
 fn answer<L: Library>(alloc: Global, words: &[String], lib: &mut L) -> Result<Reply, NoMemory>
     ensures same_files { L.holds lib.new ≡ L.holds lib.old }
     ensures more_faults { L.faults lib.old ≤ L.faults lib.new }
     ensures more_misses { L.misses lib.old ≤ L.misses lib.new }
     ensures reads_on { ReadsOn (L.holds lib.old) (L.reads lib.old) (L.reads lib.new) }
+    ensures reads_only { (files : Files) → AgreesSince files (L.reads lib.old) (L.reads lib.new)
+        → ReadsOnly (MayRead files (asked words.now)) (L.reads lib.old) (L.reads lib.new) }
     ensures ends { (told : Option Files) → ReadsOn told (L.reads lib.old) (L.reads lib.new)
         → IfOk result (λ r. Ends told (asked words.now) r.status r.output.items) }
     ensures counted { IfOk result (λ r. IsCounted
@@ -98,6 +103,10 @@ pub fn run<L: Library, K: Sink>(
         → ReadsOn told (L.reads lib.old) (L.reads lib.new)
         → ¬ Rose (L.faults lib.old) (L.faults lib.new)
         → OnAnswer result (Decides told (asked words.now.items) result) }
+    // No other files are read than the problem's, by the walk over its includes, and that of the
+    // second operand; none for bad words and for a problem that is generated.
+    ensures reads_only { (files : Files) → AgreesSince files (L.reads lib.old) (L.reads lib.new)
+        → ReadsOnly (MayRead files (asked words.now.items)) (L.reads lib.old) (L.reads lib.new) }
 
     // The files that the library tells agree, so the same holds of them.
     ensures reads_on { ReadsOn (L.holds lib.old) (L.reads lib.old) (L.reads lib.new) }

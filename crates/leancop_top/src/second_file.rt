@@ -4,6 +4,7 @@ ghost use Rattle.std.specs.Prelude.{◌≡◌, ◌≤◌, IfOk, Option};
 ghost use Rattle.cop_base.specs.Outside.{Files};
 ghost use Rattle.cop_base.specs.Reads.{ReadsOn};
 ghost use Rattle.leancop_top.specs.SecondFile.{IsFetching, IsFetchingCounted};
+ghost use Rattle.problem_build.specs.Fetching.{ReadsOnly};
 
 use crate::status::Status;
 use cop_base::{FetchFault, Library, NoMemory, Text};
@@ -26,6 +27,7 @@ pub fn fetch_second<L: Library>(
     ensures more_faults { L.faults lib.old ≤ L.faults lib.new }
     ensures more_misses { L.misses lib.old ≤ L.misses lib.new }
     ensures reads_on { ReadsOn (L.holds lib.old) (L.reads lib.old) (L.reads lib.new) }
+    ensures reads_only { ReadsOnly (λ n. n ≡ name.now) (L.reads lib.old) (L.reads lib.new) }
     ensures fetching { (told : Option Files) → ReadsOn told (L.reads lib.old) (L.reads lib.new)
         → IfOk result (λ f. IsFetching told name.now f) }
     ensures counted { IfOk result (λ f. IsFetchingCounted

@@ -2,13 +2,15 @@
 
 ghost use Rattle.std.specs.Prelude.{◌≡◌, ◌≤◌, IfOk, List, Option, ℕ};
 ghost use Rattle.cop_base.specs.Outside.{Files};
-ghost use Rattle.cop_base.specs.Reads.{Read, ReadsOn};
+ghost use Rattle.cop_base.specs.Reads.{AgreesSince, Read, ReadsOn};
 ghost use Rattle.command_line.specs.CommandLine.{convert};
 ghost use Rattle.command_line.specs.CommandView.{the_problem_file};
 ghost use Rattle.leancop_top.specs.Commands.Convert.{ConvertEnds};
 ghost use Rattle.leancop_top.specs.Run.{Ends};
 ghost use Rattle.leancop_top.specs.SecondFile.{HasBytes};
 ghost use Rattle.leancop_top.specs.Statuses.{IsCounted};
+ghost use Rattle.problem_build.specs.Fetching.{ReadsOnly};
+ghost use Rattle.leancop_top.specs.Opening.{MayRead};
 
 use crate::commands::prove::derivation_text;
 use crate::problem::{Reading, read_problem};
@@ -54,6 +56,7 @@ fn convert_text<L: Library>(
     ensures more_faults { L.faults lib.old ≤ L.faults lib.new }
     ensures more_misses { L.misses lib.old ≤ L.misses lib.new }
     ensures reads_on { ReadsOn (L.holds lib.old) (L.reads lib.old) (L.reads lib.new) }
+    ensures reads_only { ReadsOnly (λ n. n ≡ tableau.now) (L.reads lib.old) (L.reads lib.new) }
     ensures ends { (told : Option Files) → ReadsOn told (L.reads lib.old) (L.reads lib.new)
         → IfOk result (λ r. ConvertEnds told problem.now tableau.now r.status r.output.items) }
     ensures counted { IfOk result (λ r. IsCounted
@@ -77,6 +80,9 @@ pub fn convert<L: Library>(
     ensures more_faults { L.faults lib.old ≤ L.faults lib.new }
     ensures more_misses { L.misses lib.old ≤ L.misses lib.new }
     ensures reads_on { ReadsOn (L.holds lib.old) (L.reads lib.old) (L.reads lib.new) }
+    ensures reads_only { (files : Files) → AgreesSince files (L.reads lib.old) (L.reads lib.new)
+        → ReadsOnly (MayRead files (convert (the_problem_file file.entry) tableau.now))
+        (L.reads lib.old) (L.reads lib.new) }
     ensures ends { (told : Option Files) → ReadsOn told (L.reads lib.old) (L.reads lib.new)
         → IfOk result (λ r. Ends told
         (convert (the_problem_file file.entry) tableau.now) r.status r.output.items) }

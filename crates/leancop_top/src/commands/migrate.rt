@@ -7,12 +7,14 @@ ghost use Rattle.calculus.specs.Versions.{numbering, stated};
 ghost use Rattle.command_line.specs.CommandLine.{migrate};
 ghost use Rattle.command_line.specs.CommandView.{the_problem_file};
 ghost use Rattle.cop_base.specs.Outside.{Files};
-ghost use Rattle.cop_base.specs.Reads.{Read, ReadsOn};
+ghost use Rattle.cop_base.specs.Reads.{AgreesSince, Read, ReadsOn};
 ghost use Rattle.leancop_top.specs.Accepted.{IsAcceptedIn};
 ghost use Rattle.leancop_top.specs.Commands.Migrate.{MigrateEnds};
 ghost use Rattle.leancop_top.specs.Run.{Ends};
 ghost use Rattle.leancop_top.specs.SecondFile.{HasBytes};
 ghost use Rattle.leancop_top.specs.Statuses.{IsCounted};
+ghost use Rattle.problem_build.specs.Fetching.{ReadsOnly};
+ghost use Rattle.leancop_top.specs.Opening.{MayRead};
 
 use crate::problem::{Reading, read_problem};
 use crate::reply::{Reply, line_reply};
@@ -72,6 +74,7 @@ fn migrate_derivation<L: Library>(
     ensures more_faults { L.faults lib.old ≤ L.faults lib.new }
     ensures more_misses { L.misses lib.old ≤ L.misses lib.new }
     ensures reads_on { ReadsOn (L.holds lib.old) (L.reads lib.old) (L.reads lib.new) }
+    ensures reads_only { ReadsOnly (λ n. n ≡ derivation.now) (L.reads lib.old) (L.reads lib.new) }
     ensures ends { (told : Option Files) → ReadsOn told (L.reads lib.old) (L.reads lib.new)
         → IfOk result (λ r. MigrateEnds told problem.now derivation.now r.status r.output.items) }
     ensures counted { IfOk result (λ r. IsCounted
@@ -95,6 +98,9 @@ pub fn migrate<L: Library>(
     ensures more_faults { L.faults lib.old ≤ L.faults lib.new }
     ensures more_misses { L.misses lib.old ≤ L.misses lib.new }
     ensures reads_on { ReadsOn (L.holds lib.old) (L.reads lib.old) (L.reads lib.new) }
+    ensures reads_only { (files : Files) → AgreesSince files (L.reads lib.old) (L.reads lib.new)
+        → ReadsOnly (MayRead files (migrate (the_problem_file file.entry) derivation.now))
+        (L.reads lib.old) (L.reads lib.new) }
     ensures ends { (told : Option Files) → ReadsOn told (L.reads lib.old) (L.reads lib.new)
         → IfOk result (λ r. Ends told
         (migrate (the_problem_file file.entry) derivation.now) r.status r.output.items) }

@@ -2,13 +2,15 @@
 
 ghost use Rattle.std.specs.Prelude.{◌≡◌, ◌≤◌, IfOk, List, Option, ℕ};
 ghost use Rattle.cop_base.specs.Outside.{Files};
-ghost use Rattle.cop_base.specs.Reads.{Read, ReadsOn};
+ghost use Rattle.cop_base.specs.Reads.{AgreesSince, Read, ReadsOn};
 ghost use Rattle.command_line.specs.CommandLine.{model};
 ghost use Rattle.command_line.specs.CommandView.{the_problem_file};
 ghost use Rattle.leancop_top.specs.Commands.Model.{ModelEnds};
 ghost use Rattle.leancop_top.specs.Run.{Ends};
 ghost use Rattle.leancop_top.specs.SecondFile.{HasBytes};
 ghost use Rattle.leancop_top.specs.Statuses.{IsCounted, status_line};
+ghost use Rattle.problem_build.specs.Fetching.{ReadsOnly};
+ghost use Rattle.leancop_top.specs.Opening.{MayRead};
 
 use crate::problem::{Reading, read_problem};
 use crate::reply::{Reply, line_reply};
@@ -58,6 +60,7 @@ fn model_structure<L: Library>(
     ensures more_faults { L.faults lib.old ≤ L.faults lib.new }
     ensures more_misses { L.misses lib.old ≤ L.misses lib.new }
     ensures reads_on { ReadsOn (L.holds lib.old) (L.reads lib.old) (L.reads lib.new) }
+    ensures reads_only { ReadsOnly (λ n. n ≡ structure.now) (L.reads lib.old) (L.reads lib.new) }
     ensures ends { (told : Option Files) → ReadsOn told (L.reads lib.old) (L.reads lib.new)
         → IfOk result (λ r. ModelEnds told problem.now structure.now steps r.status r.output.items) }
     ensures counted { IfOk result (λ r. IsCounted
@@ -84,6 +87,9 @@ pub fn model<L: Library>(
     ensures more_faults { L.faults lib.old ≤ L.faults lib.new }
     ensures more_misses { L.misses lib.old ≤ L.misses lib.new }
     ensures reads_on { ReadsOn (L.holds lib.old) (L.reads lib.old) (L.reads lib.new) }
+    ensures reads_only { (files : Files) → AgreesSince files (L.reads lib.old) (L.reads lib.new)
+        → ReadsOnly (MayRead files (model (the_problem_file file.entry) structure.now steps))
+        (L.reads lib.old) (L.reads lib.new) }
     ensures ends { (told : Option Files) → ReadsOn told (L.reads lib.old) (L.reads lib.new)
         → IfOk result (λ r. Ends told
         (model (the_problem_file file.entry) structure.now steps) r.status r.output.items) }

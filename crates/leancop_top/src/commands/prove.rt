@@ -4,7 +4,7 @@ ghost use Rattle.std.specs.Prelude.{◌≡◌, ◌≤◌, IfOk, IsTrue, Option};
 ghost use Rattle.calculus.specs.DerivationText.{is_limit};
 ghost use Rattle.calculus.specs.Tableaux.{is_closed};
 ghost use Rattle.cop_base.specs.Outside.{Files};
-ghost use Rattle.cop_base.specs.Reads.{ReadsOn};
+ghost use Rattle.cop_base.specs.Reads.{AgreesSince, ReadsOn};
 ghost use Rattle.command_line.specs.CommandLine.{prove};
 ghost use Rattle.command_line.specs.CommandView.{the_bounds, the_problem_file};
 ghost use Rattle.leancop_top.specs.Commands.Prove.{ProveEnds};
@@ -14,6 +14,8 @@ ghost use Rattle.leancop_top.specs.Statuses.{IsCounted};
 ghost use Rattle.sequent_convert.specs.Conversion.{IsConverted};
 ghost use Rattle.sequent_calc.specs.DerivationView.{the_derivation};
 ghost use Rattle.tableau_core.specs.Numbered.TableauView.{the_tableau};
+ghost use Rattle.problem_build.specs.Fetching.{ReadsOnly};
+ghost use Rattle.leancop_top.specs.Opening.{MayRead};
 
 use crate::problem::{Reading, read_problem};
 use crate::reply::{Reply, line_reply};
@@ -109,6 +111,9 @@ pub fn prove<L: Library>(
     ensures more_faults { L.faults lib.old ≤ L.faults lib.new }
     ensures more_misses { L.misses lib.old ≤ L.misses lib.new }
     ensures reads_on { ReadsOn (L.holds lib.old) (L.reads lib.old) (L.reads lib.new) }
+    ensures reads_only { (files : Files) → AgreesSince files (L.reads lib.old) (L.reads lib.new)
+        → ReadsOnly (MayRead files (prove (the_problem_file file.entry) (the_bounds bounds) version))
+        (L.reads lib.old) (L.reads lib.new) }
     ensures ends { (told : Option Files) → ReadsOn told (L.reads lib.old) (L.reads lib.new)
         → IfOk result (λ r. Ends told
         (prove (the_problem_file file.entry) (the_bounds bounds) version) r.status r.output.items) }

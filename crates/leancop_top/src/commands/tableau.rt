@@ -4,7 +4,7 @@ ghost use Rattle.std.specs.Prelude.{◌≡◌, ◌≤◌, IfOk, IsTrue, Option};
 ghost use Rattle.calculus.specs.DerivationText.{is_limit};
 ghost use Rattle.calculus.specs.Tableaux.{is_closed};
 ghost use Rattle.cop_base.specs.Outside.{Files};
-ghost use Rattle.cop_base.specs.Reads.{ReadsOn};
+ghost use Rattle.cop_base.specs.Reads.{AgreesSince, ReadsOn};
 ghost use Rattle.command_line.specs.CommandLine.{tableau};
 ghost use Rattle.command_line.specs.CommandView.{the_bounds, the_problem_file};
 ghost use Rattle.leancop_top.specs.Commands.Tableau.{TableauEnds};
@@ -12,6 +12,8 @@ ghost use Rattle.leancop_top.specs.Run.{Ends};
 ghost use Rattle.leancop_top.specs.Statuses.{IsCounted};
 ghost use Rattle.leancop_top.specs.TableauTexts.{IsTableau};
 ghost use Rattle.tableau_core.specs.Numbered.TableauView.{the_tableau};
+ghost use Rattle.problem_build.specs.Fetching.{ReadsOnly};
+ghost use Rattle.leancop_top.specs.Opening.{MayRead};
 
 use crate::problem::{Reading, read_problem};
 use crate::reply::{Reply, line_reply};
@@ -67,6 +69,9 @@ pub fn tableau<L: Library>(
     ensures more_faults { L.faults lib.old ≤ L.faults lib.new }
     ensures more_misses { L.misses lib.old ≤ L.misses lib.new }
     ensures reads_on { ReadsOn (L.holds lib.old) (L.reads lib.old) (L.reads lib.new) }
+    ensures reads_only { (files : Files) → AgreesSince files (L.reads lib.old) (L.reads lib.new)
+        → ReadsOnly (MayRead files (tableau (the_problem_file file.entry) (the_bounds bounds)))
+        (L.reads lib.old) (L.reads lib.new) }
     ensures ends { (told : Option Files) → ReadsOn told (L.reads lib.old) (L.reads lib.new)
         → IfOk result (λ r. Ends told
         (tableau (the_problem_file file.entry) (the_bounds bounds)) r.status r.output.items) }

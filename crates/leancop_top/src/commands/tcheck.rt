@@ -2,13 +2,15 @@
 
 ghost use Rattle.std.specs.Prelude.{◌≡◌, ◌≤◌, IfOk, List, Option, ℕ};
 ghost use Rattle.cop_base.specs.Outside.{Files};
-ghost use Rattle.cop_base.specs.Reads.{Read, ReadsOn};
+ghost use Rattle.cop_base.specs.Reads.{AgreesSince, Read, ReadsOn};
 ghost use Rattle.command_line.specs.CommandLine.{tcheck};
 ghost use Rattle.command_line.specs.CommandView.{the_problem_file};
 ghost use Rattle.leancop_top.specs.Commands.Tcheck.{TcheckEnds};
 ghost use Rattle.leancop_top.specs.Run.{Ends};
 ghost use Rattle.leancop_top.specs.SecondFile.{HasBytes};
 ghost use Rattle.leancop_top.specs.Statuses.{IsCounted, status_line};
+ghost use Rattle.problem_build.specs.Fetching.{ReadsOnly};
+ghost use Rattle.leancop_top.specs.Opening.{MayRead};
 
 use crate::problem::{Reading, read_problem};
 use crate::reply::{Reply, line_reply};
@@ -43,6 +45,7 @@ fn tcheck_text<L: Library>(
     ensures more_faults { L.faults lib.old ≤ L.faults lib.new }
     ensures more_misses { L.misses lib.old ≤ L.misses lib.new }
     ensures reads_on { ReadsOn (L.holds lib.old) (L.reads lib.old) (L.reads lib.new) }
+    ensures reads_only { ReadsOnly (λ n. n ≡ tableau.now) (L.reads lib.old) (L.reads lib.new) }
     ensures ends { (told : Option Files) → ReadsOn told (L.reads lib.old) (L.reads lib.new)
         → IfOk result (λ r. TcheckEnds told problem.now tableau.now r.status r.output.items) }
     ensures counted { IfOk result (λ r. IsCounted
@@ -68,6 +71,9 @@ pub fn tcheck<L: Library>(
     ensures more_faults { L.faults lib.old ≤ L.faults lib.new }
     ensures more_misses { L.misses lib.old ≤ L.misses lib.new }
     ensures reads_on { ReadsOn (L.holds lib.old) (L.reads lib.old) (L.reads lib.new) }
+    ensures reads_only { (files : Files) → AgreesSince files (L.reads lib.old) (L.reads lib.new)
+        → ReadsOnly (MayRead files (tcheck (the_problem_file file.entry) tableau.now))
+        (L.reads lib.old) (L.reads lib.new) }
     ensures ends { (told : Option Files) → ReadsOn told (L.reads lib.old) (L.reads lib.new)
         → IfOk result (λ r. Ends told
         (tcheck (the_problem_file file.entry) tableau.now) r.status r.output.items) }

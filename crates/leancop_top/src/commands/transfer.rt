@@ -10,7 +10,7 @@ ghost use Rattle.calculus.specs.Versions.{IsTextIn};
 ghost use Rattle.calculus.specs.declared.fault.CheckFault.{CheckFault};
 ghost use Rattle.calculus.specs.declared.version.Version.{Version};
 ghost use Rattle.cop_base.specs.Outside.{Files};
-ghost use Rattle.cop_base.specs.Reads.{Read, ReadsOn};
+ghost use Rattle.cop_base.specs.Reads.{AgreesSince, Read, ReadsOn};
 ghost use Rattle.command_line.specs.CommandLine.{transfer};
 ghost use Rattle.command_line.specs.CommandView.{the_intuitionistic_file};
 ghost use Rattle.derivation_check.specs.Only.{IsOnlyVersionJudgement};
@@ -22,6 +22,8 @@ ghost use Rattle.leancop_top.specs.SecondFile.{HasBytes};
 ghost use Rattle.leancop_top.specs.Statuses.{IsCounted};
 ghost use Rattle.leancop_top.specs.Translating.{IsTranslated};
 ghost use Rattle.sequent_calc.specs.DerivationView.{the_derivation};
+ghost use Rattle.problem_build.specs.Fetching.{ReadsOnly};
+ghost use Rattle.leancop_top.specs.Opening.{MayRead};
 
 use crate::problem::{Reading, read_intuitionistic};
 use crate::reply::{Reply, line_reply};
@@ -139,6 +141,7 @@ fn transfer_derivation<L: Library>(
     ensures more_faults { L.faults lib.old ≤ L.faults lib.new }
     ensures more_misses { L.misses lib.old ≤ L.misses lib.new }
     ensures reads_on { ReadsOn (L.holds lib.old) (L.reads lib.old) (L.reads lib.new) }
+    ensures reads_only { ReadsOnly (λ n. n ≡ derivation.now) (L.reads lib.old) (L.reads lib.new) }
     ensures ends { (told : Option Files) → ReadsOn told (L.reads lib.old) (L.reads lib.new)
         → IfOk result (λ r. TransferEnds told problem.now derivation.now r.status r.output.items) }
     ensures counted { IfOk result (λ r. IsCounted
@@ -162,6 +165,9 @@ pub fn transfer<L: Library>(
     ensures more_faults { L.faults lib.old ≤ L.faults lib.new }
     ensures more_misses { L.misses lib.old ≤ L.misses lib.new }
     ensures reads_on { ReadsOn (L.holds lib.old) (L.reads lib.old) (L.reads lib.new) }
+    ensures reads_only { (files : Files) → AgreesSince files (L.reads lib.old) (L.reads lib.new)
+        → ReadsOnly (MayRead files (transfer (the_intuitionistic_file file.entry) derivation.now))
+        (L.reads lib.old) (L.reads lib.new) }
     ensures ends { (told : Option Files) → ReadsOn told (L.reads lib.old) (L.reads lib.new)
         → IfOk result (λ r. Ends told
         (transfer (the_intuitionistic_file file.entry) derivation.now) r.status r.output.items) }

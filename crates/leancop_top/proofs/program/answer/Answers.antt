@@ -3,6 +3,8 @@ use Rattle.std.specs.Prelude.{IfOk}
 use Rattle.command_line.specs.CommandView.{the_bounds, the_command, the_generated_problem}
 use Rattle.leancop_top.proofs.Ends.{made-counted}
 use Rattle.leancop_top.specs.Run.{Ends}
+use Rattle.problem_build.specs.Fetching.{ReadsOnly}
+use Rattle.leancop_top.specs.Opening.{MayRead}
 use Rattle.leancop_top.proofs.program.answer.Goals as goal
 
 pub returns-in-Prove-clause-ends : goal.returns-in-Prove-clause-ends
@@ -44,3 +46,39 @@ returns-in-Convert-clause-ends g c = λ told w.
 pub returns-in-Make-clause-counted : goal.returns-in-Make-clause-counted
 returns-in-Make-clause-counted g c =
     made-counted (the_generated_problem c.in-Make.problem) (the_bounds c.in-Make.bounds) _ _ _ _ _ c.make.result c.make.ensures
+
+pub returns-in-Prove-clause-reads_only : goal.returns-in-Prove-clause-reads_only
+returns-in-Prove-clause-reads_only g c = λ files w.
+    subst (λ a. ReadsOnly (MayRead files a) (g.L.Library.reads c.args.lib.now) (g.L.Library.reads c.prove.new.lib)) (sym (ap the_command c.in-Prove.is) ∙ c.command_of.ensures) (c.prove.ensures.reads_only files w)
+
+pub returns-in-Check-clause-reads_only : goal.returns-in-Check-clause-reads_only
+returns-in-Check-clause-reads_only g c = λ files w.
+    subst (λ a. ReadsOnly (MayRead files a) (g.L.Library.reads c.args.lib.now) (g.L.Library.reads c.check.new.lib)) (sym (ap the_command c.in-Check.is) ∙ c.command_of.ensures) (c.check.ensures.reads_only files w)
+
+pub returns-in-CheckTranslated-clause-reads_only : goal.returns-in-CheckTranslated-clause-reads_only
+returns-in-CheckTranslated-clause-reads_only g c = λ files w.
+    subst (λ a. ReadsOnly (MayRead files a) (g.L.Library.reads c.args.lib.now) (g.L.Library.reads c.check_translated.new.lib)) (sym (ap the_command c.in-CheckTranslated.is) ∙ c.command_of.ensures) (c.check_translated.ensures.reads_only files w)
+
+pub returns-in-Transfer-clause-reads_only : goal.returns-in-Transfer-clause-reads_only
+returns-in-Transfer-clause-reads_only g c = λ files w.
+    subst (λ a. ReadsOnly (MayRead files a) (g.L.Library.reads c.args.lib.now) (g.L.Library.reads c.transfer.new.lib)) (sym (ap the_command c.in-Transfer.is) ∙ c.command_of.ensures) (c.transfer.ensures.reads_only files w)
+
+pub returns-in-Migrate-clause-reads_only : goal.returns-in-Migrate-clause-reads_only
+returns-in-Migrate-clause-reads_only g c = λ files w.
+    subst (λ a. ReadsOnly (MayRead files a) (g.L.Library.reads c.args.lib.now) (g.L.Library.reads c.migrate.new.lib)) (sym (ap the_command c.in-Migrate.is) ∙ c.command_of.ensures) (c.migrate.ensures.reads_only files w)
+
+pub returns-in-Model-clause-reads_only : goal.returns-in-Model-clause-reads_only
+returns-in-Model-clause-reads_only g c = λ files w.
+    subst (λ a. ReadsOnly (MayRead files a) (g.L.Library.reads c.args.lib.now) (g.L.Library.reads c.model.new.lib)) (sym (ap the_command c.in-Model.is) ∙ c.command_of.ensures) (c.model.ensures.reads_only files w)
+
+pub returns-in-Tableau-clause-reads_only : goal.returns-in-Tableau-clause-reads_only
+returns-in-Tableau-clause-reads_only g c = λ files w.
+    subst (λ a. ReadsOnly (MayRead files a) (g.L.Library.reads c.args.lib.now) (g.L.Library.reads c.tableau.new.lib)) (sym (ap the_command c.in-Tableau.is) ∙ c.command_of.ensures) (c.tableau.ensures.reads_only files w)
+
+pub returns-in-Tcheck-clause-reads_only : goal.returns-in-Tcheck-clause-reads_only
+returns-in-Tcheck-clause-reads_only g c = λ files w.
+    subst (λ a. ReadsOnly (MayRead files a) (g.L.Library.reads c.args.lib.now) (g.L.Library.reads c.tcheck.new.lib)) (sym (ap the_command c.in-Tcheck.is) ∙ c.command_of.ensures) (c.tcheck.ensures.reads_only files w)
+
+pub returns-in-Convert-clause-reads_only : goal.returns-in-Convert-clause-reads_only
+returns-in-Convert-clause-reads_only g c = λ files w.
+    subst (λ a. ReadsOnly (MayRead files a) (g.L.Library.reads c.args.lib.now) (g.L.Library.reads c.convert.new.lib)) (sym (ap the_command c.in-Convert.is) ∙ c.command_of.ensures) (c.convert.ensures.reads_only files w)
