@@ -1,16 +1,16 @@
 -- The files that commands read.
-use Rattle.std.proofs.Common.{◌≡◌, ℕ, List, Option, inl, inr, Result, Vec, subst}
+use Rattle.std.proofs.Common.{◌≡◌, ℕ, List, Option, String, inl, inr, Result, Vec, subst}
 use Rattle.std.specs.declared.alloc.Global.{Global}
 use Rattle.cop_base.specs.declared.library.FetchFault.{FetchFault}
 use Rattle.cop_base.specs.Outside.{Files}
 use Rattle.cop_base.specs.Reads.{Read, AgreesSince, ReadsOn, answered}
 use Rattle.cop_base.proofs.ReadLaws.{reads_parts}
-use Rattle.command_line.specs.CommandLine.{ProblemFile}
+use Rattle.command_line.specs.CommandLine.{ProblemFile, asked}
 use Rattle.command_line.specs.Table.{Word}
 use Rattle.problem_build.specs.Building.{WalkFetches}
 use Rattle.problem_build.specs.Fetching.{ReadsOnly}
 use Rattle.problem_build.proofs.FetchingLaws.{fetched_only, only-both, only-wider}
-use Rattle.leancop_top.specs.Opening.{IsOfBoth, IsOfProblem}
+use Rattle.leancop_top.specs.Opening.{IsOfBoth, IsOfProblem, MayRead}
 
 -- the words of a command and the texts made of them
 pub problem-read : (p : ProblemFile) (name root : List ℕ) (files : Files) (old new : List Read) → name ≡ p.name → root ≡ p.root
@@ -31,3 +31,7 @@ pub both-read : (p : ProblemFile) (second : Word) (files : Files) {m n : Option 
     → ((files : Files) → AgreesSince files a b → ReadsOnly (IsOfProblem files p) a b) → ReadsOnly (λ name. name ≡ second) b c
     → AgreesSince files a c → ReadsOnly (IsOfBoth files p second) a c
 both-read p second files h k first then w = only-both (first-alone p second files (first files (reads_parts h k w).0)) (only-wider (λ n e. inr e) then)
+
+-- the words of a run, as a list or as what it is seen as
+pub asked-read : (files : Files) (words same : List (String Global)) {a b : List Read} → words ≡ same → ReadsOnly (MayRead files (asked words)) a b → ReadsOnly (MayRead files (asked same)) a b
+asked-read files words same {a} {b} e h = subst (λ ws. ReadsOnly (MayRead files (asked ws)) a b) e h

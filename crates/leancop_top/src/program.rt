@@ -1,8 +1,8 @@
 //! A run of the program.
 
-ghost use Rattle.std.specs.Prelude.{◌≡◌, ◌≤◌, IfOk, IsTrue, Option};
+ghost use Rattle.std.specs.Prelude.{◌≡◌, ◌≤◌, IfOk, IsTrue, List, Ok, Option, ℕ};
 ghost use Rattle.calculus.specs.ComputedInstances.{ComputesInstances};
-ghost use Rattle.calculus.specs.Problems.{is_problem};
+ghost use Rattle.calculus.specs.Problems.{is_problem, setting_fits};
 ghost use Rattle.calculus.specs.Soundness.{IsSound};
 ghost use Rattle.calculus.specs.Syntax as tree;
 ghost use Rattle.cop_base.specs.Outside.{Files, Rose};
@@ -12,7 +12,9 @@ ghost use Rattle.command_line.specs.CommandLine.{asked};
 ghost use Rattle.leancop_top.specs.Laws.{IsCharacterised, IsIndependent};
 ghost use Rattle.leancop_top.specs.Run.{Decides, Ends, IsAnswered, IsCutOff};
 ghost use Rattle.leancop_top.specs.Statuses.{IsCounted, OnAnswer};
+ghost use Rattle.problem_build.specs.Building.{IsProblemOf};
 ghost use Rattle.problem_build.specs.Fetching.{ReadsOnly};
+ghost use Rattle.source_theory.specs.Following.{MeansItems};
 ghost use Rattle.leancop_top.specs.Opening.{MayRead};
 
 use crate::commands::check::{check, check_translated};
@@ -83,7 +85,7 @@ fn answer<L: Library>(alloc: Global, words: &[String], lib: &mut L) -> Result<Re
 
 /// Does all that the program does. `words` are the words after the program's own name. The whole
 /// output is built before the first byte is written.
-#[tactic(auto, using(calculus::proofs::CasesLaws::computes_instances, calculus::proofs::SoundnessLaws::sound, crate::proofs::Laws::characterised, crate::proofs::Laws::independent))]
+#[tactic(auto, using(calculus::proofs::CasesLaws::computes_instances, calculus::proofs::SoundnessLaws::sound, crate::proofs::Laws::characterised, crate::proofs::Laws::independent, source_theory::proofs::FollowingLaws::means_items))]
 pub fn run<L: Library, K: Sink>(
     alloc: Global,
     words: &Vec<String>,
@@ -145,6 +147,11 @@ pub fn run<L: Library, K: Sink>(
     ensures characterised { (P : tree.Problem) → IsTrue (is_problem P) → IsCharacterised P }
     ensures independent { (P : tree.Problem) → IsIndependent P }
     ensures instances { (P : tree.Problem) → ComputesInstances P }
+    // Where the formula of a problem of files is true in a structure in which `=` is identity, the
+    // conjecture follows there from the premises as the items state them.
+    ensures means_items { (files : Files) (name root : List ℕ) (setting : tree.Setting) (P : tree.Problem)
+        → IsTrue (setting_fits P.setting.logic P.setting.domains)
+        → IsProblemOf files name root setting (Ok P) → MeansItems ℕ ℕ files name root P }
 {
     match answer(alloc, words.as_slice(), lib) {
         Ok(reply) => match put_all(out, reply.output.as_slice()) {
