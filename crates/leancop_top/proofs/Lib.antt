@@ -14,19 +14,20 @@
 -- budget of at least the members of the space up to the limit of the answer does not end the search, since that limit is behind those that
 -- were passed, and what comes no later is a member up to it. `Cuts`: where the search finds nothing that does not return to solved goals,
 -- its budget ended it or there was nothing to find (`missed-open`, `missed-steps`); there is one least cut (`cut-unique`), and a run for
--- which the budget allows that search ends with it (`prove-by_cut`, `tableau-by_cut`), since every other end has a closed tableau less
--- than a cut has, or more members than the budget. `Refusals`: `read_as` and `refused_as`, what is read and why reading ends, by the
--- answer of `build`; `fetched_as`, `missing_as`, `unread_as` for a second file. `Ends`: `line-counted`, `proved-counted` and
--- `found-counted`, since a search fetches nothing. `Decisions.for-problem`: where the files hold a problem and no fault is counted, a
--- command ends as it does for this problem; then by the cases of the command (`prove-decided`, `check-decided`, and `search-decided` for
--- both commands that search). `NoIncludes.none-missing`: no byte of a generated text is a quote (`text-unquoted`), so no token of it is a
--- quoted name (`tokens-plain`), no item an include (`items-not`), and no file is missing. `Made`: what is read of a generated text
--- (`read_text`), and why reading it ends (`by_reading`). `Tableaux`: the text of a closed tableau is accepted and has no other judgement
--- (`stated`, by `text-accepted` and `tableau_judgement-unique` of `calculus`), its limit can be written (`stated-limit`), and what is
--- accepted is such a text (`ends-accepted`). `ModelLaws`: what is told of a structure is the one judgement of its bytes (`ends-true`,
--- `ends-false`, `ends-bad`), or the formula has more ways than there are steps (`ends-steps`); since a text states one structure, these
--- are the ways of any that it states (`same-ways`), and a rejection is the only answer where one is right (`same-status`). `Pieces`: bytes
--- that are put piece by piece (`IsPut`, `put_piece`, `put_part`).
+-- which the budget allows that search ends with it (`prove-by_cut`, `tableau-by_cut`), since every other end has a closed tableau less than
+-- a cut has, or more members than the budget. `Refusals`: `read_as` and `refused_as`, what is read and why reading ends, by the answer of
+-- `build`; `fetched_as`, `missing_as`, `unread_as` for a second file. `Opening`: what is read is of the problem's files, or the second one
+-- (`first-alone`, `both-read`). `Ends`: `line-counted`, `proved-counted` and `found-counted`, since a search fetches nothing.
+-- `Decisions.for-problem`: where the files hold a problem and no fault is counted, a command ends as it does for this problem; then by the
+-- cases of the command (`prove-decided`, `check-decided`, and `search-decided` for both commands that search). `NoIncludes.none-missing`:
+-- no byte of a generated text is a quote (`text-unquoted`), so no token of it is a quoted name (`tokens-plain`), no item an include
+-- (`items-not`), and no file is missing. `Made`: what is read of a generated text (`read_text`), and why reading it ends (`by_reading`).
+-- `Tableaux`: the text of a closed tableau is accepted and has no other judgement (`stated`, by `text-accepted` and
+-- `tableau_judgement-unique` of `calculus`), its limit can be written (`stated-limit`), and what is accepted is such a text
+-- (`ends-accepted`). `ModelLaws`: what is told of a structure is the one judgement of its bytes (`ends-true`, `ends-false`, `ends-bad`), or
+-- the formula has more ways than there are steps (`ends-steps`); since a text states one structure, these are the ways of any that it
+-- states (`same-ways`), and a rejection is the only answer where one is right (`same-status`). `Pieces`: bytes that are put piece by piece
+-- (`IsPut`, `put_piece`, `put_part`).
 
 pub mod Pieces
 pub mod LimitLaws

@@ -6,11 +6,13 @@
 --   `answered-alone`, `answered-fetch`) puts the clauses of the walk and of `problem_of` together, over files. Each clause of the walk
 --   speaks of every map of files that agrees with what the call read: `reads_parts` gives the part of each inner call. The clauses on the
 --   files that a library tells follow by `of-told`.
--- - *The walk.* Outcomes are told over the files as they are and, for each name, over the files without it (`Outcomes`); `GoesOn` says
---   that one walk leads to another unless it ends at the file left out, `EndsIn` that it ends in a fault. So it comes out of the same
---   clauses as the walk's result that a file that could not be read is one at which the walk over the others would end. Each function of
---   the cycle says what it leads to (`LeadsTo`, `StepsTo`); `FileLaws` has one lemma for each answer of a fetch (`missing-ends`,
---   `failed-ends`, `large-ends`, `read-goes`), `WalkLaws` one for each end of an include, `WholeWalk.main-walk` leads to `walk`.
+-- - *The walk.* Outcomes are told over the files as they are and, for each name, over the files without it (`Outcomes`); `GoesOn` says that
+--   one walk leads to another unless it ends at the file left out, `EndsIn` that it ends in a fault. So it comes out of the same clauses as
+--   the walk's result that a file that could not be read is one at which the walk over the others would end. Each function of the cycle
+--   says what it leads to (`LeadsTo`, `StepsTo`); `FileLaws` has one lemma for each answer of a fetch (`missing-ends`, `failed-ends`,
+--   `large-ends`, `read-goes`), `WalkLaws` one for each end of an include, `WholeWalk.main-walk` leads to `walk`. Which files are read
+--   (`ReadsOnly`) is said by the same words: each name is one at which the walk would end in the fault that it could not be read, so the
+--   lemmas for ends serve again, and `FetchingLaws` puts the reads of two calls together (`only-both`, `only-wider`).
 -- - *Symbols that are added.* `Adds before after xs result` says what each outcome means: all are there, there are too many, or nothing.
 --   `adds-then` and `both-added` lead from parts to the whole, `stops-more` and `both-stopped` from where it stopped, `stopped-term` and
 --   `stopped-unit` out of a loop. `Stops` speaks of the fault alone, since a word over `Result A F` leaves `A` undetermined in a law about
@@ -24,8 +26,8 @@
 --   apart is reversed (`part-next`).
 -- - *What fits.* The walk says that whatever test holds of the formulas of all texts of at most 16 MiB that are read holds of those that
 --   pass (`AreRead`), so three tests suffice: `is_well` (`ReadingLaws.read-well`) and `names_fit` (`NameLaws.read-names`: tokens in lower
---   case or in quotes have name bytes). `FittingLaws`: `symbols-fit`, `premises-fit`, `conjectures-fit`. The third is `is_short`: a
---   formula has no more names than its text has bytes (`NameCountLaws.read-short`), so arities (`symbols-narrow`) and variables in scope
+--   case or in quotes have name bytes). `FittingLaws`: `symbols-fit`, `premises-fit`, `conjectures-fit`. The third is `is_short`: a formula
+--   has no more names than its text has bytes (`NameCountLaws.read-short`), so arities (`symbols-narrow`) and variables in scope
 --   (`free-few`) have numbers of 32 bits, and no arm answers want of memory for them.
 -- - *Names.* A `NameSet` is seen as the list of its names, the few first ones and those behind them, so the free variables are said by
 --   `with_new` with or without it. `NameSetLaws` has one lemma for each exit of `add_name` (`known-few`, `one-of-few`, `one-more`) and
@@ -33,8 +35,8 @@
 --   which is the invariant of `Selection`; `absent-same` goes from the set of the reached names to their list. `one-entered`: where an
 --   include has a list, `leave` finds one.
 -- - *Symbols stand in the formula.* `StandingLaws`: a list of symbols is looked at as a whole (`both`, `implied`), so the proof follows
---   `symbols_in`; `joined-same` for balanced joins, `parted` for premises and conjectures. `ConjectureLaws.one-conjecture`: the walk
---   passes at most one.
+--   `symbols_in`; `joined-same` for balanced joins, `parted` for premises and conjectures. `ConjectureLaws.one-conjecture`: the walk passes
+--   at most one.
 
 -- files hold one problem, or have one first refusal
 pub mod OneProblem
