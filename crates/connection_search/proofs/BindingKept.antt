@@ -13,9 +13,9 @@ use Rattle.store_theory.proofs.StoreLaws.{length-bound}
 use Rattle.search_theory.specs.Exploring.{IsIn}
 use Rattle.search_theory.specs.Jumps.{AreKept, IsSolvedBehind}
 use Rattle.search_theory.specs.States.{CellChoice, CellGoal, CellGrowth, State, atom_is_below, goal_is_below}
-use Rattle.search_theory.proofs.AtomLaws.{IsAtomIn}
-use Rattle.search_theory.proofs.JumpLaws.{CannotClose, cannot-transplant}
-use Rattle.search_theory.proofs.LeftLabels.{IsGoalIn}
+use Rattle.search_theory.specs.CellsIn.{IsAtomIn, IsGoalIn}
+use Rattle.search_theory.proofs.JumpLaws.{cannot-transplant}
+use Rattle.search_theory.specs.Closing.{CannotClose}
 use Rattle.search_theory.proofs.RankLaws.{rank_of}
 use Rattle.search_theory.proofs.RegularLaws.{each-at}
 use Rattle.search_theory.proofs.TransplantLaws.{IsAtomOf, IsGoalOf, MayTransplant, cut-is, cut-unbound, cut_cell, transplant}

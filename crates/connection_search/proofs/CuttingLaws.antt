@@ -26,7 +26,7 @@ use Rattle.search_theory.specs.OrderedChoices.{choices_at, selection_of}
 use Rattle.search_theory.specs.Regular.{HasNoSamePair}
 use Rattle.search_theory.specs.States.{CellChoice, CellGoal, CellGrowth, State, growth_at}
 use Rattle.search_theory.specs.StateSystems as systems
-use Rattle.search_theory.proofs.BeginningLaws.{IsDead, is_not_empty}
+use Rattle.search_theory.specs.DeadEnds.{IsDead, is_not_empty}
 use Rattle.search_theory.proofs.ChoiceLaws.{choices-rise}
 use Rattle.search_theory.proofs.CutEnds.{fails-dead, fails-more, trying-failed}
 use Rattle.search_theory.proofs.CutLimits.{fails-whole_beyond, sound-more, state-short, told-before, told-from, told-itself, untried-told}

@@ -6,7 +6,8 @@ use Rattle.calculus.specs.Space.{Member}
 use Rattle.calculus.specs.Syntax.{Problem}
 use Rattle.search_theory.specs.Exploring.{behind}
 use Rattle.search_theory.specs.Searching.{IsSearch}
-use Rattle.search_theory.proofs.BeginningLaws.{IsDead, beginning, irregular, is_not_empty, not-empty-behind, refused, regular-kept}
+use Rattle.search_theory.proofs.BeginningLaws.{beginning, not-empty-behind, regular-kept}
+use Rattle.search_theory.specs.DeadEnds.{IsDead, irregular, is_not_empty, refused}
 use Rattle.search_theory.proofs.SearchSteps.{search-dead}
 
 pub dead-behind : (P : Problem) (c : List Choice) (x : Choice) → IsTrue (is_not_empty c) → IsDead P c → IsDead P (c ++ x ∷ [])

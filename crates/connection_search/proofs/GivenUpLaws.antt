@@ -5,9 +5,10 @@ use Rattle.calculus.specs.Choices.{Choice}
 use Rattle.calculus.specs.Space.{Member}
 use Rattle.calculus.specs.Syntax.{Problem}
 use Rattle.store_theory.specs.Stores.{Solution, Solves, Store}
-use Rattle.search_theory.proofs.BeginningLaws.{IsDead, is_not_empty}
+use Rattle.search_theory.specs.DeadEnds.{IsDead, is_not_empty}
 use Rattle.search_theory.proofs.JumpLaws.{cannot-pruned, repeated-cannot}
-use Rattle.search_theory.proofs.LookAheadLaws.{IsCloseable, full-lost, nearly-lost, none-reduces}
+use Rattle.search_theory.proofs.LookAheadLaws.{full-lost, nearly-lost, none-reduces}
+use Rattle.search_theory.specs.Closing.{IsCloseable}
 use Rattle.search_theory.proofs.PruningLaws.{search-pruned}
 use Rattle.search_theory.specs.Matrix.{MatrixClause}
 use Rattle.search_theory.specs.Searching.{IsSearch}

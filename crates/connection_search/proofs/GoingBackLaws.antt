@@ -11,8 +11,8 @@ use Rattle.calculus.specs.Syntax.{Problem}
 use Rattle.search_theory.specs.Jumps.{AreSolvedBehind}
 use Rattle.search_theory.specs.Matrix.{MatrixClause}
 use Rattle.search_theory.specs.States.{CellGoal, IsStateOf, State}
-use Rattle.search_theory.proofs.BeginningLaws.{is_not_empty}
-use Rattle.search_theory.proofs.JumpLaws.{CannotClose}
+use Rattle.search_theory.specs.DeadEnds.{is_not_empty}
+use Rattle.search_theory.specs.Closing.{CannotClose}
 use Rattle.store_theory.specs.Stores.{IsGood, Store, cut_at}
 use Rattle.store_theory.proofs.StoreLaws.{IsGood-cut_at, cut_at-cut_at, take-less}
 use Rattle.term_store.specs.StoreView.{the_mark}

@@ -10,8 +10,9 @@ use Rattle.search_theory.specs.Jumps.{AreSolvedBehind, ChoicePoint}
 use Rattle.search_theory.specs.Matrix.{MatrixClause}
 use Rattle.search_theory.specs.Searching.{IsSearch}
 use Rattle.search_theory.specs.States.{CellGoal, IsStateOf, State}
-use Rattle.search_theory.proofs.BeginningLaws.{is_not_empty}
-use Rattle.search_theory.proofs.JumpLaws.{CannotClose, LeadsNowhere, LeadsOn, cannot-pruned, nowhere-cannot, search-jump, solved-on}
+use Rattle.search_theory.specs.DeadEnds.{is_not_empty}
+use Rattle.search_theory.proofs.JumpLaws.{LeadsNowhere, LeadsOn, cannot-pruned, nowhere-cannot, search-jump, solved-on}
+use Rattle.search_theory.specs.Closing.{CannotClose}
 use Rattle.connection_search.specs.Exploring.{ArePointsFrom, IsExploring, IsSearched, IsSpentAt, IsStack, traced}
 use Rattle.connection_search.specs.GoingBack.{HandsDown}
 use Rattle.connection_search.specs.Points.{IsPoint}

@@ -15,14 +15,11 @@ use Rattle.store_theory.proofs.BindingLaws.{or-more, sorted_cell}
 use Rattle.calculus.proofs.PlaceLists.{all-at, get-within}
 use Rattle.search_theory.specs.States.{CellChoice, CellClause, CellGoal, atom_is_below, cell_goals_on, clause_is_below}
 use Rattle.search_theory.specs.StateSystems.{pairs_of, pairs_with}
-use Rattle.search_theory.proofs.AtomLaws.{IsAtomIn}
+use Rattle.search_theory.specs.CellsIn.{IsAtomIn, IsChoiceIn, IsClauseIn, IsGoalIn, IsPart}
 use Rattle.search_theory.proofs.BelowLaws.{all-join, all-split, all-weaken}
 use Rattle.search_theory.proofs.BuildingLaws.{is_variable_sort}
 use Rattle.search_theory.proofs.DeepenLaws.{all-of-each}
-use Rattle.search_theory.proofs.LabelledEnd.{IsChoiceIn, IsClauseIn}
-use Rattle.search_theory.proofs.LeftLabels.{IsGoalIn}
 use Rattle.search_theory.proofs.SolvingLaws.{SystemParts, system-parts}
-use Rattle.search_theory.proofs.SpareLaws.{IsPart}
 
 -- ---- sorts
 

@@ -9,7 +9,7 @@ use Rattle.store_theory.specs.Systems.{CellAtom}
 use Rattle.search_theory.specs.Exploring.{IsIn}
 use Rattle.search_theory.specs.Goals.{IsChoiceAt}
 use Rattle.search_theory.specs.OrderedChoices.{extensions, meets, reductions_from}
-use Rattle.search_theory.proofs.BeginningLaws.{IsDead}
+use Rattle.search_theory.specs.DeadEnds.{IsDead}
 use Rattle.search_theory.proofs.ChoiceLaws.{choices-complete}
 use Rattle.store_theory.specs.Stores.{Store, cut_at}
 use Rattle.calculus.specs.Syntax.{Problem}

@@ -18,14 +18,14 @@ use Rattle.search_theory.specs.OrderedChoices.{extension_at, selection_of}
 use Rattle.search_theory.specs.StateSystems.{extended_system, reduced_system, started_system, string_cells}
 use Rattle.search_theory.specs.States.{CellChoice, CellGoal, cell_goals_on, extended, goal_is_below, new_cell_goals, reduced, started}
 use Rattle.search_theory.specs.Steps.{AreUnified, Clash}
-use Rattle.search_theory.proofs.AtomLaws.{IsAtomIn}
-use Rattle.search_theory.proofs.BeginningLaws.{IsDead, dead-same}
+use Rattle.search_theory.specs.CellsIn.{IsAtomIn, IsGoalIn}
+use Rattle.search_theory.proofs.BeginningLaws.{dead-same}
+use Rattle.search_theory.specs.DeadEnds.{IsDead, Grows}
 use Rattle.search_theory.proofs.BelowLaws.{goal-more}
 use Rattle.search_theory.proofs.BuildingLaws.{variables-longer}
 use Rattle.search_theory.proofs.ExtensionLaws.{extended_state, no-extension, reduced_state}
-use Rattle.search_theory.proofs.LeftLabels.{IsGoalIn}
 use Rattle.search_theory.proofs.RegularLaws.{each-at}
-use Rattle.search_theory.proofs.StepLaws.{Grows, start_state}
+use Rattle.search_theory.proofs.StepLaws.{start_state}
 use Rattle.search_theory.proofs.VariableSorts.{sorts-kept}
 use Rattle.term_store.specs.ClauseView.{the_atom}
 use Rattle.term_store.specs.RefView.{the_places}

@@ -8,7 +8,7 @@ use Rattle.calculus.specs.declared.sort.Sort.TheVariants.{TermSort, MarkSort, St
 use Rattle.calculus.proofs.PlaceLists.{get-within}
 use Rattle.search_theory.specs.StateSystems.{string_cells}
 use Rattle.search_theory.proofs.BuildingLaws.{get-kept, get-more, length-plus, variables-front}
-use Rattle.search_theory.proofs.SpareLaws.{IsPart}
+use Rattle.search_theory.specs.CellsIn.{IsPart}
 use Rattle.connection_search.proofs.KeptLaws.{KeepsSorts}
 use Rattle.connection_search.proofs.Places.{item-there}
 

@@ -17,7 +17,8 @@ use Rattle.search_theory.specs.Matrix.{MatrixClause, MatrixPlace}
 use Rattle.search_theory.specs.OrderedChoices.{extension_at}
 use Rattle.search_theory.specs.Searching.{IsSearch}
 use Rattle.search_theory.specs.States.{CellGoal}
-use Rattle.search_theory.proofs.BeginningLaws.{not-empty-behind, refused}
+use Rattle.search_theory.proofs.BeginningLaws.{not-empty-behind}
+use Rattle.search_theory.specs.DeadEnds.{refused}
 use Rattle.search_theory.proofs.BarrenLaws.{hopeless-dropped}
 use Rattle.search_theory.proofs.PruningLaws.{search-pruned}
 use Rattle.search_theory.proofs.SearchSteps.{search-dead}

@@ -9,7 +9,7 @@ use Rattle.store_theory.specs.Stores.{Solution, Solves, Store}
 use Rattle.calculus.specs.Syntax.{Problem}
 use Rattle.store_theory.specs.Systems.{AreEqual, IsStep, NamesItsStrings, System, is_system}
 use Rattle.search_theory.specs.Matrix.{MatrixClause}
-use Rattle.search_theory.proofs.BeginningLaws.{is_not_empty}
+use Rattle.search_theory.specs.DeadEnds.{is_not_empty}
 use Rattle.search_theory.proofs.BuildingLaws.{get-kept}
 use Rattle.search_theory.proofs.PruningLaws.{pruned-by_none}
 use Rattle.search_theory.proofs.SolvingLaws.{system-parts}

@@ -24,20 +24,21 @@ use Rattle.search_theory.specs.Regular.{HasNoSamePair}
 use Rattle.search_theory.specs.StateSystems.{Brings, extended_system, pairs_of, reduced_system, started_system, string_cells}
 use Rattle.search_theory.specs.States.{CellChoice, CellClause, CellGoal, IsGround, IsStateOf, State, choice_at, clause_at, cell_goals_on, growth_at, literal_by, new_cell_goals, values_by}
 use Rattle.search_theory.specs.Steps.{AreUnified, Clash, IsExtended, IsFreshClause, IsReduced, IsRestCopy}
-use Rattle.search_theory.proofs.AtomLaws.{IsAtomIn}
+use Rattle.search_theory.specs.CellsIn.{IsAtomIn, IsChoiceIn, IsGoalIn}
 use Rattle.search_theory.proofs.BelowLaws.{all-join, all-remove, all-weaken}
 use Rattle.search_theory.proofs.BringsLaws.{brings-by_template, uses-built}
 use Rattle.search_theory.proofs.BuildingLaws.{AreStores, AreValueCells, adds-longer, built-label, copy-by_cells, is_value_cell, is_variable_sort, length-variables, rest-by_cells, solved-valued, value-cell}
 use Rattle.search_theory.proofs.DeepenLaws.{all-of-both}
 use Rattle.search_theory.proofs.DistinctLaws.{AreDistinct}
 use Rattle.search_theory.proofs.ExtensionLaws.{extended_state, no-extension, no-reduction, reduced_state, state-extended, state-reduced, state_at}
-use Rattle.search_theory.proofs.LabelledEnd.{IsChoiceIn, admitted-good}
-use Rattle.search_theory.proofs.LeftLabels.{IsGoalIn, regular-by_distinct}
+use Rattle.search_theory.proofs.LabelledEnd.{admitted-good}
+use Rattle.search_theory.proofs.LeftLabels.{regular-by_distinct}
 use Rattle.search_theory.proofs.MeetingLaws.{cannot-reduce-by_clash, reduced-by_unifying}
 use Rattle.search_theory.proofs.RankLaws.{rank_of}
 use Rattle.search_theory.proofs.RegularLaws.{each-at}
 use Rattle.search_theory.proofs.StageLaws.{inserted}
-use Rattle.search_theory.proofs.StepLaws.{Grows, admitted-all, instance-at, live-state, start_state, state-started}
+use Rattle.search_theory.proofs.StepLaws.{admitted-all, instance-at, live-state, start_state, state-started}
+use Rattle.search_theory.specs.DeadEnds.{Grows}
 use Rattle.search_theory.proofs.SystemLaws.{tree-by_state}
 use Rattle.search_theory.proofs.SystemSteps.{pairs-append, pairs-none, system-extended, system-reduced, system-started}
 use Rattle.search_theory.proofs.VariableSorts.{sorts-kept, strings-sorted}

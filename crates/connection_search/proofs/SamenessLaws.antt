@@ -16,11 +16,11 @@ use Rattle.calculus.proofs.PlaceLists.{all-at}
 use Rattle.store_theory.proofs.SolutionLaws.{some_solution}
 use Rattle.search_theory.specs.States.{atom_is_below, label_by, terms_by}
 use Rattle.search_theory.specs.Regular.{AreSame}
-use Rattle.search_theory.proofs.AtomLaws.{IsAtomIn}
+use Rattle.search_theory.specs.CellsIn.{IsAtomIn, IsPart}
 use Rattle.search_theory.proofs.BuildingLaws.{solved-sorted}
 use Rattle.search_theory.proofs.DistinctLaws.{distinct-same, not-string-mark}
 use Rattle.search_theory.proofs.RankLaws.{rank_of}
-use Rattle.search_theory.proofs.SpareLaws.{IsPart, cell-fits, cell-sorted}
+use Rattle.search_theory.proofs.SpareLaws.{cell-fits, cell-sorted}
 use Rattle.search_theory.proofs.UnifyLaws.{term-same}
 use Rattle.term_unify.specs.Same.{AreSameCells, DifferAt}
 use Rattle.term_unify.proofs.SameLaws.{different-cells}

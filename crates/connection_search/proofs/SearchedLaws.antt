@@ -9,7 +9,7 @@ use Rattle.calculus.specs.Syntax.{Problem}
 use Rattle.calculus.specs.Tableaux.{HasClosed}
 use Rattle.store_theory.proofs.BindingLaws.{KeepsMarks-both, KeepsMarks-same}
 use Rattle.logic_rules.proofs.ProblemFacts.{kept}
-use Rattle.search_theory.proofs.BeginningLaws.{IsDead, is_not_empty}
+use Rattle.search_theory.specs.DeadEnds.{IsDead, is_not_empty}
 use Rattle.search_theory.proofs.DeepenLaws.{starting}
 use Rattle.search_theory.proofs.MatrixStart.{dead-start, search-start_all}
 use Rattle.search_theory.proofs.SearchSteps.{search-dead, search-ended}

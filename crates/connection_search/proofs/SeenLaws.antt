@@ -6,8 +6,7 @@ use Rattle.calculus.specs.Syntax.{Problem}
 use Rattle.store_theory.specs.Stores.{Store}
 use Rattle.store_theory.specs.Systems.{CellAtom}
 use Rattle.calculus.proofs.PlaceLists.{all-at}
-use Rattle.search_theory.proofs.AtomLaws.{IsAtomIn}
-use Rattle.search_theory.proofs.LeftLabels.{IsGoalIn}
+use Rattle.search_theory.specs.CellsIn.{IsAtomIn, IsGoalIn}
 use Rattle.search_theory.proofs.RegularLaws.{each-at}
 use Rattle.search_theory.specs.Regular.{AreSame, IsNewGoal}
 use Rattle.search_theory.specs.States.{CellGoal, atom_is_below, goal_is_below}

@@ -13,10 +13,10 @@ use Rattle.search_theory.specs.Jumps.{AreSolvedBehind, ChoicePoint, IsFruitless,
 use Rattle.search_theory.specs.Matrix.{MatrixClause}
 use Rattle.search_theory.specs.States.{CellGoal, name_of}
 use Rattle.search_theory.proofs.BarrenLaws.{nowhere-passed}
-use Rattle.search_theory.proofs.BeginningLaws.{is_not_empty, not-empty-behind}
+use Rattle.search_theory.proofs.BeginningLaws.{not-empty-behind}
+use Rattle.search_theory.specs.DeadEnds.{is_not_empty, Grows}
 use Rattle.search_theory.proofs.JumpLaws.{LeadsNowhere, LeadsOn, cannot-solved, solved-cannot, new_point, solved-nothing, solved-on, solved-passed, solved-pushed, solved-refused, solved-seen, solved-started}
 use Rattle.search_theory.proofs.SolvedLaws.{refused-unsolved}
-use Rattle.search_theory.proofs.StepLaws.{Grows}
 use Rattle.term_store.specs.StoreView.{the_mark}
 use Rattle.connection_search.specs.Ahead.{IsPassed}
 use Rattle.connection_search.specs.Exploring.{ArePointsFrom, IsBefore, IsSpace, IsStack, choice_point, traced}

@@ -15,7 +15,7 @@ use Rattle.search_theory.specs.Exploring.{behind}
 use Rattle.search_theory.specs.Matrix.{MatrixClause}
 use Rattle.search_theory.specs.Searching.{IsSearch}
 use Rattle.search_theory.specs.States.{CellGoal}
-use Rattle.search_theory.proofs.BeginningLaws.{IsDead, is_not_empty}
+use Rattle.search_theory.specs.DeadEnds.{IsDead, is_not_empty}
 use Rattle.search_theory.proofs.SearchSteps.{search-dead}
 use Rattle.term_store.specs.Room.{KeepsRoom, TermStore}
 use Rattle.term_store.specs.StoreView.{the_mark}

@@ -14,7 +14,7 @@ use Rattle.search_theory.specs.Matrix.{MatrixClause}
 use Rattle.search_theory.specs.Searching.{IsSearch}
 use Rattle.search_theory.specs.OrderedChoices.{choices_at}
 use Rattle.search_theory.specs.States.{CellGoal}
-use Rattle.search_theory.proofs.BeginningLaws.{IsDead}
+use Rattle.search_theory.specs.DeadEnds.{IsDead}
 use Rattle.search_theory.proofs.SearchSteps.{search-dead, search-left, search-visit}
 use Rattle.term_store.specs.StoreView.{the_mark}
 use Rattle.connection_search.specs.Seeing.{HasSeen, no_goal}

@@ -6,7 +6,7 @@ use Rattle.calculus.specs.Kinds.{other}
 use Rattle.calculus.specs.Syntax.{Problem}
 use Rattle.matrix_build.specs.MatrixView.{the_place}
 use Rattle.matrix_build.specs.declared.index.Place.{Place}
-use Rattle.search_theory.proofs.StepLaws.{Grows}
+use Rattle.search_theory.specs.DeadEnds.{Grows}
 use Rattle.search_theory.specs.Ahead.{HasNoReduction, IsHopelessAt, MarksPath}
 use Rattle.search_theory.specs.Exploring.{IsIn}
 use Rattle.search_theory.specs.Matrix.{MatrixClause, MatrixPlace, places}

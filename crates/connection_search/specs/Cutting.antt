@@ -8,7 +8,7 @@ use Rattle.calculus.specs.Space.{Member, member_cmp}
 use Rattle.store_theory.specs.Stores.{Store}
 use Rattle.calculus.specs.Syntax.{Problem}
 use Rattle.calculus.specs.declared.sign.Side.{Side}
-use Rattle.search_theory.proofs.BeginningLaws.{is_not_empty}
+use Rattle.search_theory.specs.DeadEnds.{is_not_empty}
 use Rattle.search_theory.specs.Cutting.{AreLevels, FailsFrom, IsNext, IsToldOf, Level, pending_on}
 use Rattle.search_theory.specs.Exploring.{IsMemberAt, Passes}
 use Rattle.search_theory.specs.Matrix.{MatrixClause}

@@ -9,7 +9,7 @@ use Rattle.calculus.specs.Space.{IsEarly, Member, member_cmp}
 use Rattle.store_theory.specs.Stores.{IsGood, Store, TrailMark, cut_at}
 use Rattle.calculus.specs.Syntax.{Problem}
 use Rattle.calculus.specs.Tableaux.{is_closed}
-use Rattle.search_theory.proofs.BeginningLaws.{is_not_empty}
+use Rattle.search_theory.specs.DeadEnds.{is_not_empty}
 use Rattle.search_theory.specs.Exploring.{behind}
 use Rattle.search_theory.specs.Jumps.{AreSolvedBehind, ChoicePoint}
 use Rattle.search_theory.specs.Matrix.{MatrixClause}

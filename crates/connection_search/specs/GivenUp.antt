@@ -2,9 +2,8 @@
 use Rattle.std.specs.Prelude.{◌≡◌, ◌⊎◌, ◌≤◌, ℕ, List, MatchOption, None, Option, Some, slice_get, ⊤}
 use Rattle.calculus.specs.Choices.{Choice}
 use Rattle.calculus.specs.Syntax.{Problem}
-use Rattle.search_theory.proofs.BeginningLaws.{IsDead}
-use Rattle.search_theory.proofs.JumpLaws.{CannotClose}
-use Rattle.search_theory.proofs.StepLaws.{Grows}
+use Rattle.search_theory.specs.DeadEnds.{IsDead, Grows}
+use Rattle.search_theory.specs.Closing.{CannotClose}
 use Rattle.search_theory.specs.Jumps.{IsFruitless}
 use Rattle.search_theory.specs.Matrix.{MatrixClause}
 use Rattle.search_theory.specs.States.{CellGoal, IsStateOf, State}

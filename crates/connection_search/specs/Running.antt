@@ -10,13 +10,12 @@ use Rattle.calculus.specs.Problems.{formula_fits}
 use Rattle.store_theory.specs.Stores.{EndsAt, Store}
 use Rattle.calculus.specs.Syntax.{Problem}
 use Rattle.store_theory.specs.Systems.{CellAtom, IsOpenString, System, cells_of}
-use Rattle.search_theory.proofs.BeginningLaws.{IsDead}
+use Rattle.search_theory.specs.DeadEnds.{IsDead}
 use Rattle.search_theory.specs.Goals.{IsChoiceAt}
 use Rattle.search_theory.specs.Jumps.{NamesVariables}
 use Rattle.search_theory.specs.Matrix.{IsTemplateMatrix, MatrixClause, MatrixPlace}
 use Rattle.search_theory.specs.Regular.{HasNoSamePair}
-use Rattle.search_theory.proofs.LabelledEnd.{IsChoiceIn}
-use Rattle.search_theory.proofs.LeftLabels.{IsGoalIn}
+use Rattle.search_theory.specs.CellsIn.{IsChoiceIn, IsGoalIn}
 use Rattle.search_theory.specs.StateSystems.{IsSystemOf}
 use Rattle.search_theory.specs.States.{CellChoice, CellGoal, CellGrowth, IsStateOf, State}
 use Rattle.connection_search.specs.OwnStores.{AreOwn}

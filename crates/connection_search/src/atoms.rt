@@ -10,7 +10,7 @@ ghost use Rattle.calculus.specs.Kinds as kinds;
 ghost use Rattle.store_theory.specs.Stores.{has_sort_at};
 ghost use Rattle.calculus.specs.Syntax.{Problem};
 ghost use Rattle.connection_search.specs.OwnStores.{AreOwn};
-ghost use Rattle.search_theory.proofs.AtomLaws.{IsAtomIn};
+ghost use Rattle.search_theory.specs.CellsIn.{IsAtomIn};
 ghost use Rattle.search_theory.specs.Regular.{AreSame};
 ghost use Rattle.search_theory.specs.OrderedChoices as choices;
 ghost use Rattle.search_theory.specs.States.{atom_is_below};

@@ -2,7 +2,7 @@
 
 ghost use Rattle.std.specs.Prelude.{◌≡◌, ℕ, IfOk, IsTrue, List, MatchOption, true, ⊤};
 ghost use Rattle.calculus.specs.Choices.{Choice};
-ghost use Rattle.search_theory.proofs.BeginningLaws.{is_not_empty};
+ghost use Rattle.search_theory.specs.DeadEnds.{is_not_empty};
 ghost use Rattle.connection_search.specs.GivenUp.{HasLost};
 ghost use Rattle.connection_search.specs.Pruning.{IsPruned};
 ghost use Rattle.connection_search.specs.Running.{IsMatrixOf, TreeStands};

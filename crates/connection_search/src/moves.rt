@@ -8,7 +8,7 @@ ghost use Rattle.store_theory.specs.Patterns.{Template};
 ghost use Rattle.calculus.specs.Choices.{Choice, reduction, start};
 ghost use Rattle.calculus.specs.Syntax.{Problem};
 ghost use Rattle.matrix_build.specs.MatrixView.{the_place};
-ghost use Rattle.search_theory.proofs.BeginningLaws.{IsDead};
+ghost use Rattle.search_theory.specs.DeadEnds.{IsDead};
 ghost use Rattle.search_theory.specs.Matrix.{MatrixClause, all_shown};
 ghost use Rattle.search_theory.specs.Regular.{HasNoSamePair};
 ghost use Rattle.search_theory.specs.OrderedChoices.{extension_at, selection_of};

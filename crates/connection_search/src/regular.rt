@@ -4,7 +4,7 @@ ghost use Rattle.std.specs.Prelude.{◌≡◌, ◌≤◌, ℕ, List, IfOk, IsTru
 ghost use Rattle.std.specs.Prelude.{drop, false, length, true};
 ghost use Rattle.std.specs.List.{AllByRecursion, list_all};
 ghost use Rattle.calculus.specs.Syntax.{Problem};
-ghost use Rattle.search_theory.proofs.LeftLabels.{IsGoalIn};
+ghost use Rattle.search_theory.specs.CellsIn.{IsGoalIn};
 ghost use Rattle.search_theory.specs.Regular.{IsNewGoal};
 ghost use Rattle.search_theory.specs.States.{CellGoal, goal_is_below};
 ghost use Rattle.connection_search.specs.OwnStores.{AreOwn};

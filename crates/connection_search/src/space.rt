@@ -7,7 +7,7 @@ ghost use Rattle.calculus.specs.Choices.{Choice, IsLeft, extension};
 ghost use Rattle.calculus.specs.declared.sign.Side.{Side};
 ghost use Rattle.calculus.specs.Syntax.{Problem};
 ghost use Rattle.matrix_build.specs.MatrixView.{the_place};
-ghost use Rattle.search_theory.proofs.BeginningLaws.{IsDead};
+ghost use Rattle.search_theory.specs.DeadEnds.{IsDead};
 ghost use Rattle.search_theory.specs.Goals.{IsChoiceAt};
 ghost use Rattle.search_theory.specs.OrderedChoices.{extension_at};
 ghost use Rattle.search_theory.specs.States.{CellGoal};

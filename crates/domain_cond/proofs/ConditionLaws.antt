@@ -21,8 +21,10 @@ use Rattle.search_theory.specs.Demanding.{equation}
 use Rattle.search_theory.specs.States.{label_by, values_by, Agree}
 use Rattle.search_theory.proofs.AtomLaws.{label_at-by}
 use Rattle.search_theory.proofs.BuildingLaws.{adds-back, adds-forth}
-use Rattle.search_theory.proofs.DemandLaws.{HomesAllow, all-taken, eigen-home, held-allowed, marks-label, met-common, met-gamma, now-label, prefix-take, prefix-taken, take-marks}
-use Rattle.search_theory.proofs.GivingLaws.{IsFlat, length-marks}
+use Rattle.search_theory.proofs.DemandLaws.{all-taken, eigen-home, held-allowed, marks-label, met-common, met-gamma, now-label, prefix-take, prefix-taken, take-marks}
+use Rattle.search_theory.specs.HomesTold.{HomesAllow}
+use Rattle.search_theory.proofs.GivingLaws.{length-marks}
+use Rattle.search_theory.specs.MarkLists.{IsFlat}
 use Rattle.search_theory.proofs.RankLaws.{rank_of, ranked-by_no_cycle}
 use Rattle.search_theory.proofs.SolvingLaws.{label-below, label-there, system-parts}
 use Rattle.search_theory.proofs.SpareLaws.{own-apart, own_value}

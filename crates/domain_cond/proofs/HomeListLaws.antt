@@ -17,7 +17,8 @@ use Rattle.calculus.proofs.EqualityLaws.{list_eq-tells, mark_eq-tells}
 use Rattle.store_theory.proofs.PatternLaws.{Grows-built, grown-cell, grown-gamma_cell}
 use Rattle.search_theory.specs.States.{label_by, values_by}
 use Rattle.search_theory.proofs.BuildingLaws.{adds-back}
-use Rattle.search_theory.proofs.DemandLaws.{HomesAllow, prefix-taken}
+use Rattle.search_theory.proofs.DemandLaws.{prefix-taken}
+use Rattle.search_theory.specs.HomesTold.{HomesAllow}
 use Rattle.search_theory.proofs.SolvingLaws.{label-there}
 use Rattle.term_store.specs.Homes.{BeginsLabel, Home, is_home}
 use Rattle.domain_cond.specs.Conditions.{AddsHomes, HomeAllows}

@@ -12,11 +12,13 @@ use Rattle.store_theory.specs.Systems.{AllAllowed, AreEqual, Equation, IsDemandE
 use Rattle.store_theory.proofs.BindingLaws.{HasNoCycle-rank}
 use Rattle.calculus.proofs.PlaceLists.{get-end}
 use Rattle.search_theory.proofs.BuildingLaws.{adds-back}
-use Rattle.search_theory.proofs.DemandLaws.{HomesAllow, forced-home, met-own, never-constant}
-use Rattle.search_theory.proofs.NeedRanks.{HasNoNeedCycle, need_rank, ranked-by_no_need_cycle}
+use Rattle.search_theory.proofs.DemandLaws.{forced-home, met-own, never-constant}
+use Rattle.search_theory.specs.HomesTold.{HomesAllow}
+use Rattle.search_theory.proofs.NeedRanks.{need_rank, ranked-by_no_need_cycle}
+use Rattle.search_theory.specs.SpareRules.{HasNoNeedCycle, homes}
 use Rattle.search_theory.proofs.OwnHomes.{homes-by_labels, homes-cells, never-met}
 use Rattle.search_theory.proofs.RankLaws.{rank_of, ranked-by_no_cycle}
-use Rattle.search_theory.proofs.RuleLaws.{homes, own-by_homes, rule_value}
+use Rattle.search_theory.proofs.RuleLaws.{own-by_homes, rule_value}
 use Rattle.search_theory.proofs.SolvingLaws.{system-parts}
 use Rattle.search_theory.proofs.SpareLaws.{own-apart, own_value}
 use Rattle.term_unify.specs.Flat.{HasNoString}

@@ -7,10 +7,10 @@ use Rattle.store_theory.specs.Bindings.{IsWellFormed}
 use Rattle.store_theory.specs.Stores.{Cell, variable, fun_cell, eigen_cell, new_cell, string_cell, Store, EndsAt, stays, goes_on, is_bound, parts_of}
 use Rattle.store_theory.proofs.BindingLaws.{ends-on, ends-once}
 use Rattle.calculus.proofs.PlaceLists.{get-there, get-within}
-use Rattle.search_theory.proofs.NeedRanks.{HasNoNeedCycle, NeedsCells, need_rank, ranked-by_no_need_cycle}
-use Rattle.search_theory.proofs.OwnHomes.{Needs, at_once, by_way}
-use Rattle.search_theory.proofs.RuleLaws.{IsRankedBy, SpareRule, homes, needed}
-use Rattle.search_theory.proofs.SpareLaws.{IsPart}
+use Rattle.search_theory.proofs.NeedRanks.{need_rank, ranked-by_no_need_cycle}
+use Rattle.search_theory.specs.SpareRules.{HasNoNeedCycle, NeedsCells, Needs, at_once, by_way, SpareRule, homes, needed}
+use Rattle.search_theory.proofs.RuleLaws.{IsRankedBy}
+use Rattle.search_theory.specs.CellsIn.{IsPart}
 use Rattle.domain_cond.specs.Ranks.{IsAbove, IsRankOf, IsRound, rank_at}
 use Rattle.domain_cond.specs.Leaves.{is_among}
 use Rattle.domain_cond.specs.Standings.{Standing, home_marks}

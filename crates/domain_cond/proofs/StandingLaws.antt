@@ -8,9 +8,9 @@ use Rattle.store_theory.specs.Systems.{AreEqualNow, is_gamma_cell, is_label}
 use Rattle.calculus.proofs.PlaceLists.{all-at, get-end, get-front, get-within}
 use Rattle.search_theory.specs.Demanding.{HomesAgree, equation}
 use Rattle.search_theory.proofs.DemandLaws.{now-label}
-use Rattle.search_theory.proofs.GivingLaws.{IsFlat}
-use Rattle.search_theory.proofs.OwnHomes.{IsHomeLabel, TellsHomes}
-use Rattle.search_theory.proofs.SpareLaws.{IsPart}
+use Rattle.search_theory.specs.MarkLists.{IsFlat}
+use Rattle.search_theory.specs.HomesTold.{IsHomeLabel, TellsHomes}
+use Rattle.search_theory.specs.CellsIn.{IsPart}
 use Rattle.term_unify.specs.Flat.{HasNoString}
 use Rattle.term_unify.specs.Same.{AreSameLabels}
 use Rattle.domain_cond.specs.Conditions.{IsForced}

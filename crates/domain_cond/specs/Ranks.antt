@@ -1,7 +1,7 @@
 -- Numbers for cells by rounds: each is the least above those of what the cell needs, in the round before.
 use Rattle.std.specs.Prelude.{◌≡◌, ◌⊎◌, ℕ, suc, ◌<◌, ◌≤◌, List, [], ◌∷◌, zero, length, Some, slice_get}
 use Rattle.store_theory.specs.Stores.{Cell, Store, EndsAt}
-use Rattle.search_theory.proofs.RuleLaws.{SpareRule, needed}
+use Rattle.search_theory.specs.SpareRules.{SpareRule, needed}
 
 -- 0 beyond the list
 abbrev pub rank_at : List ℕ → ℕ → ℕ

@@ -5,10 +5,9 @@ use Rattle.calculus.specs.declared.sort.Sort.TheVariants.{TermSort}
 use Rattle.store_theory.specs.Stores.{variable, fun_cell, Store, Solution, Holds, GammaCell}
 use Rattle.store_theory.specs.Systems.{AreEqual, AreEqualNow}
 use Rattle.search_theory.specs.Demanding.{HasNoConstant, HomesAgree, equation}
-use Rattle.search_theory.proofs.GivingLaws.{IsFlat}
-use Rattle.search_theory.proofs.NeedRanks.{HasNoNeedCycle}
-use Rattle.search_theory.proofs.OwnHomes.{TellsHomes}
-use Rattle.search_theory.proofs.RuleLaws.{homes}
+use Rattle.search_theory.specs.MarkLists.{IsFlat}
+use Rattle.search_theory.specs.SpareRules.{HasNoNeedCycle, homes}
+use Rattle.search_theory.specs.HomesTold.{TellsHomes}
 use Rattle.domain_cond.specs.Leaves.{AreLeaves, is_among}
 
 pub record Standing : Type 0 where

@@ -7,7 +7,7 @@ ghost use Rattle.store_theory.specs.Bindings.{AddsBuilt, IsEnd};
 ghost use Rattle.store_theory.specs.Stores.{Solution, Solves};
 ghost use Rattle.store_theory.specs.Systems.{AllAllowed, MeetsDemand, is_gamma_cell, is_label};
 ghost use Rattle.store_theory.specs.Systems.{is_system};
-ghost use Rattle.search_theory.proofs.DemandLaws.{HomesAllow};
+ghost use Rattle.search_theory.specs.HomesTold.{HomesAllow};
 ghost use Rattle.term_store.specs.ClauseView.{the_gamma};
 ghost use Rattle.term_store.specs.Homes.{BeginsLabel, is_home};
 ghost use Rattle.term_store.specs.RefView.{the_place};

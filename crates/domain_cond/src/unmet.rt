@@ -12,7 +12,7 @@ ghost use Rattle.store_theory.specs.Systems.{AllAllowed, HasNoOpenString, IsDema
 ghost use Rattle.store_theory.specs.Systems.{cells_of, is_gamma_cell, is_label, is_system};
 ghost use Rattle.search_theory.specs.KeepingCells.{AddsRight, EquatesRight, equation_cells};
 ghost use Rattle.search_theory.specs.KeepingCells.{gamma_cells};
-ghost use Rattle.search_theory.proofs.DemandLaws.{HomesAllow};
+ghost use Rattle.search_theory.specs.HomesTold.{HomesAllow};
 ghost use Rattle.term_store.specs.ClauseView.{the_gamma};
 ghost use Rattle.term_store.specs.RefView.{the_place};
 ghost use Rattle.term_store.specs.Room.{KeepsRoom};

@@ -17,7 +17,8 @@ use Rattle.search_theory.specs.States.{Agree}
 use Rattle.search_theory.specs.Steps.{IsUnified}
 use Rattle.search_theory.proofs.BelowLaws.{all-weaken}
 use Rattle.search_theory.proofs.BuildingLaws.{agree-both}
-use Rattle.search_theory.proofs.GivingLaws.{IsFlat, NeverSame, SameMarks, equation-made, equation-never, narrowed-not, never-first, never-later, never-length, same-more, same-none}
+use Rattle.search_theory.proofs.GivingLaws.{equation-made, equation-never, narrowed-not, never-first, never-later, never-length, same-more, same-none}
+use Rattle.search_theory.specs.MarkLists.{IsFlat, NeverSame, SameMarks}
 use Rattle.search_theory.proofs.FromLaws.{labelled-unified, names-labelled}
 use Rattle.search_theory.proofs.SpareLaws.{or-both}
 use Rattle.search_theory.proofs.SystemLaws.{split-all}

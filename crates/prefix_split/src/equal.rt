@@ -9,7 +9,7 @@ ghost use Rattle.store_theory.specs.Stores.{Solution, Solves, has_sort_at};
 ghost use Rattle.store_theory.specs.Systems.{AreEqual, is_equation, is_label};
 ghost use Rattle.store_theory.specs.Systems as tree;
 ghost use Rattle.search_theory.specs.Solving.{CannotEqual, IsNarrowed};
-ghost use Rattle.search_theory.proofs.GivingLaws.{NeverSame, SameMarks};
+ghost use Rattle.search_theory.specs.MarkLists.{NeverSame, SameMarks};
 ghost use Rattle.term_store.specs.RefView.{the_place};
 ghost use Rattle.term_store.specs.Room.{KeepsRoom};
 ghost use Rattle.term_store.specs.SystemView.{the_equation};

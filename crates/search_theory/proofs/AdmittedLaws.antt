@@ -28,7 +28,8 @@ use Rattle.calculus.proofs.EqualityLaws.{mark_eq-tells, list_eq-tells}
 use Rattle.store_theory.specs.Templates.{as_term, as_value, as_label, is_step_value, is_choice_of_values}
 use Rattle.search_theory.specs.States.{terms_by, label_by, values_by}
 use Rattle.search_theory.specs.LabelledCells.{sort_values, is_labelled_cell, AreLabelled}
-use Rattle.search_theory.proofs.SpareLaws.{IsPart, IsRanked, cell-fits, cell-sorted, all-at, or-both}
+use Rattle.search_theory.proofs.SpareLaws.{IsRanked, cell-fits, cell-sorted, all-at, or-both}
+use Rattle.search_theory.specs.CellsIn.{IsPart}
 use Rattle.search_theory.proofs.RuleLaws.{letter_spare, letters, rule_value, rule-fixed, ranked-letters}
 use Rattle.search_theory.proofs.BelowLaws.{all-weaken}
 use Rattle.search_theory.proofs.GeneralLaws.{term-parts, mark-parts, part-cell}

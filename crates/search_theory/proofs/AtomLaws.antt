@@ -7,11 +7,12 @@ use Rattle.calculus.specs.declared.sort.Sort.TheVariants.{TermSort, MarkSort, St
 use Rattle.calculus.specs.Ground.{GroundTerms, GroundMark, GroundLiteral, Values, no_g_terms, more_g_terms, g_spare_mark, no_values, more_values, term, steps, marks_tree, values_tree}
 use Rattle.store_theory.specs.Stores.{Cell, variable, fun_cell, eigen_cell, new_cell, string_cell, Store, sort_of, parts_of, parts_fit, has_sort_at, is_store, CellValue, a_term, a_mark, a_string, has_sort, Solution, terms_at, label_at, join_label, marks_at, values_at, cons_value, Solves}
 use Rattle.calculus.specs.Equality.{sort_eq}
-use Rattle.store_theory.specs.Systems.{CellAtom, IsLiteral, is_label, is_cell_atom}
+use Rattle.store_theory.specs.Systems.{CellAtom, IsLiteral, is_label}
 use Rattle.store_theory.specs.Templates.{as_term, as_value, as_label}
 use Rattle.search_theory.specs.States.{terms_by, label_by, values_by, literal_by}
 use Rattle.search_theory.specs.Regular.{AreSame}
-use Rattle.search_theory.proofs.SpareLaws.{IsPart, IsRanked, cell-fits, cell-sorted}
+use Rattle.search_theory.proofs.SpareLaws.{IsRanked, cell-fits, cell-sorted}
+use Rattle.search_theory.specs.CellsIn.{IsPart, IsAtomIn}
 use Rattle.search_theory.proofs.GeneralLaws.{term-parts, mark-parts}
 use Rattle.search_theory.proofs.BuildingLaws.{solved-sorted}
 use Rattle.search_theory.proofs.DistinctLaws.{AreDistinct, distinct-same, not-string-mark}
@@ -203,12 +204,6 @@ args-same In s rank bound σ number h ranked d τ t (r ∷ rs) (k ∷ ks) i j a 
     ap₂ (λ v ts. more_g_terms (as_term v) ts)
     (distinct-same In s rank bound σ number h ranked d τ t TermSort r k (i r (0, refl)) (j k (0, refl)) p.0 q.0 same)
     (args-same In s rank bound σ number h ranked d τ t rs ks (λ x y. i x (suc y.0, y.1)) (λ x y. j x (suc y.0, y.1)) p.1 q.1 rest)
-
--- the cells of an atom are among those of which In holds
-pub record IsAtomIn (In : ℕ → Type 0) (s : Store) (a : CellAtom) : Type 0 where
-  pub sorted : IsTrue (is_cell_atom s a)
-  pub args : (k : ℕ) → IsPart k a.args → In k
-  pub label : (k : ℕ) → IsPart k a.label → In k
 
 pub atoms-same : (In : ℕ → Type 0) (s : Store) (rank : ℕ → ℕ) (bound : ℕ) (σ : Solution) (number : ℕ → ℕ) → IsTrue (is_store s) → IsRanked s rank bound → AreDistinct In s σ number → (a b : CellAtom) → IsAtomIn In s a → IsAtomIn In s b → literal_by σ a ≡ literal_by σ b → AreSame s a b
 atoms-same In s rank bound σ number h ranked d a b ia ib e τ t =

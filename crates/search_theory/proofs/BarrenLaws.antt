@@ -22,12 +22,14 @@ use Rattle.search_theory.specs.Matrix.{IsTemplateMatrix, MatrixClause, MatrixPla
 use Rattle.search_theory.specs.OrderedChoices.{extension_at, selection_of}
 use Rattle.search_theory.specs.States.{CellChoice, CellGoal, IsStateOf, goal_at, literal_by}
 use Rattle.search_theory.specs.Uncopied.{goal_like}
-use Rattle.search_theory.proofs.BeginningLaws.{IsDead, irregular, not-empty-behind}
+use Rattle.search_theory.proofs.BeginningLaws.{not-empty-behind}
+use Rattle.search_theory.specs.DeadEnds.{IsDead, irregular}
 use Rattle.search_theory.proofs.ExtensionLaws.{extension-of, last-at, state_at}
 use Rattle.search_theory.proofs.ImageLaws.{remove-map}
 use Rattle.search_theory.proofs.JumpLaws.{LeadsNowhere, nowhere-fruitless}
 use Rattle.search_theory.proofs.LastChoice.{grow_once}
-use Rattle.search_theory.proofs.LookAheadLaws.{HasReduction, IsCloseable, IsMet, closing-beginning, found-in-map, full-met, full-path, like-image, nearly-open, opposite-met}
+use Rattle.search_theory.proofs.LookAheadLaws.{HasReduction, IsMet, closing-beginning, found-in-map, full-met, full-path, like-image, nearly-open, opposite-met}
+use Rattle.search_theory.specs.Closing.{IsCloseable}
 use Rattle.search_theory.proofs.MeetingLaws.{OppositeParts, literal-there}
 use Rattle.search_theory.proofs.NextLaws.{grown_state}
 use Rattle.search_theory.proofs.RegularLaws.{any-there, each-at, not-all}

@@ -1,5 +1,5 @@
 -- The beginnings of the choice list of a tree grow trees; what is refused or irregular at a beginning is so behind it.
-use Rattle.std.proofs.Common.{◌≡◌, ℕ, ◌+◌, List, [], ◌∷◌, ◌++◌, Bool, true, false, ◌&&◌, IsTrue, refl, sym, ◌∙◌, ap, ap₂, subst, Option, Some, None, option_and_then, nat_lt}
+use Rattle.std.proofs.Common.{◌≡◌, ℕ, ◌+◌, List, [], ◌∷◌, ◌++◌, ◌&&◌, IsTrue, refl, sym, ◌∙◌, ap, ap₂, subst, Option, Some, None, option_and_then, nat_lt}
 use Rattle.std.specs.List.{list_all}
 use Rattle.std.proofs.lemmas.Bool.{false≢true, and_parts}
 use Rattle.calculus.specs.Syntax.{Problem}
@@ -10,10 +10,11 @@ use Rattle.search_theory.specs.States.{State, IsStateOf, growth_at}
 use Rattle.search_theory.specs.Regular.{HasSamePair}
 use Rattle.search_theory.specs.Exploring.{BeginsWith, IsClosedList, IsLeftList}
 use Rattle.search_theory.proofs.LastChoice.{none≢some, tail_of, head_of}
-use Rattle.search_theory.proofs.StepLaws.{Grows, same-some}
+use Rattle.search_theory.proofs.StepLaws.{same-some}
 use Rattle.search_theory.proofs.BelowLaws.{all-split}
 use Rattle.search_theory.proofs.ClosedLaws.{Keeps, keeps-all}
 use Rattle.search_theory.proofs.RegularLaws.{irregular-same}
+use Rattle.search_theory.specs.DeadEnds.{IsDead, irregular, is_not_empty, refused}
 
 -- ---- growth along two lists
 
@@ -61,10 +62,6 @@ pub record Beginning (P : Problem) (p : List Choice) (x : Growth) : Type 0 where
 then-some : {A : Type 0} (f : A → Option A) (o : Option A) (y : A) → option_and_then f o ≡ Some y → (x : A) × (o ≡ Some x) × (f x ≡ Some y)
 then-some f None y e = none≢some y e
 then-some f (Some x) y e = (x, refl, e)
-
-abbrev pub is_not_empty : List Choice → Bool
-is_not_empty [] = false
-is_not_empty (x ∷ xs) = true
 
 pub beginning : (P : Problem) (gs : List GroundChoice) (x : Growth) (p more : List Choice) → IsTrue (is_not_empty p) → growth_of P gs ≡ Some x → choices_of gs ≡ p ++ more → Beginning P p x
 beginning P gs x p more n g e =
@@ -117,15 +114,6 @@ left-beginning P d p b n (gs, x, g, h, e) (more, q) =
     record { choices = k.choices; growth = k.growth; names = k.names; grows = k.grows; within = within-kept (d + 1) k.growth x k.keeps l.within; regular = regular-kept k.growth x k.keeps l.regular }
 
 -- ---- dead ends
-
--- each tree that follows the list is irregular
-abbrev pub IsIrregular : Problem → List Choice → Type 0
-IsIrregular P p = (gs : List GroundChoice) (x : Growth) → choices_of gs ≡ p → growth_of P gs ≡ Some x → is_regular x ≡ false
-
--- a dead end: no tree follows the list, or each one is irregular
-pub data IsDead (P : Problem) (p : List Choice) : Type 0 where
-  refused : ¬ Grows P p → IsDead P p
-  irregular : IsIrregular P p → IsDead P p
 
 pub dead-regular : (P : Problem) (d : ℕ) (p : List Choice) → IsDead P p → ¬ ClosedBeginning P d p
 dead-regular P d p (refused h) k = h (k.choices, k.growth, k.names, k.grows)

@@ -16,7 +16,8 @@ use Rattle.store_theory.specs.Bindings.{with_cell, is_variable, with_variables_o
 use Rattle.search_theory.specs.States.{CellClause, clause_is_below, terms_by, label_by, values_by, literal_by, Agree}
 use Rattle.search_theory.specs.Steps.{IsFreshClause, IsRestCopy}
 use Rattle.search_theory.proofs.BelowLaws.{all-weaken}
-use Rattle.search_theory.proofs.SpareLaws.{IsPart, own_cell, cell-fits, cell-sorted, all-at, terms-there, values-there, marks-there, cell-alike, sort-same, or-both}
+use Rattle.search_theory.proofs.SpareLaws.{own_cell, cell-fits, cell-sorted, all-at, terms-there, values-there, marks-there, cell-alike, sort-same, or-both}
+use Rattle.search_theory.specs.CellsIn.{IsPart}
 use Rattle.search_theory.proofs.GeneralLaws.{term-parts}
 use Rattle.search_theory.proofs.ImageLaws.{values-agree}
 

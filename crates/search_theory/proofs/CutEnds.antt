@@ -20,7 +20,8 @@ use Rattle.search_theory.specs.Cutting.{AreLevels, FailsFrom, FailsTo, IsNext, I
 use Rattle.search_theory.specs.Exploring.{BeginsWith, IsClosedList}
 use Rattle.search_theory.specs.Matrix.{MatrixClause, IsTemplateMatrix}
 use Rattle.search_theory.specs.OrderedChoices.{selection_of}
-use Rattle.search_theory.proofs.BeginningLaws.{IsDead, closed-beginning, dead-regular}
+use Rattle.search_theory.proofs.BeginningLaws.{closed-beginning, dead-regular}
+use Rattle.search_theory.specs.DeadEnds.{IsDead}
 use Rattle.search_theory.proofs.LastChoice.{head_of}
 use Rattle.search_theory.proofs.LevelLaws.{trying-less}
 use Rattle.search_theory.proofs.NextLaws.{selection-in}

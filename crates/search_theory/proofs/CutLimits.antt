@@ -19,7 +19,7 @@ use Rattle.search_theory.specs.Goals.{IsChoiceAt, by_ancestor, by_clause}
 use Rattle.search_theory.specs.Matrix.{MatrixClause, IsTemplateMatrix}
 use Rattle.search_theory.specs.OrderedChoices.{choices_at}
 use Rattle.search_theory.specs.States.{CellChoice, CellGoal, State, IsGround, IsStateOf, choice_at, growth_at}
-use Rattle.search_theory.proofs.BeginningLaws.{IsDead, is_not_empty}
+use Rattle.search_theory.specs.DeadEnds.{IsDead, is_not_empty}
 use Rattle.search_theory.proofs.BelowLaws.{all-weaken}
 use Rattle.search_theory.proofs.ChoiceLaws.{choices-complete}
 use Rattle.search_theory.proofs.CutEnds.{fails-whole}

@@ -18,12 +18,15 @@ use Rattle.calculus.proofs.EqualityLaws.{mark_eq-tells, list_eq-tells}
 use Rattle.store_theory.specs.Templates.{as_term}
 use Rattle.search_theory.specs.States.{terms_by, label_by, values_by}
 use Rattle.search_theory.specs.Demanding.{IsHomeAt, equation, StandsAt, HasNoConstant, HomesAgree}
-use Rattle.search_theory.proofs.SpareLaws.{IsPart, IsRanked, cell-fits, cell-sorted, all-at, own_value, own-apart}
+use Rattle.search_theory.proofs.SpareLaws.{IsRanked, cell-fits, cell-sorted, all-at, own_value, own-apart}
+use Rattle.search_theory.specs.CellsIn.{IsPart}
 use Rattle.search_theory.proofs.GeneralLaws.{term-parts, mark-parts}
 use Rattle.search_theory.proofs.BuildingLaws.{solved-sorted}
 use Rattle.search_theory.proofs.AtomLaws.{values_at-by, terms_at-by, label_at-by}
 use Rattle.search_theory.proofs.SolvingLaws.{label-there}
-use Rattle.search_theory.proofs.GivingLaws.{IsFlat, joined-mark}
+use Rattle.search_theory.proofs.GivingLaws.{joined-mark}
+use Rattle.search_theory.specs.MarkLists.{IsFlat}
+use Rattle.search_theory.specs.HomesTold.{HomesAllow}
 
 -- ---- what stands in an allowed term is allowed
 
@@ -240,10 +243,6 @@ own-spare P s gammas σ number d agree h v j g at held e =
     subst (λ y. IsTrue (is_allowed P w (as_term y))) (sym is_v)
     (subst (λ z. IsTrue (home_allows mark_eq z (marks_list (marks_tree home)) w)) (sym d)
     ((list_eq-tells mark_eq mark_eq-tells (marks_list (marks_tree home)) w).1 (marks_list-marks_tree home ∙ same)))
-
--- the homes of the eigenvariables in each gamma term allow its label
-abbrev pub HomesAllow : Problem → Store → Solution → GammaCell → Type 0
-HomesAllow P s σ g = (e p : ℕ) (rs : List ℕ) → Holds s e g.term → slice_get s.cells e ≡ Some (eigen_cell p rs) → IsTrue (home_allows mark_eq P.setting.domains (label_of P p (values_by σ rs)) (label_by σ g.label))
 
 -- where common spares exist
 pub met-common : (P : Problem) (s : Store) (rank : ℕ → ℕ) (limit : ℕ) (y : System) → IsTrue (is_store s) → IsRanked s rank limit → IsTrue (list_all (is_gamma_cell s) y.gammas) → common_spares P ≡ true → ((j : ℕ) (g : GammaCell) → slice_get y.gammas j ≡ Some g → HomesAllow P s (own_value s limit) g) → OwnSparesMeet true (AllAllowed P) s y

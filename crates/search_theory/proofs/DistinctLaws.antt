@@ -6,7 +6,8 @@ use Rattle.calculus.specs.declared.sort.Sort.{Sort}
 use Rattle.calculus.specs.declared.sort.Sort.TheVariants.{TermSort, MarkSort, StringSort}
 use Rattle.calculus.specs.Ground.{Marks, g_fun, g_eigen, common, own, g_new_mark, g_spare_mark}
 use Rattle.store_theory.specs.Stores.{Cell, variable, fun_cell, eigen_cell, new_cell, string_cell, Store, parts_of, has_sort_at, is_store, is_bound, CellValue, a_term, a_mark, a_string, Solution, terms_at, values_at, marks_at, Solves}
-use Rattle.search_theory.proofs.SpareLaws.{IsPart, IsRanked, cell-sorted}
+use Rattle.search_theory.proofs.SpareLaws.{IsRanked, cell-sorted}
+use Rattle.search_theory.specs.CellsIn.{IsPart}
 use Rattle.search_theory.proofs.GeneralLaws.{Carries, terms-carried, values-carried, marks-carried, value_tag, part-cell, same-some, mark-parts}
 
 -- a value that stands for an unbound variable with the number n

@@ -17,7 +17,8 @@ use Rattle.search_theory.specs.Steps.{IsExtended, CannotExtend, IsReduced, Canno
 use Rattle.search_theory.proofs.LastChoice.{grow_once, none≢some, growth-last, growth-before, ends-with}
 use Rattle.search_theory.proofs.ImageLaws.{new_goals-image, choices-agree}
 use Rattle.search_theory.proofs.BelowLaws.{all-join, all-weaken, choice-more, goals-more, goal-more, all-remove, goals-below}
-use Rattle.search_theory.proofs.StepLaws.{instance-at, by-template, clause-found, if-some, if-true, same-some, admitted-all, admitted-join, admitted-agree, Grows}
+use Rattle.search_theory.proofs.StepLaws.{instance-at, by-template, clause-found, if-some, if-true, same-some, admitted-all, admitted-join, admitted-agree}
+use Rattle.search_theory.specs.DeadEnds.{Grows}
 
 -- ---- what a tree with a last choice is
 

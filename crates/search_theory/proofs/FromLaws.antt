@@ -10,7 +10,7 @@ use Rattle.store_theory.specs.Stores.{Cell, variable, Store, is_store, parts_of,
 use Rattle.search_theory.specs.LabelledCells.{AreLabelled, is_labelled_cell}
 use Rattle.search_theory.proofs.BuildingLaws.{get-kept, get-more}
 use Rattle.search_theory.proofs.KeepingLaws.{GoesOn, IsBoundAt, goes_on-bound, labelled-goes_on}
-use Rattle.search_theory.proofs.SpareLaws.{IsPart}
+use Rattle.search_theory.specs.CellsIn.{IsPart}
 use Rattle.search_theory.proofs.WithinLaws.{names-within}
 
 abbrev pub IsFrom : ℕ → ℕ → Type 0

@@ -4,7 +4,7 @@ use Rattle.std.specs.List.{list_all}
 use Rattle.std.proofs.lemmas.Bool.{false≢true, and_parts, and_from}
 use Rattle.calculus.specs.declared.sort.Sort.TheVariants.{MarkSort}
 use Rattle.calculus.specs.Ground.{GroundMark}
-use Rattle.store_theory.specs.Stores.{variable, string_cell, Store, has_sort_at, parts_fit, is_store, EndsAt, stays, goes_on, CellValue, a_term, a_mark, a_string, has_sort, Solution, cons_mark, marks_at, join_label, label_at, Solves, names_below}
+use Rattle.store_theory.specs.Stores.{variable, string_cell, Store, has_sort_at, parts_fit, is_store, EndsAt, stays, goes_on, CellValue, a_term, a_mark, a_string, has_sort, Solution, cons_mark, marks_at, join_label, Solves, names_below}
 use Rattle.store_theory.specs.Systems.{Equation, AreEqual, HaveLengths}
 use Rattle.store_theory.specs.Bindings.{with_cell, with_variables_of, places_from}
 use Rattle.store_theory.proofs.PatternLaws.{length-places}
@@ -17,6 +17,7 @@ use Rattle.search_theory.proofs.GeneralLaws.{mark-parts}
 use Rattle.search_theory.proofs.BuildingLaws.{put, put-here, agree-put, variable-added, agree-both, length-plus, variables-longer, variables-back, get-last, built-added, fewer-solved, solved-sorted, AreStores}
 use Rattle.search_theory.proofs.AtomLaws.{marks_at-by}
 use Rattle.search_theory.proofs.SolvingLaws.{lengths-agree}
+use Rattle.search_theory.specs.MarkLists.{IsFlat, NeverSame, SameMarks}
 
 -- ---- nothing, and one narrowing after the other
 
@@ -117,11 +118,6 @@ length-other s r v n rs ends e differ σ h (w, is_w, l) =
 
 -- ---- labels as lists of marks
 
--- the label ws is the list of the marks ms
-pub record IsFlat (s : Store) (ws ms : List ℕ) : Type 0 where
-  pub sorted : IsTrue (list_all (has_sort_at s MarkSort) ms)
-  pub same : (σ : Solution) → Solves s σ → label_at σ ws ≡ marks_at σ ms
-
 pub flat-none : (s : Store) → IsFlat s [] []
 flat-none s = record { sorted = refl; same = λ σ h. refl }
 
@@ -163,9 +159,6 @@ flat-string s w v rs ws ms st ends e h = record {
 
 -- ---- mark by mark
 
-abbrev pub SameMarks : List ℕ → List ℕ → Solution → Type 0
-SameMarks ms ns σ = marks_at σ ms ≡ marks_at σ ns
-
 pub same-none : (s : Store) → IsNarrowed s s (SameMarks [] [])
 same-none s = narrowed-not s (SameMarks [] []) (λ σ t. refl)
 
@@ -188,9 +181,6 @@ same-more s t u m n ms ns a b first rest = record {
       let (τ, th, agree) = rest.forth σ (first.forth σ h p.0) p.1 in
       (τ, th, subst (λ k. Agree k σ τ) first.size agree);
 }
-
-abbrev pub NeverSame : Store → List ℕ → List ℕ → Type 0
-NeverSame s ms ns = (σ : Solution) → Solves s σ → ¬ SameMarks ms ns σ
 
 pub never-first : (s : Store) (m n : ℕ) (ms ns : List ℕ) → IsTrue (list_all (has_sort_at s MarkSort) (m ∷ ms)) → IsTrue (list_all (has_sort_at s MarkSort) (n ∷ ns)) → ((σ : Solution) → Solves s σ → ¬ (σ m ≡ σ n)) → NeverSame s (m ∷ ms) (n ∷ ns)
 never-first s m n ms ns a b h σ t e = h σ t (both-marks s σ t m n ms ns a b e).0

@@ -1,6 +1,6 @@
 -- Jumps back: where a goal is not closed by any of its choices, and was not closed since its point was made, each list that leaves the
 -- bindings of the goal and of its path as they are is given up. How the points tell which goals were not solved, step by step.
-use Rattle.std.proofs.Common.{◌≡◌, ◌⊎◌, ℕ, ◌+◌, ◌<◌, ◌≤◌, List, [], ◌∷◌, ◌++◌, length, map, min, not, option_map, true, IsTrue, sym, ◌∙◌, ap, subst, Some, slice_get, inl, inr, arith, append_assoc}
+use Rattle.std.proofs.Common.{◌≡◌, ◌⊎◌, ℕ, ◌<◌, ◌≤◌, List, [], ◌∷◌, ◌++◌, length, map, min, not, option_map, true, IsTrue, sym, ◌∙◌, ap, subst, Some, slice_get, inl, inr, arith, append_assoc}
 use Rattle.std.specs.List.{AllByRecursion}
 use Rattle.std.proofs.lemmas.Bool.{false≢true}
 use Rattle.std.proofs.lemmas.Option.{slice_get-map}
@@ -15,22 +15,18 @@ use Rattle.search_theory.specs.Matrix.{MatrixClause, IsTemplateMatrix}
 use Rattle.search_theory.specs.OrderedChoices.{choices_at}
 use Rattle.search_theory.specs.Regular.{AreSame}
 use Rattle.search_theory.specs.Searching.{IsSearch}
-use Rattle.search_theory.specs.States.{CellChoice, CellGoal, State, literal_by, goal_at, IsGround, IsStateOf}
-use Rattle.search_theory.proofs.BeginningLaws.{is_not_empty}
+use Rattle.search_theory.specs.States.{CellChoice, CellGoal, State, literal_by, IsGround, IsStateOf}
+use Rattle.search_theory.specs.DeadEnds.{is_not_empty, Grows}
 use Rattle.search_theory.proofs.ExploreLaws.{begins-left, begins-right}
 use Rattle.search_theory.proofs.ExtensionLaws.{state_at}
-use Rattle.search_theory.proofs.LookAheadLaws.{IsCloseable, closed-image, goal-closed}
+use Rattle.search_theory.proofs.LookAheadLaws.{closed-image, goal-closed}
+use Rattle.search_theory.specs.Closing.{IsCloseable, CannotClose}
 use Rattle.search_theory.proofs.PruningLaws.{search-pruned}
 use Rattle.search_theory.proofs.RegularLaws.{any-there}
 use Rattle.search_theory.proofs.SolvedLaws.{closed-new, refused-unsolved, solved-first, solved-goals, solved-image, solved-later, unsolved-open}
-use Rattle.search_theory.proofs.StepLaws.{Grows}
 use Rattle.search_theory.proofs.TransplantLaws.{IsGoalOf, Transplanted, goal-alike}
 
 -- ---- a goal that cannot be closed
-
--- by no ground solution of the state the goal is one that is closed within d
-abbrev pub CannotClose : Problem → ℕ → State → CellGoal → Type 0
-CannotClose P d S g = (σ : Solution) → IsGround P S σ → ¬ IsCloseable P d (goal_at σ g)
 
 -- a goal that has no list left, in an older state in which its cells are the same
 pub cannot-transplant : (P : Problem) (d : ℕ) (p : List Choice) (Q S : State) (g : CellGoal) (gs : List CellGoal) (R : ℕ → Type 0) → IsStateOf P d p S → S.growth.open_goals ≡ g ∷ gs → IsSolvedBehind P d p [] → IsGoalOf R g → ((σ : Solution) → IsGround P Q σ → Transplanted P S R σ) → CannotClose P d Q g

@@ -11,7 +11,7 @@ use Rattle.calculus.specs.Equality.{sort_eq}
 use Rattle.calculus.specs.Skolem.{is_delta_position, is_pi_position, fits_way}
 use Rattle.store_theory.specs.Stores.{Cell, variable, fun_cell, eigen_cell, new_cell, string_cell, Store, sort_of, parts_of, has_sort_at, is_store}
 use Rattle.search_theory.specs.LabelledCells.{sort_values, is_labelled_cell, AreLabelled}
-use Rattle.search_theory.proofs.SpareLaws.{IsPart}
+use Rattle.search_theory.specs.CellsIn.{IsPart}
 use Rattle.search_theory.proofs.GeneralLaws.{part-cell}
 
 -- the old cell d stays, or it is a variable that was bound to a cell of In

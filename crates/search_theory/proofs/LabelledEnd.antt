@@ -22,7 +22,8 @@ use Rattle.search_theory.specs.Exploring.{IsMemberAt, Explores}
 use Rattle.search_theory.specs.LabelledCells.{AreLabelled}
 use Rattle.search_theory.specs.StateSystems.{IsTreeOf, IsSystemOf}
 use Rattle.search_theory.specs.Solving.{IsClosedSet}
-use Rattle.search_theory.proofs.SpareLaws.{IsPart, IsRanked, cell-sorted, or-both}
+use Rattle.search_theory.proofs.SpareLaws.{IsRanked, cell-sorted, or-both}
+use Rattle.search_theory.specs.CellsIn.{IsPart, IsChoiceIn, IsClauseIn}
 use Rattle.search_theory.proofs.BelowLaws.{all-weaken}
 use Rattle.search_theory.proofs.BuildingLaws.{solved-sorted}
 use Rattle.search_theory.proofs.SpareLaws.{all-at}
@@ -33,16 +34,6 @@ use Rattle.search_theory.proofs.AdmittedLaws.{IsGood, good-cells, good-choice, o
 use Rattle.search_theory.proofs.SystemLaws.{closed-by_solution, solution-by_closed}
 
 -- ---- a ground solution of the state
-
--- the clause's variables are terms and strings of In
-pub record IsClauseIn (In : ℕ → Type 0) (s : Store) (i : CellClause) : Type 0 where
-  pub sorted : IsTrue (list_all (has_value_sort_at s) i.values)
-  pub names : (k : ℕ) → IsPart k i.values → In k
-
-abbrev pub IsChoiceIn : (ℕ → Type 0) → Store → CellChoice → Type 0
-IsChoiceIn In s (start i) = IsClauseIn In s i
-IsChoiceIn In s (reduction up) = Unit {0}
-IsChoiceIn In s (extension i place) = IsClauseIn In s i
 
 clause-admitted : (P : Problem) (In : ℕ → Type 0) (s : Store) (σ : Solution) → Solves s σ → ((r : ℕ) (c : Cell) → In r → slice_get s.cells r ≡ Some c → IsGood P (σ r)) → (i : CellClause) → IsClauseIn In s i → IsTrue (is_choice_of_values P (values_by σ i.values))
 clause-admitted P In s σ t good i h = good-choice P σ i.values

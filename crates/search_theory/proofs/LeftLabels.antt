@@ -15,13 +15,8 @@ use Rattle.search_theory.specs.LabelledCells.{AreLabelled}
 use Rattle.search_theory.proofs.SpareLaws.{IsRanked}
 use Rattle.search_theory.proofs.RegularLaws.{any-of, not-any, each-at}
 use Rattle.search_theory.proofs.DistinctLaws.{AreDistinct}
-use Rattle.search_theory.proofs.AtomLaws.{IsAtomIn, atoms-same}
-use Rattle.search_theory.proofs.LabelledEnd.{IsChoiceIn}
-
--- the goal's atoms and those of its path are over cells of In
-pub record IsGoalIn (In : ℕ → Type 0) (s : Store) (g : CellGoal) : Type 0 where
-  pub literal : IsAtomIn In s g.literal
-  pub path : AllByRecursion (IsAtomIn In s) g.path
+use Rattle.search_theory.proofs.AtomLaws.{atoms-same}
+use Rattle.search_theory.specs.CellsIn.{IsAtomIn, IsChoiceIn, IsGoalIn}
 
 -- ---- values that tell variables apart give a regular tree
 

@@ -17,7 +17,7 @@ use Rattle.calculus.specs.Instances.{ClauseInstance}
 use Rattle.calculus.specs.Kinds.{other}
 use Rattle.calculus.specs.ComputedInstances.{is_instance}
 use Rattle.calculus.specs.Tableaux.{Closing, Closings, reduce, extend, no_closings, more_closings, Tableau, is_complement, ancestor, is_new_on, closes, closes_all, is_closed}
-use Rattle.calculus.specs.Choices.{extension, Choice, GroundChoice, choices_of, ground_choices, Goal, Growth, is_opposite, goals_on, growth_of}
+use Rattle.calculus.specs.Choices.{extension, Choice, GroundChoice, choices_of, ground_choices, Growth, is_opposite, goals_on, growth_of}
 use Rattle.store_theory.specs.Stores.{Store, Solution, Solves}
 use Rattle.store_theory.specs.Systems.{CellAtom}
 use Rattle.store_theory.specs.Patterns.{PatternAtom, Template}
@@ -30,7 +30,8 @@ use Rattle.search_theory.specs.Matrix.{MatrixClause, MatrixPlace, IsTemplateMatr
 use Rattle.search_theory.specs.OrderedChoices.{extension_at, selection_of}
 use Rattle.search_theory.specs.States.{CellGoal, State, literal_by, goal_at, growth_at, IsGround, IsStateOf}
 use Rattle.search_theory.specs.Steps.{CannotReduce}
-use Rattle.search_theory.proofs.BeginningLaws.{beginning, is_not_empty}
+use Rattle.search_theory.proofs.BeginningLaws.{beginning}
+use Rattle.search_theory.specs.DeadEnds.{is_not_empty}
 use Rattle.search_theory.proofs.ChoiceLaws.{extensions-by_index, extensions-complete}
 use Rattle.search_theory.proofs.ExtensionLaws.{choice_place, choice_selection}
 use Rattle.search_theory.proofs.ImageLaws.{remove-map}
@@ -38,11 +39,9 @@ use Rattle.search_theory.proofs.MeetingLaws.{OppositeParts, cannot-reduce-by_cla
 use Rattle.search_theory.proofs.NextLaws.{selection-in}
 use Rattle.search_theory.proofs.RegularLaws.{each-at}
 use Rattle.search_theory.proofs.StepLaws.{by-template, same-some}
+use Rattle.search_theory.specs.Closing.{IsCloseable}
 
 -- ---- a closed tableau: each of its goals is closed
-
-abbrev pub IsCloseable : Problem → ℕ → Goal → Type 0
-IsCloseable P d x = (c : Closing) × IsTrue (closes P d x.path x.literal c)
 
 both-hold : {A : Type 0} (Q : A → Type 0) (xs ys : List A) → AllByRecursion Q xs → AllByRecursion Q ys → AllByRecursion Q (xs ++ ys)
 both-hold Q [] ys h k = k

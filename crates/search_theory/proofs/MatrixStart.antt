@@ -17,7 +17,7 @@ use Rattle.search_theory.specs.Exploring.{behind, IsIn}
 use Rattle.search_theory.specs.Searching.{IsSearch}
 use Rattle.search_theory.proofs.TemplateLaws.{template_of-right}
 use Rattle.search_theory.proofs.StepLaws.{no-start}
-use Rattle.search_theory.proofs.BeginningLaws.{IsDead, refused}
+use Rattle.search_theory.specs.DeadEnds.{IsDead, refused}
 use Rattle.search_theory.proofs.NextLaws.{selection-in}
 use Rattle.search_theory.proofs.DeepenLaws.{starting}
 use Rattle.search_theory.proofs.SearchSteps.{search-start}

@@ -6,10 +6,10 @@ use Rattle.std.proofs.lemmas.Option.{slice_get_within}
 use Rattle.std.proofs.lemmas.Map.Steps.{length-le_from_distinct_below}
 use Rattle.std.proofs.lemmas.Map.Keys.{IsDistinct-cons}
 use Rattle.store_theory.specs.Stores.{Cell, Store}
-use Rattle.search_theory.proofs.SpareLaws.{IsPart}
+use Rattle.search_theory.specs.CellsIn.{IsPart}
 use Rattle.search_theory.proofs.RankLaws.{highest, part-lower, highest-at, highest-same, each-differs, distinct-nothing, has}
-use Rattle.search_theory.proofs.RuleLaws.{SpareRule, needed, IsRankedBy}
-use Rattle.search_theory.proofs.OwnHomes.{Needs, at_once, by_way}
+use Rattle.search_theory.proofs.RuleLaws.{IsRankedBy}
+use Rattle.search_theory.specs.SpareRules.{SpareRule, needed, Needs, at_once, by_way, HasNoNeedCycle, NeedsCells}
 
 abbrev pub depth_at : SpareRule → (ℕ → ℕ) → ℕ → Option Cell → ℕ
 depth_at R f r None = 0
@@ -56,9 +56,6 @@ chain-needs R s r q (k ∷ ks) h m = elim (cases_Bool (eqb q k)) [
     later true b e x = absurd (false≢true (sym e))
     later false b e x = x
 
-abbrev pub HasNoNeedCycle : SpareRule → Store → Type 0
-HasNoNeedCycle R s = (r : ℕ) → ¬ Needs R s r r
-
 not-on : (R : SpareRule) (s : Store) → HasNoNeedCycle R s → (r : ℕ) (ks : List ℕ) → IsChain R s r ks → has ks r ≡ false
 not-on R s no_cycle r ks h = elim (cases_Bool (has ks r)) [
   | inl e ↦ absurd (no_cycle r (chain-needs R s r r ks h e))
@@ -68,10 +65,6 @@ not-on R s no_cycle r ks h = elim (cases_Bool (has ks r)) [
 chain-distinct : (R : SpareRule) (s : Store) → HasNoNeedCycle R s → (r : ℕ) (ks : List ℕ) → IsChain R s r ks → IsDistinct eqb (r ∷ ks)
 chain-distinct R s no_cycle r [] h = IsDistinct-cons eqb r [] tt distinct-nothing
 chain-distinct R s no_cycle r (k ∷ ks) h = IsDistinct-cons eqb r (k ∷ ks) (each-differs r (k ∷ ks) (not-on R s no_cycle r (k ∷ ks) h)) (chain-distinct R s no_cycle k ks h.1)
-
--- what a cell needs is a cell
-abbrev pub NeedsCells : SpareRule → Store → Type 0
-NeedsCells R s = (r k : ℕ) (c : Cell) → slice_get s.cells r ≡ Some c → IsPart k (needed R r c) → (d : Cell) × (slice_get s.cells k ≡ Some d)
 
 chain-below : (R : SpareRule) (s : Store) → NeedsCells R s → (r : ℕ) (c : Cell) → slice_get s.cells r ≡ Some c → (ks : List ℕ) → IsChain R s r ks → (q : ℕ) → list_any (eqb q) (r ∷ ks) ≡ true → q < length s.cells
 chain-below R s h r c e [] t q m = elim (cases_Bool (eqb q r)) [

@@ -27,7 +27,8 @@ use Rattle.search_theory.proofs.LastChoice.{grow_once, none≢some, growth-befor
 use Rattle.search_theory.proofs.StepLaws.{same-some, if-some, by-template}
 use Rattle.search_theory.proofs.ExtensionLaws.{last-at, extension-of, reduction-of, state_at}
 use Rattle.search_theory.proofs.MeetingLaws.{opposite-parts, opposite-some}
-use Rattle.search_theory.proofs.BeginningLaws.{is_not_empty, not-empty-behind, ClosedBeginning, closed-beginning, left-beginning, left-parts, NextChoice}
+use Rattle.search_theory.proofs.BeginningLaws.{not-empty-behind, ClosedBeginning, closed-beginning, left-beginning, left-parts, NextChoice}
+use Rattle.search_theory.specs.DeadEnds.{is_not_empty}
 use Rattle.search_theory.proofs.ExploreLaws.{begins-behind}
 
 -- ---- the shape of the next choice

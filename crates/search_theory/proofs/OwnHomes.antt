@@ -1,6 +1,6 @@
 -- Own spares of labels exist where any ground solution meets the demand: then each cell is above those that it needs. And where a cell needs
 -- itself, by way of homes, no ground solution meets the demand.
-use Rattle.std.proofs.Common.{◌≡◌, ◌⊎◌, ℕ, zero, suc, ◌+◌, ◌*◌, ◌<◌, ◌≤◌, List, [], ◌∷◌, length, false, IsTrue, refl, sym, ◌∙◌, ap, subst, Option, Some, None, slice_get, nat_le, inl, inr, arith, leb-true, add-mul, one-mul}
+use Rattle.std.proofs.Common.{◌≡◌, ℕ, zero, suc, ◌+◌, ◌*◌, ◌<◌, ◌≤◌, List, [], ◌∷◌, length, false, IsTrue, refl, sym, ◌∙◌, ap, subst, Option, Some, None, slice_get, nat_le, inl, inr, arith, leb-true, add-mul, one-mul}
 use Rattle.std.specs.List.{list_all}
 use Rattle.std.proofs.lemmas.Bool.{false≢true, and_parts, cases_lt}
 use Rattle.std.proofs.lemmas.Nat.{mul-le}
@@ -15,22 +15,17 @@ use Rattle.store_theory.specs.Stores.{Cell, variable, fun_cell, eigen_cell, new_
 use Rattle.store_theory.specs.Systems.{System, MeetsDemand, AllAllowed}
 use Rattle.search_theory.specs.States.{label_by}
 use Rattle.search_theory.proofs.BelowLaws.{all-weaken}
-use Rattle.search_theory.proofs.SpareLaws.{IsPart, IsRanked, cell-fits, cell-sorted, all-at, marks-there}
+use Rattle.search_theory.proofs.SpareLaws.{IsRanked, cell-fits, cell-sorted, all-at, marks-there}
+use Rattle.search_theory.specs.CellsIn.{IsPart}
 use Rattle.search_theory.proofs.GeneralLaws.{mark-parts, part-cell}
 use Rattle.search_theory.proofs.BuildingLaws.{solved-sorted}
-use Rattle.search_theory.proofs.GivingLaws.{IsFlat}
-use Rattle.search_theory.proofs.RuleLaws.{SpareRule, needed, homes, IsRankedBy, AreHomes}
+use Rattle.search_theory.specs.MarkLists.{IsFlat}
+use Rattle.search_theory.proofs.RuleLaws.{IsRankedBy, AreHomes}
+use Rattle.search_theory.specs.SpareRules.{SpareRule, needed, homes, Needs, at_once, by_way}
 use Rattle.search_theory.proofs.AdmittedLaws.{weight, part-lighter, values-lighter}
 use Rattle.search_theory.proofs.DemandLaws.{met-gamma, held-allowed}
 use Rattle.search_theory.proofs.HomeRanks.{is_within, allowed-within}
-
--- the marks ks are the label of the first gamma term that holds v, or none where no gamma term does
-abbrev pub IsHomeLabel : Store → ℕ → List GammaCell → List ℕ → Type 0
-IsHomeLabel s v [] ks = ks ≡ []
-IsHomeLabel s v (g ∷ gs) ks = (Holds s v g.term × IsFlat s g.label ks) ⊎ ((¬ Holds s v g.term) × IsHomeLabel s v gs ks)
-
-abbrev pub TellsHomes : Store → List GammaCell → (ℕ → List ℕ) → Type 0
-TellsHomes s gammas home = (v : ℕ) → slice_get s.cells v ≡ Some (variable TermSort None) → IsHomeLabel s v gammas (home v)
+use Rattle.search_theory.specs.HomesTold.{IsHomeLabel, TellsHomes}
 
 marks-are : (s : Store) (σ : Solution) → Solves s σ → (ks : List ℕ) → IsTrue (list_all (has_sort_at s MarkSort) ks) → marks_at σ ks ≡ Some (label_by σ ks)
 marks-are s σ h ks a = marks-there σ ks (all-weaken (has_sort_at s MarkSort) (λ r. has_sort MarkSort (σ r)) (solved-sorted s σ h MarkSort) ks a)
@@ -212,11 +207,6 @@ ranked-by_met P s rank bound y σ home h ranked d c tells t met = record { falls
     falls r k (string_cell rs) e p = part r k (string_cell rs) e p
 
 -- ---- where a cell needs itself
-
--- the cell r needs the cell k, at once or by way of others
-pub data Needs (R : SpareRule) (s : Store) (k : ℕ) : ℕ → Type 0 where
-  at_once : {r : ℕ} {c : Cell} → slice_get s.cells r ≡ Some c → IsPart k (needed R r c) → Needs R s k r
-  by_way : {r j : ℕ} {c : Cell} → slice_get s.cells r ≡ Some c → IsPart j (needed R r c) → Needs R s k j → Needs R s k r
 
 needs-lower : (R : SpareRule) (s : Store) (rank : ℕ → ℕ) (bound : ℕ) → IsRankedBy R s rank bound → (k r : ℕ) → Needs R s k r → rank k < rank r
 needs-lower R s rank bound h k r (at_once {c = c} e p) = h.falls r k c e p

@@ -23,7 +23,8 @@ use Rattle.search_theory.specs.Pruning.{BeginsClosed, HoldsEarly}
 use Rattle.search_theory.proofs.LastChoice.{none≢some}
 use Rattle.search_theory.proofs.StepLaws.{same-some}
 use Rattle.search_theory.proofs.ClosedLaws.{keeps-all}
-use Rattle.search_theory.proofs.BeginningLaws.{is_not_empty, growth-append, regular-kept, within-kept, split-at}
+use Rattle.search_theory.proofs.BeginningLaws.{growth-append, regular-kept, within-kept, split-at}
+use Rattle.search_theory.specs.DeadEnds.{is_not_empty}
 use Rattle.search_theory.proofs.ExploreLaws.{explore-drop}
 use Rattle.search_theory.proofs.JoinedLaws.{joined-closed}
 use Rattle.search_theory.proofs.SystemLaws.{split-all, pairs-by_regular}

@@ -6,7 +6,8 @@ use Rattle.std.proofs.lemmas.Option.{slice_get_within}
 use Rattle.std.proofs.lemmas.Map.Steps.{length-le_from_distinct_below}
 use Rattle.std.proofs.lemmas.Map.Keys.{IsDistinct-cons}
 use Rattle.store_theory.specs.Stores.{Cell, Store, parts_of, is_store, OccursIn, here, in_part, HasNoCycle}
-use Rattle.search_theory.proofs.SpareLaws.{IsPart, IsRanked}
+use Rattle.search_theory.proofs.SpareLaws.{IsRanked}
+use Rattle.search_theory.specs.CellsIn.{IsPart}
 use Rattle.search_theory.proofs.GeneralLaws.{part-cell}
 
 -- ---- the greater of two numbers

@@ -2,28 +2,14 @@
 use Rattle.std.proofs.Common.{◌≡◌, ℕ, zero, suc, ◌<◌, List, [], ◌∷◌, false, ◌||◌, IsTrue, refl, sym, ◌∙◌, ap, subst, Option, Some, None, slice_get, inl, arith}
 use Rattle.calculus.specs.declared.sort.Sort.{Sort}
 use Rattle.calculus.specs.declared.sort.Sort.TheVariants.{TermSort, MarkSort, StringSort}
-use Rattle.calculus.specs.Ground.{common, own, g_fun, g_eigen, g_new_mark, g_spare_mark, marks_tree, values_tree}
+use Rattle.calculus.specs.Ground.{common, g_fun, g_eigen, g_new_mark, g_spare_mark, values_tree}
 use Rattle.store_theory.specs.Stores.{Cell, variable, fun_cell, eigen_cell, new_cell, string_cell, Store, parts_of, sort_of, has_sort_at, has_value_sort_at, parts_fit, is_store, CellValue, a_term, a_mark, a_string, has_sort, Solution, CellHolds, Solves, GammaCell, IsHome, IsOwnSpare, AreOwnSpares}
 use Rattle.search_theory.specs.States.{terms_by, label_by, values_by}
 use Rattle.search_theory.proofs.BelowLaws.{all-weaken}
-use Rattle.search_theory.proofs.SpareLaws.{IsPart, IsRanked, spare_at, cell-alike, label-alike, cell-sorted, cell-fits, sort-same, spare-sort, terms-there, values-there, marks-there, or-both}
+use Rattle.search_theory.proofs.SpareLaws.{IsRanked, spare_at, cell-alike, cell-sorted, cell-fits, sort-same, spare-sort, terms-there, values-there, marks-there, or-both}
+use Rattle.search_theory.specs.CellsIn.{IsPart}
 use Rattle.search_theory.proofs.DistinctLaws.{IsSpareValue, AreDistinct}
-
--- the value of an unbound variable, by the values of the cells that it needs
-pub record SpareRule : Type 0 where
-  pub spare : Solution → ℕ → Sort → CellValue
-  pub needs : ℕ → Sort → List ℕ
-  pub alike : (σ τ : Solution) (r : ℕ) (sort : Sort) → ((k : ℕ) → IsPart k (needs r sort) → σ k ≡ τ k) → spare σ r sort ≡ spare τ r sort
-  pub sorted : (σ : Solution) (r : ℕ) (sort : Sort) → IsTrue (has_sort sort (spare σ r sort))
-
--- the cells whose values make that of the cell
-abbrev pub needed : SpareRule → ℕ → Cell → List ℕ
-needed R r (variable sort None) = R.needs r sort
-needed R r (variable sort (Some k)) = k ∷ []
-needed R r (fun_cell f rs) = rs
-needed R r (eigen_cell p rs) = rs
-needed R r (new_cell p rs) = rs
-needed R r (string_cell rs) = rs
+use Rattle.search_theory.specs.SpareRules.{SpareRule, home_spare, homes, needed}
 
 abbrev pub rule_cell : SpareRule → Solution → ℕ → Cell → CellValue
 rule_cell R σ r (variable sort None) = R.spare σ r sort
@@ -146,29 +132,6 @@ letters-distinct In s rank bound h ranked names = record {
     differ v w e f q = let z : Some (variable StringSort None) ≡ Some (variable MarkSort None) = sym e ∙ ap (slice_get s.cells) q ∙ f in cc z
 
 -- ---- each unbound term variable has a spare of its home
-
-abbrev pub home_spare : (ℕ → List ℕ) → Solution → ℕ → Sort → CellValue
-home_spare home σ r TermSort = a_term (own r (marks_tree (label_by σ (home r))))
-home_spare home σ r MarkSort = a_mark (g_spare_mark r)
-home_spare home σ r StringSort = a_string []
-
-abbrev pub home_needs : (ℕ → List ℕ) → ℕ → Sort → List ℕ
-home_needs home r TermSort = home r
-home_needs home r MarkSort = []
-home_needs home r StringSort = []
-
-pub home-alike : (home : ℕ → List ℕ) (σ τ : Solution) (r : ℕ) (sort : Sort) → ((k : ℕ) → IsPart k (home_needs home r sort) → σ k ≡ τ k) → home_spare home σ r sort ≡ home_spare home τ r sort
-home-alike home σ τ r TermSort h = ap (λ w. a_term (own r (marks_tree w))) (label-alike σ τ (home r) h)
-home-alike home σ τ r MarkSort h = refl
-home-alike home σ τ r StringSort h = refl
-
-pub home-sorted : (home : ℕ → List ℕ) (σ : Solution) (r : ℕ) (sort : Sort) → IsTrue (has_sort sort (home_spare home σ r sort))
-home-sorted home σ r TermSort = refl
-home-sorted home σ r MarkSort = refl
-home-sorted home σ r StringSort = refl
-
-abbrev pub homes : (ℕ → List ℕ) → SpareRule
-homes home = record { spare = home_spare home; needs = home_needs home; alike = home-alike home; sorted = home-sorted home }
 
 -- `home` tells for each unbound term variable the label of its home
 abbrev pub AreHomes : Store → List GammaCell → (ℕ → List ℕ) → Type 0

@@ -16,7 +16,8 @@ use Rattle.search_theory.specs.Exploring.{IsLeftList, behind, IsIn}
 use Rattle.search_theory.specs.Searching.{IsSearch}
 use Rattle.search_theory.proofs.ExtensionLaws.{state_at}
 use Rattle.search_theory.proofs.ExploreLaws.{covers-drop, covers-visit, explore-drop, explore-visit, explored}
-use Rattle.search_theory.proofs.BeginningLaws.{is_not_empty, IsDead, no-closed-dead, no-left-dead, dead-regular}
+use Rattle.search_theory.proofs.BeginningLaws.{no-closed-dead, no-left-dead, dead-regular}
+use Rattle.search_theory.specs.DeadEnds.{is_not_empty, IsDead}
 use Rattle.search_theory.proofs.NextLaws.{next-choice, covers-closed, covers-left}
 use Rattle.search_theory.proofs.ChoiceLaws.{choices-complete, choices-rise}
 use Rattle.search_theory.proofs.DeepenLaws.{starting, MayStart, explore-start, left-start, not-left}

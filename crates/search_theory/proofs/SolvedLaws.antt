@@ -18,16 +18,18 @@ use Rattle.search_theory.specs.Jumps.{IsSolvedList, IsSolvedBehind}
 use Rattle.search_theory.specs.Matrix.{MatrixClause, IsTemplateMatrix}
 use Rattle.search_theory.specs.OrderedChoices.{choices_at}
 use Rattle.search_theory.specs.States.{CellChoice, CellGoal, State, literal_by, choice_at, goal_at, growth_at, IsGround, IsStateOf}
-use Rattle.search_theory.proofs.BeginningLaws.{beginning, growth-append, is_not_empty, not-empty-behind, within-kept}
+use Rattle.search_theory.proofs.BeginningLaws.{beginning, growth-append, not-empty-behind, within-kept}
+use Rattle.search_theory.specs.DeadEnds.{is_not_empty, Grows}
 use Rattle.search_theory.proofs.BelowLaws.{all-join}
 use Rattle.search_theory.proofs.ChoiceLaws.{choices-complete}
 use Rattle.search_theory.proofs.ExploreLaws.{begins-behind}
 use Rattle.search_theory.proofs.ExtensionLaws.{extension-of, last-at, reduction-of, state_at}
 use Rattle.search_theory.proofs.ImageLaws.{names-image}
 use Rattle.search_theory.proofs.LastChoice.{grow_once, none≢some}
-use Rattle.search_theory.proofs.LookAheadLaws.{IsCloseable, closeable}
+use Rattle.search_theory.proofs.LookAheadLaws.{closeable}
+use Rattle.search_theory.specs.Closing.{IsCloseable}
 use Rattle.search_theory.proofs.NextLaws.{extension-shape, grown_state, not-start, reduction-shape}
-use Rattle.search_theory.proofs.StepLaws.{Grows, if-some, same-some}
+use Rattle.search_theory.proofs.StepLaws.{if-some, same-some}
 
 -- ---- where a goal stands in a list
 

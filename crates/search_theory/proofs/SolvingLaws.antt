@@ -24,7 +24,8 @@ use Rattle.search_theory.proofs.SpareLaws.{IsRanked, cell-sorted, terms-there, o
 use Rattle.search_theory.proofs.BelowLaws.{all-weaken}
 use Rattle.search_theory.proofs.BuildingLaws.{solved-sorted}
 use Rattle.search_theory.proofs.DistinctLaws.{IsSpareValue, AreDistinct}
-use Rattle.search_theory.proofs.AtomLaws.{IsAtomIn, atoms-same, literal-by}
+use Rattle.search_theory.proofs.AtomLaws.{atoms-same, literal-by}
+use Rattle.search_theory.specs.CellsIn.{IsAtomIn}
 
 -- ---- what a system names is below the size of its store
 

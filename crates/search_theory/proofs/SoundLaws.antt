@@ -14,7 +14,8 @@ use Rattle.store_theory.specs.Stores.{Store, Solution}
 use Rattle.search_theory.specs.States.{CellChoice, CellGoal, State, IsStateOf, IsGround, choice_at, clause_at, growth_at, name_of}
 use Rattle.search_theory.specs.Matrix.{MatrixClause, IsTemplateMatrix}
 use Rattle.search_theory.specs.OrderedChoices.{choices_at}
-use Rattle.search_theory.proofs.BeginningLaws.{is_not_empty, ClosedBeginning, IsDead, dead-regular}
+use Rattle.search_theory.proofs.BeginningLaws.{ClosedBeginning, dead-regular}
+use Rattle.search_theory.specs.DeadEnds.{is_not_empty, IsDead}
 use Rattle.search_theory.proofs.ChoiceLaws.{choices-complete}
 use Rattle.search_theory.proofs.ExtensionLaws.{state_at}
 use Rattle.search_theory.proofs.ImageLaws.{names-image}

@@ -12,11 +12,10 @@ use Rattle.store_theory.specs.Stores.{Cell, variable, fun_cell, eigen_cell, new_
 use Rattle.store_theory.specs.Templates.{as_term, as_value, as_label}
 use Rattle.search_theory.specs.States.{terms_by, label_by, values_by}
 use Rattle.search_theory.proofs.BelowLaws.{all-weaken}
+use Rattle.search_theory.specs.CellsIn.{IsPart}
+use Rattle.search_theory.specs.SpareRules.{label-alike}
 
 -- ---- ranks: each cell is above what it is bound to and above its parts
-
-abbrev pub IsPart : ℕ → List ℕ → Type 0
-IsPart k rs = (i : ℕ) × (slice_get rs i ≡ Some k)
 
 pub record IsRanked (s : Store) (rank : ℕ → ℕ) (bound : ℕ) : Type 0 where
   pub falls : (r k : ℕ) (c : Cell) → slice_get s.cells r ≡ Some c → IsPart k (parts_of c) → rank k < rank r
@@ -59,10 +58,6 @@ terms-alike σ τ (r ∷ rs) h = ap₂ (λ v ts. more_g_terms (as_term v) ts) (h
 pub values-alike : (σ τ : Solution) (rs : List ℕ) → ((k : ℕ) → IsPart k rs → σ k ≡ τ k) → values_by σ rs ≡ values_by τ rs
 values-alike σ τ [] h = refl
 values-alike σ τ (r ∷ rs) h = ap₂ (λ v vs. as_value v ∷ vs) (h r (0, refl)) (values-alike σ τ rs (λ k p. h k (suc p.0, p.1)))
-
-pub label-alike : (σ τ : Solution) (rs : List ℕ) → ((k : ℕ) → IsPart k rs → σ k ≡ τ k) → label_by σ rs ≡ label_by τ rs
-label-alike σ τ [] h = refl
-label-alike σ τ (r ∷ rs) h = ap₂ (λ v w. as_label v ++ w) (h r (0, refl)) (label-alike σ τ rs (λ k p. h k (suc p.0, p.1)))
 
 pub cell-alike : (σ τ : Solution) (r : ℕ) (c : Cell) → ((k : ℕ) → IsPart k (parts_of c) → σ k ≡ τ k) → own_cell σ r c ≡ own_cell τ r c
 cell-alike σ τ r (variable sort None) h = refl

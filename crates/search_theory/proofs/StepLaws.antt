@@ -18,6 +18,7 @@ use Rattle.search_theory.specs.Steps.{IsFreshClause}
 use Rattle.search_theory.proofs.LastChoice.{none≢some}
 use Rattle.search_theory.proofs.ImageLaws.{goals-image, names-image, values-agree}
 use Rattle.search_theory.proofs.BelowLaws.{goals-below}
+use Rattle.search_theory.specs.DeadEnds.{Grows}
 
 -- ---- instances and copied clauses
 
@@ -79,10 +80,6 @@ admitted-agree P n σ τ a (reduction up ∷ cs) b h = (tt, admitted-agree P n �
 admitted-agree P n σ τ a (extension i place ∷ cs) b h =
     let p = and_parts (clause_is_below n i) (list_all (choice_is_below n) cs) b in
     (subst (λ vs. IsTrue (is_choice_of_values P vs)) (values-agree n σ τ a i.values (and_parts _ _ p.0).0) h.0, admitted-agree P n σ τ a cs p.1 h.1)
-
--- some tree of ground instances follows the choice list, whatever the limit
-abbrev pub Grows : Problem → List Choice → Type 0
-Grows P c = (gs : List GroundChoice) × (x : Growth) × (choices_of gs ≡ c) × (growth_of P gs ≡ Some x)
 
 -- a state with a ground solution shows that its list is live
 pub live-state : (P : Problem) (d : ℕ) (c : List Choice) (S : State) → IsStateOf P d c S → (σ : Solution) → IsGround P S σ → IsLive P d c

@@ -8,7 +8,8 @@ use Rattle.store_theory.specs.Stores.{Store, has_sort_at, GammaCell}
 use Rattle.store_theory.specs.Systems.{CellAtom, Equation, Pair, System, is_label, is_equation, is_gamma_cell, is_cell_atom, is_pair, is_system, cells_of_atom, cells_of}
 use Rattle.search_theory.specs.Solving.{HasCells}
 use Rattle.search_theory.proofs.BelowLaws.{all-weaken}
-use Rattle.search_theory.proofs.SpareLaws.{IsPart, or-both}
+use Rattle.search_theory.proofs.SpareLaws.{or-both}
+use Rattle.search_theory.specs.CellsIn.{IsPart}
 use Rattle.search_theory.proofs.SolvingLaws.{system-parts, PairIn, HasPairsIn}
 
 -- ---- parts of joined lists

@@ -25,8 +25,10 @@ use Rattle.search_theory.specs.LabelledCells.{AreLabelled}
 use Rattle.search_theory.specs.States.{CellChoice, CellGoal, State, values_by, literal_by, goal_at, IsAdmittedAt, IsGround}
 use Rattle.search_theory.proofs.AdmittedLaws.{IsGood, SparesGood, good-cells}
 use Rattle.search_theory.proofs.BuildingLaws.{solved-valued}
-use Rattle.search_theory.proofs.LabelledEnd.{IsChoiceIn, admitted-good}
-use Rattle.search_theory.proofs.SpareLaws.{IsPart, IsRanked, label-alike, terms-alike}
+use Rattle.search_theory.proofs.LabelledEnd.{admitted-good}
+use Rattle.search_theory.specs.CellsIn.{IsChoiceIn, IsPart}
+use Rattle.search_theory.proofs.SpareLaws.{IsRanked, terms-alike}
+use Rattle.search_theory.specs.SpareRules.{label-alike}
 
 -- ---- values of cells that are the same
 

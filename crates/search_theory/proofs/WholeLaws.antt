@@ -11,9 +11,10 @@ use Rattle.search_theory.specs.States.{State, goal_at, growth_at, IsStateOf}
 use Rattle.search_theory.specs.Exploring.{BeginsWith, IsClosedList, IsLeftList, IsMemberAt}
 use Rattle.search_theory.specs.Searching.{IsSearch}
 use Rattle.search_theory.proofs.LastChoice.{grow_once, none≢some}
-use Rattle.search_theory.proofs.StepLaws.{Grows, same-some}
+use Rattle.search_theory.proofs.StepLaws.{same-some}
+use Rattle.search_theory.specs.DeadEnds.{Grows, is_not_empty}
 use Rattle.search_theory.proofs.ExtensionLaws.{LastAt, last-at, is_start}
-use Rattle.search_theory.proofs.BeginningLaws.{is_not_empty, not-empty-behind, ClosedBeginning, closed-beginning, left-beginning, left-parts}
+use Rattle.search_theory.proofs.BeginningLaws.{not-empty-behind, ClosedBeginning, closed-beginning, left-beginning, left-parts}
 use Rattle.search_theory.proofs.NextLaws.{not-start, none-deep}
 use Rattle.search_theory.proofs.ExploreLaws.{covers-drop}
 use Rattle.search_theory.proofs.EarlyLaws.{explore-lengths}

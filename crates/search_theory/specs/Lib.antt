@@ -33,3 +33,15 @@ pub mod HomeCells
 pub mod Cutting
 -- jumps back
 pub mod Jumps
+-- lists behind which nothing is
+pub mod DeadEnds
+-- cells of a set
+pub mod CellsIn
+-- labels as lists of marks
+pub mod MarkLists
+-- values of unbound variables
+pub mod SpareRules
+-- homes
+pub mod HomesTold
+-- goals that cannot be closed
+pub mod Closing

@@ -17,7 +17,8 @@ use Rattle.term_store.specs.declared.cell.Head.{Head}
 use Rattle.term_store.specs.declared.cell.Ref.{Ref}
 use Rattle.term_store.specs.declared.cell.Head.TheVariants.{Open}
 use Rattle.term_unify.proofs.PairLaws.{map-last, take-more, told}
-use Rattle.search_theory.proofs.GivingLaws.{IsFlat, flat-mark, flat-none, flat-string, ends-same}
+use Rattle.search_theory.proofs.GivingLaws.{flat-mark, flat-none, flat-string, ends-same}
+use Rattle.search_theory.specs.MarkLists.{IsFlat}
 use Rattle.term_unify.specs.Flat.{HasNoString, HasNoStringIn, IsFlatItem, IsStringOf}
 use Rattle.term_unify.proofs.ListItems.{drop-end, drop-there}
 

@@ -17,7 +17,8 @@ use Rattle.term_store.specs.declared.cell.Ref.{Ref}
 use Rattle.term_unify.specs.Steps.{AreDifferent}
 use Rattle.search_theory.specs.States.{label_by}
 use Rattle.search_theory.proofs.GeneralLaws.{mark-parts}
-use Rattle.search_theory.proofs.GivingLaws.{IsFlat, length-marks}
+use Rattle.search_theory.proofs.GivingLaws.{length-marks}
+use Rattle.search_theory.specs.MarkLists.{IsFlat}
 use Rattle.search_theory.proofs.SolvingLaws.{label-there}
 use Rattle.term_unify.specs.Same.{AreSameCells, AreSameLabels, DifferAt}
 use Rattle.term_unify.proofs.ListItems.{drop-end, drop-there}

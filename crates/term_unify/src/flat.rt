@@ -7,7 +7,7 @@ ghost use Rattle.calculus.specs.declared.sort.Sort.TheVariants.{MarkSort};
 ghost use Rattle.store_theory.specs.Bindings.{IsEnd, NamesFrom};
 ghost use Rattle.store_theory.specs.Stores.{has_sort_at};
 ghost use Rattle.store_theory.specs.Systems.{has_label_sort_at, is_label};
-ghost use Rattle.search_theory.proofs.GivingLaws.{IsFlat};
+ghost use Rattle.search_theory.specs.MarkLists.{IsFlat};
 ghost use Rattle.term_store.specs.RefView.{the_place};
 ghost use Rattle.term_unify.specs.Flat.{HasNoString, HasNoStringIn, IsBuiltEnd, IsFlatItem, IsStringOf};
 

@@ -1,6 +1,6 @@
 use Rattle.std.proofs.Common.{arith, ◌≡◌, [], inl, inr, length, map, subst, sym}
 use Rattle.store_theory.specs.Bindings.{nothing_more, with_variables_of}
-use Rattle.search_theory.proofs.BeginningLaws.{refused}
+use Rattle.search_theory.specs.DeadEnds.{refused}
 use Rattle.term_store.specs.ClauseView.{the_atom, the_pattern_atom}
 use Rattle.term_store.specs.RefView.{the_place, the_places}
 use Rattle.term_store.specs.TemplateView.{the_template}

@@ -2,7 +2,7 @@ use Rattle.std.proofs.Common.{◌≡◌, ◌∙◌, IsTrue, Some, ap, arith, map
 use Rattle.store_theory.specs.Bindings.{nothing_more}
 use Rattle.store_theory.specs.Systems.{is_label}
 use Rattle.store_theory.proofs.PatternLaws.{AddsBuilt-both}
-use Rattle.search_theory.proofs.DemandLaws.{HomesAllow}
+use Rattle.search_theory.specs.HomesTold.{HomesAllow}
 use Rattle.term_store.specs.ClauseView.{the_gamma}
 use Rattle.term_store.specs.RefView.{the_place}
 use Rattle.domain_cond.specs.Conditions.{AddsHomes, HomeAllows}

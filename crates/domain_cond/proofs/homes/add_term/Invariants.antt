@@ -1,5 +1,5 @@
 use Rattle.store_theory.specs.Bindings.{AddsBuilt}
-use Rattle.search_theory.proofs.DemandLaws.{HomesAllow}
+use Rattle.search_theory.specs.HomesTold.{HomesAllow}
 use Rattle.term_store.specs.ClauseView.{the_gamma}
 use Rattle.term_store.specs.Room.{KeepsRoom}
 use Rattle.domain_cond.specs.Conditions.{AddsHomes}

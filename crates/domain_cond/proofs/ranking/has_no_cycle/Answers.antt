@@ -1,5 +1,5 @@
 use Rattle.std.proofs.Common.{◌≡◌, ◌∙◌, ◌-◌, ap, arith, length, map, subst, sym}
-use Rattle.search_theory.proofs.RuleLaws.{homes}
+use Rattle.search_theory.specs.SpareRules.{homes}
 use Rattle.domain_cond.specs.Ranks.{IsRound, rank_at}
 use Rattle.domain_cond.specs.StandingView.{the_standing}
 use Rattle.domain_cond.specs.Standings.{home_marks}

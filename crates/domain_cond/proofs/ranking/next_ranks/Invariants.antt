@@ -1,5 +1,5 @@
 use Rattle.std.proofs.Common.{map}
-use Rattle.search_theory.proofs.RuleLaws.{homes}
+use Rattle.search_theory.specs.SpareRules.{homes}
 use Rattle.domain_cond.specs.Ranks.{rank_at}
 use Rattle.domain_cond.specs.StandingView.{the_standing}
 use Rattle.domain_cond.specs.Standings.{home_marks}

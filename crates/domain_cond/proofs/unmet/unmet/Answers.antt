@@ -5,7 +5,7 @@ use Rattle.store_theory.specs.Stores.{Solution, Solves}
 use Rattle.store_theory.specs.Systems.{cells_of, is_gamma_cell}
 use Rattle.search_theory.specs.KeepingCells.{AddsRight, equation_cells, gamma_cells}
 use Rattle.term_store.specs.ClauseView.{the_gamma}
-use Rattle.search_theory.proofs.DemandLaws.{HomesAllow}
+use Rattle.search_theory.specs.HomesTold.{HomesAllow}
 use Rattle.term_store.specs.SystemView.{the_equation, the_system}
 use Rattle.term_unify.specs.Flat.{HasNoString, HasNoStringIn}
 use Rattle.domain_cond.specs.Conditions.{IsForced}

@@ -5,7 +5,8 @@ use Rattle.store_theory.specs.Stores.{has_sort_at}
 use Rattle.search_theory.specs.Solving.{IsNarrowed}
 use Rattle.term_store.specs.RefView.{the_place}
 use Rattle.term_unify.proofs.PairLaws.{BindsOnly-same}
-use Rattle.search_theory.proofs.GivingLaws.{NeverSame, SameMarks, equation-made, equation-never}
+use Rattle.search_theory.proofs.GivingLaws.{equation-made, equation-never}
+use Rattle.search_theory.specs.MarkLists.{NeverSame, SameMarks}
 use Rattle.prefix_split.specs.Equated.{equated}
 use Rattle.prefix_split.proofs.EqualLaws.{right-flat}
 use Rattle.prefix_split.proofs.LaterLaws.{later-same}

@@ -6,7 +6,7 @@ use Rattle.connection_search.specs.Running.{StandsFor}
 use Rattle.connection_search.specs.declared.tree.Tree.{Tree}
 use Rattle.connection_search.proofs.MoveLaws.{ancestor-sorted, ancestor-terms, at-reduced, goal-sorted, goal-terms, goal-within, reduction-cannot}
 use Rattle.connection_search.proofs.GivenUpLaws.{given-up}
-use Rattle.search_theory.proofs.BeginningLaws.{refused}
+use Rattle.search_theory.specs.DeadEnds.{refused}
 use Rattle.term_unify.proofs.ClosedLaws.{closed-none}
 use Rattle.connection_search.proofs.moves.Work.reduce.Goals as goal
 
