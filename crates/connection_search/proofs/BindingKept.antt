@@ -19,10 +19,10 @@ use Rattle.search_theory.specs.Closing.{CannotClose}
 use Rattle.search_theory.proofs.RankLaws.{rank_of}
 use Rattle.search_theory.proofs.RegularLaws.{each-at}
 use Rattle.search_theory.proofs.TransplantLaws.{IsAtomOf, IsGoalOf, MayTransplant, cut-is, cut-unbound, cut_cell, transplant}
-use Rattle.connection_search.specs.Binding.{AreBound, ListsBound, OccursInAtom, OccursInGoal}
-use Rattle.connection_search.specs.OwnStores.{AreOwn}
-use Rattle.connection_search.specs.Running.{IsRunning}
-use Rattle.connection_search.proofs.DistinctStores.{well-ranked}
+use Rattle.search_tree.specs.Binding.{AreBound, ListsBound, OccursInAtom, OccursInGoal}
+use Rattle.search_tree.specs.OwnStores.{AreOwn}
+use Rattle.search_tree.specs.Running.{IsRunning}
+use Rattle.search_tree.proofs.DistinctStores.{well-ranked}
 
 -- ---- what occurs
 

@@ -45,22 +45,22 @@ use Rattle.term_store.specs.StoreView.{the_mark}
 use Rattle.connection_search.specs.Cutting.{AreLevelPoints, IsCountedAt, IsCutEnded, IsCutExploring, IsCutFailed, IsCutVisiting, IsPassing}
 use Rattle.connection_search.specs.Deciding.{IsEnded, IsSolving}
 use Rattle.connection_search.specs.Exploring.{IsBefore, IsSpace}
-use Rattle.connection_search.specs.Points.{HasUntried, IsHere, IsMoveAt, IsPoint, IsSamePoint, the_move}
-use Rattle.connection_search.specs.Running.{IsAt, IsAtGoal, IsLeftFound, IsMatrixOf, IsRunning, StandsFor}
-use Rattle.connection_search.specs.Trees.{IsGoalAt, KeepsTree, tree_system}
-use Rattle.connection_search.specs.Weights.{greatest_weight, weight, work_left}
+use Rattle.search_tree.specs.Points.{HasUntried, IsHere, IsMoveAt, IsPoint, IsSamePoint, the_move}
+use Rattle.search_tree.specs.Running.{IsAt, IsAtGoal, IsLeftFound, IsMatrixOf, IsRunning, StandsFor}
+use Rattle.search_tree.specs.Trees.{IsGoalAt, KeepsTree, tree_system}
+use Rattle.search_tree.specs.Weights.{greatest_weight, weight, work_left}
 use Rattle.connection_search.specs.declared.visit.Visit.{Visit}
 use Rattle.connection_search.specs.declared.visit.Visit.TheVariants as visit
-use Rattle.connection_search.specs.declared.point.Move.{Move}
-use Rattle.connection_search.specs.declared.point.Move.TheVariants.{Reduce, Extend}
-use Rattle.connection_search.specs.declared.point.Point.{Point}
-use Rattle.connection_search.specs.declared.tree.Goal.{Goal}
-use Rattle.connection_search.specs.declared.tree.Step.{Step}
-use Rattle.connection_search.specs.declared.tree.Tree.{Tree}
+use Rattle.search_tree.specs.declared.point.Move.{Move}
+use Rattle.search_tree.specs.declared.point.Move.TheVariants.{Reduce, Extend}
+use Rattle.search_tree.specs.declared.point.Point.{Point}
+use Rattle.search_tree.specs.declared.tree.Goal.{Goal}
+use Rattle.search_tree.specs.declared.tree.Step.{Step}
+use Rattle.search_tree.specs.declared.tree.Tree.{Tree}
 use Rattle.connection_search.proofs.DecidingLaws.{early-members, tried-of}
-use Rattle.connection_search.proofs.DistinctStores.{distinct-own, well-ranked}
-use Rattle.connection_search.proofs.MoveLaws.{goal-here}
-use Rattle.connection_search.proofs.RunningLaws.{clause-at, running-ground}
+use Rattle.search_tree.proofs.DistinctStores.{distinct-own, well-ranked}
+use Rattle.search_tree.proofs.MoveLaws.{goal-here}
+use Rattle.search_tree.proofs.RunningLaws.{clause-at, running-ground}
 use Rattle.connection_search.proofs.SearchedLaws.{starts-next, starts_from}
 use Rattle.connection_search.proofs.SpentLaws.{none-open, stands-live}
 use Rattle.connection_search.proofs.StackedLaws.{before-same, mark-itself, point-back, point-kept, point-next, untried-moved}

@@ -1,13 +1,12 @@
 -- What deciding a list without open goals comes to: the lists of lengths for which solving used a step, and what the tree's system asks.
 use Rattle.std.proofs.Common.{◌≡◌, ◌+◌, ◌-◌, ◌≤◌, ℕ, suc, List, [], ◌∷◌, ◌++◌, length, map, Bool, true, false, IsTrue, refl, sym, ◌∙◌, ap, subst, Option, None, arith, nat_le, leb-true, reverse}
-use Rattle.std.specs.List.{AllByRecursion, list_all}
+use Rattle.std.specs.List.{AllByRecursion}
 use Rattle.std.proofs.lemmas.Bool.{false≢true}
 use Rattle.std.proofs.lemmas.List.{length-append, length-map}
 use Rattle.calculus.specs.declared.setting.Logic.{Logic}
 use Rattle.calculus.specs.Choices.{Choice}
 use Rattle.calculus.specs.Counting.{AtLeastMany, IsRising, MoreThan}
 use Rattle.calculus.specs.Space.{IsEarly, has_labels, lengths_cmp, member_cmp, with_choices, with_lengths}
-use Rattle.calculus.specs.Instances.{GammaUse, gamma_is_allowed}
 use Rattle.store_theory.specs.Stores.{OccursIn, Store}
 use Rattle.calculus.specs.Syntax.{Problem}
 use Rattle.store_theory.specs.Systems.{AllAllowed, AreEarly, HasBoundedSolution, NamesItsStrings, System, cells_of, is_system}
@@ -21,22 +20,23 @@ use Rattle.search_theory.specs.States.{CellGoal, State}
 use Rattle.search_theory.proofs.LabelledEnd.{solves-by_state, solving-many}
 use Rattle.search_theory.proofs.SystemLaws.{member-tried, no-closed-list, tree-by_state}
 use Rattle.search_theory.proofs.WholeLaws.{search-lengths}
-use Rattle.term_store.specs.Asking.{Asks}
-use Rattle.connection_search.specs.Deciding.{IsDecided, IsEnded, IsSolved, IsSolvedTree, IsSolving}
-use Rattle.connection_search.specs.Seeing.{HasSeen}
+use Rattle.connection_search.specs.Deciding.{IsDecided, IsEnded, IsSolvedTree, IsSolving}
+use Rattle.tableau_reading.specs.Solving.{IsSolved}
+use Rattle.search_tree.specs.Seeing.{HasSeen}
 use Rattle.connection_search.proofs.StandingLaws.{stack-forgotten}
 use Rattle.connection_search.specs.Exploring.{IfOn, IsCounted, IsEnd, IsExploring, IsSpace, IsVisiting}
-use Rattle.connection_search.specs.OwnStores.{AreOwn}
-use Rattle.connection_search.specs.Running.{IsRunning, StandsFor}
-use Rattle.connection_search.specs.Trees.{AreGoals, tree_system}
+use Rattle.search_tree.specs.OwnStores.{AreOwn}
+use Rattle.search_tree.specs.Running.{IsRunning, StandsFor}
+use Rattle.search_tree.specs.Trees.{AreGoals, tree_system}
 use Rattle.connection_search.specs.declared.visit.Visit.{Visit}
 use Rattle.connection_search.specs.declared.visit.Visit.TheVariants as visit
-use Rattle.connection_search.specs.declared.point.Point.{Point}
-use Rattle.connection_search.specs.declared.tree.Goal.{Goal}
-use Rattle.connection_search.specs.declared.tree.Step.{Step}
-use Rattle.connection_search.specs.declared.tree.Tree.{Tree}
-use Rattle.connection_search.proofs.RunningLaws.{running-ground}
+use Rattle.search_tree.specs.declared.point.Point.{Point}
+use Rattle.search_tree.specs.declared.tree.Goal.{Goal}
+use Rattle.search_tree.specs.declared.tree.Step.{Step}
+use Rattle.search_tree.specs.declared.tree.Tree.{Tree}
+use Rattle.search_tree.proofs.RunningLaws.{running-ground}
 use Rattle.connection_search.proofs.SpentLaws.{fewer, none-open, stands-live, visit-counted}
+use Rattle.tableau_reading.proofs.SolvingLaws.{uncounted}
 
 -- ---- what the tree stands for
 
@@ -153,25 +153,6 @@ module _ (P : Problem) (m : List MatrixClause) (base d : ℕ) (s : Store) (steps
       }
 
 -- ---- solving
-
-both : (B : Logic → (List GammaUse → Bool) → Type 0) (l k : Logic) (f g : List GammaUse → Bool) → l ≡ k → f ≡ g → B l f → B k g
-both B l k f g el ef h = subst (λ f. B k f) ef (subst (λ l. B l f) el h)
-
--- what solving by a demand says of the problem, whose domains it is
-pub solved-by : (P : Problem) (s new : Store) (y : System) (l : Logic) (f : List GammaUse → Bool) (before after budget : ℕ) (a : Solved) → l ≡ P.setting.logic → f ≡ list_all (gamma_is_allowed P) → (a ≡ solved.None → ¬ HasBoundedSolution l (Asks f) s y) → (a ≡ solved.Steps → after ≡ budget) → (a ≡ solved.Steps → MoreThan lengths_cmp (AreEarly l (Asks f) s y) (budget - before)) → (¬ (a ≡ solved.Found) → new ≡ s) → IsSolved P s y before after budget new a
-solved-by P s new y l f before after budget a el ef none ended more same = record {
-  none = λ e. both (λ l f. ¬ HasBoundedSolution l (Asks f) s y) l P.setting.logic f (list_all (gamma_is_allowed P)) el ef (none e);
-  ended = ended;
-  more_early = λ e. subst (λ n. MoreThan lengths_cmp (AreEarly P.setting.logic (AllAllowed P) s y) (n - before)) (sym (ended e)) (both (λ l f. MoreThan lengths_cmp (AreEarly l (Asks f) s y) (budget - before)) l P.setting.logic f (list_all (gamma_is_allowed P)) el ef (more e));
-  unchanged = same;
-}
-
-pub counted-by : (P : Problem) (s : Store) (y : System) (l : Logic) (f : List GammaUse → Bool) (before after : ℕ) → l ≡ P.setting.logic → f ≡ list_all (gamma_is_allowed P) → lengths.IsCounted l (Asks f) s y before after → lengths.IsCounted P.setting.logic (AllAllowed P) s y before after
-counted-by P s y l f before after el ef h = both (λ l f. lengths.IsCounted l (Asks f) s y before after) l P.setting.logic f (list_all (gamma_is_allowed P)) el ef h
-
--- no step was used
-pub uncounted : (P : Problem) (s : Store) (y : System) (used : ℕ) → lengths.IsCounted P.setting.logic (AllAllowed P) s y used used
-uncounted P s y used = record { from = omega arith; early = ([], record { rising = tt; members = tt }, omega arith) }
 
 pub labels-of : (P : Problem) (l : Logic) (b : Bool) → l ≡ P.setting.logic → b ≡ has_labels l → b ≡ true → IsTrue (has_labels P.setting.logic)
 labels-of P l b e f g = ap has_labels (sym e) ∙ sym f ∙ g

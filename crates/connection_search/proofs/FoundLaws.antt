@@ -7,9 +7,8 @@ use Rattle.calculus.specs.Choices.{start, reduction, extension, Choice, GroundCh
 use Rattle.calculus.specs.Tableaux.{Tableau, is_closed}
 use Rattle.calculus.specs.Equality.{sort_eq}
 use Rattle.calculus.specs.Kinds.{modal_of, other}
-use Rattle.calculus.specs.Instances.{GammaUse, gamma_is_allowed}
 use Rattle.calculus.specs.Positions.{Node, node, size, way_from}
-use Rattle.calculus.specs.Problems.{formula_fits, is_modal, is_problem, setting_fits}
+use Rattle.calculus.specs.Problems.{formula_fits, is_problem, setting_fits}
 use Rattle.calculus.specs.Skolem.{common_spares, fits_way, is_pi, is_pi_position, last_node}
 use Rattle.calculus.specs.Space.{has_labels}
 use Rattle.calculus.specs.Syntax.{Formula, Problem, Symbol, atom, neg, conj, disj, imp, all, ex, box, dia}
@@ -28,7 +27,7 @@ use Rattle.store_theory.specs.Bindings.{IsWellFormed}
 use Rattle.store_theory.proofs.BindingLaws.{ends-once}
 use Rattle.prefix_split.specs.Later.{IsFoundIn, IsLater}
 use Rattle.prefix_split.proofs.TryingLaws.{ends-open}
-use Rattle.store_theory.specs.Stores.{EndsAt, here, Cell, variable, fun_cell, eigen_cell, new_cell, string_cell, Store, GammaCell, AreOwnSpares, has_sort_at, sort_of, Solution, label_at}
+use Rattle.store_theory.specs.Stores.{here, Cell, variable, fun_cell, eigen_cell, new_cell, string_cell, Store, GammaCell, AreOwnSpares, has_sort_at, sort_of, Solution, label_at}
 use Rattle.store_theory.specs.Systems.{AllAllowed, IsOpenString, AreEqualNow, AreTried, CellAtom, Equation, HaveLengths, OwnSparesSolve, Pair, System, cells_of, cells_of_atom, has_label_sort_at, is_equation, is_label}
 use Rattle.search_theory.specs.Joined.{IsTableauBy}
 use Rattle.search_theory.specs.Regular.{AreSame, HasNoSamePair, HasSamePair, IsNewGoal}
@@ -36,7 +35,7 @@ use Rattle.search_theory.specs.Solving.{IsClosedSet, IsSolving}
 use Rattle.search_theory.specs.StateSystems.{pairs_of, pairs_with}
 use Rattle.search_theory.specs.LabelledCells.{AreLabelled, sort_values}
 use Rattle.search_theory.specs.Matrix.{MatrixClause}
-use Rattle.search_theory.specs.States.{CellChoice, CellGoal, CellGrowth, State, choice_at}
+use Rattle.search_theory.specs.States.{CellGoal, State, choice_at}
 use Rattle.search_theory.proofs.LabelledEnd.{IsSolvedFor, closed-by_found}
 use Rattle.search_theory.proofs.RankLaws.{rank_of}
 use Rattle.calculus.specs.Cut.{IsRegularLive}
@@ -46,18 +45,18 @@ use Rattle.search_theory.proofs.SolvingLaws.{IsApartNow, found, system-parts}
 use Rattle.search_theory.proofs.SpareLaws.{cell-sorted, sort-same}
 use Rattle.search_theory.proofs.SystemCells.{labels-in, pairs-in, system-stays}
 use Rattle.search_theory.proofs.SystemLaws.{all-joined, split-all, tree-by_state}
-use Rattle.term_store.specs.Asking.{Asks}
-use Rattle.connection_search.specs.Deciding.{HasOwnTableau, IsFound}
-use Rattle.connection_search.specs.Grounds.{AreSparesAt}
-use Rattle.connection_search.specs.OwnStores.{AreOwn, is_search_cell}
-use Rattle.connection_search.specs.Running.{IsRunning, NamesStringsFrom, StandsFor, StandsWhole}
-use Rattle.connection_search.specs.Trees.{the_step, tree_system, gammas_of}
-use Rattle.connection_search.specs.declared.homes.Homes.{Homes}
-use Rattle.connection_search.specs.declared.tree.Goal.{Goal}
-use Rattle.connection_search.specs.declared.tree.Step.{Step}
+use Rattle.connection_search.specs.Deciding.{HasOwnTableau}
+use Rattle.tableau_reading.specs.Solving.{IsFound}
+use Rattle.tableau_reading.specs.Grounds.{AreSparesAt}
+use Rattle.search_tree.specs.OwnStores.{AreOwn}
+use Rattle.search_tree.specs.Running.{IsRunning, NamesStringsFrom, StandsFor, StandsWhole}
+use Rattle.search_tree.specs.Trees.{the_step, tree_system, gammas_of}
+use Rattle.tableau_reading.specs.declared.homes.Homes.{Homes}
+use Rattle.search_tree.specs.declared.tree.Goal.{Goal}
+use Rattle.search_tree.specs.declared.tree.Step.{Step}
 use Rattle.connection_search.proofs.DecidingLaws.{IsMade}
-use Rattle.connection_search.proofs.DistinctStores.{well-ranked}
-use Rattle.connection_search.proofs.KeptLaws.{KeepsSorts, choices_in-kept}
+use Rattle.search_tree.proofs.DistinctStores.{well-ranked}
+use Rattle.search_tree.proofs.KeptLaws.{KeepsSorts, choices_in-kept}
 use Rattle.connection_search.proofs.SpentLaws.{none-open}
 
 pub whole-stands : (P : Problem) (m : List MatrixClause) (base d : ℕ) (c : List Choice) (s : Store) (steps : List Step) (goals : List Goal) (first : Option ℕ) → StandsWhole P m base d c s steps goals first → StandsFor P m base d c s steps goals first
@@ -365,11 +364,3 @@ read-closed P m d s h steps t own spares read = by (map (choice_at own.solution)
 
 pub unlabelled-of : (P : Problem) (l : Logic) (b : Bool) → l ≡ P.setting.logic → b ≡ has_labels l → b ≡ false → has_labels P.setting.logic ≡ false
 unlabelled-of P l b e f g = ap has_labels (sym e) ∙ sym f ∙ g
-
--- what solving by a demand found, which is what the problem's domains ask
-pub found-of : (P Q : Problem) (s new : Store) (y : System) (l : Logic) (f : List GammaUse → Bool) (b : Bool) → Q ≡ P → l ≡ P.setting.logic → f ≡ list_all (gamma_is_allowed P) → b ≡ common_spares P → IsWellFormed new → IsFoundIn l Q y s new → OwnSparesSolve b l (Asks f) new y → IsFound P s y new
-found-of P Q s new y l f b eq el ef eb well found spares = record {
-  well = well;
-  found = subst (λ k. IsFoundIn k P y s new) el (subst (λ p. IsFoundIn l p y s new) eq found);
-  spares = subst (λ t. OwnSparesSolve (common_spares P) P.setting.logic (Asks t) new y) ef (subst (λ k. OwnSparesSolve (common_spares P) k (Asks f) new y) el (subst (λ t. OwnSparesSolve t l (Asks f) new y) eb spares));
-}

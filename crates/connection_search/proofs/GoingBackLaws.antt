@@ -16,26 +16,26 @@ use Rattle.search_theory.specs.Closing.{CannotClose}
 use Rattle.store_theory.specs.Stores.{IsGood, Store, cut_at}
 use Rattle.store_theory.proofs.StoreLaws.{IsGood-cut_at, cut_at-cut_at, take-less}
 use Rattle.term_store.specs.StoreView.{the_mark}
-use Rattle.connection_search.specs.Binding.{AreBound, ListsBound}
+use Rattle.search_tree.specs.Binding.{AreBound, ListsBound}
 use Rattle.connection_search.specs.Exploring.{ArePointsFrom, IsBefore, IsSpentAt}
 use Rattle.connection_search.specs.GoingBack.{GoesBack, HandsDown, IsBackFrom, IsStuckAt, Origin}
-use Rattle.connection_search.specs.Points.{IsPoint}
-use Rattle.connection_search.specs.Seeing.{no_goal}
-use Rattle.connection_search.specs.Trees.{IsGoalAt, tree_system}
-use Rattle.connection_search.specs.Weights.{weight, weight_of_all}
-use Rattle.connection_search.specs.declared.point.Point.{Point}
-use Rattle.connection_search.specs.declared.tree.Goal.{Goal}
-use Rattle.connection_search.specs.declared.tree.Step.{Step}
+use Rattle.search_tree.specs.Points.{IsPoint}
+use Rattle.search_tree.specs.Seeing.{no_goal}
+use Rattle.search_tree.specs.Trees.{IsGoalAt, tree_system}
+use Rattle.search_tree.specs.Weights.{weight, weight_of_all}
+use Rattle.search_tree.specs.declared.point.Point.{Point}
+use Rattle.search_tree.specs.declared.tree.Goal.{Goal}
+use Rattle.search_tree.specs.declared.tree.Step.{Step}
 use Rattle.connection_search.proofs.BindingKept.{cannot-back}
 use Rattle.connection_search.proofs.DeadLaws.{live-not_empty}
-use Rattle.connection_search.proofs.GrowthLaws.{goal-kept}
+use Rattle.search_tree.proofs.GrowthLaws.{goal-kept}
 use Rattle.connection_search.proofs.JumpingLaws.{down-jumped, spent-down}
-use Rattle.connection_search.proofs.MoveLaws.{goal-here}
-use Rattle.connection_search.proofs.Places.{item-there}
+use Rattle.search_tree.proofs.MoveLaws.{goal-here}
+use Rattle.search_tree.proofs.Places.{item-there}
 use Rattle.connection_search.proofs.SpentLaws.{stands-live}
 use Rattle.connection_search.proofs.StackedLaws.{mark-itself, points-back}
 use Rattle.connection_search.proofs.StandingLaws.{last-of, length-take, same-goal, traced-back}
-use Rattle.connection_search.proofs.TreeLaws.{goal-at, same-item}
+use Rattle.search_tree.proofs.TreeLaws.{goal-at, same-item}
 
 -- ---- the last point
 

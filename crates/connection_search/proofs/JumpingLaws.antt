@@ -15,11 +15,11 @@ use Rattle.search_theory.proofs.JumpLaws.{LeadsNowhere, LeadsOn, cannot-pruned, 
 use Rattle.search_theory.specs.Closing.{CannotClose}
 use Rattle.connection_search.specs.Exploring.{ArePointsFrom, IsExploring, IsSearched, IsSpentAt, IsStack, traced}
 use Rattle.connection_search.specs.GoingBack.{HandsDown}
-use Rattle.connection_search.specs.Points.{IsPoint}
-use Rattle.connection_search.specs.Seeing.{SeeMore, no_goal}
-use Rattle.connection_search.specs.declared.point.Point.{Point}
-use Rattle.connection_search.specs.declared.tree.Goal.{Goal}
-use Rattle.connection_search.specs.declared.tree.Step.{Step}
+use Rattle.search_tree.specs.Points.{IsPoint}
+use Rattle.search_tree.specs.Seeing.{SeeMore, no_goal}
+use Rattle.search_tree.specs.declared.point.Point.{Point}
+use Rattle.search_tree.specs.declared.tree.Goal.{Goal}
+use Rattle.search_tree.specs.declared.tree.Step.{Step}
 use Rattle.connection_search.proofs.StandingLaws.{first-seeing, reverse-seeing, stack-seen, stands-all}
 
 -- ---- what was seen is handed down

@@ -18,13 +18,13 @@ use Rattle.search_theory.specs.Regular.{HasNoSamePair}
 use Rattle.search_theory.specs.States.{CellChoice, CellGoal, CellGrowth}
 use Rattle.search_theory.proofs.DeepenLaws.{state-more}
 use Rattle.term_store.specs.StoreView.{the_mark}
-use Rattle.connection_search.specs.Points.{HasExtensions, IsHere}
-use Rattle.connection_search.specs.Running.{IsAt, IsAtGoal, IsLeftFound, StandsDeep}
-use Rattle.connection_search.specs.Trees.{IsGoalAt, tree_system}
-use Rattle.connection_search.specs.declared.point.Point.{Point}
-use Rattle.connection_search.specs.declared.tree.Goal.{Goal}
-use Rattle.connection_search.specs.declared.tree.Step.{Step}
-use Rattle.connection_search.proofs.RunningLaws.{running-left}
+use Rattle.search_tree.specs.Points.{HasExtensions, IsHere}
+use Rattle.search_tree.specs.Running.{IsAt, IsAtGoal, IsLeftFound, StandsDeep}
+use Rattle.search_tree.specs.Trees.{IsGoalAt, tree_system}
+use Rattle.search_tree.specs.declared.point.Point.{Point}
+use Rattle.search_tree.specs.declared.tree.Goal.{Goal}
+use Rattle.search_tree.specs.declared.tree.Step.{Step}
+use Rattle.search_tree.proofs.RunningLaws.{running-left}
 
 -- a regular tree with an extension from a path of as many goals as the limit
 pub left-by_tree : (P : Problem) (m : List MatrixClause) (base d n : ℕ) (c : List Choice) (s : Store) (steps : List Step) (goals : List Goal) (first : Option ℕ) → n ≡ d → StandsDeep P m base (d + 1) c s steps goals first n → ((cs : List CellChoice) (x : CellGrowth) → IsAt P m base (d + 1) c s steps goals first cs x → HasNoSamePair (record { store = s; choices = cs; growth = x })) → IsLeft P d

@@ -1,56 +1,34 @@
 -- How this crate is proved.
 --
--- Carried by `SearchedLaws.searched-end` for one limit and `DeepeningLaws.deepened-derived`, `deepened-no_tableau` and
--- `deepened-exhausted` for all: what `search_theory` says of an enumeration, said of the loop.
+-- Carried by `SearchedLaws.searched-end` for one limit and `DeepeningLaws.deepened-derived`, `deepened-no_tableau` and `deepened-exhausted`
+-- for all: what `search_theory` says of an enumeration, said of the loop.
 --
--- - *Two kinds of clauses.* A function asks for one state that its values stand for (a sum in `requires`), which is all that safety needs,
---   and promises something of every such state (a product in `ensures`), so no ghost argument goes through the calls. `IsAt`: store and
---   tree stand for a state of `search_theory` over the search's own cells (`IsRunning`), whose system is that of the tree (`tree_system`).
--- - *Own cells.* What a search built has the number `base` or a greater one and is built right, and no string is built before a system is
---   solved (`AreOwn`). `OwnCopies.own-copied`: copies of templates keep it, as `own_signature` allows what they are built of
---   (`template-own`, by `AreRight` or in classical logic by `classical_signature`); `OwnLaws.own-binds`: so do bindings. `KeptLaws`:
---   atoms, goals, choices and systems stay where cells keep their sorts, and `system-added` is what must hold of what comes.
---   `OpenStrings`: each unbound string is one of the system's (`AreNamed`): an unbound one was unbound before, and what led to it still
---   does.
--- - *The tree.* Paths and the list of open goals are links through the list of all goals (`IsPath`, `AreOpen`). What is open behind a goal
---   never changes, so going back is cutting two lists. `TreeLaws` follows links, `GrowthLaws` what comes.
--- - *Moves.* `made` leads to `StandsFor` with one choice more, `refused` to `IsRuledOut`: a dead end (`IsDead`), or, where a limit is
---   looked at, a list with which no tableau begins that is closed within it. `RunningLaws` says it of states (`running-started`,
---   `running-reduced`, `running-extended`, `no-reduction-by_clash`, `running-ground`, `running-live`, `running-left`), each with the
---   system that comes, `MoveLaws` of the program's tree.
 -- - *Points.* `IsPoint`: cutting back gives the state in which the point was made; `HasUntried`: its choices to come. `ArePointsFrom` goes
 --   over the reversed stack, so what is pushed and popped is a head. `StackedLaws` keeps points and goes back to one; `TryingLaws` and
 --   `VisitLaws` have one lemma for each exit of `try_next` and of `visit`. The last point is changed in its place: `last-read` tells it
 --   from those below, `set-end` and `cut-end` say what the stack is after the change and where it goes.
 -- - *Jumps back.* `IsStack` is `ArePointsFrom` with `AreSolvedBehind` of the theory for the points as `traced` sees them. Each point keeps
 --   the lowest number of a goal that was the leftmost open one since it was made (`Point::lowest`, `see`); the number of a later point is
---   handed down when that point goes (`lower`, `SeeMore`). The last point has seen the goal that is visited (`HasSeen`), or 0 where no
---   goal is open: then it claims nothing more. So lists that fail by a goal are to say which one: `HasLost` has a goal that cannot be
---   closed and its number, at or behind the leftmost open goal or among the goals that came last (`GivenUpLaws`); it is what `is_stuck`,
---   `is_regular_from` and a refused choice promise (`IsGivenUp`); an extension that is set aside has no tree yet, and promises what
---   follows of it (`IsFruitless`: no list that closes the goal of a point begins with it). Lists that fail for the tree as a whole
---   (labels, a repeated goal that `is_found_irregular` finds) lower the number to 0 (`stack-cleared`). `StandingLaws` has one law for each
---   event on the stack (`stack-pushed`, `stack-lost`, `stack-refused`, `stack-seeing`), `JumpingLaws` those of going back (`spent-down`,
---   `down-jumped`, `handed-down`). Where all choices of a point were tried (`IsSpentAt`), `jump` drops each earlier point at which the
---   goal stood and whose store binds all bound cells of the goal and of its path (`BindingKept.cannot-back`: these cells and their parts
---   are then the same).
--- - *Goals that are not looked at.* That an extension is made says nothing of regularity, only that it is refused does. So `has_repeated`
---   may leave literals out, and leaves out those with a variable that the connected literal lacks (`occurrences.rt`), which give goals
---   that are the same as none above them. Nothing is proved of which these are.
--- - *Extensions that are set aside.* What is seen of another literal over the variables, in the store in which the connected literal was
---   matched (`IsSetAside`), holds of each extension that bindings of the store before allow, as matching takes each of their solutions
---   along (`IsHeadMatch`). So the extension is a dead end, or begins nothing that is closed within the limit that is looked at, and it
---   closes the goal of no point (`UncopiedLaws.set-aside`, from `IsBarren` of the theory).
--- - *Irregular trees.* A goal that was new can become the same as one above it by a later binding. So behind a number of choices that
---   grows with the tree (`is_found_irregular`) all goals of the tree are looked at where the search comes back to a point. A repeated goal
---   makes the point's state a dead end, and with it each list behind it (`DeadLaws.dead-behind`, `search-dead_behind`), so the point is
---   dropped whole (`TryingLaws.dead-at`).
--- - *How far the search is.* `IsSearched`, `IsExploring`, `IsVisiting` carry `IsSearch` of the theory, and that steps were used for what
---   is spent; so each exit is a law of `SearchSteps` or `EarlyLaws`. Contracts name the program's values once for each moment
---   (`the_moment`) and say what is known at one and what that leads to at the next (`Moments`: `Holds`, `Leads`); these words compute to
---   the states, so no law speaks of them. `SearchedLaws` goes over the clauses, `DeepeningLaws` over the limits.
--- - *It ends.* `work_left`: the steps left times the greatest weight of a point, and the weights of those on the stack; `Point::next`
---   makes one lighter (`falls`), a pushed one costs a step.
+--   handed down when that point goes (`lower`, `SeeMore`). The last point has seen the goal that is visited (`HasSeen`), or 0 where no goal
+--   is open: then it claims nothing more. So lists that fail by a goal are to say which one: `HasLost` has a goal that cannot be closed and
+--   its number, at or behind the leftmost open goal or among the goals that came last (`GivenUpLaws`); it is what `is_stuck`,
+--   `is_regular_from` and a refused choice promise (`IsGivenUp`); an extension that is set aside has no tree yet, and promises what follows
+--   of it (`IsFruitless`: no list that closes the goal of a point begins with it). Lists that fail for the tree as a whole (labels, a
+--   repeated goal that `is_found_irregular` finds) lower the number to 0 (`stack-cleared`). `StandingLaws` has one law for each event on
+--   the stack (`stack-pushed`, `stack-lost`, `stack-refused`, `stack-seeing`), `JumpingLaws` those of going back (`spent-down`,
+--   `down-jumped`, `handed-down`). Where all choices of a point were tried (`IsSpentAt`), `jump` drops each earlier point at which the goal
+--   stood and whose store binds all bound cells of the goal and of its path (`BindingKept.cannot-back`: these cells and their parts are
+--   then the same).
+-- - *Irregular trees.* A goal that was new can become the same as one above it by a later binding. So behind a number of choices that grows
+--   with the tree (`is_found_irregular`) all goals of the tree are looked at where the search comes back to a point. A repeated goal makes
+--   the point's state a dead end, and with it each list behind it (`DeadLaws.dead-behind`, `search-dead_behind`), so the point is dropped
+--   whole (`TryingLaws.dead-at`).
+-- - *How far the search is.* `IsSearched`, `IsExploring`, `IsVisiting` carry `IsSearch` of the theory, and that steps were used for what is
+--   spent; so each exit is a law of `SearchSteps` or `EarlyLaws`. Contracts name the program's values once for each moment (`the_moment`)
+--   and say what is known at one and what that leads to at the next (`Moments`: `Holds`, `Leads`); these words compute to the states, so no
+--   law speaks of them. `SearchedLaws` goes over the clauses, `DeepeningLaws` over the limits.
+-- - *It ends.* `work_left`: the steps left times the greatest weight of a point, and the weights of those on the stack; `Point::next` makes
+--   one lighter (`falls`), a pushed one costs a step.
 -- - *Without return to solved goals.* One stack of points, one for each goal above the leftmost open one: it is cut to that goal's depth
 --   before the goal's own point is pushed, and that is all of the cut (`CuttingLaws.cut-visit-goal`). Each exit of `next_cut` and
 --   `visit_cut` is a law of `CuttingLaws`, the loop over the limits is `CutDeepening`. All goals are compared at each choice, as the
@@ -59,19 +37,6 @@
 --   each greater limit fails in the same way (`none-beyond`), and `deepen_cut` ends. Each start has a store of its own, so no clause on
 --   marks, moments and room is needed. `decide` says of a tableau that it is closed and that it has the list's choices, so nothing is
 --   compared.
--- - *Names.* Before a literal is tried, its names at all depths are compared with those of the goal's arguments (`is_apart`): where they
---   differ, no solution makes the goal's term equal to a copy of the pattern (`IsApart`, said of all solutions and values, so that
---   `HeadLaws.apart-by_parts` takes it from a part to the whole; `apart-by_names`), and no tree follows the extension
---   (`MoveLaws.extension-clashes`).
--- - *Literals that are not built.* The other literals of a clause are looked at as patterns over variables of the store (`uncopied.rt`). A
---   variable keeps a cell apart by the name at its end (`HeadLaws.variable-apart`), and what names show of all copies holds over these
---   variables (`apart-over`). `LookingOver` has the rest. A literal is lost where nothing above it may close it (`no-reduction`) and the
---   path has no room (`lost-at_limit`), or the marks of the path with its own show that it has no hope (`marks-below`,
---   `lost-without_hope`). A literal whose arguments and label match those of an atom is that atom in each solution (`same-literal`).
--- - *New bindings.* `IsClosedBelow n s` (of `term_unify`): cells with numbers below n name such cells alone, as those do that were there
---   before a copy (`CopiedBelow.closed-copied`). While it holds, an unbound variable from n on occurs in none of them
---   (`ClosedLaws.newer-apart`), so `unify_below` binds it without a look for it, and of two unbound variables the newer one; the binding
---   of an older variable to a newer cell gives it up (n = 0), each other one keeps it (`closed-bound`).
 -- - *Left.* `is_left_at` tries the extensions of one goal at the limit d + 1 (`at-deeper`): one that is regular shows it (`left-by_tree`),
 --   else each is dead (`tried-all`).
 -- - *Lists without open goals.* Solving the tree's system uses a step for each list of lengths that it tries. `IsSolving` and `IsDecided`
@@ -89,25 +54,8 @@
 --   symbols under signs are made of the path where they are asked for (`marks_of`), so the goals of the tree keep none. `WayUpLaws` is for
 --   loops up a path: what each goal that was passed has.
 -- - *Dropping by labels.* Where the limit is known to be left, `visit` drops a list whose equations and strings alone are refuted by the
---   order of label beginnings (`PruneLaws`: a part of the tree's system is a system that names its strings, `tree-pruned`,
---   `visit-pruned`); no step is spent for it. `take_up` is the visit without this test. Which lists are tested (`has_room`, `Tests`)
---   promises nothing.
--- - *Reading.* `Grounds` has what stands for each cell, by the end of its bindings, as numbers of a table, and each is made once. A cell
---   waits on a stack until what it is made of is there (`make_top`): its parts, or the items of the label at which its spare stands
---   (`needs`). These functions ask for a solution with own spares at the homes that were found (`HasSparesAt`), which `answer` has from
---   `HasOwnTableau` (`FoundLaws.own-spares`). By it a value is larger than those that it is made of (`WaitingLaws.needs-lighter`), so
---   cells that wait are ever lighter (`WaitBySpares`), and a part for which one waits was not asked for before (`part-new`). So each cell
---   is asked for once and the loop ends, all that was asked for is made when none waits any more (`last-made`), and no value is made up.
---   What is made is said of all solutions by own spares at the homes that were found (`AreSparesAt`): it is normal in the table, which a
---   longer table keeps, and is the cell's value (`IsReading`; `PartLaws` for what a cell needs, `MakingLaws` for the loops, `GroundLaws`
---   for values: `made_of` is the value by what is found at the end, `value-there` that each such solution gives it). So the terms, values
---   and labels of literals are those that the calculus has by these solutions (`ReadOffLaws`).
--- - *Homes.* The first gamma term that holds a variable is found by marking the leaves of the terms, in the order of the gamma terms; a
---   leaf that was marked keeps its number (`homes_of`, `HeldLaws`). So `AreSparesAt` follows from `AreOwnSpares .. σ (λ v. v)`. The demand
---   of the domains looks at the same leaves while the system is solved.
--- - *Closings* are read from the last choice to the first: what is on the stack has the choices of the steps that were read (`StackLaws`:
---   `names-reduce`, `names-extend`, `behind-next`), so the tableau has the choices of the tree (`whole-names`). That a tree begins with
---   its start and has no other follows from a ground solution, which each state has (`stands-started`).
+--   order of label beginnings (`PruneLaws`: a part of the tree's system is a system that names its strings, `tree-pruned`, `visit-pruned`);
+--   no step is spent for it. `take_up` is the visit without this test. Which lists are tested (`has_room`, `Tests`) promises nothing.
 -- - *Read off and closed.* Beside its names, what is read off is told by each solution σ with own spares: literals and instances are those
 --   that the matrix has by σ (`instance-read`, `connected-read`), and on the stack stand the trees of `closings_by` (`closings-reduce`,
 --   `closings-extend`, `whole-built`). They name normal numbers, so they stay as the table grows. `FoundLaws` joins this with
@@ -119,47 +67,6 @@
 --   a demand adds is built right too, where the equation that it answers has a solution (`EquatesRight`, *Built right* of `domain_cond`;
 --   `MeetingLaws.right-equated`), and each store with own spares has one.
 
--- lists by places
-pub mod Places
--- unifying and comparing atoms
-pub mod CopiedBelow
-pub mod UnifyingLaws
-pub mod DistinctStores
-pub mod SamenessLaws
-pub mod HeadLaws
--- the tree
-pub mod TreeLaws
-pub mod SeenLaws
-pub mod GrowthLaws
-pub mod SystemGrowth
--- the system of the tree
-pub mod GatheringLaws
--- reading off the tableau
-pub mod ReadingLaws
-pub mod GroundLaws
-pub mod PartLaws
-pub mod MakingLaws
-pub mod WaitingLaws
-pub mod HeldLaws
-pub mod ReadOffLaws
-pub mod StackLaws
-pub mod BuiltLaws
--- copies
-pub mod ClassicalGammas
-pub mod ClassicalCopies
--- a search's own cells
-pub mod KeptLaws
-pub mod OpenStrings
-pub mod OpenVariables
-pub mod OwnLaws
-pub mod OwnCopies
--- states
-pub mod RunningLaws
-pub mod PlaceLaws
--- moves
-pub mod MoveLaws
--- choice points
-pub mod PointLaws
 -- where the limit is left
 pub mod LeftLaws
 -- how many steps were used
@@ -175,16 +82,11 @@ pub mod PruneLaws
 pub mod StackedLaws
 pub mod DeadLaws
 -- looking ahead at the limit
-pub mod WayUpLaws
-pub mod AheadLaws
 pub mod PassingOver
-pub mod LookingOver
-pub mod GivenUpLaws
 pub mod StandingLaws
 pub mod TryingLaws
 pub mod JumpingLaws
 pub mod BindingKept
-pub mod LookingLaws
 pub mod GoingBackLaws
 -- the search at one limit
 pub mod SearchedLaws
@@ -193,5 +95,3 @@ pub mod DeepeningLaws
 -- the search that does not return to solved goals
 pub mod CuttingLaws
 pub mod CutDeepening
-pub mod MatchingLaws
-pub mod UncopiedLaws

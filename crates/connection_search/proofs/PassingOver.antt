@@ -22,21 +22,21 @@ use Rattle.search_theory.specs.DeadEnds.{refused}
 use Rattle.search_theory.proofs.BarrenLaws.{hopeless-dropped}
 use Rattle.search_theory.proofs.PruningLaws.{search-pruned}
 use Rattle.search_theory.proofs.SearchSteps.{search-dead}
-use Rattle.connection_search.specs.Ahead.{IsLeftmost, IsNextLeft, IsNextPlace, IsPassed, MayPassBy}
+use Rattle.search_tree.specs.Ahead.{IsLeftmost, IsNextLeft, IsNextPlace, IsPassed, MayPassBy}
 use Rattle.connection_search.specs.Exploring.{IsSearched}
-use Rattle.connection_search.specs.Heads.{HasClash}
-use Rattle.connection_search.specs.Points.{HasExtensions, HasUntried, IsNextAncestor, IsSamePoint}
-use Rattle.connection_search.specs.Pruning.{IsPruned}
-use Rattle.connection_search.specs.Running.{ExtendsBy, IsAtGoal, IsMatrixOf}
-use Rattle.connection_search.specs.Trees.{IsGoalAt, atom_at}
-use Rattle.connection_search.specs.declared.point.Move.{Move}
-use Rattle.connection_search.specs.declared.point.Move.TheVariants.{Extend}
-use Rattle.connection_search.specs.declared.point.Point.{Point}
-use Rattle.connection_search.specs.declared.tree.Goal.{Goal}
-use Rattle.connection_search.specs.declared.tree.Step.{Step}
-use Rattle.connection_search.proofs.MoveLaws.{clause-for, extension-clashes, goal-here, place-clause, place_of}
-use Rattle.connection_search.proofs.PointLaws.{extension-none, untried-behind, untried-later, untried-step}
-use Rattle.connection_search.proofs.TreeLaws.{atom-found}
+use Rattle.search_tree.specs.Heads.{HasClash}
+use Rattle.search_tree.specs.Points.{HasExtensions, HasUntried, IsNextAncestor, IsSamePoint}
+use Rattle.search_tree.specs.Pruning.{IsPruned}
+use Rattle.search_tree.specs.Running.{ExtendsBy, IsAtGoal, IsMatrixOf}
+use Rattle.search_tree.specs.Trees.{IsGoalAt, atom_at}
+use Rattle.search_tree.specs.declared.point.Move.{Move}
+use Rattle.search_tree.specs.declared.point.Move.TheVariants.{Extend}
+use Rattle.search_tree.specs.declared.point.Point.{Point}
+use Rattle.search_tree.specs.declared.tree.Goal.{Goal}
+use Rattle.search_tree.specs.declared.tree.Step.{Step}
+use Rattle.search_tree.proofs.MoveLaws.{clause-for, extension-clashes, goal-here, place-clause, place_of}
+use Rattle.search_tree.proofs.PointLaws.{extension-none, untried-behind, untried-later, untried-step}
+use Rattle.search_tree.proofs.TreeLaws.{atom-found}
 
 -- the leftmost open goal by the tree
 pub leftmost-at : (P : Problem) (m : List MatrixClause) (base d : ℕ) (c : List Choice) (s : Store) (steps : List Step) (goals : List Goal) (goal : ℕ) (g : CellGoal) (a : CellAtom) → IsAtGoal P m base d c s steps goals goal g → ((x : Goal) → slice_get goals goal ≡ Some x → atom_at steps x ≡ Some a) → IsLeftmost P m base d c s a g

@@ -13,17 +13,17 @@ use Rattle.search_theory.specs.DeadEnds.{is_not_empty}
 use Rattle.search_theory.proofs.BuildingLaws.{get-kept}
 use Rattle.search_theory.proofs.PruningLaws.{pruned-by_none}
 use Rattle.search_theory.proofs.SolvingLaws.{system-parts}
-use Rattle.connection_search.specs.GivenUp.{HasLost}
-use Rattle.connection_search.proofs.GivenUpLaws.{drop-known, lost-dropped}
+use Rattle.search_tree.specs.GivenUp.{HasLost}
+use Rattle.search_tree.proofs.GivenUpLaws.{drop-known, lost-dropped}
 use Rattle.connection_search.proofs.StandingLaws.{points-goals, stack-cleared, stack-lost}
 use Rattle.connection_search.specs.Exploring.{IsExploring, IsVisiting}
-use Rattle.connection_search.specs.Pruning.{IsPruned, labels_alone}
-use Rattle.connection_search.specs.Seeing.{SeeMore}
-use Rattle.connection_search.specs.Running.{StandsFor}
-use Rattle.connection_search.specs.Trees.{tree_system}
-use Rattle.connection_search.specs.declared.point.Point.{Point}
-use Rattle.connection_search.specs.declared.tree.Goal.{Goal}
-use Rattle.connection_search.specs.declared.tree.Step.{Step}
+use Rattle.search_tree.specs.Pruning.{IsPruned, labels_alone}
+use Rattle.search_tree.specs.Seeing.{SeeMore}
+use Rattle.search_tree.specs.Running.{StandsFor}
+use Rattle.search_tree.specs.Trees.{tree_system}
+use Rattle.search_tree.specs.declared.point.Point.{Point}
+use Rattle.search_tree.specs.declared.tree.Goal.{Goal}
+use Rattle.search_tree.specs.declared.tree.Step.{Step}
 use Rattle.connection_search.proofs.DecidingLaws.{strings-named}
 
 -- ---- a part of a system

@@ -18,18 +18,18 @@ use Rattle.search_theory.specs.Matrix.{IsTemplateMatrix, MatrixClause, all_shown
 use Rattle.search_theory.specs.Searching.{IsSearch}
 use Rattle.search_theory.specs.OrderedChoices.{selection_of}
 use Rattle.term_store.specs.Room.{KeepsRoom, TermStore, spare}
-use Rattle.connection_search.proofs.Places.{drop-end, drop-there, item-there}
-use Rattle.connection_search.proofs.RunningLaws.{clause-at}
+use Rattle.search_tree.proofs.Places.{drop-end, drop-there, item-there}
+use Rattle.search_tree.proofs.RunningLaws.{clause-at}
 use Rattle.connection_search.specs.Exploring.{IfOn, IsExploring, IsSearched, IsSpace, IsVisiting}
 use Rattle.connection_search.specs.Outcomes.{IfSteps}
-use Rattle.connection_search.specs.Running.{IsMatrixOf, StandsFor}
+use Rattle.search_tree.specs.Running.{IsMatrixOf, StandsFor}
 use Rattle.connection_search.specs.declared.visit.Visit.{Visit}
 use Rattle.connection_search.specs.declared.visit.Visit.TheVariants as visit
-use Rattle.connection_search.specs.declared.point.Point.{Point}
+use Rattle.search_tree.specs.declared.point.Point.{Point}
 use Rattle.connection_search.specs.declared.searching.Outcome.{Outcome}
 use Rattle.connection_search.specs.declared.searching.Outcome.TheVariants as outcome
-use Rattle.connection_search.specs.declared.tree.Goal.{Goal}
-use Rattle.connection_search.specs.declared.tree.Step.{Step}
+use Rattle.search_tree.specs.declared.tree.Goal.{Goal}
+use Rattle.search_tree.specs.declared.tree.Step.{Step}
 
 -- ---- what was searched
 

@@ -10,12 +10,12 @@ use Rattle.search_theory.specs.Matrix.{MatrixClause}
 use Rattle.search_theory.specs.States.{CellGoal}
 use Rattle.search_theory.proofs.EarlyLaws.{spent-many, steps-ended, visited-many}
 use Rattle.connection_search.specs.Exploring.{IsCounted, IsSearched, IsSpace, IsVisiting}
-use Rattle.connection_search.specs.Running.{StandsFor}
-use Rattle.connection_search.specs.Trees.{AreOpen, tree_system}
-use Rattle.connection_search.specs.declared.point.Point.{Point}
-use Rattle.connection_search.specs.declared.tree.Goal.{Goal}
-use Rattle.connection_search.specs.declared.tree.Step.{Step}
-use Rattle.connection_search.proofs.RunningLaws.{running-live}
+use Rattle.search_tree.specs.Running.{StandsFor}
+use Rattle.search_tree.specs.Trees.{AreOpen, tree_system}
+use Rattle.search_tree.specs.declared.point.Point.{Point}
+use Rattle.search_tree.specs.declared.tree.Goal.{Goal}
+use Rattle.search_tree.specs.declared.tree.Step.{Step}
+use Rattle.search_tree.proofs.RunningLaws.{running-live}
 
 -- ---- states
 

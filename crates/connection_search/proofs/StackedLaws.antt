@@ -11,11 +11,11 @@ use Rattle.search_theory.specs.Matrix.{MatrixClause}
 use Rattle.search_theory.specs.States.{CellGoal}
 use Rattle.term_store.specs.StoreView.{the_mark}
 use Rattle.connection_search.specs.Exploring.{AreAbove, ArePointsFrom, IsBefore, KeepsMoment}
-use Rattle.connection_search.specs.Points.{HasUntried, IsPoint, IsSamePoint}
-use Rattle.connection_search.specs.Trees.{KeepsTree}
-use Rattle.connection_search.specs.declared.point.Point.{Point}
-use Rattle.connection_search.specs.declared.tree.Goal.{Goal}
-use Rattle.connection_search.specs.declared.tree.Step.{Step}
+use Rattle.search_tree.specs.Points.{HasUntried, IsPoint, IsSamePoint}
+use Rattle.search_tree.specs.Trees.{KeepsTree}
+use Rattle.search_tree.specs.declared.point.Point.{Point}
+use Rattle.search_tree.specs.declared.tree.Goal.{Goal}
+use Rattle.search_tree.specs.declared.tree.Step.{Step}
 use Rattle.connection_search.proofs.LeftLaws.{at-moved}
 
 pub untried-moved : (m : List MatrixClause) (d : ℕ) (steps after : List Step) (goals all : List Goal) (p : Point) (g : CellGoal) (untried : List Choice) → after ≡ steps → all ≡ goals → HasUntried m d steps goals p g untried → HasUntried m d after all p g untried

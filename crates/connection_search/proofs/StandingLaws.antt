@@ -18,19 +18,19 @@ use Rattle.search_theory.specs.DeadEnds.{is_not_empty, Grows}
 use Rattle.search_theory.proofs.JumpLaws.{LeadsNowhere, LeadsOn, cannot-solved, solved-cannot, new_point, solved-nothing, solved-on, solved-passed, solved-pushed, solved-refused, solved-seen, solved-started}
 use Rattle.search_theory.proofs.SolvedLaws.{refused-unsolved}
 use Rattle.term_store.specs.StoreView.{the_mark}
-use Rattle.connection_search.specs.Ahead.{IsPassed}
+use Rattle.search_tree.specs.Ahead.{IsPassed}
 use Rattle.connection_search.specs.Exploring.{ArePointsFrom, IsBefore, IsSpace, IsStack, choice_point, traced}
-use Rattle.connection_search.specs.GivenUp.{HasLost}
-use Rattle.connection_search.specs.Points.{IsHere, IsPoint}
-use Rattle.connection_search.specs.Running.{IsAtGoal, IsMatrixOf, StandsFor}
-use Rattle.connection_search.specs.Seeing.{HasSeen, SeeMore, no_goal, number_of, seeing, seen_after}
-use Rattle.connection_search.specs.Trees.{IsGoal, IsGoalAt, IsPath, KeepsTree, atom_at, the_step}
-use Rattle.connection_search.specs.declared.point.Point.{Point}
-use Rattle.connection_search.specs.declared.tree.Goal.{Goal}
-use Rattle.connection_search.specs.declared.tree.Step.{Step}
-use Rattle.connection_search.proofs.MoveLaws.{goal-here, goal-within}
+use Rattle.search_tree.specs.GivenUp.{HasLost}
+use Rattle.search_tree.specs.Points.{IsHere, IsPoint}
+use Rattle.search_tree.specs.Running.{IsAtGoal, IsMatrixOf, StandsFor}
+use Rattle.search_tree.specs.Seeing.{HasSeen, SeeMore, no_goal, number_of, seeing, seen_after}
+use Rattle.search_tree.specs.Trees.{IsGoal, IsGoalAt, IsPath, KeepsTree, atom_at, the_step}
+use Rattle.search_tree.specs.declared.point.Point.{Point}
+use Rattle.search_tree.specs.declared.tree.Goal.{Goal}
+use Rattle.search_tree.specs.declared.tree.Step.{Step}
+use Rattle.search_tree.proofs.MoveLaws.{goal-here, goal-within}
 use Rattle.connection_search.proofs.StackedLaws.{points-back, points-kept}
-use Rattle.connection_search.proofs.TreeLaws.{goal-at, goals-length, same-item}
+use Rattle.search_tree.proofs.TreeLaws.{goal-at, goals-length, same-item}
 
 -- ---- states at points
 

@@ -19,27 +19,27 @@ use Rattle.search_theory.specs.DeadEnds.{IsDead, is_not_empty}
 use Rattle.search_theory.proofs.SearchSteps.{search-dead}
 use Rattle.term_store.specs.Room.{KeepsRoom, TermStore}
 use Rattle.term_store.specs.StoreView.{the_mark}
-use Rattle.connection_search.specs.Ahead.{IsNextLeft}
+use Rattle.search_tree.specs.Ahead.{IsNextLeft}
 use Rattle.connection_search.specs.Exploring.{AreAbove, ArePointsFrom, ArePushed, IfOn, IsBefore, IsExploring, IsSearched, IsSpentAt, IsStack, IsVisiting, choice_point, traced}
-use Rattle.connection_search.specs.GivenUp.{IsGivenUp, IsRuledOut}
-use Rattle.connection_search.specs.Seeing.{SeeMore, HasSeen, no_goal, seeing, seen_after}
-use Rattle.connection_search.specs.declared.tree.Tree.{Tree}
+use Rattle.search_tree.specs.GivenUp.{IsGivenUp, IsRuledOut}
+use Rattle.search_tree.specs.Seeing.{SeeMore, HasSeen, no_goal, seeing, seen_after}
+use Rattle.search_tree.specs.declared.tree.Tree.{Tree}
 use Rattle.search_theory.specs.Jumps.{AreSolvedBehind, ChoicePoint, StandsAtPoint}
 use Rattle.search_theory.proofs.JumpLaws.{solved-tried}
 use Rattle.connection_search.proofs.StandingLaws.{HasGoals, goals-all, last-of, length-take, points-goals, seen-made, set-last, solved-passed_over, stack-cleared, stack-fruitless, stack-kept, stack-lost, stack-refused, stack-seeing, stands-all, stands-steps, traced-back}
-use Rattle.connection_search.specs.Points.{HasUntried, IsMoveAt, IsPoint, IsSamePoint, the_move}
-use Rattle.connection_search.specs.Running.{IsAtGoal, IsMatrixOf, StandsFor}
-use Rattle.connection_search.specs.Trees.{KeepsTree}
-use Rattle.connection_search.specs.Weights.{greatest_weight, weight, weight_of_all, work_left}
+use Rattle.search_tree.specs.Points.{HasUntried, IsMoveAt, IsPoint, IsSamePoint, the_move}
+use Rattle.search_tree.specs.Running.{IsAtGoal, IsMatrixOf, StandsFor}
+use Rattle.search_tree.specs.Trees.{KeepsTree}
+use Rattle.search_tree.specs.Weights.{greatest_weight, weight, weight_of_all, work_left}
 use Rattle.connection_search.specs.declared.visit.Visit.{Visit}
 use Rattle.connection_search.specs.declared.visit.Visit.TheVariants as visit
-use Rattle.connection_search.specs.declared.point.Move.{Move}
-use Rattle.connection_search.specs.declared.point.Point.{Point}
-use Rattle.connection_search.specs.declared.tree.Goal.{Goal}
-use Rattle.connection_search.specs.declared.tree.Step.{Step}
+use Rattle.search_tree.specs.declared.point.Move.{Move}
+use Rattle.search_tree.specs.declared.point.Point.{Point}
+use Rattle.search_tree.specs.declared.tree.Goal.{Goal}
+use Rattle.search_tree.specs.declared.tree.Step.{Step}
 use Rattle.connection_search.proofs.PassingOver.{passed-over}
 use Rattle.connection_search.proofs.DeadLaws.{live-not_empty, search-dead_behind}
-use Rattle.connection_search.proofs.GivenUpLaws.{LooksWhereLeft, drop-known, looked-left}
+use Rattle.search_tree.proofs.GivenUpLaws.{LooksWhereLeft, drop-known, looked-left}
 use Rattle.connection_search.proofs.StackedLaws.{above-marked, before-same, mark-itself, point-back, point-next, points-back, untried-moved}
 use Rattle.connection_search.proofs.SpentLaws.{stands-live}
 use Rattle.connection_search.proofs.VisitLaws.{exploring-moved}

@@ -17,15 +17,15 @@ use Rattle.search_theory.specs.States.{CellGoal}
 use Rattle.search_theory.specs.DeadEnds.{IsDead}
 use Rattle.search_theory.proofs.SearchSteps.{search-dead, search-left, search-visit}
 use Rattle.term_store.specs.StoreView.{the_mark}
-use Rattle.connection_search.specs.Seeing.{HasSeen, no_goal}
+use Rattle.search_tree.specs.Seeing.{HasSeen, no_goal}
 use Rattle.connection_search.proofs.StandingLaws.{stack-forgotten, stack-pushed}
 use Rattle.connection_search.specs.Exploring.{IsStack, AreAbove, ArePointsFrom, IsBefore, IsExploring, IsSearched, IsSpace, IsVisiting}
-use Rattle.connection_search.specs.Points.{IsHere, IsPoint}
-use Rattle.connection_search.specs.Running.{IsAt, IsAtGoal, IsLeftFound, StandsFor}
-use Rattle.connection_search.specs.declared.point.Point.{Point}
-use Rattle.connection_search.specs.declared.tree.Goal.{Goal}
-use Rattle.connection_search.specs.declared.tree.Step.{Step}
-use Rattle.connection_search.proofs.MoveLaws.{open-first}
+use Rattle.search_tree.specs.Points.{IsHere, IsPoint}
+use Rattle.search_tree.specs.Running.{IsAt, IsAtGoal, IsLeftFound, StandsFor}
+use Rattle.search_tree.specs.declared.point.Point.{Point}
+use Rattle.search_tree.specs.declared.tree.Goal.{Goal}
+use Rattle.search_tree.specs.declared.tree.Step.{Step}
+use Rattle.search_tree.proofs.MoveLaws.{open-first}
 use Rattle.connection_search.proofs.SpentLaws.{stands-live}
 
 -- ---- marks

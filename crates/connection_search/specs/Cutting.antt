@@ -15,13 +15,13 @@ use Rattle.search_theory.specs.Matrix.{MatrixClause}
 use Rattle.search_theory.specs.States.{CellGoal}
 use Rattle.tableau_core.specs.Numbered.TableauView.{the_tableau}
 use Rattle.connection_search.specs.Exploring.{IsBefore}
-use Rattle.connection_search.specs.Points.{IsPoint}
-use Rattle.connection_search.specs.Running.{StandsFor}
+use Rattle.search_tree.specs.Points.{IsPoint}
+use Rattle.search_tree.specs.Running.{StandsFor}
 use Rattle.connection_search.specs.declared.visit.Visit.{Visit}
 use Rattle.connection_search.specs.declared.visit.Visit.TheVariants as visit
-use Rattle.connection_search.specs.declared.point.Point.{Point}
-use Rattle.connection_search.specs.declared.tree.Goal.{Goal}
-use Rattle.connection_search.specs.declared.tree.Step.{Step}
+use Rattle.search_tree.specs.declared.point.Point.{Point}
+use Rattle.search_tree.specs.declared.tree.Goal.{Goal}
+use Rattle.search_tree.specs.declared.tree.Step.{Step}
 
 -- ---- how far the search has come
 

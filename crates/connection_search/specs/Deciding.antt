@@ -5,12 +5,10 @@ use Rattle.calculus.specs.Choices.{Choice, choices_of, ground_choices}
 use Rattle.calculus.specs.Counting.{MoreThan}
 use Rattle.calculus.specs.Space.{has_labels, lengths_cmp}
 use Rattle.calculus.specs.Skolem.{common_spares}
-use Rattle.store_theory.specs.Bindings.{IsWellFormed}
 use Rattle.store_theory.specs.Stores.{AreOwnSpares, Solution, Store}
 use Rattle.calculus.specs.Syntax.{Problem}
-use Rattle.store_theory.specs.Systems.{AllAllowed, AreEarly, HasBoundedSolution, OwnSparesSolve, System}
+use Rattle.store_theory.specs.Systems.{AllAllowed, AreEarly}
 use Rattle.calculus.specs.Tableaux.{Tableau, is_closed}
-use Rattle.prefix_split.specs.Later.{IsFoundIn}
 use Rattle.prefix_split.specs.LengthSearch.{IsCounted}
 use Rattle.prefix_split.specs.declared.solving.Solved.{Solved}
 use Rattle.prefix_split.specs.declared.solving.Solved.TheVariants as solved
@@ -19,29 +17,17 @@ use Rattle.search_theory.specs.Matrix.{MatrixClause}
 use Rattle.search_theory.specs.Joined.{IsTableauBy}
 use Rattle.search_theory.specs.States.{CellGoal, choice_at}
 use Rattle.tableau_core.specs.Numbered.TableauView.{the_tableau}
-use Rattle.connection_search.specs.Trees.{AreGoals, gammas_of, the_step, tree_system}
+use Rattle.search_tree.specs.Trees.{AreGoals, gammas_of, the_step, tree_system}
 use Rattle.connection_search.specs.declared.visit.Visit.{Visit}
 use Rattle.connection_search.specs.declared.visit.Visit.TheVariants as visit
-use Rattle.connection_search.specs.declared.tree.Goal.{Goal}
-use Rattle.connection_search.specs.declared.tree.Step.{Step}
+use Rattle.search_tree.specs.declared.tree.Goal.{Goal}
+use Rattle.search_tree.specs.declared.tree.Step.{Step}
+use Rattle.tableau_reading.specs.Solving.{IsSolved}
 
--- what solving a system by the problem's domains comes to, where steps were used from `before` on
-pub record IsSolved (P : Problem) (s : Store) (y : System) (before after budget : ℕ) (new : Store) (a : Solved) : Type 0 where
-  pub none : a ≡ solved.None → ¬ HasBoundedSolution P.setting.logic (AllAllowed P) s y
-  pub ended : a ≡ solved.Steps → after ≡ budget
-  pub more_early : a ≡ solved.Steps → MoreThan lengths_cmp (AreEarly P.setting.logic (AllAllowed P) s y) (after - before)
-  pub unchanged : ¬ (a ≡ solved.Found) → new ≡ s
-
--- the same for the system of a tree
+-- what solving the system of a tree comes to
 pub record IsSolvedTree (P : Problem) (m : List MatrixClause) (s : Store) (steps : List Step) (goals : List Goal) (before after budget : ℕ) (new : Store) (a : Solved) : Type 0 where
   pub labels : ¬ (a ≡ solved.Found) → IsTrue (has_labels P.setting.logic)
   pub solved : ¬ (a ≡ solved.Found) → (xs : List CellGoal) → AreGoals steps goals goals xs → IsSolved P s (tree_system m steps goals xs) before after budget new a
-
--- own spares of the new store solve the system, and what it has kept of the old one
-pub record IsFound (P : Problem) (s : Store) (y : System) (new : Store) : Type 0 where
-  pub well : IsWellFormed new
-  pub found : IsFoundIn P.setting.logic P y s new
-  pub spares : OwnSparesSolve (common_spares P) P.setting.logic (AllAllowed P) new y
 
 -- by own spares of the store the tree's choices give a closed tableau
 pub record HasOwnTableau (P : Problem) (m : List MatrixClause) (d : ℕ) (s : Store) (steps : List Step) : Type 0 where

@@ -17,15 +17,15 @@ use Rattle.search_theory.specs.Searching.{IsSearch}
 use Rattle.search_theory.specs.States.{CellGoal}
 use Rattle.tableau_core.specs.Numbered.TableauView.{the_tableau}
 use Rattle.term_store.specs.StoreView.{the_mark}
-use Rattle.connection_search.specs.Points.{IsPoint}
-use Rattle.connection_search.specs.Running.{IsAtGoal, IsMatrixOf, StandsFor}
-use Rattle.connection_search.specs.Seeing.{HasSeen, no_goal}
-use Rattle.connection_search.specs.Weights.{greatest_weight, weight, weight_of_all}
+use Rattle.search_tree.specs.Points.{IsPoint}
+use Rattle.search_tree.specs.Running.{IsAtGoal, IsMatrixOf, StandsFor}
+use Rattle.search_tree.specs.Seeing.{HasSeen, no_goal}
+use Rattle.search_tree.specs.Weights.{greatest_weight, weight, weight_of_all}
 use Rattle.connection_search.specs.declared.visit.Visit.{Visit}
 use Rattle.connection_search.specs.declared.visit.Visit.TheVariants as visit
-use Rattle.connection_search.specs.declared.point.Point.{Point}
-use Rattle.connection_search.specs.declared.tree.Goal.{Goal}
-use Rattle.connection_search.specs.declared.tree.Step.{Step}
+use Rattle.search_tree.specs.declared.point.Point.{Point}
+use Rattle.search_tree.specs.declared.tree.Goal.{Goal}
+use Rattle.search_tree.specs.declared.tree.Step.{Step}
 
 -- the space of a problem at this limit
 pub record IsSpace (P : Problem) (m : List MatrixClause) (d : ℕ) : Type 0 where

@@ -8,14 +8,14 @@ use Rattle.search_theory.specs.Matrix.{MatrixClause}
 use Rattle.search_theory.specs.States.{CellGoal}
 use Rattle.store_theory.specs.Stores.{Store, cut_at}
 use Rattle.term_store.specs.StoreView.{the_mark}
-use Rattle.connection_search.specs.Binding.{ListsBound}
+use Rattle.search_tree.specs.Binding.{ListsBound}
 use Rattle.connection_search.specs.Exploring.{ArePointsFrom, IsBefore, IsSearched, traced}
 use Rattle.connection_search.specs.Moments.{Moment}
-use Rattle.connection_search.specs.Running.{IsAtGoal}
-use Rattle.connection_search.specs.declared.point.Point.{Point}
-use Rattle.connection_search.specs.declared.space.Space.{Space}
-use Rattle.connection_search.specs.declared.tree.Goal.{Goal}
-use Rattle.connection_search.specs.declared.tree.Step.{Step}
+use Rattle.search_tree.specs.Running.{IsAtGoal}
+use Rattle.search_tree.specs.declared.point.Point.{Point}
+use Rattle.connection_search.specs.declared.limit_search.LimitSearch.{LimitSearch}
+use Rattle.search_tree.specs.declared.tree.Goal.{Goal}
+use Rattle.search_tree.specs.declared.tree.Step.{Step}
 
 -- the points below, whose goals were seen down to the number `low` behind them
 pub record HandsDown (P : Problem) (m : List MatrixClause) (base d : ℕ) (s : Store) (steps : List Step) (goals : List Goal) (low : ℕ) (points : List Point) (later : List (List Choice)) (begun used : ℕ) (left : Bool) : Type 0 where
@@ -25,7 +25,7 @@ pub record HandsDown (P : Problem) (m : List MatrixClause) (base d : ℕ) (s : S
   pub searched : IsSearched P d (below ++ later) begun used left
 
 -- so it is at this moment
-abbrev pub HandedAt : ℕ → Moment → Space → ℕ → List (List Choice) → ℕ → Type 0
+abbrev pub HandedAt : ℕ → Moment → LimitSearch → ℕ → List (List Choice) → ℕ → Type 0
 HandedAt low m x base later begun = HandsDown x.problem.now x.matrix.now base x.limit m.store m.steps m.goals low (reverse m.points) later begun m.used m.left
 
 -- no list closes the leftmost open goal, which has this number and no bound cells but these

@@ -8,16 +8,13 @@ ghost use Rattle.calculus.specs.Choices.{Choice};
 ghost use Rattle.search_theory.specs.Ahead.{HasNoReduction, IsApart};
 ghost use Rattle.search_theory.specs.States.{CellGoal, atom_is_below, goal_is_below};
 ghost use Rattle.term_store.specs.ClauseView.{the_atom};
-ghost use Rattle.connection_search.specs.GivenUp.{HasLost};
-ghost use Rattle.connection_search.specs.Ahead.{HasNoHope, IsLost};
-ghost use Rattle.connection_search.specs.Running.{IsMatrixOf, TreeStands};
-ghost use Rattle.connection_search.specs.Trees.{IsGoalAt};
+ghost use Rattle.search_tree.specs.GivenUp.{HasLost};
+ghost use Rattle.search_tree.specs.Ahead.{HasNoHope, IsLost};
+ghost use Rattle.search_tree.specs.Running.{IsMatrixOf, TreeStands};
+ghost use Rattle.search_tree.specs.Trees.{IsGoalAt};
 
-use crate::atoms::meets;
-use crate::heads::have_clash;
-use crate::literal_marks::{has_no_hope_by, marks_of};
-use crate::space::Space;
-use crate::tree::Tree;
+use crate::limit_search::LimitSearch;
+use search_tree::{Tree, has_no_hope_by, have_clash, marks_of, meets};
 use term_store::{CellAtom, Store};
 
 // Whether some bindings may close the goal by the ancestor.
@@ -63,7 +60,7 @@ fn may_reduce(store: &Store, tree: &Tree, goal: usize) -> bool
     false
 }
 
-impl Space<'_> {
+impl LimitSearch<'_> {
     /// How many extensions the goal's path has room for.
     pub(crate) fn room(&self, tree: &Tree, goal: usize) -> usize
         requires { (x : CellGoal) × IsGoalAt tree.now.steps.items tree.now.goals.items goal x }

@@ -15,17 +15,16 @@ ghost use Rattle.connection_search.specs.Moments.{CutCountedAt, CutEndedAt, CutE
 ghost use Rattle.connection_search.specs.Moments.{CutFailedAt, CutHolds, CutLeads, CutVisitingAt};
 ghost use Rattle.connection_search.specs.Moments.{IsSpaceOf, PassesNext, sides_of, start_by};
 ghost use Rattle.connection_search.specs.Moments.{the_moment};
-ghost use Rattle.connection_search.specs.Weights.{work_left};
+ghost use Rattle.search_tree.specs.Weights.{work_left};
 
-use crate::moves::Work;
-use crate::point::Point;
+use crate::limit_search::LimitSearch;
 use crate::pruning::Pruning;
 use crate::searching::clause_id;
-use crate::space::Space;
 use crate::visit::Visit;
 use cop_base::{ClauseId, Ledger, NoMemory, PathLimit};
 use logic_rules::Problem;
 use matrix_build::Matrix;
+use search_tree::{Point, SearchState};
 use std::alloc::Global;
 use tableau_core::{SizedProblem, Tableau};
 use term_store::Store;
@@ -41,7 +40,7 @@ pub enum CutAnswer {
     Steps,
 }
 
-impl Space<'_> {
+impl LimitSearch<'_> {
     // Spends a step for the list of choices, which is sound. Goals that are solved give up their
     // points. A list without open goals is decided; where no closed tableau has it, the start has
     // failed, and no point is left. A goal that has as many goals above it as the limit may show that
@@ -50,7 +49,7 @@ impl Space<'_> {
         &self,
         ledger: &mut Ledger,
         store: &mut Store,
-        work: &mut Work,
+        work: &mut SearchState,
         points: &mut Vec<Point>,
         left: &mut bool,
     ) -> Result<Visit, NoMemory>
@@ -100,7 +99,7 @@ impl Space<'_> {
         &self,
         ledger: &mut Ledger,
         store: &mut Store,
-        work: &mut Work,
+        work: &mut SearchState,
         points: &mut Vec<Point>,
         left: &mut bool,
         last: Point,
@@ -148,7 +147,7 @@ impl Space<'_> {
         &self,
         ledger: &mut Ledger,
         store: &mut Store,
-        work: &mut Work,
+        work: &mut SearchState,
         points: &mut Vec<Point>,
         left: &mut bool,
     ) -> Result<Visit, NoMemory>
@@ -206,7 +205,7 @@ impl Space<'_> {
             return Ok(Visit::On);
         }
         let mut store = Store::new(alloc)?;
-        let mut work = Work::new(alloc);
+        let mut work = SearchState::new(alloc);
         work.start(&mut store, self.matrix, clause)?;
         let mut points = Vec::new(alloc);
         match self.visit_cut(ledger, &mut store, &mut work, &mut points, left)? {
@@ -269,7 +268,7 @@ fn deepen_cut_sized<'a>(
     let _setting = problem.problem().setting();
     for passed in 0..cut_limit.number {
         let limit = passed + 1;
-        let space = Space {
+        let space = LimitSearch {
             problem,
             matrix,
             limit,

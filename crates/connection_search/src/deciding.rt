@@ -5,115 +5,35 @@ ghost use Rattle.std.specs.Prelude.{◌≡◌, ℕ, IfOk, IsTrue, List, length};
 ghost use Rattle.std.specs.List.{AllByRecursion, flat_map, list_all};
 ghost use Rattle.store_theory.specs.Bindings.{KeepsMarks};
 ghost use Rattle.calculus.specs.Choices.{Choice, choices_of, ground_choices};
-ghost use Rattle.calculus.specs.Instances.{gamma_is_allowed};
-ghost use Rattle.calculus.specs.Skolem.{common_spares};
-ghost use Rattle.calculus.specs.Space.{has_labels};
-ghost use Rattle.store_theory.specs.Systems.{AllAllowed, NamesItsStrings, is_system};
 ghost use Rattle.calculus.specs.Tableaux as tableaux;
-ghost use Rattle.prefix_split.specs.LengthSearch.{IsCounted};
 ghost use Rattle.prefix_split.specs.declared.solving.Solved.TheVariants as solved;
 ghost use Rattle.tableau_core.specs.Numbered.TableauView.{the_tableau};
 ghost use Rattle.term_store.specs.Room.{KeepsRoom};
-ghost use Rattle.term_store.specs.SystemView.{the_system};
-ghost use Rattle.connection_search.specs.Deciding.{HasOwnTableau, IsDecided, IsFound, IsSolved};
+ghost use Rattle.connection_search.specs.Deciding.{HasOwnTableau, IsDecided};
 ghost use Rattle.connection_search.specs.Deciding.{IsSolvedTree, IsSolving};
-ghost use Rattle.connection_search.specs.Listing.{names_of};
+ghost use Rattle.tableau_reading.specs.Listing.{names_of};
 ghost use Rattle.connection_search.specs.Moments.{IsSpaceOf};
-ghost use Rattle.connection_search.specs.Readable.{IsReadableStep, is_gamma_below};
-ghost use Rattle.connection_search.specs.Reading.{IsStarted};
-ghost use Rattle.connection_search.specs.Running.{TreeStands, TreeStandsWhole};
-ghost use Rattle.connection_search.specs.Trees.{gammas_of};
+ghost use Rattle.tableau_reading.specs.Readable.{IsReadableStep, is_gamma_below};
+ghost use Rattle.tableau_reading.specs.Reading.{IsStarted};
+ghost use Rattle.search_tree.specs.Running.{TreeStands, TreeStandsWhole};
+ghost use Rattle.search_tree.specs.Trees.{gammas_of};
 
-use crate::closings::tableau_of;
-use crate::homes::homes_of;
-use crate::moves::Work;
-use crate::reading::Source;
-use crate::space::Space;
-use crate::system::{all_gammas, system_of};
+use crate::limit_search::LimitSearch;
 use crate::visit::Visit;
-use calculus::setting::Domains;
 use cop_base::{Ledger, NoMemory};
-use domain_cond::{ConstantDemand, CumulativeDemand, VaryingDemand};
-use prefix_split::{Solved, solve};
-use std::alloc::Global;
-use tableau_core::{SizedProblem, Tableau};
-use term_store::{Demand, Store, System};
+use prefix_split::Solved;
+use search_tree::SearchState;
+use tableau_core::Tableau;
+use tableau_reading::{Source, all_gammas, homes_of, solve_system, system_of, tableau_of};
+use term_store::Store;
 
-// Solves the system by what the domains ask.
-fn solve_by<M: Demand>(
-    alloc: Global,
-    problem: &SizedProblem,
-    ledger: &mut Ledger,
-    store: &mut Store,
-    system: &System,
-    demand: &mut M,
-) -> Result<Solved, NoMemory>
-    requires fits { IsTrue (is_system store.old.store (the_system system.now)) }
-    requires named { NamesItsStrings store.old.store (the_system system.now) }
-    requires labels { IsTrue (has_labels problem.now.setting.logic) }
-    requires demand { M.holds_for demand.old ≡ list_all (gamma_is_allowed problem.now) }
-    requires common { M.common demand.old ≡ common_spares problem.now }
-    requires problem { M.problem demand.old ≡ problem.now }
-    ensures found { IfOk result (λ a. a ≡ solved.Found → IsFound problem.now store.old.store
-        (the_system system.now) store.new.store) }
-    ensures solved { IfOk result (IsSolved problem.now store.old.store (the_system system.now)
-        ledger.old.used ledger.new.used ledger.new.budget store.new.store) }
-    ensures counted { IsCounted problem.now.setting.logic (AllAllowed problem.now) store.old.store
-        (the_system system.now) ledger.old.used ledger.new.used }
-    ensures budget { ledger.new.budget ≡ ledger.old.budget }
-    ensures marks { KeepsMarks store.old.store store.new.store }
-    ensures room { KeepsRoom store.old store.new }
-{
-    let logic = problem.setting().logic();
-    let solved = solve(alloc, store, logic, system, demand, ledger)?;
-    let _after = store.mark();
-    Ok(solved)
-}
-
-// Solves the system of a problem whose logic has labels.
-fn solve_system<'a>(
-    alloc: Global,
-    problem: &'a SizedProblem<'a>,
-    ledger: &mut Ledger,
-    store: &mut Store,
-    system: &System,
-) -> Result<Solved, NoMemory>
-    requires fits { IsTrue (is_system store.old.store (the_system system.now)) }
-    requires named { NamesItsStrings store.old.store (the_system system.now) }
-    requires labels { IsTrue (has_labels problem.now.setting.logic) }
-    ensures found { IfOk result (λ a. a ≡ solved.Found → IsFound problem.now store.old.store
-        (the_system system.now) store.new.store) }
-    ensures solved { IfOk result (IsSolved problem.now store.old.store (the_system system.now)
-        ledger.old.used ledger.new.used ledger.new.budget store.new.store) }
-    ensures counted { IsCounted problem.now.setting.logic (AllAllowed problem.now) store.old.store
-        (the_system system.now) ledger.old.used ledger.new.used }
-    ensures budget { ledger.new.budget ≡ ledger.old.budget }
-    ensures marks { KeepsMarks store.old.store store.new.store }
-    ensures room { KeepsRoom store.old store.new }
-{
-    match problem.setting().domains() {
-        Domains::Constant => {
-            let mut demand = ConstantDemand::new(problem);
-            solve_by(alloc, problem, ledger, store, system, &mut demand)
-        }
-        Domains::Cumulative => {
-            let mut demand = CumulativeDemand::new(alloc, problem);
-            solve_by(alloc, problem, ledger, store, system, &mut demand)
-        }
-        Domains::Varying => {
-            let mut demand = VaryingDemand::new(alloc, problem);
-            solve_by(alloc, problem, ledger, store, system, &mut demand)
-        }
-    }
-}
-
-impl Space<'_> {
+impl LimitSearch<'_> {
     // Solves what the choices ask of labels, where there are labels.
     fn solve_tree(
         &self,
         ledger: &mut Ledger,
         store: &mut Store,
-        work: &Work,
+        work: &SearchState,
     ) -> Result<Solved, NoMemory>
         requires { (base : ℕ) × (c : List Choice) × IsSpaceOf self.now
             × TreeStandsWhole self.now.problem.now self.now.matrix.now base self.now.limit c store.old
@@ -145,7 +65,7 @@ impl Space<'_> {
 
     // The tableau of the tree, which is closed: own spares give the tree's choices a closed tableau,
     // and this is the one that is read off.
-    fn answer(&self, store: &Store, work: &Work) -> Result<Tableau, NoMemory>
+    fn answer(&self, store: &Store, work: &SearchState) -> Result<Tableau, NoMemory>
         requires steps { AllByRecursion (IsReadableStep store.now.store self.now.matrix.now)
             work.now.tree.steps.items }
         requires gammas { IsTrue (list_all (is_gamma_below (length store.now.store.cells))
@@ -176,7 +96,7 @@ impl Space<'_> {
         &self,
         ledger: &mut Ledger,
         store: &mut Store,
-        work: &Work,
+        work: &SearchState,
     ) -> Result<Visit, NoMemory>
         requires { (base : ℕ) × (c : List Choice) × IsSpaceOf self.now
             × TreeStandsWhole self.now.problem.now self.now.matrix.now base self.now.limit c store.old

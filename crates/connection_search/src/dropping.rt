@@ -3,20 +3,20 @@
 ghost use Rattle.std.specs.Prelude.{◌≡◌, ℕ, IfOk, IsTrue, List, MatchOption, true, ⊤};
 ghost use Rattle.calculus.specs.Choices.{Choice};
 ghost use Rattle.search_theory.specs.DeadEnds.{is_not_empty};
-ghost use Rattle.connection_search.specs.GivenUp.{HasLost};
-ghost use Rattle.connection_search.specs.Pruning.{IsPruned};
-ghost use Rattle.connection_search.specs.Running.{IsMatrixOf, TreeStands};
+ghost use Rattle.search_tree.specs.GivenUp.{HasLost};
+ghost use Rattle.search_tree.specs.Pruning.{IsPruned};
+ghost use Rattle.search_tree.specs.Running.{IsMatrixOf, TreeStands};
 
-use crate::moves::Work;
-use crate::space::Space;
-use crate::system::labels_of;
+use crate::limit_search::LimitSearch;
 use cop_base::NoMemory;
 use prefix_split::is_refuted;
+use search_tree::SearchState;
+use tableau_reading::labels_of;
 use term_store::Store;
 
-impl Space<'_> {
+impl LimitSearch<'_> {
     // Whether the labels of the connections made so far cannot be equal.
-    fn is_refuted(&self, store: &Store, work: &Work) -> Result<bool, NoMemory>
+    fn is_refuted(&self, store: &Store, work: &SearchState) -> Result<bool, NoMemory>
         requires { (base : ℕ) × (c : List Choice)
             × TreeStands self.now.problem.now self.now.matrix.now base self.now.limit c store.now
             work.now.tree }
@@ -35,7 +35,7 @@ impl Space<'_> {
     }
 
     // Whether there is a leftmost open goal that may be extended.
-    fn has_room(&self, work: &Work) -> bool {
+    fn has_room(&self, work: &SearchState) -> bool {
         match work.tree.open {
             None => false,
             Some(goal) => match work.tree.goals.get(goal) {
@@ -58,7 +58,7 @@ impl Space<'_> {
 
     /// Whether open goals show that no closed tableau begins with the list, where it is known that the
     /// limit is left. The goals of an extension were looked at before they were built.
-    pub(crate) fn is_stuck_early(&self, store: &Store, work: &Work, left: bool) -> bool
+    pub(crate) fn is_stuck_early(&self, store: &Store, work: &SearchState, left: bool) -> bool
         requires { (base : ℕ) × (c : List Choice)
             × TreeStands self.now.problem.now self.now.matrix.now base self.now.limit c store.now
             work.now.tree }
@@ -77,7 +77,7 @@ impl Space<'_> {
     pub(crate) fn is_refuted_early(
         &self,
         store: &Store,
-        work: &mut Work,
+        work: &mut SearchState,
         left: bool,
     ) -> Result<bool, NoMemory>
         requires { (base : ℕ) × (c : List Choice)

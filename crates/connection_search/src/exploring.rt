@@ -7,24 +7,23 @@ ghost use Rattle.term_store.specs.Room.{KeepsRoom};
 ghost use Rattle.connection_search.specs.Exploring.{AreAbove, ArePushed, IfOn, KeepsMoment};
 ghost use Rattle.connection_search.specs.Moments.{CountedAt, EndedAt, ExploringAt, Holds, Leads};
 ghost use Rattle.connection_search.specs.Moments.{SearchedAt, VisitingAt, the_moment};
-ghost use Rattle.connection_search.specs.Weights.{work_left};
+ghost use Rattle.search_tree.specs.Weights.{work_left};
 
-use crate::moves::Work;
-use crate::point::Point;
+use crate::limit_search::LimitSearch;
 use crate::seeing::{lower, seen};
-use crate::space::Space;
 use crate::visit::Visit;
 use cop_base::{Ledger, NoMemory};
+use search_tree::{Point, SearchState};
 use term_store::Store;
 
-impl Space<'_> {
+impl LimitSearch<'_> {
     // Spends a step for the list of choices. A list without open goals is decided here, where no
     // goal is the same as one above it.
     fn take_up(
         &self,
         ledger: &mut Ledger,
         store: &mut Store,
-        work: &mut Work,
+        work: &mut SearchState,
         points: &mut Vec<Point>,
         left: &mut bool,
     ) -> Result<Visit, NoMemory>
@@ -76,7 +75,7 @@ impl Space<'_> {
         &self,
         ledger: &mut Ledger,
         store: &mut Store,
-        work: &mut Work,
+        work: &mut SearchState,
         points: &mut Vec<Point>,
         left: &mut bool,
     ) -> Result<Visit, NoMemory>
@@ -117,7 +116,7 @@ impl Space<'_> {
         &self,
         ledger: &mut Ledger,
         store: &mut Store,
-        work: &mut Work,
+        work: &mut SearchState,
         points: &mut Vec<Point>,
         left: &mut bool,
     ) -> Result<Visit, NoMemory>
@@ -177,7 +176,7 @@ impl Space<'_> {
         &self,
         ledger: &mut Ledger,
         store: &mut Store,
-        work: &mut Work,
+        work: &mut SearchState,
         points: &mut Vec<Point>,
         left: &mut bool,
     ) -> Result<Visit, NoMemory>

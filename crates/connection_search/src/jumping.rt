@@ -8,17 +8,14 @@ ghost use Rattle.store_theory.specs.Stores.{IsGood, TrailMark};
 ghost use Rattle.term_store.specs.Room.{KeepsRoom};
 ghost use Rattle.connection_search.specs.Exploring.{AreAbove, KeepsMoment};
 ghost use Rattle.connection_search.specs.GoingBack.{GoesBack, HandedAt, Origin};
-ghost use Rattle.connection_search.specs.Looking.{bound_in};
+ghost use Rattle.search_tree.specs.Looking.{bound_in};
 ghost use Rattle.connection_search.specs.Moments.{ExploringAt, Holds, Leads, SpentAt, the_moment};
-ghost use Rattle.connection_search.specs.Weights.{weight_of_all};
+ghost use Rattle.search_tree.specs.Weights.{weight_of_all};
 
-use crate::look::Look;
-use crate::moves::Work;
-use crate::point::Point;
+use crate::limit_search::LimitSearch;
 use crate::seeing::lower;
-use crate::space::Space;
-use crate::tree::Tree;
 use cop_base::NoMemory;
+use search_tree::{Look, Point, SearchState, Tree};
 use term_store::Store;
 
 // Goes back to the last point and over it, where the goal of this number stood at it already and was as
@@ -91,7 +88,7 @@ fn go_back(
     lowest
 }
 
-impl Space<'_> {
+impl LimitSearch<'_> {
     // Whether the goal of the point was not solved since it was made, so that lists that leave it as
     // it is may be dropped.
     fn may_jump(&self, look: &Look, points: &Vec<Point>, last: Point, left: bool) -> bool
@@ -118,7 +115,7 @@ impl Space<'_> {
     fn drop_points(
         &self,
         store: &mut Store,
-        work: &mut Work,
+        work: &mut SearchState,
         points: &mut Vec<Point>,
         last: Point,
         left: bool,
@@ -156,7 +153,7 @@ impl Space<'_> {
     pub(crate) fn jump(
         &self,
         store: &mut Store,
-        work: &mut Work,
+        work: &mut SearchState,
         points: &mut Vec<Point>,
         last: Point,
         left: bool,

@@ -2,36 +2,17 @@
 #![tactic(auto)]
 
 mod ahead;
-mod atoms;
-mod building;
-mod closings;
 mod cutting;
 mod deciding;
 mod deepening;
 mod dropping;
 mod exploring;
-mod grounds;
-mod heads;
-mod homes;
 mod jumping;
-mod label_tests;
-mod literal_marks;
-mod look;
-mod moves;
-mod occurrences;
-mod pair;
-mod parts;
+mod limit_search;
 mod passing;
-mod point;
 mod pruning;
-mod reading;
-mod regular;
 mod searching;
 mod seeing;
-mod space;
-mod system;
-mod tree;
-mod uncopied;
 mod visit;
 
 pub use cutting::{CutAnswer, deepen_cut};

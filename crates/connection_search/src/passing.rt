@@ -10,21 +10,17 @@ ghost use Rattle.search_theory.specs.Ahead.{MarksPath};
 ghost use Rattle.search_theory.specs.OrderedChoices.{extension_at};
 ghost use Rattle.search_theory.specs.States.{CellGoal};
 ghost use Rattle.term_store.specs.ClauseView.{the_atom};
-ghost use Rattle.connection_search.specs.Ahead.{IsLeftmost, IsNextLeft, IsNextPlace, IsPassed};
-ghost use Rattle.connection_search.specs.Ahead.{MayPassBy};
-ghost use Rattle.connection_search.specs.Points.{HasExtensions, HasUntried, IsSamePoint};
-ghost use Rattle.connection_search.specs.Running.{ExtendsBy, GoalStands, IsMatrixOf};
-ghost use Rattle.connection_search.specs.Trees.{IsGoalAt};
-ghost use Rattle.connection_search.specs.Weights.{weight};
+ghost use Rattle.search_tree.specs.Ahead.{IsLeftmost, IsNextLeft, IsNextPlace, IsPassed};
+ghost use Rattle.search_tree.specs.Ahead.{MayPassBy};
+ghost use Rattle.search_tree.specs.Points.{HasExtensions, HasUntried, IsSamePoint};
+ghost use Rattle.search_tree.specs.Running.{ExtendsBy, GoalStands, IsMatrixOf};
+ghost use Rattle.search_tree.specs.Trees.{IsGoalAt};
+ghost use Rattle.search_tree.specs.Weights.{weight};
 
-use crate::atoms::other;
-use crate::heads::has_clash;
-use crate::literal_marks::{is_hopeless_place, literal_at, marks_of};
-use crate::point::{Move, Point};
-use crate::space::Space;
-use crate::tree::Tree;
+use crate::limit_search::LimitSearch;
 use cop_base::NoMemory;
 use matrix_build::{Matrix, Place};
+use search_tree::{Move, Point, Tree, has_clash, is_hopeless_place, literal_at, marks_of, other};
 use term_store::{CellAtom, Store};
 
 // Whether the extension by the literal at the place is without hope by these marks, or names show that
@@ -59,7 +55,7 @@ fn is_passed_place(
     false
 }
 
-impl Space<'_> {
+impl LimitSearch<'_> {
     // Whether extensions of the goal may be passed over.
     fn may_pass(&self, tree: &Tree, goal: usize, left: bool) -> bool
         requires { (x : CellGoal) × IsGoalAt tree.now.steps.items tree.now.goals.items goal x }

@@ -13,13 +13,13 @@ ghost use Rattle.connection_search.specs.Moments.{Leads, SearchedAt, VisitingAt,
 ghost use Rattle.connection_search.specs.Moments.{the_moment};
 ghost use Rattle.connection_search.specs.Outcomes.{IfSteps, IsOutcome};
 
-use crate::moves::Work;
+use crate::limit_search::LimitSearch;
 use crate::pruning::Pruning;
-use crate::space::Space;
 use crate::visit::Visit;
 use cop_base::{ClauseId, Ledger, NoMemory, PathLimit};
 use logic_rules::Problem;
 use matrix_build::Matrix;
+use search_tree::SearchState;
 use std::alloc::Global;
 use tableau_core::{SizedProblem, Tableau};
 use term_store::Store;
@@ -45,13 +45,13 @@ pub(crate) fn clause_id(number: usize) -> Result<ClauseId, NoMemory>
     }
 }
 
-impl Space<'_> {
+impl LimitSearch<'_> {
     // Searches all that begins with the choices made so far.
     fn search_from(
         &self,
         ledger: &mut Ledger,
         store: &mut Store,
-        work: &mut Work,
+        work: &mut SearchState,
         left: &mut bool,
     ) -> Result<Visit, NoMemory>
         requires { Holds self.now
@@ -85,7 +85,7 @@ impl Space<'_> {
         &self,
         ledger: &mut Ledger,
         store: &mut Store,
-        work: &mut Work,
+        work: &mut SearchState,
         clause: ClauseId,
         left: &mut bool,
     ) -> Result<Visit, NoMemory>
@@ -143,7 +143,7 @@ impl Space<'_> {
         ensures marks { KeepsMarks store.old.store store.new.store }
         ensures room { KeepsRoom store.old store.new }
     {
-        let mut work = Work::new(alloc);
+        let mut work = SearchState::new(alloc);
         let mut left = false;
         for number in 0..self.matrix.len() {
             let clause = clause_id(number)?;
@@ -181,7 +181,7 @@ fn search_sized<'a>(
 {
     let _setting = problem.problem().setting();
     let start = store.mark();
-    let space = Space {
+    let space = LimitSearch {
         problem,
         matrix,
         limit: limit.number,

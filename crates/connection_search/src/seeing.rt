@@ -1,10 +1,9 @@
 //! What points keep in mind of the goals that were open since they were made.
 
 ghost use Rattle.std.specs.Prelude.{◌≡◌, ℕ, length};
-ghost use Rattle.connection_search.specs.Seeing.{SeeMore, number_of, seen_after};
+ghost use Rattle.search_tree.specs.Seeing.{SeeMore, number_of, seen_after};
 
-use crate::point::Point;
-use crate::tree::Tree;
+use search_tree::{Point, Tree};
 
 // The number of the leftmost open goal, or 0 where there is none.
 fn number_of(first: Option<usize>) -> usize

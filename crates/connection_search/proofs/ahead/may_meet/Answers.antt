@@ -1,7 +1,7 @@
 use Rattle.std.proofs.Common.{◌∙◌, length, map, sym}
 use Rattle.term_store.specs.ClauseView.{the_atom}
 use Rattle.term_store.specs.RefView.{the_place}
-use Rattle.connection_search.proofs.AheadLaws.{apart-by_clash, apart-by_meets, terms-below}
+use Rattle.search_tree.proofs.AheadLaws.{apart-by_clash, apart-by_meets, terms-below}
 use Rattle.connection_search.proofs.ahead.may_meet.Goals as goal
 
 pub returns-then-not-meets : goal.returns-then-not-meets

@@ -1,10 +1,10 @@
 use Rattle.std.proofs.Common.{arith, length}
 use Rattle.std.proofs.lemmas.Option.{slice_get_within}
 use Rattle.term_store.specs.ClauseView.{the_atom}
-use Rattle.connection_search.proofs.AheadLaws.{IsApartIn, apart-literal}
-use Rattle.connection_search.proofs.Places.{read-there}
-use Rattle.connection_search.proofs.SeenLaws.{ancestor-below, goal-below}
-use Rattle.connection_search.proofs.WayUpLaws.{up-all, up-ancestor, up-first, up-next, up-none}
+use Rattle.search_tree.proofs.AheadLaws.{IsApartIn, apart-literal}
+use Rattle.search_tree.proofs.Places.{read-there}
+use Rattle.search_tree.proofs.SeenLaws.{ancestor-below, goal-below}
+use Rattle.search_tree.proofs.WayUpLaws.{up-all, up-ancestor, up-first, up-next, up-none}
 use Rattle.connection_search.proofs.ahead.may_reduce.Goals as goal
 
 pub loop-i-init : goal.loop-i-init

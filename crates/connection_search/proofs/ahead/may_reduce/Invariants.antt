@@ -1,5 +1,5 @@
-use Rattle.connection_search.proofs.AheadLaws.{IsApartIn}
-use Rattle.connection_search.proofs.WayUpLaws.{IsUpTo}
+use Rattle.search_tree.proofs.AheadLaws.{IsApartIn}
+use Rattle.search_tree.proofs.WayUpLaws.{IsUpTo}
 use Rattle.connection_search.proofs.ahead.may_reduce.Given as goal
 
 abbrev pub invariant-loop-i : goal.invariant-loop-i

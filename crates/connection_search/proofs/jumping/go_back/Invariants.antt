@@ -3,8 +3,8 @@ use Rattle.store_theory.specs.Stores.{IsGood, TrailMark}
 use Rattle.term_store.specs.Room.{KeepsRoom}
 use Rattle.connection_search.specs.Exploring.{AreAbove, KeepsMoment}
 use Rattle.connection_search.specs.GoingBack.{GoesBack, Origin}
-use Rattle.connection_search.specs.Looking.{bound_in}
-use Rattle.connection_search.specs.Weights.{weight_of_all}
+use Rattle.search_tree.specs.Looking.{bound_in}
+use Rattle.search_tree.specs.Weights.{weight_of_all}
 use Rattle.connection_search.proofs.jumping.go_back.Given as goal
 
 abbrev pub invariant-loop-low : goal.invariant-loop-low

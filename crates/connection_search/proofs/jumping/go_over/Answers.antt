@@ -1,6 +1,6 @@
 use Rattle.std.proofs.Common.{◌++◌, ◌-◌, ◌∙◌, ◌∷◌, [], ap, arith, subst, sym, take}
 use Rattle.connection_search.specs.Exploring.{AreAbove}
-use Rattle.connection_search.specs.Looking.{bound_in}
+use Rattle.search_tree.specs.Looking.{bound_in}
 use Rattle.connection_search.proofs.GoingBackLaws.{going-good, going-over, going-stays, last-read}
 use Rattle.connection_search.proofs.StackedLaws.{moment-back}
 use Rattle.connection_search.proofs.jumping.go_over.Goals as goal

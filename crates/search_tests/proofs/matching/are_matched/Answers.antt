@@ -12,8 +12,8 @@ use Rattle.term_store.specs.TemplateView.{the_template}
 use Rattle.term_store.proofs.FitLaws.{have-new}
 use Rattle.term_store.proofs.ListLaws.{literal-there}
 use Rattle.term_unify.specs.Closed.{IsClosedBelow}
-use Rattle.connection_search.proofs.CopiedBelow.{closed-copied}
-use Rattle.connection_search.proofs.KeptLaws.{variables-valued}
+use Rattle.search_tree.proofs.CopiedBelow.{closed-copied}
+use Rattle.search_tree.proofs.KeptLaws.{variables-valued}
 use Rattle.search_tests.proofs.DoublingLaws.{args-fit, longer-matched}
 use Rattle.search_tests.proofs.matching.are_matched.Goals as goal
 

@@ -1,9 +1,0 @@
-use Rattle.std.proofs.Common.{arith}
-use Rattle.connection_search.proofs.MakingLaws.{values-end, values-step}
-use Rattle.connection_search.proofs.grounds.Grounds.values.Goals as goal
-
-pub loop-i-preserved : goal.loop-i-preserved
-loop-i-preserved c = values-step c.args.store.now.store c.args.self.now.table c.args.self.now.made.items c.args.refs.now c.loop-i.i c.push.new.self.items c.loop-i.values.items c.value_of.result c.made_for-ground.result c.in_ok-push.ensures.items (omega arith) (c.value_of.ensures c.args.self.now.table) c.made_for-ground.ensures c.loop-i.invariant
-
-pub returns : goal.returns
-returns c = values-end c.args.store.now.store c.args.self.now.table c.args.self.now.made.items c.args.refs.now c.loop-i.i c.loop-i.values.items (omega arith) c.loop-i.invariant

@@ -1,9 +1,0 @@
-use Rattle.std.proofs.Common.{◌≡◌, ◌++◌, take}
-use Rattle.connection_search.specs.Looking.{bound_in, waiting_in}
-use Rattle.connection_search.proofs.look.Look.add_parts.Given as goal
-
-abbrev pub invariant-loop-i : goal.invariant-loop-i
-invariant-loop-i l = record {
-  waiting : waiting_in l.self ≡ waiting_in l.fn.self ++ take l.i l.parts;
-  bound : bound_in l.self ≡ bound_in l.fn.self;
-}

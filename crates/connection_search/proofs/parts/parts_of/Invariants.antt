@@ -1,5 +1,0 @@
-use Rattle.connection_search.proofs.PartLaws.{PartsTo}
-use Rattle.connection_search.proofs.parts.parts_of.Given as goal
-
-abbrev pub invariant-loop-i : goal.invariant-loop-i
-invariant-loop-i l = PartsTo l.store.store l.end.0 l.i l.refs.items

@@ -1,5 +1,0 @@
-use Rattle.connection_search.proofs.ReadOffLaws.{places-end}
-use Rattle.connection_search.proofs.reading.all_variables.Goals as goal
-
-pub loop-k-preserved : goal.loop-k-preserved
-loop-k-preserved c = places-end c.args.variables.first.0 c.loop-k.k c.push.new.self.items c.loop-k.refs.items c.in_ok-variable_at.field-0 c.in_ok-push.ensures.items c.in_ok-variable_at.ensures c.loop-k.invariant

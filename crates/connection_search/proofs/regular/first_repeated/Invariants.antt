@@ -1,5 +1,0 @@
-use Rattle.connection_search.proofs.SeenLaws.{AreNewTo}
-use Rattle.connection_search.proofs.regular.first_repeated.Given as goal
-
-abbrev pub invariant-loop-goal : goal.invariant-loop-goal
-invariant-loop-goal l = AreNewTo l.store.store l.tree.steps.items l.tree.goals.items l.first l.goal

@@ -1,5 +1,0 @@
-use Rattle.connection_search.proofs.SeenLaws.{SeenTo}
-use Rattle.connection_search.proofs.regular.is_new.Given as goal
-
-abbrev pub invariant-loop-i : goal.invariant-loop-i
-invariant-loop-i l = SeenTo l.store.store l.tree.steps.items l.tree.goals.items l.goal l.above l._i

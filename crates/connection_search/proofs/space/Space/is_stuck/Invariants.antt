@@ -1,7 +1,0 @@
-use Rattle.std.proofs.Common.{List}
-use Rattle.search_theory.specs.States.{CellGoal}
-use Rattle.connection_search.specs.Trees.{AreOpen}
-use Rattle.connection_search.proofs.space.Space.is_stuck.Given as goal
-
-abbrev pub invariant-loop-i : goal.invariant-loop-i
-invariant-loop-i l = (xs : List CellGoal) × AreOpen l.tree.steps.items l.tree.goals.items l.next xs

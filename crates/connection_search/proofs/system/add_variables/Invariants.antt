@@ -1,5 +1,0 @@
-use Rattle.connection_search.proofs.GatheringLaws.{StringsTo}
-use Rattle.connection_search.proofs.system.add_variables.Given as goal
-
-abbrev pub invariant-loop-k : goal.invariant-loop-k
-invariant-loop-k l = StringsTo l.sorts l.variables.first.0 l.variables.count l.initial.strings l.strings l.k

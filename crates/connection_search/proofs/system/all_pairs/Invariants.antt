@@ -1,5 +1,0 @@
-use Rattle.connection_search.proofs.GatheringLaws.{AllPairsTo}
-use Rattle.connection_search.proofs.system.all_pairs.Given as goal
-
-abbrev pub invariant-loop-goal : goal.invariant-loop-goal
-invariant-loop-goal l = AllPairsTo l.tree.steps.items l.tree.goals.items l.pairs l.goal

@@ -1,6 +1,0 @@
-use Rattle.connection_search.proofs.LookingOver.{IsAny}
-use Rattle.connection_search.proofs.WayUpLaws.{IsUpTo}
-use Rattle.connection_search.proofs.uncopied.is_repeated.Given as goal
-
-abbrev pub invariant-loop-i : goal.invariant-loop-i
-invariant-loop-i l = IsUpTo IsAny l.tree.steps.items l.tree.goals.items l.goal l.above l._i
