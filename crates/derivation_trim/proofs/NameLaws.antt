@@ -29,14 +29,6 @@ noted-end f p xs i a r past known = sym (or_nothing a) ∙ ap (λ ys. a || list_
 
 -- ---- a loop that keeps what passes a test
 
-pub kept-one : {A : Type 0} (p : A → Bool) (old new rest : List A) (x y : A) → p y ≡ true → x ≡ y → new ≡ old ++ x ∷ [] → new ++ filter p rest ≡ old ++ filter p (y ∷ rest)
-kept-one p old new rest x y h e g =
-    ap (λ z. z ++ filter p rest) g ∙ append_assoc old (x ∷ []) (filter p rest) ∙ ap (λ z. old ++ z ∷ filter p rest) e
-    ∙ sym (ap (λ b. old ++ (if b then y ∷ filter p rest else filter p rest)) h)
-
-pub kept-none : {A : Type 0} (p : A → Bool) (old rest : List A) (y : A) → p y ≡ false → old ++ filter p rest ≡ old ++ filter p (y ∷ rest)
-kept-none p old rest y h = sym (ap (λ b. old ++ (if b then y ∷ filter p rest else filter p rest)) h)
-
 pub kept-next : {X A : Type 0} (f : X → A) (p : A → Bool) (xs : List X) (i : ℕ) (x d : X) (old new r : List A) → i < length xs → x ≡ get_or xs i d → ((rest : List A) → new ++ filter p rest ≡ old ++ filter p (f x ∷ rest)) → old ++ filter p (map f (drop i xs)) ≡ r → new ++ filter p (map f (drop (i + 1) xs)) ≡ r
 kept-next f p xs i x d old new r within read h known =
     let here : drop i xs ≡ x ∷ drop (i + 1) xs = drop_more xs i d within ∙ ap (λ y. y ∷ drop (i + 1) xs) (sym read) in

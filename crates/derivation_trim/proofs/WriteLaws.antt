@@ -25,9 +25,6 @@ pub ruleset growing = (grown-out, grown-left, grown-next, grown-end)
 
 -- ---- one step
 
-pub put-some : (o new : List derivation.Step) (x y : derivation.Step) (rest : List derivation.Step) → new ≡ o ++ x ∷ [] → x ≡ y → new ++ rest ≡ o ++ put_if true y rest
-put-some o new x y rest h e = ap (λ z. z ++ rest) h ∙ append_assoc o (x ∷ []) rest ∙ ap (λ z. o ++ z ∷ rest) e
-
 pub written-one : (m : Mark) (x : derivation.Step) (ms : List Mark) (xs out new : List derivation.Step) (table resumed next : List ℕ) (forks taken later : List Bool) → resumed ≡ resumed_table m.pass.starts_right m.pass.before table forks → taken ≡ resumed_forks m.pass.starts_right forks → next ≡ next_table m.is_left m.pass.way resumed → later ≡ next_forks m.is_left m.pass.way taken → ((rest : List derivation.Step) → new ++ rest ≡ out ++ put_if m.is_left (numbered resumed x) rest) → new ++ write ms xs next later ≡ out ++ write (m ∷ ms) (x ∷ xs) table forks
 written-one m x ms xs out new table resumed next forks taken later a b c d h =
     h (write ms xs next later)
@@ -47,11 +44,6 @@ write-next steps i d step old waiting m out new all table next forks later withi
     one (reverse waiting) (map the_step (drop (i + 1) steps))
     ∙ ap₂ (λ ms xs. out ++ write ms (map the_step xs) table (reverse forks)) (sym first) (sym here)
     ∙ known
-
--- without a mark nothing is written
-pub write-none : (steps : List Step) (i : ℕ) (waiting : List Mark) (out all : List derivation.Step) (table : List ℕ) (forks : List Bool) → waiting ≡ [] → out ++ rest_of steps waiting i table forks ≡ all → out ≡ all
-write-none steps i waiting out all table forks h known =
-    sym (append-nil out) ∙ ap (λ ms. out ++ write (reverse ms) (map the_step (drop i steps)) table (reverse forks)) (sym h) ∙ known
 
 without_steps : (ms : List Mark) (table : List ℕ) (forks : List Bool) → write ms [] table forks ≡ []
 without_steps [] table forks = refl

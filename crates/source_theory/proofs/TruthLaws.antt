@@ -14,9 +14,6 @@ use Rattle.source_theory.specs.SourceTruth.{Lasts, LastsForEach, AreAlike, ForEa
 pub alike : {A B C : Type 0} → AreAlike A B → AreAlike B C → AreAlike A C
 alike p q = (λ x. q.0 (p.0 x), λ z. p.1 (q.1 z))
 
-pub turned : {A B : Type 0} → AreAlike A B → AreAlike B A
-turned p = (p.1, p.0)
-
 pub not-says : {A : Type 0} (a : Bool) → AreAlike (IsTrue a) A → AreAlike (IsTrue (not a)) (¬ A)
 not-says true p = (λ h. absurd (false≢true h), λ k. absurd (k (p.0 refl)))
 not-says false p = (λ h x. absurd (false≢true (p.1 x)), λ k. refl)

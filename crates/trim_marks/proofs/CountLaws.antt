@@ -29,21 +29,3 @@ set-is xs k y f within h g = fun_ext (λ i. elim (cases_Bool (k == i)) [
 pub counted : (xs : List ℕ) (k y : ℕ) → k < length xs → y ≡ get_or xs k 0 + 1 → counts_of (set xs k y) ≡ plus_one k (counts_of xs)
 counted xs k y within h = set-is xs k y (plus_one k (counts_of xs)) within (rw (eq-eqb k k refl) (omega arith)) (λ i e. rw e (omega arith))
 
-pub taken : (xs : List ℕ) (k y : ℕ) → k < length xs → y ≡ get_or xs k 0 - 1 → counts_of (set xs k y) ≡ minus_one k (counts_of xs)
-taken xs k y within h = set-is xs k y (minus_one k (counts_of xs)) within (rw (eq-eqb k k refl) (sym h)) (λ i e. rw e (omega arith))
-
-pub backed : (xs : List ℕ) (k : ℕ) → k < length xs → counts_of (set xs k 0) ≡ set_back k (counts_of xs)
-backed xs k within = set-is xs k 0 (set_back k (counts_of xs)) within (rw (eq-eqb k k refl) refl) (λ i e. rw e refl)
-
--- what has no place
-pub taken_past : (xs : List ℕ) (k : ℕ) → length xs ≤ k → counts_of xs ≡ minus_one k (counts_of xs)
-taken_past xs k h = fun_ext (λ i. elim (cases_Bool (k == i)) [
-  | inl e ↦ rw e (let none = ap (λ j. get_or xs j 0) (sym (eqb-true k i e)) ∙ get_or_past xs k 0 h in omega arith)
-  | inr e ↦ rw e (omega arith)
-])
-
-pub backed_past : (xs : List ℕ) (k : ℕ) → length xs ≤ k → counts_of xs ≡ set_back k (counts_of xs)
-backed_past xs k h = fun_ext (λ i. elim (cases_Bool (k == i)) [
-  | inl e ↦ rw e (ap (λ j. get_or xs j 0) (sym (eqb-true k i e)) ∙ get_or_past xs k 0 h)
-  | inr e ↦ rw e refl
-])

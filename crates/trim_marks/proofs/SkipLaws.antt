@@ -11,9 +11,6 @@ use Rattle.trim_marks.specs.MarkingView.{IsSkipping}
 
 -- ---- lists as stacks
 
-pub reverse_push : {A : Type 0} (xs ys : List A) (x : A) → ys ≡ xs ++ x ∷ [] → reverse ys ≡ x ∷ reverse xs
-reverse_push xs ys x h = ap reverse h ∙ reverse-append xs (x ∷ [])
-
 pub run_last : (ps qs : List Pass) (p : Pass) (s : State) → qs ≡ ps ++ p ∷ [] → run qs s ≡ run ps (after_pass p s)
 run_last ps qs p s h = ap (λ z. run z s) h ∙ go ps
   where
@@ -117,9 +114,6 @@ reached_next saved starts to c d skips ms ns whole from place next less low e f 
       ]);
     }
 
-pub reached_first : (saved starts : List ℕ) (to : ℕ) (c : Counts) (ms : List Mark) (from : ℕ) → IsReached saved starts to c ms (with_undone from (to - from) (state c saved starts ms)) from from
-reached_first saved starts to c ms from = record { rest = refl; gone = λ i a b. absurd (omega arith) }
-
 -- at the end nothing is to be left out
 pub reached_to : (saved starts : List ℕ) (to : ℕ) (c : Counts) (ms : List Mark) (whole : State) (from place : ℕ) → to ≤ place → IsReached saved starts to c ms whole from place → state c saved starts ms ≡ whole
 reached_to saved starts to c ms whole from place past r = let e : to - place ≡ 0 = omega arith in sym (ap (λ i. with_undone place i (state c saved starts ms)) e) ∙ r.rest
@@ -151,40 +145,3 @@ skipping_more skips ts ms from end e within none h = subst (λ xs. IsSkipping xs
   | inr past ↦ subst (λ xs. IsSkipping xs ms) (sym (set_past skips from end past)) h
 ])
 
-past_zero : (xs : List ℕ) (i : ℕ) → get_or (xs ++ 0 ∷ []) i 0 ≡ get_or xs i 0
-past_zero [] zero = refl
-past_zero [] (suc i) = refl
-past_zero (x ∷ xs) zero = refl
-past_zero (x ∷ xs) (suc i) = past_zero xs i
-
-front-same : (ms : List Mark) (m : Mark) (i : ℕ) → i < length ms → get_or (ms ++ m ∷ []) i no_mark ≡ get_or ms i no_mark
-front-same [] m i h = absurd (omega arith)
-front-same (x ∷ ms) m zero h = refl
-front-same (x ∷ ms) m (suc i) h = front-same ms m i (omega arith)
-
--- one step more
-pub skipping_put : (skips ts : List ℕ) (ms ns : List Mark) (m : Mark) → ts ≡ skips ++ 0 ∷ [] → ns ≡ ms ++ m ∷ [] → IsSkipping skips ms → IsSkipping ts ns
-skipping_put skips ts ms ns m e f h =
-    let longer : length (ms ++ m ∷ []) ≡ length ms + 1 = length-append ms (m ∷ []) in
-    subst (λ xs. IsSkipping xs ns) (sym e) (subst (IsSkipping (skips ++ 0 ∷ [])) (sym f) (record {
-      long = length-append skips (0 ∷ []) ∙ ap (λ n. n + 1) h.long ∙ sym longer;
-      within = λ i. let a = h.within i in let b = past_zero skips i in omega arith;
-      none_left = λ i k l n.
-          let a = h.within i in
-          let b = past_zero skips i in
-          let c : k < get_or skips i 0 = omega arith in
-          ap (λ (x : Mark). x.is_left) (front-same ms m k (omega arith)) ∙ h.none_left i k l c;
-    }))
-
-abbrev nothing : List ℕ
-nothing = []
-
-none-at : (i : ℕ) → get_or nothing i 0 ≡ 0
-none-at i = get_or_past nothing i 0 (omega arith)
-
-pub skipping_none : IsSkipping [] []
-skipping_none = record {
-  long = refl;
-  within = λ i. let e = none-at i in omega arith;
-  none_left = λ i k l m. let e = none-at i in absurd (omega arith);
-}

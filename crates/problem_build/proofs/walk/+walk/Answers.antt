@@ -7,7 +7,7 @@ use Rattle.problem_build.specs.Fetching.{ReadsOnly}
 use Rattle.problem_build.specs.Passing.{item_passes}
 use Rattle.problem_build.specs.Walk.{names_of, walked}
 use Rattle.problem_build.specs.Walking.{EndsIn, GoesOn, file_outcomes, items_outcomes, lists_of, pending_items, progress_of}
-use Rattle.problem_build.proofs.FetchingLaws.{only-both, only-wider, only_same}
+use Rattle.problem_build.proofs.FetchingLaws.{only-both, only-wider}
 use Rattle.problem_build.proofs.FileLaws.{failed-ends}
 use Rattle.problem_build.proofs.IncludeLaws.{file-included, left-reached, left-selected}
 use Rattle.problem_build.proofs.NameSetLaws.{one-entered}
