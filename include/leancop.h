@@ -1,9 +1,9 @@
 /* leancop for C and for whatever calls C: the checker, and the whole program. What is promised is proved; docs/EMBEDDING.md
  * says how to build and link it, and what is trusted.
  *
- * Any bytes may be handed in. No pointer is null, also where its length is 0; `room`, `length` and `judgement` overlap nothing
- * else that is handed in. Nothing of the caller's is kept or freed, and all that a call allocates, by malloc and realloc, is
- * freed before it returns.
+ * Any bytes may be handed in. NULL with length 0 is an empty text, an empty list of words or files, or no room; no other pointer is
+ * null. `room`, `length` and `judgement` overlap nothing else that is handed in. Nothing of the caller's is kept or freed, and all that
+ * a call allocates, by malloc and realloc, is freed before it returns.
  *
  * Calls share nothing, so any number of threads may call at once, but no signal handler. Each wants a stack of 8 MB, which a thread is
  * given by its attributes; one with less than its problem needs ends by a segmentation fault. Measured, the least for all three calls:
@@ -18,6 +18,7 @@
 #define LEANCOP_VERSION_MAJOR 0
 #define LEANCOP_VERSION_MINOR 2
 #define LEANCOP_VERSION_PATCH 0
+#define LEANCOP_VERSION_NUMBER (LEANCOP_VERSION_MAJOR * 1000000 + LEANCOP_VERSION_MINOR * 1000 + LEANCOP_VERSION_PATCH)
 
 #include <stddef.h>
 #include <stdint.h>
@@ -25,6 +26,9 @@
 #ifdef __cplusplus
 extern "C" {
 #endif
+
+/* LEANCOP_VERSION_NUMBER of the library that is linked. */
+uint32_t leancop_version(void);
 
 /* Logics and domains. Domains are settled by the logic where it has no choice: classical ones are constant, intuitionistic ones
  * cumulative, and cumulative ones of S5 are constant. */
@@ -89,16 +93,26 @@ enum {
     LEANCOP_FAULT_STILL_OPEN = 32
 };
 
+/* The words that the program prints for a fault or a cause, as "no connection", with a zero byte behind them; for a number that
+ * is none, the empty text. They are copied: printf("%s", leancop_fault_name(told.fault).text). */
+typedef struct {
+    char text[32];
+} leancop_name;
+
+leancop_name leancop_fault_name(uint32_t fault);
+leancop_name leancop_cause_name(uint32_t cause);
+
 typedef struct {
     uint32_t status;
     uint32_t fault;  /* where the status is 4 or 8, else 0 */
     uint64_t line;   /* where it is 8: the first wrong line, from 1; else 0 */
     uint64_t offset; /* where it is 4: the byte of the problem, from 0; else, and where no place is told, UINT64_MAX */
+    uint64_t reserved[4]; /* 0; room for what a later version tells, so that programs which know this one keep working */
 } leancop_judgement;
 
 /* Judges the second text as a derivation of the problem that the first one states without includes.
  *   0: the first text holds one problem in the setting, the second is the text of a derivation of it, and so the formula is
- *      true at the root of each structure of the setting, finite or over the natural numbers;
+ *      true at the root of each structure of the setting, finite or over the natural numbers, and some tableau for it is closed;
  *   8: it is none, and `line` and `fault` are those of its one judgement;
  *   4: the first text holds no problem, and `offset` and `fault` are those of its one first refusal. */
 void leancop_check(uint32_t logic, uint32_t domains, const uint8_t *problem, size_t problem_length,

@@ -2,7 +2,7 @@
  *   check PROBLEM DERIVATION [LOGIC [DOMAINS]]   judges, with the numbers of logic and domains of leancop.h
  *   check --formula PROBLEM [LOGIC [DOMAINS]]    prints line 3 of a derivation of the problem
  *   check --run WORD..                           runs the program over the files that are named by words
- * It writes what the program writes, but for causes, which it tells by their numbers, and ends with the same status. */
+ * It writes what the program writes, and ends with the same status. */
 #include "leancop.h"
 #include <inttypes.h>
 #include <stdio.h>
@@ -49,16 +49,16 @@ static uint32_t number(int count, char **words, int place) {
 
 static int judge(int count, char **words) {
     leancop_bytes problem = need_file(words[1]), derivation = need_file(words[2]);
-    leancop_judgement told = {NO_FILE, 0, 0, 0};
+    leancop_judgement told = {.status = NO_FILE};
     if (problem.bytes != NULL && derivation.bytes != NULL)
         leancop_check(number(count, words, 3), number(count, words, 4), problem.bytes, problem.length, derivation.bytes,
                       derivation.length, &told);
     switch (told.status) {
     case LEANCOP_STATUS_ACCEPTED: puts("accepted"); break;
-    case LEANCOP_STATUS_REJECTED: printf("rejected at line %" PRIu64 ": %" PRIu32 "\n", told.line, told.fault); break;
+    case LEANCOP_STATUS_REJECTED: printf("rejected at line %" PRIu64 ": %s\n", told.line, leancop_fault_name(told.fault).text); break;
     case LEANCOP_STATUS_BAD_PROBLEM:
-        if (told.offset == UINT64_MAX) printf("%s: %" PRIu32 "\n", words[1], told.fault);
-        else printf("%s:%" PRIu64 ": %" PRIu32 "\n", words[1], told.offset, told.fault);
+        if (told.offset != UINT64_MAX) printf("%s:%" PRIu64 ": ", words[1], told.offset);
+        puts(leancop_cause_name(told.fault).text);
         break;
     default: break;
     }

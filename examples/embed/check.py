@@ -13,7 +13,11 @@ from ctypes import POINTER, byref, c_char_p, c_size_t, c_uint32, c_uint64
 
 
 class Judgement(ctypes.Structure):
-    _fields_ = [("status", c_uint32), ("fault", c_uint32), ("line", c_uint64), ("offset", c_uint64)]
+    _fields_ = [("status", c_uint32), ("fault", c_uint32), ("line", c_uint64), ("offset", c_uint64), ("reserved", c_uint64 * 4)]
+
+
+class Name(ctypes.Structure):
+    _fields_ = [("text", ctypes.c_char * 32)]
 
 
 class Bytes(ctypes.Structure):
@@ -35,11 +39,20 @@ class Leancop:
         self._formula.argtypes = [c_uint32, c_uint32] + text + room
         self._run.argtypes = [POINTER(Bytes), c_size_t, POINTER(File), c_size_t] + room
         self._check.restype, self._formula.restype, self._run.restype = None, c_uint32, c_uint32
+        self._fault_name, self._cause_name = library.leancop_fault_name, library.leancop_cause_name
+        for call in self._fault_name, self._cause_name:
+            call.argtypes, call.restype = [c_uint32], Name
 
     def check(self, problem: bytes, derivation: bytes, logic: int = 0, domains: int = 0) -> Judgement:
         told = Judgement()
         self._check(logic, domains, problem, len(problem), derivation, len(derivation), byref(told))
         return told
+
+    def fault_name(self, fault: int) -> str:
+        return self._fault_name(fault).text.decode()
+
+    def cause_name(self, cause: int) -> str:
+        return self._cause_name(cause).text.decode()
 
     def _with_room(self, call: Callable[..., int], size: int = 65536) -> tuple[int, bytes]:
         """The status and the output of a call, which is made again where it needs more room."""
@@ -77,8 +90,9 @@ def main(library: str, *words: str) -> int:
         sys.stdout.buffer.write(b"formula " + text + b"\n" if status == 0 else b"")
         return status
     told = leancop.check(read(words[0]), read(words[1]), *map(int, words[2:]))
-    place = "" if told.offset == 2**64 - 1 else f":{told.offset}"
-    print({0: "accepted", 8: f"rejected at line {told.line}: {told.fault}", 4: f"{words[0]}{place}: {told.fault}"}.get(told.status, ""))
+    place = "" if told.offset == 2**64 - 1 else f"{words[0]}:{told.offset}: "
+    print({0: "accepted", 8: f"rejected at line {told.line}: {leancop.fault_name(told.fault)}",
+           4: place + leancop.cause_name(told.fault)}.get(told.status, ""))
     return told.status
 
 

@@ -10,7 +10,7 @@ compiled() {
     # shellcheck disable=SC2086
     if $compiler -O2 -Iinclude "$@" -o "$file" 2>"$folder/said"; then pass; else fail "$what: $(cat "$folder/said")"; fi
 }
-causes=(x syntax unsupported 'reserved word' 'wrong language' 'second conjecture' 'unknown role' 'include too deep' 'include name absent'
+causes=([1]=syntax unsupported 'reserved word' 'wrong language' 'second conjecture' 'unknown role' 'include too deep' 'include name absent'
     'no formula' 'input too large' 'nesting too deep' 'formula too large' 'too many symbols')
 faults=([1]=version [2]=setting [3]=formula [4]=limit [5]=name [6]=line [7]='text after end' [8]=label [9]=term [10]=table
     [21]='no entry' [22]='no connection' [23]='wrong arguments' [24]='unknown name' [25]='not reachable' [26]='not new' [27]='wrong home'
@@ -27,17 +27,17 @@ numbered() {
     done
     echo 0
 }
-# judged PROBLEM DERIVATION LOGIC DOMAINS: what the library says, in the program's words, and the status
+# judged PROBLEM DERIVATION LOGIC DOMAINS: what the library says, and the status
 judged() {
-    local told number
+    local told
     told="$("$folder/embedded" "$@")"
-    local ended="$?"
-    number="${told##*: }"
-    case "$ended" in
-        8) told="${told%: *}: ${faults[number]}" ;;
-        4) case "$told" in *:*:*) told="${told%: *}: ${causes[number]}" ;; *) told="${causes[number]}" ;; esac ;;
-    esac
-    echo "$ended $told"
+    echo "$? $told"
+}
+# named NAME NUMBER..: the lines of embed_edges.c for these numbers of the table of faults or causes
+named() {
+    local -n table="${1}s"
+    local number
+    for number in "${@:2}"; do echo "$1 $number ${table[number]}"; done
 }
 # as_program PROBLEM DERIVATION WORD..: the two judgements are the same
 as_program() {
@@ -100,12 +100,15 @@ else
     if command -v cc >/dev/null; then
         compiled 'tools/tests/refused_memory.c' "$folder/refused_memory" tools/tests/refused_memory.c "$archive" "$kit/c/liblibc_c.a" \
             -Wl,--wrap=malloc,--wrap=realloc,--wrap=free
+        compiled 'tools/tests/embed_edges.c' "$folder/embed_edges" tools/tests/embed_edges.c "$archive" "$kit/c/liblibc_c.a"
+        "$folder/embed_edges" >"$folder/said"
+        same 'edges of leancop.h' "$(sort -k1,1 -k2,2n "$folder/said")" "$(named cause "${!causes[@]}"; named fault "${!faults[@]}")"
         "$LEANCOP" prove examples/even.p >"$folder/even.txt"
         if "$folder/refused_memory" examples/even.p "$folder/even.txt" >"$folder/said"; then pass; else fail "$(cat "$folder/said")"; fi
         compiled 'the shared object' "$folder/libleancop.so" -shared -Wl,--whole-archive "$archive" -Wl,--no-whole-archive "$kit/c/liblibc_c.a"
         python() { PYTHONDONTWRITEBYTECODE=1 examples/embed/check.py "$folder/libleancop.so" "$@"; }
         same 'check.py' "$(python examples/even.p "$folder/even.txt")" accepted
-        same 'check.py of another problem' "$(python examples/even.p examples/drinker.txt)" 'rejected at line 3: 3'
+        same 'check.py of another problem' "$(python examples/even.p examples/drinker.txt)" 'rejected at line 3: formula'
         same 'check.py --formula' "$(python --formula examples/even.p)" "$(sed -n 3p "$folder/even.txt")"
         same 'check.py --run' "$(python --run prove examples/pigeonhole3.p | cksum)" "$("$LEANCOP" prove examples/pigeonhole3.p | cksum)"
     else

@@ -1,4 +1,5 @@
 pub mod ByStatus
+pub mod NameLaws
 pub mod Reading
 pub mod Runs
 pub mod Texts

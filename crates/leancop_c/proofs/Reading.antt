@@ -33,7 +33,7 @@ held-in (Some r) files name root s reading only k l = λ text e.
 -- ---- what is told
 
 pub judged-told : (s : Setting) (p d : List ℕ) (P : Problem) (j : LeancopJudgement) → Holds (Some s) p (Ok P) → IsJudged P d j → IsTold (Some s) p d j
-judged-told s p d P _ held (is_accepted only valid) = accepted (record { told = P; held = held; judged = only; valid = valid })
+judged-told s p d P _ held (is_accepted only theorem) = accepted (record { told = P; held = held; judged = only; theorem = theorem })
 judged-told s p d P _ held (is_rejected line fault only) = rejected line fault (record { told = P; held = held; judged = only })
 judged-told s p d P _ held is_lost = no_memory s refl
 

@@ -9,7 +9,7 @@ use Rattle.leancop_top.specs.declared.status.Status.TheVariants as status
 use Rattle.leancop_c.specs.Ran.{IsRun, IsRunTold, ran}
 use Rattle.leancop_c.specs.Told.{placed}
 
--- and one that is
+-- a run for which memory ends
 pub lost-over : (files : Files) (command : Command) → IsRun files command status.NoMemory []
 lost-over files command = record { answered = tt; decided = tt; of_memory = tt; no_memory = λ e. refl }
 

@@ -1,4 +1,5 @@
 pub mod Numbers
+pub mod Names
 pub mod GivenFiles
 pub mod Told
 pub mod Judging

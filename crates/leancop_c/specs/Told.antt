@@ -1,13 +1,13 @@
 -- What C is told of two texts: a problem, and what is to be a derivation of it.
-use Rattle.std.specs.Prelude.{◌≡◌, ℕ, List, [], ◌∷◌, ◌++◌, length, drop, nat_le, if◌then◌else◌}
+use Rattle.std.specs.Prelude.{◌≡◌, ℕ, List, [], ◌∷◌, ◌++◌, length, drop, replicate, nat_le, if◌then◌else◌}
 use Rattle.std.specs.Prelude.{Option, None, Some, Result, Ok, Err}
 use Rattle.calculus.specs.declared.fault.CheckFault.{CheckFault}
 use Rattle.calculus.specs.Judgement as judgement
-use Rattle.calculus.specs.Soundness.{IsTrueInStructures}
 use Rattle.calculus.specs.Syntax.{Problem, Setting}
 use Rattle.calculus.specs.Text.{formula_text}
 use Rattle.cop_base.specs.Outside.{Files}
 use Rattle.derivation_check.specs.Only.{IsOnlyVersionJudgement}
+use Rattle.leancop_top.specs.Derived.{IsTheorem}
 use Rattle.problem_build.specs.Building.{IsProblemOf}
 use Rattle.problem_build.specs.Refusals.{Refusal}
 use Rattle.leancop_c.specs.Numbers.{fault_number, no_place}
@@ -26,13 +26,13 @@ pub record Holds (asked : Option Setting) (text : List ℕ) (result : Result Pro
   pub reading : IsProblemOf (alone text) [] [] setting result
   pub only : (other : Result Problem Refusal) → IsProblemOf (alone text) [] [] setting other → other ≡ result
 
--- one problem, which the other text derives: that is its one judgement, and so the formula is true
--- at the root of each structure
+-- one problem, which the other text derives: that is its one judgement, and so the formula is a
+-- theorem
 pub record IsAccepted (asked : Option Setting) (problem derivation : List ℕ) : Type 0 where
   pub told : Problem
   pub held : Holds asked problem (Ok told)
   pub judged : IsOnlyVersionJudgement told derivation judgement.accepted
-  pub valid : IsTrueInStructures told
+  pub theorem : IsTheorem told
 
 -- one problem, which the other text does not derive: its one judgement is this first fault
 pub record IsRejected (asked : Option Setting) (problem derivation : List ℕ) (line : ℕ) (fault : CheckFault) : Type 0 where
@@ -42,12 +42,23 @@ pub record IsRejected (asked : Option Setting) (problem derivation : List ℕ) (
 
 -- ---- what the struct has
 
+-- what is reserved
+abbrev pub zeros : List ℕ
+zeros = replicate 4 0
+
 abbrev pub status_alone : ℕ → LeancopJudgement
-status_alone status = record { status = status; fault = 0; line = 0; offset = no_place }
+status_alone status =
+    record { status = status; fault = 0; line = 0; offset = no_place; reserved = zeros }
 
 abbrev pub rejection_told : ℕ → CheckFault → LeancopJudgement
 rejection_told line fault =
-    record { status = 8; fault = fault_number fault; line = line; offset = no_place }
+    record {
+      status = 8;
+      fault = fault_number fault;
+      line = line;
+      offset = no_place;
+      reserved = zeros;
+    }
 
 abbrev pub refusal_told : Refusal → LeancopJudgement
 refusal_told refusal = record {
@@ -55,6 +66,7 @@ refusal_told refusal = record {
   fault = refusal_number refusal;
   line = 0;
   offset = refusal_offset refusal;
+  reserved = zeros;
 }
 
 -- nothing is told of want of memory but the status

@@ -4,8 +4,8 @@ ghost use Rattle.std.specs.Prelude.{◌≡◌, ◌≢◌, ◌∷◌, [], Err, If
 ghost use Rattle.std.specs.Option.{option_map};
 ghost use Rattle.leancop_c.specs.GivenFiles.{files_of};
 ghost use Rattle.leancop_c.specs.Judging.{IsJudged};
-ghost use Rattle.leancop_c.specs.Numbers.{no_place, setting_numbered};
-ghost use Rattle.leancop_c.specs.Told.{Holds, IsTold, alone, unread_told};
+ghost use Rattle.leancop_c.specs.Numbers.{setting_numbered};
+ghost use Rattle.leancop_c.specs.Told.{Holds, IsTold, alone, status_alone, unread_told, zeros};
 ghost use Rattle.logic_rules.specs.SettingView.{the_setting};
 ghost use Rattle.problem_build.specs.Answers.{the_answer, the_refusal};
 
@@ -65,25 +65,33 @@ pub fn problem_in(alloc: Global, setting: Setting, text: &[u8]) -> Result<Proble
 
 // A status without a fault and without a place.
 fn status_alone(status: u32) -> LeancopJudgement
-    ensures { result ≡ record { status = status; fault = 0; line = 0; offset = no_place } }
+    ensures { result ≡ status_alone status }
 {
     LeancopJudgement {
         status,
         fault: 0,
         line: 0,
         offset: NO_PLACE,
+        reserved: [0; 4],
     }
 }
 
 // A refusal of the problem.
 fn refused(fault: u32, offset: u64) -> LeancopJudgement
-    ensures { result ≡ record { status = 4; fault = fault; line = 0; offset = offset } }
+    ensures { result ≡ record {
+      status = 4;
+      fault = fault;
+      line = 0;
+      offset = offset;
+      reserved = zeros;
+    } }
 {
     LeancopJudgement {
         status: 4,
         fault,
         line: 0,
         offset,
+        reserved: [0; 4],
     }
 }
 
@@ -108,6 +116,7 @@ fn unread_told(fault: BuildFault) -> LeancopJudgement
 fn judge(alloc: Global, problem: &Problem, derivation: &[u8]) -> LeancopJudgement
     ensures { IsJudged problem.now derivation.now result }
 {
+    let _symbols = problem.symbols(); // tells that it is a problem
     match check(alloc, problem, derivation) {
         Ok(Verdict::Accepted) => status_alone(0),
         Ok(Verdict::Rejected { line, fault }) => LeancopJudgement {
@@ -115,6 +124,7 @@ fn judge(alloc: Global, problem: &Problem, derivation: &[u8]) -> LeancopJudgemen
             fault: fault_number(fault),
             line,
             offset: NO_PLACE,
+            reserved: [0; 4],
         },
         Err(NoMemory) => status_alone(7),
     }

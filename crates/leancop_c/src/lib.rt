@@ -5,6 +5,7 @@ mod faults;
 mod files;
 mod formula;
 mod judging;
+mod names;
 mod output;
 mod room;
 mod running;
@@ -16,13 +17,18 @@ ghost use Rattle.calculus.specs.ComputedInstances.{ComputesInstances};
 ghost use Rattle.calculus.specs.Problems.{is_problem};
 ghost use Rattle.calculus.specs.Soundness.{IsSound};
 ghost use Rattle.calculus.specs.Syntax as tree;
+ghost use Rattle.calculus.specs.declared.fault.CheckFault.{CheckFault};
 ghost use Rattle.leancop_c.specs.GivenFiles.{files_of, words_of};
-ghost use Rattle.leancop_c.specs.Numbers.{setting_numbered};
+ghost use Rattle.leancop_c.specs.Names.{cause_words, fault_words, padded, prints};
+ghost use Rattle.leancop_c.specs.Numbers.{fault_number, refusal_number, setting_numbered};
 ghost use Rattle.leancop_c.specs.Ran.{IsRunTold};
 ghost use Rattle.leancop_c.specs.Told.{IsAccepted, IsFormula, IsRefused, IsRejectedBy, IsTold, IsWritten};
+ghost use Rattle.leancop_top.specs.FaultTexts.{fault_text};
+ghost use Rattle.problem_build.specs.Refusals.{Refusal};
 
 use crate::formula::write_canonical;
 use crate::judging::judge_texts;
+use crate::names::{cause_words, fault_words, named};
 use crate::running::run_words;
 use std::alloc::Global;
 
@@ -43,7 +49,7 @@ pub struct LeancopFile<'a> {
 
 /// A judgement. `status` is that of the program, `fault` the number of the cause where it is 4 or 8, `line` that of the
 /// first fault where it is 8, from 1, and `offset` the byte of the problem where it is 4, from 0, or the greatest number
-/// where no place is told.
+/// where no place is told. What is reserved is 0.
 #[repr(C)]
 #[derive(Clone, Copy)]
 pub struct LeancopJudgement {
@@ -51,6 +57,14 @@ pub struct LeancopJudgement {
     pub fault: u32,
     pub line: u64,
     pub offset: u64,
+    pub reserved: [u64; 4],
+}
+
+/// Words, and zeros behind them.
+#[repr(C)]
+#[derive(Clone, Copy)]
+pub struct LeancopName {
+    pub text: [u8; 32],
 }
 
 /// Judges a derivation of the problem that one text states without includes.
@@ -78,6 +92,38 @@ pub extern "C" fn leancop_check(
     ensures no_setting { judgement.new.status ≡ 5 ↔ (setting_numbered logic domains ≡ None) }
 {
     *judgement = judge_texts(alloc, logic, domains, problem, derivation);
+}
+
+/// The version: 1,000,000 times the first number, 1,000 times the second, and the third.
+#[unsafe(no_mangle)]
+pub extern "C" fn leancop_version() -> u32
+    ensures { result ≡ 2000 }
+{
+    2000
+}
+
+/// The words that the program prints for the fault with this number.
+#[unsafe(no_mangle)]
+#[tactic(auto, using(crate::proofs::NameLaws::fault_printed))]
+pub extern "C" fn leancop_fault_name(fault: u32) -> LeancopName
+    ensures told { result.text ≡ padded (fault_words fault) }
+
+    // These are the program's words.
+    ensures printed { (f : CheckFault) → fault_words (fault_number f) ≡ fault_text f }
+{
+    named(fault_words(fault))
+}
+
+/// The words that the program prints for the cause with this number.
+#[unsafe(no_mangle)]
+#[tactic(auto, using(crate::proofs::NameLaws::cause_printed))]
+pub extern "C" fn leancop_cause_name(cause: u32) -> LeancopName
+    ensures told { result.text ≡ padded (cause_words cause) }
+
+    // These are the program's words; a missing file is told without a cause.
+    ensures printed { (r : Refusal) → prints r (cause_words (refusal_number r)) }
+{
+    named(cause_words(cause))
 }
 
 /// Writes the canonical formula of the problem that one text states without includes.
