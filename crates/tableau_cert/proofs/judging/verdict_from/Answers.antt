@@ -31,10 +31,10 @@ close_by_move-requires-clause-nested c = popped-nested (length c.loop-i.path.ite
 pub close_by_move-requires-clause-normal : goal.close_by_move-requires-clause-normal
 close_by_move-requires-clause-normal c = normal-popped c.loop-i.table c.loop-i.path.items c.loop-i.open_goals.items c.pop.new.self.items c.in-Some.goal c.in-Some.ensures.items c.loop-i.invariant.normal
 
-pub returns-in-Some-2 : goal.returns-in-Some-2
-returns-in-Some-2 c = let P = c.args.problem.now in let x = the_moves c.args.moves.now in let l = c.loop-i in let f = λ (m : Move). closer_of P (the_move c.args.moves.now.table m) in let m = c.index-given_moves-i.result in
-    c.rejected-in-Some-2.ensures ∙ loop-wrong f l.table x.limit (strings_are_short P (bare_instances x)) l.path.items l.open_goals.items c.as_slice-given_moves.result.now l.i _ _ c.pop.new.self.items c.in-Some.goal m m c.in-Some-2.fault l.invariant.same refl c.in-Some.ensures.items c.loop-i-test.true c.index-given_moves-i.is
-    (subst (Takes l.table c.close_by_move.new.table l.path.items c.pop.new.self.items c.close_by_move.new.path.items c.close_by_move.new.open_goals.items (closed_by x.limit (the_open l.table l.path.items c.in-Some.goal) (f m))) c.in-Some-2.is c.in_ok-fault-in-Some.ensures.takes)
+pub returns-in-Some-fault : goal.returns-in-Some-fault
+returns-in-Some-fault c = let P = c.args.problem.now in let x = the_moves c.args.moves.now in let l = c.loop-i in let f = λ (m : Move). closer_of P (the_move c.args.moves.now.table m) in let m = c.index-given_moves-i.result in
+    c.rejected-in-Some-fault.ensures ∙ loop-wrong f l.table x.limit (strings_are_short P (bare_instances x)) l.path.items l.open_goals.items c.as_slice-given_moves.result.now l.i _ _ c.pop.new.self.items c.in-Some.goal m m c.in-Some-fault.fault l.invariant.same refl c.in-Some.ensures.items c.loop-i-test.true c.index-given_moves-i.is
+    (subst (Takes l.table c.close_by_move.new.table l.path.items c.pop.new.self.items c.close_by_move.new.path.items c.close_by_move.new.open_goals.items (closed_by x.limit (the_open l.table l.path.items c.in-Some.goal) (f m))) c.in-Some-fault.is c.in_ok-fault-in-Some.ensures.takes)
 
 pub loop-i-init : goal.loop-i-init
 loop-i-init c = let P = c.args.problem.now in let x = the_moves c.args.moves.now in let ls = c.args.table.now in let mt = c.args.moves.now.table in let gm = c.as_slice-given_moves.result.now in
@@ -55,13 +55,13 @@ loop-i-init c = let P = c.args.problem.now in let x = the_moves c.args.moves.now
 pub loop-i-preserved : goal.loop-i-preserved
 loop-i-preserved c = let P = c.args.problem.now in let x = the_moves c.args.moves.now in let l = c.loop-i in let mt = c.args.moves.now.table in let gm = c.as_slice-given_moves.result.now in
     let f = λ (m : Move). closer_of P (the_move mt m) in let m = c.index-given_moves-i.result in let moved = c.in_ok-fault-in-Some.ensures in
-    let k = subst (Takes l.table c.close_by_move.new.table l.path.items c.pop.new.self.items c.close_by_move.new.path.items c.close_by_move.new.open_goals.items (closed_by x.limit (the_open l.table l.path.items c.in-Some.goal) (f m))) c.in-None-2.is moved.takes in record {
+    let k = subst (Takes l.table c.close_by_move.new.table l.path.items c.pop.new.self.items c.close_by_move.new.path.items c.close_by_move.new.open_goals.items (closed_by x.limit (the_open l.table l.path.items c.in-Some.goal) (f m))) c.in-None-fault.is moved.takes in record {
       grown = grown-both _ _ _ l.invariant.grown moved.grown;
       same = loop-next f l.table x.limit (strings_are_short P (bare_instances x)) l.path.items l.open_goals.items gm l.i _ c.close_by_move.new.table c.pop.new.self.items c.close_by_move.new.open_goals.items c.in-Some.goal c.close_by_move.new.path.items m m l.invariant.same c.in-Some.ensures.items c.loop-i-test.true c.index-given_moves-i.is k;
       nested = k.nested;
       normal = k.normal;
-      steps = steps-so_far P mt gm l.i m m c.loop-i-test.true c.index-given_moves-i.is l.steps c.in_ok-fault-in-Some.more _ _ l.invariant.steps c.steps_with.ensures moved.steps;
-      whole = steps-whole _ _ c.steps_with.ensures;
+      steps = steps-so_far P mt gm l.i m m c.loop-i-test.true c.index-given_moves-i.is l.steps c.in_ok-fault-in-Some.more _ _ l.invariant.steps c.steps_with-steps.ensures moved.steps;
+      whole = steps-whole _ _ c.steps_with-steps.ensures;
     }
 
 pub are_short-short-requires : goal.are_short-short-requires
