@@ -28,4 +28,3 @@ set-is xs k y f within h g = fun_ext (λ i. elim (cases_Bool (k == i)) [
 
 pub counted : (xs : List ℕ) (k y : ℕ) → k < length xs → y ≡ get_or xs k 0 + 1 → counts_of (set xs k y) ≡ plus_one k (counts_of xs)
 counted xs k y within h = set-is xs k y (plus_one k (counts_of xs)) within (rw (eq-eqb k k refl) (omega arith)) (λ i e. rw e (omega arith))
-

@@ -144,4 +144,3 @@ skipping_more skips ts ms from end e within none h = subst (λ xs. IsSkipping xs
   | inl inside ↦ skipping_inside skips ms from end within inside none h
   | inr past ↦ subst (λ xs. IsSkipping xs ms) (sym (set_past skips from end past)) h
 ])
-
