@@ -1,4 +1,4 @@
-# shellcheck shell=bash
+# shellcheck shell=bash disable=SC2154
 # tools/leancop-propositional: what it prints is accepted, and it says so where it finds nothing.
 for given in 'intuitionistic bench/problems/fam/php_p2.p' 'intuitionistic bench/problems/fam/debruijn_p1.p' 'classical bench/problems/pel/p71b.p'; do
     logic="${given%% *}" file="${given#* }"

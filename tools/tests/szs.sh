@@ -112,6 +112,7 @@ rests_on() { # rests_on WHAT WORD..
 problem 'fof(c,conjecture,(p => q) => (q => p)).'
 rests_on 'proved: there are truth values at which the formula is false' "$folder/m.p"
 rests_on 'not proved here, but by Wallen: a valid formula has instances that span' --logic=intuitionistic "$folder/m.p"
+# shellcheck disable=SC2016 # LIMIT is that of the run
 printf '%s\n' '#!/bin/sh' 'case $1 in prove) echo "exhausted at limit $LIMIT" && exit 1 ;; esac' "exec '$LEANCOP' \"\$@\"" >"$folder/second"
 export LIMIT=1
 LEANCOP="$folder/second" status_of 'GaveUp for m.p' 1 "$folder/m.p"
