@@ -1,7 +1,7 @@
 -- Ground values have different texts, also where more bytes follow that cannot go on with one.
 use Rattle.std.proofs.Common.{◌≡◌, ℕ, List, [], ◌∷◌, ◌++◌, length, Bool, true, false, ◌||◌, ◌==◌, IsTrue, refl, sym, ◌∙◌, ap, append_assoc, decimal, codes, flat_map, if◌then◌else◌}
 use Rattle.std.specs.List.{list_all}
-use Rattle.std.proofs.lemmas.Bool.{true≢false, false≢true, and_parts}
+use Rattle.std.proofs.lemmas.Bool.{true≢false, false≢true, and_parts, or_left}
 use Rattle.calculus.specs.Syntax.{Symbol}
 use Rattle.calculus.specs.Problems.{are_distinct}
 use Rattle.calculus.specs.Skolem.{has_function}
@@ -58,10 +58,6 @@ name-begins a r s b e = by (is_lower_word a) refl
 abbrev begins_ground : ℕ → Bool
 begins_ground b = begins_name b || b == 36
 
-or-left : (a b : Bool) → a ≡ true → (a || b) ≡ true
-or-left true b h = refl
-or-left false b h = absurd (false≢true h)
-
 -- a function symbol's text, with its arguments and what follows
 fun-on : (S : List Symbol) (f n : ℕ) (x : Symbol) (ts : GroundTerms) (r : List ℕ) → FunctionAt S f n x → ground_text S (g_fun f ts) ++ r ≡ name_text x.name ++ (ground_args_text S ts ++ r)
 fun-on S f n x ts r h = append_assoc (symbol_at S f) (ground_args_text S ts) r ∙ ap (λ l. l ++ (ground_args_text S ts ++ r)) (name-at S f n x h)
@@ -70,13 +66,13 @@ ground-begins : (S : List Symbol) (t : GroundTerm) (r s : List ℕ) (b : ℕ) �
 ground-begins S (g_fun f ts) r s b h e =
     let p = and_parts (has_function S f (length (g_terms_list ts))) (grounds_are_written S ts) h in
     let x = function-at S f (length (g_terms_list ts)) p.0 in
-    or-left (begins_name b) (b == 36) (name-begins x.0.name (ground_args_text S ts ++ r) s b (sym (fun-on S f (length (g_terms_list ts)) x.0 ts r x.1) ∙ e))
+    or_left (begins_name b) (b == 36) (name-begins x.0.name (ground_args_text S ts ++ r) s b (sym (fun-on S f (length (g_terms_list ts)) x.0 ts r x.1) ∙ e))
 ground-begins S (g_eigen p vs) r s b h e = ap begins_ground (sym (cons-head e))
 ground-begins S (common k) r s b h e = ap begins_ground (sym (cons-head e))
 ground-begins S (own k w) r s b h e = ap begins_ground (sym (cons-head e))
 
 value-begins : (S : List Symbol) (v : Value) (r s : List ℕ) (b : ℕ) → IsTrue (value_is_written S v) → value_text S v ++ r ≡ b ∷ s → (begins_ground b || b == 91) ≡ true
-value-begins S (term t) r s b h e = or-left (begins_ground b) (b == 91) (ground-begins S t r s b h e)
+value-begins S (term t) r s b h e = or_left (begins_ground b) (b == 91) (ground-begins S t r s b h e)
 value-begins S (steps no_marks) r s b h e = ap (λ k. begins_ground k || k == 91) (sym (cons-head e))
 value-begins S (steps (more_marks m ms)) r s b h e = ap (λ k. begins_ground k || k == 91) (sym (cons-head e))
 

@@ -3,6 +3,7 @@ use Rattle.std.proofs.Common.{◌≡◌, ℕ, suc, ◌+◌, List, [], ◌∷◌,
 use Rattle.std.specs.List.{list_all, fold}
 use Rattle.std.specs.Option.{option_map_or}
 use Rattle.std.proofs.lemmas.Bool.{true≢false, and_parts}
+use Rattle.std.proofs.lemmas.List.{append-nil, map-append}
 use Rattle.calculus.specs.declared.fault.TableauFault.{TableauFault}
 use Rattle.calculus.specs.declared.fault.TableauFault.TheVariants as fault
 use Rattle.calculus.specs.Syntax.{Problem}
@@ -88,14 +89,6 @@ mutual
 
 -- ---- the strings
 
-map-append : {A B : Type 0} (f : A → B) (xs ys : List A) → map f (xs ++ ys) ≡ map f xs ++ map f ys
-map-append f [] ys = refl
-map-append f (x ∷ xs) ys = ap (λ zs. f x ∷ zs) (map-append f xs ys)
-
-append-none : {A : Type 0} (xs : List A) → xs ++ [] ≡ xs
-append-none [] = refl
-append-none (x ∷ xs) = ap (λ ys. x ∷ ys) (append-none xs)
-
 mutual
   chosen-below : (c : Closing) (ms : List Move) → map bare (moves_chosen (moves_of c ++ ms)) ≡ map (λ i. bare (chosen_of i)) (instances_below c) ++ map bare (moves_chosen ms)
   chosen-below (reduce up) ms = refl
@@ -122,7 +115,7 @@ bare-strings b [] = refl
 bare-strings b (i ∷ is) = ap (λ c. strings_within b i && c) (bare-strings b is)
 
 bare-all : (t : Tableau) (d : ℕ) → bare_instances (tableau_moves t d) ≡ map (λ i. bare (chosen_of i)) (instances t)
-bare-all t d = ap (λ xs. bare (chosen_of t.start) ∷ xs) (ap (λ xs. map bare (moves_chosen xs)) (sym (append-none (moves_of_all t.goals))) ∙ chosen-all t.goals [] ∙ append-none (map (λ i. bare (chosen_of i)) (instances_of_all t.goals)))
+bare-all t d = ap (λ xs. bare (chosen_of t.start) ∷ xs) (ap (λ xs. map bare (moves_chosen xs)) (sym (append-nil (moves_of_all t.goals))) ∙ chosen-all t.goals [] ∙ append-nil (map (λ i. bare (chosen_of i)) (instances_of_all t.goals)))
 
 same-strings : (P : Problem) (t : Tableau) (d : ℕ) → strings_are_short P (bare_instances (tableau_moves t d)) ≡ is_short P t
 same-strings P t d =
@@ -139,7 +132,7 @@ closed-accepted P t d h =
     let last : (n : ℕ) → end_verdict P x n ≡ tableau_accepted = λ n. ap (λ b. if b then tableau_accepted else tableau_rejected n fault.StringTooLong) (same-strings P t d ∙ a.1) in
     ap (start_verdict P x) (allowed-literals P t.start c.0)
     ∙ ap (λ b. if b then moves_verdict P d (end_verdict P x) (below [] t.start.literals) (moves_of_all t.goals) 6 else tableau_rejected 5 fault.NotPositive) c.1
-    ∙ sym (λ i. moves_verdict P d (end_verdict P x) (append-none (below [] t.start.literals) i) (append-none (moves_of_all t.goals) i) 6)
+    ∙ sym (λ i. moves_verdict P d (end_verdict P x) (append-nil (below [] t.start.literals) i) (append-nil (moves_of_all t.goals) i) 6)
     ∙ all-accept P d (end_verdict P x) [] t.start.literals t.goals [] [] b.1 last 6
 
 -- ---- from acceptance to a closed tableau
@@ -299,7 +292,7 @@ made P x ls allowed shown r =
     let start : ClauseInstance = record { selection = x.start.sides; values = x.start.values; literals = ls } in
     let s = parted P x.limit [] ls [] r.found.closings r.found.closed in
     let t : Tableau = record { start = start; goals = s.first } in
-    let moves : moves_of_all s.first ≡ x.moves = sym (append-none (moves_of_all s.first)) ∙ ap (λ ms. moves_of_all s.first ++ ms) (sym (none-left P x.limit s.second s.others)) ∙ sym s.moves ∙ r.found.moves in
+    let moves : moves_of_all s.first ≡ x.moves = sym (append-nil (moves_of_all s.first)) ∙ ap (λ ms. moves_of_all s.first ++ ms) (sym (none-left P x.limit s.second s.others)) ∙ sym s.moves ∙ r.found.moves in
     let same : tableau_moves t x.limit ≡ x = λ i. record { limit = x.limit; start = x.start; moves = moves i } in
     let short : IsTrue (is_short P t) = sym (same-strings P t x.limit) ∙ ap (λ y. strings_are_short P (bare_instances y)) same ∙ short-at P x r.line r.ended in
     let one = and-both (is_allowed_instance P start) (list_all is_shown ls) allowed shown in
@@ -311,7 +304,7 @@ pub accepted-closed : (P : Problem) (x : Moves) → tableau_verdict P x ≡ tabl
 accepted-closed P x e = by (literals_of P x.start) refl e
   where
     shown : (ls : List GroundLiteral) → literals_of P x.start ≡ Ok ls → (b : Bool) → list_all is_shown ls ≡ b → (if b then moves_verdict P x.limit (end_verdict P x) (below [] ls) x.moves 6 else tableau_rejected 5 fault.NotPositive) ≡ tableau_accepted → ClosedBy P x
-    shown ls l true c h = made P x ls (literals-allowed P x.start ls l) c (find P x.limit (end_verdict P x) (below [] ls ++ []) x.moves 6 (root-new ls) (ap (λ gs. moves_verdict P x.limit (end_verdict P x) gs x.moves 6) (append-none (below [] ls)) ∙ h))
+    shown ls l true c h = made P x ls (literals-allowed P x.start ls l) c (find P x.limit (end_verdict P x) (below [] ls ++ []) x.moves 6 (root-new ls) (ap (λ gs. moves_verdict P x.limit (end_verdict P x) gs x.moves 6) (append-nil (below [] ls)) ∙ h))
     shown ls l false c h = absurd (not_accepted h)
 
     by : (r : Result (List GroundLiteral) TableauFault) → literals_of P x.start ≡ r → start_verdict P x r ≡ tableau_accepted → ClosedBy P x

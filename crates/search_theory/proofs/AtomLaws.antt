@@ -3,6 +3,7 @@
 use Rattle.std.proofs.Common.{◌≡◌, ◌⊎◌, ℕ, zero, suc, ◌<◌, List, [], ◌∷◌, ◌++◌, Bool, true, false, ◌||◌, IsTrue, refl, sym, ◌∙◌, ap, ap₂, Option, Some, None, slice_get, inl, inr, arith, append_assoc}
 use Rattle.std.specs.List.{list_all, AllByRecursion}
 use Rattle.std.proofs.lemmas.Bool.{false≢true, and_parts}
+use Rattle.std.proofs.lemmas.List.{append-nil}
 use Rattle.calculus.specs.declared.sort.Sort.TheVariants.{TermSort, MarkSort, StringSort}
 use Rattle.calculus.specs.Ground.{GroundTerms, GroundMark, GroundLiteral, Values, no_g_terms, more_g_terms, g_spare_mark, no_values, more_values, term, steps, marks_tree, values_tree}
 use Rattle.store_theory.specs.Stores.{Cell, variable, fun_cell, eigen_cell, new_cell, string_cell, Store, sort_of, parts_of, parts_fit, has_sort_at, is_store, CellValue, a_term, a_mark, a_string, has_sort, Solution, terms_at, label_at, join_label, marks_at, values_at, cons_value, Solves}
@@ -77,10 +78,6 @@ all-append : {A : Type 0} (Q : A → Type 0) (xs ys : List A) → AllByRecursion
 all-append Q [] ys h k = k
 all-append Q (x ∷ xs) ys h k = (h.0, all-append Q xs ys h.1 k)
 
-append-none : {A : Type 0} (xs : List A) → xs ++ [] ≡ xs
-append-none [] = refl
-append-none (x ∷ xs) = ap (λ ys. x ∷ ys) (append-none xs)
-
 marks-places : (In : ℕ → Type 0) (s : Store) (rs : List ℕ) → ((k : ℕ) → IsPart k rs → In k) → IsTrue (list_all (has_sort_at s MarkSort) rs) → AllByRecursion (IsPlace In s) rs
 marks-places In s [] h f = tt
 marks-places In s (r ∷ rs) h f = let p = and_parts (has_sort_at s MarkSort r) (list_all (has_sort_at s MarkSort) rs) f in ((h r (0, refl), inl p.0), marks-places In s rs (λ k q. h k (suc q.0, q.1)) p.1)
@@ -104,7 +101,7 @@ string-places In s rank bound h ranked parts (suc n) r c l b e t = by c e t (cel
     by (fun_cell x rs) g w f ih = absurd (false≢true w)
     by (eigen_cell x rs) g w f ih = absurd (false≢true w)
     by (new_cell x rs) g w f ih = absurd (false≢true w)
-    by (string_cell rs) g w f ih = record { places = rs; each = marks-places In s rs (λ k p. parts r k (string_cell rs) b g p) f; are_label = λ σ solves. (let q = solves r (string_cell rs) g in marks_at-by σ rs q.0 q.1 ∙ sym (append-none q.0) ∙ ap (λ v. as_label v ++ []) (sym q.2)) }
+    by (string_cell rs) g w f ih = record { places = rs; each = marks-places In s rs (λ k p. parts r k (string_cell rs) b g p) f; are_label = λ σ solves. (let q = solves r (string_cell rs) g in marks_at-by σ rs q.0 q.1 ∙ sym (append-nil q.0) ∙ ap (λ v. as_label v ++ []) (sym q.2)) }
 
 pub places-of : (In : ℕ → Type 0) (s : Store) (rank : ℕ → ℕ) (bound : ℕ) → IsTrue (is_store s) → IsRanked s rank bound → KeepsParts In s → (ws : List ℕ) → ((k : ℕ) → IsPart k ws → In k) → IsTrue (is_label s ws) → PlacesOf In s ws
 places-of In s rank bound h ranked parts [] i k = record { places = []; each = tt; are_label = λ σ solves. refl }
@@ -120,7 +117,7 @@ places-of In s rank bound h ranked parts (w ∷ ws) i k =
     join rest first = record {
       places = first.places ++ rest.places;
       each = all-append (IsPlace In s) first.places rest.places first.each rest.each;
-      are_label = λ σ solves. label-append σ first.places rest.places ∙ ap₂ (λ a b. a ++ b) (first.are_label σ solves ∙ append-none (as_label (σ w))) (rest.are_label σ solves);
+      are_label = λ σ solves. label-append σ first.places rest.places ∙ ap₂ (λ a b. a ++ b) (first.are_label σ solves ∙ append-nil (as_label (σ w))) (rest.are_label σ solves);
     }
 
 -- ---- place by place

@@ -1,7 +1,7 @@
 -- The label that is followed by cells is the home of the eigenvariable, by each ground solution.
 use Rattle.std.proofs.Common.{◌≡◌, ℕ, List, [], ◌∷◌, ◌++◌, false, IsTrue, refl, sym, ◌∙◌, ap, Some}
 use Rattle.std.proofs.lemmas.Bool.{false≢true}
-use Rattle.std.proofs.lemmas.List.{map-append}
+use Rattle.std.proofs.lemmas.List.{map-append, append-nil}
 use Rattle.calculus.specs.declared.sort.Sort.TheVariants.{TermSort, StringSort}
 use Rattle.calculus.specs.declared.setting.Logic.{Logic}
 use Rattle.calculus.specs.declared.setting.Logic.TheVariants.{Classical, Intuitionistic, D, T as LogicT, S4, S5}
@@ -19,17 +19,13 @@ use Rattle.search_theory.specs.HomeCells.{CellReached, PassesModal, by_plain, by
 use Rattle.search_theory.proofs.BuildingLaws.{solved-sorted}
 use Rattle.search_theory.proofs.AtomLaws.{values_at-by, label-append}
 
-append-none : {A : Type 0} (xs : List A) → xs ++ [] ≡ xs
-append-none [] = refl
-append-none (x ∷ xs) = ap (λ ys. x ∷ ys) (append-none xs)
-
 nu-next : (l : Logic) (σ : Solution) (w : List ℕ) (r : ℕ) → nu_label l (label_by σ w) (as_label (σ r)) ≡ label_by σ (pi_label l w r)
-nu-next Classical σ w r = ap (λ v. label_by σ w ++ v) (sym (append-none (as_label (σ r)))) ∙ sym (label-append σ w (r ∷ []))
-nu-next Intuitionistic σ w r = ap (λ v. label_by σ w ++ v) (sym (append-none (as_label (σ r)))) ∙ sym (label-append σ w (r ∷ []))
-nu-next D σ w r = ap (λ v. label_by σ w ++ v) (sym (append-none (as_label (σ r)))) ∙ sym (label-append σ w (r ∷ []))
-nu-next LogicT σ w r = ap (λ v. label_by σ w ++ v) (sym (append-none (as_label (σ r)))) ∙ sym (label-append σ w (r ∷ []))
-nu-next S4 σ w r = ap (λ v. label_by σ w ++ v) (sym (append-none (as_label (σ r)))) ∙ sym (label-append σ w (r ∷ []))
-nu-next S5 σ w r = sym (append-none (as_label (σ r)))
+nu-next Classical σ w r = ap (λ v. label_by σ w ++ v) (sym (append-nil (as_label (σ r)))) ∙ sym (label-append σ w (r ∷ []))
+nu-next Intuitionistic σ w r = ap (λ v. label_by σ w ++ v) (sym (append-nil (as_label (σ r)))) ∙ sym (label-append σ w (r ∷ []))
+nu-next D σ w r = ap (λ v. label_by σ w ++ v) (sym (append-nil (as_label (σ r)))) ∙ sym (label-append σ w (r ∷ []))
+nu-next LogicT σ w r = ap (λ v. label_by σ w ++ v) (sym (append-nil (as_label (σ r)))) ∙ sym (label-append σ w (r ∷ []))
+nu-next S4 σ w r = ap (λ v. label_by σ w ++ v) (sym (append-nil (as_label (σ r)))) ∙ sym (label-append σ w (r ∷ []))
+nu-next S5 σ w r = sym (append-nil (as_label (σ r)))
 
 pi-next : (l : Logic) (σ : Solution) (w : List ℕ) (k : ℕ) (m : GroundMark) → σ k ≡ a_mark m → pi_label l (label_by σ w) m ≡ label_by σ (pi_label l w k)
 pi-next Classical σ w k m e = ap (λ v. label_by σ w ++ (as_label v ++ [])) (sym e) ∙ sym (label-append σ w (k ∷ []))

@@ -1,7 +1,7 @@
 -- A state without open goals has a closed tableau with its choice list exactly where its system has a bounded solution.
-use Rattle.std.proofs.Common.{◌≡◌, ℕ, suc, ◌≤◌, ◌==◌, List, [], ◌∷◌, ◌++◌, length, map, Bool, true, false, not, ◌||◌, IsTrue, refl, sym, ◌∙◌, ap, ap₂, subst, Some, nat_le, sum_by, arith, eqb-true, eq-eqb, filter_map, if◌then◌else◌}
+use Rattle.std.proofs.Common.{◌≡◌, ℕ, suc, ◌≤◌, ◌==◌, List, [], ◌∷◌, ◌++◌, length, map, Bool, true, false, not, IsTrue, refl, sym, ◌∙◌, ap, ap₂, subst, Some, nat_le, sum_by, arith, eqb-true, eq-eqb, filter_map, if◌then◌else◌}
 use Rattle.std.specs.List.{list_all, list_any, AllByRecursion}
-use Rattle.std.proofs.lemmas.Bool.{false≢true, and_parts, and_from}
+use Rattle.std.proofs.lemmas.Bool.{false≢true, and_parts, and_from, not-true, or_parts, or_from}
 use Rattle.calculus.specs.declared.setting.Logic.{Logic}
 use Rattle.calculus.specs.declared.setting.Logic.TheVariants.{Classical, Intuitionistic, D, T as LogicT, S4, S5}
 use Rattle.calculus.specs.Syntax.{Problem}
@@ -31,18 +31,6 @@ use Rattle.search_theory.proofs.JoinedLaws.{joined-closed}
 
 -- ---- pairs and regularity
 
-not-true : (b : Bool) → not b ≡ true → b ≡ false
-not-true true e = absurd (false≢true e)
-not-true false e = refl
-
-or-none : (a b : Bool) → (a || b) ≡ false → (a ≡ false) × (b ≡ false)
-or-none true b e = absurd (false≢true (sym e))
-or-none false b e = (refl, e)
-
-or-not : (a b : Bool) → a ≡ false → b ≡ false → (a || b) ≡ false
-or-not true b e f = absurd (false≢true (sym e))
-or-not false b e f = f
-
 unlike : (x y : GroundLiteral) → literal_eq x y ≡ false → literal_eq y x ≡ false
 unlike x y e = by (literal_eq y x) refl
   where
@@ -58,13 +46,13 @@ by-differ σ p (x, y, hx, hy, e) = ap₂ literal_eq (sym (literal-by σ p.upper 
 
 new-by_pairs : (σ : Solution) (a : CellAtom) (path : List CellAtom) → AllByRecursion (Differ σ) (pairs_with a path) → list_any (literal_eq (literal_by σ a)) (map (literal_by σ) path) ≡ false
 new-by_pairs σ a [] h = refl
-new-by_pairs σ a (b ∷ path) h = or-not (literal_eq (literal_by σ a) (literal_by σ b)) (list_any (literal_eq (literal_by σ a)) (map (literal_by σ) path)) (unlike (literal_by σ b) (literal_by σ a) (by-differ σ (record { upper = b; lower = a }) h.0)) (new-by_pairs σ a path h.1)
+new-by_pairs σ a (b ∷ path) h = or_from (literal_eq (literal_by σ a) (literal_by σ b)) (list_any (literal_eq (literal_by σ a)) (map (literal_by σ) path)) (unlike (literal_by σ b) (literal_by σ a) (by-differ σ (record { upper = b; lower = a }) h.0)) (new-by_pairs σ a path h.1)
 
 pairs-by_new : (s : Store) (σ : Solution) → Solves s σ → (a : CellAtom) (path : List CellAtom) → IsTrue (list_all (is_pair s) (pairs_with a path)) → list_any (literal_eq (literal_by σ a)) (map (literal_by σ) path) ≡ false → AllByRecursion (Differ σ) (pairs_with a path)
 pairs-by_new s σ t a [] h e = tt
 pairs-by_new s σ t a (b ∷ path) h e =
     let p = and_parts (is_pair s (record { upper = b; lower = a })) (list_all (is_pair s) (pairs_with a path)) h in
-    let q = or-none (literal_eq (literal_by σ a) (literal_by σ b)) (list_any (literal_eq (literal_by σ a)) (map (literal_by σ) path)) e in
+    let q = or_parts (literal_eq (literal_by σ a) (literal_by σ b)) (list_any (literal_eq (literal_by σ a)) (map (literal_by σ) path)) e in
     (differ-by s σ t (record { upper = b; lower = a }) p.0 (unlike (literal_by σ a) (literal_by σ b) q.0), pairs-by_new s σ t a path p.1 q.1)
 
 pub all-apart : {A : Type 0} (Q : A → Type 0) (xs ys : List A) → AllByRecursion Q (xs ++ ys) → AllByRecursion Q xs × AllByRecursion Q ys
