@@ -4,12 +4,14 @@ ghost use Rattle.std.specs.Prelude.{◌≡◌, ◌≤◌, ◌-◌, IfOk, true};
 ghost use Rattle.search_theory.specs.Matrix.{IsTemplateMatrix};
 ghost use Rattle.connection_search.specs.Outcomes.{IfEnded, IsDeepAnswer};
 
-use crate::searching::{Outcome, search_new};
+use crate::pruning::Pruning;
+use crate::searching::{Outcome, search_sized};
 use cop_base::{Ledger, NoMemory, PathLimit};
 use logic_rules::Problem;
 use matrix_build::Matrix;
 use std::alloc::Global;
 use tableau_core::{SizedProblem, Tableau};
+use term_store::Store;
 
 /// What deepening answers.
 #[derive(Drop)]
@@ -24,13 +26,14 @@ pub enum Answer {
     Steps { limit: u8 },
 }
 
-// As `deepen`, where the sizes of the problem's parts are known.
-fn deepen_sized(
+// As `deepen`, where the sizes of the problem's parts are known, over one store for all limits.
+fn deepen_sized<'a>(
     alloc: Global,
-    problem: &SizedProblem,
-    matrix: &Matrix,
+    problem: &'a SizedProblem<'a>,
+    matrix: &'a Matrix,
     max_limit: PathLimit,
     ledger: &mut Ledger,
+    store: &mut Store,
 ) -> Result<Answer, NoMemory>
     requires { IsTemplateMatrix problem.now matrix.now }
     ensures answer { IfOk result
@@ -42,7 +45,7 @@ fn deepen_sized(
     for passed in 0..max_limit.number {
         let number = passed + 1;
         let limit = PathLimit { number };
-        match search_new(alloc, problem, matrix, limit, ledger)? {
+        match search_sized(alloc, problem, matrix, limit, ledger, store, Pruning::all())? {
             Outcome::Closed(tableau) => {
                 return Ok(Answer::Closed {
                     limit: number,
@@ -79,5 +82,6 @@ pub fn deepen(
     ensures budget { ledger.new.budget ≡ ledger.old.budget }
 {
     let sized = SizedProblem::new(alloc, problem)?;
-    deepen_sized(alloc, &sized, matrix, max_limit, ledger)
+    let mut store = Store::new(alloc)?;
+    deepen_sized(alloc, &sized, matrix, max_limit, ledger, &mut store)
 }

@@ -158,7 +158,7 @@ impl LimitSearch<'_> {
 }
 
 // As `search_with`, where the sizes of the problem's parts are known.
-fn search_sized<'a>(
+pub(crate) fn search_sized<'a>(
     alloc: Global,
     problem: &'a SizedProblem<'a>,
     matrix: &'a Matrix,
@@ -190,36 +190,6 @@ fn search_sized<'a>(
     let outcome = space.run(alloc, ledger, store);
     store.undo(start);
     outcome
-}
-
-// As `search`, where the sizes of the problem's parts are known.
-pub(crate) fn search_new(
-    alloc: Global,
-    problem: &SizedProblem,
-    matrix: &Matrix,
-    limit: PathLimit,
-    ledger: &mut Ledger,
-) -> Result<Outcome, NoMemory>
-    requires { IsTemplateMatrix problem.now matrix.now }
-    ensures outcome { IfOk result (IsOutcome problem.now limit.number) }
-    ensures steps { IfOk result (λ o. IfSteps o ((ledger.new.used ≡ ledger.new.budget)
-        × MoreThan member_cmp (IsEarly problem.now limit.number)
-        (ledger.old.budget - ledger.old.used))) }
-    ensures count { AtLeastMany member_cmp (IsEarly problem.now limit.number)
-        (ledger.new.used - ledger.old.used) }
-    ensures rises { ledger.old.used ≤ ledger.new.used }
-    ensures budget { ledger.new.budget ≡ ledger.old.budget }
-{
-    let mut store = Store::new(alloc)?;
-    search_sized(
-        alloc,
-        problem,
-        matrix,
-        limit,
-        ledger,
-        &mut store,
-        Pruning::all(),
-    )
 }
 
 /// Searches for a tableau that is closed within the limit, over new cells of the store, which are
@@ -294,6 +264,6 @@ pub fn search(
     ensures rises { ledger.old.used ≤ ledger.new.used }
     ensures budget { ledger.new.budget ≡ ledger.old.budget }
 {
-    let sized = SizedProblem::new(alloc, problem)?;
-    search_new(alloc, &sized, matrix, limit, ledger)
+    let mut store = Store::new(alloc)?;
+    search_in(alloc, problem, matrix, limit, ledger, &mut store)
 }

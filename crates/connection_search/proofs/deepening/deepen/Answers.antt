@@ -21,3 +21,6 @@ returns-clause-rises c = c.deepen_sized.ensures.rises
 
 pub returns-clause-budget : goal.returns-clause-budget
 returns-clause-budget c = c.deepen_sized.ensures.budget
+
+pub returns-in_err-store-clause-rises : goal.returns-in_err-store-clause-rises
+returns-in_err-store-clause-rises c = omega arith

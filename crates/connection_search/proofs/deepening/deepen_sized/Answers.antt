@@ -9,14 +9,14 @@ use Rattle.connection_search.proofs.deepening.deepen_sized.Goals as goal
 pub loop-passed-init : goal.loop-passed-init
 loop-passed-init c = record { passed = deepened-none c.args.problem.now c.args.ledger.now.used; budget = refl }
 
-pub search_new-requires : goal.search_new-requires
-search_new-requires c = c.requires
+pub search_sized-requires : goal.search_sized-requires
+search_sized-requires c = c.requires
 
 pub returns-in_err-tableau-clause-rises : goal.returns-in_err-tableau-clause-rises
-returns-in_err-tableau-clause-rises c = let a = c.loop-passed.invariant.passed.rises in let b = c.search_new.ensures.rises in omega (arith, a, b)
+returns-in_err-tableau-clause-rises c = let a = c.loop-passed.invariant.passed.rises in let b = c.search_sized.ensures.rises in omega (arith, a, b)
 
 pub returns-in_err-tableau-clause-budget : goal.returns-in_err-tableau-clause-budget
-returns-in_err-tableau-clause-budget c = c.search_new.ensures.budget ∙ c.loop-passed.invariant.budget
+returns-in_err-tableau-clause-budget c = c.search_sized.ensures.budget ∙ c.loop-passed.invariant.budget
 
 pub returns-in-Closed-clause-answer : goal.returns-in-Closed-clause-answer
 returns-in-Closed-clause-answer c =
@@ -25,10 +25,10 @@ returns-in-Closed-clause-answer c =
     (deepened-derived c.args.problem.now c.args.max_limit.number c.loop-passed.passed c.args.ledger.now.used c.loop-passed.ledger.used c.loop-passed.invariant.passed l (record { tableau = the_tableau c.in-Closed.tableau; closed = closed }), closed)
 
 pub returns-in-Closed-clause-rises : goal.returns-in-Closed-clause-rises
-returns-in-Closed-clause-rises c = let a = c.loop-passed.invariant.passed.rises in let b = c.search_new.ensures.rises in omega (arith, a, b)
+returns-in-Closed-clause-rises c = let a = c.loop-passed.invariant.passed.rises in let b = c.search_sized.ensures.rises in omega (arith, a, b)
 
 pub returns-in-Closed-clause-budget : goal.returns-in-Closed-clause-budget
-returns-in-Closed-clause-budget c = c.search_new.ensures.budget ∙ c.loop-passed.invariant.budget
+returns-in-Closed-clause-budget c = c.search_sized.ensures.budget ∙ c.loop-passed.invariant.budget
 
 pub returns-in-Steps-clause-answer : goal.returns-in-Steps-clause-answer
 returns-in-Steps-clause-answer c =
@@ -41,10 +41,10 @@ pub returns-in-Steps-clause-ended : goal.returns-in-Steps-clause-ended
 returns-in-Steps-clause-ended c = let ended = rw c.in-Steps.is at c.in_ok-tableau.ensures.steps in ended.0
 
 pub returns-in-Steps-clause-rises : goal.returns-in-Steps-clause-rises
-returns-in-Steps-clause-rises c = let a = c.loop-passed.invariant.passed.rises in let b = c.search_new.ensures.rises in omega (arith, a, b)
+returns-in-Steps-clause-rises c = let a = c.loop-passed.invariant.passed.rises in let b = c.search_sized.ensures.rises in omega (arith, a, b)
 
 pub returns-in-Steps-clause-budget : goal.returns-in-Steps-clause-budget
-returns-in-Steps-clause-budget c = c.search_new.ensures.budget ∙ c.loop-passed.invariant.budget
+returns-in-Steps-clause-budget c = c.search_sized.ensures.budget ∙ c.loop-passed.invariant.budget
 
 pub returns-then-not-left-clause-answer : goal.returns-then-not-left-clause-answer
 returns-then-not-left-clause-answer c =
@@ -53,17 +53,17 @@ returns-then-not-left-clause-answer c =
     deepened-no_tableau c.args.problem.now c.args.max_limit.number c.loop-passed.passed c.args.ledger.now.used c.loop-passed.ledger.used c.loop-passed.invariant.passed l none.0 (λ left. false≢true (sym c.if-not-left.true ∙ none.2 left))
 
 pub returns-then-not-left-clause-rises : goal.returns-then-not-left-clause-rises
-returns-then-not-left-clause-rises c = let a = c.loop-passed.invariant.passed.rises in let b = c.search_new.ensures.rises in omega (arith, a, b)
+returns-then-not-left-clause-rises c = let a = c.loop-passed.invariant.passed.rises in let b = c.search_sized.ensures.rises in omega (arith, a, b)
 
 pub returns-then-not-left-clause-budget : goal.returns-then-not-left-clause-budget
-returns-then-not-left-clause-budget c = c.search_new.ensures.budget ∙ c.loop-passed.invariant.budget
+returns-then-not-left-clause-budget c = c.search_sized.ensures.budget ∙ c.loop-passed.invariant.budget
 
 pub loop-passed-preserved : goal.loop-passed-preserved
 loop-passed-preserved c =
     let none = rw c.in-Empty.is at c.in_ok-tableau.ensures.outcome in
     record {
-      passed = deepened-more c.args.problem.now c.loop-passed.passed c.args.ledger.now.used c.loop-passed.ledger.used c.search_new.new.ledger.used c.loop-passed.invariant.passed none.0 (none.1 c.if-not-left.false) c.search_new.ensures.rises c.search_new.ensures.count;
-      budget = c.search_new.ensures.budget ∙ c.loop-passed.invariant.budget;
+      passed = deepened-more c.args.problem.now c.loop-passed.passed c.args.ledger.now.used c.loop-passed.ledger.used c.search_sized.new.ledger.used c.loop-passed.invariant.passed none.0 (none.1 c.if-not-left.false) c.search_sized.ensures.rises c.search_sized.ensures.count;
+      budget = c.search_sized.ensures.budget ∙ c.loop-passed.invariant.budget;
     }
 
 pub returns-clause-answer : goal.returns-clause-answer

@@ -1,31 +1,26 @@
-use Rattle.std.proofs.Common.{◌≡◌, ◌-◌, [], arith, refl, subst, sym}
-use Rattle.std.specs.Prelude.{IfOk}
-use Rattle.calculus.specs.Counting.{AtLeastMany, MoreThan}
-use Rattle.calculus.specs.Space.{IsEarly, member_cmp}
-use Rattle.search_theory.specs.Matrix.{IsTemplateMatrix}
-use Rattle.connection_search.specs.Outcomes.{IfSteps, IsOutcome}
+use Rattle.std.proofs.Common.{[], arith}
 use Rattle.connection_search.proofs.searching.search.Goals as goal
 
-pub returns-in_err-sized-clause-count : goal.returns-in_err-sized-clause-count
-returns-in_err-sized-clause-count c = ([], record { rising = tt; members = tt }, omega arith)
+pub returns-in_err-store-clause-count : goal.returns-in_err-store-clause-count
+returns-in_err-store-clause-count c = ([], record { rising = tt; members = tt }, omega arith)
 
-pub returns-in_err-sized-clause-rises : goal.returns-in_err-sized-clause-rises
-returns-in_err-sized-clause-rises c = omega arith
+pub returns-in_err-store-clause-rises : goal.returns-in_err-store-clause-rises
+returns-in_err-store-clause-rises c = omega arith
 
-pub search_new-requires : goal.search_new-requires
-search_new-requires c = subst (λ P. IsTemplateMatrix P c.args.matrix.now) (sym c.in_ok-sized.ensures) c.requires
+pub search_in-requires : goal.search_in-requires
+search_in-requires c = c.requires
 
 pub returns-clause-outcome : goal.returns-clause-outcome
-returns-clause-outcome c = subst (λ P. IfOk c.search_new.result (IsOutcome P c.args.limit.number)) c.in_ok-sized.ensures c.search_new.ensures.outcome
+returns-clause-outcome c = c.search_in.ensures.outcome
 
 pub returns-clause-steps : goal.returns-clause-steps
-returns-clause-steps c = subst (λ P. IfOk c.search_new.result (λ o. IfSteps o ((c.search_new.new.ledger.used ≡ c.search_new.new.ledger.budget) × MoreThan member_cmp (IsEarly P c.args.limit.number) (c.args.ledger.now.budget - c.args.ledger.now.used)))) c.in_ok-sized.ensures c.search_new.ensures.steps
+returns-clause-steps c = c.search_in.ensures.steps
 
 pub returns-clause-count : goal.returns-clause-count
-returns-clause-count c = subst (λ P. AtLeastMany member_cmp (IsEarly P c.args.limit.number) (c.search_new.new.ledger.used - c.args.ledger.now.used)) c.in_ok-sized.ensures c.search_new.ensures.count
+returns-clause-count c = c.search_in.ensures.count
 
 pub returns-clause-rises : goal.returns-clause-rises
-returns-clause-rises c = c.search_new.ensures.rises
+returns-clause-rises c = c.search_in.ensures.rises
 
 pub returns-clause-budget : goal.returns-clause-budget
-returns-clause-budget c = c.search_new.ensures.budget
+returns-clause-budget c = c.search_in.ensures.budget
