@@ -22,12 +22,12 @@
 -- cases of the command (`prove-decided`, `check-decided`, and `search-decided` for both commands that search). `NoIncludes.none-missing`:
 -- no byte of a generated text is a quote (`text-unquoted`), so no token of it is a quoted name (`tokens-plain`), no item an include
 -- (`items-not`), and no file is missing. `Made`: what is read of a generated text (`read_text`), and why reading it ends (`by_reading`).
--- `Tableaux`: the text of a closed tableau is accepted and has no other judgement (`stated`, by `text-accepted` and
--- `tableau_judgement-unique` of `calculus`), its limit can be written (`stated-limit`), and what is accepted is such a text
--- (`ends-accepted`). `ModelLaws`: what is told of a structure is the one judgement of its bytes (`ends-true`, `ends-false`, `ends-bad`), or
--- the formula has more ways than there are steps (`ends-steps`); since a text states one structure, these are the ways of any that it
--- states (`same-ways`), and a rejection is the only answer where one is right (`same-status`). `Pieces`: bytes that are put piece by piece
--- (`IsPut`, `put_piece`, `put_part`).
+-- `Tableaux`: the text of a closed tableau is accepted and has no other judgement, and its formula is true (`stated`, by `text-accepted`
+-- and `tableau_judgement-unique` of `calculus` and `closed-true` of `truth_theory`), its limit can be written (`stated-limit`), and what
+-- is accepted is such a text (`ends-accepted`). `ModelLaws`: what is told of a structure is the one judgement of its bytes (`ends-true`,
+-- `ends-false`, `ends-bad`), or the formula has more ways than there are steps (`ends-steps`); since a text states one structure, these
+-- are the ways of any that it states (`same-ways`), and a rejection is the only answer where one is right (`same-status`). `Pieces`:
+-- bytes that are put piece by piece (`IsPut`, `put_piece`, `put_part`).
 
 pub mod Pieces
 pub mod LimitLaws

@@ -2,6 +2,7 @@
 use Rattle.std.specs.Prelude.{◌≡◌, ℕ, List, Option}
 use Rattle.cop_base.specs.Outside.{Files}
 use Rattle.calculus.specs.Propositional.{IsPropositional, IsTautology}
+use Rattle.calculus.specs.Soundness.{IsTrueInStructures}
 use Rattle.calculus.specs.Syntax.{Problem}
 use Rattle.calculus.specs.Tableaux.{Tableau}
 use Rattle.calculus.specs.TableauText.{IsClosedText, IsTableauJudgement, TableauVerdict}
@@ -15,10 +16,12 @@ pub record IsOnlyTableauJudgement (P : Problem) (bytes : List ℕ) (verdict : Ta
   pub alone : (other : TableauVerdict) → IsTableauJudgement P bytes other → other ≡ verdict
 
 -- the bytes are the text, with this limit, of the tableau, which is closed within it, and so their
--- judgement is acceptance; and a propositional formula is a tautology
+-- judgement is acceptance; the formula is true in each structure of the setting; and that of a
+-- propositional problem is a tautology
 pub record IsTableau (P : Problem) (t : Tableau) (limit : ℕ) (bytes : List ℕ) : Type 0 where
   pub text : IsClosedText P t limit bytes
   pub judged : IsOnlyTableauJudgement P bytes tableau_accepted
+  pub true_in_structures : IsTrueInStructures P
   pub tautology : IsPropositional P → IsTautology P
 
 -- ---- a text that is read
