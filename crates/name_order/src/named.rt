@@ -174,6 +174,13 @@ impl Named {
         self.agenda.as_slice()
     }
 
+    /// How many instances the tableau has.
+    pub fn instances(&self) -> usize
+        ensures { result ≡ length self.now.order }
+    {
+        self.order.len()
+    }
+
     /// The turns of an instance of the tableau in preorder, the instances being counted in preorder
     /// from 0.
     pub fn order(&self, instance: usize) -> &[usize]

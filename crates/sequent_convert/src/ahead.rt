@@ -1,6 +1,6 @@
 //! What is ahead of a branch: turns of an instance, and what closes the branch at the literals among them.
 
-ghost use Rattle.std.specs.Prelude.{◌≡◌, ◌-◌, ◌&&◌, IfSome, List, MatchOption, if◌then◌else◌, length, map, take, drop, nat_le, nat_lt, nat_eq};
+ghost use Rattle.std.specs.Prelude.{◌≡◌, ◌-◌, ◌<◌, ◌^◌, ◌&&◌, List, MatchOption, if◌then◌else◌, length, map, take, drop, nat_le, nat_lt, nat_eq};
 ghost use Rattle.conversion_theory.specs.Leading.{ends_at, ends_of};
 ghost use Rattle.calculus.specs.Lists.{closings_tree};
 ghost use Rattle.formula_core.specs.GroundLists.{GroundList};
@@ -114,10 +114,11 @@ impl<'t> Ends<'t> {
 
     /// How many instances their closings have.
     #[tactic(auto, using(crate::proofs::ByNumber::Ends::together))]
-    pub fn instances(&self) -> Option<usize>
-        ensures { IfSome result (λ n. (ls : List GroundList) → n ≡ instance_count (the_ends ls self.now)) }
+    pub fn instances(&self) -> usize
+        requires { (ls : List GroundList) × (instance_count (the_ends ls self.now) < 2 ^ 64) }
+        ensures { (ls : List GroundList) → result ≡ instance_count (the_ends ls self.now) }
     {
-        instances_among(self.before)?.checked_add(instances_among(self.after)?)
+        instances_among(self.before) + instances_among(self.after)
     }
 }
 
@@ -169,37 +170,40 @@ fn past_first<'t>(goals: &'t [Closing], n: usize) -> &'t [Closing]
 
 // How many instances some closings have.
 #[tactic(auto, using(crate::proofs::ByNumber::Ends::counting))]
-fn instances_among(goals: &[Closing]) -> Option<usize>
-    ensures { IfSome result (λ n. n ≡ closings_count goals.now) }
+fn instances_among(goals: &[Closing]) -> usize
+    requires { closings_count goals.now < 2 ^ 64 }
+    ensures { result ≡ closings_count goals.now }
 {
-    let mut count: usize = 0;
+    let mut count = 0;
     for goal in goals {
-        count = count.checked_add(instances_in(goal)?)?;
+        count += instances_in(goal);
     }
-    Some(count)
+    count
 }
 
 // The recursion goes as deep as extensions are nested.
 #[cycle(instances)]
-fn instances_in(goal: &Closing) -> Option<usize>
-    ensures { IfSome result (λ n. n ≡ instances_in_closing (the_closing goal.now)) }
+fn instances_in(goal: &Closing) -> usize
+    requires { instances_in_closing (the_closing goal.now) < 2 ^ 64 }
+    ensures { result ≡ instances_in_closing (the_closing goal.now) }
 {
     match goal {
-        Closing::Reduce { .. } => Some(0),
-        Closing::Extend { goals, .. } => instances_of(goals)?.checked_add(1),
+        Closing::Reduce { .. } => 0,
+        Closing::Extend { goals, .. } => instances_of(goals) + 1,
     }
 }
 
 #[cycle(instances)]
 #[tactic(auto, using(crate::proofs::ByNumber::Ends::counting))]
-fn instances_of(goals: &ClosingList) -> Option<usize>
-    ensures { IfSome result (λ n. n ≡ instances_in_all goals.now) }
+fn instances_of(goals: &ClosingList) -> usize
+    requires { instances_in_all goals.now < 2 ^ 64 }
+    ensures { result ≡ instances_in_all goals.now }
 {
-    let mut count: usize = 0;
+    let mut count = 0;
     for goal in goals.items() {
-        count = count.checked_add(instances_in(goal)?)?;
+        count += instances_in(goal);
     }
-    Some(count)
+    count
 }
 
 /// The turns ahead, as places of the agenda, with their ends.

@@ -164,7 +164,7 @@ impl<'a> Run<'a> {
         ensures moves { OnOk result (Moves (the_source source.now) (the_run source.now self.old) (the_run source.now self.new)) }
         ensures seen { OnOk result (IsSeen (map (the_node (the_lists source.now)) self.new.branch.nodes.items) self.new.seen) }
     {
-        let parts = parts_at(source, &self.ahead, right.spot.position)?;
+        let parts = parts_at(source, &self.ahead, right.spot.position);
         self.fork(source, turn, place, modal, left, right, parts.0, parts.1)?;
         Ok(())
     }

@@ -62,7 +62,7 @@ impl<'a> Run<'a> {
             }
             Parts::Beta(a, _) => {
                 let second = second_position(node.spot.position, a);
-                self.choose(source, second)?;
+                self.choose(source, second);
                 Ok(())
             }
             Parts::One(_) => {
@@ -99,25 +99,24 @@ impl<'a> Run<'a> {
     }
 
     // Goes on to the part of a fork that stands on the branch. The second part begins at the position.
-    fn choose(&mut self, source: &Source<'a>, second: u32) -> Result<(), NoMemory>
+    fn choose(&mut self, source: &Source<'a>, second: u32)
         requires basis { IsBasis (the_source source.now) }
         requires run { IsOpenRun (the_source source.now) (the_run source.now self.old) }
         requires ahead { IsForkAhead (the_source source.now) (the_run source.now self.old) second }
         requires unseen { self.old.seen ≡ None }
-        ensures moves { OnOk result (Moves (the_source source.now) (the_run source.now self.old) (the_run source.now self.new)) }
-        ensures seen { OnOk result (IsSeen (map (the_node (the_lists source.now)) self.new.branch.nodes.items) self.new.seen) }
+        ensures moves { Moves (the_source source.now) (the_run source.now self.old) (the_run source.now self.new) }
+        ensures seen { IsSeen (map (the_node (the_lists source.now)) self.new.branch.nodes.items) self.new.seen }
     {
-        let parts = parts_at(source, &self.ahead, second)?;
+        let parts = parts_at(source, &self.ahead, second);
         if begins(source, &self.branch, parts.1.turns) {
             self.ahead = parts.1;
-            return Ok(());
+            return;
         }
         if begins_somewhere(source, &self.branch, parts.0.turns) {
             self.ahead = parts.0;
-            return Ok(());
+            return;
         }
         self.ahead = parts.1;
-        Ok(())
     }
 
     // The branch has come to a literal of the instance.
@@ -136,38 +135,29 @@ impl<'a> Run<'a> {
                 Ok(())
             }
             Some((place, goals)) => {
-                self.extend(source, place, goals)?;
+                self.extend(source, place, goals);
                 Ok(())
             }
         }
     }
 
     // Goes on to the instance that closes the literal.
-    fn extend(
-        &mut self,
-        source: &Source<'a>,
-        place: usize,
-        goals: &'a ClosingList,
-    ) -> Result<(), NoMemory>
+    fn extend(&mut self, source: &Source<'a>, place: usize, goals: &'a ClosingList)
         requires basis { IsBasis (the_source source.now) }
         requires run { IsOpenRun (the_source source.now) (the_run source.now self.old) }
         requires ahead { IsLiteralAhead (the_source source.now) (the_run source.now self.old) }
         requires extended { IsExtended (the_ends (the_table source.now) self.old.ahead.ends) place (closings_tree (map (closing_in (the_table source.now)) goals.now)) }
         requires unseen { self.old.seen ≡ None }
-        ensures moves { OnOk result (Moves (the_source source.now) (the_run source.now self.old) (the_run source.now self.new)) }
-        ensures seen { OnOk result (IsSeen (map (the_node (the_lists source.now)) self.new.branch.nodes.items) self.new.seen) }
+        ensures moves { Moves (the_source source.now) (the_run source.now self.old) (the_run source.now self.new) }
+        ensures seen { IsSeen (map (the_node (the_lists source.now)) self.new.branch.nodes.items) self.new.seen }
     {
+        let _called_for_its_bound = source.named.instances();
         let turns = source.named.order(self.ahead.instance);
         let ends = Ends::of_extension(goals, place);
-        let instance = match self.ahead.instance.checked_add(1) {
-            Some(next) => next,
-            None => return Err(NoMemory),
-        };
         self.ahead = Ahead {
             turns,
             ends,
-            instance,
+            instance: self.ahead.instance + 1,
         };
-        Ok(())
     }
 }

@@ -1,17 +1,14 @@
 //! The two parts of what is ahead behind a fork.
 
-ghost use Rattle.std.specs.Prelude.{◌≡◌, ◌+◌, ◌<◌, ◌∷◌, ℕ, List, IfOk, length, take, drop, if◌then◌else◌};
+ghost use Rattle.std.specs.Prelude.{◌≡◌, ◌<◌, ◌∷◌, ℕ, List, length, take, drop, if◌then◌else◌};
 ghost use Rattle.std.specs.List.{AllByRecursion};
 ghost use Rattle.conversion_theory.specs.Leading as leading;
-ghost use Rattle.formula_core.specs.GroundLists.{GroundList};
-ghost use Rattle.sequent_convert.specs.AheadView.{instance_count};
-ghost use Rattle.sequent_convert.specs.ByNumber.AheadView.{the_ahead, the_ends};
+ghost use Rattle.sequent_convert.specs.ByNumber.AheadView.{the_ahead};
 ghost use Rattle.sequent_convert.specs.ByNumber.RunView.{the_source, the_table};
-ghost use Rattle.sequent_convert.specs.State.{IsBasis, first_part, second_part, turn_at, turns_at};
+ghost use Rattle.sequent_convert.specs.State.{IsAhead, IsBasis, first_part, second_part, turn_at, turns_at};
 
-use crate::ahead::{Ahead, Ends};
+use crate::ahead::Ahead;
 use crate::source::Source;
-use cop_base::NoMemory;
 
 // 1 where the turn is on an atom, else 0.
 #[tactic(auto, using(crate::proofs::ByNumber::StateLaws::states))]
@@ -74,49 +71,39 @@ fn turns_before(source: &Source, turns: &[usize], position: u32) -> usize
     turns.len()
 }
 
-// The place behind the instances of the ends.
-fn behind(instance: usize, ends: &Ends) -> Result<usize, NoMemory>
-    ensures { IfOk result (λ n. (ls : List GroundList) → n ≡ instance + instance_count (the_ends ls ends.now)) }
-{
-    match ends.instances() {
-        Some(count) => match instance.checked_add(count) {
-            Some(next) => Ok(next),
-            None => Err(NoMemory),
-        },
-        None => Err(NoMemory),
-    }
-}
-
-// The two parts of what is ahead behind its first turn, where the second part begins at the position.
+// The two parts of what is ahead behind its first turn, where the second part begins at the position. The instances of the
+// ends are among those of the tableau, of which the names have a list.
 #[tactic(auto, using(crate::proofs::ByNumber::StateLaws::states))]
 pub(crate) fn parts_at<'a>(
     source: &Source,
     ahead: &Ahead<'a>,
     position: u32,
-) -> Result<(Ahead<'a>, Ahead<'a>), NoMemory>
+) -> (Ahead<'a>, Ahead<'a>)
     requires basis { IsBasis (the_source source.now) }
-    requires within { AllByRecursion (λ k. k < length source.now.named.now.agenda) ahead.now.turns.now }
+    requires ahead { IsAhead (the_source source.now) (the_ahead (the_table source.now) ahead.now) }
     requires some { 0 < length ahead.now.turns.now }
-    ensures { IfOk result (λ r. (k : ℕ) (ks : List ℕ) → ahead.now.turns.now ≡ k ∷ ks
-        → (the_ahead (the_table source.now) r.0 ≡ first_part (the_source source.now) position ks (the_ahead (the_table source.now) ahead.now))
-        × (the_ahead (the_table source.now) r.1 ≡ second_part (the_source source.now) position ks (the_ahead (the_table source.now) ahead.now))) }
+    ensures { (k : ℕ) (ks : List ℕ) → ahead.now.turns.now ≡ k ∷ ks
+        → (the_ahead (the_table source.now) result.0 ≡ first_part (the_source source.now) position ks (the_ahead (the_table source.now) ahead.now))
+        × (the_ahead (the_table source.now) result.1 ≡ second_part (the_source source.now) position ks (the_ahead (the_table source.now) ahead.now)) }
 {
     let turns = turns_from(ahead.turns, 1);
     let middle = turns_before(source, turns, position);
     let first = turns_until(turns, middle);
     let literals = literals_among(source, first);
     let ends = ahead.ends.take(literals);
-    let instance = behind(ahead.instance, &ends)?;
-    Ok((
+    let _called_for_its_bound = source.named.instances();
+    let instance = ahead.instance;
+    let next = instance + ends.instances();
+    (
         Ahead {
             turns: first,
             ends,
-            instance: ahead.instance,
+            instance,
         },
         Ahead {
             turns: turns_from(turns, middle),
             ends: ahead.ends.skip(literals),
-            instance,
+            instance: next,
         },
-    ))
+    )
 }

@@ -1,5 +1,5 @@
 -- Ends as the program has them, and the instances of their closings.
-use Rattle.std.proofs.Common.{◌≡◌, ℕ, zero, suc, ◌+◌, ◌-◌, ◌≤◌, ◌<◌, List, [], ◌∷◌, ◌++◌, map, length, length-append, get_or, take, drop, append_assoc, append-nil, Bool, true, false, ◌&&◌, if◌then◌else◌, nat_le, nat_lt, nat_eq, refl, sym, ◌∙◌, ap, subst, inl, inr, add-one, arith, lt-ltb, le-leb, Some, None}
+use Rattle.std.proofs.Common.{◌≡◌, ℕ, zero, suc, ◌+◌, ◌-◌, ◌^◌, ◌≤◌, ◌<◌, List, [], ◌∷◌, ◌++◌, map, length, length-append, get_or, take, drop, append_assoc, append-nil, Bool, true, false, ◌&&◌, if◌then◌else◌, nat_le, nat_lt, nat_eq, refl, sym, ◌∙◌, ap, subst, inl, inr, add-one, arith, lt-ltb, le-leb, Some, None}
 use Rattle.std.proofs.lemmas.Bool.{cases_Bool, eqb-true, leb-true, leb-false}
 use Rattle.calculus.specs.Instances.{ClauseInstance}
 use Rattle.calculus.specs.Lists.{closings_tree}
@@ -175,13 +175,30 @@ all-next (x ∷ xs) (suc i) c lt e = let r = all-next xs i c (omega (arith, lt))
 pub all-step : (cs : List program.Closing) (i : ℕ) (c : program.Closing) → i < length cs → c ≡ get_or cs i c → closings_count (take (i + 1) cs) ≡ closings_count (take i cs) + instances_in_closing (the_closing c)
 all-step cs i c lt e = ap (λ n. closings_count (take n cs)) (add-one i) ∙ all-next cs i c lt e
 
+-- the closings so far have no more instances than all
+all-part : (cs : List program.Closing) (n : ℕ) → closings_count (take n cs) ≤ closings_count cs
+all-part cs zero = omega arith
+all-part [] (suc n) = omega arith
+all-part (c ∷ cs) (suc n) = let r = all-part cs n in omega (arith, r)
+
+pub all-fits : (cs : List program.Closing) (i : ℕ) (c d : program.Closing) (count : ℕ) → closings_count cs < 2 ^ 64 → i < length cs → c ≡ get_or cs i d → count ≡ closings_count (take i cs) → count + instances_in_closing (the_closing c) < 2 ^ 64
+all-fits cs i c d count most lt e k = let s = all-step cs i c lt (e ∙ get_or-any cs i d c lt) in let p = all-part cs (i + 1) in omega (arith, most, s, p, k)
+  where
+    get_or-any : (xs : List program.Closing) (n : ℕ) (u v : program.Closing) → n < length xs → get_or xs n u ≡ get_or xs n v
+    get_or-any [] n u v l = absurd (omega (arith, l))
+    get_or-any (x ∷ xs) zero u v l = refl
+    get_or-any (x ∷ xs) (suc n) u v l = get_or-any xs n u v (omega (arith, l))
+
+pub one-fits : (cs : List program.Closing) (i : ℕ) (c d : program.Closing) → closings_count cs < 2 ^ 64 → i < length cs → c ≡ get_or cs i d → instances_in_closing (the_closing c) < 2 ^ 64
+one-fits cs i c d most lt e = let f = all-fits cs i c d (closings_count (take i cs)) most lt e refl in omega (arith, f)
+
 -- an item of the list is smaller than the list
 pub closing_size-item : (cs : List program.Closing) (k : ℕ) (c d : program.Closing) → k < length cs → c ≡ get_or cs k d → closing_size (the_closing c) < closing_list_size (map the_closing cs)
 closing_size-item [] k c d h e = absurd (omega arith)
 closing_size-item (u ∷ cs) zero c d h e = let f : closing_size (the_closing c) ≡ closing_size (the_closing u) = ap (λ x. closing_size (the_closing x)) e in omega arith
 closing_size-item (u ∷ cs) (suc k) c d h e = let f = closing_size-item cs k c d (omega arith) e in omega arith
 
-pub ruleset counting = (all-step, closing_size-item)
+pub ruleset counting = (all-step, all-fits, one-fits, closing_size-item)
 
 -- ---- the first end
 
