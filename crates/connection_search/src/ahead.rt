@@ -67,7 +67,7 @@ impl LimitSearch<'_> {
         ensures { (x : CellGoal) → IsGoalAt tree.now.steps.items tree.now.goals.items goal x
             → result ≡ self.now.limit - length x.path }
     {
-        (self.limit as usize).saturating_sub(tree.goals[goal].depth)
+        (self.limit as usize).saturating_sub(tree.goals[goal].depth as usize)
     }
 
     // Whether each literal of the matrix that extends the goal gives a goal without such a mark.

@@ -84,7 +84,7 @@ impl LimitSearch<'_> {
                 }
             }
             Some(goal) => {
-                points.truncate(work.tree.goals[goal].depth);
+                points.truncate(work.tree.goals[goal].depth as usize);
                 let point = Point::new(store, self.matrix, &work.tree, goal, self.limit as usize);
                 *left = self.is_left(store, work, goal, *left)?;
                 points.push(point)?;

@@ -40,7 +40,7 @@ impl LimitSearch<'_> {
             None => false,
             Some(goal) => match work.tree.goals.get(goal) {
                 None => false,
-                Some(at) => at.depth < self.limit as usize,
+                Some(at) => at.depth < self.limit as u32,
             },
         }
     }

@@ -150,7 +150,7 @@ impl LimitSearch<'_> {
         if known {
             return Ok(true);
         }
-        if work.tree.goals[goal].depth != self.limit as usize {
+        if work.tree.goals[goal].depth != self.limit as u32 {
             return Ok(false);
         }
         let left = self.is_left_at(store, work, goal)?;

@@ -45,11 +45,11 @@ pub struct Point {
     pub steps: usize,
     pub goals: usize,
     pub goal: usize,
-    /// How many goals are above it.
-    pub depth: usize,
     /// The next ancestor, if one is left, and how far it stands above the goal, less one.
     pub above: Option<usize>,
     pub up: u32,
+    /// How many goals are above it.
+    pub depth: u32,
     /// The next extension, by its number, and how many there are.
     pub next: usize,
     pub end: usize,
@@ -59,24 +59,14 @@ pub struct Point {
 }
 
 // As many places as there are, where the path may grow.
-fn room(depth: usize, limit: usize, places: usize) -> usize
+fn room(depth: u32, limit: usize, places: usize) -> usize
     ensures end { result ≡ (if nat_lt depth limit then places else 0) }
     ensures light { depth + result + 1 ≤ greatest_weight }
 {
-    if depth < limit {
+    if (depth as usize) < limit {
         return places;
     }
     0
-}
-
-// The number behind this one.
-fn next_number(n: u32) -> Result<u32, NoMemory>
-    ensures { IfOk result (λ k. k ≡ n + 1) }
-{
-    match n.checked_add(1) {
-        Some(k) => Ok(k),
-        None => Err(NoMemory),
-    }
 }
 
 impl Point {
@@ -123,9 +113,9 @@ impl Point {
             steps,
             goals,
             goal,
-            depth: at.depth,
             above: at.above,
             up: 0,
+            depth: at.depth,
             next: 0,
             end,
             lowest: usize::MAX,
@@ -141,8 +131,7 @@ impl Point {
         }
     }
 
-    /// The next ancestor with the goal's symbol and the other sign. Numbers beyond 32 bits are
-    /// beyond memory.
+    /// The next ancestor with the goal's symbol and the other sign.
     pub fn next_ancestor(&mut self, tree: &Tree) -> Result<Option<Move>, NoMemory>
         requires { (g : CellGoal)
             × IsGoalAt tree.now.steps.items tree.now.goals.items self.old.goal g
@@ -161,11 +150,10 @@ impl Point {
             match self.above {
                 None => return Ok(None),
                 Some(ancestor) => {
-                    let number = next_number(self.up)?;
-                    self.up = number;
+                    self.up += 1;
                     self.above = tree.goals[ancestor].above;
                     if meets(tree.atom(self.goal), tree.atom(ancestor)) {
-                        return Ok(Some(Move::Reduce(number, ancestor)));
+                        return Ok(Some(Move::Reduce(self.up, ancestor)));
                     }
                 }
             }

@@ -47,8 +47,8 @@ pub struct Goal {
     pub above: Option<usize>,
     /// The goal that is open behind it.
     pub behind: Option<usize>,
-    /// How many goals are above it.
-    pub depth: usize,
+    /// How many goals are above it: at most the path limit.
+    pub depth: u32,
 }
 
 /// The choices made, the goals so far, and the leftmost open goal.
@@ -157,7 +157,7 @@ impl Tree {
         step: Step,
         above: Option<usize>,
         behind: Option<usize>,
-        depth: usize,
+        depth: u32,
     ) -> Result<(), NoMemory>
         ensures steps { OnOk result (self.new.steps.items ≡ self.old.steps.items ++ step ∷ []) }
         ensures goals { OnOk result (self.new.goals.items ≡ self.old.goals.items

@@ -105,7 +105,7 @@ fn is_lost(
         → IsLostOver matrix.now limit store.now.store (the_places variables)
         (the_pattern_atom literal.now) (x.literal ∷ x.path) }
 {
-    let room = limit.saturating_sub(tree.goals[goal].depth);
+    let room = limit.saturating_sub(tree.goals[goal].depth as usize);
     if room > 2 {
         return false;
     }
