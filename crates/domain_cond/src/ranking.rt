@@ -18,9 +18,6 @@ use cop_base::NoMemory;
 use std::alloc::Global;
 use term_store::{Head, Ref, Sort, Store};
 
-// How many cells the places of 32 bits can name.
-const PLACES: usize = 4294967296;
-
 // Whether an unbound term variable stands at the end of bindings.
 fn is_open_term(store: &Store, end: Ref) -> bool
     requires { IsEnd store.now.store end.0 }
@@ -151,10 +148,7 @@ pub(crate) fn has_no_cycle(
     ensures no { IfOk result (λ b. b ≡ false
         → ¬ HasNoNeedCycle (homes (home_marks (map the_standing standings.now))) store.now.store) }
 {
-    let count = store.size() - store.spare();
-    if count > PLACES {
-        return Err(NoMemory);
-    }
+    let count = store.count();
     let mut ranks = Vec::new(alloc);
     for _i in 0..count + 2 {
         let next = next_ranks(alloc, store, standings, &ranks, count)?;

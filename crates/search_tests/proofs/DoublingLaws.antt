@@ -1,5 +1,5 @@
 -- What the tests of doubling terms and of matching know of the cells that they hand over.
-use Rattle.std.proofs.Common.{◌≡◌, ◌≤◌, ◌<◌, ◌∙◌, ◌∷◌, [], ◌&&◌, ◌||◌, Option, None, Some, IsTrue, length, ℕ, List, Bool, true, false, refl, sym, ap, arith, option_map, subst, slice_get}
+use Rattle.std.proofs.Common.{◌≡◌, ◌≤◌, ◌<◌, ◌-◌, suc, ◌∙◌, ◌∷◌, [], ◌&&◌, ◌||◌, Option, None, Some, IsTrue, length, ℕ, List, Bool, true, false, refl, sym, ap, arith, option_map, subst, slice_get}
 use Rattle.std.specs.List.{list_all}
 use Rattle.std.specs.Option.{option_map_or}
 use Rattle.std.proofs.lemmas.Bool.{and_from, and_parts}
@@ -29,8 +29,11 @@ fresh-term s t r e f =
     subst (λ x. IsTrue (has_sort_at x TermSort r)) (sym e) (ap (λ (o : Option Cell). option_map_or (sort_eq TermSort) (option_map sort_of o) false) at)
 
 -- f(Y, Y) over a variable of terms
-pub doubled-fits : (s : Store) (r : ℕ) (p : Pattern) → p ≡ p_fun 1 (more_patterns (p_var 0) (more_patterns (p_var 0) no_patterns)) → IsTrue (has_sort_at s TermSort r) → IsTrue (fits_in s (r ∷ []) TermSort p)
-doubled-fits s r p e h = subst (λ q. IsTrue (fits_in s (r ∷ []) TermSort q)) (sym e) (both (has_sort_at s TermSort r) h)
+pub doubled-fits : (s : Store) (r end : ℕ) (p : Pattern) → p ≡ p_fun 1 (more_patterns (p_var 0) (more_patterns (p_var 0) no_patterns)) → IsTrue (has_sort_at s TermSort r) → r < end → IsTrue (fits_in s (places_from r (end - r)) TermSort p)
+doubled-fits s r end p e h lt =
+    let n : end - r ≡ suc (end - suc r) = omega (arith, lt) in
+    subst (λ k. IsTrue (fits_in s (places_from r k) TermSort p)) (sym n)
+    (subst (λ q. IsTrue (fits_in s (r ∷ places_from (suc r) (end - suc r)) TermSort q)) (sym e) (both (has_sort_at s TermSort r) h))
   where
     both : (b : Bool) → IsTrue b → IsTrue ((b || false) && ((b || false) && true))
     both true k = refl

@@ -35,7 +35,8 @@ fn double(
     ensures longer { length store.old.store.cells ≤ length store.new.store.cells }
 {
     let y = variable(store)?;
-    let over = Variables { first: y, count: 1 };
+    let end = variable(store)?;
+    let over = Variables { first: y, end };
     let mut places = Vec::new(alloc);
     let term = store.copy_pattern(pattern, over, &mut places)?;
     let _bound = unifier.unify(store, x, term)?;

@@ -75,7 +75,7 @@ fn built(alloc: Global, store: &mut Store, pattern: &Pattern) -> Result<Ref, NoM
 {
     let none = Variables {
         first: Ref(0),
-        count: 0,
+        end: Ref(0),
     };
     let mut places = Vec::new(alloc);
     let copied = store.copy_pattern(pattern, none, &mut places)?;

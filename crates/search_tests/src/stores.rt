@@ -1,6 +1,6 @@
 //! The clause p(f(X, X), X), copied, and new variables.
 
-ghost use Rattle.std.specs.Prelude.{IfOk, IsTrue};
+ghost use Rattle.std.specs.Prelude.{◌≡◌, IfOk, IsTrue, length};
 ghost use Rattle.calculus.specs.declared.sort.Sort.TheVariants.{TermSort};
 ghost use Rattle.store_theory.specs.Patterns.{Grows, template_fits};
 ghost use Rattle.store_theory.specs.Stores.{has_sort_at};
@@ -17,6 +17,7 @@ use term_store::{
 /// A new variable.
 pub fn variable(store: &mut Store) -> Result<Ref, NoMemory>
     ensures term { IfOk result (λ r. IsTrue (has_sort_at store.new.store TermSort r.0)) }
+    ensures place { IfOk result (λ r. r.0 ≡ length store.old.store.cells) }
     ensures grows { Grows store.old.store store.new.store }
 {
     store.reserve(1)?;

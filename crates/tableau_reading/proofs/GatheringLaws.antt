@@ -38,7 +38,7 @@ string-none (s ∷ sorts) = refl
 abbrev pub StringsTo : List Sort → ℕ → ℕ → List ℕ → List ℕ → ℕ → Type 0
 StringsTo sorts first count start out k = out ++ string_cells (drop k sorts) (places_from (first + k) (count - k)) ≡ start ++ string_cells sorts (places_from first count)
 
-pub strings-next : (sorts : List Sort) (first count : ℕ) (start out new : List ℕ) (k : ℕ) (s : Sort) → StringsTo sorts first count start out k → k < count → slice_get sorts k ≡ Some s → new ≡ out ++ string_cells (s ∷ []) ((first + k) ∷ []) → StringsTo sorts first count start new (k + 1)
+strings-next : (sorts : List Sort) (first count : ℕ) (start out new : List ℕ) (k : ℕ) (s : Sort) → StringsTo sorts first count start out k → k < count → slice_get sorts k ≡ Some s → new ≡ out ++ string_cells (s ∷ []) ((first + k) ∷ []) → StringsTo sorts first count start new (k + 1)
 strings-next sorts first count start out new k s h l at e =
     let more : k + 1 ≡ suc k = omega arith in
     let a : first + (k + 1) ≡ suc (first + k) = omega arith in
@@ -49,6 +49,9 @@ strings-next sorts first count start out new k s h l at e =
     ∙ append_assoc out (string_cells (s ∷ []) ((first + k) ∷ [])) rest
     ∙ ap (λ ys. out ++ ys) (sym (string-more s (first + k) (drop (suc k) sorts) (places_from (suc (first + k)) (count - suc k))) ∙ ap₂ (λ ss n. string_cells ss (places_from (first + k) n)) (sym (drop-there sorts k s at)) (sym b))
     ∙ h
+
+pub strings-at : (sorts : List Sort) (first count : ℕ) (start out new : List ℕ) (k place : ℕ) (s : Sort) → StringsTo sorts first count start out k → k < count → slice_get sorts k ≡ Some s → place ≡ first + k → new ≡ out ++ string_cells (s ∷ []) (place ∷ []) → StringsTo sorts first count start new (k + 1)
+strings-at sorts first count start out new k place s h l at q e = strings-next sorts first count start out new k s h l at (e ∙ ap (λ n. out ++ string_cells (s ∷ []) (n ∷ [])) q)
 
 pub strings-end : (sorts : List Sort) (first count : ℕ) (start out : List ℕ) (k : ℕ) → StringsTo sorts first count start out k → count ≤ k → out ≡ start ++ string_cells sorts (places_from first count)
 strings-end sorts first count start out k h l =

@@ -20,7 +20,6 @@ ghost use Rattle.search_tree.specs.Trees.{clause_with, inserted};
 
 use crate::grounds::Grounds;
 use crate::homes::Homes;
-use crate::system::variable_at;
 use calculus::sign::Side;
 use cop_base::NoMemory;
 use formula_core::{GroundLabel, GroundTerms, Values};
@@ -106,8 +105,8 @@ fn all_variables(alloc: Global, variables: Variables) -> Result<Vec<Ref>, NoMemo
     ensures { IfOk result (λ v. map the_place v.items ≡ the_places variables) }
 {
     let mut refs = Vec::new(alloc);
-    for k in 0..variables.count {
-        refs.push(variable_at(variables, k)?)?;
+    for k in 0..variables.count() {
+        refs.push(variables.at(k))?;
     }
     Ok(refs)
 }

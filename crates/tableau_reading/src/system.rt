@@ -119,33 +119,15 @@ fn all_equations(alloc: Global, tree: &Tree) -> Result<EquationList, NoMemory>
 
 // ---- strings
 
-// The variable of this number. Numbers beyond 32 bits are beyond memory.
-pub(crate) fn variable_at(variables: Variables, k: u32) -> Result<Ref, NoMemory>
-    ensures { IfOk result (λ r. r.0 ≡ variables.first.0 + k) }
-{
-    match variables.first.0.checked_add(k) {
-        Some(place) => Ok(Ref(place)),
-        None => Err(NoMemory),
-    }
-}
-
-// Adds the variable of this number where it stands for a string.
-fn add_variable(
-    strings: &mut RefList,
-    sort: Sort,
-    variables: Variables,
-    k: u32,
-) -> Result<(), NoMemory>
+// Adds the variable where it stands for a string.
+fn add_variable(strings: &mut RefList, sort: Sort, variable: Ref) -> Result<(), NoMemory>
     ensures { OnOk result (strings.new ≡ strings.old
-        ++ string_cells (sort ∷ []) ((variables.first.0 + k) ∷ [])) }
+        ++ string_cells (sort ∷ []) (variable.0 ∷ [])) }
 {
     match sort {
         Sort::TermSort => {}
         Sort::MarkSort => {}
-        Sort::StringSort => {
-            let variable = variable_at(variables, k)?;
-            strings.push(variable)?;
-        }
+        Sort::StringSort => strings.push(variable)?,
     }
     Ok(())
 }
@@ -159,12 +141,12 @@ fn add_variables(
     ensures { OnOk result (strings.new ≡ strings.old
         ++ string_cells sorts.now (the_places variables)) }
 {
-    for k in 0..variables.count {
+    for k in 0..variables.count() {
         let place = k as usize;
         if place >= sorts.len() {
             return Ok(());
         }
-        add_variable(strings, sorts[place], variables, k)?;
+        add_variable(strings, sorts[place], variables.at(k))?;
     }
     Ok(())
 }

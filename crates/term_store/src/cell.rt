@@ -1,5 +1,7 @@
 //! Cells and what names them.
 
+ghost use Rattle.std.specs.Prelude.{◌≡◌, ◌<◌, ◌+◌, ◌-◌};
+
 use calculus::sort::Sort;
 use cop_base::{PosId, SymbolId};
 
@@ -15,11 +17,29 @@ pub struct TrailMark {
     pub(crate) entries: usize,
 }
 
-/// Variables that stand side by side: the cell `first` and those behind it.
+/// Variables that stand side by side: the cell `first` and those behind it, up to `end`. Both are places, so each of them
+/// has one.
 #[derive(Clone, Copy, Debug)]
 pub struct Variables {
     pub first: Ref,
-    pub count: u32,
+    pub end: Ref,
+}
+
+impl Variables {
+    /// How many there are.
+    pub fn count(self) -> u32
+        ensures { result ≡ self.end.0 - self.first.0 }
+    {
+        self.end.0.saturating_sub(self.first.0)
+    }
+
+    /// The one of this number.
+    pub fn at(self, k: u32) -> Ref
+        requires { self.first.0 + k < self.end.0 }
+        ensures { result.0 ≡ self.first.0 + k }
+    {
+        Ref(self.first.0 + k)
+    }
 }
 
 /// What stands at the end of a cell's bindings: an unbound variable, a term or mark of this name, or a string.

@@ -49,7 +49,7 @@ impl Store {
         }
         Ok(Variables {
             first: Ref(first),
-            count: count as u32,
+            end: Ref(first + count as u32),
         })
     }
 

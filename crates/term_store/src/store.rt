@@ -100,6 +100,16 @@ impl Store {
         cells.min(self.trail.spare())
     }
 
+    /// How many cells there are.
+    pub fn count(&self) -> usize
+        ensures count { result ≡ length self.now.store.cells }
+        ensures places { length self.now.store.cells ≤ 4294967296 }
+        ensures no_cycle { HasNoCycle self.now.store }
+        ensures well { IsWellFormed self.now.store }
+    {
+        self.cells.len()
+    }
+
     /// How many cells there are, with those that are spare.
     pub fn size(&self) -> usize
         ensures size { result ≡ length self.now.store.cells + spare self.now }

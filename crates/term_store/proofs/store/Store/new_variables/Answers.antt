@@ -1,4 +1,4 @@
-use Rattle.std.proofs.Common.{◌∙◌, ◌∷◌, [], None, ap, ap₂, arith, get_or, length, length-append, refl, take}
+use Rattle.std.proofs.Common.{◌≡◌, ◌+◌, ◌-◌, ◌∙◌, ◌∷◌, [], None, ap, ap₂, arith, get_or, length, length-append, refl, take}
 use Rattle.store_theory.specs.Bindings.{places_from, with_cell, with_variables_of}
 use Rattle.calculus.specs.declared.sort.Sort.TheVariants.{TermSort}
 use Rattle.store_theory.specs.Stores.{variable}
@@ -31,4 +31,4 @@ loop-sort-preserved c =
     }
 
 pub returns-clause-places : goal.returns-clause-places
-returns-clause-places c = ap₂ places_from c.in_ok-first.ensures.place (ap length c.items-count.ensures)
+returns-clause-places c = ap₂ places_from c.in_ok-first.ensures.place (let n : (c.in_ok-first.first + length c.items-count.result.now) - c.in_ok-first.first ≡ length c.items-count.result.now = omega arith in n ∙ ap length c.items-count.ensures)
