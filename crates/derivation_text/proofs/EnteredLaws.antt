@@ -3,10 +3,11 @@ use Rattle.std.proofs.Common.{◌≡◌, ℕ, ◌≤◌, List, [], ◌∷◌, �
 use Rattle.std.specs.List.{list_all}
 use Rattle.std.proofs.lemmas.Bool.{and_from}
 use Rattle.std.proofs.lemmas.List.{map_push}
+use Rattle.calculus.specs.Equality.{term_eq}
 use Rattle.calculus.specs.Syntax.{Term}
 use Rattle.calculus.specs.Derivations.{Label, Home, ModalArg, TermArg}
 use Rattle.calculus.specs.Versions.{home_number, number_in, numbered_arg, numbered_modal, same_label}
-use Rattle.derivation_text.specs.Entering.{with_arg, with_home, with_label, with_modal}
+use Rattle.derivation_text.specs.Entering.{entered, with_arg, with_home, with_label, with_modal}
 use Rattle.derivation_text.specs.Listed.{are_listed, has_home_among, is_arg_listed, is_modal_listed, may_have_home_among}
 use Rattle.derivation_text.specs.NumbersView.{AreAmong, the_numbered_arg, the_numbered_derivation, the_numbered_eigen, the_numbered_modal, the_numbered_spare, the_numbered_step}
 use Rattle.derivation_text.specs.declared.numbers.NumberedModal as modal
@@ -40,6 +41,9 @@ term-listed n L es ss T U xs t h e = lists-longer n L L es ss T U xs h (omega ar
 -- a label that was entered
 pub label-entered : (n : ℕ) (L M : List Label) (es : List (ℕ × ℕ)) (ss : List (ℕ × Option ℕ)) (T : List Term) (xs : List step.NumberedStep) (w : Label) → AreAmong (the_numbered_derivation n L es ss T xs) → M ≡ with_label L w → AreAmong (the_numbered_derivation n M es ss T xs)
 label-entered n L M es ss T xs w h e = lists-longer n L M es ss T T xs h (grown-by L M (with_label L w) e (entered-longer same_label L w)) (omega arith)
+
+pub term-entered : (n : ℕ) (L : List Label) (es : List (ℕ × ℕ)) (ss : List (ℕ × Option ℕ)) (T U : List Term) (xs : List step.NumberedStep) (t : Term) → AreAmong (the_numbered_derivation n L es ss T xs) → U ≡ entered term_eq T t → AreAmong (the_numbered_derivation n L es ss U xs)
+term-entered n L es ss T U xs t h e = lists-longer n L L es ss T U xs h (omega arith) (subst (λ u. length T ≤ length u) (sym e) (entered-longer term_eq T t))
 
 pub home-entered : (n : ℕ) (L M : List Label) (es : List (ℕ × ℕ)) (ss : List (ℕ × Option ℕ)) (T : List Term) (xs : List step.NumberedStep) (home : Home) → AreAmong (the_numbered_derivation n L es ss T xs) → M ≡ with_home L home → AreAmong (the_numbered_derivation n M es ss T xs)
 home-entered n L M es ss T xs home h e = lists-longer n L M es ss T T xs h (grown-by L M (with_home L home) e (home-longer L home)) (omega arith)

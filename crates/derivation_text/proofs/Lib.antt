@@ -46,6 +46,7 @@ pub mod FormulaLines
 pub mod OnceLaws
 pub mod PlaceLaws
 pub mod AmongLaws
+mod RenumberingLaws
 pub mod NumberingLaws
 pub mod OrderLaws
 pub mod NumberedFeeds

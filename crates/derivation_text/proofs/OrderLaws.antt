@@ -1,5 +1,5 @@
 -- Numbers that come in the order of first occurrence are those by which the derivation that they state is numbered.
-use Rattle.std.proofs.Common.{if◌then◌else◌, ◌≡◌, ℕ, zero, suc, ◌+◌, ◌<◌, ◌≤◌, List, [], ◌∷◌, ◌++◌, length, take, get_or, map, Bool, true, false, ◌||◌, ◌==◌, IsTrue, Option, Some, None, nat_le, refl, sym, ◌∙◌, ap, subst, append-nil, append_assoc, flat_map, add-one, arith, leb-true, eqb-true}
+use Rattle.std.proofs.Common.{if◌then◌else◌, ◌≡◌, ℕ, zero, suc, ◌<◌, ◌≤◌, List, [], ◌∷◌, ◌++◌, length, take, get_or, map, Bool, true, false, ◌||◌, ◌==◌, IsTrue, Option, Some, None, nat_le, refl, sym, ◌∙◌, ap, subst, append-nil, append_assoc, flat_map, add-one, arith, leb-true, eqb-true}
 use Rattle.std.specs.List.{list_all}
 use Rattle.std.proofs.lemmas.Bool.{and_parts, true≢false}
 use Rattle.std.proofs.lemmas.List.{get_or-take, length-take-le, map-append, take_more}

@@ -1,5 +1,5 @@
 -- Places of a table by their numbers, and the items that stand at them.
-use Rattle.std.proofs.Common.{if◌then◌else◌, ◌≡◌, ℕ, zero, suc, ◌+◌, ◌-◌, ◌^◌, ◌<◌, List, [], ◌∷◌, ◌++◌, length, get_or, Bool, true, false, ◌||◌, ◌==◌, nat_lt, refl, sym, ◌∙◌, ap, subst, arith, set, eq-eqb, eqb-true, ltb-true, lt-ltb}
+use Rattle.std.proofs.Common.{if◌then◌else◌, ◌≡◌, ℕ, zero, suc, ◌^◌, ◌<◌, List, [], ◌∷◌, ◌++◌, length, get_or, Bool, true, false, ◌||◌, ◌==◌, nat_lt, refl, sym, ◌∙◌, ap, subst, arith, set, eq-eqb, eqb-true, ltb-true, lt-ltb}
 use Rattle.std.specs.List.{list_all}
 use Rattle.std.proofs.lemmas.Bool.{and_from, and_parts, true≢false}
 use Rattle.std.proofs.lemmas.Grind.{get_or-set_at}
@@ -56,7 +56,7 @@ numbers-kept places numbers grown q h same few new = record { few = few; told = 
     told : (p : ℕ) → get_or grown p 0 ≡ first_number (places ++ q ∷ []) p
     told p = old p ∙ by p (first_number places p) refl ∙ sym (first-end places q p)
 
-get-set-other : (xs : List ℕ) (i j y : ℕ) → (i ≡ j → ⊥) → get_or (set xs i y) j 0 ≡ get_or xs j 0
+pub get-set-other : (xs : List ℕ) (i j y : ℕ) → (i ≡ j → ⊥) → get_or (set xs i y) j 0 ≡ get_or xs j 0
 get-set-other [] i j y h = refl
 get-set-other (x ∷ xs) zero zero y h = absurd (h refl)
 get-set-other (x ∷ xs) zero (suc j) y h = refl

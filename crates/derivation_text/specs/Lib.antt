@@ -6,6 +6,7 @@ pub mod Reading
 pub mod RowView
 pub mod Single
 pub mod Entering
+pub mod Renumbering
 pub mod InOrder
 pub mod Listed
 pub mod NumbersView

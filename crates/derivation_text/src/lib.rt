@@ -23,6 +23,7 @@ mod numbers;
 mod parser;
 mod place_list;
 mod plain_writer;
+mod renumbering;
 mod row_step;
 mod step_reader;
 mod table_writer;

@@ -17,7 +17,7 @@ use crate::fault::ParseFault;
 use crate::head_reader::read_head;
 use crate::in_order::is_in_order;
 use crate::numbered_line::{NumberedLine, NumberedStage, Part};
-use crate::numbering::renumber;
+use crate::renumbering::renumber;
 use crate::text_derivation::TextDerivation;
 use crate::writer::write;
 use crate::{numbered_causes, numbered_reader};

@@ -1,9 +1,11 @@
 //! A derivation as its texts have it.
 
-ghost use Rattle.std.specs.Prelude.{◌≡◌, length, map, suc, IsTrue, OnOk};
+ghost use Rattle.std.specs.Prelude.{◌≡◌, length, map, suc, IfOk, IsTrue, OnOk};
 ghost use Rattle.calculus.specs.Derivations as derivation;
-ghost use Rattle.calculus.specs.Versions.{is_among, numbered_home_is_written};
-ghost use Rattle.derivation_text.specs.Entering.{empty_of, put_eigen, put_spare, put_step};
+ghost use Rattle.calculus.specs.Equality.{term_eq};
+ghost use Rattle.calculus.specs.Versions.{is_among, number_in, numbered_home_is_written, same_label};
+ghost use Rattle.derivation_text.specs.Entering.{empty_of, entered, put_eigen, put_spare, put_step, with_label};
+ghost use Rattle.derivation_text.specs.Renumbering.{with_labels, with_terms};
 ghost use Rattle.derivation_text.specs.Listed.{are_listed, has_home_among, may_have_home_among};
 ghost use Rattle.derivation_text.specs.NumberedBody.{eigen_of, label_of, spare_of, step_of, term_of, with_numbered_line};
 ghost use Rattle.std.specs.List.{list_all};
@@ -151,6 +153,24 @@ impl TextDerivation {
     {
         self.steps.push(step)?;
         Ok(())
+    }
+
+    /// The number of a label, which is listed under the next one where it is new.
+    pub(crate) fn enter_label(&mut self, label: &Label) -> Result<u32, NoMemory>
+        ensures entered { OnOk result (self.new ≡ with_labels self.old (with_label self.old.labels label.now)) }
+        ensures number { IfOk result (λ k. k ≡ number_in same_label self.new.labels label.now) }
+    {
+        let number = self.labels.enter(label)?;
+        Ok(number)
+    }
+
+    /// The same of a term.
+    pub(crate) fn enter_term(&mut self, row: TermRow) -> Result<u32, NoMemory>
+        ensures entered { OnOk result (self.new ≡ with_terms self.old (entered term_eq self.old.terms row)) }
+        ensures number { IfOk result (λ k. k ≡ number_in term_eq self.new.terms row) }
+    {
+        let number = self.terms.enter(row)?;
+        Ok(number)
     }
 
     /// Adds an eigenvariable and enters its home.
