@@ -12,7 +12,7 @@ ghost use Rattle.label_table.specs.Longer.{IsLonger};
 ghost use Rattle.derivation_branch.specs.Occurring.{holds, in_argument, in_modal};
 ghost use Rattle.label_table.specs.LabelTable.{IsLabelAt};
 ghost use Rattle.derivation_check.specs.HomesView.{AreHomes, is_in_home_at};
-ghost use Rattle.derivation_check.specs.ToldView.{AreThere};
+ghost use Rattle.derivation_check.specs.ToldView.{AreThere, AreTold};
 ghost use Rattle.logic_rules.specs.MarkView.{the_character};
 ghost use Rattle.derivation_check.specs.ArgumentView.{the_argument, the_label_argument};
 
@@ -51,6 +51,29 @@ fn add_marks(labels: &Labels, marks: &mut NumberSet, place: u32) -> Result<(), N
     Ok(())
 }
 
+// Adds the marks of the label at a place, unless it is told that they are there.
+fn add_label(
+    labels: &Labels,
+    told: &mut ToldHomes,
+    marks: &mut NumberSet,
+    place: u32,
+) -> Result<(), NoMemory>
+    requires within { place < length labels.now }
+    requires told { AreTold labels.now marks.old told.old }
+    ensures held { OnOk result ((n : ℕ) → holds marks.new n
+        ≡ (holds marks.old n || holds_character (new_mark n) (get_or labels.now place []))) }
+    ensures kept { OnOk result (IsLonger marks.old marks.new) }
+    ensures told { OnOk result (AreTold labels.now marks.new told.new) }
+{
+    if told.has(place) {
+        return Ok(());
+    }
+    add_marks(labels, marks, place)?;
+    let count = marks.count()?;
+    told.add(place, count)?;
+    Ok(())
+}
+
 // Adds the marks of the home at a place. Those of the label at the place `at` are there.
 fn add_home(
     labels: &Labels,
@@ -69,12 +92,7 @@ fn add_home(
     if labels.begins(home, at) {
         return Ok(());
     }
-    if told.has(home) {
-        return Ok(());
-    }
-    add_marks(labels, marks, home)?;
-    let count = marks.count()?;
-    told.add(home, count)?;
+    add_label(labels, told, marks, home)?;
     Ok(())
 }
 
@@ -175,20 +193,26 @@ fn add_homes(
 /// Adds the marks in the argument of a step with a modal part, which leads to the label at a place.
 pub fn add_modal(
     labels: &Labels,
+    told: &mut ToldHomes,
     marks: &mut NumberSet,
     at: u32,
     modal: LabelArgument,
 ) -> Result<(), NoMemory>
-    requires { (from : derivation.Label) × (logic : Logic)
+    requires label { (from : derivation.Label) × (logic : Logic)
         × IsLabelAt labels.now at (label_after logic from (the_label_argument labels.now modal)) }
+    requires told { AreTold labels.now marks.old told.old }
     ensures held { OnOk result ((n : ℕ) → holds marks.new n
         ≡ (holds marks.old n || in_modal (new_mark n) (the_label_argument labels.now modal))) }
     ensures kept { OnOk result (IsLonger marks.old marks.new) }
+    ensures told { OnOk result (AreTold labels.now marks.new told.new) }
 {
     match modal {
         LabelArgument::None => Ok(()),
-        LabelArgument::To(_) => add_marks(labels, marks, at),
-        LabelArgument::New(number) => marks.add(number),
+        LabelArgument::To(_) => add_label(labels, told, marks, at),
+        LabelArgument::New(number) => {
+            marks.add(number)?;
+            Ok(())
+        }
     }
 }
 

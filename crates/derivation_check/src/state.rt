@@ -32,7 +32,7 @@ pub struct State<'a> {
     pub eigens: NumberSet,
     /// The marks of pi steps that stand in its labels, or in the homes of names in its formulas.
     pub marks: NumberSet,
-    /// Homes whose marks are all among these.
+    /// Labels of steps and of homes whose marks are all among these.
     pub told: ToldHomes,
 }
 

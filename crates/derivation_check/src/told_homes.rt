@@ -1,4 +1,4 @@
-//! Homes whose marks a set of marks has.
+//! Labels whose marks a set of marks has.
 
 ghost use Rattle.std.specs.Prelude.{◌≡◌, ◌++◌, ◌∷◌, [], false, take, OnOk};
 ghost use Rattle.label_table.specs.Longer.{IsLonger};
@@ -9,8 +9,8 @@ use indexmap::IndexMap;
 use std::alloc::Global;
 use std::marker::Model;
 
-/// Places of homes, each with how many of the first marks of a set have all marks of the home. They
-/// are cut back with the set, so a home is gone through once on a branch.
+/// Places of labels, of steps and of homes, each with how many of the first marks of a set have all
+/// marks of the label. They are cut back with the set, so a label is gone through once on a branch.
 #[derive(Drop)]
 pub struct ToldHomes {
     homes: IndexMap<u32, u32>,

@@ -120,7 +120,7 @@ fn grow<'a>(
     let inner = put_argument(&mut state.substitutions, shared.substitution, term)?;
     let binds = state.outline.binds(shared.node);
     add_brought_eigens(&mut state.eigens, binds, term)?;
-    add_modal(&state.labels, &mut state.marks, at, modal)?;
+    add_modal(&state.labels, &mut state.told, &mut state.marks, at, modal)?;
     let labels = &state.labels;
     let homes = &state.homes;
     let told = &mut state.told;

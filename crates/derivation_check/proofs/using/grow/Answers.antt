@@ -10,7 +10,6 @@ use Rattle.derivation_check.proofs.NodeLaws.{node-stands, nodes-added}
 use Rattle.derivation_check.specs.OpenSequents.{after_added, sequents_of, waiting_in}
 use Rattle.derivation_check.specs.StateView.{IsKept}
 use Rattle.derivation_check.proofs.StateLaws.{Growth, grown-kept, grown-shown, kept-open, stands-within}
-use Rattle.derivation_check.proofs.ToldLaws.{told-more}
 use Rattle.derivation_check.specs.ArgumentView.{the_argument, the_label_argument}
 use Rattle.derivation_check.proofs.using.grow.Goals as goal
 
@@ -21,8 +20,11 @@ put_argument-requires-clause-within c =
     let parts = kept-open c.requires.kept.0 s.substitutions s.labels s.eigens s.marks s.sequents.is_open xs (reverse s.sequents.forks.items) c.requires.is_open c.requires.kept.1.sequents in
     (stands-within s.substitutions s.labels xs c.args.used parts.0 c.requires.stands).0
 
-pub add_modal-requires : goal.add_modal-requires
-add_modal-requires c = (_, c.requires.label.0, c.requires.label.1)
+pub add_modal-requires-clause-label : goal.add_modal-requires-clause-label
+add_modal-requires-clause-label c = (_, c.requires.label.0, c.requires.label.1)
+
+pub add_modal-requires-clause-told : goal.add_modal-requires-clause-told
+add_modal-requires-clause-told c = c.requires.kept.1.told
 
 pub add_brought_homes-requires : goal.add_brought_homes-requires
 add_brought_homes-requires c =
@@ -37,7 +39,7 @@ add_brought_homes-requires c =
       there = record {
         within = c.requires.label.1.0;
         label = branch-there names s.substitutions s.labels s.eigens s.marks marks xs c.args.used c.args.at (the_label_argument s.labels c.args.modal) c.requires.stands c.requires.label parts.1 c.in_ok-add_modal.ensures.held;
-        homes = told-more s.labels s.marks marks s.told c.in_ok-add_modal.ensures.kept h.told;
+        homes = c.in_ok-add_modal.ensures.told;
       };
     }
 
