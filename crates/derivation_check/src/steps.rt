@@ -291,6 +291,5 @@ pub fn judge(
 {
     let (mut state, places) = State::new(alloc, problem, d)?;
     let line = first_step_line(version, d);
-    let verdict = judge_steps(problem, d, places.as_slice(), &mut state, line)?;
-    Ok(verdict)
+    judge_steps(problem, d, places.as_slice(), &mut state, line)
 }
