@@ -1,5 +1,5 @@
 -- What the verdict on a text says of the derivation that is handed on, and of what is told.
-use Rattle.std.proofs.Common.{◌≡◌, ℕ, List, ◌∷◌, [], length, Result, Err, IsTrue, refl, sym, ◌∙◌, ap, inl, inr, subst}
+use Rattle.std.proofs.Common.{◌≡◌, ℕ, List, ◌∷◌, [], Result, Err, IsTrue, refl, sym, ◌∙◌, ap, inl, inr, subst}
 use Rattle.calculus.specs.declared.fault.CheckFault.{CheckFault}
 use Rattle.calculus.specs.declared.fault.CheckFault.TheVariants.{Text as InText}
 use Rattle.calculus.specs.declared.fault.TextCause.{TextCause}

@@ -1,5 +1,5 @@
 -- Homes of names stay at their places when the table of labels grows.
-use Rattle.std.proofs.Common.{◌≡◌, ℕ, ◌-◌, ◌||◌, Bool, true, false, not, List, [], ◌∷◌, map, is_some, Option, None, Some, refl, ◌∙◌, ap, arith}
+use Rattle.std.proofs.Common.{◌≡◌, ℕ, ◌||◌, Bool, true, false, not, List, [], ◌∷◌, map, is_some, Option, None, Some, refl, ◌∙◌, ap, arith}
 use Rattle.std.specs.Option.{option_map_or}
 use Rattle.calculus.specs.Calculus.{holds_character, home_holds, is_forbidden, is_in_home, is_known, is_unknown, spare_allowed}
 use Rattle.calculus.specs.Labels.{home_allows}

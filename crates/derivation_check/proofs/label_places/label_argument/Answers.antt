@@ -1,4 +1,4 @@
-use Rattle.std.proofs.Common.{◌≡◌, ◌∙◌, ap, sym}
+use Rattle.std.proofs.Common.{◌∙◌, ap, sym}
 use Rattle.calculus.specs.Derivations.{to}
 use Rattle.calculus.specs.Versions.{stated_modal}
 use Rattle.derivation_text.specs.NumbersView.{the_numbered_modal}

@@ -1,4 +1,4 @@
-use Rattle.std.proofs.Common.{◌≡◌, ◌∙◌, ap, length, sym, arith}
+use Rattle.std.proofs.Common.{◌∙◌, ap, length, sym, arith}
 use Rattle.std.proofs.lemmas.List.{length-map}
 use Rattle.derivation_text.specs.NumbersView.{the_numbered_eigen, the_numbered_spare}
 use Rattle.derivation_check.proofs.ArgumentLaws.{line-one, line-two}

@@ -1,4 +1,4 @@
-use Rattle.std.proofs.Common.{◌≡◌, ◌+◌, ◌∙◌, List, length, map, drop, ap, sym, arith}
+use Rattle.std.proofs.Common.{◌+◌, ◌∙◌, List, length, map, drop, ap, sym, arith}
 use Rattle.std.proofs.lemmas.List.{at_drop_more, drop_all}
 use Rattle.std.specs.Option.{option_map_or}
 use Rattle.calculus.specs.Judgement.{verdict_from}

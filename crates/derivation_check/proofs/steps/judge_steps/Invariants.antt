@@ -1,4 +1,4 @@
-use Rattle.std.proofs.Common.{◌≡◌, ◌+◌, ◌^◌, ◌≤◌, length, map, drop}
+use Rattle.std.proofs.Common.{◌≡◌, ◌+◌, ◌^◌, ◌≤◌, map, drop}
 use Rattle.calculus.specs.Derivations.{Names}
 use Rattle.calculus.specs.Judgement.{verdict_from}
 use Rattle.calculus.specs.Versions.{stated, stated_step}

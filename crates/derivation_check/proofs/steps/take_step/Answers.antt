@@ -1,4 +1,4 @@
-use Rattle.std.proofs.Common.{◌≡◌, ◌∙◌, IsTrue, ap, length, subst, sym}
+use Rattle.std.proofs.Common.{◌∙◌, IsTrue, ap, length, subst, sym}
 use Rattle.std.proofs.lemmas.Bool.{and_parts}
 use Rattle.std.proofs.lemmas.Result.{on_ok_weaker}
 use Rattle.calculus.specs.Calculus.{apply, close_branch, entry_of, use_entry}

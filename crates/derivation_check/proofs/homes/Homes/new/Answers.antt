@@ -1,4 +1,4 @@
-use Rattle.std.proofs.Common.{◌≡◌, ◌∙◌, List, IsTrue, ap, length, map, subst, sym}
+use Rattle.std.proofs.Common.{◌∙◌, IsTrue, ap, length, map, subst, sym}
 use Rattle.std.specs.List.{list_all}
 use Rattle.calculus.specs.Versions.{stated_eigen, stated_spare}
 use Rattle.derivation_text.specs.Listed.{has_home_among, may_have_home_among}
