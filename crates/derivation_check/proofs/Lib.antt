@@ -11,11 +11,11 @@
 -- (`cut-back`); the heart is `children-told`: sets that got what a use step brings tell what occurs on each branch that it leads to.
 -- `StateLaws`: `Growth` and `Used` hold what a use step is told of, with one law for each clause (`grown-kept`, `grown-shown`;
 -- `used-leads`); `StepLaws` leads from a step to the verdict. `AreHomes` says that the home of each listed name is found by its number.
--- `ToldHomes` has homes whose marks the set has, each with how many of the first marks have them all: `told-more`, `told-longer` as sets
--- and tables grow, `told-cut` as a branch is closed, `told-put` for one more. `branch-there`: the marks of the label that a step leads to
--- are in the set, so a home with which it begins brings nothing (`begins-there`). A leaf is judged by places (`is_forbidden_at`), and
--- `allowed-told` leads to the rules. The judgement is said by cases over `Derives` and `IsRejected`; the code follows the verdict as a
--- function (`verdict_from`), and `SequentLaws.accepted_at_iff_derives` of `calculus` leads from one to the other.
+-- `ToldHomes` has labels, of steps and of homes, whose marks the set has, each with how many of the first marks have them all: `told-more`,
+-- `told-longer` as sets and tables grow, `told-cut` as a branch is closed, `told-put` for one more. `branch-there`: the marks of the label
+-- that a step leads to are in the set, so a home with which it begins brings nothing (`begins-there`). A leaf is judged by places
+-- (`is_forbidden_at`), and `allowed-told` leads to the rules. The judgement is said by cases over `Derives` and `IsRejected`; the code
+-- follows the verdict as a function (`verdict_from`), and `SequentLaws.accepted_at_iff_derives` of `calculus` leads from one to the other.
 --
 -- *Numbers.* A label of the text has one place in the table (`ArePlaces`: `place-put` adds one, `places-longer` keeps them), and names
 -- have homes by these places. An argument by its place is that of the calculus in a longer table, too (`argument-longer`), so what

@@ -27,7 +27,8 @@
 --
 -- *Tables.* `PlaceLaws`: a list of places with the first number of each place (`first-end`); the items at these places of a table that has
 -- each item once have the numbers of their places (`told-of`), so `enter` answers `number_in` (`entered-old`, `entered-new`). `TermKeys`:
--- a set of rows has each term once. `AmongLaws`: numbers stay among those that are listed as lists grow.
+-- a set of rows has each term once. `AmongLaws`: numbers stay among those that are listed as lists grow. `RenumberingLaws`: the new number
+-- of each old one is kept from where its item comes first (`new-put`), and what is known changes nothing (`entered-known`).
 
 pub mod Items
 pub mod Parts
