@@ -121,7 +121,6 @@ function read(e) {
 }
 // One answer: what it is in a sentence, its picture, and its forms to keep.
 function show(e, q, problem) {
-  if ($('answer').getBoundingClientRect().top > innerHeight / 2) $('answer').scrollIntoView();
   $('shown').replaceChildren();
   $('actions').replaceChildren();
   $('known').replaceChildren();
@@ -135,7 +134,9 @@ function show(e, q, problem) {
   } else return unknown(e, q);
   if (e.text) { $('text').hidden = false; $('text').querySelector('pre').textContent = e.text; }
   actions(e, q, problem);
+  intoSight();
 }
+function intoSight() { if ($('answer').getBoundingClientRect().top > innerHeight / 2) $('answer').scrollIntoView(); }
 function unknown(e, q) {
   say(e.kind === 'stopped' ? 'Stopped.' : 'Not known in ' + name(q) + ' after ' + e.seconds + ' s.');
   $('known').replaceChildren(element('ul', {}, ...e.known.map(k => element('li', {}, k))));
@@ -143,6 +144,7 @@ function unknown(e, q) {
   $('actions').replaceChildren(
     more > e.seconds || e.kind === 'stopped' ? element('button', { type: 'button', onclick: () => prove({ ...q, seconds: more }) }, 'Go on for ' + (more >= 60 ? more / 60 + ' min' : more + ' s')) : '',
     copyLink(undefined, q));
+  intoSight();
 }
 export function copyLink(steps, q) {
   return element('button', { type: 'button', onclick: async event => {

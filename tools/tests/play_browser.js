@@ -85,6 +85,10 @@ async function answers(page, other) {
   same('a proof', await page.until(drawn) && await page.run(SAID), 'Proved in classical logic: a derivation of 8 steps, which leancop accepts.');
   same('how it was read', await page.run('document.getElementById("read").textContent'), 'Read as: ∀x (P(x) → Q(x)) → (∀x P(x) → ∀x Q(x))');
   await looked(page, 'a proof');
+  await page.size(390, 844);
+  await page.go(await page.run('location.href'));
+  same('the answer is in sight on a phone', await page.until(drawn) && await page.run('Math.abs(document.getElementById("answer").getBoundingClientRect().top) < 20'), true);
+  await page.size(1280, 900);
   same('the address', await page.run('new URLSearchParams(location.hash.slice(1)).get("f")'), 'forall x (Px → Qx) → (forall x Px → forall x Qx)');
   same('the text', await page.run('document.querySelector("#text pre").textContent.startsWith("leancop derivation 1\\n")'), true);
 
