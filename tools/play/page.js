@@ -94,11 +94,14 @@ export function clear() {
   for (const id of ['formula', 'premises']) { $(id + '-fault').replaceChildren(); $(id).removeAttribute('aria-invalid'); }
   say('');
 }
+const NEAR = 120; // characters of a text that are shown on each side of a place
+const shorten = (text, most) => text.length > most ? text.slice(0, most) + ' …' : text;
 export function misread(e) {
   // Places count characters; a text here counts halves of those that are written in two.
   const field = $(e.place), text = field.value, place = n => [...text].slice(0, n).join('').length, start = place(e.start), end = place(Math.max(e.start + 1, e.end));
-  $(e.place + '-fault').replaceChildren(element('span', { class: 'copy', 'aria-hidden': 'true' }, text.slice(0, start), element('mark', {}, text.slice(start, end).trim() || '␣'), text.slice(end)),
-    element('br'), element('span', { class: 'heard' }, 'At character ' + (e.start + 1) + (text.slice(start, end).trim() ? ', “' + text.slice(start, end).trim() + '”' : '') + ': '), e.said[0].toUpperCase() + e.said.slice(1) + (e.said.endsWith('.') ? '' : '.'));
+  const marked = shorten(text.slice(start, end).trim(), NEAR), before = text.slice(0, start), behind = text.slice(end);
+  $(e.place + '-fault').replaceChildren(element('span', { class: 'copy', 'aria-hidden': 'true' }, before.length > NEAR ? '… ' + before.slice(-NEAR) : before, element('mark', {}, marked || '␣'), shorten(behind, NEAR)),
+    element('br'), element('span', { class: 'heard' }, 'At character ' + (e.start + 1) + (marked ? ', “' + marked + '”' : '') + ': '), e.said[0].toUpperCase() + e.said.slice(1) + (e.said.endsWith('.') ? '' : '.'));
   field.setAttribute('aria-invalid', 'true');
   field.focus();
   field.setSelectionRange(start, Math.min(end, text.length));
