@@ -3,7 +3,7 @@ import { exercise } from './exercise.js';
 
 const $ = id => document.getElementById(id);
 const LOGICS = { classical: 'classical logic', intuitionistic: 'intuitionistic logic', d: 'D', t: 'T', s4: 'S4', s5: 'S5' };
-const MODAL = ['d', 't', 's4', 's5'];
+const MODAL = ['d', 't', 's4', 's5'], DOMAINS = ['constant', 'cumulative', 'varying'];
 const SIGNS = [['∀', 'for all', 'forall'], ['∃', 'there is', 'exists'], ['¬', 'not', '~'], ['∧', 'and', '&'], ['∨', 'or', '|'], ['→', 'implies', '->'],
   ['↔', 'if and only if', '<->'], ['□', 'necessary', '[]'], ['◇', 'possible', '<>'], ['=', 'equal', '='], ['⊤', 'true', '\\top'], ['⊥', 'false', '\\bot'],
   ['⊢', 'from premises follows', '|-']];
@@ -190,11 +190,11 @@ function table() {
   keep();
   say('Asking all logics ..');
   const cells = {}, cell = (l, d) => cells[l + ' ' + d] = element('td', {}, '..');
-  const head = ['Logic', 'constant', 'cumulative', 'varying'].map(t => element('th', { scope: 'col' }, t));
+  const head = ['Logic', ...DOMAINS].map(t => element('th', { scope: 'col' }, t));
   const rows = Object.keys(LOGICS).map(l => {
     const row = element('tr', {}, element('th', { scope: 'row' }, l === 'classical' || l === 'intuitionistic' ? l : LOGICS[l]));
     if (!MODAL.includes(l)) { const c = cell(l, ''); c.colSpan = 3; row.append(c); } else if (l === 's5') row.append(cell(l, 'constant'), element('td', { class: 'dim' }, 'as constant'), cell(l, 'varying'));
-    else row.append(...['constant', 'cumulative', 'varying'].map(d => cell(l, d)));
+    else row.append(...DOMAINS.map(d => cell(l, d)));
     return row;
   });
   $('table').replaceChildren(element('div', { class: 'scroll' }, element('table', {}, element('caption', { class: 'dim' }, 'In which logics it is a theorem, and with which domains'), element('thead', {}, element('tr', {}, ...head)), element('tbody', {}, ...rows))));
@@ -263,14 +263,16 @@ async function examples() {
 function fill(words) {
   $('formula').value = words.f || '';
   $('premises').value = words.p || '';
-  if (LOGICS[words.l]) $('logic').value = words.l;
-  if (['constant', 'cumulative', 'varying'].includes(words.d)) $('domains').value = words.d;
+  if (Object.hasOwn(LOGICS, words.l)) $('logic').value = words.l;
+  if (DOMAINS.includes(words.d)) $('domains').value = words.d;
   modal();
 }
 function linked() {
-  const words = Object.fromEntries(new URLSearchParams(location.hash.slice(1)));
+  const words = { l: 'classical', d: 'constant', ...Object.fromEntries(new URLSearchParams(location.hash.slice(1))) };
   if (!words.f) { $('formula').focus(); return; }
   fill(words);
+  const unknown = [...Object.hasOwn(LOGICS, words.l) ? [] : [words.l], ...DOMAINS.includes(words.d) ? [] : [words.d]];
+  if (unknown.length) { clear(); say('This link asks for what is not known here: ' + shorten(unknown.join(', '), NEAR) + '.', 'bad'); return; }
   if (words.x === undefined) prove();
   else exercise(words.x ? words.x.split(';') : []);
 }

@@ -106,6 +106,8 @@ async function answers(page, other) {
   same('a formula that does not parse', await page.run('[document.querySelector("#formula-fault mark").textContent, document.activeElement.id, document.activeElement.selectionStart, document.activeElement.getAttribute("aria-invalid")]'), [')', 'formula', 11, 'true']);
   same('what is heard of it', (await page.named()).filter(n => n.role.value === 'textbox' && n.name.value === 'Formula').map(n => n.description.value.replace(/\s+/g, ' ').trim()), ['At character 12, “)”: A formula is wanted here.']);
   await looked(page, 'a misread formula');
+  await page.go(asked({ f: 'p → p', l: 'k' }));
+  same('a link of a logic that is not there', await page.until(SAID) && await page.run(SAID), 'This link asks for what is not known here: k.');
 
   await page.go(asked({ f: '□p → p', l: 't', d: 'varying' }));
   await page.until(drawn);
