@@ -2,7 +2,7 @@
 import { ask, clear, copyLink, element, frame, keep, misread, say } from './page.js';
 
 const $ = id => document.getElementById(id);
-let state = null, chosen = null, fault = null, hint = null;
+let state = null, chosen = null, fault = null, tried = null, hint = null;
 
 export function exercise(steps) {
   clear();
@@ -15,11 +15,12 @@ function request(steps, asked) {
     if (e.kind === 'refused') { say(e.said, 'bad'); return; }
     state = e;
     fault = e.fault;
+    tried = asked;
     hint = null;
     if (!fault) chosen = null;
     keep(state.steps);
     draw();
-    if (fault) document.querySelector('.exercise [role=alert]').scrollIntoView({ block: 'nearest' });
+    if (fault) heard(document.querySelector('.exercise [role=alert]'));
     else if (asked) [...document.querySelectorAll('.proof button.line')].pop()?.focus(); // the newest entry of the open branch
   });
 }
@@ -30,18 +31,24 @@ function help(all) {
     else if (e.kind === 'structure') hint = 'It cannot be proved: leancop found a structure in which the formula is false. “Prove” shows it.';
     else hint = ['No proof is known here.', ...(e.known || []), e.said || ''].join(' ');
     draw();
-    document.querySelector('.hint')?.scrollIntoView({ block: 'nearest' });
+    heard(document.querySelector('.hint'));
   });
+}
+// What is said anew has the focus, so that it is seen and heard, and Tab goes on behind it.
+function heard(what) {
+  what.tabIndex = -1;
+  what.focus({ preventScroll: true });
+  what.scrollIntoView({ block: 'nearest' });
 }
 
 // ---- what is shown
 
 function draw() {
-  const open = state.open;
+  const open = state.open, button = document.activeElement?.closest('#exercise button')?.textContent;
   if (state.done) say('Proved: leancop accepts your derivation of ' + state.steps.length + (state.steps.length === 1 ? ' step.' : ' steps.'), 'good');
   else if (fault) say('This line is not right.', 'bad');
   else say(open === 1 ? 'One branch is open.' : open + ' branches are open; the marked one comes first.');
-  const tools = element('div', { class: 'tools' }, state.done ? null : ruleForm(), hint ? element('div', { class: 'hint', role: 'status' }, hint) : null, buttons());
+  const tools = element('div', { class: 'tools' }, state.done ? null : ruleForm(), hint ? element('div', { class: 'hint' }, hint) : null, buttons());
   $('exercise').replaceChildren(
     element('p', { class: 'dim' }, 'Entry 1 says that the formula is false (F) at the root. Take entries apart until each branch says of one atom that it is true and that it is false.'),
     element('div', { class: 'exercise' }, element('div', {}, element('div', { class: 'proof', role: 'group', 'aria-label': 'Entries' }, branch(state.tree)), lines()), tools));
@@ -49,6 +56,10 @@ function draw() {
   $('shown').replaceChildren(...(state.done ? [frame(state.page, 'Your proof, step by step')] : []));
   $('text').hidden = !state.done;
   $('text').querySelector('pre').textContent = state.text;
+  if (button) { // what was pressed is drawn anew, and keeps the focus where it is still to be pressed
+    const same = [...document.querySelectorAll('#exercise button')].find(b => b.textContent === button && !b.disabled);
+    if (same) same.focus({ preventScroll: true }); else heard($('said'));
+  }
 }
 function above(b, found = []) { // the branches from the root to the marked one
   if (b.current) return [b, ...found];
@@ -80,23 +91,24 @@ function radio(group, value, text, more, checked) {
   const id = group + '-' + value;
   return element('div', { class: 'choice' }, element('input', { type: 'radio', name: group, id, value, checked }), element('label', { for: id }, text), more || '');
 }
-function typedIn(id, options, group, value, label) {
-  return [element('input', { type: 'text', id, list: id + '-list', 'aria-label': label, autocapitalize: 'off', autocomplete: 'off', spellcheck: 'false', oninput: () => { $(group + '-' + value).checked = true; } }),
+function typedIn(id, options, group, value, label, text) {
+  return [element('input', { type: 'text', id, value: text, list: id + '-list', 'aria-label': label, autocapitalize: 'off', autocomplete: 'off', spellcheck: 'false', oninput: () => { $(group + '-' + value).checked = true; } }),
     element('datalist', { id: id + '-list' }, ...options.map(o => element('option', { value: o })))];
 }
 function ruleForm() {
   const e = entries().find(x => x.n === chosen);
   if (!e) return element('p', {}, 'Choose an entry of the open branch.');
+  const was = fault && tried?.entry === e.n ? tried : {}; // what was not right stands there to be mended
   const form = element('form', { autocomplete: 'off', onsubmit: event => { event.preventDefault(); apply(e, form); } },
     element('fieldset', {}, element('legend', {}, 'Take entry ' + e.n + ' apart'),
-      state.modal ? element('div', { role: 'radiogroup', 'aria-label': 'at which world' }, radio('world', 'none', 'where it stands', null, true),
-        radio('world', 'to', 'at a world that is reached:', element('span', {}, ...typedIn('to', state.worlds, 'world', 'to', 'world'))), radio('world', 'new', 'at a new world')) : '',
+      state.modal ? element('div', { role: 'radiogroup', 'aria-label': 'at which world' }, radio('world', 'none', 'where it stands', null, was.to === undefined && !was.new),
+        radio('world', 'to', 'at a world that is reached:', element('span', {}, ...typedIn('to', state.worlds, 'world', 'to', 'world', was.to)), was.to !== undefined), radio('world', 'new', 'at a new world', null, was.new)) : '',
       state.modal ? element('hr') : '',
-      element('div', { role: 'radiogroup', 'aria-label': 'for whom' }, radio('who', 'none', 'for nobody in particular', null, true),
-        radio('who', 'term', 'for the term:', element('span', {}, ...typedIn('term', state.terms, 'who', 'term', 'term'))), radio('who', 'name', 'for someone with a new name')),
+      element('div', { role: 'radiogroup', 'aria-label': 'for whom' }, radio('who', 'none', 'for nobody in particular', null, was.term === undefined && !was.name),
+        radio('who', 'term', 'for the term:', element('span', {}, ...typedIn('term', state.terms, 'who', 'term', 'term', was.term)), was.term !== undefined), radio('who', 'name', 'for someone with a new name', null, was.name)),
       element('div', { class: 'row' }, element('button', { class: 'first' }, 'Apply'))),
     element('fieldset', {}, element('legend', {}, 'Or close the branch'), element('div', { class: 'choice' }, element('label', { for: 'other' }, 'entry ' + e.n + ' contradicts entry'),
-      element('select', { id: 'other' }, ...entries().filter(x => x.n !== e.n).map(x => element('option', { value: x.n }, x.n + ' ' + x.sign + ' ' + x.formula.slice(0, 40)))),
+      element('select', { id: 'other' }, ...entries().filter(x => x.n !== e.n).map(x => element('option', { value: x.n, selected: x.n === was.other }, x.n + ' ' + x.sign + ' ' + x.formula.slice(0, 40)))),
       element('button', { type: 'button', onclick: () => request(state.steps, { rule: 'axiom', entry: e.n, other: +$('other').value }) }, 'Close'))),
     element('details', {}, element('summary', {}, 'What does its rule say?'), element('p', {}, e.rule)));
   return form;

@@ -63,6 +63,7 @@ function stop() {
   busy(false);
 }
 function busy(is) {
+  if (!is && document.activeElement === $('stop')) $('prove').focus({ preventScroll: true });
   $('stop').hidden = !is;
   $('answer').setAttribute('aria-busy', is);
 }
@@ -145,7 +146,7 @@ function unknown(e, q) {
   $('known').replaceChildren(element('ul', {}, ...e.known.map(k => element('li', {}, k))));
   const more = Math.min(600, e.seconds * 6);
   $('actions').replaceChildren(
-    more > e.seconds || e.kind === 'stopped' ? element('button', { type: 'button', onclick: () => prove({ ...q, seconds: more }) }, 'Go on for ' + (more >= 60 ? more / 60 + ' min' : more + ' s')) : '',
+    more > e.seconds || e.kind === 'stopped' ? element('button', { type: 'button', onclick: () => { prove({ ...q, seconds: more }); $('stop').focus({ preventScroll: true }); } }, 'Go on for ' + (more >= 60 ? more / 60 + ' min' : more + ' s')) : '',
     copyLink(undefined, q));
   intoSight();
 }

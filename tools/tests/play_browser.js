@@ -166,9 +166,11 @@ async function exercises(page) {
   await page.enter();
   same('a wrong line, in words', await page.until('document.querySelector(".exercise [role=alert]")') && await page.run('document.querySelector(".exercise [role=alert]").textContent'),
     'Entry 2 is T □(p → q): its rule takes a world that is reached (to). (wrong arguments)');
+  same('the wrong line has the focus', await page.run('document.activeElement.getAttribute("role")'), 'alert');
   await looked(page, 'a wrong line');
-  await page.run('[...document.querySelectorAll(".tools button")].find(b => b.textContent === "Hint").click()');
-  same('a hint', await page.until('document.querySelector(".hint")') && (await page.run('document.querySelector(".hint").textContent')).slice(0, 26), 'Use entry 3, F □p → □q. A ');
+  await page.run('[...document.querySelectorAll(".tools button")].find(b => b.textContent === "Hint").focus()');
+  await page.enter();
+  same('a hint', await page.until('document.querySelector(".hint")') && (await page.run('document.activeElement.className + document.querySelector(".hint").textContent')).slice(0, 30), 'hintUse entry 3, F □p → □q. A ');
   await press(3);
   await page.enter();
   await page.until('document.querySelectorAll(".proof button.line").length === 5');
@@ -188,6 +190,13 @@ async function exercises(page) {
   same('a wrong text', await page.until('document.querySelector(".exercise [role=alert]")') && await page.run('[' + SAID + ', document.querySelector(".exercise [role=alert]").textContent, ' + drawn + ']'),
     ['This line is not right.', 'p and q are different atoms. (no connection)', false]);
   same('what is left of it', await page.run('document.querySelectorAll(".proof button.line").length'), 3);
+  await page.go(asked({ f: 'P(a) → ∃x P(x)', l: 't', x: 'use 1' }));
+  await page.until('document.querySelectorAll(".proof button.line").length === 3');
+  await press(3);
+  await page.run('document.getElementById("term").focus()');
+  await page.typed('f((');
+  await page.enter();
+  same('a wrong term stays to be mended', await page.until('document.querySelector(".exercise [role=alert]")') && await page.run('[document.getElementById("term").value, document.getElementById("who-term").checked]'), ['f((', true]);
 }
 
 (async () => {
