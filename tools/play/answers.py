@@ -23,6 +23,7 @@ MODAL = ("d", "t", "s4", "s5")
 DOMAINS = ("constant", "cumulative", "varying")
 SETTINGS = [("classical", ""), ("intuitionistic", "")] + [(m, d) for m in MODAL for d in DOMAINS if (m, d) != ("s5", "cumulative")]
 LONGEST_TEXT = 200_000  # characters of a field of the page
+OTHER_LANGUAGE = ["A qmf item is of a modal logic: pick D, T, S4 or S5.", "Items fof and cnf are of classical or intuitionistic logic: pick one of them."]
 FIRST_STEPS, MORE = 20_000, 8  # budgets of the search, one after the other: what is searched whole is known when the time is over
 
 
@@ -121,7 +122,8 @@ class Work:
         place = re.fullmatch(re.escape(str(self.file)) + r":(\d+): (.*)", said)
         if place and formulas.is_tptp(self.q.formula):
             before = self.problem.text.encode("utf-8")[:int(place[1])].decode("utf-8", "ignore")
-            raise formulas.Misread("formula", formulas.Unread(len(before), len(before) + 1, f"the program says: {place[2]}. {self.explained()}"))
+            why = OTHER_LANGUAGE[self.q.logic in MODAL] if place[2] == "wrong language" else self.explained()
+            raise formulas.Misread("formula", formulas.Unread(len(before), len(before) + 1, f"the program says: {place[2]}. {why}"))
         raise Refused(f"The program says: {said.replace(str(self.file), 'problem.p')}. {self.explained()}")
 
     def explained(self) -> str:
@@ -216,7 +218,7 @@ class Work:
         elif ended.late:
             self.known.append("No finite counter-structure was found in this time.")
         elif ended.status in (1, 2, 70):
-            self.known.append("Counter-structures: " + said)
+            self.known.append(none_found(said))
         else:
             self.known.append("The search for counter-structures broke off.")
         return None
@@ -249,6 +251,15 @@ class Work:
         name = f"{self.job.name}.{len(self.bench.pages)}.{time.monotonic_ns()}"
         self.bench.keep(name, ended.out)
         return name
+
+
+def none_found(said: str) -> str:
+    """What leancop-refute says where it finds nothing, in a sentence."""
+    sizes = re.fullmatch(r".* sizes \(worlds x elements\) without one: (.*)", said)
+    if not sizes:
+        return "Counter-structures: " + said
+    several = [f"{w} world{'s' * (w != '1')} and {e} element{'s' * (e != '1')}" for w, e in re.findall(r"(\d+)x(\d+)", sizes[1])]
+    return "No counter-structure was found." + (f" By the SAT solver's word there is none of {', none of '.join(several)}." if several else "")
 
 
 # ---- what the page asks for

@@ -129,6 +129,6 @@ function buttons() {
 }
 function lines() {
   const list = element('ol', { 'aria-label': 'Lines of the derivation' }, ...state.steps.map(s => element('li', {}, element('code', {}, s))));
-  if (fault) list.append(element('li', {}, element('code', {}, fault.line), element('span', { class: 'fault', role: 'alert' }, fault.said + ' (' + fault.word + ')' + (fault.lost ? ' ' + fault.lost + ' lines behind it are left out.' : ''))));
+  if (fault) list.append(element('li', {}, element('code', {}, fault.line), element('span', { class: 'fault', role: 'alert' }, fault.said + ' (' + fault.word + ')' + (fault.lost ? ' ' + fault.lost + (fault.lost === 1 ? ' line behind it is' : ' lines behind it are') + ' left out.' : ''))));
   return list;
 }

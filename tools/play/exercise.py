@@ -15,7 +15,7 @@ from sequent import (Branch, Derivation, Entry, Label, Rest, Step, Tree, Unreada
 from shown import Reader, label_of, rule, step_in_words, wanted, world
 
 Check = Callable[[str], str]  # what the program says of the text of a derivation
-MOST_STEPS, LONGEST_STEP = 2_000, 4_000
+MOST_STEPS, LONGEST_STEP, GREATEST_NUMBER = 2_000, 4_000, 2**32 - 1
 
 
 def formula_of(file: Path, logic: str) -> Tree:
@@ -228,6 +228,9 @@ class Exercise:
         behind = WANTED_BEHIND.get(words[-1]) or ("the number of the entry that it contradicts" if re.fullmatch(r"axiom \d+ ?", line) else None)
         if behind or not line.strip():
             return f"The line stops here: {behind or 'a step'} is missing."
+        great = next((n for n in re.findall(r"(?<![\w'$])\d+|(?<=\$\$[a-z])\d+", line, re.A) if int(n[:20]) > GREATEST_NUMBER), None)
+        if great:
+            return f"{great[:20]}{'..' * (len(great) > 20)} is greater than any number of an entry or a name."
         term = re.search(r" term (.*)$", line)
         has = ", ".join(self.reader.name("function", n) + (f" with {k} arguments" if k > 1 else " with 1 argument" if k else "") for n, k in self.functions)
         has = f"The problem's names are: {has}" if has else "The problem names nothing"

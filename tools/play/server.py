@@ -176,7 +176,7 @@ class Handler(BaseHTTPRequestHandler):
         question, name = Question.of(asked), secrets.token_urlsafe(9)
         what, steps = asked.get("what"), asked.get("steps", [])
         if not isinstance(steps, list) or len(steps) > 2_000 or not all(isinstance(s, str) and len(s) <= 4_000 and "\n" not in s for s in steps):
-            raise Refused("the steps are no list of lines")
+            raise Refused("an exercise has at most 2,000 lines of at most 4,000 characters")
         if what == "exercise":
             step = asked.get("asked")
             work: Callable[[Job], None] = partial(answers.exercise, question=question, steps=steps, asked=step if isinstance(step, dict) else None)

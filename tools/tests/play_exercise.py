@@ -82,6 +82,7 @@ FAULTS = [  # problem, options, steps, the last of which is wrong, the program's
     ("examples/drinker.p", [], ["use 1 term zero"], "line", "zero is no name of this problem"),
     ("examples/drinker.p", [], ["use 1 term f(("], "line", "is no term"),
     ("examples/drinker.p", [], ["use 1 term"], "line", "The line stops here: the term is missing"),
+    ("examples/peirce.p", [], ["use 99999999999"], "line", "99999999999 is greater than any number"),
     ("examples/peirce.p", [], ["use 1", "axiom 3"], "line", "The line stops here: the number of the entry that it contradicts"),
     ("examples/drinker.p", [], ["use 1 term $$e1"], "unknown name", "Nothing is named e₁ yet"),
     ("examples/drinker.p", [], ["use 1 term $$s1", "use 2 name $$e1", "use 3", "axiom 4 5"], "no connection", "different atoms"),
