@@ -73,9 +73,15 @@ class Handler(BaseHTTPRequestHandler):
             return "this server answers to its own page alone"
         return None
 
+    def asked_path(self) -> str:
+        try:
+            return urlsplit(self.path).path
+        except ValueError:  # an address with brackets that are none
+            return ""
+
     def inside(self) -> str | None:
         """The path behind the token, or None for one without it."""
-        first, _, rest = urlsplit(self.path).path.removeprefix("/").partition("/")
+        first, _, rest = self.asked_path().removeprefix("/").partition("/")
         return rest if hmac.compare_digest(first.encode(), self.server.token.encode()) else None
 
     def foreign(self) -> bool:
@@ -122,7 +128,7 @@ class Handler(BaseHTTPRequestHandler):
             return self.refuse(403, said)
         path = self.inside()
         if path is None:
-            if self.command == "GET" and urlsplit(self.path).path == "/":
+            if self.command == "GET" and self.asked_path() == "/":
                 return self.give_door()
             return self.refuse(403, "the link that leancop-play opened has a token, which this address lacks")
         if not self.server.at_once.acquire(blocking=False):

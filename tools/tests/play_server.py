@@ -97,6 +97,7 @@ def who_asks(s: Played) -> None:
     same("its parts", [s.send(page + name)[0] for name in ("page.js", "page.css", "exercise.js", "examples.json")], [200] * 4)
     same("by its other name", s.send(page, Host=f"localhost:{s.port}")[0], 200)
     same("without a token", [s.send(p)[0] for p in ("/", "/page.js", "/x/", f"/{s.token[:-1]}/", "//", "/%C3%A9/")], [403] * 6)
+    same("an address that is none", s.send("http://[/")[0], 403)
     same("the door tells no token", s.token.encode() in s.send("/")[1], False)
     for host in ("example.org", f"example.org:{s.port}", "127.0.0.1", f"127.0.0.1:{s.port}.example.org", None):
         same(f"host {host}", s.send(page, Host=host)[0], 403)
