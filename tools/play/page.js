@@ -116,7 +116,7 @@ function plural(n, one) { return n + ' ' + one + (n === 1 ? '' : 's'); }
 
 export function frame(page, title) {
   if (!page) return element('p', {}, 'Nothing is drawn of it here; its text is below.');
-  return element('div', {}, element('iframe', { src: 'shown/' + page, title }), element('p', {}, element('a', { href: 'shown/' + page, target: '_blank', rel: 'noopener' }, 'The picture alone')));
+  return element('div', {}, element('iframe', { src: 'shown/' + page, title }), element('p', {}, element('a', { href: 'shown/' + page, target: '_blank', rel: 'noopener' }, 'The picture alone'), element('span', { class: 'paper' }, ' is printed from its own page.')));
 }
 function read(e) {
   if (!e.as.length) return;
@@ -287,6 +287,7 @@ $('stop').addEventListener('click', () => { if (current?.job) post('stop', { job
 addEventListener('keydown', event => { if (event.key === 'Escape' && !event.isComposing && !$('stop').hidden) $('stop').click(); });
 $('logic').addEventListener('change', modal);
 addEventListener('hashchange', linked);
+addEventListener('beforeprint', () => { $('text').open = true; });
 try { localStorage.setItem('leancop-play', location.pathname); } catch { /* links without a token then need the command */ }
 examples();
 post('here', {}).then(({ remarks }) => { $('remarks').hidden = !remarks.length; $('remarks').textContent = remarks.join(' '); }).catch(() => {});
