@@ -90,6 +90,7 @@ function modal() { $('domains').disabled = !MODAL.includes($('logic').value); }
 
 export function say(text, how = '') { $('said').textContent = text; $('said').className = how; document.title = (text ? text.split(/[:.]/)[0] + ' · ' : '') + 'leancop'; }
 export function clear() {
+  $('welcome')?.remove();
   for (const id of ['known', 'read', 'actions', 'table', 'exercise', 'shown']) $(id).replaceChildren();
   $('text').hidden = true;
   for (const id of ['formula', 'premises']) { $(id + '-fault').replaceChildren(); $(id).removeAttribute('aria-invalid'); }
