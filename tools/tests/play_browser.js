@@ -1,5 +1,6 @@
 // node play_browser.js LINK [FOLDER]: the page of leancop-play in Chromium, as its readers use it. Prints the number of looks that came out
-// as wanted, and each that did not. With FOLDER, pictures are put there.
+// as wanted, and each that did not. With FOLDER, pictures are put there, and measured.tsv: of each look the lowest contrast of a text, that
+// of an edge, and the height of the lowest button or field.
 'use strict';
 const fs = require('fs');
 const { start } = require('./chromium.js');
@@ -43,17 +44,23 @@ async function tab(browser) {
 const asked = words => link + '#' + new URLSearchParams(words);
 const SAID = 'document.getElementById("said").textContent';
 
-// Text below a contrast of 4.5 with what is behind it; what is broader than the window; fields and buttons without a name.
-const DIM = `(() => {
+// The lowest contrasts and the least height: of texts with what is behind them, 4.5; of the edges of fields and buttons, 3; and 24 pixels for
+// what is pressed. What is lower is told. Parts that are disabled have no need of it.
+const MEASURED = `(() => {
   const numbers = c => (c.match(/[\\d.]+/g) || []).map(Number), light = ([r, g, b]) => [r, g, b].map(v => v / 255).map(v => v <= .03928 ? v / 12.92 : ((v + .055) / 1.055) ** 2.4).reduce((s, v, i) => s + v * [.2126, .7152, .0722][i], 0);
   const behind = e => { for (; e; e = e.parentElement) { const c = numbers(getComputedStyle(e).backgroundColor); if (c.length === 3 || c[3] > 0) return c; } return matchMedia('(prefers-color-scheme: dark)').matches ? [0, 0, 0] : [255, 255, 255]; };
-  const dim = [];
+  const contrast = (colour, ground) => { const [a, b] = [light(numbers(colour)), light(ground)].sort((x, y) => y - x); return (a + .05) / (b + .05); };
+  const least = { text: 99, edge: 99, height: 999 }, low = [];
+  const look = (what, of, wanted, e) => { least[what] = Math.min(least[what], of); if (of < wanted) low.push(what + ' ' + of.toFixed(2) + ' ' + e.tagName + '.' + e.className + ' ' + e.textContent.trim().slice(0, 20)); };
   for (const e of document.querySelectorAll('body *')) {
-    if (e.disabled || !e.getClientRects().length || getComputedStyle(e).visibility === 'hidden' || ![...e.childNodes].some(n => n.nodeType === 3 && n.textContent.trim())) continue;
-    const [a, b] = [light(numbers(getComputedStyle(e).color)), light(behind(e))].sort((x, y) => y - x), contrast = (a + .05) / (b + .05);
-    if (contrast < 4.5) dim.push(e.tagName + '.' + e.className + ' ' + e.textContent.trim().slice(0, 20) + ' ' + contrast.toFixed(2));
+    const style = getComputedStyle(e);
+    if (e.disabled || !e.getClientRects().length || style.visibility === 'hidden') continue;
+    if ([...e.childNodes].some(n => n.nodeType === 3 && n.textContent.trim())) look('text', contrast(style.color, behind(e)), 4.5, e);
+    if (e.placeholder && !e.value) look('text', contrast(getComputedStyle(e, '::placeholder').color, behind(e)), 4.5, e);
+    if (e.matches('button, select, textarea, input[type=text]')) look('edge', contrast(style.borderTopColor, behind(e.parentElement)), 3, e);
+    if (e.matches('button, select, textarea, input[type=text], summary')) look('height', e.getBoundingClientRect().height, 24, e);
   }
-  return dim;
+  return { ...least, low };
 })()`;
 const NAMED = new Set(['button', 'textbox', 'combobox', 'radio', 'link', 'Iframe', 'toolbar', 'table']);
 async function looked(page, what) {
@@ -61,7 +68,9 @@ async function looked(page, what) {
     await page.size(width, height);
     for (const scheme of ['light', 'dark']) {
       await page.scheme(scheme);
-      same(what + ', contrast, ' + scheme + ' at ' + width, await page.run(DIM), []);
+      const { text, edge, height: least, low } = await page.run(MEASURED);
+      same(what + ', contrast and height, ' + scheme + ' at ' + width, low, []);
+      if (folder) fs.appendFileSync(folder + '/measured.tsv', [what, width, scheme, text.toFixed(2), edge.toFixed(2), Math.round(least)].join('\t') + '\n');
       if (folder) await later(500);
       if (folder) await (width < 600 ? page.whole : page.picture)(folder + '/' + what.replace(/\W+/g, '_') + '_' + width + '_' + scheme + '.png');
     }
