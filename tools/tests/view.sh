@@ -101,6 +101,8 @@ if command -v chromium >/dev/null && command -v node >/dev/null; then
     tools/leancop-view examples/even.p "$folder/even.txt" >"$folder/pages/even.html"
     tools/leancop-view examples/pigeonhole3.p "$folder/pigeonhole3.txt" >"$folder/pages/long.html"
     tools/leancop-view examples/pelletier46.p tools/tests/texts/pelletier46_idle.txt >"$folder/pages/trimmed.html"
+    "$LEANCOP" prove examples/group.p >"$folder/group.txt"
+    tools/leancop-view examples/group.p "$folder/group.txt" >"$folder/pages/broad.html"
     tools/leancop-view examples/modal/converse_barcan.p "$folder/d.txt" >"$folder/pages/worlds.html"
     tools/leancop-view examples/drinker.p tools/tests/texts/drinker_tableau.txt >"$folder/pages/tableau.html"
     tools/leancop-view examples/modal/barcan.p examples/structures/barcan.s4.cumulative.txt >"$folder/pages/structure.html"
@@ -181,7 +183,7 @@ fi
 if [ -n "${begun[pages]:-}" ]; then
     finish pages
     same 'pages as readers see them' "${got//[0-9]/}" ' held'
-    has 'how many checks held' "$got" '132 held'
+    has 'how many checks held' "$got" '154 held'
 else
     skip 'chromium or node is not here'
 fi

@@ -1,9 +1,11 @@
-// node view_pages.js FOLDER PAGE: looks at pages of leancop-view in Chromium, as their readers do, and prints a line for each check that
-// fails, and in the end how many held. FOLDER has even.html, trimmed.html, long.html (more than 300 steps), worlds.html, tableau.html and
-// structure.html, all made by leancop-view, of problems with these names; PAGE is leancop-view.html itself.
+// node view_pages.js FOLDER PAGE [MEASURED]: looks at pages of leancop-view in Chromium, as their readers do, and prints a line for each
+// check that fails, and in the end how many held. FOLDER has even.html, trimmed.html, long.html (more than 300 steps), broad.html (with long
+// formulas in cases), worlds.html, tableau.html and structure.html, all made by leancop-view, of problems with these names; PAGE is
+// leancop-view.html itself. To the file MEASURED goes of each look the lowest contrast of a text, that of an edge, and the least height of
+// what is pressed.
 'use strict';
 const fs = require('fs'), path = require('path'), { start } = require('./chromium.js');
-const [, , folder, bare] = process.argv, url = name => 'file://' + path.resolve(folder, name);
+const [, , folder, bare, measured] = process.argv, url = name => 'file://' + path.resolve(folder, name);
 let held = 0;
 function check(what, fact) { if (fact) held++; else console.log('fails: ' + what); }
 
@@ -20,7 +22,9 @@ const LOOKED_AT = `(() => {
     if (contrast < worst) { worst = contrast; where = n.className + ' ' + t.data.slice(0, 30); }
   }
   const clickable = [...document.querySelectorAll('#page [data-step], #page button, #page input, #page summary, #page textarea')].filter(n => !n.matches('button, input, summary, textarea') && !n.closest('[role=treeitem]'));
-  return { worst, where, wide: document.documentElement.scrollWidth - innerWidth, title: document.title, without: clickable.length,
+  const edges = [...document.querySelectorAll('button, textarea')].filter(n => n.getClientRects().length).map(n => { const [a, b] = [light(rgb(getComputedStyle(n).borderTopColor)), light(ground(n.parentElement))].sort((x, y) => y - x); return (a + 0.05) / (b + 0.05); });
+  const low = Math.min(...[...document.querySelectorAll('button, textarea, summary')].filter(n => n.getClientRects().length).map(n => n.getBoundingClientRect().height));
+  return { worst, where, edge: Math.min(...edges), low, wide: document.documentElement.scrollWidth - innerWidth, title: document.title, without: clickable.length,
     roles: ['tree', 'treeitem', 'group', 'listbox', 'option', 'status'].filter(r => document.querySelector('[role=' + r + ']')).join(' '), landmarks: ['header', 'nav', 'main', 'h1'].filter(n => document.querySelector(n)).join(' ') };
 })()`;
 // Whether the first entry that a step adds, with its number and its sign, stands in sight below the buttons, and how many entries are drawn.
@@ -37,6 +41,8 @@ async function looks(p, name, problem) {
     await p.open(url(name));
     const got = await p.run(LOOKED_AT), at = name + ' at ' + width + ', ' + scheme;
     check(at + ': contrast ' + got.worst.toFixed(2) + ' of ' + got.where, got.worst >= 4.5);
+    check(at + ': an edge of contrast ' + got.edge.toFixed(2) + ', ' + got.low + ' pixels high', got.edge >= 3 && got.low >= 24);
+    if (measured) fs.appendFileSync(measured, [name, width, scheme, got.worst.toFixed(2), got.edge.toFixed(2), Math.round(got.low)].join('\t') + '\n');
     check(at + ': wider than the screen by ' + got.wide, got.wide <= 0);
     check(at + ': the title ' + got.title, got.title.startsWith(problem + ': '));
     check(at + ': ' + got.without + ' clickable things without a role', got.without === 0);
@@ -107,6 +113,16 @@ async function prints(p) {
     check(name + ' printed: ' + JSON.stringify(got), got.out === 0 && got.none === 0 && got.cut === 0);
     await p.media('');
   }
+  const { data } = await p.ask('Page.printToPDF', {}), count = /\/Count (\d+)/.exec(Buffer.from(data, 'base64').toString('latin1'));
+  check('a small structure is printed on one page: ' + count, count && count[1] === '1');
+}
+
+// The sign that folds a case stands beside its entry, also where the entry is long.
+async function folds(p) {
+  await p.size(390, 844);
+  await p.open(url('broad.html') + '#20');
+  const got = await p.run(`[...document.querySelectorAll('#tree .head')].filter(h => h.getClientRects().length).map(h => [h.firstElementChild, h.children[1]].map(n => n.getBoundingClientRect())).filter(([fold, entry]) => fold.bottom < entry.top).length`);
+  check(got + ' signs that fold stand above their entries', got === 0);
 }
 
 async function judges(p) {
@@ -154,6 +170,7 @@ async function frames(p) {
     await keys(p);
     await trims(p);
     await prints(p);
+    await folds(p);
     await judges(p);
     await frames(p);
     check('no exception: ' + p.thrown.slice(0, 2).join('; '), p.thrown.length === 0);
