@@ -95,8 +95,11 @@ class Judge:
     def later(self, world: int) -> list[int]:
         return self.structure.reached[world] if self.intuitionistic else [world]
 
+    def key(self, seen: Seen) -> tuple[int, int, Elements]:
+        return id(seen.formula), seen.world, tuple([seen.environment[name] for name in self.names(seen.formula)])
+
     def holds(self, f: Formula, environment: Environment, world: int) -> bool:
-        key = id(f), world, tuple(environment[name] for name in self.names(f))
+        key = id(f), world, tuple([environment[name] for name in self.names(f)])
         if key not in self.known:
             self.looks += 1
             if self.looks > MOST_LOOKS:
@@ -214,7 +217,7 @@ def some(seen: list[Seen]) -> tuple[list[Seen], int]:
 
 def lines_of(judge: Judge, seen: Seen, depth: int) -> Iterator[str]:
     """A sentence, and those on which it rests below it."""
-    reasons = list({(id(r.formula), r.world, r.holds, show(r)): r for r in judge.reasons(seen)}.values())
+    reasons = list({judge.key(r): r for r in judge.reasons(seen)}.values())
     plain, rest = [r for r in reasons if is_atom(r)], [r for r in reasons if not is_atom(r)]
     shown = atom(judge, seen) if is_atom(seen) else show(seen)
     since = []
