@@ -1,10 +1,12 @@
 """Other programs: leancop, which judges all that is printed, and what ends with this process."""
 from __future__ import annotations
 
+import contextlib
 import os
 import signal
 import subprocess
 import sys
+from collections.abc import Iterator
 from dataclasses import dataclass
 from types import FrameType
 from typing import NoReturn
@@ -49,6 +51,21 @@ def end_with_children() -> None:
     """Where this process is asked to end, what it runs ends too."""
     for number in (signal.SIGHUP, signal.SIGINT, signal.SIGTERM):
         signal.signal(number, stop)
+
+
+@contextlib.contextmanager
+def within(seconds: float, answer: Answer) -> Iterator[None]:
+    """Gives the answer where the time ends before what is done inside."""
+    def end(_: int, __: FrameType | None) -> NoReturn:
+        raise answer
+
+    before = signal.signal(signal.SIGALRM, end)
+    signal.setitimer(signal.ITIMER_REAL, seconds)
+    try:
+        yield
+    finally:
+        signal.setitimer(signal.ITIMER_REAL, 0)
+        signal.signal(signal.SIGALRM, before)
 
 
 def put(output: bytes) -> bool:

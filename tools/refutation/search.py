@@ -40,10 +40,12 @@ class Found(NamedTuple):
         return self.refutation.text(self.true)
 
 
-class Attempt(NamedTuple):
+@dataclass
+class Attempt:
     """The clauses of a size, and what is still to be written."""
     refutation: Refutation
     writing: Iterator[None]
+    is_written: bool = False
 
 
 @dataclass
@@ -119,23 +121,25 @@ class Search:
             answer = self.attempt(size, min(share, self.end - time.monotonic()))
             if isinstance(answer, Found):
                 return answer
-            if answer is None:  # two turns later with more time
-                heapq.heappush(todo, (turn + 2, cost, size, share * 3))
+            if answer is None:  # with more time: at once where not even the least size is written, else two turns later
+                is_least = not self.refused and list(self.waiting) == [size] and not self.waiting[size].is_written
+                heapq.heappush(todo, (turn if is_least else turn + 2, cost, size, share * 3))
         self.exhausted = not todo
         return None
 
     def attempt(self, size: Size, seconds: float) -> Found | bool | None:
         """A structure of the size, False where there is none, None where the time did not suffice."""
         began = time.monotonic()
-        refutation, writing = self.waiting.pop(size, None) or self.begin(size)
+        attempt = self.waiting.pop(size, None) or self.begin(size)
+        refutation = attempt.refutation
         refutation.end = max(self.end, began + seconds)
         true: Truths | bool | None = None
         try:
-            is_written = self.write(writing, began + seconds)
+            attempt.is_written = self.write(attempt.writing, began + seconds)
         except Late:
             return None
         ready = time.monotonic()
-        solver = Solver(self.solver, refutation) if is_written else None
+        solver = Solver(self.solver, refutation) if attempt.is_written else None
         if solver:
             true = solver.solve([], began + seconds - ready)
         told = "found" if isinstance(true, list) else "late" if true is None else "none"
@@ -148,7 +152,7 @@ class Search:
             self.refused.append(size)
             self.left = [*self.left[1 - KEPT:], refutation]
             return False
-        self.waiting[size] = Attempt(refutation, writing)
+        self.waiting[size] = attempt
         return None
 
     def begin(self, size: Size) -> Attempt:

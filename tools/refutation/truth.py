@@ -89,10 +89,19 @@ class Truth(Structure):
         term.choices[:] = [(x, d) for d, x in enumerate(term.literals) if x != F]
 
     def plain_atoms(self, node: Formula, rows: list[Elements], places: Elements, w: int) -> Column | None:
-        """The literals of an atom without functions."""
-        if any(self.nodes[number][0] != "var" for number, _ in node[2]):
-            return None
-        arguments = map(chosen(tuple(places[where[0]] for _, where in node[2])), rows)
+        """The literals of an atom whose terms are variables, or constants that can be one element alone."""
+        fixed: Elements = ()
+        arguments_at: list[int] = []
+        for number, where in node[2]:
+            if self.nodes[number][0] == "var":
+                arguments_at.append(places[where[0]])
+                continue
+            choices = [] if where else self.term(number, ())
+            if len(choices) != 1:
+                return None
+            arguments_at.append(len(rows[0]) + len(fixed))
+            fixed += (choices[0][1],)
+        arguments = map(chosen(tuple(arguments_at)), [row + fixed for row in rows] if fixed else rows)
         if node[1] == EQUALITY[0] and self.identity:
             return [T if left == right else F for left, right in arguments]
         table = self.table((node[1], len(node[2])))
