@@ -4,9 +4,9 @@
 Random formulas in each logic and with each domain condition, given to `leancop prove` and to the search for a structure that refutes. It is
 a fault where a formula has a derivation and a structure, where `leancop model` or the judge of tools/refutation/words.py does not find a
 structure's formula false, where the derivation is not accepted, or where a structure was missed: a random one refutes what the search said
-that none of this size does, or a greater size has none. Told, and no fault: `no tableau` where no structure of up to four worlds and four
+that none of this size does, or a greater size has none. Listed, and no fault: `no tableau` where no structure of up to four worlds and four
 elements is there by the solver's word; such a problem is given fifteen times as long for that. --keep= gets the problems of both kinds.
-Prints a table by logic. Ends with 1 where there is a fault, and with 77 where no solver is here.
+Prints these, and a table by logic. Ends with 1 where there is a fault, and with 77 where no solver is here.
 
 LEANCOP names the program; without it, it is that of this checkout."""
 from __future__ import annotations
@@ -159,17 +159,19 @@ class Trial:
         self.faults = 0
 
     def tell(self, logic: str, what: str, text: str, setting: str) -> None:
-        self.counts[logic][what] += 1
+        """Prints a problem and what was found of it, and keeps it."""
+        column = what if what in COLUMNS else "fault"
+        self.counts[logic][column] += 1
+        print(f"differential.py: {what}, {setting}:\n{text}", end="", flush=True)
         if self.keep:
             os.makedirs(self.keep, exist_ok=True)
-            name = f"{what.replace(' ', '_')}_{setting.replace(' ', '_')}_{sum(c['formulas'] for c in self.counts.values())}.p"
+            name = f"{column.replace(' ', '_')}_{setting.replace(' ', '_')}_{sum(c['formulas'] for c in self.counts.values())}.p"
             with open(os.path.join(self.keep, name), "w", encoding="latin-1") as file:
                 file.write(f"% {setting}: {what}\n{text}")
 
     def fault(self, logic: str, what: str, text: str, setting: str) -> None:
         self.faults += 1
-        print(f"differential.py: {what}, {setting}:\n{text}", end="")
-        self.tell(logic, "fault", text, setting)
+        self.tell(logic, what, text, setting)
 
     def one(self, file: str) -> None:
         logic = self.chance.choice(LOGICS)

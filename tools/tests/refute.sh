@@ -38,6 +38,10 @@ if [ -z "$(here)" ]; then
     return
 fi
 
+# Random formulas, for a minute, beside what follows.
+# shellcheck disable=SC2016
+begin differential bash -c 'bench/differential.py --time=60 --seed="$(date +%j)"; echo "ended with $?"'
+
 # Each line of the gallery by which a search finds no proof. The two seconds are of the processor, as other work may go on beside.
 TIMEFORMAT='%U'
 while IFS=$'\t' read -r _ _ words; do
@@ -83,6 +87,12 @@ formula=p
 for name in q r s t u v w; do formula="($formula <=> ($name <=> $formula))"; done
 printf 'fof(c,conjecture,%s & q).\n' "$formula" >"$folder/m.p"
 ended 'refute equivalences inside one another' 0 tools/leancop-refute "$folder/m.p"
+# Many premises, of which each is a clause for the solver; and a time that ends before such a problem is read.
+for i in {1..20000}; do echo "fof(a$i,axiom,(p$((i % 4000))(a$((i % 7))) => p$((i * 7 % 4001))(b$((i % 11)))))."; done >"$folder/m.p"
+echo 'fof(c,conjecture,p1(a1)).' >>"$folder/m.p"
+ended 'refute 20,000 premises' 0 tools/leancop-refute --time=60 "$folder/m.p"
+ended 'refute in too short a time' 1 tools/leancop-refute --time=0.05 --no-proofs "$folder/m.p"
+same 'what is said of the time' "$(cat "$folder/said")" 'leancop-refute: no structure found in this time, which ended while the problem was read'
 # Nothing is printed that the program does not find false.
 # shellcheck disable=SC2016
 printf '%s\n' '#!/bin/sh' 'if [ "$1" = model ]; then echo "true at the root"; else exec "$PROGRAM" "$@"; fi' >"$folder/other"
@@ -146,8 +156,9 @@ while IFS=$'\t' read -r _ _ words; do
 done < <(grep "^9	" examples/expected.tsv)
 ended 'no reason where it is true' 1 tools/structure_in_words.py examples/first.p "$folder/s.txt"
 
-# Random formulas, for some seconds; and programs that are false, which are found out.
-ended 'bench/differential.py' 0 bench/differential.py --time=15 --seed="$(date +%j)"
+# What random formulas told; and programs that are false, which are found out.
+finish differential
+has 'bench/differential.py' "$got" 'ended with 0'
 # shellcheck disable=SC2016
 printf '%s\n' '#!/bin/sh' 'case $1 in prove | check) echo accepted ;; *) exec "$PROGRAM" "$@" ;; esac' >"$folder/other"
 LEANCOP="$folder/other" ended 'bench/differential.py with a program that derives all' 1 bench/differential.py --time=2 --keep="$folder/kept_formulas"
