@@ -2,7 +2,8 @@
 # What ./leancop and the installed leancop answer beside the program, and whether they are typed at a prompt. Sourced by both.
 
 # tell_of_itself USAGE VERSION WORD..: answers words that ask about leancop itself, from two files, and exits: none (with 5, as the
-# program does), help and --help, alone or with a command, and --version. Returns where the words are others.
+# program does), help and --help, alone or with a command, and --version; help of what is no command is a bad word, too. Returns where
+# the words are others.
 tell_of_itself() {
     usage=$1 version=$2
     shift 2
@@ -10,7 +11,13 @@ tell_of_itself() {
     0:*) tell_usage '' >&2 && exit 5 ;;
     *:--version:* | *:-V:*) printf 'leancop %s\n' "$(cat -- "$version")" ;;
     *:-h:* | *:--help:*) tell_usage '' ;;
-    *:help:*) tell_usage "${2-}" ;;
+    *:help:*)
+        if [ -n "${2-}" ] && ! grep -q "^leancop $2 " "$usage"; then
+            echo "leancop: there is no command $2" >&2 && tell_usage '' >&2
+            exit 5
+        fi
+        tell_usage "${2-}"
+        ;;
     2:*:-h | 2:*:--help) tell_usage "$1" ;;
     *) return ;;
     esac

@@ -27,6 +27,7 @@ for word in --help -h help; do
 done
 has 'leancop help make' "$(LEANCOP='' "$checkout/leancop" help make)" 'chain, shift, tower'
 same 'leancop make --help' "$(LEANCOP='' "$checkout/leancop" make --help)" "$(LEANCOP='' "$checkout/leancop" help make)"
+same 'leancop help of no command' "$(LEANCOP='' "$checkout/leancop" help proof 2>&1 | sed -n 1p)" 'leancop: there is no command proof'
 same 'leancop without words' "$(LEANCOP='' "$checkout/leancop" 2>"$folder/said"; echo "$?")" 5
 has 'what it says then' "$(cat "$folder/said")" 'prove FILE '
 same 'a file whose name is -h' "$(LEANCOP='' "$checkout/leancop" check -h none.txt)" 'missing: -h'
