@@ -14,10 +14,12 @@ import sys
 import tempfile
 
 MODAL = ("d", "t", "s4", "s5")
-TOKEN = re.compile(r"""\s+|(?P<quoted>'(?:\\.|[^'\\])+')|(?P<iff><=+>|<-+>|↔|⇔|≡|\biff\b)|(?P<imp>=+>|-+>|→|⇒|⊃|\bimplies\b)
-    |(?P<box>\#?box\b:?|\[\]|□|◻)|(?P<dia>\#?dia\b:?|<>|◇|◊)|(?P<and>&&?|∧|/\\|\band\b)|(?P<or>\|\|?|∨|\\/|\bor\b)
-    |(?P<unequal>!=|≠)|(?P<not>~|¬|-|\bnot\b)|(?P<all>!|∀|\bforall\b)|(?P<ex>\?|∃|\bexists\b)|(?P<equal>==?)
-    |(?P<word>\$?[A-Za-z_]\w*)|(?P<sign>[()\[\],.:])|(?P<top>⊤)|(?P<bottom>⊥)""", re.X)
+TOKEN = re.compile(r"""\s+|(?P<quoted>'(?:\\.|[^'\\])+')|(?P<iff><=+>|<-+>|↔|⇔|≡|\biff\b|\\(?:iff|leftrightarrow|Leftrightarrow|equiv)\b)
+    |(?P<imp>=+>|-+>|→|⇒|⊃|\bimplies\b|\\(?:to|implies|rightarrow|Rightarrow|supset)\b)
+    |(?P<box>\#?box\b:?|\[\]|□|◻|\\(?:Box|square)\b)|(?P<dia>\#?dia\b:?|<>|◇|◊|\\(?:Diamond|lozenge)\b)
+    |(?P<and>&&?|∧|/\\|\band\b|\\(?:land|wedge)\b)|(?P<or>\|\|?|∨|\\/|\bor\b|\\(?:lor|vee)\b)
+    |(?P<unequal>!=|≠|\\neq?\b)|(?P<not>~|¬|-|\bnot\b|\\(?:neg|lnot)\b)|(?P<all>!|∀|\\?\bforall\b)|(?P<ex>\?|∃|\\?\bexists\b)|(?P<equal>==?)
+    |(?P<word>\$?[A-Za-z_]\w*)|(?P<sign>[()\[\],.:])|(?P<top>⊤|\\top\b)|(?P<bottom>⊥|\\bot\b)""", re.X)
 BINARY = [("iff",), ("imp",), ("or",), ("and",)]  # from the loosest
 SIGNS = {"iff": "<=>", "imp": "=>", "or": "|", "and": "&"}
 

@@ -102,6 +102,8 @@ if command -v python3 >/dev/null; then
     wrong 'p => q => r' 'fof(c,conjecture,p => (q => r)).'
     wrong 'P & Q -> R' 'fof(c,conjecture,(p & q) => r).'
     wrong 'P(a) /\ ~Q' 'fof(c,conjecture,p(a) & ~q).'
+    # shellcheck disable=SC1003
+    wrong '\forall x. P(x) \to \neg Q' 'fof(c,conjecture,![X]: (p(X) => ~q)).'
     for formula in 'P & p => p' 'p q' 'forall x. x' 'p -> '; do
         printf 'fof(c,conjecture,%s).\n' "$formula" >"$folder/m.p"
         tools/leancop-explain prove "$folder/m.p" >/dev/null 2>"$folder/said"
