@@ -33,6 +33,7 @@ explained 'is one of classical, intuitionistic, d, t, s4, s5' prove examples/eve
 explained 'Is --logic=s4 meant?' prove examples/even.p --logik=s4
 explained 'check has no option --limit=; prove, make, tableau have it' check examples/drinker.p examples/drinker.txt --limit=3
 explained 'is one operand too many: prove takes FILE' prove examples/even.p examples/drinker.p
+explained 'as in --logic=s4' prove -logic=s4 examples/even.p
 explained 'a logic is named by --logic=s4' prove examples/even.p s4
 explained 'needs --logic=intuitionistic' check examples/drinker.p examples/drinker.txt --as=s4
 explained 'N is a number from 1 to 150' make chain 151
