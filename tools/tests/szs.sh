@@ -27,8 +27,8 @@ status_of 'Timeout for set_distr.p' 124 --time=1 bench/problems/fam/set_distr.p
 status_of 'GaveUp for chain100.p' 1 bench/problems/fam/chain100.p
 status_of 'Theorem for chain100.p' 0 --time=60 bench/problems/fam/chain100.p
 # A schedule: the setting that gave the answer is told.
-status_of 'Theorem for p56.p' 0 --schedule --time=10 bench/problems/pel/p56.p
-same 'the setting of an answer' "$(tools/leancop-szs --schedule --time=10 bench/problems/pel/p56.p | sed -n 2p)" '% setting: --cut=6'
+status_of 'Theorem for p56.p' 0 --schedule --time=60 bench/problems/pel/p56.p
+same 'the setting of an answer' "$(tools/leancop-szs --schedule --time=60 bench/problems/pel/p56.p | sed -n 2p)" '% setting: --cut=6'
 printf '%s\n' '#!/bin/sh' 'case "$*" in *--cut=6*) echo "steps ended after limit 1 at 9 steps" && exit 3 ;; esac' "exec '$LEANCOP' \"\$@\"" >"$folder/second"
 chmod +x "$folder/second"
 same 'the setting of another' "$(LEANCOP="$folder/second" tools/leancop-szs --schedule --time=10 examples/even.p | sed -n 1,2p | tr '\n' ' ')" \
