@@ -75,6 +75,7 @@ fn lengths_of(problem: &Problem) -> Option<Lengths> {
     Some(Lengths {
         least_one: logic.least_length() > 0,
         most_one: logic.greatest_length().is_some(),
+        long_first: false,
     })
 }
 

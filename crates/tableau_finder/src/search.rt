@@ -241,10 +241,21 @@ impl Search {
         match self.lengths {
             None => Ok(true),
             Some(lengths) => {
-                self.solver
-                    .solve(&mut self.cells, &mut self.words, &flat.code, lengths)
+                let moment = self.cells.moment();
+                if self.solve_by(flat, lengths)? {
+                    return Ok(true);
+                }
+                self.cells.undo(moment);
+                let mut others = lengths;
+                others.long_first = !lengths.long_first;
+                self.solve_by(flat, others)
             }
         }
+    }
+
+    fn solve_by(&mut self, flat: &Flat, lengths: Lengths) -> Result<bool, NoMemory> {
+        self.solver
+            .solve(&mut self.cells, &mut self.words, &flat.code, lengths)
     }
 
     // Two labels are to be equal; false where that cannot be.

@@ -6,8 +6,10 @@ use crate::words::{Lengths, Words};
 use cop_base::NoMemory;
 use std::alloc::Global;
 
-// The most ways that are tried.
-const MAX_WAYS: u32 = 2_000;
+// The most ways that are tried, and the most terms that are looked at.
+const MAX_WAYS: u32 = 1_000;
+
+const MAX_LOOKS: u64 = 400_000;
 
 /// A pair of labels for which several ways are tried.
 #[derive(Clone, Copy)]
@@ -38,9 +40,13 @@ impl Solver {
         code: &[u32],
         lengths: Lengths,
     ) -> Result<bool, NoMemory> {
+        let began = cells.looks();
         self.forks.clear();
         let mut goes_on = words.propagate(cells, code, lengths)?;
         for _i in 0..MAX_WAYS {
+            if cells.looks().saturating_sub(began) > MAX_LOOKS {
+                return Ok(false);
+            }
             if goes_on {
                 match words.open(cells, code, lengths)? {
                     None => return Ok(true),

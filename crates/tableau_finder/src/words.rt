@@ -12,11 +12,13 @@ const MAX_ITEMS: u32 = 1 << 14;
 // The most rounds over all equations.
 const MAX_ROUNDS: u32 = 1 << 10;
 
-/// How many marks a string may have: at least one, or none; at most one, or any number.
+/// How many marks a string may have: at least one, or none; at most one, or any number. And whether long strings are
+/// tried first: then what comes first in a label takes as much as it can.
 #[derive(Clone, Copy)]
 pub(crate) struct Lengths {
     pub least_one: bool,
     pub most_one: bool,
+    pub long_first: bool,
 }
 
 /// What is seen of an equation.
@@ -324,7 +326,7 @@ impl Words {
             (Shape::Free(_), Shape::Made(_)) => Words::meet_mark(cells, code, lengths, x, y, way),
             (Shape::Made(_), Shape::Free(_)) => Words::meet_mark(cells, code, lengths, y, x, way),
             (Shape::Free(_), Shape::Free(_)) => {
-                if has_mark(cells, code, &self.left, self.begin) {
+                if lengths.long_first && has_mark(cells, code, &self.left, self.begin) {
                     Words::meet_string(cells, code, lengths, y, x, way)
                 } else {
                     Words::meet_string(cells, code, lengths, x, y, way)
@@ -333,8 +335,7 @@ impl Words {
         }
     }
 
-    // The string begins with the mark, or is empty. What comes first in a label takes as much as it can: so terms may
-    // stand there whose homes begin the label.
+    // The string begins with the mark, or is empty.
     fn meet_mark(
         cells: &mut Cells,
         code: &[u32],
@@ -343,11 +344,11 @@ impl Words {
         mark: Term,
         way: u32,
     ) -> Result<Option<bool>, NoMemory> {
-        if way == 1 {
-            return Ok(Some(bind_items(cells, code, string, &[])?));
-        }
         if way > 1 {
             return Ok(None);
+        }
+        if (way == 0) != lengths.long_first {
+            return Ok(Some(bind_items(cells, code, string, &[])?));
         }
         if lengths.most_one {
             return Ok(Some(bind_items(cells, code, string, &[mark])?));
