@@ -22,7 +22,9 @@
 -- - *Irregular trees.* A goal that was new can become the same as one above it by a later binding. So behind a number of choices that grows
 --   with the tree (`is_found_irregular`) all goals of the tree are looked at where the search comes back to a point. A repeated goal makes
 --   the point's state a dead end, and with it each list behind it (`DeadLaws.dead-behind`, `search-dead_behind`), so the point is dropped
---   whole (`TryingLaws.dead-at`).
+--   whole (`TryingLaws.dead-at`). While it is not known that the limit is left, `visit` looks at all goals of the leftmost open goal's path (`repeated_early`): a
+--   list with a repeated one is dead, whatever is known of the limit, and the last point sees the number of that goal, which lies above the
+--   leftmost open one (`StandingLaws.stack-dropped`, `VisitLaws.visit-repeated`).
 -- - *How far the search is.* `IsSearched`, `IsExploring`, `IsVisiting` carry `IsSearch` of the theory, and that steps were used for what is
 --   spent; so each exit is a law of `SearchSteps` or `EarlyLaws`. Contracts name the program's values once for each moment (`the_moment`)
 --   and say what is known at one and what that leads to at the next (`Moments`: `Holds`, `Leads`); these words compute to the states, so no

@@ -272,6 +272,23 @@ stack-cleared P m base d s steps goals before after pending more h = subst (λ p
     by [] k = record { are = k; solved = tt }
     by (p ∷ ps) (c, untried, g, below, e, point, before, rest) = stack-forgotten P m base d s steps goals (seeing 0 p ∷ ps) pending (let z : min 0 p.lowest ≡ 0 = omega arith in z) (c, untried, g, below, e, point-seeing P m base d s steps goals 0 p c untried g point, before-seeing 0 p ps before, rest)
 
+-- where a goal from the number n on cannot be closed, and the last point has seen that number
+pub stack-dropped : (P : Problem) (m : List MatrixClause) (base d : ℕ) (s : Store) (steps : List Step) (goals : List Goal) (c : List Choice) (n : ℕ) (before after : List Point) (pending : List (List Choice)) → IsTrue (is_not_empty c) → HasLost P d c n None → SeeMore n before after → IsStack P m base d s steps goals (c ∷ []) (reverse before) pending → IsStack P m base d s steps goals [] (reverse after) pending
+stack-dropped P m base d s steps goals c n before after pending ne h more k = subst (λ ps. IsStack P m base d s steps goals [] ps pending) (sym (reverse-seeing n before after more)) (by (reverse before) k)
+  where
+    dropped : (p : Point) (ps : List Point) (are : ArePointsFrom P m base d s steps goals (seeing n p ∷ ps) pending) → AreSolvedBehind P d no_goal (c ∷ []) (traced P m base d s steps goals (seeing n p ∷ ps) pending are) → AreSolvedBehind P d no_goal [] (traced P m base d s steps goals (seeing n p ∷ ps) pending are)
+    dropped p ps (e, untried, x, below, eq, point, others, rest) solved = elim h.later [
+      | inl l ↦ (let low : min n p.lowest ≤ h.number = omega (arith, l) in solved-cannot P d no_goal h.number c h.state h.goal (choice_point (seeing n p) e untried) (traced P m base d s steps goals ps below rest) ne h.is_state h.stands h.cannot (stands-all P m base d s steps goals (seeing n p ∷ ps) pending (e, untried, x, below, eq, point, others, rest)) low solved)
+      | inr (j, none, l) ↦ (let z : None ≡ Some j = none in absurd (cc z))
+    ]
+
+    lost : (p : Point) (ps : List Point) → IsStack P m base d s steps goals (c ∷ []) (seeing n p ∷ ps) pending → IsStack P m base d s steps goals [] (seeing n p ∷ ps) pending
+    lost p ps q = record { are = q.are; solved = dropped p ps q.are q.solved }
+
+    by : (ps : List Point) → IsStack P m base d s steps goals (c ∷ []) ps pending → IsStack P m base d s steps goals [] (first-seeing n ps) pending
+    by [] q = record { are = q.are; solved = tt }
+    by (p ∷ ps) q = lost p ps (stack-seeing P m base d s steps goals (c ∷ []) n p ps pending q)
+
 -- ---- choices that are passed over
 
 nowhere-always : (P : Problem) (d n low : ℕ) (c : List Choice) (qs : List ChoicePoint) → AllByRecursion (HasGoals n) qs → AllByRecursion (LeadsNowhere P d n c) qs → AllByRecursion (LeadsNowhere P d low c) qs

@@ -17,8 +17,9 @@ use Rattle.search_theory.specs.States.{CellGoal}
 use Rattle.search_theory.specs.DeadEnds.{IsDead}
 use Rattle.search_theory.proofs.SearchSteps.{search-dead, search-left, search-visit}
 use Rattle.term_store.specs.StoreView.{the_mark}
-use Rattle.search_tree.specs.Seeing.{HasSeen, no_goal}
-use Rattle.connection_search.proofs.StandingLaws.{stack-forgotten, stack-pushed}
+use Rattle.search_tree.specs.GivenUp.{HasLost}
+use Rattle.search_tree.specs.Seeing.{HasSeen, SeeMore, no_goal}
+use Rattle.connection_search.proofs.StandingLaws.{stack-dropped, stack-forgotten, stack-pushed}
 use Rattle.connection_search.specs.Exploring.{IsStack, AreAbove, ArePointsFrom, IsBefore, IsExploring, IsSearched, IsSpace, IsVisiting}
 use Rattle.search_tree.specs.Points.{IsHere, IsPoint}
 use Rattle.search_tree.specs.Running.{IsAt, IsAtGoal, IsLeftFound, StandsFor}
@@ -61,6 +62,18 @@ pub visit-dead : (P : Problem) (m : List MatrixClause) (base d : ℕ) (s : Store
 visit-dead P m base d s steps goals first points later begun used left v none dead = record {
   pending = v.pending;
   points = stack-forgotten P m base d s steps goals (reverse points) v.pending (subst (λ k. HasSeen k (reverse points)) none v.seen) v.points.are;
+  searched = record {
+    spent = v.searched.spent;
+    search = search-dead P d v.searched.spent v.choices (v.pending ++ later) left v.searched.search v.not_empty dead;
+    from = v.searched.from;
+    count = v.searched.count;
+  };
+}
+
+pub visit-repeated : (P : Problem) (m : List MatrixClause) (base d : ℕ) (s : Store) (steps : List Step) (goals : List Goal) (first : Option ℕ) (n : ℕ) (points after : List Point) (later : List (List Choice)) (begun used : ℕ) (left : Bool) → (v : IsVisiting P m base d s steps goals first points later begun used left) → IsDead P v.choices → HasLost P d v.choices n None → SeeMore n points after → IsExploring P m base d s steps goals after later begun used left
+visit-repeated P m base d s steps goals first n points after later begun used left v dead lost more = record {
+  pending = v.pending;
+  points = stack-dropped P m base d s steps goals v.choices n points after v.pending v.not_empty lost more v.points;
   searched = record {
     spent = v.searched.spent;
     search = search-dead P d v.searched.spent v.choices (v.pending ++ later) left v.searched.search v.not_empty dead;

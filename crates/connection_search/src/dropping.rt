@@ -1,8 +1,8 @@
 //! Lists of choices that are dropped before they are whole.
 
-ghost use Rattle.std.specs.Prelude.{◌≡◌, ℕ, IfOk, IsTrue, List, MatchOption, true, ⊤};
+ghost use Rattle.std.specs.Prelude.{◌≡◌, ℕ, IfOk, IsTrue, List, MatchOption, None, Some, true, ⊤};
 ghost use Rattle.calculus.specs.Choices.{Choice};
-ghost use Rattle.search_theory.specs.DeadEnds.{is_not_empty};
+ghost use Rattle.search_theory.specs.DeadEnds.{IsDead, is_not_empty};
 ghost use Rattle.search_tree.specs.GivenUp.{HasLost};
 ghost use Rattle.search_tree.specs.Pruning.{IsPruned};
 ghost use Rattle.search_tree.specs.Running.{IsMatrixOf, TreeStands};
@@ -54,6 +54,34 @@ impl LimitSearch<'_> {
             return Some(self.limit as usize);
         }
         None
+    }
+
+    /// A goal above the leftmost open one that is the same as one above it, where it is not known
+    /// that the limit is left. Regular trees alone show that it is, and all that is dropped early
+    /// waits for it. Behind that such a look costs more than it brings.
+    pub(crate) fn repeated_early(
+        &self,
+        store: &Store,
+        work: &mut SearchState,
+        left: bool,
+    ) -> Result<Option<usize>, NoMemory>
+        requires { (base : ℕ) × (c : List Choice)
+            × TreeStands self.now.problem.now self.now.matrix.now base self.now.limit c store.now
+            work.old.tree }
+        ensures dead { IfOk result (λ found. (n : ℕ) → found ≡ Some n → (base : ℕ)
+            (c : List Choice) → TreeStands self.now.problem.now self.now.matrix.now base
+            self.now.limit c store.now work.old.tree → IsDead self.now.problem.now c) }
+        ensures lost { IfOk result (λ found. (n : ℕ) → found ≡ Some n → (base : ℕ)
+            (c : List Choice) → TreeStands self.now.problem.now self.now.matrix.now base
+            self.now.limit c store.now work.old.tree
+            → HasLost self.now.problem.now self.now.limit c n None) }
+        ensures tree { work.new.tree ≡ work.old.tree }
+    {
+        if left {
+            return Ok(None);
+        }
+        let found = work.repeated_on_path(store)?;
+        Ok(found)
     }
 
     /// Whether open goals show that no closed tableau begins with the list, where it is known that the

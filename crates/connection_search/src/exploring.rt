@@ -71,7 +71,7 @@ impl LimitSearch<'_> {
 
     // Drops the list of choices, where no closed tableau begins with it and it is known that the limit
     // is left. Else the list is taken up.
-    pub(crate) fn visit(
+    fn visit_regular(
         &self,
         ledger: &mut Ledger,
         store: &mut Store,
@@ -106,6 +106,43 @@ impl LimitSearch<'_> {
             return Ok(Visit::On);
         }
         let visit = self.take_up(ledger, store, work, points, left)?;
+        Ok(visit)
+    }
+
+    // Drops the list of choices, where a goal above the leftmost open one is the same as one above
+    // it. Else as `visit_regular`.
+    pub(crate) fn visit(
+        &self,
+        ledger: &mut Ledger,
+        store: &mut Store,
+        work: &mut SearchState,
+        points: &mut Vec<Point>,
+        left: &mut bool,
+    ) -> Result<Visit, NoMemory>
+        requires { Holds self.now
+            (VisitingAt (the_moment store.old work.old points.old.items ledger.old left.old)) }
+        ensures on { IfOk result (λ v. IfOn v (Leads self.now
+            (VisitingAt (the_moment store.old work.old points.old.items ledger.old left.old))
+            (ExploringAt (the_moment store.new work.new points.new.items ledger.new left.new)))) }
+        ensures end { IfOk result (λ v. Leads self.now
+            (VisitingAt (the_moment store.old work.old points.old.items ledger.old left.old))
+            (EndedAt (the_moment store.new work.new points.new.items ledger.new left.new) v)) }
+        ensures counted { Leads self.now
+            (VisitingAt (the_moment store.old work.old points.old.items ledger.old left.old))
+            (CountedAt (the_moment store.new work.new points.new.items ledger.new left.new)) }
+        ensures budget { ledger.new.budget ≡ ledger.old.budget }
+        ensures points { IfOk result (λ v. IfOn v
+            (ArePushed points.old.items points.new.items ledger.old.used ledger.new.used)) }
+        ensures above { OnOk result ((k : TrailMark) → IsGood k store.old.store
+            → AreAbove k points.old.items → AreAbove k points.new.items) }
+        ensures marks { KeepsMarks store.old.store store.new.store }
+        ensures room { KeepsRoom store.old store.new }
+    {
+        if let Some(repeated) = self.repeated_early(store, work, *left)? {
+            lower(points, repeated);
+            return Ok(Visit::On);
+        }
+        let visit = self.visit_regular(ledger, store, work, points, left)?;
         Ok(visit)
     }
 

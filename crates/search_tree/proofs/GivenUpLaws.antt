@@ -17,8 +17,8 @@ use Rattle.search_tree.specs.Ahead.{HasNoHope, IsLost}
 use Rattle.search_tree.specs.GivenUp.{HasLost, IsGivenUp, IsRuledOut, LooksAhead}
 use Rattle.search_tree.specs.Pruning.{IsPruned}
 use Rattle.search_tree.specs.Running.{IsMatrixOf, StandsFor, TreeStands}
-use Rattle.search_tree.specs.Sameness.{IsRepeated}
-use Rattle.search_tree.specs.Trees.{IsGoalAt}
+use Rattle.search_tree.specs.Sameness.{AnyRepeated, IsRepeated}
+use Rattle.search_tree.specs.Trees.{AreGoals, IsGoalAt}
 use Rattle.search_tree.specs.declared.tree.Goal.{Goal}
 use Rattle.search_tree.specs.declared.tree.Step.{Step}
 use Rattle.search_tree.specs.declared.tree.Tree.{Tree}
@@ -39,6 +39,20 @@ lost-leftmost P m base d c s steps goals first n next (cs, y, h) e repeated =
       goal = z;
       stands = on;
       later = inr (next, e, omega arith);
+      cannot = repeated-cannot P d (record { store = s; choices = cs; growth = y }) z j a path same;
+    }
+
+-- a goal from the number n on is
+pub lost-repeated : (P : Problem) (m : List MatrixClause) (base d : ℕ) (c : List Choice) (s : Store) (steps : List Step) (goals : List Goal) (first : Option ℕ) (n : ℕ) → StandsFor P m base d c s steps goals first → ((xs : List CellGoal) → AreGoals steps goals goals xs → AnyRepeated s n xs) → HasLost P d c n None
+lost-repeated P m base d c s steps goals first n (cs, y, h) repeated =
+    let (i, z, l, on, (j, a, path, same)) = repeated y.all_goals h.tree.goals in
+    record {
+      state = record { store = s; choices = cs; growth = y };
+      is_state = h.running.state;
+      number = i;
+      goal = z;
+      stands = on;
+      later = inl l;
       cannot = repeated-cannot P d (record { store = s; choices = cs; growth = y }) z j a path same;
     }
 

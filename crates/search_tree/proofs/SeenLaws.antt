@@ -1,7 +1,8 @@
 -- What the loops over the tree's goals have seen: which goals are the same as one above them.
-use Rattle.std.proofs.Common.{◌≡◌, ◌+◌, ◌<◌, ◌≤◌, ℕ, suc, List, drop, length, IsTrue, sym, ◌∙◌, ap, subst, Option, None, Some, slice_get, arith}
+use Rattle.std.proofs.Common.{◌≡◌, ◌+◌, ◌<◌, ◌≤◌, ℕ, suc, List, [], ◌∷◌, drop, length, IsTrue, sym, ◌∙◌, ap, subst, Option, None, Some, slice_get, arith}
 use Rattle.std.specs.List.{AllByRecursion, list_all}
 use Rattle.std.proofs.lemmas.Bool.{and_parts}
+use Rattle.std.proofs.lemmas.Option.{slice_get_within}
 use Rattle.calculus.specs.Syntax.{Problem}
 use Rattle.store_theory.specs.Stores.{Store}
 use Rattle.store_theory.specs.Systems.{CellAtom}
@@ -99,3 +100,17 @@ goal-wanted steps goals n i xs g b l =
     let (k, at) = item-there goals i l in
     let (x, on, is) = goal-at steps goals xs i k g at in
     (x, is, all-at (goal_is_below n) xs i x b on)
+
+-- the goal above one is one of them
+pub above-within : (steps : List Step) (goals : List Goal) (xs : List CellGoal) (i : ℕ) (at : Goal) → AreGoals steps goals goals xs → slice_get goals i ≡ Some at → (k : ℕ) → at.above ≡ Some k → k < length goals
+above-within steps goals xs i at g e k up =
+    let (x, on, is) = goal-at steps goals xs i at g e in
+    let same : is.goal ≡ at = same-item (slice_get goals i) is.goal at is.stands e in
+    by x.path (subst (λ o. IsPath steps goals o x.path) up (subst (λ (z : Goal). IsPath steps goals z.above x.path) same is.is_goal.path))
+  where
+    by : (p : List CellAtom) → IsPath steps goals (Some k) p → k < length goals
+    by [] h = let z : Some k ≡ None = h in absurd (cc z)
+    by (a ∷ p) (j, y, here, stands, atom, rest) =
+        let number : k ≡ j = cc here in
+        let l = slice_get_within goals j y stands in
+        omega (arith, number, l)

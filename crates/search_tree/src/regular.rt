@@ -1,6 +1,6 @@
 //! Regularity: no goal is the same as one above it.
 
-ghost use Rattle.std.specs.Prelude.{◌≡◌, ◌≤◌, ℕ, List, IfOk, IsTrue, None, Some};
+ghost use Rattle.std.specs.Prelude.{◌≡◌, ◌≤◌, ◌<◌, ℕ, List, IfOk, IsTrue, None, Some};
 ghost use Rattle.std.specs.Prelude.{drop, false, length, true};
 ghost use Rattle.std.specs.List.{AllByRecursion, list_all};
 ghost use Rattle.calculus.specs.Syntax.{Problem};
@@ -75,6 +75,38 @@ pub(crate) fn first_repeated(
     for goal in first..tree.goals.len() {
         if !is_new(unifier, store, tree, goal)? {
             return Ok(Some(goal));
+        }
+    }
+    Ok(None)
+}
+
+/// The nearest goal above this one that is the same as one above it, under the bindings.
+pub(crate) fn repeated_above(
+    unifier: &mut Unifier,
+    store: &Store,
+    tree: &Tree,
+    goal: usize,
+) -> Result<Option<usize>, NoMemory>
+    requires goals { (xs : List CellGoal)
+        × AreGoals tree.now.steps.items tree.now.goals.items tree.now.goals.items xs
+        × IsTrue (list_all (goal_is_below (length store.now.store.cells)) xs) }
+    requires goal { goal < length tree.now.goals.items }
+    ensures { IfOk result (λ found. (n : ℕ) → found ≡ Some n → (xs : List CellGoal)
+        → AreGoals tree.now.steps.items tree.now.goals.items tree.now.goals.items xs
+        → AnyRepeated store.now.store n xs) }
+{
+    let at = tree.goals[goal];
+    let mut next = at.above;
+    for _i in 0..tree.goals.len() {
+        match next {
+            None => return Ok(None),
+            Some(ancestor) => {
+                if !is_new(unifier, store, tree, ancestor)? {
+                    return Ok(Some(ancestor));
+                }
+                let up = tree.goals[ancestor];
+                next = up.above;
+            }
         }
     }
     Ok(None)

@@ -27,7 +27,7 @@ use crate::label_tests::Tests;
 use crate::look::Look;
 use crate::occurrences::Occurrences;
 use crate::point::Move;
-use crate::regular::{are_new_from, first_repeated, is_new};
+use crate::regular::{are_new_from, first_repeated, is_new, repeated_above};
 use crate::tree::{Copied, Tree};
 use crate::uncopied::is_set_aside;
 use cop_base::{ClauseId, NoMemory};
@@ -383,6 +383,28 @@ impl SearchState {
     {
         let new = are_new_from(&mut self.unifier, store, &self.tree, 0)?;
         Ok(new)
+    }
+
+    /// A goal above the leftmost open one that is the same as one above it. What was new when it was
+    /// taken up can be the same by a later binding.
+    pub fn repeated_on_path(&mut self, store: &Store) -> Result<Option<usize>, NoMemory>
+        requires { (P : Problem) × (m : List MatrixClause) × (base : ℕ) × (d : ℕ)
+            × (c : List Choice) × TreeStands P m base d c store.now self.old.tree }
+        ensures dead { IfOk result (λ found. (n : ℕ) → found ≡ Some n
+            → (P : Problem) (m : List MatrixClause) (base d : ℕ) (c : List Choice)
+            → TreeStands P m base d c store.now self.old.tree → IsDead P c) }
+        ensures lost { IfOk result (λ found. (n : ℕ) → found ≡ Some n
+            → (P : Problem) (m : List MatrixClause) (base d : ℕ) (c : List Choice)
+            → TreeStands P m base d c store.now self.old.tree → HasLost P d c n None) }
+        ensures tree { self.new.tree ≡ self.old.tree }
+    {
+        match self.tree.open {
+            None => Ok(None),
+            Some(next) => {
+                let found = repeated_above(&mut self.unifier, store, &self.tree, next)?;
+                Ok(found)
+            }
+        }
     }
 
     /// Whether the tree is found to be irregular, before its next choice is tried. All its goals
