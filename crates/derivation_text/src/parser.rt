@@ -144,6 +144,8 @@ pub fn read(
     ensures numbers { IfOk result (λ r. r.1 ≡ numbering (stated r.1)) }
     ensures fault { (line : ℕ) (cause : TextCause) → result ≡ Err (ParseFault.Text line cause)
         → IsTextFault problem.now bytes.now line cause }
+
+    // Laws: bytes are the text of one derivation at most, and have one first fault at most.
     ensures derivation { AtMostOneInVersion problem.now bytes.now }
     ensures first { AtMostOneTextFault problem.now bytes.now }
     ensures well { IsTrue (is_problem problem.now) }
@@ -165,6 +167,8 @@ pub fn parse(
     ensures text { IfOk result (λ r. IsTextIn r.0 problem.now (the_derivation r.1) bytes.now) }
     ensures fault { (line : ℕ) (cause : TextCause) → result ≡ Err (ParseFault.Text line cause)
         → IsTextFault problem.now bytes.now line cause }
+
+    // Laws: bytes are the text of one derivation at most, and have one first fault at most.
     ensures derivation { AtMostOneInVersion problem.now bytes.now }
     ensures first { AtMostOneTextFault problem.now bytes.now }
     ensures well { IsTrue (is_problem problem.now) }

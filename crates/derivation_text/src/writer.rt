@@ -100,6 +100,8 @@ pub fn print(
 ) -> Result<Vec<u8>, NoMemory>
     requires { IsTrue (is_printable problem.now (the_derivation d.now)) }
     ensures text { IfOk result (λ bytes. IsTextIn version problem.now (the_derivation d.now) bytes.items) }
+
+    // They are the text of no other derivation, in either version, and of no other formula.
     ensures one { IfOk result (λ bytes. AtMostOneInVersion problem.now bytes.items) }
     ensures formula { IfOk result (λ bytes. AtMostOneFormula problem.now bytes.items) }
 {

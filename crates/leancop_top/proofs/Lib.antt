@@ -2,8 +2,8 @@
 --
 -- Carried by the cases of each command (`ProveEnds`, `CheckEnds`): no law goes through all statuses. The clause `ends` of each command
 -- speaks of all files that agree with what the command read, as an option (`told`), so its words take `told` and no record; a command of
--- two fetches hands each call its part of what was read (`reads-first`, `reads-rest` of `ReadLaws`), and the clauses of `run` on the files
--- that a library tells are these at `L.holds lib.old`, by `reads_on`. `Ends.read-ends` and `line-ends` lead from a reply to how the run
+-- two fetches hands each call its part of what was read (`reads-first`, `reads-rest` of `ReadLaws`), and what the clauses of `run` say of
+-- the files that a library tells is this at `L.holds lib.old`, by `reads_on` (`Laws.for-told`). `Ends.read-ends` and `line-ends` lead from a reply to how the run
 -- ends, `Ends.told` says that what ends a run is neither a write fault nor want of memory, and `Decisions.decided` which runs end in an
 -- answer.
 --

@@ -92,7 +92,8 @@ pub fn run<L: Library, K: Sink>(
     lib: &mut L,
     out: &mut K,
 ) -> Status
-    // Of every map of files that agrees with what this run read.
+    // Of every map of files that agrees with what this run read; so of the files that the library
+    // tells, which agree by `reads_on` (the law `for-told`).
     ensures agreeing { (told : Option Files) → ReadsOn told (L.reads lib.old) (L.reads lib.new)
         → OnAnswer result (IsAnswered told (asked words.now.items) result
         (K.written out.old) (K.written out.new)) }
@@ -101,6 +102,7 @@ pub fn run<L: Library, K: Sink>(
         → result ≡ Status.WriteFault → IsCutOff told (asked words.now.items)
         (L.misses lib.old) (L.misses lib.new) (L.faults lib.old) (L.faults lib.new)
         (L.reads lib.new) (K.written out.old) (K.written out.new) }
+    // Where no file fails, what the words ask for is decided, unless memory ends or the sink fails.
     ensures agreeing_decided { (told : Option Files)
         → ReadsOn told (L.reads lib.old) (L.reads lib.new)
         → ¬ Rose (L.faults lib.old) (L.faults lib.new)
@@ -109,19 +111,13 @@ pub fn run<L: Library, K: Sink>(
     // second operand; none for bad words and for a problem that is generated.
     ensures reads_only { (files : Files) → AgreesSince files (L.reads lib.old) (L.reads lib.new)
         → ReadsOnly (MayRead files (asked words.now.items)) (L.reads lib.old) (L.reads lib.new) }
-
-    // The files that the library tells agree, so the same holds of them.
     ensures reads_on { ReadsOn (L.holds lib.old) (L.reads lib.old) (L.reads lib.new) }
-    ensures answered { OnAnswer result (IsAnswered (L.holds lib.old) (asked words.now.items) result
-        (K.written out.old) (K.written out.new)) }
+
+    // A file that is missing or could not be read was counted, and so was a fault of the sink.
     ensures counted { IsCounted
         (L.misses lib.old) (L.misses lib.new) (L.faults lib.old) (L.faults lib.new)
         (L.reads lib.new) result }
     ensures write_fault { result ≡ Status.WriteFault → Rose (K.faults out.old) (K.faults out.new) }
-    ensures cut_off { result ≡ Status.WriteFault → IsCutOff
-        (L.holds lib.old) (asked words.now.items)
-        (L.misses lib.old) (L.misses lib.new) (L.faults lib.old) (L.faults lib.new)
-        (L.reads lib.new) (K.written out.old) (K.written out.new) }
     ensures no_memory { result ≡ Status.NoMemory → K.written out.new ≡ K.written out.old }
 
     // All goes out in pieces of 4,096 bytes, the last one as short as what is left.
@@ -132,10 +128,6 @@ pub fn run<L: Library, K: Sink>(
     ensures more_misses { L.misses lib.old ≤ L.misses lib.new }
     ensures more_faults { L.faults lib.old ≤ L.faults lib.new }
     ensures more_put_faults { K.faults out.old ≤ K.faults out.new }
-
-    // Where no file fails, what the words ask for is decided, unless memory ends or the sink fails.
-    ensures decided { ¬ Rose (L.faults lib.old) (L.faults lib.new)
-        → OnAnswer result (Decides (L.holds lib.old) (asked words.now.items) result) }
 
     // Laws over the definitions, which hold of them whatever the body does: what has a derivation,
     // or is accepted, is true at the root of each structure of its setting, in any logic, so a

@@ -274,7 +274,8 @@ pub fn build<L: Library>(
     root: &Text,
     setting: Setting,
 ) -> Result<Problem, BuildFault>
-    // Of every map of files that agrees with what was read in this call.
+    // Of every map of files that agrees with what was read in this call; so of the files that the
+    // library tells, which agree by `reads_on` (the law `of-told` of `cop_base`).
     ensures agreeing { (files : Files) → AgreesSince files (L.reads lib.old) (L.reads lib.new)
         → IfSome (the_answer result)
         (λ r. IsProblemOf files name.now root.now (the_setting setting) r) }
@@ -287,6 +288,7 @@ pub fn build<L: Library>(
     ensures agreeing_fetched { (n : Text) → result ≡ Err (BuildFault.Failed n)
         → (files : Files) → AgreesSince files (L.reads lib.old) (L.reads lib.new)
         → WalkFetches files name.now root.now (the_setting setting) n }
+    ensures reads_on { ReadsOn (L.holds lib.old) (L.reads lib.old) (L.reads lib.new) }
     // Each file that is read is one that the walk fetches.
     ensures reads_only { (files : Files) → AgreesSince files (L.reads lib.old) (L.reads lib.new)
         → ReadsOnly (WalkFetches files name.now root.now (the_setting setting)) (L.reads lib.old) (L.reads lib.new) }
@@ -295,22 +297,12 @@ pub fn build<L: Library>(
     ensures last_missing { (n : Text) → result ≡ Err (BuildFault.Missing n) → EndsWith (L.reads lib.new) n seen.absent }
     ensures last_failed { (n : Text) → result ≡ Err (BuildFault.Failed n) → EndsWith (L.reads lib.new) n seen.failed }
 
-    // The files that the library tells agree, so the same holds of them.
-    ensures reads_on { ReadsOn (L.holds lib.old) (L.reads lib.old) (L.reads lib.new) }
-    ensures answer { IfSome (L.holds lib.old) (λ files. IfSome (the_answer result)
-        (λ r. IsProblemOf files name.now root.now (the_setting setting) r)) }
-    ensures alone { IfSome (L.holds lib.old) (λ files. IfSome (the_answer result)
-        (λ r. (other : Result tree.Problem Refusal) → IsProblemOf files name.now root.now (the_setting setting) other
-        → other ≡ r)) }
     ensures setting { IfOk result (λ p. p.setting ≡ the_setting setting) }
-    ensures symbols { IfSome (L.holds lib.old) (λ files. IfOk result (λ p. HasItsSymbols p)) }
     ensures same_files { L.holds lib.new ≡ L.holds lib.old }
     ensures more_faults { L.faults lib.old ≤ L.faults lib.new }
     ensures more_misses { L.misses lib.old ≤ L.misses lib.new }
     ensures missing { (n : Text) → result ≡ Err (BuildFault.Missing n) → Rose (L.misses lib.old) (L.misses lib.new) }
     ensures failed { (n : Text) → result ≡ Err (BuildFault.Failed n) → Rose (L.faults lib.old) (L.faults lib.new) }
-    ensures fetched { (n : Text) → result ≡ Err (BuildFault.Failed n) → IfSome (L.holds lib.old)
-        (λ files. WalkFetches files name.now root.now (the_setting setting) n) }
 {
     let walked = match walk_files(alloc, lib, is_modal(setting.logic()), name, root) {
         Ok(walked) => walked,

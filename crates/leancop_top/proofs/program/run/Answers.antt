@@ -23,13 +23,6 @@ returns-in-Ok-put_all-clause-agreeing_decided g c = λ told w quiet.
     (subst (λ ws. Decides told (asked ws) c.in-Ok.reply.status) c.as_slice.ensures.value
     (decided told (asked c.as_slice.result.now) c.in-Ok.reply.status c.in-Ok.reply.output.items _ _ _ _ _ (c.in-Ok.ensures.ends told w) c.in-Ok.ensures.counted quiet))
 
-pub returns-in-Ok-put_all-clause-decided : goal.returns-in-Ok-put_all-clause-decided
-returns-in-Ok-put_all-clause-decided g c quiet =
-    let told = g.L.Library.holds c.args.lib.now in
-    on-answer _ c.in-Ok.reply.status
-    (subst (λ ws. Decides told (asked ws) c.in-Ok.reply.status) c.as_slice.ensures.value
-    (decided told (asked c.as_slice.result.now) c.in-Ok.reply.status c.in-Ok.reply.output.items _ _ _ _ _ (c.in-Ok.ensures.ends told c.in-Ok.ensures.reads_on) c.in-Ok.ensures.counted quiet))
-
 pub returns-in-Ok-put_all-clause-reads_only : goal.returns-in-Ok-put_all-clause-reads_only
 returns-in-Ok-put_all-clause-reads_only g c = λ files w. asked-read files c.as_slice.result.now _ c.as_slice.ensures.value (c.in-Ok.ensures.reads_only files w)
 

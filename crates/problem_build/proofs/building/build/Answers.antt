@@ -2,7 +2,6 @@ use Rattle.std.proofs.Common.{◌≡◌, ◌∙◌, Err, IfSome, Result, Some, a
 use Rattle.std.specs.Prelude.{IfOk}
 use Rattle.calculus.specs.Problems.{is_modal}
 use Rattle.calculus.specs.Syntax.{Problem}
-use Rattle.cop_base.proofs.ReadLaws.{of-told}
 use Rattle.logic_rules.specs.SettingView.{the_setting}
 use Rattle.problem_build.specs.Answers.{the_answer}
 use Rattle.problem_build.specs.Building.{IsProblemOf, WalkFetches}
@@ -31,27 +30,9 @@ pub returns-in-Err-clause-agreeing_symbols : goal.returns-in-Err-clause-agreeing
 returns-in-Err-clause-agreeing_symbols g c = λ files w. answered-symbols (Some files) c.args.name.now c.args.root.now (the_setting c.args.setting) (Err c.in-Err.fault)
     (answered-refusal (Some files) c.args.name.now c.args.root.now (the_setting c.args.setting) c.in-Err.fault c.is_modal.result (c.is_modal.ensures ∙ ap is_modal c.logic.ensures) (c.in-Err.ensures.walks files w))
 
-pub returns-in-Err-clause-answer : goal.returns-in-Err-clause-answer
-returns-in-Err-clause-answer g c = of-told (g.L.Library.holds c.args.lib.now) (g.L.Library.reads c.args.lib.now) (g.L.Library.reads c.walk_files.new.lib)
-    (λ files. IfSome (the_answer (Err c.in-Err.fault)) (λ r. IsProblemOf files c.args.name.now c.args.root.now (the_setting c.args.setting) r)) c.in-Err.ensures.reads_on (λ files w. answered-refusal (Some files) c.args.name.now c.args.root.now (the_setting c.args.setting) c.in-Err.fault c.is_modal.result (c.is_modal.ensures ∙ ap is_modal c.logic.ensures) (c.in-Err.ensures.walks files w))
-
-pub returns-in-Err-clause-alone : goal.returns-in-Err-clause-alone
-returns-in-Err-clause-alone g c = of-told (g.L.Library.holds c.args.lib.now) (g.L.Library.reads c.args.lib.now) (g.L.Library.reads c.walk_files.new.lib)
-    (λ files. IfSome (the_answer (Err c.in-Err.fault)) (λ r. (other : Result Problem Refusal) → IsProblemOf files c.args.name.now c.args.root.now (the_setting c.args.setting) other → other ≡ r)) c.in-Err.ensures.reads_on (λ files w. answered-alone (Some files) c.args.name.now c.args.root.now (the_setting c.args.setting) (the_answer (Err c.in-Err.fault))
-    (answered-refusal (Some files) c.args.name.now c.args.root.now (the_setting c.args.setting) c.in-Err.fault c.is_modal.result (c.is_modal.ensures ∙ ap is_modal c.logic.ensures) (c.in-Err.ensures.walks files w)))
-
-pub returns-in-Err-clause-symbols : goal.returns-in-Err-clause-symbols
-returns-in-Err-clause-symbols g c = of-told (g.L.Library.holds c.args.lib.now) (g.L.Library.reads c.args.lib.now) (g.L.Library.reads c.walk_files.new.lib)
-    (λ files. IfOk (Err c.in-Err.fault) (λ p. HasItsSymbols p)) c.in-Err.ensures.reads_on (λ files w. answered-symbols (Some files) c.args.name.now c.args.root.now (the_setting c.args.setting) (Err c.in-Err.fault)
-    (answered-refusal (Some files) c.args.name.now c.args.root.now (the_setting c.args.setting) c.in-Err.fault c.is_modal.result (c.is_modal.ensures ∙ ap is_modal c.logic.ensures) (c.in-Err.ensures.walks files w)))
-
 pub returns-in-Err-clause-agreeing_fetched : goal.returns-in-Err-clause-agreeing_fetched
 returns-in-Err-clause-agreeing_fetched g c = λ n e files w.
     answered-fetch (Some files) c.args.name.now c.args.root.now (the_setting c.args.setting) n c.is_modal.result (c.is_modal.ensures ∙ ap is_modal c.logic.ensures) (c.in-Err.ensures.fetched n (ap Err (inner-fault _ _ e)) files w)
-
-pub returns-in-Err-clause-fetched : goal.returns-in-Err-clause-fetched
-returns-in-Err-clause-fetched g c = λ n e. of-told (g.L.Library.holds c.args.lib.now) (g.L.Library.reads c.args.lib.now) (g.L.Library.reads c.walk_files.new.lib)
-    (λ files. WalkFetches files c.args.name.now c.args.root.now (the_setting c.args.setting) n) c.in-Err.ensures.reads_on (λ files w. answered-fetch (Some files) c.args.name.now c.args.root.now (the_setting c.args.setting) n c.is_modal.result (c.is_modal.ensures ∙ ap is_modal c.logic.ensures) (c.in-Err.ensures.fetched n (ap Err (inner-fault _ _ e)) files w))
 
 pub returns-in-Err-clause-missing : goal.returns-in-Err-clause-missing
 returns-in-Err-clause-missing g c = λ n e. let h = c.in-Err.ensures.missing n (ap Err (inner-fault _ _ e)) in h.0
@@ -81,23 +62,6 @@ returns-clause-agreeing_symbols g c = λ files w. answered-symbols (Some files) 
     (answered-problem (Some files) c.args.name.now c.args.root.now (the_setting c.args.setting) c.in-Ok.walked.main_length (map the_passed c.in-Ok.walked.passed.items) (the_answer c.problem_of.result) c.is_modal.result (c.is_modal.ensures ∙ ap is_modal c.logic.ensures)
     (c.in-Ok.ensures.walks files w) (c.in-Ok.ensures.length files w) c.problem_of.ensures.problem)
 
-pub returns-clause-answer : goal.returns-clause-answer
-returns-clause-answer g c = of-told (g.L.Library.holds c.args.lib.now) (g.L.Library.reads c.args.lib.now) (g.L.Library.reads c.walk_files.new.lib)
-    (λ files. IfSome (the_answer c.problem_of.result) (λ r. IsProblemOf files c.args.name.now c.args.root.now (the_setting c.args.setting) r)) c.in-Ok.ensures.reads_on (λ files w. answered-problem (Some files) c.args.name.now c.args.root.now (the_setting c.args.setting) c.in-Ok.walked.main_length (map the_passed c.in-Ok.walked.passed.items) (the_answer c.problem_of.result) c.is_modal.result (c.is_modal.ensures ∙ ap is_modal c.logic.ensures)
-    (c.in-Ok.ensures.walks files w) (c.in-Ok.ensures.length files w) c.problem_of.ensures.problem)
-
-pub returns-clause-alone : goal.returns-clause-alone
-returns-clause-alone g c = of-told (g.L.Library.holds c.args.lib.now) (g.L.Library.reads c.args.lib.now) (g.L.Library.reads c.walk_files.new.lib)
-    (λ files. IfSome (the_answer c.problem_of.result) (λ r. (other : Result Problem Refusal) → IsProblemOf files c.args.name.now c.args.root.now (the_setting c.args.setting) other → other ≡ r)) c.in-Ok.ensures.reads_on (λ files w. answered-alone (Some files) c.args.name.now c.args.root.now (the_setting c.args.setting) (the_answer c.problem_of.result)
-    (answered-problem (Some files) c.args.name.now c.args.root.now (the_setting c.args.setting) c.in-Ok.walked.main_length (map the_passed c.in-Ok.walked.passed.items) (the_answer c.problem_of.result) c.is_modal.result (c.is_modal.ensures ∙ ap is_modal c.logic.ensures)
-    (c.in-Ok.ensures.walks files w) (c.in-Ok.ensures.length files w) c.problem_of.ensures.problem))
-
-pub returns-clause-symbols : goal.returns-clause-symbols
-returns-clause-symbols g c = of-told (g.L.Library.holds c.args.lib.now) (g.L.Library.reads c.args.lib.now) (g.L.Library.reads c.walk_files.new.lib)
-    (λ files. IfOk c.problem_of.result (λ p. HasItsSymbols p)) c.in-Ok.ensures.reads_on (λ files w. answered-symbols (Some files) c.args.name.now c.args.root.now (the_setting c.args.setting) c.problem_of.result
-    (answered-problem (Some files) c.args.name.now c.args.root.now (the_setting c.args.setting) c.in-Ok.walked.main_length (map the_passed c.in-Ok.walked.passed.items) (the_answer c.problem_of.result) c.is_modal.result (c.is_modal.ensures ∙ ap is_modal c.logic.ensures)
-    (c.in-Ok.ensures.walks files w) (c.in-Ok.ensures.length files w) c.problem_of.ensures.problem))
-
 pub returns-clause-missing : goal.returns-clause-missing
 returns-clause-missing g c = λ n e. absurd (not-missing c.problem_of.result n c.problem_of.ensures.inside e)
 
@@ -109,9 +73,6 @@ returns-clause-failed g c = λ n e. absurd (not-failed c.problem_of.result n c.p
 
 pub returns-clause-last_failed : goal.returns-clause-last_failed
 returns-clause-last_failed g c = λ n e. absurd (not-failed c.problem_of.result n c.problem_of.ensures.inside e)
-
-pub returns-clause-fetched : goal.returns-clause-fetched
-returns-clause-fetched g c = λ n e. absurd (not-failed c.problem_of.result n c.problem_of.ensures.inside e)
 
 pub returns-clause-agreeing_fetched : goal.returns-clause-agreeing_fetched
 returns-clause-agreeing_fetched g c = λ n e files w. absurd (not-failed c.problem_of.result n c.problem_of.ensures.inside e)
