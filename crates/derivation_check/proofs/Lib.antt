@@ -22,11 +22,16 @@
 -- `use_fault` tells over the table with the step's label is told of the step (`UsedLaws.told-fault`). The names of the calculus are a list
 -- that no value of the program holds: laws quantify over them.
 --
+-- *Names of terms.* Of each term of the text it is told once which eigenvariables it has and where its names lie (`AreNamed`); a step asks
+-- that and not the term. `NamesLaws`: each question of the rules goes by the home of a leaf (`HomeTest`), so one law answers all of them
+-- (`forbidden-of`, `unknown-of`, `homes-of`), and also tells that the places are within the table (`places-within`).
+--
 -- `Accepting`: `judged-in` and `judged-fault` lead from a verdict on steps and from a fault of the text to the judgement over both
 -- versions, `only-one` says that there is no other, and `accepted-in` is what `prove`, `transfer` and `migrate` cite of a text that they
 -- print.
 
 pub mod HomesLaws
+pub mod NamesLaws
 pub mod NodeLaws
 pub mod Forks
 pub mod ToldLaws

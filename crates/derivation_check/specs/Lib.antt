@@ -1,4 +1,5 @@
 pub mod HomesView
+pub mod NamesTold
 pub mod ToldView
 pub mod OpenSequents
 pub mod StateView

@@ -81,6 +81,11 @@ pub record IsKept (names : Names) (s : State) : Type 0 where
   pub told : AreTold s.labels s.marks s.told
   pub nodes : AreAtNodes s.outline.nodes.items (sequents_of s.sequents)
 
+-- the homes of names, and what is told of those of terms, stay as they are
+pub record AreSameNames (s t : State) : Type 0 where
+  pub homes : t.homes ≡ s.homes
+  pub named : t.named ≡ s.named
+
 -- the entry stands on the branch
 abbrev pub StandsOn : List BranchEntry → BranchEntry → Type 0
 StandsOn xs x = (k : ℕ) × (k < length xs) × (x ≡ get_or xs k x)

@@ -8,6 +8,7 @@ ghost use Rattle.calculus.specs.Derivations as derivation;
 ghost use Rattle.calculus.specs.Kinds.{modal_of, shape_of};
 ghost use Rattle.derivation_check.specs.DemandsView.{the_demands};
 ghost use Rattle.derivation_check.specs.HomesView.{AreHomes};
+ghost use Rattle.derivation_check.specs.NamesTold.{IsNamed};
 ghost use Rattle.derivation_check.specs.StateView.{Tells};
 ghost use Rattle.sequent_calc.specs.ChildrenView.{faulty};
 ghost use Rattle.derivation_check.specs.ArgumentView.{the_argument, the_label_argument};
@@ -82,7 +83,7 @@ fn is_new(eigens: &NumberSet, marks: &NumberSet, modal: LabelArgument, term: Arg
     };
     let eigen_is_new = match term {
         Argument::Name(number) => !eigens.holds(number),
-        Argument::None | Argument::Term(_) => true,
+        Argument::None | Argument::Term(_, _) => true,
     };
     mark_is_new && eigen_is_new
 }
@@ -101,6 +102,7 @@ pub fn use_fault(
     requires from { from < length state.now.labels }
     requires at { at < length state.now.labels }
     requires homes { (names : derivation.Names) × AreHomes names state.now.labels state.now.homes }
+    requires named { IsNamed state.now.homes state.now.named.items term }
     ensures { (names : derivation.Names) → AreHomes names state.now.labels state.now.homes
         → (s : derivation.Sequent) → (e : derivation.Entry)
         → Tells names state.now.eigens state.now.marks s
@@ -117,10 +119,10 @@ pub fn use_fault(
     let labels = &state.labels;
     first_unmet(Demands {
         arguments_fit: arguments_fit(kind, modal.form(), term_form(term)),
-        is_known: is_known(&state.homes, term),
+        is_known: is_known(&state.homes, state.named.as_slice(), term),
         is_reachable: is_reachable(logic, labels, from, at, modal),
         is_new: is_new(&state.eigens, &state.marks, modal, term),
         home_is: home_is(labels, &state.homes, at, term),
-        term_allowed: term_allowed(problem, labels, &state.homes, at, term),
+        term_allowed: term_allowed(problem, labels, state.named.as_slice(), at, term),
     })
 }

@@ -12,6 +12,7 @@ mod occurring;
 mod open_sequents;
 mod state;
 mod steps;
+mod term_names;
 mod told_homes;
 mod using;
 mod verdict;

@@ -1,27 +1,28 @@
 //! What a use step brings to a branch: eigenvariables, and marks in labels and in homes of names.
 
-ghost use Rattle.std.specs.Prelude.{◌≡◌, ◌<◌, ◌||◌, ◌&&◌, ◌∷◌, [], ℕ, false, get_or, length, OnOk};
+ghost use Rattle.std.specs.Prelude.{◌≡◌, ◌<◌, ◌||◌, ◌&&◌, [], ℕ, false, get_or, length, OnOk};
+ghost use Rattle.std.specs.List.{AllByRecursion, list_any};
 ghost use Rattle.calculus.specs.Calculus.{holds_character, is_eigen, label_after};
 ghost use Rattle.calculus.specs.Derivations as derivation;
 ghost use Rattle.calculus.specs.Derivations.{character_eq, new_mark};
 ghost use Rattle.calculus.specs.declared.setting.Logic.{Logic};
-ghost use Rattle.calculus.specs.Substitution.{any_leaf};
 ghost use Rattle.calculus.specs.Syntax as tree;
-ghost use Rattle.formula_text.specs.Rows.{any_item};
 ghost use Rattle.label_table.specs.Longer.{IsLonger};
 ghost use Rattle.derivation_branch.specs.Occurring.{holds, in_argument, in_modal};
 ghost use Rattle.label_table.specs.LabelTable.{IsLabelAt};
 ghost use Rattle.derivation_check.specs.HomesView.{AreHomes, is_in_home_at};
+ghost use Rattle.derivation_check.specs.NamesTold.{IsNamed};
+ghost use Rattle.derivation_check.specs.declared.homes.Homes.{Homes};
 ghost use Rattle.derivation_check.specs.ToldView.{AreThere, AreTold};
 ghost use Rattle.logic_rules.specs.MarkView.{the_character};
 ghost use Rattle.derivation_check.specs.ArgumentView.{the_argument, the_label_argument};
 
 use crate::argument::{Argument, LabelArgument};
-use crate::homes::{Homes, Place};
+use crate::homes::Homes;
+use crate::term_names::TermNames;
 use crate::told_homes::ToldHomes;
 use cop_base::NoMemory;
-use derivation_branch::{NumberSet, add_eigens};
-use formula_text::{RowItem, TermRow};
+use derivation_branch::NumberSet;
 use label_table::Labels;
 use logic_rules::Mark;
 
@@ -119,73 +120,23 @@ fn add_home_of_eigen(
     }
 }
 
-// Adds the marks in the home of a spare constant.
-fn add_home_of_spare(
-    labels: &Labels,
-    homes: &Homes,
-    told: &mut ToldHomes,
-    marks: &mut NumberSet,
-    at: u32,
-    number: u32,
-) -> Result<(), NoMemory>
-    requires homes { (names : derivation.Names) × AreHomes names labels.now homes.now }
-    requires there { AreThere labels.now at marks.old told.old }
-    ensures held { OnOk result ((n : ℕ) → holds marks.new n
-        ≡ (holds marks.old n
-        || is_in_home_at labels.now homes.now (new_mark n) (tree.spare number))) }
-    ensures kept { OnOk result (IsLonger marks.old marks.new) }
-    ensures there { OnOk result (AreThere labels.now at marks.new told.new) }
-{
-    match homes.spare(number) {
-        Some(Place::At(home)) => add_home(labels, told, marks, at, home),
-        Some(Place::Anywhere) => Ok(()),
-        None => Ok(()),
-    }
-}
-
-// Adds the marks in the home of a name.
-fn add_home_of_item(
-    labels: &Labels,
-    homes: &Homes,
-    told: &mut ToldHomes,
-    marks: &mut NumberSet,
-    at: u32,
-    item: RowItem,
-) -> Result<(), NoMemory>
-    requires homes { (names : derivation.Names) × AreHomes names labels.now homes.now }
-    requires there { AreThere labels.now at marks.old told.old }
-    ensures held { OnOk result ((n : ℕ) → holds marks.new n
-        ≡ (holds marks.old n
-        || any_item (is_in_home_at labels.now homes.now (new_mark n)) (item ∷ []))) }
-    ensures kept { OnOk result (IsLonger marks.old marks.new) }
-    ensures there { OnOk result (AreThere labels.now at marks.new told.new) }
-{
-    match item {
-        RowItem::Eigen(number) => add_home_of_eigen(labels, homes, told, marks, at, number),
-        RowItem::Spare(number) => add_home_of_spare(labels, homes, told, marks, at, number),
-        RowItem::Var(_) | RowItem::Fun(_, _) => Ok(()),
-    }
-}
-
-// Adds the marks in the homes of the names of a term.
+// Adds the marks in the homes at these places.
 fn add_homes(
     labels: &Labels,
-    homes: &Homes,
     told: &mut ToldHomes,
     marks: &mut NumberSet,
     at: u32,
-    t: &TermRow,
+    homes: &[u32],
 ) -> Result<(), NoMemory>
-    requires homes { (names : derivation.Names) × AreHomes names labels.now homes.now }
+    requires homes { AllByRecursion (λ k. k < length labels.now) homes.now }
     requires there { AreThere labels.now at marks.old told.old }
-    ensures held { OnOk result ((n : ℕ) → holds marks.new n
-        ≡ (holds marks.old n
-        || any_leaf (is_in_home_at labels.now homes.now (new_mark n)) t.now)) }
+    ensures held { OnOk result ((n : ℕ) → holds marks.new n ≡ (holds marks.old n
+        || list_any (λ k. holds_character (new_mark n) (get_or labels.now k [])) homes.now)) }
     ensures kept { OnOk result (IsLonger marks.old marks.new) }
     ensures there { OnOk result (AreThere labels.now at marks.new told.new) }
 {
-    for item in t.items() {
-        add_home_of_item(labels, homes, told, marks, at, *item)?;
+    for home in homes {
+        add_home(labels, told, marks, at, *home)?;
     }
     Ok(())
 }
@@ -216,27 +167,51 @@ pub fn add_modal(
     }
 }
 
-fn add_argument_eigens(eigens: &mut NumberSet, term: Argument<'_>) -> Result<(), NoMemory>
+fn add_all(set: &mut NumberSet, numbers: &[u32]) -> Result<(), NoMemory>
+    ensures held { OnOk result
+        ((n : ℕ) → holds set.new n ≡ (holds set.old n || holds numbers.now n)) }
+    ensures kept { OnOk result (IsLonger set.old set.new) }
+{
+    for number in numbers {
+        set.add(*number)?;
+    }
+    Ok(())
+}
+
+fn add_argument_eigens(
+    eigens: &mut NumberSet,
+    named: &[TermNames],
+    term: Argument<'_>,
+) -> Result<(), NoMemory>
+    requires { (homes : Homes) × IsNamed homes named.now term }
     ensures held { OnOk result ((n : ℕ) → holds eigens.new n
         ≡ (holds eigens.old n || in_argument (is_eigen n) (the_argument term.entry))) }
     ensures kept { OnOk result (IsLonger eigens.old eigens.new) }
 {
     match term {
         Argument::None => Ok(()),
-        Argument::Term(t) => add_eigens(eigens, t),
-        Argument::Name(number) => eigens.add(number),
+        Argument::Term(_, place) => {
+            add_all(eigens, named[place].eigens.as_slice())?;
+            Ok(())
+        }
+        Argument::Name(number) => {
+            eigens.add(number)?;
+            Ok(())
+        }
     }
 }
 
 fn add_argument_homes(
     labels: &Labels,
     homes: &Homes,
+    named: &[TermNames],
     told: &mut ToldHomes,
     marks: &mut NumberSet,
     at: u32,
     term: Argument<'_>,
 ) -> Result<(), NoMemory>
     requires homes { (names : derivation.Names) × AreHomes names labels.now homes.now }
+    requires named { IsNamed homes.now named.now term }
     requires there { AreThere labels.now at marks.old told.old }
     ensures held { OnOk result ((n : ℕ) → holds marks.new n
         ≡ (holds marks.old n || in_argument (is_in_home_at labels.now homes.now (new_mark n))
@@ -246,7 +221,10 @@ fn add_argument_homes(
 {
     match term {
         Argument::None => Ok(()),
-        Argument::Term(t) => add_homes(labels, homes, told, marks, at, t),
+        Argument::Term(_, place) => {
+            add_homes(labels, told, marks, at, named[place].places.as_slice())?;
+            Ok(())
+        }
         Argument::Name(number) => add_home_of_eigen(labels, homes, told, marks, at, number),
     }
 }
@@ -255,16 +233,18 @@ fn add_argument_homes(
 /// quantifier binds something.
 pub fn add_brought_eigens(
     eigens: &mut NumberSet,
+    named: &[TermNames],
     binds: bool,
     term: Argument<'_>,
 ) -> Result<(), NoMemory>
+    requires { (homes : Homes) × IsNamed homes named.now term }
     ensures held { OnOk result ((n : ℕ) → holds eigens.new n
         ≡ (holds eigens.old n || (binds
         && in_argument (is_eigen n) (the_argument term.entry)))) }
     ensures kept { OnOk result (IsLonger eigens.old eigens.new) }
 {
     if binds {
-        add_argument_eigens(eigens, term)
+        add_argument_eigens(eigens, named, term)
     } else {
         Ok(())
     }
@@ -274,6 +254,7 @@ pub fn add_brought_eigens(
 pub fn add_brought_homes(
     labels: &Labels,
     homes: &Homes,
+    named: &[TermNames],
     told: &mut ToldHomes,
     marks: &mut NumberSet,
     at: u32,
@@ -281,6 +262,7 @@ pub fn add_brought_homes(
     term: Argument<'_>,
 ) -> Result<(), NoMemory>
     requires homes { (names : derivation.Names) × AreHomes names labels.now homes.now }
+    requires named { IsNamed homes.now named.now term }
     requires there { AreThere labels.now at marks.old told.old }
     ensures held { OnOk result ((n : ℕ) → holds marks.new n
         ≡ (holds marks.old n || (binds
@@ -289,7 +271,7 @@ pub fn add_brought_homes(
     ensures there { OnOk result (AreThere labels.now at marks.new told.new) }
 {
     if binds {
-        add_argument_homes(labels, homes, told, marks, at, term)
+        add_argument_homes(labels, homes, named, told, marks, at, term)
     } else {
         Ok(())
     }

@@ -6,11 +6,13 @@ ghost use Rattle.calculus.specs.Derivations.{first_sequent};
 ghost use Rattle.calculus.specs.Versions.{stated};
 ghost use Rattle.derivation_check.specs.ArgumentView.{ArePlaces};
 ghost use Rattle.derivation_check.specs.OpenSequents.{IsNested, waiting_in};
-ghost use Rattle.derivation_check.specs.StateView.{IsKept, the_sequent, the_sequents};
+ghost use Rattle.derivation_check.specs.NamesTold.{AreNamed};
+ghost use Rattle.derivation_check.specs.StateView.{AreSameNames, IsKept, the_sequent, the_sequents};
 
 use crate::homes::Homes;
 use crate::label_places::add_labels;
 use crate::open_sequents::{BranchEntry, OpenSequents};
+use crate::term_names::{TermNames, all_names};
 use crate::told_homes::ToldHomes;
 use cop_base::NoMemory;
 use derivation_branch::{NumberSet, Outline, SharedEntry, Substitutions};
@@ -28,6 +30,8 @@ pub struct State<'a> {
     pub substitutions: Substitutions<'a>,
     pub labels: Labels,
     pub homes: Homes,
+    /// What is told of the names of the terms.
+    pub named: Vec<TermNames>,
     /// The eigenvariables that stand in formulas of the current sequent.
     pub eigens: NumberSet,
     /// The marks of pi steps that stand in its labels, or in the homes of names in its formulas.
@@ -47,6 +51,7 @@ impl<'a> State<'a> {
         ensures kept { IfOk result (λ r. IsKept (stated d.now).names r.0) }
         ensures first { IfOk result (λ r. the_sequents r.0 ≡ first_sequent problem.now ∷ []) }
         ensures places { IfOk result (λ r. ArePlaces d.now.labels r.0.labels r.1.items) }
+        ensures named { IfOk result (λ r. AreNamed r.0.homes d.now.terms r.0.named.items) }
     {
         let formula = problem.formula();
         let outline = Outline::new(alloc, formula)?;
@@ -68,6 +73,7 @@ impl<'a> State<'a> {
         let mut labels = Labels::new(alloc);
         let places = add_labels(alloc, &mut labels, d.labels())?;
         let homes = Homes::new(alloc, places.as_slice(), d)?;
+        let named = all_names(alloc, &homes, d.terms())?;
         let eigens = NumberSet::new(alloc);
         let marks = NumberSet::new(alloc);
         let told = ToldHomes::new(alloc);
@@ -77,6 +83,7 @@ impl<'a> State<'a> {
             substitutions,
             labels,
             homes,
+            named,
             eigens,
             marks,
             told,
@@ -93,6 +100,7 @@ impl<'a> State<'a> {
         ensures closed { OnOk result (the_sequents self.new
             ≡ map (the_sequent self.old.substitutions self.old.labels) (waiting_in self.old.sequents)) }
         ensures labels { OnOk result (self.new.labels ≡ self.old.labels) }
+        ensures named { OnOk result (AreSameNames self.old self.new) }
     {
         let next = self.sequents.close()?;
         match next {

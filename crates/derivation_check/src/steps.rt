@@ -8,7 +8,10 @@ ghost use Rattle.calculus.specs.Derivations as derivation;
 ghost use Rattle.calculus.specs.Judgement.{at_end, verdict_from};
 ghost use Rattle.calculus.specs.declared.fault.StepFault.{StepFault};
 ghost use Rattle.derivation_check.specs.OpenSequents.{waiting_in};
-ghost use Rattle.derivation_check.specs.StateView.{IsKept, LeadsTo, StandsOn, the_current};
+ghost use Rattle.derivation_check.specs.NamesTold.{AreNamed, IsNamed};
+ghost use Rattle.derivation_check.specs.StateView.{AreSameNames, IsKept, LeadsTo, StandsOn, the_current};
+ghost use Rattle.derivation_check.specs.declared.homes.Homes.{Homes};
+ghost use Rattle.derivation_check.specs.declared.term_names.TermNames.{TermNames};
 ghost use Rattle.derivation_check.specs.StateView.{IsNumbered, the_entry, the_sequent, the_sequents};
 ghost use Rattle.derivation_check.specs.VerdictView.{the_verdict};
 ghost use Rattle.calculus.specs.VersionJudgement.{step_line_in, verdict_in};
@@ -65,6 +68,7 @@ fn close_branch<'a>(
         (map (the_sequent state.old.substitutions state.old.labels) (waiting_in state.old.sequents))
         (the_sequents state.new)) }
     ensures labels { OnOk result (state.new.labels ≡ state.old.labels) }
+    ensures named { OnOk result (AreSameNames state.old state.new) }
     ensures fault { (f : StepFault) → result ≡ Err (ApplyFault.Fault f) → close_branch
         (Some (the_entry state.old.substitutions state.old.labels given.entry))
         (Some (the_entry state.old.substitutions state.old.labels shown.entry)) ≡ Err f }
@@ -94,6 +98,7 @@ fn use_numbered<'a>(
     requires within { IsArgumentWithin state.old.labels modal }
     requires is_open { state.old.sequents.is_open ≡ true }
     requires kept { (names : derivation.Names) × IsKept names state.old }
+    requires named { IsNamed state.old.homes state.old.named.items term }
     ensures kept { OnOk result ((names : derivation.Names)
         → IsKept names state.old → IsKept names state.new) }
     ensures leads { OnOk result ((names : derivation.Names) → IsKept names state.old
@@ -103,6 +108,7 @@ fn use_numbered<'a>(
         (map (the_sequent state.old.substitutions state.old.labels) (waiting_in state.old.sequents))
         (the_sequents state.new)) }
     ensures grown { OnOk result (IsLonger state.old.labels state.new.labels) }
+    ensures named { OnOk result (AreSameNames state.old state.new) }
     ensures fault { (f : StepFault) → result ≡ Err (ApplyFault.Fault f)
         → (names : derivation.Names) → IsKept names state.old
         → use_entry problem.now names (the_current state.old)
@@ -127,6 +133,7 @@ fn close_numbered<'a>(state: &mut State<'a>, given: u32, shown: u32) -> Result<(
         (map (the_sequent state.old.substitutions state.old.labels) (waiting_in state.old.sequents))
         (the_sequents state.new)) }
     ensures labels { OnOk result (state.new.labels ≡ state.old.labels) }
+    ensures named { OnOk result (AreSameNames state.old state.new) }
     ensures fault { (f : StepFault) → result ≡ Err (ApplyFault.Fault f) → close_branch
         (entry_of (the_current state.old) given) (entry_of (the_current state.old) shown) ≡ Err f }
 {
@@ -144,11 +151,13 @@ fn close_numbered<'a>(state: &mut State<'a>, given: u32, shown: u32) -> Result<(
 // The argument of a step on a quantifier.
 fn argument<'a>(terms: &'a TermList, term: NumberedTerm) -> Argument<'a>
     requires { IsTrue (is_arg_listed (length terms.now) (the_numbered_arg term)) }
-    ensures { the_argument result ≡ stated_term terms.entry.now (the_numbered_arg term) }
+    ensures same { the_argument result ≡ stated_term terms.entry.now (the_numbered_arg term) }
+    ensures named { (homes : Homes) → (named : List TermNames)
+        → AreNamed homes terms.entry.now named → IsNamed homes named result }
 {
     match term {
         NumberedTerm::None => Argument::None,
-        NumberedTerm::Term(number) => Argument::Term(terms.row(number)),
+        NumberedTerm::Term(number) => Argument::Term(terms.row(number), number as usize - 1),
         NumberedTerm::Name(number) => Argument::Name(number),
     }
 }
@@ -163,11 +172,13 @@ fn take_step<'a>(
 ) -> Result<(), ApplyFault>
     requires listed { IsTrue (are_listed (length d.now.labels) (length d.now.terms) (the_numbered_step step)) }
     requires places { ArePlaces d.now.labels state.old.labels places.now }
+    requires named { AreNamed state.old.homes d.now.terms state.old.named.items }
     requires is_open { state.old.sequents.is_open ≡ true }
     requires kept { (names : derivation.Names) × IsKept names state.old }
     ensures kept { OnOk result ((names : derivation.Names)
         → IsKept names state.old → IsKept names state.new) }
     ensures places { OnOk result (ArePlaces d.entry.now.labels state.new.labels places.now) }
+    ensures named { OnOk result (AreSameNames state.old state.new) }
     ensures leads { OnOk result ((names : derivation.Names) → IsKept names state.old
         → LeadsTo (apply problem.now names
         (the_current state.old) (stated_step d.entry.now.labels d.entry.now.terms (the_numbered_step step)))
@@ -201,10 +212,12 @@ fn judge_step<'a>(
 ) -> Result<Option<Verdict>, NoMemory>
     requires listed { IsTrue (are_listed (length d.now.labels) (length d.now.terms) (the_numbered_step step.now)) }
     requires places { ArePlaces d.now.labels state.old.labels places.now }
+    requires named { AreNamed state.old.homes d.now.terms state.old.named.items }
     requires kept { (names : derivation.Names) × IsKept names state.old }
     ensures kept { IfOk result (λ judged. judged ≡ None → (names : derivation.Names)
         → IsKept names state.old → IsKept names state.new) }
     ensures places { IfOk result (λ judged. judged ≡ None → ArePlaces d.entry.now.labels state.new.labels places.now) }
+    ensures named { IfOk result (λ judged. judged ≡ None → AreSameNames state.old state.new) }
     ensures judged { IfOk result (λ judged. (names : derivation.Names) → IsKept names state.old
         → (rest : List derivation.Step)
         → verdict_from problem.now names (the_sequents state.old)
@@ -264,6 +277,7 @@ fn judge_steps<'a>(
 ) -> Result<Verdict, NoMemory>
     requires bound { first_line ≤ 2 ^ 62 }
     requires places { ArePlaces d.now.labels state.old.labels places.now }
+    requires named { AreNamed state.old.homes d.now.terms state.old.named.items }
     requires kept { (names : derivation.Names) × IsKept names state.old }
     ensures { IfOk result (λ v. (names : derivation.Names) → IsKept names state.old
         → the_verdict v ≡ verdict_from problem.now names (the_sequents state.old)

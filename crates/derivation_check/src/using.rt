@@ -17,6 +17,8 @@ ghost use Rattle.derivation_check.specs.OpenSequents.{waiting_in};
 ghost use Rattle.derivation_check.specs.StateView.{HasArgument, IsClosedArgument, IsKept};
 ghost use Rattle.derivation_check.specs.StateView.{IsLabelAfter, LeadsTo, StandsOn, the_current};
 ghost use Rattle.derivation_check.specs.StateView.{the_entry, the_sequent, the_sequents};
+ghost use Rattle.derivation_check.specs.NamesTold.{IsNamed};
+ghost use Rattle.derivation_check.specs.StateView.{AreSameNames};
 ghost use Rattle.formula_core.specs.FormulaView.{the_formula};
 ghost use Rattle.derivation_check.specs.ArgumentView.{IsArgumentWithin, the_argument, the_label_argument};
 
@@ -84,7 +86,7 @@ fn put_argument<'a>(
 {
     match term {
         Argument::None => Ok(outer),
-        Argument::Term(t) => put_value(substitutions, outer, Value::Given(t)),
+        Argument::Term(t, _) => put_value(substitutions, outer, Value::Given(t)),
         Argument::Name(number) => put_value(substitutions, outer, Value::Eigen(number)),
     }
 }
@@ -104,6 +106,7 @@ fn grow<'a>(
     requires fits { term_fits (shape_of used.shared.sign (the_formula used.shared.formula.now))
         (the_argument term) ≡ true }
     requires closed { IsClosedArgument (the_argument term) }
+    requires named { IsNamed state.old.homes state.old.named.items term }
     ensures kept { OnOk result ((names : derivation.Names)
         → IsKept names state.old → IsKept names state.new) }
     ensures grown { OnOk result (the_sequents state.new ≡ open_after
@@ -115,16 +118,27 @@ fn grow<'a>(
         (the_formula used.entry.shared.formula.now)))))
         (map (the_sequent state.old.substitutions state.old.labels) (waiting_in state.old.sequents))) }
     ensures labels { OnOk result (state.new.labels ≡ state.old.labels) }
+    ensures named { OnOk result (AreSameNames state.old state.new) }
 {
     let shared = used.shared;
     let inner = put_argument(&mut state.substitutions, shared.substitution, term)?;
     let binds = state.outline.binds(shared.node);
-    add_brought_eigens(&mut state.eigens, binds, term)?;
+    add_brought_eigens(&mut state.eigens, state.named.as_slice(), binds, term)?;
     add_modal(&state.labels, &mut state.told, &mut state.marks, at, modal)?;
     let labels = &state.labels;
     let homes = &state.homes;
     let told = &mut state.told;
-    add_brought_homes(labels, homes, told, &mut state.marks, at, binds, term)?;
+    let named = state.named.as_slice();
+    add_brought_homes(
+        labels,
+        homes,
+        named,
+        told,
+        &mut state.marks,
+        at,
+        binds,
+        term,
+    )?;
     let added = added_by(&state.outline, shared, inner, at);
     let eigens = state.eigens.count()?;
     let marks = state.marks.count()?;
@@ -145,6 +159,7 @@ pub fn use_entry<'a>(
     requires is_open { state.old.sequents.is_open ≡ true }
     requires kept { (names : derivation.Names) × IsKept names state.old }
     requires stands { StandsOn state.old.sequents.branch.items used }
+    requires named { IsNamed state.old.homes state.old.named.items term }
     ensures kept { OnOk result ((names : derivation.Names)
         → IsKept names state.old → IsKept names state.new) }
     ensures leads { OnOk result ((names : derivation.Names) → IsKept names state.old
@@ -154,6 +169,7 @@ pub fn use_entry<'a>(
         (map (the_sequent state.old.substitutions state.old.labels) (waiting_in state.old.sequents))
         (the_sequents state.new)) }
     ensures grown { OnOk result (IsLonger state.old.labels state.new.labels) }
+    ensures named { OnOk result (AreSameNames state.old state.new) }
     ensures fault { (f : StepFault) → result ≡ Err (ApplyFault.Fault f)
         → (names : derivation.Names) → IsKept names state.old
         → use_entry problem.now names (the_current state.old)

@@ -15,6 +15,7 @@ judge_steps-requires c =
     record {
       bound = c.first_step_line-line.ensures.bound;
       places = subst (λ ps. ArePlaces x.labels c.in_ok-state.state.labels ps) (sym c.as_slice.ensures.value) c.in_ok-state.ensures.places;
+      named = c.in_ok-state.ensures.named;
       kept = ((stated x).names, c.in_ok-state.ensures.kept);
     }
 

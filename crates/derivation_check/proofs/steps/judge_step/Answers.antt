@@ -16,6 +16,9 @@ returns-in-Ok-clause-kept c = λ e. c.in-Ok.ensures.kept
 pub returns-in-Ok-clause-places : goal.returns-in-Ok-clause-places
 returns-in-Ok-clause-places c = λ e. c.in-Ok.ensures.places
 
+pub returns-in-Ok-clause-named : goal.returns-in-Ok-clause-named
+returns-in-Ok-clause-named c = λ e. c.in-Ok.ensures.named
+
 pub returns-in-Ok-clause-judged : goal.returns-in-Ok-clause-judged
 returns-in-Ok-clause-judged c = λ names h rest.
     let s = c.args.state.now in

@@ -6,6 +6,7 @@ use Rattle.calculus.specs.Versions.{stated_step, stated_term}
 use Rattle.derivation_text.specs.Listed.{are_listed, is_arg_listed, is_modal_listed}
 use Rattle.derivation_text.specs.NumbersView.{the_numbered_arg, the_numbered_modal, the_numbered_step}
 use Rattle.derivation_check.specs.ArgumentView.{ArePlaces, the_argument, the_label_argument}
+use Rattle.derivation_check.specs.NamesTold.{AreNamed}
 use Rattle.derivation_check.specs.StateView.{IsKept, the_current}
 use Rattle.derivation_check.proofs.ArgumentLaws.{places-longer}
 use Rattle.derivation_check.proofs.StepLaws.{leads-as, leads-each}
@@ -30,6 +31,7 @@ use_numbered-requires c = record {
   within = c.label_argument.ensures.within c.args.d.now.labels c.args.state.now.labels c.requires.places;
   is_open = c.requires.is_open;
   kept = c.requires.kept;
+  named = c.argument.ensures.named c.args.state.now.homes c.args.state.now.named.items (subst (λ ts. AreNamed c.args.state.now.homes ts c.args.state.now.named.items) (sym c.terms.ensures) c.requires.named);
 }
 
 pub returns-in-Use-clause-leads : goal.returns-in-Use-clause-leads
@@ -38,7 +40,7 @@ returns-in-Use-clause-leads c =
     let x = c.args.d.now in
     let P = c.args.problem.now in
     let modal = c.label_argument.ensures.same x.labels s.labels c.requires.places in
-    let given = c.argument.ensures ∙ ap (λ ts. stated_term ts (the_numbered_arg c.in-Use.term)) c.terms.ensures in
+    let given = c.argument.ensures.same ∙ ap (λ ts. stated_term ts (the_numbered_arg c.in-Use.term)) c.terms.ensures in
     leads-as c.use_numbered.result (λ n. IsKept n s)
     (λ n. use_entry P n (the_current s) (entry_of (the_current s) c.in-Use.entry) (the_label_argument s.labels c.label_argument.result) (the_argument c.argument.result))
     (λ n. apply P n (the_current s) (stated_step x.labels x.terms (the_numbered_step c.args.step))) _ _
@@ -51,7 +53,7 @@ returns-in-Use-clause-fault c = λ f e names h.
     let x = c.args.d.now in
     let P = c.args.problem.now in
     let modal = c.label_argument.ensures.same x.labels s.labels c.requires.places in
-    let given = c.argument.ensures ∙ ap (λ ts. stated_term ts (the_numbered_arg c.in-Use.term)) c.terms.ensures in
+    let given = c.argument.ensures.same ∙ ap (λ ts. stated_term ts (the_numbered_arg c.in-Use.term)) c.terms.ensures in
     let step = (λ i. use_entry P names (the_current s) (entry_of (the_current s) c.in-Use.entry) (modal i) (given i))
     ∙ ap (λ y. apply P names (the_current s) (stated_step x.labels x.terms (the_numbered_step y))) (sym c.in-Use.is) in
     sym step ∙ c.use_numbered.ensures.fault f e names h

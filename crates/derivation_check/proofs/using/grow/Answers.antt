@@ -1,4 +1,4 @@
-use Rattle.std.proofs.Common.{◌∙◌, ◌||◌, ◌&&◌, ap, refl, reverse}
+use Rattle.std.proofs.Common.{◌∙◌, ◌||◌, ◌&&◌, ap, refl, reverse, subst, sym}
 use Rattle.calculus.specs.Calculus.{is_eigen}
 use Rattle.calculus.specs.Derivations.{Names, new_mark}
 use Rattle.derivation_branch.specs.Occurring.{holds, in_argument}
@@ -7,6 +7,7 @@ use Rattle.formula_core.specs.FormulaView.{the_formula}
 use Rattle.derivation_check.proofs.HomesLaws.{argument-same}
 use Rattle.derivation_check.proofs.Keeping.{branch-there}
 use Rattle.derivation_check.proofs.NodeLaws.{node-stands, nodes-added}
+use Rattle.derivation_check.specs.NamesTold.{IsNamed}
 use Rattle.derivation_check.specs.OpenSequents.{after_added, sequents_of, waiting_in}
 use Rattle.derivation_check.specs.StateView.{IsKept}
 use Rattle.derivation_check.proofs.StateLaws.{Growth, grown-kept, grown-shown, kept-open, stands-within}
@@ -26,6 +27,9 @@ add_modal-requires-clause-label c = (_, c.requires.label.0, c.requires.label.1)
 pub add_modal-requires-clause-told : goal.add_modal-requires-clause-told
 add_modal-requires-clause-told c = c.requires.kept.1.told
 
+pub add_brought_eigens-requires : goal.add_brought_eigens-requires
+add_brought_eigens-requires c = let s = c.args.state.now in (s.homes, subst (λ xs. IsNamed s.homes xs c.args.term) (sym c.as_slice.ensures.value) c.requires.named)
+
 pub add_brought_homes-requires : goal.add_brought_homes-requires
 add_brought_homes-requires c =
     let s = c.args.state.now in
@@ -36,6 +40,7 @@ add_brought_homes-requires c =
     let marks = c.add_modal.new.marks in
     record {
       homes = (names, h.homes);
+      named = subst (λ xs. IsNamed s.homes xs c.args.term) (sym c.as_slice-named.ensures.value) c.requires.named;
       there = record {
         within = c.requires.label.1.0;
         label = branch-there names s.substitutions s.labels s.eigens s.marks marks xs c.args.used c.args.at (the_label_argument s.labels c.args.modal) c.requires.stands c.requires.label parts.1 c.in_ok-add_modal.ensures.held;
@@ -89,4 +94,5 @@ returns c =
       };
       grown = grown-shown c.requires.kept.0 s.substitutions more s.labels s.eigens eigens s.marks marks s.sequents.is_open xs forks c.args.used c.in_ok-inner.inner c.args.at x t added now (growth c.requires.kept.0 c.requires.kept.1);
       labels = refl;
+      named = record { homes = refl; named = refl };
     }

@@ -64,6 +64,7 @@ grow-requires c =
       label = subst (λ z. IsLabelAfter more u.shared.label z c.in_ok-at.at) (sym same) (after-of P names s.substitutions s.labels more s.eigens s.marks s.sequents.is_open xs forks u c.in_ok-at.at x used);
       fits = ap (λ g. term_fits g t) (sym (shape-all (get_or s.substitutions u.shared.substitution []) 0 u.shared.sign f)) ∙ kept.0;
       closed = kept.1;
+      named = c.requires.named;
     }
 
 pub returns-in-Some-clause-fault : goal.returns-in-Some-clause-fault
@@ -108,3 +109,6 @@ returns-in_ok-grow-in-None-clause-leads c = λ names h.
 
 pub returns-in_ok-grow-in-None-clause-grown : goal.returns-in_ok-grow-in-None-clause-grown
 returns-in_ok-grow-in-None-clause-grown c = subst (IsLonger c.args.state.now.labels) (sym c.in_ok-grow-in-None.ensures.labels) c.in_ok-at.ensures.grown
+
+pub returns-in_ok-grow-in-None-clause-named : goal.returns-in_ok-grow-in-None-clause-named
+returns-in_ok-grow-in-None-clause-named c = record { homes = c.in_ok-grow-in-None.ensures.named.homes; named = c.in_ok-grow-in-None.ensures.named.named }

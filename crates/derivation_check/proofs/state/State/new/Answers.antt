@@ -2,6 +2,7 @@ use Rattle.std.proofs.Common.{refl, subst, sym}
 use Rattle.calculus.specs.Versions.{stated}
 use Rattle.formula_core.specs.FormulaView.{the_formula}
 use Rattle.derivation_check.specs.ArgumentView.{ArePlaces}
+use Rattle.derivation_check.specs.NamesTold.{AreNamed}
 use Rattle.derivation_check.proofs.NodeLaws.{nodes-first}
 use Rattle.derivation_check.proofs.StateLaws.{first-shown, first-state}
 use Rattle.derivation_check.proofs.state.State.new.Goals as goal
@@ -21,3 +22,6 @@ returns-clause-kept c =
 
 pub returns-clause-first : goal.returns-clause-first
 returns-clause-first c = first-shown c.args.problem.now _ _ _ _ _ c.new-substitutions.ensures c.new-labels.ensures c.in_ok-places.ensures.grown c.in_ok-sequents.ensures.sequents refl refl refl c.formula-formula.ensures.formula
+
+pub returns-clause-named : goal.returns-clause-named
+returns-clause-named c = subst (λ ts. AreNamed c.in_ok-homes.homes ts c.in_ok-named.named.items) c.terms.ensures c.in_ok-named.ensures
