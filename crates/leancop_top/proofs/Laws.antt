@@ -1,5 +1,4 @@
--- The laws that a run names: of the files that a library tells, of closed tableaux, spanning instances and derivations, and of the bounds
--- of a search.
+-- The laws that a run names: closed tableaux, spanning instances and derivations, and the bounds of a search.
 use Rattle.std.proofs.Common.{◌≡◌, ◌⊎◌, ℕ, ◌≤◌, List, Option, None, Some, IsTrue, inl, inr, refl, sym, ◌∙◌, ap, arith}
 use Rattle.calculus.specs.Problems.{is_problem}
 use Rattle.calculus.specs.Space.{Answer, derived, exhausted, no_tableau, IsAnswer}
@@ -8,8 +7,6 @@ use Rattle.calculus.proofs.AnswerLaws.{answer-unique, closed-mono}
 use Rattle.calculus.proofs.LimitLaws.{none-beyond}
 use Rattle.calculus.specs.declared.version.Version.{Version}
 use Rattle.command_line.specs.CommandLine.{Bounds}
-use Rattle.cop_base.specs.Outside.{Files}
-use Rattle.cop_base.specs.Reads.{Read, ReadsOn}
 use Rattle.derivation_theory.proofs.DerivedLaws.{accepted-closes, derived-closes}
 use Rattle.matrix_build.specs.Fits.{FitsMatrix}
 use Rattle.string_theory.proofs.StringLaws.{closed_exactly_where_spanning}
@@ -20,10 +17,6 @@ use Rattle.leancop_top.specs.TableauSearch.{IsLimit, SearchEnds}
 use Rattle.leancop_top.specs.TableauSearch as ends
 use Rattle.leancop_top.specs.declared.status.Status.{Status}
 use Rattle.leancop_top.specs.declared.status.Status.TheVariants as status
-
--- what clauses of a run say of all files that agree with what was read, they say of those that the library tells: by `reads_on` these agree
-pub for-told : (P : Option Files → Type 0) (told : Option Files) (old new : List Read) → ReadsOn told old new → ((files : Option Files) → ReadsOn files old new → P files) → P told
-for-told P told old new agree all = all told agree
 
 pub characterised : (P : Problem) → IsTrue (is_problem P) → IsCharacterised P
 characterised P well = record { spanning = closed_exactly_where_spanning P; derived = derived-closes P well; accepted = accepted-closes P well }

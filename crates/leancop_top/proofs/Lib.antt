@@ -3,9 +3,9 @@
 -- Carried by the cases of each command (`ProveEnds`, `CheckEnds`): no law goes through all statuses. The clause `ends` of each command
 -- speaks of all files that agree with what the command read, as an option (`told`), so its words take `told` and no record; a command of
 -- two fetches hands each call its part of what was read (`reads-first`, `reads-rest` of `ReadLaws`), and what the clauses of `run` say of
--- the files that a library tells is this at `L.holds lib.old`, by `reads_on` (`Laws.for-told`). `Ends.read-ends` and `line-ends` lead from a reply to how the run
--- ends, `Ends.told` says that what ends a run is neither a write fault nor want of memory, and `Decisions.decided` which runs end in an
--- answer.
+-- the files that a library tells is this at `L.holds lib.old`, by `reads_on` (`ForReaders.for-told`). `Ends.read-ends` and `line-ends` lead
+-- from a reply to how the run ends, `Ends.told` says that what ends a run is neither a write fault nor want of memory, and
+-- `Decisions.decided` which runs end in an answer.
 --
 -- `LimitLaws`: nothing is closed within the limit 0, since each clause has a literal. `Unclosed`: what is known where no tableau is closed
 -- (`unclosed`, `never-closed`), by the laws of `string_theory`, `derivation_theory` and `decision_theory`; `Theorems`: what a derivation
@@ -46,3 +46,4 @@ pub mod Ends
 pub mod Translations
 pub mod Decisions
 pub mod Laws
+pub mod ForReaders
