@@ -1,7 +1,8 @@
 -- A text belongs to at most one derivation.
-use Rattle.std.proofs.Common.{◌≡◌, ℕ, ◌^◌, List, [], ◌∷◌, ◌++◌, map, Bool, false, ◌&&◌, ◌==◌, IsTrue, refl, sym, ◌∙◌, ap, append_assoc, eq-eqb, decimal, codes, get_or, flat_map, nat_le, lt_of_le_of_lt, lit<, lt-ltb, leb-true}
+use Rattle.std.proofs.Common.{◌≡◌, ℕ, ◌^◌, List, [], ◌∷◌, ◌++◌, map, Bool, ◌&&◌, IsTrue, refl, sym, ◌∙◌, ap, append_assoc, decimal, codes, flat_map, nat_le, lt_of_le_of_lt, lit<, lt-ltb, leb-true}
 use Rattle.std.specs.List.{list_all}
-use Rattle.std.proofs.lemmas.Bool.{true≢false, and_parts}
+use Rattle.std.proofs.lemmas.Bool.{and_parts}
+use Rattle.plain_laws.proofs.Places.{differ-at}
 use Rattle.calculus.specs.Syntax.{Symbol, Problem}
 use Rattle.calculus.specs.Derivations.{Label, Home, anywhere, home_at, EigenName, SpareName, ModalArg, no_modal, to, by_new, TermArg, no_term, by_term, by_name, Step, apply_to, close, Derivation}
 use Rattle.calculus.specs.Text.{Ends, is_number, label_text, formula_text}
@@ -9,10 +10,6 @@ use Rattle.calculus.specs.DerivationText.{setting_text, eigen_text, home_text, e
 use Rattle.calculus.specs.Problems.{are_distinct}
 use Rattle.calculus.proofs.TextLaws.{cons-tail, decimal-split}
 use Rattle.calculus.proofs.TermTextLaws.{ends-digit, small-number, number-split, term-split, label-split}
-
--- lists that differ at a place
-pub clash : (xs ys : List ℕ) (k : ℕ) → xs ≡ ys → (get_or xs k 0 == get_or ys k 0) ≡ false → ⊥
-clash xs ys k e h = true≢false (sym (eq-eqb (get_or xs k 0) (get_or xs k 0) refl) ∙ ap (λ l. get_or xs k 0 == get_or l k 0) e ∙ h)
 
 -- numbers of entries
 pub entry-split : (m n : ℕ) (r s : List ℕ) → IsTrue (is_number m) → IsTrue (is_number n) → Ends r → Ends s → decimal m ++ r ≡ decimal n ++ s → (m ≡ n) × (r ≡ s)
@@ -22,27 +19,27 @@ entry-split m n r s hm hn hr hs e = decimal-split m n r s (small-number m hm) (s
 
 term_arg-split : (S : List Symbol) → IsTrue (are_distinct S) → (t u : TermArg) (r s : List ℕ) → IsTrue (term_arg_is_written S t) → IsTrue (term_arg_is_written S u) → term_arg_text S t ++ 10 ∷ r ≡ term_arg_text S u ++ 10 ∷ s → (t ≡ u) × (r ≡ s)
 term_arg-split S d no_term no_term r s ht hu e = (refl, cons-tail e)
-term_arg-split S d no_term (by_term u) r s ht hu e = absurd (clash _ _ 0 e refl)
-term_arg-split S d no_term (by_name m) r s ht hu e = absurd (clash _ _ 0 e refl)
-term_arg-split S d (by_term t) no_term r s ht hu e = absurd (clash _ _ 0 e refl)
+term_arg-split S d no_term (by_term u) r s ht hu e = absurd (differ-at _ _ 0 e refl)
+term_arg-split S d no_term (by_name m) r s ht hu e = absurd (differ-at _ _ 0 e refl)
+term_arg-split S d (by_term t) no_term r s ht hu e = absurd (differ-at _ _ 0 e refl)
 term_arg-split S d (by_term t) (by_term u) r s ht hu e =
     let k = term-split S d t u (10 ∷ r) (10 ∷ s) ht hu refl refl (cons-tail (cons-tail (cons-tail (cons-tail (cons-tail (cons-tail e)))))) in (ap by_term k.0, cons-tail k.1)
-term_arg-split S d (by_term t) (by_name m) r s ht hu e = absurd (clash _ _ 1 e refl)
-term_arg-split S d (by_name n) no_term r s ht hu e = absurd (clash _ _ 0 e refl)
-term_arg-split S d (by_name n) (by_term u) r s ht hu e = absurd (clash _ _ 1 e refl)
+term_arg-split S d (by_term t) (by_name m) r s ht hu e = absurd (differ-at _ _ 1 e refl)
+term_arg-split S d (by_name n) no_term r s ht hu e = absurd (differ-at _ _ 0 e refl)
+term_arg-split S d (by_name n) (by_term u) r s ht hu e = absurd (differ-at _ _ 1 e refl)
 term_arg-split S d (by_name n) (by_name m) r s ht hu e =
     let k = number-split n m (10 ∷ r) (10 ∷ s) ht hu refl refl (cons-tail (cons-tail (cons-tail (cons-tail (cons-tail (cons-tail (cons-tail (cons-tail (cons-tail e))))))))) in (ap by_name k.0, cons-tail k.1)
 
 -- a term's argument is no modal one
 arg-no_to : (S : List Symbol) (t : TermArg) (w : Label) (r s : List ℕ) → term_arg_text S t ++ 10 ∷ r ≡ modal_text (to w) ++ s → ⊥
-arg-no_to S no_term w r s e = clash _ _ 0 e refl
-arg-no_to S (by_term t) w r s e = clash _ _ 2 e refl
-arg-no_to S (by_name n) w r s e = clash _ _ 1 e refl
+arg-no_to S no_term w r s e = differ-at _ _ 0 e refl
+arg-no_to S (by_term t) w r s e = differ-at _ _ 2 e refl
+arg-no_to S (by_name n) w r s e = differ-at _ _ 1 e refl
 
 arg-no_make : (S : List Symbol) (t : TermArg) (n : ℕ) (r s : List ℕ) → term_arg_text S t ++ 10 ∷ r ≡ modal_text (by_new n) ++ s → ⊥
-arg-no_make S no_term n r s e = clash _ _ 0 e refl
-arg-no_make S (by_term t) n r s e = clash _ _ 1 e refl
-arg-no_make S (by_name m) n r s e = clash _ _ 2 e refl
+arg-no_make S no_term n r s e = differ-at _ _ 0 e refl
+arg-no_make S (by_term t) n r s e = differ-at _ _ 1 e refl
+arg-no_make S (by_name m) n r s e = differ-at _ _ 2 e refl
 
 arg-ends : (S : List Symbol) (t : TermArg) (r : List ℕ) → Ends (term_arg_text S t ++ 10 ∷ r)
 arg-ends S no_term r = refl
@@ -64,9 +61,9 @@ args-split S d (to w) (to v) t u r s hm hn ht hu e =
     let k = label-split w v (term_arg_text S t ++ 10 ∷ r) (term_arg_text S u ++ 10 ∷ s) hm hn f in
     let j = term_arg-split S d t u r s ht hu k.1 in
     (ap to k.0, j.0, j.1)
-args-split S d (to w) (by_new n) t u r s hm hn ht hu e = absurd (clash _ _ 1 e refl)
+args-split S d (to w) (by_new n) t u r s hm hn ht hu e = absurd (differ-at _ _ 1 e refl)
 args-split S d (by_new m) no_modal t u r s hm hn ht hu e = absurd (arg-no_make S u m s _ (sym e))
-args-split S d (by_new m) (to v) t u r s hm hn ht hu e = absurd (clash _ _ 1 e refl)
+args-split S d (by_new m) (to v) t u r s hm hn ht hu e = absurd (differ-at _ _ 1 e refl)
 args-split S d (by_new m) (by_new n) t u r s hm hn ht hu e =
     let f = cons-tail (cons-tail (cons-tail (cons-tail (cons-tail (cons-tail (cons-tail (cons-tail e))))))) in
     let k = number-split m n (term_arg_text S t ++ 10 ∷ r) (term_arg_text S u ++ 10 ∷ s) hm hn (arg-ends S t r) (arg-ends S u s) f in
@@ -90,8 +87,8 @@ step-split S d (apply_to n m t) (apply_to k j u) r s hx hy e =
     let first = entry-split n k (modal_text m ++ (term_arg_text S t ++ 10 ∷ r)) (modal_text j ++ (term_arg_text S u ++ 10 ∷ s)) qx.0 qy.0 (args-ends S m t r) (args-ends S j u s) f in
     let rest = args-split S d m j t u r s qx.1 qy.1 px.1 py.1 first.1 in
     ((λ i. apply_to (first.0 i) (rest.0 i) (rest.1 i)), rest.2)
-step-split S d (apply_to n m t) (close k j) r s hx hy e = absurd (clash _ _ 0 e refl)
-step-split S d (close n k) (apply_to j m t) r s hx hy e = absurd (clash _ _ 0 e refl)
+step-split S d (apply_to n m t) (close k j) r s hx hy e = absurd (differ-at _ _ 0 e refl)
+step-split S d (close n k) (apply_to j m t) r s hx hy e = absurd (differ-at _ _ 0 e refl)
 step-split S d (close n k) (close i j) r s hx hy e =
     let f = cons-tail (cons-tail (cons-tail (cons-tail (cons-tail (cons-tail (sym (close-on S n k (10 ∷ r)) ∙ e ∙ close-on S i j (10 ∷ s))))))) in
     let px = and_parts (is_number n) (is_number k) hx in
@@ -116,8 +113,8 @@ eigen-split x y r s hx hy e =
 
 home-split : (h k : Home) (r s : List ℕ) → IsTrue (home_is_written h) → IsTrue (home_is_written k) → home_text h ++ 10 ∷ r ≡ home_text k ++ 10 ∷ s → (h ≡ k) × (r ≡ s)
 home-split anywhere anywhere r s hh hk e = (refl, cons-tail (cons-tail (cons-tail (cons-tail e))))
-home-split anywhere (home_at v) r s hh hk e = absurd (clash _ _ 0 e refl)
-home-split (home_at w) anywhere r s hh hk e = absurd (clash _ _ 0 e refl)
+home-split anywhere (home_at v) r s hh hk e = absurd (differ-at _ _ 0 e refl)
+home-split (home_at w) anywhere r s hh hk e = absurd (differ-at _ _ 0 e refl)
 home-split (home_at w) (home_at v) r s hh hk e = let k = label-split w v (10 ∷ r) (10 ∷ s) hh hk e in (ap home_at k.0, cons-tail k.1)
 
 spare-on : (x : SpareName) (r : List ℕ) → spare_line x ++ r ≡ codes "name $$s" ++ (decimal x.number ++ (32 ∷ (home_text x.home ++ r)))
@@ -169,13 +166,13 @@ text-tails P d =
 
 -- a line of a step, or the end, begins with neither byte
 steps-no_name : (S : List Symbol) (xs : List Step) (r : List ℕ) → steps_tail S xs ≡ 110 ∷ r → ⊥
-steps-no_name S [] r e = clash _ _ 0 e refl
-steps-no_name S (apply_to n m t ∷ xs) r e = clash _ _ 0 e refl
-steps-no_name S (close n k ∷ xs) r e = clash _ _ 0 e refl
+steps-no_name S [] r e = differ-at _ _ 0 e refl
+steps-no_name S (apply_to n m t ∷ xs) r e = differ-at _ _ 0 e refl
+steps-no_name S (close n k ∷ xs) r e = differ-at _ _ 0 e refl
 
 step-no_end : (S : List Symbol) (x : Step) (r : List ℕ) → end_text ≡ step_line S x ++ r → ⊥
-step-no_end S (apply_to n m t) r e = clash _ _ 0 e refl
-step-no_end S (close n k) r e = clash _ _ 0 e refl
+step-no_end S (apply_to n m t) r e = differ-at _ _ 0 e refl
+step-no_end S (close n k) r e = differ-at _ _ 0 e refl
 
 steps-unique : (S : List Symbol) → IsTrue (are_distinct S) → (xs ys : List Step) → IsTrue (list_all (step_is_written S) xs) → IsTrue (list_all (step_is_written S) ys) → steps_tail S xs ≡ steps_tail S ys → xs ≡ ys
 steps-unique S d [] [] hx hy e = refl
@@ -208,7 +205,7 @@ spares-unique S (s ∷ ss) (t ∷ ts) xs ys hs ht e =
 -- a line of an eigenvariable is none of the others
 eigen-no_spare : (S : List Symbol) (ss : List SpareName) (xs : List Step) (x : EigenName) (r : List ℕ) → spares_tail S ss xs ≡ eigen_line x ++ r → ⊥
 eigen-no_spare S [] xs x r e = steps-no_name S xs _ e
-eigen-no_spare S (s ∷ ss) xs x r e = clash _ _ 7 e refl
+eigen-no_spare S (s ∷ ss) xs x r e = differ-at _ _ 7 e refl
 
 eigens-unique : (S : List Symbol) (ds es : List EigenName) (ss ts : List SpareName) (xs ys : List Step) → IsTrue (list_all eigen_is_written ds) → IsTrue (list_all eigen_is_written es) → eigens_tail S ds ss xs ≡ eigens_tail S es ts ys → (ds ≡ es) × (spares_tail S ss xs ≡ spares_tail S ts ys)
 eigens-unique S [] [] ss ts xs ys hd he e = (refl, e)

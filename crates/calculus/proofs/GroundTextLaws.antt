@@ -2,6 +2,7 @@
 use Rattle.std.proofs.Common.{◌≡◌, ℕ, List, [], ◌∷◌, ◌++◌, length, Bool, true, false, ◌||◌, ◌==◌, IsTrue, refl, sym, ◌∙◌, ap, append_assoc, decimal, codes, flat_map, if◌then◌else◌}
 use Rattle.std.specs.List.{list_all}
 use Rattle.std.proofs.lemmas.Bool.{true≢false, false≢true, and_parts, or_left}
+use Rattle.plain_laws.proofs.Places.{differ-at}
 use Rattle.calculus.specs.Syntax.{Symbol}
 use Rattle.calculus.specs.Problems.{are_distinct}
 use Rattle.calculus.specs.Skolem.{has_function}
@@ -10,7 +11,7 @@ use Rattle.calculus.specs.Text.{StopsAt, is_digit, is_lower, is_upper, is_word_b
 use Rattle.calculus.specs.TableauText.{ground_text, ground_args_text, more_ground_args_text, ground_mark_text, marks_text, more_marks_text, value_text, values_text, more_values_text, ground_is_written, grounds_are_written, ground_mark_is_written, marks_are_written, value_is_written, values_are_written}
 use Rattle.calculus.proofs.TextLaws.{cons-head, cons-tail, nil-cons, decimal-split, name-split, name-dollar}
 use Rattle.calculus.proofs.TermTextLaws.{small-number, FunctionAt, function-at, name-at, same-symbol}
-use Rattle.calculus.proofs.DerivationTextLaws.{clash, cancel}
+use Rattle.calculus.proofs.DerivationTextLaws.{cancel}
 
 -- ---- what may not follow a ground term or a mark: a byte of a word, `(` and `@`
 
@@ -115,8 +116,8 @@ fun-no_dollar S f ts r s h e =
     name-dollar x.0.name (ground_args_text S ts ++ r) s (sym (fun-on S f n x.0 ts r x.1) ∙ e)
 
 mark-dollar : (S : List Symbol) (m : GroundMark) (r s : List ℕ) → 93 ∷ r ≡ ground_mark_text S m ++ s → ⊥
-mark-dollar S (g_new_mark p vs) r s e = clash _ _ 0 e refl
-mark-dollar S (g_spare_mark k) r s e = clash _ _ 0 e refl
+mark-dollar S (g_new_mark p vs) r s e = differ-at _ _ 0 e refl
+mark-dollar S (g_spare_mark k) r s e = differ-at _ _ 0 e refl
 
 mutual
   ground-split : (S : List Symbol) → IsTrue (are_distinct S) → (t u : GroundTerm) (r s : List ℕ) → IsTrue (ground_is_written S t) → IsTrue (ground_is_written S u) → StopsAt goes_on r → StopsAt goes_on s → ground_text S t ++ r ≡ ground_text S u ++ s → (t ≡ u) × (r ≡ s)
@@ -142,10 +143,10 @@ mutual
       let first = decimal-split p q (values_text S vs ++ r) (values_text S us ++ s) (small-number p pt.0) (small-number q pu.0) (values-stop S vs r) (values-stop S us s) f in
       let rest = values-split S d vs us r s pt.1 pu.1 first.1 in
       ((λ i. g_eigen (first.0 i) (rest.0 i)), rest.1)
-  ground-split S d (g_eigen p vs) (common k) r s ht hu hr hs e = absurd (clash _ _ 2 e refl)
-  ground-split S d (g_eigen p vs) (own k w) r s ht hu hr hs e = absurd (clash _ _ 2 e refl)
+  ground-split S d (g_eigen p vs) (common k) r s ht hu hr hs e = absurd (differ-at _ _ 2 e refl)
+  ground-split S d (g_eigen p vs) (own k w) r s ht hu hr hs e = absurd (differ-at _ _ 2 e refl)
   ground-split S d (common k) (g_fun g us) r s ht hu hr hs e = absurd (fun-no_dollar S g us s _ hu (sym e))
-  ground-split S d (common k) (g_eigen q us) r s ht hu hr hs e = absurd (clash _ _ 2 e refl)
+  ground-split S d (common k) (g_eigen q us) r s ht hu hr hs e = absurd (differ-at _ _ 2 e refl)
   ground-split S d (common k) (common j) r s ht hu hr hs e =
       let first = decimal-split k j r s (small-number k ht) (small-number j hu) (stops-digit r hr) (stops-digit s hs) (cancel (codes "$$s") _ _ e) in
       (ap common first.0, first.1)
@@ -155,7 +156,7 @@ mutual
       let first = decimal-split k j r (64 ∷ (marks_text S w ++ s)) (small-number k ht) (small-number j pu.0) (stops-digit r hr) refl f in
       absurd (not-next 64 refl r (marks_text S w ++ s) hr first.1)
   ground-split S d (own k v) (g_fun g us) r s ht hu hr hs e = absurd (fun-no_dollar S g us s _ hu (sym e))
-  ground-split S d (own k v) (g_eigen q us) r s ht hu hr hs e = absurd (clash _ _ 2 e refl)
+  ground-split S d (own k v) (g_eigen q us) r s ht hu hr hs e = absurd (differ-at _ _ 2 e refl)
   ground-split S d (own k v) (common j) r s ht hu hr hs e =
       let pt = and_parts (is_number k) (marks_are_written S v) ht in
       let f = cancel (codes "$$s") _ _ (sym e ∙ own-on S k v r) in
@@ -183,8 +184,8 @@ mutual
 
   more-args-split : (S : List Symbol) → IsTrue (are_distinct S) → (ts us : GroundTerms) (r s : List ℕ) → IsTrue (grounds_are_written S ts) → IsTrue (grounds_are_written S us) → more_ground_args_text S ts ++ r ≡ more_ground_args_text S us ++ s → (ts ≡ us) × (r ≡ s)
   more-args-split S d no_g_terms no_g_terms r s ht hu e = (refl, cons-tail e)
-  more-args-split S d no_g_terms (more_g_terms u us) r s ht hu e = absurd (clash _ _ 0 e refl)
-  more-args-split S d (more_g_terms t ts) no_g_terms r s ht hu e = absurd (clash _ _ 0 e refl)
+  more-args-split S d no_g_terms (more_g_terms u us) r s ht hu e = absurd (differ-at _ _ 0 e refl)
+  more-args-split S d (more_g_terms t ts) no_g_terms r s ht hu e = absurd (differ-at _ _ 0 e refl)
   more-args-split S d (more_g_terms t ts) (more_g_terms u us) r s ht hu e =
       let pt = and_parts (ground_is_written S t) (grounds_are_written S ts) ht in
       let pu = and_parts (ground_is_written S u) (grounds_are_written S us) hu in
@@ -201,8 +202,8 @@ mutual
       let first = decimal-split p q (values_text S vs ++ r) (values_text S us ++ s) (small-number p pt.0) (small-number q pu.0) (values-stop S vs r) (values-stop S us s) f in
       let rest = values-split S d vs us r s pt.1 pu.1 first.1 in
       ((λ i. g_new_mark (first.0 i) (rest.0 i)), rest.1)
-  ground-mark-split S d (g_new_mark p vs) (g_spare_mark k) r s ht hu hr hs e = absurd (clash _ _ 2 e refl)
-  ground-mark-split S d (g_spare_mark k) (g_new_mark q us) r s ht hu hr hs e = absurd (clash _ _ 2 e refl)
+  ground-mark-split S d (g_new_mark p vs) (g_spare_mark k) r s ht hu hr hs e = absurd (differ-at _ _ 2 e refl)
+  ground-mark-split S d (g_spare_mark k) (g_new_mark q us) r s ht hu hr hs e = absurd (differ-at _ _ 2 e refl)
   ground-mark-split S d (g_spare_mark k) (g_spare_mark j) r s ht hu hr hs e =
       let first = decimal-split k j r s (small-number k ht) (small-number j hu) (stops-digit r hr) (stops-digit s hs) (cancel (codes "$$d") _ _ e) in
       (ap g_spare_mark first.0, first.1)
@@ -221,8 +222,8 @@ mutual
 
   more-marks-split : (S : List Symbol) → IsTrue (are_distinct S) → (v w : Marks) (r s : List ℕ) → IsTrue (marks_are_written S v) → IsTrue (marks_are_written S w) → more_marks_text S v ++ r ≡ more_marks_text S w ++ s → (v ≡ w) × (r ≡ s)
   more-marks-split S d no_marks no_marks r s hv hw e = (refl, cons-tail e)
-  more-marks-split S d no_marks (more_marks n w) r s hv hw e = absurd (clash _ _ 0 e refl)
-  more-marks-split S d (more_marks m v) no_marks r s hv hw e = absurd (clash _ _ 0 e refl)
+  more-marks-split S d no_marks (more_marks n w) r s hv hw e = absurd (differ-at _ _ 0 e refl)
+  more-marks-split S d (more_marks m v) no_marks r s hv hw e = absurd (differ-at _ _ 0 e refl)
   more-marks-split S d (more_marks m v) (more_marks n w) r s hv hw e =
       let pv = and_parts (ground_mark_is_written S m) (marks_are_written S v) hv in
       let pw = and_parts (ground_mark_is_written S n) (marks_are_written S w) hw in
@@ -257,8 +258,8 @@ mutual
 
   more-values-split : (S : List Symbol) → IsTrue (are_distinct S) → (xs ys : Values) (r s : List ℕ) → IsTrue (values_are_written S xs) → IsTrue (values_are_written S ys) → more_values_text S xs ++ r ≡ more_values_text S ys ++ s → (xs ≡ ys) × (r ≡ s)
   more-values-split S d no_values no_values r s hx hy e = (refl, cons-tail e)
-  more-values-split S d no_values (more_values y ys) r s hx hy e = absurd (clash _ _ 0 e refl)
-  more-values-split S d (more_values x xs) no_values r s hx hy e = absurd (clash _ _ 0 e refl)
+  more-values-split S d no_values (more_values y ys) r s hx hy e = absurd (differ-at _ _ 0 e refl)
+  more-values-split S d (more_values x xs) no_values r s hx hy e = absurd (differ-at _ _ 0 e refl)
   more-values-split S d (more_values x xs) (more_values y ys) r s hx hy e =
       let px = and_parts (value_is_written S x) (values_are_written S xs) hx in
       let py = and_parts (value_is_written S y) (values_are_written S ys) hy in

@@ -2,7 +2,7 @@
 use Rattle.std.proofs.Common.{◌≡◌, ◌⊎◌, ℕ, zero, suc, List, [], ◌∷◌, ◌++◌, flat_map, Contains, Some, refl, sym, ◌∙◌, ap, subst, inl, inr, slice_get}
 use Rattle.std.proofs.lemmas.Option.{slice_get-get_or, slice_get_within, get_or_from_slice_get}
 use Rattle.std.specs.List.{AllByRecursion}
-use Rattle.calculus.proofs.WalkLaws.{none_some, some_injective}
+use Rattle.plain_laws.proofs.Options.{none_some, some_injective}
 
 -- x is an element
 abbrev pub Among : {A : Type 0} → List A → A → Type 0

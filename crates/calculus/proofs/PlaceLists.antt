@@ -1,15 +1,9 @@
 -- Lists of cells and of places, place by place.
-use Rattle.std.proofs.Common.{◌⊎◌, ◌++◌, inl, inr, eqb-true, eq-eqb, ◌<◌, Some, ◌||◌, ◌==◌, ◌≡◌, ℕ, zero, suc, ◌≤◌, List, [], ◌∷◌, length, take, Bool, true, false, IsTrue, refl, ap, subst, arith}
+use Rattle.std.proofs.Common.{◌⊎◌, ◌++◌, inl, inr, eqb-true, eq-eqb, Some, ◌||◌, ◌==◌, ◌≡◌, ℕ, zero, suc, List, [], ◌∷◌, length, Bool, true, false, IsTrue, refl, ap, subst}
 use Rattle.std.specs.List.{list_all}
 use Rattle.std.specs.Prelude.{slice_get}
 use Rattle.std.proofs.lemmas.Bool.{cases_Bool, false≢true, and_parts, and_from}
 use Rattle.calculus.specs.Equality.{contains}
-
--- what holds of each place of a list
-pub all-at : {A : Type 0} (p : A → Bool) (xs : List A) (i : ℕ) (x : A) → IsTrue (list_all p xs) → slice_get xs i ≡ Some x → IsTrue (p x)
-all-at p [] i x h e = absurd (cc)
-all-at p (y ∷ ys) zero x h e = let q : y ≡ x = cc in rw (← q) (and_parts (p y) (list_all p ys) h).0
-all-at p (y ∷ ys) (suc i) x h e = all-at p ys i x (and_parts (p y) (list_all p ys) h).1 e
 
 pub all-from : {A : Type 0} (p : A → Bool) (xs : List A) → ((i : ℕ) (x : A) → slice_get xs i ≡ Some x → IsTrue (p x)) → IsTrue (list_all p xs)
 all-from p [] h = refl
@@ -19,40 +13,11 @@ pub all-more : {A : Type 0} (p q : A → Bool) (xs : List A) → ((x : A) → Is
 all-more p q [] h k = refl
 all-more p q (x ∷ xs) h k = let a = and_parts (p x) (list_all p xs) k in and_from (q x) (list_all q xs) (h x a.0) (all-more p q xs h a.1)
 
-pub all-append : {A : Type 0} (p : A → Bool) (xs ys : List A) → IsTrue (list_all p xs) → IsTrue (list_all p ys) → IsTrue (list_all p (xs ++ ys))
-all-append p [] ys h k = k
-all-append p (x ∷ xs) ys h k = let a = and_parts (p x) (list_all p xs) h in and_from (p x) (list_all p (xs ++ ys)) a.0 (all-append p xs ys a.1 k)
-
--- places in a longer list
-pub get-front : {A : Type 0} (xs ys : List A) (i : ℕ) (x : A) → slice_get xs i ≡ Some x → slice_get (xs ++ ys) i ≡ Some x
-get-front [] ys i x e = absurd (cc)
-get-front (y ∷ xs) ys zero x e = e
-get-front (y ∷ xs) ys (suc i) x e = get-front xs ys i x e
-
 pub get-last : {A : Type 0} (xs : List A) (i : ℕ) (x y : A) → slice_get (xs ++ y ∷ []) i ≡ Some x → (slice_get xs i ≡ Some x) ⊎ ((i ≡ length xs) × (y ≡ x))
 get-last [] zero x y e = inr (refl, cc)
 get-last [] (suc i) x y e = absurd (cc)
 get-last (z ∷ xs) zero x y e = inl e
 get-last (z ∷ xs) (suc i) x y e = elim (get-last xs i x y e) [ inl h ↦ inl h | inr (h, k) ↦ inr (ap suc h, k) ]
-
-pub get-end : {A : Type 0} (xs : List A) (y : A) → slice_get (xs ++ y ∷ []) (length xs) ≡ Some y
-get-end [] y = refl
-get-end (x ∷ xs) y = get-end xs y
-
-pub get-within : {A : Type 0} (xs : List A) (i : ℕ) (x : A) → slice_get xs i ≡ Some x → i < length xs
-get-within [] i x e = absurd (cc)
-get-within (y ∷ xs) zero x e = omega arith
-get-within (y ∷ xs) (suc i) x e = let h = get-within xs i x e in omega arith
-
-pub get-there : {A : Type 0} (xs : List A) (i : ℕ) → i < length xs → (x : A) × (slice_get xs i ≡ Some x)
-get-there [] i h = absurd (omega arith)
-get-there (x ∷ xs) zero h = (x, refl)
-get-there (x ∷ xs) (suc i) h = get-there xs i (omega arith)
-
-pub take-front : {A : Type 0} (k : ℕ) (xs ys : List A) → k ≤ length xs → take k (xs ++ ys) ≡ take k xs
-take-front zero xs ys h = refl
-take-front (suc k) [] ys h = absurd (omega arith)
-take-front (suc k) (x ∷ xs) ys h = ap (λ zs. x ∷ zs) (take-front k xs ys (omega arith))
 
 -- lists of places
 pub contains-append : (rs qs : List ℕ) (k : ℕ) → contains (rs ++ qs) k ≡ (contains rs k || contains qs k)

@@ -28,7 +28,7 @@ use Rattle.calculus.proofs.StepSoundness.{Satisfied, SomeChild, connected-apart,
 
 -- ---- a step
 
-entry-is : (s : Sequent) (n : ℕ) (e : Entry) → entry_of s n ≡ Some e → (k : ℕ) × (slice_get s k ≡ Some e)
+pub entry-is : (s : Sequent) (n : ℕ) (e : Entry) → entry_of s n ≡ Some e → (k : ℕ) × (slice_get s k ≡ Some e)
 entry-is s zero e h = cc
 entry-is s (suc k) e h = (k, h)
 
@@ -46,7 +46,7 @@ close-apart S listed common s sat m n (Some x) (Some y) at_a at_b c h = elim (ca
 
 -- ---- a derivation
 
-written-rest : (P : Problem) (listed : Names) (p : Step → Bool) {s : Sequent} {xs rest : List Step} → Closes P listed s xs rest → list_all p xs ≡ true → list_all p rest ≡ true
+pub written-rest : (P : Problem) (listed : Names) (p : Step → Bool) {s : Sequent} {xs rest : List Step} → Closes P listed s xs rest → list_all p xs ≡ true → list_all p rest ≡ true
 written-rest P listed p (leaf {x = x} {rest = rest} e) h = (and_parts (p x) (list_all p rest) h).1
 written-rest P listed p (single {x = x} {xs = xs} e c) h = written-rest P listed p c (and_parts (p x) (list_all p xs) h).1
 written-rest P listed p (fork {x = x} {xs = xs} e c d) h = written-rest P listed p d (written-rest P listed p c (and_parts (p x) (list_all p xs) h).1)

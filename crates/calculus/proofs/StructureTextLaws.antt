@@ -48,7 +48,7 @@ worlds-hold S line c test = by (worlds S)
     by [] = refl
     by (w ∷ ws) = ap (λ b. test w && b) (by ws)
 
-shifted : (f : ℕ → Bool) (a n : ℕ) → list_all f (numbers_from (suc a) n) ≡ list_all (λ w. f (suc w)) (numbers_from a n)
+pub shifted : (f : ℕ → Bool) (a n : ℕ) → list_all f (numbers_from (suc a) n) ≡ list_all (λ w. f (suc w)) (numbers_from a n)
 shifted f a zero = refl
 shifted f a (suc n) = ap (λ b. f (suc a) && b) (shifted f (suc a) n)
 
@@ -122,7 +122,7 @@ groups P S =
     ∙ ap (λ x. x && all_hold c && all_hold d && all_hold e) (append-hold a b)
     ∙ (λ i. worlds-hold S (domain_line S) cause.EmptyDomain (λ w. has_element (domain_of S w)) i && relations-hold P.setting.logic S i && domains-hold P.setting.domains S i && functions-hold S (first_function_line S) 0 P.symbols i && persistence-hold P.setting.logic S (first_predicate_line P S) P.symbols i)
 
-as-many : (S : Structure) → IsTrue (is_in_range S) → length S.domains ≡ length S.successors
+pub as-many : (S : Structure) → IsTrue (is_in_range S) → length S.domains ≡ length S.successors
 as-many S h =
     let a = and_parts _ _ h in
     let b = and_parts _ _ a.0 in

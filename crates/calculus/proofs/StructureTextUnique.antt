@@ -3,6 +3,7 @@ use Rattle.std.proofs.Common.{◌≡◌, ℕ, suc, pred, ◌+◌, ◌^◌, ◌<�
 use Rattle.std.specs.Bool.{⊤}
 use Rattle.std.specs.List.{list_all}
 use Rattle.std.proofs.lemmas.Bool.{cases_order, true≢false, and_parts}
+use Rattle.plain_laws.proofs.Places.{differ-at}
 use Rattle.calculus.specs.Syntax.{Symbol, Problem}
 use Rattle.calculus.specs.Skolem.{is_function}
 use Rattle.calculus.specs.Text.{is_digit, StopsAt}
@@ -11,7 +12,7 @@ use Rattle.calculus.specs.Judgement.{whole_lines}
 use Rattle.calculus.specs.Structures.{Meaning, Structure, value_table, truth_tables, is_table, are_tables, is_in_range}
 use Rattle.calculus.specs.StructureText.{numbers_text, world_lines, symbol_head, function_lines, bit_text, row_lines, predicate_lines, structure_head, structure_lines, structure_text, is_size, fits_table, rises, can_be_stated, IsStructureText, IsStructureRight, IsStructureFaulty, StructureVerdict, bad_structure, structure_verdict, structure_cause_at, IsStructureJudgement}
 use Rattle.calculus.proofs.TextLaws.{cons-tail, decimal-split}
-use Rattle.calculus.proofs.DerivationTextLaws.{clash, lines_on, lines_on-append, end_text, cancel}
+use Rattle.calculus.proofs.DerivationTextLaws.{lines_on, lines_on-append, end_text, cancel}
 use Rattle.calculus.proofs.JudgementLaws.{take-less}
 
 -- ---- lists of numbers
@@ -32,8 +33,8 @@ small n x hn hx =
 
 numbers-split : (n : ℕ) → IsTrue (is_size n) → (xs ys r s : List ℕ) → IsTrue (list_all (λ x. nat_lt x n) xs) → IsTrue (list_all (λ x. nat_lt x n) ys) → numbers_text xs ++ 10 ∷ r ≡ numbers_text ys ++ 10 ∷ s → (xs ≡ ys) × (r ≡ s)
 numbers-split n hn [] [] r s hx hy e = (refl, cons-tail e)
-numbers-split n hn [] (y ∷ ys) r s hx hy e = absurd (clash _ _ 0 e refl)
-numbers-split n hn (x ∷ xs) [] r s hx hy e = absurd (clash _ _ 0 e refl)
+numbers-split n hn [] (y ∷ ys) r s hx hy e = absurd (differ-at _ _ 0 e refl)
+numbers-split n hn (x ∷ xs) [] r s hx hy e = absurd (differ-at _ _ 0 e refl)
 numbers-split n hn (x ∷ xs) (y ∷ ys) r s hx hy e =
     let px = and_parts (nat_lt x n) (list_all (λ x. nat_lt x n) xs) hx in
     let py = and_parts (nat_lt y n) (list_all (λ x. nat_lt x n) ys) hy in
@@ -59,14 +60,14 @@ worlds-split n hn word w (x ∷ xs) (y ∷ ys) r s k hx hy e =
 
 bits-split : (xs ys : List Bool) (r s : List ℕ) → map bit_text xs ++ 10 ∷ r ≡ map bit_text ys ++ 10 ∷ s → (xs ≡ ys) × (r ≡ s)
 bits-split [] [] r s e = (refl, cons-tail e)
-bits-split [] (true ∷ ys) r s e = absurd (clash _ _ 0 e refl)
-bits-split [] (false ∷ ys) r s e = absurd (clash _ _ 0 e refl)
-bits-split (true ∷ xs) [] r s e = absurd (clash _ _ 0 e refl)
-bits-split (false ∷ xs) [] r s e = absurd (clash _ _ 0 e refl)
+bits-split [] (true ∷ ys) r s e = absurd (differ-at _ _ 0 e refl)
+bits-split [] (false ∷ ys) r s e = absurd (differ-at _ _ 0 e refl)
+bits-split (true ∷ xs) [] r s e = absurd (differ-at _ _ 0 e refl)
+bits-split (false ∷ xs) [] r s e = absurd (differ-at _ _ 0 e refl)
 bits-split (true ∷ xs) (true ∷ ys) r s e = let p = bits-split xs ys r s (cons-tail e) in (ap (λ zs. true ∷ zs) p.0, p.1)
 bits-split (false ∷ xs) (false ∷ ys) r s e = let p = bits-split xs ys r s (cons-tail e) in (ap (λ zs. false ∷ zs) p.0, p.1)
-bits-split (true ∷ xs) (false ∷ ys) r s e = absurd (clash _ _ 0 e refl)
-bits-split (false ∷ xs) (true ∷ ys) r s e = absurd (clash _ _ 0 e refl)
+bits-split (true ∷ xs) (false ∷ ys) r s e = absurd (differ-at _ _ 0 e refl)
+bits-split (false ∷ xs) (true ∷ ys) r s e = absurd (differ-at _ _ 0 e refl)
 
 rows-split : (z : Symbol) (w : ℕ) (xs ys : List (List Bool)) (r s : List ℕ) → length xs ≡ length ys → lines_on (row_lines z w xs) r ≡ lines_on (row_lines z w ys) s → (xs ≡ ys) × (r ≡ s)
 rows-split z w [] [] r s k e = (refl, e)
@@ -191,7 +192,7 @@ stated-parts P S h =
     let k = and_parts (nat_lt 0 (length S.successors)) (length S.domains == length S.successors) g.0 in
     record { size = e.0; elements = e.1; rising_successors = rising.1; rising_domains = c.1; relation = g.1; domains = f.1; count = eqb-true (length S.domains) (length S.successors) k.1; tables = a.1 }
 
-size-small : (n : ℕ) → IsTrue (is_size n) → n < 2 ^ 64
+pub size-small : (n : ℕ) → IsTrue (is_size n) → n < 2 ^ 64
 size-small n h = lt_of_le_of_lt (leb-true n 64 (and_parts (nat_le 1 n) (nat_le n 64) h).1) (lit< tt)
 
 head-split : (P : Problem) (S T : Structure) (r s : List ℕ) → StatedParts P S → StatedParts P T → lines_on (structure_head P S) r ≡ lines_on (structure_head P T) s → (length S.successors ≡ length T.successors) × (S.elements ≡ T.elements) × (r ≡ s)

@@ -2,7 +2,7 @@
 use Rattle.std.proofs.Common.{◌≡◌, ℕ, suc, ◌+◌, List, [], ◌∷◌, ◌++◌, length, map, Bool, true, false, not, ◌&&◌, Option, Some, None, Result, Ok, Err, IsTrue, refl, sym, ◌∙◌, ap, append_assoc, if◌then◌else◌, nat_lt, slice_get, remove}
 use Rattle.std.specs.List.{list_all, fold}
 use Rattle.std.specs.Option.{option_map_or}
-use Rattle.std.proofs.lemmas.Bool.{true≢false, and_parts}
+use Rattle.std.proofs.lemmas.Bool.{true≢false, and_parts, and_from}
 use Rattle.std.proofs.lemmas.List.{append-nil, map-append}
 use Rattle.calculus.specs.declared.fault.TableauFault.{TableauFault}
 use Rattle.calculus.specs.declared.fault.TableauFault.TheVariants as fault
@@ -21,10 +21,6 @@ not_accepted e = true≢false (sym (ap is_accepted e))
     is_accepted : TableauVerdict → Bool
     is_accepted tableau_accepted = true
     is_accepted (tableau_rejected n f) = false
-
-pub and-both : (a b : Bool) → IsTrue a → IsTrue b → IsTrue (a && b)
-and-both true b ha hb = hb
-and-both false b ha hb = ha
 
 -- ---- an allowed instance has its literals
 
@@ -53,7 +49,7 @@ all-new P d path [] (more_closings c cs) h = refl
 all-new P d path (g ∷ gs) no_closings h = absurd (true≢false (sym h))
 all-new P d path (g ∷ gs) (more_closings c cs) h =
     let p = and_parts (closes P d path g c) (closes_all P d path gs cs) h in
-    and-both (is_new_on path g) (list_all (is_new_on path) gs) (closes-new P d path g c p.0) (all-new P d path gs cs p.1)
+    and_from (is_new_on path g) (list_all (is_new_on path) gs) (closes-new P d path g c p.0) (all-new P d path gs cs p.1)
 
 -- what is accepted from any line
 abbrev Accepts : Problem → ℕ → (ℕ → TableauVerdict) → List OpenGoal → List Move → Type 0
@@ -153,7 +149,7 @@ literals-allowed P i ls h = by (instance_of P i.sides i.values) h
     by (Some x) e = allowed (list_all (gamma_is_allowed P) x.gammas) refl
       where
         allowed : (b : Bool) → list_all (gamma_is_allowed P) x.gammas ≡ b → IsTrue (list_eq literal_eq x.literals ls && list_all (gamma_is_allowed P) x.gammas)
-        allowed true g = and-both (list_eq literal_eq x.literals ls) (list_all (gamma_is_allowed P) x.gammas) ((list_eq-tells literal_eq literal_eq-tells x.literals ls).1 (ap literals_in (ap (λ b. if b then Ok x.literals else Err fault.NotAllowed) (sym g) ∙ e))) g
+        allowed true g = and_from (list_eq literal_eq x.literals ls) (list_all (gamma_is_allowed P) x.gammas) ((list_eq-tells literal_eq literal_eq-tells x.literals ls).1 (ap literals_in (ap (λ b. if b then Ok x.literals else Err fault.NotAllowed) (sym g) ∙ e))) g
         allowed false g = absurd (true≢false (sym (ap is_ok (ap (λ b. if b then Ok x.literals else Err fault.NotAllowed) (sym g) ∙ e))))
 
 -- each open goal by one closing, in order
@@ -182,7 +178,7 @@ parted P d path (g ∷ goals) gs no_closings h = absurd (true≢false (sym h))
 parted P d path (g ∷ goals) gs (more_closings c cs) h =
     let p = and_parts (closes P d path g c) (closes_open P d (below path goals ++ gs) cs) h in
     let r = parted P d path goals gs cs p.1 in
-    record { first = more_closings c r.first; second = r.second; closed = and-both (closes P d path g c) (closes_all P d path goals r.first) p.0 r.closed; others = r.others; moves = ap (λ xs. moves_of c ++ xs) r.moves ∙ sym (append_assoc (moves_of c) (moves_of_all r.first) (moves_of_all r.second)) }
+    record { first = more_closings c r.first; second = r.second; closed = and_from (closes P d path g c) (closes_all P d path goals r.first) p.0 r.closed; others = r.others; moves = ap (λ xs. moves_of c ++ xs) r.moves ∙ sym (append_assoc (moves_of c) (moves_of_all r.first) (moves_of_all r.second)) }
 
 abbrev all_new_open : List OpenGoal → Bool
 all_new_open gs = list_all (λ (g : OpenGoal). is_new_on g.path g.goal) gs
@@ -191,7 +187,7 @@ new-open : (path goals : List GroundLiteral) (gs : List OpenGoal) → IsTrue (li
 new-open path [] gs h k = k
 new-open path (g ∷ goals) gs h k =
     let p = and_parts (is_new_on path g) (list_all (is_new_on path) goals) h in
-    and-both (is_new_on path g) (all_new_open (below path goals ++ gs)) p.0 (new-open path goals gs p.1 k)
+    and_from (is_new_on path g) (all_new_open (below path goals ++ gs)) p.0 (new-open path goals gs p.1 k)
 
 -- what accepts, and the line of the end
 record Accepted (P : Problem) (d : ℕ) (last : ℕ → TableauVerdict) (gs : List OpenGoal) (ms : List Move) : Type 0 where
@@ -203,7 +199,7 @@ reduced : (P : Problem) (d : ℕ) (last : ℕ → TableauVerdict) (g : OpenGoal)
 reduced P d last g gs k ms fresh h r = record {
   found = record {
     closings = more_closings (reduce k) r.found.closings;
-    closed = and-both (closes P d g.path g.goal (reduce k)) (closes_open P d gs r.found.closings) (and-both (is_new_on g.path g.goal) (is_complement g.goal (ancestor g.path k)) fresh h) r.found.closed;
+    closed = and_from (closes P d g.path g.goal (reduce k)) (closes_open P d gs r.found.closings) (and_from (is_new_on g.path g.goal) (is_complement g.goal (ancestor g.path k)) fresh h) r.found.closed;
     moves = ap (λ xs. reduction k ∷ xs) r.found.moves;
   };
   line = r.line;
@@ -214,14 +210,14 @@ extended-by : (P : Problem) (d : ℕ) (last : ℕ → TableauVerdict) (g : OpenG
 extended-by P d last g gs place i ls ms fresh near allowed meets r =
     let x : ClauseInstance = record { selection = i.sides; values = i.values; literals = ls } in
     let s = parted P d (g.goal ∷ g.path) (remove ls place) gs r.found.closings r.found.closed in
-    let one = and-both (is_new_on g.path g.goal) (nat_lt (length g.path) d) fresh near in
-    let two = and-both (is_new_on g.path g.goal && nat_lt (length g.path) d) (is_allowed_instance P x) one allowed in
-    let three = and-both (is_new_on g.path g.goal && nat_lt (length g.path) d && is_allowed_instance P x) (is_complement g.goal (slice_get ls place)) two meets in
-    let four = and-both (is_new_on g.path g.goal && nat_lt (length g.path) d && is_allowed_instance P x && is_complement g.goal (slice_get ls place)) (closes_all P d (g.goal ∷ g.path) (remove ls place) s.first) three s.closed in
+    let one = and_from (is_new_on g.path g.goal) (nat_lt (length g.path) d) fresh near in
+    let two = and_from (is_new_on g.path g.goal && nat_lt (length g.path) d) (is_allowed_instance P x) one allowed in
+    let three = and_from (is_new_on g.path g.goal && nat_lt (length g.path) d && is_allowed_instance P x) (is_complement g.goal (slice_get ls place)) two meets in
+    let four = and_from (is_new_on g.path g.goal && nat_lt (length g.path) d && is_allowed_instance P x && is_complement g.goal (slice_get ls place)) (closes_all P d (g.goal ∷ g.path) (remove ls place) s.first) three s.closed in
     record {
       found = record {
         closings = more_closings (extend x place s.first) s.second;
-        closed = and-both (closes P d g.path g.goal (extend x place s.first)) (closes_open P d gs s.second) four s.others;
+        closed = and_from (closes P d g.path g.goal (extend x place s.first)) (closes_open P d gs s.second) four s.others;
         moves = ap (λ xs. extension place i ∷ xs) (sym s.moves ∙ r.found.moves);
       };
       line = r.line;
@@ -295,9 +291,9 @@ made P x ls allowed shown r =
     let moves : moves_of_all s.first ≡ x.moves = sym (append-nil (moves_of_all s.first)) ∙ ap (λ ms. moves_of_all s.first ++ ms) (sym (none-left P x.limit s.second s.others)) ∙ sym s.moves ∙ r.found.moves in
     let same : tableau_moves t x.limit ≡ x = λ i. record { limit = x.limit; start = x.start; moves = moves i } in
     let short : IsTrue (is_short P t) = sym (same-strings P t x.limit) ∙ ap (λ y. strings_are_short P (bare_instances y)) same ∙ short-at P x r.line r.ended in
-    let one = and-both (is_allowed_instance P start) (list_all is_shown ls) allowed shown in
-    let two = and-both (is_allowed_instance P start && list_all is_shown ls) (closes_all P x.limit [] ls s.first) one s.closed in
-    record { tableau = t; closed = and-both (is_allowed_instance P start && list_all is_shown ls && closes_all P x.limit [] ls s.first) (is_short P t) two short; moves = same }
+    let one = and_from (is_allowed_instance P start) (list_all is_shown ls) allowed shown in
+    let two = and_from (is_allowed_instance P start && list_all is_shown ls) (closes_all P x.limit [] ls s.first) one s.closed in
+    record { tableau = t; closed = and_from (is_allowed_instance P start && list_all is_shown ls && closes_all P x.limit [] ls s.first) (is_short P t) two short; moves = same }
 
 -- moves that are accepted are those of a closed tableau
 pub accepted-closed : (P : Problem) (x : Moves) → tableau_verdict P x ≡ tableau_accepted → ClosedBy P x

@@ -1,30 +1,31 @@
 -- A text states one list of moves, so it is the text of one closed tableau with one limit, and bytes have at most one judgement.
-use Rattle.std.proofs.Common.{◌≡◌, ℕ, ◌+◌, ◌≤◌, List, [], ◌∷◌, ◌++◌, length, map, Bool, true, false, ◌&&◌, Option, Some, None, Result, Ok, Err, IsTrue, refl, sym, ◌∙◌, ap, subst, append_assoc, inl, inr, arith, decimal, codes, flat_map, slice_get, remove, nat_lt}
+use Rattle.std.proofs.Common.{◌≡◌, ℕ, ◌+◌, ◌≤◌, List, [], ◌∷◌, ◌++◌, length, map, Bool, true, false, ◌&&◌, Result, Ok, Err, IsTrue, refl, sym, ◌∙◌, ap, subst, append_assoc, inl, inr, arith, decimal, codes, flat_map, slice_get, remove, nat_lt}
 use Rattle.std.specs.List.{list_all}
-use Rattle.std.specs.Option.{option_map_or}
-use Rattle.std.proofs.lemmas.Bool.{true≢false, false≢true, cases_order, and_parts}
+use Rattle.std.proofs.lemmas.Bool.{true≢false, false≢true, cases_order, and_parts, and_from}
 use Rattle.std.proofs.lemmas.List.Folds.{list_all-append}
+use Rattle.plain_laws.proofs.Places.{differ-at}
+use Rattle.calculus.proofs.SpotLaws.{values_list-tree}
+use Rattle.calculus.proofs.GrowthLaws.{allowed-instance}
 use Rattle.calculus.specs.declared.sign.Side.{Side}
 use Rattle.calculus.specs.declared.sign.Side.TheVariants.{Left, Right}
 use Rattle.calculus.specs.declared.fault.TableauFault.{TableauFault}
 use Rattle.calculus.specs.Syntax.{Symbol, Problem}
 use Rattle.calculus.specs.Problems.{are_distinct}
 use Rattle.calculus.specs.Ground.{Value, values_list, values_tree, GroundLiteral}
-use Rattle.calculus.specs.Equality.{list_eq, literal_eq}
 use Rattle.calculus.specs.Text.{is_number, formula_text}
 use Rattle.calculus.specs.DerivationText.{setting_text, line_bytes, is_limit}
 use Rattle.calculus.specs.Judgement.{whole_lines}
-use Rattle.calculus.specs.Instances.{ClauseInstance, gamma_is_allowed}
-use Rattle.calculus.specs.ComputedInstances.{Part, instance_of, is_instance, is_allowed_instance}
+use Rattle.calculus.specs.Instances.{ClauseInstance}
+use Rattle.calculus.specs.ComputedInstances.{is_instance, is_allowed_instance}
 use Rattle.calculus.specs.Tableaux.{Closing, Closings, reduce, extend, no_closings, more_closings, Tableau, is_complement, is_new_on, is_shown, is_short, closes, closes_all, instances_below, instances_of_all, instances, is_closed}
 use Rattle.calculus.specs.TableauText.{value_is_written, values_are_written, values_text, Chosen, Move, reduction, extension, Moves, side_text, sides_text, chosen_text, move_line, tableau_head, moves_lines, moves_text, chosen_is_written, move_is_written, IsMovesText, chosen_of, moves_of, moves_of_all, tableau_moves, IsClosedText, IsMovesRight, IsMovesFaulty, tableau_cause_at, TableauVerdict, tableau_accepted, tableau_rejected, literals_of, tableau_verdict, IsTableauJudgement}
 use Rattle.calculus.proofs.TextLaws.{cons-tail, decimal-split}
 use Rattle.calculus.proofs.TermTextLaws.{small-number}
-use Rattle.calculus.proofs.DerivationTextLaws.{clash, cancel, lines_on, lines_on-append, end_text, limit-small}
+use Rattle.calculus.proofs.DerivationTextLaws.{cancel, lines_on, lines_on-append, end_text, limit-small}
 use Rattle.calculus.proofs.JudgementLaws.{take-less}
 use Rattle.calculus.proofs.VersionLaws.{kind-split}
 use Rattle.calculus.proofs.GroundTextLaws.{values-split}
-use Rattle.calculus.proofs.TableauTextLaws.{not_accepted, and-both, allowed-literals, closed-accepted, accepted-closed}
+use Rattle.calculus.proofs.TableauTextLaws.{not_accepted, allowed-literals, closed-accepted, accepted-closed}
 
 -- ---- an instance by its sides and values
 
@@ -32,29 +33,25 @@ tree-written : (S : List Symbol) (vs : List Value) → IsTrue (list_all (value_i
 tree-written S [] h = refl
 tree-written S (v ∷ vs) h =
     let p = and_parts (value_is_written S v) (list_all (value_is_written S) vs) h in
-    and-both (value_is_written S v) (values_are_written S (values_tree vs)) p.0 (tree-written S vs p.1)
-
-tree-list : (vs : List Value) → values_list (values_tree vs) ≡ vs
-tree-list [] = refl
-tree-list (v ∷ vs) = ap (λ us. v ∷ us) (tree-list vs)
+    and_from (value_is_written S v) (values_are_written S (values_tree vs)) p.0 (tree-written S vs p.1)
 
 letters-split : (xs ys : List Side) (r s : List ℕ) → map side_text xs ++ 32 ∷ r ≡ map side_text ys ++ 32 ∷ s → (xs ≡ ys) × (r ≡ s)
 letters-split [] [] r s e = (refl, cons-tail e)
-letters-split [] (Left ∷ ys) r s e = absurd (clash _ _ 0 e refl)
-letters-split [] (Right ∷ ys) r s e = absurd (clash _ _ 0 e refl)
-letters-split (Left ∷ xs) [] r s e = absurd (clash _ _ 0 e refl)
-letters-split (Right ∷ xs) [] r s e = absurd (clash _ _ 0 e refl)
+letters-split [] (Left ∷ ys) r s e = absurd (differ-at _ _ 0 e refl)
+letters-split [] (Right ∷ ys) r s e = absurd (differ-at _ _ 0 e refl)
+letters-split (Left ∷ xs) [] r s e = absurd (differ-at _ _ 0 e refl)
+letters-split (Right ∷ xs) [] r s e = absurd (differ-at _ _ 0 e refl)
 letters-split (Left ∷ xs) (Left ∷ ys) r s e = let p = letters-split xs ys r s (cons-tail e) in (ap (λ zs. Left ∷ zs) p.0, p.1)
 letters-split (Right ∷ xs) (Right ∷ ys) r s e = let p = letters-split xs ys r s (cons-tail e) in (ap (λ zs. Right ∷ zs) p.0, p.1)
-letters-split (Left ∷ xs) (Right ∷ ys) r s e = absurd (clash _ _ 0 e refl)
-letters-split (Right ∷ xs) (Left ∷ ys) r s e = absurd (clash _ _ 0 e refl)
+letters-split (Left ∷ xs) (Right ∷ ys) r s e = absurd (differ-at _ _ 0 e refl)
+letters-split (Right ∷ xs) (Left ∷ ys) r s e = absurd (differ-at _ _ 0 e refl)
 
 sides-split : (xs ys : List Side) (r s : List ℕ) → sides_text xs ++ 32 ∷ r ≡ sides_text ys ++ 32 ∷ s → (xs ≡ ys) × (r ≡ s)
 sides-split [] [] r s e = (refl, cons-tail (cons-tail e))
-sides-split [] (Left ∷ ys) r s e = absurd (clash _ _ 0 e refl)
-sides-split [] (Right ∷ ys) r s e = absurd (clash _ _ 0 e refl)
-sides-split (Left ∷ xs) [] r s e = absurd (clash _ _ 0 e refl)
-sides-split (Right ∷ xs) [] r s e = absurd (clash _ _ 0 e refl)
+sides-split [] (Left ∷ ys) r s e = absurd (differ-at _ _ 0 e refl)
+sides-split [] (Right ∷ ys) r s e = absurd (differ-at _ _ 0 e refl)
+sides-split (Left ∷ xs) [] r s e = absurd (differ-at _ _ 0 e refl)
+sides-split (Right ∷ xs) [] r s e = absurd (differ-at _ _ 0 e refl)
 sides-split (x ∷ xs) (y ∷ ys) r s e = letters-split (x ∷ xs) (y ∷ ys) r s e
 
 chosen-on : (S : List Symbol) (i : Chosen) (r : List ℕ) → chosen_text S i ++ r ≡ sides_text i.sides ++ (32 ∷ (values_text S (values_tree i.values) ++ r))
@@ -64,7 +61,7 @@ chosen-split : (S : List Symbol) → IsTrue (are_distinct S) → (i j : Chosen) 
 chosen-split S d i j r s hi hj e =
     let first = sides-split i.sides j.sides (values_text S (values_tree i.values) ++ r) (values_text S (values_tree j.values) ++ s) (sym (chosen-on S i r) ∙ e ∙ chosen-on S j s) in
     let rest = values-split S d (values_tree i.values) (values_tree j.values) r s (tree-written S i.values hi) (tree-written S j.values hj) first.1 in
-    let values = sym (tree-list i.values) ∙ ap values_list rest.0 ∙ tree-list j.values in
+    let values = sym (values_list-tree i.values) ∙ ap values_list rest.0 ∙ values_list-tree j.values in
     ((λ k. record { sides = first.0 k; values = values k }), rest.1)
 
 -- ---- lines
@@ -76,8 +73,8 @@ move-split : (S : List Symbol) → IsTrue (are_distinct S) → (x y : Move) (r s
 move-split S d (reduction k) (reduction j) r s hx hy e =
     let first = decimal-split k j (10 ∷ r) (10 ∷ s) (small-number k hx) (small-number j hy) refl refl (cancel (codes "reduce ") (decimal k ++ 10 ∷ r) (decimal j ++ 10 ∷ s) e) in
     (ap reduction first.0, cons-tail first.1)
-move-split S d (reduction k) (extension j i) r s hx hy e = absurd (clash _ _ 0 e refl)
-move-split S d (extension k i) (reduction j) r s hx hy e = absurd (clash _ _ 0 e refl)
+move-split S d (reduction k) (extension j i) r s hx hy e = absurd (differ-at _ _ 0 e refl)
+move-split S d (extension k i) (reduction j) r s hx hy e = absurd (differ-at _ _ 0 e refl)
 move-split S d (extension k i) (extension j l) r s hx hy e =
     let px = and_parts (is_number k) (chosen_is_written S i) hx in
     let py = and_parts (is_number j) (chosen_is_written S l) hy in
@@ -87,8 +84,8 @@ move-split S d (extension k i) (extension j l) r s hx hy e =
     ((λ z. extension (first.0 z) (rest.0 z)), cons-tail rest.1)
 
 end-no_move : (S : List Symbol) (x : Move) (q : List ℕ) → end_text ≡ move_line S x ++ 10 ∷ q → ⊥
-end-no_move S (reduction k) q e = clash _ _ 0 e refl
-end-no_move S (extension k i) q e = clash _ _ 1 e refl
+end-no_move S (reduction k) q e = differ-at _ _ 0 e refl
+end-no_move S (extension k i) q e = differ-at _ _ 1 e refl
 
 -- ---- the whole text
 
@@ -263,19 +260,12 @@ tableau_judgement-unique P distinct bytes v w (inr f) (inr g) = f.verdict ∙ ap
 
 -- ---- acceptance is that of a closed tableau
 
-allowed-instance : (P : Problem) (i : ClauseInstance) → IsTrue (is_allowed_instance P i) → IsTrue (is_instance P i)
-allowed-instance P i h = by (instance_of P i.selection i.values) h
-  where
-    by : (o : Option Part) → IsTrue (option_map_or (λ (x : Part). list_eq literal_eq x.literals i.literals && list_all (gamma_is_allowed P) x.gammas) o false) → IsTrue (option_map_or (λ (x : Part). list_eq literal_eq x.literals i.literals) o false)
-    by None g = g
-    by (Some x) g = (and_parts (list_eq literal_eq x.literals i.literals) (list_all (gamma_is_allowed P) x.gammas) g).0
-
 mutual
   closing-instances : (P : Problem) (d : ℕ) (path : List GroundLiteral) (goal : GroundLiteral) (c : Closing) → IsTrue (closes P d path goal c) → IsTrue (list_all (is_instance P) (instances_below c))
   closing-instances P d path goal (reduce k) h = refl
   closing-instances P d path goal (extend i p cs) h =
       let x = extends P d path goal i p cs h in
-      and-both (is_instance P i) (list_all (is_instance P) (instances_of_all cs)) (allowed-instance P i x.allowed) (closings-instances P d (goal ∷ path) (remove i.literals p) cs x.below)
+      and_from (is_instance P i) (list_all (is_instance P) (instances_of_all cs)) (allowed-instance P i x.allowed) (closings-instances P d (goal ∷ path) (remove i.literals p) cs x.below)
 
   closings-instances : (P : Problem) (d : ℕ) (path goals : List GroundLiteral) (cs : Closings) → IsTrue (closes_all P d path goals cs) → IsTrue (list_all (is_instance P) (instances_of_all cs))
   closings-instances P d path [] no_closings h = refl
@@ -283,12 +273,12 @@ mutual
   closings-instances P d path (g ∷ gs) no_closings h = absurd (false≢true h)
   closings-instances P d path (g ∷ gs) (more_closings c cs) h =
       let p = and_parts (closes P d path g c) (closes_all P d path gs cs) h in
-      list_all-append (is_instance P) (instances_below c) (instances_of_all cs) ∙ and-both (list_all (is_instance P) (instances_below c)) (list_all (is_instance P) (instances_of_all cs)) (closing-instances P d path g c p.0) (closings-instances P d path gs cs p.1)
+      list_all-append (is_instance P) (instances_below c) (instances_of_all cs) ∙ and_from (list_all (is_instance P) (instances_below c)) (list_all (is_instance P) (instances_of_all cs)) (closing-instances P d path g c p.0) (closings-instances P d path gs cs p.1)
 
 pub closed-instances : (P : Problem) (d : ℕ) (t : Tableau) → IsTrue (is_closed P d t) → IsTrue (list_all (is_instance P) (instances t))
 closed-instances P d t h =
     let x = closed-parts P d t h in
-    and-both (is_instance P t.start) (list_all (is_instance P) (instances_of_all t.goals)) (allowed-instance P t.start x.start) (closings-instances P d [] t.start.literals t.goals x.goals)
+    and_from (is_instance P t.start) (list_all (is_instance P) (instances_of_all t.goals)) (allowed-instance P t.start x.start) (closings-instances P d [] t.start.literals t.goals x.goals)
 
 -- the tableau, and the limit that the bytes state
 pub record ClosedIn (P : Problem) (bytes : List ℕ) : Type 0 where

@@ -1,10 +1,10 @@
 -- A propositional problem that is true in each structure is a tautology: truth values of its propositions make a structure with one
 -- world and one element.
-use Rattle.std.proofs.Common.{◌≡◌, ℕ, zero, suc, ◌+◌, ◌*◌, ◌^◌, List, [], ◌∷◌, Bool, true, false, not, ◌&&◌, ◌||◌, ◌==◌, IsTrue, refl, sym, ◌∙◌, ap, subst, arith, eq-eqb, slice_get, if◌then◌else◌}
+use Rattle.std.proofs.Common.{◌≡◌, ℕ, zero, suc, ◌+◌, ◌^◌, List, [], ◌∷◌, Bool, true, false, not, ◌&&◌, ◌||◌, ◌==◌, IsTrue, refl, sym, ◌∙◌, ap, subst, arith, eq-eqb, slice_get, if◌then◌else◌}
 use Rattle.std.specs.List.{list_all}
 use Rattle.std.specs.Option.{option_map_or}
 use Rattle.std.proofs.lemmas.Bool.{false≢true, and_parts, and_from}
-use Rattle.std.proofs.lemmas.Nat.{pow-add}
+use Rattle.plain_laws.proofs.Numbers.{one-power}
 use Rattle.calculus.specs.Equality.{contains}
 use Rattle.calculus.specs.declared.symbol.SymbolClass.{SymbolClass}
 use Rattle.calculus.specs.declared.symbol.SymbolClass.TheVariants.{Function, Predicate, Equality, Truth}
@@ -33,14 +33,6 @@ abbrev pub structure_by : (ℕ → Bool) → Problem → Structure
 structure_by v P = record { elements = 1; successors = (0 ∷ []) ∷ []; domains = (0 ∷ []) ∷ []; meanings = meanings_by v 0 P.symbols }
 
 -- ---- it is one of the setting
-
-one-power : (n : ℕ) → 1 ^ n ≡ 1
-one-power zero = refl
-one-power (suc n) =
-    let before : suc n ≡ 1 + n = omega arith in
-    let e = one-power n in
-    let last : 1 ^ 1 * 1 ^ n ≡ 1 = rw e refl in
-    ap (λ k. 1 ^ k) before ∙ pow-add 1 1 n ∙ last
 
 table-by : (v : ℕ → Bool) (P : Problem) (b : Bool) (s : Symbol) → is_table (structure_by v P) s (meaning_by b s.class) ≡ true
 table-by v P b s = by s.class refl

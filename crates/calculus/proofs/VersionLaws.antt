@@ -2,7 +2,9 @@
 -- one derivation.
 use Rattle.std.proofs.Common.{◌≡◌, ℕ, suc, ◌^◌, ◌<◌, ◌≤◌, List, [], ◌∷◌, ◌++◌, length, map, Bool, true, false, cond, not, ◌&&◌, ◌||◌, ◌==◌, Option, Some, None, IsTrue, refl, sym, ◌∙◌, ap, append_assoc, decimal, codes, get_or, flat_map, nat_le, lt_of_le_of_lt, ltb-true, leb-true, le-leb, arith, if◌then◌else◌}
 use Rattle.std.specs.List.{list_all, list_any, filter}
-use Rattle.std.proofs.lemmas.Bool.{true≢false, and_parts}
+use Rattle.std.proofs.lemmas.Bool.{true≢false, and_parts, and_from, or_right}
+use Rattle.plain_laws.proofs.Places.{differ-at}
+use Rattle.plain_laws.proofs.Every.{all-filter}
 use Rattle.calculus.specs.declared.version.Version.{Version}
 use Rattle.calculus.specs.declared.version.Version.TheVariants.{One, Two}
 use Rattle.calculus.specs.Syntax.{Symbol, Term, spare, Problem}
@@ -14,7 +16,7 @@ use Rattle.calculus.specs.DerivationText.{setting_text, eigen_text, line_bytes, 
 use Rattle.calculus.specs.Versions.{first_line, label_line, term_line, lines_from, NumberedEigen, NumberedSpare, NumberedModal, no_numbered_modal, to_number, by_character, NumberedTerm, no_numbered_term, by_number, by_eigen, NumberedStep, numbered_use, numbered_axiom, NumberedDerivation, numbered_eigen_line, numbered_home_text, numbered_spare_line, numbered_modal_text, numbered_term_text, numbered_step_line, numbered_head, numbered_text, is_among, is_count, numbered_home_is_written, numbered_modal_is_written, numbered_term_is_written, numbered_step_is_written, numbered_eigen_is_written, numbered_spare_is_written, is_written, is_printable_in, IsTextIn, numbered, once, place_in, number_in, same_label, home_labels, home_number, modal_labels, step_labels, arg_terms, step_terms, numbering, stated, stated_home, stated_modal, stated_term, stated_eigen, stated_spare, stated_step, numbered_modal, numbered_arg, numbered_eigen, numbered_spare, numbered_step, labels_of, terms_of}
 use Rattle.calculus.proofs.TextLaws.{cons-head, cons-tail, decimal-digits, decimal-split}
 use Rattle.calculus.proofs.TermTextLaws.{ends-digit, number-split, term-split, label-split}
-use Rattle.calculus.proofs.DerivationTextLaws.{clash, entry-split, lines_on, lines_on-append, end_text, cancel, limit-small, text-unique}
+use Rattle.calculus.proofs.DerivationTextLaws.{entry-split, lines_on, lines_on-append, end_text, cancel, limit-small, text-unique}
 use Rattle.calculus.proofs.EqualityLaws.{Tells, list_eq-tells, character_eq-tells, term_eq-tells}
 
 -- ---- an item is found by its number
@@ -52,18 +54,10 @@ once-has {A} same tells (z ∷ zs) x h = by (same z x) refl (once-has same tells
     by true e rest = ap (λ b. b || has same (filter (λ y. not (same z y)) (once same zs)) x) e
     by false e rest = ap (λ b. b || has same (filter (λ y. not (same z y)) (once same zs)) x) e ∙ kept same tells z x (once same zs) e (rest (ap (λ b. b || has same zs x) (sym e) ∙ h))
 
-or-right : (a b : Bool) → IsTrue b → IsTrue (a || b)
-or-right true b h = refl
-or-right false b h = h
-
-and-both : (a b : Bool) → IsTrue a → IsTrue b → IsTrue (a && b)
-and-both true b ha hb = hb
-and-both false b ha hb = ha
-
 -- each of zs is in xs
 all-in : {A : Type 0} (same : A → A → Bool) → Tells same → (zs xs : List A) → ((x : A) → IsTrue (has same zs x) → IsTrue (has same xs x)) → IsTrue (list_all (has same xs) zs)
 all-in same tells [] xs into = refl
-all-in same tells (z ∷ zs) xs into = and-both (has same xs z) (list_all (has same xs) zs) (into z (ap (λ b. b || has same zs z) ((tells z z).1 refl))) (all-in same tells zs xs (λ x h. into x (or-right (same z x) (has same zs x) h)))
+all-in same tells (z ∷ zs) xs into = and_from (has same xs z) (list_all (has same xs) zs) (into z (ap (λ b. b || has same zs z) ((tells z z).1 refl))) (all-in same tells zs xs (λ x h. into x (or_right (same z x) (has same zs x) h)))
 
 all-once : {A : Type 0} (same : A → A → Bool) → Tells same → (xs : List A) → IsTrue (list_all (has same (once same xs)) xs)
 all-once same tells xs = all-in same tells xs (once same xs) (once-has same tells xs)
@@ -188,7 +182,7 @@ any-digit : (k : ℕ) (r s : List ℕ) → k < 2 ^ 64 → codes "any" ++ r ≡ d
 any-digit k r s h e = by (decimal k) (decimal-digits k h) e
   where
     by : (ds : List ℕ) → IsTrue (list_all is_digit ds) → codes "any" ++ r ≡ ds ++ 10 ∷ s → ⊥
-    by [] g f = clash _ _ 0 f refl
+    by [] g f = differ-at _ _ 0 f refl
     by (d ∷ ds) g f = true≢false (sym (and_parts (is_digit d) (list_all is_digit ds) g).0 ∙ ap is_digit (sym (cons-head f)))
 
 home-number-split : (n : ℕ) → IsTrue (is_count n) → (j k : Option ℕ) (r s : List ℕ) → IsTrue (numbered_home_is_written n j) → IsTrue (numbered_home_is_written n k) → numbered_home_text j ++ 10 ∷ r ≡ numbered_home_text k ++ 10 ∷ s → (j ≡ k) × (r ≡ s)
@@ -197,7 +191,7 @@ home-number-split n c None (Some k) r s hj hk e = absurd (any-digit k (10 ∷ r)
 home-number-split n c (Some j) None r s hj hk e = absurd (any-digit j (10 ∷ s) r (number-small n c j hj) (sym e))
 home-number-split n c (Some j) (Some k) r s hj hk e = let p = among-split n c j k (10 ∷ r) (10 ∷ s) hj hk refl refl e in (ap Some p.0, cons-tail p.1)
 
-numbered-eigen-on : (x : NumberedEigen) (r : List ℕ) → numbered_eigen_line x ++ r ≡ codes "name $$e" ++ (decimal x.number ++ (32 ∷ (decimal x.home ++ r)))
+pub numbered-eigen-on : (x : NumberedEigen) (r : List ℕ) → numbered_eigen_line x ++ r ≡ codes "name $$e" ++ (decimal x.number ++ (32 ∷ (decimal x.home ++ r)))
 numbered-eigen-on x r = append_assoc (codes "name " ++ eigen_text x.number ++ codes " ") (decimal x.home) r ∙ append_assoc (codes "name " ++ eigen_text x.number) (codes " ") (decimal x.home ++ r)
 
 numbered-eigen-split : (n : ℕ) → IsTrue (is_count n) → (x y : NumberedEigen) (r s : List ℕ) → IsTrue (numbered_eigen_is_written n x) → IsTrue (numbered_eigen_is_written n y) → numbered_eigen_line x ++ 10 ∷ r ≡ numbered_eigen_line y ++ 10 ∷ s → (x ≡ y) × (r ≡ s)
@@ -209,7 +203,7 @@ numbered-eigen-split n c x y r s hx hy e =
     let second = among-split n c x.home y.home (10 ∷ r) (10 ∷ s) px.1 py.1 refl refl (cons-tail first.1) in
     ((λ i. record { number = first.0 i; home = second.0 i }), cons-tail second.1)
 
-numbered-spare-on : (x : NumberedSpare) (r : List ℕ) → numbered_spare_line x ++ r ≡ codes "name $$s" ++ (decimal x.number ++ (32 ∷ (numbered_home_text x.home ++ r)))
+pub numbered-spare-on : (x : NumberedSpare) (r : List ℕ) → numbered_spare_line x ++ r ≡ codes "name $$s" ++ (decimal x.number ++ (32 ∷ (numbered_home_text x.home ++ r)))
 numbered-spare-on x r = append_assoc (codes "name $$s" ++ decimal x.number ++ codes " ") (numbered_home_text x.home) r ∙ append_assoc (codes "name $$s" ++ decimal x.number) (codes " ") (numbered_home_text x.home ++ r) ∙ append_assoc (codes "name $$s") (decimal x.number) (32 ∷ (numbered_home_text x.home ++ r))
 
 numbered-spare-split : (n : ℕ) → IsTrue (is_count n) → (x y : NumberedSpare) (r s : List ℕ) → IsTrue (numbered_spare_is_written n x) → IsTrue (numbered_spare_is_written n y) → numbered_spare_line x ++ 10 ∷ r ≡ numbered_spare_line y ++ 10 ∷ s → (x ≡ y) × (r ≡ s)
@@ -225,26 +219,26 @@ numbered-spare-split n c x y r s hx hy e =
 
 numbered-arg-split : (n : ℕ) → IsTrue (is_count n) → (t u : NumberedTerm) (r s : List ℕ) → IsTrue (numbered_term_is_written n t) → IsTrue (numbered_term_is_written n u) → numbered_term_text t ++ 10 ∷ r ≡ numbered_term_text u ++ 10 ∷ s → (t ≡ u) × (r ≡ s)
 numbered-arg-split n c no_numbered_term no_numbered_term r s ht hu e = (refl, cons-tail e)
-numbered-arg-split n c no_numbered_term (by_number j) r s ht hu e = absurd (clash _ _ 0 e refl)
-numbered-arg-split n c no_numbered_term (by_eigen j) r s ht hu e = absurd (clash _ _ 0 e refl)
-numbered-arg-split n c (by_number k) no_numbered_term r s ht hu e = absurd (clash _ _ 0 e refl)
+numbered-arg-split n c no_numbered_term (by_number j) r s ht hu e = absurd (differ-at _ _ 0 e refl)
+numbered-arg-split n c no_numbered_term (by_eigen j) r s ht hu e = absurd (differ-at _ _ 0 e refl)
+numbered-arg-split n c (by_number k) no_numbered_term r s ht hu e = absurd (differ-at _ _ 0 e refl)
 numbered-arg-split n c (by_number k) (by_number j) r s ht hu e =
     let p = among-split n c k j (10 ∷ r) (10 ∷ s) ht hu refl refl (cancel (codes " term ") _ _ e) in (ap by_number p.0, cons-tail p.1)
-numbered-arg-split n c (by_number k) (by_eigen j) r s ht hu e = absurd (clash _ _ 1 e refl)
-numbered-arg-split n c (by_eigen k) no_numbered_term r s ht hu e = absurd (clash _ _ 0 e refl)
-numbered-arg-split n c (by_eigen k) (by_number j) r s ht hu e = absurd (clash _ _ 1 e refl)
+numbered-arg-split n c (by_number k) (by_eigen j) r s ht hu e = absurd (differ-at _ _ 1 e refl)
+numbered-arg-split n c (by_eigen k) no_numbered_term r s ht hu e = absurd (differ-at _ _ 0 e refl)
+numbered-arg-split n c (by_eigen k) (by_number j) r s ht hu e = absurd (differ-at _ _ 1 e refl)
 numbered-arg-split n c (by_eigen k) (by_eigen j) r s ht hu e =
     let p = number-split k j (10 ∷ r) (10 ∷ s) ht hu refl refl (cancel (codes " name $$e") _ _ e) in (ap by_eigen p.0, cons-tail p.1)
 
-arg-no_to : (t : NumberedTerm) (k : ℕ) (r s : List ℕ) → numbered_term_text t ++ 10 ∷ r ≡ numbered_modal_text (to_number k) ++ s → ⊥
-arg-no_to no_numbered_term k r s e = clash _ _ 0 e refl
-arg-no_to (by_number j) k r s e = clash _ _ 2 e refl
-arg-no_to (by_eigen j) k r s e = clash _ _ 1 e refl
+pub arg-no_to : (t : NumberedTerm) (k : ℕ) (r s : List ℕ) → numbered_term_text t ++ 10 ∷ r ≡ numbered_modal_text (to_number k) ++ s → ⊥
+arg-no_to no_numbered_term k r s e = differ-at _ _ 0 e refl
+arg-no_to (by_number j) k r s e = differ-at _ _ 2 e refl
+arg-no_to (by_eigen j) k r s e = differ-at _ _ 1 e refl
 
-arg-no_character : (t : NumberedTerm) (k : ℕ) (r s : List ℕ) → numbered_term_text t ++ 10 ∷ r ≡ numbered_modal_text (by_character k) ++ s → ⊥
-arg-no_character no_numbered_term k r s e = clash _ _ 0 e refl
-arg-no_character (by_number j) k r s e = clash _ _ 1 e refl
-arg-no_character (by_eigen j) k r s e = clash _ _ 2 e refl
+pub arg-no_character : (t : NumberedTerm) (k : ℕ) (r s : List ℕ) → numbered_term_text t ++ 10 ∷ r ≡ numbered_modal_text (by_character k) ++ s → ⊥
+arg-no_character no_numbered_term k r s e = differ-at _ _ 0 e refl
+arg-no_character (by_number j) k r s e = differ-at _ _ 1 e refl
+arg-no_character (by_eigen j) k r s e = differ-at _ _ 2 e refl
 
 arg-ends : (t : NumberedTerm) (r : List ℕ) → Ends (numbered_term_text t ++ 10 ∷ r)
 arg-ends no_numbered_term r = refl
@@ -265,18 +259,18 @@ numbered-args-split a b ca cb (to_number k) (to_number j) t u r s hm hn ht hu e 
     let first = among-split a ca k j (numbered_term_text t ++ 10 ∷ r) (numbered_term_text u ++ 10 ∷ s) hm hn (arg-ends t r) (arg-ends u s) (cancel (codes " to ") _ _ e) in
     let rest = numbered-arg-split b cb t u r s ht hu first.1 in
     (ap to_number first.0, rest.0, rest.1)
-numbered-args-split a b ca cb (to_number k) (by_character j) t u r s hm hn ht hu e = absurd (clash _ _ 1 e refl)
+numbered-args-split a b ca cb (to_number k) (by_character j) t u r s hm hn ht hu e = absurd (differ-at _ _ 1 e refl)
 numbered-args-split a b ca cb (by_character k) no_numbered_modal t u r s hm hn ht hu e = absurd (arg-no_character u k s _ (sym e))
-numbered-args-split a b ca cb (by_character k) (to_number j) t u r s hm hn ht hu e = absurd (clash _ _ 1 e refl)
+numbered-args-split a b ca cb (by_character k) (to_number j) t u r s hm hn ht hu e = absurd (differ-at _ _ 1 e refl)
 numbered-args-split a b ca cb (by_character k) (by_character j) t u r s hm hn ht hu e =
     let first = number-split k j (numbered_term_text t ++ 10 ∷ r) (numbered_term_text u ++ 10 ∷ s) hm hn (arg-ends t r) (arg-ends u s) (cancel (codes " new $$c") _ _ e) in
     let rest = numbered-arg-split b cb t u r s ht hu first.1 in
     (ap by_character first.0, rest.0, rest.1)
 
-numbered-use-on : (n : ℕ) (m : NumberedModal) (t : NumberedTerm) (r : List ℕ) → numbered_step_line (numbered_use n m t) ++ r ≡ codes "use " ++ (decimal n ++ (numbered_modal_text m ++ (numbered_term_text t ++ r)))
+pub numbered-use-on : (n : ℕ) (m : NumberedModal) (t : NumberedTerm) (r : List ℕ) → numbered_step_line (numbered_use n m t) ++ r ≡ codes "use " ++ (decimal n ++ (numbered_modal_text m ++ (numbered_term_text t ++ r)))
 numbered-use-on n m t r = append_assoc (codes "use " ++ decimal n ++ numbered_modal_text m) (numbered_term_text t) r ∙ append_assoc (codes "use " ++ decimal n) (numbered_modal_text m) (numbered_term_text t ++ r) ∙ append_assoc (codes "use ") (decimal n) (numbered_modal_text m ++ (numbered_term_text t ++ r))
 
-numbered-axiom-on : (n k : ℕ) (r : List ℕ) → numbered_step_line (numbered_axiom n k) ++ r ≡ codes "axiom " ++ (decimal n ++ (32 ∷ (decimal k ++ r)))
+pub numbered-axiom-on : (n k : ℕ) (r : List ℕ) → numbered_step_line (numbered_axiom n k) ++ r ≡ codes "axiom " ++ (decimal n ++ (32 ∷ (decimal k ++ r)))
 numbered-axiom-on n k r = append_assoc (codes "axiom " ++ decimal n ++ codes " ") (decimal k) r ∙ append_assoc (codes "axiom " ++ decimal n) (codes " ") (decimal k ++ r) ∙ append_assoc (codes "axiom ") (decimal n) (32 ∷ (decimal k ++ r))
 
 numbered-step-split : (a b : ℕ) → IsTrue (is_count a) → IsTrue (is_count b) → (x y : NumberedStep) (r s : List ℕ) → IsTrue (numbered_step_is_written a b x) → IsTrue (numbered_step_is_written a b y) → numbered_step_line x ++ 10 ∷ r ≡ numbered_step_line y ++ 10 ∷ s → (x ≡ y) × (r ≡ s)
@@ -289,8 +283,8 @@ numbered-step-split a b ca cb (numbered_use n m t) (numbered_use k j u) r s hx h
     let first = entry-split n k (numbered_modal_text m ++ (numbered_term_text t ++ 10 ∷ r)) (numbered_modal_text j ++ (numbered_term_text u ++ 10 ∷ s)) qx.0 qy.0 (args-end m t r) (args-end j u s) f in
     let rest = numbered-args-split a b ca cb m j t u r s qx.1 qy.1 px.1 py.1 first.1 in
     ((λ i. numbered_use (first.0 i) (rest.0 i) (rest.1 i)), rest.2)
-numbered-step-split a b ca cb (numbered_use n m t) (numbered_axiom k j) r s hx hy e = absurd (clash _ _ 0 e refl)
-numbered-step-split a b ca cb (numbered_axiom n k) (numbered_use j m t) r s hx hy e = absurd (clash _ _ 0 e refl)
+numbered-step-split a b ca cb (numbered_use n m t) (numbered_axiom k j) r s hx hy e = absurd (differ-at _ _ 0 e refl)
+numbered-step-split a b ca cb (numbered_axiom n k) (numbered_use j m t) r s hx hy e = absurd (differ-at _ _ 0 e refl)
 numbered-step-split a b ca cb (numbered_axiom n k) (numbered_axiom i j) r s hx hy e =
     let f = cancel (codes "axiom ") _ _ (sym (numbered-axiom-on n k (10 ∷ r)) ∙ e ∙ numbered-axiom-on i j (10 ∷ s)) in
     let px = and_parts (is_number n) (is_number k) hx in
@@ -331,29 +325,29 @@ numbered-parts P x =
 
 -- no part begins with the first byte of a kind of line that stands before it: steps and the end with neither `l`, `n` nor `t`
 steps-begin : (b : ℕ) → (117 == b) ≡ false → (97 == b) ≡ false → (101 == b) ≡ false → (xs : List NumberedStep) (q : List ℕ) → part_steps xs ≡ b ∷ q → ⊥
-steps-begin b u a n [] q e = clash _ _ 0 e n
-steps-begin b u a n (numbered_use k m t ∷ xs) q e = clash _ _ 0 e u
-steps-begin b u a n (numbered_axiom k j ∷ xs) q e = clash _ _ 0 e a
+steps-begin b u a n [] q e = differ-at _ _ 0 e n
+steps-begin b u a n (numbered_use k m t ∷ xs) q e = differ-at _ _ 0 e u
+steps-begin b u a n (numbered_axiom k j ∷ xs) q e = differ-at _ _ 0 e a
 
 terms-begin : (S : List Symbol) (b : ℕ) → (117 == b) ≡ false → (97 == b) ≡ false → (101 == b) ≡ false → (116 == b) ≡ false → (ts : List Term) (xs : List NumberedStep) (q : List ℕ) → part_terms S ts xs ≡ b ∷ q → ⊥
 terms-begin S b u a n t [] xs q e = steps-begin b u a n xs q e
-terms-begin S b u a n t (y ∷ ts) xs q e = clash _ _ 0 e t
+terms-begin S b u a n t (y ∷ ts) xs q e = differ-at _ _ 0 e t
 
 spares-no_label : (S : List Symbol) (ss : List NumberedSpare) (ts : List Term) (xs : List NumberedStep) (q : List ℕ) → part_spares S ss ts xs ≡ 108 ∷ q → ⊥
 spares-no_label S [] ts xs q e = terms-begin S 108 refl refl refl refl ts xs q e
-spares-no_label S (x ∷ ss) ts xs q e = clash _ _ 0 e refl
+spares-no_label S (x ∷ ss) ts xs q e = differ-at _ _ 0 e refl
 
 eigens-no_label : (S : List Symbol) (es : List NumberedEigen) (ss : List NumberedSpare) (ts : List Term) (xs : List NumberedStep) (q : List ℕ) → part_eigens S es ss ts xs ≡ 108 ∷ q → ⊥
 eigens-no_label S [] ss ts xs q e = spares-no_label S ss ts xs q e
-eigens-no_label S (x ∷ es) ss ts xs q e = clash _ _ 0 e refl
+eigens-no_label S (x ∷ es) ss ts xs q e = differ-at _ _ 0 e refl
 
 spares-no_eigen : (S : List Symbol) (ss : List NumberedSpare) (ts : List Term) (xs : List NumberedStep) (x : NumberedEigen) (q : List ℕ) → part_spares S ss ts xs ≡ numbered_eigen_line x ++ 10 ∷ q → ⊥
 spares-no_eigen S [] ts xs x q e = terms-begin S 110 refl refl refl refl ts xs _ e
-spares-no_eigen S (y ∷ ss) ts xs x q e = clash _ _ 7 e refl
+spares-no_eigen S (y ∷ ss) ts xs x q e = differ-at _ _ 7 e refl
 
 end-no_step : (x : NumberedStep) (q : List ℕ) → end_text ≡ numbered_step_line x ++ 10 ∷ q → ⊥
-end-no_step (numbered_use n m t) q e = clash _ _ 0 e refl
-end-no_step (numbered_axiom n k) q e = clash _ _ 0 e refl
+end-no_step (numbered_use n m t) q e = differ-at _ _ 0 e refl
+end-no_step (numbered_axiom n k) q e = differ-at _ _ 0 e refl
 
 -- ---- the law of the form
 
@@ -409,7 +403,7 @@ numbered-unique P distinct x y hx hy e =
 
 -- what is in a list has a number of it
 has-among : {A : Type 0} (same : A → A → Bool) (xs : List A) (x : A) → IsTrue (has same xs x) → IsTrue (is_among (length xs) (number_in same xs x))
-has-among {A} same xs x h = and-both (nat_le 1 (suc (place_in same xs x))) (nat_le (suc (place_in same xs x)) (length xs)) (le-leb 1 (suc (place_in same xs x)) (omega arith)) (le-leb (suc (place_in same xs x)) (length xs) (place xs h))
+has-among {A} same xs x h = and_from (nat_le 1 (suc (place_in same xs x))) (nat_le (suc (place_in same xs x)) (length xs)) (le-leb 1 (suc (place_in same xs x)) (omega arith)) (le-leb (suc (place_in same xs x)) (length xs) (place xs h))
   where
     place : (ys : List A) → IsTrue (has same ys x) → suc (place_in same ys x) ≤ length ys
     place [] g = absurd (true≢false (sym g))
@@ -419,19 +413,11 @@ has-among {A} same xs x h = and-both (nat_le 1 (suc (place_in same xs x))) (nat_
         by true e rest = rw e (omega arith)
         by false e rest = let r = rest (ap (λ c. c || has same ys x) (sym e) ∙ g) in rw e (omega arith)
 
-filter-all : {A : Type 0} (f t : A → Bool) (xs : List A) → IsTrue (list_all f xs) → IsTrue (list_all f (filter t xs))
-filter-all f t [] h = refl
-filter-all {A} f t (x ∷ xs) h = by (t x) refl (filter-all f t xs (and_parts (f x) (list_all f xs) h).1)
-  where
-    by : (b : Bool) → t x ≡ b → IsTrue (list_all f (filter t xs)) → IsTrue (list_all f (cond (t x) (x ∷ filter t xs) (filter t xs)))
-    by true e rest = rw e (and-both (f x) (list_all f (filter t xs)) (and_parts (f x) (list_all f xs) h).0 rest)
-    by false e rest = rw e rest
-
 once-all : {A : Type 0} (same : A → A → Bool) (f : A → Bool) (xs : List A) → IsTrue (list_all f xs) → IsTrue (list_all f (once same xs))
 once-all same f [] h = refl
 once-all same f (x ∷ xs) h =
     let p = and_parts (f x) (list_all f xs) h in
-    and-both (f x) (list_all f (filter (λ y. not (same x y)) (once same xs))) p.0 (filter-all f (λ y. not (same x y)) (once same xs) (once-all same f xs p.1))
+    and_from (f x) (list_all f (filter (λ y. not (same x y)) (once same xs))) p.0 (all-filter f (λ y. not (same x y)) (once same xs) (once-all same f xs p.1))
 
 eigen-numbers : (L : List Label) (xs : List EigenName) → map (λ (y : NumberedEigen). y.number) (map (numbered_eigen L) xs) ≡ map (λ (y : EigenName). y.number) xs
 eigen-numbers L [] = refl
@@ -449,7 +435,7 @@ eigens-written L (x ∷ xs) rest h w =
     let q = and_parts (is_number x.number && label_is_written x.home) (list_all (λ (y : EigenName). is_number y.number && label_is_written y.home) xs) w in
     let n = and_parts (is_number x.number) (label_is_written x.home) q.0 in
     let r = eigens-written L xs rest p.1 q.1 in
-    (and-both (numbered_eigen_is_written (length L) (numbered_eigen L x)) (list_all (numbered_eigen_is_written (length L)) (map (numbered_eigen L) xs)) (and-both (is_number x.number) (is_among (length L) (number_in same_label L x.home)) n.0 (has-among same_label L x.home p.0)) r.0, r.1)
+    (and_from (numbered_eigen_is_written (length L) (numbered_eigen L x)) (list_all (numbered_eigen_is_written (length L)) (map (numbered_eigen L) xs)) (and_from (is_number x.number) (is_among (length L) (number_in same_label L x.home)) n.0 (has-among same_label L x.home p.0)) r.0, r.1)
 
 home-written : (L : List Label) (home : Home) (rest : List Label) → IsTrue (list_all (has same_label L) (home_labels home ++ rest)) → IsTrue (numbered_home_is_written (length L) (home_number L home)) × IsTrue (list_all (has same_label L) rest)
 home-written L anywhere rest h = (refl, h)
@@ -463,7 +449,7 @@ spares-written L (x ∷ xs) rest h w =
     let q = and_parts (is_number x.number && home_is_written x.home) (list_all (λ (y : SpareName). is_number y.number && home_is_written y.home) xs) w in
     let n = and_parts (is_number x.number) (home_is_written x.home) q.0 in
     let r = spares-written L xs rest p.1 q.1 in
-    (and-both (numbered_spare_is_written (length L) (numbered_spare L x)) (list_all (numbered_spare_is_written (length L)) (map (numbered_spare L) xs)) (and-both (is_number x.number) (numbered_home_is_written (length L) (home_number L x.home)) n.0 p.0) r.0, r.1)
+    (and_from (numbered_spare_is_written (length L) (numbered_spare L x)) (list_all (numbered_spare_is_written (length L)) (map (numbered_spare L) xs)) (and_from (is_number x.number) (numbered_home_is_written (length L) (home_number L x.home)) n.0 p.0) r.0, r.1)
 
 modal-written : (L : List Label) (m : ModalArg) (rest : List Label) → IsTrue (list_all (has same_label L) (modal_labels m ++ rest)) → IsTrue (modal_is_written m) → IsTrue (numbered_modal_is_written (length L) (numbered_modal L m)) × IsTrue (list_all (has same_label L) rest)
 modal-written L no_modal rest h w = (refl, h)
@@ -479,15 +465,15 @@ steps-written : (S : List Symbol) (L : List Label) (T : List Term) (xs : List St
 steps-written S L T [] h k w = refl
 steps-written S L T (close n m ∷ xs) h k w =
     let q = and_parts (is_number n && is_number m) (list_all (step_is_written S) xs) w in
-    and-both (is_number n && is_number m) (list_all (numbered_step_is_written (length L) (length T)) (map (numbered_step L T) xs)) q.0 (steps-written S L T xs h k q.1)
+    and_from (is_number n && is_number m) (list_all (numbered_step_is_written (length L) (length T)) (map (numbered_step L T) xs)) q.0 (steps-written S L T xs h k q.1)
 steps-written S L T (apply_to n m t ∷ xs) h k w =
     let q = and_parts (is_number n && modal_is_written m && term_arg_is_written S t) (list_all (step_is_written S) xs) w in
     let u = and_parts (is_number n && modal_is_written m) (term_arg_is_written S t) q.0 in
     let v = and_parts (is_number n) (modal_is_written m) u.0 in
     let a = modal-written L m (flat_map step_labels xs) h v.1 in
     let b = arg-written S T t (flat_map step_terms xs) k u.1 in
-    and-both (is_number n && numbered_modal_is_written (length L) (numbered_modal L m) && numbered_term_is_written (length T) (numbered_arg T t)) (list_all (numbered_step_is_written (length L) (length T)) (map (numbered_step L T) xs))
-    (and-both (is_number n && numbered_modal_is_written (length L) (numbered_modal L m)) (numbered_term_is_written (length T) (numbered_arg T t)) (and-both (is_number n) (numbered_modal_is_written (length L) (numbered_modal L m)) v.0 a.0) b.0)
+    and_from (is_number n && numbered_modal_is_written (length L) (numbered_modal L m) && numbered_term_is_written (length T) (numbered_arg T t)) (list_all (numbered_step_is_written (length L) (length T)) (map (numbered_step L T) xs))
+    (and_from (is_number n && numbered_modal_is_written (length L) (numbered_modal L m)) (numbered_term_is_written (length T) (numbered_arg T t)) (and_from (is_number n) (numbered_modal_is_written (length L) (numbered_modal L m)) v.0 a.0) b.0)
     (steps-written S L T xs a.1 b.1 q.1)
 
 -- the labels and terms themselves
@@ -495,7 +481,7 @@ eigen-labels : (xs : List EigenName) (rest : List Label) → IsTrue (list_all (�
 eigen-labels [] rest w h = h
 eigen-labels (x ∷ xs) rest w h =
     let q = and_parts (is_number x.number && label_is_written x.home) (list_all (λ (y : EigenName). is_number y.number && label_is_written y.home) xs) w in
-    and-both (label_is_written x.home) (list_all label_is_written (map (λ (y : EigenName). y.home) xs ++ rest)) (and_parts (is_number x.number) (label_is_written x.home) q.0).1 (eigen-labels xs rest q.1 h)
+    and_from (label_is_written x.home) (list_all label_is_written (map (λ (y : EigenName). y.home) xs ++ rest)) (and_parts (is_number x.number) (label_is_written x.home) q.0).1 (eigen-labels xs rest q.1 h)
 
 spare-labels : (xs : List SpareName) (rest : List Label) → IsTrue (list_all (λ (x : SpareName). is_number x.number && home_is_written x.home) xs) → IsTrue (list_all label_is_written rest) → IsTrue (list_all label_is_written (flat_map (λ (x : SpareName). home_labels x.home) xs ++ rest))
 spare-labels [] rest w h = h
@@ -506,7 +492,7 @@ spare-labels (x ∷ xs) rest w h =
   where
     one : (home : Home) (ls : List Label) → IsTrue (home_is_written home) → IsTrue (list_all label_is_written ls) → IsTrue (list_all label_is_written (home_labels home ++ ls))
     one anywhere ls g k = k
-    one (home_at v) ls g k = and-both (label_is_written v) (list_all label_is_written ls) g k
+    one (home_at v) ls g k = and_from (label_is_written v) (list_all label_is_written ls) g k
 
 step-labels : (S : List Symbol) (xs : List Step) → IsTrue (list_all (step_is_written S) xs) → IsTrue (list_all label_is_written (flat_map step_labels xs))
 step-labels S [] w = refl
@@ -519,7 +505,7 @@ step-labels S (apply_to n m t ∷ xs) w =
     one : (m : ModalArg) (ls : List Label) → IsTrue (modal_is_written m) → IsTrue (list_all label_is_written ls) → IsTrue (list_all label_is_written (modal_labels m ++ ls))
     one no_modal ls g k = k
     one (by_new c) ls g k = k
-    one (to v) ls g k = and-both (label_is_written v) (list_all label_is_written ls) g k
+    one (to v) ls g k = and_from (label_is_written v) (list_all label_is_written ls) g k
 
 step-terms : (S : List Symbol) (xs : List Step) → IsTrue (list_all (step_is_written S) xs) → IsTrue (list_all (term_is_written S) (flat_map step_terms xs))
 step-terms S [] w = refl
@@ -531,7 +517,7 @@ step-terms S (apply_to n m t ∷ xs) w =
     one : (t : TermArg) (ts : List Term) → IsTrue (term_arg_is_written S t) → IsTrue (list_all (term_is_written S) ts) → IsTrue (list_all (term_is_written S) (arg_terms t ++ ts))
     one no_term ts g k = k
     one (by_name c) ts g k = k
-    one (by_term u) ts g k = and-both (term_is_written S u) (list_all (term_is_written S) ts) g k
+    one (by_term u) ts g k = and_from (term_is_written S u) (list_all (term_is_written S) ts) g k
 
 -- what can be printed has a numbered form that can be written
 pub printable-written : (P : Problem) (d : Derivation) → IsTrue (is_printable_in Two P d) → IsTrue (is_written P (numbering d))
@@ -559,7 +545,7 @@ printable-written P d h =
     let terms = once-all term_eq (term_is_written S) (terms_of d) (step-terms S d.steps b.1) in
     let re = ap (rises_from 0) (eigen-numbers L E) ∙ x.0 in
     let rs = ap (rises_from 0) (spare-numbers L F) ∙ y.1 in
-    and-both _ _ (and-both _ _ (and-both _ _ (and-both _ _ (and-both _ _ a.0 (and-both _ _ two.0 labels)) (and-both _ _ re es.0)) (and-both _ _ rs ss.0)) (and-both _ _ two.1 terms)) xs
+    and_from _ _ (and_from _ _ (and_from _ _ (and_from _ _ (and_from _ _ a.0 (and_from _ _ two.0 labels)) (and_from _ _ re es.0)) (and_from _ _ rs ss.0)) (and_from _ _ two.1 terms)) xs
 
 -- ---- bytes are a text of at most one version and one derivation
 
@@ -568,7 +554,7 @@ text_two-unique P distinct d e bytes t u = sym (stated-numbering d) ∙ ap state
 
 -- the two first lines differ
 versions-apart : (P : Problem) (d e : Derivation) (bytes : List ℕ) → IsTextIn One P d bytes → IsTextIn Two P e bytes → ⊥
-versions-apart P d e bytes t u = clash _ _ 19 (sym t.text ∙ u.text) refl
+versions-apart P d e bytes t u = differ-at _ _ 19 (sym t.text ∙ u.text) refl
 
 pub text_in-unique : (P : Problem) → IsTrue (are_distinct P.symbols) → (v w : Version) (d e : Derivation) (bytes : List ℕ) → IsTextIn v P d bytes → IsTextIn w P e bytes → (v ≡ w) × (d ≡ e)
 text_in-unique P distinct One One d e bytes t u = (refl, text-unique P distinct d e bytes (record { printable = t.printable; text = t.text }) (record { printable = u.printable; text = u.text }))

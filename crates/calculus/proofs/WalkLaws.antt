@@ -1,7 +1,9 @@
 -- Where each instance of a closed tableau has a literal in a set, the set has a complementary pair.
-use Rattle.std.proofs.Common.{◌≡◌, ◌⊎◌, ℕ, zero, suc, List, [], ◌∷◌, ◌++◌, length, ◌&&◌, Option, Some, None, IsTrue, refl, sym, ◌∙◌, ap, subst, inl, inr, slice_get, remove, nat_lt, is_some, unwrap_or}
+use Rattle.std.proofs.Common.{◌≡◌, ◌⊎◌, ℕ, zero, suc, List, [], ◌∷◌, length, ◌&&◌, Option, Some, None, IsTrue, refl, sym, ◌∙◌, subst, inl, inr, slice_get, remove, nat_lt}
 use Rattle.std.specs.List.{AllByRecursion, list_all}
 use Rattle.std.proofs.lemmas.Bool.{and_parts, false≢true}
+use Rattle.plain_laws.proofs.Every.{each-parts}
+use Rattle.plain_laws.proofs.Options.{none_some, some_injective}
 use Rattle.calculus.specs.Syntax.{Problem}
 use Rattle.calculus.specs.Ground.{GroundLiteral}
 use Rattle.calculus.specs.Instances.{ClauseInstance}
@@ -21,10 +23,6 @@ Hits S i = SomeIn S i.literals
 abbrev pub HasPair : (GroundLiteral → Type 0) → Type 0
 HasPair S = (a : GroundLiteral) × (b : GroundLiteral) × S a × S b × IsTrue (are_complementary a b)
 
-pub AllByRecursion-append : {A : Type 0} (P : A → Type 0) (xs ys : List A) → AllByRecursion P (xs ++ ys) → AllByRecursion P xs × AllByRecursion P ys
-AllByRecursion-append P [] ys h = (tt, h)
-AllByRecursion-append P (x ∷ xs) ys h = let r = AllByRecursion-append P xs ys h.1 in ((h.0, r.0), r.1)
-
 -- the literal at a place is in S, or one of the others is
 pub SomeIn-remove : (S : GroundLiteral → Type 0) (xs : List GroundLiteral) (k : ℕ) → SomeIn S xs → ((x : GroundLiteral) × (slice_get xs k ≡ Some x) × S x) ⊎ SomeIn S (remove xs k)
 SomeIn-remove S [] k h = elim h [ ]
@@ -36,12 +34,6 @@ SomeIn-remove S (x ∷ xs) (suc k) (inr h) = later (SomeIn-remove S xs k h)
     later : ((y : GroundLiteral) × (slice_get xs k ≡ Some y) × S y) ⊎ SomeIn S (remove xs k) → ((y : GroundLiteral) × (slice_get xs k ≡ Some y) × S y) ⊎ (S x ⊎ SomeIn S (remove xs k))
     later (inl p) = inl p
     later (inr q) = inr (inr q)
-
-pub none_some : {A : Type 0} {x : A} → None ≡ Some x → ⊥
-none_some {A} {x} e = let o : Option A = Some x in false≢true (ap is_some e)
-
-pub some_injective : {A : Type 0} {x : A} (y : A) → Some y ≡ Some x → y ≡ x
-some_injective y e = ap (λ o. unwrap_or o y) e
 
 pub slice_get-All : (S : GroundLiteral → Type 0) (path : List GroundLiteral) (k : ℕ) (x : GroundLiteral) → AllByRecursion S path → slice_get path k ≡ Some x → S x
 slice_get-All S [] k x h e = absurd (none_some e)
@@ -81,7 +73,7 @@ mutual
   walk_all S P d (more_closings c cs) path [] h on_path some hits = elim some [ ]
   walk_all S P d (more_closings c cs) path (x ∷ xs) h on_path some hits =
       let parts = and_parts (closes P d path x c) (closes_all P d path xs cs) h in
-      let each = AllByRecursion-append (Hits S) (instances_below c) (instances_of_all cs) hits in
+      let each = each-parts (Hits S) (instances_below c) (instances_of_all cs) hits in
       elim some [
         | inl s ↦ walk S P d c path x parts.0 on_path s each.0
         | inr q ↦ walk_all S P d cs path xs parts.1 on_path q each.1

@@ -1,8 +1,7 @@
 -- Numbers as they are written in words.
-use Rattle.std.proofs.Common.{◌≡◌, ℕ, ◌<◌, ◌≤◌, ◌^◌, List, [], ◌∷◌, Bool, true, false, ◌&&◌, ◌==◌, Some, None, Result, Ok, IsTrue, nat_le, refl, sym, ◌∙◌, ap, arith, decimal, eqb, eq-eqb, if◌then◌else◌}
-use Rattle.std.specs.Cmp.Lexicographic.{pointwise}
+use Rattle.std.proofs.Common.{◌≡◌, ℕ, ◌<◌, ◌≤◌, ◌^◌, List, [], Bool, true, false, ◌&&◌, ◌==◌, Some, None, Result, Ok, IsTrue, nat_le, refl, sym, ◌∙◌, ap, arith, decimal, if◌then◌else◌}
 use Rattle.std.specs.Str.Parse.{ParsesUnsigned, digits_value}
-use Rattle.std.proofs.lemmas.Bool.{false≢true, and_parts, and_from, le-leb, leb-true}
+use Rattle.std.proofs.lemmas.Bool.{and_parts, and_from, le-leb, leb-true}
 use Rattle.std.proofs.lemmas.Fmt.{decimal_is_IsNumeral, parse-decimal}
 use Rattle.calculus.proofs.EqualityLaws.{list_eq-tells, nat_eq-tells}
 use Rattle.command_line.specs.Table.{Word, is}
@@ -10,13 +9,6 @@ use Rattle.command_line.specs.Values.{number_of}
 
 pub parsed : {E : Type 0} (bs : List ℕ) (n : ℕ) (r : Result ℕ E) → n < 2 ^ 64 → bs ≡ decimal n → ParsesUnsigned 64 10 bs r → r ≡ Ok n
 parsed bs n r h e p = parse-decimal 64 n bs r h h e p
-
-pointwise-self : (xs : List ℕ) → pointwise eqb xs xs ≡ true
-pointwise-self [] = refl
-pointwise-self (x ∷ xs) = rw (eq-eqb x x refl, pointwise-self xs) refl
-
-pub not-equal : (xs ys : List ℕ) → false ≡ pointwise eqb xs ys → xs ≡ ys → ⊥
-not-equal xs ys h e = false≢true (h ∙ ap (λ l. pointwise eqb l ys) e ∙ pointwise-self ys)
 
 -- ---- the number of a word
 

@@ -3,7 +3,8 @@
 use Rattle.std.proofs.Common.{◌≡◌, ◌⊎◌, ◌<◌, ◌≤◌, ℕ, zero, suc, List, [], ◌∷◌, ◌&&◌, length, take, Bool, true, false, IsTrue, refl, sym, ◌∙◌, ap, subst, Some, None, slice_get, inl, inr, arith, ltb-true, nat_lt}
 use Rattle.std.specs.List.{AllByRecursion, list_all}
 use Rattle.std.proofs.lemmas.Bool.{and_parts}
-use Rattle.calculus.proofs.PlaceLists.{all-at}
+use Rattle.plain_laws.proofs.Every.{all-at}
+use Rattle.plain_laws.proofs.Places.{take-length}
 use Rattle.calculus.specs.declared.sort.Sort.{Sort}
 use Rattle.calculus.specs.Choices.{Choice}
 use Rattle.calculus.specs.Syntax.{Problem}
@@ -18,7 +19,7 @@ use Rattle.search_theory.proofs.JumpLaws.{cannot-transplant}
 use Rattle.search_theory.specs.Closing.{CannotClose}
 use Rattle.search_theory.proofs.RankLaws.{rank_of}
 use Rattle.search_theory.proofs.RegularLaws.{each-at}
-use Rattle.search_theory.proofs.TransplantLaws.{IsAtomOf, IsGoalOf, MayTransplant, cut-is, cut-unbound, cut_cell, transplant}
+use Rattle.search_theory.proofs.TransplantLaws.{IsAtomOf, IsGoalOf, MayTransplant, cut-is, cut-unbound, cut_cell, transplant, some-cell}
 use Rattle.search_tree.specs.Binding.{AreBound, ListsBound, OccursInAtom, OccursInGoal}
 use Rattle.search_tree.specs.OwnStores.{AreOwn}
 use Rattle.search_tree.specs.Running.{IsRunning}
@@ -39,18 +40,8 @@ goal-part s g v k i c (inr (j, a, on, h)) e p = inr (j, a, on, atom-part s a v k
 
 -- ---- the same cells in the cut
 
-some-cell : (cs : List Cell) (r : ℕ) → r < length cs → (c : Cell) × (slice_get cs r ≡ Some c)
-some-cell [] r l = absurd (omega (arith, l))
-some-cell (c ∷ cs) zero l = (c, refl)
-some-cell (c ∷ cs) (suc r) l = some-cell cs r (omega (arith, l))
-
-length-take : {A : Type 0} (n : ℕ) (xs : List A) → n ≤ length xs → length (take n xs) ≡ n
-length-take zero xs l = refl
-length-take (suc n) [] l = absurd (omega (arith, l))
-length-take (suc n) (x ∷ xs) l = ap suc (length-take n xs (omega (arith, l)))
-
 cut-length : (m : TrailMark) (s : Store) → IsGood m s → length (cut_at m s).cells ≡ m.cells
-cut-length m s h = length-bound (take m.entries s.trail) 0 (take m.cells s.cells) ∙ length-take m.cells s.cells h.cells
+cut-length m s h = length-bound (take m.entries s.trail) 0 (take m.cells s.cells) ∙ take-length m.cells s.cells h.cells
 
 -- a cell of the store whose binding, if it has one, is in the cut too
 cell-same : (b : Bool) (c d : Cell) → c ≡ cut_cell b d → ((k : ℕ) (sort : Sort) → d ≡ variable sort (Some k) → is_bound c ≡ true) → c ≡ d
@@ -107,7 +98,7 @@ module _ (m : TrailMark) (s : Store) (g : CellGoal) (bound : List ℕ) (good : I
 
 -- ---- the search's own cells
 
-own-occurs : (P : Problem) (base : ℕ) (s : Store) (v r : ℕ) → AreOwn P base s → base ≤ r → OccursIn s v r → base ≤ v
+pub own-occurs : (P : Problem) (base : ℕ) (s : Store) (v r : ℕ) → AreOwn P base s → base ≤ r → OccursIn s v r → base ≤ v
 own-occurs P base s v r own l here = l
 own-occurs P base s v r own l (in_part i {k = k} {c = c} e p o) = own-occurs P base s v k own (own.labelled.names r k i c l e p) o
 

@@ -3,13 +3,14 @@ use Rattle.std.proofs.Common.{◌≡◌, ◌⊎◌, ◌+◌, ◌-◌, ◌<◌, �
 use Rattle.std.specs.List.{AllByRecursion}
 use Rattle.std.proofs.lemmas.Bool.{cases_lt}
 use Rattle.std.proofs.lemmas.List.{length-append}
+use Rattle.plain_laws.proofs.Every.{each-append, each-weaken}
 use Rattle.calculus.specs.Counting.{AtLeastMany, IsRisingListOf, MoreThan}
 use Rattle.calculus.specs.Cut.{HasCut}
 use Rattle.calculus.specs.Space.{IsMember, Member, limit_of, member_cmp}
 use Rattle.calculus.specs.Syntax.{Problem}
 use Rattle.search_theory.specs.Cutting.{IsToldOf}
 use Rattle.search_theory.specs.Exploring.{IsMemberAt}
-use Rattle.search_theory.proofs.DeepenLaws.{SpentTo, all-of-both, all-of-each, limits-join, member-more, spent-none}
+use Rattle.search_theory.proofs.DeepenLaws.{SpentTo, limits-join, member-more, spent-none}
 use Rattle.connection_search.specs.CutOutcomes.{HasNoCutBefore, IsCutLimit}
 use Rattle.connection_search.specs.Cutting.{IsCountedAt}
 
@@ -27,8 +28,8 @@ cut-to-none P used = record { none = λ e a b. absurd (omega (arith, a, b)); spe
 -- members of the next limit come behind
 spent-joined : (P : Problem) (d : ℕ) (spent xs : List Member) → SpentTo P d spent → IsRisingListOf member_cmp (IsMemberAt P (d + 1)) xs → SpentTo P (d + 1) (spent ++ xs)
 spent-joined P d spent xs h k = record {
-  rising = limits-join d spent xs h.rising k.rising (all-of-each (IsMember P d) (λ m. limit_of m ≤ d) (λ m q. q.up_to) spent h.members) (all-of-each (IsMemberAt P (d + 1)) (λ m. d < limit_of m) (λ m q. let e = q.limit in omega (arith, e)) xs k.members);
-  members = all-of-both (IsMember P (d + 1)) spent xs (all-of-each (IsMember P d) (IsMember P (d + 1)) (λ m q. member-more P d (d + 1) m (omega arith) q) spent h.members) (all-of-each (IsMemberAt P (d + 1)) (IsMember P (d + 1)) (λ m q. q.member) xs k.members);
+  rising = limits-join d spent xs h.rising k.rising (each-weaken (IsMember P d) (λ m. limit_of m ≤ d) (λ m q. q.up_to) spent h.members) (each-weaken (IsMemberAt P (d + 1)) (λ m. d < limit_of m) (λ m q. let e = q.limit in omega (arith, e)) xs k.members);
+  members = each-append (IsMember P (d + 1)) spent xs (each-weaken (IsMember P d) (IsMember P (d + 1)) (λ m q. member-more P d (d + 1) m (omega arith) q) spent h.members) (each-weaken (IsMemberAt P (d + 1)) (IsMember P (d + 1)) (λ m q. q.member) xs k.members);
 }
 
 pub cut-to-more : (P : Problem) (d first used after : ℕ) → CutTo P d first used → ¬ HasCut P (d + 1) → IsCountedAt P (d + 1) used after → CutTo P (d + 1) first after
@@ -54,7 +55,7 @@ limit-beyond P d m e none l h = elim (cases_lt d e) [
 ]
 
 all-more : (P : Problem) (d e : ℕ) (xs : List Member) → d ≤ e → AllByRecursion (IsMember P d) xs → AllByRecursion (IsMember P e) xs
-all-more P d e xs l h = all-of-each (IsMember P d) (IsMember P e) (λ m q. member-more P d e m l q) xs h
+all-more P d e xs l h = each-weaken (IsMember P d) (IsMember P e) (λ m q. member-more P d e m l q) xs h
 
 -- a limit was searched, whatever it came to
 pub cut-to-counted : (P : Problem) (d m e first used after : ℕ) → CutTo P d first used → d < m → IsCutLimit P m e → IsCountedAt P (d + 1) used after → AtLeastMany member_cmp (IsMember P e) (after - first)

@@ -17,7 +17,6 @@ use Rattle.store_theory.specs.Stores.{IsGood, Store, cut_at}
 use Rattle.calculus.specs.Syntax.{Problem}
 use Rattle.calculus.specs.Tableaux.{is_closed}
 use Rattle.calculus.specs.declared.sign.Side.{Side}
-use Rattle.store_theory.proofs.StoreLaws.{take-less}
 use Rattle.search_theory.specs.Cutting.{FailsFrom, FailsTo, IsNext, IsToldOf, Level, open_depths, pending_on}
 use Rattle.search_theory.specs.Cutting as cutting
 use Rattle.search_theory.specs.Exploring.{IsClosedList, IsMemberAt, Passes, behind}
@@ -26,7 +25,7 @@ use Rattle.search_theory.specs.OrderedChoices.{choices_at, selection_of}
 use Rattle.search_theory.specs.Regular.{HasNoSamePair}
 use Rattle.search_theory.specs.States.{CellChoice, CellGoal, CellGrowth, State, growth_at}
 use Rattle.search_theory.specs.StateSystems as systems
-use Rattle.search_theory.specs.DeadEnds.{IsDead, is_not_empty}
+use Rattle.search_theory.specs.DeadEnds.{IsDead}
 use Rattle.search_theory.proofs.ChoiceLaws.{choices-rise}
 use Rattle.search_theory.proofs.CutEnds.{fails-dead, fails-more, trying-failed}
 use Rattle.search_theory.proofs.CutLimits.{fails-whole_beyond, sound-more, state-short, told-before, told-from, told-itself, untried-told}
@@ -66,6 +65,8 @@ use Rattle.connection_search.proofs.SpentLaws.{none-open, stands-live}
 use Rattle.connection_search.proofs.StackedLaws.{before-same, mark-itself, point-back, point-kept, point-next, untried-moved}
 use Rattle.connection_search.proofs.TryingLaws.{next-falls, next-none, next-some}
 use Rattle.std.proofs.Math.Nat.{mul-le-mul_right}
+use Rattle.plain_laws.proofs.Places.{take-less}
+use Rattle.search_theory.proofs.BeginningLaws.{not-empty-behind}
 use Rattle.connection_search.proofs.VisitLaws.{mark-later}
 
 -- ---- sound lists
@@ -313,16 +314,12 @@ no-start : (m : List MatrixClause) (choice : Move) → is_start (the_move m choi
 no-start m (Reduce up ancestor) = refl
 no-start m (Extend place) = refl
 
-not-empty : (c : List Choice) (x : Choice) → IsTrue (is_not_empty (c ++ x ∷ []))
-not-empty [] x = refl
-not-empty (y ∷ c) x = refl
-
 -- it was made, and its tree is regular
 pub cut-made : (P : Problem) (m : List MatrixClause) (base d : ℕ) (sides : List Side) (s t : Store) (steps after : List Step) (goals all : List Goal) (first : Option ℕ) (points : List Point) (later : List (List Choice)) (begun used : ℕ) (left : Bool) (goal : ℕ) (choice : Move) → (h : IsCutTrying P m base d sides s steps goals (reverse points) later begun used left goal choice) → KeepsMarks s t → KeepsTree steps goals after all → StandsFor P m base d (h.before ++ the_move m choice ∷ []) t after all first → IsRegularLive P d (h.before ++ the_move m choice ∷ []) → IsCutVisiting P m base d sides t after all first points later begun used left
 cut-made P m base d sides s t steps after goals all first points later begun used left goal choice h marks kept stands sound = record {
   choices = h.before ++ the_move m choice ∷ [];
   stands = stands;
-  not_empty = not-empty h.before (the_move m choice);
+  not_empty = not-empty-behind h.before (the_move m choice);
   sound = sound;
   levels = record { before = h.before; choice = the_move m choice; rest = h.rest; waiting = h.waiting } ∷ h.levels;
   goals_left = goals_added P (the_move m choice);

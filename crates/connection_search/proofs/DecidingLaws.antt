@@ -3,14 +3,15 @@ use Rattle.std.proofs.Common.{◌≡◌, ◌+◌, ◌-◌, ◌≤◌, ℕ, suc, 
 use Rattle.std.specs.List.{AllByRecursion}
 use Rattle.std.proofs.lemmas.Bool.{false≢true}
 use Rattle.std.proofs.lemmas.List.{length-append, length-map}
+use Rattle.plain_laws.proofs.Every.{all-at}
+use Rattle.connection_search.proofs.BindingKept.{own-occurs}
 use Rattle.calculus.specs.declared.setting.Logic.{Logic}
 use Rattle.calculus.specs.Choices.{Choice}
 use Rattle.calculus.specs.Counting.{AtLeastMany, IsRising, MoreThan}
 use Rattle.calculus.specs.Space.{IsEarly, has_labels, lengths_cmp, member_cmp, with_choices, with_lengths}
-use Rattle.store_theory.specs.Stores.{OccursIn, Store}
+use Rattle.store_theory.specs.Stores.{Store}
 use Rattle.calculus.specs.Syntax.{Problem}
 use Rattle.store_theory.specs.Systems.{AllAllowed, AreEarly, HasBoundedSolution, NamesItsStrings, System, cells_of, is_system}
-use Rattle.calculus.proofs.PlaceLists.{all-at}
 use Rattle.prefix_split.specs.LengthSearch as lengths
 use Rattle.prefix_split.specs.declared.solving.Solved.{Solved}
 use Rattle.prefix_split.specs.declared.solving.Solved.TheVariants as solved
@@ -25,7 +26,6 @@ use Rattle.tableau_reading.specs.Solving.{IsSolved}
 use Rattle.search_tree.specs.Seeing.{HasSeen}
 use Rattle.connection_search.proofs.StandingLaws.{stack-forgotten}
 use Rattle.connection_search.specs.Exploring.{IfOn, IsCounted, IsEnd, IsExploring, IsSpace, IsVisiting}
-use Rattle.search_tree.specs.OwnStores.{AreOwn}
 use Rattle.search_tree.specs.Running.{IsRunning, StandsFor}
 use Rattle.search_tree.specs.Trees.{AreGoals, tree_system}
 use Rattle.connection_search.specs.declared.visit.Visit.{Visit}
@@ -40,15 +40,11 @@ use Rattle.tableau_reading.proofs.SolvingLaws.{uncounted}
 
 -- ---- what the tree stands for
 
-occurs-from : (P : Problem) (base : ℕ) (s : Store) (v r : ℕ) → AreOwn P base s → base ≤ r → OccursIn s v r → base ≤ v
-occurs-from P base s v r own l OccursIn.here = l
-occurs-from P base s v r own l (OccursIn.in_part i {k = k} {c = c} e p more) = occurs-from P base s v k own (own.labelled.names r k i c l e p) more
-
 -- its system names the strings that occur in it
 pub strings-named : (P : Problem) (base d : ℕ) (c : List Choice) (S : State) (y : System) → IsRunning P base d c S y → NamesItsStrings S.store y
 strings-named P base d c S y h v free (i, r, e, occurs) =
     let l : base ≤ r = leb-true base r (all-at (nat_le base) (cells_of y) i r h.cells e) in
-    h.strings v (occurs-from P base S.store v r h.own l occurs) free
+    h.strings v (own-occurs P base S.store v r h.own l occurs) free
 
 -- no closed tableau has its list where its system has no bounded solution
 pub none-closed : (P : Problem) (m : List MatrixClause) (base d : ℕ) (c : List Choice) (s : Store) (steps : List Step) (goals : List Goal) (first : Option ℕ) → (h : StandsFor P m base d c s steps goals first) → IsTrue (has_labels P.setting.logic) → ¬ HasBoundedSolution P.setting.logic (AllAllowed P) s (tree_system m steps goals h.1.all_goals) → ¬ IsClosedList P d c

@@ -1,13 +1,14 @@
 -- The loop over the path limits.
 use Rattle.std.proofs.Common.{◌≡◌, ◌+◌, ◌-◌, ◌<◌, ◌≤◌, ℕ, suc, List, [], ◌++◌, length, sym, subst, arith, inl, inr}
 use Rattle.std.proofs.lemmas.List.{length-append}
+use Rattle.plain_laws.proofs.Every.{each-append, each-weaken}
 use Rattle.calculus.specs.Syntax.{Problem}
 use Rattle.calculus.specs.Tableaux.{HasClosed}
 use Rattle.calculus.specs.Choices.{IsLeft}
 use Rattle.calculus.specs.Counting.{AtLeastMany, MoreThan}
 use Rattle.calculus.specs.Space.{ComesNoLater, IsAnswer, IsEarly, IsMember, Member, derived, exhausted, limit_of, member_cmp, no_tableau}
 use Rattle.calculus.proofs.LimitLaws.{none-beyond}
-use Rattle.search_theory.proofs.DeepenLaws.{PassedTo, SpentTo, all-of-both, all-of-each, answer-derived, answer-exhausted, answer-no_tableau, limits-join, member-more, passed-more, spent-none}
+use Rattle.search_theory.proofs.DeepenLaws.{PassedTo, SpentTo, answer-derived, answer-exhausted, answer-no_tableau, limits-join, member-more, passed-more, spent-none}
 use Rattle.connection_search.specs.Outcomes.{IsPassed}
 
 -- the limits up to d were searched, with the count of steps at `first` before and at `used` now
@@ -33,8 +34,8 @@ deepened-more P d first used then h none left rises (xs, early, many) = record {
   passed = subst (PassedTo P) (sym next) (passed-more P d h.passed (subst (λ e. ¬ HasClosed P e) next none) (subst (IsLeft P) next left));
   spent = h.spent ++ xs;
   are_spent = record {
-    rising = limits-join d h.spent xs h.are_spent.rising early.rising (all-of-each (IsMember P d) (λ m. limit_of m ≤ d) (λ m q. q.up_to) h.spent h.are_spent.members) (all-of-each (IsEarly P (d + 1)) (λ m. d < limit_of m) (λ m q. let e = q.limit in omega (arith, e)) xs early.members);
-    members = all-of-both (IsMember P (d + 1)) h.spent xs (all-of-each (IsMember P d) (IsMember P (d + 1)) (λ m q. member-more P d (d + 1) m (omega arith) q) h.spent h.are_spent.members) (all-of-each (IsEarly P (d + 1)) (IsMember P (d + 1)) (λ m q. q.member) xs early.members);
+    rising = limits-join d h.spent xs h.are_spent.rising early.rising (each-weaken (IsMember P d) (λ m. limit_of m ≤ d) (λ m q. q.up_to) h.spent h.are_spent.members) (each-weaken (IsEarly P (d + 1)) (λ m. d < limit_of m) (λ m q. let e = q.limit in omega (arith, e)) xs early.members);
+    members = each-append (IsMember P (d + 1)) h.spent xs (each-weaken (IsMember P d) (IsMember P (d + 1)) (λ m q. member-more P d (d + 1) m (omega arith) q) h.spent h.are_spent.members) (each-weaken (IsEarly P (d + 1)) (IsMember P (d + 1)) (λ m q. q.member) xs early.members);
   };
   enough = let e = length-append h.spent xs in let l = h.enough in omega (arith, e, l, many, rises);
   rises = let l = h.rises in omega (arith, l, rises);
@@ -50,8 +51,8 @@ deepened-steps P d first used budget h (xs, early, many) = (
   (
     h.spent ++ xs,
     record {
-      rising = limits-join d h.spent xs h.are_spent.rising early.rising (all-of-each (IsMember P d) (λ m. limit_of m ≤ d) (λ m q. q.up_to) h.spent h.are_spent.members) (all-of-each (IsEarly P (d + 1)) (λ m. d < limit_of m) (λ m q. let e = q.limit in omega (arith, e)) xs early.members);
-      members = all-of-both (ComesNoLater P d) h.spent xs (all-of-each (IsMember P d) (ComesNoLater P d) (λ m q. inl q) h.spent h.are_spent.members) (all-of-each (IsEarly P (d + 1)) (ComesNoLater P d) (λ m q. inr q) xs early.members);
+      rising = limits-join d h.spent xs h.are_spent.rising early.rising (each-weaken (IsMember P d) (λ m. limit_of m ≤ d) (λ m q. q.up_to) h.spent h.are_spent.members) (each-weaken (IsEarly P (d + 1)) (λ m. d < limit_of m) (λ m q. let e = q.limit in omega (arith, e)) xs early.members);
+      members = each-append (ComesNoLater P d) h.spent xs (each-weaken (IsMember P d) (ComesNoLater P d) (λ m q. inl q) h.spent h.are_spent.members) (each-weaken (IsEarly P (d + 1)) (ComesNoLater P d) (λ m q. inr q) xs early.members);
     },
     (let e = length-append h.spent xs in let l = h.enough in omega (arith, e, l, many)),
   ),

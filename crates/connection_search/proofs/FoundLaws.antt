@@ -3,6 +3,8 @@ use Rattle.std.proofs.Common.{◌≡◌, ◌≤◌, ◌+◌, ◌-◌, ℕ, zero,
 use Rattle.std.specs.List.{AllByRecursion, flat_map, list_all}
 use Rattle.std.specs.Option.{option_map_or}
 use Rattle.std.proofs.lemmas.Bool.{and_parts, cases_lt, false≢true}
+use Rattle.plain_laws.proofs.Every.{all-at, each-append, all-parts}
+use Rattle.search_tree.proofs.OwnCopies.{no_labels-classical}
 use Rattle.calculus.specs.Choices.{start, reduction, extension, Choice, GroundChoice}
 use Rattle.calculus.specs.Tableaux.{Tableau, is_closed}
 use Rattle.calculus.specs.Equality.{sort_eq}
@@ -15,12 +17,11 @@ use Rattle.calculus.specs.Syntax.{Formula, Problem, Symbol, atom, neg, conj, dis
 use Rattle.calculus.specs.declared.setting.Domains.{Domains}
 use Rattle.calculus.specs.declared.setting.Domains.TheVariants.{Constant, Cumulative, Varying}
 use Rattle.calculus.specs.declared.setting.Logic.{Logic}
-use Rattle.calculus.specs.declared.setting.Logic.TheVariants.{Classical, Intuitionistic, D, T as LogicT, S4, S5}
+use Rattle.calculus.specs.declared.setting.Logic.TheVariants.{Classical}
 use Rattle.calculus.specs.declared.sign.Sign.{Sign}
 use Rattle.calculus.specs.declared.sign.Sign.TheVariants.{F}
 use Rattle.calculus.specs.declared.sort.Sort.{Sort}
 use Rattle.calculus.specs.declared.sort.Sort.TheVariants.{TermSort, MarkSort, StringSort}
-use Rattle.calculus.proofs.PlaceLists.{all-at}
 use Rattle.domain_cond.proofs.ConstantLaws.{met-constant}
 use Rattle.logic_rules.proofs.ProblemFacts.{kept}
 use Rattle.store_theory.specs.Bindings.{IsWellFormed}
@@ -44,7 +45,7 @@ use Rattle.search_theory.proofs.SoundLaws.{dead-unsound}
 use Rattle.search_theory.proofs.SolvingLaws.{IsApartNow, found, system-parts}
 use Rattle.search_theory.proofs.SpareLaws.{cell-sorted, sort-same}
 use Rattle.search_theory.proofs.SystemCells.{labels-in, pairs-in, system-stays}
-use Rattle.search_theory.proofs.SystemLaws.{all-joined, split-all, tree-by_state}
+use Rattle.search_theory.proofs.SystemLaws.{tree-by_state}
 use Rattle.connection_search.specs.Deciding.{HasOwnTableau}
 use Rattle.tableau_reading.specs.Solving.{IsFound}
 use Rattle.tableau_reading.specs.Grounds.{AreSparesAt}
@@ -109,14 +110,6 @@ no-pi_position P p e fits =
     ap (λ l. option_map_or (λ (n : Node). is_pi (modal_of l n.sign n.formula)) (last_node (if nat_lt p (size P.formula) then way_from 0 F P.formula p else [])) false) e ∙ here
 
 -- ---- without labels
-
-classical-logic : (l : Logic) → has_labels l ≡ false → l ≡ Classical
-classical-logic Classical h = refl
-classical-logic Intuitionistic h = cc h
-classical-logic D h = cc h
-classical-logic LogicT h = cc h
-classical-logic S4 h = cc h
-classical-logic S5 h = cc h
 
 constant-domains : (P : Problem) → IsTrue (is_problem P) → P.setting.logic ≡ Classical → P.setting.domains ≡ Constant
 constant-domains P h e = by P.setting.domains (subst (λ l. IsTrue (setting_fits l P.setting.domains)) e (kept P h).domains)
@@ -188,8 +181,8 @@ equations-equal P base s u [] h k = tt
 equations-equal P base s u (e ∷ es) h k =
     let a = and_parts (is_equation s e) (list_all (is_equation s) es) h in
     let b = and_parts (is_label s e.left) (is_label s e.right) a.0 in
-    let c = split-all (nat_le base) (equation_cells e) (flat_map equation_cells es) k in
-    let d = split-all (nat_le base) e.left e.right c.0 in
+    let c = all-parts (nat_le base) (equation_cells e) (flat_map equation_cells es) k in
+    let d = all-parts (nat_le base) e.left e.right c.0 in
     let left = label-empty P base s u e.left b.0 d.0 in
     let right = label-empty P base s u e.right b.1 d.1 in
     ((λ σ t. ([], ap (label_at σ) left, ap (label_at σ) right)), equations-equal P base s u es a.1 c.1)
@@ -202,7 +195,7 @@ pairs-apart s a (b ∷ path) h = ((λ same. h.0 (λ σ t. sym (same σ t))), pai
 
 all-apart_now : (s : Store) (gs : List CellGoal) → AllByRecursion (IsNewGoal s) gs → AllByRecursion (IsApartNow s) (pairs_of gs)
 all-apart_now s [] h = tt
-all-apart_now s (g ∷ gs) h = all-joined (IsApartNow s) (pairs_with g.literal g.path) (pairs_of gs) (pairs-apart s g.literal g.path h.0) (all-apart_now s gs h.1)
+all-apart_now s (g ∷ gs) h = each-append (IsApartNow s) (pairs_with g.literal g.path) (pairs_of gs) (pairs-apart s g.literal g.path h.0) (all-apart_now s gs h.1)
 
 -- where no pair is the same, no goal is the same as one above it
 every : {A : Type 0} (Q : A → Type 0) (xs : List A) → ((i : ℕ) (x : A) → slice_get xs i ≡ Some x → Q x) → AllByRecursion Q xs
@@ -236,16 +229,16 @@ unlabelled-closed P base s u = record {
 module _ (P : Problem) (base d : ℕ) (c : List Choice) (S : State) (y : System) (h : IsRunning P base d c S y) (u : IsUnlabelled P base S.store) (problem : IsTrue (is_problem P)) (new : HasNoSamePair S) where
   strings-none : y.strings ≡ []
   strings-none =
-      let a = split-all (nat_le base) (flat_map equation_cells y.equations ++ y.strings ++ flat_map gamma_cells y.gammas) (flat_map pair_cells y.pairs) h.cells in
-      let b = split-all (nat_le base) (flat_map equation_cells y.equations ++ y.strings) (flat_map gamma_cells y.gammas) a.0 in
-      let k = split-all (nat_le base) (flat_map equation_cells y.equations) y.strings b.0 in
+      let a = all-parts (nat_le base) (flat_map equation_cells y.equations ++ y.strings ++ flat_map gamma_cells y.gammas) (flat_map pair_cells y.pairs) h.cells in
+      let b = all-parts (nat_le base) (flat_map equation_cells y.equations ++ y.strings) (flat_map gamma_cells y.gammas) a.0 in
+      let k = all-parts (nat_le base) (flat_map equation_cells y.equations) y.strings b.0 in
       strings-empty P base S.store u y.strings (system-parts S.store y h.system.well).strings k.1
 
   equal-now : AllByRecursion (AreEqualNow S.store) y.equations
   equal-now =
-      let a = split-all (nat_le base) (flat_map equation_cells y.equations ++ y.strings ++ flat_map gamma_cells y.gammas) (flat_map pair_cells y.pairs) h.cells in
-      let b = split-all (nat_le base) (flat_map equation_cells y.equations ++ y.strings) (flat_map gamma_cells y.gammas) a.0 in
-      let k = split-all (nat_le base) (flat_map equation_cells y.equations) y.strings b.0 in
+      let a = all-parts (nat_le base) (flat_map equation_cells y.equations ++ y.strings ++ flat_map gamma_cells y.gammas) (flat_map pair_cells y.pairs) h.cells in
+      let b = all-parts (nat_le base) (flat_map equation_cells y.equations ++ y.strings) (flat_map gamma_cells y.gammas) a.0 in
+      let k = all-parts (nat_le base) (flat_map equation_cells y.equations) y.strings b.0 in
       equations-equal P base S.store u y.equations (system-parts S.store y h.system.well).equations k.0
 
   solving : IsSolving P.setting.logic (AllAllowed P) S.store y [] S.store
@@ -340,7 +333,7 @@ pub unlabelled-tableau : (P : Problem) (m : List MatrixClause) (base d : ℕ) (c
 unlabelled-tableau P m base d c s steps goals first problem labels (cs, x, at, new, whole) =
     let S : State = record { store = s; choices = cs; growth = x } in
     let y = tree_system m steps goals x.all_goals in
-    let u : IsUnlabelled P base s = record { logic = classical-logic P.setting.logic labels; labels = labels; fits = (kept P problem).formula; own = at.running.own } in
+    let u : IsUnlabelled P base s = record { logic = no_labels-classical P.setting.logic labels; labels = labels; fits = (kept P problem).formula; own = at.running.own } in
     own-tableau P m base d c s s steps goals first (Own base) (rank_of s) (suc (length s.cells)) (cs, x, at) whole
     (unlabelled-solved P base d c S y at.running u problem new)
     (unlabelled-solve P base d c S y at.running u problem new)

@@ -5,7 +5,8 @@ use Rattle.std.proofs.lemmas.List.{length-append, reverse-append, take-append-dr
 use Rattle.std.proofs.lemmas.List.Sums.{sum_by-append}
 use Rattle.std.proofs.lemmas.Option.{slice_get_read}
 use Rattle.std.proofs.Math.Seq.{take-append_seam}
-use Rattle.calculus.proofs.PlaceLists.{get-end, get-front}
+use Rattle.plain_laws.proofs.Places.{get-end, get-front, get-there, take-length, take-less}
+use Rattle.plain_laws.proofs.Options.{same-some}
 use Rattle.calculus.specs.Choices.{Choice}
 use Rattle.calculus.specs.Syntax.{Problem}
 use Rattle.search_theory.specs.Jumps.{AreSolvedBehind}
@@ -14,7 +15,7 @@ use Rattle.search_theory.specs.States.{CellGoal, IsStateOf, State}
 use Rattle.search_theory.specs.DeadEnds.{is_not_empty}
 use Rattle.search_theory.specs.Closing.{CannotClose}
 use Rattle.store_theory.specs.Stores.{IsGood, Store, cut_at}
-use Rattle.store_theory.proofs.StoreLaws.{IsGood-cut_at, cut_at-cut_at, take-less}
+use Rattle.store_theory.proofs.StoreLaws.{IsGood-cut_at, cut_at-cut_at}
 use Rattle.term_store.specs.StoreView.{the_mark}
 use Rattle.search_tree.specs.Binding.{AreBound, ListsBound}
 use Rattle.connection_search.specs.Exploring.{ArePointsFrom, IsBefore, IsSpentAt}
@@ -31,11 +32,10 @@ use Rattle.connection_search.proofs.DeadLaws.{live-not_empty}
 use Rattle.search_tree.proofs.GrowthLaws.{goal-kept}
 use Rattle.connection_search.proofs.JumpingLaws.{down-jumped, spent-down}
 use Rattle.search_tree.proofs.MoveLaws.{goal-here}
-use Rattle.search_tree.proofs.Places.{item-there}
 use Rattle.connection_search.proofs.SpentLaws.{stands-live}
 use Rattle.connection_search.proofs.StackedLaws.{mark-itself, points-back}
-use Rattle.connection_search.proofs.StandingLaws.{last-of, length-take, same-goal, traced-back}
-use Rattle.search_tree.proofs.TreeLaws.{goal-at, same-item}
+use Rattle.connection_search.proofs.StandingLaws.{last-of, same-goal, traced-back}
+use Rattle.search_tree.proofs.TreeLaws.{goal-at}
 
 -- ---- the last point
 
@@ -50,7 +50,7 @@ last-there points n q e l at = by (last-of points)
         let w = length-append ys (y ∷ []) in
         let number : n - 1 ≡ length ys = omega (arith, e, k, w) in
         let front : take (n - 1) points ≡ ys = ap (λ i. take i points) number ∙ ap (take (length ys)) is ∙ take-append_seam ys (y ∷ []) in
-        let item : y ≡ q = same-item (slice_get points (n - 1)) y q (ap (slice_get points) number ∙ ap (λ zs. slice_get zs (length ys)) is ∙ get-end ys y) at in
+        let item : y ≡ q = same-some (slice_get points (n - 1)) y q (ap (slice_get points) number ∙ ap (λ zs. slice_get zs (length ys)) is ∙ get-end ys y) at in
         is ∙ ap (λ z. ys ++ z ∷ []) item ∙ sym (ap (λ zs. zs ++ q ∷ []) front)
 
 pub last-read : (points : List Point) (n : ℕ) (q : Point) → n ≡ length points → 0 < n → q ≡ get_or points (n - 1) q → points ≡ take (n - 1) points ++ q ∷ []
@@ -83,8 +83,8 @@ stuck-cannot P m base d s steps goals goal bound q c untried x h l still point =
 
     there : slice_get point.at.every goal ≡ Some h.at_goal
     there =
-        let n = length-take q.goals goals point.goals_within in
-        let (k, at) = item-there (take q.goals goals) goal (omega (arith, l, n)) in
+        let n = take-length q.goals goals point.goals_within in
+        let (k, at) = get-there (take q.goals goals) goal (omega (arith, l, n)) in
         let (z, on, is) = goal-at (take q.steps steps) (take q.goals goals) point.at.every goal k point.at.at.tree.goals at in
         on ∙ ap Some (same-goal steps goals goal z h.at_goal (at-taken q.steps q.goals steps goals goal z is) (goal-here P m base d h.choices s steps goals goal h.at_goal h.at))
 

@@ -3,6 +3,7 @@
 use Rattle.std.proofs.Common.{◌≡◌, ◌==◌, eqb-true, ◌+◌, ◌≤◌, ℕ, Bool, List, [], ◌∷◌, ◌++◌, length, true, MatchOption, refl, sym, ◌∙◌, ap, subst, Option, Some, None, option_map, slice_get, inl, inr, append_assoc}
 use Rattle.std.specs.Bool.{⊤}
 use Rattle.std.specs.List.{AllByRecursion}
+use Rattle.plain_laws.proofs.Every.{each-push}
 use Rattle.calculus.specs.Choices.{Choice}
 use Rattle.calculus.specs.Space.{Member}
 use Rattle.calculus.specs.Syntax.{Problem}
@@ -68,14 +69,10 @@ pub record PassesTo (P : Problem) (m : List MatrixClause) (d : ℕ) (c : List Ch
   pub are : xs ≡ passed ++ rest
   pub has : HasExtensions m d now g rest
 
-all-with : {A : Type 0} (Q : A → Type 0) (xs : List A) (x : A) → AllByRecursion Q xs → Q x → AllByRecursion Q (xs ++ x ∷ [])
-all-with Q [] x h k = (k, tt)
-all-with Q (y ∷ xs) x h k = (h.0, all-with Q xs x h.1 k)
-
 pub passes-next : (P : Problem) (m : List MatrixClause) (d : ℕ) (c : List Choice) (g : CellGoal) (xs : List Choice) (left : Bool) (now after : Point) (x : Choice) → (h : PassesTo P m d c g xs left now) → (rest : List Choice) × (h.rest ≡ x ∷ rest) × HasExtensions m d after g rest → IsPassed P m d c g left x → PassesTo P m d c g xs left after
 passes-next P m d c g xs left now after x h (rest, e, has) why = record {
   passed = h.passed ++ x ∷ [];
-  each = all-with (IsPassed P m d c g left) h.passed x h.each why;
+  each = each-push (IsPassed P m d c g left) h.passed x h.each why;
   rest = rest;
   are = h.are ∙ ap (λ ys. h.passed ++ ys) e ∙ sym (append_assoc h.passed (x ∷ []) rest);
   has = has;

@@ -2,6 +2,7 @@
 use Rattle.std.proofs.Common.{◌≡◌, ℕ, List, [], ◌++◌, Bool, true, IsTrue, refl, ◌∙◌, subst, Option, Some, append-nil, slice_get, reverse, length}
 use Rattle.std.specs.List.{AllByRecursion}
 use Rattle.std.proofs.lemmas.Bool.{and_from}
+use Rattle.plain_laws.proofs.Places.{get-front}
 use Rattle.calculus.specs.declared.setting.Logic.{Logic}
 use Rattle.calculus.specs.Choices.{Choice}
 use Rattle.calculus.specs.Space.{has_labels}
@@ -10,7 +11,6 @@ use Rattle.calculus.specs.Syntax.{Problem}
 use Rattle.store_theory.specs.Systems.{AreEqual, IsStep, NamesItsStrings, System, is_system}
 use Rattle.search_theory.specs.Matrix.{MatrixClause}
 use Rattle.search_theory.specs.DeadEnds.{is_not_empty}
-use Rattle.search_theory.proofs.BuildingLaws.{get-kept}
 use Rattle.search_theory.proofs.PruningLaws.{pruned-by_none}
 use Rattle.search_theory.proofs.SolvingLaws.{system-parts}
 use Rattle.search_tree.specs.GivenUp.{HasLost}
@@ -32,7 +32,7 @@ alone-fits : (s : Store) (y : System) → IsTrue (is_system s y) → IsTrue (is_
 alone-fits s y h = let k = system-parts s y h in and_from _ _ (and_from _ _ (and_from _ _ k.equations k.strings) refl) refl
 
 alone-named : (s : Store) (y : System) → NamesItsStrings s y → NamesItsStrings s (labels_alone y)
-alone-named s y h v free (i, r, e, occurs) = h v free (i, r, get-kept _ _ i r (get-kept _ _ i r (subst (λ rs. slice_get rs i ≡ Some r) (append-nil _ ∙ append-nil _) e)), occurs)
+alone-named s y h v free (i, r, e, occurs) = h v free (i, r, get-front _ _ i r (get-front _ _ i r (subst (λ rs. slice_get rs i ≡ Some r) (append-nil _ ∙ append-nil _) e)), occurs)
 
 -- what is tested of the tree's labels is a system that names its strings
 pub alone-system : (P : Problem) (m : List MatrixClause) (base d : ℕ) (c : List Choice) (s : Store) (steps : List Step) (goals : List Goal) (first : Option ℕ) (y : System) → (h : StandsFor P m base d c s steps goals first) → y ≡ labels_alone (tree_system m steps goals h.1.all_goals) → IsTrue (is_system s y) × NamesItsStrings s y

@@ -1,6 +1,7 @@
 -- The search at one limit, clause by clause, and the space of a problem.
 use Rattle.std.proofs.Common.{◌≡◌, ◌+◌, ◌<◌, ◌≤◌, ℕ, suc, List, [], ◌∷◌, drop, length, map, Bool, true, false, IsTrue, Option, refl, sym, ◌∙◌, ap, subst, Some, slice_get, arith, Result, Ok, Err}
 use Rattle.std.specs.Prelude.{IfOk, option_map}
+use Rattle.plain_laws.proofs.Places.{drop-end, drop-there, get-there}
 use Rattle.store_theory.specs.Bindings.{KeepsMarks}
 use Rattle.calculus.specs.Choices.{Choice, IsLeft, start}
 use Rattle.calculus.specs.Problems.{is_problem}
@@ -18,7 +19,6 @@ use Rattle.search_theory.specs.Matrix.{IsTemplateMatrix, MatrixClause, all_shown
 use Rattle.search_theory.specs.Searching.{IsSearch}
 use Rattle.search_theory.specs.OrderedChoices.{selection_of}
 use Rattle.term_store.specs.Room.{KeepsRoom, TermStore, spare}
-use Rattle.search_tree.proofs.Places.{drop-end, drop-there, item-there}
 use Rattle.search_tree.proofs.RunningLaws.{clause-at}
 use Rattle.connection_search.specs.Exploring.{IfOn, IsExploring, IsSearched, IsSpace, IsVisiting}
 use Rattle.connection_search.specs.Outcomes.{IfSteps}
@@ -69,7 +69,7 @@ starts_from m k = behind [] (starting (map (λ (c : MatrixClause). c.selection) 
 
 pub starts-next : (m : List MatrixClause) (k : ℕ) → k < length m → starts_from m k ≡ (start (selection_of (slice_get m k)) ∷ []) ∷ starts_from m (k + 1)
 starts-next m k l =
-    let (c, e) = item-there m k l in
+    let (c, e) = get-there m k l in
     let next : suc k ≡ k + 1 = omega arith in
     ap (λ cs. behind [] (starting (map (λ (c : MatrixClause). c.selection) cs))) (drop-there m k c e)
     ∙ ap (λ i. (start c.selection ∷ []) ∷ starts_from m i) next

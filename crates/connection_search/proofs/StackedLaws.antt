@@ -2,11 +2,13 @@
 use Rattle.std.proofs.Common.{◌≡◌, ◌≤◌, ℕ, List, [], ◌∷◌, ◌++◌, length, take, refl, sym, ◌∙◌, ap, subst, arith}
 use Rattle.std.specs.List.{AllByRecursion}
 use Rattle.std.proofs.lemmas.List.{length-append, take-append-le}
+use Rattle.plain_laws.proofs.Every.{each-last, each-push}
+use Rattle.plain_laws.proofs.Places.{take-less}
 use Rattle.store_theory.specs.Bindings.{IsEarlier, KeepsEarlier, KeepsMarks}
 use Rattle.calculus.specs.Choices.{Choice}
 use Rattle.store_theory.specs.Stores.{IsGood, Store, TrailMark, cut_at}
 use Rattle.calculus.specs.Syntax.{Problem}
-use Rattle.store_theory.proofs.StoreLaws.{IsGood-cut_at, cut_at-cut_at, length-less, take-less}
+use Rattle.store_theory.proofs.StoreLaws.{IsGood-cut_at, cut_at-cut_at, length-less}
 use Rattle.search_theory.specs.Matrix.{MatrixClause}
 use Rattle.search_theory.specs.States.{CellGoal}
 use Rattle.term_store.specs.StoreView.{the_mark}
@@ -93,22 +95,14 @@ before-same p q (x ∷ points) same h =
 
 -- ---- moments
 
-pub all-end : {A : Type 0} (Q : A → Type 0) (xs : List A) (x : A) → AllByRecursion Q (xs ++ x ∷ []) → AllByRecursion Q xs × Q x
-all-end Q [] x h = (tt, h.0)
-all-end Q (y ∷ xs) x h = let k = all-end Q xs x h.1 in ((h.0, k.0), k.1)
-
-pub all-pushed : {A : Type 0} (Q : A → Type 0) (xs : List A) (x : A) → AllByRecursion Q xs → Q x → AllByRecursion Q (xs ++ x ∷ [])
-all-pushed Q [] x h k = (k, tt)
-all-pushed Q (y ∷ xs) x h k = (h.0, all-pushed Q xs x h.1 k)
-
 -- another point of the same moment in place of the last one
 pub above-marked : (k : TrailMark) (points : List Point) (p q : Point) → q.mark ≡ p.mark → AreAbove k (points ++ p ∷ []) → AreAbove k (points ++ q ∷ [])
 above-marked k points p q same h =
-    let (rest, last) = all-end (λ (x : Point). IsEarlier k (the_mark x.mark)) points p h in
-    all-pushed (λ (x : Point). IsEarlier k (the_mark x.mark)) points q rest (subst (IsEarlier k) (sym (ap the_mark same)) last)
+    let (rest, last) = each-last (λ (x : Point). IsEarlier k (the_mark x.mark)) points p h in
+    each-push (λ (x : Point). IsEarlier k (the_mark x.mark)) points q rest (subst (IsEarlier k) (sym (ap the_mark same)) last)
 
 pub above-rest : (k : TrailMark) (points : List Point) (p : Point) → AreAbove k (points ++ p ∷ []) → AreAbove k points
-above-rest k points p h = (all-end (λ (x : Point). IsEarlier k (the_mark x.mark)) points p h).0
+above-rest k points p h = (each-last (λ (x : Point). IsEarlier k (the_mark x.mark)) points p h).0
 
 pub moment-itself : (k : TrailMark) (s : Store) → IsGood k s → KeepsMoment k s s
 moment-itself k s g = (g, refl)
@@ -118,7 +112,7 @@ moment-both k r s t a b = (b.0, b.1 ∙ a.1)
 
 -- back at the last point
 pub moment-back : (k : TrailMark) (points : List Point) (p : Point) (s t : Store) → IsGood k s → AreAbove k (points ++ p ∷ []) → KeepsEarlier (the_mark p.mark) s t → KeepsMoment k s t
-moment-back k points p s t g h keeps = keeps k (all-end (λ (x : Point). IsEarlier k (the_mark x.mark)) points p h).1 g
+moment-back k points p s t g h keeps = keeps k (each-last (λ (x : Point). IsEarlier k (the_mark x.mark)) points p h).1 g
 
 -- back there, and what followed
 pub moment-kept : (k : TrailMark) (points : List Point) (p : Point) (s t u : Store) → IsGood k s → AreAbove k (points ++ p ∷ []) → KeepsEarlier (the_mark p.mark) s t → KeepsMarks t u → KeepsMoment k s u

@@ -1,7 +1,9 @@
 -- What the points on the stack tell of goals that were not solved: a list that is given up, a new point, and points that go.
-use Rattle.std.proofs.Common.{◌≡◌, ◌⊎◌, ◌<◌, ◌≤◌, ℕ, zero, suc, List, [], ◌∷◌, ◌++◌, length, min, reverse, take, IsTrue, refl, sym, ◌∙◌, ap, ap₂, subst, Option, None, Some, slice_get, slice_set, inl, inr, arith, nat_le, leb-true, Bool, true, false}
+use Rattle.std.proofs.Common.{◌≡◌, ◌⊎◌, ◌<◌, ◌≤◌, ℕ, suc, List, [], ◌∷◌, ◌++◌, length, min, reverse, take, IsTrue, refl, sym, ◌∙◌, ap, ap₂, subst, Option, None, Some, slice_get, slice_set, inl, inr, arith, nat_le, leb-true, Bool, true, false}
 use Rattle.std.specs.List.{AllByRecursion}
 use Rattle.std.proofs.lemmas.List.{length-append, length-map, reverse-append}
+use Rattle.plain_laws.proofs.Places.{take-length}
+use Rattle.plain_laws.proofs.Options.{same-some}
 use Rattle.store_theory.specs.Bindings.{KeepsMarks}
 use Rattle.store_theory.specs.Stores.{Store, cut_at}
 use Rattle.calculus.specs.Choices.{Choice}
@@ -30,20 +32,15 @@ use Rattle.search_tree.specs.declared.tree.Goal.{Goal}
 use Rattle.search_tree.specs.declared.tree.Step.{Step}
 use Rattle.search_tree.proofs.MoveLaws.{goal-here, goal-within}
 use Rattle.connection_search.proofs.StackedLaws.{points-back, points-kept}
-use Rattle.search_tree.proofs.TreeLaws.{goal-at, goals-length, same-item}
+use Rattle.search_tree.proofs.TreeLaws.{goal-at, goals-length}
 
 -- ---- states at points
-
-pub length-take : {A : Type 0} (n : ℕ) (xs : List A) → n ≤ length xs → length (take n xs) ≡ n
-length-take zero xs l = refl
-length-take (suc n) [] l = absurd (omega (arith, l))
-length-take (suc n) (x ∷ xs) l = ap suc (length-take n xs (omega (arith, l)))
 
 stands-point : (P : Problem) (m : List MatrixClause) (base d : ℕ) (s : Store) (steps : List Step) (goals : List Goal) (p : Point) (c untried : List Choice) (g : CellGoal) → IsPoint P m base d s steps goals p c untried g → StandsAtPoint P d (choice_point p c untried)
 stands-point P m base d s steps goals p c untried g h = record {
   state = record { store = cut_at (the_mark p.mark) s; choices = h.at.made; growth = record { open_goals = g ∷ h.at.behind; all_goals = h.at.every; depths = h.at.depths } };
   is_state = h.at.at.running.state;
-  goals = goals-length (take p.steps steps) (take p.goals goals) (take p.goals goals) h.at.every h.at.at.tree.goals ∙ length-take p.goals goals h.goals_within;
+  goals = goals-length (take p.steps steps) (take p.goals goals) (take p.goals goals) h.at.every h.at.at.tree.goals ∙ take-length p.goals goals h.goals_within;
 }
 
 pub stands-all : (P : Problem) (m : List MatrixClause) (base d : ℕ) (s : Store) (steps : List Step) (goals : List Goal) (points : List Point) (pending : List (List Choice)) → (h : ArePointsFrom P m base d s steps goals points pending) → AllByRecursion (StandsAtPoint P d) (traced P m base d s steps goals points pending h)
@@ -57,7 +54,7 @@ HasGoals n q = (0 < q.goals) × (q.goals ≤ n)
 pub goals-all : (P : Problem) (m : List MatrixClause) (base d : ℕ) (s : Store) (steps : List Step) (goals : List Goal) (points : List Point) (pending : List (List Choice)) → (h : ArePointsFrom P m base d s steps goals points pending) → AllByRecursion (HasGoals (length goals)) (traced P m base d s steps goals points pending h)
 goals-all P m base d s steps goals [] pending h = tt
 goals-all P m base d s steps goals (p ∷ points) pending (c, untried, g, below, e, point, before, rest) = (
-  ((let l = goal-within P m base d c (cut_at (the_mark p.mark) s) (take p.steps steps) (take p.goals goals) p.goal g point.at in let k = length-take p.goals goals point.goals_within in omega (arith, l, k)), point.goals_within),
+  ((let l = goal-within P m base d c (cut_at (the_mark p.mark) s) (take p.steps steps) (take p.goals goals) p.goal g point.at in let k = take-length p.goals goals point.goals_within in omega (arith, l, k)), point.goals_within),
   goals-all P m base d s steps goals points below rest,
 )
 
@@ -120,7 +117,7 @@ points-goals P m base d s steps goals (p ∷ points) pending (c, untried, g, bel
 few-traced : (P : Problem) (m : List MatrixClause) (base d : ℕ) (s : Store) (steps : List Step) (goals : List Goal) (n : ℕ) (points : List Point) (pending : List (List Choice)) → AllByRecursion (λ (p : Point). p.goals ≤ n) points → (h : ArePointsFrom P m base d s steps goals points pending) → AllByRecursion (HasGoals n) (traced P m base d s steps goals points pending h)
 few-traced P m base d s steps goals n [] pending few h = tt
 few-traced P m base d s steps goals n (p ∷ points) pending few (c, untried, g, below, e, point, before, rest) = (
-  ((let l = goal-within P m base d c (cut_at (the_mark p.mark) s) (take p.steps steps) (take p.goals goals) p.goal g point.at in let k = length-take p.goals goals point.goals_within in omega (arith, l, k)), few.0),
+  ((let l = goal-within P m base d c (cut_at (the_mark p.mark) s) (take p.steps steps) (take p.goals goals) p.goal g point.at in let k = take-length p.goals goals point.goals_within in omega (arith, l, k)), few.0),
   few-traced P m base d s steps goals n points below few.1 rest,
 )
 
@@ -171,15 +168,15 @@ same-path steps goals k [] (b ∷ ys) h (j, q, e, at, is, rest) = let z : None �
 same-path steps goals k (a ∷ xs) [] (i, p, e, at, is, rest) l = let z : None ≡ Some i = sym l ∙ e in cc z
 same-path steps goals k (a ∷ xs) (b ∷ ys) (i, p, e, at, is, rest) (j, q, f, there, are, others) =
     let number : j ≡ i = let z : Some j ≡ Some i = sym f ∙ e in cc z in
-    let goal : p ≡ q = same-item (slice_get goals i) p q at (subst (λ n. slice_get goals n ≡ Some q) number there) in
-    let atom : a ≡ b = same-item (atom_at steps p) a b is (subst (λ (z : Goal). atom_at steps z ≡ Some b) (sym goal) are) in
+    let goal : p ≡ q = same-some (slice_get goals i) p q at (subst (λ n. slice_get goals n ≡ Some q) number there) in
+    let atom : a ≡ b = same-some (atom_at steps p) a b is (subst (λ (z : Goal). atom_at steps z ≡ Some b) (sym goal) are) in
     ap₂ (λ x zs. x ∷ zs) atom (same-path steps goals p.above xs ys rest (subst (λ (z : Goal). IsPath steps goals z.above ys) (sym goal) others))
 
 pub same-goal : (steps : List Step) (goals : List Goal) (i : ℕ) (x y : CellGoal) → IsGoalAt steps goals i x → IsGoalAt steps goals i y → x ≡ y
 same-goal steps goals i x y h k =
-    let goal : h.goal ≡ k.goal = same-item (slice_get goals i) h.goal k.goal h.stands k.stands in
+    let goal : h.goal ≡ k.goal = same-some (slice_get goals i) h.goal k.goal h.stands k.stands in
     let one = subst (λ (z : Goal). IsGoal steps goals z x) goal h.is_goal in
-    let literal = same-item (atom_at steps k.goal) x.literal y.literal one.literal k.is_goal.literal in
+    let literal = same-some (atom_at steps k.goal) x.literal y.literal one.literal k.is_goal.literal in
     let path = same-path steps goals k.goal.above x.path y.path one.path k.is_goal.path in
     λ m. record { literal = literal m; path = path m }
 

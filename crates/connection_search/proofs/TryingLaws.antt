@@ -1,21 +1,22 @@
 -- The next choice of the last point: back at the point, its choice, and what comes of it.
-use Rattle.std.proofs.Common.{◌≡◌, ◌⊎◌, ◌+◌, ◌-◌, ◌*◌, ◌<◌, ◌≤◌, ℕ, suc, Bool, List, [], ◌∷◌, ◌++◌, Option, None, Some, MatchOption, IsTrue, reverse, slice_set, sum_by, take, refl, sym, ◌∙◌, ap, subst, arith, append_assoc, inl, inr, length}
+use Rattle.std.proofs.Common.{◌≡◌, ◌⊎◌, ◌+◌, ◌-◌, ◌*◌, ◌<◌, ◌≤◌, ℕ, suc, Bool, List, [], ◌∷◌, ◌++◌, Option, None, Some, MatchOption, reverse, slice_set, sum_by, take, refl, sym, ◌∙◌, ap, subst, arith, append_assoc, inl, inr, length}
 use Rattle.std.proofs.Math.Nat.{mul-le-mul_right}
 use Rattle.std.specs.Bool.{⊤}
 use Rattle.std.specs.List.{AllByRecursion}
 use Rattle.std.proofs.Math.Seq.{take-append_seam}
 use Rattle.std.proofs.lemmas.List.{length-append, reverse-append}
 use Rattle.std.proofs.lemmas.List.Sums.{sum_by-append}
+use Rattle.plain_laws.proofs.Places.{take-length, take-less}
+use Rattle.search_theory.proofs.BeginningLaws.{not-empty-behind}
 use Rattle.store_theory.specs.Bindings.{KeepsMarks}
 use Rattle.calculus.specs.Choices.{Choice}
 use Rattle.store_theory.specs.Stores.{IsGood, Store, TrailMark, cut_at}
 use Rattle.calculus.specs.Syntax.{Problem}
-use Rattle.store_theory.proofs.StoreLaws.{take-less}
 use Rattle.search_theory.specs.Exploring.{behind}
 use Rattle.search_theory.specs.Matrix.{MatrixClause}
 use Rattle.search_theory.specs.Searching.{IsSearch}
 use Rattle.search_theory.specs.States.{CellGoal}
-use Rattle.search_theory.specs.DeadEnds.{IsDead, is_not_empty}
+use Rattle.search_theory.specs.DeadEnds.{IsDead}
 use Rattle.search_theory.proofs.SearchSteps.{search-dead}
 use Rattle.term_store.specs.Room.{KeepsRoom, TermStore}
 use Rattle.term_store.specs.StoreView.{the_mark}
@@ -26,7 +27,7 @@ use Rattle.search_tree.specs.Seeing.{SeeMore, HasSeen, no_goal, seeing, seen_aft
 use Rattle.search_tree.specs.declared.tree.Tree.{Tree}
 use Rattle.search_theory.specs.Jumps.{AreSolvedBehind, ChoicePoint, StandsAtPoint}
 use Rattle.search_theory.proofs.JumpLaws.{solved-tried}
-use Rattle.connection_search.proofs.StandingLaws.{HasGoals, goals-all, last-of, length-take, points-goals, seen-made, set-last, solved-passed_over, stack-cleared, stack-fruitless, stack-kept, stack-lost, stack-refused, stack-seeing, stands-all, stands-steps, traced-back}
+use Rattle.connection_search.proofs.StandingLaws.{HasGoals, goals-all, last-of, points-goals, seen-made, set-last, solved-passed_over, stack-cleared, stack-fruitless, stack-kept, stack-lost, stack-refused, stack-seeing, stands-all, stands-steps, traced-back}
 use Rattle.search_tree.specs.Points.{HasUntried, IsMoveAt, IsPoint, IsSamePoint, the_move}
 use Rattle.search_tree.specs.Running.{IsAtGoal, IsMatrixOf, StandsFor}
 use Rattle.search_tree.specs.Trees.{KeepsTree}
@@ -223,10 +224,6 @@ dead-at P m base d s t steps after now goals all these first points others p lat
     exploring-moved P m base d t t after now all these others later begun used left refl en et
     (dead-left P m base d t after all first points others p later begun used left ef b more (dead P m base d b.choices (stands-back P m base d t after all first p (reverse points) later begun used left ef b)))
 
-not-empty : (c : List Choice) (x : Choice) → IsTrue (is_not_empty (c ++ x ∷ []))
-not-empty [] x = refl
-not-empty (y ∷ c) x = refl
-
 -- the last point first, with what it has seen
 abbrev pub IsPushed : ℕ → Point → List Point → List Point → Type 0
 IsPushed n q points after = after ≡ points ++ seeing n q ∷ []
@@ -241,7 +238,7 @@ lighter-seen p q r n e l = subst (λ x. weight x < weight p) (sym e) l
 pub steps-here : (P : Problem) (m : List MatrixClause) (base d : ℕ) (s t : Store) (steps after : List Step) (goals all : List Goal) (points : List Point) (p q : Point) (later : List (List Choice)) (begun used : ℕ) (left : Bool) → t ≡ cut_at (the_mark p.mark) s → after ≡ take p.steps steps → all ≡ take p.goals goals → IsSamePoint p q → IsExploring P m base d s steps goals (points ++ p ∷ []) later begun used left → q.steps ≡ length after
 steps-here P m base d s t steps after goals all points p q later begun used left es ea eb same h =
     let b = back-at P m base d s t steps after goals all points p later begun used left h es ea eb in
-    same.steps ∙ sym (length-take p.steps after b.point.steps_within) ∙ ap length b.whole_steps
+    same.steps ∙ sym (take-length p.steps after b.point.steps_within) ∙ ap length b.whole_steps
 
 reverse-pushed : (n : ℕ) (q : Point) (points after : List Point) → IsPushed n q points after → reverse after ≡ seeing n q ∷ reverse points
 reverse-pushed n q points after e = ap reverse e ∙ reverse-append points (seeing n q ∷ [])
@@ -271,7 +268,7 @@ trying-refused P m base d s t steps goals tree points after q later begun used l
     c = h.choices ++ the_move m choice ∷ []
 
     dropped : IsRuledOut P d c ahead → IsSearch P d h.searched.spent (h.pending ++ later) left
-    dropped (inl dead) = search-dead P d h.searched.spent c (h.pending ++ later) left h.searched.search (not-empty h.choices (the_move m choice)) dead
+    dropped (inl dead) = search-dead P d h.searched.spent c (h.pending ++ later) left h.searched.search (not-empty-behind h.choices (the_move m choice)) dead
     dropped (inr (looked, pruned)) = drop-known P d h.searched.spent c (h.pending ++ later) left (looked-left ahead d left looks looked) pruned h.searched.search
 
     n : ℕ
@@ -281,18 +278,18 @@ trying-refused P m base d s t steps goals tree points after q later begun used l
     seen = stack-seeing P m base d t.store tree.steps.items tree.goals.items (c ∷ []) n q (reverse points) h.pending (stack-kept P m base d s t.store steps tree.steps.items goals tree.goals.items (c ∷ []) (q ∷ reverse points) h.pending marks kept h.points)
 
     by : IsGivenUp P m base d c (length goals) t tree → IsStack P m base d t.store tree.steps.items tree.goals.items [] (seeing n q ∷ reverse points) h.pending
-    by (inl none) = stack-refused P m base d t.store tree.steps.items tree.goals.items c (seeing n q ∷ reverse points) h.pending (not-empty h.choices (the_move m choice)) none seen
+    by (inl none) = stack-refused P m base d t.store tree.steps.items tree.goals.items c (seeing n q ∷ reverse points) h.pending (not-empty-behind h.choices (the_move m choice)) none seen
     by (inr (inr none)) = stack-fruitless P m base d t.store tree.steps.items tree.goals.items c (length goals) (seeing n q ∷ reverse points) h.pending none (points-goals P m base d s steps goals (q ∷ reverse points) h.pending h.points.are) seen
     by (inr (inl (stands, lost))) =
         let made = steps-at P m base d s t.store steps tree.steps.items goals tree.goals.items tree.open q.goal q.steps h.at_goal h.choices (the_move m choice) h.at count stands in
-        stack-lost P m base d t.store tree.steps.items tree.goals.items c (length goals) tree.open (seeing n q ∷ reverse points) h.pending (not-empty h.choices (the_move m choice)) lost (points-goals P m base d s steps goals (q ∷ reverse points) h.pending h.points.are) (seen-made q.steps (length tree.steps.items) tree.open q (reverse points) made) seen
+        stack-lost P m base d t.store tree.steps.items tree.goals.items c (length goals) tree.open (seeing n q ∷ reverse points) h.pending (not-empty-behind h.choices (the_move m choice)) lost (points-goals P m base d s steps goals (q ∷ reverse points) h.pending h.points.are) (seen-made q.steps (length tree.steps.items) tree.open q (reverse points) made) seen
 
 -- it was made
 pub trying-made : (P : Problem) (m : List MatrixClause) (base d : ℕ) (s t : Store) (steps after : List Step) (goals all : List Goal) (first : Option ℕ) (points pushed : List Point) (q : Point) (later : List (List Choice)) (begun used : ℕ) (left : Bool) (choice : Move) → (h : IsTrying P m base d s steps goals (q ∷ reverse points) later begun used left q.goal choice) → KeepsMarks s t → KeepsTree steps goals after all → StandsFor P m base d (h.choices ++ the_move m choice ∷ []) t after all first → q.steps ≡ length steps → IsPushed (seen_after q.steps (length after) first) q points pushed → IsVisiting P m base d t after all first pushed later begun used left
 trying-made P m base d s t steps after goals all first points pushed q later begun used left choice h marks kept stands count is = record {
   choices = h.choices ++ the_move m choice ∷ [];
   stands = stands;
-  not_empty = not-empty h.choices (the_move m choice);
+  not_empty = not-empty-behind h.choices (the_move m choice);
   pending = h.pending;
   points = subst (λ ps. IsStack P m base d t after all ((h.choices ++ the_move m choice ∷ []) ∷ []) ps h.pending) (sym number)
       (stack-seeing P m base d t after all ((h.choices ++ the_move m choice ∷ []) ∷ []) (seen_after q.steps (length after) first) q (reverse points) h.pending (stack-kept P m base d s t steps after goals all ((h.choices ++ the_move m choice ∷ []) ∷ []) (q ∷ reverse points) h.pending marks kept h.points));

@@ -152,7 +152,3 @@ none-left taken old new budget after h l t e k =
 
 pub later-limit : (d : ℕ) → d ≤ 200 → d ≤ 201
 later-limit d l = omega (arith, l)
-
-pub empty-list : {A : Type 0} (xs : List A) → length xs ≡ 0 → xs ≡ []
-empty-list [] e = refl
-empty-list (x ∷ xs) e = absurd (omega (arith, e))

@@ -3,7 +3,7 @@
 use Rattle.std.proofs.Common.{◌≡◌, ◌⊎◌, ◌↔◌, ℕ, ◌<◌, ◌≤◌, List, [], ◌∷◌, ◌++◌, length, take, drop, true, false, ◌&&◌, IsTrue, Contains, Option, Some, None, option_and_then, refl, sym, ◌∙◌, ap, subst, inl, inr, slice_get, arith, append_assoc, append-nil, take-append-drop}
 use Rattle.std.specs.Option.{option_map_or}
 use Rattle.std.proofs.lemmas.Bool.{false≢true, and_parts, cases_eq}
-use Rattle.calculus.proofs.WalkLaws.{none_some}
+use Rattle.plain_laws.proofs.Options.{none_some}
 use Rattle.calculus.specs.declared.setting.Logic.{Logic}
 use Rattle.calculus.specs.declared.kind.Shape.{Shape}
 use Rattle.calculus.specs.declared.kind.Shape.TheVariants.{Gamma}

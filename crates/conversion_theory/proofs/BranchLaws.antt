@@ -1,8 +1,9 @@
 -- Branches of a conversion: the turns that are done have left their results, each name is known by a turn that is done, and the next turn
 -- keeps this.
-use Rattle.std.proofs.Common.{◌≡◌, ◌⊎◌, ℕ, zero, suc, List, [], ◌∷◌, ◌++◌, length, true, false, IsTrue, Some, refl, sym, ◌∙◌, ap, subst, inl, inr, slice_get, arith, append_assoc, length-append}
+use Rattle.std.proofs.Common.{◌≡◌, ◌⊎◌, ℕ, suc, List, [], ◌∷◌, ◌++◌, length, true, false, IsTrue, Some, refl, sym, ◌∙◌, ap, subst, inl, inr, slice_get, arith, append_assoc, length-append}
 use Rattle.std.specs.List.{AllByRecursion}
 use Rattle.std.proofs.lemmas.Option.{slice_get_within}
+use Rattle.plain_laws.proofs.Places.{get-front}
 use Rattle.calculus.specs.declared.sign.Sign.{Sign}
 use Rattle.calculus.specs.declared.sign.Sign.TheVariants.{T, F}
 use Rattle.calculus.specs.declared.setting.Logic.{Logic}
@@ -25,7 +26,6 @@ use Rattle.conversion_theory.proofs.AgendaLaws.{TurnOf, Anything, own-values, mo
 use Rattle.conversion_theory.proofs.NumberedLaws.{MarksIn, IsKnownTerm, marks-in-more, known-list-more}
 use Rattle.calculus.proofs.SpotLaws.{is_gamma}
 use Rattle.conversion_theory.proofs.ExpandLaws.{IsExpanded, expanded-literal, expanded-only, expanded-pair, expanded-either}
-use Rattle.calculus.proofs.WalkLaws.{none_some}
 use Rattle.conversion_theory.proofs.WorkLaws.{work-from, past-same, child-parent}
 
 -- ---- what stands on a branch
@@ -166,11 +166,6 @@ held-expanded l items c d s f x h m =
     held-here l items d s f x (subst (λ (e : Spot). Held l items e.label e.env s f) (sym same) h)
 
 -- ---- places in the agenda
-
-get-front : {A : Type 0} (xs ys : List A) (i : ℕ) (x : A) → slice_get xs i ≡ Some x → slice_get (xs ++ ys) i ≡ Some x
-get-front [] ys i x e = absurd (none_some e)
-get-front (z ∷ xs) ys zero x e = e
-get-front (z ∷ xs) ys (suc i) x e = get-front xs ys i x e
 
 get-end : {A : Type 0} (xs ys : List A) (x : A) → slice_get (xs ++ x ∷ ys) (length xs) ≡ Some x
 get-end [] ys x = refl

@@ -1,6 +1,7 @@
 -- What expands a signed formula, shape by shape.
 use Rattle.std.proofs.Common.{◌≡◌, ◌⊎◌, ℕ, suc, List, [], ◌∷◌, ◌++◌, Bool, true, false, IsTrue, refl, sym, ◌∙◌, ap, subst, inl, inr}
 use Rattle.std.proofs.lemmas.Bool.{false≢true, and_parts}
+use Rattle.conversion_theory.proofs.PlaceLaws.{only-is, two-are, two≢one}
 use Rattle.calculus.specs.declared.sign.Sign.{Sign}
 use Rattle.calculus.specs.declared.sign.Sign.TheVariants.{T, F}
 use Rattle.calculus.specs.declared.setting.Logic.{Logic}
@@ -33,16 +34,7 @@ pub record IsExpanded (l : Logic) (d : Spot) (s : Sign) (f : Formula) (x : Turn)
   pub gamma : (a : Signed) (t : GroundTerm) → shape_of s f ≡ Gamma → components s f ≡ a ∷ [] → x.values ≡ d.taken ++ term t ∷ [] → Has (spot_inside t (d.taken ++ term t ∷ []) d) a.sign a.formula
   pub delta : (a : Signed) → shape_of s f ≡ Delta → components s f ≡ a ∷ [] → Has (spot_inside (g_eigen d.position (values_tree d.taken)) d.taken d) a.sign a.formula
 
-only-is : {x y : Signed} → x ∷ [] ≡ y ∷ [] → x ≡ y
-only-is {x} {y} e = cc
-
-two-are : {x y a b : Signed} → x ∷ y ∷ [] ≡ a ∷ b ∷ [] → (x ≡ a) × (y ≡ b)
-two-are {x} {y} {a} {b} e = (cc, cc)
-
-two≢one : {x a b : Signed} → a ∷ b ∷ [] ≡ x ∷ [] → ⊥
-two≢one e = one≢two (sym e)
-
-values_last : (xs : List Value) (t u : GroundTerm) → xs ++ term t ∷ [] ≡ xs ++ term u ∷ [] → t ≡ u
+pub values_last : (xs : List Value) (t u : GroundTerm) → xs ++ term t ∷ [] ≡ xs ++ term u ∷ [] → t ≡ u
 values_last [] t u e = cc
 values_last (x ∷ xs) t u e = values_last xs t u (let tail : xs ++ term t ∷ [] ≡ xs ++ term u ∷ [] = cc in tail)
 

@@ -1,7 +1,8 @@
 -- What the next turn introduces stands nowhere on its branch.
-use Rattle.std.proofs.Common.{◌≡◌, ◌⊎◌, ℕ, zero, suc, ◌+◌, ◌-◌, ◌<◌, ◌≤◌, List, [], ◌∷◌, length, Bool, true, false, not, ◌==◌, IsTrue, refl, sym, ◌∙◌, ap, subst, inl, inr, arith, slice_index_or, ltb-true}
+use Rattle.std.proofs.Common.{◌≡◌, ℕ, zero, suc, ◌+◌, ◌-◌, ◌<◌, List, [], ◌∷◌, length, Bool, true, false, not, ◌==◌, IsTrue, refl, sym, ◌∙◌, ap, subst, inl, inr, arith, slice_index_or, ltb-true}
 use Rattle.std.specs.List.{AllByRecursion}
 use Rattle.std.proofs.lemmas.Bool.{false≢true, and_parts, not-true}
+use Rattle.plain_laws.proofs.Numbers.{order}
 use Rattle.calculus.specs.declared.setting.Logic.{Logic}
 use Rattle.calculus.specs.Syntax.{Symbol, Term, Terms, var, fun, eigen, spare, no_terms, more_terms, Formula, atom, neg, conj, disj, imp, all, ex, box, dia, Problem}
 use Rattle.calculus.specs.Ground.{GroundTerm, GroundTerms, GroundMark, g_fun, g_eigen, common, own, no_g_terms, more_g_terms, g_new_mark, marks_list, values_list, values_tree}
@@ -63,9 +64,6 @@ index-fails : (test : Term → Bool) (num : Name → ℕ) (env : List GroundTerm
 index-fails test num [] h k lt = absurd (omega arith)
 index-fails test num (u ∷ us) h zero lt = h.0
 index-fails test num (u ∷ us) h (suc k) lt = index-fails test num us h.1 k (omega arith)
-
-order : (m n : ℕ) → (m < n) ⊎ (n ≤ m)
-order m n = grind arith
 
 module _ (test : Term → Bool) (var_fails : (k : ℕ) → test (var k) ≡ false) (num : Name → ℕ) (symbols : List Symbol) where
   variable-fails : (d n : ℕ) (env : List GroundTerm) → Fails test num env → n ≡ d + length env → (k : ℕ) → k < n → any_leaf test (variable_by num d env k) ≡ false

@@ -2,6 +2,7 @@
 -- result there: a literal, the components of an alpha formula, one component of a beta formula, the component of a quantifier.
 use Rattle.std.proofs.Common.{◌≡◌, ◌⊎◌, ℕ, suc, List, [], ◌∷◌, ◌++◌, IsTrue, inl, inr}
 use Rattle.std.specs.List.{AllByRecursion}
+use Rattle.plain_laws.proofs.Every.{each-parts}
 use Rattle.calculus.specs.declared.sign.Sign.{Sign}
 use Rattle.calculus.specs.declared.setting.Logic.{Logic}
 use Rattle.calculus.specs.declared.kind.Shape.TheVariants.{Alpha, Beta, Gamma, Delta}
@@ -13,7 +14,7 @@ use Rattle.calculus.specs.Kinds.{Signed, shape_of, modal_of, components}
 use Rattle.calculus.specs.Labels.{steps_to, nu_label}
 use Rattle.calculus.specs.Positions.{size}
 use Rattle.calculus.specs.Instances.{grounds_of, Spot, down_by, spot_inside, after_string, after_character, Turn, Share, Gives, Shaped, by_plain, by_nu, by_pi, is_literal, by_only, by_left, by_right, by_both, by_gamma, by_delta}
-use Rattle.calculus.proofs.WalkLaws.{SomeIn, AllByRecursion-append}
+use Rattle.calculus.proofs.WalkLaws.{SomeIn}
 
 -- the modal part of a signed formula leads from one spot to another
 pub data Moves (l : Logic) (s : Sign) (f : Formula) : Spot → Spot → Type 0 where
@@ -60,7 +61,7 @@ mutual
   hit_shaped l Done Has Holds k c d s f x (by_left {x = y} {a = a} {b = b} e q g) t h m = hit l Done Has Holds k (down_by 1 d) a.sign a.formula y g t.1 (k.left c d s f a b e q h m t.0)
   hit_shaped l Done Has Holds k c d s f x (by_right {x = y} {a = a} {b = b} e q g) t h m = hit l Done Has Holds k (down_by (suc (size a.formula)) d) b.sign b.formula y g t.1 (k.right c d s f a b e q h m t.0)
   hit_shaped l Done Has Holds k c d s f x (by_both {x = y} {y = z} {a = a} {b = b} e q g j) t h m =
-      let each = AllByRecursion-append Done y.turns z.turns t.1 in
+      let each = each-parts Done y.turns z.turns t.1 in
       elim (k.either c d s f a b e q h m t.0) [
         | inl first ↦ SomeIn-left Holds y.literals z.literals (hit l Done Has Holds k (down_by 1 d) a.sign a.formula y g each.0 first)
         | inr second ↦ SomeIn-right Holds y.literals z.literals (hit l Done Has Holds k (down_by (suc (size a.formula)) d) b.sign b.formula z j each.1 second)

@@ -1,6 +1,7 @@
 -- What stands on a branch that a tableau leads: the task of the branch, and what each turn that is done there has left.
 use Rattle.std.proofs.Common.{◌≡◌, ◌⊎◌, ℕ, ◌+◌, ◌≤◌, ◌<◌, arith, List, [], ◌∷◌, ◌++◌, length, None, refl, sym, ◌∙◌, ap, subst, inl, inr}
 use Rattle.std.specs.List.{AllByRecursion}
+use Rattle.plain_laws.proofs.Options.{none_some}
 use Rattle.calculus.specs.declared.sign.Sign.{Sign}
 use Rattle.calculus.specs.Syntax.{Formula, Problem}
 use Rattle.calculus.specs.Ground.{Value, GroundLiteral}
@@ -18,7 +19,6 @@ use Rattle.conversion_theory.proofs.BranchLaws.{Has, Holding, IsReady, IsComplet
 use Rattle.conversion_theory.proofs.RunLaws.{Branch, WorksOn}
 use Rattle.conversion_theory.proofs.TaskLaws.{AreEnds}
 use Rattle.conversion_theory.proofs.FollowLaws.{AreMade, IsBelowOf, below, Next, lands, goes, forks, Opened, opened}
-use Rattle.calculus.proofs.WalkLaws.{none_some}
 
 -- ---- turns that can come next
 

@@ -2,6 +2,7 @@
 use Rattle.std.proofs.Common.{◌≡◌, ◌⊎◌, ◌↔◌, ℕ, suc, ◌+◌, ◌<◌, ◌≤◌, List, [], ◌∷◌, ◌++◌, length, flat_map, Contains, Option, Some, None, unwrap_or, refl, sym, ◌∙◌, ap, subst, inl, inr, slice_get, arith}
 use Rattle.std.proofs.lemmas.Bool.{false≢true, cases_eq, cases_Bool}
 use Rattle.std.proofs.lemmas.Option.{slice_get_within}
+use Rattle.plain_laws.proofs.Options.{none_some}
 use Rattle.calculus.specs.Syntax.{Problem}
 use Rattle.calculus.specs.Ground.{GroundTerm, GroundTerms, GroundMark, Marks, Value, Values, g_fun, g_eigen, common, own, no_g_terms, more_g_terms, g_new_mark, g_spare_mark, no_marks, more_marks, term, steps, no_values, more_values, values_list, values_tree}
 use Rattle.calculus.specs.Skolem.{label_of}
@@ -12,7 +13,6 @@ use Rattle.conversion_theory.specs.Numbering.{name_eq, names_inside, IsNumbering
 use Rattle.calculus.proofs.EqualityLaws.{Tells, ground_eq-tells, mark_eq-tells}
 use Rattle.calculus.proofs.Members.{Among, among-at, contains-at, at-contains, among-contains, contains-among, among-left, among-right, among-append, among-joined, joined-among}
 use Rattle.conversion_theory.proofs.NameLaws.{inner_size, below-values, below-marks, introduced-cases}
-use Rattle.calculus.proofs.WalkLaws.{none_some}
 
 -- ---- the test of equality
 
@@ -82,7 +82,7 @@ pub whole-mentioned : (P : Problem) (x : Turn) → IsWhole (names_mentioned P x)
 whole-mentioned P x = whole-append (flat_map names_of_value x.values) (flat_map (names_of_home P) (flat_map names_of_value x.values)) (whole-joined names_of_value x.values (λ v i. whole-value v)) (whole-joined (names_of_home P) (flat_map names_of_value x.values) (λ n i. whole-home P n))
 
 -- the names inside of those that a turn introduces are mentioned
-names-of-tree : (vs : List Value) → names_of_values (values_tree vs) ≡ flat_map names_of_value vs
+pub names-of-tree : (vs : List Value) → names_of_values (values_tree vs) ≡ flat_map names_of_value vs
 names-of-tree [] = refl
 names-of-tree (v ∷ vs) = ap (λ ns. names_of_value v ++ ns) (names-of-tree vs)
 

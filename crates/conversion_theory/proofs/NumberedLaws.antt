@@ -1,8 +1,9 @@
 -- Numbers tell the names of a tableau apart: so labels, homes and the terms that are allowed are the same over numbers as over trees.
-use Rattle.std.proofs.Common.{◌≡◌, ℕ, ◌+◌, List, [], ◌∷◌, ◌++◌, length, Bool, true, false, not, ◌&&◌, ◌==◌, nat_le, find, IsTrue, Option, Some, refl, sym, ◌∙◌, ap, inl, inr}
+use Rattle.std.proofs.Common.{◌≡◌, ℕ, ◌+◌, List, [], ◌∷◌, ◌++◌, length, Bool, true, false, not, ◌&&◌, ◌==◌, nat_le, find, Option, Some, refl, sym, ◌∙◌, ap, inl, inr}
 use Rattle.std.specs.List.{AllByRecursion}
 use Rattle.std.proofs.lemmas.List.{length-map}
 use Rattle.std.proofs.lemmas.Bool.{false≢true, and_parts}
+use Rattle.plain_laws.proofs.Booleans.{same-tests}
 use Rattle.calculus.specs.declared.setting.Logic.{Logic}
 use Rattle.calculus.specs.declared.setting.Logic.TheVariants.{Classical, Intuitionistic, D, T as LogicT, S4, S5}
 use Rattle.calculus.specs.declared.setting.Domains.{Domains}
@@ -28,12 +29,6 @@ TellsApart S num = (a b : Name) → S a → S b → num a ≡ num b → a ≡ b
 abbrev pub MarksIn : (Name → Type 0) → List GroundMark → Type 0
 MarksIn S w = AllByRecursion (λ (m : GroundMark). S (mark_name m)) w
 
-same_tests : (a b : Bool) → (IsTrue a → IsTrue b) → (IsTrue b → IsTrue a) → a ≡ b
-same_tests true true f g = refl
-same_tests true false f g = sym (f refl)
-same_tests false true f g = g refl
-same_tests false false f g = refl
-
 module _ (S : Name → Type 0) (num : Name → ℕ) (apart : TellsApart S num) where
   pub numbered_mark-apart : (m k : GroundMark) → S (mark_name m) → S (mark_name k) → numbered_mark num m ≡ numbered_mark num k → m ≡ k
   numbered_mark-apart (g_new_mark p vs) (g_new_mark q us) h g e = let n : num (mark_name (g_new_mark p vs)) ≡ num (mark_name (g_new_mark q us)) = cc in let same = apart (mark_name (g_new_mark p vs)) (mark_name (g_new_mark q us)) h g n in cc
@@ -43,7 +38,7 @@ module _ (S : Name → Type 0) (num : Name → ℕ) (apart : TellsApart S num) w
 
   -- the test of equality says the same
   pub character_eq-numbered : (m k : GroundMark) → S (mark_name m) → S (mark_name k) → character_eq (numbered_mark num m) (numbered_mark num k) ≡ mark_eq m k
-  character_eq-numbered m k h g = same_tests (character_eq (numbered_mark num m) (numbered_mark num k)) (mark_eq m k)
+  character_eq-numbered m k h g = same-tests (character_eq (numbered_mark num m) (numbered_mark num k)) (mark_eq m k)
       (λ e. (mark_eq-tells m k).1 (numbered_mark-apart m k h g ((character_eq-tells (numbered_mark num m) (numbered_mark num k)).0 e)))
       (λ e. (character_eq-tells (numbered_mark num m) (numbered_mark num k)).1 (ap (numbered_mark num) ((mark_eq-tells m k).0 e)))
 

@@ -44,7 +44,7 @@ env-append : (l : Logic) (ns : List Node) (n : Node) (r k m : Reached) (env : Li
 env-append l [] n r k m env e p = let q : after_node l n r ≡ Some m = rw e p in rw q refl
 env-append l (x ∷ ns) n r k m env f p = rw f.1 (env-append l ns n f.0 k m (env_past (shape_of x.sign x.formula) x.position f.0 env) f.3 p)
 
-last_term-push : (vs : List Value) (t : GroundTerm) → last_term (vs ++ term t ∷ []) ≡ t
+pub last_term-push : (vs : List Value) (t : GroundTerm) → last_term (vs ++ term t ∷ []) ≡ t
 last_term-push [] t = refl
 last_term-push (v ∷ []) t = refl
 last_term-push (v ∷ u ∷ vs) t = last_term-push (u ∷ vs) t
@@ -114,13 +114,13 @@ gamma-stood P before d s f h e t g down = record {
 down-by : (p : ℕ) (s : Sign) (f : Formula) (k : ℕ) (x y : Signed) → x ≡ y → WayDown p s f k x.sign x.formula → WayDown p s f k y.sign y.formula
 down-by p s f k x y e h = subst (λ (z : Signed). WayDown p s f k z.sign z.formula) e h
 
-only-is : {x y : Signed} → x ∷ [] ≡ y ∷ [] → x ≡ y
+pub only-is : {x y : Signed} → x ∷ [] ≡ y ∷ [] → x ≡ y
 only-is {x} {y} e = cc
 
-two-are : {x y a b : Signed} → x ∷ y ∷ [] ≡ a ∷ b ∷ [] → (x ≡ a) × (y ≡ b)
+pub two-are : {x y a b : Signed} → x ∷ y ∷ [] ≡ a ∷ b ∷ [] → (x ≡ a) × (y ≡ b)
 two-are {x} {y} {a} {b} e = (cc, cc)
 
-two≢one : {x a b : Signed} → a ∷ b ∷ [] ≡ x ∷ [] → ⊥
+pub two≢one : {x a b : Signed} → a ∷ b ∷ [] ≡ x ∷ [] → ⊥
 two≢one e = one≢two (sym e)
 
 -- the only component of a formula that is no literal

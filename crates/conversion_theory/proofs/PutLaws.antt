@@ -1,9 +1,7 @@
 -- Putting terms for variables: the entry of a component is the component of the entry.
-use Rattle.std.proofs.Common.{◌≡◌, ◌⊎◌, ℕ, suc, ◌+◌, ◌-◌, ◌<◌, ◌≤◌, List, [], ◌∷◌, map, IsTrue, refl, sym, ◌∙◌, ap, inl, inr, arith, slice_index_or, lt-ltb, le-ltb, ltb-true}
+use Rattle.std.proofs.Common.{◌≡◌, ℕ, suc, ◌+◌, ◌-◌, ◌<◌, List, [], ◌∷◌, map, IsTrue, refl, sym, ◌∙◌, ap, inl, inr, arith, slice_index_or, lt-ltb, le-ltb, ltb-true}
 use Rattle.std.proofs.lemmas.Bool.{false≢true, cases_eq, and_parts}
-use Rattle.std.specs.Cmp.{nat_cmp_is}
-use Rattle.std.specs.Ordering.{nat_cmp}
-use Rattle.std.specs.declared.cmp.Ordering.TheVariants.{Less, Equal}
+use Rattle.plain_laws.proofs.Numbers.{cmp-equal, cmp-less, order}
 use Rattle.calculus.specs.declared.sign.Sign.{Sign}
 use Rattle.calculus.specs.declared.sign.Sign.TheVariants.{T, F}
 use Rattle.calculus.specs.declared.setting.Logic.{Logic}
@@ -80,12 +78,6 @@ mutual
 
 -- ---- one more term
 
-cmp-less : (k d : ℕ) → k < d → nat_cmp k d ≡ Less
-cmp-less k d h = sym (nat_cmp_is k d Less h)
-
-cmp-equal : (k d : ℕ) → k ≡ d → nat_cmp k d ≡ Equal
-cmp-equal k d h = sym (nat_cmp_is k d Equal h)
-
 -- a variable that is free further out is that of the terms
 pub bound : (num : Name → ℕ) (d k : ℕ) (env : List GroundTerm) → k < d → variable_by num d env k ≡ var k
 bound num d k env h = rw (lt-ltb k d h) refl
@@ -94,9 +86,6 @@ pub free : (num : Name → ℕ) (d k j : ℕ) (env : List GroundTerm) → k ≡ 
 free num d k j env h =
     let at : k - d ≡ j = omega arith in
     rw (le-ltb k d (omega arith), at) refl
-
-order : (m n : ℕ) → (m < n) ⊎ (n ≤ m)
-order m n = grind arith
 
 put-variable : (num : Name → ℕ) (t : GroundTerm) (d : ℕ) (env : List GroundTerm) (k : ℕ) → term_with (numbered_term num t) d (variable_by num (suc d) env k) ≡ variable_by num d (t ∷ env) k
 put-variable num t d env k = elim (order k d) [

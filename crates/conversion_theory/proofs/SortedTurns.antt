@@ -1,7 +1,7 @@
 -- Turns that a sort has put in order: by the size of their values, or by their depth and number, and then by their position.
 use Rattle.std.proofs.Common.{◌≡◌, ◌⊎◌, ℕ, zero, suc, ◌<◌, ◌≤◌, List, [], ◌∷◌, Some, length, sym, subst, inl, inr, slice_get, arith}
+use Rattle.plain_laws.proofs.Options.{none_some, some_injective}
 use Rattle.calculus.specs.Instances.{Turn}
-use Rattle.calculus.proofs.WalkLaws.{none_some, some_injective}
 use Rattle.conversion_theory.specs.Depths.{value_list_depth}
 use Rattle.conversion_theory.proofs.AgendaLaws.{InOrderBy}
 use Rattle.conversion_theory.proofs.DepthAgenda.{ComesShorter, ComesLessDeep, IsInDepthOrder, not-less_deep_itself}

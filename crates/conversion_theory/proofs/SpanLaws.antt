@@ -16,15 +16,9 @@ use Rattle.calculus.proofs.Members.{Among, among-append}
 use Rattle.calculus.proofs.CasesLaws.{one≢two}
 use Rattle.calculus.proofs.SpotLaws.{last_node-append}
 use Rattle.conversion_theory.proofs.HitLaws.{Moves, plain, by_string, by_character}
-use Rattle.conversion_theory.proofs.PlaceLaws.{Stood, turned, at_logic, moves-position, only-stood, first-stood, second-stood, inside-gamma-stood, inside-delta-stood}
+use Rattle.conversion_theory.proofs.PlaceLaws.{Stood, turned, at_logic, moves-position, only-stood, first-stood, second-stood, inside-gamma-stood, inside-delta-stood, only-is, two-are}
 use Rattle.conversion_theory.proofs.AgendaLaws.{stood-way}
 use Rattle.calculus.proofs.PositionLaws.{size-pos}
-
-only-is : {x y : Signed} → x ∷ [] ≡ y ∷ [] → x ≡ y
-only-is {x} {y} e = cc
-
-two-are : {x y a b : Signed} → x ∷ y ∷ [] ≡ a ∷ b ∷ [] → (x ≡ a) × (y ≡ b)
-two-are {x} {y} {a} {b} e = (cc, cc)
 
 -- a component and the positions of the whole
 pub size-only : (s : Sign) (f : Formula) (a : Signed) → components s f ≡ a ∷ [] → (shape_of s f ≡ Literal → ⊥) → size f ≡ suc (size a.formula)

@@ -7,9 +7,10 @@ use Rattle.calculus.specs.Derivations.{Step, apply_to, close, axiom_count}
 use Rattle.calculus.specs.Tableaux.{Closing, Closings, reduce, extend, no_closings, more_closings, Tableau, instances, instances_below, instances_of_all, are_complementary, is_complement, closes, closes_all}
 use Rattle.conversion_theory.specs.Turns.{closing_count, closings_count}
 use Rattle.conversion_theory.specs.Leading.{End, meets_path, by_closing, ends_of, ends_at, ends_cost, closings_weight, ends_weight}
-use Rattle.calculus.proofs.WalkLaws.{SomeIn, AllByRecursion-append}
+use Rattle.calculus.proofs.WalkLaws.{SomeIn}
 use Rattle.calculus.proofs.Members.{Among}
 use Rattle.std.specs.List.{AllByRecursion}
+use Rattle.plain_laws.proofs.Every.{each-parts}
 
 -- a literal of the path is complementary to the literal, or the closing closes it below the path
 abbrev pub IsEnd : Problem → Tableau → ℕ → List GroundLiteral → GroundLiteral → End → Type 0
@@ -27,13 +28,13 @@ pub ends-start : (P : Problem) (t : Tableau) (d : ℕ) (path goals : List Ground
 ends-start P t d path [] no_closings h inside = tt
 ends-start P t d path (x ∷ xs) no_closings h inside = absurd (false≢true h)
 ends-start P t d path [] (more_closings c cs) h inside = absurd (false≢true h)
-ends-start P t d path (x ∷ xs) (more_closings c cs) h inside = let p = and_parts (closes P d path x c) (closes_all P d path xs cs) h in let q = AllByRecursion-append (Among (instances t)) (instances_below c) (instances_of_all cs) inside in ((p.0, q.0), ends-start P t d path xs cs p.1 q.1)
+ends-start P t d path (x ∷ xs) (more_closings c cs) h inside = let p = and_parts (closes P d path x c) (closes_all P d path xs cs) h in let q = each-parts (Among (instances t)) (instances_below c) (instances_of_all cs) inside in ((p.0, q.0), ends-start P t d path xs cs p.1 q.1)
 
 pub ends-extension : (P : Problem) (t : Tableau) (d : ℕ) (path : List GroundLiteral) (goal : GroundLiteral) (literals : List GroundLiteral) (place : ℕ) (below : Closings) → IsTrue (is_complement goal (slice_get literals place)) → IsTrue (closes_all P d (goal ∷ path) (remove literals place) below) → AllByRecursion (Among (instances t)) (instances_of_all below) → AreEnds P t d (goal ∷ path) literals (ends_at place below)
 ends-extension P t d path goal [] place below e h inside = absurd (false≢true e)
 ends-extension P t d path goal (x ∷ xs) zero below e h inside = (inl e, ends-start P t d (goal ∷ path) xs below h inside)
 ends-extension P t d path goal (x ∷ xs) (suc k) no_closings e h inside = absurd (false≢true h)
-ends-extension P t d path goal (x ∷ xs) (suc k) (more_closings c cs) e h inside = let p = and_parts (closes P d (goal ∷ path) x c) (closes_all P d (goal ∷ path) (remove xs k) cs) h in let q = AllByRecursion-append (Among (instances t)) (instances_below c) (instances_of_all cs) inside in ((p.0, q.0), ends-extension P t d path goal xs k cs e p.1 q.1)
+ends-extension P t d path goal (x ∷ xs) (suc k) (more_closings c cs) e h inside = let p = and_parts (closes P d (goal ∷ path) x c) (closes_all P d (goal ∷ path) (remove xs k) cs) h in let q = each-parts (Among (instances t)) (instances_below c) (instances_of_all cs) inside in ((p.0, q.0), ends-extension P t d path goal xs k cs e p.1 q.1)
 
 -- the ends of two parts
 pub ends-split : (P : Problem) (t : Tableau) (d : ℕ) (path xs ys : List GroundLiteral) (es : List End) → AreEnds P t d path (xs ++ ys) es → AreEnds P t d path xs (take (length xs) es) × AreEnds P t d path ys (drop (length xs) es)

@@ -26,7 +26,7 @@ use Rattle.calculus.specs.DerivationText.{is_name_number, mark_is_written, label
 use Rattle.conversion_theory.specs.Numbering.{IsNumbering, names_inside, number_of, numbered_mark, numbered_label, numbered_term, numbered_terms, eigen_names, spare_names, name_lines_of}
 use Rattle.calculus.proofs.Members.{Among, among-left, among-right, among-append, among-joined, joined-among, among-contains, contains-among, all-among}
 use Rattle.conversion_theory.proofs.NameLaws.{introduced-cases}
-use Rattle.conversion_theory.proofs.NumberLaws.{IsWhole, names_of_turn, number_in-known, number_in-positive, number_in-once, whole-mark, whole-value, whole-joined, whole-tableau}
+use Rattle.conversion_theory.proofs.NumberLaws.{IsWhole, names_of_turn, number_in-known, number_in-positive, number_in-once, whole-mark, whole-value, whole-joined, whole-tableau, names-of-tree}
 use Rattle.conversion_theory.proofs.NumberedLaws.{MarksIn, IsKnownTerm, AreKnownTerms, marks-of-string, name-of-mark}
 use Rattle.conversion_theory.proofs.HitLaws.{Moves, plain, by_string, by_character}
 use Rattle.conversion_theory.proofs.AgendaLaws.{TurnOf}
@@ -104,10 +104,6 @@ inside-string : (w : Marks) → Inside (names_of_marks w) (marks_list w)
 inside-string no_marks m i n j = elim i [ ]
 inside-string (more_marks x ms) m (inl e) n j = among-left (names_of_mark x) (names_of_marks ms) n (subst (λ y. Among (names_of_mark y) n) (sym e) (whole-mark m (mark_name m) (name-of-mark m) n j))
 inside-string (more_marks x ms) m (inr i) n j = among-right (names_of_mark x) (names_of_marks ms) n (inside-string ms m i n j)
-
-names-of-tree : (vs : List Value) → names_of_values (values_tree vs) ≡ flat_map names_of_value vs
-names-of-tree [] = refl
-names-of-tree (v ∷ vs) = ap (λ ns. names_of_value v ++ ns) (names-of-tree vs)
 
 record Holds (vs : List Value) (r : Reached) : Type 0 where
   pub values : r.taken ++ r.rest ≡ vs

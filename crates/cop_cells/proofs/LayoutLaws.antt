@@ -1,5 +1,6 @@
 -- The table of pages and the blocks that they lie in.
 use Rattle.std.proofs.Common.{◌≡◌, ℕ, zero, suc, ◌+◌, ◌-◌, ◌*◌, ◌<◌, List, [], ◌∷◌, ◌++◌, length, set, get_or, take, replicate, refl, sym, ap, ◌∙◌, arith, append-nil, append_assoc, length-append, take_at}
+use Rattle.plain_laws.proofs.Lists.{same-last}
 use denote.RawPtr.{Ptr}
 use Rattle.cop_cells.specs.Layout.{Placed, cells_of, spots_of, blank_page, blank_pages, spots, laid}
 
@@ -17,17 +18,6 @@ laid-more (c ∷ bs) b = ap (λ r. spots c.0 c.1 ++ r) (laid-more bs b) ∙ sym 
 same-more : {X : Type 0} (x : X) (n : ℕ) → replicate n x ++ x ∷ [] ≡ replicate (suc n) x
 same-more x zero = refl
 same-more x (suc n) = ap (λ r. x ∷ r) (same-more x n)
-
--- the last item of two lists
-pub same-last : {X : Type 0} (xs ys : List X) (x y : X) → xs ++ x ∷ [] ≡ ys ++ y ∷ [] → (xs ≡ ys) × (x ≡ y)
-same-last [] [] x y e = (refl, cc)
-same-last [] (b ∷ []) x y e = absurd (omega (arith, ap length e))
-same-last [] (b ∷ c ∷ ys) x y e = absurd (omega (arith, ap length e))
-same-last (a ∷ []) [] x y e = absurd (omega (arith, ap length e))
-same-last (a ∷ c ∷ xs) [] x y e = absurd (omega (arith, ap length e))
-same-last (a ∷ xs) (b ∷ ys) x y e =
-    let first : a ≡ b = cc in let more : xs ++ x ∷ [] ≡ ys ++ y ∷ [] = cc in
-    let r = same-last xs ys x y more in (λ i. first i ∷ r.0 i, r.1)
 
 module _ {T : Type 0} where
   pub spots-append : (ps qs : List (Placed T)) → spots_of (ps ++ qs) ≡ spots_of ps ++ spots_of qs

@@ -4,6 +4,7 @@ use Rattle.std.proofs.Common.{◌≡◌, ◌⊎◌, ℕ, ◌≤◌, List, [], �
 use Rattle.std.specs.List.{AllByRecursion, list_all}
 use Rattle.std.proofs.lemmas.Bool.{and_parts, and_from, or_cases, cases_Bool, false≢true, both_ways}
 use Rattle.std.proofs.lemmas.List.{length-map}
+use Rattle.plain_laws.proofs.Every.{each-append}
 use Rattle.calculus.specs.declared.sign.Sign.{Sign}
 use Rattle.calculus.specs.declared.sign.Sign.TheVariants.{T, F}
 use Rattle.calculus.specs.declared.sign.Side.TheVariants.{Left, Right}
@@ -20,7 +21,7 @@ use Rattle.calculus.proofs.Members.{Among}
 use Rattle.calculus.proofs.WalkLaws.{Hits}
 use Rattle.matrix_theory.specs.Spanning.{has_way, IsSpanning}
 use Rattle.matrix_theory.proofs.WayLaws.{way_from}
-use Rattle.decision_theory.proofs.PropositionalLaws.{Pick, literal_of, on_side, either, both, picks, all_joined_up, all_mapped, all_before, all_both, IsGivenBy, all-given, instance_by, value_by, hit-tells, IsHitByTest, all_says, allowed_by}
+use Rattle.decision_theory.proofs.PropositionalLaws.{Pick, literal_of, on_side, either, both, picks, all_mapped, all_before, all_both, IsGivenBy, all-given, instance_by, value_by, hit-tells, IsHitByTest, all_says, allowed_by}
 use Rattle.decision_theory.specs.Decision.{with_one, with_all, propositions, proposition_count, IsRefuted}
 use Rattle.decision_theory.proofs.PruningLaws.{IsOf, HasOnly}
 use Rattle.decision_theory.proofs.AtomLaws.{closed_where_spanning_over}
@@ -75,12 +76,12 @@ atom-among (q ∷ ps) p (inr h) = inr (atom-among ps p h)
 
 either-of : (ps : List ℕ) (xs ys : List Pick) → AllByRecursion (IsPickOf ps) xs → AllByRecursion (IsPickOf ps) ys → AllByRecursion (IsPickOf ps) (either xs ys)
 either-of ps xs ys h k =
-    all_joined_up (IsPickOf ps) (map (on_side Left) xs) (map (on_side Right) ys)
+    each-append (IsPickOf ps) (map (on_side Left) xs) (map (on_side Right) ys)
     (all_mapped (IsPickOf ps) (IsPickOf ps) (on_side Left) xs (λ x q. q) h)
     (all_mapped (IsPickOf ps) (IsPickOf ps) (on_side Right) ys (λ y q. q) k)
 
 both-of : (ps : List ℕ) (xs ys : List Pick) → AllByRecursion (IsPickOf ps) xs → AllByRecursion (IsPickOf ps) ys → AllByRecursion (IsPickOf ps) (both xs ys)
-both-of ps xs ys h k = all_both (IsPickOf ps) (IsPickOf ps) (IsPickOf ps) xs ys (λ x y. all_joined_up (IsOf (atoms_of ps)) x.literals y.literals) h k
+both-of ps xs ys h k = all_both (IsPickOf ps) (IsPickOf ps) (IsPickOf ps) xs ys (λ x y. each-append (IsOf (atoms_of ps)) x.literals y.literals) h k
 
 pub picks-of : (ps : List ℕ) (f : Formula) (s : Sign) → IsTrue (is_propositional f) → Holds ps f → AllByRecursion (IsPickOf ps) (picks f s)
 picks-of ps (atom p ts) s h k = ((atom-among ps p (k p (inl refl)), tt), tt)

@@ -4,6 +4,7 @@ use Rattle.std.proofs.Common.{◌≡◌, ◌⊎◌, ℕ, suc, ◌+◌, List, [],
 use Rattle.std.specs.List.{AllByRecursion, list_all}
 use Rattle.std.specs.Option.{option_map_or}
 use Rattle.std.proofs.lemmas.Bool.{and_parts, and_from, or_left, false≢true}
+use Rattle.plain_laws.proofs.Every.{each-append, each-always}
 use Rattle.calculus.specs.declared.sign.Sign.{Sign}
 use Rattle.calculus.specs.declared.sign.Sign.TheVariants.{T, F}
 use Rattle.calculus.specs.declared.setting.Domains.TheVariants.{Constant}
@@ -24,7 +25,6 @@ use Rattle.calculus.specs.Tableaux.{HasClosed}
 use Rattle.calculus.proofs.InstanceLaws.{component-stands, WayDown, down-one, down-second, first-way, second-way, root-stands}
 use Rattle.calculus.proofs.Members.{Among, among-left, among-right}
 use Rattle.calculus.proofs.SpotLaws.{Stands, Halfway, is_gamma, eigen-proper}
-use Rattle.decision_theory.proofs.PropositionalLaws.{all_joined_up}
 use Rattle.decision_theory.specs.Ranging.{eigen_at, in_eigen, in_term, instances_over}
 use Rattle.decision_theory.specs.Atoms.{atom_count}
 use Rattle.decision_theory.specs.Finite.{has_no_delta, is_flat, eigens, constants, terms_of}
@@ -32,20 +32,16 @@ use Rattle.decision_theory.proofs.RangeLaws.{HasEigens, IsTermOf, IsRefutedOver,
 
 -- ---- the list has the eigenvariables that are reached
 
-all_terms : {A : Type 0} (P : A → Type 0) (xs : List A) → ((x : A) → P x) → AllByRecursion P xs
-all_terms P [] f = tt
-all_terms P (x ∷ xs) f = (f x, all_terms P xs f)
-
 no-delta-has : (U : List GroundTerm) (f : Formula) (c : Spot) (s : Sign) → IsTrue (has_no_delta s f) → HasEigens U c s f
 no-delta-has U (atom p ts) c s h = tt
 no-delta-has U (neg a) c s h = no-delta-has U a (down_by 1 c) (other s) h
 no-delta-has U (conj a b) c s h = let p = and_parts (has_no_delta s a) (has_no_delta s b) h in (no-delta-has U a (down_by 1 c) s p.0, no-delta-has U b (down_by (suc (size a)) c) s p.1)
 no-delta-has U (disj a b) c s h = let p = and_parts (has_no_delta s a) (has_no_delta s b) h in (no-delta-has U a (down_by 1 c) s p.0, no-delta-has U b (down_by (suc (size a)) c) s p.1)
 no-delta-has U (imp a b) c s h = let p = and_parts (has_no_delta (other s) a) (has_no_delta s b) h in (no-delta-has U a (down_by 1 c) (other s) p.0, no-delta-has U b (down_by (suc (size a)) c) s p.1)
-no-delta-has U (all a) c T h = all_terms (λ t. HasEigens U (in_term c t) T a) U (λ t. no-delta-has U a (in_term c t) T h)
+no-delta-has U (all a) c T h = each-always (λ t. HasEigens U (in_term c t) T a) U (λ t. no-delta-has U a (in_term c t) T h)
 no-delta-has U (all a) c F h = absurd (false≢true h)
 no-delta-has U (ex a) c T h = absurd (false≢true h)
-no-delta-has U (ex a) c F h = all_terms (λ t. HasEigens U (in_term c t) F a) U (λ t. no-delta-has U a (in_term c t) F h)
+no-delta-has U (ex a) c F h = each-always (λ t. HasEigens U (in_term c t) F a) U (λ t. no-delta-has U a (in_term c t) F h)
 no-delta-has U (box a) c s h = absurd (false≢true h)
 no-delta-has U (dia a) c s h = absurd (false≢true h)
 
@@ -91,19 +87,19 @@ eigens-allowed P e d (neg a) before c s k h =
 eigens-allowed P e d (conj a b) before c s k h =
     let plain : modal_of P.setting.logic s (conj a b) ≡ Plain = ap (λ l. modal_of l s (conj a b)) e in
     let next = before ++ node c.position s (conj a b) ∷ [] in
-    all_joined_up (IsTermOf P []) (eigens (down_by 1 c) s a) (eigens (down_by (suc (size a)) c) s b)
+    each-append (IsTermOf P []) (eigens (down_by 1 c) s a) (eigens (down_by (suc (size a)) c) s b)
     (eigens-allowed P e d a next (down_by 1 c) s k (below P before c s (conj a b) plain (is_two_gamma s a b).0 h 1 s a c.env (down-one c.position s s (conj a b) a (λ n lt. (omega arith, first-way c.position s s s (conj a b) a b n lt)))))
     (eigens-allowed P e d b next (down_by (suc (size a)) c) s k (below P before c s (conj a b) plain (is_two_gamma s a b).0 h (suc (size a)) s b c.env (down-second c.position s s (conj a b) a b refl (λ n. second-way c.position s s s (conj a b) a b n))))
 eigens-allowed P e d (disj a b) before c s k h =
     let plain : modal_of P.setting.logic s (disj a b) ≡ Plain = ap (λ l. modal_of l s (disj a b)) e in
     let next = before ++ node c.position s (disj a b) ∷ [] in
-    all_joined_up (IsTermOf P []) (eigens (down_by 1 c) s a) (eigens (down_by (suc (size a)) c) s b)
+    each-append (IsTermOf P []) (eigens (down_by 1 c) s a) (eigens (down_by (suc (size a)) c) s b)
     (eigens-allowed P e d a next (down_by 1 c) s k (below P before c s (disj a b) plain (is_two_gamma s a b).1 h 1 s a c.env (down-one c.position s s (disj a b) a (λ n lt. (omega arith, first-way c.position s s s (disj a b) a b n lt)))))
     (eigens-allowed P e d b next (down_by (suc (size a)) c) s k (below P before c s (disj a b) plain (is_two_gamma s a b).1 h (suc (size a)) s b c.env (down-second c.position s s (disj a b) a b refl (λ n. second-way c.position s s s (disj a b) a b n))))
 eigens-allowed P e d (imp a b) before c s k h =
     let plain : modal_of P.setting.logic s (imp a b) ≡ Plain = ap (λ l. modal_of l s (imp a b)) e in
     let next = before ++ node c.position s (imp a b) ∷ [] in
-    all_joined_up (IsTermOf P []) (eigens (down_by 1 c) (other s) a) (eigens (down_by (suc (size a)) c) s b)
+    each-append (IsTermOf P []) (eigens (down_by 1 c) (other s) a) (eigens (down_by (suc (size a)) c) s b)
     (eigens-allowed P e d a next (down_by 1 c) (other s) k (below P before c s (imp a b) plain (is_two_gamma s a b).2 h 1 (other s) a c.env (down-one c.position s (other s) (imp a b) a (λ n lt. (omega arith, first-way c.position s (other s) s (imp a b) a b n lt)))))
     (eigens-allowed P e d b next (down_by (suc (size a)) c) s k (below P before c s (imp a b) plain (is_two_gamma s a b).2 h (suc (size a)) s b c.env (down-second c.position s s (imp a b) a b refl (λ n. second-way c.position s (other s) s (imp a b) a b n))))
 eigens-allowed P e d (all a) before c T k h = tt
@@ -134,7 +130,7 @@ constants-allowed P d k (s ∷ ss) h = by (is_constant_symbol s) refl (constants
     by false e rest = rest
 
 pub terms-allowed : (P : Problem) → P.setting.logic ≡ Classical → P.setting.domains ≡ Constant → AllByRecursion (IsTermOf P []) (terms_of P)
-terms-allowed P e d = ((refl, spares-common P d), all_joined_up (IsTermOf P []) (constants 0 P.symbols) (eigens root_spot F P.formula) (constants-allowed P d 0 P.symbols (λ i. let q : 0 + i ≡ i = omega arith in ap (slice_get P.symbols) q)) (eigens-allowed P e d P.formula [] root_spot F refl (root-stands P)))
+terms-allowed P e d = ((refl, spares-common P d), each-append (IsTermOf P []) (constants 0 P.symbols) (eigens root_spot F P.formula) (constants-allowed P d 0 P.symbols (λ i. let q : 0 + i ≡ i = omega arith in ap (slice_get P.symbols) q)) (eigens-allowed P e d P.formula [] root_spot F refl (root-stands P)))
 
 -- ---- the decision
 

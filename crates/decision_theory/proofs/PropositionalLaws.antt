@@ -5,6 +5,7 @@ use Rattle.std.specs.List.{AllByRecursion, list_all, list_any}
 use Rattle.std.specs.Option.{option_map_or, option_and_then}
 use Rattle.std.proofs.lemmas.List.{append_assoc, append-nil}
 use Rattle.std.proofs.lemmas.Bool.{and_parts, and_from, and_left, and_right, or_left, or_right, or_from, or_cases, or_parts, cases_Bool, not_from_true, not_from_false, false≢true, false_from_ne_true, both_ways}
+use Rattle.plain_laws.proofs.Every.{each-append, each-parts}
 use Rattle.calculus.specs.declared.sign.Sign.{Sign}
 use Rattle.calculus.specs.declared.sign.Sign.TheVariants.{T, F}
 use Rattle.calculus.specs.declared.sign.Side.{Side}
@@ -59,14 +60,6 @@ picks _ s = []
 
 -- ---- lists
 
-pub all_joined_up : {A : Type 0} (P : A → Type 0) (xs ys : List A) → AllByRecursion P xs → AllByRecursion P ys → AllByRecursion P (xs ++ ys)
-all_joined_up P [] ys h k = k
-all_joined_up P (x ∷ xs) ys h k = (h.0, all_joined_up P xs ys h.1 k)
-
-all_parted : {A : Type 0} (P : A → Type 0) (xs ys : List A) → AllByRecursion P (xs ++ ys) → AllByRecursion P xs × AllByRecursion P ys
-all_parted P [] ys h = (tt, h)
-all_parted P (x ∷ xs) ys h = let r = all_parted P xs ys h.1 in ((h.0, r.0), r.1)
-
 pub all_mapped : {A B : Type 0} (P : A → Type 0) (Q : B → Type 0) (f : A → B) (xs : List A) → ((x : A) → P x → Q (f x)) → AllByRecursion P xs → AllByRecursion Q (map f xs)
 all_mapped P Q f [] g h = tt
 all_mapped P Q f (x ∷ xs) g h = (g x h.0, all_mapped P Q f xs g h.1)
@@ -77,7 +70,7 @@ all_before P Q f (x ∷ xs) g h = (g x h.0, all_before P Q f xs g h.1)
 
 pub all_both : (P Q R : Pick → Type 0) (xs ys : List Pick) → ((x y : Pick) → P x → Q y → R (beside x y)) → AllByRecursion P xs → AllByRecursion Q ys → AllByRecursion R (both xs ys)
 all_both P Q R [] ys g h k = tt
-all_both P Q R (x ∷ xs) ys g h k = all_joined_up R (map (beside x) ys) (both xs ys) (all_mapped Q R (beside x) ys (λ y q. g x y h.0 q) k) (all_both P Q R xs ys g h.1 k)
+all_both P Q R (x ∷ xs) ys g h k = each-append R (map (beside x) ys) (both xs ys) (all_mapped Q R (beside x) ys (λ y q. g x y h.0 q) k) (all_both P Q R xs ys g h.1 k)
 
 -- ---- each pick is an instance
 
@@ -135,7 +128,7 @@ given-both f s a sa b sb rule x y h k c rest vs e =
 
 all_either : (f : Formula) (s : Sign) (a : Formula) (sa : Sign) (b : Formula) (sb : Sign) → IsAlphaBy f s a sa b sb → (xs ys : List Pick) → AllByRecursion (IsGivenBy a sa) xs → AllByRecursion (IsGivenBy b sb) ys → AllByRecursion (IsGivenBy f s) (either xs ys)
 all_either f s a sa b sb rule xs ys h k =
-    all_joined_up (IsGivenBy f s) (map (on_side Left) xs) (map (on_side Right) ys)
+    each-append (IsGivenBy f s) (map (on_side Left) xs) (map (on_side Right) ys)
     (all_mapped (IsGivenBy a sa) (IsGivenBy f s) (on_side Left) xs (given-left f s a sa b sb rule) h)
     (all_mapped (IsGivenBy b sb) (IsGivenBy f s) (on_side Right) ys (given-right f s a sa b sb rule) k)
 
@@ -189,7 +182,7 @@ IsHitByTest has x = IsTrue (list_any has x.literals)
 one_side : (has : GroundLiteral → Bool) (xs ys : List Pick) → AllByRecursion (IsHitByTest has) (both xs ys) → AllByRecursion (IsHitByTest has) xs ⊎ AllByRecursion (IsHitByTest has) ys
 one_side has [] ys h = inl tt
 one_side has (x ∷ xs) ys h =
-    let parts = all_parted (IsHitByTest has) (map (beside x) ys) (both xs ys) h in
+    let parts = each-parts (IsHitByTest has) (map (beside x) ys) (both xs ys) h in
     elim (cases_Bool (list_any has x.literals)) [
       | inl e ↦ elim (one_side has xs ys parts.1) [
         | inl k ↦ inl (e, k)
@@ -214,10 +207,10 @@ one_side has (x ∷ xs) ys h =
 
 two_sides : (has : GroundLiteral → Bool) (xs ys : List Pick) → AllByRecursion (IsHitByTest has) (either xs ys) → AllByRecursion (IsHitByTest has) xs × AllByRecursion (IsHitByTest has) ys
 two_sides has xs ys h =
-    let parts = all_parted (IsHitByTest has) (map (on_side Left) xs) (map (on_side Right) ys) h in
+    let parts = each-parts (IsHitByTest has) (map (on_side Left) xs) (map (on_side Right) ys) h in
     (all_before (IsHitByTest has) (IsHitByTest has) (on_side Left) xs (λ x k. k) parts.0, all_before (IsHitByTest has) (IsHitByTest has) (on_side Right) ys (λ y k. k) parts.1)
 
-one_hit : (has : GroundLiteral → Bool) (l : GroundLiteral) → IsTrue (list_any has (l ∷ [])) → IsTrue (has l)
+pub one_hit : (has : GroundLiteral → Bool) (l : GroundLiteral) → IsTrue (list_any has (l ∷ [])) → IsTrue (has l)
 one_hit has l h = elim (or_cases (has l) false h) [
   | inl e ↦ e
   | inr e ↦ absurd (false≢true e)

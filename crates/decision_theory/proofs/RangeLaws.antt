@@ -2,7 +2,8 @@
 -- or a way through them makes the formula false where the quantifiers range over the list.
 use Rattle.std.proofs.Common.{◌≡◌, ◌⊎◌, ℕ, suc, List, [], ◌∷◌, ◌++◌, map, Bool, false, not, ◌&&◌, ◌||◌, ◌==◌, IsTrue, refl, sym, ap, subst, inl, inr}
 use Rattle.std.specs.List.{AllByRecursion, list_all, list_any, flat_map}
-use Rattle.std.proofs.lemmas.Bool.{and_from, and_left, and_right, or_left, or_right, or_from, or_cases, or_parts, cases_Bool, not_from_true, not_from_false, false≢true, false_from_ne_true, both_ways}
+use Rattle.std.proofs.lemmas.Bool.{and_from, and_left, and_right, or_left, or_right, or_from, or_cases, or_parts, cases_Bool, not_from_true, not_from_false, false_from_ne_true, both_ways}
+use Rattle.plain_laws.proofs.Every.{each-parts, all-append, each-append, each-always}
 use Rattle.calculus.specs.declared.sign.Sign.{Sign}
 use Rattle.calculus.specs.declared.sign.Sign.TheVariants.{T, F}
 use Rattle.calculus.specs.declared.setting.Logic.TheVariants.{Classical}
@@ -18,11 +19,10 @@ use Rattle.calculus.specs.Tableaux.{are_complementary, has_unbounded_strings, Ha
 use Rattle.calculus.proofs.CasesLaws.{is_allowed_instance-exact}
 use Rattle.calculus.proofs.EqualityLaws.{nat_eq-tells, grounds_eq-tells, label_eq-tells}
 use Rattle.calculus.proofs.Members.{Among}
-use Rattle.calculus.proofs.PlaceLists.{all-append}
-use Rattle.calculus.proofs.WalkLaws.{Hits, AllByRecursion-append}
+use Rattle.calculus.proofs.WalkLaws.{Hits}
 use Rattle.matrix_theory.specs.Spanning.{has_way}
 use Rattle.matrix_theory.proofs.WayLaws.{way_from}
-use Rattle.decision_theory.proofs.PropositionalLaws.{all_joined_up, all_mapped, all_before, hit-tells, Apart}
+use Rattle.decision_theory.proofs.PropositionalLaws.{all_mapped, all_before, hit-tells, Apart, one_hit}
 use Rattle.decision_theory.specs.Atoms.{atom_count}
 use Rattle.decision_theory.proofs.AtomLaws.{closed_where_spanning_within}
 use Rattle.decision_theory.specs.Ranging.{pairs, only_at, left_at, right_at, both_at, term_at, in_term, eigen_at, in_eigen, either_at, shares, truth_over, instances_over}
@@ -31,15 +31,11 @@ use Rattle.decision_theory.specs.Ranging.{pairs, only_at, left_at, right_at, bot
 
 all_paired : {A : Type 0} (P Q R : A → Type 0) (g : A → A → A) (xs ys : List A) → ((x y : A) → P x → Q y → R (g x y)) → AllByRecursion P xs → AllByRecursion Q ys → AllByRecursion R (pairs g xs ys)
 all_paired P Q R g [] ys f h k = tt
-all_paired P Q R g (x ∷ xs) ys f h k = all_joined_up R (map (g x) ys) (pairs g xs ys) (all_mapped Q R (g x) ys (λ y q. f x y h.0 q) k) (all_paired P Q R g xs ys f h.1 k)
+all_paired P Q R g (x ∷ xs) ys f h k = each-append R (map (g x) ys) (pairs g xs ys) (all_mapped Q R (g x) ys (λ y q. f x y h.0 q) k) (all_paired P Q R g xs ys f h.1 k)
 
 all_flat : {A B : Type 0} (R : B → Type 0) (f : A → List B) (xs : List A) → AllByRecursion (λ x. AllByRecursion R (f x)) xs → AllByRecursion R (flat_map f xs)
 all_flat R f [] h = tt
-all_flat R f (x ∷ xs) h = all_joined_up R (f x) (flat_map f xs) h.0 (all_flat R f xs h.1)
-
-all_of : {A : Type 0} (P : A → Type 0) (xs : List A) → ((x : A) → P x) → AllByRecursion P xs
-all_of P [] f = tt
-all_of P (x ∷ xs) f = (f x, all_of P xs f)
+all_flat R f (x ∷ xs) h = each-append R (f x) (flat_map f xs) h.0 (all_flat R f xs h.1)
 
 all_zipped : {A : Type 0} (P Q R : A → Type 0) (xs : List A) → ((x : A) → P x → Q x → R x) → AllByRecursion P xs → AllByRecursion Q xs → AllByRecursion R xs
 all_zipped P Q R [] f h k = tt
@@ -51,22 +47,22 @@ IsGiven c s f x = Gives Classical c s f x
 pub all-shares_given : (U : List GroundTerm) (f : Formula) (c : Spot) (s : Sign) → AllByRecursion (IsGiven c s f) (shares U c s f)
 all-shares_given U (atom p ts) c s = (by_plain refl is_literal, tt)
 all-shares_given U (neg a) c s = all_mapped (IsGiven (down_by 1 c) (other s) a) (IsGiven c s (neg a)) (only_at c) (shares U (down_by 1 c) (other s) a) (λ x g. by_plain refl (by_only refl refl g)) (all-shares_given U a (down_by 1 c) (other s))
-all-shares_given U (conj a b) c T = all_joined_up (IsGiven c T (conj a b)) (map (left_at c) (shares U (down_by 1 c) T a)) (map (right_at c) (shares U (down_by (suc (size a)) c) T b))
+all-shares_given U (conj a b) c T = each-append (IsGiven c T (conj a b)) (map (left_at c) (shares U (down_by 1 c) T a)) (map (right_at c) (shares U (down_by (suc (size a)) c) T b))
     (all_mapped (IsGiven (down_by 1 c) T a) (IsGiven c T (conj a b)) (left_at c) (shares U (down_by 1 c) T a) (λ x g. by_plain refl (by_left refl refl g)) (all-shares_given U a (down_by 1 c) T))
     (all_mapped (IsGiven (down_by (suc (size a)) c) T b) (IsGiven c T (conj a b)) (right_at c) (shares U (down_by (suc (size a)) c) T b) (λ x g. by_plain refl (by_right refl refl g)) (all-shares_given U b (down_by (suc (size a)) c) T))
 all-shares_given U (conj a b) c F = all_paired (IsGiven (down_by 1 c) F a) (IsGiven (down_by (suc (size a)) c) F b) (IsGiven c F (conj a b)) (both_at c) (shares U (down_by 1 c) F a) (shares U (down_by (suc (size a)) c) F b) (λ x y g h. by_plain refl (by_both refl refl g h)) (all-shares_given U a (down_by 1 c) F) (all-shares_given U b (down_by (suc (size a)) c) F)
 all-shares_given U (disj a b) c T = all_paired (IsGiven (down_by 1 c) T a) (IsGiven (down_by (suc (size a)) c) T b) (IsGiven c T (disj a b)) (both_at c) (shares U (down_by 1 c) T a) (shares U (down_by (suc (size a)) c) T b) (λ x y g h. by_plain refl (by_both refl refl g h)) (all-shares_given U a (down_by 1 c) T) (all-shares_given U b (down_by (suc (size a)) c) T)
-all-shares_given U (disj a b) c F = all_joined_up (IsGiven c F (disj a b)) (map (left_at c) (shares U (down_by 1 c) F a)) (map (right_at c) (shares U (down_by (suc (size a)) c) F b))
+all-shares_given U (disj a b) c F = each-append (IsGiven c F (disj a b)) (map (left_at c) (shares U (down_by 1 c) F a)) (map (right_at c) (shares U (down_by (suc (size a)) c) F b))
     (all_mapped (IsGiven (down_by 1 c) F a) (IsGiven c F (disj a b)) (left_at c) (shares U (down_by 1 c) F a) (λ x g. by_plain refl (by_left refl refl g)) (all-shares_given U a (down_by 1 c) F))
     (all_mapped (IsGiven (down_by (suc (size a)) c) F b) (IsGiven c F (disj a b)) (right_at c) (shares U (down_by (suc (size a)) c) F b) (λ x g. by_plain refl (by_right refl refl g)) (all-shares_given U b (down_by (suc (size a)) c) F))
 all-shares_given U (imp a b) c T = all_paired (IsGiven (down_by 1 c) F a) (IsGiven (down_by (suc (size a)) c) T b) (IsGiven c T (imp a b)) (both_at c) (shares U (down_by 1 c) F a) (shares U (down_by (suc (size a)) c) T b) (λ x y g h. by_plain refl (by_both refl refl g h)) (all-shares_given U a (down_by 1 c) F) (all-shares_given U b (down_by (suc (size a)) c) T)
-all-shares_given U (imp a b) c F = all_joined_up (IsGiven c F (imp a b)) (map (left_at c) (shares U (down_by 1 c) T a)) (map (right_at c) (shares U (down_by (suc (size a)) c) F b))
+all-shares_given U (imp a b) c F = each-append (IsGiven c F (imp a b)) (map (left_at c) (shares U (down_by 1 c) T a)) (map (right_at c) (shares U (down_by (suc (size a)) c) F b))
     (all_mapped (IsGiven (down_by 1 c) T a) (IsGiven c F (imp a b)) (left_at c) (shares U (down_by 1 c) T a) (λ x g. by_plain refl (by_left refl refl g)) (all-shares_given U a (down_by 1 c) T))
     (all_mapped (IsGiven (down_by (suc (size a)) c) F b) (IsGiven c F (imp a b)) (right_at c) (shares U (down_by (suc (size a)) c) F b) (λ x g. by_plain refl (by_right refl refl g)) (all-shares_given U b (down_by (suc (size a)) c) F))
-all-shares_given U (all a) c T = all_flat (IsGiven c T (all a)) (λ t. map (term_at c t) (shares U (in_term c t) T a)) U (all_of (λ t. AllByRecursion (IsGiven c T (all a)) (map (term_at c t) (shares U (in_term c t) T a))) U (λ t. all_mapped (IsGiven (in_term c t) T a) (IsGiven c T (all a)) (term_at c t) (shares U (in_term c t) T a) (λ x g. by_plain refl (by_gamma t refl refl g)) (all-shares_given U a (in_term c t) T)))
+all-shares_given U (all a) c T = all_flat (IsGiven c T (all a)) (λ t. map (term_at c t) (shares U (in_term c t) T a)) U (each-always (λ t. AllByRecursion (IsGiven c T (all a)) (map (term_at c t) (shares U (in_term c t) T a))) U (λ t. all_mapped (IsGiven (in_term c t) T a) (IsGiven c T (all a)) (term_at c t) (shares U (in_term c t) T a) (λ x g. by_plain refl (by_gamma t refl refl g)) (all-shares_given U a (in_term c t) T)))
 all-shares_given U (all a) c F = all_mapped (IsGiven (in_eigen c) F a) (IsGiven c F (all a)) (only_at c) (shares U (in_eigen c) F a) (λ x g. by_plain refl (by_delta refl refl g)) (all-shares_given U a (in_eigen c) F)
 all-shares_given U (ex a) c T = all_mapped (IsGiven (in_eigen c) T a) (IsGiven c T (ex a)) (only_at c) (shares U (in_eigen c) T a) (λ x g. by_plain refl (by_delta refl refl g)) (all-shares_given U a (in_eigen c) T)
-all-shares_given U (ex a) c F = all_flat (IsGiven c F (ex a)) (λ t. map (term_at c t) (shares U (in_term c t) F a)) U (all_of (λ t. AllByRecursion (IsGiven c F (ex a)) (map (term_at c t) (shares U (in_term c t) F a))) U (λ t. all_mapped (IsGiven (in_term c t) F a) (IsGiven c F (ex a)) (term_at c t) (shares U (in_term c t) F a) (λ x g. by_plain refl (by_gamma t refl refl g)) (all-shares_given U a (in_term c t) F)))
+all-shares_given U (ex a) c F = all_flat (IsGiven c F (ex a)) (λ t. map (term_at c t) (shares U (in_term c t) F a)) U (each-always (λ t. AllByRecursion (IsGiven c F (ex a)) (map (term_at c t) (shares U (in_term c t) F a))) U (λ t. all_mapped (IsGiven (in_term c t) F a) (IsGiven c F (ex a)) (term_at c t) (shares U (in_term c t) F a) (λ x g. by_plain refl (by_gamma t refl refl g)) (all-shares_given U a (in_term c t) F)))
 all-shares_given U (box a) c s = tt
 all-shares_given U (dia a) c s = tt
 
@@ -84,11 +80,11 @@ term_allowed : (P : Problem) (c : Spot) (t : GroundTerm) → IsTermOf P c.label 
 term_allowed P c t h x k = (and_from (is_admitted P t) (list_all (is_admitted_value P) x.values) h.0 k.0, and_from (is_allowed P c.label t) (list_all (gamma_is_allowed P) x.gammas) h.1 k.1)
 
 either_allowed : (P : Problem) (c : Spot) (xs ys : List Share) → AllByRecursion (IsAllowedShare P) xs → AllByRecursion (IsAllowedShare P) ys → AllByRecursion (IsAllowedShare P) (either_at c xs ys)
-either_allowed P c xs ys h k = all_joined_up (IsAllowedShare P) (map (left_at c) xs) (map (right_at c) ys) (all_mapped (IsAllowedShare P) (IsAllowedShare P) (left_at c) xs (λ x g. g) h) (all_mapped (IsAllowedShare P) (IsAllowedShare P) (right_at c) ys (λ y g. g) k)
+either_allowed P c xs ys h k = each-append (IsAllowedShare P) (map (left_at c) xs) (map (right_at c) ys) (all_mapped (IsAllowedShare P) (IsAllowedShare P) (left_at c) xs (λ x g. g) h) (all_mapped (IsAllowedShare P) (IsAllowedShare P) (right_at c) ys (λ y g. g) k)
 
 terms_allowed : (P : Problem) (c : Spot) (f : GroundTerm → List Share) (ts : List GroundTerm) → AllByRecursion (IsTermOf P c.label) ts → ((t : GroundTerm) → AllByRecursion (IsAllowedShare P) (f t)) → AllByRecursion (IsAllowedShare P) (flat_map (λ t. map (term_at c t) (f t)) ts)
 terms_allowed P c f [] h k = tt
-terms_allowed P c f (t ∷ ts) h k = all_joined_up (IsAllowedShare P) (map (term_at c t) (f t)) (flat_map (λ u. map (term_at c u) (f u)) ts) (all_mapped (IsAllowedShare P) (IsAllowedShare P) (term_at c t) (f t) (term_allowed P c t h.0) (k t)) (terms_allowed P c f ts h.1 k)
+terms_allowed P c f (t ∷ ts) h k = each-append (IsAllowedShare P) (map (term_at c t) (f t)) (flat_map (λ u. map (term_at c u) (f u)) ts) (all_mapped (IsAllowedShare P) (IsAllowedShare P) (term_at c t) (f t) (term_allowed P c t h.0) (k t)) (terms_allowed P c f ts h.1 k)
 
 pub all-shares_allowed : (P : Problem) (U : List GroundTerm) (f : Formula) (c : Spot) (s : Sign) → AllByRecursion (IsTermOf P c.label) U → AllByRecursion (IsAllowedShare P) (shares U c s f)
 all-shares_allowed P U (atom p ts) c s h = ((refl, refl), tt)
@@ -132,19 +128,13 @@ SaysOver U v env F f = truth_over U v env f ≡ false
 abbrev IsHitShare : (GroundLiteral → Bool) → Share → Type 0
 IsHitShare has x = IsTrue (list_any has x.literals)
 
-one_hit : (has : GroundLiteral → Bool) (l : GroundLiteral) → IsTrue (list_any has (l ∷ [])) → IsTrue (has l)
-one_hit has l h = elim (or_cases (has l) false h) [
-  | inl e ↦ e
-  | inr e ↦ absurd (false≢true e)
-]
-
 opposite : (p : ℕ) (ts : GroundTerms) (w : List GroundMark) → IsTrue (are_complementary (record { sign = T; symbol = p; args = ts; label = w }) (record { sign = F; symbol = p; args = ts; label = w }))
 opposite p ts w = and_from (p == p && grounds_eq ts ts) (label_eq w w) (and_from (p == p) (grounds_eq ts ts) ((nat_eq-tells p p).1 refl) ((grounds_eq-tells ts ts).1 refl)) ((label_eq-tells w w).1 refl)
 
 one_side : (has : GroundLiteral → Bool) (c : Spot) (xs ys : List Share) → AllByRecursion (IsHitShare has) (pairs (both_at c) xs ys) → AllByRecursion (IsHitShare has) xs ⊎ AllByRecursion (IsHitShare has) ys
 one_side has c [] ys h = inl tt
 one_side has c (x ∷ xs) ys h =
-    let parts = AllByRecursion-append (IsHitShare has) (map (both_at c x) ys) (pairs (both_at c) xs ys) h in
+    let parts = each-parts (IsHitShare has) (map (both_at c x) ys) (pairs (both_at c) xs ys) h in
     elim (cases_Bool (list_any has x.literals)) [
       | inl e ↦ elim (one_side has c xs ys parts.1) [
         | inl k ↦ inl (e, k)
@@ -169,13 +159,13 @@ one_side has c (x ∷ xs) ys h =
 
 two_sides : (has : GroundLiteral → Bool) (c : Spot) (xs ys : List Share) → AllByRecursion (IsHitShare has) (either_at c xs ys) → AllByRecursion (IsHitShare has) xs × AllByRecursion (IsHitShare has) ys
 two_sides has c xs ys h =
-    let parts = AllByRecursion-append (IsHitShare has) (map (left_at c) xs) (map (right_at c) ys) h in
+    let parts = each-parts (IsHitShare has) (map (left_at c) xs) (map (right_at c) ys) h in
     (all_before (IsHitShare has) (IsHitShare has) (left_at c) xs (λ x k. k) parts.0, all_before (IsHitShare has) (IsHitShare has) (right_at c) ys (λ y k. k) parts.1)
 
 each_term : (has : GroundLiteral → Bool) (c : Spot) (f : GroundTerm → List Share) (ts : List GroundTerm) → AllByRecursion (IsHitShare has) (flat_map (λ t. map (term_at c t) (f t)) ts) → AllByRecursion (λ t. AllByRecursion (IsHitShare has) (f t)) ts
 each_term has c f [] h = tt
 each_term has c f (t ∷ ts) h =
-    let parts = AllByRecursion-append (IsHitShare has) (map (term_at c t) (f t)) (flat_map (λ u. map (term_at c u) (f u)) ts) h in
+    let parts = each-parts (IsHitShare has) (map (term_at c t) (f t)) (flat_map (λ u. map (term_at c u) (f u)) ts) h in
     (all_before (IsHitShare has) (IsHitShare has) (term_at c t) (f t) (λ x k. k) parts.0, each_term has c f ts parts.1)
 
 all_true : (f : GroundTerm → Bool) (ts : List GroundTerm) → AllByRecursion (λ t. IsTrue (f t)) ts → IsTrue (list_all f ts)

@@ -1,6 +1,8 @@
 -- What stands on each branch that a use step leads to, by what the step is given.
 use Rattle.std.proofs.Common.{◌≡◌, ℕ, suc, ◌<◌, Bool, true, false, ◌||◌, ◌&&◌, List, [], ◌∷◌, ◌++◌, length, get_or, map, refl, sym, ◌∙◌, ap, arith}
 use Rattle.std.specs.List.{list_any}
+use Rattle.plain_laws.proofs.Booleans.{or_false}
+use Rattle.std.proofs.lemmas.Bool.{false≢true}
 use Rattle.calculus.specs.declared.setting.Logic.{Logic}
 use Rattle.calculus.specs.declared.setting.Logic.TheVariants.{S5}
 use Rattle.calculus.specs.declared.sign.Sign.{Sign}
@@ -13,7 +15,7 @@ use Rattle.calculus.specs.Syntax.{Term, eigen, Formula, atom, neg, conj, disj, i
 use Rattle.calculus.specs.Substitution.{formula_with, any_leaf_in}
 use Rattle.derivation_branch.specs.Occurring.{occurs, quantifier_binds, in_argument, in_modal}
 use Rattle.derivation_branch.specs.Putting.{IsClosed, AreClosed, formula_with_all}
-use Rattle.derivation_branch.proofs.GrowthLaws.{any-append, any-member, bound-formula, bound-grown, characters-apart, covered, first-grown, home-of_names, or_assoc, or_false, or_swap, part-covered, plain-grown, second-grown}
+use Rattle.derivation_branch.proofs.GrowthLaws.{any-append, any-member, bound-formula, bound-grown, characters-apart, covered, first-grown, home-of_names, or_assoc, or_swap, part-covered, plain-grown, second-grown}
 use Rattle.derivation_branch.proofs.OccurrenceLaws.{IsOfNames}
 
 -- it holds of each branch
@@ -31,9 +33,6 @@ pub each-weaker : (P Q : Sequent → Type 0) → ((s : Sequent) → P s → Q s)
 each-weaker P Q f closed p = tt
 each-weaker P Q f (one s) p = f s p
 each-weaker P Q f (two s t) p = (f s p.0, f t p.1)
-
-true-apart : false ≡ true → ⊥
-true-apart h = cc
 
 -- ---- names
 
@@ -62,34 +61,34 @@ children-grown test s k T (all a) w v (by_term u) of h at fits = bound-grown tes
 children-grown test s k F (all a) w v (by_name n) of h at fits = bound-grown test s k (record { sign = F; formula = all a; label = w }) v (signed F a) (eigen n) of h at refl
 children-grown test s k T (ex a) w v (by_name n) of h at fits = bound-grown test s k (record { sign = T; formula = ex a; label = w }) v (signed T a) (eigen n) of h at refl
 children-grown test s k F (ex a) w v (by_term u) of h at fits = bound-grown test s k (record { sign = F; formula = ex a; label = w }) v (signed F a) u of h at refl
-children-grown test s k T (all a) w v no_term of h at fits = absurd (true-apart fits)
-children-grown test s k T (all a) w v (by_name n) of h at fits = absurd (true-apart fits)
-children-grown test s k F (all a) w v no_term of h at fits = absurd (true-apart fits)
-children-grown test s k F (all a) w v (by_term u) of h at fits = absurd (true-apart fits)
-children-grown test s k T (ex a) w v no_term of h at fits = absurd (true-apart fits)
-children-grown test s k T (ex a) w v (by_term u) of h at fits = absurd (true-apart fits)
-children-grown test s k F (ex a) w v no_term of h at fits = absurd (true-apart fits)
-children-grown test s k F (ex a) w v (by_name n) of h at fits = absurd (true-apart fits)
-children-grown test s k g (atom p us) w v (by_term u) of h at fits = absurd (true-apart fits)
-children-grown test s k g (atom p us) w v (by_name n) of h at fits = absurd (true-apart fits)
-children-grown test s k g (neg a) w v (by_term u) of h at fits = absurd (true-apart fits)
-children-grown test s k g (neg a) w v (by_name n) of h at fits = absurd (true-apart fits)
-children-grown test s k g (box a) w v (by_term u) of h at fits = absurd (true-apart fits)
-children-grown test s k g (box a) w v (by_name n) of h at fits = absurd (true-apart fits)
-children-grown test s k g (dia a) w v (by_term u) of h at fits = absurd (true-apart fits)
-children-grown test s k g (dia a) w v (by_name n) of h at fits = absurd (true-apart fits)
-children-grown test s k T (conj a b) w v (by_term u) of h at fits = absurd (true-apart fits)
-children-grown test s k T (conj a b) w v (by_name n) of h at fits = absurd (true-apart fits)
-children-grown test s k F (conj a b) w v (by_term u) of h at fits = absurd (true-apart fits)
-children-grown test s k F (conj a b) w v (by_name n) of h at fits = absurd (true-apart fits)
-children-grown test s k T (disj a b) w v (by_term u) of h at fits = absurd (true-apart fits)
-children-grown test s k T (disj a b) w v (by_name n) of h at fits = absurd (true-apart fits)
-children-grown test s k F (disj a b) w v (by_term u) of h at fits = absurd (true-apart fits)
-children-grown test s k F (disj a b) w v (by_name n) of h at fits = absurd (true-apart fits)
-children-grown test s k T (imp a b) w v (by_term u) of h at fits = absurd (true-apart fits)
-children-grown test s k T (imp a b) w v (by_name n) of h at fits = absurd (true-apart fits)
-children-grown test s k F (imp a b) w v (by_term u) of h at fits = absurd (true-apart fits)
-children-grown test s k F (imp a b) w v (by_name n) of h at fits = absurd (true-apart fits)
+children-grown test s k T (all a) w v no_term of h at fits = absurd (false≢true fits)
+children-grown test s k T (all a) w v (by_name n) of h at fits = absurd (false≢true fits)
+children-grown test s k F (all a) w v no_term of h at fits = absurd (false≢true fits)
+children-grown test s k F (all a) w v (by_term u) of h at fits = absurd (false≢true fits)
+children-grown test s k T (ex a) w v no_term of h at fits = absurd (false≢true fits)
+children-grown test s k T (ex a) w v (by_term u) of h at fits = absurd (false≢true fits)
+children-grown test s k F (ex a) w v no_term of h at fits = absurd (false≢true fits)
+children-grown test s k F (ex a) w v (by_name n) of h at fits = absurd (false≢true fits)
+children-grown test s k g (atom p us) w v (by_term u) of h at fits = absurd (false≢true fits)
+children-grown test s k g (atom p us) w v (by_name n) of h at fits = absurd (false≢true fits)
+children-grown test s k g (neg a) w v (by_term u) of h at fits = absurd (false≢true fits)
+children-grown test s k g (neg a) w v (by_name n) of h at fits = absurd (false≢true fits)
+children-grown test s k g (box a) w v (by_term u) of h at fits = absurd (false≢true fits)
+children-grown test s k g (box a) w v (by_name n) of h at fits = absurd (false≢true fits)
+children-grown test s k g (dia a) w v (by_term u) of h at fits = absurd (false≢true fits)
+children-grown test s k g (dia a) w v (by_name n) of h at fits = absurd (false≢true fits)
+children-grown test s k T (conj a b) w v (by_term u) of h at fits = absurd (false≢true fits)
+children-grown test s k T (conj a b) w v (by_name n) of h at fits = absurd (false≢true fits)
+children-grown test s k F (conj a b) w v (by_term u) of h at fits = absurd (false≢true fits)
+children-grown test s k F (conj a b) w v (by_name n) of h at fits = absurd (false≢true fits)
+children-grown test s k T (disj a b) w v (by_term u) of h at fits = absurd (false≢true fits)
+children-grown test s k T (disj a b) w v (by_name n) of h at fits = absurd (false≢true fits)
+children-grown test s k F (disj a b) w v (by_term u) of h at fits = absurd (false≢true fits)
+children-grown test s k F (disj a b) w v (by_name n) of h at fits = absurd (false≢true fits)
+children-grown test s k T (imp a b) w v (by_term u) of h at fits = absurd (false≢true fits)
+children-grown test s k T (imp a b) w v (by_name n) of h at fits = absurd (false≢true fits)
+children-grown test s k F (imp a b) w v (by_term u) of h at fits = absurd (false≢true fits)
+children-grown test s k F (imp a b) w v (by_name n) of h at fits = absurd (false≢true fits)
 
 -- ---- labels
 

@@ -4,6 +4,8 @@ use Rattle.std.proofs.Common.{◌≡◌, ℕ, zero, suc, ◌-◌, ◌<◌, Bool,
 use Rattle.std.proofs.lemmas.Bool.{cases_order, or_parts}
 use Rattle.std.specs.List.{list_any}
 use Rattle.std.specs.Ordering.{nat_cmp}
+use Rattle.plain_laws.proofs.Numbers.{cmp-equal, cmp-greater, cmp-less}
+use Rattle.plain_laws.proofs.Booleans.{or_false}
 use Rattle.calculus.specs.declared.sign.Sign.{Sign}
 use Rattle.calculus.specs.Calculus.{entry_at, character_occurs, holds_character, is_in_home}
 use Rattle.calculus.specs.Derivations.{Entry, Sequent, Label, Mark, Names}
@@ -12,13 +14,9 @@ use Rattle.calculus.specs.Syntax.{Term, Terms, var, fun, eigen, spare, no_terms,
 use Rattle.calculus.specs.Substitution.{put_for, term_with, terms_with, formula_with, instance, any_leaf, any_leaf_of, any_leaf_in}
 use Rattle.derivation_branch.specs.Occurring.{is_variable, binds_at, occurs}
 use Rattle.derivation_branch.specs.Putting.{IsClosed, is_var}
-use Rattle.derivation_branch.proofs.OccurrenceLaws.{IsOfNames, leaf-put, cmp-less, cmp-equal, cmp-greater, equal-apart}
+use Rattle.derivation_branch.proofs.OccurrenceLaws.{IsOfNames, leaf-put, equal-apart}
 
 -- ---- truth values
-
-pub or_false : (a : Bool) → (a || false) ≡ a
-or_false true = refl
-or_false false = refl
 
 pub or_assoc : (a b c : Bool) → ((a || b) || c) ≡ (a || (b || c))
 or_assoc true b c = refl

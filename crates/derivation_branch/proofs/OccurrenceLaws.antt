@@ -1,9 +1,8 @@
 -- What stands in an instance: what stood in the formula, and what stands in the term where the variable stood there.
-use Rattle.std.proofs.Common.{◌≡◌, ◌≢◌, ℕ, suc, ◌-◌, ◌<◌, Bool, true, false, ◌||◌, ◌&&◌, ◌==◌, refl, sym, ◌∙◌, ap, inl, inr, rules, arith}
+use Rattle.std.proofs.Common.{◌≡◌, ◌≢◌, ℕ, suc, ◌-◌, Bool, true, false, ◌||◌, ◌&&◌, ◌==◌, refl, sym, ◌∙◌, ap, inl, inr, rules, arith}
 use Rattle.std.proofs.lemmas.Bool.{cases_order}
-use Rattle.std.specs.Cmp.{nat_cmp_is}
 use Rattle.std.specs.Ordering.{nat_cmp}
-use Rattle.std.specs.declared.cmp.Ordering.TheVariants.{Less, Equal, Greater}
+use Rattle.plain_laws.proofs.Numbers.{cmp-equal, cmp-greater, cmp-less}
 use Rattle.calculus.specs.Syntax.{Term, Terms, var, fun, eigen, spare, no_terms, more_terms, Formula, atom, neg, conj, disj, imp, all, ex, box, dia}
 use Rattle.calculus.specs.Substitution.{put_for, term_with, terms_with, formula_with, any_leaf, any_leaf_of, any_leaf_in}
 use Rattle.derivation_branch.specs.Occurring.{is_variable, binds_at}
@@ -31,15 +30,6 @@ equal-same k d e = search rules
 
 pub equal-apart : (k d : ℕ) → k ≢ d → (k == d) ≡ false
 equal-apart k d h = search rules
-
-pub cmp-less : (k d : ℕ) → k < d → nat_cmp k d ≡ Less
-cmp-less k d h = sym (nat_cmp_is k d Less h)
-
-pub cmp-equal : (k d : ℕ) → k ≡ d → nat_cmp k d ≡ Equal
-cmp-equal k d h = sym (nat_cmp_is k d Equal h)
-
-pub cmp-greater : (k d : ℕ) → d < k → nat_cmp k d ≡ Greater
-cmp-greater k d h = sym (nat_cmp_is k d Greater h)
 
 -- a test that no variable passes
 abbrev pub IsOfNames : (Term → Bool) → Type 0

@@ -1,9 +1,7 @@
 -- What terms that are put for variables leave as it is, and what a variable becomes.
 use Rattle.std.proofs.Common.{◌≡◌, ℕ, zero, suc, ◌+◌, ◌-◌, ◌<◌, ◌≤◌, List, [], ◌∷◌, map, length, get_or, false, refl, sym, ◌∙◌, ap, arith}
 use Rattle.std.proofs.lemmas.Bool.{false≢true, or_parts}
-use Rattle.std.specs.Cmp.{nat_cmp_is}
-use Rattle.std.specs.Ordering.{nat_cmp}
-use Rattle.std.specs.declared.cmp.Ordering.TheVariants.{Less, Equal, Greater}
+use Rattle.plain_laws.proofs.Numbers.{cmp-equal, cmp-greater, cmp-less}
 use Rattle.calculus.specs.declared.sign.Sign.{Sign}
 use Rattle.calculus.specs.declared.sign.Sign.TheVariants.{T, F}
 use Rattle.calculus.specs.declared.setting.Logic.{Logic}
@@ -127,15 +125,6 @@ mutual
       λ i. more_terms (closed-kept t d u parts.0 i) (closed_all-kept t d us parts.1 i)
 
 -- ---- variables
-
-cmp-less : (k d : ℕ) → k < d → nat_cmp k d ≡ Less
-cmp-less k d h = sym (nat_cmp_is k d Less h)
-
-cmp-equal : (k d : ℕ) → k ≡ d → nat_cmp k d ≡ Equal
-cmp-equal k d h = sym (nat_cmp_is k d Equal h)
-
-cmp-greater : (k d : ℕ) → d < k → nat_cmp k d ≡ Greater
-cmp-greater k d h = sym (nat_cmp_is k d Greater h)
 
 var-below : (ts : List Term) (d k : ℕ) → k < d → term_with_all ts d (var k) ≡ var k
 var-below [] d k h = refl

@@ -2,15 +2,8 @@
 use Rattle.std.proofs.Common.{◌≡◌, ◌≢◌, inl, inr, ℕ, ◌-◌, ◌<◌, ◌≤◌, ◌==◌, ◌||◌, Bool, true, false, List, length, get_or, reverse, slice_set, refl, sym, ◌∙◌, ap, arith}
 use Rattle.std.proofs.lemmas.Bool.{cases_order, false≢true}
 use Rattle.std.proofs.lemmas.List.{get_or-reverse, get_or-set_same, get_or-set_other, get_or_past, length-reverse, length-set}
+use Rattle.plain_laws.proofs.Booleans.{or_false, or-true}
 use Rattle.calculus.proofs.EqualityLaws.{nat_eq-tells}
-
-or-true : (b : Bool) → (b || true) ≡ true
-or-true true = refl
-or-true false = refl
-
-or-false : (b : Bool) → (b || false) ≡ b
-or-false true = refl
-or-false false = refl
 
 module _ (xs : List Bool) (place depth d : ℕ) (lt : depth < length xs) (at : place ≡ length xs - 1 - depth) where
   abbrev after : List Bool
@@ -36,7 +29,7 @@ module _ (xs : List Bool) (place depth d : ℕ) (lt : depth < length xs) (at : p
       by false e =
           let other : length xs - 1 - d ≢ place = λ s. false≢true (sym e ∙ (nat_eq-tells depth d).1 (omega (arith, s, at, lt, less))) in
           read ∙ ap (λ i. get_or after i true) index ∙ get_or-set_other xs place (length xs - 1 - d) true true other ∙ sym (get_or-reverse xs d true less)
-          ∙ sym (ap (λ b. get_or (reverse xs) d true || b) e ∙ or-false (get_or (reverse xs) d true))
+          ∙ sym (ap (λ b. get_or (reverse xs) d true || b) e ∙ or_false (get_or (reverse xs) d true))
 
   met-past : length xs ≤ d → get_or (reverse after) d true ≡ (get_or (reverse xs) d true || depth == d)
   met-past le =

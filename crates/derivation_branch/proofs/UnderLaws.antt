@@ -1,6 +1,6 @@
 -- Terms and formulas under a substitution of the table.
-use Rattle.std.proofs.Common.{◌≡◌, ◌≢◌, ℕ, zero, suc, ◌<◌, Bool, true, false, ◌&&◌, List, [], ◌∷◌, length, get_or, map, refl, sym, ◌∙◌, ap, arith}
-use Rattle.std.proofs.lemmas.Bool.{false≢true}
+use Rattle.std.proofs.Common.{◌≡◌, ◌≢◌, ℕ, zero, suc, ◌<◌, false, List, [], ◌∷◌, length, get_or, map, refl, sym, ◌∙◌, ap, arith}
+use Rattle.std.proofs.lemmas.Bool.{false≢true, and_right}
 use Rattle.std.proofs.lemmas.List.{length-map}
 use Rattle.calculus.specs.Calculus.{is_atom}
 use Rattle.calculus.specs.Equality.{formula_eq, term_eq, terms_eq}
@@ -31,15 +31,11 @@ size-under table i (u ∷ ts) (suc k) t d h e = let f = size-under table i ts k 
 
 pub ruleset falling_under = (size-under)
 
-with_false : (b c : Bool) → c ≡ false → (b && c) ≡ false
-with_false true c e = e
-with_false false c e = refl
-
 terms_eq-lengths : (ts us : List Term) → length ts ≢ length us → terms_eq (terms_tree ts) (terms_tree us) ≡ false
 terms_eq-lengths [] [] h = absurd (h refl)
 terms_eq-lengths [] (u ∷ us) h = refl
 terms_eq-lengths (t ∷ ts) [] h = refl
-terms_eq-lengths (t ∷ ts) (u ∷ us) h = with_false (term_eq t u) (terms_eq (terms_tree ts) (terms_tree us)) (terms_eq-lengths ts us (λ e. h (omega (arith, e))))
+terms_eq-lengths (t ∷ ts) (u ∷ us) h = and_right (term_eq t u) (terms_eq (terms_tree ts) (terms_tree us)) (terms_eq-lengths ts us (λ e. h (omega (arith, e))))
 
 pub lengths-under : (table : List (List Term)) (i j : ℕ) (xs ys : List Item) (ts us : List Term) → map the_term xs ≡ ts → map the_term ys ≡ us → length xs ≢ length ys → terms_eq (terms_tree (map (term_under table i) ts)) (terms_tree (map (term_under table j) us)) ≡ false
 lengths-under table i j xs ys ts us e f h =

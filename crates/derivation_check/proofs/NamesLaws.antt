@@ -7,12 +7,13 @@ use Rattle.std.proofs.lemmas.Bool.Decides.{nat_tests}
 use Rattle.std.proofs.lemmas.List.{length-append, get_or_append_left, get_or_push}
 use Rattle.indexmap.specs.IndexMap.{get}
 use Rattle.indexmap.specs.IndexSet.{insert_key}
+use Rattle.plain_laws.proofs.Booleans.{or_false}
 use Rattle.calculus.proofs.EqualityLaws.{nat_eq-tells}
 use Rattle.calculus.specs.Calculus.{holds_character}
 use Rattle.calculus.specs.Derivations.{Home, anywhere, home_at, Label, Mark, Names}
 use Rattle.calculus.specs.Substitution.{any_leaf, any_leaf_of}
 use Rattle.calculus.specs.Syntax.{Problem, Term, Terms, var, fun, eigen, spare, no_terms, more_terms}
-use Rattle.derivation_branch.proofs.GrowthLaws.{any-append, or_false}
+use Rattle.derivation_branch.proofs.GrowthLaws.{any-append}
 use Rattle.derivation_branch.specs.Occurring.{holds}
 use Rattle.derivation_check.specs.HomesView.{AreHomes, IsEigenHome, IsFound, IsHomeOfSpare, IsSpareHome, is_forbidden_at, is_in_home_at, is_place_allowed, is_unknown_at, place_holds}
 use Rattle.calculus.specs.Versions.{is_among, numbered}
@@ -53,63 +54,6 @@ any-inserted ks after n e test = ap (list_any test) e ∙ by (list_any (nat_eq n
     by false h = any-append test ks (n ∷ []) ∙ ap (λ b. list_any test ks || b) (or_false (test n))
 
 -- ---- a leaf is told
-
-behind-three : (a b c l t : Bool) → (a || (b || (c || (l || t)))) ≡ ((a || (b || (c || l))) || t)
-behind-three true b c l t = refl
-behind-three false true c l t = refl
-behind-three false false true l t = refl
-behind-three false false false l t = refl
-
-third : (a b h y l : Bool) → (a || (b || ((true && y) || l))) ≡ ((a || (b || ((h && y) || l))) || y)
-third true b h y l = refl
-third false true h y l = refl
-third false false true true l = refl
-third false false true false true = refl
-third false false true false false = refl
-third false false false true true = refl
-third false false false true false = refl
-third false false false false true = refl
-third false false false false false = refl
-
-second : (a h y l : Bool) → (a || ((true && y) || l)) ≡ ((a || ((h && y) || l)) || y)
-second true h y l = refl
-second false true true l = refl
-second false true false true = refl
-second false true false false = refl
-second false false true true = refl
-second false false true false = refl
-second false false false true = refl
-second false false false false = refl
-
-first-told : (h y l : Bool) → ((true && y) || l) ≡ (((h && y) || l) || y)
-first-told true true l = refl
-first-told true false true = refl
-first-told true false false = refl
-first-told false true true = refl
-first-told false true false = refl
-first-told false false true = refl
-first-told false false false = refl
-
--- in the order of the fields of what is told
-pub place-told : (test : HomeTest) (x y : FoundNames) (k : ℕ) → y.has_variable ≡ x.has_variable → y.has_unknown ≡ x.has_unknown → y.has_anywhere ≡ x.has_anywhere → list_any test.at y.places.keys ≡ (list_any test.at x.places.keys || test.at k) → any_found test y ≡ (any_found test x || test.at k)
-place-told test x y k v u a p =
-    (λ i. (v i && test.variable) || ((u i && test.unknown) || ((a i && test.anywhere) || p i)))
-    ∙ behind-three (x.has_variable && test.variable) (x.has_unknown && test.unknown) (x.has_anywhere && test.anywhere) (list_any test.at x.places.keys) (test.at k)
-
-pub anywhere-told : (test : HomeTest) (x y : FoundNames) → y.has_variable ≡ x.has_variable → y.has_unknown ≡ x.has_unknown → y.has_anywhere ≡ true → y.places ≡ x.places → any_found test y ≡ (any_found test x || test.anywhere)
-anywhere-told test x y v u a p =
-    (λ i. (v i && test.variable) || ((u i && test.unknown) || ((a i && test.anywhere) || list_any test.at ((p i).keys))))
-    ∙ third (x.has_variable && test.variable) (x.has_unknown && test.unknown) x.has_anywhere test.anywhere (list_any test.at x.places.keys)
-
-pub unknown-told : (test : HomeTest) (x y : FoundNames) → y.has_variable ≡ x.has_variable → y.has_unknown ≡ true → y.has_anywhere ≡ x.has_anywhere → y.places ≡ x.places → any_found test y ≡ (any_found test x || test.unknown)
-unknown-told test x y v u a p =
-    (λ i. (v i && test.variable) || ((u i && test.unknown) || ((a i && test.anywhere) || list_any test.at ((p i).keys))))
-    ∙ second (x.has_variable && test.variable) x.has_unknown test.unknown ((x.has_anywhere && test.anywhere) || list_any test.at x.places.keys)
-
-pub variable-told : (test : HomeTest) (x y : FoundNames) → y.has_variable ≡ true → y.has_unknown ≡ x.has_unknown → y.has_anywhere ≡ x.has_anywhere → y.places ≡ x.places → any_found test y ≡ (any_found test x || test.variable)
-variable-told test x y v u a p =
-    (λ i. (v i && test.variable) || ((u i && test.unknown) || ((a i && test.anywhere) || list_any test.at ((p i).keys))))
-    ∙ first-told x.has_variable test.variable ((x.has_unknown && test.unknown) || ((x.has_anywhere && test.anywhere) || list_any test.at x.places.keys))
 
 -- what is found is told
 pub found-told : (homes : Homes) (t : Term) (x : FoundNames) (y : TermNames) → AreFoundIn homes t x → y.eigens.items ≡ x.eigens.keys → y.places.items ≡ x.places.keys → y.has_variable ≡ x.has_variable → y.has_unknown ≡ x.has_unknown → y.has_anywhere ≡ x.has_anywhere → AreNamesOf homes t y

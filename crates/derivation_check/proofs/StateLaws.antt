@@ -1,6 +1,6 @@
 -- What the calls on a state keep of it, and what they make of the open sequents.
 use Rattle.std.proofs.Common.{◌≡◌, ℕ, zero, suc, ◌<◌, Bool, true, false, ◌||◌, ◌&&◌, not, List, [], ◌∷◌, length, get_or, map, take, Option, None, Some, Ok, IsTrue, refl, sym, ◌∙◌, ap, subst, arith}
-use Rattle.std.proofs.lemmas.Bool.{and_parts, or_parts}
+use Rattle.std.proofs.lemmas.Bool.{and_parts, or_parts, false≢true}
 use Rattle.std.specs.List.{list_any}
 use Rattle.calculus.specs.declared.fault.StepFault.{StepFault}
 use Rattle.calculus.specs.declared.fault.StepFault.TheVariants.{WrongArguments, UnknownName, NotReachable, NotNew, WrongHome, NotAllowed}
@@ -34,17 +34,14 @@ use Rattle.derivation_check.specs.StateView.{AreKept, AreWithin, HasArgument, Is
 use Rattle.derivation_check.specs.declared.open_sequents.BranchEntry.{BranchEntry}
 use Rattle.derivation_check.proofs.Keeping.{Brought, added-kept, children-told, cut-back, formula-longer, none-left, sequent-longer, shown-after, wait-longer, wait-more, waiting-longer, within-longer}
 
-true-apart : false ≡ true → ⊥
-true-apart h = cc
-
 -- ---- the first state
 
 mutual
   unnamed : (test : Term → Bool) (symbols : List Symbol) (d : ℕ) (t : Term) → IsOfNames test → term_fits_in symbols d t ≡ true → any_leaf test t ≡ false
   unnamed test symbols d (var k) of h = of k
   unnamed test symbols d (fun f us) of h = unnamed_all test symbols d us of (and_parts (has_function symbols f (arity_of us)) (terms_fit_in symbols d us) h).1
-  unnamed test symbols d (eigen n) of h = absurd (true-apart h)
-  unnamed test symbols d (spare n) of h = absurd (true-apart h)
+  unnamed test symbols d (eigen n) of h = absurd (false≢true h)
+  unnamed test symbols d (spare n) of h = absurd (false≢true h)
 
   unnamed_all : (test : Term → Bool) (symbols : List Symbol) (d : ℕ) (us : Terms) → IsOfNames test → terms_fit_in symbols d us ≡ true → any_leaf_of test us ≡ false
   unnamed_all test symbols d no_terms of h = refl
@@ -131,19 +128,19 @@ stands-within table labels xs x h s = go xs s.0 h s.1 s.2
 pub puts : (table : List (List Term)) (outer inner : ℕ) (h : Shape) (t : TermArg) → HasArgument table outer inner t → term_fits h t ≡ true → PutsArgument table outer inner h t
 puts table outer inner Gamma (by_term t) a e = a.0
 puts table outer inner Delta (by_name n) a e = a.0
-puts table outer inner Gamma no_term a e = absurd (true-apart e)
-puts table outer inner Gamma (by_name n) a e = absurd (true-apart e)
-puts table outer inner Delta no_term a e = absurd (true-apart e)
-puts table outer inner Delta (by_term t) a e = absurd (true-apart e)
+puts table outer inner Gamma no_term a e = absurd (false≢true e)
+puts table outer inner Gamma (by_name n) a e = absurd (false≢true e)
+puts table outer inner Delta no_term a e = absurd (false≢true e)
+puts table outer inner Delta (by_term t) a e = absurd (false≢true e)
 puts table outer inner Alpha no_term a e = refl
-puts table outer inner Alpha (by_term t) a e = absurd (true-apart e)
-puts table outer inner Alpha (by_name n) a e = absurd (true-apart e)
+puts table outer inner Alpha (by_term t) a e = absurd (false≢true e)
+puts table outer inner Alpha (by_name n) a e = absurd (false≢true e)
 puts table outer inner Beta no_term a e = refl
-puts table outer inner Beta (by_term t) a e = absurd (true-apart e)
-puts table outer inner Beta (by_name n) a e = absurd (true-apart e)
+puts table outer inner Beta (by_term t) a e = absurd (false≢true e)
+puts table outer inner Beta (by_name n) a e = absurd (false≢true e)
 puts table outer inner Literal no_term a e = refl
-puts table outer inner Literal (by_term t) a e = absurd (true-apart e)
-puts table outer inner Literal (by_name n) a e = absurd (true-apart e)
+puts table outer inner Literal (by_term t) a e = absurd (false≢true e)
+puts table outer inner Literal (by_name n) a e = absurd (false≢true e)
 
 -- what a step adds to the branch
 pub record Growth (names : Names) (table more : List (List Term)) (labels : List Label) (E N M L : List ℕ) (o : Bool) (xs : List BranchEntry) (forks : List (ℕ × BranchEntry)) (u : BranchEntry) (inner at : ℕ) (x : ModalArg) (t : TermArg) (a : Added) (now : List (List BranchEntry)) : Type 0 where
@@ -211,7 +208,7 @@ unfaulty true true true true true true x h = (refl, refl)
 
 mutual
   allowed-closed : (P : Problem) (names : Names) (v : Label) (t : Term) → any_leaf (is_forbidden P names v) t ≡ false → any_leaf is_var t ≡ false
-  allowed-closed P names v (var k) h = absurd (true-apart (sym h))
+  allowed-closed P names v (var k) h = absurd (false≢true (sym h))
   allowed-closed P names v (fun f us) h = all_allowed-closed P names v us h
   allowed-closed P names v (eigen n) h = refl
   allowed-closed P names v (spare n) h = refl
@@ -223,7 +220,7 @@ mutual
       λ i. allowed-closed P names v u parts.0 i || all_allowed-closed P names v us parts.1 i
 
 not-true : (b : Bool) → not b ≡ true → b ≡ false
-not-true true e = absurd (true-apart e)
+not-true true e = absurd (false≢true e)
 not-true false e = refl
 
 pub closed-argument : (P : Problem) (names : Names) (v : Label) (t : TermArg) → term_allowed P names v t ≡ true → IsClosedArgument t

@@ -1,9 +1,10 @@
 -- Homes that are told stay told while the tables and the set grow, and those that are left are told when the set is cut back.
 use Rattle.std.proofs.Common.{◌≡◌, ℕ, zero, suc, ◌<◌, ◌≤◌, ◌==◌, ◌||◌, Bool, true, false, List, [], ◌∷◌, ◌++◌, length, get_or, take, drop, nat_eq, is_some, slice_get, Some, unwrap_or, take_all, refl, sym, ◌∙◌, ap, subst, arith}
-use Rattle.std.proofs.lemmas.Bool.{and_parts, false≢true}
+use Rattle.std.proofs.lemmas.Bool.{and_parts, false≢true, or_left}
 use Rattle.std.proofs.lemmas.List.{take-append-drop, take-append-le, take-take}
 use Rattle.std.specs.Map.{lookup, values_of}
 use Rattle.indexmap.specs.IndexMap.{insert_entry}
+use Rattle.plain_laws.proofs.Booleans.{or_false}
 use Rattle.calculus.specs.Calculus.{character_occurs, holds_character, is_in_home, label_after}
 use Rattle.calculus.specs.Derivations.{Entry, Label, Mark, Names, Sequent, ModalArg, no_modal, to, by_new, character_eq, new_mark}
 use Rattle.calculus.specs.Labels.{is_prefix}
@@ -13,15 +14,11 @@ use Rattle.calculus.specs.declared.setting.Logic.TheVariants.{S5}
 use Rattle.calculus.proofs.EqualityLaws.{character_eq-tells, nat_eq-tells}
 use Rattle.label_table.specs.Longer.{IsLonger}
 use Rattle.derivation_branch.specs.Occurring.{holds, in_modal}
-use Rattle.derivation_branch.proofs.GrowthLaws.{any-append, any-member, or_false}
+use Rattle.derivation_branch.proofs.GrowthLaws.{any-append, any-member}
 use Rattle.label_table.proofs.TableLaws.{longer-at, longer-size}
 use Rattle.derivation_check.specs.ToldView.{AreCounted, AreRising, AreTold, HasMarks, is_told}
 
 -- ---- truth values
-
-or_left : (a b : Bool) → a ≡ true → (a || b) ≡ true
-or_left true b e = refl
-or_left false b e = absurd (false≢true e)
 
 or_right : (a b : Bool) → b ≡ true → (a || b) ≡ true
 or_right true b e = refl

@@ -4,6 +4,7 @@ use Rattle.std.specs.List.{list_all}
 use Rattle.std.proofs.lemmas.Bool.{and_from, and_parts}
 use Rattle.std.proofs.lemmas.List.{length-append}
 use Rattle.std.proofs.lemmas.List.Folds.{list_all-append}
+use Rattle.plain_laws.proofs.Every.{all-weaken}
 use Rattle.calculus.proofs.EqualityLaws.{Tells, term_eq-tells}
 use Rattle.calculus.specs.Equality.{term_eq}
 use Rattle.calculus.specs.Syntax.{Term}
@@ -51,12 +52,6 @@ step-more a b c d (numbered_use n m t) f g h =
     let p = and_parts (is_modal_listed a m) (is_arg_listed c t) h in
     and_from (is_modal_listed b m) (is_arg_listed d t) (modal-more a b m f p.0) (arg-more c d t g p.1)
 
-all-more : {A : Type 0} (p q : A → Bool) → ((x : A) → IsTrue (p x) → IsTrue (q x)) → (xs : List A) → IsTrue (list_all p xs) → IsTrue (list_all q xs)
-all-more p q f [] h = refl
-all-more p q f (x ∷ xs) h =
-    let a = and_parts (p x) (list_all p xs) h in
-    and_from (q x) (list_all q xs) (f x a.0) (all-more p q f xs a.1)
-
 pub all-end : {A : Type 0} (p : A → Bool) (xs : List A) (x : A) → IsTrue (list_all p xs) → IsTrue (p x) → IsTrue (list_all p (xs ++ x ∷ []))
 all-end p xs x h g = list_all-append p xs (x ∷ []) ∙ and_from (list_all p xs) (list_all p (x ∷ [])) h (and_from (p x) true g refl)
 
@@ -66,9 +61,9 @@ with_lists x labels terms = record { limit = x.limit; labels = labels; eigens = 
 
 pub among-lists : (x : NumberedDerivation) (labels : List Label) (terms : List Term) → length x.labels ≤ length labels → length x.terms ≤ length terms → AreAmong x → AreAmong (with_lists x labels terms)
 among-lists x labels terms f g h = record {
-  eigens = all-more (has_home_among (length x.labels)) (has_home_among (length labels)) (λ y k. among-more (length x.labels) (length labels) y.home f k) x.eigens h.eigens;
-  spares = all-more (may_have_home_among (length x.labels)) (may_have_home_among (length labels)) (λ y k. home-more (length x.labels) (length labels) y.home f k) x.spares h.spares;
-  steps = all-more (are_listed (length x.labels) (length x.terms)) (are_listed (length labels) (length terms)) (λ y k. step-more (length x.labels) (length labels) (length x.terms) (length terms) y f g k) x.steps h.steps;
+  eigens = all-weaken (has_home_among (length x.labels)) (has_home_among (length labels)) (λ y k. among-more (length x.labels) (length labels) y.home f k) x.eigens h.eigens;
+  spares = all-weaken (may_have_home_among (length x.labels)) (may_have_home_among (length labels)) (λ y k. home-more (length x.labels) (length labels) y.home f k) x.spares h.spares;
+  steps = all-weaken (are_listed (length x.labels) (length x.terms)) (are_listed (length labels) (length terms)) (λ y k. step-more (length x.labels) (length labels) (length x.terms) (length terms) y f g k) x.steps h.steps;
 }
 
 pub end-longer : {A : Type 0} (xs : List A) (x : A) → length xs ≤ length (xs ++ x ∷ [])
@@ -83,7 +78,7 @@ entered-longer {A} same xs x = by (has same xs x)
     by true = omega arith
     by false = end-longer xs x
 
-has-end : {A : Type 0} (same : A → A → Bool) → Tells same → (xs : List A) (x : A) → IsTrue (has same (xs ++ x ∷ []) x)
+pub has-end : {A : Type 0} (same : A → A → Bool) → Tells same → (xs : List A) (x : A) → IsTrue (has same (xs ++ x ∷ []) x)
 has-end same tells [] x = ap (λ b. b || false) ((tells x x).1 refl)
 has-end same tells (y ∷ ys) x = or-true (same y x) (has same (ys ++ x ∷ []) x) (has-end same tells ys x)
   where
@@ -91,7 +86,7 @@ has-end same tells (y ∷ ys) x = or-true (same y x) (has same (ys ++ x ∷ []) 
     or-true true b h = refl
     or-true false b h = h
 
-has-entered : {A : Type 0} (same : A → A → Bool) → Tells same → (xs : List A) (x : A) → IsTrue (has same (entered same xs x) x)
+pub has-entered : {A : Type 0} (same : A → A → Bool) → Tells same → (xs : List A) (x : A) → IsTrue (has same (entered same xs x) x)
 has-entered {A} same tells xs x = by (has same xs x) refl
   where
     by : (b : Bool) → has same xs x ≡ b → IsTrue (has same (if b then xs else xs ++ x ∷ []) x)

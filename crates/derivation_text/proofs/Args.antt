@@ -1,6 +1,7 @@
 -- What a step's arguments and a name's line spell, and that nothing else does.
-use Rattle.std.proofs.Common.{◌≡◌, ℕ, List, [], ◌∷◌, ◌++◌, false, ◌&&◌, ◌==◌, refl, sym, ◌∙◌, ap, decimal, nat_le, leb-true, arith, codes, get_or, eq-eqb}
-use Rattle.std.proofs.lemmas.Bool.{and_parts, true≢false}
+use Rattle.std.proofs.Common.{◌≡◌, ℕ, List, [], ◌∷◌, ◌++◌, ◌&&◌, refl, sym, ◌∙◌, decimal, nat_le, leb-true, arith, codes}
+use Rattle.std.proofs.lemmas.Bool.{and_parts}
+use Rattle.plain_laws.proofs.Places.{differ-at}
 use Rattle.calculus.specs.Syntax.{Symbol}
 use Rattle.calculus.specs.Derivations.{Label, Home, ModalArg, no_modal, to, by_new, TermArg, no_term, by_term, by_name}
 use Rattle.calculus.specs.DerivationText.{is_name_number, label_is_written, home_is_written, home_text, modal_is_written, modal_text, term_arg_is_written, term_arg_text}
@@ -10,10 +11,6 @@ use Rattle.calculus.proofs.TermTextLaws.{ends-digit}
 use Rattle.derivation_text.specs.Spelling.{AreArgs, IsEigen, IsHome, IsLabelAndArg, IsNameNumberAndArg, IsNumberPair, IsSpare, IsTermArg, IsUse}
 use Rattle.text_lines.proofs.PartLaws.{label-unique, number-unique}
 use Rattle.text_lines.specs.Spelling.{IsLabel, IsLabelBefore, IsNumber, IsNumberBefore}
-
--- lists that differ at a place
-pub differ : (xs ys : List ℕ) (k : ℕ) → xs ≡ ys → (get_or xs k 0 == get_or ys k 0) ≡ false → ⊥
-differ xs ys k e h = true≢false (sym (eq-eqb (get_or xs k 0) (get_or xs k 0) refl) ∙ ap (λ l. get_or xs k 0 == get_or l k 0) e ∙ h)
 
 pub cut : (xs r s : List ℕ) → xs ++ r ≡ xs ++ s → r ≡ s
 cut [] r s e = e
@@ -58,14 +55,14 @@ no-name_and-arg S bytes rest m h none n t k = none t (record {
 
 -- no argument for a variable begins like a modal one
 arg-no_to : (S : List Symbol) (t : TermArg) (r : List ℕ) → term_arg_text S t ≡ codes " to " ++ r → ⊥
-arg-no_to S no_term r e = differ _ _ 0 e refl
-arg-no_to S (by_term t) r e = differ _ _ 2 e refl
-arg-no_to S (by_name n) r e = differ _ _ 1 e refl
+arg-no_to S no_term r e = differ-at _ _ 0 e refl
+arg-no_to S (by_term t) r e = differ-at _ _ 2 e refl
+arg-no_to S (by_name n) r e = differ-at _ _ 1 e refl
 
 pub no-args_to : (S : List Symbol) (bytes rest : List ℕ) → bytes ≡ codes " to " ++ rest → ((w : Label) (t : TermArg) → ¬ IsLabelAndArg S rest w t) → (m : ModalArg) (t : TermArg) → ¬ AreArgs S bytes m t
 no-args_to S bytes rest e none no_modal t h = arg-no_to S t rest (sym h.same ∙ e)
 no-args_to S bytes rest e none (to w) t h = none w t (record { written = h.written; same = cut (codes " to ") _ _ (sym e ∙ h.same) })
-no-args_to S bytes rest e none (by_new n) t h = differ _ _ 1 (sym e ∙ h.same) refl
+no-args_to S bytes rest e none (by_new n) t h = differ-at _ _ 1 (sym e ∙ h.same) refl
 
 -- ---- steps
 

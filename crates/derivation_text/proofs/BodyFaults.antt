@@ -4,6 +4,9 @@ use Rattle.std.specs.List.{list_all, list_any}
 use Rattle.std.proofs.lemmas.Bool.{and_parts}
 use Rattle.std.proofs.lemmas.List.Folds.{list_all-append, list_any-append}
 use Rattle.std.proofs.Math.Seq.{take-append_seam}
+use Rattle.plain_laws.proofs.Places.{item-after}
+use Rattle.plain_laws.proofs.Lists.{map-append, nothing-after}
+use Rattle.plain_laws.proofs.Options.{none-some, some-eq}
 use Rattle.calculus.specs.declared.fault.TextCause.{TextCause}
 use Rattle.calculus.specs.declared.fault.TextCause.TheVariants as cause
 use Rattle.calculus.specs.Syntax.{Symbol, Problem}
@@ -17,12 +20,8 @@ use Rattle.derivation_text.specs.declared.body_line.Stage.TheVariants.{Eigens, S
 use Rattle.derivation_text.specs.Body.{BodyLine, last, IsBodyLine, body_line_text, body_line_is_written, stage_after, stage_after_lines, names_and_steps}
 use Rattle.derivation_text.specs.Reading.{Fits, IsReadTo, cause_at_stage, ending, lines_at, lines_read}
 use Rattle.text_lines.specs.Lines.{IsLineAt}
-use Rattle.derivation_text.proofs.Args.{cut}
-use Rattle.derivation_text.proofs.BodyLaws.{body, body-begins, body-ends, body-written, lines-body, lines-of, map-append, printable-so_far, stage-append, stage-none}
+use Rattle.derivation_text.proofs.BodyLaws.{body, body-begins, body-ends, body-written, lines-body, lines-of, printable-so_far, stage-append, stage-none}
 use Rattle.derivation_text.proofs.Faults.{IsBegun, faulty}
-
-none-some : {A : Type 0} (o : Option A) (s : A) → o ≡ None → o ≡ Some s → ⊥
-none-some o s e f = cc
 
 tail-eq : {A : Type 0} (x y : A) (xs ys : List A) → x ∷ xs ≡ y ∷ ys → xs ≡ ys
 tail-eq x y xs ys e = cc
@@ -56,9 +55,6 @@ refused P w m xs s written order l none e printable rest same =
         (ap (stage_after_lines (Some (Eigens 0))) all ∙ stage-append (Some (Eigens 0)) xs (z ∷ zs) ∙ ap (λ o. stage_after_lines o (z ∷ zs)) order ∙ ap (λ o. stage_after_lines o zs) stop ∙ stage-none zs)
         (body-ends P e printable)
 
-some-eq : {A : Type 0} (x y : A) → Some x ≡ Some y → x ≡ y
-some-eq x y e = cc
-
 -- where these are all lines, they end
 pub whole-ends : (P : Problem) → IsTrue (is_problem P) → (m : ℕ) (xs : List BodyLine) (s : Stage) → IsTrue (list_all (body_line_is_written P.symbols) xs) → stage_after_lines (Some (Eigens 0)) xs ≡ Some s
     → (e : Derivation) → IsTrue (is_printable P e) → derivation_lines P e ≡ head_lines P m ++ map (body_line_text P.symbols) xs → s ≡ Ended
@@ -72,9 +68,6 @@ whole-ends P w m xs s written order e printable same =
     by-rest (z ∷ zs) all lines = absurd (cc)
 
 -- ---- what has been read
-
-nothing-after : (a b r : List ℕ) → a ≡ b ++ r → a ≡ b → r ≡ []
-nothing-after a b r e f = cut b r [] (sym e ∙ f ∙ sym (append-nil b))
 
 printable-at : (P : Problem) (bytes : List ℕ) (place : ℕ) (s : Stage) (d : Derivation) → IsReadTo P bytes place s d → IsTrue (is_printable P d)
 printable-at P bytes place s d r =
@@ -222,10 +215,6 @@ cause-of_lines P (Eigens n) d next f = let t = texts P.symbols d in cause-open _
 cause-of_lines P (Spares n) d next f = let t = texts P.symbols d in cause-open _ _ next (cause_among_names true next) t.open_end (all-names _ next (t.names ∙ ap (λ xs. list_all is_name_line (map (step_line P.symbols) xs)) f))
 cause-of_lines P Steps d next f = let t = texts P.symbols d in cause-open _ _ next cause.Line t.open_end (not-names _ next (t.names ∙ some-steps P.symbols d.steps f))
 cause-of_lines P Ended d next f = let t = texts P.symbols d in cause-closed _ _ next t.closed_end
-
-item-after : {A : Type 0} (xs ys : List A) → slice_get (xs ++ ys) (length xs) ≡ slice_get ys 0
-item-after [] ys = refl
-item-after (x ∷ xs) ys = item-after xs ys
 
 pub cause-at_stage : (P : Problem) (bytes : List ℕ) (place : ℕ) (s : Stage) (d : Derivation) → IsReadTo P bytes place s d → cause_at bytes (length (lines_read P s d)) ≡ cause_at_stage s (slice_get (whole_lines (drop place bytes)) 0)
 cause-at_stage P bytes place s d r =

@@ -3,6 +3,9 @@ use Rattle.std.proofs.Common.{◌≡◌, ℕ, List, [], ◌∷◌, ◌++◌, map
 use Rattle.std.specs.List.{list_all}
 use Rattle.std.proofs.lemmas.Bool.{and_parts, and_from}
 use Rattle.std.proofs.lemmas.List.Folds.{list_all-append}
+use Rattle.plain_laws.proofs.Places.{differ-at}
+use Rattle.plain_laws.proofs.Lists.{cons-parts, map-append, map-twice, on-line}
+use Rattle.plain_laws.proofs.Every.{all-map}
 use Rattle.calculus.specs.Syntax.{Symbol, Problem}
 use Rattle.calculus.specs.Problems.{are_distinct}
 use Rattle.calculus.specs.Derivations.{EigenName, SpareName, Step, apply_to, close, Derivation}
@@ -12,7 +15,6 @@ use Rattle.derivation_text.specs.declared.body_line.Stage.{Stage}
 use Rattle.derivation_text.specs.declared.body_line.Stage.TheVariants.{Eigens, Spares, Steps, Ended}
 use Rattle.derivation_text.specs.Body.{BodyLine, of_eigen, of_spare, of_step, last, IsBodyLine, body_line_text, body_line_is_written, stage_after, advanced, stage_after_lines, names_and_steps}
 use Rattle.derivation_text.specs.Written.{eigen_is_written, spare_is_written}
-use Rattle.derivation_text.proofs.Args.{differ}
 use Rattle.derivation_text.proofs.Printable.{parts}
 
 -- ---- stages
@@ -59,15 +61,11 @@ rises-first m (x ∷ ss) tail t e =
 
 -- ---- what can be written
 
-map-all : {X Y : Type 0} (f : X → Y) (p : Y → Bool) (xs : List X) → list_all p (map f xs) ≡ list_all (λ x. p (f x)) xs
-map-all f p [] = refl
-map-all f p (x ∷ xs) = ap (λ b. p (f x) && b) (map-all f p xs)
-
 written-parts : (S : List Symbol) (es : List EigenName) (ss : List SpareName) (xs : List Step) → list_all (body_line_is_written S) (names_and_steps es ss xs) ≡ (list_all eigen_is_written es && (list_all spare_is_written ss && list_all (step_is_written S) xs))
 written-parts S es ss xs =
     list_all-append (body_line_is_written S) (map of_eigen es) (map of_spare ss ++ map of_step xs)
     ∙ ap (λ b. list_all (body_line_is_written S) (map of_eigen es) && b) (list_all-append (body_line_is_written S) (map of_spare ss) (map of_step xs))
-    ∙ rw (map-all of_eigen (body_line_is_written S) es, map-all of_spare (body_line_is_written S) ss, map-all of_step (body_line_is_written S) xs) refl
+    ∙ rw (all-map of_eigen (body_line_is_written S) es, all-map of_spare (body_line_is_written S) ss, all-map of_step (body_line_is_written S) xs) refl
 
 -- what has been read so far is the beginning of a derivation that can be printed
 pub printable-so_far : (P : Problem) (n : ℕ) (es : List EigenName) (ss : List SpareName) (xs : List Step) (t : Stage) → IsTrue (is_limit n) → IsTrue (list_all (body_line_is_written P.symbols) (names_and_steps es ss xs)) → stage_after_lines (Some (Eigens 0)) (names_and_steps es ss xs) ≡ Some t
@@ -89,14 +87,6 @@ printable-so_far P n es ss xs t l w e =
 
 abbrev pub body : Derivation → List BodyLine
 body d = names_and_steps d.names.eigens d.names.spares d.steps ++ last ∷ []
-
-pub map-append : {X Y : Type 0} (f : X → Y) (xs ys : List X) → map f (xs ++ ys) ≡ map f xs ++ map f ys
-map-append f [] ys = refl
-map-append f (x ∷ xs) ys = ap (λ l. f x ∷ l) (map-append f xs ys)
-
-map-twice : {X Y Z : Type 0} (f : X → Y) (g : Y → Z) (xs : List X) → map g (map f xs) ≡ map (λ x. g (f x)) xs
-map-twice f g [] = refl
-map-twice f g (x ∷ xs) = ap (λ l. g (f x) ∷ l) (map-twice f g xs)
 
 pub lines-of : (S : List Symbol) (es : List EigenName) (ss : List SpareName) (xs : List Step) → map (body_line_text S) (names_and_steps es ss xs) ≡ map eigen_line es ++ (map spare_line ss ++ map (step_line S) xs)
 lines-of S es ss xs =
@@ -176,36 +166,30 @@ body-ends P d h =
 -- ---- one value for a line
 
 step-no_end : (S : List Symbol) (x : Step) → step_line S x ≡ codes "end" → ⊥
-step-no_end S (apply_to n m t) e = differ _ _ 0 e refl
-step-no_end S (close n k) e = differ _ _ 0 e refl
+step-no_end S (apply_to n m t) e = differ-at _ _ 0 e refl
+step-no_end S (close n k) e = differ-at _ _ 0 e refl
 
 step-no_name : (S : List Symbol) (x : Step) (r : List ℕ) → step_line S x ≡ 110 ∷ r → ⊥
-step-no_name S (apply_to n m t) r e = differ _ _ 0 e refl
-step-no_name S (close n k) r e = differ _ _ 0 e refl
-
-on-line : (a b : List ℕ) → a ≡ b → a ++ 10 ∷ [] ≡ b ++ 10 ∷ []
-on-line a b e = ap (λ l. l ++ 10 ∷ []) e
+step-no_name S (apply_to n m t) r e = differ-at _ _ 0 e refl
+step-no_name S (close n k) r e = differ-at _ _ 0 e refl
 
 pub body_line-unique : (S : List Symbol) → IsTrue (are_distinct S) → (x y : BodyLine) → IsTrue (body_line_is_written S x) → IsTrue (body_line_is_written S y) → body_line_text S x ≡ body_line_text S y → x ≡ y
 body_line-unique S d (of_eigen x) (of_eigen y) hx hy e = ap of_eigen (eigen-split x y [] [] hx hy (on-line (eigen_line x) (eigen_line y) e)).0
-body_line-unique S d (of_eigen x) (of_spare y) hx hy e = absurd (differ _ _ 7 e refl)
+body_line-unique S d (of_eigen x) (of_spare y) hx hy e = absurd (differ-at _ _ 7 e refl)
 body_line-unique S d (of_eigen x) (of_step y) hx hy e = absurd (step-no_name S y _ (sym e))
-body_line-unique S d (of_eigen x) last hx hy e = absurd (differ _ _ 0 e refl)
-body_line-unique S d (of_spare x) (of_eigen y) hx hy e = absurd (differ _ _ 7 e refl)
+body_line-unique S d (of_eigen x) last hx hy e = absurd (differ-at _ _ 0 e refl)
+body_line-unique S d (of_spare x) (of_eigen y) hx hy e = absurd (differ-at _ _ 7 e refl)
 body_line-unique S d (of_spare x) (of_spare y) hx hy e = ap of_spare (spare-split x y [] [] hx hy (on-line (spare_line x) (spare_line y) e)).0
 body_line-unique S d (of_spare x) (of_step y) hx hy e = absurd (step-no_name S y _ (sym e))
-body_line-unique S d (of_spare x) last hx hy e = absurd (differ _ _ 0 e refl)
+body_line-unique S d (of_spare x) last hx hy e = absurd (differ-at _ _ 0 e refl)
 body_line-unique S d (of_step x) (of_eigen y) hx hy e = absurd (step-no_name S x _ e)
 body_line-unique S d (of_step x) (of_spare y) hx hy e = absurd (step-no_name S x _ e)
 body_line-unique S d (of_step x) (of_step y) hx hy e = ap of_step (step-split S d x y [] [] hx hy (on-line (step_line S x) (step_line S y) e)).0
 body_line-unique S d (of_step x) last hx hy e = absurd (step-no_end S x e)
-body_line-unique S d last (of_eigen y) hx hy e = absurd (differ _ _ 0 e refl)
-body_line-unique S d last (of_spare y) hx hy e = absurd (differ _ _ 0 e refl)
+body_line-unique S d last (of_eigen y) hx hy e = absurd (differ-at _ _ 0 e refl)
+body_line-unique S d last (of_spare y) hx hy e = absurd (differ-at _ _ 0 e refl)
 body_line-unique S d last (of_step y) hx hy e = absurd (step-no_end S y (sym e))
 body_line-unique S d last last hx hy e = refl
-
-head-eq : {A : Type 0} (x y : A) (xs ys : List A) → x ∷ xs ≡ y ∷ ys → (x ≡ y) × (xs ≡ ys)
-head-eq x y xs ys e = (cc, cc)
 
 -- lines that begin with these are those of values that begin with these
 pub body-begins : (S : List Symbol) → IsTrue (are_distinct S) → (xs ys : List BodyLine) (rest : List (List ℕ)) → IsTrue (list_all (body_line_is_written S) xs) → IsTrue (list_all (body_line_is_written S) ys) → map (body_line_text S) ys ≡ map (body_line_text S) xs ++ rest
@@ -215,7 +199,7 @@ body-begins S d (x ∷ xs) [] rest hx hy e = absurd (cc)
 body-begins S d (x ∷ xs) (y ∷ ys) rest hx hy e =
     let px = and_parts (body_line_is_written S x) (list_all (body_line_is_written S) xs) hx in
     let py = and_parts (body_line_is_written S y) (list_all (body_line_is_written S) ys) hy in
-    let h = head-eq (body_line_text S y) (body_line_text S x) (map (body_line_text S) ys) (map (body_line_text S) xs ++ rest) e in
+    let h = cons-parts (body_line_text S y) (body_line_text S x) (map (body_line_text S) ys) (map (body_line_text S) xs ++ rest) e in
     let same = body_line-unique S d y x py.0 px.0 h.0 in
     let r = body-begins S d xs ys rest px.1 py.1 h.1 in
     (r.0, (λ i. same i ∷ r.1 i), r.2, r.3)

@@ -3,6 +3,7 @@ use Rattle.std.proofs.Common.{◌≡◌, ◌≢◌, ℕ, ◌+◌, ◌≤◌, Lis
 use Rattle.std.specs.List.{list_all}
 use Rattle.std.proofs.lemmas.Bool.{and_from}
 use Rattle.std.proofs.lemmas.List.Folds.{list_all-append}
+use Rattle.plain_laws.proofs.Lists.{map-append}
 use Rattle.calculus.specs.Syntax.{Problem}
 use Rattle.calculus.specs.Derivations.{EigenName, SpareName, Step, Derivation}
 use Rattle.calculus.specs.DerivationText.{head_lines, is_limit, line_bytes}
@@ -11,7 +12,7 @@ use Rattle.derivation_text.specs.declared.body_line.Stage.TheVariants.{Eigens, S
 use Rattle.derivation_text.specs.Body.{BodyLine, of_eigen, of_spare, of_step, last, IsBodyLine, body_line_text, body_line_is_written, stage_after, stage_after_lines, names_and_steps}
 use Rattle.derivation_text.specs.Reading.{Fits, IsReadTo, lines_at, lines_read, with_line}
 use Rattle.text_lines.specs.Lines.{AreRead, IsLineAt}
-use Rattle.derivation_text.proofs.BodyLaws.{map-append, stage-append}
+use Rattle.derivation_text.proofs.BodyLaws.{stage-append}
 use Rattle.text_lines.proofs.WholeLines.{more-read}
 
 -- ---- the lists after a line

@@ -1,5 +1,6 @@
 -- The formula line of a derivation's text belongs to one formula.
 use Rattle.std.proofs.Common.{◌≡◌, ◌≤◌, ℕ, List, ◌∷◌, ◌++◌, [], IsTrue, sym, ◌∙◌, arith, codes, append_assoc, leb-true, refl}
+use Rattle.plain_laws.proofs.Places.{differ-at}
 use Rattle.calculus.specs.declared.setting.Logic.{Logic}
 use Rattle.calculus.specs.Syntax.{Formula, Problem}
 use Rattle.calculus.specs.Derivations.{Derivation}
@@ -8,7 +9,6 @@ use Rattle.calculus.specs.Measures.{nesting}
 use Rattle.calculus.specs.Versions.{IsTextIn}
 use Rattle.calculus.specs.declared.version.Version.{Version}
 use Rattle.calculus.specs.declared.version.Version.TheVariants.{One, Two}
-use Rattle.calculus.proofs.DerivationTextLaws.{clash}
 use Rattle.calculus.specs.Problems.{formula_fits, is_problem}
 use Rattle.calculus.specs.Text.{formula_text}
 use Rattle.logic_rules.proofs.ProblemFacts.{kept}
@@ -36,8 +36,8 @@ formula-unique P well bytes l f d e h t u =
 -- in either version
 pub formula-unique_in : (P : Problem) → IsTrue (is_problem P) → (bytes : List ℕ) (l : Logic) (f : Formula) (v w : Version) (d e : Derivation) → IsTrue (formula_fits l P.symbols 0 f) → IsTextIn v P d bytes → IsTextIn w (record P { formula = f }) e bytes → f ≡ P.formula
 formula-unique_in P well bytes l f One One d e h t u = formula-unique P well bytes l f d e h (record { printable = t.printable; text = t.text }) (record { printable = u.printable; text = u.text })
-formula-unique_in P well bytes l f One Two d e h t u = absurd (clash _ _ 19 (sym t.text ∙ u.text) refl)
-formula-unique_in P well bytes l f Two One d e h t u = absurd (clash _ _ 19 (sym t.text ∙ u.text) refl)
+formula-unique_in P well bytes l f One Two d e h t u = absurd (differ-at _ _ 19 (sym t.text ∙ u.text) refl)
+formula-unique_in P well bytes l f Two One d e h t u = absurd (differ-at _ _ 19 (sym t.text ∙ u.text) refl)
 formula-unique_in P well bytes l f Two Two d e h t u =
     let same = sym t.text ∙ u.text in
     let e1 = cancel (line_bytes (codes "leancop derivation 2")) _ _ same in

@@ -12,10 +12,6 @@ map-more f xs i x d lt at = ap (λ y. map f (take i xs) ++ f y ∷ []) at ∙ sy
 pub map-whole : {X Y : Type 0} (f : X → Y) (xs : List X) (i : ℕ) → length xs ≤ i → map f (take i xs) ≡ map f xs
 map-whole f xs i h = ap (map f) (take_all i xs h)
 
-pub map-twice : {X Y Z : Type 0} (f : X → Y) (g : Y → Z) (xs : List X) → map (λ x. g (f x)) xs ≡ map g (map f xs)
-map-twice f g [] = refl
-map-twice f g (x ∷ xs) = ap (λ l. g (f x) ∷ l) (map-twice f g xs)
-
 pub eigens-grown : {X : Type 0} (f : X → EigenName) (xs : List X) (i : ℕ) (x d : X) (limit : ℕ) (z y : NumberedDerivation) → i < length xs → x ≡ get_or xs i d → z ≡ numbering (derivation_with limit (map f (take i xs)) [] []) → y ≡ put_eigen z (f x)
     → y ≡ numbering (derivation_with limit (map f (take (i + 1) xs)) [] [])
 eigens-grown f xs i x d limit z y lt at e g =

@@ -1,6 +1,8 @@
 -- The faults of the head.
 use Rattle.std.proofs.Common.{◌≡◌, ℕ, ◌+◌, List, [], ◌∷◌, ◌++◌, length, take, drop, IsTrue, refl, sym, ◌∙◌, ap, append-nil, codes, slice_get, Option, Result, Err}
 use Rattle.std.proofs.Math.Seq.{take-append_seam}
+use Rattle.std.proofs.lemmas.List.{append_cancel_left}
+use Rattle.plain_laws.proofs.Lists.{first-item}
 use Rattle.calculus.specs.declared.fault.TextCause.{TextCause}
 use Rattle.calculus.specs.declared.fault.TextCause.TheVariants as cause
 use Rattle.calculus.specs.Syntax.{Problem}
@@ -23,16 +25,6 @@ use Rattle.derivation_text.proofs.Faults.{IsBegun, faulty}
 abbrev blank : Derivation
 blank = record { limit = 1; names = record { eigens = []; spares = [] }; steps = [] }
 
-cancel : (ks xs ys : List (List ℕ)) → ks ++ xs ≡ ks ++ ys → xs ≡ ys
-cancel [] xs ys e = e
-cancel (k ∷ ks) xs ys e = cancel ks xs ys (tail-eq k k (ks ++ xs) (ks ++ ys) e)
-  where
-    tail-eq : (x y : List ℕ) (xs ys : List (List ℕ)) → x ∷ xs ≡ y ∷ ys → xs ≡ ys
-    tail-eq x y xs ys e = cc
-
-head-eq : (x y : List ℕ) (xs ys : List (List ℕ)) → x ∷ xs ≡ y ∷ ys → x ≡ y
-head-eq x y xs ys e = cc
-
 -- each derivation has a line after these
 pub record HasLine (P : Problem) (seen : List (List ℕ)) (d : Derivation) (line : List ℕ) : Type 0 where
   pub rest : List (List ℕ)
@@ -49,14 +41,14 @@ head-fault P w bytes seen place line r has none c why = (length seen, refl, faul
 
     next : (e : Derivation) → IsTrue (is_printable P e) → (l : List ℕ) (rest more : List (List ℕ)) → derivation_lines P e ≡ seen ++ l ∷ rest → whole_lines (drop place bytes) ≡ l ∷ more → ⊥
     next e printable l rest more same first =
-        let k = head-eq l (line e) rest (has e).rest (cancel seen (l ∷ rest) (line e ∷ (has e).rest) (sym same ∙ (has e).all)) in
+        let k = first-item l (line e) rest (has e).rest (append_cancel_left seen (l ∷ rest) (line e ∷ (has e).rest) (sym same ∙ (has e).all)) in
         none e printable more (first ∙ ap (λ (j : List ℕ). j ∷ more) k)
 
     no_line : (l : List ℕ) (rest : List (List ℕ)) → l ∷ rest ≡ [] → ⊥
     no_line l rest e = cc
 
     done : (e : Derivation) → IsText P e bytes → derivation_lines P e ≡ seen → ⊥
-    done e t same = no_line (line e) (has e).rest (cancel seen (line e ∷ (has e).rest) [] (sym (has e).all ∙ same ∙ sym (append-nil seen)))
+    done e t same = no_line (line e) (has e).rest (append_cancel_left seen (line e ∷ (has e).rest) [] (sym (has e).all ∙ same ∙ sym (append-nil seen)))
 
     cause-here : cause_at bytes (length seen) ≡ c
     cause-here = ap (λ k. cause_after k (slice_get (whole_lines bytes) (length seen))) (ap (take (length seen)) r.whole ∙ take-append_seam seen (whole_lines (drop place bytes))) ∙ why (slice_get (whole_lines bytes) (length seen))

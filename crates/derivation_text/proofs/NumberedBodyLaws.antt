@@ -1,6 +1,8 @@
 -- The lines of a derivation with numbers as values: what one more makes of them, and which of them can be written.
 use Rattle.std.proofs.Common.{◌≡◌, ◌≢◌, ℕ, suc, ◌+◌, List, [], ◌∷◌, ◌++◌, length, map, Bool, true, false, ◌&&◌, IsTrue, None, Some, if◌then◌else◌, refl, sym, ◌∙◌, ap, subst, append_assoc, append-nil, codes, arith, ◌==◌, eqb-true, length-append}
 use Rattle.std.proofs.lemmas.Bool.{and_parts, true≢false}
+use Rattle.plain_laws.proofs.Lists.{map-append, map-twice}
+use Rattle.derivation_text.proofs.NumberedStages.{takes-on}
 use Rattle.calculus.specs.Syntax.{Symbol, Term, Problem}
 use Rattle.calculus.specs.Derivations.{Label}
 use Rattle.calculus.specs.Versions.{is_among, numbered_home_is_written, NumberedDerivation, NumberedEigen, NumberedSpare, NumberedStep, label_line, lines_from, numbered_eigen_line, numbered_head, numbered_lines, numbered_spare_line, numbered_step_line, term_line}
@@ -10,14 +12,6 @@ use Rattle.derivation_text.specs.declared.numbered_line.Part.TheVariants.{Labels
 use Rattle.derivation_text.specs.Listed.{are_listed}
 use Rattle.derivation_text.specs.NumberedBody.{NumberedLine, label_of, eigen_of, spare_of, term_of, step_of, last_line, ended_stage, goes_on, is_behind, last_eigen, last_spare, numbered_line_text, numbered_stage_after, takes_labels, takes_terms, with_numbered_line}
 use Rattle.derivation_text.specs.NumberedReading.{FitsPart, ending_of, front_lines, label_lines, lines_of_lists, numbered_lines_at, term_lines}
-
-pub map-append : {X Y : Type 0} (f : X → Y) (xs ys : List X) → map f (xs ++ ys) ≡ map f xs ++ map f ys
-map-append f [] ys = refl
-map-append f (x ∷ xs) ys = ap (λ l. f x ∷ l) (map-append f xs ys)
-
-map-twice : {X Y Z : Type 0} (f : X → Y) (g : Y → Z) (xs : List X) → map g (map f xs) ≡ map (λ x. g (f x)) xs
-map-twice f g [] = refl
-map-twice f g (x ∷ xs) = ap (λ l. g (f x) ∷ l) (map-twice f g xs)
 
 -- ---- their texts
 
@@ -169,14 +163,6 @@ spare-goes Terms n e = no_false e
 spare-goes Steps n e = no_false e
 spare-goes Ended n e = no_false e
 
-term-goes : (p : Part) → takes_terms p ≡ true → goes_on p ≡ true
-term-goes Labels e = refl
-term-goes (Eigens m) e = refl
-term-goes (Spares m) e = refl
-term-goes Terms e = refl
-term-goes Steps e = no_false e
-term-goes Ended e = no_false e
-
 abbrev pub Counts : NumberedStage → NumberedDerivation → Type 0
 Counts s x = IsTrue (goes_on s.part) → (s.labels ≡ length x.labels) × (s.terms ≡ length x.terms)
 
@@ -237,7 +223,7 @@ goes-more s t x (term_of k u) h n e =
     let c = chosen (takes_terms s.part && (k == suc s.terms)) (record { labels = s.labels; terms = suc s.terms; part = Terms }) t e in
     let p = and_parts (takes_terms s.part) (k == suc s.terms) c.0 in
     let f = fits-term s.part x p.0 h in
-    let g = term-goes s.part p.0 in
+    let g = takes-on s.part p.0 in
     let m = n g in
     let number : k ≡ suc (length x.terms) = eqb-true k (suc s.terms) p.1 ∙ ap suc m.1 in
     there s t (record { labels = s.labels; terms = suc s.terms; part = Terms }) x (term_of k u) c.1

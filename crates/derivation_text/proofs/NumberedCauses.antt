@@ -3,6 +3,8 @@ use Rattle.std.proofs.Common.{◌≡◌, ◌≢◌, ℕ, suc, List, [], ◌∷�
 use Rattle.std.specs.List.{list_all, list_any}
 use Rattle.std.proofs.lemmas.List.Folds.{list_all-append, list_any-append}
 use Rattle.std.proofs.Math.Seq.{take-append_seam}
+use Rattle.plain_laws.proofs.Places.{item-after}
+use Rattle.plain_laws.proofs.Lists.{map-append}
 use Rattle.calculus.specs.declared.fault.TextCause.TheVariants as cause
 use Rattle.calculus.specs.Syntax.{Symbol, Term, Problem}
 use Rattle.calculus.specs.Derivations.{Label}
@@ -14,7 +16,6 @@ use Rattle.derivation_text.specs.declared.numbered_line.Part.{Part}
 use Rattle.derivation_text.specs.declared.numbered_line.Part.TheVariants.{Labels, Eigens, Spares, Terms, Steps, Ended}
 use Rattle.derivation_text.specs.NumberedBody.{NumberedLine, label_of, eigen_of, spare_of, term_of, step_of, last_line, goes_on, numbered_line_text, takes_labels, takes_terms}
 use Rattle.derivation_text.specs.NumberedReading.{FitsPart, IsNumberedTo, cause_in_part, front_lines, label_lines, numbered_cause_at_stage, takes_names, term_lines}
-use Rattle.derivation_text.proofs.NumberedBodyLaws.{map-append}
 use Rattle.derivation_text.proofs.NumberedKind.{numbered_lines_read}
 
 -- which lines may stand before one that begins with this word
@@ -207,10 +208,6 @@ cause-of_lines P Ended x next f =
     let S = P.symbols in
     ap (λ b. if b then cause.TextAfterEnd else cause_in_body (map (numbered_line_text S) (front_lines x ++ last_line ∷ [])) next)
     (any-join S (front_lines x) (last_line ∷ []) ∙ ap (λ b. b || true) (front-ends_not S x))
-
-item-after : {A : Type 0} (xs ys : List A) → slice_get (xs ++ ys) (length xs) ≡ slice_get ys 0
-item-after [] ys = refl
-item-after (x ∷ xs) ys = item-after xs ys
 
 pub cause-at_part : (P : Problem) (bytes : List ℕ) (place : ℕ) (s : NumberedStage) (x : NumberedDerivation) → IsNumberedTo P bytes place s x
     → numbered_cause_at bytes (length (numbered_lines_read P s.part x)) ≡ numbered_cause_at_stage s.part (slice_get (whole_lines (drop place bytes)) 0)

@@ -2,6 +2,8 @@
 use Rattle.std.proofs.Common.{◌≡◌, ℕ, ◌+◌, ◌^◌, List, [], ◌∷◌, ◌++◌, length, take, drop, true, ◌&&◌, IsTrue, refl, sym, ◌∙◌, ap, append-nil, codes, slice_get, Option, Result, Err, lt-ltb, arith}
 use Rattle.std.proofs.Math.Seq.{take-append_seam}
 use Rattle.std.proofs.lemmas.Bool.{and_from}
+use Rattle.std.proofs.lemmas.List.{append_cancel_left}
+use Rattle.plain_laws.proofs.Lists.{first-item}
 use Rattle.calculus.specs.declared.fault.TextCause.{TextCause}
 use Rattle.calculus.specs.declared.fault.TextCause.TheVariants as cause
 use Rattle.calculus.specs.declared.version.Version.{Version}
@@ -36,16 +38,6 @@ blank-written P =
     let h = and_from (is_count 0) true none-count refl in
     and_from (((some && true) && true) && some) true (and_from ((some && true) && true) some (and_from (some && true) true (and_from some true h refl) refl) h) refl
 
-cancel : (ks xs ys : List (List ℕ)) → ks ++ xs ≡ ks ++ ys → xs ≡ ys
-cancel [] xs ys e = e
-cancel (k ∷ ks) xs ys e = cancel ks xs ys (tail-eq k k (ks ++ xs) (ks ++ ys) e)
-  where
-    tail-eq : (x y : List ℕ) (xs ys : List (List ℕ)) → x ∷ xs ≡ y ∷ ys → xs ≡ ys
-    tail-eq x y xs ys e = cc
-
-head-eq : (x y : List ℕ) (xs ys : List (List ℕ)) → x ∷ xs ≡ y ∷ ys → x ≡ y
-head-eq x y xs ys e = cc
-
 -- each text of numbers has a line after these
 record HasLine (P : Problem) (seen : List (List ℕ)) (x : NumberedDerivation) (line : List ℕ) : Type 0 where
   rest : List (List ℕ)
@@ -62,14 +54,14 @@ head-fault P w bytes seen place line r has none c why = (length seen, refl, numb
 
     next : (x : NumberedDerivation) → IsTrue (is_written P x) → (l : List ℕ) (rest more : List (List ℕ)) → numbered_lines P x ≡ seen ++ l ∷ rest → whole_lines (drop place bytes) ≡ l ∷ more → ⊥
     next x written l rest more same first =
-        let k = head-eq l (line x) rest (has x).rest (cancel seen (l ∷ rest) (line x ∷ (has x).rest) (sym same ∙ (has x).all)) in
+        let k = first-item l (line x) rest (has x).rest (append_cancel_left seen (l ∷ rest) (line x ∷ (has x).rest) (sym same ∙ (has x).all)) in
         none x written more (first ∙ ap (λ (j : List ℕ). j ∷ more) k)
 
     no_line : (l : List ℕ) (rest : List (List ℕ)) → l ∷ rest ≡ [] → ⊥
     no_line l rest e = cc
 
     done : (x : NumberedDerivation) → IsNumberedText P x bytes → numbered_lines P x ≡ seen → ⊥
-    done x t same = no_line (line x) (has x).rest (cancel seen (line x ∷ (has x).rest) [] (sym (has x).all ∙ same ∙ sym (append-nil seen)))
+    done x t same = no_line (line x) (has x).rest (append_cancel_left seen (line x ∷ (has x).rest) [] (sym (has x).all ∙ same ∙ sym (append-nil seen)))
 
     cause-here : numbered_cause_at bytes (length seen) ≡ c
     cause-here = ap (λ k. numbered_cause_after k (slice_get (whole_lines bytes) (length seen))) (ap (take (length seen)) r.whole ∙ take-append_seam seen (whole_lines (drop place bytes))) ∙ why (slice_get (whole_lines bytes) (length seen))

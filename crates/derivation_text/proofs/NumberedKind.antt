@@ -3,6 +3,7 @@ use Rattle.std.proofs.Common.{◌≡◌, ℕ, ◌+◌, List, [], ◌∷◌, ◌+
 use Rattle.std.specs.List.{list_all}
 use Rattle.std.proofs.lemmas.Bool.{and_from, and_parts}
 use Rattle.std.proofs.lemmas.List.Folds.{list_all-append}
+use Rattle.plain_laws.proofs.Lists.{map-append}
 use Rattle.calculus.specs.Syntax.{Problem}
 use Rattle.calculus.specs.Problems.{is_problem}
 use Rattle.calculus.specs.DerivationText.{is_limit, line_bytes}
@@ -19,7 +20,7 @@ use Rattle.derivation_text.specs.declared.numbered_line.Part.{Part}
 use Rattle.derivation_text.specs.declared.numbered_line.Part.TheVariants.{Labels, Eigens, Spares, Terms, Steps, Ended}
 use Rattle.derivation_text.specs.NumberedBody.{IsNumberedLine, NumberedLine, label_of, eigen_of, spare_of, term_of, step_of, last_line, ended_stage, numbered_line_is_written, numbered_line_text, numbered_stage_after, with_numbered_line}
 use Rattle.derivation_text.specs.NumberedReading.{IsNumberedTo, ending_of, first_stage, front_lines, numbered_lines_at, numbered_stage_after_lines}
-use Rattle.derivation_text.proofs.NumberedBodyLaws.{goes-more, lines-body, map-append, numbered_body}
+use Rattle.derivation_text.proofs.NumberedBodyLaws.{goes-more, lines-body, numbered_body}
 use Rattle.derivation_text.proofs.NumberedEnds.{body-ends, body-written}
 use Rattle.derivation_text.proofs.NumberedFeeds.{numbered-feed}
 use Rattle.derivation_text.proofs.NumberedOne.{line-one}

@@ -2,15 +2,18 @@
 use Rattle.std.proofs.Common.{◌≡◌, ℕ, ◌^◌, ◌<◌, List, [], ◌∷◌, ◌++◌, ◌&&◌, false, ◌==◌, IsTrue, Option, None, Some, refl, sym, ◌∙◌, ap, append_assoc, decimal, codes, eq-eqb, ltb-true}
 use Rattle.std.specs.List.{list_all}
 use Rattle.std.proofs.lemmas.Bool.{and_parts, true≢false}
+use Rattle.plain_laws.proofs.Places.{differ-at}
+use Rattle.plain_laws.proofs.Lists.{on-line}
+use Rattle.calculus.proofs.VersionLaws.{arg-no_character, arg-no_to, numbered-axiom-on, numbered-eigen-on, numbered-spare-on, numbered-use-on}
 use Rattle.calculus.specs.Syntax.{Symbol, Term}
 use Rattle.calculus.specs.Problems.{are_distinct}
 use Rattle.calculus.specs.Derivations.{Label}
-use Rattle.calculus.specs.DerivationText.{eigen_text, label_is_written, term_is_written}
+use Rattle.calculus.specs.DerivationText.{label_is_written, term_is_written}
 use Rattle.calculus.specs.Text.{Ends, is_digit, is_number, label_text, term_text}
 use Rattle.calculus.specs.Versions.{NumberedEigen, NumberedSpare, NumberedModal, no_numbered_modal, to_number, by_character, NumberedTerm, no_numbered_term, by_number, by_eigen, NumberedStep, numbered_use, numbered_axiom, label_line, numbered_eigen_line, numbered_home_text, numbered_modal_text, numbered_spare_line, numbered_step_line, numbered_term_text, term_line}
 use Rattle.calculus.proofs.TextLaws.{cons-head, cons-tail, decimal-digits, decimal-split}
 use Rattle.calculus.proofs.TermTextLaws.{ends-digit, label-split, number-split, term-split}
-use Rattle.calculus.proofs.DerivationTextLaws.{cancel, clash, entry-split}
+use Rattle.calculus.proofs.DerivationTextLaws.{cancel, entry-split}
 use Rattle.derivation_text.specs.NumberedBody.{NumberedLine, label_of, eigen_of, spare_of, term_of, step_of, last_line, arg_has_number, home_has_number, is_count_text, modal_has_number, numbered_line_is_written, numbered_line_text, step_has_numbers}
 
 small : (k : ℕ) → IsTrue (is_count_text k) → k < 2 ^ 64
@@ -24,7 +27,7 @@ any-digit : (k : ℕ) (r s : List ℕ) → k < 2 ^ 64 → codes "any" ++ r ≡ d
 any-digit k r s h e = by (decimal k) (decimal-digits k h) e
   where
     by : (ds : List ℕ) → IsTrue (list_all is_digit ds) → codes "any" ++ r ≡ ds ++ 10 ∷ s → ⊥
-    by [] g f = clash _ _ 0 f refl
+    by [] g f = differ-at _ _ 0 f refl
     by (d ∷ ds) g f = true≢false (sym (and_parts (is_digit d) (list_all is_digit ds) g).0 ∙ ap is_digit (sym (cons-head f)))
 
 home-split : (j k : Option ℕ) (r s : List ℕ) → IsTrue (home_has_number j) → IsTrue (home_has_number k) → numbered_home_text j ++ 10 ∷ r ≡ numbered_home_text k ++ 10 ∷ s → (j ≡ k) × (r ≡ s)
@@ -56,24 +59,18 @@ term-one S d j k t u r s ht hu e =
     let second = term-split S d t u (10 ∷ r) (10 ∷ s) p.1 q.1 refl refl (cons-tail first.1) in
     (first.0, second.0)
 
-eigen-on : (x : NumberedEigen) (r : List ℕ) → numbered_eigen_line x ++ r ≡ codes "name $$e" ++ (decimal x.number ++ (32 ∷ (decimal x.home ++ r)))
-eigen-on x r = append_assoc (codes "name " ++ eigen_text x.number ++ codes " ") (decimal x.home) r ∙ append_assoc (codes "name " ++ eigen_text x.number) (codes " ") (decimal x.home ++ r)
-
 eigen-one : (x y : NumberedEigen) (r s : List ℕ) → IsTrue (is_number x.number && is_count_text x.home) → IsTrue (is_number y.number && is_count_text y.home) → numbered_eigen_line x ++ 10 ∷ r ≡ numbered_eigen_line y ++ 10 ∷ s → x ≡ y
 eigen-one x y r s hx hy e =
-    let f = cons-tail (cons-tail (cons-tail (cons-tail (cons-tail (cons-tail (cons-tail (cons-tail (sym (eigen-on x (10 ∷ r)) ∙ e ∙ eigen-on y (10 ∷ s))))))))) in
+    let f = cons-tail (cons-tail (cons-tail (cons-tail (cons-tail (cons-tail (cons-tail (cons-tail (sym (numbered-eigen-on x (10 ∷ r)) ∙ e ∙ numbered-eigen-on y (10 ∷ s))))))))) in
     let px = and_parts (is_number x.number) (is_count_text x.home) hx in
     let py = and_parts (is_number y.number) (is_count_text y.home) hy in
     let first = entry-split x.number y.number (32 ∷ (decimal x.home ++ 10 ∷ r)) (32 ∷ (decimal y.home ++ 10 ∷ s)) px.0 py.0 refl refl f in
     let second = count-split x.home y.home (10 ∷ r) (10 ∷ s) px.1 py.1 refl refl (cons-tail first.1) in
     λ i. record { number = first.0 i; home = second.0 i }
 
-spare-on : (x : NumberedSpare) (r : List ℕ) → numbered_spare_line x ++ r ≡ codes "name $$s" ++ (decimal x.number ++ (32 ∷ (numbered_home_text x.home ++ r)))
-spare-on x r = append_assoc (codes "name $$s" ++ decimal x.number ++ codes " ") (numbered_home_text x.home) r ∙ append_assoc (codes "name $$s" ++ decimal x.number) (codes " ") (numbered_home_text x.home ++ r) ∙ append_assoc (codes "name $$s") (decimal x.number) (32 ∷ (numbered_home_text x.home ++ r))
-
 spare-one : (x y : NumberedSpare) (r s : List ℕ) → IsTrue (is_number x.number && home_has_number x.home) → IsTrue (is_number y.number && home_has_number y.home) → numbered_spare_line x ++ 10 ∷ r ≡ numbered_spare_line y ++ 10 ∷ s → x ≡ y
 spare-one x y r s hx hy e =
-    let f = cons-tail (cons-tail (cons-tail (cons-tail (cons-tail (cons-tail (cons-tail (cons-tail (sym (spare-on x (10 ∷ r)) ∙ e ∙ spare-on y (10 ∷ s))))))))) in
+    let f = cons-tail (cons-tail (cons-tail (cons-tail (cons-tail (cons-tail (cons-tail (cons-tail (sym (numbered-spare-on x (10 ∷ r)) ∙ e ∙ numbered-spare-on y (10 ∷ s))))))))) in
     let px = and_parts (is_number x.number) (home_has_number x.home) hx in
     let py = and_parts (is_number y.number) (home_has_number y.home) hy in
     let first = entry-split x.number y.number (32 ∷ (numbered_home_text x.home ++ 10 ∷ r)) (32 ∷ (numbered_home_text y.home ++ 10 ∷ s)) px.0 py.0 refl refl f in
@@ -84,24 +81,14 @@ spare-one x y r s hx hy e =
 
 arg-split : (t u : NumberedTerm) (r s : List ℕ) → IsTrue (arg_has_number t) → IsTrue (arg_has_number u) → numbered_term_text t ++ 10 ∷ r ≡ numbered_term_text u ++ 10 ∷ s → (t ≡ u) × (r ≡ s)
 arg-split no_numbered_term no_numbered_term r s ht hu e = (refl, cons-tail e)
-arg-split no_numbered_term (by_number j) r s ht hu e = absurd (clash _ _ 0 e refl)
-arg-split no_numbered_term (by_eigen j) r s ht hu e = absurd (clash _ _ 0 e refl)
-arg-split (by_number k) no_numbered_term r s ht hu e = absurd (clash _ _ 0 e refl)
+arg-split no_numbered_term (by_number j) r s ht hu e = absurd (differ-at _ _ 0 e refl)
+arg-split no_numbered_term (by_eigen j) r s ht hu e = absurd (differ-at _ _ 0 e refl)
+arg-split (by_number k) no_numbered_term r s ht hu e = absurd (differ-at _ _ 0 e refl)
 arg-split (by_number k) (by_number j) r s ht hu e = let p = count-split k j (10 ∷ r) (10 ∷ s) ht hu refl refl (cancel (codes " term ") _ _ e) in (ap by_number p.0, cons-tail p.1)
-arg-split (by_number k) (by_eigen j) r s ht hu e = absurd (clash _ _ 1 e refl)
-arg-split (by_eigen k) no_numbered_term r s ht hu e = absurd (clash _ _ 0 e refl)
-arg-split (by_eigen k) (by_number j) r s ht hu e = absurd (clash _ _ 1 e refl)
+arg-split (by_number k) (by_eigen j) r s ht hu e = absurd (differ-at _ _ 1 e refl)
+arg-split (by_eigen k) no_numbered_term r s ht hu e = absurd (differ-at _ _ 0 e refl)
+arg-split (by_eigen k) (by_number j) r s ht hu e = absurd (differ-at _ _ 1 e refl)
 arg-split (by_eigen k) (by_eigen j) r s ht hu e = let p = number-split k j (10 ∷ r) (10 ∷ s) ht hu refl refl (cancel (codes " name $$e") _ _ e) in (ap by_eigen p.0, cons-tail p.1)
-
-arg-no_to : (t : NumberedTerm) (k : ℕ) (r s : List ℕ) → numbered_term_text t ++ 10 ∷ r ≡ numbered_modal_text (to_number k) ++ s → ⊥
-arg-no_to no_numbered_term k r s e = clash _ _ 0 e refl
-arg-no_to (by_number j) k r s e = clash _ _ 2 e refl
-arg-no_to (by_eigen j) k r s e = clash _ _ 1 e refl
-
-arg-no_character : (t : NumberedTerm) (k : ℕ) (r s : List ℕ) → numbered_term_text t ++ 10 ∷ r ≡ numbered_modal_text (by_character k) ++ s → ⊥
-arg-no_character no_numbered_term k r s e = clash _ _ 0 e refl
-arg-no_character (by_number j) k r s e = clash _ _ 1 e refl
-arg-no_character (by_eigen j) k r s e = clash _ _ 2 e refl
 
 arg-ends : (t : NumberedTerm) (r : List ℕ) → Ends (numbered_term_text t ++ 10 ∷ r)
 arg-ends no_numbered_term r = refl
@@ -121,22 +108,16 @@ args-split (to_number k) no_numbered_modal t u r s hm hn ht hu e = absurd (arg-n
 args-split (to_number k) (to_number j) t u r s hm hn ht hu e =
     let first = count-split k j (numbered_term_text t ++ 10 ∷ r) (numbered_term_text u ++ 10 ∷ s) hm hn (arg-ends t r) (arg-ends u s) (cancel (codes " to ") _ _ e) in
     (ap to_number first.0, (arg-split t u r s ht hu first.1).0)
-args-split (to_number k) (by_character j) t u r s hm hn ht hu e = absurd (clash _ _ 1 e refl)
+args-split (to_number k) (by_character j) t u r s hm hn ht hu e = absurd (differ-at _ _ 1 e refl)
 args-split (by_character k) no_numbered_modal t u r s hm hn ht hu e = absurd (arg-no_character u k s _ (sym e))
-args-split (by_character k) (to_number j) t u r s hm hn ht hu e = absurd (clash _ _ 1 e refl)
+args-split (by_character k) (to_number j) t u r s hm hn ht hu e = absurd (differ-at _ _ 1 e refl)
 args-split (by_character k) (by_character j) t u r s hm hn ht hu e =
     let first = number-split k j (numbered_term_text t ++ 10 ∷ r) (numbered_term_text u ++ 10 ∷ s) hm hn (arg-ends t r) (arg-ends u s) (cancel (codes " new $$c") _ _ e) in
     (ap by_character first.0, (arg-split t u r s ht hu first.1).0)
 
-use-on : (n : ℕ) (m : NumberedModal) (t : NumberedTerm) (r : List ℕ) → numbered_step_line (numbered_use n m t) ++ r ≡ codes "use " ++ (decimal n ++ (numbered_modal_text m ++ (numbered_term_text t ++ r)))
-use-on n m t r = append_assoc (codes "use " ++ decimal n ++ numbered_modal_text m) (numbered_term_text t) r ∙ append_assoc (codes "use " ++ decimal n) (numbered_modal_text m) (numbered_term_text t ++ r) ∙ append_assoc (codes "use ") (decimal n) (numbered_modal_text m ++ (numbered_term_text t ++ r))
-
-axiom-on : (n k : ℕ) (r : List ℕ) → numbered_step_line (numbered_axiom n k) ++ r ≡ codes "axiom " ++ (decimal n ++ (32 ∷ (decimal k ++ r)))
-axiom-on n k r = append_assoc (codes "axiom " ++ decimal n ++ codes " ") (decimal k) r ∙ append_assoc (codes "axiom " ++ decimal n) (codes " ") (decimal k ++ r) ∙ append_assoc (codes "axiom ") (decimal n) (32 ∷ (decimal k ++ r))
-
 step-one : (x y : NumberedStep) (r s : List ℕ) → IsTrue (step_has_numbers x) → IsTrue (step_has_numbers y) → numbered_step_line x ++ 10 ∷ r ≡ numbered_step_line y ++ 10 ∷ s → x ≡ y
 step-one (numbered_use n m t) (numbered_use k j u) r s hx hy e =
-    let f = cancel (codes "use ") _ _ (sym (use-on n m t (10 ∷ r)) ∙ e ∙ use-on k j u (10 ∷ s)) in
+    let f = cancel (codes "use ") _ _ (sym (numbered-use-on n m t (10 ∷ r)) ∙ e ∙ numbered-use-on k j u (10 ∷ s)) in
     let px = and_parts (is_number n) (modal_has_number m && arg_has_number t) hx in
     let py = and_parts (is_number k) (modal_has_number j && arg_has_number u) hy in
     let qx = and_parts (modal_has_number m) (arg_has_number t) px.1 in
@@ -144,10 +125,10 @@ step-one (numbered_use n m t) (numbered_use k j u) r s hx hy e =
     let first = entry-split n k (numbered_modal_text m ++ (numbered_term_text t ++ 10 ∷ r)) (numbered_modal_text j ++ (numbered_term_text u ++ 10 ∷ s)) px.0 py.0 (args-end m t r) (args-end j u s) f in
     let rest = args-split m j t u r s qx.0 qy.0 qx.1 qy.1 first.1 in
     λ i. numbered_use (first.0 i) (rest.0 i) (rest.1 i)
-step-one (numbered_use n m t) (numbered_axiom k j) r s hx hy e = absurd (clash _ _ 0 e refl)
-step-one (numbered_axiom n k) (numbered_use j m t) r s hx hy e = absurd (clash _ _ 0 e refl)
+step-one (numbered_use n m t) (numbered_axiom k j) r s hx hy e = absurd (differ-at _ _ 0 e refl)
+step-one (numbered_axiom n k) (numbered_use j m t) r s hx hy e = absurd (differ-at _ _ 0 e refl)
 step-one (numbered_axiom n k) (numbered_axiom i j) r s hx hy e =
-    let f = cancel (codes "axiom ") _ _ (sym (axiom-on n k (10 ∷ r)) ∙ e ∙ axiom-on i j (10 ∷ s)) in
+    let f = cancel (codes "axiom ") _ _ (sym (numbered-axiom-on n k (10 ∷ r)) ∙ e ∙ numbered-axiom-on i j (10 ∷ s)) in
     let px = and_parts (is_number n) (is_number k) hx in
     let py = and_parts (is_number i) (is_number j) hy in
     let first = entry-split n i (32 ∷ (decimal k ++ 10 ∷ r)) (32 ∷ (decimal j ++ 10 ∷ s)) px.0 py.0 refl refl f in
@@ -155,9 +136,6 @@ step-one (numbered_axiom n k) (numbered_axiom i j) r s hx hy e =
     λ z. numbered_axiom (first.0 z) (second.0 z)
 
 -- ---- any line
-
-on-line : (a b : List ℕ) → a ≡ b → a ++ 10 ∷ [] ≡ b ++ 10 ∷ []
-on-line a b e = ap (λ l. l ++ 10 ∷ []) e
 
 -- a step line begins with `u` or `a`
 no-step : (x : NumberedStep) (b : ℕ) (r : List ℕ) → (117 == b) ≡ false → (97 == b) ≡ false → numbered_step_line x ≡ b ∷ r → ⊥
@@ -171,33 +149,33 @@ line-one S d (eigen_of x) (eigen_of y) hx hy e = ap eigen_of (eigen-one x y [] [
 line-one S d (spare_of x) (spare_of y) hx hy e = ap spare_of (spare-one x y [] [] hx hy (on-line (numbered_spare_line x) (numbered_spare_line y) e))
 line-one S d (step_of x) (step_of y) hx hy e = ap step_of (step-one x y [] [] hx hy (on-line (numbered_step_line x) (numbered_step_line y) e))
 line-one S d last_line last_line hx hy e = refl
-line-one S d (label_of j v) (eigen_of y) hx hy e = absurd (clash _ _ 0 e refl)
-line-one S d (label_of j v) (spare_of y) hx hy e = absurd (clash _ _ 0 e refl)
-line-one S d (label_of j v) (term_of k u) hx hy e = absurd (clash _ _ 0 e refl)
+line-one S d (label_of j v) (eigen_of y) hx hy e = absurd (differ-at _ _ 0 e refl)
+line-one S d (label_of j v) (spare_of y) hx hy e = absurd (differ-at _ _ 0 e refl)
+line-one S d (label_of j v) (term_of k u) hx hy e = absurd (differ-at _ _ 0 e refl)
 line-one S d (label_of j v) (step_of y) hx hy e = absurd (no-step y 108 _ refl refl (sym e))
-line-one S d (label_of j v) last_line hx hy e = absurd (clash _ _ 0 e refl)
-line-one S d (eigen_of x) (label_of k w) hx hy e = absurd (clash _ _ 0 e refl)
-line-one S d (eigen_of x) (spare_of y) hx hy e = absurd (clash _ _ 7 e refl)
-line-one S d (eigen_of x) (term_of k u) hx hy e = absurd (clash _ _ 0 e refl)
+line-one S d (label_of j v) last_line hx hy e = absurd (differ-at _ _ 0 e refl)
+line-one S d (eigen_of x) (label_of k w) hx hy e = absurd (differ-at _ _ 0 e refl)
+line-one S d (eigen_of x) (spare_of y) hx hy e = absurd (differ-at _ _ 7 e refl)
+line-one S d (eigen_of x) (term_of k u) hx hy e = absurd (differ-at _ _ 0 e refl)
 line-one S d (eigen_of x) (step_of y) hx hy e = absurd (no-step y 110 _ refl refl (sym e))
-line-one S d (eigen_of x) last_line hx hy e = absurd (clash _ _ 0 e refl)
-line-one S d (spare_of x) (label_of k w) hx hy e = absurd (clash _ _ 0 e refl)
-line-one S d (spare_of x) (eigen_of y) hx hy e = absurd (clash _ _ 7 e refl)
-line-one S d (spare_of x) (term_of k u) hx hy e = absurd (clash _ _ 0 e refl)
+line-one S d (eigen_of x) last_line hx hy e = absurd (differ-at _ _ 0 e refl)
+line-one S d (spare_of x) (label_of k w) hx hy e = absurd (differ-at _ _ 0 e refl)
+line-one S d (spare_of x) (eigen_of y) hx hy e = absurd (differ-at _ _ 7 e refl)
+line-one S d (spare_of x) (term_of k u) hx hy e = absurd (differ-at _ _ 0 e refl)
 line-one S d (spare_of x) (step_of y) hx hy e = absurd (no-step y 110 _ refl refl (sym e))
-line-one S d (spare_of x) last_line hx hy e = absurd (clash _ _ 0 e refl)
-line-one S d (term_of j t) (label_of k w) hx hy e = absurd (clash _ _ 0 e refl)
-line-one S d (term_of j t) (eigen_of y) hx hy e = absurd (clash _ _ 0 e refl)
-line-one S d (term_of j t) (spare_of y) hx hy e = absurd (clash _ _ 0 e refl)
+line-one S d (spare_of x) last_line hx hy e = absurd (differ-at _ _ 0 e refl)
+line-one S d (term_of j t) (label_of k w) hx hy e = absurd (differ-at _ _ 0 e refl)
+line-one S d (term_of j t) (eigen_of y) hx hy e = absurd (differ-at _ _ 0 e refl)
+line-one S d (term_of j t) (spare_of y) hx hy e = absurd (differ-at _ _ 0 e refl)
 line-one S d (term_of j t) (step_of y) hx hy e = absurd (no-step y 116 _ refl refl (sym e))
-line-one S d (term_of j t) last_line hx hy e = absurd (clash _ _ 0 e refl)
+line-one S d (term_of j t) last_line hx hy e = absurd (differ-at _ _ 0 e refl)
 line-one S d (step_of x) (label_of k w) hx hy e = absurd (no-step x 108 _ refl refl e)
 line-one S d (step_of x) (eigen_of y) hx hy e = absurd (no-step x 110 _ refl refl e)
 line-one S d (step_of x) (spare_of y) hx hy e = absurd (no-step x 110 _ refl refl e)
 line-one S d (step_of x) (term_of k u) hx hy e = absurd (no-step x 116 _ refl refl e)
 line-one S d (step_of x) last_line hx hy e = absurd (no-step x 101 _ refl refl e)
-line-one S d last_line (label_of k w) hx hy e = absurd (clash _ _ 0 e refl)
-line-one S d last_line (eigen_of y) hx hy e = absurd (clash _ _ 0 e refl)
-line-one S d last_line (spare_of y) hx hy e = absurd (clash _ _ 0 e refl)
-line-one S d last_line (term_of k u) hx hy e = absurd (clash _ _ 0 e refl)
+line-one S d last_line (label_of k w) hx hy e = absurd (differ-at _ _ 0 e refl)
+line-one S d last_line (eigen_of y) hx hy e = absurd (differ-at _ _ 0 e refl)
+line-one S d last_line (spare_of y) hx hy e = absurd (differ-at _ _ 0 e refl)
+line-one S d last_line (term_of k u) hx hy e = absurd (differ-at _ _ 0 e refl)
 line-one S d last_line (step_of y) hx hy e = absurd (no-step y 101 _ refl refl (sym e))

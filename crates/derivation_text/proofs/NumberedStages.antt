@@ -3,6 +3,7 @@ use Rattle.std.proofs.Common.{◌≡◌, ℕ, suc, ◌+◌, ◌^◌, ◌<◌, Li
 use Rattle.std.specs.List.{list_all}
 use Rattle.std.proofs.lemmas.Bool.{and_from, and_parts, true≢false}
 use Rattle.std.proofs.lemmas.List.Folds.{list_all-append}
+use Rattle.plain_laws.proofs.Every.{all-map}
 use Rattle.calculus.specs.Syntax.{Symbol, Term, Problem}
 use Rattle.calculus.specs.Derivations.{Label}
 use Rattle.calculus.specs.DerivationText.{is_limit, label_is_written, rises_from, term_is_written}
@@ -156,10 +157,6 @@ steps-in a b part g (x ∷ xs) tail t e =
 
 -- ---- what can be written
 
-pub map-all : {X Y : Type 0} (f : X → Y) (p : Y → Bool) (xs : List X) → list_all p (map f xs) ≡ list_all (λ x. p (f x)) xs
-map-all f p [] = refl
-map-all f p (x ∷ xs) = ap (λ b. p (f x) && b) (map-all f p xs)
-
 -- both tests of each item
 pub both : {A : Type 0} (p q r : A → Bool) → ((x : A) → IsTrue (p x) → IsTrue (q x) → IsTrue (r x)) → (xs : List A) → IsTrue (list_all p xs) → IsTrue (list_all q xs) → IsTrue (list_all r xs)
 both p q r f [] h k = refl
@@ -244,7 +241,7 @@ written-so_far P n ws es ss ts xs t l w e =
     (and_from (one && two && three) four
     (and_from (one && two) three
     (and_from one two l (and_from (is_count (length ws)) (list_all label_is_written ws) (lt-ltb (length ws) (2 ^ 64) (omega (arith, labels.0))) labels.1))
-    (and_from (rises_from 0 (eigen_numbers es)) (list_all (numbered_eigen_is_written (length ws)) es) r.rises (both (λ y. good (eigen_of y)) (λ (y : NumberedEigen). is_among (length ws) y.home) (numbered_eigen_is_written (length ws)) (eigen-both S (length ws)) es (sym (map-all eigen_of good es) ∙ b.0) r.homes)))
-    (and_from (rises_from 0 (spare_numbers ss)) (list_all (numbered_spare_is_written (length ws)) ss) q.rises (both (λ y. good (spare_of y)) (λ (y : NumberedSpare). numbered_home_is_written (length ws) y.home) (numbered_spare_is_written (length ws)) (spare-both S (length ws)) ss (sym (map-all spare_of good ss) ∙ c.0) q.homes)))
+    (and_from (rises_from 0 (eigen_numbers es)) (list_all (numbered_eigen_is_written (length ws)) es) r.rises (both (λ y. good (eigen_of y)) (λ (y : NumberedEigen). is_among (length ws) y.home) (numbered_eigen_is_written (length ws)) (eigen-both S (length ws)) es (sym (all-map eigen_of good es) ∙ b.0) r.homes)))
+    (and_from (rises_from 0 (spare_numbers ss)) (list_all (numbered_spare_is_written (length ws)) ss) q.rises (both (λ y. good (spare_of y)) (λ (y : NumberedSpare). numbered_home_is_written (length ws) y.home) (numbered_spare_is_written (length ws)) (spare-both S (length ws)) ss (sym (all-map spare_of good ss) ∙ c.0) q.homes)))
     (and_from (is_count (length ts)) (list_all (term_is_written S) ts) (lt-ltb (length ts) (2 ^ 64) (omega (arith, terms.0))) terms.1))
-    (both (λ y. good (step_of y)) (are_listed (length ws) (length ts)) (numbered_step_is_written (length ws) (length ts)) (step-both S (length ws) (length ts)) xs (sym (map-all step_of good xs) ∙ d.1) steps)
+    (both (λ y. good (step_of y)) (are_listed (length ws) (length ts)) (numbered_step_is_written (length ws) (length ts)) (step-both S (length ws) (length ts)) xs (sym (all-map step_of good xs) ∙ d.1) steps)

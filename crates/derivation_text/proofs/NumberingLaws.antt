@@ -3,9 +3,9 @@
 use Rattle.std.proofs.Common.{◌≡◌, List, [], ◌∷◌, ◌++◌, map, IsTrue, Some, refl, sym, ◌∙◌, ap, append-nil, append_assoc, flat_map}
 use Rattle.std.specs.List.{list_all}
 use Rattle.std.proofs.lemmas.Bool.{and_parts}
-use Rattle.std.proofs.lemmas.Grind.{flat_map-append}
 use Rattle.std.proofs.lemmas.List.{map-append}
 use Rattle.std.proofs.lemmas.List.Folds.{list_all-append}
+use Rattle.plain_laws.proofs.Lists.{flat-last}
 use Rattle.calculus.proofs.EqualityLaws.{Tells, character_eq-tells, list_eq-tells, term_eq-tells}
 use Rattle.calculus.specs.Equality.{term_eq}
 use Rattle.calculus.specs.Syntax.{Term}
@@ -122,18 +122,15 @@ eigen-labels es ss xs x e f =
     ∙ both-nil (map (λ (y : EigenName). y.home) (es ++ x ∷ [])) ∙ map-append (λ (y : EigenName). y.home) es (x ∷ [])
     ∙ ap (λ l. l ++ x.home ∷ []) (sym (both-nil (map (λ (y : EigenName). y.home) es)) ∙ (λ i. (map (λ (y : EigenName). y.home) es ++ flat_map (λ (y : SpareName). home_labels y.home) (sym e i)) ++ flat_map step_labels (sym f i)))
 
-flat-end : {A B : Type 0} (f : A → List B) (xs : List A) (x : A) → flat_map f (xs ++ x ∷ []) ≡ flat_map f xs ++ f x
-flat-end f xs x = flat_map-append f xs (x ∷ []) ∙ ap (λ l. flat_map f xs ++ l) (append-nil (f x))
-
 spare-labels : (front : List Label) (ss : List SpareName) (xs : List Step) (s : SpareName) → xs ≡ []
     → (front ++ flat_map (λ (y : SpareName). home_labels y.home) (ss ++ s ∷ [])) ++ flat_map step_labels xs ≡ ((front ++ flat_map (λ (y : SpareName). home_labels y.home) ss) ++ flat_map step_labels xs) ++ home_labels s.home
 spare-labels front ss xs s f =
     (λ i. (front ++ flat_map (λ (y : SpareName). home_labels y.home) (ss ++ s ∷ [])) ++ flat_map step_labels (f i)) ∙ append-nil (front ++ flat_map (λ (y : SpareName). home_labels y.home) (ss ++ s ∷ []))
-    ∙ ap (λ l. front ++ l) (flat-end (λ (y : SpareName). home_labels y.home) ss s) ∙ sym (append_assoc front (flat_map (λ (y : SpareName). home_labels y.home) ss) (home_labels s.home))
+    ∙ ap (λ l. front ++ l) (flat-last (λ (y : SpareName). home_labels y.home) ss s) ∙ sym (append_assoc front (flat_map (λ (y : SpareName). home_labels y.home) ss) (home_labels s.home))
     ∙ ap (λ l. l ++ home_labels s.home) (sym (append-nil (front ++ flat_map (λ (y : SpareName). home_labels y.home) ss)) ∙ (λ i. (front ++ flat_map (λ (y : SpareName). home_labels y.home) ss) ++ flat_map step_labels (sym f i)))
 
 step-end-labels : (front : List Label) (xs : List Step) (y : Step) → front ++ flat_map step_labels (xs ++ y ∷ []) ≡ (front ++ flat_map step_labels xs) ++ step_labels y
-step-end-labels front xs y = ap (λ l. front ++ l) (flat-end step_labels xs y) ∙ sym (append_assoc front (flat_map step_labels xs) (step_labels y))
+step-end-labels front xs y = ap (λ l. front ++ l) (flat-last step_labels xs y) ∙ sym (append_assoc front (flat_map step_labels xs) (step_labels y))
 
 -- ---- one line more
 
@@ -171,7 +168,7 @@ put-step d (close n m) =
     let T = once term_eq (terms_of d) in
     let front = map (λ (x : EigenName). x.home) d.names.eigens ++ flat_map (λ (x : SpareName). home_labels x.home) d.names.spares in
     let labels = ap (once same_label) (step-end-labels front d.steps (close n m) ∙ append-nil (labels_of d)) in
-    let terms = ap (once term_eq) (flat-end step_terms d.steps (close n m) ∙ append-nil (terms_of d)) in
+    let terms = ap (once term_eq) (flat-last step_terms d.steps (close n m) ∙ append-nil (terms_of d)) in
     let steps = sym (map-append (numbered_step L T) d.steps (close n m ∷ [])) in
     (λ i. record { limit = d.limit; labels = L; eigens = map (numbered_eigen L) d.names.eigens; spares = map (numbered_spare L) d.names.spares; terms = T; steps = steps i })
     ∙ (λ i. numbered_by (sym labels i) (sym terms i) (with_line d (of_step (close n m))))
@@ -189,7 +186,7 @@ put-step d (apply_to n m t) =
     let spares = sym (grown-spares L M g d.names.spares k.spares) in
     let steps = ap (λ l. l ++ numbered_step M U y ∷ []) (sym (grown-steps L M T U g j d.steps k.steps k.terms)) ∙ sym (map-append (numbered_step M U) d.steps (y ∷ [])) in
     let labels = ap (once same_label) (step-end-labels front d.steps y) ∙ once-modal (labels_of d) m in
-    let terms = ap (once term_eq) (flat-end step_terms d.steps y) ∙ once-arg (terms_of d) t in
+    let terms = ap (once term_eq) (flat-last step_terms d.steps y) ∙ once-arg (terms_of d) t in
     (λ i. record { limit = d.limit; labels = M; eigens = eigens i; spares = spares i; terms = U; steps = steps i })
     ∙ (λ i. numbered_by (sym labels i) (sym terms i) (with_line d (of_step y)))
 

@@ -1,21 +1,13 @@
 -- Lists in which each item stands once, where it first occurs, and the numbers of items in them.
-use Rattle.std.proofs.Common.{if◌then◌else◌, ◌≡◌, suc, List, [], ◌∷◌, ◌++◌, length, Bool, true, false, cond, not, ◌&&◌, ◌||◌, IsTrue, refl, sym, ◌∙◌, ap, append-nil}
+use Rattle.std.proofs.Common.{if◌then◌else◌, ◌≡◌, suc, List, [], ◌∷◌, ◌++◌, length, Bool, true, false, cond, not, ◌||◌, IsTrue, refl, sym, ◌∙◌, ap, append-nil}
 use Rattle.std.specs.List.{filter, list_all}
-use Rattle.std.proofs.lemmas.Bool.{true≢false}
+use Rattle.std.proofs.lemmas.Bool.{true≢false, and_from, or_right}
 use Rattle.std.proofs.lemmas.List.Elements.{filter-append}
 use Rattle.calculus.proofs.EqualityLaws.{Tells}
 use Rattle.calculus.specs.Versions.{number_in, once, place_in}
 use Rattle.derivation_text.specs.Entering.{entered, has}
 
 -- ---- what is in a list
-
-or-right : (a b : Bool) → IsTrue b → IsTrue (a || b)
-or-right true b h = refl
-or-right false b h = h
-
-and-both : (a b : Bool) → IsTrue a → IsTrue b → IsTrue (a && b)
-and-both true b ha hb = hb
-and-both false b ha hb = ha
 
 abbrev others : {A : Type 0} → (A → A → Bool) → A → List A → List A
 others same z ys = filter (λ y. not (same z y)) ys
@@ -74,7 +66,7 @@ once-has {A} same tells (z ∷ zs) x h = by (same z x) refl (once-has same tells
 
 all-in : {A : Type 0} (same : A → A → Bool) → Tells same → (zs xs : List A) → ((x : A) → IsTrue (has same zs x) → IsTrue (has same xs x)) → IsTrue (list_all (has same xs) zs)
 all-in same tells [] xs into = refl
-all-in same tells (z ∷ zs) xs into = and-both (has same xs z) (list_all (has same xs) zs) (into z (ap (λ b. b || has same zs z) ((tells z z).1 refl))) (all-in same tells zs xs (λ x h. into x (or-right (same z x) (has same zs x) h)))
+all-in same tells (z ∷ zs) xs into = and_from (has same xs z) (list_all (has same xs) zs) (into z (ap (λ b. b || has same zs z) ((tells z z).1 refl))) (all-in same tells zs xs (λ x h. into x (or_right (same z x) (has same zs x) h)))
 
 pub all-once : {A : Type 0} (same : A → A → Bool) → Tells same → (xs : List A) → IsTrue (list_all (has same (once same xs)) xs)
 all-once same tells xs = all-in same tells xs (once same xs) (once-has same tells xs)

@@ -1,9 +1,10 @@
 -- Numbers that come in the order of first occurrence are those by which the derivation that they state is numbered.
 use Rattle.std.proofs.Common.{if◌then◌else◌, ◌≡◌, ℕ, zero, suc, ◌<◌, ◌≤◌, List, [], ◌∷◌, ◌++◌, length, take, get_or, map, Bool, true, false, ◌||◌, ◌==◌, IsTrue, Option, Some, None, nat_le, refl, sym, ◌∙◌, ap, subst, append-nil, append_assoc, flat_map, add-one, arith, leb-true, eqb-true}
 use Rattle.std.specs.List.{list_all}
-use Rattle.std.proofs.lemmas.Bool.{and_parts, true≢false}
+use Rattle.std.proofs.lemmas.Bool.{and_parts, true≢false, or_right}
 use Rattle.std.proofs.lemmas.List.{get_or-take, length-take-le, map-append, take_more}
 use Rattle.std.proofs.lemmas.List.Folds.{list_all-append}
+use Rattle.plain_laws.proofs.Places.{take-all}
 use Rattle.calculus.proofs.EqualityLaws.{Tells, term_eq-tells}
 use Rattle.calculus.specs.Equality.{term_eq}
 use Rattle.calculus.specs.Syntax.{Term, spare}
@@ -36,14 +37,10 @@ place-found {A} same tells (y ∷ ys) x d h = by (same y x) refl (place-found sa
     by true e rest = ap (λ c. get_or (y ∷ ys) (if c then 0 else suc (place_in same ys x)) d) e ∙ (tells y x).0 e
     by false e rest = ap (λ c. get_or (y ∷ ys) (if c then 0 else suc (place_in same ys x)) d) e ∙ rest (ap (λ b. b || has same ys x) (sym e) ∙ h)
 
-or-right : (a b : Bool) → IsTrue b → IsTrue (a || b)
-or-right true b h = refl
-or-right false b h = h
-
 has-at : {A : Type 0} (same : A → A → Bool) → Tells same → (xs : List A) (i : ℕ) (d : A) → i < length xs → IsTrue (has same xs (get_or xs i d))
 has-at same tells [] i d h = absurd (omega arith)
 has-at same tells (y ∷ ys) zero d h = ap (λ b. b || has same ys y) ((tells y y).1 refl)
-has-at same tells (y ∷ ys) (suc i) d h = or-right (same y (get_or ys i d)) (has same ys (get_or ys i d)) (has-at same tells ys i d (omega arith))
+has-at same tells (y ∷ ys) (suc i) d h = or_right (same y (get_or ys i d)) (has same ys (get_or ys i d)) (has-at same tells ys i d (omega arith))
 
 -- an item is found at its own number
 number-at : {A : Type 0} (same : A → A → Bool) → Tells same → (xs : List A) (d : A) → AreApart xs d → (k : ℕ) → IsTrue (is_among (length xs) k) → number_in same xs (numbered xs k d) ≡ k
@@ -119,10 +116,6 @@ ordered {A} same tells xs d apart (suc i ∷ ks) s e h k g = by (nat_le (suc i) 
         ∙ rest (suc s) e w p.1 (go ∙ told ∙ g)
     by false q false r rest =
         absurd (none (sym (ap (λ b. if b then greatest_in_order s ks else (if suc i == suc s then greatest_in_order (suc s) ks else None)) q ∙ ap (λ b. if b then greatest_in_order (suc s) ks else None) r) ∙ g))
-
-take-all : {A : Type 0} (xs : List A) → take (length xs) xs ≡ xs
-take-all [] = refl
-take-all (x ∷ xs) = ap (λ l. x ∷ l) (take-all xs)
 
 -- the items of numbers that come in order, once, are the list
 pub once-ordered : {A : Type 0} (same : A → A → Bool) → Tells same → (xs : List A) (d : A) → AreApart xs d → (ks : List ℕ) → IsTrue (list_all (is_among (length xs)) ks) → greatest_in_order 0 ks ≡ Some (length xs) → once same (map (λ k. numbered xs k d) ks) ≡ xs

@@ -120,7 +120,7 @@ within-longer table grown (q ∷ qs) g h =
     let n = ap length g.1 ∙ length-append table g.0 in
     and_from (nat_lt q (length grown)) (list_all (λ p. nat_lt p (length grown)) qs) (lt-ltb q (length grown) (omega (arith, lt, n))) (within-longer table grown qs g a.1)
 
-items-longer : {A : Type 0} (table grown : List A) (d : A) (places : List ℕ) → IsLonger table grown → AreWithin table places → items_at grown d places ≡ items_at table d places
+pub items-longer : {A : Type 0} (table grown : List A) (d : A) (places : List ℕ) → IsLonger table grown → AreWithin table places → items_at grown d places ≡ items_at table d places
 items-longer table grown d [] g h = refl
 items-longer table grown d (q ∷ qs) g h =
     let a = and_parts (nat_lt q (length table)) (list_all (λ p. nat_lt p (length table)) qs) h in
@@ -146,9 +146,6 @@ listed-end table grown d places after p w g h lt at e = record {
 -- the table alone has grown
 pub grown-within : {A : Type 0} (table grown : List A) (places : List ℕ) → IsLonger table grown → AreWithin table places → AreWithin grown places
 grown-within table grown places g h = within-longer table grown places g h
-
-pub grown-items : {A : Type 0} (table grown : List A) (d : A) (places : List ℕ) → IsLonger table grown → AreWithin table places → items_at grown d places ≡ items_at table d places
-grown-items table grown d places g h = items-longer table grown d places g h
 
 -- ---- numbers of items
 

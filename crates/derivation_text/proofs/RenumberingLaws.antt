@@ -10,32 +10,13 @@ use Rattle.calculus.specs.Versions.{NumberedDerivation, NumberedModal, NumberedT
 use Rattle.derivation_text.specs.Entering.{entered, has, put_eigen, put_spare, put_step, with_arg, with_home, with_label, with_modal}
 use Rattle.derivation_text.specs.NumberedBody.{eigen_of, spare_of, step_of, with_numbered_line}
 use Rattle.derivation_text.specs.Renumbering.{AreNew, IsNew, with_labels, with_terms}
-use Rattle.derivation_text.proofs.AmongLaws.{entered-among}
+use Rattle.derivation_text.proofs.AmongLaws.{entered-among, has-entered}
 use Rattle.derivation_text.proofs.OnceLaws.{Grows, entered-grows, number-kept}
 use Rattle.derivation_text.proofs.PlaceLaws.{get-set-other}
 
 pub numbered-at : {A : Type 0} (xs : List A) (n k : ℕ) (none : A) → 0 < n → k ≡ n - 1 → numbered xs n none ≡ get_or xs k none
 numbered-at xs zero k none h e = absurd (omega (arith, h))
 numbered-at xs (suc n) k none h e = let s : n ≡ k = omega (arith, e) in ap (λ j. get_or xs j none) s
-
-or-first : (a b : Bool) → IsTrue a → IsTrue (a || b)
-or-first true b h = refl
-or-first false b h = absurd (true≢false (sym h))
-
-or-later : (a b : Bool) → IsTrue b → IsTrue (a || b)
-or-later true b h = refl
-or-later false b h = h
-
-has-end : {A : Type 0} (same : A → A → Bool) → Tells same → (xs : List A) (x : A) → IsTrue (has same (xs ++ x ∷ []) x)
-has-end same tells [] x = or-first (same x x) false ((tells x x).1 refl)
-has-end same tells (y ∷ ys) x = or-later (same y x) (has same (ys ++ x ∷ []) x) (has-end same tells ys x)
-
-entered-has : {A : Type 0} (same : A → A → Bool) → Tells same → (xs : List A) (x : A) → IsTrue (has same (entered same xs x) x)
-entered-has {A} same tells xs x = by (has same xs x) refl
-  where
-    by : (b : Bool) → has same xs x ≡ b → IsTrue (has same (if b then xs else xs ++ x ∷ []) x)
-    by true e = e
-    by false e = has-end same tells xs x
 
 has-more : {A : Type 0} (same : A → A → Bool) (xs ys : List A) (x : A) → IsTrue (has same xs x) → IsTrue (has same (xs ++ ys) x)
 has-more same [] ys x h = absurd (true≢false (sym h))
@@ -47,7 +28,7 @@ has-more {A} same (y ∷ xs) ys x h = by (same y x) h (has-more same xs ys x)
 
 -- what is entered is new
 pub new-entered : {A : Type 0} (same : A → A → Bool) → Tells same → (xs ys : List A) (x : A) (n : ℕ) → ys ≡ entered same xs x → n ≡ number_in same ys x → IsNew same ys x n
-new-entered same tells xs ys x n e h = record { has = subst (λ l. IsTrue (has same l x)) (sym e) (entered-has same tells xs x); number = h }
+new-entered same tells xs ys x n e h = record { has = subst (λ l. IsTrue (has same l x)) (sym e) (has-entered same tells xs x); number = h }
 
 new-kept : {A : Type 0} (same : A → A → Bool) (xs ys : List A) (x : A) (n : ℕ) → Grows xs ys → IsNew same xs x n → IsNew same ys x n
 new-kept same xs ys x n g h = record { has = subst (λ l. IsTrue (has same l x)) (sym g.all) (has-more same xs g.more x h.has); number = h.number ∙ sym (number-kept same xs ys x g h.has) }

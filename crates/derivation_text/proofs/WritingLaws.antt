@@ -3,7 +3,7 @@ use Rattle.std.proofs.Common.{◌≡◌, ℕ, suc, ◌+◌, ◌^◌, ◌<◌, �
 use Rattle.std.proofs.lemmas.Bool.{and_from}
 use Rattle.std.proofs.lemmas.Grind.{flat_map-append}
 use Rattle.std.proofs.lemmas.List.{drop_all, drop_more}
-use Rattle.derivation_text.proofs.GrowingLaws.{map-twice}
+use Rattle.plain_laws.proofs.Lists.{map-composed}
 use Rattle.calculus.specs.declared.version.Version.{Version}
 use Rattle.calculus.specs.declared.version.Version.TheVariants.{One, Two}
 use Rattle.calculus.specs.Syntax.{Symbol, Term, Problem}
@@ -112,9 +112,9 @@ lines-one P x =
     let S = P.symbols in
     let L = x.labels in
     let T = x.terms in
-    let es = map-same (eigen_line_at One L) (λ y. eigen_line (stated_eigen L y)) (eigen-one L) x.eigens ∙ map-twice (stated_eigen L) eigen_line x.eigens in
-    let ss = map-same (spare_line_at One L) (λ y. spare_line (stated_spare L y)) (spare-one L) x.spares ∙ map-twice (stated_spare L) spare_line x.spares in
-    let xs = map-same (step_line_at One S L T) (λ y. step_line S (stated_step L T y)) (step-one S L T) x.steps ∙ map-twice (stated_step L T) (step_line S) x.steps in
+    let es = map-same (eigen_line_at One L) (λ y. eigen_line (stated_eigen L y)) (eigen-one L) x.eigens ∙ map-composed (stated_eigen L) eigen_line x.eigens in
+    let ss = map-same (spare_line_at One L) (λ y. spare_line (stated_spare L y)) (spare-one L) x.spares ∙ map-composed (stated_spare L) spare_line x.spares in
+    let xs = map-same (step_line_at One S L T) (λ y. step_line S (stated_step L T y)) (step-one S L T) x.steps ∙ map-composed (stated_step L T) (step_line S) x.steps in
     (λ i. head_lines P x.limit ++ (es i ++ (ss i ++ (xs i ++ codes "end" ∷ []))))
     ∙ regroup-one (head_lines P x.limit) (map eigen_line (map (stated_eigen L) x.eigens)) (map spare_line (map (stated_spare L) x.spares)) (map (step_line S) (map (stated_step L T) x.steps)) (codes "end" ∷ [])
 

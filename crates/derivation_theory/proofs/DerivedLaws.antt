@@ -1,5 +1,5 @@
 -- A problem that has a derivation has instances that span, so a closed tableau.
-use Rattle.std.proofs.Common.{◌≡◌, ℕ, zero, suc, List, [], ◌∷◌, ◌++◌, map, length, Bool, true, false, ◌&&◌, ◌||◌, Option, Some, None, Ok, Err, IsTrue, refl, sym, ◌∙◌, ap, subst, inl, inr, slice_get, slice_index_or, append-nil, append_assoc}
+use Rattle.std.proofs.Common.{◌≡◌, ℕ, zero, suc, List, [], ◌∷◌, ◌++◌, map, length, true, false, ◌&&◌, ◌||◌, Option, Some, None, Ok, Err, IsTrue, refl, sym, ◌∙◌, ap, subst, inl, inr, slice_get, slice_index_or, append-nil, append_assoc}
 use Rattle.std.specs.List.{list_all}
 use Rattle.std.proofs.lemmas.Bool.{and_parts, and_from, or_parts, cases_Bool, false≢true, not-true}
 use Rattle.calculus.specs.declared.sign.Sign.{Sign}
@@ -27,11 +27,12 @@ use Rattle.calculus.specs.Text.{is_number}
 use Rattle.calculus.specs.Judgement.{accepted}
 use Rattle.calculus.specs.VersionJudgement.{IsVersionJudgement}
 use Rattle.calculus.specs.Calculus.{Children, closed, one, two, eigen_named, spare_named, holds_character, is_in_home, is_eigen, character_occurs, eigen_occurs, modal_fits, term_fits, has_step, label_after, is_reachable, character_is_new, eigen_is_new, children_of, conditions_of_use, is_atom, connects, entry_of, use_entry, close_branch, apply, Closes, leaf, single, fork, Derives}
-use Rattle.calculus.proofs.SoundnessLaws.{printable-plain}
+use Rattle.calculus.proofs.SoundnessLaws.{printable-plain, entry-is, written-rest}
 use Rattle.calculus.proofs.EqualityLaws.{mark_eq-tells, sign_eq-tells, formula_eq-tells, list_eq-tells, character_eq-tells, grounds_eq-tells, label_eq-tells, nat_eq-tells}
 use Rattle.calculus.proofs.InstanceLaws.{root-stands}
-use Rattle.calculus.proofs.SpotLaws.{proper-marks, all-append, mark-proper}
+use Rattle.calculus.proofs.SpotLaws.{proper-marks, mark-proper}
 use Rattle.std.proofs.lemmas.List.Folds.{list_all-append}
+use Rattle.plain_laws.proofs.Every.{all-append}
 use Rattle.calculus.proofs.Interpretations.{entry-without}
 use Rattle.calculus.proofs.SequentLaws.{AreMet, are_met, met-children}
 use Rattle.calculus.proofs.SoundnessLaws.{fits-problem}
@@ -61,10 +62,6 @@ one-at P r [] ps h k e g = cc
 one-at P r (x ∷ s) [] h k e g = absurd h
 one-at P r (x ∷ s) (p ∷ ps) h zero e g = (p, inl refl, subst (OnSome P r p) g h.0)
 one-at P r (x ∷ s) (p ∷ ps) h (suc k) e g = let q = one-at P r s ps h.1 k e g in (q.0, inr q.1, q.2)
-
-entry-is : (s : Sequent) (n : ℕ) (e : Entry) → entry_of s n ≡ Some e → (k : ℕ) × (slice_get s k ≡ Some e)
-entry-is s zero e h = cc
-entry-is s (suc k) e h = (k, h)
 
 -- ---- an axiom
 
@@ -314,11 +311,6 @@ step-follows P names r ok s ps stand (apply_to n m t) written c h =
 step-follows P names r ok s ps stand (close m n) written c h = close-follows P names r ok s ps stand m n (entry_of s m) (entry_of s n) refl refl c h
 
 -- ---- a derivation
-
-written-rest : (P : Problem) (listed : Names) (p : Step → Bool) {s : Sequent} {xs rest : List Step} → Closes P listed s xs rest → list_all p xs ≡ true → list_all p rest ≡ true
-written-rest P listed p (leaf {x = x} {rest = rest} e) h = (and_parts (p x) (list_all p rest) h).1
-written-rest P listed p (single {x = x} {xs = xs} e c) h = written-rest P listed p c (and_parts (p x) (list_all p xs) h).1
-written-rest P listed p (fork {x = x} {xs = xs} e c d) h = written-rest P listed p d (written-rest P listed p c (and_parts (p x) (list_all p xs) h).1)
 
 pub closes-refuted : (P : Problem) (names : Names) → {s : Sequent} {xs rest : List Step} → Closes P names s xs rest → list_all (step_is_written P.symbols) xs ≡ true → Claim P names s
 closes-refuted P names (leaf {s = s} {x = x} {rest = rest} e) written r ps ok stand = step-follows P names r ok s ps stand x (and_parts (step_is_written P.symbols x) (list_all (step_is_written P.symbols) rest) written).0 closed e

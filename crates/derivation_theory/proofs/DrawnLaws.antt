@@ -2,6 +2,7 @@
 use Rattle.std.proofs.Common.{◌≡◌, suc, List, [], ◌∷◌, ◌++◌, IsTrue, refl, sym, subst, inl, inr}
 use Rattle.std.specs.List.{list_all}
 use Rattle.std.proofs.lemmas.Bool.{and_from}
+use Rattle.plain_laws.proofs.Every.{all-append}
 use Rattle.calculus.specs.declared.sign.Sign.{Sign}
 use Rattle.calculus.specs.declared.kind.Shape.TheVariants.{Alpha, Beta, Gamma, Delta}
 use Rattle.calculus.specs.declared.kind.ModalPart.TheVariants.{Plain, Nu, Pi}
@@ -14,7 +15,6 @@ use Rattle.calculus.specs.Labels.{steps_to, nu_label}
 use Rattle.calculus.specs.Skolem.{is_admitted, is_admitted_value, is_allowed}
 use Rattle.calculus.specs.Instances.{Spot, down_by, spot_inside, after_string, after_character, Share, reaching, with_side, with_string, with_character, with_term, both, by_plain, by_nu, by_pi, Shaped, by_only, by_left, by_right, by_both, by_gamma, by_delta, gamma_is_allowed}
 use Rattle.calculus.specs.declared.sign.Side.TheVariants.{Left, Right}
-use Rattle.calculus.proofs.SpotLaws.{all-append}
 use Rattle.derivation_theory.proofs.Places.{Place, IsDrawn, OneIn, IsDrawnFrom}
 use Rattle.derivation_theory.proofs.RefutedLaws.{StandFor, StandForBoth}
 

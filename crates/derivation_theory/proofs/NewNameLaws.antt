@@ -3,6 +3,7 @@ use Rattle.std.proofs.Common.{◌≡◌, ℕ, List, [], ◌∷◌, ◌++◌, len
 use Rattle.std.specs.List.{list_all}
 use Rattle.std.specs.Option.{option_map_or}
 use Rattle.std.proofs.lemmas.Bool.{or_parts, cases_Bool, eqb-true}
+use Rattle.plain_laws.proofs.Every.{all-append}
 use Rattle.calculus.specs.Syntax.{Problem}
 use Rattle.calculus.specs.Ground.{GroundTerm, GroundMark, own, marks_tree}
 use Rattle.calculus.specs.Equality.{mark_eq}
@@ -13,7 +14,7 @@ use Rattle.calculus.specs.Skolem.{is_admitted_mark}
 use Rattle.calculus.specs.Derivations.{Mark, Label, character_eq, Home, anywhere, home_at, EigenName, SpareName, Names, Entry, Sequent}
 use Rattle.calculus.specs.Calculus.{eigen_named, spare_named, holds_character, home_holds, is_in_home, is_eigen, character_occurs, eigen_occurs}
 use Rattle.calculus.proofs.EqualityLaws.{character_eq-tells}
-use Rattle.calculus.proofs.SpotLaws.{proper-marks, all-append}
+use Rattle.calculus.proofs.SpotLaws.{proper-marks}
 use Rattle.derivation_theory.proofs.Places.{Place}
 use Rattle.derivation_theory.proofs.Meanings.{Meaning, label_means, is_intuitionistic, MeansLabel, HasHome, HasSpareHome, IsProper, StandsAt, StandAt}
 use Rattle.derivation_theory.proofs.SaysLaws.{Keeps, says-stays}

@@ -2,6 +2,7 @@
 use Rattle.std.proofs.Common.{◌≡◌, ◌⊎◌, List, [], ◌∷◌, ◌++◌, map, IsTrue, refl, subst, inl, inr}
 use Rattle.std.specs.List.{AllByRecursion, list_all}
 use Rattle.std.proofs.lemmas.Bool.{and_from, false_from_ne_true}
+use Rattle.plain_laws.proofs.Every.{each-append, each-parts}
 use Rattle.calculus.specs.Syntax.{Problem}
 use Rattle.calculus.specs.Ground.{GroundLiteral}
 use Rattle.calculus.specs.Instances.{Share, clause_instance}
@@ -19,14 +20,6 @@ one-append Q (x ∷ xs) ys (inr h) = elim (one-append Q xs ys h) [
   | inl k ↦ inl (inr k)
   | inr k ↦ inr k
 ]
-
-pub all-join : {A : Type 0} (Q : A → Type 0) (xs ys : List A) → AllByRecursion Q xs → AllByRecursion Q ys → AllByRecursion Q (xs ++ ys)
-all-join Q [] ys h k = k
-all-join Q (x ∷ xs) ys h k = (h.0, all-join Q xs ys h.1 k)
-
-pub all-split : {A : Type 0} (Q : A → Type 0) (xs ys : List A) → AllByRecursion Q (xs ++ ys) → AllByRecursion Q xs × AllByRecursion Q ys
-all-split Q [] ys h = (tt, h)
-all-split Q (x ∷ xs) ys h = let r = all-split Q xs ys h.1 in ((h.0, r.0), r.1)
 
 -- ---- one child
 
@@ -89,8 +82,8 @@ rows P ps q r h (v ∷ vs) d ws e =
     let k = rows P ps q r h vs d.1 ws e in
     let z = row P ps q r h v d.0 ws e in (
       z.0 ++ k.0,
-      all-join (IsDrawnFrom P ps) z.0 k.0 z.1 k.1,
-      λ S a. let parts = all-split (IsHit S) z.0 k.0 a in elim (z.2 S parts.0) [
+      each-append (IsDrawnFrom P ps) z.0 k.0 z.1 k.1,
+      λ S a. let parts = each-parts (IsHit S) z.0 k.0 a in elim (z.2 S parts.0) [
         | inr c ↦ inr c
         | inl b ↦ elim (k.2 S parts.1) [
           | inl c ↦ inl (b, c)
@@ -106,11 +99,11 @@ refuted-two P ps q r h a b =
     let z = rows P ps q r h x.1 x.3 y.1 y.3 in
     record {
       shares = x.0 ++ (y.0 ++ z.0);
-      drawn = all-join (IsDrawnFrom P ps) x.0 (y.0 ++ z.0) x.2 (all-join (IsDrawnFrom P ps) y.0 z.0 y.2 z.1);
+      drawn = each-append (IsDrawnFrom P ps) x.0 (y.0 ++ z.0) x.2 (each-append (IsDrawnFrom P ps) y.0 z.0 y.2 z.1);
       refuted = λ has apart hit.
           let S : GroundLiteral → Type 0 = λ k. IsTrue (has k) in
-          let first = all-split (IsHit S) x.0 (y.0 ++ z.0) hit in
-          let second = all-split (IsHit S) y.0 z.0 first.1 in
+          let first = each-parts (IsHit S) x.0 (y.0 ++ z.0) hit in
+          let second = each-parts (IsHit S) y.0 z.0 first.1 in
           elim (z.2 S second.1) [
             | inl c ↦ a.refuted has apart (x.4 S first.0 c)
             | inr c ↦ b.refuted has apart (y.4 S second.0 c)

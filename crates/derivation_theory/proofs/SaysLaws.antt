@@ -5,6 +5,7 @@ use Rattle.std.specs.Ordering.{nat_cmp, MatchOrdering}
 use Rattle.std.specs.Cmp.{nat_cmp_is, ranks}
 use Rattle.std.specs.declared.cmp.Ordering.{Ordering}
 use Rattle.std.specs.declared.cmp.Ordering.TheVariants.{Less, Equal, Greater}
+use Rattle.plain_laws.proofs.Lists.{length-last}
 use Rattle.calculus.specs.Syntax.{Term, Terms, var, fun, eigen, spare, no_terms, more_terms, Formula}
 use Rattle.calculus.specs.Ground.{GroundTerm, g_fun, common, more_g_terms}
 use Rattle.calculus.specs.Substitution.{put_for, term_with, terms_with, formula_with, any_leaf, any_leaf_of, any_leaf_in}
@@ -76,10 +77,6 @@ mutual
   terms_put : (r : Meaning) (t : Term) (xs : List GroundTerm) (g : GroundTerm) → term_means r xs t ≡ g → (us : Terms) → terms_mean r xs (terms_with t (length xs) us) ≡ terms_mean r (xs ++ g ∷ []) us
   terms_put r t xs g h no_terms = refl
   terms_put r t xs g h (more_terms u us) = λ i. more_g_terms (term_put r t xs g h u i) (terms_put r t xs g h us i)
-
-length-last : {A : Type 0} (xs : List A) (x : A) → length (xs ++ x ∷ []) ≡ suc (length xs)
-length-last [] x = refl
-length-last (y ∷ xs) x = ap (λ n. suc n) (length-last xs x)
 
 -- a term without variables for the variable bound just outside
 pub says-instance : (r : Meaning) (t : Term) (g : GroundTerm) → ((xs : List GroundTerm) → term_means r xs t ≡ g) → {d : ℕ} {env : List GroundTerm} {a b : Formula} → Says r (suc d) env a b → Says r d (g ∷ env) a (formula_with t d b)

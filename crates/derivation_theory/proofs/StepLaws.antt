@@ -3,6 +3,7 @@ use Rattle.std.proofs.Common.{◌≡◌, ℕ, suc, List, [], ◌∷◌, ◌++◌
 use Rattle.std.specs.List.{list_all}
 use Rattle.std.specs.Option.{option_map_or}
 use Rattle.std.proofs.lemmas.Bool.{and_parts, and_from, or_parts, false≢true, not-true}
+use Rattle.plain_laws.proofs.Every.{all-append}
 use Rattle.calculus.specs.declared.sign.Sign.{Sign}
 use Rattle.calculus.specs.declared.setting.Logic.{Logic}
 use Rattle.calculus.specs.declared.setting.Logic.TheVariants.{Classical, Intuitionistic, D, T as LogicT, S4, S5}
@@ -24,7 +25,7 @@ use Rattle.calculus.specs.Derivations.{Mark, new_mark, Label, character_eq, Eige
 use Rattle.calculus.specs.DerivationText.{term_arg_is_written}
 use Rattle.calculus.specs.Calculus.{is_atom, Children, closed, one, two, eigen_named, holds_character, is_in_home, is_eigen, character_occurs, eigen_occurs, modal_fits, term_fits, has_step, label_after, is_reachable, character_is_new, eigen_is_new, home_is, term_allowed, is_forbidden, with_argument, with_components}
 use Rattle.calculus.proofs.EqualityLaws.{list_eq-tells, character_eq-tells, nat_eq-tells}
-use Rattle.calculus.proofs.SpotLaws.{Halfway, is_gamma, home-here, eigen-proper, mark-proper, proper-marks, all-append, values_list-tree}
+use Rattle.calculus.proofs.SpotLaws.{Halfway, is_gamma, home-here, eigen-proper, mark-proper, proper-marks, values_list-tree}
 use Rattle.calculus.proofs.InstanceLaws.{component-stands, gamma-stands, WayDown}
 use Rattle.string_theory.proofs.PlaceLaws.{is_literal_shape, way-only, way-first, way-second}
 use Rattle.string_theory.proofs.SpotChanges.{plain-half, nu-half, pi-half}

@@ -1,20 +1,13 @@
 -- The names that steps mention, noted one after the other, and those of a list that are kept.
-use Rattle.std.proofs.Common.{◌≡◌, ℕ, ◌+◌, ◌<◌, ◌≤◌, List, [], ◌∷◌, ◌++◌, length, map, drop, get_or, Bool, true, false, ◌||◌, if◌then◌else◌, refl, sym, ◌∙◌, ap, ap₂, append_assoc}
+use Rattle.std.proofs.Common.{◌≡◌, ℕ, ◌+◌, ◌<◌, ◌≤◌, List, [], ◌∷◌, ◌++◌, length, map, drop, get_or, Bool, ◌||◌, if◌then◌else◌, sym, ◌∙◌, ap, ap₂, append_assoc}
 use Rattle.std.proofs.Math.Path.{fun_ext}
 use Rattle.std.proofs.lemmas.List.{append-nil, drop_all, drop_more}
 use Rattle.std.specs.List.{filter, list_any}
+use Rattle.plain_laws.proofs.Booleans.{or_false, or-assoc}
 use Rattle.calculus.specs.Calculus.{is_eigen}
 use Rattle.calculus.specs.Derivations.{EigenName, Names, SpareName}
 use Rattle.calculus.specs.Derivations as derivation
 use Rattle.trim_theory.specs.UsedNames.{is_spare, mentioned, step_has}
-
-pub or_nothing : (b : Bool) → (b || false) ≡ b
-or_nothing true = refl
-or_nothing false = refl
-
-or_three : (a b c : Bool) → (a || (b || c)) ≡ ((a || b) || c)
-or_three true b c = refl
-or_three false b c = refl
 
 -- ---- a loop that notes what passes a test
 
@@ -22,10 +15,10 @@ pub noted-next : {X Y : Type 0} (f : X → Y) (p : Y → Bool) (xs : List X) (i 
 noted-next f p xs i x d a b r within read h known =
     let rest = list_any p (map f (drop (i + 1) xs)) in
     let here : drop i xs ≡ x ∷ drop (i + 1) xs = drop_more xs i d within ∙ ap (λ y. y ∷ drop (i + 1) xs) (sym read) in
-    ap (λ z. z || rest) h ∙ sym (or_three a (p (f x)) rest) ∙ ap (λ ys. a || list_any p (map f ys)) (sym here) ∙ known
+    ap (λ z. z || rest) h ∙ sym (or-assoc a (p (f x)) rest) ∙ ap (λ ys. a || list_any p (map f ys)) (sym here) ∙ known
 
 pub noted-end : {X Y : Type 0} (f : X → Y) (p : Y → Bool) (xs : List X) (i : ℕ) (a r : Bool) → length xs ≤ i → (a || list_any p (map f (drop i xs))) ≡ r → a ≡ r
-noted-end f p xs i a r past known = sym (or_nothing a) ∙ ap (λ ys. a || list_any p (map f ys)) (sym (drop_all i xs past)) ∙ known
+noted-end f p xs i a r past known = sym (or_false a) ∙ ap (λ ys. a || list_any p (map f ys)) (sym (drop_all i xs past)) ∙ known
 
 -- ---- a loop that keeps what passes a test
 

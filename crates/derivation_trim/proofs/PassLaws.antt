@@ -1,5 +1,5 @@
 -- How the walk that tells how each step goes on takes one step.
-use Rattle.std.proofs.Common.{◌≡◌, ℕ, ◌+◌, ◌<◌, ◌≤◌, List, [], ◌∷◌, ◌++◌, length, map, reverse, take, drop, get_or, Bool, true, false, Option, Some, None, refl, sym, ◌∙◌, ap, ap₂, append_assoc, add-one, arith}
+use Rattle.std.proofs.Common.{◌≡◌, ℕ, ◌+◌, ◌<◌, ◌≤◌, List, [], ◌∷◌, ◌++◌, length, map, reverse, take, drop, get_or, Bool, true, false, Option, Some, None, refl, sym, ◌∙◌, ap, ap₂, append_assoc, add-one}
 use Rattle.std.specs.Option.{option_map}
 use Rattle.std.proofs.lemmas.List.{append-nil, drop_all, drop_more, length-map, map-append, reverse-append, take-map}
 use Rattle.std.proofs.lemmas.Option.{slice_get_past, slice_get_read, slice_get-map}
@@ -106,10 +106,6 @@ resumed-some go xs ts ys fs gs l a h e f =
 
 pub resumed-none : (go : Later) (xs : List Signed) (fs gs : List (ℕ × Signed)) → fs ≡ [] → gs ≡ [] → resumed (the_branch xs) (the_waiting fs) go ≡ go false (the_branch xs) (the_waiting gs)
 resumed-none go xs fs gs h e = ap (λ z. resumed (the_branch xs) (the_waiting z) go) h ∙ sym (ap (λ z. go false (the_branch xs) (the_waiting z)) e)
-
-pub none-of : {X : Type 0} (xs : List X) → length xs ≡ 0 → xs ≡ []
-none-of [] h = refl
-none-of (x ∷ xs) h = absurd (omega (arith, h))
 
 -- ---- the loop
 

@@ -33,7 +33,7 @@ fn add_spares(set: &mut NumberSet, t: &TermRow) -> Result<(), NoMemory>
 }
 
 // Adds the eigenvariables and the spare constants of an argument.
-#[tactic(auto, using(crate::proofs::NameLaws::or_nothing))]
+#[tactic(auto, using(plain_laws::proofs::Booleans::or_false))]
 fn note_argument(
     alloc: Global,
     eigens: &mut NumberSet,
@@ -60,7 +60,7 @@ fn note_argument(
     }
 }
 
-#[tactic(auto, using(crate::proofs::NameLaws::or_nothing))]
+#[tactic(auto, using(plain_laws::proofs::Booleans::or_false))]
 fn note_step(
     alloc: Global,
     eigens: &mut NumberSet,

@@ -2,9 +2,10 @@
 use Rattle.std.proofs.Common.{◌≡◌, ℕ, zero, suc, ◌≤◌, List, [], ◌∷◌, ◌++◌, take, length, map, true, ◌&&◌, IsTrue, refl, sym, ◌∙◌, ap, subst, Some, slice_get, arith, nat_le, le-leb, leb-true}
 use Rattle.std.specs.List.{list_all, flat_map}
 use Rattle.std.proofs.lemmas.Bool.{and_from, and_parts}
+use Rattle.plain_laws.proofs.Every.{all-append, all-at, all-parts}
 use Rattle.calculus.specs.Skolem.{fits_way, is_delta_position}
 use Rattle.calculus.specs.Syntax.{Problem}
-use Rattle.calculus.proofs.PlaceLists.{all-append, all-at, all-from}
+use Rattle.calculus.proofs.PlaceLists.{all-from}
 use Rattle.cop_base.specs.declared.PosId.{PosId}
 use Rattle.store_theory.specs.Bindings.{EndsIn, NamesFrom, with_cell}
 use Rattle.store_theory.specs.Stores.{variable, fun_cell, eigen_cell, new_cell, GammaCell, Store, Solution, Solves, Holds, itself, bound, argument}
@@ -12,7 +13,6 @@ use Rattle.store_theory.specs.Systems.{AreEqual, Equation, Pair, System, cells_o
 use Rattle.search_theory.specs.KeepingCells.{AddsRight, EquatesRight, equation_cells, gamma_cells}
 use Rattle.search_theory.specs.LabelledCells.{AreLabelled, sort_values}
 use Rattle.search_theory.proofs.FromLaws.{names-labelled}
-use Rattle.search_theory.proofs.SystemLaws.{split-all}
 use Rattle.term_store.specs.Shown.{head_of}
 use Rattle.term_store.specs.declared.cell.Head.{Head}
 use Rattle.term_store.specs.declared.cell.Head.TheVariants.{Eigen}
@@ -60,12 +60,12 @@ gammas-from : (base : ℕ) (y : System) → IsTrue (list_all (nat_le base) (cell
 gammas-from base y h =
     let es = flat_map equation_cells y.equations in
     let gs = flat_map gamma_cells y.gammas in
-    (split-all (nat_le base) (es ++ y.strings) gs (split-all (nat_le base) (es ++ y.strings ++ gs) (flat_map pair_cells y.pairs) h).0).1
+    (all-parts (nat_le base) (es ++ y.strings) gs (all-parts (nat_le base) (es ++ y.strings ++ gs) (flat_map pair_cells y.pairs) h).0).1
 
 gamma-from : (base : ℕ) (gs : List GammaCell) (j : ℕ) (g : GammaCell) → slice_get gs j ≡ Some g → IsTrue (list_all (nat_le base) (flat_map gamma_cells gs)) → IsTrue (list_all (nat_le base) (gamma_cells g))
 gamma-from base [] j g at h = cc at
-gamma-from base (x ∷ gs) zero g at h = let z : x ≡ g = cc at in subst (λ y. IsTrue (list_all (nat_le base) (gamma_cells y))) z (split-all (nat_le base) (gamma_cells x) (flat_map gamma_cells gs) h).0
-gamma-from base (x ∷ gs) (suc j) g at h = gamma-from base gs j g at (split-all (nat_le base) (gamma_cells x) (flat_map gamma_cells gs) h).1
+gamma-from base (x ∷ gs) zero g at h = let z : x ≡ g = cc at in subst (λ y. IsTrue (list_all (nat_le base) (gamma_cells y))) z (all-parts (nat_le base) (gamma_cells x) (flat_map gamma_cells gs) h).0
+gamma-from base (x ∷ gs) (suc j) g at h = gamma-from base gs j g at (all-parts (nat_le base) (gamma_cells x) (flat_map gamma_cells gs) h).1
 
 pub right-gamma : (P : Problem) (old new : Store) (y : System) (j : ℕ) (g : GammaCell) (ls : List ℕ) → slice_get y.gammas j ≡ Some g → AddsRight P (gamma_cells g) old new ls → AddsRight P (cells_of y) old new ls
 right-gamma P old new y j g ls at adds base low from a = adds base low (gamma-from base y.gammas j g at (gammas-from base y from)) a

@@ -1,7 +1,11 @@
 -- The part of a label that a home is to equal, and what the equations force.
-use Rattle.std.proofs.Common.{◌≡◌, ℕ, zero, suc, ◌+◌, ◌<◌, ◌≤◌, List, [], ◌∷◌, ◌++◌, take, length, Bool, true, false, IsTrue, refl, sym, ◌∙◌, ap, ap₂, subst, Some, slice_get, arith, lt-ltb, nat_lt, not, ◌||◌}
+use Rattle.std.proofs.Common.{◌≡◌, ℕ, zero, suc, ◌+◌, ◌<◌, ◌≤◌, List, [], ◌∷◌, ◌++◌, take, length, Bool, true, false, IsTrue, refl, sym, ◌∙◌, ap, ap₂, subst, Some, slice_get, arith, lt-ltb, not, ◌||◌}
 use Rattle.std.specs.List.{list_all, flat_map}
 use Rattle.std.proofs.lemmas.Bool.{false≢true, and_from, and_parts}
+use Rattle.plain_laws.proofs.Every.{all-at}
+use Rattle.plain_laws.proofs.Places.{get-within}
+use Rattle.search_theory.proofs.ImageLaws.{label-agree}
+use Rattle.term_unify.proofs.SameLaws.{label-marks}
 use Rattle.calculus.specs.declared.sort.Sort.TheVariants.{TermSort, MarkSort, StringSort}
 use Rattle.calculus.specs.declared.setting.Domains.{Domains}
 use Rattle.calculus.specs.declared.setting.Domains.TheVariants.{Constant, Cumulative, Varying}
@@ -9,14 +13,14 @@ use Rattle.store_theory.specs.Bindings.{AddsBuilt, nothing_more, EndsIn, IsEnd, 
 use Rattle.calculus.specs.Equality.{mark_eq}
 use Rattle.calculus.specs.Labels.{home_allows, is_prefix}
 use Rattle.calculus.specs.Skolem.{common_spares, has_constant, is_varying, label_of}
-use Rattle.store_theory.specs.Stores.{eigen_cell, Store, TrailMark, IsGood, cut_at, has_sort_at, has_value_sort_at, is_store, names_below, OccursIn, here, in_part, Solution, Solves, label_at, marks_at, Holds, itself, bound, argument, GammaCell}
+use Rattle.store_theory.specs.Stores.{eigen_cell, Store, TrailMark, IsGood, cut_at, has_sort_at, has_value_sort_at, is_store, OccursIn, here, in_part, Solution, Solves, label_at, Holds, itself, bound, argument, GammaCell}
 use Rattle.calculus.specs.Syntax.{Problem}
 use Rattle.store_theory.specs.Systems.{AllAllowed, AreEqualNow, Equation, HasNoOpenString, IsDemandEquation, IsOpenString, MeetsDemand, OwnSparesMeet, Pair, System, cells_of_atom, has_label_sort_at, is_gamma_cell, is_label, is_system}
-use Rattle.store_theory.specs.Templates.{as_label, as_value}
-use Rattle.store_theory.proofs.BindingLaws.{HasNoCycle-rank, kept, parts-within}
+use Rattle.store_theory.specs.Templates.{as_value}
+use Rattle.store_theory.proofs.BindingLaws.{HasNoCycle-rank, kept, parts-within, within-sort}
 use Rattle.calculus.proofs.EqualityLaws.{mark_eq-tells, list_eq-tells}
 use Rattle.store_theory.proofs.PatternLaws.{Grows-built, KeepsMarks-built, grown-label}
-use Rattle.calculus.proofs.PlaceLists.{all-at, all-more, get-within}
+use Rattle.calculus.proofs.PlaceLists.{all-more}
 use Rattle.search_theory.specs.Demanding.{equation}
 use Rattle.search_theory.specs.States.{label_by, values_by, Agree}
 use Rattle.search_theory.proofs.AtomLaws.{label_at-by}
@@ -36,7 +40,7 @@ use Rattle.domain_cond.specs.Conditions.{Allows, HomeAllows, IsCompared, IsEigen
 use Rattle.domain_cond.specs.Leaves.{AreLeaves}
 use Rattle.domain_cond.specs.Ways.{IsFoundHome}
 use Rattle.domain_cond.proofs.FirstLaws.{AllTo, all-next, all-start, all-whole}
-use Rattle.domain_cond.proofs.WayLaws.{from-take, label-within, sorted-within}
+use Rattle.domain_cond.proofs.WayLaws.{from-take, label-within}
 use Rattle.domain_cond.proofs.LeafLaws.{eigen-head}
 use Rattle.cop_base.specs.declared.PosId.{PosId}
 use Rattle.term_store.specs.Shown.{head_of}
@@ -66,10 +70,6 @@ marks-sorted s ms h = all-more (has_sort_at s MarkSort) (has_label_sort_at s) ms
     or-left true b h = refl
     or-left false b h = absurd (false≢true h)
 
--- the label's marks are those of its flat list
-flat-marks : (s : Store) (label ms : List ℕ) (σ : Solution) → Solves s σ → IsTrue (is_label s label) → IsFlat s label ms → marks_at σ ms ≡ Some (label_by σ label)
-flat-marks s label ms σ t h f = sym (f.same σ t) ∙ label-there s σ t label h
-
 pub whole-compared : (P : Problem) (s : Store) (ks label ms : List ℕ) → P.setting.domains ≡ Varying → IsTrue (is_label s label) → IsFlat s label ms → HasNoString s ms → IsCompared P s ks label ms
 whole-compared P s ks label ms d h f free = record {
   sorted = marks-sorted s ms f.sorted;
@@ -78,11 +78,11 @@ whole-compared P s ks label ms d h f free = record {
       let l = label_of P p (values_by σ rs) in
       let w = label_by σ label in
       let same : l ≡ w = (list_eq-tells mark_eq mark_eq-tells l w).0 (subst (λ x. IsTrue (home_allows mark_eq x l w)) d a) in
-      (w, home σ t ∙ ap Some same, marks-label s σ t ms f.sorted ∙ flat-marks s label ms σ t h f);
+      (w, home σ t ∙ ap Some same, marks-label s σ t ms f.sorted ∙ label-marks s label ms σ t h f);
   allows = λ p rs home now σ t.
       let l = label_of P p (values_by σ rs) in
       let w = label_by σ label in
-      let marks : label_by σ ms ≡ w = label_at-by σ ms w (marks-label s σ t ms f.sorted ∙ flat-marks s label ms σ t h f) in
+      let marks : label_by σ ms ≡ w = label_at-by σ ms w (marks-label s σ t ms f.sorted ∙ label-marks s label ms σ t h f) in
       let same : l ≡ w = sym (label_at-by σ ks l (home σ t)) ∙ now-label s σ t ks ms now ∙ marks in
       subst (λ x. IsTrue (home_allows mark_eq x l w)) (sym d) ((list_eq-tells mark_eq mark_eq-tells l w).1 same);
 }
@@ -96,12 +96,12 @@ begin-compared P s ks label hs ms part d h fh f free is = subst (IsCompared P s 
       let w = label_by σ label in
       let begins : l ≡ take (length l) w = prefix-take l w (subst (λ x. IsTrue (home_allows mark_eq x l w)) d a) in
       let long : length l ≡ length hs = length-marks σ hs l (sym (fh.same σ t) ∙ home σ t) in
-      let right = take-marks σ (length hs) ms w (flat-marks s label ms σ t h f) in
+      let right = take-marks σ (length hs) ms w (label-marks s label ms σ t h f) in
       (l, home σ t, marks-label s σ t (take (length hs) ms) taken-sorted ∙ right ∙ ap (λ n. Some (take n w)) (sym long) ∙ ap Some (sym begins));
   allows = λ p rs home now σ t.
       let l = label_of P p (values_by σ rs) in
       let w = label_by σ label in
-      let part : label_at σ (take (length hs) ms) ≡ Some (take (length hs) w) = marks-label s σ t (take (length hs) ms) taken-sorted ∙ take-marks σ (length hs) ms w (flat-marks s label ms σ t h f) in
+      let part : label_at σ (take (length hs) ms) ≡ Some (take (length hs) w) = marks-label s σ t (take (length hs) ms) taken-sorted ∙ take-marks σ (length hs) ms w (label-marks s label ms σ t h f) in
       let same : l ≡ take (length hs) w = sym (label_at-by σ ks l (home σ t)) ∙ now-label s σ t ks (take (length hs) ms) now ∙ label_at-by σ (take (length hs) ms) (take (length hs) w) part in
       subst (λ x. IsTrue (home_allows mark_eq x l w)) (sym d) (subst (λ x. IsTrue (is_prefix mark_eq x w)) (sym same) (prefix-taken (length hs) w));
 })
@@ -138,10 +138,6 @@ home-unmet P old new e p rs label ks part at free found compared differ = record
 pub home-met : (P : Problem) (new : Store) (p : ℕ) (rs label ks part : List ℕ) (old : Store) → IsFoundHome P old new p rs ks → IsCompared P new ks label part → AreSameLabels new ks part → (σ : Solution) → Solves new σ → Allows P p rs label σ
 home-met P new p rs label ks part old found compared same σ t = compared.allows p rs found.home (now-equal new ks part found.sorted compared.sorted same) σ t
 
-labels-agree : (n : ℕ) (σ τ : Solution) → Agree n σ τ → (rs : List ℕ) → IsTrue (names_below n rs) → label_by σ rs ≡ label_by τ rs
-labels-agree n σ τ a [] h = refl
-labels-agree n σ τ a (r ∷ rs) h = let p = and_parts (nat_lt r n) (names_below n rs) h in ap₂ (λ v w. as_label v ++ w) (a r p.0) (labels-agree n σ τ a rs p.1)
-
 values-agree : (n : ℕ) (σ τ : Solution) → Agree n σ τ → (rs : List ℕ) → ((i r : ℕ) → slice_get rs i ≡ Some r → r < n) → values_by σ rs ≡ values_by τ rs
 values-agree n σ τ a [] h = refl
 values-agree n σ τ a (r ∷ rs) h = ap₂ (λ v vs. as_value v ∷ vs) (a r (lt-ltb r n (h 0 r refl))) (values-agree n σ τ a rs (λ i k e. h (suc i) k e))
@@ -151,7 +147,7 @@ pub met-before : (P : Problem) (old new : Store) (e : ℕ) (label : List ℕ) �
 met-before P old new e label h sorted adds met σ t p rs at =
     let (τ, u, agree) = adds-forth old new adds σ t in
     let values = values-agree (length old.cells) σ τ agree rs (λ i r q. parts-within old (eigen_cell p rs) i r ((kept old h).fits e (eigen_cell p rs) at) q) in
-    let labels = labels-agree (length old.cells) σ τ agree label (label-below old label sorted) in
+    let labels = label-agree (length old.cells) σ τ agree label (label-below old label sorted) in
     subst (λ vs. IsTrue (home_allows mark_eq P.setting.domains (label_of P p vs) (label_by σ label))) (sym values)
     (subst (λ w. IsTrue (home_allows mark_eq P.setting.domains (label_of P p (values_by τ rs)) w)) (sym labels) (met τ u p rs at))
 
@@ -268,7 +264,7 @@ pub eigen-values : (s : Store) (e p : ℕ) (rs : List ℕ) → IsTrue (is_store 
 eigen-values s e p rs h at = (kept s h).fits e (eigen_cell p rs) at
 
 pub gamma-parts : (s : Store) (g : GammaCell) → IsTrue (is_gamma_cell s g) → (g.term < length s.cells) × IsTrue (is_label s g.label)
-gamma-parts s g h = let q = and_parts (has_sort_at s TermSort g.term) (is_label s g.label) h in (sorted-within s TermSort g.term q.0, q.1)
+gamma-parts s g h = let q = and_parts (has_sort_at s TermSort g.term) (is_label s g.label) h in (within-sort s TermSort g.term q.0, q.1)
 
 pub gamma-at : (s : Store) (y : System) (j : ℕ) (g : GammaCell) → IsTrue (is_system s y) → slice_get y.gammas j ≡ Some g → IsTrue (is_gamma_cell s g)
 gamma-at s y j g h at = all-at (is_gamma_cell s) y.gammas j g (system-parts s y h).gammas at

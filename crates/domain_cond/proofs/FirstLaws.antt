@@ -1,7 +1,7 @@
 -- What holds of the first items of a list.
 use Rattle.std.proofs.Common.{◌≡◌, ℕ, ◌+◌, ◌<◌, ◌≤◌, List, length, sym, ◌∙◌, ap, subst, Some, slice_get, inl, inr, arith}
 use Rattle.std.proofs.lemmas.Bool.{cases_lt}
-use Rattle.calculus.proofs.PlaceLists.{get-within}
+use Rattle.plain_laws.proofs.Places.{get-within}
 
 abbrev pub AllTo : {A : Type 0} → List A → ℕ → (A → Type 0) → Type 0
 AllTo {A} xs i P = (j : ℕ) (x : A) → j < i → slice_get xs j ≡ Some x → P x

@@ -19,7 +19,7 @@ pub record IsKind (P : Problem) (l : Logic) (sign : Sign) (f : Formula) (modal :
   pub modal_is : modal ≡ modal_of l sign f
   pub shape_is : shape ≡ shape_of sign f
 
-modal-of : (P : Problem) (l : Logic) (sign : Sign) (f : Formula) (modal : ModalPart) (shape : Shape) → IsKind P l sign f modal shape → modal ≡ modal_of P.setting.logic sign f
+pub modal-of : (P : Problem) (l : Logic) (sign : Sign) (f : Formula) (modal : ModalPart) (shape : Shape) → IsKind P l sign f modal shape → modal ≡ modal_of P.setting.logic sign f
 modal-of P l sign f modal shape k = k.modal_is ∙ ap (λ x. modal_of x sign f) k.logic
 
 pushed-of : (P : Problem) (l : Logic) (sign : Sign) (f : Formula) (modal : ModalPart) (shape : Shape) (cur new : Store) (q : ℕ) (rs : List ℕ) (k : ℕ) (label after : List ℕ) → IsKind P l sign f modal shape → IsPushed l cur new modal q rs k label after → IsPushed P.setting.logic cur new (modal_of P.setting.logic sign f) q rs k label after

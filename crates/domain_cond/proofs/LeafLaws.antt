@@ -1,19 +1,18 @@
 -- The leaves of a term, by a list of cells that are still to be looked at and those that were.
 use Rattle.std.proofs.Common.{◌≡◌, ◌⊎◌, ◌||◌, cond, ◌==◌, ℕ, zero, suc, ◌<◌, List, [], ◌∷◌, ◌++◌, length, Bool, true, false, not, IsTrue, refl, sym, ◌∙◌, ap, subst, Some, slice_get, inl, inr, arith, eqb-true, eq-eqb}
 use Rattle.std.proofs.lemmas.Bool.{cases_Bool, false≢true}
+use Rattle.plain_laws.proofs.Places.{get-front}
 use Rattle.calculus.specs.declared.sort.Sort.{Sort}
 use Rattle.store_theory.specs.Bindings.{EndsIn, IsEnd}
 use Rattle.store_theory.specs.Stores.{Cell, variable, fun_cell, eigen_cell, new_cell, string_cell, Store, parts_of, is_bound, is_store, EndsAt, stays, goes_on, Holds, itself, bound, argument}
 use Rattle.store_theory.proofs.BindingLaws.{kept, parts-within}
-use Rattle.calculus.proofs.PlaceLists.{get-front, get-last}
-use Rattle.store_theory.proofs.WeightLaws.{weight_sum}
+use Rattle.calculus.proofs.PlaceLists.{get-last}
 use Rattle.cop_base.specs.declared.PosId.{PosId}
 use Rattle.cop_base.specs.declared.SymbolId.{SymbolId}
 use Rattle.term_store.specs.Shown.{head_of}
 use Rattle.term_store.specs.declared.cell.Head.{Head}
 use Rattle.term_store.specs.declared.cell.Head.TheVariants.{Eigen, Fun}
 use Rattle.term_unify.proofs.PairLaws.{told}
-use Rattle.term_unify.proofs.VisitLaws.{looks-rest}
 use Rattle.domain_cond.specs.Leaves.{AreLeaves, IsLeaf, has_arguments, is_among}
 
 -- ---- places of lists
@@ -257,9 +256,6 @@ arguments-count s v count head f d at (c, e, b) t is u = by d (told s v d (λ x.
     by (variable sort j) h k = cc h
     by (new_cell g rs) h k = cc h
     by (string_cell rs) h k = cc h
-
-pub open-lighter : (s : Store) (r : ℕ) (rest pending : List ℕ) → pending ≡ rest ++ r ∷ [] → weight_sum s rest < weight_sum s pending
-open-lighter s r rest pending e = looks-rest s r rest pending e
 
 -- an end without arguments is a leaf
 pub leaf-of : (s : Store) (v : ℕ) → IsEnd s v → ((c : Cell) → slice_get s.cells v ≡ Some c → false ≡ has_arguments c) → IsLeaf s v

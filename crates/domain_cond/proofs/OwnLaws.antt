@@ -1,6 +1,7 @@
 -- Own spares where no spares of every domain exist, and equations that nothing solves.
 use Rattle.std.proofs.Common.{◌≡◌, ℕ, zero, suc, List, [], ◌∷◌, ◌++◌, length, false, IsTrue, refl, sym, ◌∙◌, ap, subst, None, Some, slice_get}
 use Rattle.std.proofs.lemmas.Bool.{and_from}
+use Rattle.plain_laws.proofs.Places.{get-end}
 use Rattle.calculus.specs.declared.sort.Sort.TheVariants.{StringSort}
 use Rattle.calculus.specs.declared.setting.Domains.TheVariants.{Varying}
 use Rattle.store_theory.specs.Bindings.{AddsBuilt, IsWellFormed, with_cell}
@@ -10,7 +11,6 @@ use Rattle.store_theory.specs.Stores.{Cell, variable, new_cell, Store, GammaCell
 use Rattle.calculus.specs.Syntax.{Problem}
 use Rattle.store_theory.specs.Systems.{AllAllowed, AreEqual, Equation, IsDemandEquation, IsOpenString, MeetsDemand, OwnSparesMeet, System, is_label, is_system}
 use Rattle.store_theory.proofs.BindingLaws.{HasNoCycle-rank}
-use Rattle.calculus.proofs.PlaceLists.{get-end}
 use Rattle.search_theory.proofs.BuildingLaws.{adds-back}
 use Rattle.search_theory.proofs.DemandLaws.{forced-home, met-own, never-constant}
 use Rattle.search_theory.specs.HomesTold.{HomesAllow}

@@ -1,12 +1,12 @@
 -- Ranks by rounds: where a round changes nothing, no cell needs itself; where ranks still rise after as many rounds as there are cells, one does.
 use Rattle.std.proofs.Common.{◌≡◌, ◌⊎◌, ℕ, zero, suc, ◌+◌, ◌<◌, ◌≤◌, List, [], ◌∷◌, drop, length, true, false, refl, sym, ◌∙◌, ap, subst, None, Some, slice_get, slice_index_or, inl, inr, arith, if◌then◌else◌}
 use Rattle.std.proofs.lemmas.Bool.{cases_lt, false≢true}
+use Rattle.plain_laws.proofs.Places.{get-there, get-within}
 use Rattle.calculus.specs.declared.sort.Sort.{Sort}
 use Rattle.calculus.specs.declared.sort.Sort.TheVariants.{TermSort, MarkSort, StringSort}
 use Rattle.store_theory.specs.Bindings.{IsWellFormed}
 use Rattle.store_theory.specs.Stores.{Cell, variable, fun_cell, eigen_cell, new_cell, string_cell, Store, EndsAt, stays, goes_on, is_bound, parts_of}
 use Rattle.store_theory.proofs.BindingLaws.{ends-on, ends-once}
-use Rattle.calculus.proofs.PlaceLists.{get-there, get-within}
 use Rattle.search_theory.proofs.NeedRanks.{need_rank, ranked-by_no_need_cycle}
 use Rattle.search_theory.specs.SpareRules.{HasNoNeedCycle, NeedsCells, Needs, at_once, by_way, SpareRule, homes, needed}
 use Rattle.search_theory.proofs.RuleLaws.{IsRankedBy}

@@ -5,6 +5,8 @@ use Rattle.std.specs.Option.{option_map_or}
 use Rattle.std.proofs.lemmas.Bool.{and_from, and_parts, cases_Bool, cases_lt}
 use Rattle.std.proofs.lemmas.Bool.Decides.{nat_tests}
 use Rattle.std.proofs.lemmas.List.{take-map}
+use Rattle.plain_laws.proofs.Every.{all-append, all-at, all-parts}
+use Rattle.plain_laws.proofs.Places.{get-there}
 use Rattle.calculus.specs.declared.sign.Sign.{Sign}
 use Rattle.calculus.specs.declared.sign.Sign.TheVariants.{F}
 use Rattle.calculus.specs.declared.sort.Sort.{Sort}
@@ -16,12 +18,11 @@ use Rattle.calculus.specs.declared.kind.ModalPart.{ModalPart}
 use Rattle.calculus.specs.declared.kind.ModalPart.TheVariants.{Plain, Nu, Pi}
 use Rattle.calculus.specs.Equality.{sort_eq}
 use Rattle.calculus.specs.Ground.{Value, common, g_spare_mark, more_marks, no_marks, steps, term}
-use Rattle.calculus.specs.Kinds.{Signed, components, modal_of, shape_of}
+use Rattle.calculus.specs.Kinds.{Signed, components, shape_of}
 use Rattle.calculus.specs.Labels.{pi_label}
 use Rattle.calculus.specs.Positions.{Node, node, size, way_from}
 use Rattle.calculus.specs.Skolem.{fits_way, is_delta_position, is_pi_position}
 use Rattle.calculus.specs.Syntax.{Formula, Problem, atom, neg, conj, disj, imp, all, ex, box, dia}
-use Rattle.calculus.proofs.PlaceLists.{all-append, all-at, get-there}
 use Rattle.store_theory.specs.Bindings.{AddsBuilt, NamesFrom, with_cell}
 use Rattle.store_theory.specs.Patterns.{Grows}
 use Rattle.store_theory.specs.Stores.{Cell, Store, has_sort_at, has_value_sort_at, is_store, new_cell, parts_fit, sort_of}
@@ -32,11 +33,10 @@ use Rattle.search_theory.proofs.BuildingLaws.{adds-longer}
 use Rattle.search_theory.proofs.DemandLaws.{all-taken}
 use Rattle.search_theory.proofs.FromLaws.{labelled-plus}
 use Rattle.search_theory.proofs.RightWays.{IsRightWay, right-mark, right-next, right-start, strings_of, terms_of}
-use Rattle.search_theory.proofs.SystemLaws.{split-all}
 use Rattle.tableau_core.specs.InsideView.{Inside, LeadsOn, way_inside}
 use Rattle.tableau_core.proofs.WayLaws.{way-begins, way-by}
 use Rattle.domain_cond.specs.Ways.{IsBelow, PushesRight, TakesString, TakesTerm}
-use Rattle.domain_cond.proofs.HomeSteps.{IsKind}
+use Rattle.domain_cond.proofs.HomeSteps.{IsKind, modal-of}
 use Rattle.domain_cond.proofs.WayLaws.{IsOnWay, value-below, with-item}
 
 -- ---- ways below a formula
@@ -163,18 +163,18 @@ taken-same s t rs k g h = take-map (sort_value s) k rs ∙ sym (values-same s t 
 -- ---- what is added past a modal part
 
 pub right-nothing : (s : Store) (q : ℕ) (rs : List ℕ) (k : ℕ) (label : List ℕ) → PushesRight s s Plain q rs k label label
-right-nothing s q rs k label P mark base l from a = (a, (split-all (nat_le base) rs label from).1)
+right-nothing s q rs k label P mark base l from a = (a, (all-parts (nat_le base) rs label from).1)
 
 pub right-string : (l : Logic) (s : Store) (q : ℕ) (rs : List ℕ) (k r : ℕ) (label after : List ℕ) → slice_get rs k ≡ Some r → after ≡ pi_label l label r → PushesRight s s Nu q rs k label after
 right-string l s q rs k r label after at joined P mark base low from a =
-    let p = split-all (nat_le base) rs label from in
+    let p = all-parts (nat_le base) rs label from in
     (a, subst (λ ks. IsTrue (list_all (nat_le base) ks)) (sym joined) (with-item l (nat_le base) label r p.1 (all-at (nat_le base) rs k r p.0 at)))
 
 pub right-pushed : (l : Logic) (s : Store) (q : ℕ) (rs : List ℕ) (k : ℕ) (label after : List ℕ) → IsTrue (is_store s) → IsTrue (list_all (has_value_sort_at s) rs) → after ≡ pi_label l label (length s.cells) → PushesRight s (with_cell (new_cell q (take k rs)) s) Pi q rs k label after
 right-pushed l s q rs k label after h values joined P mark base low from a =
     let c : Cell = new_cell q (take k rs) in
     let t = with_cell c s in
-    let p = split-all (nat_le base) rs label from in
+    let p = all-parts (nat_le base) rs label from in
     let same = values-same s t (Grows-with_cell c s) (take k rs) (λ i r e. value-below s (take k rs) i r (all-taken (has_value_sort_at s) k rs values) e) in
     let built : IsTrue (is_labelled_cell P t c) = subst (λ vs. IsTrue (is_pi_position P q && fits_way P q vs)) (sym same) (mark refl) in (
       labelled-plus P base s c h (all-taken (nat_le base) k rs p.0) built a,
@@ -204,9 +204,6 @@ right-both P old cur new rs label after adds first second base low from a =
 pub right-so_far : (P : Problem) (p : ℕ) (old cur : Store) (rs label : List ℕ) (k q : ℕ) (sign : Sign) (f : Formula) (place : ℕ) → IsRightTo P p old cur rs label k q sign f place → IsTrue (fits_way P p (sort_values old rs)) → AddsRight P rs old cur label
 unfolding IsRightTo
 right-so_far P p old cur rs label k q sign f place w fits = (w fits).1
-
-modal-of : (P : Problem) (l : Logic) (sign : Sign) (f : Formula) (modal : ModalPart) (shape : Shape) → IsKind P l sign f modal shape → modal ≡ modal_of P.setting.logic sign f
-modal-of P l sign f modal shape k = k.modal_is ∙ ap (λ x. modal_of x sign f) k.logic
 
 -- past the last position
 pub right-last : (P : Problem) (l : Logic) (modal : ModalPart) (shape : Shape) (p : ℕ) (old cur new : Store) (rs label after : List ℕ) (k q : ℕ) (sign : Sign) (f : Formula) (place : ℕ) → IsKind P l sign f modal shape → IsOnWay P p old cur rs label k q sign f place → IsRightTo P p old cur rs label k q sign f place → PushesRight cur new modal q rs k label after → IsTrue (fits_way P p (sort_values old rs)) → AddsRight P rs old new after

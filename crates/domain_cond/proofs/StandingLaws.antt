@@ -2,10 +2,11 @@
 use Rattle.std.proofs.Common.{◌≡◌, ◌⊎◌, ◌||◌, ◌==◌, ℕ, zero, suc, ◌+◌, ◌<◌, ◌≤◌, List, [], ◌∷◌, ◌++◌, length, Bool, true, false, IsTrue, refl, sym, ◌∙◌, ap, subst, None, Some, slice_get, inl, inr, arith, eqb-true, eq-eqb, if◌then◌else◌}
 use Rattle.std.specs.List.{list_all}
 use Rattle.std.proofs.lemmas.Bool.{or_left, or_right, cases_lt, false≢true, and_from}
+use Rattle.plain_laws.proofs.Every.{all-at}
+use Rattle.plain_laws.proofs.Places.{get-end, get-front, get-within}
 use Rattle.calculus.specs.declared.sort.Sort.TheVariants.{TermSort}
 use Rattle.store_theory.specs.Stores.{variable, Store, GammaCell, Holds}
 use Rattle.store_theory.specs.Systems.{AreEqualNow, is_gamma_cell, is_label}
-use Rattle.calculus.proofs.PlaceLists.{all-at, get-end, get-front, get-within}
 use Rattle.search_theory.specs.Demanding.{HomesAgree, equation}
 use Rattle.search_theory.proofs.DemandLaws.{now-label}
 use Rattle.search_theory.specs.MarkLists.{IsFlat}

@@ -2,7 +2,9 @@
 use Rattle.std.proofs.Common.{◌≡◌, ◌⊎◌, ℕ, zero, suc, ◌+◌, ◌<◌, ◌≤◌, List, [], ◌∷◌, ◌++◌, take, drop, length, Bool, true, false, ◌||◌, IsTrue, refl, sym, ◌∙◌, ap, subst, Option, None, Some, slice_get, inl, inr, arith, lt-ltb, if◌then◌else◌}
 use Rattle.std.specs.List.{list_all}
 use Rattle.std.specs.Option.{option_map_or}
-use Rattle.std.proofs.lemmas.Bool.{false≢true, and_parts, and_from}
+use Rattle.std.proofs.lemmas.Bool.{false≢true, and_parts, and_from, or_left, or_right}
+use Rattle.plain_laws.proofs.Every.{all-at}
+use Rattle.plain_laws.proofs.Places.{drop-there, get-end, get-there, get-within}
 use Rattle.calculus.specs.declared.sign.Sign.{Sign}
 use Rattle.calculus.specs.declared.sign.Sign.TheVariants.{F}
 use Rattle.calculus.specs.declared.sort.Sort.{Sort}
@@ -23,10 +25,10 @@ use Rattle.store_theory.specs.Stores.{Cell, variable, fun_cell, eigen_cell, new_
 use Rattle.calculus.specs.Syntax.{Formula, Problem}
 use Rattle.store_theory.specs.Systems.{has_label_sort_at, is_label}
 use Rattle.store_theory.specs.Templates.{as_value}
-use Rattle.store_theory.proofs.BindingLaws.{has_sort-from, sort_eq-same, sorted_cell}
+use Rattle.store_theory.proofs.BindingLaws.{has_sort-from, sort_eq-same, sorted_cell, within-sort}
 use Rattle.store_theory.specs.Patterns.{Grows}
 use Rattle.store_theory.proofs.PatternLaws.{AddsBuilt-both, Grows-built, Grows-with_cell, grown-label, grown-sort}
-use Rattle.calculus.proofs.PlaceLists.{all-at, all-more, get-end, get-there, get-within}
+use Rattle.calculus.proofs.PlaceLists.{all-more}
 use Rattle.tableau_core.specs.InsideView.{Inside}
 use Rattle.tableau_core.specs.Reaching.{rest_of}
 use Rattle.tableau_core.proofs.FittingLaws.{way-outside}
@@ -36,7 +38,6 @@ use Rattle.term_store.specs.declared.cell.Head.{Head}
 use Rattle.term_unify.specs.Flat.{HasNoString, HasNoStringIn}
 use Rattle.term_unify.specs.Steps.{head_sort}
 use Rattle.term_unify.proofs.FlatLaws.{ends-sorted, free-grown}
-use Rattle.term_unify.proofs.ListItems.{drop-there}
 use Rattle.term_unify.proofs.PairLaws.{take-more}
 use Rattle.search_theory.specs.HomeCells.{PassesModal, by_plain, by_string, by_mark, PassesShape, by_term, by_other, is_gamma_shape, reached_by}
 use Rattle.search_theory.specs.States.{label_by, values_by}
@@ -179,20 +180,17 @@ from-take (suc k) [] i r e = cc e
 from-take (suc k) (x ∷ rs) zero r e = e
 from-take (suc k) (x ∷ rs) (suc i) r e = from-take k rs i r e
 
-pub sorted-within : (s : Store) (sort : Sort) (r : ℕ) → IsTrue (has_sort_at s sort r) → r < length s.cells
-sorted-within s sort r h = let (c, e, q) = sorted_cell s sort r h in get-within s.cells r c e
-
 pub label-within : (s : Store) (rs : List ℕ) (i r : ℕ) → IsTrue (is_label s rs) → slice_get rs i ≡ Some r → r < length s.cells
 label-within s rs i r h e = by (has_sort_at s MarkSort r) refl (all-at (has_label_sort_at s) rs i r h e)
   where
     by : (t : Bool) → has_sort_at s MarkSort r ≡ t → IsTrue (t || has_sort_at s StringSort r) → r < length s.cells
-    by true m x = sorted-within s MarkSort r m
-    by false m x = sorted-within s StringSort r x
+    by true m x = within-sort s MarkSort r m
+    by false m x = within-sort s StringSort r x
 
 pub value-below : (s : Store) (rs : List ℕ) (i r : ℕ) → IsTrue (list_all (has_value_sort_at s) rs) → slice_get rs i ≡ Some r → r < length s.cells
 value-below s rs i r h e = elim (value-sort s r (all-at (has_value_sort_at s) rs i r h e)) [
-  | inl x ↦ sorted-within s TermSort r x
-  | inr x ↦ sorted-within s StringSort r x
+  | inl x ↦ within-sort s TermSort r x
+  | inr x ↦ within-sort s StringSort r x
 ]
 
 pub pushed-nothing : (l : Logic) (s : Store) (q : ℕ) (rs : List ℕ) (k : ℕ) (label : List ℕ) → IsPushed l s s Plain q rs k label label
@@ -202,14 +200,6 @@ pushed-nothing l s q rs k label = record {
   free = λ h a b. b;
 }
 
-or-right : (a b : Bool) → IsTrue b → IsTrue (a || b)
-or-right true b h = refl
-or-right false b h = h
-
-or-left : (a b : Bool) → IsTrue a → IsTrue (a || b)
-or-left true b h = refl
-or-left false b h = absurd (false≢true h)
-
 pub pushed-string : (l : Logic) (s : Store) (q : ℕ) (rs : List ℕ) (k r : ℕ) (label after : List ℕ) → slice_get rs k ≡ Some r → ((n : ℕ) × TakesString s Nu rs k n) → after ≡ pi_label l label r → IsPushed l s s Nu q rs k label after
 pushed-string l s q rs k r label after at (m, e) joined =
     let same : e.0 ≡ r = let z : Some e.0 ≡ Some r = sym e.1 ∙ at in cc z in
@@ -218,7 +208,7 @@ pushed-string l s q rs k r label after at (m, e) joined =
       passes = λ n f.
           let z : f.0 ≡ r = let y : Some f.0 ≡ Some r = sym f.1 ∙ at in cc y in
           subst (λ ks. PassesModal l s q Nu (reaching label rs k) (reaching ks rs n)) (ap (pi_label l label) z ∙ sym joined) (string-passed l s q label rs k n f);
-      sorted = λ h. subst (λ ks. IsTrue (is_label s ks)) (sym joined) (with-item l (has_label_sort_at s) label r h (or-right (has_sort_at s MarkSort r) (has_sort_at s StringSort r) sorted));
+      sorted = λ h. subst (λ ks. IsTrue (is_label s ks)) (sym joined) (with-item l (has_label_sort_at s) label r h (or_right (has_sort_at s MarkSort r) (has_sort_at s StringSort r) sorted));
       free = λ h a b. subst (HasNoString s) (sym joined) (free-item l s label r b (λ v o c. a v k r o at c));
     }
 
@@ -228,7 +218,7 @@ pushed-mark l s q rs k label after h fits joined = record {
   passes = λ n e. subst (λ ks. PassesModal l t q Pi (reaching label rs k) (reaching ks rs n)) (sym joined)
       (subst (λ i. PassesModal l t q Pi (reaching label rs k) (reaching (pi_label l label m) rs i)) (sym e) (shifted n e));
   sorted = λ a. subst (λ ks. IsTrue (is_label t ks)) (sym joined) (with-item l (has_label_sort_at t) label m (grown-label s t label g a)
-      (or-left (has_sort_at t MarkSort m) (has_sort_at t StringSort m) (has_sort-from t MarkSort m c there refl)));
+      (or_left (has_sort_at t MarkSort m) (has_sort_at t StringSort m) (has_sort-from t MarkSort m c there refl)));
   free = λ a b d. subst (HasNoString t) (sym joined) (free-item l t label m (label-free a d) (mark-free b));
 }
   where
@@ -289,8 +279,8 @@ on-start P p s rs l h fits = record {
 
 value-grown : (s t : Store) → Grows s t → (r : ℕ) → IsTrue (has_value_sort_at s r) → IsTrue (has_value_sort_at t r)
 value-grown s t g r h = elim (value-sort s r h) [
-  | inl x ↦ or-left (has_sort_at t TermSort r) (has_sort_at t StringSort r) (grown-sort s t TermSort r g x)
-  | inr x ↦ or-right (has_sort_at t TermSort r) (has_sort_at t StringSort r) (grown-sort s t StringSort r g x)
+  | inl x ↦ or_left (has_sort_at t TermSort r) (has_sort_at t StringSort r) (grown-sort s t TermSort r g x)
+  | inr x ↦ or_right (has_sort_at t TermSort r) (has_sort_at t StringSort r) (grown-sort s t StringSort r g x)
 ]
 
 taken-grown : (s t : Store) → Grows s t → (x : Shape) (rs : List ℕ) (k n : ℕ) → TakesTerm s x rs k n → TakesTerm t x rs k n

@@ -1,8 +1,10 @@
 -- How lists of conditions are judged one after the other, and from symbol to symbol.
-use Rattle.std.proofs.Common.{Result, Err, ◌≡◌, ℕ, suc, ◌+◌, ◌≤◌, List, [], ◌∷◌, ◌++◌, length, drop, Bool, true, false, not, ◌&&◌, ◌==◌, ◌^◌, IsTrue, Option, Some, None, refl, sym, ◌∙◌, ap, subst, arith, slice_get, inl, inr, if◌then◌else◌, nat_lt}
+use Rattle.std.proofs.Common.{Result, Err, ◌≡◌, ℕ, suc, ◌+◌, ◌≤◌, List, [], ◌∷◌, ◌++◌, length, drop, Bool, true, false, not, ◌&&◌, ◌==◌, ◌^◌, IsTrue, Option, Some, None, refl, sym, ◌∙◌, ap, subst, arith, slice_get, if◌then◌else◌, nat_lt}
 use Rattle.std.specs.List.{list_all}
 use Rattle.std.proofs.Math.ListN.{drop_of_length-le}
-use Rattle.std.proofs.lemmas.Bool.{and_parts, cases_Bool, eqb-true, false≢true}
+use Rattle.std.proofs.lemmas.Bool.{and_parts, false≢true}
+use Rattle.plain_laws.proofs.Numbers.{other-number}
+use Rattle.calculus.proofs.StructureTextLaws.{as-many}
 use Rattle.calculus.specs.declared.fault.StructureCause.{StructureCause}
 use Rattle.calculus.specs.declared.fault.StructureCause.TheVariants as cause
 use Rattle.calculus.specs.declared.setting.Logic.{Logic}
@@ -40,12 +42,6 @@ broken-same a b line why e h = record { condition = h.condition; first = sym e �
 
 pub both-hold : (a b : List Condition) → first_broken a ≡ None → first_broken b ≡ None → first_broken (a ++ b) ≡ None
 both-hold a b none h = unbroken-on a b none ∙ h
-
-other-number : (a b : ℕ) → ¬ (a ≡ b) → (a == b) ≡ false
-other-number a b h = elim (cases_Bool (a == b)) [
-  | inl e ↦ absurd (h (eqb-true a b e))
-  | inr e ↦ e
-]
 
 pub many-worlds : (S : Structure) → ¬ (length S.successors ≡ 1) → IsFirstBroken (one_world_condition S) 3 cause.Worlds
 many-worlds S h = record {
@@ -163,9 +159,6 @@ range-stated P S h = (and_parts (is_in_range S) (list_all rises S.successors) (a
 
 pub tables-stated : (P : Problem) (S : Structure) → IsTrue (can_be_stated P S) → IsTrue (are_tables S P.symbols S.meanings)
 tables-stated P S h = (and_parts _ (are_tables S P.symbols S.meanings) h).1
-
-as-many : (S : Structure) → IsTrue (is_in_range S) → length S.domains ≡ length S.successors
-as-many S h = eqb-true (length S.domains) (length S.successors) (and_parts _ (length S.domains == length S.successors) (and_parts _ _ (and_parts _ _ h).0).0).1
 
 -- the five groups by the lines at which they begin
 pub record AreGroups (P : Problem) (S : Structure) (domains functions predicates : ℕ) : Type 0 where

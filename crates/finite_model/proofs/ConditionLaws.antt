@@ -3,13 +3,12 @@ use Rattle.std.proofs.Common.{◌≡◌, ℕ, zero, suc, ◌+◌, ◌-◌, ◌*�
 use Rattle.std.specs.List.{flat_map}
 use Rattle.std.proofs.lemmas.Grind.{flat_map-append}
 use Rattle.std.proofs.lemmas.List.{map-append}
+use Rattle.plain_laws.proofs.Lists.{flat-same}
+use Rattle.plain_laws.proofs.Options.{some-none}
 use Rattle.calculus.specs.Structures.{numbers_from, place_from, tuples}
 use Rattle.calculus.specs.StructureText.{Condition, first_broken}
 
 -- ---- one list after the other
-
-none_some : {A : Type 0} (x : A) → Some x ≡ None → ⊥
-none_some x e = cc
 
 pub unbroken-on : (a b : List Condition) → first_broken a ≡ None → first_broken (a ++ b) ≡ first_broken b
 unbroken-on [] b h = refl
@@ -17,10 +16,10 @@ unbroken-on (c ∷ a) b h = by c.holds h (unbroken-on a b)
   where
     by : (t : Bool) → (if t then first_broken a else Some c) ≡ None → (first_broken a ≡ None → first_broken (a ++ b) ≡ first_broken b) → (if t then first_broken (a ++ b) else Some c) ≡ first_broken b
     by true e rest = rest e
-    by false e rest = absurd (none_some c e)
+    by false e rest = absurd (some-none c e)
 
 pub broken-first : (a b : List Condition) (d : Condition) → first_broken a ≡ Some d → first_broken (a ++ b) ≡ Some d
-broken-first [] b d h = absurd (none_some d (sym h))
+broken-first [] b d h = absurd (some-none d (sym h))
 broken-first (c ∷ a) b d h = by c.holds h (broken-first a b d)
   where
     by : (t : Bool) → (if t then first_broken a else Some c) ≡ Some d → (first_broken a ≡ Some d → first_broken (a ++ b) ≡ Some d) → (if t then first_broken (a ++ b) else Some c) ≡ Some d
@@ -44,10 +43,6 @@ places_from e xs b (suc n) = flat_map (λ x. places_from e xs (b * e + x) n) xs
 -- a place for each element behind a place
 abbrev pub more_places : ℕ → List ℕ → List ℕ → List ℕ
 more_places e xs ps = flat_map (λ p. map (λ x. p * e + x) xs) ps
-
-flat-same : (f g : ℕ → List ℕ) → ((x : ℕ) → f x ≡ g x) → (xs : List ℕ) → flat_map f xs ≡ flat_map g xs
-flat-same f g h [] = refl
-flat-same f g h (x ∷ xs) = λ i. h x i ++ flat-same f g h xs i
 
 flat-flat : (f g : ℕ → List ℕ) (xs : List ℕ) → flat_map g (flat_map f xs) ≡ flat_map (λ x. flat_map g (f x)) xs
 flat-flat f g [] = refl

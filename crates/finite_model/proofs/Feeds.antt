@@ -37,7 +37,7 @@ join a b h k = list_all-append is_no_feed a b ∙ and_from (list_all is_no_feed 
 before : (b : ℕ) (bs : List ℕ) → IsTrue (is_no_feed b) → NoFeed bs → NoFeed (b ∷ bs)
 before b bs h k = and_from (is_no_feed b) (list_all is_no_feed bs) h k
 
-not_ten : (b : ℕ) → ¬ (b ≡ 10) → IsTrue (is_no_feed b)
+pub not_ten : (b : ℕ) → ¬ (b ≡ 10) → IsTrue (is_no_feed b)
 not_ten b n = elim (cases_Bool (b == 10)) [
   | inl e ↦ absurd (n (eqb-true b 10 e))
   | inr e ↦ ap not e

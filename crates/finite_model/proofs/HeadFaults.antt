@@ -4,6 +4,8 @@ use Rattle.std.specs.List.{list_all}
 use Rattle.std.proofs.lemmas.Bool.{and_parts, and_from, false≢true}
 use Rattle.std.proofs.lemmas.List.Folds.{list_all-append}
 use Rattle.std.proofs.Math.Seq.{take-append_seam}
+use Rattle.plain_laws.proofs.Lists.{first-item}
+use Rattle.plain_laws.proofs.Numbers.{one-power}
 use Rattle.calculus.specs.declared.fault.StructureCause.TheVariants as cause
 use Rattle.calculus.specs.Syntax.{Symbol, Problem}
 use Rattle.calculus.specs.Problems.{symbol_fits}
@@ -18,7 +20,6 @@ use Rattle.finite_model.specs.declared.slot.Form.TheVariants.{Rising, Values, Di
 use Rattle.finite_model.specs.Reading.{AreRead, IsFaultOf}
 use Rattle.finite_model.specs.Slots.{Place, function_slots, head_of, predicate_slots, slots, world_slots}
 use Rattle.finite_model.proofs.SlotFaults.{all_apart, all_fill, begun-by, is_apart, can_fill}
-use Rattle.finite_model.proofs.SizeLaws.{power-of_one}
 use Rattle.finite_model.proofs.TextFaults.{IsBegun, faulty}
 
 -- ---- each slot passes a test
@@ -77,7 +78,7 @@ slots-fill W E ss h = slots-pass (λ (s : Place). can_fill s.form) W E (record {
 
 one-fits : (ss : List Symbol) → IsTrue (list_all (fits_table 1) ss)
 one-fits [] = refl
-one-fits (s ∷ ss) = and_from (fits_table 1 s) (list_all (fits_table 1) ss) (ap (λ k. nat_le k 1000000) (power-of_one s.arity)) (one-fits ss)
+one-fits (s ∷ ss) = and_from (fits_table 1 s) (list_all (fits_table 1) ss) (ap (λ k. nat_le k 1000000) (one-power s.arity)) (one-fits ss)
 
 -- of each number of worlds there is a structure, with one element
 pub some-begun : (P : Problem) (W : ℕ) → IsTrue (is_size W) → IsBegun P (head_of P W 1)
@@ -102,9 +103,6 @@ third a b c x y l xs ys e = cc
 second : (a b x l : List ℕ) (xs ys : List (List ℕ)) → a ∷ b ∷ xs ≡ x ∷ l ∷ ys → b ≡ l
 second a b x l xs ys e = cc
 
-first : (a l : List ℕ) (xs ys : List (List ℕ)) → a ∷ xs ≡ l ∷ ys → a ≡ l
-first a l xs ys e = cc
-
 too-few : (a b c d x y z : List ℕ) (xs : List (List ℕ)) → a ∷ b ∷ c ∷ d ∷ xs ≡ x ∷ y ∷ z ∷ [] → ⊥
 too-few a b c d x y z xs e = cc
 
@@ -125,7 +123,7 @@ version-fault P names bytes r none = (
   0,
   refl,
   faulty P names bytes [] (whole_lines (drop 0 bytes)) r.whole (let b = some-begun P 1 refl in record { whose = b.whose; stated = b.stated; rest = head_of P 1 1 ++ b.rest; all = b.all })
-      (λ S stated l rest more e f. none more (f ∙ ap (λ (j : List ℕ). j ∷ more) (sym (first version_line l _ rest e))))
+      (λ S stated l rest more e f. none more (f ∙ ap (λ (j : List ℕ). j ∷ more) (sym (first-item version_line l _ rest e))))
       (λ S t e. no_line version_line _ e),
   sym (lines-at P bytes [] 0 r),
 )

@@ -1,8 +1,10 @@
 -- How the reading of lines goes on, and the head line by line, where the lines are known by equations.
-use Rattle.std.proofs.Common.{◌≡◌, ℕ, ◌≤◌, List, [], ◌∷◌, ◌++◌, drop, Bool, IsTrue, refl, sym, ◌∙◌, ap, append_assoc, append-nil, arith, flat_map, codes, decimal, subst, Result, Err, nat_le, leb-true}
+use Rattle.std.proofs.Common.{◌≡◌, ℕ, ◌≤◌, List, [], ◌∷◌, ◌++◌, drop, Bool, IsTrue, refl, sym, ◌∙◌, ap, append_assoc, arith, flat_map, codes, decimal, subst, Result, Err, nat_le, leb-true}
 use Rattle.std.proofs.lemmas.Bool.{and_parts}
 use Rattle.std.proofs.lemmas.Fmt.{decimal_injective}
 use Rattle.std.proofs.lemmas.Grind.{flat_map-append}
+use Rattle.plain_laws.proofs.Lists.{first-item, regroup-line}
+use Rattle.calculus.proofs.StructureTextUnique.{size-small}
 use Rattle.calculus.specs.declared.fault.StructureCause.{StructureCause}
 use Rattle.calculus.specs.Syntax.{Problem}
 use Rattle.calculus.specs.DerivationText.{line_bytes, setting_text}
@@ -13,21 +15,17 @@ use Rattle.finite_model.specs.declared.fault.StructureRead.{StructureRead}
 use Rattle.finite_model.specs.declared.fault.StructureRead.TheVariants.{Bad}
 use Rattle.finite_model.specs.Reading.{AreRead, IsFaultOf, IsLineAt}
 use Rattle.finite_model.specs.Slots.{head_of}
-use Rattle.finite_model.proofs.SlotFaults.{size-small}
 
 -- ---- lines one after the other
 
 pub none-read : (bytes : List ℕ) → AreRead bytes [] 0
 none-read bytes = record { within = omega arith; whole = refl; text = refl }
 
-regroup : (f l r : List ℕ) → f ++ (l ++ 10 ∷ r) ≡ (f ++ ((l ++ 10 ∷ []) ++ [])) ++ r
-regroup f l r = simp (append_assoc, append-nil)
-
 pub more-read : (bytes : List ℕ) (ls : List (List ℕ)) (from to : ℕ) (l : List ℕ) → AreRead bytes ls from → IsLineAt bytes from to l → AreRead bytes (ls ++ l ∷ []) to
 more-read bytes ls from to l r h = record {
   within = h.within;
   whole = r.whole ∙ ap (λ k. ls ++ k) h.whole ∙ sym (append_assoc ls (l ∷ []) (whole_lines (drop to bytes)));
-  text = r.text ∙ ap (λ k. flat_map line_bytes ls ++ k) h.text ∙ regroup (flat_map line_bytes ls) l (drop to bytes) ∙ sym (ap (λ k. k ++ drop to bytes) (flat_map-append line_bytes ls (l ∷ [])));
+  text = r.text ∙ ap (λ k. flat_map line_bytes ls ++ k) h.text ∙ regroup-line (flat_map line_bytes ls) l (drop to bytes) ∙ sym (ap (λ k. k ++ drop to bytes) (flat_map-append line_bytes ls (l ∷ [])));
 }
 
 -- ---- the head
@@ -60,20 +58,17 @@ read-four P bytes a b c d W E s h k e j i = more-read bytes (version ∷ setting
 pub no-same : (x y : List ℕ) (ls : List (List ℕ)) → x ≡ y → ((more : List (List ℕ)) → ¬ (ls ≡ x ∷ more)) → (more : List (List ℕ)) → ¬ (ls ≡ y ∷ more)
 no-same x y ls e none more h = none more (h ∙ ap (λ (k : List ℕ). k ∷ more) (sym e))
 
-line-eq : (x y : List ℕ) (xs ys : List (List ℕ)) → x ∷ xs ≡ y ∷ ys → x ≡ y
-line-eq x y xs ys e = cc
-
 -- with so many elements some table is too large, so the line is that of no structure
 pub too-large : (ss : ℕ → Bool) (bytes : List ℕ) (c d E : ℕ) → IsTrue (is_size E) → IsLineAt bytes c d (codes "elements " ++ decimal E) → ¬ IsTrue (ss E) → (n : ℕ) (more : List (List ℕ)) → IsTrue (is_size n) → IsTrue (ss n) → ¬ (whole_lines (drop c bytes) ≡ (codes "elements " ++ decimal n) ∷ more)
 too-large ss bytes c d E he h none n more hn fits e =
-    let same = decimal_injective n E (size-small n hn) (size-small E he) (cancel (codes "elements ") (decimal n) (decimal E) (line-eq (elements_of n) (elements_of E) more (whole_lines (drop d bytes)) (sym e ∙ h.whole))) in
+    let same = decimal_injective n E (size-small n hn) (size-small E he) (cancel (codes "elements ") (decimal n) (decimal E) (first-item (elements_of n) (elements_of E) more (whole_lines (drop d bytes)) (sym e ∙ h.whole))) in
     none (subst (λ k. IsTrue (ss k)) same fits)
 
 -- the line does not begin with the word, or no size stands behind it
 pub no-size : (bytes : List ℕ) (from to : ℕ) (line word rest : List ℕ) → IsLineAt bytes from to line → line ≡ word ++ rest → ((n : ℕ) → 1 ≤ n → n ≤ 64 → ¬ (rest ≡ decimal n)) → (n : ℕ) (more : List (List ℕ)) → IsTrue (is_size n) → ¬ (whole_lines (drop from bytes) ≡ (word ++ decimal n) ∷ more)
 no-size bytes from to line word rest h e none n more size k =
     let p = and_parts (nat_le 1 n) (nat_le n 64) size in
-    none n (leb-true 1 n p.0) (leb-true n 64 p.1) (cancel word rest (decimal n) (sym e ∙ line-eq line (word ++ decimal n) (whole_lines (drop to bytes)) more (sym h.whole ∙ k)))
+    none n (leb-true 1 n p.0) (leb-true n 64 p.1) (cancel word rest (decimal n) (sym e ∙ first-item line (word ++ decimal n) (whole_lines (drop to bytes)) more (sym h.whole ∙ k)))
 
 -- a fault by the answer that tells it
 pub told : {A : Type 0} (P : Problem) (bytes : List ℕ) (m line : ℕ) (c why : StructureCause) → ◌≡◌ {A = Result A StructureRead} (Err (Bad m c)) (Err (Bad line why)) → IsFaultOf P bytes m c → IsFaultOf P bytes line why

@@ -48,10 +48,6 @@ first-taken all rest old new x e added = (added ∙ ap (λ l. old ++ take 1 l) (
 pub nothing-taken : {A : Type 0} (all old : List A) → all ≡ [] → (old ≡ old ++ take 1 all) × ([] ≡ drop 1 all)
 nothing-taken all old e = (sym (append-nil old) ∙ ap (λ l. old ++ take 1 l) (sym e), sym (ap (λ l. drop 1 l) e))
 
-pub nothing-left : {A : Type 0} (xs : List A) → length xs ≡ 0 → xs ≡ []
-nothing-left [] e = refl
-nothing-left (x ∷ xs) e = absurd (omega (arith, e))
-
 few : {A : Type 0} (xs : List A) (i : ℕ) → length (take i xs) ≤ i
 few [] zero = omega arith
 few [] (suc i) = omega arith

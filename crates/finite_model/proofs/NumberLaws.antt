@@ -1,5 +1,5 @@
 -- Numbers that are a whole text, or stand behind a space.
-use Rattle.std.proofs.Common.{◌≡◌, ◌≢◌, ℕ, zero, suc, ◌+◌, ◌≤◌, ◌<◌, ◌^◌, List, [], ◌∷◌, ◌++◌, length, drop, Bool, true, ◌&&◌, IsTrue, refl, sym, ◌∙◌, ap, subst, append-nil, append_assoc, arith, decimal, nat_lt, Option, Some, None, Bor, MatchOption, IfSome, IsNone, lt-ltb, ltb-true, length-append, length-drop, get_or, drop-cons, add-one}
+use Rattle.std.proofs.Common.{◌≡◌, ℕ, zero, suc, ◌+◌, ◌≤◌, ◌<◌, ◌^◌, List, [], ◌∷◌, ◌++◌, length, drop, Bool, true, ◌&&◌, IsTrue, refl, sym, ◌∙◌, ap, subst, append-nil, append_assoc, arith, decimal, nat_lt, lt-ltb, ltb-true, length-append, length-drop, get_or, drop-cons, add-one}
 use Rattle.std.specs.List.{list_all}
 use Rattle.std.proofs.lemmas.Bool.{and_parts, and_from}
 use Rattle.std.proofs.lemmas.Grind.{flat_map-append}
@@ -12,11 +12,6 @@ use Rattle.calculus.proofs.TermTextLaws.{small-number}
 use Rattle.formula_text.specs.Runs.{IsNumberAt}
 use Rattle.finite_model.specs.Items.{IsItemAt, NoItemAt}
 use Rattle.formula_text.proofs.Places.{after-text, stands-front}
-
--- a beginning that is cut off, or is not there
-pub cut-off : (r : Option (Bor (List ℕ))) (s p : List ℕ) → MatchOption r ((rest : List ℕ) → s ≢ p ++ rest) (λ x. s ≡ p ++ x.now) → IfSome r (λ x. s ≡ p ++ x.now) × (IsNone r → (rest : List ℕ) → ¬ (s ≡ p ++ rest))
-cut-off None s p m = (tt, λ _ rest. m rest)
-cut-off (Some x) s p m = (m, λ h. absurd (cc h))
 
 -- ---- a number that is the whole text
 

@@ -7,6 +7,9 @@ use Rattle.std.specs.declared.alloc.Global.{Global}
 use Rattle.std.proofs.lemmas.Bool.{and_parts, false≢true}
 use Rattle.std.proofs.lemmas.List.Folds.{list_all-map}
 use Rattle.std.proofs.Math.Nat.{pow-succ', pow-zero, mul-one, mul_assoc, suc-mul}
+use Rattle.plain_laws.proofs.Lists.{flat-same}
+use Rattle.calculus.proofs.StructureTextLaws.{shifted}
+use Rattle.finite_model.proofs.SlotLaws.{length-bits}
 use Rattle.calculus.specs.Syntax.{Symbol}
 use Rattle.calculus.specs.Skolem.{is_function}
 use Rattle.calculus.specs.Structures.{Meaning, Structure, value_table, truth_tables, are_tables, is_in_range, is_table, list_at, numbers_from, place_of, predicate_value, successors_of, truth_in, tuples}
@@ -34,14 +37,10 @@ blocks c n a (suc k) =
     ∙ sym (from-joined ((c + a) * n) n (k * n))
     ∙ (let e : n + k * n ≡ suc k * n = sym (suc-mul k n ∙ (let f : k * n + n ≡ n + k * n = omega arith in f)) in ap (numbers_from ((c + a) * n)) e)
 
-same-flat : (f g : ℕ → List ℕ) → ((x : ℕ) → f x ≡ g x) → (xs : List ℕ) → flat_map f xs ≡ flat_map g xs
-same-flat f g h [] = refl
-same-flat f g h (x ∷ xs) = λ i. h x i ++ same-flat f g h xs i
-
 pub all-places : (e b n : ℕ) → places_from e (numbers_from 0 e) b n ≡ numbers_from (b * e ^ n) (e ^ n)
 all-places e b zero = (let f : 1 ≡ e ^ zero = sym (pow-zero e) in let g : b ≡ b * e ^ zero = sym (mul-one b) ∙ ap (λ k. b * k) f in λ i. numbers_from (g i) (f i))
 all-places e b (suc n) =
-    same-flat (λ x. places_from e (numbers_from 0 e) (b * e + x) n) (λ x. numbers_from ((b * e + x) * e ^ n) (e ^ n)) (λ x. all-places e (b * e + x) n) (numbers_from 0 e)
+    flat-same (λ x. places_from e (numbers_from 0 e) (b * e + x) n) (λ x. numbers_from ((b * e + x) * e ^ n) (e ^ n)) (λ x. all-places e (b * e + x) n) (numbers_from 0 e)
     ∙ blocks (b * e) (e ^ n) 0 e
     ∙ (λ i. numbers_from (start i) (size i))
   where
@@ -57,25 +56,17 @@ all-same : {A : Type 0} (f g : A → Bool) → ((x : A) → f x ≡ g x) → (xs
 all-same f g h [] = refl
 all-same f g h (x ∷ xs) = λ i. h x i && all-same f g h xs i
 
-numbers-on : (g : ℕ → Bool) (a n : ℕ) → list_all g (numbers_from (suc a) n) ≡ list_all (λ k. g (suc k)) (numbers_from a n)
-numbers-on g a zero = refl
-numbers-on g a (suc n) = ap (λ b. g (suc a) && b) (numbers-on g (suc a) n)
-
 abbrev kept_at : List ℕ → List ℕ → ℕ → Bool
 kept_at a b k = not (is_one (get_or a k 0)) || is_one (get_or b k 0)
 
 rows-kept : (a b : List ℕ) → length a ≡ length b → list_all (kept_at a b) (numbers_from 0 (length a)) ≡ is_row_kept a b
 rows-kept [] b e = refl
 rows-kept (x ∷ a) [] e = absurd (omega arith)
-rows-kept (x ∷ a) (y ∷ b) e = ap (λ c. (not (is_one x) || is_one y) && c) (numbers-on (kept_at (x ∷ a) (y ∷ b)) 0 (length a) ∙ rows-kept a b (omega arith))
-
-length-ones : (row : List ℕ) → length (map is_one row) ≡ length row
-length-ones [] = refl
-length-ones (b ∷ row) = ap suc (length-ones row)
+rows-kept (x ∷ a) (y ∷ b) e = ap (λ c. (not (is_one x) || is_one y) && c) (shifted (kept_at (x ∷ a) (y ∷ b)) 0 (length a) ∙ rows-kept a b (omega arith))
 
 row-length : (rows : List (Vec ℕ Global)) (n w : ℕ) → IsTrue (list_all (λ row. length row == n) (the_rows rows)) → w < length rows → length (list_at (the_lists rows) w) ≡ n
 row-length [] n w h lt = absurd (omega arith)
-row-length (r ∷ rows) n zero h lt = sym (length-ones r.items) ∙ eqb-true (length (map is_one r.items)) n (and_parts (length (map is_one r.items) == n) (list_all (λ row. length row == n) (the_rows rows)) h).0
+row-length (r ∷ rows) n zero h lt = sym (length-bits r.items) ∙ eqb-true (length (map is_one r.items)) n (and_parts (length (map is_one r.items) == n) (list_all (λ row. length row == n) (the_rows rows)) h).0
 row-length (r ∷ rows) n (suc w) h lt = row-length rows n w (and_parts (length (map is_one r.items) == n) (list_all (λ row. length row == n) (the_rows rows)) h).1 (omega arith)
 
 rows-count : (rows : List (Vec ℕ Global)) → length (the_rows rows) ≡ length rows

@@ -1,7 +1,8 @@
 -- How the list of slots grows from world to world and from symbol to symbol.
-use Rattle.std.proofs.Common.{◌≡◌, ℕ, zero, suc, ◌+◌, ◌^◌, ◌<◌, ◌≤◌, List, [], ◌∷◌, ◌++◌, length, map, drop, get_or, Bool, true, false, Some, refl, sym, ◌∙◌, ap, append_assoc, append-nil, add-one, arith, codes, decimal, slice_get, if◌then◌else◌}
+use Rattle.std.proofs.Common.{◌≡◌, ℕ, zero, suc, ◌+◌, ◌^◌, ◌≤◌, List, [], ◌∷◌, ◌++◌, length, map, drop, get_or, Bool, true, false, Some, sym, ◌∙◌, ap, append_assoc, append-nil, add-one, arith, codes, decimal, slice_get, if◌then◌else◌}
 use Rattle.std.proofs.lemmas.List.{length-map, map-append}
 use Rattle.std.proofs.Math.ListN.{drop_of_length-le}
+use Rattle.plain_laws.proofs.Places.{drop-there}
 use Rattle.calculus.specs.Skolem.{is_function}
 use Rattle.calculus.specs.StructureText.{symbol_head}
 use Rattle.calculus.specs.Syntax.{Symbol}
@@ -13,18 +14,8 @@ use Rattle.finite_model.specs.Slots.{Place, function_slot, function_slots, place
 
 -- ---- symbols by their places
 
-pub some-at : {A : Type 0} (xs : List A) (i : ℕ) → i < length xs → (x : A) × (slice_get xs i ≡ Some x)
-some-at [] i h = absurd (omega arith)
-some-at (x ∷ xs) zero h = (x, refl)
-some-at (x ∷ xs) (suc i) h = some-at xs i (omega arith)
-
-rest-suc : {A : Type 0} (xs : List A) (i : ℕ) (x : A) → slice_get xs i ≡ Some x → drop i xs ≡ x ∷ drop (suc i) xs
-rest-suc [] i x e = absurd (cc)
-rest-suc (y ∷ xs) zero x e = let f : y ≡ x = cc in ap (λ z. z ∷ xs) f
-rest-suc (y ∷ xs) (suc i) x e = rest-suc xs i x e
-
 pub rest-at : {A : Type 0} (xs : List A) (i : ℕ) (x : A) → slice_get xs i ≡ Some x → drop i xs ≡ x ∷ drop (i + 1) xs
-rest-at xs i x e = rw add-one (rest-suc xs i x e)
+rest-at xs i x e = rw add-one (drop-there xs i x e)
 
 pub size-at : (E : ℕ) (symbols : List Symbol) (sizes : List ℕ) (i : ℕ) (s : Symbol) → sizes ≡ table_sizes E symbols → slice_get symbols i ≡ Some s → get_or sizes i 0 ≡ E ^ s.arity
 size-at E symbols sizes i s e h = ap (λ l. get_or l i 0) e ∙ at symbols i h

@@ -6,6 +6,7 @@ use Rattle.std.proofs.Math.Nat.{mul-le-mul, pow-suc, pow-zero, pow-le-pow_right}
 use Rattle.std.proofs.Math.Seq.{take-length}
 use Rattle.std.proofs.lemmas.List.{map-append, take_more}
 use Rattle.std.proofs.lemmas.List.Folds.{list_all-append}
+use Rattle.plain_laws.proofs.Numbers.{one-power}
 use Rattle.calculus.specs.Syntax.{Symbol}
 use Rattle.calculus.specs.StructureText.{fits_table, is_size}
 use Rattle.formula_core.specs.SymbolView.{the_symbol}
@@ -17,10 +18,6 @@ power-next e i = sym (pow-suc e i) ∙ (let f : suc i ≡ i + 1 = omega arith in
 
 pub power-grows : (e i n : ℕ) → 1 ≤ e → i ≤ n → e ^ i ≤ e ^ n
 power-grows e i n h le = pow-le-pow_right (let p : 0 < e = omega arith in p) le
-
-pub power-of_one : (n : ℕ) → 1 ^ n ≡ 1
-power-of_one zero = refl
-power-of_one (suc n) = pow-suc 1 n ∙ (let h = power-of_one n in omega (arith, h))
 
 pub size-most : (n : ℕ) → IsTrue (is_size n) → n ≤ 64
 size-most n h = leb-true n 64 (and_parts (nat_le 1 n) (nat_le n 64) h).1
@@ -52,7 +49,7 @@ size-large size e i n most least lt h large =
     omega (arith, p, g, large)
 
 pub size-one : (e n : ℕ) → e ≡ 1 → 1 ≡ e ^ n
-size-one e n h = sym (ap (λ k. k ^ n) h ∙ power-of_one n)
+size-one e n h = sym (ap (λ k. k ^ n) h ∙ one-power n)
 
 -- ---- from symbol to symbol
 

@@ -1,5 +1,5 @@
 -- The faults behind the head: the line after the entries that are read is none of the next slot, or is not the end, or something follows it.
-use Rattle.std.proofs.Common.{◌≡◌, ℕ, zero, suc, ◌+◌, ◌<◌, ◌^◌, List, [], ◌∷◌, ◌++◌, length, take, drop, Bool, true, false, not, ◌&&◌, ◌||◌, ◌==◌, IsTrue, refl, sym, ◌∙◌, ap, subst, append_assoc, append-nil, arith, flat_map, length-append, codes, decimal, nat_lt, nat_le, leb-true, lit<, lt_of_le_of_lt, if◌then◌else◌}
+use Rattle.std.proofs.Common.{◌≡◌, ℕ, zero, suc, ◌+◌, ◌<◌, List, [], ◌∷◌, ◌++◌, length, take, drop, Bool, true, false, not, ◌&&◌, ◌||◌, ◌==◌, IsTrue, refl, sym, ◌∙◌, ap, subst, append_assoc, append-nil, arith, flat_map, length-append, codes, decimal, nat_lt, if◌then◌else◌}
 use Rattle.std.specs.List.{list_all, list_any}
 use Rattle.std.proofs.lemmas.Bool.{and_parts, and_from, eq-eqb, false≢true}
 use Rattle.std.proofs.lemmas.Fmt.{decimal_injective}
@@ -12,7 +12,7 @@ use Rattle.calculus.specs.Equality.{list_eq}
 use Rattle.calculus.specs.Judgement.{is_end_line, whole_lines}
 use Rattle.calculus.specs.Structures.{Structure}
 use Rattle.calculus.specs.StructureText.{IsStructureText, can_be_stated, fits_table, is_size, structure_cause_after, structure_cause_at, structure_lines}
-use Rattle.calculus.proofs.StructureTextUnique.{stated-parts}
+use Rattle.calculus.proofs.StructureTextUnique.{stated-parts, size-small}
 use Rattle.calculus.proofs.DerivationTextLaws.{cancel}
 use Rattle.finite_model.specs.declared.slot.Form.{Form}
 use Rattle.finite_model.specs.declared.slot.Form.TheVariants.{Rising, Values, Digits}
@@ -23,9 +23,6 @@ use Rattle.finite_model.proofs.EntryLaws.{stated-entries, entries-stated}
 use Rattle.finite_model.proofs.TextFaults.{IsBegun, faulty}
 
 -- ---- sizes
-
-pub size-small : (n : ℕ) → IsTrue (is_size n) → n < 2 ^ 64
-size-small n h = lt_of_le_of_lt (leb-true n 64 (and_parts (nat_le 1 n) (nat_le n 64) h).1) (lit< tt)
 
 two-lines : (a b c d : List ℕ) (xs ys : List (List ℕ)) → a ∷ b ∷ xs ≡ c ∷ d ∷ ys → (a ≡ c) × (b ≡ d) × (xs ≡ ys)
 two-lines a b c d xs ys e = (cc, cc, cc)

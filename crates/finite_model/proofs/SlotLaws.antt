@@ -4,6 +4,7 @@ use Rattle.std.proofs.Common.{◌≡◌, ℕ, zero, suc, ◌^◌, List, [], ◌�
 use Rattle.std.specs.List.{list_all}
 use Rattle.std.proofs.lemmas.List.{take-append-drop}
 use Rattle.std.proofs.lemmas.Bool.{and_parts, and_from, eq-eqb, false≢true}
+use Rattle.plain_laws.proofs.Booleans.{and-assoc}
 use Rattle.calculus.specs.Syntax.{Symbol}
 use Rattle.calculus.specs.Skolem.{is_function}
 use Rattle.calculus.specs.Structures.{Meaning, value_table, truth_tables, Structure, is_table, are_tables}
@@ -26,10 +27,6 @@ lines-joined [] ts [] fs h = refl
 lines-joined [] ts (e ∷ es) fs h = absurd (omega arith)
 lines-joined (s ∷ ss) ts [] fs h = absurd (omega arith)
 lines-joined (s ∷ ss) ts (e ∷ es) fs h = ap (λ ls. (s.front ++ entry_text s.form e) ∷ ls) (lines-joined ss ts es fs (omega arith))
-
-and-assoc : (a b c : Bool) → (a && (b && c)) ≡ ((a && b) && c)
-and-assoc true b c = refl
-and-assoc false b c = refl
 
 pub entries-joined : (ss ts : List Place) (es fs : List (List ℕ)) → length es ≡ length ss → are_entries (ss ++ ts) (es ++ fs) ≡ (are_entries ss es && are_entries ts fs)
 entries-joined [] ts [] fs h = refl
@@ -106,7 +103,7 @@ pub digits-back : (row : List ℕ) → IsTrue (list_all is_bit_digit row) → ma
 digits-back [] h = refl
 digits-back (b ∷ row) h = let p = and_parts (is_bit_digit b) (list_all is_bit_digit row) h in λ i. digit-back b p.0 i ∷ digits-back row p.1 i
 
-length-bits : (row : List ℕ) → length (map is_one row) ≡ length row
+pub length-bits : (row : List ℕ) → length (map is_one row) ≡ length row
 length-bits [] = refl
 length-bits (b ∷ row) = ap suc (length-bits row)
 

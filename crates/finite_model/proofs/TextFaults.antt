@@ -1,10 +1,11 @@
 -- When bytes are no text of a structure, and at which line: after the lines that are read stands none of the next slot.
 use Rattle.std.proofs.Common.{◌≡◌, ℕ, suc, ◌+◌, ◌≤◌, ◌<◌, List, [], ◌∷◌, ◌++◌, length, take, drop, get_or, true, not, ◌&&◌, ◌==◌, IsTrue, refl, sym, ◌∙◌, ap, subst, append_assoc, append-nil, add-one, arith, inl, inr, flat_map, length-append}
 use Rattle.std.specs.List.{list_all}
-use Rattle.std.proofs.lemmas.Bool.{and_parts, and_from, cases_Bool, eqb-true, false≢true}
+use Rattle.std.proofs.lemmas.Bool.{and_parts, and_from, cases_Bool, false≢true}
 use Rattle.std.proofs.lemmas.List.{take-append-drop, take_more}
 use Rattle.std.proofs.lemmas.List.Folds.{list_all-append}
 use Rattle.std.proofs.Math.Seq.{take-append_seam}
+use Rattle.plain_laws.proofs.Lists.{cons-parts}
 use Rattle.calculus.specs.Syntax.{Problem}
 use Rattle.calculus.specs.Problems.{symbol_fits}
 use Rattle.calculus.specs.DerivationText.{line_bytes}
@@ -12,7 +13,7 @@ use Rattle.calculus.specs.Judgement.{byte_before, line_step, whole_lines}
 use Rattle.calculus.specs.Structures.{Structure}
 use Rattle.calculus.specs.StructureText.{IsStructureFaulty, IsStructureRight, IsStructureText, IsStructureUpTo, can_be_stated, structure_lines}
 use Rattle.finite_model.proofs.EntryLaws.{stated-entries}
-use Rattle.finite_model.proofs.Feeds.{AreNoFeeds, NoFeed, is_no_feed, lines-feed}
+use Rattle.finite_model.proofs.Feeds.{AreNoFeeds, NoFeed, is_no_feed, lines-feed, not_ten}
 
 -- ---- whole lines
 
@@ -36,16 +37,10 @@ no-line (b ∷ bs) h = let p = and_parts (is_no_feed b) (list_all is_no_feed bs)
 pub at-feed : (bytes : List ℕ) (i : ℕ) → NoFeed (take i bytes) → drop i bytes ≡ 10 ∷ drop (i + 1) bytes → whole_lines bytes ≡ take i bytes ∷ whole_lines (drop (i + 1) bytes)
 at-feed bytes i h e = ap whole_lines (sym (take-append-drop i bytes) ∙ ap (λ r. take i bytes ++ r) e) ∙ whole-line (take i bytes) (drop (i + 1) bytes) h
 
-other-byte : (b : ℕ) → ¬ (b ≡ 10) → IsTrue (is_no_feed b)
-other-byte b h = elim (cases_Bool (b == 10)) [
-  | inl e ↦ absurd (h (eqb-true b 10 e))
-  | inr e ↦ ap not e
-]
-
 pub no-feed-on : (bytes : List ℕ) (i : ℕ) → i < length bytes → NoFeed (take i bytes) → ¬ (get_or bytes i 0 ≡ 10) → NoFeed (take (i + 1) bytes)
 no-feed-on bytes i h before apart =
     subst NoFeed (sym (take_more bytes i 0 h))
-    (list_all-append is_no_feed (take i bytes) (get_or bytes i 0 ∷ []) ∙ and_from (list_all is_no_feed (take i bytes)) (is_no_feed (get_or bytes i 0) && true) before (and_from (is_no_feed (get_or bytes i 0)) true (other-byte (get_or bytes i 0) apart) refl))
+    (list_all-append is_no_feed (take i bytes) (get_or bytes i 0 ∷ []) ∙ and_from (list_all is_no_feed (take i bytes)) (is_no_feed (get_or bytes i 0) && true) before (and_from (is_no_feed (get_or bytes i 0)) true (not_ten (get_or bytes i 0) apart) refl))
 
 pub lines-back : (ls : List (List ℕ)) → AreNoFeeds ls → whole_lines (flat_map line_bytes ls) ≡ ls
 lines-back [] h = refl
@@ -76,18 +71,15 @@ record IsNext (seen tail lines : List (List ℕ)) : Type 0 where
   lines_are : lines ≡ seen ++ line ∷ rest
   tail_is : tail ≡ line ∷ more
 
-parts-of : {A : Type 0} (x y : A) (xs ys : List A) → x ∷ xs ≡ y ∷ ys → (x ≡ y) × (xs ≡ ys)
-parts-of x y xs ys e = (cc, cc)
-
 next-of : (seen tail lines : List (List ℕ)) → suc (length seen) ≤ length (seen ++ tail) → suc (length seen) ≤ length lines → take (suc (length seen)) (seen ++ tail) ≡ take (suc (length seen)) lines → IsNext seen tail lines
 next-of [] [] lines h k e = absurd (omega arith)
 next-of [] (t ∷ tail) [] h k e = absurd (omega arith)
 next-of [] (t ∷ tail) (l ∷ lines) h k e =
-    let same = (parts-of t l (take 0 tail) (take 0 lines) e).0 in
+    let same = (cons-parts t l (take 0 tail) (take 0 lines) e).0 in
     record { line = t; rest = lines; more = tail; lines_are = λ i. sym same i ∷ lines; tail_is = refl }
 next-of (s ∷ seen) tail [] h k e = absurd (omega arith)
 next-of (s ∷ seen) tail (l ∷ lines) h k e =
-    let p = parts-of s l (take (suc (length seen)) (seen ++ tail)) (take (suc (length seen)) lines) e in
+    let p = cons-parts s l (take (suc (length seen)) (seen ++ tail)) (take (suc (length seen)) lines) e in
     let r = next-of seen tail lines (omega arith) (omega arith) p.1 in
     record { line = r.line; rest = r.rest; more = r.more; lines_are = λ i. sym p.0 i ∷ r.lines_are i; tail_is = r.tail_is }
 

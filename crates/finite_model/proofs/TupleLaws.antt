@@ -4,12 +4,14 @@ use Rattle.std.specs.List.{list_all}
 use Rattle.std.specs.Option.{option_map_or}
 use Rattle.std.specs.Cmp.Lexicographic.{pointwise}
 use Rattle.std.proofs.Math.Nat.{min-eq_left, min-le_right}
-use Rattle.std.proofs.lemmas.Bool.{cases_eq, eq-eqb, cases_Bool, eqb-true, and_parts, false≢true}
+use Rattle.std.proofs.lemmas.Bool.{cases_eq, eq-eqb, eqb-true, and_parts, false≢true}
 use Rattle.std.proofs.Math.Seq.{take-length}
 use Rattle.std.proofs.lemmas.List.{take_more, get_or-replicate, length-replicate, get_or-map, get_or-set_same, get_or-set_other, length-map, map-append}
 use Rattle.std.proofs.lemmas.Simd.{map-map}
 use Rattle.std.proofs.lemmas.List.Folds.{list_any_more}
 use Rattle.std.proofs.lemmas.Grind.{flat_map-append}
+use Rattle.plain_laws.proofs.Numbers.{other-number}
+use Rattle.plain_laws.proofs.Booleans.{or_false, or-true}
 use Rattle.calculus.specs.Equality.{contains}
 use Rattle.calculus.specs.Structures.{Structure, domain_of, function_value, place_from, place_of, tuples, value_in}
 use Rattle.finite_model.specs.Conditions.{keeps_domain_at, longer_places, tuple_places}
@@ -98,24 +100,10 @@ longer-on e xs places more new i h added before =
 
 -- ---- flags
 
-or-true : (b : Bool) → (b || true) ≡ true
-or-true true = refl
-or-true false = refl
-
-or-false : (b : Bool) → (b || false) ≡ b
-or-false true = refl
-or-false false = refl
-
-not-same : (a x : ℕ) → ¬ (a ≡ x) → (a == x) ≡ false
-not-same a x h = elim (cases_Bool (a == x)) [
-  | inl e ↦ absurd (h (eqb-true a x e))
-  | inr e ↦ e
-]
-
 pub flag-on : (flags : List Bool) (domain : List ℕ) (i x : ℕ) → i < length domain → get_or domain i 0 < length flags → get_or flags x false ≡ contains (take i domain) x → get_or (set flags (get_or domain i 0) true) x false ≡ contains (take (i + 1) domain) x
 flag-on flags domain i x h within before = elim (cases_eq (get_or domain i 0) x) [
   | inl e ↦ ap (λ k. get_or (set flags (get_or domain i 0) true) k false) (sym e) ∙ get_or-set_same flags (get_or domain i 0) true false within ∙ sym (list_any_more (λ y. y == x) domain i 0 h ∙ ap (λ b. contains (take i domain) x || b) (eq-eqb (get_or domain i 0) x e) ∙ or-true (contains (take i domain) x))
-  | inr n ↦ get_or-set_other flags (get_or domain i 0) x true false (λ e. n (sym e)) ∙ before ∙ sym (list_any_more (λ y. y == x) domain i 0 h ∙ ap (λ b. contains (take i domain) x || b) (not-same (get_or domain i 0) x n) ∙ or-false (contains (take i domain) x))
+  | inr n ↦ get_or-set_other flags (get_or domain i 0) x true false (λ e. n (sym e)) ∙ before ∙ sym (list_any_more (λ y. y == x) domain i 0 h ∙ ap (λ b. contains (take i domain) x || b) (other-number (get_or domain i 0) x n) ∙ or_false (contains (take i domain) x))
 ]
 
 -- no flag is set at the beginning

@@ -1,5 +1,5 @@
 -- Tables, and the places of tuples in them.
-use Rattle.std.proofs.Common.{◌≡◌, inl, inr, ℕ, zero, suc, ◌+◌, ◌-◌, ◌*◌, ◌<◌, ◌≤◌, List, [], ◌∷◌, length, map, get_or, reverse, min, Bool, true, false, ◌&&◌, Option, Some, refl, sym, ◌∙◌, ap, arith, slice_get, Bor, option_copied}
+use Rattle.std.proofs.Common.{◌≡◌, inl, inr, ℕ, zero, suc, ◌+◌, ◌-◌, ◌*◌, ◌<◌, ◌≤◌, List, [], ◌∷◌, length, map, get_or, reverse, min, Bool, false, Option, Some, refl, sym, ◌∙◌, ap, arith, slice_get, Bor, option_copied}
 use Rattle.std.specs.List.{list_all}
 use Rattle.std.specs.Option.{option_map, option_map_or}
 use Rattle.std.specs.Prelude.{Vec}
@@ -7,6 +7,7 @@ use Rattle.std.specs.declared.alloc.Global.{Global}
 use Rattle.std.proofs.Math.Nat.{min-le_left, min-eq_left, min-eq_right}
 use Rattle.std.proofs.lemmas.Bool.{cases_lt}
 use Rattle.std.proofs.lemmas.List.{get_or_past, get_or-reverse, length-reverse}
+use Rattle.plain_laws.proofs.Booleans.{and-true}
 use Rattle.calculus.specs.declared.setting.Logic.{Logic}
 use Rattle.calculus.specs.declared.setting.Logic.TheVariants.{Classical, Intuitionistic, D, T as LogicT, S4, S5}
 use Rattle.calculus.specs.Structures.{Structure, list_at, bit_at, truth_in, from_here}
@@ -71,7 +72,7 @@ times-more : (a e : ℕ) → a ≤ a * suc e
 times-more a zero = omega arith
 times-more a (suc e) = let h = times-more a e in omega (arith, h)
 
--- the place of a tuple with one element more, as far as numbers go
+-- the place of a tuple with and-true element more, as far as numbers go
 pub far-place : (m e p v : ℕ) → min (min (min p m * e) m + v) m ≡ min (p * e + v) m
 far-place m e p v = elim (cases_lt m p) [
   | inl far ↦ by e (min-eq_right (let y : m ≤ p = omega arith in y)) (let y : m ≤ p = omega arith in y)
@@ -98,15 +99,11 @@ element-past env k h = sym (get_or_past (reverse env) k 0 (let e = length-revers
 
 -- ---- atoms
 
-one : (b : Bool) → (b && true) ≡ b
-one true = refl
-one false = refl
-
 -- what holds from here on holds at each chosen world
 pub here-chosen : (l : Logic) (S : Structure) (w : ℕ) (test : ℕ → Bool) → list_all test (chosen_worlds l S w) ≡ from_here l S w test
 here-chosen Intuitionistic S w test = refl
-here-chosen Classical S w test = one (test w)
-here-chosen D S w test = one (test w)
-here-chosen LogicT S w test = one (test w)
-here-chosen S4 S w test = one (test w)
-here-chosen S5 S w test = one (test w)
+here-chosen Classical S w test = and-true (test w)
+here-chosen D S w test = and-true (test w)
+here-chosen LogicT S w test = and-true (test w)
+here-chosen S4 S w test = and-true (test w)
+here-chosen S5 S w test = and-true (test w)

@@ -1,7 +1,7 @@
 -- How conditions are judged from world to world.
 use Rattle.std.proofs.Common.{◌≡◌, ℕ, zero, suc, ◌+◌, ◌-◌, ◌<◌, ◌≤◌, List, [], ◌∷◌, length, map, drop, get_or, Bool, true, false, not, ◌&&◌, ◌==◌, Some, None, inl, inr, refl, sym, ◌∙◌, ap, add-one, drop-cons, arith, if◌then◌else◌}
 use Rattle.std.specs.List.{list_all}
-use Rattle.std.proofs.lemmas.Bool.{cases_Bool, cases_lt, eqb-true}
+use Rattle.std.proofs.lemmas.Bool.{cases_Bool, cases_lt, eqb-true, and_right}
 use Rattle.std.proofs.Math.ListN.{drop_of_length-le}
 use Rattle.calculus.specs.declared.fault.StructureCause.{StructureCause}
 use Rattle.calculus.specs.Structures.{Structure, has_element, numbers_from}
@@ -27,14 +27,10 @@ pub below-all : (test : ℕ → Bool) (a n : ℕ) → ((u : ℕ) → u < a + n �
 below-all test a zero h = refl
 below-all test a (suc n) h = ap (λ b. b && list_all test (numbers_from (suc a) n)) (h a (omega arith)) ∙ below-all test (suc a) n (λ u lt. h u (omega arith))
 
-and-false : (a b : Bool) → b ≡ false → (a && b) ≡ false
-and-false true b e = e
-and-false false b e = refl
-
 pub below-one : (test : ℕ → Bool) (a n w k : ℕ) → w ≡ a + k → k < n → test w ≡ false → list_all test (numbers_from a n) ≡ false
 below-one test a zero w k h lt e = absurd (omega arith)
 below-one test a (suc n) w zero h lt e = let same : w ≡ a = omega arith in ap (λ b. b && list_all test (numbers_from (suc a) n)) (ap test (sym same) ∙ e)
-below-one test a (suc n) w (suc k) h lt e = and-false (test a) (list_all test (numbers_from (suc a) n)) (below-one test (suc a) n w k (omega arith) (omega arith) e)
+below-one test a (suc n) w (suc k) h lt e = and_right (test a) (list_all test (numbers_from (suc a) n)) (below-one test (suc a) n w k (omega arith) (omega arith) e)
 
 pub one-further : (test : ℕ → Bool) (i : ℕ) → ((u : ℕ) → u < i → test u ≡ true) → test i ≡ true → (u : ℕ) → u < i + 1 → test u ≡ true
 one-further test i h e u lt = elim (cases_lt u i) [

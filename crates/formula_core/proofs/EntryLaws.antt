@@ -26,13 +26,13 @@ use Rattle.formula_core.specs.contracts.ground.ValuePartialEq.TheImpl as value
 use Rattle.formula_core.specs.contracts.table.EntryPartialEq.TheImpl.{eq-value}
 use Rattle.formula_core.proofs.GroundTableLaws.{is-read, lists-length, lists-push, list_of-stays, table-push}
 
-value-exact : (a b : Value) → value.eq-value.it a b ≡ true → a ≡ b
+pub value-exact : (a b : Value) → value.eq-value.it a b ≡ true → a ≡ b
 value-exact a b h = search rules
 
-value-self : (a : Value) → value.eq-value.it a a ≡ true
+pub value-self : (a : Value) → value.eq-value.it a a ≡ true
 value-self a = search rules
 
-value-decides : (a b : Value) → Decides (value.eq-value.it a b) (a ≡ b)
+pub value-decides : (a b : Value) → Decides (value.eq-value.it a b) (a ≡ b)
 value-decides a b = (value-exact a b, λ e. subst (λ x. value.eq-value.it a x ≡ true) e (value-self a))
 
 abbrev terms_inside : Items → List GroundTerm

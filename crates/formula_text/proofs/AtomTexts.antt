@@ -3,6 +3,7 @@ use Rattle.std.proofs.Common.{◌≡◌, ◌⊎◌, ℕ, ◌≤◌, List, ◌∷
 use Rattle.std.specs.List.{list_all}
 use Rattle.std.specs.Option.{option_map_or}
 use Rattle.std.proofs.lemmas.Bool.{false≢true, and_parts}
+use Rattle.plain_laws.proofs.Every.{all-at}
 use Rattle.calculus.specs.declared.setting.Logic.{Logic}
 use Rattle.calculus.specs.declared.symbol.SymbolClass.{SymbolClass}
 use Rattle.calculus.specs.declared.symbol.SymbolClass.TheVariants.{Function, Predicate, Equality, Truth}
@@ -12,7 +13,6 @@ use Rattle.calculus.specs.Skolem.{has_function}
 use Rattle.calculus.specs.Text.{Ends, is_equality_class, name_text, symbol_at, term_text, args_text, equation_text, atom_text, joined_text, formula_text}
 use Rattle.calculus.specs.Problems.{are_distinct, formula_fits, has_predicate, is_atom_class, name_fits, symbol_fits, term_fits_in, terms_fit_in}
 use Rattle.calculus.proofs.EqualityLaws.{list_eq-tells, nat_eq-tells}
-use Rattle.calculus.proofs.PlaceLists.{all-at}
 use Rattle.calculus.proofs.TextLaws.{cons-tail, name-split}
 use Rattle.formula_text.proofs.TermTexts.{At, args-split, args-stop, differ, fun-key, fun-text, function-at, key, name-at, name-key, same-place, term-split}
 

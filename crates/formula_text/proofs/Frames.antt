@@ -4,25 +4,18 @@ use Rattle.std.specs.Option.{option_map_or}
 use Rattle.std.specs.Prelude.{Contains}
 use Rattle.std.proofs.lemmas.Option.{slice_get_within, get_or_from_slice_get}
 use Rattle.std.proofs.lemmas.Bool.{false≢true, true≢false, and_parts, and_from}
-use Rattle.calculus.specs.declared.symbol.SymbolClass.{SymbolClass}
-use Rattle.calculus.specs.declared.symbol.SymbolClass.TheVariants.{Function, Predicate, Equality, Truth}
+use Rattle.calculus.specs.declared.symbol.SymbolClass.TheVariants.{Function}
 use Rattle.calculus.specs.Syntax.{arity_of, Symbol, Term, Terms, var, fun, eigen, spare, no_terms, more_terms}
 use Rattle.calculus.specs.Lists.{terms_tree}
 use Rattle.calculus.specs.Skolem.{has_function, is_function}
 use Rattle.calculus.specs.DerivationText.{term_is_written, terms_are_written}
 use Rattle.calculus.specs.Problems.{are_distinct}
-use Rattle.calculus.specs.Text.{Ends, StopsAt, args_text, is_ending, is_word_byte, more_args_text, name_text, symbol_at, symbol_text, term_text, text_by_class}
-use Rattle.calculus.proofs.TextLaws.{cons-head, cons-tail, name-dollar, name-split, nil-cons}
-use Rattle.calculus.proofs.TermTextLaws.{ends-word, term-split}
+use Rattle.calculus.specs.Text.{Ends, StopsAt, args_text, is_word_byte, more_args_text, name_text, symbol_at, symbol_text, term_text, text_by_class}
+use Rattle.calculus.proofs.TextLaws.{cons-head, cons-tail, name-dollar, name-split}
+use Rattle.calculus.proofs.TermTextLaws.{ends-word, term-split, function-class, ends-bracket}
 use Rattle.formula_text.specs.Frames.{Frame, IsFunction, NoFunction, NoTerm, args_front, frame_text, frames_are_written, stack_text}
 
 -- ---- function symbols
-
-function-class : (c : SymbolClass) → IsTrue (is_function c) → c ≡ Function
-function-class Function h = refl
-function-class Predicate h = absurd (false≢true h)
-function-class Equality h = absurd (false≢true h)
-function-class Truth h = absurd (false≢true h)
 
 -- the name of the function symbol at a place
 pub record Named (S : List Symbol) (f n : ℕ) (name : List ℕ) : Type 0 where
@@ -63,10 +56,6 @@ args-stop S (more_terms t ts) r h = refl
 pub more-ends : (S : List Symbol) (ts : Terms) (r : List ℕ) → Ends (more_args_text S 0 ts ++ r)
 more-ends S no_terms r = refl
 more-ends S (more_terms t ts) r = refl
-
-no-bracket : (r s : List ℕ) → Ends r → r ≡ 40 ∷ s → ⊥
-no-bracket [] s h e = nil-cons e
-no-bracket (b ∷ bs) s h e = false≢true (sym (ap is_ending (cons-head e)) ∙ h)
 
 -- ---- what is left of a term after what was read of it
 
@@ -121,7 +110,7 @@ left-frame S d f (fun g no_terms) rest r hf ht hr e =
     let p = and_parts (has_function S g 0) true ht in
     let x = named S g 0 p.0 in
     let k = name-split f.name x.0 (40 ∷ (args_front S f.args ++ rest)) (args_text S 0 no_terms ++ r) refl (args-stop S no_terms r hr) (sym (frame-on S f rest) ∙ e ∙ fun-on S g no_terms x.0 r x.1.text) in
-    absurd (no-bracket r _ hr (sym k.1))
+    absurd (ends-bracket r _ hr (sym k.1))
 left-frame S d f (fun g (more_terms u us)) rest r hf ht hr e =
     let p = and_parts (has_function S g (suc (arity_of us))) (terms_are_written S (more_terms u us)) ht in
     let q = and_parts (term_is_written S u) (terms_are_written S us) p.1 in

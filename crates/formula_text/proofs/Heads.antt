@@ -73,7 +73,7 @@ no_made S bytes from e none (spare n) r ht hr g =
 
 -- ---- function symbols
 
-list_all-at : (p : Symbol → Bool) (ss : List Symbol) (k : ℕ) (x : Symbol) → IsTrue (list_all p ss) → slice_get ss k ≡ Some x → IsTrue (p x)
+pub list_all-at : (p : Symbol → Bool) (ss : List Symbol) (k : ℕ) (x : Symbol) → IsTrue (list_all p ss) → slice_get ss k ≡ Some x → IsTrue (p x)
 list_all-at p [] k x h e = absurd (cc)
 list_all-at p (s ∷ ss) zero x h e = let same : s ≡ x = cc in subst (λ y. IsTrue (p y)) same (and_parts (p s) (list_all p ss) h).0
 list_all-at p (s ∷ ss) (suc k) x h e = list_all-at p ss k x (and_parts (p s) (list_all p ss) h).1 e

@@ -1,12 +1,10 @@
 -- Digits that are no number's decimal form.
-use Rattle.std.proofs.Common.{◌≡◌, ℕ, ◌<◌, ◌^◌, List, ◌++◌, take, drop, Result, Ok, sym, ◌∙◌, subst, decimal, false, true, eqb, eq-eqb, refl, ap, [], ◌∷◌, lt_of_lt_of_le, lit≤, ltb-true}
+use Rattle.std.proofs.Common.{◌≡◌, ℕ, ◌<◌, ◌^◌, List, ◌++◌, take, drop, Result, Ok, sym, ◌∙◌, subst, decimal, [], lt_of_lt_of_le, lit≤, ltb-true}
 use Rattle.std.specs.Str.{IsUtf8}
-use Rattle.std.specs.Cmp.Lexicographic.{pointwise}
 use Rattle.std.specs.Str.Parse.{ParsesUnsigned}
 use Rattle.std.proofs.lemmas.Fmt.{IsAscii-decimal, parse-decimal}
 use Rattle.std.proofs.lemmas.Str.{IsUtf8-from_ascii}
 use Rattle.std.proofs.lemmas.List.{take-append-drop}
-use Rattle.std.proofs.lemmas.Bool.{false≢true}
 use Rattle.calculus.specs.Text.{is_digit}
 use Rattle.calculus.proofs.TextLaws.{decimal-digits, split-run}
 use Rattle.formula_text.specs.Runs.{IsNumberAt, IsRun}
@@ -25,10 +23,3 @@ pub digits-of_number : (bytes rest : List ℕ) (from to n k : ℕ) → rest ≡ 
 digits-of_number bytes rest from to n k same run h =
     let e : take k rest ++ drop k rest ≡ decimal n ++ drop to bytes = take-append-drop k rest ∙ same ∙ h.stands.there in
     (split-run is_digit (take k rest) (decimal n) (drop k rest) (drop to bytes) run.passes (decimal-digits n (small n (ltb-true n (2 ^ 32) h.small))) run.stops h.ends e).0
-
-pointwise-self : (xs : List ℕ) → pointwise eqb xs xs ≡ true
-pointwise-self [] = refl
-pointwise-self (x ∷ xs) = rw (eq-eqb x x refl, pointwise-self xs) refl
-
-pub not-equal : (xs ys : List ℕ) → false ≡ pointwise eqb xs ys → xs ≡ ys → ⊥
-not-equal xs ys h e = false≢true (h ∙ ap (λ l. pointwise eqb l ys) e ∙ pointwise-self ys)

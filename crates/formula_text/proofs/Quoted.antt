@@ -6,7 +6,7 @@ use Rattle.std.proofs.lemmas.List.{drop-drop, length-append, length-drop, length
 use Rattle.calculus.specs.DerivationText.{IsNameAt}
 use Rattle.calculus.specs.Problems.{is_name, is_name_byte}
 use Rattle.calculus.specs.Text.{StopsAt, escaped, is_digit, is_lower, is_upper, is_lower_word, is_word_byte, name_text}
-use Rattle.calculus.proofs.TextLaws.{cons-head, cons-tail, nil-cons}
+use Rattle.calculus.proofs.TextLaws.{cons-head, cons-tail, nil-cons, bare-text}
 use Rattle.formula_text.proofs.Places.{onward-drop, stands-by}
 use Rattle.formula_text.specs.Quoted.{IsWhole, after_byte, begins_lower, byte_kind, is_special, quoted_at, with_front}
 use Rattle.formula_text.specs.Runs.{IsRun}
@@ -138,10 +138,6 @@ quoted-name bytes from to name h begins k found whole =
     nonempty : (n : List ℕ) → n ≢ [] → IsTrue (list_all is_name_byte n) → IsTrue (is_name n)
     nonempty [] h k = absurd (h refl)
     nonempty (b ∷ n) h k = k
-
--- the name that stands after a quote
-bare-text : (a r : List ℕ) → is_lower_word a ≡ true → name_text a ++ r ≡ a ++ r
-bare-text a r h = rw h refl
 
 quoted-text : (a r : List ℕ) → is_lower_word a ≡ false → name_text a ++ r ≡ 39 ∷ (flat_map escaped a ++ 39 ∷ r)
 quoted-text a r h = rw h (ap (λ l. 39 ∷ l) (append_assoc (flat_map escaped a) (39 ∷ []) r))

@@ -1,6 +1,7 @@
 -- Terms in rows: the row of a term tells the term, and has its leaves.
-use Rattle.std.proofs.Common.{◌≡◌, ℕ, suc, Bool, true, false, ◌||◌, List, [], ◌∷◌, ◌++◌, length, take, drop, get_or, refl, sym, ◌∙◌, ap, append-nil, append_assoc}
+use Rattle.std.proofs.Common.{◌≡◌, ℕ, suc, Bool, ◌||◌, List, [], ◌∷◌, ◌++◌, length, take, drop, get_or, refl, sym, ◌∙◌, ap, append-nil, append_assoc}
 use Rattle.std.proofs.lemmas.List.{take_at, drop_at}
+use Rattle.plain_laws.proofs.Booleans.{or-assoc, or_false}
 use Rattle.calculus.specs.Lists.{terms_list, terms_tree, terms_tree-terms_list}
 use Rattle.calculus.specs.Substitution.{any_leaf, any_leaf_of}
 use Rattle.calculus.specs.Syntax.{Term, Terms, var, fun, eigen, spare, no_terms, more_terms, arity_of}
@@ -54,20 +55,12 @@ row-same t u e = row-alone t u [] (e ∙ sym (append-nil (row_of u)))
 
 -- ---- leaves
 
-or_assoc : (a b c : Bool) → (a || (b || c)) ≡ ((a || b) || c)
-or_assoc true b c = refl
-or_assoc false b c = refl
-
 pub any-both : (test : Term → Bool) (xs ys : List RowItem) → any_item test (xs ++ ys) ≡ (any_item test xs || any_item test ys)
 any-both test [] ys = refl
-any-both test (Var k ∷ xs) ys = ap (λ b. test (var k) || b) (any-both test xs ys) ∙ or_assoc (test (var k)) (any_item test xs) (any_item test ys)
+any-both test (Var k ∷ xs) ys = ap (λ b. test (var k) || b) (any-both test xs ys) ∙ or-assoc (test (var k)) (any_item test xs) (any_item test ys)
 any-both test (Fun f n ∷ xs) ys = any-both test xs ys
-any-both test (Eigen n ∷ xs) ys = ap (λ b. test (eigen n) || b) (any-both test xs ys) ∙ or_assoc (test (eigen n)) (any_item test xs) (any_item test ys)
-any-both test (Spare n ∷ xs) ys = ap (λ b. test (spare n) || b) (any-both test xs ys) ∙ or_assoc (test (spare n)) (any_item test xs) (any_item test ys)
-
-or_false : (a : Bool) → (a || false) ≡ a
-or_false true = refl
-or_false false = refl
+any-both test (Eigen n ∷ xs) ys = ap (λ b. test (eigen n) || b) (any-both test xs ys) ∙ or-assoc (test (eigen n)) (any_item test xs) (any_item test ys)
+any-both test (Spare n ∷ xs) ys = ap (λ b. test (spare n) || b) (any-both test xs ys) ∙ or-assoc (test (spare n)) (any_item test xs) (any_item test ys)
 
 mutual
   pub any-row : (test : Term → Bool) (t : Term) → any_item test (row_of t) ≡ any_leaf test t

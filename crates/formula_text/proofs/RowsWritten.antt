@@ -4,6 +4,7 @@ use Rattle.std.proofs.lemmas.Bool.{and_from, and_parts}
 use Rattle.std.proofs.lemmas.List.{drop_all, drop_more}
 use Rattle.std.proofs.lemmas.List.Folds.{list_all-append}
 use Rattle.std.proofs.lemmas.Fmt.{decimal_digit}
+use Rattle.plain_laws.proofs.Lists.{first-item}
 use Rattle.calculus.specs.Syntax.{arity_of, Symbol, Term, Terms, var, fun, eigen, spare, no_terms, more_terms}
 use Rattle.calculus.specs.Text.{args_text, more_args_text, term_text}
 use Rattle.formula_text.specs.Known.{term_is_known, terms_are_known}
@@ -41,15 +42,12 @@ record HasLast (S : List Symbol) (counts : List ℕ) (n : ℕ) (left : List Term
   arity : n ≡ arity_of last
   known : IsTrue (terms_are_known S last)
 
-first-eq : (x y : ℕ) (xs ys : List ℕ) → x ∷ xs ≡ y ∷ ys → x ≡ y
-first-eq x y xs ys e = cc
-
 rest-eq : (x y : ℕ) (xs ys : List ℕ) → x ∷ xs ≡ y ∷ ys → xs ≡ ys
 rest-eq x y xs ys e = cc
 
 left-pop : (S : List Symbol) (counts : List ℕ) (n : ℕ) (left : List Terms) → AreLeft S (counts ++ n ∷ []) left → HasLast S counts n left
 left-pop S [] n [] h = absurd (let e = ap length h.by_count in omega (arith, e))
-left-pop S [] n (ts ∷ []) h = record { front = []; last = ts; all = refl; are_left = record { by_count = refl; known = refl }; arity = first-eq _ _ _ _ h.by_count; known = (and_parts (terms_are_known S ts) true h.known).0 }
+left-pop S [] n (ts ∷ []) h = record { front = []; last = ts; all = refl; are_left = record { by_count = refl; known = refl }; arity = first-item _ _ _ _ h.by_count; known = (and_parts (terms_are_known S ts) true h.known).0 }
 left-pop S [] n (ts ∷ us ∷ left) h = absurd (let e = ap length h.by_count in omega (arith, e))
 left-pop S (c ∷ counts) n [] h = absurd (let e = ap length h.by_count in omega (arith, e))
 left-pop S (c ∷ counts) n (ts ∷ left) h =
@@ -59,7 +57,7 @@ left-pop S (c ∷ counts) n (ts ∷ left) h =
       front = ts ∷ r.front;
       last = r.last;
       all = ap (λ l. ts ∷ l) r.all;
-      are_left = record { by_count = (λ i. first-eq _ _ _ _ h.by_count i ∷ r.are_left.by_count i); known = and_from (terms_are_known S ts) (are_known S r.front) k.0 r.are_left.known };
+      are_left = record { by_count = (λ i. first-item _ _ _ _ h.by_count i ∷ r.are_left.by_count i); known = and_from (terms_are_known S ts) (are_known S r.front) k.0 r.are_left.known };
       arity = r.arity;
       known = r.known;
     }

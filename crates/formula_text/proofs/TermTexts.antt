@@ -4,14 +4,14 @@ use Rattle.std.specs.List.{list_all}
 use Rattle.std.specs.Option.{option_map_or}
 use Rattle.std.proofs.lemmas.Bool.{false≢true, cases_Bool, and_parts}
 use Rattle.calculus.specs.declared.symbol.SymbolClass.{SymbolClass}
-use Rattle.calculus.specs.declared.symbol.SymbolClass.TheVariants.{Function, Predicate, Equality, Truth}
+use Rattle.calculus.specs.declared.symbol.SymbolClass.TheVariants.{Function}
 use Rattle.calculus.specs.Syntax.{arity_of, Symbol, Term, Terms, var, fun, eigen, spare, no_terms, more_terms}
 use Rattle.calculus.specs.Skolem.{has_function, is_function}
-use Rattle.calculus.specs.Text.{Ends, StopsAt, is_ending, is_lower, is_lower_word, is_word_byte, name_text, text_by_class, symbol_text, symbol_at, term_text, args_text, more_args_text}
+use Rattle.calculus.specs.Text.{Ends, StopsAt, is_lower, is_lower_word, is_word_byte, name_text, text_by_class, symbol_text, symbol_at, term_text, args_text, more_args_text}
 use Rattle.calculus.specs.Problems.{are_distinct, term_fits_in, terms_fit_in}
 use Rattle.calculus.proofs.EqualityLaws.{nat_eq-tells}
-use Rattle.calculus.proofs.TermTextLaws.{ends-digit, ends-word, place-unique}
-use Rattle.calculus.proofs.TextLaws.{cons-head, cons-tail, decimal-split, head_or, name-split, nil-cons}
+use Rattle.calculus.proofs.TermTextLaws.{ends-digit, ends-word, place-unique, ends-bracket, function-class}
+use Rattle.calculus.proofs.TextLaws.{cons-head, cons-tail, decimal-split, head_or, name-split}
 
 pub differ : (m n : ℕ) → m ≡ n → (m == n) ≡ false → ⊥
 differ m n e h = false≢true (sym h ∙ ap (λ k. m == k) (sym e) ∙ (nat_eq-tells m m).1 refl)
@@ -19,10 +19,6 @@ differ m n e h = false≢true (sym h ∙ ap (λ k. m == k) (sym e) ∙ (nat_eq-t
 pub cancel : (q xs ys : List ℕ) → q ++ xs ≡ q ++ ys → xs ≡ ys
 cancel [] xs ys e = e
 cancel (b ∷ q) xs ys e = cancel q xs ys (cons-tail e)
-
-ends-bracket : (r s : List ℕ) → Ends r → r ≡ 40 ∷ s → ⊥
-ends-bracket [] s h e = nil-cons e
-ends-bracket (b ∷ bs) s h e = false≢true (sym (ap is_ending (cons-head e)) ∙ h)
 
 -- ---- by what byte formulas and terms are told apart
 
@@ -56,12 +52,6 @@ pub same-place : (S : List Symbol) (p q : ℕ) (c : SymbolClass) (m n : ℕ) (x 
 same-place S p q c m n x y d hx hy e k =
     let same : x ≡ y = λ i. record { name = e i; class = (hx.class ∙ sym hy.class) i; arity = (hx.arity ∙ k ∙ sym hy.arity) i } in
     place-unique S p q x d hx.found (hy.found ∙ ap Some (sym same))
-
-function-class : (c : SymbolClass) → IsTrue (is_function c) → c ≡ Function
-function-class Function h = refl
-function-class Predicate h = absurd (false≢true h)
-function-class Equality h = absurd (false≢true h)
-function-class Truth h = absurd (false≢true h)
 
 pub function-at : (S : List Symbol) (f n : ℕ) → IsTrue (has_function S f n) → (x : Symbol) × At S f Function n x
 function-at S f n h = by (slice_get S f) refl h

@@ -2,6 +2,7 @@
 use Rattle.std.proofs.Common.{◌≡◌, ℕ, zero, suc, ◌+◌, ◌-◌, ◌<◌, ◌≤◌, Bool, true, false, List, [], ◌∷◌, ◌++◌, length, get_or, map, take, drop, reverse, if◌then◌else◌, refl, sym, ◌∙◌, ap, subst, arith}
 use Rattle.std.proofs.lemmas.Bool.{false≢true}
 use Rattle.std.proofs.lemmas.List.{length-append, map-append, reverse-append}
+use Rattle.plain_laws.proofs.Places.{take-longer}
 use Rattle.calculus.specs.declared.sign.Sign.{Sign}
 use Rattle.calculus.specs.Calculus.{is_atom}
 use Rattle.calculus.specs.Derivations as derivation
@@ -25,11 +26,6 @@ take-front zero n xs ys le lt = refl
 take-front (suc k) zero xs ys le lt = absurd (omega arith)
 take-front (suc k) (suc n) [] ys le lt = absurd (omega arith)
 take-front (suc k) (suc n) (x ∷ xs) ys le lt = ap (λ (zs : List _). x ∷ zs) (take-front k n xs ys (omega arith) (omega arith))
-
-take-longer : {A : Type 0} (k : ℕ) (xs ys : List A) → k ≤ length xs → take k (xs ++ ys) ≡ take k xs
-take-longer zero xs ys le = refl
-take-longer (suc k) [] ys le = absurd (omega arith)
-take-longer (suc k) (x ∷ xs) ys le = ap (λ (zs : List _). x ∷ zs) (take-longer k xs ys (omega arith))
 
 none-left : {A : Type 0} (i : ℕ) (xs : List A) → length xs ≡ 0 → drop i xs ≡ xs
 none-left zero xs h = refl

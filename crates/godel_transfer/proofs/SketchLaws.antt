@@ -6,6 +6,7 @@ use Rattle.std.specs.Option.{option_map}
 use Rattle.std.proofs.lemmas.List.{map-append}
 use Rattle.std.proofs.lemmas.Option.{slice_get-map}
 use Rattle.std.proofs.lemmas.Bool.{false≢true, cases_Bool, and_parts, or_parts, not-true}
+use Rattle.plain_laws.proofs.Lists.{map-length}
 use Rattle.calculus.specs.declared.fault.StepFault.{StepFault}
 use Rattle.calculus.specs.declared.sign.Sign.{Sign}
 use Rattle.calculus.specs.declared.sign.Sign.TheVariants.{T, F}
@@ -22,7 +23,7 @@ use Rattle.godel_transfer.specs.Transfer.{CharacterImage, EigenImage, mark_image
 use Rattle.godel_transfer.specs.Sketch.{label_then, atom_after, grown, sketches_by, sketches_at, sketches_for, sketched_axiom, sketched_for, names_sketched, names_sketched_at, names_sketched_for, sketched_from, names_sketched_from, first_sketch, sketched}
 use Rattle.calculus.proofs.SequentLaws.{are_met, met-children}
 use Rattle.godel_transfer.proofs.ImageLaws.{any-on_left, any-on_right, label-new, mark-new, label-append}
-use Rattle.godel_transfer.proofs.TransferParts.{intuitionistic, length-map}
+use Rattle.godel_transfer.proofs.TransferParts.{intuitionistic}
 use Rattle.godel_transfer.proofs.TransferLaws.{outside-entry}
 
 -- ---- formulas without terms
@@ -382,9 +383,9 @@ met-compound : (names : Names) (b k : OpenBranch) (i p : ℕ) (s : Sign) (a : Fo
 met-compound names b k i p s a w x m t h sg e new at nm sk =
     let same : shape_of s a ≡ shape_of x.sign x.formula = sym (bare-shape s a) ∙ (λ j. shape_of (sg j) (e j)) ∙ bare-shape x.sign x.formula in
     let parts : map bare_signed (components s a) ≡ map bare_signed (components x.sign x.formula) = bare-components s a ∙ (λ j. components (sg j) (e j)) ∙ sym (bare-components x.sign x.formula) in
-    let l : length (components s a) ≡ length (components x.sign x.formula) = sym (length-map bare_signed (components s a)) ∙ ap length parts ∙ length-map bare_signed (components x.sign x.formula) in
+    let l : length (components s a) ≡ length (components x.sign x.formula) = sym (map-length bare_signed (components s a)) ∙ ap length parts ∙ map-length bare_signed (components x.sign x.formula) in
     let g = bare-arguments t (components s a) ∙ parts in
-    let put = length-map (with_argument t) (components s a) in
+    let put = map-length (with_argument t) (components s a) in
     let some = some-component s a in
     let r = kids names b k i p s a w x m t h e new at (shape_of s a) (map (with_argument t) (components s a)) (components x.sign x.formula) (omega arith) g l in
     let bs = branches_by b i p (entry_at w (signed s a)) m t (Ok (children_of Intuitionistic b.sequent (entry_at w (signed s a)) m t)) in

@@ -3,6 +3,7 @@ use Rattle.std.proofs.Common.{◌≡◌, ℕ, suc, ◌+◌, ◌<◌, ◌≤◌, 
 use Rattle.std.specs.List.{AllByRecursion, list_any}
 use Rattle.std.specs.Option.{option_map_or}
 use Rattle.std.proofs.lemmas.Bool.{false≢true, cases_Bool, not-true, not_from_false}
+use Rattle.plain_laws.proofs.Lists.{map-length}
 use Rattle.calculus.specs.declared.setting.Logic.TheVariants.{Intuitionistic, S4}
 use Rattle.calculus.specs.declared.setting.Domains.TheVariants.{Cumulative}
 use Rattle.calculus.specs.declared.kind.ModalPart.{ModalPart}
@@ -161,16 +162,12 @@ pub new-early : (names : Names) (i c : ℕ) (cs : List CharacterImage) (es : Lis
 new-early names i c cs es v h g [] = tt
 new-early names i c cs es v h g (y ∷ ys) = ((label-early c cs h v, formula-early names i c es g y.formula), new-early names i c cs es v h g ys)
 
-pub length-map : {A B : Type 0} (f : A → B) (xs : List A) → length (map f xs) ≡ length xs
-length-map f [] = refl
-length-map f (x ∷ xs) = ap suc (length-map f xs)
-
 -- a child's branch
 pub child-fits : {A : Type 0} (names others : Names) (i : ℕ) (cs : List CharacterImage) (es : List EigenImage) (s : Sequent) (ps : List ℕ) (v : Label) (ys : List Signed) (zs : List A) (target : Sequent) (k : ℕ) → length target ≡ k → length zs ≡ length ys → EachStands cs es target s ps → AllByRecursion (EigenFits names others cs (s ++ map (entry_at v) ys)) es → EigensEarly others i (k + length zs) es → MarksEarly (k + length zs) cs → AreEarly others i (k + length zs) target → Fits names others (record { sequent = s ++ map (entry_at v) ys; places = ps ++ numbers_for (suc k) zs; count = k + length zs; characters = cs; eigens = es }) i (target ++ map (entry_at (label_image cs v)) (map (image_of es) ys))
 child-fits names others i cs es s ps v ys zs target k counted same stands fit eigens marks early =
     let u = label_image cs v in
     let new = map (entry_at u) (map (image_of es) ys) in
-    let new_length : length new ≡ length ys = length-map (entry_at u) (map (image_of es) ys) ∙ length-map (image_of es) ys in
+    let new_length : length new ≡ length ys = map-length (entry_at u) (map (image_of es) ys) ∙ map-length (image_of es) ys in
     let both = length-both target new in
     record {
       counted = omega arith;

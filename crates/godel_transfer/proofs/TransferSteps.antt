@@ -2,6 +2,7 @@
 use Rattle.std.proofs.Common.{◌≡◌, ℕ, suc, ◌+◌, ◌<◌, ◌≤◌, List, [], ◌∷◌, ◌++◌, map, length, true, false, ◌&&◌, refl, sym, ◌∙◌, ap, subst, Some, Ok, arith, append_assoc, append-nil}
 use Rattle.std.specs.List.{AllByRecursion}
 use Rattle.std.proofs.lemmas.Bool.{false≢true, and_parts, not_from_false}
+use Rattle.plain_laws.proofs.Lists.{map-length}
 use Rattle.calculus.specs.declared.sign.Sign.{Sign}
 use Rattle.calculus.specs.declared.sign.Sign.TheVariants.{T, F}
 use Rattle.calculus.specs.declared.setting.Logic.TheVariants.{Intuitionistic, S4}
@@ -19,7 +20,7 @@ use Rattle.godel_transfer.specs.Transfer.{CharacterImage, EigenImage, mark_image
 use Rattle.calculus.proofs.EqualityLaws.{sign_eq-tells, formula_eq-tells, list_eq-tells, character_eq-tells}
 use Rattle.godel_transfer.proofs.ImageLaws.{prefix-image, prefix-on, prefix-more, label-append, label-new, mark-new}
 use Rattle.godel_transfer.proofs.TransferState.{is_late, new-character, AreEarly, MarksEarly, EigensEarly, LabelStands, entry_with, EntryStands, EachStands, EigenFits, Fits, early-later, early-append, entry-left, entry-next, stands-left, stands-append, label-early, formula-early, eigens-later}
-use Rattle.godel_transfer.proofs.TransferParts.{intuitionistic, met-first, fits-image, reachable-image, new-image, eigen-new-image, IsListed, known-image, home-image, allowed-image, label-image_after, image_of, argument-image, length-more, length-map, child-fits, stands-after, fit-marks, fit-after, marks-after, eigens-after}
+use Rattle.godel_transfer.proofs.TransferParts.{intuitionistic, met-first, fits-image, reachable-image, new-image, eigen-new-image, IsListed, known-image, home-image, allowed-image, label-image_after, image_of, argument-image, length-more, child-fits, stands-after, fit-marks, fit-after, marks-after, eigens-after}
 
 -- the branch past a step, with the entries xs more behind k entries in S4
 abbrev pub grown : {A : Type 0} → OpenBranch → ℕ → List CharacterImage → List EigenImage → List A → Sequent → OpenBranch
@@ -111,7 +112,7 @@ module _ (phi : Formula) (symbols : List Symbol) (names : Names) (E : List Eigen
     sequent = refl;
     only = refl;
     goal = target ++ map (entry_at (label_image cs v)) (map (image_of es) (map (with_argument t) (x ∷ xs)));
-    fits = grown-fits b i cs es v target k r (with_argument t x) (map (with_argument t) xs) x xs (sym (length-map (with_argument t) (x ∷ xs)));
+    fits = grown-fits b i cs es v target k r (with_argument t x) (map (with_argument t) xs) x xs (sym (map-length (with_argument t) (x ∷ xs)));
     closes = λ ys rest c. subst (λ zs. Closes (translated_problem (intuitionistic phi symbols)) (names_with E) from zs rest) (sym (append_assoc pre (z ∷ []) ys)) (leads (z ∷ ys) rest (single applies c));
   }
 

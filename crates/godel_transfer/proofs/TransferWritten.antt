@@ -1,7 +1,8 @@
 -- What a transfer makes of a printable derivation is printable, where its numbers stay below 2 ^ 32.
-use Rattle.std.proofs.Common.{◌≡◌, ℕ, zero, suc, ◌+◌, ◌*◌, ◌^◌, ◌<◌, ◌≤◌, List, [], ◌∷◌, ◌++◌, length, Bool, true, ◌&&◌, ◌==◌, IsTrue, refl, sym, ap, subst, inl, inr, Option, Some, None, Result, Ok, Err, nat_le, arith, lt-ltb}
+use Rattle.std.proofs.Common.{◌≡◌, ℕ, zero, suc, ◌+◌, ◌*◌, ◌^◌, ◌<◌, ◌≤◌, List, [], ◌∷◌, ◌++◌, length, true, ◌&&◌, ◌==◌, IsTrue, refl, sym, ap, subst, inl, inr, Option, Some, None, Result, Ok, Err, nat_le, arith, lt-ltb}
 use Rattle.std.specs.List.{AllByRecursion, list_all}
 use Rattle.std.proofs.lemmas.Bool.{cases_Bool, and_parts, and_from, le-leb}
+use Rattle.plain_laws.proofs.Every.{each-append, all-append}
 use Rattle.calculus.specs.declared.sign.Sign.{Sign}
 use Rattle.calculus.specs.declared.setting.Logic.TheVariants.{Intuitionistic}
 use Rattle.calculus.specs.declared.fault.StepFault.{StepFault}
@@ -15,14 +16,6 @@ use Rattle.calculus.specs.DerivationText.{is_name_number, mark_is_written, label
 use Rattle.calculus.specs.Translation.{translated_problem}
 use Rattle.godel_transfer.specs.Transfer.{CharacterImage, EigenImage, mark_image, label_image, eigen_image, term_image, terms_image, OpenBranch, first_branch, item_or_0, place_of, numbers_for, modal_image, argument_image, new_character, characters_after, eigens_after, use_steps, axiom_steps, places_added, count_after, branch_after, branches_by, steps_at, axiom_at, steps_for, names_at, names_for, branches_at, branches_for, steps_from, names_from, names_with, transferred}
 use Rattle.godel_transfer.proofs.TransferLaws.{names-rise}
-
-all-append : {A : Type 0} (p : A → Bool) (xs ys : List A) → list_all p xs ≡ true → list_all p ys ≡ true → list_all p (xs ++ ys) ≡ true
-all-append p [] ys h g = g
-all-append p (x ∷ xs) ys h g = let r = and_parts (p x) (list_all p xs) h in and_from (p x) (list_all p (xs ++ ys)) r.0 (all-append p xs ys r.1 g)
-
-AllByRecursion-append : {A : Type 0} (C : A → Type 0) (xs ys : List A) → AllByRecursion C xs → AllByRecursion C ys → AllByRecursion C (xs ++ ys)
-AllByRecursion-append C [] ys h g = g
-AllByRecursion-append C (x ∷ xs) ys h g = (h.0, AllByRecursion-append C xs ys h.1 g)
 
 module _ (symbols : List Symbol) (most : ℕ) (small : (n : ℕ) → n ≤ most → is_number n ≡ true) where
   -- a branch before n steps: each adds at most three entries
@@ -275,7 +268,7 @@ module _ (symbols : List Symbol) (most : ℕ) (small : (n : ℕ) → n ≤ most 
       let w = h.0 in
       let within : i ≤ most = omega arith in
       let next = branches_for P names b i x ++ bs in
-      let rest = all-written P names next (suc i) xs (omega arith) (omega arith) (AllByRecursion-append (BranchWritten n) (branches_for P names b i x) bs (branches_for-written P names n b w i first within x) (fewer n bs h.1)) r.1 in
+      let rest = all-written P names next (suc i) xs (omega arith) (omega arith) (each-append (BranchWritten n) (branches_for P names b i x) bs (branches_for-written P names n b w i first within x) (fewer n bs h.1)) r.1 in
       (all-append (step_is_written symbols) (steps_for b i x) (steps_from P names next (suc i) xs) (steps_for-written n b w i first within x r.0) rest.0, all-append (λ (x : EigenName). is_number x.number && label_is_written x.home) (names_for b i x) (names_from P names next (suc i) xs) (names_for-written n b w i within x) rest.1)
 
 -- a printable derivation of fewer than a third of 2 ^ 32 steps

@@ -6,6 +6,7 @@ use Rattle.std.specs.List.{position_or_len, IsDistinct, AllByRecursion}
 use Rattle.std.specs.Map.{keys_of, values_of}
 use Rattle.std.specs.Option.{unwrap_or}
 use Rattle.indexmap.specs.IndexMap.{insert_entry}
+use Rattle.plain_laws.proofs.Booleans.{same-tests}
 use Rattle.calculus.specs.Derivations.{Mark, Label, new_mark, spare_mark, character_eq}
 use Rattle.calculus.specs.Equality.{list_eq}
 use Rattle.calculus.proofs.EqualityLaws.{character_eq-tells, list_eq-tells, nat_eq-tells}
@@ -148,11 +149,6 @@ label-one es now i j view back apart hi hj e =
     let turned = sym (label-read es now i view hi) ∙ e ∙ label-read es now j view hj in
     let same : get_or table i [] ≡ get_or table j [] = sym (reverse-reverse (get_or table i [])) ∙ ap reverse turned ∙ reverse-reverse (get_or table j []) in
     one-chain (map the_label_link es) back apart (get_or table j []) i j (omega (arith, n, m, hi)) (omega (arith, n, m, hj)) same refl
-
-same-tests : (a b : Bool) → (a ≡ true → b ≡ true) → (b ≡ true → a ≡ true) → a ≡ b
-same-tests true b f g = sym (f refl)
-same-tests false true f g = absurd (false≢true (g refl))
-same-tests false false f g = refl
 
 pub label-equal : (es : List Item) (now : List Label) (i j : ℕ) → label_table es ≡ now → AreBackward 1 (map the_label_link es) → AreApart (map the_label_link es) → i < length now → j < length now → (i == j) ≡ list_eq character_eq (get_or now i []) (get_or now j [])
 label-equal es now i j view back apart hi hj =

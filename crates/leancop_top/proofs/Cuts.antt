@@ -1,5 +1,5 @@
 -- What the search that does not return to solved goals answers, and what its answer decides.
-use Rattle.std.proofs.Common.{◌≡◌, ℕ, ◌≤◌, min, List, Option, None, Some, inl, inr, refl, sym, subst, arith, IsTrue}
+use Rattle.std.proofs.Common.{◌≡◌, ℕ, ◌≤◌, min, List, Option, Some, inl, inr, sym, subst, arith, IsTrue}
 use Rattle.std.proofs.lemmas.Bool.{cases_lt}
 use Rattle.std.proofs.Math.Nat.{le-min, min-le_left, min-le_right}
 use Rattle.calculus.specs.Syntax.{Problem}
@@ -24,10 +24,6 @@ use Rattle.leancop_top.specs.declared.status.Status.{Status}
 
 same-greatest : (o : Option ℕ) (l k : ℕ) → o ≡ Some l → o ≡ Some k → k ≡ l
 same-greatest o l k e f = cc
-
-pub none-if : {A : Type 0} (o : Option A) → ((a : A) → o ≡ Some a → ⊥) → o ≡ None
-none-if None h = refl
-none-if (Some a) h = absurd (h a refl)
 
 -- a limit that could be the answer is up to the greatest one that is searched
 searched : (P : Problem) (b : Bounds) (l m e : ℕ) → b.cut ≡ Some l → m ≡ min l b.limit → IsLeastCut P b e → e ≤ m

@@ -1,5 +1,5 @@
 -- No generated text includes a file, since no byte of it is a quote.
-use Rattle.std.proofs.Common.{◌≡◌, ℕ, zero, suc, ◌+◌, ◌-◌, ◌/◌, ◌%◌, ◌≤◌, ◌==◌, List, [], ◌∷◌, ◌++◌, length, take, drop, Bool, true, false, not, if◌then◌else◌, Option, None, Some, Result, Ok, Err, IsTrue, arith, codes, decimal, refl, subst, sym, ap, nat_lt}
+use Rattle.std.proofs.Common.{◌≡◌, ℕ, zero, suc, ◌+◌, ◌-◌, ◌/◌, ◌%◌, ◌≤◌, ◌==◌, List, [], ◌∷◌, ◌++◌, length, drop, Bool, true, false, not, if◌then◌else◌, Option, None, Some, Result, Ok, Err, IsTrue, arith, codes, decimal, refl, subst, sym, ap, nat_lt}
 use Rattle.calculus.specs.Equality.{list_eq}
 use Rattle.calculus.specs.Measures.{node_count}
 use Rattle.calculus.specs.Problems.{is_modal, greatest_nodes, greatest_symbols}
@@ -7,13 +7,13 @@ use Rattle.std.specs.Fmt.{digit_glyph, digits, digits_onto}
 use Rattle.std.specs.List.{flat_map, list_all, list_any, range_with_len, repeat}
 use Rattle.std.proofs.lemmas.Bool.{and_from, and_parts, false≢true}
 use Rattle.std.proofs.lemmas.Bool.Decides.{Decides-eqb}
+use Rattle.plain_laws.proofs.Every.{all-append, all-drop, all-take}
 use Rattle.calculus.specs.Families.{chain_atom, chain_link, family_text, item_line, item_word, shifted}
 use Rattle.calculus.specs.Syntax.{Formula, Setting, Symbol}
 use Rattle.calculus.specs.declared.family.Family.{Family}
 use Rattle.calculus.specs.declared.family.Family.TheVariants.{Chain, Shift, Tower}
 use Rattle.calculus.specs.declared.setting.Logic.{Logic}
 use Rattle.calculus.specs.declared.setting.Logic.TheVariants.{Classical, Intuitionistic, D, T, S4, S5}
-use Rattle.calculus.proofs.PlaceLists.{all-append}
 use Rattle.cop_base.specs.Outside.{Files}
 use Rattle.tptp_reader.specs.Faults.{wrong, too_deep}
 use Rattle.tptp_reader.specs.Grammar.{ItemTree, fof, qmf, cnf, include, include_names, item_tokens, text_tokens}
@@ -123,16 +123,6 @@ text-unquoted Tower n l =
     item-unquoted (item_word l) (codes "c") (codes "conjecture") (codes "(#box:p => " ++ repeat n (codes "#box:") ++ codes "p)") (word-unquoted l) refl refl whole
 
 -- ---- so no token is a quoted name
-
-all-take : {A : Type 0} (p : A → Bool) (k : ℕ) (xs : List A) → IsTrue (list_all p xs) → IsTrue (list_all p (take k xs))
-all-take p zero xs h = refl
-all-take p (suc k) [] h = refl
-all-take p (suc k) (x ∷ xs) h = let q = and_parts (p x) (list_all p xs) h in and_from (p x) (list_all p (take k xs)) q.0 (all-take p k xs q.1)
-
-all-drop : {A : Type 0} (p : A → Bool) (k : ℕ) (xs : List A) → IsTrue (list_all p xs) → IsTrue (list_all p (drop k xs))
-all-drop p zero xs h = h
-all-drop p (suc k) [] h = refl
-all-drop p (suc k) (x ∷ xs) h = all-drop p k xs (and_parts (p x) (list_all p xs) h).1
 
 all-behind : {A : Type 0} (p : A → Bool) (xs ys : List A) → IsTrue (list_all p (xs ++ ys)) → IsTrue (list_all p ys)
 all-behind p [] ys h = h

@@ -1,5 +1,5 @@
 -- Templates for the selections in order are the matrix.
-use Rattle.std.proofs.Common.{◌≡◌, suc, List, [], ◌∷◌, ◌++◌, map, length, IsTrue, Option, Some, None, option_and_then, refl, sym, ◌∙◌, ap, subst, arith, append_assoc}
+use Rattle.std.proofs.Common.{◌≡◌, suc, List, [], ◌∷◌, ◌++◌, map, IsTrue, Option, Some, None, option_and_then, refl, sym, ◌∙◌, ap, subst, arith, append_assoc}
 use Rattle.std.specs.List.{AllByRecursion, Contains}
 use Rattle.calculus.specs.declared.setting.Logic.{Logic}
 use Rattle.calculus.specs.declared.sign.Side.{Side}
@@ -60,7 +60,3 @@ clause-in_order done c before rest all e h = moved done ∙ ap (λ xs. map (λ (
 pub clause-added : (P : MatrixClause → Type 0) (done : List Clause) (c : Clause) → AllByRecursion P (map the_clause done) → P (the_clause c) → AllByRecursion P (map the_clause (done ++ c ∷ []))
 clause-added P [] c h p = (p, tt)
 clause-added P (d ∷ done) c h p = (h.0, clause-added P done c h.1 p)
-
-pub nothing-left : {X : Type 0} (xs : List X) → length xs ≡ 0 → xs ≡ []
-nothing-left [] h = refl
-nothing-left (x ∷ xs) h = absurd (omega arith)

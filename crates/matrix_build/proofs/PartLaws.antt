@@ -1,5 +1,6 @@
 -- What each step of a walk adds to a clause.
 use Rattle.std.proofs.Common.{◌≡◌, ℕ, suc, ◌+◌, List, [], ◌∷◌, ◌++◌, length, Option, Some, None, option_map, option_and_then, refl, sym, ◌∙◌, ap, ap₂, subst, arith, append_assoc, length-append}
+use Rattle.plain_laws.proofs.Lists.{length-last}
 use Rattle.calculus.specs.declared.kind.Shape.TheVariants.{Beta, Gamma}
 use Rattle.calculus.specs.declared.kind.ModalPart.{ModalPart}
 use Rattle.calculus.specs.declared.kind.ModalPart.TheVariants.{Nu, Pi}
@@ -45,9 +46,6 @@ from-then : {A B : Type 0} (g : A → Option B) (o : Option A) (y : B) → optio
 from-then g None y e = absurd (cc)
 from-then g (Some z) y e = (z, refl, e)
 
-length-one : {A : Type 0} (xs : List A) (x : A) → length (xs ++ x ∷ []) ≡ suc (length xs)
-length-one xs x = omega (arith, length-append xs (x ∷ []))
-
 -- what was turned was added
 turned : (p : ℕ) (vs : List Pattern) (o : Option PatternPart) (y : PatternPart) → pattern_turn p vs o ≡ Some y → (z : PatternPart) × (o ≡ Some z) × ((b : BuiltPart) → with_part b z ≡ with_part b y)
 turned p vs o y e = let h = from-map _ o y e in (h.0, h.1, λ b. ap (with_part b) h.2)
@@ -61,7 +59,7 @@ pub nu-adds : (l : Logic) (body : PatternBody) (c : PatternSpot) (b d : BuiltPar
 nu-adds l body c b d h y e =
     let n = length b.sorts in
     let q = from-map (of_sort StringSort) (body (nu_spot l n c) b.sides (suc n)) y e in
-    h q.0 (ap (body (nu_spot l n c) b.sides) (length-one b.sorts StringSort) ∙ q.1) ∙ sort-joins StringSort b q.0 ∙ ap (with_part b) q.2
+    h q.0 (ap (body (nu_spot l n c) b.sides) (length-last b.sorts StringSort) ∙ q.1) ∙ sort-joins StringSort b q.0 ∙ ap (with_part b) q.2
 
 pi-joins : (b : BuiltPart) (z : PatternPart) → with_part (with_pi b) z ≡ with_part b (one_pi_more z)
 pi-joins b z = let e : b.pis + 1 + z.pis ≡ b.pis + suc z.pis = omega arith in ap (λ n. record (with_part b z) { pis = n }) e
@@ -123,7 +121,7 @@ gamma-adds body c b d h y e =
     let q = from-map (of_sort TermSort) (pattern_turn c.position vs (option_map (with_pattern_gamma (p_var n) c.label) inner)) y e in
     let r = turned c.position vs (option_map (with_pattern_gamma (p_var n) c.label) inner) q.0 q.1 in
     let s = from-map (with_pattern_gamma (p_var n) c.label) inner r.0 r.1 in
-    h s.0 (ap (body spot b.sides) (length-one b.sorts TermSort) ∙ s.1)
+    h s.0 (ap (body spot b.sides) (length-last b.sorts TermSort) ∙ s.1)
     ∙ gamma-joins (p_var n) c.label b s.0
     ∙ ap (λ (z : PatternPart). with_part b (of_sort TermSort z)) s.2
     ∙ sort-turned b r.0 q.0 r.2

@@ -1,5 +1,6 @@
 -- The sizes of components stand behind that of the whole.
 use Rattle.std.proofs.Common.{◌≡◌, ℕ, suc, ◌+◌, ◌≤◌, List, length, slice_index, arith}
+use Rattle.calculus.proofs.PositionLaws.{size-pos}
 use Rattle.calculus.specs.declared.kind.Shape.{Shape}
 use Rattle.calculus.specs.declared.sign.Sign.{Sign}
 use Rattle.calculus.specs.declared.sign.Sign.TheVariants.{T, F}
@@ -8,7 +9,6 @@ use Rattle.calculus.specs.Positions.{size}
 use Rattle.calculus.specs.Syntax.{Formula, atom, neg, conj, disj, imp, all, ex, box, dia}
 use Rattle.matrix_build.specs.SizedParts.{HasTwo, HasParts}
 use Rattle.matrix_build.specs.Sizes.{HasSize, HasSizes}
-use Rattle.matrix_build.proofs.SizeTable.{size-pos}
 
 size-there : (zs : List ℕ) (q : ℕ) (f : Formula) → HasSizes zs q f → slice_index zs q ≡ size f
 size-there zs q (atom p ts) h = h.size_is

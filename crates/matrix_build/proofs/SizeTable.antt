@@ -1,5 +1,5 @@
 -- The sizes of the parts of a formula stand where their positions are.
-use Rattle.std.proofs.Common.{◌≡◌, ℕ, suc, ◌+◌, ◌-◌, ◌<◌, List, [], ◌∷◌, ◌++◌, length, refl, sym, ◌∙◌, ap, subst, arith, append_assoc, append-nil, length-append, slice_set}
+use Rattle.std.proofs.Common.{◌≡◌, ℕ, suc, ◌+◌, ◌-◌, List, [], ◌∷◌, ◌++◌, length, refl, sym, ◌∙◌, ap, subst, arith, append_assoc, append-nil, length-append, slice_set}
 use Rattle.std.proofs.Math.Seq.{get_or-append_seam, set-append_seam}
 use Rattle.calculus.specs.Syntax.{Formula, atom, neg, conj, disj, imp, all, ex, box, dia}
 use Rattle.calculus.specs.Positions.{size}
@@ -103,14 +103,3 @@ pub whole-sizes : (f : Formula) (zs : List ℕ) → zs ≡ sizes_of f → HasSiz
 whole-sizes f zs e = held-sizes f zs 0 (record { before = []; after = []; list = e ∙ sym (append-nil (sizes_of f)); place = refl })
 
 pub ruleset whole = (whole-sizes)
-
-pub size-pos : (f : Formula) → 0 < size f
-size-pos (atom p ts) = omega arith
-size-pos (neg a) = omega arith
-size-pos (conj a b) = omega arith
-size-pos (disj a b) = omega arith
-size-pos (imp a b) = omega arith
-size-pos (all a) = omega arith
-size-pos (ex a) = omega arith
-size-pos (box a) = omega arith
-size-pos (dia a) = omega arith

@@ -4,6 +4,7 @@ use Rattle.std.proofs.Common.{◌≡◌, ℕ, zero, suc, ◌+◌, ◌≤◌, ◌
 use Rattle.std.specs.List.{AllByRecursion, list_all, list_any}
 use Rattle.std.proofs.lemmas.Bool.{and_parts, and_from, or_cases, or_parts, or_left, or_right, not-true, not-false, cases_Bool, false≢true, false_from_ne_true, both_ways, eqb-true, eqb-false, leb-true, le-leb}
 use Rattle.std.proofs.lemmas.List.Sums.{sum_by-cons}
+use Rattle.plain_laws.proofs.Options.{some-eq}
 use Rattle.calculus.specs.Syntax.{Problem}
 use Rattle.calculus.specs.Ground.{Value, term, steps, marks_list, GroundLiteral}
 use Rattle.calculus.specs.Instances.{ClauseInstance}
@@ -12,7 +13,7 @@ use Rattle.calculus.specs.Tableaux.{Closing, Closings, reduce, extend, no_closin
 use Rattle.calculus.proofs.WalkLaws.{SomeIn, Hits, walk_all}
 use Rattle.matrix_theory.specs.AnyStrings.{is_closed_by_any_strings}
 use Rattle.matrix_theory.specs.Spanning.{has_way, IsSpanning}
-use Rattle.matrix_theory.proofs.WayLaws.{IsWithin, way_from, way_passes, some_same, nothing_some, all_put_back, all_at, found}
+use Rattle.matrix_theory.proofs.WayLaws.{IsWithin, way_from, way_passes, nothing_some, all_put_back, all_at, found}
 use Rattle.matrix_theory.proofs.SpanningLaws.{Closed, spanning_closes}
 
 pub within_length : {A : Type 0} (xs : List A) → IsWithin xs (length xs)
@@ -92,7 +93,7 @@ all_among is (j ∷ js) f = (f zero j refl, all_among is js (λ k i e. f (suc k)
 -- what is summed over a list without one of its elements
 sum_without : {A : Type 0} (f : A → ℕ) (xs : List A) (k : ℕ) (x : A) → slice_get xs k ≡ Some x → sum_by f xs ≡ f x + sum_by f (remove xs k)
 sum_without f [] k x e = absurd (nothing_some x e)
-sum_without f (y ∷ ys) zero x e = sum_by-cons f y ys ∙ ap (λ z. f z + sum_by f ys) (some_same y x e)
+sum_without f (y ∷ ys) zero x e = sum_by-cons f y ys ∙ ap (λ z. f z + sum_by f ys) (some-eq y x e)
 sum_without f (y ∷ ys) (suc k) x e = let h = sum_without f ys k x e in let a = sum_by-cons f y ys in let b = sum_by-cons f y (remove ys k) in omega (arith, h, a, b)
 
 -- the place of an element that is left when another one goes
@@ -119,7 +120,7 @@ sum_among f (i ∷ is) js d h =
   where
     all_still : (is js : List ClauseInstance) (k : ℕ) (i : ClauseInstance) → slice_get js k ≡ Some i → ((m : ℕ) (j : ClauseInstance) → slice_get is m ≡ Some j → i ≡ j → ⊥) → AllByRecursion (StandsAmong js) is → AllByRecursion (StandsAmong (remove js k)) is
     all_still [] js k i e g h = tt
-    all_still (x ∷ is) js k i e g h = (left_at js k h.0.0 x h.0.1 (λ q. g zero x refl (some_same i x (sym e ∙ ap (slice_get js) (sym q) ∙ h.0.1))), all_still is js k i e (λ m j q. g (suc m) j q) h.1)
+    all_still (x ∷ is) js k i e g h = (left_at js k h.0.0 x h.0.1 (λ q. g zero x refl (some-eq i x (sym e ∙ ap (slice_get js) (sym q) ∙ h.0.1))), all_still is js k i e (λ m j q. g (suc m) j q) h.1)
 
 -- none of the instances can be left out
 abbrev pub IsLeast : List ClauseInstance → Type 0

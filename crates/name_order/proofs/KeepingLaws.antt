@@ -3,8 +3,8 @@ use Rattle.std.proofs.Common.{◌≡◌, ◌⊎◌, ℕ, zero, suc, List, [], �
 use Rattle.std.specs.List.{AllByRecursion, IsDistinct, list_any}
 use Rattle.std.proofs.lemmas.Bool.{false≢true, true≢false}
 use Rattle.std.proofs.lemmas.Map.Keys.{IsDistinct-head, IsDistinct-tail, IsDistinct-cons}
+use Rattle.plain_laws.proofs.Options.{none_some, some_injective}
 use Rattle.calculus.proofs.Members.{Among, among-at, among-left, among-right, among-append, among-all}
-use Rattle.calculus.proofs.WalkLaws.{some_injective, none_some}
 use Rattle.calculus.proofs.EqualityLaws.{Tells}
 use Rattle.name_order.specs.Keeping.{keep, keep_all}
 

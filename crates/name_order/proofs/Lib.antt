@@ -34,7 +34,6 @@
 --   (`NumberPlaces.place-some`, `NumberLaws.number-some`). `Named::mark_in` asks by a list of a table that has grown further: a list
 --   behind those of the names' table is that of no name, since lists stand once (`NumberLaws.no-number`).
 
-pub mod Wanting
 pub mod Collecting
 pub mod KeepingLaws
 pub mod Arranging

@@ -3,6 +3,7 @@ use Rattle.std.proofs.Common.{◌≡◌, ◌↔◌, ℕ, ◌+◌, ◌-◌, List,
 use Rattle.std.proofs.Math.Seq.{take-append_seam}
 use Rattle.std.proofs.lemmas.List.{length-append, length-map}
 use Rattle.std.specs.Option.{option_map_or}
+use Rattle.plain_laws.proofs.Options.{none_some, some_injective}
 use Rattle.calculus.specs.declared.sign.Sign.{Sign}
 use Rattle.calculus.specs.declared.setting.Logic.{Logic}
 use Rattle.calculus.specs.declared.kind.Shape.{Shape}
@@ -24,7 +25,6 @@ use Rattle.calculus.proofs.Members.{Among, among-contains, contains-among, among
 use Rattle.conversion_theory.proofs.NameLaws.{introduced-cases, introduced-eigen, introduced-mark}
 use Rattle.conversion_theory.proofs.PlaceLaws.{Parent, HasParent, Work, Takes, nothing_more, one_term}
 use Rattle.calculus.proofs.SpotLaws.{LeadsTo, fits-LeadsTo, is_gamma}
-use Rattle.calculus.proofs.WalkLaws.{none_some, some_injective}
 use Rattle.name_order.specs.Found.{find_in, above_in, before_in, parent_in, introducer_in, listed, waits_in}
 use Rattle.name_order.specs.Keeping.{keep_all}
 use Rattle.name_order.specs.Mentioned.{mentioned_in}

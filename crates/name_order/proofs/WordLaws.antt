@@ -1,5 +1,6 @@
 -- Different ground values have different words.
-use Rattle.std.proofs.Common.{◌≡◌, ℕ, List, [], ◌∷◌, ◌++◌, arith, refl, sym, ◌∙◌, ap, append_assoc, rules}
+use Rattle.std.proofs.Common.{◌≡◌, ℕ, List, [], ◌++◌, arith, refl, sym, ◌∙◌, ap, append_assoc, rules}
+use Rattle.plain_laws.proofs.Lists.{first-item}
 use base.Stored.{Gv, gnil, gnum, gcons}
 use Rattle.calculus.specs.Codes.{values_gv, values_gv-inj}
 use Rattle.calculus.specs.Ground.{values_tree}
@@ -8,18 +9,15 @@ use Rattle.calculus.specs.Lists.{values_tree-inj}
 use Rattle.calculus.proofs.EqualityLaws.{Tells}
 use Rattle.name_order.specs.Words.{flat, words_of_turn, words_eq}
 
-heads : (x y : ℕ) (xs ys : List ℕ) → x ∷ xs ≡ y ∷ ys → x ≡ y
-heads x y xs ys e = cc
-
 flat-split : (g h : Gv) (r s : List ℕ) → flat g ++ r ≡ flat h ++ s → (g ≡ h) × (r ≡ s)
 flat-split gnil gnil r s e = (refl, cc)
-flat-split gnil (gnum m) r s e = let k = heads 0 1 _ _ e in absurd (omega arith)
-flat-split gnil (gcons c d) r s e = let k = heads 0 2 _ _ e in absurd (omega arith)
-flat-split (gnum n) gnil r s e = let k = heads 1 0 _ _ e in absurd (omega arith)
+flat-split gnil (gnum m) r s e = let k = first-item 0 1 _ _ e in absurd (omega arith)
+flat-split gnil (gcons c d) r s e = let k = first-item 0 2 _ _ e in absurd (omega arith)
+flat-split (gnum n) gnil r s e = let k = first-item 1 0 _ _ e in absurd (omega arith)
 flat-split (gnum n) (gnum m) r s e = let k : n ≡ m = cc in (ap gnum k, cc)
-flat-split (gnum n) (gcons c d) r s e = let k = heads 1 2 _ _ e in absurd (omega arith)
-flat-split (gcons a b) gnil r s e = let k = heads 2 0 _ _ e in absurd (omega arith)
-flat-split (gcons a b) (gnum m) r s e = let k = heads 2 1 _ _ e in absurd (omega arith)
+flat-split (gnum n) (gcons c d) r s e = let k = first-item 1 2 _ _ e in absurd (omega arith)
+flat-split (gcons a b) gnil r s e = let k = first-item 2 0 _ _ e in absurd (omega arith)
+flat-split (gcons a b) (gnum m) r s e = let k = first-item 2 1 _ _ e in absurd (omega arith)
 flat-split (gcons a b) (gcons c d) r s e =
     let tail : (flat a ++ flat b) ++ r ≡ (flat c ++ flat d) ++ s = cc in
     let first = flat-split a c (flat b ++ r) (flat d ++ s) (sym (append_assoc (flat a) (flat b) r) ∙ tail ∙ append_assoc (flat c) (flat d) s) in

@@ -4,30 +4,29 @@ use Rattle.std.specs.List.{flat_map, list_all, AllByRecursion}
 use Rattle.calculus.specs.Syntax.{Problem}
 use Rattle.std.proofs.lemmas.Bool.{and_from, and_parts}
 use Rattle.std.proofs.lemmas.List.{length-map}
+use Rattle.plain_laws.proofs.Places.{drop-end, drop-there}
+use Rattle.plain_laws.proofs.Every.{all-at, all-drop, all-weaken, all-parts}
+use Rattle.store_theory.proofs.BindingLaws.{within-sort}
 use Rattle.calculus.specs.declared.sort.Sort.TheVariants.{MarkSort, StringSort}
 use Rattle.store_theory.specs.Bindings.{AreApart, BindsOnly, BindsWithin, KeepsMarks, NamesFrom, Unifies}
 use Rattle.store_theory.specs.Stores.{Store, has_sort_at, is_store, Solution, Solves}
 use Rattle.store_theory.specs.Systems.{Equation, AreEqual, has_label_sort_at, is_equation, is_label}
-use Rattle.calculus.proofs.PlaceLists.{all-at}
 use Rattle.term_store.specs.RefView.{the_place}
 use Rattle.term_store.specs.declared.cell.Ref.{Ref}
 use Rattle.term_unify.proofs.PairLaws.{BindsOnly-both, BindsOnly-same}
 use Rattle.search_theory.specs.Solving.{CannotEqual, IsNarrowed}
 use Rattle.search_theory.specs.States.{Agree}
 use Rattle.search_theory.specs.Steps.{IsUnified}
-use Rattle.search_theory.proofs.BelowLaws.{all-weaken}
 use Rattle.search_theory.proofs.BuildingLaws.{agree-both}
 use Rattle.search_theory.proofs.GivingLaws.{equation-made, equation-never, narrowed-not, never-first, never-later, never-length, same-more, same-none}
 use Rattle.search_theory.specs.MarkLists.{IsFlat, NeverSame, SameMarks}
 use Rattle.search_theory.proofs.FromLaws.{labelled-unified, names-labelled}
 use Rattle.search_theory.proofs.SpareLaws.{or-both}
-use Rattle.search_theory.proofs.SystemLaws.{split-all}
 use Rattle.search_theory.proofs.SolvingLaws.{equal-agree, label-below}
 use Rattle.prefix_split.specs.Equated.{equation_cells}
 use Rattle.prefix_split.specs.Later.{HasNoString, HasNoStringIn, IsLater, KeepsRight}
 use Rattle.prefix_split.proofs.LaterLaws.{later-both, later-same, later-unified, no_string-later}
-use Rattle.prefix_split.proofs.LengthLaws.{sorted-later, sorted-within}
-use Rattle.prefix_split.proofs.ListItems.{all-drop, drop-end, drop-there}
+use Rattle.prefix_split.proofs.LengthLaws.{sorted-later}
 
 one : (s t : Store) (a b : ℕ) → Unifies a b s t → BindsOnly s t → IsUnified s t a b
 one s t a b u binds = record { size = binds.same_length; back = λ σ h. (u.0 σ).0 h; forth = λ σ h e. (u.0 σ).1 h e }
@@ -50,10 +49,10 @@ pub record AreMarks (s : Store) (ms : List ℕ) : Type 0 where
   pub free : HasNoString s ms
 
 clean : (old cur : Store) (ms : List ℕ) (i a : ℕ) → AreMarks old ms → IsLater old cur → slice_get ms i ≡ Some a → HasNoStringIn cur a
-clean old cur ms i a h l e = no_string-later old cur a l (sorted-within old MarkSort a (all-at (has_sort_at old MarkSort) ms i a h.sorted e)) (λ v o c. h.free v i a o e c)
+clean old cur ms i a h l e = no_string-later old cur a l (within-sort old MarkSort a (all-at (has_sort_at old MarkSort) ms i a h.sorted e)) (λ v o c. h.free v i a o e c)
 
 pub mark-within : (old cur : Store) (ms : List ℕ) (i a : ℕ) → IsTrue (list_all (has_sort_at old MarkSort) ms) → IsLater old cur → slice_get ms i ≡ Some a → a < length cur.cells
-mark-within old cur ms i a h l e = sorted-within cur MarkSort a (l.sorts MarkSort a (all-at (has_sort_at old MarkSort) ms i a h e))
+mark-within old cur ms i a h l e = within-sort cur MarkSort a (l.sorts MarkSort a (all-at (has_sort_at old MarkSort) ms i a h e))
 
 -- a pair of marks was unified, or was not: what stays in either case
 pub later-next : (old mid new : Store) (ms ns : List ℕ) (i a b : ℕ) → AreMarks old ms → AreMarks old ns → IsSameTo old mid ms ns i → slice_get ms i ≡ Some a → slice_get ns i ≡ Some b → BindsOnly mid new → BindsWithin a b mid new → KeepsMarks mid new → IsLater old new
@@ -97,10 +96,10 @@ mapped-differ xs ys n e = n (sym (length-map xs the_place) ∙ e ∙ length-map 
 -- ---- what is made equal stays built right
 
 pub from-left : (base : ℕ) (xs ys : List ℕ) (i r : ℕ) → IsTrue (list_all (nat_le base) (xs ++ ys)) → slice_get xs i ≡ Some r → base ≤ r
-from-left base xs ys i r h e = leb-true base r (all-at (nat_le base) xs i r (split-all (nat_le base) xs ys h).0 e)
+from-left base xs ys i r h e = leb-true base r (all-at (nat_le base) xs i r (all-parts (nat_le base) xs ys h).0 e)
 
 pub from-right : (base : ℕ) (xs ys : List ℕ) (i r : ℕ) → IsTrue (list_all (nat_le base) (xs ++ ys)) → slice_get ys i ≡ Some r → base ≤ r
-from-right base xs ys i r h e = leb-true base r (all-at (nat_le base) ys i r (split-all (nat_le base) xs ys h).1 e)
+from-right base xs ys i r h e = leb-true base r (all-at (nat_le base) ys i r (all-parts (nat_le base) xs ys h).1 e)
 
 from-both : (base : ℕ) (xs ys : List ℕ) → IsTrue (list_all (nat_le base) xs) → IsTrue (list_all (nat_le base) ys) → IsTrue (list_all (nat_le base) (xs ++ ys))
 from-both base [] ys h k = k
@@ -114,7 +113,7 @@ right-next P old mid new ms ns i a b st h ea eb binds within base l from k = lab
 pub right-flat : (P : Problem) (old new : Store) (left right ms ns : List ℕ) → ((base : ℕ) → NamesFrom base old → IsTrue (list_all (nat_le base) left) → IsTrue (list_all (nat_le base) ms)) → ((base : ℕ) → NamesFrom base old → IsTrue (list_all (nat_le base) right) → IsTrue (list_all (nat_le base) ns)) → KeepsRight P (ms ++ ns) old new → KeepsRight P (left ++ right) old new
 right-flat P old new left right ms ns f g h base l from a =
     let names = names-labelled P base old a in
-    let parts = split-all (nat_le base) left right from in
+    let parts = all-parts (nat_le base) left right from in
     h base l (from-both base ms ns (f base names parts.0) (g base names parts.1)) a
 
 -- one of the equations was made equal
@@ -123,8 +122,8 @@ right-equation P es i e left right s t at el er h base l from a = h base l (subs
   where
     cells-at : (xs : List Equation) (j : ℕ) → slice_get xs j ≡ Some e → IsTrue (list_all (nat_le base) (flat_map equation_cells xs)) → IsTrue (list_all (nat_le base) (equation_cells e))
     cells-at [] j q k = cc q
-    cells-at (x ∷ xs) zero q k = let z : x ≡ e = cc q in subst (λ y. IsTrue (list_all (nat_le base) (equation_cells y))) z (split-all (nat_le base) (equation_cells x) (flat_map equation_cells xs) k).0
-    cells-at (x ∷ xs) (suc j) q k = cells-at xs j q (split-all (nat_le base) (equation_cells x) (flat_map equation_cells xs) k).1
+    cells-at (x ∷ xs) zero q k = let z : x ≡ e = cc q in subst (λ y. IsTrue (list_all (nat_le base) (equation_cells y))) z (all-parts (nat_le base) (equation_cells x) (flat_map equation_cells xs) k).0
+    cells-at (x ∷ xs) (suc j) q k = cells-at xs j q (all-parts (nat_le base) (equation_cells x) (flat_map equation_cells xs) k).1
 
 -- ---- equations
 

@@ -2,11 +2,12 @@
 use Rattle.std.proofs.Common.{◌≡◌, ◌⊎◌, ℕ, zero, suc, ◌+◌, ◌<◌, ◌≤◌, List, [], ◌∷◌, ◌++◌, length, drop, take, Bool, true, false, ◌==◌, eqb-true, eq-eqb, if◌then◌else◌, IsTrue, refl, sym, ◌∙◌, ap, ap₂, subst, None, Some, slice_get, inl, inr, arith, append_assoc, append-nil, length-append, leb-true}
 use Rattle.std.specs.List.{AllByRecursion, flat_map}
 use Rattle.std.proofs.lemmas.Bool.{and_parts, false≢true}
+use Rattle.plain_laws.proofs.Every.{all-at}
+use Rattle.plain_laws.proofs.Places.{get-front, get-end, get-within}
 use Rattle.calculus.specs.declared.setting.Logic.{Logic}
 use Rattle.calculus.specs.declared.setting.Logic.TheVariants.{Classical, Intuitionistic, D, T as LogicT, S4, S5}
 use Rattle.calculus.specs.declared.sort.Sort.TheVariants.{TermSort, MarkSort, StringSort}
 use Rattle.store_theory.specs.Bindings.{EndsIn, IsEnd}
-use Rattle.store_theory.specs.Patterns.{Grows}
 use Rattle.calculus.specs.Ground.{GroundMark}
 use Rattle.calculus.specs.Equality.{mark_eq}
 use Rattle.calculus.specs.Labels.{is_prefix, is_step_length}
@@ -15,7 +16,6 @@ use Rattle.store_theory.specs.Systems.{Equation, Pair, System, AreEqual, IsOpenS
 use Rattle.store_theory.specs.Templates.{as_label}
 use Rattle.store_theory.proofs.BindingLaws.{has_sort-from}
 use Rattle.calculus.proofs.EqualityLaws.{mark_eq-tells}
-use Rattle.calculus.proofs.PlaceLists.{all-at}
 use Rattle.search_theory.specs.States.{label_by}
 use Rattle.search_theory.proofs.AtomLaws.{label-append, label_at-by}
 use Rattle.search_theory.proofs.BuildingLaws.{solved-sorted}
@@ -36,20 +36,6 @@ use Rattle.prefix_split.proofs.ListItems.{item-flat, item-left, item-right}
 use Rattle.prefix_split.proofs.OrderLaws.{equal-begins, last-item, mark-behind, node-behind}
 
 -- ---- lists
-
-pub there-below : {A : Type 0} (xs : List A) (i : ℕ) (x : A) → slice_get xs i ≡ Some x → i < length xs
-there-below [] i x e = let q : None ≡ Some x = e in cc q
-there-below (y ∷ xs) zero x e = omega arith
-there-below (y ∷ xs) (suc i) x e = let l = there-below xs i x e in omega (arith, l)
-
-last-there : {A : Type 0} (xs : List A) (x : A) → slice_get (xs ++ x ∷ []) (length xs) ≡ Some x
-last-there [] x = refl
-last-there (y ∷ xs) x = last-there xs x
-
-front-there : {A : Type 0} (xs ys : List A) (i : ℕ) (x : A) → slice_get xs i ≡ Some x → slice_get (xs ++ ys) i ≡ Some x
-front-there [] ys i x e = let q : None ≡ Some x = e in cc q
-front-there (y ∷ xs) ys zero x e = e
-front-there (y ∷ xs) ys (suc i) x e = front-there xs ys i x e
 
 take-there : {A : Type 0} (xs : List A) (i : ℕ) (x : A) → slice_get xs i ≡ Some x → take (suc i) xs ≡ take i xs ++ x ∷ []
 take-there [] i x e = let q : None ≡ Some x = e in cc q
@@ -155,7 +141,7 @@ extends-both a b c (xs, e) (ys, f) = (xs ++ ys, f ∙ ap (λ z. z ++ ys) e ∙ a
 
 -- the labels of a tree are those of the trees from which it grew
 pub values-before : (σ : Solution) (value : ℕ → List GroundMark) (a b : List Node) → Extends a b → AreValues σ value b → AreValues σ value a
-values-before σ value a b (xs, e) h = record { root = h.root; each = λ u n at. h.each u n (ap (λ z. slice_get z u) e ∙ front-there a xs u n at) }
+values-before σ value a b (xs, e) h = record { root = h.root; each = λ u n at. h.each u n (ap (λ z. slice_get z u) e ∙ get-front a xs u n at) }
 
 pub node-is : (σ : Solution) (value : ℕ → List GroundMark) (nodes : List Node) (u : ℕ) (n : Node) (parent : ℕ) (step : Step) → AreValues σ value nodes → slice_get nodes u ≡ Some n → n.parent ≡ parent → step_marks σ n.step ≡ step_marks σ step → value u ≡ value parent ++ step_marks σ step
 node-is σ value nodes u n parent step h e p q = (h.each u n e).joined ∙ ap (λ k. value k ++ step_marks σ n.step) p ∙ ap (λ s. value parent ++ s) q
@@ -199,7 +185,7 @@ values-more size σ nodes n tree l extent (value, h) = (
     node : (u : ℕ) (m : Node) → (slice_get nodes u ≡ Some m) ⊎ ((u ≡ length nodes) × (n ≡ m)) → IsNode σ more u m
     node u m (inl p) =
         let k = h.each u m p in
-        let below = there-below nodes u m p in
+        let below = get-within nodes u m p in
         let before = tree.parents u m p in
         record { joined = same u below ∙ k.joined ∙ ap (λ x. x ++ step_marks σ m.step) (sym (same m.parent (omega (arith, below, before)))); extent = k.extent }
     node u m (inr p) = subst (IsNode σ more u) p.1 (record {
@@ -213,7 +199,7 @@ grown-more s nodes n tree l fits = record {
   extends = (n ∷ [], refl);
   values = λ σ h extent v. values-more (length s.cells) σ nodes n tree l extent v;
   within = let q = length-append nodes (n ∷ []) in omega (arith, q);
-  is = λ σ value h v. (v.each (length nodes) n (last-there nodes n)).joined;
+  is = λ σ value h v. (v.each (length nodes) n (get-end nodes n)).joined;
 }
 
 pub root-tree : (size : ℕ) (n : Node) → n.parent ≡ 0 → n.step ≡ Root → IsTree size (n ∷ [])
@@ -399,9 +385,6 @@ asked-equal s l strings e old new before after h = asked-weaker s l strings (λ 
 
 pub asked-equal_back : (s : Store) (l : Logic) (strings : List ℕ) (e : Equation) (old new : List Node) (before after : List (ℕ × ℕ)) → IsAsked s l strings (λ σ. label_by σ e.right ≡ label_by σ e.left) old new before after → IsAsked s l strings (λ σ. AreEqual σ e) old new before after
 asked-equal_back s l strings e old new before after h = asked-weaker s l strings (λ σ. label_by σ e.right ≡ label_by σ e.left) (λ σ. AreEqual σ e) old new before after (λ σ q. sym (equal-labels σ e q)) h
-
-pub grows-length : (s t : Store) → Grows s t → length s.cells ≤ length t.cells
-grows-length s t (m, e, f) = let l = ap length e in let n = length-append s.cells m in omega (arith, l, n)
 
 -- a tree fits a store with more cells
 pub tree-larger : (m n : ℕ) (nodes : List Node) → IsTree m nodes → m ≤ n → IsTree n nodes

@@ -1,21 +1,19 @@
 -- What steps keep of a store: new cells, and bindings to cells in which no unbound string occurs.
-use Rattle.std.proofs.Common.{◌≡◌, ◌⊎◌, ℕ, zero, suc, ◌<◌, ◌≤◌, List, [], ◌∷◌, length, IsTrue, refl, sym, ◌∙◌, ap, subst, Option, Some, None, slice_get, inl, inr, arith}
+use Rattle.std.proofs.Common.{◌≡◌, ◌⊎◌, ℕ, zero, suc, ◌<◌, ◌≤◌, List, [], ◌∷◌, length, IsTrue, refl, sym, ◌∙◌, ap, subst, Some, None, slice_get, inl, inr, arith}
 use Rattle.calculus.specs.declared.sort.Sort.{Sort}
 use Rattle.calculus.specs.declared.sort.Sort.TheVariants.{StringSort}
 use Rattle.std.proofs.lemmas.Bool.{cases_lt, false≢true}
+use Rattle.plain_laws.proofs.Places.{get-end, get-there, get-within}
+use Rattle.plain_laws.proofs.Options.{same-some}
 use Rattle.store_theory.specs.Bindings.{AddsBuilt, nothing_more, one_more, BindsOnly, BindsWithin, KeepsMarks, is_variable, with_cell}
 use Rattle.store_theory.specs.Patterns.{Grows}
 use Rattle.store_theory.specs.Stores.{Cell, variable, string_cell, Store, parts_of, sort_of, has_sort_at, is_store, is_bound, OccursIn, here, in_part, EndsAt, stays, goes_on}
 use Rattle.store_theory.specs.Systems.{IsOpenString}
-use Rattle.store_theory.proofs.BindingLaws.{KeepsMarks-both, KeepsMarks-same, has_sort-from, kept, parts-within, sorted_cell}
+use Rattle.store_theory.proofs.BindingLaws.{KeepsMarks-both, KeepsMarks-same, has_sort-from, sorted_cell}
 use Rattle.store_theory.proofs.PatternLaws.{Grows-built, KeepsMarks-built, grown-cell, grown-sort}
-use Rattle.calculus.proofs.PlaceLists.{get-end, get-there, get-within}
 use Rattle.search_theory.proofs.BuildingLaws.{adds-longer, length-plus}
-use Rattle.term_unify.proofs.FlatLaws.{no_string-part}
+use Rattle.term_unify.proofs.FlatLaws.{no_string-part, occurs-grown}
 use Rattle.prefix_split.specs.Later.{IsBuiltString, HasNoStringIn, IsLater}
-
-some-same : {A : Type 0} (o : Option A) (x y : A) → o ≡ Some x → o ≡ Some y → x ≡ y
-some-same o x y e f = let q : Some x ≡ Some y = sym e ∙ f in cc q
 
 pub later-same : (s : Store) → IsLater s s
 later-same s = record { longer = omega arith; sorts = λ sort r h. h; strings = λ v r l o w. (w, o); fresh = λ v l o. (let k = get-within s.cells v (variable StringSort None) o in omega (arith, l, k)); built = λ r b. b; bound = λ r k sort e. e; marks = KeepsMarks-same s }
@@ -33,16 +31,6 @@ later-both s t u h k = record {
 
 -- ---- new cells
 
--- what occurs in an old cell occurred there before
-occurs-grown : (s t : Store) → IsTrue (is_store s) → Grows s t → (v r : ℕ) → r < length s.cells → OccursIn t v r → (v < length s.cells) × OccursIn s v r
-occurs-grown s t h g v r l here = (l, here)
-occurs-grown s t h g v r l (in_part i {k = k} {c = c} e p more) =
-    let (d, f) = get-there s.cells r l in
-    let same : d ≡ c = some-same (slice_get t.cells r) d c (grown-cell s t r d g f) e in
-    let q : slice_get (parts_of d) i ≡ Some k = ap (λ x. slice_get (parts_of x) i) same ∙ p in
-    let (w, o) = occurs-grown s t h g v k (parts-within s d i k ((kept s h).fits r d f) q) more in
-    (w, in_part i f q o)
-
 pub ends-grown : (s t : Store) → Grows s t → (r v : ℕ) → EndsAt s r v → EndsAt t r v
 ends-grown s t g r v (stays {c = c} e b) = stays (grown-cell s t r c g e) b
 ends-grown s t g r v (goes_on {k = k} {sort = sort} e more) = goes_on (grown-cell s t r (variable sort (Some k)) g e) (ends-grown s t g k v more)
@@ -54,7 +42,7 @@ later-grown s t h g longer fresh marks = record {
   strings = λ v r l o w. (
       let (below, x) = occurs-grown s t h g v r l w in
       let (d, f) = get-there s.cells v below in
-      (x, f ∙ ap Some (some-same (slice_get t.cells v) d (variable StringSort None) (grown-cell s t v d g f) o))
+      (x, f ∙ ap Some (same-some (slice_get t.cells v) d (variable StringSort None) (grown-cell s t v d g f) o))
       );
   fresh = fresh;
   built = λ r b. (b.0, b.1, ends-grown s t g r b.0 b.2, grown-cell s t b.0 (string_cell b.1) g b.3);
@@ -70,7 +58,7 @@ fresh-added s t (one_more c h f built more) v l o = elim (cases_lt (length s.cel
   | inr last ↦
       let same : v ≡ length s.cells = omega (arith, l, last) in
       let at : slice_get t.cells (length s.cells) ≡ Some c = grown-cell (with_cell c s) t (length s.cells) c (Grows-built (with_cell c s) t more) (get-end s.cells c) in
-      let q : c ≡ variable StringSort None = some-same (slice_get t.cells (length s.cells)) c (variable StringSort None) at (ap (slice_get t.cells) (sym same) ∙ o) in
+      let q : c ≡ variable StringSort None = same-some (slice_get t.cells (length s.cells)) c (variable StringSort None) at (ap (slice_get t.cells) (sym same) ∙ o) in
       false≢true (sym built ∙ ap is_variable q)
 ]
 
@@ -96,8 +84,8 @@ open-before s t b v o =
     let l = get-within t.cells v (variable StringSort None) o in
     let (d, f) = get-there s.cells v (omega (arith, n, l)) in
     elim (b.cells v d f) [
-      | inl g ↦ f ∙ ap Some (some-same (slice_get t.cells v) d (variable StringSort None) g o)
-      | inr (x, k, p, g) ↦ (let q : variable x (Some k) ≡ variable StringSort None = some-same (slice_get t.cells v) (variable x (Some k)) (variable StringSort None) g o in cc q)
+      | inl g ↦ f ∙ ap Some (same-some (slice_get t.cells v) d (variable StringSort None) g o)
+      | inr (x, k, p, g) ↦ (let q : variable x (Some k) ≡ variable StringSort None = same-some (slice_get t.cells v) (variable x (Some k)) (variable StringSort None) g o in cc q)
     ]
 
 -- no unbound string occurs in what a variable was bound to
@@ -117,14 +105,14 @@ occurs-before s t b free v r l o (in_part i {k = k} {c = c} e p more) =
   where
     by : (d : Cell) → slice_get s.cells r ≡ Some d → (slice_get t.cells r ≡ Some d) ⊎ ((sort : Sort) × (x : ℕ) × (d ≡ variable sort None) × (slice_get t.cells r ≡ Some (variable sort (Some x)))) → (k < length t.cells → OccursIn s v k) → OccursIn s v r
     by d f (inl g) ih =
-        let same : d ≡ c = some-same (slice_get t.cells r) d c g e in
+        let same : d ≡ c = same-some (slice_get t.cells r) d c g e in
         in_part i f (ap (λ x. slice_get (parts_of x) i) same ∙ p) (ih (inside k more))
       where
         inside : (k : ℕ) → OccursIn t v k → k < length t.cells
         inside k here = let n = b.same_length in let w = get-within s.cells v (variable StringSort None) o in omega (arith, n, w)
         inside k (in_part j x y z) = get-within t.cells k _ x
     by d f (inr (sort, x, q, g)) ih =
-        let same : variable sort (Some x) ≡ c = some-same (slice_get t.cells r) (variable sort (Some x)) c g e in
+        let same : variable sort (Some x) ≡ c = same-some (slice_get t.cells r) (variable sort (Some x)) c g e in
         let at : x ≡ k = one-part x i k (ap (λ y. slice_get (parts_of y) i) same ∙ p) in
         absurd (free r x sort (f ∙ ap Some q) g v o (subst (OccursIn s v) (sym at) (ih (inside k more))))
       where
@@ -135,7 +123,7 @@ occurs-before s t b free v r l o (in_part i {k = k} {c = c} e p more) =
 ends-bound : (s t : Store) → BindsOnly s t → (r v : ℕ) (rs : List ℕ) → EndsAt s r v → slice_get s.cells v ≡ Some (string_cell rs) → EndsAt t r v
 ends-bound s t b r v rs (stays {c = c} e u) f = elim (b.cells r c e) [
   | inl g ↦ stays g u
-  | inr (x, k, p, g) ↦ (let q : string_cell rs ≡ variable x None = some-same (slice_get s.cells r) (string_cell rs) (variable x None) f (e ∙ ap Some p) in cc q)
+  | inr (x, k, p, g) ↦ (let q : string_cell rs ≡ variable x None = same-some (slice_get s.cells r) (string_cell rs) (variable x None) f (e ∙ ap Some p) in cc q)
 ]
 ends-bound s t b r v rs (goes_on {k = k} {sort = sort} e more) f = elim (b.cells r (variable sort (Some k)) e) [
   | inl g ↦ goes_on g (ends-bound s t b k v rs more f)

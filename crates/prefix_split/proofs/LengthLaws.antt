@@ -1,17 +1,22 @@
 -- Giving strings their lengths one by one.
-use Rattle.std.proofs.Common.{◌≡◌, ◌⊎◌, ℕ, zero, suc, ◌+◌, ◌<◌, ◌≤◌, List, [], ◌∷◌, drop, length, map, replicate, Bool, true, false, IsTrue, refl, sym, ◌∙◌, ap, subst, Option, Some, None, slice_get, option_map, inl, inr, arith, eqb, eqb-true, eq-eqb, nat_le, le-leb, leb-true, lt-ltb, nat_lt}
+use Rattle.std.proofs.Common.{◌≡◌, ◌⊎◌, ℕ, zero, suc, ◌+◌, ◌<◌, ◌≤◌, List, [], ◌∷◌, drop, length, map, replicate, Bool, true, false, IsTrue, refl, sym, ◌∙◌, ap, subst, Some, None, slice_get, option_map, inl, inr, arith, eqb, eqb-true, eq-eqb, nat_le, lt-ltb, nat_lt}
 use Rattle.std.specs.List.{list_all}
-use Rattle.std.proofs.lemmas.Bool.{false≢true, and_from, cases_lt}
+use Rattle.std.proofs.lemmas.Bool.{false≢true, cases_lt}
 use Rattle.std.proofs.lemmas.List.{length-map}
+use Rattle.plain_laws.proofs.Every.{all-at, all-drop, all-weaken}
+use Rattle.plain_laws.proofs.Places.{get-end, get-there, get-within, drop-end, drop-there}
+use Rattle.plain_laws.proofs.Options.{same-some}
+use Rattle.term_store.proofs.OwnLaws.{places-own}
+use Rattle.search_theory.proofs.WithinLaws.{occurs-from}
 use Rattle.calculus.specs.declared.sort.Sort.{Sort}
 use Rattle.calculus.specs.declared.sort.Sort.TheVariants.{MarkSort, StringSort}
 use Rattle.store_theory.specs.Bindings.{BindsOnly, EndsIn, IsEnd, IsWellFormed, KeepsMarks, MayBind, NamesFrom, bind_at, bound_to, places_from, with_binding, with_cell, with_variables_of}
 use Rattle.store_theory.specs.Patterns.{Grows}
-use Rattle.store_theory.specs.Stores.{Cell, variable, string_cell, Store, parts_of, parts_fit, sort_of, has_sort_at, is_store, is_bound, OccursIn, here, in_part, EndsAt, stays, goes_on, Solution, Solves, names_below}
+use Rattle.store_theory.specs.Stores.{Cell, variable, string_cell, Store, parts_of, parts_fit, sort_of, has_sort_at, is_store, is_bound, EndsAt, stays, goes_on, Solution, Solves, names_below}
 use Rattle.store_theory.specs.Systems.{HaveLengths, IsOpenString}
-use Rattle.store_theory.proofs.BindingLaws.{get-bound, get-unbound, has_sort-from, is_store-with_cell, kept, length-bind, same_place, sorted_cell, ends-there}
-use Rattle.store_theory.proofs.PatternLaws.{Grows-both, Grows-variables, Grows-with_cell, grown-cell}
-use Rattle.calculus.proofs.PlaceLists.{all-at, get-end, get-last, get-there, get-within}
+use Rattle.store_theory.proofs.BindingLaws.{get-bound, get-unbound, has_sort-from, is_store-with_cell, kept, length-bind, same_place, ends-there}
+use Rattle.store_theory.proofs.PatternLaws.{Grows-both, Grows-variables, Grows-with_cell, grown-cell, length-places}
+use Rattle.calculus.proofs.PlaceLists.{get-last}
 use Rattle.store_theory.proofs.SolutionLaws.{Solves-bound, Solves-unbound, ends-same}
 use Rattle.term_store.proofs.MarkLaws.{length-marks, variables-fit}
 use Rattle.term_unify.proofs.PairLaws.{BindsOnly-with_binding, told}
@@ -22,18 +27,13 @@ use Rattle.search_theory.specs.KeepingCells.{SolvesRight}
 use Rattle.search_theory.specs.LabelledCells.{AreLabelled}
 use Rattle.search_theory.specs.Solving.{CannotHave, IsNarrowed}
 use Rattle.search_theory.specs.Steps.{IsUnified}
-use Rattle.search_theory.proofs.BelowLaws.{all-weaken}
 use Rattle.search_theory.proofs.BuildingLaws.{AreStores, length-plus}
 use Rattle.search_theory.proofs.FromLaws.{IsFrom, labelled-bound, labelled-plus}
 use Rattle.search_theory.proofs.GivingLaws.{length-given, length-other, length-there, lengths-fail-first, lengths-fail-later, lengths-more, lengths-none}
 use Rattle.search_theory.proofs.SolvingLaws.{all-below}
 use Rattle.prefix_split.specs.Giving.{HasLength, IsBuiltEnd, IsGiven, IsUnboundString}
 use Rattle.prefix_split.specs.Later.{HasNoStringIn, IsBuiltString, IsLater, KeepsRight}
-use Rattle.prefix_split.proofs.ListItems.{all-drop, drop-end, drop-there}
 use Rattle.prefix_split.proofs.LaterLaws.{HasStringFreeTargets, ends-grown, later-both, later-grown, later-same, later-targets}
-
-some-same : {A : Type 0} (o : Option A) (x y : A) → o ≡ Some x → o ≡ Some y → x ≡ y
-some-same o x y e f = let q : Some x ≡ Some y = sym e ∙ f in cc q
 
 -- ---- new marks and their string
 
@@ -65,18 +65,10 @@ names-marked : (base n : ℕ) (s : Store) → NamesFrom base s → NamesFrom bas
 names-marked base zero s h = h
 names-marked base (suc n) s h = names-marked base n (with_cell (variable MarkSort None) s) (names-plus base (variable MarkSort None) s refl h)
 
-places-from : (base start n : ℕ) → base ≤ start → IsTrue (list_all (nat_le base) (places_from start n))
-places-from base start zero l = refl
-places-from base start (suc n) l = and_from (nat_le base start) (list_all (nat_le base) (places_from (suc start) n)) (le-leb base start l) (places-from base (suc start) n (omega (arith, l)))
-
 names-string : (n : ℕ) (s : Store) → NamesFrom (length s.cells) (with_string n s)
 names-string n s =
     let size = length s.cells in
-    names-plus size (string_cell (places_from size n)) (marked n s) (places-from size size n (omega arith)) (names-marked size n s (λ k c l e. (let m = get-within s.cells k c e in absurd (omega (arith, l, m)))))
-
-occurs-from : (base : ℕ) (s : Store) → NamesFrom base s → (v r : ℕ) → OccursIn s v r → base ≤ r → base ≤ v
-occurs-from base s h v r here l = l
-occurs-from base s h v r (in_part i {k = k} {c = c} e p more) l = occurs-from base s h v k more (leb-true base k (all-at (nat_le base) (parts_of c) i k (h r c l e) p))
+    names-plus size (string_cell (places_from size n)) (marked n s) (places-own size size n (omega arith)) (names-marked size n s (λ k c l e. (let m = get-within s.cells k c e in absurd (omega (arith, l, m)))))
 
 -- no new cell is an unbound string
 open-marked : (n : ℕ) (s : Store) (v : ℕ) → IsOpenString (marked n s) v → IsOpenString s v
@@ -137,11 +129,11 @@ targets n s v e m k sort f g = elim (same_place v m) [
   | inl same ↦
       let at : slice_get (bind_at v (top n s) (with_string n s).cells) v ≡ Some (variable sort (Some k)) = ap (slice_get (bind_at v (top n s) (with_string n s).cells)) same ∙ g in
       let is : slice_get (bind_at v (top n s) (with_string n s).cells) v ≡ Some (variable StringSort (Some (top n s))) = get-bound v (top n s) (with_string n s).cells ∙ ap (option_map (bound_to (top n s))) (unbound-there n s v e) in
-      let q : variable StringSort (Some (top n s)) ≡ variable sort (Some k) = some-same (slice_get (bind_at v (top n s) (with_string n s).cells) v) (variable StringSort (Some (top n s))) (variable sort (Some k)) is at in
+      let q : variable StringSort (Some (top n s)) ≡ variable sort (Some k) = same-some (slice_get (bind_at v (top n s) (with_string n s).cells) v) (variable StringSort (Some (top n s))) (variable sort (Some k)) is at in
       let p : top n s ≡ k = cc q in
       subst (HasNoStringIn (with_string n s)) p (no_string-new n s)
   | inr other ↦
-      let q : variable sort None ≡ variable sort (Some k) = some-same (slice_get (with_string n s).cells m) (variable sort None) (variable sort (Some k)) f (sym (get-unbound v (top n s) m (with_string n s).cells other) ∙ g) in
+      let q : variable sort None ≡ variable sort (Some k) = same-some (slice_get (with_string n s).cells m) (variable sort None) (variable sort (Some k)) f (sym (get-unbound v (top n s) m (with_string n s).cells other) ∙ g) in
       cc q
 ]
 
@@ -162,14 +154,14 @@ ends-extended s r v p rs e f (stays {c = c} g b) = goes_on here-bound (stays the
     here-bound = get-bound r p s.cells ∙ ap (option_map (bound_to p)) e
 
     other : ¬ (r ≡ p)
-    other q = let z : variable StringSort None ≡ string_cell rs = some-same (slice_get s.cells r) (variable StringSort None) (string_cell rs) e (ap (slice_get s.cells) q ∙ f) in cc z
+    other q = let z : variable StringSort None ≡ string_cell rs = same-some (slice_get s.cells r) (variable StringSort None) (string_cell rs) e (ap (slice_get s.cells) q ∙ f) in cc z
 
     there : slice_get (bind_at r p s.cells) p ≡ Some (string_cell rs)
     there = get-unbound r p p s.cells other ∙ f
 ends-extended s r v p rs e f (goes_on {k = k} {sort = sort} g more) = goes_on (get-unbound v p r s.cells other ∙ g) (ends-extended s k v p rs e f more)
   where
     other : ¬ (v ≡ r)
-    other q = let z : variable StringSort None ≡ variable sort (Some k) = some-same (slice_get s.cells v) (variable StringSort None) (variable sort (Some k)) e (ap (slice_get s.cells) q ∙ g) in cc z
+    other q = let z : variable StringSort None ≡ variable sort (Some k) = same-some (slice_get s.cells v) (variable StringSort None) (variable sort (Some k)) e (ap (slice_get s.cells) q ∙ g) in cc z
 
 given-top : (n : ℕ) (s : Store) (r v : ℕ) → IsTrue (is_store s) → EndsAt s r v → IsUnboundString s v → r < length s.cells → IsGiven s (with_binding v (top n s) (with_string n s)) r n
 unfolding top
@@ -193,7 +185,7 @@ given-top n s r v h ends e l =
     lt a b k = lt-ltb a b k
 
     there : slice_get (with_binding v (top n s) (with_string n s)).cells (top n s) ≡ Some (string_cell (places_from (length s.cells) n))
-    there = get-unbound v (top n s) (top n s) (with_string n s).cells (λ q. (let z : variable StringSort None ≡ string_cell (places_from (length s.cells) n) = some-same (slice_get (with_string n s).cells v) (variable StringSort None) (string_cell (places_from (length s.cells) n)) (unbound-there n s v e) (ap (slice_get (with_string n s).cells) q ∙ string-there n s) in cc z)) ∙ string-there n s
+    there = get-unbound v (top n s) (top n s) (with_string n s).cells (λ q. (let z : variable StringSort None ≡ string_cell (places_from (length s.cells) n) = same-some (slice_get (with_string n s).cells v) (variable StringSort None) (string_cell (places_from (length s.cells) n)) (unbound-there n s v e) (ap (slice_get (with_string n s).cells) q ∙ string-there n s) in cc z)) ∙ string-there n s
 
 pub given-bound : (n : ℕ) (s : Store) (r v : ℕ) → IsTrue (is_store s) → EndsAt s r v → IsUnboundString s v → r < length s.cells → IsGiven s (with_binding v (length s.cells + n) (with_string n s)) r n
 given-bound n s r v h ends e l = subst (λ p. IsGiven s (with_binding v p (with_string n s)) r n) (top-is n s) (given-top n s r v h ends e l)
@@ -209,10 +201,6 @@ right-solved P ks s t u longer h k σ solved = right-both P ks s t u longer h (k
 pub right-more : (P : Problem) (ks : List ℕ) (s t : Store) → KeepsRight P [] s t → KeepsRight P ks s t
 right-more P ks s t h base l from a = h base l refl a
 
-length-places : (start n : ℕ) → length (places_from start n) ≡ n
-length-places start zero = refl
-length-places start (suc n) = ap suc (length-places (suc start) n)
-
 labelled-marked : (P : Problem) (base n : ℕ) (s : Store) → IsTrue (is_store s) → AreLabelled P (IsFrom base) s → AreLabelled P (IsFrom base) (marked n s)
 labelled-marked P base zero s h a = a
 labelled-marked P base (suc n) s h a = labelled-marked P base n (with_cell (variable MarkSort None) s) (is_store-with_cell (variable MarkSort None) s h refl refl) (labelled-plus P base s (variable MarkSort None) h refl refl a)
@@ -222,7 +210,7 @@ pub right-given : (P : Problem) (n : ℕ) (s : Store) (v : ℕ) → IsTrue (is_s
 right-given P n s v h e step base l none a = subst (λ p. AreLabelled P (IsFrom base) (with_binding v p (with_string n s))) (top-is n s) bound
   where
     mid : AreLabelled P (IsFrom base) (with_string n s)
-    mid = labelled-plus P base (marked n s) (string_cell (places_from (length s.cells) n)) (marked-store n s h) (places-from base (length s.cells) n l) (subst (λ m. IsTrue (is_step_length P.setting.logic m)) (sym (length-places (length s.cells) n)) step) (labelled-marked P base n s h a)
+    mid = labelled-plus P base (marked n s) (string_cell (places_from (length s.cells) n)) (marked-store n s h) (places-own base (length s.cells) n l) (subst (λ m. IsTrue (is_step_length P.setting.logic m)) (sym (length-places (length s.cells) n)) step) (labelled-marked P base n s h a)
 
     bound : AreLabelled P (IsFrom base) (with_binding v (top n s) (with_string n s))
     bound = labelled-bound P base (with_string n s) (with_binding v (top n s) (with_string n s)) v StringSort (top n s) (is_store-with_cell (string_cell (places_from (length s.cells) n)) (marked n s) (marked-store n s h) (fits n s) refl)
@@ -235,9 +223,6 @@ right-given P n s v h e step base l none a = subst (λ p. AreLabelled P (IsFrom 
         (let t = top-is n s in omega (arith, l, t)) mid
 
 -- ---- a string that is built
-
-pub sorted-within : (s : Store) (sort : Sort) (r : ℕ) → IsTrue (has_sort_at s sort r) → r < length s.cells
-sorted-within s sort r h = let (c, e, q) = sorted_cell s sort r h in get-within s.cells r c e
 
 count-told : (s : Store) (v count : ℕ) (rs : List ℕ) → slice_get s.cells v ≡ Some (string_cell rs) → EndsIn s v (λ c. count ≡ length (parts_of c)) → count ≡ length rs
 count-told s v count rs e t = told s v (string_cell rs) (λ c. count ≡ length (parts_of c)) e refl t
@@ -279,7 +264,7 @@ given-more old mid new rs ns i r n sorted h er en g later = record {
   apart = λ k. h.apart (subst (λ xs. CannotHave mid xs (drop i ns)) (sym (drop-there rs i r er)) (subst (λ ms. CannotHave mid (r ∷ drop (suc i) rs) ms) (sym (drop-there ns i n en))
       (lengths-fail-later mid new r n (drop (suc i) rs) (drop (suc i) ns) below g.narrowed (subst (λ j. CannotHave new (drop j rs) (drop j ns)) more k))));
   built = λ j q l e. elim (same_place j i) [
-    | inl same ↦ (let z : r ≡ q = some-same (slice_get rs i) r q er (ap (slice_get rs) (sym same) ∙ e) in subst (IsBuiltString new) z g.built)
+    | inl same ↦ (let z : r ≡ q = same-some (slice_get rs i) r q er (ap (slice_get rs) (sym same) ∙ e) in subst (IsBuiltString new) z g.built)
     | inr other ↦ later.built q (h.built j q (below-other j other l) e)
   ];
   later = later-both old mid new h.later later;

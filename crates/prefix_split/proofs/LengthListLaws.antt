@@ -1,5 +1,5 @@
 -- Lists of string lengths in order: the first one, the next one, and the last one.
-use Rattle.std.proofs.Common.{◌≡◌, ◌⊎◌, ℕ, zero, suc, ◌+◌, ◌-◌, ◌*◌, ◌<◌, ◌≤◌, ◌==◌, List, [], ◌∷◌, ◌++◌, length, sum, true, IsTrue, refl, sym, ◌∙◌, ap, ap₂, subst, nat_le, inl, inr, arith, leb-true, le-leb, eqb-true, eq-eqb, add-mul, one-mul, append_assoc, length-append}
+use Rattle.std.proofs.Common.{◌≡◌, ◌⊎◌, ℕ, zero, suc, ◌+◌, ◌-◌, ◌*◌, ◌<◌, ◌≤◌, ◌==◌, List, [], ◌∷◌, ◌++◌, length, sum, true, IsTrue, refl, sym, ◌∙◌, ap, ap₂, subst, nat_le, inl, inr, arith, leb-true, le-leb, eqb-true, eq-eqb, add-mul, one-mul, append_assoc, length-append, append-nil}
 use Rattle.std.specs.List.{list_all}
 use Rattle.std.specs.Ordering.{nat_cmp, ordering_then}
 use Rattle.std.specs.Cmp.{tied_itself, nat_cmp_is}
@@ -10,6 +10,7 @@ use Rattle.std.proofs.lemmas.Bool.{false≢true, and_parts, and_from, cases_lt}
 use Rattle.std.proofs.lemmas.Cmp.{nat_cmp_total}
 use Rattle.std.proofs.lemmas.List.Sums.{sum_by-cons}
 use Rattle.std.proofs.lemmas.Nat.{mul-le}
+use Rattle.plain_laws.proofs.Numbers.{cmp-equal, cmp-less}
 use Rattle.calculus.specs.declared.setting.Logic.{Logic}
 use Rattle.calculus.specs.declared.setting.Logic.TheVariants.{Classical, Intuitionistic, D, T as LogicT, S4, S5}
 use Rattle.calculus.specs.Space.{is_tried_length, has_labels}
@@ -32,12 +33,6 @@ then-less m h o e = elim (cases_lt m h) [
     | inr k ↦ (let same : m ≡ h = omega (arith, g, k) in let q : nat_cmp m h ≡ Equal = ap (λ z. nat_cmp m z) (sym same) ∙ tied_itself nat_cmp_total m in inr (same, sym (ap (λ c. ordering_then c o) q) ∙ e))
   ]
 ]
-
-less-by : (x y : ℕ) → x < y → nat_cmp x y ≡ Less
-less-by x y l = sym (nat_cmp_is x y Less l)
-
-equal-by : (x y : ℕ) → x ≡ y → nat_cmp x y ≡ Equal
-equal-by x y e = ap (λ z. nat_cmp x z) (sym e) ∙ tied_itself nat_cmp_total x
 
 above-most : (x p : ℕ) (ns : List ℕ) → AreWithin x p ns → above x ns ≤ length ns * p
 above-most x p [] h = omega arith
@@ -141,7 +136,7 @@ last-more x p y zs a last o (m ∷ ms) h e f q =
 -- ---- raising a number
 
 raised-later : (b : List ℕ) (y : ℕ) (zs ws : List ℕ) → slice_cmp nat_cmp (b ++ y ∷ zs) (b ++ (y + 1) ∷ ws) ≡ Less
-raised-later [] y zs ws = ap (λ c. ordering_then c (slice_cmp nat_cmp zs ws)) (less-by y (y + 1) (omega arith))
+raised-later [] y zs ws = ap (λ c. ordering_then c (slice_cmp nat_cmp zs ws)) (cmp-less y (y + 1) (omega arith))
 raised-later (c ∷ b) y zs ws = ap (λ o. ordering_then o (slice_cmp nat_cmp (b ++ y ∷ zs) (b ++ (y + 1) ∷ ws))) (tied_itself nat_cmp_total c) ∙ raised-later b y zs ws
 
 raised-between : (x p : ℕ) (b : List ℕ) (y : ℕ) (zs : List ℕ) (t : ℕ) → x ≤ y → IsLastOfSum x p zs → above x zs ≡ t + 1 → (ms : List ℕ) → AreWithin x p ms → length ms ≡ length (b ++ y ∷ zs) → above x ms ≡ above x (b ++ y ∷ zs) → slice_cmp nat_cmp (b ++ y ∷ zs) ms ≡ Less → ¬ (slice_cmp nat_cmp ms (b ++ (y + 1) ∷ least_list x p (length zs) t) ≡ Less)
@@ -187,7 +182,7 @@ next-raised x p b y zs t h l last more =
     record {
       within = inside;
       count = count;
-      later = ap (λ o. ordering_then o (slice_cmp nat_cmp (b ++ y ∷ zs) (b ++ (y + 1) ∷ ws))) (equal-by (sum (b ++ y ∷ zs)) (sum (b ++ (y + 1) ∷ ws)) (omega (arith, same))) ∙ raised-later b y zs ws;
+      later = ap (λ o. ordering_then o (slice_cmp nat_cmp (b ++ y ∷ zs) (b ++ (y + 1) ∷ ws))) (cmp-equal (sum (b ++ y ∷ zs)) (sum (b ++ (y + 1) ∷ ws)) (omega (arith, same))) ∙ raised-later b y zs ws;
       between = λ ms wi long q r. elim (then-less (sum (b ++ y ∷ zs)) (sum ms) (slice_cmp nat_cmp (b ++ y ∷ zs) ms) q) [
         | inl d ↦ elim (then-less (sum ms) (sum (b ++ (y + 1) ∷ ws)) (slice_cmp nat_cmp ms (b ++ (y + 1) ∷ ws)) r) [
           | inl k ↦ absurd (omega (arith, d, k, same))
@@ -213,7 +208,7 @@ next-sum x p zs h last room =
     record {
       within = inside;
       count = count;
-      later = ap (λ o. ordering_then o (slice_cmp nat_cmp zs ws)) (less-by (sum zs) (sum ws) (omega (arith, more)));
+      later = ap (λ o. ordering_then o (slice_cmp nat_cmp zs ws)) (cmp-less (sum zs) (sum ws) (omega (arith, more)));
       between = λ ms wi long q r. elim (then-less (sum zs) (sum ms) (slice_cmp nat_cmp zs ms) q) [
         | inl d ↦ elim (then-less (sum ms) (sum ws) (slice_cmp nat_cmp ms ws) r) [
           | inl k ↦ absurd (omega (arith, d, k, more))
@@ -256,10 +251,6 @@ first-list x p n =
     }
 
 -- ---- taking numbers off
-
-append-none : (xs : List ℕ) → xs ++ [] ≡ xs
-append-none [] = refl
-append-none (x ∷ xs) = ap (λ ys. x ∷ ys) (append-none xs)
 
 off-whole : (x p : ℕ) (old items rest : List ℕ) (y many t : ℕ) → (h : IsTakenOff x p old items many t) → items ≡ rest ++ y ∷ [] → old ≡ rest ++ y ∷ h.off
 off-whole x p old items rest y many t h e = h.whole ∙ ap (λ zs. zs ++ h.off) e ∙ append_assoc rest (y ∷ []) h.off
@@ -344,7 +335,7 @@ least-step x p items whole n left t here e f g =
     ∙ e
 
 pub least-end : (x p : ℕ) (items whole : List ℕ) (n t : ℕ) → items ++ least_list x p n t ≡ whole → n ≡ 0 → items ≡ whole
-least-end x p items whole n t e f = sym (append-none items) ∙ ap (λ m. items ++ least_list x p m t) (sym f) ∙ e
+least-end x p items whole n t e f = sym (append-nil items) ∙ ap (λ m. items ++ least_list x p m t) (sym f) ∙ e
 
 -- ---- the lists that are tried are those within the range
 

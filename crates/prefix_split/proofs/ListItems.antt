@@ -1,13 +1,6 @@
 -- Items of lists by their places.
-use Rattle.std.proofs.Common.{◌≡◌, ℕ, zero, suc, List, [], ◌∷◌, ◌++◌, drop, Bool, IsTrue, refl, ap, ◌∙◌, Some, slice_get}
-use Rattle.std.specs.List.{list_all, flat_map}
-use Rattle.std.proofs.lemmas.Bool.{and_parts}
-pub use Rattle.term_unify.proofs.ListItems.{drop-end, drop-there}
-
-pub all-drop : {A : Type 0} (p : A → Bool) (i : ℕ) (xs : List A) → IsTrue (list_all p xs) → IsTrue (list_all p (drop i xs))
-all-drop p zero xs h = h
-all-drop p (suc i) [] h = refl
-all-drop p (suc i) (x ∷ xs) h = all-drop p i xs (and_parts (p x) (list_all p xs) h).1
+use Rattle.std.proofs.Common.{◌≡◌, ℕ, zero, suc, List, [], ◌∷◌, ◌++◌, ap, ◌∙◌, Some, slice_get}
+use Rattle.std.specs.List.{flat_map}
 
 -- an item of joined lists is an item of one of them, and conversely
 abbrev pub IsItem : ℕ → List ℕ → Type 0

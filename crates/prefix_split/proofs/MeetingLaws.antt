@@ -2,6 +2,8 @@
 use Rattle.std.proofs.Common.{◌≡◌, ◌⊎◌, ℕ, suc, ◌+◌, ◌<◌, ◌≤◌, List, [], ◌∷◌, ◌++◌, length, Bool, true, false, IsTrue, refl, sym, ◌∙◌, ap, ap₂, Some, None, slice_get, inl, inr, arith, nat_lt, lt-ltb, ltb-true}
 use Rattle.std.specs.List.{list_all, flat_map}
 use Rattle.std.proofs.lemmas.Bool.{and_parts, and_from, false≢true}
+use Rattle.plain_laws.proofs.Every.{all-at, all-append}
+use Rattle.store_theory.proofs.BindingLaws.{within-sort}
 use Rattle.calculus.specs.declared.sort.Sort.{Sort}
 use Rattle.calculus.specs.declared.sort.Sort.TheVariants.{TermSort, StringSort}
 use Rattle.store_theory.specs.Bindings.{AddsBuilt, BindsOnly, is_variable, nothing_more, one_more, with_cell}
@@ -9,18 +11,15 @@ use Rattle.calculus.specs.Syntax.{Problem}
 use Rattle.calculus.specs.Instances.{GammaUse}
 use Rattle.store_theory.specs.Stores.{Cell, variable, fun_cell, eigen_cell, new_cell, string_cell, Store, has_sort_at, names_below, Solution, Solves, GammaCell}
 use Rattle.store_theory.specs.Systems.{CellAtom, Equation, Pair, System, is_label, is_equation, is_gamma_cell, is_cell_atom, is_pair, is_system, cells_of, cells_of_atom, AreEqual, AreEqualNow, AreUses, MeetsDemand, HasBuiltStrings, HasNoOpenString, IsDemandEquation}
-use Rattle.calculus.proofs.PlaceLists.{all-at}
 use Rattle.search_theory.specs.KeepingCells.{EquatesRight, KeepsRight, SolvesRight, equation_cells, gamma_cells}
 use Rattle.search_theory.specs.Solving.{CannotEqual, IsNarrowed}
 use Rattle.search_theory.specs.States.{Agree}
-use Rattle.search_theory.proofs.BelowLaws.{all-join}
 use Rattle.search_theory.proofs.BuildingLaws.{adds-back, adds-forth, adds-longer, agree-both}
 use Rattle.search_theory.proofs.SolvingLaws.{all-below, label-below, label_at-agree, system-parts}
 use Rattle.search_theory.proofs.SystemCells.{system-stays}
 use Rattle.prefix_split.specs.Later.{HasNoString, IsLater}
 use Rattle.prefix_split.specs.Meeting.{IsForced}
 use Rattle.prefix_split.proofs.LaterLaws.{later-added, later-both, later-same}
-use Rattle.prefix_split.proofs.LengthLaws.{sorted-within}
 use Rattle.prefix_split.proofs.ListItems.{IsItem, item-flat, item-left, item-right}
 
 -- ---- how many variables are unbound
@@ -77,23 +76,23 @@ fewer-open s t u e a b n unequal = elim (number-bound t.cells u.cells b.same_len
 
 below-flat : {A : Type 0} (n : ℕ) (q : A → Bool) (f : A → List ℕ) → ((x : A) → IsTrue (q x) → IsTrue (names_below n (f x))) → (xs : List A) → IsTrue (list_all q xs) → IsTrue (names_below n (flat_map f xs))
 below-flat n q f h [] k = refl
-below-flat n q f h (x ∷ xs) k = let p = and_parts (q x) (list_all q xs) k in all-join (λ r. nat_lt r n) (f x) (flat_map f xs) (h x p.0) (below-flat n q f h xs p.1)
+below-flat n q f h (x ∷ xs) k = let p = and_parts (q x) (list_all q xs) k in all-append (λ r. nat_lt r n) (f x) (flat_map f xs) (h x p.0) (below-flat n q f h xs p.1)
 
 atom-cells : (s : Store) (a : CellAtom) → IsTrue (is_cell_atom s a) → IsTrue (names_below (length s.cells) (cells_of_atom a))
-atom-cells s a h = let p = and_parts (list_all (has_sort_at s TermSort) a.args) (is_label s a.label) h in all-join (λ r. nat_lt r (length s.cells)) a.args a.label (all-below s TermSort a.args p.0) (label-below s a.label p.1)
+atom-cells s a h = let p = and_parts (list_all (has_sort_at s TermSort) a.args) (is_label s a.label) h in all-append (λ r. nat_lt r (length s.cells)) a.args a.label (all-below s TermSort a.args p.0) (label-below s a.label p.1)
 
 system-cells : (s : Store) (y : System) → IsTrue (is_system s y) → IsTrue (names_below (length s.cells) (cells_of y))
 system-cells s y h =
     let p = system-parts s y h in
     let n = length s.cells in
     let below = λ (r : ℕ). nat_lt r n in
-    let equations = below-flat n (is_equation s) (λ (e : Equation). e.left ++ e.right) (λ e q. (let r = and_parts (is_label s e.left) (is_label s e.right) q in all-join below e.left e.right (label-below s e.left r.0) (label-below s e.right r.1))) y.equations p.equations in
-    let gammas = below-flat n (is_gamma_cell s) (λ (g : GammaCell). g.term ∷ g.label) (λ g q. (let r = and_parts (has_sort_at s TermSort g.term) (is_label s g.label) q in and_from (below g.term) (names_below n g.label) (lt-ltb g.term n (sorted-within s TermSort g.term r.0)) (label-below s g.label r.1))) y.gammas p.gammas in
-    let pairs = below-flat n (is_pair s) (λ (q : Pair). cells_of_atom q.upper ++ cells_of_atom q.lower) (λ q k. (let r = and_parts (is_cell_atom s q.upper) (is_cell_atom s q.lower) k in all-join below (cells_of_atom q.upper) (cells_of_atom q.lower) (atom-cells s q.upper r.0) (atom-cells s q.lower r.1))) y.pairs p.pairs in
+    let equations = below-flat n (is_equation s) (λ (e : Equation). e.left ++ e.right) (λ e q. (let r = and_parts (is_label s e.left) (is_label s e.right) q in all-append below e.left e.right (label-below s e.left r.0) (label-below s e.right r.1))) y.equations p.equations in
+    let gammas = below-flat n (is_gamma_cell s) (λ (g : GammaCell). g.term ∷ g.label) (λ g q. (let r = and_parts (has_sort_at s TermSort g.term) (is_label s g.label) q in and_from (below g.term) (names_below n g.label) (lt-ltb g.term n (within-sort s TermSort g.term r.0)) (label-below s g.label r.1))) y.gammas p.gammas in
+    let pairs = below-flat n (is_pair s) (λ (q : Pair). cells_of_atom q.upper ++ cells_of_atom q.lower) (λ q k. (let r = and_parts (is_cell_atom s q.upper) (is_cell_atom s q.lower) k in all-append below (cells_of_atom q.upper) (cells_of_atom q.lower) (atom-cells s q.upper r.0) (atom-cells s q.lower r.1))) y.pairs p.pairs in
     let es = flat_map (λ (e : Equation). e.left ++ e.right) y.equations in
     let gs = flat_map (λ (g : GammaCell). g.term ∷ g.label) y.gammas in
     let ps = flat_map (λ (q : Pair). cells_of_atom q.upper ++ cells_of_atom q.lower) y.pairs in
-    all-join below (es ++ y.strings ++ gs) ps (all-join below (es ++ y.strings) gs (all-join below es y.strings equations (all-below s StringSort y.strings p.strings)) gammas) pairs
+    all-append below (es ++ y.strings ++ gs) ps (all-append below (es ++ y.strings) gs (all-append below es y.strings equations (all-below s StringSort y.strings p.strings)) gammas) pairs
 
 pub cell-within : (s : Store) (y : System) (i r : ℕ) → IsTrue (is_system s y) → slice_get (cells_of y) i ≡ Some r → r < length s.cells
 cell-within s y i r h e = ltb-true r (length s.cells) (all-at (λ x. nat_lt x (length s.cells)) (cells_of y) i r (system-cells s y h) e)
@@ -144,7 +143,7 @@ uses-agree s σ τ a [] us h k = k
 uses-agree s σ τ a (g ∷ gs) us h (u, vs, e, at_g, more) =
     let p = and_parts (is_gamma_cell s g) (list_all (is_gamma_cell s) gs) h in
     let q = and_parts (has_sort_at s TermSort g.term) (is_label s g.label) p.0 in
-    (u, vs, e, record { term = sym (a g.term (lt-ltb g.term (length s.cells) (sorted-within s TermSort g.term q.0))) ∙ at_g.term; label = sym (label_at-agree (length s.cells) σ τ a g.label (label-below s g.label q.1)) ∙ at_g.label }, uses-agree s σ τ a gs vs p.1 more)
+    (u, vs, e, record { term = sym (a g.term (lt-ltb g.term (length s.cells) (within-sort s TermSort g.term q.0))) ∙ at_g.term; label = sym (label_at-agree (length s.cells) σ τ a g.label (label-below s g.label q.1)) ∙ at_g.label }, uses-agree s σ τ a gs vs p.1 more)
 
 meets-agree : (Demanded : List GammaUse → Type 0) (s : Store) (y : System) (σ τ : Solution) → IsTrue (is_system s y) → Agree (length s.cells) σ τ → MeetsDemand Demanded y σ → MeetsDemand Demanded y τ
 meets-agree Demanded s y σ τ h a (us, are, d) = (us, uses-agree s σ τ a y.gammas us (system-parts s y h).gammas are, d)

@@ -2,6 +2,8 @@
 use Rattle.std.proofs.Common.{◌≡◌, ℕ, zero, suc, ◌+◌, ◌≤◌, List, [], ◌∷◌, drop, length, map, true, false, IsTrue, refl, sym, ◌∙◌, ap, ap₂, subst, Some, slice_get, inl, inr, arith}
 use Rattle.std.specs.List.{list_all, AllByRecursion}
 use Rattle.std.proofs.lemmas.Bool.{false≢true, and_parts}
+use Rattle.plain_laws.proofs.Places.{drop-end, drop-there}
+use Rattle.plain_laws.proofs.Every.{all-at}
 use Rattle.calculus.specs.declared.sign.Sign.{Sign}
 use Rattle.calculus.specs.declared.sign.Sign.TheVariants.{T, F}
 use Rattle.calculus.specs.declared.sort.Sort.TheVariants.{TermSort}
@@ -11,7 +13,6 @@ use Rattle.calculus.specs.Ground.{GroundLiteral, GroundTerms, no_g_terms, more_g
 use Rattle.store_theory.specs.Stores.{Store, has_sort_at, names_below, Solution}
 use Rattle.store_theory.specs.Systems.{CellAtom, Pair, is_cell_atom, is_label, is_pair}
 use Rattle.store_theory.specs.Templates.{as_term}
-use Rattle.calculus.proofs.PlaceLists.{all-at}
 use Rattle.store_theory.proofs.SolutionLaws.{some_solution}
 use Rattle.search_theory.specs.Regular.{AreSame}
 use Rattle.search_theory.specs.States.{terms_by}
@@ -21,7 +22,6 @@ use Rattle.search_theory.proofs.UnifyLaws.{term-same}
 use Rattle.term_unify.specs.Same.{AreSameCells, AreSameLabels, DifferAt}
 use Rattle.term_unify.proofs.SameLaws.{different-cells}
 use Rattle.prefix_split.specs.Same.{DifferNow, HaveSameAtom}
-use Rattle.prefix_split.proofs.ListItems.{drop-end, drop-there}
 
 -- ---- atoms
 

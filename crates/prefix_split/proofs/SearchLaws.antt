@@ -4,6 +4,7 @@ use Rattle.std.specs.List.{AllByRecursion}
 use Rattle.std.specs.Ordering.{ordering_reverse}
 use Rattle.std.specs.declared.cmp.Ordering.{Ordering}
 use Rattle.std.specs.declared.cmp.Ordering.TheVariants.{Less, Equal, Greater}
+use Rattle.plain_laws.proofs.Every.{each-push}
 use Rattle.calculus.specs.declared.setting.Logic.{Logic}
 use Rattle.store_theory.specs.Bindings.{AddsBuilt}
 use Rattle.calculus.specs.Counting.{IsRising, MoreThan}
@@ -31,10 +32,6 @@ pub in-tried : (l : Logic) (y : System) (x p : ℕ) (ns : List ℕ) → IsTrue (
 in-tried l y x p ns k r h e = within-tried l y ns k (subst (λ z. AreWithin (least_of l) z ns) r.spread (subst (λ z. AreWithin z p ns) r.least h)) e
 
 -- ---- lists that rise
-
-all-more : {A : Type 0} (Q : A → Type 0) (xs : List A) (y : A) → AllByRecursion Q xs → Q y → AllByRecursion Q (xs ++ y ∷ [])
-all-more Q [] y h q = (q, tt)
-all-more Q (x ∷ xs) y h q = (h.0, all-more Q xs y h.1 q)
 
 rising-more : (xs : List (List ℕ)) (ns ms : List ℕ) → IsRising lengths_cmp (xs ++ ns ∷ []) → lengths_cmp ns ms ≡ Less → IsRising lengths_cmp ((xs ++ ns ∷ []) ++ ms ∷ [])
 rising-more [] ns ms h e = (e, tt)
@@ -74,7 +71,7 @@ stands-next l Demanded s y x p ns ms begun used k r h here next =
       tried = tried;
       none = none;
       done = h.done ++ ns ∷ [];
-      early = record { rising = rising-more h.done ns ms h.early.rising next.later; members = all-more (AreEarly l Demanded s y) (h.done ++ ns ∷ []) ms h.early.members (early-by_smaller l Demanded s y ms tried none) };
+      early = record { rising = rising-more h.done ns ms h.early.rising next.later; members = each-push (AreEarly l Demanded s y) (h.done ++ ns ∷ []) ms h.early.members (early-by_smaller l Demanded s y ms tried none) };
       count = omega (arith, c, n);
     }
 

@@ -2,12 +2,12 @@
 use Rattle.std.proofs.Common.{◌≡◌, ℕ, suc, ◌+◌, ◌≤◌, List, [], ◌∷◌, drop, length, Bool, true, false, not, ◌&&◌, ◌||◌, ◌==◌, eq-eqb, le-leb, nat_le, IsTrue, refl, sym, subst, Some, slice_get, arith}
 use Rattle.std.specs.List.{list_all}
 use Rattle.std.proofs.lemmas.Bool.{and_from}
+use Rattle.plain_laws.proofs.Places.{drop-end, drop-there}
 use Rattle.calculus.specs.declared.setting.Logic.{Logic}
 use Rattle.calculus.specs.Labels.{is_step_length}
 use Rattle.calculus.specs.Space.{is_tried_length}
 use Rattle.calculus.specs.Tableaux.{has_unbounded_strings}
 use Rattle.store_theory.specs.Systems.{System, AreTried, bound_of}
-use Rattle.prefix_split.proofs.ListItems.{drop-end, drop-there}
 
 pub tried-one : (l : Logic) (b n : ℕ) → is_step_length l n ≡ true → n ≤ b → is_tried_length l b n ≡ true
 tried-one l b n h k = and_from (is_step_length l n) (not (has_unbounded_strings l) || nat_le n b) h (by (not (has_unbounded_strings l)))

@@ -1,7 +1,9 @@
 -- One list of lengths: what each step that fails shows, and what is found at the end.
-use Rattle.std.proofs.Common.{◌≡◌, ◌==◌, ℕ, suc, List, [], ◌∷◌, ◌++◌, length, Bool, IsTrue, refl, sym, ◌∙◌, ap, subst, Option, Some, None, slice_get, arith, nat_le}
+use Rattle.std.proofs.Common.{◌≡◌, ◌==◌, ℕ, suc, List, [], ◌∷◌, ◌++◌, length, Bool, IsTrue, refl, sym, ◌∙◌, ap, subst, Some, None, slice_get, arith, nat_le}
 use Rattle.std.specs.List.{AllByRecursion, flat_map, list_all}
 use Rattle.std.proofs.lemmas.Bool.{and_parts}
+use Rattle.plain_laws.proofs.Every.{all-weaken, all-parts}
+use Rattle.plain_laws.proofs.Options.{same-some}
 use Rattle.calculus.specs.Labels.{is_step_length}
 use Rattle.calculus.specs.Space.{is_tried_length}
 use Rattle.calculus.specs.Syntax.{Problem}
@@ -18,18 +20,13 @@ use Rattle.search_theory.specs.Solving.{IsNarrowed, IsSolving}
 use Rattle.search_theory.proofs.BuildingLaws.{agree-both}
 use Rattle.search_theory.proofs.RankLaws.{rank_of, ranked-by_no_cycle}
 use Rattle.search_theory.proofs.SolvingLaws.{carried, found, none-by_pair, system-cells, system-parts, system-set, tried-step}
-use Rattle.search_theory.proofs.BelowLaws.{all-weaken}
 use Rattle.search_theory.proofs.SystemCells.{pairs-in}
-use Rattle.search_theory.proofs.SystemLaws.{split-all}
 use Rattle.prefix_split.specs.Later.{IsLater, KeepsRight}
 use Rattle.prefix_split.specs.Meeting.{IsForced}
 use Rattle.prefix_split.specs.Same.{DifferNow}
 use Rattle.prefix_split.specs.Trying.{IsSetTo}
 use Rattle.prefix_split.proofs.EqualLaws.{equations-agree}
 use Rattle.prefix_split.proofs.MeetingLaws.{cell-within, open-later, system-later}
-
-some-same : {A : Type 0} (o : Option A) (x y : A) → o ≡ Some x → o ≡ Some y → x ≡ y
-some-same o x y e f = let q : Some x ≡ Some y = sym e ∙ f in cc q
 
 -- ---- setting the lengths
 
@@ -45,7 +42,7 @@ open-given s t y h names l built v o (i, r, e, w) =
     let (j, q, f, ends) = names v before (i, r, e, x) in
     let (u, rs, at, cell) = built j q f in
     let same : v ≡ u = ends-once t q v u (ends-open s t l q v ends o) at in
-    let z : variable StringSort None ≡ string_cell rs = some-same (slice_get t.cells u) (variable StringSort None) (string_cell rs) (ap (slice_get t.cells) (sym same) ∙ o) cell in
+    let z : variable StringSort None ≡ string_cell rs = same-some (slice_get t.cells u) (variable StringSort None) (string_cell rs) (ap (slice_get t.cells) (sym same) ∙ o) cell in
     cc z
 
 pub cannot-equal : (s t : Store) (y : System) (ns : List ℕ) → IsTrue (is_system s y) → IsNarrowed s t (λ σ. HaveLengths σ y.strings ns) → ((σ : Solution) → Solves t σ → ¬ AllByRecursion (AreEqual σ) y.equations) → (σ : Solution) → Solves s σ → ¬ IsSetTo y ns σ
@@ -72,9 +69,9 @@ pair_cells p = cells_of_atom p.upper ++ cells_of_atom p.lower
 -- the cells of the equations are some of the system's
 pub right-system : (P : Problem) (y : System) (s t : Store) → KeepsRight P (flat_map equation_cells y.equations) s t → KeepsRight P (cells_of y) s t
 right-system P y s t h base l from a =
-    let one = split-all (nat_le base) (flat_map equation_cells y.equations ++ y.strings ++ flat_map gamma_cells y.gammas) (flat_map pair_cells y.pairs) from in
-    let two = split-all (nat_le base) (flat_map equation_cells y.equations ++ y.strings) (flat_map gamma_cells y.gammas) one.0 in
-    let three = split-all (nat_le base) (flat_map equation_cells y.equations) y.strings two.0 in
+    let one = all-parts (nat_le base) (flat_map equation_cells y.equations ++ y.strings ++ flat_map gamma_cells y.gammas) (flat_map pair_cells y.pairs) from in
+    let two = all-parts (nat_le base) (flat_map equation_cells y.equations ++ y.strings) (flat_map gamma_cells y.gammas) one.0 in
+    let three = all-parts (nat_le base) (flat_map equation_cells y.equations) y.strings two.0 in
     h base l three.0 a
 
 -- lengths that are tried are steps

@@ -1,19 +1,20 @@
 -- The expanded formula of an item is closed, and each of its symbols stands at its number with its arity.
-use Rattle.std.proofs.Common.{◌≡◌, ◌≢◌, ◌==◌, ◌<◌, ◌+◌, ◌⊎◌, ◌↔◌, ◌&&◌, ◌||◌, ℕ, suc, Bool, true, false, List, [], ◌∷◌, ◌++◌, Some, inl, inr, refl, sym, ◌∙◌, ap, append_assoc, subst, arith, length, slice_get, flat_map, IsTrue, if◌then◌else◌}
+use Rattle.std.proofs.Common.{◌≡◌, ◌≢◌, ◌==◌, ◌<◌, ◌+◌, ◌⊎◌, ◌&&◌, ◌||◌, ℕ, suc, Bool, true, false, List, [], ◌∷◌, ◌++◌, Some, inl, inr, refl, sym, ◌∙◌, ap, append_assoc, subst, arith, length, slice_get, flat_map, IsTrue, if◌then◌else◌}
 use Rattle.std.specs.Prelude.{reverse}
 use Rattle.std.specs.List.{list_all, list_any}
 use Rattle.std.specs.Option.{option_map_or}
-use Rattle.std.proofs.lemmas.Bool.{and_parts, and_from, false≢true, lt-ltb, eqb-true}
+use Rattle.std.proofs.lemmas.Bool.{and_parts, and_from, false≢true, lt-ltb, or_left, or_right}
 use Rattle.std.proofs.lemmas.Bool.Decides.{eqb_tells}
 use Rattle.std.proofs.lemmas.List.{length-append, length-reverse, reverse-append}
 use Rattle.std.proofs.lemmas.List.Folds.{list_all-append}
+use Rattle.plain_laws.proofs.Numbers.{eqb-iff}
 use Rattle.calculus.specs.declared.setting.Logic.{Logic}
 use Rattle.calculus.specs.Equality.{symbol_eq}
 use Rattle.calculus.specs.Problems.{formula_fits, has_predicate, is_atom_class, is_modal, term_fits_in, terms_fit_in}
 use Rattle.calculus.specs.Skolem.{has_function, is_function}
 use Rattle.calculus.specs.Syntax as tree
 use Rattle.calculus.specs.Syntax.{Symbol, Formula, arity_of}
-use Rattle.calculus.proofs.EqualityLaws.{list_eq-tells, symbol_eq-tells}
+use Rattle.calculus.proofs.EqualityLaws.{list_eq-tells, symbol_eq-tells, symbol_self}
 use Rattle.tptp_reader.specs.declared.source.ChainKind.{ChainKind}
 use Rattle.tptp_reader.specs.declared.source.ChainKind.TheVariants.{And, Or}
 use Rattle.tptp_reader.specs.declared.source.BinaryKind.{BinaryKind}
@@ -63,9 +64,6 @@ same-number n = by (eqb_tells n n)
     by (inl h) = h.0
     by (inr h) = absurd (h.1 refl)
 
-numbers : (a b : ℕ) → IsTrue (a == b) ↔ (a ≡ b)
-numbers a b = (eqb-true a b, λ e. subst (λ z. IsTrue (a == z)) e (same-number a))
-
 symbol-there : (symbols : List Symbol) (s : Symbol) → IsTrue (list_any (symbol_eq s) symbols) → slice_get symbols (number_of symbols s) ≡ Some s
 symbol-there symbols s h = let p = placed (symbol_eq s) symbols h in p.there ∙ ap Some (sym ((symbol_eq-tells s p.item).0 p.passes))
 
@@ -105,7 +103,7 @@ among y [] xs p q = absurd (false≢true q)
 among y (z ∷ zs) xs p q = at (same_name y z) refl q (λ r. among y zs xs (and_parts (list_any (same_name z) xs) (list_all (λ x. list_any (same_name x) xs) zs) p).1 r)
   where
     at : (b : Bool) → same_name y z ≡ b → IsTrue (b || list_any (same_name y) zs) → (IsTrue (list_any (same_name y) zs) → IsTrue (list_any (same_name y) xs)) → IsTrue (list_any (same_name y) xs)
-    at true e r next = let n : y ≡ z = (list_eq-tells ◌==◌ numbers y z).0 e in subst (λ w. IsTrue (list_any (same_name w) xs)) (sym n) (and_parts (list_any (same_name z) xs) (list_all (λ x. list_any (same_name x) xs) zs) p).0
+    at true e r next = let n : y ≡ z = (list_eq-tells ◌==◌ eqb-iff y z).0 e in subst (λ w. IsTrue (list_any (same_name w) xs)) (sym n) (and_parts (list_any (same_name z) xs) (list_all (λ x. list_any (same_name x) xs) zs) p).0
     at false e r next = next r
 
 -- what is bound and what is not
@@ -125,39 +123,31 @@ any-append test (x ∷ xs) ys = by (test x) (any-append test xs ys)
     by true h = refl
     by false h = h
 
-or-right : (a b : Bool) → IsTrue b → IsTrue (a || b)
-or-right true b h = refl
-or-right false b h = h
-
-or-left : (a b : Bool) → IsTrue a → IsTrue (a || b)
-or-left true b h = refl
-or-left false b h = absurd (false≢true h)
-
 -- more names on the outside
 within-more : (cs zs xs : List Name) → Within same_name cs xs → Within same_name cs (zs ++ xs)
 within-more [] zs xs h = refl
 within-more (a ∷ cs) zs xs h =
     let p = and_parts (list_any (same_name a) xs) (list_all (λ x. list_any (same_name x) xs) cs) h in
-    and_from (list_any (same_name a) (zs ++ xs)) (list_all (λ x. list_any (same_name x) (zs ++ xs)) cs) (any-append (same_name a) zs xs ∙ or-right (list_any (same_name a) zs) (list_any (same_name a) xs) p.0) (within-more cs zs xs p.1)
+    and_from (list_any (same_name a) (zs ++ xs)) (list_all (λ x. list_any (same_name x) (zs ++ xs)) cs) (any-append (same_name a) zs xs ∙ or_right (list_any (same_name a) zs) (list_any (same_name a) xs) p.0) (within-more cs zs xs p.1)
 
 any-reverse : {A : Type 0} (test : A → Bool) (xs : List A) → IsTrue (list_any test xs) → IsTrue (list_any test (reverse xs))
 any-reverse test [] h = h
 any-reverse test (x ∷ xs) h = ap (list_any test) (reverse-append (x ∷ []) xs) ∙ any-append test (reverse xs) (x ∷ []) ∙ by (test x) h (λ k. any-reverse test xs k)
   where
     by : (b : Bool) → IsTrue (b || list_any test xs) → (IsTrue (list_any test xs) → IsTrue (list_any test (reverse xs))) → IsTrue (list_any test (reverse xs) || (b || false))
-    by true k next = or-right (list_any test (reverse xs)) true refl
-    by false k next = or-left (list_any test (reverse xs)) false (next k)
+    by true k next = or_right (list_any test (reverse xs)) true refl
+    by false k next = or_left (list_any test (reverse xs)) false (next k)
 
-same-self : (y : Name) → IsTrue (same_name y y)
-same-self y = (list_eq-tells ◌==◌ numbers y y).1 refl
+pub same-self : (y : Name) → IsTrue (same_name y y)
+same-self y = (list_eq-tells ◌==◌ eqb-iff y y).1 refl
 
 -- each name of a list is among the names of the list turned round, whatever stands behind
 within-turned : (front ys xs : List Name) → Within same_name ys (reverse (front ++ ys) ++ xs)
 within-turned front [] xs = refl
 within-turned front (y ∷ ys) xs =
     and_from (list_any (same_name y) (reverse (front ++ y ∷ ys) ++ xs)) (list_all (λ x. list_any (same_name x) (reverse (front ++ y ∷ ys) ++ xs)) ys)
-    (any-append (same_name y) (reverse (front ++ y ∷ ys)) xs ∙ or-left (list_any (same_name y) (reverse (front ++ y ∷ ys))) (list_any (same_name y) xs)
-    (any-reverse (same_name y) (front ++ y ∷ ys) (any-append (same_name y) front (y ∷ ys) ∙ or-right (list_any (same_name y) front) (same_name y y || list_any (same_name y) ys) (or-left (same_name y y) (list_any (same_name y) ys) (same-self y)))))
+    (any-append (same_name y) (reverse (front ++ y ∷ ys)) xs ∙ or_left (list_any (same_name y) (reverse (front ++ y ∷ ys))) (list_any (same_name y) xs)
+    (any-reverse (same_name y) (front ++ y ∷ ys) (any-append (same_name y) front (y ∷ ys) ∙ or_right (list_any (same_name y) front) (same_name y y || list_any (same_name y) ys) (or_left (same_name y y) (list_any (same_name y) ys) (same-self y)))))
     (subst (λ z. Within same_name ys (reverse z ++ xs)) (append_assoc front (y ∷ []) ys) (within-turned (front ++ y ∷ []) ys xs))
 
 -- ---- formulas
@@ -301,10 +291,10 @@ seen same self (x ∷ xs) known = by (list_any (same x) known) refl (seen same s
         → Within same (x ∷ xs) (known ++ (if b then first_seen same known xs else x ∷ first_seen same (known ++ x ∷ []) xs))
     by true e h k =
         and_from (list_any (same x) (known ++ first_seen same known xs)) (list_all (λ y. list_any (same y) (known ++ first_seen same known xs)) xs)
-        (any-append (same x) known (first_seen same known xs) ∙ or-left (list_any (same x) known) (list_any (same x) (first_seen same known xs)) e) h
+        (any-append (same x) known (first_seen same known xs) ∙ or_left (list_any (same x) known) (list_any (same x) (first_seen same known xs)) e) h
     by false e h k =
         and_from (list_any (same x) (known ++ x ∷ first_seen same (known ++ x ∷ []) xs)) (list_all (λ y. list_any (same y) (known ++ x ∷ first_seen same (known ++ x ∷ []) xs)) xs)
-        (any-append (same x) known (x ∷ first_seen same (known ++ x ∷ []) xs) ∙ or-right (list_any (same x) known) (same x x || list_any (same x) (first_seen same (known ++ x ∷ []) xs)) (or-left (same x x) (list_any (same x) (first_seen same (known ++ x ∷ []) xs)) (self x)))
+        (any-append (same x) known (x ∷ first_seen same (known ++ x ∷ []) xs) ∙ or_right (list_any (same x) known) (same x x || list_any (same x) (first_seen same (known ++ x ∷ []) xs)) (or_left (same x x) (list_any (same x) (first_seen same (known ++ x ∷ []) xs)) (self x)))
         (subst (λ z. Within same xs z) (append_assoc known (x ∷ []) (first_seen same (known ++ x ∷ []) xs)) k)
 
 within-reverse : (cs xs : List Name) → Within same_name cs xs → Within same_name cs (reverse xs)
@@ -320,12 +310,9 @@ closed-fits l symbols a w h =
     all-fits l symbols 0 (free_variables a) (expanded symbols (reverse (free_variables a)) a) ∙ ap (λ k. formula_fits l symbols k (expanded symbols (reverse (free_variables a)) a)) n
     ∙ expanded-fits a l symbols [] (reverse (free_variables a)) w h refl (within-reverse (free_in [] a) (free_variables a) (seen same_name same-self (free_in [] a) []))
 
-symbol-self : (s : Symbol) → IsTrue (symbol_eq s s)
-symbol-self s = (symbol_eq-tells s s).1 refl
-
 -- all symbols of formulas stand in the list of their first places
 pub all-seen : (ss : List Symbol) → Within symbol_eq ss (first_seen symbol_eq [] ss)
-all-seen ss = seen symbol_eq symbol-self ss []
+all-seen ss = seen symbol_eq symbol_self ss []
 
 -- The formulas of items fit the symbols that are numbered over them, and over more items.
 pub formulas-fit : (l : Logic) (items all : List Passed) → IsTrue (list_all (λ (p : Passed). is_well (is_modal l) p.body) items)

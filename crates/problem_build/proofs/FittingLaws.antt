@@ -4,6 +4,7 @@ use Rattle.std.specs.Prelude.{not}
 use Rattle.std.specs.List.{filter, list_all, list_any}
 use Rattle.std.proofs.lemmas.Bool.{and_from, and_parts}
 use Rattle.std.proofs.lemmas.List.Folds.{list_all-append}
+use Rattle.plain_laws.proofs.Every.{all-filter}
 use Rattle.calculus.specs.declared.setting.Logic.{Logic}
 use Rattle.calculus.specs.Equality.{symbol_eq}
 use Rattle.calculus.specs.Problems.{formula_fits, is_modal, symbol_fits}
@@ -20,14 +21,6 @@ use Rattle.problem_build.proofs.ExpansionLaws.{all-seen, equality-fits, formulas
 use Rattle.problem_build.proofs.ItemLaws.{bodies-formulas, listed}
 use Rattle.problem_build.proofs.NameLaws.{names_fit, read-names}
 use Rattle.problem_build.proofs.ReadingLaws.{is_well_item, read-well}
-
-filter-all : {A : Type 0} (test keep : A → Bool) (xs : List A) → IsTrue (list_all test xs) → IsTrue (list_all test (filter keep xs))
-filter-all test keep [] h = refl
-filter-all test keep (x ∷ xs) h = by (keep x) (and_parts (test x) (list_all test xs) h) (λ k. filter-all test keep xs k)
-  where
-    by : (b : Bool) → IsTrue (test x) × IsTrue (list_all test xs) → (IsTrue (list_all test xs) → IsTrue (list_all test (filter keep xs))) → IsTrue (list_all test (if b then x ∷ filter keep xs else filter keep xs))
-    by true p next = and_from (test x) (list_all test (filter keep xs)) p.0 (next p.1)
-    by false p next = next p.1
 
 filter-listed : (test : Symbol → Bool) (keep : Passed → Bool) (items : List Passed) → IsTrue (list_all test (listed items)) → IsTrue (list_all test (listed (filter keep items)))
 filter-listed test keep [] h = refl
@@ -72,7 +65,7 @@ pub kept-fit : (l : Logic) (keep : Passed → Bool) (items : List Passed) → Ar
 kept-fit l keep items h =
     ap (list_all (formula_fits l (symbols_of items) 0)) (bodies-formulas (symbols_of items) (filter keep items))
     ∙ formulas-fit l (filter keep items) items
-    (filter-all (λ (p : Passed). is_well (is_modal l) p.body) keep items (h (is_well (is_modal l)) (λ text is few r. well-item (is_modal l) is (read-well (is_modal l) text is r))))
+    (all-filter (λ (p : Passed). is_well (is_modal l) p.body) keep items (h (is_well (is_modal l)) (λ text is few r. well-item (is_modal l) is (read-well (is_modal l) text is r))))
     (filter-listed (λ x. list_any (symbol_eq x) (symbols_of items)) keep items (all-seen (listed items)))
 
 equality_axioms-fit : (l : Logic) (symbols : List Symbol) → IsTrue (list_any (symbol_eq equality_symbol) symbols) → IsTrue (list_all (formula_fits l symbols 0) (equality_axioms symbols))

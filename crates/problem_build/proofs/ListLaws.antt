@@ -4,6 +4,7 @@ use Rattle.std.specs.Prelude.{reverse, not, Result, Err}
 use Rattle.std.specs.List.{filter, list_any, Contains}
 use Rattle.std.proofs.lemmas.Bool.{false≢true, and_parts, eqb-true, or_cases}
 use Rattle.std.proofs.lemmas.List.{length-append, length-map, reverse-append, take_more}
+use Rattle.plain_laws.proofs.Lists.{no-items}
 use Rattle.calculus.specs.Syntax.{Symbol, Formula}
 use Rattle.calculus.specs.Equality.{symbol_eq}
 use Rattle.calculus.specs.Problems.{are_distinct}
@@ -31,13 +32,8 @@ filter-first test x xs = by (test x)
     by true = refl
     by false = refl
 
--- what a test for emptiness says
-none-there : {A : Type 0} (xs : List A) → length xs ≡ 0 → xs ≡ []
-none-there [] h = refl
-none-there (x ∷ xs) h = absurd (omega arith)
-
 pub empty-is : {A : Type 0} (xs : List A) (b : Bool) → b ≡ (length xs == 0) → b ≡ true → xs ≡ []
-empty-is xs b e h = none-there xs (eqb-true (length xs) 0 (sym e ∙ h))
+empty-is xs b e h = no-items xs (eqb-true (length xs) 0 (sym e ∙ h))
 
 pub some-is : {A : Type 0} (xs : List A) (b : Bool) → b ≡ (length xs == 0) → b ≡ false → 0 < length xs
 some-is [] b e h = absurd (false≢true (sym h ∙ e))

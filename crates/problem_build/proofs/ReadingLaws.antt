@@ -2,6 +2,7 @@
 use Rattle.std.proofs.Common.{◌||◌, ◌&&◌, ℕ, Bool, true, false, List, [], ◌∷◌, refl, sym, subst, map, drop, length, IsTrue}
 use Rattle.std.specs.List.{list_all}
 use Rattle.std.proofs.lemmas.Bool.{and_parts, and_from, false≢true}
+use Rattle.plain_laws.proofs.Booleans.{or-both_parts}
 use Rattle.tptp_reader.specs.Sources.{Item, formula, include}
 use Rattle.tptp_reader.specs.Lists.{sources_tree}
 use Rattle.tptp_reader.specs.Grammar as g
@@ -19,10 +20,6 @@ atom-well m (g.predication w t us) = refl
 atom-well m (g.equation s t) = refl
 atom-well m (g.disequation s t) = refl
 
-both-plain : (modal a b : Bool) → IsTrue (modal || (a && b)) → IsTrue (modal || a) × IsTrue (modal || b)
-both-plain true a b h = (refl, refl)
-both-plain false a b h = and_parts a b h
-
 mutual
   unit-well : (u : UnitTree) (m : Bool) → IsTrue (m || g.is_plain_unit u) → IsTrue (is_well m (unit_of u))
   unit-well (g.bracketed f) m h = source-well f m h
@@ -37,17 +34,17 @@ mutual
   pub source-well : (f : FormulaTree) (m : Bool) → IsTrue (m || g.is_plain f) → IsTrue (is_well m (source_of f))
   source-well (g.single u) m h = unit-well u m h
   source-well (g.chain c u v us) m h =
-      let p = both-plain m (g.is_plain_unit u && g.is_plain_unit v) (g.are_plain_units us) h in
-      let q = both-plain m (g.is_plain_unit u) (g.is_plain_unit v) p.0 in
+      let p = or-both_parts m (g.is_plain_unit u && g.is_plain_unit v) (g.are_plain_units us) h in
+      let q = or-both_parts m (g.is_plain_unit u) (g.is_plain_unit v) p.0 in
       and_from (is_well m (unit_of u)) (is_well m (unit_of v) && are_well m (units_of us)) (unit-well u m q.0) (and_from (is_well m (unit_of v)) (are_well m (units_of us)) (unit-well v m q.1) (units-well us m p.1))
   source-well (g.binary c u v) m h =
-      let q = both-plain m (g.is_plain_unit u) (g.is_plain_unit v) h in
+      let q = or-both_parts m (g.is_plain_unit u) (g.is_plain_unit v) h in
       and_from (is_well m (unit_of u)) (is_well m (unit_of v)) (unit-well u m q.0) (unit-well v m q.1)
 
   units-well : (us : UnitTrees) (m : Bool) → IsTrue (m || g.are_plain_units us) → IsTrue (are_well m (units_of us))
   units-well g.no_units m h = refl
   units-well (g.more_units u us) m h =
-      let q = both-plain m (g.is_plain_unit u) (g.are_plain_units us) h in
+      let q = or-both_parts m (g.is_plain_unit u) (g.are_plain_units us) h in
       and_from (is_well m (unit_of u)) (are_well m (units_of us)) (unit-well u m q.0) (units-well us m q.1)
 
 literal-well : (m : Bool) (l : LiteralTree) → IsTrue (is_well m (literal_of l))

@@ -2,9 +2,10 @@
 use Rattle.std.proofs.Common.{◌≡◌, ℕ, ◌≤◌, Bool, true, false, ◌||◌, ◌==◌, List, [], ◌∷◌, ◌++◌, Option, None, Some, length, IsTrue, if◌then◌else◌, refl, sym, ◌∙◌, ap, subst, arith}
 use Rattle.std.specs.Prelude.{Ok, Err, not, nat_lt, reverse}
 use Rattle.std.specs.List.{list_all, list_any}
-use Rattle.std.proofs.lemmas.Bool.{and_from, and_parts, eq-eqb, false≢true}
+use Rattle.std.proofs.lemmas.Bool.{and_from, and_parts, eq-eqb, or_left, or_right}
 use Rattle.std.proofs.lemmas.List.{length-map}
 use Rattle.std.proofs.lemmas.List.Folds.{list_all-append, list_any-append}
+use Rattle.plain_laws.proofs.Booleans.{or-assoc, or-swap}
 use Rattle.calculus.specs.Measures.{node_count}
 use Rattle.calculus.specs.Problems.{greatest_nodes, greatest_symbols}
 use Rattle.calculus.specs.Syntax as tree
@@ -31,19 +32,11 @@ implied : (p q : Symbol → Bool) (ss : List Symbol) → ((x : Symbol) → IsTru
 implied p q [] h k = refl
 implied p q (s ∷ ss) h k = let r = and_parts (p s) (list_all p ss) k in and_from (q s) (list_all q ss) (h s r.0) (implied p q ss h r.1)
 
-left : (a b : Bool) → IsTrue a → IsTrue (a || b)
-left true b h = refl
-left false b h = absurd (false≢true h)
-
-right : (a b : Bool) → IsTrue b → IsTrue (a || b)
-right true b h = refl
-right false b h = h
-
 both : (p q : Symbol → Bool) (xs ys : List Symbol) → IsTrue (list_all p xs) → IsTrue (list_all q ys) → IsTrue (list_all (λ x. p x || q x) (xs ++ ys))
 both p q xs ys h k =
     list_all-append (λ x. p x || q x) xs ys
     ∙ and_from (list_all (λ x. p x || q x) xs) (list_all (λ x. p x || q x) ys)
-    (implied p (λ x. p x || q x) xs (λ x e. left (p x) (q x) e) h) (implied q (λ x. p x || q x) ys (λ x e. right (p x) (q x) e) k)
+    (implied p (λ x. p x || q x) xs (λ x e. or_left (p x) (q x) e) h) (implied q (λ x. p x || q x) ys (λ x e. or_right (p x) (q x) e) k)
 
 or-nothing : (b : Bool) → b ≡ (b || false)
 or-nothing true = refl
@@ -53,16 +46,6 @@ widened : (a b : Bool) → IsTrue (a || b) → IsTrue (a || (b || false))
 widened true b h = refl
 widened false true h = refl
 widened false false h = h
-
-or-swapped : (a b c : Bool) → (a || (b || c)) ≡ (b || (a || c))
-or-swapped true true c = refl
-or-swapped true false c = refl
-or-swapped false true c = refl
-or-swapped false false c = refl
-
-or-regrouped : (a b c : Bool) → (a || (b || c)) ≡ ((a || b) || c)
-or-regrouped true b c = refl
-or-regrouped false b c = refl
 
 -- ---- terms
 
@@ -84,11 +67,11 @@ mutual
   term-stands symbols xs (apply f ts) =
       and_from (in_term symbols (expanded_term symbols xs (apply f ts)) (function_symbol f (argument_count ts)))
       (list_all (in_term symbols (expanded_term symbols xs (apply f ts))) (terms_symbols ts))
-      (left (number_of symbols (function_symbol f (argument_count ts)) == number_of symbols (function_symbol f (argument_count ts)))
+      (or_left (number_of symbols (function_symbol f (argument_count ts)) == number_of symbols (function_symbol f (argument_count ts)))
       (in_terms symbols (expanded_terms symbols xs ts) (function_symbol f (argument_count ts)))
       (eq-eqb (number_of symbols (function_symbol f (argument_count ts))) (number_of symbols (function_symbol f (argument_count ts))) refl))
       (implied (in_terms symbols (expanded_terms symbols xs ts)) (in_term symbols (expanded_term symbols xs (apply f ts))) (terms_symbols ts)
-      (λ x h. right (number_of symbols x == number_of symbols (function_symbol f (argument_count ts))) (in_terms symbols (expanded_terms symbols xs ts) x) h)
+      (λ x h. or_right (number_of symbols x == number_of symbols (function_symbol f (argument_count ts))) (in_terms symbols (expanded_terms symbols xs ts) x) h)
       (terms-stand symbols xs ts))
 
   terms-stand : (symbols : List Symbol) (xs : List Name) (ts : SourceTerms) → IsTrue (list_all (in_terms symbols (expanded_terms symbols xs ts)) (terms_symbols ts))
@@ -102,8 +85,8 @@ atom-stands : (symbols : List Symbol) (s : Symbol) (ts : Terms) (ss : List Symbo
     → IsTrue (list_all (in_formula symbols (tree.atom (number_of symbols s) ts)) (s ∷ ss))
 atom-stands symbols s ts ss h =
     and_from (in_formula symbols (tree.atom (number_of symbols s) ts) s) (list_all (in_formula symbols (tree.atom (number_of symbols s) ts)) ss)
-    (left (number_of symbols s == number_of symbols s) (stands_in_terms (number_of symbols s) ts) (eq-eqb (number_of symbols s) (number_of symbols s) refl))
-    (implied (in_terms symbols ts) (in_formula symbols (tree.atom (number_of symbols s) ts)) ss (λ x e. right (number_of symbols x == number_of symbols s) (in_terms symbols ts x) e) h)
+    (or_left (number_of symbols s == number_of symbols s) (stands_in_terms (number_of symbols s) ts) (eq-eqb (number_of symbols s) (number_of symbols s) refl))
+    (implied (in_terms symbols ts) (in_formula symbols (tree.atom (number_of symbols s) ts)) ss (λ x e. or_right (number_of symbols x == number_of symbols s) (in_terms symbols ts x) e) h)
 
 equation-stands : (symbols : List Symbol) (xs : List Name) (s t : SourceTerm)
     → IsTrue (list_all (in_formula symbols (equality_atom symbols (expanded_term symbols xs s) (expanded_term symbols xs t))) (equality_symbol ∷ (term_symbols s ++ term_symbols t)))
@@ -130,10 +113,10 @@ binary-stands Imp symbols f g xs ys h k = both (in_formula symbols f) (in_formul
 binary-stands If symbols f g xs ys h k = both (in_formula symbols g) (in_formula symbols f) ys xs k h
 binary-stands Iff symbols f g xs ys h k =
     implied (λ x. in_formula symbols f x || in_formula symbols g x) (in_formula symbols (binary_formula Iff f g)) (xs ++ ys)
-    (λ x e. left (in_formula symbols f x || in_formula symbols g x) (in_formula symbols g x || in_formula symbols f x) e) (both (in_formula symbols f) (in_formula symbols g) xs ys h k)
+    (λ x e. or_left (in_formula symbols f x || in_formula symbols g x) (in_formula symbols g x || in_formula symbols f x) e) (both (in_formula symbols f) (in_formula symbols g) xs ys h k)
 binary-stands Xor symbols f g xs ys h k =
     implied (λ x. in_formula symbols f x || in_formula symbols g x) (in_formula symbols (binary_formula Xor f g)) (xs ++ ys)
-    (λ x e. left (in_formula symbols f x || in_formula symbols g x) (in_formula symbols g x || in_formula symbols f x) e) (both (in_formula symbols f) (in_formula symbols g) xs ys h k)
+    (λ x e. or_left (in_formula symbols f x || in_formula symbols g x) (in_formula symbols g x || in_formula symbols f x) e) (both (in_formula symbols f) (in_formula symbols g) xs ys h k)
 binary-stands Nor symbols f g xs ys h k = both (in_formula symbols f) (in_formula symbols g) xs ys h k
 binary-stands Nand symbols f g xs ys h k = both (in_formula symbols f) (in_formula symbols g) xs ys h k
 
@@ -157,8 +140,8 @@ chain-stands c symbols f fs ss h =
 truth-stands : (symbols : List Symbol) → IsTrue (list_all (in_formula symbols (true_formula symbols)) (truth_symbol ∷ []))
 truth-stands symbols =
     and_from (in_formula symbols (true_formula symbols) truth_symbol) true
-    (left (number_of symbols truth_symbol == number_of symbols truth_symbol || false) (number_of symbols truth_symbol == number_of symbols truth_symbol || false)
-    (left (number_of symbols truth_symbol == number_of symbols truth_symbol) false (eq-eqb (number_of symbols truth_symbol) (number_of symbols truth_symbol) refl))) refl
+    (or_left (number_of symbols truth_symbol == number_of symbols truth_symbol || false) (number_of symbols truth_symbol == number_of symbols truth_symbol || false)
+    (or_left (number_of symbols truth_symbol == number_of symbols truth_symbol) false (eq-eqb (number_of symbols truth_symbol) (number_of symbols truth_symbol) refl))) refl
 
 mutual
   expanded-stands : (symbols : List Symbol) (xs : List Name) (a : Source) → IsTrue (list_all (in_formula symbols (expanded symbols xs a)) (symbols_in a))
@@ -208,8 +191,8 @@ parted k symbols (p ∷ ps) = ap (λ b. stands_in k (closed symbols p.body) || b
   where
     by : (b : Bool) → (stands_in k (closed symbols p.body) || (list_any (stands_in k) (formulas_of symbols (premises ps)) || list_any (stands_in k) (formulas_of symbols (conjectures ps))))
         ≡ (list_any (stands_in k) (formulas_of symbols (if not b then p ∷ premises ps else premises ps)) || list_any (stands_in k) (formulas_of symbols (if b then p ∷ conjectures ps else conjectures ps)))
-    by true = or-swapped (stands_in k (closed symbols p.body)) (list_any (stands_in k) (formulas_of symbols (premises ps))) (list_any (stands_in k) (formulas_of symbols (conjectures ps)))
-    by false = or-regrouped (stands_in k (closed symbols p.body)) (list_any (stands_in k) (formulas_of symbols (premises ps))) (list_any (stands_in k) (formulas_of symbols (conjectures ps)))
+    by true = or-swap (stands_in k (closed symbols p.body)) (list_any (stands_in k) (formulas_of symbols (premises ps))) (list_any (stands_in k) (formulas_of symbols (conjectures ps)))
+    by false = or-assoc (stands_in k (closed symbols p.body)) (list_any (stands_in k) (formulas_of symbols (premises ps))) (list_any (stands_in k) (formulas_of symbols (conjectures ps)))
 
 conj-same : (k : ℕ) (a : Formula) (bs : List Formula) → stands_in k (balanced tree.conj a bs) ≡ list_any (stands_in k) (a ∷ bs)
 conj-same k a bs = joined-same k tree.conj (λ x y. refl) (a ∷ bs) (balanced tree.conj a bs) (balanced-balanced tree.conj a bs)
@@ -251,8 +234,8 @@ problem-stands e s items P few h =
     (seen-all (in_formulas (symbols_of items) (formulas_of (symbols_of items) items)) [] (listed items) (items-stand (symbols_of items) items)))
   where
     wider : (a b c d : Bool) → IsTrue (b || c) → d ≡ (a || b) → IsTrue (d || c)
-    wider a true c d h e = ap (λ x. x || c) e ∙ left (a || true) c (right a true refl)
-    wider a false c d h e = right d c h
+    wider a true c d h e = ap (λ x. x || c) e ∙ or_left (a || true) c (or_right a true refl)
+    wider a false c d h e = or_right d c h
 
     inside : (k : ℕ) (f : Formula) → problem_formula (premises_of s (symbols_of items) items) (formulas_of (symbols_of items) (conjectures items)) ≡ Some f
         → IsTrue (list_any (stands_in k) (formulas_of (symbols_of items) items)) → IsTrue (stands_in k f)

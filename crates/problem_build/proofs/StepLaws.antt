@@ -1,5 +1,5 @@
 -- One turn of the walk over items, and what its parts add up to.
-use Rattle.std.proofs.Common.{◌≡◌, ℕ, List, [], ◌∷◌, ◌++◌, length, map, Bool, IsTrue, Result, Ok, Err, refl, sym, ◌∙◌, ap, subst, arith}
+use Rattle.std.proofs.Common.{◌≡◌, ℕ, List, [], ◌∷◌, ◌++◌, map, Bool, IsTrue, Result, Ok, Err, sym, ◌∙◌, ap, subst}
 use Rattle.std.specs.Prelude.{Vec}
 use Rattle.std.specs.List.{list_all}
 use Rattle.std.specs.declared.alloc.Global.{Global}
@@ -29,10 +29,6 @@ pub led : (from : Outcomes) (new : Walk) (r : Result (Vec Name Global) BuildFaul
 led from new r fault h k = subst (LeadsTo from new) (sym (residual-is r fault h)) k
 
 -- ---- turns
-
-pub no-items : {A : Type 0} (xs : List A) → length xs ≡ 0 → xs ≡ []
-no-items [] e = refl
-no-items (x ∷ xs) e = absurd (omega (arith, e))
 
 pub turns-end : (read : Reader) (files : Files) (root file : Name) (depth : ℕ) (lists : List (List Name)) (first : Outcomes) (items : List program.Item) (p : Progress) (reached : List Name) → items ≡ []
     → GoesOn first (items_outcomes read files root file depth lists (pending_items items) p reached) → GoesOn first (λ _. Ok (walked p reached))

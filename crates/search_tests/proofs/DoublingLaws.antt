@@ -3,6 +3,8 @@ use Rattle.std.proofs.Common.{◌≡◌, ◌≤◌, ◌<◌, ◌-◌, suc, ◌�
 use Rattle.std.specs.List.{list_all}
 use Rattle.std.specs.Option.{option_map_or}
 use Rattle.std.proofs.lemmas.Bool.{and_from, and_parts}
+use Rattle.plain_laws.proofs.Every.{all-at}
+use Rattle.plain_laws.proofs.Places.{get-end, get-within}
 use Rattle.calculus.specs.declared.sort.Sort.{Sort}
 use Rattle.calculus.specs.declared.sort.Sort.TheVariants.{TermSort}
 use Rattle.store_theory.specs.Bindings.{places_from, with_cell, with_variables_of}
@@ -11,7 +13,6 @@ use Rattle.store_theory.specs.Stores.{Cell, Store, has_sort_at, sort_of, variabl
 use Rattle.store_theory.proofs.BindingLaws.{sorted_cell}
 use Rattle.store_theory.proofs.PatternLaws.{Grows-built, Grows-variables}
 use Rattle.calculus.specs.Equality.{sort_eq}
-use Rattle.calculus.proofs.PlaceLists.{all-at, get-end, get-within}
 use Rattle.term_store.specs.Fitting.{atom_fits_in, fits_in, label_fits_in, parts_fit_in}
 use Rattle.term_store.proofs.FitLaws.{have-new, literals-fit, placed-atoms}
 use Rattle.term_store.proofs.OwnLaws.{length-grown}

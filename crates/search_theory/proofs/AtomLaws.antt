@@ -4,6 +4,8 @@ use Rattle.std.proofs.Common.{◌≡◌, ◌⊎◌, ℕ, zero, suc, ◌<◌, Lis
 use Rattle.std.specs.List.{list_all, AllByRecursion}
 use Rattle.std.proofs.lemmas.Bool.{false≢true, and_parts}
 use Rattle.std.proofs.lemmas.List.{append-nil}
+use Rattle.plain_laws.proofs.Every.{each-append}
+use Rattle.search_theory.proofs.UnifyLaws.{term-same}
 use Rattle.calculus.specs.declared.sort.Sort.TheVariants.{TermSort, MarkSort, StringSort}
 use Rattle.calculus.specs.Ground.{GroundTerms, GroundMark, GroundLiteral, Values, no_g_terms, more_g_terms, g_spare_mark, no_values, more_values, term, steps, marks_tree, values_tree}
 use Rattle.store_theory.specs.Stores.{Cell, variable, fun_cell, eigen_cell, new_cell, string_cell, Store, sort_of, parts_of, parts_fit, has_sort_at, is_store, CellValue, a_term, a_mark, a_string, has_sort, Solution, terms_at, label_at, join_label, marks_at, values_at, cons_value, Solves}
@@ -74,10 +76,6 @@ pub label-append : (σ : Solution) (xs ys : List ℕ) → label_by σ (xs ++ ys)
 label-append σ [] ys = refl
 label-append σ (x ∷ xs) ys = ap (λ w. as_label (σ x) ++ w) (label-append σ xs ys) ∙ sym (append_assoc (as_label (σ x)) (label_by σ xs) (label_by σ ys))
 
-all-append : {A : Type 0} (Q : A → Type 0) (xs ys : List A) → AllByRecursion Q xs → AllByRecursion Q ys → AllByRecursion Q (xs ++ ys)
-all-append Q [] ys h k = k
-all-append Q (x ∷ xs) ys h k = (h.0, all-append Q xs ys h.1 k)
-
 marks-places : (In : ℕ → Type 0) (s : Store) (rs : List ℕ) → ((k : ℕ) → IsPart k rs → In k) → IsTrue (list_all (has_sort_at s MarkSort) rs) → AllByRecursion (IsPlace In s) rs
 marks-places In s [] h f = tt
 marks-places In s (r ∷ rs) h f = let p = and_parts (has_sort_at s MarkSort r) (list_all (has_sort_at s MarkSort) rs) f in ((h r (0, refl), inl p.0), marks-places In s rs (λ k q. h k (suc q.0, q.1)) p.1)
@@ -116,13 +114,13 @@ places-of In s rank bound h ranked parts (w ∷ ws) i k =
     join : PlacesOf In s ws → PlacesOf In s (w ∷ []) → PlacesOf In s (w ∷ ws)
     join rest first = record {
       places = first.places ++ rest.places;
-      each = all-append (IsPlace In s) first.places rest.places first.each rest.each;
+      each = each-append (IsPlace In s) first.places rest.places first.each rest.each;
       are_label = λ σ solves. label-append σ first.places rest.places ∙ ap₂ (λ a b. a ++ b) (first.are_label σ solves ∙ append-nil (as_label (σ w))) (rest.are_label σ solves);
     }
 
 -- ---- place by place
 
-mark-value : (v : CellValue) → IsTrue (has_sort MarkSort v) → (m : GroundMark) × (v ≡ a_mark m)
+pub mark-value : (v : CellValue) → IsTrue (has_sort MarkSort v) → (m : GroundMark) × (v ≡ a_mark m)
 mark-value (a_mark m) h = (m, refl)
 mark-value (a_term t) h = absurd (false≢true h)
 mark-value (a_string w) h = absurd (false≢true h)
@@ -180,13 +178,6 @@ labels-same In s rank bound σ number h ranked d τ t ws vs i j a b e =
     let m = places-of In s rank bound h ranked d.names ws i a in
     let n = places-of In s rank bound h ranked d.names vs j b in
     sym (m.are_label τ t) ∙ places-same In s rank bound σ τ number (record { store = h; ranked = ranked; distinct = d; other = t }) m.places n.places m.each n.each (m.are_label σ d.solves ∙ e ∙ sym (n.are_label σ d.solves)) ∙ n.are_label τ t
-
-term-same : (u v : CellValue) → IsTrue (has_sort TermSort u) → IsTrue (has_sort TermSort v) → as_term u ≡ as_term v → u ≡ v
-term-same (a_term x) (a_term y) f g z = ap a_term z
-term-same (a_term x) (a_mark y) f g z = absurd (false≢true g)
-term-same (a_term x) (a_string y) f g z = absurd (false≢true g)
-term-same (a_mark x) v f g z = absurd (false≢true f)
-term-same (a_string x) v f g z = absurd (false≢true f)
 
 pub args-same : (In : ℕ → Type 0) (s : Store) (rank : ℕ → ℕ) (bound : ℕ) (σ : Solution) (number : ℕ → ℕ) → IsTrue (is_store s) → IsRanked s rank bound → AreDistinct In s σ number → (τ : Solution) → Solves s τ → (rs ks : List ℕ) → ((k : ℕ) → IsPart k rs → In k) → ((k : ℕ) → IsPart k ks → In k) → IsTrue (list_all (has_sort_at s TermSort) rs) → IsTrue (list_all (has_sort_at s TermSort) ks) → terms_by σ rs ≡ terms_by σ ks → terms_by τ rs ≡ terms_by τ ks
 args-same In s rank bound σ number h ranked d τ t [] [] i j a b e = refl

@@ -3,6 +3,7 @@ use Rattle.std.proofs.Common.{◌≡◌, ◌⊎◌, ℕ, ◌+◌, ◌≤◌, Lis
 use Rattle.std.specs.List.{AllByRecursion}
 use Rattle.std.proofs.lemmas.Bool.{false≢true, and_parts}
 use Rattle.std.proofs.lemmas.List.{length-map}
+use Rattle.plain_laws.proofs.Places.{found-in-map, map-there}
 use Rattle.calculus.specs.declared.sign.Side.{Side}
 use Rattle.calculus.specs.Syntax.{Problem}
 use Rattle.calculus.specs.Ground.{GroundLiteral, Value}
@@ -14,7 +15,7 @@ use Rattle.store_theory.specs.Patterns.{PatternAtom, Template}
 use Rattle.store_theory.specs.Stores.{Solution, Solves, Store}
 use Rattle.store_theory.specs.Systems.{CellAtom}
 use Rattle.store_theory.specs.Templates.{IsTemplateOf, have_sorts, literals_by, pattern_literal}
-use Rattle.calculus.proofs.GrowthLaws.{is_complement-opposite}
+use Rattle.calculus.proofs.GrowthLaws.{is_complement-opposite, closed-new}
 use Rattle.search_theory.specs.Ahead.{IsHopeless, IsHopelessAt}
 use Rattle.search_theory.specs.Exploring.{BeginsWith, IsClosedList, IsIn}
 use Rattle.search_theory.specs.Jumps.{ChoicePoint, IsFruitless, StandsAtPoint}
@@ -28,12 +29,12 @@ use Rattle.search_theory.proofs.ExtensionLaws.{extension-of, last-at, state_at}
 use Rattle.search_theory.proofs.ImageLaws.{remove-map}
 use Rattle.search_theory.proofs.JumpLaws.{LeadsNowhere, nowhere-fruitless}
 use Rattle.search_theory.proofs.LastChoice.{grow_once}
-use Rattle.search_theory.proofs.LookAheadLaws.{HasReduction, IsMet, closing-beginning, found-in-map, full-met, full-path, like-image, nearly-open, opposite-met}
+use Rattle.search_theory.proofs.LookAheadLaws.{HasReduction, IsMet, closing-beginning, full-met, full-path, like-image, nearly-open, opposite-met}
 use Rattle.search_theory.specs.Closing.{IsCloseable}
-use Rattle.search_theory.proofs.MeetingLaws.{OppositeParts, literal-there}
+use Rattle.search_theory.proofs.MeetingLaws.{OppositeParts}
 use Rattle.search_theory.proofs.NextLaws.{grown_state}
 use Rattle.search_theory.proofs.RegularLaws.{any-there, each-at, not-all}
-use Rattle.search_theory.proofs.SolvedLaws.{closed-new, get-behind, later-closed}
+use Rattle.search_theory.proofs.SolvedLaws.{get-behind, later-closed}
 use Rattle.search_theory.proofs.StepLaws.{by-template, if-some}
 
 -- ---- what an extension gives
@@ -75,11 +76,11 @@ new-goal-at : (s : Store) (t : Template) (place number : ℕ) (g : CellGoal) (ev
 new-goal-at s t place number g every q y i at =
     let path = map (literal_by i.solution) (g.literal ∷ g.path) in
     let others = remove (literals_by i.values t) place in
-    let literal : slice_get others number ≡ Some (pattern_literal i.values q) = ap (λ xs. slice_get xs number) (remove-map (pattern_literal i.values) t.literals place) ∙ literal-there (pattern_literal i.values) (remove t.literals place) number q at in
+    let literal : slice_get others number ≡ Some (pattern_literal i.values q) = ap (λ xs. slice_get xs number) (remove-map (pattern_literal i.values) t.literals place) ∙ map-there (pattern_literal i.values) (remove t.literals place) number q at in
     ap (λ xs. slice_get xs (length every + number)) i.goals
     ∙ ap (λ n. slice_get (map (goal_at i.solution) every ++ goals_on path others) (n + number)) (sym (length-map every (goal_at i.solution)))
     ∙ get-behind (map (goal_at i.solution) every) (goals_on path others) number
-    ∙ literal-there (λ (z : GroundLiteral). record { literal = z; path = path }) others number (pattern_literal i.values q) literal
+    ∙ map-there (λ (z : GroundLiteral). record { literal = z; path = path }) others number (pattern_literal i.values q) literal
 
 -- ---- barren extensions
 
@@ -116,7 +117,7 @@ AlwaysSame s t place g q a = (σ : Solution) (vs : List Value) → IsExtensionBy
 repeated-old : (s : Store) (t : Template) (place k : ℕ) (g : CellGoal) (q : PatternAtom) (a : CellAtom) → slice_get (g.literal ∷ g.path) k ≡ Some a → AlwaysSame s t place g q a → (σ : Solution) (vs : List Value) → IsExtensionBy s t place g σ vs → ¬ IsTrue (is_new_on (map (literal_by σ) (g.literal ∷ g.path)) (pattern_literal vs q))
 repeated-old s t place k g q a on same σ vs e new =
     let path = map (literal_by σ) (g.literal ∷ g.path) in
-    let stands = any-there (pattern_literal vs q) path k (literal_by σ a) (literal-there (literal_by σ) (g.literal ∷ g.path) k a on) (same σ vs e) in
+    let stands = any-there (pattern_literal vs q) path k (literal_by σ a) (map-there (literal_by σ) (g.literal ∷ g.path) k a on) (same σ vs e) in
     false≢true (sym (ap not stands) ∙ new)
 
 pub repeated-barren : (P : Problem) (d : ℕ) (s : Store) (t : Template) (place number k : ℕ) (g : CellGoal) (q : PatternAtom) (a : CellAtom) → slice_get (remove t.literals place) number ≡ Some q → slice_get (g.literal ∷ g.path) k ≡ Some a → AlwaysSame s t place g q a → IsBarren P d s t place g

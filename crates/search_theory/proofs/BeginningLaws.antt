@@ -2,6 +2,8 @@
 use Rattle.std.proofs.Common.{◌≡◌, ℕ, ◌+◌, List, [], ◌∷◌, ◌++◌, ◌&&◌, IsTrue, refl, sym, ◌∙◌, ap, ap₂, subst, Option, Some, None, option_and_then, nat_lt}
 use Rattle.std.specs.List.{list_all}
 use Rattle.std.proofs.lemmas.Bool.{false≢true, and_parts}
+use Rattle.plain_laws.proofs.Every.{all-parts}
+use Rattle.plain_laws.proofs.Options.{same-some, then-some}
 use Rattle.calculus.specs.Syntax.{Problem}
 use Rattle.calculus.specs.Tableaux.{is_new_on}
 use Rattle.calculus.specs.Choices.{start, reduction, extension, Choice, GroundChoice, choices_of, ground_choices, Goal, Growth, after_start, grow_at, grow, growth_of, is_within, is_regular, has_depth}
@@ -9,9 +11,7 @@ use Rattle.calculus.proofs.GrowthLaws.{closed_growth, grown-closed, within-close
 use Rattle.search_theory.specs.States.{State, IsStateOf, growth_at}
 use Rattle.search_theory.specs.Regular.{HasSamePair}
 use Rattle.search_theory.specs.Exploring.{BeginsWith, IsClosedList, IsLeftList}
-use Rattle.search_theory.proofs.LastChoice.{none≢some, tail_of, head_of}
-use Rattle.search_theory.proofs.StepLaws.{same-some}
-use Rattle.search_theory.proofs.BelowLaws.{all-split}
+use Rattle.search_theory.proofs.LastChoice.{tail_of, head_of}
 use Rattle.search_theory.proofs.ClosedLaws.{Keeps, keeps-all}
 use Rattle.search_theory.proofs.RegularLaws.{irregular-same}
 use Rattle.search_theory.specs.DeadEnds.{IsDead, irregular, is_not_empty, refused}
@@ -59,10 +59,6 @@ pub record Beginning (P : Problem) (p : List Choice) (x : Growth) : Type 0 where
   pub grows : growth_of P choices ≡ Some growth
   pub keeps : Keeps growth x
 
-then-some : {A : Type 0} (f : A → Option A) (o : Option A) (y : A) → option_and_then f o ≡ Some y → (x : A) × (o ≡ Some x) × (f x ≡ Some y)
-then-some f None y e = none≢some y e
-then-some f (Some x) y e = (x, refl, e)
-
 pub beginning : (P : Problem) (gs : List GroundChoice) (x : Growth) (p more : List Choice) → IsTrue (is_not_empty p) → growth_of P gs ≡ Some x → choices_of gs ≡ p ++ more → Beginning P p x
 beginning P gs x p more n g e =
     let s = split-at gs p more e in
@@ -76,10 +72,10 @@ beginning P gs x p more n g e =
 
 -- what is kept is regular and within the limit
 pub regular-kept : (x y : Growth) → Keeps x y → IsTrue (is_regular y) → IsTrue (is_regular x)
-regular-kept x y k r = (all-split (λ (g : Goal). is_new_on g.path g.literal) x.all_goals k.more_goals (subst (λ gs. IsTrue (list_all (λ (g : Goal). is_new_on g.path g.literal) gs)) k.goals r)).0
+regular-kept x y k r = (all-parts (λ (g : Goal). is_new_on g.path g.literal) x.all_goals k.more_goals (subst (λ gs. IsTrue (list_all (λ (g : Goal). is_new_on g.path g.literal) gs)) k.goals r)).0
 
 pub within-kept : (d : ℕ) (x y : Growth) → Keeps x y → IsTrue (is_within d y) → IsTrue (is_within d x)
-within-kept d x y k w = (all-split (λ n. nat_lt n d) x.depths k.more_depths (subst (λ ns. IsTrue (list_all (λ n. nat_lt n d) ns)) k.depths w)).0
+within-kept d x y k w = (all-parts (λ n. nat_lt n d) x.depths k.more_depths (subst (λ ns. IsTrue (list_all (λ n. nat_lt n d) ns)) k.depths w)).0
 
 -- a beginning of the list of a closed tableau: live, and by a regular tree
 pub record ClosedBeginning (P : Problem) (d : ℕ) (p : List Choice) : Type 0 where

@@ -1,22 +1,12 @@
 -- What names cells of a store names cells of each longer one.
-use Rattle.std.proofs.Common.{ℕ, ◌≤◌, ◌<◌, List, [], ◌∷◌, ◌++◌, take, drop, remove, zero, suc, Bool, ◌&&◌, IsTrue, refl, sym, ◌∙◌, nat_lt, ltb-true, lt-ltb, arith}
+use Rattle.std.proofs.Common.{ℕ, ◌≤◌, ◌<◌, List, [], ◌∷◌, take, drop, remove, suc, Bool, ◌&&◌, IsTrue, refl, nat_lt, ltb-true, lt-ltb, arith}
 use Rattle.std.specs.List.{list_all}
 use Rattle.std.proofs.lemmas.Bool.{and_parts, and_from}
-use Rattle.std.proofs.lemmas.List.Folds.{list_all-append}
+use Rattle.plain_laws.proofs.Every.{all-drop, all-append, all-take, all-weaken}
 use Rattle.calculus.specs.Choices.{start, reduction, extension}
 use Rattle.store_theory.specs.Stores.{names_below}
 use Rattle.store_theory.specs.Systems.{CellAtom}
 use Rattle.search_theory.specs.States.{CellClause, CellChoice, CellGoal, atom_is_below, clause_is_below, choice_is_below, goal_is_below, cell_goals_on}
-
-pub all-weaken : {A : Type 0} (p q : A → Bool) → ((x : A) → IsTrue (p x) → IsTrue (q x)) → (xs : List A) → IsTrue (list_all p xs) → IsTrue (list_all q xs)
-all-weaken p q k [] h = refl
-all-weaken p q k (x ∷ xs) h = let a = and_parts (p x) (list_all p xs) h in and_from (q x) (list_all q xs) (k x a.0) (all-weaken p q k xs a.1)
-
-pub all-join : {A : Type 0} (p : A → Bool) (xs ys : List A) → IsTrue (list_all p xs) → IsTrue (list_all p ys) → IsTrue (list_all p (xs ++ ys))
-all-join p xs ys h g = list_all-append p xs ys ∙ and_from (list_all p xs) (list_all p ys) h g
-
-pub all-split : {A : Type 0} (p : A → Bool) (xs ys : List A) → IsTrue (list_all p (xs ++ ys)) → IsTrue (list_all p xs) × IsTrue (list_all p ys)
-all-split p xs ys h = and_parts (list_all p xs) (list_all p ys) (sym (list_all-append p xs ys) ∙ h)
 
 cell-more : (n m : ℕ) → n ≤ m → (r : ℕ) → IsTrue (nat_lt r n) → IsTrue (nat_lt r m)
 cell-more n m l r h = let e : r < n = ltb-true r n h in lt-ltb r m (omega (arith, e, l))
@@ -43,18 +33,8 @@ goal-more n m l g h =
 pub goals-more : (n m : ℕ) → n ≤ m → (gs : List CellGoal) → IsTrue (list_all (goal_is_below n) gs) → IsTrue (list_all (goal_is_below m) gs)
 goals-more n m l = all-weaken (goal_is_below n) (goal_is_below m) (goal-more n m l)
 
-all-take : {A : Type 0} (p : A → Bool) (k : ℕ) (xs : List A) → IsTrue (list_all p xs) → IsTrue (list_all p (take k xs))
-all-take p zero xs h = refl
-all-take p (suc k) [] h = refl
-all-take p (suc k) (x ∷ xs) h = let g = and_parts (p x) (list_all p xs) h in and_from (p x) (list_all p (take k xs)) g.0 (all-take p k xs g.1)
-
-all-drop : {A : Type 0} (p : A → Bool) (k : ℕ) (xs : List A) → IsTrue (list_all p xs) → IsTrue (list_all p (drop k xs))
-all-drop p zero xs h = h
-all-drop p (suc k) [] h = refl
-all-drop p (suc k) (x ∷ xs) h = all-drop p k xs (and_parts (p x) (list_all p xs) h).1
-
 pub all-remove : {A : Type 0} (p : A → Bool) (xs : List A) (k : ℕ) → IsTrue (list_all p xs) → IsTrue (list_all p (remove xs k))
-all-remove p xs k h = all-join p (take k xs) (drop (suc k) xs) (all-take p k xs h) (all-drop p (suc k) xs h)
+all-remove p xs k h = all-append p (take k xs) (drop (suc k) xs) (all-take p k xs h) (all-drop p (suc k) xs h)
 
 pub goals-below : (n : ℕ) (path xs : List CellAtom) → IsTrue (list_all (atom_is_below n) path) → IsTrue (list_all (atom_is_below n) xs) → IsTrue (list_all (goal_is_below n) (cell_goals_on path xs))
 goals-below n path [] h g = refl

@@ -3,6 +3,10 @@ use Rattle.std.proofs.Common.{◌≡◌, ◌⊎◌, ℕ, zero, suc, ◌+◌, ◌
 use Rattle.std.specs.List.{list_all}
 use Rattle.std.proofs.lemmas.Bool.{false≢true, cases_Bool, and_parts, and_from}
 use Rattle.std.proofs.lemmas.Option.{slice_get_within, slice_get-map}
+use Rattle.plain_laws.proofs.Every.{all-at, all-weaken}
+use Rattle.plain_laws.proofs.Places.{get-front, get-end}
+use Rattle.store_theory.proofs.BindingLaws.{within-value}
+use Rattle.store_theory.proofs.PatternLaws.{length-variables}
 use Rattle.calculus.specs.declared.sign.Side.{Side}
 use Rattle.calculus.specs.declared.sort.Sort.{Sort}
 use Rattle.calculus.specs.declared.sort.Sort.TheVariants.{TermSort, MarkSort, StringSort}
@@ -15,8 +19,7 @@ use Rattle.store_theory.specs.Templates.{as_term, as_value, as_label, cell_value
 use Rattle.store_theory.specs.Bindings.{with_cell, is_variable, with_variables_of, places_from, AddsBuilt, nothing_more, one_more}
 use Rattle.search_theory.specs.States.{CellClause, clause_is_below, terms_by, label_by, values_by, literal_by, Agree}
 use Rattle.search_theory.specs.Steps.{IsFreshClause, IsRestCopy}
-use Rattle.search_theory.proofs.BelowLaws.{all-weaken}
-use Rattle.search_theory.proofs.SpareLaws.{own_cell, cell-fits, cell-sorted, all-at, terms-there, values-there, marks-there, cell-alike, sort-same, or-both}
+use Rattle.search_theory.proofs.SpareLaws.{own_cell, cell-fits, cell-sorted, terms-there, values-there, marks-there, cell-alike, sort-same, or-both}
 use Rattle.search_theory.specs.CellsIn.{IsPart}
 use Rattle.search_theory.proofs.GeneralLaws.{term-parts}
 use Rattle.search_theory.proofs.ImageLaws.{values-agree}
@@ -60,22 +63,6 @@ get-more [] y (suc r) x e = cc e
 get-more (z ∷ xs) y zero x e = inl e
 get-more (z ∷ xs) y (suc r) x e = elim (get-more xs y r x e) [ inl k ↦ inl k | inr k ↦ inr (ap suc k.0, k.1) ]
 
-pub get-kept : {A : Type 0} (xs ys : List A) (r : ℕ) (x : A) → slice_get xs r ≡ Some x → slice_get (xs ++ ys) r ≡ Some x
-get-kept [] ys r x e = cc e
-get-kept (z ∷ xs) ys zero x e = e
-get-kept (z ∷ xs) ys (suc r) x e = get-kept xs ys r x e
-
-pub get-last : {A : Type 0} (xs : List A) (y : A) → slice_get (xs ++ y ∷ []) (length xs) ≡ Some y
-get-last [] y = refl
-get-last (x ∷ xs) y = get-last xs y
-
-valued-below : (s : Store) (k : ℕ) → IsTrue (has_value_sort_at s k) → k < length s.cells
-valued-below s k q = either (has_sort_at s TermSort k) (has_sort_at s StringSort k) (λ h. let t = cell-sorted s TermSort k h in slice_get_within s.cells k t.0 t.1) (λ h. let t = cell-sorted s StringSort k h in slice_get_within s.cells k t.0 t.1) q
-  where
-    either : {A : Type 0} (a b : Bool) → (IsTrue a → A) → (IsTrue b → A) → IsTrue (a || b) → A
-    either true b f g x = f refl
-    either false b f g x = g x
-
 -- a cell holds by values that agree on it and on its parts
 terms-moved : (σ τ : Solution) (rs : List ℕ) → ((k : ℕ) → IsPart k rs → σ k ≡ τ k) → terms_at σ rs ≡ terms_at τ rs
 terms-moved σ τ [] h = refl
@@ -110,8 +97,8 @@ fits-below s (variable sort None) f k p = let z = p.1 in cc z
 fits-below s (variable sort (Some j)) f k (zero, e) = let q : j ≡ k = cc e in let t = cell-sorted s sort j f in let l = slice_get_within s.cells j t.0 t.1 in omega (arith, l, q)
 fits-below s (variable sort (Some j)) f k (suc i, e) = cc e
 fits-below s (fun_cell g rs) f k p = let t = cell-sorted s TermSort k (all-at (has_sort_at s TermSort) rs p.0 k f p.1) in slice_get_within s.cells k t.0 t.1
-fits-below s (eigen_cell x rs) f k p = valued-below s k (all-at (has_value_sort_at s) rs p.0 k f p.1)
-fits-below s (new_cell x rs) f k p = valued-below s k (all-at (has_value_sort_at s) rs p.0 k f p.1)
+fits-below s (eigen_cell x rs) f k p = within-value s k (all-at (has_value_sort_at s) rs p.0 k f p.1)
+fits-below s (new_cell x rs) f k p = within-value s k (all-at (has_value_sort_at s) rs p.0 k f p.1)
 fits-below s (string_cell rs) f k p = let t = cell-sorted s MarkSort k (all-at (has_sort_at s MarkSort) rs p.0 k f p.1) in slice_get_within s.cells k t.0 t.1
 
 -- the old cells hold by a solution with one value more
@@ -146,7 +133,7 @@ built-added s h c f b σ k r d e =
 
 -- fewer cells are solved by what solves more
 pub fewer-solved : (s : Store) (c : Cell) (σ : Solution) → Solves (with_cell c s) σ → Solves s σ
-fewer-solved s c σ h r d e = h r d (get-kept s.cells (c ∷ []) r d e)
+fewer-solved s c σ h r d e = h r d (get-front s.cells (c ∷ []) r d e)
 
 -- ---- built cells, one by one
 
@@ -199,10 +186,6 @@ places-below : (n m : ℕ) (sorts : List Sort) → n + length sorts ≤ m → Is
 places-below n m [] l = refl
 places-below n m (sort ∷ sorts) l = and_from (nat_lt n m) (names_below m (places_from (suc n) (length sorts))) (lt-ltb n m (omega (arith, l))) (places-below (suc n) m sorts (omega (arith, l)))
 
-pub length-variables : (sorts : List Sort) (s : Store) → length (with_variables_of sorts s).cells ≡ length s.cells + length sorts
-length-variables [] s = omega arith
-length-variables (sort ∷ sorts) s = let k = length-variables sorts (with_cell (variable sort None) s) in let e = length-plus (variable sort None) s in omega (arith, k, e)
-
 -- values of the sorts for the new variables
 variables-forth : (sorts : List Sort) (s : Store) (n : ℕ) → n ≡ length s.cells → AreStores sorts s → (σ : Solution) → Solves s σ → (vs : List Value) → IsTrue (have_sorts sorts vs) → (τ : Solution) × Solves (with_variables_of sorts s) τ × Agree (length s.cells) σ τ × (values_by τ (places_from n (length sorts)) ≡ vs)
 variables-forth [] s n e h σ k [] t = (σ, k, (λ r l. refl), refl)
@@ -252,14 +235,14 @@ AreValueCells σ rs = IsTrue (list_all (λ r. is_value_cell (σ r)) rs)
 -- the variable in front stands in the store
 pub variables-front : (sorts : List Sort) (s : Store) (r : ℕ) (c : Cell) → slice_get s.cells r ≡ Some c → slice_get (with_variables_of sorts s).cells r ≡ Some c
 variables-front [] s r c e = e
-variables-front (sort ∷ sorts) s r c e = variables-front sorts (with_cell (variable sort None) s) r c (get-kept s.cells (variable sort None ∷ []) r c e)
+variables-front (sort ∷ sorts) s r c e = variables-front sorts (with_cell (variable sort None) s) r c (get-front s.cells (variable sort None ∷ []) r c e)
 
 pub variables-sorted : (sorts : List Sort) (s : Store) (n : ℕ) → n ≡ length s.cells → IsTrue (list_all is_variable_sort sorts) → (σ : Solution) → Solves (with_variables_of sorts s) σ → IsTrue (have_sorts sorts (values_by σ (places_from n (length sorts)))) × AreValueCells σ (places_from n (length sorts))
 variables-sorted [] s n e k σ h = (refl, refl)
 variables-sorted (sort ∷ sorts) s n e k σ h =
     let p = and_parts (is_variable_sort sort) (list_all is_variable_sort sorts) k in
     let c = variable sort None in
-    let at : slice_get (with_cell c s).cells n ≡ Some c = ap (slice_get (with_cell c s).cells) e ∙ get-last s.cells c in
+    let at : slice_get (with_cell c s).cells n ≡ Some c = ap (slice_get (with_cell c s).cells) e ∙ get-end s.cells c in
     let here = h n c (variables-front sorts (with_cell c s) n c at) in
     let v = sorted-value sort (σ n) p.0 here in
     let long = length-plus c s in

@@ -5,8 +5,9 @@ use Rattle.std.specs.List.{AllByRecursion}
 use Rattle.std.proofs.lemmas.Bool.{false≢true, and_from}
 use Rattle.std.proofs.lemmas.List.{map-append}
 use Rattle.std.specs.Ordering.{nat_cmp, ordering_then}
-use Rattle.std.specs.Cmp.{tied_itself, nat_cmp_is}
+use Rattle.std.specs.Cmp.{tied_itself}
 use Rattle.std.specs.declared.cmp.Ordering.TheVariants.{Less}
+use Rattle.plain_laws.proofs.Numbers.{cmp-less}
 use Rattle.calculus.specs.declared.sign.Sign.{Sign}
 use Rattle.calculus.specs.declared.sign.Sign.TheVariants.{T, F}
 use Rattle.calculus.specs.declared.sign.Side.{Side}
@@ -144,20 +145,17 @@ all-both : (Q : Choice → Type 0) (xs ys : List Choice) → AllByRecursion Q xs
 all-both Q [] ys h g = g
 all-both Q (x ∷ xs) ys h g = (h.0, all-both Q xs ys h.1 g)
 
-less-number : (x y : ℕ) → x < y → nat_cmp x y ≡ Less
-less-number x y l = sym (nat_cmp_is x y Less l)
-
 -- reductions by later ancestors come later
 later-reductions : (k n : ℕ) (g : CellAtom) (path : List CellAtom) → k < n → AllLess (reduction k) (reductions_from n g path)
 later-reductions k n g [] l = tt
-later-reductions k n g (a ∷ path) l = all-if (λ y. choice_cmp (reduction k) y ≡ Less) (meets g a) (reduction n) (reductions_from (suc n) g path) (less-number k n l) (later-reductions k (suc n) g path (omega (arith, l)))
+later-reductions k n g (a ∷ path) l = all-if (λ y. choice_cmp (reduction k) y ≡ Less) (meets g a) (reduction n) (reductions_from (suc n) g path) (cmp-less k n l) (later-reductions k (suc n) g path (omega (arith, l)))
 
 reductions-rise : (n : ℕ) (g : CellAtom) (path : List CellAtom) → IsRising choice_cmp (reductions_from n g path)
 reductions-rise n g [] = tt
 reductions-rise n g (a ∷ path) = rise-if (meets g a) (reduction n) (reductions_from (suc n) g path) (reductions-rise (suc n) g path) (later-reductions n (suc n) g path (omega arith))
 
 same-clause : (sides : List Side) (i j : ℕ) → i < j → choice_cmp (extension sides i) (extension sides j) ≡ Less
-same-clause sides i j l = ap (λ o. ordering_then o (nat_cmp i j)) (tied_itself selection_cmp_total sides) ∙ less-number i j l
+same-clause sides i j l = ap (λ o. ordering_then o (nat_cmp i j)) (tied_itself selection_cmp_total sides) ∙ cmp-less i j l
 
 later-literals : (symbol : ℕ) (sign : Sign) (sides : List Side) (i n : ℕ) (xs : List PatternAtom) → i < n → AllLess (extension sides i) (extensions_among symbol sign sides n xs)
 later-literals symbol sign sides i n [] l = tt

@@ -3,6 +3,7 @@ use Rattle.std.proofs.Common.{◌≡◌, ℕ, zero, suc, ◌+◌, ◌<◌, List,
 use Rattle.std.specs.List.{list_all}
 use Rattle.std.specs.Option.{option_map_or}
 use Rattle.std.proofs.lemmas.Bool.{false≢true, and_parts, and_from}
+use Rattle.plain_laws.proofs.Every.{all-append}
 use Rattle.calculus.specs.declared.sign.Sign.{Sign}
 use Rattle.calculus.specs.declared.sign.Sign.TheVariants.{F}
 use Rattle.calculus.specs.declared.sign.Side.{Side}
@@ -27,7 +28,6 @@ use Rattle.store_theory.specs.Patterns.{Pattern, Patterns, p_var, p_fun, p_eigen
 use Rattle.store_theory.specs.Templates.{as_term, as_value, value_of_variable, pattern_value, pattern_terms, pattern_values, pattern_literal, literals_by, have_sorts, is_step_value, is_choice_of_values}
 use Rattle.search_theory.specs.TemplateOf.{PatternSpot, root_pattern_spot, PatternPart, PatternBody, pattern_of, patterns_of, pattern_down, pattern_inside, of_sort, pattern_turn, pattern_atom, joined_patterns, pattern_alpha, pattern_beta, pattern_one, pattern_two, with_pattern_gamma, pattern_quantifier, pattern_part, template_by, if_sides_used, template_of}
 use Rattle.search_theory.specs.Regular.{number_of_patterns, spares_for, is_classical_pattern, are_classical_patterns, is_term_sort, IsClassicalTemplate}
-use Rattle.search_theory.proofs.BelowLaws.{all-join}
 use Rattle.search_theory.proofs.ClassicalLaws.{way-alike}
 use Rattle.search_theory.proofs.TemplateLaws.{template_of-right}
 
@@ -100,7 +100,7 @@ plain-joined : (x y : PatternPart) → IsTrue (is_plain_part x) → IsTrue (is_p
 plain-joined x y h g =
     let p = and_parts (list_all is_plain_atom x.literals) (list_all is_term_sort x.sorts) h in
     let q = and_parts (list_all is_plain_atom y.literals) (list_all is_term_sort y.sorts) g in
-    and_from (list_all is_plain_atom (x.literals ++ y.literals)) (list_all is_term_sort (x.sorts ++ y.sorts)) (all-join is_plain_atom x.literals y.literals p.0 q.0) (all-join is_term_sort x.sorts y.sorts p.1 q.1)
+    and_from (list_all is_plain_atom (x.literals ++ y.literals)) (list_all is_term_sort (x.sorts ++ y.sorts)) (all-append is_plain_atom x.literals y.literals p.0 q.0) (all-append is_term_sort x.sorts y.sorts p.1 q.1)
 
 beta-plain : (second : List Side → ℕ → Option PatternPart) (n : ℕ) → ((ss : List Side) (m : ℕ) → IsPlainAt (second ss m)) → (o : Option PatternPart) → IsPlainAt o → IsPlainAt (option_and_then (λ (x : PatternPart). option_map (joined_patterns x) (second x.sides (n + length x.sorts))) o)
 beta-plain second n k None h = tt
@@ -124,7 +124,7 @@ quantifier-plain Gamma body d k c ss n label env taken e =
     let inner = pattern_inside (p_var n) ps c in
     plain-map (of_sort TermSort) (λ y q. q) (pattern_turn c.position ps (option_map (with_pattern_gamma (p_var n) c.label) (body inner ss (suc n))))
     (plain-map _ (λ y q. q) (option_map (with_pattern_gamma (p_var n) c.label) (body inner ss (suc n)))
-    (plain-map (with_pattern_gamma (p_var n) c.label) (λ y q. q) (body inner ss (suc n)) (k inner ss (suc n) label env (all-join no_new c.taken (p_var n ∷ []) taken refl) (ap suc e))))
+    (plain-map (with_pattern_gamma (p_var n) c.label) (λ y q. q) (body inner ss (suc n)) (k inner ss (suc n) label env (all-append no_new c.taken (p_var n ∷ []) taken refl) (ap suc e))))
 quantifier-plain Delta body d k c ss n label env taken e =
     let inner = pattern_inside (p_eigen c.position (patterns_tree c.taken)) c.taken c in
     plain-map _ (λ y q. q) (body inner ss n) (k inner ss n label (and_from (none_new (patterns_tree c.taken)) (list_all no_new c.env) (tree-no_new c.taken taken) env) taken (ap suc e))

@@ -1,8 +1,10 @@
 -- A regular tree without open goals whose connections have agreeing labels is a closed tableau.
-use Rattle.std.proofs.Common.{◌≡◌, ℕ, List, [], ◌∷◌, ◌++◌, length, remove, true, false, ◌&&◌, IsTrue, refl, sym, ◌∙◌, ap, subst, Option, Some, None, option_and_then, slice_get, nat_lt, append_assoc, append-nil, take, drop, zero, suc, arith, ap₂, if◌then◌else◌}
+use Rattle.std.proofs.Common.{◌≡◌, ℕ, List, [], ◌∷◌, ◌++◌, length, remove, true, false, ◌&&◌, IsTrue, refl, sym, ◌∙◌, ap, subst, Option, Some, slice_get, nat_lt, append_assoc, append-nil, take, drop, zero, suc, arith, ap₂, if◌then◌else◌}
 use Rattle.std.specs.List.{list_all}
 use Rattle.std.specs.Option.{option_map_or}
 use Rattle.std.proofs.lemmas.Bool.{false≢true, and_parts, and_from}
+use Rattle.plain_laws.proofs.Every.{all-parts}
+use Rattle.plain_laws.proofs.Options.{then-some}
 use Rattle.calculus.specs.Syntax.{Problem}
 use Rattle.calculus.specs.Ground.{GroundLiteral}
 use Rattle.calculus.specs.Instances.{ClauseInstance}
@@ -16,7 +18,6 @@ use Rattle.calculus.specs.Lists.{closings_tree}
 use Rattle.search_theory.specs.Joined.{joins_all, are_joined, closings_by, IsTableauBy, are_short}
 use Rattle.search_theory.proofs.LastChoice.{none≢some}
 use Rattle.search_theory.proofs.StepLaws.{if-some}
-use Rattle.search_theory.proofs.BelowLaws.{all-split}
 
 -- ---- what grows keeps its goals and depths
 
@@ -50,10 +51,6 @@ keeps-once P (extension i place) [] x y e = none≢some y e
 keeps-once P (extension i place) (g ∷ gs) x y e =
     let q = if-some (is_instance P i && is_opposite g.literal (slice_get i.literals place)) _ y e in
     subst (Keeps x) q.1 (record { more_goals = goals_on (g.literal ∷ g.path) (remove i.literals place); goals = refl; more_depths = length g.path ∷ []; depths = refl })
-
-then-some : {A : Type 0} (f : A → Option A) (o : Option A) (y : A) → option_and_then f o ≡ Some y → (x : A) × (o ≡ Some x) × (f x ≡ Some y)
-then-some f None y e = none≢some y e
-then-some f (Some x) y e = (x, refl, e)
 
 pub keeps-all : (P : Problem) (cs : List GroundChoice) (x y : Growth) → grow P cs x ≡ Some y → Keeps x y
 keeps-all P [] x y e = let q : x ≡ y = cc e in subst (Keeps x) q (keeps-nothing x)
@@ -164,8 +161,8 @@ parse P d (extension i place ∷ cs) (g ∷ gs) every ds y e o j r w n =
     let next = joined-next P cs (grow_at P (extension i place) (g ∷ gs) here) z first js.1 in
     let grown = ap (grow P cs) same ∙ rest in
     let k = keeps-all P cs (grown_at (new ++ gs) (every ++ new) (ds ++ length g.path ∷ [])) y grown in
-    let goals_new = (all-split is_new_goal every new (all-split is_new_goal (every ++ new) k.more_goals (subst (λ xs. IsTrue (list_all is_new_goal xs)) k.goals r)).0).1 in
-    let near = (and_parts (nat_lt (length g.path) d) true (all-split (is_below d) ds (length g.path ∷ []) (all-split (is_below d) (ds ++ length g.path ∷ []) k.more_depths (subst (λ xs. IsTrue (list_all (is_below d) xs)) k.depths w)).0).1).0 in
+    let goals_new = (all-parts is_new_goal every new (all-parts is_new_goal (every ++ new) k.more_goals (subst (λ xs. IsTrue (list_all is_new_goal xs)) k.goals r)).0).1 in
+    let near = (and_parts (nat_lt (length g.path) d) true (all-parts (is_below d) ds (length g.path ∷ []) (all-parts (is_below d) (ds ++ length g.path ∷ []) k.more_depths (subst (λ xs. IsTrue (list_all (is_below d) xs)) k.depths w)).0).1).0 in
     let p = parse P d cs (new ++ gs) (every ++ new) (ds ++ length g.path ∷ []) y grown o (subst (λ x. IsTrue (joins_all P cs x)) (sym same) next) r w (both new gs goals_new ns.1) in
     let s = split P d new gs p.closings p.closed in
     let tree = closings_tree s.first in
@@ -205,7 +202,7 @@ closed-by_short_growth P d (start i ∷ cs) x b e o j r w =
     let next = joined-next P cs (after_start P i) z first js.1 in
     let grown = ap (grow P cs) q.1 ∙ rest in
     let k = keeps-all P cs (grown_at goals goals []) x grown in
-    let goals_new = (all-split is_new_goal goals k.more_goals (subst (λ xs. IsTrue (list_all is_new_goal xs)) k.goals r)).0 in
+    let goals_new = (all-parts is_new_goal goals k.more_goals (subst (λ xs. IsTrue (list_all is_new_goal xs)) k.goals r)).0 in
     let p = parse P d cs goals goals [] x grown o (subst (λ y. IsTrue (joins_all P cs y)) (sym q.1) next) r w goals_new in
     let t : Tableau = record { start = i; goals = closings_tree p.closings } in
     record {

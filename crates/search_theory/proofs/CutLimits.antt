@@ -3,6 +3,7 @@
 use Rattle.std.proofs.Common.{◌≡◌, ◌⊎◌, ℕ, suc, ◌+◌, ◌<◌, ◌≤◌, List, [], ◌∷◌, ◌++◌, length, map, Bool, true, false, ◌&&◌, IsTrue, refl, sym, ◌∙◌, ap, subst, Option, Some, None, option_and_then, slice_get, nat_lt, IsSomeAnd, arith, append_assoc, append-nil, inl, inr, ltb-true, lt-ltb, zero, replicate}
 use Rattle.std.specs.List.{AllByRecursion, list_all}
 use Rattle.std.proofs.lemmas.Bool.{and_from, and_parts, cases_lt}
+use Rattle.plain_laws.proofs.Every.{all-weaken}
 use Rattle.calculus.specs.declared.sign.Side.{Side}
 use Rattle.calculus.specs.Syntax.{Problem}
 use Rattle.calculus.specs.ComputedInstances.{is_instance}
@@ -20,7 +21,6 @@ use Rattle.search_theory.specs.Matrix.{MatrixClause, IsTemplateMatrix}
 use Rattle.search_theory.specs.OrderedChoices.{choices_at}
 use Rattle.search_theory.specs.States.{CellChoice, CellGoal, State, IsGround, IsStateOf, choice_at, growth_at}
 use Rattle.search_theory.specs.DeadEnds.{IsDead, is_not_empty}
-use Rattle.search_theory.proofs.BelowLaws.{all-weaken}
 use Rattle.search_theory.proofs.ChoiceLaws.{choices-complete}
 use Rattle.search_theory.proofs.CutEnds.{fails-whole}
 use Rattle.search_theory.proofs.DepthLaws.{cell_path_lengths, path_lengths, start-depths, state-depths, step-depths}

@@ -2,9 +2,10 @@
 use Rattle.std.proofs.Common.{◌≡◌, ◌⊎◌, ℕ, zero, suc, ◌+◌, ◌<◌, ◌≤◌, List, [], ◌∷◌, ◌++◌, ◌&&◌, IsTrue, refl, sym, ap, subst, Option, Some, None, slice_get, nat_lt, inl, inr, arith, IsSomeAnd, ltb-true, lt-ltb}
 use Rattle.std.specs.List.{list_all, AllByRecursion}
 use Rattle.std.proofs.lemmas.Bool.{cases_lt, and_parts}
-use Rattle.std.specs.Ordering.{nat_cmp, ordering_then}
-use Rattle.std.specs.Cmp.{nat_cmp_is}
+use Rattle.std.specs.Ordering.{ordering_then}
 use Rattle.std.specs.declared.cmp.Ordering.TheVariants.{Less, Greater}
+use Rattle.plain_laws.proofs.Every.{all-weaken}
+use Rattle.plain_laws.proofs.Numbers.{cmp-less}
 use Rattle.calculus.specs.declared.sign.Side.{Side}
 use Rattle.calculus.specs.Syntax.{Problem}
 use Rattle.calculus.specs.Instances.{ClauseInstance}
@@ -17,7 +18,6 @@ use Rattle.calculus.proofs.GrowthLaws.{closed-parts, allowed-instance}
 use Rattle.calculus.proofs.LimitLaws.{none-beyond}
 use Rattle.search_theory.specs.States.{State, IsStateOf}
 use Rattle.search_theory.specs.Exploring.{BeginsWithOne, Covers, PartInOrder, IsLeftList, Explores, behind, IsIn}
-use Rattle.search_theory.proofs.BelowLaws.{all-weaken}
 use Rattle.search_theory.proofs.LastChoice.{none≢some}
 use Rattle.search_theory.proofs.StepLaws.{if-some}
 use Rattle.search_theory.proofs.ExploreLaws.{parted-siblings, parted-rising, begins-behind}
@@ -137,29 +137,18 @@ answer-exhausted P m l h = (refl, h.none m l (omega arith), h.left)
 
 -- ---- the count over the limits
 
-less-number : (x y : ℕ) → x < y → nat_cmp x y ≡ Less
-less-number x y l = sym (nat_cmp_is x y Less l)
-
 -- members of a lower limit come first
 pub lower-less : (m n : Member) → limit_of m < limit_of n → member_cmp m n ≡ Less
-lower-less (with_choices a c) (with_choices e b) l = ap (λ o. ordering_then o (choices_cmp c b)) (less-number a e l)
-lower-less (with_choices a c) (with_lengths e b ns) l = ap (λ o. ordering_then o (ordering_then (choices_cmp c b) Less)) (less-number a e l)
-lower-less (with_lengths a c ms) (with_choices e b) l = ap (λ o. ordering_then o (ordering_then (choices_cmp c b) Greater)) (less-number a e l)
-lower-less (with_lengths a c ms) (with_lengths e b ns) l = ap (λ o. ordering_then o (ordering_then (choices_cmp c b) (lengths_cmp ms ns))) (less-number a e l)
+lower-less (with_choices a c) (with_choices e b) l = ap (λ o. ordering_then o (choices_cmp c b)) (cmp-less a e l)
+lower-less (with_choices a c) (with_lengths e b ns) l = ap (λ o. ordering_then o (ordering_then (choices_cmp c b) Less)) (cmp-less a e l)
+lower-less (with_lengths a c ms) (with_choices e b) l = ap (λ o. ordering_then o (ordering_then (choices_cmp c b) Greater)) (cmp-less a e l)
+lower-less (with_lengths a c ms) (with_lengths e b ns) l = ap (λ o. ordering_then o (ordering_then (choices_cmp c b) (lengths_cmp ms ns))) (cmp-less a e l)
 
 pub limits-join : (d : ℕ) (xs ys : List Member) → IsRising member_cmp xs → IsRising member_cmp ys → AllByRecursion (λ m. limit_of m ≤ d) xs → AllByRecursion (λ m. d < limit_of m) ys → IsRising member_cmp (xs ++ ys)
 limits-join d [] ys r t a b = t
 limits-join d (x ∷ []) [] r t a b = tt
 limits-join d (x ∷ []) (y ∷ ys) r t a b = (lower-less x y (let l = a.0 in let m = b.0 in omega (arith, l, m)), t)
 limits-join d (x ∷ z ∷ xs) ys r t a b = (r.0, limits-join d (z ∷ xs) ys r.1 t a.1 b)
-
-pub all-of-both : {A : Type 0} (Q : A → Type 0) (xs ys : List A) → AllByRecursion Q xs → AllByRecursion Q ys → AllByRecursion Q (xs ++ ys)
-all-of-both Q [] ys a b = b
-all-of-both Q (x ∷ xs) ys a b = (a.0, all-of-both Q xs ys a.1 b)
-
-pub all-of-each : {A : Type 0} (Q R : A → Type 0) → ((x : A) → Q x → R x) → (xs : List A) → AllByRecursion Q xs → AllByRecursion R xs
-all-of-each Q R k [] h = tt
-all-of-each Q R k (x ∷ xs) h = (k x h.0, all-of-each Q R k xs h.1)
 
 -- the members for which the searches up to the limit d have spent their steps
 pub record SpentTo (P : Problem) (d : ℕ) (spent : List Member) : Type 0 where

@@ -3,6 +3,7 @@
 use Rattle.std.proofs.Common.{◌≡◌, ℕ, zero, suc, ◌<◌, List, [], ◌∷◌, length, take, Bool, true, false, IsTrue, refl, sym, ◌∙◌, ap, ap₂, subst, Some, None, slice_get, inl, inr, arith}
 use Rattle.std.specs.List.{list_all}
 use Rattle.std.proofs.lemmas.Bool.{false≢true, and_parts, and_from}
+use Rattle.plain_laws.proofs.Every.{all-at}
 use Rattle.calculus.specs.declared.sort.Sort.TheVariants.{TermSort, MarkSort, StringSort}
 use Rattle.calculus.specs.declared.setting.Domains.TheVariants.{Constant, Varying}
 use Rattle.calculus.specs.Syntax.{Problem}
@@ -18,7 +19,7 @@ use Rattle.calculus.proofs.EqualityLaws.{mark_eq-tells, list_eq-tells}
 use Rattle.store_theory.specs.Templates.{as_term}
 use Rattle.search_theory.specs.States.{terms_by, label_by, values_by}
 use Rattle.search_theory.specs.Demanding.{IsHomeAt, equation, StandsAt, HasNoConstant, HomesAgree}
-use Rattle.search_theory.proofs.SpareLaws.{IsRanked, cell-fits, cell-sorted, all-at, own_value, own-apart}
+use Rattle.search_theory.proofs.SpareLaws.{IsRanked, cell-fits, cell-sorted, own_value, own-apart}
 use Rattle.search_theory.specs.CellsIn.{IsPart}
 use Rattle.search_theory.proofs.GeneralLaws.{term-parts, mark-parts}
 use Rattle.search_theory.proofs.BuildingLaws.{solved-sorted}

@@ -1,10 +1,11 @@
 -- How deep the open goals of a tree lie, by its list of choices alone.
-use Rattle.std.proofs.Common.{◌≡◌, ℕ, zero, suc, pred, ◌+◌, ◌<◌, List, [], ◌∷◌, ◌++◌, length, map, replicate, false, ◌&&◌, IsTrue, refl, sym, ◌∙◌, ap, ap₂, Option, Some, None, option_and_then, slice_get, remove, arith}
+use Rattle.std.proofs.Common.{◌≡◌, ℕ, zero, suc, pred, ◌+◌, List, [], ◌∷◌, ◌++◌, length, map, replicate, false, ◌&&◌, IsTrue, refl, sym, ◌∙◌, ap, ap₂, Option, Some, None, option_and_then, slice_get, remove, arith}
 use Rattle.std.specs.List.{list_all}
 use Rattle.std.specs.Option.{option_map_or}
 use Rattle.std.proofs.lemmas.Bool.{false≢true, and_parts}
 use Rattle.std.proofs.lemmas.List.{length-map, map-append}
 use Rattle.std.proofs.lemmas.List.Edits.{length-remove}
+use Rattle.plain_laws.proofs.Places.{get-within}
 use Rattle.calculus.specs.Syntax.{Problem}
 use Rattle.calculus.specs.Ground.{GroundLiteral}
 use Rattle.calculus.specs.Equality.{list_eq, literal_eq}
@@ -32,11 +33,6 @@ size-by_part n literals (Some x) h e = ap (λ (xs : List GroundLiteral). length 
 pub clause-long : (P : Problem) (i : ClauseInstance) → IsTrue (is_instance P i) → length i.literals ≡ clause_size P i.selection
 clause-long P i h = size-by_part (clause_size P i.selection) i.literals (instance_of P i.selection i.values) (instance-size P i.selection i.values) h
 
-there-within : {A : Type 0} (xs : List A) (k : ℕ) (x : A) → slice_get xs k ≡ Some x → k < length xs
-there-within [] k x e = cc e
-there-within (y ∷ xs) zero x e = omega arith
-there-within (y ∷ xs) (suc k) x e = let l = there-within xs k x e in omega (arith, l)
-
 there : (a : GroundLiteral) (o : Option GroundLiteral) → IsTrue (is_opposite a o) → (b : GroundLiteral) × (o ≡ Some b)
 there a None h = absurd (false≢true h)
 there a (Some b) h = (b, refl)
@@ -44,7 +40,7 @@ there a (Some b) h = (b, refl)
 others-long : (P : Problem) (i : ClauseInstance) (place : ℕ) (g : GroundLiteral) → IsTrue (is_instance P i) → IsTrue (is_opposite g (slice_get i.literals place)) → length (remove i.literals place) ≡ goals_added P (extension i.selection place)
 others-long P i place g h o =
     let (b, stands) = there g (slice_get i.literals place) o in
-    by (length (remove i.literals place)) (length i.literals) (clause_size P i.selection) (length-remove i.literals place (there-within i.literals place b stands)) (clause-long P i h)
+    by (length (remove i.literals place)) (length i.literals) (clause_size P i.selection) (length-remove i.literals place (get-within i.literals place b stands)) (clause-long P i h)
   where
     by : (k n m : ℕ) → k + 1 ≡ n → n ≡ m → k ≡ pred m
     by k n zero e f = absurd (omega (arith, e, f))

@@ -6,6 +6,7 @@ use Rattle.std.specs.Ordering.{ordering_then, ordering_reverse}
 use Rattle.std.specs.Cmp.{IsTotalOrder, tied_itself, nat_cmp_total}
 use Rattle.std.specs.declared.cmp.Ordering.{Ordering}
 use Rattle.std.specs.declared.cmp.Ordering.TheVariants.{Less, Equal, Greater}
+use Rattle.plain_laws.proofs.Every.{each-push}
 use Rattle.calculus.specs.Syntax.{Problem}
 use Rattle.calculus.specs.Tableaux.{Tableau, is_closed, HasClosed}
 use Rattle.calculus.specs.Choices.{Choice, choices_of, ground_choices, choices_cmp, IsLive}
@@ -13,7 +14,7 @@ use Rattle.calculus.specs.Counting.{IsRising, MoreThan, AtLeastMany}
 use Rattle.calculus.specs.Space.{Member, with_choices, with_lengths, member_cmp, member_of, IsEarly, lengths_cmp}
 use Rattle.calculus.proofs.OrderLaws.{choices_cmp_total, member_cmp_total}
 use Rattle.search_theory.specs.Exploring.{BeginsWith, IsClosedList, IsMemberAt, Explores, PartInOrder}
-use Rattle.search_theory.proofs.ExploreLaws.{NotAfter, rising-alone, rising-front, rising-join, all-more, explored, early-first, member-live, first-not-after, member-against, parted-rising, covers-drop, member-choices, tail-parted}
+use Rattle.search_theory.proofs.ExploreLaws.{NotAfter, rising-alone, rising-front, rising-join, explored, early-first, member-live, first-not-after, member-against, parted-rising, covers-drop, member-choices, tail-parted}
 
 -- what is before something that is not after z is before z
 pub before-not-after : {A : Type 0} {cmp : A → A → Ordering} → IsTotalOrder cmp → (x y z : A) → cmp x y ≡ Less → NotAfter (cmp y z) → cmp x z ≡ Less
@@ -59,7 +60,7 @@ spent-many P d spent pending h = (spent, record { rising = rising-alone member_c
 pub steps-ended : (P : Problem) (d : ℕ) (spent : List Member) (p : List Choice) (ps : List (List Choice)) → Explores P d spent (p ∷ ps) → 1 ≤ d → IsLive P d p → MoreThan member_cmp (IsEarly P d) (length spent)
 steps-ended P d spent p ps h from live = (
   spent ++ with_choices d p ∷ [],
-  record { rising = rising-front member_cmp spent (with_choices d p) (map (with_choices d) ps) h.rising; members = all-more (IsEarly P d) spent (with_choices d p) (all-early P d spent (p ∷ ps) h) (early-first P d spent p ps h from live) },
+  record { rising = rising-front member_cmp spent (with_choices d p) (map (with_choices d) ps) h.rising; members = each-push (IsEarly P d) spent (with_choices d p) (all-early P d spent (p ∷ ps) h) (early-first P d spent p ps h from live) },
   (let e = length-append spent (with_choices d p ∷ []) in omega (arith, e)),
 )
 

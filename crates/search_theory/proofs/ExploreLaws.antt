@@ -5,6 +5,7 @@ use Rattle.std.specs.Ordering.{ordering_then}
 use Rattle.std.specs.Cmp.{IsTotalOrder, tied_itself, nat_cmp_total}
 use Rattle.std.specs.declared.cmp.Ordering.{Ordering}
 use Rattle.std.specs.declared.cmp.Ordering.TheVariants.{Less, Equal, Greater}
+use Rattle.plain_laws.proofs.Every.{each-push}
 use Rattle.calculus.specs.Syntax.{Problem}
 use Rattle.calculus.specs.Tableaux.{Tableau, HasClosed}
 use Rattle.calculus.specs.Choices.{Choice, choice_cmp, choices_cmp, choices_of, ground_choices, IsLive}
@@ -131,17 +132,13 @@ visited-rising d p [] [] r h = tt
 visited-rising d p [] (q ∷ ps) r h = ((parted-rising d (p ∷ q ∷ ps) h).0, parted-rising d (q ∷ ps) h.1)
 visited-rising d p (x ∷ xs) ps r h = (member-choices d p (p ++ x ∷ []) ∙ longer-less p x [], parted-rising d (behind p (x ∷ xs) ++ ps) (kids-parted p (x ∷ xs) ps r h))
 
-pub all-more : {A : Type 0} (Q : A → Type 0) (xs : List A) (y : A) → AllByRecursion Q xs → Q y → AllByRecursion Q (xs ++ y ∷ [])
-all-more Q [] y h g = (g, tt)
-all-more Q (x ∷ xs) y h g = (h.0, all-more Q xs y h.1 g)
-
 pub member-live : (P : Problem) (d : ℕ) (p : List Choice) → 1 ≤ d → IsLive P d p → IsMemberAt P d (with_choices d p)
 member-live P d p from live = record { member = record { from_one = from; up_to = omega arith; reached = live }; limit = refl }
 
 -- a step is spent for a live list, and its children are to be tried
 pub explore-visit : (P : Problem) (d : ℕ) (spent : List Member) (p : List Choice) (ps : List (List Choice)) (xs : List Choice) → Explores P d spent (p ∷ ps) → 1 ≤ d → IsLive P d p → Rise xs → ((b : List Choice) → IsClosedList P d b → BeginsWith p b → BeginsWithOne (behind p xs) b) → Explores P d (spent ++ with_choices d p ∷ []) (behind p xs ++ ps)
 explore-visit P d spent p ps xs h from live r down = record {
-  members = all-more (IsMemberAt P d) spent (with_choices d p) h.members (member-live P d p from live);
+  members = each-push (IsMemberAt P d) spent (with_choices d p) h.members (member-live P d p from live);
   rising = subst (IsRising member_cmp) (sym (append_assoc spent (with_choices d p ∷ []) (map (with_choices d) (behind p xs ++ ps)))) (rising-join member_cmp spent (with_choices d p) (map (with_choices d) (behind p xs ++ ps)) (rising-front member_cmp spent (with_choices d p) (map (with_choices d) ps) h.rising) (visited-rising d p xs ps r h.parted));
   parted = kids-parted p xs ps r h.parted;
   covers = covers-visit (IsClosedList P d) p ps (behind p xs) h.covers down;

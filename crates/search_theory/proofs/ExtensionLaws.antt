@@ -3,6 +3,8 @@ use Rattle.std.proofs.Common.{◌≡◌, ℕ, ◌≤◌, List, [], ◌∷◌, �
 use Rattle.std.specs.List.{list_all}
 use Rattle.std.proofs.lemmas.Bool.{and_parts, and_from}
 use Rattle.std.proofs.lemmas.List.{map-append, length-map}
+use Rattle.plain_laws.proofs.Every.{all-append, all-weaken}
+use Rattle.plain_laws.proofs.Options.{same-some}
 use Rattle.calculus.specs.declared.sign.Side.{Side}
 use Rattle.calculus.specs.Syntax.{Problem}
 use Rattle.calculus.specs.Instances.{ClauseInstance}
@@ -16,8 +18,8 @@ use Rattle.search_theory.specs.States.{CellClause, CellChoice, CellGoal, State, 
 use Rattle.search_theory.specs.Steps.{IsExtended, CannotExtend, IsReduced, CannotReduce}
 use Rattle.search_theory.proofs.LastChoice.{grow_once, none≢some, growth-last, growth-before, ends-with}
 use Rattle.search_theory.proofs.ImageLaws.{new_goals-image, choices-agree}
-use Rattle.search_theory.proofs.BelowLaws.{all-join, all-weaken, choice-more, goals-more, goal-more, all-remove, goals-below}
-use Rattle.search_theory.proofs.StepLaws.{instance-at, by-template, clause-found, if-some, if-true, same-some, admitted-all, admitted-join, admitted-agree}
+use Rattle.search_theory.proofs.BelowLaws.{choice-more, goals-more, goal-more, all-remove, goals-below}
+use Rattle.search_theory.proofs.StepLaws.{instance-at, by-template, clause-found, if-some, if-true, admitted-all, admitted-join, admitted-agree}
 use Rattle.search_theory.specs.DeadEnds.{Grows}
 
 -- ---- what a tree with a last choice is
@@ -109,11 +111,11 @@ extension-grown P σ g gs every ds i place inst opp =
 pub state-extended : (P : Problem) (d : ℕ) (c : List Choice) (old new : Store) (cs : List CellChoice) (g : CellGoal) (gs every : List CellGoal) (ds : List ℕ) (sides : List Side) (t : Template) (i : CellClause) (place : ℕ) → IsStateOf P d c (state_at old cs g gs every ds) → IsTrue (nat_lt (length g.path) d) → IsTemplateOf P sides t → IsExtended old new sides t i g.literal place → IsStateOf P d (c ++ extension sides place ∷ []) (extended_state new cs g gs every ds i place)
 state-extended P d c old new cs g gs every ds sides t i place h near tm k = record {
   names = map-append name_of cs (extension i place ∷ []) ∙ ap₂ (λ xs ss. xs ++ extension ss place ∷ []) h.names k.selection;
-  within = all-join (λ n. nat_lt n d) ds (length g.path ∷ []) h.within (and_from (nat_lt (length g.path) d) true near refl);
+  within = all-append (λ n. nat_lt n d) ds (length g.path ∷ []) h.within (and_from (nat_lt (length g.path) d) true near refl);
   cells = record {
-    choices = all-join (choice_is_below m) cs (extension i place ∷ []) (all-weaken (choice_is_below n) (choice_is_below m) (choice-more n m k.longer) cs h.cells.choices) (and_from (clause_is_below m i) true k.names refl);
-    open_goals = all-join (goal_is_below m) (new_cell_goals g i place) gs new_below (goals-more n m k.longer gs opened.1);
-    all_goals = all-join (goal_is_below m) every (new_cell_goals g i place) (goals-more n m k.longer every h.cells.all_goals) new_below;
+    choices = all-append (choice_is_below m) cs (extension i place ∷ []) (all-weaken (choice_is_below n) (choice_is_below m) (choice-more n m k.longer) cs h.cells.choices) (and_from (clause_is_below m i) true k.names refl);
+    open_goals = all-append (goal_is_below m) (new_cell_goals g i place) gs new_below (goals-more n m k.longer gs opened.1);
+    all_goals = all-append (goal_is_below m) every (new_cell_goals g i place) (goals-more n m k.longer every h.cells.all_goals) new_below;
   };
   sound = sound;
   complete = complete;
@@ -182,7 +184,7 @@ state-reduced P d c old new cs g gs every ds up h k = record {
   names = map-append name_of cs (reduction up ∷ []) ∙ ap (λ xs. xs ++ reduction up ∷ []) h.names;
   within = h.within;
   cells = record {
-    choices = all-join (choice_is_below m) cs (reduction up ∷ []) (all-weaken (choice_is_below n) (choice_is_below m) (choice-more n m more) cs h.cells.choices) refl;
+    choices = all-append (choice_is_below m) cs (reduction up ∷ []) (all-weaken (choice_is_below n) (choice_is_below m) (choice-more n m more) cs h.cells.choices) refl;
     open_goals = goals-more n m more gs (and_parts (goal_is_below n g) (list_all (goal_is_below n) gs) h.cells.open_goals).1;
     all_goals = goals-more n m more every h.cells.all_goals;
   };

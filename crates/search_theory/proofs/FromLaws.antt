@@ -2,13 +2,14 @@
 use Rattle.std.proofs.Common.{◌≡◌, ◌≤◌, ℕ, zero, suc, List, [], ◌∷◌, length, IsTrue, refl, sym, ◌∙◌, ap, subst, None, Some, option_map, slice_get, inl, inr, arith, nat_le, le-leb, leb-true}
 use Rattle.std.specs.List.{list_all}
 use Rattle.std.proofs.lemmas.Bool.{and_from}
+use Rattle.plain_laws.proofs.Every.{all-at}
+use Rattle.plain_laws.proofs.Places.{get-front, get-there, get-within}
 use Rattle.calculus.specs.Syntax.{Problem}
 use Rattle.calculus.specs.declared.sort.Sort.{Sort}
-use Rattle.calculus.proofs.PlaceLists.{all-at, get-there, get-within}
 use Rattle.store_theory.specs.Bindings.{BindsOnly, BindsWithin, NamesFrom, with_cell}
 use Rattle.store_theory.specs.Stores.{Cell, variable, Store, is_store, parts_of, sort_of}
 use Rattle.search_theory.specs.LabelledCells.{AreLabelled, is_labelled_cell}
-use Rattle.search_theory.proofs.BuildingLaws.{get-kept, get-more}
+use Rattle.search_theory.proofs.BuildingLaws.{get-more}
 use Rattle.search_theory.proofs.KeepingLaws.{GoesOn, IsBoundAt, goes_on-bound, labelled-goes_on}
 use Rattle.search_theory.specs.CellsIn.{IsPart}
 use Rattle.search_theory.proofs.WithinLaws.{names-within}
@@ -23,7 +24,7 @@ all-from base (r ∷ rs) h = and_from (nat_le base r) (list_all (nat_le base) rs
 pub names-labelled : (P : Problem) (base : ℕ) (s : Store) → AreLabelled P (IsFrom base) s → NamesFrom base s
 names-labelled P base s h n c l e = all-from base (parts_of c) (λ i k p. h.names n k i c l e p)
 
-part-from : (base : ℕ) (rs : List ℕ) → IsTrue (list_all (nat_le base) rs) → (k : ℕ) → IsPart k rs → base ≤ k
+pub part-from : (base : ℕ) (rs : List ℕ) → IsTrue (list_all (nat_le base) rs) → (k : ℕ) → IsPart k rs → base ≤ k
 part-from base rs h k (i, p) = leb-true base k (all-at (nat_le base) rs i k h p)
 
 -- ---- one cell more
@@ -41,8 +42,8 @@ labelled-plus P base s c st parts built h = labelled-goes_on P (IsFrom base) (Is
     goes = record {
       kept = λ r o. o;
       back = λ r l o. o;
-      others = λ r d e. ap (option_map sort_of) (get-kept s.cells (c ∷ []) r d e);
-      old_cells = λ r d o e. inl (get-kept s.cells (c ∷ []) r d e);
+      others = λ r d e. ap (option_map sort_of) (get-front s.cells (c ∷ []) r d e);
+      old_cells = λ r d o e. inl (get-front s.cells (c ∷ []) r d e);
       new_parts = λ r k x l o e p. part-from base (parts_of c) parts k (subst (λ y. IsPart k (parts_of y)) (last r x l e) p);
       new_built = λ r x l o e. subst (λ y. IsTrue (is_labelled_cell P (with_cell c s) y)) (sym (last r x l e)) built;
       below = get-there s.cells;

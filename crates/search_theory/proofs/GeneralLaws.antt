@@ -1,11 +1,12 @@
 -- Where lists of cells have equal values by one solution, and their cells carry over to another, the lists have equal values by that.
 use Rattle.std.proofs.Common.{◌≡◌, ℕ, zero, suc, List, [], ◌∷◌, Bool, true, false, ◌||◌, IsTrue, refl, sym, ◌∙◌, ap, ap₂, subst, Option, Some, None, slice_get}
+use Rattle.plain_laws.proofs.Every.{all-at}
 use Rattle.calculus.specs.declared.sort.Sort.{Sort}
 use Rattle.calculus.specs.declared.sort.Sort.TheVariants.{TermSort, MarkSort, StringSort}
 use Rattle.calculus.specs.Ground.{GroundTerm, GroundTerms, GroundMark, Value, Values, g_fun, g_eigen, common, own, no_g_terms, more_g_terms, g_new_mark, g_spare_mark, term, steps, no_values, more_values, marks_tree}
 use Rattle.calculus.specs.Lists.{marks_tree-inj}
 use Rattle.store_theory.specs.Stores.{Cell, variable, fun_cell, eigen_cell, new_cell, string_cell, Store, parts_of, has_sort_at, has_value_sort_at, parts_fit, is_store, CellValue, a_term, a_mark, a_string, Solution, cons_term, terms_at, cons_value, values_at, cons_mark, marks_at}
-use Rattle.search_theory.proofs.SpareLaws.{cell-fits, cell-sorted, all-at}
+use Rattle.search_theory.proofs.SpareLaws.{cell-fits, cell-sorted}
 use Rattle.search_theory.specs.CellsIn.{IsPart}
 
 -- ---- the parts of a list of values

@@ -2,6 +2,8 @@
 use Rattle.std.proofs.Common.{replicate, ◌≡◌, ℕ, suc, List, [], ◌∷◌, ◌++◌, length, Bool, IsTrue, refl, sym, ◌∙◌, ap, ap₂, subst, Option, Some, None, slice_get, nat_lt, arith, lt-ltb, ltb-true}
 use Rattle.std.specs.List.{list_all}
 use Rattle.std.proofs.lemmas.Bool.{false≢true, and_parts, and_from}
+use Rattle.plain_laws.proofs.Every.{all-weaken}
+use Rattle.plain_laws.proofs.Places.{get-end}
 use Rattle.calculus.specs.declared.sort.Sort.TheVariants.{MarkSort}
 use Rattle.calculus.specs.Ground.{GroundMark}
 use Rattle.store_theory.specs.Stores.{variable, string_cell, Store, has_sort_at, parts_fit, is_store, EndsAt, stays, goes_on, CellValue, a_term, a_mark, a_string, has_sort, Solution, cons_mark, marks_at, join_label, Solves, names_below}
@@ -12,9 +14,8 @@ use Rattle.search_theory.specs.States.{label_by, Agree}
 use Rattle.search_theory.specs.Steps.{IsUnified}
 use Rattle.search_theory.specs.Solving.{IsNarrowed, CannotEqual, CannotHave}
 use Rattle.search_theory.proofs.SpareLaws.{own_cell, cell-fits, marks-there}
-use Rattle.search_theory.proofs.BelowLaws.{all-weaken}
 use Rattle.search_theory.proofs.GeneralLaws.{mark-parts}
-use Rattle.search_theory.proofs.BuildingLaws.{put, put-here, agree-put, variable-added, agree-both, length-plus, variables-longer, variables-back, get-last, built-added, fewer-solved, solved-sorted, AreStores}
+use Rattle.search_theory.proofs.BuildingLaws.{put, put-here, agree-put, variable-added, agree-both, length-plus, variables-longer, variables-back, built-added, fewer-solved, solved-sorted, AreStores}
 use Rattle.search_theory.proofs.AtomLaws.{marks_at-by}
 use Rattle.search_theory.proofs.SolvingLaws.{lengths-agree}
 use Rattle.search_theory.specs.MarkLists.{IsFlat, NeverSame, SameMarks}
@@ -86,7 +87,7 @@ length-given old new r n stores store fits below u =
       longer = let z = u.size in omega (arith, z, long, longer);
       back = λ σ h.
           let b = u.back σ h in
-          let q = b.0 (length mid.cells) c (get-last mid.cells c) in
+          let q = b.0 (length mid.cells) c (get-end mid.cells c) in
           (variables-back (replicate n MarkSort) old σ (fewer-solved mid c σ b.0), (q.0, b.1 ∙ q.2, length-marks σ marks q.0 q.1 ∙ length-places (length old.cells) n));
       forth = λ σ h q.
           let start = subst (λ m. MarksForth old σ m q.0) q.2 (marks-forth q.0 old (length old.cells) refl (subst (λ m. AreStores (replicate m MarkSort) old) (sym q.2) stores) σ h) in

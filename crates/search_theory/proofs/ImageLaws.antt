@@ -44,7 +44,7 @@ pub terms-agree : (n : ℕ) (σ τ : Solution) → Agree n σ τ → (rs : List 
 terms-agree n σ τ a [] h = refl
 terms-agree n σ τ a (r ∷ rs) h = let p = and_parts (nat_lt r n) (names_below n rs) h in ap₂ (λ v ts. more_g_terms (as_term v) ts) (a r p.0) (terms-agree n σ τ a rs p.1)
 
-label-agree : (n : ℕ) (σ τ : Solution) → Agree n σ τ → (rs : List ℕ) → IsTrue (names_below n rs) → label_by σ rs ≡ label_by τ rs
+pub label-agree : (n : ℕ) (σ τ : Solution) → Agree n σ τ → (rs : List ℕ) → IsTrue (names_below n rs) → label_by σ rs ≡ label_by τ rs
 label-agree n σ τ a [] h = refl
 label-agree n σ τ a (r ∷ rs) h = let p = and_parts (nat_lt r n) (names_below n rs) h in ap₂ (λ v w. as_label v ++ w) (a r p.0) (label-agree n σ τ a rs p.1)
 

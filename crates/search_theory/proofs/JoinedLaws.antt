@@ -1,7 +1,8 @@
 -- Connections with agreeing labels: of a list with one more choice, and of a closed tableau's choices.
-use Rattle.std.proofs.Common.{◌≡◌, ℕ, List, [], ◌∷◌, ◌++◌, length, remove, false, not, ◌&&◌, ◌==◌, IsTrue, refl, sym, ◌∙◌, ap₂, subst, Option, Some, None, option_and_then, slice_get, append_assoc, append-nil}
+use Rattle.std.proofs.Common.{◌≡◌, ℕ, List, [], ◌∷◌, ◌++◌, length, remove, false, not, ◌&&◌, ◌==◌, IsTrue, refl, sym, ◌∙◌, ap₂, subst, Option, Some, slice_get, append_assoc, append-nil}
 use Rattle.std.specs.Option.{option_map_or}
 use Rattle.std.proofs.lemmas.Bool.{false≢true, and_parts, and_from}
+use Rattle.plain_laws.proofs.Options.{then-some}
 use Rattle.calculus.specs.Syntax.{Problem}
 use Rattle.calculus.specs.Ground.{GroundLiteral}
 use Rattle.calculus.specs.Equality.{sign_eq, grounds_eq, label_eq, same_atom}
@@ -19,10 +20,6 @@ use Rattle.search_theory.proofs.StepLaws.{if-true}
 
 some-joined : (P : Problem) (cs : List GroundChoice) (o : Option Growth) (z : Growth) → o ≡ Some z → option_map_or (joins_all P cs) o false ≡ joins_all P cs z
 some-joined P cs o z e = rw e refl
-
-then-some : {A : Type 0} (f : A → Option A) (o : Option A) (y : A) → option_and_then f o ≡ Some y → (x : A) × (o ≡ Some x) × (f x ≡ Some y)
-then-some f None y e = none≢some y e
-then-some f (Some x) y e = (x, refl, e)
 
 joins-more : (P : Problem) (cs : List GroundChoice) (c : GroundChoice) (x z y : Growth) → grow P cs x ≡ Some z → grow_once P c z ≡ Some y → IsTrue (joins_all P cs x) → IsTrue (joins_at P c z.open_goals) → IsTrue (joins_all P (cs ++ c ∷ []) x)
 joins-more P [] c x z y e f j k =

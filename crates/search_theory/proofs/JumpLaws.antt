@@ -4,6 +4,7 @@ use Rattle.std.proofs.Common.{◌≡◌, ◌⊎◌, ℕ, ◌<◌, ◌≤◌, Lis
 use Rattle.std.specs.List.{AllByRecursion}
 use Rattle.std.proofs.lemmas.Bool.{false≢true}
 use Rattle.std.proofs.lemmas.Option.{slice_get-map}
+use Rattle.calculus.proofs.GrowthLaws.{closed-new}
 use Rattle.calculus.specs.Syntax.{Problem}
 use Rattle.calculus.specs.Space.{Member}
 use Rattle.calculus.specs.Choices.{Choice}
@@ -23,7 +24,7 @@ use Rattle.search_theory.proofs.LookAheadLaws.{closed-image, goal-closed}
 use Rattle.search_theory.specs.Closing.{IsCloseable, CannotClose}
 use Rattle.search_theory.proofs.PruningLaws.{search-pruned}
 use Rattle.search_theory.proofs.RegularLaws.{any-there}
-use Rattle.search_theory.proofs.SolvedLaws.{closed-new, refused-unsolved, solved-first, solved-goals, solved-image, solved-later, unsolved-open}
+use Rattle.search_theory.proofs.SolvedLaws.{refused-unsolved, solved-first, solved-goals, solved-image, solved-later, unsolved-open}
 use Rattle.search_theory.proofs.TransplantLaws.{IsGoalOf, Transplanted, goal-alike}
 
 -- ---- a goal that cannot be closed

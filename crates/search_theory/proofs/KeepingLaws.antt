@@ -3,6 +3,7 @@ use Rattle.std.proofs.Common.{◌≡◌, ◌⊎◌, ℕ, zero, suc, ◌<◌, ◌
 use Rattle.std.specs.Option.{option_map_or}
 use Rattle.std.proofs.lemmas.Bool.{false≢true, cases_Bool, cases_lt}
 use Rattle.std.proofs.lemmas.Option.{slice_get_within}
+use Rattle.plain_laws.proofs.Options.{same-some}
 use Rattle.calculus.specs.declared.sort.Sort.{Sort}
 use Rattle.calculus.specs.declared.sort.Sort.TheVariants.{TermSort}
 use Rattle.calculus.specs.Syntax.{Problem}
@@ -28,9 +29,6 @@ pub record GoesOn (P : Problem) (Old New : ℕ → Type 0) (old new : Store) : T
   pub new_built : (r : ℕ) (c : Cell) → length old.cells ≤ r → New r → slice_get new.cells r ≡ Some c → IsTrue (is_labelled_cell P new c)
   -- each cell of the new set below is an old cell
   pub below : (r : ℕ) → r < length old.cells → (d : Cell) × (slice_get old.cells r ≡ Some d)
-
-same-some : {A : Type 0} (o : Option A) (x y : A) → o ≡ Some x → o ≡ Some y → x ≡ y
-same-some o x y e f = let q : Some x ≡ Some y = sym e ∙ f in cc q
 
 -- sorts of old cells stay
 sort-stays : (P : Problem) (Old New : ℕ → Type 0) (old new : Store) → GoesOn P Old New old new → (sort : Sort) (r : ℕ) (d : Cell) → slice_get old.cells r ≡ Some d → has_sort_at new sort r ≡ has_sort_at old sort r

@@ -5,6 +5,7 @@ use Rattle.std.specs.Ordering.{ordering_then, ordering_reverse}
 use Rattle.std.specs.Cmp.{tied_itself, nat_cmp_total}
 use Rattle.std.specs.declared.cmp.Ordering.{Ordering}
 use Rattle.std.specs.declared.cmp.Ordering.TheVariants.{Less, Equal, Greater}
+use Rattle.plain_laws.proofs.Every.{all-at, all-weaken}
 use Rattle.calculus.specs.declared.setting.Logic.{Logic}
 use Rattle.calculus.specs.Syntax.{Problem}
 use Rattle.calculus.specs.Instances.{GammaUse}
@@ -24,9 +25,7 @@ use Rattle.search_theory.specs.StateSystems.{IsTreeOf, IsSystemOf}
 use Rattle.search_theory.specs.Solving.{IsClosedSet}
 use Rattle.search_theory.proofs.SpareLaws.{IsRanked, cell-sorted, or-both}
 use Rattle.search_theory.specs.CellsIn.{IsPart, IsChoiceIn, IsClauseIn}
-use Rattle.search_theory.proofs.BelowLaws.{all-weaken}
 use Rattle.search_theory.proofs.BuildingLaws.{solved-sorted}
-use Rattle.search_theory.proofs.SpareLaws.{all-at}
 use Rattle.search_theory.proofs.ClosedLaws.{IsTableauOf}
 use Rattle.search_theory.proofs.ExploreLaws.{rising-front, rising-join, first-not-after, early-first}
 use Rattle.search_theory.proofs.EarlyLaws.{all-early, steps-ended}

@@ -8,6 +8,9 @@ use Rattle.std.proofs.lemmas.Nat.{one_shl}
 use Rattle.std.proofs.lemmas.Nat.Bits.{bit_at-pow_same}
 use Rattle.std.proofs.lemmas.List.{length-map}
 use Rattle.std.proofs.lemmas.Option.{slice_get-map}
+use Rattle.plain_laws.proofs.Every.{each-append}
+use Rattle.plain_laws.proofs.Places.{found-in-map, map-there}
+use Rattle.plain_laws.proofs.Options.{same-some}
 use Rattle.calculus.specs.declared.sign.Sign.{Sign}
 use Rattle.calculus.specs.declared.sign.Sign.TheVariants.{T, F}
 use Rattle.calculus.specs.Syntax.{Problem}
@@ -35,17 +38,13 @@ use Rattle.search_theory.specs.DeadEnds.{is_not_empty}
 use Rattle.search_theory.proofs.ChoiceLaws.{extensions-by_index, extensions-complete}
 use Rattle.search_theory.proofs.ExtensionLaws.{choice_place, choice_selection}
 use Rattle.search_theory.proofs.ImageLaws.{remove-map}
-use Rattle.search_theory.proofs.MeetingLaws.{OppositeParts, cannot-reduce-by_clash, cannot-reduce-by_number, cannot-reduce-by_sign, cannot-reduce-by_symbol, cannot-reduce-by_zero, literal-there, opposite-parts, opposite-some}
+use Rattle.search_theory.proofs.MeetingLaws.{OppositeParts, cannot-reduce-by_clash, cannot-reduce-by_number, cannot-reduce-by_sign, cannot-reduce-by_symbol, cannot-reduce-by_zero, opposite-parts, opposite-some}
 use Rattle.search_theory.proofs.NextLaws.{selection-in}
 use Rattle.search_theory.proofs.RegularLaws.{each-at}
-use Rattle.search_theory.proofs.StepLaws.{by-template, same-some}
+use Rattle.search_theory.proofs.StepLaws.{by-template}
 use Rattle.search_theory.specs.Closing.{IsCloseable}
 
 -- ---- a closed tableau: each of its goals is closed
-
-both-hold : {A : Type 0} (Q : A → Type 0) (xs ys : List A) → AllByRecursion Q xs → AllByRecursion Q ys → AllByRecursion Q (xs ++ ys)
-both-hold Q [] ys h k = k
-both-hold Q (x ∷ xs) ys h k = (h.0, both-hold Q xs ys h.1 k)
 
 front-holds : {A : Type 0} (Q : A → Type 0) (xs ys : List A) → AllByRecursion Q (xs ++ ys) → AllByRecursion Q xs
 front-holds Q [] ys h = tt
@@ -63,19 +62,19 @@ mutual
   closeable P d (extend i place below) path g h =
       let e = extended-parts P d path g i place below h in
       let others = remove i.literals place in
-      both-hold (IsCloseable P d) (goals_on (g ∷ path) others) (goals_of_all others (g ∷ path) below) (closeable-on P d below (g ∷ path) others e.all_closed) (closeable-all P d below (g ∷ path) others e.all_closed)
+      each-append (IsCloseable P d) (goals_on (g ∷ path) others) (goals_of_all others (g ∷ path) below) (closeable-on P d below (g ∷ path) others e.all_closed) (closeable-all P d below (g ∷ path) others e.all_closed)
 
   pub closeable-all : (P : Problem) (d : ℕ) (cs : Closings) (path goals : List GroundLiteral) → IsTrue (closes_all P d path goals cs) → AllByRecursion (IsCloseable P d) (goals_of_all goals path cs)
   closeable-all P d no_closings path goals h = tt
   closeable-all P d (more_closings c cs) path [] h = tt
   closeable-all P d (more_closings c cs) path (g ∷ goals) h =
       let p = and_parts (closes P d path g c) (closes_all P d path goals cs) h in
-      both-hold (IsCloseable P d) (goals_below g path c) (goals_of_all goals path cs) (closeable P d c path g p.0) (closeable-all P d cs path goals p.1)
+      each-append (IsCloseable P d) (goals_below g path c) (goals_of_all goals path cs) (closeable P d c path g p.0) (closeable-all P d cs path goals p.1)
 
 pub closed-closeable : (P : Problem) (d : ℕ) (t : Tableau) → IsTrue (is_closed P d t) → AllByRecursion (IsCloseable P d) (closed_growth t).all_goals
 closed-closeable P d t h =
     let k = closed-parts P d t h in
-    both-hold (IsCloseable P d) (goals_on [] t.start.literals) (goals_of_all t.start.literals [] t.goals) (closeable-on P d t.goals [] t.start.literals k.all_closed) (closeable-all P d t.goals [] t.start.literals k.all_closed)
+    each-append (IsCloseable P d) (goals_on [] t.start.literals) (goals_of_all t.start.literals [] t.goals) (closeable-on P d t.goals [] t.start.literals k.all_closed) (closeable-all P d t.goals [] t.start.literals k.all_closed)
 
 -- ---- a goal that has no room for an extension is closed by a reduction
 
@@ -157,13 +156,6 @@ none-reduces s g none (suc k) = by (slice_get g.path k) refl
     by None e = cannot-reduce-by_number s g k e
     by (Some a) e = apart a e (none k a e)
 
-pub found-in-map : {A B : Type 0} (f : A → B) (xs : List A) (k : ℕ) (y : B) → slice_get (map f xs) k ≡ Some y → (x : A) × (slice_get xs k ≡ Some x) × (y ≡ f x)
-found-in-map f xs k y e = by (slice_get xs k) refl (sym (slice_get-map f xs k) ∙ e)
-  where
-    by : (o : Option _) → slice_get xs k ≡ o → option_map f o ≡ Some y → (x : _) × (slice_get xs k ≡ Some x) × (y ≡ f x)
-    by None g h = cc h
-    by (Some x) g h = let q : f x ≡ y = cc h in (x, g, sym q)
-
 -- the literals have the signs and symbols of the atoms
 pub record AreLike (xs : List GroundLiteral) (path : List CellAtom) : Type 0 where
   pub many : length xs ≡ length path
@@ -201,13 +193,13 @@ full-lost P d s g σ far none solves (y, y_closes) =
 
 -- a literal of an instance by a template, at its place among the others
 other-literal : (t : Template) (j : ClauseInstance) (place k : ℕ) (q : PatternAtom) → j.literals ≡ map (pattern_literal j.values) t.literals → slice_get (remove t.literals place) k ≡ Some q → slice_get (remove j.literals place) k ≡ Some (pattern_literal j.values q)
-other-literal t j place k q e at = ap (λ xs. slice_get (remove xs place) k) e ∙ ap (λ xs. slice_get xs k) (remove-map (pattern_literal j.values) t.literals place) ∙ literal-there (pattern_literal j.values) (remove t.literals place) k q at
+other-literal t j place k q e at = ap (λ xs. slice_get (remove xs place) k) e ∙ ap (λ xs. slice_get xs k) (remove-map (pattern_literal j.values) t.literals place) ∙ map-there (pattern_literal j.values) (remove t.literals place) k q at
 
 -- a goal at the limit that is closed has an ancestor of cells with its symbol and the other sign
 closed-answered : (P : Problem) (d : ℕ) (xs : List GroundLiteral) (path : List CellAtom) (others : List GroundLiteral) (k : ℕ) (x : GroundLiteral) → d ≤ length path → AreLike xs path → AllByRecursion (IsCloseable P d) (goals_on xs others) → slice_get others k ≡ Some x → IsAnswered path x.symbol x.sign
 closed-answered P d xs path others k x far like h at =
     let many = like.many in
-    let (y, y_closes) = each-at (IsCloseable P d) (goals_on xs others) k (record { literal = x; path = xs }) h (literal-there (λ (z : GroundLiteral). record { literal = z; path = xs }) others k x at) in
+    let (y, y_closes) = each-at (IsCloseable P d) (goals_on xs others) k (record { literal = x; path = xs }) h (map-there (λ (z : GroundLiteral). record { literal = z; path = xs }) others k x at) in
     met-answered xs path x like (full-met P d xs x y (omega (arith, far, many)) y_closes)
 
 -- ---- one level earlier

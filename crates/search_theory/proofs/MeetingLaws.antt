@@ -2,6 +2,7 @@
 use Rattle.std.proofs.Common.{◌≡◌, ℕ, zero, suc, List, map, not, ◌&&◌, ◌==◌, IsTrue, sym, ◌∙◌, ap, Option, Some, None, option_map, slice_get, eq-eqb, eqb-true}
 use Rattle.std.proofs.lemmas.Bool.{false≢true, and_parts, and_from}
 use Rattle.std.proofs.lemmas.Option.{slice_get-map}
+use Rattle.plain_laws.proofs.Places.{map-there}
 use Rattle.calculus.specs.Ground.{GroundLiteral}
 use Rattle.calculus.specs.Equality.{sign_eq, grounds_eq}
 use Rattle.calculus.specs.Tableaux.{ancestor}
@@ -38,13 +39,10 @@ opposite-some a o b e h = rw e at h
 pub some-opposite : (a : GroundLiteral) (o : Option GroundLiteral) (b : GroundLiteral) → o ≡ Some b → IsTrue (are_opposite a b) → IsTrue (is_opposite a o)
 some-opposite a o b e h = rw e h
 
-pub literal-there : {A B : Type 0} (f : A → B) (xs : List A) (k : ℕ) (x : A) → slice_get xs k ≡ Some x → slice_get (map f xs) k ≡ Some (f x)
-literal-there f xs k x e = slice_get-map f xs k ∙ ap (option_map f) e
-
 -- ---- reduction
 
 pub ancestor-there : (f : CellAtom → GroundLiteral) (path : List CellAtom) (up : ℕ) (a : CellAtom) → slice_get path up ≡ Some a → ancestor (map f path) (suc up) ≡ Some (f a)
-ancestor-there f path up a e = literal-there f path up a e
+ancestor-there f path up a e = map-there f path up a e
 
 -- the ancestor of the number k + 1 is unified with the goal
 pub reduced-by_unifying : (old new : Store) (g : CellGoal) (a : CellAtom) (k : ℕ) → slice_get g.path k ≡ Some a → IsTrue (not (sign_eq g.literal.sign a.sign)) → g.literal.symbol ≡ a.symbol → AreUnified old new g.literal.args a.args → IsReduced old new g (suc k)

@@ -1,11 +1,12 @@
 -- Behind a state with an open goal: each closed tableau takes one of the goal's choices next, and so does each tree that shows that the
 -- limit is left.
-use Rattle.std.proofs.Common.{◌≡◌, ◌⊎◌, ℕ, zero, suc, ◌+◌, ◌<◌, List, [], ◌∷◌, ◌++◌, length, map, Bool, true, false, not, ◌&&◌, ◌==◌, IsTrue, refl, sym, ◌∙◌, ap, subst, Option, Some, None, option_map, slice_get, nat_lt, inl, inr, arith, append_assoc, append-nil, ltb-true, lt-ltb, eqb-true}
+use Rattle.std.proofs.Common.{◌≡◌, ◌⊎◌, ℕ, zero, suc, ◌+◌, ◌<◌, List, [], ◌∷◌, ◌++◌, length, map, Bool, true, false, not, ◌&&◌, ◌==◌, IsTrue, refl, sym, ◌∙◌, ap, subst, Option, Some, None, slice_get, nat_lt, inl, inr, arith, append_assoc, append-nil, ltb-true, lt-ltb, eqb-true}
 use Rattle.std.specs.Prelude.{Contains}
 use Rattle.std.specs.List.{list_all, list_any}
 use Rattle.std.proofs.lemmas.Bool.{false≢true, cases_lt, and_parts}
 use Rattle.std.proofs.lemmas.List.{length-map}
-use Rattle.std.proofs.lemmas.Option.{slice_get-map}
+use Rattle.plain_laws.proofs.Places.{found-in-map}
+use Rattle.plain_laws.proofs.Options.{same-some}
 use Rattle.calculus.specs.declared.sign.Sign.TheVariants.{F}
 use Rattle.calculus.specs.declared.sign.Side.{Side}
 use Rattle.calculus.specs.Syntax.{Problem}
@@ -24,7 +25,7 @@ use Rattle.search_theory.specs.States.{CellChoice, CellGoal, literal_by, goal_at
 use Rattle.search_theory.specs.Goals.{IsChoiceAt, by_ancestor, by_clause}
 use Rattle.search_theory.specs.Exploring.{BeginsWith, BeginsWithOne, IsClosedList, IsLeftList, behind, IsIn}
 use Rattle.search_theory.proofs.LastChoice.{grow_once, none≢some, growth-before, ends-with}
-use Rattle.search_theory.proofs.StepLaws.{same-some, if-some, by-template}
+use Rattle.search_theory.proofs.StepLaws.{if-some, by-template}
 use Rattle.search_theory.proofs.ExtensionLaws.{last-at, extension-of, reduction-of, state_at}
 use Rattle.search_theory.proofs.MeetingLaws.{opposite-parts, opposite-some}
 use Rattle.search_theory.proofs.BeginningLaws.{not-empty-behind, ClosedBeginning, closed-beginning, left-beginning, left-parts, NextChoice}
@@ -37,13 +38,6 @@ pub selection-in : (P : Problem) (j : ClauseInstance) → IsTrue (is_instance P 
 selection-in P j h =
     let (x, i, e) = (is_instance-exact P j).0 h in
     subst (λ ss. Contains (selections P.formula F) ss) (sym (ap (λ (k : ClauseInstance). k.selection) e)) (Contains-selection P x i)
-
-found-in-map : {A B : Type 0} (f : A → B) (xs : List A) (k : ℕ) (y : B) → slice_get (map f xs) k ≡ Some y → (x : A) × (slice_get xs k ≡ Some x) × (y ≡ f x)
-found-in-map f xs k y e = by (slice_get xs k) refl (sym (slice_get-map f xs k) ∙ e)
-  where
-    by : (o : Option _) → slice_get xs k ≡ o → option_map f o ≡ Some y → (x : _) × (slice_get xs k ≡ Some x) × (y ≡ f x)
-    by None g h = cc h
-    by (Some x) g h = let q : f x ≡ y = cc h in (x, g, sym q)
 
 opposite-is-some : (a : GroundLiteral) (o : Option GroundLiteral) → IsTrue (is_opposite a o) → (b : GroundLiteral) × (o ≡ Some b)
 opposite-is-some a None h = absurd (false≢true h)

@@ -5,6 +5,7 @@ use Rattle.std.specs.List.{list_all}
 use Rattle.std.proofs.lemmas.Bool.{false≢true, and_parts, cases_lt}
 use Rattle.std.proofs.lemmas.Nat.{mul-le}
 use Rattle.std.proofs.lemmas.Option.{slice_get_within}
+use Rattle.plain_laws.proofs.Every.{all-at, all-weaken}
 use Rattle.calculus.specs.declared.sort.Sort.TheVariants.{TermSort, MarkSort, StringSort}
 use Rattle.calculus.specs.declared.setting.Domains.TheVariants.{Varying}
 use Rattle.calculus.specs.Syntax.{Problem}
@@ -14,8 +15,7 @@ use Rattle.calculus.specs.Sizes.{g_term_size, mark_size, values_size}
 use Rattle.store_theory.specs.Stores.{Cell, variable, fun_cell, eigen_cell, new_cell, string_cell, Store, parts_of, has_sort_at, is_store, CellValue, a_term, a_mark, a_string, has_sort, Solution, marks_at, Solves, Holds, GammaCell, IsHome}
 use Rattle.store_theory.specs.Systems.{System, MeetsDemand, AllAllowed}
 use Rattle.search_theory.specs.States.{label_by}
-use Rattle.search_theory.proofs.BelowLaws.{all-weaken}
-use Rattle.search_theory.proofs.SpareLaws.{IsRanked, cell-fits, cell-sorted, all-at, marks-there}
+use Rattle.search_theory.proofs.SpareLaws.{IsRanked, cell-fits, cell-sorted, marks-there}
 use Rattle.search_theory.specs.CellsIn.{IsPart}
 use Rattle.search_theory.proofs.GeneralLaws.{mark-parts, part-cell}
 use Rattle.search_theory.proofs.BuildingLaws.{solved-sorted}

@@ -3,6 +3,7 @@ use Rattle.std.proofs.Common.{◌≡◌, ℕ, ◌≤◌, List, [], ◌∷◌, �
 use Rattle.std.specs.List.{AllByRecursion}
 use Rattle.std.proofs.lemmas.List.{length-append}
 use Rattle.std.specs.declared.cmp.Ordering.TheVariants.{Less}
+use Rattle.plain_laws.proofs.Every.{each-append, each-weaken, each-push}
 use Rattle.calculus.specs.Syntax.{Problem}
 use Rattle.calculus.specs.Choices.{Choice, choices_cmp, IsLive}
 use Rattle.calculus.specs.Counting.{IsRising, MoreThan, AtLeastMany}
@@ -10,7 +11,7 @@ use Rattle.calculus.specs.Space.{Member, with_choices, with_lengths, member_cmp,
 use Rattle.calculus.proofs.OrderLaws.{choice_cmp_total}
 use Rattle.search_theory.specs.Exploring.{AllPart, IsMemberAt, PartsBefore, Passes, behind}
 use Rattle.search_theory.proofs.EarlyLaws.{list-first, next-list, same-list}
-use Rattle.search_theory.proofs.ExploreLaws.{Rise, all-more, longer-less, member-choices, member-live, parted-behind, parted-less, parted-siblings, rising-join}
+use Rattle.search_theory.proofs.ExploreLaws.{Rise, longer-less, member-choices, member-live, parted-behind, parted-less, parted-siblings, rising-join}
 
 -- ---- what is left out
 
@@ -40,14 +41,6 @@ passes-keep P d spent p xs ps h = record {
 list-less : (d : ℕ) (p q : List Choice) → PartsBefore p q → choices_cmp p q ≡ Less
 list-less d p q h = ap₂ choices_cmp (sym (append-nil p)) (sym (append-nil q)) ∙ parted-less p q [] [] h
 
-all-both : {A : Type 0} (Q : A → Type 0) (xs ys : List A) → AllByRecursion Q xs → AllByRecursion Q ys → AllByRecursion Q (xs ++ ys)
-all-both Q [] ys h g = g
-all-both Q (x ∷ xs) ys h g = (h.0, all-both Q xs ys h.1 g)
-
-all-each : {A : Type 0} (Q R : A → Type 0) → ((x : A) → Q x → R x) → (xs : List A) → AllByRecursion Q xs → AllByRecursion R xs
-all-each Q R f [] h = tt
-all-each Q R f (x ∷ xs) h = (f x h.0, all-each Q R f xs h.1)
-
 -- a choice before the first of these, which rise, is before each
 siblings-part : (p : List Choice) (x : Choice) (xs : List Choice) → Rise (x ∷ xs) → AllByRecursion (PartsBefore (p ++ x ∷ [])) (behind p xs)
 siblings-part p x [] h = tt
@@ -61,7 +54,7 @@ tail-rise x (y ∷ xs) h = h.1
 all-kids-part : (p : List Choice) (xs : List Choice) (ps : List (List Choice)) → Rise xs → AllByRecursion (PartsBefore p) ps → AllPart ps → AllPart (behind p xs ++ ps)
 all-kids-part p [] ps r h g = g
 all-kids-part p (x ∷ xs) ps r h g = (
-  all-both (PartsBefore (p ++ x ∷ [])) (behind p xs) ps (siblings-part p x xs r) (all-each (PartsBefore p) (PartsBefore (p ++ x ∷ [])) (λ q k. parted-behind p q x k) ps h),
+  each-append (PartsBefore (p ++ x ∷ [])) (behind p xs) ps (siblings-part p x xs r) (each-weaken (PartsBefore p) (PartsBefore (p ++ x ∷ [])) (λ q k. parted-behind p q x k) ps h),
   all-kids-part p xs ps (tail-rise x xs r) h g,
 )
 
@@ -76,10 +69,10 @@ kids-later d spent p (x ∷ xs) h = (
 -- a live list, and its children are to be tried
 pub passes-visit : (P : Problem) (d : ℕ) (spent : List Member) (p : List Choice) (ps : List (List Choice)) (xs : List Choice) → Passes P d spent (p ∷ ps) → 1 ≤ d → IsLive P d p → Rise xs → Passes P d (spent ++ with_choices d p ∷ []) (behind p xs ++ ps)
 passes-visit P d spent p ps xs h from live r = record {
-  members = all-more (IsMemberAt P d) spent (with_choices d p) h.members (member-live P d p from live);
+  members = each-push (IsMemberAt P d) spent (with_choices d p) h.members (member-live P d p from live);
   rising = h.before.0;
-  before = all-both (λ (q : List Choice). IsRising member_cmp ((spent ++ with_choices d p ∷ []) ++ with_choices d q ∷ [])) (behind p xs) ps (kids-later d spent p xs h.before.0)
-      (all-each (PartsBefore p) (λ (q : List Choice). IsRising member_cmp ((spent ++ with_choices d p ∷ []) ++ with_choices d q ∷ []))
+  before = each-append (λ (q : List Choice). IsRising member_cmp ((spent ++ with_choices d p ∷ []) ++ with_choices d q ∷ [])) (behind p xs) ps (kids-later d spent p xs h.before.0)
+      (each-weaken (PartsBefore p) (λ (q : List Choice). IsRising member_cmp ((spent ++ with_choices d p ∷ []) ++ with_choices d q ∷ []))
       (λ q k. subst (IsRising member_cmp) (sym (append_assoc spent (with_choices d p ∷ []) (with_choices d q ∷ []))) (rising-join member_cmp spent (with_choices d p) (with_choices d q ∷ []) h.before.0 (member-choices d p q ∙ list-less d p q k, tt)))
       ps h.parted.0);
   parted = all-kids-part p xs ps r h.parted.0 h.parted.1;
@@ -109,9 +102,9 @@ lengths-members P d p (ns ∷ tried) h = (h.0, lengths-members P d p tried h.1)
 -- a live list without open goals, and these lists of lengths
 pub passes-lengths : (P : Problem) (d : ℕ) (spent : List Member) (p : List Choice) (ps : List (List Choice)) (tried : List (List ℕ)) → Passes P d spent (p ∷ ps) → 1 ≤ d → IsLive P d p → IsRising lengths_cmp tried → AllByRecursion (λ ns. IsMemberAt P d (with_lengths d p ns)) tried → Passes P d (spent ++ with_choices d p ∷ map (with_lengths d p) tried) ps
 passes-lengths P d spent p ps tried h from live r members = record {
-  members = all-both (IsMemberAt P d) spent (with_choices d p ∷ map (with_lengths d p) tried) h.members (member-live P d p from live, lengths-members P d p tried members);
+  members = each-append (IsMemberAt P d) spent (with_choices d p ∷ map (with_lengths d p) tried) h.members (member-live P d p from live, lengths-members P d p tried members);
   rising = rising-join member_cmp spent (with_choices d p) (map (with_lengths d p) tried) h.before.0 (list-alone d p tried r);
-  before = all-each (PartsBefore p) (λ (q : List Choice). IsRising member_cmp ((spent ++ with_choices d p ∷ map (with_lengths d p) tried) ++ with_choices d q ∷ []))
+  before = each-weaken (PartsBefore p) (λ (q : List Choice). IsRising member_cmp ((spent ++ with_choices d p ∷ map (with_lengths d p) tried) ++ with_choices d q ∷ []))
       (λ q k. subst (IsRising member_cmp) (sym (append_assoc spent (with_choices d p ∷ map (with_lengths d p) tried) (with_choices d q ∷ []))) (rising-join member_cmp spent (with_choices d p) (map (with_lengths d p) tried ++ with_choices d q ∷ []) h.before.0 (list-last d p q tried r (list-less d p q k))))
       ps h.parted.0;
   parted = h.parted.1;
@@ -142,6 +135,6 @@ passes-many P d spent pending h = (spent, record { rising = h.rising; members = 
 pub passes-ended : (P : Problem) (d : ℕ) (spent : List Member) (p : List Choice) (ps : List (List Choice)) → Passes P d spent (p ∷ ps) → 1 ≤ d → IsLive P d p → MoreThan member_cmp (IsMemberAt P d) (length spent)
 passes-ended P d spent p ps h from live = (
   spent ++ with_choices d p ∷ [],
-  record { rising = h.before.0; members = all-more (IsMemberAt P d) spent (with_choices d p) h.members (member-live P d p from live) },
+  record { rising = h.before.0; members = each-push (IsMemberAt P d) spent (with_choices d p) h.members (member-live P d p from live) },
   (let e = length-append spent (with_choices d p ∷ []) in omega (arith, e)),
 )

@@ -1,8 +1,10 @@
 -- Early pruning by prefixes: a list whose system no ground solution solves, whatever the lengths, begins no closed tableau.
-use Rattle.std.proofs.Common.{◌≡◌, ℕ, List, [], ◌∷◌, ◌++◌, map, true, false, IsTrue, refl, sym, ◌∙◌, ap, subst, Option, Some, None, option_and_then}
+use Rattle.std.proofs.Common.{◌≡◌, ℕ, List, [], ◌∷◌, ◌++◌, map, true, false, IsTrue, refl, sym, ◌∙◌, ap, subst, Option, Some, None}
 use Rattle.std.specs.List.{list_all, AllByRecursion}
 use Rattle.std.specs.Option.{option_map_or}
 use Rattle.std.proofs.lemmas.Bool.{false≢true, and_parts, and_from}
+use Rattle.plain_laws.proofs.Options.{same-some, then-some}
+use Rattle.plain_laws.proofs.Every.{all-parts}
 use Rattle.calculus.specs.declared.setting.Logic.{Logic}
 use Rattle.calculus.specs.Syntax.{Problem}
 use Rattle.calculus.specs.ComputedInstances.{is_allowed_instance}
@@ -20,22 +22,16 @@ use Rattle.search_theory.specs.Exploring.{BeginsWith, IsClosedList}
 use Rattle.search_theory.specs.Searching.{IsSearch}
 use Rattle.search_theory.specs.StateSystems.{IsSystemOf}
 use Rattle.search_theory.specs.Pruning.{BeginsClosed, HoldsEarly}
-use Rattle.search_theory.proofs.LastChoice.{none≢some}
-use Rattle.search_theory.proofs.StepLaws.{same-some}
 use Rattle.search_theory.proofs.ClosedLaws.{keeps-all}
 use Rattle.search_theory.proofs.BeginningLaws.{growth-append, regular-kept, within-kept, split-at}
 use Rattle.search_theory.specs.DeadEnds.{is_not_empty}
 use Rattle.search_theory.proofs.ExploreLaws.{explore-drop}
 use Rattle.search_theory.proofs.JoinedLaws.{joined-closed}
-use Rattle.search_theory.proofs.SystemLaws.{split-all, pairs-by_regular}
+use Rattle.search_theory.proofs.SystemLaws.{pairs-by_regular}
 use Rattle.search_theory.proofs.SystemSteps.{string_lengths-append}
 use Rattle.search_theory.proofs.SolvingLaws.{system-parts, tried-step}
 
 -- ---- beginnings of a closed tableau's choices
-
-then-some : {A : Type 0} (f : A → Option A) (o : Option A) (y : A) → option_and_then f o ≡ Some y → (x : A) × (o ≡ Some x) × (f x ≡ Some y)
-then-some f None y e = none≢some y e
-then-some f (Some x) y e = (x, refl, e)
 
 joins-front : (P : Problem) (cs ks : List GroundChoice) (x : Growth) → IsTrue (joins_all P (cs ++ ks) x) → IsTrue (joins_all P cs x)
 joins-front P [] ks x h = refl
@@ -86,7 +82,7 @@ beginning-facts P d (c ∷ cs) labels n b =
       within = within-kept d x (closed_growth t) keeps (within-closed P d t b.closed);
       regular = regular-kept x (closed_growth t) keeps (regular-closed P d t b.closed);
       joined = joined-front P c cs b.more (subst (λ xs. IsTrue (are_joined P xs)) b.is_list (joined-closed P d t b.closed));
-      step_lengths = (split-all (is_step_length P.setting.logic) (string_lengths (instances_in (c ∷ cs))) (string_lengths (instances_in b.more)) (subst (λ ns. IsTrue (list_all (is_step_length P.setting.logic) ns)) same (all-steps P.setting.logic (total_steps P (instances t)) (string_lengths (instances t)) tried))).0;
+      step_lengths = (all-parts (is_step_length P.setting.logic) (string_lengths (instances_in (c ∷ cs))) (string_lengths (instances_in b.more)) (subst (λ ns. IsTrue (list_all (is_step_length P.setting.logic) ns)) same (all-steps P.setting.logic (total_steps P (instances t)) (string_lengths (instances t)) tried))).0;
     }
 
 -- ---- what each closed tableau behind a state solves

@@ -1,8 +1,8 @@
 -- Where two goals of a branch are the same under the bindings, each tree that the state stands for is irregular.
-use Rattle.std.proofs.Common.{◌≡◌, ℕ, zero, suc, List, [], ◌∷◌, map, Bool, true, false, not, ◌&&◌, ◌||◌, IsTrue, refl, sym, ◌∙◌, ap, subst, Some, option_map, slice_get}
+use Rattle.std.proofs.Common.{◌≡◌, ℕ, zero, suc, List, [], ◌∷◌, map, Bool, true, false, not, ◌&&◌, ◌||◌, IsTrue, refl, sym, ◌∙◌, ap, subst, Some, slice_get}
 use Rattle.std.specs.List.{list_all, list_any, AllByRecursion}
 use Rattle.std.proofs.lemmas.Bool.{false≢true}
-use Rattle.std.proofs.lemmas.Option.{slice_get-map}
+use Rattle.plain_laws.proofs.Places.{map-there}
 use Rattle.calculus.specs.Syntax.{Problem}
 use Rattle.calculus.specs.Ground.{GroundLiteral}
 use Rattle.calculus.specs.Equality.{literal_eq}
@@ -77,11 +77,8 @@ not-all p (y ∷ ys) (suc i) x e f = and-right (p y) (list_all p ys) (not-all p 
     and-right true b k = k
     and-right false b k = refl
 
-there : {A B : Type 0} (f : A → B) (xs : List A) (k : ℕ) (x : A) → slice_get xs k ≡ Some x → slice_get (map f xs) k ≡ Some (f x)
-there f xs k x e = slice_get-map f xs k ∙ ap (option_map f) e
-
 -- each image of a state with a same pair is irregular
 pub irregular-same : (S : State) → HasSamePair S → (τ : Solution) → Solves S.store τ → is_regular (growth_at τ S.growth) ≡ false
 irregular-same S (i, j, g, a, at_i, at_j, same) τ t =
-    not-all (λ (x : Goal). is_new_on x.path x.literal) (map (goal_at τ) S.growth.all_goals) i (goal_at τ g) (there (goal_at τ) S.growth.all_goals i g at_i)
-    (ap not (any-there (literal_by τ g.literal) (map (literal_by τ) g.path) j (literal_by τ a) (there (literal_by τ) g.path j a at_j) (same τ t)))
+    not-all (λ (x : Goal). is_new_on x.path x.literal) (map (goal_at τ) S.growth.all_goals) i (goal_at τ g) (map-there (goal_at τ) S.growth.all_goals i g at_i)
+    (ap not (any-there (literal_by τ g.literal) (map (literal_by τ) g.path) j (literal_by τ a) (map-there (literal_by τ) g.path j a at_j) (same τ t)))

@@ -3,6 +3,8 @@ use Rattle.std.proofs.Common.{◌≡◌, ◌⊎◌, ℕ, suc, ◌+◌, ◌<◌, 
 use Rattle.std.specs.List.{list_all}
 use Rattle.std.specs.Option.{option_map_or}
 use Rattle.std.proofs.lemmas.Bool.{false≢true, and_parts, and_from}
+use Rattle.plain_laws.proofs.Every.{all-parts}
+use Rattle.plain_laws.proofs.Places.{take-longer}
 use Rattle.calculus.specs.declared.sign.Sign.{Sign}
 use Rattle.calculus.specs.declared.sort.Sort.TheVariants.{TermSort}
 use Rattle.calculus.specs.declared.sign.Sign.TheVariants.{F}
@@ -18,11 +20,9 @@ use Rattle.calculus.specs.Labels.{nu_label, pi_label}
 use Rattle.calculus.specs.Positions.{size, Node, node, way, way_from}
 use Rattle.calculus.specs.Skolem.{Reached, after_modal, after_node, after_shape, at_root, are_admitted_values, fits_along, fits_way, is_admitted_value, is_pi_position, is_step, take_string, take_term}
 use Rattle.calculus.specs.Syntax.{Formula, Problem}
-use Rattle.calculus.proofs.PlaceLists.{take-front}
 use Rattle.calculus.proofs.SpotLaws.{LeadsTo, LeadsTo-append, Stands, mark-proper, values_list-tree}
 use Rattle.store_theory.specs.Stores.{Store, has_sort_at}
 use Rattle.search_theory.specs.LabelledCells.{sort_value, sort_values}
-use Rattle.search_theory.proofs.SystemLaws.{split-all}
 
 -- ---- what a position takes
 
@@ -201,11 +201,11 @@ right-mark P s rs k q sign f place h pi =
     let taken = h.reached.taken in
     let spot : Spot = record { position = q; label = h.reached.label; taken = taken; env = [] } in
     let stands : Stands P h.before spot sign f = record { in_way = h.in_way; comes = h.comes } in
-    let proper = split-all (is_admitted_value P) taken h.reached.rest (subst (λ us. IsTrue (list_all (is_admitted_value P) us)) h.whole (sorts-admitted P s rs)) in
+    let proper = all-parts (is_admitted_value P) taken h.reached.rest (subst (λ us. IsTrue (list_all (is_admitted_value P) us)) h.whole (sorts-admitted P s rs)) in
     let mark = mark-proper P h.before spot sign f stands pi proper.0 in
     let all = and_parts (is_pi_position P q && fits_way P q (values_list (values_tree taken))) (are_admitted_values P (values_tree taken)) mark in
     let c = h.count in
-    let front : take k vs ≡ taken = ap (take k) h.whole ∙ take-front k taken h.reached.rest (omega (arith, c)) ∙ whole k taken c in
+    let front : take k vs ≡ taken = ap (take k) h.whole ∙ take-longer k taken h.reached.rest (omega (arith, c)) ∙ whole k taken c in
     subst (λ us. IsTrue (is_pi_position P q && fits_way P q us)) (values_list-tree taken ∙ sym front) all.0
   where
     whole : (n : ℕ) (us : List Value) → length us ≡ n → take n us ≡ us

@@ -1,11 +1,11 @@
 -- Ground solutions that give each unbound variable a value by a rule, which may look at the values of other cells.
 use Rattle.std.proofs.Common.{◌≡◌, ℕ, zero, suc, ◌<◌, List, [], ◌∷◌, false, ◌||◌, IsTrue, refl, sym, ◌∙◌, ap, subst, Option, Some, None, slice_get, inl, arith}
+use Rattle.plain_laws.proofs.Every.{all-weaken}
 use Rattle.calculus.specs.declared.sort.Sort.{Sort}
 use Rattle.calculus.specs.declared.sort.Sort.TheVariants.{TermSort, MarkSort, StringSort}
 use Rattle.calculus.specs.Ground.{common, g_fun, g_eigen, g_new_mark, g_spare_mark, values_tree}
 use Rattle.store_theory.specs.Stores.{Cell, variable, fun_cell, eigen_cell, new_cell, string_cell, Store, parts_of, sort_of, has_sort_at, has_value_sort_at, parts_fit, is_store, CellValue, a_term, a_mark, a_string, has_sort, Solution, CellHolds, Solves, GammaCell, IsHome, IsOwnSpare, AreOwnSpares}
 use Rattle.search_theory.specs.States.{terms_by, label_by, values_by}
-use Rattle.search_theory.proofs.BelowLaws.{all-weaken}
 use Rattle.search_theory.proofs.SpareLaws.{IsRanked, spare_at, cell-alike, cell-sorted, cell-fits, sort-same, spare-sort, terms-there, values-there, marks-there, or-both}
 use Rattle.search_theory.specs.CellsIn.{IsPart}
 use Rattle.search_theory.proofs.DistinctLaws.{IsSpareValue, AreDistinct}

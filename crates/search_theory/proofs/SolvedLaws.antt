@@ -1,14 +1,16 @@
 -- Lists that close the leftmost open goal of a list: what is grown on the way has goals that are closed too, and goes on by choices of an
 -- open goal. Where no such list is pending any more, no bindings close the goal.
-use Rattle.std.proofs.Common.{◌≡◌, ℕ, zero, suc, ◌+◌, ◌-◌, ◌<◌, ◌≤◌, List, [], ◌∷◌, ◌++◌, length, map, remove, ◌&&◌, IsTrue, refl, sym, ◌∙◌, ap, subst, Option, Some, None, option_map, option_and_then, slice_get, nat_lt, arith, append_assoc, append-nil}
+use Rattle.std.proofs.Common.{◌≡◌, ℕ, zero, suc, ◌+◌, ◌-◌, ◌<◌, ◌≤◌, List, [], ◌∷◌, ◌++◌, length, map, remove, ◌&&◌, IsTrue, refl, sym, ◌∙◌, ap, subst, Some, option_and_then, slice_get, nat_lt, arith, append_assoc, append-nil}
 use Rattle.std.specs.List.{list_all, AllByRecursion}
 use Rattle.std.proofs.lemmas.Bool.{and_parts, and_from}
 use Rattle.std.proofs.lemmas.List.{length-append, length-map}
-use Rattle.std.proofs.lemmas.Option.{slice_get-map}
+use Rattle.plain_laws.proofs.Every.{all-append, each-append}
+use Rattle.plain_laws.proofs.Places.{get-front, map-there}
+use Rattle.plain_laws.proofs.Options.{same-some, then-some}
 use Rattle.calculus.specs.Syntax.{Problem}
 use Rattle.calculus.specs.Ground.{GroundLiteral}
 use Rattle.calculus.specs.ComputedInstances.{is_instance}
-use Rattle.calculus.specs.Tableaux.{Closing, Closings, reduce, extend, no_closings, more_closings, ancestor, is_complement, is_new_on, is_shown, closes, closes_all}
+use Rattle.calculus.specs.Tableaux.{Closing, Closings, reduce, extend, no_closings, more_closings, ancestor, is_shown, closes, closes_all}
 use Rattle.calculus.specs.Choices.{start, reduction, extension, Choice, GroundChoice, choice_of, choices_of, choices_below, choices_of_all, Goal, Growth, is_opposite, goals_on, after_start, grow_at, grow, growth_of, is_within}
 use Rattle.calculus.proofs.GrowthLaws.{extended-parts, goals_below, goals_of_all, depths_below, depths_of_all, grown_at, is_below, run}
 use Rattle.store_theory.specs.Stores.{Store, Solution}
@@ -20,7 +22,6 @@ use Rattle.search_theory.specs.OrderedChoices.{choices_at}
 use Rattle.search_theory.specs.States.{CellChoice, CellGoal, State, literal_by, choice_at, goal_at, growth_at, IsGround, IsStateOf}
 use Rattle.search_theory.proofs.BeginningLaws.{beginning, growth-append, not-empty-behind, within-kept}
 use Rattle.search_theory.specs.DeadEnds.{is_not_empty, Grows}
-use Rattle.search_theory.proofs.BelowLaws.{all-join}
 use Rattle.search_theory.proofs.ChoiceLaws.{choices-complete}
 use Rattle.search_theory.proofs.ExploreLaws.{begins-behind}
 use Rattle.search_theory.proofs.ExtensionLaws.{extension-of, last-at, reduction-of, state_at}
@@ -29,7 +30,7 @@ use Rattle.search_theory.proofs.LastChoice.{grow_once, none≢some}
 use Rattle.search_theory.proofs.LookAheadLaws.{closeable}
 use Rattle.search_theory.specs.Closing.{IsCloseable}
 use Rattle.search_theory.proofs.NextLaws.{extension-shape, grown_state, not-start, reduction-shape}
-use Rattle.search_theory.proofs.StepLaws.{if-some, same-some}
+use Rattle.search_theory.proofs.StepLaws.{if-some}
 
 -- ---- where a goal stands in a list
 
@@ -37,20 +38,12 @@ pub get-behind : {A : Type 0} (xs ys : List A) (i : ℕ) → slice_get (xs ++ ys
 get-behind [] ys i = ap (slice_get ys) (let e : 0 + i ≡ i = omega arith in e)
 get-behind (x ∷ xs) ys i = ap (slice_get (x ∷ (xs ++ ys))) (let e : suc (length xs) + i ≡ suc (length xs + i) = omega arith in e) ∙ get-behind xs ys i
 
-get-front : {A : Type 0} (xs ys : List A) (i : ℕ) (y : A) → slice_get xs i ≡ Some y → slice_get (xs ++ ys) i ≡ Some y
-get-front [] ys i y e = cc e
-get-front (x ∷ xs) ys zero y e = e
-get-front (x ∷ xs) ys (suc i) y e = get-front xs ys i y e
-
 -- an item of a list from the number n on is one of what stands behind the first n items
 get-later : {A : Type 0} (xs ys zs more : List A) (n j : ℕ) (y : A) → length xs ≡ n → n ≤ j → xs ++ ys ≡ zs ++ more → slice_get zs j ≡ Some y → slice_get ys (j - n) ≡ Some y
 get-later xs ys zs more n j y l k e at =
-    let there : slice_get (xs ++ ys) j ≡ Some y = ap (λ us. slice_get us j) e ∙ get-front zs more j y at in
+    let map-there : slice_get (xs ++ ys) j ≡ Some y = ap (λ us. slice_get us j) e ∙ get-front zs more j y at in
     let number : j ≡ length xs + (j - n) = omega (arith, l, k) in
-    sym (get-behind xs ys (j - n)) ∙ sym (ap (slice_get (xs ++ ys)) number) ∙ there
-
-there : {A B : Type 0} (f : A → B) (xs : List A) (k : ℕ) (x : A) → slice_get xs k ≡ Some x → slice_get (map f xs) k ≡ Some (f x)
-there f xs k x e = slice_get-map f xs k ∙ ap (option_map f) e
+    sym (get-behind xs ys (j - n)) ∙ sym (ap (slice_get (xs ++ ys)) number) ∙ map-there
 
 each-at : {A : Type 0} (Q : A → Type 0) (xs : List A) (i : ℕ) (x : A) → AllByRecursion Q xs → slice_get xs i ≡ Some x → Q x
 each-at Q [] i x h e = cc e
@@ -58,10 +51,6 @@ each-at Q (y ∷ xs) zero x h e = let q : y ≡ x = cc e in subst Q q h.0
 each-at Q (y ∷ xs) (suc i) x h e = each-at Q xs i x h.1 e
 
 -- ---- goals below a goal
-
-both-hold : {A : Type 0} (Q : A → Type 0) (xs ys : List A) → AllByRecursion Q xs → AllByRecursion Q ys → AllByRecursion Q (xs ++ ys)
-both-hold Q [] ys h k = k
-both-hold Q (x ∷ xs) ys h k = (h.0, both-hold Q xs ys h.1 k)
 
 -- the path has more goals than k
 abbrev pub IsDeeper : ℕ → Goal → Type 0
@@ -75,12 +64,12 @@ mutual
   deeper-below : (k : ℕ) (g : GroundLiteral) (path : List GroundLiteral) (c : Closing) → k ≤ length path → AllByRecursion (IsDeeper k) (goals_below g path c)
   deeper-below k g path (reduce up) l = tt
   deeper-below k g path (extend i place below) l =
-      both-hold (IsDeeper k) (goals_on (g ∷ path) (remove i.literals place)) (goals_of_all (remove i.literals place) (g ∷ path) below) (deeper-on k (g ∷ path) (remove i.literals place) (omega (arith, l))) (deeper-all k (remove i.literals place) (g ∷ path) below (omega (arith, l)))
+      each-append (IsDeeper k) (goals_on (g ∷ path) (remove i.literals place)) (goals_of_all (remove i.literals place) (g ∷ path) below) (deeper-on k (g ∷ path) (remove i.literals place) (omega (arith, l))) (deeper-all k (remove i.literals place) (g ∷ path) below (omega (arith, l)))
 
   deeper-all : (k : ℕ) (goals path : List GroundLiteral) (cs : Closings) → k ≤ length path → AllByRecursion (IsDeeper k) (goals_of_all goals path cs)
   deeper-all k goals path no_closings l = tt
   deeper-all k [] path (more_closings c cs) l = tt
-  deeper-all k (g ∷ goals) path (more_closings c cs) l = both-hold (IsDeeper k) (goals_below g path c) (goals_of_all goals path cs) (deeper-below k g path c l) (deeper-all k goals path cs l)
+  deeper-all k (g ∷ goals) path (more_closings c cs) l = each-append (IsDeeper k) (goals_below g path c) (goals_of_all goals path cs) (deeper-below k g path c l) (deeper-all k goals path cs l)
 
 mutual
   within-below : (P : Problem) (d : ℕ) (c : Closing) (path : List GroundLiteral) (g : GroundLiteral) → IsTrue (closes P d path g c) → IsTrue (list_all (is_below d) (depths_below g path c))
@@ -94,12 +83,7 @@ mutual
   within-all P d (more_closings c cs) path [] h = refl
   within-all P d (more_closings c cs) path (g ∷ goals) h =
       let parts = and_parts (closes P d path g c) (closes_all P d path goals cs) h in
-      all-join (is_below d) (depths_below g path c) (depths_of_all goals path cs) (within-below P d c path g parts.0) (within-all P d cs path goals parts.1)
-
--- a goal that is closed is new on its path
-pub closed-new : (P : Problem) (d : ℕ) (c : Closing) (path : List GroundLiteral) (g : GroundLiteral) → IsTrue (closes P d path g c) → IsTrue (is_new_on path g)
-closed-new P d (reduce up) path g h = (and_parts (is_new_on path g) (is_complement g (ancestor path up)) h).0
-closed-new P d (extend i place below) path g h = (extended-parts P d path g i place below h).is_new
+      all-append (is_below d) (depths_below g path c) (depths_of_all goals path cs) (within-below P d c path g parts.0) (within-all P d cs path goals parts.1)
 
 -- ---- open goals: no one has a longer path than those before it
 
@@ -117,7 +101,7 @@ weaker (g ∷ gs) k n l h = ((let a = h.0 in omega (arith, a, l)), weaker gs k n
 
 fall-on : (path xs : List GroundLiteral) (gs : List Goal) → AllByRecursion (λ (x : Goal). length x.path ≤ length path) gs → FallOff gs → FallOff (goals_on path xs ++ gs)
 fall-on path [] gs h k = k
-fall-on path (x ∷ xs) gs h k = (both-hold (λ (y : Goal). length y.path ≤ length path) (goals_on path xs) gs (shorter-on (length path) path xs (omega arith)) h, fall-on path xs gs h k)
+fall-on path (x ∷ xs) gs h k = (each-append (λ (y : Goal). length y.path ≤ length path) (goals_on path xs) gs (shorter-on (length path) path xs (omega arith)) h, fall-on path xs gs h k)
 
 fall-once : (P : Problem) (c : GroundChoice) (gs : List Goal) (x y : Growth) → FallOff gs → grow_at P c gs x ≡ Some y → FallOff y.open_goals
 fall-once P (start i) gs x y h e = none≢some y e
@@ -129,10 +113,6 @@ fall-once P (extension i place) [] x y h e = none≢some y e
 fall-once P (extension i place) (g ∷ gs) x y h e =
     let q = if-some (is_instance P i && is_opposite g.literal (slice_get i.literals place)) _ y e in
     subst (λ (z : Growth). FallOff z.open_goals) q.1 (fall-on (g.literal ∷ g.path) (remove i.literals place) gs (weaker gs (length g.path) (suc (length g.path)) (omega arith) h.0) h.1)
-
-then-some : {A : Type 0} (f : A → Option A) (o : Option A) (y : A) → option_and_then f o ≡ Some y → (x : A) × (o ≡ Some x) × (f x ≡ Some y)
-then-some f None y e = none≢some y e
-then-some f (Some x) y e = (x, refl, e)
 
 fall-all : (P : Problem) (cs : List GroundChoice) (x y : Growth) → FallOff x.open_goals → grow P cs x ≡ Some y → FallOff y.open_goals
 fall-all P [] x y h e = let q : x ≡ y = cc e in subst (λ (z : Growth). FallOff z.open_goals) q h
@@ -177,7 +157,7 @@ pub solved-names : (P : Problem) (d : ℕ) (c b : List Choice) (k : IsSolvedList
 solved-names P d c b k = names-both k.choices (choices_below k.closing) ∙ ap (λ xs. xs ++ choices_of (choices_below k.closing)) k.names ∙ sym k.is_list
 
 solved-within : (P : Problem) (d : ℕ) (c b : List Choice) (k : IsSolvedList P d c b) → IsTrue (is_within d (grown_by P d c b k))
-solved-within P d c b k = all-join (λ n. nat_lt n d) k.growth.depths (depths_below k.goal.literal k.goal.path k.closing) k.within (within-below P d k.closing k.goal.path k.goal.literal k.closed)
+solved-within P d c b k = all-append (λ n. nat_lt n d) k.growth.depths (depths_below k.goal.literal k.goal.path k.closing) k.within (within-below P d k.closing k.goal.path k.goal.literal k.closed)
 
 -- ---- a beginning of such a list
 
@@ -241,7 +221,7 @@ solved-image P d c p b S n m h k l begins =
     let g = begun P d c b p k m begins in
     let (σ, ground, image) = h.complete g.choices g.growth g.names g.grows in
     let same : g.growth ≡ growth_at σ S.growth = same-some (growth_of P g.choices) g.growth (growth_at σ S.growth) g.grows (ap (growth_of P) (sym image) ∙ h.sound σ ground) in
-    let at : (j : ℕ) (x : CellGoal) → slice_get S.growth.all_goals j ≡ Some x → slice_get g.growth.all_goals j ≡ Some (goal_at σ x) = λ j x e. ap (λ (y : Growth). slice_get y.all_goals j) same ∙ there (goal_at σ) S.growth.all_goals j x e in
+    let at : (j : ℕ) (x : CellGoal) → slice_get S.growth.all_goals j ≡ Some x → slice_get g.growth.all_goals j ≡ Some (goal_at σ x) = λ j x e. ap (λ (y : Growth). slice_get y.all_goals j) same ∙ map-there (goal_at σ) S.growth.all_goals j x e in
     record {
       solution = σ;
       ground = ground;

@@ -4,6 +4,7 @@ use Rattle.std.proofs.Common.{◌≡◌, ℕ, zero, suc, ◌==◌, List, [], ◌
 use Rattle.std.specs.List.{list_all, AllByRecursion}
 use Rattle.std.proofs.lemmas.Bool.{false≢true, and_parts, and_from}
 use Rattle.std.proofs.lemmas.Option.{slice_get_within}
+use Rattle.plain_laws.proofs.Every.{all-weaken}
 use Rattle.calculus.specs.declared.sort.Sort.{Sort}
 use Rattle.calculus.specs.declared.sort.Sort.TheVariants.{TermSort, MarkSort, StringSort}
 use Rattle.calculus.specs.declared.setting.Logic.{Logic}
@@ -21,7 +22,6 @@ use Rattle.search_theory.specs.States.{label_by, literal_by, Agree}
 use Rattle.search_theory.specs.Regular.{AreSame}
 use Rattle.search_theory.specs.Solving.{IsSolving, IsClosedSet, HasCells}
 use Rattle.search_theory.proofs.SpareLaws.{IsRanked, cell-sorted, terms-there, or-both}
-use Rattle.search_theory.proofs.BelowLaws.{all-weaken}
 use Rattle.search_theory.proofs.BuildingLaws.{solved-sorted}
 use Rattle.search_theory.proofs.DistinctLaws.{IsSpareValue, AreDistinct}
 use Rattle.search_theory.proofs.AtomLaws.{atoms-same, literal-by}
@@ -29,7 +29,7 @@ use Rattle.search_theory.specs.CellsIn.{IsAtomIn}
 
 -- ---- what a system names is below the size of its store
 
-sorted-below : (s : Store) (sort : Sort) (r : ℕ) → IsTrue (has_sort_at s sort r) → IsTrue (nat_lt r (length s.cells))
+pub sorted-below : (s : Store) (sort : Sort) (r : ℕ) → IsTrue (has_sort_at s sort r) → IsTrue (nat_lt r (length s.cells))
 sorted-below s sort r h = let t = cell-sorted s sort r h in lt-ltb r (length s.cells) (slice_get_within s.cells r t.0 t.1)
 
 pub all-below : (s : Store) (sort : Sort) (rs : List ℕ) → IsTrue (list_all (has_sort_at s sort) rs) → IsTrue (names_below (length s.cells) rs)

@@ -4,6 +4,7 @@ use Rattle.std.proofs.Common.{◌≡◌, ℕ, zero, suc, ◌<◌, List, [], ◌�
 use Rattle.std.specs.List.{list_all}
 use Rattle.std.specs.Option.{option_map_or}
 use Rattle.std.proofs.lemmas.Bool.{false≢true, and_parts}
+use Rattle.plain_laws.proofs.Every.{all-at, all-weaken}
 use Rattle.calculus.specs.declared.sort.Sort.{Sort}
 use Rattle.calculus.specs.declared.sort.Sort.TheVariants.{TermSort, MarkSort, StringSort}
 use Rattle.calculus.specs.Ground.{g_fun, g_eigen, common, more_g_terms, g_new_mark, g_spare_mark, more_values, values_tree}
@@ -11,7 +12,6 @@ use Rattle.calculus.specs.Equality.{sort_eq}
 use Rattle.store_theory.specs.Stores.{Cell, variable, fun_cell, eigen_cell, new_cell, string_cell, Store, parts_of, sort_of, has_sort_at, has_value_sort_at, parts_fit, is_store, trail_fits, CellValue, a_term, a_mark, a_string, has_sort, Solution, cons_term, terms_at, cons_value, values_at, cons_mark, marks_at, CellHolds, Solves, GammaCell, IsOwnSpare, AreOwnSpares}
 use Rattle.store_theory.specs.Templates.{as_term, as_value, as_label}
 use Rattle.search_theory.specs.States.{terms_by, label_by, values_by}
-use Rattle.search_theory.proofs.BelowLaws.{all-weaken}
 use Rattle.search_theory.specs.CellsIn.{IsPart}
 use Rattle.search_theory.specs.SpareRules.{label-alike}
 
@@ -102,11 +102,6 @@ pub spare-sort : (sort : Sort) (r : ℕ) → IsTrue (has_sort sort (spare_of sor
 spare-sort TermSort r = refl
 spare-sort MarkSort r = refl
 spare-sort StringSort r = refl
-
-pub all-at : {A : Type 0} (p : A → Bool) (xs : List A) (i : ℕ) (x : A) → IsTrue (list_all p xs) → slice_get xs i ≡ Some x → IsTrue (p x)
-all-at p [] i x h e = cc e
-all-at p (y ∷ ys) zero x h e = let q : y ≡ x = cc e in subst (λ z. IsTrue (p z)) q (and_parts (p y) (list_all p ys) h).0
-all-at p (y ∷ ys) (suc i) x h e = all-at p ys i x (and_parts (p y) (list_all p ys) h).1 e
 
 pub cell-fits : (s : Store) → IsTrue (is_store s) → (r : ℕ) (c : Cell) → slice_get s.cells r ≡ Some c → IsTrue (parts_fit s c)
 cell-fits s h r c e = all-at (parts_fit s) s.cells r c (and_parts (list_all (parts_fit s) s.cells) (trail_fits s) h).0 e

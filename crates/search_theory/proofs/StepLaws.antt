@@ -2,6 +2,7 @@
 use Rattle.std.proofs.Common.{◌≡◌, ℕ, List, [], ◌∷◌, ◌++◌, length, map, Bool, true, false, ◌&&◌, IsTrue, refl, sym, ◌∙◌, ap, subst, Option, Some, None, option_and_then, IsSomeAnd, if◌then◌else◌}
 use Rattle.std.specs.List.{list_all, AllByRecursion}
 use Rattle.std.proofs.lemmas.Bool.{false≢true, and_parts, and_from}
+use Rattle.plain_laws.proofs.Every.{all-map}
 use Rattle.calculus.specs.declared.sign.Side.{Side}
 use Rattle.calculus.specs.Syntax.{Problem}
 use Rattle.calculus.specs.Ground.{Value}
@@ -55,13 +56,6 @@ if-some false x y e = none≢some y e
 
 pub if-true : {A : Type 0} (b : Bool) (x : A) → IsTrue b → (if b then Some x else None) ≡ Some x
 if-true b x h = rw h refl
-
-pub same-some : {A : Type 0} (o : Option A) (x y : A) → o ≡ Some x → o ≡ Some y → x ≡ y
-same-some o x y e f = let q : Some x ≡ Some y = sym e ∙ f in cc q
-
-pub all-map : {A B : Type 0} (f : A → B) (p : B → Bool) (xs : List A) → list_all p (map f xs) ≡ list_all (λ x. p (f x)) xs
-all-map f p [] = refl
-all-map f p (x ∷ xs) = ap (λ b. p (f x) && b) (all-map f p xs)
 
 pub admitted-all : (P : Problem) (σ : Solution) (cs : List CellChoice) (c : CellChoice) → AllByRecursion (IsAdmittedAt P σ) (cs ++ c ∷ []) → AllByRecursion (IsAdmittedAt P σ) cs × IsAdmittedAt P σ c
 admitted-all P σ [] c h = (tt, h.0)

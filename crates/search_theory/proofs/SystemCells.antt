@@ -2,12 +2,12 @@
 use Rattle.std.proofs.Common.{◌≡◌, ℕ, zero, suc, ◌+◌, List, [], ◌∷◌, ◌++◌, ◌&&◌, ◌||◌, IsTrue, ap, ◌∙◌, Some, slice_get}
 use Rattle.std.specs.List.{list_all, flat_map, AllByRecursion}
 use Rattle.std.proofs.lemmas.Bool.{and_parts, and_from}
+use Rattle.plain_laws.proofs.Every.{all-weaken}
 use Rattle.calculus.specs.declared.sort.Sort.{Sort}
 use Rattle.calculus.specs.declared.sort.Sort.TheVariants.{TermSort, MarkSort, StringSort}
 use Rattle.store_theory.specs.Stores.{Store, has_sort_at, GammaCell}
 use Rattle.store_theory.specs.Systems.{CellAtom, Equation, Pair, System, is_label, is_equation, is_gamma_cell, is_cell_atom, is_pair, is_system, cells_of_atom, cells_of}
 use Rattle.search_theory.specs.Solving.{HasCells}
-use Rattle.search_theory.proofs.BelowLaws.{all-weaken}
 use Rattle.search_theory.proofs.SpareLaws.{or-both}
 use Rattle.search_theory.specs.CellsIn.{IsPart}
 use Rattle.search_theory.proofs.SolvingLaws.{system-parts, PairIn, HasPairsIn}

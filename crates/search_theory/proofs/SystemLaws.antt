@@ -1,7 +1,9 @@
 -- A state without open goals has a closed tableau with its choice list exactly where its system has a bounded solution.
-use Rattle.std.proofs.Common.{◌≡◌, ℕ, suc, ◌≤◌, ◌==◌, List, [], ◌∷◌, ◌++◌, length, map, Bool, true, false, not, IsTrue, refl, sym, ◌∙◌, ap, ap₂, subst, Some, nat_le, sum_by, arith, eqb-true, eq-eqb, filter_map, if◌then◌else◌}
+use Rattle.std.proofs.Common.{◌≡◌, ℕ, suc, ◌≤◌, ◌==◌, List, [], ◌∷◌, length, map, Bool, true, false, not, IsTrue, refl, sym, ◌∙◌, ap, ap₂, subst, Some, nat_le, sum_by, arith, eqb-true, eq-eqb, filter_map, if◌then◌else◌}
 use Rattle.std.specs.List.{list_all, list_any, AllByRecursion}
 use Rattle.std.proofs.lemmas.Bool.{false≢true, and_parts, and_from, not-true, or_parts, or_from}
+use Rattle.plain_laws.proofs.Every.{each-parts, each-append, all-weaken, all-parts}
+use Rattle.plain_laws.proofs.Options.{same-some}
 use Rattle.calculus.specs.declared.setting.Logic.{Logic}
 use Rattle.calculus.specs.declared.setting.Logic.TheVariants.{Classical, Intuitionistic, D, T as LogicT, S4, S5}
 use Rattle.calculus.specs.Syntax.{Problem}
@@ -21,8 +23,6 @@ use Rattle.search_theory.specs.States.{CellGoal, State, literal_by, choice_at, g
 use Rattle.search_theory.specs.Joined.{are_short, are_joined}
 use Rattle.search_theory.specs.Exploring.{IsClosedList, IsMemberAt}
 use Rattle.search_theory.specs.StateSystems.{pairs_with, pairs_of, IsTreeOf, IsSystemOf}
-use Rattle.search_theory.proofs.BelowLaws.{all-weaken}
-use Rattle.search_theory.proofs.StepLaws.{same-some}
 use Rattle.search_theory.proofs.ImageLaws.{names-image}
 use Rattle.search_theory.proofs.ClosedLaws.{IsTableauOf, closed-by_short_growth}
 use Rattle.search_theory.proofs.AtomLaws.{literal-by}
@@ -55,30 +55,18 @@ pairs-by_new s σ t a (b ∷ path) h e =
     let q = or_parts (literal_eq (literal_by σ a) (literal_by σ b)) (list_any (literal_eq (literal_by σ a)) (map (literal_by σ) path)) e in
     (differ-by s σ t (record { upper = b; lower = a }) p.0 (unlike (literal_by σ a) (literal_by σ b) q.0), pairs-by_new s σ t a path p.1 q.1)
 
-pub all-apart : {A : Type 0} (Q : A → Type 0) (xs ys : List A) → AllByRecursion Q (xs ++ ys) → AllByRecursion Q xs × AllByRecursion Q ys
-all-apart Q [] ys h = (tt, h)
-all-apart Q (x ∷ xs) ys h = let r = all-apart Q xs ys h.1 in ((h.0, r.0), r.1)
-
-pub all-joined : {A : Type 0} (Q : A → Type 0) (xs ys : List A) → AllByRecursion Q xs → AllByRecursion Q ys → AllByRecursion Q (xs ++ ys)
-all-joined Q [] ys h k = k
-all-joined Q (x ∷ xs) ys h k = (h.0, all-joined Q xs ys h.1 k)
-
-pub split-all : {A : Type 0} (p : A → Bool) (xs ys : List A) → IsTrue (list_all p (xs ++ ys)) → IsTrue (list_all p xs) × IsTrue (list_all p ys)
-split-all p [] ys h = (refl, h)
-split-all p (x ∷ xs) ys h = let q = and_parts (p x) (list_all p (xs ++ ys)) h in let r = split-all p xs ys q.1 in (and_from (p x) (list_all p xs) q.0 r.0, r.1)
-
 pub regular-by_pairs : (σ : Solution) (gs : List CellGoal) → AllByRecursion (Differ σ) (pairs_of gs) → IsTrue (list_all (λ (g : Goal). is_new_on g.path g.literal) (map (goal_at σ) gs))
 regular-by_pairs σ [] h = refl
 regular-by_pairs σ (g ∷ gs) h =
-    let p = all-apart (Differ σ) (pairs_with g.literal g.path) (pairs_of gs) h in
+    let p = each-parts (Differ σ) (pairs_with g.literal g.path) (pairs_of gs) h in
     and_from (is_new_on (map (literal_by σ) g.path) (literal_by σ g.literal)) (list_all (λ (x : Goal). is_new_on x.path x.literal) (map (goal_at σ) gs)) (ap not (new-by_pairs σ g.literal g.path p.0)) (regular-by_pairs σ gs p.1)
 
 pub pairs-by_regular : (s : Store) (σ : Solution) → Solves s σ → (gs : List CellGoal) → IsTrue (list_all (is_pair s) (pairs_of gs)) → IsTrue (list_all (λ (g : Goal). is_new_on g.path g.literal) (map (goal_at σ) gs)) → AllByRecursion (Differ σ) (pairs_of gs)
 pairs-by_regular s σ t [] h r = tt
 pairs-by_regular s σ t (g ∷ gs) h r =
-    let p = split-all (is_pair s) (pairs_with g.literal g.path) (pairs_of gs) h in
+    let p = all-parts (is_pair s) (pairs_with g.literal g.path) (pairs_of gs) h in
     let q = and_parts (is_new_on (map (literal_by σ) g.path) (literal_by σ g.literal)) (list_all (λ (x : Goal). is_new_on x.path x.literal) (map (goal_at σ) gs)) r in
-    all-joined (Differ σ) (pairs_with g.literal g.path) (pairs_of gs) (pairs-by_new s σ t g.literal g.path p.0 (not-true (list_any (literal_eq (literal_by σ g.literal)) (map (literal_by σ) g.path)) q.0)) (pairs-by_regular s σ t gs p.1 q.1)
+    each-append (Differ σ) (pairs_with g.literal g.path) (pairs_of gs) (pairs-by_new s σ t g.literal g.path p.0 (not-true (list_any (literal_eq (literal_by σ g.literal)) (map (literal_by σ) g.path)) q.0)) (pairs-by_regular s σ t gs p.1 q.1)
 
 -- ---- lengths
 
@@ -106,7 +94,7 @@ within-by_lengths b (steps w ∷ vs) h = let p = and_parts (nat_le (length (mark
 
 all-within : (b : ℕ) (is : List ClauseInstance) → IsTrue (list_all (λ n. nat_le n b) (string_lengths is)) → IsTrue (list_all (strings_within b) is)
 all-within b [] h = refl
-all-within b (i ∷ is) h = let p = split-all (λ n. nat_le n b) (lengths_in i) (string_lengths is) h in and_from (strings_within b i) (list_all (strings_within b) is) (within-by_lengths b i.values p.0) (all-within b is p.1)
+all-within b (i ∷ is) h = let p = all-parts (λ n. nat_le n b) (lengths_in i) (string_lengths is) h in and_from (strings_within b i) (list_all (strings_within b) is) (within-by_lengths b i.values p.0) (all-within b is p.1)
 
 -- lengths that are tried are short
 short-by_tried : (l : Logic) (b : ℕ) (is : List ClauseInstance) → IsTrue (list_all (is_tried_length l b) (string_lengths is)) → IsTrue (if has_unbounded_strings l then list_all (strings_within b) is else true)

@@ -4,6 +4,8 @@ use Rattle.std.specs.List.{list_all}
 use Rattle.std.proofs.lemmas.Bool.{and_parts, and_from}
 use Rattle.std.proofs.lemmas.List.{map-append}
 use Rattle.std.proofs.lemmas.List.Sums.{sum_by-cons, sum_by-append}
+use Rattle.plain_laws.proofs.Every.{each-parts, each-append, all-parts}
+use Rattle.plain_laws.proofs.Places.{map-there}
 use Rattle.calculus.specs.Syntax.{Problem}
 use Rattle.calculus.specs.Instances.{ClauseInstance, GammaUse, gamma_is_allowed}
 use Rattle.calculus.specs.ComputedInstances.{is_instance, is_allowed_instance, modal_steps, nu_steps}
@@ -20,10 +22,8 @@ use Rattle.search_theory.specs.StateSystems.{pairs_with, pairs_of, IsTreeOf, IsS
 use Rattle.search_theory.proofs.LastChoice.{grow_once, none≢some}
 use Rattle.search_theory.proofs.StepLaws.{if-true, admitted-all, start_state}
 use Rattle.search_theory.proofs.ExtensionLaws.{extension-grown, state_at, extended_state, reduced_state}
-use Rattle.search_theory.proofs.MeetingLaws.{literal-there}
 use Rattle.search_theory.proofs.AtomLaws.{label_at-by}
 use Rattle.search_theory.proofs.SolvingLaws.{system-parts, label-there}
-use Rattle.search_theory.proofs.SystemLaws.{all-apart, all-joined, split-all}
 use Rattle.search_theory.proofs.JoinedLaws.{joined-last, joined-parts, joined-start, start-joined, complement-some, some-complement}
 
 -- ---- lists
@@ -107,18 +107,18 @@ system-reduced P d c old new cs g gs every ds k a y h q r at well = record {
   pairs = q.pairs;
   joined = λ σ u equal demanded.
       let z = before σ u in
-      let both = all-apart (AreEqual σ) y.equations (e ∷ []) equal in
+      let both = each-parts (AreEqual σ) y.equations (e ∷ []) equal in
       subst (λ xs. IsTrue (are_joined P xs)) (sym (image σ))
       (joined-last P (map (choice_at σ) cs) (reduction (suc k)) (growth_at σ (state_at old cs g gs every ds).growth) _ (h.sound σ z) (grown σ u) (q.joined σ z both.0 demanded)
-      (complement-some (literal_by σ g.literal) (slice_get (map (literal_by σ) g.path) k) (literal_by σ a) (literal-there (literal_by σ) g.path k a at) (r.back σ u.solves).1 (labels-equal σ g.literal.label a.label both.1.0)));
+      (complement-some (literal_by σ g.literal) (slice_get (map (literal_by σ) g.path) k) (literal_by σ a) (map-there (literal_by σ) g.path k a at) (r.back σ u.solves).1 (labels-equal σ g.literal.label a.label both.1.0)));
   equal = λ σ u j.
       let z = before σ u in
       let p = joined-parts P (map (choice_at σ) cs) (reduction (suc k)) (growth_at σ (state_at old cs g gs every ds).growth) (h.sound σ z) (subst (λ xs. IsTrue (are_joined P xs)) (image σ) j) in
-      let same = some-complement (literal_by σ g.literal) (slice_get (map (literal_by σ) g.path) k) (literal_by σ a) (literal-there (literal_by σ) g.path k a at) p.1 in
+      let same = some-complement (literal_by σ g.literal) (slice_get (map (literal_by σ) g.path) k) (literal_by σ a) (map-there (literal_by σ) g.path k a at) p.1 in
       let more = q.equal σ z p.0 in
-      let es = split-all (is_equation new) y.equations (e ∷ []) (system-parts new (reduced_system y g.literal a) well).equations in
+      let es = all-parts (is_equation new) y.equations (e ∷ []) (system-parts new (reduced_system y g.literal a) well).equations in
       let l = and_parts (is_label new g.literal.label) (is_label new a.label) (and_parts (is_equation new e) true es.1).0 in
-      (all-joined (AreEqual σ) y.equations (e ∷ []) more.0 (equal-labels new σ u.solves g.literal.label a.label l.0 l.1 same, tt), more.1);
+      (each-append (AreEqual σ) y.equations (e ∷ []) more.0 (equal-labels new σ u.solves g.literal.label a.label l.0 l.1 same, tt), more.1);
   lengths = λ σ u. subst (λ is. HaveLengths σ y.strings (string_lengths is)) (sym (same-instances σ)) (q.lengths σ (before σ u));
   total = λ σ u. ap (total_steps P) (same-instances σ) ∙ q.total σ (before σ u);
   nus = λ σ u. ap (λ is. sum_by (nu_steps P) is) (same-instances σ) ∙ q.nus σ (before σ u);
@@ -148,25 +148,25 @@ system-extended P d c old new cs g gs every ds i place b y strings gammas pis h 
   joined = λ σ u equal demanded.
       let z = before σ u in
       let m = meets σ u in
-      let both = all-apart (AreEqual σ) y.equations (e ∷ []) equal in
+      let both = each-parts (AreEqual σ) y.equations (e ∷ []) equal in
       let uses = uses-apart σ y.gammas gammas demanded.0 demanded.1 in
-      let allowed = split-all (gamma_is_allowed P) uses.first uses.second (subst (AllAllowed P) uses.all_of_them demanded.2) in
+      let allowed = all-parts (gamma_is_allowed P) uses.first uses.second (subst (AllAllowed P) uses.all_of_them demanded.2) in
       subst (λ xs. IsTrue (are_joined P xs)) (sym (image σ))
       (joined-last P (map (choice_at σ) cs) (extension (clause_at σ i) place) (here σ) _ (h.sound σ z) (grown σ u) (q.joined σ z both.0 (uses.first, uses.are_first, allowed.0))
       (and_from (is_allowed_instance P (clause_at σ i)) (is_complement (literal_by σ g.literal) (slice_get (map (literal_by σ) i.literals) place))
       ((brings.allowed σ u.solves m.0).1 (uses.second, uses.are_second, allowed.1))
-      (complement-some (literal_by σ g.literal) (slice_get (map (literal_by σ) i.literals) place) (literal_by σ b) (literal-there (literal_by σ) i.literals place b at) m.1 (labels-equal σ g.literal.label b.label both.1.0))));
+      (complement-some (literal_by σ g.literal) (slice_get (map (literal_by σ) i.literals) place) (literal_by σ b) (map-there (literal_by σ) i.literals place b at) m.1 (labels-equal σ g.literal.label b.label both.1.0))));
   equal = λ σ u j.
       let z = before σ u in
       let m = meets σ u in
       let p = joined-parts P (map (choice_at σ) cs) (extension (clause_at σ i) place) (here σ) (h.sound σ z) (subst (λ xs. IsTrue (are_joined P xs)) (image σ) j) in
       let n = and_parts (is_allowed_instance P (clause_at σ i)) (is_complement (literal_by σ g.literal) (slice_get (map (literal_by σ) i.literals) place)) p.1 in
-      let same = some-complement (literal_by σ g.literal) (slice_get (map (literal_by σ) i.literals) place) (literal_by σ b) (literal-there (literal_by σ) i.literals place b at) n.1 in
+      let same = some-complement (literal_by σ g.literal) (slice_get (map (literal_by σ) i.literals) place) (literal_by σ b) (map-there (literal_by σ) i.literals place b at) n.1 in
       let more = q.equal σ z p.0 in
       let clause = (brings.allowed σ u.solves m.0).0 n.0 in
-      let es = split-all (is_equation new) y.equations (e ∷ []) (system-parts new (extended_system y g i place b strings gammas pis) well).equations in
+      let es = all-parts (is_equation new) y.equations (e ∷ []) (system-parts new (extended_system y g i place b strings gammas pis) well).equations in
       let l = and_parts (is_label new g.literal.label) (is_label new b.label) (and_parts (is_equation new e) true es.1).0 in (
-        all-joined (AreEqual σ) y.equations (e ∷ []) more.0 (equal-labels new σ u.solves g.literal.label b.label l.0 l.1 same, tt),
+        each-append (AreEqual σ) y.equations (e ∷ []) more.0 (equal-labels new σ u.solves g.literal.label b.label l.0 l.1 same, tt),
         (more.1.0 ++ clause.0, uses-join σ y.gammas gammas more.1.0 clause.0 more.1.1 clause.1, all-both P more.1.0 clause.0 more.1.2 clause.2),
       );
   lengths = λ σ u. subst (HaveLengths σ (y.strings ++ strings)) (sym (ap string_lengths (all-instances σ) ∙ string_lengths-append (instances_in (map (choice_at σ) cs)) (clause_at σ i ∷ []) ∙ ap (λ ns. string_lengths (instances_in (map (choice_at σ) cs)) ++ ns) (append-nil (lengths_in (clause_at σ i))))) (lengths-append σ y.strings strings (string_lengths (instances_in (map (choice_at σ) cs))) (lengths_in (clause_at σ i)) (q.lengths σ (before σ u)) (brings.lengths σ u.solves));

@@ -2,7 +2,8 @@
 use Rattle.std.proofs.Common.{◌≡◌, ℕ, zero, suc, ◌+◌, ◌<◌, List, [], ◌∷◌, ◌++◌, length, drop, Bool, true, false, ◌&&◌, ◌||◌, IsTrue, refl, sym, ◌∙◌, ap, subst, Option, Some, None, option_map, option_and_then, slice_get, slice_index_or, ltb-true, arith, append_assoc, append-nil}
 use Rattle.std.specs.List.{list_all}
 use Rattle.std.specs.Option.{option_map_or}
-use Rattle.std.proofs.lemmas.Bool.{false≢true, and_parts, and_from}
+use Rattle.std.proofs.lemmas.Bool.{false≢true, and_parts, and_from, or_left, or_right}
+use Rattle.plain_laws.proofs.Every.{all-append}
 use Rattle.calculus.specs.declared.sign.Sign.{Sign}
 use Rattle.calculus.specs.declared.sign.Sign.TheVariants.{F}
 use Rattle.calculus.specs.declared.sign.Side.{Side}
@@ -25,7 +26,6 @@ use Rattle.store_theory.specs.Patterns.{Pattern, p_var, p_eigen, p_new, no_patte
 use Rattle.store_theory.specs.Templates.{strings_from}
 use Rattle.calculus.specs.Labels.{pi_label}
 use Rattle.search_theory.specs.TemplateOf.{PatternSpot, root_pattern_spot, PatternPart, PatternBody, pattern_of, patterns_of, pattern_down, pattern_inside, of_sort, one_pi_more, pattern_modal, pattern_turn, pattern_atom, joined_patterns, pattern_alpha, pattern_beta, pattern_one, pattern_two, with_pattern_gamma, pattern_quantifier, pattern_part, template_by}
-use Rattle.search_theory.proofs.BelowLaws.{all-join}
 use Rattle.search_theory.proofs.Dropping.{drop-next, drop-both, drop-front}
 
 -- what stands on the way: values, a label, and a term for each bound variable
@@ -54,13 +54,6 @@ Fits body d = (sorts : List Sort) (c : PatternSpot) (ss : List Side) (n : ℕ) �
 
 variable-sort : (sorts : List Sort) (k : ℕ) (sort : Sort) → slice_get sorts k ≡ Some sort → IsTrue (sort_eq sort sort) → IsTrue (pattern_fits sorts sort (p_var k))
 variable-sort sorts k sort e h = ap (λ o. option_map_or (sort_eq sort) o false) e ∙ h
-
-or-second : (p q : Bool) → IsTrue q → IsTrue (p || q)
-or-second true q h = refl
-or-second false q h = h
-
-or-first : (p q : Bool) → IsTrue p → IsTrue (p || q)
-or-first p q h = rw h refl
 
 -- the same variables
 kept : (sorts : List Sort) (n : ℕ) (f : PatternPart → PatternPart) → ((y : PatternPart) → (f y).sorts ≡ y.sorts) → ((y : PatternPart) → PartFits sorts y → PartFits sorts (f y)) → (o : Option PatternPart) → FitsFrom sorts n o → FitsFrom sorts n (option_map f o)
@@ -117,7 +110,7 @@ label-more sorts l ws p h k = by l
     one = and_from (pattern_fits sorts MarkSort p || pattern_fits sorts StringSort p) true k refl
 
     more : IsTrue (is_label_pattern sorts (ws ++ p ∷ []))
-    more = all-join (λ q. pattern_fits sorts MarkSort q || pattern_fits sorts StringSort q) ws (p ∷ []) h one
+    more = all-append (λ q. pattern_fits sorts MarkSort q || pattern_fits sorts StringSort q) ws (p ∷ []) h one
 
     by : (l : Logic) → IsTrue (is_label_pattern sorts (pi_label l ws p))
     by Classical = more
@@ -133,15 +126,15 @@ modal-fits l Nu go d h sorts c ss n w =
     first-taken sorts n StringSort (go (record c { label = pi_label l c.label (p_var n); taken = c.taken ++ p_var n ∷ [] }) ss (suc n)) (λ e.
     let v = variable-sort sorts n StringSort e refl in
     h sorts (record c { label = pi_label l c.label (p_var n); taken = c.taken ++ p_var n ∷ [] }) ss (suc n) (record {
-      label = (label-more sorts l c.label (p_var n) w.label (or-second (pattern_fits sorts MarkSort (p_var n)) (pattern_fits sorts StringSort (p_var n)) v));
-      taken = all-join (is_value_pattern sorts) c.taken (p_var n ∷ []) w.taken (and_from (is_value_pattern sorts (p_var n)) true (or-second (pattern_fits sorts TermSort (p_var n)) (pattern_fits sorts StringSort (p_var n)) v) refl);
+      label = (label-more sorts l c.label (p_var n) w.label (or_right (pattern_fits sorts MarkSort (p_var n)) (pattern_fits sorts StringSort (p_var n)) v));
+      taken = all-append (is_value_pattern sorts) c.taken (p_var n ∷ []) w.taken (and_from (is_value_pattern sorts (p_var n)) true (or_right (pattern_fits sorts TermSort (p_var n)) (pattern_fits sorts StringSort (p_var n)) v) refl);
       env = w.env;
       depth = w.depth;
     }))
 modal-fits l Pi go d h sorts c ss n w =
     let p = p_new c.position (patterns_tree c.taken) in
     kept sorts n one_pi_more (λ y. refl) (λ y q. q) (go (record c { label = pi_label l c.label p }) ss n)
-    (h sorts (record c { label = pi_label l c.label p }) ss n (spot-label sorts d c (pi_label l c.label p) w (label-more sorts l c.label p w.label (or-first (pattern_fits sorts MarkSort p) (pattern_fits sorts StringSort p) (values-tree sorts c.taken w.taken)))))
+    (h sorts (record c { label = pi_label l c.label p }) ss n (spot-label sorts d c (pi_label l c.label p) w (label-more sorts l c.label p w.label (or_left (pattern_fits sorts MarkSort p) (pattern_fits sorts StringSort p) (values-tree sorts c.taken w.taken)))))
 
 spot-down : (sorts : List Sort) (d : ℕ) (c : PatternSpot) (k : ℕ) → SpotFits sorts d c → SpotFits sorts d (pattern_down k c)
 spot-down sorts d c k w = record { label = w.label; taken = w.taken; env = w.env; depth = w.depth }
@@ -159,7 +152,7 @@ beta-fits sorts second n k (Some x) h = by (second x.sides (n + length x.sorts))
         let both : drop n sorts ≡ x.sorts ++ (y.sorts ++ more) = e ∙ append_assoc x.sorts y.sorts more in
         let a = h (y.sorts ++ more) both in
         let b = g more (drop-both n (length x.sorts) sorts ∙ ap (drop (length x.sorts)) both ∙ drop-front x.sorts (y.sorts ++ more)) in
-        (all-join (atom_fits sorts) x.literals y.literals a.0 b.0, all-join (gamma_fits sorts) x.gammas y.gammas a.1 b.1)
+        (all-append (atom_fits sorts) x.literals y.literals a.0 b.0, all-append (gamma_fits sorts) x.gammas y.gammas a.1 b.1)
 
 alpha-fits : (sorts : List Sort) (n : ℕ) (f g : List Side → Option PatternPart) → ((ss : List Side) → FitsFrom sorts n (f ss)) → ((ss : List Side) → FitsFrom sorts n (g ss)) → (ss : List Side) → FitsFrom sorts n (pattern_alpha f g ss)
 alpha-fits sorts n f g h k [] = tt
@@ -189,7 +182,7 @@ quantifier-fits Gamma body d k sorts c ss n w =
     kept sorts (suc n) _ (λ y. refl) (λ y q. q) (option_map (with_pattern_gamma (p_var n) c.label) (body inner ss (suc n)))
     (gamma-more sorts (suc n) (p_var n) c.label v w.label (body inner ss (suc n)) (k sorts inner ss (suc n) (record {
       label = w.label;
-      taken = all-join (is_value_pattern sorts) c.taken (p_var n ∷ []) w.taken (and_from (is_value_pattern sorts (p_var n)) true (or-first (pattern_fits sorts TermSort (p_var n)) (pattern_fits sorts StringSort (p_var n)) v) refl);
+      taken = all-append (is_value_pattern sorts) c.taken (p_var n ∷ []) w.taken (and_from (is_value_pattern sorts (p_var n)) true (or_left (pattern_fits sorts TermSort (p_var n)) (pattern_fits sorts StringSort (p_var n)) v) refl);
       env = and_from (pattern_fits sorts TermSort (p_var n)) (list_all (pattern_fits sorts TermSort) c.env) v w.env;
       depth = ap suc w.depth;
     }))))

@@ -4,6 +4,7 @@ use Rattle.std.specs.List.{list_all}
 use Rattle.std.specs.Option.{option_map_or}
 use Rattle.std.proofs.lemmas.Bool.{false≢true, cases_Bool, and_from}
 use Rattle.std.proofs.lemmas.List.{map-append}
+use Rattle.plain_laws.proofs.Booleans.{same-tests}
 use Rattle.calculus.specs.declared.sign.Sign.{Sign}
 use Rattle.calculus.specs.declared.sign.Sign.TheVariants.{F}
 use Rattle.calculus.specs.declared.sign.Side.{Side}
@@ -111,12 +112,6 @@ prefix-itself (m ∷ w) v = and_from (mark_eq m m) (is_prefix mark_eq w (w ++ v)
 true-and : (a b : Bool) → a ≡ true → (a && b) ≡ b
 true-and true b e = refl
 true-and false b e = absurd (false≢true e)
-
-same-tests : (a b : Bool) → (IsTrue a → IsTrue b) → (IsTrue b → IsTrue a) → a ≡ b
-same-tests true true f g = refl
-same-tests true false f g = absurd (false≢true (f refl))
-same-tests false true f g = absurd (false≢true (g refl))
-same-tests false false f g = refl
 
 step-same : (l : Logic) (w v : List GroundMark) → steps_to mark_eq l w (nu_label l w v) ≡ is_step_length l (length v)
 step-same Classical w v = same-tests (list_eq mark_eq w (w ++ v)) (length v == 0) (λ h. let e = ap (λ (x : List GroundMark). length x) ((list_eq-tells mark_eq mark_eq-tells w (w ++ v)).0 h) in let k = length-append w v in eq-eqb (length v) 0 (omega (arith, e, k))) (λ h. (list_eq-tells mark_eq mark_eq-tells w (w ++ v)).1 (sym (ap (λ x. w ++ x) (nothing v (eqb-true (length v) 0 h)) ∙ append-nil w)))

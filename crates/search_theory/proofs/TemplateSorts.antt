@@ -1,6 +1,7 @@
 -- The variables of a template are terms and strings.
 use Rattle.std.proofs.Common.{◌≡◌, ℕ, suc, ◌+◌, List, [], ◌∷◌, length, IsTrue, refl, subst, Option, Some, None, option_map, option_and_then}
 use Rattle.std.specs.List.{list_all}
+use Rattle.plain_laws.proofs.Every.{all-append}
 use Rattle.calculus.specs.declared.sign.Sign.{Sign}
 use Rattle.calculus.specs.declared.sign.Sign.TheVariants.{F}
 use Rattle.calculus.specs.declared.sign.Side.{Side}
@@ -16,7 +17,6 @@ use Rattle.calculus.specs.Kinds.{other, shape_of, modal_of}
 use Rattle.calculus.specs.Positions.{size}
 use Rattle.store_theory.specs.Patterns.{Template}
 use Rattle.search_theory.specs.TemplateOf.{PatternSpot, root_pattern_spot, PatternPart, PatternBody, of_sort, pattern_modal, pattern_atom, joined_patterns, pattern_alpha, pattern_one, pattern_two, pattern_quantifier, pattern_part, template_by, if_sides_used, template_of}
-use Rattle.search_theory.proofs.BelowLaws.{all-join}
 use Rattle.search_theory.proofs.BuildingLaws.{is_variable_sort}
 
 abbrev IsSortedPart : Option PatternPart → Type 0
@@ -40,7 +40,7 @@ one-sorts body h c ss n = map-sorts _ (λ y q. q) (body _ ss n) (h _ ss n)
 
 beta-sorts : (second : List Side → ℕ → Option PatternPart) (n : ℕ) → ((ss : List Side) (m : ℕ) → IsSortedPart (second ss m)) → (o : Option PatternPart) → IsSortedPart o → IsSortedPart (option_and_then (λ (x : PatternPart). option_map (joined_patterns x) (second x.sides (n + length x.sorts))) o)
 beta-sorts second n k None h = tt
-beta-sorts second n k (Some x) h = map-sorts (joined_patterns x) (λ y q. all-join is_variable_sort x.sorts y.sorts h q) (second x.sides (n + length x.sorts)) (k x.sides (n + length x.sorts))
+beta-sorts second n k (Some x) h = map-sorts (joined_patterns x) (λ y q. all-append is_variable_sort x.sorts y.sorts h q) (second x.sides (n + length x.sorts)) (k x.sides (n + length x.sorts))
 
 alpha-sorts : (f g : List Side → Option PatternPart) → ((ss : List Side) → IsSortedPart (f ss)) → ((ss : List Side) → IsSortedPart (g ss)) → (ss : List Side) → IsSortedPart (pattern_alpha f g ss)
 alpha-sorts f g h k [] = tt

@@ -281,7 +281,7 @@ no-binding : (b : Bool) (sort : Sort) → cut_cell b (variable sort None) ≡ va
 no-binding true sort = refl
 no-binding false sort = refl
 
-some-cell : (cs : List Cell) (r : ℕ) → r < length cs → (c : Cell) × (slice_get cs r ≡ Some c)
+pub some-cell : (cs : List Cell) (r : ℕ) → r < length cs → (c : Cell) × (slice_get cs r ≡ Some c)
 some-cell [] r l = absurd (omega (arith, l))
 some-cell (c ∷ cs) zero l = (c, refl)
 some-cell (c ∷ cs) (suc r) l = some-cell cs r (omega (arith, l))

@@ -3,6 +3,7 @@
 use Rattle.std.proofs.Common.{◌≡◌, ℕ, ◌≤◌, List, [], ◌∷◌, ◌++◌, map, Bool, false, IsTrue, refl, sym, ◌∙◌, ap, None, append-nil, append_assoc}
 use Rattle.std.specs.List.{AllByRecursion}
 use Rattle.std.proofs.lemmas.Bool.{false≢true}
+use Rattle.plain_laws.proofs.Options.{same-some}
 use Rattle.calculus.specs.Syntax.{Problem}
 use Rattle.calculus.specs.Choices.{start, reduction, extension, Choice, GroundChoice, choice_of, Growth, growth_of, has_depth, IsLive}
 use Rattle.calculus.specs.Counting.{IsRising}
@@ -11,7 +12,6 @@ use Rattle.search_theory.specs.States.{State, goal_at, growth_at, IsStateOf}
 use Rattle.search_theory.specs.Exploring.{BeginsWith, IsClosedList, IsLeftList, IsMemberAt}
 use Rattle.search_theory.specs.Searching.{IsSearch}
 use Rattle.search_theory.proofs.LastChoice.{grow_once, none≢some}
-use Rattle.search_theory.proofs.StepLaws.{same-some}
 use Rattle.search_theory.specs.DeadEnds.{Grows, is_not_empty}
 use Rattle.search_theory.proofs.ExtensionLaws.{LastAt, last-at, is_start}
 use Rattle.search_theory.proofs.BeginningLaws.{not-empty-behind, ClosedBeginning, closed-beginning, left-beginning, left-parts}

@@ -4,12 +4,13 @@ use Rattle.std.specs.Int.{bit_at}
 use Rattle.std.proofs.lemmas.Bool.{and_parts, cases_eq, false≢true}
 use Rattle.std.proofs.lemmas.Option.{slice_get_within}
 use Rattle.std.proofs.lemmas.Nat.Bits.{bit_at-lt, bit_at_or}
+use Rattle.plain_laws.proofs.Places.{get-within}
+use Rattle.plain_laws.proofs.Options.{same-some}
 use Rattle.calculus.specs.declared.sign.Sign.{Sign}
 use Rattle.calculus.specs.Choices.{Choice}
 use Rattle.calculus.specs.Equality.{sign_eq}
 use Rattle.calculus.specs.Kinds.{other}
 use Rattle.calculus.specs.Syntax.{Problem}
-use Rattle.calculus.proofs.PlaceLists.{get-within}
 use Rattle.search_theory.specs.Ahead.{IsApart, IsHopelessAt, MarksPath, bit_of, by_args, by_sign, by_symbol}
 use Rattle.search_theory.specs.Matrix.{MatrixClause, MatrixPlace, places}
 use Rattle.search_theory.specs.OrderedChoices.{meets}
@@ -27,7 +28,7 @@ use Rattle.search_tree.specs.declared.tree.Goal.{Goal}
 use Rattle.search_tree.specs.declared.tree.Step.{Step}
 use Rattle.search_tree.proofs.PlaceLaws.{place-found, place-stands}
 use Rattle.search_tree.proofs.SeenLaws.{goal-wanted}
-use Rattle.search_tree.proofs.TreeLaws.{atom-found, same-item}
+use Rattle.search_tree.proofs.TreeLaws.{atom-found}
 
 -- ---- marks
 
@@ -137,7 +138,7 @@ pub hopeless-next : (m : List MatrixClause) (items : List MatrixPlace) (x : Cell
 hopeless-next m items x i p e at bad h k q l there = by (cases_eq k i)
   where
     by : (k ≡ i) ⊎ (k ≢ i) → IsHopelessAt m q x
-    by (inl same) = subst (λ z. IsHopelessAt m z x) (same-item (slice_get (row_of m x) i) p q (subst (λ ps. slice_get ps i ≡ Some p) e at) (subst (λ n. slice_get (row_of m x) n ≡ Some q) same there)) bad
+    by (inl same) = subst (λ z. IsHopelessAt m z x) (same-some (slice_get (row_of m x) i) p q (subst (λ ps. slice_get ps i ≡ Some p) e at) (subst (λ n. slice_get (row_of m x) n ≡ Some q) same there)) bad
     by (inr differs) = h k q (omega (arith, l, differs)) there
 
 pub hopeless-all : (m : List MatrixClause) (items : List MatrixPlace) (x : CellGoal) (i : ℕ) → items ≡ row_of m x → length items ≤ i → AreHopelessTo m x i → HasNoHope m x
@@ -166,5 +167,5 @@ leftmost-open steps goals next goal (x ∷ xs) (i, g, is, at, goal_is, rest) e =
     record {
       x = x;
       at = record { goal = g; stands = there; is_goal = goal_is };
-      rest = λ k f. (xs, subst (λ (z : Goal). AreOpen steps goals z.behind xs) (same-item (slice_get goals goal) g k there f) rest);
+      rest = λ k f. (xs, subst (λ (z : Goal). AreOpen steps goals z.behind xs) (same-some (slice_get goals goal) g k there f) rest);
     }

@@ -1,11 +1,11 @@
 -- What was there before a copy names none of the copy.
 use Rattle.std.proofs.Common.{◌≡◌, ◌<◌, ◌∙◌, ℕ, List, length, Some, slice_get, sym, ap, arith}
+use Rattle.plain_laws.proofs.Places.{get-there}
 use Rattle.calculus.specs.declared.sort.Sort.{Sort}
 use Rattle.store_theory.specs.Bindings.{AddsBuilt, IsWellFormed, with_variables_of}
 use Rattle.store_theory.specs.Stores.{Cell, Store, parts_of}
 use Rattle.store_theory.proofs.BindingLaws.{kept, parts-within}
 use Rattle.store_theory.proofs.PatternLaws.{Grows-built, grown-cell}
-use Rattle.calculus.proofs.PlaceLists.{get-there}
 use Rattle.search_theory.proofs.BuildingLaws.{variables-front}
 use Rattle.term_unify.specs.Closed.{IsClosedBelow}
 

@@ -1,13 +1,14 @@
 -- What the program's tree stands for once a choice was added.
-use Rattle.std.proofs.Common.{◌≡◌, ◌+◌, ◌-◌, ◌<◌, append_assoc, ◌≤◌, ℕ, suc, List, [], ◌∷◌, ◌++◌, length, map, refl, sym, ◌∙◌, ap, ap₂, subst, Option, None, Some, slice_get, arith}
+use Rattle.std.proofs.Common.{◌≡◌, ◌+◌, ◌-◌, ◌<◌, append_assoc, ◌≤◌, ℕ, suc, List, [], ◌∷◌, ◌++◌, length, map, refl, sym, ◌∙◌, ap, ap₂, subst, Option, None, Some, slice_get, arith, append-nil}
 use Rattle.std.specs.Prelude.{remove}
 use Rattle.std.specs.List.{AllByRecursion}
 use Rattle.std.proofs.lemmas.List.{map-append}
+use Rattle.plain_laws.proofs.Places.{get-back, get-front, get-end}
+use Rattle.plain_laws.proofs.Options.{same-some}
 use Rattle.calculus.specs.Choices.{start, reduction}
 use Rattle.store_theory.specs.Systems.{CellAtom}
 use Rattle.search_theory.specs.Matrix.{MatrixClause}
 use Rattle.search_theory.specs.States.{CellChoice, CellGoal, cell_goals_on, extended, reduced, started}
-use Rattle.search_theory.proofs.BuildingLaws.{get-kept, get-last}
 use Rattle.search_theory.proofs.StageLaws.{inserted-removed}
 use Rattle.search_tree.specs.Trees.{AreGoals, AreOpen, HasAtom, IsBuiltStep, IsGoal, IsLinkedStep, IsPath, IsTree, atom_at, atom_in, clause_with, fresh_goals, goals_of, inserted, link_from, the_step}
 use Rattle.term_store.specs.ClauseView.{the_atom}
@@ -16,7 +17,6 @@ use Rattle.search_tree.specs.declared.tree.Copied.{Copied}
 use Rattle.search_tree.specs.declared.tree.Goal.{Goal}
 use Rattle.search_tree.specs.declared.tree.Step.{Step}
 use Rattle.search_tree.specs.declared.tree.Step.TheVariants.{Start, Reduce, Extend}
-use Rattle.search_tree.proofs.TreeLaws.{same-item}
 
 -- ---- what was there stays
 
@@ -25,18 +25,18 @@ atom-kept steps more g a h = by (slice_get steps g.step) refl h
   where
     by : (o : Option Step) → slice_get steps g.step ≡ o → atom_in g.literal o ≡ Some a → atom_in g.literal (slice_get (steps ++ more) g.step) ≡ Some a
     by None e q = let z : None ≡ Some a = q in absurd (cc z)
-    by (Some s) e q = ap (atom_in g.literal) (get-kept steps more g.step s e) ∙ q
+    by (Some s) e q = ap (atom_in g.literal) (get-front steps more g.step s e) ∙ q
 
 path-kept : (steps more : List Step) (goals others : List Goal) (k : Option ℕ) (path : List CellAtom) → IsPath steps goals k path → IsPath (steps ++ more) (goals ++ others) k path
 path-kept steps more goals others k [] h = h
-path-kept steps more goals others k (a ∷ path) (i, g, e, at, atom, rest) = (i, g, e, get-kept goals others i g at, atom-kept steps more g a atom, path-kept steps more goals others g.above path rest)
+path-kept steps more goals others k (a ∷ path) (i, g, e, at, atom, rest) = (i, g, e, get-front goals others i g at, atom-kept steps more g a atom, path-kept steps more goals others g.above path rest)
 
 pub goal-kept : (steps more : List Step) (goals others : List Goal) (g : Goal) (x : CellGoal) → IsGoal steps goals g x → IsGoal (steps ++ more) (goals ++ others) g x
 goal-kept steps more goals others g x h = record { literal = atom-kept steps more g x.literal h.literal; path = path-kept steps more goals others g.above x.path h.path; depth = h.depth }
 
 open-kept : (steps more : List Step) (goals others : List Goal) (k : Option ℕ) (xs : List CellGoal) → AreOpen steps goals k xs → AreOpen (steps ++ more) (goals ++ others) k xs
 open-kept steps more goals others k [] h = h
-open-kept steps more goals others k (x ∷ xs) (i, g, e, at, is, rest) = (i, g, e, get-kept goals others i g at, goal-kept steps more goals others g x is, open-kept steps more goals others g.behind xs rest)
+open-kept steps more goals others k (x ∷ xs) (i, g, e, at, is, rest) = (i, g, e, get-front goals others i g at, goal-kept steps more goals others g x is, open-kept steps more goals others g.behind xs rest)
 
 goals-kept : (steps more : List Step) (goals others some : List Goal) (xs : List CellGoal) → AreGoals steps goals some xs → AreGoals (steps ++ more) (goals ++ others) some xs
 goals-kept steps more goals others [] xs h = h
@@ -47,7 +47,7 @@ goals-both steps goals [] others xs ys h k = subst (λ zs. AreGoals steps goals 
 goals-both steps goals (g ∷ some) others xs ys (x, zs, e, is, rest) k = (x, zs ++ ys, ap (λ us. us ++ ys) e, is, goals-both steps goals some others zs ys rest k)
 
 pub has-kept : (steps more : List Step) (goals others : List Goal) (i : ℕ) → HasAtom steps goals i → HasAtom (steps ++ more) (goals ++ others) i
-has-kept steps more goals others i (g, a, at, atom) = (g, a, get-kept goals others i g at, atom-kept steps more g a atom)
+has-kept steps more goals others i (g, a, at, atom) = (g, a, get-front goals others i g at, atom-kept steps more g a atom)
 
 pub linked-kept : (steps more : List Step) (goals others : List Goal) (step : Step) → IsLinkedStep steps goals step → IsLinkedStep (steps ++ more) (goals ++ others) step
 linked-kept steps more goals others (Start c) h = tt
@@ -100,10 +100,6 @@ fresh-open steps goals s k first depth above behind path gs es h d o j (a ∷ re
       fresh-open steps goals s k first depth above behind path gs es h d o (suc j) rest (from-next (goals_of s) j a rest f) (λ i g e. let q : suc j + i ≡ j + suc i = omega arith in subst (λ n. slice_get goals (first + n) ≡ Some g) (sym q) (at (suc i) g e)),
     )
 
-get-behind : {A : Type 0} (xs ys : List A) (i : ℕ) (y : A) → slice_get ys i ≡ Some y → slice_get (xs ++ ys) (length xs + i) ≡ Some y
-get-behind [] ys i y e = let q : 0 + i ≡ i = omega arith in subst (λ n. slice_get ys n ≡ Some y) (sym q) e
-get-behind (x ∷ xs) ys i y e = let q : suc (length xs) + i ≡ suc (length xs + i) = omega arith in subst (λ n. slice_get (x ∷ (xs ++ ys)) n ≡ Some y) (sym q) (get-behind xs ys i y e)
-
 -- ---- one choice more
 
 -- what `grow` adds
@@ -116,11 +112,11 @@ pub record Grows (steps : List Step) (goals : List Goal) (step : Step) (above be
 grown : (steps : List Step) (goals : List Goal) (step : Step) (above behind : Option ℕ) (depth : ℕ) (path : List CellAtom) (every gs : List CellGoal) → IsPath steps goals above path → depth ≡ length path → AreGoals steps goals goals every → AreOpen steps goals behind gs → AreGoals (steps ++ step ∷ []) (goals ++ fresh_goals (length steps) (length goals) above behind depth 0 (length (goals_of step))) (goals ++ fresh_goals (length steps) (length goals) above behind depth 0 (length (goals_of step))) (every ++ cell_goals_on path (goals_of step)) × AreOpen (steps ++ step ∷ []) (goals ++ fresh_goals (length steps) (length goals) above behind depth 0 (length (goals_of step))) (link_from (length goals) behind 0 (length (goals_of step))) (cell_goals_on path (goals_of step) ++ gs)
 grown steps goals step above behind depth path every gs h d a o =
     let more = fresh_goals (length steps) (length goals) above behind depth 0 (length (goals_of step)) in
-    let at = get-last steps step in
+    let at = get-end steps step in
     let whole : From (goals_of step) 0 (goals_of step) = λ i b e. let q : 0 + i ≡ i = omega arith in subst (λ n. slice_get (goals_of step) n ≡ Some b) (sym q) e in
     let p = path-kept steps (step ∷ []) goals more above path h in (
       goals-both (steps ++ step ∷ []) (goals ++ more) goals more every (cell_goals_on path (goals_of step)) (goals-kept steps (step ∷ []) goals more goals every a) (fresh-goals (steps ++ step ∷ []) (goals ++ more) step (length steps) (length goals) depth above behind path at p d 0 (goals_of step) whole),
-      fresh-open (steps ++ step ∷ []) (goals ++ more) step (length steps) (length goals) depth above behind path gs at p d (open-kept steps (step ∷ []) goals more behind gs o) 0 (goals_of step) whole (λ i g e. let q : 0 + i ≡ i = omega arith in subst (λ n. slice_get (goals ++ more) (length goals + n) ≡ Some g) (sym q) (get-behind goals more i g e)),
+      fresh-open (steps ++ step ∷ []) (goals ++ more) step (length steps) (length goals) depth above behind path gs at p d (open-kept steps (step ∷ []) goals more behind gs o) 0 (goals_of step) whole (λ i g e. let q : 0 + i ≡ i = omega arith in subst (λ n. slice_get (goals ++ more) (length goals + n) ≡ Some g) (sym q) (get-back goals more i g e)),
     )
 
 made-more : (m : List MatrixClause) (steps : List Step) (step : Step) (cs : List CellChoice) → map (the_step m) steps ≡ cs → map (the_step m) (steps ++ step ∷ []) ≡ cs ++ the_step m step ∷ []
@@ -133,10 +129,6 @@ built-more m (x ∷ steps) step h k = (h.0, built-more m steps step h.1 k)
 -- what was shown of these lists is shown of lists that are equal to them
 carry : (steps after : List Step) (goals all : List Goal) (link first : Option ℕ) (xs ys : List CellGoal) → after ≡ steps → all ≡ goals → first ≡ link → AreGoals steps goals goals xs × AreOpen steps goals link ys → AreGoals after all all xs × AreOpen after all first ys
 carry steps after goals all link first xs ys ea eb ec p = rw (ea, eb, ec) p
-
-more-none : {A : Type 0} (xs : List A) → xs ++ [] ≡ xs
-more-none [] = refl
-more-none (x ∷ xs) = ap (λ ys. x ∷ ys) (more-none xs)
 
 -- the first choice
 pub grows-first : (steps after : List Step) (goals all : List Goal) (step : Step) (first : Option ℕ) → steps ≡ [] → goals ≡ [] → after ≡ steps ++ step ∷ [] → all ≡ goals ++ fresh_goals (length steps) (length goals) None None 0 0 (length (goals_of step)) → first ≡ link_from (length goals) None 0 (length (goals_of step)) → Grows [] [] step None None 0 after all first
@@ -156,7 +148,7 @@ tree-started m c after all first n g =
       built = subst (AllByRecursion (IsBuiltStep m)) (sym g.steps_are) (n, tt);
       linked = linked-more [] after [] (fresh_goals 0 0 None None 0 0 (length c.copy.literals)) all (Start c) g.steps_are g.goals_are tt tt;
       goals = v.0;
-      open_goals = subst (AreOpen after all first) (more-none (cell_goals_on [] c.copy.literals)) v.1;
+      open_goals = subst (AreOpen after all first) (append-nil (cell_goals_on [] c.copy.literals)) v.1;
     }
 
 -- the leftmost open goal, and those behind it
@@ -167,7 +159,7 @@ pub record Leftmost (steps : List Step) (goals : List Goal) (at : Goal) (g : Cel
 pub leftmost : (steps : List Step) (goals : List Goal) (goal : ℕ) (at : Goal) (g : CellGoal) (gs : List CellGoal) → AreOpen steps goals (Some goal) (g ∷ gs) → slice_get goals goal ≡ Some at → Leftmost steps goals at g gs
 leftmost steps goals goal at g gs (i, k, e, stands, is, rest) h =
     let here : goal ≡ i = cc e in
-    let same : k ≡ at = same-item (slice_get goals goal) k at (ap (slice_get goals) here ∙ stands) h in
+    let same : k ≡ at = same-some (slice_get goals goal) k at (ap (slice_get goals) here ∙ stands) h in
     record { is_goal = subst (λ (z : Goal). IsGoal steps goals z g) same is; behind = subst (λ (z : Goal). AreOpen steps goals z.behind gs) same rest }
 
 -- an extension
@@ -190,7 +182,7 @@ tree-extended m steps goals goal at c place atom after all first cs g gs every d
 pub tree-reduced : (m : List MatrixClause) (steps : List Step) (goals : List Goal) (goal : ℕ) (at : Goal) (up ancestor : ℕ) (after : List Step) (first : Option ℕ) (cs : List CellChoice) (g : CellGoal) (gs every : List CellGoal) (ds : List ℕ) → HasAtom steps goals ancestor → IsTree m steps goals (Some goal) cs (record { open_goals = g ∷ gs; all_goals = every; depths = ds }) → slice_get goals goal ≡ Some at → after ≡ steps ++ Reduce goal up ancestor ∷ [] → first ≡ at.behind → IsTree m after goals first (cs ++ reduction up ∷ []) (reduced gs (record { open_goals = g ∷ gs; all_goals = every; depths = ds }))
 tree-reduced m steps goals goal at up ancestor after first cs g gs every ds w h e ea ef =
     let q = leftmost steps goals goal at g gs h.open_goals e in
-    let same = more-none goals in
+    let same = append-nil goals in
     let v = carry (steps ++ Reduce goal up ancestor ∷ []) after goals goals at.behind first every gs ea refl ef (subst (λ zs. AreGoals (steps ++ Reduce goal up ancestor ∷ []) zs goals every) same (goals-kept steps (Reduce goal up ancestor ∷ []) goals [] goals every h.goals), subst (λ zs. AreOpen (steps ++ Reduce goal up ancestor ∷ []) zs at.behind gs) same (open-kept steps (Reduce goal up ancestor ∷ []) goals [] at.behind gs q.behind)) in
     record { made = ap (map (the_step m)) ea ∙ made-more m steps (Reduce goal up ancestor) cs h.made; built = subst (AllByRecursion (IsBuiltStep m)) (sym ea) (built-more m steps (Reduce goal up ancestor) h.built tt); linked = linked-more steps after goals [] goals (Reduce goal up ancestor) ea (sym same) h.linked ((at, g.literal, e, q.is_goal.literal), w); goals = v.0; open_goals = v.1 }
 

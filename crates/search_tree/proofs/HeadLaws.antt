@@ -1,6 +1,7 @@
 -- Different outermost names rule an extension out.
 use Rattle.std.proofs.Common.{◌≡◌, ◌<◌, ◌&&◌, ◌||◌, arith, ℕ, zero, suc, Bool, List, [], ◌∷◌, true, false, not, IsTrue, eq-eqb, ◌==◌, refl, sym, ◌∙◌, ap, ap₂, subst, None, Some, slice_get}
 use Rattle.std.proofs.lemmas.Bool.{and_parts, false≢true}
+use Rattle.plain_laws.proofs.Places.{map-there}
 use Rattle.calculus.specs.declared.sort.Sort.{Sort}
 use Rattle.calculus.specs.declared.sort.Sort.TheVariants.{StringSort}
 use Rattle.calculus.specs.Ground.{Value, common, g_eigen, g_fun}
@@ -14,7 +15,7 @@ use Rattle.store_theory.proofs.SolutionLaws.{ends-same}
 use Rattle.search_theory.specs.States.{literal_by, terms_by, values_by}
 use Rattle.search_theory.specs.Steps.{CannotExtend, Clash}
 use Rattle.search_theory.proofs.AtomLaws.{terms_at-by}
-use Rattle.search_theory.proofs.MeetingLaws.{literal-there, opposite-parts, opposite-some}
+use Rattle.search_theory.proofs.MeetingLaws.{opposite-parts, opposite-some}
 use Rattle.term_store.specs.Fitting.{fits_in, parts_fit_in}
 use Rattle.term_store.specs.Shown.{head_of}
 use Rattle.term_store.specs.declared.cell.Head.{Head}
@@ -116,7 +117,7 @@ size-there (q ∷ ps) (suc i) p e = let f = size-there ps i p e in omega (arith,
 -- no copy of the literal can be connected
 pub cannot-extend-by_names : (s : Store) (t : Template) (goal : CellAtom) (p : PatternAtom) (place : ℕ) → slice_get t.literals place ≡ Some p → HasClash s goal p → CannotExtend s t goal place
 cannot-extend-by_names s t goal p place at (k, r, q, ea, eb, apart) σ solves vs sorts opposite =
-    let parts = opposite-parts (literal_by σ goal) (pattern_literal vs p) (opposite-some (literal_by σ goal) (slice_get (literals_by vs t) place) (pattern_literal vs p) (literal-there (pattern_literal vs) t.literals place p at) opposite) in
+    let parts = opposite-parts (literal_by σ goal) (pattern_literal vs p) (opposite-some (literal_by σ goal) (slice_get (literals_by vs t) place) (pattern_literal vs p) (map-there (pattern_literal vs) t.literals place p at) opposite) in
     apart σ vs solves (items-equal σ vs goal.args p.args k r q parts.args ea eb)
 
 -- ---- two ends

@@ -1,9 +1,11 @@
 -- What atoms, goals and choices of a state and its system keep when cells keep their sorts, and what they need when they come.
-use Rattle.std.proofs.Common.{◌≡◌, ◌≤◌, ℕ, suc, List, [], ◌∷◌, ◌++◌, length, Bool, true, false, ◌&&◌, ◌||◌, IsTrue, refl, sym, ◌∙◌, ap, Option, None, Some, option_map, slice_get, nat_le, nat_lt, le-leb, leb-true, lt-ltb}
+use Rattle.std.proofs.Common.{◌≡◌, ◌≤◌, ℕ, suc, List, [], ◌∷◌, ◌++◌, length, Bool, true, false, ◌&&◌, ◌||◌, IsTrue, refl, sym, ◌∙◌, ap, Option, None, Some, option_map, slice_get, nat_le, nat_lt, le-leb}
 use Rattle.std.specs.List.{AllByRecursion, list_all, flat_map}
 use Rattle.std.specs.Option.{option_map_or}
 use Rattle.std.proofs.lemmas.Bool.{and_from, and_parts, false≢true}
 use Rattle.std.proofs.lemmas.List.Concat.{flat_map-cons}
+use Rattle.plain_laws.proofs.Every.{all-append, each-weaken, all-parts, all-weaken}
+use Rattle.search_theory.proofs.FromLaws.{part-from}
 use Rattle.calculus.specs.Choices.{extension, reduction, start}
 use Rattle.calculus.specs.Equality.{sort_eq}
 use Rattle.store_theory.specs.Patterns.{HaveSortsAt, atom_is_from, gamma_is_from}
@@ -11,15 +13,12 @@ use Rattle.store_theory.specs.Stores.{GammaCell, Store, has_sort_at, has_value_s
 use Rattle.store_theory.specs.Systems.{CellAtom, Equation, Pair, System, cells_of, cells_of_atom, has_label_sort_at, is_cell_atom, is_equation, is_gamma_cell, is_label, is_pair, is_system}
 use Rattle.calculus.specs.declared.sort.Sort.{Sort}
 use Rattle.calculus.specs.declared.sort.Sort.TheVariants.{TermSort, MarkSort, StringSort}
-use Rattle.store_theory.proofs.BindingLaws.{or-more, sorted_cell}
-use Rattle.calculus.proofs.PlaceLists.{all-at, get-within}
+use Rattle.store_theory.proofs.BindingLaws.{or-more}
 use Rattle.search_theory.specs.States.{CellChoice, CellClause, CellGoal, atom_is_below, cell_goals_on, clause_is_below}
 use Rattle.search_theory.specs.StateSystems.{pairs_of, pairs_with}
 use Rattle.search_theory.specs.CellsIn.{IsAtomIn, IsChoiceIn, IsClauseIn, IsGoalIn, IsPart}
-use Rattle.search_theory.proofs.BelowLaws.{all-join, all-split, all-weaken}
 use Rattle.search_theory.proofs.BuildingLaws.{is_variable_sort}
-use Rattle.search_theory.proofs.DeepenLaws.{all-of-each}
-use Rattle.search_theory.proofs.SolvingLaws.{SystemParts, system-parts}
+use Rattle.search_theory.proofs.SolvingLaws.{SystemParts, system-parts, sorted-below}
 
 -- ---- sorts
 
@@ -56,10 +55,10 @@ pub atom_in-kept : (In : ℕ → Type 0) (old new : Store) → KeepsSorts old ne
 atom_in-kept In old new k a h = record { sorted = atom-kept old new k a h.sorted; args = h.args; label = h.label }
 
 pub goal_in-kept : (In : ℕ → Type 0) (old new : Store) → KeepsSorts old new → (g : CellGoal) → IsGoalIn In old g → IsGoalIn In new g
-goal_in-kept In old new k g h = record { literal = atom_in-kept In old new k g.literal h.literal; path = all-of-each (IsAtomIn In old) (IsAtomIn In new) (atom_in-kept In old new k) g.path h.path }
+goal_in-kept In old new k g h = record { literal = atom_in-kept In old new k g.literal h.literal; path = each-weaken (IsAtomIn In old) (IsAtomIn In new) (atom_in-kept In old new k) g.path h.path }
 
 pub goals_in-kept : (In : ℕ → Type 0) (old new : Store) → KeepsSorts old new → (gs : List CellGoal) → AllByRecursion (IsGoalIn In old) gs → AllByRecursion (IsGoalIn In new) gs
-goals_in-kept In old new k = all-of-each (IsGoalIn In old) (IsGoalIn In new) (goal_in-kept In old new k)
+goals_in-kept In old new k = each-weaken (IsGoalIn In old) (IsGoalIn In new) (goal_in-kept In old new k)
 
 choice_in-kept : (In : ℕ → Type 0) (old new : Store) → KeepsSorts old new → (c : CellChoice) → IsChoiceIn In old c → IsChoiceIn In new c
 choice_in-kept In old new k (start i) h = record { sorted = values-kept old new k i.values h.sorted; names = h.names }
@@ -67,7 +66,7 @@ choice_in-kept In old new k (reduction up) h = tt
 choice_in-kept In old new k (extension i place) h = record { sorted = values-kept old new k i.values h.sorted; names = h.names }
 
 pub choices_in-kept : (In : ℕ → Type 0) (old new : Store) → KeepsSorts old new → (cs : List CellChoice) → AllByRecursion (IsChoiceIn In old) cs → AllByRecursion (IsChoiceIn In new) cs
-choices_in-kept In old new k = all-of-each (IsChoiceIn In old) (IsChoiceIn In new) (choice_in-kept In old new k)
+choices_in-kept In old new k = each-weaken (IsChoiceIn In old) (IsChoiceIn In new) (choice_in-kept In old new k)
 
 pub goals_in-on : (In : ℕ → Type 0) (s : Store) (path xs : List CellAtom) → AllByRecursion (IsAtomIn In s) path → AllByRecursion (IsAtomIn In s) xs → AllByRecursion (IsGoalIn In s) (cell_goals_on path xs)
 goals_in-on In s path [] h k = tt
@@ -78,9 +77,6 @@ goals_in-on In s path (x ∷ xs) h k = (record { literal = k.0; path = h }, goal
 pub from-parts : (base : ℕ) (rs : List ℕ) → ((k : ℕ) → IsPart k rs → base ≤ k) → IsTrue (list_all (nat_le base) rs)
 from-parts base [] h = refl
 from-parts base (r ∷ rs) h = and_from (nat_le base r) (list_all (nat_le base) rs) (le-leb base r (h r (0, refl))) (from-parts base rs (λ k p. h k (suc p.0, p.1)))
-
-pub part-from : (base : ℕ) (rs : List ℕ) → IsTrue (list_all (nat_le base) rs) → (k : ℕ) → IsPart k rs → base ≤ k
-part-from base rs h k p = leb-true base k (all-at (nat_le base) rs p.0 k h p.1)
 
 pub atom-in : (base : ℕ) (s : Store) (a : CellAtom) → IsTrue (is_cell_atom s a) → IsTrue (atom_is_from base a) → IsAtomIn (λ r. base ≤ r) s a
 atom-in base s a h k =
@@ -111,15 +107,12 @@ label-sorted s a h = (and_parts (list_all (has_sort_at s TermSort) a.args) (is_l
 
 -- ---- cells of the store
 
-sorted-there : (s : Store) (sort : Sort) (r : ℕ) → IsTrue (has_sort_at s sort r) → IsTrue (nat_lt r (length s.cells))
-sorted-there s sort r h = let t = sorted_cell s sort r h in lt-ltb r (length s.cells) (get-within s.cells r t.0 t.1)
-
 either-there : (s : Store) (a b : Sort) (r : ℕ) → IsTrue (has_sort_at s a r || has_sort_at s b r) → IsTrue (nat_lt r (length s.cells))
 either-there s a b r h = by (has_sort_at s a r) refl h
   where
     by : (t : Bool) → has_sort_at s a r ≡ t → IsTrue (t || has_sort_at s b r) → IsTrue (nat_lt r (length s.cells))
-    by true e h = sorted-there s a r e
-    by false e h = sorted-there s b r h
+    by true e h = sorted-below s a r e
+    by false e h = sorted-below s b r h
 
 pub values-there : (s : Store) (rs : List ℕ) → IsTrue (list_all (has_value_sort_at s) rs) → IsTrue (names_below (length s.cells) rs)
 values-there s = all-weaken (has_value_sort_at s) (λ r. nat_lt r (length s.cells)) (either-there s TermSort StringSort)
@@ -128,7 +121,7 @@ pub atom-there : (s : Store) (a : CellAtom) → IsTrue (is_cell_atom s a) → Is
 atom-there s a h =
     let w = and_parts (list_all (has_sort_at s TermSort) a.args) (is_label s a.label) h in
     and_from (names_below (length s.cells) a.args) (names_below (length s.cells) a.label)
-    (all-weaken (has_sort_at s TermSort) (λ r. nat_lt r (length s.cells)) (sorted-there s TermSort) a.args w.0)
+    (all-weaken (has_sort_at s TermSort) (λ r. nat_lt r (length s.cells)) (sorted-below s TermSort) a.args w.0)
     (all-weaken (has_label_sort_at s) (λ r. nat_lt r (length s.cells)) (either-there s MarkSort StringSort) a.label w.1)
 
 pub clause-there : (s : Store) (i : CellClause) → IsTrue (list_all (has_value_sort_at s) i.values) → IsTrue (list_all (is_cell_atom s) i.literals) → IsTrue (clause_is_below (length s.cells) i)
@@ -165,14 +158,14 @@ abbrev pub is_pair_from : ℕ → Pair → Bool
 is_pair_from base p = list_all (nat_le base) (cells_of_atom p.upper ++ cells_of_atom p.lower)
 
 atom-cells : (base : ℕ) (s : Store) (a : CellAtom) → IsAtomIn (λ r. base ≤ r) s a → IsTrue (list_all (nat_le base) (cells_of_atom a))
-atom-cells base s a h = all-join (nat_le base) a.args a.label (args-from base s a h) (label-from base s a h)
+atom-cells base s a h = all-append (nat_le base) a.args a.label (args-from base s a h) (label-from base s a h)
 
 pairs-on : (base : ℕ) (s : Store) (a : CellAtom) (path : List CellAtom) → IsAtomIn (λ r. base ≤ r) s a → AllByRecursion (IsAtomIn (λ r. base ≤ r) s) path → IsTrue (list_all (is_pair s) (pairs_with a path)) × IsTrue (list_all (is_pair_from base) (pairs_with a path))
 pairs-on base s a [] h k = (refl, refl)
 pairs-on base s a (b ∷ path) h k =
     let rest = pairs-on base s a path h k.1 in (
       and_from (is_cell_atom s b && is_cell_atom s a) (list_all (is_pair s) (pairs_with a path)) (and_from (is_cell_atom s b) (is_cell_atom s a) k.0.sorted h.sorted) rest.0,
-      and_from (list_all (nat_le base) (cells_of_atom b ++ cells_of_atom a)) (list_all (is_pair_from base) (pairs_with a path)) (all-join (nat_le base) (cells_of_atom b) (cells_of_atom a) (atom-cells base s b k.0) (atom-cells base s a h)) rest.1,
+      and_from (list_all (nat_le base) (cells_of_atom b ++ cells_of_atom a)) (list_all (is_pair_from base) (pairs_with a path)) (all-append (nat_le base) (cells_of_atom b) (cells_of_atom a) (atom-cells base s b k.0) (atom-cells base s a h)) rest.1,
     )
 
 -- the pairs of goals over cells from the number on
@@ -181,18 +174,18 @@ pairs-in base s [] h = (refl, refl)
 pairs-in base s (g ∷ gs) h =
     let first = pairs-on base s g.literal g.path h.0.literal h.0.path in
     let rest = pairs-in base s gs h.1 in
-    (all-join (is_pair s) (pairs_with g.literal g.path) (pairs_of gs) first.0 rest.0, all-join (is_pair_from base) (pairs_with g.literal g.path) (pairs_of gs) first.1 rest.1)
+    (all-append (is_pair s) (pairs_with g.literal g.path) (pairs_of gs) first.0 rest.0, all-append (is_pair_from base) (pairs_with g.literal g.path) (pairs_of gs) first.1 rest.1)
 
 flat-from : {A : Type 0} (q : ℕ → Bool) (f : A → List ℕ) (xs : List A) → IsTrue (list_all (λ x. list_all q (f x)) xs) → IsTrue (list_all q (flat_map f xs))
 flat-from q f [] h = refl
 flat-from q f (x ∷ xs) h =
     let w = and_parts (list_all q (f x)) (list_all (λ y. list_all q (f y)) xs) h in
-    ap (list_all q) (flat_map-cons f x xs) ∙ all-join q (f x) (flat_map f xs) w.0 (flat-from q f xs w.1)
+    ap (list_all q) (flat_map-cons f x xs) ∙ all-append q (f x) (flat_map f xs) w.0 (flat-from q f xs w.1)
 
 flat-each : {A : Type 0} (q : ℕ → Bool) (f : A → List ℕ) (xs : List A) → IsTrue (list_all q (flat_map f xs)) → IsTrue (list_all (λ x. list_all q (f x)) xs)
 flat-each q f [] h = refl
 flat-each q f (x ∷ xs) h =
-    let w = all-split q (f x) (flat_map f xs) (sym (ap (list_all q) (flat_map-cons f x xs)) ∙ h) in
+    let w = all-parts q (f x) (flat_map f xs) (sym (ap (list_all q) (flat_map-cons f x xs)) ∙ h) in
     and_from (list_all q (f x)) (list_all (λ y. list_all q (f y)) xs) w.0 (flat-each q f xs w.1)
 
 abbrev pub is_equation_from : ℕ → Equation → Bool
@@ -216,16 +209,16 @@ pair_cells p = cells_of_atom p.upper ++ cells_of_atom p.lower
 
 pub system-from : (base : ℕ) (y : System) → IsTrue (list_all (nat_le base) (cells_of y)) → IsSystemFrom base y
 system-from base y h =
-    let a = all-split (nat_le base) (flat_map equation_cells y.equations ++ y.strings ++ flat_map gamma_cells y.gammas) (flat_map pair_cells y.pairs) h in
-    let b = all-split (nat_le base) (flat_map equation_cells y.equations ++ y.strings) (flat_map gamma_cells y.gammas) a.0 in
-    let c = all-split (nat_le base) (flat_map equation_cells y.equations) y.strings b.0 in
+    let a = all-parts (nat_le base) (flat_map equation_cells y.equations ++ y.strings ++ flat_map gamma_cells y.gammas) (flat_map pair_cells y.pairs) h in
+    let b = all-parts (nat_le base) (flat_map equation_cells y.equations ++ y.strings) (flat_map gamma_cells y.gammas) a.0 in
+    let c = all-parts (nat_le base) (flat_map equation_cells y.equations) y.strings b.0 in
     record { equations = flat-each (nat_le base) equation_cells y.equations c.0; strings = c.1; gammas = flat-each (nat_le base) gamma_cells y.gammas b.1; pairs = flat-each (nat_le base) pair_cells y.pairs a.1 }
 
 pub cells-from : (base : ℕ) (y : System) → IsSystemFrom base y → IsTrue (list_all (nat_le base) (cells_of y))
 cells-from base y h =
-    all-join (nat_le base) (flat_map equation_cells y.equations ++ y.strings ++ flat_map gamma_cells y.gammas) (flat_map pair_cells y.pairs)
-    (all-join (nat_le base) (flat_map equation_cells y.equations ++ y.strings) (flat_map gamma_cells y.gammas)
-    (all-join (nat_le base) (flat_map equation_cells y.equations) y.strings (flat-from (nat_le base) equation_cells y.equations h.equations) h.strings)
+    all-append (nat_le base) (flat_map equation_cells y.equations ++ y.strings ++ flat_map gamma_cells y.gammas) (flat_map pair_cells y.pairs)
+    (all-append (nat_le base) (flat_map equation_cells y.equations ++ y.strings) (flat_map gamma_cells y.gammas)
+    (all-append (nat_le base) (flat_map equation_cells y.equations) y.strings (flat-from (nat_le base) equation_cells y.equations h.equations) h.strings)
     (flat-from (nat_le base) gamma_cells y.gammas h.gammas))
     (flat-from (nat_le base) pair_cells y.pairs h.pairs)
 
@@ -247,14 +240,14 @@ system-added base old new y equations strings gammas pis every k h l a goals = (
   and_from (list_all (is_equation new) (y.equations ++ equations) && list_all (has_sort_at new StringSort) (y.strings ++ strings) && list_all (is_gamma_cell new) (y.gammas ++ gammas)) (list_all (is_pair new) (pairs_of every))
       (and_from (list_all (is_equation new) (y.equations ++ equations) && list_all (has_sort_at new StringSort) (y.strings ++ strings)) (list_all (is_gamma_cell new) (y.gammas ++ gammas))
       (and_from (list_all (is_equation new) (y.equations ++ equations)) (list_all (has_sort_at new StringSort) (y.strings ++ strings))
-      (all-join (is_equation new) y.equations equations (all-weaken (is_equation old) (is_equation new) (equation-kept old new k) y.equations parts.equations) a.equations_fit)
-      (all-join (has_sort_at new StringSort) y.strings strings (strings-kept old new k y.strings parts.strings) a.strings_fit))
-      (all-join (is_gamma_cell new) y.gammas gammas (all-weaken (is_gamma_cell old) (is_gamma_cell new) (gamma-kept old new k) y.gammas parts.gammas) a.gammas_fit))
+      (all-append (is_equation new) y.equations equations (all-weaken (is_equation old) (is_equation new) (equation-kept old new k) y.equations parts.equations) a.equations_fit)
+      (all-append (has_sort_at new StringSort) y.strings strings (strings-kept old new k y.strings parts.strings) a.strings_fit))
+      (all-append (is_gamma_cell new) y.gammas gammas (all-weaken (is_gamma_cell old) (is_gamma_cell new) (gamma-kept old new k) y.gammas parts.gammas) a.gammas_fit))
       pairs.0,
   cells-from base (with_added y equations strings gammas pis (pairs_of every)) (record {
-    equations = all-join (is_equation_from base) y.equations equations from.equations a.equations_from;
-    strings = all-join (nat_le base) y.strings strings from.strings a.strings_from;
-    gammas = all-join (gamma_is_from base) y.gammas gammas from.gammas a.gammas_from;
+    equations = all-append (is_equation_from base) y.equations equations from.equations a.equations_from;
+    strings = all-append (nat_le base) y.strings strings from.strings a.strings_from;
+    gammas = all-append (gamma_is_from base) y.gammas gammas from.gammas a.gammas_from;
     pairs = pairs.1;
   }),
 )

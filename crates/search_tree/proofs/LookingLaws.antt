@@ -3,7 +3,9 @@ use Rattle.std.proofs.Common.{◌≡◌, ◌⊎◌, ◌+◌, ◌<◌, ◌≤◌,
 use Rattle.std.proofs.lemmas.Bool.{and_parts, false≢true}
 use Rattle.std.proofs.lemmas.List.{map-append}
 use Rattle.std.proofs.lemmas.Option.{slice_get-map, slice_get_within}
-use Rattle.calculus.proofs.PlaceLists.{all-at, get-front}
+use Rattle.plain_laws.proofs.Every.{all-at}
+use Rattle.plain_laws.proofs.Places.{get-front}
+use Rattle.plain_laws.proofs.Options.{same-some}
 use Rattle.calculus.specs.declared.sort.Sort.{Sort}
 use Rattle.search_theory.specs.Exploring.{IsIn}
 use Rattle.search_theory.specs.States.{CellGoal, atom_is_below, goal_is_below}
@@ -20,7 +22,7 @@ use Rattle.search_tree.specs.declared.tree.Goal.{Goal}
 use Rattle.search_tree.specs.declared.tree.Step.{Step}
 use Rattle.search_tree.proofs.Places.{take-next}
 use Rattle.search_tree.proofs.SeenLaws.{ancestor-below, goal-below}
-use Rattle.search_tree.proofs.TreeLaws.{atom-found, same-item}
+use Rattle.search_tree.proofs.TreeLaws.{atom-found}
 use Rattle.search_tree.proofs.WayUpLaws.{IsUpTo, up-all, up-ancestor, up-first, up-next, up-none}
 
 -- ---- lists
@@ -48,7 +50,7 @@ in-one x r (suc i, e) = let z : None ≡ Some r = e in absurd (cc z)
 
 occurs-split : (s : Store) (v r : ℕ) (c : Cell) → slice_get s.cells r ≡ Some c → OccursIn s v r → (v ≡ r) ⊎ ((j : ℕ) × IsIn j (parts_of c) × OccursIn s v j)
 occurs-split s v r c at here = inl refl
-occurs-split s v r c at (in_part i {k = j} {c = d} e p o) = inr (j, (i, subst (λ x. slice_get (parts_of x) i ≡ Some j) (same-item (slice_get s.cells r) d c e at) p), o)
+occurs-split s v r c at (in_part i {k = j} {c = d} e p o) = inr (j, (i, subst (λ x. slice_get (parts_of x) i ≡ Some j) (same-some (slice_get s.cells r) d c e at) p), o)
 
 -- its parts are to be visited, and it is found where it is bound
 visits : (s : Store) (bound after waiting : List ℕ) (r : ℕ) (c : Cell) → IsWellFormed s → slice_get s.cells r ≡ Some c → AreAmong bound after → (is_bound c ≡ true → IsIn r after) → GoesOn s bound (waiting ++ r ∷ []) after (waiting ++ parts_of c)
@@ -68,7 +70,7 @@ visits s bound after waiting r c well at old new = record {
   where
     by : (v k : ℕ) (sort : Sort) → slice_get s.cells v ≡ Some (variable sort (Some k)) → (v ≡ r) ⊎ ((j : ℕ) × IsIn j (parts_of c) × OccursIn s v j) → IsFound s after (waiting ++ parts_of c) v
     by v k sort there (inl e) =
-        let is : variable sort (Some k) ≡ c = same-item (slice_get s.cells r) (variable sort (Some k)) c (subst (λ n. slice_get s.cells n ≡ Some (variable sort (Some k))) e there) at in
+        let is : variable sort (Some k) ≡ c = same-some (slice_get s.cells r) (variable sort (Some k)) c (subst (λ n. slice_get s.cells n ≡ Some (variable sort (Some k))) e there) at in
         inl (subst (λ n. IsIn n after) (sym e) (new (sym (ap is_bound is))))
     by v k sort there (inr (j, part, o)) = inr (j, in-back waiting (parts_of c) j part, o)
 
@@ -80,7 +82,7 @@ pub visits-parts : (s : Store) (bound after waiting waiting_after : List ℕ) (r
 visits-parts s bound after waiting waiting_after r well (d, f, u) eb (w, c, ends, at, ew) =
     let same : r ≡ w = ends-once s r r w (EndsAt.stays f u) ends in
     let there : slice_get s.cells r ≡ Some c = ap (slice_get s.cells) same ∙ at in
-    let none : is_bound c ≡ false = subst (λ x. is_bound x ≡ false) (same-item (slice_get s.cells r) d c f there) u in
+    let none : is_bound c ≡ false = subst (λ x. is_bound x ≡ false) (same-some (slice_get s.cells r) d c f there) u in
     rw (eb, ew) (visits s bound bound waiting r c well there (λ q on. on) (λ e. absurd (false≢true (sym none ∙ e))))
 
 -- ---- all cells are visited

@@ -4,10 +4,11 @@ use Rattle.std.specs.Bool.{⊤}
 use Rattle.std.specs.List.{list_all}
 use Rattle.std.specs.Int.{bit_at}
 use Rattle.std.proofs.lemmas.Bool.{and_parts}
+use Rattle.plain_laws.proofs.Every.{all-at}
+use Rattle.plain_laws.proofs.Options.{same-some}
 use Rattle.calculus.specs.declared.sort.Sort.TheVariants.{TermSort}
 use Rattle.calculus.specs.Equality.{sign_eq}
 use Rattle.calculus.specs.Ground.{Value}
-use Rattle.calculus.proofs.PlaceLists.{all-at}
 use Rattle.store_theory.specs.Patterns.{Pattern, PatternAtom, Template, patterns_tree}
 use Rattle.store_theory.specs.Stores.{Solution, Solves, Store}
 use Rattle.store_theory.specs.Systems.{CellAtom}
@@ -27,7 +28,7 @@ use Rattle.search_tree.specs.declared.tree.Goal.{Goal}
 use Rattle.search_tree.specs.declared.tree.Step.{Step}
 use Rattle.search_tree.proofs.AheadLaws.{marks-goal, other-there}
 use Rattle.search_tree.proofs.SamenessLaws.{sign-equal}
-use Rattle.search_tree.proofs.TreeLaws.{AncestorAt, atom-found, same-item}
+use Rattle.search_tree.proofs.TreeLaws.{AncestorAt, atom-found}
 
 -- ---- sorts of patterns
 
@@ -57,7 +58,7 @@ no-reduction s vs q x own above (suc k) a e = above k a e
 -- ---- literals that give lost goals
 
 pub depth-is : (steps : List Step) (goals : List Goal) (goal : ℕ) (x : CellGoal) (at : Goal) → IsGoalAt steps goals goal x → slice_get goals goal ≡ Some at → at.depth ≡ length x.path
-depth-is steps goals goal x at h e = sym (ap (λ (g : Goal). g.depth) (same-item (slice_get goals goal) h.goal at h.stands e)) ∙ h.is_goal.depth
+depth-is steps goals goal x at h e = sym (ap (λ (g : Goal). g.depth) (same-some (slice_get goals goal) h.goal at h.stands e)) ∙ h.is_goal.depth
 
 pub lost-at_limit : (m : List MatrixClause) (d depth room : ℕ) (s : Store) (vs : List ℕ) (q : PatternAtom) (x : CellGoal) → HasNoReductionOver s vs q (x.literal ∷ x.path) → room ≡ d - depth → depth ≡ length x.path → room < 2 → IsLostOver m d s vs q (x.literal ∷ x.path)
 lost-at_limit m d depth room s vs q x none r e l = record { none = none; full = inl (omega (arith, r, e, l)) }
@@ -96,7 +97,7 @@ pub repeats-goal : (s : Store) (vs : List ℕ) (q : PatternAtom) (steps : List S
 repeats-goal s vs q steps goals goal a f h x g = record { number = 0; atom = a; on_path = ap Some (sym (atom-found steps goals goal x a g f)); same = h }
 
 pub repeats-ancestor : (s : Store) (vs : List ℕ) (q : PatternAtom) (steps : List Step) (goals : List Goal) (j i : ℕ) (b : CellAtom) (x : CellGoal) → AncestorAt steps goals x j i → ((g : Goal) → slice_get goals j ≡ Some g → atom_at steps g ≡ Some b) → ((σ : Solution) → Solves s σ → pattern_literal (values_by σ vs) q ≡ literal_by σ b) → IsRepeatedOver s vs q (x.literal ∷ x.path)
-repeats-ancestor s vs q steps goals j i b x w f h = record { number = suc i; atom = b; on_path = w.on_path ∙ ap Some (same-item (atom_at steps w.goal) w.atom b w.is_atom (f w.goal w.stands)); same = h }
+repeats-ancestor s vs q steps goals j i b x w f h = record { number = suc i; atom = b; on_path = w.on_path ∙ ap Some (same-some (atom_at steps w.goal) w.atom b w.is_atom (f w.goal w.stands)); same = h }
 
 -- ---- all other literals
 

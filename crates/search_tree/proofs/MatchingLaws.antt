@@ -2,6 +2,7 @@
 use Rattle.std.proofs.Common.{◌≡◌, ◌≤◌, ◌∷◌, [], ℕ, zero, suc, List, length, map, remove, true, false, not, Some, slice_get, IsTrue, refl, sym, ◌∙◌, ap, ap₂, arith, ltb-true, lt-ltb, nat_lt}
 use Rattle.std.specs.List.{list_all}
 use Rattle.std.proofs.lemmas.Bool.{and_from, and_parts}
+use Rattle.plain_laws.proofs.Places.{map-there}
 use Rattle.calculus.specs.declared.sign.Side.{Side}
 use Rattle.calculus.specs.declared.sort.Sort.TheVariants.{TermSort}
 use Rattle.calculus.specs.Equality.{sign_eq}
@@ -15,7 +16,7 @@ use Rattle.search_theory.specs.States.{Agree, CellClause, clause_is_below, label
 use Rattle.search_theory.specs.Steps.{CannotExtend, IsExtended, IsRestCopy}
 use Rattle.search_theory.proofs.BuildingLaws.{AreStores, agree-both, copy-by_cells, is_variable_sort, variables-back, variables-longer, variables-sorted}
 use Rattle.search_theory.proofs.ImageLaws.{terms-agree, values-agree}
-use Rattle.search_theory.proofs.MeetingLaws.{literal-there, opposite-from, opposite-parts, opposite-some, some-opposite}
+use Rattle.search_theory.proofs.MeetingLaws.{opposite-from, opposite-parts, opposite-some, some-opposite}
 use Rattle.search_theory.proofs.StageLaws.{inserted}
 use Rattle.term_store.specs.Fitting.{parts_fit_in}
 use Rattle.term_unify.specs.Matching.{HoldsNowhere, MatchTo, Narrows}
@@ -45,10 +46,10 @@ extended-by_match old met new sides t i goal p place k at signs symbols r = reco
   back = λ σ s.
       let x = r.back σ s in
       let w = k.back σ x.0 in
-      let there : slice_get (map (literal_by σ) i.literals) place ≡ Some (pattern_literal (values_by σ i.values) p) = ap (λ xs. slice_get xs place) x.1 ∙ literal-there (pattern_literal (values_by σ i.values)) t.literals place p at in
+      let there : slice_get (map (literal_by σ) i.literals) place ≡ Some (pattern_literal (values_by σ i.values) p) = ap (λ xs. slice_get xs place) x.1 ∙ map-there (pattern_literal (values_by σ i.values)) t.literals place p at in
       (w.0, w.1, x.1, some-opposite (literal_by σ goal) (slice_get (map (literal_by σ) i.literals) place) (pattern_literal (values_by σ i.values) p) there (opposite-from (literal_by σ goal) (pattern_literal (values_by σ i.values) p) (record { signs = signs; symbols = symbols; args = w.2 })));
   forth = λ σ s vs sorts opp.
-      let opp_p = opposite-some (literal_by σ goal) (slice_get (literals_by vs t) place) (pattern_literal vs p) (literal-there (pattern_literal vs) t.literals place p at) opp in
+      let opp_p = opposite-some (literal_by σ goal) (slice_get (literals_by vs t) place) (pattern_literal vs p) (map-there (pattern_literal vs) t.literals place p at) opp in
       let (τ, st, agree, v) = k.forth σ s vs sorts (opposite-parts (literal_by σ goal) (pattern_literal vs p) opp_p).args in
       let (ρ, sr, further) = r.forth τ st in
       let kept : values_by ρ i.values ≡ vs = sym (values-agree (length met.cells) τ ρ further i.values k.variables_below) ∙ v in
@@ -57,7 +58,7 @@ extended-by_match old met new sides t i goal p place k at signs symbols r = reco
 
 pub cannot-extend-by_mismatch : (s : Store) (t : Template) (goal : CellAtom) (p : PatternAtom) (place : ℕ) → slice_get t.literals place ≡ Some p → CannotMatch s t p goal.args → CannotExtend s t goal place
 cannot-extend-by_mismatch s t goal p place at none σ h vs sorts opp =
-    let opp_p = opposite-some (literal_by σ goal) (slice_get (literals_by vs t) place) (pattern_literal vs p) (literal-there (pattern_literal vs) t.literals place p at) opp in
+    let opp_p = opposite-some (literal_by σ goal) (slice_get (literals_by vs t) place) (pattern_literal vs p) (map-there (pattern_literal vs) t.literals place p at) opp in
     none σ h vs sorts (opposite-parts (literal_by σ goal) (pattern_literal vs p) opp_p).args
 
 -- ---- the goal's own arguments in the place of the literal's

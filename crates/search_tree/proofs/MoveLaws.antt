@@ -1,7 +1,10 @@
 -- Reductions, extensions and the tests of goals on the program's tree.
-use Rattle.std.proofs.Common.{◌≡◌, ◌<◌, ◌≤◌, ℕ, zero, suc, List, [], ◌∷◌, ◌++◌, length, Bool, true, false, ◌&&◌, ◌||◌, ◌==◌, IsTrue, refl, sym, ◌∙◌, ap, subst, Option, None, Some, option_map, slice_get, arith, nat_le, eq-eqb}
+use Rattle.std.proofs.Common.{◌≡◌, ◌<◌, ◌≤◌, ℕ, zero, suc, List, [], ◌∷◌, ◌++◌, length, Bool, true, false, ◌&&◌, ◌==◌, IsTrue, refl, sym, ◌∙◌, ap, subst, Option, None, Some, option_map, slice_get, arith, nat_le, eq-eqb}
 use Rattle.std.specs.List.{list_all, list_any}
-use Rattle.std.proofs.lemmas.Bool.{and_parts, false≢true}
+use Rattle.std.proofs.lemmas.Bool.{and_parts, or_right, or_left}
+use Rattle.plain_laws.proofs.Every.{all-at}
+use Rattle.plain_laws.proofs.Places.{get-within}
+use Rattle.plain_laws.proofs.Options.{same-some}
 use Rattle.store_theory.specs.Bindings.{AddsBuilt, AddsOver, BindsOnly, IsWellFormed, NamesFrom, NamesOver, nothing_more, places_from, with_variables_of}
 use Rattle.calculus.specs.Choices.{Choice, extension, reduction, start}
 use Rattle.store_theory.specs.Patterns.{AreCopies, CopiedClause, HaveSortsAt, IsClauseCopy, PatternAtom, Template, clause_fits, clause_is_from, patterns_tree, template_fits, without_literal}
@@ -11,7 +14,6 @@ use Rattle.calculus.specs.declared.sort.Sort.{Sort}
 use Rattle.calculus.specs.declared.sort.Sort.TheVariants.{TermSort}
 use Rattle.store_theory.specs.Systems.{CellAtom, is_label}
 use Rattle.store_theory.specs.Templates.{IsTemplateOf}
-use Rattle.calculus.proofs.PlaceLists.{all-at, get-within}
 use Rattle.store_theory.proofs.PatternLaws.{Grows-built, grown-copies, grown-label}
 use Rattle.search_theory.specs.Matrix.{MatrixClause, MatrixPlace, all_shown}
 use Rattle.search_theory.specs.OrderedChoices.{extension_at, selection_of}
@@ -50,7 +52,7 @@ use Rattle.search_tree.proofs.OwnCopies.{IsOwnTemplate}
 use Rattle.search_tree.proofs.OwnLaws.{own-names}
 use Rattle.search_tree.proofs.RunningLaws.{RestCopied, StartCopied, clause-at, no-extension-by_mismatch, no-reduction-by_clash, running-extended, running-reduced, running-started}
 use Rattle.search_tree.proofs.HeadLaws.{cannot-extend-by_names}
-use Rattle.search_tree.proofs.TreeLaws.{atom-found, goal-at, same-item}
+use Rattle.search_tree.proofs.TreeLaws.{atom-found, goal-at}
 
 -- ---- the leftmost open goal
 
@@ -109,7 +111,7 @@ pub goal-terms : (P : Problem) (m : List MatrixClause) (base d : ℕ) (c : List 
 goal-terms P m base d c s steps goals goal g a rs h f e = e ∙ ap (λ (x : CellAtom). x.args) (atom-found steps goals goal g a (goal-here P m base d c s steps goals goal g h) f)
 
 pub ancestor-terms : (steps : List Step) (goals : List Goal) (g : CellGoal) (up ancestor : ℕ) (a : CellAtom) (rs : List ℕ) → (r : ReducesBy steps goals g up ancestor) → ((h : Goal) → slice_get goals ancestor ≡ Some h → atom_at steps h ≡ Some a) → rs ≡ a.args → rs ≡ r.atom.args
-ancestor-terms steps goals g up ancestor a rs r f e = e ∙ ap (λ (x : CellAtom). x.args) (same-item (atom_at steps r.goal) a r.atom (f r.goal r.stands) r.is_atom)
+ancestor-terms steps goals g up ancestor a rs r f e = e ∙ ap (λ (x : CellAtom). x.args) (same-some (atom_at steps r.goal) a r.atom (f r.goal r.stands) r.is_atom)
 
 pub goal-sorted : (P : Problem) (m : List MatrixClause) (base d : ℕ) (c : List Choice) (s : Store) (steps : List Step) (goals : List Goal) (goal : ℕ) (g : CellGoal) (rs : List ℕ) → IsAtGoal P m base d c s steps goals goal g → rs ≡ g.literal.args → IsTrue (list_all (has_sort_at s TermSort) rs)
 goal-sorted P m base d c s steps goals goal g rs h e = subst (λ xs. IsTrue (list_all (has_sort_at s TermSort) xs)) (sym e) (args-sorted s g.literal (goal-own P m base d c s steps goals goal g h).literal.sorted)
@@ -184,7 +186,7 @@ place_of k place = record { clause = k; literal = place }
 -- the connected literal, as it was matched
 pub head-matched_by : (old begun met : Store) (t : Template) (place : ℕ) (vs xs : List ℕ) (q p : PatternAtom) → begun ≡ with_variables_of t.sorts old → slice_get t.literals place ≡ Some q → slice_get t.literals place ≡ Some p → vs ≡ places_from (length old.cells) (length t.sorts) → Narrows (λ σ. (length xs ≡ length q.args) × MatchTo vs xs q.args (length q.args) σ) begun met → AddsAndBinds begun met → AllNamesKept vs xs begun met → BuildsOver vs (λ sorts g. allows_all g sorts (patterns_tree q.args)) begun met → HeadMatched old met t place vs p xs
 head-matched_by old begun met t place vs xs q p eb aq ap_at ev narrows cells names within =
-    let same : q ≡ p = same-item (slice_get t.literals place) q p aq ap_at in
+    let same : q ≡ p = same-some (slice_get t.literals place) q p aq ap_at in
     subst (λ z. HeadMatched old met t place vs z xs) same (record {
       stands = aq;
       variables = ev;
@@ -197,7 +199,7 @@ head-matched_by old begun met t place vs xs q p eb aq ap_at ev narrows cells nam
 -- its label and the other literals, as they were copied
 pub rest-copied : (met mid new : Store) (t : Template) (place : ℕ) (vs label : List ℕ) (p : PatternAtom) (clause : CopiedClause) → slice_get t.literals place ≡ Some p → (a : PatternAtom) × (slice_get t.literals place ≡ Some a) × AreCopies mid vs (patterns_tree a.label) label → IsTrue (is_label mid label) → NamesOver vs (length met.cells) (λ base. list_all (nat_le base) label) → AddsOver vs met mid → ((a : PatternAtom) → slice_get t.literals place ≡ Some a → BuildsWithin (λ g. allows_all g t.sorts (patterns_tree a.label)) met mid) → IsClauseCopy new vs (without_literal place t) clause → IsTrue (clause_fits new clause) → NamesOver vs (length mid.cells) (λ base. clause_is_from base clause) → AddsOver vs mid new → BuildsWithin (λ g. allows_template g (without_literal place t)) mid new → RestCopied met new t place vs p label clause
 rest-copied met mid new t place vs label p clause at (a, aa, copies) label_sorted label_own label_adds label_within copy sorted own adds within =
-    let same : a ≡ p = same-item (slice_get t.literals place) a p aa at in
+    let same : a ≡ p = same-some (slice_get t.literals place) a p aa at in
     let grows = Grows-built mid new adds.built in
     record {
       copy = copy;
@@ -240,7 +242,7 @@ goal-matched P m base d c old met steps goals goal place g t vs xs p h head =
 
 -- the template of a clause is one
 pub same-template : (m : List MatrixClause) (k : ℕ) (t u : Template) → option_map (λ (x : MatrixClause). x.template) (slice_get m k) ≡ Some t → option_map (λ (x : MatrixClause). x.template) (slice_get m k) ≡ Some u → t ≡ u
-same-template m k t u = same-item (option_map (λ (x : MatrixClause). x.template) (slice_get m k)) t u
+same-template m k t u = same-some (option_map (λ (x : MatrixClause). x.template) (slice_get m k)) t u
 
 -- ---- extensions
 
@@ -274,17 +276,9 @@ at-extended P m base d c old met new steps after goals all goal place first g t 
       },
     )
 
-or-true : (a b : Bool) → IsTrue a → IsTrue (a || b)
-or-true true b h = refl
-or-true false b h = absurd (false≢true h)
-
-or-later : (a b : Bool) → IsTrue b → IsTrue (a || b)
-or-later true b h = refl
-or-later false b h = h
-
 any-last : (xs : List ℕ) (n : ℕ) → IsTrue (list_any (λ k. k == n) (xs ++ n ∷ []))
-any-last [] n = or-true (n == n) false (eq-eqb n n refl)
-any-last (x ∷ xs) n = or-later (x == n) (list_any (λ k. k == n) (xs ++ n ∷ [])) (any-last xs n)
+any-last [] n = or_left (n == n) false (eq-eqb n n refl)
+any-last (x ∷ xs) n = or_right (x == n) (list_any (λ k. k == n) (xs ++ n ∷ [])) (any-last xs n)
 
 pub extended-deep : (P : Problem) (m : List MatrixClause) (base d : ℕ) (c : List Choice) (old met new : Store) (steps after : List Step) (goals all : List Goal) (goal place : ℕ) (first : Option ℕ) (g : CellGoal) (t : Template) (copied : Copied) (atom : program.CellAtom) (xs label : List ℕ) → IsAtGoal P m base d c old steps goals goal g → (e : ExtendsBy m d g (place_of copied.clause.0 place)) → ClauseFor P m copied.clause.0 t → HeadMatched old met t place (the_places copied.copy.variables) e.literal xs → xs ≡ g.literal.args → the_atom atom ≡ met_atom e.literal xs label → RestCopied met new t place (the_places copied.copy.variables) e.literal label (the_clause copied.copy) → IsWellFormed new → ExtendsTree steps goals goal copied place atom after all first → ExtendsSystem steps goals goal copied place atom after all → StandsDeep P m base d (c ++ extension_at m (place_of copied.clause.0 place) ∷ []) new after all first (length g.path)
 unfolding at-extended

@@ -1,16 +1,15 @@
 -- Cells and sorts that stay when cells come or are bound, and the unbound strings among a search's own cells, which its system names.
 use Rattle.std.proofs.Common.{◌≡◌, ◌⊎◌, ◌≤◌, ℕ, suc, List, [], ◌∷◌, ◌++◌, length, true, false, refl, sym, ◌∙◌, ap, Option, None, Some, option_map, slice_get, arith, inl, inr}
+use Rattle.plain_laws.proofs.Places.{get-front, get-within, get-there}
 use Rattle.store_theory.specs.Bindings.{AddsBuilt, BindsOnly, is_variable, nothing_more, one_more, places_from, with_cell, with_variables_of}
 use Rattle.store_theory.specs.Stores.{Cell, EndsAt, Store, goes_on, sort_of, stays, variable}
 use Rattle.store_theory.specs.Systems.{IsOpenString}
 use Rattle.calculus.specs.declared.sort.Sort.{Sort}
 use Rattle.calculus.specs.declared.sort.Sort.TheVariants.{TermSort, MarkSort, StringSort}
-use Rattle.calculus.proofs.PlaceLists.{get-within}
 use Rattle.search_theory.specs.StateSystems.{string_cells}
-use Rattle.search_theory.proofs.BuildingLaws.{get-kept, get-more, length-plus, variables-front}
+use Rattle.search_theory.proofs.BuildingLaws.{get-more, length-plus, variables-front}
 use Rattle.search_theory.specs.CellsIn.{IsPart}
 use Rattle.search_tree.proofs.KeptLaws.{KeepsSorts}
-use Rattle.search_tree.proofs.Places.{item-there}
 
 -- ---- cells that stay
 
@@ -19,7 +18,7 @@ KeepsCells old new = (r : ℕ) (c : Cell) → slice_get old.cells r ≡ Some c �
 
 pub cells-built : (s t : Store) → AddsBuilt s t → KeepsCells s t
 cells-built s _ nothing_more r c e = e
-cells-built s t (one_more b i f v rest) r c e = cells-built (with_cell b s) t rest r c (get-kept s.cells (b ∷ []) r c e)
+cells-built s t (one_more b i f v rest) r c e = cells-built (with_cell b s) t rest r c (get-front s.cells (b ∷ []) r c e)
 
 pub cells-copied : (sorts : List Sort) (s t : Store) → AddsBuilt (with_variables_of sorts s) t → KeepsCells s t
 cells-copied sorts s t built r c e = cells-built (with_variables_of sorts s) t built r c (variables-front sorts s r c e)
@@ -67,7 +66,7 @@ open-bound : (s t : Store) → BindsOnly s t → (v : ℕ) → IsOpenString t v 
 open-bound s t b v e =
     let l = get-within t.cells v (variable StringSort None) e in
     let n = b.same_length in
-    let (c, f) = item-there s.cells v (omega (arith, l, n)) in
+    let (c, f) = get-there s.cells v (omega (arith, l, n)) in
     elim (b.cells v c f) [
       | inl same ↦ (let z : Some c ≡ Some (variable StringSort None) = sym same ∙ e in f ∙ z)
       | inr bound ↦ (let z : Some (variable bound.0 (Some bound.1)) ≡ Some (variable StringSort None) = sym bound.3 ∙ e in absurd (cc z))
@@ -115,7 +114,7 @@ get-behind (x ∷ xs) ys i y e = let (j, f) = get-behind xs ys i y e in (suc j, 
 
 pub named-variables : (base : ℕ) (sorts : List Sort) (s : Store) (strings vs : List ℕ) → vs ≡ places_from (length s.cells) (length sorts) → AreNamed base s strings → AreNamed base (with_variables_of sorts s) (strings ++ string_cells sorts vs)
 named-variables base sorts s strings vs are h v l e = elim (open-variables sorts s (length s.cells) v refl e) [
-  | inl old ↦ (let (i, r, at, ends) = h v l old in (i, r, get-kept strings (string_cells sorts vs) i r at, ends-kept s (with_variables_of sorts s) (variables-front sorts s) r v ends))
+  | inl old ↦ (let (i, r, at, ends) = h v l old in (i, r, get-front strings (string_cells sorts vs) i r at, ends-kept s (with_variables_of sorts s) (variables-front sorts s) r v ends))
   | inr part ↦ (let (j, f) = get-behind strings (string_cells sorts vs) part.0 v (ap (λ xs. slice_get (string_cells sorts xs) part.0) are ∙ part.1) in (j, v, f, stays e refl))
 ]
 

@@ -1,15 +1,14 @@
 -- The unbound variables among a search's own cells: each is one of a clause that was copied.
 use Rattle.std.proofs.Common.{◌≡◌, ◌⊎◌, ℕ, suc, List, [], ◌∷◌, ◌++◌, length, true, false, sym, ◌∙◌, ap, refl, None, Some, slice_get, arith, inl, inr}
+use Rattle.plain_laws.proofs.Places.{get-within, get-there}
 use Rattle.store_theory.specs.Bindings.{AddsBuilt, BindsOnly, is_variable, nothing_more, one_more, places_from, with_cell, with_variables_of}
 use Rattle.store_theory.specs.Stores.{Store, variable}
 use Rattle.calculus.specs.Choices.{start, reduction, extension}
 use Rattle.calculus.specs.declared.sort.Sort.{Sort}
-use Rattle.calculus.proofs.PlaceLists.{get-within}
 use Rattle.search_theory.specs.Exploring.{IsIn}
 use Rattle.search_theory.specs.Jumps.{IsValueOf, NamesVariables}
 use Rattle.search_theory.specs.States.{CellChoice, CellClause}
 use Rattle.search_theory.proofs.BuildingLaws.{get-more, length-plus}
-use Rattle.search_tree.proofs.Places.{item-there}
 
 -- ---- values of clauses
 
@@ -36,7 +35,7 @@ unbound-bound : (s t : Store) → BindsOnly s t → (v : ℕ) (sort : Sort) → 
 unbound-bound s t b v sort e =
     let l = get-within t.cells v (variable sort None) e in
     let n = b.same_length in
-    let (c, f) = item-there s.cells v (omega (arith, l, n)) in
+    let (c, f) = get-there s.cells v (omega (arith, l, n)) in
     elim (b.cells v c f) [
       | inl same ↦ (let z : Some c ≡ Some (variable sort None) = sym same ∙ e in f ∙ z)
       | inr bound ↦ (let z : Some (variable bound.0 (Some bound.1)) ≡ Some (variable sort None) = sym bound.3 ∙ e in absurd (cc z))

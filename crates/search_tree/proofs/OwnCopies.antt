@@ -4,6 +4,7 @@ use Rattle.std.specs.Prelude.{Contains}
 use Rattle.std.specs.List.{list_all}
 use Rattle.std.specs.Option.{option_map_or}
 use Rattle.std.proofs.lemmas.Bool.{and_from, and_parts, false≢true}
+use Rattle.plain_laws.proofs.Every.{all-at, all-weaken}
 use Rattle.store_theory.specs.Bindings.{NamesFrom}
 use Rattle.calculus.specs.Clauses.{selections}
 use Rattle.calculus.specs.Equality.{sort_eq}
@@ -21,12 +22,11 @@ use Rattle.calculus.specs.declared.sign.Sign.TheVariants.{F}
 use Rattle.calculus.specs.declared.sign.Side.{Side}
 use Rattle.calculus.specs.declared.sort.Sort.{Sort}
 use Rattle.calculus.specs.declared.sort.Sort.TheVariants.{TermSort, MarkSort, StringSort}
-use Rattle.calculus.proofs.PlaceLists.{all-at}
 use Rattle.search_theory.specs.LabelledCells.{is_labelled_cell, sort_value, sort_values}
 use Rattle.search_theory.specs.Regular as regular
 use Rattle.search_theory.specs.Regular.{is_term_sort}
 use Rattle.search_theory.specs.RightPatterns.{AreRight, are_right_patterns, is_right_atom, is_right_gamma, is_right_pattern, pattern_sort, pattern_sorts, spare_value, spare_values}
-use Rattle.search_theory.proofs.BelowLaws.{all-remove, all-weaken}
+use Rattle.search_theory.proofs.BelowLaws.{all-remove}
 use Rattle.search_theory.proofs.BuildingLaws.{is_variable_sort}
 use Rattle.search_theory.proofs.ProperPatterns.{selection-right, selection-sorts}
 use Rattle.search_theory.proofs.SpareLaws.{cell-fits}
@@ -264,7 +264,7 @@ classical-allowed P t sorts h =
 
 -- ---- the templates of a problem
 
-no_labels-classical : (l : Logic) → has_labels l ≡ false → l ≡ Classical
+pub no_labels-classical : (l : Logic) → has_labels l ≡ false → l ≡ Classical
 no_labels-classical Classical e = refl
 no_labels-classical Intuitionistic e = cc e
 no_labels-classical D e = cc e

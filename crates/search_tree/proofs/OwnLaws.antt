@@ -1,17 +1,17 @@
 -- The search's own cells stay built right when they are bound.
 use Rattle.std.proofs.Common.{◌≡◌, ◌≤◌, ℕ, length, IsTrue, refl, ap, subst, None, Some, option_map, slice_get, arith, inl, inr}
+use Rattle.plain_laws.proofs.Places.{get-within, get-there}
+use Rattle.plain_laws.proofs.Options.{same-some}
+use Rattle.search_theory.proofs.FromLaws.{part-from}
 use Rattle.store_theory.specs.Bindings.{BindsOnly, NamesFrom}
 use Rattle.store_theory.specs.Stores.{Cell, Store, is_store, parts_of, sort_of, variable}
 use Rattle.calculus.specs.Syntax.{Problem}
 use Rattle.calculus.specs.declared.sort.Sort.{Sort}
 use Rattle.calculus.specs.declared.sort.Sort.TheVariants.{TermSort, MarkSort, StringSort}
-use Rattle.calculus.proofs.PlaceLists.{get-within}
 use Rattle.search_theory.proofs.KeepingLaws.{GoesOn, labelled-goes_on}
-use Rattle.search_theory.proofs.StepLaws.{same-some}
 use Rattle.search_tree.specs.OwnStores.{AreOwn, is_search_cell}
-use Rattle.search_tree.proofs.KeptLaws.{from-parts, part-from}
+use Rattle.search_tree.proofs.KeptLaws.{from-parts}
 use Rattle.search_tree.proofs.OpenStrings.{sorts-of_bound}
-use Rattle.search_tree.proofs.Places.{item-there}
 
 -- own cells name own cells alone
 pub own-names : (P : Problem) (base : ℕ) (s : Store) → AreOwn P base s → NamesFrom base s
@@ -36,7 +36,7 @@ search-bound P MarkSort r h = h
 search-bound P StringSort r h = h
 
 before-bound : (old new : Store) → BindsOnly old new → (r : ℕ) (c : Cell) → slice_get new.cells r ≡ Some c → (d : Cell) × (slice_get old.cells r ≡ Some d)
-before-bound old new b r c e = let l = get-within new.cells r c e in let n = b.same_length in item-there old.cells r (omega (arith, l, n))
+before-bound old new b r c e = let l = get-within new.cells r c e in let n = b.same_length in get-there old.cells r (omega (arith, l, n))
 
 pub own-binds : (P : Problem) (base : ℕ) (old new : Store) → IsTrue (is_store old) → BindsOnly old new → NamesFrom base new → AreOwn P base old → AreOwn P base new
 own-binds P base old new st b names h = record {
@@ -61,5 +61,5 @@ own-binds P base old new st b names h = record {
       ];
       new_parts = λ r k c l o e p. names-own base new names r k p.0 c o e p.1;
       new_built = λ r c l o e. (let m = get-within new.cells r c e in let n = b.same_length in absurd (omega (arith, l, m, n)));
-      below = item-there old.cells;
+      below = get-there old.cells;
     }

@@ -3,6 +3,8 @@ use Rattle.std.proofs.Common.{◌≡◌, ◌+◌, ◌-◌, ◌<◌, ◌≤◌, �
 use Rattle.std.proofs.lemmas.Bool.{and_parts, false≢true}
 use Rattle.std.proofs.lemmas.List.{length-map, take_all}
 use Rattle.std.proofs.lemmas.Option.{slice_get_within}
+use Rattle.plain_laws.proofs.Places.{take-whole, drop-end, drop-there}
+use Rattle.plain_laws.proofs.Options.{same-some}
 use Rattle.calculus.specs.Choices.{Choice, reduction}
 use Rattle.calculus.specs.Equality.{sign_eq}
 use Rattle.calculus.specs.Kinds.{other}
@@ -27,9 +29,8 @@ use Rattle.search_tree.specs.declared.point.Point.{Point}
 use Rattle.search_tree.specs.declared.tree.Goal.{Goal}
 use Rattle.search_tree.specs.declared.tree.Step.{Step}
 use Rattle.search_tree.proofs.MoveLaws.{goal-here}
-use Rattle.search_tree.proofs.TreeLaws.{AncestorAt, ancestor-on, atom-found, same-item}
+use Rattle.search_tree.proofs.TreeLaws.{AncestorAt, ancestor-on, atom-found}
 use Rattle.search_tree.proofs.PlaceLaws.{about-sign, about-symbol, place-found, place-stands}
-use Rattle.search_tree.proofs.Places.{drop-end, drop-there}
 
 -- ---- extensions
 
@@ -128,25 +129,22 @@ pub goal-row : (m : List MatrixClause) (steps : List Step) (goals : List Goal) (
 goal-row m steps goals goal g items a sign at f e es = places-same m items a.symbol sign a g.literal e refl es (atom-found steps goals goal g a at f)
 
 pub depth-of : (steps : List Step) (goals : List Goal) (goal : ℕ) (g : CellGoal) (at : Goal) → IsGoalAt steps goals goal g → slice_get goals goal ≡ Some at → at.depth ≡ length g.path
-depth-of steps goals goal g at h e = sym (ap (λ (x : Goal). x.depth) (same-item (slice_get goals goal) h.goal at h.stands e)) ∙ h.is_goal.depth
-
-all-of : {A : Type 0} (n : ℕ) (xs : List A) → n ≡ length xs → take n xs ≡ xs
-all-of n xs e = take_all n xs (omega (arith, e))
+depth-of steps goals goal g at h e = sym (ap (λ (x : Goal). x.depth) (same-some (slice_get goals goal) h.goal at h.stands e)) ∙ h.is_goal.depth
 
 pub point-first : (P : Problem) (m : List MatrixClause) (base d : ℕ) (c : List Choice) (s : Store) (steps : List Step) (goals : List Goal) (goal : ℕ) (g : CellGoal) (at : Goal) (p : Point) → IsGood (the_mark p.mark) s → cut_at (the_mark p.mark) s ≡ s → p.steps ≡ length steps → p.goals ≡ length goals → p.goal ≡ goal → p.up ≡ 0 → p.above ≡ at.above → p.depth ≡ at.depth → IsAtGoal P m base d c s steps goals goal g → slice_get goals goal ≡ Some at → HasExtensions m d p g (if nat_lt (length g.path) d then extensions g.literal.symbol (other g.literal.sign) m else []) → IsPoint P m base d s steps goals p c (choices_at m d g) g
 point-first P m base d c s steps goals goal g at p good whole es eg ep eu ea ed h e ext =
     let here = goal-here P m base d c s steps goals goal g h in
-    let path : IsPath steps goals p.above (drop 0 g.path) = subst (λ k. IsPath steps goals k g.path) (sym ea) (subst (λ (x : Goal). IsPath steps goals x.above g.path) (same-item (slice_get goals goal) here.goal at here.stands e) here.is_goal.path) in
+    let path : IsPath steps goals p.above (drop 0 g.path) = subst (λ k. IsPath steps goals k g.path) (sym ea) (subst (λ (x : Goal). IsPath steps goals x.above g.path) (same-some (slice_get goals goal) here.goal at here.stands e) here.is_goal.path) in
     record {
       good = good;
       at = subst (λ n. IsAtGoal P m base d c (cut_at (the_mark p.mark) s) (take p.steps steps) (take p.goals goals) n g) (sym ep)
           (subst (λ z. IsAtGoal P m base d c z (take p.steps steps) (take p.goals goals) goal g) (sym whole)
-          (subst (λ xs. IsAtGoal P m base d c s xs (take p.goals goals) goal g) (sym (all-of p.steps steps es))
-          (subst (λ ys. IsAtGoal P m base d c s steps ys goal g) (sym (all-of p.goals goals eg)) h)));
+          (subst (λ xs. IsAtGoal P m base d c s xs (take p.goals goals) goal g) (sym (take-whole p.steps steps es))
+          (subst (λ ys. IsAtGoal P m base d c s steps ys goal g) (sym (take-whole p.goals goals eg)) h)));
       steps_within = omega (arith, es);
       goals_within = omega (arith, eg);
       choices = record {
-        above = subst (λ xs. IsPath xs (take p.goals goals) p.above (drop p.up g.path)) (sym (all-of p.steps steps es)) (subst (λ ys. IsPath steps ys p.above (drop p.up g.path)) (sym (all-of p.goals goals eg)) (subst (λ n. IsPath steps goals p.above (drop n g.path)) (sym eu) path));
+        above = subst (λ xs. IsPath xs (take p.goals goals) p.above (drop p.up g.path)) (sym (take-whole p.steps steps es)) (subst (λ ys. IsPath steps ys p.above (drop p.up g.path)) (sym (take-whole p.goals goals eg)) (subst (λ n. IsPath steps goals p.above (drop n g.path)) (sym eu) path));
         depth = ed ∙ depth-of steps goals goal g at here e;
         later = if nat_lt (length g.path) d then extensions g.literal.symbol (other g.literal.sign) m else [];
         extensions = ext;
@@ -180,12 +178,12 @@ pub ancestor-there : (steps : List Step) (goals : List Goal) (g : CellGoal) (bef
 ancestor-there steps goals g before now i j h e = ancestor-on steps goals g j now.up (subst (λ k. IsPath steps goals k (drop now.up g.path)) e h.above)
 
 ancestor-above : (steps : List Step) (goals : List Goal) (g : CellGoal) (up j : ℕ) (after : Point) (x : Goal) → (w : AncestorAt steps goals g j up) → slice_get goals j ≡ Some x → after.above ≡ x.above → after.up ≡ up + 1 → IsPath steps goals after.above (drop after.up g.path)
-ancestor-above steps goals g up j after x w ex ea eu = subst (λ k. IsPath steps goals k (drop after.up g.path)) (sym ea) (subst (λ n. IsPath steps goals x.above (drop n g.path)) (sym eu) (subst (λ (y : Goal). IsPath steps goals y.above (drop (up + 1) g.path)) (same-item (slice_get goals j) w.goal x w.stands ex) w.rest))
+ancestor-above steps goals g up j after x w ex ea eu = subst (λ k. IsPath steps goals k (drop after.up g.path)) (sym ea) (subst (λ n. IsPath steps goals x.above (drop n g.path)) (sym eu) (subst (λ (y : Goal). IsPath steps goals y.above (drop (up + 1) g.path)) (same-some (slice_get goals j) w.goal x w.stands ex) w.rest))
 
 pub ancestor-met : (steps : List Step) (goals : List Goal) (g : CellGoal) (before now after : Point) (i j : ℕ) (a b : CellAtom) (x : Goal) → PassedAncestors steps goals g before now i → now.above ≡ Some j → after.up ≡ now.up + 1 → slice_get goals j ≡ Some x → after.above ≡ x.above → a ≡ g.literal → ((h : Goal) → slice_get goals j ≡ Some h → atom_at steps h ≡ Some b) → meets a b ≡ true → IsNextAncestor steps goals g before after (Some (Reduce after.up j))
 ancestor-met steps goals g before now after i j a b x h e eu ex ea ga gb met =
     let w = ancestor-there steps goals g before now i j h e in
-    let same : b ≡ w.atom = same-item (atom_at steps w.goal) b w.atom (gb w.goal w.stands) w.is_atom in
+    let same : b ≡ w.atom = same-some (atom_at steps w.goal) b w.atom (gb w.goal w.stands) w.is_atom in
     let next : after.up ≡ suc now.up = omega (arith, eu) in
     let meet : meets g.literal w.atom ≡ true = ap₂ meets (sym ga) (sym same) ∙ met in
     let parts = and_parts (not (sign_eq g.literal.sign w.atom.sign)) (g.literal.symbol == w.atom.symbol) meet in
@@ -204,7 +202,7 @@ ancestor-met steps goals g before now after i j a b x h e eu ex ea ga gb met =
 pub ancestor-passed : (steps : List Step) (goals : List Goal) (g : CellGoal) (before now after : Point) (i j : ℕ) (a b : CellAtom) (x : Goal) → PassedAncestors steps goals g before now i → now.above ≡ Some j → after.up ≡ now.up + 1 → slice_get goals j ≡ Some x → after.above ≡ x.above → a ≡ g.literal → ((h : Goal) → slice_get goals j ≡ Some h → atom_at steps h ≡ Some b) → meets a b ≡ false → PassedAncestors steps goals g before after (i + 1)
 ancestor-passed steps goals g before now after i j a b x h e eu ex ea ga gb met =
     let w = ancestor-there steps goals g before now i j h e in
-    let same : b ≡ w.atom = same-item (atom_at steps w.goal) b w.atom (gb w.goal w.stands) w.is_atom in
+    let same : b ≡ w.atom = same-some (atom_at steps w.goal) b w.atom (gb w.goal w.stands) w.is_atom in
     let next : after.up ≡ suc now.up = omega (arith, eu) in
     let meet : meets g.literal w.atom ≡ false = ap₂ meets (sym ga) (sym same) ∙ met in
     record {

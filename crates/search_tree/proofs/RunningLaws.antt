@@ -1,8 +1,11 @@
 -- A state of the search with its system, and what starts, reductions and extensions make of it.
-use Rattle.std.proofs.Common.{◌≡◌, ◌<◌, ◌≤◌, ◌+◌, ℕ, zero, suc, List, [], ◌∷◌, ◌++◌, length, map, Bool, true, false, not, ◌&&◌, ◌==◌, IsTrue, refl, sym, ◌∙◌, ap, subst, None, Some, slice_get, arith, append-nil, nat_le, nat_lt, le-leb}
+use Rattle.std.proofs.Common.{◌≡◌, ◌<◌, ◌≤◌, ◌+◌, ℕ, zero, suc, List, [], ◌∷◌, ◌++◌, length, map, Bool, true, false, not, ◌&&◌, ◌==◌, IsTrue, refl, sym, ◌∙◌, ap, subst, None, Some, slice_get, arith, append-nil, nat_le, nat_lt}
 use Rattle.std.specs.Prelude.{Contains, remove}
 use Rattle.std.specs.List.{AllByRecursion, list_all, list_any}
 use Rattle.std.proofs.lemmas.Bool.{and_from, and_parts}
+use Rattle.plain_laws.proofs.Every.{all-at, all-append, each-append, all-weaken}
+use Rattle.plain_laws.proofs.Places.{get-within}
+use Rattle.store_theory.proofs.PatternLaws.{length-variables}
 use Rattle.store_theory.specs.Bindings.{AddsBuilt, AddsOver, BindsOnly, IsWellFormed, NamesFrom, NamesOver, nothing_more, one_more, places_from, with_cell, with_variables_of}
 use Rattle.calculus.specs.Choices.{Choice, IsLeft, IsLive, extension, growth_of, has_depth, is_opposite, is_regular, is_within, reduction, start}
 use Rattle.calculus.specs.ComputedInstances.{is_instance}
@@ -17,7 +20,6 @@ use Rattle.calculus.specs.declared.sort.Sort.{Sort}
 use Rattle.calculus.specs.declared.sort.Sort.TheVariants.{TermSort, MarkSort, StringSort}
 use Rattle.store_theory.proofs.BindingLaws.{is_store-with_cell}
 use Rattle.calculus.proofs.GrowthLaws.{on-some}
-use Rattle.calculus.proofs.PlaceLists.{all-at, get-within}
 use Rattle.store_theory.proofs.SolutionLaws.{some_solution}
 use Rattle.search_theory.specs.Matrix.{MatrixClause, all_shown}
 use Rattle.search_theory.specs.Regular.{HasNoSamePair}
@@ -25,10 +27,9 @@ use Rattle.search_theory.specs.StateSystems.{Brings, extended_system, pairs_of, 
 use Rattle.search_theory.specs.States.{CellChoice, CellClause, CellGoal, IsGround, IsStateOf, State, choice_at, clause_at, cell_goals_on, growth_at, literal_by, new_cell_goals, values_by}
 use Rattle.search_theory.specs.Steps.{AreUnified, Clash, IsExtended, IsFreshClause, IsReduced, IsRestCopy}
 use Rattle.search_theory.specs.CellsIn.{IsAtomIn, IsChoiceIn, IsGoalIn}
-use Rattle.search_theory.proofs.BelowLaws.{all-join, all-remove, all-weaken}
+use Rattle.search_theory.proofs.BelowLaws.{all-remove}
 use Rattle.search_theory.proofs.BringsLaws.{brings-by_template, uses-built}
-use Rattle.search_theory.proofs.BuildingLaws.{AreStores, AreValueCells, adds-longer, built-label, copy-by_cells, is_value_cell, is_variable_sort, length-variables, rest-by_cells, solved-valued, value-cell}
-use Rattle.search_theory.proofs.DeepenLaws.{all-of-both}
+use Rattle.search_theory.proofs.BuildingLaws.{AreStores, AreValueCells, adds-longer, built-label, copy-by_cells, is_value_cell, is_variable_sort, rest-by_cells, solved-valued, value-cell}
 use Rattle.search_theory.proofs.DistinctLaws.{AreDistinct}
 use Rattle.search_theory.proofs.ExtensionLaws.{extended_state, no-extension, no-reduction, reduced_state, state-extended, state-reduced, state_at}
 use Rattle.search_theory.proofs.LabelledEnd.{admitted-good}
@@ -45,7 +46,7 @@ use Rattle.search_theory.proofs.VariableSorts.{sorts-kept, strings-sorted}
 use Rattle.term_store.specs.Fitting.{atom_fits_in, label_fits_in, parts_fit_in}
 use Rattle.term_store.specs.Signatures.{BuildsWithin, allows_all, allows_atom, allows_template}
 use Rattle.term_store.proofs.FitLaws.{have-new, literals-fit, placed-atoms}
-use Rattle.term_store.proofs.OwnLaws.{names-variables}
+use Rattle.term_store.proofs.OwnLaws.{names-variables, places-own}
 use Rattle.term_store.proofs.SignatureLaws.{within-variables}
 use Rattle.term_unify.specs.Matching.{HoldsNowhere, MatchTo, Narrows}
 pub use Rattle.search_tree.specs.MetAtom.{HeadMatched, met_atom}
@@ -67,7 +68,7 @@ goal-in P base d c s cs g gs every ds y h = h.open_goals.0
 labels-added : (base : ℕ) (s : Store) (a b : CellAtom) → IsAtomIn (λ r. base ≤ r) s a → IsAtomIn (λ r. base ≤ r) s b → IsTrue (list_all (is_equation s) (record { left = a.label; right = b.label } ∷ [])) × IsTrue (list_all (is_equation_from base) (record { left = a.label; right = b.label } ∷ []))
 labels-added base s a b h k = (
   and_from (is_equation s (record { left = a.label; right = b.label })) true (atoms-equation s a b h.sorted k.sorted) refl,
-  and_from (is_equation_from base (record { left = a.label; right = b.label })) true (all-join (nat_le base) a.label b.label (label-from base s a h) (label-from base s b k)) refl,
+  and_from (is_equation_from base (record { left = a.label; right = b.label })) true (all-append (nat_le base) a.label b.label (label-from base s a h) (label-from base s b k)) refl,
 )
 
 reduced-added : (y : System) (g : CellAtom) (a : CellAtom) (every : List CellGoal) → y.pairs ≡ pairs_of every → reduced_system y g a ≡ with_added y (record { left = g.label; right = a.label } ∷ []) [] [] y.pis (pairs_of every)
@@ -85,7 +86,7 @@ running-reduced P base d c old new cs g gs every ds k a y h at sign symbol unifi
   well = well;
   from = (let l = h.from in let s = binds.same_length in omega (arith, l, s));
   own = own-binds P base old new h.well.fits binds names h.own;
-  choices = all-of-both (IsChoiceIn (λ r. base ≤ r) new) cs (reduction (suc k) ∷ []) (choices_in-kept (λ r. base ≤ r) old new kept cs h.choices) (tt, tt);
+  choices = each-append (IsChoiceIn (λ r. base ≤ r) new) cs (reduction (suc k) ∷ []) (choices_in-kept (λ r. base ≤ r) old new kept cs h.choices) (tt, tt);
   open_goals = goals_in-kept (λ r. base ≤ r) old new kept gs h.open_goals.1;
   goals = goals;
   system = system-reduced P d c old new cs g gs every ds k a y (tree-by_state P d c (state_at old cs g gs every ds) h.state) h.system met at (subst (λ z. IsTrue (is_system new z)) (sym same) added.0);
@@ -128,10 +129,6 @@ stores-of (sort ∷ sorts) s h = (h, stores-of sorts (with_cell (variable sort N
 store-before : (s t : Store) → AddsBuilt s t → IsTrue (is_store t) → IsTrue (is_store s)
 store-before s _ nothing_more h = h
 store-before s t (one_more c i f b rest) h = i
-
-places-from_base : (base n k : ℕ) → base ≤ n → IsTrue (list_all (nat_le base) (places_from n k))
-places-from_base base n zero l = refl
-places-from_base base n (suc k) l = and_from (nat_le base n) (list_all (nat_le base) (places_from (suc n) k)) (le-leb base n l) (places-from_base base (suc n) k (omega (arith, l)))
 
 -- ---- clauses
 
@@ -300,7 +297,7 @@ stages P base old met new t place vs xs strings label p clause st from own named
     base_begun = let v = length-variables t.sorts old in omega (arith, from, v)
 
     variables : IsTrue (list_all (nat_le base) vs)
-    variables = subst (λ v. IsTrue (list_all (nat_le base) v)) (sym head.variables) (places-from_base base (length old.cells) (length t.sorts) from)
+    variables = subst (λ v. IsTrue (list_all (nat_le base) v)) (sym head.variables) (places-own base (length old.cells) (length t.sorts) from)
 
     names_met : NamesFrom base met
     names_met = head.names base base_begun variables goal (names-variables base t.sorts old (own-names P base old own))
@@ -321,8 +318,8 @@ running-extended P base d c old met new cs g gs every ds sides t place vs label 
   well = well;
   from = stage.longer;
   own = stage.own;
-  choices = all-of-both (IsChoiceIn (λ r. base ≤ r) new) cs (extension i place ∷ []) (choices_in-kept (λ r. base ≤ r) old new stage.kept cs h.choices) (clause-in base new i valued stage.variables, tt);
-  open_goals = all-of-both (IsGoalIn (λ r. base ≤ r) new) (new_cell_goals g i place) gs fresh (goals_in-kept (λ r. base ≤ r) old new stage.kept gs h.open_goals.1);
+  choices = each-append (IsChoiceIn (λ r. base ≤ r) new) cs (extension i place ∷ []) (choices_in-kept (λ r. base ≤ r) old new stage.kept cs h.choices) (clause-in base new i valued stage.variables, tt);
+  open_goals = each-append (IsGoalIn (λ r. base ≤ r) new) (new_cell_goals g i place) gs fresh (goals_in-kept (λ r. base ≤ r) old new stage.kept gs h.open_goals.1);
   goals = goals;
   system = system-extended P d c old new cs g gs every ds i place b y (string_cells t.sorts vs) clause.gammas clause.pis (tree-by_state P d c (state_at old cs g gs every ds) h.state) h.system (λ σ s. (extended.back σ s).0) meets (inserted-at place b clause.literals (others-room new vs t.literals clause.literals place rest.copy.literals (get-within t.literals place p head.stands))) brings (subst (λ z. IsTrue (is_system new z)) (sym same) added.0);
   cells = subst (λ z. IsTrue (list_all (nat_le base) (cells_of z))) (sym same) added.1;
@@ -388,7 +385,7 @@ running-extended P base d c old met new cs g gs every ds sides t place vs label 
     fresh = goals_in-on (λ r. base ≤ r) new (g.literal ∷ g.path) (remove i.literals place) (here_new.literal, here_new.path) (atoms-in base new (remove i.literals place) (all-remove (is_cell_atom new) i.literals place sorted) (all-remove (atom_is_from base) i.literals place literals_from))
 
     goals : AllByRecursion (IsGoalIn (λ r. base ≤ r) new) (every ++ new_cell_goals g i place)
-    goals = all-of-both (IsGoalIn (λ r. base ≤ r) new) every (new_cell_goals g i place) (goals_in-kept (λ r. base ≤ r) old new stage.kept every h.goals) fresh
+    goals = each-append (IsGoalIn (λ r. base ≤ r) new) every (new_cell_goals g i place) (goals_in-kept (λ r. base ≤ r) old new stage.kept every h.goals) fresh
 
     labels : IsTrue (list_all (is_equation new) (record { left = g.literal.label; right = b.label } ∷ [])) × IsTrue (list_all (is_equation_from base) (record { left = g.literal.label; right = b.label } ∷ []))
     labels = labels-added base new g.literal b here_new.literal head_in
@@ -440,7 +437,7 @@ running-started P d old new sides t vs clause w template own shown copied well =
     solution = some_solution old w.fits w.rank
 
     variables : IsTrue (list_all (nat_le base) vs)
-    variables = subst (λ v. IsTrue (list_all (nat_le base) v)) (sym copied.variables) (places-from_base base base (length t.sorts) (omega arith))
+    variables = subst (λ v. IsTrue (list_all (nat_le base) v)) (sym copied.variables) (places-own base base (length t.sorts) (omega arith))
 
     have : HaveSortsAt new t.sorts vs
     have = sorts-kept (with_variables_of t.sorts old) new (sorts-of_cells (with_variables_of t.sorts old) new (cells-built (with_variables_of t.sorts old) new copied.built)) t.sorts vs (have-new vs t.sorts old (with_variables_of t.sorts old) refl copied.variables)

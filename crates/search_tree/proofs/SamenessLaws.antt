@@ -2,6 +2,8 @@
 use Rattle.std.proofs.Common.{◌≡◌, ◌⊎◌, ◌<◌, ◌≤◌, ◌||◌, ℕ, zero, suc, List, [], ◌∷◌, ◌++◌, length, map, Bool, IsTrue, true, false, refl, sym, ◌∙◌, ap, ap₂, None, Some, slice_get, arith, nat_lt, ltb-true, inl, inr}
 use Rattle.std.specs.List.{AllByRecursion, list_all}
 use Rattle.std.proofs.lemmas.Bool.{and_parts, false≢true}
+use Rattle.plain_laws.proofs.Every.{all-at}
+use Rattle.search_theory.proofs.AtomLaws.{mark-value}
 use Rattle.calculus.specs.declared.sort.Sort.TheVariants.{TermSort, MarkSort, StringSort}
 use Rattle.calculus.specs.declared.sign.Sign.{Sign}
 use Rattle.calculus.specs.declared.sign.Sign.TheVariants.{T, F}
@@ -9,10 +11,9 @@ use Rattle.calculus.specs.Equality.{sign_eq, sort_eq}
 use Rattle.calculus.specs.Syntax.{Problem}
 use Rattle.calculus.specs.Ground.{GroundLiteral, GroundMark, GroundTerms, g_spare_mark, more_g_terms, no_g_terms}
 use Rattle.store_theory.specs.Bindings.{IsWellFormed}
-use Rattle.store_theory.specs.Stores.{Cell, CellValue, Solution, Solves, Store, a_mark, a_string, a_term, eigen_cell, fun_cell, has_sort, has_sort_at, names_below, new_cell, parts_fit, sort_of, string_cell, variable}
+use Rattle.store_theory.specs.Stores.{Cell, Solution, Solves, Store, a_mark, a_string, eigen_cell, fun_cell, has_sort_at, names_below, new_cell, parts_fit, sort_of, string_cell, variable}
 use Rattle.store_theory.specs.Systems.{CellAtom, is_cell_atom, is_label}
 use Rattle.store_theory.specs.Templates.{as_label, as_term}
-use Rattle.calculus.proofs.PlaceLists.{all-at}
 use Rattle.store_theory.proofs.SolutionLaws.{some_solution}
 use Rattle.search_theory.specs.States.{atom_is_below, label_by, terms_by}
 use Rattle.search_theory.specs.Regular.{AreSame}
@@ -140,11 +141,6 @@ string-end P base s w owns (suc n) r c l b e t = by c e t (cell-fits s w.fits r 
 -- a mark, or a string of one character
 abbrev IsCharacter : Store → ℕ → Type 0
 IsCharacter s r = (IsTrue (has_sort_at s MarkSort r) × (m : GroundMark) × (letter_values s r ≡ a_mark m)) ⊎ (IsTrue (has_sort_at s StringSort r) × (v : ℕ) × (slice_get s.cells v ≡ Some (variable StringSort None)) × (letter_values s r ≡ a_string (g_spare_mark v ∷ [])))
-
-mark-value : (v : CellValue) → IsTrue (has_sort MarkSort v) → (m : GroundMark) × (v ≡ a_mark m)
-mark-value (a_mark m) h = (m, refl)
-mark-value (a_term t) h = absurd (false≢true h)
-mark-value (a_string w) h = absurd (false≢true h)
 
 is-character : (P : Problem) (base : ℕ) (s : Store) → IsWellFormed s → AreOwn P base s → (r : ℕ) → base ≤ r → IsTrue (has_sort_at s MarkSort r || has_sort_at s StringSort r) → IsCharacter s r
 is-character P base s w owns r l h = by (has_sort_at s MarkSort r) refl h

@@ -1,14 +1,14 @@
 -- The system of the program's tree grows with its choices as that of a state does.
 use Rattle.std.proofs.Common.{◌≡◌, ℕ, ◌+◌, List, [], ◌∷◌, ◌++◌, append-nil, ap, ap₂, refl, sum_by, sym, ◌∙◌, Some, slice_get, arith}
 use Rattle.std.specs.List.{AllByRecursion, flat_map}
-use Rattle.std.proofs.lemmas.Grind.{flat_map-append}
 use Rattle.std.proofs.lemmas.List.Concat.{flat_map-cons}
 use Rattle.std.proofs.lemmas.List.Sums.{sum_by-append, sum_by-cons}
+use Rattle.plain_laws.proofs.Places.{get-front}
+use Rattle.plain_laws.proofs.Lists.{flat-last}
 use Rattle.store_theory.specs.Systems.{CellAtom, Equation}
 use Rattle.search_theory.specs.Matrix.{MatrixClause}
 use Rattle.search_theory.specs.StateSystems.{extended_system, pairs_of, reduced_system, started_system}
 use Rattle.search_theory.specs.States.{CellChoice, CellGoal, cell_goals_on, new_cell_goals}
-use Rattle.search_theory.proofs.BuildingLaws.{get-kept}
 use Rattle.search_theory.proofs.SystemSteps.{pairs-append, pairs-none}
 use Rattle.term_store.specs.ClauseView.{the_atom}
 use Rattle.term_store.specs.declared.clause.CellAtom as program
@@ -20,9 +20,6 @@ use Rattle.search_tree.specs.declared.tree.Step.TheVariants.{Start, Reduce, Exte
 use Rattle.search_tree.proofs.GrowthLaws.{atom-kept, leftmost}
 
 -- ---- lists
-
-one-more : {X A : Type 0} (f : X → List A) (xs : List X) (x : X) → flat_map f (xs ++ x ∷ []) ≡ flat_map f xs ++ f x
-one-more f xs x = flat_map-append f xs (x ∷ []) ∙ ap (λ ys. flat_map f xs ++ ys) (flat_map-cons f x [] ∙ append-nil (f x))
 
 none-more : (n : ℕ) → n + 0 ≡ n
 none-more n = omega arith
@@ -36,7 +33,7 @@ label-is : (steps : List Step) (goals : List Goal) (i : ℕ) (g : Goal) (a : Cel
 label-is steps goals i g a at atom = ap (goal_label steps) at ∙ ap label_of atom
 
 label-kept : (steps more : List Step) (goals others : List Goal) (i : ℕ) → HasAtom steps goals i → goal_label (steps ++ more) (slice_get (goals ++ others) i) ≡ goal_label steps (slice_get goals i)
-label-kept steps more goals others i (g, a, at, atom) = label-is (steps ++ more) (goals ++ others) i g a (get-kept goals others i g at) (atom-kept steps more g a atom) ∙ sym (label-is steps goals i g a at atom)
+label-kept steps more goals others i (g, a, at, atom) = label-is (steps ++ more) (goals ++ others) i g a (get-front goals others i g at) (atom-kept steps more g a atom) ∙ sym (label-is steps goals i g a at atom)
 
 equation-kept : (steps more : List Step) (goals others : List Goal) (step : Step) → IsLinkedStep steps goals step → equations_of (steps ++ more) (goals ++ others) step ≡ equations_of steps goals step
 equation-kept steps more goals others (Start c) h = refl
@@ -54,7 +51,7 @@ equations-kept steps more goals others (x ∷ some) h =
 
 -- the equations of one step more
 equations-more : (steps : List Step) (goals others : List Goal) (step : Step) (es : List Equation) → AllByRecursion (IsLinkedStep steps goals) steps → equations_of (steps ++ step ∷ []) (goals ++ others) step ≡ es → flat_map (equations_of (steps ++ step ∷ []) (goals ++ others)) (steps ++ step ∷ []) ≡ flat_map (equations_of steps goals) steps ++ es
-equations-more steps goals others step es h e = one-more (equations_of (steps ++ step ∷ []) (goals ++ others)) steps step ∙ ap₂ (λ xs ys. xs ++ ys) (equations-kept steps (step ∷ []) goals others steps h) e
+equations-more steps goals others step es h e = flat-last (equations_of (steps ++ step ∷ []) (goals ++ others)) steps step ∙ ap₂ (λ xs ys. xs ++ ys) (equations-kept steps (step ∷ []) goals others steps h) e
 
 -- the start
 pub system-started : (m : List MatrixClause) (c : Copied) (before after : List Step) (goals : List Goal) → before ≡ [] → after ≡ before ++ Start c ∷ [] → tree_system m after goals (cell_goals_on [] c.copy.literals) ≡ started_system (strings_in m c) c.copy.gammas c.copy.pis
@@ -62,10 +59,10 @@ system-started m c before after goals e f = ap (λ ss. tree_system m ss goals (c
   where
     whole : tree_system m (Start c ∷ []) goals (cell_goals_on [] c.copy.literals) ≡ started_system (strings_in m c) c.copy.gammas c.copy.pis
     whole = λ i. record {
-      equations = one-more (equations_of (Start c ∷ []) goals) [] (Start c) i;
-      strings = one-more (strings_of m) [] (Start c) i;
+      equations = flat-last (equations_of (Start c ∷ []) goals) [] (Start c) i;
+      strings = flat-last (strings_of m) [] (Start c) i;
       pis = (sum_by-cons pis_of (Start c) [] ∙ none-more c.copy.pis) i;
-      gammas = one-more gammas_of [] (Start c) i;
+      gammas = flat-last gammas_of [] (Start c) i;
       pairs = pairs-none c.copy.literals i;
     }
 
@@ -77,8 +74,8 @@ system-reduced m steps after goals goal up ancestor here at cs g a gs every ds h
     labels =
         let q = leftmost steps goals goal here g gs h.open_goals e in
         ap₂ (λ l r. record { left = l; right = r } ∷ [])
-        (label-is (steps ++ Reduce goal up ancestor ∷ []) (goals ++ []) goal here g.literal (get-kept goals [] goal here e) (atom-kept steps (Reduce goal up ancestor ∷ []) here g.literal q.is_goal.literal))
-        (label-is (steps ++ Reduce goal up ancestor ∷ []) (goals ++ []) ancestor at a (get-kept goals [] ancestor at ea) (atom-kept steps (Reduce goal up ancestor ∷ []) at a atom))
+        (label-is (steps ++ Reduce goal up ancestor ∷ []) (goals ++ []) goal here g.literal (get-front goals [] goal here e) (atom-kept steps (Reduce goal up ancestor ∷ []) here g.literal q.is_goal.literal))
+        (label-is (steps ++ Reduce goal up ancestor ∷ []) (goals ++ []) ancestor at a (get-front goals [] ancestor at ea) (atom-kept steps (Reduce goal up ancestor ∷ []) at a atom))
 
     equations : flat_map (equations_of (steps ++ Reduce goal up ancestor ∷ []) goals) (steps ++ Reduce goal up ancestor ∷ []) ≡ flat_map (equations_of steps goals) steps ++ record { left = g.literal.label; right = a.label } ∷ []
     equations = ap (λ zs. flat_map (equations_of (steps ++ Reduce goal up ancestor ∷ []) zs) (steps ++ Reduce goal up ancestor ∷ [])) (sym (append-nil goals)) ∙ equations-more steps goals [] (Reduce goal up ancestor) (record { left = g.literal.label; right = a.label } ∷ []) h.linked labels
@@ -86,9 +83,9 @@ system-reduced m steps after goals goal up ancestor here at cs g a gs every ds h
     whole : tree_system m (steps ++ Reduce goal up ancestor ∷ []) goals every ≡ reduced_system (tree_system m steps goals every) g.literal a
     whole = λ i. record {
       equations = equations i;
-      strings = (one-more (strings_of m) steps (Reduce goal up ancestor) ∙ append-nil (flat_map (strings_of m) steps)) i;
+      strings = (flat-last (strings_of m) steps (Reduce goal up ancestor) ∙ append-nil (flat_map (strings_of m) steps)) i;
       pis = (one-summed pis_of steps (Reduce goal up ancestor) ∙ none-more (sum_by pis_of steps)) i;
-      gammas = (one-more gammas_of steps (Reduce goal up ancestor) ∙ append-nil (flat_map gammas_of steps)) i;
+      gammas = (flat-last gammas_of steps (Reduce goal up ancestor) ∙ append-nil (flat_map gammas_of steps)) i;
       pairs = pairs_of every;
     }
 
@@ -100,13 +97,13 @@ system-extended m steps after goals others all goal c place atom here cs g gs ev
     labels =
         let q = leftmost steps goals goal here g gs h.open_goals e in
         ap (λ l. record { left = l; right = (the_atom atom).label } ∷ [])
-        (label-is (steps ++ Extend goal c place atom ∷ []) (goals ++ others) goal here g.literal (get-kept goals others goal here e) (atom-kept steps (Extend goal c place atom ∷ []) here g.literal q.is_goal.literal))
+        (label-is (steps ++ Extend goal c place atom ∷ []) (goals ++ others) goal here g.literal (get-front goals others goal here e) (atom-kept steps (Extend goal c place atom ∷ []) here g.literal q.is_goal.literal))
 
     whole : tree_system m (steps ++ Extend goal c place atom ∷ []) (goals ++ others) (every ++ new_cell_goals g (clause_with m c (inserted place (the_atom atom) c.copy.literals)) place) ≡ extended_system (tree_system m steps goals every) g (clause_with m c (inserted place (the_atom atom) c.copy.literals)) place (the_atom atom) (strings_in m c) c.copy.gammas c.copy.pis
     whole = λ i. record {
       equations = equations-more steps goals others (Extend goal c place atom) (record { left = g.literal.label; right = (the_atom atom).label } ∷ []) h.linked labels i;
-      strings = one-more (strings_of m) steps (Extend goal c place atom) i;
+      strings = flat-last (strings_of m) steps (Extend goal c place atom) i;
       pis = one-summed pis_of steps (Extend goal c place atom) i;
-      gammas = one-more gammas_of steps (Extend goal c place atom) i;
+      gammas = flat-last gammas_of steps (Extend goal c place atom) i;
       pairs = pairs-append every (new_cell_goals g (clause_with m c (inserted place (the_atom atom) c.copy.literals)) place) i;
     }

@@ -1,6 +1,8 @@
 -- The links of the program's tree.
 use Rattle.std.proofs.Common.{◌≡◌, ◌+◌, ◌≤◌, ℕ, zero, suc, List, [], ◌∷◌, drop, length, refl, sym, ◌∙◌, ap, subst, Option, None, Some, slice_get, arith}
 use Rattle.std.specs.List.{AllByRecursion}
+use Rattle.plain_laws.proofs.Places.{drop-end, drop-there}
+use Rattle.plain_laws.proofs.Options.{same-some}
 use Rattle.store_theory.specs.Stores.{Store}
 use Rattle.store_theory.specs.Systems.{CellAtom}
 use Rattle.search_theory.specs.Regular.{AreSame, IsNewGoal}
@@ -8,16 +10,12 @@ use Rattle.search_theory.specs.States.{CellGoal}
 use Rattle.search_tree.specs.Trees.{AreGoals, IsGoal, IsGoalAt, IsPath, atom_at}
 use Rattle.search_tree.specs.declared.tree.Goal.{Goal}
 use Rattle.search_tree.specs.declared.tree.Step.{Step}
-use Rattle.search_tree.proofs.Places.{drop-end, drop-there}
 
 -- ---- atoms
 
-pub same-item : {A : Type 0} (o : Option A) (x y : A) → o ≡ Some x → o ≡ Some y → x ≡ y
-same-item o x y e f = let q : Some x ≡ Some y = sym e ∙ f in cc q
-
 -- the atom of a goal that is found
 pub atom-found : (steps : List Step) (goals : List Goal) (i : ℕ) (x : CellGoal) (a : CellAtom) → IsGoalAt steps goals i x → ((g : Goal) → slice_get goals i ≡ Some g → atom_at steps g ≡ Some a) → a ≡ x.literal
-atom-found steps goals i x a h f = same-item (atom_at steps h.goal) a x.literal (f h.goal h.stands) h.is_goal.literal
+atom-found steps goals i x a h f = same-some (atom_at steps h.goal) a x.literal (f h.goal h.stands) h.is_goal.literal
 
 -- ---- the way up from a goal
 
@@ -58,7 +56,7 @@ looks-next s steps goals x j i next h e other =
     let w = ancestor-on steps goals x j i h.path in
     let more : i + 1 ≡ suc i = omega arith in
     record {
-      path = subst (λ (g : Goal). IsPath steps goals g.above (drop (i + 1) x.path)) (same-item (slice_get goals j) w.goal next w.stands e) w.rest;
+      path = subst (λ (g : Goal). IsPath steps goals g.above (drop (i + 1) x.path)) (same-some (slice_get goals j) w.goal next w.stands e) w.rest;
       others = λ k. h.others (subst (AllByRecursion (λ (a : CellAtom). ¬ AreSame s x.literal a)) (sym (drop-there x.path i w.atom w.on_path)) (other w.atom w.on_path, subst (λ n. AllByRecursion (λ (a : CellAtom). ¬ AreSame s x.literal a) (drop n x.path)) more k));
     }
 

@@ -3,11 +3,12 @@
 use Rattle.std.proofs.Common.{◌≡◌, ◌⊎◌, ◌≤◌, ◌+◌, ℕ, List, [], ◌∷◌, ◌++◌, length, not, IsTrue, sym, ◌∙◌, ap, subst, Option, None, Some, slice_get, remove, inl, inr, arith}
 use Rattle.std.specs.List.{list_all}
 use Rattle.std.proofs.lemmas.Bool.{and_parts, false≢true}
+use Rattle.plain_laws.proofs.Every.{all-at}
+use Rattle.plain_laws.proofs.Places.{map-there}
 use Rattle.calculus.specs.Choices.{Choice, extension}
 use Rattle.calculus.specs.Ground.{Value}
 use Rattle.calculus.specs.Syntax.{Problem}
 use Rattle.calculus.specs.declared.sign.Side.{Side}
-use Rattle.calculus.proofs.PlaceLists.{all-at}
 use Rattle.store_theory.specs.Patterns.{PatternAtom, Template, patterns_tree}
 use Rattle.store_theory.specs.Stores.{Solution, Solves, Store, names_below}
 use Rattle.store_theory.specs.Systems.{CellAtom}
@@ -19,7 +20,7 @@ use Rattle.search_theory.specs.States.{Agree, CellGoal, atom_is_below, goal_is_b
 use Rattle.search_theory.specs.Uncopied.{HasNoReductionOver, IsApartOver, IsRepeatedOver, by_args, by_sign, by_symbol, goal_like}
 use Rattle.search_theory.proofs.BarrenLaws.{AlwaysSame, IsBarren, IsExtensionBy, NeverMeets, barren-fruitless, barren-pruned, lost-barren, repeated-barren, repeated-dead}
 use Rattle.search_theory.proofs.ImageLaws.{literal-agree, terms-agree}
-use Rattle.search_theory.proofs.MeetingLaws.{literal-there, opposite-parts, opposite-some}
+use Rattle.search_theory.proofs.MeetingLaws.{opposite-parts, opposite-some}
 use Rattle.search_tree.specs.Ahead.{HasNoHope}
 use Rattle.search_tree.specs.GivenUp.{IsRuledOut, LooksAhead}
 use Rattle.search_tree.specs.Running.{ExtendsBy, IsAtGoal, IsMatrixOf}
@@ -43,7 +44,7 @@ record IsMetBy (met : Store) (n : ℕ) (vs : List ℕ) (σ : Solution) (us : Lis
 
 met-by : (old met : Store) (t : Template) (place : ℕ) (g : CellGoal) (vs : List ℕ) (p : PatternAtom) → IsHeadMatch old met t vs p g.literal.args → slice_get t.literals place ≡ Some p → (σ : Solution) (us : List Value) → IsExtensionBy old t place g σ us → IsMetBy met (length old.cells) vs σ us
 met-by old met t place g vs p matched at σ us e =
-    let opposite = opposite-some (literal_by σ g.literal) (slice_get (literals_by us t) place) (pattern_literal us p) (literal-there (pattern_literal us) t.literals place p at) e.opposite in
+    let opposite = opposite-some (literal_by σ g.literal) (slice_get (literals_by us t) place) (pattern_literal us p) (map-there (pattern_literal us) t.literals place p at) e.opposite in
     let (τ, solves, agree, values) = matched.forth σ e.solves us e.sorts (opposite-parts (literal_by σ g.literal) (pattern_literal us p) opposite).args in
     record { solution = τ; solves = solves; agree = agree; values = values }
 

@@ -1,18 +1,14 @@
 -- The loop that unifies two lists of terms pair by pair.
-use Rattle.std.proofs.Common.{◌≡◌, ◌+◌, ◌<◌, ℕ, suc, List, [], ◌∷◌, drop, length, map, Option, None, option_map, false, IsTrue, refl, sym, ◌∙◌, ap, subst, Some, slice_get, arith, nat_le, leb-true}
+use Rattle.std.proofs.Common.{◌≡◌, ◌+◌, ◌<◌, ℕ, suc, List, [], ◌∷◌, drop, length, map, IsTrue, refl, sym, ◌∙◌, ap, subst, Some, slice_get, arith, nat_le, leb-true}
 use Rattle.std.specs.List.{list_all}
-use Rattle.std.specs.Option.{option_map_or}
-use Rattle.std.proofs.lemmas.Bool.{false≢true}
 use Rattle.std.proofs.lemmas.List.{length-map}
-use Rattle.std.proofs.lemmas.Option.{slice_get_within}
-use Rattle.calculus.specs.declared.sort.Sort.{Sort}
+use Rattle.plain_laws.proofs.Every.{all-at}
+use Rattle.plain_laws.proofs.Places.{drop-there}
 use Rattle.calculus.specs.declared.sort.Sort.TheVariants.{TermSort}
-use Rattle.calculus.specs.Equality.{sort_eq}
 use Rattle.calculus.specs.Ground.{GroundTerms, no_g_terms, more_g_terms}
 use Rattle.store_theory.specs.Bindings.{AreApart, BindsOnly, BindsWithin, KeepsMarks, NamesFrom, Unifies}
-use Rattle.store_theory.specs.Stores.{Cell, Store, Solution, has_sort_at, sort_of}
-use Rattle.store_theory.proofs.BindingLaws.{KeepsMarks-both, KeepsMarks-same}
-use Rattle.calculus.proofs.PlaceLists.{all-at}
+use Rattle.store_theory.specs.Stores.{Store, Solution, has_sort_at}
+use Rattle.store_theory.proofs.BindingLaws.{KeepsMarks-both, KeepsMarks-same, within-sort}
 use Rattle.term_store.specs.RefView.{the_place}
 use Rattle.term_store.specs.declared.cell.Ref.{Ref}
 use Rattle.term_unify.proofs.PairLaws.{BindsOnly-both, BindsOnly-same}
@@ -21,7 +17,6 @@ use Rattle.search_theory.specs.Steps.{AreUnified, Clash, IsUnified}
 use Rattle.search_theory.proofs.ClassicalSteps.{terms-binds}
 use Rattle.search_theory.proofs.UnifyLaws.{clash-first, clash-later, unified-more}
 use Rattle.search_theory.proofs.WithinLaws.{names-within}
-use Rattle.search_tree.proofs.Places.{drop-there}
 
 -- the pairs before the place i are unified
 pub record UnifiedTo (old cur : Store) (xs ys : List ℕ) (i : ℕ) : Type 0 where
@@ -77,19 +72,12 @@ counted σ (x ∷ xs) = ap suc (counted σ xs)
 pub lengths-clash : (s : Store) (xs ys : List ℕ) → ¬ (length xs ≡ length ys) → Clash s xs ys
 lengths-clash s xs ys n σ h e = n (sym (counted σ xs) ∙ ap count e ∙ counted σ ys)
 
-cell-there : (s : Store) (sort : Sort) (r : ℕ) → IsTrue (has_sort_at s sort r) → r < length s.cells
-cell-there s sort r h = by (slice_get s.cells r) refl h
-  where
-    by : (o : Option Cell) → slice_get s.cells r ≡ o → IsTrue (option_map_or (sort_eq sort) (option_map sort_of o) false) → r < length s.cells
-    by None e q = absurd (false≢true q)
-    by (Some c) e q = slice_get_within s.cells r c e
-
 -- the terms at the place are cells of the store
 pub term-below-left : (old cur : Store) (xs ys : List ℕ) (i a : ℕ) → UnifiedTo old cur xs ys i → IsTrue (list_all (has_sort_at old TermSort) xs) → slice_get xs i ≡ Some a → a < length cur.cells
-term-below-left old cur xs ys i a h t e = let l = cell-there old TermSort a (all-at (has_sort_at old TermSort) xs i a t e) in let s = h.binds.same_length in omega (arith, l, s)
+term-below-left old cur xs ys i a h t e = let l = within-sort old TermSort a (all-at (has_sort_at old TermSort) xs i a t e) in let s = h.binds.same_length in omega (arith, l, s)
 
 pub term-below-right : (old cur : Store) (xs ys : List ℕ) (i b : ℕ) → UnifiedTo old cur xs ys i → IsTrue (list_all (has_sort_at old TermSort) ys) → slice_get ys i ≡ Some b → b < length cur.cells
-term-below-right old cur xs ys i b h t e = let l = cell-there old TermSort b (all-at (has_sort_at old TermSort) ys i b t e) in let s = h.binds.same_length in omega (arith, l, s)
+term-below-right old cur xs ys i b h t e = let l = within-sort old TermSort b (all-at (has_sort_at old TermSort) ys i b t e) in let s = h.binds.same_length in omega (arith, l, s)
 
 -- lists whose lengths differ have views whose lengths differ
 pub mapped-differ : (xs ys : List Ref) → ¬ (length xs ≡ length ys) → ¬ (length (map the_place xs) ≡ length (map the_place ys))

@@ -7,7 +7,7 @@ use Rattle.calculus.specs.Derivations as derivation
 use Rattle.sequent_calc.specs.EntryView.{the_entry}
 use Rattle.sequent_calc.specs.declared.entry.Entry.{Entry}
 
-entry_of-above : (s : derivation.Sequent) (n : ℕ) → n ≢ 0 → entry_of s n ≡ slice_get s (n - 1)
+pub entry_of-above : (s : derivation.Sequent) (n : ℕ) → n ≢ 0 → entry_of s n ≡ slice_get s (n - 1)
 entry_of-above s zero h = absurd (h refl)
 entry_of-above s (suc k) h = let e : k ≡ suc k - 1 = omega arith in ap (slice_get s) e
 

@@ -3,8 +3,8 @@ use Rattle.std.proofs.Common.{◌≡◌, ◌⊎◌, ◌↔◌, ℕ, zero, suc, �
 use Rattle.std.proofs.lemmas.Bool.{false≢true}
 use Rattle.std.proofs.lemmas.List.{take_all}
 use Rattle.std.proofs.lemmas.Option.{slice_get-get_or}
+use Rattle.plain_laws.proofs.Options.{some_injective}
 use Rattle.calculus.proofs.Members.{Among, among-contains, contains-among, contains-at}
-use Rattle.calculus.proofs.WalkLaws.{some_injective}
 use Rattle.sequent_convert.specs.State.{Basis, IsAwaitedBy}
 
 pub not-there : (b : Bool) (Q : Type 0) → b ≡ false → IsTrue b ↔ Q → Q → ⊥

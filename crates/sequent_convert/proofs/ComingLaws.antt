@@ -1,6 +1,7 @@
 -- Turns that are awaited stand before those that await them, and a turn whose awaited turns are done can come.
-use Rattle.std.proofs.Common.{◌≡◌, ◌⊎◌, ℕ, zero, suc, ◌<◌, List, [], ◌∷◌, length, Option, Some, Contains, refl, sym, ◌∙◌, ap, subst, inl, inr, slice_get, arith}
+use Rattle.std.proofs.Common.{◌≡◌, ◌⊎◌, ℕ, ◌<◌, List, [], length, Option, Some, Contains, sym, ◌∙◌, ap, subst, inl, inr, slice_get, arith}
 use Rattle.std.specs.List.{AllByRecursion}
+use Rattle.plain_laws.proofs.Places.{get-there}
 use Rattle.calculus.specs.Instances.{Turn}
 use Rattle.calculus.proofs.Members.{Among}
 use Rattle.conversion_theory.proofs.BranchLaws.{IsComplete}
@@ -10,17 +11,12 @@ use Rattle.sequent_convert.specs.State.{Basis, IsBasis, turn_at, turns_at, IsAwa
 use Rattle.sequent_convert.proofs.TurnPlaces.{turn-in, turn-is, turn-done, done-turn}
 use Rattle.sequent_convert.proofs.Moving.{Coming}
 
-at-place : {A : Type 0} (xs : List A) (k : ℕ) → k < length xs → (x : A) × (slice_get xs k ≡ Some x)
-at-place [] k lt = absurd (omega (arith, lt))
-at-place (x ∷ xs) zero lt = (x, refl)
-at-place (x ∷ xs) (suc k) lt = at-place xs k (omega (arith, lt))
-
 module _ (B : Basis) (basis : IsBasis B) where
   above : (k : ℕ) → k < length B.named.agenda → (p : Option ℕ) × (slice_get B.named.parents k ≡ Some p)
-  above k lt = at-place B.named.parents k (let n = basis.parents.count in omega (arith, n, lt))
+  above k lt = get-there B.named.parents k (let n = basis.parents.count in omega (arith, n, lt))
 
   waited : (k : ℕ) → k < length B.named.agenda → (w : List ℕ) × (slice_get B.named.waits k ≡ Some w)
-  waited k lt = at-place B.named.waits k (let n = basis.waits.count in omega (arith, n, lt))
+  waited k lt = get-there B.named.waits k (let n = basis.waits.count in omega (arith, n, lt))
 
   pub awaited-before : (k j : ℕ) → k < length B.named.agenda → IsAwaitedBy B k j → j < k
   awaited-before k j lt (inl up) = parent-before B.problem B.tableau B.named.agenda basis.agenda B.named.parents basis.parents k j (turn_at B k) (turn-in B k lt) up

@@ -5,6 +5,7 @@ use Rattle.std.proofs.lemmas.List.{length-map, length-take-le}
 use Rattle.std.proofs.Common.{◌≡◌, ℕ, suc, ◌+◌, ◌≤◌, ◌<◌, List, [], ◌∷◌, ◌++◌, length, length-append, take, append-nil, true, false, Some, Ok, Contains, refl, sym, ◌∙◌, ap, subst, slice_get, arith}
 use Rattle.std.specs.List.{AllByRecursion}
 use Rattle.std.proofs.lemmas.Bool.{false≢true}
+use Rattle.plain_laws.proofs.Every.{each-push}
 use Rattle.calculus.specs.Ground.{Value}
 use Rattle.calculus.specs.Derivations.{Step, close, axiom_count}
 use Rattle.calculus.specs.Text.{is_number}
@@ -22,7 +23,7 @@ use Rattle.conversion_theory.proofs.LoopMeasures.{leads-cost}
 use Rattle.conversion_theory.proofs.AheadLaws.{made-lowers}
 use Rattle.sequent_convert.specs.AheadView.{Ahead}
 use Rattle.sequent_convert.specs.State.{Basis, IsBasis, Waiting, State, turn_at, turns_at, way_of, waiting_ways, open_ways, Nest, IsAhead, IsOpenRun, IsRun, whole_weight, way_room, ways_room, room_of, WorksOnNone, made_of, ComesNext, resumed, with_step, IsAxiom}
-use Rattle.sequent_convert.proofs.TurnPlaces.{turns-push, listed, turn-done, all-push, all-take}
+use Rattle.sequent_convert.proofs.TurnPlaces.{turns-push, listed, turn-done, all-take}
 use Rattle.sequent_convert.proofs.WaitingWays.{nest-more, waiting-grown, waiting-cut, begins}
 
 -- a turn whose awaited turns are done can come
@@ -71,7 +72,7 @@ module _ (B : Basis) (basis : IsBasis B) (coming : Coming B) where
           record {
             opened = λ _. record {
               leading = whole;
-              done = all-push (λ j. j < length B.named.agenda) s.done k h.done next.within;
+              done = each-push (λ j. j < length B.named.agenda) s.done k h.done next.within;
               nest = nest-more (length s.items) (length s.done) (length (s.items ++ added)) (length (s.done ++ k ∷ [])) s.waiting (omega (arith, longer)) (omega (arith, later)) h.nest;
               ahead = h.ahead;
               waiting = h.waiting;
@@ -121,7 +122,7 @@ module _ (B : Basis) (basis : IsBasis B) (coming : Coming B) where
           record {
             opened = λ _. record {
               leading = whole;
-              done = all-push (λ j. j < length B.named.agenda) s.done k h.done next.within;
+              done = each-push (λ j. j < length B.named.agenda) s.done k h.done next.within;
               nest = (omega (arith, longer), omega (arith, later), nest-more (length s.items) (length s.done) (length s.items) (length s.done + 1) s.waiting (omega arith) (omega arith) h.nest);
               ahead = first;
               waiting = (second, h.waiting);

@@ -4,6 +4,8 @@ use Rattle.std.specs.List.{AllByRecursion}
 use Rattle.std.proofs.lemmas.List.{length-map, take-append-drop, drop-drop}
 use Rattle.std.proofs.lemmas.Option.{slice_get_within}
 use Rattle.std.proofs.Math.Seq.{drop-append_seam}
+use Rattle.plain_laws.proofs.Options.{none_some, some_injective}
+use Rattle.plain_laws.proofs.Places.{get-there}
 use Rattle.calculus.specs.declared.setting.Logic.{Logic}
 use Rattle.calculus.specs.declared.kind.Shape.TheVariants.{Beta, Literal}
 use Rattle.calculus.specs.declared.kind.ModalPart.{ModalPart}
@@ -29,7 +31,6 @@ use Rattle.conversion_theory.proofs.MadeLaws.{made-by}
 use Rattle.conversion_theory.proofs.SegmentLaws.{Leads, leads-item, leads-parent, leads-part, Parts, leads-parts, leads-literal}
 use Rattle.conversion_theory.proofs.LeadingLaws.{leading-one, leading-two, literal-extends, none-awaited, extension-cost, extension-weight}
 use Rattle.conversion_theory.proofs.LoopMeasures.{leads-turns}
-use Rattle.calculus.proofs.WalkLaws.{none_some, some_injective}
 use Rattle.name_order.specs.Prerequisites.{own_part, count_before}
 use Rattle.sequent_convert.specs.AheadView.{Ahead, end_instances, ends_instances, instance_count}
 use Rattle.sequent_convert.specs.State.{Basis, IsBasis, State, turn_at, turns_at, waiting_ways, IsAhead, IsOpenRun, IsRun, room_of, Works, made_of, IsAwaitedBy, ComesNext, ComesFor, first_turns, first_count, first_part, second_part, IsDoneAhead, Begins, BeginsNot, Moves, closes, skips, stays, adds, forks_ahead, forks_other, passes, to_first, to_second, extends}
@@ -80,11 +81,6 @@ module _ (B : Basis) (i : Item) (own : List Value) (a b : Signed) (shape : shape
   right-position = ap (λ n. n + suc (size a.formula)) (past-position (number_of B.named.names) B.problem.setting.logic (modal_of B.problem.setting.logic i.sign i.formula) i.spot own)
 
 -- ---- names by the values that a turn takes itself
-
-slice_get-at : {A : Type 0} (xs : List A) (k : ℕ) → k < length xs → (x : A) × (slice_get xs k ≡ Some x)
-slice_get-at [] k lt = absurd (omega arith)
-slice_get-at (x ∷ xs) zero lt = (x, refl)
-slice_get-at (x ∷ xs) (suc k) lt = slice_get-at xs k (omega (arith, lt))
 
 dropped : {A : Type 0} (n : ℕ) (xs : List A) (x : A) → Among (drop n xs) x → Among xs x
 dropped zero xs x h = h
@@ -211,7 +207,7 @@ module _ (B : Basis) (basis : IsBasis B) (coming : Coming B) where
         within = (within-first k ks e).0
 
         up : (p : Option ℕ) × (slice_get B.named.parents k ≡ Some p)
-        up = slice_get-at B.named.parents k (let n = basis.parents.count in omega (arith, n, within))
+        up = get-there B.named.parents k (let n = basis.parents.count in omega (arith, n, within))
 
         none_waits : (ws : List ℕ) → slice_get B.named.waits k ≡ Some ws → Contains ws j → ⊥
         none_waits ws at m =

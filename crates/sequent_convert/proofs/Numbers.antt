@@ -2,6 +2,7 @@
 use Rattle.std.proofs.Common.{◌≡◌, ◌≢◌, ◌↔◌, ◌⊎◌, ℕ, zero, suc, None, eq-eqb, ◌+◌, ◌-◌, ◌≤◌, ◌<◌, List, [], ◌∷◌, ◌++◌, length, length-append, take, true, false, IsTrue, Some, Contains, nat_eq, refl, sym, ◌∙◌, ap, subst, inl, inr, slice_get, slice_index, arith}
 use Rattle.std.proofs.lemmas.Bool.{false≢true, eqb-true}
 use Rattle.std.proofs.lemmas.Option.{slice_get_within, slice_get-get_or, get_or_from_slice_get}
+use Rattle.plain_laws.proofs.Options.{some-eq}
 use Rattle.calculus.proofs.Members.{Among, at-contains, contains-at}
 use Rattle.sequent_convert.specs.Numbers.{KeepsNumbers}
 
@@ -16,9 +17,6 @@ no-number numbers members k n h e z = (λ q. absurd (false≢true q), λ c. let 
 pub past-number : (numbers members : List ℕ) (k n : ℕ) → KeepsNumbers numbers members → n ≡ slice_index numbers k → length members < n → IsTrue false ↔ Contains members k
 past-number numbers members k n h e lt = (λ q. absurd (false≢true q), λ c. let r = member-number numbers members k h c in let s = r.3 in let w = r.1 in absurd (omega (arith, e, lt, s, w)))
 
-one-some : {A : Type 0} (x y : A) → Some x ≡ Some y → x ≡ y
-one-some x y e = cc
-
 -- else the member at its place decides
 pub number-tells : (numbers members : List ℕ) (k n x : ℕ) → KeepsNumbers numbers members → n ≡ slice_index numbers k → n ≢ 0 → slice_get members (n - 1) ≡ Some x → IsTrue (nat_eq x k) ↔ Contains members k
 number-tells numbers members k n x h e some at = (
@@ -27,7 +25,7 @@ number-tells numbers members k n x h e some at = (
       let r = member-number numbers members k h c in
       let s = r.3 in
       let place : n - 1 ≡ r.0 = omega (arith, e, s) in
-      let same : x ≡ k = one-some x k (sym at ∙ ap (slice_get members) place ∙ r.2) in
+      let same : x ≡ k = some-eq x k (sym at ∙ ap (slice_get members) place ∙ r.2) in
       subst (λ y. nat_eq x y ≡ true) same (eq-eqb x x refl),
 )
 
@@ -39,7 +37,7 @@ numbers-push old new members k n h fresh count here others i j at = elim (where-
 ]
   where
     where-is : (xs : List ℕ) (m x : ℕ) → slice_get (xs ++ k ∷ []) m ≡ Some x → (slice_get xs m ≡ Some x) ⊎ ((m ≡ length xs) × (x ≡ k))
-    where-is [] zero x q = inr (refl, sym (one-some k x q))
+    where-is [] zero x q = inr (refl, sym (some-eq k x q))
     where-is [] (suc m) x q = absurd (none-some q)
       where
         none-some : {A : Type 0} {a : A} → None ≡ Some a → ⊥

@@ -3,12 +3,12 @@ use Rattle.std.proofs.Common.{◌≡◌, ◌⊎◌, ℕ, zero, suc, ◌+◌, ◌
 use Rattle.std.specs.List.{AllByRecursion}
 use Rattle.std.proofs.lemmas.List.{map_push, take-map}
 use Rattle.std.proofs.lemmas.Option.{slice_get-get_or, get_or_from_slice_get, slice_get_within}
+use Rattle.plain_laws.proofs.Options.{none_some, some_injective}
 use Rattle.calculus.specs.Instances.{Turn, ClauseInstance}
 use Rattle.calculus.specs.Tableaux.{instances}
 use Rattle.conversion_theory.specs.Turns.{turns_of, turns_of_instance}
 use Rattle.calculus.proofs.Members.{Among, among-contains, contains-at, contains-among, at-contains, at-among, among-at, among-all, all-among, among-append}
 use Rattle.conversion_theory.proofs.AgendaLaws.{TurnOf}
-use Rattle.calculus.proofs.WalkLaws.{none_some, some_injective}
 use Rattle.sequent_convert.specs.State.{Basis, IsBasis, no_turn, turn_at, turns_at}
 
 -- ---- lists
@@ -22,10 +22,6 @@ pub all-drop : {A : Type 0} (Q : A → Type 0) (n : ℕ) (xs : List A) → AllBy
 all-drop Q zero xs h = h
 all-drop Q (suc n) [] h = tt
 all-drop Q (suc n) (x ∷ xs) h = all-drop Q n xs h.1
-
-pub all-push : {A : Type 0} (Q : A → Type 0) (xs : List A) (x : A) → AllByRecursion Q xs → Q x → AllByRecursion Q (xs ++ x ∷ [])
-all-push Q [] x h q = (q, tt)
-all-push Q (y ∷ ys) x h q = (h.0, all-push Q ys x h.1 q)
 
 pub among-map : {A C : Type 0} (f : A → C) (xs : List A) (x : A) → Among xs x → Among (map f xs) (f x)
 among-map f [] x h = elim h [ ]

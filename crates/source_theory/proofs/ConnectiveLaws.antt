@@ -1,7 +1,8 @@
 -- What the truth of a formula of each shape says of its parts.
-use Rattle.std.proofs.Common.{◌≡◌, ◌⊎◌, List, [], ◌∷◌, Bool, true, false, not, ◌&&◌, ◌||◌, IsTrue, refl, sym, ◌∙◌}
+use Rattle.std.proofs.Common.{◌≡◌, ◌⊎◌, List, [], ◌∷◌, Bool, not, ◌&&◌, ◌||◌, IsTrue, sym, ◌∙◌}
 use Rattle.std.specs.List.{list_all, list_any}
 use Rattle.std.proofs.lemmas.List.Folds.{list_all-append, list_any-append}
+use Rattle.plain_laws.proofs.Booleans.{and-true, or_false}
 use Rattle.calculus.specs.declared.setting.Logic.{Logic}
 use Rattle.calculus.specs.Syntax.{Symbol, Term, no_terms, Formula, atom, neg, conj, disj, imp, all, ex, box, dia}
 use Rattle.calculus.specs.Models.{Model, IsWorld, Reaches, IsIn, value_by, HasTruth, RelationFits}
@@ -26,14 +27,6 @@ is_true_in M names env w f = M.truth names f env w
 -- at each world the formula is true exactly where this is
 abbrev pub Says : {W E : Type 0} → Model W E → (Term → E) → Formula → List E → (W → Type 0) → Type 0
 Says {W} M names f env A = (w : W) → IsWorld M w → AreAlike (IsTrue (M.truth names f env w)) (A w)
-
-and-nothing : (b : Bool) → (b && true) ≡ b
-and-nothing true = refl
-and-nothing false = refl
-
-or-nothing : (b : Bool) → (b || false) ≡ b
-or-nothing true = refl
-or-nothing false = refl
 
 module _ {W E : Type 0} (l : Logic) (M : Model W E) (symbols : List Symbol) (S : IsFor l M symbols) (names : Term → E) where
   -- it says that it is true
@@ -126,11 +119,11 @@ module _ {W E : Type 0} (l : Logic) (M : Model W E) (symbols : List Symbol) (S :
   -- ---- balanced chains
 
   pub conjunction-all : (env : List E) (w : W) (fs : List Formula) (f : Formula) → IsBalanced conj fs f → M.truth names f env w ≡ list_all (is_true_in M names env w) fs
-  conjunction-all env w _ _ (one f) = sym (and-nothing (M.truth names f env w))
+  conjunction-all env w _ _ (one f) = sym (and-true (M.truth names f env w))
   conjunction-all env w _ _ (halves fs gs f g e p q) =
       S.tells names (conj f g) env w ∙ (λ i. conjunction-all env w fs f p i && conjunction-all env w gs g q i) ∙ sym (list_all-append (is_true_in M names env w) fs gs)
 
   pub disjunction-any : (env : List E) (w : W) (fs : List Formula) (f : Formula) → IsBalanced disj fs f → M.truth names f env w ≡ list_any (is_true_in M names env w) fs
-  disjunction-any env w _ _ (one f) = sym (or-nothing (M.truth names f env w))
+  disjunction-any env w _ _ (one f) = sym (or_false (M.truth names f env w))
   disjunction-any env w _ _ (halves fs gs f g e p q) =
       S.tells names (disj f g) env w ∙ (λ i. disjunction-any env w fs f p i || disjunction-any env w gs g q i) ∙ sym (list_any-append (is_true_in M names env w) fs gs)

@@ -1,8 +1,9 @@
 -- Truth depends on the elements of the free variables alone; so a formula whose free variables are quantified is true exactly where
 -- it is true whatever elements of the domain all names are.
-use Rattle.std.proofs.Common.{◌≡◌, ◌⊎◌, ◌↔◌, ◌==◌, ℕ, List, [], ◌∷◌, ◌++◌, Bool, true, false, ◌||◌, IsTrue, refl, sym, ◌∙◌, ap, subst, inl, inr, append_assoc, append-nil, if◌then◌else◌}
+use Rattle.std.proofs.Common.{◌≡◌, ◌⊎◌, ◌==◌, List, [], ◌∷◌, ◌++◌, Bool, true, false, ◌||◌, IsTrue, refl, sym, ◌∙◌, ap, subst, inl, inr, append_assoc, append-nil, if◌then◌else◌}
 use Rattle.std.specs.List.{list_any}
-use Rattle.std.proofs.lemmas.Bool.{eqb-true, false≢true}
+use Rattle.std.proofs.lemmas.Bool.{false≢true}
+use Rattle.plain_laws.proofs.Numbers.{eqb-iff}
 use Rattle.calculus.specs.declared.setting.Logic.{Logic}
 use Rattle.calculus.specs.declared.setting.Logic.TheVariants.{Classical, Intuitionistic, D, T as LogicT, S4, S5}
 use Rattle.calculus.specs.declared.setting.Domains.{Domains}
@@ -16,20 +17,14 @@ use Rattle.tptp_reader.specs.declared.source.BinaryKind.{BinaryKind}
 use Rattle.tptp_reader.specs.declared.source.BinaryKind.TheVariants.{Imp, If, Iff, Xor, Nor, Nand}
 use Rattle.tptp_reader.specs.Sources.{Name, SourceTerm, variable, apply, SourceTerms, no_terms, more_terms, Source, atom, truth, falsity, equal, unequal, not, chain, binary, for_all, exists, nec, poss, Sources, no_sources, more_sources}
 use Rattle.problem_build.specs.Expansion.{first_seen, free_in, free_in_all, free_variables, same_name, unbound, variables_in, variables_in_all}
-use Rattle.problem_build.proofs.ExpansionLaws.{same-number}
+use Rattle.problem_build.proofs.ExpansionLaws.{same-self}
 use Rattle.source_theory.specs.SourceTruth.{function_of, Holds, with_element, element_of, elements_of, Lasts, LastsForEach, AreAlike, JoinedBy, ForEach, ForSome, IsTrueAt, AreTrueAt, IsOneTrueAt, IsTrueForAll}
 use Rattle.source_theory.proofs.TruthLaws.{IsTrueClosed, IsClosed, lasts-now, not-alike, same-equation}
 
 -- ---- names
 
-numbers : (a b : ℕ) → IsTrue (a == b) ↔ (a ≡ b)
-numbers a b = (eqb-true a b, λ e. subst (λ z. IsTrue (a == z)) e (same-number a))
-
 one-name : (x y : Name) → IsTrue (same_name x y) → x ≡ y
-one-name x y h = (list_eq-tells ◌==◌ numbers x y).0 h
-
-same-self : (x : Name) → IsTrue (same_name x x)
-same-self x = (list_eq-tells ◌==◌ numbers x x).1 refl
+one-name x y h = (list_eq-tells ◌==◌ eqb-iff x y).0 h
 
 -- both give these names the same elements
 abbrev pub Agree : {E : Type 0} → (g h : Name → E) → List Name → Type 0

@@ -1,15 +1,19 @@
 -- A cell or a binding more keeps a store, its ranks and its good marks.
-use Rattle.std.proofs.Common.{rules, ◌⊎◌, not, ◌&&◌, ◌+◌, ◌++◌, inl, inr, eqb-true, eq-eqb, ◌<◌, option_map, nat_lt, Some, ◌||◌, ◌==◌, ◌≡◌, ℕ, zero, suc, ◌≤◌, List, [], ◌∷◌, length, take, Bool, true, false, Option, None, IsTrue, refl, sym, ◌∙◌, ap, ap₂, subst, arith, length-append, if◌then◌else◌}
+use Rattle.std.proofs.Common.{◌⊎◌, not, ◌&&◌, ◌+◌, ◌++◌, inl, inr, eqb-true, eq-eqb, ◌<◌, option_map, nat_lt, Some, ◌||◌, ◌==◌, ◌≡◌, ℕ, zero, suc, ◌≤◌, List, [], ◌∷◌, length, take, Bool, true, false, Option, None, IsTrue, refl, sym, ◌∙◌, ap, ap₂, subst, arith, length-append, if◌then◌else◌}
 use Rattle.std.specs.List.{list_all, list_any}
 use Rattle.std.specs.Option.{option_map_or}
 use Rattle.std.specs.Prelude.{slice_get}
 use Rattle.std.proofs.lemmas.Bool.{cases_Bool, false≢true, and_parts, and_from}
+use Rattle.plain_laws.proofs.Every.{all-at}
+use Rattle.plain_laws.proofs.Booleans.{same-tests}
+use Rattle.plain_laws.proofs.Places.{get-front, get-within, take-all, take-longer}
+use Rattle.plain_laws.proofs.Numbers.{less-test}
 use Rattle.calculus.specs.declared.sort.Sort.{Sort}
 use Rattle.calculus.specs.declared.sort.Sort.TheVariants.{TermSort, MarkSort, StringSort}
 use Rattle.calculus.specs.Equality.{contains, sort_eq}
 use Rattle.store_theory.specs.Stores.{is_store, trail_fits, are_distinct_cells, bound_cells, is_bound, sort_of, has_sort_at, has_value_sort_at, parts_of, parts_fit, names_below, Cell, variable, fun_cell, eigen_cell, new_cell, string_cell, Store, TrailMark, cells_bound_by, cut_at, store_is_below, IsGood, OccursIn, here, in_part, HasNoCycle, EndsAt, stays, goes_on}
 use Rattle.store_theory.specs.Bindings.{with_cell, bound_to, bind_at, with_binding, MayBind, IsRanked, HasRank, KeepsMarks, KeepsEarlier, IsWellFormed, IsEnd}
-use Rattle.calculus.proofs.PlaceLists.{all-at, all-from, all-more, get-front, get-last, get-within, take-front, contains-append, all-contained, contained}
+use Rattle.calculus.proofs.PlaceLists.{all-from, all-more, get-last, contains-append, all-contained, contained}
 use Rattle.store_theory.proofs.StoreLaws.{contains-take, not-below, is_store-cut_at, IsGood-cut_at, cut_at-cut_at}
 
 -- ---- sorts
@@ -50,10 +54,10 @@ parts_fit-more s u h (eigen_cell p rs) f = all-more (has_value_sort_at s) (has_v
 parts_fit-more s u h (new_cell p rs) f = all-more (has_value_sort_at s) (has_value_sort_at u) rs (λ k. or-more (has_sort_at s TermSort k) (has_sort_at u TermSort k) (has_sort_at s StringSort k) (has_sort_at u StringSort k) (h TermSort k) (h StringSort k)) f
 parts_fit-more s u h (string_cell rs) f = all-more (has_sort_at s MarkSort) (has_sort_at u MarkSort) rs (h MarkSort) f
 
-within-sort : (s : Store) (sort : Sort) (r : ℕ) → IsTrue (has_sort_at s sort r) → r < length s.cells
+pub within-sort : (s : Store) (sort : Sort) (r : ℕ) → IsTrue (has_sort_at s sort r) → r < length s.cells
 within-sort s sort r h = let w = sorted_cell s sort r h in get-within s.cells r w.0 w.1
 
-within-value : (s : Store) (r : ℕ) → IsTrue (has_value_sort_at s r) → r < length s.cells
+pub within-value : (s : Store) (r : ℕ) → IsTrue (has_value_sort_at s r) → r < length s.cells
 within-value s r h = elim (cases_Bool (has_sort_at s TermSort r)) [
   | inl t ↦ within-sort s TermSort r t
   | inr f ↦ within-sort s StringSort r (rw f at h)
@@ -78,11 +82,6 @@ pub record Kept (s : Store) : Type 0 where
   pub fits : (n : ℕ) (c : Cell) → slice_get s.cells n ≡ Some c → IsTrue (parts_fit s c)
   pub distinct : IsTrue (are_distinct_cells s.trail)
   pub bound : (k : ℕ) → contains s.trail k ≡ is_bound_at s.cells k
-
-pub bool-same : (p q : Bool) → (p ≡ true → q ≡ true) → (q ≡ true → p ≡ true) → p ≡ q
-bool-same true q h k = sym (h refl)
-bool-same false true h k = k refl
-bool-same false false h k = refl
 
 pub bound_cells-at : (n j k : ℕ) (cs : List Cell) → j ≡ n + k → contains (bound_cells n cs) j ≡ is_bound_at cs k
 bound_cells-at n j k [] e = refl
@@ -114,7 +113,7 @@ kept_trail s h =
     let d = and_parts (are_distinct_cells s.trail) (list_all (contains (bound_cells 0 s.cells)) s.trail) b.0 in
     record {
       distinct = d.0;
-      bound = λ k. bool-same (contains s.trail k) (is_bound_at s.cells k)
+      bound = λ k. same-tests (contains s.trail k) (is_bound_at s.cells k)
           (λ e. sym (bound_cells-at 0 k k s.cells (omega arith)) ∙ contained (contains (bound_cells 0 s.cells)) s.trail k d.1 e)
           (λ e. contained (contains s.trail) (bound_cells 0 s.cells) k b.1 (bound_cells-at 0 k k s.cells (omega arith) ∙ e));
     }
@@ -166,7 +165,7 @@ good-by m s u g h k e = (record { cells = let a = g.cells in omega arith; entrie
 
 pub KeepsMarks-with_cell : (c : Cell) (s : Store) → KeepsMarks s (with_cell c s)
 KeepsMarks-with_cell c s m g = good-by m s (with_cell c s) g (omega (arith, length-append s.cells (c ∷ []))) (omega arith)
-    (ap (λ cs. let r : Store = record { cells = cells_bound_by (take m.entries s.trail) 0 cs; trail = take m.entries s.trail } in r) (take-front m.cells s.cells (c ∷ []) g.cells))
+    (ap (λ cs. let r : Store = record { cells = cells_bound_by (take m.entries s.trail) 0 cs; trail = take m.entries s.trail } in r) (take-longer m.cells s.cells (c ∷ []) g.cells))
 
 rank_sum : (ℕ → ℕ) → List ℕ → ℕ
 rank_sum rank [] = 0
@@ -315,7 +314,7 @@ cut-bind t n (suc v) j r (suc k) sort (string_cell rs ∷ cs) q h e = ap (λ ds.
 
 pub KeepsMarks-with_binding : (v r : ℕ) (s : Store) → IsTrue (is_store s) → MayBind s v r → KeepsMarks s (with_binding v r s)
 KeepsMarks-with_binding v r s h m k g =
-    let t = take-front k.entries s.trail (v ∷ []) g.entries in
+    let t = take-longer k.entries s.trail (v ∷ []) g.entries in
     let off : contains (take k.entries s.trail) v ≡ false = elim (cases_Bool (contains (take k.entries s.trail) v)) [
       | inl e ↦ absurd (false≢true (sym (open-unbound s v m.sort m.open_cell) ∙ sym ((kept s h).bound v) ∙ contains-take k.entries s.trail v e))
       | inr e ↦ e
@@ -400,7 +399,7 @@ decide_occurs s rank ranked v k = elim (cases_Bool (occurs (rank k) s v k)) [
   | inr e ↦ inr (λ o. false≢true (sym e ∙ occurs-found s rank ranked (rank k) v k (omega arith) o))
 ]
 
-bound-part : (sort : Sort) (r i k : ℕ) (c : Cell) → c ≡ variable sort (Some r) → slice_get (parts_of c) i ≡ Some k → k ≡ r
+pub bound-part : (sort : Sort) (r i k : ℕ) (c : Cell) → c ≡ variable sort (Some r) → slice_get (parts_of c) i ≡ Some k → k ≡ r
 bound-part sort r i k c q p = by i (ap (λ x. slice_get (parts_of x) i) (sym q) ∙ p)
   where
     by : (i : ℕ) → slice_get (r ∷ []) i ≡ Some k → k ≡ r
@@ -466,10 +465,6 @@ IsWellFormed-cut_at m s w g = record { fits = is_store-cut_at m s w.fits g; rank
 pub IsWellFormed-with_binding : (v r : ℕ) (s : Store) → IsWellFormed s → MayBind s v r → IsWellFormed (with_binding v r s)
 IsWellFormed-with_binding v r s w m = record { fits = is_store-with_binding v r s w.fits m; rank = HasRank-with_binding v r s m w.rank }
 
-take-all : {A : Type 0} (xs : List A) → take (length xs) xs ≡ xs
-take-all [] = refl
-take-all (x ∷ xs) = ap (λ ys. x ∷ ys) (take-all xs)
-
 bound-by-all : (t : List ℕ) (n : ℕ) (cs : List Cell) → ((k : ℕ) → contains t (n + k) ≡ is_bound_at cs k) → cells_bound_by t n cs ≡ cs
 bound-by-all t n [] h = refl
 bound-by-all t n (c ∷ cs) h = by c (ap (contains t) (let p : n ≡ n + 0 = omega arith in p) ∙ h 0) (bound-by-all t (suc n) cs (λ k. ap (contains t) (let p : suc n + k ≡ n + suc k = omega arith in p) ∙ h (suc k)))
@@ -490,10 +485,7 @@ cut-now m s h a b =
     ap₂ (λ cs t. let r : Store = record { cells = cells_bound_by t 0 cs; trail = t } in r) c t
     ∙ ap (λ cs. let r : Store = record { cells = cs; trail = s.trail } in r) (bound-by-all s.trail 0 s.cells (λ k. ap (contains s.trail) (let p : 0 + k ≡ k = omega arith in p) ∙ (kept s h).bound k))
 
-less-test : (a b : ℕ) → a < b → nat_lt a b ≡ true
-less-test a b l = search rules
-
-bound-within : (cs : List Cell) (k : ℕ) → is_bound_at cs k ≡ true → k < length cs
+pub bound-within : (cs : List Cell) (k : ℕ) → is_bound_at cs k ≡ true → k < length cs
 bound-within [] k h = absurd (false≢true h)
 bound-within (c ∷ cs) zero h = omega arith
 bound-within (c ∷ cs) (suc k) h = let l = bound-within cs k h in omega arith

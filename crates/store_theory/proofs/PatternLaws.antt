@@ -3,13 +3,14 @@ use Rattle.std.proofs.Common.{◌&&◌, ◌+◌, ◌++◌, Some, ◌||◌, ◌�
 use Rattle.std.specs.List.{list_all}
 use Rattle.std.specs.Prelude.{slice_get}
 use Rattle.std.proofs.lemmas.Bool.{false≢true}
+use Rattle.plain_laws.proofs.Places.{get-end, get-front}
 use Rattle.calculus.specs.declared.sort.Sort.{Sort}
 use Rattle.calculus.specs.declared.sort.Sort.TheVariants.{TermSort, MarkSort, StringSort}
 use Rattle.store_theory.specs.Stores.{Cell, variable, fun_cell, eigen_cell, new_cell, Store, sort_of, has_sort_at, GammaCell}
 use Rattle.store_theory.specs.Systems.{CellAtom, is_label, is_cell_atom, is_gamma_cell}
 use Rattle.store_theory.specs.Bindings.{with_cell, with_variables_of, places_from, AddsBuilt, nothing_more, one_more, KeepsMarks}
 use Rattle.store_theory.specs.Patterns.{Pattern, Patterns, p_var, p_fun, p_eigen, p_new, no_patterns, more_patterns, patterns_tree, IsCopy, AreCopies, Grows, PatternAtom, PatternGamma, IsAtomCopy, IsGammaCopy, AreAtomCopies, AreGammaCopies, HaveSortsAt}
-use Rattle.calculus.proofs.PlaceLists.{get-front, get-end, all-more}
+use Rattle.calculus.proofs.PlaceLists.{all-more}
 use Rattle.store_theory.proofs.BindingLaws.{sorted_cell, has_sort-from, or-more, KeepsMarks-same, KeepsMarks-both, KeepsMarks-with_cell}
 
 pub Grows-same : (s : Store) → Grows s s

@@ -1,9 +1,10 @@
 -- Ground solutions of a store: after a binding, of built cells and their parts, where a variable occurs, and that a store without cycles has one.
-use Rattle.std.proofs.Common.{◌⊎◌, ◌&&◌, ◌+◌, ◌++◌, inl, inr, eqb-true, eq-eqb, ◌<◌, option_map, Some, ◌==◌, ◌≡◌, ℕ, zero, suc, ◌≤◌, List, [], ◌∷◌, length, Bool, true, false, Option, None, IsTrue, refl, sym, ◌∙◌, ap, ap₂, subst, arith}
+use Rattle.std.proofs.Common.{◌⊎◌, ◌+◌, ◌++◌, inl, inr, eqb-true, eq-eqb, ◌<◌, option_map, Some, ◌==◌, ◌≡◌, ℕ, zero, suc, ◌≤◌, List, [], ◌∷◌, length, true, false, Option, None, IsTrue, refl, sym, ◌∙◌, ap, ap₂, subst, arith}
 use Rattle.std.specs.List.{list_all}
 use Rattle.std.specs.Option.{option_map_or}
 use Rattle.std.specs.Prelude.{slice_get}
 use Rattle.std.proofs.lemmas.Bool.{cases_Bool, false≢true, and_parts}
+use Rattle.plain_laws.proofs.Booleans.{and-number, and-number_parts}
 use Rattle.calculus.specs.declared.sort.Sort.{Sort}
 use Rattle.calculus.specs.declared.sort.Sort.TheVariants.{TermSort, MarkSort, StringSort}
 use Rattle.calculus.specs.Ground.{GroundTerm, GroundTerms, GroundMark, Value, Values, g_fun, g_eigen, common, no_g_terms, more_g_terms, g_new_mark, g_spare_mark, term, steps, no_values, more_values, marks_tree}
@@ -180,29 +181,23 @@ marks-alike σ [] (q ∷ qs) l h = absurd (omega arith)
 marks-alike σ (r ∷ rs) [] l h = absurd (omega arith)
 marks-alike σ (r ∷ rs) (q ∷ qs) l h = ap₂ cons_mark h.0 (marks-alike σ rs qs (omega arith) h.1)
 
-same_parts : (p : Bool) (m n : ℕ) → (p && m == n) ≡ true → (p ≡ true) × (m ≡ n)
-same_parts p m n h = let a = and_parts p (m == n) h in (a.0, eqb-true m n a.1)
-
-both_same : (p : Bool) (m n : ℕ) → p ≡ true → m ≡ n → (p && m == n) ≡ true
-both_same p m n h e = rw (h, eq-eqb m n e) refl
-
 -- built cells of one name are equal exactly where their parts are
 pub alike-parts : (s : Store) (σ : Solution) (a b : ℕ) (c d : Cell) → Solves s σ → slice_get s.cells a ≡ Some c → slice_get s.cells b ≡ Some d → are_alike c d ≡ true → (σ a ≡ σ b → SolvesPairs σ (part_pairs (parts_of c) (parts_of d))) × (SolvesPairs σ (part_pairs (parts_of c) (parts_of d)) → σ a ≡ σ b)
 alike-parts s σ a b c d h e f k = by c d (h a c e) (h b d f) k
   where
     by : (c d : Cell) → CellHolds σ a c → CellHolds σ b d → are_alike c d ≡ true → (σ a ≡ σ b → SolvesPairs σ (part_pairs (parts_of c) (parts_of d))) × (SolvesPairs σ (part_pairs (parts_of c) (parts_of d)) → σ a ≡ σ b)
     by (fun_cell g rs) (fun_cell g' qs) (ts, x, y) (us, z, w) k =
-        let n = same_parts (g == g') (length rs) (length qs) k in (
+        let n = and-number_parts (g == g') (length rs) (length qs) k in (
           λ q. let e : a_term (g_fun g ts) ≡ a_term (g_fun g' us) = sym y ∙ q ∙ w in let same : us ≡ ts = cc in terms-same σ rs qs ts n.1 x (z ∙ ap Some same),
           λ p. let same : ts ≡ us = let e : Some ts ≡ Some us = sym x ∙ terms-alike σ rs qs n.1 p ∙ z in cc in y ∙ ap₂ (λ j t. a_term (g_fun j t)) (eqb-true g g' n.0) same ∙ sym w,
         )
     by (eigen_cell g rs) (eigen_cell g' qs) (ts, x, y) (us, z, w) k =
-        let n = same_parts (g == g') (length rs) (length qs) k in (
+        let n = and-number_parts (g == g') (length rs) (length qs) k in (
           λ q. let e : a_term (g_eigen g ts) ≡ a_term (g_eigen g' us) = sym y ∙ q ∙ w in let same : us ≡ ts = cc in values-same σ rs qs ts n.1 x (z ∙ ap Some same),
           λ p. let same : ts ≡ us = let e : Some ts ≡ Some us = sym x ∙ values-alike σ rs qs n.1 p ∙ z in cc in y ∙ ap₂ (λ j t. a_term (g_eigen j t)) (eqb-true g g' n.0) same ∙ sym w,
         )
     by (new_cell g rs) (new_cell g' qs) (ts, x, y) (us, z, w) k =
-        let n = same_parts (g == g') (length rs) (length qs) k in (
+        let n = and-number_parts (g == g') (length rs) (length qs) k in (
           λ q. let e : a_mark (g_new_mark g ts) ≡ a_mark (g_new_mark g' us) = sym y ∙ q ∙ w in let same : us ≡ ts = cc in values-same σ rs qs ts n.1 x (z ∙ ap Some same),
           λ p. let same : ts ≡ us = let e : Some ts ≡ Some us = sym x ∙ values-alike σ rs qs n.1 p ∙ z in cc in y ∙ ap₂ (λ j t. a_mark (g_new_mark j t)) (eqb-true g g' n.0) same ∙ sym w,
         )
@@ -269,13 +264,13 @@ equal-alike s σ a b c d h e f i j q = by c d (h a c e) (h b d f) i j
     by : (c d : Cell) → CellHolds σ a c → CellHolds σ b d → is_variable c ≡ false → is_variable d ≡ false → are_alike c d ≡ true
     by (fun_cell g rs) (fun_cell g' qs) (ts, x, y) (us, z, w) i j =
         let e : a_term (g_fun g ts) ≡ a_term (g_fun g' us) = sym y ∙ q ∙ w in let same : us ≡ ts = cc in let name : g ≡ g' = cc in
-        both_same (g == g') (length rs) (length qs) (eq-eqb g g' name) (terms-count σ rs qs ts x (z ∙ ap Some same))
+        and-number (g == g') (length rs) (length qs) (eq-eqb g g' name) (terms-count σ rs qs ts x (z ∙ ap Some same))
     by (eigen_cell g rs) (eigen_cell g' qs) (ts, x, y) (us, z, w) i j =
         let e : a_term (g_eigen g ts) ≡ a_term (g_eigen g' us) = sym y ∙ q ∙ w in let same : us ≡ ts = cc in let name : g ≡ g' = cc in
-        both_same (g == g') (length rs) (length qs) (eq-eqb g g' name) (values-count σ rs qs ts x (z ∙ ap Some same))
+        and-number (g == g') (length rs) (length qs) (eq-eqb g g' name) (values-count σ rs qs ts x (z ∙ ap Some same))
     by (new_cell g rs) (new_cell g' qs) (ts, x, y) (us, z, w) i j =
         let e : a_mark (g_new_mark g ts) ≡ a_mark (g_new_mark g' us) = sym y ∙ q ∙ w in let same : us ≡ ts = cc in let name : g ≡ g' = cc in
-        both_same (g == g') (length rs) (length qs) (eq-eqb g g' name) (values-count σ rs qs ts x (z ∙ ap Some same))
+        and-number (g == g') (length rs) (length qs) (eq-eqb g g' name) (values-count σ rs qs ts x (z ∙ ap Some same))
     by (string_cell rs) (string_cell qs) (ts, x, y) (us, z, w) i j =
         let e : a_string ts ≡ a_string us = sym y ∙ q ∙ w in let same : us ≡ ts = cc in
         eq-eqb (length rs) (length qs) (marks-count σ rs qs ts x (z ∙ ap Some same))

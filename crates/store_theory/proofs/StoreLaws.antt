@@ -4,17 +4,13 @@ use Rattle.std.specs.List.{list_all}
 use Rattle.std.specs.Option.{option_map_or}
 use Rattle.std.specs.Prelude.{slice_get}
 use Rattle.std.proofs.lemmas.Bool.{cases_Bool, or_from, false≢true, and_parts, and_from}
+use Rattle.plain_laws.proofs.Every.{all-take}
+use Rattle.plain_laws.proofs.Places.{take-less}
 use Rattle.calculus.specs.declared.sort.Sort.{Sort}
 use Rattle.calculus.specs.declared.sort.Sort.TheVariants.{TermSort, MarkSort, StringSort}
 use Rattle.calculus.specs.Equality.{contains, sort_eq}
 use Rattle.store_theory.specs.Bindings.{IsEarlier}
 use Rattle.store_theory.specs.Stores.{is_store, trail_fits, are_distinct_cells, bound_cells, is_bound, sort_of, sort_at, has_sort_at, parts_of, parts_fit, names_below, Cell, variable, fun_cell, eigen_cell, new_cell, string_cell, Store, TrailMark, cells_bound_by, cut_at, store_is_below, IsGood}
-
-pub take-less : {A : Type 0} (a b : ℕ) (xs : List A) → a ≤ b → take a (take b xs) ≡ take a xs
-take-less zero b xs h = refl
-take-less (suc a) zero xs h = absurd (omega arith)
-take-less (suc a) (suc b) [] h = refl
-take-less (suc a) (suc b) (x ∷ xs) h = ap (λ ys. x ∷ ys) (take-less a b xs (omega arith))
 
 pub length-less : {A : Type 0} (a b : ℕ) (xs : List A) → a ≤ b → a ≤ length xs → a ≤ length (take b xs)
 length-less zero b xs h k = omega arith
@@ -71,11 +67,6 @@ IsGood-cut_at k m s h g = record {
 }
 
 -- ---- the cut of a good mark is a store
-
-pub all-take : {A : Type 0} (p : A → Bool) (k : ℕ) (xs : List A) → IsTrue (list_all p xs) → IsTrue (list_all p (take k xs))
-all-take p zero xs h = refl
-all-take p (suc k) [] h = refl
-all-take p (suc k) (x ∷ xs) h = let g = and_parts (p x) (list_all p xs) h in and_from (p x) (list_all p (take k xs)) g.0 (all-take p k xs g.1)
 
 -- a cut keeps the sorts of the cells that it keeps
 sort-bound : (t : List ℕ) (n k r : ℕ) (cs : List Cell) → r < k → option_map sort_of (slice_get (cells_bound_by t n (take k cs)) r) ≡ option_map sort_of (slice_get cs r)

@@ -1,18 +1,12 @@
 -- A system of label equations in D with a bounded solution, and the own spares that give it.
-use Rattle.std.proofs.Common.{◌≡◌, true, false, zero, suc, List, [], ◌∷◌, refl, ap, subst, Option, Some, None, is_some, unwrap_or}
-use Rattle.std.proofs.lemmas.Bool.{false≢true}
+use Rattle.std.proofs.Common.{◌≡◌, true, false, zero, suc, List, [], ◌∷◌, refl, subst, Some, None}
+use Rattle.plain_laws.proofs.Options.{none_some, some_injective}
 use Rattle.calculus.specs.declared.setting.Logic.TheVariants.{D}
 use Rattle.calculus.specs.declared.sort.Sort.TheVariants.{MarkSort, StringSort}
 use Rattle.calculus.specs.Ground.{g_spare_mark}
 use Rattle.calculus.specs.Instances.{GammaUse}
 use Rattle.store_theory.specs.Stores.{is_store, variable, string_cell, Store, cut_at, a_mark, a_string, Solution, CellHolds, Solves}
 use Rattle.store_theory.specs.Systems.{is_system, System, HasBoundedSolution}
-
-none_some : {A : Type 0} {x : A} → None ≡ Some x → ⊥
-none_some {A} {x} e = let o : Option A = Some x in false≢true (ap is_some e)
-
-some_injective : {A : Type 0} {x : A} (y : A) → Some y ≡ Some x → y ≡ x
-some_injective y e = ap (λ o. unwrap_or o y) e
 
 -- two strings of one character each, the second bound to the first's cell
 store : Store

@@ -1,8 +1,9 @@
 -- How many cells are met on the way through a cell, for loops that walk through a store: each cell weighs more than its parts together.
-use Rattle.std.proofs.Common.{rules, ◌+◌, ◌++◌, inl, inr, eqb-true, eq-eqb, ◌<◌, nat_lt, ltb-true, Some, ◌==◌, ◌≡◌, ℕ, zero, suc, ◌≤◌, List, [], ◌∷◌, length, Bool, true, false, Option, None, IsTrue, refl, sym, ◌∙◌, ap, ap₂, arith, if◌then◌else◌}
+use Rattle.std.proofs.Common.{◌+◌, ◌++◌, inl, inr, eqb-true, eq-eqb, ◌<◌, nat_lt, ltb-true, Some, ◌==◌, ◌≡◌, ℕ, zero, suc, ◌≤◌, List, [], ◌∷◌, length, Bool, true, false, Option, None, IsTrue, refl, sym, ◌∙◌, ap, ap₂, arith, if◌then◌else◌}
 use Rattle.std.specs.Option.{option_map_or}
 use Rattle.std.specs.Prelude.{slice_get}
 use Rattle.std.proofs.lemmas.Bool.{cases_Bool, false≢true}
+use Rattle.plain_laws.proofs.Numbers.{less-test}
 use Rattle.calculus.specs.declared.sort.Sort.{Sort}
 use Rattle.store_theory.specs.Stores.{is_store, parts_of, Cell, variable, fun_cell, eigen_cell, new_cell, string_cell, Store}
 use Rattle.store_theory.specs.Bindings.{bind_at, IsRanked, HasRank, IsWellFormed}
@@ -60,9 +61,6 @@ count-fewer p q (suc n) j h l a b = elim (cases_Bool (j == n)) [
 
 level : (ℕ → ℕ) → ℕ → ℕ → ℕ
 level rank n r = count_below (λ k. nat_lt (rank k) (rank r)) n
-
-less-test : (a b : ℕ) → a < b → nat_lt a b ≡ true
-less-test a b l = search rules
 
 level-ranked : (s : Store) (rank : ℕ → ℕ) → IsTrue (is_store s) → IsRanked s rank → IsRanked s (level rank (length s.cells))
 unfolding level

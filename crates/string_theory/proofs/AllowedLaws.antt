@@ -1,5 +1,5 @@
 -- A term is allowed where it was: what is left of homes and labels.
-use Rattle.std.proofs.Common.{◌≡◌, suc, ◌+◌, List, [], ◌∷◌, ◌++◌, map, length, IsTrue, refl, sym, ◌∙◌, ap, subst, inl, inr, arith}
+use Rattle.std.proofs.Common.{◌≡◌, suc, ◌+◌, List, [], ◌∷◌, map, length, IsTrue, refl, sym, ◌∙◌, ap, subst, inl, inr, length-append}
 use Rattle.std.specs.List.{AllByRecursion, list_all}
 use Rattle.std.proofs.lemmas.Bool.{and_parts, and_from, cases_Bool}
 use Rattle.calculus.specs.declared.sign.Sign.{Sign}
@@ -60,10 +60,6 @@ gammas-allowed P K f h (g ∷ gs) k =
 
 -- ---- how many pi steps there are
 
-length-both : {A : Type 0} (xs ys : List A) → length (xs ++ ys) ≡ length xs + length ys
-length-both [] ys = omega arith
-length-both (x ∷ xs) ys = let h = length-both xs ys in omega (arith, h)
-
 mutual
   pub steps-counted : (l : Logic) (c : Spot) (s : Sign) (f : Formula) (x : Share) (d : Gives l c s f x) → length (steps_of d) ≡ x.pis
   steps-counted l c s f x (by_plain e g) = steps-counted_in l c s f x g
@@ -75,6 +71,6 @@ mutual
   steps-counted_in l c s f x (by_only {x = y} e k g) = steps-counted l _ _ _ y g
   steps-counted_in l c s f x (by_left {x = y} e k g) = steps-counted l _ _ _ y g
   steps-counted_in l c s f x (by_right {x = y} e k g) = steps-counted l _ _ _ y g
-  steps-counted_in l c s f x (by_both {x = y} {y = z} e k g h) = length-both (steps_of g) (steps_of h) ∙ (λ i. steps-counted l _ _ _ y g i + steps-counted l _ _ _ z h i)
+  steps-counted_in l c s f x (by_both {x = y} {y = z} e k g h) = length-append (steps_of g) (steps_of h) ∙ (λ i. steps-counted l _ _ _ y g i + steps-counted l _ _ _ z h i)
   steps-counted_in l c s f x (by_gamma {x = y} t e k g) = steps-counted l _ _ _ y g
   steps-counted_in l c s f x (by_delta {x = y} e k g) = steps-counted l _ _ _ y g

@@ -1,8 +1,9 @@
 -- The change of an instance is an instance.
 use Rattle.std.proofs.Common.{◌≡◌, ℕ, zero, suc, ◌+◌, List, [], ◌∷◌, ◌++◌, map, Bool, true, false, IsTrue, refl, sym, ◌∙◌, ap, subst, slice_index_or, append-nil}
 use Rattle.std.specs.List.{AllByRecursion, list_all}
-use Rattle.std.proofs.lemmas.List.Folds.{list_all-append}
 use Rattle.std.proofs.lemmas.Bool.{and_parts, false≢true}
+use Rattle.plain_laws.proofs.Every.{each-append, all-parts}
+use Rattle.plain_laws.proofs.Lists.{map-append}
 use Rattle.calculus.specs.declared.sign.Sign.{Sign}
 use Rattle.calculus.specs.declared.sign.Side.TheVariants.{Left, Right}
 use Rattle.calculus.specs.declared.setting.Logic.{Logic}
@@ -57,14 +58,6 @@ changed-append P K f [] (w ∷ ws) xs ys h k = absurd h
 changed-append P K f (v ∷ vs) [] xs ys h k = absurd h
 changed-append P K f (v ∷ vs) (w ∷ ws) xs ys h k = (h.0, changed-append P K f vs ws xs ys h.1 k)
 
-map-more : {A B : Type 0} (h : A → B) (xs ys : List A) → map h (xs ++ ys) ≡ map h xs ++ map h ys
-map-more h [] ys = refl
-map-more h (x ∷ xs) ys = ap (λ zs. h x ∷ zs) (map-more h xs ys)
-
-all-more : {A : Type 0} (G : A → Type 0) (xs ys : List A) → AllByRecursion G xs → AllByRecursion G ys → AllByRecursion G (xs ++ ys)
-all-more G [] ys h k = k
-all-more G (x ∷ xs) ys h k = (h.0, all-more G xs ys h.1 k)
-
 -- a share that is the change of x
 pub record Change (P : Problem) (K : Names) (f : GroundMark → GroundMark) (G : Share → Type 0) (x : Share) : Type 0 where
   pub share : Share
@@ -113,9 +106,6 @@ home-kept P K f before us d s g b no_gamma =
 -- the eigenvariable changes into that of the changed place
 eigen-change : (P : Problem) (K : Names) (f : GroundMark → GroundMark) (us : List (List GroundMark)) (p : ℕ) (vs : List Value) → IsTrue (has_eigen K (g_eigen p (values_tree vs))) → contexts_of P p vs ≡ us → term_by P K f (g_eigen p (values_tree vs)) ≡ g_eigen p (values_tree (new_taken P K f us vs))
 eigen-change P K f us p vs h here = rw h (ap (g_eigen p) (values-change P K f us p vs here))
-
-left-all : {A : Type 0} (p : A → Bool) (xs ys : List A) → IsTrue (list_all p (xs ++ ys)) → IsTrue (list_all p xs) × IsTrue (list_all p ys)
-left-all p xs ys h = and_parts (list_all p xs) (list_all p ys) (sym (list_all-append p xs ys) ∙ h)
 
 -- a problem of these parts
 abbrev pub problem_of : Logic → Domains → Formula → List Symbol → Problem
@@ -185,9 +175,9 @@ mutual
   shaped-change l D A S K f st before us c s g x (by_both {x = v} {y = w} {a = a} {b = b} e k d d2) h good marks names =
       let P : Problem = problem_of l D A S in
       let n = node c.position s g in
-      let goods = left-all (is_admitted_value P) v.values w.values good in
-      let knowns = left-all (is_known K) (steps_of d) (steps_of d2) marks in
-      let eigens = left-all (has_eigen K) (eigens_of d) (eigens_of d2) names in
+      let goods = all-parts (is_admitted_value P) v.values w.values good in
+      let knowns = all-parts (is_known K) (steps_of d) (steps_of d2) marks in
+      let eigens = all-parts (has_eigen K) (eigens_of d) (eigens_of d2) names in
       let first_place = between-component P K f before us c s g h (ap is_gamma e) 1 a.sign a.formula (way-first c.position s g a b k) in
       let second_place = between-component P K f before us c s g h (ap is_gamma e) (suc (size a.formula)) b.sign b.formula (way-second c.position s g a b k) in
       let r = gives-change l D A S K f st (before ++ n ∷ []) us (down_by 1 c) a.sign a.formula v d first_place goods.0 knowns.0 eigens.0 in
@@ -198,13 +188,13 @@ mutual
           share = reaching c.position (new_taken P K f us c.taken) (both y.share z.share);
           given = by_both e k y.given z.given;
           values = changed-append P K f v.values y.share.values w.values z.share.values y.values z.values;
-          literals = (λ i. y.literals i ++ z.literals i) ∙ sym (map-more (new_literal P K f) v.literals w.literals);
-          gammas = (λ i. y.gammas i ++ z.gammas i) ∙ sym (map-more (new_gamma P K f) v.gammas w.gammas);
+          literals = (λ i. y.literals i ++ z.literals i) ∙ sym (map-append (new_literal P K f) v.literals w.literals);
+          gammas = (λ i. y.gammas i ++ z.gammas i) ∙ sym (map-append (new_gamma P K f) v.gammas w.gammas);
           nus = λ i. y.nus i + z.nus i;
           pis = λ i. y.pis i + z.pis i;
         },
-        all-more (HomeIsKept P K f) (eigens_of d) (eigens_of d2) r.1 q.1,
-        all-more (MarkIsAdmitted P) (steps_of d) (steps_of d2) r.2 q.2,
+        each-append (HomeIsKept P K f) (eigens_of d) (eigens_of d2) r.1 q.1,
+        each-append (MarkIsAdmitted P) (steps_of d) (steps_of d2) r.2 q.2,
       )
   shaped-change l D A S K f st before us c s g x (by_gamma {x = z} {a = a} t e k d) h good marks names =
       let P : Problem = problem_of l D A S in

@@ -1,8 +1,10 @@
 -- A place and its change: both stand at the same signed formula, step by step.
-use Rattle.std.proofs.Common.{◌≡◌, ℕ, suc, ◌+◌, List, [], ◌∷◌, ◌++◌, map, length, true, false, IsTrue, refl, sym, ◌∙◌, ap, subst, Some, option_and_then, arith, append_assoc, append-nil, add_assoc}
+use Rattle.std.proofs.Common.{◌≡◌, ℕ, ◌+◌, List, [], ◌∷◌, ◌++◌, map, length, true, false, IsTrue, refl, sym, ◌∙◌, ap, subst, Some, option_and_then, arith, append_assoc, append-nil, add_assoc}
 use Rattle.std.specs.List.{list_all}
 use Rattle.std.specs.Option.{option_map_or}
 use Rattle.std.proofs.lemmas.Bool.{and_from, false≢true}
+use Rattle.plain_laws.proofs.Every.{all-append}
+use Rattle.plain_laws.proofs.Lists.{length-last}
 use Rattle.calculus.specs.declared.sign.Sign.{Sign}
 use Rattle.calculus.specs.declared.sign.Sign.TheVariants.{F}
 use Rattle.calculus.specs.declared.kind.Shape.{Shape}
@@ -20,7 +22,7 @@ use Rattle.calculus.specs.Skolem.{Reached, after_modal, after_shape, after_node,
 use Rattle.calculus.specs.Instances.{Spot, after_string, after_character, spot_inside, down_by}
 use Rattle.calculus.specs.ComputedInstances.{reached_at}
 use Rattle.calculus.specs.Tableaux.{has_unbounded_strings}
-use Rattle.calculus.proofs.SpotLaws.{LeadsTo, LeadsTo-append, Stands, Halfway, is_gamma, after_node-by, after_shape-plain, way-here, all-append}
+use Rattle.calculus.proofs.SpotLaws.{LeadsTo, LeadsTo-append, Stands, Halfway, is_gamma, after_node-by, after_shape-plain, way-here}
 use Rattle.calculus.proofs.InstanceLaws.{WayDown, component-stands, is_step-label}
 use Rattle.string_theory.proofs.Folding.{Names, has_step, folded, string_use, term_use, contexts_along, contexts_of, term_by, value_by, values_by, mark_by, new_taken, new_spot}
 use Rattle.string_theory.proofs.FoldingLaws.{folded-append, folded-step, always-step, goes-on, pi-goes_on}
@@ -32,10 +34,6 @@ taken-more P K f [] [] u v e = refl
 taken-more P K f [] (x ∷ vs) u v e = absurd (omega (arith, e))
 taken-more P K f (y ∷ us) [] u v e = absurd (omega (arith, e))
 taken-more P K f (y ∷ us) (x ∷ vs) u v e = ap (λ ws. value_by P K f y x ∷ ws) (taken-more P K f us vs u v (omega (arith, e)))
-
-length-one : {A : Type 0} (xs : List A) (x : A) → length (xs ++ x ∷ []) ≡ suc (length xs)
-length-one [] x = refl
-length-one (y ∷ xs) x = let h = length-one xs x in omega (arith, h)
 
 -- the place c with the contexts us of its values, and its change
 pub record Placed (P : Problem) (K : Names) (f : GroundMark → GroundMark) (before : List Node) (us : List (List GroundMark)) (c : Spot) (s : Sign) (g : Formula) : Type 0 where
@@ -94,7 +92,7 @@ placed-nu P K f before us c s g w free step good h =
       half = nu-half P before c s g w step h.stands;
       moved = subst (λ d. Halfway P before d s g Nu) (string-change P K f us c w free h.as_many) (nu-half P before (new_spot P K f us c) s g (new_string K f c w) (always-step l free (folded K f [] c.label) (marks_list (new_string K f c w))) h.moved);
       contexts = λ rest. ap (λ vs. contexts_along l before (at_root vs) ++ c.label ∷ []) (append_assoc c.taken (steps w ∷ []) rest) ∙ ap (λ x. x ++ c.label ∷ []) (h.contexts (steps w ∷ rest));
-      as_many = let a = length-one us c.label in let b = length-one c.taken (steps w) in let e = h.as_many in omega (arith, a, b, e);
+      as_many = let a = length-last us c.label in let b = length-last c.taken (steps w) in let e = h.as_many in omega (arith, a, b, e);
       proper = all-append (is_admitted_value P) c.taken (steps w ∷ []) h.proper (and_from (is_admitted_value P (steps w)) true good refl);
     }
 
@@ -215,6 +213,6 @@ between-gamma P K f before us d s g h e t r a good down =
       stands = term-stands P before d s g h.half e t r a (t ∷ d.env) down;
       moved = subst (λ (c : Spot). Stands P (before ++ n ∷ []) c r a) both (term-stands P before (new_spot P K f us d) s g h.moved e (term_by P K f t) r a (term_by P K f t ∷ map (term_by P K f) d.env) down);
       contexts = λ rest. ap (λ vs. contexts_along l (before ++ n ∷ []) (at_root vs)) (append_assoc d.taken (term t ∷ []) rest) ∙ node-contexts P before us d s g h.half (term t ∷ rest) rest (record { label = d.label; taken = d.taken ++ term t ∷ []; rest = rest }) (h.contexts (term t ∷ rest)) (ap (λ x. after_shape x (reached_at d (term t ∷ rest))) e) ∙ ap (λ x. us ++ term_use x) e;
-      as_many = let p = length-one us [] in let q = length-one d.taken (term t) in let o = h.as_many in omega (arith, p, q, o);
+      as_many = let p = length-last us [] in let q = length-last d.taken (term t) in let o = h.as_many in omega (arith, p, q, o);
       proper = all-append (is_admitted_value P) d.taken (term t ∷ []) h.proper (and_from (is_admitted_value P (term t)) true good refl);
     }

@@ -1,9 +1,10 @@
 -- The bound on strings restricts nothing: in each logic, where instances span, a tableau is closed within some path limit.
-use Rattle.std.proofs.Common.{◌≡◌, ◌↔◌, ℕ, suc, ◌+◌, ◌≤◌, List, [], ◌∷◌, ◌++◌, map, length, Bool, true, not, ◌&&◌, ◌==◌, IsTrue, refl, sym, ◌∙◌, ap, subst, inl, inr, arith}
+use Rattle.std.proofs.Common.{◌≡◌, ◌↔◌, ℕ, suc, ◌+◌, ◌≤◌, List, [], ◌∷◌, ◌++◌, map, length, Bool, true, not, ◌&&◌, ◌==◌, IsTrue, refl, sym, ◌∙◌, ap, subst, inl, inr, arith, length-append}
 use Rattle.std.specs.List.{AllByRecursion, list_all, list_any}
 use Rattle.std.specs.Option.{option_map_or}
 use Rattle.std.proofs.lemmas.Bool.{and_parts, and_from, cases_Bool, or_left, or_right, or_cases, false≢true, false_from_ne_true, true_from_ne_false, not-true, not_from_false, both_ways, le-leb}
 use Rattle.std.proofs.lemmas.List.Sums.{sum_by-cons}
+use Rattle.plain_laws.proofs.Every.{each-append}
 use Rattle.calculus.specs.declared.sign.Sign.TheVariants.{F}
 use Rattle.calculus.specs.Syntax.{Problem}
 use Rattle.calculus.specs.Ground.{GroundTerm, GroundMark, Value, term, steps, marks_list, marks_tree, GroundLiteral}
@@ -95,17 +96,13 @@ all-changed P free K (i ∷ is) h a b = (
   all-changed P free K is h.1 (λ e k. a e (among-right (their_steps P i h.0) (all_steps P is h.1) e k)) (λ t k. b t (among-right (their_eigens P i h.0) (all_eigens P is h.1) t k)),
 )
 
-all-joined : {A : Type 0} (G : A → Type 0) (xs ys : List A) → AllByRecursion G xs → AllByRecursion G ys → AllByRecursion G (xs ++ ys)
-all-joined G [] ys h k = k
-all-joined G (x ∷ xs) ys h k = (h.0, all-joined G xs ys h.1 k)
-
 homes-kept : (P : Problem) (K : Names) (is : List ClauseInstance) (h : Givens P is) → AllChanged P K is h → AllByRecursion (HomeIsKept P K (new_mark_of P K)) (all_eigens P is h)
 homes-kept P K [] h c = tt
-homes-kept P K (i ∷ is) h c = all-joined (HomeIsKept P K (new_mark_of P K)) (their_eigens P i h.0) (all_eigens P is h.1) c.0.1 (homes-kept P K is h.1 c.1)
+homes-kept P K (i ∷ is) h c = each-append (HomeIsKept P K (new_mark_of P K)) (their_eigens P i h.0) (all_eigens P is h.1) c.0.1 (homes-kept P K is h.1 c.1)
 
 marks-admitted : (P : Problem) (K : Names) (is : List ClauseInstance) (h : Givens P is) → AllChanged P K is h → AllByRecursion (MarkIsAdmitted P) (all_steps P is h)
 marks-admitted P K [] h c = tt
-marks-admitted P K (i ∷ is) h c = all-joined (MarkIsAdmitted P) (their_steps P i h.0) (all_steps P is h.1) c.0.2 (marks-admitted P K is h.1 c.1)
+marks-admitted P K (i ∷ is) h c = each-append (MarkIsAdmitted P) (their_steps P i h.0) (all_steps P is h.1) c.0.2 (marks-admitted P K is h.1 c.1)
 
 known-admitted : (P : Problem) (K : Names) → AllByRecursion (MarkIsAdmitted P) K.pi_steps → AreAdmitted P K
 known-admitted P K h u m e = by K.pi_steps h e
@@ -171,16 +168,12 @@ those-many P K (i ∷ is) h c = ap (λ n. suc n) (those-many P K is h.1 c.1)
 share-steps : (P : Problem) (x : Share) → IsInstance P x → modal_steps P (clause_instance x) ≡ x.nus + x.pis
 share-steps P x h = ap (λ o. option_map_or (λ (y : Part). y.nus + y.pis) o 0) (instance_of-by_cases P x h)
 
-length-joined : {A : Type 0} (xs ys : List A) → length (xs ++ ys) ≡ length xs + length ys
-length-joined [] ys = omega arith
-length-joined (x ∷ xs) ys = let h = length-joined xs ys in omega (arith, h)
-
 enough-steps : (P : Problem) (K : Names) → Ready P K (new_mark_of P K) → HomesAreKept P K (new_mark_of P K) → (is : List ClauseInstance) (h : Givens P is) (c : AllChanged P K is h) → length (all_steps P is h) ≤ total_steps P (those P K is h c)
 enough-steps P K r homes [] h c = omega arith
 enough-steps P K r homes (i ∷ is) h c =
     let rest = enough-steps P K r homes is h.1 c.1 in
     let j = clause_instance c.0.0.share in
-    let a = length-joined (their_steps P i h.0) (all_steps P is h.1) in
+    let a = length-append (their_steps P i h.0) (all_steps P is h.1) in
     let b = steps-counted P.setting.logic root_spot F P.formula h.0.0 h.0.1.instance.given in
     let d = share-steps P c.0.0.share (changed-instance P K r homes i h.0 c.0).instance in
     let e = c.0.0.pis in

@@ -2,6 +2,7 @@
 use Rattle.std.proofs.Common.{◌≡◌, ℕ, zero, suc, ◌+◌, ◌-◌, ◌≤◌, List, [], ◌∷◌, ◌++◌, length, map, reverse, take, drop, Ok, refl, sym, ◌∙◌, ap, arith}
 use Rattle.std.proofs.lemmas.List.{length-map, length-reverse, map-append, reverse-append, take_all}
 use Rattle.std.proofs.lemmas.Simd.{map-map}
+use Rattle.plain_laws.proofs.Lists.{map-drop, map-take}
 use Rattle.calculus.specs.Lists.{closings_tree}
 use Rattle.calculus.specs.Tableaux as tree
 use Rattle.formula_core.specs.GroundLists.{GroundList}
@@ -30,18 +31,6 @@ drop-none [] (suc k) (suc n) e h = (refl, refl)
 drop-none (r ∷ R) zero n e h = cc
 drop-none (r ∷ R) (suc k) zero e h = absurd (omega (arith, h))
 drop-none (r ∷ R) (suc k) (suc n) e h = let p = drop-none R k n e (omega (arith, h)) in (ap (λ ys. r ∷ ys) p.0, p.1)
-
-map-take : {X Y : Type 0} (f : X → Y) (n : ℕ) (xs : List X) → map f (take n xs) ≡ take n (map f xs)
-map-take f zero [] = refl
-map-take f (suc n) [] = refl
-map-take f zero (x ∷ xs) = refl
-map-take f (suc n) (x ∷ xs) = ap (λ ys. f x ∷ ys) (map-take f n xs)
-
-map-drop : {X Y : Type 0} (f : X → Y) (n : ℕ) (xs : List X) → map f (drop n xs) ≡ drop n (map f xs)
-map-drop f zero [] = refl
-map-drop f (suc n) [] = refl
-map-drop f zero (x ∷ xs) = refl
-map-drop f (suc n) (x ∷ xs) = map-drop f n xs
 
 -- one more is taken
 pub first-taken : (all stack rest : List program.Closing) (list more : List numbered.Closing) (c : program.Closing) (k : ℕ) → list ≡ map the_closing (take k (reverse all)) → reverse stack ≡ drop k (reverse all) → stack ≡ rest ++ c ∷ [] → more ≡ list ++ the_closing c ∷ [] → (more ≡ map the_closing (take (k + 1) (reverse all))) × (reverse rest ≡ drop (k + 1) (reverse all))

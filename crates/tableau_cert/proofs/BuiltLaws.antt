@@ -1,5 +1,5 @@
 -- The tableau that is built from moves which are accepted is the closed one that they write.
-use Rattle.std.proofs.Common.{◌≡◌, ℕ, zero, suc, ◌-◌, nat_lt, List, [], ◌∷◌, ◌++◌, length, map, take, drop, ◌&&◌, Ok, IsTrue, refl, sym, ◌∙◌, ap, arith, true≢false, append_assoc, slice_get, remove, subst}
+use Rattle.std.proofs.Common.{◌≡◌, ℕ, zero, suc, ◌-◌, nat_lt, List, [], ◌∷◌, ◌++◌, length, map, take, drop, ◌&&◌, Ok, IsTrue, refl, sym, ◌∙◌, ap, arith, true≢false, append_assoc, slice_get, remove, subst, append-nil}
 use Rattle.std.proofs.lemmas.Bool.{and_parts}
 use Rattle.calculus.specs.Ground.{GroundLiteral}
 use Rattle.calculus.specs.Instances.{ClauseInstance}
@@ -76,15 +76,11 @@ mutual
       ∙ one-again P d path g c (moves_of_all cs ++ ms) p.0
       ∙ ap (λ xs. c ∷ xs) (all-again P d path gs cs ms p.1)
 
-append-none : {X : Type 0} (xs : List X) → xs ++ [] ≡ xs
-append-none [] = refl
-append-none (x ∷ xs) = ap (λ ys. x ∷ ys) (append-none xs)
-
 -- the tableau that a closed one's moves build is this one
 same-again : (P : Problem) (d : ℕ) (t : Tableau) → IsTrue (is_closed P d t) → built_tableau (found_of P (chosen_of t.start)) (map (closer_of P) (moves_of_all t.goals)) ≡ t
 same-again P d t h =
     let x = closed-parts P d t h in
-    let goals = ap (again P) (sym (append-none (moves_of_all t.goals))) ∙ all-again P d [] t.start.literals t.goals [] x.goals ∙ append-none (closings_list t.goals) in
+    let goals = ap (again P) (sym (append-nil (moves_of_all t.goals))) ∙ all-again P d [] t.start.literals t.goals [] x.goals ∙ append-nil (closings_list t.goals) in
     (λ k. record { start = instance_in (found-again P t.start x.start k); goals = closings_tree (goals k) })
     ∙ ap (λ cs. record { start = t.start; goals = cs }) (closings_tree-closings_list t.goals)
 

@@ -1,5 +1,5 @@
 -- The moves of closings, one behind the other.
-use Rattle.std.proofs.Common.{◌≡◌, ◌+◌, ◌<◌, ◌≤◌, ℕ, List, [], ◌∷◌, ◌++◌, length, map, take, get_or, refl, sym, ◌∙◌, ap, append_assoc}
+use Rattle.std.proofs.Common.{◌≡◌, ◌+◌, ◌<◌, ◌≤◌, ℕ, List, [], ◌∷◌, ◌++◌, length, map, take, get_or, sym, ◌∙◌, ap, append_assoc, append-nil}
 use Rattle.std.proofs.lemmas.List.{map-append, take_more, take_all}
 use Rattle.calculus.specs.Lists.{closings_tree}
 use Rattle.calculus.specs.Tableaux as tree
@@ -14,12 +14,8 @@ use Rattle.tableau_core.specs.declared.instance.ClauseInstance.{ClauseInstance}
 use Rattle.tableau_text.specs.MovesView.{the_move}
 use Rattle.tableau_text.specs.declared.moves.Move.{Move}
 
-append-none : {X : Type 0} (xs : List X) → xs ++ [] ≡ xs
-append-none [] = refl
-append-none (x ∷ xs) = ap (λ ys. x ∷ ys) (append-none xs)
-
 moves-append : (xs : List tree.Closing) (c : tree.Closing) → moves_of_all (closings_tree (xs ++ c ∷ [])) ≡ moves_of_all (closings_tree xs) ++ moves_of c
-moves-append [] c = append-none (moves_of c)
+moves-append [] c = append-nil (moves_of c)
 moves-append (x ∷ xs) c = ap (λ ms. moves_of x ++ ms) (moves-append xs c) ∙ sym (append_assoc (moves_of x) (moves_of_all (closings_tree xs)) (moves_of c))
 
 module _ (ls : List GroundList) where
@@ -41,7 +37,7 @@ module _ (ls : List GroundList) where
       ∙ ap (λ x. flat old ++ moves_of (closing_in ls x)) (sym m)
 
   pub flat-begins : (old : List Move) (items : List program.Closing) → flat old ≡ flat old ++ flat_items (take 0 items)
-  flat-begins old items = sym (append-none (flat old))
+  flat-begins old items = sym (append-nil (flat old))
 
   pub flat-next : (old now new : List Move) (items : List program.Closing) (i : ℕ) (y d : program.Closing) → flat now ≡ flat old ++ flat_items (take i items) → flat new ≡ flat now ++ moves_of (closing y) → i < length items → y ≡ get_or items i d → flat new ≡ flat old ++ flat_items (take (i + 1) items)
   flat-next old now new items i y d e h l q =

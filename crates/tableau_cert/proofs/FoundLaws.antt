@@ -2,6 +2,7 @@
 use Rattle.std.proofs.Common.{◌≡◌, ℕ, ◌+◌, ◌<◌, ◌≤◌, List, [], ◌∷◌, ◌++◌, length, map, take, drop, get_or, Bool, true, false, ◌&&◌, Some, None, Ok, Err, refl, sym, ◌∙◌, ap, subst, arith, if◌then◌else◌}
 use Rattle.std.specs.List.{list_all, AllByRecursion}
 use Rattle.std.proofs.lemmas.List.{drop_all, map-append, take_all, take_more}
+use Rattle.plain_laws.proofs.Places.{items-next}
 use Rattle.calculus.specs.declared.fault.TableauFault.TheVariants as fault
 use Rattle.calculus.specs.ComputedInstances.{modal_steps}
 use Rattle.calculus.specs.Skolem.{is_admitted_value}
@@ -13,7 +14,6 @@ use Rattle.formula_core.proofs.GrownLaws.{values-grown}
 use Rattle.tableau_core.specs.Walks.{capped}
 use Rattle.tableau_core.specs.Numbered.InstanceView.{the_instance}
 use Rattle.tableau_core.specs.declared.instance.ClauseInstance as numbered
-use Rattle.tableau_cert.proofs.JudgingLaws.{drop-next}
 use Rattle.tableau_cert.proofs.ResolvingLaws.{all-steps, by-summary, literals-none, steps-next, steps-none}
 use Rattle.tableau_cert.proofs.SteppingLaws.{grown-none, literals-grown, literals-normal-grown, values-normal-grown}
 use Rattle.tableau_cert.specs.Gathering.{AreNormalLiterals, Summary}
@@ -133,7 +133,7 @@ module _ (P : Problem) (mt : List GroundList) (items : List stated.Move) (i : �
       let rest = moves_steps P (map (the_move mt) (drop (i + 1) items)) in
       ap (λ k. capped (k + rest)) n
       ∙ steps-next steps (move_steps P (the_move mt x)) more rest e
-      ∙ sym (ap (λ xs. capped (steps + moves_steps P (map (the_move mt) xs))) (drop-next items i x d l q))
+      ∙ sym (ap (λ xs. capped (steps + moves_steps P (map (the_move mt) xs))) (items-next items i x d l q))
       ∙ h
 
 pub closers-kept : (before after : List GroundList) (cs more : List program.Closer) (c : program.Closer) → IsGrown before after → AllByRecursion (IsNormalCloser before) cs → more ≡ cs ++ c ∷ [] → IsNormalCloser after c → AllByRecursion (IsNormalCloser after) more
@@ -161,14 +161,14 @@ closers-end P mt ls items i cs h l = h ∙ ap (λ xs. map (closer_of P) (map (th
 -- ---- the tests of all strings
 
 pub all-next : {X Y : Type 0} (p : Y → Bool) (f : X → Y) (xs : List X) (i : ℕ) (x d : X) (v : Bool) → list_all p (map f (drop i xs)) ≡ v → i < length xs → x ≡ get_or xs i d → p (f x) ≡ true → list_all p (map f (drop (i + 1) xs)) ≡ v
-all-next p f xs i x d v h l e t = sym (ap (λ ys. list_all p (map f ys)) (drop-next xs i x d l e) ∙ by (p (f x)) (list_all p (map f (drop (i + 1) xs))) t) ∙ h
+all-next p f xs i x d v h l e t = sym (ap (λ ys. list_all p (map f ys)) (items-next xs i x d l e) ∙ by (p (f x)) (list_all p (map f (drop (i + 1) xs))) t) ∙ h
   where
     by : (a b : Bool) → a ≡ true → (a && b) ≡ b
     by true b t = refl
     by false b t = cc
 
 pub all-stops : {X Y : Type 0} (p : Y → Bool) (f : X → Y) (xs : List X) (i : ℕ) (x d : X) (v : Bool) → list_all p (map f (drop i xs)) ≡ v → i < length xs → x ≡ get_or xs i d → p (f x) ≡ false → false ≡ v
-all-stops p f xs i x d v h l e t = sym (by (p (f x)) (list_all p (map f (drop (i + 1) xs))) t) ∙ sym (ap (λ ys. list_all p (map f ys)) (drop-next xs i x d l e)) ∙ h
+all-stops p f xs i x d v h l e t = sym (by (p (f x)) (list_all p (map f (drop (i + 1) xs))) t) ∙ sym (ap (λ ys. list_all p (map f ys)) (items-next xs i x d l e)) ∙ h
   where
     by : (a b : Bool) → a ≡ false → (a && b) ≡ false
     by false b t = refl

@@ -1,7 +1,8 @@
 -- What the parts of an instance give, part by part.
-use Rattle.std.proofs.Common.{true≢false, add-one, append_assoc, ◌≡◌, ℕ, suc, ◌+◌, List, [], ◌∷◌, ◌++◌, length, Bool, true, false, ◌&&◌, Option, Some, None, option_and_then, refl, ap, sym, ◌∙◌, arith, if◌then◌else◌}
+use Rattle.std.proofs.Common.{true≢false, add-one, append_assoc, ◌≡◌, ℕ, suc, ◌+◌, List, [], ◌∷◌, ◌++◌, length, Bool, true, false, ◌&&◌, Option, Some, None, option_and_then, refl, ap, sym, ◌∙◌, arith, if◌then◌else◌, append-nil}
 use Rattle.std.specs.Option.{option_map}
 use Rattle.std.specs.List.{list_all}
+use Rattle.plain_laws.proofs.Booleans.{and-assoc, and-true}
 use Rattle.calculus.specs.declared.sign.Sign.{Sign}
 use Rattle.calculus.specs.declared.sign.Side.{Side}
 use Rattle.calculus.specs.declared.sign.Side.TheVariants.{Left as LeftSide, Right as RightSide}
@@ -26,14 +27,6 @@ use Rattle.tableau_core.specs.Numbered.LiteralView.{the_literal}
 use Rattle.tableau_cert.specs.Gathering.{Gathered, Open, gathered_part, gathered_after, gathered, gathered_all, with_rest, with_step, with_steps}
 use Rattle.tableau_cert.specs.declared.task.Opened.{Opened}
 use Rattle.tableau_cert.specs.declared.task.Opened.TheVariants.{Literal, One, Two}
-
-and-assoc : (a b c : Bool) → (a && (b && c)) ≡ ((a && b) && c)
-and-assoc true b c = refl
-and-assoc false b c = refl
-
-and-true : (a : Bool) → (a && true) ≡ a
-and-true true = refl
-and-true false = refl
 
 all-append : {A : Type 0} (p : A → Bool) (xs ys : List A) → list_all p (xs ++ ys) ≡ (list_all p xs && list_all p ys)
 all-append p [] ys = refl
@@ -266,14 +259,10 @@ module _ (P : Problem) where
 
 -- ---- the step of an open part
 
-append-none : {X : Type 0} (xs : List X) → xs ++ [] ≡ xs
-append-none [] = refl
-append-none (x ∷ xs) = ap (λ ys. x ∷ ys) (append-none xs)
-
 steps-once : (n m : ℕ) → capped (capped (n + m) + 0) ≡ capped (n + m)
 steps-once n m = omega arith
 
 pub steps-joined : (ls : List GroundList) (g : Gathered) (o : Opened) (b : Bool) (n : ℕ) (u w : Supply) → with_step ls (with_rest g n true u) o b w ≡ with_steps ls g o b n w
 steps-joined ls g (Literal x) b n u w = let a = ap (λ d. d && b) (and-true g.allowed) in let m = steps-once g.steps n in λ i. state (g.literals ++ the_literal ls x ∷ []) (a i) (m i) w
-steps-joined ls g (One t) b n u w = let a = ap (λ d. d && b) (and-true g.allowed) in let m = steps-once g.steps n in let e = sym (append-none g.literals) in λ i. state (e i) (a i) (m i) w
-steps-joined ls g (Two t v) b n u w = let a = ap (λ d. d && b) (and-true g.allowed) in let m = steps-once g.steps n in let e = sym (append-none g.literals) in λ i. state (e i) (a i) (m i) w
+steps-joined ls g (One t) b n u w = let a = ap (λ d. d && b) (and-true g.allowed) in let m = steps-once g.steps n in let e = sym (append-nil g.literals) in λ i. state (e i) (a i) (m i) w
+steps-joined ls g (Two t v) b n u w = let a = ap (λ d. d && b) (and-true g.allowed) in let m = steps-once g.steps n in let e = sym (append-nil g.literals) in λ i. state (e i) (a i) (m i) w

@@ -1,9 +1,11 @@
 -- The judgement of moves whose instances are found, goal by goal.
-use Rattle.std.proofs.Common.{◌≡◌, ℕ, zero, suc, ◌+◌, ◌-◌, ◌<◌, ◌≤◌, List, [], ◌∷◌, ◌++◌, length, map, reverse, take, drop, get_or, Bool, true, false, not, ◌&&◌, ◌||◌, ◌==◌, Some, Result, Ok, Err, refl, sym, ◌∙◌, ap, arith, subst, true≢false, if◌then◌else◌, nat_lt, slice_get, remove}
+use Rattle.std.proofs.Common.{◌≡◌, ℕ, suc, ◌+◌, ◌-◌, ◌<◌, ◌≤◌, List, [], ◌∷◌, ◌++◌, length, map, reverse, take, drop, get_or, Bool, true, false, not, ◌&&◌, ◌||◌, ◌==◌, Some, Result, Ok, Err, refl, sym, ◌∙◌, ap, arith, subst, true≢false, if◌then◌else◌, nat_lt, slice_get, remove}
 use Rattle.std.specs.List.{list_all, list_any}
 use Rattle.std.proofs.lemmas.List.{reverse-append, reverse-reverse, length-reverse, get_or-reverse, length-map, length-append, map-append, drop_all}
 use Rattle.std.proofs.lemmas.List.Sorted.{IsPermutation-reverse, list_any-IsPermutation}
 use Rattle.std.proofs.lemmas.Bool.Decides.{nat_tests}
+use Rattle.plain_laws.proofs.Places.{items-next, take-longer, take-length, take-less, take-whole}
+use Rattle.plain_laws.proofs.Lists.{no-items}
 use Rattle.tableau_core.proofs.PathLaws.{ancestor-at}
 use Rattle.calculus.specs.declared.fault.TableauFault.{TableauFault}
 use Rattle.calculus.specs.declared.fault.TableauFault.TheVariants as fault
@@ -72,28 +74,6 @@ at-end limit short (g ∷ gs) n b e = let z : (length (g ∷ gs) == 0) ≡ false
 
 -- ---- the path is cut back, and goes on by the goal
 
-take-less : {X : Type 0} (j k : ℕ) (xs : List X) → j ≤ k → take j (take k xs) ≡ take j xs
-take-less zero k xs h = refl
-take-less (suc j) zero xs h = absurd (omega (arith, h))
-take-less (suc j) (suc k) [] h = refl
-take-less (suc j) (suc k) (x ∷ xs) h = ap (λ ys. x ∷ ys) (take-less j k xs (omega (arith, h)))
-
-take-front : {X : Type 0} (j : ℕ) (xs ys : List X) → j ≤ length xs → take j (xs ++ ys) ≡ take j xs
-take-front zero xs ys h = refl
-take-front (suc j) [] ys h = absurd (omega (arith, h))
-take-front (suc j) (x ∷ xs) ys h = ap (λ zs. x ∷ zs) (take-front j xs ys (omega (arith, h)))
-
-take-whole : {X : Type 0} (k : ℕ) (xs : List X) → k ≡ length xs → take k xs ≡ xs
-take-whole zero [] h = refl
-take-whole zero (x ∷ xs) h = absurd (omega (arith, h))
-take-whole (suc k) [] h = refl
-take-whole (suc k) (x ∷ xs) h = ap (λ ys. x ∷ ys) (take-whole k xs (omega (arith, h)))
-
-take-length : {X : Type 0} (k : ℕ) (xs : List X) → k ≤ length xs → length (take k xs) ≡ k
-take-length zero xs h = refl
-take-length (suc k) [] h = absurd (omega (arith, h))
-take-length (suc k) (x ∷ xs) h = ap suc (take-length k xs (omega (arith, h)))
-
 module _ (ls : List GroundList) (path : List numbered.GroundLiteral) (x : numbered.GroundLiteral) (k : ℕ) (room : k ≤ length path) where
   abbrev longer : List numbered.GroundLiteral
   longer = take k path ++ x ∷ []
@@ -104,7 +84,7 @@ module _ (ls : List GroundList) (path : List numbered.GroundLiteral) (x : number
   others-stay : (j : ℕ) (gs : List program.OpenGoal) → j ≤ k → AreNested j gs → map (the_open ls longer) gs ≡ map (the_open ls path) gs
   others-stay j [] h n = refl
   others-stay j (g ∷ gs) h n =
-      let e = take-front g.depth (take k path) (x ∷ []) (let b = take-length k path room in omega (arith, b, h, n.0)) ∙ take-less g.depth k path (omega (arith, h, n.0)) in
+      let e = take-longer g.depth (take k path) (x ∷ []) (let b = take-length k path room in omega (arith, b, h, n.0)) ∙ take-less g.depth k path (omega (arith, h, n.0)) in
       let r = others-stay g.depth gs (omega (arith, h, n.0)) n.1 in
       λ i. record { path = map (the_literal ls) (reverse (e i)); goal = the_literal ls g.literal } ∷ r i
 
@@ -200,15 +180,6 @@ regular g place all rest a b r e t h f q o =
 
 -- ---- the loop over the moves
 
-pub none-of : {X : Type 0} (xs : List X) → length xs ≡ 0 → xs ≡ []
-none-of [] e = refl
-none-of (x ∷ xs) e = absurd (omega (arith, e))
-
-pub drop-next : {X : Type 0} (cs : List X) (i : ℕ) (c d : X) → i < length cs → c ≡ get_or cs i d → drop i cs ≡ c ∷ drop (i + 1) cs
-drop-next [] i c d h e = absurd (omega (arith, h))
-drop-next (x ∷ cs) zero c d h e = ap (λ y. y ∷ cs) (sym e)
-drop-next (x ∷ cs) (suc i) c d h e = let s : suc (i + 1) ≡ suc i + 1 = omega arith in drop-next cs i c d (omega (arith, h)) e ∙ ap (λ n. c ∷ drop n (x ∷ cs)) s
-
 module _ {X : Type 0} (f : X → Closer) (ls : List GroundList) (limit : ℕ) (short : Bool) (path : List numbered.GroundLiteral) (goals : List program.OpenGoal) (cs : List X) (i : ℕ) (v : TableauVerdict) where
   abbrev opened : List OpenGoal
   opened = map (the_open ls path) (reverse goals)
@@ -217,16 +188,16 @@ module _ {X : Type 0} (f : X → Closer) (ls : List GroundList) (limit : ℕ) (s
   Holds = closers_verdict limit (last_verdict short) opened (map f (drop i cs)) (i + 6) ≡ v
 
   pub loop-none : (n : ℕ) (c d : X) → Holds → n ≡ i + 6 → length goals ≡ 0 → i < length cs → c ≡ get_or cs i d → tableau_rejected n fault.AllClosed ≡ v
-  loop-none n c d h m e l q = ap (λ k. tableau_rejected k fault.AllClosed) m ∙ sym (none-open limit (last_verdict short) (f c) (map f (drop (i + 1) cs)) (i + 6)) ∙ (λ j. closers_verdict limit (last_verdict short) (map (the_open ls path) (reverse (sym (none-of goals e) j))) (map f (sym (drop-next cs i c d l q) j)) (i + 6)) ∙ h
+  loop-none n c d h m e l q = ap (λ k. tableau_rejected k fault.AllClosed) m ∙ sym (none-open limit (last_verdict short) (f c) (map f (drop (i + 1) cs)) (i + 6)) ∙ (λ j. closers_verdict limit (last_verdict short) (map (the_open ls path) (reverse (sym (no-items goals e) j))) (map f (sym (items-next cs i c d l q) j)) (i + 6)) ∙ h
 
   pub loop-wrong : (n : ℕ) (rest : List program.OpenGoal) (g : program.OpenGoal) (c d : X) (w : TableauFault) → Holds → n ≡ i + 6 → goals ≡ rest ++ g ∷ [] → i < length cs → c ≡ get_or cs i d → closed_by limit (the_open ls path g) (f c) ≡ Err w → tableau_rejected n w ≡ v
-  loop-wrong n rest g c d w h m e l q k = ap (λ x. tableau_rejected x w) m ∙ sym (wrong-next limit (last_verdict short) (the_open ls path g) (map (the_open ls path) (reverse rest)) (f c) (map f (drop (i + 1) cs)) (i + 6) w k) ∙ (λ j. closers_verdict limit (last_verdict short) (sym (popped-view ls path goals rest g e) j) (map f (sym (drop-next cs i c d l q) j)) (i + 6)) ∙ h
+  loop-wrong n rest g c d w h m e l q k = ap (λ x. tableau_rejected x w) m ∙ sym (wrong-next limit (last_verdict short) (the_open ls path g) (map (the_open ls path) (reverse rest)) (f c) (map f (drop (i + 1) cs)) (i + 6) w k) ∙ (λ j. closers_verdict limit (last_verdict short) (sym (popped-view ls path goals rest g e) j) (map f (sym (items-next cs i c d l q) j)) (i + 6)) ∙ h
 
   pub loop-next : (grown : List GroundList) (rest more : List program.OpenGoal) (g : program.OpenGoal) (long : List numbered.GroundLiteral) (c d : X) → Holds → goals ≡ rest ++ g ∷ [] → i < length cs → c ≡ get_or cs i d → IsNext ls grown path rest long more (closed_by limit (the_open ls path g) (f c)) → closers_verdict limit (last_verdict short) (map (the_open grown long) (reverse more)) (map f (drop (i + 1) cs)) (i + 1 + 6) ≡ v
   loop-next grown rest more g long c d h e l q k =
       (let s : i + 1 + 6 ≡ suc (i + 6) = omega arith in λ j. closers_verdict limit (last_verdict short) (k.opened j) (map f (drop (i + 1) cs)) (s j))
       ∙ sym (right-next limit (last_verdict short) (the_open ls path g) (map (the_open ls path) (reverse rest)) (f c) (map f (drop (i + 1) cs)) (i + 6) k.new k.closes)
-      ∙ (λ j. closers_verdict limit (last_verdict short) (sym (popped-view ls path goals rest g e) j) (map f (sym (drop-next cs i c d l q) j)) (i + 6))
+      ∙ (λ j. closers_verdict limit (last_verdict short) (sym (popped-view ls path goals rest g e) j) (map f (sym (items-next cs i c d l q) j)) (i + 6))
       ∙ h
 
   pub loop-end : (n : ℕ) (b : Bool) → Holds → length cs ≤ i → n ≡ i + 6 → b ≡ (length goals == 0) → end_verdict b short n ≡ v

@@ -1,5 +1,5 @@
 -- The walk through an instance, one open part after the other.
-use Rattle.std.proofs.Common.{◌≡◌, ℕ, ◌+◌, ◌<◌, ◌≤◌, List, [], ◌∷◌, ◌++◌, length, map, reverse, Bool, true, ◌&&◌, Option, Some, None, refl, sym, ◌∙◌, ap, subst, arith}
+use Rattle.std.proofs.Common.{◌≡◌, ℕ, ◌+◌, ◌<◌, ◌≤◌, List, [], ◌∷◌, ◌++◌, length, map, reverse, Bool, true, ◌&&◌, Option, Some, None, refl, sym, ◌∙◌, ap, subst, arith, append-nil}
 use Rattle.std.specs.List.{AllByRecursion}
 use Rattle.std.specs.Option.{option_map}
 use Rattle.std.proofs.lemmas.List.{map-append, reverse-append, reverse-reverse}
@@ -144,13 +144,9 @@ root-spot ls h = let e = no-list ls h in λ i. record { position = 0; label = ma
 
 -- what a part gives is put before the open parts or behind the literals
 
-append-none : {X : Type 0} (xs : List X) → xs ++ [] ≡ xs
-append-none [] = refl
-append-none (x ∷ xs) = ap (λ ys. x ∷ ys) (append-none xs)
-
 module _ (old new : List task.Task) (o : Opened) where
   pub put-none : (x : numbered.GroundLiteral) → o ≡ Literal x → new ≡ old → new ≡ old ++ reverse (tasks_in o)
-  put-none x e h = h ∙ sym (append-none old) ∙ ap (λ y. old ++ reverse (tasks_in y)) (sym e)
+  put-none x e h = h ∙ sym (append-nil old) ∙ ap (λ y. old ++ reverse (tasks_in y)) (sym e)
 
   pub put-one : (t : task.Task) → o ≡ One t → new ≡ old ++ t ∷ [] → new ≡ old ++ reverse (tasks_in o)
   put-one t e h = h ∙ ap (λ y. old ++ reverse (tasks_in y)) (sym e)
@@ -163,4 +159,4 @@ module _ (old new : List numbered.GroundLiteral) (o p : Opened) (e : o ≡ p) wh
   put-literals h = h ∙ ap (λ y. old ++ literals_of y) (sym e)
 
   pub put-no_literals : literals_of p ≡ [] → new ≡ old → new ≡ old ++ literals_of o
-  put-no_literals z h = h ∙ sym (append-none old) ∙ ap (λ ys. old ++ ys) (sym (ap literals_of e ∙ z))
+  put-no_literals z h = h ∙ sym (append-nil old) ∙ ap (λ ys. old ++ ys) (sym (ap literals_of e ∙ z))

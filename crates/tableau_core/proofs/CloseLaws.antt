@@ -4,6 +4,7 @@ use Rattle.std.specs.List.{list_all}
 use Rattle.std.proofs.Common.{refl, ap, sym, ◌∙◌, arith}
 use Rattle.std.proofs.lemmas.Bool.{leb-true, leb-false, le-leb, lt-leb}
 use Rattle.std.proofs.lemmas.List.Sums.{sum_by-cons}
+use Rattle.plain_laws.proofs.Options.{some-if}
 use Rattle.calculus.specs.ComputedInstances.{is_allowed_instance, modal_steps}
 use Rattle.calculus.specs.Ground.{GroundLiteral, Value, term, steps}
 use Rattle.calculus.specs.Instances.{ClauseInstance}
@@ -51,12 +52,8 @@ short-by P t n w e h f = by_logic (has_unbounded_strings P.setting.logic)
     by_logic true = instances-within (total_steps P (instances t)) (instances t) ∙ same-test (longest_of (instances t)) (total_steps P (instances t)) w n (λ p. omega arith) (λ p. omega arith)
     by_logic false = refl
 
-same-some : (m n : Count) → Some m ≡ Some n → m ≡ n
+pub same-some : (m n : Count) → Some m ≡ Some n → m ≡ n
 same-some m n e = cc
-
-some-test : (b : Bool) (k m : ℕ) → Some m ≡ (if b then Some k else None) → b ≡ true
-some-test true k m e = refl
-some-test false k m e = cc
 
 some-number : (b : Bool) (k m : ℕ) → Some m ≡ (if b then Some k else None) → m ≡ k
 some-number true k m e = cc
@@ -105,7 +102,7 @@ module _ (P : Problem) (limit : ℕ) (t : Tableau) where
       let n : all.steps ≡ capped (start.steps + k) = ap (λ (x : Count). x.steps) m in
       let l : all.longest ≡ max start.longest v = ap (λ (x : Count). x.longest) m in
       sym (short-by P t all.steps all.longest (omega (arith, n, e, o, q)) (l ∙ ap (λ x. max x v) w) h)
-      ∙ all-true (is_allowed_instance P t.start) (list_all is_shown t.start.literals) (closes_all P limit [] t.start.literals t.goals) (is_short P t) (some-test _ (capped (modal_steps P t.start)) own a) s (counted-test _ start all k v c)
+      ∙ all-true (is_allowed_instance P t.start) (list_all is_shown t.start.literals) (closes_all P limit [] t.start.literals t.goals) (is_short P t) (some-if _ (capped (modal_steps P t.start)) own a) s (counted-test _ start all k v c)
 
   -- what is counted of all goals, from the empty path
   pub from-start : (path goals : List GroundLiteral) (o : Option Count) (start : Count) → o ≡ closed_all P limit path goals t.goals start → path ≡ [] → goals ≡ t.start.literals → o ≡ closed_all P limit [] t.start.literals t.goals start

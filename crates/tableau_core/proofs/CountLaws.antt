@@ -3,6 +3,9 @@ use Rattle.std.specs.Prelude.{◌≡◌, ℕ, zero, suc, ◌+◌, ◌<◌, ◌�
 use Rattle.std.proofs.Common.{refl, ap, sym, ◌∙◌, arith, get_or}
 use Rattle.std.proofs.lemmas.List.{length-map}
 use Rattle.std.proofs.lemmas.List.Sums.{sum_by-cons, sum_by-append}
+use Rattle.plain_laws.proofs.Places.{drop-end}
+use Rattle.plain_laws.proofs.Options.{some-if}
+use Rattle.tableau_core.proofs.CloseLaws.{same-some}
 use Rattle.calculus.specs.ComputedInstances.{is_allowed_instance, modal_steps}
 use Rattle.calculus.specs.Ground.{GroundLiteral}
 use Rattle.calculus.specs.Instances.{ClauseInstance}
@@ -34,15 +37,6 @@ pub counted-else : (b : Bool) (n : Count) (k w : ℕ) → b ≡ false → None �
 counted-else true n k w e = cc
 counted-else false n k w e = refl
 
-same-some : (m n : Count) → Some m ≡ Some n → m ≡ n
-same-some m n e = cc
-
-drop-all : {X : Type 0} (xs : List X) (n : ℕ) → length xs ≤ n → drop n xs ≡ []
-drop-all [] zero h = refl
-drop-all [] (suc n) h = refl
-drop-all (x ∷ xs) zero h = absurd (omega arith)
-drop-all (x ∷ xs) (suc n) h = drop-all xs n (omega arith)
-
 -- a place where a complement stands is inside the list
 some-inside : (goal : GroundLiteral) (xs : List GroundLiteral) (k : ℕ) → is_complement goal (slice_get xs k) ≡ true → k < length xs
 some-inside goal [] zero e = cc
@@ -69,10 +63,6 @@ allowed-not true true true false k e = refl
 allowed-not true true false m k e = refl
 allowed-not true false c m k e = refl
 allowed-not false b c m k e = refl
-
-some-then : (b : Bool) (k m : ℕ) → Some m ≡ (if b then Some k else None) → b ≡ true
-some-then true k m e = refl
-some-then false k m e = cc
 
 -- what is counted in two parts
 twice : (n : Count) (k t w v : ℕ) → and_more (and_more n k w) t v ≡ and_more n (k + t) (max w v)
@@ -120,7 +110,7 @@ module _ (P : Problem) (d : ℕ) (path : List GroundLiteral) where
 
   pub extension-inside : (goal : GroundLiteral) (i : ClauseInstance) (place own : ℕ) → Some own ≡ steps_if_extends P d path goal i place → place < length i.literals
   unfolding steps_if_extends
-  extension-inside goal i place own e = some-inside goal i.literals place (and-last (is_new_on path goal) (nat_lt (length path) d) (is_allowed_instance P i) _ (some-then _ _ own e))
+  extension-inside goal i place own e = some-inside goal i.literals place (and-last (is_new_on path goal) (nat_lt (length path) d) (is_allowed_instance P i) _ (some-if _ _ own e))
 
   pub reduced : (goal : GroundLiteral) (up : ℕ) (n : Count) → counted (is_new_on path goal && is_complement goal (ancestor path up)) n 0 0 ≡ closed_one P d path goal (reduce up) n
   unfolding closed_one
@@ -194,4 +184,4 @@ module _ (P : Problem) (d : ℕ) (path : List GroundLiteral) where
   loop-stuck f g (u ∷ xs) (v ∷ ys) (suc k) x a y b n h i p q e = loop-stuck f g xs ys k x a y b n (omega arith) (omega arith) p q e
 
   pub loop-end : {X Y : Type 0} (f : X → GroundLiteral) (g : Y → Closing) (xs : List X) (ys : List Y) (k : ℕ) (n : Count) → length xs ≤ k → length ys ≤ k → n.steps < no_more → Some n ≡ closed_all P d path (map f (drop k xs)) (closings_tree (map g (drop k ys))) n
-  loop-end f g xs ys k n p q h = all-none n h ∙ sym (ap (λ l. closed_all P d path (map f l) no_closings n) (drop-all xs k p)) ∙ sym (ap (λ l. closed_all P d path (map f (drop k xs)) (closings_tree (map g l)) n) (drop-all ys k q))
+  loop-end f g xs ys k n p q h = all-none n h ∙ sym (ap (λ l. closed_all P d path (map f l) no_closings n) (drop-end xs k p)) ∙ sym (ap (λ l. closed_all P d path (map f (drop k xs)) (closings_tree (map g l)) n) (drop-end ys k q))

@@ -3,6 +3,9 @@
 use Rattle.std.proofs.Common.{◌≡◌, ◌+◌, ◌-◌, ◌≤◌, ℕ, zero, suc, List, [], ◌∷◌, ◌++◌, drop, length, map, remove, take, refl, sym, ◌∙◌, ap, ap₂, subst, OnOk, Result, Ok, Err, Some, slice_get, arith, append-nil}
 use Rattle.std.specs.List.{AllByRecursion}
 use Rattle.std.proofs.lemmas.List.{drop-map, length-map, map-append, take-map, take_all}
+use Rattle.plain_laws.proofs.Every.{each-append}
+use Rattle.plain_laws.proofs.Places.{drop-there}
+use Rattle.tableau_core.proofs.Numbered.ClosingLaws.{closings-in}
 use Rattle.calculus.specs.Choices.{GroundChoice, extension, reduction}
 use Rattle.calculus.specs.Ground as tree
 use Rattle.calculus.specs.Instances as instances
@@ -17,7 +20,6 @@ use Rattle.search_theory.specs.Matrix.{MatrixClause}
 use Rattle.search_theory.specs.OrderedChoices.{selection_of}
 use Rattle.search_theory.specs.States.{choice_at, clause_at, literal_by, values_by}
 use Rattle.search_theory.proofs.StageLaws.{inserted-removed}
-use Rattle.search_theory.proofs.SystemLaws.{all-joined}
 use Rattle.tableau_core.specs.Numbered.ClosingView.{closing_in, closings_in}
 use Rattle.tableau_core.specs.Numbered.Closings as numbered
 use Rattle.tableau_core.specs.Numbered.InstanceView.{the_instance}
@@ -32,7 +34,7 @@ use Rattle.tableau_reading.specs.Reading.{AreClosingsOf, AreLiteralsOf, AreNorma
 use Rattle.search_tree.specs.Trees.{clause_with, inserted, the_step}
 use Rattle.search_tree.specs.declared.tree.Copied.{Copied}
 use Rattle.search_tree.specs.declared.tree.Step.{Step}
-use Rattle.search_tree.proofs.Places.{take-next, drop-there}
+use Rattle.search_tree.proofs.Places.{take-next}
 
 -- ---- tables that grow
 
@@ -92,7 +94,7 @@ literals-none ls = record { normal = tt; value = refl }
 -- the literals so far and one more
 pub literals-push : (ls : List GroundList) (xs : List GroundLiteral) (ys : List tree.GroundLiteral) (x : GroundLiteral) (y : tree.GroundLiteral) → AreLiteralsOf ls xs ys → IsLiteralOf ls x y → AreLiteralsOf ls (xs ++ x ∷ []) (ys ++ y ∷ [])
 literals-push ls xs ys x y h l = record {
-  normal = all-joined (IsNormalLiteral ls) xs (x ∷ []) h.normal ((l.args, l.label), tt);
+  normal = each-append (IsNormalLiteral ls) xs (x ∷ []) h.normal ((l.args, l.label), tt);
   value = map-append (the_literal ls) xs (x ∷ []) ∙ ap₂ (λ zs (z : tree.GroundLiteral). zs ++ z ∷ []) h.value l.value;
 }
 
@@ -143,10 +145,6 @@ all-below : (ls : List GroundList) (cs : List numbered.Closing) → AllByRecursi
 all-below ls [] h = tt
 all-below ls (c ∷ cs) h = (h.0, all-below ls cs h.1)
 
-in-tree : (ls : List GroundList) (cs : List numbered.Closing) → closings_in ls (numbered.closings_tree cs) ≡ closings_tree (map (closing_in ls) cs)
-in-tree ls [] = refl
-in-tree ls (c ∷ cs) = ap (λ ds. tableaux.more_closings (closing_in ls c) ds) (in-tree ls cs)
-
 -- so many closings go below the extension
 pub closings-extend : (ls : List GroundList) (i : ClauseInstance) (j : instances.ClauseInstance) (place n : ℕ) (cs front back : List numbered.Closing) (gs : List GroundChoice) → IsInstanceOf ls i j → n ≡ length (remove j.literals place) → front ≡ take n cs → back ≡ drop n cs → AreClosingsOf ls cs (closings_by gs) → AreClosingsOf ls (numbered.extend i place (numbered.closings_tree front) ∷ back) (closings_by (extension j place ∷ gs))
 closings-extend ls i j place n cs front back gs inst count f b h =
@@ -154,7 +152,7 @@ closings-extend ls i j place n cs front back gs inst count f b h =
     record {
       normal = ((inst.normal, all-below ls front (subst (AllByRecursion (IsNormalClosing ls)) (sym f) parts.0)), subst (AllByRecursion (IsNormalClosing ls)) (sym b) parts.1);
       value = ap₂ (λ (c : tableaux.Closing) ds. c ∷ ds)
-          (ap₂ (λ x ds. tableaux.extend x place ds) inst.value (in-tree ls front ∙ ap closings_tree (ap (map (closing_in ls)) f ∙ sym (take-map (closing_in ls) n cs) ∙ ap (take n) h.value ∙ ap (λ k. take k (closings_by gs)) count)))
+          (ap₂ (λ x ds. tableaux.extend x place ds) inst.value (closings-in ls front ∙ ap closings_tree (ap (map (closing_in ls)) f ∙ sym (take-map (closing_in ls) n cs) ∙ ap (take n) h.value ∙ ap (λ k. take k (closings_by gs)) count)))
           (ap (map (closing_in ls)) b ∙ sym (drop-map (closing_in ls) n cs) ∙ ap (drop n) h.value ∙ ap (λ k. drop k (closings_by gs)) count);
     }
   where

@@ -1,6 +1,8 @@
 -- The loops that gather the system of the tree.
 use Rattle.std.proofs.Common.{◌≡◌, ◌+◌, ◌-◌, ◌<◌, ◌≤◌, append_assoc, append-nil, ℕ, suc, List, [], ◌∷◌, ◌++◌, drop, length, refl, sum_by, sym, ◌∙◌, ap, ap₂, subst, Option, None, Some, slice_get, arith}
 use Rattle.std.specs.List.{flat_map}
+use Rattle.plain_laws.proofs.Places.{drop-end, drop-there, get-there}
+use Rattle.plain_laws.proofs.Options.{same-some}
 use Rattle.store_theory.specs.Bindings.{places_from}
 use Rattle.calculus.specs.declared.sort.Sort.{Sort}
 use Rattle.calculus.specs.declared.sort.Sort.TheVariants.{TermSort, MarkSort, StringSort}
@@ -10,8 +12,7 @@ use Rattle.search_theory.specs.States.{CellGoal}
 use Rattle.search_tree.specs.Trees.{AreGoals, HasAtom, IsGoalAt, IsPath, atom_at}
 use Rattle.search_tree.specs.declared.tree.Goal.{Goal}
 use Rattle.search_tree.specs.declared.tree.Step.{Step}
-use Rattle.search_tree.proofs.Places.{drop-end, drop-there, item-there}
-use Rattle.search_tree.proofs.TreeLaws.{AncestorAt, ancestor-on, goal-at, goals-length, same-item}
+use Rattle.search_tree.proofs.TreeLaws.{AncestorAt, ancestor-on, goal-at, goals-length}
 
 -- ---- what f gives for the first items was gathered
 
@@ -79,7 +80,7 @@ pub pairs-next : (steps : List Step) (goals : List Goal) (goal j i : ℕ) (start
 pairs-next steps goals goal j i start out new above next h e at added = record {
   path = λ x g.
       let w = pair-ancestor steps goals goal j i start out above x h e g in
-      subst (λ (k : Goal). IsPath steps goals k.above (drop (i + 1) x.path)) (same-item (slice_get goals j) w.goal next w.stands at) w.rest;
+      subst (λ (k : Goal). IsPath steps goals k.above (drop (i + 1) x.path)) (same-some (slice_get goals j) w.goal next w.stands at) w.rest;
   pairs = λ x g.
       let w = pair-ancestor steps goals goal j i start out above x h e g in
       let more : i + 1 ≡ suc i = omega arith in
@@ -99,7 +100,7 @@ pairs-out steps goals goal i start out above h e x g = by (drop i x.path) (subst
 
 pub pairs-end : (steps : List Step) (goals : List Goal) (goal i : ℕ) (start out : List Pair) (above : Option ℕ) (at : Goal) → PairsTo steps goals goal start out above i → slice_get goals goal ≡ Some at → at.depth ≤ i → (x : CellGoal) → IsGoalAt steps goals goal x → out ≡ start ++ pairs_with x.literal x.path
 pairs-end steps goals goal i start out above at h e l x g =
-    let same = ap (λ (z : Goal). z.depth) (same-item (slice_get goals goal) g.goal at g.stands e) in
+    let same = ap (λ (z : Goal). z.depth) (same-some (slice_get goals goal) g.goal at g.stands e) in
     let d = g.is_goal.depth in
     sym (append-nil out) ∙ ap (λ ys. out ++ pairs_with x.literal ys) (sym (drop-end x.path i (omega (arith, same, d, l)))) ∙ h.pairs x g
 
@@ -111,7 +112,7 @@ AllPairsTo steps goals out i = (xs : List CellGoal) → AreGoals steps goals goa
 
 pub all_pairs-next : (steps : List Step) (goals : List Goal) (out new : List Pair) (i : ℕ) → AllPairsTo steps goals out i → i < length goals → ((x : CellGoal) → IsGoalAt steps goals i x → new ≡ out ++ pairs_with x.literal x.path) → AllPairsTo steps goals new (i + 1)
 all_pairs-next steps goals out new i h l added xs g =
-    let (k, at) = item-there goals i l in
+    let (k, at) = get-there goals i l in
     let (x, on, is) = goal-at steps goals xs i k g at in
     let more : i + 1 ≡ suc i = omega arith in
     ap₂ (λ o n. o ++ pairs_of (drop n xs)) (added x is) more
@@ -127,6 +128,6 @@ all_pairs-end steps goals out i h l xs g =
 -- what add_pairs asks for
 pub pairs-wanted : (steps : List Step) (goals : List Goal) (i : ℕ) (xs : List CellGoal) → AreGoals steps goals goals xs → i < length goals → (x : CellGoal) × IsGoalAt steps goals i x
 pairs-wanted steps goals i xs g l =
-    let (k, at) = item-there goals i l in
+    let (k, at) = get-there goals i l in
     let (x, on, is) = goal-at steps goals xs i k g at in
     (x, is)

@@ -4,7 +4,6 @@ use Rattle.std.specs.List.{AllByRecursion, list_all}
 use Rattle.std.proofs.lemmas.Bool.{and_from, and_parts}
 use Rattle.std.proofs.lemmas.List.{map-append, take_all}
 use Rattle.std.proofs.lemmas.Option.{slice_get_within}
-use Rattle.calculus.proofs.PlaceLists.{all-at}
 use Rattle.calculus.specs.declared.sort.Sort.TheVariants.{TermSort, MarkSort, StringSort}
 use Rattle.store_theory.specs.Bindings.{EndsIn, IsEnd}
 use Rattle.store_theory.specs.Stores.{Cell, variable, fun_cell, eigen_cell, new_cell, string_cell, is_bound, Store, EndsAt, GammaCell, names_below, parts_of}
@@ -17,12 +16,11 @@ use Rattle.term_store.specs.ClauseView.{the_gamma}
 use Rattle.term_store.specs.RefView.{the_place}
 use Rattle.term_store.specs.declared.clause.GammaUse.{GammaUse}
 use Rattle.term_store.specs.declared.cell.Ref.{Ref}
-use Rattle.search_theory.proofs.ExploreLaws.{all-more}
-use Rattle.search_theory.proofs.SystemLaws.{all-apart}
 use Rattle.tableau_reading.specs.declared.homes.Homes.{Homes}
 use Rattle.tableau_reading.proofs.GroundLaws.{head-there}
 use Rattle.search_tree.proofs.Places.{take-next}
 use Rattle.std.proofs.Common.{option_map}
+use Rattle.plain_laws.proofs.Every.{each-parts, all-at, each-push}
 
 -- ---- what a value is made of
 
@@ -103,7 +101,7 @@ places-more items before r e = ap (map the_place) e ∙ map-append the_place bef
 
 -- one end more is asked for
 pub ends-more : (s : Store) (items before : List Ref) (r : Ref) → items ≡ before ++ r ∷ [] → AllByRecursion (IsPlace s) before → IsEnd s r.0 → AllByRecursion (IsPlace s) items
-ends-more s items before r e h k = subst (AllByRecursion (IsPlace s)) (sym e) (all-more (IsPlace s) before r h k)
+ends-more s items before r e h k = subst (AllByRecursion (IsPlace s)) (sym e) (each-push (IsPlace s) before r h k)
 
 pub no-ends : (s : Store) (items : List Ref) → items ≡ [] → AllByRecursion (IsPlace s) items
 no-ends s items e = subst (AllByRecursion (IsPlace s)) (sym e) tt
@@ -111,7 +109,7 @@ no-ends s items e = subst (AllByRecursion (IsPlace s)) (sym e) tt
 -- the last one is taken
 pub ends-last : (s : Store) (items rest : List Ref) (r : Ref) → items ≡ rest ++ r ∷ [] → AllByRecursion (IsPlace s) items → AllByRecursion (IsPlace s) rest × IsEnd s r.0
 ends-last s items rest r e h =
-    let p = all-apart (IsPlace s) rest (r ∷ []) (subst (AllByRecursion (IsPlace s)) e h) in
+    let p = each-parts (IsPlace s) rest (r ∷ []) (subst (AllByRecursion (IsPlace s)) e h) in
     (p.0, p.1.0)
 
 pub end-within : (s : Store) (v : ℕ) → IsEnd s v → v < length s.cells

@@ -6,16 +6,16 @@ use Rattle.std.proofs.lemmas.Option.{slice_get_within}
 use Rattle.calculus.specs.declared.sort.Sort.{Sort}
 use Rattle.calculus.specs.declared.sort.Sort.TheVariants.{TermSort, MarkSort, StringSort}
 use Rattle.std.proofs.lemmas.List.{drop-map, take-map, take_rest}
+use Rattle.plain_laws.proofs.Every.{all-at, all-weaken}
 use Rattle.store_theory.specs.Bindings.{IsEnd, KeepsMarks}
 use Rattle.calculus.specs.Choices.{Choice}
 use Rattle.store_theory.specs.Stores.{EndsAt, IsGood, Store, TrailMark, GammaCell, cells_bound_by, cut_at, has_sort_at, names_below}
 use Rattle.calculus.specs.Syntax.{Problem}
 use Rattle.store_theory.specs.Systems.{CellAtom, has_label_sort_at, is_gamma_cell, is_label}
-use Rattle.calculus.proofs.PlaceLists.{all-at}
 use Rattle.store_theory.proofs.StoreLaws.{length-bound}
 use Rattle.search_theory.specs.Matrix.{MatrixClause}
 use Rattle.search_theory.specs.States.{atom_is_below, choice_is_below}
-use Rattle.search_theory.proofs.BelowLaws.{all-weaken, choice-more}
+use Rattle.search_theory.proofs.BelowLaws.{choice-more}
 use Rattle.search_theory.proofs.SolvingLaws.{system-parts}
 use Rattle.search_theory.proofs.SpareLaws.{cell-sorted}
 use Rattle.term_store.specs.ClauseView.{the_atom}

@@ -1,7 +1,9 @@
 -- The closings of a tree's goals, which are read off from the last choice to the first one, have the choices of its steps.
-use Rattle.std.proofs.Common.{◌≡◌, ◌+◌, ◌-◌, ◌<◌, ◌≤◌, ℕ, zero, suc, List, [], ◌∷◌, ◌++◌, drop, length, map, refl, sym, ◌∙◌, ap, ap₂, subst, Option, None, Some, option_and_then, option_map, slice_get, arith, append_assoc, append-nil}
+use Rattle.std.proofs.Common.{◌≡◌, ◌+◌, ◌-◌, ◌<◌, ◌≤◌, ℕ, zero, suc, List, [], ◌∷◌, ◌++◌, drop, length, map, refl, sym, ◌∙◌, ap, ap₂, subst, Option, None, Some, option_map, slice_get, arith, append_assoc, append-nil}
 use Rattle.std.specs.List.{AllByRecursion}
 use Rattle.std.proofs.lemmas.List.{length-append, map-append}
+use Rattle.plain_laws.proofs.Places.{drop-there}
+use Rattle.plain_laws.proofs.Options.{then-some}
 use Rattle.calculus.specs.Choices.{Choice, Growth, GroundChoice, choices_below, choices_of, choices_of_all, extension, grow, grow_at, growth_of, after_start, ground_choices, reduction, start}
 use Rattle.calculus.specs.Lists.{closings_tree}
 use Rattle.calculus.specs.Syntax.{Problem}
@@ -26,7 +28,6 @@ use Rattle.search_tree.specs.declared.tree.Copied.{Copied}
 use Rattle.search_tree.specs.declared.tree.Goal.{Goal}
 use Rattle.search_tree.specs.declared.tree.Step.{Step}
 use Rattle.search_tree.specs.declared.tree.Step.TheVariants.{Start, Reduce, Extend}
-use Rattle.search_tree.proofs.Places.{drop-there}
 use Rattle.search_tree.proofs.RunningLaws.{running-ground}
 
 -- ---- the stack
@@ -121,10 +122,6 @@ pub started-inner : (steps others : List Step) (c : Copied) → IsStartedBy step
 started-inner steps others c e h = subst IsStarted e h
 
 -- ---- the steps of a state
-
-then-some : {A : Type 0} (f : A → Option A) (o : Option A) (y : A) → option_and_then f o ≡ Some y → (x : A) × (o ≡ Some x) × (f x ≡ Some y)
-then-some f None y e = cc e
-then-some f (Some x) y e = (x, refl, e)
 
 grown-inner : (P : Problem) (m : List MatrixClause) (σ : Solution) (steps : List Step) (x y : Growth) → grow P (map (choice_at σ) (map (the_step m) steps)) x ≡ Some y → AllByRecursion IsInner steps
 grown-inner P m σ [] x y e = tt

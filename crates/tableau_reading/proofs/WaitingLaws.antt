@@ -1,13 +1,12 @@
 -- Cells that wait are ever lighter, so no cell waits for itself, and each that was asked for is made when none waits any more.
 use Rattle.std.proofs.Common.{◌≡◌, ◌⊎◌, ◌+◌, ◌<◌, ◌≤◌, ℕ, zero, suc, List, [], ◌∷◌, ◌++◌, Bool, true, false, length, set, refl, sym, ◌∙◌, ap, subst, inl, inr, Option, None, Some, slice_get, arith}
+use Rattle.plain_laws.proofs.Every.{each-parts, each-push}
 use Rattle.calculus.specs.declared.sort.Sort.TheVariants.{TermSort, MarkSort, StringSort}
 use Rattle.calculus.specs.Ground as tree
 use Rattle.calculus.specs.Sizes.{g_term_size, g_terms_size, mark_size, mark_list_size, values_size}
 use Rattle.store_theory.specs.Bindings.{IsEnd}
 use Rattle.store_theory.specs.Stores.{Cell, variable, fun_cell, eigen_cell, new_cell, string_cell, is_bound, Store, CellValue, a_term, a_mark, a_string, Solution, cons_term, terms_at, cons_value, values_at, cons_mark, marks_at, join_label, label_at}
 use Rattle.store_theory.proofs.SolutionLaws.{ends-same}
-use Rattle.search_theory.proofs.ExploreLaws.{all-more}
-use Rattle.search_theory.proofs.SystemLaws.{all-apart}
 use Rattle.term_store.specs.declared.cell.Ref.{Ref}
 use Rattle.formula_core.specs.GroundLists.{no_list}
 use Rattle.tableau_reading.specs.Grounds.{AreSparesAt, HasSparesAt, IsBegun, IsGroundOf, IsReading, IsSpareAt, Needs, home_of, needs_of, or_nothing}
@@ -184,12 +183,12 @@ falling-last : (σ : Solution) (xs : List Ref) (x : Ref) → AreFalling σ (xs +
 falling-last σ [] x h = (tt, tt)
 falling-last σ (y ∷ xs) x h =
     let p = falling-last σ xs x h.1 in
-    let q = all-apart (λ (r : Ref). weight (σ r.0) < weight (σ y.0)) xs (x ∷ []) h.0 in
+    let q = each-parts (λ (r : Ref). weight (σ r.0) < weight (σ y.0)) xs (x ∷ []) h.0 in
     ((q.0, p.0), (q.1.0, p.1))
 
 falling-more : (σ : Solution) (xs : List Ref) (x : Ref) → AreFalling σ xs → AreHeavier σ (weight (σ x.0)) xs → AreFalling σ (xs ++ x ∷ [])
 falling-more σ [] x h k = (tt, tt)
-falling-more σ (y ∷ xs) x h k = (all-more (λ (r : Ref). weight (σ r.0) < weight (σ y.0)) xs x h.0 k.0, falling-more σ xs x h.1 k.1)
+falling-more σ (y ∷ xs) x h k = (each-push (λ (r : Ref). weight (σ r.0) < weight (σ y.0)) xs x h.0 k.0, falling-more σ xs x h.1 k.1)
 
 heavier-there : (σ : Solution) (n k : ℕ) (xs : List Ref) → AreHeavier σ n xs → Waits xs k → n < weight (σ k)
 heavier-there σ n k [] h q = absurd q
@@ -293,7 +292,7 @@ pub waits-asked : (s : Store) (h : Homes) (g new : Grounds) (xs ys zs : List Ref
 waits-asked s h g new xs ys zs top part w made asked e f l = λ σ sp.
     let v = w σ sp in
     let p = falling-last σ xs top v.falling in
-    let heavy : AreHeavier σ (weight (σ part.0)) (xs ++ top ∷ []) = all-more (λ (r : Ref). weight (σ part.0) < weight (σ r.0)) xs top (lighter-weaken σ (weight (σ part.0)) (weight (σ top.0)) xs (l σ sp) p.1) (l σ sp) in
+    let heavy : AreHeavier σ (weight (σ part.0)) (xs ++ top ∷ []) = each-push (λ (r : Ref). weight (σ part.0) < weight (σ r.0)) xs top (lighter-weaken σ (weight (σ part.0)) (weight (σ top.0)) xs (l σ sp) p.1) (l σ sp) in
     subst (AreWaiting σ new) (sym (f ∙ ap (λ rs. rs ++ part ∷ []) e)) (record {
       falling = falling-more σ (xs ++ top ∷ []) part v.falling heavy;
       known = λ k a. (elim (set-at g.asked.items part.0 k true true (sym (ap (λ rs. slice_get rs k) asked) ∙ a)) [

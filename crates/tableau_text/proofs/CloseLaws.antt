@@ -1,7 +1,8 @@
 -- The item of a list that closes.
 use Rattle.std.specs.Prelude.{Vec}
 use Rattle.std.specs.declared.alloc.Global.{Global}
-use Rattle.std.proofs.Common.{◌≡◌, ℕ, List, [], ◌∷◌, suc, length, map, refl, sym, ◌∙◌, ap, subst}
+use Rattle.std.proofs.Common.{◌≡◌, ℕ, List, [], length, map, refl, sym, ◌∙◌, subst}
+use Rattle.plain_laws.proofs.Lists.{map-length}
 use Rattle.calculus.specs.declared.symbol.SymbolClass.TheVariants.{Function}
 use Rattle.calculus.specs.Syntax.{Symbol}
 use Rattle.calculus.specs.Ground.{marks_tree, values_tree}
@@ -27,22 +28,18 @@ use Rattle.tableau_text.specs.declared.open_list.OpenList.{OpenList}
 use Rattle.tableau_text.specs.declared.open_list.OpenList.TheVariants as lists
 use Rattle.tableau_text.proofs.OpenLaws.{terms-items, marks-items, values-items}
 
-map-count : {A B : Type 0} (f : A → B) (xs : List A) → length (map f xs) ≡ length xs
-map-count f [] = refl
-map-count f (x ∷ xs) = ap (λ n. suc n) (map-count f xs)
-
 pub args-made : (S : List Symbol) (a b : List GroundList) (name : List ℕ) (terms : List GroundTerm) (arity : ℕ) (f : SymbolId) (n : GroundTerms) → arity ≡ length terms → IsFunction S f.0 name arity → the_terms b n ≡ map (the_g_term a) terms
     → Made S (of_args name) (map (λ t. a_term (the_g_term a t)) terms) (the_item b (item.Term (term.Fun f n)))
 args-made S a b name terms arity f n e is same = (
   f.0,
   g_terms_tree (the_terms b n),
-  subst (IsFunction S f.0 name) (e ∙ sym (map-count (λ t. a_term (the_g_term a t)) terms)) is,
+  subst (IsFunction S f.0 name) (e ∙ sym (map-length (λ t. a_term (the_g_term a t)) terms)) is,
   terms-items a terms (the_terms b n) same,
   refl,
 )
 
 pub no-args_made : (S : List Symbol) (a : List GroundList) (name : List ℕ) (terms : List GroundTerm) (arity : ℕ) → arity ≡ length terms → NoFunction S name arity → (j : Item) → ¬ Made S (of_args name) (map (λ t. a_term (the_g_term a t)) terms) j
-no-args_made S a name terms arity e none j m = none (contains-at S m.0 (record { name = name; class = Function; arity = arity }) (subst (IsFunction S m.0 name) (map-count (λ t. a_term (the_g_term a t)) terms ∙ sym e) m.2))
+no-args_made S a name terms arity e none j m = none (contains-at S m.0 (record { name = name; class = Function; arity = arity }) (subst (IsFunction S m.0 name) (map-length (λ t. a_term (the_g_term a t)) terms ∙ sym e) m.2))
 
 -- no term of a list that closes
 pub no-args_close : (S : List Symbol) (a : List GroundList) (list : OpenList) (name : List ℕ) (v : Vec GroundTerm Global) (terms : List GroundTerm) → list ≡ lists.Args name v → terms ≡ v.items → ((j : Item) → ¬ Made S (of_args name) (map (λ t. a_term (the_g_term a t)) terms) j)

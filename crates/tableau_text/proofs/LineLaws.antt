@@ -1,6 +1,8 @@
 -- Reading lines into a table that grows, and how many there are.
 use Rattle.std.proofs.Common.{◌≡◌, ℕ, suc, ◌+◌, ◌≤◌, List, [], ◌∷◌, ◌++◌, length, map, drop, Bool, true, false, refl, sym, ◌∙◌, ap, subst, arith, length-append, flat_map}
 use Rattle.std.specs.List.{AllByRecursion}
+use Rattle.plain_laws.proofs.Every.{each-push}
+use Rattle.plain_laws.proofs.Lists.{map-length}
 use Rattle.calculus.specs.declared.fault.TableauFault.{TableauFault}
 use Rattle.calculus.specs.Syntax.{Problem}
 use Rattle.calculus.specs.DerivationText.{line_bytes}
@@ -17,7 +19,7 @@ use Rattle.tableau_text.specs.Reading.{IsLineRead, moves_by}
 use Rattle.tableau_text.specs.declared.moves.Chosen.{Chosen}
 use Rattle.tableau_text.specs.declared.moves.Move.{Move}
 use Rattle.tableau_text.specs.declared.moves.Move.TheVariants.{Reduction, Extension}
-use Rattle.tableau_text.proofs.OpenLaws.{all-last, map-last}
+use Rattle.tableau_text.proofs.OpenLaws.{map-last}
 use Rattle.tableau_text.proofs.MoveFaults.{lines_read, move-read, end-read}
 
 -- ---- the table grows
@@ -64,10 +66,6 @@ few-lines P bytes place x done r =
   where
     by : (a b c d : ℕ) → a ≤ b → d ≡ b + c → a ≤ d
     by a b c d e f = omega arith
-
-map-length : {A B : Type 0} (f : A → B) (xs : List A) → length (map f xs) ≡ length xs
-map-length f [] = refl
-map-length f (x ∷ xs) = ap suc (map-length f xs)
 
 lines-more : (P : Problem) (x : tree.Moves) (m : tree.Move) → lines_read P (with_move x m) false ≡ suc (lines_read P x false)
 lines-more P x m =
@@ -117,7 +115,7 @@ line-step P bytes limit a b start ms new place to line false count r g h l =
     subst (λ k. IsReadBy P bytes limit b start k to false (count + 1)) (sym l.1) (record {
       read = subst (λ x. IsReadTo P bytes to x false) (sym stated) (move-read P bytes place to (moves_by limit b start ms) (the_move b m) line before h l.2);
       start_normal = values-normal a b g start.values r.start_normal;
-      moves_normal = all-last (IsNormalMove b) ms m (moves-normal a b g ms r.moves_normal) l.3;
+      moves_normal = each-push (IsNormalMove b) ms m (moves-normal a b g ms r.moves_normal) l.3;
       counted = one count _ r.counted ∙ ap (λ x. suc (lines_read P x false)) (sym same) ∙ sym (lines-more P (moves_by limit b start ms) (the_move b m)) ∙ ap (λ x. lines_read P x false) (sym stated);
     })
   where

@@ -4,6 +4,8 @@ use Rattle.std.specs.List.{list_all, list_any}
 use Rattle.std.proofs.Math.Seq.{take-append_seam}
 use Rattle.std.proofs.lemmas.Bool.{and_from, and_parts}
 use Rattle.std.proofs.lemmas.List.Folds.{list_all-append}
+use Rattle.std.proofs.lemmas.List.{append_cancel_left}
+use Rattle.plain_laws.proofs.Lists.{first-item}
 use Rattle.calculus.specs.declared.fault.TableauFault.{TableauFault}
 use Rattle.calculus.specs.declared.fault.TableauFault.TheVariants as fault
 use Rattle.calculus.specs.Syntax.{Symbol, Problem}
@@ -54,16 +56,6 @@ version = codes "leancop tableau 1"
 abbrev blank : ℕ → Moves
 blank n = record { limit = n; start = record { sides = []; values = [] }; moves = [] }
 
-cancel : (ks xs ys : List (List ℕ)) → ks ++ xs ≡ ks ++ ys → xs ≡ ys
-cancel [] xs ys e = e
-cancel (k ∷ ks) xs ys e = cancel ks xs ys (tail-eq k k (ks ++ xs) (ks ++ ys) e)
-  where
-    tail-eq : (x y : List ℕ) (xs ys : List (List ℕ)) → x ∷ xs ≡ y ∷ ys → xs ≡ ys
-    tail-eq x y xs ys e = cc
-
-head-eq : (x y : List ℕ) (xs ys : List (List ℕ)) → x ∷ xs ≡ y ∷ ys → x ≡ y
-head-eq x y xs ys e = cc
-
 record HasLine (P : Problem) (seen : List (List ℕ)) (x : Moves) (line : List ℕ) : Type 0 where
   rest : List (List ℕ)
   all : moves_lines P x ≡ seen ++ line ∷ rest
@@ -81,14 +73,14 @@ head-fault P w bytes seen place line r has none =
 
     next : (x : Moves) → IsTrue (are_written P x) → (l : List ℕ) (rest more : List (List ℕ)) → moves_lines P x ≡ seen ++ l ∷ rest → whole_lines (drop place bytes) ≡ l ∷ more → ⊥
     next x h l rest more same first =
-        let k = head-eq l (line x) rest (has x).rest (cancel seen (l ∷ rest) (line x ∷ (has x).rest) (sym same ∙ (has x).all)) in
+        let k = first-item l (line x) rest (has x).rest (append_cancel_left seen (l ∷ rest) (line x ∷ (has x).rest) (sym same ∙ (has x).all)) in
         none x h more (first ∙ ap (λ (j : List ℕ). j ∷ more) k)
 
     no_line : (l : List ℕ) (rest : List (List ℕ)) → l ∷ rest ≡ [] → ⊥
     no_line l rest e = cc
 
     done : (x : Moves) → IsTrue (are_written P x) → bytes ≡ flat_map line_bytes (moves_lines P x) → moves_lines P x ≡ seen → ⊥
-    done x h t same = no_line (line x) (has x).rest (cancel seen (line x ∷ (has x).rest) [] (sym (has x).all ∙ same ∙ sym (append-nil seen)))
+    done x h t same = no_line (line x) (has x).rest (append_cancel_left seen (line x ∷ (has x).rest) [] (sym (has x).all ∙ same ∙ sym (append-nil seen)))
 
 pub fault-first : (P : Problem) → IsTrue (is_problem P) → (bytes : List ℕ) → IsHeadFault (codes "leancop tableau 1") P bytes First → IsWrongTableauText P bytes (tableau_rejected 1 fault.Version)
 fault-first P w bytes h = head-fault P w bytes [] h.place (λ x. version) h.before (λ x. record { rest = _; all = refl }) (λ x p more. h.wrong version more refl)

@@ -2,11 +2,11 @@
 use Rattle.std.proofs.Common.{◌≡◌, ℕ, List, [], ◌∷◌, ◌++◌, map, true, IsTrue, Some, refl, sym, ◌∙◌, ap, append_assoc, flat_map, codes}
 use Rattle.std.specs.List.{list_all}
 use Rattle.std.proofs.lemmas.Bool.{and_from, and_parts}
+use Rattle.plain_laws.proofs.Places.{differ-at}
 use Rattle.calculus.specs.Syntax.{Symbol, Problem}
 use Rattle.calculus.specs.Problems.{are_distinct, is_problem}
 use Rattle.calculus.specs.TableauText.{Chosen, Move, reduction, extension, Moves, chosen_text, move_line, chosen_is_written, move_is_written, are_written, tableau_head, moves_lines, moves_text}
 use Rattle.calculus.specs.DerivationText.{line_bytes}
-use Rattle.calculus.proofs.DerivationTextLaws.{clash}
 use Rattle.calculus.proofs.TableauTextUnique.{moves-unique}
 use Rattle.logic_rules.proofs.ProblemFacts.{kept}
 use Rattle.text_lines.proofs.StagedLines.{IsKind, Kind, run}
@@ -63,21 +63,21 @@ move-one P d m n hm hn e =
     first e = cc
 
 start-no_move : (S : List Symbol) (i : Chosen) (m : Move) → line_text S (of_start i) ≡ move_line S m → ⊥
-start-no_move S i (reduction k) e = clash _ _ 0 e refl
-start-no_move S i (extension k j) e = clash _ _ 0 e refl
+start-no_move S i (reduction k) e = differ-at _ _ 0 e refl
+start-no_move S i (extension k j) e = differ-at _ _ 0 e refl
 
 end-no_move : (S : List Symbol) (m : Move) → codes "end" ≡ move_line S m → ⊥
-end-no_move S (reduction k) e = clash _ _ 0 e refl
-end-no_move S (extension k j) e = clash _ _ 1 e refl
+end-no_move S (reduction k) e = differ-at _ _ 0 e refl
+end-no_move S (extension k j) e = differ-at _ _ 1 e refl
 
 line-one : (P : Problem) → IsTrue (are_distinct P.symbols) → (x y : Line) → IsTrue (line_is_written P.symbols x) → IsTrue (line_is_written P.symbols y) → line_text P.symbols x ≡ line_text P.symbols y → x ≡ y
 line-one P d (of_start i) (of_start j) hx hy e = ap of_start (start-one P d i j hx hy e)
 line-one P d (of_start i) (of_move m) hx hy e = absurd (start-no_move P.symbols i m e)
-line-one P d (of_start i) last hx hy e = absurd (clash _ _ 0 e refl)
+line-one P d (of_start i) last hx hy e = absurd (differ-at _ _ 0 e refl)
 line-one P d (of_move m) (of_start j) hx hy e = absurd (start-no_move P.symbols j m (sym e))
 line-one P d (of_move m) (of_move n) hx hy e = ap of_move (move-one P d m n hx hy e)
 line-one P d (of_move m) last hx hy e = absurd (end-no_move P.symbols m (sym e))
-line-one P d last (of_start j) hx hy e = absurd (clash _ _ 0 e refl)
+line-one P d last (of_start j) hx hy e = absurd (differ-at _ _ 0 e refl)
 line-one P d last (of_move m) hx hy e = absurd (end-no_move P.symbols m e)
 line-one P d last last hx hy e = refl
 

@@ -1,6 +1,8 @@
 -- Open lists: a stack of them, items that are put in them, and tables that grow meanwhile.
 use Rattle.std.proofs.Common.{◌≡◌, List, [], ◌∷◌, ◌++◌, map, refl, sym, ◌∙◌, ap, subst}
 use Rattle.std.specs.List.{AllByRecursion}
+use Rattle.plain_laws.proofs.Every.{each-last, each-push, each-weaken}
+use Rattle.plain_laws.proofs.Lists.{map-composed}
 use Rattle.calculus.specs.Ground as tree
 use Rattle.calculus.specs.Ground.{marks_tree, values_tree}
 use Rattle.calculus.specs.Lists.{g_terms_tree}
@@ -23,26 +25,10 @@ map-last {A} {B} f xs ys x e = ap (map f) e ∙ by xs
     by [] = refl
     by (y ∷ xs) = ap (λ l. f y ∷ l) (by xs)
 
-pub all-last : {A : Type 0} (P : A → Type 0) (xs : List A) (x : A) → AllByRecursion P xs → P x → AllByRecursion P (xs ++ x ∷ [])
-all-last P [] x h k = (k, tt)
-all-last P (y ∷ xs) x h k = (h.0, all-last P xs x h.1 k)
-
-pub all-but_last : {A : Type 0} (P : A → Type 0) (xs : List A) (x : A) → AllByRecursion P (xs ++ x ∷ []) → AllByRecursion P xs × P x
-all-but_last P [] x h = (tt, h.0)
-all-but_last P (y ∷ xs) x h = let p = all-but_last P xs x h.1 in ((h.0, p.0), p.1)
-
 -- what is the same for each item of a list
 map-same : {A B : Type 0} (P : A → Type 0) (f g : A → B) → ((x : A) → P x → f x ≡ g x) → (xs : List A) → AllByRecursion P xs → map f xs ≡ map g xs
 map-same P f g e [] h = refl
 map-same P f g e (x ∷ xs) h = let a = e x h.0 in let b = map-same P f g e xs h.1 in (λ i. a i ∷ b i)
-
-all-same : {A : Type 0} (P Q : A → Type 0) → ((x : A) → P x → Q x) → (xs : List A) → AllByRecursion P xs → AllByRecursion Q xs
-all-same P Q e [] h = tt
-all-same P Q e (x ∷ xs) h = (e x h.0, all-same P Q e xs h.1)
-
-map-both : {A B C : Type 0} (f : A → B) (g : B → C) (xs : List A) → map (λ x. g (f x)) xs ≡ map g (map f xs)
-map-both f g [] = refl
-map-both f g (x ∷ xs) = ap (λ l. g (f x) ∷ l) (map-both f g xs)
 
 -- ---- a stack
 
@@ -54,10 +40,10 @@ pub frames-last : (ls : List GroundList) (stack new : List OpenList) (l : OpenLi
 frames-last ls stack new l e = ap (frames ls) e ∙ over-last ls [] stack l
 
 pub normal-last : (ls : List GroundList) (stack new : List OpenList) (l : OpenList) → new ≡ stack ++ l ∷ [] → AreNormalLists ls stack → IsNormalList ls l → AreNormalLists ls new
-normal-last ls stack new l e h k = subst (AreNormalLists ls) (sym e) (all-last (IsNormalList ls) stack l h k)
+normal-last ls stack new l e h k = subst (AreNormalLists ls) (sym e) (each-push (IsNormalList ls) stack l h k)
 
 pub normal-rest : (ls : List GroundList) (stack new : List OpenList) (l : OpenList) → new ≡ stack ++ l ∷ [] → AreNormalLists ls new → AreNormalLists ls stack × IsNormalList ls l
-normal-rest ls stack new l e h = all-but_last (IsNormalList ls) stack l (subst (AreNormalLists ls) e h)
+normal-rest ls stack new l e h = each-last (IsNormalList ls) stack l (subst (AreNormalLists ls) e h)
 
 -- ---- a table that grows
 
@@ -71,12 +57,12 @@ module _ (a b : List GroundList) (g : IsGrown a b) where
   items-grown (lists.Root vs) h = map-same (IsNormalValue a) _ _ (λ t k. ap of_value (value-grown a b g t k)) vs.items h
 
   list-normal : (l : OpenList) → IsNormalList a l → IsNormalList b l
-  list-normal (lists.Args name ts) h = all-same (IsNormalTerm a) (IsNormalTerm b) (term-normal-grown a b g) ts.items h
-  list-normal (lists.Own k ms) h = all-same (IsNormalMark a) (IsNormalMark b) (mark-normal-grown a b g) ms.items h
-  list-normal (lists.Steps ms) h = all-same (IsNormalMark a) (IsNormalMark b) (mark-normal-grown a b g) ms.items h
-  list-normal (lists.Eigen p vs) h = all-same (IsNormalValue a) (IsNormalValue b) (value-normal-grown a b g) vs.items h
-  list-normal (lists.New p vs) h = all-same (IsNormalValue a) (IsNormalValue b) (value-normal-grown a b g) vs.items h
-  list-normal (lists.Root vs) h = all-same (IsNormalValue a) (IsNormalValue b) (value-normal-grown a b g) vs.items h
+  list-normal (lists.Args name ts) h = each-weaken (IsNormalTerm a) (IsNormalTerm b) (term-normal-grown a b g) ts.items h
+  list-normal (lists.Own k ms) h = each-weaken (IsNormalMark a) (IsNormalMark b) (mark-normal-grown a b g) ms.items h
+  list-normal (lists.Steps ms) h = each-weaken (IsNormalMark a) (IsNormalMark b) (mark-normal-grown a b g) ms.items h
+  list-normal (lists.Eigen p vs) h = each-weaken (IsNormalValue a) (IsNormalValue b) (value-normal-grown a b g) vs.items h
+  list-normal (lists.New p vs) h = each-weaken (IsNormalValue a) (IsNormalValue b) (value-normal-grown a b g) vs.items h
+  list-normal (lists.Root vs) h = each-weaken (IsNormalValue a) (IsNormalValue b) (value-normal-grown a b g) vs.items h
 
   frame-grown : (l : OpenList) → IsNormalList a l → the_frame b l ≡ the_frame a l
   frame-grown l h = let e = items-grown l h in (λ i. record { head = the_head l; items = e i })
@@ -89,7 +75,7 @@ module _ (a b : List GroundList) (g : IsGrown a b) where
   frames-grown stack h = over-grown [] stack h
 
   pub lists-normal : (stack : List OpenList) → AreNormalLists a stack → AreNormalLists b stack
-  lists-normal stack h = all-same (IsNormalList a) (IsNormalList b) list-normal stack h
+  lists-normal stack h = each-weaken (IsNormalList a) (IsNormalList b) list-normal stack h
 
 -- ---- the items of a list
 
@@ -106,10 +92,10 @@ items-values [] = refl
 items-values (v ∷ vs) = ap (λ l. of_value v ∷ l) (items-values vs)
 
 pub terms-items : (ls : List GroundList) (ts : List GroundTerm) (added : List tree.GroundTerm) → added ≡ map (the_g_term ls) ts → map (λ t. a_term (the_g_term ls t)) ts ≡ of_terms (g_terms_tree added)
-terms-items ls ts added e = map-both (the_g_term ls) a_term ts ∙ ap (map a_term) (sym e) ∙ items-terms added
+terms-items ls ts added e = map-composed (the_g_term ls) a_term ts ∙ ap (map a_term) (sym e) ∙ items-terms added
 
 pub marks-items : (ls : List GroundList) (ms : List GroundMark) (added : List tree.GroundMark) → added ≡ map (the_mark ls) ms → map (λ m. a_mark (the_mark ls m)) ms ≡ of_marks (marks_tree added)
-marks-items ls ms added e = map-both (the_mark ls) a_mark ms ∙ ap (map a_mark) (sym e) ∙ items-marks added
+marks-items ls ms added e = map-composed (the_mark ls) a_mark ms ∙ ap (map a_mark) (sym e) ∙ items-marks added
 
 pub values-items : (ls : List GroundList) (vs : List Value) (added : List tree.Value) → added ≡ map (the_value ls) vs → map (λ v. of_value (the_value ls v)) vs ≡ of_values (values_tree added)
-values-items ls vs added e = map-both (the_value ls) of_value vs ∙ ap (map of_value) (sym e) ∙ items-values added
+values-items ls vs added e = map-composed (the_value ls) of_value vs ∙ ap (map of_value) (sym e) ∙ items-values added

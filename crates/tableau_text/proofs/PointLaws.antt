@@ -57,7 +57,7 @@ fits-good S (of_eigen n) (all_values vs) f g = absurd (false≢true f)
 fits-good S (of_new n) (all_values vs) f g = absurd (false≢true f)
 fits-good S of_root (all_values vs) f g = absurd (false≢true f)
 
-good-item : (S : List Symbol) (i : Item) → IsTrue (item_is_written S i) → IsTrue (is_good S i)
+pub good-item : (S : List Symbol) (i : Item) → IsTrue (item_is_written S i) → IsTrue (is_good S i)
 good-item S (a_term t) g = g
 good-item S (a_mark m) g = g
 good-item S (a_string w) g = g

@@ -3,6 +3,7 @@ use Rattle.std.specs.Prelude.{Vec}
 use Rattle.std.specs.declared.alloc.Global.{Global}
 use Rattle.std.proofs.Common.{◌≡◌, ℕ, List, [], ◌∷◌, ◌++◌, refl, subst, sym}
 use Rattle.std.specs.List.{AllByRecursion}
+use Rattle.plain_laws.proofs.Every.{each-push}
 use Rattle.cop_base.specs.declared.PosId.{PosId}
 use Rattle.formula_core.specs.GroundLists.{IsNormalTerm, IsNormalMark, IsNormalValue}
 use Rattle.formula_core.specs.declared.ground.GroundLabel.{GroundLabel}
@@ -13,10 +14,10 @@ use Rattle.formula_core.specs.declared.ground.Value.TheVariants as value
 use Rattle.tableau_text.specs.OpenView.{IsPushed}
 use Rattle.tableau_text.specs.declared.item.TableItem.TheVariants as item
 use Rattle.tableau_text.specs.declared.open_list.OpenList.TheVariants as lists
-use Rattle.tableau_text.proofs.OpenLaws.{all-last, map-last}
+use Rattle.tableau_text.proofs.OpenLaws.{map-last}
 
 normal-with : {A : Type 0} (P : A → Type 0) (xs ys : List A) (x : A) → ys ≡ xs ++ x ∷ [] → AllByRecursion P xs → P x → AllByRecursion P ys
-normal-with P xs ys x e h k = subst (AllByRecursion P) (sym e) (all-last P xs x h k)
+normal-with P xs ys x e h k = subst (AllByRecursion P) (sym e) (each-push P xs x h k)
 
 pub args-term : (name : List ℕ) (old new : Vec GroundTerm Global) (t : GroundTerm) → new.items ≡ old.items ++ t ∷ [] → IsPushed (lists.Args name old) (item.Term t) (lists.Args name new)
 args-term name old new t e = record { head = refl; items = λ ls. map-last _ old.items new.items t e; fit = λ ls. refl; normal = λ ls. normal-with (IsNormalTerm ls) old.items new.items t e }

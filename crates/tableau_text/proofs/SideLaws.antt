@@ -2,6 +2,7 @@
 use Rattle.std.proofs.Common.{◌≡◌, ℕ, suc, List, [], ◌∷◌, ◌++◌, length, map, Bool, true, false, ◌&&◌, ◌==◌, ◌⊎◌, inl, inr, refl, sym, ◌∙◌, ap, append_assoc, codes, decimal, arith, eqb-true}
 use Rattle.std.specs.List.{list_all}
 use Rattle.std.proofs.lemmas.Bool.{and_from, and_parts, true≢false}
+use Rattle.plain_laws.proofs.Places.{differ-at}
 use Rattle.calculus.specs.declared.sign.Side.{Side}
 use Rattle.calculus.specs.declared.sign.Side.TheVariants.{Left, Right}
 use Rattle.calculus.specs.Syntax.{Symbol}
@@ -10,21 +11,21 @@ use Rattle.calculus.specs.Text.{is_number}
 use Rattle.calculus.specs.TableauText.{Chosen, Move, reduction, extension, side_text, sides_text, chosen_text, move_line, chosen_is_written, value_is_written, values_are_written, values_text}
 use Rattle.calculus.proofs.TextLaws.{cons-head, cons-tail, decimal-split}
 use Rattle.calculus.proofs.TermTextLaws.{small-number}
-use Rattle.calculus.proofs.DerivationTextLaws.{clash, cancel}
+use Rattle.calculus.proofs.DerivationTextLaws.{cancel}
 use Rattle.text_lines.specs.Spelling.{IsNumber, IsNumberBefore}
 use Rattle.tableau_text.specs.MoveLines.{IsChosenText, IsMoveLine}
 use Rattle.tableau_text.specs.Points.{IsValuesText}
 use Rattle.tableau_text.specs.Sides.{NoSide, AreLettersOn, AreSidesOn, IsPlaceOn, IsExtensionText}
 
 no-space : (s : Side) (r q : List ℕ) → 32 ∷ r ≡ side_text s ∷ q → ⊥
-no-space Left r q e = clash _ _ 0 e refl
-no-space Right r q e = clash _ _ 0 e refl
+no-space Left r q e = differ-at _ _ 0 e refl
+no-space Right r q e = differ-at _ _ 0 e refl
 
 one-side : (s t : Side) (r q : List ℕ) → side_text s ∷ r ≡ side_text t ∷ q → (s ≡ t) × (r ≡ q)
 one-side Left Left r q e = (refl, cons-tail e)
 one-side Right Right r q e = (refl, cons-tail e)
-one-side Left Right r q e = absurd (clash _ _ 0 e refl)
-one-side Right Left r q e = absurd (clash _ _ 0 e refl)
+one-side Left Right r q e = absurd (differ-at _ _ 0 e refl)
+one-side Right Left r q e = absurd (differ-at _ _ 0 e refl)
 
 -- letters that were read, and those before a space
 letters-one : (ss ts : List Side) (rest r : List ℕ) → NoSide rest → map side_text ss ++ rest ≡ map side_text ts ++ 32 ∷ r → (ss ≡ ts) × (rest ≡ 32 ∷ r)
@@ -75,8 +76,8 @@ no-sides text dash ss after h why (t ∷ ts) r e = by why
     by (inr n) = n r same.1
 
 dash-side : (t : Side) (r q : List ℕ) → 45 ∷ r ≡ side_text t ∷ q → ⊥
-dash-side Left r q e = clash _ _ 0 e refl
-dash-side Right r q e = clash _ _ 0 e refl
+dash-side Left r q e = differ-at _ _ 0 e refl
+dash-side Right r q e = differ-at _ _ 0 e refl
 
 letters-split : (xs ys : List Side) (r s : List ℕ) → map side_text xs ++ 32 ∷ r ≡ map side_text ys ++ 32 ∷ s → (xs ≡ ys) × (r ≡ s)
 letters-split xs ys r s e = let p = letters-one xs ys (32 ∷ r) s (λ t more f. no-space t r more f) e in (p.0, cons-tail p.1)
@@ -156,7 +157,7 @@ pub extension-line : (S : List Symbol) (line rest : List ℕ) (k : ℕ) (i : Cho
 extension-line S line rest k i e h = record { written = and_from (is_number k) (chosen_is_written S i) h.small h.written; same = e ∙ ap (λ l. codes "extend " ++ l) h.text ∙ extension-text S k i }
 
 pub no-extension : (S : List Symbol) (line rest : List ℕ) → line ≡ codes "extend " ++ rest → ((k : ℕ) (i : Chosen) → ¬ IsExtensionText S rest k i) → (m : Move) → ¬ IsMoveLine S line m
-no-extension S line rest e none (reduction k) h = clash _ _ 0 (sym e ∙ h.same) refl
+no-extension S line rest e none (reduction k) h = differ-at _ _ 0 (sym e ∙ h.same) refl
 no-extension S line rest e none (extension k i) h =
     let p = and_parts (is_number k) (chosen_is_written S i) h.written in
     none k i (record { small = p.0; written = p.1; text = cancel (codes "extend ") rest (decimal k ++ 32 ∷ chosen_text S i) (sym e ∙ h.same ∙ sym (extension-text S k i)) })

@@ -1,7 +1,9 @@
 -- How items begin: each has one token, and what follows the token tells how it goes on.
-use Rattle.std.proofs.Common.{◌≡◌, ℕ, zero, suc, List, [], ◌∷◌, ◌++◌, length, Bool, true, false, ◌==◌, ◌⊎◌, IsTrue, Some, refl, sym, ◌∙◌, ap, subst, append_assoc, slice_get, codes, decimal, flat_map, if◌then◌else◌, inl, inr}
+use Rattle.std.proofs.Common.{◌≡◌, ℕ, List, [], ◌∷◌, ◌++◌, length, Bool, true, false, ◌==◌, ◌⊎◌, IsTrue, refl, sym, ◌∙◌, ap, subst, append_assoc, codes, decimal, flat_map, if◌then◌else◌, inl, inr}
 use Rattle.std.specs.List.{list_all}
 use Rattle.std.proofs.lemmas.Bool.{true≢false, false≢true, and_parts, and_from}
+use Rattle.plain_laws.proofs.Places.{differ-at}
+use Rattle.formula_text.proofs.Heads.{list_all-at}
 use Rattle.calculus.specs.declared.symbol.SymbolClass.TheVariants.{Function}
 use Rattle.calculus.specs.Syntax.{Symbol}
 use Rattle.calculus.specs.Skolem.{has_function}
@@ -11,7 +13,7 @@ use Rattle.calculus.specs.Text.{StopsAt, is_digit, is_lower, is_lower_word, is_n
 use Rattle.calculus.specs.TableauText.{ground_args_text, marks_text, values_text, grounds_are_written, marks_are_written, values_are_written}
 use Rattle.calculus.proofs.TextLaws.{cons-head, cons-tail, decimal-split, name-split, name-dollar}
 use Rattle.calculus.proofs.TermTextLaws.{same-symbol, small-number}
-use Rattle.calculus.proofs.DerivationTextLaws.{clash, cancel}
+use Rattle.calculus.proofs.DerivationTextLaws.{cancel}
 use Rattle.formula_text.specs.Frames.{IsFunction, NoFunction}
 use Rattle.formula_text.proofs.Frames.{contains-at, function-has, function-text, named}
 use Rattle.tableau_text.specs.Items.{Item, a_term, a_mark, a_string, all_values, of_terms, of_marks, of_values, are_written_items, closing, Head, of_args, of_own, of_steps, of_eigen, of_new, of_root}
@@ -45,18 +47,18 @@ one-kind Eigen Eigen r s e = (refl, cancel (codes "$$e") r s e)
 one-kind New New r s e = (refl, cancel (codes "$$c") r s e)
 one-kind Constant Constant r s e = (refl, cancel (codes "$$s") r s e)
 one-kind Spare Spare r s e = (refl, cancel (codes "$$d") r s e)
-one-kind Eigen New r s e = absurd (clash _ _ 2 e refl)
-one-kind Eigen Constant r s e = absurd (clash _ _ 2 e refl)
-one-kind Eigen Spare r s e = absurd (clash _ _ 2 e refl)
-one-kind New Eigen r s e = absurd (clash _ _ 2 e refl)
-one-kind New Constant r s e = absurd (clash _ _ 2 e refl)
-one-kind New Spare r s e = absurd (clash _ _ 2 e refl)
-one-kind Constant Eigen r s e = absurd (clash _ _ 2 e refl)
-one-kind Constant New r s e = absurd (clash _ _ 2 e refl)
-one-kind Constant Spare r s e = absurd (clash _ _ 2 e refl)
-one-kind Spare Eigen r s e = absurd (clash _ _ 2 e refl)
-one-kind Spare New r s e = absurd (clash _ _ 2 e refl)
-one-kind Spare Constant r s e = absurd (clash _ _ 2 e refl)
+one-kind Eigen New r s e = absurd (differ-at _ _ 2 e refl)
+one-kind Eigen Constant r s e = absurd (differ-at _ _ 2 e refl)
+one-kind Eigen Spare r s e = absurd (differ-at _ _ 2 e refl)
+one-kind New Eigen r s e = absurd (differ-at _ _ 2 e refl)
+one-kind New Constant r s e = absurd (differ-at _ _ 2 e refl)
+one-kind New Spare r s e = absurd (differ-at _ _ 2 e refl)
+one-kind Constant Eigen r s e = absurd (differ-at _ _ 2 e refl)
+one-kind Constant New r s e = absurd (differ-at _ _ 2 e refl)
+one-kind Constant Spare r s e = absurd (differ-at _ _ 2 e refl)
+one-kind Spare Eigen r s e = absurd (differ-at _ _ 2 e refl)
+one-kind Spare New r s e = absurd (differ-at _ _ 2 e refl)
+one-kind Spare Constant r s e = absurd (differ-at _ _ 2 e refl)
 
 pub dollar-bracket : (r s : List ℕ) → 36 ∷ r ≡ 91 ∷ s → ⊥
 dollar-bracket r s e = true≢false (ap (λ k. k == 36) (cons-head e))
@@ -84,11 +86,6 @@ GoesOn S (by_number New n) j rest r = (vs : Values) × IsTrue (are_written_items
 GoesOn S (by_number Constant n) j rest r = ((j ≡ a_term (common n)) × (rest ≡ r)) ⊎ ((w : Marks) × IsTrue (are_written_items S (of_marks w)) × (j ≡ a_term (own n w)) × (rest ≡ 64 ∷ (marks_text S w ++ r)))
 GoesOn S (by_number Spare n) j rest r = (j ≡ a_mark (g_spare_mark n)) × (rest ≡ r)
 GoesOn S by_bracket j rest r = (w : Marks) × IsTrue (are_written_items S (of_marks w)) × (j ≡ a_string w) × (91 ∷ rest ≡ marks_text S w ++ r)
-
-list_all-at : (p : Symbol → Bool) (ss : List Symbol) (k : ℕ) (x : Symbol) → IsTrue (list_all p ss) → slice_get ss k ≡ Some x → IsTrue (p x)
-list_all-at p [] k x h e = absurd (cc)
-list_all-at p (s ∷ ss) zero x h e = let same : s ≡ x = cc in subst (λ y. IsTrue (p y)) same (and_parts (p s) (list_all p ss) h).0
-list_all-at p (s ∷ ss) (suc k) x h e = list_all-at p ss k x (and_parts (p s) (list_all p ss) h).1 e
 
 args-stop : (S : List Symbol) (ts : GroundTerms) (r : List ℕ) → Follows r → StopsAt is_word_byte (ground_args_text S ts ++ r)
 args-stop S no_g_terms r h = h is_word_byte refl refl refl refl

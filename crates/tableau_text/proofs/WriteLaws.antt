@@ -1,8 +1,9 @@
 -- Writing lists: their beginnings, and what is left of them.
 use Rattle.std.proofs.Common.{◌≡◌, ℕ, zero, suc, ◌≤◌, ◌<◌, List, [], ◌∷◌, ◌++◌, length, map, drop, false, IsTrue, Some, refl, sym, ◌∙◌, ap, subst, append-nil, arith, get_or, slice_get, codes}
 use Rattle.std.specs.Option.{option_map_or}
-use Rattle.std.proofs.lemmas.Bool.{and_parts, false≢true}
+use Rattle.std.proofs.lemmas.Bool.{and_parts}
 use Rattle.std.proofs.lemmas.Option.{slice_get-get_or}
+use Rattle.tableau_text.proofs.PointLaws.{good-item}
 use Rattle.calculus.specs.Syntax.{Symbol}
 use Rattle.calculus.specs.Skolem.{has_function}
 use Rattle.calculus.specs.Ground.{marks_tree, values_tree}
@@ -17,7 +18,7 @@ use Rattle.formula_core.specs.declared.ground.GroundTerm.{GroundTerm}
 use Rattle.formula_core.specs.declared.ground.GroundMark.{GroundMark}
 use Rattle.formula_core.specs.declared.ground.Value.{Value}
 use Rattle.formula_text.specs.Known.{is_named, is_named_class}
-use Rattle.tableau_text.specs.Items.{Item, a_term, a_mark, a_string, all_values, of_value, item_text, item_is_written, are_written_items, tail_text}
+use Rattle.tableau_text.specs.Items.{Item, a_term, a_mark, of_value, item_text, item_is_written, are_written_items, tail_text}
 use Rattle.tableau_text.specs.ItemView.{the_item}
 use Rattle.tableau_text.specs.Points.{is_good}
 use Rattle.tableau_text.specs.Pieces.{piece_text, piece_is_written, Wrote}
@@ -44,12 +45,6 @@ drop-end f [] ys k e h = subst (λ l. drop k l ≡ []) e (none k)
     none (suc k) = refl
 drop-end f (x ∷ xs) ys zero e h = absurd (omega arith)
 drop-end f (x ∷ xs) ys (suc k) e h = subst (λ l. drop (suc k) l ≡ []) e (drop-end f xs (map f xs) k refl (omega arith))
-
-good-item : (S : List Symbol) (i : Item) → IsTrue (item_is_written S i) → IsTrue (is_good S i)
-good-item S (a_term t) g = g
-good-item S (a_mark m) g = g
-good-item S (a_string w) g = g
-good-item S (all_values vs) g = absurd (false≢true g)
 
 module _ (S : List Symbol) (ls : List GroundList) where
   -- a further item of any list

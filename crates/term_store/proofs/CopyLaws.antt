@@ -4,6 +4,8 @@ use Rattle.std.specs.Prelude.{slice_get}
 use Rattle.std.specs.List.{list_all}
 use Rattle.std.proofs.lemmas.List.{take_all}
 use Rattle.std.proofs.lemmas.Bool.{cases_Bool, false≢true, and_parts, and_from}
+use Rattle.plain_laws.proofs.Every.{all-append}
+use Rattle.plain_laws.proofs.Places.{get-end}
 use Rattle.calculus.specs.declared.sort.Sort.{Sort}
 use Rattle.calculus.specs.declared.sort.Sort.TheVariants.{TermSort, MarkSort, StringSort}
 use Rattle.calculus.specs.Equality.{sort_eq}
@@ -11,7 +13,6 @@ use Rattle.store_theory.specs.Patterns as tree
 use Rattle.store_theory.specs.Patterns.{patterns_tree, IsCopy, AreCopies, Grows}
 use Rattle.store_theory.specs.Stores.{Cell, fun_cell, eigen_cell, new_cell, Store, has_sort_at}
 use Rattle.store_theory.specs.Bindings.{with_cell, NamesOver}
-use Rattle.calculus.proofs.PlaceLists.{get-end, all-append}
 use Rattle.store_theory.proofs.BindingLaws.{has_sort-from, sort_eq-true}
 use Rattle.store_theory.proofs.PatternLaws.{copies-more, grown-copies}
 use Rattle.term_store.specs.declared.cell.Name.{Name}

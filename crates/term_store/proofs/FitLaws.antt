@@ -3,21 +3,20 @@ use Rattle.std.proofs.Common.{◌&&◌, ◌++◌, Some, ◌||◌, ◌≡◌, ℕ
 use Rattle.std.specs.List.{list_all}
 use Rattle.std.specs.Prelude.{slice_get}
 use Rattle.std.specs.Option.{option_map_or}
-use Rattle.std.proofs.lemmas.Bool.{false≢true, and_parts, and_from}
+use Rattle.std.proofs.lemmas.Bool.{false≢true, and_parts, and_from, or_left}
+use Rattle.plain_laws.proofs.Every.{all-append, all-at}
+use Rattle.plain_laws.proofs.Options.{found-more}
+use Rattle.plain_laws.proofs.Booleans.{or-false_true}
 use Rattle.calculus.specs.declared.sort.Sort.{Sort}
 use Rattle.calculus.specs.declared.sort.Sort.TheVariants.{TermSort, MarkSort, StringSort}
 use Rattle.calculus.specs.Equality.{sort_eq}
 use Rattle.store_theory.specs.Stores.{Cell, Store, sort_of, sort_at, has_sort_at}
 use Rattle.store_theory.specs.Patterns.{Pattern, Patterns, p_var, p_fun, p_eigen, p_new, no_patterns, more_patterns, patterns_tree, Grows, PatternAtom, PatternGamma, Template, HaveSortsAt, pattern_fits, are_term_patterns, are_value_patterns, is_label_pattern, atom_fits, gamma_fits, template_fits}
 use Rattle.store_theory.specs.Bindings.{places_from, with_variables_of}
-use Rattle.calculus.proofs.PlaceLists.{all-append, all-at, all-more}
+use Rattle.calculus.proofs.PlaceLists.{all-more}
 use Rattle.store_theory.proofs.BindingLaws.{or-more}
 use Rattle.store_theory.proofs.PatternLaws.{variables-have, grown-cell, grown-sort, and-more, and-both}
 use Rattle.term_store.specs.Fitting.{fits_in, parts_fit_in, part_sort_at, label_fits_in, atom_fits_in, gamma_fits_in}
-
-found-more : (p q : ℕ → Bool) (o : Option ℕ) → ((r : ℕ) → IsTrue (p r) → IsTrue (q r)) → IsTrue (option_map_or p o false) → IsTrue (option_map_or q o false)
-found-more p q None g h = h
-found-more p q (Some r) g h = g r h
 
 mutual
   pub grown-fits : (s t : Store) (vs : List ℕ) (sort : Sort) (p : Pattern) → Grows s t → IsTrue (fits_in s vs sort p) → IsTrue (fits_in t vs sort p)
@@ -32,9 +31,6 @@ mutual
       (or-more (fits_in s vs b p) (fits_in t vs b p) (w && fits_in s vs StringSort p) (w && fits_in t vs StringSort p) (grown-fits s t vs b p g) (and-more w (fits_in s vs StringSort p) (fits_in t vs StringSort p) (grown-fits s t vs StringSort p g)))
       (grown-parts_fit s t vs b w ps g) h
 
-or-left : (p q : Bool) → p ≡ true → (p || q) ≡ true
-or-left p q h = rw h refl
-
 -- the sorts of parts
 pub grown-part_sorts : (s t : Store) (b : Sort) (w : Bool) (rs : List ℕ) → Grows s t → IsTrue (list_all (part_sort_at s b w) rs) → IsTrue (list_all (part_sort_at t b w) rs)
 grown-part_sorts s t b w rs g h = all-more (part_sort_at s b w) (part_sort_at t b w) rs (λ r. or-more (has_sort_at s b r) (has_sort_at t b r) (w && has_sort_at s StringSort r) (w && has_sort_at t StringSort r) (grown-sort s t b r g) (and-more w (has_sort_at s StringSort r) (has_sort_at t StringSort r) (grown-sort s t StringSort r g))) h
@@ -42,12 +38,8 @@ grown-part_sorts s t b w rs g h = all-more (part_sort_at s b w) (part_sort_at t 
 pub part_sorts-more : (s : Store) (b : Sort) (w : Bool) (rs : List ℕ) (r : ℕ) → IsTrue (list_all (part_sort_at s b w) rs) → IsTrue (part_sort_at s b w r) → IsTrue (list_all (part_sort_at s b w) (rs ++ r ∷ []))
 part_sorts-more s b w rs r h k = all-append (part_sort_at s b w) rs (r ∷ []) h (and_from (part_sort_at s b w r) true k refl)
 
-or_none : (p : Bool) → (p || false) ≡ true → p ≡ true
-or_none true h = refl
-or_none false h = h
-
 pub sorted-alone : (s : Store) (b : Sort) (rs : List ℕ) → IsTrue (list_all (part_sort_at s b false) rs) → IsTrue (list_all (has_sort_at s b) rs)
-sorted-alone s b rs h = all-more (part_sort_at s b false) (has_sort_at s b) rs (λ r k. or_none (has_sort_at s b r) k) h
+sorted-alone s b rs h = all-more (part_sort_at s b false) (has_sort_at s b) rs (λ r k. or-false_true (has_sort_at s b r) k) h
 
 pub terms-sorted : (s : Store) (rs : List ℕ) → IsTrue (list_all (part_sort_at s TermSort false) rs) → IsTrue (list_all (has_sort_at s TermSort) rs)
 terms-sorted s rs h = sorted-alone s TermSort rs h
@@ -69,7 +61,7 @@ mutual
 
   placed-terms : (t : Store) (vs : List ℕ) (sorts : List Sort) → ((b : Sort) (k : ℕ) → IsTrue (option_map_or (sort_eq b) (slice_get sorts k) false) → IsTrue (option_map_or (has_sort_at t b) (slice_get vs k) false)) → (ps : Patterns) → IsTrue (are_term_patterns sorts ps) → IsTrue (parts_fit_in t vs TermSort false ps)
   placed-terms t vs sorts g no_patterns h = refl
-  placed-terms t vs sorts g (more_patterns p ps) h = and-both (pattern_fits sorts TermSort p) (fits_in t vs TermSort p || (false && fits_in t vs StringSort p)) (are_term_patterns sorts ps) (parts_fit_in t vs TermSort false ps) (λ e. or-left (fits_in t vs TermSort p) (false && fits_in t vs StringSort p) (placed-fits t vs sorts g TermSort p e)) (placed-terms t vs sorts g ps) h
+  placed-terms t vs sorts g (more_patterns p ps) h = and-both (pattern_fits sorts TermSort p) (fits_in t vs TermSort p || (false && fits_in t vs StringSort p)) (are_term_patterns sorts ps) (parts_fit_in t vs TermSort false ps) (λ e. or_left (fits_in t vs TermSort p) (false && fits_in t vs StringSort p) (placed-fits t vs sorts g TermSort p e)) (placed-terms t vs sorts g ps) h
 
   placed-values : (t : Store) (vs : List ℕ) (sorts : List Sort) → ((b : Sort) (k : ℕ) → IsTrue (option_map_or (sort_eq b) (slice_get sorts k) false) → IsTrue (option_map_or (has_sort_at t b) (slice_get vs k) false)) → (ps : Patterns) → IsTrue (are_value_patterns sorts ps) → IsTrue (parts_fit_in t vs TermSort true ps)
   placed-values t vs sorts g no_patterns h = refl
@@ -78,7 +70,7 @@ mutual
 -- patterns of one sort, and labels
 placed-all : (t : Store) (vs : List ℕ) (sorts : List Sort) → ((b : Sort) (k : ℕ) → IsTrue (option_map_or (sort_eq b) (slice_get sorts k) false) → IsTrue (option_map_or (has_sort_at t b) (slice_get vs k) false)) → (b : Sort) (ps : List Pattern) → IsTrue (list_all (pattern_fits sorts b) ps) → IsTrue (parts_fit_in t vs b false (patterns_tree ps))
 placed-all t vs sorts g b [] h = refl
-placed-all t vs sorts g b (p ∷ ps) h = and-both (pattern_fits sorts b p) (fits_in t vs b p || (false && fits_in t vs StringSort p)) (list_all (pattern_fits sorts b) ps) (parts_fit_in t vs b false (patterns_tree ps)) (λ e. or-left (fits_in t vs b p) (false && fits_in t vs StringSort p) (placed-fits t vs sorts g b p e)) (placed-all t vs sorts g b ps) h
+placed-all t vs sorts g b (p ∷ ps) h = and-both (pattern_fits sorts b p) (fits_in t vs b p || (false && fits_in t vs StringSort p)) (list_all (pattern_fits sorts b) ps) (parts_fit_in t vs b false (patterns_tree ps)) (λ e. or_left (fits_in t vs b p) (false && fits_in t vs StringSort p) (placed-fits t vs sorts g b p e)) (placed-all t vs sorts g b ps) h
 
 placed-label : (t : Store) (vs : List ℕ) (sorts : List Sort) → ((b : Sort) (k : ℕ) → IsTrue (option_map_or (sort_eq b) (slice_get sorts k) false) → IsTrue (option_map_or (has_sort_at t b) (slice_get vs k) false)) → (ps : List Pattern) → IsTrue (is_label_pattern sorts ps) → IsTrue (label_fits_in t vs ps)
 placed-label t vs sorts g [] h = refl

@@ -1,10 +1,12 @@
 -- Copies of lists: one atom more, one gamma term more, and one list behind another.
-use Rattle.std.proofs.Common.{◌≡◌, ◌++◌, ◌∷◌, ◌&&◌, [], IsTrue, length, ℕ, List, true, refl, sym, ap, ◌∙◌, subst, append_assoc, nat_le, map, take, drop, ◌-◌, ◌+◌, ◌<◌, zero, suc, Bool, Some, option_map, slice_get, slice_index_or, ap₂, arith}
+use Rattle.std.proofs.Common.{◌≡◌, ◌++◌, ◌∷◌, ◌&&◌, [], IsTrue, length, ℕ, List, true, refl, sym, ap, ◌∙◌, subst, append_assoc, nat_le, map, take, drop, ◌-◌, ◌+◌, ◌<◌, zero, suc, Bool, Some, option_map, slice_get, slice_index_or, ap₂, arith, append-nil}
 use Rattle.std.specs.List.{list_all}
 use Rattle.std.specs.Prelude.{remove}
 use Rattle.std.proofs.lemmas.Bool.{and_from, and_parts}
 use Rattle.std.proofs.lemmas.List.{take_rest}
 use Rattle.std.proofs.lemmas.Option.{slice_get_read, slice_get-map}
+use Rattle.plain_laws.proofs.Every.{all-append}
+use Rattle.plain_laws.proofs.Lists.{map-drop, map-take, map-length}
 use Rattle.store_theory.specs.Bindings.{AddsOver, NamesOver}
 use Rattle.store_theory.specs.Patterns as tree
 use Rattle.store_theory.specs.Patterns.{AreAtomCopies, AreCopies, AreGammaCopies, CopiedClause, IsAtomCopy, IsClauseCopy, IsGammaCopy, atom_is_from, clause_fits, clause_is_from, gamma_is_from, patterns_tree}
@@ -12,18 +14,13 @@ use Rattle.calculus.specs.declared.sort.Sort.TheVariants.{StringSort}
 use Rattle.store_theory.specs.Stores.{GammaCell, Store, has_sort_at}
 use Rattle.store_theory.specs.Systems.{CellAtom, is_cell_atom, is_gamma_cell}
 use Rattle.store_theory.proofs.PatternLaws.{Grows-built, atoms-more, gammas-more, grown-atoms, grown-gammas, grown-cell_atoms, grown-copies, grown-gamma_cells, grown-sorts}
-use Rattle.calculus.proofs.PlaceLists.{all-append}
 use Rattle.term_store.specs.Copying.{AtomsCopied, with_literals}
 use Rattle.term_store.proofs.OwnLaws.{over-both, own-append, own-later}
-
-append_none : {A : Type 0} (xs : List A) → xs ++ [] ≡ xs
-append_none [] = refl
-append_none (x ∷ xs) = ap (λ ys. x ∷ ys) (append_none xs)
 
 -- ---- atoms
 
 pub atoms-none : (s : Store) (vs : List ℕ) (n : ℕ) (before : List CellAtom) → AtomsCopied s vs n before before []
-atoms-none s vs n before = record { more = []; appended = sym (append_none before); copies = refl; sorts = refl; own = λ base l h. refl }
+atoms-none s vs n before = record { more = []; appended = sym (append-nil before); copies = refl; sorts = refl; own = λ base l h. refl }
 
 pub atom-more : (old s t : Store) (vs : List ℕ) (before items after : List CellAtom) (atoms : List tree.PatternAtom) (a : tree.PatternAtom) (c : CellAtom) → AtomsCopied s vs (length old.cells) before items atoms → AddsOver vs old s → AddsOver vs s t → IsAtomCopy t vs a c → IsTrue (is_cell_atom t c) → NamesOver vs (length s.cells) (λ base. atom_is_from base c) → after ≡ items ++ c ∷ [] → AtomsCopied t vs (length old.cells) before after (atoms ++ a ∷ [])
 atom-more old s t vs before items after atoms a c w g h k m o e = record {
@@ -102,10 +99,6 @@ clause-made old a b d new vs t xs ys none mid last strings gammas e f fa g gb h 
 
 -- ---- one literal, and the others
 
-map-length : {X Y : Type 0} (f : X → Y) (xs : List X) → length (map f xs) ≡ length xs
-map-length f [] = refl
-map-length f (x ∷ xs) = ap suc (map-length f xs)
-
 pub literal-there : {X Y : Type 0} (f : X → Y) (items : List X) (ys : List Y) (k : ℕ) (x : X) → map f items ≡ ys → k < length ys → x ≡ slice_index_or items k x → slice_get ys k ≡ Some (f x)
 literal-there f items ys k x e l h =
     let same : length items ≡ length ys = sym (map-length f items) ∙ ap length e in
@@ -127,17 +120,7 @@ all-back {X} {Y} f p k xs ys e h = subst (λ zs. IsTrue (list_all p (map f zs)))
     by (suc k) [] h = refl
     by (suc k) (x ∷ xs) h = by k xs (and_parts (p (f x)) (list_all p (map f xs)) h).1
 
-map-front : {X Y : Type 0} (f : X → Y) (k : ℕ) (xs : List X) → map f (take k xs) ≡ take k (map f xs)
-map-front f zero xs = refl
-map-front f (suc k) [] = refl
-map-front f (suc k) (x ∷ xs) = ap (λ ys. f x ∷ ys) (map-front f k xs)
-
-map-back : {X Y : Type 0} (f : X → Y) (k : ℕ) (xs : List X) → map f (drop k xs) ≡ drop k (map f xs)
-map-back f zero xs = refl
-map-back f (suc k) [] = refl
-map-back f (suc k) (x ∷ xs) = map-back f k xs
-
 pub other-literals : {X Y : Type 0} (f : X → Y) (k : ℕ) (xs : List X) (ys : List Y) → map f xs ≡ ys → map f (take k xs) ++ map f (take (length xs - (k + 1)) (drop (k + 1) xs)) ≡ remove ys k
 other-literals f k xs ys e =
     let next : k + 1 ≡ suc k = omega arith in
-    ap₂ ◌++◌ (map-front f k xs ∙ ap (take k) e) (ap (map f) (take_rest xs (k + 1)) ∙ map-back f (k + 1) xs ∙ ap₂ drop next e)
+    ap₂ ◌++◌ (map-take f k xs ∙ ap (take k) e) (ap (map f) (take_rest xs (k + 1)) ∙ map-drop f (k + 1) xs ∙ ap₂ drop next e)

@@ -4,12 +4,12 @@ use Rattle.std.proofs.lemmas.List.{length-replicate}
 use Rattle.std.specs.Prelude.{slice_get}
 use Rattle.std.specs.List.{list_all}
 use Rattle.std.proofs.lemmas.Bool.{and_from}
+use Rattle.plain_laws.proofs.Places.{get-end}
 use Rattle.calculus.specs.declared.sort.Sort.{Sort}
 use Rattle.calculus.specs.declared.sort.Sort.TheVariants.{MarkSort}
 use Rattle.store_theory.specs.Stores.{variable, Store, has_sort_at}
 use Rattle.store_theory.specs.Bindings.{with_cell, with_variables_of, places_from}
 use Rattle.store_theory.proofs.PatternLaws.{Grows-variables, grown-cell, length-variables}
-use Rattle.calculus.proofs.PlaceLists.{get-end}
 use Rattle.store_theory.proofs.BindingLaws.{has_sort-from}
 
 -- one variable more

@@ -4,11 +4,13 @@ use Rattle.std.specs.Prelude.{slice_get}
 use Rattle.std.specs.List.{list_all}
 use Rattle.std.specs.Option.{option_map_or}
 use Rattle.std.proofs.lemmas.Bool.{false≢true, and_from}
+use Rattle.plain_laws.proofs.Every.{all-append}
+use Rattle.plain_laws.proofs.Places.{get-within}
 use Rattle.calculus.specs.declared.sort.Sort.{Sort}
 use Rattle.store_theory.specs.Stores.{Cell, variable, Store, parts_of, parts_fit, is_store, has_sort_at}
 use Rattle.store_theory.specs.Bindings.{with_cell, with_variables_of, places_from, is_variable, nothing_more, one_more, NamesFrom, AddsOver, NamesOver}
 use Rattle.store_theory.specs.Patterns.{Grows}
-use Rattle.calculus.proofs.PlaceLists.{get-last, get-within, all-append}
+use Rattle.calculus.proofs.PlaceLists.{get-last}
 use Rattle.store_theory.proofs.BindingLaws.{sorted_cell}
 use Rattle.store_theory.proofs.PatternLaws.{AddsBuilt-both, Grows-built, length-variables}
 use Rattle.term_store.specs.declared.cell.Name.{Name}

@@ -1,7 +1,10 @@
 -- What a signature allows is kept by copies of what it allows.
-use Rattle.std.proofs.Common.{◌≡◌, ◌++◌, ◌∷◌, ◌&&◌, ◌<◌, [], None, Option, Some, IsTrue, length, map, option_map, slice_get, slice_index_or, ℕ, zero, suc, List, Bool, true, refl, sym, ap, arith, ◌∙◌, subst, inl, inr}
+use Rattle.std.proofs.Common.{◌≡◌, ◌++◌, ◌∷◌, ◌&&◌, [], None, Option, Some, IsTrue, length, map, option_map, slice_get, slice_index_or, ℕ, zero, suc, List, Bool, true, refl, sym, ap, arith, ◌∙◌, subst, inl, inr, append-nil}
 use Rattle.std.specs.List.{list_all}
 use Rattle.std.proofs.lemmas.Bool.{and_from, and_parts}
+use Rattle.plain_laws.proofs.Every.{all-parts}
+use Rattle.plain_laws.proofs.Places.{get-within, get-there}
+use Rattle.plain_laws.proofs.Options.{same-some}
 use Rattle.calculus.specs.declared.sort.Sort.{Sort}
 use Rattle.calculus.specs.declared.sort.Sort.TheVariants.{TermSort}
 use Rattle.store_theory.specs.Bindings.{AddsBuilt, BindsOnly, with_cell, with_variables_of}
@@ -9,7 +12,7 @@ use Rattle.store_theory.specs.Patterns as tree
 use Rattle.store_theory.specs.Patterns.{AreCopies, Grows, HaveSortsAt, IsCopy, no_patterns, more_patterns, p_eigen, p_fun, p_new, p_var, patterns_tree}
 use Rattle.store_theory.specs.Stores.{Cell, eigen_cell, fun_cell, new_cell, sort_at, sort_of, string_cell, variable, Store}
 use Rattle.store_theory.proofs.PatternLaws.{Grows-built, Grows-with_cell}
-use Rattle.calculus.proofs.PlaceLists.{get-last, get-within}
+use Rattle.calculus.proofs.PlaceLists.{get-last}
 use Rattle.term_store.specs.Built.{named_cell}
 use Rattle.term_store.specs.Copying.{named_pattern, with_literals}
 use Rattle.term_store.specs.Signatures.{AreAllowedFrom, BuildsOver, BuildsWithin, IsAllowedCell, Signature, allows, allows_all, allows_atom, allows_gamma, allows_template, number_of_patterns, sort_of_pattern, sorts_of_patterns}
@@ -49,32 +52,21 @@ within-pattern vs ps p s t u l a b sorts have g base h k =
     let w = patterns-last g sorts ps p h in
     b sorts (have-grown s t sorts vs (Grows-built s t l) have) g base w.1 (a sorts have g base w.0 k)
 
-all-append-parts : {A : Type 0} (p : A → Bool) (xs ys : List A) → IsTrue (list_all p (xs ++ ys)) → IsTrue (list_all p xs) × IsTrue (list_all p ys)
-all-append-parts p [] ys h = (refl, h)
-all-append-parts p (x ∷ xs) ys h =
-    let a = and_parts (p x) (list_all p (xs ++ ys)) h in
-    let rest = all-append-parts p xs ys a.1 in
-    (and_from (p x) (list_all p xs) a.0 rest.0, rest.1)
-
 -- the lists of a clause one after the other
 pub within-clause : (vs : List ℕ) (old a b d new : Store) (t : tree.Template) (xs ys : List tree.PatternAtom) → HaveSortsAt old t.sorts vs → AddsBuilt old a → AddsBuilt a b → AddsBuilt b d → BuildsOver vs (λ sorts g. list_all (allows_atom g sorts) xs) old a → BuildsOver vs (λ sorts g. list_all (allows_atom g sorts) ys) a b
     → BuildsOver vs (λ sorts g. allows_all g sorts (patterns_tree t.strings)) b d → BuildsOver vs (λ sorts g. list_all (allows_gamma g sorts) t.gammas) d new → BuildsWithin (λ g. allows_template g (with_literals (xs ++ ys) t)) old new
 within-clause vs old a b d new t xs ys have i j e f k m n g base h l =
     let w = and_parts (list_all (allows_atom g t.sorts) (xs ++ ys) && allows_all g t.sorts (patterns_tree t.strings)) (list_all (allows_gamma g t.sorts) t.gammas) h in
     let v = and_parts (list_all (allows_atom g t.sorts) (xs ++ ys)) (allows_all g t.sorts (patterns_tree t.strings)) w.0 in
-    let u = all-append-parts (allows_atom g t.sorts) xs ys v.0 in
+    let u = all-parts (allows_atom g t.sorts) xs ys v.0 in
     let at_a = have-grown old a t.sorts vs (Grows-built old a i) have in
     let at_b = have-grown a b t.sorts vs (Grows-built a b j) at_a in
     let at_d = have-grown b d t.sorts vs (Grows-built b d e) at_b in
     n t.sorts at_d g base w.1 (m t.sorts at_b g base v.1 (k t.sorts at_a g base u.1 (f t.sorts have g base u.0 l)))
 
-append-none : {A : Type 0} (xs : List A) → xs ++ [] ≡ xs
-append-none [] = refl
-append-none (x ∷ xs) = ap (λ ys. x ∷ ys) (append-none xs)
-
 -- all literals of the template at once
 pub within-whole : {X : Type 0} (f : X → tree.PatternAtom) (items : List X) (t : tree.Template) (s u : Store) → map f items ≡ t.literals → BuildsWithin (λ g. allows_template g (with_literals (map f items ++ []) t)) s u → BuildsWithin (λ g. allows_template g t) s u
-within-whole f items t s u e h = subst (λ xs. BuildsWithin (λ g. allows_template g (with_literals xs t)) s u) (append-none (map f items) ∙ e) h
+within-whole f items t s u e h = subst (λ xs. BuildsWithin (λ g. allows_template g (with_literals xs t)) s u) (append-nil (map f items) ∙ e) h
 
 -- ---- cells that come
 
@@ -161,18 +153,10 @@ cell-bound g old new (eigen_cell p rs) b (ss, have, h) = (ss, have-bound old new
 cell-bound g old new (new_cell p rs) b (ss, have, h) = (ss, have-bound old new ss rs b have, h)
 cell-bound g old new (string_cell rs) b h = h
 
-there-is : {A : Type 0} (xs : List A) (n : ℕ) → n < length xs → (x : A) × (slice_get xs n ≡ Some x)
-there-is [] n l = absurd (omega (arith, l))
-there-is (x ∷ xs) zero l = (x, refl)
-there-is (x ∷ xs) (suc n) l = there-is xs n (omega (arith, l))
-
-same-some : {A : Type 0} (o : Option A) (x y : A) → o ≡ Some x → o ≡ Some y → x ≡ y
-same-some o x y e f = let q : Some x ≡ Some y = sym e ∙ f in cc q
-
 -- bindings change nothing of what is allowed
 pub allowed-binds : (g : Signature) (base : ℕ) (old new : Store) → BindsOnly old new → AreAllowedFrom g base old → AreAllowedFrom g base new
 allowed-binds g base old new b h n d low e =
-    let (c, f) = there-is old.cells n (let l = get-within new.cells n d e in let s = b.same_length in omega (arith, l, s)) in
+    let (c, f) = get-there old.cells n (let l = get-within new.cells n d e in let s = b.same_length in omega (arith, l, s)) in
     let k = cell-bound g old new c b (h n c low f) in
     elim (b.cells n c f) [
       | inl same ↦ subst (IsAllowedCell g new) (same-some (slice_get new.cells n) c d same e) k

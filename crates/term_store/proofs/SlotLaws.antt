@@ -2,10 +2,11 @@
 use Rattle.std.proofs.Common.{◌≡◌, ◌≤◌, ◌<◌, ◌+◌, ◌++◌, ◌∷◌, ◌==◌, ◌||◌, [], Some, IsTrue, length, ℕ, zero, suc, List, Bool, true, false, map, take, refl, sym, ap, ap₂, ◌∙◌, subst, arith, slice_set, inl, inr, eqb-true, eq-eqb, if◌then◌else◌, not}
 use Rattle.std.specs.Prelude.{slice_get}
 use Rattle.std.proofs.lemmas.Bool.{cases_Bool, false≢true, and_parts}
+use Rattle.plain_laws.proofs.Lists.{map-length}
 use Rattle.calculus.specs.Equality.{contains}
-use Rattle.store_theory.specs.Stores.{Cell, is_bound, trail_fits, are_distinct_cells}
+use Rattle.store_theory.specs.Stores.{is_bound, trail_fits, are_distinct_cells}
 use Rattle.calculus.proofs.PlaceLists.{contains-append}
-use Rattle.store_theory.proofs.BindingLaws.{is_bound_at, kept_trail}
+use Rattle.store_theory.proofs.BindingLaws.{is_bound_at, kept_trail, bound-within}
 use Rattle.store_theory.proofs.StoreLaws.{contains-take, distinct-take}
 use Rattle.term_store.specs.declared.cell.Ref.{Ref}
 use Rattle.term_store.specs.declared.cell.Content.{Content}
@@ -93,15 +94,6 @@ length-slots : (t : List ℕ) (n : ℕ) (slots : List Slot) → length (slots_bo
 length-slots t n [] = refl
 length-slots t n (s ∷ slots) = ap suc (length-slots t (suc n) slots)
 
-length-map : {A B : Type 0} (f : A → B) (xs : List A) → length (map f xs) ≡ length xs
-length-map f [] = refl
-length-map f (x ∷ xs) = ap suc (length-map f xs)
-
-bound-within : (cs : List Cell) (k : ℕ) → is_bound_at cs k ≡ true → k < length cs
-bound-within [] k h = absurd (false≢true h)
-bound-within (c ∷ cs) zero h = omega arith
-bound-within (c ∷ cs) (suc k) h = let l = bound-within cs k h in omega arith
-
 distinct-end : (t : List ℕ) (v : ℕ) → IsTrue (are_distinct_cells (t ++ v ∷ [])) → contains t v ≡ false
 distinct-end [] v h = refl
 distinct-end (r ∷ t) v h =
@@ -123,7 +115,7 @@ unbind-last slots trail t k v h e =
     let there : contains (take k trail) v ≡ true = ap (λ xs. contains xs v) e ∙ contains-append t (v ∷ []) v ∙ rw (eq-eqb v v refl) (or_true (contains t v)) in
     let b : is_bound_at (map (the_cell []) slots) v ≡ true = sym (w.bound v) ∙ contains-take k trail v there in
     let l = bound-within (map (the_cell []) slots) v b in
-    (omega (arith, length-map (the_cell []) slots), distinct-end t v (subst (λ xs. IsTrue (are_distinct_cells xs)) e (distinct-take k trail w.distinct)))
+    (omega (arith, map-length (the_cell []) slots), distinct-end t v (subst (λ xs. IsTrue (are_distinct_cells xs)) e (distinct-take k trail w.distinct)))
   where
     or_true : (p : Bool) → (p || (true || false)) ≡ true
     or_true true = refl

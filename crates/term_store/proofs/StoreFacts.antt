@@ -5,6 +5,7 @@ use Rattle.std.specs.List.{list_all}
 use Rattle.std.proofs.lemmas.Bool.{false≢true, and_parts}
 use Rattle.std.proofs.lemmas.List.{length-take-le}
 use Rattle.std.proofs.lemmas.Option.{slice_get-map}
+use Rattle.term_store.proofs.WellLaws.{laid-within}
 use Rattle.calculus.specs.declared.sort.Sort.{Sort}
 use Rattle.calculus.specs.Equality.{contains}
 use Rattle.store_theory.specs.Stores.{Cell, variable, fun_cell, eigen_cell, new_cell, string_cell, Store, TrailMark, is_store, is_bound, cells_bound_by, cut_at, IsGood, parts_of, parts_fit, bound_cells, trail_fits, are_distinct_cells, EndsAt, stays}
@@ -89,12 +90,12 @@ laid-cut k start [] end d l e = absurd (cc)
 laid-cut zero start (s ∷ slots) end d l e =
     let same : s ≡ d = cc in
     let a : d.start ≡ start = ap (λ x. x.start) (sym same) ∙ l.0 in
-    let b = laid-up (start + part_count s.content) slots end l.1 in
+    let b = laid-within (start + part_count s.content) slots end l.1 in
     (sym a, omega arith)
   where
-    laid-up : (start : ℕ) (slots : List Slot) (end : ℕ) → IsLaid start slots end → start ≤ end
-    laid-up start [] end h = let h' : start ≡ end = h in omega arith
-    laid-up start (t ∷ slots) end h = let a = laid-up (start + part_count t.content) slots end h.1 in omega arith
+    laid-within : (start : ℕ) (slots : List Slot) (end : ℕ) → IsLaid start slots end → start ≤ end
+    laid-within start [] end h = let h' : start ≡ end = h in omega arith
+    laid-within start (t ∷ slots) end h = let a = laid-within (start + part_count t.content) slots end h.1 in omega arith
 laid-cut (suc k) start (s ∷ slots) end d l e = let w = laid-cut k (start + part_count s.content) slots end d l.1 e in ((l.0, w.0), w.1)
 
 part-cut : (n start k : ℕ) (parts : List ℕ) → start + n ≤ k → take n (drop start (take k parts)) ≡ take n (drop start parts)
@@ -118,13 +119,13 @@ cell-cut (Marks n) start k parts h = ap string_cell (part-cut n start k parts h)
 pub cells-cut_parts : (start k : ℕ) (slots : List Slot) (parts : List ℕ) → IsLaid start slots k → map (the_cell (take k parts)) slots ≡ map (the_cell parts) slots
 cells-cut_parts start k [] parts h = refl
 cells-cut_parts start k (s ∷ slots) parts h =
-    let l = laid-up (start + part_count s.content) slots k h.1 in
+    let l = laid-within (start + part_count s.content) slots k h.1 in
     let e = h.0 in
     ap₂ ◌∷◌ (cell-cut s.content s.start k parts (omega arith)) (cells-cut_parts (start + part_count s.content) k slots parts h.1)
   where
-    laid-up : (start : ℕ) (slots : List Slot) (end : ℕ) → IsLaid start slots end → start ≤ end
-    laid-up start [] end h = let h' : start ≡ end = h in omega arith
-    laid-up start (t ∷ slots) end h = let a = laid-up (start + part_count t.content) slots end h.1 in omega arith
+    laid-within : (start : ℕ) (slots : List Slot) (end : ℕ) → IsLaid start slots end → start ≤ end
+    laid-within start [] end h = let h' : start ≡ end = h in omega arith
+    laid-within start (t ∷ slots) end h = let a = laid-within (start + part_count t.content) slots end h.1 in omega arith
 
 pub cut-store : (m : TrailMark) (slots kept : List Slot) (parts less trail t : List ℕ) → kept ≡ take m.cells (slots_bound_by (take m.entries trail) 0 slots) → map (the_cell less) kept ≡ map (the_cell parts) kept → t ≡ take m.entries trail → the_store kept less t ≡ cut_at m (the_store slots parts trail)
 cut-store m slots kept parts less trail t e f g = ap₂ (λ cs t. let r : Store = record { cells = cs; trail = t } in r) (f ∙ ap (map (the_cell parts)) e ∙ cells-cut parts (take m.entries trail) 0 m.cells slots) g
@@ -170,15 +171,11 @@ trail-alone slots parts trail h =
 
 -- ---- what a cell shows
 
-laid-up : (start : ℕ) (slots : List Slot) (end : ℕ) → IsLaid start slots end → start ≤ end
-laid-up start [] end h = let h' : start ≡ end = h in omega arith
-laid-up start (t ∷ slots) end h = let a = laid-up (start + part_count t.content) slots end h.1 in omega arith
-
 laid-at : (start : ℕ) (slots : List Slot) (end r : ℕ) (s : Slot) → IsLaid start slots end → slice_get slots r ≡ Some s → s.start + part_count s.content ≤ end
 laid-at start [] end r s l e = absurd (cc)
 laid-at start (t ∷ slots) end zero s l e =
     let same : t ≡ s = cc in
-    let a = laid-up (start + part_count t.content) slots end l.1 in
+    let a = laid-within (start + part_count t.content) slots end l.1 in
     let b : s.start + part_count s.content ≡ start + part_count t.content = ap (λ x. x.start + part_count x.content) (sym same) ∙ ap (λ n. n + part_count t.content) l.0 in
     omega arith
 laid-at start (t ∷ slots) end (suc r) s l e = laid-at (start + part_count t.content) slots end r s l.1 e

@@ -1,5 +1,6 @@
 -- What is kept of the lists of a store: a cell more.
 use Rattle.std.proofs.Common.{◌≡◌, ◌≤◌, ◌<◌, ◌+◌, ◌++◌, ◌∷◌, [], None, IsTrue, length, ℕ, zero, suc, List, false, map, take, drop, refl, sym, ap, ap₂, ◌∙◌, subst, arith, length-append}
+use Rattle.plain_laws.proofs.Lists.{map-last}
 use Rattle.calculus.specs.declared.sort.Sort.{Sort}
 use Rattle.store_theory.specs.Stores.{variable, fun_cell, eigen_cell, new_cell, string_cell, Store, is_store, is_bound, parts_fit}
 use Rattle.store_theory.specs.Bindings.{HasRank, with_cell}
@@ -15,16 +16,12 @@ use Rattle.term_store.specs.StoreView.{the_cell, the_cell_at, the_store, part_co
 pub well-none : IsWell [] [] []
 well-none = record { laid = refl; fits = refl; rank = (λ r. 0, λ i r k c e p. absurd (cc)); places = omega arith; part_places = omega arith }
 
-map-last : {A B : Type 0} (f : A → B) (xs : List A) (x : A) → map f (xs ++ x ∷ []) ≡ map f xs ++ f x ∷ []
-map-last f [] x = refl
-map-last f (y ∷ xs) x = ap (λ zs. f y ∷ zs) (map-last f xs x)
-
 laid-last : (start : ℕ) (slots : List Slot) (s : Slot) (end : ℕ) → IsLaid start slots end → s.start ≡ end → IsLaid start (slots ++ s ∷ []) (end + part_count s.content)
 laid-last start [] s end h e = (e ∙ sym h, ap (λ n. n + part_count s.content) h)
 laid-last start (t ∷ slots) s end h e = (h.0, laid-last (start + part_count t.content) slots s end h.1 e)
 
 -- where the parts of the cells end
-laid-within : (start : ℕ) (slots : List Slot) (end : ℕ) → IsLaid start slots end → start ≤ end
+pub laid-within : (start : ℕ) (slots : List Slot) (end : ℕ) → IsLaid start slots end → start ≤ end
 laid-within start [] end h = let h' : start ≡ end = h in omega arith
 laid-within start (t ∷ slots) end h = let a = laid-within (start + part_count t.content) slots end h.1 in omega arith
 

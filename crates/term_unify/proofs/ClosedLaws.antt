@@ -1,9 +1,9 @@
 -- Cells that name no newer ones have no newer variable in them.
-use Rattle.std.proofs.Common.{◌≡◌, ◌⊎◌, ◌≤◌, ◌<◌, ◌∙◌, ℕ, [], ◌∷◌, None, Some, slice_get, sym, ap, arith, zero, suc, inl, inr, option_map}
+use Rattle.std.proofs.Common.{◌≡◌, ◌⊎◌, ◌≤◌, ◌<◌, ◌∙◌, ℕ, [], None, Some, slice_get, sym, ap, arith, inl, inr, option_map}
 use Rattle.calculus.specs.declared.sort.Sort.{Sort}
 use Rattle.store_theory.specs.Bindings.{bind_at, bound_to, with_binding}
-use Rattle.store_theory.specs.Stores.{Cell, OccursIn, Store, here, in_part, parts_of, variable}
-use Rattle.store_theory.proofs.BindingLaws.{get-bound, get-unbound, same_place}
+use Rattle.store_theory.specs.Stores.{OccursIn, Store, here, in_part, variable}
+use Rattle.store_theory.proofs.BindingLaws.{get-bound, get-unbound, same_place, bound-part}
 use Rattle.term_unify.specs.Closed.{IsClosedBelow}
 
 -- no cell has a number below 0
@@ -19,13 +19,6 @@ below-occurs n s v r h l (in_part i {k = k} {c = c} e p o) = below-occurs n s v 
 pub newer-apart : (n : ℕ) (s : Store) (v r : ℕ) → IsClosedBelow n s → r < n → n ≤ v → ¬ OccursIn s v r
 newer-apart n s v r h l m o = let k = below-occurs n s v r h l o in absurd (omega (arith, k, m))
 
-part-bound : (sort : Sort) (r i k : ℕ) (c : Cell) → c ≡ variable sort (Some r) → slice_get (parts_of c) i ≡ Some k → k ≡ r
-part-bound sort r i k c q p = by i (ap (λ x. slice_get (parts_of x) i) (sym q) ∙ p)
-  where
-    by : (i : ℕ) → slice_get (r ∷ []) i ≡ Some k → k ≡ r
-    by zero e = cc
-    by (suc i) e = absurd (cc)
-
 -- the binding of a newer variable, or to an older cell, keeps this
 pub closed-bound : (n : ℕ) (s : Store) (v r : ℕ) (sort : Sort) → slice_get s.cells v ≡ Some (variable sort None) → (n ≤ v) ⊎ (r < n) → IsClosedBelow n s → IsClosedBelow n (with_binding v r s)
 closed-bound n s v r sort o w h q k i c m e p = elim (same_place v q) [
@@ -33,7 +26,7 @@ closed-bound n s v r sort o w h q k i c m e p = elim (same_place v q) [
       let at : slice_get (bind_at v r s.cells) v ≡ Some (variable sort (Some r)) = get-bound v r s.cells ∙ ap (option_map (bound_to r)) o in
       let there : slice_get (bind_at v r s.cells) v ≡ Some c = ap (slice_get (bind_at v r s.cells)) same ∙ e in
       let is : c ≡ variable sort (Some r) = let z : Some c ≡ Some (variable sort (Some r)) = sym there ∙ at in cc z in
-      let to : k ≡ r = part-bound sort r i k c is p in
+      let to : k ≡ r = bound-part sort r i k c is p in
       elim w [ inl newer ↦ absurd (omega (arith, newer, same, m)) | inr older ↦ omega (arith, older, to) ]
   | inr other ↦ h q k i c m (sym (get-unbound v r q s.cells other) ∙ e) p
 ]

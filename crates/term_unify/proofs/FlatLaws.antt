@@ -1,7 +1,11 @@
 -- Labels become lists of marks item by item.
-use Rattle.std.proofs.Common.{◌≡◌, ◌⊎◌, ℕ, zero, suc, ◌+◌, ◌<◌, ◌≤◌, List, [], ◌∷◌, ◌++◌, drop, length, map, take, Bool, true, false, ◌||◌, IsTrue, refl, sym, ◌∙◌, ap, subst, Option, None, Some, slice_get, inl, inr, arith, append_assoc, nat_le, le-leb, leb-true}
+use Rattle.std.proofs.Common.{◌≡◌, ◌⊎◌, ℕ, zero, suc, ◌+◌, ◌<◌, ◌≤◌, List, [], ◌∷◌, ◌++◌, drop, length, map, take, Bool, true, false, ◌||◌, IsTrue, refl, sym, ◌∙◌, ap, subst, None, Some, slice_get, inl, inr, arith, append_assoc, nat_le, le-leb, leb-true, append-nil}
 use Rattle.std.specs.List.{list_all}
 use Rattle.std.proofs.lemmas.Bool.{and_from, and_parts, false≢true}
+use Rattle.plain_laws.proofs.Every.{all-at}
+use Rattle.plain_laws.proofs.Places.{drop-end, drop-there, get-there}
+use Rattle.plain_laws.proofs.Lists.{map-last}
+use Rattle.plain_laws.proofs.Options.{same-some}
 use Rattle.calculus.specs.declared.sort.Sort.{Sort}
 use Rattle.calculus.specs.declared.sort.Sort.TheVariants.{TermSort, MarkSort, StringSort}
 use Rattle.store_theory.specs.Bindings.{EndsIn, IsEnd, NamesFrom}
@@ -10,17 +14,15 @@ use Rattle.store_theory.specs.Stores.{Cell, Store, fun_cell, eigen_cell, new_cel
 use Rattle.store_theory.specs.Systems.{has_label_sort_at, is_label}
 use Rattle.store_theory.proofs.BindingLaws.{has_sort-from, kept, parts-within, sorted_cell}
 use Rattle.store_theory.proofs.PatternLaws.{grown-cell}
-use Rattle.calculus.proofs.PlaceLists.{all-at, get-there}
 use Rattle.term_store.specs.RefView.{the_place}
 use Rattle.term_store.specs.Shown.{head_of}
 use Rattle.term_store.specs.declared.cell.Head.{Head}
 use Rattle.term_store.specs.declared.cell.Ref.{Ref}
 use Rattle.term_store.specs.declared.cell.Head.TheVariants.{Open}
-use Rattle.term_unify.proofs.PairLaws.{map-last, take-more, told}
+use Rattle.term_unify.proofs.PairLaws.{take-more, told}
 use Rattle.search_theory.proofs.GivingLaws.{flat-mark, flat-none, flat-string, ends-same}
 use Rattle.search_theory.specs.MarkLists.{IsFlat}
 use Rattle.term_unify.specs.Flat.{HasNoString, HasNoStringIn, IsFlatItem, IsStringOf}
-use Rattle.term_unify.proofs.ListItems.{drop-end, drop-there}
 
 -- ---- where bindings end
 
@@ -32,15 +34,12 @@ no_string-part s a k h o v e w = h v e (join a o w)
     join a here w = w
     join a (in_part i e p more) w = in_part i e p (join _ more w)
 
-some-same : {A : Type 0} (o : Option A) (x y : A) → o ≡ Some x → o ≡ Some y → x ≡ y
-some-same o x y e f = let q : Some x ≡ Some y = sym e ∙ f in cc q
-
 -- what occurs in an old cell occurred there before
 pub occurs-grown : (s t : Store) → IsTrue (is_store s) → Grows s t → (v r : ℕ) → r < length s.cells → OccursIn t v r → (v < length s.cells) × OccursIn s v r
 occurs-grown s t h g v r l here = (l, here)
 occurs-grown s t h g v r l (in_part i {k = k} {c = c} e p more) =
     let (d, f) = get-there s.cells r l in
-    let same : d ≡ c = some-same (slice_get t.cells r) d c (grown-cell s t r d g f) e in
+    let same : d ≡ c = same-some (slice_get t.cells r) d c (grown-cell s t r d g f) e in
     let q : slice_get (parts_of d) i ≡ Some k = ap (λ x. slice_get (parts_of x) i) same ∙ p in
     let (w, o) = occurs-grown s t h g v k (parts-within s d i k ((kept s h).fits r d f) q) more in
     (w, in_part i f q o)
@@ -50,13 +49,13 @@ pub free-grown : (s t : Store) → IsTrue (is_store s) → Grows s t → (r : �
 free-grown s t h g r l free v o c =
     let (below, x) = occurs-grown s t h g v r l c in
     let (d, f) = get-there s.cells v below in
-    free v (f ∙ ap Some (some-same (slice_get t.cells v) d (variable StringSort None) (grown-cell s t v d g f) o)) x
+    free v (f ∙ ap Some (same-some (slice_get t.cells v) d (variable StringSort None) (grown-cell s t v d g f) o)) x
 
 pub ends-sorted : (s : Store) (sort : Sort) (r v : ℕ) → IsTrue (is_store s) → EndsAt s r v → IsTrue (has_sort_at s sort r) → IsTrue (has_sort_at s sort v)
 ends-sorted s sort r v h (stays e b) k = k
 ends-sorted s sort r v h (goes_on {k = j} {sort = x} e more) k =
     let (c, f, q) = sorted_cell s sort r k in
-    let same : x ≡ sort = ap sort_of (some-same (slice_get s.cells r) (variable x (Some j)) c e f) ∙ q in
+    let same : x ≡ sort = ap sort_of (same-some (slice_get s.cells r) (variable x (Some j)) c e f) ∙ q in
     ends-sorted s sort j v h more (subst (λ y. IsTrue (has_sort_at s y j)) same ((kept s h).fits r (variable x (Some j)) e))
 
 pub ends-label : (s : Store) (r v : ℕ) → IsTrue (is_store s) → EndsAt s r v → IsTrue (has_label_sort_at s r) → IsTrue (has_label_sort_at s v)
@@ -162,12 +161,8 @@ flat-more s ws ms after ks i w h free t e joined item = record {
     more : i + 1 ≡ suc i
     more = omega arith
 
-append-none : (xs : List ℕ) → xs ++ [] ≡ xs
-append-none [] = refl
-append-none (x ∷ xs) = ap (λ ys. x ∷ ys) (append-none xs)
-
 pub flat-all : (s : Store) (ws ms : List ℕ) (i : ℕ) → IsFlatTo s ws ms i → length ws ≤ i → IsFlat s ws ms
-flat-all s ws ms i t l = subst (IsFlat s ws) (append-none ms) (t.rest [] (subst (λ xs. IsFlat s xs []) (sym (drop-end ws i l)) (flat-none s)))
+flat-all s ws ms i t l = subst (IsFlat s ws) (append-nil ms) (t.rest [] (subst (λ xs. IsFlat s xs []) (sym (drop-end ws i l)) (flat-none s)))
 
 -- the item at a place
 pub item-sorted : (s : Store) (ws : List ℕ) (i w : ℕ) → IsTrue (is_label s ws) → slice_get ws i ≡ Some w → IsTrue (has_label_sort_at s w)

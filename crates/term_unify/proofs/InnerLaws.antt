@@ -1,16 +1,17 @@
 -- The occurs check: the parts of a cell that are still to be looked at, of which those without parts are left out.
 use Rattle.std.proofs.Common.{◌≡◌, ◌≤◌, ◌<◌, ◌+◌, ◌++◌, ◌∷◌, [], Some, length, ℕ, zero, suc, List, true, false, map, take, refl, sym, ap, ◌∙◌, subst, arith, inl, inr, append_assoc}
 use Rattle.std.specs.Prelude.{slice_get}
+use Rattle.plain_laws.proofs.Places.{get-within}
+use Rattle.plain_laws.proofs.Lists.{map-last}
 use Rattle.store_theory.specs.Stores.{Cell, Store, parts_of, is_bound, OccursIn, here, in_part, EndsAt, stays}
 use Rattle.store_theory.specs.Bindings.{EndsIn, IsEnd, IsWellFormed}
 use Rattle.store_theory.proofs.BindingLaws.{ends-there}
-use Rattle.calculus.proofs.PlaceLists.{get-within}
 use Rattle.store_theory.proofs.WeightLaws.{weight, weight_sum, weight_sum-more, weight_sum-append}
 use Rattle.term_store.specs.declared.cell.Ref.{Ref}
 use Rattle.term_store.specs.RefView.{the_place}
 use Rattle.term_unify.specs.Steps.{AddsInner, AreAllCells, AreInner, OccursAmong}
 use Rattle.term_unify.specs.Visits.{was_seen}
-use Rattle.term_unify.proofs.PairLaws.{all-done, among-back, among-front, among-split, cells-join, cells-split, looks-less, map-last, occurs-end, occurs-from_end, take-more, told, weight-ends}
+use Rattle.term_unify.proofs.PairLaws.{all-done, among-back, among-front, among-split, cells-join, cells-split, looks-less, occurs-end, occurs-from_end, take-more, told, weight-ends}
 use Rattle.term_unify.proofs.VisitLaws.{Below, Looks, Notes, looks-on, looks-parts, looks-past}
 
 -- cells at which bindings end, and not v

@@ -1,12 +1,14 @@
 -- Cells and bindings that come while patterns are matched against cells.
-use Rattle.std.proofs.Common.{◌≡◌, ◌+◌, ◌<◌, ◌≤◌, ◌&&◌, ◌||◌, ◌++◌, ◌∷◌, [], ℕ, List, length, Bool, true, false, None, Option, Some, slice_get, IsTrue, refl, sym, ◌∙◌, ap, arith, inl, inr, nat_le, nat_lt, lt-ltb, length-append, leb-true}
+use Rattle.std.proofs.Common.{◌≡◌, ◌+◌, ◌≤◌, ◌&&◌, ◌||◌, ◌++◌, ◌∷◌, [], ℕ, List, length, Bool, true, false, Some, slice_get, IsTrue, refl, sym, ◌∙◌, ap, arith, inl, inr, nat_le, nat_lt, lt-ltb, length-append, leb-true}
 use Rattle.std.specs.List.{list_all}
-use Rattle.std.specs.Option.{option_map_or}
 use Rattle.std.proofs.lemmas.Bool.{false≢true}
+use Rattle.plain_laws.proofs.Every.{all-at}
+use Rattle.plain_laws.proofs.Options.{found-more}
+use Rattle.plain_laws.proofs.Places.{get-front, get-there, get-within}
 use Rattle.calculus.specs.declared.sort.Sort.{Sort}
 use Rattle.calculus.specs.declared.sort.Sort.TheVariants.{TermSort, MarkSort, StringSort}
 use Rattle.calculus.specs.Equality.{sort_eq}
-use Rattle.calculus.proofs.PlaceLists.{all-at, all-more, get-front, get-last, get-there, get-within}
+use Rattle.calculus.proofs.PlaceLists.{all-more, get-last}
 use Rattle.store_theory.specs.Bindings.{AddsBuilt, nothing_more, one_more, AddsOver, BindsOnly, BindsWithin, with_cell, is_variable}
 use Rattle.store_theory.specs.Patterns.{Pattern, Patterns, p_var, p_fun, p_eigen, p_new, no_patterns, more_patterns}
 use Rattle.store_theory.specs.Stores.{Cell, variable, fun_cell, eigen_cell, new_cell, string_cell, Store, is_bound, is_store, parts_of, sort_of, has_sort_at, has_value_sort_at, names_below}
@@ -60,9 +62,6 @@ value-below s vs h = all-more (has_value_sort_at s) (λ r. nat_lt r (length s.ce
     by : (r : ℕ) → has_value_sort_at s r ≡ true → nat_lt r (length s.cells) ≡ true
     by r k = either (has_sort_at s TermSort r) (has_sort_at s StringSort r) (nat_lt r (length s.cells)) (one TermSort r) (one StringSort r) k
 
-pub sort-within : (s : Store) (sort : Sort) (r : ℕ) → IsTrue (has_sort_at s sort r) → r < length s.cells
-sort-within s sort r k = let c = sorted_cell s sort r k in get-within s.cells r c.0 c.1
-
 -- each cell keeps its sort
 abbrev pub SortsStay : Store → Store → Type 0
 SortsStay s t = (sort : Sort) (r : ℕ) → IsTrue (has_sort_at s sort r) → IsTrue (has_sort_at t sort r)
@@ -90,10 +89,6 @@ sort-before s t b sort r h =
 
 pub values-stay : (s t : Store) → SortsStay s t → (vs : List ℕ) → IsTrue (list_all (has_value_sort_at s) vs) → IsTrue (list_all (has_value_sort_at t) vs)
 values-stay s t h vs k = all-more (has_value_sort_at s) (has_value_sort_at t) vs (λ r. or-more (has_sort_at s TermSort r) (has_sort_at t TermSort r) (has_sort_at s StringSort r) (has_sort_at t StringSort r) (h TermSort r) (h StringSort r)) k
-
-found-more : (p q : ℕ → Bool) (o : Option ℕ) → ((r : ℕ) → IsTrue (p r) → IsTrue (q r)) → IsTrue (option_map_or p o false) → IsTrue (option_map_or q o false)
-found-more p q None g h = h
-found-more p q (Some r) g h = g r h
 
 mutual
   pub fits-stay : (s t : Store) (vs : List ℕ) (sort : Sort) (p : Pattern) → SortsStay s t → IsTrue (fits_in s vs sort p) → IsTrue (fits_in t vs sort p)

@@ -1,7 +1,9 @@
 -- Matching patterns against cells: what cells and patterns of one name come to, and one pattern after the other.
-use Rattle.std.proofs.Common.{◌≡◌, ◌⊎◌, ◌+◌, ◌<◌, ◌∷◌, [], ℕ, zero, suc, List, length, Bool, Option, Some, slice_get, IsTrue, refl, sym, ◌∙◌, ap, ap₂, arith, inl, inr, lt-ltb}
+use Rattle.std.proofs.Common.{◌≡◌, ◌⊎◌, ◌+◌, ◌<◌, ◌∷◌, [], ℕ, zero, suc, List, length, Bool, Some, slice_get, IsTrue, refl, sym, ◌∙◌, ap, ap₂, arith, inl, inr, lt-ltb}
 use Rattle.std.specs.List.{list_all}
 use Rattle.std.proofs.lemmas.Bool.{false≢true, and_parts}
+use Rattle.plain_laws.proofs.Every.{all-weaken}
+use Rattle.plain_laws.proofs.Options.{same-some}
 use Rattle.calculus.specs.declared.sort.Sort.TheVariants.{TermSort}
 use Rattle.calculus.specs.Ground.{Value, more_g_terms, more_values, marks_list, marks_tree, values_tree}
 use Rattle.calculus.specs.Lists.{marks_list-marks_tree}
@@ -11,7 +13,6 @@ use Rattle.store_theory.specs.Stores.{Store, has_value_sort_at, CellValue, a_ter
 use Rattle.store_theory.specs.Templates.{as_term, as_value, pattern_value, pattern_terms, pattern_values}
 use Rattle.store_theory.proofs.SolutionLaws.{ends-same}
 use Rattle.search_theory.specs.States.{Agree, terms_by, values_by}
-use Rattle.search_theory.proofs.BelowLaws.{all-weaken}
 use Rattle.search_theory.proofs.BuildingLaws.{AreValueCells, adds-back, adds-forth, adds-longer, agree-both, built-value, is_value_cell, solved-valued, value-cell}
 use Rattle.search_theory.proofs.ImageLaws.{values-agree}
 use Rattle.search_theory.proofs.UnifyLaws.{term-same}
@@ -36,16 +37,13 @@ below-next zero (suc n) l = inl (omega arith)
 below-next (suc j) zero l = absurd (omega (arith, l))
 below-next (suc j) (suc n) l = elim (below-next j n (omega (arith, l))) [ inl m ↦ inl (omega (arith, m)) | inr m ↦ inr (ap suc m) ]
 
-pub one-cell : {A : Type 0} (o : Option A) (x y : A) → o ≡ Some x → o ≡ Some y → x ≡ y
-one-cell o x y e f = let q : Some x ≡ Some y = sym e ∙ f in cc q
-
 -- one more is matched
 pub next-matches : (vs rs : List ℕ) (ps : List Pattern) (n r : ℕ) (p : Pattern) (σ : Solution) → slice_get rs n ≡ Some r → slice_get ps n ≡ Some p → MatchTo vs rs ps n σ → Matches vs r p σ → MatchTo vs rs ps (n + 1) σ
 next-matches vs rs ps n r p σ er ep first next j q u m e f = elim (below-next j n m) [
   | inl k ↦ first j q u k e f
   | inr k ↦
-      let sq : r ≡ q = one-cell (slice_get rs n) r q er (sym (ap (slice_get rs) k) ∙ e) in
-      let su : p ≡ u = one-cell (slice_get ps n) p u ep (sym (ap (slice_get ps) k) ∙ f) in
+      let sq : r ≡ q = same-some (slice_get rs n) r q er (sym (ap (slice_get rs) k) ∙ e) in
+      let su : p ≡ u = same-some (slice_get ps n) p u ep (sym (ap (slice_get ps) k) ∙ f) in
       ap σ (sym sq) ∙ next ∙ ap (pattern_value (values_by σ vs)) su
 ]
 

@@ -1,20 +1,21 @@
 -- A built cell and a pattern with parts: they are equal exactly where their names and their parts are.
-use Rattle.std.proofs.Common.{◌≡◌, ◌==◌, ◌&&◌, ◌||◌, ◌∷◌, [], ℕ, List, length, Bool, true, false, Option, None, Some, slice_get, IsTrue, refl, sym, ◌∙◌, ap, ap₂, subst, eq-eqb, eqb-true}
+use Rattle.std.proofs.Common.{◌≡◌, ◌==◌, ◌&&◌, ◌||◌, ◌∷◌, [], ℕ, List, length, true, false, Option, None, Some, slice_get, IsTrue, refl, sym, ◌∙◌, ap, ap₂, subst, eq-eqb, eqb-true}
 use Rattle.std.specs.List.{list_all}
 use Rattle.std.specs.Option.{option_map_or}
 use Rattle.std.proofs.lemmas.Bool.{false≢true, and_parts}
+use Rattle.plain_laws.proofs.Every.{all-weaken}
+use Rattle.plain_laws.proofs.Places.{get-within}
+use Rattle.plain_laws.proofs.Booleans.{or-false_true}
 use Rattle.calculus.specs.declared.sort.Sort.{Sort}
 use Rattle.calculus.specs.declared.sort.Sort.TheVariants.{TermSort, MarkSort, StringSort}
 use Rattle.calculus.specs.Equality.{sort_eq}
 use Rattle.calculus.specs.Ground.{g_fun, g_eigen, g_new_mark, values_tree}
-use Rattle.calculus.proofs.PlaceLists.{get-within}
 use Rattle.store_theory.specs.Bindings.{is_variable}
 use Rattle.store_theory.specs.Patterns.{Pattern, Patterns, p_var, p_fun, p_eigen, p_new, patterns_tree}
 use Rattle.store_theory.specs.Stores.{Cell, variable, fun_cell, eigen_cell, new_cell, string_cell, Store, is_store, parts_of, has_sort_at, has_value_sort_at, a_term, a_mark, a_string, has_sort, Solution, values_at, Solves}
 use Rattle.store_theory.specs.Templates.{pattern_terms, pattern_value, pattern_values}
 use Rattle.store_theory.proofs.BindingLaws.{kept, sort_eq-true}
 use Rattle.search_theory.specs.States.{terms_by, values_by}
-use Rattle.search_theory.proofs.BelowLaws.{all-weaken}
 use Rattle.search_theory.proofs.BuildingLaws.{built-value, is_value_cell, solved-sorted, solved-valued, value-cell}
 use Rattle.search_theory.proofs.SpareLaws.{or-both, terms-there, values-there}
 use Rattle.term_store.specs.Fitting.{fits_in, parts_fit_in}
@@ -35,15 +36,11 @@ pattern-sorted s σ h vs k sort (p_fun g ps) f = let e = sort_eq-true sort TermS
 pattern-sorted s σ h vs k sort (p_eigen g ps) f = let e = sort_eq-true sort TermSort (and_parts (sort_eq sort TermSort) (parts_fit_in s vs TermSort true ps) f).0 in rw e refl
 pattern-sorted s σ h vs k sort (p_new g ps) f = let e = sort_eq-true sort MarkSort (and_parts (sort_eq sort MarkSort) (parts_fit_in s vs TermSort true ps) f).0 in rw e refl
 
-or_none : (p : Bool) → (p || false) ≡ true → p ≡ true
-or_none true h = refl
-or_none false h = h
-
 pub terms-valued : (s : Store) (σ : Solution) → Solves s σ → (vs : List ℕ) → IsTrue (list_all (has_value_sort_at s) vs) → (ps : List Pattern) → IsTrue (parts_fit_in s vs TermSort false (patterns_tree ps)) → IsTrue (have_values (has_sort TermSort) (values_by σ vs) ps)
 terms-valued s σ h vs k [] f = refl
 terms-valued s σ h vs k (p ∷ ps) f =
     let x = and_parts (fits_in s vs TermSort p || (false && fits_in s vs StringSort p)) (parts_fit_in s vs TermSort false (patterns_tree ps)) f in
-    let one = pattern-sorted s σ h vs k TermSort p (or_none (fits_in s vs TermSort p) x.0) in
+    let one = pattern-sorted s σ h vs k TermSort p (or-false_true (fits_in s vs TermSort p) x.0) in
     rw one (terms-valued s σ h vs k ps x.1)
 
 pub values-valued : (s : Store) (σ : Solution) → Solves s σ → (vs : List ℕ) → IsTrue (list_all (has_value_sort_at s) vs) → (ps : List Pattern) → IsTrue (parts_fit_in s vs TermSort true (patterns_tree ps)) → IsTrue (have_values is_value_cell (values_by σ vs) ps)

@@ -3,9 +3,10 @@ use Rattle.std.proofs.Common.{◌≡◌, ◌+◌, ◌<◌, ◌∷◌, [], ℕ, z
 use Rattle.std.specs.List.{list_all}
 use Rattle.std.specs.Option.{option_map_or}
 use Rattle.std.proofs.lemmas.Bool.{false≢true, and_parts}
+use Rattle.plain_laws.proofs.Every.{all-at}
+use Rattle.plain_laws.proofs.Options.{same-some}
 use Rattle.calculus.specs.declared.sort.Sort.{Sort}
 use Rattle.calculus.specs.Equality.{sort_eq}
-use Rattle.calculus.proofs.PlaceLists.{all-at}
 use Rattle.store_theory.specs.Bindings.{EndsIn, IsEnd, IsWellFormed, KeepsMarks, is_variable}
 use Rattle.store_theory.specs.Patterns.{HaveSortsAt, Pattern, patterns_tree}
 use Rattle.store_theory.specs.Stores.{Cell, Store, is_bound, is_store, parts_of, sort_at, sort_of, has_value_sort_at}
@@ -15,7 +16,7 @@ use Rattle.term_store.specs.Fitting.{fits_in}
 use Rattle.term_store.specs.Signatures.{BuildsOver, Signature, allows, allows_all}
 use Rattle.term_unify.specs.Matching.{AddsAndBinds, AllNamesKept, ArePartsAt, HoldsNowhere, MatchTo, Matches, NamesKept, Narrows, StandsBuilt}
 use Rattle.term_unify.proofs.MatchCells.{SortsStay, adds-both, adds-longer_both, adds-none, fits-stay, sorts-stay, unbound, value-below, values-stay}
-use Rattle.term_unify.proofs.MatchLaws.{narrows-more, narrows-none, narrows-same, nowhere-later, one-cell}
+use Rattle.term_unify.proofs.MatchLaws.{narrows-more, narrows-none, narrows-same, nowhere-later}
 use Rattle.term_unify.proofs.PairLaws.{part-among, told}
 
 -- the first n cells are matched
@@ -105,12 +106,12 @@ stands-stays s t x h (c, e, v) = (c, built-stays s t x c h e v, v)
 -- what holds of the parts held of them before
 pub parts-back : (s t : Store) (x : ℕ) (P : List ℕ → Type 0) → AddsAndBinds s t → StandsBuilt s x → ArePartsAt t x P → ArePartsAt s x P
 parts-back s t x P h (c, e, v) k d f =
-    let same : c ≡ d = one-cell (slice_get s.cells x) c d e f in
+    let same : c ≡ d = same-some (slice_get s.cells x) c d e f in
     subst (λ z. P (parts_of z)) same (k c (built-stays s t x c h e v))
 
 pub parts-forth : (s t : Store) (x : ℕ) (P : List ℕ → Type 0) → AddsAndBinds s t → StandsBuilt s x → ArePartsAt s x P → ArePartsAt t x P
 parts-forth s t x P h (c, e, v) k d f =
-    let same : c ≡ d = one-cell (slice_get t.cells x) c d (built-stays s t x c h e v) f in
+    let same : c ≡ d = same-some (slice_get t.cells x) c d (built-stays s t x c h e v) f in
     subst (λ z. P (parts_of z)) same (k c e)
 
 pub stands-end : (s : Store) (x : ℕ) → StandsBuilt s x → IsEnd s x
@@ -125,7 +126,7 @@ pub parts-told : (s : Store) (x : ℕ) (xs : List ℕ) (P : List ℕ → Type 0)
 parts-told s x xs P (c, e, v) t k = subst P (sym (told s x c (λ d. xs ≡ parts_of d) e (unbound c v) t)) (k c e)
 
 pub parts-among : (s : Store) (x i k : ℕ) (xs : List ℕ) → StandsBuilt s x → EndsIn s x (λ d. xs ≡ parts_of d) → slice_get xs i ≡ Some k → ArePartsAt s x (λ rs. slice_get rs i ≡ Some k)
-parts-among s x i k xs (c, e, v) t h d f = told s x d (λ y. slice_get (parts_of y) i ≡ Some k) f (ap is_bound (one-cell (slice_get s.cells x) d c f e) ∙ unbound c v) (part-among s x i k xs t h)
+parts-among s x i k xs (c, e, v) t h d f = told s x d (λ y. slice_get (parts_of y) i ≡ Some k) f (ap is_bound (same-some (slice_get s.cells x) d c f e) ∙ unbound c v) (part-among s x i k xs t h)
 
 -- a part is a cell that was there before
 pub part-before : (s t : Store) (x i r : ℕ) → IsWellFormed s → AddsAndBinds s t → StandsBuilt s x → ArePartsAt t x (λ rs. slice_get rs i ≡ Some r) → ArePartsAt s x (λ rs. (slice_get rs i ≡ Some r) × (r < length s.cells))

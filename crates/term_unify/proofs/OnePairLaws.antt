@@ -1,9 +1,9 @@
 -- One pair of cells: what holds of the ends of their bindings, or of the pairs of their parts, holds of the pair.
 use Rattle.std.proofs.Common.{◌⊎◌, ◌≡◌, ◌<◌, ◌≤◌, arith, true, ◌∷◌, [], length, ℕ, List, refl, sym, subst, inl, inr}
+use Rattle.plain_laws.proofs.Places.{get-within}
 use Rattle.calculus.specs.Equality.{sort_eq}
 use Rattle.store_theory.specs.Stores.{Store, OccursIn, here, EndsAt, stays, Solution, Solves}
 use Rattle.store_theory.specs.Bindings.{IsWellFormed, MayBind, SolvesPairs, with_binding, BindsOnly, BindsWithin, Unifies, AreApart}
-use Rattle.calculus.proofs.PlaceLists.{get-within}
 use Rattle.store_theory.proofs.SolutionLaws.{occurs-apart, some_solution}
 use Rattle.term_store.specs.declared.cell.End.{End}
 use Rattle.term_store.specs.declared.cell.Ref.{Ref}

@@ -2,19 +2,16 @@
 use Rattle.std.proofs.Common.{◌⊎◌, ◌≡◌, ◌≤◌, ◌<◌, ◌+◌, ◌++◌, ◌∷◌, ◌==◌, [], None, Some, length, ℕ, zero, suc, List, true, false, map, take, refl, sym, ap, ap₂, ◌∙◌, subst, arith, inl, inr, append_assoc, eqb-true, option_map, Result, Ok, Err}
 use Rattle.std.specs.Prelude.{IfOk, OnErr, slice_get}
 use Rattle.std.proofs.lemmas.Bool.{false≢true, and_parts}
+use Rattle.plain_laws.proofs.Lists.{map-last}
 use Rattle.calculus.specs.declared.sort.Sort.{Sort}
 use Rattle.store_theory.specs.Stores.{Cell, variable, fun_cell, eigen_cell, new_cell, string_cell, Store, parts_of, is_bound, OccursIn, here, in_part, EndsAt, stays, goes_on, Solution, Solves}
 use Rattle.store_theory.specs.Bindings.{EndsIn, IsEnd, IsWellFormed, SolvesPairs, part_pairs, are_alike, is_variable, MayBind, with_binding, BindsOnly, KeepsMarks, bind_at, bound_to}
-use Rattle.store_theory.proofs.BindingLaws.{ends-once, kept, parts-within, get-bound, get-unbound, same_place, length-bind, KeepsMarks-same, KeepsMarks-both, KeepsMarks-with_binding, IsWellFormed-with_binding}
+use Rattle.store_theory.proofs.BindingLaws.{ends-once, kept, parts-within, get-bound, get-unbound, same_place, length-bind, KeepsMarks-same, KeepsMarks-both, KeepsMarks-with_binding, IsWellFormed-with_binding, bound-part}
 use Rattle.store_theory.proofs.WeightLaws.{weight, weight_sum, weight_sum-none, weight_sum-more, weight_sum-append, weight-parts, weight-positive, weight-bound}
 use Rattle.store_theory.proofs.SolutionLaws.{ends-same, alike-parts, SolvesPairs-join, SolvesPairs-split, Solves-bound, Solves-unbound, occurs-apart}
 use Rattle.term_store.specs.declared.cell.Ref.{Ref}
 use Rattle.term_unify.specs.PairView.{the_pair}
 use Rattle.term_unify.specs.Steps.{AreBuilt, AddsParts, AreCells, OccursAmong, AreAllCells, SolvesAll, IsBinding, AreEnds, OccursInPairs, OccursBefore, BindsInPairs}
-
-pub map-last : {A B : Type 0} (f : A → B) (xs : List A) (x : A) → map f (xs ++ x ∷ []) ≡ map f xs ++ f x ∷ []
-map-last f [] x = refl
-map-last f (y ∷ xs) x = ap (λ zs. f y ∷ zs) (map-last f xs x)
 
 pub take-more : (i : ℕ) (xs : List ℕ) (x : ℕ) → slice_get xs i ≡ Some x → take (i + 1) xs ≡ take i xs ++ x ∷ []
 take-more i xs x e = ap (λ n. take n xs) (let p : i + 1 ≡ suc i = omega arith in p) ∙ by i xs e
@@ -124,13 +121,6 @@ pub pairs-done : (s : Store) (a b n : ℕ) (c d : Cell) → AreBuilt s a b → s
 pairs-done s a b n c d w e f t = ap₂ part_pairs (all-done s a n c e (built-left s a b w) t) (all-done s b n d f (built-right s a b w) (built-count s a b n w t))
 
 -- ---- the occurs check
-
-bound-part : (sort : Sort) (r i k : ℕ) (c : Cell) → c ≡ variable sort (Some r) → slice_get (parts_of c) i ≡ Some k → k ≡ r
-bound-part sort r i k c q p = by i (ap (λ x. slice_get (parts_of x) i) (sym q) ∙ p)
-  where
-    by : (i : ℕ) → slice_get (r ∷ []) i ≡ Some k → k ≡ r
-    by zero e = cc
-    by (suc i) e = absurd (cc)
 
 pub occurs-end : (s : Store) (v r e : ℕ) → IsEnd s v → EndsAt s r e → (OccursIn s v r → OccursIn s v e) × (OccursIn s v e → OccursIn s v r)
 occurs-end s v r e w (stays f b) = (λ o. o, λ o. o)

@@ -3,6 +3,8 @@ use Rattle.std.proofs.Common.{◌≡◌, ℕ, zero, suc, ◌+◌, ◌<◌, ◌�
 use Rattle.std.specs.Option.{option_map_or}
 use Rattle.std.proofs.lemmas.Bool.{false≢true}
 use Rattle.std.proofs.lemmas.List.{length-map}
+use Rattle.plain_laws.proofs.Every.{all-at}
+use Rattle.plain_laws.proofs.Places.{drop-end, drop-there}
 use Rattle.calculus.specs.declared.sort.Sort.{Sort}
 use Rattle.calculus.specs.declared.sort.Sort.TheVariants.{TermSort, MarkSort, StringSort}
 use Rattle.store_theory.specs.Bindings.{IsEnd, IsWellFormed}
@@ -10,7 +12,6 @@ use Rattle.calculus.specs.Ground.{GroundMark, g_fun, g_eigen, common, g_new_mark
 use Rattle.store_theory.specs.Stores.{Cell, variable, fun_cell, eigen_cell, new_cell, string_cell, Store, sort_of, is_bound, names_below, CellValue, a_term, a_mark, a_string, has_sort, Solution, Solves, CellHolds, cons_mark, marks_at}
 use Rattle.store_theory.specs.Systems.{is_label}
 use Rattle.store_theory.proofs.BindingLaws.{sorted_cell}
-use Rattle.calculus.proofs.PlaceLists.{all-at}
 use Rattle.store_theory.proofs.SolutionLaws.{FitsOpen, solution_by, some_solution}
 use Rattle.term_store.specs.RefView.{the_place}
 use Rattle.term_store.specs.declared.cell.Ref.{Ref}
@@ -21,7 +22,6 @@ use Rattle.search_theory.proofs.GivingLaws.{length-marks}
 use Rattle.search_theory.specs.MarkLists.{IsFlat}
 use Rattle.search_theory.proofs.SolvingLaws.{label-there}
 use Rattle.term_unify.specs.Same.{AreSameCells, AreSameLabels, DifferAt}
-use Rattle.term_unify.proofs.ListItems.{drop-end, drop-there}
 
 -- ---- cells
 
@@ -158,7 +158,7 @@ marks-same σ (x ∷ xs) [] e = cc e
 marks-same σ (x ∷ xs) (y ∷ ys) e = let p : σ x ≡ σ y = cc e in let q : map σ xs ≡ map σ ys = cc e in ap₂ cons_mark p (marks-same σ xs ys q)
 
 -- the label's marks are those of the flat list
-label-marks : (s : Store) (ws ms : List ℕ) (σ : Solution) → Solves s σ → IsTrue (is_label s ws) → IsFlat s ws ms → marks_at σ ms ≡ Some (label_by σ ws)
+pub label-marks : (s : Store) (ws ms : List ℕ) (σ : Solution) → Solves s σ → IsTrue (is_label s ws) → IsFlat s ws ms → marks_at σ ms ≡ Some (label_by σ ws)
 label-marks s ws ms σ t h f = sym (f.same σ t) ∙ label-there s σ t ws h
 
 pub labels-same : (s : Store) (ws vs ms ns : List ℕ) → IsTrue (is_label s ws) → IsTrue (is_label s vs) → IsFlat s ws ms → IsFlat s vs ns → AreSameCells s ms ns → AreSameLabels s ws vs

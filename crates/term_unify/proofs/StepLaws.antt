@@ -1,7 +1,8 @@
 -- The steps of unification over the ground solutions of a store.
-use Rattle.std.proofs.Common.{inl, inr, ◌≡◌, ◌==◌, ◌&&◌, None, Some, length, ℕ, Bool, true, false, refl, sym, ap, ap₂, ◌∙◌, eqb-true, eq-eqb}
+use Rattle.std.proofs.Common.{inl, inr, ◌≡◌, ◌==◌, None, Some, length, ℕ, true, false, refl, sym, ap, ap₂, ◌∙◌, eqb-true, eq-eqb}
 use Rattle.std.specs.Prelude.{slice_get}
-use Rattle.std.proofs.lemmas.Bool.{false≢true, and_parts}
+use Rattle.std.proofs.lemmas.Bool.{false≢true}
+use Rattle.plain_laws.proofs.Booleans.{and-number, and-number_parts}
 use Rattle.calculus.specs.Equality.{sort_eq}
 use Rattle.store_theory.specs.Stores.{Cell, variable, fun_cell, eigen_cell, new_cell, string_cell, Store, parts_of, sort_of, is_bound, EndsAt, stays, Solution, Solves}
 use Rattle.store_theory.specs.Bindings.{EndsIn, are_alike, is_variable}
@@ -43,7 +44,7 @@ head_sort-of (string_cell rs) = refl
 ended-sort : (s : Store) (a x : ℕ) (h : Head) (w : Ended s a x h) → sort_of w.cell ≡ head_sort h
 ended-sort s a x h w = sym (head_sort-of w.cell) ∙ ap head_sort w.shows
 
--- both ways between the cells and the ends of their bindings
+-- and-number ways between the cells and the ends of their bindings
 pub both-ends : (s : Store) (σ : Solution) (a b x y : ℕ) → Solves s σ → EndsAt s a x → EndsAt s b y → (σ a ≡ σ b → σ x ≡ σ y) × (σ x ≡ σ y → σ a ≡ σ b)
 both-ends s σ a b x y h e f = (λ q. sym (ends-same s σ a x h e) ∙ q ∙ ends-same s σ b y h f, λ q. ends-same s σ a x h e ∙ q ∙ sym (ends-same s σ b y h f))
 
@@ -99,18 +100,12 @@ step-right s a b x y h k w u n t o =
     let turned = step-left s b a y x k h u w (λ q. n (sym q)) t o in
     (turned.0, λ σ z. let p = turned.1 σ z in (λ q. p.0 (sym q), λ q. sym (p.1 q)), inr (u.ends, w.ends))
 
-two : (p : Bool) (m n : ℕ) → (p && m == n) ≡ true → (p ≡ true) × (m ≡ n)
-two p m n h = let a = and_parts p (m == n) h in (a.0, eqb-true m n a.1)
-
-both : (p : Bool) (m n : ℕ) → p ≡ true → m ≡ n → (p && m == n) ≡ true
-both p m n h e = rw (h, eq-eqb m n e) refl
-
 -- names and numbers of parts tell whether built cells are alike
 alike-name : (c d : Cell) → is_variable c ≡ false → are_alike c d ≡ true → (same_name (head_of c) (head_of d) ≡ true) × (length (parts_of c) ≡ length (parts_of d))
 alike-name (variable sort b) d v h = absurd (false≢true (sym v))
-alike-name (fun_cell f rs) (fun_cell g qs) v h = two (f == g) (length rs) (length qs) h
-alike-name (eigen_cell f rs) (eigen_cell g qs) v h = two (f == g) (length rs) (length qs) h
-alike-name (new_cell f rs) (new_cell g qs) v h = two (f == g) (length rs) (length qs) h
+alike-name (fun_cell f rs) (fun_cell g qs) v h = and-number_parts (f == g) (length rs) (length qs) h
+alike-name (eigen_cell f rs) (eigen_cell g qs) v h = and-number_parts (f == g) (length rs) (length qs) h
+alike-name (new_cell f rs) (new_cell g qs) v h = and-number_parts (f == g) (length rs) (length qs) h
 alike-name (string_cell rs) (string_cell qs) v h = (refl, eqb-true (length rs) (length qs) h)
 alike-name (fun_cell f rs) (variable sort b) v h = absurd (false≢true h)
 alike-name (fun_cell f rs) (eigen_cell g qs) v h = absurd (false≢true h)
@@ -131,9 +126,9 @@ alike-name (string_cell rs) (new_cell g qs) v h = absurd (false≢true h)
 
 name-alike : (c d : Cell) → is_variable c ≡ false → same_name (head_of c) (head_of d) ≡ true → length (parts_of c) ≡ length (parts_of d) → are_alike c d ≡ true
 name-alike (variable sort b) d v h n = absurd (false≢true (sym v))
-name-alike (fun_cell f rs) (fun_cell g qs) v h n = both (f == g) (length rs) (length qs) h n
-name-alike (eigen_cell f rs) (eigen_cell g qs) v h n = both (f == g) (length rs) (length qs) h n
-name-alike (new_cell f rs) (new_cell g qs) v h n = both (f == g) (length rs) (length qs) h n
+name-alike (fun_cell f rs) (fun_cell g qs) v h n = and-number (f == g) (length rs) (length qs) h n
+name-alike (eigen_cell f rs) (eigen_cell g qs) v h n = and-number (f == g) (length rs) (length qs) h n
+name-alike (new_cell f rs) (new_cell g qs) v h n = and-number (f == g) (length rs) (length qs) h n
 name-alike (string_cell rs) (string_cell qs) v h n = eq-eqb (length rs) (length qs) n
 name-alike (fun_cell f rs) (variable sort b) v h n = absurd (false≢true h)
 name-alike (fun_cell f rs) (eigen_cell g qs) v h n = absurd (false≢true h)

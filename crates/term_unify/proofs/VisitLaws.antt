@@ -2,18 +2,15 @@
 use Rattle.std.proofs.Common.{◌⊎◌, ◌≡◌, ◌≤◌, ◌<◌, ◌+◌, ◌++◌, ◌∷◌, [], Some, length, ℕ, zero, suc, List, true, false, refl, sym, ap, ◌∙◌, subst, arith, inl, inr}
 use Rattle.std.specs.Prelude.{slice_get}
 use Rattle.std.proofs.lemmas.Bool.{false≢true}
+use Rattle.plain_laws.proofs.Places.{get-back, get-front}
 use Rattle.store_theory.specs.Stores.{Cell, Store, parts_of, OccursIn, here, in_part, EndsAt, Solution, Solves}
 use Rattle.store_theory.specs.Bindings.{IsEnd, IsWellFormed, SolvesPairs, part_pairs}
-use Rattle.calculus.proofs.PlaceLists.{get-front, get-last}
+use Rattle.calculus.proofs.PlaceLists.{get-last}
 use Rattle.store_theory.proofs.SolutionLaws.{ends-same, alike-parts}
 use Rattle.store_theory.proofs.WeightLaws.{weight, weight_sum, weight_sum-more, weight_sum-append, weight-parts, weight-positive}
 use Rattle.term_unify.specs.Steps.{AreBuilt, AddsParts, AreAllCells, OccursAmong}
 use Rattle.term_unify.specs.Visits.{was_seen}
 use Rattle.term_unify.proofs.PairLaws.{ComesTo, among-back, among-front, among-from, among-split, cells-join, cells-split, comes-join, comes-occurs, comes-parts, comes-rest, comes-same, comes-split, occurs-end, parts-cells, weight-ends}
-
-pub get-back : {A : Type 0} (xs ys : List A) (i : ℕ) (y : A) → slice_get ys i ≡ Some y → slice_get (xs ++ ys) (length xs + i) ≡ Some y
-get-back [] ys i y e = ap (slice_get ys) (let q : 0 + i ≡ i = omega arith in q) ∙ e
-get-back (x ∷ xs) ys i y e = ap (slice_get (x ∷ (xs ++ ys))) (let q : suc (length xs) + i ≡ suc (length xs + i) = omega arith in q) ∙ get-back xs ys i y e
 
 part-weight : (s : Store) (rs : List ℕ) (i k : ℕ) → slice_get rs i ≡ Some k → weight s k ≤ weight_sum s rs
 part-weight s [] i k e = absurd (cc)

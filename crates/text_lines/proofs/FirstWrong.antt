@@ -2,6 +2,7 @@
 -- far as it is the beginning of the lines of such a value.
 use Rattle.std.proofs.Common.{◌≡◌, ℕ, suc, ◌+◌, ◌≤◌, List, [], ◌∷◌, ◌++◌, length, take, refl, sym, ◌∙◌, ap, append-nil, add-one, arith, flat_map, length-append}
 use Rattle.std.proofs.Math.Seq.{take-append_seam}
+use Rattle.plain_laws.proofs.Lists.{cons-parts}
 use Rattle.calculus.specs.DerivationText.{line_bytes}
 use Rattle.calculus.specs.Judgement.{whole_lines}
 use Rattle.text_lines.proofs.LineFeeds.{AreNoFeeds}
@@ -38,18 +39,15 @@ record IsNext (seen tail lines : List (List ℕ)) : Type 0 where
   lines_are : lines ≡ seen ++ line ∷ rest
   tail_is : tail ≡ line ∷ more
 
-parts-of : {A : Type 0} (x y : A) (xs ys : List A) → x ∷ xs ≡ y ∷ ys → (x ≡ y) × (xs ≡ ys)
-parts-of x y xs ys e = (cc, cc)
-
 next-of : (seen tail lines : List (List ℕ)) → suc (length seen) ≤ length (seen ++ tail) → suc (length seen) ≤ length lines → take (suc (length seen)) (seen ++ tail) ≡ take (suc (length seen)) lines → IsNext seen tail lines
 next-of [] [] lines h k e = absurd (omega arith)
 next-of [] (t ∷ tail) [] h k e = absurd (omega arith)
 next-of [] (t ∷ tail) (l ∷ lines) h k e =
-    let same = (parts-of t l (take 0 tail) (take 0 lines) e).0 in
+    let same = (cons-parts t l (take 0 tail) (take 0 lines) e).0 in
     record { line = t; rest = lines; more = tail; lines_are = λ i. sym same i ∷ lines; tail_is = refl }
 next-of (s ∷ seen) tail [] h k e = absurd (omega arith)
 next-of (s ∷ seen) tail (l ∷ lines) h k e =
-    let p = parts-of s l (take (suc (length seen)) (seen ++ tail)) (take (suc (length seen)) lines) e in
+    let p = cons-parts s l (take (suc (length seen)) (seen ++ tail)) (take (suc (length seen)) lines) e in
     let r = next-of seen tail lines (omega arith) (omega arith) p.1 in
     record { line = r.line; rest = r.rest; more = r.more; lines_are = λ i. sym p.0 i ∷ r.lines_are i; tail_is = r.tail_is }
 

@@ -1,5 +1,5 @@
 -- What the parts of a line begin with, and that nothing else does.
-use Rattle.std.proofs.Common.{◌≡◌, ℕ, ◌+◌, ◌≤◌, ◌<◌, ◌^◌, List, [], ◌++◌, length, Bool, IsTrue, sym, ◌∙◌, ap, subst, append-nil, decimal, nat_le, leb-true, arith, codes, lt-ltb, lit<, lt_of_le_of_lt, Option, Some, None, Bor, MatchOption, IfSome, IsNone, ◌≢◌, ◌==◌, false}
+use Rattle.std.proofs.Common.{◌≡◌, ℕ, ◌+◌, ◌≤◌, ◌<◌, ◌^◌, List, [], length, Bool, IsTrue, sym, ◌∙◌, ap, subst, append-nil, decimal, nat_le, leb-true, arith, codes, lt-ltb, lit<, lt_of_le_of_lt, ◌==◌, false}
 use Rattle.std.proofs.lemmas.Bool.{and_parts, true≢false}
 use Rattle.calculus.specs.Derivations.{Label}
 use Rattle.calculus.specs.DerivationText.{IsLabelAt}
@@ -9,11 +9,6 @@ use Rattle.calculus.proofs.TermTextLaws.{small-number, label-split}
 use Rattle.formula_text.specs.Runs.{IsNumberAt}
 use Rattle.formula_text.proofs.Places.{after-text, stands-front}
 use Rattle.text_lines.specs.Spelling.{IsLabel, IsLabelBefore, IsLimit, IsNameNumber, IsNumber, IsNumberBefore}
-
--- a beginning that is cut off, or is not there
-pub cut-off : (r : Option (Bor (List ℕ))) (s p : List ℕ) → MatchOption r ((rest : List ℕ) → s ≢ p ++ rest) (λ x. s ≡ p ++ x.now) → IfSome r (λ x. s ≡ p ++ x.now) × (IsNone r → (rest : List ℕ) → ¬ (s ≡ p ++ rest))
-cut-off None s p m = (tt, λ _ rest. m rest)
-cut-off (Some x) s p m = (m, λ h. absurd (cc h))
 
 pub not-empty : (xs : List ℕ) (b : Bool) → b ≡ (length xs == 0) → b ≡ false → xs ≡ [] → ⊥
 not-empty xs b i j e = true≢false (sym (ap (λ l. length l == 0) e) ∙ sym i ∙ j)

@@ -3,8 +3,9 @@
 use Rattle.std.proofs.Common.{◌≡◌, ℕ, List, [], ◌∷◌, ◌++◌, length, map, drop, Bool, IsTrue, Option, None, Some, refl, sym, ◌∙◌, ap, append_assoc, append-nil, flat_map}
 use Rattle.std.specs.List.{list_all}
 use Rattle.std.proofs.lemmas.Bool.{and_parts}
-use Rattle.std.proofs.lemmas.List.{append_cancel_left}
 use Rattle.std.proofs.lemmas.List.Prefix.{front_rest}
+use Rattle.plain_laws.proofs.Options.{none-some, some-eq}
+use Rattle.plain_laws.proofs.Lists.{nothing-after, cons-parts}
 use Rattle.calculus.specs.DerivationText.{line_bytes}
 use Rattle.calculus.specs.Judgement.{whole_lines}
 use Rattle.text_lines.specs.Lines.{AreRead, IsLineAt}
@@ -66,16 +67,7 @@ run-none : {D L S : Type 0} (k : Kind D L S) (xs : List L) → run k None xs ≡
 run-none k [] = refl
 run-none k (x ∷ xs) = run-none k xs
 
-none-some : {A : Type 0} (o : Option A) (s : A) → o ≡ None → o ≡ Some s → ⊥
-none-some o s e f = cc
-
-some-eq : {A : Type 0} (x y : A) → Some x ≡ Some y → x ≡ y
-some-eq x y e = cc
-
 -- ---- lines that begin with these
-
-parts-of : {A : Type 0} (x y : A) (xs ys : List A) → x ∷ xs ≡ y ∷ ys → (x ≡ y) × (xs ≡ ys)
-parts-of x y xs ys e = (cc, cc)
 
 begins : {D L S : Type 0} (k : Kind D L S) → IsKind k → (xs ys : List L) (rest : List (List ℕ)) → IsTrue (list_all k.good xs) → IsTrue (list_all k.good ys) → map k.text ys ≡ map k.text xs ++ rest
     → (zs : List L) × (ys ≡ xs ++ zs) × (map k.text zs ≡ rest) × IsTrue (list_all k.good zs)
@@ -84,7 +76,7 @@ begins k w (x ∷ xs) [] rest hx hy e = absurd (cc)
 begins k w (x ∷ xs) (y ∷ ys) rest hx hy e =
     let px = and_parts (k.good x) (list_all k.good xs) hx in
     let py = and_parts (k.good y) (list_all k.good ys) hy in
-    let h = parts-of (k.text y) (k.text x) (map k.text ys) (map k.text xs ++ rest) e in
+    let h = cons-parts (k.text y) (k.text x) (map k.text ys) (map k.text xs ++ rest) e in
     let same = w.one y x py.0 px.0 h.0 in
     let r = begins k w xs ys rest px.1 py.1 h.1 in
     (r.0, (λ i. same i ∷ r.1 i), r.2, r.3)
@@ -108,7 +100,7 @@ refused {D} {L} {S} k w bytes place s head xs r l none d h rest same =
     by-next [] all lines hz = absurd (cc)
     by-next (z ∷ zs) all lines hz =
         let p = and_parts (k.good z) (list_all k.good zs) hz in
-        let stop = none z (record { good = p.0; same = sym (parts-of _ _ _ _ lines).0 }) in
+        let stop = none z (record { good = p.0; same = sym (cons-parts _ _ _ _ lines).0 }) in
         none-some (run k (Some k.first) (k.body d)) k.ended
         (ap (run k (Some k.first)) all ∙ run-append k (Some k.first) xs (z ∷ zs) ∙ ap (λ o. run k o (z ∷ zs)) r.order ∙ ap (λ o. run k o zs) stop ∙ run-none k zs)
         (w.ends d h)
@@ -127,9 +119,6 @@ whole-ends {D} {L} {S} k w bytes place s head xs r d h same =
 
 -- ---- faults
 
-nothing-after : (a b r : List ℕ) → a ≡ b ++ r → a ≡ b → r ≡ []
-nothing-after a b r e f = append_cancel_left b r [] (sym e ∙ f ∙ sym (append-nil b))
-
 -- the next line may not stand here
 pub wrong-line : {D L S : Type 0} (k : Kind D L S) → IsKind k → (bytes : List ℕ) (place to : ℕ) (s : S) (head : List (List ℕ)) (xs : List L) (l : List ℕ) → AreReadTo k bytes place s head xs → IsLineAt bytes place to l
     → ((x : L) → Spells k l x → k.after s x ≡ None) → IsFirstWrong (Has k) k.lines bytes (length (head ++ map k.text xs))
@@ -138,7 +127,7 @@ wrong-line {D} {L} {S} k w bytes place to s head xs l r here none =
   where
     next : (d : D) → Has k d → (j : List ℕ) (rest more : List (List ℕ)) → k.lines d ≡ (head ++ map k.text xs) ++ j ∷ rest → l ∷ whole_lines (drop to bytes) ≡ j ∷ more → ⊥
     next d h j rest more same first =
-        refused k w bytes place s head xs r l none d h rest (same ∙ ap (λ (i : List ℕ). (head ++ map k.text xs) ++ i ∷ rest) (sym (parts-of _ _ _ _ first).0))
+        refused k w bytes place s head xs r l none d h rest (same ∙ ap (λ (i : List ℕ). (head ++ map k.text xs) ++ i ∷ rest) (sym (cons-parts _ _ _ _ first).0))
 
     no_more : (a b : List ℕ) → a ++ 10 ∷ b ≡ [] → ⊥
     no_more [] b e = cc

@@ -1,9 +1,10 @@
 -- The whole lines of a text, and the reading of one line after the other.
-use Rattle.std.proofs.Common.{◌≡◌, ℕ, ◌+◌, List, [], ◌∷◌, ◌++◌, take, drop, not, ◌==◌, IsTrue, refl, sym, ◌∙◌, ap, append_assoc, append-nil, arith, inl, inr, flat_map}
+use Rattle.std.proofs.Common.{◌≡◌, ℕ, ◌+◌, List, [], ◌∷◌, ◌++◌, take, drop, not, ◌==◌, IsTrue, refl, sym, ◌∙◌, ap, append_assoc, arith, inl, inr, flat_map}
 use Rattle.std.specs.List.{list_all}
 use Rattle.std.proofs.lemmas.Bool.{and_parts, cases_Bool, false≢true}
 use Rattle.std.proofs.lemmas.Grind.{flat_map-append}
 use Rattle.std.proofs.lemmas.List.{take-append-drop}
+use Rattle.plain_laws.proofs.Lists.{regroup-line}
 use Rattle.calculus.specs.DerivationText.{line_bytes}
 use Rattle.calculus.specs.Judgement.{byte_before, line_step, whole_lines}
 use Rattle.text_lines.specs.Lines.{AreRead, IsLineAt}
@@ -44,12 +45,9 @@ at-feed bytes i h e = ap whole_lines (sym (take-append-drop i bytes) ∙ ap (λ 
 pub none-read : (bytes : List ℕ) → AreRead bytes [] 0
 none-read bytes = record { within = omega arith; whole = refl; text = refl }
 
-regroup : (f l r : List ℕ) → f ++ (l ++ 10 ∷ r) ≡ (f ++ ((l ++ 10 ∷ []) ++ [])) ++ r
-regroup f l r = simp (append_assoc, append-nil)
-
 pub more-read : (bytes : List ℕ) (ls : List (List ℕ)) (from to : ℕ) (l : List ℕ) → AreRead bytes ls from → IsLineAt bytes from to l → AreRead bytes (ls ++ l ∷ []) to
 more-read bytes ls from to l r h = record {
   within = h.within;
   whole = r.whole ∙ ap (λ k. ls ++ k) h.whole ∙ sym (append_assoc ls (l ∷ []) (whole_lines (drop to bytes)));
-  text = r.text ∙ ap (λ k. flat_map line_bytes ls ++ k) h.text ∙ regroup (flat_map line_bytes ls) l (drop to bytes) ∙ sym (ap (λ k. k ++ drop to bytes) (flat_map-append line_bytes ls (l ∷ [])));
+  text = r.text ∙ ap (λ k. flat_map line_bytes ls ++ k) h.text ∙ regroup-line (flat_map line_bytes ls) l (drop to bytes) ∙ sym (ap (λ k. k ++ drop to bytes) (flat_map-append line_bytes ls (l ∷ [])));
 }

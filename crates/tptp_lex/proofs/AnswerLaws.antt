@@ -3,6 +3,7 @@ use Rattle.std.proofs.Common.{◌≡◌, ◌==◌, false, true, ℕ, ◌+◌, �
 use Rattle.std.proofs.lemmas.List.{length-append, length-drop, nil_from_length, take-append-drop, take_at}
 use Rattle.std.proofs.lemmas.Bool.{eqb-false, eqb-true}
 use Rattle.std.proofs.lemmas.List.Folds.{drop_split}
+use Rattle.plain_laws.proofs.Options.{none_some}
 use Rattle.tptp_lex.specs.declared.tokens.LexFault.{LexFault}
 use Rattle.tptp_lex.specs.declared.tokens.Token.{Token}
 use Rattle.tptp_lex.specs.declared.tokens.TokenKind.{TokenKind}
@@ -10,7 +11,7 @@ use Rattle.tptp_lex.specs.Answers.{IsAnswer, IsFault, IsNext, OnlySpace}
 use Rattle.tptp_lex.specs.Scanning.{after_space, after_token}
 use Rattle.tptp_lex.specs.Spacing.{Skips}
 use Rattle.tptp_lex.specs.Tokens.{IsToken}
-use Rattle.tptp_lex.proofs.Runs.{end-at, none-some, some-is}
+use Rattle.tptp_lex.proofs.Runs.{end-at, some-is}
 use Rattle.tptp_lex.proofs.SpacingLaws.{Ends, skips-alone, skips-ends, space-over, space-split}
 use Rattle.tptp_lex.proofs.TokenLaws.{token-no-space, token-over, token-split}
 
@@ -38,7 +39,7 @@ after-within kind bytes after h = let t = token-split kind bytes after h in omeg
 
 -- a token has a byte
 no-empty-token : (kind : TokenKind) → IsToken kind [] → ⊥
-no-empty-token kind t = none-some (token-over kind [] [] t).taken
+no-empty-token kind t = none_some (token-over kind [] [] t).taken
 
 token-length : (kind : TokenKind) (w : List ℕ) → IsToken kind w → 0 < length w
 token-length kind [] t = absurd (no-empty-token kind t)
@@ -81,10 +82,10 @@ fault-is text from rest starts s some no_space no_token =
       onward = rest-onward text from rest starts s;
       skipped = subst (Skips (drop from text)) (sym at) s;
       within = omega arith;
-      no_space = λ r one. none-some (sym no_space ∙ ap after_space (sym at) ∙ space-over one);
+      no_space = λ r one. none_some (sym no_space ∙ ap after_space (sym at) ∙ space-over one);
       no_token = λ k e w.
           let r = token-over k (take (e - (length text - length rest)) rest) (drop (e - (length text - length rest)) rest) (subst (λ x. IsToken k (take (e - (length text - length rest)) x)) at w) in
-          none-some (sym no_token ∙ ap after_token (sym (take-append-drop (e - (length text - length rest)) rest)) ∙ r.taken);
+          none_some (sym no_token ∙ ap after_token (sym (take-append-drop (e - (length text - length rest)) rest)) ∙ r.taken);
     }
 
 -- ---- one answer alone
@@ -110,21 +111,21 @@ not-at-end text a h e = let n : length (drop a text) ≡ 0 = ap length e in omeg
 next-within : (text : List ℕ) (from : ℕ) (t : Token) → IsNext text from t → t.start < length text
 next-within text from t h = omega (arith, h.not_empty, h.within)
 
-next-or-none : (text : List ℕ) (from : ℕ) (t : Token) → IsNext text from t → OnlySpace text from → ⊥
+pub next-or-none : (text : List ℕ) (from : ℕ) (t : Token) → IsNext text from t → OnlySpace text from → ⊥
 next-or-none text from t h g = not-at-end text t.start (next-within text from t h) (skips-alone h.skipped g (next-stuck text from t h) refl)
 
-next-or-fault : (text : List ℕ) (from : ℕ) (t : Token) (offset : ℕ) → IsNext text from t → IsFault text from offset → ⊥
+pub next-or-fault : (text : List ℕ) (from : ℕ) (t : Token) (offset : ℕ) → IsNext text from t → IsFault text from offset → ⊥
 next-or-fault text from t offset h g =
     let e = same-place text t.start offset (next-within text from t h) g.within (skips-alone h.skipped g.skipped (next-stuck text from t h) (fault-stuck text from offset g)) in
     g.no_token t.kind t.end (subst (λ s. IsToken t.kind (slice_range text s t.end)) e h.is_token)
 
-none-or-fault : (text : List ℕ) (from offset : ℕ) → OnlySpace text from → IsFault text from offset → ⊥
+pub none-or-fault : (text : List ℕ) (from offset : ℕ) → OnlySpace text from → IsFault text from offset → ⊥
 none-or-fault text from offset h g = not-at-end text offset g.within (skips-alone g.skipped h (fault-stuck text from offset g) refl)
 
 same-kind : (k l : TokenKind) (w : List ℕ) → IsToken k w → IsToken l w → k ≡ l
 same-kind k l w h g = ap (λ p. p.0) (some-is (sym (token-over k w [] h).taken ∙ (token-over l w [] g).taken))
 
-same-token : (text : List ℕ) (from : ℕ) (t u : Token) → IsNext text from t → IsNext text from u → t ≡ u
+pub same-token : (text : List ℕ) (from : ℕ) (t u : Token) → IsNext text from t → IsNext text from u → t ≡ u
 same-token text from t u h g =
     let s : t.start ≡ u.start = same-place text t.start u.start (next-within text from t h) (next-within text from u g) (skips-alone h.skipped g.skipped (next-stuck text from t h) (next-stuck text from u g)) in
     let a : u.end ≤ t.end = h.longest u.kind u.end g.within (subst (λ x. IsToken u.kind (slice_range text x u.end)) (sym s) g.is_token) in

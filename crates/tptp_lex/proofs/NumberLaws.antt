@@ -4,10 +4,11 @@ use Rattle.std.specs.List.{list_all}
 use Rattle.std.specs.Option.{option_map, unwrap_or}
 use Rattle.std.proofs.lemmas.Bool.{false≢true, and_parts, eqb-true}
 use Rattle.std.proofs.lemmas.Bool.Decides.{nat_tests}
+use Rattle.plain_laws.proofs.Options.{none_some}
 use Rattle.calculus.specs.Text.{is_digit}
 use Rattle.tptp_lex.specs.Scanning.{after_digits, after_exponent, after_number, after_number_end, after_number_sign, after_part, after_run, begins_with, is_number_sign}
 use Rattle.tptp_lex.specs.Tokens.{IsExponent, small, capital, IsNumberEnd, whole, rational, decimal, whole_exponent, decimal_exponent, IsNumberSign, no_sign, plus, minus, is_digits}
-use Rattle.tptp_lex.proofs.Runs.{both-cons, digits-over, digits-split, none-some, run-shorter, some-is}
+use Rattle.tptp_lex.proofs.Runs.{both-cons, digits-over, digits-split, run-shorter, some-is}
 
 pub digit-no-sign : (b : ℕ) → is_digit b ≡ true → is_number_sign b ≡ false
 digit-no-sign b h = grind (arith, nat_tests)
@@ -32,12 +33,12 @@ exponent-ends _ rest (small s ds hs hd) = ap (λ o. unwrap_or o (101 ∷ ((s ++ 
 exponent-ends _ rest (capital s ds hs hd) = ap (λ o. unwrap_or o (69 ∷ ((s ++ ds) ++ rest))) (signed-over s ds rest hs hd)
 
 digits-shorter : (bs rest : List ℕ) → after_digits bs ≡ Some rest → length rest ≤ length bs
-digits-shorter [] rest h = absurd (none-some h)
+digits-shorter [] rest h = absurd (none_some h)
 digits-shorter (b ∷ bs) rest h = by (is_digit b) h (run-shorter is_digit bs)
   where
     by : (t : Bool) → (if t then Some (after_run is_digit bs) else None) ≡ Some rest → length (after_run is_digit bs) ≤ length bs → length rest ≤ length (b ∷ bs)
     by true h n = omega (arith, ap length (some-is h))
-    by false h n = absurd (none-some h)
+    by false h n = absurd (none_some h)
 
 digits-or-shorter : (bs other : List ℕ) → length bs ≤ length other → length (unwrap_or (after_digits bs) other) ≤ length other
 digits-or-shorter bs other n = by (after_digits bs) refl
@@ -197,7 +198,7 @@ pub number-split : (bs rest : List ℕ) → after_number bs ≡ Some rest → Nu
 number-split bs rest h = by (after_digits bs) refl h
   where
     by : (o : Option (List ℕ)) → after_digits bs ≡ o → option_map after_number_end o ≡ Some rest → NumberSplit bs rest
-    by None e h = absurd (none-some h)
+    by None e h = absurd (none_some h)
     by (Some r) e h =
         let d = digits-split bs r e in
         let n = end-split r in

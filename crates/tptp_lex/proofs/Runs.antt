@@ -4,15 +4,13 @@ use Rattle.std.specs.List.{list_all}
 use Rattle.std.specs.Option.{unwrap_or}
 use Rattle.std.proofs.lemmas.Bool.{false≢true, and_parts, and_from}
 use Rattle.std.proofs.lemmas.List.{length-append, drop_at}
+use Rattle.plain_laws.proofs.Options.{none_some}
 use Rattle.calculus.specs.Text.{StopsAt, is_digit, is_lower, is_lower_word, is_word_byte}
 use Rattle.tptp_lex.specs.Scanning.{after_digits, after_lower, after_run}
 use Rattle.tptp_lex.specs.Tokens.{is_digits}
 
 pub some-is : {A : Type 0} {a b : A} → Some a ≡ Some b → a ≡ b
 some-is {A} {a} e = ap (λ o. unwrap_or o a) e
-
-pub none-some : {A : Type 0} {a : A} → None ≡ Some a → ⊥
-none-some e = cc
 
 pub both-cons : {a b : ℕ} {xs ys : List ℕ} → a ≡ b → xs ≡ ys → a ∷ xs ≡ b ∷ ys
 both-cons e h = λ i. e i ∷ h i
@@ -62,7 +60,7 @@ pub record Begins (p : List ℕ → Bool) (bytes rest : List ℕ) : Type 0 where
   pub passes : IsTrue (p front)
 
 pub lower-split : (bs rest : List ℕ) → after_lower bs ≡ Some rest → Begins is_lower_word bs rest
-lower-split [] rest h = absurd (none-some h)
+lower-split [] rest h = absurd (none_some h)
 lower-split (b ∷ bs) rest h = by (is_lower b) refl h
   where
     s : RunSplit is_word_byte bs (after_run is_word_byte bs)
@@ -70,10 +68,10 @@ lower-split (b ∷ bs) rest h = by (is_lower b) refl h
 
     by : (t : Bool) → is_lower b ≡ t → (if t then Some (after_run is_word_byte bs) else None) ≡ Some rest → Begins is_lower_word (b ∷ bs) rest
     by true e h = record { front = b ∷ s.front; whole = both-cons refl (s.whole ∙ ap (λ r. s.front ++ r) (some-is h)); passes = and_from (is_lower b) (list_all is_word_byte s.front) e s.all }
-    by false e h = absurd (none-some h)
+    by false e h = absurd (none_some h)
 
 pub digits-split : (bs rest : List ℕ) → after_digits bs ≡ Some rest → Begins is_digits bs rest
-digits-split [] rest h = absurd (none-some h)
+digits-split [] rest h = absurd (none_some h)
 digits-split (b ∷ bs) rest h = by (is_digit b) refl h
   where
     s : RunSplit is_digit bs (after_run is_digit bs)
@@ -81,7 +79,7 @@ digits-split (b ∷ bs) rest h = by (is_digit b) refl h
 
     by : (t : Bool) → is_digit b ≡ t → (if t then Some (after_run is_digit bs) else None) ≡ Some rest → Begins is_digits (b ∷ bs) rest
     by true e h = record { front = b ∷ s.front; whole = both-cons refl (s.whole ∙ ap (λ r. s.front ++ r) (some-is h)); passes = and_from (is_digit b) (list_all is_digit s.front) e s.all }
-    by false e h = absurd (none-some h)
+    by false e h = absurd (none_some h)
 
 -- where a list's end begins
 pub end-at : (front rest whole : List ℕ) → whole ≡ front ++ rest → drop (length whole - length rest) whole ≡ rest

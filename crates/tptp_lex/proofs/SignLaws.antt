@@ -1,11 +1,12 @@
 -- Signs: the code's way takes one, and no less than any that the bytes begin with.
 use Rattle.std.proofs.Common.{◌≡◌, ℕ, ◌≤◌, List, [], ◌∷◌, ◌++◌, Bool, true, false, ◌||◌, ◌==◌, None, Some, refl, sym, subst, length, if◌then◌else◌, arith}
 use Rattle.std.proofs.lemmas.Bool.{eqb-true}
+use Rattle.plain_laws.proofs.Options.{none_some}
 use Rattle.tptp_lex.specs.declared.tokens.TokenKind.{TokenKind}
 use Rattle.tptp_lex.specs.declared.tokens.TokenKind.TheVariants.{Sign}
 use Rattle.tptp_lex.specs.Scanning.{after_byte, after_close, after_less, after_sign, after_space, after_tilde, after_token, is_single}
 use Rattle.tptp_lex.specs.Tokens.{IsSign, open_round, close_round, open_square, close_square, comma, dot, colon, tilde, exclamation, question, ampersand, bar, implies, implied, equivalent, inequivalent, nor, nand, equal, unequal}
-use Rattle.tptp_lex.proofs.Runs.{both-cons, none-some, some-is}
+use Rattle.tptp_lex.proofs.Runs.{both-cons, some-is}
 
 -- behind a token of this kind, no more is left than the rest
 pub record Reaches (kind : TokenKind) (bytes rest : List ℕ) : Type 0 where
@@ -108,21 +109,21 @@ implied-split b c (d ∷ bs) rest e f h = by (d == 62) refl h
     by false g h = record { front = 60 ∷ 61 ∷ []; split = both-cons e (both-cons f (some-is h)); is_sign = implied }
 
 inequivalent-split : (b c : ℕ) (bs rest : List ℕ) → b ≡ 60 → c ≡ 126 → after_close bs ≡ Some rest → SignSplit (b ∷ c ∷ bs) rest
-inequivalent-split b c [] rest e f h = absurd (none-some h)
+inequivalent-split b c [] rest e f h = absurd (none_some h)
 inequivalent-split b c (d ∷ bs) rest e f h = by (d == 62) refl h
   where
     by : (t : Bool) → (d == 62) ≡ t → (if t then Some bs else None) ≡ Some rest → SignSplit (b ∷ c ∷ d ∷ bs) rest
     by true g h = record { front = 60 ∷ 126 ∷ 62 ∷ []; split = both-cons e (both-cons f (both-cons (eqb-true d 62 g) (some-is h))); is_sign = inequivalent }
-    by false g h = absurd (none-some h)
+    by false g h = absurd (none_some h)
 
 less-split : (b : ℕ) (bs rest : List ℕ) → b ≡ 60 → after_less bs ≡ Some rest → SignSplit (b ∷ bs) rest
-less-split b [] rest e h = absurd (none-some h)
+less-split b [] rest e h = absurd (none_some h)
 less-split b (c ∷ bs) rest e h = by (c == 61) (c == 126) refl refl h
   where
     by : (t u : Bool) → (c == 61) ≡ t → (c == 126) ≡ u → (if t then Some (after_byte 62 bs) else (if u then after_close bs else None)) ≡ Some rest → SignSplit (b ∷ c ∷ bs) rest
     by true u f g h = implied-split b c bs rest e (eqb-true c 61 f) h
     by false true f g h = inequivalent-split b c bs rest e (eqb-true c 126 g) h
-    by false false f g h = absurd (none-some h)
+    by false false f g h = absurd (none_some h)
 
 pub sign-split : (b : ℕ) (bs rest : List ℕ) → after_sign b bs ≡ Some rest → SignSplit (b ∷ bs) rest
 sign-split b bs rest h = by (is_single b) (b == 61) (b == 33) (b == 126) (b == 60) refl refl refl refl refl h
@@ -134,7 +135,7 @@ sign-split b bs rest h = by (is_single b) (b == 61) (b == 33) (b == 126) (b == 6
     by false false true t l hs he hu ht hl h = sign-byte-split 33 61 exclamation unequal b bs rest (eqb-true b 33 hu) h
     by false false false true l hs he hu ht hl h = tilde-split b bs rest (eqb-true b 126 ht) h
     by false false false false true hs he hu ht hl h = less-split b bs rest (eqb-true b 60 hl) h
-    by false false false false false hs he hu ht hl h = absurd (none-some h)
+    by false false false false false hs he hu ht hl h = absurd (none_some h)
 
 -- ---- a sign begins with no space and no comment
 

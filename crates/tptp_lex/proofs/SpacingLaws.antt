@@ -2,11 +2,12 @@
 use Rattle.std.proofs.Common.{◌≡◌, ℕ, ◌<◌, List, [], ◌∷◌, ◌++◌, Bool, true, false, ◌==◌, None, Some, refl, sym, ◌∙◌, ap, subst, length, if◌then◌else◌, append_assoc, arith}
 use Rattle.std.proofs.lemmas.Bool.{eqb-true, eqb-false, not-false}
 use Rattle.std.proofs.lemmas.List.{length-append}
+use Rattle.plain_laws.proofs.Options.{none_some}
 use Rattle.calculus.specs.Text.{StopsAt, is_space}
 use Rattle.calculus.proofs.TextLaws.{cons-head, cons-tail, nil-cons}
 use Rattle.tptp_lex.specs.Scanning.{after_block, after_run, after_slash, after_space}
 use Rattle.tptp_lex.specs.Spacing.{EndsLine, StaysOpen, Skips, done, more, SkipsOne, a_space, a_line, a_block, is_in_line}
-use Rattle.tptp_lex.proofs.Runs.{both-cons, none-some, run-over, run-split, some-is}
+use Rattle.tptp_lex.proofs.Runs.{both-cons, run-over, run-split, some-is}
 
 -- ---- lines
 
@@ -63,7 +64,7 @@ first-of : (b c : ℕ) (bs body x back : List ℕ) → b ∷ bs ≡ body ++ x �
 first-of b c bs body x back e h = cons-head (e ∙ ap (λ y. y ++ x) h)
 
 block-split : (star : Bool) (bs rest : List ℕ) → after_block star bs ≡ Some rest → Block (starred star bs) rest
-block-split star [] rest h = absurd (none-some h)
+block-split star [] rest h = absurd (none_some h)
 block-split false (b ∷ bs) rest h = block-cons b bs rest (block-split (b == 42) bs rest h)
 block-split true (b ∷ bs) rest h = by (b == 47) refl h (block-split (b == 42) bs rest)
   where
@@ -95,17 +96,17 @@ space-over (a_line bs rest h e) = ap Some (run-over is_in_line bs rest h ∙ lin
 space-over (a_block bs rest o) = block-over false bs rest o
 
 slash-split : (b : ℕ) (bs rest : List ℕ) → b ≡ 47 → after_slash bs ≡ Some rest → SkipsOne (b ∷ bs) rest
-slash-split b [] rest e h = absurd (none-some h)
+slash-split b [] rest e h = absurd (none_some h)
 slash-split b (c ∷ bs) rest e h = by (c == 42) refl h
   where
     by : (t : Bool) → (c == 42) ≡ t → (if t then after_block false bs else None) ≡ Some rest → SkipsOne (b ∷ c ∷ bs) rest
     by true f h =
         let k : Block bs rest = block-split false bs rest h in
         subst (λ x. SkipsOne x rest) (sym (both-cons e (both-cons (eqb-true c 42 f) k.whole))) (a_block k.body rest k.stays)
-    by false f h = absurd (none-some h)
+    by false f h = absurd (none_some h)
 
 pub space-split : (bytes rest : List ℕ) → after_space bytes ≡ Some rest → SkipsOne bytes rest
-space-split [] rest h = absurd (none-some h)
+space-split [] rest h = absurd (none_some h)
 space-split (b ∷ bs) rest h = by (is_space b) (b == 37) (b == 47) refl refl refl h
   where
     by : (s l k : Bool) → is_space b ≡ s → (b == 37) ≡ l → (b == 47) ≡ k → (if s then Some bs else (if l then Some (after_run is_in_line bs) else (if k then after_slash bs else None))) ≡ Some rest → SkipsOne (b ∷ bs) rest
@@ -115,7 +116,7 @@ space-split (b ∷ bs) rest h = by (is_space b) (b == 37) (b == 47) refl refl re
         let one : SkipsOne (b ∷ bs) (after_run is_in_line bs) = subst (λ x. SkipsOne x (after_run is_in_line bs)) (sym (both-cons (eqb-true b 37 f) s.whole)) (a_line s.front (after_run is_in_line bs) s.all (ends-line (after_run is_in_line bs) s.stops)) in
         subst (λ x. SkipsOne (b ∷ bs) x) (some-is h) one
     by false false true e f g h = slash-split b bs rest (eqb-true b 47 g) h
-    by false false false e f g h = absurd (none-some h)
+    by false false false e f g h = absurd (none_some h)
 
 -- the bytes end with the rest, behind at least one more
 pub record Ends (bytes rest : List ℕ) : Type 0 where
@@ -127,7 +128,7 @@ one-ends (a_space b rest h) = record { front = b ∷ []; whole = refl }
 one-ends (a_line bs rest h e) = record { front = 37 ∷ bs; whole = refl }
 one-ends (a_block bs rest o) = record { front = 47 ∷ 42 ∷ (bs ++ 42 ∷ 47 ∷ []); whole = both-cons refl (both-cons refl (sym (append_assoc bs (42 ∷ 47 ∷ []) rest))) }
 
-one-shorter : {bytes rest : List ℕ} → SkipsOne bytes rest → length rest < length bytes
+pub one-shorter : {bytes rest : List ℕ} → SkipsOne bytes rest → length rest < length bytes
 one-shorter (a_space b rest h) = omega arith
 one-shorter (a_line bs rest h e) = omega (arith, length-append bs rest)
 one-shorter (a_block bs rest o) = omega (arith, length-append bs (42 ∷ 47 ∷ rest))
@@ -154,7 +155,7 @@ skips-ends (more x y z one s) =
 -- two ways to skip all end at one place
 pub skips-alone : {bytes r s : List ℕ} → Skips bytes r → Skips bytes s → after_space r ≡ None → after_space s ≡ None → r ≡ s
 skips-alone (done x) (done y) hr hs = refl
-skips-alone (done x) (more y m z one k) hr hs = absurd (none-some (sym hr ∙ space-over one))
-skips-alone (more x m z one k) (done y) hr hs = absurd (none-some (sym hs ∙ space-over one))
+skips-alone (done x) (more y m z one k) hr hs = absurd (none_some (sym hr ∙ space-over one))
+skips-alone (more x m z one k) (done y) hr hs = absurd (none_some (sym hs ∙ space-over one))
 skips-alone {bytes} {r} {s} (more x m z one k) (more y n u two l) hr hs =
     skips-alone k (subst (λ t. Skips t u) (some-is (sym (space-over two) ∙ space-over one)) l) hr hs

@@ -4,13 +4,14 @@ use Rattle.std.specs.List.{list_all}
 use Rattle.std.specs.Option.{option_map}
 use Rattle.std.proofs.lemmas.Bool.{false≢true, and_parts, and_from, eqb-true}
 use Rattle.std.proofs.lemmas.Bool.Decides.{nat_tests}
+use Rattle.plain_laws.proofs.Options.{none_some}
 use Rattle.calculus.specs.Text.{is_digit, is_lower, is_lower_word, is_space, is_upper, is_word_byte}
 use Rattle.tptp_lex.specs.declared.tokens.TokenKind.{TokenKind}
 use Rattle.tptp_lex.specs.declared.tokens.TokenKind.TheVariants.{Lower, Upper, Dollar, Hash, Quoted, Distinct, Number, Sign}
 use Rattle.tptp_lex.specs.Scanning.{after_byte, after_kind, after_lower, after_name, after_number, after_number_sign, after_quoted, after_run, after_space, after_token, is_number_sign, kind_at}
 use Rattle.tptp_lex.specs.Tokens.{IsNumberSign, no_sign, plus, minus, IsToken, lower, upper, dollar, two_dollars, hash, quoted, distinct, number, sign, is_digits}
 use Rattle.tptp_lex.proofs.NumberLaws.{digit-no-sign, NumberTaken, number-over, number-split}
-use Rattle.tptp_lex.proofs.Runs.{both-cons, lower-over, lower-split, none-some, run-over, run-shorter, run-split, some-is}
+use Rattle.tptp_lex.proofs.Runs.{both-cons, lower-over, lower-split, run-over, run-shorter, run-split, some-is}
 use Rattle.tptp_lex.proofs.QuoteLaws.{name-over, not-empty, quotable-over, quoted-split}
 use Rattle.tptp_lex.proofs.SignLaws.{Reaches, exact, sign-no-space, sign-over, sign-split}
 
@@ -105,7 +106,7 @@ pub record Takes (kind : TokenKind) (bytes rest : List ℕ) : Type 0 where
   pub is_token : IsToken kind front
 
 dollar-takes : (b : ℕ) (bs rest : List ℕ) → b ≡ 36 → after_lower (after_byte 36 bs) ≡ Some rest → Takes Dollar (b ∷ bs) rest
-dollar-takes b [] rest e h = absurd (none-some h)
+dollar-takes b [] rest e h = absurd (none_some h)
 dollar-takes b (c ∷ bs) rest e h = by (c == 36) refl h
   where
     by : (t : Bool) → (c == 36) ≡ t → after_lower (if t then bs else c ∷ bs) ≡ Some rest → Takes Dollar (b ∷ c ∷ bs) rest
@@ -113,11 +114,11 @@ dollar-takes b (c ∷ bs) rest e h = by (c == 36) refl h
     by false f h = let s = lower-split (c ∷ bs) rest h in record { front = 36 ∷ s.front; split = both-cons e s.whole; is_token = dollar s.front s.passes }
 
 name-takes : (b : ℕ) (bs rest : List ℕ) → b ≡ 39 → after_name bs ≡ Some rest → Takes Quoted (b ∷ bs) rest
-name-takes b [] rest e h = absurd (none-some h)
+name-takes b [] rest e h = absurd (none_some h)
 name-takes b (c ∷ bs) rest e h = by (c == 39) refl h
   where
     by : (t : Bool) → (c == 39) ≡ t → (if t then None else after_quoted 39 false (c ∷ bs)) ≡ Some rest → Takes Quoted (b ∷ c ∷ bs) rest
-    by true f h = absurd (none-some h)
+    by true f h = absurd (none_some h)
     by false f h =
         let s = quoted-split 39 false (c ∷ bs) rest h in
         record {
@@ -178,11 +179,11 @@ kind-takes b bs rest h = by (is_lower b) (is_upper b) (is_digit b || is_number_s
         record { front = k.front; split = k.split; is_token = sign k.front k.is_sign }
 
 pub token-split : (kind : TokenKind) (bytes rest : List ℕ) → after_token bytes ≡ Some (kind, rest) → Takes kind bytes rest
-token-split kind [] rest h = absurd (none-some h)
+token-split kind [] rest h = absurd (none_some h)
 token-split kind (b ∷ bs) rest h = by (after_kind (kind_at b) b bs) refl h
   where
     by : (o : Option (List ℕ)) → after_kind (kind_at b) b bs ≡ o → option_map {U = TokenKind × List ℕ} (λ r. (kind_at b, r)) o ≡ Some (kind, rest) → Takes kind (b ∷ bs) rest
-    by None e h = absurd (none-some h)
+    by None e h = absurd (none_some h)
     by (Some r) e h =
         let p = some-is h in
         subst (λ k. Takes k (b ∷ bs) rest) (ap (λ x. x.0) p) (kind-takes b bs rest (e ∙ ap (λ x. Some x.1) p))

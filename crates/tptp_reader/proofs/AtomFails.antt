@@ -1,7 +1,8 @@
 -- Where the way over an atom or an equation goes wrong.
 use Rattle.std.proofs.Common.{◌≡◌, ◌==◌, ℕ, Bool, true, false, List, [], ◌∷◌, None, Some, inl, inr, refl, sym, ◌∙◌, ap, codes, subst, if◌then◌else◌}
 use Rattle.std.proofs.lemmas.Bool.{false≢true}
-use Rattle.tptp_lex.proofs.Runs.{none-some, some-is}
+use Rattle.plain_laws.proofs.Options.{none_some}
+use Rattle.tptp_lex.proofs.Runs.{some-is}
 use Rattle.tptp_reader.specs.declared.source.SourceTerm as program_term
 use Rattle.tptp_reader.specs.declared.source.SourceTerm.TheVariants.{Var, Fun}
 use Rattle.tptp_reader.specs.declared.terminal.Piece.{Piece}
@@ -58,19 +59,19 @@ truth-is w holds e = by (is_word w (codes "$true")) (is_word w (codes "$false"))
     by : (t f : Bool) → is_word w (codes "$true") ≡ t → is_word w (codes "$false") ≡ f → (if t then Some true else (if f then Some false else None)) ≡ Some holds → is_truth w ≡ true
     by true f h k q = ap (λ z. if z then true else is_word w (codes "$false")) h
     by false true h k q = ap (λ z. if z then true else is_word w (codes "$false")) h ∙ k
-    by false false h k q = absurd (none-some q)
+    by false false h k q = absurd (none_some q)
 
 truth-not : (w : List ℕ) → truth_in (dollar w) ≡ None → is_truth w ≡ false
 truth-not w e = by (is_word w (codes "$true")) (is_word w (codes "$false")) refl refl e
   where
     by : (t f : Bool) → is_word w (codes "$true") ≡ t → is_word w (codes "$false") ≡ f → (if t then Some true else (if f then Some false else None)) ≡ None → is_truth w ≡ false
-    by true f h k q = absurd (none-some (sym q))
-    by false true h k q = absurd (none-some (sym q))
+    by true f h k q = absurd (none_some (sym q))
+    by false true h k q = absurd (none_some (sym q))
     by false false h k q = ap (λ z. if z then true else is_word w (codes "$false")) h ∙ k
 
 truth-move : (d : ℕ) (x : Terminal) (holds : Bool) → truth_in x ≡ Some holds → atom_move d x ≡ Some (d, [])
 truth-move d (dollar w) holds e = ap (λ b. dollar_move b d) (truth-is w holds e)
-truth-move d _ holds e = absurd (none-some e)
+truth-move d _ holds e = absurd (none_some e)
 
 pub fails-truth : {text : List ℕ} {p : Piece} (modal : Bool) (d : ℕ) (holds : Bool) (es : List Expected) → truth_in (the_terminal p.terminal) ≡ Some holds → Fails modal text es p.end → FailsAt modal text (atom d ∷ es) p
 fails-truth {p = p} modal d holds es e h = fails-move modal (atom d) es (d, []) (truth-move d (the_terminal p.terminal) holds e) h

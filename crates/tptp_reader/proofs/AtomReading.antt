@@ -1,7 +1,8 @@
 -- Reading atoms and equations.
 use Rattle.std.proofs.Common.{◌≡◌, ◌==◌, ℕ, Bool, true, false, List, [], ◌∷◌, ◌++◌, Some, None, refl, ◌∙◌, ap, append-nil, codes, subst, if◌then◌else◌}
 use Rattle.std.proofs.lemmas.Bool.{false≢true}
-use Rattle.tptp_lex.proofs.Runs.{none-some, some-is}
+use Rattle.plain_laws.proofs.Options.{none_some}
+use Rattle.tptp_lex.proofs.Runs.{some-is}
 use Rattle.tptp_reader.specs.declared.source.Source as program
 use Rattle.tptp_reader.specs.declared.source.Source.TheVariants.{True, False, Equal, Unequal, Atom}
 use Rattle.tptp_reader.specs.declared.source.SourceTerm as program_term
@@ -66,8 +67,8 @@ truth-of (dollar w) holds e = by (is_word w (codes "$true")) (is_word w (codes "
     by : (t f : Bool) → is_word w (codes "$true") ≡ t → is_word w (codes "$false") ≡ f → (if t then Some true else (if f then Some false else None)) ≡ Some holds → TruthOf (dollar w) holds
     by true f h k q = subst (TruthOf (dollar w)) (some-is q) (record { word = w; token = refl; said = word-is w (codes "$true") h })
     by false true h k q = subst (TruthOf (dollar w)) (some-is q) (record { word = w; token = refl; said = word-is w (codes "$false") k })
-    by false false h k q = absurd (none-some q)
-truth-of _ holds e = absurd (none-some e)
+    by false false h k q = absurd (none_some q)
+truth-of _ holds e = absurd (none_some e)
 
 pub atom-true : {text : List ℕ} {p q : Piece} (d : ℕ) → truth_in (the_terminal p.terminal) ≡ Some true → Follow text p.end (placed q ∷ []) q.end → is_shallow d ≡ true → AtomRead text d p (True, q)
 atom-true {p = p} d e f s =

@@ -2,7 +2,8 @@
 use Rattle.std.proofs.Common.{◌≡◌, ◌&&◌, ◌⊎◌, ℕ, Bool, true, false, List, [], ◌∷◌, ◌++◌, Option, None, Some, inl, inr, refl, sym, ◌∙◌, ap, append_assoc, subst, IsTrue}
 use Rattle.std.specs.Prelude.{codes}
 use Rattle.std.proofs.lemmas.Bool.{and_parts, false≢true}
-use Rattle.tptp_lex.proofs.Runs.{none-some, some-is}
+use Rattle.plain_laws.proofs.Options.{none_some}
+use Rattle.tptp_lex.proofs.Runs.{some-is}
 use Rattle.tptp_lex.specs.Tokens.{is_digits}
 use Rattle.tptp_reader.specs.Terminals.{Terminal, lower, quoted, number, open_round, comma}
 use Rattle.tptp_reader.specs.Grammar.{plain, in_quotes, NameTree, word_name, number_name, name_fits, name_token, head_tokens, text_tokens}
@@ -34,7 +35,7 @@ run-of modal es front = by (run modal es front) refl
 
 -- tokens that begin a text have a run
 pub begins-run : (modal : Bool) (L : Language) (es : List Expected) → IsReadBy modal L es → (front : List Terminal) → run modal es front ≡ None → Begins L front → ⊥
-begins-run modal L es m front e b = let r = derives-run modal front es b.rest b.nestings m.good (m.derived (front ++ b.rest) b.nestings b.whole) in none-some (sym e ∙ r.is_run)
+begins-run modal L es m front e b = let r = derives-run modal front es b.rest b.nestings m.good (m.derived (front ++ b.rest) b.nestings b.whole) in none_some (sym e ∙ r.is_run)
 
 pub is-whole : (modal : Bool) (front : List Terminal) → Decided (IsWhole (TextLanguage modal) front)
 is-whole modal front = by (run-of modal (items ∷ []) front)
@@ -80,7 +81,7 @@ goes modal L above m w inside = by (run-of modal (above ++ stop ∷ []) inside)
 
     on : (before : List ℕ) (now : List Expected) → run modal (above ++ stop ∷ []) inside ≡ Some (before, now) → Bottom now → Decided (CanGoOn L inside)
     on before now e (inl n) = inr (λ g. let f = follows-run modal L (above ++ stop ∷ []) m inside g.0 g.1.0 g.1.1 in
-        none-some (sym (ap (λ z. step modal z g.0) (sym (ap (λ p. p.1) (some-is (sym e ∙ f.is_run))) ∙ n)) ∙ f.is_step))
+        none_some (sym (ap (λ z. step modal z g.0) (sym (ap (λ p. p.1) (some-is (sym e ∙ f.is_run))) ∙ n)) ∙ f.is_step))
     on before now e (inr b) = inl (stop-goes modal L (above ++ stop ∷ []) m w inside before b.0 (e ∙ ap (λ z. Some (before, z)) b.1))
 
     by : RunOf modal (above ++ stop ∷ []) inside → Decided (CanGoOn L inside)
@@ -130,12 +131,12 @@ behind-is : (language : List ℕ) (ts inside : List Terminal) → behind_head la
 behind-is language (lower w ∷ open_round ∷ x ∷ comma ∷ lower role ∷ comma ∷ rest) inside e = by (is_word w language && is_named x) refl e
   where
     by : (b : Bool) → (is_word w language && is_named x) ≡ b → kept b rest ≡ Some inside → Head language (lower w ∷ open_round ∷ x ∷ comma ∷ lower role ∷ comma ∷ rest) inside
-    by false h k = absurd (none-some k)
+    by false h k = absurd (none_some k)
     by true h k =
         let p = and_parts (is_word w language) (is_named x) h in
         let n = named x p.1 in
         record { name = n.name; role = role; fits = n.fits; written = λ i. lower (word-is w language p.0 i) ∷ open_round ∷ n.is_token i ∷ comma ∷ lower role ∷ comma ∷ some-is k i }
-behind-is language _ inside e = absurd (none-some e)
+behind-is language _ inside e = absurd (none_some e)
 
 behind-head : (language : List ℕ) → is_word language language ≡ true → (n : NameTree) (role : List ℕ) (inside : List Terminal) → IsTrue (name_fits n) → behind_head language (head_tokens language n role ++ inside) ≡ Some inside
 behind-head language h n role inside f = ap (λ b. kept (b && is_named (name_token n)) inside) h ∙ ap (λ b. kept b inside) (name-named n f)
@@ -189,7 +190,7 @@ inside-of modal language L dec a d = by (is-whole modal a)
     gone w inside e (inr n) = inr (λ f. n (subst (CanGoOn L) (some-is (sym f.2 ∙ e)) f.3))
 
     headed : IsWhole (TextLanguage modal) a → (o : Option (List Terminal)) → behind_head language d ≡ o → Decided (Inside modal language L a d)
-    headed w None e = inr (λ f. none-some (sym e ∙ f.2))
+    headed w None e = inr (λ f. none_some (sym e ∙ f.2))
     headed w (Some inside) e = gone w inside e (dec inside)
 
     by : Decided (IsWhole (TextLanguage modal) a) → Decided (Inside modal language L a d)

@@ -2,7 +2,8 @@
 use Rattle.std.proofs.Common.{◌≡◌, ℕ, Bool, true, false, List, [], ◌∷◌, ◌++◌, Option, None, Some, refl, sym, ap, append-nil, subst}
 use Rattle.std.specs.Prelude.{codes}
 use Rattle.std.proofs.lemmas.Bool.{and_parts, false≢true}
-use Rattle.tptp_lex.proofs.Runs.{none-some, some-is}
+use Rattle.plain_laws.proofs.Options.{none_some}
+use Rattle.tptp_lex.proofs.Runs.{some-is}
 use Rattle.tptp_reader.specs.Terminals.{Terminal, lower, upper, quoted, dollar, open_round, close_round, open_square, close_square, comma, dot, colon}
 use Rattle.tptp_reader.specs.Grammar as g
 use Rattle.tptp_reader.specs.Grammar.{Word, plain, in_quotes, TermTree, TermTrees, AtomTree, UnitTree, FormulaTree, UnitTrees, LiteralTree, ClauseTree, NameTree, ItemTree, term_tokens, terms_tokens, atom_tokens, unit_tokens, formula_tokens, units_tokens, variables_tokens, word_token}
@@ -52,7 +53,7 @@ optional-form modal items h = ([], refl, refl, refl)
 optional-form modal _ h = absurd (false≢true h)
 
 pub step-back : (modal : Bool) (es : List Expected) (x : Terminal) (r : ℕ × List Expected) (ts : List Terminal) (ns : List ℕ) → step modal es x ≡ Some r → Completes modal r.1 ts ns → Completes modal es (x ∷ ts) (r.0 ∷ ns)
-step-back modal [] x r ts ns h c = absurd (none-some h)
+step-back modal [] x r ts ns h c = absurd (none_some h)
 step-back modal (e ∷ es) x r ts ns h c = by (move modal e x) refl (is_optional e) refl (λ k. step-back modal es x r ts ns k c) h
   where
     by : (m : Option (ℕ × List Expected)) → move modal e x ≡ m → (o : Bool) → is_optional e ≡ o → (step modal es x ≡ Some r → Completes modal es (x ∷ ts) (r.0 ∷ ns)) → moved m o es (step modal es x) ≡ Some r → Completes modal (e ∷ es) (x ∷ ts) (r.0 ∷ ns)
@@ -63,18 +64,18 @@ step-back modal (e ∷ es) x r ts ns h c = by (move modal e x) refl (is_optional
         subst (λ (z : ℕ × List Expected). Completes modal (e ∷ es) (x ∷ ts) (z.0 ∷ ns)) k1
         (subst (λ z. Completes modal (e ∷ es) (x ∷ z) (q.0 ∷ ns)) (sym s.tokens) (subst (λ z. Completes modal (e ∷ es) (x ∷ (s.a ++ s.b)) (q.0 ∷ z)) (sym s.nestings) (part (x ∷ s.a) s.b (q.0 ∷ s.k) s.l f s.second)))
     by None d true p next k = part [] (x ∷ ts) [] (r.0 ∷ ns) (optional-form modal e p) (next k)
-    by None d false p next k = absurd (none-some k)
+    by None d false p next k = absurd (none_some k)
 
 pub run-back : (modal : Bool) (front : List Terminal) (es now : List Expected) (before : List ℕ) (ts : List Terminal) (ns : List ℕ) → run modal es front ≡ Some (before, now) → Completes modal now ts ns → Completes modal es (front ++ ts) (before ++ ns)
 run-back modal [] es now before ts ns h c = subst (λ (z : List ℕ × List Expected). Completes modal z.1 ts ns → Completes modal es ts (z.0 ++ ns)) (some-is h) (λ k. k) c
 run-back modal (x ∷ front) es now before ts ns h c = by (step modal es x) refl (λ fs k e. run-back modal front fs now k ts ns e c) h
   where
     behind : (n : ℕ) (r : Option (List ℕ × List Expected)) → run_on n r ≡ Some (before, now) → (k : List ℕ) × (r ≡ Some (k, now)) × (before ≡ n ∷ k)
-    behind n None e = absurd (none-some e)
+    behind n None e = absurd (none_some e)
     behind n (Some q) e = (q.0, ap (λ z. Some (q.0, z)) (ap (λ p. p.1) (some-is e)), sym (ap (λ p. p.0) (some-is e)))
 
     by : (m : Option (ℕ × List Expected)) → step modal es x ≡ m → ((fs : List Expected) (k : List ℕ) → run modal fs front ≡ Some (k, now) → Completes modal fs (front ++ ts) (k ++ ns)) → run_after m (λ fs. run modal fs front) ≡ Some (before, now) → Completes modal es (x ∷ (front ++ ts)) (before ++ ns)
-    by None d next e = absurd (none-some e)
+    by None d next e = absurd (none_some e)
     by (Some q) d next e =
         let k = behind q.0 (run modal q.1 front) e in
         subst (λ z. Completes modal es (x ∷ (front ++ ts)) (z ++ ns)) (sym k.2) (step-back modal es x q (front ++ ts) (k.0 ++ ns) d (next q.1 k.0 k.1))

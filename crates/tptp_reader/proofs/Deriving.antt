@@ -3,7 +3,8 @@ use Rattle.std.proofs.Common.{◌≡◌, ◌==◌, ◌&&◌, ℕ, ◌<◌, ◌�
 use Rattle.std.specs.Prelude.{codes, if◌then◌else◌, nat_lt}
 use Rattle.tptp_lex.specs.Tokens.{is_digits}
 use Rattle.std.proofs.lemmas.Bool.{false≢true, lt-ltb, ltb-true, ne_eqb}
-use Rattle.tptp_lex.proofs.Runs.{none-some, some-is}
+use Rattle.plain_laws.proofs.Options.{none_some}
+use Rattle.tptp_lex.proofs.Runs.{some-is}
 use Rattle.tptp_reader.specs.declared.source.ChainKind.{ChainKind}
 use Rattle.tptp_reader.specs.declared.source.ChainKind.TheVariants.{And, Or}
 use Rattle.tptp_reader.specs.Terminals.{Terminal, lower, upper, quoted, number, dollar, hash, open_round, close_round, open_square, close_square, comma, tilde, exclamation, question, ampersand, bar, implies, implied, equivalent, inequivalent, nor, nand, equal, unequal}
@@ -142,7 +143,7 @@ pub record Before (rest : List Expected) (m : Option (ℕ × List Expected)) (r 
   pub joined : r ≡ (first.0, first.1 ++ rest)
 
 pub before-some : (rest : List Expected) (m : Option (ℕ × List Expected)) (r : ℕ × List Expected) → before rest m ≡ Some r → Before rest m r
-before-some rest None r e = absurd (none-some e)
+before-some rest None r e = absurd (none_some e)
 before-some rest (Some q) r e = record { first = q; there = refl; joined = sym (some-is e) }
 
 -- the good stacks of a first part, with what follows it
@@ -159,13 +160,13 @@ this-good modal k d x es r a g e = by (form x == form_of k) e
   where
     by : (q : Bool) → this_move q d ≡ Some r → IsGood modal (r.1 ++ es)
     by true h = made modal es h g
-    by false h = absurd (none-some h)
+    by false h = absurd (none_some h)
 
 term-good : (modal : Bool) (d : ℕ) → Goods modal 1 (term_move d)
 term-good modal d (upper x) es r a g e = made modal es e g
 term-good modal d (lower w) es r a g e = made modal es e (a, g)
 term-good modal d (quoted w) es r a g e = made modal es e (a, g)
-term-good modal d _ es r a g e = absurd (none-some e)
+term-good modal d _ es r a g e = absurd (none_some e)
 
 -- a term, and what follows it in brackets
 pub with_arguments : (modal : Bool) (d : ℕ) (es : List Expected) → IsGood modal es → IsGood modal (term d ∷ arguments d ∷ es)
@@ -174,20 +175,20 @@ with_arguments modal d es g = (avoids-part modal 1 (arguments d) es refl (λ x l
 arguments-good : (modal : Bool) (d : ℕ) → Goods modal 0 (arguments_move d)
 arguments-good modal d comma es r a g e = made modal es e (with_arguments modal d es g)
 arguments-good modal d close_round es r a g e = made modal es e g
-arguments-good modal d _ es r a g e = absurd (none-some e)
+arguments-good modal d _ es r a g e = absurd (none_some e)
 
 some_arguments-good : (modal : Bool) (d : ℕ) → Goods modal 1 (some_arguments_move d)
 some_arguments-good modal d open_round es r a g e = made modal es e (with_arguments modal (suc d) es g)
-some_arguments-good modal d _ es r a g e = absurd (none-some e)
+some_arguments-good modal d _ es r a g e = absurd (none_some e)
 
 equation-good : (modal : Bool) (d : ℕ) → Goods modal 1 (equation_move d)
 equation-good modal d equal es r a g e = made modal es e (a, g)
 equation-good modal d unequal es r a g e = made modal es e (a, g)
-equation-good modal d _ es r a g e = absurd (none-some e)
+equation-good modal d _ es r a g e = absurd (none_some e)
 
 dollar-good : (modal : Bool) (d : ℕ) (q : Bool) (es : List Expected) (r : ℕ × List Expected) → IsGood modal es → dollar_move q d ≡ Some r → IsGood modal (r.1 ++ es)
 dollar-good modal d true es r g e = made modal es e g
-dollar-good modal d false es r g e = absurd (none-some e)
+dollar-good modal d false es r g e = absurd (none_some e)
 
 word-good : (modal : Bool) (d : ℕ) (es : List Expected) → Avoids modal 3 es → IsGood modal es → IsGood modal (some_arguments d ∷ some_equation d ∷ es)
 word-good modal d es a g = (avoids-over modal 1 (some_equation d) es (equation-apart d) (avoids-less modal 1 3 es (omega arith) a), (a, g))
@@ -197,16 +198,16 @@ atom-good modal d (dollar w) es r a g e = dollar-good modal d (is_truth w) es r 
 atom-good modal d (upper x) es r a g e = made modal es e (avoids-less modal 1 3 es (omega arith) a, g)
 atom-good modal d (lower w) es r a g e = made modal es e (word-good modal d es a g)
 atom-good modal d (quoted w) es r a g e = made modal es e (word-good modal d es a g)
-atom-good modal d _ es r a g e = absurd (none-some e)
+atom-good modal d _ es r a g e = absurd (none_some e)
 
 variables-good : (modal : Bool) (d : ℕ) → Goods modal 0 (variables_move d)
 variables-good modal d comma es r a g e = made modal es e (avoids-none modal (variables d ∷ es), (a, g))
 variables-good modal d close_square es r a g e = made modal es e (a, g)
-variables-good modal d _ es r a g e = absurd (none-some e)
+variables-good modal d _ es r a g e = absurd (none_some e)
 
 modal-good : (modal q : Bool) (d : ℕ) (es : List Expected) (r : ℕ × List Expected) → Avoids modal 3 es → IsGood modal es → modal_move q d ≡ Some r → IsGood modal (r.1 ++ es)
 modal-good modal true d es r a g e = made modal es e (avoids-none modal (unit (suc d) ∷ es), (a, g))
-modal-good modal false d es r a g e = absurd (none-some e)
+modal-good modal false d es r a g e = absurd (none_some e)
 
 plain-good : (modal : Bool) (e : Expected) (es : List Expected) → bound e ≡ 0 → IsGood modal es → IsGood modal (e ∷ es)
 plain-good modal e es q g = (subst (λ b. Avoids modal b es) (sym q) (avoids-none modal es), g)
@@ -230,7 +231,7 @@ unit-good modal d (dollar w) es r a g e = atom-good modal d (dollar w) es r a g 
 unit-good modal d (upper w) es r a g e = atom-good modal d (upper w) es r a g e
 unit-good modal d (lower w) es r a g e = atom-good modal d (lower w) es r a g e
 unit-good modal d (quoted w) es r a g e = atom-good modal d (quoted w) es r a g e
-unit-good modal d _ es r a g e = absurd (none-some e)
+unit-good modal d _ es r a g e = absurd (none_some e)
 
 formula-good : (modal : Bool) (d : ℕ) → Goods modal 11 (λ x. before (formula_rest d ∷ []) (unit_move modal d x))
 formula-good modal d x es r a g e =
@@ -252,18 +253,18 @@ formula_rest-good modal d equivalent es r a g e = made modal es e (operand-good 
 formula_rest-good modal d inequivalent es r a g e = made modal es e (operand-good modal d es a g)
 formula_rest-good modal d nor es r a g e = made modal es e (operand-good modal d es a g)
 formula_rest-good modal d nand es r a g e = made modal es e (operand-good modal d es a g)
-formula_rest-good modal d _ es r a g e = absurd (none-some e)
+formula_rest-good modal d _ es r a g e = absurd (none_some e)
 
 chain_rest-good : (modal : Bool) (c : ChainKind) (d : ℕ) → Goods modal 11 (chain_rest_move c d)
 chain_rest-good modal And d ampersand es r a g e = made modal es e (chained-good modal And d es a g)
 chain_rest-good modal Or d bar es r a g e = made modal es e (chained-good modal Or d es a g)
-chain_rest-good modal And d _ es r a g e = absurd (none-some e)
-chain_rest-good modal Or d _ es r a g e = absurd (none-some e)
+chain_rest-good modal And d _ es r a g e = absurd (none_some e)
+chain_rest-good modal Or d _ es r a g e = absurd (none_some e)
 
 stop-good : (modal : Bool) → Goods modal 0 stop_move
 stop-good modal comma es r a g e = made modal es e g
 stop-good modal close_round es r a g e = made modal es e g
-stop-good modal _ es r a g e = absurd (none-some e)
+stop-good modal _ es r a g e = absurd (none_some e)
 
 -- ---- clauses
 
@@ -276,7 +277,7 @@ unsigned-good modal d (dollar w) es r a g e = atom-good modal d (dollar w) es r 
 unsigned-good modal d (upper w) es r a g e = atom-good modal d (upper w) es r a g e
 unsigned-good modal d (lower w) es r a g e = atom-good modal d (lower w) es r a g e
 unsigned-good modal d (quoted w) es r a g e = atom-good modal d (quoted w) es r a g e
-unsigned-good modal d _ es r a g e = absurd (none-some e)
+unsigned-good modal d _ es r a g e = absurd (none_some e)
 
 literal-good : (modal : Bool) (d : ℕ) → Goods modal 3 (literal_move d)
 literal-good modal d tilde es r a g e = made modal es e (a, g)
@@ -285,7 +286,7 @@ literal-good modal d (dollar w) es r a g e = unsigned-good modal d (dollar w) es
 literal-good modal d (upper w) es r a g e = unsigned-good modal d (upper w) es r a g e
 literal-good modal d (lower w) es r a g e = unsigned-good modal d (lower w) es r a g e
 literal-good modal d (quoted w) es r a g e = unsigned-good modal d (quoted w) es r a g e
-literal-good modal d _ es r a g e = absurd (none-some e)
+literal-good modal d _ es r a g e = absurd (none_some e)
 
 over-literals : (modal : Bool) (d : ℕ) (es : List Expected) → Avoids modal 11 es → Avoids modal 3 (literals_rest d ∷ es)
 over-literals modal d es a = avoids-over modal 3 (literals_rest d) es (literals_rest-apart d) (avoids-less modal 3 11 es (omega arith) a)
@@ -296,7 +297,7 @@ literals-closed modal d k es g = let a = avoids-this modal 11 a_closing k es (om
 
 literals_rest-good : (modal : Bool) (d : ℕ) → Goods modal 11 (literals_rest_move d)
 literals_rest-good modal d bar es r a g e = made modal es e (over-literals modal d es a, (a, g))
-literals_rest-good modal d _ es r a g e = absurd (none-some e)
+literals_rest-good modal d _ es r a g e = absurd (none_some e)
 
 atom-before : (modal : Bool) (d : ℕ) (x : Terminal) (rest es : List Expected) (r : ℕ × List Expected) → Avoids modal 3 (rest ++ es) → IsGood modal (rest ++ es) → before rest (atom_move d x) ≡ Some r → IsGood modal (r.1 ++ es)
 atom-before modal d x rest es r a g e = before-good modal rest es (atom_move d x) r e (λ q h. atom-good modal d x (rest ++ es) q a g h)
@@ -308,7 +309,7 @@ clause-good modal (dollar w) es r a g e = atom-before modal 0 (dollar w) (litera
 clause-good modal (upper w) es r a g e = atom-before modal 0 (upper w) (literals_rest 0 ∷ []) es r (over-literals modal 0 es a) (a, g) e
 clause-good modal (lower w) es r a g e = atom-before modal 0 (lower w) (literals_rest 0 ∷ []) es r (over-literals modal 0 es a) (a, g) e
 clause-good modal (quoted w) es r a g e = atom-before modal 0 (quoted w) (literals_rest 0 ∷ []) es r (over-literals modal 0 es a) (a, g) e
-clause-good modal _ es r a g e = absurd (none-some e)
+clause-good modal _ es r a g e = absurd (none_some e)
 
 clause_rest-over : (modal : Bool) (es : List Expected) → Avoids modal 3 (clause_rest ∷ es)
 clause_rest-over modal es = avoids-part modal 3 clause_rest es refl clause_rest-apart
@@ -320,29 +321,29 @@ clause_open-good modal (dollar w) es r a g e = atom-before modal 1 (dollar w) (c
 clause_open-good modal (upper w) es r a g e = atom-before modal 1 (upper w) (clause_rest ∷ []) es r (clause_rest-over modal es) (a, g) e
 clause_open-good modal (lower w) es r a g e = atom-before modal 1 (lower w) (clause_rest ∷ []) es r (clause_rest-over modal es) (a, g) e
 clause_open-good modal (quoted w) es r a g e = atom-before modal 1 (quoted w) (clause_rest ∷ []) es r (clause_rest-over modal es) (a, g) e
-clause_open-good modal _ es r a g e = absurd (none-some e)
+clause_open-good modal _ es r a g e = absurd (none_some e)
 
 clause_rest-good : (modal : Bool) → Goods modal 11 clause_rest_move
 clause_rest-good modal bar es r a g e = made modal es e (literals-closed modal 1 1 es g)
 clause_rest-good modal close_round es r a g e = made modal es e (a, g)
-clause_rest-good modal _ es r a g e = absurd (none-some e)
+clause_rest-good modal _ es r a g e = absurd (none_some e)
 
 -- ---- items
 
 flag-good : (modal q : Bool) (d : ℕ) (es : List Expected) (r : ℕ × List Expected) → IsGood modal es → this_move q d ≡ Some r → IsGood modal (r.1 ++ es)
 flag-good modal true d es r g e = made modal es e g
-flag-good modal false d es r g e = absurd (none-some e)
+flag-good modal false d es r g e = absurd (none_some e)
 
 name-good : (modal : Bool) → Goods modal 0 name_move
 name-good modal (lower w) es r a g e = made modal es e g
 name-good modal (quoted w) es r a g e = made modal es e g
 name-good modal (number w) es r a g e = flag-good modal (is_digits w) 0 es r g e
-name-good modal _ es r a g e = absurd (none-some e)
+name-good modal _ es r a g e = absurd (none_some e)
 
 after_body-good : (modal : Bool) → Goods modal 0 after_body_move
 after_body-good modal comma es r a g e = made modal es e (plain-good modal first_note es refl g)
 after_body-good modal close_round es r a g e = made modal es e g
-after_body-good modal _ es r a g e = absurd (none-some e)
+after_body-good modal _ es r a g e = absurd (none_some e)
 
 notes-plain : (modal : Bool) (waiting : List Bool) (es : List Expected) → IsGood modal es → IsGood modal (notes waiting ∷ es)
 notes-plain modal waiting es g = plain-good modal (notes waiting) es refl g
@@ -352,30 +353,30 @@ notes-good modal waiting open_round es r a g e = made modal es e (notes-plain mo
 notes-good modal waiting open_square es r a g e = made modal es e (notes-plain modal (false ∷ waiting) es g)
 notes-good modal [] close_round es r a g e = made modal es e g
 notes-good modal (true ∷ waiting) close_round es r a g e = made modal es e (notes-plain modal waiting es g)
-notes-good modal (false ∷ waiting) close_round es r a g e = absurd (none-some e)
-notes-good modal [] close_square es r a g e = absurd (none-some e)
-notes-good modal (true ∷ waiting) close_square es r a g e = absurd (none-some e)
+notes-good modal (false ∷ waiting) close_round es r a g e = absurd (none_some e)
+notes-good modal [] close_square es r a g e = absurd (none_some e)
+notes-good modal (true ∷ waiting) close_square es r a g e = absurd (none_some e)
 notes-good modal (false ∷ waiting) close_square es r a g e = made modal es e (notes-plain modal waiting es g)
 notes-good modal [] _ es r a g e = made modal es e (notes-plain modal [] es g)
 notes-good modal (b ∷ waiting) _ es r a g e = made modal es e (notes-plain modal (b ∷ waiting) es g)
 
 first_note-good : (modal : Bool) → Goods modal 0 first_note_move
-first_note-good modal close_round es r a g e = absurd (none-some e)
+first_note-good modal close_round es r a g e = absurd (none_some e)
 first_note-good modal open_round es r a g e = notes-good modal [] open_round es r a g e
 first_note-good modal open_square es r a g e = notes-good modal [] open_square es r a g e
-first_note-good modal close_square es r a g e = absurd (none-some e)
+first_note-good modal close_square es r a g e = absurd (none_some e)
 first_note-good modal _ es r a g e = made modal es e (notes-plain modal [] es g)
 
 include_rest-good : (modal : Bool) → Goods modal 0 include_rest_move
 include_rest-good modal comma es r a g e =
     made modal es e (plain-good modal (this a_square 0) (name ∷ names_rest ∷ es) refl (plain-good modal name (names_rest ∷ es) refl (plain-good modal names_rest es refl g)))
 include_rest-good modal close_round es r a g e = made modal es e g
-include_rest-good modal _ es r a g e = absurd (none-some e)
+include_rest-good modal _ es r a g e = absurd (none_some e)
 
 names_rest-good : (modal : Bool) → Goods modal 0 names_rest_move
 names_rest-good modal comma es r a g e = made modal es e (plain-good modal name (names_rest ∷ es) refl (plain-good modal names_rest es refl g))
 names_rest-good modal close_square es r a g e = made modal es e (plain-good modal (this a_closing 0) es refl g)
-names_rest-good modal _ es r a g e = absurd (none-some e)
+names_rest-good modal _ es r a g e = absurd (none_some e)
 
 end-good : (modal : Bool) (es : List Expected) → Avoids modal 21 es → IsGood modal es → IsGood modal (this a_dot 0 ∷ items ∷ es)
 end-good modal es a g = plain-good modal (this a_dot 0) (items ∷ es) refl (a, g)
@@ -403,11 +404,11 @@ include-good modal es a g =
 
 -- a language that is not the text's has no move
 other-good : (modal q : Bool) (body : Expected) (es : List Expected) (r : ℕ × List Expected) → bound body ≡ 11 → Avoids modal 21 es → IsGood modal es → (if q then None else Some (0, head_of body)) ≡ Some r → IsGood modal (r.1 ++ es)
-other-good modal true body es r q a g e = absurd (none-some e)
+other-good modal true body es r q a g e = absurd (none_some e)
 other-good modal false body es r q a g e = made modal es e (body-good modal body es q a g)
 
 this_one-good : (modal q : Bool) (body : Expected) (es : List Expected) (r : ℕ × List Expected) → bound body ≡ 11 → Avoids modal 21 es → IsGood modal es → (if q then Some (0, head_of body) else None) ≡ Some r → IsGood modal (r.1 ++ es)
-this_one-good modal false body es r q a g e = absurd (none-some e)
+this_one-good modal false body es r q a g e = absurd (none_some e)
 this_one-good modal true body es r q a g e = made modal es e (body-good modal body es q a g)
 
 word_move-good : (modal i f c m : Bool) (es : List Expected) (r : ℕ × List Expected) → Avoids modal 21 es → IsGood modal es
@@ -420,12 +421,12 @@ word_move-good modal true f c m es r a g e = made modal es e (include-good modal
 word_move-good modal false true c m es r a g e = other-good modal modal (formula 0) es r refl a g e
 word_move-good modal false false true m es r a g e = other-good modal modal clause es r refl a g e
 word_move-good modal false false false true es r a g e = this_one-good modal modal (formula 0) es r refl a g e
-word_move-good modal false false false false es r a g e = absurd (none-some e)
+word_move-good modal false false false false es r a g e = absurd (none_some e)
 
 items-good : (modal : Bool) → Goods modal 21 (items_move modal)
 items-good modal (lower w) es r a g e =
     word_move-good modal (is_word w (codes "include")) (is_word w (codes "fof")) (is_word w (codes "cnf")) (is_word w (codes "qmf")) es r a g e
-items-good modal _ es r a g e = absurd (none-some e)
+items-good modal _ es r a g e = absurd (none_some e)
 
 -- ---- the stack
 
@@ -460,12 +461,12 @@ good-move modal names_rest x es r a g h = names_rest-good modal x es r a g h
 -- a part that may be left out has moves on tokens below its bound alone
 some_arguments-below : (d : ℕ) (x : Terminal) (r : ℕ × List Expected) → some_arguments_move d x ≡ Some r → IsTrue (nat_lt (form x) 1)
 some_arguments-below d open_round r e = refl
-some_arguments-below d _ r e = absurd (none-some e)
+some_arguments-below d _ r e = absurd (none_some e)
 
 equation-below : (d : ℕ) (x : Terminal) (r : ℕ × List Expected) → equation_move d x ≡ Some r → IsTrue (nat_lt (form x) 3)
 equation-below d equal r e = refl
 equation-below d unequal r e = refl
-equation-below d _ r e = absurd (none-some e)
+equation-below d _ r e = absurd (none_some e)
 
 formula_rest-below : (d : ℕ) (x : Terminal) (r : ℕ × List Expected) → formula_rest_move d x ≡ Some r → IsTrue (nat_lt (form x) 11)
 formula_rest-below d ampersand r e = refl
@@ -476,21 +477,21 @@ formula_rest-below d equivalent r e = refl
 formula_rest-below d inequivalent r e = refl
 formula_rest-below d nor r e = refl
 formula_rest-below d nand r e = refl
-formula_rest-below d _ r e = absurd (none-some e)
+formula_rest-below d _ r e = absurd (none_some e)
 
 chain_rest-below : (c : ChainKind) (d : ℕ) (x : Terminal) (r : ℕ × List Expected) → chain_rest_move c d x ≡ Some r → IsTrue (nat_lt (form x) 11)
 chain_rest-below And d ampersand r e = refl
 chain_rest-below Or d bar r e = refl
-chain_rest-below And d _ r e = absurd (none-some e)
-chain_rest-below Or d _ r e = absurd (none-some e)
+chain_rest-below And d _ r e = absurd (none_some e)
+chain_rest-below Or d _ r e = absurd (none_some e)
 
 literals_rest-below : (d : ℕ) (x : Terminal) (r : ℕ × List Expected) → literals_rest_move d x ≡ Some r → IsTrue (nat_lt (form x) 11)
 literals_rest-below d bar r e = refl
-literals_rest-below d _ r e = absurd (none-some e)
+literals_rest-below d _ r e = absurd (none_some e)
 
 items-below : (modal : Bool) (x : Terminal) (r : ℕ × List Expected) → items_move modal x ≡ Some r → IsTrue (nat_lt (form x) 21)
 items-below modal (lower w) r e = refl
-items-below modal _ r e = absurd (none-some e)
+items-below modal _ r e = absurd (none_some e)
 
 below-bound : (modal : Bool) (e : Expected) (x : Terminal) (r : ℕ × List Expected) → is_optional e ≡ true → move modal e x ≡ Some r → IsTrue (nat_lt (form x) (bound e))
 below-bound modal (some_arguments d) x r o h = some_arguments-below d x r h
@@ -502,13 +503,13 @@ below-bound modal items x r o h = items-below modal x r h
 below-bound modal _ x r o h = absurd (false≢true o)
 
 pub good-step : (modal : Bool) (es : List Expected) (x : Terminal) (r : ℕ × List Expected) → IsGood modal es → step modal es x ≡ Some r → IsGood modal r.1
-good-step modal [] x r g h = absurd (none-some h)
+good-step modal [] x r g h = absurd (none_some h)
 good-step modal (e ∷ es) x r g h = by (move modal e x) refl (is_optional e) (λ k. good-step modal es x r g.1 k) h
   where
     by : (m : Option (ℕ × List Expected)) → move modal e x ≡ m → (o : Bool) → (step modal es x ≡ Some r → IsGood modal r.1) → moved m o es (step modal es x) ≡ Some r → IsGood modal r.1
     by (Some q) q_is o next k = subst (λ p. IsGood modal p.1) (some-is k) (good-move modal e x es q g.0 g.1 q_is)
     by None q_is true next k = next k
-    by None q_is false next k = absurd (none-some k)
+    by None q_is false next k = absurd (none_some k)
 
 -- what a step leads to, and what is derived behind it
 pub record Stepped (modal : Bool) (es : List Expected) (x : Terminal) (ts : List Terminal) (ns : List ℕ) : Type 0 where
@@ -533,4 +534,4 @@ derives-step modal (e ∷ es) x ts ns g (skips o h) = by (derives-step modal es 
       nestings = next.nestings;
       derived = next.derived;
     }
-    by next (Some q) q_is = absurd (none-some (sym (g.0 x (below-bound modal e x q o q_is)) ∙ next.is_step))
+    by next (Some q) q_is = absurd (none_some (sym (g.0 x (below-bound modal e x q o q_is)) ∙ next.is_step))

@@ -2,8 +2,10 @@
 use Rattle.std.proofs.Common.{◌≡◌, ◌&&◌, ℕ, Bool, true, false, List, [], ◌∷◌, ◌++◌, None, Some, refl, sym, ◌∙◌, ap, subst}
 use Rattle.std.specs.List.{list_all}
 use Rattle.std.proofs.lemmas.Bool.{and_parts, false≢true}
+use Rattle.plain_laws.proofs.Options.{none_some}
+use Rattle.tptp_lex.proofs.AnswerLaws.{none-or-fault, next-or-none, next-or-fault}
 use Rattle.tptp_lex.specs.Answers.{IsNext, IsFault, OnlySpace}
-use Rattle.tptp_lex.proofs.Runs.{none-some, some-is}
+use Rattle.tptp_lex.proofs.Runs.{some-is}
 use Rattle.tptp_reader.specs.declared.following.Ending.{Ending}
 use Rattle.tptp_reader.specs.declared.following.Ending.TheVariants as ending
 use Rattle.tptp_reader.specs.declared.terminal.Piece.{Piece}
@@ -13,7 +15,7 @@ use Rattle.tptp_reader.specs.Pieces.{placed}
 use Rattle.tptp_reader.specs.Expecting.{Expected, items, all_optional, is_at_item, Move, step, run, run_after}
 use Rattle.tptp_reader.specs.Following.{Ran, RanOut, HasEnding, is_open, is_shallow}
 use Rattle.tptp_reader.specs.Failing.{Fails, at_no_token, at_end, at_token, at_depth, further}
-use Rattle.tptp_reader.proofs.PlaceLaws.{next-or-end, next-or-fault, end-or-fault, Compared, alike, longer, shorter, compared, next-in}
+use Rattle.tptp_reader.proofs.PlaceLaws.{Compared, alike, longer, shorter, compared, next-in}
 use Rattle.tptp_reader.proofs.RunLaws.{run-behind}
 use Rattle.tptp_reader.proofs.StageLaws.{at-item-is}
 
@@ -37,15 +39,15 @@ nothing-fails : (modal : Bool) (text : List ℕ) (es : List Expected) (from : �
 nothing-fails modal text es from e (at_no_token fs at offset o f) = false≢true (sym (ap is_open e) ∙ o)
 nothing-fails modal text es from e (at_end fs at b f) = false≢true (sym b ∙ ap all_optional e)
 nothing-fails modal text es from e (at_token fs at p to f o s) = false≢true (sym (ap is_open e) ∙ o)
-nothing-fails modal text es from e (at_depth fs at p to m f s d) = none-some (sym (ap (λ z. step modal z p.terminal) e) ∙ s)
-nothing-fails modal text es from e (further fs at p to m f s h) = none-some (sym (ap (λ z. step modal z p.terminal) e) ∙ s)
+nothing-fails modal text es from e (at_depth fs at p to m f s d) = none_some (sym (ap (λ z. step modal z p.terminal) e) ∙ s)
+nothing-fails modal text es from e (further fs at p to m f s h) = none_some (sym (ap (λ z. step modal z p.terminal) e) ∙ s)
 
 space-fails : (modal : Bool) (text : List ℕ) (es : List Expected) (from : ℕ) → all_optional es ≡ true → OnlySpace text from → Fails modal text es from → ⊥
-space-fails modal text es from e k (at_no_token fs at offset o f) = end-or-fault text from offset k f
+space-fails modal text es from e k (at_no_token fs at offset o f) = none-or-fault text from offset k f
 space-fails modal text es from e k (at_end fs at b f) = false≢true (sym b ∙ e)
-space-fails modal text es from e k (at_token fs at p to f o s) = let t = next-in f in next-or-end text from t.0 t.1 k
-space-fails modal text es from e k (at_depth fs at p to m f s d) = let t = next-in f in next-or-end text from t.0 t.1 k
-space-fails modal text es from e k (further fs at p to m f s h) = let t = next-in f in next-or-end text from t.0 t.1 k
+space-fails modal text es from e k (at_token fs at p to f o s) = let t = next-in f in next-or-none text from t.0 t.1 k
+space-fails modal text es from e k (at_depth fs at p to m f s d) = let t = next-in f in next-or-none text from t.0 t.1 k
+space-fails modal text es from e k (further fs at p to m f s h) = let t = next-in f in next-or-none text from t.0 t.1 k
 
 -- ---- one token further
 
@@ -54,10 +56,10 @@ same-move modal es p q m n e s t = some-is (sym t ∙ ap (λ (z : Placed). step 
 
 token-fails : (modal : Bool) (text : List ℕ) (es : List Expected) (from : ℕ) (p : Placed) (to : ℕ) (m : ℕ × List Expected) → Follow text from (p ∷ []) to → step modal es p.terminal ≡ Some m → is_shallow m.0 ≡ true → (Fails modal text m.1 to → ⊥) → Fails modal text es from → ⊥
 token-fails modal text es from p to m g s a k (at_no_token fs at offset o f) = let t = next-in g in next-or-fault text from t.0 offset t.1 f
-token-fails modal text es from p to m g s a k (at_end fs at b f) = let t = next-in g in next-or-end text from t.0 t.1 f
+token-fails modal text es from p to m g s a k (at_end fs at b f) = let t = next-in g in next-or-none text from t.0 t.1 f
 token-fails modal text es from p to m g s a k (at_token fs at q end f o n) =
     let w = one-next q p f g in
-    none-some (sym n ∙ ap (λ (z : Placed). step modal es z.terminal) w.token ∙ s)
+    none_some (sym n ∙ ap (λ (z : Placed). step modal es z.terminal) w.token ∙ s)
 token-fails modal text es from p to m g s a k (at_depth fs at q end n f t d) =
     let w = one-next q p f g in
     false≢true (sym d ∙ ap (λ z. is_shallow z.0) (same-move modal es p q m n w.token s t) ∙ a)
@@ -79,7 +81,7 @@ run-fails modal text (p ∷ front) es now from to k f e a n h = by (step modal e
   where
     by : (m : Move) → step modal es p.terminal ≡ m → ((fs : List Expected) (mid : ℕ) (j : List ℕ) → Follow text mid front to → run modal fs (terminals front) ≡ Some (j, now) → list_all is_shallow j ≡ true → Fails modal text fs mid → ⊥)
         → run_after m (λ fs. run modal fs (terminals front)) ≡ Some (k, now) → ⊥
-    by None d next q = none-some q
+    by None d next q = none_some q
     by (Some m) d next q =
         let b = run-behind m.0 (run modal m.1 (terminals front)) k now q in
         let c = cut f in

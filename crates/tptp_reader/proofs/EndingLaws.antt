@@ -2,8 +2,10 @@
 use Rattle.std.proofs.Common.{◌≡◌, ◌&&◌, ℕ, Bool, true, false, not, List, [], ◌∷◌, ◌++◌, None, Some, inl, inr, refl, sym, ◌∙◌, ap, length}
 use Rattle.std.specs.List.{list_all}
 use Rattle.std.proofs.lemmas.Bool.{and_parts, false≢true, lt-ltb, ltb-true}
+use Rattle.plain_laws.proofs.Booleans.{and-false}
+use Rattle.plain_laws.proofs.Options.{none_some}
 use Rattle.tptp_lex.specs.Answers.{IsFault, OnlySpace}
-use Rattle.tptp_lex.proofs.Runs.{none-some, some-is}
+use Rattle.tptp_lex.proofs.Runs.{some-is}
 use Rattle.tptp_reader.specs.declared.fault.ReadCause.{ReadCause}
 use Rattle.tptp_reader.specs.declared.fault.ReadCause.TheVariants.{Syntax}
 use Rattle.tptp_reader.specs.declared.terminal.Piece.{Piece}
@@ -60,7 +62,7 @@ nesting-in modal (y ∷ front) back x es mid now k l r h s g all = by (step moda
   where
     by : (m : Move) → step modal es y ≡ m → ((fs : List Expected) (j i : List ℕ) → run modal fs front ≡ Some (j, mid) → run modal fs (front ++ x ∷ back) ≡ Some (i, now) → list_all is_shallow i ≡ true → is_shallow r.0 ≡ true)
         → run_after m (λ fs. run modal fs front) ≡ Some (k, mid) → run_after m (λ fs. run modal fs (front ++ x ∷ back)) ≡ Some (l, now) → is_shallow r.0 ≡ true
-    by None d next z w = absurd (none-some z)
+    by None d next z w = absurd (none_some z)
     by (Some q) d next z w =
         let b = run-behind q.0 (run modal q.1 front) k mid z in
         let c = run-behind q.0 (run modal q.1 (front ++ x ∷ back)) l now w in
@@ -95,10 +97,6 @@ no_token-fault modal L es m C text from now to offset r f =
 pub end-fault : (modal : Bool) (L : Language) (es : List Expected) → IsFor modal L es → (C : Causes) (text : List ℕ) (from : ℕ) (now : List Expected) (to : ℕ) → (r : Ran modal text from es now to) → OnlySpace text to → (IsWhole L (terminals r.front) → ⊥) → HasFault text from L C (wrong (length text) Syntax)
 end-fault modal L es m C text from now to r o n =
     at_end r.front to r.there (run-shallow modal L es m.read (terminals r.front) r.nestings now r.is_run r.shallow) (m.goes (terminals r.front) r.nestings now r.is_run r.expects) n o
-
-and-false : (b : Bool) → (b && false) ≡ false
-and-false true = refl
-and-false false = refl
 
 -- above the last token of a formula nothing else may be left out
 pub not-whole : (modal : Bool) (text : List ℕ) (from : ℕ) (now : List Expected) (to : ℕ) (r : Ran modal text from (formula 0 ∷ stop ∷ []) now to) → IsWhole (FormulaLanguage modal) (terminals r.front) → ⊥

@@ -6,7 +6,9 @@ use Rattle.std.proofs.lemmas.Grind.{flat_map-append}
 use Rattle.std.proofs.lemmas.List.Folds.{list_all-append}
 use Rattle.std.specs.List.{list_all}
 use Rattle.std.specs.Prelude.{codes}
-use Rattle.tptp_lex.proofs.Runs.{none-some, some-is}
+use Rattle.plain_laws.proofs.Lists.{joins}
+use Rattle.plain_laws.proofs.Options.{none_some}
+use Rattle.tptp_lex.proofs.Runs.{some-is}
 use Rattle.tptp_reader.specs.Terminals.{Terminal}
 use Rattle.tptp_reader.specs.Grammar.{ItemTree, include, item_fits, item_tokens, text_tokens}
 use Rattle.tptp_reader.specs.Nesting.{text_nestings}
@@ -22,9 +24,6 @@ use Rattle.tptp_reader.proofs.Derived.{completed, step-back, run-back, optional-
 -- what completes the stack is in the language
 pub record IsWrittenBy (modal : Bool) (L : Language) (es : List Expected) : Type 0 where
   pub written : (ts : List Terminal) (ns : List ℕ) → Completes modal es ts ns → L ts ns
-
-joins : {A : Type 0} {a b c d z : List A} → z ≡ a ++ b → a ≡ c → b ≡ d → z ≡ c ++ d
-joins {b = b} {c = c} e h k = e ∙ ap (λ q. q ++ b) h ∙ ap (λ q. c ++ q) k
 
 pub text-written : (modal : Bool) → IsWrittenBy modal (TextLanguage modal) (items ∷ [])
 text-written modal = record { written = λ ts ns c. only c }
@@ -46,11 +45,11 @@ run-length modal [] es now before h = ap (λ p. length p.0) (sym (some-is h))
 run-length modal (x ∷ front) es now before h = by (step modal es x) (λ fs k e. run-length modal front fs now k e) h
   where
     behind : (n : ℕ) (r : Option (List ℕ × List Expected)) → run_on n r ≡ Some (before, now) → (k : List ℕ) × (r ≡ Some (k, now)) × (before ≡ n ∷ k)
-    behind n None e = absurd (none-some e)
+    behind n None e = absurd (none_some e)
     behind n (Some q) e = (q.0, ap (λ z. Some (q.0, z)) (ap (λ p. p.1) (some-is e)), sym (ap (λ p. p.0) (some-is e)))
 
     by : (m : Option (ℕ × List Expected)) → ((fs : List Expected) (k : List ℕ) → run modal fs front ≡ Some (k, now) → length k ≡ length front) → run_after m (λ fs. run modal fs front) ≡ Some (before, now) → length before ≡ suc (length front)
-    by None next e = absurd (none-some e)
+    by None next e = absurd (none_some e)
     by (Some q) next e = let k = behind q.0 (run modal q.1 front) e in ap length k.2 ∙ ap suc (next q.1 k.0 k.1)
 
 -- A token that has a step can follow, and its nesting is that of the step.

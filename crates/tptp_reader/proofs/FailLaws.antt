@@ -1,5 +1,5 @@
 -- Where the way over a text goes wrong: from one token to the one before it, and from one answer to the next.
-use Rattle.std.proofs.Common.{◌≡◌, ◌==◌, ℕ, Bool, true, false, List, [], ◌∷◌, ◌++◌, Option, None, Some, Result, Ok, Err, inl, inr, refl, sym, ◌∙◌, ap, subst}
+use Rattle.std.proofs.Common.{◌≡◌, ◌==◌, ℕ, Bool, true, false, List, [], ◌∷◌, ◌++◌, None, Some, Result, Ok, Err, inl, inr, refl, sym, ◌∙◌, ap, subst}
 use Rattle.std.specs.Result.{IsErrAnd, IfErr}
 use Rattle.std.proofs.lemmas.Bool.{false≢true}
 use Rattle.std.proofs.lemmas.Result.{err_from_is_err_and}
@@ -172,7 +172,3 @@ item-stops modal text p P r s e m k =
     subst (λ z. SettlesItem modal text p z) (sym h) (missed P (FailsAt modal text (items ∷ []) p) s m k)
 
 -- ---- options
-
-pub not-some : {A : Type 0} (o : Option A) → ((x : A) → o ≡ Some x → ⊥) → o ≡ None
-not-some None n = refl
-not-some (Some x) n = absurd (n x refl)

@@ -1,6 +1,8 @@
 -- A text has at most one fault, and none where it is read.
 use Rattle.std.proofs.Common.{◌≡◌, ℕ, Bool, List, [], ◌∷◌, ◌++◌, refl, sym, ◌∙◌, ap, append_assoc, append-nil, subst, length, slice_get}
 use Rattle.std.proofs.lemmas.List.{map-append}
+use Rattle.plain_laws.proofs.Lists.{same-last}
+use Rattle.tptp_lex.proofs.AnswerLaws.{none-or-fault, next-or-none, next-or-fault}
 use Rattle.tptp_lex.specs.Answers.{IsFault, OnlySpace}
 use Rattle.tptp_reader.specs.declared.fault.ReadCause.{ReadCause}
 use Rattle.tptp_reader.specs.declared.fault.ReadCause.TheVariants.{Syntax}
@@ -8,7 +10,7 @@ use Rattle.tptp_reader.specs.Terminals.{Terminal, Placed, terminals, Follow, no_
 use Rattle.tptp_reader.specs.Faults.{Language, CanFollow, CanGoOn, IsWhole, Causes, IsTooDeep, AreShallow, Fault, wrong, too_deep, HasFault, at_token, at_no_token, at_end, at_depth}
 use Rattle.tptp_reader.specs.Expecting.{Expected}
 use Rattle.tptp_reader.proofs.Deriving.{derives-step}
-use Rattle.tptp_reader.proofs.PlaceLaws.{Compared, alike, longer, shorter, compared, next-or-end, next-or-fault, end-or-fault, fault-alone, next-in}
+use Rattle.tptp_reader.proofs.PlaceLaws.{Compared, alike, longer, shorter, compared, fault-alone, next-in}
 use Rattle.tptp_reader.proofs.FollowLaws.{IsReadBy, derives-run, get-behind}
 
 -- ---- lists
@@ -20,19 +22,6 @@ head_or d (x ∷ xs) = x
 abbrev tail_of : {A : Type 0} → List A → List A
 tail_of [] = []
 tail_of (x ∷ xs) = xs
-
-nothing-behind : {A : Type 0} (xs : List A) (q : A) → [] ≡ xs ++ q ∷ [] → ⊥
-nothing-behind [] q e = cc
-nothing-behind (x ∷ xs) q e = cc
-
-pub snoc-alike : {A : Type 0} (xs ys : List A) (p q : A) → xs ++ p ∷ [] ≡ ys ++ q ∷ [] → (xs ≡ ys) × (p ≡ q)
-snoc-alike [] [] p q e = (refl, ap (head_or p) e)
-snoc-alike [] (y ∷ ys) p q e = absurd (nothing-behind ys q (ap tail_of e))
-snoc-alike (x ∷ xs) [] p q e = absurd (nothing-behind xs p (sym (ap tail_of e)))
-snoc-alike (x ∷ xs) (y ∷ ys) p q e =
-    let h : x ≡ y = ap (head_or x) e in
-    let r = snoc-alike xs ys p q (ap tail_of e) in
-    (λ i. h i ∷ r.0 i, r.1)
 
 pub terminals-append : (ps qs : List Placed) → terminals (ps ++ qs) ≡ terminals ps ++ terminals qs
 terminals-append ps qs = map-append (λ (p : Placed). p.terminal) ps qs
@@ -125,7 +114,7 @@ deep-alone L text from front other p q to end f s d g t c = by (compared f g)
         cut (u ∷ xs) (v ∷ ys) back x y z e = let r = cut xs ys back x y z (ap tail_of e) in (r.0, λ i. ap (head_or u) e i ∷ r.1 i)
 
     by : Compared text (front ++ p ∷ []) to (other ++ q ∷ []) end → p ≡ q
-    by (alike e k) = (snoc-alike front other p q e).1
+    by (alike e k) = (same-last front other p q e).1
     by (longer z back e k) = let w = within other front back q p z e in absurd (t (terminals front) (terminals w.0) p.terminal (ap terminals w.1 ∙ terminals-append front (p ∷ w.0)) d)
     by (shorter z back e k) = let w = within front other back p q z e in absurd (s (terminals other) (terminals w.0) q.terminal (ap terminals w.1 ∙ terminals-append other (q ∷ w.0)) c)
 
@@ -179,7 +168,7 @@ fate text from L C f (at_end front to there shallow goes part over) =
       there = there;
       begins = goes-begins L (terminals front) goes;
       shallow = shallow;
-      blocked = λ q back end g k. let t = next-in g in next-or-end text to t.0 t.1 over;
+      blocked = λ q back end g k. let t = next-in g in next-or-none text to t.0 t.1 over;
     }) goes (not_whole part over)
 fate text from L C f (at_depth front p to there shallow deep) = sinks front p to refl there shallow deep
 
@@ -190,12 +179,12 @@ stuck-alone text L C front to f g one (a_wrong_token p end c h k) (a_wrong_token
     let s : c ≡ d = one p.terminal c d k (subst (λ (z : Placed). C front z.terminal d) (sym e) k2) in
     λ i. wrong (e i).at (s i)
 stuck-alone text L C front to f g one (a_wrong_token p end c h k) (no_token_there offset n) = let t = next-in h in absurd (next-or-fault text to t.0 offset t.1 n)
-stuck-alone text L C front to f g one (a_wrong_token p end c h k) (not_whole w o) = let t = next-in h in absurd (next-or-end text to t.0 t.1 o)
+stuck-alone text L C front to f g one (a_wrong_token p end c h k) (not_whole w o) = let t = next-in h in absurd (next-or-none text to t.0 t.1 o)
 stuck-alone text L C front to f g one (no_token_there offset n) (a_wrong_token q end d h k) = let t = next-in h in absurd (next-or-fault text to t.0 offset t.1 n)
 stuck-alone text L C front to f g one (no_token_there a n) (no_token_there b m) = ap (λ o. wrong o Syntax) (fault-alone text to a b n m)
-stuck-alone text L C front to f g one (no_token_there a n) (not_whole w o) = absurd (end-or-fault text to a o n)
-stuck-alone text L C front to f g one (not_whole w o) (a_wrong_token q end d h k) = let t = next-in h in absurd (next-or-end text to t.0 t.1 o)
-stuck-alone text L C front to f g one (not_whole w o) (no_token_there b m) = absurd (end-or-fault text to b o m)
+stuck-alone text L C front to f g one (no_token_there a n) (not_whole w o) = absurd (none-or-fault text to a o n)
+stuck-alone text L C front to f g one (not_whole w o) (a_wrong_token q end d h k) = let t = next-in h in absurd (next-or-none text to t.0 t.1 o)
+stuck-alone text L C front to f g one (not_whole w o) (no_token_there b m) = absurd (none-or-fault text to b o m)
 stuck-alone text L C front to f g one (not_whole w o) (not_whole w2 o2) = refl
 
 pub fate-alone : (modal : Bool) (L : Language) (es : List Expected) → IsReadBy modal L es → (C : Causes) → ((front : List Terminal) (x : Terminal) (c d : ReadCause) → C front x c → C front x d → c ≡ d)

@@ -1,7 +1,8 @@
 -- What may follow tokens in a language is found by the stack of what is expected: a token that has no step there cannot
 -- follow, and its nesting depends on the tokens before it alone.
 use Rattle.std.proofs.Common.{◌≡◌, ℕ, suc, Bool, true, false, List, [], ◌∷◌, ◌++◌, None, Some, refl, sym, ◌∙◌, ap, subst, length, slice_get}
-use Rattle.tptp_lex.proofs.Runs.{none-some, some-is}
+use Rattle.plain_laws.proofs.Options.{none_some}
+use Rattle.tptp_lex.proofs.Runs.{some-is}
 use Rattle.tptp_reader.specs.Terminals.{Terminal, comma, close_round}
 use Rattle.tptp_reader.specs.Faults.{Language, TextLanguage, FormulaLanguage, ClauseLanguage, FollowsAt, CanFollow, is_stop}
 use Rattle.tptp_reader.specs.Expecting.{Expected, formula, clause, stop, items, step, run, run_on, run_after}
@@ -103,4 +104,4 @@ pub no-step : (modal : Bool) (L : Language) (es : List Expected) → IsReadBy mo
 no-step modal L es r front x before now e n h =
     let a = follows-run modal L es r front x h.0 h.1 in
     let q : now ≡ a.now = ap (λ p. p.1) (some-is (sym e ∙ a.is_run)) in
-    none-some (sym n ∙ ap (λ s. step modal s x) q ∙ a.is_step)
+    none_some (sym n ∙ ap (λ s. step modal s x) q ∙ a.is_step)

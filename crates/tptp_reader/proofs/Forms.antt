@@ -2,7 +2,8 @@
 use Rattle.std.proofs.Common.{◌≡◌, ◌==◌, ◌&&◌, ◌||◌, ℕ, suc, Bool, true, false, List, [], ◌∷◌, ◌++◌, Option, Some, refl, sym, ◌∙◌, ap, append-nil, subst, flat_map, IsTrue}
 use Rattle.std.specs.List.{list_all}
 use Rattle.std.proofs.lemmas.Bool.{eqb-true}
-use Rattle.tptp_lex.proofs.Runs.{none-some, some-is}
+use Rattle.plain_laws.proofs.Options.{none_some}
+use Rattle.tptp_lex.proofs.Runs.{some-is}
 use Rattle.tptp_reader.specs.declared.source.ChainKind.{ChainKind}
 use Rattle.tptp_reader.specs.declared.source.BinaryKind.{BinaryKind}
 use Rattle.tptp_reader.specs.Terminals.{Terminal, open_round, close_round, open_square, close_square, comma}
@@ -136,9 +137,6 @@ only {modal} {e} {ts} {ns} c =
     let m : s.k ≡ ns = sym (append-nil s.k) ∙ ap (λ z. s.k ++ z) (sym n.1) ∙ sym s.nestings in
     subst (λ z. Form modal e z ns) t (subst (λ z. Form modal e s.a z) m s.first)
 
-pub joins : {A : Type 0} {a b c d : List A} {z : List A} → z ≡ a ++ b → a ≡ c → b ≡ d → z ≡ c ++ d
-joins {b = b} {c = c} e h k = e ∙ ap (λ q. q ++ b) h ∙ ap (λ q. c ++ q) k
-
 -- what a move leads to, taken back
 abbrev pub Backs : Bool → Expected → (Terminal → Option (ℕ × List Expected)) → Type 0
 Backs modal e mv = (x : Terminal) (r : ℕ × List Expected) (ts : List Terminal) (ns : List ℕ) → mv x ≡ Some r → Completes modal r.1 ts ns → Form modal e (x ∷ ts) (r.0 ∷ ns)
@@ -151,5 +149,5 @@ pub this-back : (modal : Bool) (k : Fixed) (d : ℕ) → Backs modal (this k d) 
 this-back modal k d x r ts ns e c = by (form x == form_of k) refl e
   where
     by : (b : Bool) → (form x == form_of k) ≡ b → this_move b d ≡ Some r → Form modal (this k d) (x ∷ ts) (r.0 ∷ ns)
-    by false h q = absurd (none-some q)
+    by false h q = absurd (none_some q)
     by true h q = known modal (this k d) x ts ns q (λ s. let n = no-more s in (x, eqb-true (form x) (form_of k) h, ap (λ z. x ∷ z) n.0, ap (λ z. d ∷ z) n.1)) c

@@ -1,7 +1,7 @@
 -- Where the way over a formula goes wrong.
 use Rattle.std.proofs.Common.{◌≡◌, ◌==◌, ◌&&◌, ℕ, suc, Bool, true, false, List, [], ◌∷◌, ◌++◌, None, Some, inl, inr, refl, sym, ◌∙◌, ap, append_assoc, codes, subst, if◌then◌else◌}
 use Rattle.std.proofs.lemmas.Bool.{false≢true}
-use Rattle.tptp_lex.proofs.Runs.{none-some}
+use Rattle.plain_laws.proofs.Options.{none_some}
 use Rattle.tptp_reader.specs.declared.formula_reader.Prefix.{Prefix}
 use Rattle.tptp_reader.specs.declared.formula_reader.Prefix.TheVariants.{Bracket, Negation, Universal, Existential, Necessity, Possibility}
 use Rattle.tptp_reader.specs.declared.source.BinaryKind.{BinaryKind}
@@ -44,7 +44,7 @@ pub fails-unclosed : {text : List ℕ} {p : Piece} (modal : Bool) (d : ℕ) (es 
 fails-unclosed {text} {p} modal d es e f = fails_at (open-after modal text d es (the_terminal p.terminal) p.end e f)
 
 no-variable : (x : Terminal) → variable_in x ≡ None → (form x == 21) ≡ false
-no-variable (upper w) e = absurd (none-some (sym e))
+no-variable (upper w) e = absurd (none_some (sym e))
 no-variable _ e = refl
 
 pub fails-no_variable : {text : List ℕ} {p : Piece} (modal : Bool) (d : ℕ) (es : List Expected) → variable_in (the_terminal p.terminal) ≡ None → FailsAt modal text (this an_upper d ∷ es) p
@@ -109,19 +109,19 @@ no-modality : (w : List ℕ) → prefix_in true (hash w) ≡ None → is_modalit
 no-modality w e = by (is_word w (codes "#box")) (is_word w (codes "#dia")) refl refl e
   where
     by : (b c : Bool) → is_word w (codes "#box") ≡ b → is_word w (codes "#dia") ≡ c → (if b then Some Necessity else (if c then Some Possibility else None)) ≡ None → is_modality w ≡ false
-    by true c h k q = absurd (none-some (sym q))
-    by false true h k q = absurd (none-some (sym q))
+    by true c h k q = absurd (none_some (sym q))
+    by false true h k q = absurd (none_some (sym q))
     by false false h k q = ap (λ z. if z then true else is_word w (codes "#dia")) h ∙ k
 
 unit-after : (modal : Bool) (text : List ℕ) (d : ℕ) (es : List Expected) (x : Terminal) (to : ℕ) → prefix_in modal x ≡ None → FailsAfter modal text (step modal (atom d ∷ es) x) to → FailsAfter modal text (step modal (unit d ∷ es) x) to
-unit-after true text d es open_round to e h = absurd (none-some (sym e))
-unit-after false text d es open_round to e h = absurd (none-some (sym e))
-unit-after true text d es tilde to e h = absurd (none-some (sym e))
-unit-after false text d es tilde to e h = absurd (none-some (sym e))
-unit-after true text d es exclamation to e h = absurd (none-some (sym e))
-unit-after false text d es exclamation to e h = absurd (none-some (sym e))
-unit-after true text d es question to e h = absurd (none-some (sym e))
-unit-after false text d es question to e h = absurd (none-some (sym e))
+unit-after true text d es open_round to e h = absurd (none_some (sym e))
+unit-after false text d es open_round to e h = absurd (none_some (sym e))
+unit-after true text d es tilde to e h = absurd (none_some (sym e))
+unit-after false text d es tilde to e h = absurd (none_some (sym e))
+unit-after true text d es exclamation to e h = absurd (none_some (sym e))
+unit-after false text d es exclamation to e h = absurd (none_some (sym e))
+unit-after true text d es question to e h = absurd (none_some (sym e))
+unit-after false text d es question to e h = absurd (none_some (sym e))
 unit-after true text d es (hash w) to e h = subst (λ b. FailsAfter true text (moved (modal_move b d) false es (step true es (hash w))) to) (sym (no-modality w e)) tt
 unit-after false text d es (hash w) to e h = tt
 unit-after true text d es _ to e h = h
@@ -155,14 +155,14 @@ fails-binary {p = p} modal d Nor es e h = fails-token modal (formula_rest d ∷ 
 fails-binary {p = p} modal d Nand es e h = fails-token modal (formula_rest d ∷ es) (binary-is (the_terminal p.terminal) Nand e) (inr h)
 
 no-rest : (d : ℕ) (x : Terminal) → chain_in x ≡ None → binary_in x ≡ None → formula_rest_move d x ≡ None
-no-rest d ampersand e f = absurd (none-some (sym e))
-no-rest d bar e f = absurd (none-some (sym e))
-no-rest d implies e f = absurd (none-some (sym f))
-no-rest d implied e f = absurd (none-some (sym f))
-no-rest d equivalent e f = absurd (none-some (sym f))
-no-rest d inequivalent e f = absurd (none-some (sym f))
-no-rest d nor e f = absurd (none-some (sym f))
-no-rest d nand e f = absurd (none-some (sym f))
+no-rest d ampersand e f = absurd (none_some (sym e))
+no-rest d bar e f = absurd (none_some (sym e))
+no-rest d implies e f = absurd (none_some (sym f))
+no-rest d implied e f = absurd (none_some (sym f))
+no-rest d equivalent e f = absurd (none_some (sym f))
+no-rest d inequivalent e f = absurd (none_some (sym f))
+no-rest d nor e f = absurd (none_some (sym f))
+no-rest d nand e f = absurd (none_some (sym f))
 no-rest d _ e f = refl
 
 pub fails-alone : {text : List ℕ} {p : Piece} (modal : Bool) (d : ℕ) (es : List Expected) → chain_in (the_terminal p.terminal) ≡ None → binary_in (the_terminal p.terminal) ≡ None → FailsAt modal text es p → FailsAt modal text (formula_rest d ∷ es) p

@@ -3,7 +3,8 @@ use Rattle.std.proofs.Common.{◌≡◌, ◌≢◌, ◌==◌, ◌&&◌, ◌||◌
 use Rattle.std.specs.Prelude.{codes}
 use Rattle.std.proofs.lemmas.Bool.{and_parts, and_from, eqb-true, false≢true}
 use Rattle.std.proofs.lemmas.Bool.Decides.{eqb_tells}
-use Rattle.tptp_lex.proofs.Runs.{none-some}
+use Rattle.plain_laws.proofs.Lists.{joins}
+use Rattle.plain_laws.proofs.Options.{none_some}
 use Rattle.calculus.proofs.EqualityLaws.{list_eq-tells}
 use Rattle.tptp_reader.specs.declared.source.ChainKind.{ChainKind}
 use Rattle.tptp_reader.specs.declared.source.ChainKind.TheVariants.{And, Or}
@@ -15,7 +16,7 @@ use Rattle.tptp_reader.specs.Grammar.{Word, plain, in_quotes, TermTree, TermTree
 use Rattle.tptp_reader.specs.Nesting.{term_nestings, atom_nestings, unit_nestings, formula_nestings}
 use Rattle.tptp_reader.specs.Expecting.{Expected, a_square, a_colon, an_upper, form, this, term, arguments, some_arguments, some_equation, equation, atom, variables, unit, formula, formula_rest, chain_rest, stop, before, term_move, arguments_move, some_arguments_move, equation_move, dollar_move, is_truth, atom_move, variables_move, modal_move, is_modality, unit_move, formula_rest_move, chain_rest_move, stop_move, is_word}
 use Rattle.tptp_reader.proofs.Deriving.{before-some}
-use Rattle.tptp_reader.proofs.Forms.{Arguments, Backs, Completes, Form, Rest, Side, applied, arguments_nestings, arguments_tokens, chained, differs, equals, is_plain_rest, is_side, joined, joins, known, no-more, no_arguments, no_rest, no_side, none, only, paired, part, predicated, rest_nestings, rest_tokens, side_nestings, side_tokens, split, these}
+use Rattle.tptp_reader.proofs.Forms.{Arguments, Backs, Completes, Form, Rest, Side, applied, arguments_nestings, arguments_tokens, chained, differs, equals, is_plain_rest, is_side, joined, known, no-more, no_arguments, no_rest, no_side, none, only, paired, part, predicated, rest_nestings, rest_tokens, side_nestings, side_tokens, split, these}
 
 -- ---- terms and atoms
 
@@ -34,7 +35,7 @@ pub term-back : (modal : Bool) (d : ℕ) → Backs modal (term d) (term_move d)
 term-back modal d (upper x) r ts ns e c = known modal (term d) (upper x) ts ns e (λ s. let n = no-more s in (g.variable x, ap (λ z. upper x ∷ z) n.0, ap (λ z. d ∷ z) n.1)) c
 term-back modal d (lower w) r ts ns e c = known modal (term d) (lower w) ts ns e (λ s. word-back modal d (plain w) ts ns s) c
 term-back modal d (quoted w) r ts ns e c = known modal (term d) (quoted w) ts ns e (λ s. word-back modal d (in_quotes w) ts ns s) c
-term-back modal d _ r ts ns e c = absurd (none-some e)
+term-back modal d _ r ts ns e c = absurd (none_some e)
 
 -- a first part and one behind it
 pub record Two (modal : Bool) (e f : Expected) (ts : List Terminal) (ns : List ℕ) : Type 0 where
@@ -54,17 +55,17 @@ pub arguments-back : (modal : Bool) (d : ℕ) → Backs modal (arguments d) (arg
 arguments-back modal d comma r ts ns e c =
     known modal (arguments d) comma ts ns e (λ s. let t = two s in (g.more_terms t.first.0 t.second.0, ap (λ z. comma ∷ z) (joins t.tokens t.first.1 t.second.1), ap (λ z. d ∷ z) (joins t.nestings t.first.2 t.second.2))) c
 arguments-back modal d close_round r ts ns e c = known modal (arguments d) close_round ts ns e (λ s. let n = no-more s in (g.no_terms, ap (λ z. close_round ∷ z) n.0, ap (λ z. d ∷ z) n.1)) c
-arguments-back modal d _ r ts ns e c = absurd (none-some e)
+arguments-back modal d _ r ts ns e c = absurd (none_some e)
 
 pub some_arguments-back : (modal : Bool) (d : ℕ) → Backs modal (some_arguments d) (some_arguments_move d)
 some_arguments-back modal d open_round r ts ns e c =
     known modal (some_arguments d) open_round ts ns e (λ s. let t = two s in (these t.first.0 t.second.0, ap (λ z. open_round ∷ z) (joins t.tokens t.first.1 t.second.1), ap (λ z. d ∷ z) (joins t.nestings t.first.2 t.second.2))) c
-some_arguments-back modal d _ r ts ns e c = absurd (none-some e)
+some_arguments-back modal d _ r ts ns e c = absurd (none_some e)
 
 pub equation-back : (modal : Bool) (d : ℕ) → Backs modal (equation d) (equation_move d)
 equation-back modal d equal r ts ns e c = known modal (equation d) equal ts ns e (λ s. let f = only s in (equals f.0, refl, ap (λ z. equal ∷ z) f.1, ap (λ z. d ∷ z) f.2)) c
 equation-back modal d unequal r ts ns e c = known modal (equation d) unequal ts ns e (λ s. let f = only s in (differs f.0, refl, ap (λ z. unequal ∷ z) f.1, ap (λ z. d ∷ z) f.2)) c
-equation-back modal d _ r ts ns e c = absurd (none-some e)
+equation-back modal d _ r ts ns e c = absurd (none_some e)
 
 pub some_equation-back : (modal : Bool) (d : ℕ) → Backs modal (some_equation d) (equation_move d)
 some_equation-back modal d x r ts ns e c = let f = equation-back modal d x r ts ns e c in (f.0, f.2, f.3)
@@ -142,7 +143,7 @@ fixed-back modal d w r ts ns e c = by (is_truth w) refl e
     word (inr h) s = let n = no-more s in (g.falsity, (λ i. dollar (word-is w (codes "$false") h i) ∷ n.0 i), ap (λ z. d ∷ z) n.1)
 
     by : (b : Bool) → is_truth w ≡ b → dollar_move b d ≡ Some r → Form modal (atom d) (dollar w ∷ ts) (r.0 ∷ ns)
-    by false h q = absurd (none-some q)
+    by false h q = absurd (none_some q)
     by true h q = known modal (atom d) (dollar w) ts ns q (word (either-word (is_word w (codes "$true")) (is_word w (codes "$false")) h)) c
 
 pub atom-back : (modal : Bool) (d : ℕ) → Backs modal (atom d) (atom_move d)
@@ -151,7 +152,7 @@ atom-back modal d (upper x) r ts ns e c =
     known modal (atom d) (upper x) ts ns e (λ s. let f = only s in (equated (g.variable x) f.0, ap (λ z. upper x ∷ z) f.2 ∙ sym (equated-tokens (g.variable x) f.0 f.1), ap (λ z. d ∷ z) f.3 ∙ sym (equated-nestings d (g.variable x) f.0 f.1))) c
 atom-back modal d (lower w) r ts ns e c = known modal (atom d) (lower w) ts ns e (λ s. atom-word-back modal d (plain w) ts ns s) c
 atom-back modal d (quoted w) r ts ns e c = known modal (atom d) (quoted w) ts ns e (λ s. atom-word-back modal d (in_quotes w) ts ns s) c
-atom-back modal d _ r ts ns e c = absurd (none-some e)
+atom-back modal d _ r ts ns e c = absurd (none_some e)
 
 -- ---- formulas
 
@@ -210,7 +211,7 @@ variables-back modal d comma r ts ns e c =
     known modal (variables d) comma ts ns e (λ s. let t = two s in let v = variable-is t.first.0 t.first.1 in
     (v.0 ∷ t.second.0, ap (λ z. comma ∷ z) (joins t.tokens (token-of t.first.2 v.1) t.second.1), ap (λ z. d ∷ z) (joins t.nestings t.first.3 t.second.2))) c
 variables-back modal d close_square r ts ns e c = known modal (variables d) close_square ts ns e (λ s. let f = only s in ([], ap (λ z. close_square ∷ z) (token-of f.2 (colon-is f.0 f.1)), ap (λ z. d ∷ z) f.3)) c
-variables-back modal d _ r ts ns e c = absurd (none-some e)
+variables-back modal d _ r ts ns e c = absurd (none_some e)
 
 pub or-true : (b : Bool) → IsTrue (b || true)
 or-true true = refl
@@ -230,7 +231,7 @@ quantified-back modal d q ts ns c =
     )
 
 pub modality-back : (modal : Bool) (d : ℕ) (w : List ℕ) (r : ℕ × List Expected) (ts : List Terminal) (ns : List ℕ) → modal_move (modal && is_modality w) d ≡ Some r → Completes modal r.1 ts ns → Form modal (unit d) (hash w ∷ ts) (r.0 ∷ ns)
-modality-back false d w r ts ns e c = absurd (none-some e)
+modality-back false d w r ts ns e c = absurd (none_some e)
 modality-back true d w r ts ns e c = by (is_modality w) refl e
   where
     word : (is_word w (codes "#box") ≡ true) ⊎ (is_word w (codes "#dia") ≡ true) → Completes true (this a_colon d ∷ unit (suc d) ∷ []) ts ns → Form true (unit d) (hash w ∷ ts) (d ∷ ns)
@@ -240,7 +241,7 @@ modality-back true d w r ts ns e c = by (is_modality w) refl e
         (g.under_modality g.possibility t.second.0, refl, (λ i. hash (word-is w (codes "#dia") h i) ∷ k i), ap (λ z. d ∷ z) (joins t.nestings t.first.3 t.second.3))
 
     by : (b : Bool) → is_modality w ≡ b → modal_move b d ≡ Some r → Form true (unit d) (hash w ∷ ts) (r.0 ∷ ns)
-    by false h q = absurd (none-some q)
+    by false h q = absurd (none_some q)
     by true h q = known true (unit d) (hash w) ts ns q (word (either-word (is_word w (codes "#box")) (is_word w (codes "#dia")) h)) c
 
 pub atomic-back : (modal : Bool) (d : ℕ) (x : Terminal) (r : ℕ × List Expected) (ts : List Terminal) (ns : List ℕ) → atom_move d x ≡ Some r → Completes modal r.1 ts ns → Form modal (unit d) (x ∷ ts) (r.0 ∷ ns)
@@ -258,7 +259,7 @@ unit-back modal d (dollar w) r ts ns e c = atomic-back modal d (dollar w) r ts n
 unit-back modal d (upper w) r ts ns e c = atomic-back modal d (upper w) r ts ns e c
 unit-back modal d (lower w) r ts ns e c = atomic-back modal d (lower w) r ts ns e c
 unit-back modal d (quoted w) r ts ns e c = atomic-back modal d (quoted w) r ts ns e c
-unit-back modal d _ r ts ns e c = absurd (none-some e)
+unit-back modal d _ r ts ns e c = absurd (none_some e)
 
 -- a stack of two stacks
 pub record Halves (modal : Bool) (es fs : List Expected) (ts : List Terminal) (ns : List ℕ) : Type 0 where
@@ -365,7 +366,7 @@ formula_rest-back modal d equivalent r ts ns e c = known modal (formula_rest d) 
 formula_rest-back modal d inequivalent r ts ns e c = known modal (formula_rest d) inequivalent ts ns e (λ s. paired-back modal Xor d ts ns s) c
 formula_rest-back modal d nor r ts ns e c = known modal (formula_rest d) nor ts ns e (λ s. paired-back modal Nor d ts ns s) c
 formula_rest-back modal d nand r ts ns e c = known modal (formula_rest d) nand ts ns e (λ s. paired-back modal Nand d ts ns s) c
-formula_rest-back modal d _ r ts ns e c = absurd (none-some e)
+formula_rest-back modal d _ r ts ns e c = absurd (none_some e)
 
 pub more-back : (modal : Bool) (c : ChainKind) (d : ℕ) (ts : List Terminal) (ns : List ℕ) → Completes modal (unit d ∷ chain_rest c d ∷ []) ts ns → Form modal (chain_rest c d) (g.chain_token c ∷ ts) (d ∷ ns)
 more-back modal c d ts ns s =
@@ -379,10 +380,10 @@ more-back modal c d ts ns s =
 pub chain_rest-back : (modal : Bool) (k : ChainKind) (d : ℕ) → Backs modal (chain_rest k d) (chain_rest_move k d)
 chain_rest-back modal And d ampersand r ts ns e c = known modal (chain_rest And d) ampersand ts ns e (λ s. more-back modal And d ts ns s) c
 chain_rest-back modal Or d bar r ts ns e c = known modal (chain_rest Or d) bar ts ns e (λ s. more-back modal Or d ts ns s) c
-chain_rest-back modal And d _ r ts ns e c = absurd (none-some e)
-chain_rest-back modal Or d _ r ts ns e c = absurd (none-some e)
+chain_rest-back modal And d _ r ts ns e c = absurd (none_some e)
+chain_rest-back modal Or d _ r ts ns e c = absurd (none_some e)
 
 pub stop-back : (modal : Bool) → Backs modal stop stop_move
 stop-back modal comma r ts ns e c = known modal stop comma ts ns e (λ s. let n = no-more s in (comma, refl, ap (λ z. comma ∷ z) n.0, ap (λ z. 0 ∷ z) n.1)) c
 stop-back modal close_round r ts ns e c = known modal stop close_round ts ns e (λ s. let n = no-more s in (close_round, refl, ap (λ z. close_round ∷ z) n.0, ap (λ z. 0 ∷ z) n.1)) c
-stop-back modal _ r ts ns e c = absurd (none-some e)
+stop-back modal _ r ts ns e c = absurd (none_some e)

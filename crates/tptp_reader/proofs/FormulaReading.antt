@@ -1,7 +1,9 @@
 -- Reading formulas.
 use Rattle.std.proofs.Common.{◌≡◌, ◌&&◌, ◌||◌, ℕ, suc, Bool, true, false, List, [], ◌∷◌, ◌++◌, None, Some, refl, sym, ◌∙◌, ap, append_assoc, append-nil, codes, subst, if◌then◌else◌}
 use Rattle.std.proofs.lemmas.Bool.{false≢true}
-use Rattle.tptp_lex.proofs.Runs.{none-some, some-is}
+use Rattle.plain_laws.proofs.Booleans.{or-true}
+use Rattle.plain_laws.proofs.Options.{none_some}
+use Rattle.tptp_lex.proofs.Runs.{some-is}
 use Rattle.tptp_reader.specs.declared.formula_reader.Prefix.{Prefix}
 use Rattle.tptp_reader.specs.declared.formula_reader.Prefix.TheVariants.{Bracket, Negation, Universal, Existential, Necessity, Possibility}
 use Rattle.tptp_reader.specs.declared.source.BinaryKind.{BinaryKind}
@@ -92,18 +94,14 @@ prefix-is true (hash w) k e = by (is_word w (codes "#box")) (is_word w (codes "#
     by : (b d : Bool) → is_word w (codes "#box") ≡ b → is_word w (codes "#dia") ≡ d → (if b then Some Necessity else (if d then Some Possibility else None)) ≡ Some k → (hash w ≡ prefix_token k) × (may_stand true k ≡ true)
     by true d h i q = subst (λ z. (hash w ≡ prefix_token z) × (may_stand true z ≡ true)) (some-is q) (ap hash (word-is w (codes "#box") h), refl)
     by false true h i q = subst (λ z. (hash w ≡ prefix_token z) × (may_stand true z ≡ true)) (some-is q) (ap hash (word-is w (codes "#dia") i), refl)
-    by false false h i q = absurd (none-some q)
-prefix-is true _ k e = absurd (none-some e)
-prefix-is false _ k e = absurd (none-some e)
+    by false false h i q = absurd (none_some q)
+prefix-is true _ k e = absurd (none_some e)
+prefix-is false _ k e = absurd (none_some e)
 
 -- ---- units
 
-any : (m : Bool) → (m || true) ≡ true
-any true = refl
-any false = refl
-
 pub unit-atom : {modal : Bool} {text : List ℕ} {p q : Piece} (d : ℕ) (s : program.Source) → AtomRead text d p (s, q) → UnitRead modal text d p (s, q)
-unit-atom {modal} d s a = record { tree = atomic a.tree; value = a.value; stands = a.stands; fits = any modal; shallow = a.shallow }
+unit-atom {modal} d s a = record { tree = atomic a.tree; value = a.value; stands = a.stands; fits = or-true modal; shallow = a.shallow }
 
 pub unit-bracket : {modal : Bool} {text : List ℕ} {p start close : Piece} (d inner : ℕ) (s : program.Source) (r : program.Source × Piece) → prefix_in modal (the_terminal p.terminal) ≡ Some Bracket → inner ≡ suc d → is_shallow d ≡ true
     → Follow text p.end (placed start ∷ []) start.end → FormulaRead modal text inner start (s, close) → IsClosed text (the_source s) close r → UnitRead modal text d p r
@@ -197,7 +195,7 @@ fits-three false false b c h k = absurd (false≢true h)
 pub chain-is : (x : Terminal) (c : ChainKind) → chain_in x ≡ Some c → x ≡ chain_token c
 chain-is ampersand c e = ap chain_token (some-is e)
 chain-is bar c e = ap chain_token (some-is e)
-chain-is _ c e = absurd (none-some e)
+chain-is _ c e = absurd (none_some e)
 
 pub is-chain : (c : ChainKind) (x : Terminal) → is_chain c x ≡ true → x ≡ chain_token c
 is-chain And ampersand e = refl
@@ -212,7 +210,7 @@ binary-is equivalent c e = ap binary_token (some-is e)
 binary-is inequivalent c e = ap binary_token (some-is e)
 binary-is nor c e = ap binary_token (some-is e)
 binary-is nand c e = ap binary_token (some-is e)
-binary-is _ c e = absurd (none-some e)
+binary-is _ c e = absurd (none_some e)
 
 pub formula-single : {modal : Bool} {text : List ℕ} {p sign : Piece} (d : ℕ) (s : program.Source) → UnitRead modal text d p (s, sign) → FormulaRead modal text d p (s, sign)
 formula-single d s u = record { tree = single u.tree; value = u.value; stands = u.stands; fits = u.fits; shallow = u.shallow }
@@ -265,7 +263,7 @@ pub chain-done : {modal : Bool} {text : List ℕ} {sign here start next : Piece}
     → UnitRead modal text d start (s, next) → units ≡ read ++ the_source s ∷ [] → ChainRead modal text d c first sign (source.Chain c units, next)
 chain-done {modal} {text} {sign} {next = next} d c first read units s r f u e =
     let m = r u.tree no_units next (span-more refl f (span-same u.stands (sym (append-nil (unit_tokens u.tree)))))
-    (fits-both modal (is_plain_unit u.tree) true u.fits (any modal))
+    (fits-both modal (is_plain_unit u.tree) true u.fits (or-true modal))
     (more (unit_nestings d u.tree) u.shallow) in
     (units, refl, subst (λ (z : List tree.Source). UnitsRead modal text d c first sign z next) (ap (λ z. read ++ z ∷ []) (sym u.value) ∙ sym e) m)
 

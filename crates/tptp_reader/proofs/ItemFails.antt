@@ -3,8 +3,8 @@ use Rattle.std.proofs.Common.{◌≡◌, ◌==◌, ◌&&◌, ℕ, suc, length, B
 use Rattle.std.specs.Prelude.{reverse}
 use Rattle.std.proofs.lemmas.Bool.{false≢true}
 use Rattle.std.proofs.lemmas.List.{length-reverse}
+use Rattle.plain_laws.proofs.Options.{none_some}
 use Rattle.tptp_lex.specs.Tokens.{is_digits}
-use Rattle.tptp_lex.proofs.Runs.{none-some}
 use Rattle.tptp_reader.specs.declared.item.ItemKind.{ItemKind}
 use Rattle.tptp_reader.specs.declared.item.ItemKind.TheVariants.{Fof, Cnf, Qmf}
 use Rattle.tptp_reader.specs.declared.terminal.Piece.{Piece}
@@ -29,12 +29,12 @@ pub fails-name : {text : List ℕ} {p : Piece} (modal : Bool) (es : List Expecte
 fails-name {p = p} modal es h = fails-single modal name es refl (name-single (the_terminal p.terminal)) h
 
 no-name : (x : Terminal) → name_in x ≡ None → name_move x ≡ None
-no-name (lower w) e = absurd (none-some (sym e))
-no-name (quoted w) e = absurd (none-some (sym e))
+no-name (lower w) e = absurd (none_some (sym e))
+no-name (quoted w) e = absurd (none_some (sym e))
 no-name (number w) e = by (is_digits w) refl e
   where
     by : (b : Bool) → is_digits w ≡ b → (if b then Some w else None) ≡ None → this_move (is_digits w) 0 ≡ None
-    by true h q = absurd (none-some (sym q))
+    by true h q = absurd (none_some (sym q))
     by false h q = ap (λ b. this_move b 0) h
 no-name _ e = refl
 
@@ -42,14 +42,14 @@ pub fails-no_name : {text : List ℕ} {p : Piece} (modal : Bool) (es : List Expe
 fails-no_name {p = p} modal es e = fails-none modal name es refl (no-name (the_terminal p.terminal) e)
 
 no-role : (x : Terminal) → role_in x ≡ None → (form x == 20) ≡ false
-no-role (lower w) e = absurd (none-some (sym e))
+no-role (lower w) e = absurd (none_some (sym e))
 no-role _ e = refl
 
 pub fails-no_role : {text : List ℕ} {p : Piece} (modal : Bool) (es : List Expected) → role_in (the_terminal p.terminal) ≡ None → FailsAt modal text (this a_lower 0 ∷ es) p
 fails-no_role {p = p} modal es e = fails-other modal a_lower 0 es (no-role (the_terminal p.terminal) e)
 
 no-file : (x : Terminal) → file_in x ≡ None → (form x == 22) ≡ false
-no-file (quoted w) e = absurd (none-some (sym e))
+no-file (quoted w) e = absurd (none_some (sym e))
 no-file _ e = refl
 
 pub fails-no_file : {text : List ℕ} {p : Piece} (modal : Bool) (es : List Expected) → file_in (the_terminal p.terminal) ≡ None → FailsAt modal text (this a_quoted 0 ∷ es) p
@@ -174,15 +174,15 @@ no-word : (modal : Bool) (w : List ℕ) → kind_in modal (lower w) ≡ None →
 no-word true w e i = no-choice (is_word w (codes "include")) (is_word w (codes "fof")) (is_word w (codes "cnf")) (is_word w (codes "qmf")) _ _ i (by (is_word w (codes "qmf")) e)
   where
     by : (b : Bool) → (if b then Some Qmf else None) ≡ None → b ≡ false
-    by true q = absurd (none-some (sym q))
+    by true q = absurd (none_some (sym q))
     by false q = refl
 no-word false w e i =
     let q = by (is_word w (codes "fof")) (is_word w (codes "cnf")) e in
     no-other (is_word w (codes "include")) (is_word w (codes "fof")) (is_word w (codes "cnf")) (is_word w (codes "qmf")) _ _ _ i q.0 q.1
   where
     by : (a b : Bool) → (if a then Some Fof else (if b then Some Cnf else None)) ≡ None → (a ≡ false) × (b ≡ false)
-    by true b q = absurd (none-some (sym q))
-    by false true q = absurd (none-some (sym q))
+    by true b q = absurd (none_some (sym q))
+    by false true q = absurd (none_some (sym q))
     by false false q = (refl, refl)
 
 no-item : (modal : Bool) (x : Terminal) → kind_in modal x ≡ None → is_include_word x ≡ false → items_move modal x ≡ None

@@ -3,14 +3,16 @@ use Rattle.std.proofs.Common.{◌≡◌, ◌&&◌, ℕ, suc, Bool, true, false, 
 use Rattle.std.specs.Prelude.{codes}
 use Rattle.std.specs.List.{list_all}
 use Rattle.std.proofs.lemmas.Bool.{and_from}
-use Rattle.tptp_lex.proofs.Runs.{none-some}
+use Rattle.plain_laws.proofs.Lists.{joins}
+use Rattle.plain_laws.proofs.Options.{none_some}
+use Rattle.tptp_reader.proofs.TreesDerive.{all_at-append}
 use Rattle.tptp_lex.specs.Tokens.{is_digits}
 use Rattle.tptp_reader.specs.Terminals.{Terminal, lower, upper, quoted, number, dollar, open_round, close_round, open_square, close_square, comma, dot, tilde, bar}
 use Rattle.tptp_reader.specs.Grammar as g
 use Rattle.tptp_reader.specs.Grammar.{Word, plain, in_quotes, TermTree, TermTrees, AtomTree, UnitTree, FormulaTree, UnitTrees, LiteralTree, ClauseTree, NameTree, ItemTree, term_tokens, terms_tokens, atom_tokens, unit_tokens, formula_tokens, units_tokens, variables_tokens, word_token}
 use Rattle.tptp_reader.specs.Nesting.{all_at, atom_nestings, formula_nestings, literal_nestings, literals_nestings, clause_nestings, end_nestings, text_nestings}
 use Rattle.tptp_reader.specs.Expecting.{Expected, an_opening, a_closing, a_dot, a_quoted, this, atom, formula, literal, unsigned, literals_rest, clause, clause_open, clause_rest, items, name, after_body, first_note, notes, include_rest, names_rest, before, head_of, this_move, atom_move, unsigned_move, literal_move, literals_rest_move, clause_move, clause_open_move, clause_rest_move, is_word, items_move, name_move, after_body_move, notes_move, first_note_move, include_rest_move, names_rest_move}
-use Rattle.tptp_reader.proofs.Forms.{Backs, Completes, Form, Names, joins, known, names_fit, names_tokens, no-more, no_names, only, others_tokens, some_names, split, unsigned_nestings, unsigned_tokens}
+use Rattle.tptp_reader.proofs.Forms.{Backs, Completes, Form, Names, known, names_fit, names_tokens, no-more, no_names, only, others_tokens, some_names, split, unsigned_nestings, unsigned_tokens}
 use Rattle.tptp_reader.proofs.FormulaForms.{atom-back, closing-is, comma-is, dot-is, halves, led, lower-is, opening-is, quoted-is, square-is, token-of, two, word-is}
 
 -- ---- clauses
@@ -28,7 +30,7 @@ unsigned-back modal d (dollar w) r ts ns e c = unsigned-atom modal d (dollar w) 
 unsigned-back modal d (upper w) r ts ns e c = unsigned-atom modal d (upper w) r ts ns e c
 unsigned-back modal d (lower w) r ts ns e c = unsigned-atom modal d (lower w) r ts ns e c
 unsigned-back modal d (quoted w) r ts ns e c = unsigned-atom modal d (quoted w) r ts ns e c
-unsigned-back modal d _ r ts ns e c = absurd (none-some e)
+unsigned-back modal d _ r ts ns e c = absurd (none_some e)
 
 abbrev pub positive_of : Bool → AtomTree → LiteralTree
 positive_of true a = g.positive_bracketed a
@@ -66,12 +68,12 @@ literal-back modal d (dollar w) r ts ns e c = literal-unsigned modal d (dollar w
 literal-back modal d (upper w) r ts ns e c = literal-unsigned modal d (upper w) r ts ns e c
 literal-back modal d (lower w) r ts ns e c = literal-unsigned modal d (lower w) r ts ns e c
 literal-back modal d (quoted w) r ts ns e c = literal-unsigned modal d (quoted w) r ts ns e c
-literal-back modal d _ r ts ns e c = absurd (none-some e)
+literal-back modal d _ r ts ns e c = absurd (none_some e)
 
 pub literals_rest-back : (modal : Bool) (d : ℕ) → Backs modal (literals_rest d) (literals_rest_move d)
 literals_rest-back modal d bar r ts ns e c =
     known modal (literals_rest d) bar ts ns e (λ s. let t = two s in (t.first.0 ∷ t.second.0, ap (λ z. bar ∷ z) (joins t.tokens t.first.1 t.second.1), ap (λ z. d ∷ z) (joins t.nestings t.first.2 t.second.2))) c
-literals_rest-back modal d _ r ts ns e c = absurd (none-some e)
+literals_rest-back modal d _ r ts ns e c = absurd (none_some e)
 
 pub clause-atom : (modal : Bool) (x : Terminal) (r : ℕ × List Expected) (ts : List Terminal) (ns : List ℕ) → before (literals_rest 0 ∷ []) (atom_move 0 x) ≡ Some r → Completes modal r.1 ts ns → Form modal clause (x ∷ ts) (r.0 ∷ ns)
 clause-atom modal x r ts ns e c =
@@ -90,7 +92,7 @@ clause-back modal (dollar w) r ts ns e c = clause-atom modal (dollar w) r ts ns 
 clause-back modal (upper w) r ts ns e c = clause-atom modal (upper w) r ts ns e c
 clause-back modal (lower w) r ts ns e c = clause-atom modal (lower w) r ts ns e c
 clause-back modal (quoted w) r ts ns e c = clause-atom modal (quoted w) r ts ns e c
-clause-back modal _ r ts ns e c = absurd (none-some e)
+clause-back modal _ r ts ns e c = absurd (none_some e)
 
 -- literals and the bracket behind them
 pub literals-close : (modal : Bool) {ts : List Terminal} {ns : List ℕ} → Completes modal (literals_rest 1 ∷ this a_closing 1 ∷ []) ts ns → (ls : List LiteralTree) × (ts ≡ g.literals_tokens ls ++ close_round ∷ []) × (ns ≡ literals_nestings 1 ls ++ 1 ∷ [])
@@ -119,7 +121,7 @@ clause_open-back modal (dollar w) r ts ns e c = clause_open-atom modal (dollar w
 clause_open-back modal (upper w) r ts ns e c = clause_open-atom modal (upper w) r ts ns e c
 clause_open-back modal (lower w) r ts ns e c = clause_open-atom modal (lower w) r ts ns e c
 clause_open-back modal (quoted w) r ts ns e c = clause_open-atom modal (quoted w) r ts ns e c
-clause_open-back modal _ r ts ns e c = absurd (none-some e)
+clause_open-back modal _ r ts ns e c = absurd (none_some e)
 
 pub between : {A : Type 0} (a : List A) (x : A) (b c d : List A) (z : List A) → z ≡ b ++ (c ++ d) → a ++ x ∷ z ≡ (a ++ x ∷ (b ++ c)) ++ d
 between a x b c d z e = ap (λ q. a ++ x ∷ q) (e ∙ sym (append_assoc b c d)) ∙ sym (append_assoc a (x ∷ (b ++ c)) d)
@@ -137,7 +139,7 @@ clause_rest-back modal close_round r ts ns e c =
       ap (λ z. open_round ∷ (atom_tokens a ++ close_round ∷ z)) f.1 ∙ ap (λ z. open_round ∷ z) (sym (append_assoc (atom_tokens a) (close_round ∷ []) (g.literals_tokens f.0))),
       ap (λ z. 0 ∷ (atom_nestings 1 a ++ 1 ∷ z)) f.2 ∙ ap (λ z. 0 ∷ z) (sym (append_assoc (atom_nestings 1 a) (1 ∷ []) (literals_nestings 0 f.0))),
     )) c
-clause_rest-back modal _ r ts ns e c = absurd (none-some e)
+clause_rest-back modal _ r ts ns e c = absurd (none_some e)
 
 -- ---- items
 
@@ -147,14 +149,14 @@ name-back modal (quoted w) r ts ns e c = known modal name (quoted w) ts ns e (λ
 name-back modal (number w) r ts ns e c = by (is_digits w) refl e
   where
     by : (b : Bool) → is_digits w ≡ b → this_move b 0 ≡ Some r → Form modal name (number w ∷ ts) (r.0 ∷ ns)
-    by false h q = absurd (none-some q)
+    by false h q = absurd (none_some q)
     by true h q = known modal name (number w) ts ns q (λ s. let n = no-more s in (g.number_name w, h, ap (λ z. number w ∷ z) n.0, ap (λ z. 0 ∷ z) n.1)) c
-name-back modal _ r ts ns e c = absurd (none-some e)
+name-back modal _ r ts ns e c = absurd (none_some e)
 
 pub after_body-back : (modal : Bool) → Backs modal after_body after_body_move
 after_body-back modal comma r ts ns e c = known modal after_body comma ts ns e (λ s. let f = only s in (Some f.0, f.1, ap (λ z. comma ∷ z) f.2, ap (λ z. 0 ∷ z) f.3)) c
 after_body-back modal close_round r ts ns e c = known modal after_body close_round ts ns e (λ s. let n = no-more s in (None, refl, ap (λ z. close_round ∷ z) n.0, ap (λ z. 0 ∷ z) n.1)) c
-after_body-back modal _ r ts ns e c = absurd (none-some e)
+after_body-back modal _ r ts ns e c = absurd (none_some e)
 
 -- a token before notes
 pub noted : (modal : Bool) (waiting next : List Bool) (x : Terminal) (ts : List Terminal) (ns : List ℕ) → ((xs : List Terminal) → g.closes waiting (x ∷ xs) ≡ g.closes next xs) → Completes modal (notes next ∷ []) ts ns → Form modal (notes waiting) (x ∷ ts) (0 ∷ ns)
@@ -164,12 +166,12 @@ pub notes-back : (modal : Bool) (waiting : List Bool) → Backs modal (notes wai
 notes-back modal [] open_round r ts ns e c = known modal (notes []) open_round ts ns e (noted modal [] (true ∷ []) open_round ts ns (λ xs. refl)) c
 notes-back modal [] open_square r ts ns e c = known modal (notes []) open_square ts ns e (noted modal [] (false ∷ []) open_square ts ns (λ xs. refl)) c
 notes-back modal [] close_round r ts ns e c = known modal (notes []) close_round ts ns e (λ s. let n = no-more s in ([], refl, ap (λ z. close_round ∷ z) n.0, ap (λ z. 0 ∷ z) n.1)) c
-notes-back modal [] close_square r ts ns e c = absurd (none-some e)
+notes-back modal [] close_square r ts ns e c = absurd (none_some e)
 notes-back modal (b ∷ w) open_round r ts ns e c = known modal (notes (b ∷ w)) open_round ts ns e (noted modal (b ∷ w) (true ∷ b ∷ w) open_round ts ns (λ xs. refl)) c
 notes-back modal (b ∷ w) open_square r ts ns e c = known modal (notes (b ∷ w)) open_square ts ns e (noted modal (b ∷ w) (false ∷ b ∷ w) open_square ts ns (λ xs. refl)) c
 notes-back modal (true ∷ w) close_round r ts ns e c = known modal (notes (true ∷ w)) close_round ts ns e (noted modal (true ∷ w) w close_round ts ns (λ xs. refl)) c
-notes-back modal (false ∷ w) close_round r ts ns e c = absurd (none-some e)
-notes-back modal (true ∷ w) close_square r ts ns e c = absurd (none-some e)
+notes-back modal (false ∷ w) close_round r ts ns e c = absurd (none_some e)
+notes-back modal (true ∷ w) close_square r ts ns e c = absurd (none_some e)
 notes-back modal (false ∷ w) close_square r ts ns e c = known modal (notes (false ∷ w)) close_square ts ns e (noted modal (false ∷ w) w close_square ts ns (λ xs. refl)) c
 notes-back modal [] x r ts ns e c = known modal (notes []) x ts ns e (noted modal [] [] x ts ns (λ xs. refl)) c
 notes-back modal (b ∷ w) x r ts ns e c = known modal (notes (b ∷ w)) x ts ns e (noted modal (b ∷ w) (b ∷ w) x ts ns (λ xs. refl)) c
@@ -186,7 +188,7 @@ first-noted modal x ts ns n h f = by f.0 f.1 f.2 f.3
     by (y ∷ ys) p e k = (y ∷ ys, p, e, k)
 
 pub first_note-back : (modal : Bool) → Backs modal first_note first_note_move
-first_note-back modal close_round r ts ns e c = absurd (none-some e)
+first_note-back modal close_round r ts ns e c = absurd (none_some e)
 first_note-back modal x r ts ns e c = first-noted modal x ts ns r.0 (λ h. cc) (notes-back modal [] x r ts ns e c)
 
 pub include_rest-back : (modal : Bool) → Backs modal include_rest include_rest_move
@@ -198,18 +200,14 @@ include_rest-back modal comma r ts ns e c =
       ap (λ z. 0 ∷ z) (joins t.nestings t.first.3 (joins u.nestings u.first.3 u.second.3)),
     )) c
 include_rest-back modal close_round r ts ns e c = known modal include_rest close_round ts ns e (λ s. let n = no-more s in (no_names, refl, ap (λ z. close_round ∷ z) n.0, ap (λ z. 0 ∷ z) n.1)) c
-include_rest-back modal _ r ts ns e c = absurd (none-some e)
+include_rest-back modal _ r ts ns e c = absurd (none_some e)
 
 pub names_rest-back : (modal : Bool) → Backs modal names_rest names_rest_move
 names_rest-back modal comma r ts ns e c =
     known modal names_rest comma ts ns e (λ s. let u = two s in
     (u.first.0 ∷ u.second.0, and_from (g.name_fits u.first.0) (list_all g.name_fits u.second.0) u.first.1 u.second.1, ap (λ z. comma ∷ z) (joins u.tokens u.first.2 u.second.2), ap (λ z. 0 ∷ z) (joins u.nestings u.first.3 u.second.3))) c
 names_rest-back modal close_square r ts ns e c = known modal names_rest close_square ts ns e (λ s. let f = only s in ([], refl, ap (λ z. close_square ∷ z) (token-of f.2 (closing-is f.0 f.1)), ap (λ z. 0 ∷ z) f.3)) c
-names_rest-back modal _ r ts ns e c = absurd (none-some e)
-
-pub all_at-append : {A : Type 0} (d : ℕ) (xs ys : List A) → all_at d (xs ++ ys) ≡ all_at d xs ++ all_at d ys
-all_at-append d [] ys = refl
-all_at-append d (x ∷ xs) ys = ap (λ t. d ∷ t) (all_at-append d xs ys)
+names_rest-back modal _ r ts ns e c = absurd (none_some e)
 
 -- a formula, notes, and the end of an item before other items
 pub ending : (f n t : List Terminal) → f ++ ((n ++ close_round ∷ []) ++ dot ∷ t) ≡ ((f ++ n) ++ close_round ∷ dot ∷ []) ++ t
@@ -329,15 +327,15 @@ cnf-back w e ts ns c =
     )
 
 pub fof-known : (modal : Bool) (w : List ℕ) → is_word w (codes "fof") ≡ true → (r : ℕ × List Expected) (ts : List Terminal) (ns : List ℕ) → (if modal then None else Some (0, head_of (formula 0))) ≡ Some r → Completes modal r.1 ts ns → Form modal items (lower w ∷ ts) (r.0 ∷ ns)
-fof-known true w h r ts ns e c = absurd (none-some e)
+fof-known true w h r ts ns e c = absurd (none_some e)
 fof-known false w h r ts ns e c = known false items (lower w) ts ns e (fof-back w h ts ns) c
 
 pub cnf-known : (modal : Bool) (w : List ℕ) → is_word w (codes "cnf") ≡ true → (r : ℕ × List Expected) (ts : List Terminal) (ns : List ℕ) → (if modal then None else Some (0, head_of clause)) ≡ Some r → Completes modal r.1 ts ns → Form modal items (lower w ∷ ts) (r.0 ∷ ns)
-cnf-known true w h r ts ns e c = absurd (none-some e)
+cnf-known true w h r ts ns e c = absurd (none_some e)
 cnf-known false w h r ts ns e c = known false items (lower w) ts ns e (cnf-back w h ts ns) c
 
 pub qmf-known : (modal : Bool) (w : List ℕ) → is_word w (codes "qmf") ≡ true → (r : ℕ × List Expected) (ts : List Terminal) (ns : List ℕ) → (if modal then Some (0, head_of (formula 0)) else None) ≡ Some r → Completes modal r.1 ts ns → Form modal items (lower w ∷ ts) (r.0 ∷ ns)
-qmf-known false w h r ts ns e c = absurd (none-some e)
+qmf-known false w h r ts ns e c = absurd (none_some e)
 qmf-known true w h r ts ns e c = known true items (lower w) ts ns e (qmf-back w h ts ns) c
 
 pub items-back : (modal : Bool) → Backs modal items (items_move modal)
@@ -353,5 +351,5 @@ items-back modal (lower w) r ts ns e c = by (is_word w (codes "include")) (is_wo
     by false true n m h1 h2 h3 h4 q = fof-known modal w h2 r ts ns q c
     by false false true m h1 h2 h3 h4 q = cnf-known modal w h3 r ts ns q c
     by false false false true h1 h2 h3 h4 q = qmf-known modal w h4 r ts ns q c
-    by false false false false h1 h2 h3 h4 q = absurd (none-some q)
-items-back modal _ r ts ns e c = absurd (none-some e)
+    by false false false false h1 h2 h3 h4 q = absurd (none_some q)
+items-back modal _ r ts ns e c = absurd (none_some e)

@@ -2,9 +2,10 @@
 use Rattle.std.proofs.Common.{◌≡◌, ◌==◌, ◌&&◌, ℕ, zero, suc, Bool, true, false, not, List, [], ◌∷◌, ◌++◌, Option, None, Some, refl, sym, ◌∙◌, ap, append_assoc, append-nil, subst, drop, flat_map}
 use Rattle.std.specs.Prelude.{codes, slice_index_or, if◌then◌else◌}
 use Rattle.std.specs.List.{list_all}
-use Rattle.std.proofs.lemmas.Bool.{false≢true, and_parts}
+use Rattle.std.proofs.lemmas.Bool.{false≢true, and_parts, and_from}
+use Rattle.plain_laws.proofs.Options.{none_some}
 use Rattle.tptp_lex.specs.Tokens.{is_digits}
-use Rattle.tptp_lex.proofs.Runs.{none-some, some-is}
+use Rattle.tptp_lex.proofs.Runs.{some-is}
 use Rattle.tptp_reader.specs.declared.item.Item.{Item}
 use Rattle.tptp_reader.specs.declared.item.ItemKind.{ItemKind}
 use Rattle.tptp_reader.specs.declared.item.ItemKind.TheVariants.{Fof, Cnf, Qmf}
@@ -42,12 +43,9 @@ pub flat-snoc : {A B : Type 0} (f : A → List B) (xs : List A) (x : A) → flat
 flat-snoc f [] x = sym (append-nil (f x))
 flat-snoc f (y ∷ xs) x = append_assoc (f y) (flat_map f xs) (f x) ∙ ap (λ z. f y ++ z) (flat-snoc f xs x)
 
-pub both-true : (a b : Bool) → a ≡ true → b ≡ true → (a && b) ≡ true
-both-true a b e f = ap (λ z. z && b) e ∙ f
-
 pub all-snoc : {A : Type 0} (f : A → Bool) (xs : List A) (x : A) → list_all f xs ≡ true → f x ≡ true → list_all f (xs ++ x ∷ []) ≡ true
-all-snoc f [] x h k = both-true (f x) true k refl
-all-snoc f (y ∷ xs) x h k = let q = and_parts (f y) (list_all f xs) h in both-true (f y) (list_all f (xs ++ x ∷ [])) q.0 (all-snoc f xs x q.1 k)
+all-snoc f [] x h k = and_from (f x) true k refl
+all-snoc f (y ∷ xs) x h k = let q = and_parts (f y) (list_all f xs) h in and_from (f y) (list_all f (xs ++ x ∷ [])) q.0 (all-snoc f xs x q.1 k)
 
 -- ---- single tokens
 
@@ -65,16 +63,16 @@ named (number ds) w e = by (is_digits ds) refl
   where
     by : (b : Bool) → is_digits ds ≡ b → Named (number ds) w
     by true h = record { name = number_name ds; token = refl; fits = h; value = some-is (sym e ∙ ap (λ b. if b then Some ds else None) h) }
-    by false h = absurd (none-some (sym (ap (λ b. if b then Some ds else None) h) ∙ e))
-named _ w e = absurd (none-some e)
+    by false h = absurd (none_some (sym (ap (λ b. if b then Some ds else None) h) ∙ e))
+named _ w e = absurd (none_some e)
 
 role-is : (x : Terminal) (w : List ℕ) → role_in x ≡ Some w → x ≡ lower w
 role-is (lower v) w e = ap lower (some-is e)
-role-is _ w e = absurd (none-some e)
+role-is _ w e = absurd (none_some e)
 
 file-is : (x : Terminal) (w : List ℕ) → file_in x ≡ Some w → x ≡ quoted w
 file-is (quoted v) w e = ap quoted (some-is e)
-file-is _ w e = absurd (none-some e)
+file-is _ w e = absurd (none_some e)
 
 pub include-is : (x : Terminal) → is_include_word x ≡ true → x ≡ lower (codes "include")
 include-is (lower v) e = ap lower (word-is v (codes "include") e)
@@ -108,15 +106,15 @@ kind-found true (lower w) k e = by (is_word w (codes "qmf")) refl e
   where
     by : (b : Bool) → is_word w (codes "qmf") ≡ b → (if b then Some Qmf else None) ≡ Some k → Kind true (lower w) k
     by true h q = kind-is true w Qmf k h refl q
-    by false h q = absurd (none-some q)
+    by false h q = absurd (none_some q)
 kind-found false (lower w) k e = by (is_word w (codes "fof")) (is_word w (codes "cnf")) refl refl e
   where
     by : (a b : Bool) → is_word w (codes "fof") ≡ a → is_word w (codes "cnf") ≡ b → (if a then Some Fof else (if b then Some Cnf else None)) ≡ Some k → Kind false (lower w) k
     by true b h i q = kind-is false w Fof k h refl q
     by false true h i q = kind-is false w Cnf k i refl q
-    by false false h i q = absurd (none-some q)
-kind-found true _ k e = absurd (none-some e)
-kind-found false _ k e = absurd (none-some e)
+    by false false h i q = absurd (none_some q)
+kind-found true _ k e = absurd (none_some e)
+kind-found false _ k e = absurd (none_some e)
 
 -- ---- bodies
 
@@ -145,10 +143,10 @@ with-tokens Qmf n role f notes = ap (λ z. lower (codes "qmf") ∷ open_round �
 
 with-fits : (modal : Bool) (k : ItemKind) (n : NameTree) (role : List ℕ) (b : BodyTree k) (notes : Option (List Terminal)) → kind_fits modal k ≡ true → name_fits n ≡ true → body_fits modal k b ≡ true → notes_fit notes ≡ true → item_fits modal (item_with k n role b notes) ≡ true
 with-fits true Fof n role f notes e m h l = absurd (false≢true e)
-with-fits false Fof n role f notes e m h l = both-true (name_fits n && g.is_plain f) (notes_fit notes) (both-true (name_fits n) (g.is_plain f) m h) l
+with-fits false Fof n role f notes e m h l = and_from (name_fits n && g.is_plain f) (notes_fit notes) (and_from (name_fits n) (g.is_plain f) m h) l
 with-fits true Cnf n role c notes e m h l = absurd (false≢true e)
-with-fits false Cnf n role c notes e m h l = both-true (name_fits n) (notes_fit notes) m l
-with-fits true Qmf n role f notes e m h l = both-true (name_fits n) (notes_fit notes) m l
+with-fits false Cnf n role c notes e m h l = and_from (name_fits n) (notes_fit notes) m l
+with-fits true Qmf n role f notes e m h l = and_from (name_fits n) (notes_fit notes) m l
 with-fits false Qmf n role f notes e m h l = absurd (false≢true e)
 
 with-shallow : (k : ItemKind) (n : NameTree) (role : List ℕ) (b : BodyTree k) (notes : Option (List Terminal)) → AreRead (body_nestings k b) → AreRead (item_nestings (item_with k n role b notes))
@@ -231,7 +229,7 @@ names-begun {p = p} now t e f b n =
       front = placed p ∷ [];
       stands = placing-one f;
       written = ap (λ z. z ∷ []) m.token;
-      fits = both-true (name_fits m.name) true m.fits refl;
+      fits = and_from (name_fits m.name) true m.fits refl;
       value = λ ms more. ap (λ z. (z, p.start) ∷ chosen (drop 1 more) ms) (sym m.value) ∙ ap (λ z. z ++ chosen (drop 1 more) ms) (sym (n ∙ ap (λ z. z ++ (t, p.start) ∷ []) b));
     }
 

@@ -1,6 +1,5 @@
 -- Each text is a list of tokens up to its end or a lexical fault.
 use Rattle.std.proofs.Common.{◌≡◌, ◌==◌, ◌||◌, ◌<◌, ◌≤◌, ◌-◌, ℕ, zero, suc, Bool, true, false, List, [], ◌∷◌, ◌++◌, Option, None, Some, Result, Ok, Err, refl, sym, ◌∙◌, ap, arith, length, drop, slice_range, flat_map, if◌then◌else◌}
-use Rattle.std.proofs.lemmas.List.{length-append}
 use Rattle.std.proofs.lemmas.Bool.{ne_eqb}
 use Rattle.calculus.specs.Text.{escaped}
 use Rattle.tptp_lex.specs.declared.tokens.LexFault.{LexFault}
@@ -9,20 +8,15 @@ use Rattle.tptp_lex.specs.declared.tokens.TokenKind.{TokenKind}
 use Rattle.tptp_lex.specs.declared.tokens.TokenKind.TheVariants as kind
 use Rattle.tptp_lex.specs.Answers.{IsNext, IsAnswer}
 use Rattle.tptp_lex.specs.Scanning.{after_space, after_token}
-use Rattle.tptp_lex.specs.Spacing.{SkipsOne, a_space, a_line, a_block, Skips, done, more}
+use Rattle.tptp_lex.specs.Spacing.{Skips, done, more}
 use Rattle.tptp_lex.specs.Tokens.{IsQuotable, nothing, a_byte, a_quote, a_backslash, IsSign, IsToken}
 use Rattle.tptp_lex.specs.Tokens as token
 use Rattle.tptp_lex.proofs.AnswerLaws.{next-is, fault-is, only-space, some-left}
-use Rattle.tptp_lex.proofs.SpacingLaws.{space-split}
+use Rattle.tptp_lex.proofs.SpacingLaws.{space-split, one-shorter}
 use Rattle.tptp_reader.specs.Terminals.{Terminal, lower, upper, quoted, number, distinct, dollar, hash, open_round, close_round, open_square, close_square, comma, dot, colon, tilde, exclamation, question, ampersand, bar, implies, implied, equivalent, inequivalent, nor, nand, equal, unequal, kind_of_terminal, spelling, Placed, Follow, no_token, a_token}
 use Rattle.tptp_reader.specs.Expecting.{name_in}
 
 -- ---- the next token of a place
-
-skips-shorter : {a b : List ℕ} → SkipsOne a b → length b < length a
-skips-shorter (a_space c rest h) = omega arith
-skips-shorter (a_line bs rest h k) = omega (arith, length-append bs rest)
-skips-shorter (a_block bs rest h) = omega (arith, length-append bs (42 ∷ 47 ∷ rest))
 
 record Skipped (bytes : List ℕ) : Type 0 where
   pub rest : List ℕ
@@ -34,14 +28,14 @@ skipped zero bytes h = by (after_space bytes) refl
   where
     by : (o : Option (List ℕ)) → after_space bytes ≡ o → Skipped bytes
     by None e = record { rest = bytes; skips = done bytes; stuck = e }
-    by (Some r) e = let l = skips-shorter (space-split bytes r e) in absurd (omega (arith, l, h))
+    by (Some r) e = let l = one-shorter (space-split bytes r e) in absurd (omega (arith, l, h))
 skipped (suc n) bytes h = by (after_space bytes) refl (λ r l. skipped n r l)
   where
     by : (o : Option (List ℕ)) → after_space bytes ≡ o → ((r : List ℕ) → length r ≤ n → Skipped r) → Skipped bytes
     by None e next = record { rest = bytes; skips = done bytes; stuck = e }
     by (Some r) e next =
         let one = space-split bytes r e in
-        let l : length r < length bytes = skips-shorter one in
+        let l : length r < length bytes = one-shorter one in
         let s = next r (omega (arith, l, h)) in
         record { rest = s.rest; skips = more bytes r s.rest one s.skips; stuck = s.stuck }
 

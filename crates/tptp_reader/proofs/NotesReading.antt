@@ -2,7 +2,8 @@
 use Rattle.std.proofs.Common.{◌≡◌, ◌==◌, Bool, true, false, ℕ, List, [], ◌∷◌, ◌++◌, None, Some, refl, sym, ◌∙◌, ap, append_assoc, append-nil, subst, length, arith}
 use Rattle.std.specs.Prelude.{reverse}
 use Rattle.std.proofs.lemmas.Bool.{eqb-true, false≢true}
-use Rattle.tptp_lex.proofs.Runs.{none-some, some-is}
+use Rattle.plain_laws.proofs.Options.{none_some}
+use Rattle.tptp_lex.proofs.Runs.{some-is}
 use Rattle.tptp_reader.specs.declared.terminal.Piece.{Piece}
 use Rattle.tptp_reader.specs.Terminals.{Terminal, open_round, close_round, open_square, close_square, dot, Follow}
 use Rattle.tptp_reader.specs.TerminalView.{the_terminal}
@@ -17,17 +18,17 @@ use Rattle.tptp_reader.proofs.SpanLaws.{span-one, span-more, span-join, comma-is
 note-passed : (w : List Bool) (x : Terminal) (v : List Bool) (back : List Terminal) → note_after w x ≡ Some v → closes v back ≡ true → closes w (x ∷ back) ≡ true
 note-passed [] open_round v back h k = subst (λ z. closes z back ≡ true) (sym (some-is h)) k
 note-passed [] open_square v back h k = subst (λ z. closes z back ≡ true) (sym (some-is h)) k
-note-passed [] close_round v back h k = absurd (none-some h)
-note-passed [] close_square v back h k = absurd (none-some h)
+note-passed [] close_round v back h k = absurd (none_some h)
+note-passed [] close_square v back h k = absurd (none_some h)
 note-passed [] _ v back h k = subst (λ z. closes z back ≡ true) (sym (some-is h)) k
 note-passed (true ∷ w) open_round v back h k = subst (λ z. closes z back ≡ true) (sym (some-is h)) k
 note-passed (true ∷ w) open_square v back h k = subst (λ z. closes z back ≡ true) (sym (some-is h)) k
 note-passed (true ∷ w) close_round v back h k = subst (λ z. closes z back ≡ true) (sym (some-is h)) k
-note-passed (true ∷ w) close_square v back h k = absurd (none-some h)
+note-passed (true ∷ w) close_square v back h k = absurd (none_some h)
 note-passed (true ∷ w) _ v back h k = subst (λ z. closes z back ≡ true) (sym (some-is h)) k
 note-passed (false ∷ w) open_round v back h k = subst (λ z. closes z back ≡ true) (sym (some-is h)) k
 note-passed (false ∷ w) open_square v back h k = subst (λ z. closes z back ≡ true) (sym (some-is h)) k
-note-passed (false ∷ w) close_round v back h k = absurd (none-some h)
+note-passed (false ∷ w) close_round v back h k = absurd (none_some h)
 note-passed (false ∷ w) close_square v back h k = subst (λ z. closes z back ≡ true) (sym (some-is h)) k
 note-passed (false ∷ w) _ v back h k = subst (λ z. closes z back ≡ true) (sym (some-is h)) k
 

@@ -2,7 +2,10 @@
 use Rattle.std.proofs.Common.{◌≡◌, ◌<◌, ◌⊎◌, ℕ, Bool, true, false, List, [], ◌∷◌, ◌++◌, Option, None, Some, inl, inr, refl, sym, ◌∙◌, ap, append_assoc, append-nil, subst, arith, length, slice_get, suc}
 use Rattle.std.proofs.lemmas.Bool.{false≢true}
 use Rattle.std.proofs.lemmas.List.{length-append}
-use Rattle.tptp_lex.proofs.Runs.{none-some, some-is}
+use Rattle.plain_laws.proofs.Options.{none_some}
+use Rattle.plain_laws.proofs.Lists.{same-last}
+use Rattle.tptp_lex.proofs.AnswerLaws.{none-or-fault, next-or-none}
+use Rattle.tptp_lex.proofs.Runs.{some-is}
 use Rattle.tptp_lex.specs.Answers.{OnlySpace}
 use Rattle.tptp_reader.specs.declared.fault.ReadCause.{ReadCause}
 use Rattle.tptp_reader.specs.Sources.{Source, Item}
@@ -13,9 +16,9 @@ use Rattle.tptp_reader.specs.Faults.{TextLanguage, FormulaLanguage, FollowsAt, C
 use Rattle.tptp_reader.specs.Reading.{Outcome, reads, fails, HoldsItems, IsReading, HoldsFormula, IsFormulaReading}
 use Rattle.tptp_reader.specs.Expecting.{Expected, formula, stop, items, move, moved, is_optional, step, stop_move, run, run_on, run_after}
 use Rattle.tptp_reader.proofs.Deriving.{Derives, ends, takes, skips, derives-step}
-use Rattle.tptp_reader.proofs.PlaceLaws.{next-in, next-or-end, end-or-fault}
+use Rattle.tptp_reader.proofs.PlaceLaws.{next-in}
 use Rattle.tptp_reader.proofs.FollowLaws.{text-read, formula-read, derives-run, get-behind, nesting-alone}
-use Rattle.tptp_reader.proofs.FaultLaws.{whole-begins, Halts, halts-alone, deep-or-halts, Stuck, a_wrong_token, no_token_there, not_whole, Fate, stops, sinks, fate, one-fault, terminals-append, snoc-alike}
+use Rattle.tptp_reader.proofs.FaultLaws.{whole-begins, Halts, halts-alone, deep-or-halts, Stuck, a_wrong_token, no_token_there, not_whole, Fate, stops, sinks, fate, one-fault, terminals-append}
 use Rattle.tptp_reader.proofs.TreeLaws.{head_or, tail_of, one-tree}
 use Rattle.tptp_reader.proofs.ItemLaws.{text-alike}
 
@@ -48,7 +51,7 @@ items-halt modal text r h = record {
   there = h.there;
   begins = whole-begins (TextLanguage modal) (terminals h.tokens) (text_nestings h.trees) (text-whole modal text r h);
   shallow = h.shallow;
-  blocked = λ p back end f k. let t = next-in f in next-or-end text h.to t.0 t.1 h.all;
+  blocked = λ p back end f k. let t = next-in f in next-or-none text h.to t.0 t.1 h.all;
 }
 
 -- where the items are read nothing is wrong
@@ -56,8 +59,8 @@ items-or-fault : (modal : Bool) (text : List ℕ) (r : List Item) (f : Fault) �
 items-or-fault modal text r f h k = by (fate text 0 (TextLanguage modal) (TextCauses modal) f k)
   where
     stuck : (front : List Placed) (to : ℕ) (z : Fault) → h.tokens ≡ front → h.to ≡ to → Stuck text (TextLanguage modal) (TextCauses modal) (terminals front) to z → ⊥
-    stuck front to z e d (a_wrong_token p end c g s) = let t = next-in g in next-or-end text to t.0 t.1 (subst (OnlySpace text) d h.all)
-    stuck front to z e d (no_token_there offset n) = end-or-fault text to offset (subst (OnlySpace text) d h.all) n
+    stuck front to z e d (a_wrong_token p end c g s) = let t = next-in g in next-or-none text to t.0 t.1 (subst (OnlySpace text) d h.all)
+    stuck front to z e d (no_token_there offset n) = none-or-fault text to offset (subst (OnlySpace text) d h.all) n
     stuck front to z e d (not_whole w o) = w (text_nestings h.trees, subst (λ (ps : List Placed). TextLanguage modal (terminals ps) (text_nestings h.trees)) e (text-whole modal text r h))
 
     by : Fate text 0 (TextLanguage modal) (TextCauses modal) f → ⊥
@@ -81,10 +84,10 @@ one-reading modal text (fails f) (fails g) h k = ap fails (one-fault modal (Text
 
 -- ---- formulas: nothing can follow the token behind one
 
-stop-leads : (x : Terminal) (r : ℕ × List Expected) → stop_move x ≡ Some r → r.1 ≡ []
+pub stop-leads : (x : Terminal) (r : ℕ × List Expected) → stop_move x ≡ Some r → r.1 ≡ []
 stop-leads comma r e = ap (λ p. p.1) (sym (some-is e))
 stop-leads close_round r e = ap (λ p. p.1) (sym (some-is e))
-stop-leads _ r e = absurd (none-some e)
+stop-leads _ r e = absurd (none_some e)
 
 -- the last part stays until it takes its token
 abbrev pub Bottom : List Expected → Type 0
@@ -94,14 +97,14 @@ bottom-step : (modal : Bool) (above : List Expected) (x : Terminal) (r : ℕ × 
 bottom-step modal [] x r e = by (stop_move x) refl e
   where
     by : (m : Option (ℕ × List Expected)) → stop_move x ≡ m → moved m false [] None ≡ Some r → Bottom r.1
-    by None d k = absurd (none-some k)
+    by None d k = absurd (none_some k)
     by (Some q) d k = inl (ap (λ p. p.1) (sym (some-is k)) ∙ append-nil q.1 ∙ stop-leads x q d)
 bottom-step modal (e ∷ above) x r h = by (move modal e x) (is_optional e) (λ k. bottom-step modal above x r k) h
   where
     by : (m : Option (ℕ × List Expected)) (o : Bool) → (step modal (above ++ stop ∷ []) x ≡ Some r → Bottom r.1) → moved m o (above ++ stop ∷ []) (step modal (above ++ stop ∷ []) x) ≡ Some r → Bottom r.1
     by (Some q) o next k = inr (q.1 ++ above, ap (λ p. p.1) (sym (some-is k)) ∙ sym (append_assoc q.1 above (stop ∷ [])))
     by None true next k = next k
-    by None false next k = absurd (none-some k)
+    by None false next k = absurd (none_some k)
 
 -- nothing is derived from a stack with the last part at its end but with a token
 no-end : (modal : Bool) (above : List Expected) (ns : List ℕ) → Derives modal (above ++ stop ∷ []) [] ns → ⊥
@@ -114,7 +117,7 @@ ended modal es ns (inl e) h = e
 ended modal es ns (inr a) h = absurd (no-end modal a.0 ns (subst (λ s. Derives modal s [] ns) a.1 h))
 
 bottom-after : (modal : Bool) (es : List Expected) (x : Terminal) (r : ℕ × List Expected) → Bottom es → step modal es x ≡ Some r → Bottom r.1
-bottom-after modal es x r (inl e) h = absurd (none-some (sym (ap (λ s. step modal s x) e) ∙ h))
+bottom-after modal es x r (inl e) h = absurd (none_some (sym (ap (λ s. step modal s x) e) ∙ h))
 bottom-after modal es x r (inr a) h = bottom-step modal a.0 x r (sym (ap (λ s. step modal s x) a.1) ∙ h)
 
 pub run-bottom : (modal : Bool) (front : List Terminal) (es now : List Expected) (before : List ℕ) → Bottom es → run modal es front ≡ Some (before, now) → Bottom now
@@ -122,11 +125,11 @@ run-bottom modal [] es now before b e = subst Bottom (ap (λ p. p.1) (some-is e)
 run-bottom modal (x ∷ front) es now before b e = by (step modal es x) refl (λ fs c k h. run-bottom modal front fs now k c h) e
   where
     behind : (n : ℕ) (r : Option (List ℕ × List Expected)) → run_on n r ≡ Some (before, now) → (k : List ℕ) × (r ≡ Some (k, now))
-    behind n None h = absurd (none-some h)
+    behind n None h = absurd (none_some h)
     behind n (Some q) h = (q.0, ap (λ z. Some (q.0, z)) (ap (λ p. p.1) (some-is h)))
 
     by : (m : Option (ℕ × List Expected)) → step modal es x ≡ m → ((fs : List Expected) → Bottom fs → (k : List ℕ) → run modal fs front ≡ Some (k, now) → Bottom now) → run_after m (λ fs. run modal fs front) ≡ Some (before, now) → Bottom now
-    by None d next h = absurd (none-some h)
+    by None d next h = absurd (none_some h)
     by (Some q) d next h = let k = behind q.0 (run modal q.1 front) h in next q.1 (bottom-after modal es x q b d) k.0 k.1
 
 -- nothing follows a whole text of formulas
@@ -139,7 +142,7 @@ formula-over modal ts ns x h k =
     let e : a.now ≡ b.now = ap (λ p. p.1) (some-is (sym a.is_run ∙ b.is_run)) in
     let n : b.now ≡ [] = ended modal b.now b.others (run-bottom modal ts (formula 0 ∷ stop ∷ []) b.now b.before (inr (formula 0 ∷ [], refl)) b.is_run) b.derived in
     let s = derives-step modal a.now x f.0 a.others a.good a.derived in
-    none-some (sym (ap (λ z. step modal z x) (e ∙ n)) ∙ s.is_step)
+    none_some (sym (ap (λ z. step modal z x) (e ∙ n)) ∙ s.is_step)
 
 derives-length : {modal : Bool} {es : List Expected} {ts : List Terminal} {ns : List ℕ} → Derives modal es ts ns → length ns ≡ length ts
 derives-length ends = refl
@@ -200,7 +203,7 @@ formula-or-fault modal text from r end f h k = by (fate text from (FormulaLangua
 formula-alone : (modal : Bool) (text : List ℕ) (from : ℕ) (a b : Source × ℕ) → HoldsFormula modal text from a.0 a.1 → HoldsFormula modal text from b.0 b.1 → a ≡ b
 formula-alone modal text from a b h k =
     let e = halts-alone modal (FormulaLanguage modal) (formula 0 ∷ stop ∷ []) (formula-read modal) text from (h.tokens ++ h.stop ∷ []) (k.tokens ++ k.stop ∷ []) h.to k.to (formula-halt modal text from a.0 a.1 h) (formula-halt modal text from b.0 b.1 k) in
-    let s = snoc-alike h.tokens k.tokens h.stop k.stop e.fronts in
+    let s = same-last h.tokens k.tokens h.stop k.stop e.fronts in
     let t : h.tree ≡ k.tree = one-tree h.tree k.tree (sym h.written ∙ ap terminals s.0 ∙ k.written) in
     let c : a.0 ≡ b.0 = h.meant ∙ ap source_of t ∙ sym k.meant in
     let d : a.1 ≡ b.1 = h.place ∙ ap (λ (p : Placed). p.at) s.1 ∙ sym k.place in

@@ -1,10 +1,10 @@
 -- From a place of a text the tokens follow one another in one way.
-use Rattle.std.proofs.Common.{◌≡◌, ◌==◌, ◌||◌, ℕ, Bool, true, false, List, [], ◌∷◌, ◌++◌, Option, None, Some, Result, Ok, Err, refl, sym, ◌∙◌, ap, append_assoc, subst, slice_range, flat_map, if◌then◌else◌}
+use Rattle.std.proofs.Common.{◌≡◌, ◌==◌, ◌||◌, ℕ, Bool, true, false, List, [], ◌∷◌, ◌++◌, Option, Some, Result, Ok, Err, refl, sym, ◌∙◌, ap, append_assoc, subst, slice_range, flat_map, if◌then◌else◌}
 use Rattle.calculus.specs.Text.{escaped}
 use Rattle.tptp_lex.specs.declared.tokens.LexFault.{LexFault}
 use Rattle.tptp_lex.specs.declared.tokens.Token.{Token}
-use Rattle.tptp_lex.specs.Answers.{IsNext, IsFault, OnlySpace}
-use Rattle.tptp_lex.proofs.AnswerLaws.{answers-alone}
+use Rattle.tptp_lex.specs.Answers.{IsNext, IsFault}
+use Rattle.tptp_lex.proofs.AnswerLaws.{answers-alone, same-token}
 use Rattle.tptp_reader.specs.Terminals.{Terminal, lower, upper, quoted, number, distinct, dollar, hash, kind_of_terminal, spelling, Placed, Follow, no_token, a_token}
 use Rattle.tptp_reader.specs.Expecting.{name_in, terminal_of}
 
@@ -32,26 +32,9 @@ terminal_of-spelling _ = refl
 
 -- ---- the answers of the lexer exclude one another
 
-token_in : Token → Result (Option Token) LexFault → Token
-token_in t (Ok (Some u)) = u
-token_in t _ = t
-
 offset_in : Result (Option Token) LexFault → ℕ
 offset_in (Err f) = f.offset
 offset_in (Ok o) = 0
-
-pub next-alone : (text : List ℕ) (from : ℕ) (t u : Token) → IsNext text from t → IsNext text from u → t ≡ u
-unfolding token_in
-next-alone text from t u h k = ap (token_in t) (answers-alone text from (Ok (Some t)) (Ok (Some u)) h k)
-
-pub next-or-end : (text : List ℕ) (from : ℕ) (t : Token) → IsNext text from t → OnlySpace text from → ⊥
-next-or-end text from t h k = let e = answers-alone text from (Ok (Some t)) (Ok None) h k in cc
-
-pub next-or-fault : (text : List ℕ) (from : ℕ) (t : Token) (offset : ℕ) → IsNext text from t → IsFault text from offset → ⊥
-next-or-fault text from t offset h k = let e = answers-alone text from (Ok (Some t)) (Err (record { offset = offset })) h k in cc
-
-pub end-or-fault : (text : List ℕ) (from offset : ℕ) → OnlySpace text from → IsFault text from offset → ⊥
-end-or-fault text from offset h k = let e = answers-alone text from (Ok None) (Err (record { offset = offset })) h k in cc
 
 pub fault-alone : (text : List ℕ) (from a b : ℕ) → IsFault text from a → IsFault text from b → a ≡ b
 unfolding offset_in
@@ -81,7 +64,7 @@ compared (no_token from) (no_token from2) = alike refl refl
 compared (no_token from) (a_token from2 end u y qs n k s f) = longer (record { at = u.start; terminal = y }) qs refl (a_token from end u y qs n k s f)
 compared (a_token from to t x ps n k s f) (no_token from2) = shorter (record { at = t.start; terminal = x }) ps refl (a_token from to t x ps n k s f)
 compared {text} (a_token from to t x ps n k s f) (a_token from2 end u y qs m l r h) =
-    let e : t ≡ u = next-alone text from t u n m in
+    let e : t ≡ u = same-token text from t u n m in
     let c : x ≡ y = same-terminal text t u x y e k s l r in
     let h2 : Follow text t.end qs end = subst (λ (v : Token). Follow text v.end qs end) (sym e) h in
     one-more (λ i. record { at = (e i).start; terminal = c i }) (compared f h2)

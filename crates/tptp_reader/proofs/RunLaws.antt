@@ -4,7 +4,8 @@ use Rattle.std.specs.Prelude.{nat_lt, if◌then◌else◌}
 use Rattle.std.specs.List.{list_all}
 use Rattle.std.proofs.lemmas.Bool.{and_from}
 use Rattle.std.proofs.lemmas.List.Folds.{list_all-append}
-use Rattle.tptp_lex.proofs.Runs.{none-some, some-is}
+use Rattle.plain_laws.proofs.Options.{none_some}
+use Rattle.tptp_lex.proofs.Runs.{some-is}
 use Rattle.tptp_reader.specs.Terminals.{Terminal, Placed, terminals, Follow, no_token, a_token}
 use Rattle.tptp_reader.specs.Expecting as way
 use Rattle.tptp_reader.specs.Expecting.{Expected, step, run, run_on, run_after}
@@ -47,7 +48,7 @@ follow-join (no_token from) g = g
 follow-join {to = to} {qs = qs} (a_token from mid t x ps n k e f) g = a_token from to t x (ps ++ qs) n k e (follow-join f g)
 
 pub run-behind : (n : ℕ) (r : way.Run) (k : List ℕ) (mid : List Expected) → run_on n r ≡ Some (k, mid) → (j : List ℕ) × (r ≡ Some (j, mid)) × (k ≡ n ∷ j)
-run-behind n None k mid e = absurd (none-some e)
+run-behind n None k mid e = absurd (none_some e)
 run-behind n (Some q) k mid e = (q.0, ap (λ z. Some (q.0, z)) (ap (λ p. p.1) (some-is e)), sym (ap (λ p. p.0) (some-is e)))
 
 pub run-join : (modal : Bool) (xs ys : List Terminal) (es mid now : List Expected) (k l : List ℕ) → run modal es xs ≡ Some (k, mid) → run modal mid ys ≡ Some (l, now) → run modal es (xs ++ ys) ≡ Some (k ++ l, now)
@@ -56,7 +57,7 @@ run-join modal [] ys es mid now k l h g =
 run-join modal (x ∷ xs) ys es mid now k l h g = by (step modal es x) refl (λ fs j z. run-join modal xs ys fs mid now j l z g) h
   where
     by : (m : way.Move) → step modal es x ≡ m → ((fs : List Expected) (j : List ℕ) → run modal fs xs ≡ Some (j, mid) → run modal fs (xs ++ ys) ≡ Some (j ++ l, now)) → run_after m (λ fs. run modal fs xs) ≡ Some (k, mid) → run_after (step modal es x) (λ fs. run modal fs (xs ++ ys)) ≡ Some (k ++ l, now)
-    by None d next e = absurd (none-some e)
+    by None d next e = absurd (none_some e)
     by (Some q) d next e =
         let b = run-behind q.0 (run modal q.1 xs) k mid e in
         ap (λ m. run_after m (λ fs. run modal fs (xs ++ ys))) d ∙ ap (run_on q.0) (next q.1 b.0 b.1) ∙ ap (λ z. Some (z ++ l, now)) (sym b.2)

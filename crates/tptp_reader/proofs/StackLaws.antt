@@ -4,7 +4,9 @@ use Rattle.std.proofs.Common.{◌≡◌, ◌==◌, ◌⊎◌, ◌&&◌, ◌||◌
 use Rattle.std.specs.Prelude.{codes, if◌then◌else◌}
 use Rattle.std.proofs.lemmas.Bool.{and_parts, and_from, false≢true}
 use Rattle.std.proofs.lemmas.List.Folds.{list_all-append}
-use Rattle.tptp_lex.proofs.Runs.{none-some, some-is}
+use Rattle.plain_laws.proofs.Options.{none_some}
+use Rattle.tptp_reader.proofs.OneReading.{stop-leads}
+use Rattle.tptp_lex.proofs.Runs.{some-is}
 use Rattle.tptp_reader.specs.declared.source.ChainKind.{ChainKind}
 use Rattle.tptp_reader.specs.declared.source.ChainKind.TheVariants.{And, Or}
 use Rattle.tptp_reader.specs.Terminals.{Terminal, lower, upper, quoted, number, dollar, hash, open_round, close_round, close_square, comma, tilde, exclamation, question, ampersand, bar, implies, implied, equivalent, inequivalent, nor, nand, equal, unequal}
@@ -25,15 +27,15 @@ kept e h = subst (λ (z : ℕ × List Expected). are_parts z.1 ≡ true) (some-i
 
 flag-keeps : (b : Bool) (d : ℕ) (r : ℕ × List Expected) → this_move b d ≡ Some r → are_parts r.1 ≡ true
 flag-keeps true d r e = kept e refl
-flag-keeps false d r e = absurd (none-some e)
+flag-keeps false d r e = absurd (none_some e)
 
 dollar-keeps : (b : Bool) (d : ℕ) (r : ℕ × List Expected) → dollar_move b d ≡ Some r → are_parts r.1 ≡ true
 dollar-keeps true d r e = kept e refl
-dollar-keeps false d r e = absurd (none-some e)
+dollar-keeps false d r e = absurd (none_some e)
 
 modal-keeps : (b : Bool) (d : ℕ) (r : ℕ × List Expected) → modal_move b d ≡ Some r → are_parts r.1 ≡ true
 modal-keeps true d r e = kept e refl
-modal-keeps false d r e = absurd (none-some e)
+modal-keeps false d r e = absurd (none_some e)
 
 before-keeps : (f : Expected) (m : Option (ℕ × List Expected)) (r : ℕ × List Expected) → is_part f ≡ true → ((q : ℕ × List Expected) → m ≡ Some q → are_parts q.1 ≡ true) → before (f ∷ []) m ≡ Some r → are_parts r.1 ≡ true
 before-keeps f m r h k e =
@@ -44,33 +46,33 @@ term-keeps : (d : ℕ) → Keeps (term_move d)
 term-keeps d (upper x) r e = kept e refl
 term-keeps d (lower w) r e = kept e refl
 term-keeps d (quoted w) r e = kept e refl
-term-keeps d _ r e = absurd (none-some e)
+term-keeps d _ r e = absurd (none_some e)
 
 arguments-keeps : (d : ℕ) → Keeps (arguments_move d)
 arguments-keeps d comma r e = kept e refl
 arguments-keeps d close_round r e = kept e refl
-arguments-keeps d _ r e = absurd (none-some e)
+arguments-keeps d _ r e = absurd (none_some e)
 
 some_arguments-keeps : (d : ℕ) → Keeps (some_arguments_move d)
 some_arguments-keeps d open_round r e = kept e refl
-some_arguments-keeps d _ r e = absurd (none-some e)
+some_arguments-keeps d _ r e = absurd (none_some e)
 
 equation-keeps : (d : ℕ) → Keeps (equation_move d)
 equation-keeps d equal r e = kept e refl
 equation-keeps d unequal r e = kept e refl
-equation-keeps d _ r e = absurd (none-some e)
+equation-keeps d _ r e = absurd (none_some e)
 
 atom-keeps : (d : ℕ) → Keeps (atom_move d)
 atom-keeps d (dollar w) r e = dollar-keeps (is_truth w) d r e
 atom-keeps d (upper w) r e = kept e refl
 atom-keeps d (lower w) r e = kept e refl
 atom-keeps d (quoted w) r e = kept e refl
-atom-keeps d _ r e = absurd (none-some e)
+atom-keeps d _ r e = absurd (none_some e)
 
 variables-keeps : (d : ℕ) → Keeps (variables_move d)
 variables-keeps d comma r e = kept e refl
 variables-keeps d close_square r e = kept e refl
-variables-keeps d _ r e = absurd (none-some e)
+variables-keeps d _ r e = absurd (none_some e)
 
 unit-keeps : (modal : Bool) (d : ℕ) → Keeps (unit_move modal d)
 unit-keeps modal d open_round r e = kept e refl
@@ -82,7 +84,7 @@ unit-keeps modal d (dollar w) r e = atom-keeps d (dollar w) r e
 unit-keeps modal d (upper w) r e = atom-keeps d (upper w) r e
 unit-keeps modal d (lower w) r e = atom-keeps d (lower w) r e
 unit-keeps modal d (quoted w) r e = atom-keeps d (quoted w) r e
-unit-keeps modal d _ r e = absurd (none-some e)
+unit-keeps modal d _ r e = absurd (none_some e)
 
 formula_rest-keeps : (d : ℕ) → Keeps (formula_rest_move d)
 formula_rest-keeps d ampersand r e = kept e refl
@@ -93,13 +95,13 @@ formula_rest-keeps d equivalent r e = kept e refl
 formula_rest-keeps d inequivalent r e = kept e refl
 formula_rest-keeps d nor r e = kept e refl
 formula_rest-keeps d nand r e = kept e refl
-formula_rest-keeps d _ r e = absurd (none-some e)
+formula_rest-keeps d _ r e = absurd (none_some e)
 
 chain_rest-keeps : (c : ChainKind) (d : ℕ) → Keeps (chain_rest_move c d)
 chain_rest-keeps And d ampersand r e = kept e refl
 chain_rest-keeps Or d bar r e = kept e refl
-chain_rest-keeps And d _ r e = absurd (none-some e)
-chain_rest-keeps Or d _ r e = absurd (none-some e)
+chain_rest-keeps And d _ r e = absurd (none_some e)
+chain_rest-keeps Or d _ r e = absurd (none_some e)
 
 unsigned-keeps : (d : ℕ) → Keeps (unsigned_move d)
 unsigned-keeps d open_round r e = kept e refl
@@ -107,7 +109,7 @@ unsigned-keeps d (dollar w) r e = atom-keeps d (dollar w) r e
 unsigned-keeps d (upper w) r e = atom-keeps d (upper w) r e
 unsigned-keeps d (lower w) r e = atom-keeps d (lower w) r e
 unsigned-keeps d (quoted w) r e = atom-keeps d (quoted w) r e
-unsigned-keeps d _ r e = absurd (none-some e)
+unsigned-keeps d _ r e = absurd (none_some e)
 
 literal-keeps : (d : ℕ) → Keeps (literal_move d)
 literal-keeps d tilde r e = kept e refl
@@ -116,11 +118,11 @@ literal-keeps d (dollar w) r e = unsigned-keeps d (dollar w) r e
 literal-keeps d (upper w) r e = unsigned-keeps d (upper w) r e
 literal-keeps d (lower w) r e = unsigned-keeps d (lower w) r e
 literal-keeps d (quoted w) r e = unsigned-keeps d (quoted w) r e
-literal-keeps d _ r e = absurd (none-some e)
+literal-keeps d _ r e = absurd (none_some e)
 
 literals_rest-keeps : (d : ℕ) → Keeps (literals_rest_move d)
 literals_rest-keeps d bar r e = kept e refl
-literals_rest-keeps d _ r e = absurd (none-some e)
+literals_rest-keeps d _ r e = absurd (none_some e)
 
 clause-keeps : Keeps clause_move
 clause-keeps open_round r e = kept e refl
@@ -129,7 +131,7 @@ clause-keeps (dollar w) r e = before-keeps (literals_rest 0) (atom_move 0 (dolla
 clause-keeps (upper w) r e = before-keeps (literals_rest 0) (atom_move 0 (upper w)) r refl (atom-keeps 0 (upper w)) e
 clause-keeps (lower w) r e = before-keeps (literals_rest 0) (atom_move 0 (lower w)) r refl (atom-keeps 0 (lower w)) e
 clause-keeps (quoted w) r e = before-keeps (literals_rest 0) (atom_move 0 (quoted w)) r refl (atom-keeps 0 (quoted w)) e
-clause-keeps _ r e = absurd (none-some e)
+clause-keeps _ r e = absurd (none_some e)
 
 clause_open-keeps : Keeps clause_open_move
 clause_open-keeps tilde r e = kept e refl
@@ -138,12 +140,12 @@ clause_open-keeps (dollar w) r e = before-keeps clause_rest (atom_move 1 (dollar
 clause_open-keeps (upper w) r e = before-keeps clause_rest (atom_move 1 (upper w)) r refl (atom-keeps 1 (upper w)) e
 clause_open-keeps (lower w) r e = before-keeps clause_rest (atom_move 1 (lower w)) r refl (atom-keeps 1 (lower w)) e
 clause_open-keeps (quoted w) r e = before-keeps clause_rest (atom_move 1 (quoted w)) r refl (atom-keeps 1 (quoted w)) e
-clause_open-keeps _ r e = absurd (none-some e)
+clause_open-keeps _ r e = absurd (none_some e)
 
 clause_rest-keeps : Keeps clause_rest_move
 clause_rest-keeps bar r e = kept e refl
 clause_rest-keeps close_round r e = kept e refl
-clause_rest-keeps _ r e = absurd (none-some e)
+clause_rest-keeps _ r e = absurd (none_some e)
 
 move-keeps : (modal : Bool) (e : Expected) → is_part e ≡ true → Keeps (move modal e)
 move-keeps modal (this k d) h x r q = flag-keeps (form x == form_of k) d r q
@@ -175,16 +177,11 @@ pub record Above (modal : Bool) (bottom above : List Expected) (x : Terminal) (r
   pub is_next : r.1 ≡ next ++ stop ∷ []
   pub is_step : step modal (above ++ bottom) x ≡ Some (r.0, next ++ bottom)
 
-stop-leads : (x : Terminal) (r : ℕ × List Expected) → stop_move x ≡ Some r → r.1 ≡ []
-stop-leads comma r e = ap (λ p. p.1) (sym (some-is e))
-stop-leads close_round r e = ap (λ p. p.1) (sym (some-is e))
-stop-leads _ r e = absurd (none-some e)
-
 pub above-step : (modal : Bool) (bottom above : List Expected) (x : Terminal) (r : ℕ × List Expected) → are_parts above ≡ true → step modal (above ++ stop ∷ []) x ≡ Some r → (r.1 ≡ []) ⊎ Above modal bottom above x r
 above-step modal bottom [] x r p e = by (stop_move x) refl e
   where
     by : (m : Option (ℕ × List Expected)) → stop_move x ≡ m → moved m false [] None ≡ Some r → (r.1 ≡ []) ⊎ Above modal bottom [] x r
-    by None d k = absurd (none-some k)
+    by None d k = absurd (none_some k)
     by (Some q) d k = inl (ap (λ p. p.1) (sym (some-is k)) ∙ append-nil q.1 ∙ stop-leads x q d)
 above-step modal bottom (e ∷ above) x r p h =
     let ps = and_parts (is_part e) (are_parts above) p in
@@ -211,7 +208,7 @@ above-step modal bottom (e ∷ above) x r p h =
           is_step = ap (λ m. moved m (is_optional e) (above ++ bottom) (step modal (above ++ bottom) x)) d ∙ ap (λ l. Some (q.0, l)) (sym (append_assoc q.1 above bottom)) ∙ ap (λ k. Some (k, (q.1 ++ above) ++ bottom)) (ap (λ p. p.0) z);
         })
     by p1 p2 None d true t next k = over true t refl d (next k)
-    by p1 p2 None d false t next k = absurd (none-some k)
+    by p1 p2 None d false t next k = absurd (none_some k)
 
 -- a run that has not taken the last part
 pub record AboveRun (modal : Bool) (bottom above : List Expected) (xs : List Terminal) (now : List Expected) : Type 0 where
@@ -226,12 +223,12 @@ above-run modal bottom [] above k e es p h = record { nestings = []; next = abov
 above-run modal bottom (x ∷ xs) above k e es p h = by (step modal (above ++ stop ∷ []) x) refl (λ next l q z. above-run modal bottom xs next l e es q z) h
   where
     behind : (n : ℕ) (r : Option (List ℕ × List Expected)) → run_on n r ≡ Some (k, e ∷ es) → (l : List ℕ) × (r ≡ Some (l, e ∷ es))
-    behind n None z = absurd (none-some z)
+    behind n None z = absurd (none_some z)
     behind n (Some q) z = (q.0, ap (λ y. Some (q.0, y)) (ap (λ p. p.1) (some-is z)))
 
     ended : (ys : List Terminal) (l : List ℕ) → run modal [] ys ≡ Some (l, e ∷ es) → ⊥
     ended [] l z = let w : [] ≡ e ∷ es = ap (λ p. p.1) (some-is z) in cc
-    ended (y ∷ ys) l z = none-some z
+    ended (y ∷ ys) l z = none_some z
 
     on : (q : ℕ × List Expected) (l : List ℕ) → run modal q.1 xs ≡ Some (l, e ∷ es) → ((next : List Expected) (l : List ℕ) → are_parts next ≡ true → run modal (next ++ stop ∷ []) xs ≡ Some (l, e ∷ es) → AboveRun modal bottom next xs (e ∷ es)) → (q.1 ≡ []) ⊎ Above modal bottom above x q → AboveRun modal bottom above (x ∷ xs) (e ∷ es)
     on q l z next (inl n) = absurd (ended xs l (ap (λ s. run modal s xs) (sym n) ∙ z))
@@ -240,7 +237,7 @@ above-run modal bottom (x ∷ xs) above k e es p h = by (step modal (above ++ st
         record { nestings = q.0 ∷ r.nestings; next = r.next; parts = r.parts; is_now = r.is_now; is_run = ap (λ m. run_after m (λ fs. run modal fs xs)) a.is_step ∙ ap (run_on q.0) r.is_run }
 
     by : (m : Option (ℕ × List Expected)) → step modal (above ++ stop ∷ []) x ≡ m → ((next : List Expected) (l : List ℕ) → are_parts next ≡ true → run modal (next ++ stop ∷ []) xs ≡ Some (l, e ∷ es) → AboveRun modal bottom next xs (e ∷ es)) → run_after m (λ fs. run modal fs xs) ≡ Some (k, e ∷ es) → AboveRun modal bottom above (x ∷ xs) (e ∷ es)
-    by None d next z = absurd (none-some z)
+    by None d next z = absurd (none_some z)
     by (Some q) d next z = let b = behind q.0 (run modal q.1 xs) z in on q b.0 b.1 next (above-step modal bottom above x q p d)
 
 -- ---- the stack of a text of items
@@ -259,23 +256,23 @@ word-ends : (modal i f c m : Bool) (r : ℕ × List Expected)
     else (if m then (if modal then Some (0, head_of (formula 0)) else None)
     else None)))) ≡ Some r → EndsItems (r.1 ++ [])
 word-ends modal true f c m r e = subst (λ (z : ℕ × List Expected). EndsItems (z.1 ++ [])) (some-is e) (inr (this an_opening 0 ∷ this a_quoted 0 ∷ include_rest ∷ [], refl))
-word-ends true false true c m r e = absurd (none-some e)
+word-ends true false true c m r e = absurd (none_some e)
 word-ends false false true c m r e = subst (λ (z : ℕ × List Expected). EndsItems (z.1 ++ [])) (some-is e) (head-ends (formula 0))
-word-ends true false false true m r e = absurd (none-some e)
+word-ends true false false true m r e = absurd (none_some e)
 word-ends false false false true m r e = subst (λ (z : ℕ × List Expected). EndsItems (z.1 ++ [])) (some-is e) (head-ends clause)
 word-ends true false false false true r e = subst (λ (z : ℕ × List Expected). EndsItems (z.1 ++ [])) (some-is e) (head-ends (formula 0))
-word-ends false false false false true r e = absurd (none-some e)
-word-ends modal false false false false r e = absurd (none-some e)
+word-ends false false false false true r e = absurd (none_some e)
+word-ends modal false false false false r e = absurd (none_some e)
 
 items-end : (modal : Bool) (x : Terminal) (r : ℕ × List Expected) → items_move modal x ≡ Some r → EndsItems (r.1 ++ [])
 items-end modal (lower w) r e = word-ends modal (is_word w (codes "include")) (is_word w (codes "fof")) (is_word w (codes "cnf")) (is_word w (codes "qmf")) r e
-items-end modal _ r e = absurd (none-some e)
+items-end modal _ r e = absurd (none_some e)
 
 first-step : (modal : Bool) (x : Terminal) (r : ℕ × List Expected) → step modal (items ∷ []) x ≡ Some r → EndsItems r.1
 first-step modal x r h = by (items_move modal x) refl h
   where
     by : (m : Option (ℕ × List Expected)) → items_move modal x ≡ m → moved m true [] None ≡ Some r → EndsItems r.1
-    by None d k = absurd (none-some k)
+    by None d k = absurd (none_some k)
     by (Some q) d k = subst (λ (z : ℕ × List Expected). EndsItems z.1) (some-is k) (items-end modal x q d)
 
 later-step : (modal : Bool) (above : List Expected) (x : Terminal) (r : ℕ × List Expected) → step modal (above ++ this a_dot 0 ∷ items ∷ []) x ≡ Some r → EndsItems r.1
@@ -283,13 +280,13 @@ later-step modal [] x r h = by (form x == 15) h
   where
     by : (b : Bool) → moved (this_move b 0) false (items ∷ []) (step modal (items ∷ []) x) ≡ Some r → EndsItems r.1
     by true k = inl (ap (λ p. p.1) (sym (some-is k)))
-    by false k = absurd (none-some k)
+    by false k = absurd (none_some k)
 later-step modal (e ∷ above) x r h = by (move modal e x) (is_optional e) (λ k. later-step modal above x r k) h
   where
     by : (m : Option (ℕ × List Expected)) (o : Bool) → (step modal (above ++ this a_dot 0 ∷ items ∷ []) x ≡ Some r → EndsItems r.1) → moved m o (above ++ this a_dot 0 ∷ items ∷ []) (step modal (above ++ this a_dot 0 ∷ items ∷ []) x) ≡ Some r → EndsItems r.1
     by (Some q) o next k = inr (q.1 ++ above, ap (λ p. p.1) (sym (some-is k)) ∙ sym (append_assoc q.1 above (this a_dot 0 ∷ items ∷ [])))
     by None true next k = next k
-    by None false next k = absurd (none-some k)
+    by None false next k = absurd (none_some k)
 
 ends-step : (modal : Bool) (es : List Expected) (x : Terminal) (r : ℕ × List Expected) → EndsItems es → step modal es x ≡ Some r → EndsItems r.1
 ends-step modal es x r (inl e) h = first-step modal x r (sym (ap (λ s. step modal s x) e) ∙ h)
@@ -300,7 +297,7 @@ run-step : (modal : Bool) (es : List Expected) (x : Terminal) (xs : List Termina
 run-step modal es x xs k now r h e = behind r.0 (run modal r.1 xs) (sym (ap (λ m. run_after m (λ fs. run modal fs xs)) e) ∙ h)
   where
     behind : (n : ℕ) (q : Option (List ℕ × List Expected)) → run_on n q ≡ Some (k, now) → (l : List ℕ) × (q ≡ Some (l, now))
-    behind n None z = absurd (none-some z)
+    behind n None z = absurd (none_some z)
     behind n (Some q) z = (q.0, ap (λ y. Some (q.0, y)) (ap (λ p. p.1) (some-is z)))
 
 ends-run : (modal : Bool) (xs : List Terminal) (es now : List Expected) (k : List ℕ) → EndsItems es → run modal es xs ≡ Some (k, now) → EndsItems now
@@ -308,7 +305,7 @@ ends-run modal [] es now k b e = subst EndsItems (ap (λ p. p.1) (some-is e)) b
 ends-run modal (x ∷ xs) es now k b e = by (step modal es x) refl (λ fs l c z. ends-run modal xs fs now l c z)
   where
     by : (m : Option (ℕ × List Expected)) → step modal es x ≡ m → ((fs : List Expected) (l : List ℕ) → EndsItems fs → run modal fs xs ≡ Some (l, now) → EndsItems now) → EndsItems now
-    by None d next = absurd (none-some (sym (ap (λ m. run_after m (λ fs. run modal fs xs)) d) ∙ e))
+    by None d next = absurd (none_some (sym (ap (λ m. run_after m (λ fs. run modal fs xs)) d) ∙ e))
     by (Some q) d next = let s = run-step modal es x xs k now q e d in next q.1 s.0 (ends-step modal es x q b d) s.1
 
 not-optional : (above : List Expected) → all_optional (above ++ this a_dot 0 ∷ items ∷ []) ≡ true → ⊥
@@ -333,7 +330,7 @@ cut-run modal (x ∷ xs) ys es now k h = by (step modal es x) refl (λ fs l z. c
   where
     by : (m : Option (ℕ × List Expected)) → step modal es x ≡ m → ((fs : List Expected) (l : List ℕ) → run modal fs (xs ++ ys) ≡ Some (l, now) → (mid : List Expected) × (a : List ℕ) × (b : List ℕ) × (run modal fs xs ≡ Some (a, mid)) × (run modal mid ys ≡ Some (b, now)))
         → (mid : List Expected) × (a : List ℕ) × (b : List ℕ) × (run modal es (x ∷ xs) ≡ Some (a, mid)) × (run modal mid ys ≡ Some (b, now))
-    by None d next = absurd (none-some (sym (ap (λ m. run_after m (λ fs. run modal fs (xs ++ ys))) d) ∙ h))
+    by None d next = absurd (none_some (sym (ap (λ m. run_after m (λ fs. run modal fs (xs ++ ys))) d) ∙ h))
     by (Some q) d next =
         let s = run-step modal es x (xs ++ ys) k now q h d in
         let c = next q.1 s.0 s.1 in
@@ -383,7 +380,7 @@ stands-stack modal language L body p m e front k now s h =
     by b.0 b.1 f.now f.before f.is_run (f.rest, f.is_step)
   where
     by : (l : List ℕ) → run modal (body ∷ behind_body) s.3 ≡ Some (l, now) → (fs : List Expected) (q : List ℕ) → run modal (body ∷ stop ∷ []) s.3 ≡ Some (q, fs) → (rest : List Expected) × (step modal fs s.7.0 ≡ Some (s.7.1.0, rest)) → is_in_body now ≡ true
-    by l z [] q r t = absurd (none-some t.1)
+    by l z [] q r t = absurd (none_some t.1)
     by l z (y ∷ fs) q r t =
         let a = above-run modal behind_body s.3 (body ∷ []) q y fs (and_from (is_part body) true p refl) r in
         subst (λ g. is_in_body g ≡ true) (ap (λ v. v.1) (some-is (sym a.is_run ∙ z))) (parts-in-body a.next a.parts)

@@ -3,9 +3,10 @@
 use Rattle.std.proofs.Common.{◌≡◌, ◌==◌, ◌⊎◌, ◌&&◌, ◌||◌, ℕ, Bool, true, false, List, [], ◌∷◌, ◌++◌, None, Some, inl, inr, refl, sym, ◌∙◌, ap, append_assoc, append-nil, subst, IsTrue}
 use Rattle.std.specs.Prelude.{codes, if◌then◌else◌}
 use Rattle.std.specs.List.{list_all}
-use Rattle.std.proofs.lemmas.Bool.{and_parts, and_from, false≢true}
+use Rattle.std.proofs.lemmas.Bool.{and_parts, and_from, false≢true, and_right}
 use Rattle.std.proofs.lemmas.List.Folds.{list_all-append}
-use Rattle.tptp_lex.proofs.Runs.{none-some, some-is}
+use Rattle.plain_laws.proofs.Options.{none_some}
+use Rattle.tptp_lex.proofs.Runs.{some-is}
 use Rattle.tptp_lex.specs.Tokens.{is_digits}
 use Rattle.tptp_reader.specs.Terminals.{Terminal, lower, quoted, number, open_round, close_round, open_square, close_square, comma}
 use Rattle.tptp_reader.specs.Grammar.{plain, in_quotes, NameTree, word_name, number_name, name_fits, name_token, head_tokens, text_tokens}
@@ -28,7 +29,7 @@ this-step modal k d es x r e = by (form x == form_of k) refl e
   where
     by : (b : Bool) → (form x == form_of k) ≡ b → moved (this_move b d) false es (step modal es x) ≡ Some r → (r.1 ≡ es) × ((form x == form_of k) ≡ true)
     by true h z = (ap (λ p. p.1) (sym (some-is z)), h)
-    by false h z = absurd (none-some z)
+    by false h z = absurd (none_some z)
 
 lower-is : (x : Terminal) → (form x == 20) ≡ true → (w : List ℕ) × (x ≡ lower w)
 lower-is (lower w) h = (w, refl)
@@ -41,8 +42,8 @@ name-there modal es (number w) r e = by (is_digits w) refl e
   where
     by : (b : Bool) → is_digits w ≡ b → moved (this_move b 0) false es (step modal es (number w)) ≡ Some r → (n : NameTree) × IsTrue (name_fits n) × (number w ≡ name_token n) × (r.1 ≡ es)
     by true h z = (number_name w, h, refl, ap (λ p. p.1) (sym (some-is z)))
-    by false h z = absurd (none-some z)
-name-there modal es _ r e = absurd (none-some e)
+    by false h z = absurd (none_some z)
+name-there modal es _ r e = absurd (none_some e)
 
 -- ---- the kinds of items with a formula
 
@@ -106,44 +107,44 @@ tail-kept e h = subst (λ (z : ℕ × List Expected). list_all is_tail_part z.1 
 
 flag-tail : (b : Bool) (d : ℕ) (r : ℕ × List Expected) → this_move b d ≡ Some r → list_all is_tail_part r.1 ≡ true
 flag-tail true d r e = tail-kept e refl
-flag-tail false d r e = absurd (none-some e)
+flag-tail false d r e = absurd (none_some e)
 
 name-tail : (x : Terminal) (r : ℕ × List Expected) → name_move x ≡ Some r → list_all is_tail_part r.1 ≡ true
 name-tail (lower w) r e = tail-kept e refl
 name-tail (quoted w) r e = tail-kept e refl
 name-tail (number w) r e = flag-tail (is_digits w) 0 r e
-name-tail _ r e = absurd (none-some e)
+name-tail _ r e = absurd (none_some e)
 
 notes-tail : (w : List Bool) (x : Terminal) (r : ℕ × List Expected) → notes_move w x ≡ Some r → list_all is_tail_part r.1 ≡ true
 notes-tail [] open_round r e = tail-kept e refl
 notes-tail [] open_square r e = tail-kept e refl
 notes-tail [] close_round r e = tail-kept e refl
-notes-tail [] close_square r e = absurd (none-some e)
+notes-tail [] close_square r e = absurd (none_some e)
 notes-tail [] _ r e = tail-kept e refl
 notes-tail (true ∷ w) open_round r e = tail-kept e refl
 notes-tail (true ∷ w) open_square r e = tail-kept e refl
 notes-tail (true ∷ w) close_round r e = tail-kept e refl
-notes-tail (true ∷ w) close_square r e = absurd (none-some e)
+notes-tail (true ∷ w) close_square r e = absurd (none_some e)
 notes-tail (true ∷ w) _ r e = tail-kept e refl
 notes-tail (false ∷ w) open_round r e = tail-kept e refl
 notes-tail (false ∷ w) open_square r e = tail-kept e refl
-notes-tail (false ∷ w) close_round r e = absurd (none-some e)
+notes-tail (false ∷ w) close_round r e = absurd (none_some e)
 notes-tail (false ∷ w) close_square r e = tail-kept e refl
 notes-tail (false ∷ w) _ r e = tail-kept e refl
 
 first-tail : (x : Terminal) (r : ℕ × List Expected) → first_note_move x ≡ Some r → list_all is_tail_part r.1 ≡ true
-first-tail close_round r e = absurd (none-some e)
+first-tail close_round r e = absurd (none_some e)
 first-tail x r e = notes-tail [] x r e
 
 include-tail : (x : Terminal) (r : ℕ × List Expected) → include_rest_move x ≡ Some r → list_all is_tail_part r.1 ≡ true
 include-tail comma r e = tail-kept e refl
 include-tail close_round r e = tail-kept e refl
-include-tail _ r e = absurd (none-some e)
+include-tail _ r e = absurd (none_some e)
 
 names-tail : (x : Terminal) (r : ℕ × List Expected) → names_rest_move x ≡ Some r → list_all is_tail_part r.1 ≡ true
 names-tail comma r e = tail-kept e refl
 names-tail close_square r e = tail-kept e refl
-names-tail _ r e = absurd (none-some e)
+names-tail _ r e = absurd (none_some e)
 
 tail-move : (modal : Bool) (e : Expected) (x : Terminal) (r : ℕ × List Expected) → is_tail_part e ≡ true → move modal e x ≡ Some r → list_all is_tail_part r.1 ≡ true
 tail-move modal (this k d) x r h z = flag-tail (form x == form_of k) d r z
@@ -181,21 +182,17 @@ tail-step modal (e ∷ above) x r h z =
           ap (λ p. p.1) (sym (some-is k)) ∙ sym (append_assoc q.1 above (this a_dot 0 ∷ items ∷ [])),
         )
     by a b None d true t k = absurd (false≢true (sym t))
-    by a b None d false t k = absurd (none-some k)
+    by a b None d false t k = absurd (none_some k)
 
 or-false : (a b : Bool) → a ≡ false → b ≡ false → (a || b) ≡ false
 or-false true b p q = absurd (false≢true (sym p))
 or-false false b p q = q
 
-and-false : (a b : Bool) → b ≡ false → (a && b) ≡ false
-and-false true b q = q
-and-false false b q = refl
-
 tail-elsewhere : (above : List Expected) → list_all is_tail_part above ≡ true → is_in_body (above ++ this a_dot 0 ∷ items ∷ []) ≡ false
 tail-elsewhere [] h = refl
 tail-elsewhere (e ∷ above) h =
     let p = and_parts (is_tail_part e) (list_all is_tail_part above) h in
-    or-false (is_after_body e) (is_part e && is_in_body (above ++ this a_dot 0 ∷ items ∷ [])) (tail-no-body e p.0) (and-false (is_part e) (is_in_body (above ++ this a_dot 0 ∷ items ∷ [])) (tail-elsewhere above p.1))
+    or-false (is_after_body e) (is_part e && is_in_body (above ++ this a_dot 0 ∷ items ∷ [])) (tail-no-body e p.0) (and_right (is_part e) (is_in_body (above ++ this a_dot 0 ∷ items ∷ [])) (tail-elsewhere above p.1))
 
 -- ---- the end of a formula
 
@@ -206,20 +203,20 @@ not-nothing (x ∷ xs) y ys e = cc
 stop-tail : (modal : Bool) (x : Terminal) (r s : ℕ × List Expected) → stop_move x ≡ Some r → moved (after_body_move x) false (this a_dot 0 ∷ items ∷ []) (step modal (this a_dot 0 ∷ items ∷ []) x) ≡ Some s → Tail s.1
 stop-tail modal comma r s e h = (first_note ∷ [], refl, ap (λ p. p.1) (sym (some-is h)))
 stop-tail modal close_round r s e h = ([], refl, ap (λ p. p.1) (sym (some-is h)))
-stop-tail modal _ r s e h = absurd (none-some e)
+stop-tail modal _ r s e h = absurd (none_some e)
 
 stop-step : (modal : Bool) (above : List Expected) (x : Terminal) (r s : ℕ × List Expected) → step modal (above ++ stop ∷ []) x ≡ Some r → r.1 ≡ [] → step modal (above ++ behind_body) x ≡ Some s → Tail s.1
 stop-step modal [] x r s e n h = by (stop_move x) refl e
   where
     by : (m : Move) → stop_move x ≡ m → moved m false [] None ≡ Some r → Tail s.1
-    by None d k = absurd (none-some k)
+    by None d k = absurd (none_some k)
     by (Some q) d k = stop-tail modal x q s d h
 stop-step modal (e ∷ above) x r s z n h = by (move modal e x) (is_optional e) (λ a b. stop-step modal above x r s a n b) z h
   where
     by : (m : Move) (o : Bool) → (step modal (above ++ stop ∷ []) x ≡ Some r → step modal (above ++ behind_body) x ≡ Some s → Tail s.1) → moved m o (above ++ stop ∷ []) (step modal (above ++ stop ∷ []) x) ≡ Some r → moved m o (above ++ behind_body) (step modal (above ++ behind_body) x) ≡ Some s → Tail s.1
     by (Some q) o next k l = absurd (not-nothing (q.1 ++ above) stop [] (append_assoc q.1 above (stop ∷ []) ∙ ap (λ p. p.1) (some-is k) ∙ n))
     by None true next k l = next k l
-    by None false next k l = absurd (none-some k)
+    by None false next k l = absurd (none_some k)
 
 -- ---- stages
 
@@ -247,23 +244,23 @@ word-stage : (modal i f c m : Bool) (w : List ℕ) (front : List Terminal) (q : 
     else (if m then (if modal then Some (0, head_of (formula 0)) else None)
     else None)))) ≡ Some q → Stage modal (front ++ lower w ∷ []) (q.1 ++ [])
 word-stage modal true f c m w front q t a b d e = s_tail (this an_opening 0 ∷ this a_quoted 0 ∷ include_rest ∷ [], refl, ap (λ p. p.1 ++ []) (sym (some-is e)))
-word-stage true false true c m w front q t a b d e = absurd (none-some e)
+word-stage true false true c m w front q t a b d e = absurd (none_some e)
 word-stage false false true c m w front q t a b d e = s_head a_fof refl front (lower w ∷ []) t refl (h_word (ap (λ z. lower z ∷ []) (word-is w (codes "fof") a)) (ap (λ p. p.1 ++ []) (sym (some-is e))))
-word-stage true false false true m w front q t a b d e = absurd (none-some e)
+word-stage true false false true m w front q t a b d e = absurd (none_some e)
 word-stage false false false true m w front q t a b d e = s_head a_cnf refl front (lower w ∷ []) t refl (h_word (ap (λ z. lower z ∷ []) (word-is w (codes "cnf") b)) (ap (λ p. p.1 ++ []) (sym (some-is e))))
 word-stage true false false false true w front q t a b d e = s_head a_qmf refl front (lower w ∷ []) t refl (h_word (ap (λ z. lower z ∷ []) (word-is w (codes "qmf") d)) (ap (λ p. p.1 ++ []) (sym (some-is e))))
-word-stage false false false false true w front q t a b d e = absurd (none-some e)
-word-stage modal false false false false w front q t a b d e = absurd (none-some e)
+word-stage false false false false true w front q t a b d e = absurd (none_some e)
+word-stage modal false false false false w front q t a b d e = absurd (none_some e)
 
 items-stage : (modal : Bool) (x : Terminal) (front : List Terminal) (q : ℕ × List Expected) → IsWhole (TextLanguage modal) front → items_move modal x ≡ Some q → Stage modal (front ++ x ∷ []) (q.1 ++ [])
 items-stage modal (lower w) front q t e = word-stage modal (is_word w (codes "include")) (is_word w (codes "fof")) (is_word w (codes "cnf")) (is_word w (codes "qmf")) w front q t refl refl refl e
-items-stage modal _ front q t e = absurd (none-some e)
+items-stage modal _ front q t e = absurd (none_some e)
 
 first-stage : (modal : Bool) (x : Terminal) (front : List Terminal) (r : ℕ × List Expected) → IsWhole (TextLanguage modal) front → step modal (items ∷ []) x ≡ Some r → Stage modal (front ++ x ∷ []) r.1
 first-stage modal x front r t h = by (items_move modal x) refl h
   where
     by : (m : Move) → items_move modal x ≡ m → moved m true [] None ≡ Some r → Stage modal (front ++ x ∷ []) r.1
-    by None d k = absurd (none-some k)
+    by None d k = absurd (none_some k)
     by (Some q) d k = subst (λ (z : ℕ × List Expected). Stage modal (front ++ x ∷ []) z.1) (some-is k) (items-stage modal x front q t d)
 
 -- ---- through the head of an item
@@ -311,7 +308,7 @@ part-step modal x front now r k e before n role inside above nestings t g f h p 
         a.parts (ap (λ y. y.1) (some-is (sym c ∙ a.is_step)))
 
     by : SameStep modal above x → Stage modal (front ++ x ∷ []) r.1
-    by (inl a) = absurd (none-some (sym a.1 ∙ c))
+    by (inl a) = absurd (none_some (sym a.1 ∙ c))
     by (inr a) = on (a.0, a.1) a.3 (above-step modal behind_body above x (a.0, a.1) p a.3)
 
 -- ---- over all tokens
@@ -334,7 +331,7 @@ stage-run modal [] front now end j k s h g = subst (λ z. Stage modal z end) (sy
 stage-run modal (x ∷ xs) front now end j k s h g = by (step modal now x) refl (λ fs i l t z y. stage-run modal xs (front ++ x ∷ []) fs end i l t z y) g
   where
     by : (m : Move) → step modal now x ≡ m → ((fs : List Expected) (i l : List ℕ) → Stage modal (front ++ x ∷ []) fs → run modal (items ∷ []) (front ++ x ∷ []) ≡ Some (i, fs) → run modal fs xs ≡ Some (l, end) → Stage modal ((front ++ x ∷ []) ++ xs) end) → run_after m (λ fs. run modal fs xs) ≡ Some (k, end) → Stage modal (front ++ x ∷ xs) end
-    by None d next z = absurd (none-some z)
+    by None d next z = absurd (none_some z)
     by (Some q) d next z =
         let b = run-behind q.0 (run modal q.1 xs) k end z in
         let t = stage-step modal x front now q s (whole-here modal front j now h) d in

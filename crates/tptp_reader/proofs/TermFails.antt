@@ -1,7 +1,7 @@
 -- Where the way over a term goes wrong.
 use Rattle.std.proofs.Common.{◌≡◌, ◌==◌, ℕ, suc, Bool, true, false, List, ◌∷◌, None, Some, inl, inr, refl, sym, subst, Bor}
 use Rattle.std.proofs.lemmas.Bool.{false≢true}
-use Rattle.tptp_lex.proofs.Runs.{none-some}
+use Rattle.plain_laws.proofs.Options.{none_some}
 use Rattle.tptp_reader.specs.declared.terminal.Piece.{Piece}
 use Rattle.tptp_reader.specs.declared.terminal.Terminal as program
 use Rattle.tptp_reader.specs.declared.terminal.Terminal.TheVariants.{Upper}
@@ -91,8 +91,8 @@ term-word {text} {p} modal d es n k = fails_at (word-after modal text d es (the_
 
 none-after : (modal : Bool) (text : List ℕ) (d : ℕ) (es : List Expected) (x : Terminal) (to : ℕ) → ((w : List ℕ) → x ≡ upper w → ⊥) → word_in x ≡ None → FailsAfter modal text (step modal (term d ∷ es) x) to
 none-after modal text d es (upper w) to n e = absurd (n w refl)
-none-after modal text d es (lower w) to n e = absurd (none-some (sym e))
-none-after modal text d es (quoted w) to n e = absurd (none-some (sym e))
+none-after modal text d es (lower w) to n e = absurd (none_some (sym e))
+none-after modal text d es (quoted w) to n e = absurd (none_some (sym e))
 none-after modal text d es _ to n e = tt
 
 pub term-none : {text : List ℕ} {p : Piece} (modal : Bool) (d : ℕ) (es : List Expected) → ((w : List ℕ) → the_terminal p.terminal ≡ upper w → ⊥) → word_in (the_terminal p.terminal) ≡ None → FailsAt modal text (term d ∷ es) p

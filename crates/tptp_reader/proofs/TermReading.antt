@@ -1,6 +1,7 @@
 -- Reading terms.
 use Rattle.std.proofs.Common.{◌≡◌, ◌==◌, ℕ, suc, true, List, [], ◌∷◌, ◌++◌, Some, refl, sym, ◌∙◌, ap, append_assoc, subst}
-use Rattle.tptp_lex.proofs.Runs.{none-some, some-is}
+use Rattle.plain_laws.proofs.Options.{none_some}
+use Rattle.tptp_lex.proofs.Runs.{some-is}
 use Rattle.tptp_reader.specs.declared.source.SourceTerm as program
 use Rattle.tptp_reader.specs.declared.source.SourceTerm.TheVariants.{Var, Fun}
 use Rattle.tptp_reader.specs.declared.terminal.Piece.{Piece}
@@ -37,7 +38,7 @@ pub record WordOf (x : Terminal) (name : List ℕ) : Type 0 where
 pub word-of : (x : Terminal) (name : List ℕ) → word_in x ≡ Some name → WordOf x name
 word-of (lower w) name e = record { word = plain w; token = refl; named = sym (some-is e) }
 word-of (quoted w) name e = record { word = in_quotes w; token = refl; named = sym (some-is e) }
-word-of _ name e = absurd (none-some e)
+word-of _ name e = absurd (none_some e)
 
 pub term-variable : {text : List ℕ} {p q : Piece} (d : ℕ) (name w : List ℕ) → name ≡ w → the_terminal p.terminal ≡ upper w → Follow text p.end (placed q ∷ []) q.end → is_shallow d ≡ true → TermRead text d p (Var name, q)
 term-variable d name w n e f s = record {

@@ -11,8 +11,9 @@ use Rattle.tptp_reader.specs.Grammar.{Word, plain, in_quotes, TermTree, TermTree
 use Rattle.tptp_reader.specs.Nesting.{all_at, term_nestings, terms_nestings, atom_nestings, unit_nestings, formula_nestings, units_nestings, literal_nestings, literals_nestings, clause_nestings, end_nestings, item_nestings, text_nestings}
 use Rattle.tptp_reader.specs.Expecting.{Expected, a_closing, a_dot, this, term, arguments, some_equation, equation, atom, variables, unit, formula, formula_rest, chain_rest, literal, unsigned, literals_rest, clause, clause_open, clause_rest, items, name, after_body, first_note, notes, names_rest}
 use Rattle.std.proofs.lemmas.Bool.{and_parts, false≢true}
+use Rattle.plain_laws.proofs.Booleans.{or-both_parts}
+use Rattle.plain_laws.proofs.Options.{none_some}
 use Rattle.tptp_reader.specs.Expecting.{atom_move, unit_move, unsigned_move, literal_move, before, clause_move, clause_open_move, this_move, notes_move, first_note_move}
-use Rattle.tptp_lex.proofs.Runs.{none-some}
 use Rattle.tptp_reader.proofs.Deriving.{Derives, ends, takes, skips, reassociated}
 
 mutual
@@ -65,19 +66,19 @@ atom-derives (g.disequation s t) modal d es ts ns h =
     (left-side s modal d es (unequal ∷ (term_tokens t ++ ts)) (d ∷ (term_nestings d t ++ ns)) (takes refl (term-derives t modal d es ts ns h)) (takes refl (term-derives t modal d es ts ns h)))
 
 pub unit-move-of-atom : (modal : Bool) (d : ℕ) (x : Terminal) (r : ℕ × List Expected) → atom_move d x ≡ Some r → unit_move modal d x ≡ Some r
-unit-move-of-atom modal d open_round r h = absurd (none-some h)
-unit-move-of-atom modal d tilde r h = absurd (none-some h)
-unit-move-of-atom modal d exclamation r h = absurd (none-some h)
-unit-move-of-atom modal d question r h = absurd (none-some h)
-unit-move-of-atom modal d (hash w) r h = absurd (none-some h)
+unit-move-of-atom modal d open_round r h = absurd (none_some h)
+unit-move-of-atom modal d tilde r h = absurd (none_some h)
+unit-move-of-atom modal d exclamation r h = absurd (none_some h)
+unit-move-of-atom modal d question r h = absurd (none_some h)
+unit-move-of-atom modal d (hash w) r h = absurd (none_some h)
 unit-move-of-atom modal d _ r h = h
 
 pub unsigned-move-of-atom : (d : ℕ) (x : Terminal) (r : ℕ × List Expected) → atom_move d x ≡ Some r → unsigned_move d x ≡ Some r
-unsigned-move-of-atom d open_round r h = absurd (none-some h)
+unsigned-move-of-atom d open_round r h = absurd (none_some h)
 unsigned-move-of-atom d _ r h = h
 
 pub literal-move-of-unsigned : (d : ℕ) (x : Terminal) (r : ℕ × List Expected) → unsigned_move d x ≡ Some r → literal_move d x ≡ Some r
-literal-move-of-unsigned d tilde r h = absurd (none-some h)
+literal-move-of-unsigned d tilde r h = absurd (none_some h)
 literal-move-of-unsigned d _ r h = h
 
 unit-as : {modal : Bool} {d : ℕ} {es : List Expected} {ts : List Terminal} {ns : List ℕ} → Derives modal (atom d ∷ es) ts ns → Derives modal (unit d ∷ es) ts ns
@@ -90,10 +91,6 @@ formula-as {modal} {d} {es} (takes {new = new} {ts = ts} {ns = ns} m h) =
 formula-as (skips o h) = absurd (false≢true o)
 
 -- ---- formulas
-
-both-plain : (modal a b : Bool) → IsTrue (modal || (a && b)) → IsTrue (modal || a) × IsTrue (modal || b)
-both-plain true a b h = (refl, refl)
-both-plain false a b h = and_parts a b h
 
 variables-derive : (xs : List (List ℕ)) (modal : Bool) (d : ℕ) (es : List Expected) (ts : List Terminal) (ns : List ℕ) → Derives modal es ts ns → Derives modal (variables d ∷ es) (variables_tokens xs ++ ts) (all_at d (variables_tokens xs) ++ ns)
 variables-derive [] modal d es ts ns h = takes refl (takes refl h)
@@ -135,15 +132,15 @@ mutual
   pub formula-derives : (f : FormulaTree) (modal : Bool) → IsTrue (modal || g.is_plain f) → (d : ℕ) (es : List Expected) (ts : List Terminal) (ns : List ℕ) → Derives modal es ts ns → Derives modal (formula d ∷ es) (formula_tokens f ++ ts) (formula_nestings d f ++ ns)
   formula-derives (g.single u) modal p d es ts ns h = formula-as (unit-derives u modal p d (formula_rest d ∷ es) ts ns (skips refl h))
   formula-derives (g.chain c u v us) modal p d es ts ns h =
-      let q = both-plain modal (g.is_plain_unit u && g.is_plain_unit v) (g.are_plain_units us) p in
-      let r = both-plain modal (g.is_plain_unit u) (g.is_plain_unit v) q.0 in
+      let q = or-both_parts modal (g.is_plain_unit u && g.is_plain_unit v) (g.are_plain_units us) p in
+      let r = or-both_parts modal (g.is_plain_unit u) (g.is_plain_unit v) q.0 in
       formula-as (reassociated (unit_tokens u) (g.chain_token c ∷ (unit_tokens v ++ units_tokens c us)) ts (unit_nestings d u) (d ∷ (unit_nestings d v ++ units_nestings d us)) ns
       (unit-derives u modal r.0 d (formula_rest d ∷ es) (g.chain_token c ∷ ((unit_tokens v ++ units_tokens c us) ++ ts)) (d ∷ ((unit_nestings d v ++ units_nestings d us) ++ ns))
       (chain-first c modal d es ((unit_tokens v ++ units_tokens c us) ++ ts) ((unit_nestings d v ++ units_nestings d us) ++ ns)
       (reassociated (unit_tokens v) (units_tokens c us) ts (unit_nestings d v) (units_nestings d us) ns
       (unit-derives v modal r.1 d (chain_rest c d ∷ es) (units_tokens c us ++ ts) (units_nestings d us ++ ns) (units-derive us c modal q.1 d es ts ns h))))))
   formula-derives (g.binary c u v) modal p d es ts ns h =
-      let q = both-plain modal (g.is_plain_unit u) (g.is_plain_unit v) p in
+      let q = or-both_parts modal (g.is_plain_unit u) (g.is_plain_unit v) p in
       formula-as (reassociated (unit_tokens u) (g.binary_token c ∷ unit_tokens v) ts (unit_nestings d u) (d ∷ unit_nestings d v) ns
       (unit-derives u modal q.0 d (formula_rest d ∷ es) (g.binary_token c ∷ (unit_tokens v ++ ts)) (d ∷ (unit_nestings d v ++ ns))
       (binary-step c modal d es (unit_tokens v ++ ts) (unit_nestings d v ++ ns) (unit-derives v modal q.1 d es ts ns h))))
@@ -151,7 +148,7 @@ mutual
   pub units-derive : (us : UnitTrees) (c : ChainKind) (modal : Bool) → IsTrue (modal || g.are_plain_units us) → (d : ℕ) (es : List Expected) (ts : List Terminal) (ns : List ℕ) → Derives modal es ts ns → Derives modal (chain_rest c d ∷ es) (units_tokens c us ++ ts) (units_nestings d us ++ ns)
   units-derive g.no_units c modal p d es ts ns h = skips refl h
   units-derive (g.more_units u us) c modal p d es ts ns h =
-      let q = both-plain modal (g.is_plain_unit u) (g.are_plain_units us) p in
+      let q = or-both_parts modal (g.is_plain_unit u) (g.are_plain_units us) p in
       chain-next c modal d es ((unit_tokens u ++ units_tokens c us) ++ ts) ((unit_nestings d u ++ units_nestings d us) ++ ns)
       (reassociated (unit_tokens u) (units_tokens c us) ts (unit_nestings d u) (units_nestings d us) ns
       (unit-derives u modal q.0 d (chain_rest c d ∷ es) (units_tokens c us ++ ts) (units_nestings d us ++ ns) (units-derive us c modal q.1 d es ts ns h)))
@@ -166,13 +163,13 @@ shifted {modal} {es} a b c d k l m n h =
     subst (λ t. Derives modal es t (((k ++ l) ++ m) ++ n)) (sym (shift a b c d)) (subst (λ q. Derives modal es (a ++ ((b ++ c) ++ d)) q) (sym (shift k l m n)) h)
 
 pub clause-move-of-atom : (x : Terminal) (r : ℕ × List Expected) → before (literals_rest 0 ∷ []) (atom_move 0 x) ≡ Some r → clause_move x ≡ Some r
-clause-move-of-atom open_round r h = absurd (none-some h)
-clause-move-of-atom tilde r h = absurd (none-some h)
+clause-move-of-atom open_round r h = absurd (none_some h)
+clause-move-of-atom tilde r h = absurd (none_some h)
 clause-move-of-atom _ r h = h
 
 pub clause_open-move-of-atom : (x : Terminal) (r : ℕ × List Expected) → before (clause_rest ∷ []) (atom_move 1 x) ≡ Some r → clause_open_move x ≡ Some r
-clause_open-move-of-atom open_round r h = absurd (none-some h)
-clause_open-move-of-atom tilde r h = absurd (none-some h)
+clause_open-move-of-atom open_round r h = absurd (none_some h)
+clause_open-move-of-atom tilde r h = absurd (none_some h)
 clause_open-move-of-atom _ r h = h
 
 unsigned-as : {modal : Bool} {d : ℕ} {es : List Expected} {ts : List Terminal} {ns : List ℕ} → Derives modal (atom d ∷ es) ts ns → Derives modal (unsigned d ∷ es) ts ns
@@ -283,7 +280,7 @@ first-note : (x : Terminal) (xs : List Terminal) {modal : Bool} {es : List Expec
 first-note x xs p (takes {new = new} {n = n} m h) = takes (first-move x xs (n, new) p m) h
 first-note x xs p (skips o h) = absurd (false≢true o)
 
-all_at-append : {A : Type 0} (d : ℕ) (xs ys : List A) → all_at d (xs ++ ys) ≡ all_at d xs ++ all_at d ys
+pub all_at-append : {A : Type 0} (d : ℕ) (xs ys : List A) → all_at d (xs ++ ys) ≡ all_at d xs ++ all_at d ys
 all_at-append d [] ys = refl
 all_at-append d (x ∷ xs) ys = ap (λ t. d ∷ t) (all_at-append d xs ys)
 

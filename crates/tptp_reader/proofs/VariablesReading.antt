@@ -1,6 +1,7 @@
 -- Reading the variables of a quantifier.
 use Rattle.std.proofs.Common.{◌≡◌, ◌==◌, ℕ, true, List, [], ◌∷◌, ◌++◌, Some, sym, ap, append_assoc, append-nil, subst}
-use Rattle.tptp_lex.proofs.Runs.{none-some, some-is}
+use Rattle.plain_laws.proofs.Options.{none_some}
+use Rattle.tptp_lex.proofs.Runs.{some-is}
 use Rattle.tptp_reader.specs.declared.terminal.Piece.{Piece}
 use Rattle.tptp_reader.specs.Terminals.{Terminal, upper, open_square, Follow}
 use Rattle.tptp_reader.specs.TerminalView.{the_terminal}
@@ -12,7 +13,7 @@ use Rattle.tptp_reader.proofs.SpanLaws.{span-more, span-join, comma-is}
 
 variable-is : (x : Terminal) (w : List ℕ) → variable_in x ≡ Some w → x ≡ upper w
 variable-is (upper v) w e = ap upper (some-is e)
-variable-is _ w e = absurd (none-some e)
+variable-is _ w e = absurd (none_some e)
 
 -- behind the quantifier, its bracket and its first variable
 pub variables-begun : {text : List ℕ} {p first here : Piece} (read : List (List ℕ)) (w : List ℕ) → read ≡ w ∷ [] → Span text p (the_terminal p.terminal ∷ open_square ∷ []) first → variable_in (the_terminal first.terminal) ≡ Some w → Follow text first.end (placed here ∷ []) here.end → VariablesUpTo text p read here

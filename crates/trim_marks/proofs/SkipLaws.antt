@@ -3,10 +3,10 @@ use Rattle.std.proofs.Common.{◌≡◌, ℕ, zero, suc, ◌+◌, ◌-◌, ◌<�
 use Rattle.std.proofs.lemmas.Bool.{cases_Bool, true≢false}
 use Rattle.std.proofs.lemmas.Grind.{get_or-set_at}
 use Rattle.std.proofs.lemmas.List.{get_or_past, set_past, get_or-set_other, set-get_or, length-set, length-append, reverse-append, append-nil}
+use Rattle.plain_laws.proofs.Numbers.{order}
 use Rattle.trim_theory.specs.Marking.{Counts, state, State, no_mark, left_out, mark, undone, with_undone, run, after_pass}
 use Rattle.trim_theory.specs.declared.pass.Pass.{Pass}
 use Rattle.trim_theory.specs.declared.pass.Mark.{Mark}
-use Rattle.trim_theory.proofs.MaskLaws.{order}
 use Rattle.trim_marks.specs.MarkingView.{IsSkipping}
 
 -- ---- lists as stacks

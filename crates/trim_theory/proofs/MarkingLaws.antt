@@ -3,6 +3,7 @@ use Rattle.std.proofs.Common.{◌≡◌, ℕ, zero, suc, ◌+◌, ◌-◌, ◌<�
 use Rattle.std.proofs.lemmas.Bool.{cases_Bool, true≢false}
 use Rattle.std.proofs.lemmas.List.{append_assoc, append-nil, length-append, reverse-append}
 use Rattle.std.proofs.lemmas.Grind.{reverse_onto}
+use Rattle.plain_laws.proofs.Numbers.{order}
 use Rattle.calculus.specs.Derivations.{ModalArg, TermArg}
 use Rattle.trim_theory.specs.Trimming.{Tree, axiom_on, step_on, fork_on, one_after, uses}
 use Rattle.trim_theory.specs.Left.{left_of, one_if, count_of}
@@ -11,7 +12,6 @@ use Rattle.trim_theory.specs.declared.pass.Way.{Way}
 use Rattle.trim_theory.specs.declared.pass.Way.TheVariants.{Ends, Adds, Forks}
 use Rattle.trim_theory.specs.declared.pass.Pass.{Pass}
 use Rattle.trim_theory.specs.declared.pass.Mark.{Mark}
-use Rattle.trim_theory.proofs.MaskLaws.{order}
 use Rattle.trim_theory.proofs.LeftLaws.{count-append, used-counted}
 
 -- ---- what marks count
@@ -190,7 +190,7 @@ step-passed b n a x y j t s r within clear h =
       )
     ]
 
-out-append : (xs ys : List Mark) → map left_out (xs ++ ys) ≡ map left_out xs ++ map left_out ys
+pub out-append : (xs ys : List Mark) → map left_out (xs ++ ys) ≡ map left_out xs ++ map left_out ys
 out-append [] ys = refl
 out-append (x ∷ xs) ys = ap (λ zs. left_out x ∷ zs) (out-append xs ys)
 

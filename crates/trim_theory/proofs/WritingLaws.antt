@@ -2,6 +2,7 @@
 use Rattle.std.proofs.Common.{◌≡◌, ℕ, zero, suc, ◌+◌, ◌-◌, ◌≤◌, List, [], ◌∷◌, ◌++◌, length, map, take, get_or, Bool, true, false, refl, sym, ◌∙◌, ap, ap₂, subst, inl, inr, arith}
 use Rattle.std.proofs.lemmas.Bool.{cases_Bool}
 use Rattle.std.proofs.lemmas.List.{append_assoc, append-nil, length-append}
+use Rattle.trim_theory.proofs.MarkingLaws.{out-append}
 use Rattle.calculus.specs.Derivations.{ModalArg, TermArg, Step, apply_to, close}
 use Rattle.trim_theory.specs.Trimming.{Tree, axiom_on, step_on, fork_on, steps_of, one_after, uses, number_in, times, trim, trimmed}
 use Rattle.trim_theory.specs.Left.{one_if}
@@ -126,10 +127,6 @@ fork-writes n a x y k ps rt rs ys ws zs vs m fs ms xs left start right =
     ∙ sym (append_assoc zs vs (write ms xs (numbers ((m ++ k ∷ []) ++ right.0)) fs))
     ∙ ap (λ z. (zs ++ vs) ++ write ms xs (numbers z) fs) (append_assoc m (k ∷ []) right.0) in
     (k ∷ right.0, put-same k (numbered (numbers m) (apply_to a x y)) (write ((ps ++ rt) ++ ms) ((ys ++ ws) ++ xs) (grown k (numbers m)) (k ∷ fs)) (zs ++ vs) (write ms xs (numbers (m ++ (k ∷ right.0))) fs) inner)
-
-out-append : (xs ys : List Mark) → map left_out (xs ++ ys) ≡ map left_out xs ++ map left_out ys
-out-append [] ys = refl
-out-append (x ∷ xs) ys = ap (λ zs. left_out x ∷ zs) (out-append xs ys)
 
 out-twice : (xs : List Mark) → map left_out (map left_out xs) ≡ map left_out xs
 out-twice [] = refl

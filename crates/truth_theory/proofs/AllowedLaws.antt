@@ -2,6 +2,7 @@
 use Rattle.std.proofs.Common.{◌≡◌, ℕ, suc, List, [], ◌∷◌, ◌++◌, length, true, false, ◌&&◌, Option, Some, None, option_and_then, IsTrue, refl, sym, ◌∙◌, ap, subst, append-nil}
 use Rattle.std.specs.Option.{option_map_or}
 use Rattle.std.proofs.lemmas.Bool.{false≢true, and_parts}
+use Rattle.plain_laws.proofs.Options.{none_some}
 use Rattle.calculus.specs.declared.kind.Shape.{Shape}
 use Rattle.calculus.specs.declared.kind.Shape.TheVariants.{Alpha, Beta, Gamma, Delta, Literal}
 use Rattle.calculus.specs.declared.kind.ModalPart.{ModalPart}
@@ -14,7 +15,6 @@ use Rattle.calculus.specs.Positions.{Node}
 use Rattle.calculus.specs.Skolem.{Reached, after_modal, after_shape, after_node, label_along, at_root, way_to, label_of, fits_way, last_node, is_delta, is_delta_position, is_admitted, are_admitted, are_admitted_values, has_function, is_allowed, are_allowed}
 use Rattle.calculus.specs.Models.{Model, IsIn, AllIn, IsModel}
 use Rattle.calculus.proofs.SpotLaws.{LeadsTo, label-LeadsTo}
-use Rattle.calculus.proofs.WalkLaws.{none_some}
 use Rattle.conversion_theory.proofs.PlaceLaws.{env_along}
 use Rattle.conversion_theory.proofs.AgendaLaws.{fits-leads, LeadsTo-values}
 use Rattle.truth_theory.proofs.Choices.{Choice, GoalFits}

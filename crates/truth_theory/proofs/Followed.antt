@@ -1,6 +1,7 @@
 -- The values taken on the way to a place lead down the formula to the world of its label and the elements of its terms.
 use Rattle.std.proofs.Common.{◌≡◌, ℕ, List, [], ◌∷◌, ◌++◌, Option, Some, None, option_and_then, refl, sym, ◌∙◌, ap, subst, inl, inr, append_assoc, append-nil}
 use Rattle.std.proofs.lemmas.Bool.{cases_Bool}
+use Rattle.plain_laws.proofs.Options.{none_some, some_injective}
 use Rattle.calculus.specs.declared.sign.Sign.{Sign}
 use Rattle.calculus.specs.declared.sign.Sign.TheVariants.{T, F}
 use Rattle.calculus.specs.declared.setting.Logic.{Logic}
@@ -20,8 +21,7 @@ use Rattle.calculus.specs.ComputedInstances.{reached_at}
 use Rattle.calculus.specs.Models.{Model, IsWorld, Reaches, IsIn, RelationFits, IsModel}
 use Rattle.calculus.proofs.Interpretations.{IsCommon}
 use Rattle.calculus.proofs.SpotLaws.{LeadsTo}
-use Rattle.calculus.proofs.WalkLaws.{none_some, some_injective}
-use Rattle.conversion_theory.proofs.PlaceLaws.{last_term, env_past, env_along, Stood}
+use Rattle.conversion_theory.proofs.PlaceLaws.{env_past, env_along, Stood, last_term-push}
 use Rattle.conversion_theory.proofs.AgendaLaws.{stood-way}
 use Rattle.truth_theory.proofs.Choices.{Choice, IsChosen, GoalFits}
 use Rattle.truth_theory.proofs.GroundWorlds.{from-append, AreMarkSteps, label-world}
@@ -63,11 +63,6 @@ delta-no_nu l T (ex a) d e = cc
 delta-no_nu l F (ex a) d e = cc
 delta-no_nu l s (box a) d e = cc
 delta-no_nu l s (dia a) d e = cc
-
-pub last-pushed : (vs : List Value) (t : GroundTerm) → last_term (vs ++ term t ∷ []) ≡ t
-last-pushed [] t = refl
-last-pushed (v ∷ []) t = refl
-last-pushed (v ∷ u ∷ vs) t = last-pushed (u ∷ vs) t
 
 module _ {W E : Type 0} (P : Problem) (S : Model W E) (c : IsModel P S) (names : Term → E) (ch : Chooser W E) (right : IsChooser P S names ch) where
   pub mark-steps : AreMarkSteps S (step_of P S ch)
@@ -158,7 +153,7 @@ module _ {W E : Type 0} (P : Problem) (S : Model W E) (c : IsModel P S) (names :
     own = term t ∷ [];
     taken = refl;
     label = refl;
-    past = λ rest i. standing (world_of P S ch label) (element_of P S ch (sym (last-pushed taken t) i) ∷ elements P S ch env) (means P S ch rest);
+    past = λ rest i. standing (world_of P S ch label) (element_of P S ch (sym (last_term-push taken t) i) ∷ elements P S ch env) (means P S ch rest);
   })
 
   past-same : (h : Shape) (x : E) (env : List GroundTerm) (p : ℕ) (d k : Reached) → d ≡ k → ((rest : List Value) → past_shape h x (standing (world_of P S ch d.label) (elements P S ch env) (means P S ch rest)) ≡ standing (world_of P S ch d.label) (elements P S ch (env_past h p d env)) (means P S ch rest)) → PastShape h x env p d k

@@ -1,6 +1,7 @@
 -- The nodes of a way: each stands at the end of the way to its own position.
 use Rattle.std.proofs.Common.{◌≡◌, ℕ, zero, suc, ◌+◌, ◌-◌, ◌<◌, List, [], ◌∷◌, ◌++◌, Some, refl, sym, ◌∙◌, ap, subst, inl, inr, arith, nat_lt, append_assoc, append-nil, add-zero, one-add, add_assoc, ltb-true}
 use Rattle.std.proofs.lemmas.Bool.{cases_Bool, cases_lt}
+use Rattle.plain_laws.proofs.Options.{none_some}
 use Rattle.calculus.specs.declared.sign.Sign.{Sign}
 use Rattle.calculus.specs.declared.sign.Sign.TheVariants.{T, F}
 use Rattle.calculus.specs.declared.kind.Shape.TheVariants.{Alpha, Literal}
@@ -10,7 +11,6 @@ use Rattle.calculus.specs.Positions.{size, Node, node, way_from, way}
 use Rattle.calculus.specs.Skolem.{way_to, last_node}
 use Rattle.calculus.proofs.PositionLaws.{size-pos}
 use Rattle.calculus.proofs.InstanceLaws.{WayDown, root-stands}
-use Rattle.calculus.proofs.WalkLaws.{none_some}
 use Rattle.conversion_theory.proofs.PlaceLaws.{down-only, down-two}
 
 -- of the nodes ns, which come behind those before

@@ -4,6 +4,7 @@
 use Rattle.std.proofs.Common.{◌≡◌, ℕ, zero, suc, ◌<◌, List, [], ◌∷◌, ◌++◌, length, Bool, true, false, not, ◌&&◌, ◌==◌, IsTrue, get_or, slice_index_or, refl, sym, ◌∙◌, ap, subst, inl, inr, arith, eqb-true, ltb-true, append_assoc}
 use Rattle.std.specs.List.{AllByRecursion}
 use Rattle.std.proofs.lemmas.Bool.{false≢true, and_parts, true_from_ne_false}
+use Rattle.conversion_theory.proofs.ExpandLaws.{values_last}
 use Rattle.calculus.specs.declared.sign.Sign.{Sign}
 use Rattle.calculus.specs.declared.sign.Sign.TheVariants.{T, F}
 use Rattle.calculus.specs.declared.setting.Logic.{Logic}
@@ -35,7 +36,7 @@ use Rattle.calculus.proofs.StructureLaws.{conditions}
 use Rattle.calculus.proofs.WalkLaws.{Hits, pair_of_closed}
 use Rattle.conversion_theory.specs.Turns.{turns_of_instance}
 use Rattle.conversion_theory.proofs.HitLaws.{Moves, plain, by_string, by_character, turn, IsSaturated, hit}
-use Rattle.conversion_theory.proofs.PlaceLaws.{last_term, Stood, root-stood, turned, Turned, only-stood, first-stood, second-stood, inside-gamma-stood, inside-delta-stood, Takes, one_term, Work, moves-position}
+use Rattle.conversion_theory.proofs.PlaceLaws.{Stood, root-stood, turned, Turned, only-stood, first-stood, second-stood, inside-gamma-stood, inside-delta-stood, Takes, one_term, Work, moves-position, last_term-push}
 use Rattle.conversion_theory.proofs.AgendaLaws.{TurnOf, Anything, stood-way, moves-values}
 use Rattle.conversion_theory.proofs.ClosedLaws.{Allowed, Admitted, all-allowed, turns-by_cases, closed-works}
 use Rattle.conversion_theory.proofs.WholeLaws.{gamma-term}
@@ -44,7 +45,7 @@ use Rattle.truth_theory.proofs.NodeTruth.{Claims, AtomClaims, PastClaims, ShapeC
 use Rattle.truth_theory.proofs.Choices.{GoalFits, PastModal, chosen_at}
 use Rattle.truth_theory.proofs.GroundWorlds.{nu-reached}
 use Rattle.truth_theory.proofs.Meanings.{Chooser, element_of, elements_of, step_of, world_of, elements}
-use Rattle.truth_theory.proofs.Followed.{IsChooser, delta-no_nu, last-pushed, mark-steps, chosen_there, there, pi-here, delta-here, followed-stood}
+use Rattle.truth_theory.proofs.Followed.{IsChooser, delta-no_nu, mark-steps, chosen_there, there, pi-here, delta-here, followed-stood}
 use Rattle.truth_theory.proofs.AllowedLaws.{term-inside}
 
 -- ---- the components past a modal part
@@ -77,9 +78,6 @@ takes-there P Q G V x w before d e s f same h m k =
     let takes : Takes G (shape_of s f) w.past x = subst (λ r. Takes G (shape_of r f) w.past x) (sym same.signs) (subst (λ g. Takes G (shape_of w.sign g) w.past x) (sym same.formulas) w.takes) in
     subst (λ c. Takes G (shape_of s f) c x) (sym (past-same P Anything G before d e w.past s f x h m moves k takes)) takes
 
-same-term : (vs : List Value) (t u : GroundTerm) → vs ++ term t ∷ [] ≡ vs ++ term u ∷ [] → t ≡ u
-same-term vs t u e = sym (last-pushed vs t) ∙ ap last_term e ∙ last-pushed vs u
-
 taken-allowed : (P : Problem) (Q : Turn → Type 0) (V : Value → Type 0) (before : List Node) (d e : Spot) (s : Sign) (f : Formula) (u : GroundTerm) → Stood P before d s f → Moves P.setting.logic s f d e → shape_of s f ≡ Gamma → Work P Q (Allowed P) V (turn e.position (e.taken ++ term u ∷ [])) → is_allowed P e.label u ≡ true
 taken-allowed P Q V before d e s f u h m y w =
     let x = turn e.position (e.taken ++ term u ∷ []) in
@@ -87,7 +85,7 @@ taken-allowed P Q V before d e s f u h m y w =
     let values : x.values ≡ d.taken ++ (own.0 ++ term u ∷ []) = ap (λ vs. vs ++ term u ∷ []) own.1 ∙ append_assoc d.taken own.0 (term u ∷ []) in
     let same = work-from P Q (Allowed P) V x w before d s f h (moves-position P.setting.logic s f d e m) (own.0 ++ term u ∷ []) values in
     let taken = gamma-term (Allowed P) (shape_of s f) e x (takes-there P Q (Allowed P) V x w before d e s f same h m (one_term u y tt)) y in
-    subst (λ z. is_allowed P e.label z ≡ true) (sym (same-term e.taken u taken.0 taken.1)) taken.2
+    subst (λ z. is_allowed P e.label z ≡ true) (sym (values_last e.taken u taken.0 taken.1)) taken.2
 
 -- ---- what holds does not fail
 

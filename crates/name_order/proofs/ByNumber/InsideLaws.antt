@@ -9,6 +9,7 @@ use Rattle.std.specs.Cmp.{ranked}
 use Rattle.std.proofs.lemmas.Bool.{cases_lt, true≢false}
 use Rattle.std.proofs.lemmas.Bool.Decides.{nat_tests}
 use Rattle.std.proofs.lemmas.List.{at_drop_all, at_drop_more}
+use Rattle.plain_laws.proofs.Booleans.{or-assoc, or_false, or-swap}
 use Rattle.calculus.specs.Ground.{marks_tree, values_tree}
 use Rattle.calculus.specs.Lists.{g_terms_tree}
 use Rattle.calculus.proofs.Members.{contains-among, among-contains}
@@ -29,26 +30,9 @@ use Rattle.tableau_core.proofs.Numbered.AheadLaws.{insert-bound}
 
 -- ---- tests of any
 
-pub or-assoc : (a b c : Bool) → (a || (b || c)) ≡ ((a || b) || c)
-or-assoc true b c = refl
-or-assoc false b c = refl
-
-pub or-false : (a : Bool) → (a || false) ≡ a
-or-false true = refl
-or-false false = refl
-
-or-true : (a : Bool) → (a || true) ≡ true
-or-true true = refl
-or-true false = refl
-
 or-twice : (a b : Bool) → (a || b) ≡ (a || (a || b))
 or-twice true b = refl
 or-twice false b = refl
-
-or-swap : (a b c : Bool) → (a || (b || c)) ≡ (b || (a || c))
-or-swap true b c = sym (or-true b)
-or-swap false true c = refl
-or-swap false false c = refl
 
 -- the middle goes behind
 or-last : (a b c : Bool) → ((a || b) || c) ≡ ((a || c) || (b || false))
@@ -64,12 +48,12 @@ has-append n (x ∷ xs) ys = ap (λ b. name_eq n x || b) (has-append n xs ys) �
 
 -- a name that is kept
 has-kept : (n x : Name) (ks : List Name) (b : Bool) → list_any (name_eq x) ks ≡ b → has n (if b then ks else ks ++ x ∷ []) ≡ (has n ks || name_eq n x)
-has-kept n x ks false e = has-append n ks (x ∷ []) ∙ ap (λ b. has n ks || b) (or-false (name_eq n x))
+has-kept n x ks false e = has-append n ks (x ∷ []) ∙ ap (λ b. has n ks || b) (or_false (name_eq n x))
 has-kept n x ks true e = by (name_eq n x) refl
   where
     by : (c : Bool) → name_eq n x ≡ c → has n ks ≡ (has n ks || c)
     by true g = let here : has n ks ≡ true = ap (λ m. has m ks) ((name_eq-tells n x).0 g) ∙ e in rw here refl
-    by false g = sym (or-false (has n ks))
+    by false g = sym (or_false (has n ks))
 
 -- a number that is put among the others
 insert-any : (f : ℕ → Bool) (ks : List ℕ) (k : ℕ) → list_any f (insert_key nat_cmp ks k) ≡ (f k || list_any f ks)
@@ -82,7 +66,7 @@ insert-any f (x ∷ ks) k = by (nat_cmp k x) refl (insert-any f ks k)
     by Greater e h = ap (λ b. f x || b) h ∙ or-swap (f x) (f k) (list_any f ks)
 
 append-any : (f : ℕ → Bool) (ks : List ℕ) (k : ℕ) → list_any f (ks ++ k ∷ []) ≡ (list_any f ks || f k)
-append-any f [] k = or-false (f k)
+append-any f [] k = or_false (f k)
 append-any f (x ∷ ks) k = ap (λ b. f x || b) (append-any f ks k) ∙ or-assoc (f x) (list_any f ks) (f k)
 
 -- ---- kinds
@@ -118,7 +102,7 @@ empty (x ∷ xs) n b m e t = absurd (true≢false (sym t ∙ e ∙ grind (arith,
 
 module _ (ls : List GroundList) where
   pub sees-none : (s : Search) → AreNormalNames ls s.names.keys → Sees ls s s []
-  sees-none s h = record { normal = h; seen = λ n. sym (or-false (sees ls s n)) }
+  sees-none s h = record { normal = h; seen = λ n. sym (or_false (sees ls s n)) }
 
   pub sees-both : (a b c : Search) (xs ys : List Name) → Sees ls a b xs → Sees ls b c ys → Sees ls a c (xs ++ ys)
   sees-both a b c xs ys h g = record { normal = g.normal; seen = λ n. g.seen n ∙ ap (λ z. z || has n ys) (h.seen n) ∙ sym (or-assoc (sees ls a n) (has n xs) (has n ys)) ∙ ap (λ z. sees ls a n || z) (sym (has-append n xs ys)) }
@@ -173,10 +157,10 @@ module _ (ls : List GroundList) where
       ∙ k n
 
   pub see-end : {X : Type 0} (names : List X → List Name) → names [] ≡ [] → (old now : Search) (xs : List X) (i : ℕ) (ns : List Name) → length xs ≤ i → AreNormalNames ls now.names.keys → ((n : Name) → (sees ls now n || has n (names (drop i xs))) ≡ (sees ls old n || has n ns)) → Sees ls old now ns
-  see-end names none old now xs i ns past h k = record { normal = h; seen = λ n. sym (or-false (sees ls now n)) ∙ ap (λ ms. sees ls now n || has n ms) (sym none ∙ sym (at_drop_all names xs i past)) ∙ k n }
+  see-end names none old now xs i ns past h k = record { normal = h; seen = λ n. sym (or_false (sees ls now n)) ∙ ap (λ ms. sees ls now n || has n ms) (sym none ∙ sym (at_drop_all names xs i past)) ∙ k n }
 
   pub seen-end : {X : Type 0} (names : List X → List Name) → names [] ≡ [] → (now : Search) (xs : List X) (i : ℕ) (all : Name → Bool) → length xs ≤ i → ((n : Name) → (sees ls now n || has n (names (drop i xs))) ≡ all n) → (n : Name) → sees ls now n ≡ all n
-  seen-end names none now xs i all past k n = sym (or-false (sees ls now n)) ∙ ap (λ ms. sees ls now n || has n ms) (sym none ∙ sym (at_drop_all names xs i past)) ∙ k n
+  seen-end names none now xs i all past k n = sym (or_false (sees ls now n)) ∙ ap (λ ms. sees ls now n || has n ms) (sym none ∙ sym (at_drop_all names xs i past)) ∙ k n
 
   -- the highest list was taken out, and has been looked at
   pub see-popped : (old popped new : Search) (k : ℕ) → popped.names.keys ≡ old.names.keys → old.ahead.keys ≡ popped.ahead.keys ++ k ∷ [] → Sees ls popped new (names_in (list_at ls k)) → (n : Name) → sees ls new n ≡ sees ls old n

@@ -8,6 +8,7 @@ use Rattle.formula_core.specs.GroundTables.{AreApart}
 use Rattle.formula_core.proofs.GroundTableLaws.{term-inj, mark-inj}
 use Rattle.formula_core.proofs.GrownLaws.{term-grown, mark-grown, term-normal-grown, mark-normal-grown}
 use Rattle.indexmap.specs.IndexSet.{insert_key}
+use Rattle.plain_laws.proofs.Booleans.{same-tests}
 use Rattle.name_order.specs.ByNumber.Inside.{the_names, AreNormalNames}
 use Rattle.name_order.specs.ByNumber.NameView.{the_name, IsNormalName}
 use Rattle.name_order.specs.Keeping.{keep}
@@ -15,7 +16,6 @@ use Rattle.name_order.specs.contracts.names.NamePartialEq.TheImpl.{eq-value}
 use Rattle.name_order.specs.declared.names.Name.{Name}
 use Rattle.name_order.specs.declared.names.Name.TheVariants as name
 use Rattle.name_order.proofs.ByNumber.SetLaws.{insert-kept, insert-good, position-same}
-use Rattle.name_order.proofs.Wanting.{same_tests}
 
 name-exact : (a b : Name) → eq-value.it a b ≡ true → a ≡ b
 name-exact a b h = search rules
@@ -31,7 +31,7 @@ module _ (ls : List GroundList) (apart : AreApart ls) where
   name-inj (name.Mark m) (name.Term u) h g e = absurd cc
 
   by-names : (a b : Name) → IsNormalName ls a → IsNormalName ls b → eq-value.it a b ≡ name_eq (the_name ls a) (the_name ls b)
-  by-names a b h g = same_tests (eq-value.it a b) (name_eq (the_name ls a) (the_name ls b)) (λ e. (name_eq-tells (the_name ls a) (the_name ls b)).1 (ap (the_name ls) (name-exact a b e))) (λ e. subst (λ c. eq-value.it a c ≡ true) (name-inj a b h g ((name_eq-tells (the_name ls a) (the_name ls b)).0 e)) (name-self a))
+  by-names a b h g = same-tests (eq-value.it a b) (name_eq (the_name ls a) (the_name ls b)) (λ e. (name_eq-tells (the_name ls a) (the_name ls b)).1 (ap (the_name ls) (name-exact a b e))) (λ e. subst (λ c. eq-value.it a c ≡ true) (name-inj a b h g ((name_eq-tells (the_name ls a) (the_name ls b)).0 e)) (name-self a))
 
   pub name-kept : (ks us : List Name) (a : Name) (n : turns.Name) → AreNormalNames ls ks → IsNormalName ls a → the_name ls a ≡ n → us ≡ insert_key eq-value.it ks a → the_names ls us ≡ keep name_eq (the_names ls ks) n
   name-kept = insert-kept eq-value.it name_eq (the_name ls) (IsNormalName ls) by-names

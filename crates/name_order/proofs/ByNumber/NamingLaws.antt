@@ -2,6 +2,7 @@
 use Rattle.std.proofs.Common.{◌≡◌, List, [], ◌∷◌, ◌++◌, map, sym, ◌∙◌, ap, subst, Vec, Global}
 use Rattle.std.specs.List.{AllByRecursion}
 use Rattle.std.proofs.lemmas.List.{map-append}
+use Rattle.plain_laws.proofs.Every.{each-push}
 use Rattle.calculus.specs.Instances as tree
 use Rattle.conversion_theory.specs.Numbering.{name_eq}
 use Rattle.conversion_theory.specs.Turns.{Name}
@@ -15,7 +16,7 @@ use Rattle.name_order.specs.Mentioned.{character_in, eigen_in, introduced_in}
 use Rattle.name_order.specs.Places.{Place}
 use Rattle.name_order.specs.declared.naming.Naming.{Naming}
 use Rattle.name_order.specs.declared.turn.Turn.{Turn}
-use Rattle.name_order.proofs.ByNumber.SetLaws.{all-push, keep_all-append}
+use Rattle.name_order.proofs.ByNumber.SetLaws.{keep_all-append}
 
 -- the names of a turn are those that it introduces, one sort after the other
 both : (ps : List Place) (old : List Name) (t : tree.Turn) → keep_all name_eq (keep_all name_eq old (eigen_in ps t)) (character_in ps t) ≡ keep_all name_eq old (introduced_in ps t)
@@ -33,7 +34,7 @@ module _ (source : List GroundList) (ps : List Place) (old mid one two new : Nam
   added-good = record {
     grown = subst (IsGrown source) (sym same) kept.good.grown;
     names = subst (λ ls. AreNormalNames ls new.names.keys) (sym new-table) (subst (AreNormalNames two.table) (sym new-names) two-normal);
-    turns = subst (λ ls. AllByRecursion (IsNormalTurn ls) new.turns.items) (sym same) (subst (AllByRecursion (IsNormalTurn mid.table)) (sym items) (all-push (IsNormalTurn mid.table) mid.turns.items turn kept.good.turns normal));
+    turns = subst (λ ls. AllByRecursion (IsNormalTurn ls) new.turns.items) (sym same) (subst (AllByRecursion (IsNormalTurn mid.table)) (sym items) (each-push (IsNormalTurn mid.table) mid.turns.items turn kept.good.turns normal));
   }
 
   pub added-names : the_names new ≡ keep_all name_eq (the_names old) (introduced_in ps t)

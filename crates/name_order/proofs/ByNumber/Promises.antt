@@ -1,11 +1,11 @@
 -- From what the parts of the program compute to what is promised of the whole.
 use Rattle.std.proofs.Common.{◌≡◌, ◌↔◌, ℕ, zero, suc, List, [], ◌∷◌, ◌++◌, map, drop, length, IsTrue, IsSome, Option, Some, Contains, slice_get, refl, sym, ◌∙◌, ap, subst}
 use Rattle.std.specs.List.{AllByRecursion, AllZip, flat_map}
+use Rattle.plain_laws.proofs.Options.{none_some, some_injective}
 use Rattle.calculus.specs.Instances.{Turn}
 use Rattle.calculus.specs.Syntax.{Problem}
 use Rattle.calculus.specs.Tableaux.{Tableau, instances, is_closed}
 use Rattle.calculus.proofs.Members.{Among, contains-among, among-contains, among-joined, joined-among}
-use Rattle.calculus.proofs.WalkLaws.{none_some, some_injective}
 use Rattle.conversion_theory.specs.Numbering.{name_eq, IsNumbering}
 use Rattle.conversion_theory.specs.Turns.{Name, IsAgenda, names_of_tableau, turns_of, turns_of_instance}
 use Rattle.conversion_theory.proofs.DepthAgenda.{numbering-by_depth}

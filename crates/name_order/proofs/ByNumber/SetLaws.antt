@@ -3,11 +3,8 @@ use Rattle.std.proofs.Common.{◌≡◌, ℕ, List, [], ◌∷◌, ◌++◌, map
 use Rattle.std.specs.List.{AllByRecursion, list_any, position_or_len}
 use Rattle.std.proofs.lemmas.List.{at_drop_more, length-map, map-append}
 use Rattle.indexmap.specs.IndexSet.{insert_key}
+use Rattle.plain_laws.proofs.Every.{each-push}
 use Rattle.name_order.specs.Keeping.{keep, keep_all}
-
-pub all-push : {A : Type 0} (P : A → Type 0) (ks : List A) (x : A) → AllByRecursion P ks → P x → AllByRecursion P (ks ++ x ∷ [])
-all-push P [] x h g = (g, tt)
-all-push P (k ∷ ks) x h g = (h.0, all-push P ks x h.1 g)
 
 module _ {A B : Type 0} (eq : A → A → Bool) (test : B → B → Bool) (view : A → B) (Good : A → Type 0) (same : (x y : A) → Good x → Good y → eq x y ≡ test (view x) (view y)) where
   any-same : (ks : List A) (x : A) → AllByRecursion Good ks → Good x → list_any (eq x) ks ≡ list_any (test (view x)) (map view ks)
@@ -29,7 +26,7 @@ module _ {A B : Type 0} (eq : A → A → Bool) (test : B → B → Bool) (view 
 
   good-by : (ks : List A) (x : A) (b : Bool) → AllByRecursion Good ks → Good x → AllByRecursion Good (if b then ks else ks ++ x ∷ [])
   good-by ks x true h g = h
-  good-by ks x false h g = all-push Good ks x h g
+  good-by ks x false h g = each-push Good ks x h g
 
   pub insert-good : (ks us : List A) (x : A) → AllByRecursion Good ks → Good x → us ≡ insert_key eq ks x → AllByRecursion Good us
   insert-good ks us x h g e = subst (AllByRecursion Good) (sym e) (good-by ks x (list_any (eq x) ks) h g)

@@ -4,7 +4,6 @@ use Rattle.std.proofs.Math.Logic.{◌⊎◌, inl, inr}
 use Rattle.std.proofs.Math.Seq.{take-suc}
 use Rattle.std.proofs.lemmas.Bool.{cases_lt}
 use Rattle.std.proofs.lemmas.List.{get_or_append_left, get_or_push, map-append}
-use Rattle.std.specs.List.{AllByRecursion}
 use Rattle.calculus.specs.Ground.{GroundTerm}
 use Rattle.calculus.specs.Lists.{g_terms_tree, terms_tree}
 use Rattle.calculus.specs.Syntax.{Term, fun, more_terms}
@@ -60,9 +59,5 @@ module _ (num : Name → ℕ) (ls : List GroundList) where
     where
       take-one : take (i + 1) ts ≡ take i ts ++ t ∷ []
       take-one = let n : i + 1 ≡ suc i = omega arith in ap (λ m. take m ts) n ∙ take-suc ts i d lt ∙ ap (λ u. take i ts ++ u ∷ []) (sym is)
-
-pub all-push : {X : Type 0} (P : X → Type 0) (xs : List X) (x : X) → AllByRecursion P xs → P x → AllByRecursion P (xs ++ x ∷ [])
-all-push P [] x h k = (k, tt)
-all-push P (y ∷ xs) x h k = (h.0, all-push P xs x h.1 k)
 
 pub ruleset numbered = (fun-numbered, constant-numbered)

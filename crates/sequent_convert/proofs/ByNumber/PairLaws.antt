@@ -2,6 +2,7 @@
 use Rattle.std.proofs.Common.{◌≡◌, ◌↔◌, ◌<◌, ℕ, zero, suc, List, [], ◌∷◌, ◌++◌, map, length, get_or, Bool, true, false, ◌&&◌, IsTrue, Option, Some, None, Ok, refl, sym, ◌∙◌, ap, subst, slice_get}
 use Rattle.std.proofs.lemmas.Bool.{false≢true, and_parts}
 use Rattle.std.specs.Option.{IfSome, MatchOption}
+use Rattle.plain_laws.proofs.Places.{get-front}
 use Rattle.calculus.specs.declared.sign.Sign.TheVariants.{T, F}
 use Rattle.calculus.specs.Calculus.{closed, close_branch, connects, entry_of, is_atom}
 use Rattle.calculus.specs.Derivations.{Entry, character_eq}
@@ -92,14 +93,6 @@ pub ruleset places = (makes-at, makes-not, pair-of)
 
 -- ---- a longer branch
 
-still : {A : Type 0} (xs ys : List A) (n : ℕ) (x : A) → slice_get xs n ≡ Some x → slice_get (xs ++ ys) n ≡ Some x
-still [] ys n x e = absurd (none-some e)
-  where
-    none-some : {A : Type 0} {a : A} → None ≡ Some a → ⊥
-    none-some z = cc
-still (z ∷ zs) ys zero x e = e
-still (z ∷ zs) ys (suc n) x e = still zs ys n x e
-
 makes-more : (items added : List Item) (j k : ℕ) → MakesAxiomAt items j k → MakesAxiomAt (items ++ added) j k
 makes-more items added j k h = by_items (slice_get items j) (slice_get items k) refl refl
   where
@@ -108,7 +101,7 @@ makes-more items added j k h = by_items (slice_get items j) (slice_get items k) 
     by_items (Some u) None a b = absurd (subst (λ o. MakesAxiom (Some u) o) b (subst (λ o. MakesAxiom o (slice_get items k)) a h))
     by_items (Some u) (Some v) a b =
         let here : MakeAxiom u v = subst (λ o. MakesAxiom (Some u) o) b (subst (λ o. MakesAxiom o (slice_get items k)) a h) in
-        subst (λ o. MakesAxiom o (slice_get (items ++ added) k)) (sym (still items added j u a)) (subst (λ o. MakesAxiom (Some u) o) (sym (still items added k v b)) here)
+        subst (λ o. MakesAxiom o (slice_get (items ++ added) k)) (sym (get-front items added j u a)) (subst (λ o. MakesAxiom (Some u) o) (sym (get-front items added k v b)) here)
 
 pub pair-more : (items added : List Item) (p : pair.Pair) → ArePair items p → ArePair (items ++ added) p
 pair-more items added p h = record { given = h.given; shown = h.shown; given_is = h.given_is; shown_is = h.shown_is; given_fits = h.given_fits; shown_fits = h.shown_fits; makes = makes-more items added h.given h.shown h.makes }

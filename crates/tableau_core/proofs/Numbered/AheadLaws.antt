@@ -32,10 +32,6 @@ swap true b c = refl
 swap false true c = refl
 swap false false c = refl
 
-pub and-true : (a : Bool) → (a && true) ≡ a
-and-true true = refl
-and-true false = refl
-
 -- a key that is put among the others is tested with them
 pub insert-all : (f : ℕ → Bool) (ks : List ℕ) (k : ℕ) → list_all f (insert_key nat_cmp ks k) ≡ (f k && list_all f ks)
 insert-all f [] k = refl

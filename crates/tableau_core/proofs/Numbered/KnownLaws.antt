@@ -4,6 +4,7 @@ use Rattle.std.specs.List.{AllByRecursion}
 use Rattle.std.proofs.Common.{ap, sym, subst, ◌∙◌, arith, get_or}
 use Rattle.std.proofs.lemmas.Bool.Decides.{nat_tests}
 use Rattle.std.proofs.lemmas.List.{get_or_default, get_or_past}
+use Rattle.plain_laws.proofs.Booleans.{or-true}
 use Rattle.calculus.specs.declared.setting.Domains.TheVariants.{Constant}
 use Rattle.calculus.specs.Ground as tree
 use Rattle.calculus.specs.Ground.{GroundMark, GroundTerms, g_fun, g_eigen, common, own, no_g_terms, more_g_terms, marks_tree, values_tree}
@@ -18,10 +19,6 @@ use Rattle.formula_core.specs.declared.ground.Value.{Value}
 use Rattle.tableau_core.specs.Numbered.Known.{admitted_in, KnowsAdmitted}
 
 -- ---- one list
-
-or-true : (a : Bool) → (a || true) ≡ true
-or-true true = refl
-or-true false = refl
 
 first-alone : (a : Bool) → ((a && true && true) || false) ≡ a
 first-alone true = refl

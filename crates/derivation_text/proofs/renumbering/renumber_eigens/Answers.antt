@@ -1,10 +1,11 @@
 use Rattle.std.proofs.Common.{get_or, [], length, ap, refl, sym, subst, ◌∙◌}
+use Rattle.plain_laws.proofs.Lists.{map-composed}
 use Rattle.calculus.specs.Versions.{NumberedDerivation, numbered, numbering, same_label, stated_eigen}
 use Rattle.derivation_text.specs.Entering.{derivation_with}
 use Rattle.derivation_text.specs.Listed.{has_home_among}
 use Rattle.derivation_text.specs.NumbersView.{the_numbered_eigen}
 use Rattle.derivation_text.specs.Renumbering.{AreNew}
-use Rattle.derivation_text.proofs.GrowingLaws.{eigens-grown, map-twice, map-whole}
+use Rattle.derivation_text.proofs.GrowingLaws.{eigens-grown, map-whole}
 use Rattle.derivation_text.proofs.Items.{all-item}
 use Rattle.derivation_text.proofs.NumberingLaws.{same_label-tells}
 use Rattle.derivation_text.proofs.RenumberingLaws.{eigen-put, new-among}
@@ -29,4 +30,4 @@ loop-name-preserved c =
 pub returns-clause-put : goal.returns-clause-put
 returns-clause-put c = λ limit e.
     let L = c.args.d.now.labels in
-    c.loop-name.invariant.put limit e ∙ ap (λ l. numbering (derivation_with limit l [] [])) (map-whole (λ x. stated_eigen L (the_numbered_eigen x)) c.args.names.now c.loop-name.name-index c.loop-name-test.false ∙ map-twice the_numbered_eigen (stated_eigen L) c.args.names.now)
+    c.loop-name.invariant.put limit e ∙ ap (λ l. numbering (derivation_with limit l [] [])) (map-whole (λ x. stated_eigen L (the_numbered_eigen x)) c.args.names.now c.loop-name.name-index c.loop-name-test.false ∙ map-composed the_numbered_eigen (stated_eigen L) c.args.names.now)

@@ -1,10 +1,11 @@
 use Rattle.std.proofs.Common.{get_or, None, [], length, ap, refl, sym, subst, ◌∙◌}
+use Rattle.plain_laws.proofs.Lists.{map-composed}
 use Rattle.calculus.specs.Versions.{NumberedDerivation, numbering, same_label, stated_home, stated_spare}
 use Rattle.derivation_text.specs.Entering.{derivation_with}
 use Rattle.derivation_text.specs.Listed.{may_have_home_among}
 use Rattle.derivation_text.specs.NumbersView.{the_numbered_spare}
 use Rattle.derivation_text.specs.Renumbering.{AreNew}
-use Rattle.derivation_text.proofs.GrowingLaws.{spares-grown, map-twice, map-whole}
+use Rattle.derivation_text.proofs.GrowingLaws.{spares-grown, map-whole}
 use Rattle.derivation_text.proofs.Items.{all-item}
 use Rattle.derivation_text.proofs.RenumberingLaws.{spare-put}
 use Rattle.derivation_text.proofs.renumbering.renumber_spares.Goals as goal
@@ -25,4 +26,4 @@ loop-name-preserved c =
 pub returns-clause-put : goal.returns-clause-put
 returns-clause-put c = λ limit es e.
     let L = c.args.d.now.labels in
-    c.loop-name.invariant.put limit es e ∙ ap (λ l. numbering (derivation_with limit es l [])) (map-whole (λ x. stated_spare L (the_numbered_spare x)) c.args.names.now c.loop-name.name-index c.loop-name-test.false ∙ map-twice the_numbered_spare (stated_spare L) c.args.names.now)
+    c.loop-name.invariant.put limit es e ∙ ap (λ l. numbering (derivation_with limit es l [])) (map-whole (λ x. stated_spare L (the_numbered_spare x)) c.args.names.now c.loop-name.name-index c.loop-name-test.false ∙ map-composed the_numbered_spare (stated_spare L) c.args.names.now)

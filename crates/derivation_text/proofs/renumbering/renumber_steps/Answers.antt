@@ -1,9 +1,10 @@
 use Rattle.std.proofs.Common.{length, ap, refl, ◌∙◌}
+use Rattle.plain_laws.proofs.Lists.{map-composed}
 use Rattle.calculus.specs.Versions.{numbering, stated_step}
 use Rattle.derivation_text.specs.Entering.{derivation_with}
 use Rattle.derivation_text.specs.Listed.{are_listed}
 use Rattle.derivation_text.specs.NumbersView.{the_numbered_step}
-use Rattle.derivation_text.proofs.GrowingLaws.{map-twice, map-whole, steps-grown}
+use Rattle.derivation_text.proofs.GrowingLaws.{map-whole, steps-grown}
 use Rattle.derivation_text.proofs.Items.{all-item}
 use Rattle.derivation_text.proofs.renumbering.renumber_steps.Goals as goal
 
@@ -22,4 +23,4 @@ pub returns : goal.returns
 returns c = λ limit es ss e.
     let L = c.args.d.now.labels in
     let T = c.args.d.now.terms in
-    c.loop-step.invariant.put limit es ss e ∙ ap (λ l. numbering (derivation_with limit es ss l)) (map-whole (λ x. stated_step L T (the_numbered_step x)) c.args.steps.now c.loop-step.step-index c.loop-step-test.false ∙ map-twice the_numbered_step (stated_step L T) c.args.steps.now)
+    c.loop-step.invariant.put limit es ss e ∙ ap (λ l. numbering (derivation_with limit es ss l)) (map-whole (λ x. stated_step L T (the_numbered_step x)) c.args.steps.now c.loop-step.step-index c.loop-step-test.false ∙ map-composed the_numbered_step (stated_step L T) c.args.steps.now)

@@ -1,5 +1,6 @@
 use Rattle.std.proofs.Common.{◌≡◌, arith, length}
-use Rattle.derivation_trim.proofs.PassLaws.{none-of, resumed-none, resumed-some}
+use Rattle.plain_laws.proofs.Lists.{no-items}
+use Rattle.derivation_trim.proofs.PassLaws.{resumed-none, resumed-some}
 use Rattle.derivation_trim.proofs.passes.resume.Goals as goal
 
 pub returns-in_ok-push-in-Some : goal.returns-in_ok-push-in-Some
@@ -15,4 +16,4 @@ returns-in-None c = λ go.
     let new_zero = c.in-None.ensures.cases.1 in
     let old_none : length c.args.forks.now.items ≡ 0 = omega (arith, old_ok, old_zero) in
     let new_none : length c.pop.new.self.items ≡ 0 = omega (arith, new_ok, new_zero) in
-    resumed-none go c.args.branch.now.items c.args.forks.now.items c.pop.new.self.items (none-of c.args.forks.now.items old_none) (none-of c.pop.new.self.items new_none)
+    resumed-none go c.args.branch.now.items c.args.forks.now.items c.pop.new.self.items (no-items c.args.forks.now.items old_none) (no-items c.pop.new.self.items new_none)

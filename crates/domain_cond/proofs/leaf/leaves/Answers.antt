@@ -1,9 +1,11 @@
 use Rattle.std.proofs.Common.{rules, ◌≡◌, ◌==◌, ◌∙◌, ◌++◌, ◌∷◌, [], ap, map, sym, true}
+use Rattle.plain_laws.proofs.Lists.{map-last}
+use Rattle.term_unify.proofs.VisitLaws.{looks-rest}
 use Rattle.store_theory.proofs.BindingLaws.{ends-there}
 use Rattle.term_store.specs.RefView.{the_place}
-use Rattle.term_unify.proofs.PairLaws.{looks-less, map-last}
+use Rattle.term_unify.proofs.PairLaws.{looks-less}
 use Rattle.domain_cond.specs.Leaves.{is_among}
-use Rattle.domain_cond.proofs.LeafLaws.{leaf-of, looking-again, looking-end, looking-leaf, looking-parts, looking-start, looking-top, open-lighter, or-cond}
+use Rattle.domain_cond.proofs.LeafLaws.{leaf-of, looking-again, looking-end, looking-leaf, looking-parts, looking-start, looking-top, or-cond}
 use Rattle.domain_cond.proofs.leaf.leaves.Goals as goal
 
 pub loop-r-init : goal.loop-r-init
@@ -19,10 +21,10 @@ pub push_parts-requires : goal.push_parts-requires
 push_parts-requires c = ends-there c.args.store.now.store c.in-Some.r.0 c.walk-end.result.0 c.walk-end.ensures.ends
 
 pub loop-r-smaller-in-Continue-branch-2 : goal.loop-r-smaller-in-Continue-branch-2
-loop-r-smaller-in-Continue-branch-2 c = open-lighter c.args.store.now.store c.in-Some.r.0 (map the_place c.pop.new.self.items) (map the_place c.loop-r.pending.items) (ap (map the_place) c.in-Some.ensures.items ∙ map-last the_place c.pop.new.self.items c.in-Some.r)
+loop-r-smaller-in-Continue-branch-2 c = looks-rest c.args.store.now.store c.in-Some.r.0 (map the_place c.pop.new.self.items) (map the_place c.loop-r.pending.items) (ap (map the_place) c.in-Some.ensures.items ∙ map-last the_place c.pop.new.self.items c.in-Some.r)
 
 pub loop-r-smaller : goal.loop-r-smaller
-loop-r-smaller c = open-lighter c.args.store.now.store c.in-Some.r.0 (map the_place c.pop.new.self.items) (map the_place c.loop-r.pending.items) (ap (map the_place) c.in-Some.ensures.items ∙ map-last the_place c.pop.new.self.items c.in-Some.r)
+loop-r-smaller c = looks-rest c.args.store.now.store c.in-Some.r.0 (map the_place c.pop.new.self.items) (map the_place c.loop-r.pending.items) (ap (map the_place) c.in-Some.ensures.items ∙ map-last the_place c.pop.new.self.items c.in-Some.r)
 
 pub loop-r-preserved-in-Continue-branch-2 : goal.loop-r-preserved-in-Continue-branch-2
 loop-r-preserved-in-Continue-branch-2 c =

@@ -1,9 +1,9 @@
 use Rattle.std.proofs.Common.{◌≡◌, ◌∙◌, ap, arith, length, map}
 use Rattle.std.proofs.lemmas.List.{length-map}
+use Rattle.plain_laws.proofs.Every.{all-at}
+use Rattle.plain_laws.proofs.Lists.{map-last}
 use Rattle.store_theory.specs.Systems.{is_gamma_cell}
-use Rattle.calculus.proofs.PlaceLists.{all-at}
 use Rattle.term_store.specs.ClauseView.{the_gamma}
-use Rattle.term_unify.proofs.PairLaws.{map-last}
 use Rattle.domain_cond.specs.StandingView.{the_standing}
 use Rattle.domain_cond.proofs.StandingLaws.{standings-next, standings-whole}
 use Rattle.domain_cond.proofs.standing.standings.Goals as goal

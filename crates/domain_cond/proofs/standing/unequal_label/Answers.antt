@@ -1,7 +1,7 @@
 use Rattle.std.proofs.Common.{◌≡◌, ◌∙◌, ap₂, arith, map, subst, sym}
 use Rattle.std.proofs.lemmas.List.{length-map}
+use Rattle.plain_laws.proofs.Every.{all-at}
 use Rattle.store_theory.specs.Systems.{is_gamma_cell}
-use Rattle.calculus.proofs.PlaceLists.{all-at}
 use Rattle.search_theory.specs.Demanding.{equation}
 use Rattle.term_store.specs.ClauseView.{the_gamma}
 use Rattle.domain_cond.specs.Conditions.{IsForced}

@@ -1,6 +1,6 @@
 use Rattle.std.proofs.Common.{arith, map}
 use Rattle.std.proofs.lemmas.List.{length-map}
-use Rattle.calculus.proofs.PlaceLists.{get-there}
+use Rattle.plain_laws.proofs.Places.{get-there}
 use Rattle.term_store.specs.ClauseView.{the_gamma}
 use Rattle.domain_cond.proofs.StandingLaws.{all_agree-next, all_agree-start, all_agree-whole}
 use Rattle.domain_cond.proofs.standing.unequal_labels.Goals as goal

@@ -1,6 +1,6 @@
 use Rattle.std.proofs.lemmas.Bool.Decides.{Decides-eqb}
 use Rattle.std.proofs.lemmas.Slice.Eq.{strip_prefix_is}
-use Rattle.finite_model.proofs.NumberLaws.{cut-off}
+use Rattle.plain_laws.proofs.Options.{cut-off}
 use Rattle.finite_model.proofs.lines.rest_after.Goals as goal
 
 pub returns : goal.returns

@@ -1,6 +1,7 @@
 use Rattle.std.proofs.Common.{◌∙◌, ap, length, drop, sym, arith}
 use Rattle.std.specs.Vec.Iter.{into_iter_items}
-use Rattle.finite_model.proofs.MakingLaws.{first-taken, nothing-left, nothing-taken}
+use Rattle.plain_laws.proofs.Lists.{no-items}
+use Rattle.finite_model.proofs.MakingLaws.{first-taken, nothing-taken}
 use Rattle.finite_model.proofs.making.take_entry.Goals as goal
 
 pub returns-in_ok-push-in-Some-clause-taken : goal.returns-in_ok-push-in-Some-clause-taken
@@ -19,11 +20,11 @@ pub returns-in_err-push-in-Some-clause-len : goal.returns-in_err-push-in-Some-cl
 returns-in_err-push-in-Some-clause-len c = omega (arith, c.requires, ap length c.in-Some.ensures.items, c.in-Some.ensures.len)
 
 pub returns-in-None-clause-taken : goal.returns-in-None-clause-taken
-returns-in-None-clause-taken c = (nothing-taken (into_iter_items c.args.entries.now) c.args.taken.now.items (nothing-left _ (sym c.requires ∙ c.in-None.ensures.cases.0))).0
+returns-in-None-clause-taken c = (nothing-taken (into_iter_items c.args.entries.now) c.args.taken.now.items (no-items _ (sym c.requires ∙ c.in-None.ensures.cases.0))).0
 
 pub returns-in-None-clause-rest : goal.returns-in-None-clause-rest
 returns-in-None-clause-rest c =
-    let e = nothing-left (into_iter_items c.args.entries.now) (sym c.requires ∙ c.in-None.ensures.cases.0) in
+    let e = no-items (into_iter_items c.args.entries.now) (sym c.requires ∙ c.in-None.ensures.cases.0) in
     sym c.in-None.ensures.items ∙ e ∙ (nothing-taken (into_iter_items c.args.entries.now) c.args.taken.now.items e).1
 
 pub returns-in-None-clause-len : goal.returns-in-None-clause-len

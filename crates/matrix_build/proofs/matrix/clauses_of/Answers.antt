@@ -1,13 +1,14 @@
 use Rattle.std.proofs.Common.{◌≡◌, ◌∙◌, ◌∷◌, ◌++◌, [], ap, append-nil, length, map, subst, sym, arith}
 use Rattle.std.specs.List.{AllByRecursion}
 use Rattle.std.specs.Vec.Iter.{into_iter_items}
+use Rattle.plain_laws.proofs.Lists.{no-items}
 use Rattle.search_theory.specs.Matrix.{MatrixClause}
 use Rattle.formula_core.specs.FormulaView.{the_formula}
 use Rattle.matrix_build.specs.MatrixView.{HasFewLiterals, the_clause}
 use Rattle.matrix_build.specs.Parts.{IsTemplateIfAny}
 use Rattle.matrix_build.specs.declared.clause.Clause.{Clause}
 use Rattle.term_store.specs.TemplateView.{the_template}
-use Rattle.matrix_build.proofs.MatrixLaws.{clause-added, clause-in_order, nothing-left}
+use Rattle.matrix_build.proofs.MatrixLaws.{clause-added, clause-in_order}
 use Rattle.matrix_build.proofs.matrix.clauses_of.Goals as goal
 
 pub loop-selection-preserved : goal.loop-selection-preserved
@@ -34,7 +35,7 @@ loop-selection-preserved c =
 pub returns-clause-templates : goal.returns-clause-templates
 returns-clause-templates c =
     let at = c.loop-selection in
-    let empty : into_iter_items at.selection-iterator ≡ [] = nothing-left _ (sym at.invariant.left ∙ c.in-None.ensures.steps.0) in
+    let empty : into_iter_items at.selection-iterator ≡ [] = no-items _ (sym at.invariant.left ∙ c.in-None.ensures.steps.0) in
     record {
       in_order = sym (append-nil _) ∙ rw empty at at.invariant.in_order;
       templates = at.invariant.templates;

@@ -1,6 +1,6 @@
 use Rattle.std.proofs.Common.{◌≡◌, ◌∙◌, Some, ap, slice_get, sym}
+use Rattle.plain_laws.proofs.Every.{all-at}
 use Rattle.store_theory.specs.Systems.{is_pair}
-use Rattle.calculus.proofs.PlaceLists.{all-at}
 use Rattle.search_theory.proofs.SolvingLaws.{system-parts}
 use Rattle.term_store.specs.SystemView.{the_pair, the_system}
 use Rattle.prefix_split.proofs.ApartLaws.{come-more}

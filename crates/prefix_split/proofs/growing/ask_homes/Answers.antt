@@ -1,7 +1,7 @@
 use Rattle.std.proofs.Common.{map}
 use Rattle.std.specs.List.{AllByRecursion}
+use Rattle.plain_laws.proofs.Every.{all-at}
 use Rattle.calculus.specs.declared.setting.Logic.TheVariants.{S4}
-use Rattle.calculus.proofs.PlaceLists.{all-at}
 use Rattle.term_store.specs.HomeView.{the_home}
 use Rattle.term_store.specs.Homes.{BeginsLabel, is_home}
 use Rattle.prefix_split.proofs.GrowingLaws.{asked-none, asked-one_more}

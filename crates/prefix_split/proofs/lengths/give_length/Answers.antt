@@ -1,7 +1,7 @@
 use Rattle.calculus.specs.declared.sort.Sort.TheVariants.{StringSort}
-use Rattle.store_theory.proofs.BindingLaws.{ends-there}
+use Rattle.store_theory.proofs.BindingLaws.{ends-there, within-sort}
 use Rattle.prefix_split.proofs.LaterLaws.{later-same}
-use Rattle.prefix_split.proofs.LengthLaws.{ends-sorted, given-there, never-given, sorted-within}
+use Rattle.prefix_split.proofs.LengthLaws.{ends-sorted, given-there, never-given}
 use Rattle.prefix_split.proofs.lengths.give_length.Goals as goal
 
 pub is_unbound-requires-clause-end : goal.is_unbound-requires-clause-end
@@ -11,7 +11,7 @@ pub is_unbound-requires-clause-sort : goal.is_unbound-requires-clause-sort
 is_unbound-requires-clause-sort c = ends-sorted c.args.store.now.store StringSort c.args.string.0 c.walk-end.result.0 c.walk-end.ensures.well.fits c.walk-end.ensures.ends c.requires
 
 pub bind_length-requires-clause-within : goal.bind_length-requires-clause-within
-bind_length-requires-clause-within c = sorted-within c.args.store.now.store StringSort c.args.string.0 c.requires
+bind_length-requires-clause-within c = within-sort c.args.store.now.store StringSort c.args.string.0 c.requires
 
 pub returns-clause-given : goal.returns-clause-given
 returns-clause-given c = given-there c.args.store.now.store c.args.string.0 c.walk-end.result.0 c.args.n c.parts.result c.walk-end.ensures.ends (c.is_unbound.ensures.built c.if-is_unbound.false) c.parts.ensures.count

@@ -1,8 +1,8 @@
 use Rattle.std.proofs.Common.{[], arith, map}
 use Rattle.std.proofs.lemmas.Bool.{false≢true}
 use Rattle.std.proofs.lemmas.List.{length-map}
+use Rattle.plain_laws.proofs.Every.{all-at}
 use Rattle.calculus.specs.Labels.{is_step_length}
-use Rattle.calculus.proofs.PlaceLists.{all-at}
 use Rattle.term_store.specs.RefView.{the_place}
 use Rattle.prefix_split.proofs.LaterLaws.{later-both}
 use Rattle.prefix_split.proofs.LengthLaws.{built-all, given-all, given-more, given-none, never-more, right-both, string-at}

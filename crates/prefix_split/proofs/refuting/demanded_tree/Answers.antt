@@ -1,12 +1,13 @@
 use Rattle.std.specs.List.{AllByRecursion, list_all}
 use Rattle.std.proofs.Common.{◌≡◌, [], IsTrue, length, subst, sym}
+use Rattle.term_store.proofs.OwnLaws.{length-grown}
 use Rattle.store_theory.specs.Bindings.{nothing_more}
 use Rattle.store_theory.proofs.PatternLaws.{Grows-built}
 use Rattle.search_theory.proofs.BuildingLaws.{adds-back}
 use Rattle.term_store.specs.Homes.{BeginsLabel, is_home}
 use Rattle.prefix_split.specs.Beginnings.{AllApart, AllBegin, AreValues, NodesFit}
 use Rattle.prefix_split.specs.Growing.{HasValues, IsTree}
-use Rattle.prefix_split.proofs.GrowingLaws.{any-steps, grows-length, none-asked, root-tree, root-values, tree-larger, values-before}
+use Rattle.prefix_split.proofs.GrowingLaws.{any-steps, none-asked, root-tree, root-values, tree-larger, values-before}
 use Rattle.prefix_split.proofs.ApartLaws.{none-apart}
 use Rattle.prefix_split.proofs.refuting.demanded_tree.Goals as goal
 
@@ -19,7 +20,7 @@ pub nodes_apart-requires-clause-nodes : goal.nodes_apart-requires-clause-nodes
 nodes_apart-requires-clause-nodes g c = subst (NodesFit (length c.args.store.now.store.cells)) (sym c.deref.ensures.value) c.in_ok-ask_equations.ensures.tree.fits
 
 pub ask_homes-requires-clause-tree : goal.ask_homes-requires-clause-tree
-ask_homes-requires-clause-tree g c = tree-larger (length c.args.store.now.store.cells) (length c.homes.new.store.store.cells) c.ask_equations.new.nodes.items c.in_ok-ask_equations.ensures.tree (grows-length c.args.store.now.store c.homes.new.store.store (Grows-built c.args.store.now.store c.homes.new.store.store c.homes.ensures.adds))
+ask_homes-requires-clause-tree g c = tree-larger (length c.args.store.now.store.cells) (length c.homes.new.store.store.cells) c.ask_equations.new.nodes.items c.in_ok-ask_equations.ensures.tree (length-grown c.args.store.now.store c.homes.new.store.store (Grows-built c.args.store.now.store c.homes.new.store.store c.homes.ensures.adds))
 
 pub ask_homes-requires-clause-fits : goal.ask_homes-requires-clause-fits
 ask_homes-requires-clause-fits g c = subst (λ hs. IsTrue (list_all (is_home c.homes.new.store.store) hs)) (sym c.items.ensures) c.in_ok-homes.ensures.labels

@@ -1,8 +1,8 @@
 use Rattle.std.proofs.Common.{◌≡◌, ◌∙◌, ◌++◌, ◌∷◌, [], List, ℕ, true, false, if◌then◌else◌, sym, ap, subst, arith}
 use Rattle.std.specs.List.{list_any}
+use Rattle.plain_laws.proofs.Lists.{no-items}
 use Rattle.problem_build.specs.Expansion.{same_name}
 use Rattle.problem_build.proofs.NameSetLaws.{known-few, one-more, one-of-few}
-use Rattle.problem_build.proofs.StepLaws.{no-items}
 use Rattle.problem_build.proofs.name_set.add_name.Goals as goal
 
 pub returns-then-is_among : goal.returns-then-is_among

@@ -1,4 +1,5 @@
 use Rattle.std.proofs.Common.{rules, ◌≡◌, ◌∙◌, ◌-◌, suc, [], ◌∷◌, map, Ok, Err, IsTrue, sym, ap, subst, arith}
+use Rattle.plain_laws.proofs.Lists.{no-items}
 use Rattle.cop_base.proofs.ReadLaws.{reads_parts, reads_then}
 use Rattle.tptp_reader.specs.ItemView.{the_item}
 use Rattle.tptp_reader.specs.Sources as tree
@@ -11,7 +12,7 @@ use Rattle.problem_build.proofs.FetchingLaws.{only-both, only-wider}
 use Rattle.problem_build.proofs.FileLaws.{failed-ends}
 use Rattle.problem_build.proofs.IncludeLaws.{file-included, left-reached, left-selected}
 use Rattle.problem_build.proofs.NameSetLaws.{one-entered}
-use Rattle.problem_build.proofs.StepLaws.{led, no-items, popped-pass, step-ends, step-goes, stopped, turns-end}
+use Rattle.problem_build.proofs.StepLaws.{led, popped-pass, step-ends, step-goes, stopped, turns-end}
 use Rattle.problem_build.proofs.WalkLaws.{goes-ends, goes-goes, include-absent, include-ends, include-goes}
 use Rattle.problem_build.proofs.walk.+walk.Goals as goal
 

@@ -1,8 +1,8 @@
 use Rattle.std.proofs.Common.{◌≡◌, ap, arith, length, map}
+use Rattle.plain_laws.proofs.Lists.{no-items}
 use Rattle.tableau_cert.specs.Building.{built_on, the_stack}
 use Rattle.tableau_cert.specs.Resolving.{the_closer}
 use Rattle.tableau_cert.proofs.BuildingLaws.{built-done, built-popped}
-use Rattle.tableau_cert.proofs.JudgingLaws.{none-of}
 use Rattle.tableau_cert.proofs.building.closings_of.Goals as goal
 
 pub loop-closer-init : goal.loop-closer-init
@@ -17,4 +17,4 @@ returns c ls = let x = c.loop-closer in
     let ok = x.rest.ok.0 in
     let zero = c.in_default.ensures.cases.0 in
     let none : length x.rest.items ≡ 0 = omega (arith, ok, zero) in
-    built-done (the_closer ls) x.rest.items (the_stack ls x.stack.items) _ (x.invariant ls) (none-of x.rest.items none)
+    built-done (the_closer ls) x.rest.items (the_stack ls x.stack.items) _ (x.invariant ls) (no-items x.rest.items none)

@@ -1,8 +1,8 @@
 use Rattle.std.proofs.Common.{◌≡◌, ◌+◌, ◌≤◌, [], ◌∷◌, ap, arith, drop, length, map, reverse, sym, take, ◌∙◌}
 use Rattle.std.proofs.lemmas.List.{length-append, length-map}
+use Rattle.plain_laws.proofs.Lists.{no-items}
 use Rattle.tableau_core.specs.Numbered.ClosingView.{the_closing}
 use Rattle.tableau_cert.proofs.BuildingLaws.{first-taken, none-taken}
-use Rattle.tableau_cert.proofs.JudgingLaws.{none-of}
 use Rattle.tableau_cert.proofs.building.first_closings.Goals as goal
 
 pub taking-init : goal.taking-init
@@ -32,9 +32,9 @@ returns-in-None c = let all = c.args.stack.now.items in let x = c.taking in let 
     let new_ok = c.pop.new.self.ok.0 in
     let new_zero = c.in-None.ensures.cases.1 in
     let new_none : length c.pop.new.self.items ≡ 0 = omega (arith, new_ok, new_zero) in
-    let old = none-of x.stack.items none in
+    let old = no-items x.stack.items none in
     let p = none-taken all x.stack.items x.list (length x.list) c.args.count inv.taken inv.rest old inv.room in
-    record { closings = p.0; rest = ap reverse (none-of c.pop.new.self.items new_none ∙ sym old) ∙ p.1 }
+    record { closings = p.0; rest = ap reverse (no-items c.pop.new.self.items new_none ∙ sym old) ∙ p.1 }
 
 pub returns : goal.returns
 returns c = let all = c.args.stack.now.items in let x = c.taking in let inv = x.invariant in

@@ -1,12 +1,12 @@
 use Rattle.std.proofs.Common.{true, ◌≡◌, ◌++◌, ◌∷◌, [], length, reverse, ap, arith, subst, sym, ◌∙◌}
 use Rattle.std.specs.List.{AllByRecursion}
 use Rattle.std.specs.Option.{option_map}
+use Rattle.plain_laws.proofs.Lists.{no-items}
 use Rattle.calculus.specs.declared.sign.Sign.TheVariants.{F}
 use Rattle.calculus.specs.ComputedInstances.{part_of}
 use Rattle.calculus.specs.Instances.{root_spot}
 use Rattle.formula_core.proofs.GrownLaws.{grown-both}
 use Rattle.tableau_cert.specs.Gathering.{AreNormalLiterals, IsNormalTask, IsTaken, gathered, gathered_instance, summary, the_supply}
-use Rattle.tableau_cert.proofs.JudgingLaws.{none-of}
 use Rattle.tableau_cert.proofs.SteppingLaws.{grown-none}
 use Rattle.tableau_cert.proofs.WalkingLaws.{begins, ends-used, literals-kept, popped-normal, size-falls, state_of, tasks-kept, walk-goes_on, walk-stopped}
 use Rattle.tableau_cert.proofs.gathering.gather.Goals as goal
@@ -61,7 +61,7 @@ returns c = let P = c.args.problem.now in let given = c.args.given.now in let x 
     let zero = c.in_default.ensures.cases.0 in
     let none : length x.tasks.items ≡ 0 = omega (arith, ok, zero) in
     record {
-      same = ends-used P c.logic_of-logic.result given x.table x.tasks.items x.literals x.allowed c.is_used_up.result x.steps x.rest (gathered_instance P (the_supply given c.args.supply)) (c.is_used_up.ensures given) x.invariant.same (none-of x.tasks.items none);
+      same = ends-used P c.logic_of-logic.result given x.table x.tasks.items x.literals x.allowed c.is_used_up.result x.steps x.rest (gathered_instance P (the_supply given c.args.supply)) (c.is_used_up.ensures given) x.invariant.same (no-items x.tasks.items none);
       normal = x.invariant.literals;
       grown = x.invariant.grown;
     }

@@ -1,11 +1,12 @@
 use Rattle.std.proofs.Common.{◌+◌, ◌&&◌, ap, arith, drop, map, refl, sym, ◌∙◌}
 use Rattle.std.proofs.lemmas.List.{drop_all}
+use Rattle.plain_laws.proofs.Booleans.{and-true}
 use Rattle.calculus.specs.Lists.{g_terms_tree}
 use Rattle.calculus.specs.Skolem.{are_allowed}
 use Rattle.formula_core.specs.GroundLists.{the_g_term}
 use Rattle.tableau_core.specs.Numbered.Ahead.{are_ahead_allowed}
 use Rattle.tableau_core.specs.Numbered.SpotView.{the_mark_at}
-use Rattle.tableau_core.proofs.Numbered.AheadLaws.{and-true, item-goes_on, items-end, items-step}
+use Rattle.tableau_core.proofs.Numbered.AheadLaws.{item-goes_on, items-end, items-step}
 use Rattle.tableau_core.proofs.Numbered.KnownLaws.{lower-term-item}
 use Rattle.tableau_core.proofs.allowance.are_items_allowed.Goals as goal
 

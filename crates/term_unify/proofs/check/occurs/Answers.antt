@@ -1,7 +1,7 @@
 use Rattle.std.proofs.Common.{◌∙◌, ap, map}
+use Rattle.plain_laws.proofs.Lists.{map-last}
 use Rattle.term_store.specs.RefView.{the_place}
 use Rattle.term_unify.proofs.InnerLaws.{inside-first, inside-found, inside-less, inside-next, inside-on, inside-past}
-use Rattle.term_unify.proofs.PairLaws.{map-last}
 use Rattle.term_unify.proofs.VisitLaws.{looks-rest}
 use Rattle.term_unify.proofs.check.occurs.Goals as goal
 

@@ -1,7 +1,7 @@
 use Rattle.std.proofs.Common.{◌∷◌, [], ◌∙◌, ap, inl, inr, map, refl}
+use Rattle.plain_laws.proofs.Lists.{map-last}
 use Rattle.store_theory.proofs.BindingLaws.{ends-there}
 use Rattle.term_store.specs.RefView.{the_place}
-use Rattle.term_unify.proofs.PairLaws.{map-last}
 use Rattle.term_unify.proofs.FlatLaws.{ends-free, ends-label}
 use Rattle.term_unify.proofs.flat.push_flat.Goals as goal
 

@@ -1,6 +1,7 @@
 use Rattle.std.proofs.Common.{◌∙◌, ap, map}
+use Rattle.plain_laws.proofs.Lists.{map-last}
 use Rattle.term_unify.specs.PairView.{the_pair}
-use Rattle.term_unify.proofs.PairLaws.{comes-apart, comes-binding, comes-ends, comes-pair, comes-rest, map-last, pairs-less, parts-less}
+use Rattle.term_unify.proofs.PairLaws.{comes-apart, comes-binding, comes-ends, comes-pair, comes-rest, pairs-less, parts-less}
 use Rattle.term_unify.proofs.VisitLaws.{parts-wait, past-waits, same-waits}
 use Rattle.term_unify.proofs.solve.next_binding.Goals as goal
 

@@ -1,5 +1,6 @@
 use Rattle.std.proofs.Common.{sym, ◌∙◌, ap, ◌++◌, ◌∷◌, [], ◌<◌, List, subst, arith, ◌≡◌, refl, false, suc}
 use Rattle.std.proofs.lemmas.Result.{IfOk-weaker}
+use Rattle.plain_laws.proofs.Options.{not-some}
 use Rattle.tptp_reader.specs.Sources as tree
 use Rattle.tptp_reader.specs.SourceView.{the_source}
 use Rattle.tptp_reader.specs.Standing.{AtomRead, BinaryRead, ChainRead, ChainUpTo, FormulaRead, IsClosed, UnitRead, prefix_in, chain_in}
@@ -9,7 +10,7 @@ use Rattle.tptp_reader.specs.Failing.{OnStacks, Behind, Fails, FailsAt, quantifi
 use Rattle.tptp_reader.specs.Following.{is_shallow}
 use Rattle.tptp_reader.specs.TerminalView.{the_terminal}
 use Rattle.tptp_reader.specs.declared.formula_reader.Prefix.TheVariants.{Bracket, Negation, Universal, Existential, Necessity, Possibility}
-use Rattle.tptp_reader.proofs.FailLaws.{not-some, fails-next, stops-at, stops-behind, passes-at, passes-on}
+use Rattle.tptp_reader.proofs.FailLaws.{fails-next, stops-at, stops-behind, passes-at, passes-on}
 use Rattle.tptp_reader.proofs.FormulaFails.{fails-prefix, prefix-deep, fails-bracketed, fails-negated, fails-universal, fails-existential, fails-necessity, fails-possibility, fails-atomic, fails-formula, fails-chain, fails-binary, fails-alone, fails-further, fails-last}
 use Rattle.tptp_reader.proofs.formula_reader.+read_tree.Goals as goal
 

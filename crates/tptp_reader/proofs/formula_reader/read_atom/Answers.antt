@@ -1,5 +1,6 @@
 use Rattle.std.proofs.Common.{sym, ◌∙◌, ◌<◌, ◌≤◌, ap, Some, arith, ◌≡◌, ◌∷◌, [], refl, false}
 use Rattle.std.proofs.lemmas.Result.{IfOk-weaker}
+use Rattle.plain_laws.proofs.Options.{not-some}
 use Rattle.tptp_reader.specs.Standing.{AtomRead, SideRead, truth_in}
 use Rattle.tptp_reader.specs.TermView.{the_source_term}
 use Rattle.tptp_reader.proofs.AtomReading.{atom-true, atom-false, atom-read}
@@ -7,7 +8,7 @@ use Rattle.tptp_reader.specs.Expecting.{term, equation, some_equation, atom}
 use Rattle.tptp_reader.specs.Failing.{OnStacks, Behind, FailsAt, side_part}
 use Rattle.tptp_reader.specs.Following.{is_shallow}
 use Rattle.tptp_reader.specs.TerminalView.{the_terminal}
-use Rattle.tptp_reader.proofs.FailLaws.{not-some, busy-open, fails-next, stops-at, passes-at}
+use Rattle.tptp_reader.proofs.FailLaws.{busy-open, fails-next, stops-at, passes-at}
 use Rattle.tptp_reader.proofs.AtomFails.{side-busy, fails-truth, truth-deep, fails-atom, fails-sided}
 use Rattle.tptp_reader.proofs.formula_reader.read_atom.Goals as goal
 

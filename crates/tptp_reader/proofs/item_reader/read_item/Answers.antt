@@ -1,8 +1,8 @@
 use Rattle.std.proofs.lemmas.Result.{IfOk-weaker}
 use Rattle.tptp_reader.specs.ItemStanding.{IncludeRead, ItemRead, kind_in}
 use Rattle.std.proofs.Common.{sym, ◌∙◌}
+use Rattle.plain_laws.proofs.Options.{not-some}
 use Rattle.tptp_reader.specs.TerminalView.{the_terminal}
-use Rattle.tptp_reader.proofs.FailLaws.{not-some}
 use Rattle.tptp_reader.proofs.ItemFails.{fails-no_item}
 use Rattle.tptp_reader.proofs.item_reader.read_item.Goals as goal
 

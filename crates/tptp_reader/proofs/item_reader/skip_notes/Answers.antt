@@ -4,7 +4,8 @@ use Rattle.std.proofs.lemmas.Result.{IfOk-weaker}
 use Rattle.tptp_reader.specs.ItemStanding.{DotRead, NotesUpTo, NotesRead, note_after}
 use Rattle.tptp_reader.proofs.NotesReading.{notes-begun, notes-on, notes-done, none-waiting}
 use Rattle.std.proofs.lemmas.Bool.{and_parts}
-use Rattle.tptp_lex.proofs.Runs.{none-some, some-is}
+use Rattle.plain_laws.proofs.Options.{none_some}
+use Rattle.tptp_lex.proofs.Runs.{some-is}
 use Rattle.tptp_reader.specs.Expecting.{form, this, a_closing, notes}
 use Rattle.tptp_reader.specs.Failing.{OnStacks, Behind, Fails, FailsAt, dot_and_items}
 use Rattle.tptp_reader.specs.TerminalView.{the_terminal}
@@ -47,4 +48,4 @@ returns-in_err-next-clause-settles c = λ modal.
 pub returns-in_err-pass_note-clause-settles : goal.returns-in_err-pass_note-clause-settles
 returns-in_err-pass_note-clause-settles c = λ modal.
     ends-at modal c.args.text.now (notes [] ∷ []) c.args.p (note_after (reverse c.notes.waiting.items) (the_terminal c.notes.here.terminal) ≡ None) c.from_residual-in_err-pass_note.result c.in_err-pass_note.field-0.0 c.from_residual-in_err-pass_note.ensures.1 (c.in_err-pass_note.ensures.none)
-    (λ h. c.notes.invariant.settles modal (fails-note modal (reverse c.notes.waiting.items) dot_and_items (not-ended c.notes.waiting.items (form (the_terminal c.notes.here.terminal) == 11) (ap (λ (z : List Bool). (length z == 0) && (form (the_terminal c.notes.here.terminal) == 11)) (sym c.as_slice.ensures.value) ∙ sym c.ends_notes.ensures ∙ c.if-ends_notes.false)) (λ v k. absurd (none-some (sym h ∙ k)))))
+    (λ h. c.notes.invariant.settles modal (fails-note modal (reverse c.notes.waiting.items) dot_and_items (not-ended c.notes.waiting.items (form (the_terminal c.notes.here.terminal) == 11) (ap (λ (z : List Bool). (length z == 0) && (form (the_terminal c.notes.here.terminal) == 11)) (sym c.as_slice.ensures.value) ∙ sym c.ends_notes.ensures ∙ c.if-ends_notes.false)) (λ v k. absurd (none_some (sym h ∙ k)))))

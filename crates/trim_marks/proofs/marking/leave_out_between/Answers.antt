@@ -1,6 +1,6 @@
 use Rattle.std.proofs.Common.{◌≡◌, ◌-◌, ◌<◌, ◌≤◌, [], List, ℕ, inl, inr, arith, get_or, length, min, subst}
+use Rattle.plain_laws.proofs.Numbers.{order}
 use Rattle.trim_theory.specs.Marking.{counts_of, state, with_undone}
-use Rattle.trim_theory.proofs.MaskLaws.{order}
 use Rattle.trim_marks.proofs.SkipLaws.{reached_end, reached_next, skipping_more, skipping_stays}
 use Rattle.trim_marks.proofs.marking.leave_out_between.Goals as goal
 

@@ -1,10 +1,10 @@
 use Rattle.std.proofs.Common.{◌<◌, ◌++◌, ◌∙◌, arith, refl, subst, sym}
+use Rattle.plain_laws.proofs.Lists.{no-items}
 use Rattle.connection_search.specs.Exploring.{IsEnd}
 use Rattle.search_tree.specs.Weights.{work_left}
 use Rattle.connection_search.proofs.StackedLaws.{moment-both, moment-itself}
 use Rattle.connection_search.proofs.TryingLaws.{explored-all, on-there, room-both}
 use Rattle.connection_search.proofs.SpentLaws.{counted}
-use Rattle.connection_search.proofs.VisitLaws.{empty-list}
 use Rattle.connection_search.proofs.limit_search.LimitSearch.explore.Goals as goal
 
 pub loop-ledger-init : goal.loop-ledger-init
@@ -89,7 +89,7 @@ returns-clause-on c = λ base later begun space e.
     let n = c.loop-ledger.points.ok.0 in
     let m = c.len.ensures in
     let z = c.loop-ledger-test.false in
-    explored-all c.args.self.now.problem.now c.args.self.now.matrix.now base c.args.self.now.limit c.loop-ledger.store.store c.loop-ledger.work.tree.steps.items c.loop-ledger.work.tree.goals.items c.loop-ledger.points.items later begun c.loop-ledger.ledger.used c.loop-ledger.left (c.loop-ledger.invariant.exploring base later begun space e) (empty-list c.loop-ledger.points.items (omega (arith, n, m, z)))
+    explored-all c.args.self.now.problem.now c.args.self.now.matrix.now base c.args.self.now.limit c.loop-ledger.store.store c.loop-ledger.work.tree.steps.items c.loop-ledger.work.tree.goals.items c.loop-ledger.points.items later begun c.loop-ledger.ledger.used c.loop-ledger.left (c.loop-ledger.invariant.exploring base later begun space e) (no-items c.loop-ledger.points.items (omega (arith, n, m, z)))
 
 pub returns-clause-counted : goal.returns-clause-counted
 returns-clause-counted c = λ base later begun space e.

@@ -1,9 +1,9 @@
 use Rattle.std.proofs.Common.{◌<◌, ◌++◌, ◌∙◌, arith, refl, subst, sym}
+use Rattle.plain_laws.proofs.Lists.{no-items}
 use Rattle.connection_search.specs.Cutting.{IsCutEnd, IsCutExploring}
 use Rattle.search_tree.specs.Weights.{work_left}
 use Rattle.connection_search.proofs.CuttingLaws.{cut-failed, passing-counted}
 use Rattle.connection_search.proofs.TryingLaws.{on-there}
-use Rattle.connection_search.proofs.VisitLaws.{empty-list}
 use Rattle.search_theory.specs.Cutting.{pending_on}
 use Rattle.connection_search.proofs.limit_search.LimitSearch.explore_cut.Goals as goal
 
@@ -53,7 +53,7 @@ pub returns-clause-on : goal.returns-clause-on
 returns-clause-on c = λ base sides later begun space e.
     let n = c.loop-point.points.ok.0 in
     let z = c.in_default.ensures.cases.0 in
-    cut-failed c.args.self.now.problem.now c.args.self.now.matrix.now base c.args.self.now.limit sides c.loop-point.store.store c.loop-point.work.tree.steps.items c.loop-point.work.tree.goals.items c.loop-point.points.items later begun c.loop-point.ledger.used c.loop-point.left (c.loop-point.invariant.exploring base sides later begun space e) (empty-list c.loop-point.points.items (omega (arith, n, z)))
+    cut-failed c.args.self.now.problem.now c.args.self.now.matrix.now base c.args.self.now.limit sides c.loop-point.store.store c.loop-point.work.tree.steps.items c.loop-point.work.tree.goals.items c.loop-point.points.items later begun c.loop-point.ledger.used c.loop-point.left (c.loop-point.invariant.exploring base sides later begun space e) (no-items c.loop-point.points.items (omega (arith, n, z)))
 
 pub returns-clause-counted : goal.returns-clause-counted
 returns-clause-counted c = λ base sides later begun space e.

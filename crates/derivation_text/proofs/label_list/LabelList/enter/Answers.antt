@@ -4,7 +4,7 @@ use Rattle.derivation_text.specs.Entering.{with_label}
 use Rattle.derivation_text.specs.Listing.{AreWithin, items_at}
 use Rattle.derivation_text.proofs.EnteredLaws.{on-err}
 use Rattle.derivation_text.proofs.NumberingLaws.{same_label-tells}
-use Rattle.derivation_text.proofs.PlaceLaws.{entered-new, entered-old, grown-items, grown-within, listed-end}
+use Rattle.derivation_text.proofs.PlaceLaws.{entered-new, entered-old, grown-within, listed-end, items-longer}
 use Rattle.derivation_text.proofs.label_list.LabelList.enter.Goals as goal
 
 pub invariant_of-self-then-known-gt0 : goal.invariant_of-self-then-known-gt0
@@ -29,7 +29,7 @@ invariant_of-self-in_err-number c =
 pub returns-in_err-number-clause-err : goal.returns-in_err-number-clause-err
 returns-in_err-number-clause-err c =
     on-err c.from_residual-in_err-number.result _
-    (ap (items_at c.add.new.self []) c.in_err-number.ensures.err ∙ grown-items c.self.inside.table c.add.new.self [] c.self.inside.places c.in_ok-place.ensures.grown c.self.invariant.0 ∙ c.self.view_is)
+    (ap (items_at c.add.new.self []) c.in_err-number.ensures.err ∙ items-longer c.self.inside.table c.add.new.self [] c.self.inside.places c.in_ok-place.ensures.grown c.self.invariant.0 ∙ c.self.view_is)
 
 pub invariant_of-self-2 : goal.invariant_of-self-2
 invariant_of-self-2 c =

@@ -1,7 +1,7 @@
 use Rattle.std.proofs.Common.{[], ◌∷◌, ◌++◌, sym, ◌∙◌, ap, subst}
 use Rattle.derivation_text.specs.Listing.{AreWithin, items_at}
 use Rattle.derivation_text.proofs.EnteredLaws.{on-err}
-use Rattle.derivation_text.proofs.PlaceLaws.{grown-items, grown-within, listed-end}
+use Rattle.derivation_text.proofs.PlaceLaws.{grown-within, listed-end, items-longer}
 use Rattle.derivation_text.proofs.label_list.LabelList.push.Goals as goal
 
 pub invariant_of-self-in_err-list : goal.invariant_of-self-in_err-list
@@ -12,7 +12,7 @@ invariant_of-self-in_err-list c =
 pub returns-in_err-list-clause-err : goal.returns-in_err-list-clause-err
 returns-in_err-list-clause-err c =
     on-err c.from_residual-in_err-list.result _
-    (ap (items_at c.add.new.self []) c.in_err-list.ensures.err ∙ grown-items c.self.inside.table c.add.new.self [] c.self.inside.places c.in_ok-place.ensures.grown c.self.invariant.0 ∙ c.self.view_is)
+    (ap (items_at c.add.new.self []) c.in_err-list.ensures.err ∙ items-longer c.self.inside.table c.add.new.self [] c.self.inside.places c.in_ok-place.ensures.grown c.self.invariant.0 ∙ c.self.view_is)
 
 pub invariant_of-self-2 : goal.invariant_of-self-2
 invariant_of-self-2 c =

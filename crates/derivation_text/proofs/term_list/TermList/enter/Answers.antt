@@ -6,7 +6,7 @@ use Rattle.calculus.specs.Syntax.{spare}
 use Rattle.derivation_text.specs.Listing.{AreWithin, items_at}
 use Rattle.derivation_text.proofs.EnteredLaws.{on-err}
 use Rattle.derivation_text.proofs.TermKeys.{key-at, keys-apart, keys-longer}
-use Rattle.derivation_text.proofs.PlaceLaws.{entered-new, entered-old, grown-items, grown-within, listed-end}
+use Rattle.derivation_text.proofs.PlaceLaws.{entered-new, entered-old, grown-within, listed-end, items-longer}
 use Rattle.derivation_text.proofs.term_list.TermList.enter.Goals as goal
 
 pub invariant_of-self-then-known-gt0 : goal.invariant_of-self-then-known-gt0
@@ -33,7 +33,7 @@ invariant_of-self-in_err-number c =
 pub returns-in_err-number-clause-err : goal.returns-in_err-number-clause-err
 returns-in_err-number-clause-err c =
     on-err c.from_residual-in_err-number.result _
-    (ap (items_at c.insert_full.new.self.keys (spare 0)) c.in_err-number.ensures.err ∙ grown-items c.self.inside.rows.keys c.insert_full.new.self.keys (spare 0) c.self.inside.places (keys-longer c.self.inside.rows.keys c.insert_full.new.self.keys c.args.row c.in_ok-place.ensures.keys) c.self.invariant.0 ∙ c.self.view_is)
+    (ap (items_at c.insert_full.new.self.keys (spare 0)) c.in_err-number.ensures.err ∙ items-longer c.self.inside.rows.keys c.insert_full.new.self.keys (spare 0) c.self.inside.places (keys-longer c.self.inside.rows.keys c.insert_full.new.self.keys c.args.row c.in_ok-place.ensures.keys) c.self.invariant.0 ∙ c.self.view_is)
 
 pub invariant_of-self-2 : goal.invariant_of-self-2
 invariant_of-self-2 c =

@@ -3,7 +3,7 @@ use Rattle.calculus.specs.Syntax.{spare}
 use Rattle.derivation_text.specs.Listing.{AreWithin, items_at}
 use Rattle.derivation_text.proofs.EnteredLaws.{on-err}
 use Rattle.derivation_text.proofs.TermKeys.{key-at, keys-apart, keys-longer}
-use Rattle.derivation_text.proofs.PlaceLaws.{grown-items, grown-within, listed-end}
+use Rattle.derivation_text.proofs.PlaceLaws.{grown-within, listed-end, items-longer}
 use Rattle.derivation_text.proofs.term_list.TermList.push.Goals as goal
 
 pub invariant_of-self-in_err-list : goal.invariant_of-self-in_err-list
@@ -14,7 +14,7 @@ invariant_of-self-in_err-list c =
 pub returns-in_err-list-clause-err : goal.returns-in_err-list-clause-err
 returns-in_err-list-clause-err c =
     on-err c.from_residual-in_err-list.result _
-    (ap (items_at c.insert_full.new.self.keys (spare 0)) c.in_err-list.ensures.err ∙ grown-items c.self.inside.rows.keys c.insert_full.new.self.keys (spare 0) c.self.inside.places (keys-longer c.self.inside.rows.keys c.insert_full.new.self.keys c.args.row c.in_ok-place.ensures.keys) c.self.invariant.0 ∙ c.self.view_is)
+    (ap (items_at c.insert_full.new.self.keys (spare 0)) c.in_err-list.ensures.err ∙ items-longer c.self.inside.rows.keys c.insert_full.new.self.keys (spare 0) c.self.inside.places (keys-longer c.self.inside.rows.keys c.insert_full.new.self.keys c.args.row c.in_ok-place.ensures.keys) c.self.invariant.0 ∙ c.self.view_is)
 
 pub invariant_of-self-2 : goal.invariant_of-self-2
 invariant_of-self-2 c =

@@ -1,8 +1,8 @@
 use Rattle.std.proofs.Common.{◌-◌, ◌++◌, ◌∷◌, ◌∙◌, [], IsTrue, Some, ap, arith, drop, length, map, nat_le, subst, sym, take}
+use Rattle.plain_laws.proofs.Every.{all-at}
 use Rattle.store_theory.specs.Bindings.{AddsOver}
 use Rattle.store_theory.specs.Patterns.{patterns_tree}
 use Rattle.store_theory.proofs.PatternLaws.{Grows-built, grown-copies}
-use Rattle.calculus.proofs.PlaceLists.{all-at}
 use Rattle.cop_base.proofs.Items.{map-take-item}
 use Rattle.term_store.specs.Built.{named_cell}
 use Rattle.term_store.specs.Fitting.{parts_fit_in}

@@ -1,17 +1,17 @@
 use Rattle.std.proofs.Common.{◌∙◌, IsTrue, ap, arith, length, map, refl, subst, sym}
 use Rattle.std.proofs.lemmas.List.{length-map}
+use Rattle.plain_laws.proofs.Every.{all-at}
 use Rattle.calculus.specs.declared.sort.Sort.TheVariants.{TermSort}
-use Rattle.calculus.proofs.PlaceLists.{all-at}
 use Rattle.store_theory.specs.Patterns.{patterns_tree}
 use Rattle.store_theory.specs.Stores.{has_sort_at}
-use Rattle.store_theory.proofs.BindingLaws.{KeepsMarks-both}
+use Rattle.store_theory.proofs.BindingLaws.{KeepsMarks-both, within-sort}
 use Rattle.term_store.specs.Fitting.{parts_fit_in}
 use Rattle.term_store.specs.PatternView.{the_pattern}
 use Rattle.term_store.specs.RefView.{the_place, the_places}
 use Rattle.term_store.specs.Signatures.{BuildsOver, allows_all}
 use Rattle.term_store.proofs.CopyLaws.{fits-at, some-sort}
 use Rattle.term_store.proofs.ListLaws.{literal-there}
-use Rattle.term_unify.proofs.MatchCells.{adds-both, adds-none, sort-within}
+use Rattle.term_unify.proofs.MatchCells.{adds-both, adds-none}
 use Rattle.term_unify.proofs.MatchedLaws.{matched-all, matched-below, matched-fits, matched-more, matched-none, matched-nowhere, matched-values, names-next, nowhere-all}
 use Rattle.term_unify.proofs.solve.Unifier.match_all.Goals as goal
 
@@ -36,7 +36,7 @@ pub match_pattern-requires-clause-cell : goal.match_pattern-requires-clause-cell
 match_pattern-requires-clause-cell c =
     let s = c.args.store.now.store in
     let rs = map the_place c.args.cells.now in
-    matched-below s c.loop-i.store.store (the_places c.args.variables) rs (map the_pattern c.items-items.result.now) c.loop-i.i c.cell_at.result.0 c.loop-i.invariant.matched (sort-within s TermSort c.cell_at.result.0 (all-at (has_sort_at s TermSort) rs c.loop-i.i c.cell_at.result.0 c.requires.sorted c.cell_at.ensures))
+    matched-below s c.loop-i.store.store (the_places c.args.variables) rs (map the_pattern c.items-items.result.now) c.loop-i.i c.cell_at.result.0 c.loop-i.invariant.matched (within-sort s TermSort c.cell_at.result.0 (all-at (has_sort_at s TermSort) rs c.loop-i.i c.cell_at.result.0 c.requires.sorted c.cell_at.ensures))
 
 pub match_pattern-requires-clause-fits : goal.match_pattern-requires-clause-fits
 match_pattern-requires-clause-fits c =
@@ -59,7 +59,7 @@ loop-i-preserved c =
     let item = c.index-items-i.result in
     let n = length-map items the_pattern in
     let at = literal-there the_pattern items (map the_pattern items) c.loop-i.i item refl (omega (arith, n)) c.index-items-i.is in
-    let within = sort-within s TermSort c.cell_at.result.0 (all-at (has_sort_at s TermSort) rs c.loop-i.i c.cell_at.result.0 c.requires.sorted c.cell_at.ensures) in
+    let within = within-sort s TermSort c.cell_at.result.0 (all-at (has_sort_at s TermSort) rs c.loop-i.i c.cell_at.result.0 c.requires.sorted c.cell_at.ensures) in
     let a = c.loop-i.invariant.room in
     let b = c.match_pattern.ensures.room in
     record {
@@ -89,7 +89,7 @@ returns-then-not-branch-clause-apart c = λ f.
     let n = length-map items the_pattern in
     let m = ap length c.items-items.ensures in
     let at = literal-there the_pattern items (map the_pattern items) c.loop-i.i item refl (omega (arith, n)) c.index-items-i.is in
-    let within = sort-within s TermSort c.cell_at.result.0 (all-at (has_sort_at s TermSort) rs c.loop-i.i c.cell_at.result.0 c.requires.sorted c.cell_at.ensures) in
+    let within = within-sort s TermSort c.cell_at.result.0 (all-at (has_sort_at s TermSort) rs c.loop-i.i c.cell_at.result.0 c.requires.sorted c.cell_at.ensures) in
     nowhere-all s (the_places c.args.variables) rs (map the_pattern items) c.args.patterns.now c.items-items.ensures (matched-nowhere s c.loop-i.store.store (the_places c.args.variables) rs (map the_pattern items) c.loop-i.i (length (map the_pattern items)) c.cell_at.result.0 (the_pattern item) c.requires.values within c.cell_at.ensures at (omega (arith, n)) c.loop-i.invariant.matched (c.in_ok-match_pattern.ensures.apart c.if-not-branch.true))
 
 pub returns-then-not-branch-clause-cells : goal.returns-then-not-branch-clause-cells

@@ -1,10 +1,10 @@
 use Rattle.std.proofs.Common.{arith}
-use Rattle.store_theory.proofs.BindingLaws.{KeepsMarks-both}
+use Rattle.store_theory.proofs.BindingLaws.{KeepsMarks-both, within-sort}
 use Rattle.store_theory.proofs.PatternLaws.{KeepsMarks-built}
 use Rattle.search_theory.proofs.BuildingLaws.{adds-longer}
 use Rattle.term_store.specs.PatternView.{the_pattern}
 use Rattle.term_store.specs.RefView.{the_places}
-use Rattle.term_unify.proofs.MatchCells.{adds-bound, adds-built, closed-adds, names-built, names-copy, sort-within, sorts-stay, value-below, values-stay, within-bound}
+use Rattle.term_unify.proofs.MatchCells.{adds-bound, adds-built, closed-adds, names-built, names-copy, sorts-stay, value-below, values-stay, within-bound}
 use Rattle.term_unify.proofs.MatchLaws.{narrows-copy, nowhere-copy}
 use Rattle.term_unify.proofs.solve.Unifier.unify_copy.Goals as goal
 
@@ -15,7 +15,7 @@ unify_below-requires-clause-left c =
     omega (arith, a, b)
 
 pub unify_below-requires-clause-right : goal.unify_below-requires-clause-right
-unify_below-requires-clause-right c = sort-within c.copy_pattern.new.self.store c.requires.fits.0 c.in_ok-copy.copy.0 (c.in_ok-copy.ensures.sorts c.requires.fits.0 c.requires.fits.1)
+unify_below-requires-clause-right c = within-sort c.copy_pattern.new.self.store c.requires.fits.0 c.in_ok-copy.copy.0 (c.in_ok-copy.ensures.sorts c.requires.fits.0 c.requires.fits.1)
 
 pub unify_below-requires-clause-closed : goal.unify_below-requires-clause-closed
 unify_below-requires-clause-closed c = closed-adds c.args.below.now c.args.store.now.store c.copy_pattern.new.self.store c.in_ok-copy.ensures.adds.built c.requires.closed

@@ -1,0 +1,2 @@
+//! Laws of lists, options, booleans and numbers, which name nothing of this project. Without code.
+#![tactic(auto)]
