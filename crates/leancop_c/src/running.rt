@@ -1,7 +1,10 @@
 //! Runs of the whole program over the caller's words and files.
 
-ghost use Rattle.std.specs.Prelude.{◌≡◌};
+ghost use Rattle.std.specs.Prelude.{◌≡◌, Some};
 ghost use Rattle.command_line.specs.CommandLine.{asked};
+ghost use Rattle.cop_base.specs.Outside.{Rose};
+ghost use Rattle.leancop_top.specs.Run.{Decides, IsAnswered};
+ghost use Rattle.leancop_top.specs.Statuses.{IsCounted, OnAnswer};
 ghost use Rattle.leancop_c.specs.GivenFiles.{files_of, words_of};
 ghost use Rattle.leancop_c.specs.Ran.{IsRun, IsRunTold, is_lost};
 
@@ -32,6 +35,24 @@ fn is_lost(status: &Status) -> bool
     }
 }
 
+// What a run says of all files that agree with what was read, it says of those that are given.
+fn run_given(
+    alloc: Global,
+    words: &Vec<String>,
+    library: &mut GivenFiles<'_>,
+    output: &mut Output,
+) -> Status
+    ensures answered { OnAnswer result (IsAnswered (Some (files_of library.old.files.now))
+        (asked words.now.items) result
+        (Some output.old.bytes.items) (Some output.new.bytes.items)) }
+    ensures decided { ¬ Rose 0 0 → OnAnswer result
+        (Decides (Some (files_of library.old.files.now)) (asked words.now.items) result) }
+    ensures counted { IsCounted library.old.misses library.new.misses 0 0
+        library.new.history.reads result }
+{
+    run(alloc, words, library, output)
+}
+
 fn run_over(alloc: Global, words: &Vec<String>, files: &[LeancopFile<'_>]) -> Run
     ensures { IsRun (files_of files.now) (asked words.now.items) result.status result.output.items }
 {
@@ -46,7 +67,7 @@ fn run_over(alloc: Global, words: &Vec<String>, files: &[LeancopFile<'_>]) -> Ru
         faults: 0,
         history: PutRecord::new(),
     };
-    let status = run(alloc, words, &mut library, &mut output);
+    let status = run_given(alloc, words, &mut library, &mut output);
     if is_lost(&status) {
         return Run {
             status: Status::NoMemory,
