@@ -143,7 +143,7 @@ def questions(s: Played) -> bool:
     last = s.ask("ask", ENDLESS, seconds=3)[-1]
     same("the time is kept", (last["kind"], time.monotonic() - began < 6), ("unknown", True))
     same("what is known is told", any("paths of at most" in k for k in last["known"]), True)
-    last = s.ask("ask", "p ↔ (" * 18 + "p" + ")" * 18, seconds=30, megabytes=64)[-1]
+    last = s.ask("ask", "p ↔ (" * 19 + "p" + ")" * 19, seconds=15, megabytes=64)[-1]  # a theorem, so there is no structure
     same("the memory is kept", (last["kind"], any("limit of memory" in k for k in last["known"])), ("unknown", True))
     cells = s.ask("table", "□p → p", logic="s4", seconds=5)
     same("a table", sorted((c["logic"], c["domains"]) for c in cells if c["kind"] == "proof"),
