@@ -23,7 +23,8 @@
 --   its own. `OrderLaws`: lists (`begins-both`, `begins-shorter`, `begins-equal`) and rules (`joined-related`, `gap-above`, `gap-below`,
 --   `nodes-same`, `marks-other`); `GrowingLaws`: nodes of labels (`reached-next`, `asked-equation`, `step-related`, `equation-named`).
 --   Nothing is promised of how much it finds; the lengths that it proposes are tested before they are handed on (`TriedLaws`).
---   `is_refuted`, which the search asks, makes no choices.
+--   `is_refuted`, which the search asks, makes as many choices as it is told: its clause is that of `choose`, whose `Refutes` meets what
+--   `settled` holds.
 -- - *What `is_refuted` leaves out.* In S4 and intuitionistic logic a string of any length that stands once in all labels, at the end of
 --   its label, asks nothing but that what is before it begins the other label. So such strings are cut off before the tree is made: one
 --   pair in place of two, and fewer nodes. That the first items of a label begin a label which is equal to it needs no reason for the cut

@@ -242,7 +242,7 @@ fn ask_equation(
     Ok(())
 }
 
-// The same for all equations.
+// The same for all equations from this number on.
 pub(crate) fn ask_equations(
     unifier: &mut Unifier,
     store: &Store,
@@ -250,6 +250,7 @@ pub(crate) fn ask_equations(
     system: &System,
     nodes: &mut Vec<Node>,
     pairs: &mut Vec<(usize, usize)>,
+    from: usize,
 ) -> Result<(), NoMemory>
     requires tree { IsTree (length store.now.store.cells) nodes.old.items }
     requires fits { IsTrue (is_system store.now.store (the_system system.now)) }
@@ -259,7 +260,7 @@ pub(crate) fn ask_equations(
         pairs.old.items pairs.new.items) }
 {
     let equations = system.equations.items();
-    for i in 0..equations.len() {
+    for i in from..equations.len() {
         let e = equation_at(equations, i);
         ask_equation(unifier, store, logic, system, nodes, pairs, e)?;
     }
@@ -333,7 +334,7 @@ fn ask_shortly(
     Ok(())
 }
 
-// The same for all equations.
+// The same for all equations from this number on.
 fn ask_all_shortly(
     unifier: &mut Unifier,
     store: &Store,
@@ -342,6 +343,7 @@ fn ask_all_shortly(
     nodes: &mut Vec<Node>,
     pairs: &mut Vec<(usize, usize)>,
     uses: &Uses,
+    from: usize,
 ) -> Result<(), NoMemory>
     requires tree { IsTree (length store.now.store.cells) nodes.old.items }
     requires fits { IsTrue (is_system store.now.store (the_system system.now)) }
@@ -352,15 +354,15 @@ fn ask_all_shortly(
         pairs.old.items pairs.new.items) }
 {
     let equations = system.equations.items();
-    for i in 0..equations.len() {
+    for i in from..equations.len() {
         let e = equation_at(equations, i);
         ask_shortly(unifier, store, logic, system, nodes, pairs, uses, e)?;
     }
     Ok(())
 }
 
-// Adds what all equations ask. Strings of any length that stand in one label alone, at its end, ask
-// nothing.
+// Adds what all equations from this number on ask. Strings of any length that stand in one of their
+// labels alone, at its end, ask nothing.
 pub(crate) fn ask_needed(
     alloc: Global,
     unifier: &mut Unifier,
@@ -369,6 +371,7 @@ pub(crate) fn ask_needed(
     system: &System,
     nodes: &mut Vec<Node>,
     pairs: &mut Vec<(usize, usize)>,
+    from: usize,
 ) -> Result<(), NoMemory>
     requires tree { IsTree (length store.now.store.cells) nodes.old.items }
     requires fits { IsTrue (is_system store.now.store (the_system system.now)) }
@@ -378,11 +381,11 @@ pub(crate) fn ask_needed(
         pairs.old.items pairs.new.items) }
 {
     if has_short_steps(logic) {
-        ask_equations(unifier, store, logic, system, nodes, pairs)?;
+        ask_equations(unifier, store, logic, system, nodes, pairs, from)?;
         return Ok(());
     }
-    let uses = Uses::of(alloc, system.equations.items())?;
-    ask_all_shortly(unifier, store, logic, system, nodes, pairs, &uses)?;
+    let uses = Uses::of(alloc, system.equations.items(), from)?;
+    ask_all_shortly(unifier, store, logic, system, nodes, pairs, &uses, from)?;
     Ok(())
 }
 

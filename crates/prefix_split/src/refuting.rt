@@ -184,7 +184,15 @@ pub(crate) fn demanded_tree<M: Demand>(
     let mut unifier = Unifier::new(alloc);
     let mut nodes = root(alloc)?;
     let mut pairs = Vec::new(alloc);
-    ask_equations(&mut unifier, store, logic, system, &mut nodes, &mut pairs)?;
+    ask_equations(
+        &mut unifier,
+        store,
+        logic,
+        system,
+        &mut nodes,
+        &mut pairs,
+        0,
+    )?;
     let apart = nodes_apart(alloc, &mut unifier, store, system, &nodes, numbers)?;
     let homes = more.homes(alloc, store, system)?;
     ask_homes(
@@ -211,13 +219,15 @@ pub(crate) fn demanded_tree<M: Demand>(
 /// Whether the order of the beginnings of labels shows that no solution of the store, whose strings
 /// are steps of the logic, makes the equations equal: then none of any length does. Otherwise
 /// nothing is known. In T, S4 and intuitionistic logic this is most of what prefixes tell before
-/// all of them are built. No choices are made between open gaps: they refute few systems more, and
-/// cost as much as all else.
+/// all of them are built. It asks only the equations from this number on, and makes at most so many
+/// choices between open gaps.
 pub fn is_refuted(
     alloc: Global,
     store: &Store,
     logic: Logic,
     system: &System,
+    from: usize,
+    choices: u32,
 ) -> Result<bool, NoMemory>
     requires fits { IsTrue (is_system store.now.store (the_system system.now)) }
     requires named { NamesItsStrings store.now.store (the_system system.now) }
@@ -236,7 +246,9 @@ pub fn is_refuted(
         system,
         &mut nodes,
         &mut pairs,
+        from,
     )?;
-    let order = settled(alloc, &mut unifier, store, &nodes, &pairs)?;
+    let mut order = settled(alloc, &mut unifier, store, &nodes, &pairs)?;
+    let _left = choose(&mut order, &mut unifier, store, &nodes, choices, Gaps::All)?;
     Ok(order.is_refuted)
 }

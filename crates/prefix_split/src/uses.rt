@@ -33,18 +33,18 @@ fn greatest_of(label: &[Ref], greatest: u32) -> u32 {
     greatest
 }
 
-fn least(equations: &[Equation]) -> u32 {
+fn least(equations: &[Equation], from: usize) -> u32 {
     let mut least = u32::MAX;
-    for i in 0..equations.len() {
+    for i in from..equations.len() {
         let e = equation_at(equations, i);
         least = least_of(e.right.items(), least_of(e.left.items(), least));
     }
     least
 }
 
-fn greatest(equations: &[Equation]) -> u32 {
+fn greatest(equations: &[Equation], from: usize) -> u32 {
     let mut greatest = 0;
-    for i in 0..equations.len() {
+    for i in from..equations.len() {
         let e = equation_at(equations, i);
         greatest = greatest_of(e.right.items(), greatest_of(e.left.items(), greatest));
     }
@@ -52,13 +52,13 @@ fn greatest(equations: &[Equation]) -> u32 {
 }
 
 impl Uses {
-    // Counts the cells of all labels.
-    pub(crate) fn of(alloc: Global, equations: &[Equation]) -> Result<Uses, NoMemory> {
-        let first = least(equations);
-        let size = greatest(equations).saturating_sub(first) as usize;
+    // Counts the cells of all labels of the equations from this number on.
+    pub(crate) fn of(alloc: Global, equations: &[Equation], from: usize) -> Result<Uses, NoMemory> {
+        let first = least(equations, from);
+        let size = greatest(equations, from).saturating_sub(first) as usize;
         let counts = vec![in alloc; 0; size.saturating_add(1)]?;
         let mut uses = Uses { first, counts };
-        for i in 0..equations.len() {
+        for i in from..equations.len() {
             let e = equation_at(equations, i);
             uses.count_label(e.left.items());
             uses.count_label(e.right.items());

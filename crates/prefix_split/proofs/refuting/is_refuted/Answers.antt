@@ -13,6 +13,9 @@ ask_needed-requires-clause-tree c =
 pub settled-requires : goal.settled-requires
 settled-requires c = subst (NodesFit (length c.args.store.now.store.cells)) (sym c.deref.ensures.value) c.in_ok-ask_needed.ensures.tree.fits
 
+pub choose-requires : goal.choose-requires
+choose-requires c = subst (NodesFit (length c.args.store.now.store.cells)) (sym c.deref-3.ensures.value) c.in_ok-ask_needed.ensures.tree.fits
+
 pub returns : goal.returns
 returns c = λ e σ t steps equal.
     let (n, is_root, parent, step) = c.in_ok-nodes.ensures in
@@ -21,4 +24,4 @@ returns c = λ e σ t steps equal.
     let empty : c.new-pairs.result.items ≡ [] = cc in
     let pairs = asked.pairs σ value t v equal (subst (AllBegin value) (sym empty) (none-asked value)) in
     let held = c.in_ok-order.ensures σ value t (subst (AreValues σ value) (sym c.deref.ensures.value) v) (subst (AllBegin value) (sym c.deref-2.ensures.value) pairs) in
-    false≢true (sym held.possible ∙ e)
+    c.in_ok-_left.ensures.refuted e σ value t (subst (AreValues σ value) (sym c.deref-3.ensures.value) v) held
