@@ -33,6 +33,13 @@
 --   variables (`apart-over`). `LookingOver` has the rest. A literal is lost where nothing above it may close it (`no-reduction`) and the
 --   path has no room (`lost-at_limit`), or the marks of the path with its own show that it has no hope (`marks-below`,
 --   `lost-without_hope`). A literal whose arguments and label match those of an atom is that atom in each solution (`same-literal`).
+-- - *Goals that failed.* A key lists the literals of a goal and of those above it, each before its arguments, with numbers for variables.
+--   `Spells f key vs ls`: where f gives the variables' values, the parts spell these values and then these literals, and no others
+--   (`KeyLaws.spells-once`). While a goal is read, what is read spells the goal with whatever spells the cells and literals that are left
+--   (`IsReading`; one law for each part, `reading-variable`, `reading-function`, ..). `KeyFails P d key` speaks of no store: whatever
+--   admitted terms the variables stand for, what the key spells is not closed within d. So a goal with such a key cannot be closed in any
+--   state (`FailedLaws.failed-cannot`), and the leftmost open goal has one where no list closes it any more (`spent-fails`), since unbound
+--   variables may have any admitted terms as values (`ChosenValues.has-values`).
 -- - *New bindings.* `IsClosedBelow n s` (of `term_unify`): cells with numbers below n name such cells alone, as those do that were there
 --   before a copy (`CopiedBelow.closed-copied`). While it holds, an unbound variable from n on occurs in none of them
 --   (`ClosedLaws.newer-apart`), so `unify_below` binds it without a look for it, and of two unbound variables the newer one; the binding of
@@ -76,3 +83,7 @@ pub mod LookingLaws
 -- the search that does not return to solved goals
 pub mod MatchingLaws
 pub mod UncopiedLaws
+-- keys of goals, and goals that failed
+pub mod ChosenValues
+pub mod KeyLaws
+pub mod FailedLaws

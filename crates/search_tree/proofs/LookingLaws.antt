@@ -34,7 +34,7 @@ pub in-back : (xs ys : List ℕ) (r : ℕ) → IsIn r ys → IsIn r (xs ++ ys)
 in-back [] ys r h = h
 in-back (x ∷ xs) ys r h = let w = in-back xs ys r h in (suc w.0, w.1)
 
-in-either : (xs ys : List ℕ) (r : ℕ) → IsIn r (xs ++ ys) → IsIn r xs ⊎ IsIn r ys
+pub in-either : (xs ys : List ℕ) (r : ℕ) → IsIn r (xs ++ ys) → IsIn r xs ⊎ IsIn r ys
 in-either [] ys r h = inr h
 in-either (x ∷ xs) ys r (zero, e) = inl (zero, e)
 in-either (x ∷ xs) ys r (suc i, e) = elim (in-either xs ys r (i, e)) [

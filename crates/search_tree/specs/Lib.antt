@@ -20,3 +20,6 @@ pub mod Pruning
 pub mod Ahead
 pub mod Uncopied
 pub mod MetAtom
+-- keys of goals, and goals that failed
+pub mod GoalKeys
+pub mod Failing

@@ -3,6 +3,8 @@
 #![tactic(auto)]
 
 mod atoms;
+mod failed;
+mod goal_key;
 mod heads;
 mod label_tests;
 mod literal_marks;
@@ -16,6 +18,7 @@ mod tree;
 mod uncopied;
 
 pub use atoms::{meets, other, reference_at};
+pub use failed::Failed;
 pub use heads::{has_clash, have_clash};
 pub use label_tests::Tests;
 pub use literal_marks::{has_no_hope_by, is_hopeless_place, literal_at, marks_of};
