@@ -57,7 +57,8 @@
 --   loops up a path: what each goal that was passed has.
 -- - *Dropping by labels.* Where the limit is known to be left, `visit` drops a list whose equations and strings alone are refuted by the
 --   order of label beginnings (`PruneLaws`: a part of the tree's system is a system that names its strings, `tree-pruned`, `visit-pruned`);
---   no step is spent for it. `take_up` is the visit without this test. Which lists are tested (`has_room`, `Tests`) promises nothing.
+--   no step is spent for it. `take_up` is the visit without this test. Which lists are tested, and by how many choices (`is_extended`,
+--   `has_room`, `Tests`), promises nothing.
 -- - *Read off and closed.* Beside its names, what is read off is told by each solution σ with own spares: literals and instances are those
 --   that the matrix has by σ (`instance-read`, `connected-read`), and on the stack stand the trees of `closings_by` (`closings-reduce`,
 --   `closings-extend`, `whole-built`). They name normal numbers, so they stay as the table grows. `FoundLaws` joins this with

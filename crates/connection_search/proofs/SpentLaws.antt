@@ -6,11 +6,13 @@ use Rattle.calculus.specs.Counting.{AtLeastMany, MoreThan}
 use Rattle.calculus.specs.Space.{IsEarly, member_cmp}
 use Rattle.store_theory.specs.Stores.{Store}
 use Rattle.calculus.specs.Syntax.{Problem}
+use Rattle.search_theory.specs.Jumps.{IsSolvedBehind}
 use Rattle.search_theory.specs.Matrix.{MatrixClause}
 use Rattle.search_theory.specs.States.{CellGoal}
 use Rattle.search_theory.proofs.EarlyLaws.{spent-many, steps-ended, visited-many}
-use Rattle.connection_search.specs.Exploring.{IsCounted, IsSearched, IsSpace, IsVisiting}
+use Rattle.connection_search.specs.Exploring.{IsCounted, IsSearched, IsSpace, IsSpentAt, IsVisiting}
 use Rattle.search_tree.specs.Running.{StandsFor}
+use Rattle.search_tree.specs.Seeing.{no_goal}
 use Rattle.search_tree.specs.Trees.{AreOpen, tree_system}
 use Rattle.search_tree.specs.declared.point.Point.{Point}
 use Rattle.search_tree.specs.declared.tree.Goal.{Goal}
@@ -53,3 +55,9 @@ visit-ended P m base d s steps goals first points later begun used after left sp
     let e = v.searched.count in
     let l : after - begun ≤ length v.searched.spent = omega (arith, a, e, k) in
     more-than member_cmp (IsEarly P d) (after - begun) (length v.searched.spent) l (steps-ended P d v.searched.spent v.choices (v.pending ++ later) v.searched.search.explores space.from_one (stands-live P m base d v.choices s steps goals first v.stands))
+
+-- ---- a point at which all choices were tried
+
+-- its goal is closed by no list, where it was not solved since the point was made
+pub spent-unsolved : (P : Problem) (m : List MatrixClause) (base d : ℕ) (s : Store) (steps : List Step) (goals : List Goal) (p : Point) (points : List Point) (later : List (List Choice)) (begun used : ℕ) (left : Bool) → (h : IsSpentAt P m base d s steps goals p points later begun used left) → p.goals ≤ p.lowest → p.goals ≤ no_goal → IsSolvedBehind P d h.choices []
+spent-unsolved P m base d s steps goals p points later begun used left h l small = h.solved.0 (omega (arith, l, small))

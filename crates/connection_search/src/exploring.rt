@@ -7,13 +7,14 @@ ghost use Rattle.term_store.specs.Room.{KeepsRoom};
 ghost use Rattle.connection_search.specs.Exploring.{AreAbove, ArePushed, IfOn, KeepsMoment};
 ghost use Rattle.connection_search.specs.Moments.{CountedAt, EndedAt, ExploringAt, Holds, Leads};
 ghost use Rattle.connection_search.specs.Moments.{SearchedAt, VisitingAt, the_moment};
+ghost use Rattle.search_tree.specs.Failing.{AreFailed};
 ghost use Rattle.search_tree.specs.Weights.{work_left};
 
 use crate::limit_search::LimitSearch;
 use crate::seeing::{lower, seen};
 use crate::visit::Visit;
 use cop_base::{Ledger, NoMemory};
-use search_tree::{Point, SearchState};
+use search_tree::{Failed, Point, SearchState};
 use term_store::Store;
 
 impl LimitSearch<'_> {
@@ -76,11 +77,13 @@ impl LimitSearch<'_> {
         ledger: &mut Ledger,
         store: &mut Store,
         work: &mut SearchState,
+        failed: &mut Failed,
         points: &mut Vec<Point>,
         left: &mut bool,
     ) -> Result<Visit, NoMemory>
-        requires { Holds self.now
+        requires visiting { Holds self.now
             (VisitingAt (the_moment store.old work.old points.old.items ledger.old left.old)) }
+        requires failed { AreFailed self.now.problem.now self.now.limit failed.old }
         ensures on { IfOk result (λ v. IfOn v (Leads self.now
             (VisitingAt (the_moment store.old work.old points.old.items ledger.old left.old))
             (ExploringAt (the_moment store.new work.new points.new.items ledger.new left.new)))) }
@@ -91,6 +94,8 @@ impl LimitSearch<'_> {
             (VisitingAt (the_moment store.old work.old points.old.items ledger.old left.old))
             (CountedAt (the_moment store.new work.new points.new.items ledger.new left.new)) }
         ensures budget { ledger.new.budget ≡ ledger.old.budget }
+        ensures failed { OnOk result
+            (AreFailed self.now.problem.now self.now.limit failed.new) }
         ensures points { IfOk result (λ v. IfOn v
             (ArePushed points.old.items points.new.items ledger.old.used ledger.new.used)) }
         ensures above { OnOk result ((k : TrailMark) → IsGood k store.old.store
@@ -99,6 +104,10 @@ impl LimitSearch<'_> {
         ensures room { KeepsRoom store.old store.new }
     {
         if self.is_stuck_early(store, work, *left) {
+            return Ok(Visit::On);
+        }
+        let before = self.has_failed_early(store, work, failed, *left)?;
+        if before {
             return Ok(Visit::On);
         }
         if self.is_refuted_early(store, work, *left)? {
@@ -116,11 +125,13 @@ impl LimitSearch<'_> {
         ledger: &mut Ledger,
         store: &mut Store,
         work: &mut SearchState,
+        failed: &mut Failed,
         points: &mut Vec<Point>,
         left: &mut bool,
     ) -> Result<Visit, NoMemory>
-        requires { Holds self.now
+        requires visiting { Holds self.now
             (VisitingAt (the_moment store.old work.old points.old.items ledger.old left.old)) }
+        requires failed { AreFailed self.now.problem.now self.now.limit failed.old }
         ensures on { IfOk result (λ v. IfOn v (Leads self.now
             (VisitingAt (the_moment store.old work.old points.old.items ledger.old left.old))
             (ExploringAt (the_moment store.new work.new points.new.items ledger.new left.new)))) }
@@ -131,6 +142,8 @@ impl LimitSearch<'_> {
             (VisitingAt (the_moment store.old work.old points.old.items ledger.old left.old))
             (CountedAt (the_moment store.new work.new points.new.items ledger.new left.new)) }
         ensures budget { ledger.new.budget ≡ ledger.old.budget }
+        ensures failed { OnOk result
+            (AreFailed self.now.problem.now self.now.limit failed.new) }
         ensures points { IfOk result (λ v. IfOn v
             (ArePushed points.old.items points.new.items ledger.old.used ledger.new.used)) }
         ensures above { OnOk result ((k : TrailMark) → IsGood k store.old.store
@@ -142,7 +155,7 @@ impl LimitSearch<'_> {
             lower(points, repeated);
             return Ok(Visit::On);
         }
-        let visit = self.visit_regular(ledger, store, work, points, left)?;
+        let visit = self.visit_regular(ledger, store, work, failed, points, left)?;
         Ok(visit)
     }
 
@@ -154,12 +167,14 @@ impl LimitSearch<'_> {
         ledger: &mut Ledger,
         store: &mut Store,
         work: &mut SearchState,
+        failed: &mut Failed,
         points: &mut Vec<Point>,
         left: &mut bool,
     ) -> Result<Visit, NoMemory>
         requires some { 0 < length points.old.items }
         requires exploring { Holds self.now
             (ExploringAt (the_moment store.old work.old points.old.items ledger.old left.old)) }
+        requires failed { AreFailed self.now.problem.now self.now.limit failed.old }
         ensures on { IfOk result (λ v. IfOn v (Leads self.now
             (ExploringAt (the_moment store.old work.old points.old.items ledger.old left.old))
             (ExploringAt (the_moment store.new work.new points.new.items ledger.new left.new)))) }
@@ -170,6 +185,8 @@ impl LimitSearch<'_> {
             (ExploringAt (the_moment store.old work.old points.old.items ledger.old left.old))
             (CountedAt (the_moment store.new work.new points.new.items ledger.new left.new)) }
         ensures budget { ledger.new.budget ≡ ledger.old.budget }
+        ensures failed { OnOk result
+            (AreFailed self.now.problem.now self.now.limit failed.new) }
         ensures falls { IfOk result (λ v. IfOn v (
             work_left ledger.old.budget ledger.new.used points.new.items
             < work_left ledger.old.budget ledger.old.used points.old.items)) }
@@ -192,6 +209,7 @@ impl LimitSearch<'_> {
             None => {
                 let spent = *point;
                 points.truncate(below);
+                self.keep_failed(store, work, failed, spent, *left)?;
                 self.jump(store, work, points, spent, *left)?;
                 return Ok(Visit::On);
             }
@@ -204,7 +222,7 @@ impl LimitSearch<'_> {
         if !made {
             return Ok(Visit::On);
         }
-        let visit = self.visit(ledger, store, work, points, left)?;
+        let visit = self.visit(ledger, store, work, failed, points, left)?;
         Ok(visit)
     }
 
@@ -214,11 +232,13 @@ impl LimitSearch<'_> {
         ledger: &mut Ledger,
         store: &mut Store,
         work: &mut SearchState,
+        failed: &mut Failed,
         points: &mut Vec<Point>,
         left: &mut bool,
     ) -> Result<Visit, NoMemory>
-        requires { Holds self.now
+        requires exploring { Holds self.now
             (ExploringAt (the_moment store.old work.old points.old.items ledger.old left.old)) }
+        requires failed { AreFailed self.now.problem.now self.now.limit failed.old }
         ensures on { IfOk result (λ v. IfOn v (Leads self.now
             (ExploringAt (the_moment store.old work.old points.old.items ledger.old left.old))
             (SearchedAt (the_moment store.new work.new points.new.items ledger.new left.new)))) }
@@ -229,12 +249,14 @@ impl LimitSearch<'_> {
             (ExploringAt (the_moment store.old work.old points.old.items ledger.old left.old))
             (CountedAt (the_moment store.new work.new points.new.items ledger.new left.new)) }
         ensures budget { ledger.new.budget ≡ ledger.old.budget }
+        ensures failed { OnOk result
+            (AreFailed self.now.problem.now self.now.limit failed.new) }
         ensures moment { (k : TrailMark) → IsGood k store.old.store → AreAbove k points.old.items
             → KeepsMoment k store.old.store store.new.store }
         ensures room { KeepsRoom store.old store.new }
     {
         while points.len() > 0 {
-            match self.try_next(ledger, store, work, points, left)? {
+            match self.try_next(ledger, store, work, failed, points, left)? {
                 Visit::On => {}
                 Visit::Closed(tableau) => return Ok(Visit::Closed(tableau)),
                 Visit::Steps => return Ok(Visit::Steps),

@@ -9,7 +9,8 @@ pub struct Pruning {
     pub ahead: bool,
     /// The labels of the connections made so far cannot be equal.
     pub labels: bool,
-    /// A goal that none of its choices closes is as it was before choices that came after it.
+    /// A goal that none of its choices closes is as it was before choices that came after it, or
+    /// comes again below the same goals.
     pub jumps: bool,
 }
 

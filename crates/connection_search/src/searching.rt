@@ -12,6 +12,7 @@ ghost use Rattle.connection_search.specs.Moments.{ComesNext, CountedAt, EndedAt,
 ghost use Rattle.connection_search.specs.Moments.{Leads, SearchedAt, VisitingAt, start_by};
 ghost use Rattle.connection_search.specs.Moments.{the_moment};
 ghost use Rattle.connection_search.specs.Outcomes.{IfSteps, IsOutcome};
+ghost use Rattle.search_tree.specs.Failing.{AreFailed};
 
 use crate::limit_search::LimitSearch;
 use crate::pruning::Pruning;
@@ -19,7 +20,7 @@ use crate::visit::Visit;
 use cop_base::{ClauseId, Ledger, NoMemory, PathLimit};
 use logic_rules::Problem;
 use matrix_build::Matrix;
-use search_tree::SearchState;
+use search_tree::{Failed, SearchState};
 use std::alloc::Global;
 use tableau_core::{SizedProblem, Tableau};
 use term_store::Store;
@@ -52,10 +53,12 @@ impl LimitSearch<'_> {
         ledger: &mut Ledger,
         store: &mut Store,
         work: &mut SearchState,
+        failed: &mut Failed,
         left: &mut bool,
     ) -> Result<Visit, NoMemory>
-        requires { Holds self.now
+        requires visiting { Holds self.now
             (VisitingAt (the_moment store.old work.old [] ledger.old left.old)) }
+        requires failed { AreFailed self.now.problem.now self.now.limit failed.old }
         ensures on { IfOk result (λ v. IfOn v (Leads self.now
             (VisitingAt (the_moment store.old work.old [] ledger.old left.old))
             (SearchedAt (the_moment store.new work.new [] ledger.new left.new)))) }
@@ -66,13 +69,15 @@ impl LimitSearch<'_> {
             (VisitingAt (the_moment store.old work.old [] ledger.old left.old))
             (CountedAt (the_moment store.new work.new [] ledger.new left.new)) }
         ensures budget { ledger.new.budget ≡ ledger.old.budget }
+        ensures failed { OnOk result
+            (AreFailed self.now.problem.now self.now.limit failed.new) }
         ensures marks { KeepsMarks store.old.store store.new.store }
         ensures room { KeepsRoom store.old store.new }
     {
         let mut points = Vec::new(work.alloc);
-        match self.visit(ledger, store, work, &mut points, left)? {
+        match self.visit(ledger, store, work, failed, &mut points, left)? {
             Visit::On => {
-                let found = self.explore(ledger, store, work, &mut points, left)?;
+                let found = self.explore(ledger, store, work, failed, &mut points, left)?;
                 Ok(found)
             }
             Visit::Closed(tableau) => Ok(Visit::Closed(tableau)),
@@ -86,6 +91,7 @@ impl LimitSearch<'_> {
         ledger: &mut Ledger,
         store: &mut Store,
         work: &mut SearchState,
+        failed: &mut Failed,
         clause: ClauseId,
         left: &mut bool,
     ) -> Result<Visit, NoMemory>
@@ -94,6 +100,7 @@ impl LimitSearch<'_> {
         requires clause { clause.0 < length self.now.matrix.now }
         requires steps { work.old.tree.steps.items ≡ [] }
         requires goals { work.old.tree.goals.items ≡ [] }
+        requires failed { AreFailed self.now.problem.now self.now.limit failed.old }
         ensures on { IfOk result (λ v. IfOn v ((later : List (List Choice)) (begun : ℕ)
             → IsSpaceOf self.now
             → ComesNext self.now ledger.old left.old (start_by self.now clause.0 ∷ later) begun
@@ -106,6 +113,8 @@ impl LimitSearch<'_> {
             → ComesNext self.now ledger.old left.old (start_by self.now clause.0 ∷ later) begun
             → IsCounted self.now.problem.now self.now.limit begun ledger.new.used }
         ensures budget { ledger.new.budget ≡ ledger.old.budget }
+        ensures failed { OnOk result
+            (AreFailed self.now.problem.now self.now.limit failed.new) }
         ensures store { OnOk result (store.new.store ≡ store.old.store) }
         ensures steps { OnOk result (work.new.tree.steps.items ≡ []) }
         ensures goals { OnOk result (work.new.tree.goals.items ≡ []) }
@@ -118,7 +127,7 @@ impl LimitSearch<'_> {
         }
         let mark = store.mark();
         work.start(store, self.matrix, clause)?;
-        let found = self.search_from(ledger, store, work, left)?;
+        let found = self.search_from(ledger, store, work, failed, left)?;
         store.undo(mark);
         work.tree.cut(store, 0, 0, None);
         Ok(found)
@@ -144,10 +153,11 @@ impl LimitSearch<'_> {
         ensures room { KeepsRoom store.old store.new }
     {
         let mut work = SearchState::new(alloc);
+        let mut failed = Failed::new(alloc);
         let mut left = false;
         for number in 0..self.matrix.len() {
             let clause = clause_id(number)?;
-            match self.start_with(ledger, store, &mut work, clause, &mut left)? {
+            match self.start_with(ledger, store, &mut work, &mut failed, clause, &mut left)? {
                 Visit::On => {}
                 Visit::Closed(tableau) => return Ok(Outcome::Closed(tableau)),
                 Visit::Steps => return Ok(Outcome::Steps),

@@ -10,6 +10,7 @@ use Rattle.connection_search.proofs.limit_search.LimitSearch.explore.Goals as go
 pub loop-ledger-init : goal.loop-ledger-init
 loop-ledger-init c = record {
   exploring = λ base later begun space e. e;
+  failed = c.requires.failed;
   budget = refl;
   moment = λ k g a. moment-itself k c.args.store.now.store g;
   above = λ k g a. a;
@@ -17,7 +18,7 @@ loop-ledger-init c = record {
 }
 
 pub try_next-requires-clause-exploring : goal.try_next-requires-clause-exploring
-try_next-requires-clause-exploring c = let (base, later, begun, space, e) = c.requires in (base, later, begun, space, (c.loop-ledger.invariant.exploring base later begun space e))
+try_next-requires-clause-exploring c = let (base, later, begun, space, e) = c.requires.exploring in (base, later, begun, space, (c.loop-ledger.invariant.exploring base later begun space e))
 
 pub returns-in_err-try_next-clause-counted : goal.returns-in_err-try_next-clause-counted
 returns-in_err-try_next-clause-counted c = λ base later begun space e. c.try_next.ensures.counted base later begun space (c.loop-ledger.invariant.exploring base later begun space e)
@@ -76,6 +77,7 @@ loop-ledger-smaller c =
 pub loop-ledger-preserved : goal.loop-ledger-preserved
 loop-ledger-preserved c = record {
   exploring = λ base later begun space e. on-there _ _ c.in-On.is c.in_ok-try_next.ensures.on base later begun space (c.loop-ledger.invariant.exploring base later begun space e);
+  failed = c.in_ok-try_next.ensures.failed;
   budget = c.try_next.ensures.budget ∙ c.loop-ledger.invariant.budget;
   moment = λ k g a.
       let m = c.loop-ledger.invariant.moment k g a in
@@ -104,3 +106,9 @@ returns-clause-moment c = c.loop-ledger.invariant.moment
 
 pub returns-clause-room : goal.returns-clause-room
 returns-clause-room c = c.loop-ledger.invariant.room
+
+pub try_next-requires-clause-failed : goal.try_next-requires-clause-failed
+try_next-requires-clause-failed c = c.loop-ledger.invariant.failed
+
+pub returns-clause-failed : goal.returns-clause-failed
+returns-clause-failed c = c.loop-ledger.invariant.failed

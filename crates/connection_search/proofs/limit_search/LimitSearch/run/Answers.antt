@@ -9,6 +9,7 @@ loop-number-init c = record {
   searched = searched-first c.args.self.now.problem.now c.args.self.now.matrix.now c.args.self.now.limit c.args.ledger.now.used c.requires.matrix.matrix;
   steps = c.new-work.ensures.steps;
   goals = c.new-work.ensures.goals;
+  failed = c.new-failed.ensures c.args.self.now.problem.now c.args.self.now.limit;
   budget = refl;
   store = refl;
   room = (omega arith, omega arith);
@@ -100,6 +101,7 @@ loop-number-preserved c = record {
       on (starts_from c.args.self.now.matrix.now (c.loop-number.number + 1)) c.args.ledger.now.used c.requires (searched-next c.args.self.now.problem.now c.args.self.now.matrix.now c.args.self.now.limit c.loop-number.number c.in_ok-clause.clause.0 c.args.ledger.now.used c.loop-number.ledger.used c.loop-number.left (let n = c.len-number-end.ensures in let l : c.loop-number.number < length c.args.self.now.matrix.now = omega arith in l) c.in_ok-clause.ensures c.loop-number.invariant.searched);
   steps = c.in_ok-start_with.ensures.steps;
   goals = c.in_ok-start_with.ensures.goals;
+  failed = c.in_ok-start_with.ensures.failed;
   budget = c.start_with.ensures.budget ∙ c.loop-number.invariant.budget;
   store = c.in_ok-start_with.ensures.store ∙ c.loop-number.invariant.store;
   room = room-both c.args.store.now c.loop-number.store c.start_with.new.store c.loop-number.invariant.room c.start_with.ensures.room;
@@ -122,3 +124,6 @@ returns-clause-marks c = marks-of_same c.args.store.now.store c.loop-number.stor
 
 pub returns-clause-room : goal.returns-clause-room
 returns-clause-room c = c.loop-number.invariant.room
+
+pub start_with-requires-clause-failed : goal.start_with-requires-clause-failed
+start_with-requires-clause-failed c = c.loop-number.invariant.failed

@@ -3,8 +3,8 @@ use Rattle.connection_search.specs.Exploring.{AreAbove}
 use Rattle.connection_search.proofs.SearchedLaws.{SearchesPoints, SearchesTree, on-map, room-both, visiting-none}
 use Rattle.connection_search.proofs.limit_search.LimitSearch.search_from.Goals as goal
 
-pub visit-requires : goal.visit-requires
-visit-requires c = (c.requires.0, c.requires.1, c.requires.2, c.requires.3, (visiting-none c.args.self.now.problem.now c.args.self.now.matrix.now c.requires.0 c.args.self.now.limit c.args.store.now.store c.args.work.now.tree.steps.items c.args.work.now.tree.goals.items c.args.work.now.tree.open c.new-points.result.items c.requires.1 c.requires.2 c.args.ledger.now.used c.args.left.now c.new-points.ensures.items c.requires.4))
+pub visit-requires-clause-visiting : goal.visit-requires-clause-visiting
+visit-requires-clause-visiting c = (c.requires.visiting.0, c.requires.visiting.1, c.requires.visiting.2, c.requires.visiting.3, (visiting-none c.args.self.now.problem.now c.args.self.now.matrix.now c.requires.visiting.0 c.args.self.now.limit c.args.store.now.store c.args.work.now.tree.steps.items c.args.work.now.tree.goals.items c.args.work.now.tree.open c.new-points.result.items c.requires.visiting.1 c.requires.visiting.2 c.args.ledger.now.used c.args.left.now c.new-points.ensures.items c.requires.visiting.4))
 
 pub returns-in_err-visit-clause-counted : goal.returns-in_err-visit-clause-counted
 returns-in_err-visit-clause-counted c = λ base later begun sp h. c.visit.ensures.counted base later begun sp (visiting-none c.args.self.now.problem.now c.args.self.now.matrix.now base c.args.self.now.limit c.args.store.now.store c.args.work.now.tree.steps.items c.args.work.now.tree.goals.items c.args.work.now.tree.open c.new-points.result.items later begun c.args.ledger.now.used c.args.left.now c.new-points.ensures.items h)
@@ -18,10 +18,10 @@ returns-in_err-visit-clause-marks c = c.visit.ensures.marks
 pub returns-in_err-visit-clause-room : goal.returns-in_err-visit-clause-room
 returns-in_err-visit-clause-room c = c.visit.ensures.room
 
-pub explore-requires : goal.explore-requires
-explore-requires c =
+pub explore-requires-clause-exploring : goal.explore-requires-clause-exploring
+explore-requires-clause-exploring c =
     let on = rw c.in-On.is at c.in_ok-visit.ensures.on in
-    (c.requires.0, c.requires.1, c.requires.2, c.requires.3, on c.requires.0 c.requires.1 c.requires.2 c.requires.3 (visiting-none c.args.self.now.problem.now c.args.self.now.matrix.now c.requires.0 c.args.self.now.limit c.args.store.now.store c.args.work.now.tree.steps.items c.args.work.now.tree.goals.items c.args.work.now.tree.open c.new-points.result.items c.requires.1 c.requires.2 c.args.ledger.now.used c.args.left.now c.new-points.ensures.items c.requires.4))
+    (c.requires.visiting.0, c.requires.visiting.1, c.requires.visiting.2, c.requires.visiting.3, on c.requires.visiting.0 c.requires.visiting.1 c.requires.visiting.2 c.requires.visiting.3 (visiting-none c.args.self.now.problem.now c.args.self.now.matrix.now c.requires.visiting.0 c.args.self.now.limit c.args.store.now.store c.args.work.now.tree.steps.items c.args.work.now.tree.goals.items c.args.work.now.tree.open c.new-points.result.items c.requires.visiting.1 c.requires.visiting.2 c.args.ledger.now.used c.args.left.now c.new-points.ensures.items c.requires.visiting.4))
 
 pub returns-in_err-found-in-On-clause-counted : goal.returns-in_err-found-in-On-clause-counted
 returns-in_err-found-in-On-clause-counted c = λ base later begun sp h.

@@ -50,8 +50,8 @@ returns-in_err-start-clause-marks c = c.start.ensures.marks
 pub returns-in_err-start-clause-room : goal.returns-in_err-start-clause-room
 returns-in_err-start-clause-room c = c.start.ensures.room
 
-pub search_from-requires : goal.search_from-requires
-search_from-requires c = ((length c.args.store.now.store.cells), c.requires.searched.0, c.requires.searched.1, c.requires.searched.2, (visiting-first c.args.self.now.problem.now c.args.self.now.matrix.now (length c.args.store.now.store.cells) c.args.self.now.limit (start (selection_of (slice_get c.args.self.now.matrix.now c.args.clause.0)) ∷ []) c.start.new.store.store c.start.new.self.tree.steps.items c.start.new.self.tree.goals.items c.start.new.self.tree.open c.requires.searched.0 c.requires.searched.1 c.args.ledger.now.used c.args.left.now refl (c.in_ok-start.ensures.started c.args.self.now.problem.now c.args.self.now.limit c.requires.searched.2.matrix (c.is_start-starts.ensures ∙ ap Some c.if-not-starts.false)) c.requires.searched.3))
+pub search_from-requires-clause-visiting : goal.search_from-requires-clause-visiting
+search_from-requires-clause-visiting c = ((length c.args.store.now.store.cells), c.requires.searched.0, c.requires.searched.1, c.requires.searched.2, (visiting-first c.args.self.now.problem.now c.args.self.now.matrix.now (length c.args.store.now.store.cells) c.args.self.now.limit (start (selection_of (slice_get c.args.self.now.matrix.now c.args.clause.0)) ∷ []) c.start.new.store.store c.start.new.self.tree.steps.items c.start.new.self.tree.goals.items c.start.new.self.tree.open c.requires.searched.0 c.requires.searched.1 c.args.ledger.now.used c.args.left.now refl (c.in_ok-start.ensures.started c.args.self.now.problem.now c.args.self.now.limit c.requires.searched.2.matrix (c.is_start-starts.ensures ∙ ap Some c.if-not-starts.false)) c.requires.searched.3))
 
 pub returns-in_err-found-clause-counted : goal.returns-in_err-found-clause-counted
 returns-in_err-found-clause-counted c = λ later begun sp h. c.search_from.ensures.counted (length c.args.store.now.store.cells) later begun sp (visiting-first c.args.self.now.problem.now c.args.self.now.matrix.now (length c.args.store.now.store.cells) c.args.self.now.limit (start (selection_of (slice_get c.args.self.now.matrix.now c.args.clause.0)) ∷ []) c.start.new.store.store c.start.new.self.tree.steps.items c.start.new.self.tree.goals.items c.start.new.self.tree.open later begun c.args.ledger.now.used c.args.left.now refl (c.in_ok-start.ensures.started c.args.self.now.problem.now c.args.self.now.limit sp.matrix (c.is_start-starts.ensures ∙ ap Some c.if-not-starts.false)) h)

@@ -108,6 +108,34 @@ pub returns-in_err-choice-clause-room : goal.returns-in_err-choice-clause-room
 returns-in_err-choice-clause-room c =
     c.return_to.ensures.room
 
+pub keep_failed-requires : goal.keep_failed-requires
+keep_failed-requires c =
+    let last : c.args.points.now.items ≡ take (c.len-below.result - 1) c.args.points.now.items ++ c.index_mut-point.result.now ∷ [] = last-read c.args.points.now.items c.len-below.result c.index_mut-point.result.now (let n = c.len-below.ensures in let k = c.args.points.now.ok.0 in omega (arith, n, k)) (let n = c.len-below.ensures in let k = c.args.points.now.ok.0 in let s = c.requires.some in omega (arith, n, k, s)) c.index_mut-point.ensures.value in
+    let rest : c.truncate-in-None.new.self.items ≡ take (c.len-below.result - 1) c.args.points.now.items = c.truncate-in-None.ensures.items ∙ cut-end c.args.points.now.items (c.len-below.result - 1) c.index_mut-point.result.now c.next_choice.new.point last (let n = c.len-below.ensures in let k = c.args.points.now.ok.0 in let s = c.requires.some in omega (arith, n, k, s)) in
+    let ends : c.args.points.now.items ≡ c.truncate-in-None.new.self.items ++ c.index_mut-point.result.now ∷ [] = last ∙ ap (λ ps. ps ++ c.index_mut-point.result.now ∷ []) (sym rest) in
+    let (base, later, begun, space, given) = c.requires.exploring in
+    let e = exploring-at c.args.self.now.problem.now c.args.self.now.matrix.now base c.args.self.now.limit c.args.store.now.store c.args.work.now.tree.steps.items c.args.work.now.tree.goals.items c.args.points.now.items (c.truncate-in-None.new.self.items ++ c.index_mut-point.result.now ∷ []) later begun c.args.ledger.now.used c.args.left.now ends given in
+    (c.args.ledger.now, c.truncate-in-None.new.self.items, (base, later, begun, space, none-at c.args.self.now.problem.now c.args.self.now.matrix.now base c.args.self.now.limit c.args.store.now.store c.return_to.new.store.store c.args.work.now.tree.steps.items c.is_found_irregular.new.self.tree.steps.items c.args.work.now.tree.goals.items c.is_found_irregular.new.self.tree.goals.items c.truncate-in-None.new.self.items c.index_mut-point.result.now c.next_choice.new.point later begun c.args.ledger.now.used c.args.left.now _ c.return_to.ensures.store (ap (λ (t : Tree). t.steps.items) c.is_found_irregular.ensures.tree ∙ c.return_to.ensures.steps) (ap (λ (t : Tree). t.goals.items) c.is_found_irregular.ensures.tree ∙ c.return_to.ensures.goals) c.in_ok-choice.ensures.same space.matrix (c.in_ok-choice.ensures.next c.args.self.now.problem.now) c.in-None.is e))
+
+pub returns-in_err-keep_failed-in-None-clause-counted : goal.returns-in_err-keep_failed-in-None-clause-counted
+returns-in_err-keep_failed-in-None-clause-counted c =
+    λ base later begun space e.
+    counted c.args.self.now.problem.now c.args.self.now.limit (e.pending ++ later) begun c.args.ledger.now.used c.args.left.now e.searched
+
+pub returns-in_err-keep_failed-in-None-clause-moment : goal.returns-in_err-keep_failed-in-None-clause-moment
+returns-in_err-keep_failed-in-None-clause-moment c =
+    let ends : c.args.points.now.items ≡ (take (c.len-below.result - 1) c.args.points.now.items) ++ c.index_mut-point.result.now ∷ [] = last-read c.args.points.now.items c.len-below.result c.index_mut-point.result.now (let n = c.len-below.ensures in let k = c.args.points.now.ok.0 in omega (arith, n, k)) (let n = c.len-below.ensures in let k = c.args.points.now.ok.0 in let s = c.requires.some in omega (arith, n, k, s)) c.index_mut-point.ensures.value in
+    λ k g given.
+    let a = subst (AreAbove k) ends given in
+    moment-back k (take (c.len-below.result - 1) c.args.points.now.items) c.index_mut-point.result.now c.args.store.now.store c.return_to.new.store.store g a c.return_to.ensures.marks
+
+pub returns-in_err-keep_failed-in-None-clause-room : goal.returns-in_err-keep_failed-in-None-clause-room
+returns-in_err-keep_failed-in-None-clause-room c =
+    c.return_to.ensures.room
+
+pub returns-in-None-clause-failed : goal.returns-in-None-clause-failed
+returns-in-None-clause-failed c = c.in_ok-keep_failed-in-None.ensures c.requires.failed
+
 pub jump-requires : goal.jump-requires
 jump-requires c =
     let last : c.args.points.now.items ≡ take (c.len-below.result - 1) c.args.points.now.items ++ c.index_mut-point.result.now ∷ [] = last-read c.args.points.now.items c.len-below.result c.index_mut-point.result.now (let n = c.len-below.ensures in let k = c.args.points.now.ok.0 in omega (arith, n, k)) (let n = c.len-below.ensures in let k = c.args.points.now.ok.0 in let s = c.requires.some in omega (arith, n, k, s)) c.index_mut-point.ensures.value in
@@ -244,8 +272,8 @@ pub returns-then-not-made-clause-room : goal.returns-then-not-made-clause-room
 returns-then-not-made-clause-room c =
     room-both c.args.store.now c.return_to.new.store c.make.new.store c.return_to.ensures.room c.make.ensures.room
 
-pub visit-requires : goal.visit-requires
-visit-requires c =
+pub visit-requires-clause-visiting : goal.visit-requires-clause-visiting
+visit-requires-clause-visiting c =
     let ends : c.args.points.now.items ≡ (take (c.len-below.result - 1) c.args.points.now.items) ++ c.index_mut-point.result.now ∷ [] = last-read c.args.points.now.items c.len-below.result c.index_mut-point.result.now (let n = c.len-below.ensures in let k = c.args.points.now.ok.0 in omega (arith, n, k)) (let n = c.len-below.ensures in let k = c.args.points.now.ok.0 in let s = c.requires.some in omega (arith, n, k, s)) c.index_mut-point.ensures.value in
     let changed : slice_set c.args.points.now.items (c.len-below.result - 1) c.see.new.self ≡ (take (c.len-below.result - 1) c.args.points.now.items) ++ c.see.new.self ∷ [] = set-end c.args.points.now.items (c.len-below.result - 1) c.index_mut-point.result.now c.see.new.self ends (let n = c.len-below.ensures in let k = c.args.points.now.ok.0 in let s = c.requires.some in omega (arith, n, k, s)) in
     let (base, later, begun, space, given) = c.requires.exploring in

@@ -10,7 +10,7 @@ use Rattle.connection_search.proofs.VisitLaws.{visit-repeated}
 use Rattle.connection_search.proofs.limit_search.LimitSearch.visit.Goals as goal
 
 pub repeated_early-requires : goal.repeated_early-requires
-repeated_early-requires c = (c.requires.0, c.requires.4.choices, c.requires.4.stands)
+repeated_early-requires c = (c.requires.visiting.0, c.requires.visiting.4.choices, c.requires.visiting.4.stands)
 
 pub returns-in_err-repeated-clause-counted : goal.returns-in_err-repeated-clause-counted
 returns-in_err-repeated-clause-counted c = λ base later begun space v. counted c.args.self.now.problem.now c.args.self.now.limit (v.choices ∷ v.pending ++ later) begun c.args.ledger.now.used c.args.left.now v.searched
@@ -33,8 +33,8 @@ returns-in-Some-clause-above c = λ k good h. above-seen k c.in-Some.repeated c.
 pub returns-in-Some-clause-marks : goal.returns-in-Some-clause-marks
 returns-in-Some-clause-marks c = KeepsMarks-same c.args.store.now.store
 
-pub visit_regular-requires : goal.visit_regular-requires
-visit_regular-requires c = let (base, later, begun, space, v) = c.requires in
+pub visit_regular-requires-clause-visiting : goal.visit_regular-requires-clause-visiting
+visit_regular-requires-clause-visiting c = let (base, later, begun, space, v) = c.requires.visiting in
     (base, later, begun, space, visiting-in c.args.self.now.problem.now c.args.self.now.matrix.now base c.args.self.now.limit c.args.store.now.store c.repeated_early.new.work.tree c.args.work.now.tree c.args.points.now.items later begun c.args.ledger.now.used c.args.left.now c.repeated_early.ensures.tree v)
 
 pub returns-in_err-visit-clause-counted : goal.returns-in_err-visit-clause-counted

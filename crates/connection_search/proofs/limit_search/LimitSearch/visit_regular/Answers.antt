@@ -10,7 +10,7 @@ use Rattle.connection_search.proofs.TryingLaws.{above-seen, if_on, seen-weight}
 use Rattle.connection_search.proofs.limit_search.LimitSearch.visit_regular.Goals as goal
 
 pub is_stuck_early-requires : goal.is_stuck_early-requires
-is_stuck_early-requires c = (c.requires.0, c.requires.4.choices, c.requires.4.stands)
+is_stuck_early-requires c = (c.requires.visiting.0, c.requires.visiting.4.choices, c.requires.visiting.4.stands)
 
 pub returns-then-is_stuck_early-clause-on : goal.returns-then-is_stuck_early-clause-on
 returns-then-is_stuck_early-clause-on c = λ base later begun space v. visit-stuck c.args.self.now.problem.now c.args.self.now.matrix.now base c.args.self.now.limit c.args.store.now.store c.args.work.now.tree.steps.items c.args.work.now.tree.goals.items c.args.work.now.tree.open c.args.points.now.items later begun c.args.ledger.now.used c.args.left.now v (c.is_stuck_early.ensures.left c.if-is_stuck_early.true) (c.is_stuck_early.ensures.lost c.if-is_stuck_early.true base (length c.args.work.now.tree.goals.items) v.choices space.matrix v.stands)
@@ -30,8 +30,41 @@ returns-then-is_stuck_early-clause-above c = λ k good h. h
 pub returns-then-is_stuck_early-clause-marks : goal.returns-then-is_stuck_early-clause-marks
 returns-then-is_stuck_early-clause-marks c = KeepsMarks-same c.args.store.now.store
 
+pub has_failed_early-requires : goal.has_failed_early-requires
+has_failed_early-requires c = (c.requires.visiting.0, c.requires.visiting.4.choices, c.requires.visiting.4.stands)
+
+pub returns-in_err-before-clause-counted : goal.returns-in_err-before-clause-counted
+returns-in_err-before-clause-counted c = λ base later begun space v. counted c.args.self.now.problem.now c.args.self.now.limit (v.choices ∷ v.pending ++ later) begun c.args.ledger.now.used c.args.left.now v.searched
+
+pub returns-then-before-clause-on : goal.returns-then-before-clause-on
+returns-then-before-clause-on c = λ base later begun space v. visit-stuck c.args.self.now.problem.now c.args.self.now.matrix.now base c.args.self.now.limit c.args.store.now.store c.args.work.now.tree.steps.items c.args.work.now.tree.goals.items c.args.work.now.tree.open c.args.points.now.items later begun c.args.ledger.now.used c.args.left.now v (c.in_ok-before.ensures.left c.if-before.true) (c.in_ok-before.ensures.lost c.if-before.true base (length c.args.work.now.tree.goals.items) v.choices c.requires.failed v.stands)
+
+pub returns-then-before-clause-end : goal.returns-then-before-clause-end
+returns-then-before-clause-end c = λ base later begun space v. tt
+
+pub returns-then-before-clause-counted : goal.returns-then-before-clause-counted
+returns-then-before-clause-counted c = λ base later begun space v. counted c.args.self.now.problem.now c.args.self.now.limit (v.choices ∷ v.pending ++ later) begun c.args.ledger.now.used c.args.left.now v.searched
+
+pub returns-then-before-clause-failed : goal.returns-then-before-clause-failed
+returns-then-before-clause-failed c = c.has_failed_early.ensures.kept c.requires.failed
+
+pub returns-then-before-clause-points : goal.returns-then-before-clause-points
+returns-then-before-clause-points c = inl (omega arith, omega arith)
+
+pub returns-then-before-clause-above : goal.returns-then-before-clause-above
+returns-then-before-clause-above c = λ k good h. h
+
+pub returns-then-before-clause-marks : goal.returns-then-before-clause-marks
+returns-then-before-clause-marks c = KeepsMarks-same c.args.store.now.store
+
+pub returns-then-branch-clause-failed : goal.returns-then-branch-clause-failed
+returns-then-branch-clause-failed c = c.has_failed_early.ensures.kept c.requires.failed
+
+pub returns-clause-failed : goal.returns-clause-failed
+returns-clause-failed c = c.has_failed_early.ensures.kept c.requires.failed
+
 pub is_refuted_early-requires : goal.is_refuted_early-requires
-is_refuted_early-requires c = (c.requires.0, c.requires.4.choices, c.requires.4.stands)
+is_refuted_early-requires c = (c.requires.visiting.0, c.requires.visiting.4.choices, c.requires.visiting.4.stands)
 
 pub returns-in_err-is_refuted_early-clause-counted : goal.returns-in_err-is_refuted_early-clause-counted
 returns-in_err-is_refuted_early-clause-counted c = λ base later begun space v. counted c.args.self.now.problem.now c.args.self.now.limit (v.choices ∷ v.pending ++ later) begun c.args.ledger.now.used c.args.left.now v.searched
@@ -55,7 +88,7 @@ pub returns-then-branch-clause-marks : goal.returns-then-branch-clause-marks
 returns-then-branch-clause-marks c = KeepsMarks-same c.args.store.now.store
 
 pub take_up-requires : goal.take_up-requires
-take_up-requires c = let (base, later, begun, space, v) = c.requires in
+take_up-requires c = let (base, later, begun, space, v) = c.requires.visiting in
     (base, later, begun, space, visiting-in c.args.self.now.problem.now c.args.self.now.matrix.now base c.args.self.now.limit c.args.store.now.store c.is_refuted_early.new.work.tree c.args.work.now.tree c.args.points.now.items later begun c.args.ledger.now.used c.args.left.now c.is_refuted_early.ensures.tree v)
 
 pub returns-in_err-visit-clause-counted : goal.returns-in_err-visit-clause-counted
