@@ -2,7 +2,8 @@
 
 use crate::cells::Cells;
 use crate::flat::Flat;
-use crate::search::{Line, Search};
+use crate::found::Line;
+use crate::state::Search;
 use crate::term::{Name, Shape, Term, cell, meaning_of, spare_mark_name};
 use crate::words::Words;
 use cop_base::NoMemory;

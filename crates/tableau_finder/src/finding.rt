@@ -6,7 +6,8 @@ ghost use Rattle.tableau_finder.specs.Found.{IsFoundText};
 
 use crate::domain::{Demands, close_strings};
 use crate::flat::Flat;
-use crate::search::{Ending, Search};
+use crate::search::Ending;
+use crate::state::Search;
 use crate::strategy::Strategy;
 use crate::words::Lengths;
 use crate::writing::Writer;

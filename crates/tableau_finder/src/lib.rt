@@ -4,14 +4,17 @@
 //! what they find. That text is judged as `tcheck` judges one, and given where it is accepted.
 #![tactic(auto)]
 
+mod candidates;
 mod cells;
 mod domain;
 mod finding;
 mod flat;
+mod found;
 mod numbers;
 mod record;
 mod search;
 mod solving;
+mod state;
 mod strategy;
 mod term;
 mod words;

@@ -3,7 +3,7 @@
 use crate::cells::Cells;
 use crate::domain::Demands;
 use crate::flat::Flat;
-use crate::search::Line;
+use crate::found::Line;
 use crate::term::{HOME, Made, Name, Shape, Term, cell, meaning_of};
 use crate::words::Words;
 use cop_base::{NoMemory, SymbolId};
