@@ -9,6 +9,7 @@ pub mod StandLaws
 pub mod TakenLaws
 pub mod TurnsAt
 pub mod Ends
+pub mod SizeLaws
 pub mod NameLines
 pub mod MadeNames
 pub mod Stack

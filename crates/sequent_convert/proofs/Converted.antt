@@ -1,5 +1,5 @@
 -- The state before the first step, and the derivation at the end.
-use Rattle.std.proofs.Common.{◌≡◌, ℕ, suc, ◌+◌, ◌≤◌, ◌<◌, ◌^◌, Bool, List, [], ◌∷◌, ◌++◌, length, append-nil, true, false, IsTrue, Some, Contains, nat_lt, if◌then◌else◌, refl, sym, ◌∙◌, ap, subst, inl, inr, slice_get, lt-ltb, arith}
+use Rattle.std.proofs.Common.{◌≡◌, ℕ, suc, ◌+◌, ◌≤◌, ◌<◌, ◌^◌, Bool, List, [], ◌∷◌, ◌++◌, length, drop, append-nil, true, false, IsTrue, Some, Contains, nat_lt, if◌then◌else◌, refl, sym, ◌∙◌, ap, subst, inl, inr, slice_get, lt-ltb, arith}
 use Rattle.std.proofs.lemmas.Bool.{false≢true, ltb-true, cases_Bool}
 use Rattle.std.proofs.lemmas.List.{length-map}
 use Rattle.calculus.specs.declared.sign.Sign.TheVariants.{F}
@@ -24,12 +24,13 @@ use Rattle.logic_rules.proofs.ProblemFacts.{kept}
 use Rattle.name_order.specs.NamedView.{NamedValue}
 use Rattle.name_order.specs.Prerequisites.{IsOrder, ParentsTell, WaitsTell}
 use Rattle.sequent_convert.specs.Atoms.{atoms_of}
-use Rattle.sequent_convert.specs.AheadView.{Ahead, ends_instances}
+use Rattle.sequent_convert.specs.AheadView.{Ahead, ends_instances, ends_sizes, sizes_of_all}
 use Rattle.sequent_convert.specs.Conversion.{IsConverted}
 use Rattle.sequent_convert.specs.State.{Basis, IsBasis, State, turn_at, turns_at, IsAhead, IsOpenRun, IsRun}
 use Rattle.sequent_convert.proofs.AtomLaws.{literal-at}
 use Rattle.sequent_convert.proofs.ComingLaws.{coming-here}
 use Rattle.sequent_convert.proofs.MovingOn.{order-is, instances-start}
+use Rattle.sequent_convert.proofs.SizesAhead.{sizes-start}
 
 abbrev pub first_state : Basis → List ℕ → State
 first_state B turns = record { is_open = true; steps = []; items = item root_spot F B.problem.formula ∷ []; done = []; ahead = record { turns = turns; ends = ends_of B.tableau.goals; instance = 1 }; waiting = [] }
@@ -44,7 +45,7 @@ run-begins B basis turns at =
         leading = subst (λ ts. IsLeading B.problem B.limit B.tableau B.named.names [] (way (branch (item root_spot F B.problem.formula ∷ []) []) ts (ends_of B.tableau.goals) ∷ [])) (sym same.0) (leading-start B.problem B.limit B.tableau B.named.names basis.shut basis.numbering basis.few basis.fits);
         done = tt;
         nest = tt;
-        ahead = record { within = same.1; rest = []; row = sym (instances-start B.tableau.goals) ∙ sym (append-nil (ends_instances (ends_of B.tableau.goals))); light = omega (arith, long) };
+        ahead = record { within = same.1; rest = []; row = sym (instances-start B.tableau.goals) ∙ sym (append-nil (ends_instances (ends_of B.tableau.goals))); behind = []; sized = ap (drop 1) basis.sizes ∙ sym (sizes-start B.tableau.goals) ∙ sym (append-nil (ends_sizes (ends_of B.tableau.goals))); light = omega (arith, long) };
         waiting = tt;
         cost = λ none. omega (arith, cost);
       };
@@ -87,8 +88,8 @@ atoms-tell B ag e x c =
         cons_nil z = cc
 
 -- what a conversion goes by
-pub basis-of : (P : Problem) (t : Tableau) (limit : ℕ) (named : NamedValue) (lines : Names) (atoms : List Bool) → IsTrue (is_closed P limit t) → IsTrue (is_problem P) → IsNumbering P t named.names → length named.names < 2 ^ 32 → IsAgenda P t named.agenda → IsOrder P t named.agenda named.order → ParentsTell P named.agenda named.parents → WaitsTell P named.agenda named.parents named.waits → lines ≡ name_lines_of (number_of named.names) P named.names → atoms ≡ atoms_of P.formula → IsBasis (record { problem = P; tableau = t; limit = limit; named = named; lines = lines; atoms = atoms })
-basis-of P t limit named lines atoms shut well numbering few agenda order parents waits written table = record {
+pub basis-of : (P : Problem) (t : Tableau) (limit : ℕ) (named : NamedValue) (lines : Names) (atoms : List Bool) (sizes : List ℕ) → IsTrue (is_closed P limit t) → IsTrue (is_problem P) → IsNumbering P t named.names → length named.names < 2 ^ 32 → IsAgenda P t named.agenda → IsOrder P t named.agenda named.order → ParentsTell P named.agenda named.parents → WaitsTell P named.agenda named.parents named.waits → lines ≡ name_lines_of (number_of named.names) P named.names → atoms ≡ atoms_of P.formula → sizes ≡ 0 ∷ sizes_of_all t.goals → IsBasis (record { problem = P; tableau = t; limit = limit; named = named; lines = lines; atoms = atoms; sizes = sizes })
+basis-of P t limit named lines atoms sizes shut well numbering few agenda order parents waits written table counted = record {
   shut = shut;
   fits = (kept P well).formula;
   numbering = numbering;
@@ -98,5 +99,6 @@ basis-of P t limit named lines atoms shut well numbering few agenda order parent
   parents = parents;
   waits = waits;
   lines = written;
-  atoms = atoms-tell (record { problem = P; tableau = t; limit = limit; named = named; lines = lines; atoms = atoms }) agenda table;
+  atoms = atoms-tell (record { problem = P; tableau = t; limit = limit; named = named; lines = lines; atoms = atoms; sizes = sizes }) agenda table;
+  sizes = counted;
 }

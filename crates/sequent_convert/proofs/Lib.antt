@@ -32,11 +32,13 @@
 --   alone.
 -- - *Terms of steps* are not made: `Named::term` of `name_order` tells which term over the table of the conversion one is, and all steps
 --   share that table.
--- - *Ends.* Instances of closings are counted without a table (`Ends.closing-counted`).
+-- - *Ends.* How many instances the closing of each instance has is told once (`sizes_of`), and stands in a row for ends as their instances do:
+--   a fork's second part has its place behind those of the first, without a walk through them (`SizesAhead.row-second`).
 
 pub mod TurnPlaces
 pub mod WaitingWays
 pub mod PartsAhead
+pub mod SizesAhead
 pub mod Moving
 pub mod MovingOn
 pub mod Numbers

@@ -3,7 +3,6 @@ use Rattle.std.proofs.Common.{◌≡◌, ◌⊎◌, ℕ, zero, suc, ◌+◌, ◌
 use Rattle.std.specs.List.{AllByRecursion}
 use Rattle.std.proofs.lemmas.List.{length-map, take-append-drop, drop-drop}
 use Rattle.std.proofs.lemmas.Option.{slice_get_within}
-use Rattle.std.proofs.Math.Seq.{drop-append_seam}
 use Rattle.plain_laws.proofs.Options.{none_some, some_injective}
 use Rattle.plain_laws.proofs.Places.{get-there}
 use Rattle.calculus.specs.declared.setting.Logic.{Logic}
@@ -32,9 +31,10 @@ use Rattle.conversion_theory.proofs.SegmentLaws.{Leads, leads-item, leads-parent
 use Rattle.conversion_theory.proofs.LeadingLaws.{leading-one, leading-two, literal-extends, none-awaited, extension-cost, extension-weight}
 use Rattle.conversion_theory.proofs.LoopMeasures.{leads-turns}
 use Rattle.name_order.specs.Prerequisites.{own_part, count_before}
-use Rattle.sequent_convert.specs.AheadView.{Ahead, end_instances, ends_instances, instance_count}
+use Rattle.sequent_convert.specs.AheadView.{Ahead, end_instances, ends_instances, ends_sizes, instance_count}
 use Rattle.sequent_convert.specs.State.{Basis, IsBasis, State, turn_at, turns_at, waiting_ways, IsAhead, IsOpenRun, IsRun, room_of, Works, made_of, IsAwaitedBy, ComesNext, ComesFor, first_turns, first_count, first_part, second_part, IsDoneAhead, Begins, BeginsNot, Moves, closes, skips, stays, adds, forks_ahead, forks_other, passes, to_first, to_second, extends}
 use Rattle.sequent_convert.proofs.TurnPlaces.{turn-in, turn-is, turns-are, turn-of, turn-done, done-turn, all-take, all-drop}
+use Rattle.sequent_convert.proofs.SizesAhead.{row-first, row-second, sizes-split, sizes-extended, ends-counted}
 use Rattle.sequent_convert.proofs.PartsAhead.{led-first, led-second, parts-by_position, first-is, second-is}
 use Rattle.sequent_convert.proofs.Moving.{Coming, grown, made-led, unchanged, skipped, forked, ahead-changes, closed-kept}
 
@@ -132,8 +132,8 @@ module _ (B : Basis) (basis : IsBasis B) (coming : Coming B) where
     lengths : (n : ℕ) (ks : List ℕ) → length (take n ks) + length (drop n ks) ≡ length ks
     lengths n ks = sym (length-append (take n ks) (drop n ks)) ∙ ap length (take-append-drop n ks)
 
-    row-first : (m : ℕ) → drop s.ahead.instance (instances B.tableau) ≡ ends_instances (take m s.ahead.ends) ++ (ends_instances (drop m s.ahead.ends) ++ h.ahead.rest)
-    row-first m = h.ahead.row ∙ ap (λ is. is ++ h.ahead.rest) (instances-split m s.ahead.ends) ∙ append_assoc (ends_instances (take m s.ahead.ends)) (ends_instances (drop m s.ahead.ends)) h.ahead.rest
+    parts-row : (m : ℕ) → drop s.ahead.instance (instances B.tableau) ≡ ends_instances (take m s.ahead.ends) ++ (ends_instances (drop m s.ahead.ends) ++ h.ahead.rest)
+    parts-row m = row-first (ends_instances s.ahead.ends) (ends_instances (take m s.ahead.ends)) (ends_instances (drop m s.ahead.ends)) h.ahead.rest (drop s.ahead.instance (instances B.tableau)) h.ahead.row (instances-split m s.ahead.ends)
 
     ahead-first : (k : ℕ) (ks : List ℕ) → s.ahead.turns ≡ k ∷ ks → (p : ℕ) → IsAhead B (first_part B p ks s.ahead)
     ahead-first k ks e p =
@@ -146,7 +146,9 @@ module _ (B : Basis) (basis : IsBasis B) (coming : Coming B) where
         record {
           within = all-take (λ j. j < length B.named.agenda) n ks (within-first k ks e).1;
           rest = ends_instances (drop m s.ahead.ends) ++ h.ahead.rest;
-          row = row-first m;
+          row = parts-row m;
+          behind = ends_sizes (drop m s.ahead.ends) ++ h.ahead.behind;
+          sized = row-first (ends_sizes s.ahead.ends) (ends_sizes (take m s.ahead.ends)) (ends_sizes (drop m s.ahead.ends)) h.ahead.behind (drop s.ahead.instance B.sizes) h.ahead.sized (sizes-split m s.ahead.ends);
           light = omega (arith, long, all, weights, light);
         }
 
@@ -161,7 +163,9 @@ module _ (B : Basis) (basis : IsBasis B) (coming : Coming B) where
         record {
           within = all-drop (λ j. j < length B.named.agenda) n ks (within-first k ks e).1;
           rest = h.ahead.rest;
-          row = sym (drop-drop (instance_count (take m s.ahead.ends)) s.ahead.instance (instances B.tableau)) ∙ ap (drop (instance_count (take m s.ahead.ends))) (row-first m) ∙ drop-append_seam (ends_instances (take m s.ahead.ends)) (ends_instances (drop m s.ahead.ends) ++ h.ahead.rest);
+          row = row-second (instances B.tableau) s.ahead.instance (instance_count (take m s.ahead.ends)) (ends_instances s.ahead.ends) (ends_instances (take m s.ahead.ends)) (ends_instances (drop m s.ahead.ends)) h.ahead.rest h.ahead.row (instances-split m s.ahead.ends) refl;
+          behind = h.ahead.behind;
+          sized = row-second B.sizes s.ahead.instance (instance_count (take m s.ahead.ends)) (ends_sizes s.ahead.ends) (ends_sizes (take m s.ahead.ends)) (ends_sizes (drop m s.ahead.ends)) h.ahead.behind h.ahead.sized (sizes-split m s.ahead.ends) (ends-counted (take m s.ahead.ends));
           light = omega (arith, long, all, weights, light);
         }
 
@@ -240,7 +244,7 @@ module _ (B : Basis) (basis : IsBasis B) (coming : Coming B) where
           let light = h.ahead.light in
           goes-on (record { turns = ks; ends = s.ahead.ends; instance = s.ahead.instance })
           (leads-part B.problem B.limit B.tableau B.named.names here h.leading.run.good.0 (turn_at B k) (turns_at B ks) s.ahead.ends (leads-ahead k ks d.first) h.leading.kept.0.left turn-there i item-there own d.works one)
-          (record { within = (within-first k ks d.first).1; rest = h.ahead.rest; row = h.ahead.row; light = omega (arith, all, light) }) (omega arith) (omega (arith, all))
+          (record { within = (within-first k ks d.first).1; rest = h.ahead.rest; row = h.ahead.row; behind = h.ahead.behind; sized = h.ahead.sized; light = omega (arith, all, light) }) (omega arith) (omega (arith, all))
 
       module _ (a b : Signed) (shape : shape_of i.sign i.formula ≡ Beta) (parts : components i.sign i.formula ≡ a ∷ b ∷ []) where
         abbrev p : Item
@@ -331,6 +335,8 @@ module _ (B : Basis) (basis : IsBasis B) (coming : Coming B) where
             within = same.1;
             rest = h.ahead.rest;
             row = sym (drop-drop 1 s.ahead.instance (instances B.tableau)) ∙ ap (drop 1) row ∙ ap (λ is. is ++ h.ahead.rest) (sym (instances-extension place below));
+            behind = h.ahead.behind;
+            sized = sizes-extended B.sizes s.ahead.instance s.ahead.ends h.ahead.behind j place below h.ahead.sized alone;
             light = omega (arith, weight, all, weights, light, long);
           })
           (omega (arith, cost, costs))

@@ -1,13 +1,13 @@
 -- The turns of an instance, and what closes a literal.
-use Rattle.std.proofs.Common.{◌≡◌, ◌⊎◌, ℕ, zero, suc, ◌+◌, ◌^◌, ◌<◌, ◌≤◌, List, [], ◌∷◌, ◌++◌, map, length, length-append, take, drop, true, false, Some, refl, sym, ◌∙◌, ap, subst, slice_get, arith, inl, inr}
+use Rattle.std.proofs.Common.{◌≡◌, ℕ, zero, suc, ◌<◌, List, [], ◌∷◌, ◌++◌, map, length, drop, true, false, Some, refl, sym, ◌∙◌, ap, slice_get, arith}
 use Rattle.std.proofs.lemmas.List.{length-map}
 use Rattle.calculus.specs.Instances.{ClauseInstance}
 use Rattle.calculus.specs.Tableaux.{Closings, instances, instances_of_all}
 use Rattle.conversion_theory.specs.Turns.{turns_of_instance}
 use Rattle.conversion_theory.specs.Leading.{End}
-use Rattle.sequent_convert.specs.AheadView.{Ahead, IsExtended, IsNotExtended, end_instances, ends_instances, instance_count}
+use Rattle.sequent_convert.specs.AheadView.{IsExtended, IsNotExtended, ends_instances}
 use Rattle.sequent_convert.specs.Pairs.{connected_at}
-use Rattle.sequent_convert.specs.State.{Basis, IsAhead, IsBasis, State, IsOpenRun, IsLiteralAhead}
+use Rattle.sequent_convert.specs.State.{Basis, IsBasis, State, IsOpenRun, IsLiteralAhead}
 use Rattle.sequent_convert.proofs.ComingLaws.{coming-here}
 use Rattle.sequent_convert.proofs.EndsAhead.{axiom-stands, ends-stand}
 
@@ -39,24 +39,6 @@ extension-ordered B basis s h place goals x =
     let lt = drop-some (instances B.tableau) s.ahead.instance x.instance ((instances_of_all goals ++ ends_instances x.rest) ++ h.ahead.rest) row in
     let n = order-length B basis in
     omega (arith, lt, n)
-
--- the instances of some of the ends stand among those of the tableau, behind the noted place
-take-count : (n : ℕ) (es : List End) → instance_count (take n es) ≤ instance_count es
-take-count zero es = omega arith
-take-count (suc n) [] = omega arith
-take-count (suc n) (e ∷ es) = let r = take-count n es in let a = length-append (end_instances e) (ends_instances (take n es)) in let b = length-append (end_instances e) (ends_instances es) in omega (arith, r, a, b)
-
-row-within : (xs : List ClauseInstance) (n : ℕ) (ys : List ClauseInstance) → drop n xs ≡ ys → (n + length ys ≤ length xs) ⊎ (length ys ≡ 0)
-row-within xs zero ys e = let l = ap length e in inl (omega (arith, l))
-row-within [] (suc n) ys e = let l = ap length e in inr (omega (arith, l))
-row-within (x ∷ xs) (suc n) ys e = elim (row-within xs n ys e) [ inl l ↦ inl (omega (arith, l)) | inr z ↦ inr z ]
-
-pub passed-within : (B : Basis) → IsBasis B → (a : Ahead) → IsAhead B a → (n : ℕ) → a.instance < 2 ^ 64 → length B.named.order < 2 ^ 64 → a.instance + instance_count (take n a.ends) < 2 ^ 64
-passed-within B basis a h n place most =
-    let some = take-count n a.ends in
-    let count = length-append (ends_instances a.ends) h.rest in
-    let m = order-length B basis in
-    elim (row-within (instances B.tableau) a.instance (ends_instances a.ends ++ h.rest) h.row) [ inl l ↦ omega (arith, place, most, some, count, m, l) | inr z ↦ omega (arith, place, some, count, z) ]
 
 -- where the first end is no extension, some pair is an axiom
 pub now-stands : (B : Basis) → IsBasis B → (s : State) → IsOpenRun B s → s.is_open ≡ true → IsLiteralAhead B s → IsNotExtended s.ahead.ends → ((j m : ℕ) → j < length s.items → m < length s.items → connected_at B.named.names s.items j m ≡ false) → ⊥

@@ -21,7 +21,7 @@ use Rattle.conversion_theory.proofs.FollowLaws.{has_one_part}
 use Rattle.conversion_theory.proofs.LeadingLaws.{Way, way, IsLeading, ways_cost, way_weight, room_for}
 use Rattle.name_order.specs.NamedView.{NamedValue}
 use Rattle.name_order.specs.Prerequisites.{IsOrder, ParentsTell, WaitsTell}
-use Rattle.sequent_convert.specs.AheadView.{Ahead, ends_instances, instance_count}
+use Rattle.sequent_convert.specs.AheadView.{Ahead, ends_instances, ends_sizes, instance_count, sizes_of_all}
 
 -- what a conversion goes by
 pub record Basis : Type 0 where
@@ -31,6 +31,7 @@ pub record Basis : Type 0 where
   pub named : NamedValue
   pub lines : Names
   pub atoms : List Bool
+  pub sizes : List ℕ
 
 pub record IsBasis (B : Basis) : Type 0 where
   pub shut : IsTrue (is_closed B.problem B.limit B.tableau)
@@ -43,6 +44,7 @@ pub record IsBasis (B : Basis) : Type 0 where
   pub waits : WaitsTell B.problem B.named.agenda B.named.parents B.named.waits
   pub lines : B.lines ≡ name_lines_of (number_of B.named.names) B.problem B.named.names
   pub atoms : (x : Turn) → Contains B.named.agenda x → slice_get B.atoms x.position ≡ Some (is_literal_position B.problem x.position)
+  pub sizes : B.sizes ≡ 0 ∷ sizes_of_all B.tableau.goals
 
 -- the second branch of a fork: it has the first nodes and turns of the branch at hand, its own node, and what is ahead
 pub record Waiting : Type 0 where
@@ -91,11 +93,13 @@ Nest m n (w ∷ ws) = (w.nodes ≤ m) × (w.done ≤ n) × Nest w.nodes w.done w
 
 -- ---- the invariant
 
--- the turns are places of the agenda, and the instances of the ends stand in a row from the noted place on
+-- the turns are places of the agenda, and the instances of the ends stand in a row from the noted place on, as their sizes do
 pub record IsAhead (B : Basis) (a : Ahead) : Type 0 where
   pub within : AllByRecursion (λ k. k < length B.named.agenda) a.turns
   pub rest : List ClauseInstance
   pub row : drop a.instance (instances B.tableau) ≡ ends_instances a.ends ++ rest
+  pub behind : List ℕ
+  pub sized : drop a.instance B.sizes ≡ ends_sizes a.ends ++ behind
   pub light : length a.turns + ends_weight B.problem a.ends ≤ length (turns_of_instance B.problem B.tableau.start) + ends_weight B.problem (ends_of B.tableau.goals)
 
 pub record IsOpenRun (B : Basis) (s : State) : Type 0 where

@@ -1,11 +1,11 @@
 //! What is ahead of a branch: turns of an instance, and what closes the branch at the literals among them.
 
-ghost use Rattle.std.specs.Prelude.{◌≡◌, ◌-◌, ◌<◌, ◌^◌, ◌&&◌, List, MatchOption, if◌then◌else◌, length, map, take, drop, nat_le, nat_lt, nat_eq};
+ghost use Rattle.std.specs.Prelude.{◌≡◌, ◌+◌, ◌-◌, ◌++◌, ◌&&◌, ℕ, List, MatchOption, if◌then◌else◌, length, map, take, drop, nat_le, nat_lt, nat_eq};
 ghost use Rattle.conversion_theory.specs.Leading.{ends_at, ends_of};
 ghost use Rattle.calculus.specs.Lists.{closings_tree};
 ghost use Rattle.formula_core.specs.GroundLists.{GroundList};
-ghost use Rattle.sequent_convert.specs.AheadView.{IsExtended, IsNotExtended, instance_count};
-ghost use Rattle.sequent_convert.specs.ByNumber.AheadView.{closings_count, instances_in_all, instances_in_closing, starts_with, the_ends};
+ghost use Rattle.sequent_convert.specs.AheadView.{IsExtended, IsNotExtended, ends_sizes, instance_count};
+ghost use Rattle.sequent_convert.specs.ByNumber.AheadView.{closing_sizes, sizes_among, starts_with, the_ends};
 ghost use Rattle.tableau_core.specs.Numbered.ClosingView.{closing_in, the_closing};
 
 use tableau_core::{Closing, ClosingList};
@@ -112,13 +112,13 @@ impl<'t> Ends<'t> {
         }
     }
 
-    /// How many instances their closings have.
-    #[tactic(auto, using(crate::proofs::ByNumber::Ends::together))]
-    pub fn instances(&self) -> usize
-        requires { (ls : List GroundList) × (instance_count (the_ends ls self.now) < 2 ^ 64) }
-        ensures { (ls : List GroundList) → result ≡ instance_count (the_ends ls self.now) }
+    /// The place behind the instances of their closings, the first of which has the given place among the sizes.
+    pub fn behind(&self, sizes: &[usize], place: usize) -> usize
+        requires { (ls : List GroundList) × (rest : List ℕ) × (drop place sizes.now ≡ ends_sizes (the_ends ls self.now) ++ rest) }
+        ensures { (ls : List GroundList) → result ≡ place + instance_count (the_ends ls self.now) }
     {
-        instances_among(self.before) + instances_among(self.after)
+        let middle = behind_closings(sizes, self.before, place);
+        behind_closings(sizes, self.after, middle)
     }
 }
 
@@ -168,42 +168,26 @@ fn past_first<'t>(goals: &'t [Closing], n: usize) -> &'t [Closing]
     }
 }
 
-// How many instances some closings have.
-#[tactic(auto, using(crate::proofs::ByNumber::Ends::counting))]
-fn instances_among(goals: &[Closing]) -> usize
-    requires { closings_count goals.now < 2 ^ 64 }
-    ensures { result ≡ closings_count goals.now }
+// The place behind the instances of the closings.
+fn behind_closings(sizes: &[usize], goals: &[Closing], place: usize) -> usize
+    requires { (rest : List ℕ) × (drop place sizes.now ≡ sizes_among goals.now ++ rest) }
+    ensures { result ≡ place + length (sizes_among goals.now) }
 {
-    let mut count = 0;
+    let mut at = place;
     for goal in goals {
-        count += instances_in(goal);
+        at = behind_closing(sizes, goal, at);
     }
-    count
+    at
 }
 
-// The recursion goes as deep as extensions are nested.
-#[cycle(instances)]
-fn instances_in(goal: &Closing) -> usize
-    requires { instances_in_closing (the_closing goal.now) < 2 ^ 64 }
-    ensures { result ≡ instances_in_closing (the_closing goal.now) }
+fn behind_closing(sizes: &[usize], goal: &Closing, place: usize) -> usize
+    requires { (rest : List ℕ) × (drop place sizes.now ≡ closing_sizes (the_closing goal.now) ++ rest) }
+    ensures { result ≡ place + length (closing_sizes (the_closing goal.now)) }
 {
     match goal {
-        Closing::Reduce { .. } => 0,
-        Closing::Extend { goals, .. } => instances_of(goals) + 1,
+        Closing::Reduce { .. } => place,
+        Closing::Extend { .. } => place + sizes[place],
     }
-}
-
-#[cycle(instances)]
-#[tactic(auto, using(crate::proofs::ByNumber::Ends::counting))]
-fn instances_of(goals: &ClosingList) -> usize
-    requires { instances_in_all goals.now < 2 ^ 64 }
-    ensures { result ≡ instances_in_all goals.now }
-{
-    let mut count = 0;
-    for goal in goals.items() {
-        count += instances_in(goal);
-    }
-    count
 }
 
 /// The turns ahead, as places of the agenda, with their ends.

@@ -19,6 +19,7 @@ mod numbered;
 mod parts;
 mod past;
 mod run;
+mod sizes;
 mod source;
 mod spot;
 mod turns;
@@ -43,6 +44,7 @@ use name_order::{Named, name};
 use names::name_lines;
 use run::Run;
 use sequent_calc::{Derivation, Names, StepList};
+use sizes::sizes_of;
 use source::Source;
 use std::alloc::Global;
 use tableau_core::{SizedProblem, Tableau};
@@ -99,6 +101,7 @@ fn derivation_by(
     named: &Named,
     names: Names,
     atoms: &[bool],
+    sizes: &[usize],
     finder: GroundTable,
 ) -> Result<Derivation, NoMemory>
     requires basis { IsBasis (record {
@@ -108,6 +111,7 @@ fn derivation_by(
       named = the_named named.now;
       lines = the_names names;
       atoms = atoms.now;
+      sizes = sizes.now;
     }) }
     requires limit { IsTrue (is_limit limit) }
     ensures converted { IfOk result (λ d. IsConverted problem.now limit (the_derivation d)) }
@@ -122,6 +126,7 @@ fn derivation_by(
         named,
         names: &names,
         atoms,
+        sizes,
     };
     let steps = steps_by(&source, finder)?;
     Ok(Derivation {
@@ -149,6 +154,7 @@ pub fn convert(
 {
     let sized = SizedProblem::new(alloc, problem)?;
     let atoms = atoms_in(alloc, problem.formula())?;
+    let sizes = sizes_of(alloc, t)?;
     let named = name(alloc, problem, t)?;
     let mut finder = named.table().copy(alloc)?;
     let names = name_lines(alloc, &sized, &named, &mut finder)?;
@@ -160,6 +166,7 @@ pub fn convert(
         &named,
         names,
         atoms.as_slice(),
+        sizes.as_slice(),
         finder,
     )?;
     Ok(derivation)

@@ -71,8 +71,7 @@ fn turns_before(source: &Source, turns: &[usize], position: u32) -> usize
     turns.len()
 }
 
-// The two parts of what is ahead behind its first turn, where the second part begins at the position. The instances of the
-// ends are among those of the tableau, of which the names have a list.
+// The two parts of what is ahead behind its first turn, where the second part begins at the position.
 #[tactic(auto, using(crate::proofs::ByNumber::StateLaws::states))]
 pub(crate) fn parts_at<'a>(
     source: &Source,
@@ -91,9 +90,8 @@ pub(crate) fn parts_at<'a>(
     let first = turns_until(turns, middle);
     let literals = literals_among(source, first);
     let ends = ahead.ends.take(literals);
-    let _called_for_its_bound = source.named.instances();
     let instance = ahead.instance;
-    let next = instance + ends.instances();
+    let next = ends.behind(source.sizes, instance);
     (
         Ahead {
             turns: first,

@@ -16,4 +16,6 @@ pub struct Source<'a> {
     pub names: &'a Names,
     /// Whether there is an atom at each position of the formula.
     pub atoms: &'a [bool],
+    /// For each instance of the tableau, the number of instances of its closing.
+    pub sizes: &'a [usize],
 }

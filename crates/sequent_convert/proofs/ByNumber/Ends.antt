@@ -1,5 +1,5 @@
--- Ends as the program has them, and the instances of their closings.
-use Rattle.std.proofs.Common.{◌≡◌, ℕ, zero, suc, ◌+◌, ◌-◌, ◌^◌, ◌≤◌, ◌<◌, List, [], ◌∷◌, ◌++◌, map, length, length-append, get_or, take, drop, append_assoc, append-nil, Bool, true, false, ◌&&◌, if◌then◌else◌, nat_le, nat_lt, nat_eq, refl, sym, ◌∙◌, ap, subst, inl, inr, add-one, arith, lt-ltb, le-leb, Some, None}
+-- Ends as the program has them.
+use Rattle.std.proofs.Common.{◌≡◌, ℕ, zero, suc, ◌-◌, ◌≤◌, ◌<◌, List, [], ◌∷◌, ◌++◌, map, length, take, drop, append_assoc, append-nil, Bool, true, false, ◌&&◌, if◌then◌else◌, nat_le, nat_lt, nat_eq, refl, sym, ◌∙◌, ap, inl, inr, arith, lt-ltb, le-leb, Some, None}
 use Rattle.std.proofs.lemmas.Bool.{cases_Bool, eqb-true, leb-true, leb-false}
 use Rattle.calculus.specs.Instances.{ClauseInstance}
 use Rattle.calculus.specs.Lists.{closings_tree}
@@ -7,12 +7,11 @@ use Rattle.calculus.specs.Tableaux as tree
 use Rattle.conversion_theory.specs.Leading as leading
 use Rattle.formula_core.specs.GroundLists.{GroundList}
 use Rattle.tableau_core.specs.Numbered.Closings as numbered
-use Rattle.tableau_core.specs.Numbered.Closings.{closing_size, closing_list_size}
 use Rattle.tableau_core.specs.Numbered.ClosingView.{closing_in, closings_in, the_closing}
 use Rattle.tableau_core.specs.declared.closing.Closing as program
 use Rattle.tableau_core.proofs.Numbered.ClosingLaws.{closings-in}
-use Rattle.sequent_convert.specs.AheadView.{IsExtended, IsNotExtended, meeting, end_instances, ends_instances, instance_count}
-use Rattle.sequent_convert.specs.ByNumber.AheadView.{the_end, starts_with, closing_ends, instances_in_closing, instances_below, instances_in_all, closings_count}
+use Rattle.sequent_convert.specs.AheadView.{IsExtended, IsNotExtended, meeting}
+use Rattle.sequent_convert.specs.ByNumber.AheadView.{the_end, starts_with, closing_ends}
 use Rattle.sequent_convert.specs.declared.ahead.End as end_type
 
 -- ---- parts
@@ -136,69 +135,6 @@ extension-ends ls cs bs es place n p gs g b e len q =
     (λ i. closing_ends ls (b i) ++ meeting ((q ∙ ap (nat_le place) len) i) ++ closing_ends ls (e i)) ∙ extension-parts ls cs place ∙ ap (λ xs. leading.ends_at place (closings_tree (map (closing_in ls) xs))) g
 
 pub ruleset extension = (extension-ends)
-
--- ---- instances
-
-ends-append : (es fs : List leading.End) → instance_count (es ++ fs) ≡ instance_count es + instance_count fs
-ends-append [] fs = let z : length (ends_instances fs) ≡ 0 + length (ends_instances fs) = omega arith in z
-ends-append (e ∷ es) fs = let r = ends-append es fs in let a = length-append (end_instances e) (ends_instances (es ++ fs)) in let b = length-append (end_instances e) (ends_instances es) in omega (arith, r, a, b)
-
--- they are counted without a table
-mutual
-  pub closing-counted : (ls : List GroundList) (c : numbered.Closing) → length (tree.instances_below (closing_in ls c)) ≡ instances_in_closing c
-  closing-counted ls (numbered.reduce up) = refl
-  closing-counted ls (numbered.extend i place below) = ap suc (closings-counted ls below)
-
-  pub closings-counted : (ls : List GroundList) (cs : numbered.Closings) → length (tree.instances_of_all (closings_in ls cs)) ≡ instances_below cs
-  closings-counted ls numbered.no_closings = refl
-  closings-counted ls (numbered.more_closings c cs) = let n = length-append (tree.instances_below (closing_in ls c)) (tree.instances_of_all (closings_in ls cs)) in let a = closing-counted ls c in let b = closings-counted ls cs in omega (arith, n, a, b)
-
-ends-counted : (ls : List GroundList) (cs : List program.Closing) → instance_count (closing_ends ls cs) ≡ closings_count cs
-ends-counted ls [] = refl
-ends-counted ls (c ∷ cs) = let n = ends-append (leading.by_closing (closing_in ls (the_closing c)) ∷ []) (closing_ends ls cs) in let a = closing-counted ls (the_closing c) in let b = ends-counted ls cs in let m = length-append (tree.instances_below (closing_in ls (the_closing c))) [] in omega (arith, n, a, b, m)
-
-pub ends-together : (ls : List GroundList) (bs es : List program.Closing) (m : Bool) → closings_count bs + closings_count es ≡ instance_count (closing_ends ls bs ++ meeting m ++ closing_ends ls es)
-ends-together ls bs es m = let n = ends-append (closing_ends ls bs ++ meeting m) (closing_ends ls es) in let k = ends-append (closing_ends ls bs) (meeting m) in let a = ends-counted ls bs in let b = ends-counted ls es in let z = none m in omega (arith, n, k, a, b, z)
-  where
-    none : (b : Bool) → instance_count (meeting b) ≡ 0
-    none true = refl
-    none false = refl
-
-pub ruleset together = (ends-together)
-
--- one more closing
-all-next : (cs : List program.Closing) (i : ℕ) (c : program.Closing) → i < length cs → c ≡ get_or cs i c → closings_count (take (suc i) cs) ≡ closings_count (take i cs) + instances_in_closing (the_closing c)
-all-next [] i c lt e = absurd (omega (arith, lt))
-all-next (x ∷ xs) zero c lt e = let same : instances_in_closing (the_closing x) ≡ instances_in_closing (the_closing c) = ap (λ d. instances_in_closing (the_closing d)) (sym e) in omega (arith, same)
-all-next (x ∷ xs) (suc i) c lt e = let r = all-next xs i c (omega (arith, lt)) e in omega (arith, r)
-
-pub all-step : (cs : List program.Closing) (i : ℕ) (c : program.Closing) → i < length cs → c ≡ get_or cs i c → closings_count (take (i + 1) cs) ≡ closings_count (take i cs) + instances_in_closing (the_closing c)
-all-step cs i c lt e = ap (λ n. closings_count (take n cs)) (add-one i) ∙ all-next cs i c lt e
-
--- the closings so far have no more instances than all
-all-part : (cs : List program.Closing) (n : ℕ) → closings_count (take n cs) ≤ closings_count cs
-all-part cs zero = omega arith
-all-part [] (suc n) = omega arith
-all-part (c ∷ cs) (suc n) = let r = all-part cs n in omega (arith, r)
-
-pub all-fits : (cs : List program.Closing) (i : ℕ) (c d : program.Closing) (count : ℕ) → closings_count cs < 2 ^ 64 → i < length cs → c ≡ get_or cs i d → count ≡ closings_count (take i cs) → count + instances_in_closing (the_closing c) < 2 ^ 64
-all-fits cs i c d count most lt e k = let s = all-step cs i c lt (e ∙ get_or-any cs i d c lt) in let p = all-part cs (i + 1) in omega (arith, most, s, p, k)
-  where
-    get_or-any : (xs : List program.Closing) (n : ℕ) (u v : program.Closing) → n < length xs → get_or xs n u ≡ get_or xs n v
-    get_or-any [] n u v l = absurd (omega (arith, l))
-    get_or-any (x ∷ xs) zero u v l = refl
-    get_or-any (x ∷ xs) (suc n) u v l = get_or-any xs n u v (omega (arith, l))
-
-pub one-fits : (cs : List program.Closing) (i : ℕ) (c d : program.Closing) → closings_count cs < 2 ^ 64 → i < length cs → c ≡ get_or cs i d → instances_in_closing (the_closing c) < 2 ^ 64
-one-fits cs i c d most lt e = let f = all-fits cs i c d (closings_count (take i cs)) most lt e refl in omega (arith, f)
-
--- an item of the list is smaller than the list
-pub closing_size-item : (cs : List program.Closing) (k : ℕ) (c d : program.Closing) → k < length cs → c ≡ get_or cs k d → closing_size (the_closing c) < closing_list_size (map the_closing cs)
-closing_size-item [] k c d h e = absurd (omega arith)
-closing_size-item (u ∷ cs) zero c d h e = let f : closing_size (the_closing c) ≡ closing_size (the_closing u) = ap (λ x. closing_size (the_closing x)) e in omega arith
-closing_size-item (u ∷ cs) (suc k) c d h e = let f = closing_size-item cs k c d (omega arith) e in omega arith
-
-pub ruleset counting = (all-step, all-fits, one-fits, closing_size-item)
 
 -- ---- the first end
 

@@ -1,5 +1,5 @@
 -- What is ahead of a branch, as the program has it: turns as places of the agenda, with the ends of the literals among them.
-use Rattle.std.specs.Prelude.{◌≡◌, ℕ, suc, ◌+◌, List, [], ◌∷◌, ◌++◌, map, Option, Some, None}
+use Rattle.std.specs.Prelude.{◌≡◌, ℕ, suc, List, [], ◌∷◌, ◌++◌, length, map, Option, Some, None}
 use Rattle.conversion_theory.specs.Leading as leading
 use Rattle.formula_core.specs.GroundLists.{GroundList}
 use Rattle.tableau_core.specs.Numbered.Closings as numbered
@@ -26,21 +26,21 @@ starts_with ls [] o = o ≡ None
 starts_with ls (e ∷ es) None = ⊥
 starts_with ls (e ∷ es) (Some x) = e ≡ the_end ls x
 
--- how many instances closings have
+-- for each instance of closings, in preorder, how many instances its own closing has
 abbrev mutual
-  pub instances_in_closing : numbered.Closing → ℕ
-  instances_in_closing (numbered.reduce up) = 0
-  instances_in_closing (numbered.extend i place below) = suc (instances_below below)
+  pub closing_sizes : numbered.Closing → List ℕ
+  closing_sizes (numbered.reduce up) = []
+  closing_sizes (numbered.extend i place below) = suc (length (closings_sizes below)) ∷ closings_sizes below
 
-  pub instances_below : numbered.Closings → ℕ
-  instances_below numbered.no_closings = 0
-  instances_below (numbered.more_closings c cs) = instances_in_closing c + instances_below cs
+  pub closings_sizes : numbered.Closings → List ℕ
+  closings_sizes numbered.no_closings = []
+  closings_sizes (numbered.more_closings c cs) = closing_sizes c ++ closings_sizes cs
 
-abbrev pub instances_in_all : List numbered.Closing → ℕ
-instances_in_all cs = instances_below (numbered.closings_tree cs)
+abbrev pub sizes_in_all : List numbered.Closing → List ℕ
+sizes_in_all cs = closings_sizes (numbered.closings_tree cs)
 
-abbrev pub closings_count : List closing.Closing → ℕ
-closings_count cs = instances_in_all (map the_closing cs)
+abbrev pub sizes_among : List closing.Closing → List ℕ
+sizes_among cs = sizes_in_all (map the_closing cs)
 
 abbrev pub the_ahead : List GroundList → ahead.Ahead → Ahead
 the_ahead ls a = record { turns = a.turns.now; ends = the_ends ls a.ends; instance = a.instance }

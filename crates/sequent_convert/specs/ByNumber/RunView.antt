@@ -24,7 +24,7 @@ abbrev pub the_named : NamedValue → plain.NamedValue
 the_named n = record { names = n.names; agenda = n.agenda; order = n.order; parents = n.parents; waits = n.waits }
 
 abbrev pub the_source : source.Source → Basis
-the_source s = record { problem = s.problem.now; tableau = the_tableau s.tableau.now; limit = s.limit; named = the_named s.named.now; lines = the_names s.names.now; atoms = s.atoms.now }
+the_source s = record { problem = s.problem.now; tableau = the_tableau s.tableau.now; limit = s.limit; named = the_named s.named.now; lines = the_names s.names.now; atoms = s.atoms.now; sizes = s.sizes.now }
 
 -- the lists that nodes name, and those that closings name
 abbrev pub the_lists : source.Source → List GroundList

@@ -1,23 +1,19 @@
-use Rattle.std.proofs.Common.{◌<◌, ◌+◌, ◌^◌, ap, arith, subst, sym}
-use Rattle.sequent_convert.specs.AheadView.{instance_count}
-use Rattle.sequent_convert.specs.ByNumber.AheadView.{the_ahead}
+use Rattle.std.proofs.Common.{◌++◌, ◌∙◌, ap, drop, subst, sym, take}
+use Rattle.conversion_theory.specs.Leading.{End}
+use Rattle.sequent_convert.specs.AheadView.{ends_sizes}
+use Rattle.sequent_convert.specs.ByNumber.AheadView.{the_ends}
 use Rattle.sequent_convert.specs.ByNumber.RunView.{the_source, the_table}
-use Rattle.sequent_convert.proofs.OrderLaws.{passed-within}
+use Rattle.sequent_convert.proofs.SizesAhead.{row-first, sizes-split}
 use Rattle.sequent_convert.proofs.parts.parts_at.Goals as goal
 
-pub instances-requires : goal.instances-requires
-instances-requires c =
+pub behind-next-requires : goal.behind-next-requires
+behind-next-requires c =
     let ls = the_table c.args.source.now in
-    let many = c.instances-called_for_its_bound.ensures in
-    let place = passed-within (the_source c.args.source.now) c.requires.basis (the_ahead ls c.args.ahead.now) c.requires.ahead c.literals_among-literals.result (omega arith) (omega (arith, many)) in
-    let same = ap instance_count (c.take-ends.ensures ls) in
-    (ls, omega (arith, place, same))
-
-pub overflow_add-next : goal.overflow_add-next
-overflow_add-next c =
-    let ls = the_table c.args.source.now in
-    let many = c.instances-called_for_its_bound.ensures in
-    let place = passed-within (the_source c.args.source.now) c.requires.basis (the_ahead ls c.args.ahead.now) c.requires.ahead c.literals_among-literals.result (omega arith) (omega (arith, many)) in
-    let same = ap instance_count (c.take-ends.ensures ls) in
-    let passed = c.instances.ensures ls in
-    omega (arith, place, same, passed)
+    let es = the_ends ls c.args.ahead.now.ends in
+    let n = c.literals_among-literals.result in
+    let h = c.requires.ahead in (
+      ls,
+      ends_sizes (drop n es) ++ h.behind,
+      row-first (ends_sizes es) (ends_sizes (take n es)) (ends_sizes (drop n es)) h.behind (drop c.args.ahead.now.instance c.args.source.now.sizes.now) h.sized (sizes-split n es)
+          ∙ ap (λ fs. ends_sizes fs ++ (ends_sizes (drop n es) ++ h.behind)) (sym (c.take-ends.ensures ls)),
+    )
