@@ -15,8 +15,8 @@
 --   set of all that came after one that did not; cut back far enough it is a list again. `RisingLaws`: what the place to which the smaller
 --   ones reach tells (`there`, `none-behind`), and that a number above the last one is absent.
 -- - *Large terms.* `RowSet` has the rows of the terms with 16 items or more, each once, and a binding has beside its term the place of its
---   row, from 1 (`AreNumbered`; 0 for other terms). A row is found by its hash, once, when its term is put, and rows with one hash are
---   compared, so a number is never wrong.
+--   row, from 1 (`AreNumbered`; 0 for other terms). A row is found by its hash when its term is put, and rows with one hash are compared,
+--   so a number is never wrong; a term that is put again keeps its number (`put_again`).
 -- - Rows of the set differ and a row tells its term, so numbers are equal exactly where the terms are (`NumberLaws.numbers-told`): two
 --   variables of an axiom are compared in constant time once their bindings are reached (`Substitutions::are_equal`).
 -- - *What an instance brings.* `OccurrenceLaws.leaf-put`: a leaf stands in an instance where it stands in the formula, or in the term and

@@ -50,3 +50,6 @@ value-outer x l rest left less v at further same =
 
 pub value-free : (l : List Term) (left : ℕ) → l ≡ [] → var left ≡ value_at l left
 value-free l left at = sym (value-none left) ∙ ap (λ m. value_at m left) (sym at)
+
+pub first-closed : (x : Binding) (l rest : List Term) → l ≡ the_value x.term ∷ rest → AreClosed l → IsClosed (the_value x.term)
+first-closed x l rest at h = (subst AreClosed at h).0

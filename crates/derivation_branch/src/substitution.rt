@@ -131,6 +131,28 @@ impl<'a> Substitutions<'a> {
         Ok(place)
     }
 
+    /// Puts the first term of an earlier substitution before one of the table. A large term keeps its
+    /// number, so its row is not looked up again.
+    pub fn put_again(&mut self, outer: u32, earlier: u32) -> Result<u32, NoMemory>
+        requires within { outer < length self.old }
+        requires earlier { earlier < length self.old }
+        requires some { 0 < earlier }
+        ensures place { IfOk result (λ k. k ≡ length self.old) }
+        ensures put { OnOk result (self.new ≡ self.old
+            ++ (value_at (get_or self.old earlier []) 0 ∷ get_or self.old outer []) ∷ []) }
+        ensures others { OnOk result (AreClosed (get_or self.old outer [])) }
+        ensures err { OnErr result (self.new ≡ self.old) }
+    {
+        let place = place_of(self.bindings.len() + 1)?;
+        let Binding { term, number, .. } = self.bindings[earlier as usize - 1];
+        self.bindings.push(Binding {
+            term,
+            outer,
+            number,
+        })?;
+        Ok(place)
+    }
+
     // The place of the substitution whose first term stands for the variable, or 0 where none does,
     // and the number of the variable there.
     fn binding_of(&self, place: u32, variable: u32) -> (u32, u32)

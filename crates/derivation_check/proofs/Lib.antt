@@ -11,7 +11,7 @@
 -- (`cut-back`); the heart is `children-told`: sets that got what a use step brings tell what occurs on each branch that it leads to.
 -- `StateLaws`: `Growth` and `Used` hold what a use step is told of, with one law for each clause (`grown-kept`, `grown-shown`;
 -- `used-leads`); `StepLaws` leads from a step to the verdict. `AreHomes` says that the home of each listed name is found by its number.
--- `ToldHomes` has labels, of steps and of homes, whose marks the set has, each with how many of the first marks have them all: `told-more`,
+-- `ToldOnBranch` has labels, of steps and of homes, whose marks the set has, each with how many of the first marks have them all: `told-more`,
 -- `told-longer` as sets and tables grow, `told-cut` as a branch is closed, `told-put` for one more. `branch-there`: the marks of the label
 -- that a step leads to are in the set, so a home with which it begins brings nothing (`begins-there`). A leaf is judged by places
 -- (`is_forbidden_at`), and `allowed-told` leads to the rules. The judgement is said by cases over `Derives` and `IsRejected`; the code
@@ -25,6 +25,9 @@
 -- *Names of terms.* Of each term of the text it is told once which eigenvariables it has and where its names lie (`AreNamed`); a step asks
 -- that and not the term. `NamesLaws`: each question of the rules goes by the home of a leaf (`HomeTest`), so one law answers all of them
 -- (`forbidden-of`, `unknown-of`, `homes-of`), and also tells that the places are within the table (`places-within`).
+--
+-- *Large terms.* Each stands before the empty substitution from the beginning on (`ArePut`), and a step puts the first term of that
+-- substitution again, so the row is looked up once. The table grows alone, so places stay (`PutLaws`: `puts-longer`, `put-longer`).
 --
 -- `Accepting`: `judged-in` and `judged-fault` lead from a verdict on steps and from a fault of the text to the judgement over both
 -- versions, `only-one` says that there is no other, and `accepted-in` is what `prove`, `transfer` and `migrate` cite of a text that they
@@ -40,5 +43,6 @@ pub mod Numbers
 pub mod ArgumentLaws
 pub mod StateLaws
 pub mod UsedLaws
+pub mod PutLaws
 pub mod StepLaws
 pub mod Accepting

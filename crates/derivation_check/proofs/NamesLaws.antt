@@ -18,7 +18,7 @@ use Rattle.derivation_branch.specs.Occurring.{holds}
 use Rattle.derivation_check.specs.HomesView.{AreHomes, IsEigenHome, IsFound, IsHomeOfSpare, IsSpareHome, is_forbidden_at, is_in_home_at, is_place_allowed, is_unknown_at, place_holds}
 use Rattle.calculus.specs.Versions.{is_among, numbered}
 use Rattle.derivation_check.proofs.ArgumentLaws.{among-parts, number-read}
-use Rattle.derivation_check.specs.StateView.{AreSameNames}
+use Rattle.derivation_check.specs.StateView.{IsLater}
 use Rattle.derivation_check.specs.declared.state.State.{State}
 use Rattle.derivation_check.specs.NamesTold.{AreFirstNamed, AreFoundIn, AreNamed, AreNamesOf, HomeTest, any_found, any_told, asks_unknown, at_place, by_home, forbids, has_character, is_past}
 use Rattle.derivation_check.specs.declared.homes.Homes.{Homes}
@@ -228,5 +228,5 @@ argument-named homes terms told t number place h among at is =
       λ x e. subst (λ u. AreNamesOf homes u x) (sym (is ∙ number-read terms number place (spare 0) (omega (arith, some, at)))) (h.each place x lt e),
     )
 
-pub names-stay : (s t : State) (terms : List Term) → AreSameNames s t → AreNamed s.homes terms s.named.items → AreNamed t.homes terms t.named.items
+pub names-stay : (s t : State) (terms : List Term) → IsLater s t → AreNamed s.homes terms s.named.items → AreNamed t.homes terms t.named.items
 names-stay s t terms same h = subst (λ xs. AreNamed t.homes terms xs.items) (sym same.named) (subst (λ hs. AreNamed hs terms s.named.items) (sym same.homes) h)

@@ -8,7 +8,7 @@ use Rattle.derivation_check.specs.declared.argument.LabelArgument.TheVariants as
 
 abbrev pub the_argument : argument.Argument → derivation.TermArg
 the_argument argument_is.None = derivation.no_term
-the_argument (argument_is.Term t k) = derivation.by_term t.now
+the_argument (argument_is.Term t k p) = derivation.by_term t.now
 the_argument (argument_is.Name n) = derivation.by_name n
 
 -- with labels by their places in a table

@@ -7,4 +7,5 @@ pub mod DemandsView
 pub mod VerdictView
 pub mod Reading
 pub mod ArgumentView
+pub mod TermsPut
 pub mod Only

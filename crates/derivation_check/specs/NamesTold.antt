@@ -64,7 +64,7 @@ AreNamed homes terms told = AreFirstNamed homes (length terms) terms told
 -- what is told of the term of an argument stands at its place
 abbrev pub IsNamed : Homes → List TermNames → Argument → Type 0
 IsNamed homes told argument_is.None = ⊤
-IsNamed homes told (argument_is.Term t k) = (k < length told) × ((x : TermNames) → x ≡ get_or told k x → AreNamesOf homes t.now x)
+IsNamed homes told (argument_is.Term t k p) = (k < length told) × ((x : TermNames) → x ≡ get_or told k x → AreNamesOf homes t.now x)
 IsNamed homes told (argument_is.Name n) = ⊤
 
 -- ---- what is asked of a leaf

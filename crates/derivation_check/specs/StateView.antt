@@ -11,6 +11,7 @@ use Rattle.derivation_branch.specs.Occurring.{holds}
 use Rattle.derivation_branch.specs.OutlineView.{IsNodeOf}
 use Rattle.derivation_branch.specs.Putting.{IsClosed, AreClosed}
 use Rattle.label_table.specs.LabelTable.{IsLabelAt}
+use Rattle.label_table.specs.Longer.{IsLonger}
 use Rattle.derivation_branch.specs.declared.outline.Node.{Node}
 use Rattle.derivation_check.specs.HomesView.{AreHomes}
 use Rattle.derivation_check.specs.OpenSequents.{IsNested, sequents_of}
@@ -81,10 +82,11 @@ pub record IsKept (names : Names) (s : State) : Type 0 where
   pub told : AreTold s.labels s.marks s.told
   pub nodes : AreAtNodes s.outline.nodes.items (sequents_of s.sequents)
 
--- the homes of names, and what is told of those of terms, stay as they are
-pub record AreSameNames (s t : State) : Type 0 where
+-- the homes of names, and what is told of those of terms, stay as they are, and substitutions stay at their places
+pub record IsLater (s t : State) : Type 0 where
   pub homes : t.homes ≡ s.homes
   pub named : t.named ≡ s.named
+  pub substitutions : IsLonger s.substitutions t.substitutions
 
 -- the entry stands on the branch
 abbrev pub StandsOn : List BranchEntry → BranchEntry → Type 0

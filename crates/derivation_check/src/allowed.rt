@@ -29,7 +29,7 @@ pub fn home_is(labels: &Labels, homes: &Homes, at: u32, term: Argument<'_>) -> b
             Some(home) => labels.are_equal(home, at),
             None => false,
         },
-        Argument::None | Argument::Term(_, _) => true,
+        Argument::None | Argument::Term(_, _, _) => true,
     }
 }
 
@@ -95,7 +95,7 @@ pub fn term_allowed(
         ≡ term_allowed problem.now names (get_or labels.now at []) (the_argument term.entry) }
 {
     match term {
-        Argument::Term(_, place) => is_allowed(problem, labels, &named[place], at),
+        Argument::Term(_, place, _) => is_allowed(problem, labels, &named[place], at),
         Argument::None | Argument::Name(_) => true,
     }
 }
@@ -106,7 +106,7 @@ fn is_known_at(homes: &Homes, named: &[TermNames], term: Argument<'_>) -> bool
 {
     match term {
         Argument::None => true,
-        Argument::Term(_, place) => !named[place].has_unknown,
+        Argument::Term(_, place, _) => !named[place].has_unknown,
         Argument::Name(number) => homes.eigen(number).is_some(),
     }
 }

@@ -16,12 +16,12 @@ pub enum LabelArgument {
     New(u32),
 }
 
-/// What a step on a quantifier is given: a gamma step's term, with its number less one, or the number of a delta step's
-/// eigenvariable.
+/// What a step on a quantifier is given: a gamma step's term, with its number less one and its place in the table of
+/// substitutions or 0, or the number of a delta step's eigenvariable.
 #[derive(Clone, Copy)]
 pub enum Argument<'a> {
     None,
-    Term(&'a TermRow, usize),
+    Term(&'a TermRow, usize, u32),
     Name(u32),
 }
 
@@ -44,7 +44,7 @@ pub fn term_form(term: Argument<'_>) -> TermForm
 {
     match term {
         Argument::None => TermForm::None,
-        Argument::Term(_, _) => TermForm::Term,
+        Argument::Term(_, _, _) => TermForm::Term,
         Argument::Name(_) => TermForm::Name,
     }
 }

@@ -83,7 +83,7 @@ fn is_new(eigens: &NumberSet, marks: &NumberSet, modal: LabelArgument, term: Arg
     };
     let eigen_is_new = match term {
         Argument::Name(number) => !eigens.holds(number),
-        Argument::None | Argument::Term(_, _) => true,
+        Argument::None | Argument::Term(_, _, _) => true,
     };
     mark_is_new && eigen_is_new
 }

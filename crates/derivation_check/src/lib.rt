@@ -13,7 +13,8 @@ mod open_sequents;
 mod state;
 mod steps;
 mod term_names;
-mod told_homes;
+mod term_places;
+mod told_on_branch;
 mod using;
 mod verdict;
 

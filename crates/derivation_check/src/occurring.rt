@@ -20,7 +20,7 @@ ghost use Rattle.derivation_check.specs.ArgumentView.{the_argument, the_label_ar
 use crate::argument::{Argument, LabelArgument};
 use crate::homes::Homes;
 use crate::term_names::TermNames;
-use crate::told_homes::ToldHomes;
+use crate::told_on_branch::ToldOnBranch;
 use cop_base::NoMemory;
 use derivation_branch::NumberSet;
 use label_table::Labels;
@@ -55,7 +55,7 @@ fn add_marks(labels: &Labels, marks: &mut NumberSet, place: u32) -> Result<(), N
 // Adds the marks of the label at a place, unless it is told that they are there.
 fn add_label(
     labels: &Labels,
-    told: &mut ToldHomes,
+    told: &mut ToldOnBranch,
     marks: &mut NumberSet,
     place: u32,
 ) -> Result<(), NoMemory>
@@ -78,7 +78,7 @@ fn add_label(
 // Adds the marks of the home at a place. Those of the label at the place `at` are there.
 fn add_home(
     labels: &Labels,
-    told: &mut ToldHomes,
+    told: &mut ToldOnBranch,
     marks: &mut NumberSet,
     at: u32,
     home: u32,
@@ -101,7 +101,7 @@ fn add_home(
 fn add_home_of_eigen(
     labels: &Labels,
     homes: &Homes,
-    told: &mut ToldHomes,
+    told: &mut ToldOnBranch,
     marks: &mut NumberSet,
     at: u32,
     number: u32,
@@ -123,7 +123,7 @@ fn add_home_of_eigen(
 // Adds the marks in the homes at these places.
 fn add_homes(
     labels: &Labels,
-    told: &mut ToldHomes,
+    told: &mut ToldOnBranch,
     marks: &mut NumberSet,
     at: u32,
     homes: &[u32],
@@ -144,7 +144,7 @@ fn add_homes(
 /// Adds the marks in the argument of a step with a modal part, which leads to the label at a place.
 pub fn add_modal(
     labels: &Labels,
-    told: &mut ToldHomes,
+    told: &mut ToldOnBranch,
     marks: &mut NumberSet,
     at: u32,
     modal: LabelArgument,
@@ -190,7 +190,7 @@ fn add_argument_eigens(
 {
     match term {
         Argument::None => Ok(()),
-        Argument::Term(_, place) => {
+        Argument::Term(_, place, _) => {
             add_all(eigens, named[place].eigens.as_slice())?;
             Ok(())
         }
@@ -205,7 +205,7 @@ fn add_argument_homes(
     labels: &Labels,
     homes: &Homes,
     named: &[TermNames],
-    told: &mut ToldHomes,
+    told: &mut ToldOnBranch,
     marks: &mut NumberSet,
     at: u32,
     term: Argument<'_>,
@@ -221,7 +221,7 @@ fn add_argument_homes(
 {
     match term {
         Argument::None => Ok(()),
-        Argument::Term(_, place) => {
+        Argument::Term(_, place, _) => {
             add_homes(labels, told, marks, at, named[place].places.as_slice())?;
             Ok(())
         }
@@ -255,7 +255,7 @@ pub fn add_brought_homes(
     labels: &Labels,
     homes: &Homes,
     named: &[TermNames],
-    told: &mut ToldHomes,
+    told: &mut ToldOnBranch,
     marks: &mut NumberSet,
     at: u32,
     binds: bool,

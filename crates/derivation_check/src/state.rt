@@ -1,22 +1,24 @@
 //! The state of a judgement between two steps.
 
-ghost use Rattle.std.specs.Prelude.{◌≡◌, ◌∷◌, [], true, IfOk, OnOk, map};
+ghost use Rattle.std.specs.Prelude.{◌≡◌, ◌<◌, ◌∷◌, [], true, IfOk, OnOk, length, map};
 ghost use Rattle.calculus.specs.Derivations as derivation;
 ghost use Rattle.calculus.specs.Derivations.{first_sequent};
 ghost use Rattle.calculus.specs.Versions.{stated};
 ghost use Rattle.derivation_check.specs.ArgumentView.{ArePlaces};
 ghost use Rattle.derivation_check.specs.OpenSequents.{IsNested, waiting_in};
 ghost use Rattle.derivation_check.specs.NamesTold.{AreNamed};
-ghost use Rattle.derivation_check.specs.StateView.{AreSameNames, IsKept, the_sequent, the_sequents};
+ghost use Rattle.derivation_check.specs.TermsPut.{ArePut};
+ghost use Rattle.derivation_check.specs.StateView.{IsLater, IsKept, the_sequent, the_sequents};
 
 use crate::homes::Homes;
 use crate::label_places::add_labels;
 use crate::open_sequents::{BranchEntry, OpenSequents};
 use crate::term_names::{TermNames, all_names};
-use crate::told_homes::ToldHomes;
+use crate::term_places::put_terms;
+use crate::told_on_branch::ToldOnBranch;
 use cop_base::NoMemory;
 use derivation_branch::{NumberSet, Outline, SharedEntry, Substitutions};
-use derivation_text::TextDerivation;
+use derivation_text::{TermList, TextDerivation};
 use formula_core::Sign;
 use label_table::Labels;
 use logic_rules::Problem;
@@ -37,7 +39,7 @@ pub struct State<'a> {
     /// The marks of pi steps that stand in its labels, or in the homes of names in its formulas.
     pub marks: NumberSet,
     /// Labels of steps and of homes whose marks are all among these.
-    pub told: ToldHomes,
+    pub told: ToldOnBranch,
 }
 
 impl<'a> State<'a> {
@@ -52,6 +54,7 @@ impl<'a> State<'a> {
         ensures first { IfOk result (λ r. the_sequents r.0 ≡ first_sequent problem.now ∷ []) }
         ensures places { IfOk result (λ r. ArePlaces d.now.labels r.0.labels r.1.items) }
         ensures named { IfOk result (λ r. AreNamed r.0.homes d.now.terms r.0.named.items) }
+        ensures some { IfOk result (λ r. 0 < length r.0.substitutions) }
     {
         let formula = problem.formula();
         let outline = Outline::new(alloc, formula)?;
@@ -76,7 +79,7 @@ impl<'a> State<'a> {
         let named = all_names(alloc, &homes, d.terms())?;
         let eigens = NumberSet::new(alloc);
         let marks = NumberSet::new(alloc);
-        let told = ToldHomes::new(alloc);
+        let told = ToldOnBranch::new(alloc);
         let state = State {
             outline,
             sequents,
@@ -91,6 +94,25 @@ impl<'a> State<'a> {
         Ok((state, places))
     }
 
+    /// Puts each large term of the derivation into the table of substitutions once. The answer is
+    /// their places by their numbers less one.
+    pub fn put_terms(&mut self, alloc: Global, terms: &'a TermList) -> Result<Vec<u32>, NoMemory>
+        requires some { 0 < length self.old.substitutions }
+        requires named { AreNamed self.old.homes terms.now self.old.named.items }
+        ensures put { IfOk result
+            (λ places. ArePut self.new.substitutions terms.entry.now places.items) }
+        ensures kept { OnOk result ((names : derivation.Names)
+            → IsKept names self.old → IsKept names self.new) }
+        ensures shown { OnOk result ((names : derivation.Names)
+            → IsKept names self.old → the_sequents self.new ≡ the_sequents self.old) }
+        ensures labels { OnOk result (self.new.labels ≡ self.old.labels) }
+        ensures named { OnOk result (IsLater self.old self.new) }
+    {
+        let substitutions = &mut self.substitutions;
+        let places = put_terms(alloc, substitutions, self.named.as_slice(), terms)?;
+        Ok(places)
+    }
+
     /// Closes the current sequent, and goes on with the one that waited last.
     pub fn close(&mut self) -> Result<(), NoMemory>
         requires is_open { self.old.sequents.is_open ≡ true }
@@ -100,7 +122,7 @@ impl<'a> State<'a> {
         ensures closed { OnOk result (the_sequents self.new
             ≡ map (the_sequent self.old.substitutions self.old.labels) (waiting_in self.old.sequents)) }
         ensures labels { OnOk result (self.new.labels ≡ self.old.labels) }
-        ensures named { OnOk result (AreSameNames self.old self.new) }
+        ensures named { OnOk result (IsLater self.old self.new) }
     {
         let next = self.sequents.close()?;
         match next {

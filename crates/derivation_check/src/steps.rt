@@ -7,9 +7,11 @@ ghost use Rattle.calculus.specs.Calculus.{apply, close_branch, entry_of, use_ent
 ghost use Rattle.calculus.specs.Derivations as derivation;
 ghost use Rattle.calculus.specs.Judgement.{at_end, verdict_from};
 ghost use Rattle.calculus.specs.declared.fault.StepFault.{StepFault};
+ghost use Rattle.calculus.specs.Syntax as tree;
 ghost use Rattle.derivation_check.specs.OpenSequents.{waiting_in};
 ghost use Rattle.derivation_check.specs.NamesTold.{AreNamed, IsNamed};
-ghost use Rattle.derivation_check.specs.StateView.{AreSameNames, IsKept, LeadsTo, StandsOn, the_current};
+ghost use Rattle.derivation_check.specs.TermsPut.{ArePut, IsArgumentPut};
+ghost use Rattle.derivation_check.specs.StateView.{IsLater, IsKept, LeadsTo, StandsOn, the_current};
 ghost use Rattle.derivation_check.specs.declared.homes.Homes.{Homes};
 ghost use Rattle.derivation_check.specs.declared.term_names.TermNames.{TermNames};
 ghost use Rattle.derivation_check.specs.StateView.{IsNumbered, the_entry, the_sequent, the_sequents};
@@ -68,7 +70,7 @@ fn close_branch<'a>(
         (map (the_sequent state.old.substitutions state.old.labels) (waiting_in state.old.sequents))
         (the_sequents state.new)) }
     ensures labels { OnOk result (state.new.labels ≡ state.old.labels) }
-    ensures named { OnOk result (AreSameNames state.old state.new) }
+    ensures named { OnOk result (IsLater state.old state.new) }
     ensures fault { (f : StepFault) → result ≡ Err (ApplyFault.Fault f) → close_branch
         (Some (the_entry state.old.substitutions state.old.labels given.entry))
         (Some (the_entry state.old.substitutions state.old.labels shown.entry)) ≡ Err f }
@@ -99,6 +101,7 @@ fn use_numbered<'a>(
     requires is_open { state.old.sequents.is_open ≡ true }
     requires kept { (names : derivation.Names) × IsKept names state.old }
     requires named { IsNamed state.old.homes state.old.named.items term }
+    requires put { IsArgumentPut state.old.substitutions term }
     ensures kept { OnOk result ((names : derivation.Names)
         → IsKept names state.old → IsKept names state.new) }
     ensures leads { OnOk result ((names : derivation.Names) → IsKept names state.old
@@ -108,7 +111,7 @@ fn use_numbered<'a>(
         (map (the_sequent state.old.substitutions state.old.labels) (waiting_in state.old.sequents))
         (the_sequents state.new)) }
     ensures grown { OnOk result (IsLonger state.old.labels state.new.labels) }
-    ensures named { OnOk result (AreSameNames state.old state.new) }
+    ensures named { OnOk result (IsLater state.old state.new) }
     ensures fault { (f : StepFault) → result ≡ Err (ApplyFault.Fault f)
         → (names : derivation.Names) → IsKept names state.old
         → use_entry problem.now names (the_current state.old)
@@ -133,7 +136,7 @@ fn close_numbered<'a>(state: &mut State<'a>, given: u32, shown: u32) -> Result<(
         (map (the_sequent state.old.substitutions state.old.labels) (waiting_in state.old.sequents))
         (the_sequents state.new)) }
     ensures labels { OnOk result (state.new.labels ≡ state.old.labels) }
-    ensures named { OnOk result (AreSameNames state.old state.new) }
+    ensures named { OnOk result (IsLater state.old state.new) }
     ensures fault { (f : StepFault) → result ≡ Err (ApplyFault.Fault f) → close_branch
         (entry_of (the_current state.old) given) (entry_of (the_current state.old) shown) ≡ Err f }
 {
@@ -149,15 +152,21 @@ fn close_numbered<'a>(state: &mut State<'a>, given: u32, shown: u32) -> Result<(
 }
 
 // The argument of a step on a quantifier.
-fn argument<'a>(terms: &'a TermList, term: NumberedTerm) -> Argument<'a>
-    requires { IsTrue (is_arg_listed (length terms.now) (the_numbered_arg term)) }
+fn argument<'a>(terms: &'a TermList, put: &[u32], term: NumberedTerm) -> Argument<'a>
+    requires listed { IsTrue (is_arg_listed (length terms.now) (the_numbered_arg term)) }
+    requires put { length put.now ≡ length terms.now }
     ensures same { the_argument result ≡ stated_term terms.entry.now (the_numbered_arg term) }
     ensures named { (homes : Homes) → (named : List TermNames)
         → AreNamed homes terms.entry.now named → IsNamed homes named result }
+    ensures put { (table : List (List tree.Term)) → ArePut table terms.entry.now put.now
+        → IsArgumentPut table result }
 {
     match term {
         NumberedTerm::None => Argument::None,
-        NumberedTerm::Term(number) => Argument::Term(terms.row(number), number as usize - 1),
+        NumberedTerm::Term(number) => {
+            let place = number as usize - 1;
+            Argument::Term(terms.row(number), place, put[place])
+        }
         NumberedTerm::Name(number) => Argument::Name(number),
     }
 }
@@ -167,18 +176,20 @@ fn take_step<'a>(
     problem: &Problem,
     d: &'a TextDerivation,
     places: &[u32],
+    put: &[u32],
     state: &mut State<'a>,
     step: NumberedStep,
 ) -> Result<(), ApplyFault>
     requires listed { IsTrue (are_listed (length d.now.labels) (length d.now.terms) (the_numbered_step step)) }
     requires places { ArePlaces d.now.labels state.old.labels places.now }
     requires named { AreNamed state.old.homes d.now.terms state.old.named.items }
+    requires put { ArePut state.old.substitutions d.now.terms put.now }
     requires is_open { state.old.sequents.is_open ≡ true }
     requires kept { (names : derivation.Names) × IsKept names state.old }
     ensures kept { OnOk result ((names : derivation.Names)
         → IsKept names state.old → IsKept names state.new) }
     ensures places { OnOk result (ArePlaces d.entry.now.labels state.new.labels places.now) }
-    ensures named { OnOk result (AreSameNames state.old state.new) }
+    ensures named { OnOk result (IsLater state.old state.new) }
     ensures leads { OnOk result ((names : derivation.Names) → IsKept names state.old
         → LeadsTo (apply problem.now names
         (the_current state.old) (stated_step d.entry.now.labels d.entry.now.terms (the_numbered_step step)))
@@ -195,7 +206,7 @@ fn take_step<'a>(
             state,
             entry,
             label_argument(places, modal),
-            argument(d.terms(), term),
+            argument(d.terms(), put, term),
         ),
         NumberedStep::Axiom { given, shown } => close_numbered(state, given, shown),
     }
@@ -206,6 +217,7 @@ fn judge_step<'a>(
     problem: &Problem,
     d: &'a TextDerivation,
     places: &[u32],
+    put: &[u32],
     state: &mut State<'a>,
     step: &NumberedStep,
     line: u64,
@@ -213,11 +225,12 @@ fn judge_step<'a>(
     requires listed { IsTrue (are_listed (length d.now.labels) (length d.now.terms) (the_numbered_step step.now)) }
     requires places { ArePlaces d.now.labels state.old.labels places.now }
     requires named { AreNamed state.old.homes d.now.terms state.old.named.items }
+    requires put { ArePut state.old.substitutions d.now.terms put.now }
     requires kept { (names : derivation.Names) × IsKept names state.old }
     ensures kept { IfOk result (λ judged. judged ≡ None → (names : derivation.Names)
         → IsKept names state.old → IsKept names state.new) }
     ensures places { IfOk result (λ judged. judged ≡ None → ArePlaces d.entry.now.labels state.new.labels places.now) }
-    ensures named { IfOk result (λ judged. judged ≡ None → AreSameNames state.old state.new) }
+    ensures named { IfOk result (λ judged. judged ≡ None → IsLater state.old state.new) }
     ensures judged { IfOk result (λ judged. (names : derivation.Names) → IsKept names state.old
         → (rest : List derivation.Step)
         → verdict_from problem.now names (the_sequents state.old)
@@ -230,7 +243,7 @@ fn judge_step<'a>(
             fault: CheckFault::AllClosed,
         }));
     }
-    match take_step(problem, d, places, state, *step) {
+    match take_step(problem, d, places, put, state, *step) {
         Ok(()) => Ok(None),
         Err(ApplyFault::Fault(fault)) => Ok(Some(Verdict::Rejected {
             line,
@@ -272,12 +285,14 @@ fn judge_steps<'a>(
     problem: &Problem,
     d: &'a TextDerivation,
     places: &[u32],
+    put: &[u32],
     state: &mut State<'a>,
     first_line: u64,
 ) -> Result<Verdict, NoMemory>
     requires bound { first_line ≤ 2 ^ 62 }
     requires places { ArePlaces d.now.labels state.old.labels places.now }
     requires named { AreNamed state.old.homes d.now.terms state.old.named.items }
+    requires put { ArePut state.old.substitutions d.now.terms put.now }
     requires kept { (names : derivation.Names) × IsKept names state.old }
     ensures { IfOk result (λ v. (names : derivation.Names) → IsKept names state.old
         → the_verdict v ≡ verdict_from problem.now names (the_sequents state.old)
@@ -285,7 +300,7 @@ fn judge_steps<'a>(
 {
     let mut line = first_line;
     for step in d.steps() {
-        if let Some(verdict) = judge_step(problem, d, places, state, step, line)? {
+        if let Some(verdict) = judge_step(problem, d, places, put, state, step, line)? {
             return Ok(verdict);
         }
         line += 1;
@@ -294,16 +309,25 @@ fn judge_steps<'a>(
 }
 
 /// The verdict on the steps of a derivation. Lines are counted as in its text of this version.
-pub fn judge(
+pub fn judge<'a>(
     alloc: Global,
-    problem: &Problem,
+    problem: &'a Problem,
     version: Version,
-    d: &TextDerivation,
+    d: &'a TextDerivation,
 ) -> Result<Verdict, NoMemory>
     requires { d.now ≡ numbering (stated d.now) }
-    ensures { IfOk result (λ v. the_verdict v ≡ verdict_in version problem.now (stated d.now)) }
+    ensures { IfOk result (λ v. the_verdict v
+        ≡ verdict_in version problem.entry.now (stated d.entry.now)) }
 {
     let (mut state, places) = State::new(alloc, problem, d)?;
+    let put = state.put_terms(alloc, d.terms())?;
     let line = first_step_line(version, d);
-    judge_steps(problem, d, places.as_slice(), &mut state, line)
+    judge_steps(
+        problem,
+        d,
+        places.as_slice(),
+        put.as_slice(),
+        &mut state,
+        line,
+    )
 }

@@ -18,7 +18,8 @@ ghost use Rattle.derivation_check.specs.StateView.{HasArgument, IsClosedArgument
 ghost use Rattle.derivation_check.specs.StateView.{IsLabelAfter, LeadsTo, StandsOn, the_current};
 ghost use Rattle.derivation_check.specs.StateView.{the_entry, the_sequent, the_sequents};
 ghost use Rattle.derivation_check.specs.NamesTold.{IsNamed};
-ghost use Rattle.derivation_check.specs.StateView.{AreSameNames};
+ghost use Rattle.derivation_check.specs.StateView.{IsLater};
+ghost use Rattle.derivation_check.specs.TermsPut.{IsArgumentPut, IsPut};
 ghost use Rattle.formula_core.specs.FormulaView.{the_formula};
 ghost use Rattle.derivation_check.specs.ArgumentView.{IsArgumentWithin, the_argument, the_label_argument};
 
@@ -29,6 +30,7 @@ use crate::open_sequents::BranchEntry;
 use crate::state::State;
 use cop_base::NoMemory;
 use derivation_branch::{Substitutions, Value, added_by};
+use formula_text::TermRow;
 use label_table::Labels;
 use logic_rules::{Logic, Mark, Problem, kind_of};
 use sequent_calc::ApplyFault;
@@ -71,6 +73,29 @@ fn put_value<'a>(
     Ok(place)
 }
 
+// The same of a term that may be the first one of an earlier substitution, whose place is not 0.
+fn put_term<'a>(
+    substitutions: &mut Substitutions<'a>,
+    outer: u32,
+    t: &'a TermRow,
+    earlier: u32,
+) -> Result<u32, NoMemory>
+    requires within { outer < length substitutions.old }
+    requires closed { IsClosed t.now }
+    requires put { IsPut substitutions.old t.now earlier }
+    ensures within { IfOk result (λ k. k < length substitutions.new) }
+    ensures put { IfOk result (λ k. (get_or substitutions.new k []
+        ≡ t.entry.now ∷ get_or substitutions.new outer [])
+        × AreClosed (get_or substitutions.new outer [])) }
+    ensures grown { OnOk result (IsLonger substitutions.old substitutions.new) }
+{
+    if earlier == 0 {
+        return put_value(substitutions, outer, Value::Given(t));
+    }
+    let place = substitutions.put_again(outer, earlier)?;
+    Ok(place)
+}
+
 // The place of the substitution of the components.
 fn put_argument<'a>(
     substitutions: &mut Substitutions<'a>,
@@ -79,6 +104,7 @@ fn put_argument<'a>(
 ) -> Result<u32, NoMemory>
     requires within { outer < length substitutions.old }
     requires closed { IsClosedArgument (the_argument term) }
+    requires put { IsArgumentPut substitutions.old term }
     ensures within { IfOk result (λ k. k < length substitutions.new) }
     ensures put { IfOk result (λ k.
         HasArgument substitutions.new outer k (the_argument term.entry)) }
@@ -86,7 +112,7 @@ fn put_argument<'a>(
 {
     match term {
         Argument::None => Ok(outer),
-        Argument::Term(t, _) => put_value(substitutions, outer, Value::Given(t)),
+        Argument::Term(t, _, earlier) => put_term(substitutions, outer, t, earlier),
         Argument::Name(number) => put_value(substitutions, outer, Value::Eigen(number)),
     }
 }
@@ -107,6 +133,7 @@ fn grow<'a>(
         (the_argument term) ≡ true }
     requires closed { IsClosedArgument (the_argument term) }
     requires named { IsNamed state.old.homes state.old.named.items term }
+    requires put { IsArgumentPut state.old.substitutions term }
     ensures kept { OnOk result ((names : derivation.Names)
         → IsKept names state.old → IsKept names state.new) }
     ensures grown { OnOk result (the_sequents state.new ≡ open_after
@@ -118,7 +145,7 @@ fn grow<'a>(
         (the_formula used.entry.shared.formula.now)))))
         (map (the_sequent state.old.substitutions state.old.labels) (waiting_in state.old.sequents))) }
     ensures labels { OnOk result (state.new.labels ≡ state.old.labels) }
-    ensures named { OnOk result (AreSameNames state.old state.new) }
+    ensures named { OnOk result (IsLater state.old state.new) }
 {
     let shared = used.shared;
     let inner = put_argument(&mut state.substitutions, shared.substitution, term)?;
@@ -160,6 +187,7 @@ pub fn use_entry<'a>(
     requires kept { (names : derivation.Names) × IsKept names state.old }
     requires stands { StandsOn state.old.sequents.branch.items used }
     requires named { IsNamed state.old.homes state.old.named.items term }
+    requires put { IsArgumentPut state.old.substitutions term }
     ensures kept { OnOk result ((names : derivation.Names)
         → IsKept names state.old → IsKept names state.new) }
     ensures leads { OnOk result ((names : derivation.Names) → IsKept names state.old
@@ -169,7 +197,7 @@ pub fn use_entry<'a>(
         (map (the_sequent state.old.substitutions state.old.labels) (waiting_in state.old.sequents))
         (the_sequents state.new)) }
     ensures grown { OnOk result (IsLonger state.old.labels state.new.labels) }
-    ensures named { OnOk result (AreSameNames state.old state.new) }
+    ensures named { OnOk result (IsLater state.old state.new) }
     ensures fault { (f : StepFault) → result ≡ Err (ApplyFault.Fault f)
         → (names : derivation.Names) → IsKept names state.old
         → use_entry problem.now names (the_current state.old)

@@ -9,6 +9,7 @@ use Rattle.derivation_check.specs.StateView.{the_sequents}
 use Rattle.derivation_check.specs.VerdictView.{the_verdict}
 use Rattle.derivation_check.proofs.ArgumentLaws.{step-listed}
 use Rattle.derivation_check.proofs.NamesLaws.{names-stay}
+use Rattle.derivation_check.proofs.PutLaws.{puts-longer}
 use Rattle.derivation_check.proofs.steps.judge_steps.Goals as goal
 
 pub loop-step-init : goal.loop-step-init
@@ -20,6 +21,7 @@ loop-step-init c =
       kept = λ names h. h;
       places = c.requires.places;
       named = c.requires.named;
+      put = c.requires.put;
       judged = λ names h i. verdict_from c.args.problem.now names (the_sequents c.args.state.now) (map (stated_step x.labels x.terms) (c.steps-step-items.ensures.view i)) c.args.first_line;
     }
 
@@ -30,6 +32,7 @@ judge_step-requires c =
       listed = step-listed (length x.labels) (length x.terms) c.steps-step-items.result.now c.loop-step.step-index _ x.steps c.steps-step-items.ensures.view c.steps-step-items.ensures.listed (omega (arith, c.loop-step-test.true));
       places = c.loop-step.invariant.places;
       named = c.loop-step.invariant.named;
+      put = c.loop-step.invariant.put;
       kept = c.loop-step.invariant.some;
     }
 
@@ -62,6 +65,7 @@ loop-step-preserved c =
       kept = λ names h. kept names (c.loop-step.invariant.kept names h);
       places = c.in_ok-verdict.ensures.places c.in_default.is;
       named = names-stay c.loop-step.state c.judge_step.new.state c.args.d.now.terms (c.in_ok-verdict.ensures.named c.in_default.is) c.loop-step.invariant.named;
+      put = puts-longer (length x.terms) c.loop-step.state.substitutions c.judge_step.new.state.substitutions x.terms c.args.put.now (c.in_ok-verdict.ensures.named c.in_default.is).substitutions c.loop-step.invariant.put;
       judged = λ names h.
           sym (c.in_ok-verdict.ensures.judged names (c.loop-step.invariant.kept names h) rest ∙ ap (λ o. option_map_or the_verdict o (verdict_from P names (the_sequents c.judge_step.new.state) rest (line + 1))) c.in_default.is)
           ∙ sym (at_drop_more (λ (xs : List NumberedStep). verdict_from P names (the_sequents c.loop-step.state) (of xs) line) items i _ (omega (arith, c.loop-step-test.true))) ∙ c.loop-step.invariant.judged names h;

@@ -7,6 +7,7 @@ use Rattle.derivation_text.specs.Listed.{are_listed, is_arg_listed, is_modal_lis
 use Rattle.derivation_text.specs.NumbersView.{the_numbered_arg, the_numbered_modal, the_numbered_step}
 use Rattle.derivation_check.specs.ArgumentView.{ArePlaces, the_argument, the_label_argument}
 use Rattle.derivation_check.specs.NamesTold.{AreNamed}
+use Rattle.derivation_check.specs.TermsPut.{ArePut}
 use Rattle.derivation_check.specs.StateView.{IsKept, the_current}
 use Rattle.derivation_check.proofs.ArgumentLaws.{places-longer}
 use Rattle.derivation_check.proofs.StepLaws.{leads-as, leads-each}
@@ -19,12 +20,15 @@ label_argument-requires c =
     subst (λ n. IsTrue (is_modal_listed n (the_numbered_modal c.in-Use.modal))) (sym c.requires.places.count)
     (and_parts (is_modal_listed (length x.labels) (the_numbered_modal c.in-Use.modal)) (is_arg_listed (length x.terms) (the_numbered_arg c.in-Use.term)) among).0
 
-pub argument-requires : goal.argument-requires
-argument-requires c =
+pub argument-requires-clause-listed : goal.argument-requires-clause-listed
+argument-requires-clause-listed c =
     let x = c.args.d.now in
     let among = subst (λ s. IsTrue (are_listed (length x.labels) (length x.terms) (the_numbered_step s))) c.in-Use.is c.requires.listed in
     subst (λ ts. IsTrue (is_arg_listed (length ts) (the_numbered_arg c.in-Use.term))) (sym c.terms.ensures)
     (and_parts (is_modal_listed (length x.labels) (the_numbered_modal c.in-Use.modal)) (is_arg_listed (length x.terms) (the_numbered_arg c.in-Use.term)) among).1
+
+pub argument-requires-clause-put : goal.argument-requires-clause-put
+argument-requires-clause-put c = c.requires.put.count ∙ sym (ap length c.terms.ensures)
 
 pub use_numbered-requires : goal.use_numbered-requires
 use_numbered-requires c = record {
@@ -32,6 +36,7 @@ use_numbered-requires c = record {
   is_open = c.requires.is_open;
   kept = c.requires.kept;
   named = c.argument.ensures.named c.args.state.now.homes c.args.state.now.named.items (subst (λ ts. AreNamed c.args.state.now.homes ts c.args.state.now.named.items) (sym c.terms.ensures) c.requires.named);
+  put = c.argument.ensures.put c.args.state.now.substitutions (subst (λ ts. ArePut c.args.state.now.substitutions ts c.args.put.now) (sym c.terms.ensures) c.requires.put);
 }
 
 pub returns-in-Use-clause-leads : goal.returns-in-Use-clause-leads

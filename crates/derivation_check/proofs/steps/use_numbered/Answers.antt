@@ -9,7 +9,7 @@ use Rattle.derivation_check.proofs.steps.use_numbered.Goals as goal
 pub use_entry-requires : goal.use_entry-requires
 use_entry-requires c =
     let there = subst (λ o. IsNumbered c.args.state.now.sequents.branch.items c.args.number o) c.in-Some.is (subst (λ xs. IsNumbered xs c.args.number c.entry_of-used.result) c.as_slice.ensures.value c.entry_of-used.ensures) in
-    record { within = c.requires.within; is_open = c.requires.is_open; kept = c.requires.kept; named = c.requires.named; stands = there.0 }
+    record { within = c.requires.within; is_open = c.requires.is_open; kept = c.requires.kept; named = c.requires.named; put = c.requires.put; stands = there.0 }
 
 pub returns-in-Some-clause-leads : goal.returns-in-Some-clause-leads
 returns-in-Some-clause-leads c =

@@ -94,5 +94,5 @@ returns c =
       };
       grown = grown-shown c.requires.kept.0 s.substitutions more s.labels s.eigens eigens s.marks marks s.sequents.is_open xs forks c.args.used c.in_ok-inner.inner c.args.at x t added now (growth c.requires.kept.0 c.requires.kept.1);
       labels = refl;
-      named = record { homes = refl; named = refl };
+      named = record { homes = refl; named = refl; substitutions = c.in_ok-inner.ensures.grown };
     }

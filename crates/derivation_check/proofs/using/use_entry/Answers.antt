@@ -65,6 +65,7 @@ grow-requires c =
       fits = ap (λ g. term_fits g t) (sym (shape-all (get_or s.substitutions u.shared.substitution []) 0 u.shared.sign f)) ∙ kept.0;
       closed = kept.1;
       named = c.requires.named;
+      put = c.requires.put;
     }
 
 pub returns-in-Some-clause-fault : goal.returns-in-Some-clause-fault
@@ -111,4 +112,4 @@ pub returns-in_ok-grow-in-None-clause-grown : goal.returns-in_ok-grow-in-None-cl
 returns-in_ok-grow-in-None-clause-grown c = subst (IsLonger c.args.state.now.labels) (sym c.in_ok-grow-in-None.ensures.labels) c.in_ok-at.ensures.grown
 
 pub returns-in_ok-grow-in-None-clause-named : goal.returns-in_ok-grow-in-None-clause-named
-returns-in_ok-grow-in-None-clause-named c = record { homes = c.in_ok-grow-in-None.ensures.named.homes; named = c.in_ok-grow-in-None.ensures.named.named }
+returns-in_ok-grow-in-None-clause-named c = record { homes = c.in_ok-grow-in-None.ensures.named.homes; named = c.in_ok-grow-in-None.ensures.named.named; substitutions = c.in_ok-grow-in-None.ensures.named.substitutions }

@@ -1,4 +1,5 @@
 use Rattle.std.proofs.Common.{ap, map, refl, reverse, subst}
+use Rattle.label_table.proofs.TableLaws.{longer-self}
 use Rattle.derivation_check.specs.OpenSequents.{IsLastOf, waiting_in}
 use Rattle.derivation_check.specs.StateView.{the_sequent}
 use Rattle.derivation_check.proofs.NodeLaws.{nodes-closed}
@@ -36,7 +37,7 @@ pub returns-in-None-clause-closed : goal.returns-in-None-clause-closed
 returns-in-None-clause-closed c = ap (map (the_sequent c.args.self.now.substitutions c.args.self.now.labels)) c.in_ok-next.ensures.closed
 
 pub returns-in-Some-clause-named : goal.returns-in-Some-clause-named
-returns-in-Some-clause-named c = record { homes = refl; named = refl }
+returns-in-Some-clause-named c = record { homes = refl; named = refl; substitutions = longer-self c.args.self.now.substitutions }
 
 pub returns-in-None-clause-named : goal.returns-in-None-clause-named
-returns-in-None-clause-named c = record { homes = refl; named = refl }
+returns-in-None-clause-named c = record { homes = refl; named = refl; substitutions = longer-self c.args.self.now.substitutions }

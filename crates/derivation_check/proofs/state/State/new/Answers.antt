@@ -1,4 +1,4 @@
-use Rattle.std.proofs.Common.{refl, subst, sym}
+use Rattle.std.proofs.Common.{ap, arith, length, refl, subst, sym}
 use Rattle.calculus.specs.Versions.{stated}
 use Rattle.formula_core.specs.FormulaView.{the_formula}
 use Rattle.derivation_check.specs.ArgumentView.{ArePlaces}
@@ -25,3 +25,6 @@ returns-clause-first c = first-shown c.args.problem.now _ _ _ _ _ c.new-substitu
 
 pub returns-clause-named : goal.returns-clause-named
 returns-clause-named c = subst (λ ts. AreNamed c.in_ok-homes.homes ts c.in_ok-named.named.items) c.terms.ensures c.in_ok-named.ensures
+
+pub returns-clause-some : goal.returns-clause-some
+returns-clause-some c = let size = ap length c.new-substitutions.ensures in omega (arith, size)

@@ -1,5 +1,5 @@
 use Rattle.std.proofs.Common.{◌≤◌, length}
-use Rattle.derivation_check.proofs.told_homes.ToldHomes.kept.Given as goal
+use Rattle.derivation_check.proofs.told_on_branch.ToldOnBranch.kept.Given as goal
 
 abbrev pub invariant-loop-left : goal.invariant-loop-left
 invariant-loop-left l = l.left ≤ length l.self

@@ -12,45 +12,45 @@ use std::marker::Model;
 /// Places of labels, of steps and of homes, each with how many of the first marks of a set have all
 /// marks of the label. They are cut back with the set, so a label is gone through once on a branch.
 #[derive(Drop)]
-pub struct ToldHomes {
-    homes: IndexMap<u32, u32>,
+pub struct ToldOnBranch {
+    labels: IndexMap<u32, u32>,
 }
 
-impl Model for ToldHomes {
+impl Model for ToldOnBranch {
     ghost use Rattle.std.specs.Prelude.{List, ℕ};
     ghost use Rattle.derivation_check.specs.ToldView.{AreRising};
 
     ghost Value = { List (ℕ × ℕ) };
 
-    ghost view = { λ s. s.homes.entries };
+    ghost view = { λ s. s.labels.entries };
 
-    ghost invariant = { λ s. AreRising 0 s.homes.entries };
+    ghost invariant = { λ s. AreRising 0 s.labels.entries };
 }
 
-impl ToldHomes {
-    /// No homes.
-    pub fn new(alloc: Global) -> ToldHomes
+impl ToldOnBranch {
+    /// No labels.
+    pub fn new(alloc: Global) -> ToldOnBranch
         ensures { result ≡ [] }
     {
-        ToldHomes {
-            homes: IndexMap::new(alloc),
+        ToldOnBranch {
+            labels: IndexMap::new(alloc),
         }
     }
 
-    /// Whether the home at a place is among them.
+    /// Whether the label at a place is among them.
     pub fn has(&self, place: u32) -> bool
         ensures { result ≡ is_told place self.now }
     {
-        self.homes.contains_key(&place)
+        self.labels.contains_key(&place)
     }
 
-    /// Adds a home that is not among them, at the end.
+    /// Adds a label that is not among them, at the end.
     pub fn add(&mut self, place: u32, count: u32) -> Result<(), NoMemory>
         requires new { is_told place self.old ≡ false }
         requires counted { AreCounted count self.old }
         ensures { OnOk result (self.new ≡ self.old ++ (place, count) ∷ []) }
     {
-        self.homes.insert(place, count)?;
+        self.labels.insert(place, count)?;
         Ok(())
     }
 
@@ -58,9 +58,9 @@ impl ToldHomes {
     fn kept(&self, count: u32) -> usize
         ensures { AreCounted count (take result self.now) }
     {
-        let mut left = self.homes.len();
+        let mut left = self.labels.len();
         while left > 0 {
-            if self.homes[left - 1] <= count {
+            if self.labels[left - 1] <= count {
                 return left;
             }
             left -= 1;
@@ -74,6 +74,6 @@ impl ToldHomes {
         ensures counted { AreCounted count self.new }
     {
         let kept = self.kept(count);
-        self.homes.truncate(kept);
+        self.labels.truncate(kept);
     }
 }
