@@ -32,7 +32,7 @@ branch-push xs ys a h = ap the_branch h ∙ map-append the_bare xs (a ∷ [])
 pub waiting-push : (fs gs : List (ℕ × Signed)) (f : ℕ × Signed) → gs ≡ fs ++ f ∷ [] → the_waiting gs ≡ the_fork f ∷ the_waiting fs
 waiting-push fs gs f h = ap (λ zs. map the_fork (reverse zs)) h ∙ ap (map the_fork) (reverse-append fs (f ∷ []))
 
-branch_long : (xs : List Signed) → length (the_branch xs) ≡ length xs
+pub branch_long : (xs : List Signed) → length (the_branch xs) ≡ length xs
 branch_long xs = length-map xs the_bare
 
 -- ---- how a step on a formula goes on

@@ -22,9 +22,9 @@ use trim_theory::pass::{Pass, Way};
 // that were put for them. For each right side that is still to come `forks` has the length of the
 // branch before it and its first formula.
 
-// The formula of the entry of this number, from 1.
+/// The formula of the entry of this number, from 1.
 #[tactic(auto, using(crate::proofs::PassLaws::entries))]
-fn formula_at<'a>(branch: &[Signed<'a>], number: u32) -> Option<Signed<'a>>
+pub fn formula_at<'a>(branch: &[Signed<'a>], number: u32) -> Option<Signed<'a>>
     ensures { option_map the_bare result ≡ bare_entry (map the_bare branch.now) number }
 {
     if number == 0 {

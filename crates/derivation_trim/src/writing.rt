@@ -1,9 +1,10 @@
 //! The steps that are left, by their new numbers.
 
-ghost use Rattle.std.specs.Prelude.{◌≡◌, ◌++◌, ◌∷◌, List, IfOk, OnOk, get_or, map, reverse};
+ghost use Rattle.std.specs.Prelude.{◌≡◌, ◌++◌, ◌∷◌, List, IfOk, OnOk, get_or, map, reverse, true};
 ghost use Rattle.calculus.specs.Derivations as derivation;
 ghost use Rattle.sequent_calc.specs.StepView.{the_modal, the_step, the_term_arg};
 ghost use Rattle.term_table.specs.SharedTerm.{the_shared_term};
+ghost use Rattle.trim_theory.specs.Editing.{has_numbers};
 ghost use Rattle.trim_theory.specs.Found.{written};
 ghost use Rattle.trim_theory.specs.Writing as walk;
 ghost use Rattle.trim_theory.specs.Writing.{grown, grown_by, last_of, later_forks, next_fork};
@@ -16,8 +17,8 @@ use std::alloc::Global;
 use term_table::SharedTerm;
 use trim_theory::pass::{Mark, Pass, Way};
 
-// The new number of an entry by the table of the branch.
-fn number_at(table: &[u32], number: u32) -> u32
+/// The new number of an entry by the table of the branch.
+pub fn number_at(table: &[u32], number: u32) -> u32
     ensures { result ≡ get_or table.now number 0 }
 {
     let place = number as usize;
@@ -65,9 +66,10 @@ fn copy_term(alloc: Global, term: &TermArg) -> Result<TermArg, NoMemory>
     }
 }
 
-// A step by its new numbers.
-fn renumbered(alloc: Global, table: &[u32], step: &Step) -> Result<Step, NoMemory>
-    ensures { IfOk result (λ s. the_step s ≡ numbered table.now (the_step step.now)) }
+/// A step by its new numbers.
+pub fn renumbered(alloc: Global, table: &[u32], step: &Step) -> Result<Step, NoMemory>
+    ensures step { IfOk result (λ s. the_step s ≡ numbered table.now (the_step step.now)) }
+    ensures numbers { IfOk result (λ s. has_numbers (the_step s) ≡ true) }
 {
     match step {
         Step::Use { entry, modal, term } => {

@@ -73,7 +73,7 @@ abbrev the_right : Children → Sequent
 the_right (two s t) = t
 the_right _ = []
 
-one-added : (h : Shape) (s added : Sequent) (v : Label) (xs : List Signed) → with_components h s v xs ≡ one (s ++ added) → added ≡ map (entry_at v) xs
+pub one-added : (h : Shape) (s added : Sequent) (v : Label) (xs : List Signed) → with_components h s v xs ≡ one (s ++ added) → added ≡ map (entry_at v) xs
 one-added Beta s added v [] e = sym (append_cancel_left s (map (entry_at v) []) added (ap (the_one []) e))
 one-added Beta s added v (x ∷ []) e = sym (append_cancel_left s (map (entry_at v) (x ∷ [])) added (ap (the_one []) e))
 one-added Beta s added v (x ∷ y ∷ []) e = cc

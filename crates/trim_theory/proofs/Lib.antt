@@ -20,6 +20,10 @@
 --   side.
 -- - *New numbers.* From the first step to the last, a table with the new number of each entry of the branch (`Writing`):
 --   `WritingLaws.numbers` is that of a mask, `trim-writes` that the walk writes the trimmed tree.
+-- - *Edits.* From the first step to the last, by a list of edits of which nothing is known (`Editing`): each is tested, and any that fit
+--   lead to steps that close the same (`EditingLaws.edited-closes`), with as many axioms. `PlaceLaws.Tells` is the invariant: each entry
+--   of the given branch stands on the new one under its new number, and the new one has no other names or characters (`Fresher`). The
+--   induction is on the edits, over the list of the branches that are still open (`edits-close`).
 
 -- what masks keep
 pub mod MaskLaws
@@ -43,7 +47,11 @@ pub mod BareLaws
 pub mod ReadingLaws
 -- the walk that writes new numbers writes the trimmed tree
 pub mod WritingLaws
--- the three walks find the derivation without idle steps
+-- what an edited branch holds
+pub mod PlaceLaws
+-- the edited steps close what the given ones close
+pub mod EditingLaws
+-- the walks find the derivation without idle steps
 pub mod FoundLaws
 -- small trees
 pub mod TrimExamples

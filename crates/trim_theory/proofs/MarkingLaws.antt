@@ -6,8 +6,8 @@ use Rattle.std.proofs.lemmas.Grind.{reverse_onto}
 use Rattle.plain_laws.proofs.Numbers.{order}
 use Rattle.calculus.specs.Derivations.{ModalArg, TermArg}
 use Rattle.trim_theory.specs.Trimming.{Tree, axiom_on, step_on, fork_on, one_after, uses}
-use Rattle.trim_theory.specs.Left.{left_of, one_if, count_of}
-use Rattle.trim_theory.specs.Marking.{pass, mark, passes, Counts, plus_one, minus_one, set_back, set_back_after, is_counted, take_back_way, top, below, State, state, no_mark, left_out, undone, with_undone, put, counted_once, after_fork, after_adding, after_way, set_aside, after_pass, run, at_start, marks, refers, counted, IsWithin}
+use Rattle.trim_theory.specs.Left.{left_of, count_of}
+use Rattle.trim_theory.specs.Marking.{pass, mark, passes, Counts, plus_one, set_back, set_back_after, is_counted, take_back_way, State, state, no_mark, left_out, undone, with_undone, put, after_fork, after_adding, set_aside, after_pass, run, at_start, marks, refers, counted, IsWithin}
 use Rattle.trim_theory.specs.declared.pass.Way.{Way}
 use Rattle.trim_theory.specs.declared.pass.Way.TheVariants.{Ends, Adds, Forks}
 use Rattle.trim_theory.specs.declared.pass.Pass.{Pass}

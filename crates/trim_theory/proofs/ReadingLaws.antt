@@ -1,5 +1,5 @@
 -- The passes that are found by the branch without terms are those of the tree, and refer to entries of the branch alone.
-use Rattle.std.proofs.Common.{◌≡◌, ℕ, zero, suc, ◌+◌, ◌<◌, ◌≤◌, List, [], ◌∷◌, ◌++◌, length, map, take, Bool, true, false, Option, Some, None, Ok, refl, sym, ◌∙◌, ap, ap₂, subst, arith}
+use Rattle.std.proofs.Common.{◌≡◌, ℕ, zero, suc, ◌+◌, ◌≤◌, List, [], ◌∷◌, ◌++◌, length, map, take, Bool, true, false, Option, Some, None, Ok, refl, sym, ◌∙◌, ap, ap₂, subst, arith}
 use Rattle.std.specs.Option.{option_map}
 use Rattle.std.proofs.lemmas.Option.{slice_get-map, slice_get_within}
 use Rattle.std.proofs.lemmas.List.{append_assoc, append-nil, length-append}
@@ -7,7 +7,7 @@ use Rattle.calculus.specs.declared.kind.Shape.{Shape}
 use Rattle.calculus.specs.declared.kind.Shape.TheVariants.{Alpha, Beta, Gamma, Delta, Literal}
 use Rattle.calculus.specs.Syntax.{Problem}
 use Rattle.calculus.specs.Kinds.{Signed, shape_of, components}
-use Rattle.calculus.specs.Derivations.{Entry, Sequent, Names, Step, apply_to, close, first_sequent}
+use Rattle.calculus.specs.Derivations.{Entry, Sequent, Names, Step, first_sequent}
 use Rattle.calculus.specs.Calculus.{closed, close_branch, entry_of}
 use Rattle.trim_theory.specs.Trimming.{Tree, steps_of, ClosesBy, by_axiom, by_step, by_fork}
 use Rattle.trim_theory.specs.Bare.{bare, bare_of}
@@ -16,15 +16,15 @@ use Rattle.trim_theory.specs.Reading.{grows, splits, next_by, next_of, bare_entr
 use Rattle.trim_theory.specs.declared.pass.Way.TheVariants.{Ends, Adds, Forks}
 use Rattle.trim_theory.proofs.BareLaws.{AddsBare, ForksBare, step-bare, fork-bare}
 
-map-append : (s r : Sequent) → map bare_of s ++ map bare_of r ≡ map bare_of (s ++ r)
+pub map-append : (s r : Sequent) → map bare_of s ++ map bare_of r ≡ map bare_of (s ++ r)
 map-append [] r = refl
 map-append (e ∷ s) r = ap (λ xs. bare_of e ∷ xs) (map-append s r)
 
-bare-length : (s : Sequent) → length (map bare_of s) ≡ length s
+pub bare-length : (s : Sequent) → length (map bare_of s) ≡ length s
 bare-length [] = refl
 bare-length (e ∷ s) = ap suc (bare-length s)
 
-bare-at : (s : Sequent) (a : ℕ) (e : Entry) → entry_of s a ≡ Some e → bare_entry (map bare_of s) a ≡ Some (bare_of e)
+pub bare-at : (s : Sequent) (a : ℕ) (e : Entry) → entry_of s a ≡ Some e → bare_entry (map bare_of s) a ≡ Some (bare_of e)
 bare-at s zero e h = cc
 bare-at s (suc k) e h = slice_get-map bare_of s k ∙ ap (option_map bare_of) h
 
@@ -35,12 +35,12 @@ no_split Gamma xs n = refl
 no_split Delta xs n = refl
 no_split Literal xs n = refl
 
-next-step : (s added : Sequent) (a : ℕ) → AddsBare (entry_of s a) added → next_of (bare_entry (map bare_of s) a) ≡ grows (map bare_of added)
+pub next-step : (s added : Sequent) (a : ℕ) → AddsBare (entry_of s a) added → next_of (bare_entry (map bare_of s) a) ≡ grows (map bare_of added)
 next-step s added a h =
     let e = h.0 in
     ap next_of (bare-at s a e h.1) ∙ no_split (shape_of e.sign (bare e.formula)) (components e.sign (bare e.formula)) h.2 ∙ ap grows (sym h.3)
 
-next-fork : (s : Sequent) (e f : Entry) (a : ℕ) → ForksBare (entry_of s a) e f → next_of (bare_entry (map bare_of s) a) ≡ splits (bare_of e) (bare_of f)
+pub next-fork : (s : Sequent) (e f : Entry) (a : ℕ) → ForksBare (entry_of s a) e f → next_of (bare_entry (map bare_of s) a) ≡ splits (bare_of e) (bare_of f)
 next-fork s e f a h =
     let x = h.0 in
     ap next_of (bare-at s a x h.1) ∙ ap (λ k. next_by k (components x.sign (bare x.formula))) h.2 ∙ ap (next_by Beta) (sym h.3)

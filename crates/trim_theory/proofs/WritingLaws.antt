@@ -1,10 +1,10 @@
 -- What the walk from the first step to the last writes is the trimmed tree.
-use Rattle.std.proofs.Common.{◌≡◌, ℕ, zero, suc, ◌+◌, ◌-◌, ◌≤◌, List, [], ◌∷◌, ◌++◌, length, map, take, get_or, Bool, true, false, refl, sym, ◌∙◌, ap, ap₂, subst, inl, inr, arith}
+use Rattle.std.proofs.Common.{◌≡◌, ℕ, zero, suc, ◌+◌, ◌≤◌, List, [], ◌∷◌, ◌++◌, length, map, take, get_or, Bool, true, false, refl, sym, ◌∙◌, ap, ap₂, subst, inl, inr, arith}
 use Rattle.std.proofs.lemmas.Bool.{cases_Bool}
-use Rattle.std.proofs.lemmas.List.{append_assoc, append-nil, length-append}
+use Rattle.std.proofs.lemmas.List.{append_assoc, append-nil}
 use Rattle.trim_theory.proofs.MarkingLaws.{out-append}
 use Rattle.calculus.specs.Derivations.{ModalArg, TermArg, Step, apply_to, close}
-use Rattle.trim_theory.specs.Trimming.{Tree, axiom_on, step_on, fork_on, steps_of, one_after, uses, number_in, times, trim, trimmed}
+use Rattle.trim_theory.specs.Trimming.{Tree, axiom_on, step_on, fork_on, steps_of, one_after, uses, number_in, times, trim}
 use Rattle.trim_theory.specs.Left.{one_if}
 use Rattle.trim_theory.specs.Marking.{pass, mark, marks, left_out, IsWithin}
 use Rattle.trim_theory.specs.Writing.{last_of, grown, grown_by, numbered, put_if, write}

@@ -14,5 +14,7 @@ pub mod Marking
 pub mod Reading
 -- the walk that writes them
 pub mod Writing
--- what the three walks find
+-- the walk that edits a list of steps
+pub mod Editing
+-- what the walks find
 pub mod Found

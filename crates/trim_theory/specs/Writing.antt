@@ -5,7 +5,6 @@ use Rattle.calculus.specs.Derivations.{Step, apply_to, close}
 use Rattle.trim_theory.specs.Left.{one_if}
 use Rattle.trim_theory.specs.declared.pass.Way.{Way}
 use Rattle.trim_theory.specs.declared.pass.Way.TheVariants.{Ends, Adds, Forks}
-use Rattle.trim_theory.specs.declared.pass.Pass.{Pass}
 use Rattle.trim_theory.specs.declared.pass.Mark.{Mark}
 
 -- the table has a number for each of 0 and the entries: how many entries up to it are left

@@ -3,4 +3,5 @@
 //! that is added there. The types are those of the walk that finds idle steps.
 #![tactic(auto)]
 
+pub mod edit;
 pub mod pass;
